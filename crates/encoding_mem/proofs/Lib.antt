@@ -1,0 +1,11 @@
+pub mod Progress
+pub mod Shift
+pub mod FrontUtf8
+pub mod Endings
+pub mod Room
+pub mod AsciiFront
+pub mod Steps
+pub mod Sources
+pub mod Units
+pub mod Utf8Chars
+pub mod Utf8Texts

@@ -1,0 +1,74 @@
+use Rattle.std.proofs.Common.{◌++◌, ◌∷◌, take, sym, ◌∙◌, ap, arith, inl, inr}
+use Rattle.encoding_mem.proofs.Steps.{full, turned, escape_put, unmapped, ended, behind_put, escape_is, escape_over, form_over, some_left, tight_form, not_ascii}
+use Rattle.encoding_mem.specs.Target.{left}
+use Rattle.encoding_mem.proofs.encode.encode.Goals as goal
+
+pub returns-then-dst-written-clause-law : goal.returns-then-dst-written-clause-law
+returns-then-dst-written-clause-law g c = full _ c.args.last _ _ _ _ _ c.loop-c.invariant.steps
+
+pub returns-then-dst-written-2-clause-behind : goal.returns-then-dst-written-2-clause-behind
+returns-then-dst-written-2-clause-behind g c = behind_put _ _ _ _ _ _ c.put-written.ensures.end c.loop-c.invariant.behind c.put-written.ensures.back
+
+pub returns-then-dst-written-2-clause-law : goal.returns-then-dst-written-2-clause-law
+returns-then-dst-written-2-clause-law g c =
+    let at = sym (ap (λ l. left g.S.Source.text l (g.S.Source.place c.loop-c.source)) c.loop-c.invariant.source) ∙ c.in-Some.ensures in
+    let one = escape_is (g.T.Target.coding c.args.target.now) _ _ _ _ _ _ _ c.put-written.ensures.front c.as_slice-bytes.ensures.value c.escape-escape.ensures c.step-next.ensures.set in
+    rw c.step-next.ensures.set (full _ c.args.last _ _ _ _ _ (escape_put _ _ _ _ _ _ _ _ _ _ (g.met.T.Target.laws c.args.target.now) c.loop-c.invariant.steps at one))
+
+pub loop-c-preserved : goal.loop-c-preserved
+loop-c-preserved g c = record {
+  room = omega arith;
+  moves = inr (inl (c.loop-c.set, c.in-Some.c, c.step-next.ensures.set));
+  behind = behind_put _ _ _ _ _ _ c.put-written-in-Mapped.ensures.end (behind_put _ _ _ _ _ _ c.put-written.ensures.end c.loop-c.invariant.behind c.put-written.ensures.back) c.put-written-in-Mapped.ensures.back;
+  source = c.advance.ensures.same ∙ c.loop-c.invariant.source;
+  steps =
+      let at = sym (ap (λ l. left g.S.Source.text l (g.S.Source.place c.loop-c.source)) c.loop-c.invariant.source) ∙ c.in-Some.ensures in
+      let next = sym (ap (λ l. left g.S.Source.text l (g.S.Source.place c.loop-c.source)) c.loop-c.invariant.source) ∙ c.advance.ensures.next.1 ∙ ap (λ l. c.advance.ensures.next.0 ∷ left g.S.Source.text l (g.S.Source.place c.advance.new.self)) (c.advance.ensures.same ∙ c.loop-c.invariant.source) in
+      let one = escape_is (g.T.Target.coding c.args.target.now) _ _ _ _ _ _ _ c.put-written.ensures.front c.as_slice-bytes.ensures.value c.escape-escape.ensures c.step-next.ensures.set in
+      let two = c.put-written-in-Mapped.ensures.front ∙ ap (λ l. take c.put-written.result c.put-written.new.dst ++ l) c.as_slice-bytes-in-Mapped.ensures.value in
+      rw c.step-next.ensures.set (turned _ _ _ _ _ _ _ _ _ _ _ _ _ _ (g.met.T.Target.laws c.args.target.now) c.loop-c.invariant.steps at next one two (sym c.step-next.ensures.form ∙ c.in-Mapped.is));
+}
+
+pub returns-in-Unmapped-clause-behind : goal.returns-in-Unmapped-clause-behind
+returns-in-Unmapped-clause-behind g c = behind_put _ _ _ _ _ _ c.put-written.ensures.end c.loop-c.invariant.behind c.put-written.ensures.back
+
+pub returns-in-Unmapped-clause-law : goal.returns-in-Unmapped-clause-law
+returns-in-Unmapped-clause-law g c =
+    let at = sym (ap (λ l. left g.S.Source.text l (g.S.Source.place c.loop-c.source)) c.loop-c.invariant.source) ∙ c.in-Some.ensures in
+    let next = sym (ap (λ l. left g.S.Source.text l (g.S.Source.place c.loop-c.source)) c.loop-c.invariant.source) ∙ c.advance-in-Unmapped.ensures.next.1 ∙ ap (λ l. c.advance-in-Unmapped.ensures.next.0 ∷ left g.S.Source.text l (g.S.Source.place c.advance-in-Unmapped.new.self)) (c.advance-in-Unmapped.ensures.same ∙ c.loop-c.invariant.source) in
+    let one = escape_is (g.T.Target.coding c.args.target.now) _ _ _ _ _ _ _ c.put-written.ensures.front c.as_slice-bytes.ensures.value c.escape-escape.ensures c.step-next.ensures.set in
+    rw c.step-next.ensures.set (unmapped _ _ c.args.last _ _ _ _ _ _ _ _ _ _ _ (g.met.T.Target.laws c.args.target.now) c.loop-c.invariant.steps at next one (sym c.step-next.ensures.form ∙ c.in-Unmapped.is))
+
+pub returns-else-dst-written-3-clause-behind : goal.returns-else-dst-written-3-clause-behind
+returns-else-dst-written-3-clause-behind g c = behind_put _ _ _ _ _ _ c.put-written-then-last.ensures.end c.loop-c.invariant.behind c.put-written-then-last.ensures.back
+
+pub returns-then-dst-written-clause-answers : goal.returns-then-dst-written-clause-answers
+returns-then-dst-written-clause-answers g c =
+    let at = sym (ap (λ l. left g.S.Source.text l (g.S.Source.place c.loop-c.source)) c.loop-c.invariant.source) ∙ c.in-Some.ensures in (
+      escape_over _ (g.T.Target.coding c.args.target.now) _ _ _ _ _ (g.met.T.Target.laws c.args.target.now) c.as_slice-bytes.ensures.value c.escape-escape.ensures c.if-dst-written.true,
+      inl (some_left _ _ _ at),
+    )
+
+pub returns-then-dst-written-2-clause-tight : goal.returns-then-dst-written-2-clause-tight
+returns-then-dst-written-2-clause-tight g c =
+    let at = sym (ap (λ l. left g.S.Source.text l (g.S.Source.place c.loop-c.source)) c.loop-c.invariant.source) ∙ c.in-Some.ensures in
+    tight_form _ _ _ _ _ _ _ _ _ _ (g.met.T.Target.laws c.args.target.now) at c.step-next.ensures.set c.as_slice-bytes-in-Mapped.ensures.value (sym c.step-next.ensures.form ∙ c.in-Mapped.is) c.if-dst-written-2.true
+
+pub returns-then-dst-written-2-clause-answers : goal.returns-then-dst-written-2-clause-answers
+returns-then-dst-written-2-clause-answers g c =
+    let at = sym (ap (λ l. left g.S.Source.text l (g.S.Source.place c.loop-c.source)) c.loop-c.invariant.source) ∙ c.in-Some.ensures in (
+      form_over _ (g.T.Target.coding c.args.target.now) c.in-Some.c _ _ _ (g.met.T.Target.laws c.args.target.now) c.as_slice-bytes-in-Mapped.ensures.value (sym c.step-next.ensures.form ∙ c.in-Mapped.is) c.if-dst-written-2.true,
+      inl (some_left _ _ _ at),
+    )
+
+pub returns-then-dst-written-3-clause-answers : goal.returns-then-dst-written-3-clause-answers
+returns-then-dst-written-3-clause-answers g c = (
+  escape_over _ (g.T.Target.coding c.args.target.now) _ _ _ _ _ (g.met.T.Target.laws c.args.target.now) c.as_slice-bytes-then-last.ensures.value c.escape-escape-then-last.ensures c.if-dst-written-3.true,
+  inr (c.if-last.true, not_ascii _ (g.T.Target.coding c.args.target.now) _ _ _ _ (g.met.T.Target.laws c.args.target.now) c.as_slice-bytes-then-last.ensures.value c.escape-escape-then-last.ensures c.if-dst-written-3.true),
+)
+
+pub returns-else-dst-written-3-clause-law : goal.returns-else-dst-written-3-clause-law
+returns-else-dst-written-3-clause-law g c =
+    let empty = sym (ap (λ l. left g.S.Source.text l (g.S.Source.place c.loop-c.source)) c.loop-c.invariant.source) ∙ c.in_default.ensures in
+    ended _ (g.T.Target.coding c.args.target.now) c.args.last _ _ _ _ _ _ (g.met.T.Target.laws c.args.target.now) c.if-last.true c.loop-c.invariant.steps empty
+    (c.put-written-then-last.ensures.front ∙ ap (λ l. take c.loop-c.written c.loop-c.dst ++ l) (c.as_slice-bytes-then-last.ensures.value ∙ c.escape-escape-then-last.ensures))

@@ -1,0 +1,5 @@
+use Rattle.encoding_mem.specs.EncodingLaws.{encoded_bytes}
+use Rattle.encoding_mem.proofs.encoder_laws.encoded_bytes.Goals as goal
+
+pub returns : goal.returns
+returns c = encoded_bytes

@@ -1,0 +1,76 @@
+-- What an encoder has to write for a text (the Encoding Standard, section 4.1, "encoder").
+use Rattle.std.specs.Prelude.{◌≡◌, ℕ, ◌+◌, ◌<◌, ◌≤◌, Bool, true, false, List, [], ◌∷◌, ◌++◌, length, codes}
+use Rattle.std.specs.Fmt.{decimal}
+use Rattle.encoding_mem.specs.declared.form.Form.{Form}
+use Rattle.encoding_mem.specs.declared.form.Form.TheVariants.{Mapped, Unmapped}
+use Rattle.encoding_mem.specs.declared.form.Set.{Set}
+use Rattle.encoding_mem.specs.declared.form.Set.TheVariants.{Ascii}
+
+-- A target: the form of each scalar, the set in which it is written after one that is in force, and the
+-- escape between two sets.
+pub record Coding : Type 0 where
+  pub form : ℕ → Form
+  pub set : Set → ℕ → Set
+  pub escape : Set → Set → List ℕ
+
+-- the numeric character reference: `&#`, the decimal digits, `;`
+abbrev pub reference : ℕ → List ℕ
+reference c = codes "&#" ++ (decimal c ++ codes ";")
+
+-- the bytes that a form has, and what is written for it: the bytes of a character, or its reference
+abbrev pub bytes : Form → List ℕ
+bytes (Mapped bs) = bs
+bytes (Unmapped c) = []
+
+abbrev pub spelled : Form → List ℕ
+spelled (Mapped bs) = bs
+spelled (Unmapped c) = reference c
+
+-- a text from a set: each scalar's escape, then its bytes or its reference
+abbrev pub open_from : Coding → Set → List ℕ → List ℕ
+open_from e s [] = []
+open_from e s (c ∷ t) = e.escape s (e.set s c) ++ (spelled (e.form c) ++ open_from e (e.set s c) t)
+
+-- the set after a text
+abbrev pub last_set : Coding → Set → List ℕ → Set
+last_set e s [] = s
+last_set e s (c ∷ t) = last_set e (e.set s c) t
+
+-- that text, and the escape to ASCII
+abbrev pub whole_from : Coding → Set → List ℕ → List ℕ
+whole_from e s t = open_from e s t ++ e.escape (last_set e s t) Ascii
+
+-- the output for a text
+abbrev pub output : Coding → List ℕ → List ℕ
+output e t = whole_from e Ascii t
+
+abbrev pub IsMapped : Form → Type 0
+IsMapped (Mapped bs) = Unit {0}
+IsMapped (Unmapped c) = ⊥
+
+-- each scalar has a form
+abbrev pub AllMapped : Coding → List ℕ → Type 0
+AllMapped e [] = Unit {0}
+AllMapped e (c ∷ t) = IsMapped (e.form c) × AllMapped e t
+
+-- how many scalars have none
+abbrev pub unmapped_count : Form → ℕ
+unmapped_count (Mapped bs) = 0
+unmapped_count (Unmapped c) = 1
+
+abbrev pub lost_count : Coding → List ℕ → ℕ
+lost_count e [] = 0
+lost_count e (c ∷ t) = unmapped_count (e.form c) + lost_count e t
+
+-- no more bytes than need
+pub record IsShort (need : ℕ) (f : Form) : Type 0 where
+  pub short : length (bytes f) ≤ need
+
+-- What a target is: a set that a scalar has chosen stays for it, a set has no escape to itself, and no part is
+-- longer than need, which is 4 at most.
+pub record IsCoding (need : ℕ) (e : Coding) : Type 0 where
+  pub stays : (s : Set) (c : ℕ) → e.set (e.set s c) c ≡ e.set s c
+  pub same : (s : Set) → e.escape s s ≡ []
+  pub short : (c : ℕ) → IsShort need (e.form c)
+  pub escape_short : (s s' : Set) → length (e.escape s s') ≤ need
+  pub few : need ≤ 4

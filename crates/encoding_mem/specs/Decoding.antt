@@ -1,0 +1,70 @@
+-- What a call of a decoder does.
+use Rattle.std.specs.Prelude.{◌≡◌, ℕ, ◌+◌, ◌-◌, ◌≤◌, ◌<◌, ◌≢◌, ◌⊎◌, Bool, true, false, IsTrue, Some, List, [], ◌∷◌, ◌++◌, length, drop}
+use Rattle.encoding_mem.specs.Piece.{Piece, bad, first, size_of, sizes, scalars, AreGood, ArePieces}
+use Rattle.encoding_mem.specs.Event.{Event, events}
+use Rattle.encoding_mem.specs.declared.decoder_result.DecoderResult.{DecoderResult}
+use Rattle.encoding_mem.specs.declared.decoder_result.DecoderResult.TheVariants.{InputEmpty, OutputFull, Malformed}
+
+-- A decoder's state, as its callers know it: the pieces of what is pending and of the bytes that follow, how many
+-- bytes are pending, and the bytes and the units that are room enough for so many new bytes.
+pub record DecoderState : Type 0 where
+  pub pieces : List ℕ → List Piece
+  pub pending : ℕ
+  -- joined, the pieces are the pending bytes and those that follow
+  pub whole : (x : List ℕ) → sizes (pieces x) ≡ pending + length x
+  pub are_pieces : (x : List ℕ) → ArePieces (pieces x)
+  pub bytes_for : ℕ → ℕ
+  pub units_for : ℕ → ℕ
+
+-- a list of pieces that the pieces of every continuation begin with
+abbrev pub IsDecided : (List ℕ → List Piece) → List ℕ → List Piece → Type 0
+IsDecided pieces x ps = (r : List ℕ) → (rest : List Piece) × (pieces (x ++ r) ≡ ps ++ rest)
+
+-- the first piece changes with at most three more bytes
+pub record IsUndecided (pieces : List ℕ → List Piece) (x : List ℕ) : Type 0 where
+  pub more : List ℕ
+  pub short : length more ≤ 3
+  pub differs : first (pieces x) ≢ first (pieces (x ++ more))
+
+-- so many bytes are pending, whose first piece is undecided, and ends at most two bytes before their end
+pub record Waits (pieces : List ℕ → List Piece) (pending : ℕ) : Type 0 where
+  pub short : pending < 6
+  pub undecided : IsUndecided pieces []
+  pub soon : (r : List ℕ) (p : Piece) → first (pieces r) ≡ Some p → pending ≤ size_of p + 2
+
+-- the first piece of what is left is there, however it goes on
+abbrev pub IsKnown : (pieces : List ℕ → List Piece) (unread : List ℕ) (last : Bool) → Type 0
+IsKnown pieces unread last = (p : Piece) × ((r : List ℕ) → (IsTrue last → r ≡ []) → first (pieces (unread ++ r)) ≡ Some p)
+
+-- which pieces a call took: only the last may be bad, and the caller is told so
+abbrev pub Reports : DecoderResult → ℕ → List Piece → Type 0
+Reports InputEmpty pending taken = AreGood taken
+Reports OutputFull pending taken = AreGood taken
+Reports (Malformed a b) pending taken = (pending ≡ b) × (a ≤ 4) × (b ≤ 3) × (a + b ≤ 6) × ((front : List Piece) × AreGood front × (taken ≡ front ++ (bad a ∷ [])))
+
+-- What a call took: pieces that are Good as a whole. before and after are the pieces that the bytes to come give,
+-- from the decoder as it was and as it is; Writes says that the scalars were written.
+pub record Takes (Good : List Piece → Type 0) (before after : List ℕ → List Piece) (src : List ℕ) (last : Bool) (pending_before pending_after read : ℕ) (Writes : List ℕ → Type 0) : Type 0 where
+  pub taken : List Piece
+  pub good : Good taken
+  pub within : read ≤ length src
+  pub counted : pending_before + read ≡ sizes taken + pending_after
+  pub writes : Writes (scalars taken)
+  pub rest : (r : List ℕ) → (IsTrue last → r ≡ []) → before (src ++ r) ≡ taken ++ after (drop read src ++ r)
+
+-- the state law of a call
+abbrev pub StateLaw : (before after : DecoderState) (src : List ℕ) (last : Bool) (read : ℕ) (Writes : List ℕ → Type 0) → DecoderResult → Type 0
+StateLaw before after src last read Writes outcome =
+    Takes (Reports outcome after.pending) before.pieces after.pieces src last before.pending after.pending read Writes
+
+-- why it ended: free is the room behind what is written, room what has to be free, mark what U+FFFD needs
+abbrev pub EndsWith : (after : DecoderState) (unread : List ℕ) (last : Bool) (free room mark : ℕ) → DecoderResult → Type 0
+EndsWith after unread last free room mark InputEmpty =
+    (unread ≡ []) × (((after.pending ≡ 0) × (after.pieces [] ≡ [])) ⊎ ((last ≡ false) × Waits after.pieces after.pending))
+EndsWith after unread last free room mark OutputFull = (free < room) × IsKnown after.pieces unread last
+EndsWith after unread last free room mark (Malformed a b) = mark ≤ free
+
+-- the state law over events, whose places count from the first pending byte
+abbrev pub EventLaw : (before after : DecoderState) (src : List ℕ) (last : Bool) (read : ℕ) → Type 0
+EventLaw before after src last read = (told : List Event) × ((r : List ℕ) → (IsTrue last → r ≡ []) →
+    events 0 (before.pieces (src ++ r)) ≡ told ++ events (before.pending + read - after.pending) (after.pieces (drop read src ++ r)))

@@ -1,0 +1,22 @@
+-- What a call of the encoding driver leaves, beside the law of a call.
+use Rattle.std.specs.Prelude.{◌≡◌, ℕ, ◌<◌, List, [], ◌∷◌, length, drop, ◌⊎◌}
+use Rattle.encoding_mem.specs.Coding.{Coding, bytes}
+use Rattle.encoding_mem.specs.declared.form.Set.{Set}
+use Rattle.encoding_mem.specs.declared.form.Set.TheVariants.{Ascii}
+use Rattle.encoding_mem.specs.declared.encoder_result.EncoderResult.{EncoderResult}
+use Rattle.encoding_mem.specs.declared.encoder_result.EncoderResult.TheVariants.{InputEmpty, OutputFull, Unmappable}
+
+-- the text from a place of a list on
+abbrev pub left : (List ℕ → List ℕ) → List ℕ → ℕ → List ℕ
+left text all place = text (drop place all)
+
+-- A call leaves the set as it was, as some scalar chose it, or ASCII.
+abbrev pub Moves : Coding → Set → Set → Type 0
+Moves e s s' = (s' ≡ s) ⊎ (((q : Set) × (c : ℕ) × (s' ≡ e.set q c)) ⊎ (s' ≡ Ascii))
+
+-- At OutputFull what comes next does not fit: the escape, or the bytes where the set of the next scalar is in force.
+abbrev pub Tight : Coding → EncoderResult → Set → List ℕ → ℕ → Type 0
+Tight e InputEmpty s rest room = Unit {0}
+Tight e (Unmappable c) s rest room = Unit {0}
+Tight e OutputFull s [] room = room < length (e.escape s Ascii)
+Tight e OutputFull s (c ∷ rest) room = (room < length (e.escape s (e.set s c))) ⊎ ((e.set s c ≡ s) × (room < length (bytes (e.form c))))

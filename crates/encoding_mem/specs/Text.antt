@@ -1,0 +1,14 @@
+-- A run of text that a decoder copies as it is.
+use Rattle.std.specs.Prelude.{ℕ, Bool, List, [], ◌∷◌, length, map, if◌then◌else◌}
+use Rattle.std.specs.Char.{len_utf8}
+use Rattle.std.specs.Str.{chars}
+use Rattle.encoding_mem.specs.Piece.{Piece, good}
+use Rattle.encoding_mem.specs.Writing.{encode_utf16_all}
+
+-- its pieces, where the bytes are UTF-8: each scalar is one
+abbrev pub text_pieces : List ℕ → List Piece
+text_pieces cs = map (λ c. good (len_utf8 c) (c ∷ [])) cs
+
+-- the length of a text in units of 16 bits, or in bytes
+abbrev pub text_len : (is_units : Bool) → List ℕ → ℕ
+text_len is_units text = if is_units then length (encode_utf16_all (chars text)) else length text

@@ -1,0 +1,14 @@
+-- UTF-8 as a target: each scalar has bytes, and there is one set.
+use Rattle.std.specs.Prelude.{ℕ, ◌<◌, List, [], ◌∷◌}
+use Rattle.std.specs.Char.{encode_utf8, len_utf8}
+use Rattle.encoding_mem.specs.Coding.{Coding}
+use Rattle.encoding_mem.specs.Stateless.{stateless}
+use Rattle.encoding_mem.specs.declared.form.Form.TheVariants.{Mapped}
+
+abbrev pub utf8_coding : Coding
+utf8_coding = stateless (λ c. Mapped (encode_utf8 c))
+
+-- the next character, where there is one, has more bytes than are free
+abbrev pub NextIsTooLong : List ℕ → ℕ → Type 0
+NextIsTooLong [] free = Unit {0}
+NextIsTooLong (c ∷ t) free = free < len_utf8 c

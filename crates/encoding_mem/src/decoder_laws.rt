@@ -1,0 +1,38 @@
+// Laws of the decoders' definitions.
+
+ghost use Rattle.std.specs.Prelude.{◌≢◌, ◌≡◌, ◌≤◌, true, List, [], ℕ, length, drop, encode_utf8_all};
+ghost use Rattle.std.specs.Str.{all_scalars};
+ghost use Rattle.encoding_mem.specs.Piece.{Piece};
+ghost use Rattle.encoding_mem.specs.Decoding.{EventLaw, StateLaw, EndsWith, IsUndecided, IsDecided};
+ghost use Rattle.encoding_mem.specs.Writing.{Adds};
+ghost use Rattle.encoding_mem.specs.Text.{text_pieces};
+ghost use Rattle.encoding_mem.specs.Utf8.{pieces_utf8};
+
+use crate::decoder_result::DecoderResult;
+use crate::raw_decoder::RawDecoder;
+
+/// The call `decode_to_utf8_raw`, and its law over events besides: those of the call, and then those of
+/// what is left.
+pub fn decode_with_events<D: RawDecoder>(
+    decoder: &mut D,
+    src: &[u8],
+    dst: &mut [u8],
+    last: bool,
+) -> (DecoderResult, usize, usize)
+    ensures events { EventLaw (D.state decoder.old) (D.state decoder.new) src.now last result.1 }
+    ensures law { StateLaw (D.state decoder.old) (D.state decoder.new) src.now last result.1 (λ text. Adds dst.old 0 (encode_utf8_all text) dst.new result.2) result.0 }
+    ensures ends { EndsWith (D.state decoder.new) (drop result.1 src.now) last (length (drop result.2 dst.new)) 4 3 result.0 }
+    ensures enough { (D.state decoder.old).bytes_for (length src.now) ≤ length dst.old → result.0 ≢ DecoderResult.OutputFull }
+{
+    decoder.decode_to_utf8_raw(src, dst, last)
+}
+
+/// What waits for more decides nothing.
+pub fn undecided_decides_nothing()
+    ensures { (pieces : List ℕ → List Piece) (x : List ℕ) (ps : List Piece) → IsUndecided pieces x → IsDecided pieces x ps → ps ≡ [] }
+{}
+
+/// Text that is written in UTF-8 is read back, each scalar as a piece.
+pub fn utf8_text_reads_back()
+    ensures { (t : List ℕ) → all_scalars t ≡ true → pieces_utf8 (encode_utf8_all t) ≡ text_pieces t }
+{}

@@ -1,0 +1,157 @@
+ghost use Rattle.std.specs.Prelude.{◌+◌, ◌-◌, ◌≡◌, ◌<◌, ◌≤◌, ◌++◌, [], length, drop};
+ghost use Rattle.encoding_mem.specs.Decoding.{Takes, Reports};
+ghost use Rattle.encoding_mem.specs.Driver.{IsNear, IsStep, IsRoomyStep, room_for, Ends, Suffices, PartReports, PartEnds, PartSuffices};
+
+use crate::decoder_result::DecoderResult;
+use crate::front::{Front, FrontPiece};
+use crate::pending::Pending;
+use crate::sink::Sink;
+
+// What one step did: nothing, since the piece is not decided, or since it has no room; or it took a
+// piece of so many bytes, which is good, or bad.
+enum Step {
+    Wait,
+    Full,
+    Took(usize),
+    Broke(usize),
+}
+
+// Takes the first piece of these bytes, if it is decided and has room. That it is decided is asked first.
+fn take_piece<F: FrontPiece, S: Sink>(codec: &mut F, bytes: &[u8], last: bool, sink: &mut S) -> Step
+    requires { 0 < length bytes.now }
+    ensures step { IsStep F.pieces S.writes S.free S.room (S.cost 0xFFFD) codec.old codec.new bytes.now last sink.old sink.new result }
+    ensures room { IsRoomyStep (room_for S.is_units (F.units_for codec.old) (F.bytes_for codec.old)) (room_for S.is_units (F.units_for codec.new) (F.bytes_for codec.new)) (length bytes.now) (S.free sink.old) (S.free sink.new) result }
+{
+    match codec.front(bytes, last) {
+        Front::More => Step::Wait,
+        Front::One(c, n) => {
+            if !sink.fits(c) {
+                return Step::Full;
+            }
+            sink.put(c);
+            codec.pass(bytes);
+            Step::Took(n)
+        }
+        Front::Two(c, d, n) => {
+            if !sink.has_room() {
+                return Step::Full;
+            }
+            sink.put(c);
+            sink.put(d);
+            codec.pass(bytes);
+            Step::Took(n)
+        }
+        Front::Silent(n) => {
+            codec.pass(bytes);
+            Step::Took(n)
+        }
+        Front::Bad(n) => {
+            if !sink.fits('\u{FFFD}') {
+                return Step::Full;
+            }
+            codec.pass(bytes);
+            Step::Broke(n)
+        }
+    }
+}
+
+// Takes the pieces that begin with what is pending, with as many bytes of the source as they need. No
+// outcome: nothing is pending any more.
+fn finish_pending<F: FrontPiece, S: Sink>(
+    codec: &mut F,
+    pending: &mut Pending,
+    src: &[u8],
+    sink: &mut S,
+    last: bool,
+) -> (Option<DecoderResult>, usize)
+    requires short { length pending.old < 7 }
+    requires near { IsNear (F.pieces codec.old) pending.old }
+    ensures law { Takes (PartReports result.0 (length pending.new)) (λ x. F.pieces codec.old (pending.old ++ x)) (λ x. F.pieces codec.new (pending.new ++ x)) src.now last (length pending.old) (length pending.new) result.1 (λ text. S.writes sink.old text sink.new) }
+    ensures ends { PartEnds (F.pieces codec.new) pending.new (drop result.1 src.now) last (S.free sink.new) S.room (S.cost 0xFFFD) result.0 }
+    ensures enough { PartSuffices (λ k. room_for S.is_units (F.units_for codec.old) (F.bytes_for codec.old) (length pending.old + k)) (λ k. room_for S.is_units (F.units_for codec.new) (F.bytes_for codec.new) (length pending.new + k)) (length src.now) (length src.now - result.1) (S.free sink.old) (S.free sink.new) result.0 }
+    ensures short { length pending.new < 7 }
+    ensures near { IsNear (F.pieces codec.new) pending.new }
+{
+    let mut read = 0;
+    'pieces: while pending.len() > 0 {
+        let at_end = read == src.len();
+        match take_piece(codec, pending.as_slice(), last && at_end, sink) {
+            Step::Wait => {
+                if at_end {
+                    return (Some(DecoderResult::InputEmpty), read);
+                }
+                pending.push(src[read]);
+                read += 1;
+            }
+            Step::Full => return (Some(DecoderResult::OutputFull), read),
+            Step::Took(n) => pending.remove_front(n),
+            Step::Broke(n) => {
+                pending.remove_front(n);
+                let behind = pending.len() as u8;
+                return (Some(DecoderResult::Malformed(n as u8, behind)), read);
+            }
+        }
+    }
+    (None, read)
+}
+
+// Decodes a source where nothing is pending: runs of text as a whole, and what else there is by pieces.
+fn decode_source<F: FrontPiece, S: Sink>(
+    codec: &mut F,
+    pending: &mut Pending,
+    src: &[u8],
+    sink: &mut S,
+    last: bool,
+) -> (DecoderResult, usize)
+    requires { pending.old ≡ [] }
+    ensures law { Takes (Reports result.0 (length pending.new)) (F.pieces codec.old) (λ x. F.pieces codec.new (pending.new ++ x)) src.now last 0 (length pending.new) result.1 (λ text. S.writes sink.old text sink.new) }
+    ensures ends { Ends (F.pieces codec.new) pending.new (drop result.1 src.now) last (S.free sink.new) S.room (S.cost 0xFFFD) result.0 }
+    ensures enough { Suffices (room_for S.is_units (F.units_for codec.old) (F.bytes_for codec.old)) (λ k. room_for S.is_units (F.units_for codec.new) (F.bytes_for codec.new) (length pending.new + k)) (length src.now) (S.free sink.old) (S.free sink.new) result.0 }
+    ensures short { length pending.new < 7 }
+    ensures near { IsNear (F.pieces codec.new) pending.new }
+{
+    let mut read = 0;
+    'pieces: while read < src.len() {
+        let rest = &src[read..];
+        let text = codec.text_at(&rest[..rest.len().min(sink.free_len())]);
+        if !text.is_empty() {
+            sink.put_text(text);
+            read += text.len();
+            continue;
+        }
+        match take_piece(codec, rest, last, sink) {
+            Step::Wait => {
+                pending.fill(rest);
+                return (DecoderResult::InputEmpty, src.len());
+            }
+            Step::Full => return (DecoderResult::OutputFull, read),
+            Step::Took(n) => read += n,
+            Step::Broke(n) => return (DecoderResult::Malformed(n as u8, 0), read + n),
+        }
+    }
+    (DecoderResult::InputEmpty, read)
+}
+
+/// Decodes until the input is read, there is no room or a piece is bad. Answers which, and the bytes read.
+pub fn decode<F: FrontPiece, S: Sink>(
+    codec: &mut F,
+    pending: &mut Pending,
+    src: &[u8],
+    sink: &mut S,
+    last: bool,
+) -> (DecoderResult, usize)
+    requires short { length pending.old < 7 }
+    requires near { IsNear (F.pieces codec.old) pending.old }
+    ensures law { Takes (Reports result.0 (length pending.new)) (λ x. F.pieces codec.old (pending.old ++ x)) (λ x. F.pieces codec.new (pending.new ++ x)) src.now last (length pending.old) (length pending.new) result.1 (λ text. S.writes sink.old text sink.new) }
+    ensures ends { Ends (F.pieces codec.new) pending.new (drop result.1 src.now) last (S.free sink.new) S.room (S.cost 0xFFFD) result.0 }
+    ensures enough { Suffices (λ k. room_for S.is_units (F.units_for codec.old) (F.bytes_for codec.old) (length pending.old + k)) (λ k. room_for S.is_units (F.units_for codec.new) (F.bytes_for codec.new) (length pending.new + k)) (length src.now) (S.free sink.old) (S.free sink.new) result.0 }
+    ensures short { length pending.new < 7 }
+    ensures near { IsNear (F.pieces codec.new) pending.new }
+{
+    let (ended, read) = finish_pending(codec, pending, src, sink, last);
+    if let Some(outcome) = ended {
+        return (outcome, read);
+    }
+    let (outcome, more) = decode_source(codec, pending, &src[read..], sink, last);
+    (outcome, read + more)
+}

@@ -1,0 +1,97 @@
+// One driver for all encoders.
+
+ghost use Rattle.std.specs.Prelude.{◌≡◌, ℕ, ◌+◌, ◌-◌, ◌<◌, ◌≤◌, List, [], ◌∷◌, ◌++◌, length, take, drop};
+ghost use Rattle.encoding_mem.specs.Coding.{Coding, IsCoding};
+ghost use Rattle.encoding_mem.specs.Encoding.{Encodes, Answers};
+ghost use Rattle.encoding_mem.specs.Target.{Moves, Tight, left};
+
+use crate::encoder_result::EncoderResult;
+use crate::form::{Bytes, Form, Set};
+use crate::source::Source;
+
+/// A target: what it makes of each character, and its sets.
+pub trait Target {
+    /// The most bytes that an escape or a character has.
+    ghost need: { ℕ };
+
+    ghost coding: { Self → Coding };
+
+    /// The set in which a character is written after a set, and its bytes.
+    fn step(&self, set: Set, c: char) -> (Set, Form)
+        ensures set { result.0 ≡ (coding self.now).set set c }
+        ensures form { result.1 ≡ (coding self.now).form c };
+
+    /// The escape from one set to another.
+    fn escape(&self, from: Set, to: Set) -> Bytes
+        ensures { result ≡ (coding self.now).escape from to };
+
+    ghost laws: { (x : Self) → IsCoding need (coding x) };
+}
+
+// Puts the bytes at a place, where there is room for them, and answers the place behind them.
+fn put(dst: &mut [u8], at: usize, bytes: &[u8]) -> usize
+    requires { at + length bytes.now ≤ length dst.old }
+    ensures end { result ≡ at + length bytes.now }
+    ensures front { take result dst.new ≡ take at dst.old ++ bytes.now }
+    ensures back { drop result dst.new ≡ drop result dst.old }
+{
+    let end = at + bytes.len();
+    dst[at..end].copy_from_slice(bytes);
+    end
+}
+
+/// Encodes what is left of a source, from a set. Answers how it ended and how many bytes are written.
+/// It stops at the end, at the first character without bytes, whose escape is written, and where the
+/// next escape or the next character does not fit. After the end of a last call the set is ASCII.
+pub fn encode<T: Target, S: Source>(
+    target: &T,
+    set: &mut Set,
+    source: &mut S,
+    dst: &mut [u8],
+    last: bool,
+) -> (EncoderResult, usize)
+    ensures room { result.1 ≤ length dst.new }
+    ensures behind { drop result.1 dst.new ≡ drop result.1 dst.old }
+    ensures source { S.all source.new ≡ S.all source.old }
+    ensures law { Encodes (T.coding target.now) last result.0 set.old (left S.text (S.all source.old) (S.place source.old))
+        (take result.1 dst.new) set.new (left S.text (S.all source.old) (S.place source.new)) }
+    ensures moves { Moves (T.coding target.now) set.old set.new }
+    ensures tight { Tight (T.coding target.now) result.0 set.new (left S.text (S.all source.old) (S.place source.new)) (length dst.new - result.1) }
+    ensures answers { Answers T.need last result.0 set.new (left S.text (S.all source.old) (S.place source.new)) (length dst.new - result.1) }
+{
+    let mut written = 0;
+    while let Some((c, _)) = source.peek() {
+        let (next, form) = target.step(*set, c);
+        let escape = target.escape(*set, next);
+        let bytes = escape.as_slice();
+        if dst.len() - written < bytes.len() {
+            return (EncoderResult::OutputFull, written);
+        }
+        written = put(dst, written, bytes);
+        *set = next;
+        match form {
+            Form::Mapped(form) => {
+                let bytes = form.as_slice();
+                if dst.len() - written < bytes.len() {
+                    return (EncoderResult::OutputFull, written);
+                }
+                written = put(dst, written, bytes);
+                source.advance();
+            }
+            Form::Unmapped(reported) => {
+                source.advance();
+                return (EncoderResult::Unmappable(reported), written);
+            }
+        }
+    }
+    if last {
+        let escape = target.escape(*set, Set::Ascii);
+        let bytes = escape.as_slice();
+        if dst.len() - written < bytes.len() {
+            return (EncoderResult::OutputFull, written);
+        }
+        written = put(dst, written, bytes);
+        *set = Set::Ascii;
+    }
+    (EncoderResult::InputEmpty, written)
+}

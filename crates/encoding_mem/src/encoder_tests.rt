@@ -1,0 +1,170 @@
+// Encoders into rooms of every size, against outputs worked by hand.
+
+ghost use Rattle.std.specs.Prelude.{◌≤◌, length};
+ghost use Rattle.encoding_mem.specs.SampleCoding.{sample_coding};
+ghost use Rattle.encoding_mem.specs.SampleCodingLaws.{sample_coding_laws};
+
+use crate::encode::{Target, encode};
+use crate::encoder_result::EncoderResult;
+use crate::form::{Bytes, Form, Set};
+use crate::raw_encoder::RawEncoder;
+use crate::source::{Source, Utf8Source, Utf16Source};
+use crate::utf8_encoder::Utf8Encoder;
+
+// The small target with three sets.
+#[derive(Clone, Copy, Drop)]
+struct Sample;
+
+impl Target for Sample {
+    ghost need = { 3 };
+
+    ghost coding = { λ _. sample_coding };
+
+    ghost laws = { λ _. sample_coding_laws };
+
+    fn step(&self, set: Set, c: char) -> (Set, Form) {
+        let stays = match set {
+            Set::Ascii => Set::Ascii,
+            Set::Roman => Set::Roman,
+            Set::Jis => Set::Ascii,
+        };
+        let code = c as u32;
+        if code == 0xa5 {
+            (Set::Roman, Form::Mapped(Bytes::one(0x5c)))
+        } else if code == 0x3042 {
+            (Set::Jis, Form::Mapped(Bytes::two(0x24, 0x22)))
+        } else if code < 0x80 {
+            (stays, Form::Mapped(Bytes::one(code as u8)))
+        } else {
+            (stays, Form::Unmapped(c))
+        }
+    }
+
+    fn escape(&self, from: Set, to: Set) -> Bytes {
+        match (from, to) {
+            (Set::Ascii, Set::Ascii) | (Set::Roman, Set::Roman) | (Set::Jis, Set::Jis) =>
+                Bytes::none(),
+            (_, Set::Ascii) => Bytes::three(0x1b, 0x28, 0x42),
+            (_, Set::Roman) => Bytes::three(0x1b, 0x28, 0x4a),
+            (_, Set::Jis) => Bytes::three(0x1b, 0x24, 0x42),
+        }
+    }
+}
+
+const TEXT: &str = "aé€💩z";
+
+const BYTES: [u8; 11] = [
+    0x61, 0xc3, 0xa9, 0xe2, 0x82, 0xac, 0xf0, 0x9f, 0x92, 0xa9, 0x7a,
+];
+
+// how many bytes, and units, are read into a room of each size
+const BYTES_READ: [usize; 13] = [0, 1, 1, 3, 3, 3, 6, 6, 6, 6, 10, 11, 11];
+
+const UNITS_READ: [usize; 13] = [0, 1, 1, 2, 2, 2, 3, 3, 3, 3, 5, 6, 6];
+
+#[test]
+fn texts_into_each_room(rt: HostRuntime) {
+    let mut encoder = Utf8Encoder::new();
+    for room in 0..13 {
+        let bytes = BYTES_READ[room];
+        let mut dst = [0xff; 16];
+        let (result, read, written) = encoder.encode_from_utf8_raw(TEXT, &mut dst[..room], true);
+        assert_eq!(rt; read, bytes, "room {room}");
+        assert_eq!(rt; written, bytes, "room {room}");
+        assert!(rt;
+            (result == EncoderResult::InputEmpty) == (read == 11),
+            "room {room}"
+        );
+        assert!(rt; dst[..written] == BYTES[..written], "room {room}");
+        assert!(rt; dst[written..].iter().all(|b| *b == 0xff), "room {room}");
+    }
+}
+
+#[test]
+fn units_into_each_room(rt: HostRuntime) {
+    let mut encoder = Utf8Encoder::new();
+    let text = [0x61, 0xe9, 0x20ac, 0xd83d, 0xdca9, 0x7a];
+    for room in 0..13 {
+        let bytes = BYTES_READ[room];
+        let units = UNITS_READ[room];
+        let mut dst = [0xff; 16];
+        let (result, read, written) = encoder.encode_from_utf16_raw(&text, &mut dst[..room], false);
+        assert_eq!(rt; read, units, "room {room}");
+        assert_eq!(rt; written, bytes, "room {room}");
+        assert!(rt;
+            (result == EncoderResult::InputEmpty) == (read == 6),
+            "room {room}"
+        );
+        assert!(rt; dst[..written] == BYTES[..written], "room {room}");
+        assert!(rt; dst[written..].iter().all(|b| *b == 0xff), "room {room}");
+    }
+}
+
+#[test]
+fn surrogates_outside_a_pair(rt: HostRuntime) {
+    let mut encoder = Utf8Encoder::new();
+    for units in [[0xdc00, 0x61], [0xd800, 0x61], [0xdbff, 0x61]] {
+        let mut dst = [0xff; 8];
+        let (result, read, written) = encoder.encode_from_utf16_raw(&units, &mut dst, true);
+        assert_eq!(rt; result, EncoderResult::InputEmpty);
+        assert_eq!(rt; (read, written), (2, 4));
+        assert_eq!(rt; dst, [0xef, 0xbf, 0xbd, 0x61, 0xff, 0xff, 0xff, 0xff]);
+    }
+    let mut dst = [0xff; 4];
+    let (result, read, written) = encoder.encode_from_utf16_raw(&[0xdc00, 0xd800], &mut dst, true);
+    assert_eq!(rt; result, EncoderResult::OutputFull);
+    assert_eq!(rt; (read, written), (1, 3));
+    assert_eq!(rt; dst, [0xef, 0xbf, 0xbd, 0xff]);
+}
+
+#[test]
+fn escapes_into_tiny_rooms(rt: HostRuntime) {
+    let mut set = Set::Ascii;
+    let mut source = Utf8Source::new("あé¥a");
+    let mut dst = [0xff; 4];
+    // between the escape and its character
+    let ended = encode(&Sample, &mut set, &mut source, &mut dst[..3], true);
+    assert_eq!(rt; ended, (EncoderResult::OutputFull, 3));
+    assert_eq!(rt; (source.read(), set), (0, Set::Jis));
+    assert_eq!(rt; dst, [0x1b, 0x24, 0x42, 0xff]);
+    // before the escape of a character without bytes
+    let ended = encode(&Sample, &mut set, &mut source, &mut dst, true);
+    assert_eq!(rt; ended, (EncoderResult::OutputFull, 2));
+    assert_eq!(rt; (source.read(), set), (3, Set::Jis));
+    assert_eq!(rt; dst, [0x24, 0x22, 0x42, 0xff]);
+    // the escape before the reference, and no reference
+    let ended = encode(&Sample, &mut set, &mut source, &mut dst[..3], true);
+    assert_eq!(rt; ended, (EncoderResult::Unmappable('é'), 3));
+    assert_eq!(rt; (source.read(), set), (5, Set::Ascii));
+    assert_eq!(rt; dst, [0x1b, 0x28, 0x42, 0xff]);
+    // an escape and its character
+    let ended = encode(&Sample, &mut set, &mut source, &mut dst, true);
+    assert_eq!(rt; ended, (EncoderResult::OutputFull, 4));
+    assert_eq!(rt; (source.read(), set), (7, Set::Roman));
+    assert_eq!(rt; dst, [0x1b, 0x28, 0x4a, 0x5c]);
+    // ASCII in Roman, and no room for the final escape
+    let ended = encode(&Sample, &mut set, &mut source, &mut dst[..3], true);
+    assert_eq!(rt; ended, (EncoderResult::OutputFull, 1));
+    assert_eq!(rt; (source.read(), set), (8, Set::Roman));
+    // the final escape
+    let ended = encode(&Sample, &mut set, &mut source, &mut dst[..3], true);
+    assert_eq!(rt; ended, (EncoderResult::InputEmpty, 3));
+    assert_eq!(rt; (source.read(), set), (8, Set::Ascii));
+    assert_eq!(rt; dst, [0x1b, 0x28, 0x42, 0x5c]);
+}
+
+#[test]
+fn escapes_of_units(rt: HostRuntime) {
+    let mut set = Set::Ascii;
+    let units = [0x3042, 0xd83d, 0xdca9, 0x61];
+    let mut source = Utf16Source::new(&units);
+    let mut dst = [0xff; 16];
+    let ended = encode(&Sample, &mut set, &mut source, &mut dst, true);
+    assert_eq!(rt; ended, (EncoderResult::Unmappable('💩'), 8));
+    assert_eq!(rt; (source.read(), set), (3, Set::Ascii));
+    // a call that is not the last leaves the set
+    let mut source = Utf16Source::new(&units[..1]);
+    let ended = encode(&Sample, &mut set, &mut source, &mut dst, false);
+    assert_eq!(rt; ended, (EncoderResult::InputEmpty, 5));
+    assert_eq!(rt; (source.read(), set), (1, Set::Jis));
+}

@@ -1,0 +1,70 @@
+ghost use Rattle.std.specs.Prelude.{◌≡◌, ℕ, ◌<◌, ◌≤◌, ◌++◌, ◌∷◌, List, [], length, drop, take};
+
+use std::marker::Model;
+
+/// Bytes that were read and whose piece is not decided, at most 8.
+#[derive(Drop)]
+pub struct Pending {
+    bytes: [u8; 8],
+    len: usize,
+}
+
+impl Model for Pending {
+    ghost Value = { List ℕ };
+
+    ghost view = { λ p. take p.len p.bytes };
+
+    ghost invariant = { λ p. p.len ≤ 8 };
+}
+
+impl Pending {
+    pub fn new() -> Self
+        ensures { result ≡ [] }
+    {
+        Pending {
+            bytes: [0; 8],
+            len: 0,
+        }
+    }
+
+    pub fn len(&self) -> usize
+        ensures exact { result ≡ length self.now }
+        ensures small { result ≤ 8 }
+    {
+        self.len
+    }
+
+    pub fn as_slice(&self) -> &[u8]
+        ensures { result.now ≡ self.now }
+    {
+        &self.bytes[..self.len]
+    }
+
+    /// Appends a byte.
+    pub fn push(&mut self, b: u8)
+        requires { length self.old < 8 }
+        ensures { self.new ≡ self.old ++ b ∷ [] }
+    {
+        self.bytes[self.len] = b;
+        self.len += 1;
+    }
+
+    /// Removes the first `n` bytes.
+    pub fn remove_front(&mut self, n: usize)
+        requires { n ≤ length self.old }
+        ensures { self.new ≡ drop n self.old }
+    {
+        self.bytes.copy_within(n..self.len, 0);
+        self.len -= n;
+    }
+
+    /// Puts these bytes in place of what was there.
+    pub fn fill(&mut self, bytes: &[u8])
+        requires { length bytes.now ≤ 8 }
+        ensures { self.new ≡ bytes.now }
+    {
+        let len = bytes.len();
+        self.bytes[..len].copy_from_slice(bytes);
+        self.len = len;
+    }
+}

@@ -1,0 +1,103 @@
+ghost use Rattle.std.specs.Prelude.{◌≡◌, ℕ, ◌<◌, ◌≤◌, [], length, drop, encode_utf8_all};
+ghost use Rattle.encoding_mem.specs.Decoding.{DecoderState, StateLaw, EndsWith};
+ghost use Rattle.encoding_mem.specs.Driver.{IsNear, Suffices, buffered, needs};
+
+use crate::decoder_result::DecoderResult;
+use crate::driver::decode;
+use crate::front::FrontPiece;
+use crate::pending::Pending;
+use crate::raw_decoder::RawDecoder;
+use crate::sink::Sink;
+use crate::utf8_sink::Utf8Sink;
+use crate::utf16_sink::Utf16Sink;
+
+/// A decoder that writes into any destination. Each is a `RawDecoder`.
+pub trait PieceDecoder {
+    ghost state: { Self → DecoderState };
+
+    /// Decodes bytes, and answers how the call ended and the bytes read.
+    fn decode_into<S: Sink>(
+        &mut self,
+        src: &[u8],
+        sink: &mut S,
+        last: bool,
+    ) -> (DecoderResult, usize)
+        ensures law { StateLaw (state self.old) (state self.new) src.now last result.1 (λ text. S.writes sink.old text sink.new) result.0 }
+        ensures ends { EndsWith (state self.new) (drop result.1 src.now) last (S.free sink.new) S.room (S.cost 0xFFFD) result.0 }
+        ensures enough { Suffices (needs S.is_units (state self.old)) (needs S.is_units (state self.new)) (length src.now) (S.free sink.old) (S.free sink.new) result.0 };
+
+    /// How many bytes are read whose piece is not decided.
+    fn held_len(&self) -> usize
+        ensures { result ≡ (state self.now).pending };
+}
+
+impl<D: PieceDecoder> RawDecoder for D {
+    ghost state = { D.state };
+
+    fn decode_to_utf8_raw(
+        &mut self,
+        src: &[u8],
+        dst: &mut [u8],
+        last: bool,
+    ) -> (DecoderResult, usize, usize) {
+        let mut sink = Utf8Sink::new(dst);
+        let (outcome, read) = self.decode_into(src, &mut sink, last);
+        let written = sink.written();
+        (outcome, read, written)
+    }
+
+    fn decode_to_utf16_raw(
+        &mut self,
+        src: &[u8],
+        dst: &mut [u16],
+        last: bool,
+    ) -> (DecoderResult, usize, usize) {
+        let mut sink = Utf16Sink::new(dst);
+        let (outcome, read) = self.decode_into(src, &mut sink, last);
+        let written = sink.written();
+        (outcome, read, written)
+    }
+
+    fn pending_len(&self) -> usize {
+        self.held_len()
+    }
+}
+
+/// A rule, with what is pending: the decoder that a rule makes.
+#[derive(Drop)]
+pub struct Buffered<F: FrontPiece> {
+    rule: F,
+    pending: Pending,
+    ghost short: { length pending < 7 },
+    ghost near: { IsNear (F.pieces rule) pending },
+}
+
+impl<F: FrontPiece> Buffered<F> {
+    /// Nothing is pending.
+    pub fn new(rule: F) -> Self
+        ensures rule { result.rule ≡ rule }
+        ensures pending { result.pending ≡ [] }
+    {
+        Buffered {
+            rule,
+            pending: Pending::new(),
+        }
+    }
+}
+
+impl<F: FrontPiece> PieceDecoder for Buffered<F> {
+    ghost state = { λ d. buffered (F.pieces d.rule) (F.whole d.rule) (F.are_pieces d.rule) (F.bytes_for d.rule) (F.units_for d.rule) d.pending };
+
+    fn decode_into<S: Sink>(
+        &mut self,
+        src: &[u8],
+        sink: &mut S,
+        last: bool,
+    ) -> (DecoderResult, usize) {
+        decode(&mut self.rule, &mut self.pending, src, sink, last)
+    }
+
+    fn held_len(&self) -> usize {
+        self.pending.len()
+    }
+}

@@ -1,0 +1,179 @@
+// A text that is read from the front.
+
+ghost use Rattle.std.specs.Prelude.{◌≡◌, ℕ, ◌+◌, ◌<◌, ◌≤◌, List, [], ◌∷◌, ◌++◌, length, take, drop, MatchOption, IfSome};
+ghost use Rattle.std.specs.Str.{chars, IsCharBoundary};
+ghost use Rattle.std.specs.Char.{len_utf8, encode_utf8, IsScalar};
+ghost use Rattle.std.specs.Char.Utf16.{utf16_lossy_chars};
+
+/// A source of characters: a list of bytes or units, which stays as it is, and a place in it.
+pub trait Source {
+    /// The text of a list.
+    ghost text: { List ℕ → List ℕ };
+
+    /// A place between characters.
+    ghost IsBoundary: { List ℕ → ℕ → Type 0 };
+
+    /// The whole list.
+    ghost all: { Self → List ℕ };
+
+    /// How much of it was read.
+    ghost place: { Self → ℕ };
+
+    /// The next character and its length in bytes or units, or `None` at the end. It stays unread.
+    fn peek(&self) -> Option<(char, usize)>
+        ensures { MatchOption result (text (drop (place self.now) (all self.now)) ≡ [])
+            (λ p. text (drop (place self.now) (all self.now)) ≡ p.0 ∷ text (drop (place self.now + p.1) (all self.now))) };
+
+    /// Goes past the next character, which `peek` has shown to be there.
+    fn advance(&mut self)
+        requires { 0 < length (text (drop (place self.old) (all self.old))) }
+        ensures same { all self.new ≡ all self.old }
+        ensures next { (c : ℕ) × (text (drop (place self.old) (all self.old)) ≡ c ∷ text (drop (place self.new) (all self.new))) };
+
+    /// How many bytes or units were read. They end between characters.
+    fn read(&self) -> usize
+        ensures place { result ≡ place self.now }
+        ensures within { result ≤ length (all self.now) }
+        ensures boundary { IsBoundary (all self.now) result };
+}
+
+// The first character of a text, and what follows it.
+fn first_char(text: &str) -> Option<(char, &str)>
+    ensures chars { MatchOption result (chars text.now ≡ []) (λ p. chars text.now ≡ p.0 ∷ chars p.1.now) }
+    ensures bytes { IfSome result (λ p. text.now ≡ encode_utf8 p.0 ++ p.1.now) }
+    ensures boundary { IfSome result (λ p. IsCharBoundary text.now (len_utf8 p.0)) }
+{
+    let mut rest = text.chars();
+    match rest.next() {
+        Some(c) => Some((c, rest.as_str())),
+        None => None,
+    }
+}
+
+/// The characters of a text, read from its start.
+#[derive(Drop)]
+pub struct Utf8Source<'a> {
+    text: &'a str,
+    rest: &'a str,
+    read: usize,
+    ghost sum: { read + length rest.now ≡ length text.now },
+    ghost place: { rest.now ≡ drop read text.now },
+    ghost boundary: { IsCharBoundary text.now read },
+}
+
+impl<'a> Utf8Source<'a> {
+    /// Nothing of the text is read.
+    pub fn new(text: &'a str) -> Self
+        ensures text { result.text.now ≡ text.now }
+        ensures read { result.read ≡ 0 }
+    {
+        Utf8Source {
+            text,
+            rest: text,
+            read: 0,
+        }
+    }
+}
+
+impl<'a> Source for Utf8Source<'a> {
+    ghost text = { chars };
+
+    ghost IsBoundary = { IsCharBoundary };
+
+    ghost all = { λ s. s.text.now };
+
+    ghost place = { λ s. s.read };
+
+    fn peek(&self) -> Option<(char, usize)> {
+        match first_char(self.rest) {
+            Some((c, _)) => Some((c, c.len_utf8())),
+            None => None,
+        }
+    }
+
+    fn advance(&mut self) {
+        if let Some((c, rest)) = first_char(self.rest) {
+            self.rest = rest;
+            self.read += c.len_utf8();
+        }
+    }
+
+    fn read(&self) -> usize {
+        self.read
+    }
+}
+
+// The character of a code.
+fn scalar_of(code: u32) -> char
+    requires { IsScalar code }
+    ensures { result ≡ code }
+{
+    match char::from_u32(code) {
+        Some(c) => c,
+        None => unreachable!(),
+    }
+}
+
+// The first character of units, and how many units it has. A surrogate in no pair gives U+FFFD.
+fn first_of_units(units: &[u16]) -> Option<(char, usize)>
+    ensures value { MatchOption result (utf16_lossy_chars units.now ≡ [])
+        (λ p. utf16_lossy_chars units.now ≡ p.0 ∷ utf16_lossy_chars (drop p.1 units.now)) }
+    ensures within { IfSome result (λ p. p.1 ≤ length units.now) }
+{
+    if units.is_empty() {
+        return None;
+    }
+    let u = units[0] as u32;
+    if u < 0xd800 || u >= 0xe000 {
+        return Some((scalar_of(u), 1));
+    }
+    if u < 0xdc00 && units.len() >= 2 {
+        let v = units[1] as u32;
+        if v >= 0xdc00 && v < 0xe000 {
+            return Some((scalar_of(0x10000 + (u - 0xd800) * 0x400 + (v - 0xdc00)), 2));
+        }
+    }
+    Some(('\u{fffd}', 1))
+}
+
+/// The characters of units of UTF-16, read from their start. A surrogate in no pair is U+FFFD.
+#[derive(Drop)]
+pub struct Utf16Source<'a> {
+    units: &'a [u16],
+    read: usize,
+    ghost within: { read ≤ length units.now },
+}
+
+impl<'a> Utf16Source<'a> {
+    /// None of the units is read.
+    pub fn new(units: &'a [u16]) -> Self
+        ensures units { result.units.now ≡ units.now }
+        ensures read { result.read ≡ 0 }
+    {
+        Utf16Source { units, read: 0 }
+    }
+}
+
+impl<'a> Source for Utf16Source<'a> {
+    ghost text = { utf16_lossy_chars };
+
+    ghost IsBoundary = { λ us i. i ≤ length us };
+
+    ghost all = { λ s. s.units.now };
+
+    ghost place = { λ s. s.read };
+
+    fn peek(&self) -> Option<(char, usize)> {
+        first_of_units(&self.units[self.read..])
+    }
+
+    fn advance(&mut self) {
+        if let Some((_, n)) = first_of_units(&self.units[self.read..]) {
+            self.read += n;
+        }
+    }
+
+    fn read(&self) -> usize {
+        self.read
+    }
+}

@@ -1,0 +1,93 @@
+ghost use Rattle.std.specs.Prelude.{true, ◌≡◌, ◌-◌, ◌<◌, ◌≤◌, ◌∷◌, [], length, refl};
+ghost use Rattle.std.proofs.Common.{◌∙◌};
+ghost use Rattle.encoding_mem.specs.Writing.{Adds, len_utf16, encode_utf16_all};
+ghost use Rattle.encoding_mem.specs.WritingLaws.{adds_none, adds_encoded16, cost_fits16, cost_two16};
+
+use crate::sink::Sink;
+
+/// A destination in UTF-16, which is filled from its front.
+#[derive(Drop)]
+pub struct Utf16Sink<'a> {
+    units: &'a mut [u16],
+    written: usize,
+    ghost within: { written ≤ length units.now },
+}
+
+impl<'a> Utf16Sink<'a> {
+    /// Nothing is written yet.
+    pub fn new(units: &'a mut [u16]) -> Utf16Sink<'a>
+        ensures same_reference { result.units.ghost_name ≡ units.entry.ghost_name }
+        ensures written { result.written ≡ 0 }
+        ensures units { result.units.now ≡ units.old }
+    {
+        Utf16Sink { units, written: 0 }
+    }
+
+    fn put_unit(&mut self, unit: u16)
+        requires { self.old.written < length self.old.units.now }
+        ensures same_reference { self.new.units.ghost_name ≡ self.old.units.ghost_name }
+        ensures adds { Adds self.old.units.now self.old.written (unit ∷ []) self.new.units.now self.new.written }
+    {
+        self.units[self.written] = unit;
+        self.written += 1;
+    }
+}
+
+impl<'a> Sink for Utf16Sink<'a> {
+    ghost free = { λ s. length s.units.now - s.written };
+
+    ghost count = { λ s. s.written };
+
+    ghost cost = { len_utf16 };
+
+    ghost room = { 2 };
+
+    ghost is_units = { true };
+
+    ghost writes = { λ s cs t. (t.units.ghost_name ≡ s.units.ghost_name) × Adds s.units.now s.written (encode_utf16_all cs) t.units.now t.written };
+
+    fn free_len(&self) -> usize {
+        self.units.len() - self.written
+    }
+
+    fn has_room(&self) -> bool {
+        self.free_len() >= 2
+    }
+
+    fn fits(&self, c: char) -> bool {
+        self.free_len() >= c.len_utf16()
+    }
+
+    fn put(&mut self, c: char) {
+        let code = c as u32;
+        if code < 0x1_0000 {
+            self.put_unit(code as u16);
+        } else {
+            let over = code - 0x1_0000;
+            self.put_unit((0xD800 + over / 0x400) as u16);
+            self.put_unit((0xDC00 + over % 0x400) as u16);
+        }
+    }
+
+    fn put_text(&mut self, text: &str) {
+        for c in text.chars() {
+            self.put(c);
+        }
+    }
+
+    fn written(&self) -> usize {
+        self.written
+    }
+
+    ghost cost_is = { λ _. refl };
+
+    ghost room_is = { refl };
+
+    ghost fits_room = { cost_fits16 };
+
+    ghost fits_two = { cost_two16 };
+
+    ghost writes_none = { λ s. (refl, adds_none s.units.now s.written s.within) };
+
+    ghost writes_more = { λ s t u a b h k. (k.0 ∙ h.0, adds_encoded16 s.units.now s.written a b t.units.now t.written u.units.now u.written h.1 k.1) };
+}

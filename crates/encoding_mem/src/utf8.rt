@@ -1,0 +1,290 @@
+ghost use Rattle.std.specs.Prelude.{◌+◌, ◌*◌, ◌≡◌, ℕ, ◌<◌, ◌≤◌, ◌==◌, ◌↔◌, IsTrue, List, [], length, take, min, if◌then◌else◌};
+ghost use Rattle.std.specs.Int.{IsInRange, is_in_range};
+ghost use Rattle.std.specs.Char.{InScalarRange};
+ghost use Rattle.std.specs.Str.{IsUtf8};
+ghost use Rattle.std.specs.Str.Lossy.{utf8_valid_len};
+ghost use Rattle.encoding_mem.specs.FrontPiece.{IsShort};
+ghost use Rattle.encoding_mem.specs.PiecesLaws.{pieces_by-nil, pieces_by-whole, pieces_by-are_pieces};
+ghost use Rattle.encoding_mem.specs.Utf8.{front_utf8, pieces_utf8, scalar_of_two, scalar_of_three, scalar_of_four, second_min, second_max};
+ghost use Rattle.encoding_mem.specs.Utf8Decide.{decide_utf8, decide_lead, decide_two, decide_three, cut_short};
+ghost use Rattle.encoding_mem.specs.Utf8Laws.{cuts_utf8};
+
+use crate::decoder_result::DecoderResult;
+use crate::front::{Front, FrontPiece};
+use crate::piece_decoder::{Buffered, PieceDecoder};
+use crate::raw_decoder::RawDecoder;
+use crate::sink::Sink;
+
+/// The rule of UTF-8.
+#[derive(Clone, Copy)]
+pub struct Utf8Front {}
+
+impl FrontPiece for Utf8Front {
+    ghost pieces = { λ _ x. pieces_utf8 x };
+
+    ghost whole = { λ _. pieces_by-whole front_utf8 cuts_utf8 };
+
+    ghost are_pieces = { λ _. pieces_by-are_pieces front_utf8 cuts_utf8 };
+
+    ghost ends = { λ _. pieces_by-nil front_utf8 };
+
+    ghost bytes_for = { λ _ m. m + 3 };
+
+    ghost units_for = { λ _ m. m + 1 };
+
+    ghost after = { λ s _. s };
+
+    fn front(&self, bytes: &[u8], last: bool) -> Front {
+        decide(bytes, last)
+    }
+
+    fn pass(&mut self, bytes: &[u8]) {
+        let _ = bytes;
+    }
+
+    fn text_at<'b>(&self, bytes: &'b [u8]) -> &'b str {
+        text_front(bytes)
+    }
+}
+
+// How many bytes are tested for text at a time: few, and more where these are text. Each test reads all
+// of them, so that input with many bad pieces stays cheap.
+const FEW: usize = 32;
+
+const MANY: usize = 4096;
+
+// A text at the front, the longest there is in so many bytes.
+fn text_front(bytes: &[u8]) -> &str
+    ensures { result.now ≡ take (length result.now) bytes.now }
+{
+    let few = text_window(bytes, FEW);
+    let text = valid_front(few);
+    if text.len() < few.len() {
+        text
+    } else {
+        valid_front(text_window(bytes, MANY))
+    }
+}
+
+// The first bytes, at most so many, without a sequence that their end may cut.
+fn text_window(bytes: &[u8], most: usize) -> &[u8]
+    ensures front { result.now ≡ take (length result.now) bytes.now }
+    ensures few { length result.now ≤ most }
+    ensures long { min (length bytes.now) most ≤ length result.now + 3 }
+{
+    let window = &bytes[..bytes.len().min(most)];
+    &window[..window.len() - cut_len(window)]
+}
+
+// How many bytes at the end begin a sequence that goes on behind them.
+fn cut_len(bytes: &[u8]) -> usize
+    ensures few { result ≤ 3 }
+    ensures within { result ≤ length bytes.now }
+{
+    let len = bytes.len();
+    if len >= 1 && bytes[len - 1] >= 0xC0 {
+        1
+    } else if len >= 2 && bytes[len - 2] >= 0xE0 {
+        2
+    } else if len >= 3 && bytes[len - 3] >= 0xF0 {
+        3
+    } else {
+        0
+    }
+}
+
+// The longest text at the front.
+fn valid_front(bytes: &[u8]) -> &str
+    ensures front { result.now ≡ take (length result.now) bytes.now }
+    ensures longest { length result.now ≡ utf8_valid_len bytes.now }
+{
+    match simdutf8::compat::from_utf8(bytes) {
+        Ok(text) => text,
+        Err(e) => unsafe { std::str::from_utf8_unchecked(&bytes[..e.valid_up_to()]) },
+    }
+}
+
+fn decide(bytes: &[u8], last: bool) -> Front
+    ensures value { result ≡ decide_utf8 bytes.now last }
+    ensures short { IsShort result }
+{
+    match bytes {
+        [] => Front::More,
+        [b, rest @ ..] => {
+            let b = *b;
+            if b < 0x80 {
+                Front::One(b as char, 1)
+            } else if b >= 0xC2 && b <= 0xF4 {
+                decide_lead(b, rest, last)
+            } else {
+                Front::Bad(1)
+            }
+        }
+    }
+}
+
+// The bytes that are here may be the front of a longer sequence.
+fn cut_short(size: usize, last: bool) -> Front
+    ensures { result ≡ cut_short size last }
+{
+    if last { Front::Bad(size) } else { Front::More }
+}
+
+fn second_min(b: u8) -> u8
+    ensures { result ≡ second_min b }
+{
+    if b == 0xE0 {
+        0xA0
+    } else if b == 0xF0 {
+        0x90
+    } else {
+        0x80
+    }
+}
+
+fn second_max(b: u8) -> u8
+    ensures { result ≡ second_max b }
+{
+    if b == 0xED {
+        0x9F
+    } else if b == 0xF4 {
+        0x8F
+    } else {
+        0xBF
+    }
+}
+
+fn is_continuation(b: u8) -> bool
+    ensures { result ≡ is_in_range 0x80 0xBF b }
+{
+    b >= 0x80 && b <= 0xBF
+}
+
+fn is_second(b: u8, c: u8) -> bool
+    ensures { result ≡ is_in_range (second_min b) (second_max b) c }
+{
+    c >= second_min(b) && c <= second_max(b)
+}
+
+fn decide_lead(b: u8, rest: &[u8], last: bool) -> Front
+    requires { IsInRange 0xC2 0xF4 b }
+    ensures value { result ≡ decide_lead b rest.now last }
+    ensures short { IsShort result }
+{
+    match rest {
+        [] => cut_short(1, last),
+        [c, rest @ ..] => {
+            let c = *c;
+            if !is_second(b, c) {
+                Front::Bad(1)
+            } else if b < 0xE0 {
+                Front::One(char_of((b as u32 - 0xC0) * 64 + (c as u32 - 0x80)), 2)
+            } else {
+                decide_two(b, c, rest, last)
+            }
+        }
+    }
+}
+
+fn decide_two(b: u8, c: u8, rest: &[u8], last: bool) -> Front
+    requires lead { IsInRange 0xE0 0xF4 b }
+    requires second { IsTrue (is_in_range (second_min b) (second_max b) c) }
+    ensures value { result ≡ decide_two b c rest.now last }
+    ensures short { IsShort result }
+{
+    match rest {
+        [] => cut_short(2, last),
+        [d, rest @ ..] => {
+            let d = *d;
+            if !is_continuation(d) {
+                Front::Bad(2)
+            } else if b < 0xF0 {
+                Front::One(
+                    char_of((b as u32 - 0xE0) * 4096 + (c as u32 - 0x80) * 64 + (d as u32 - 0x80)),
+                    3,
+                )
+            } else {
+                decide_three(b, c, d, rest, last)
+            }
+        }
+    }
+}
+
+fn decide_three(b: u8, c: u8, d: u8, rest: &[u8], last: bool) -> Front
+    requires lead { IsInRange 0xF0 0xF4 b }
+    requires second { IsTrue (is_in_range (second_min b) (second_max b) c) }
+    requires third { IsInRange 0x80 0xBF d }
+    ensures value { result ≡ decide_three b c d rest.now last }
+    ensures short { IsShort result }
+{
+    match rest {
+        [] => cut_short(3, last),
+        [e, ..] => {
+            let e = *e;
+            if !is_continuation(e) {
+                Front::Bad(3)
+            } else {
+                Front::One(
+                    char_of(
+                        (b as u32 - 0xF0) * 262144
+                            + (c as u32 - 0x80) * 4096
+                            + (d as u32 - 0x80) * 64
+                            + (e as u32 - 0x80),
+                    ),
+                    4,
+                )
+            }
+        }
+    }
+}
+
+fn char_of(code: u32) -> char
+    requires { InScalarRange code }
+    ensures { result ≡ code }
+{
+    char::from_u32(code).unwrap()
+}
+
+/// Decodes UTF-8.
+#[derive(Drop)]
+pub struct Utf8Decoder {
+    inner: Buffered<Utf8Front>,
+}
+
+impl Utf8Decoder {
+    /// Nothing is pending. The room that is enough for any `m` bytes is `m + 3` bytes, or `m + 1` units.
+    pub fn new() -> Self
+        ensures pending { (⟦<Utf8Decoder as RawDecoder>⟧.state result).pending ≡ 0 }
+        ensures pieces { (⟦<Utf8Decoder as RawDecoder>⟧.state result).pieces ≡ pieces_utf8 }
+        ensures bytes { (m : ℕ) → (⟦<Utf8Decoder as RawDecoder>⟧.state result).bytes_for m ≡ m + 3 }
+        ensures units { (m : ℕ) → (⟦<Utf8Decoder as RawDecoder>⟧.state result).units_for m ≡ m + 1 }
+    {
+        Utf8Decoder {
+            inner: Buffered::new(Utf8Front {}),
+        }
+    }
+
+    /// Whether nothing is pending.
+    pub fn in_neutral_state(&self) -> bool
+        ensures { IsTrue result ↔ ((⟦<Utf8Decoder as RawDecoder>⟧.state self.now).pending ≡ 0) }
+    {
+        self.pending_len() == 0
+    }
+}
+
+impl PieceDecoder for Utf8Decoder {
+    ghost state = { λ d. ⟦<Buffered<Utf8Front> as PieceDecoder>⟧.state d.inner };
+
+    fn decode_into<S: Sink>(
+        &mut self,
+        src: &[u8],
+        sink: &mut S,
+        last: bool,
+    ) -> (DecoderResult, usize) {
+        self.inner.decode_into(src, sink, last)
+    }
+
+    fn held_len(&self) -> usize {
+        self.inner.held_len()
+    }
+}

@@ -1,0 +1,110 @@
+ghost use Rattle.std.specs.Prelude.{false, ◌≡◌, ◌-◌, ◌<◌, ◌≤◌, ◌∷◌, [], length, refl, encode_utf8_all};
+ghost use Rattle.std.specs.Char.{len_utf8};
+ghost use Rattle.std.proofs.Common.{◌∙◌};
+ghost use Rattle.encoding_mem.specs.Writing.{Adds};
+ghost use Rattle.encoding_mem.specs.WritingLaws.{adds_none, adds_encoded, cost_fits, cost_two};
+
+use crate::sink::Sink;
+
+/// A destination in UTF-8, which is filled from its front.
+#[derive(Drop)]
+pub struct Utf8Sink<'a> {
+    bytes: &'a mut [u8],
+    written: usize,
+    ghost within: { written ≤ length bytes.now },
+}
+
+impl<'a> Utf8Sink<'a> {
+    /// Nothing is written yet.
+    pub fn new(bytes: &'a mut [u8]) -> Utf8Sink<'a>
+        ensures same_reference { result.bytes.ghost_name ≡ bytes.entry.ghost_name }
+        ensures written { result.written ≡ 0 }
+        ensures bytes { result.bytes.now ≡ bytes.old }
+    {
+        Utf8Sink { bytes, written: 0 }
+    }
+
+    fn put_byte(&mut self, b: u8)
+        requires { self.old.written < length self.old.bytes.now }
+        ensures same_reference { self.new.bytes.ghost_name ≡ self.old.bytes.ghost_name }
+        ensures adds { Adds self.old.bytes.now self.old.written (b ∷ []) self.new.bytes.now self.new.written }
+    {
+        self.bytes[self.written] = b;
+        self.written += 1;
+    }
+
+    fn put_bytes(&mut self, bytes: &[u8])
+        requires { length bytes.now ≤ length self.old.bytes.now - self.old.written }
+        ensures same_reference { self.new.bytes.ghost_name ≡ self.old.bytes.ghost_name }
+        ensures adds { Adds self.old.bytes.now self.old.written bytes.now self.new.bytes.now self.new.written }
+    {
+        let end = self.written + bytes.len();
+        self.bytes[self.written..end].copy_from_slice(bytes);
+        self.written = end;
+    }
+}
+
+impl<'a> Sink for Utf8Sink<'a> {
+    ghost free = { λ s. length s.bytes.now - s.written };
+
+    ghost count = { λ s. s.written };
+
+    ghost cost = { len_utf8 };
+
+    ghost room = { 4 };
+
+    ghost is_units = { false };
+
+    ghost writes = { λ s cs t. (t.bytes.ghost_name ≡ s.bytes.ghost_name) × Adds s.bytes.now s.written (encode_utf8_all cs) t.bytes.now t.written };
+
+    fn free_len(&self) -> usize {
+        self.bytes.len() - self.written
+    }
+
+    fn has_room(&self) -> bool {
+        self.free_len() >= 4
+    }
+
+    fn fits(&self, c: char) -> bool {
+        self.free_len() >= c.len_utf8()
+    }
+
+    fn put(&mut self, c: char) {
+        let code = c as u32;
+        if code < 0x80 {
+            self.put_byte(code as u8);
+        } else if code < 0x800 {
+            self.put_byte((0xC0 + code / 64) as u8);
+            self.put_byte((0x80 + code % 64) as u8);
+        } else if code < 0x1_0000 {
+            self.put_byte((0xE0 + code / 4096) as u8);
+            self.put_byte((0x80 + code / 64 % 64) as u8);
+            self.put_byte((0x80 + code % 64) as u8);
+        } else {
+            self.put_byte((0xF0 + code / 262144) as u8);
+            self.put_byte((0x80 + code / 4096 % 64) as u8);
+            self.put_byte((0x80 + code / 64 % 64) as u8);
+            self.put_byte((0x80 + code % 64) as u8);
+        }
+    }
+
+    fn put_text(&mut self, text: &str) {
+        self.put_bytes(text.as_bytes());
+    }
+
+    fn written(&self) -> usize {
+        self.written
+    }
+
+    ghost cost_is = { λ _. refl };
+
+    ghost room_is = { refl };
+
+    ghost fits_room = { cost_fits };
+
+    ghost fits_two = { cost_two };
+
+    ghost writes_none = { λ s. (refl, adds_none s.bytes.now s.written s.within) };
+
+    ghost writes_more = { λ s t u a b h k. (k.0 ∙ h.0, adds_encoded s.bytes.now s.written a b t.bytes.now t.written u.bytes.now u.written h.1 k.1) };
+}

@@ -1,0 +1,40 @@
+-- A line of the log: which ones are valid, and the bytes of each.
+use Rattle.std.specs.Prelude.{◌≡◌, ℕ, ◌≤◌, List, ◌++◌, codes, refl}
+use Rattle.std.specs.Fmt.{decimal, digits}
+use Rattle.recode_log.specs.declared.line.LogLine.{LogLine}
+use Rattle.recode_log.specs.declared.line.LogLine.TheVariants.{Bad, Lost}
+use Rattle.recode_log.specs.declared.line.TheConstants.{GREATEST_PLACE}
+
+-- the place is one that the log can name, and bad bytes are one to four
+abbrev pub IsValid : LogLine → Type 0
+IsValid (Bad offset length) = (offset ≤ GREATEST_PLACE) × (1 ≤ length) × (length ≤ 4)
+IsValid (Lost index scalar) = index ≤ GREATEST_PLACE
+
+-- a word with the space behind it, two numbers with a space between them, and the end of the line
+abbrev pub row_bytes : List ℕ → ℕ → ℕ → List ℕ
+row_bytes word place value = word ++ decimal place ++ codes " " ++ decimal value ++ codes "\n"
+
+-- the line's text
+abbrev pub line_bytes : LogLine → List ℕ
+line_bytes (Bad offset length) = row_bytes (codes "bad ") offset length
+line_bytes (Lost index scalar) = row_bytes (codes "lost ") index scalar
+
+pub line_bytes-bad_first : line_bytes (Bad 0 3) ≡ codes "bad 0 3\n"
+unfolding digits
+line_bytes-bad_first = refl
+
+pub line_bytes-bad : line_bytes (Bad 6 1) ≡ codes "bad 6 1\n"
+unfolding digits
+line_bytes-bad = refl
+
+pub line_bytes-bad_longest : line_bytes (Bad 281474976710656 4) ≡ codes "bad 281474976710656 4\n"
+unfolding digits
+line_bytes-bad_longest = refl
+
+pub line_bytes-lost : line_bytes (Lost 1 128169) ≡ codes "lost 1 128169\n"
+unfolding digits
+line_bytes-lost = refl
+
+pub line_bytes-lost_longest : line_bytes (Lost 281474976710656 1114111) ≡ codes "lost 281474976710656 1114111\n"
+unfolding digits
+line_bytes-lost_longest = refl

@@ -1,0 +1,123 @@
+ghost use Rattle.std.specs.Prelude.{◌≡◌, ℕ, ◌+◌, ◌-◌, ◌^◌, ◌<◌, length, OnOk, OnErr, IfOk};
+ghost use Rattle.std.specs.Bool.{OnTrue, OnFalse};
+ghost use Rattle.std.specs.Io.{ReadsAtMost, WritesAtMost};
+ghost use Rattle.std.specs.Io.KnownBytes.{ReadConsumes, WriteAppends, Keeps};
+
+use std::io;
+use std::io::{Read, Write};
+
+/// A reader or a writer, and how many of its calls have failed.
+///
+/// A call fails if it answers an `Err`, as an interrupted one does too, or if it is a write of
+/// some bytes that takes none. A read that gives no bytes is no failure.
+#[derive(Debug, Drop)]
+pub struct Counted<T> {
+    inner: T,
+    failures: u64,
+}
+
+impl<T> Counted<T> {
+    ghost use Rattle.recode_log.specs.Counted.{inner_of, failures_of};
+
+    /// Wraps a reader or a writer, with no call failed.
+    pub fn new(inner: T) -> Self
+        ensures inner { inner_of result ≡ inner }
+        ensures failures { failures_of result ≡ 0 }
+    {
+        Counted { inner, failures: 0 }
+    }
+
+    /// The wrapped reader or writer.
+    pub fn get_ref(&self) -> &T
+        ensures { result.now ≡ inner_of self.now }
+    {
+        &self.inner
+    }
+
+    /// Gives the wrapped reader or writer back, and forgets the count.
+    pub fn into_inner(self) -> T
+        ensures { result ≡ inner_of self }
+    {
+        let Counted { inner, failures: _ } = self;
+        inner
+    }
+
+    /// How many calls have failed.
+    pub fn failures(&self) -> u64
+        ensures { result ≡ failures_of self.now }
+    {
+        self.failures
+    }
+
+    // Counts a call that failed.
+    fn count_if(&mut self, failed: bool)
+        requires { failures_of self.old < 2 ^ 64 - 1 }
+        ensures inner { inner_of self.new ≡ inner_of self.old }
+        ensures failed { OnTrue failed (failures_of self.new ≡ failures_of self.old + 1) }
+        ensures succeeded { OnFalse failed (failures_of self.new ≡ failures_of self.old) }
+    {
+        if failed {
+            self.failures += 1;
+        }
+    }
+}
+
+impl<T: Read> Counted<T> {
+    ghost use Rattle.recode_log.specs.Counted.{inner_of, failures_of};
+
+    /// Calls `Read::read` of the wrapped reader once, and answers what it answered: how many bytes
+    /// stand at the front of `buf`, with 0 for the end, or the reader's error, which is counted.
+    pub fn read(&mut self, buf: &mut [u8]) -> io::Result<usize>
+        requires { failures_of self.old < 2 ^ 64 - 1 }
+        ensures bound { ReadsAtMost result buf.new }
+        ensures bytes { ReadConsumes (T.remaining (inner_of self.old))
+            (T.remaining (inner_of self.new)) result buf.new }
+        ensures ok { OnOk result (failures_of self.new ≡ failures_of self.old) }
+        ensures err { OnErr result (failures_of self.new ≡ failures_of self.old + 1) }
+    {
+        let given = self.inner.read(buf);
+        self.count_if(given.is_err());
+        given
+    }
+}
+
+impl<T: Write> Counted<T> {
+    ghost use Rattle.recode_log.specs.Counted.{inner_of, failures_of};
+
+    /// Calls `Write::write` of the wrapped writer once, and answers what it answered: how many bytes
+    /// it took from the front of `buf`, or its error. An error is counted, and so is a 0 unless
+    /// `buf` is empty.
+    pub fn write(&mut self, buf: &[u8]) -> io::Result<usize>
+        requires { failures_of self.old < 2 ^ 64 - 1 }
+        ensures bound { WritesAtMost result buf.now }
+        ensures bytes { WriteAppends (T.contents (inner_of self.old))
+            (T.contents (inner_of self.new)) result buf.now }
+        ensures taken { IfOk result (λ n. 0 < n →
+            failures_of self.new ≡ failures_of self.old) }
+        ensures nothing { IfOk result (λ n. n ≡ 0 → length buf.now ≡ 0 →
+            failures_of self.new ≡ failures_of self.old) }
+        ensures none_taken { IfOk result (λ n. n ≡ 0 → 0 < length buf.now →
+            failures_of self.new ≡ failures_of self.old + 1) }
+        ensures err { OnErr result (failures_of self.new ≡ failures_of self.old + 1) }
+    {
+        let taken = self.inner.write(buf);
+        self.count_if(match &taken {
+            Ok(count) => *count == 0 && !buf.is_empty(),
+            Err(_) => true,
+        });
+        taken
+    }
+
+    /// Calls `Write::flush` of the wrapped writer once, and answers what it answered. An error is
+    /// counted.
+    pub fn flush(&mut self) -> io::Result<()>
+        requires { failures_of self.old < 2 ^ 64 - 1 }
+        ensures bytes { Keeps (T.contents (inner_of self.old)) (T.contents (inner_of self.new)) }
+        ensures ok { OnOk result (failures_of self.new ≡ failures_of self.old) }
+        ensures err { OnErr result (failures_of self.new ≡ failures_of self.old + 1) }
+    {
+        let flushed = self.inner.flush();
+        self.count_if(flushed.is_err());
+        flushed
+    }
+}

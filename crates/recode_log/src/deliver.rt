@@ -1,0 +1,32 @@
+ghost use Rattle.std.specs.Prelude.{◌≡◌, ℕ, ◌+◌, ◌-◌, ◌^◌, ◌<◌, [], take, length, IsOk, OnOk, OnErr, IfErr};
+ghost use Rattle.std.specs.Io.KnownBytes.{Appends};
+ghost use Rattle.recode_log.specs.Counted.{inner_of, failures_of};
+
+use crate::counted::Counted;
+use std::io::Write;
+
+/// Writes all of the bytes, in as many calls as the writer needs, and none for no bytes.
+///
+/// Answers `fault` at the first call that fails, an interrupted one included. The writer then took
+/// exactly a front of the bytes, and not all of them.
+pub fn deliver<W: Write, F: Drop>(writer: &mut Counted<W>, bytes: &[u8], fault: F) -> Result<(), F>
+    requires { failures_of writer.old < 2 ^ 64 - 1 }
+    ensures ok { OnOk result (
+        Appends (W.contents (inner_of writer.old)) (W.contents (inner_of writer.new)) bytes.now
+        × (failures_of writer.new ≡ failures_of writer.old)) }
+    ensures err { OnErr result ((n : ℕ) × (n < length bytes.now)
+        × Appends (W.contents (inner_of writer.old)) (W.contents (inner_of writer.new))
+        (take n bytes.now)
+        × (failures_of writer.new ≡ failures_of writer.old + 1)) }
+    ensures fault { IfErr result (λ f. f ≡ fault) }
+    ensures empty { bytes.now ≡ [] → IsOk result × (writer.new ≡ writer.old) }
+{
+    let mut at = 0;
+    while at < bytes.len() {
+        match writer.write(&bytes[at..]) {
+            Ok(taken) if taken > 0 => at += taken,
+            _ => return Err(fault),
+        }
+    }
+    Ok(())
+}

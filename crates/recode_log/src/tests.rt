@@ -1,0 +1,239 @@
+ghost use Rattle.std.specs.Prelude.{◌≤◌, IfOk};
+
+use crate::counted::Counted;
+use crate::deliver::deliver;
+use crate::line::{GREATEST_PLACE, LogLine};
+use std::io;
+use std::io::{ErrorKind, Read, Write};
+use std::test::Fail;
+
+#[derive(Drop)]
+enum Answer {
+    Moves(usize),
+    Fails(ErrorKind),
+}
+
+// Answers each call by the next of its answers, and moves no bytes once they are used up.
+#[derive(Drop)]
+struct Scripted<'a> {
+    answers: &'a [Answer],
+    calls: usize,
+}
+
+impl<'a> Scripted<'a> {
+    fn answer(&mut self, room: usize) -> io::Result<usize>
+        ensures { IfOk result (λ n. n ≤ room) }
+    {
+        let answer = self.answers.get(self.calls);
+        self.calls = self.calls.saturating_add(1);
+        match answer {
+            Some(Answer::Moves(count)) => Ok((*count).min(room)),
+            Some(Answer::Fails(kind)) => Err(io::Error::from(*kind)),
+            None => Ok(0),
+        }
+    }
+}
+
+impl<'a> Read for Scripted<'a> {
+    fn read(&mut self, buf: &mut [u8]) -> io::Result<usize> {
+        let count = self.answer(buf.len())?;
+        buf[..count].fill(b'x');
+        Ok(count)
+    }
+}
+
+impl<'a> Write for Scripted<'a> {
+    fn write(&mut self, buf: &[u8]) -> io::Result<usize> {
+        self.answer(buf.len())
+    }
+
+    fn flush(&mut self) -> io::Result<()> {
+        self.answer(0)?;
+        Ok(())
+    }
+}
+
+fn kind_of<T: Drop>(answer: io::Result<T>) -> Option<ErrorKind> {
+    Some(answer.err()?.kind())
+}
+
+#[test]
+fn a_read_hands_on_its_answer_and_counts_an_error(rt: HostRuntime) -> Result<(), Fail> {
+    let answers = [
+        Answer::Moves(2),
+        Answer::Fails(ErrorKind::Interrupted),
+        Answer::Moves(usize::MAX),
+        Answer::Moves(0),
+        Answer::Fails(ErrorKind::BrokenPipe),
+    ];
+    let mut reader = Counted::new(Scripted {
+        answers: &answers,
+        calls: 0,
+    });
+    let mut room = *b"....";
+    assert_eq!(rt; reader.read(&mut room)?, 2);
+    assert_eq!(rt; room, *b"xx..");
+    assert_eq!(rt; reader.failures(), 0);
+    assert_eq!(rt;
+        kind_of(reader.read(&mut room)),
+        Some(ErrorKind::Interrupted)
+    );
+    assert_eq!(rt; reader.failures(), 1);
+    assert_eq!(rt; reader.read(&mut room)?, 4);
+    assert_eq!(rt; reader.read(&mut room)?, 0);
+    assert_eq!(rt; reader.failures(), 1);
+    assert_eq!(rt;
+        kind_of(reader.read(&mut room)),
+        Some(ErrorKind::BrokenPipe)
+    );
+    assert_eq!(rt; reader.failures(), 2);
+    assert_eq!(rt; reader.into_inner().calls, 5);
+    Ok(())
+}
+
+#[test]
+fn a_write_of_some_bytes_that_takes_none_is_counted(rt: HostRuntime) -> Result<(), Fail> {
+    let answers = [
+        Answer::Moves(2),
+        Answer::Moves(usize::MAX),
+        Answer::Moves(0),
+        Answer::Moves(0),
+        Answer::Fails(ErrorKind::Interrupted),
+    ];
+    let mut writer = Counted::new(Scripted {
+        answers: &answers,
+        calls: 0,
+    });
+    assert_eq!(rt; writer.write(b"abc")?, 2);
+    assert_eq!(rt; writer.write(b"abc")?, 3);
+    assert_eq!(rt; writer.failures(), 0);
+    assert_eq!(rt; writer.write(b"")?, 0);
+    assert_eq!(rt; writer.failures(), 0);
+    assert_eq!(rt; writer.write(b"abc")?, 0);
+    assert_eq!(rt; writer.failures(), 1);
+    assert_eq!(rt; kind_of(writer.write(b"abc")), Some(ErrorKind::Interrupted));
+    assert_eq!(rt; writer.failures(), 2);
+    assert_eq!(rt; writer.get_ref().calls, 5);
+    Ok(())
+}
+
+#[test]
+fn a_failing_flush_is_counted(rt: HostRuntime) -> Result<(), Fail> {
+    let answers = [Answer::Moves(0), Answer::Fails(ErrorKind::StorageFull)];
+    let mut writer = Counted::new(Scripted {
+        answers: &answers,
+        calls: 0,
+    });
+    writer.flush()?;
+    assert_eq!(rt; writer.failures(), 0);
+    assert_eq!(rt; kind_of(writer.flush()), Some(ErrorKind::StorageFull));
+    assert_eq!(rt; writer.failures(), 1);
+    Ok(())
+}
+
+// Takes one byte a call, and at the call `cut`, counted from 1, fails or takes none.
+#[derive(Drop)]
+struct OneByOne {
+    taken: Vec<u8>,
+    calls: usize,
+    cut: usize,
+    fails: bool,
+}
+
+impl Write for OneByOne {
+    fn write(&mut self, buf: &[u8]) -> io::Result<usize> {
+        self.calls = self.calls.saturating_add(1);
+        match buf.first() {
+            Some(byte) if self.calls != self.cut => {
+                self.taken.push(*byte)?;
+                Ok(1)
+            }
+            Some(_) if self.fails => Err(io::Error::from(ErrorKind::Interrupted)),
+            _ => Ok(0),
+        }
+    }
+
+    fn flush(&mut self) -> io::Result<()> {
+        Ok(())
+    }
+}
+
+#[test]
+fn a_delivery_stops_at_the_first_failed_call(rt: HostRuntime) {
+    for fails in [true, false] {
+        for (cut, taken, calls) in [(1, "", 1), (2, "a", 2), (3, "ab", 3), (4, "abc", 3)] {
+            let mut writer = Counted::new(OneByOne {
+                taken: Vec::new(rt.alloc()),
+                calls: 0,
+                cut,
+                fails,
+            });
+            let want = if cut == 4 { Ok(()) } else { Err('w') };
+            assert_eq!(rt; deliver(&mut writer, b"abc", 'w'), want, "cut at {cut}");
+            assert_eq!(rt; writer.failures(), u64::from(cut < 4), "cut at {cut}");
+            let inner = writer.into_inner();
+            assert_eq!(rt; inner.taken.as_slice(), taken.as_bytes(), "cut at {cut}");
+            assert_eq!(rt; inner.calls, calls, "cut at {cut}");
+        }
+    }
+}
+
+#[test]
+fn a_delivery_makes_no_call_but_those_it_needs(rt: HostRuntime) {
+    let answers = [Answer::Moves(usize::MAX)];
+    let mut writer = Counted::new(Scripted {
+        answers: &answers,
+        calls: 0,
+    });
+    assert_eq!(rt; deliver(&mut writer, b"", 'w'), Ok(()));
+    assert_eq!(rt; writer.get_ref().calls, 0);
+    assert_eq!(rt; writer.failures(), 0);
+    assert_eq!(rt; deliver(&mut writer, b"abc", 'w'), Ok(()));
+    assert_eq!(rt; writer.failures(), 0);
+    assert_eq!(rt; writer.into_inner().calls, 1);
+}
+
+fn bad(offset: u64, length: u8) -> LogLine {
+    LogLine::Bad { offset, length }
+}
+
+fn lost(index: u64, scalar: char) -> LogLine {
+    LogLine::Lost { index, scalar }
+}
+
+#[test]
+fn lines_are_written_byte_for_byte(rt: HostRuntime) {
+    let greatest = 281_474_976_710_656;
+    let rows = [
+        (bad(6, 1), "bad 6 1\n"),
+        (bad(0, 3), "bad 0 3\n"),
+        (bad(greatest, 4), "bad 281474976710656 4\n"),
+        (lost(1, '\u{1f4a9}'), "lost 1 128169\n"),
+        (lost(0, '\0'), "lost 0 0\n"),
+        (lost(greatest, char::MAX), "lost 281474976710656 1114111\n"),
+    ];
+    for (line, want) in rows {
+        assert!(rt; line.is_valid(), "{line:?}");
+        let mut room = [b'#'; 32];
+        let len = line.write_into(&mut room);
+        let (written, behind) = room.split_at(len);
+        assert_eq!(rt; written, want.as_bytes(), "{line:?}");
+        assert!(rt; behind.iter().all(|byte| *byte == b'#'), "{line:?}");
+    }
+}
+
+#[test]
+fn a_line_is_valid_up_to_its_edges(rt: HostRuntime) {
+    let rows = [
+        (bad(0, 0), false),
+        (bad(0, 1), true),
+        (bad(GREATEST_PLACE, 4), true),
+        (bad(GREATEST_PLACE, 5), false),
+        (bad(GREATEST_PLACE + 1, 4), false),
+        (lost(GREATEST_PLACE, 'a'), true),
+        (lost(GREATEST_PLACE + 1, 'a'), false),
+    ];
+    for (line, want) in rows {
+        assert_eq!(rt; line.is_valid(), want, "{line:?}");
+    }
+}
