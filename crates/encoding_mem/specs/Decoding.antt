@@ -1,5 +1,5 @@
 -- What a call of a decoder does.
-use Rattle.std.specs.Prelude.{◌≡◌, ℕ, ◌+◌, ◌-◌, ◌≤◌, ◌<◌, ◌≢◌, ◌⊎◌, Bool, true, false, IsTrue, Some, List, [], ◌∷◌, ◌++◌, length, drop}
+use Rattle.std.specs.Prelude.{◌≡◌, ℕ, ◌+◌, ◌-◌, ◌≤◌, ◌<◌, ◌≢◌, ◌⊎◌, Bool, false, IsTrue, Some, List, [], ◌∷◌, ◌++◌, length, drop}
 use Rattle.encoding_mem.specs.Piece.{Piece, bad, first, size_of, sizes, scalars, AreGood, ArePieces}
 use Rattle.encoding_mem.specs.Event.{Event, events}
 use Rattle.encoding_mem.specs.declared.decoder_result.DecoderResult.{DecoderResult}

@@ -22,11 +22,16 @@ abbrev pub IsNear : (List ℕ → List Piece) → List ℕ → Type 0
 IsNear pieces x = (r : List ℕ) (p : Piece) → first (pieces (x ++ r)) ≡ Some p → length x ≤ size_of p + 3
 
 -- A step: wait for more, no room, a piece that is not bad, a bad piece. mark is what U+FFFD needs.
-abbrev pub IsStep : {C W : Type 0} (pieces : C → List ℕ → List Piece) (writes : W → List ℕ → W → Type 0) (free : W → ℕ) (room mark : ℕ) (before after : C) (bytes : List ℕ) (last : Bool) (old new : W) → Step → Type 0
-IsStep pieces writes free room mark before after bytes last old new Wait = (last ≡ false) × (length bytes < 6) × IsUndecided (pieces before) bytes × IsSoon (pieces before) bytes × (after ≡ before) × (new ≡ old)
-IsStep pieces writes free room mark before after bytes last old new Full = (free new < room) × ((p : Piece) × (rest : List ℕ → List Piece) × IsFirst (pieces before) rest bytes last p) × (after ≡ before) × (new ≡ old)
-IsStep pieces writes free room mark before after bytes last old new (Took n) = (p : Piece) × IsGood p × (size_of p ≡ n) × IsFirst (pieces before) (pieces after) bytes last p × writes old (scalars_of p) new
-IsStep pieces writes free room mark before after bytes last old new (Broke n) = IsFirst (pieces before) (pieces after) bytes last (bad n) × (n ≤ 4) × (new ≡ old) × (mark ≤ free new)
+abbrev pub IsStep : {C W : Type 0} (pieces : C → List ℕ → List Piece) (writes : W → List ℕ → W → Type 0) (free : W → ℕ)
+    (room mark : ℕ) (before after : C) (bytes : List ℕ) (last : Bool) (old new : W) → Step → Type 0
+IsStep pieces writes free room mark before after bytes last old new Wait =
+    (last ≡ false) × (length bytes < 6) × IsUndecided (pieces before) bytes × IsSoon (pieces before) bytes × (after ≡ before) × (new ≡ old)
+IsStep pieces writes free room mark before after bytes last old new Full =
+    (free new < room) × ((p : Piece) × (rest : List ℕ → List Piece) × IsFirst (pieces before) rest bytes last p) × (after ≡ before) × (new ≡ old)
+IsStep pieces writes free room mark before after bytes last old new (Took n) =
+    (p : Piece) × IsGood p × (size_of p ≡ n) × IsFirst (pieces before) (pieces after) bytes last p × writes old (scalars_of p) new
+IsStep pieces writes free room mark before after bytes last old new (Broke n) =
+    IsFirst (pieces before) (pieces after) bytes last (bad n) × (n ≤ 4) × (new ≡ old) × (mark ≤ free new)
 
 -- where there was room for m bytes, a step isn't refused for want of it
 abbrev pub IsRoomyStep : (before after : ℕ → ℕ) (window old new : ℕ) → Step → Type 0
@@ -37,7 +42,8 @@ IsRoomyStep before after window old new (Broke n) = Unit {0}
 
 -- why a call ended: pieces are those from the state at the end, mark is what U+FFFD needs
 abbrev pub Ends : (pieces : List ℕ → List Piece) (pending unread : List ℕ) (last : Bool) (free room mark : ℕ) → DecoderResult → Type 0
-Ends pieces pending unread last free room mark InputEmpty = (unread ≡ []) × ((pending ≡ []) ⊎ ((last ≡ false) × (length pending < 6) × IsUndecided pieces pending × IsSoon pieces pending))
+Ends pieces pending unread last free room mark InputEmpty =
+    (unread ≡ []) × ((pending ≡ []) ⊎ ((last ≡ false) × (length pending < 6) × IsUndecided pieces pending × IsSoon pieces pending))
 Ends pieces pending unread last free room mark OutputFull = (free < room) × IsKnown (λ x. pieces (pending ++ x)) unread last
 Ends pieces pending unread last free room mark (Malformed a b) = mark ≤ free
 
@@ -63,7 +69,8 @@ PartSuffices before after size unread old new None = (m : ℕ) → before (size 
 PartSuffices before after size unread old new (Some outcome) = Suffices before after size old new outcome
 
 -- the state of a rule with what is pending
-abbrev pub buffered : (pieces : List ℕ → List Piece) (whole : (x : List ℕ) → sizes (pieces x) ≡ length x) (are_pieces : (x : List ℕ) → ArePieces (pieces x)) (bytes_for units_for : ℕ → ℕ) (pending : List ℕ) → DecoderState
+abbrev pub buffered : (pieces : List ℕ → List Piece) (whole : (x : List ℕ) → sizes (pieces x) ≡ length x)
+    (are_pieces : (x : List ℕ) → ArePieces (pieces x)) (bytes_for units_for : ℕ → ℕ) (pending : List ℕ) → DecoderState
 buffered pieces whole are_pieces bytes_for units_for pending = record {
   pieces = λ x. pieces (pending ++ x);
   pending = length pending;

@@ -1,7 +1,7 @@
 -- What a call of an encoder does.
-use Rattle.std.specs.Prelude.{◌≡◌, ℕ, ◌+◌, ◌-◌, ◌<◌, ◌≤◌, Bool, true, false, List, [], ◌∷◌, ◌++◌, length, map, ◌⊎◌, ◌≢◌}
+use Rattle.std.specs.Prelude.{◌≡◌, ℕ, ◌+◌, ◌-◌, ◌<◌, Bool, true, false, List, [], ◌∷◌, ◌++◌, length, map, ◌⊎◌, ◌≢◌}
 use Rattle.std.specs.Bool.{MatchBool}
-use Rattle.encoding_mem.specs.Coding.{Coding, open_from, whole_from, last_set, reference, bytes, AllMapped}
+use Rattle.encoding_mem.specs.Coding.{Coding, open_from, whole_from, last_set, reference, AllMapped}
 use Rattle.encoding_mem.specs.Items.{Item, Byte, LostAt, whole_items}
 use Rattle.encoding_mem.specs.declared.form.Form.TheVariants.{Unmapped}
 use Rattle.encoding_mem.specs.declared.form.Set.{Set}

@@ -1,5 +1,5 @@
 -- What a conversion produces, in its order: bytes of the output, and between them notes for the log.
-use Rattle.std.specs.Prelude.{◌≡◌, ℕ, ◌+◌, Bool, true, false, List, [], ◌∷◌, ◌++◌, length, map, if◌then◌else◌}
+use Rattle.std.specs.Prelude.{ℕ, ◌+◌, Bool, List, [], ◌∷◌, ◌++◌, length, map, if◌then◌else◌}
 use Rattle.encoding_mem.specs.Piece.{Piece, good, bad}
 use Rattle.encoding_mem.specs.Coding.{Coding, reference, last_set}
 use Rattle.encoding_mem.specs.declared.form.Form.{Form}

@@ -20,16 +20,20 @@ pub fn decode_with_events<D: RawDecoder>(
     last: bool,
 ) -> (DecoderResult, usize, usize)
     ensures events { EventLaw (D.state decoder.old) (D.state decoder.new) src.now last result.1 }
-    ensures law { StateLaw (D.state decoder.old) (D.state decoder.new) src.now last result.1 (λ text. Adds dst.old 0 (encode_utf8_all text) dst.new result.2) result.0 }
-    ensures ends { EndsWith (D.state decoder.new) (drop result.1 src.now) last (length (drop result.2 dst.new)) 4 3 result.0 }
-    ensures enough { (D.state decoder.old).bytes_for (length src.now) ≤ length dst.old → result.0 ≢ DecoderResult.OutputFull }
+    ensures law { StateLaw (D.state decoder.old) (D.state decoder.new) src.now last result.1
+        (λ text. Adds dst.old 0 (encode_utf8_all text) dst.new result.2) result.0 }
+    ensures ends { EndsWith (D.state decoder.new) (drop result.1 src.now) last
+        (length (drop result.2 dst.new)) 4 3 result.0 }
+    ensures enough { (D.state decoder.old).bytes_for (length src.now) ≤ length dst.old
+        → result.0 ≢ DecoderResult.OutputFull }
 {
     decoder.decode_to_utf8_raw(src, dst, last)
 }
 
 /// What waits for more decides nothing.
 pub fn undecided_decides_nothing()
-    ensures { (pieces : List ℕ → List Piece) (x : List ℕ) (ps : List Piece) → IsUndecided pieces x → IsDecided pieces x ps → ps ≡ [] }
+    ensures { (pieces : List ℕ → List Piece) (x : List ℕ) (ps : List Piece)
+        → IsUndecided pieces x → IsDecided pieces x ps → ps ≡ [] }
 {}
 
 /// Text that is written in UTF-8 is read back, each scalar as a piece.

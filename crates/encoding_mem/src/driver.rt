@@ -19,8 +19,12 @@ enum Step {
 // Takes the first piece of these bytes, if it is decided and has room. That it is decided is asked first.
 fn take_piece<F: FrontPiece, S: Sink>(codec: &mut F, bytes: &[u8], last: bool, sink: &mut S) -> Step
     requires { 0 < length bytes.now }
-    ensures step { IsStep F.pieces S.writes S.free S.room (S.cost 0xFFFD) codec.old codec.new bytes.now last sink.old sink.new result }
-    ensures room { IsRoomyStep (room_for S.is_units (F.units_for codec.old) (F.bytes_for codec.old)) (room_for S.is_units (F.units_for codec.new) (F.bytes_for codec.new)) (length bytes.now) (S.free sink.old) (S.free sink.new) result }
+    ensures step { IsStep F.pieces S.writes S.free S.room (S.cost 0xFFFD)
+        codec.old codec.new bytes.now last sink.old sink.new result }
+    ensures room { IsRoomyStep
+        (room_for S.is_units (F.units_for codec.old) (F.bytes_for codec.old))
+        (room_for S.is_units (F.units_for codec.new) (F.bytes_for codec.new))
+        (length bytes.now) (S.free sink.old) (S.free sink.new) result }
 {
     match codec.front(bytes, last) {
         Front::More => Step::Wait,
@@ -66,9 +70,16 @@ fn finish_pending<F: FrontPiece, S: Sink>(
 ) -> (Option<DecoderResult>, usize)
     requires short { length pending.old < 7 }
     requires near { IsNear (F.pieces codec.old) pending.old }
-    ensures law { Takes (PartReports result.0 (length pending.new)) (λ x. F.pieces codec.old (pending.old ++ x)) (λ x. F.pieces codec.new (pending.new ++ x)) src.now last (length pending.old) (length pending.new) result.1 (λ text. S.writes sink.old text sink.new) }
-    ensures ends { PartEnds (F.pieces codec.new) pending.new (drop result.1 src.now) last (S.free sink.new) S.room (S.cost 0xFFFD) result.0 }
-    ensures enough { PartSuffices (λ k. room_for S.is_units (F.units_for codec.old) (F.bytes_for codec.old) (length pending.old + k)) (λ k. room_for S.is_units (F.units_for codec.new) (F.bytes_for codec.new) (length pending.new + k)) (length src.now) (length src.now - result.1) (S.free sink.old) (S.free sink.new) result.0 }
+    ensures law { Takes (PartReports result.0 (length pending.new))
+        (λ x. F.pieces codec.old (pending.old ++ x)) (λ x. F.pieces codec.new (pending.new ++ x))
+        src.now last (length pending.old) (length pending.new) result.1
+        (λ text. S.writes sink.old text sink.new) }
+    ensures ends { PartEnds (F.pieces codec.new) pending.new (drop result.1 src.now) last
+        (S.free sink.new) S.room (S.cost 0xFFFD) result.0 }
+    ensures enough { PartSuffices
+        (λ k. room_for S.is_units (F.units_for codec.old) (F.bytes_for codec.old) (length pending.old + k))
+        (λ k. room_for S.is_units (F.units_for codec.new) (F.bytes_for codec.new) (length pending.new + k))
+        (length src.now) (length src.now - result.1) (S.free sink.old) (S.free sink.new) result.0 }
     ensures short { length pending.new < 7 }
     ensures near { IsNear (F.pieces codec.new) pending.new }
 {
@@ -104,9 +115,15 @@ fn decode_source<F: FrontPiece, S: Sink>(
     last: bool,
 ) -> (DecoderResult, usize)
     requires { pending.old ≡ [] }
-    ensures law { Takes (Reports result.0 (length pending.new)) (F.pieces codec.old) (λ x. F.pieces codec.new (pending.new ++ x)) src.now last 0 (length pending.new) result.1 (λ text. S.writes sink.old text sink.new) }
-    ensures ends { Ends (F.pieces codec.new) pending.new (drop result.1 src.now) last (S.free sink.new) S.room (S.cost 0xFFFD) result.0 }
-    ensures enough { Suffices (room_for S.is_units (F.units_for codec.old) (F.bytes_for codec.old)) (λ k. room_for S.is_units (F.units_for codec.new) (F.bytes_for codec.new) (length pending.new + k)) (length src.now) (S.free sink.old) (S.free sink.new) result.0 }
+    ensures law { Takes (Reports result.0 (length pending.new))
+        (F.pieces codec.old) (λ x. F.pieces codec.new (pending.new ++ x))
+        src.now last 0 (length pending.new) result.1 (λ text. S.writes sink.old text sink.new) }
+    ensures ends { Ends (F.pieces codec.new) pending.new (drop result.1 src.now) last
+        (S.free sink.new) S.room (S.cost 0xFFFD) result.0 }
+    ensures enough { Suffices
+        (room_for S.is_units (F.units_for codec.old) (F.bytes_for codec.old))
+        (λ k. room_for S.is_units (F.units_for codec.new) (F.bytes_for codec.new) (length pending.new + k))
+        (length src.now) (S.free sink.old) (S.free sink.new) result.0 }
     ensures short { length pending.new < 7 }
     ensures near { IsNear (F.pieces codec.new) pending.new }
 {
@@ -142,9 +159,16 @@ pub fn decode<F: FrontPiece, S: Sink>(
 ) -> (DecoderResult, usize)
     requires short { length pending.old < 7 }
     requires near { IsNear (F.pieces codec.old) pending.old }
-    ensures law { Takes (Reports result.0 (length pending.new)) (λ x. F.pieces codec.old (pending.old ++ x)) (λ x. F.pieces codec.new (pending.new ++ x)) src.now last (length pending.old) (length pending.new) result.1 (λ text. S.writes sink.old text sink.new) }
-    ensures ends { Ends (F.pieces codec.new) pending.new (drop result.1 src.now) last (S.free sink.new) S.room (S.cost 0xFFFD) result.0 }
-    ensures enough { Suffices (λ k. room_for S.is_units (F.units_for codec.old) (F.bytes_for codec.old) (length pending.old + k)) (λ k. room_for S.is_units (F.units_for codec.new) (F.bytes_for codec.new) (length pending.new + k)) (length src.now) (S.free sink.old) (S.free sink.new) result.0 }
+    ensures law { Takes (Reports result.0 (length pending.new))
+        (λ x. F.pieces codec.old (pending.old ++ x)) (λ x. F.pieces codec.new (pending.new ++ x))
+        src.now last (length pending.old) (length pending.new) result.1
+        (λ text. S.writes sink.old text sink.new) }
+    ensures ends { Ends (F.pieces codec.new) pending.new (drop result.1 src.now) last
+        (S.free sink.new) S.room (S.cost 0xFFFD) result.0 }
+    ensures enough { Suffices
+        (λ k. room_for S.is_units (F.units_for codec.old) (F.bytes_for codec.old) (length pending.old + k))
+        (λ k. room_for S.is_units (F.units_for codec.new) (F.bytes_for codec.new) (length pending.new + k))
+        (length src.now) (S.free sink.old) (S.free sink.new) result.0 }
     ensures short { length pending.new < 7 }
     ensures near { IsNear (F.pieces codec.new) pending.new }
 {

@@ -31,31 +31,46 @@ impl Bytes {
     pub fn none() -> Self
         ensures { result ≡ [] }
     {
-        Bytes { bytes: [0; 4], len: 0 }
+        Bytes {
+            bytes: [0; 4],
+            len: 0,
+        }
     }
 
     pub fn one(a: u8) -> Self
         ensures { result ≡ a ∷ [] }
     {
-        Bytes { bytes: [a, 0, 0, 0], len: 1 }
+        Bytes {
+            bytes: [a, 0, 0, 0],
+            len: 1,
+        }
     }
 
     pub fn two(a: u8, b: u8) -> Self
         ensures { result ≡ a ∷ b ∷ [] }
     {
-        Bytes { bytes: [a, b, 0, 0], len: 2 }
+        Bytes {
+            bytes: [a, b, 0, 0],
+            len: 2,
+        }
     }
 
     pub fn three(a: u8, b: u8, c: u8) -> Self
         ensures { result ≡ a ∷ b ∷ c ∷ [] }
     {
-        Bytes { bytes: [a, b, c, 0], len: 3 }
+        Bytes {
+            bytes: [a, b, c, 0],
+            len: 3,
+        }
     }
 
     pub fn four(a: u8, b: u8, c: u8, d: u8) -> Self
         ensures { result ≡ a ∷ b ∷ c ∷ d ∷ [] }
     {
-        Bytes { bytes: [a, b, c, d], len: 4 }
+        Bytes {
+            bytes: [a, b, c, d],
+            len: 4,
+        }
     }
 
     pub fn as_slice(&self) -> &[u8]
@@ -72,4 +87,3 @@ pub enum Form {
     Mapped(Bytes),
     Unmapped(char),
 }
-

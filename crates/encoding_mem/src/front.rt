@@ -45,8 +45,10 @@ pub trait FrontPiece {
     fn front(&self, bytes: &[u8], last: bool) -> Front
         requires { 0 < length bytes.now }
         ensures piece { IsFront (pieces self.now) (pieces (after self.now bytes.now)) bytes.now last result }
-        ensures bytes { IsRoomy (bytes_for self.now) (bytes_for (after self.now bytes.now)) len_utf8 3 4 result }
-        ensures units { IsRoomy (units_for self.now) (units_for (after self.now bytes.now)) len_utf16 1 2 result };
+        ensures bytes { IsRoomy (bytes_for self.now) (bytes_for (after self.now bytes.now))
+            len_utf8 3 4 result }
+        ensures units { IsRoomy (units_for self.now) (units_for (after self.now bytes.now))
+            len_utf16 1 2 result };
 
     /// Goes past the first piece of these bytes.
     fn pass(&mut self, bytes: &[u8])
@@ -57,7 +59,10 @@ pub trait FrontPiece {
     /// state as it is. It may be empty: then `front` says what is there.
     fn text_at<'b>(&self, bytes: &'b [u8]) -> &'b str
         ensures front { result.now ≡ take (length result.now) bytes.now }
-        ensures pieces { (r : List ℕ) → pieces self.now (result.now ++ r) ≡ text_pieces (chars result.now) ++ pieces self.now r }
-        ensures bytes { (m : ℕ) → length result.now + bytes_for self.now m ≤ bytes_for self.now (length result.now + m) }
-        ensures units { (m : ℕ) → length (encode_utf16_all (chars result.now)) + units_for self.now m ≤ units_for self.now (length result.now + m) };
+        ensures pieces { (r : List ℕ) → pieces self.now (result.now ++ r)
+            ≡ text_pieces (chars result.now) ++ pieces self.now r }
+        ensures bytes { (m : ℕ) → length result.now + bytes_for self.now m
+            ≤ bytes_for self.now (length result.now + m) }
+        ensures units { (m : ℕ) → length (encode_utf16_all (chars result.now)) + units_for self.now m
+            ≤ units_for self.now (length result.now + m) };
 }

@@ -22,9 +22,12 @@ pub trait PieceDecoder {
         sink: &mut S,
         last: bool,
     ) -> (DecoderResult, usize)
-        ensures law { StateLaw (state self.old) (state self.new) src.now last result.1 (λ text. S.writes sink.old text sink.new) result.0 }
-        ensures ends { EndsWith (state self.new) (drop result.1 src.now) last (S.free sink.new) S.room (S.cost 0xFFFD) result.0 }
-        ensures enough { Suffices (needs S.is_units (state self.old)) (needs S.is_units (state self.new)) (length src.now) (S.free sink.old) (S.free sink.new) result.0 };
+        ensures law { StateLaw (state self.old) (state self.new) src.now last result.1
+            (λ text. S.writes sink.old text sink.new) result.0 }
+        ensures ends { EndsWith (state self.new) (drop result.1 src.now) last
+            (S.free sink.new) S.room (S.cost 0xFFFD) result.0 }
+        ensures enough { Suffices (needs S.is_units (state self.old)) (needs S.is_units (state self.new))
+            (length src.now) (S.free sink.old) (S.free sink.new) result.0 };
 
     /// How many bytes are read whose piece is not decided.
     fn held_len(&self) -> usize
@@ -86,7 +89,8 @@ impl<F: FrontPiece> Buffered<F> {
 }
 
 impl<F: FrontPiece> PieceDecoder for Buffered<F> {
-    ghost state = { λ d. buffered (F.pieces d.rule) (F.whole d.rule) (F.are_pieces d.rule) (F.bytes_for d.rule) (F.units_for d.rule) d.pending };
+    ghost state = { λ d. buffered (F.pieces d.rule) (F.whole d.rule) (F.are_pieces d.rule)
+        (F.bytes_for d.rule) (F.units_for d.rule) d.pending };
 
     fn decode_into<S: Sink>(
         &mut self,
