@@ -1,0 +1,55 @@
+-- How many characters a text has.
+use Rattle.std.proofs.Common.{◌≡◌, ℕ, ◌+◌, ◌/◌, ◌%◌, ◌≤◌, ◌<◌, true, false, cond, List, [], ◌∷◌, ◌++◌, length, take, drop, refl, sym, ◌∙◌, ap, arith, length-append, encode_utf8_all, inl, inr}
+use Rattle.std.specs.List.{count_by}
+use Rattle.std.specs.Char.{encode_utf8}
+use Rattle.std.specs.Str.{chars, IsUtf8, IsCharBoundary}
+use Rattle.std.proofs.lemmas.Str.{chars-append, IsUtf8-take, encodes-chars}
+use Rattle.std.proofs.lemmas.List.{take-append-drop}
+use Rattle.std.proofs.lemmas.List.Sums.{sum_by-append}
+use Rattle.std.proofs.lemmas.Bool.{cases_lt, lt-ltb, le-ltb, le-leb, lt-leb}
+use Rattle.recode.specs.Character.{begins_character}
+
+-- the characters of a front and of the rest
+pub chars-cut : (text : List ℕ) (n : ℕ) → IsUtf8 text → IsCharBoundary text n → chars text ≡ chars (take n text) ++ chars (drop n text)
+chars-cut text n u b = ap chars (sym (take-append-drop n text)) ∙ chars-append (take n text) (drop n text) (IsUtf8-take text n u b)
+
+pub cut_length : (text part : List ℕ) (n : ℕ) → IsUtf8 text → IsCharBoundary text n → part ≡ take n text → length (chars part) + length (chars (drop n text)) ≡ length (chars text)
+cut_length text part n u b e = omega (arith, ap (λ t. length (chars t)) e, ap length (chars-cut text n u b), length-append (chars (take n text)) (chars (drop n text)))
+
+begins_low : (b : ℕ) → b < 0x80 → begins_character b ≡ true
+begins_low b h = rw (lt-ltb b 0x80 h) refl
+
+begins_lead : (b : ℕ) → 0xC0 ≤ b → begins_character b ≡ true
+begins_lead b h = rw (le-ltb b 0x80 (omega arith)) (rw (le-leb 0xC0 b h) refl)
+
+begins_none : (b : ℕ) → 0x80 ≤ b → b < 0xC0 → begins_character b ≡ false
+begins_none b h k = rw (le-ltb b 0x80 h) (rw (lt-leb 0xC0 b k) refl)
+
+one_of_two : (a b : ℕ) → 0xC0 ≤ a → 0x80 ≤ b → b < 0xC0 → count_by begins_character (a ∷ b ∷ []) ≡ 1
+one_of_two a b h i j = rw (begins_lead a h, begins_none b i j) refl
+
+one_of_three : (a b d : ℕ) → 0xC0 ≤ a → 0x80 ≤ b → b < 0xC0 → 0x80 ≤ d → d < 0xC0 → count_by begins_character (a ∷ b ∷ d ∷ []) ≡ 1
+one_of_three a b d h i j k l = rw (begins_lead a h, begins_none b i j, begins_none d k l) refl
+
+one_of_four : (a b d e : ℕ) → 0xC0 ≤ a → 0x80 ≤ b → b < 0xC0 → 0x80 ≤ d → d < 0xC0 → 0x80 ≤ e → e < 0xC0 → count_by begins_character (a ∷ b ∷ d ∷ e ∷ []) ≡ 1
+one_of_four a b d e h i j k l m n = rw (begins_lead a h, begins_none b i j, begins_none d k l, begins_none e m n) refl
+
+one_begins : (c : ℕ) → count_by begins_character (encode_utf8 c) ≡ 1
+unfolding encode_utf8
+one_begins c = elim (cases_lt c 0x80) [
+  | inl low ↦ rw (lt-ltb c 0x80 low) (rw (begins_low c low) refl)
+  | inr high ↦ rw (le-ltb c 0x80 high) (elim (cases_lt c 0x800) [
+    | inl low ↦ rw (lt-ltb c 0x800 low) (one_of_two (192 + c / 64) (128 + c % 64) (omega arith) (omega arith) (omega arith))
+    | inr higher ↦ rw (le-ltb c 0x800 higher) (elim (cases_lt c 0x10000) [
+      | inl low ↦ rw (lt-ltb c 0x10000 low) (one_of_three (224 + c / 4096) (128 + c / 64 % 64) (128 + c % 64) (omega arith) (omega arith) (omega arith) (omega arith) (omega arith))
+      | inr highest ↦ rw (le-ltb c 0x10000 highest) (one_of_four (240 + c / 262144) (128 + c / 4096 % 64) (128 + c / 64 % 64) (128 + c % 64) (omega arith) (omega arith) (omega arith) (omega arith) (omega arith) (omega arith) (omega arith))
+    ])
+  ])
+]
+
+encoded_begins : (cs : List ℕ) → count_by begins_character (encode_utf8_all cs) ≡ length cs
+encoded_begins [] = refl
+encoded_begins (c ∷ cs) = omega (arith, sum_by-append (λ b. cond (begins_character b) 1 0) (encode_utf8 c) (encode_utf8_all cs), one_begins c, encoded_begins cs)
+
+pub characters_begin : (text : List ℕ) → IsUtf8 text → count_by begins_character text ≡ length (chars text)
+characters_begin text u = ap (count_by begins_character) (sym (encodes-chars text u)) ∙ encoded_begins (chars text)

@@ -1,0 +1,10 @@
+pub mod Traces
+pub mod Turns
+pub mod Owing
+pub mod Calls
+pub mod Stepping
+pub mod Wholes
+pub mod Runs
+pub mod InputLaws
+pub mod Conversions
+pub mod CharacterCounts

@@ -1,0 +1,43 @@
+use Rattle.std.proofs.Common.{◌∙◌, ◌++◌, arith, refl, ap, length, length-drop, drop_of_length-le}
+use Rattle.std.proofs.lemmas.List.{take_rest}
+use Rattle.recode.specs.Owed.{owes}
+use Rattle.recode.proofs.Traces.{PaysFor-start, PaysFor-trans, PaysFor-to, PaysFor-under, on_err}
+use Rattle.recode.proofs.chunk.convert_chunk.Goals as goal
+
+pub chunk-init : goal.chunk-init
+chunk-init g c = record {
+  pays = PaysFor-start _ _ _ _ _;
+  passed = refl;
+  sound = c.requires.sound;
+  target = refl;
+  writer_count = refl;
+  log_count = refl;
+}
+
+pub chunk-preserved : goal.chunk-preserved
+chunk-preserved g c =
+    let rest_is = take_rest c.chunk.rest.now c.in_ok-turn.turn.read in
+    record {
+      pays = rw rest_is (PaysFor-trans _ _ _ _ _ _ _ _ _ _ _ _ _ c.chunk.invariant.pays (rw c.chunk.invariant.target at c.in_ok-turn.ensures.pays));
+      passed = omega (arith, c.in_ok-turn.ensures.counted, c.chunk.invariant.passed, ap length rest_is, length-drop c.in_ok-turn.turn.read c.chunk.rest.now, c.in_ok-turn.ensures.within);
+      sound = c.in_ok-turn.ensures.sound;
+      target = c.decode_once.ensures.target ∙ c.chunk.invariant.target;
+      writer_count = omega (arith, c.in_ok-turn.ensures.writer_count);
+      log_count = omega (arith, c.in_ok-turn.ensures.log_count);
+    }
+
+pub chunk-smaller : goal.chunk-smaller
+chunk-smaller g c = rw (take_rest c.chunk.rest.now c.in_ok-turn.turn.read) (c.in_ok-turn.ensures.more c.if-turn.false)
+
+pub returns-in_err-turn-clause-err : goal.returns-in_err-turn-clause-err
+returns-in_err-turn-clause-err g c = on_err _ (PaysFor-under _ _ _ _ _ _ _ _ _ _ _ c.chunk.invariant.pays (rw c.chunk.invariant.target at c.in_err-turn.ensures.err))
+
+pub returns-then-turn-clause-pays : goal.returns-then-turn-clause-pays
+returns-then-turn-clause-pays g c =
+    let all = drop_of_length-le c.chunk.rest.now {i = c.in_ok-turn.turn.read} (omega (arith, c.in_ok-turn.ensures.done c.if-turn.true)) in
+    PaysFor-to _ _ _ _ _ _ _ _ _ _
+    (PaysFor-trans _ _ _ _ _ _ _ _ _ _ _ _ _ c.chunk.invariant.pays (rw c.chunk.invariant.target at c.in_ok-turn.ensures.pays))
+    (λ r. ap (λ x. owes (g.D.RawDecoder.state c.decode_once.new.decoder) (g.E.RawEncoder.coding c.args.encoder.now) (g.E.RawEncoder.set c.decode_once.new.encoder) c.in_ok-turn.turn.counts (x ++ r)) all)
+
+pub returns-then-turn-clause-end : goal.returns-then-turn-clause-end
+returns-then-turn-clause-end g c = rw c.chunk.invariant.target at (c.in_ok-turn.ensures.end c.if-turn.true)

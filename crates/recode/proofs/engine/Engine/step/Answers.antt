@@ -1,0 +1,22 @@
+use Rattle.std.proofs.Common.{arith}
+use Rattle.std.proofs.lemmas.Bool.{eqb-true}
+use Rattle.recode.specs.Owed.{owes}
+use Rattle.recode.specs.declared.counts.Counts.{Counts}
+use Rattle.recode.proofs.Stepping.{stops_unread, stops_refused, stops_under, is_writing}
+use Rattle.recode.proofs.engine.Engine.step.Goals as goal
+
+pub returns-in_default-clause-fault : goal.returns-in_default-clause-fault
+returns-in_default-clause-fault g c = stops_unread _ _ _ _ _ _ _ c.in_default.ensures.bytes c.requires.read
+
+pub returns-then-read-limit-clause-fault : goal.returns-then-read-limit-clause-fault
+returns-then-read-limit-clause-fault g c = stops_refused _ _ _ _ _ _ _ _ c.in-Ok.ensures.bytes.0
+    (omega (arith, c.in-Ok.ensures.bound.1, c.if-read-limit.true, c.requires.read))
+
+pub returns-in-Err-clause-fault : goal.returns-in-Err-clause-fault
+returns-in-Err-clause-fault g c = stops_under _ _ _ _ _ _ c.args.self.now.counts c.args.limit _ _
+    (owes (g.D.RawDecoder.state c.args.self.now.decoder) (g.E.RawEncoder.coding c.args.self.now.encoder) (g.E.RawEncoder.set c.args.self.now.encoder) c.args.self.now.counts) _
+    c.in-Ok.ensures.bytes.0
+    (λ h. c.in-Ok.ensures.bytes.1 (eqb-true c.in-Ok.read 0 h) (omega (arith, c.read.auto.buf)))
+    (is_writing Counts _ c.in-Err.ensures.only_writers)
+    (omega (arith, c.in-Ok.ensures.bound.1, c.if-read-limit.false, c.requires.read))
+    c.in-Err.ensures.err

@@ -1,0 +1,5 @@
+use Rattle.recode.proofs.InputLaws.{kept_output, kept_log}
+use Rattle.recode.proofs.laws.utf8_text_is_kept.Goals as goal
+
+pub returns : goal.returns
+returns c = record { output = kept_output; log = kept_log }

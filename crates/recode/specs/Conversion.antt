@@ -1,0 +1,56 @@
+-- What a whole conversion says by its status.
+use Rattle.std.specs.Prelude.{◌≡◌, ℕ, ◌<◌, ◌≤◌, ◌⊎◌, List, [], ◌++◌, length, take, Option, Bool, true, codes}
+use Rattle.std.specs.Io.KnownBytes.{Appends, Consumes, IsAtEnd}
+use Rattle.recode.specs.Job.{trace, output_of, log_of, Faithful}
+use Rattle.recode.specs.Marked.{Marked, Wrote, IsFront, marks, outputs, lines}
+use Rattle.recode.specs.declared.fault.Fault.{Fault}
+use Rattle.recode.specs.declared.fault.Fault.TheVariants.{Read, Write, Log, TooLong}
+use Rattle.recode.specs.declared.job.Job.{Job}
+
+-- The input was read whole and is within the limit, output and log are whole, and the status tells whether anything
+-- was lost.
+pub record Converts (reader reader' writer writer' log log' : Option (List ℕ)) (j : Job) (status : ℕ) : Type 0 where
+  pub input : List ℕ
+  pub consumed : Consumes reader reader' input
+  pub end : IsAtEnd reader'
+  pub within : length input ≤ j.limit
+  pub wrote : Wrote writer writer' log log' (marks (trace j input))
+  pub output : Appends writer writer' (output_of j input)
+  pub logged : Appends log log' (log_of j input)
+  pub known : (status ≡ 0) ⊎ (status ≡ 1)
+  pub faithful : status ≡ 0 → Faithful j input
+  pub lossy : status ≡ 1 → Faithful j input → ⊥
+
+-- more bytes were read than the limit
+pub record PassedLimit (reader reader' : Option (List ℕ)) (limit : ℕ) : Type 0 where
+  pub input : List ℕ
+  pub consumed : Consumes reader reader' input
+  pub past : limit < length input
+
+-- a call of one of the devices failed, or the input is too long
+abbrev pub WhyFailed : (reads reads' writes writes' logs logs' : ℕ) (reader reader' : Option (List ℕ)) (limit : ℕ) → Type 0
+WhyFailed reads reads' writes writes' logs logs' reader reader' limit =
+    (reads < reads') ⊎ ((writes < writes') ⊎ ((logs < logs') ⊎ PassedLimit reader reader' limit))
+
+-- what is told of a fault
+abbrev pub message_of : Fault → List ℕ
+message_of Read = codes "recode: read fault\n"
+message_of Write = codes "recode: write fault\n"
+message_of Log = codes "recode: log fault\n"
+message_of TooLong = codes "recode: input too long\n"
+
+-- What a conversion leaves that failed: output and log are a front of what any continuation of the bytes read gives,
+-- none where the end was read, in their one order; behind it the log has a front of a message.
+pub record Breaks (reader reader' writer writer' log log' : Option (List ℕ)) (j : Job) : Type 0 where
+  pub input : List ℕ
+  pub refused : List ℕ
+  pub ended : Bool
+  pub consumed : Consumes reader reader' (input ++ refused)
+  pub end : ended ≡ true → IsAtEnd reader'
+  pub none : ended ≡ true → refused ≡ []
+  pub taken : List Marked
+  pub fault : Fault
+  pub told : ℕ
+  pub output : Appends writer writer' (outputs taken)
+  pub logged : Appends log log' (lines taken ++ take told (message_of fault))
+  pub front : (r : List ℕ) → (ended ≡ true → r ≡ []) → IsFront taken (marks (trace j (input ++ r)))

@@ -1,0 +1,22 @@
+-- Which device a fault is of, as what its count rises by.
+use Rattle.std.specs.Prelude.{ℕ, Result, Err}
+use Rattle.recode.specs.declared.fault.Fault.{Fault}
+use Rattle.recode.specs.declared.fault.Fault.TheVariants.{Read, Write, Log, TooLong}
+
+abbrev pub of_reader : {T : Type 0} → Result T Fault → ℕ
+of_reader (Err Read) = 1
+of_reader _ = 0
+
+abbrev pub of_writer : {T : Type 0} → Result T Fault → ℕ
+of_writer (Err Write) = 1
+of_writer _ = 0
+
+abbrev pub of_log : {T : Type 0} → Result T Fault → ℕ
+of_log (Err Log) = 1
+of_log _ = 0
+
+-- a fault that is not one of the two writers'
+abbrev pub of_other : {T : Type 0} → Result T Fault → ℕ
+of_other (Err Read) = 1
+of_other (Err TooLong) = 1
+of_other _ = 0

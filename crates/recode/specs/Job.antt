@@ -1,0 +1,60 @@
+-- What a job makes of a whole input.
+use Rattle.std.specs.Prelude.{◌≡◌, ℕ, ◌+◌, ◌^◌, ◌≤◌, List, [], ◌∷◌, ◌++◌, length}
+use Rattle.std.specs.List.{flat_map}
+use Rattle.encoding_mem.specs.Piece.{Piece, good, bad, text, AreGood}
+use Rattle.encoding_mem.specs.Coding.{Coding, output}
+use Rattle.encoding_mem.specs.Items.{Item, trace_from}
+use Rattle.encoding_mem.specs.declared.form.Form.{Form}
+use Rattle.encoding_mem.specs.declared.form.Form.TheVariants.{Mapped, Unmapped}
+use Rattle.encoding_mem.specs.declared.form.Set.TheVariants.{Ascii}
+use Rattle.encoding_front.specs.Encodings.{pieces_of, coding_of, output_encoding_of}
+use Rattle.recode_log.specs.Line.{line_bytes}
+use Rattle.recode_log.specs.declared.line.LogLine.{LogLine}
+use Rattle.recode_log.specs.declared.line.LogLine.TheVariants.{Bad, Lost}
+use Rattle.recode.specs.declared.job.Job.{Job}
+use Rattle.recode.specs.declared.job.Mark.TheVariants.{Keep}
+
+abbrev pub IsValidJob : Job → Type 0
+IsValidJob j = (j.mark ≡ Keep) × (j.limit ≤ 2 ^ 48)
+
+-- the pieces of the input, and its text
+abbrev pub input_pieces : Job → List ℕ → List Piece
+input_pieces j x = pieces_of j.from x
+
+abbrev pub input_text : Job → List ℕ → List ℕ
+input_text j x = text (input_pieces j x)
+
+-- what is written to the output
+abbrev pub output_of : Job → List ℕ → List ℕ
+output_of j x = output (coding_of j.to) (input_text j x)
+
+-- the lines of characters without bytes, the first with the index i
+abbrev pub form_lines : ℕ → Form → List LogLine
+form_lines i (Mapped bs) = []
+form_lines i (Unmapped c) = Lost i c ∷ []
+
+abbrev pub lost_in : Coding → ℕ → List ℕ → List LogLine
+lost_in e i [] = []
+lost_in e i (c ∷ t) = form_lines i (e.form c) ++ lost_in e (i + 1) t
+
+-- The lines of pieces, the first at this place, by rising index: where a character stands for a bad piece its line
+-- comes first, then that of the character, if it has no bytes.
+abbrev pub log_lines : Coding → (place i : ℕ) → List Piece → List LogLine
+log_lines e place i [] = []
+log_lines e place i (good n cs ∷ ps) = lost_in e i cs ++ log_lines e (place + n) (i + length cs) ps
+log_lines e place i (bad n ∷ ps) = Bad place n ∷ (lost_in e i (0xFFFD ∷ []) ++ log_lines e (place + n) (i + 1) ps)
+
+-- what is written to the log
+abbrev pub log_of : Job → List ℕ → List ℕ
+log_of j x = flat_map line_bytes (log_lines (coding_of j.to) 0 0 (input_pieces j x))
+
+-- both, in their one order
+abbrev pub trace : Job → List ℕ → List Item
+trace j x = trace_from (coding_of j.to) Ascii 0 0 (input_pieces j x)
+
+-- Nothing was lost: no piece of the input is bad, and the output, decoded without mark handling, has no bad piece
+-- and is the input's text.
+pub record Faithful (j : Job) (x : List ℕ) : Type 0 where
+  pub source : AreGood (input_pieces j x)
+  pub target : AreGood (pieces_of (output_encoding_of j.to) (output_of j x))
+  pub same : text (pieces_of (output_encoding_of j.to) (output_of j x)) ≡ input_text j x

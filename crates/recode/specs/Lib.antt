@@ -1,0 +1,10 @@
+pub mod Character
+pub mod Marked
+pub mod Payment
+pub mod Fault
+pub mod Owed
+pub mod Step
+pub mod Job
+pub mod Buffers
+pub mod Session
+pub mod Conversion

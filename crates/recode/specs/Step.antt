@@ -1,0 +1,51 @@
+-- What one step does, for every continuation of the bytes read.
+use Rattle.std.specs.Prelude.{◌≡◌, ℕ, ◌+◌, ◌<◌, ◌≤◌, List, [], ◌++◌, length, Option, Bool, true, false}
+use Rattle.std.specs.Io.KnownBytes.{Consumes, IsAtEnd}
+use Rattle.encoding_mem.specs.Items.{Item}
+use Rattle.recode.specs.Marked.{Marked, Wrote, IsFront, marks}
+use Rattle.recode.specs.Payment.{Pays, PaysFor, UnderpaysFor}
+use Rattle.recode.specs.declared.counts.Counts.{Counts}
+use Rattle.recode.specs.declared.fault.Fault.{Fault}
+use Rattle.recode.specs.declared.fault.Fault.TheVariants.{Read, Write, Log, TooLong}
+
+-- Some bytes were read, and what was owed for them and any bytes to come is what was written, then what is owed now.
+pub record GoesOn (reader reader' writer writer' log log' : Option (List ℕ)) (c c' : Counts) (limit : ℕ) (owed owed' : List ℕ → List Item) : Type 0 where
+  pub chunk : List ℕ
+  pub consumed : Consumes reader reader' chunk
+  pub counted : c'.read ≡ c.read + length chunk
+  pub within : c'.read ≤ limit
+  pub pays : PaysFor writer writer' log log' c c' false (λ r. owed (chunk ++ r)) owed'
+
+-- The end was read, and all that was owed for it was written.
+pub record Finishes (reader reader' writer writer' log log' : Option (List ℕ)) (c c' : Counts) (limit : ℕ) (owed : List ℕ → List Item) : Type 0 where
+  pub chunk : List ℕ
+  pub consumed : Consumes reader reader' chunk
+  pub end : IsAtEnd reader'
+  pub counted : c'.read ≡ c.read + length chunk
+  pub within : c'.read ≤ limit
+  pub pays : Pays writer writer' log log' c c' (owed chunk) []
+
+-- where the bytes that were read pass the limit, or not
+abbrev pub PassesLimit : (read limit : ℕ) → Fault → Type 0
+PassesLimit read limit TooLong = limit < read
+PassesLimit read limit Read = read ≤ limit
+PassesLimit read limit Write = read ≤ limit
+PassesLimit read limit Log = read ≤ limit
+
+-- What was written is a front of what was owed for the bytes that were read and counted, and any bytes to come, none
+-- where the end was read. Those that were refused pass the limit.
+pub record Stops (reader reader' writer writer' log log' : Option (List ℕ)) (c : Counts) (limit : ℕ) (owed : List ℕ → List Item) (fault : Fault) : Type 0 where
+  pub chunk : List ℕ
+  pub refused : List ℕ
+  pub ended : Bool
+  pub consumed : Consumes reader reader' (chunk ++ refused)
+  pub end : ended ≡ true → IsAtEnd reader'
+  pub none : ended ≡ true → refused ≡ []
+  pub limited : PassesLimit (c.read + length (chunk ++ refused)) limit fault
+  pub pays : UnderpaysFor writer writer' log log' ended (λ r. owed (chunk ++ r))
+
+-- a front of what this input gives was written
+pub record WroteFront (writer writer' log log' : Option (List ℕ)) (owed : List Item) : Type 0 where
+  pub taken : List Marked
+  pub wrote : Wrote writer writer' log log' taken
+  pub front : IsFront taken (marks owed)

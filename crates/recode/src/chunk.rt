@@ -1,0 +1,206 @@
+ghost use Rattle.std.specs.Prelude.{◌≡◌, ℕ, ◌+◌, ◌-◌, ◌^◌, ◌<◌, ◌≤◌, ◌++◌, ◌∷◌, List, [], true, false, take, drop, length, IfOk, OnOk, OnErr};
+ghost use Rattle.std.specs.Str.{IsUtf8};
+ghost use Rattle.recode_log.specs.Counted.{inner_of, failures_of};
+ghost use Rattle.encoding_mem.specs.Coding.{Coding};
+ghost use Rattle.encoding_mem.specs.Items.{Item, BadAt, open_items};
+ghost use Rattle.recode.specs.Payment.{Pays, Underpays, PaysFor, UnderpaysFor};
+ghost use Rattle.recode.specs.Owed.{owes, AreSound};
+ghost use Rattle.recode.specs.Fault.{of_reader, of_writer, of_log, of_other};
+
+use crate::counts::Counts;
+use crate::encode::encode_all;
+use crate::fault::Fault;
+use crate::lines::log_line;
+use encoding_mem::{DecoderResult, RawDecoder, RawEncoder};
+use recode_log::counted::Counted;
+use recode_log::line::LogLine;
+use std::io::Write;
+
+/// What one call of a decoder did.
+#[derive(Clone, Copy, PartialEq, Eq, Debug)]
+pub struct DecodeTurn {
+    /// The bytes of the chunk that were read.
+    pub read: usize,
+    /// Whether all of the chunk is read, and all that it gives is written.
+    pub is_done: bool,
+    pub counts: Counts,
+}
+
+// The text at the front of a pivot.
+fn text_of(pivot: &[u8], len: usize) -> &str
+    requires within { len ≤ length pivot.now }
+    requires text { IsUtf8 (take len pivot.now) }
+    ensures { result.now ≡ take len pivot.now }
+{
+    // The decoder wrote text: no second check.
+    unsafe { std::str::from_utf8_unchecked(&pivot[..len]) }
+}
+
+// Logs a bad piece, and encodes U+FFFD in its place.
+fn report_bad<W: Write, L: Write, E: RawEncoder>(
+    writer: &mut Counted<W>,
+    log: &mut Counted<L>,
+    encoder: &mut E,
+    counts: Counts,
+    offset: u64,
+    size: u8,
+    out: &mut [u8],
+) -> Result<Counts, Fault>
+    requires room { 4 ≤ length out.old }
+    requires offset { offset ≤ 2 ^ 48 }
+    requires some { 1 ≤ size }
+    requires few { size ≤ 4 }
+    requires index { counts.index < 2 ^ 48 }
+    requires lost { counts.lost ≤ counts.index }
+    requires bad { counts.bad ≤ counts.index }
+    requires writer { failures_of writer.old < 2 ^ 64 - 1 }
+    requires log { failures_of log.old < 2 ^ 64 - 1 }
+    ensures pays { IfOk result (λ c. Pays (W.contents (inner_of writer.old)) (W.contents (inner_of writer.new)) (L.contents (inner_of log.old)) (L.contents (inner_of log.new)) counts c
+        (BadAt offset size ∷ open_items (E.coding encoder.old) (E.set encoder.old) counts.index (0xFFFD ∷ [])) []) }
+    ensures index { IfOk result (λ c. c.index ≡ counts.index + 1) }
+    ensures read { IfOk result (λ c. c.read ≡ counts.read) }
+    ensures lost { IfOk result (λ c. c.lost ≤ c.index) }
+    ensures bad { IfOk result (λ c. c.bad ≤ c.index) }
+    ensures target { E.coding encoder.new ≡ E.coding encoder.old }
+    ensures state { OnOk result (E.set encoder.new ≡ (E.coding encoder.old).set (E.set encoder.old) 0xFFFD) }
+    ensures err { OnErr result (Underpays (W.contents (inner_of writer.old)) (W.contents (inner_of writer.new)) (L.contents (inner_of log.old)) (L.contents (inner_of log.new))
+        (BadAt offset size ∷ open_items (E.coding encoder.old) (E.set encoder.old) counts.index (0xFFFD ∷ []))) }
+    ensures writer_count { failures_of writer.new ≡ failures_of writer.old + of_writer result }
+    ensures reader_count { of_reader result ≡ 0 }
+    ensures only_writers { of_other result ≡ 0 }
+    ensures log_count { failures_of log.new ≡ failures_of log.old + of_log result }
+{
+    log_line(
+        log,
+        LogLine::Bad {
+            offset,
+            length: size,
+        },
+    )?;
+    let counts = Counts {
+        bad: counts.bad + 1,
+        ..counts
+    };
+    let counts = encode_all(writer, log, encoder, counts, "\u{FFFD}", out, false)?;
+    Ok(counts)
+}
+
+/// One call of the decoder, and all that follows from it.
+pub fn decode_once<W: Write, L: Write, D: RawDecoder, E: RawEncoder>(
+    writer: &mut Counted<W>,
+    log: &mut Counted<L>,
+    decoder: &mut D,
+    encoder: &mut E,
+    counts: Counts,
+    src: &[u8],
+    pivot: &mut [u8],
+    out: &mut [u8],
+    last: bool,
+) -> Result<DecodeTurn, Fault>
+    requires pivot { 4 ≤ length pivot.old }
+    requires out { 4 ≤ length out.old }
+    requires sound { AreSound (D.state decoder.old).pending counts }
+    requires limit { counts.read + length src.now ≤ 2 ^ 48 }
+    requires writer { failures_of writer.old < 2 ^ 64 - 1 }
+    requires log { failures_of log.old < 2 ^ 64 - 1 }
+
+    ensures within { IfOk result (λ p. p.read ≤ length src.now) }
+    ensures pays { IfOk result (λ p. PaysFor (W.contents (inner_of writer.old)) (W.contents (inner_of writer.new)) (L.contents (inner_of log.old)) (L.contents (inner_of log.new)) counts p.counts last
+        (λ r. owes (D.state decoder.old) (E.coding encoder.old) (E.set encoder.old) counts (src.now ++ r))
+        (λ r. owes (D.state decoder.new) (E.coding encoder.old) (E.set encoder.new) p.counts (drop p.read src.now ++ r))) }
+    ensures counted { IfOk result (λ p. p.counts.read ≡ counts.read + p.read) }
+    ensures sound { IfOk result (λ p. AreSound (D.state decoder.new).pending p.counts) }
+    ensures target { E.coding encoder.new ≡ E.coding encoder.old }
+    ensures done { IfOk result (λ p. p.is_done ≡ true → p.read ≡ length src.now) }
+    ensures end { IfOk result (λ p. p.is_done ≡ true → last ≡ true → owes (D.state decoder.new) (E.coding encoder.old) (E.set encoder.new) p.counts [] ≡ []) }
+    ensures more { IfOk result (λ p. p.is_done ≡ false → length ((D.state decoder.new).pieces (drop p.read src.now)) < length ((D.state decoder.old).pieces src.now)) }
+    ensures err { OnErr result (UnderpaysFor (W.contents (inner_of writer.old)) (W.contents (inner_of writer.new)) (L.contents (inner_of log.old)) (L.contents (inner_of log.new)) last
+        (λ r. owes (D.state decoder.old) (E.coding encoder.old) (E.set encoder.old) counts (src.now ++ r))) }
+    ensures writer_count { failures_of writer.new ≡ failures_of writer.old + of_writer result }
+    ensures reader_count { of_reader result ≡ 0 }
+    ensures only_writers { of_other result ≡ 0 }
+    ensures log_count { failures_of log.new ≡ failures_of log.old + of_log result }
+{
+    let (answer, read, written) = decoder.decode_to_utf8_raw(src, pivot, last);
+    let counts = Counts {
+        read: counts.read + read as u64,
+        calls: counts.calls.saturating_add(1),
+        ..counts
+    };
+    let text = text_of(pivot, written);
+    match answer {
+        DecoderResult::InputEmpty => {
+            let counts = encode_all(writer, log, encoder, counts, text, out, last)?;
+            Ok(DecodeTurn {
+                read,
+                is_done: true,
+                counts,
+            })
+        }
+        DecoderResult::OutputFull => {
+            let counts = encode_all(writer, log, encoder, counts, text, out, false)?;
+            Ok(DecodeTurn {
+                read,
+                is_done: false,
+                counts,
+            })
+        }
+        DecoderResult::Malformed(size, after) => {
+            let counts = encode_all(writer, log, encoder, counts, text, out, false)?;
+            let offset = counts.read - u64::from(after) - u64::from(size);
+            let counts = report_bad(writer, log, encoder, counts, offset, size, out)?;
+            Ok(DecodeTurn {
+                read,
+                is_done: false,
+                counts,
+            })
+        }
+    }
+}
+
+/// Converts all of a chunk, and logs what is lost. Answers the counts then.
+pub fn convert_chunk<W: Write, L: Write, D: RawDecoder, E: RawEncoder>(
+    writer: &mut Counted<W>,
+    log: &mut Counted<L>,
+    decoder: &mut D,
+    encoder: &mut E,
+    counts: Counts,
+    src: &[u8],
+    pivot: &mut [u8],
+    out: &mut [u8],
+    last: bool,
+) -> Result<Counts, Fault>
+    requires pivot { 4 ≤ length pivot.old }
+    requires out { 4 ≤ length out.old }
+    requires sound { AreSound (D.state decoder.old).pending counts }
+    requires limit { counts.read + length src.now ≤ 2 ^ 48 }
+    requires writer { failures_of writer.old < 2 ^ 64 - 1 }
+    requires log { failures_of log.old < 2 ^ 64 - 1 }
+
+    ensures pays { IfOk result (λ c. PaysFor (W.contents (inner_of writer.old)) (W.contents (inner_of writer.new)) (L.contents (inner_of log.old)) (L.contents (inner_of log.new)) counts c last
+        (λ r. owes (D.state decoder.old) (E.coding encoder.old) (E.set encoder.old) counts (src.now ++ r))
+        (λ r. owes (D.state decoder.new) (E.coding encoder.old) (E.set encoder.new) c r)) }
+    ensures read { IfOk result (λ c. c.read ≡ counts.read + length src.now) }
+    ensures sound { IfOk result (λ c. AreSound (D.state decoder.new).pending c) }
+    ensures target { E.coding encoder.new ≡ E.coding encoder.old }
+    ensures end { IfOk result (λ c. last ≡ true → owes (D.state decoder.new) (E.coding encoder.old) (E.set encoder.new) c [] ≡ []) }
+    ensures err { OnErr result (UnderpaysFor (W.contents (inner_of writer.old)) (W.contents (inner_of writer.new)) (L.contents (inner_of log.old)) (L.contents (inner_of log.new)) last
+        (λ r. owes (D.state decoder.old) (E.coding encoder.old) (E.set encoder.old) counts (src.now ++ r))) }
+    ensures writer_count { failures_of writer.new ≡ failures_of writer.old + of_writer result }
+    ensures reader_count { of_reader result ≡ 0 }
+    ensures only_writers { of_other result ≡ 0 }
+    ensures log_count { failures_of log.new ≡ failures_of log.old + of_log result }
+{
+    let mut counts = counts;
+    let mut rest = src;
+    'chunk: loop {
+        let turn = decode_once(
+            writer, log, decoder, encoder, counts, rest, pivot, out, last,
+        )?;
+        counts = turn.counts;
+        if turn.is_done {
+            return Ok(counts);
+        }
+        rest = &rest[turn.read..];
+    }
+}

@@ -1,0 +1,117 @@
+ghost use Rattle.std.specs.Prelude.{◌≡◌, ◌≢◌, ◌≤◌, ◌<◌, ◌^◌, ◌+◌, ◌-◌, ℕ, take, length, OnOk, OnErr};
+ghost use Rattle.std.specs.Io.KnownBytes.{Appends, Keeps};
+ghost use Rattle.recode_log.specs.Counted.{inner_of, failures_of};
+ghost use Rattle.recode.specs.Job.{IsValidJob};
+ghost use Rattle.recode.specs.Buffers.{AreEnough};
+ghost use Rattle.recode.specs.Conversion.{Breaks, Converts, WhyFailed, message_of};
+
+use crate::buffers::Buffers;
+use crate::fault::Fault;
+use crate::job::Job;
+use crate::session::run;
+use recode_log::counted::Counted;
+use recode_log::deliver::deliver;
+use std::io::{Read, Write};
+
+/// The status where all was converted, and nothing was lost.
+pub const FAITHFUL: u8 = 0;
+
+/// The status where all was converted, and something was lost: the log tells what.
+pub const NOT_FAITHFUL: u8 = 1;
+
+/// The status where a call of a device failed, or the input was too long.
+pub const FAULT: u8 = 4;
+
+// Flushes both, and answers the first fault.
+fn flush_both<W: Write, L: Write>(
+    writer: &mut Counted<W>,
+    log: &mut Counted<L>,
+) -> Result<(), Fault>
+    requires writer { failures_of writer.old < 2 ^ 64 - 1 }
+    requires log { failures_of log.old < 2 ^ 64 - 1 }
+    ensures output { Keeps (W.contents (inner_of writer.old)) (W.contents (inner_of writer.new)) }
+    ensures logged { Keeps (L.contents (inner_of log.old)) (L.contents (inner_of log.new)) }
+    ensures ok { OnOk result ((failures_of writer.new ≡ failures_of writer.old) × (failures_of log.new ≡ failures_of log.old)) }
+    ensures err { OnErr result (failures_of writer.old + failures_of log.old < failures_of writer.new + failures_of log.new) }
+    ensures writer_count { failures_of writer.old ≤ failures_of writer.new }
+    ensures log_count { failures_of log.old ≤ failures_of log.new }
+    ensures log_bound { failures_of log.new ≤ failures_of log.old + 1 }
+{
+    let written = writer.flush();
+    let logged = log.flush();
+    if written.is_err() {
+        Err(Fault::Write)
+    } else if logged.is_err() {
+        Err(Fault::Log)
+    } else {
+        Ok(())
+    }
+}
+
+// What is told of a fault.
+fn message_of(fault: Fault) -> &'static [u8]
+    ensures { result.now ≡ message_of fault }
+{
+    match fault {
+        Fault::Read => b"recode: read fault\n",
+        Fault::Write => b"recode: write fault\n",
+        Fault::Log => b"recode: log fault\n",
+        Fault::TooLong => b"recode: input too long\n",
+    }
+}
+
+// Writes the message of a fault to the log; where that fails, the rest of it is dropped.
+fn tell<L: Write>(log: &mut Counted<L>, fault: Fault)
+    requires { failures_of log.old < 2 ^ 64 - 1 }
+    ensures message { (n : ℕ) × Appends (L.contents (inner_of log.old)) (L.contents (inner_of log.new)) (take n (message_of fault)) }
+    ensures count { failures_of log.old ≤ failures_of log.new }
+{
+    match deliver(log, message_of(fault), fault) {
+        Ok(()) => {}
+        Err(_) => {}
+    }
+}
+
+/// Runs the job, flushes the writer, then the log, and answers the status: `FAITHFUL`, `NOT_FAITHFUL` or
+/// `FAULT`. Where it answers `FAULT`, the message of the first fault is written to the log last, as
+/// `recode: write fault`; what can't be written of it is dropped.
+pub fn convert<R: Read, W: Write, L: Write>(
+    reader: &mut Counted<R>,
+    writer: &mut Counted<W>,
+    log: &mut Counted<L>,
+    job: Job<'_>,
+    buffers: &mut Buffers<'_>,
+) -> u8
+    requires job { IsValidJob job }
+    requires buffers { AreEnough buffers.old }
+    requires reader { failures_of reader.old ≤ 2 ^ 64 - 5 }
+    requires writer { failures_of writer.old ≤ 2 ^ 64 - 5 }
+    requires log { failures_of log.old ≤ 2 ^ 64 - 5 }
+
+    ensures converts { result ≢ FAULT → Converts (R.remaining (inner_of reader.old)) (R.remaining (inner_of reader.new)) (W.contents (inner_of writer.old)) (W.contents (inner_of writer.new)) (L.contents (inner_of log.old)) (L.contents (inner_of log.new)) job.entry result }
+    ensures quiet { result ≢ FAULT → (failures_of reader.new ≡ failures_of reader.old) × (failures_of writer.new ≡ failures_of writer.old) × (failures_of log.new ≡ failures_of log.old) }
+    ensures broken { result ≡ FAULT → Breaks (R.remaining (inner_of reader.old)) (R.remaining (inner_of reader.new)) (W.contents (inner_of writer.old)) (W.contents (inner_of writer.new)) (L.contents (inner_of log.old)) (L.contents (inner_of log.new)) job.entry }
+    ensures failed { result ≡ FAULT → WhyFailed (failures_of reader.old) (failures_of reader.new) (failures_of writer.old) (failures_of writer.new) (failures_of log.old) (failures_of log.new) (R.remaining (inner_of reader.old)) (R.remaining (inner_of reader.new)) job.entry.limit }
+{
+    let result = run(reader, writer, log, job, buffers);
+    let flushed = flush_both(writer, log);
+    match result {
+        Ok(report) => match flushed {
+            Ok(()) => {
+                if report.faithful {
+                    FAITHFUL
+                } else {
+                    NOT_FAITHFUL
+                }
+            }
+            Err(fault) => {
+                tell(log, fault);
+                FAULT
+            }
+        },
+        Err(fault) => {
+            tell(log, fault);
+            FAULT
+        }
+    }
+}

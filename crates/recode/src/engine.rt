@@ -1,0 +1,136 @@
+use crate::buffers::Pivot;
+use crate::chunk::convert_chunk;
+use crate::counts::Counts;
+use crate::fault::Fault;
+use crate::progress::Progress;
+use encoding_mem::{RawDecoder, RawEncoder};
+use recode_log::counted::Counted;
+use std::io::{Read, Write};
+
+/// A conversion under way: its codecs, and what it has counted.
+#[derive(Drop)]
+pub struct Engine<D, E> {
+    pub decoder: D,
+    pub encoder: E,
+    pub counts: Counts,
+}
+
+impl<D: RawDecoder, E: RawEncoder> Engine<D, E> {
+    ghost use Rattle.std.specs.Prelude.{◌≡◌, ℕ, ◌+◌, ◌-◌, ◌^◌, ◌<◌, ◌≤◌, List, length, OnOk, IfErr};
+    ghost use Rattle.recode_log.specs.Counted.{inner_of, failures_of};
+    ghost use Rattle.recode.specs.Buffers.{IsRoomy};
+    ghost use Rattle.recode.specs.Owed.{owes, AreSound};
+    ghost use Rattle.recode.specs.Step.{GoesOn, Finishes, Stops};
+    ghost use Rattle.recode.specs.Fault.{of_reader, of_writer, of_log};
+
+    /// One read, and all that follows from it. After a fault the engine is of no use.
+    pub fn step<R: Read, W: Write, L: Write>(
+        &mut self,
+        reader: &mut Counted<R>,
+        writer: &mut Counted<W>,
+        log: &mut Counted<L>,
+        limit: u64,
+        input: &mut [u8],
+        pivot: &mut [u8],
+        output: &mut [u8],
+    ) -> Result<Progress, Fault>
+        requires limit { limit ≤ 2 ^ 48 }
+        requires read { self.old.counts.read ≤ limit }
+        requires sound { AreSound (D.state self.old.decoder).pending self.old.counts }
+        requires input { 0 < length input.old }
+        requires pivot { 4 ≤ length pivot.old }
+        requires output { 4 ≤ length output.old }
+        requires reader { failures_of reader.old < 2 ^ 64 - 1 }
+        requires writer { failures_of writer.old < 2 ^ 64 - 1 }
+        requires log { failures_of log.old < 2 ^ 64 - 1 }
+
+        ensures more { result ≡ Ok Progress.More → GoesOn (R.remaining (inner_of reader.old)) (R.remaining (inner_of reader.new)) (W.contents (inner_of writer.old)) (W.contents (inner_of writer.new)) (L.contents (inner_of log.old)) (L.contents (inner_of log.new)) self.old.counts self.new.counts limit
+            (owes (D.state self.old.decoder) (E.coding self.old.encoder) (E.set self.old.encoder) self.old.counts)
+            (owes (D.state self.new.decoder) (E.coding self.old.encoder) (E.set self.new.encoder) self.new.counts) }
+        ensures grows { result ≡ Ok Progress.More → self.old.counts.read < self.new.counts.read }
+        ensures done { result ≡ Ok Progress.Done → Finishes (R.remaining (inner_of reader.old)) (R.remaining (inner_of reader.new)) (W.contents (inner_of writer.old)) (W.contents (inner_of writer.new)) (L.contents (inner_of log.old)) (L.contents (inner_of log.new)) self.old.counts self.new.counts limit
+            (owes (D.state self.old.decoder) (E.coding self.old.encoder) (E.set self.old.encoder) self.old.counts) }
+        ensures fault { IfErr result (λ f. Stops (R.remaining (inner_of reader.old)) (R.remaining (inner_of reader.new)) (W.contents (inner_of writer.old)) (W.contents (inner_of writer.new)) (L.contents (inner_of log.old)) (L.contents (inner_of log.new)) self.old.counts limit
+            (owes (D.state self.old.decoder) (E.coding self.old.encoder) (E.set self.old.encoder) self.old.counts) f) }
+        ensures sound { OnOk result (AreSound (D.state self.new.decoder).pending self.new.counts) }
+        ensures within { OnOk result (self.new.counts.read ≤ limit) }
+        ensures target { E.coding self.new.encoder ≡ E.coding self.old.encoder }
+        ensures reader_count { failures_of reader.new ≡ failures_of reader.old + of_reader result }
+        ensures writer_count { failures_of writer.new ≡ failures_of writer.old + of_writer result }
+        ensures log_count { failures_of log.new ≡ failures_of log.old + of_log result }
+    {
+        let Ok(read) = reader.read(input) else {
+            return Err(Fault::Read);
+        };
+        let counts = self.counts;
+        if read as u64 > limit - counts.read {
+            return Err(Fault::TooLong);
+        }
+        let ended = read == 0;
+        let converted = convert_chunk(
+            writer,
+            log,
+            &mut self.decoder,
+            &mut self.encoder,
+            counts,
+            &input[..read],
+            pivot,
+            output,
+            ended,
+        );
+        match converted {
+            Ok(counts) => {
+                self.counts = counts;
+                if ended {
+                    Ok(Progress::Done)
+                } else {
+                    Ok(Progress::More)
+                }
+            }
+            Err(fault) => Err(fault),
+        }
+    }
+
+    /// The same with a pivot that may be of either kind.
+    pub fn step_with<R: Read, W: Write, L: Write>(
+        &mut self,
+        reader: &mut Counted<R>,
+        writer: &mut Counted<W>,
+        log: &mut Counted<L>,
+        limit: u64,
+        input: &mut [u8],
+        pivot: &mut Pivot<'_>,
+        output: &mut [u8],
+    ) -> Result<Progress, Fault>
+        requires limit { limit ≤ 2 ^ 48 }
+        requires read { self.old.counts.read ≤ limit }
+        requires sound { AreSound (D.state self.old.decoder).pending self.old.counts }
+        requires input { 0 < length input.old }
+        requires pivot { IsRoomy pivot.old }
+        requires output { 4 ≤ length output.old }
+        requires reader { failures_of reader.old < 2 ^ 64 - 1 }
+        requires writer { failures_of writer.old < 2 ^ 64 - 1 }
+        requires log { failures_of log.old < 2 ^ 64 - 1 }
+
+        ensures more { result ≡ Ok Progress.More → GoesOn (R.remaining (inner_of reader.old)) (R.remaining (inner_of reader.new)) (W.contents (inner_of writer.old)) (W.contents (inner_of writer.new)) (L.contents (inner_of log.old)) (L.contents (inner_of log.new)) self.old.counts self.new.counts limit
+            (owes (D.state self.old.decoder) (E.coding self.old.encoder) (E.set self.old.encoder) self.old.counts)
+            (owes (D.state self.new.decoder) (E.coding self.old.encoder) (E.set self.new.encoder) self.new.counts) }
+        ensures grows { result ≡ Ok Progress.More → self.old.counts.read < self.new.counts.read }
+        ensures done { result ≡ Ok Progress.Done → Finishes (R.remaining (inner_of reader.old)) (R.remaining (inner_of reader.new)) (W.contents (inner_of writer.old)) (W.contents (inner_of writer.new)) (L.contents (inner_of log.old)) (L.contents (inner_of log.new)) self.old.counts self.new.counts limit
+            (owes (D.state self.old.decoder) (E.coding self.old.encoder) (E.set self.old.encoder) self.old.counts) }
+        ensures fault { IfErr result (λ f. Stops (R.remaining (inner_of reader.old)) (R.remaining (inner_of reader.new)) (W.contents (inner_of writer.old)) (W.contents (inner_of writer.new)) (L.contents (inner_of log.old)) (L.contents (inner_of log.new)) self.old.counts limit
+            (owes (D.state self.old.decoder) (E.coding self.old.encoder) (E.set self.old.encoder) self.old.counts) f) }
+        ensures sound { OnOk result (AreSound (D.state self.new.decoder).pending self.new.counts) }
+        ensures within { OnOk result (self.new.counts.read ≤ limit) }
+        ensures target { E.coding self.new.encoder ≡ E.coding self.old.encoder }
+        ensures reader_count { failures_of reader.new ≡ failures_of reader.old + of_reader result }
+        ensures writer_count { failures_of writer.new ≡ failures_of writer.old + of_writer result }
+        ensures pivot { IsRoomy pivot.new }
+        ensures log_count { failures_of log.new ≡ failures_of log.old + of_log result }
+    {
+        match pivot {
+            Pivot::Utf8(bytes) => self.step(reader, writer, log, limit, input, bytes, output),
+            Pivot::Utf16(_) => unreachable!(),
+        }
+    }
+}

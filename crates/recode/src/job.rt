@@ -1,0 +1,43 @@
+use encoding_front::Encoding;
+use encoding_tables::Tables;
+
+/// What is done with a byte order mark at the front of the input.
+#[derive(Clone, Copy, PartialEq, Eq, Debug)]
+pub enum Mark {
+    /// A mark of UTF-8, UTF-16LE or UTF-16BE is taken, and says what the source is.
+    Sniff,
+    /// The source's own mark is taken.
+    Remove,
+    /// No mark is taken: it is text.
+    Keep,
+}
+
+/// The greatest limit of a job, in bytes.
+pub const GREATEST_LIMIT: u64 = 1 << 48;
+
+/// What to recode, and how.
+#[derive(Clone, Copy)]
+pub struct Job<'t> {
+    /// The encoding of the input.
+    pub from: Encoding,
+    /// The encoding that is asked for. What is written is in its output encoding.
+    pub to: Encoding,
+    pub mark: Mark,
+    /// How many bytes the input may have.
+    pub limit: u64,
+    /// The indexes that the two encodings need.
+    pub tables: &'t Tables,
+}
+
+impl<'t> Job<'t> {
+    ghost use Rattle.std.specs.Prelude.{IsTrue, ◌↔◌};
+    ghost use Rattle.recode.specs.Job.{IsValidJob};
+
+    /// Whether the job can be run: its limit is at most `GREATEST_LIMIT`. So far marks are kept, and
+    /// both encodings are UTF-8, which needs no index.
+    pub fn is_valid(&self) -> bool
+        ensures { IsTrue result ↔ IsValidJob self.now }
+    {
+        matches!(self.mark, Mark::Keep) && self.limit <= GREATEST_LIMIT
+    }
+}

@@ -1,0 +1,43 @@
+//! Laws of what a run writes. The functions do nothing: each contract is a law over the definitions.
+
+ghost use Rattle.std.specs.Prelude.{◌≡◌, ◌↔◌, ◌<◌, ℕ, List, [], length, Option};
+ghost use Rattle.std.specs.Str.{IsUtf8};
+ghost use Rattle.encoding_mem.specs.Piece.{bad_count};
+ghost use Rattle.encoding_mem.specs.Coding.{lost_count};
+ghost use Rattle.encoding_front.specs.Encodings.{coding_of};
+ghost use Rattle.recode.specs.Job.{Faithful, input_pieces, input_text, log_of, output_of, trace};
+ghost use Rattle.recode.specs.Marked.{lines, marks, outputs};
+ghost use Rattle.recode.specs.Payment.{bad_lines, lost_lines};
+ghost use Rattle.recode.specs.Session.{Completes, Fails, IsConverted};
+ghost use Rattle.recode.specs.Step.{WroteFront};
+ghost use Rattle.recode.specs.declared.fault.Fault.{Fault};
+ghost use Rattle.recode.specs.declared.job.Job.{Job};
+ghost use Rattle.recode.specs.declared.report.Report.{Report};
+
+/// The trace of an input is its output and its log: their bytes, and how many lines of each kind.
+pub fn trace_of_input()
+    ensures output { (j : Job) (x : List ℕ) → outputs (marks (trace j x)) ≡ output_of j x }
+    ensures log { (j : Job) (x : List ℕ) → lines (marks (trace j x)) ≡ log_of j x }
+    ensures bad { (j : Job) (x : List ℕ) → bad_lines (trace j x) ≡ bad_count (input_pieces j x) }
+    ensures lost { (j : Job) (x : List ℕ) → lost_lines (trace j x) ≡ lost_count (coding_of j.to) (input_text j x) }
+{}
+
+/// UTF-8 text gives its own bytes, and an empty log.
+pub fn utf8_text_is_kept()
+    ensures output { (j : Job) (x : List ℕ) → IsUtf8 x → output_of j x ≡ x }
+    ensures log { (j : Job) (x : List ℕ) → IsUtf8 x → log_of j x ≡ [] }
+{}
+
+/// Nothing was lost exactly where the log is empty.
+pub fn faithful_where_log_is_empty()
+    ensures { (j : Job) (x : List ℕ) → Faithful j x ↔ (log_of j x ≡ []) }
+{}
+
+/// Of a reader that tells its bytes, a run that came to its end read them all: cuts and sizes of buffers change
+/// nothing of the output, the log or the report. A run that a fault ended wrote fronts of them, and said that the
+/// input is too long only where it is.
+pub fn known_input()
+    ensures completes { (x : List ℕ) (r w w' l l' : Option (List ℕ)) (j : Job) (p : Report) → Completes (Some x) r w w' l l' j p → IsConverted w w' l l' j x p }
+    ensures fails { (x : List ℕ) (r w w' l l' : Option (List ℕ)) (j : Job) (f : Fault) → Fails (Some x) r w w' l l' j f → WroteFront w w' l l' (trace j x) }
+    ensures too_long { (x : List ℕ) (r w w' l l' : Option (List ℕ)) (j : Job) → Fails (Some x) r w w' l l' j Fault.TooLong → j.limit < length x }
+{}

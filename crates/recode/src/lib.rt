@@ -1,0 +1,26 @@
+//! Recodes a stream from one encoding to another, and knows exactly what was lost.
+#![tactic(auto)]
+
+pub mod buffers;
+mod characters;
+mod chunk;
+pub mod conversion;
+mod counts;
+mod encode;
+mod engine;
+pub mod fault;
+pub mod job;
+pub mod laws;
+mod lines;
+mod phase;
+pub mod progress;
+pub mod report;
+pub mod session;
+
+pub use buffers::{Buffers, Pivot};
+pub use conversion::{FAITHFUL, FAULT, NOT_FAITHFUL, convert};
+pub use fault::Fault;
+pub use job::{GREATEST_LIMIT, Job, Mark};
+pub use progress::Progress;
+pub use report::Report;
+pub use session::{Session, run};

@@ -1,0 +1,19 @@
+use encoding_front::Encoding;
+
+/// What a run that came to its end tells.
+#[derive(Clone, Copy, PartialEq, Eq, Debug)]
+pub struct Report {
+    /// The bytes of the input.
+    pub read: u64,
+    /// The lines of the log that tell a bad piece.
+    pub bad: u64,
+    /// The lines of the log that tell a lost character.
+    pub lost: u64,
+    /// The calls of codecs.
+    pub calls: u64,
+    /// The encoding of the input.
+    pub encoding: Encoding,
+    /// Whether nothing was lost: no piece of the input is bad, and the output, decoded without mark
+    /// handling, is the input's text.
+    pub faithful: bool,
+}

@@ -1,0 +1,79 @@
+use encoding_front::UTF_8;
+use encoding_tables::Tables;
+use recode::{Buffers, GREATEST_LIMIT, Job, Mark, Pivot};
+
+#[test]
+fn a_job_is_valid_up_to_its_edges(rt: HostRuntime) {
+    let tables = Tables::new(rt.alloc());
+    let greatest = 281_474_976_710_656;
+    assert_eq!(rt; GREATEST_LIMIT, greatest);
+    let rows = [
+        (Mark::Keep, 0, true),
+        (Mark::Keep, greatest, true),
+        (Mark::Keep, greatest + 1, false),
+        (Mark::Sniff, greatest, false),
+        (Mark::Remove, greatest, false),
+    ];
+    for (mark, limit, want) in rows {
+        let job = Job {
+            from: UTF_8,
+            to: UTF_8,
+            mark,
+            limit,
+            tables: &tables,
+        };
+        assert_eq!(rt; job.is_valid(), want, "{mark:?} {limit}");
+    }
+}
+
+#[test]
+fn buffers_are_enough_up_to_their_edges(rt: HostRuntime) {
+    let rows = [
+        (1, 4, 4, 4, true),
+        (8, 8, 8, 8, true),
+        (0, 4, 4, 4, false),
+        (1, 3, 4, 4, false),
+        (1, 4, 3, 4, false),
+        (1, 4, 4, 3, false),
+    ];
+    for (input_len, pivot_len, output_len, check_len, want) in rows {
+        let mut input = [0u8; 8];
+        let mut text = [0u8; 8];
+        let mut output = [0u8; 8];
+        let mut again = [0u8; 8];
+        let pivot = Pivot::Utf8(&mut text[..pivot_len]);
+        let check = Pivot::Utf8(&mut again[..check_len]);
+        let buffers = Buffers {
+            input: &mut input[..input_len],
+            pivot,
+            output: &mut output[..output_len],
+            check,
+        };
+        let sizes = (input_len, pivot_len, output_len, check_len);
+        assert_eq!(rt; buffers.is_enough(), want, "{sizes:?}");
+    }
+}
+
+#[test]
+fn a_pivot_of_wide_units_is_not_enough(rt: HostRuntime) {
+    for wide_pivot in [true, false] {
+        let mut input = [0u8; 8];
+        let mut output = [0u8; 8];
+        let mut bytes = [0u8; 8];
+        let mut units = [0u16; 8];
+        let narrow = Pivot::Utf8(&mut bytes);
+        let wide = Pivot::Utf16(&mut units);
+        let (pivot, check) = if wide_pivot {
+            (wide, narrow)
+        } else {
+            (narrow, wide)
+        };
+        let buffers = Buffers {
+            input: &mut input,
+            pivot,
+            output: &mut output,
+            check,
+        };
+        assert!(rt; !buffers.is_enough(), "{wide_pivot}");
+    }
+}

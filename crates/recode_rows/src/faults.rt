@@ -1,0 +1,101 @@
+use crate::sink::{Failure, Manners, WILLING};
+use crate::source::Reads;
+use crate::trial::{LEAST, ROOMY, Trial, WAYS, recode};
+use recode::Fault;
+use std::alloc::AllocError;
+use std::io::ErrorKind;
+
+const FAILURES: [Failure; 3] = [
+    Failure::Nothing,
+    Failure::Error(ErrorKind::BrokenPipe),
+    Failure::Error(ErrorKind::Interrupted),
+];
+
+// A writer of one byte per call, whose call `fails_at` fails.
+fn slow(fails_at: usize, failure: Failure) -> Manners {
+    Manners {
+        most: 1,
+        fails_at,
+        failure,
+        ..WILLING
+    }
+}
+
+#[test]
+fn a_failed_read_ends_it(rt: HostRuntime) -> Result<(), AllocError> {
+    let rows: [(usize, &[u8]); 4] = [(1, b""), (2, b"A"), (3, b"A"), (4, b"A\xC3\xA9")];
+    for way in WAYS {
+        for sizes in [LEAST, ROOMY] {
+            for read_kind in [ErrorKind::BrokenPipe, ErrorKind::Interrupted] {
+                for (read_fails_at, output) in rows {
+                    let trial = Trial {
+                        sizes,
+                        reads: Reads::OneByOne,
+                        read_fails_at,
+                        read_kind,
+                        ..Trial::new(b"A\xC3\xA9")
+                    };
+                    let outcome = recode(&rt, way, &trial)?;
+                    outcome.check(&rt, &trial, output, b"", [1, 0, 0]);
+                    assert_eq!(rt; outcome.answer, Err(Fault::Read), "{trial:?}");
+                }
+            }
+        }
+    }
+    Ok(())
+}
+
+#[test]
+fn a_failed_write_ends_it(rt: HostRuntime) -> Result<(), AllocError> {
+    for way in WAYS {
+        for sizes in [LEAST, ROOMY] {
+            for failure in FAILURES {
+                let trial = Trial {
+                    sizes,
+                    writer: slow(2, failure),
+                    ..Trial::new(b"ab")
+                };
+                let outcome = recode(&rt, way, &trial)?;
+                outcome.check(&rt, &trial, b"a", b"", [0, 1, 0]);
+                assert_eq!(rt; outcome.answer, Err(Fault::Write), "{trial:?}");
+            }
+        }
+    }
+    Ok(())
+}
+
+#[test]
+fn a_failed_line_ends_it(rt: HostRuntime) -> Result<(), AllocError> {
+    let line = "bad 1 1\n";
+    for way in WAYS {
+        for sizes in [LEAST, ROOMY] {
+            for failure in FAILURES {
+                for taken in 0..8 {
+                    let trial = Trial {
+                        sizes,
+                        log: slow(taken + 1, failure),
+                        ..Trial::new(b"a\xFFZ")
+                    };
+                    let outcome = recode(&rt, way, &trial)?;
+                    outcome.check(&rt, &trial, b"a", &line.as_bytes()[..taken], [0, 0, 1]);
+                    assert_eq!(rt; outcome.answer, Err(Fault::Log), "{trial:?}");
+                }
+            }
+        }
+    }
+    Ok(())
+}
+
+#[test]
+fn a_whole_line_needs_a_call_a_byte(rt: HostRuntime) -> Result<(), AllocError> {
+    for way in WAYS {
+        let trial = Trial {
+            log: slow(9, Failure::Nothing),
+            ..Trial::new(b"a\xFFZ")
+        };
+        let outcome = recode(&rt, way, &trial)?;
+        outcome.check(&rt, &trial, b"a\xEF\xBF\xBDZ", b"bad 1 1\n", [0, 0, 0]);
+        assert!(rt; outcome.answer.is_ok());
+    }
+    Ok(())
+}

@@ -1,0 +1,20 @@
+//! Conversions worked by hand, over the whole stack of crates: devices that cut, stop and fail, and what
+//! must have been written then. There are tests alone here.
+#![tactic(auto)]
+
+#[cfg(test)]
+mod edges;
+#[cfg(test)]
+mod faults;
+#[cfg(test)]
+mod limits;
+#[cfg(test)]
+mod sink;
+#[cfg(test)]
+mod source;
+#[cfg(test)]
+mod statuses;
+#[cfg(test)]
+mod trial;
+#[cfg(test)]
+mod worked;
