@@ -87,3 +87,16 @@ too_great = refl
 no_bytes : pieces_utf8 [] ≡ []
 unfolding pieces_in
 no_bytes = refl
+
+-- forms longer than the shortest
+overlong_two : pieces_utf8 (0xC0 ∷ 0x80 ∷ []) ≡ bad 1 ∷ bad 1 ∷ []
+unfolding pieces_in
+overlong_two = refl
+
+overlong_three : pieces_utf8 (0xE0 ∷ 0x9F ∷ 0xBF ∷ []) ≡ bad 1 ∷ bad 1 ∷ bad 1 ∷ []
+unfolding pieces_in
+overlong_three = refl
+
+overlong_four : pieces_utf8 (0xF0 ∷ 0x8F ∷ 0xBF ∷ 0xBF ∷ []) ≡ bad 1 ∷ bad 1 ∷ bad 1 ∷ bad 1 ∷ []
+unfolding pieces_in
+overlong_four = refl

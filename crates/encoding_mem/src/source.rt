@@ -21,8 +21,9 @@ pub trait Source {
 
     /// The next character and its length in bytes or units, or `None` at the end. It stays unread.
     fn peek(&self) -> Option<(char, usize)>
-        ensures { MatchOption result (text (drop (place self.now) (all self.now)) ≡ [])
-            (λ p. text (drop (place self.now) (all self.now)) ≡ p.0 ∷ text (drop (place self.now + p.1) (all self.now))) };
+        ensures next { MatchOption result (text (drop (place self.now) (all self.now)) ≡ [])
+            (λ p. text (drop (place self.now) (all self.now)) ≡ p.0 ∷ text (drop (place self.now + p.1) (all self.now))) }
+        ensures boundary { IfSome result (λ p. IsBoundary (all self.now) (place self.now + p.1)) };
 
     /// Goes past the next character, which `peek` has shown to be there.
     fn advance(&mut self)

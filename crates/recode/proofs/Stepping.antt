@@ -23,18 +23,20 @@ stops_unread a b w l c limit owed p within = record {
   consumed = Consumes-kept a a b [] (Consumes-nil a) p;
   end = λ h. cc;
   none = λ h. cc;
+  within = omega (arith, within);
   limited = omega (arith, within);
   pays = nothing_under w l false owed;
 }
 
-pub stops_refused : (a b w l : Option (List ℕ)) (c : Counts) (limit : ℕ) (chunk : List ℕ) (owed : List ℕ → List Item) → Consumes a b chunk → limit < c.read + length chunk → Stops a b w w l l c limit owed TooLong
-stops_refused a b w l c limit chunk owed p past = record {
+pub stops_refused : (a b w l : Option (List ℕ)) (c : Counts) (limit : ℕ) (chunk : List ℕ) (owed : List ℕ → List Item) → Consumes a b chunk → c.read ≤ limit → limit < c.read + length chunk → Stops a b w w l l c limit owed TooLong
+stops_refused a b w l c limit chunk owed p within past = record {
   chunk = [];
   refused = chunk;
   ended = false;
   consumed = p;
   end = λ h. cc;
   none = λ h. cc;
+  within = omega (arith, within);
   limited = past;
   pays = nothing_under w l false owed;
 }
@@ -67,6 +69,7 @@ stops_under a b w w' l l' c limit last chunk owed f p e writing within q = recor
   consumed = subst (Consumes a b) (sym (append-nil chunk)) p;
   end = e;
   none = λ h. refl;
+  within = within;
   limited = within_limit _ limit f writing (omega (arith, within, ap length (append-nil chunk)));
   pays = q;
 }
@@ -123,6 +126,7 @@ goes_on_stop a b c w w' w'' l l' l'' x y limit o o' f p q = record {
   none = q.none;
   consumed = subst (Consumes a c) (sym (append_assoc p.chunk q.chunk q.refused)) (Consumes-trans a b c p.chunk (q.chunk ++ q.refused) p.consumed q.consumed);
   end = q.end;
+  within = omega (arith, p.counted, length-append p.chunk q.chunk, q.within);
   limited = limit_on _ _ limit f (omega (arith, p.counted, length-append p.chunk (q.chunk ++ q.refused), ap length (append_assoc p.chunk q.chunk q.refused))) q.limited;
   pays = record {
     taken = marks p.pays.paid ++ q.pays.taken;

@@ -48,6 +48,7 @@ pub record Breaks (reader reader' writer writer' log log' : Option (List ℕ)) (
   pub consumed : Consumes reader reader' (input ++ refused)
   pub end : ended ≡ true → IsAtEnd reader'
   pub none : ended ≡ true → refused ≡ []
+  pub within : length input ≤ j.limit
   pub taken : List Marked
   pub fault : Fault
   pub told : ℕ

@@ -88,6 +88,7 @@ pub record Fails (reader reader' writer writer' log log' : Option (List ℕ)) (j
   pub consumed : Consumes reader reader' (input ++ refused)
   pub end : ended ≡ true → IsAtEnd reader'
   pub none : ended ≡ true → refused ≡ []
+  pub within : length input ≤ j.limit
   pub limited : PassesLimit (length (input ++ refused)) j.limit f
   pub taken : List Marked
   pub wrote : Wrote writer writer' log log' taken

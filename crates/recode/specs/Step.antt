@@ -41,6 +41,7 @@ pub record Stops (reader reader' writer writer' log log' : Option (List ℕ)) (c
   pub consumed : Consumes reader reader' (chunk ++ refused)
   pub end : ended ≡ true → IsAtEnd reader'
   pub none : ended ≡ true → refused ≡ []
+  pub within : c.read + length chunk ≤ limit
   pub limited : PassesLimit (c.read + length (chunk ++ refused)) limit fault
   pub pays : UnderpaysFor writer writer' log log' ended (λ r. owed (chunk ++ r))
 

@@ -21,7 +21,8 @@ impl<D: RawDecoder, E: RawEncoder> Engine<D, E> {
     ghost use Rattle.recode.specs.Buffers.{IsRoomy};
     ghost use Rattle.recode.specs.Owed.{owes, AreSound};
     ghost use Rattle.recode.specs.Step.{GoesOn, Finishes, Stops};
-    ghost use Rattle.recode.specs.Fault.{of_reader, of_writer, of_log};
+    ghost use Rattle.recode.specs.Fault.{of_reader, of_writer, of_log, of_other};
+    ghost use Rattle.std.specs.Io.KnownBytes.{Keeps};
 
     /// One read, and all that follows from it. After a fault the engine is of no use.
     pub fn step<R: Read, W: Write, L: Write>(
@@ -52,6 +53,7 @@ impl<D: RawDecoder, E: RawEncoder> Engine<D, E> {
             (owes (D.state self.old.decoder) (E.coding self.old.encoder) (E.set self.old.encoder) self.old.counts) }
         ensures fault { IfErr result (λ f. Stops (R.remaining (inner_of reader.old)) (R.remaining (inner_of reader.new)) (W.contents (inner_of writer.old)) (W.contents (inner_of writer.new)) (L.contents (inner_of log.old)) (L.contents (inner_of log.new)) self.old.counts limit
             (owes (D.state self.old.decoder) (E.coding self.old.encoder) (E.set self.old.encoder) self.old.counts) f) }
+        ensures untouched { of_other result ≡ 1 → Keeps (W.contents (inner_of writer.old)) (W.contents (inner_of writer.new)) × Keeps (L.contents (inner_of log.old)) (L.contents (inner_of log.new)) }
         ensures sound { OnOk result (AreSound (D.state self.new.decoder).pending self.new.counts) }
         ensures within { OnOk result (self.new.counts.read ≤ limit) }
         ensures target { E.coding self.new.encoder ≡ E.coding self.old.encoder }
@@ -120,6 +122,7 @@ impl<D: RawDecoder, E: RawEncoder> Engine<D, E> {
             (owes (D.state self.old.decoder) (E.coding self.old.encoder) (E.set self.old.encoder) self.old.counts) }
         ensures fault { IfErr result (λ f. Stops (R.remaining (inner_of reader.old)) (R.remaining (inner_of reader.new)) (W.contents (inner_of writer.old)) (W.contents (inner_of writer.new)) (L.contents (inner_of log.old)) (L.contents (inner_of log.new)) self.old.counts limit
             (owes (D.state self.old.decoder) (E.coding self.old.encoder) (E.set self.old.encoder) self.old.counts) f) }
+        ensures untouched { of_other result ≡ 1 → Keeps (W.contents (inner_of writer.old)) (W.contents (inner_of writer.new)) × Keeps (L.contents (inner_of log.old)) (L.contents (inner_of log.new)) }
         ensures sound { OnOk result (AreSound (D.state self.new.decoder).pending self.new.counts) }
         ensures within { OnOk result (self.new.counts.read ≤ limit) }
         ensures target { E.coding self.new.encoder ≡ E.coding self.old.encoder }

@@ -7,7 +7,8 @@ ghost use Rattle.recode.specs.Owed.{AreSound};
 ghost use Rattle.recode.specs.Session.{View, owed, IsOver, Begins, Tells, Completes, Fails, phase_after};
 ghost use Rattle.recode.specs.declared.phase.Phase.TheVariants.{Open};
 ghost use Rattle.recode.specs.Step.{GoesOn, Finishes, Stops};
-ghost use Rattle.recode.specs.Fault.{of_reader, of_writer, of_log};
+ghost use Rattle.recode.specs.Fault.{of_reader, of_writer, of_log, of_other};
+ghost use Rattle.std.specs.Io.KnownBytes.{Keeps};
 
 use crate::buffers::{Buffers, Pivot};
 use crate::counts::Counts;
@@ -126,6 +127,7 @@ impl<'t> Session<'t> {
         ensures grows { result ≡ Ok Progress.More → (⟦<Session<'t> as Viewed>⟧.view self.old).counts.read < (⟦<Session<'t> as Viewed>⟧.view self.new).counts.read }
         ensures done { result ≡ Ok Progress.Done → Finishes (R.remaining (inner_of reader.old)) (R.remaining (inner_of reader.new)) (W.contents (inner_of writer.old)) (W.contents (inner_of writer.new)) (L.contents (inner_of log.old)) (L.contents (inner_of log.new)) (⟦<Session<'t> as Viewed>⟧.view self.old).counts (⟦<Session<'t> as Viewed>⟧.view self.new).counts (⟦<Session<'t> as Viewed>⟧.view self.old).job.limit (owed (⟦<Session<'t> as Viewed>⟧.view self.old)) }
         ensures fault { IfErr result (λ f. Stops (R.remaining (inner_of reader.old)) (R.remaining (inner_of reader.new)) (W.contents (inner_of writer.old)) (W.contents (inner_of writer.new)) (L.contents (inner_of log.old)) (L.contents (inner_of log.new)) (⟦<Session<'t> as Viewed>⟧.view self.old).counts (⟦<Session<'t> as Viewed>⟧.view self.old).job.limit (owed (⟦<Session<'t> as Viewed>⟧.view self.old)) f) }
+        ensures untouched { of_other result ≡ 1 → Keeps (W.contents (inner_of writer.old)) (W.contents (inner_of writer.new)) × Keeps (L.contents (inner_of log.old)) (L.contents (inner_of log.new)) }
         ensures phase { (⟦<Session<'t> as Viewed>⟧.view self.new).phase ≡ phase_after result }
         ensures job { (⟦<Session<'t> as Viewed>⟧.view self.new).job ≡ (⟦<Session<'t> as Viewed>⟧.view self.old).job }
         ensures coding { (⟦<Session<'t> as Viewed>⟧.view self.new).coding ≡ (⟦<Session<'t> as Viewed>⟧.view self.old).coding }
@@ -176,6 +178,7 @@ pub fn run<R: Read, W: Write, L: Write>(
 
     ensures completes { IfOk result (λ p. Completes (R.remaining (inner_of reader.old)) (R.remaining (inner_of reader.new)) (W.contents (inner_of writer.old)) (W.contents (inner_of writer.new)) (L.contents (inner_of log.old)) (L.contents (inner_of log.new)) job.entry p) }
     ensures fails { IfErr result (λ f. Fails (R.remaining (inner_of reader.old)) (R.remaining (inner_of reader.new)) (W.contents (inner_of writer.old)) (W.contents (inner_of writer.new)) (L.contents (inner_of log.old)) (L.contents (inner_of log.new)) job.entry f) }
+    ensures buffers { AreEnough buffers.new }
     ensures reader_count { failures_of reader.new ≡ failures_of reader.old + of_reader result }
     ensures writer_count { failures_of writer.new ≡ failures_of writer.old + of_writer result }
     ensures log_count { failures_of log.new ≡ failures_of log.old + of_log result }

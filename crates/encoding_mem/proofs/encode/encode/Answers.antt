@@ -11,7 +11,7 @@ returns-then-dst-written-2-clause-behind g c = behind_put _ _ _ _ _ _ c.put-writ
 
 pub returns-then-dst-written-2-clause-law : goal.returns-then-dst-written-2-clause-law
 returns-then-dst-written-2-clause-law g c =
-    let at = sym (ap (λ l. left g.S.Source.text l (g.S.Source.place c.loop-c.source)) c.loop-c.invariant.source) ∙ c.in-Some.ensures in
+    let at = sym (ap (λ l. left g.S.Source.text l (g.S.Source.place c.loop-c.source)) c.loop-c.invariant.source) ∙ c.in-Some.ensures.next in
     let one = escape_is (g.T.Target.coding c.args.target.now) _ _ _ _ _ _ _ c.put-written.ensures.front c.as_slice-bytes.ensures.value c.escape-escape.ensures c.step-next.ensures.set in
     rw c.step-next.ensures.set (full _ c.args.last _ _ _ _ _ (escape_put _ _ _ _ _ _ _ _ _ _ (g.met.T.Target.laws c.args.target.now) c.loop-c.invariant.steps at one))
 
@@ -22,7 +22,7 @@ loop-c-preserved g c = record {
   behind = behind_put _ _ _ _ _ _ c.put-written-in-Mapped.ensures.end (behind_put _ _ _ _ _ _ c.put-written.ensures.end c.loop-c.invariant.behind c.put-written.ensures.back) c.put-written-in-Mapped.ensures.back;
   source = c.advance.ensures.same ∙ c.loop-c.invariant.source;
   steps =
-      let at = sym (ap (λ l. left g.S.Source.text l (g.S.Source.place c.loop-c.source)) c.loop-c.invariant.source) ∙ c.in-Some.ensures in
+      let at = sym (ap (λ l. left g.S.Source.text l (g.S.Source.place c.loop-c.source)) c.loop-c.invariant.source) ∙ c.in-Some.ensures.next in
       let next = sym (ap (λ l. left g.S.Source.text l (g.S.Source.place c.loop-c.source)) c.loop-c.invariant.source) ∙ c.advance.ensures.next.1 ∙ ap (λ l. c.advance.ensures.next.0 ∷ left g.S.Source.text l (g.S.Source.place c.advance.new.self)) (c.advance.ensures.same ∙ c.loop-c.invariant.source) in
       let one = escape_is (g.T.Target.coding c.args.target.now) _ _ _ _ _ _ _ c.put-written.ensures.front c.as_slice-bytes.ensures.value c.escape-escape.ensures c.step-next.ensures.set in
       let two = c.put-written-in-Mapped.ensures.front ∙ ap (λ l. take c.put-written.result c.put-written.new.dst ++ l) c.as_slice-bytes-in-Mapped.ensures.value in
@@ -34,7 +34,7 @@ returns-in-Unmapped-clause-behind g c = behind_put _ _ _ _ _ _ c.put-written.ens
 
 pub returns-in-Unmapped-clause-law : goal.returns-in-Unmapped-clause-law
 returns-in-Unmapped-clause-law g c =
-    let at = sym (ap (λ l. left g.S.Source.text l (g.S.Source.place c.loop-c.source)) c.loop-c.invariant.source) ∙ c.in-Some.ensures in
+    let at = sym (ap (λ l. left g.S.Source.text l (g.S.Source.place c.loop-c.source)) c.loop-c.invariant.source) ∙ c.in-Some.ensures.next in
     let next = sym (ap (λ l. left g.S.Source.text l (g.S.Source.place c.loop-c.source)) c.loop-c.invariant.source) ∙ c.advance-in-Unmapped.ensures.next.1 ∙ ap (λ l. c.advance-in-Unmapped.ensures.next.0 ∷ left g.S.Source.text l (g.S.Source.place c.advance-in-Unmapped.new.self)) (c.advance-in-Unmapped.ensures.same ∙ c.loop-c.invariant.source) in
     let one = escape_is (g.T.Target.coding c.args.target.now) _ _ _ _ _ _ _ c.put-written.ensures.front c.as_slice-bytes.ensures.value c.escape-escape.ensures c.step-next.ensures.set in
     rw c.step-next.ensures.set (unmapped _ _ c.args.last _ _ _ _ _ _ _ _ _ _ _ (g.met.T.Target.laws c.args.target.now) c.loop-c.invariant.steps at next one (sym c.step-next.ensures.form ∙ c.in-Unmapped.is))
@@ -44,19 +44,19 @@ returns-else-dst-written-3-clause-behind g c = behind_put _ _ _ _ _ _ c.put-writ
 
 pub returns-then-dst-written-clause-answers : goal.returns-then-dst-written-clause-answers
 returns-then-dst-written-clause-answers g c =
-    let at = sym (ap (λ l. left g.S.Source.text l (g.S.Source.place c.loop-c.source)) c.loop-c.invariant.source) ∙ c.in-Some.ensures in (
+    let at = sym (ap (λ l. left g.S.Source.text l (g.S.Source.place c.loop-c.source)) c.loop-c.invariant.source) ∙ c.in-Some.ensures.next in (
       escape_over _ (g.T.Target.coding c.args.target.now) _ _ _ _ _ (g.met.T.Target.laws c.args.target.now) c.as_slice-bytes.ensures.value c.escape-escape.ensures c.if-dst-written.true,
       inl (some_left _ _ _ at),
     )
 
 pub returns-then-dst-written-2-clause-tight : goal.returns-then-dst-written-2-clause-tight
 returns-then-dst-written-2-clause-tight g c =
-    let at = sym (ap (λ l. left g.S.Source.text l (g.S.Source.place c.loop-c.source)) c.loop-c.invariant.source) ∙ c.in-Some.ensures in
+    let at = sym (ap (λ l. left g.S.Source.text l (g.S.Source.place c.loop-c.source)) c.loop-c.invariant.source) ∙ c.in-Some.ensures.next in
     tight_form _ _ _ _ _ _ _ _ _ _ (g.met.T.Target.laws c.args.target.now) at c.step-next.ensures.set c.as_slice-bytes-in-Mapped.ensures.value (sym c.step-next.ensures.form ∙ c.in-Mapped.is) c.if-dst-written-2.true
 
 pub returns-then-dst-written-2-clause-answers : goal.returns-then-dst-written-2-clause-answers
 returns-then-dst-written-2-clause-answers g c =
-    let at = sym (ap (λ l. left g.S.Source.text l (g.S.Source.place c.loop-c.source)) c.loop-c.invariant.source) ∙ c.in-Some.ensures in (
+    let at = sym (ap (λ l. left g.S.Source.text l (g.S.Source.place c.loop-c.source)) c.loop-c.invariant.source) ∙ c.in-Some.ensures.next in (
       form_over _ (g.T.Target.coding c.args.target.now) c.in-Some.c _ _ _ (g.met.T.Target.laws c.args.target.now) c.as_slice-bytes-in-Mapped.ensures.value (sym c.step-next.ensures.form ∙ c.in-Mapped.is) c.if-dst-written-2.true,
       inl (some_left _ _ _ at),
     )
@@ -69,6 +69,6 @@ returns-then-dst-written-3-clause-answers g c = (
 
 pub returns-else-dst-written-3-clause-law : goal.returns-else-dst-written-3-clause-law
 returns-else-dst-written-3-clause-law g c =
-    let empty = sym (ap (λ l. left g.S.Source.text l (g.S.Source.place c.loop-c.source)) c.loop-c.invariant.source) ∙ c.in_default.ensures in
+    let empty = sym (ap (λ l. left g.S.Source.text l (g.S.Source.place c.loop-c.source)) c.loop-c.invariant.source) ∙ c.in_default.ensures.next in
     ended _ (g.T.Target.coding c.args.target.now) c.args.last _ _ _ _ _ _ (g.met.T.Target.laws c.args.target.now) c.if-last.true c.loop-c.invariant.steps empty
     (c.put-written-then-last.ensures.front ∙ ap (λ l. take c.loop-c.written c.loop-c.dst ++ l) (c.as_slice-bytes-then-last.ensures.value ∙ c.escape-escape-then-last.ensures))

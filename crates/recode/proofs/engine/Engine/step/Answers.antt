@@ -9,7 +9,7 @@ pub returns-in_default-clause-fault : goal.returns-in_default-clause-fault
 returns-in_default-clause-fault g c = stops_unread _ _ _ _ _ _ _ c.in_default.ensures.bytes c.requires.read
 
 pub returns-then-read-limit-clause-fault : goal.returns-then-read-limit-clause-fault
-returns-then-read-limit-clause-fault g c = stops_refused _ _ _ _ _ _ _ _ c.in-Ok.ensures.bytes.0
+returns-then-read-limit-clause-fault g c = stops_refused _ _ _ _ _ _ _ _ c.in-Ok.ensures.bytes.0 c.requires.read
     (omega (arith, c.in-Ok.ensures.bound.1, c.if-read-limit.true, c.requires.read))
 
 pub returns-in-Err-clause-fault : goal.returns-in-Err-clause-fault
