@@ -1,7 +1,7 @@
 -- What a call of a decoder does.
 use Rattle.std.specs.Prelude.{◌≡◌, ℕ, ◌+◌, ◌-◌, ◌≤◌, ◌<◌, ◌≢◌, ◌⊎◌, Bool, false, IsTrue, Some, List, [], ◌∷◌, ◌++◌, length, drop}
 use Rattle.encoding_mem.specs.Piece.{Piece, bad, first, size_of, sizes, scalars, AreGood, ArePieces}
-use Rattle.encoding_mem.specs.Event.{Event, events}
+use Rattle.encoding_mem.specs.Event.{Event, malformed, events, scalar_events}
 use Rattle.encoding_mem.specs.declared.decoder_result.DecoderResult.{DecoderResult}
 use Rattle.encoding_mem.specs.declared.decoder_result.DecoderResult.TheVariants.{InputEmpty, OutputFull, Malformed}
 
@@ -64,7 +64,16 @@ EndsWith after unread last free room mark InputEmpty =
 EndsWith after unread last free room mark OutputFull = (free < room) × IsKnown after.pieces unread last
 EndsWith after unread last free room mark (Malformed a b) = mark ≤ free
 
--- the state law over events, whose places count from the first pending byte
-abbrev pub EventLaw : (before after : DecoderState) (src : List ℕ) (last : Bool) (read : ℕ) → Type 0
-EventLaw before after src last read = (told : List Event) × ((r : List ℕ) → (IsTrue last → r ≡ []) →
-    events 0 (before.pieces (src ++ r)) ≡ told ++ events (before.pending + read - after.pending) (after.pieces (drop read src ++ r)))
+-- what an answer tells beside the scalars that were written: a bad piece that ends at this place
+abbrev pub reported : DecoderResult → ℕ → List Event
+reported InputEmpty place = []
+reported OutputFull place = []
+reported (Malformed a b) place = malformed a place ∷ []
+
+-- The state law over events, whose places count from the first pending byte: the events of every continuation are the
+-- scalars that were written, what was reported, and the events of what is left.
+abbrev pub EventLaw : (before after : DecoderState) (src : List ℕ) (last : Bool) (read : ℕ) (Writes : List ℕ → Type 0) → DecoderResult → Type 0
+EventLaw before after src last read Writes outcome =
+    let place : ℕ = before.pending + read - after.pending in
+    (written : List ℕ) × Writes written × ((r : List ℕ) → (IsTrue last → r ≡ []) →
+    events 0 (before.pieces (src ++ r)) ≡ (scalar_events written ++ reported outcome place) ++ events place (after.pieces (drop read src ++ r)))

@@ -19,7 +19,8 @@ pub fn decode_with_events<D: RawDecoder>(
     dst: &mut [u8],
     last: bool,
 ) -> (DecoderResult, usize, usize)
-    ensures events { EventLaw (D.state decoder.old) (D.state decoder.new) src.now last result.1 }
+    ensures events { EventLaw (D.state decoder.old) (D.state decoder.new) src.now last result.1
+        (λ text. Adds dst.old 0 (encode_utf8_all text) dst.new result.2) result.0 }
     ensures law { StateLaw (D.state decoder.old) (D.state decoder.new) src.now last result.1
         (λ text. Adds dst.old 0 (encode_utf8_all text) dst.new result.2) result.0 }
     ensures ends { EndsWith (D.state decoder.new) (drop result.1 src.now) last

@@ -1,5 +1,4 @@
-use Rattle.std.proofs.Common.{arith, ◌∙◌, ◌≡◌, ◌≤◌, length}
-use Rattle.std.specs.Fmt.{decimal}
+use Rattle.std.proofs.Common.{arith, ◌∙◌, ◌≤◌, length}
 use Rattle.encoding_front.proofs.References.{digits_fit}
 use Rattle.encoding_front.proofs.reference.write_reference.Goals as goal
 
