@@ -5,7 +5,7 @@
 pub mod ascii;
 pub mod decoder_laws;
 pub mod decoder_result;
-pub mod driver;
+mod driver;
 pub mod encode;
 pub mod encoder_laws;
 pub mod encoder_result;
@@ -13,7 +13,7 @@ pub mod encoder_result;
 mod encoder_tests;
 pub mod form;
 pub mod front;
-pub mod pending;
+mod pending;
 pub mod piece_decoder;
 pub mod raw_decoder;
 pub mod raw_encoder;

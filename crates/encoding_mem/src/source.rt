@@ -141,17 +141,17 @@ fn first_of_units(units: &[u16]) -> Option<(char, usize)>
 #[derive(Drop)]
 pub struct Utf16Source<'a> {
     units: &'a [u16],
-    read: usize,
-    ghost within: { read ≤ length units.now },
+    place: usize,
+    ghost within: { place ≤ length units.now },
 }
 
 impl<'a> Utf16Source<'a> {
     /// None of the units is read.
     pub fn new(units: &'a [u16]) -> Self
         ensures units { result.units.now ≡ units.now }
-        ensures read { result.read ≡ 0 }
+        ensures place { result.place ≡ 0 }
     {
-        Utf16Source { units, read: 0 }
+        Utf16Source { units, place: 0 }
     }
 }
 
@@ -162,19 +162,19 @@ impl<'a> Source for Utf16Source<'a> {
 
     ghost all = { λ s. s.units.now };
 
-    ghost place = { λ s. s.read };
+    ghost place = { λ s. s.place };
 
     fn peek(&self) -> Option<(char, usize)> {
-        first_of_units(&self.units[self.read..])
+        first_of_units(&self.units[self.place..])
     }
 
     fn advance(&mut self) {
-        if let Some((_, n)) = first_of_units(&self.units[self.read..]) {
-            self.read += n;
+        if let Some((_, n)) = first_of_units(&self.units[self.place..]) {
+            self.place += n;
         }
     }
 
     fn read(&self) -> usize {
-        self.read
+        self.place
     }
 }

@@ -17,7 +17,7 @@ use crate::sink::Sink;
 
 /// The rule of UTF-8.
 #[derive(Clone, Copy)]
-pub struct Utf8Front {}
+struct Utf8Front {}
 
 impl FrontPiece for Utf8Front {
     ghost pieces = { λ _ x. pieces_utf8 x };
