@@ -9,3 +9,5 @@ pub mod Sources
 pub mod Units
 pub mod Utf8Chars
 pub mod Utf8Texts
+pub mod AsciiRuns
+pub mod Parts

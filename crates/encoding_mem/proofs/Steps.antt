@@ -1,10 +1,11 @@
 -- The steps of the encoding driver, over texts.
-use Rattle.std.proofs.Common.{◌≡◌, ◌≢◌, ℕ, ◌+◌, ◌-◌, ◌<◌, inr, List, [], ◌∷◌, ◌++◌, length, map, sym, ◌∙◌, ap, subst, refl, arith, Bool, true, false, append_assoc, drop, add-zero, length-append}
+use Rattle.std.proofs.Common.{◌≡◌, ◌≢◌, ℕ, suc, ◌+◌, ◌-◌, ◌<◌, inr, List, [], ◌∷◌, ◌++◌, length, map, sym, ◌∙◌, ap, subst, refl, arith, Bool, true, false, append_assoc, drop, add-zero, length-append}
 use Rattle.std.proofs.lemmas.List.{append-nil, drop-drop, map-append}
 use Rattle.encoding_mem.specs.Coding.{Coding, IsCoding, last_set, reference, bytes, AllMapped, IsMapped}
 use Rattle.encoding_mem.specs.Items.{Byte, LostAt, open_items, whole_items}
 use Rattle.encoding_mem.specs.Encoding.{Encodes}
-use Rattle.encoding_mem.specs.Target.{Tight}
+use Rattle.std.specs.Str.{IsAscii}
+use Rattle.encoding_mem.specs.Target.{CopiesAscii, IsRun, Tight}
 use Rattle.encoding_mem.specs.declared.form.Form.TheVariants.{Mapped, Unmapped}
 use Rattle.encoding_mem.specs.declared.encoder_result.EncoderResult.TheVariants as EncoderResult
 use Rattle.encoding_mem.specs.declared.form.Set.{Set}
@@ -59,6 +60,20 @@ turned need e s t w s1 c d here more rest w1 w2 bs k p at next one two is =
     let same_rest : rest ≡ more = cc in
     let q = rw at at p in
     rw (two, one, same_rest) (formed need e s t _ (e.set s1 c) c more bs k (k.stays s1 c) is (escaped need e s t w s1 c more k q))
+
+-- Of a turn that copies a run of ASCII.
+pub copied : (need : ℕ) (e : Coding) (s : Set) (t w : List ℕ) (s1 : Set) (run rest : List ℕ) → IsCoding need e → CopiesAscii e s1 → IsAscii run
+    → Steps e s t w s1 (run ++ rest) → Steps e s t (w ++ run) s1 rest
+copied need e s t w s1 [] rest k plain low p = subst (λ l. Steps e s t l s1 rest) (sym (append-nil w)) p
+copied need e s t w s1 (c ∷ run) rest k plain low p =
+    let one = plain c (low 0) in
+    subst (λ l. Steps e s t l s1 rest) (append_assoc w (c ∷ []) run)
+    (copied need e s t (w ++ c ∷ []) s1 run rest k plain (λ i. low (suc i)) (formed need e s t w s1 c (run ++ rest) (c ∷ []) k one.0 one.1 p))
+
+pub copied_run : (need : ℕ) (e : Coding) (s : Set) (t w w2 : List ℕ) (s1 : Set) (here rest : List ℕ) → IsCoding need e → CopiesAscii e s1
+    → Steps e s t w s1 here → IsRun here rest w w2 → Steps e s t w2 s1 rest
+copied_run need e s t w w2 s1 here rest k plain p r =
+    subst (λ l. Steps e s t l s1 rest) (sym r.put) (copied need e s t w s1 r.run rest k plain r.ascii (subst (Steps e s t w s1) r.taken p))
 
 -- The escape of a turn alone.
 pub escape_put : (need : ℕ) (e : Coding) (s : Set) (t w : List ℕ) (s1 : Set) (c : ℕ) (here more w1 : List ℕ) → IsCoding need e

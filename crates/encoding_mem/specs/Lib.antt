@@ -28,3 +28,5 @@ pub mod EncodingLaws
 pub mod SampleCoding
 pub mod SampleCodingLaws
 pub mod EncodingRows
+pub mod ReadBack
+pub mod ReadBackLaws

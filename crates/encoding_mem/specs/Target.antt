@@ -1,6 +1,8 @@
 -- What a call of the encoding driver leaves, beside the law of a call.
-use Rattle.std.specs.Prelude.{◌≡◌, ℕ, ◌<◌, List, [], ◌∷◌, length, drop, ◌⊎◌}
+use Rattle.std.specs.Prelude.{◌≡◌, ℕ, ◌<◌, List, [], ◌∷◌, ◌++◌, length, drop, ◌⊎◌}
+use Rattle.std.specs.Str.{IsAscii}
 use Rattle.encoding_mem.specs.Coding.{Coding, bytes}
+use Rattle.encoding_mem.specs.declared.form.Form.TheVariants.{Mapped}
 use Rattle.encoding_mem.specs.declared.form.Set.{Set}
 use Rattle.encoding_mem.specs.declared.form.Set.TheVariants.{Ascii}
 use Rattle.encoding_mem.specs.declared.encoder_result.EncoderResult.{EncoderResult}
@@ -9,6 +11,17 @@ use Rattle.encoding_mem.specs.declared.encoder_result.EncoderResult.TheVariants.
 -- the text from a place of a list on
 abbrev pub left : (List ℕ → List ℕ) → List ℕ → ℕ → List ℕ
 left text all place = text (drop place all)
+
+-- in this set each ASCII character is its own byte, and the set stays
+abbrev pub CopiesAscii : Coding → Set → Type 0
+CopiesAscii e s = (c : ℕ) → c < 0x80 → (e.set s c ≡ s) × (e.form c ≡ Mapped (c ∷ []))
+
+-- a run of ASCII was taken from the text and put behind what was written
+pub record IsRun (text rest written written' : List ℕ) : Type 0 where
+  pub run : List ℕ
+  pub ascii : IsAscii run
+  pub taken : text ≡ run ++ rest
+  pub put : written' ≡ written ++ run
 
 -- A call leaves the set as it was, as some scalar chose it, or ASCII.
 abbrev pub Moves : Coding → Set → Set → Type 0

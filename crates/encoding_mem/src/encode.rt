@@ -1,9 +1,9 @@
 // One driver for all encoders.
 
-ghost use Rattle.std.specs.Prelude.{◌≡◌, ℕ, ◌+◌, ◌-◌, ◌<◌, ◌≤◌, List, [], ◌∷◌, ◌++◌, length, take, drop};
+ghost use Rattle.std.specs.Prelude.{◌≡◌, true, ℕ, ◌+◌, ◌-◌, ◌<◌, ◌≤◌, List, [], ◌∷◌, ◌++◌, length, take, drop};
 ghost use Rattle.encoding_mem.specs.Coding.{Coding, IsCoding};
 ghost use Rattle.encoding_mem.specs.Encoding.{Encodes, Answers};
-ghost use Rattle.encoding_mem.specs.Target.{Moves, Tight, left};
+ghost use Rattle.encoding_mem.specs.Target.{CopiesAscii, IsRun, Moves, Tight, left};
 
 use crate::encoder_result::EncoderResult;
 use crate::form::{Bytes, Form, Set};
@@ -20,6 +20,11 @@ pub trait Target {
     fn step(&self, set: Set, c: char) -> (Set, Form)
         ensures set { result.0 ≡ (coding self.now).set set c }
         ensures form { result.1 ≡ (coding self.now).form c };
+
+    /// Whether in this set each ASCII character is its own byte and leaves the set as it is, so that a run
+    /// of them can be copied.
+    fn copies_ascii(&self, set: Set) -> bool
+        ensures { result ≡ true → CopiesAscii (coding self.now) set };
 
     /// The escape from one set to another.
     fn escape(&self, from: Set, to: Set) -> Bytes
@@ -38,6 +43,22 @@ fn put(dst: &mut [u8], at: usize, bytes: &[u8]) -> usize
     let end = at + bytes.len();
     dst[at..end].copy_from_slice(bytes);
     end
+}
+
+// Copies the run of ASCII that is next to a place, as much of it as fits, and answers the place behind it.
+fn copy_run<S: Source>(source: &mut S, dst: &mut [u8], at: usize) -> usize
+    requires { at ≤ length dst.old }
+    ensures same { S.all source.new ≡ S.all source.old }
+    ensures room { result ≤ length dst.new }
+    ensures run { IsRun (left S.text (S.all source.old) (S.place source.old)) (left S.text (S.all source.old) (S.place source.new))
+        (take at dst.old) (take result dst.new) }
+    ensures behind { drop result dst.new ≡ drop result dst.old }
+    ensures after { at ≤ result }
+    ensures some { (c : ℕ) (rest : List ℕ) → left S.text (S.all source.old) (S.place source.old) ≡ c ∷ rest
+        → c < 0x80 → at < length dst.old
+        → length (left S.text (S.all source.old) (S.place source.new)) < length (left S.text (S.all source.old) (S.place source.old)) }
+{
+    at + source.copy_ascii(&mut dst[at..])
 }
 
 /// Encodes what is left of a source, from a set. Answers how it ended and how many bytes are written.
@@ -61,6 +82,10 @@ pub fn encode<T: Target, S: Source>(
 {
     let mut written = 0;
     while let Some((c, _)) = source.peek() {
+        if u32::from(c) < 0x80 && written < dst.len() && target.copies_ascii(*set) {
+            written = copy_run(source, dst, written);
+            continue;
+        }
         let (next, form) = target.step(*set, c);
         let escape = target.escape(*set, next);
         let bytes = escape.as_slice();

@@ -5,6 +5,8 @@ ghost use Rattle.std.specs.Str.{encode_utf8_all};
 ghost use Rattle.encoding_mem.specs.Coding.{Coding, open_from, whole_from, output, lost_count};
 ghost use Rattle.encoding_mem.specs.Items.{bytes_of, open_items, whole_items};
 ghost use Rattle.encoding_mem.specs.Encoding.{Encodes, Writes};
+ghost use Rattle.encoding_mem.specs.ReadBack.{ReadsBackExactly};
+ghost use Rattle.encoding_mem.specs.Utf8.{pieces_utf8};
 ghost use Rattle.encoding_mem.specs.Utf8Coding.{utf8_coding};
 ghost use Rattle.encoding_mem.specs.declared.encoder_result.EncoderResult.{EncoderResult};
 ghost use Rattle.encoding_mem.specs.declared.form.Set.{Set};
@@ -22,8 +24,9 @@ pub fn bytes_of_items()
     ensures whole { (e : Coding) (s : Set) (i : ℕ) (t : List ℕ) → bytes_of (whole_items e true s i t) ≡ whole_from e s t }
 {}
 
-/// The output in UTF-8 is the UTF-8 of each character, and no character is lost.
+/// The output in UTF-8 is the UTF-8 of each character, no character is lost, and it reads back.
 pub fn utf8_output()
     ensures bytes { (t : List ℕ) → output utf8_coding t ≡ encode_utf8_all t }
     ensures lost { (t : List ℕ) → lost_count utf8_coding t ≡ 0 }
+    ensures reads_back { ReadsBackExactly pieces_utf8 utf8_coding }
 {}

@@ -40,6 +40,10 @@ impl Target for Sample {
         }
     }
 
+    fn copies_ascii(&self, set: Set) -> bool {
+        matches!(set, Set::Ascii | Set::Roman)
+    }
+
     fn escape(&self, from: Set, to: Set) -> Bytes {
         match (from, to) {
             (Set::Ascii, Set::Ascii) | (Set::Roman, Set::Roman) | (Set::Jis, Set::Jis) =>

@@ -1,9 +1,11 @@
 // A text that is read from the front.
 
-ghost use Rattle.std.specs.Prelude.{◌≡◌, ℕ, ◌+◌, ◌<◌, ◌≤◌, List, [], ◌∷◌, ◌++◌, length, take, drop, MatchOption, IfSome};
-ghost use Rattle.std.specs.Str.{chars, IsCharBoundary};
+ghost use Rattle.std.specs.Prelude.{◌≡◌, ℕ, ◌+◌, ◌<◌, ◌≤◌, List, [], ◌∷◌, ◌++◌, length, take, drop, slice_index, MatchOption, IfSome};
+ghost use Rattle.std.specs.Str.{chars, IsAscii, IsCharBoundary};
 ghost use Rattle.std.specs.Char.{len_utf8, encode_utf8, IsScalar};
 ghost use Rattle.std.specs.Char.Utf16.{utf16_lossy_chars};
+
+use crate::ascii::ascii_front;
 
 /// A source of characters: a list of bytes or units, which stays as it is, and a place in it.
 pub trait Source {
@@ -31,6 +33,18 @@ pub trait Source {
         ensures same { all self.new ≡ all self.old }
         ensures next { (c : ℕ) × (text (drop (place self.old) (all self.old)) ≡ c ∷ text (drop (place self.new) (all self.new))) };
 
+    /// Copies the run of ASCII that is next, as much of it as fits, and goes past it. Answers its length
+    /// in characters, which is not 0 where the next character is ASCII and there is room.
+    fn copy_ascii(&mut self, dst: &mut [u8]) -> usize
+        ensures same { all self.new ≡ all self.old }
+        ensures fits { result ≤ length dst.new }
+        ensures behind { drop result dst.new ≡ drop result dst.old }
+        ensures ascii { IsAscii (take result dst.new) }
+        ensures text { text (drop (place self.old) (all self.old))
+            ≡ take result dst.new ++ text (drop (place self.new) (all self.new)) }
+        ensures some { (c : ℕ) (rest : List ℕ) → text (drop (place self.old) (all self.old)) ≡ c ∷ rest
+            → c < 0x80 → 0 < length dst.old → 0 < result };
+
     /// How many bytes or units were read. They end between characters.
     fn read(&self) -> usize
         ensures place { result ≡ place self.now }
@@ -49,6 +63,19 @@ fn first_char(text: &str) -> Option<(char, &str)>
         Some(c) => Some((c, rest.as_str())),
         None => None,
     }
+}
+
+// The run of ASCII at the front of a text, at most so many bytes of it, and what follows.
+fn ascii_run(text: &str, most: usize) -> (&str, &str)
+    ensures bytes { text.now ≡ result.0.now ++ result.1.now }
+    ensures chars { chars text.now ≡ result.0.now ++ chars result.1.now }
+    ensures ascii { IsAscii result.0.now }
+    ensures few { length result.0.now ≤ most }
+    ensures boundary { IsCharBoundary text.now (length result.0.now) }
+    ensures some { (c : ℕ) (rest : List ℕ) → chars text.now ≡ c ∷ rest → c < 0x80 → 0 < most → 0 < length result.0.now }
+{
+    let run = ascii_front(&text.as_bytes()[..text.len().min(most)]);
+    text.split_at(run.len())
 }
 
 /// The characters of a text, read from its start.
@@ -99,6 +126,15 @@ impl<'a> Source for Utf8Source<'a> {
         }
     }
 
+    fn copy_ascii(&mut self, dst: &mut [u8]) -> usize {
+        let (run, rest) = ascii_run(self.rest, dst.len());
+        let count = run.len();
+        dst[..count].copy_from_slice(run.as_bytes());
+        self.rest = rest;
+        self.read += count;
+        count
+    }
+
     fn read(&self) -> usize {
         self.read
     }
@@ -137,6 +173,25 @@ fn first_of_units(units: &[u16]) -> Option<(char, usize)>
     Some(('\u{fffd}', 1))
 }
 
+// Copies the run of ASCII at the front of units, as much of it as fits, and answers its length.
+fn narrow_ascii(units: &[u16], dst: &mut [u8]) -> usize
+    ensures within { result ≤ length units.now }
+    ensures size { length dst.new ≡ length dst.old }
+    ensures fits { result ≤ length dst.old }
+    ensures behind { drop result dst.new ≡ drop result dst.old }
+    ensures copied { take result dst.new ≡ take result units.now }
+    ensures ascii { IsAscii (take result units.now) }
+    ensures longest { result < length units.now → result < length dst.old → 0x80 ≤ slice_index units.now result }
+{
+    let end = units.len().min(dst.len());
+    let mut n = 0;
+    'units: while n < end && units[n] < 0x80 {
+        dst[n] = units[n] as u8;
+        n += 1;
+    }
+    n
+}
+
 /// The characters of units of UTF-16, read from their start. A surrogate in no pair is U+FFFD.
 #[derive(Drop)]
 pub struct Utf16Source<'a> {
@@ -172,6 +227,12 @@ impl<'a> Source for Utf16Source<'a> {
         if let Some((_, n)) = first_of_units(&self.units[self.place..]) {
             self.place += n;
         }
+    }
+
+    fn copy_ascii(&mut self, dst: &mut [u8]) -> usize {
+        let count = narrow_ascii(&self.units[self.place..], dst);
+        self.place += count;
+        count
     }
 
     fn read(&self) -> usize {

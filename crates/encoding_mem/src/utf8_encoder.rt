@@ -55,6 +55,10 @@ impl Target for Utf8 {
         (Set::Ascii, Form::Mapped(bytes_of_char(c)))
     }
 
+    fn copies_ascii(&self, set: Set) -> bool {
+        matches!(set, Set::Ascii)
+    }
+
     fn escape(&self, _from: Set, _to: Set) -> Bytes {
         Bytes::none()
     }

@@ -1,6 +1,6 @@
-use Rattle.std.proofs.Common.{◌++◌, ◌∷◌, take, sym, ◌∙◌, ap, arith, inl, inr}
-use Rattle.encoding_mem.proofs.Steps.{full, turned, escape_put, unmapped, ended, behind_put, escape_is, escape_over, form_over, some_left, tight_form, not_ascii}
-use Rattle.encoding_mem.specs.Target.{left}
+use Rattle.std.proofs.Common.{◌-◌, ◌++◌, ◌∷◌, take, sym, ◌∙◌, ap, subst, arith, inl, inr}
+use Rattle.encoding_mem.proofs.Steps.{copied_run, full, turned, escape_put, unmapped, ended, behind_put, escape_is, escape_over, form_over, some_left, tight_form, not_ascii}
+use Rattle.encoding_mem.specs.Target.{IsRun, left}
 use Rattle.encoding_mem.proofs.encode.encode.Goals as goal
 
 pub returns-then-dst-written-clause-law : goal.returns-then-dst-written-clause-law
@@ -28,6 +28,19 @@ loop-c-preserved g c = record {
       let two = c.put-written-in-Mapped.ensures.front ∙ ap (λ l. take c.put-written.result c.put-written.new.dst ++ l) c.as_slice-bytes-in-Mapped.ensures.value in
       rw c.step-next.ensures.set (turned _ _ _ _ _ _ _ _ _ _ _ _ _ _ (g.met.T.Target.laws c.args.target.now) c.loop-c.invariant.steps at next one two (sym c.step-next.ensures.form ∙ c.in-Mapped.is));
 }
+
+pub loop-c-preserved-then-copies_ascii : goal.loop-c-preserved-then-copies_ascii
+loop-c-preserved-then-copies_ascii g c =
+    let e = c.copy_run-written.ensures in
+    let i = c.loop-c.invariant in
+    record {
+      room = e.room;
+      behind = behind_put _ _ _ c.loop-c.written (c.copy_run-written.result - c.loop-c.written) c.copy_run-written.result (omega (arith, e.after)) i.behind e.behind;
+      source = e.same ∙ i.source;
+      moves = i.moves;
+      steps = copied_run _ _ _ _ _ _ _ _ _ (g.met.T.Target.laws c.args.target.now) (c.copies_ascii.ensures c.if-copies_ascii.true) i.steps
+          (subst (λ l. IsRun (left g.S.Source.text l (g.S.Source.place c.loop-c.source)) (left g.S.Source.text l (g.S.Source.place c.copy_run-written.new.source)) (take c.loop-c.written c.loop-c.dst) (take c.copy_run-written.result c.copy_run-written.new.dst)) i.source e.run);
+    }
 
 pub returns-in-Unmapped-clause-behind : goal.returns-in-Unmapped-clause-behind
 returns-in-Unmapped-clause-behind g c = behind_put _ _ _ _ _ _ c.put-written.ensures.end c.loop-c.invariant.behind c.put-written.ensures.back

@@ -1,3 +1,4 @@
+use Rattle.encoding_mem.specs.ReadBackLaws.{utf8_exact}
 use Rattle.encoding_mem.specs.EncodingLaws.{utf8_output, utf8_lost_count}
 use Rattle.encoding_mem.proofs.encoder_laws.utf8_output.Goals as goal
 
@@ -6,3 +7,6 @@ returns-clause-bytes c = utf8_output
 
 pub returns-clause-lost : goal.returns-clause-lost
 returns-clause-lost c = utf8_lost_count
+
+pub returns-clause-reads_back : goal.returns-clause-reads_back
+returns-clause-reads_back c = utf8_exact

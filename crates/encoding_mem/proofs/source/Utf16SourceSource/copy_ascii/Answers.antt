@@ -1,0 +1,14 @@
+use Rattle.std.proofs.Common.{◌∙◌, ap}
+use Rattle.std.specs.Char.Utf16.{utf16_lossy_chars}
+use Rattle.std.proofs.lemmas.List.{take_rest}
+use Rattle.encoding_mem.proofs.AsciiRuns.{past_units, units_some}
+use Rattle.encoding_mem.proofs.source.Utf16SourceSource.copy_ascii.Goals as goal
+
+pub returns-clause-text : goal.returns-clause-text
+returns-clause-text c =
+    let n = c.narrow_ascii-count.ensures in
+    past_units _ _ _ c.args.self.now.place _ (take_rest c.args.self.now.units.now c.args.self.now.place) n.within n.copied n.ascii
+
+pub returns-clause-some : goal.returns-clause-some
+returns-clause-some c = λ first rest at low some.
+    units_some _ _ _ first rest c.narrow_ascii-count.ensures.longest (ap utf16_lossy_chars (take_rest c.args.self.now.units.now c.args.self.now.place) ∙ at) low some

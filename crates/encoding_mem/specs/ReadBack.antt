@@ -1,0 +1,14 @@
+-- Reading back what a target has written.
+use Rattle.std.specs.Prelude.{◌≡◌, ℕ, ◌↔◌, true, List}
+use Rattle.std.specs.Str.{all_scalars}
+use Rattle.encoding_mem.specs.Piece.{Piece, text, AreGood}
+use Rattle.encoding_mem.specs.Coding.{Coding, AllMapped, output}
+
+-- Decoded into these pieces, bytes have no bad piece and are the text.
+pub record ReadsAs (pieces : List ℕ → List Piece) (bytes t : List ℕ) : Type 0 where
+  pub good : AreGood (pieces bytes)
+  pub same : text (pieces bytes) ≡ t
+
+-- The output for a text reads as the text exactly where each scalar of it has bytes.
+abbrev pub ReadsBackExactly : (List ℕ → List Piece) → Coding → Type 0
+ReadsBackExactly pieces e = (t : List ℕ) → all_scalars t ≡ true → ReadsAs pieces (output e t) t ↔ AllMapped e t
