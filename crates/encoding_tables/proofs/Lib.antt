@@ -1,0 +1,5 @@
+mod OptionCases
+mod IndexSlots
+mod IndexEntries
+mod RangeRows
+mod RowNames

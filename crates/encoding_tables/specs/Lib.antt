@@ -1,0 +1,10 @@
+pub mod Kinds
+pub mod Lookups
+pub mod Ranges
+pub mod RangeFaults
+pub mod TableFaults
+pub mod IndexLists
+pub mod RangeLaws
+pub mod NamedRows
+pub mod SingleByte
+pub mod SingleByteLaws

@@ -1,6 +1,14 @@
-//! The tables that decoders and encoders look characters up in.
+//! The indexes of the Encoding Standard, as checked tables, and the single-byte codecs over them.
 #![tactic(auto)]
 
+pub mod accept;
+pub mod flat;
+pub mod index_kind;
+pub mod ranges;
+pub mod table_fault;
 pub mod tables;
 
+pub use flat::Flat;
+pub use index_kind::IndexKind;
+pub use table_fault::TableFault;
 pub use tables::Tables;

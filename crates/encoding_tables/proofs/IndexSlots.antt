@@ -1,0 +1,83 @@
+-- Lists by the kinds' numbers.
+use Rattle.std.proofs.Common.{◌≡◌, ◌≢◌, ℕ, ◌<◌, List, [], ◌∷◌, length, sym, ◌∙◌, ap, refl, map, Option, None, Some, get_or, Bool, true, false, inl, inr}
+use Rattle.std.proofs.lemmas.List.{map-set, get_or-set_same, get_or-set_other, length-map}
+use Rattle.std.proofs.Math.ListN.{set}
+use Rattle.encoding_tables.specs.Kinds.{number}
+use Rattle.std.proofs.lemmas.Bool.{cases_eq}
+use Rattle.encoding_tables.specs.TableFaults.{flat_fault}
+use Rattle.encoding_tables.specs.IndexLists.{flat_at, AreAccepted}
+use Rattle.encoding_tables.specs.declared.table_fault.TableFault.TheVariants.{Present}
+use Rattle.encoding_tables.specs.declared.index_kind.IndexKind.{IndexKind}
+use Rattle.encoding_tables.specs.declared.index_kind.IndexKind.TheVariants.{Ibm866, Iso8859_2, Iso8859_3, Iso8859_4, Iso8859_5, Iso8859_6, Iso8859_7, Iso8859_8, Iso8859_10, Iso8859_13, Iso8859_14, Iso8859_15, Iso8859_16, Koi8R, Koi8U, Macintosh, Windows874, Windows1250, Windows1251, Windows1252, Windows1253, Windows1254, Windows1255, Windows1256, Windows1257, Windows1258, XMacCyrillic, Big5, EucKr, Gb18030, Gb18030Ranges, Jis0208, Jis0212, Iso2022JpKatakana}
+
+-- the kind with a number, among all
+kind_at : List IndexKind
+kind_at = Ibm866 ∷ Iso8859_2 ∷ Iso8859_3 ∷ Iso8859_4 ∷ Iso8859_5 ∷ Iso8859_6 ∷ Iso8859_7 ∷ Iso8859_8 ∷ Iso8859_10 ∷ Iso8859_13 ∷ Iso8859_14 ∷ Iso8859_15 ∷ Iso8859_16 ∷ Koi8R ∷ Koi8U ∷ Macintosh ∷ Windows874 ∷ Windows1250 ∷ Windows1251 ∷ Windows1252 ∷ Windows1253 ∷ Windows1254 ∷ Windows1255 ∷ Windows1256 ∷ Windows1257 ∷ Windows1258 ∷ XMacCyrillic ∷ Big5 ∷ EucKr ∷ Gb18030 ∷ Gb18030Ranges ∷ Jis0208 ∷ Jis0212 ∷ Iso2022JpKatakana ∷ []
+
+again : (k : IndexKind) → get_or kind_at (number k) Ibm866 ≡ k
+unfolding kind_at
+again Ibm866 = refl
+again Iso8859_2 = refl
+again Iso8859_3 = refl
+again Iso8859_4 = refl
+again Iso8859_5 = refl
+again Iso8859_6 = refl
+again Iso8859_7 = refl
+again Iso8859_8 = refl
+again Iso8859_10 = refl
+again Iso8859_13 = refl
+again Iso8859_14 = refl
+again Iso8859_15 = refl
+again Iso8859_16 = refl
+again Koi8R = refl
+again Koi8U = refl
+again Macintosh = refl
+again Windows874 = refl
+again Windows1250 = refl
+again Windows1251 = refl
+again Windows1252 = refl
+again Windows1253 = refl
+again Windows1254 = refl
+again Windows1255 = refl
+again Windows1256 = refl
+again Windows1257 = refl
+again Windows1258 = refl
+again XMacCyrillic = refl
+again Big5 = refl
+again EucKr = refl
+again Gb18030 = refl
+again Gb18030Ranges = refl
+again Jis0208 = refl
+again Jis0212 = refl
+again Iso2022JpKatakana = refl
+
+pub number-apart : (a b : IndexKind) → a ≢ b → number a ≢ number b
+number-apart a b h e = h (sym (again a) ∙ ap (λ n. get_or kind_at n Ibm866) e ∙ again b)
+
+pub index-put : {X : Type 0} (f : X → Option (List ℕ)) (slots : List X) (n : ℕ) (x : X) (kind : IndexKind) → n ≡ number kind → n < length slots
+    → flat_at (map f (set slots n x)) kind ≡ f x
+index-put f slots n x kind is within =
+    let within_map : n < length (map f slots) = rw length-map within in
+    rw (← is, map-set f slots n x) (get_or-set_same (map f slots) n (f x) None within_map)
+
+pub index-others : {X : Type 0} (f : X → Option (List ℕ)) (slots : List X) (n : ℕ) (x : X) (kind k : IndexKind) → n ≡ number kind → k ≢ kind
+    → flat_at (map f (set slots n x)) k ≡ flat_at (map f slots) k
+index-others f slots n x kind k is apart =
+    rw (map-set f slots n x, is) (get_or-set_other (map f slots) (number kind) (number k) (f x) None (number-apart k kind apart))
+
+number-same : (a b : IndexKind) → number a ≡ number b → a ≡ b
+number-same a b e = sym (again a) ∙ ap (λ n. get_or kind_at n Ibm866) e ∙ again b
+
+pub accepted-put : {X : Type 0} (f : X → Option (List ℕ)) (slots : List X) (n : ℕ) (x : X) (kind : IndexKind) (flat : List ℕ) → n ≡ number kind → n < length slots
+    → f x ≡ Some flat → flat_fault false kind flat ≡ None → AreAccepted (map f slots) → AreAccepted (map f (set slots n x))
+accepted-put f slots n x kind flat is within gives good before k = elim (cases_eq (number k) (number kind)) [
+  | inl same ↦ rw (index-put f slots n x k (is ∙ sym same) within, gives) (rw (number-same k kind same) good)
+  | inr apart ↦ rw (index-others f slots n x kind k is (λ e. apart (ap number e))) (before k)
+]
+
+pub no_fault : (there : Bool) (kind : IndexKind) (flat : List ℕ) → flat_fault there kind flat ≡ None → flat_fault false kind flat ≡ None
+no_fault true kind flat e = absurd (clash e)
+  where
+    clash : Some Present ≡ None → ⊥
+    clash h = cc
+no_fault false kind flat e = e

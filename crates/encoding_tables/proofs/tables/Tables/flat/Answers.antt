@@ -1,0 +1,5 @@
+use Rattle.encoding_tables.proofs.IndexEntries.{entries_are_scalars}
+use Rattle.encoding_tables.proofs.tables.Tables.flat.Goals as goal
+
+pub new-requires : goal.new-requires
+new-requires c = entries_are_scalars c.args.kind c.list.result.now c.list.ensures.accepted

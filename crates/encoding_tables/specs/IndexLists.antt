@@ -1,0 +1,38 @@
+-- What tables hold, as their callers see it.
+use Rattle.std.specs.Prelude.{◌≡◌, ℕ, Bool, false, List, [], is_some, if◌then◌else◌, Option, None, slice_index_or, IfSome}
+use Rattle.std.specs.Option.{unwrap_or}
+use Rattle.encoding_tables.specs.Kinds.{number, is_ranges}
+use Rattle.encoding_tables.specs.RangeFaults.{bad_row}
+use Rattle.encoding_tables.specs.TableFaults.{flat_fault}
+use Rattle.encoding_tables.specs.declared.index_kind.IndexKind.{IndexKind}
+
+-- the lists, in the order of the kinds, and the rows of the ranges
+pub record IndexLists : Type 0 where
+  pub flats : List (Option (List ℕ))
+  pub rows : Option (List (ℕ × ℕ))
+
+-- the list of a kind among lists in the order of the kinds
+abbrev pub flat_at : List (Option (List ℕ)) → IndexKind → Option (List ℕ)
+flat_at flats kind = slice_index_or flats (number kind) None
+
+-- the list of a kind, if it is there
+abbrev pub flat_of : IndexLists → IndexKind → Option (List ℕ)
+flat_of tables kind = flat_at tables.flats kind
+
+-- whether a kind is there
+abbrev pub has : IndexLists → IndexKind → Bool
+has tables kind = if is_ranges kind then is_some tables.rows else is_some (flat_of tables kind)
+
+-- the entries of a kind that is there, and the rows where they are
+abbrev pub entries_of : IndexLists → IndexKind → List ℕ
+entries_of tables kind = unwrap_or (flat_of tables kind) []
+
+abbrev pub rows_of : IndexLists → List (ℕ × ℕ)
+rows_of tables = unwrap_or tables.rows []
+
+-- no list has a fault, and the rows have none
+abbrev pub AreAccepted : List (Option (List ℕ)) → Type 0
+AreAccepted flats = (kind : IndexKind) → IfSome (flat_at flats kind) (λ flat. flat_fault false kind flat ≡ None)
+
+abbrev pub AreTaken : List (Option (List ℕ)) → Option (List (ℕ × ℕ)) → Type 0
+AreTaken flats rows = AreAccepted flats × IfSome rows (λ r. bad_row r ≡ None)

@@ -1,0 +1,36 @@
+-- Look-ups in a flat list, where an entry 0 is none.
+use Rattle.std.proofs.Common.{refl}
+use Rattle.std.specs.Prelude.{◌≡◌, ◌≢◌, ℕ, ◌+◌, Bool, List, [], ◌∷◌, ◌==◌, if◌then◌else◌, Option, None, Some, slice_range, slice_index}
+use Rattle.std.specs.Char.{IsScalar}
+use Rattle.std.specs.List.{position}
+use Rattle.std.specs.Option.{option_map, option_or}
+
+-- the entry at a pointer; 0 and what is past the end are none
+abbrev pub value_of : List ℕ → ℕ → Option ℕ
+value_of flat p = if slice_index flat p == 0 then None else Some (slice_index flat p)
+
+-- each entry is 0 or a scalar
+abbrev pub AreEntries : List ℕ → Type 0
+AreEntries flat = (p : ℕ) → slice_index flat p ≢ 0 → IsScalar (slice_index flat p)
+
+-- the last index at which a test passes
+abbrev pub last_position : {X : Type 0} → (X → Bool) → List X → Option ℕ
+last_position test [] = None
+last_position test (x ∷ xs) = option_or (option_map (λ k. k + 1) (last_position test xs)) (if test x then Some 0 else None)
+
+-- the least pointer from `from` to below `to` with the entry c
+abbrev pub first_pointer : List ℕ → ℕ → ℕ → ℕ → Option ℕ
+first_pointer flat c from to = if c == 0 then None else option_map (λ k. from + k) (position (λ v. v == c) (slice_range flat from to))
+
+-- the greatest one
+abbrev pub last_pointer : List ℕ → ℕ → ℕ → ℕ → Option ℕ
+last_pointer flat c from to = if c == 0 then None else option_map (λ k. from + k) (last_position (λ v. v == c) (slice_range flat from to))
+
+first : first_pointer (0 ∷ 0xe9 ∷ 0xe9 ∷ []) 0xe9 0 3 ≡ Some 1
+first = refl
+
+last : last_pointer (0 ∷ 0xe9 ∷ 0xe9 ∷ 0 ∷ []) 0xe9 0 9 ≡ Some 2
+last = refl
+
+unmapped : first_pointer (0 ∷ 0xe9 ∷ []) 0 0 2 ≡ None
+unmapped = refl

@@ -1,0 +1,62 @@
+-- Which rows are taken as ranges, and which row is named in the others.
+use Rattle.std.proofs.Common.{refl}
+use Rattle.std.specs.Prelude.{◌≡◌, ℕ, ◌+◌, ◌-◌, Bool, List, [], ◌∷◌, nat_lt, not, ◌||◌, ◌&&◌, if◌then◌else◌, min, max, Option, None, Some}
+use Rattle.std.specs.Option.{option_map, option_or, option_and_then}
+use Rattle.encoding_tables.specs.Ranges.{end_by}
+
+-- the first row whose pointer is below `from`, or not above the row before's, or above 1237575
+abbrev pub first_out_of_order : ℕ → ℕ → List (ℕ × ℕ) → Option ℕ
+first_out_of_order row from [] = None
+first_out_of_order row from (r ∷ rows) = if nat_lt r.0 from || nat_lt 1237575 r.0 then Some row else first_out_of_order (row + 1) (r.0 + 1) rows
+
+-- the numbers from `first` to below `end` are scalars from `least`
+abbrev pub are_scalars : ℕ → ℕ → ℕ → Bool
+are_scalars least first end = not (nat_lt first least) && (not (nat_lt 0xd800 end) || (not (nat_lt first 0xe000) && not (nat_lt 0x110000 end)))
+
+-- one above the values of a row from the pointer `from` to below `to`, or `least` if there are none; None where a value is no scalar from `least`
+abbrev pub above_values : ℕ × ℕ → ℕ → ℕ → ℕ → Option ℕ
+above_values r from to least = if not (nat_lt from to) then Some least
+    else if are_scalars least (r.1 + (from - r.0)) (r.1 + (to - r.0)) then Some (r.1 + (to - r.0)) else None
+
+-- the same for the valid pointers from a row's own to below `end`
+abbrev pub above_row : ℕ × ℕ → ℕ → ℕ → Option ℕ
+above_row r end least = option_and_then (above_values r (max r.0 189000) end) (above_values r r.0 (min end 39420) least)
+
+-- the first row with a value that is no scalar from `least`, or not above those of the rows before
+abbrev pub first_bad_value : ℕ → ℕ → List (ℕ × ℕ) → Option ℕ
+first_bad_value row least [] = None
+first_bad_value row least (r ∷ rows) = elim (above_row r (end_by rows) least) [ None ↦ Some row | Some above ↦ first_bad_value (row + 1) above rows ]
+
+-- the row that is named
+abbrev pub bad_row : List (ℕ × ℕ) → Option ℕ
+bad_row rows = option_or (first_out_of_order 0 0 rows) (first_bad_value 0 0x80 rows)
+
+too_close : bad_row ((0, 0x80) ∷ (36, 0x80) ∷ []) ≡ Some 1
+too_close = refl
+
+no_value_to_clash : bad_row ((39420, 0x80) ∷ (189000, 0x10000) ∷ []) ≡ None
+no_value_to_clash = refl
+
+too_far : bad_row ((7457, 0x1e3f) ∷ (7458, 0x1e40) ∷ []) ≡ Some 1
+too_far = refl
+
+in_two_parts : bad_row ((7457, 0x1e3f) ∷ (7458, 0x1e40) ∷ (39420, 0x80) ∷ (189000, 0x10000) ∷ []) ≡ None
+in_two_parts = refl
+
+low : bad_row ((0, 0x7f) ∷ []) ≡ Some 0
+low = refl
+
+past_the_end : bad_row ((189000, 0x10001) ∷ []) ≡ Some 0
+past_the_end = refl
+
+surrogate : bad_row ((0, 0xd7ff) ∷ (2, 0xe000) ∷ []) ≡ Some 0
+surrogate = refl
+
+same_pointer : bad_row ((5, 0x80) ∷ (5, 0x90) ∷ []) ≡ Some 1
+same_pointer = refl
+
+order_comes_first : bad_row ((0, 0x7f) ∷ (1237576, 0x80) ∷ []) ≡ Some 1
+order_comes_first = refl
+
+none : bad_row [] ≡ None
+none = refl

@@ -1,0 +1,64 @@
+-- Which lists are taken as indexes, and what is wrong with the others.
+use Rattle.std.specs.Prelude.{◌≡◌, ℕ, ◌+◌, Bool, List, [], ◌∷◌, length, ◌&&◌, ◌||◌, ◌==◌, nat_lt, not, if◌then◌else◌, Option, None, Some, slice_range, replicate, true, false}
+use Rattle.std.proofs.Common.{refl}
+use Rattle.std.specs.List.{position}
+use Rattle.std.specs.Option.{option_map, option_or}
+use Rattle.encoding_tables.specs.Kinds.{number, size_of}
+use Rattle.encoding_tables.specs.RangeFaults.{bad_row}
+use Rattle.encoding_tables.specs.declared.index_kind.IndexKind.{IndexKind}
+use Rattle.encoding_tables.specs.declared.index_kind.IndexKind.TheVariants.{Big5, Jis0208, Windows1252}
+use Rattle.encoding_tables.specs.declared.table_fault.TableFault.{TableFault}
+use Rattle.encoding_tables.specs.declared.table_fault.TableFault.TheVariants.{Present, Size, Entry, Reserved, Ranges}
+
+abbrev pub is_kind : IndexKind → IndexKind → Bool
+is_kind a b = number a == number b
+
+-- 0, a scalar from U+0080 in the basic plane, or in Big5 one of plane 2
+abbrev pub is_entry_of : IndexKind → ℕ → Bool
+is_entry_of kind v = v == 0 || (not (nat_lt v 0x80) && nat_lt v 0xD800) || (not (nat_lt v 0xE000) && nat_lt v 0x10000)
+    || ((is_kind kind Big5 && not (nat_lt v 0x20000)) && nat_lt v 0x30000)
+
+-- the first entry that a list of the kind may not have
+abbrev pub first_bad_entry : IndexKind → List ℕ → Option ℕ
+first_bad_entry kind flat = position (λ v. not (is_entry_of kind v)) flat
+
+-- the first mapped pointer among those at which Shift_JIS has end-user-defined characters
+abbrev pub first_reserved : List ℕ → Option ℕ
+first_reserved flat = option_map (λ k. 8836 + k) (position (λ v. not (v == 0)) (slice_range flat 8836 10716))
+
+abbrev pub reserved_fault : IndexKind → List ℕ → Option TableFault
+reserved_fault kind flat = if is_kind kind Jis0208 then option_map Reserved (first_reserved flat) else None
+
+-- the first fault of a list, in this order
+abbrev pub flat_fault : Bool → IndexKind → List ℕ → Option TableFault
+flat_fault there kind flat = if there then Some Present
+    else if not (length flat == size_of kind) then Some Size
+    else option_or (option_map Entry (first_bad_entry kind flat)) (reserved_fault kind flat)
+
+-- the first fault of rows
+abbrev pub range_fault : Bool → List (ℕ × ℕ) → Option TableFault
+range_fault there rows = if there then Some Present else option_map Ranges (bad_row rows)
+
+short : flat_fault false Windows1252 (replicate 127 0) ≡ Some Size
+short = refl
+
+nothing_mapped : flat_fault false Windows1252 (replicate 128 0) ≡ None
+nothing_mapped = refl
+
+repeated : flat_fault false Windows1252 (replicate 128 0xE9) ≡ None
+repeated = refl
+
+ascii : flat_fault false Windows1252 (0x41 ∷ replicate 127 0) ≡ Some (Entry 0)
+ascii = refl
+
+surrogate : flat_fault false Windows1252 (0 ∷ 0xD800 ∷ replicate 126 0) ≡ Some (Entry 1)
+surrogate = refl
+
+second_plane : is_entry_of Big5 0x2008A ≡ true
+second_plane = refl
+
+other_plane : is_entry_of Windows1252 0x2008A ≡ false
+other_plane = refl
+
+there_already : flat_fault true Windows1252 [] ≡ Some Present
+there_already = refl

@@ -1,0 +1,86 @@
+ghost use Rattle.std.specs.Prelude.{◌≡◌, ◌<◌, ◌↔◌, IsTrue};
+ghost use Rattle.encoding_tables.specs.Kinds.{number, size_of, is_ranges, is_single_byte};
+
+/// The indexes of the Encoding Standard (section 5, "Indexes"): those of the single-byte encodings, and
+/// those of the multi-byte ones. ISO-8859-8-I has that of ISO-8859-8.
+#[derive(Clone, Copy, Debug, PartialEq, Eq)]
+pub enum IndexKind {
+    Ibm866,
+    Iso8859_2,
+    Iso8859_3,
+    Iso8859_4,
+    Iso8859_5,
+    Iso8859_6,
+    Iso8859_7,
+    Iso8859_8,
+    Iso8859_10,
+    Iso8859_13,
+    Iso8859_14,
+    Iso8859_15,
+    Iso8859_16,
+    Koi8R,
+    Koi8U,
+    Macintosh,
+    Windows874,
+    Windows1250,
+    Windows1251,
+    Windows1252,
+    Windows1253,
+    Windows1254,
+    Windows1255,
+    Windows1256,
+    Windows1257,
+    Windows1258,
+    XMacCyrillic,
+    Big5,
+    EucKr,
+    Gb18030,
+    /// The only one with rows, each of which stands for a range of pointers.
+    Gb18030Ranges,
+    Jis0208,
+    Jis0212,
+    Iso2022JpKatakana,
+}
+
+impl IndexKind {
+    /// How many entries the list of this kind has: one more than its greatest pointer can be. 0 for the
+    /// ranges, which have rows and no list.
+    pub fn size(self) -> usize
+        ensures { result ≡ size_of self }
+    {
+        match self {
+            IndexKind::Big5 => 19782,
+            IndexKind::EucKr | IndexKind::Gb18030 => 23940,
+            IndexKind::Gb18030Ranges => 0,
+            IndexKind::Jis0208 => 11280,
+            IndexKind::Jis0212 => 8836,
+            IndexKind::Iso2022JpKatakana => 63,
+            _ => 128,
+        }
+    }
+
+    /// Whether this kind has rows and no list.
+    pub fn is_ranges(self) -> bool
+        ensures { result ≡ is_ranges self }
+    {
+        match self {
+            IndexKind::Gb18030Ranges => true,
+            _ => false,
+        }
+    }
+
+    /// Whether this is the index of a single-byte encoding. Its list has 128 entries.
+    pub fn is_single_byte(self) -> bool
+        ensures { result ≡ is_single_byte self }
+    {
+        self.size() == 128
+    }
+
+    // The place of this kind among all.
+    pub(crate) fn slot(self) -> usize
+        ensures value { result ≡ number self }
+        ensures small { result < 34 }
+    {
+        self as usize
+    }
+}
