@@ -17,7 +17,7 @@ use Rattle.encoding_tables.specs.declared.table_fault.TableFault.TheVariants.{Si
 use Rattle.encoding_tables.proofs.OptionCases.{option_or_none, if_none, if_some_none, map_none}
 
 -- a test that passes nowhere
-no_position : (test : ℕ → Bool) (xs : List ℕ) → position test xs ≡ None → (k : ℕ) → k < length xs → test (get_or xs k 0) ≡ false
+pub no_position : (test : ℕ → Bool) (xs : List ℕ) → position test xs ≡ None → (k : ℕ) → k < length xs → test (get_or xs k 0) ≡ false
 no_position test xs e k within =
     let past : length xs ≤ position_or_len test xs = ltb-false (position_or_len test xs) (length xs) (if_some_none (nat_lt (position_or_len test xs) (length xs)) (position_or_len test xs) e) in
     fails_before_first test xs k 0 (omega arith)

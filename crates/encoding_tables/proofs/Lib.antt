@@ -3,3 +3,4 @@ mod IndexSlots
 mod IndexEntries
 mod RangeRows
 mod RowNames
+mod PointerLaws

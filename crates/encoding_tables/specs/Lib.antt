@@ -1,5 +1,6 @@
 pub mod Kinds
 pub mod Lookups
+pub mod LookupLaws
 pub mod Ranges
 pub mod RangeFaults
 pub mod TableFaults

@@ -4,6 +4,7 @@
 pub mod accept;
 pub mod flat;
 pub mod index_kind;
+pub mod laws;
 pub mod ranges;
 pub mod table_fault;
 pub mod tables;

@@ -1,0 +1,23 @@
+// Laws of the definitions. The functions do nothing: each contract is a law.
+
+ghost use Rattle.encoding_tables.specs.LookupLaws.{FirstIsLeast, LastIsGreatest};
+ghost use Rattle.encoding_tables.specs.NamedRows.{NamesAreExact};
+ghost use Rattle.encoding_tables.specs.RangeLaws.{ValuesAreScalars, ValuesRise, PointersAreExact, PointersReadBack};
+
+/// The pointers that are found in the list of an index are the least and the greatest with a character.
+pub fn pointers()
+    ensures first { FirstIsLeast }
+    ensures last { LastIsGreatest }
+{}
+
+/// What holds of all rows that are taken as ranges: their values are scalars from U+0080 and rise, a
+/// pointer that is found is the one that there is, and it has the character that it was found for. In
+/// rows that are not taken, the row that is named is the first that is out of order; where there is
+/// none, the first with a wrong value.
+pub fn ranges()
+    ensures scalars { ValuesAreScalars }
+    ensures rise { ValuesRise }
+    ensures exact { PointersAreExact }
+    ensures read_back { PointersReadBack }
+    ensures names { NamesAreExact }
+{}
