@@ -86,6 +86,13 @@ impl<F: FrontPiece> Buffered<F> {
             pending: Pending::new(),
         }
     }
+
+    /// The rule, as it is now.
+    pub fn rule(&self) -> &F
+        ensures { result.now ≡ self.now.rule }
+    {
+        &self.rule
+    }
 }
 
 impl<F: FrontPiece> PieceDecoder for Buffered<F> {
