@@ -1,5 +1,5 @@
 -- The entries of lists that are taken, and parts of lists by clamped bounds.
-use Rattle.std.proofs.Common.{◌≡◌, ◌≢◌, ℕ, ◌<◌, ◌≤◌, inl, inr, List, length, get_or, arith, None, nat_lt, Bool, true, false}
+use Rattle.std.proofs.Common.{◌≡◌, ◌≢◌, ℕ, ◌<◌, ◌≤◌, inl, inr, List, length, get_or, refl, arith, None, nat_lt, Bool, true, false}
 use Rattle.std.specs.Prelude.{not, ◌||◌, ◌&&◌, ◌==◌}
 use Rattle.std.specs.Char.{InScalarRange, IsScalar}
 use Rattle.std.proofs.lemmas.Bool.Decides.{nat_tests}
@@ -8,9 +8,10 @@ use Rattle.std.specs.Option.{option_map, option_or}
 use Rattle.std.proofs.lemmas.Bool.{cases_lt, ltb-true, ltb-false, eqb-true, and_parts, or_cases, not-true, not-false}
 use Rattle.std.proofs.lemmas.List.{get_or_past}
 use Rattle.std.proofs.lemmas.List.Sums.{fails_before_first}
-use Rattle.encoding_tables.specs.Kinds.{size_of}
+use Rattle.encoding_tables.specs.Kinds.{size_of, is_single_byte}
 use Rattle.encoding_tables.specs.Lookups.{AreEntries}
-use Rattle.encoding_tables.specs.TableFaults.{flat_fault, is_entry_of, is_kind, reserved_fault}
+use Rattle.encoding_tables.specs.SingleByteLaws.{AreBasic}
+use Rattle.encoding_tables.specs.TableFaults.{flat_fault, is_entry_of, is_kind, first_bad_entry, reserved_fault}
 use Rattle.encoding_tables.specs.declared.index_kind.IndexKind.{IndexKind}
 use Rattle.encoding_tables.specs.declared.index_kind.IndexKind.TheVariants.{Big5}
 use Rattle.encoding_tables.specs.declared.table_fault.TableFault.TheVariants.{Size, Entry}
@@ -46,12 +47,45 @@ entry_is_scalar kind v e mapped = elim (or_cases (v == 0 || not (nat_lt v 0x80) 
 is_scalar : (c : ℕ) → InScalarRange c → IsScalar c
 is_scalar c h = grind (arith, nat_tests)
 
+-- each entry of a list that is taken is one of the kind
+entries_fit : (kind : IndexKind) (flat : List ℕ) → flat_fault false kind flat ≡ None → (p : ℕ) → p < length flat → is_entry_of kind (get_or flat p 0) ≡ true
+entries_fit kind flat taken p within =
+    let sized = if_none (not (length flat == size_of kind)) Size (option_or (option_map Entry (first_bad_entry kind flat)) (reserved_fault kind flat)) taken in
+    let parts = option_or_none (option_map Entry (first_bad_entry kind flat)) (reserved_fault kind flat) sized.1 in
+    let none = map_none Entry (first_bad_entry kind flat) parts.0 in
+    not-false (is_entry_of kind (get_or flat p 0)) (no_position (λ v. not (is_entry_of kind v)) flat none p within)
+
 pub entries_are_scalars : (kind : IndexKind) (flat : List ℕ) → flat_fault false kind flat ≡ None → AreEntries flat
-entries_are_scalars kind flat taken p mapped =
-    let sized = if_none (not (length flat == size_of kind)) Size (option_or (option_map Entry (position (λ v. not (is_entry_of kind v)) flat)) (reserved_fault kind flat)) taken in
-    let parts = option_or_none (option_map Entry (position (λ v. not (is_entry_of kind v)) flat)) (reserved_fault kind flat) sized.1 in
-    let none = map_none Entry (position (λ v. not (is_entry_of kind v)) flat) parts.0 in
-    elim (cases_lt p (length flat)) [
-      | inl within ↦ is_scalar (get_or flat p 0) (entry_is_scalar kind (get_or flat p 0) (not-false (is_entry_of kind (get_or flat p 0)) (no_position (λ v. not (is_entry_of kind v)) flat none p within)) mapped)
-      | inr past ↦ absurd (mapped (get_or_past flat p 0 past))
+entries_are_scalars kind flat taken p mapped = elim (cases_lt p (length flat)) [
+  | inl within ↦ is_scalar (get_or flat p 0) (entry_is_scalar kind (get_or flat p 0) (entries_fit kind flat taken p within) mapped)
+  | inr past ↦ absurd (mapped (get_or_past flat p 0 past))
+]
+
+-- those of a single-byte encoding are in the basic plane
+not_big5 : (kind : IndexKind) → is_single_byte kind ≡ true → is_kind kind Big5 ≡ false
+not_big5 Big5 single = absurd (cc)
+not_big5 _ single = refl
+
+entry_is_basic : (kind : IndexKind) (v : ℕ) → is_kind kind Big5 ≡ false → is_entry_of kind v ≡ true → v < 0x10000
+entry_is_basic kind v other e = elim (or_cases (v == 0 || not (nat_lt v 0x80) && nat_lt v 0xD800 || not (nat_lt v 0xE000) && nat_lt v 0x10000) (is_kind kind Big5 && not (nat_lt v 0x20000) && nat_lt v 0x30000) e) [
+  | inl bmp ↦ elim (or_cases (v == 0 || not (nat_lt v 0x80) && nat_lt v 0xD800) (not (nat_lt v 0xE000) && nat_lt v 0x10000) bmp) [
+    | inl low ↦ elim (or_cases (v == 0) (not (nat_lt v 0x80) && nat_lt v 0xD800) low) [
+      | inl nil ↦ omega (arith, eqb-true v 0 nil)
+      | inr under ↦ omega (arith, ltb-true v 0xD800 (and_parts (not (nat_lt v 0x80)) (nat_lt v 0xD800) under).1)
     ]
+    | inr over ↦ ltb-true v 0x10000 (and_parts (not (nat_lt v 0xE000)) (nat_lt v 0x10000) over).1
+  ]
+  | inr far ↦
+      let parts = and_parts (is_kind kind Big5 && not (nat_lt v 0x20000)) (nat_lt v 0x30000) far in
+      let big5 = (and_parts (is_kind kind Big5) (not (nat_lt v 0x20000)) parts.0).0 in
+      absurd (clash (is_kind kind Big5) other big5)
+]
+  where
+    clash : (b : Bool) → b ≡ false → b ≡ true → ⊥
+    clash b f t = cc
+
+pub entries_are_basic : (kind : IndexKind) (flat : List ℕ) → is_single_byte kind ≡ true → flat_fault false kind flat ≡ None → AreBasic flat
+entries_are_basic kind flat single taken p = elim (cases_lt p (length flat)) [
+  | inl within ↦ entry_is_basic kind (get_or flat p 0) (not_big5 kind single) (entries_fit kind flat taken p within)
+  | inr past ↦ omega (arith, get_or_past flat p 0 past)
+]

@@ -4,3 +4,4 @@ mod IndexEntries
 mod RangeRows
 mod RowNames
 mod PointerLaws
+mod Latin1

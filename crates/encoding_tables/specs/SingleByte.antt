@@ -1,7 +1,7 @@
 -- The single-byte encodings, by the list of an index (the Encoding Standard, section 9.1, "single-byte decoder" and
 -- "single-byte encoder").
 use Rattle.std.proofs.Common.{refl}
-use Rattle.std.specs.Prelude.{◌≡◌, ◌≢◌, ℕ, ◌+◌, ◌-◌, ◌<◌, ◌≤◌, List, [], ◌∷◌, ◌++◌, length, nat_lt, if◌then◌else◌, Option, None, Some, replicate, slice_index}
+use Rattle.std.specs.Prelude.{◌≡◌, ◌≢◌, ℕ, ◌+◌, ◌-◌, ◌<◌, ◌≤◌, ◌==◌, Bool, false, List, [], ◌∷◌, length, nat_lt, if◌then◌else◌, Option, None, Some, replicate, slice_index}
 use Rattle.std.specs.Option.{option_map}
 use Rattle.encoding_mem.specs.Coding.{Coding}
 use Rattle.encoding_mem.specs.Stateless.{stateless}
@@ -38,6 +38,11 @@ form_of_byte c (Some b) = Mapped (b ∷ [])
 
 abbrev pub single_byte_coding : List ℕ → Coding
 single_byte_coding flat = stateless (λ c. form_of_byte c (byte_of_char flat c))
+
+-- the character of a byte has the byte's number
+abbrev pub has_number : ℕ → Option ℕ → Bool
+has_number b None = false
+has_number b (Some c) = c == b
 
 -- Of some bytes the first n are the characters with their numbers, and the next byte, if there is one, is not: pieces
 -- are those of bytes.

@@ -1,13 +1,13 @@
 -- Laws of the pieces and the forms of a single-byte encoding.
-use Rattle.std.proofs.Common.{◌≡◌, ◌≢◌, ℕ, ◌+◌, ◌-◌, ◌*◌, ◌<◌, ◌≤◌, Bool, true, false, cond, List, [], ◌∷◌, length, get_or, refl, ap, arith, lit≤, lit<, Option, None, Some, nat_lt, inl, inr}
+use Rattle.std.proofs.Common.{◌≡◌, ◌≢◌, ℕ, ◌+◌, ◌-◌, ◌*◌, ◌<◌, ◌≤◌, Bool, true, false, cond, List, [], ◌∷◌, length, drop, refl, ap, ◌∙◌, arith, lit≤, lit<, Option, None, Some, nat_lt, inl, inr}
 use Rattle.std.specs.Prelude.{slice_index, IfSome, ◌==◌}
 use Rattle.std.specs.Char.{IsScalar, InScalarRange, len_utf8}
 use Rattle.std.proofs.lemmas.Bool.{cases_lt, cases_eq, lt-ltb, le-ltb, eq-eqb, ne_eqb}
 use Rattle.std.proofs.lemmas.Bool.Decides.{nat_tests}
 use Rattle.encoding_mem.specs.Coding.{IsCoding, IsShort}
 use Rattle.encoding_mem.specs.StatelessLaws.{stateless_laws, short_one, short_none}
-use Rattle.encoding_mem.specs.Piece.{Piece, Cuts}
-use Rattle.encoding_mem.specs.PiecesLaws.{CutsEach}
+use Rattle.encoding_mem.specs.Piece.{Piece, good, size_of, Cuts}
+use Rattle.encoding_mem.specs.PiecesLaws.{CutsEach, pieces_by-cons}
 use Rattle.encoding_mem.specs.Utf8Laws.{cuts_bad, cuts_one}
 use Rattle.encoding_mem.specs.FrontPiece.{IsFront, IsRoomy}
 use Rattle.encoding_mem.specs.Shows.{Shows, shows_front}
@@ -93,3 +93,17 @@ short_form c (Some b) = short_one
 
 pub single_byte_laws : (flat : List ℕ) → IsCoding 1 (single_byte_coding flat)
 single_byte_laws flat = stateless_laws 1 (λ c. form_of_byte c (byte_of_char flat c)) (lit≤ tt) (λ c. short_form c (byte_of_char flat c))
+
+-- ASCII is itself, whatever follows
+pub ascii_is_itself : (flat : List ℕ) (b : ℕ) (x : List ℕ) → b < 0x80 → front_single_byte flat (b ∷ x) ≡ good 1 (b ∷ [])
+ascii_is_itself flat b x low = rw (lt-ltb b 0x80 low) refl
+
+-- the piece of a byte alone
+size_of-piece : (o : Option ℕ) → size_of (piece_of_byte o) ≡ 1
+size_of-piece None = refl
+size_of-piece (Some c) = refl
+
+pub pieces_of_byte : (flat : List ℕ) → AreEntries flat → (b : ℕ) (x : List ℕ) → pieces_single_byte flat (b ∷ x) ≡ piece_of_byte (char_of_byte flat b) ∷ pieces_single_byte flat x
+pieces_of_byte flat scalars b x =
+    pieces_by-cons (front_single_byte flat) (cuts_single_byte flat scalars) b x
+    ∙ ap (λ n. piece_of_byte (char_of_byte flat b) ∷ pieces_single_byte flat (drop n (b ∷ x))) (size_of-piece (char_of_byte flat b))

@@ -43,14 +43,16 @@ impl<'a> Flat<'a> {
 
     /// The least pointer from `from` to below `to` with this character ("index pointer").
     pub fn first_pointer(&self, c: char, from: u32, to: u32) -> Option<u32>
-        ensures { result ≡ first_pointer self.now c from to }
+        ensures pointer { result ≡ first_pointer self.now c from to }
+        ensures before { IfSome result (λ p. p < to) }
     {
         first_of(self.entries, c as u32, from, to)
     }
 
     /// The greatest pointer from `from` to below `to` with this character.
     pub fn last_pointer(&self, c: char, from: u32, to: u32) -> Option<u32>
-        ensures { result ≡ last_pointer self.now c from to }
+        ensures pointer { result ≡ last_pointer self.now c from to }
+        ensures before { IfSome result (λ p. p < to) }
     {
         last_of(self.entries, c as u32, from, to)
     }
@@ -80,7 +82,8 @@ fn last_place(entries: &[u32], entry: u32) -> Option<usize>
 
 // The least pointer from `from` to below `to` with an entry, which is none where it is 0.
 fn first_of(entries: &[u32], entry: u32, from: u32, to: u32) -> Option<u32>
-    ensures { result ≡ first_pointer entries.now entry from to }
+    ensures pointer { result ≡ first_pointer entries.now entry from to }
+    ensures before { IfSome result (λ p. p < to) }
 {
     if entry == 0 {
         return None;
@@ -95,7 +98,8 @@ fn first_of(entries: &[u32], entry: u32, from: u32, to: u32) -> Option<u32>
 
 // The greatest one.
 fn last_of(entries: &[u32], entry: u32, from: u32, to: u32) -> Option<u32>
-    ensures { result ≡ last_pointer entries.now entry from to }
+    ensures pointer { result ≡ last_pointer entries.now entry from to }
+    ensures before { IfSome result (λ p. p < to) }
 {
     if entry == 0 {
         return None;

@@ -6,10 +6,14 @@ pub mod flat;
 pub mod index_kind;
 pub mod laws;
 pub mod ranges;
+pub mod single_byte_decoder;
+pub mod single_byte_encoder;
 pub mod table_fault;
 pub mod tables;
 
 pub use flat::Flat;
 pub use index_kind::IndexKind;
+pub use single_byte_decoder::SingleByteDecoder;
+pub use single_byte_encoder::SingleByteEncoder;
 pub use table_fault::TableFault;
 pub use tables::Tables;

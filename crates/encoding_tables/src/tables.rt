@@ -1,10 +1,11 @@
 ghost use Rattle.std.specs.Prelude.{◌≡◌, ◌≢◌, ℕ, List, [], map, false, true, MatchOption, OnOk, OnErr, is_some, IsSome, ◌⊎◌};
 ghost use Rattle.std.specs.Option.{option_map};
-ghost use Rattle.encoding_tables.specs.Kinds.{is_ranges};
+ghost use Rattle.encoding_tables.specs.Kinds.{is_ranges, is_single_byte};
 ghost use Rattle.encoding_tables.specs.IndexLists.{IndexLists, flat_of, has, entries_of, rows_of, AreTaken};
 ghost use Rattle.encoding_tables.specs.TableFaults.{flat_fault, range_fault};
 ghost use Rattle.encoding_tables.specs.RangeFaults.{bad_row};
-ghost use Rattle.encoding_tables.specs.Lookups.{value_of, first_pointer, last_pointer};
+ghost use Rattle.encoding_tables.specs.Lookups.{AreEntries, value_of, first_pointer, last_pointer};
+ghost use Rattle.encoding_tables.specs.SingleByteLaws.{AreBasic};
 ghost use Rattle.encoding_tables.specs.Ranges.{range_value, range_pointer};
 ghost use Rattle.encoding_tables.specs.declared.index_kind.IndexKind.{IndexKind};
 
@@ -120,6 +121,17 @@ impl Tables {
         ensures accepted { flat_fault false kind result ≡ None }
     {
         Flat::new(self.list(kind))
+    }
+
+    // The list of a single-byte encoding that is there.
+    pub(crate) fn single_byte(&self, kind: IndexKind) -> Flat<'_>
+        requires there { has self.now kind ≡ true }
+        requires single { is_single_byte kind ≡ true }
+        ensures entries { flat_of self.now kind ≡ Some result }
+        ensures scalars { AreEntries result }
+        ensures basic { AreBasic result }
+    {
+        self.flat(kind)
     }
 
     /// The character at a pointer of an index. None where nothing is mapped, and past the end.

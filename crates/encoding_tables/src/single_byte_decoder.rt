@@ -1,0 +1,159 @@
+// The decoder of the single-byte encodings (the Encoding Standard, section 9.1, "single-byte decoder").
+
+ghost use Rattle.std.specs.Prelude.{◌≡◌, ℕ, ◌+◌, ◌*◌, ◌<◌, ◌≤◌, not, true, List, [], length};
+ghost use Rattle.std.specs.List.{position};
+ghost use Rattle.encoding_mem.specs.PiecesLaws.{pieces_by-nil, pieces_by-whole, pieces_by-are_pieces};
+ghost use Rattle.encoding_tables.specs.IndexLists.{has, entries_of};
+ghost use Rattle.encoding_tables.specs.Kinds.{is_single_byte};
+ghost use Rattle.encoding_tables.specs.Lookups.{AreEntries};
+ghost use Rattle.encoding_tables.specs.SingleByte.{char_of_byte, has_number, front_single_byte, pieces_single_byte, IsLatin1UpTo};
+ghost use Rattle.encoding_tables.specs.SingleByteLaws.{AreBasic, cuts_single_byte, front_of_byte};
+
+use crate::flat::Flat;
+use crate::index_kind::IndexKind;
+use crate::tables::Tables;
+use encoding_mem::DecoderResult;
+use encoding_mem::RawDecoder;
+use encoding_mem::ascii::ascii_front;
+use encoding_mem::front::{Front, FrontPiece};
+use encoding_mem::piece_decoder::{Buffered, PieceDecoder};
+use encoding_mem::sink::Sink;
+
+/// The rule of a single-byte encoding: each byte is a piece.
+#[derive(Drop)]
+pub struct SingleByteRule<'a> {
+    flat: Flat<'a>,
+    ghost scalars: { AreEntries flat },
+    ghost basic: { AreBasic flat },
+}
+
+impl<'a> SingleByteRule<'a> {
+    // The character of a byte.
+    fn char_of(&self, byte: u8) -> Option<char>
+        ensures { result ≡ char_of_byte self.now.flat byte }
+    {
+        if byte < 0x80 {
+            Some(byte as char)
+        } else {
+            self.flat.value(byte as u32 - 0x80)
+        }
+    }
+
+    // Whether the character of a byte has the byte's number.
+    fn is_latin1(&self, byte: u8) -> bool
+        ensures { result ≡ has_number byte (char_of_byte self.now.flat byte) }
+    {
+        match self.char_of(byte) {
+            Some(c) => c as u32 == byte as u32,
+            None => false,
+        }
+    }
+
+    // The place of the first byte whose character has another number, or that has no character.
+    fn first_other(&self, bytes: &[u8]) -> Option<usize>
+        ensures { result ≡ position (λ b. not (has_number b (char_of_byte self.now.flat b))) bytes.now }
+    {
+        bytes.iter().position(|byte| !self.is_latin1(*byte))
+    }
+
+    // How many bytes at the front are characters with the bytes' numbers.
+    fn latin1_len(&self, bytes: &[u8]) -> usize
+        ensures { IsLatin1UpTo (pieces_single_byte self.now.flat) bytes.now result }
+    {
+        match self.first_other(bytes) {
+            Some(place) => place,
+            None => bytes.len(),
+        }
+    }
+}
+
+impl<'a> FrontPiece for SingleByteRule<'a> {
+    ghost pieces = { λ s x. pieces_single_byte s.flat x };
+
+    ghost whole = { λ s. pieces_by-whole (front_single_byte s.flat) (cuts_single_byte s.flat s.scalars) };
+
+    ghost are_pieces = { λ s. pieces_by-are_pieces (front_single_byte s.flat) (cuts_single_byte s.flat s.scalars) };
+
+    ghost ends = { λ s. pieces_by-nil (front_single_byte s.flat) };
+
+    ghost bytes_for = { λ _ m. 3 * m };
+
+    ghost units_for = { λ _ m. m };
+
+    ghost after = { λ s _. s };
+
+    fn front(&self, bytes: &[u8], last: bool) -> Front {
+        let _ = last;
+        front_of(self.char_of(bytes[0]))
+    }
+
+    fn pass(&mut self, bytes: &[u8]) {
+        let _ = bytes;
+    }
+
+    fn text_at<'b>(&self, bytes: &'b [u8]) -> &'b str {
+        ascii_front(bytes)
+    }
+}
+
+// The piece of a byte, by its character: a byte that has none is bad.
+fn front_of(c: Option<char>) -> Front
+    ensures { result ≡ front_of_byte c }
+{
+    match c {
+        Some(c) => Front::One(c, 1),
+        None => Front::Bad(1),
+    }
+}
+
+/// Decodes a single-byte encoding: 00 to 7F give themselves, a byte from 80 gives the entry at the
+/// pointer that is the byte less 80, and one without an entry is bad.
+#[derive(Drop)]
+pub struct SingleByteDecoder<'a> {
+    inner: Buffered<SingleByteRule<'a>>,
+}
+
+impl<'a> SingleByteDecoder<'a> {
+    /// The decoder of a kind that is there and is a single-byte one. Nothing is pending. The room that is
+    /// enough for any `m` bytes is `3 * m` bytes, or `m` units.
+    pub fn new(tables: &'a Tables, kind: IndexKind) -> Self
+        requires there { has tables.now kind ≡ true }
+        requires single { is_single_byte kind ≡ true }
+        ensures pending { (⟦<SingleByteDecoder<'a> as RawDecoder>⟧.state result).pending ≡ 0 }
+        ensures pieces { (⟦<SingleByteDecoder<'a> as RawDecoder>⟧.state result).pieces ≡ pieces_single_byte (entries_of tables.now kind) }
+        ensures bytes { (m : ℕ) → (⟦<SingleByteDecoder<'a> as RawDecoder>⟧.state result).bytes_for m ≡ 3 * m }
+        ensures units { (m : ℕ) → (⟦<SingleByteDecoder<'a> as RawDecoder>⟧.state result).units_for m ≡ m }
+    {
+        SingleByteDecoder {
+            inner: Buffered::new(SingleByteRule {
+                flat: tables.single_byte(kind),
+            }),
+        }
+    }
+
+    /// The place of the first byte whose character has another number than the byte, or that is bad; the
+    /// length where there is none. Up to there the bytes are their characters in Latin1.
+    pub fn latin1_byte_compatible_up_to(&self, bytes: &[u8]) -> usize
+        ensures { (⟦<SingleByteDecoder<'a> as RawDecoder>⟧.state self.now).pending ≡ 0
+            → IsLatin1UpTo (⟦<SingleByteDecoder<'a> as RawDecoder>⟧.state self.now).pieces bytes.now result }
+    {
+        self.inner.rule().latin1_len(bytes)
+    }
+}
+
+impl<'a> PieceDecoder for SingleByteDecoder<'a> {
+    ghost state = { λ d. ⟦<Buffered<SingleByteRule<'a>> as PieceDecoder>⟧.state d.inner };
+
+    fn decode_into<S: Sink>(
+        &mut self,
+        src: &[u8],
+        sink: &mut S,
+        last: bool,
+    ) -> (DecoderResult, usize) {
+        self.inner.decode_into(src, sink, last)
+    }
+
+    fn held_len(&self) -> usize {
+        self.inner.held_len()
+    }
+}
