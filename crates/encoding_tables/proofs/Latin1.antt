@@ -10,7 +10,7 @@ use Rattle.encoding_mem.specs.PiecesLaws.{pieces_by-nil}
 use Rattle.encoding_tables.specs.Lookups.{AreEntries}
 use Rattle.encoding_tables.specs.SingleByte.{char_of_byte, piece_of_byte, front_single_byte, pieces_single_byte, has_number, IsLatin1UpTo}
 use Rattle.encoding_tables.specs.SingleByteLaws.{pieces_of_byte}
-use Rattle.encoding_tables.proofs.IndexEntries.{no_position}
+use Rattle.encoding_tables.specs.TableFaultsLaws.{no_position}
 
 alone : (flat : List ℕ) → AreEntries flat → (b : ℕ) → pieces_single_byte flat (b ∷ []) ≡ piece_of_byte (char_of_byte flat b) ∷ []
 alone flat scalars b = pieces_of_byte flat scalars b [] ∙ ap (λ ps. piece_of_byte (char_of_byte flat b) ∷ ps) (pieces_by-nil (front_single_byte flat))

@@ -1,6 +1,4 @@
-mod OptionCases
 mod IndexSlots
-mod IndexEntries
 mod RangeRows
 mod RowNames
 mod PointerLaws

@@ -9,8 +9,8 @@ use Rattle.std.proofs.lemmas.List.Quantifiers.{position-Some}
 use Rattle.std.proofs.lemmas.List.Edits.{get_or-between}
 use Rattle.encoding_tables.specs.Lookups.{value_of, first_pointer, last_pointer, last_position}
 use Rattle.encoding_tables.specs.LookupLaws.{IsPointer, FirstIsLeast, LastIsGreatest}
-use Rattle.encoding_tables.proofs.OptionCases.{option_or_none, option_or_some, map_none, map_some, if_some_none, if_some_some}
-use Rattle.encoding_tables.proofs.IndexEntries.{no_position}
+use Rattle.encoding_tables.specs.OptionCases.{option_or_none, option_or_some, map_none, map_some, if_some_none, if_some_some}
+use Rattle.encoding_tables.specs.TableFaultsLaws.{no_position}
 
 pub value_some : (flat : List ℕ) (p c : ℕ) → value_of flat p ≡ Some c → (get_or flat p 0 ≡ c) × (c ≢ 0)
 value_some flat p c e = elim (cases_eq (get_or flat p 0) 0) [

@@ -36,3 +36,6 @@ AreAccepted flats = (kind : IndexKind) → IfSome (flat_at flats kind) (λ flat.
 
 abbrev pub AreTaken : List (Option (List ℕ)) → Option (List (ℕ × ℕ)) → Type 0
 AreTaken flats rows = AreAccepted flats × IfSome rows (λ r. bad_row r ≡ None)
+
+abbrev pub AreAcceptedTables : IndexLists → Type 0
+AreAcceptedTables tables = AreTaken tables.flats tables.rows

@@ -7,5 +7,9 @@ pub mod TableFaults
 pub mod IndexLists
 pub mod RangeLaws
 pub mod NamedRows
+pub mod OptionCases
+pub mod TableFaultsLaws
 pub mod SingleByte
 pub mod SingleByteLaws
+pub mod SingleByteReadBack
+pub mod SingleByteTables

@@ -33,6 +33,10 @@ impl<'a> Target for SingleByte<'a> {
         (Set::Ascii, form_of(c, byte_of(&self.flat, c)))
     }
 
+    fn copies_ascii(&self, set: Set) -> bool {
+        matches!(set, Set::Ascii)
+    }
+
     fn escape(&self, _from: Set, _to: Set) -> Bytes {
         Bytes::none()
     }

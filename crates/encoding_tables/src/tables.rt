@@ -1,7 +1,7 @@
 ghost use Rattle.std.specs.Prelude.{◌≡◌, ◌≢◌, ℕ, List, [], map, false, true, MatchOption, OnOk, OnErr, is_some, IsSome, ◌⊎◌};
 ghost use Rattle.std.specs.Option.{option_map};
 ghost use Rattle.encoding_tables.specs.Kinds.{is_ranges, is_single_byte};
-ghost use Rattle.encoding_tables.specs.IndexLists.{IndexLists, flat_of, has, entries_of, rows_of, AreTaken};
+ghost use Rattle.encoding_tables.specs.IndexLists.{IndexLists, flat_of, has, entries_of, rows_of, AreAcceptedTables, AreTaken};
 ghost use Rattle.encoding_tables.specs.TableFaults.{flat_fault, range_fault};
 ghost use Rattle.encoding_tables.specs.RangeFaults.{bad_row};
 ghost use Rattle.encoding_tables.specs.Lookups.{AreEntries, value_of, first_pointer, last_pointer};
@@ -55,9 +55,10 @@ impl Tables {
         }
     }
 
-    /// Whether the index of a kind is there.
+    /// Whether the index of a kind is there. What is there was accepted.
     pub fn has(&self, kind: IndexKind) -> bool
-        ensures { result ≡ has self.now kind }
+        ensures there { result ≡ has self.now kind }
+        ensures accepted { AreAcceptedTables self.now }
     {
         if kind.is_ranges() {
             self.ranges.is_some()

@@ -15,7 +15,7 @@ use Rattle.encoding_tables.specs.TableFaults.{flat_fault, is_entry_of, is_kind, 
 use Rattle.encoding_tables.specs.declared.index_kind.IndexKind.{IndexKind}
 use Rattle.encoding_tables.specs.declared.index_kind.IndexKind.TheVariants.{Big5}
 use Rattle.encoding_tables.specs.declared.table_fault.TableFault.TheVariants.{Size, Entry}
-use Rattle.encoding_tables.proofs.OptionCases.{option_or_none, if_none, if_some_none, map_none}
+use Rattle.encoding_tables.specs.OptionCases.{option_or_none, if_none, if_some_none, map_none}
 
 -- a test that passes nowhere
 pub no_position : (test : ℕ → Bool) (xs : List ℕ) → position test xs ≡ None → (k : ℕ) → k < length xs → test (get_or xs k 0) ≡ false
@@ -54,6 +54,12 @@ entries_fit kind flat taken p within =
     let parts = option_or_none (option_map Entry (first_bad_entry kind flat)) (reserved_fault kind flat) sized.1 in
     let none = map_none Entry (first_bad_entry kind flat) parts.0 in
     not-false (is_entry_of kind (get_or flat p 0)) (no_position (λ v. not (is_entry_of kind v)) flat none p within)
+
+-- it has as many entries as its kind
+pub sized_as_kind : (kind : IndexKind) (flat : List ℕ) → flat_fault false kind flat ≡ None → length flat ≡ size_of kind
+sized_as_kind kind flat taken =
+    eqb-true (length flat) (size_of kind) (not-false (length flat == size_of kind)
+    (if_none (not (length flat == size_of kind)) Size (option_or (option_map Entry (first_bad_entry kind flat)) (reserved_fault kind flat)) taken).0)
 
 pub entries_are_scalars : (kind : IndexKind) (flat : List ℕ) → flat_fault false kind flat ≡ None → AreEntries flat
 entries_are_scalars kind flat taken p mapped = elim (cases_lt p (length flat)) [

@@ -1,0 +1,46 @@
+-- Single-byte encodings over tables.
+use Rattle.std.proofs.Common.{◌≡◌, ℕ, ◌≤◌, true, false, List, [], length, Option, None, Some, sym, ◌∙◌, ap, subst, arith, refl, Bool}
+use Rattle.std.specs.Prelude.{is_some, IfSome, not, ◌==◌}
+use Rattle.std.specs.Option.{unwrap_or}
+use Rattle.std.proofs.lemmas.Bool.{eqb-true, not-false}
+use Rattle.encoding_mem.specs.Piece.{ArePieces}
+use Rattle.encoding_mem.specs.ReadBack.{ReadsBackExactly}
+use Rattle.encoding_tables.specs.IndexLists.{IndexLists, has, flat_of, entries_of, AreAcceptedTables}
+use Rattle.encoding_tables.specs.Kinds.{is_single_byte, is_ranges, size_of}
+use Rattle.encoding_tables.specs.Lookups.{AreEntries}
+use Rattle.encoding_tables.specs.TableFaults.{flat_fault}
+use Rattle.encoding_tables.specs.TableFaultsLaws.{entries_are_scalars, sized_as_kind}
+use Rattle.encoding_tables.specs.SingleByte.{pieces_single_byte, single_byte_coding}
+use Rattle.encoding_tables.specs.SingleByteReadBack.{single_byte_exact, single_byte_are_pieces}
+use Rattle.encoding_tables.specs.declared.index_kind.IndexKind.{IndexKind}
+use Rattle.encoding_tables.specs.declared.index_kind.IndexKind.TheVariants.{Gb18030Ranges}
+
+-- What is there was accepted, and what is not there has no entries.
+scalars_of : (kind : IndexKind) (o : Option (List ℕ)) → IfSome o (λ flat. flat_fault false kind flat ≡ None) → AreEntries (unwrap_or o [])
+scalars_of kind None h = λ p mapped. absurd (mapped refl)
+scalars_of kind (Some flat) h = entries_are_scalars kind flat h
+
+entries_scalars : (t : IndexLists) (kind : IndexKind) → AreAcceptedTables t → AreEntries (entries_of t kind)
+entries_scalars t kind h = scalars_of kind (flat_of t kind) (h.0 kind)
+
+not_ranges : (kind : IndexKind) → is_ranges kind ≡ true → is_single_byte kind ≡ true → ⊥
+not_ranges Gb18030Ranges ranged single = absurd (cc)
+not_ranges _ ranged single = absurd (cc)
+
+-- its pieces are pieces
+pub tables_are_pieces : (t : IndexLists) (kind : IndexKind) → AreAcceptedTables t → (x : List ℕ) → ArePieces (pieces_single_byte (entries_of t kind) x)
+tables_are_pieces t kind h x = single_byte_are_pieces (entries_of t kind) (entries_scalars t kind h) x
+
+-- the list of a single-byte encoding that is there has 128 entries
+long_if_there : (kind : IndexKind) (o : Option (List ℕ)) → is_single_byte kind ≡ true → IfSome o (λ flat. flat_fault false kind flat ≡ None) → is_some o ≡ true → 128 ≤ length (unwrap_or o [])
+long_if_there kind None single h there = absurd (cc)
+long_if_there kind (Some flat) single h there = omega (arith, sized_as_kind kind flat h, eqb-true (size_of kind) 128 single)
+
+flat_there : (t : IndexLists) (kind : IndexKind) (b : Bool) → is_ranges kind ≡ b → is_single_byte kind ≡ true → has t kind ≡ true → is_some (flat_of t kind) ≡ true
+flat_there t kind true ranged single there = absurd (not_ranges kind ranged single)
+flat_there t kind false ranged single there = rw ranged at there
+
+-- what is written reads back exactly where each character has a byte
+pub tables_exact : (t : IndexLists) (kind : IndexKind) → AreAcceptedTables t → is_single_byte kind ≡ true → has t kind ≡ true → ReadsBackExactly (pieces_single_byte (entries_of t kind)) (single_byte_coding (entries_of t kind))
+tables_exact t kind h single there =
+    single_byte_exact (entries_of t kind) (entries_scalars t kind h) (long_if_there kind (flat_of t kind) single (h.0 kind) (flat_there t kind (is_ranges kind) refl single there))
