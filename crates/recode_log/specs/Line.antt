@@ -1,5 +1,6 @@
 -- A line of the log: which ones are valid, and the bytes of each.
 use Rattle.std.specs.Prelude.{◌≡◌, ℕ, ◌≤◌, List, ◌++◌, codes, refl}
+use Rattle.std.specs.Char.{IsScalar}
 use Rattle.std.specs.Fmt.{decimal, digits}
 use Rattle.recode_log.specs.declared.line.LogLine.{LogLine}
 use Rattle.recode_log.specs.declared.line.LogLine.TheVariants.{Bad, Lost}
@@ -9,6 +10,15 @@ use Rattle.recode_log.specs.declared.line.TheConstants.{GREATEST_PLACE}
 abbrev pub IsValid : LogLine → Type 0
 IsValid (Bad offset length) = (offset ≤ GREATEST_PLACE) × (1 ≤ length) × (length ≤ 4)
 IsValid (Lost index scalar) = index ≤ GREATEST_PLACE
+
+-- the character of the line is one, as each value of type `char` is
+abbrev pub HasScalar : LogLine → Type 0
+HasScalar (Bad offset length) = Unit {0}
+HasScalar (Lost index scalar) = IsScalar scalar
+
+-- two numbers with a space between them
+abbrev pub pair_bytes : ℕ → ℕ → List ℕ
+pair_bytes place value = decimal place ++ codes " " ++ decimal value
 
 -- a word with the space behind it, two numbers with a space between them, and the end of the line
 abbrev pub row_bytes : List ℕ → ℕ → ℕ → List ℕ

@@ -1,7 +1,9 @@
-ghost use Rattle.std.specs.Prelude.{◌≡◌, ℕ, ◌+◌, ◌≤◌, ◌↔◌, ◌++◌, length, take, drop, IsTrue};
-ghost use Rattle.recode_log.specs.Line.{row_bytes};
+ghost use Rattle.std.specs.Prelude.{◌≡◌, ℕ, ◌+◌, ◌^◌, ◌<◌, ◌≤◌, ◌↔◌, ◌++◌, length, take, drop, position, ◌==◌, IsTrue, IfSome};
+ghost use Rattle.std.specs.Fmt.{decimal};
+ghost use Rattle.recode_log.specs.Line.{row_bytes, pair_bytes};
 
 use itoa::Buffer;
+use std::str;
 
 /// The greatest offset or index that a line of the log can name.
 pub const GREATEST_PLACE: u64 = 1 << 48;
@@ -19,7 +21,8 @@ pub enum LogLine {
 }
 
 impl LogLine {
-    ghost use Rattle.recode_log.specs.Line.{IsValid, line_bytes};
+    ghost use Rattle.recode_log.specs.Line.{IsValid, HasScalar, line_bytes};
+    ghost use Rattle.recode_log.specs.declared.line.LogLine.{LogLine};
 
     /// Whether the offset or the index is at most `GREATEST_PLACE`, and the length is 1 to 4 bytes.
     pub fn is_valid(&self) -> bool
@@ -46,6 +49,28 @@ impl LogLine {
             LogLine::Bad { offset, length } => write_row(dst, b"bad ", offset, u32::from(length)),
             LogLine::Lost { index, scalar } => write_row(dst, b"lost ", index, u32::from(scalar)),
         }
+    }
+
+    /// Reads one line: the valid line for which `write_into` writes exactly these bytes, line feed
+    /// included, or `None` if there is no such line.
+    ///
+    /// No two valid lines have the same bytes. Nothing else is accepted: no sign, no leading zero,
+    /// no second space, no carriage return, and no byte behind the line feed.
+    pub fn parse(bytes: &[u8]) -> Option<LogLine>
+        ensures valid { IfSome result IsValid }
+        ensures line { IfSome result (λ line. line_bytes line ≡ bytes.now) }
+        ensures only { (line : LogLine) → IsValid line → HasScalar line →
+            line_bytes line ≡ bytes.now → result ≡ Some line }
+    {
+        let line = if let Some((offset, length)) = read_row(bytes, b"bad ") {
+            let length = u8::try_from(length).ok()?;
+            LogLine::Bad { offset, length }
+        } else {
+            let (index, scalar) = read_row(bytes, b"lost ")?;
+            let scalar = char::from_u32(u32::try_from(scalar).ok()?)?;
+            LogLine::Lost { index, scalar }
+        };
+        line.is_valid().then_some(line)
     }
 }
 
@@ -74,4 +99,43 @@ fn put(dst: &mut [u8; 32], at: usize, bytes: &[u8]) -> usize
     let end = at + bytes.len();
     dst[at..end].copy_from_slice(bytes);
     end
+}
+
+// Reads the two numbers of a line with this word, as `write_row` writes them.
+fn read_row(bytes: &[u8], word: &[u8]) -> Option<(u64, u64)>
+    ensures row { IfSome result (λ numbers. row_bytes word.now numbers.0 numbers.1 ≡ bytes.now) }
+    ensures only { (place value : ℕ) → place < 2 ^ 64 → value < 2 ^ 64 →
+        row_bytes word.now place value ≡ bytes.now → result ≡ Some (place, value) }
+{
+    read_pair(bytes.strip_prefix(word)?.strip_suffix(b"\n")?)
+}
+
+// Reads two numbers with a space between them.
+fn read_pair(bytes: &[u8]) -> Option<(u64, u64)>
+    ensures pair { IfSome result (λ numbers. pair_bytes numbers.0 numbers.1 ≡ bytes.now) }
+    ensures only { (place value : ℕ) → place < 2 ^ 64 → value < 2 ^ 64 →
+        pair_bytes place value ≡ bytes.now → result ≡ Some (place, value) }
+{
+    let space = first_space(bytes)?;
+    let place = read_number(&bytes[..space])?;
+    let value = read_number(&bytes[space + 1..])?;
+    Some((place, value))
+}
+
+// Where the first space stands.
+fn first_space(bytes: &[u8]) -> Option<usize>
+    ensures { result ≡ position (λ byte. byte == 32) bytes.now }
+{
+    bytes.iter().position(|byte| *byte == b' ')
+}
+
+// Reads a number in decimal digits, with no sign and no leading zero.
+fn read_number(digits: &[u8]) -> Option<u64>
+    ensures digits { IfSome result (λ number. decimal number ≡ digits.now) }
+    ensures only { (number : ℕ) → number < 2 ^ 64 → decimal number ≡ digits.now →
+        result ≡ Some number }
+{
+    let number = str::from_utf8(digits).ok()?.parse::<u64>().ok()?;
+    let mut written = Buffer::new();
+    (written.format(number).as_bytes() == digits).then_some(number)
 }
