@@ -1,5 +1,5 @@
 -- What is read of a row that has been written: its two numbers, on either side of the first space.
-use Rattle.std.proofs.Common.{◌≡◌, ℕ, ◌+◌, ◌-◌, ◌<◌, ◌^◌, false, List, [], ◌∷◌, ◌++◌, get_or, length, take, drop, codes, Some, ap, sym, ◌∙◌, arith, add-one, drop-cons, length-append, append_assoc, position, nat_lt, ◌==◌}
+use Rattle.std.proofs.Common.{◌≡◌, ℕ, ◌+◌, ◌-◌, ◌<◌, ◌^◌, false, List, [], ◌∷◌, ◌++◌, get_or, length, take, drop, codes, Some, ap, sym, ◌∙◌, arith, add-one, drop-cons, length-append, append_assoc, position, ◌==◌}
 use Rattle.std.proofs.Math.ListN.{get_or-append}
 use Rattle.std.proofs.Math.Seq.{get_or-append_seam, take-append_seam, drop-append-add}
 use Rattle.std.proofs.lemmas.Bool.{eqb-true, lt-ltb, ne_eqb}
@@ -14,9 +14,11 @@ use Rattle.std.specs.List.{position_or_len}
 use Rattle.std.specs.Str.Parse.{AllDigits, digits_value}
 use Rattle.recode_log.specs.Line.{row_bytes, pair_bytes}
 
+-- the digits that `decimal` writes, and their value
 model : IsNumeralModel (AllDigits 10) (digits_value 10)
 model = numerals_by_value _ tells_digits
 
+-- a row, part by part
 pub row_bytes-parts : (word : List ℕ) (place value : ℕ) → row_bytes word place value ≡ word ++ (pair_bytes place value ++ codes "\n")
 row_bytes-parts word place value = simp append_assoc
 
@@ -26,6 +28,7 @@ pair-from_row word rest row place value whole ended =
     append_cancel_right _ _ (codes "\n")
     (append_cancel_left word _ _ (sym (row_bytes-parts word place value) ∙ whole) ∙ ended)
 
+-- and with them it is that row
 pub row-from_pair : (word bytes rest row : List ℕ) (place value : ℕ) → bytes ≡ word ++ rest → rest ≡ row ++ codes "\n" → pair_bytes place value ≡ row → row_bytes word place value ≡ bytes
 row-from_pair word bytes rest row place value whole ended same =
     row_bytes-parts word place value ∙ ap (λ xs. word ++ (xs ++ codes "\n")) same ∙ ap (λ xs. word ++ xs) (sym ended) ∙ sym whole
@@ -58,6 +61,7 @@ parts_of_pair bytes space place value small same found =
           ∙ sym (take_rest bytes (space + 1)),
     )
 
+-- and with them it is that pair
 pub pair_of_parts : (bytes : List ℕ) (space place value : ℕ) → Some space ≡ position (λ b. b == 32) bytes
     → decimal place ≡ take space bytes → decimal value ≡ take (length bytes - (space + 1)) (drop (space + 1) bytes) → pair_bytes place value ≡ bytes
 pair_of_parts bytes space place value found front behind =

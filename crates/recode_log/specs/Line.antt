@@ -11,7 +11,7 @@ abbrev pub IsValid : LogLine → Type 0
 IsValid (Bad offset length) = (offset ≤ GREATEST_PLACE) × (1 ≤ length) × (length ≤ 4)
 IsValid (Lost index scalar) = index ≤ GREATEST_PLACE
 
--- the character of the line is one, as each value of type `char` is
+-- the line's character is a Unicode scalar value, as each `char` of the code is
 abbrev pub HasScalar : LogLine → Type 0
 HasScalar (Bad offset length) = Unit {0}
 HasScalar (Lost index scalar) = IsScalar scalar

@@ -1,4 +1,4 @@
-use Rattle.std.proofs.Common.{◌∙◌, arith, refl, sym}
+use Rattle.std.proofs.Common.{◌∙◌, arith}
 use Rattle.recode_log.proofs.Reading.{position-pair, parts_of_pair, pair_of_parts}
 use Rattle.recode_log.proofs.line.read_pair.Goals as goal
 
