@@ -1,1 +1,3 @@
 pub mod Encodings
+pub mod EncodingsLaws
+pub mod VariantLaws

@@ -4,17 +4,13 @@ use Rattle.std.specs.Io.KnownBytes.{Appends}
 use Rattle.std.specs.Str.{all_scalars}
 use Rattle.std.proofs.lemmas.Bool.{false≢true, eqb-true}
 use Rattle.encoding_mem.specs.Piece.{Piece, good, bad, text, text_of, AreGood, IsPiece, ArePieces, bad_count}
-use Rattle.encoding_mem.specs.PiecesLaws.{pieces_by-are_pieces}
-use Rattle.encoding_mem.specs.Utf8.{front_utf8, pieces_utf8}
-use Rattle.encoding_mem.specs.Utf8Laws.{cuts_utf8, utf8_reads_back}
-use Rattle.encoding_mem.specs.Text.{text_pieces}
-use Rattle.encoding_mem.specs.Coding.{lost_count}
-use Rattle.encoding_mem.specs.EncodingLaws.{utf8_output, utf8_lost_count}
+use Rattle.encoding_mem.specs.Coding.{AllMapped, lost_count}
+use Rattle.encoding_mem.specs.ReadBackLaws.{all_mapped, none_lost}
 use Rattle.encoding_mem.specs.declared.form.Set.TheVariants.{Ascii}
-use Rattle.encoding_front.specs.Encodings.{coding_of, pieces_of, output_encoding_of}
+use Rattle.encoding_front.specs.EncodingsLaws.{are_pieces_of, reads_back_exactly}
 use Rattle.recode.specs.Marked.{Marked, Wrote, IsFront, marks, outputs, lines}
 use Rattle.recode.specs.Payment.{bad_lines, lost_lines}
-use Rattle.recode.specs.Job.{Faithful, input_pieces, input_text, output_of, trace}
+use Rattle.recode.specs.Job.{IsValidJob, Faithful, input_pieces, input_text, target_of, trace}
 use Rattle.recode.specs.Session.{View, owed, Begins, Tells, IsReport, Completes, Fails}
 use Rattle.recode.specs.Step.{Finishes, Stops, PassesLimit}
 use Rattle.recode.specs.declared.fault.Fault.{Fault}
@@ -34,14 +30,6 @@ good_count [] h = refl
 good_count (good n cs ∷ ps) h = good_count ps h.1
 good_count (bad n ∷ ps) h = absurd h.0
 
-pub text_pieces-good : (t : List ℕ) → AreGood (text_pieces t)
-text_pieces-good [] = tt
-text_pieces-good (c ∷ t) = (tt, text_pieces-good t)
-
-pub text_pieces-text : (t : List ℕ) → text (text_pieces t) ≡ t
-text_pieces-text [] = refl
-text_pieces-text (c ∷ t) = ap (λ x. c ∷ x) (text_pieces-text t)
-
 both_true : (x y : Bool) → (x && y) ≡ true → (x ≡ true) × (y ≡ true)
 both_true true y h = (refl, h)
 both_true false y h = (h, absurd (false≢true h))
@@ -60,31 +48,37 @@ text_scalars : (ps : List Piece) → ArePieces ps → all_scalars (text ps) ≡ 
 text_scalars [] h = refl
 text_scalars (p ∷ ps) h = all_scalars-cons (text_of p) (text ps) (piece_text p h.0) (text_scalars ps h.1)
 
--- the output reads back as the text
-read_back : (j : Job) (x : List ℕ) → pieces_of (output_encoding_of j.to) (output_of j x) ≡ text_pieces (input_text j x)
-read_back j x = ap pieces_utf8 (utf8_output (input_text j x)) ∙ utf8_reads_back (input_text j x) (text_scalars (input_pieces j x) (pieces_by-are_pieces front_utf8 cuts_utf8 x))
+-- the text of an input is scalars
+text_are_scalars : (j : Job) (x : List ℕ) → IsValidJob j → all_scalars (input_text j x) ≡ true
+text_are_scalars j x v = text_scalars (input_pieces j x) (are_pieces_of j.tables.now j.from v.tables x)
 
-pub faithful_where_good : (j : Job) (x : List ℕ) → AreGood (input_pieces j x) → Faithful j x
-faithful_where_good j x h = record {
-  source = h;
-  target = subst AreGood (sym (read_back j x)) (text_pieces-good (input_text j x));
-  same = ap text (read_back j x) ∙ text_pieces-text (input_text j x);
-}
+-- nothing was lost where each piece is good and each character has bytes, and only there
+pub faithful_where_kept : (j : Job) (x : List ℕ) → IsValidJob j → AreGood (input_pieces j x) → AllMapped (target_of j) (input_text j x) → Faithful j x
+faithful_where_kept j x v h k =
+    let back = (reads_back_exactly j.tables.now j.to v.tables v.to (input_text j x) (text_are_scalars j x v)).1 k in
+    record { source = h; target = back.good; same = back.same }
 
-verdict : (j : Job) (x : List ℕ) (b l : ℕ) (f : Bool) → b ≡ bad_count (input_pieces j x) → l ≡ lost_count (coding_of j.to) (input_text j x) → f ≡ (b == 0 && l == 0) → IsTrue f ↔ Faithful j x
-verdict j x b l f bad_is lost_is is = (
-  λ t. faithful_where_good j x (none_bad (input_pieces j x) (sym bad_is ∙ eqb-true b 0 (both_true (b == 0) (l == 0) (sym is ∙ t)).0)),
+pub kept_where_faithful : (j : Job) (x : List ℕ) → IsValidJob j → Faithful j x → AllMapped (target_of j) (input_text j x)
+kept_where_faithful j x v f = (reads_back_exactly j.tables.now j.to v.tables v.to (input_text j x) (text_are_scalars j x v)).0 (record { good = f.target; same = f.same })
+
+verdict : (j : Job) (x : List ℕ) (b l : ℕ) (f : Bool) → IsValidJob j → b ≡ bad_count (input_pieces j x) → l ≡ lost_count (target_of j) (input_text j x) → f ≡ (b == 0 && l == 0) → IsTrue f ↔ Faithful j x
+verdict j x b l f v bad_is lost_is is = (
+  λ t.
+      let both = both_true (b == 0) (l == 0) (sym is ∙ t) in
+      faithful_where_kept j x v
+      (none_bad (input_pieces j x) (sym bad_is ∙ eqb-true b 0 both.0))
+      (all_mapped (target_of j) (input_text j x) (sym lost_is ∙ eqb-true l 0 both.1)),
   λ h.
       let none : b ≡ 0 = bad_is ∙ good_count (input_pieces j x) h.source in
-      let kept : l ≡ 0 = lost_is ∙ utf8_lost_count (input_text j x) in
+      let kept : l ≡ 0 = lost_is ∙ none_lost (target_of j) (input_text j x) (kept_where_faithful j x v h) in
       is ∙ ap (λ (n : ℕ). n == 0 && l == 0) none ∙ ap (λ (n : ℕ). 0 == 0 && n == 0) kept,
 )
 
 -- The report.
-is_report : (j : Job) (x : List ℕ) (v w : View) (p : Report) → Begins v j → Tells w p → w.job ≡ v.job → w.counts.read ≡ v.counts.read + length x
+is_report : (j : Job) (x : List ℕ) (v w : View) (p : Report) → IsValidJob j → Begins v j → Tells w p → w.job ≡ v.job → w.counts.read ≡ v.counts.read + length x
     → w.counts.bad ≡ v.counts.bad + bad_lines (trace j x) → w.counts.lost ≡ v.counts.lost + lost_lines (trace j x) → IsReport j x p
-is_report j x v w p b t same read_is bad_is lost_is =
-    let e = coding_of j.to in
+is_report j x v w p valid b t same read_is bad_is lost_is =
+    let e = target_of j in
     let bads : p.bad ≡ bad_count (input_pieces j x) = omega (arith, t.bad, bad_is, b.bad, bad_lines-trace e Ascii 0 0 (input_pieces j x)) in
     let losts : p.lost ≡ lost_count e (input_text j x) = omega (arith, t.lost, lost_is, b.lost, lost_lines-trace e Ascii 0 0 (input_pieces j x)) in
     record {
@@ -92,11 +86,11 @@ is_report j x v w p b t same read_is bad_is lost_is =
       bad = bads;
       lost = losts;
       encoding = t.encoding ∙ ap (λ (k : Job). k.from) (same ∙ b.job);
-      faithful = verdict j x p.bad p.lost p.faithful bads losts (t.verdict ∙ ap (λ (n : ℕ). n == 0 && w.counts.lost == 0) (sym t.bad) ∙ ap (λ (n : ℕ). p.bad == 0 && n == 0) (sym t.lost));
+      faithful = verdict j x p.bad p.lost p.faithful valid bads losts (t.verdict ∙ ap (λ (n : ℕ). n == 0 && w.counts.lost == 0) (sym t.bad) ∙ ap (λ (n : ℕ). p.bad == 0 && n == 0) (sym t.lost));
     }
 
-pub completes : (a a' w w' l l' : Option (List ℕ)) (j : Job) (v u : View) (p : Report) → Begins v j → Finishes a a' w w' l l' v.counts u.counts j.limit (owed v) → Tells u p → u.job ≡ v.job → Completes a a' w w' l l' j p
-completes a a' w w' l l' j v u p b f t same =
+pub completes : (a a' w w' l l' : Option (List ℕ)) (j : Job) (v u : View) (p : Report) → IsValidJob j → Begins v j → Finishes a a' w w' l l' v.counts u.counts j.limit (owed v) → Tells u p → u.job ≡ v.job → Completes a a' w w' l l' j p
+completes a a' w w' l l' j v u p valid b f t same =
     let x : List ℕ = f.chunk in
     let paid : f.pays.paid ≡ trace j x = sym (append-nil f.pays.paid) ∙ sym f.pays.equals ∙ b.owes_trace x in
     let wrote : Wrote w w' l l' (marks (trace j x)) = subst (λ t. Wrote w w' l l' (marks t)) paid f.pays.wrote in
@@ -106,9 +100,9 @@ completes a a' w w' l l' j v u p b f t same =
       end = f.end;
       within = omega (arith, f.within, f.counted, b.read);
       wrote = wrote;
-      output = subst (Appends w w') (outputs-trace (coding_of j.to) Ascii 0 0 (input_pieces j x)) wrote.output;
-      logged = subst (Appends l l') (lines-trace (coding_of j.to) Ascii 0 0 (input_pieces j x)) wrote.lined;
-      report = is_report j x v u p b t same f.counted
+      output = subst (Appends w w') (outputs-trace (target_of j) Ascii 0 0 (input_pieces j x)) wrote.output;
+      logged = subst (Appends l l') (lines-trace (target_of j) Ascii 0 0 (input_pieces j x)) wrote.lined;
+      report = is_report j x v u p valid b t same f.counted
           (f.pays.counted.bad ∙ ap (λ t. v.counts.bad + bad_lines t) paid) (f.pays.counted.lost ∙ ap (λ t. v.counts.lost + lost_lines t) paid);
     }
 
@@ -134,8 +128,8 @@ fails a a' w w' l l' j v f b s =
       taken = s.pays.taken;
       wrote = s.pays.wrote;
       front = front;
-      output = λ r h. subst (IsFront (outputs s.pays.taken)) (outputs-trace (coding_of j.to) Ascii 0 0 (input_pieces j (s.chunk ++ r))) (front_outputs _ _ (front r h));
-      logged = λ r h. subst (IsFront (lines s.pays.taken)) (lines-trace (coding_of j.to) Ascii 0 0 (input_pieces j (s.chunk ++ r))) (front_lines _ _ (front r h));
+      output = λ r h. subst (IsFront (outputs s.pays.taken)) (outputs-trace (target_of j) Ascii 0 0 (input_pieces j (s.chunk ++ r))) (front_outputs _ _ (front r h));
+      logged = λ r h. subst (IsFront (lines s.pays.taken)) (lines-trace (target_of j) Ascii 0 0 (input_pieces j (s.chunk ++ r))) (front_lines _ _ (front r h));
     }
   where
     zero_plus : (n : ℕ) → 0 + n ≡ n

@@ -27,10 +27,19 @@ pub record PassedLimit (reader reader' : Option (List ℕ)) (limit : ℕ) : Type
   pub consumed : Consumes reader reader' input
   pub past : limit < length input
 
--- a call of one of the devices failed, or the input is too long
-abbrev pub WhyFailed : (reads reads' writes writes' logs logs' : ℕ) (reader reader' : Option (List ℕ)) (limit : ℕ) → Type 0
-WhyFailed reads reads' writes writes' logs logs' reader reader' limit =
-    (reads < reads') ⊎ ((writes < writes') ⊎ ((logs < logs') ⊎ PassedLimit reader reader' limit))
+-- a call of the device failed that the fault is of, or the input is too long
+abbrev pub IsCause : (reads reads' writes writes' logs logs' : ℕ) (reader reader' : Option (List ℕ)) (limit : ℕ) → Fault → Type 0
+IsCause reads reads' writes writes' logs logs' reader reader' limit Read = reads < reads'
+IsCause reads reads' writes writes' logs logs' reader reader' limit Write = writes < writes'
+IsCause reads reads' writes writes' logs logs' reader reader' limit Log = logs < logs'
+IsCause reads reads' writes writes' logs logs' reader reader' limit TooLong = PassedLimit reader reader' limit
+
+-- a flush failed of the writer that the fault is of
+abbrev pub IsFlushCause : (writes writes' logs logs' : ℕ) → Fault → Type 0
+IsFlushCause writes writes' logs logs' Read = ⊥
+IsFlushCause writes writes' logs logs' Write = writes < writes'
+IsFlushCause writes writes' logs logs' Log = logs < logs'
+IsFlushCause writes writes' logs logs' TooLong = ⊥
 
 -- what is told of a fault
 abbrev pub message_of : Fault → List ℕ
@@ -40,8 +49,8 @@ message_of Log = codes "recode: log fault\n"
 message_of TooLong = codes "recode: input too long\n"
 
 -- What a conversion leaves that failed: output and log are a front of what any continuation of the bytes read gives,
--- none where the end was read, in their one order; behind it the log has a front of a message.
-pub record Breaks (reader reader' writer writer' log log' : Option (List ℕ)) (j : Job) : Type 0 where
+-- none where the end was read, in their one order; behind it the log has a front of the message of a fault that came.
+pub record Breaks (reader reader' writer writer' log log' : Option (List ℕ)) (reads reads' writes writes' logs logs' : ℕ) (j : Job) : Type 0 where
   pub input : List ℕ
   pub refused : List ℕ
   pub ended : Bool
@@ -51,6 +60,7 @@ pub record Breaks (reader reader' writer writer' log log' : Option (List ℕ)) (
   pub within : length input ≤ j.limit
   pub taken : List Marked
   pub fault : Fault
+  pub cause : IsCause reads reads' writes writes' logs logs' reader reader' j.limit fault
   pub told : ℕ
   pub output : Appends writer writer' (outputs taken)
   pub logged : Appends log log' (lines taken ++ take told (message_of fault))

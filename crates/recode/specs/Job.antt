@@ -7,26 +7,40 @@ use Rattle.encoding_mem.specs.Items.{Item, trace_from}
 use Rattle.encoding_mem.specs.declared.form.Form.{Form}
 use Rattle.encoding_mem.specs.declared.form.Form.TheVariants.{Mapped, Unmapped}
 use Rattle.encoding_mem.specs.declared.form.Set.TheVariants.{Ascii}
-use Rattle.encoding_front.specs.Encodings.{pieces_of, coding_of, output_encoding_of}
+use Rattle.encoding_front.specs.Encodings.{IsReady, pieces_of, coding_of, output_encoding_of}
+use Rattle.encoding_tables.specs.IndexLists.{AreAcceptedTables}
 use Rattle.recode_log.specs.Line.{line_bytes}
 use Rattle.recode_log.specs.declared.line.LogLine.{LogLine}
 use Rattle.recode_log.specs.declared.line.LogLine.TheVariants.{Bad, Lost}
 use Rattle.recode.specs.declared.job.Job.{Job}
 use Rattle.recode.specs.declared.job.Mark.TheVariants.{Keep}
 
-abbrev pub IsValidJob : Job → Type 0
-IsValidJob j = (j.mark ≡ Keep) × (j.limit ≤ 2 ^ 48)
+-- the indexes of both encodings are there, as they were accepted; marks are kept; the limit is that of the log's places
+pub record IsValidJob (j : Job) : Type 0 where
+  pub tables : AreAcceptedTables j.tables.now
+  pub from : IsReady j.tables.now j.from
+  pub to : IsReady j.tables.now (output_encoding_of j.to)
+  pub mark : j.mark ≡ Keep
+  pub limit : j.limit ≤ 2 ^ 48
 
 -- the pieces of the input, and its text
 abbrev pub input_pieces : Job → List ℕ → List Piece
-input_pieces j x = pieces_of j.from x
+input_pieces j x = pieces_of j.tables.now j.from x
 
 abbrev pub input_text : Job → List ℕ → List ℕ
 input_text j x = text (input_pieces j x)
 
+-- what is written for characters, and what that reads back as: its pieces in the output encoding, without mark
+-- handling
+abbrev pub target_of : Job → Coding
+target_of j = coding_of j.tables.now j.to
+
+abbrev pub output_pieces : Job → List ℕ → List Piece
+output_pieces j y = pieces_of j.tables.now (output_encoding_of j.to) y
+
 -- what is written to the output
 abbrev pub output_of : Job → List ℕ → List ℕ
-output_of j x = output (coding_of j.to) (input_text j x)
+output_of j x = output (target_of j) (input_text j x)
 
 -- the lines of characters without bytes, the first with the index i
 abbrev pub form_lines : ℕ → Form → List LogLine
@@ -46,15 +60,15 @@ log_lines e place i (bad n ∷ ps) = Bad place n ∷ (lost_in e i (0xFFFD ∷ []
 
 -- what is written to the log
 abbrev pub log_of : Job → List ℕ → List ℕ
-log_of j x = flat_map line_bytes (log_lines (coding_of j.to) 0 0 (input_pieces j x))
+log_of j x = flat_map line_bytes (log_lines (target_of j) 0 0 (input_pieces j x))
 
 -- both, in their one order
 abbrev pub trace : Job → List ℕ → List Item
-trace j x = trace_from (coding_of j.to) Ascii 0 0 (input_pieces j x)
+trace j x = trace_from (target_of j) Ascii 0 0 (input_pieces j x)
 
 -- Nothing was lost: no piece of the input is bad, and the output, decoded without mark handling, has no bad piece
 -- and is the input's text.
 pub record Faithful (j : Job) (x : List ℕ) : Type 0 where
   pub source : AreGood (input_pieces j x)
-  pub target : AreGood (pieces_of (output_encoding_of j.to) (output_of j x))
-  pub same : text (pieces_of (output_encoding_of j.to) (output_of j x)) ≡ input_text j x
+  pub target : AreGood (output_pieces j (output_of j x))
+  pub same : text (output_pieces j (output_of j x)) ≡ input_text j x

@@ -6,8 +6,7 @@ use Rattle.encoding_mem.specs.Decoding.{DecoderState}
 use Rattle.encoding_mem.specs.Coding.{Coding, lost_count}
 use Rattle.encoding_mem.specs.Items.{Item}
 use Rattle.encoding_mem.specs.declared.form.Set.{Set}
-use Rattle.encoding_front.specs.Encodings.{coding_of}
-use Rattle.recode.specs.Job.{trace, output_of, log_of, input_pieces, input_text, Faithful}
+use Rattle.recode.specs.Job.{trace, target_of, output_of, log_of, input_pieces, input_text, Faithful}
 use Rattle.recode.specs.Marked.{Marked, Wrote, IsFront, marks, outputs, lines}
 use Rattle.recode.specs.Owed.{owes}
 use Rattle.recode.specs.Step.{PassesLimit}
@@ -45,7 +44,7 @@ phase_after (Err f) = Stopped
 pub record Begins (v : View) (j : Job) : Type 0 where
   pub job : v.job ≡ j
   pub open_ : v.phase ≡ Open
-  pub coding : v.coding ≡ coding_of j.to
+  pub coding : v.coding ≡ target_of j
   pub read : v.counts.read ≡ 0
   pub bad : v.counts.bad ≡ 0
   pub lost : v.counts.lost ≡ 0
@@ -63,7 +62,7 @@ pub record Tells (v : View) (p : Report) : Type 0 where
 pub record IsReport (j : Job) (x : List ℕ) (p : Report) : Type 0 where
   pub read : p.read ≡ length x
   pub bad : p.bad ≡ bad_count (input_pieces j x)
-  pub lost : p.lost ≡ lost_count (coding_of j.to) (input_text j x)
+  pub lost : p.lost ≡ lost_count (target_of j) (input_text j x)
   pub encoding : p.encoding ≡ j.from
   pub faithful : IsTrue p.faithful ↔ Faithful j x
 

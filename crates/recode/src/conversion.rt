@@ -1,9 +1,9 @@
-ghost use Rattle.std.specs.Prelude.{◌≡◌, ◌≢◌, ◌≤◌, ◌<◌, ◌^◌, ◌+◌, ◌-◌, ℕ, take, length, OnOk, OnErr};
+ghost use Rattle.std.specs.Prelude.{◌≡◌, ◌≢◌, ◌≤◌, ◌<◌, ◌^◌, ◌+◌, ◌-◌, ℕ, take, length, OnOk, IfErr};
 ghost use Rattle.std.specs.Io.KnownBytes.{Appends, Keeps};
 ghost use Rattle.recode_log.specs.Counted.{inner_of, failures_of};
 ghost use Rattle.recode.specs.Job.{IsValidJob};
 ghost use Rattle.recode.specs.Buffers.{AreEnough};
-ghost use Rattle.recode.specs.Conversion.{Breaks, Converts, WhyFailed, message_of};
+ghost use Rattle.recode.specs.Conversion.{Breaks, Converts, IsFlushCause, message_of};
 
 use crate::buffers::Buffers;
 use crate::fault::Fault;
@@ -32,7 +32,7 @@ fn flush_both<W: Write, L: Write>(
     ensures output { Keeps (W.contents (inner_of writer.old)) (W.contents (inner_of writer.new)) }
     ensures logged { Keeps (L.contents (inner_of log.old)) (L.contents (inner_of log.new)) }
     ensures ok { OnOk result ((failures_of writer.new ≡ failures_of writer.old) × (failures_of log.new ≡ failures_of log.old)) }
-    ensures err { OnErr result (failures_of writer.old + failures_of log.old < failures_of writer.new + failures_of log.new) }
+    ensures err { IfErr result (IsFlushCause (failures_of writer.old) (failures_of writer.new) (failures_of log.old) (failures_of log.new)) }
     ensures writer_count { failures_of writer.old ≤ failures_of writer.new }
     ensures log_count { failures_of log.old ≤ failures_of log.new }
     ensures log_bound { failures_of log.new ≤ failures_of log.old + 1 }
@@ -91,8 +91,7 @@ pub fn convert<R: Read, W: Write, L: Write>(
     ensures buffers { AreEnough buffers.new }
     ensures converts { result ≢ FAULT → Converts (R.remaining (inner_of reader.old)) (R.remaining (inner_of reader.new)) (W.contents (inner_of writer.old)) (W.contents (inner_of writer.new)) (L.contents (inner_of log.old)) (L.contents (inner_of log.new)) job.entry result }
     ensures quiet { result ≢ FAULT → (failures_of reader.new ≡ failures_of reader.old) × (failures_of writer.new ≡ failures_of writer.old) × (failures_of log.new ≡ failures_of log.old) }
-    ensures broken { result ≡ FAULT → Breaks (R.remaining (inner_of reader.old)) (R.remaining (inner_of reader.new)) (W.contents (inner_of writer.old)) (W.contents (inner_of writer.new)) (L.contents (inner_of log.old)) (L.contents (inner_of log.new)) job.entry }
-    ensures failed { result ≡ FAULT → WhyFailed (failures_of reader.old) (failures_of reader.new) (failures_of writer.old) (failures_of writer.new) (failures_of log.old) (failures_of log.new) (R.remaining (inner_of reader.old)) (R.remaining (inner_of reader.new)) job.entry.limit }
+    ensures broken { result ≡ FAULT → Breaks (R.remaining (inner_of reader.old)) (R.remaining (inner_of reader.new)) (W.contents (inner_of writer.old)) (W.contents (inner_of writer.new)) (L.contents (inner_of log.old)) (L.contents (inner_of log.new)) (failures_of reader.old) (failures_of reader.new) (failures_of writer.old) (failures_of writer.new) (failures_of log.old) (failures_of log.new) job.entry }
 {
     let result = run(reader, writer, log, job, buffers);
     let flushed = flush_both(writer, log);

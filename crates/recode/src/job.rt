@@ -33,11 +33,14 @@ impl<'t> Job<'t> {
     ghost use Rattle.std.specs.Prelude.{IsTrue, ◌↔◌};
     ghost use Rattle.recode.specs.Job.{IsValidJob};
 
-    /// Whether the job can be run: its limit is at most `GREATEST_LIMIT`. So far marks are kept, and
-    /// both encodings are UTF-8, which needs no index.
+    /// Whether the job can be run: the indexes that the two encodings need are there, and its limit is at
+    /// most `GREATEST_LIMIT`. So far marks are kept.
     pub fn is_valid(&self) -> bool
         ensures { IsTrue result ↔ IsValidJob self.now }
     {
-        matches!(self.mark, Mark::Keep) && self.limit <= GREATEST_LIMIT
+        matches!(self.mark, Mark::Keep)
+            && self.limit <= GREATEST_LIMIT
+            && self.from.is_ready(self.tables)
+            && self.to.output_encoding().is_ready(self.tables)
     }
 }

@@ -4,8 +4,8 @@ ghost use Rattle.std.specs.Prelude.{◌≡◌, ◌↔◌, ◌<◌, ℕ, List, []
 ghost use Rattle.std.specs.Str.{IsUtf8};
 ghost use Rattle.encoding_mem.specs.Piece.{bad_count};
 ghost use Rattle.encoding_mem.specs.Coding.{lost_count};
-ghost use Rattle.encoding_front.specs.Encodings.{coding_of};
-ghost use Rattle.recode.specs.Job.{Faithful, input_pieces, input_text, log_of, output_of, trace};
+ghost use Rattle.encoding_front.specs.Encodings.{IsUtf8Encoding};
+ghost use Rattle.recode.specs.Job.{Faithful, IsValidJob, input_pieces, input_text, log_of, output_of, target_of, trace};
 ghost use Rattle.recode.specs.Marked.{lines, marks, outputs};
 ghost use Rattle.recode.specs.Payment.{bad_lines, lost_lines};
 ghost use Rattle.recode.specs.Session.{Completes, Fails, IsConverted};
@@ -19,18 +19,18 @@ pub fn trace_of_input()
     ensures output { (j : Job) (x : List ℕ) → outputs (marks (trace j x)) ≡ output_of j x }
     ensures log { (j : Job) (x : List ℕ) → lines (marks (trace j x)) ≡ log_of j x }
     ensures bad { (j : Job) (x : List ℕ) → bad_lines (trace j x) ≡ bad_count (input_pieces j x) }
-    ensures lost { (j : Job) (x : List ℕ) → lost_lines (trace j x) ≡ lost_count (coding_of j.to) (input_text j x) }
+    ensures lost { (j : Job) (x : List ℕ) → lost_lines (trace j x) ≡ lost_count (target_of j) (input_text j x) }
 {}
 
-/// UTF-8 text gives its own bytes, and an empty log.
+/// From UTF-8 to UTF-8, text gives its own bytes, and an empty log.
 pub fn utf8_text_is_kept()
-    ensures output { (j : Job) (x : List ℕ) → IsUtf8 x → output_of j x ≡ x }
-    ensures log { (j : Job) (x : List ℕ) → IsUtf8 x → log_of j x ≡ [] }
+    ensures output { (j : Job) (x : List ℕ) → IsUtf8Encoding j.from → IsUtf8Encoding j.to → IsUtf8 x → output_of j x ≡ x }
+    ensures log { (j : Job) (x : List ℕ) → IsUtf8Encoding j.from → IsUtf8Encoding j.to → IsUtf8 x → log_of j x ≡ [] }
 {}
 
 /// Nothing was lost exactly where the log is empty.
 pub fn faithful_where_log_is_empty()
-    ensures { (j : Job) (x : List ℕ) → Faithful j x ↔ (log_of j x ≡ []) }
+    ensures { (j : Job) (x : List ℕ) → IsValidJob j → Faithful j x ↔ (log_of j x ≡ []) }
 {}
 
 /// Of a reader that tells its bytes, a run that came to its end read them all: cuts and sizes of buffers change

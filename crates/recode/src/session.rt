@@ -18,7 +18,8 @@ use crate::job::Job;
 use crate::phase::Phase;
 use crate::progress::Progress;
 use crate::report::Report;
-use encoding_mem::{RawDecoder, RawEncoder, Utf8Decoder, Utf8Encoder};
+use encoding_front::{VariantDecoder, VariantEncoder};
+use encoding_mem::{RawDecoder, RawEncoder};
 use recode_log::counted::Counted;
 use std::io::{Read, Write};
 
@@ -30,20 +31,20 @@ pub trait Viewed {
 /// A conversion, step by step. It holds no buffer: each step is lent some.
 #[derive(Drop)]
 pub struct Session<'t> {
-    engine: Engine<Utf8Decoder, Utf8Encoder>,
+    engine: Engine<VariantDecoder<'t>, VariantEncoder<'t>>,
     job: Job<'t>,
     phase: Phase,
-    ghost valid: { IsValidJob job },
-    ghost sound: { phase ≡ Open → AreSound (⟦<Utf8Decoder as RawDecoder>⟧.state engine.decoder).pending engine.counts },
+    ghost small: { job.limit ≤ 2 ^ 48 },
+    ghost sound: { phase ≡ Open → AreSound (⟦<VariantDecoder<'static> as RawDecoder>⟧.state engine.decoder).pending engine.counts },
     ghost within: { phase ≡ Open → engine.counts.read ≤ job.limit },
 }
 
 impl<'t> Viewed for Session<'t> {
     ghost view = { λ s. record {
       job = s.job;
-      decoder = ⟦<Utf8Decoder as RawDecoder>⟧.state s.engine.decoder;
-      coding = ⟦<Utf8Encoder as RawEncoder>⟧.coding s.engine.encoder;
-      set = ⟦<Utf8Encoder as RawEncoder>⟧.set s.engine.encoder;
+      decoder = ⟦<VariantDecoder<'t> as RawDecoder>⟧.state s.engine.decoder;
+      coding = ⟦<VariantEncoder<'t> as RawEncoder>⟧.coding s.engine.encoder;
+      set = ⟦<VariantEncoder<'t> as RawEncoder>⟧.set s.engine.encoder;
       counts = s.engine.counts;
       phase = s.phase;
     } };
@@ -57,8 +58,8 @@ impl<'t> Session<'t> {
     {
         Session {
             engine: Engine {
-                decoder: Utf8Decoder::new(),
-                encoder: Utf8Encoder::new(),
+                decoder: VariantDecoder::new(job.from, job.tables),
+                encoder: VariantEncoder::new(job.to, job.tables),
                 counts: Counts {
                     read: 0,
                     index: 0,

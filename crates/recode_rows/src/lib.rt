@@ -9,6 +9,10 @@ mod faults;
 #[cfg(test)]
 mod limits;
 #[cfg(test)]
+mod pairs;
+#[cfg(test)]
+mod row;
+#[cfg(test)]
 mod sink;
 #[cfg(test)]
 mod source;

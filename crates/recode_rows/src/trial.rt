@@ -3,8 +3,9 @@ ghost use Rattle.recode_log.specs.Counted.{failures_of};
 
 use crate::sink::{Flushes, Manners, Sink, WILLING};
 use crate::source::{Reads, Source};
-use encoding_front::UTF_8;
-use encoding_tables::Tables;
+use encoding_front::{Encoding, UTF_8};
+use encoding_index::load;
+use encoding_tables::{IndexKind, Tables};
 use recode::{
     Buffers, Fault, GREATEST_LIMIT, Job, Mark, Pivot, Progress, Report, Session, convert, run,
 };
@@ -50,9 +51,13 @@ pub enum Way {
 
 pub const WAYS: [Way; 2] = [Way::Run, Way::Steps];
 
-/// A conversion from UTF-8 to UTF-8 that keeps marks, and what its devices do.
+/// A conversion that keeps marks, and what its devices do.
 #[derive(Clone, Copy, Debug)]
 pub struct Trial {
+    pub from: Encoding,
+    pub to: Encoding,
+    /// The text of the index of windows-1252.
+    pub index: &'static [u8],
     pub input: &'static [u8],
     pub limit: u64,
     pub sizes: Sizes,
@@ -65,9 +70,12 @@ pub struct Trial {
 }
 
 impl Trial {
-    /// The input in one read, large buffers, and no fault.
+    /// From UTF-8 to UTF-8: the input in one read, large buffers, and no fault.
     pub fn new(input: &'static [u8]) -> Trial {
         Trial {
+            from: UTF_8,
+            to: UTF_8,
+            index: b"",
             input,
             limit: GREATEST_LIMIT,
             sizes: ROOMY,
@@ -81,12 +89,20 @@ impl Trial {
 
     fn job<'t>(&self, tables: &'t Tables) -> Job<'t> {
         Job {
-            from: UTF_8,
-            to: UTF_8,
+            from: self.from,
+            to: self.to,
             mark: Mark::Keep,
             limit: self.limit,
             tables,
         }
+    }
+
+    // Tables with the index.
+    fn tables(&self, rt: &(impl Abort + AllocGlobal)) -> Tables {
+        let mut tables = Tables::new(rt.alloc());
+        let loaded = load(rt.alloc(), &mut tables, IndexKind::Windows1252, self.index);
+        assert_eq!(rt; loaded, Ok(()));
+        tables
     }
 
     fn devices<'a>(&self, alloc: Global, turns: &'a Cell<usize>) -> Devices<'a> {
@@ -264,7 +280,7 @@ pub fn recode(
     way: Way,
     trial: &Trial,
 ) -> Result<Outcome<Result<Report, Fault>>, AllocError> {
-    let tables = Tables::new(rt.alloc());
+    let tables = trial.tables(rt);
     let turns = Cell::new(0);
     let mut devices = trial.devices(rt.alloc(), &turns);
     let mut rooms = Rooms::new(rt.alloc(), trial.sizes)?;
@@ -296,7 +312,7 @@ fn by_convert(
 
 /// Converts by `convert`, and answers its status.
 pub fn status(rt: &(impl Abort + AllocGlobal), trial: &Trial) -> Result<Outcome<u8>, AllocError> {
-    let tables = Tables::new(rt.alloc());
+    let tables = trial.tables(rt);
     let turns = Cell::new(0);
     let mut devices = trial.devices(rt.alloc(), &turns);
     let mut rooms = Rooms::new(rt.alloc(), trial.sizes)?;

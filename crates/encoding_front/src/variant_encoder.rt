@@ -1,0 +1,79 @@
+ghost use Rattle.std.specs.Prelude.{◌≡◌, ℕ, ◌-◌, ◌≤◌, length, take, drop};
+ghost use Rattle.std.specs.Str.{chars, IsCharBoundary};
+ghost use Rattle.std.specs.Char.Utf16.{utf16_lossy_chars};
+ghost use Rattle.encoding_mem.specs.declared.form.Set.TheVariants.{Ascii};
+ghost use Rattle.encoding_mem.specs.Utf8CodingLaws.{utf8_coding_laws};
+ghost use Rattle.encoding_tables.specs.SingleByteLaws.{single_byte_laws};
+ghost use Rattle.encoding_front.specs.Encodings.{IsReady, coding_of, output_encoding_of};
+ghost use Rattle.encoding_front.specs.VariantLaws.{four_is_enough};
+ghost use Rattle.encoding_front.specs.declared.variant_encoder.VariantEncoder.TheVariants.{Utf8, SingleByte};
+
+use crate::encoding::{Encoding, Scheme};
+use encoding_mem::{EncoderResult, RawEncoder, Utf8Encoder};
+use encoding_tables::{SingleByteEncoder, Tables};
+
+/// The encoder of any output encoding.
+#[derive(Drop)]
+pub enum VariantEncoder<'t> {
+    Utf8(Utf8Encoder),
+    SingleByte(SingleByteEncoder<'t>),
+}
+
+impl<'t> VariantEncoder<'t> {
+    /// The encoder of what is written where this encoding is asked for, in ASCII.
+    pub fn new(encoding: Encoding, tables: &'t Tables) -> Self
+        requires { IsReady tables.now (output_encoding_of encoding) }
+        ensures coding { ⟦<VariantEncoder<'t> as RawEncoder>⟧.coding result ≡ coding_of tables.now encoding }
+        ensures set { ⟦<VariantEncoder<'t> as RawEncoder>⟧.set result ≡ Ascii }
+    {
+        match encoding.output_encoding().scheme() {
+            Scheme::Utf8 => VariantEncoder::Utf8(Utf8Encoder::new()),
+            Scheme::SingleByte(kind) => {
+                VariantEncoder::SingleByte(SingleByteEncoder::new(tables, kind))
+            }
+        }
+    }
+}
+
+impl<'t> RawEncoder for VariantEncoder<'t> {
+    ghost need = { 4 };
+
+    ghost coding = { elim [
+      | Utf8 e ↦ ⟦<Utf8Encoder as RawEncoder>⟧.coding e
+      | SingleByte e ↦ ⟦<SingleByteEncoder<'t> as RawEncoder>⟧.coding e
+    ] };
+
+    ghost set = { elim [
+      | Utf8 e ↦ ⟦<Utf8Encoder as RawEncoder>⟧.set e
+      | SingleByte e ↦ ⟦<SingleByteEncoder<'t> as RawEncoder>⟧.set e
+    ] };
+
+    ghost laws = { elim [
+      | Utf8 e ↦ utf8_coding_laws
+      | SingleByte e ↦ four_is_enough 1 _ (single_byte_laws _)
+    ] };
+
+    fn encode_from_utf8_raw(
+        &mut self,
+        src: &str,
+        dst: &mut [u8],
+        last: bool,
+    ) -> (EncoderResult, usize, usize) {
+        match self {
+            VariantEncoder::Utf8(encoder) => encoder.encode_from_utf8_raw(src, dst, last),
+            VariantEncoder::SingleByte(encoder) => encoder.encode_from_utf8_raw(src, dst, last),
+        }
+    }
+
+    fn encode_from_utf16_raw(
+        &mut self,
+        src: &[u16],
+        dst: &mut [u8],
+        last: bool,
+    ) -> (EncoderResult, usize, usize) {
+        match self {
+            VariantEncoder::Utf8(encoder) => encoder.encode_from_utf16_raw(src, dst, last),
+            VariantEncoder::SingleByte(encoder) => encoder.encode_from_utf16_raw(src, dst, last),
+        }
+    }
+}

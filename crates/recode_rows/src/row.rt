@@ -1,0 +1,69 @@
+use crate::source::Reads;
+use crate::trial::{LEAST, ROOMY, Trial, WAYS, recode};
+use encoding_front::{Encoding, UTF_8};
+use recode::Report;
+use std::alloc::AllocError;
+use std::process::Abort;
+
+/// An input with its encoding and the one that is asked for, and what must come of it, however it is read.
+#[derive(Clone, Copy)]
+pub struct Row {
+    pub from: Encoding,
+    pub to: Encoding,
+    /// The text of the index of windows-1252.
+    pub index: &'static [u8],
+    pub input: &'static [u8],
+    pub output: &'static [u8],
+    pub log: &'static str,
+    pub bad: u64,
+    pub lost: u64,
+}
+
+/// Nothing, from UTF-8 to UTF-8.
+pub const EMPTY: Row = Row {
+    from: UTF_8,
+    to: UTF_8,
+    index: b"",
+    input: b"",
+    output: b"",
+    log: "",
+    bad: 0,
+    lost: 0,
+};
+
+// Converts the row in both ways, with the least buffers and with large ones.
+fn check(rt: &(impl Abort + AllocGlobal), row: Row, reads: Reads) -> Result<(), AllocError> {
+    for way in WAYS {
+        for sizes in [LEAST, ROOMY] {
+            let trial = Trial {
+                from: row.from,
+                to: row.to,
+                index: row.index,
+                reads,
+                sizes,
+                ..Trial::new(row.input)
+            };
+            let outcome = recode(rt, way, &trial)?;
+            outcome.check(rt, &trial, row.output, row.log.as_bytes(), [0, 0, 0]);
+            let report = outcome.answer.expect(rt, "a report");
+            let want = Report {
+                read: row.input.len() as u64,
+                bad: row.bad,
+                lost: row.lost,
+                calls: report.calls,
+                encoding: row.from,
+                faithful: row.log.is_empty(),
+            };
+            assert_eq!(rt; report, want, "{trial:?}");
+        }
+    }
+    Ok(())
+}
+
+/// Converts the row at every cut, and byte by byte.
+pub fn check_cuts(rt: &(impl Abort + AllocGlobal), row: Row) -> Result<(), AllocError> {
+    for place in 0..=row.input.len() {
+        check(rt, row, Reads::CutAt(place))?;
+    }
+    check(rt, row, Reads::OneByOne)
+}
