@@ -38,9 +38,9 @@ pub proper : (e : Encoding) → IsProper (scheme_of e)
 proper e = proper_name e.name
 
 -- what is written for a text reads back as that text exactly where each scalar of it has bytes
-exact_in : (t : IndexLists) (s : Scheme) → IsProper s → AreAcceptedTables t → AreThere t (needs_of_scheme s) → ReadsBackExactly (pieces_of_scheme t s) (coding_of_scheme t s)
-exact_in t Scheme.Utf8 p taken ready = utf8_exact
-exact_in t (Scheme.SingleByte kind) p taken ready = tables_exact t kind taken p ready.0
+exact_in : (t : IndexLists) (s : Scheme) → AreAcceptedTables t → ReadsBackExactly (pieces_of_scheme t s) (coding_of_scheme t s)
+exact_in t Scheme.Utf8 taken = utf8_exact
+exact_in t (Scheme.SingleByte kind) taken = tables_exact t kind taken
 
-pub reads_back_exactly : (t : IndexLists) (e : Encoding) → AreAcceptedTables t → IsReady t (output_encoding_of e) → ReadsBackExactly (pieces_of t (output_encoding_of e)) (coding_of t e)
-reads_back_exactly t e taken ready = exact_in t (scheme_of (output_encoding_of e)) (proper (output_encoding_of e)) taken ready
+pub reads_back_exactly : (t : IndexLists) (e : Encoding) → AreAcceptedTables t → ReadsBackExactly (pieces_of t (output_encoding_of e)) (coding_of t e)
+reads_back_exactly t e taken = exact_in t (scheme_of (output_encoding_of e)) taken

@@ -1,5 +1,4 @@
 mod IndexSlots
 mod RangeRows
 mod RowNames
-mod PointerLaws
 mod Latin1

@@ -9,6 +9,7 @@ pub mod RangeLaws
 pub mod NamedRows
 pub mod OptionCases
 pub mod TableFaultsLaws
+pub mod PointerLaws
 pub mod SingleByte
 pub mod SingleByteLaws
 pub mod SingleByteReadBack

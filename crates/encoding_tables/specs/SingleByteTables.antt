@@ -9,7 +9,7 @@ use Rattle.encoding_tables.specs.IndexLists.{IndexLists, has, flat_of, entries_o
 use Rattle.encoding_tables.specs.Kinds.{is_single_byte, is_ranges, size_of}
 use Rattle.encoding_tables.specs.Lookups.{AreEntries}
 use Rattle.encoding_tables.specs.TableFaults.{flat_fault}
-use Rattle.encoding_tables.specs.TableFaultsLaws.{entries_are_scalars, sized_as_kind}
+use Rattle.encoding_tables.specs.TableFaultsLaws.{entries_are_scalars}
 use Rattle.encoding_tables.specs.SingleByte.{pieces_single_byte, single_byte_coding}
 use Rattle.encoding_tables.specs.SingleByteReadBack.{single_byte_exact, single_byte_are_pieces}
 use Rattle.encoding_tables.specs.declared.index_kind.IndexKind.{IndexKind}
@@ -23,24 +23,10 @@ scalars_of kind (Some flat) h = entries_are_scalars kind flat h
 entries_scalars : (t : IndexLists) (kind : IndexKind) → AreAcceptedTables t → AreEntries (entries_of t kind)
 entries_scalars t kind h = scalars_of kind (flat_of t kind) (h.0 kind)
 
-not_ranges : (kind : IndexKind) → is_ranges kind ≡ true → is_single_byte kind ≡ true → ⊥
-not_ranges Gb18030Ranges ranged single = absurd (cc)
-not_ranges _ ranged single = absurd (cc)
-
 -- its pieces are pieces
 pub tables_are_pieces : (t : IndexLists) (kind : IndexKind) → AreAcceptedTables t → (x : List ℕ) → ArePieces (pieces_single_byte (entries_of t kind) x)
 tables_are_pieces t kind h x = single_byte_are_pieces (entries_of t kind) (entries_scalars t kind h) x
 
--- the list of a single-byte encoding that is there has 128 entries
-long_if_there : (kind : IndexKind) (o : Option (List ℕ)) → is_single_byte kind ≡ true → IfSome o (λ flat. flat_fault false kind flat ≡ None) → is_some o ≡ true → 128 ≤ length (unwrap_or o [])
-long_if_there kind None single h there = absurd (cc)
-long_if_there kind (Some flat) single h there = omega (arith, sized_as_kind kind flat h, eqb-true (size_of kind) 128 single)
-
-flat_there : (t : IndexLists) (kind : IndexKind) (b : Bool) → is_ranges kind ≡ b → is_single_byte kind ≡ true → has t kind ≡ true → is_some (flat_of t kind) ≡ true
-flat_there t kind true ranged single there = absurd (not_ranges kind ranged single)
-flat_there t kind false ranged single there = rw ranged at there
-
 -- what is written reads back exactly where each character has a byte
-pub tables_exact : (t : IndexLists) (kind : IndexKind) → AreAcceptedTables t → is_single_byte kind ≡ true → has t kind ≡ true → ReadsBackExactly (pieces_single_byte (entries_of t kind)) (single_byte_coding (entries_of t kind))
-tables_exact t kind h single there =
-    single_byte_exact (entries_of t kind) (entries_scalars t kind h) (long_if_there kind (flat_of t kind) single (h.0 kind) (flat_there t kind (is_ranges kind) refl single there))
+pub tables_exact : (t : IndexLists) (kind : IndexKind) → AreAcceptedTables t → ReadsBackExactly (pieces_single_byte (entries_of t kind)) (single_byte_coding (entries_of t kind))
+tables_exact t kind h = single_byte_exact (entries_of t kind) (entries_scalars t kind h)

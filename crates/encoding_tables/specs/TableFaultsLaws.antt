@@ -55,12 +55,6 @@ entries_fit kind flat taken p within =
     let none = map_none Entry (first_bad_entry kind flat) parts.0 in
     not-false (is_entry_of kind (get_or flat p 0)) (no_position (λ v. not (is_entry_of kind v)) flat none p within)
 
--- it has as many entries as its kind
-pub sized_as_kind : (kind : IndexKind) (flat : List ℕ) → flat_fault false kind flat ≡ None → length flat ≡ size_of kind
-sized_as_kind kind flat taken =
-    eqb-true (length flat) (size_of kind) (not-false (length flat == size_of kind)
-    (if_none (not (length flat == size_of kind)) Size (option_or (option_map Entry (first_bad_entry kind flat)) (reserved_fault kind flat)) taken).0)
-
 pub entries_are_scalars : (kind : IndexKind) (flat : List ℕ) → flat_fault false kind flat ≡ None → AreEntries flat
 entries_are_scalars kind flat taken p mapped = elim (cases_lt p (length flat)) [
   | inl within ↦ is_scalar (get_or flat p 0) (entry_is_scalar kind (get_or flat p 0) (entries_fit kind flat taken p within) mapped)

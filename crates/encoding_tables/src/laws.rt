@@ -1,7 +1,11 @@
 // Laws of the definitions. The functions do nothing: each contract is a law.
 
+ghost use Rattle.std.specs.Prelude.{ℕ, List};
+ghost use Rattle.encoding_mem.specs.ReadBack.{ReadsBackExactly};
+ghost use Rattle.encoding_tables.specs.Lookups.{AreEntries};
 ghost use Rattle.encoding_tables.specs.LookupLaws.{FirstIsLeast, LastIsGreatest};
 ghost use Rattle.encoding_tables.specs.NamedRows.{NamesAreExact};
+ghost use Rattle.encoding_tables.specs.SingleByte.{pieces_single_byte, single_byte_coding};
 ghost use Rattle.encoding_tables.specs.RangeLaws.{ValuesAreScalars, ValuesRise, PointersAreExact, PointersReadBack};
 
 /// The pointers that are found in the list of an index are the least and the greatest with a character.
@@ -20,4 +24,10 @@ pub fn ranges()
     ensures exact { PointersAreExact }
     ensures read_back { PointersReadBack }
     ensures names { NamesAreExact }
+{}
+
+/// What is written in a single-byte encoding reads back, by the decoder of the same list, as the text
+/// exactly where each character of it has a byte.
+pub fn single_byte_text_reads_back()
+    ensures { (flat : List ℕ) → AreEntries flat → ReadsBackExactly (pieces_single_byte flat) (single_byte_coding flat) }
 {}

@@ -8,8 +8,12 @@ pub mod laws;
 pub mod ranges;
 pub mod single_byte_decoder;
 pub mod single_byte_encoder;
+#[cfg(test)]
+mod single_byte_tests;
 pub mod table_fault;
 pub mod tables;
+#[cfg(test)]
+mod tests;
 
 pub use flat::Flat;
 pub use index_kind::IndexKind;

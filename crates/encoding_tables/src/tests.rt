@@ -1,0 +1,177 @@
+// Lists and rows that are taken or refused, with answers worked by hand.
+
+use crate::{IndexKind, TableFault, Tables};
+use std::alloc::{AllocError, Global};
+use std::test::Fail;
+
+// The kinds with a list.
+const LISTED: [IndexKind; 33] = [
+    IndexKind::Ibm866,
+    IndexKind::Iso8859_2,
+    IndexKind::Iso8859_3,
+    IndexKind::Iso8859_4,
+    IndexKind::Iso8859_5,
+    IndexKind::Iso8859_6,
+    IndexKind::Iso8859_7,
+    IndexKind::Iso8859_8,
+    IndexKind::Iso8859_10,
+    IndexKind::Iso8859_13,
+    IndexKind::Iso8859_14,
+    IndexKind::Iso8859_15,
+    IndexKind::Iso8859_16,
+    IndexKind::Koi8R,
+    IndexKind::Koi8U,
+    IndexKind::Macintosh,
+    IndexKind::Windows874,
+    IndexKind::Windows1250,
+    IndexKind::Windows1251,
+    IndexKind::Windows1252,
+    IndexKind::Windows1253,
+    IndexKind::Windows1254,
+    IndexKind::Windows1255,
+    IndexKind::Windows1256,
+    IndexKind::Windows1257,
+    IndexKind::Windows1258,
+    IndexKind::XMacCyrillic,
+    IndexKind::Big5,
+    IndexKind::EucKr,
+    IndexKind::Gb18030,
+    IndexKind::Jis0208,
+    IndexKind::Jis0212,
+    IndexKind::Iso2022JpKatakana,
+];
+
+// What new tables answer to so many entries, all 0 but one.
+fn fault_of_one(
+    alloc: Global,
+    kind: IndexKind,
+    size: usize,
+    pointer: usize,
+    entry: u32,
+) -> Result<Result<(), TableFault>, AllocError> {
+    let mut flat = std::vec![in alloc; 0; size]?;
+    if let Some(place) = flat.get_mut(pointer) {
+        *place = entry;
+    }
+    let mut tables = Tables::new(alloc);
+    if kind.is_ranges() {
+        return Ok(tables.insert_ranges(&[]));
+    }
+    Ok(tables.insert(kind, flat.as_slice()))
+}
+
+#[test]
+fn every_list_of_zeros_is_taken_once(rt: HostRuntime) -> Result<(), Fail> {
+    let mut tables = Tables::new(rt.alloc());
+    for kind in LISTED {
+        assert!(rt; !kind.is_ranges());
+        assert!(rt; !tables.has(kind));
+        let flat = std::vec![in rt.alloc(); 0; kind.size()]?;
+        assert_eq!(rt; tables.insert(kind, flat.as_slice()), Ok(()));
+        assert!(rt; tables.has(kind));
+        assert_eq!(rt; tables.insert(kind, flat.as_slice()), Err(TableFault::Present));
+        assert_eq!(rt; tables.insert(kind, &[]), Err(TableFault::Present));
+        assert!(rt; tables.has(kind));
+    }
+    assert!(rt; !tables.has(IndexKind::Gb18030Ranges));
+    assert_eq!(rt; LISTED.iter().filter(|kind| kind.is_single_byte()).count(), 27);
+    Ok(())
+}
+
+#[test]
+fn lists_are_refused_by_the_first_fault(rt: HostRuntime) -> Result<(), Fail> {
+    let alloc = rt.alloc();
+    let single = IndexKind::Windows1252;
+    assert_eq!(rt; fault_of_one(alloc, single, 127, 0, 0x41)?, Err(TableFault::Size));
+    assert_eq!(rt; fault_of_one(alloc, single, 129, 0, 0)?, Err(TableFault::Size));
+    assert_eq!(rt; fault_of_one(alloc, single, 128, 0, 0x41)?, Err(TableFault::Entry(0)));
+    assert_eq!(rt; fault_of_one(alloc, single, 128, 127, 0x7F)?, Err(TableFault::Entry(127)));
+    assert_eq!(rt; fault_of_one(alloc, single, 128, 5, 0xD800)?, Err(TableFault::Entry(5)));
+    assert_eq!(rt; fault_of_one(alloc, single, 128, 5, 0xDFFF)?, Err(TableFault::Entry(5)));
+    assert_eq!(rt; fault_of_one(alloc, single, 128, 5, 0x1_0000)?, Err(TableFault::Entry(5)));
+    assert_eq!(rt; fault_of_one(alloc, single, 128, 5, 0x80)?, Ok(()));
+    assert_eq!(rt; fault_of_one(alloc, single, 128, 5, 0xFFFF)?, Ok(()));
+    let big5 = IndexKind::Big5;
+    assert_eq!(rt; fault_of_one(alloc, big5, 19782, 942, 0x2_008A)?, Ok(()));
+    assert_eq!(rt; fault_of_one(alloc, big5, 19782, 942, 0x1_F600)?, Err(TableFault::Entry(942)));
+    assert_eq!(rt; fault_of_one(alloc, big5, 19782, 942, 0x3_0000)?, Err(TableFault::Entry(942)));
+    let euc_kr = IndexKind::EucKr;
+    assert_eq!(rt; fault_of_one(alloc, euc_kr, 23940, 9, 0x2_008A)?, Err(TableFault::Entry(9)));
+    let jis = IndexKind::Jis0208;
+    assert_eq!(rt; fault_of_one(alloc, jis, 11280, 8835, 0x4E00)?, Ok(()));
+    assert_eq!(rt; fault_of_one(alloc, jis, 11280, 8836, 0x4E00)?, Err(TableFault::Reserved(8836)));
+    assert_eq!(rt; fault_of_one(alloc, jis, 11280, 10715, 0x4E00)?, Err(TableFault::Reserved(10715)));
+    assert_eq!(rt; fault_of_one(alloc, jis, 11280, 10716, 0x4E00)?, Ok(()));
+    Ok(())
+}
+
+// What new tables answer to rows.
+fn fault_of_rows(alloc: Global, rows: &[(u32, u32)]) -> Result<(), TableFault> {
+    Tables::new(alloc).insert_ranges(rows)
+}
+
+#[test]
+fn rows_are_refused_by_the_first_bad_one(rt: HostRuntime) {
+    let alloc = rt.alloc();
+    assert_eq!(rt; fault_of_rows(alloc, &[]), Ok(()));
+    assert_eq!(rt; fault_of_rows(alloc, &[(39420, 0x80), (189000, 0x1_0000)]), Ok(()));
+    // values that run into those of the next row
+    assert_eq!(rt; fault_of_rows(alloc, &[(0, 0x80), (36, 0x80)]), Err(TableFault::Ranges(1)));
+    // values below U+0080, surrogates, and numbers above U+10FFFF
+    assert_eq!(rt; fault_of_rows(alloc, &[(0, 0x7F)]), Err(TableFault::Ranges(0)));
+    assert_eq!(rt; fault_of_rows(alloc, &[(0, 0xD7FF), (2, 0xE000)]), Err(TableFault::Ranges(0)));
+    assert_eq!(rt; fault_of_rows(alloc, &[(189000, 0x1_0001)]), Err(TableFault::Ranges(0)));
+    // order comes first
+    assert_eq!(rt; fault_of_rows(alloc, &[(5, 0x80), (5, 0x90)]), Err(TableFault::Ranges(1)));
+    assert_eq!(rt; fault_of_rows(alloc, &[(0, 0x7F), (1237576, 0x80)]), Err(TableFault::Ranges(1)));
+}
+
+#[test]
+fn ranges_have_values_and_pointers(rt: HostRuntime) {
+    let mut tables = Tables::new(rt.alloc());
+    let rows = [
+        (7457, 0x1E3F),
+        (7458, 0x1E40),
+        (39420, 0x80),
+        (189000, 0x1_0000),
+    ];
+    assert_eq!(rt; tables.insert_ranges(&rows), Ok(()));
+    assert_eq!(rt; tables.insert_ranges(&rows), Err(TableFault::Present));
+    assert!(rt; tables.has(IndexKind::Gb18030Ranges));
+    assert_eq!(rt; tables.range_value(7456), None);
+    assert_eq!(rt; tables.range_value(7457), Some('\u{E7C7}'));
+    assert_eq!(rt; tables.range_value(7458), Some('\u{1E40}'));
+    assert_eq!(rt; tables.range_value(39420), None);
+    assert_eq!(rt; tables.range_value(1237575), Some('\u{10FFFF}'));
+    assert_eq!(rt; tables.range_value(1237576), None);
+    assert_eq!(rt; tables.range_pointer('\u{1E3F}'), None);
+    assert_eq!(rt; tables.range_pointer('\u{E7C7}'), Some(7457));
+    assert_eq!(rt; tables.range_pointer('\u{1E40}'), Some(7458));
+    assert_eq!(rt; tables.range_pointer('\u{10000}'), Some(189000));
+    assert_eq!(rt; tables.range_pointer('\u{80}'), None);
+}
+
+#[test]
+fn lists_have_values_and_pointers(rt: HostRuntime) {
+    let mut tables = Tables::new(rt.alloc());
+    let kind = IndexKind::Iso2022JpKatakana;
+    let mut flat = [0; 63];
+    flat[3] = 0x30A2;
+    flat[7] = 0x30A2;
+    assert_eq!(rt; tables.insert(kind, &flat), Ok(()));
+    assert!(rt; tables.has(kind));
+    assert_eq!(rt; tables.value(kind, 3), Some('ア'));
+    assert_eq!(rt; tables.value(kind, 4), None);
+    assert_eq!(rt; tables.value(kind, 63), None);
+    assert_eq!(rt; tables.first_pointer(kind, 'ア', 0, 63), Some(3));
+    assert_eq!(rt; tables.first_pointer(kind, 'ア', 4, u32::MAX), Some(7));
+    assert_eq!(rt; tables.first_pointer(kind, 'ア', 8, 4), None);
+    assert_eq!(rt; tables.first_pointer(kind, '\0', 0, 63), None);
+    assert_eq!(rt; tables.last_pointer(kind, 'ア', 0, 7), Some(3));
+    assert_eq!(rt; tables.last_pointer(kind, 'ア', 0, 8), Some(7));
+    assert_eq!(rt; tables.last_pointer(kind, '\0', 0, 63), None);
+    let lent = tables.flat(kind);
+    assert_eq!(rt; lent.value(7), Some('ア'));
+    assert_eq!(rt; lent.first_pointer('ア', 0, 63), Some(3));
+    assert_eq!(rt; lent.last_pointer('ア', 0, 63), Some(7));
+}
