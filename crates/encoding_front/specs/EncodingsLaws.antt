@@ -1,5 +1,5 @@
 -- What holds of every encoding.
-use Rattle.std.proofs.Common.{◌≡◌, ℕ, List, refl, ap}
+use Rattle.std.proofs.Common.{◌≡◌, ℕ, List, ap}
 use Rattle.encoding_mem.specs.Piece.{ArePieces}
 use Rattle.encoding_mem.specs.PiecesLaws.{pieces_by-are_pieces}
 use Rattle.encoding_mem.specs.ReadBack.{ReadsBackExactly}
@@ -9,10 +9,8 @@ use Rattle.encoding_mem.specs.Utf8Coding.{utf8_coding}
 use Rattle.encoding_mem.specs.Utf8Laws.{cuts_utf8}
 use Rattle.encoding_tables.specs.IndexLists.{IndexLists, AreAcceptedTables}
 use Rattle.encoding_tables.specs.SingleByteTables.{tables_are_pieces, tables_exact}
-use Rattle.encoding_front.specs.Encodings.{AreThere, IsProper, IsReady, IsUtf8Encoding, scheme_of, scheme_of_name, needs_of_scheme, pieces_of, pieces_of_scheme, coding_of, coding_of_scheme, output_encoding_of}
+use Rattle.encoding_front.specs.Encodings.{IsUtf8Encoding, scheme_of, pieces_of, pieces_of_scheme, coding_of, coding_of_scheme, output_encoding_of}
 use Rattle.encoding_front.specs.declared.encoding.Encoding.{Encoding}
-use Rattle.encoding_front.specs.declared.encoding.Name.{Name}
-use Rattle.encoding_front.specs.declared.encoding.Name.TheVariants.{Utf8, Windows1252}
 use Rattle.encoding_front.specs.declared.encoding.Scheme.{Scheme}
 
 -- of UTF-8
@@ -29,13 +27,6 @@ are_pieces_in t (Scheme.SingleByte kind) taken x = tables_are_pieces t kind take
 
 pub are_pieces_of : (t : IndexLists) (e : Encoding) → AreAcceptedTables t → (x : List ℕ) → ArePieces (pieces_of t e x)
 are_pieces_of t e taken x = are_pieces_in t (scheme_of e) taken x
-
-proper_name : (n : Name) → IsProper (scheme_of_name n)
-proper_name Utf8 = tt
-proper_name Windows1252 = refl
-
-pub proper : (e : Encoding) → IsProper (scheme_of e)
-proper e = proper_name e.name
 
 -- what is written for a text reads back as that text exactly where each scalar of it has bytes
 exact_in : (t : IndexLists) (s : Scheme) → AreAcceptedTables t → ReadsBackExactly (pieces_of_scheme t s) (coding_of_scheme t s)

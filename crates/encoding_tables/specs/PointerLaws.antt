@@ -1,13 +1,13 @@
 -- The pointers that the look-ups find are the least and the greatest.
-use Rattle.std.proofs.Common.{◌≡◌, ◌≢◌, ℕ, ◌+◌, ◌-◌, ◌<◌, ◌≤◌, zero, suc, List, [], ◌∷◌, length, get_or, refl, sym, ◌∙◌, ap, arith, Bool, true, false, cond, Option, None, Some, inl, inr, take, drop, length-take, length-drop}
+use Rattle.std.proofs.Common.{◌≡◌, ◌≢◌, ℕ, ◌+◌, ◌-◌, ◌<◌, ◌≤◌, zero, suc, List, [], ◌∷◌, length, get_or, refl, sym, ◌∙◌, ap, arith, Bool, true, false, cond, Option, None, Some, inl, inr, drop, length-take, length-drop}
 use Rattle.std.specs.Prelude.{◌==◌, slice_range, MatchOption, min}
 use Rattle.std.specs.List.{position}
-use Rattle.std.specs.Option.{option_map, option_or}
-use Rattle.std.proofs.lemmas.Bool.{cases_lt, cases_eq, cases_Bool, eq-eqb, ne_eqb, eqb-true, eqb-false}
+use Rattle.std.specs.Option.{option_map}
+use Rattle.std.proofs.lemmas.Bool.{cases_lt, cases_eq, eq-eqb, ne_eqb, eqb-true, eqb-false}
 use Rattle.std.proofs.lemmas.List.{get_or_past}
 use Rattle.std.proofs.lemmas.List.Quantifiers.{position-Some}
 use Rattle.std.proofs.lemmas.List.Edits.{get_or-between}
-use Rattle.encoding_tables.specs.Lookups.{value_of, first_pointer, last_pointer, last_position}
+use Rattle.encoding_tables.specs.Lookups.{value_of, last_position}
 use Rattle.encoding_tables.specs.LookupLaws.{IsPointer, FirstIsLeast, LastIsGreatest}
 use Rattle.encoding_tables.specs.OptionCases.{option_or_none, option_or_some, map_none, map_some, if_some_none, if_some_some}
 use Rattle.encoding_tables.specs.TableFaultsLaws.{no_position}

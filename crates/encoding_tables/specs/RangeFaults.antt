@@ -1,7 +1,7 @@
 -- Which rows are taken as ranges, and which row is named in the others.
 use Rattle.std.proofs.Common.{refl}
 use Rattle.std.specs.Prelude.{◌≡◌, ℕ, ◌+◌, ◌-◌, Bool, List, [], ◌∷◌, nat_lt, not, ◌||◌, ◌&&◌, if◌then◌else◌, min, max, Option, None, Some}
-use Rattle.std.specs.Option.{option_map, option_or, option_and_then}
+use Rattle.std.specs.Option.{option_or, option_and_then}
 use Rattle.encoding_tables.specs.Ranges.{end_by}
 
 -- the first row whose pointer is below `from`, or not above the row before's, or above 1237575

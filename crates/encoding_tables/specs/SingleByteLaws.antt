@@ -1,12 +1,12 @@
 -- Laws of the pieces and the forms of a single-byte encoding.
-use Rattle.std.proofs.Common.{◌≡◌, ◌≢◌, ℕ, ◌+◌, ◌-◌, ◌*◌, ◌<◌, ◌≤◌, Bool, true, false, cond, List, [], ◌∷◌, length, drop, refl, ap, ◌∙◌, arith, lit≤, lit<, Option, None, Some, nat_lt, inl, inr}
-use Rattle.std.specs.Prelude.{slice_index, IfSome, ◌==◌}
-use Rattle.std.specs.Char.{IsScalar, InScalarRange, len_utf8}
+use Rattle.std.proofs.Common.{◌≡◌, ℕ, ◌+◌, ◌-◌, ◌*◌, ◌<◌, ◌≤◌, Bool, List, [], ◌∷◌, length, drop, refl, ap, ◌∙◌, arith, lit≤, lit<, Option, None, Some, inl, inr}
+use Rattle.std.specs.Prelude.{slice_index, IfSome}
+use Rattle.std.specs.Char.{IsScalar, len_utf8}
 use Rattle.std.proofs.lemmas.Bool.{cases_lt, cases_eq, lt-ltb, le-ltb, eq-eqb, ne_eqb}
 use Rattle.std.proofs.lemmas.Bool.Decides.{nat_tests}
 use Rattle.encoding_mem.specs.Coding.{IsCoding, IsShort}
 use Rattle.encoding_mem.specs.StatelessLaws.{stateless_laws, short_one, short_none}
-use Rattle.encoding_mem.specs.Piece.{Piece, good, size_of, Cuts}
+use Rattle.encoding_mem.specs.Piece.{good, size_of, Cuts}
 use Rattle.encoding_mem.specs.PiecesLaws.{CutsEach, pieces_by-cons}
 use Rattle.encoding_mem.specs.Utf8Laws.{cuts_bad, cuts_one}
 use Rattle.encoding_mem.specs.FrontPiece.{IsFront, IsRoomy}

@@ -1,22 +1,15 @@
 -- What a single-byte encoding writes reads back exactly where each character has a byte.
-use Rattle.std.proofs.Common.{◌≡◌, ℕ, ◌+◌, ◌*◌, ◌-◌, ◌<◌, ◌≤◌, Bool, true, false, cond, List, [], ◌∷◌, ◌++◌, length, get_or, drop, sym, ◌∙◌, ap, subst, refl, arith, inl, inr, Option, None, Some, append-nil, length-append, nat_lt, slice_range}
-use Rattle.std.specs.Prelude.{slice_index, ◌==◌, IfSome}
-use Rattle.std.specs.List.{position}
-use Rattle.std.specs.Option.{option_map}
+use Rattle.std.proofs.Common.{◌≡◌, ℕ, ◌+◌, ◌-◌, ◌≤◌, List, [], ◌∷◌, ◌++◌, length, sym, ◌∙◌, ap, subst, refl, arith, inl, inr, Option, None, Some, append-nil, length-append}
 use Rattle.std.specs.Fmt.{decimal}
-use Rattle.std.proofs.lemmas.Bool.{cases_lt, lt-ltb, le-ltb, ne_eqb, eqb-true, cond-false, cond-true}
-use Rattle.std.proofs.lemmas.List.Quantifiers.{position-Some}
-use Rattle.std.proofs.lemmas.List.Edits.{get_or-between, length-between}
-use Rattle.encoding_mem.specs.Piece.{Piece, text, text_of, size_of, AreGood, ArePieces}
-use Rattle.encoding_mem.specs.PiecesLaws.{pieces_by-nil, pieces_by-cons, pieces_by-are_pieces}
-use Rattle.encoding_mem.specs.Coding.{AllMapped, IsMapped, open_from, output, spelled, reference, lost_count, unmapped_count}
+use Rattle.std.proofs.lemmas.Bool.{cases_lt, lt-ltb, le-ltb}
+use Rattle.encoding_mem.specs.Piece.{text, text_of, size_of, AreGood, ArePieces}
+use Rattle.encoding_mem.specs.PiecesLaws.{pieces_by-nil, pieces_by-are_pieces}
+use Rattle.encoding_mem.specs.Coding.{AllMapped, IsMapped, open_from, output, spelled, lost_count, unmapped_count}
 use Rattle.encoding_mem.specs.ReadBack.{ReadsAs, ReadsBackExactly}
 use Rattle.encoding_mem.specs.ReadBackLaws.{all_mapped}
-use Rattle.encoding_mem.specs.declared.form.Form.{Form}
-use Rattle.encoding_mem.specs.declared.form.Form.TheVariants.{Mapped, Unmapped}
 use Rattle.encoding_mem.specs.declared.form.Set.{Set}
 use Rattle.encoding_mem.specs.declared.form.Set.TheVariants.{Ascii}
-use Rattle.encoding_tables.specs.Lookups.{AreEntries, value_of, first_pointer}
+use Rattle.encoding_tables.specs.Lookups.{AreEntries, first_pointer}
 use Rattle.encoding_tables.specs.SingleByte.{char_of_byte, byte_of_char, piece_of_byte, form_of_byte, front_single_byte, pieces_single_byte, single_byte_coding}
 use Rattle.encoding_tables.specs.LookupLaws.{IsPointer}
 use Rattle.encoding_tables.specs.OptionCases.{map_some}

@@ -1,19 +1,16 @@
 -- Single-byte encodings over tables.
-use Rattle.std.proofs.Common.{◌≡◌, ℕ, ◌≤◌, true, false, List, [], length, Option, None, Some, sym, ◌∙◌, ap, subst, arith, refl, Bool}
-use Rattle.std.specs.Prelude.{is_some, IfSome, not, ◌==◌}
+use Rattle.std.proofs.Common.{◌≡◌, ℕ, false, List, [], Option, None, Some, refl}
+use Rattle.std.specs.Prelude.{IfSome}
 use Rattle.std.specs.Option.{unwrap_or}
-use Rattle.std.proofs.lemmas.Bool.{eqb-true, not-false}
 use Rattle.encoding_mem.specs.Piece.{ArePieces}
 use Rattle.encoding_mem.specs.ReadBack.{ReadsBackExactly}
-use Rattle.encoding_tables.specs.IndexLists.{IndexLists, has, flat_of, entries_of, AreAcceptedTables}
-use Rattle.encoding_tables.specs.Kinds.{is_single_byte, is_ranges, size_of}
+use Rattle.encoding_tables.specs.IndexLists.{IndexLists, flat_of, entries_of, AreAcceptedTables}
 use Rattle.encoding_tables.specs.Lookups.{AreEntries}
 use Rattle.encoding_tables.specs.TableFaults.{flat_fault}
 use Rattle.encoding_tables.specs.TableFaultsLaws.{entries_are_scalars}
 use Rattle.encoding_tables.specs.SingleByte.{pieces_single_byte, single_byte_coding}
 use Rattle.encoding_tables.specs.SingleByteReadBack.{single_byte_exact, single_byte_are_pieces}
 use Rattle.encoding_tables.specs.declared.index_kind.IndexKind.{IndexKind}
-use Rattle.encoding_tables.specs.declared.index_kind.IndexKind.TheVariants.{Gb18030Ranges}
 
 -- What is there was accepted, and what is not there has no entries.
 scalars_of : (kind : IndexKind) (o : Option (List ℕ)) → IfSome o (λ flat. flat_fault false kind flat ≡ None) → AreEntries (unwrap_or o [])

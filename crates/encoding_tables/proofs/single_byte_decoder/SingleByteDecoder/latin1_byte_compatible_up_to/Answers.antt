@@ -1,4 +1,3 @@
-use Rattle.std.proofs.Common.{sym}
 use Rattle.encoding_tables.specs.SingleByte.{pieces_single_byte}
 use Rattle.encoding_tables.proofs.Latin1.{with_nothing_pending}
 use Rattle.encoding_tables.proofs.single_byte_decoder.SingleByteDecoder.latin1_byte_compatible_up_to.Goals as goal
