@@ -14,7 +14,7 @@ use Rattle.std.proofs.lemmas.Str.Ascii.{trim_ascii_is}
 use Rattle.std.specs.List.{list_all}
 use Rattle.std.specs.Str.{bytes_eq}
 use Rattle.std.specs.Char.{to_ascii_lowercase}
-use Rattle.encoding_labels.specs.Labels.{labels, place_in, place_of, without_leading, IsLabelText}
+use Rattle.encoding_labels.specs.Labels.{labels, place_in, place_of, without_leading, trimmed, IsLabelText}
 use Rattle.encoding_labels.specs.Rows.{entries, labels_of_length}
 use Rattle.encoding_labels.proofs.Computed.{at_label, both, is_label_text, all_texts, all_places, all_first, is_place, is_place-some, lt_from_test, text_from_test}
 
@@ -99,8 +99,11 @@ place_in-labels text place = (
       (at_label (λ (entry : ℕ × List ℕ). is_place (place_in labels entry.1) entry.0) (place, text) all_first within),
 )
 
--- the search through the rows of one length, for what is trimmed
-pub place_of-search : (label text : List ℕ) (rows : List (Bor (List ℕ) × ℕ)) → IsTrimAscii label text
+pub trims : (label text : List ℕ) → IsTrimAscii label text → text ≡ trimmed label
+trims label text h = trim_ascii_is label text (without_leading label) refl h
+
+-- the search through the rows of one length gives the place
+pub place_of-search : (label text : List ℕ) (rows : List (Bor (List ℕ) × ℕ)) → text ≡ trimmed label
     → entries rows ≡ labels_of_length (length text)
     → place_in (entries rows) (map to_ascii_lowercase text) ≡ place_of label
 place_of-search label text rows trim same =
@@ -108,7 +111,7 @@ place_of-search label text rows trim same =
     let size : length lower ≡ length text = length-map text to_ascii_lowercase in
     ap (λ (l : List (ℕ × List ℕ)). place_in l lower) (same ∙ ap labels_of_length (sym size))
     ∙ place_in-labels_of_length lower
-    ∙ ap (λ (l : List ℕ). place_in labels (map to_ascii_lowercase l)) (trim_ascii_is label text (without_leading label) refl trim)
+    ∙ ap (λ (l : List ℕ). place_in labels (map to_ascii_lowercase l)) trim
 
 -- what is found is below 40, and its text is a label's
 pub place_of-below : (text : List ℕ) (place : ℕ) → place_in labels text ≡ Some place → place < 40

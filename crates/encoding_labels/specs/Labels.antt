@@ -4,7 +4,7 @@ use Rattle.std.specs.List.{prefix_len, suffix_len, range_with_len, AllPass}
 use Rattle.std.specs.Char.{is_ascii_whitespace, to_ascii_lowercase, is_ascii_lowercase, is_ascii_digit, char_set_contains}
 use Rattle.std.specs.Str.{bytes_eq}
 use Prim.Native.String.{String}
-use Rattle.encoding_labels.specs.declared.places.TheConstants.{BIG5, EUC_JP, EUC_KR, GB18030, GBK, IBM866, ISO_2022_JP, ISO_8859_2, ISO_8859_3, ISO_8859_4, ISO_8859_5, ISO_8859_6, ISO_8859_7, ISO_8859_8, ISO_8859_8_I, ISO_8859_10, ISO_8859_13, ISO_8859_14, ISO_8859_15, ISO_8859_16, KOI8_R, KOI8_U, MACINTOSH, REPLACEMENT, SHIFT_JIS, UTF_8, UTF_16BE, UTF_16LE, WINDOWS_874, WINDOWS_1250, WINDOWS_1251, WINDOWS_1252, WINDOWS_1253, WINDOWS_1254, WINDOWS_1255, WINDOWS_1256, WINDOWS_1257, WINDOWS_1258, X_MAC_CYRILLIC, X_USER_DEFINED}
+use Rattle.encoding_labels.specs.declared.places.TheConstants.{ENCODING_COUNT, BIG5, EUC_JP, EUC_KR, GB18030, GBK, IBM866, ISO_2022_JP, ISO_8859_2, ISO_8859_3, ISO_8859_4, ISO_8859_5, ISO_8859_6, ISO_8859_7, ISO_8859_8, ISO_8859_8_I, ISO_8859_10, ISO_8859_13, ISO_8859_14, ISO_8859_15, ISO_8859_16, KOI8_R, KOI8_U, MACINTOSH, REPLACEMENT, SHIFT_JIS, UTF_8, UTF_16BE, UTF_16LE, WINDOWS_874, WINDOWS_1250, WINDOWS_1251, WINDOWS_1252, WINDOWS_1253, WINDOWS_1254, WINDOWS_1255, WINDOWS_1256, WINDOWS_1257, WINDOWS_1258, X_MAC_CYRILLIC, X_USER_DEFINED}
 
 -- the words of a text, which has a space between each two
 abbrev pub add_byte : ℕ → List (List ℕ) → List (List ℕ)
@@ -75,9 +75,12 @@ without_leading bytes = drop (prefix_len is_ascii_whitespace bytes) bytes
 abbrev pub without_trailing : List ℕ → List ℕ
 without_trailing bytes = take (length bytes - suffix_len is_ascii_whitespace bytes) bytes
 
--- what is looked up: no white space at either end, in ASCII lower case
+abbrev pub trimmed : List ℕ → List ℕ
+trimmed bytes = without_trailing (without_leading bytes)
+
+-- what is looked up: the label with no white space at either end, in ASCII lower case
 abbrev pub label_text : List ℕ → List ℕ
-label_text label = map to_ascii_lowercase (without_trailing (without_leading label))
+label_text label = map to_ascii_lowercase (trimmed label)
 
 -- the encoding at this place has the label ("get an encoding")
 abbrev pub IsLabelOf : ℕ → List ℕ → Type 0
@@ -103,7 +106,7 @@ pub record IsLabelText (text : List ℕ) : Type 0 where
   pub bytes : AllPass is_label_byte text
 
 -- the encodings in the order of their places
-pub places : (BIG5 ∷ EUC_JP ∷ EUC_KR ∷ GB18030 ∷ GBK ∷ IBM866 ∷ ISO_2022_JP ∷ ISO_8859_2 ∷ ISO_8859_3 ∷ ISO_8859_4 ∷ ISO_8859_5 ∷ ISO_8859_6 ∷ ISO_8859_7 ∷ ISO_8859_8 ∷ ISO_8859_8_I ∷ ISO_8859_10 ∷ ISO_8859_13 ∷ ISO_8859_14 ∷ ISO_8859_15 ∷ ISO_8859_16 ∷ KOI8_R ∷ KOI8_U ∷ MACINTOSH ∷ REPLACEMENT ∷ SHIFT_JIS ∷ UTF_8 ∷ UTF_16BE ∷ UTF_16LE ∷ WINDOWS_874 ∷ WINDOWS_1250 ∷ WINDOWS_1251 ∷ WINDOWS_1252 ∷ WINDOWS_1253 ∷ WINDOWS_1254 ∷ WINDOWS_1255 ∷ WINDOWS_1256 ∷ WINDOWS_1257 ∷ WINDOWS_1258 ∷ X_MAC_CYRILLIC ∷ X_USER_DEFINED ∷ []) ≡ range_with_len 0 40
+pub places : (BIG5 ∷ EUC_JP ∷ EUC_KR ∷ GB18030 ∷ GBK ∷ IBM866 ∷ ISO_2022_JP ∷ ISO_8859_2 ∷ ISO_8859_3 ∷ ISO_8859_4 ∷ ISO_8859_5 ∷ ISO_8859_6 ∷ ISO_8859_7 ∷ ISO_8859_8 ∷ ISO_8859_8_I ∷ ISO_8859_10 ∷ ISO_8859_13 ∷ ISO_8859_14 ∷ ISO_8859_15 ∷ ISO_8859_16 ∷ KOI8_R ∷ KOI8_U ∷ MACINTOSH ∷ REPLACEMENT ∷ SHIFT_JIS ∷ UTF_8 ∷ UTF_16BE ∷ UTF_16LE ∷ WINDOWS_874 ∷ WINDOWS_1250 ∷ WINDOWS_1251 ∷ WINDOWS_1252 ∷ WINDOWS_1253 ∷ WINDOWS_1254 ∷ WINDOWS_1255 ∷ WINDOWS_1256 ∷ WINDOWS_1257 ∷ WINDOWS_1258 ∷ X_MAC_CYRILLIC ∷ X_USER_DEFINED ∷ []) ≡ range_with_len 0 ENCODING_COUNT
 places = refl
 
 pub length-labels : length labels ≡ 228

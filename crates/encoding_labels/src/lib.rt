@@ -1,8 +1,10 @@
-//! The labels of encodings.
+//! The labels of encodings: the names by which documents and protocols call them.
 #![tactic(auto)]
 
 mod label;
 pub mod places;
 mod table;
+#[cfg(test)]
+mod tests;
 
 pub use label::label_number;

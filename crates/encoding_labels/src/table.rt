@@ -1,5 +1,9 @@
-// The labels by their length, for the search: in each list the labels of one length, in lower case,
-// in the order of the Encoding Standard, each with the place of its encoding.
+// The labels for the search, by their length: that leaves few to compare with, and the lists need no
+// order and no index. In each list the labels stand in the order of the Encoding Standard, in lower
+// case, each with the place of its encoding.
+
+ghost use Rattle.std.specs.Prelude.{◌≡◌, ℕ};
+ghost use Rattle.encoding_labels.specs.Rows.{entries, labels_of_length};
 
 use crate::places::{
     BIG5, EUC_JP, EUC_KR, GB18030, GBK, IBM866, ISO_2022_JP, ISO_8859_2, ISO_8859_3, ISO_8859_4,
@@ -10,7 +14,34 @@ use crate::places::{
     X_USER_DEFINED,
 };
 
-pub(crate) const LABELS_OF_2: &[(&str, usize)] = &[
+// The labels of this length, in bytes.
+pub(crate) fn rows_of_length(length: usize) -> &'static [(&'static str, usize)]
+    ensures { entries result.now ≡ labels_of_length length }
+{
+    match length {
+        2 => LABELS_OF_2,
+        3 => LABELS_OF_3,
+        4 => LABELS_OF_4,
+        5 => LABELS_OF_5,
+        6 => LABELS_OF_6,
+        7 => LABELS_OF_7,
+        8 => LABELS_OF_8,
+        9 => LABELS_OF_9,
+        10 => LABELS_OF_10,
+        11 => LABELS_OF_11,
+        12 => LABELS_OF_12,
+        13 => LABELS_OF_13,
+        14 => LABELS_OF_14,
+        15 => LABELS_OF_15,
+        16 => LABELS_OF_16,
+        17 => LABELS_OF_17,
+        18 => LABELS_OF_18,
+        19 => LABELS_OF_19,
+        _ => &[],
+    }
+}
+
+const LABELS_OF_2: &[(&str, usize)] = &[
     ("l2", ISO_8859_2),
     ("l3", ISO_8859_3),
     ("l4", ISO_8859_4),
@@ -20,21 +51,21 @@ pub(crate) const LABELS_OF_2: &[(&str, usize)] = &[
     ("l5", WINDOWS_1254),
 ];
 
-pub(crate) const LABELS_OF_3: &[(&str, usize)] = &[
+const LABELS_OF_3: &[(&str, usize)] = &[
     ("866", IBM866),
     ("koi", KOI8_R),
     ("mac", MACINTOSH),
     ("gbk", GBK),
 ];
 
-pub(crate) const LABELS_OF_4: &[(&str, usize)] = &[
+const LABELS_OF_4: &[(&str, usize)] = &[
     ("utf8", UTF_8),
     ("koi8", KOI8_R),
     ("big5", BIG5),
     ("sjis", SHIFT_JIS),
 ];
 
-pub(crate) const LABELS_OF_5: &[(&str, usize)] = &[
+const LABELS_OF_5: &[(&str, usize)] = &[
     ("utf-8", UTF_8),
     ("cp866", IBM866),
     ("greek", ISO_8859_7),
@@ -45,7 +76,7 @@ pub(crate) const LABELS_OF_5: &[(&str, usize)] = &[
     ("ucs-2", UTF_16LE),
 ];
 
-pub(crate) const LABELS_OF_6: &[(&str, usize)] = &[
+const LABELS_OF_6: &[(&str, usize)] = &[
     ("ibm866", IBM866),
     ("latin2", ISO_8859_2),
     ("latin3", ISO_8859_3),
@@ -79,7 +110,7 @@ pub(crate) const LABELS_OF_6: &[(&str, usize)] = &[
     ("utf-16", UTF_16LE),
 ];
 
-pub(crate) const LABELS_OF_7: &[(&str, usize)] = &[
+const LABELS_OF_7: &[(&str, usize)] = &[
     ("logical", ISO_8859_8_I),
     ("cskoi8r", KOI8_R),
     ("koi8-ru", KOI8_U),
@@ -94,7 +125,7 @@ pub(crate) const LABELS_OF_7: &[(&str, usize)] = &[
     ("unicode", UTF_16LE),
 ];
 
-pub(crate) const LABELS_OF_8: &[(&str, usize)] = &[
+const LABELS_OF_8: &[(&str, usize)] = &[
     ("csibm866", IBM866),
     ("iso88592", ISO_8859_2),
     ("iso88593", ISO_8859_3),
@@ -129,7 +160,7 @@ pub(crate) const LABELS_OF_8: &[(&str, usize)] = &[
     ("utf-16le", UTF_16LE),
 ];
 
-pub(crate) const LABELS_OF_9: &[(&str, usize)] = &[
+const LABELS_OF_9: &[(&str, usize)] = &[
     ("iso8859-2", ISO_8859_2),
     ("iso8859-3", ISO_8859_3),
     ("iso8859-4", ISO_8859_4),
@@ -151,7 +182,7 @@ pub(crate) const LABELS_OF_9: &[(&str, usize)] = &[
     ("csunicode", UTF_16LE),
 ];
 
-pub(crate) const LABELS_OF_10: &[(&str, usize)] = &[
+const LABELS_OF_10: &[(&str, usize)] = &[
     ("iso-8859-2", ISO_8859_2),
     ("iso-ir-101", ISO_8859_2),
     ("iso_8859-2", ISO_8859_2),
@@ -192,7 +223,7 @@ pub(crate) const LABELS_OF_10: &[(&str, usize)] = &[
     ("hz-gb-2312", REPLACEMENT),
 ];
 
-pub(crate) const LABELS_OF_11: &[(&str, usize)] = &[
+const LABELS_OF_11: &[(&str, usize)] = &[
     ("csisolatin2", ISO_8859_2),
     ("csisolatin3", ISO_8859_3),
     ("csisolatin4", ISO_8859_4),
@@ -226,7 +257,7 @@ pub(crate) const LABELS_OF_11: &[(&str, usize)] = &[
     ("unicodefeff", UTF_16LE),
 ];
 
-pub(crate) const LABELS_OF_12: &[(&str, usize)] = &[
+const LABELS_OF_12: &[(&str, usize)] = &[
     ("iso-8859-6-e", ISO_8859_6),
     ("iso-8859-6-i", ISO_8859_6),
     ("sun_eu_greek", ISO_8859_7),
@@ -243,13 +274,13 @@ pub(crate) const LABELS_OF_12: &[(&str, usize)] = &[
     ("windows-1258", WINDOWS_1258),
 ];
 
-pub(crate) const LABELS_OF_13: &[(&str, usize)] = &[
+const LABELS_OF_13: &[(&str, usize)] = &[
     ("unicode11utf8", UTF_8),
     ("unicode20utf8", UTF_8),
     ("csksc56011987", EUC_KR),
 ];
 
-pub(crate) const LABELS_OF_14: &[(&str, usize)] = &[
+const LABELS_OF_14: &[(&str, usize)] = &[
     ("ansi_x3.4-1968", WINDOWS_1252),
     ("x-mac-cyrillic", X_MAC_CYRILLIC),
     ("ks_c_5601-1987", EUC_KR),
@@ -257,7 +288,7 @@ pub(crate) const LABELS_OF_14: &[(&str, usize)] = &[
     ("x-user-defined", X_USER_DEFINED),
 ];
 
-pub(crate) const LABELS_OF_15: &[(&str, usize)] = &[
+const LABELS_OF_15: &[(&str, usize)] = &[
     ("x-unicode20utf8", UTF_8),
     ("iso_8859-2:1987", ISO_8859_2),
     ("iso_8859-3:1988", ISO_8859_3),
@@ -275,13 +306,13 @@ pub(crate) const LABELS_OF_15: &[(&str, usize)] = &[
     ("iso-10646-ucs-2", UTF_16LE),
 ];
 
-pub(crate) const LABELS_OF_16: &[(&str, usize)] = &[
+const LABELS_OF_16: &[(&str, usize)] = &[
     ("csisolatinarabic", ISO_8859_6),
     ("csisolatinhebrew", ISO_8859_8),
 ];
 
-pub(crate) const LABELS_OF_17: &[(&str, usize)] = &[("unicode-1-1-utf-8", UTF_8)];
+const LABELS_OF_17: &[(&str, usize)] = &[("unicode-1-1-utf-8", UTF_8)];
 
-pub(crate) const LABELS_OF_18: &[(&str, usize)] = &[("csisolatincyrillic", ISO_8859_5)];
+const LABELS_OF_18: &[(&str, usize)] = &[("csisolatincyrillic", ISO_8859_5)];
 
-pub(crate) const LABELS_OF_19: &[(&str, usize)] = &[("cseucpkdfmtjapanese", EUC_JP)];
+const LABELS_OF_19: &[(&str, usize)] = &[("cseucpkdfmtjapanese", EUC_JP)];

@@ -6,7 +6,7 @@ use Rattle.encoding_labels.proofs.label.label_number.Goals as goal
 pub returns : goal.returns
 returns c =
     let value : c.find.result ≡ place_of c.args.label.now =
-    c.find.ensures ∙ place_of-search c.args.label.now c.trim_ascii-text.result.now c.rows_of_length.result.now c.trim_ascii-text.ensures.value
+    c.find.ensures ∙ place_of-search c.args.label.now c.trim-text.result.now c.rows_of_length.result.now c.trim-text.ensures
     c.rows_of_length.ensures in
     record {
       labels = λ place. (λ h. (place_in-labels (label_text c.args.label.now) place).0 (sym value ∙ h), λ h. value ∙ (place_in-labels (label_text c.args.label.now) place).1 h);

@@ -2,7 +2,7 @@ use Rattle.std.proofs.Common.{refl, ◌∙◌, sym, ap, arith}
 use Rattle.encoding_labels.specs.Labels.{labels}
 use Rattle.encoding_labels.specs.Rows.{labels_of_length}
 use Rattle.encoding_labels.proofs.Search.{labels_of_length-none}
-use Rattle.encoding_labels.proofs.label.rows_of_length.Goals as goal
+use Rattle.encoding_labels.proofs.table.rows_of_length.Goals as goal
 
 pub returns-in-2 : goal.returns-in-2
 unfolding labels

@@ -1,0 +1,5 @@
+use Rattle.encoding_labels.proofs.Search.{trims}
+use Rattle.encoding_labels.proofs.label.trim.Goals as goal
+
+pub returns : goal.returns
+returns c = search trims
