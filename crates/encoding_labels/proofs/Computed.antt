@@ -11,17 +11,19 @@ use Rattle.encoding_labels.specs.Labels.{labels, place_in, is_label_byte, IsLabe
 pub at_label : (test : (ℕ × List ℕ) → Bool) (entry : ℕ × List ℕ) → list_all test labels ≡ true → Contains labels entry → test entry ≡ true
 at_label test entry passed within = All-contains (λ (e : ℕ × List ℕ). test e ≡ true) labels entry (AllPass-from_list_all test labels passed) within
 
-pub both : (a b : Bool) → (a && b) ≡ true → (a ≡ true) × (b ≡ true)
-both true b h = (refl, h)
-both false b h = absurd (true≢false (sym h))
+pub and_parts : (a b : Bool) → (a && b) ≡ true → (a ≡ true) × (b ≡ true)
+and_parts true b h = (refl, h)
+and_parts false b h = absurd (true≢false (sym h))
 
 abbrev pub is_label_text : List ℕ → Bool
 is_label_text text = (nat_le 2 (length text) && nat_le (length text) 19) && list_all is_label_byte text
 
+-- each label has 2 to 19 bytes, of those that labels are made of
 pub all_texts : list_all (λ (entry : ℕ × List ℕ). is_label_text entry.1) labels ≡ true
 unfolding labels
 all_texts = refl
 
+-- each place is that of an encoding
 pub all_places : list_all (λ (entry : ℕ × List ℕ). nat_lt entry.0 40) labels ≡ true
 unfolding labels
 all_places = refl
@@ -43,8 +45,8 @@ lt_from_test a b h = grind (arith, nat_tests)
 
 pub text_from_test : (text : List ℕ) → is_label_text text ≡ true → IsLabelText text
 text_from_test text h =
-    let parts = both (nat_le 2 (length text) && nat_le (length text) 19) (list_all is_label_byte text) h in
-    let sizes = both (nat_le 2 (length text)) (nat_le (length text) 19) parts.0 in
+    let parts = and_parts (nat_le 2 (length text) && nat_le (length text) 19) (list_all is_label_byte text) h in
+    let sizes = and_parts (nat_le 2 (length text)) (nat_le (length text) 19) parts.0 in
     record {
       shortest = le_from_test 2 (length text) sizes.0;
       longest = le_from_test (length text) 19 sizes.1;

@@ -16,7 +16,7 @@ use Rattle.std.specs.Str.{bytes_eq}
 use Rattle.std.specs.Char.{to_ascii_lowercase}
 use Rattle.encoding_labels.specs.Labels.{labels, place_in, place_of, without_leading, trimmed, IsLabelText}
 use Rattle.encoding_labels.specs.Rows.{entries, labels_of_length}
-use Rattle.encoding_labels.proofs.Computed.{at_label, both, is_label_text, all_texts, all_places, all_first, is_place, is_place-some, lt_from_test, text_from_test}
+use Rattle.encoding_labels.proofs.Computed.{at_label, and_parts, is_label_text, all_texts, all_places, all_first, is_place, is_place-some, lt_from_test, text_from_test}
 
 false_from : (b : Bool) {P : Type 0} → Decides b P → (P → ⊥) → b ≡ false
 false_from true h other = absurd (other (h.0 refl))
@@ -78,15 +78,15 @@ filter-none : (rows : List (ℕ × List ℕ)) (n : ℕ) → (2 ≤ n → n ≤ 1
     → filter (λ (entry : ℕ × List ℕ). length entry.1 == n) rows ≡ []
 filter-none [] n other h = refl
 filter-none (entry ∷ rows) n other h =
-    let parts = both (is_label_text entry.1) (list_all (λ (e : ℕ × List ℕ). is_label_text e.1) rows) h in
+    let parts = and_parts (is_label_text entry.1) (list_all (λ (e : ℕ × List ℕ). is_label_text e.1) rows) h in
     let text = text_from_test entry.1 parts.0 in
     let shorter = filter (λ (e : ℕ × List ℕ). length e.1 == n) rows in
     ap (λ (b : Bool). cond b (entry ∷ shorter) shorter)
     (false_from (length entry.1 == n) (Decides-eqb (length entry.1) n) (λ e. other (omega (arith, text.shortest, e)) (omega (arith, text.longest, e))))
     ∙ filter-none rows n other parts.1
 
-pub labels_of_length-none : (n : ℕ) → (2 ≤ n → n ≤ 19 → ⊥) → labels_of_length n ≡ []
-labels_of_length-none n other = filter-none labels n other all_texts
+pub labels_of_length_other : (n : ℕ) → (2 ≤ n → n ≤ 19 → ⊥) → labels_of_length n ≡ []
+labels_of_length_other n other = filter-none labels n other all_texts
 
 pub place_in-labels_of_length : (text : List ℕ) → place_in (labels_of_length (length text)) text ≡ place_in labels text
 place_in-labels_of_length text = place_in-filter labels text

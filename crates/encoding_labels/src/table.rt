@@ -15,6 +15,7 @@ use crate::places::{
 };
 
 // The labels of this length, in bytes.
+#[tactic(auto, using(crate::proofs::Search::labels_of_length_other), unfolding(crate::specs::Labels::labels))]
 pub(crate) fn rows_of_length(length: usize) -> &'static [(&'static str, usize)]
     ensures { entries result.now ≡ labels_of_length length }
 {

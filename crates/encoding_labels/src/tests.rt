@@ -55,7 +55,7 @@ fn each_name_has_its_place(rt: HostRuntime) {
 
 #[test]
 fn case_and_white_space_do_not_matter(rt: HostRuntime) -> Result<(), Fail> {
-    let mut count = 0;
+    let mut count = 0u32;
     for length in 0..30 {
         for (label, place) in rows_of_length(length) {
             let mut text = vec![in rt.alloc(); b'\t', b'\n', 0x0C, b'\r', b' ']?;
@@ -64,7 +64,7 @@ fn case_and_white_space_do_not_matter(rt: HostRuntime) -> Result<(), Fail> {
             }
             text.extend_from_slice(b" \r\x0C\n\t")?;
             assert_eq!(rt; label_number(text.as_slice()), Some(*place), "{label}");
-            count += 1;
+            count = count.saturating_add(1);
         }
     }
     assert_eq!(rt; count, 228);
