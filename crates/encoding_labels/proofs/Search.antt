@@ -18,6 +18,7 @@ use Rattle.encoding_labels.specs.Labels.{labels, place_in, place_of, without_lea
 use Rattle.encoding_labels.specs.Rows.{entries, labels_of_length}
 use Rattle.encoding_labels.proofs.Computed.{at_label, and_parts, is_label_text, all_texts, all_places, all_first, is_place, is_place-some, lt_from_test, text_from_test}
 
+-- a test is false where what it decides does not hold
 false_from : (b : Bool) {P : Type 0} → Decides b P → (P → ⊥) → b ≡ false
 false_from true h other = absurd (other (h.0 refl))
 false_from false h other = refl
@@ -99,6 +100,7 @@ place_in-labels text place = (
       (at_label (λ (entry : ℕ × List ℕ). is_place (place_in labels entry.1) entry.0) (place, text) all_first within),
 )
 
+-- what the library's trim gives
 pub trims : (label text : List ℕ) → IsTrimAscii label text → text ≡ trimmed label
 trims label text h = trim_ascii_is label text (without_leading label) refl h
 
@@ -122,6 +124,7 @@ pub place_of-text : (text : List ℕ) (place : ℕ) → place_in labels text ≡
 place_of-text text place h = text_from_test text
     (at_label (λ (entry : ℕ × List ℕ). is_label_text entry.1) (place, text) all_texts (place_in-row labels text place h))
 
+-- what holds of each place that is found
 pub if_some : (found : Option ℕ) (P : ℕ → Type 0) → ((place : ℕ) → found ≡ Some place → P place) → IfSome found P
 if_some None P each = tt
 if_some (Some place) P each = each place refl

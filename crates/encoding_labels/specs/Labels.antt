@@ -68,7 +68,7 @@ labels = all_of (
     ∷ row X_USER_DEFINED "x-user-defined"
     ∷ [])
 
--- without the ASCII white space at the start, and at the end
+-- without the white space at the start, and at the end ("ASCII whitespace" of the Infra Standard)
 abbrev pub without_leading : List ℕ → List ℕ
 without_leading bytes = drop (prefix_len is_ascii_whitespace bytes) bytes
 
