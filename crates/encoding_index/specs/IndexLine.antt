@@ -1,0 +1,100 @@
+-- A line of an index text (the Encoding Standard, section 5, "Indexes"), without its end.
+use Rattle.std.specs.Prelude.{◌≡◌, ℕ, Bool, true, ◌==◌, nat_eq, nat_lt, not, ◌&&◌, ◌||◌, if◌then◌else◌, List, [], ◌∷◌, length, take, drop, Option, Some, None, option_and_then, codes, refl}
+use Rattle.std.specs.List.{list_all, prefix_len, starts_with}
+use Rattle.std.specs.Str.Parse.{digits_value}
+
+abbrev pub is_space : ℕ → Bool
+is_space b = b == 0x20
+
+-- a space or a tab
+abbrev pub is_blank : ℕ → Bool
+is_blank b = b == 0x20 || b == 0x09
+
+-- `0` to `9`
+abbrev pub is_digit : ℕ → Bool
+is_digit b = not (nat_lt b 0x30) && nat_lt b 0x3A
+
+-- `0` to `9` and `A` to `F`
+abbrev pub is_hex_digit : ℕ → Bool
+is_hex_digit b = is_digit b || (not (nat_lt b 0x41) && nat_lt b 0x47)
+
+-- blanks alone, or a comment
+unfoldable pub is_skipped : List ℕ → Bool
+is_skipped line = list_all is_blank line || starts_with nat_eq line (codes "#")
+
+infixl 10 ◌>>=◌
+abbrev pub ◌>>=◌ : {A B : Type 0} → Option A → (A → Option B) → Option B
+o >>= f = option_and_then f o
+
+-- the bytes behind these
+abbrev pub behind : List ℕ → List ℕ → Option (List ℕ)
+behind front bytes = if starts_with nat_eq bytes front then Some (drop (length front) bytes) else None
+
+-- the number that the first `count` bytes write, if they are `least` to `most`, and the bytes behind them
+abbrev pub number_in : ℕ → ℕ → ℕ → ℕ → List ℕ → Option (ℕ × List ℕ)
+number_in radix least most count bytes =
+    if nat_lt count least || nat_lt most count then None else Some (digits_value radix (take count bytes), drop count bytes)
+
+-- 1 to 7 decimal digits, all that stand at the front
+abbrev pub pointer_in : List ℕ → Option (ℕ × List ℕ)
+pointer_in bytes = number_in 10 1 7 (prefix_len is_digit bytes) bytes
+
+-- 4 to 6 hexadecimal digits, all that stand at the front
+abbrev pub code_in : List ℕ → Option (ℕ × List ℕ)
+code_in bytes = number_in 16 4 6 (prefix_len is_hex_digit bytes) bytes
+
+-- a row ends before these bytes: there are none, or the first is a tab
+abbrev pub is_row_end : List ℕ → Bool
+is_row_end bytes = length bytes == 0 || starts_with nat_eq bytes (codes "\t")
+
+-- the pointer and the code point of a row: spaces, the pointer, a tab, `0x`, the code point, which is not 0, and its end
+unfoldable pub row_in : List ℕ → Option (ℕ × ℕ)
+row_in line = do
+  pointer ← pointer_in (drop (prefix_len is_space line) line)
+  numeral ← behind (codes "\t0x") pointer.1
+  code ← code_in numeral
+  if code.0 == 0 || not (is_row_end code.1) then None else Some (pointer.0, code.0)
+
+plain_row : row_in (codes "0\t0x0080") ≡ Some (0, 0x80)
+unfolding row_in
+plain_row = refl
+
+row_with_a_name : row_in (codes "  127\t0x00FF\tx") ≡ Some (127, 0xFF)
+unfolding row_in
+row_with_a_name = refl
+
+longest_row : row_in (codes "1237575\t0x10FFFF") ≡ Some (1237575, 0x10FFFF)
+unfolding row_in
+longest_row = refl
+
+too_few_digits : row_in (codes "0\t0x80") ≡ None
+unfolding row_in
+too_few_digits = refl
+
+too_many_digits : row_in (codes "00000001\t0x0080") ≡ None
+unfolding row_in
+too_many_digits = refl
+
+lower_case : row_in (codes "0\t0x00ff") ≡ None
+unfolding row_in
+lower_case = refl
+
+code_point_zero : row_in (codes "0\t0x0000") ≡ None
+unfolding row_in
+code_point_zero = refl
+
+carriage_return : row_in (codes "0\t0x0080\r") ≡ None
+unfolding row_in
+carriage_return = refl
+
+carriage_return_behind_a_tab : row_in (codes "0\t0x0080\t\r") ≡ Some (0, 0x80)
+unfolding row_in
+carriage_return_behind_a_tab = refl
+
+tab_in_front : row_in (codes "\t0\t0x0080") ≡ None
+unfolding row_in
+tab_in_front = refl
+
+blank_line : is_skipped (codes " \t ") ≡ true
+unfolding is_skipped
+blank_line = refl

@@ -1,0 +1,4 @@
+pub mod IndexLine
+pub mod IndexText
+pub mod Outcomes
+pub mod RowsLeft

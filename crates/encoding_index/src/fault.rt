@@ -1,0 +1,42 @@
+use encoding_tables::TableFault;
+use thiserror::Error;
+
+/// What is wrong with a line of an index text, or that there was no memory. Of several faults in one
+/// line the first counts.
+#[derive(Clone, Copy, Debug, PartialEq, Eq, Error)]
+pub enum IndexFaultKind {
+    /// The line is neither a row nor one that is skipped.
+    #[error("the line is no row")]
+    Row,
+    /// The pointer is not above that of the row before.
+    #[error("the pointer is not above that of the row before")]
+    Order,
+    /// The index has no such pointer: it is not below the size of the kind, or it is a pointer of the
+    /// ranges above 1237575.
+    #[error("the index has no such pointer")]
+    Pointer,
+    /// There was no memory for the list, or for one more row of the ranges.
+    #[error("out of memory")]
+    Memory,
+}
+
+/// Why an index text was not read: the first line with a fault, and its first fault.
+#[derive(Debug, Drop, PartialEq, Eq, Error)]
+#[error("line {line}: {kind}")]
+pub struct IndexFault {
+    /// The line, counted from 1, with skipped lines. 0 where there was no memory.
+    pub line: usize,
+    /// What is wrong.
+    pub kind: IndexFaultKind,
+}
+
+/// Why an index text was not loaded. The tables are as they were.
+#[derive(Debug, Drop, PartialEq, Eq, Error)]
+pub enum LoadFault {
+    /// The text was not read.
+    #[error("{0}")]
+    Text(IndexFault),
+    /// The text was read, but the tables do not take the list or the rows that it stands for.
+    #[error("{0}")]
+    Table(TableFault),
+}

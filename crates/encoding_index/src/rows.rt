@@ -1,0 +1,119 @@
+ghost use Rattle.std.specs.Prelude.{◌≡◌, ℕ, ◌+◌, ◌^◌, ◌<◌, ◌≤◌, List, ◌∷◌, [], length, IfOk, ◌==◌};
+ghost use Rattle.std.specs.List.{position_or_len};
+ghost use Rattle.std.specs.Str.Lines.{lines, strip_carriage_return};
+ghost use Rattle.encoding_index.specs.IndexText.{lines_in};
+ghost use Rattle.encoding_index.specs.Outcomes.{outcomes, outcome_of};
+
+use crate::fault::{IndexFault, IndexFaultKind};
+use crate::line::{is_skipped, row_of};
+
+// A line that ends at LF, without the CR before that.
+fn without_carriage_return(line: &[u8]) -> &[u8]
+    ensures { result.now ≡ strip_carriage_return line.now }
+{
+    match line {
+        [front @ .., b'\r'] => front,
+        _ => line,
+    }
+}
+
+// How many bytes stand before the first LF.
+fn line_len(text: &[u8]) -> usize
+    ensures { result ≡ position_or_len (λ b. b == 10) text.now }
+{
+    text.iter().take_while(|b| **b != b'\n').count()
+}
+
+// The first line of a text with some bytes, without its end, and what stands behind that.
+#[tactic(auto, using(crate::proofs::LineEnds::lines_last))]
+fn first_line(text: &[u8]) -> (&[u8], &[u8])
+    requires { 0 < length text.now }
+    ensures lines { lines text.now ≡ result.0.now ∷ lines result.1.now }
+    ensures shorter { length result.1.now < length text.now }
+{
+    let end = line_len(text);
+    if end < text.len() {
+        (without_carriage_return(&text[..end]), &text[end + 1..])
+    } else {
+        (text, &[])
+    }
+}
+
+// The row of a line that is not skipped, or what is wrong with it.
+#[tactic(auto, unfolding(crate::specs::IndexText::row_fault))]
+fn outcome_of(line: &[u8], least: u32, size: u32) -> Result<(u32, u32), IndexFaultKind>
+    ensures outcome { result ≡ outcome_of size least line.now }
+    ensures small { IfOk result (λ row. row.0 < 10 ^ 7) }
+{
+    match row_of(line) {
+        None => Err(IndexFaultKind::Row),
+        Some((pointer, _)) if pointer < least => Err(IndexFaultKind::Order),
+        Some((pointer, _)) if pointer >= size => Err(IndexFaultKind::Pointer),
+        Some(row) => Ok(row),
+    }
+}
+
+/// The rows of an index text, one after another, and at last the first fault, if a line has one.
+#[derive(Drop)]
+pub(crate) struct IndexRows<'a> {
+    // The lines that were not read yet.
+    rest: &'a [u8],
+    // How many lines were read.
+    number: usize,
+    // The least pointer that is in order.
+    least: u32,
+    // How many pointers the index has.
+    size: u32,
+    ghost fits: { number + length rest.now < 2 ^ 63 },
+}
+
+impl<'a> IndexRows<'a> {
+    ghost use Rattle.encoding_index.specs.RowsLeft.{outcomes_left};
+
+    /// The rows of a text whose pointers are below `size`.
+    pub(crate) fn new(text: &'a [u8], size: u32) -> Self
+        ensures { outcomes_left result ≡ outcomes size 0 0 (lines_in text.now) }
+    {
+        IndexRows {
+            rest: text.strip_prefix(b"\xEF\xBB\xBF").unwrap_or(text),
+            number: 0,
+            least: 0,
+            size,
+        }
+    }
+}
+
+impl<'a> Iterator for IndexRows<'a> {
+    ghost use Rattle.std.specs.Iterator.{YieldsFirst, item_count};
+    ghost use Rattle.encoding_index.specs.RowsLeft.{outcomes_left};
+
+    type Item = Result<(u32, u32), IndexFault>;
+
+    ghost next_gives = { YieldsFirst outcomes_left };
+
+    ghost remaining = { item_count outcomes_left };
+
+    fn next(&mut self) -> Option<Result<(u32, u32), IndexFault>> {
+        while !self.rest.is_empty() {
+            let (line, rest) = first_line(self.rest);
+            self.rest = rest;
+            self.number += 1;
+            if !is_skipped(line) {
+                return match outcome_of(line, self.least, self.size) {
+                    Ok(row) => {
+                        self.least = row.0 + 1;
+                        Some(Ok(row))
+                    }
+                    Err(kind) => {
+                        self.rest = &[];
+                        Some(Err(IndexFault {
+                            line: self.number,
+                            kind,
+                        }))
+                    }
+                };
+            }
+        }
+        None
+    }
+}
