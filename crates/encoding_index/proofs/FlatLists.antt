@@ -1,6 +1,5 @@
 -- A list that rows are written into, one after another.
-use Rattle.std.proofs.Common.{◌≡◌, ◌≢◌, ℕ, ◌+◌, ◌<◌, ◌≤◌, Bool, true, false, eqb, cond, List, [], ◌∷◌, length, get_or, drop, set, replicate, Option, None, Some, Result, Ok, Err, inl, inr, refl, ap, sym, ◌∙◌, arith}
-use Rattle.std.specs.List.{range_with_len}
+use Rattle.std.proofs.Common.{◌≡◌, ℕ, ◌+◌, ◌<◌, ◌≤◌, eqb, cond, List, [], ◌∷◌, length, get_or, set, replicate, None, Some, Result, Ok, Err, inl, inr, refl, ap, sym, ◌∙◌, arith}
 use Rattle.std.proofs.lemmas.Bool.{cases_order}
 use Rattle.std.proofs.lemmas.Bool.Decides.{nat_tests}
 use Rattle.std.proofs.lemmas.List.{length-set, get_or-set_other, get_or-replicate, length-replicate}
@@ -84,13 +83,16 @@ filling_starts size lines = record {
 -- a row is written
 pub filling_turn : (size : ℕ) (all : List (Result (ℕ × ℕ) IndexFault)) (list : List ℕ) (row : ℕ × ℕ) (left : List (Result (ℕ × ℕ) IndexFault))
     → IsFilling size all list (Ok row ∷ left) → (row.0 < size) × IsFilling size all (set list row.0 row.1) left
-filling_turn size all list row left h = (h.rising.1, record {
-  least = row.0 + 1;
-  rising = h.rising.2;
-  sized = length-set list row.0 row.1 ∙ h.sized;
-  same = h.same;
-  fault = h.fault;
-})
+filling_turn size all list row left h = (
+  h.rising.1,
+  record {
+    least = row.0 + 1;
+    rising = h.rising.2;
+    sized = length-set list row.0 row.1 ∙ h.sized;
+    same = h.same;
+    fault = h.fault;
+  },
+)
 
 -- the fault is met
 pub filling_stops : (size : ℕ) (text : List ℕ) (list : List ℕ) (fault : IndexFault) (left : List (Result (ℕ × ℕ) IndexFault))

@@ -3,4 +3,8 @@ pub mod LineEnds
 pub mod SkippedLines
 pub mod OutcomeLists
 pub mod FlatLists
+pub mod RowLists
 pub mod ResultCases
+pub mod LoadAnswers
+pub mod WrittenRows
+pub mod FirstFaults

@@ -1,8 +1,8 @@
 -- A line that is skipped is no row.
-use Rattle.std.proofs.Common.{◌≡◌, ℕ, ◌+◌, ◌<◌, ◌≤◌, Bool, true, false, eqb, List, [], ◌∷◌, length, drop, get_or, Option, None, inl, inr, refl, ap, sym, ◌∙◌, arith, codes}
+use Rattle.std.proofs.Common.{◌≡◌, ℕ, true, false, List, [], ◌∷◌, length, drop, get_or, None, inl, inr, refl, arith, codes}
 use Rattle.std.specs.List.{prefix_len, list_all, starts_with}
 use Rattle.std.specs.Prelude.{nat_eq}
-use Rattle.std.proofs.lemmas.Bool.{or_cases, cases_lt, false≢true, eqb-true}
+use Rattle.std.proofs.lemmas.Bool.{or_cases, cases_lt, false≢true}
 use Rattle.std.proofs.lemmas.Bool.Decides.{nat_tests}
 use Rattle.std.proofs.lemmas.List.Sums.{AllPass-from_list_all, prefix_len-drop_no, prefix_len-drop_all}
 use Rattle.encoding_index.specs.IndexLine.{is_blank, is_digit, is_space, is_skipped, pointer_in, row_in}

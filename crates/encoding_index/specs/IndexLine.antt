@@ -45,7 +45,8 @@ code_in bytes = number_in 16 4 6 (prefix_len is_hex_digit bytes) bytes
 
 -- a row ends before these bytes: there are none, or the first is a tab
 abbrev pub is_row_end : List ℕ → Bool
-is_row_end bytes = length bytes == 0 || starts_with nat_eq bytes (codes "\t")
+is_row_end [] = true
+is_row_end (b ∷ bytes) = b == 0x09
 
 -- the pointer and the code point of a row: spaces, the pointer, a tab, `0x`, the code point, which is not 0, and its end
 unfoldable pub row_in : List ℕ → Option (ℕ × ℕ)

@@ -57,6 +57,14 @@ code_at (row ∷ rows) pointer = if row.0 == pointer then row.1 else code_at row
 abbrev pub flat_list : ℕ → List (ℕ × ℕ) → List ℕ
 flat_list size rows = map (code_at rows) (range_with_len 0 size)
 
+-- the rows of a text
+abbrev pub text_rows : List ℕ → List (ℕ × ℕ)
+text_rows text = rows_in (lines_in text)
+
+-- the list that a text stands for
+abbrev pub text_list : ℕ → List ℕ → List ℕ
+text_list size text = flat_list size (text_rows text)
+
 -- the answer where memory is refused
 abbrev pub out_of_memory : IndexFault
 out_of_memory = record { line = 0; kind = Memory }

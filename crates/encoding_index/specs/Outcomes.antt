@@ -1,5 +1,5 @@
 -- What goes through the rows of a text gives, one after another: each row, or at last the first fault.
-use Rattle.std.specs.Prelude.{ℕ, ◌+◌, if◌then◌else◌, List, [], ◌∷◌, Option, Some, None, Result, Ok, Err}
+use Rattle.std.specs.Prelude.{ℕ, ◌+◌, if◌then◌else◌, List, [], ◌∷◌, Some, None, Result, Ok, Err}
 use Rattle.encoding_index.specs.IndexLine.{is_skipped, row_in}
 use Rattle.encoding_index.specs.IndexText.{row_fault}
 use Rattle.encoding_index.specs.declared.fault.IndexFault.{IndexFault}

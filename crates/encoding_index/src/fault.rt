@@ -1,4 +1,8 @@
+ghost use Rattle.std.specs.Prelude.{◌≡◌};
+ghost use Rattle.encoding_index.specs.declared.fault.LoadFault.TheVariants.{Text, Table};
+
 use encoding_tables::TableFault;
+use std::alloc::{AllocError, AllocFailed};
 use thiserror::Error;
 
 /// What is wrong with a line of an index text, or that there was no memory. Of several faults in one
@@ -30,6 +34,29 @@ pub struct IndexFault {
     pub kind: IndexFaultKind,
 }
 
+impl From<AllocError> for IndexFault {
+    ghost use Rattle.encoding_index.specs.IndexText.{out_of_memory};
+
+    ghost from_gives = { λ _ fault. fault ≡ out_of_memory };
+
+    fn from(_refused: AllocError) -> IndexFault {
+        IndexFault {
+            line: 0,
+            kind: IndexFaultKind::Memory,
+        }
+    }
+}
+
+impl<T: Drop> From<AllocFailed<T>> for IndexFault {
+    ghost use Rattle.encoding_index.specs.IndexText.{out_of_memory};
+
+    ghost from_gives = { λ _ fault. fault ≡ out_of_memory };
+
+    fn from(_refused: AllocFailed<T>) -> IndexFault {
+        IndexFault::from(AllocError)
+    }
+}
+
 /// Why an index text was not loaded. The tables are as they were.
 #[derive(Debug, Drop, PartialEq, Eq, Error)]
 pub enum LoadFault {
@@ -39,4 +66,20 @@ pub enum LoadFault {
     /// The text was read, but the tables do not take the list or the rows that it stands for.
     #[error("{0}")]
     Table(TableFault),
+}
+
+impl From<IndexFault> for LoadFault {
+    ghost from_gives = { λ fault load_fault. load_fault ≡ Text fault };
+
+    fn from(fault: IndexFault) -> LoadFault {
+        LoadFault::Text(fault)
+    }
+}
+
+impl From<TableFault> for LoadFault {
+    ghost from_gives = { λ fault load_fault. load_fault ≡ Table fault };
+
+    fn from(fault: TableFault) -> LoadFault {
+        LoadFault::Table(fault)
+    }
 }

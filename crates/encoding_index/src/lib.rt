@@ -2,11 +2,14 @@
 #![tactic(auto)]
 
 pub mod fault;
+pub mod laws;
 mod line;
+pub mod loading;
 pub mod reading;
 mod rows;
 #[cfg(test)]
 mod tests;
 
-pub use fault::{IndexFault, IndexFaultKind};
-pub use reading::read_index;
+pub use fault::{IndexFault, IndexFaultKind, LoadFault};
+pub use loading::load;
+pub use reading::{RANGE_POINTERS, read_index, read_ranges};

@@ -19,16 +19,10 @@ pub(crate) fn is_skipped(line: &[u8]) -> bool
     is_blank(line) || line.starts_with(b"#")
 }
 
-fn is_digit(b: u8) -> bool
-    ensures { result ≡ is_digit b }
-{
-    b >= b'0' && b <= b'9'
-}
-
 fn is_hex_digit(b: u8) -> bool
     ensures { result ≡ is_hex_digit b }
 {
-    is_digit(b) || b >= b'A' && b <= b'F'
+    b.is_ascii_digit() || (b'A'..=b'F').contains(&b)
 }
 
 // How many spaces stand at the front.
@@ -44,7 +38,7 @@ fn digits_len(bytes: &[u8]) -> usize
     ensures count { result ≡ prefix_len is_digit bytes.now }
     ensures within { result ≤ length bytes.now }
 {
-    bytes.iter().take_while(|b| is_digit(**b)).count()
+    bytes.iter().take_while(|b| b.is_ascii_digit()).count()
 }
 
 // How many hexadecimal digits stand at the front.
@@ -99,7 +93,10 @@ fn code_in(bytes: &[u8]) -> Option<(u32, &[u8])>
 fn is_row_end(bytes: &[u8]) -> bool
     ensures { result ≡ is_row_end bytes.now }
 {
-    bytes.is_empty() || bytes.starts_with(b"\t")
+    match bytes {
+        [] => true,
+        [b, ..] => *b == b'\t',
+    }
 }
 
 /// The pointer and the code point of a line that is a row.

@@ -1,37 +1,48 @@
-ghost use Rattle.std.specs.Prelude.{◌≡◌, ◌⊎◌, ◌≢◌, None, Some, IfOk, IfErr, false};
+ghost use Rattle.std.specs.Prelude.{◌≡◌, ◌⊎◌, None, Some, IfOk, IfErr, false};
 ghost use Rattle.encoding_tables.specs.Kinds.{size_of, is_ranges};
-ghost use Rattle.encoding_index.specs.IndexText.{lines_in, rows_in, first_fault, flat_list, out_of_memory};
+ghost use Rattle.encoding_index.specs.IndexText.{first_fault, text_list, text_rows, out_of_memory};
 
-use crate::fault::{IndexFault, IndexFaultKind};
+use crate::fault::IndexFault;
 use crate::rows::IndexRows;
 use encoding_tables::IndexKind;
 use std::alloc::Global;
 
-// The answer where memory is refused.
-fn out_of_memory() -> IndexFault
-    ensures { result ≡ out_of_memory }
-{
-    IndexFault {
-        line: 0,
-        kind: IndexFaultKind::Memory,
-    }
-}
+/// How many pointers the GB18030 ranges have: one more than the greatest (the Encoding Standard, section
+/// 10.1.1, "gb18030 decoder").
+pub const RANGE_POINTERS: u32 = 1_237_576;
 
-/// Reads an index text.
+/// Reads the text of an index with a list: the code point at each row's pointer, and 0 at the pointers
+/// of no row. Asks for the memory of the whole list before it reads a line, and for no more.
+///
+/// The fault is that of the first faulty line, or want of memory.
 pub fn read_index(alloc: Global, kind: IndexKind, text: &[u8]) -> Result<Vec<u32>, IndexFault>
     requires { is_ranges kind ≡ false }
     ensures list { IfOk result (λ list. (first_fault (size_of kind) text.now ≡ None)
-        × (list.items ≡ flat_list (size_of kind) (rows_in (lines_in text.now)))) }
+        × (list.items ≡ text_list (size_of kind) text.now)) }
     ensures fault { IfErr result (λ fault. (first_fault (size_of kind) text.now ≡ Some fault)
         ⊎ (fault ≡ out_of_memory)) }
 {
-    let mut list = match vec![in alloc; 0; kind.size()] {
-        Ok(list) => list,
-        Err(_) => return Err(out_of_memory()),
-    };
+    let mut list = vec![in alloc; 0; kind.size()]?;
     for row in IndexRows::new(text, kind.size() as u32) {
         let (pointer, code) = row?;
         list[pointer as usize] = code;
     }
     Ok(list)
+}
+
+/// Reads the text of the GB18030 ranges: its rows, each a pointer and a code point. Asks for memory row
+/// by row.
+///
+/// The fault is that of the first faulty line, or want of memory.
+pub fn read_ranges(alloc: Global, text: &[u8]) -> Result<Vec<(u32, u32)>, IndexFault>
+    ensures rows { IfOk result (λ rows. (first_fault RANGE_POINTERS text.now ≡ None)
+        × (rows.items ≡ text_rows text.now)) }
+    ensures fault { IfErr result (λ fault. (first_fault RANGE_POINTERS text.now ≡ Some fault)
+        ⊎ (fault ≡ out_of_memory)) }
+{
+    let mut rows = Vec::new(alloc);
+    for row in IndexRows::new(text, RANGE_POINTERS) {
+        rows.push(row?)?;
+    }
+    Ok(rows)
 }

@@ -1,4 +1,4 @@
-use Rattle.std.proofs.Common.{◌≡◌, ◌⊎◌, inl, ◌∷◌, Some, replicate, Ok, Err, ap, subst, ◌∙◌, rules, arith}
+use Rattle.std.proofs.Common.{◌≡◌, ◌⊎◌, inl, ◌∷◌, Some, replicate, ap, subst, ◌∙◌, rules, arith}
 use Rattle.encoding_tables.specs.Kinds.{size_of}
 use Rattle.encoding_index.specs.IndexText.{lines_in, first_fault, out_of_memory}
 use Rattle.encoding_index.specs.Outcomes.{outcomes}
@@ -11,7 +11,7 @@ pub loop-row-init : goal.loop-row-init
 loop-row-init c =
     let size = size_of c.args.kind in
     let lines = lines_in c.args.text.now in
-    let zeros : c.in-Ok.list.items ≡ replicate size 0 = c.in-Ok.ensures.items_if_clones_equal (search rules) ∙ ap (λ n. replicate n 0) c.size.ensures in
+    let zeros : c.in_ok-list.list.items ≡ replicate size 0 = c.in_ok-list.ensures.items_if_clones_equal (search rules) ∙ ap (λ n. replicate n 0) c.size.ensures in
     let start : outcomes_left c.into_iter-row-iterator.result ≡ outcomes size 0 0 lines = ap outcomes_left c.into_iter-row-iterator.ensures.into_iter_gives ∙ c.new-row-items.ensures ∙ ap (λ n. outcomes n 0 0 lines) c.size-2.ensures in
     rw (zeros, start) (filling_starts size lines)
 
@@ -21,7 +21,7 @@ returns-in_err-pointer-clause-fault c =
     let all = outcomes size 0 0 (lines_in c.args.text.now) in
     let next = c.in-Some.ensures.steps ∙ ap (λ row. row ∷ outcomes_left c.next.new.self) c.in_err-pointer.was in
     let found : first_fault size c.args.text.now ≡ Some c.in_err-pointer.field-0.0 = filling_stops size c.args.text.now c.loop-row.list.items c.in_err-pointer.field-0.0 (outcomes_left c.next.new.self) (subst (IsFilling size all c.loop-row.list.items) next c.loop-row.invariant) in
-    IfErr-from_residual c.from_residual.result c.in_err-pointer.field-0.0 (λ fault. (first_fault size c.args.text.now ≡ Some fault) ⊎ (fault ≡ out_of_memory)) c.from_residual.ensures.1 (inl found)
+    IfErr-from_residual c.from_residual-in_err-pointer.result c.in_err-pointer.field-0.0 (λ fault. (first_fault size c.args.text.now ≡ Some fault) ⊎ (fault ≡ out_of_memory)) c.from_residual-in_err-pointer.ensures.1 (inl found)
 
 pub index_mut-requires : goal.index_mut-requires
 index_mut-requires c =

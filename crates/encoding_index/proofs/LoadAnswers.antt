@@ -1,0 +1,73 @@
+-- What a load answers.
+use Rattle.std.proofs.Common.{◌≡◌, ◌⊎◌, inl, inr, ℕ, false, List, Option, None, Some, Result, Ok, Err, refl, sym, ap, subst, ◌∙◌}
+use Rattle.std.specs.Prelude.{if◌then◌else◌}
+use Rattle.std.specs.Option.{MatchOption, option_map, option_or}
+use Rattle.std.specs.Result.{IsErrAnd}
+use Rattle.encoding_tables.specs.Kinds.{size_of, is_ranges}
+use Rattle.encoding_tables.specs.IndexLists.{IndexLists, has}
+use Rattle.encoding_tables.specs.TableFaults.{flat_fault}
+use Rattle.encoding_tables.specs.declared.index_kind.IndexKind.{IndexKind}
+use Rattle.encoding_tables.specs.declared.table_fault.TableFault.{TableFault}
+use Rattle.encoding_tables.specs.declared.table_fault.TableFault.TheVariants.{Memory}
+use Rattle.encoding_index.specs.IndexText.{first_fault, text_list, out_of_memory}
+use Rattle.encoding_index.specs.Loads.{table_fault, load_fault, WantsMemory}
+use Rattle.encoding_index.specs.declared.fault.IndexFault.{IndexFault}
+use Rattle.encoding_index.specs.declared.fault.LoadFault.{LoadFault}
+use Rattle.encoding_index.specs.declared.fault.LoadFault.TheVariants.{Text, Table}
+use Rattle.encoding_index.specs.declared.reading.TheConstants.{RANGE_POINTERS}
+
+abbrev Done : Type 0
+Done = Unit {0}
+
+-- the clause of `load`
+abbrev pub Answers : Option LoadFault → Result Done LoadFault → Type 0
+Answers fault result = MatchOption fault ((result ≡ Ok tt) ⊎ WantsMemory result) (λ f. (result ≡ Err f) ⊎ (result ≡ Err (Text out_of_memory)))
+
+pub err_is : {T E : Type 0} (r : Result T E) (e : E) → IsErrAnd r (λ x. x ≡ e) → r ≡ Err e
+err_is (Ok x) e same = absurd same
+err_is (Err x) e same = ap Err same
+
+answers_memory : (fault : Option LoadFault) (result : Result Done LoadFault) → result ≡ Err (Text out_of_memory) → Answers fault result
+answers_memory None result refused = inr (inl refused)
+answers_memory (Some f) result refused = inr refused
+
+load_fault-text : (tables : IndexLists) (kind : IndexKind) (text : List ℕ) (fault : Option IndexFault) → is_ranges kind ≡ false → first_fault (size_of kind) text ≡ fault
+    → load_fault tables kind text ≡ option_or (option_map Text fault) (option_map Table (table_fault tables kind text))
+load_fault-text tables kind text fault listed found =
+    ap (λ o. option_or (option_map Text o) (option_map Table (table_fault tables kind text)))
+    (ap (λ b. first_fault (if b then RANGE_POINTERS else size_of kind) text) listed ∙ found)
+
+-- the text of a list was not read
+pub answers_text : (tables : IndexLists) (kind : IndexKind) (text : List ℕ) (fault : IndexFault) (result : Result Done LoadFault) → is_ranges kind ≡ false
+    → (first_fault (size_of kind) text ≡ Some fault) ⊎ (fault ≡ out_of_memory) → IsErrAnd result (λ x. x ≡ Text fault) → Answers (load_fault tables kind text) result
+answers_text tables kind text fault result listed (inl found) told =
+    subst (λ o. Answers o result) (sym (load_fault-text tables kind text (Some fault) listed found)) (inl (err_is result (Text fault) told))
+answers_text tables kind text fault result listed (inr refused) told =
+    answers_memory (load_fault tables kind text) result (err_is result (Text fault) told ∙ ap (λ f. Err (Text f)) refused)
+
+-- what `load` answers to what the tables answered
+abbrev pub Follows : Result Done TableFault → Result Done LoadFault → Type 0
+Follows (Ok done) result = result ≡ Ok tt
+Follows (Err fault) result = result ≡ Err (Table fault)
+
+answers_insert : (fault : Option TableFault) (inserted : Result Done TableFault) (result : Result Done LoadFault)
+    → MatchOption fault ((inserted ≡ Ok tt) ⊎ (inserted ≡ Err Memory)) (λ f. inserted ≡ Err f) → Follows inserted result → Answers (option_map Table fault) result
+answers_insert None (Ok done) result told follows = inl follows
+answers_insert None (Err fault) result (inl done) follows = absurd cc
+answers_insert None (Err fault) result (inr refused) follows =
+    let same : fault ≡ Memory = cc in
+    inr (inr (follows ∙ ap (λ f. Err (Table f)) same))
+answers_insert (Some f) (Ok done) result told follows = absurd cc
+answers_insert (Some f) (Err fault) result told follows =
+    let same : fault ≡ f = cc in
+    inl (follows ∙ ap (λ f. Err (Table f)) same)
+
+-- the text of a list was read
+pub answers_list : (tables : IndexLists) (kind : IndexKind) (text list : List ℕ) (inserted : Result Done TableFault) (result : Result Done LoadFault) → is_ranges kind ≡ false
+    → first_fault (size_of kind) text ≡ None → list ≡ text_list (size_of kind) text
+    → MatchOption (flat_fault (has tables kind) kind list) ((inserted ≡ Ok tt) ⊎ (inserted ≡ Err Memory)) (λ f. inserted ≡ Err f) → Follows inserted result
+    → Answers (load_fault tables kind text) result
+answers_list tables kind text list inserted result listed none same told follows =
+    let flat : table_fault tables kind text ≡ flat_fault (has tables kind) kind list = rw (listed, ← same) refl in
+    let fault = load_fault-text tables kind text None listed none ∙ ap (option_map Table) flat in
+    subst (λ o. Answers o result) (sym fault) (answers_insert (flat_fault (has tables kind) kind list) inserted result told follows)

@@ -1,0 +1,9 @@
+use Rattle.encoding_index.proofs.FirstFaults.{faults_are_first}
+use Rattle.encoding_index.proofs.WrittenRows.{row_in-written, written-row_in}
+use Rattle.encoding_index.proofs.laws.texts.Goals as goal
+
+pub returns-clause-rows : goal.returns-clause-rows
+returns-clause-rows c = λ line pointer code. (written-row_in line pointer code, row_in-written line pointer code)
+
+pub returns-clause-faults : goal.returns-clause-faults
+returns-clause-faults c = faults_are_first

@@ -1,0 +1,21 @@
+use Rattle.std.proofs.Common.{◌≡◌, ◌⊎◌, inl, ◌∷◌, Some, ap, subst, ◌∙◌}
+use Rattle.encoding_index.specs.IndexText.{lines_in, first_fault, out_of_memory}
+use Rattle.encoding_index.specs.Outcomes.{outcomes}
+use Rattle.encoding_index.specs.RowsLeft.{outcomes_left}
+use Rattle.encoding_index.specs.declared.reading.TheConstants.{RANGE_POINTERS}
+use Rattle.encoding_index.proofs.ResultCases.{IfErr-from_residual}
+use Rattle.encoding_index.proofs.RowLists.{IsGathering, gathering_stops, gathering_ends}
+use Rattle.encoding_index.proofs.reading.read_ranges.Goals as goal
+
+pub returns-in_err-row-clause-fault : goal.returns-in_err-row-clause-fault
+returns-in_err-row-clause-fault c =
+    let all = outcomes RANGE_POINTERS 0 0 (lines_in c.args.text.now) in
+    let fault = c.in_err-row.field-0.0 in
+    let next = c.in-Some.ensures.steps ∙ ap (λ row. row ∷ outcomes_left c.next.new.self) c.in_err-row.was in
+    let found : first_fault RANGE_POINTERS c.args.text.now ≡ Some fault = gathering_stops RANGE_POINTERS c.args.text.now c.loop-row.rows.items fault (outcomes_left c.next.new.self) (subst (IsGathering all c.loop-row.rows.items) next c.loop-row.invariant) in
+    IfErr-from_residual c.from_residual.result fault (λ told. (first_fault RANGE_POINTERS c.args.text.now ≡ Some told) ⊎ (told ≡ out_of_memory)) c.from_residual.ensures.1 (inl found)
+
+pub returns-clause-rows : goal.returns-clause-rows
+returns-clause-rows c =
+    let all = outcomes RANGE_POINTERS 0 0 (lines_in c.args.text.now) in
+    gathering_ends RANGE_POINTERS c.args.text.now c.loop-row.rows.items (subst (IsGathering all c.loop-row.rows.items) c.in-None.ensures.steps.0 c.loop-row.invariant)
