@@ -1,6 +1,7 @@
 use crate::sink::{Failure, Manners, WILLING};
 use crate::source::Reads;
 use crate::trial::{LEAST, ROOMY, Trial, WAYS, recode};
+use encoding_front::WINDOWS_1252;
 use recode::Fault;
 use std::alloc::AllocError;
 use std::io::ErrorKind;
@@ -80,6 +81,57 @@ fn a_failed_line_ends_it(rt: HostRuntime) -> Result<(), AllocError> {
                     outcome.check(&rt, &trial, b"a", &line.as_bytes()[..taken], [0, 0, 1]);
                     assert_eq!(rt; outcome.answer, Err(Fault::Log), "{trial:?}");
                 }
+            }
+        }
+    }
+    Ok(())
+}
+
+// A character without bytes between two that have some.
+fn lossy() -> Trial {
+    Trial {
+        to: WINDOWS_1252,
+        ..Trial::new(b"a\xC3\xA8Z")
+    }
+}
+
+#[test]
+fn a_line_of_a_lost_character_comes_before_its_reference(
+    rt: HostRuntime,
+) -> Result<(), AllocError> {
+    let line = "lost 1 232\n";
+    for way in WAYS {
+        for sizes in [LEAST, ROOMY] {
+            for taken in 0..11 {
+                let trial = Trial {
+                    sizes,
+                    log: slow(taken + 1, Failure::Nothing),
+                    ..lossy()
+                };
+                let outcome = recode(&rt, way, &trial)?;
+                outcome.check(&rt, &trial, b"a", &line.as_bytes()[..taken], [0, 0, 1]);
+                assert_eq!(rt; outcome.answer, Err(Fault::Log), "{trial:?}");
+            }
+        }
+    }
+    Ok(())
+}
+
+#[test]
+fn a_failed_reference_ends_it(rt: HostRuntime) -> Result<(), AllocError> {
+    let output = "a&#232;";
+    for way in WAYS {
+        for sizes in [LEAST, ROOMY] {
+            for taken in 1..7 {
+                let trial = Trial {
+                    sizes,
+                    writer: slow(taken + 1, Failure::Nothing),
+                    ..lossy()
+                };
+                let outcome = recode(&rt, way, &trial)?;
+                let written = &output.as_bytes()[..taken];
+                outcome.check(&rt, &trial, written, b"lost 1 232\n", [0, 1, 0]);
+                assert_eq!(rt; outcome.answer, Err(Fault::Write), "{trial:?}");
             }
         }
     }
