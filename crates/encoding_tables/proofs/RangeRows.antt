@@ -21,13 +21,13 @@ valid_cases q e = elim (or_cases _ _ e) [
   | inr high ↦ let parts = and_parts _ _ high in inr (ltb-false q 189000 (not-true _ parts.0), ltb-true q 1237576 parts.1)
 ]
 
-pub are_scalars_parts : (least first end : ℕ) → are_scalars least first end ≡ true → (least ≤ first) × ((end ≤ 0xd800) ⊎ ((0xe000 ≤ first) × (end ≤ 0x110000)))
+pub are_scalars_parts : (least first end : ℕ) → are_scalars least first end ≡ true → (least ≤ first) × ((end ≤ 0xD800) ⊎ ((0xE000 ≤ first) × (end ≤ 0x110000)))
 are_scalars_parts least first end e =
     let parts = and_parts _ _ e in (
       ltb-false first least (not-true _ parts.0),
       elim (or_cases _ _ parts.1) [
-        | inl low ↦ inl (ltb-false 0xd800 end (not-true _ low))
-        | inr high ↦ let both = and_parts _ _ high in inr (ltb-false first 0xe000 (not-true _ both.0), ltb-false 0x110000 end (not-true _ both.1))
+        | inl low ↦ inl (ltb-false 0xD800 end (not-true _ low))
+        | inr high ↦ let both = and_parts _ _ high in inr (ltb-false first 0xE000 (not-true _ both.0), ltb-false 0x110000 end (not-true _ both.1))
       ],
     )
 
@@ -280,10 +280,10 @@ pointers_are_exact rows taken c q =
     (λ e. pointer_gives 0 0 c q rows passes.0 e, λ h. pointer_found 0 0 0x80 c q rows passes.0 passes.1 h)
 
 pub pointers_read_back : PointersReadBack
-pointers_read_back rows taken c q e = elim (cases_eq c 0xe7c7) [
-  | inl fixed ↦ (let is = rw (eq-eqb c 0xe7c7 fixed) at e in let q_is : 7457 ≡ q = cc in rw (← q_is, fixed) refl)
+pointers_read_back rows taken c q e = elim (cases_eq c 0xE7C7) [
+  | inl fixed ↦ (let is = rw (eq-eqb c 0xE7C7 fixed) at e in let q_is : 7457 ≡ q = cc in rw (← q_is, fixed) refl)
   | inr other ↦
       let passes = option_or_none (first_out_of_order 0 0 rows) (first_bad_value 0 0x80 rows) taken in
-      let h = pointer_gives 0 0 c q rows passes.0 (rw (ne_eqb c 0xe7c7 other) at e) in
+      let h = pointer_gives 0 0 c q rows passes.0 (rw (ne_eqb c 0xE7C7 other) at e) in
       rw (h.valid, ne_eqb q 7457 h.other) h.gives
 ]

@@ -141,15 +141,15 @@ in_front least above k r rows low e h = record {
 
 -- numbers that are no scalars from `least`
 bad_number : (least first end : ℕ) → first < end → are_scalars least first end ≡ false → (v : ℕ) × (first ≤ v) × (v < end) × ((v < least) ⊎ (¬ (InScalarRange v)))
-bad_number least first end more e = elim (and_cases (not (nat_lt first least)) (not (nat_lt 0xd800 end) || (not (nat_lt first 0xe000) && not (nat_lt 0x110000 end))) e) [
+bad_number least first end more e = elim (and_cases (not (nat_lt first least)) (not (nat_lt 0xD800 end) || (not (nat_lt first 0xE000) && not (nat_lt 0x110000 end))) e) [
   | inl low ↦ (first, omega arith, more, inl (ltb-true first least (not-false (nat_lt first least) low)))
   | inr other ↦
-      let parts = or_false (not (nat_lt 0xd800 end)) (not (nat_lt first 0xe000) && not (nat_lt 0x110000 end)) other in
-      let over : 0xd800 < end = ltb-true 0xd800 end (not-false (nat_lt 0xd800 end) parts.0) in
-      elim (and_cases (not (nat_lt first 0xe000)) (not (nat_lt 0x110000 end)) parts.1) [
+      let parts = or_false (not (nat_lt 0xD800 end)) (not (nat_lt first 0xE000) && not (nat_lt 0x110000 end)) other in
+      let over : 0xD800 < end = ltb-true 0xD800 end (not-false (nat_lt 0xD800 end) parts.0) in
+      elim (and_cases (not (nat_lt first 0xE000)) (not (nat_lt 0x110000 end)) parts.1) [
         | inl a ↦
-            let under : first < 0xe000 = ltb-true first 0xe000 (not-false (nat_lt first 0xe000) a) in
-            (max first 0xd800, omega arith, omega arith, inr (λ s. elim s [ inl x ↦ omega (arith, x) | inr y ↦ omega (arith, y.0) ]))
+            let under : first < 0xE000 = ltb-true first 0xE000 (not-false (nat_lt first 0xE000) a) in
+            (max first 0xD800, omega arith, omega arith, inr (λ s. elim s [ inl x ↦ omega (arith, x) | inr y ↦ omega (arith, y.0) ]))
         | inr b ↦
             let past : 0x110000 < end = ltb-true 0x110000 end (not-false (nat_lt 0x110000 end) b) in
             (end - 1, omega arith, omega arith, inr (λ s. elim s [ inl x ↦ omega (arith, x) | inr y ↦ omega (arith, y.1) ]))

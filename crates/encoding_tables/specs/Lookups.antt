@@ -1,4 +1,5 @@
--- Look-ups in a flat list, where an entry 0 is none.
+-- Look-ups in the list of an index, where an entry 0 is none (the Encoding Standard, section 5, "index code point" and
+-- "index pointer").
 use Rattle.std.proofs.Common.{refl}
 use Rattle.std.specs.Prelude.{◌≡◌, ◌≢◌, ℕ, ◌+◌, Bool, List, [], ◌∷◌, ◌==◌, if◌then◌else◌, Option, None, Some, slice_range, slice_index}
 use Rattle.std.specs.Char.{IsScalar}
@@ -26,11 +27,11 @@ first_pointer flat c from to = if c == 0 then None else option_map (λ k. from +
 abbrev pub last_pointer : List ℕ → ℕ → ℕ → ℕ → Option ℕ
 last_pointer flat c from to = if c == 0 then None else option_map (λ k. from + k) (last_position (λ v. v == c) (slice_range flat from to))
 
-first : first_pointer (0 ∷ 0xe9 ∷ 0xe9 ∷ []) 0xe9 0 3 ≡ Some 1
+first : first_pointer (0 ∷ 0xE9 ∷ 0xE9 ∷ []) 0xE9 0 3 ≡ Some 1
 first = refl
 
-last : last_pointer (0 ∷ 0xe9 ∷ 0xe9 ∷ 0 ∷ []) 0xe9 0 9 ≡ Some 2
+last : last_pointer (0 ∷ 0xE9 ∷ 0xE9 ∷ 0 ∷ []) 0xE9 0 9 ≡ Some 2
 last = refl
 
-unmapped : first_pointer (0 ∷ 0xe9 ∷ []) 0 0 2 ≡ None
+unmapped : first_pointer (0 ∷ 0xE9 ∷ []) 0 0 2 ≡ None
 unmapped = refl

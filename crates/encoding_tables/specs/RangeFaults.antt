@@ -11,7 +11,7 @@ first_out_of_order row from (r ∷ rows) = if nat_lt r.0 from || nat_lt 1237575 
 
 -- the numbers from `first` to below `end` are scalars from `least`
 abbrev pub are_scalars : ℕ → ℕ → ℕ → Bool
-are_scalars least first end = not (nat_lt first least) && (not (nat_lt 0xd800 end) || (not (nat_lt first 0xe000) && not (nat_lt 0x110000 end)))
+are_scalars least first end = not (nat_lt first least) && (not (nat_lt 0xD800 end) || (not (nat_lt first 0xE000) && not (nat_lt 0x110000 end)))
 
 -- one above the values of a row from the pointer `from` to below `to`, or `least` if there are none; None where a value is no scalar from `least`
 abbrev pub above_values : ℕ × ℕ → ℕ → ℕ → ℕ → Option ℕ
@@ -37,25 +37,25 @@ too_close = refl
 no_value_to_clash : bad_row ((39420, 0x80) ∷ (189000, 0x10000) ∷ []) ≡ None
 no_value_to_clash = refl
 
-too_far : bad_row ((7457, 0x1e3f) ∷ (7458, 0x1e40) ∷ []) ≡ Some 1
+too_far : bad_row ((7457, 0x1E3F) ∷ (7458, 0x1E40) ∷ []) ≡ Some 1
 too_far = refl
 
-in_two_parts : bad_row ((7457, 0x1e3f) ∷ (7458, 0x1e40) ∷ (39420, 0x80) ∷ (189000, 0x10000) ∷ []) ≡ None
+in_two_parts : bad_row ((7457, 0x1E3F) ∷ (7458, 0x1E40) ∷ (39420, 0x80) ∷ (189000, 0x10000) ∷ []) ≡ None
 in_two_parts = refl
 
-low : bad_row ((0, 0x7f) ∷ []) ≡ Some 0
+low : bad_row ((0, 0x7F) ∷ []) ≡ Some 0
 low = refl
 
 past_the_end : bad_row ((189000, 0x10001) ∷ []) ≡ Some 0
 past_the_end = refl
 
-surrogate : bad_row ((0, 0xd7ff) ∷ (2, 0xe000) ∷ []) ≡ Some 0
+surrogate : bad_row ((0, 0xD7FF) ∷ (2, 0xE000) ∷ []) ≡ Some 0
 surrogate = refl
 
 same_pointer : bad_row ((5, 0x80) ∷ (5, 0x90) ∷ []) ≡ Some 1
 same_pointer = refl
 
-order_comes_first : bad_row ((0, 0x7f) ∷ (1237576, 0x80) ∷ []) ≡ Some 1
+order_comes_first : bad_row ((0, 0x7F) ∷ (1237576, 0x80) ∷ []) ≡ Some 1
 order_comes_first = refl
 
 none : bad_row [] ≡ None

@@ -1,4 +1,4 @@
--- The entries of lists that are taken, and parts of lists by clamped bounds.
+-- The entries of lists that are taken.
 use Rattle.std.proofs.Common.{◌≡◌, ◌≢◌, ℕ, ◌<◌, ◌≤◌, inl, inr, List, length, get_or, refl, arith, None, nat_lt, Bool, true, false}
 use Rattle.std.specs.Prelude.{not, ◌||◌, ◌&&◌, ◌==◌}
 use Rattle.std.specs.Char.{InScalarRange, IsScalar}
@@ -24,15 +24,15 @@ no_position test xs e k within =
     fails_before_first test xs k 0 (omega arith)
 
 entry_is_scalar : (kind : IndexKind) (v : ℕ) → is_entry_of kind v ≡ true → v ≢ 0 → InScalarRange v
-entry_is_scalar kind v e mapped = elim (or_cases (v == 0 || not (nat_lt v 0x80) && nat_lt v 0xd800 || not (nat_lt v 0xe000) && nat_lt v 0x10000) (is_kind kind Big5 && not (nat_lt v 0x20000) && nat_lt v 0x30000) e) [
-  | inl bmp ↦ elim (or_cases (v == 0 || not (nat_lt v 0x80) && nat_lt v 0xd800) (not (nat_lt v 0xe000) && nat_lt v 0x10000) bmp) [
-    | inl low ↦ elim (or_cases (v == 0) (not (nat_lt v 0x80) && nat_lt v 0xd800) low) [
-      | inl zero ↦ absurd (mapped (eqb-true v 0 zero))
-      | inr under ↦ inl (ltb-true v 0xd800 (and_parts (not (nat_lt v 0x80)) (nat_lt v 0xd800) under).1)
+entry_is_scalar kind v e mapped = elim (or_cases (v == 0 || not (nat_lt v 0x80) && nat_lt v 0xD800 || not (nat_lt v 0xE000) && nat_lt v 0x10000) (is_kind kind Big5 && not (nat_lt v 0x20000) && nat_lt v 0x30000) e) [
+  | inl bmp ↦ elim (or_cases (v == 0 || not (nat_lt v 0x80) && nat_lt v 0xD800) (not (nat_lt v 0xE000) && nat_lt v 0x10000) bmp) [
+    | inl low ↦ elim (or_cases (v == 0) (not (nat_lt v 0x80) && nat_lt v 0xD800) low) [
+      | inl nil ↦ absurd (mapped (eqb-true v 0 nil))
+      | inr under ↦ inl (ltb-true v 0xD800 (and_parts (not (nat_lt v 0x80)) (nat_lt v 0xD800) under).1)
     ]
     | inr over ↦
-        let parts = and_parts (not (nat_lt v 0xe000)) (nat_lt v 0x10000) over in
-        let from : 0xe000 ≤ v = ltb-false v 0xe000 (not-true (nat_lt v 0xe000) parts.0) in
+        let parts = and_parts (not (nat_lt v 0xE000)) (nat_lt v 0x10000) over in
+        let from : 0xE000 ≤ v = ltb-false v 0xE000 (not-true (nat_lt v 0xE000) parts.0) in
         let below : v < 0x10000 = ltb-true v 0x10000 parts.1 in
         inr (from, omega arith)
   ]

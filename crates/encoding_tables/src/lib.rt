@@ -1,11 +1,11 @@
 //! The indexes of the Encoding Standard, as checked tables, and the single-byte codecs over them.
 #![tactic(auto)]
 
-pub mod accept;
+mod accept;
 pub mod flat;
 pub mod index_kind;
 pub mod laws;
-pub mod ranges;
+mod ranges;
 pub mod single_byte_decoder;
 pub mod single_byte_encoder;
 #[cfg(test)]

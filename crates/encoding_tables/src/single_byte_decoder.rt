@@ -19,9 +19,9 @@ use encoding_mem::front::{Front, FrontPiece};
 use encoding_mem::piece_decoder::{Buffered, PieceDecoder};
 use encoding_mem::sink::Sink;
 
-/// The rule of a single-byte encoding: each byte is a piece.
+// The rule of a single-byte encoding: each byte is a piece.
 #[derive(Drop)]
-pub struct SingleByteRule<'a> {
+struct SingleByteRule<'a> {
     flat: Flat<'a>,
     ghost scalars: { AreEntries flat },
     ghost basic: { AreBasic flat },
