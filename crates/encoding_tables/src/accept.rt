@@ -10,6 +10,7 @@ use crate::table_fault::TableFault;
 // Where Shift_JIS has end-user-defined characters, pointers of JIS X 0208 stand for no entry (the
 // Encoding Standard, section 12.3, "Shift_JIS decoder").
 const RESERVED_START: usize = 8836;
+
 const RESERVED_END: usize = 10716;
 
 // Whether a list of the kind may have this entry.

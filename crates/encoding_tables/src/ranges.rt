@@ -9,11 +9,14 @@ use crate::flat::scalar_of;
 
 // The valid pointers: those of the basic plane end here, those of the other planes begin and end there.
 const BASIC_END: u32 = 39420;
+
 const OTHER_START: u32 = 189000;
+
 const OTHER_END: u32 = 1237576;
 
 // The pointer whose value no row gives, and that value.
 const FIXED_POINTER: u32 = 7457;
+
 const FIXED_VALUE: char = '\u{E7C7}';
 
 // Whether a pointer may have a value.

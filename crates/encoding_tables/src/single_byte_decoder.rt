@@ -12,12 +12,11 @@ ghost use Rattle.encoding_tables.specs.SingleByteLaws.{AreBasic, cuts_single_byt
 use crate::flat::Flat;
 use crate::index_kind::IndexKind;
 use crate::tables::Tables;
-use encoding_mem::DecoderResult;
-use encoding_mem::RawDecoder;
 use encoding_mem::ascii::ascii_front;
 use encoding_mem::front::{Front, FrontPiece};
 use encoding_mem::piece_decoder::{Buffered, PieceDecoder};
 use encoding_mem::sink::Sink;
+use encoding_mem::{DecoderResult, RawDecoder};
 
 // The rule of a single-byte encoding: each byte is a piece.
 #[derive(Drop)]

@@ -10,11 +10,10 @@ ghost use Rattle.encoding_mem.specs.declared.form.Set.TheVariants.{Ascii};
 use crate::flat::Flat;
 use crate::index_kind::IndexKind;
 use crate::tables::Tables;
-use encoding_mem::EncoderResult;
-use encoding_mem::RawEncoder;
 use encoding_mem::encode::{Target, encode};
 use encoding_mem::form::{Bytes, Form, Set};
 use encoding_mem::source::{Source, Utf8Source, Utf16Source};
+use encoding_mem::{EncoderResult, RawEncoder};
 
 // What a single-byte encoding makes of a character.
 #[derive(Drop)]

@@ -1,8 +1,5 @@
 // The single-byte codecs over small lists, with answers worked by hand.
 
-ghost use Rattle.std.specs.Prelude.{◌≡◌, true, false};
-ghost use Rattle.encoding_tables.specs.Kinds.{is_ranges, is_single_byte};
-
 use crate::{IndexKind, SingleByteDecoder, SingleByteEncoder, Tables};
 use encoding_mem::{DecoderResult, EncoderResult, RawDecoder, RawEncoder};
 use std::alloc::Global;
@@ -44,8 +41,14 @@ fn bytes_into_each_room(rt: HostRuntime) {
             DecoderResult::OutputFull
         };
         assert_eq!(rt; answer, (outcome, read[room], written[room]), "room {room}");
-        assert_eq!(rt; dst.get(..written[room]), TEXT.as_bytes().get(..written[room]));
-        assert!(rt; dst[written[room]..].iter().all(|b| *b == 0xEE), "room {room}");
+        assert_eq!(rt;
+            dst.get(..written[room]),
+            TEXT.as_bytes().get(..written[room])
+        );
+        assert!(rt;
+            dst[written[room]..].iter().all(|b| *b == 0xEE),
+            "room {room}"
+        );
         assert_eq!(rt; decoder.pending_len(), 0);
     }
 }
@@ -80,8 +83,14 @@ fn bytes_that_are_latin1(rt: HostRuntime) {
     let tables = tables(rt.alloc());
     assert!(rt; tables.has(KIND));
     let decoder = SingleByteDecoder::new(&tables, KIND);
-    assert_eq!(rt; decoder.latin1_byte_compatible_up_to(&[0x41, 0xE9, 0x80]), 2);
-    assert_eq!(rt; decoder.latin1_byte_compatible_up_to(&[0xFF, 0x7F, 0x81]), 2);
+    assert_eq!(rt;
+        decoder.latin1_byte_compatible_up_to(&[0x41, 0xE9, 0x80]),
+        2
+    );
+    assert_eq!(rt;
+        decoder.latin1_byte_compatible_up_to(&[0xFF, 0x7F, 0x81]),
+        2
+    );
     assert_eq!(rt; decoder.latin1_byte_compatible_up_to(&[0x82]), 0);
     assert_eq!(rt; decoder.latin1_byte_compatible_up_to(&[0x41, 0xE9]), 2);
     assert_eq!(rt; decoder.latin1_byte_compatible_up_to(&[]), 0);
@@ -99,7 +108,10 @@ fn characters_take_the_first_pointer(rt: HostRuntime) {
         let mut dst = [0xEE; 8];
         let (outcome, taken, written) = encoder.encode_from_utf8_raw(TEXT, &mut dst[..room], true);
         assert_eq!(rt; (taken, written), (read[room], room.min(7)), "room {room}");
-        assert!(rt; (outcome == EncoderResult::InputEmpty) == (taken == 13), "room {room}");
+        assert!(rt;
+            (outcome == EncoderResult::InputEmpty) == (taken == 13),
+            "room {room}"
+        );
         assert_eq!(rt; dst.get(..written), bytes.get(..written));
         assert!(rt; dst[written..].iter().all(|b| *b == 0xEE), "room {room}");
     }

@@ -30,8 +30,8 @@ impl Model for Tables {
     ghost Value = { IndexLists };
 
     ghost view = { λ t. record {
-        flats = map (λ v. option_map (λ w. w.items) v) t.flats;
-        rows = option_map (λ w. w.items) t.ranges
+      flats = map (λ v. option_map (λ w. w.items) v) t.flats;
+      rows = option_map (λ w. w.items) t.ranges;
     } };
 
     ghost invariant = { λ t. AreTaken (map (λ v. option_map (λ w. w.items) v) t.flats)

@@ -69,12 +69,18 @@ fn every_list_of_zeros_is_taken_once(rt: HostRuntime) -> Result<(), Fail> {
         let flat = std::vec![in rt.alloc(); 0; kind.size()]?;
         assert_eq!(rt; tables.insert(kind, flat.as_slice()), Ok(()));
         assert!(rt; tables.has(kind));
-        assert_eq!(rt; tables.insert(kind, flat.as_slice()), Err(TableFault::Present));
+        assert_eq!(rt;
+            tables.insert(kind, flat.as_slice()),
+            Err(TableFault::Present)
+        );
         assert_eq!(rt; tables.insert(kind, &[]), Err(TableFault::Present));
         assert!(rt; tables.has(kind));
     }
     assert!(rt; !tables.has(IndexKind::Gb18030Ranges));
-    assert_eq!(rt; LISTED.iter().filter(|kind| kind.is_single_byte()).count(), 27);
+    assert_eq!(rt;
+        LISTED.iter().filter(|kind| kind.is_single_byte()).count(),
+        27
+    );
     Ok(())
 }
 
@@ -82,25 +88,61 @@ fn every_list_of_zeros_is_taken_once(rt: HostRuntime) -> Result<(), Fail> {
 fn lists_are_refused_by_the_first_fault(rt: HostRuntime) -> Result<(), Fail> {
     let alloc = rt.alloc();
     let single = IndexKind::Windows1252;
-    assert_eq!(rt; fault_of_one(alloc, single, 127, 0, 0x41)?, Err(TableFault::Size));
-    assert_eq!(rt; fault_of_one(alloc, single, 129, 0, 0)?, Err(TableFault::Size));
-    assert_eq!(rt; fault_of_one(alloc, single, 128, 0, 0x41)?, Err(TableFault::Entry(0)));
-    assert_eq!(rt; fault_of_one(alloc, single, 128, 127, 0x7F)?, Err(TableFault::Entry(127)));
-    assert_eq!(rt; fault_of_one(alloc, single, 128, 5, 0xD800)?, Err(TableFault::Entry(5)));
-    assert_eq!(rt; fault_of_one(alloc, single, 128, 5, 0xDFFF)?, Err(TableFault::Entry(5)));
-    assert_eq!(rt; fault_of_one(alloc, single, 128, 5, 0x1_0000)?, Err(TableFault::Entry(5)));
+    assert_eq!(rt;
+        fault_of_one(alloc, single, 127, 0, 0x41)?,
+        Err(TableFault::Size)
+    );
+    assert_eq!(rt;
+        fault_of_one(alloc, single, 129, 0, 0)?,
+        Err(TableFault::Size)
+    );
+    assert_eq!(rt;
+        fault_of_one(alloc, single, 128, 0, 0x41)?,
+        Err(TableFault::Entry(0))
+    );
+    assert_eq!(rt;
+        fault_of_one(alloc, single, 128, 127, 0x7F)?,
+        Err(TableFault::Entry(127))
+    );
+    assert_eq!(rt;
+        fault_of_one(alloc, single, 128, 5, 0xD800)?,
+        Err(TableFault::Entry(5))
+    );
+    assert_eq!(rt;
+        fault_of_one(alloc, single, 128, 5, 0xDFFF)?,
+        Err(TableFault::Entry(5))
+    );
+    assert_eq!(rt;
+        fault_of_one(alloc, single, 128, 5, 0x1_0000)?,
+        Err(TableFault::Entry(5))
+    );
     assert_eq!(rt; fault_of_one(alloc, single, 128, 5, 0x80)?, Ok(()));
     assert_eq!(rt; fault_of_one(alloc, single, 128, 5, 0xFFFF)?, Ok(()));
     let big5 = IndexKind::Big5;
     assert_eq!(rt; fault_of_one(alloc, big5, 19782, 942, 0x2_008A)?, Ok(()));
-    assert_eq!(rt; fault_of_one(alloc, big5, 19782, 942, 0x1_F600)?, Err(TableFault::Entry(942)));
-    assert_eq!(rt; fault_of_one(alloc, big5, 19782, 942, 0x3_0000)?, Err(TableFault::Entry(942)));
+    assert_eq!(rt;
+        fault_of_one(alloc, big5, 19782, 942, 0x1_F600)?,
+        Err(TableFault::Entry(942))
+    );
+    assert_eq!(rt;
+        fault_of_one(alloc, big5, 19782, 942, 0x3_0000)?,
+        Err(TableFault::Entry(942))
+    );
     let euc_kr = IndexKind::EucKr;
-    assert_eq!(rt; fault_of_one(alloc, euc_kr, 23940, 9, 0x2_008A)?, Err(TableFault::Entry(9)));
+    assert_eq!(rt;
+        fault_of_one(alloc, euc_kr, 23940, 9, 0x2_008A)?,
+        Err(TableFault::Entry(9))
+    );
     let jis = IndexKind::Jis0208;
     assert_eq!(rt; fault_of_one(alloc, jis, 11280, 8835, 0x4E00)?, Ok(()));
-    assert_eq!(rt; fault_of_one(alloc, jis, 11280, 8836, 0x4E00)?, Err(TableFault::Reserved(8836)));
-    assert_eq!(rt; fault_of_one(alloc, jis, 11280, 10715, 0x4E00)?, Err(TableFault::Reserved(10715)));
+    assert_eq!(rt;
+        fault_of_one(alloc, jis, 11280, 8836, 0x4E00)?,
+        Err(TableFault::Reserved(8836))
+    );
+    assert_eq!(rt;
+        fault_of_one(alloc, jis, 11280, 10715, 0x4E00)?,
+        Err(TableFault::Reserved(10715))
+    );
     assert_eq!(rt; fault_of_one(alloc, jis, 11280, 10716, 0x4E00)?, Ok(()));
     Ok(())
 }
@@ -114,16 +156,37 @@ fn fault_of_rows(alloc: Global, rows: &[(u32, u32)]) -> Result<(), TableFault> {
 fn rows_are_refused_by_the_first_bad_one(rt: HostRuntime) {
     let alloc = rt.alloc();
     assert_eq!(rt; fault_of_rows(alloc, &[]), Ok(()));
-    assert_eq!(rt; fault_of_rows(alloc, &[(39420, 0x80), (189000, 0x1_0000)]), Ok(()));
+    assert_eq!(rt;
+        fault_of_rows(alloc, &[(39420, 0x80), (189000, 0x1_0000)]),
+        Ok(())
+    );
     // values that run into those of the next row
-    assert_eq!(rt; fault_of_rows(alloc, &[(0, 0x80), (36, 0x80)]), Err(TableFault::Ranges(1)));
+    assert_eq!(rt;
+        fault_of_rows(alloc, &[(0, 0x80), (36, 0x80)]),
+        Err(TableFault::Ranges(1))
+    );
     // values below U+0080, surrogates, and numbers above U+10FFFF
-    assert_eq!(rt; fault_of_rows(alloc, &[(0, 0x7F)]), Err(TableFault::Ranges(0)));
-    assert_eq!(rt; fault_of_rows(alloc, &[(0, 0xD7FF), (2, 0xE000)]), Err(TableFault::Ranges(0)));
-    assert_eq!(rt; fault_of_rows(alloc, &[(189000, 0x1_0001)]), Err(TableFault::Ranges(0)));
+    assert_eq!(rt;
+        fault_of_rows(alloc, &[(0, 0x7F)]),
+        Err(TableFault::Ranges(0))
+    );
+    assert_eq!(rt;
+        fault_of_rows(alloc, &[(0, 0xD7FF), (2, 0xE000)]),
+        Err(TableFault::Ranges(0))
+    );
+    assert_eq!(rt;
+        fault_of_rows(alloc, &[(189000, 0x1_0001)]),
+        Err(TableFault::Ranges(0))
+    );
     // order comes first
-    assert_eq!(rt; fault_of_rows(alloc, &[(5, 0x80), (5, 0x90)]), Err(TableFault::Ranges(1)));
-    assert_eq!(rt; fault_of_rows(alloc, &[(0, 0x7F), (1237576, 0x80)]), Err(TableFault::Ranges(1)));
+    assert_eq!(rt;
+        fault_of_rows(alloc, &[(5, 0x80), (5, 0x90)]),
+        Err(TableFault::Ranges(1))
+    );
+    assert_eq!(rt;
+        fault_of_rows(alloc, &[(0, 0x7F), (1237576, 0x80)]),
+        Err(TableFault::Ranges(1))
+    );
 }
 
 #[test]
