@@ -1,6 +1,6 @@
 // Which lists of entries are taken as the index of a kind.
 
-ghost use Rattle.std.specs.Prelude.{◌≡◌, ◌+◌, ◌<◌, ◌≤◌, not, ◌==◌, length, slice_range, IfSome};
+ghost use Rattle.std.specs.Prelude.{◌≡◌, ◌+◌, ◌<◌, ◌≤◌, not, ◌==◌, length, IfSome};
 ghost use Rattle.std.specs.List.{position};
 ghost use Rattle.encoding_tables.specs.TableFaults.{is_entry_of, first_bad_entry, first_reserved, flat_fault};
 

@@ -1,6 +1,6 @@
 // Look-ups in the list of an index.
 
-ghost use Rattle.std.specs.Prelude.{◌≡◌, ℕ, ◌+◌, ◌-◌, ◌<◌, ◌≤◌, ◌==◌, List, length, IfSome};
+ghost use Rattle.std.specs.Prelude.{◌≡◌, ℕ, ◌+◌, ◌-◌, ◌<◌, ◌==◌, List, length, IfSome};
 ghost use Rattle.std.specs.List.{position};
 ghost use Rattle.std.specs.Char.{InScalarRange};
 ghost use Rattle.encoding_tables.specs.Lookups.{value_of, first_pointer, last_pointer, last_position, AreEntries};

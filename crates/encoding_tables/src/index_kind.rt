@@ -1,4 +1,4 @@
-ghost use Rattle.std.specs.Prelude.{◌≡◌, ◌<◌, ◌↔◌, IsTrue};
+ghost use Rattle.std.specs.Prelude.{◌≡◌, ◌<◌};
 ghost use Rattle.encoding_tables.specs.Kinds.{number, size_of, is_ranges, is_single_byte};
 
 /// The indexes of the Encoding Standard (section 5, "Indexes"): those of the single-byte encodings, and

@@ -1,9 +1,9 @@
 // The rows of the GB18030 ranges: which are taken, and what values they give (the Encoding Standard,
 // section 5: "index gb18030 ranges code point" and "index gb18030 ranges pointer").
 
-ghost use Rattle.std.specs.Prelude.{◌≡◌, ℕ, ◌+◌, ◌-◌, ◌<◌, ◌≤◌, List, [], ◌∷◌, length, drop, IfSome};
+ghost use Rattle.std.specs.Prelude.{◌≡◌, ◌+◌, ◌-◌, ◌<◌, ◌≤◌, []};
 ghost use Rattle.encoding_tables.specs.RangeFaults.{first_out_of_order, first_bad_value, are_scalars, above_values, above_row, bad_row};
-ghost use Rattle.encoding_tables.specs.Ranges.{end_by, last_row, row_value, row_pointer, range_value, range_pointer, is_in_row, is_valid_pointer};
+ghost use Rattle.encoding_tables.specs.Ranges.{end_by, last_row, row_pointer, range_value, range_pointer, is_in_row, is_valid_pointer};
 
 use crate::flat::scalar_of;
 

@@ -1,6 +1,6 @@
 // The decoder of the single-byte encodings (the Encoding Standard, section 9.1, "single-byte decoder").
 
-ghost use Rattle.std.specs.Prelude.{◌≡◌, ℕ, ◌+◌, ◌*◌, ◌<◌, ◌≤◌, not, true, List, [], length};
+ghost use Rattle.std.specs.Prelude.{◌≡◌, ℕ, ◌*◌, ◌<◌, not, true};
 ghost use Rattle.std.specs.List.{position};
 ghost use Rattle.encoding_mem.specs.PiecesLaws.{pieces_by-nil, pieces_by-whole, pieces_by-are_pieces};
 ghost use Rattle.encoding_tables.specs.IndexLists.{has, entries_of};

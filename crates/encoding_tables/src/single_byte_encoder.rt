@@ -1,6 +1,6 @@
 // The encoder of the single-byte encodings (the Encoding Standard, section 9.1, "single-byte encoder").
 
-ghost use Rattle.std.specs.Prelude.{◌≡◌, ℕ, ◌+◌, true, List};
+ghost use Rattle.std.specs.Prelude.{◌≡◌, ◌+◌, true};
 ghost use Rattle.encoding_tables.specs.IndexLists.{has, entries_of};
 ghost use Rattle.encoding_tables.specs.Kinds.{is_single_byte};
 ghost use Rattle.encoding_tables.specs.SingleByte.{byte_of_char, form_of_byte, single_byte_coding};

@@ -1,4 +1,4 @@
-ghost use Rattle.std.specs.Prelude.{◌≡◌, ◌≢◌, ℕ, List, [], map, false, true, MatchOption, OnOk, OnErr, is_some, IsSome, ◌⊎◌};
+ghost use Rattle.std.specs.Prelude.{◌≡◌, ◌≢◌, map, false, true, MatchOption, OnOk, OnErr, is_some, ◌⊎◌};
 ghost use Rattle.std.specs.Option.{option_map};
 ghost use Rattle.encoding_tables.specs.Kinds.{is_ranges, is_single_byte};
 ghost use Rattle.encoding_tables.specs.IndexLists.{IndexLists, flat_of, has, entries_of, rows_of, AreAcceptedTables, AreTaken};
