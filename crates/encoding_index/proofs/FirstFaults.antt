@@ -1,9 +1,9 @@
 -- The first fault, by places.
-use Rattle.std.proofs.Common.{◌≡◌, ℕ, ◌+◌, List, [], ◌∷◌, ◌++◌, length, get_or, Option, None, Some, inl, inr, refl, sym, ap, subst, ◌∙◌, length-append, append_assoc, arith}
+use Rattle.std.proofs.Common.{◌≡◌, ◌≢◌, ℕ, ◌+◌, List, [], ◌∷◌, ◌++◌, length, get_or, Option, None, Some, inl, inr, refl, sym, ap, subst, ◌∙◌, length-append, append_assoc, arith}
 use Rattle.std.specs.Option.{MatchOption}
 use Rattle.std.proofs.lemmas.Bool.{cases_lt}
 use Rattle.std.proofs.Math.Seq.{take-append_seam, get_or-append_seam}
-use Rattle.encoding_index.specs.IndexText.{lines_in, rows_in, least_above, line_fault, first_fault_behind}
+use Rattle.encoding_index.specs.IndexText.{lines_in, rows_in, least_above, line_fault, first_fault_behind, first_fault, out_of_memory}
 use Rattle.encoding_index.specs.FaultLaws.{fault_at, NoneFaultyBefore, IsFirstFault, FaultsAreFirst}
 use Rattle.encoding_index.specs.declared.fault.IndexFault.{IndexFault}
 use Rattle.encoding_index.specs.declared.fault.IndexFaultKind.{IndexFaultKind}
@@ -60,3 +60,9 @@ told size before (line ∷ after) none =
 pub faults_are_first : FaultsAreFirst
 unfolding Told
 faults_are_first size text = told size [] (lines_in text) (λ k below. absurd (omega arith))
+
+-- a fault of a line is no want of memory
+pub fault_has_a_line : (size : ℕ) (text : List ℕ) (fault : IndexFault) → first_fault size text ≡ Some fault → fault ≢ out_of_memory
+fault_has_a_line size text fault found same =
+    let first : IsFirstFault size (lines_in text) fault = subst (λ f. MatchOption f (NoneFaultyBefore size (lines_in text) (length (lines_in text))) (IsFirstFault size (lines_in text))) found (faults_are_first size text) in
+    absurd (omega (arith, first.numbered, ap (λ (f : IndexFault). f.line) same))

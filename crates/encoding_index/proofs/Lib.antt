@@ -8,3 +8,4 @@ pub mod ResultCases
 pub mod LoadAnswers
 pub mod WrittenRows
 pub mod FirstFaults
+pub mod ListEntries

@@ -11,6 +11,7 @@ use Rattle.encoding_tables.specs.declared.table_fault.TableFault.{TableFault}
 use Rattle.encoding_tables.specs.declared.table_fault.TableFault.TheVariants.{Memory}
 use Rattle.encoding_index.specs.IndexText.{first_fault, text_list, out_of_memory}
 use Rattle.encoding_index.specs.Loads.{table_fault, load_fault, WantsMemory}
+use Rattle.encoding_index.proofs.ResultCases.{err_is}
 use Rattle.encoding_index.specs.declared.fault.IndexFault.{IndexFault}
 use Rattle.encoding_index.specs.declared.fault.LoadFault.{LoadFault}
 use Rattle.encoding_index.specs.declared.fault.LoadFault.TheVariants.{Text, Table}
@@ -22,10 +23,6 @@ Done = Unit {0}
 -- the clause of `load`
 abbrev pub Answers : Option LoadFault → Result Done LoadFault → Type 0
 Answers fault result = MatchOption fault ((result ≡ Ok tt) ⊎ WantsMemory result) (λ f. (result ≡ Err f) ⊎ (result ≡ Err (Text out_of_memory)))
-
-pub err_is : {T E : Type 0} (r : Result T E) (e : E) → IsErrAnd r (λ x. x ≡ e) → r ≡ Err e
-err_is (Ok x) e same = absurd same
-err_is (Err x) e same = ap Err same
 
 answers_memory : (fault : Option LoadFault) (result : Result Done LoadFault) → result ≡ Err (Text out_of_memory) → Answers fault result
 answers_memory None result refused = inr (inl refused)

@@ -54,6 +54,9 @@ row_fits size least row right = (grind (arith, nat_tests), grind (arith, nat_tes
 some_is_none : {A : Type 0} {x : A} → Some x ≡ None → ⊥
 some_is_none e = cc
 
+cons_is_none : {A : Type 0} {x : A} {xs : List A} → x ∷ xs ≡ [] → ⊥
+cons_is_none e = cc
+
 -- what a line is
 data LineCase (size least : ℕ) (line : List ℕ) : Type 0 where
   skips : is_skipped line ≡ true → line_fault size least line ≡ None → LineCase size least line
@@ -118,4 +121,13 @@ rows_read_is size least number (line ∷ after) none = elim (line_case size leas
   | skips skipped _ ↦ rw (skipped, row_in-skipped line skipped) (rows_read_is size least (number + 1) after (rw skipped at none))
   | fails kind full wrong _ ↦ absurd (some_is_none (rw (full, wrong) at none))
   | gives row full right _ some low high ↦ rw (full, right, some) (ap (λ rows. row ∷ rows) (rows_read_is size (row.0 + 1) (number + 1) after (rw (full, right) at none)))
+]
+
+-- a row was read only of a text that has rows
+pub no_rows_read : (size least number : ℕ) (lines : List (List ℕ)) → rows_in lines ≡ [] → rows_read (outcomes size least number lines) ≡ []
+no_rows_read size least number [] none = refl
+no_rows_read size least number (line ∷ after) none = elim (line_case size least line) [
+  | skips skipped _ ↦ rw skipped (no_rows_read size least (number + 1) after (rw (row_in-skipped line skipped) at none))
+  | fails kind full wrong _ ↦ rw (full, wrong) refl
+  | gives row full right _ some low high ↦ absurd (cons_is_none (rw some at none))
 ]

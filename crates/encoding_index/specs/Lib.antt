@@ -6,3 +6,4 @@ pub mod IndexExamples
 pub mod Loads
 pub mod RowGrammar
 pub mod FaultLaws
+pub mod ListLaws

@@ -1,4 +1,4 @@
-ghost use Rattle.std.specs.Prelude.{◌≡◌, ◌⊎◌, None, Some, IfOk, IfErr, false};
+ghost use Rattle.std.specs.Prelude.{◌≡◌, ◌≢◌, ◌⊎◌, [], None, Some, IfOk, IfErr, false};
 ghost use Rattle.encoding_tables.specs.Kinds.{size_of, is_ranges};
 ghost use Rattle.encoding_index.specs.IndexText.{first_fault, text_list, text_rows, out_of_memory};
 
@@ -8,13 +8,14 @@ use encoding_tables::IndexKind;
 use std::alloc::Global;
 
 /// How many pointers the GB18030 ranges have: one more than the greatest (the Encoding Standard, section
-/// 10.1.1, "gb18030 decoder").
+/// 5, "index gb18030 ranges code point").
 pub const RANGE_POINTERS: u32 = 1_237_576;
 
 /// Reads the text of an index with a list: the code point at each row's pointer, and 0 at the pointers
-/// of no row. Asks for the memory of the whole list before it reads a line, and for no more.
+/// of no row. The kind is one for which [`IndexKind::is_ranges`] is false. Asks for the memory of the
+/// whole list before it reads a line, and for no more.
 ///
-/// The fault is that of the first faulty line, or want of memory.
+/// The fault is the first of the first faulty line, or want of memory.
 pub fn read_index(alloc: Global, kind: IndexKind, text: &[u8]) -> Result<Vec<u32>, IndexFault>
     requires { is_ranges kind ≡ false }
     ensures list { IfOk result (λ list. (first_fault (size_of kind) text.now ≡ None)
@@ -31,14 +32,15 @@ pub fn read_index(alloc: Global, kind: IndexKind, text: &[u8]) -> Result<Vec<u32
 }
 
 /// Reads the text of the GB18030 ranges: its rows, each a pointer and a code point. Asks for memory row
-/// by row.
+/// by row, so a text without rows asks for none.
 ///
-/// The fault is that of the first faulty line, or want of memory.
+/// The fault is the first of the first faulty line, or want of memory.
 pub fn read_ranges(alloc: Global, text: &[u8]) -> Result<Vec<(u32, u32)>, IndexFault>
     ensures rows { IfOk result (λ rows. (first_fault RANGE_POINTERS text.now ≡ None)
         × (rows.items ≡ text_rows text.now)) }
     ensures fault { IfErr result (λ fault. (first_fault RANGE_POINTERS text.now ≡ Some fault)
         ⊎ (fault ≡ out_of_memory)) }
+    ensures grows { text_rows text.now ≡ [] → result ≢ Err out_of_memory }
 {
     let mut rows = Vec::new(alloc);
     for row in IndexRows::new(text, RANGE_POINTERS) {

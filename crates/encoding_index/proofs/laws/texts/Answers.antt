@@ -1,3 +1,4 @@
+use Rattle.encoding_index.proofs.ListEntries.{lists_are_of_rows}
 use Rattle.encoding_index.proofs.FirstFaults.{faults_are_first}
 use Rattle.encoding_index.proofs.WrittenRows.{row_in-written, written-row_in}
 use Rattle.encoding_index.proofs.laws.texts.Goals as goal
@@ -7,3 +8,6 @@ returns-clause-rows c = λ line pointer code. (written-row_in line pointer code,
 
 pub returns-clause-faults : goal.returns-clause-faults
 returns-clause-faults c = faults_are_first
+
+pub returns-clause-lists : goal.returns-clause-lists
+returns-clause-lists c = lists_are_of_rows

@@ -1,5 +1,6 @@
 use Rattle.std.proofs.Common.{Ok, refl, sym, subst, ◌∙◌}
-use Rattle.encoding_index.proofs.LoadAnswers.{Follows, answers_text, answers_list, err_is}
+use Rattle.encoding_index.proofs.LoadAnswers.{Follows, answers_text, answers_list}
+use Rattle.encoding_index.proofs.ResultCases.{err_is}
 use Rattle.encoding_index.specs.declared.fault.LoadFault.TheVariants.{Table}
 use Rattle.encoding_index.proofs.loading.load.Goals as goal
 
