@@ -1,4 +1,3 @@
-mod IndexSlots
 mod RangeRows
 mod RowNames
 mod Latin1

@@ -4,10 +4,12 @@ pub mod LookupLaws
 pub mod Ranges
 pub mod RangeFaults
 pub mod TableFaults
+pub mod Accepted
 pub mod IndexLists
 pub mod RangeLaws
 pub mod NamedRows
 pub mod OptionCases
+pub mod KindsLaws
 pub mod TableFaultsLaws
 pub mod PointerLaws
 pub mod SingleByte

@@ -3,10 +3,18 @@
 ghost use Rattle.std.specs.Prelude.{ℕ, List};
 ghost use Rattle.encoding_mem.specs.ReadBack.{ReadsBackExactly};
 ghost use Rattle.encoding_tables.specs.Lookups.{AreEntries};
+ghost use Rattle.encoding_tables.specs.Accepted.{AcceptanceIsExact};
 ghost use Rattle.encoding_tables.specs.LookupLaws.{FirstIsLeast, LastIsGreatest};
 ghost use Rattle.encoding_tables.specs.NamedRows.{NamesAreExact};
 ghost use Rattle.encoding_tables.specs.SingleByte.{pieces_single_byte, single_byte_coding};
 ghost use Rattle.encoding_tables.specs.RangeLaws.{ValuesAreScalars, ValuesRise, PointersAreExact, PointersReadBack};
+
+/// The lists that are taken as the index of a kind are those of its size whose mapped entries are scalars
+/// from U+0080, of the basic plane or, in Big5, of plane 2; that of JIS X 0208 maps nothing where
+/// Shift_JIS has end-user-defined characters.
+pub fn lists()
+    ensures { AcceptanceIsExact }
+{}
 
 /// The pointers that are found in the list of an index are the least and the greatest with a character.
 pub fn pointers()

@@ -2,6 +2,7 @@ ghost use Rattle.std.specs.Prelude.{◌≡◌, ◌≢◌, map, false, true, Matc
 ghost use Rattle.std.specs.Option.{option_map};
 ghost use Rattle.encoding_tables.specs.Kinds.{is_ranges, is_single_byte};
 ghost use Rattle.encoding_tables.specs.IndexLists.{IndexLists, flat_of, has, entries_of, rows_of, AreAcceptedTables, AreTaken};
+ghost use Rattle.encoding_tables.specs.Accepted.{IsIndex};
 ghost use Rattle.encoding_tables.specs.TableFaults.{flat_fault, range_fault};
 ghost use Rattle.encoding_tables.specs.RangeFaults.{bad_row};
 ghost use Rattle.encoding_tables.specs.Lookups.{AreEntries, value_of, first_pointer, last_pointer};
@@ -126,7 +127,7 @@ impl Tables {
         requires there { has self.now kind ≡ true }
         requires listed { is_ranges kind ≡ false }
         ensures entries { flat_of self.now kind ≡ Some result }
-        ensures accepted { flat_fault false kind result ≡ None }
+        ensures index { IsIndex kind result }
     {
         Flat::new(self.list(kind))
     }

@@ -1,6 +1,6 @@
 use Rattle.std.proofs.Common.{sym, ◌∙◌, ap, arith, Some}
 use Rattle.encoding_tables.specs.IndexLists.{flat_at}
-use Rattle.encoding_tables.proofs.IndexSlots.{index-put, index-others, accepted-put, no_fault}
+use Rattle.encoding_tables.specs.KindsLaws.{index-put, index-others, accepted-put, no_fault}
 use Rattle.encoding_tables.proofs.tables.Tables.insert.Goals as goal
 
 pub returns-in-Ok-clause-taken : goal.returns-in-Ok-clause-taken

@@ -65,7 +65,7 @@ pub index-others : {X : Type 0} (f : X → Option (List ℕ)) (slots : List X) (
 index-others f slots n x kind k is apart =
     rw (map-set f slots n x, is) (get_or-set_other (map f slots) (number kind) (number k) (f x) None (number-apart k kind apart))
 
-number-same : (a b : IndexKind) → number a ≡ number b → a ≡ b
+pub number-same : (a b : IndexKind) → number a ≡ number b → a ≡ b
 number-same a b e = sym (again a) ∙ ap (λ n. get_or kind_at n Ibm866) e ∙ again b
 
 pub accepted-put : {X : Type 0} (f : X → Option (List ℕ)) (slots : List X) (n : ℕ) (x : X) (kind : IndexKind) (flat : List ℕ) → n ≡ number kind → n < length slots

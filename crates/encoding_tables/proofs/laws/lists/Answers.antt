@@ -1,0 +1,5 @@
+use Rattle.encoding_tables.specs.TableFaultsLaws.{acceptance_is_exact}
+use Rattle.encoding_tables.proofs.laws.lists.Goals as goal
+
+pub returns : goal.returns
+returns c = acceptance_is_exact
