@@ -1,5 +1,5 @@
 -- What each encoding means: the indexes that it needs, the pieces of its bytes, and what is written for a text in it.
-use Rattle.std.specs.Prelude.{◌≡◌, ℕ, true, List, [], ◌∷◌}
+use Rattle.std.specs.Prelude.{◌≡◌, ℕ, ◌+◌, ◌*◌, true, List, [], ◌∷◌, refl}
 use Rattle.encoding_mem.specs.Piece.{Piece}
 use Rattle.encoding_mem.specs.Coding.{Coding}
 use Rattle.encoding_mem.specs.Utf8.{pieces_utf8}
@@ -12,6 +12,7 @@ use Rattle.encoding_front.specs.declared.encoding.Encoding.{Encoding}
 use Rattle.encoding_front.specs.declared.encoding.Name.{Name}
 use Rattle.encoding_front.specs.declared.encoding.Name.TheVariants.{Utf8, Windows1252}
 use Rattle.encoding_front.specs.declared.encoding.Scheme.{Scheme}
+use Rattle.encoding_front.specs.declared.encoding.TheConstants.{UTF_8, UTF_8_INIT, WINDOWS_1252, WINDOWS_1252_INIT}
 
 -- how an encoding is read and written
 abbrev pub scheme_of_name : Name → Scheme
@@ -65,3 +66,39 @@ coding_of_scheme t (Scheme.SingleByte kind) = single_byte_coding (entries_of t k
 
 abbrev pub coding_of : IndexLists → Encoding → Coding
 coding_of t e = coding_of_scheme t (scheme_of (output_encoding_of e))
+
+-- the most bytes that one step of the encoder writes
+abbrev pub need_of_scheme : Scheme → ℕ
+need_of_scheme Scheme.Utf8 = 4
+need_of_scheme (Scheme.SingleByte kind) = 1
+
+abbrev pub need_of : Encoding → ℕ
+need_of e = need_of_scheme (scheme_of (output_encoding_of e))
+
+-- the bytes, and the units, that are room enough for the text of m bytes, where nothing is pending
+abbrev pub bytes_for_scheme : Scheme → ℕ → ℕ
+bytes_for_scheme Scheme.Utf8 m = m + 3
+bytes_for_scheme (Scheme.SingleByte kind) m = 3 * m
+
+abbrev pub bytes_for : Encoding → ℕ → ℕ
+bytes_for e m = bytes_for_scheme (scheme_of e) m
+
+abbrev pub units_for_scheme : Scheme → ℕ → ℕ
+units_for_scheme Scheme.Utf8 m = m + 1
+units_for_scheme (Scheme.SingleByte kind) m = m
+
+abbrev pub units_for : Encoding → ℕ → ℕ
+units_for e m = units_for_scheme (scheme_of e) m
+
+-- the constants
+utf_8 : scheme_of UTF_8 ≡ Scheme.Utf8
+utf_8 = refl
+
+utf_8_init : UTF_8_INIT ≡ UTF_8
+utf_8_init = refl
+
+windows_1252 : scheme_of WINDOWS_1252 ≡ Scheme.SingleByte IndexKind.Windows1252
+windows_1252 = refl
+
+windows_1252_init : WINDOWS_1252_INIT ≡ WINDOWS_1252
+windows_1252_init = refl

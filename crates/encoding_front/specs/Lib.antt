@@ -1,3 +1,2 @@
 pub mod Encodings
 pub mod EncodingsLaws
-pub mod VariantLaws

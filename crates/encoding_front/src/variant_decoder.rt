@@ -1,5 +1,5 @@
-ghost use Rattle.std.specs.Prelude.{◌≡◌};
-ghost use Rattle.encoding_front.specs.Encodings.{IsReady, pieces_of};
+ghost use Rattle.std.specs.Prelude.{◌≡◌, ℕ};
+ghost use Rattle.encoding_front.specs.Encodings.{IsReady, pieces_of, bytes_for, units_for};
 ghost use Rattle.encoding_front.specs.declared.variant_decoder.VariantDecoder.TheVariants.{Utf8, SingleByte};
 
 use crate::encoding::{Encoding, Scheme};
@@ -21,6 +21,8 @@ impl<'t> VariantDecoder<'t> {
         requires { IsReady tables.now encoding }
         ensures pending { (⟦<VariantDecoder<'t> as RawDecoder>⟧.state result).pending ≡ 0 }
         ensures pieces { (⟦<VariantDecoder<'t> as RawDecoder>⟧.state result).pieces ≡ pieces_of tables.now encoding }
+        ensures bytes { (m : ℕ) → (⟦<VariantDecoder<'t> as RawDecoder>⟧.state result).bytes_for m ≡ bytes_for encoding m }
+        ensures units { (m : ℕ) → (⟦<VariantDecoder<'t> as RawDecoder>⟧.state result).units_for m ≡ units_for encoding m }
     {
         match encoding.scheme() {
             Scheme::Utf8 => VariantDecoder::Utf8(Utf8Decoder::new()),

@@ -4,8 +4,7 @@ ghost use Rattle.std.specs.Char.Utf16.{utf16_lossy_chars};
 ghost use Rattle.encoding_mem.specs.declared.form.Set.TheVariants.{Ascii};
 ghost use Rattle.encoding_mem.specs.Utf8CodingLaws.{utf8_coding_laws};
 ghost use Rattle.encoding_tables.specs.SingleByteLaws.{single_byte_laws};
-ghost use Rattle.encoding_front.specs.Encodings.{IsReady, coding_of, output_encoding_of};
-ghost use Rattle.encoding_front.specs.VariantLaws.{four_is_enough};
+ghost use Rattle.encoding_front.specs.Encodings.{IsReady, coding_of, need_of, output_encoding_of};
 ghost use Rattle.encoding_front.specs.declared.variant_encoder.VariantEncoder.TheVariants.{Utf8, SingleByte};
 
 use crate::encoding::{Encoding, Scheme};
@@ -25,6 +24,7 @@ impl<'t> VariantEncoder<'t> {
         requires { IsReady tables.now (output_encoding_of encoding) }
         ensures coding { ⟦<VariantEncoder<'t> as RawEncoder>⟧.coding result ≡ coding_of tables.now encoding }
         ensures set { ⟦<VariantEncoder<'t> as RawEncoder>⟧.set result ≡ Ascii }
+        ensures need { ⟦<VariantEncoder<'t> as RawEncoder>⟧.need result ≡ need_of encoding }
     {
         match encoding.output_encoding().scheme() {
             Scheme::Utf8 => VariantEncoder::Utf8(Utf8Encoder::new()),
@@ -36,7 +36,10 @@ impl<'t> VariantEncoder<'t> {
 }
 
 impl<'t> RawEncoder for VariantEncoder<'t> {
-    ghost need = { 4 };
+    ghost need = { elim [
+      | Utf8 e ↦ ⟦<Utf8Encoder as RawEncoder>⟧.need e
+      | SingleByte e ↦ ⟦<SingleByteEncoder<'t> as RawEncoder>⟧.need e
+    ] };
 
     ghost coding = { elim [
       | Utf8 e ↦ ⟦<Utf8Encoder as RawEncoder>⟧.coding e
@@ -50,7 +53,7 @@ impl<'t> RawEncoder for VariantEncoder<'t> {
 
     ghost laws = { elim [
       | Utf8 e ↦ utf8_coding_laws
-      | SingleByte e ↦ four_is_enough 1 _ (single_byte_laws _)
+      | SingleByte e ↦ single_byte_laws _
     ] };
 
     fn encode_from_utf8_raw(

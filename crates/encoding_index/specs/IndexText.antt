@@ -8,6 +8,10 @@ use Rattle.encoding_index.specs.declared.fault.IndexFault.{IndexFault}
 use Rattle.encoding_index.specs.declared.fault.IndexFaultKind.{IndexFaultKind}
 use Rattle.encoding_index.specs.declared.fault.IndexFaultKind.TheVariants.{Row, Order, Pointer, Memory}
 
+-- how many pointers the GB18030 ranges have: one more than the greatest
+abbrev pub range_pointers : ℕ
+range_pointers = 1237576
+
 -- U+FEFF in UTF-8
 abbrev pub mark : List ℕ
 mark = 0xEF ∷ 0xBB ∷ 0xBF ∷ []

@@ -8,15 +8,14 @@ use Rattle.encoding_tables.specs.TableFaults.{flat_fault, range_fault}
 use Rattle.encoding_tables.specs.declared.index_kind.IndexKind.{IndexKind}
 use Rattle.encoding_tables.specs.declared.table_fault.TableFault.{TableFault}
 use Rattle.encoding_tables.specs.declared.table_fault.TableFault.TheVariants.{Memory}
-use Rattle.encoding_index.specs.IndexText.{first_fault, text_list, text_rows, out_of_memory}
+use Rattle.encoding_index.specs.IndexText.{range_pointers, first_fault, text_list, text_rows, out_of_memory}
 use Rattle.encoding_index.specs.declared.fault.IndexFault.{IndexFault}
 use Rattle.encoding_index.specs.declared.fault.LoadFault.{LoadFault}
 use Rattle.encoding_index.specs.declared.fault.LoadFault.TheVariants.{Text, Table}
-use Rattle.encoding_index.specs.declared.reading.TheConstants.{RANGE_POINTERS}
 
 -- how many pointers the texts of a kind can name
 abbrev pub pointers_of : IndexKind → ℕ
-pointers_of kind = if is_ranges kind then RANGE_POINTERS else size_of kind
+pointers_of kind = if is_ranges kind then range_pointers else size_of kind
 
 -- the first fault of a text of the kind
 abbrev pub text_fault : IndexKind → List ℕ → Option IndexFault

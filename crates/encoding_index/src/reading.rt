@@ -1,6 +1,6 @@
 ghost use Rattle.std.specs.Prelude.{◌≡◌, ◌≢◌, ◌⊎◌, [], None, Some, IfOk, IfErr, false};
 ghost use Rattle.encoding_tables.specs.Kinds.{size_of, is_ranges};
-ghost use Rattle.encoding_index.specs.IndexText.{first_fault, text_list, text_rows, out_of_memory};
+ghost use Rattle.encoding_index.specs.IndexText.{range_pointers, first_fault, text_list, text_rows, out_of_memory};
 
 use crate::fault::IndexFault;
 use crate::rows::IndexRows;
@@ -36,9 +36,9 @@ pub fn read_index(alloc: Global, kind: IndexKind, text: &[u8]) -> Result<Vec<u32
 ///
 /// The fault is the first of the first faulty line, or want of memory.
 pub fn read_ranges(alloc: Global, text: &[u8]) -> Result<Vec<(u32, u32)>, IndexFault>
-    ensures rows { IfOk result (λ rows. (first_fault RANGE_POINTERS text.now ≡ None)
+    ensures rows { IfOk result (λ rows. (first_fault range_pointers text.now ≡ None)
         × (rows.items ≡ text_rows text.now)) }
-    ensures fault { IfErr result (λ fault. (first_fault RANGE_POINTERS text.now ≡ Some fault)
+    ensures fault { IfErr result (λ fault. (first_fault range_pointers text.now ≡ Some fault)
         ⊎ (fault ≡ out_of_memory)) }
     ensures grows { text_rows text.now ≡ [] → result ≢ Err out_of_memory }
 {

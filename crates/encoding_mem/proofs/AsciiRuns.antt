@@ -1,9 +1,9 @@
 -- Runs of ASCII at the front of a text.
-use Rattle.std.proofs.Common.{◌≡◌, ℕ, zero, suc, min, length-take, ◌+◌, ◌<◌, ◌≤◌, List, [], ◌∷◌, ◌++◌, length, get_or, take, drop, sym, ◌∙◌, ap, subst, refl, arith, inl, inr, encode_utf8_all}
+use Rattle.std.proofs.Common.{◌≡◌, ℕ, zero, suc, min, length-take, length-drop, ◌+◌, ◌<◌, ◌≤◌, List, [], ◌∷◌, ◌++◌, length, get_or, take, drop, sym, ◌∙◌, ap, subst, refl, arith, inl, inr, encode_utf8_all, add-zero}
 use Rattle.std.specs.Char.Utf16.{utf16_lossy_chars}
 use Rattle.std.specs.Str.{chars, IsAscii, IsUtf8, IsCharBoundary}
 use Rattle.std.proofs.lemmas.Bool.{cases_lt}
-use Rattle.std.proofs.lemmas.List.{take-take, drop-drop}
+use Rattle.std.proofs.lemmas.List.{take-take, drop-drop, get_or-take, get_or-drop}
 use Rattle.std.proofs.Math.Seq.{drop-append_seam}
 use Rattle.std.proofs.lemmas.Str.{chars-append, chars-IsAscii, encode_ascii, encodes-chars, IsUtf8-from_ascii, IsCharBoundary-from_take, IsCharBoundary-from_rest}
 use Rattle.encoding_mem.proofs.Units.{no_units, plain_unit, lone_unit, pair_of_units, no_second}
@@ -41,6 +41,20 @@ run_some text bytes most m n c rest utf8 same is some longest at low = elim (cas
       let wide : 0 < m = omega (arith, is, ap length begins) in
       let high : 0x80 ≤ get_or (take m bytes) 0 0 = rw zero at longest (omega (arith, wide, ap length bytes_are, length-take m bytes)) in
       absurd (omega (arith, high, low, first_of m c bytes (encode_utf8_all rest) bytes_are wide))
+]
+
+-- and what stands behind a run that ended before the room did is not ASCII
+pub run_longest : (text bytes rest : List ℕ) (most m n c : ℕ) (more : List ℕ) → IsUtf8 rest → bytes ≡ text → m ≡ min (length text) most → n < most → rest ≡ drop n text
+    → (n < length (take m bytes) → 0x80 ≤ get_or (take m bytes) n 0) → chars rest ≡ c ∷ more → 0x80 ≤ c
+run_longest text bytes rest most m n c more utf8 same is short at longest begins = elim (cases_lt c 0x80) [
+  | inl low ↦
+      let byte : rest ≡ c ∷ encode_utf8_all more = first_byte rest c more utf8 begins low in
+      let within : n < length text = omega (arith, ap length byte, ap length at, length-drop n text) in
+      let fits : n < m = omega (arith, is, within, short) in
+      let high : 0x80 ≤ get_or (take m bytes) n 0 = longest (omega (arith, length-take m bytes, ap length same, fits, within)) in
+      let there : get_or (take m bytes) n 0 ≡ c = get_or-take m bytes n 0 fits ∙ ap (λ l. get_or l n 0) same ∙ ap (λ k. get_or text k 0) (sym (add-zero n)) ∙ sym (get_or-drop n text 0 0) ∙ ap (λ l. get_or l 0 0) (sym at ∙ byte) in
+      absurd (omega (arith, high, low, there))
+  | inr high ↦ high
 ]
 
 -- In UTF-16.
@@ -103,3 +117,16 @@ pub past_units : (units here out : List ℕ) (i n : ℕ) → here ≡ drop i uni
 past_units units here out i n at within copied low =
     ap utf16_lossy_chars (sym at) ∙ run_units n here within low ∙ ap (λ l. l ++ utf16_lossy_chars (drop n here)) (sym copied)
     ∙ ap (λ l. out ++ utf16_lossy_chars l) (ap (drop n) at ∙ drop-drop n i units)
+
+pub units_longest : (units here : List ℕ) (i n size c : ℕ) (rest : List ℕ) → here ≡ drop i units → n < size → (n < length here → n < size → 0x80 ≤ get_or here n 0)
+    → utf16_lossy_chars (drop (i + n) units) ≡ c ∷ rest → 0x80 ≤ c
+units_longest units here i n size c rest at short longest begins =
+    let left : drop n here ≡ drop (i + n) units = ap (drop n) at ∙ drop-drop n i units in
+    behind (drop n here) (ap utf16_lossy_chars left ∙ begins) (λ some. get_or_at (longest (omega (arith, some, length-drop n here)) short))
+  where
+    get_or_at : 0x80 ≤ get_or here n 0 → 0x80 ≤ get_or (drop n here) 0 0
+    get_or_at h = subst (λ v. 0x80 ≤ v) (ap (λ k. get_or here k 0) (sym (add-zero n)) ∙ sym (get_or-drop n here 0 0)) h
+
+    behind : (us : List ℕ) → utf16_lossy_chars us ≡ c ∷ rest → (0 < length us → 0x80 ≤ get_or us 0 0) → 0x80 ≤ c
+    behind [] e h = let none = sym (no_units [] refl) ∙ e in absurd (cc)
+    behind (u ∷ us) e h = high_unit (u ∷ us) c rest (omega arith) (h (omega arith)) e

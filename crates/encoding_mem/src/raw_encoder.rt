@@ -11,7 +11,7 @@ use crate::encoder_result::EncoderResult;
 /// each character without bytes, and does not write its reference.
 pub trait RawEncoder {
     /// The most bytes that one step writes.
-    ghost need: { ℕ };
+    ghost need: { Self → ℕ };
 
     ghost coding: { Self → Coding };
 
@@ -32,7 +32,7 @@ pub trait RawEncoder {
         ensures behind { drop result.2 dst.new ≡ drop result.2 dst.old }
         ensures target { coding self.new ≡ coding self.old }
         ensures law { Encodes (coding self.old) last result.0 (set self.old) (chars src.now) (take result.2 dst.new) (set self.new) (chars (drop result.1 src.now)) }
-        ensures answers { Answers need last result.0 (set self.new) (chars (drop result.1 src.now)) (length dst.new - result.2) };
+        ensures answers { Answers (need self.old) last result.0 (set self.new) (chars (drop result.1 src.now)) (length dst.new - result.2) };
 
     /// Encodes units of UTF-16, in which a surrogate outside a pair is U+FFFD. The slice is read by
     /// itself, and no pair that it holds is parted. Answers as above, with the units read.
@@ -47,7 +47,7 @@ pub trait RawEncoder {
         ensures behind { drop result.2 dst.new ≡ drop result.2 dst.old }
         ensures target { coding self.new ≡ coding self.old }
         ensures law { Encodes (coding self.old) last result.0 (set self.old) (utf16_lossy_chars src.now) (take result.2 dst.new) (set self.new) (utf16_lossy_chars (drop result.1 src.now)) }
-        ensures answers { Answers need last result.0 (set self.new) (utf16_lossy_chars (drop result.1 src.now)) (length dst.new - result.2) };
+        ensures answers { Answers (need self.old) last result.0 (set self.new) (utf16_lossy_chars (drop result.1 src.now)) (length dst.new - result.2) };
 
-    ghost laws: { (x : Self) → IsCoding need (coding x) };
+    ghost laws: { (x : Self) → IsCoding (need x) (coding x) };
 }

@@ -43,7 +43,9 @@ pub trait Source {
         ensures text { text (drop (place self.old) (all self.old))
             ≡ take result dst.new ++ text (drop (place self.new) (all self.new)) }
         ensures some { (c : ℕ) (rest : List ℕ) → text (drop (place self.old) (all self.old)) ≡ c ∷ rest
-            → c < 0x80 → 0 < length dst.old → 0 < result };
+            → c < 0x80 → 0 < length dst.old → 0 < result }
+        ensures longest { result < length dst.old
+            → (c : ℕ) (rest : List ℕ) → text (drop (place self.new) (all self.new)) ≡ c ∷ rest → 0x80 ≤ c };
 
     /// How many bytes or units were read. They end between characters.
     fn read(&self) -> usize
@@ -73,6 +75,7 @@ fn ascii_run(text: &str, most: usize) -> (&str, &str)
     ensures few { length result.0.now ≤ most }
     ensures boundary { IsCharBoundary text.now (length result.0.now) }
     ensures some { (c : ℕ) (rest : List ℕ) → chars text.now ≡ c ∷ rest → c < 0x80 → 0 < most → 0 < length result.0.now }
+    ensures longest { length result.0.now < most → (c : ℕ) (rest : List ℕ) → chars result.1.now ≡ c ∷ rest → 0x80 ≤ c }
 {
     let run = ascii_front(&text.as_bytes()[..text.len().min(most)]);
     text.split_at(run.len())

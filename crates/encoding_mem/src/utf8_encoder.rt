@@ -72,13 +72,14 @@ impl Utf8Encoder {
     pub fn new() -> Self
         ensures coding { ⟦<Utf8Encoder as RawEncoder>⟧.coding result ≡ utf8_coding }
         ensures set { ⟦<Utf8Encoder as RawEncoder>⟧.set result ≡ Ascii }
+        ensures need { ⟦<Utf8Encoder as RawEncoder>⟧.need result ≡ 4 }
     {
         Utf8Encoder {}
     }
 }
 
 impl RawEncoder for Utf8Encoder {
-    ghost need = { 4 };
+    ghost need = { λ _. 4 };
 
     ghost coding = { λ _. utf8_coding };
 

@@ -7,7 +7,7 @@ use Rattle.encoding_mem.specs.ReadBack.{ReadsBackExactly}
 use Rattle.encoding_tables.specs.IndexLists.{IndexLists, flat_of, entries_of, AreAcceptedTables}
 use Rattle.encoding_tables.specs.Lookups.{AreEntries}
 use Rattle.encoding_tables.specs.TableFaults.{flat_fault}
-use Rattle.encoding_tables.specs.TableFaultsLaws.{entries_are_scalars}
+use Rattle.encoding_tables.specs.TableFaultsLaws.{is_index, entries_are_scalars}
 use Rattle.encoding_tables.specs.SingleByte.{pieces_single_byte, single_byte_coding}
 use Rattle.encoding_tables.specs.SingleByteReadBack.{single_byte_exact, single_byte_are_pieces}
 use Rattle.encoding_tables.specs.declared.index_kind.IndexKind.{IndexKind}
@@ -15,7 +15,7 @@ use Rattle.encoding_tables.specs.declared.index_kind.IndexKind.{IndexKind}
 -- What is there was accepted, and what is not there has no entries.
 scalars_of : (kind : IndexKind) (o : Option (List ℕ)) → IfSome o (λ flat. flat_fault false kind flat ≡ None) → AreEntries (unwrap_or o [])
 scalars_of kind None h = λ p mapped. absurd (mapped refl)
-scalars_of kind (Some flat) h = entries_are_scalars kind flat h
+scalars_of kind (Some flat) h = entries_are_scalars kind flat (is_index kind flat h)
 
 entries_scalars : (t : IndexLists) (kind : IndexKind) → AreAcceptedTables t → AreEntries (entries_of t kind)
 entries_scalars t kind h = scalars_of kind (flat_of t kind) (h.0 kind)

@@ -78,6 +78,7 @@ impl<'a> SingleByteEncoder<'a> {
         requires single { is_single_byte kind ≡ true }
         ensures coding { ⟦<SingleByteEncoder<'a> as RawEncoder>⟧.coding result ≡ single_byte_coding (entries_of tables.now kind) }
         ensures set { ⟦<SingleByteEncoder<'a> as RawEncoder>⟧.set result ≡ Ascii }
+        ensures need { ⟦<SingleByteEncoder<'a> as RawEncoder>⟧.need result ≡ 1 }
     {
         SingleByteEncoder {
             target: SingleByte {
@@ -88,7 +89,7 @@ impl<'a> SingleByteEncoder<'a> {
 }
 
 impl<'a> RawEncoder for SingleByteEncoder<'a> {
-    ghost need = { 1 };
+    ghost need = { λ _. 1 };
 
     ghost coding = { λ e. single_byte_coding e.target.flat };
 

@@ -89,9 +89,9 @@ pub fn convert<R: Read, W: Write, L: Write>(
     requires log { failures_of log.old ≤ 2 ^ 64 - 5 }
 
     ensures buffers { AreEnough buffers.new }
-    ensures converts { result ≢ FAULT → Converts (R.remaining (inner_of reader.old)) (R.remaining (inner_of reader.new)) (W.contents (inner_of writer.old)) (W.contents (inner_of writer.new)) (L.contents (inner_of log.old)) (L.contents (inner_of log.new)) job.entry result }
-    ensures quiet { result ≢ FAULT → (failures_of reader.new ≡ failures_of reader.old) × (failures_of writer.new ≡ failures_of writer.old) × (failures_of log.new ≡ failures_of log.old) }
-    ensures broken { result ≡ FAULT → Breaks (R.remaining (inner_of reader.old)) (R.remaining (inner_of reader.new)) (W.contents (inner_of writer.old)) (W.contents (inner_of writer.new)) (L.contents (inner_of log.old)) (L.contents (inner_of log.new)) (failures_of reader.old) (failures_of reader.new) (failures_of writer.old) (failures_of writer.new) (failures_of log.old) (failures_of log.new) job.entry }
+    ensures converts { result ≢ 4 → Converts (R.remaining (inner_of reader.old)) (R.remaining (inner_of reader.new)) (W.contents (inner_of writer.old)) (W.contents (inner_of writer.new)) (L.contents (inner_of log.old)) (L.contents (inner_of log.new)) job.entry result }
+    ensures quiet { result ≢ 4 → (failures_of reader.new ≡ failures_of reader.old) × (failures_of writer.new ≡ failures_of writer.old) × (failures_of log.new ≡ failures_of log.old) }
+    ensures broken { result ≡ 4 → Breaks (R.remaining (inner_of reader.old)) (R.remaining (inner_of reader.new)) (W.contents (inner_of writer.old)) (W.contents (inner_of writer.new)) (L.contents (inner_of log.old)) (L.contents (inner_of log.new)) (failures_of reader.old) (failures_of reader.new) (failures_of writer.old) (failures_of writer.new) (failures_of log.old) (failures_of log.new) job.entry }
 {
     let result = run(reader, writer, log, job, buffers);
     let flushed = flush_both(writer, log);

@@ -1,15 +1,14 @@
 -- A line of the log: which ones are valid, and the bytes of each.
-use Rattle.std.specs.Prelude.{◌≡◌, ℕ, ◌≤◌, List, ◌++◌, codes, refl}
+use Rattle.std.specs.Prelude.{◌≡◌, ℕ, ◌≤◌, ◌^◌, List, ◌++◌, codes, refl}
 use Rattle.std.specs.Char.{IsScalar}
 use Rattle.std.specs.Fmt.{decimal, digits}
 use Rattle.recode_log.specs.declared.line.LogLine.{LogLine}
 use Rattle.recode_log.specs.declared.line.LogLine.TheVariants.{Bad, Lost}
-use Rattle.recode_log.specs.declared.line.TheConstants.{GREATEST_PLACE}
 
 -- the place is one that the log can name, and bad bytes are one to four
 abbrev pub IsValid : LogLine → Type 0
-IsValid (Bad offset length) = (offset ≤ GREATEST_PLACE) × (1 ≤ length) × (length ≤ 4)
-IsValid (Lost index scalar) = index ≤ GREATEST_PLACE
+IsValid (Bad offset length) = (offset ≤ 2 ^ 48) × (1 ≤ length) × (length ≤ 4)
+IsValid (Lost index scalar) = index ≤ 2 ^ 48
 
 -- the line's character is a Unicode scalar value, as each `char` of the code is
 abbrev pub HasScalar : LogLine → Type 0

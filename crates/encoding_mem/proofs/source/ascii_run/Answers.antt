@@ -1,7 +1,8 @@
 use Rattle.std.proofs.Common.{◌∙◌, sym, ap, subst, drop, length, arith, ◌++◌, length-take}
-use Rattle.std.specs.Str.{IsAscii, IsCharBoundary}
+use Rattle.std.specs.Str.{IsAscii, IsUtf8, IsCharBoundary}
 use Rattle.std.proofs.lemmas.List.{take-append-drop}
-use Rattle.encoding_mem.proofs.AsciiRuns.{run_boundary, run_chars, run_some, run_is}
+use Rattle.std.proofs.lemmas.Str.{IsUtf8-drop}
+use Rattle.encoding_mem.proofs.AsciiRuns.{run_longest, run_boundary, run_chars, run_some, run_is}
 use Rattle.encoding_mem.proofs.source.ascii_run.Goals as goal
 
 pub split_at-requires : goal.split_at-requires
@@ -27,3 +28,12 @@ returns-clause-some c = λ first rest at low some.
     let is = run_is c.args.text.now _ _ _ c.as_bytes.ensures.value (omega (arith, c.min.ensures)) c.ascii_front-run.ensures.front in
     let more = run_some c.args.text.now c.as_bytes.result.now c.args.most c.min.result (length c.ascii_front-run.result.now) first rest c.utf8.text c.as_bytes.ensures.value c.min.ensures some c.ascii_front-run.ensures.longest at low in
     omega (arith, more, ap length (is ∙ sym c.split_at.ensures.front))
+
+pub returns-clause-longest : goal.returns-clause-longest
+returns-clause-longest c = λ short first more begins.
+    let n = length c.ascii_front-run.result.now in
+    let is = run_is c.args.text.now _ _ _ c.as_bytes.ensures.value (omega (arith, c.min.ensures)) c.ascii_front-run.ensures.front in
+    let cut = run_boundary _ _ _ c.utf8.text (omega (arith, ap length is, length-take n c.args.text.now)) is c.ascii_front-run.ensures.ascii in
+    let rest_utf8 = subst IsUtf8 (sym c.split_at.ensures.back) (IsUtf8-drop c.args.text.now n c.utf8.text cut) in
+    run_longest c.args.text.now c.as_bytes.result.now c.split_at.result.1.now c.args.most c.min.result n first more rest_utf8 c.as_bytes.ensures.value c.min.ensures
+    (omega (arith, short, ap length (is ∙ sym c.split_at.ensures.front))) c.split_at.ensures.back c.ascii_front-run.ensures.longest begins
