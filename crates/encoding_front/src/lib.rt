@@ -3,6 +3,8 @@
 
 pub mod encoding;
 pub mod reference;
+#[cfg(test)]
+mod tests;
 pub mod variant_decoder;
 pub mod variant_encoder;
 

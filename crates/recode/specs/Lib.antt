@@ -5,6 +5,7 @@ pub mod Fault
 pub mod Owed
 pub mod Step
 pub mod Job
+pub mod JobRows
 pub mod Buffers
 pub mod Session
 pub mod Conversion

@@ -1,0 +1,53 @@
+use crate::{UTF_8, UTF_8_INIT, VariantDecoder, VariantEncoder, WINDOWS_1252, WINDOWS_1252_INIT};
+use encoding_mem::{DecoderResult, EncoderResult, RawDecoder, RawEncoder};
+use encoding_tables::{IndexKind, TableFault, Tables};
+
+#[test]
+fn encodings_are_equal_to_themselves_alone(rt: HostRuntime) {
+    assert_eq!(rt; UTF_8, UTF_8_INIT);
+    assert_eq!(rt; WINDOWS_1252, WINDOWS_1252_INIT);
+    assert!(rt; UTF_8 != WINDOWS_1252);
+}
+
+#[test]
+fn an_encoding_is_ready_with_its_index(rt: HostRuntime) -> Result<(), TableFault> {
+    let mut tables = Tables::new(rt.alloc());
+    assert!(rt; UTF_8.needs().is_empty());
+    assert_eq!(rt; WINDOWS_1252.needs(), [IndexKind::Windows1252].as_slice());
+    assert!(rt; UTF_8.is_ready(&tables));
+    assert!(rt; !WINDOWS_1252.is_ready(&tables));
+    tables.insert(IndexKind::Windows1252, &[0; 128])?;
+    assert!(rt; WINDOWS_1252.is_ready(&tables));
+    Ok(())
+}
+
+#[test]
+fn a_single_byte_target_fills_its_room(rt: HostRuntime) -> Result<(), TableFault> {
+    let mut tables = Tables::new(rt.alloc());
+    tables.insert(IndexKind::Windows1252, &[0xE9; 128])?;
+    assert!(rt; WINDOWS_1252.is_ready(&tables));
+    for (room, answer) in [
+        (2, (EncoderResult::OutputFull, 3, 2)),
+        (3, (EncoderResult::InputEmpty, 4, 3)),
+    ] {
+        let mut encoder = VariantEncoder::new(WINDOWS_1252, &tables);
+        let mut dst = [0u8; 3];
+        let told = encoder.encode_from_utf8_raw("aéb", &mut dst[..room], true);
+        assert_eq!(rt; told, answer);
+        assert_eq!(rt; &dst[..2], b"a\x80".as_slice());
+    }
+    Ok(())
+}
+
+#[test]
+fn a_single_byte_source_fills_its_room(rt: HostRuntime) -> Result<(), TableFault> {
+    let mut tables = Tables::new(rt.alloc());
+    tables.insert(IndexKind::Windows1252, &[0xE9; 128])?;
+    assert!(rt; WINDOWS_1252.is_ready(&tables));
+    let mut decoder = VariantDecoder::new(WINDOWS_1252, &tables);
+    let mut dst = [0u8; 9];
+    let told = decoder.decode_to_utf8_raw(b"a\x80b", &mut dst, true);
+    assert_eq!(rt; told, (DecoderResult::InputEmpty, 3, 4));
+    assert_eq!(rt; &dst[..4], "aéb".as_bytes());
+    Ok(())
+}
