@@ -1,5 +1,5 @@
--- The single-byte encodings, by the list of an index (the Encoding Standard, section 9.1, "single-byte decoder" and
--- "single-byte encoder").
+-- The single-byte encodings, by the list of an index (the Encoding Standard, section 9.1, "single-byte decoder", and
+-- section 9.2, "single-byte encoder").
 use Rattle.std.proofs.Common.{refl}
 use Rattle.std.specs.Prelude.{◌≡◌, ◌≢◌, ℕ, ◌+◌, ◌-◌, ◌<◌, ◌≤◌, ◌==◌, Bool, false, List, [], ◌∷◌, length, nat_lt, if◌then◌else◌, Option, None, Some, replicate, slice_index}
 use Rattle.std.specs.Option.{option_map}
