@@ -11,3 +11,8 @@ pub mod Utf8Chars
 pub mod Utf8Texts
 pub mod AsciiRuns
 pub mod Parts
+pub mod Fronts
+pub mod LoneSurrogates
+pub mod Latin1Texts
+pub mod BidiTexts
+pub mod BidiForms

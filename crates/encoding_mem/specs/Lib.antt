@@ -30,3 +30,9 @@ pub mod SampleCodingLaws
 pub mod EncodingRows
 pub mod ReadBack
 pub mod ReadBackLaws
+pub mod Latin1
+pub mod Bidi
+pub mod LongestPrefix
+pub mod Iso2022JpAscii
+pub mod Surrogates
+pub mod TextRows

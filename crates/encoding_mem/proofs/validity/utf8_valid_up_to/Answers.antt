@@ -1,0 +1,13 @@
+use Rattle.std.proofs.Common.{arith, sym, subst}
+use Rattle.std.specs.Str.{IsUtf8}
+use Rattle.encoding_mem.specs.LongestPrefix.{IsLongestPrefix}
+use Rattle.encoding_mem.proofs.validity.utf8_valid_up_to.Goals as goal
+
+pub returns-in-Err : goal.returns-in-Err
+returns-in-Err c =
+    let up_to = c.in-Err.ensures.cases.1 in
+    subst (λ n. IsLongestPrefix IsUtf8 c.args.bytes.now n) (sym c.valid_up_to.ensures) (record {
+      within = omega (arith, up_to.short);
+      good = up_to.front;
+      longest = λ m more some. up_to.longest m more;
+    })

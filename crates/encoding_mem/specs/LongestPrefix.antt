@@ -1,0 +1,8 @@
+-- The longest prefix with a property.
+use Rattle.std.specs.Prelude.{ℕ, ◌<◌, ◌≤◌, List, length, take}
+
+-- the first n elements have the property, and no longer prefix has it
+pub record IsLongestPrefix (Good : List ℕ → Type 0) (xs : List ℕ) (n : ℕ) : Type 0 where
+  pub within : n ≤ length xs
+  pub good : Good (take n xs)
+  pub longest : (m : ℕ) → n < m → m ≤ length xs → ¬ (Good (take m xs))

@@ -1,0 +1,26 @@
+-- Surrogates in units of 16 bits. What is behind the end is no surrogate.
+use Rattle.std.specs.Prelude.{ℕ, ◌≡◌, ◌+◌, ◌⊎◌, List, length, slice_index}
+use Rattle.std.specs.Int.{IsInRange}
+
+-- the first unit of a pair, and the second
+abbrev pub IsHighSurrogate : ℕ → Type 0
+IsHighSurrogate u = IsInRange 0xD800 0xDBFF u
+
+abbrev pub IsLowSurrogate : ℕ → Type 0
+IsLowSurrogate u = IsInRange 0xDC00 0xDFFF u
+
+-- the unit at i is a surrogate with no partner: a first one that no second one follows, or a second one
+-- that follows no first one
+abbrev pub IsLoneSurrogate : List ℕ → ℕ → Type 0
+IsLoneSurrogate units i = (IsHighSurrogate (slice_index units i) × (¬ IsLowSurrogate (slice_index units (i + 1))))
+    ⊎ (IsLowSurrogate (slice_index units i) × ((k : ℕ) → k + 1 ≡ i → ¬ IsHighSurrogate (slice_index units k)))
+
+-- well-formed UTF-16: no surrogate is without its partner
+abbrev pub IsUtf16 : List ℕ → Type 0
+IsUtf16 units = (i : ℕ) → ¬ IsLoneSurrogate units i
+
+-- each lone surrogate has become U+FFFD, and all else stayed
+pub record IsMended (old new : List ℕ) : Type 0 where
+  pub same_length : length new ≡ length old
+  pub lone : (i : ℕ) → IsLoneSurrogate old i → slice_index new i ≡ 0xFFFD
+  pub others : (i : ℕ) → ¬ (IsLoneSurrogate old i) → slice_index new i ≡ slice_index old i

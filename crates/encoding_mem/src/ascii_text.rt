@@ -1,0 +1,48 @@
+// ASCII, in bytes and in units.
+
+ghost use Rattle.std.specs.Prelude.{◌↔◌, IsTrue};
+ghost use Rattle.std.specs.Str.{IsAscii};
+ghost use Rattle.encoding_mem.specs.LongestPrefix.{IsLongestPrefix};
+ghost use Rattle.encoding_mem.specs.Iso2022JpAscii.{IsIso2022JpAscii, IsIso2022JpAsciiByte};
+
+use crate::first::{first_byte_from, first_unit_from};
+
+/// Whether each byte is below 80 hex.
+pub fn is_ascii(bytes: &[u8]) -> bool
+    ensures { IsTrue result ↔ IsAscii bytes.now }
+{
+    bytes.is_ascii()
+}
+
+/// Whether each unit of 16 bits is below 80 hex: whether all is in Basic Latin, Unicode's block of the
+/// ASCII characters.
+pub fn is_basic_latin(units: &[u16]) -> bool
+    ensures { IsTrue result ↔ IsAscii units.now }
+{
+    first_unit_from(units, 0x80) == units.len()
+}
+
+/// The length of the longest prefix that is ASCII.
+pub fn ascii_valid_up_to(bytes: &[u8]) -> usize
+    ensures { IsLongestPrefix IsAscii bytes.now result }
+{
+    first_byte_from(bytes, 0x80)
+}
+
+/// The length of the longest prefix that ISO-2022-JP reads as ASCII, from its first state: before the first
+/// 0E, 0F, 1B or byte from 80 on.
+pub fn iso_2022_jp_ascii_valid_up_to(bytes: &[u8]) -> usize
+    ensures { IsLongestPrefix IsIso2022JpAscii bytes.now result }
+{
+    let mut at = 0;
+    'bytes: while at < bytes.len() && is_iso_2022_jp_ascii(bytes[at]) {
+        at += 1;
+    }
+    at
+}
+
+fn is_iso_2022_jp_ascii(byte: u8) -> bool
+    ensures { IsTrue result ↔ IsIso2022JpAsciiByte byte }
+{
+    byte < 0x80 && byte != 0x0E && byte != 0x0F && byte != 0x1B
+}

@@ -1,0 +1,136 @@
+// Whether a text may have to be laid out from right to left: a quick test that may answer so of a text
+// without such characters, and never answers otherwise of one with them.
+
+ghost use Rattle.std.specs.Prelude.{◌≡◌, ◌↔◌, ◌<◌, IsTrue, length, drop};
+ghost use Rattle.std.specs.List.{list_any};
+ghost use Rattle.std.specs.Str.{chars};
+ghost use Rattle.encoding_mem.specs.Latin1.{AllLatin1, IsLatin1Text};
+ghost use Rattle.encoding_mem.specs.Bidi.{is_bidi_bmp, is_bidi_char, is_bidi_unit, HasBidi, HasBidiUnit, IsBidiBytes};
+
+use crate::first::{first_byte_from, first_unit_from};
+use crate::latin1::{is_str_latin1, is_utf16_latin1};
+
+/// What a text is, for layout.
+#[derive(Clone, Copy, Debug, PartialEq, Eq)]
+pub enum Latin1Bidi {
+    /// Each character is at most U+00FF.
+    Latin1,
+    /// Some character is above U+00FF, and none is written from right to left.
+    LeftToRight,
+    /// Some character may be written from right to left.
+    Bidi,
+}
+
+/// Whether a character may be written from right to left, or is a control that begins such a run: those of
+/// the Unicode bidirectional classes R and AL and the controls RLM, RLE, RLO and RLI. Taken by blocks:
+/// U+0590 to U+08FF, U+200F, U+202B, U+202E, U+2067, U+FB1D to U+FDFF, U+FE70 to U+FEFE, U+10800 to
+/// U+10FFF and U+1E800 to U+1EFFF.
+pub fn is_char_bidi(c: char) -> bool
+    ensures { IsTrue result ↔ IsTrue (is_bidi_char c) }
+{
+    let code = c as u32;
+    is_code_bidi(code)
+        || code >= 0x1_0800 && code <= 0x1_0FFF
+        || code >= 0x1_E800 && code <= 0x1_EFFF
+}
+
+/// Whether a unit of UTF-16 is a character of `is_char_bidi`, or the high surrogate of one.
+pub fn is_utf16_code_unit_bidi(unit: u16) -> bool
+    ensures { IsTrue result ↔ IsTrue (is_bidi_unit unit) }
+{
+    is_code_bidi(unit as u32)
+        || unit >= 0xD802 && unit <= 0xD803
+        || unit >= 0xD83A && unit <= 0xD83B
+}
+
+// What characters and units have in common.
+fn is_code_bidi(code: u32) -> bool
+    ensures { result ≡ is_bidi_bmp code }
+{
+    code >= 0x590 && code <= 0x8FF
+        || code == 0x200F
+        || code == 0x202B
+        || code == 0x202E
+        || code == 0x2067
+        || code >= 0xFB1D && code <= 0xFDFF
+        || code >= 0xFE70 && code <= 0xFEFE
+}
+
+// In UTF-8 each character below U+0580 is written with bytes below this one.
+const ABOVE_ARMENIAN: u8 = 0xD6;
+
+fn any_char_bidi(text: &str) -> bool
+    ensures { result ≡ list_any is_bidi_char (chars text.now) }
+{
+    text.chars().any(|c| is_char_bidi(c))
+}
+
+/// Whether `is_char_bidi` holds of some character.
+pub fn is_str_bidi(text: &str) -> bool
+    ensures { IsTrue result ↔ HasBidi (chars text.now) }
+{
+    let (_, rest) = text.split_at(first_byte_from(text.as_bytes(), ABOVE_ARMENIAN));
+    any_char_bidi(rest)
+}
+
+/// Whether the bytes are not well-formed UTF-8, or `is_char_bidi` holds of some character.
+pub fn is_utf8_bidi(bytes: &[u8]) -> bool
+    ensures { IsTrue result ↔ IsBidiBytes bytes.now }
+{
+    match simdutf8::compat::from_utf8(bytes) {
+        Ok(text) => is_str_bidi(text),
+        Err(_) => true,
+    }
+}
+
+fn any_unit_bidi(units: &[u16]) -> bool
+    ensures { result ≡ list_any is_bidi_unit units.now }
+{
+    units.iter().copied().any(|u| is_utf16_code_unit_bidi(u))
+}
+
+/// Whether `is_utf16_code_unit_bidi` holds of some unit.
+pub fn is_utf16_bidi(units: &[u16]) -> bool
+    ensures { IsTrue result ↔ HasBidiUnit units.now }
+{
+    any_unit_bidi(&units[first_unit_from(units, 0x590)..])
+}
+
+/// `Latin1` where `is_str_latin1` holds, `Bidi` where `is_str_bidi` does, and `LeftToRight` otherwise.
+pub fn check_str_for_latin1_and_bidi(text: &str) -> Latin1Bidi
+    ensures latin1 { (result ≡ Latin1Bidi.Latin1) ↔ AllLatin1 (chars text.now) }
+    ensures bidi { (result ≡ Latin1Bidi.Bidi) ↔ HasBidi (chars text.now) }
+{
+    if is_str_latin1(text) {
+        Latin1Bidi::Latin1
+    } else if is_str_bidi(text) {
+        Latin1Bidi::Bidi
+    } else {
+        Latin1Bidi::LeftToRight
+    }
+}
+
+/// `Latin1` where `is_utf8_latin1` holds, `Bidi` where `is_utf8_bidi` does, and `LeftToRight` otherwise.
+pub fn check_utf8_for_latin1_and_bidi(bytes: &[u8]) -> Latin1Bidi
+    ensures latin1 { (result ≡ Latin1Bidi.Latin1) ↔ IsLatin1Text bytes.now }
+    ensures bidi { (result ≡ Latin1Bidi.Bidi) ↔ IsBidiBytes bytes.now }
+{
+    match simdutf8::compat::from_utf8(bytes) {
+        Ok(text) => check_str_for_latin1_and_bidi(text),
+        Err(_) => Latin1Bidi::Bidi,
+    }
+}
+
+/// `Latin1` where `is_utf16_latin1` holds, `Bidi` where `is_utf16_bidi` does, and `LeftToRight` otherwise.
+pub fn check_utf16_for_latin1_and_bidi(units: &[u16]) -> Latin1Bidi
+    ensures latin1 { (result ≡ Latin1Bidi.Latin1) ↔ AllLatin1 units.now }
+    ensures bidi { (result ≡ Latin1Bidi.Bidi) ↔ HasBidiUnit units.now }
+{
+    if is_utf16_latin1(units) {
+        Latin1Bidi::Latin1
+    } else if is_utf16_bidi(units) {
+        Latin1Bidi::Bidi
+    } else {
+        Latin1Bidi::LeftToRight
+    }
+}
