@@ -16,3 +16,9 @@ pub mod LoneSurrogates
 pub mod Latin1Texts
 pub mod BidiTexts
 pub mod BidiForms
+pub mod Prefixes
+pub mod UnitPrefixes
+pub mod Utf8Prefixes
+pub mod Replacement
+pub mod ClearedText
+pub mod ConvertedBack

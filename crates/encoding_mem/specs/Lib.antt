@@ -36,3 +36,6 @@ pub mod LongestPrefix
 pub mod Iso2022JpAscii
 pub mod Surrogates
 pub mod TextRows
+pub mod Conversions
+pub mod TextDestination
+pub mod Latin1Texts

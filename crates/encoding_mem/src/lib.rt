@@ -7,6 +7,10 @@ pub mod ascii_text;
 pub mod bidi;
 #[cfg(test)]
 mod check_tests;
+pub mod ascii_copies;
+pub mod conversion_laws;
+#[cfg(test)]
+mod conversion_tests;
 pub mod decoder_laws;
 pub mod decoder_result;
 mod driver;
@@ -20,6 +24,8 @@ pub mod form;
 pub mod front;
 pub mod latin1;
 pub mod mem_laws;
+pub mod latin1_conversions;
+pub mod latin1_texts;
 mod pending;
 pub mod piece_decoder;
 pub mod raw_decoder;
@@ -28,8 +34,11 @@ pub mod sink;
 pub mod source;
 #[cfg(test)]
 mod tests;
+pub mod text_destinations;
+pub mod utf16_conversions;
 pub mod utf16_sink;
 pub mod utf8;
+pub mod utf8_conversions;
 pub mod utf8_encoder;
 pub mod utf8_sink;
 pub mod validity;
@@ -45,8 +54,25 @@ pub use encoder_result::EncoderResult;
 pub use latin1::{
     is_str_latin1, is_utf8_latin1, is_utf16_latin1, str_latin1_up_to, utf8_latin1_up_to,
 };
+pub use ascii_copies::{copy_ascii_to_ascii, copy_ascii_to_basic_latin, copy_basic_latin_to_ascii};
+pub use decoder_result::DecoderResult;
+pub use encoder_result::EncoderResult;
+pub use latin1_conversions::{
+    convert_latin1_to_utf8, convert_latin1_to_utf8_partial, convert_latin1_to_utf16,
+    convert_utf8_to_latin1_lossy, convert_utf16_to_latin1_lossy,
+};
+pub use latin1_texts::{Latin1Bytes, decode_latin1, encode_latin1_lossy};
 pub use raw_decoder::RawDecoder;
 pub use raw_encoder::RawEncoder;
+pub use text_destinations::{
+    convert_latin1_to_str, convert_latin1_to_str_partial, convert_utf16_to_str,
+    convert_utf16_to_str_partial,
+};
 pub use utf8::Utf8Decoder;
+pub use utf8_conversions::{
+    convert_str_to_utf16, convert_utf8_to_utf16, convert_utf8_to_utf16_up_to_invalid,
+    convert_utf8_to_utf16_without_replacement,
+};
 pub use utf8_encoder::Utf8Encoder;
 pub use validity::{ensure_utf16_validity, utf8_valid_up_to, utf16_valid_up_to};
+pub use utf16_conversions::{convert_utf16_to_utf8, convert_utf16_to_utf8_partial};

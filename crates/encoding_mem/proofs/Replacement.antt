@@ -1,0 +1,176 @@
+-- The text of broken UTF-8, in UTF-16: no longer than its bytes, and written part by part.
+use Rattle.std.proofs.Common.{◌≡◌, ℕ, zero, suc, ◌+◌, ◌-◌, ◌<◌, ◌≤◌, Bool, true, false, cond, nat_lt, Some, List, [], ◌∷◌, ◌++◌, length, take, drop, refl, sym, ◌∙◌, ap, subst, arith, append_assoc, length-append, length-drop}
+use Rattle.std.specs.Int.{is_in_range}
+use Rattle.std.specs.Char.Escape.{encode_utf16}
+use Rattle.std.proofs.lemmas.Bool.{lt-ltb, ltb-true}
+use Rattle.std.proofs.lemmas.List.{append-nil, take_rest, drop-drop, drop_all}
+use Rattle.encoding_mem.specs.Piece.{Piece, good, bad, size_of, sizes, scalars, scalars_of, text_of, text, first, AreGood, ArePieces, Cuts}
+use Rattle.encoding_mem.specs.Decoding.{Reports, Takes, IsKnown}
+use Rattle.encoding_mem.specs.PiecesLaws.{pieces_by-nil, pieces_by-cons, pieces_by-whole}
+use Rattle.encoding_mem.specs.Utf8.{second_min, second_max, scalar_of_two, scalar_of_three, scalar_of_four, after_three, after_two, after_lead, front_utf8, pieces_utf8}
+use Rattle.encoding_mem.specs.Utf8Laws.{cuts_utf8}
+use Rattle.encoding_mem.specs.Writing.{Adds, len_utf16, encode_utf16_all}
+use Rattle.encoding_mem.specs.WritingLaws.{adds_encoded16, adds-length, encode_utf16_all-append, length-encode_utf16, cost_fits16}
+use Rattle.encoding_mem.specs.declared.decoder_result.DecoderResult.{DecoderResult}
+use Rattle.encoding_mem.specs.declared.decoder_result.DecoderResult.TheVariants.{InputEmpty, OutputFull, Malformed}
+
+-- A piece gives some text, and no more units than it has bytes.
+record Fits (p : Piece) : Type 0 where
+  some : 0 < length (encode_utf16_all (text_of p))
+  few : length (encode_utf16_all (text_of p)) ≤ size_of p
+
+fits_good : (n c : ℕ) → 2 ≤ n → Fits (good n (c ∷ []))
+fits_good n c h =
+    let l = length-append (encode_utf16 c) [] in
+    let k = length-encode_utf16 c in
+    record { some = omega (arith, l, k, one_at_least (nat_lt c 0x1_0000)); few = omega (arith, l, k, cost_fits16 c) }
+  where
+    one_at_least : (t : Bool) → 0 < cond t 1 2
+    one_at_least true = omega arith
+    one_at_least false = omega arith
+
+fits_byte : (b : ℕ) → b < 0x80 → Fits (good 1 (b ∷ []))
+fits_byte b h =
+    let l = length-append (encode_utf16 b) [] in
+    let k = length-encode_utf16 b in
+    let one : len_utf16 b ≡ 1 = ap (λ t. cond t 1 2) (lt-ltb b 0x1_0000 (omega arith)) in
+    record { some = omega (arith, l, k, one); few = omega (arith, l, k, one) }
+
+fits_bad : (n : ℕ) → 1 ≤ n → Fits (bad n)
+fits_bad n h = record { some = omega arith; few = omega arith }
+
+fits_if : (t : Bool) (p q : Piece) → (t ≡ true → Fits p) → Fits q → Fits (cond t p q)
+fits_if true p q f g = f refl
+fits_if false p q f g = g
+
+fits_three : (b c d : ℕ) (x : List ℕ) → Fits (after_three b c d x)
+fits_three b c d [] = fits_bad 3 (omega arith)
+fits_three b c d (e ∷ x) = fits_if (is_in_range 0x80 0xBF e) _ _ (λ _. fits_good 4 (scalar_of_four b c d e) (omega arith)) (fits_bad 3 (omega arith))
+
+fits_two : (b c : ℕ) (x : List ℕ) → Fits (after_two b c x)
+fits_two b c [] = fits_bad 2 (omega arith)
+fits_two b c (d ∷ x) = fits_if (is_in_range 0x80 0xBF d) (cond (nat_lt b 0xF0) (good 3 (scalar_of_three b c d ∷ [])) (after_three b c d x)) (bad 2)
+    (λ _. fits_if (nat_lt b 0xF0) _ _ (λ _. fits_good 3 (scalar_of_three b c d) (omega arith)) (fits_three b c d x)) (fits_bad 2 (omega arith))
+
+fits_lead : (b : ℕ) (x : List ℕ) → Fits (after_lead b x)
+fits_lead b [] = fits_bad 1 (omega arith)
+fits_lead b (c ∷ x) = fits_if (is_in_range (second_min b) (second_max b) c) (cond (nat_lt b 0xE0) (good 2 (scalar_of_two b c ∷ [])) (after_two b c x)) (bad 1)
+    (λ _. fits_if (nat_lt b 0xE0) _ _ (λ _. fits_good 2 (scalar_of_two b c) (omega arith)) (fits_two b c x)) (fits_bad 1 (omega arith))
+
+fits_front : (b : ℕ) (x : List ℕ) → Fits (front_utf8 (b ∷ x))
+fits_front b x = fits_if (nat_lt b 0x80) (good 1 (b ∷ [])) (cond (is_in_range 0xC2 0xF4 b) (after_lead b x) (bad 1))
+    (λ t. fits_byte b (ltb-true b 0x80 t)) (fits_if (is_in_range 0xC2 0xF4 b) _ _ (λ _. fits_lead b x) (fits_bad 1 (omega arith)))
+
+abbrev AllFit : List Piece → Type 0
+AllFit [] = Unit {0}
+AllFit (p ∷ ps) = Fits p × AllFit ps
+
+all_fit : (n : ℕ) (x : List ℕ) → length x ≤ n → AllFit (pieces_utf8 x)
+all_fit n [] h = subst AllFit (sym (pieces_by-nil front_utf8)) tt
+all_fit zero (b ∷ x) h = absurd (omega arith)
+all_fit (suc n) (b ∷ x) h =
+    let cut = cuts_utf8 b x in
+    let size = cut.piece.some in
+    subst AllFit (sym (pieces_by-cons front_utf8 cuts_utf8 b x))
+    (fits_front b x, all_fit n (drop (size_of (front_utf8 (b ∷ x))) (b ∷ x)) (omega (arith, length-drop (size_of (front_utf8 (b ∷ x))) (b ∷ x))))
+
+fit_back : (ps qs : List Piece) → AllFit (ps ++ qs) → AllFit qs
+fit_back [] qs h = h
+fit_back (p ∷ ps) qs h = fit_back ps qs h.1
+
+pub text-append : (ps qs : List Piece) → text (ps ++ qs) ≡ text ps ++ text qs
+text-append [] qs = refl
+text-append (p ∷ ps) qs = ap (λ l. text_of p ++ l) (text-append ps qs) ∙ sym (append_assoc (text_of p) (text ps) (text qs))
+
+units_few : (ps : List Piece) → AllFit ps → length (encode_utf16_all (text ps)) ≤ sizes ps
+units_few [] h = omega arith
+units_few (p ∷ ps) h =
+    let e = ap length (encode_utf16_all-append (text_of p) (text ps)) in
+    let l = length-append (encode_utf16_all (text_of p)) (encode_utf16_all (text ps)) in
+    let f = h.0.few in
+    let r = units_few ps h.1 in
+    omega arith
+
+-- what was written before a piece leaves room for it
+pub room_before : (src : List ℕ) (ps rest : List Piece) (p : Piece) → pieces_utf8 src ≡ ps ++ rest → first rest ≡ Some p → length (encode_utf16_all (text ps)) < length src
+room_before src ps [] p is at = let none = sym at in absurd (cc)
+room_before src ps (q ∷ rest) p is at =
+    let all = all_fit (length src) src (omega arith) in
+    let fit : AllFit (ps ++ (q ∷ rest)) = subst AllFit is all in
+    let some = (fit_back ps (q ∷ rest) fit).0.some in
+    let few = units_few (ps ++ (q ∷ rest)) fit in
+    let whole : sizes (ps ++ (q ∷ rest)) ≡ length src = ap sizes (sym is) ∙ pieces_by-whole front_utf8 cuts_utf8 src in
+    let t = ap (λ l. length (encode_utf16_all l)) (text-append ps (q ∷ rest)) in
+    let a = ap length (encode_utf16_all-append (text ps) (text (q ∷ rest))) in
+    let b = length-append (encode_utf16_all (text ps)) (encode_utf16_all (text (q ∷ rest))) in
+    let d = ap length (encode_utf16_all-append (text_of q) (text rest)) in
+    let e = length-append (encode_utf16_all (text_of q)) (encode_utf16_all (text rest)) in
+    omega arith
+
+-- What a loop over the parts has: pieces are those of what the decoder has left.
+pub record HasWritten (src old : List ℕ) (start : ℕ) (pieces : List ℕ → List Piece) (read : ℕ) (new : List ℕ) (count : ℕ) : Type 0 where
+  pub taken : List Piece
+  pub whole : pieces_utf8 src ≡ taken ++ pieces (drop read src)
+  pub adds : Adds old start (encode_utf16_all (text taken)) new count
+
+good_text : (ps : List Piece) → AreGood ps → text ps ≡ scalars ps
+good_text [] h = refl
+good_text (good n cs ∷ ps) h = ap (λ l. cs ++ l) (good_text ps h.1)
+good_text (bad n ∷ ps) h = absurd h.0
+
+pieces_on : (src : List ℕ) (read more : ℕ) (before after : List ℕ → List Piece) (front taken : List Piece) → pieces_utf8 src ≡ front ++ before (drop read src)
+    → before (take (length src - read) (drop read src) ++ []) ≡ taken ++ after (drop more (take (length src - read) (drop read src)) ++ [])
+    → pieces_utf8 src ≡ (front ++ taken) ++ after (drop (read + more) src)
+pieces_on src read more before after front taken whole rest =
+    let part : take (length src - read) (drop read src) ≡ drop read src = take_rest src read in
+    whole ∙ ap (λ l. front ++ before l) (sym part ∙ sym (append-nil (take (length src - read) (drop read src)))) ∙ ap (λ l. front ++ l) rest
+    ∙ sym (append_assoc front taken _) ∙ ap (λ l. (front ++ taken) ++ after l) (append-nil (drop more (take (length src - read) (drop read src))) ∙ ap (drop more) part ∙ drop-drop more read src)
+
+-- after a call without a bad piece
+pub goes_on : (src old : List ℕ) (start : ℕ) (before after : List ℕ → List Piece) (read more : ℕ) (mid : List ℕ) (m : ℕ) (new : List ℕ) (n : ℕ) (taken : List Piece)
+    → HasWritten src old start before read mid m → AreGood taken
+    → before (take (length src - read) (drop read src) ++ []) ≡ taken ++ after (drop more (take (length src - read) (drop read src)) ++ [])
+    → Adds mid m (encode_utf16_all (scalars taken)) new n → HasWritten src old start after (read + more) new n
+goes_on src old start before after read more mid m new n taken h are rest adds = record {
+  taken = h.taken ++ taken;
+  whole = pieces_on src read more before after h.taken taken h.whole rest;
+  adds = subst (λ l. Adds old start (encode_utf16_all l) new n) (ap (λ l. text h.taken ++ l) (sym (good_text taken are)) ∙ sym (text-append h.taken taken))
+      (adds_encoded16 old start (text h.taken) (scalars taken) mid m new n h.adds adds);
+}
+
+scalars-bad : (ps : List Piece) (a : ℕ) → scalars (ps ++ (bad a ∷ [])) ≡ scalars ps
+scalars-bad [] a = refl
+scalars-bad (p ∷ ps) a = ap (λ l. scalars_of p ++ l) (scalars-bad ps a)
+
+-- after a call that ended with a bad piece, and its U+FFFD
+pub goes_on_bad : (src old : List ℕ) (start : ℕ) (before after : List ℕ → List Piece) (read more : ℕ) (mid : List ℕ) (m : ℕ) (new : List ℕ) (n : ℕ) (end : List ℕ) (k : ℕ) (taken front : List Piece) (a : ℕ)
+    → HasWritten src old start before read mid m → AreGood front → taken ≡ front ++ (bad a ∷ [])
+    → before (take (length src - read) (drop read src) ++ []) ≡ taken ++ after (drop more (take (length src - read) (drop read src)) ++ [])
+    → Adds mid m (encode_utf16_all (scalars taken)) new n → Adds new n (encode_utf16_all (0xFFFD ∷ [])) end k → HasWritten src old start after (read + more) end k
+goes_on_bad src old start before after read more mid m new n end k taken front a h are is rest adds mark =
+    let t : text taken ≡ scalars taken ++ (0xFFFD ∷ []) =
+    ap text is ∙ text-append front (bad a ∷ []) ∙ ap (λ l. l ++ (0xFFFD ∷ [])) (good_text front are ∙ sym (scalars-bad front a) ∙ ap scalars (sym is)) in
+    record {
+      taken = h.taken ++ taken;
+      whole = pieces_on src read more before after h.taken taken h.whole rest;
+      adds = subst (λ l. Adds old start (encode_utf16_all l) end k) (ap (λ l. text h.taken ++ l) (sym t) ∙ sym (text-append h.taken taken))
+          (adds_encoded16 old start (text h.taken) (scalars taken ++ (0xFFFD ∷ [])) mid m end k h.adds (adds_encoded16 mid m (scalars taken) (0xFFFD ∷ []) new n end k adds mark));
+    }
+
+-- a call that ended with a bad piece took some bytes
+pub some_taken : (taken rest front : List Piece) (a : ℕ) → taken ≡ front ++ (bad a ∷ []) → ArePieces (taken ++ rest) → 0 < sizes taken
+some_taken [] rest front a is h = let l = ap length is in absurd (omega (arith, length-append front (bad a ∷ [])))
+some_taken (p ∷ taken) rest front a is h = omega (arith, h.0.some)
+
+-- at the end
+pub all_written : (src old : List ℕ) (start : ℕ) (pieces : List ℕ → List Piece) (read : ℕ) (new : List ℕ) (count : ℕ) → HasWritten src old start pieces read new count → pieces (drop read src) ≡ []
+    → Adds old start (encode_utf16_all (text (pieces_utf8 src))) new count
+all_written src old start pieces read new count h none =
+    subst (λ ps. Adds old start (encode_utf16_all (text ps)) new count) (sym (h.whole ∙ ap (λ ps. h.taken ++ ps) none ∙ append-nil h.taken)) h.adds
+
+-- Where a first piece is left, there is room for any character.
+pub never_full : (src old : List ℕ) (start : ℕ) (pieces : List ℕ → List Piece) (read : ℕ) (new : List ℕ) (count : ℕ) (p : Piece) → HasWritten src old start pieces read new count
+    → first (pieces (drop read src)) ≡ Some p → length src < length old - start → 2 ≤ length new - count
+never_full src old start pieces read new count p h at room =
+    let before = room_before src h.taken (pieces (drop read src)) p h.whole at in
+    omega (arith, h.adds.counted, adds-length old start (encode_utf16_all (text h.taken)) new count h.adds)

@@ -1,0 +1,86 @@
+-- Prefixes of bytes that are text.
+use Rattle.std.proofs.Common.{◌≡◌, ℕ, ◌+◌, ◌-◌, ◌<◌, ◌≤◌, inl, inr, List, [], ◌∷◌, ◌++◌, length, take, drop, get_or, refl, sym, ◌∙◌, ap, subst, arith, append_assoc, length-append, length-drop, encode_utf8_all}
+use Rattle.std.specs.Char.{encode_utf8, len_utf8}
+use Rattle.std.specs.Str.{chars, IsUtf8, IsCharBoundary}
+use Rattle.std.proofs.lemmas.List.{append_cancel_left, append_cancel_right, take-append-drop, take-take, get_or-take, length-take-le}
+use Rattle.std.proofs.lemmas.Str.{chars-append, chars_past_char, IsUtf8-take, IsUtf8-drop, IsCharBoundary-from_take, utf8_valid_len_le}
+use Rattle.std.specs.Str.Lossy.{utf8_valid_len}
+use Rattle.std.proofs.lemmas.Bool.{cases_lt}
+use Rattle.encoding_mem.specs.Conversions.{IsLongest, text_in_utf16, text_front}
+use Rattle.encoding_mem.specs.Writing.{len_utf16, encode_utf16_all}
+use Rattle.encoding_mem.proofs.Prefixes.{over16}
+
+pub chars_at : (text : List ℕ) (n : ℕ) → IsUtf8 text → IsCharBoundary text n → chars text ≡ chars (take n text) ++ chars (drop n text)
+chars_at text n utf8 b = ap chars (sym (take-append-drop n text)) ∙ chars-append (take n text) (drop n text) (IsUtf8-take text n utf8 b)
+
+-- one character further
+pub chars_step : (text : List ℕ) (n m c d : ℕ) (rest : List ℕ) → IsUtf8 text → IsCharBoundary text n → IsCharBoundary text m
+    → chars (drop n text) ≡ c ∷ rest → chars (drop n text) ≡ d ∷ chars (drop m text) → chars (take m text) ≡ chars (take n text) ++ (c ∷ [])
+chars_step text n m c d rest utf8 b e at next =
+    let same : d ≡ c = (let h : d ∷ chars (drop m text) ≡ c ∷ rest = sym next ∙ at in cc) in
+    let all : chars (take m text) ++ chars (drop m text) ≡ (chars (take n text) ++ (c ∷ [])) ++ chars (drop m text) =
+    sym (chars_at text m utf8 e) ∙ chars_at text n utf8 b ∙ ap (λ l. chars (take n text) ++ l) (next ∙ ap (λ x. x ∷ chars (drop m text)) same)
+    ∙ sym (append_assoc (chars (take n text)) (c ∷ []) (chars (drop m text))) in
+    append_cancel_right (chars (take m text)) (chars (take n text) ++ (c ∷ [])) (chars (drop m text)) all
+
+-- text begins with a character
+begins : (text : List ℕ) → IsUtf8 text → 0 < length text → (c : ℕ) × (more : List ℕ) × (chars text ≡ c ∷ chars more)
+begins text utf8 some = of_list utf8.0 utf8.1.1
+  where
+    of_list : (cs : List ℕ) → encode_utf8_all cs ≡ text → (c : ℕ) × (more : List ℕ) × (chars text ≡ c ∷ chars more)
+    of_list [] is = let l : 0 ≡ length text = ap length is in absurd (omega arith)
+    of_list (c ∷ cs) is = (c, encode_utf8_all cs, chars_past_char text (encode_utf8_all cs) c utf8 (sym is))
+
+boundary_in : (text : List ℕ) (n i : ℕ) → n < i → i ≤ length text → IsCharBoundary text n → IsCharBoundary (take i text) n
+boundary_in text n i more le b =
+    let at = get_or-take i text n 0 more in
+    let size = length-take-le i text le in
+    (omega arith, λ h high. let r = b.1 (omega arith) (omega arith) in omega arith)
+
+-- a longer text goes on with the next character
+pub longer : (text : List ℕ) (n i : ℕ) → IsUtf8 text → n < i → i ≤ length text → IsCharBoundary text n → IsUtf8 (take i text)
+    → (c : ℕ) × (more : List ℕ) × (rest : List ℕ) × (chars (take i text) ≡ chars (take n text) ++ (c ∷ more)) × (chars (drop n text) ≡ c ∷ rest)
+longer text n i utf8 more le b whole =
+    let part : List ℕ = drop n (take i text) in
+    let inner = boundary_in text n i more le b in
+    let len : 0 < length part = omega (arith, length-drop n (take i text), length-take-le i text le) in
+    let f = begins part (IsUtf8-drop (take i text) n whole inner) len in
+    let front_is : chars (take i text) ≡ chars (take n text) ++ chars part =
+    chars_at (take i text) n whole inner ∙ ap (λ l. chars l ++ chars part) (take-take n i text (omega arith)) in
+    let all : chars (take n text) ++ chars (drop n text) ≡ chars (take n text) ++ (chars part ++ chars (drop i text)) =
+    sym (chars_at text n utf8 b) ∙ chars_at text i utf8 (IsCharBoundary-from_take text i utf8 le whole) ∙ ap (λ l. l ++ chars (drop i text)) front_is
+    ∙ append_assoc (chars (take n text)) (chars part) (chars (drop i text)) in
+    let behind = append_cancel_left (chars (take n text)) (chars (drop n text)) (chars part ++ chars (drop i text)) all in
+    (f.0, chars f.1, chars f.1 ++ chars (drop i text), front_is ∙ ap (λ l. chars (take n text) ++ l) f.2, behind ∙ ap (λ l. l ++ chars (drop i text)) f.2)
+
+pub text_over : (text : List ℕ) (n room c : ℕ) (rest : List ℕ) → IsUtf8 text → IsCharBoundary text n → chars (drop n text) ≡ c ∷ rest
+    → room < length (text_in_utf16 (take n text)) + len_utf16 c
+    → (i : ℕ) → n < i → i ≤ length text → IsUtf8 (take i text) → room < length (text_in_utf16 (take i text))
+text_over text n room c rest utf8 b at tight i more le whole =
+    let r = longer text n i utf8 more le b whole in
+    let same : r.0 ≡ c = (let h : r.0 ∷ r.2 ≡ c ∷ rest = sym r.4 ∙ at in cc) in
+    subst (λ l. room < length (encode_utf16_all l)) (sym r.3) (over16 (chars (take n text)) r.1 r.0 room (subst (λ x. room < length (text_in_utf16 (take n text)) + len_utf16 x) (sym same) tight))
+
+-- the longest text whose units fit, in bytes of which it is the longest front that is text
+pub fits_longest : (src text : List ℕ) (n room : ℕ) → text ≡ text_front src → ((i : ℕ) → utf8_valid_len src < i → i ≤ length src → ¬ (IsUtf8 (take i src)))
+    → IsUtf8 text → IsCharBoundary text n → length (text_in_utf16 (take n text)) ≤ room
+    → ((c : ℕ) (rest : List ℕ) → chars (drop n text) ≡ c ∷ rest → room - length (text_in_utf16 (take n text)) < len_utf16 c)
+    → IsLongest (λ i. IsUtf8 (take i src)) (λ i. length (text_in_utf16 (take i src))) (length src) room n
+fits_longest src text n room is longest utf8 b fits next =
+    let v = utf8_valid_len_le src in
+    let len : length text ≡ utf8_valid_len src = ap length is ∙ length-take-le (utf8_valid_len src) src v in
+    let within = b.0 in
+    let front : (i : ℕ) → i ≤ utf8_valid_len src → take i text ≡ take i src = λ i h. ap (take i) is ∙ take-take i (utf8_valid_len src) src h in
+    let same = front n (omega arith) in
+    record {
+      within = omega arith;
+      whole = subst IsUtf8 same (IsUtf8-take text n utf8 b);
+      fits = subst (λ l. length (text_in_utf16 l) ≤ room) same fits;
+      longest = λ i more le whole. elim (cases_lt (utf8_valid_len src) i) [
+        | inl past ↦ absurd (longest i past le whole)
+        | inr here ↦ (let at = front i here in
+            let some : 0 < length (drop n text) = omega (arith, length-drop n text) in
+            let f = begins (drop n text) (IsUtf8-drop text n utf8 b) some in
+            subst (λ l. room < length (text_in_utf16 l)) at (text_over text n room f.0 (chars f.1) utf8 b f.2 (let t = next f.0 (chars f.1) f.2 in omega arith) i more (omega arith) (subst IsUtf8 (sym at) whole)))
+      ];
+    }

@@ -1,0 +1,21 @@
+use Rattle.std.proofs.Common.{◌∙◌, ◌<◌, length, take, arith}
+use Rattle.encoding_mem.proofs.ClearedText.{put_front, cleared_behind, text_stays, take_low, bytes_are_scalars}
+use Rattle.encoding_mem.proofs.text_destinations.convert_latin1_to_str_partial.Goals as goal
+
+pub returns-clause-text : goal.returns-clause-text
+returns-clause-text c =
+    let f = c.convert_latin1_to_utf8_partial-read in
+    put_front f.result.1 f.new.dst c.clear_front.new.bytes f.ensures.fits ∙ f.ensures.text
+
+pub returns-clause-behind : goal.returns-clause-behind
+returns-clause-behind c =
+    let f = c.convert_latin1_to_utf8_partial-read in
+    cleared_behind f.result.1 f.new.dst c.clear_front.new.bytes c.args.dst.now f.ensures.fits c.clear_front.ensures f.ensures.behind
+
+pub returns-clause-utf8 : goal.returns-clause-utf8
+returns-clause-utf8 c =
+    let f = c.convert_latin1_to_utf8_partial-read in
+    let are = bytes_are_scalars (take f.result.0 c.args.src.now) (take_low 256 f.result.0 c.args.src.now (omega arith) (λ k. omega (arith, c.type_inv.src k))) in
+    text_stays (take f.result.0 c.args.src.now) c.args.dst.now _ f.result.1 are c.requires
+    (put_front f.result.1 f.new.dst c.clear_front.new.bytes f.ensures.fits ∙ f.ensures.text)
+    (cleared_behind f.result.1 f.new.dst c.clear_front.new.bytes c.args.dst.now f.ensures.fits c.clear_front.ensures f.ensures.behind)

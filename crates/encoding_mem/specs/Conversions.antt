@@ -1,0 +1,43 @@
+-- What conversions read and write.
+use Rattle.std.specs.Prelude.{◌≡◌, ℕ, ◌+◌, ◌%◌, ◌<◌, ◌≤◌, List, length, map, take, slice_index}
+use Rattle.std.specs.Str.{IsAscii, chars, encode_utf8_all}
+use Rattle.std.specs.Str.Lossy.{utf8_valid_len}
+use Rattle.std.specs.Char.Utf16.{utf16_lossy_chars}
+use Rattle.encoding_mem.specs.Writing.{encode_utf16_all}
+
+-- the length of the ASCII at the front
+pub record IsAsciiPrefix (units : List ℕ) (n : ℕ) : Type 0 where
+  pub within : n ≤ length units
+  pub ascii : IsAscii (take n units)
+  pub ends : n < length units → 0x80 ≤ slice_index units n
+
+-- the low eight bits of each unit
+abbrev pub low_bytes : List ℕ → List ℕ
+low_bytes units = map (λ u. u % 256) units
+
+-- units of UTF-16 in UTF-8, where a surrogate in no pair gives U+FFFD, and text in UTF-16
+abbrev pub units_in_utf8 : List ℕ → List ℕ
+units_in_utf8 units = encode_utf8_all (utf16_lossy_chars units)
+
+abbrev pub text_in_utf16 : List ℕ → List ℕ
+text_in_utf16 text = encode_utf16_all (chars text)
+
+-- The longest prefix that fits: n is the length of a prefix that is Whole, what it gives is no longer than the room,
+-- and what any longer one gives is. size is the length of what a prefix gives, len the length of the source.
+pub record IsLongest (Whole : ℕ → Type 0) (size : ℕ → ℕ) (len room n : ℕ) : Type 0 where
+  pub within : n ≤ len
+  pub whole : Whole n
+  pub fits : size n ≤ room
+  pub longest : (i : ℕ) → n < i → i ≤ len → Whole i → room < size i
+
+-- the two units of one character
+abbrev pub IsSurrogatePair : ℕ → ℕ → Type 0
+IsSurrogatePair u v = (0xD800 ≤ u) × (u < 0xDC00) × (0xDC00 ≤ v) × (v < 0xE000)
+
+-- a place in units of UTF-16 that is not between the two of a surrogate pair
+abbrev pub IsUnitBoundary : List ℕ → ℕ → Type 0
+IsUnitBoundary units i = (k : ℕ) → i ≡ k + 1 → ¬ (IsSurrogatePair (slice_index units k) (slice_index units i))
+
+-- the longest text at the front of bytes
+abbrev pub text_front : List ℕ → List ℕ
+text_front bytes = take (utf8_valid_len bytes) bytes

@@ -1,0 +1,9 @@
+-- A text destination: bytes that are UTF-8 before and after a call.
+use Rattle.std.specs.Prelude.{ℕ, List, [], ◌∷◌, if◌then◌else◌}
+use Rattle.std.specs.Int.{is_in_range}
+
+-- What is behind the written text: the continuation bytes at its front, of a character whose front was overwritten,
+-- become 00.
+abbrev pub cleared : List ℕ → List ℕ
+cleared [] = []
+cleared (b ∷ bytes) = if is_in_range 0x80 0xBF b then 0 ∷ cleared bytes else b ∷ bytes

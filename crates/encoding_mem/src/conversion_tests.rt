@@ -1,0 +1,103 @@
+use crate::{
+    Latin1Bytes, convert_latin1_to_str_partial, convert_latin1_to_utf8_partial,
+    convert_str_to_utf16, convert_utf8_to_latin1_lossy, convert_utf8_to_utf16,
+    convert_utf8_to_utf16_up_to_invalid, convert_utf8_to_utf16_without_replacement,
+    convert_utf16_to_latin1_lossy, convert_utf16_to_utf8_partial, copy_ascii_to_ascii,
+    copy_ascii_to_basic_latin, copy_basic_latin_to_ascii, decode_latin1, encode_latin1_lossy,
+};
+use std::borrow::CowStr;
+use std::test::Fail;
+
+const SURROGATE: [u8; 5] = [0x61, 0xED, 0xA0, 0x80, 0x5A];
+
+#[test]
+fn ascii_is_copied_to_its_end(rt: HostRuntime) {
+    let mut bytes = [1; 4];
+    let mut units = [1; 4];
+    assert_eq!(rt; copy_ascii_to_ascii(&[0x41, 0x42, 0xC3], &mut bytes), 2);
+    assert_eq!(rt; bytes, [0x41, 0x42, 1, 1]);
+    assert_eq!(rt;
+        copy_ascii_to_basic_latin(&[0x41, 0x42, 0xC3], &mut units),
+        2
+    );
+    assert_eq!(rt; units, [0x41, 0x42, 1, 1]);
+    assert_eq!(rt; copy_basic_latin_to_ascii(&[0x43, 0x80], &mut bytes), 1);
+    assert_eq!(rt; bytes, [0x43, 0x42, 1, 1]);
+}
+
+#[test]
+fn broken_parts_are_replaced(rt: HostRuntime) {
+    let mut units = [0; 6];
+    assert_eq!(rt; convert_utf8_to_utf16(&SURROGATE, &mut units), 5);
+    assert_eq!(rt; units, [0x61, 0xFFFD, 0xFFFD, 0xFFFD, 0x5A, 0]);
+    let mut units = [0; 5];
+    assert_eq!(rt;
+        convert_utf8_to_utf16_without_replacement(&SURROGATE, &mut units),
+        None
+    );
+    assert_eq!(rt; units, [0x61, 0, 0, 0, 0]);
+    assert_eq!(rt;
+        convert_utf8_to_utf16_up_to_invalid(&SURROGATE, &mut units),
+        (1, 1)
+    );
+    assert_eq!(rt; convert_str_to_utf16("a€", &mut units), 2);
+    assert_eq!(rt; units, [0x61, 0x20AC, 0, 0, 0]);
+}
+
+#[test]
+fn a_character_that_does_not_fit_is_left(rt: HostRuntime) {
+    let mut bytes = [0; 4];
+    assert_eq!(rt;
+        convert_utf16_to_utf8_partial(&[0x41, 0x20AC], &mut bytes[..3]),
+        (1, 1)
+    );
+    assert_eq!(rt;
+        convert_utf16_to_utf8_partial(&[0x41, 0x20AC], &mut bytes),
+        (2, 4)
+    );
+    assert_eq!(rt; bytes, [0x41, 0xE2, 0x82, 0xAC]);
+    assert_eq!(rt;
+        convert_latin1_to_utf8_partial(&[0x41, 0xE9], &mut bytes[..2]),
+        (1, 1)
+    );
+}
+
+#[test]
+fn a_text_destination_stays_text(rt: HostRuntime) {
+    let mut bytes = [0xC3, 0xA9, 0x42];
+    assert_eq!(rt; convert_latin1_to_str_partial(&[0x41], &mut bytes), (1, 1));
+    assert_eq!(rt; bytes, [0x41, 0x00, 0x42]);
+}
+
+#[test]
+fn text_is_narrowed(rt: HostRuntime) {
+    let mut bytes = [0; 4];
+    assert_eq!(rt;
+        convert_utf8_to_latin1_lossy(&[0x41, 0xC3, 0xA9, 0x42], &mut bytes),
+        3
+    );
+    assert_eq!(rt; bytes, [0x41, 0xE9, 0x42, 0]);
+    convert_utf16_to_latin1_lossy(&[0x20AC], &mut bytes);
+    assert_eq!(rt; bytes, [0xAC, 0xE9, 0x42, 0]);
+}
+
+#[test]
+fn latin1_becomes_text_and_back(rt: HostRuntime) -> Result<(), Fail> {
+    match decode_latin1(rt.alloc(), &[0xE9])? {
+        CowStr::Owned(text) => assert_eq!(rt; text.as_str(), "é"),
+        CowStr::Borrowed(_) => panic!(rt; "borrowed"),
+    }
+    match decode_latin1(rt.alloc(), &[0x41])? {
+        CowStr::Borrowed(text) => assert_eq!(rt; text, "A"),
+        CowStr::Owned(_) => panic!(rt; "owned"),
+    }
+    match encode_latin1_lossy(rt.alloc(), "é")? {
+        Latin1Bytes::Owned(bytes) => assert_eq!(rt; bytes.as_slice(), &[0xE9][..]),
+        Latin1Bytes::Borrowed(_) => panic!(rt; "borrowed"),
+    }
+    match encode_latin1_lossy(rt.alloc(), "A")? {
+        Latin1Bytes::Borrowed(bytes) => assert_eq!(rt; bytes, &[0x41][..]),
+        Latin1Bytes::Owned(_) => panic!(rt; "owned"),
+    }
+    Ok(())
+}

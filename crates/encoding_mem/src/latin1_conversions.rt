@@ -1,0 +1,109 @@
+// Conversions from Latin1, whose bytes are scalars, and into it.
+
+ghost use Rattle.std.specs.Prelude.{◌≡◌, ℕ, ◌*◌, ◌≤◌, length, take, drop, encode_utf8_all};
+ghost use Rattle.std.specs.Str.{chars};
+ghost use Rattle.encoding_mem.specs.Conversions.{IsLongest, low_bytes};
+ghost use Rattle.encoding_mem.specs.Latin1.{AllLatin1, IsLatin1Text};
+
+use crate::ascii::ascii_front;
+use crate::sink::Sink;
+use crate::source::{Source, Utf8Source};
+use crate::utf8_sink::Utf8Sink;
+
+/// Converts Latin1 to UTF-16: each byte is a unit. The destination is at least as long as the source.
+pub fn convert_latin1_to_utf16(src: &[u8], dst: &mut [u16])
+    requires { length src.now ≤ length dst.old }
+    ensures units { take (length src.now) dst.new ≡ src.now }
+    ensures behind { drop (length src.now) dst.new ≡ drop (length src.now) dst.old }
+{
+    for (i, b) in src.iter().enumerate() {
+        dst[i] = *b as u16;
+    }
+}
+
+/// Takes the low eight bits of each unit of UTF-16. Where no unit is above 00FF, that is Latin1. The
+/// destination is at least as long as the source.
+pub fn convert_utf16_to_latin1_lossy(src: &[u16], dst: &mut [u8])
+    requires { length src.now ≤ length dst.old }
+    ensures bytes { take (length src.now) dst.new ≡ low_bytes src.now }
+    ensures behind { drop (length src.now) dst.new ≡ drop (length src.now) dst.old }
+{
+    for (i, u) in src.iter().enumerate() {
+        dst[i] = (*u % 256) as u8;
+    }
+}
+
+/// Converts UTF-8 to Latin1, and answers the bytes written. The source is well-formed UTF-8 with no scalar
+/// above U+00FF, and the destination is at least as long.
+pub fn convert_utf8_to_latin1_lossy(src: &[u8], dst: &mut [u8]) -> usize
+    requires latin1 { IsLatin1Text src.now }
+    requires room { length src.now ≤ length dst.old }
+    ensures fits { result ≤ length dst.new }
+    ensures bytes { take result dst.new ≡ chars src.now }
+    ensures behind { drop result dst.new ≡ drop result dst.old }
+{
+    narrow_text(unsafe { std::str::from_utf8_unchecked(src) }, dst)
+}
+
+// The scalars of a text, each as a byte.
+pub(crate) fn narrow_text(text: &str, dst: &mut [u8]) -> usize
+    requires latin1 { AllLatin1 (chars text.now) }
+    requires room { length text.now ≤ length dst.old }
+    ensures fits { result ≤ length dst.new }
+    ensures bytes { take result dst.new ≡ chars text.now }
+    ensures behind { drop result dst.new ≡ drop result dst.old }
+{
+    let mut source = Utf8Source::new(text);
+    let mut written = 0;
+    'characters: while let Some((c, _)) = source.peek() {
+        let run = source.copy_ascii(&mut dst[written..]);
+        if run > 0 {
+            written += run;
+            continue;
+        }
+        dst[written] = u32::from(c) as u8;
+        written += 1;
+        source.advance();
+    }
+    written
+}
+
+/// Converts the longest prefix of Latin1 whose UTF-8 fits, and answers the bytes read and the bytes written.
+pub fn convert_latin1_to_utf8_partial(src: &[u8], dst: &mut [u8]) -> (usize, usize)
+    ensures longest { IsLongest (λ _. Unit {0}) (λ i. length (encode_utf8_all (take i src.now)))
+        (length src.now) (length dst.old) result.0 }
+    ensures fits { result.1 ≤ length dst.new }
+    ensures text { take result.1 dst.new ≡ encode_utf8_all (take result.0 src.now) }
+    ensures behind { drop result.1 dst.new ≡ drop result.1 dst.old }
+{
+    let mut sink = Utf8Sink::new(dst);
+    let mut read = 0;
+    'bytes: while read < src.len() {
+        let rest = &src[read..];
+        let run = ascii_front(&rest[..rest.len().min(sink.free_len())]);
+        if !run.is_empty() {
+            sink.put_text(run);
+            read += run.len();
+            continue;
+        }
+        let c = src[read] as char;
+        if !sink.fits(c) {
+            break;
+        }
+        sink.put(c);
+        read += 1;
+    }
+    (read, sink.written())
+}
+
+/// Converts Latin1 to UTF-8, and answers the bytes written. The destination is at least twice as long as
+/// the source.
+pub fn convert_latin1_to_utf8(src: &[u8], dst: &mut [u8]) -> usize
+    requires { 2 * length src.now ≤ length dst.old }
+    ensures fits { result ≤ length dst.new }
+    ensures text { take result dst.new ≡ encode_utf8_all src.now }
+    ensures behind { drop result dst.new ≡ drop result dst.old }
+{
+    let (_, written) = convert_latin1_to_utf8_partial(src, dst);
+    written
+}

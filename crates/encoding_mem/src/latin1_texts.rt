@@ -1,0 +1,52 @@
+// Latin1 to text and back, borrowed where nothing changes.
+
+ghost use Rattle.std.specs.Prelude.{◌≡◌, ◌↔◌, IfOk, encode_utf8_all};
+ghost use Rattle.std.specs.Cow.{cow_str_bytes, IsBorrowedStr};
+ghost use Rattle.std.specs.Str.{chars, IsAscii};
+ghost use Rattle.encoding_mem.specs.Latin1.{AllLatin1};
+ghost use Rattle.encoding_mem.specs.Latin1Texts.{latin1_bytes, AreBorrowed};
+
+use crate::ascii::ascii_front;
+use crate::latin1_conversions::narrow_text;
+use std::alloc::{AllocError, Global};
+use std::borrow::CowStr;
+
+/// Latin1 that is a part of a text, where that is ASCII, or was made of one.
+#[derive(Drop)]
+pub enum Latin1Bytes<'a> {
+    Borrowed(&'a [u8]),
+    Owned(Vec<u8>),
+}
+
+/// Decodes Latin1. What is ASCII is borrowed; anything else is a new text, for which memory may be wanting.
+pub fn decode_latin1(alloc: Global, bytes: &[u8]) -> Result<CowStr<'_>, AllocError>
+    ensures text { IfOk result (λ t. cow_str_bytes t ≡ encode_utf8_all bytes.now) }
+    ensures borrowed { IfOk result (λ t. IsBorrowedStr t ↔ IsAscii bytes.now) }
+{
+    let run = ascii_front(bytes);
+    if run.len() == bytes.len() {
+        return Ok(CowStr::Borrowed(run));
+    }
+    let mut text = String::with_capacity(alloc, bytes.len())?;
+    for b in bytes {
+        text.push(*b as char)?;
+    }
+    Ok(CowStr::Owned(text))
+}
+
+/// Encodes a text, which has no scalar above U+00FF, as Latin1. What is ASCII is borrowed; anything else is
+/// new, and memory may be wanting for it.
+pub fn encode_latin1_lossy(alloc: Global, text: &str) -> Result<Latin1Bytes<'_>, AllocError>
+    requires { AllLatin1 (chars text.now) }
+    ensures bytes { IfOk result (λ b. latin1_bytes b ≡ chars text.now) }
+    ensures borrowed { IfOk result (λ b. AreBorrowed b ↔ IsAscii text.now) }
+{
+    let run = ascii_front(text.as_bytes());
+    if run.len() == text.len() {
+        return Ok(Latin1Bytes::Borrowed(run.as_bytes()));
+    }
+    let mut bytes = vec![in alloc; 0u8; text.len()]?;
+    let count = narrow_text(text, &mut bytes);
+    bytes.truncate(count);
+    Ok(Latin1Bytes::Owned(bytes))
+}

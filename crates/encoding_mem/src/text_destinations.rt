@@ -1,0 +1,80 @@
+// Conversions to UTF-8 in a destination that is text before the call and after it.
+
+ghost use Rattle.std.specs.Prelude.{◌≡◌, ℕ, ◌*◌, ◌≤◌, length, take, drop, encode_utf8_all};
+ghost use Rattle.std.specs.Str.{IsUtf8};
+ghost use Rattle.encoding_mem.specs.Conversions.{IsLongest, IsUnitBoundary, units_in_utf8};
+ghost use Rattle.encoding_mem.specs.TextDestination.{cleared};
+
+use crate::latin1_conversions::convert_latin1_to_utf8_partial;
+use crate::utf16_conversions::convert_utf16_to_utf8_partial;
+
+// Sets the continuation bytes at the front to 00.
+fn clear_front(bytes: &mut [u8])
+    ensures { bytes.new ≡ cleared bytes.old }
+{
+    let mut place = 0;
+    'bytes: while place < bytes.len() && bytes[place] >= 0x80 && bytes[place] <= 0xBF {
+        bytes[place] = 0;
+        place += 1;
+    }
+}
+
+/// Converts the longest prefix of whole characters that fits, as `convert_utf16_to_utf8_partial`, into a
+/// text. Of a character whose front is overwritten the other bytes become 00, so that it stays a text.
+pub fn convert_utf16_to_str_partial(src: &[u16], dst: &mut [u8]) -> (usize, usize)
+    requires { IsUtf8 dst.old }
+    ensures longest { IsLongest (IsUnitBoundary src.now) (λ i. length (units_in_utf8 (take i src.now)))
+        (length src.now) (length dst.old) result.0 }
+    ensures fits { result.1 ≤ length dst.new }
+    ensures text { take result.1 dst.new ≡ units_in_utf8 (take result.0 src.now) }
+    ensures behind { drop result.1 dst.new ≡ cleared (drop result.1 dst.old) }
+    ensures utf8 { IsUtf8 dst.new }
+{
+    let (read, written) = convert_utf16_to_utf8_partial(src, dst);
+    clear_front(&mut dst[written..]);
+    (read, written)
+}
+
+/// Converts all units, as `convert_utf16_to_utf8`, into a text, which stays one. It is at least three times
+/// as long as the source.
+pub fn convert_utf16_to_str(src: &[u16], dst: &mut [u8]) -> usize
+    requires utf8 { IsUtf8 dst.old }
+    requires room { 3 * length src.now ≤ length dst.old }
+    ensures fits { result ≤ length dst.new }
+    ensures text { take result dst.new ≡ units_in_utf8 src.now }
+    ensures behind { drop result dst.new ≡ cleared (drop result dst.old) }
+    ensures utf8 { IsUtf8 dst.new }
+{
+    let (_, written) = convert_utf16_to_str_partial(src, dst);
+    written
+}
+
+/// Converts the longest prefix of Latin1 whose UTF-8 fits, as `convert_latin1_to_utf8_partial`, into a text.
+/// Of a character whose front is overwritten the other bytes become 00, so that it stays a text.
+pub fn convert_latin1_to_str_partial(src: &[u8], dst: &mut [u8]) -> (usize, usize)
+    requires { IsUtf8 dst.old }
+    ensures longest { IsLongest (λ _. Unit {0}) (λ i. length (encode_utf8_all (take i src.now)))
+        (length src.now) (length dst.old) result.0 }
+    ensures fits { result.1 ≤ length dst.new }
+    ensures text { take result.1 dst.new ≡ encode_utf8_all (take result.0 src.now) }
+    ensures behind { drop result.1 dst.new ≡ cleared (drop result.1 dst.old) }
+    ensures utf8 { IsUtf8 dst.new }
+{
+    let (read, written) = convert_latin1_to_utf8_partial(src, dst);
+    clear_front(&mut dst[written..]);
+    (read, written)
+}
+
+/// Converts Latin1, as `convert_latin1_to_utf8`, into a text, which stays one. It is at least twice as long
+/// as the source.
+pub fn convert_latin1_to_str(src: &[u8], dst: &mut [u8]) -> usize
+    requires utf8 { IsUtf8 dst.old }
+    requires room { 2 * length src.now ≤ length dst.old }
+    ensures fits { result ≤ length dst.new }
+    ensures text { take result dst.new ≡ encode_utf8_all src.now }
+    ensures behind { drop result dst.new ≡ cleared (drop result dst.old) }
+    ensures utf8 { IsUtf8 dst.new }
+{
+    let (_, written) = convert_latin1_to_str_partial(src, dst);
+    written
+}
