@@ -1,13 +1,14 @@
 //! Decoders and encoders of one frame: what the first piece of some bytes is and what the form of one
 //! character is are rules of a codec; how a call cuts, waits, writes and stops is written and proved once.
+//! Beside them stand checks of texts and conversions between them.
 #![tactic(auto)]
 
 pub mod ascii;
+pub mod ascii_copies;
 pub mod ascii_text;
 pub mod bidi;
 #[cfg(test)]
 mod check_tests;
-pub mod ascii_copies;
 pub mod conversion_laws;
 #[cfg(test)]
 mod conversion_tests;
@@ -23,9 +24,9 @@ mod first;
 pub mod form;
 pub mod front;
 pub mod latin1;
-pub mod mem_laws;
 pub mod latin1_conversions;
 pub mod latin1_texts;
+pub mod mem_laws;
 mod pending;
 pub mod piece_decoder;
 pub mod raw_decoder;
@@ -43,6 +44,7 @@ pub mod utf8_encoder;
 pub mod utf8_sink;
 pub mod validity;
 
+pub use ascii_copies::{copy_ascii_to_ascii, copy_ascii_to_basic_latin, copy_basic_latin_to_ascii};
 pub use ascii_text::{ascii_valid_up_to, is_ascii, is_basic_latin, iso_2022_jp_ascii_valid_up_to};
 pub use bidi::{
     Latin1Bidi, check_str_for_latin1_and_bidi, check_utf8_for_latin1_and_bidi,
@@ -54,9 +56,6 @@ pub use encoder_result::EncoderResult;
 pub use latin1::{
     is_str_latin1, is_utf8_latin1, is_utf16_latin1, str_latin1_up_to, utf8_latin1_up_to,
 };
-pub use ascii_copies::{copy_ascii_to_ascii, copy_ascii_to_basic_latin, copy_basic_latin_to_ascii};
-pub use decoder_result::DecoderResult;
-pub use encoder_result::EncoderResult;
 pub use latin1_conversions::{
     convert_latin1_to_utf8, convert_latin1_to_utf8_partial, convert_latin1_to_utf16,
     convert_utf8_to_latin1_lossy, convert_utf16_to_latin1_lossy,
@@ -74,5 +73,5 @@ pub use utf8_conversions::{
     convert_utf8_to_utf16_without_replacement,
 };
 pub use utf8_encoder::Utf8Encoder;
-pub use validity::{ensure_utf16_validity, utf8_valid_up_to, utf16_valid_up_to};
 pub use utf16_conversions::{convert_utf16_to_utf8, convert_utf16_to_utf8_partial};
+pub use validity::{ensure_utf16_validity, utf8_valid_up_to, utf16_valid_up_to};
