@@ -22,3 +22,4 @@ pub mod Utf8Prefixes
 pub mod Replacement
 pub mod ClearedText
 pub mod ConvertedBack
+pub mod SmallTexts
