@@ -23,3 +23,4 @@ pub mod Replacement
 pub mod ClearedText
 pub mod ConvertedBack
 pub mod SmallTexts
+pub mod Utf16Texts

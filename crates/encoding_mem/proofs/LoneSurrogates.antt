@@ -68,19 +68,19 @@ up_to_lone us n within none ends = record {
 pub plain_not_lone : (us : List ℕ) (i : ℕ) → get_or us i 0 < 0xD800 → ¬ IsLoneSurrogate us i
 plain_not_lone us i low lone = elim lone [ inl first ↦ absurd (omega arith) | inr second ↦ absurd (omega arith) ]
 
-cases_high : (u : ℕ) → IsHighSurrogate u ⊎ (¬ IsHighSurrogate u)
+pub cases_high : (u : ℕ) → IsHighSurrogate u ⊎ (¬ IsHighSurrogate u)
 cases_high u = elim (cases_lt u 0xD800) [
   | inl below ↦ inr (λ high. absurd (omega arith))
   | inr from ↦ elim (cases_lt u 0xDC00) [ inl within ↦ inl (omega arith, omega arith) | inr over ↦ inr (λ high. absurd (omega arith)) ]
 ]
 
-cases_low : (u : ℕ) → IsLowSurrogate u ⊎ (¬ IsLowSurrogate u)
+pub cases_low : (u : ℕ) → IsLowSurrogate u ⊎ (¬ IsLowSurrogate u)
 cases_low u = elim (cases_lt u 0xDC00) [
   | inl below ↦ inr (λ low. absurd (omega arith))
   | inr from ↦ elim (cases_lt u 0xE000) [ inl within ↦ inl (omega arith, omega arith) | inr over ↦ inr (λ low. absurd (omega arith)) ]
 ]
 
-low_at : (us : List ℕ) (i j : ℕ) → i ≡ j → IsLowSurrogate (get_or us i 0) → IsLowSurrogate (get_or us j 0)
+pub low_at : (us : List ℕ) (i j : ℕ) → i ≡ j → IsLowSurrogate (get_or us i 0) → IsLowSurrogate (get_or us j 0)
 low_at us i j e low = subst (λ k. IsLowSurrogate (get_or us k 0)) e low
 
 high_at : (us : List ℕ) (i j : ℕ) → i ≡ j → IsHighSurrogate (get_or us i 0) → IsHighSurrogate (get_or us j 0)
@@ -104,7 +104,7 @@ pair_low us i j next high low lone = elim lone [
 ]
 
 -- a first unit that is not alone has its partner
-partner_of_high : (us : List ℕ) (i : ℕ) → IsHighSurrogate (get_or us i 0) → ¬ IsLoneSurrogate us i → IsLowSurrogate (get_or us (i + 1) 0)
+pub partner_of_high : (us : List ℕ) (i : ℕ) → IsHighSurrogate (get_or us i 0) → ¬ IsLoneSurrogate us i → IsLowSurrogate (get_or us (i + 1) 0)
 partner_of_high us i high paired = elim (cases_low (get_or us (i + 1) 0)) [
   | inl low ↦ low
   | inr other ↦ absurd (paired (inl (high, other)))

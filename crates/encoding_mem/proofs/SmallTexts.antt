@@ -1,5 +1,6 @@
 -- Short Latin1 texts.
 use Rattle.std.proofs.Common.{◌≡◌, ℕ, zero, suc, ◌≤◌, List, [], ◌∷◌, refl, sym, subst, arith}
+use Rattle.std.specs.Char.{encode_utf8}
 use Rattle.std.specs.Str.{chars}
 use Rattle.encoding_mem.specs.Latin1.{AllLatin1, IsLatin1Text}
 
@@ -30,6 +31,7 @@ pub e_is_latin1 : AllLatin1 (chars (0xC3 ∷ 0xA9 ∷ []))
 e_is_latin1 = subst AllLatin1 (sym chars_of_e) (one_more 0xE9 [] (omega arith) no_scalars)
 
 pub three_are_latin1 : IsLatin1Text (0x41 ∷ 0xC3 ∷ 0xA9 ∷ 0x42 ∷ [])
+unfolding encode_utf8
 three_are_latin1 = (
   (0x41 ∷ 0xE9 ∷ 0x42 ∷ [], (refl, refl)),
   subst AllLatin1 (sym chars_of_three) (one_more 0x41 (0xE9 ∷ 0x42 ∷ []) (omega arith) (one_more 0xE9 (0x42 ∷ []) (omega arith) (one_more 0x42 [] (omega arith) no_scalars))),
