@@ -3,16 +3,13 @@ use Rattle.std.proofs.Common.{◌≡◌, ℕ, zero, suc, ◌+◌, ◌-◌, ◌<�
 use Rattle.std.specs.Int.{is_in_range}
 use Rattle.std.specs.Char.Escape.{encode_utf16}
 use Rattle.std.proofs.lemmas.Bool.{lt-ltb, ltb-true}
-use Rattle.std.proofs.lemmas.List.{append-nil, take_rest, drop-drop, drop_all}
-use Rattle.encoding_mem.specs.Piece.{Piece, good, bad, size_of, sizes, scalars, scalars_of, text_of, text, first, AreGood, ArePieces, Cuts}
-use Rattle.encoding_mem.specs.Decoding.{Reports, Takes, IsKnown}
+use Rattle.std.proofs.lemmas.List.{append-nil, take_rest, drop-drop}
+use Rattle.encoding_mem.specs.Piece.{Piece, good, bad, size_of, sizes, scalars, scalars_of, text_of, text, first, AreGood, ArePieces}
 use Rattle.encoding_mem.specs.PiecesLaws.{pieces_by-nil, pieces_by-cons, pieces_by-whole}
 use Rattle.encoding_mem.specs.Utf8.{second_min, second_max, scalar_of_two, scalar_of_three, scalar_of_four, after_three, after_two, after_lead, front_utf8, pieces_utf8}
 use Rattle.encoding_mem.specs.Utf8Laws.{cuts_utf8}
 use Rattle.encoding_mem.specs.Writing.{Adds, len_utf16, encode_utf16_all}
 use Rattle.encoding_mem.specs.WritingLaws.{adds_encoded16, adds-length, encode_utf16_all-append, length-encode_utf16, cost_fits16}
-use Rattle.encoding_mem.specs.declared.decoder_result.DecoderResult.{DecoderResult}
-use Rattle.encoding_mem.specs.declared.decoder_result.DecoderResult.TheVariants.{InputEmpty, OutputFull, Malformed}
 
 -- A piece gives some text, and no more units than it has bytes.
 record Fits (p : Piece) : Type 0 where

@@ -5,7 +5,7 @@ use Rattle.std.specs.Char.{encode_utf8, len_utf8}
 use Rattle.std.specs.Char.Utf16.{utf16_lossy_chars, lone_unit_char, surrogate_pair_char}
 use Rattle.std.proofs.lemmas.Bool.{cases_lt}
 use Rattle.std.proofs.lemmas.Bool.Decides.{nat_tests}
-use Rattle.std.proofs.lemmas.List.{append_cancel_left, append_cancel_right, append-nil, drop-drop, drop_all, drop_at, take-take, take_all, get_or-drop, get_or-take, take-append-drop, length-take-le}
+use Rattle.std.proofs.lemmas.List.{append_cancel_left, append_cancel_right, drop-drop, drop_at, take-take, take_all, get_or-drop, get_or-take, length-take-le}
 use Rattle.std.proofs.lemmas.Str.{utf16_chars_lone, utf16_chars_pair, encodes-append, length-encode, len_utf8_bounds}
 use Rattle.encoding_mem.specs.Conversions.{IsLongest, IsSurrogatePair, IsUnitBoundary, units_in_utf8}
 use Rattle.encoding_mem.specs.Coding.{output}

@@ -1,6 +1,5 @@
 -- Prefixes of bytes that are text.
-use Rattle.std.proofs.Common.{◌≡◌, ℕ, ◌+◌, ◌-◌, ◌<◌, ◌≤◌, inl, inr, List, [], ◌∷◌, ◌++◌, length, take, drop, get_or, refl, sym, ◌∙◌, ap, subst, arith, append_assoc, length-append, length-drop, encode_utf8_all}
-use Rattle.std.specs.Char.{encode_utf8, len_utf8}
+use Rattle.std.proofs.Common.{◌≡◌, ℕ, ◌+◌, ◌-◌, ◌<◌, ◌≤◌, inl, inr, List, [], ◌∷◌, ◌++◌, length, take, drop, sym, ◌∙◌, ap, subst, arith, append_assoc, length-drop, encode_utf8_all}
 use Rattle.std.specs.Str.{chars, IsUtf8, IsCharBoundary}
 use Rattle.std.proofs.lemmas.List.{append_cancel_left, append_cancel_right, take-append-drop, take-take, get_or-take, length-take-le}
 use Rattle.std.proofs.lemmas.Str.{chars-append, chars_past_char, IsUtf8-take, IsUtf8-drop, IsCharBoundary-from_take, utf8_valid_len_le}

@@ -1,4 +1,4 @@
-use Rattle.std.proofs.Common.{◌<◌, length, take, arith}
+use Rattle.std.proofs.Common.{length, arith}
 use Rattle.encoding_mem.proofs.Prefixes.{whole_latin1}
 use Rattle.encoding_mem.proofs.latin1_conversions.convert_latin1_to_utf8.Goals as goal
 

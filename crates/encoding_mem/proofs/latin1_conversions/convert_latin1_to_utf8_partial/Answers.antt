@@ -1,4 +1,4 @@
-use Rattle.std.proofs.Common.{◌∙◌, ◌≤◌, ◌<◌, ◌+◌, length, take, drop, get_or, encode_utf8_all, sym, ap, arith, inl, inr}
+use Rattle.std.proofs.Common.{◌∙◌, ◌+◌, length, take, get_or, encode_utf8_all, ap, arith, inl, inr}
 use Rattle.std.proofs.lemmas.List.{take_more, length-drop}
 use Rattle.std.proofs.lemmas.Str.{chars-IsAscii}
 use Rattle.std.proofs.lemmas.Bool.{cases_lt}

@@ -1,6 +1,5 @@
 use Rattle.std.proofs.Common.{◌+◌, ◌≡◌, ◌≤◌, ◌++◌, length, take, drop}
 use Rattle.std.specs.Str.{chars}
-use Rattle.encoding_mem.specs.Latin1.{AllLatin1}
 use Rattle.encoding_mem.proofs.latin1_conversions.narrow_text.Given as goal
 
 abbrev pub invariant-characters : goal.invariant-characters

@@ -1,4 +1,4 @@
-use Rattle.std.proofs.Common.{◌<◌, length, take, arith}
+use Rattle.std.proofs.Common.{length, arith}
 use Rattle.encoding_mem.proofs.UnitPrefixes.{whole_units}
 use Rattle.encoding_mem.proofs.text_destinations.convert_utf16_to_str.Goals as goal
 

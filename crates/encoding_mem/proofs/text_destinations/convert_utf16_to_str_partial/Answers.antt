@@ -1,4 +1,4 @@
-use Rattle.std.proofs.Common.{◌∙◌, ◌<◌, length, take, arith}
+use Rattle.std.proofs.Common.{◌∙◌, take, arith}
 use Rattle.std.specs.Char.Utf16.{utf16_lossy_chars}
 use Rattle.encoding_mem.proofs.ClearedText.{put_front, cleared_behind, text_stays, take_low, units_are_scalars}
 use Rattle.encoding_mem.proofs.text_destinations.convert_utf16_to_str_partial.Goals as goal

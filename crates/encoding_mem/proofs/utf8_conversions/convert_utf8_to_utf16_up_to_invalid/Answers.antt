@@ -1,6 +1,4 @@
-use Rattle.std.proofs.Common.{◌≡◌, ◌∙◌, ◌≤◌, length, take, sym, ap, subst, arith}
-use Rattle.std.proofs.lemmas.List.{take-take}
-use Rattle.std.proofs.lemmas.Str.{utf8_valid_len_le}
+use Rattle.std.proofs.Common.{length, ap, arith}
 use Rattle.encoding_mem.specs.WritingLaws.{adds-length}
 use Rattle.encoding_mem.proofs.Utf8Prefixes.{fits_longest}
 use Rattle.encoding_mem.proofs.utf8_conversions.convert_utf8_to_utf16_up_to_invalid.Goals as goal

@@ -1,8 +1,7 @@
-use Rattle.std.proofs.Common.{◌≡◌, ◌∙◌, ◌++◌, ◌-◌, ◌≤◌, ◌<◌, [], ◌∷◌, length, take, drop, sym, ap, subst, refl, arith}
+use Rattle.std.proofs.Common.{◌≡◌, ◌∙◌, [], ◌∷◌, take, drop, sym, ap, subst, refl}
 use Rattle.std.specs.Str.{chars, IsUtf8, IsCharBoundary}
-use Rattle.std.proofs.lemmas.Bool.{cases_lt}
 use Rattle.std.proofs.lemmas.Str.{chars-nil}
-use Rattle.encoding_mem.specs.Writing.{Adds, len_utf16, encode_utf16_all}
+use Rattle.encoding_mem.specs.Writing.{Adds, encode_utf16_all}
 use Rattle.encoding_mem.specs.WritingLaws.{adds_none, adds_encoded16}
 use Rattle.encoding_mem.proofs.Utf8Prefixes.{chars_step}
 use Rattle.encoding_mem.proofs.utf8_conversions.put_prefix.Goals as goal

@@ -1,9 +1,8 @@
-use Rattle.std.proofs.Common.{◌≡◌, ◌∙◌, ◌++◌, ◌+◌, ◌-◌, ◌<◌, ℕ, [], length, take, drop, sym, ap, subst, refl, arith, true, List, inl, inr, length-drop}
-use Rattle.std.proofs.lemmas.List.{append-nil, take_rest, drop-drop, drop_all}
+use Rattle.std.proofs.Common.{◌≡◌, ◌∙◌, ◌++◌, ◌+◌, ◌-◌, ℕ, [], length, take, drop, sym, ap, subst, refl, arith, true, List, inl, inr, length-drop}
+use Rattle.std.proofs.lemmas.List.{append-nil, take_rest, drop-drop}
 use Rattle.encoding_mem.specs.contracts.utf8.Utf8DecoderPieceDecoder.TheImpl.{ghosts}
 use Rattle.encoding_mem.specs.Decoding.{Reports, EndsWith}
 use Rattle.encoding_mem.specs.Piece.{ArePieces, first}
-use Rattle.encoding_mem.specs.Utf8.{pieces_utf8}
 use Rattle.encoding_mem.specs.Writing.{len_utf16}
 use Rattle.encoding_mem.specs.WritingLaws.{adds_none}
 use Rattle.encoding_mem.proofs.Replacement.{goes_on, goes_on_bad, some_taken, all_written, never_full}
