@@ -1,9 +1,11 @@
 -- What each encoding means: the indexes that it needs, the pieces of its bytes, and what is written for a text in it.
-use Rattle.std.specs.Prelude.{◌≡◌, ℕ, ◌+◌, ◌*◌, true, List, [], ◌∷◌, refl}
+use Rattle.std.specs.Prelude.{◌≡◌, ℕ, true, List, [], ◌∷◌, refl}
 use Rattle.encoding_mem.specs.Piece.{Piece}
 use Rattle.encoding_mem.specs.Coding.{Coding}
 use Rattle.encoding_mem.specs.Utf8.{pieces_utf8}
 use Rattle.encoding_mem.specs.Utf8Coding.{utf8_coding}
+use Rattle.encoding_mem.specs.Room.{room_utf8, room_single_byte}
+use Rattle.encoding_mem.specs.declared.room.Room.{Room}
 use Rattle.encoding_tables.specs.IndexLists.{IndexLists, has, entries_of}
 use Rattle.encoding_tables.specs.Kinds.{is_single_byte}
 use Rattle.encoding_tables.specs.SingleByte.{pieces_single_byte, single_byte_coding}
@@ -75,20 +77,13 @@ need_of_scheme (Scheme.SingleByte kind) = 1
 abbrev pub need_of : Encoding → ℕ
 need_of e = need_of_scheme (scheme_of (output_encoding_of e))
 
--- the bytes, and the units, that are room enough for the text of m bytes, where nothing is pending
-abbrev pub bytes_for_scheme : Scheme → ℕ → ℕ
-bytes_for_scheme Scheme.Utf8 m = m + 3
-bytes_for_scheme (Scheme.SingleByte kind) m = 3 * m
+-- the room that is enough for the text of so many bytes
+abbrev pub room_of_scheme : Scheme → Room
+room_of_scheme Scheme.Utf8 = room_utf8
+room_of_scheme (Scheme.SingleByte kind) = room_single_byte
 
-abbrev pub bytes_for : Encoding → ℕ → ℕ
-bytes_for e m = bytes_for_scheme (scheme_of e) m
-
-abbrev pub units_for_scheme : Scheme → ℕ → ℕ
-units_for_scheme Scheme.Utf8 m = m + 1
-units_for_scheme (Scheme.SingleByte kind) m = m
-
-abbrev pub units_for : Encoding → ℕ → ℕ
-units_for e m = units_for_scheme (scheme_of e) m
+abbrev pub room_of_encoding : Encoding → Room
+room_of_encoding e = room_of_scheme (scheme_of e)
 
 -- the constants
 utf_8 : scheme_of UTF_8 ≡ Scheme.Utf8

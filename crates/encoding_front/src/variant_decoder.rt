@@ -1,9 +1,10 @@
-ghost use Rattle.std.specs.Prelude.{◌≡◌, ℕ};
-ghost use Rattle.encoding_front.specs.Encodings.{IsReady, pieces_of, bytes_for, units_for};
+ghost use Rattle.std.specs.Prelude.{◌≡◌};
+ghost use Rattle.encoding_front.specs.Encodings.{IsReady, pieces_of, room_of_encoding};
 ghost use Rattle.encoding_front.specs.declared.variant_decoder.VariantDecoder.TheVariants.{Utf8, SingleByte};
 
 use crate::encoding::{Encoding, Scheme};
 use encoding_mem::piece_decoder::PieceDecoder;
+use encoding_mem::room::Room;
 use encoding_mem::sink::Sink;
 use encoding_mem::{DecoderResult, RawDecoder, Utf8Decoder};
 use encoding_tables::{SingleByteDecoder, Tables};
@@ -21,8 +22,7 @@ impl<'t> VariantDecoder<'t> {
         requires { IsReady tables.now encoding }
         ensures pending { (⟦<VariantDecoder<'t> as RawDecoder>⟧.state result).pending ≡ 0 }
         ensures pieces { (⟦<VariantDecoder<'t> as RawDecoder>⟧.state result).pieces ≡ pieces_of tables.now encoding }
-        ensures bytes { (m : ℕ) → (⟦<VariantDecoder<'t> as RawDecoder>⟧.state result).bytes_for m ≡ bytes_for encoding m }
-        ensures units { (m : ℕ) → (⟦<VariantDecoder<'t> as RawDecoder>⟧.state result).units_for m ≡ units_for encoding m }
+        ensures room { (⟦<VariantDecoder<'t> as RawDecoder>⟧.state result).room ≡ room_of_encoding encoding }
     {
         match encoding.scheme() {
             Scheme::Utf8 => VariantDecoder::Utf8(Utf8Decoder::new()),
@@ -55,6 +55,13 @@ impl<'t> PieceDecoder for VariantDecoder<'t> {
         match self {
             VariantDecoder::Utf8(decoder) => decoder.held_len(),
             VariantDecoder::SingleByte(decoder) => decoder.held_len(),
+        }
+    }
+
+    fn room(&self) -> Room {
+        match self {
+            VariantDecoder::Utf8(decoder) => decoder.room(),
+            VariantDecoder::SingleByte(decoder) => decoder.room(),
         }
     }
 }

@@ -2,7 +2,7 @@ pub mod Progress
 pub mod Shift
 pub mod FrontUtf8
 pub mod Endings
-pub mod Room
+pub mod EnoughRoom
 pub mod AsciiFront
 pub mod Steps
 pub mod Sources

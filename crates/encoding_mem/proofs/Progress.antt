@@ -10,6 +10,8 @@ use Rattle.encoding_mem.specs.Text.{text_pieces}
 use Rattle.encoding_mem.specs.Decoding.{Takes, Reports}
 use Rattle.encoding_mem.specs.FrontPiece.{IsFirst, IsSoon}
 use Rattle.encoding_mem.specs.Driver.{IsNear, PartReports, PartSuffices, Suffices}
+use Rattle.encoding_mem.specs.Room.{is_units}
+use Rattle.encoding_mem.specs.declared.room.Count.{Count}
 use Rattle.encoding_mem.specs.declared.decoder_result.DecoderResult.{DecoderResult}
 use Rattle.encoding_mem.specs.declared.decoder_result.DecoderResult.TheVariants.{InputEmpty, OutputFull, Malformed}
 
@@ -145,24 +147,24 @@ part_good ended before P src last held pending read W is none h =
     let good : Takes AreGood before (λ x. P (pending ++ x)) src last held (length pending) read W = subst (λ (o : Option DecoderResult). Takes (PartReports o (length pending)) before (λ x. P (pending ++ x)) src last held (length pending) read W) is h in
     subst (λ (y : List ℕ). Takes AreGood before (λ x. P (y ++ x)) src last held (length y) read W) none good
 
-pub suffices_then : (outcome : DecoderResult) (before middle after : ℕ → ℕ) (size left old mid new : ℕ)
-    → ((m : ℕ) → before (size + m) ≤ old → middle (left + m) ≤ mid)
-    → Suffices middle after left mid new outcome
-    → Suffices before after size old new outcome
-suffices_then InputEmpty before middle after size left old mid new h k = λ m fits. k m (h m fits)
-suffices_then OutputFull before middle after size left old mid new h k = λ m fits. k m (h m fits)
-suffices_then (Malformed a b) before middle after size left old mid new h k = tt
+pub suffices_then : (outcome : DecoderResult) (before middle after : Count → ℕ → ℕ) (t last : Bool) (size left unread old mid new : ℕ)
+    → ((k : Count) (m : ℕ) → is_units k ≡ t → (IsTrue last → m ≡ 0) → before k (size + m) ≤ old → middle k (left + m) ≤ mid)
+    → Suffices middle after t last left unread mid new outcome
+    → Suffices before after t last size unread old new outcome
+suffices_then InputEmpty before middle after t last size left unread old mid new h s = λ k m is none fits. s k m is none (h k m is none fits)
+suffices_then OutputFull before middle after t last size left unread old mid new h s = λ k m is none fits. s k m is none (h k m is none fits)
+suffices_then (Malformed a b) before middle after t last size left unread old mid new h s = λ k m is none fits. s k m is none (h k m is none fits)
 
-pub part_suffices : (ended : Option DecoderResult) (before need : ℕ → ℕ) (size unread left old mid : ℕ) (pending : List ℕ)
+pub part_suffices : (ended : Option DecoderResult) (before need : Count → ℕ → ℕ) (t last : Bool) (size unread left old mid : ℕ) (pending : List ℕ)
     → ended ≡ None
     → pending ≡ []
     → left ≡ unread
-    → PartSuffices before (λ k. need (length pending + k)) size unread old mid ended
-    → (m : ℕ) → before (size + m) ≤ old → need (left + m) ≤ mid
-part_suffices ended before need size unread left old mid pending is none same h m fits =
-    let enough = subst (λ (o : Option DecoderResult). PartSuffices before (λ k. need (length pending + k)) size unread old mid o) is h in
+    → PartSuffices before (λ k n. need k (length pending + n)) t last size unread old mid ended
+    → (k : Count) (m : ℕ) → is_units k ≡ t → (IsTrue last → m ≡ 0) → before k (size + m) ≤ old → need k (left + m) ≤ mid
+part_suffices ended before need t last size unread left old mid pending is none same h k m units stops fits =
+    let enough = subst (λ (o : Option DecoderResult). PartSuffices before (λ k n. need k (length pending + n)) t last size unread old mid o) is h in
     let at : length pending + (unread + m) ≡ left + m = omega (arith, ap length none, same) in
-    subst (λ (x : ℕ). need x ≤ mid) at (enough m fits)
+    subst (λ (x : ℕ). need k x ≤ mid) at (enough k m units stops fits)
 
 -- from what is pending; here says that nothing comes after it
 pub took_pending : (Good : List Piece → Type 0) (before P P' : List ℕ → List Piece) (src : List ℕ) (last here : Bool) (held : ℕ) (pending : List ℕ) (read : ℕ) (W W' : List ℕ → Type 0) (p : Piece)

@@ -1,20 +1,25 @@
 -- What a call of a decoder does.
 use Rattle.std.specs.Prelude.{◌≡◌, ℕ, ◌+◌, ◌-◌, ◌≤◌, ◌<◌, ◌≢◌, ◌⊎◌, Bool, false, IsTrue, Some, List, [], ◌∷◌, ◌++◌, length, drop}
 use Rattle.encoding_mem.specs.Piece.{Piece, bad, first, size_of, sizes, scalars, AreGood, ArePieces}
+use Rattle.encoding_mem.specs.Room.{room_of}
+use Rattle.encoding_mem.specs.declared.room.Count.{Count}
+use Rattle.encoding_mem.specs.declared.room.Room.{Room}
 use Rattle.encoding_mem.specs.Event.{Event, malformed, events, scalar_events}
 use Rattle.encoding_mem.specs.declared.decoder_result.DecoderResult.{DecoderResult}
 use Rattle.encoding_mem.specs.declared.decoder_result.DecoderResult.TheVariants.{InputEmpty, OutputFull, Malformed}
 
 -- A decoder's state, as its callers know it: the pieces of what is pending and of the bytes that follow, how many
--- bytes are pending, and the bytes and the units that are room enough for so many new bytes.
+-- bytes are pending, and the room that is enough.
 pub record DecoderState : Type 0 where
   pub pieces : List ℕ → List Piece
   pub pending : ℕ
   -- joined, the pieces are the pending bytes and those that follow
   pub whole : (x : List ℕ) → sizes (pieces x) ≡ pending + length x
   pub are_pieces : (x : List ℕ) → ArePieces (pieces x)
-  pub bytes_for : ℕ → ℕ
-  pub units_for : ℕ → ℕ
+  -- the most room that a call wants free for so many new bytes, and what is answered to those who ask
+  pub needs : Count → ℕ → ℕ
+  pub room : Room
+  pub covers : (k : Count) (n : ℕ) → needs k n ≤ room_of room k (pending + n)
 
 -- a list of pieces that the pieces of every continuation begin with
 abbrev pub IsDecided : (List ℕ → List Piece) → List ℕ → List Piece → Type 0

@@ -1,8 +1,11 @@
 -- What a rule says of the front of some bytes.
-use Rattle.std.specs.Prelude.{◌≡◌, ℕ, ◌+◌, ◌≤◌, ◌<◌, Bool, false, IsTrue, Some, List, [], ◌∷◌, ◌++◌, length, drop}
+use Rattle.std.specs.Prelude.{◌≡◌, ℕ, ◌+◌, ◌*◌, ◌≤◌, ◌<◌, Bool, false, IsTrue, Some, List, [], ◌∷◌, ◌++◌, length, drop}
 use Rattle.std.specs.Char.{len_utf8}
 use Rattle.encoding_mem.specs.Piece.{Piece, good, bad, first, size_of}
 use Rattle.encoding_mem.specs.Decoding.{IsUndecided}
+use Rattle.encoding_mem.specs.Writing.{len_utf16}
+use Rattle.encoding_mem.specs.Room.{is_units, goes_on, cost_in, mark_in, two_in, left_after}
+use Rattle.encoding_mem.specs.declared.room.Count.{Count}
 use Rattle.encoding_mem.specs.declared.front.Front.{Front}
 use Rattle.encoding_mem.specs.declared.front.Front.TheVariants.{More, One, Two, Silent, Bad}
 
@@ -23,14 +26,14 @@ IsFront before after bytes last (Two c d n) = IsFirst before after bytes last (g
 IsFront before after bytes last (Silent n) = IsFirst before after bytes last (good n [])
 IsFront before after bytes last (Bad n) = IsFirst before after bytes last (bad n) × (n ≤ 4)
 
--- The room that m more bytes may need: before the first piece, and after it. mark is what U+FFFD needs, two what is
--- asked for before two scalars.
-abbrev pub IsRoomy : (before after cost : ℕ → ℕ) (mark two : ℕ) → Front → Type 0
-IsRoomy before after cost mark two More = Unit {0}
-IsRoomy before after cost mark two (One c n) = (m : ℕ) → cost c + after m ≤ before (n + m)
-IsRoomy before after cost mark two (Two c d n) = (m : ℕ) → (two ≤ before (n + m)) × (cost c + cost d + after m ≤ before (n + m))
-IsRoomy before after cost mark two (Silent n) = (m : ℕ) → after m ≤ before (n + m)
-IsRoomy before after cost mark two (Bad n) = (m : ℕ) → mark ≤ before (n + m)
+-- The room that is wanted in a count: before the first piece of len bytes, with what is behind it n + m bytes in all,
+-- and after it. Nothing follows the bytes where they are the last.
+abbrev pub IsRoomy : (before after : Count → ℕ → ℕ) (len : ℕ) (last : Bool) → Front → Type 0
+IsRoomy before after len last More = Unit {0}
+IsRoomy before after len last (One c n) = (k : Count) (m : ℕ) → (IsTrue last → n + m ≡ len) → cost_in (is_units k) c + after k m ≤ before k (n + m)
+IsRoomy before after len last (Two c d n) = (k : Count) (m : ℕ) → (IsTrue last → n + m ≡ len) → (two_in (is_units k) ≤ before k (n + m)) × (cost_in (is_units k) c + cost_in (is_units k) d + after k m ≤ before k (n + m))
+IsRoomy before after len last (Silent n) = (k : Count) (m : ℕ) → (IsTrue last → n + m ≡ len) → after k m ≤ before k (n + m)
+IsRoomy before after len last (Bad n) = (k : Count) (m : ℕ) → (IsTrue last → n + m ≡ len) → left_after (goes_on k) (mark_in (is_units k)) (after k m) ≤ before k (n + m)
 
 -- one scalar at most, of no more bytes than it was read from
 abbrev pub IsShort : Front → Type 0
@@ -38,4 +41,20 @@ IsShort More = Unit {0}
 IsShort (One c n) = len_utf8 c ≤ n
 IsShort (Two c d n) = ⊥
 IsShort (Silent n) = Unit {0}
-IsShort (Bad n) = Unit {0}
+IsShort (Bad n) = 0 < n
+
+-- one scalar of the basic plane, or a bad piece
+abbrev pub IsBasic : Front → Type 0
+IsBasic More = Unit {0}
+IsBasic (One c n) = (c < 0x10000) × (0 < n)
+IsBasic (Two c d n) = ⊥
+IsBasic (Silent n) = ⊥
+IsBasic (Bad n) = 0 < n
+
+-- at most three bytes, and one unit, for each byte that was read
+abbrev pub IsModest : Front → Type 0
+IsModest More = Unit {0}
+IsModest (One c n) = (len_utf8 c ≤ 3 * n) × (len_utf16 c ≤ n)
+IsModest (Two c d n) = (c < 0x800) × (d < 0x800) × (2 ≤ n)
+IsModest (Silent n) = Unit {0}
+IsModest (Bad n) = 0 < n

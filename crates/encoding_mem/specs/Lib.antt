@@ -2,6 +2,7 @@ pub mod Piece
 pub mod Event
 pub mod Pieces
 pub mod Writing
+pub mod Room
 pub mod Decoding
 pub mod Coding
 pub mod Items

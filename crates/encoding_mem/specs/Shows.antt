@@ -4,6 +4,7 @@ use Rattle.std.proofs.lemmas.List.{drop-append-le}
 use Rattle.encoding_mem.specs.Piece.{Piece, good, bad, size_of, first}
 use Rattle.encoding_mem.specs.Pieces.{pieces_in, pieces_by}
 use Rattle.encoding_mem.specs.PiecesLaws.{AllCut, CutsEach, pieces_in-nil, pieces_in-cons}
+use Rattle.encoding_mem.specs.Decoding.{IsUndecided}
 use Rattle.encoding_mem.specs.FrontPiece.{IsFirst, IsFront, IsSoon}
 use Rattle.encoding_mem.specs.declared.front.Front.{Front}
 use Rattle.encoding_mem.specs.declared.front.Front.TheVariants.{More, One, Two, Silent, Bad}
@@ -123,3 +124,11 @@ shows_front_in front after cuts m m' x last (Bad n) h t s = (is_first front afte
 -- the same where there is one mode
 pub shows_front : (front : List ℕ → Piece) → CutsEach front → (x : List ℕ) (last : Bool) (F : Front) → 0 < length x → Shows front 0 x last F → IsFront (pieces_by front) (pieces_by front) x last F
 shows_front front cuts x last F h s = shows_front_in {M = Unit {0}} (λ _. front) (λ m _. m) (λ _. cuts) tt tt x last F h (λ _ _ _. refl) s
+
+-- where the first byte decides, nothing is undecided
+pub decided_in : {M : Type 0} (front : M → List ℕ → Piece) (after : M → List ℕ → M) → AllCut front → ((m : M) (b : ℕ) (x y : List ℕ) → front m (b ∷ x) ≡ front m (b ∷ y)) → (m : M) (x : List ℕ) → 0 < length x → IsUndecided (pieces_in front after m) x → ⊥
+decided_in front after cuts same m [] some h = absurd (omega (arith, some))
+decided_in front after cuts same m (b ∷ x) some h = h.differs (first_piece front after cuts m (b ∷ x) some ∙ ap Some (same m b x (x ++ h.more)) ∙ sym (first_piece front after cuts m (b ∷ (x ++ h.more)) (omega arith)))
+
+pub decided_by : (front : List ℕ → Piece) → CutsEach front → ((b : ℕ) (x y : List ℕ) → front (b ∷ x) ≡ front (b ∷ y)) → (x : List ℕ) → 0 < length x → IsUndecided (pieces_by front) x → ⊥
+decided_by front cuts same x some h = decided_in {M = Unit {0}} (λ _. front) (λ m _. m) (λ _. cuts) (λ _. same) tt x some h

@@ -1,6 +1,6 @@
 ghost use Rattle.std.specs.Prelude.{◌+◌, ◌-◌, ◌≡◌, ◌<◌, ◌≤◌, ◌++◌, [], length, drop};
 ghost use Rattle.encoding_mem.specs.Decoding.{Takes, Reports};
-ghost use Rattle.encoding_mem.specs.Driver.{IsNear, IsStep, IsRoomyStep, room_for, Ends, Suffices, PartReports, PartEnds, PartSuffices};
+ghost use Rattle.encoding_mem.specs.Driver.{IsNear, IsStep, IsRoomyStep, Ends, Remains, Suffices, PartReports, PartEnds, PartSuffices};
 
 use crate::decoder_result::DecoderResult;
 use crate::front::{Front, FrontPiece};
@@ -21,10 +21,9 @@ fn take_piece<F: FrontPiece, S: Sink>(codec: &mut F, bytes: &[u8], last: bool, s
     requires { 0 < length bytes.now }
     ensures step { IsStep F.pieces S.writes S.free S.room (S.cost 0xFFFD)
         codec.old codec.new bytes.now last sink.old sink.new result }
-    ensures room { IsRoomyStep
-        (room_for S.is_units (F.units_for codec.old) (F.bytes_for codec.old))
-        (room_for S.is_units (F.units_for codec.new) (F.bytes_for codec.new))
+    ensures room { IsRoomyStep (F.needs codec.old) (F.needs codec.new) S.is_units last
         (length bytes.now) (S.free sink.old) (S.free sink.new) result }
+    ensures limits { F.limits codec.new ≡ F.limits codec.old }
 {
     match codec.front(bytes, last) {
         Front::More => Step::Wait,
@@ -76,10 +75,10 @@ fn finish_pending<F: FrontPiece, S: Sink>(
         (λ text. S.writes sink.old text sink.new) }
     ensures ends { PartEnds (F.pieces codec.new) pending.new (drop result.1 src.now) last
         (S.free sink.new) S.room (S.cost 0xFFFD) result.0 }
-    ensures enough { PartSuffices
-        (λ k. room_for S.is_units (F.units_for codec.old) (F.bytes_for codec.old) (length pending.old + k))
-        (λ k. room_for S.is_units (F.units_for codec.new) (F.bytes_for codec.new) (length pending.new + k))
+    ensures enough { PartSuffices (λ k n. F.needs codec.old k (length pending.old + n))
+        (λ k n. F.needs codec.new k (length pending.new + n)) S.is_units last
         (length src.now) (length src.now - result.1) (S.free sink.old) (S.free sink.new) result.0 }
+    ensures limits { F.limits codec.new ≡ F.limits codec.old }
     ensures short { length pending.new < 7 }
     ensures near { IsNear (F.pieces codec.new) pending.new }
 {
@@ -106,8 +105,8 @@ fn finish_pending<F: FrontPiece, S: Sink>(
     (None, read)
 }
 
-// Decodes a source where nothing is pending: runs of text as a whole, and what else there is by pieces.
-fn decode_source<F: FrontPiece, S: Sink>(
+/// Decodes a source where nothing is pending: runs of text as a whole, and what else there is by pieces.
+pub fn decode_source<F: FrontPiece, S: Sink>(
     codec: &mut F,
     pending: &mut Pending,
     src: &[u8],
@@ -120,10 +119,11 @@ fn decode_source<F: FrontPiece, S: Sink>(
         src.now last 0 (length pending.new) result.1 (λ text. S.writes sink.old text sink.new) }
     ensures ends { Ends (F.pieces codec.new) pending.new (drop result.1 src.now) last
         (S.free sink.new) S.room (S.cost 0xFFFD) result.0 }
-    ensures enough { Suffices
-        (room_for S.is_units (F.units_for codec.old) (F.bytes_for codec.old))
-        (λ k. room_for S.is_units (F.units_for codec.new) (F.bytes_for codec.new) (length pending.new + k))
-        (length src.now) (S.free sink.old) (S.free sink.new) result.0 }
+    ensures enough { Suffices (F.needs codec.old)
+        (λ k n. F.needs codec.new k (length pending.new + n)) S.is_units last
+        (length src.now) (length src.now - result.1) (S.free sink.old) (S.free sink.new) result.0 }
+    ensures limits { F.limits codec.new ≡ F.limits codec.old }
+    ensures waits { Remains (F.pieces codec.new) pending.new }
     ensures short { length pending.new < 7 }
     ensures near { IsNear (F.pieces codec.new) pending.new }
 {
@@ -165,10 +165,10 @@ pub fn decode<F: FrontPiece, S: Sink>(
         (λ text. S.writes sink.old text sink.new) }
     ensures ends { Ends (F.pieces codec.new) pending.new (drop result.1 src.now) last
         (S.free sink.new) S.room (S.cost 0xFFFD) result.0 }
-    ensures enough { Suffices
-        (λ k. room_for S.is_units (F.units_for codec.old) (F.bytes_for codec.old) (length pending.old + k))
-        (λ k. room_for S.is_units (F.units_for codec.new) (F.bytes_for codec.new) (length pending.new + k))
-        (length src.now) (S.free sink.old) (S.free sink.new) result.0 }
+    ensures enough { Suffices (λ k n. F.needs codec.old k (length pending.old + n))
+        (λ k n. F.needs codec.new k (length pending.new + n)) S.is_units last
+        (length src.now) (length src.now - result.1) (S.free sink.old) (S.free sink.new) result.0 }
+    ensures limits { F.limits codec.new ≡ F.limits codec.old }
     ensures short { length pending.new < 7 }
     ensures near { IsNear (F.pieces codec.new) pending.new }
 {

@@ -1,10 +1,13 @@
 ghost use Rattle.std.specs.Prelude.{◌≡◌, ℕ, ◌<◌, ◌≤◌, ◌+◌, ◌++◌, List, [], length, take};
-ghost use Rattle.std.specs.Char.{len_utf8};
 ghost use Rattle.std.specs.Str.{chars};
 ghost use Rattle.encoding_mem.specs.Piece.{Piece, sizes, ArePieces};
 ghost use Rattle.encoding_mem.specs.FrontPiece.{IsFront, IsRoomy};
-ghost use Rattle.encoding_mem.specs.Text.{text_pieces};
-ghost use Rattle.encoding_mem.specs.Writing.{len_utf16, encode_utf16_all};
+ghost use Rattle.encoding_mem.specs.Room.{is_units, room_of};
+ghost use Rattle.encoding_mem.specs.Text.{text_len, text_pieces};
+ghost use Rattle.encoding_mem.specs.declared.room.Count.{Count};
+ghost use Rattle.encoding_mem.specs.declared.room.Room.{Room};
+
+use crate::room::Room;
 
 /// What stands at the front of some bytes, each with its length in bytes.
 #[derive(Clone, Copy)]
@@ -33,22 +36,24 @@ pub trait FrontPiece {
 
     ghost ends: { (s : Self) → pieces s [] ≡ [] };
 
-    /// The most bytes of UTF-8, and the most units of UTF-16, that a call wants free for so many bytes.
-    ghost bytes_for: { Self → ℕ → ℕ };
+    /// The most room that a call wants free for so many bytes, in each count.
+    ghost needs: { Self → Count → ℕ → ℕ };
 
-    ghost units_for: { Self → ℕ → ℕ };
+    /// What is answered to those who ask for room.
+    ghost limits: { Self → Room };
+
+    ghost covers: { (s : Self) (k : Count) (n : ℕ) → needs s k n ≤ room_of (limits s) k n };
 
     /// The state after the first piece of bytes.
     ghost after: { Self → List ℕ → Self };
+
+    ghost steady: { (s : Self) (x : List ℕ) → limits (after s x) ≡ limits s };
 
     /// The first piece of these bytes, which go on unless they are the last.
     fn front(&self, bytes: &[u8], last: bool) -> Front
         requires { 0 < length bytes.now }
         ensures piece { IsFront (pieces self.now) (pieces (after self.now bytes.now)) bytes.now last result }
-        ensures bytes { IsRoomy (bytes_for self.now) (bytes_for (after self.now bytes.now))
-            len_utf8 3 4 result }
-        ensures units { IsRoomy (units_for self.now) (units_for (after self.now bytes.now))
-            len_utf16 1 2 result };
+        ensures room { IsRoomy (needs self.now) (needs (after self.now bytes.now)) (length bytes.now) last result };
 
     /// Goes past the first piece of these bytes.
     fn pass(&mut self, bytes: &[u8])
@@ -61,8 +66,10 @@ pub trait FrontPiece {
         ensures front { result.now ≡ take (length result.now) bytes.now }
         ensures pieces { (r : List ℕ) → pieces self.now (result.now ++ r)
             ≡ text_pieces (chars result.now) ++ pieces self.now r }
-        ensures bytes { (m : ℕ) → length result.now + bytes_for self.now m
-            ≤ bytes_for self.now (length result.now + m) }
-        ensures units { (m : ℕ) → length (encode_utf16_all (chars result.now)) + units_for self.now m
-            ≤ units_for self.now (length result.now + m) };
+        ensures room { (k : Count) (m : ℕ) → text_len (is_units k) result.now + needs self.now k m
+            ≤ needs self.now k (length result.now + m) };
+
+    /// The room that is enough.
+    fn room(&self) -> Room
+        ensures { result ≡ limits self.now };
 }

@@ -7,6 +7,7 @@ pub mod ascii;
 pub mod ascii_copies;
 pub mod ascii_text;
 pub mod bidi;
+pub mod bytewise;
 #[cfg(test)]
 mod check_tests;
 pub mod conversion_laws;
@@ -31,6 +32,7 @@ mod pending;
 pub mod piece_decoder;
 pub mod raw_decoder;
 pub mod raw_encoder;
+pub mod room;
 pub mod sink;
 pub mod source;
 #[cfg(test)]

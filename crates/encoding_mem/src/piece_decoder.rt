@@ -1,12 +1,14 @@
-ghost use Rattle.std.specs.Prelude.{◌≡◌, ℕ, ◌<◌, ◌≤◌, [], length, drop, encode_utf8_all};
+ghost use Rattle.std.specs.Prelude.{◌≡◌, ℕ, ◌<◌, ◌≤◌, ◌+◌, ◌-◌, [], length, drop, encode_utf8_all};
 ghost use Rattle.encoding_mem.specs.Decoding.{DecoderState, StateLaw, EndsWith};
-ghost use Rattle.encoding_mem.specs.Driver.{IsNear, Suffices, buffered, needs};
+ghost use Rattle.encoding_mem.specs.Driver.{IsNear, Suffices, buffered};
+ghost use Rattle.encoding_mem.specs.Room.{queried};
 
 use crate::decoder_result::DecoderResult;
 use crate::driver::decode;
 use crate::front::FrontPiece;
 use crate::pending::Pending;
 use crate::raw_decoder::RawDecoder;
+use crate::room::{Count, Room};
 use crate::sink::Sink;
 use crate::utf8_sink::Utf8Sink;
 use crate::utf16_sink::Utf16Sink;
@@ -26,12 +28,24 @@ pub trait PieceDecoder {
             (λ text. S.writes sink.old text sink.new) result.0 }
         ensures ends { EndsWith (state self.new) (drop result.1 src.now) last
             (S.free sink.new) S.room (S.cost 0xFFFD) result.0 }
-        ensures enough { Suffices (needs S.is_units (state self.old)) (needs S.is_units (state self.new))
-            (length src.now) (S.free sink.old) (S.free sink.new) result.0 };
+        ensures enough { Suffices (state self.old).needs (state self.new).needs S.is_units last
+            (length src.now) (length src.now - result.1) (S.free sink.old) (S.free sink.new) result.0 }
+        ensures limits { (state self.new).room ≡ (state self.old).room };
 
     /// How many bytes are read whose piece is not decided.
     fn held_len(&self) -> usize
         ensures { result ≡ (state self.now).pending };
+
+    /// The room that is enough.
+    fn room(&self) -> Room
+        ensures { result ≡ (state self.now).room };
+}
+
+// The room that is enough for the text of what is pending and of `n` more bytes.
+fn room_for<D: PieceDecoder>(decoder: &D, count: Count, n: usize) -> Option<usize>
+    ensures { result ≡ queried (D.state decoder.now).room count ((D.state decoder.now).pending + n) }
+{
+    decoder.room().query(count, decoder.held_len(), n)
 }
 
 impl<D: PieceDecoder> RawDecoder for D {
@@ -59,6 +73,18 @@ impl<D: PieceDecoder> RawDecoder for D {
         let (outcome, read) = self.decode_into(src, &mut sink, last);
         let written = sink.written();
         (outcome, read, written)
+    }
+
+    fn max_utf16_buffer_length(&self, n: usize) -> Option<usize> {
+        room_for(self, Count::Units, n)
+    }
+
+    fn max_utf8_buffer_length_without_replacement(&self, n: usize) -> Option<usize> {
+        room_for(self, Count::Bytes, n)
+    }
+
+    fn max_utf8_buffer_length(&self, n: usize) -> Option<usize> {
+        room_for(self, Count::Replaced, n)
     }
 
     fn pending_len(&self) -> usize {
@@ -97,7 +123,7 @@ impl<F: FrontPiece> Buffered<F> {
 
 impl<F: FrontPiece> PieceDecoder for Buffered<F> {
     ghost state = { λ d. buffered (F.pieces d.rule) (F.whole d.rule) (F.are_pieces d.rule)
-        (F.bytes_for d.rule) (F.units_for d.rule) d.pending };
+        (F.needs d.rule) (F.limits d.rule) (F.covers d.rule) d.pending };
 
     fn decode_into<S: Sink>(
         &mut self,
@@ -110,5 +136,9 @@ impl<F: FrontPiece> PieceDecoder for Buffered<F> {
 
     fn held_len(&self) -> usize {
         self.pending.len()
+    }
+
+    fn room(&self) -> Room {
+        self.rule.room()
     }
 }

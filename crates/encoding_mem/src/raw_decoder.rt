@@ -1,6 +1,9 @@
-ghost use Rattle.std.specs.Prelude.{◌≢◌, ◌≡◌, ℕ, ◌≤◌, length, drop, encode_utf8_all};
+ghost use Rattle.std.specs.Prelude.{◌≢◌, ◌≡◌, ℕ, ◌+◌, ◌-◌, ◌≤◌, true, false, length, drop, encode_utf8_all};
 ghost use Rattle.encoding_mem.specs.Writing.{Adds, encode_utf16_all};
 ghost use Rattle.encoding_mem.specs.Decoding.{DecoderState, StateLaw, EndsWith};
+ghost use Rattle.encoding_mem.specs.Driver.{Suffices};
+ghost use Rattle.encoding_mem.specs.Room.{room_of, queried};
+ghost use Rattle.encoding_mem.specs.declared.room.Count.TheVariants.{Units, Bytes, Replaced};
 
 use crate::decoder_result::DecoderResult;
 
@@ -20,7 +23,11 @@ pub trait RawDecoder {
     ) -> (DecoderResult, usize, usize)
         ensures law { StateLaw (state self.old) (state self.new) src.now last result.1 (λ text. Adds dst.old 0 (encode_utf8_all text) dst.new result.2) result.0 }
         ensures ends { EndsWith (state self.new) (drop result.1 src.now) last (length (drop result.2 dst.new)) 4 3 result.0 }
-        ensures enough { (state self.old).bytes_for (length src.now) ≤ length dst.old → result.0 ≢ DecoderResult.OutputFull };
+        ensures enough { room_of (state self.old).room Bytes ((state self.old).pending + length src.now) ≤ length dst.old
+            → result.0 ≢ DecoderResult.OutputFull }
+        ensures leaves { Suffices (state self.old).needs (state self.new).needs false last (length src.now)
+            (length src.now - result.1) (length dst.old) (length (drop result.2 dst.new)) result.0 }
+        ensures limits { (state self.new).room ≡ (state self.old).room };
 
     /// Decodes bytes to UTF-16. Answers how the call ended, the bytes read and the units written.
     fn decode_to_utf16_raw(
@@ -31,7 +38,26 @@ pub trait RawDecoder {
     ) -> (DecoderResult, usize, usize)
         ensures law { StateLaw (state self.old) (state self.new) src.now last result.1 (λ text. Adds dst.old 0 (encode_utf16_all text) dst.new result.2) result.0 }
         ensures ends { EndsWith (state self.new) (drop result.1 src.now) last (length (drop result.2 dst.new)) 2 1 result.0 }
-        ensures enough { (state self.old).units_for (length src.now) ≤ length dst.old → result.0 ≢ DecoderResult.OutputFull };
+        ensures enough { room_of (state self.old).room Units ((state self.old).pending + length src.now) ≤ length dst.old
+            → result.0 ≢ DecoderResult.OutputFull }
+        ensures leaves { Suffices (state self.old).needs (state self.new).needs true last (length src.now)
+            (length src.now - result.1) (length dst.old) (length (drop result.2 dst.new)) result.0 }
+        ensures limits { (state self.new).room ≡ (state self.old).room };
+
+    /// How many units are room enough for the text of `n` more bytes; none where that passes a `usize`. So
+    /// much room is also enough where each bad piece is written as U+FFFD.
+    fn max_utf16_buffer_length(&self, n: usize) -> Option<usize>
+        ensures { result ≡ queried (state self.now).room Units ((state self.now).pending + n) };
+
+    /// How many bytes are room enough for the text of `n` more bytes up to the first bad piece, and for a
+    /// U+FFFD; none where that passes a `usize`.
+    fn max_utf8_buffer_length_without_replacement(&self, n: usize) -> Option<usize>
+        ensures { result ≡ queried (state self.now).room Bytes ((state self.now).pending + n) };
+
+    /// How many bytes are room enough for the text of `n` more bytes, with U+FFFD for each bad piece; none
+    /// where that passes a `usize`.
+    fn max_utf8_buffer_length(&self, n: usize) -> Option<usize>
+        ensures { result ≡ queried (state self.now).room Replaced ((state self.now).pending + n) };
 
     /// How many bytes are read whose piece is not decided.
     fn pending_len(&self) -> usize

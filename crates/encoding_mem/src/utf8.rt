@@ -1,9 +1,11 @@
+ghost use Rattle.std.proofs.Common.{refl, arith};
 ghost use Rattle.std.specs.Prelude.{◌+◌, ◌*◌, ◌≡◌, ℕ, ◌<◌, ◌≤◌, ◌==◌, ◌↔◌, IsTrue, List, [], length, take, min, if◌then◌else◌};
 ghost use Rattle.std.specs.Int.{IsInRange, is_in_range};
 ghost use Rattle.std.specs.Char.{InScalarRange};
 ghost use Rattle.std.specs.Str.{IsUtf8};
 ghost use Rattle.std.specs.Str.Lossy.{utf8_valid_len};
 ghost use Rattle.encoding_mem.specs.FrontPiece.{IsShort};
+ghost use Rattle.encoding_mem.specs.Room.{room_of, room_utf8};
 ghost use Rattle.encoding_mem.specs.PiecesLaws.{pieces_by-nil, pieces_by-whole, pieces_by-are_pieces};
 ghost use Rattle.encoding_mem.specs.Utf8.{front_utf8, pieces_utf8, scalar_of_two, scalar_of_three, scalar_of_four, second_min, second_max};
 ghost use Rattle.encoding_mem.specs.Utf8Decide.{decide_utf8, decide_lead, decide_two, decide_three, cut_short};
@@ -13,6 +15,7 @@ use crate::decoder_result::DecoderResult;
 use crate::front::{Front, FrontPiece};
 use crate::piece_decoder::{Buffered, PieceDecoder};
 use crate::raw_decoder::RawDecoder;
+use crate::room::Room;
 use crate::sink::Sink;
 
 /// The rule of UTF-8.
@@ -28,11 +31,15 @@ impl FrontPiece for Utf8Front {
 
     ghost ends = { λ _. pieces_by-nil front_utf8 };
 
-    ghost bytes_for = { λ _ m. m + 3 };
+    ghost needs = { λ _. room_of room_utf8 };
 
-    ghost units_for = { λ _ m. m + 1 };
+    ghost limits = { λ _. room_utf8 };
+
+    ghost covers = { λ _ _ _. omega arith };
 
     ghost after = { λ s _. s };
+
+    ghost steady = { λ _ _. refl };
 
     fn front(&self, bytes: &[u8], last: bool) -> Front {
         decide(bytes, last)
@@ -44,6 +51,10 @@ impl FrontPiece for Utf8Front {
 
     fn text_at<'b>(&self, bytes: &'b [u8]) -> &'b str {
         text_front(bytes)
+    }
+
+    fn room(&self) -> Room {
+        Room::utf8()
     }
 }
 
@@ -252,12 +263,11 @@ pub struct Utf8Decoder {
 }
 
 impl Utf8Decoder {
-    /// Nothing is pending. The room that is enough for any `m` bytes is `m + 3` bytes, or `m + 1` units.
+    /// Nothing is pending.
     pub fn new() -> Self
         ensures pending { (⟦<Utf8Decoder as RawDecoder>⟧.state result).pending ≡ 0 }
         ensures pieces { (⟦<Utf8Decoder as RawDecoder>⟧.state result).pieces ≡ pieces_utf8 }
-        ensures bytes { (m : ℕ) → (⟦<Utf8Decoder as RawDecoder>⟧.state result).bytes_for m ≡ m + 3 }
-        ensures units { (m : ℕ) → (⟦<Utf8Decoder as RawDecoder>⟧.state result).units_for m ≡ m + 1 }
+        ensures room { (⟦<Utf8Decoder as RawDecoder>⟧.state result).room ≡ room_utf8 }
     {
         Utf8Decoder {
             inner: Buffered::new(Utf8Front {}),
@@ -286,5 +296,9 @@ impl PieceDecoder for Utf8Decoder {
 
     fn held_len(&self) -> usize {
         self.inner.held_len()
+    }
+
+    fn room(&self) -> Room {
+        self.inner.room()
     }
 }

@@ -41,8 +41,3 @@ latin1_up_to flat scalars bytes (Some n) e =
           let b = get_or bytes n 0 in
           another b (char_of_byte flat b) (not-true _ found.1) (sym (alone flat scalars b) ∙ same);
     }
-
--- of a decoder with nothing pending
-pub with_nothing_pending : (pieces : List ℕ → List Piece) (pending bytes : List ℕ) (n : ℕ) → length pending ≡ 0 → IsLatin1UpTo pieces bytes n → IsLatin1UpTo (λ x. pieces (pending ++ x)) bytes n
-with_nothing_pending pieces [] bytes n none h = h
-with_nothing_pending pieces (b ∷ x) bytes n none h = absurd (omega (arith, none))

@@ -9,7 +9,7 @@ use Rattle.encoding_mem.specs.StatelessLaws.{stateless_laws, short_one, short_no
 use Rattle.encoding_mem.specs.Piece.{good, size_of, Cuts}
 use Rattle.encoding_mem.specs.PiecesLaws.{CutsEach, pieces_by-cons}
 use Rattle.encoding_mem.specs.Utf8Laws.{cuts_bad, cuts_one}
-use Rattle.encoding_mem.specs.FrontPiece.{IsFront, IsRoomy}
+use Rattle.encoding_mem.specs.FrontPiece.{IsFront, IsBasic}
 use Rattle.encoding_mem.specs.Shows.{Shows, shows_front}
 use Rattle.encoding_mem.specs.Writing.{len_utf16}
 use Rattle.encoding_mem.specs.declared.front.Front.{Front}
@@ -71,20 +71,10 @@ single_byte_front flat scalars [] last some = absurd (omega (arith, some))
 single_byte_front flat scalars (b ∷ x) last some =
     shows_front (front_single_byte flat) (cuts_single_byte flat scalars) (b ∷ x) last _ some (shows_byte flat b x last (char_of_byte flat b) refl)
 
--- three bytes, or one unit, are room for the character of a byte
-len_utf8_basic : (c : ℕ) → c < 0x10000 → len_utf8 c ≤ 3
-len_utf8_basic c basic = grind (arith, nat_tests)
-
-len_utf16_basic : (c : ℕ) → c < 0x10000 → len_utf16 c ≤ 1
-len_utf16_basic c basic = grind (arith, nat_tests)
-
-pub single_byte_bytes : (o : Option ℕ) → IfSome o (λ c. c < 0x10000) → IsRoomy (λ m. 3 * m) (λ m. 3 * m) len_utf8 3 4 (front_of_byte o)
-single_byte_bytes None basic = λ m. omega arith
-single_byte_bytes (Some c) basic = λ m. omega (arith, len_utf8_basic c basic)
-
-pub single_byte_units : (o : Option ℕ) → IfSome o (λ c. c < 0x10000) → IsRoomy (λ m. m) (λ m. m) len_utf16 1 2 (front_of_byte o)
-single_byte_units None basic = λ m. omega arith
-single_byte_units (Some c) basic = λ m. omega (arith, len_utf16_basic c basic)
+-- one scalar of the basic plane, or a bad byte
+pub basic_front : (o : Option ℕ) → IfSome o (λ c. c < 0x10000) → IsBasic (front_of_byte o)
+basic_front None basic = lit< tt
+basic_front (Some c) basic = (basic, lit< tt)
 
 -- a target of one byte a character
 short_form : (c : ℕ) (o : Option ℕ) → IsShort 1 (form_of_byte c o)

@@ -1,8 +1,11 @@
 // The decoder of the single-byte encodings (the Encoding Standard, section 9.1, "single-byte decoder").
 
-ghost use Rattle.std.specs.Prelude.{◌≡◌, ℕ, ◌*◌, ◌<◌, not, true};
+ghost use Rattle.std.proofs.Common.{refl, arith};
+ghost use Rattle.std.specs.Prelude.{◌≡◌, ℕ, ◌<◌, not, true};
 ghost use Rattle.std.specs.List.{position};
 ghost use Rattle.encoding_mem.specs.PiecesLaws.{pieces_by-nil, pieces_by-whole, pieces_by-are_pieces};
+ghost use Rattle.encoding_mem.specs.Room.{room_of, room_single_byte};
+ghost use Rattle.encoding_mem.specs.Shows.{decided_by};
 ghost use Rattle.encoding_tables.specs.IndexLists.{has, entries_of};
 ghost use Rattle.encoding_tables.specs.Kinds.{is_single_byte};
 ghost use Rattle.encoding_tables.specs.Lookups.{AreEntries};
@@ -13,8 +16,10 @@ use crate::flat::Flat;
 use crate::index_kind::IndexKind;
 use crate::tables::Tables;
 use encoding_mem::ascii::ascii_front;
+use encoding_mem::bytewise::{Bytewise, DecidedPiece};
 use encoding_mem::front::{Front, FrontPiece};
-use encoding_mem::piece_decoder::{Buffered, PieceDecoder};
+use encoding_mem::piece_decoder::PieceDecoder;
+use encoding_mem::room::Room;
 use encoding_mem::sink::Sink;
 use encoding_mem::{DecoderResult, RawDecoder};
 
@@ -75,11 +80,15 @@ impl<'a> FrontPiece for SingleByteRule<'a> {
 
     ghost ends = { λ s. pieces_by-nil (front_single_byte s.flat) };
 
-    ghost bytes_for = { λ _ m. 3 * m };
+    ghost needs = { λ _. room_of room_single_byte };
 
-    ghost units_for = { λ _ m. m };
+    ghost limits = { λ _. room_single_byte };
+
+    ghost covers = { λ _ _ _. omega arith };
 
     ghost after = { λ s _. s };
+
+    ghost steady = { λ _ _. refl };
 
     fn front(&self, bytes: &[u8], last: bool) -> Front {
         let _ = last;
@@ -93,6 +102,14 @@ impl<'a> FrontPiece for SingleByteRule<'a> {
     fn text_at<'b>(&self, bytes: &'b [u8]) -> &'b str {
         ascii_front(bytes)
     }
+
+    fn room(&self) -> Room {
+        Room::single_byte()
+    }
+}
+
+impl<'a> DecidedPiece for SingleByteRule<'a> {
+    ghost decided = { λ s. decided_by (front_single_byte s.flat) (cuts_single_byte s.flat s.scalars) (λ _ _ _. refl) };
 }
 
 // The piece of a byte, by its character: a byte that has none is bad.
@@ -109,22 +126,20 @@ fn front_of(c: Option<char>) -> Front
 /// pointer that is the byte less 80, and one without an entry is bad.
 #[derive(Drop)]
 pub struct SingleByteDecoder<'a> {
-    inner: Buffered<SingleByteRule<'a>>,
+    inner: Bytewise<SingleByteRule<'a>>,
 }
 
 impl<'a> SingleByteDecoder<'a> {
-    /// The decoder of a kind that is there and is a single-byte one. Nothing is pending. The room that is
-    /// enough for any `m` bytes is `3 * m` bytes, or `m` units.
+    /// The decoder of a kind that is there and is a single-byte one. Nothing is ever pending.
     pub fn new(tables: &'a Tables, kind: IndexKind) -> Self
         requires there { has tables.now kind ≡ true }
         requires single { is_single_byte kind ≡ true }
         ensures pending { (⟦<SingleByteDecoder<'a> as RawDecoder>⟧.state result).pending ≡ 0 }
         ensures pieces { (⟦<SingleByteDecoder<'a> as RawDecoder>⟧.state result).pieces ≡ pieces_single_byte (entries_of tables.now kind) }
-        ensures bytes { (m : ℕ) → (⟦<SingleByteDecoder<'a> as RawDecoder>⟧.state result).bytes_for m ≡ 3 * m }
-        ensures units { (m : ℕ) → (⟦<SingleByteDecoder<'a> as RawDecoder>⟧.state result).units_for m ≡ m }
+        ensures room { (⟦<SingleByteDecoder<'a> as RawDecoder>⟧.state result).room ≡ room_single_byte }
     {
         SingleByteDecoder {
-            inner: Buffered::new(SingleByteRule {
+            inner: Bytewise::new(SingleByteRule {
                 flat: tables.single_byte(kind),
             }),
         }
@@ -133,15 +148,14 @@ impl<'a> SingleByteDecoder<'a> {
     /// The place of the first byte whose character has another number than the byte, or that is bad; the
     /// length where there is none. Up to there the bytes are their characters in Latin1.
     pub fn latin1_byte_compatible_up_to(&self, bytes: &[u8]) -> usize
-        ensures { (⟦<SingleByteDecoder<'a> as RawDecoder>⟧.state self.now).pending ≡ 0
-            → IsLatin1UpTo (⟦<SingleByteDecoder<'a> as RawDecoder>⟧.state self.now).pieces bytes.now result }
+        ensures { IsLatin1UpTo (⟦<SingleByteDecoder<'a> as RawDecoder>⟧.state self.now).pieces bytes.now result }
     {
         self.inner.rule().latin1_len(bytes)
     }
 }
 
 impl<'a> PieceDecoder for SingleByteDecoder<'a> {
-    ghost state = { λ d. ⟦<Buffered<SingleByteRule<'a>> as PieceDecoder>⟧.state d.inner };
+    ghost state = { λ d. ⟦<Bytewise<SingleByteRule<'a>> as PieceDecoder>⟧.state d.inner };
 
     fn decode_into<S: Sink>(
         &mut self,
@@ -154,5 +168,9 @@ impl<'a> PieceDecoder for SingleByteDecoder<'a> {
 
     fn held_len(&self) -> usize {
         self.inner.held_len()
+    }
+
+    fn room(&self) -> Room {
+        self.inner.room()
     }
 }

@@ -1,7 +1,8 @@
-use Rattle.std.proofs.Common.{◌≡◌, ℕ, ◌+◌, ◌-◌, List, [], ◌++◌, Option, length, take, drop, subst, ap, length-drop, ◌∙◌}
+use Rattle.std.proofs.Common.{◌≡◌, ℕ, ◌+◌, ◌-◌, List, [], ◌++◌, Option, length, take, drop, subst, ap, length-drop, ◌∙◌, arith}
 use Rattle.std.proofs.lemmas.List.{take_rest}
 use Rattle.encoding_mem.specs.Decoding.{Takes, Reports}
-use Rattle.encoding_mem.specs.Driver.{PartEnds, room_for}
+use Rattle.encoding_mem.specs.Driver.{PartEnds, Suffices}
+use Rattle.encoding_mem.specs.declared.room.Count.{Count}
 use Rattle.encoding_mem.specs.declared.decoder_result.DecoderResult.{DecoderResult}
 use Rattle.encoding_mem.proofs.Progress.{takes_then, part_good, suffices_then, part_suffices}
 use Rattle.encoding_mem.proofs.driver.decode.Goals as goal
@@ -22,10 +23,13 @@ returns-clause-enough g c =
     let first = c.finish_pending-ended in
     let second = c.decode_source-outcome in
     let none : first.new.pending ≡ [] = subst (λ (o : Option DecoderResult). PartEnds (g.F.FrontPiece.pieces first.new.codec) first.new.pending (drop first.result.1 c.args.src.now) c.args.last (g.S.Sink.free first.new.sink) g.S.Sink.room (g.S.Sink.cost 0xFFFD) o) c.in_default.is first.ensures.ends in
-    let need = room_for g.S.Sink.is_units (g.F.FrontPiece.units_for first.new.codec) (g.F.FrontPiece.bytes_for first.new.codec) in
-    let before = λ (k : ℕ). room_for g.S.Sink.is_units (g.F.FrontPiece.units_for c.args.codec.now) (g.F.FrontPiece.bytes_for c.args.codec.now) (length c.args.pending.now + k) in
-    let after = λ (k : ℕ). room_for g.S.Sink.is_units (g.F.FrontPiece.units_for second.new.codec) (g.F.FrontPiece.bytes_for second.new.codec) (length second.new.pending + k) in
+    let need = g.F.FrontPiece.needs first.new.codec in
+    let before = λ (k : Count) (n : ℕ). g.F.FrontPiece.needs c.args.codec.now k (length c.args.pending.now + n) in
+    let after = λ (k : Count) (n : ℕ). g.F.FrontPiece.needs second.new.codec k (length second.new.pending + n) in
     let size : ℕ = length c.args.src.now in
     let left : ℕ = length (take (size - first.result.1) (drop first.result.1 c.args.src.now)) in
-    suffices_then second.result.0 before need after size left (g.S.Sink.free c.args.sink.now) (g.S.Sink.free first.new.sink) (g.S.Sink.free second.new.sink)
-    (part_suffices first.result.0 before need size (size - first.result.1) left (g.S.Sink.free c.args.sink.now) (g.S.Sink.free first.new.sink) first.new.pending c.in_default.is none (ap length (take_rest c.args.src.now first.result.1) ∙ length-drop first.result.1 c.args.src.now) first.ensures.enough) second.ensures.enough
+    let left_is : left ≡ size - first.result.1 = ap length (take_rest c.args.src.now first.result.1) ∙ length-drop first.result.1 c.args.src.now in
+    let unread_is : left - second.result.1 ≡ size - (first.result.1 + second.result.1) = omega (arith, left_is) in
+    subst (λ (u : ℕ). Suffices before after g.S.Sink.is_units c.args.last size u (g.S.Sink.free c.args.sink.now) (g.S.Sink.free second.new.sink) second.result.0) unread_is
+    (suffices_then second.result.0 before need after g.S.Sink.is_units c.args.last size left (left - second.result.1) (g.S.Sink.free c.args.sink.now) (g.S.Sink.free first.new.sink) (g.S.Sink.free second.new.sink)
+    (part_suffices first.result.0 before need g.S.Sink.is_units c.args.last size (size - first.result.1) left (g.S.Sink.free c.args.sink.now) (g.S.Sink.free first.new.sink) first.new.pending c.in_default.is none left_is first.ensures.enough) second.ensures.enough)

@@ -1,12 +1,12 @@
-use Rattle.std.proofs.Common.{◌≡◌, ℕ, ◌+◌, ◌-◌, ◌≤◌, List, length, drop, length-drop, refl, subst, ap, arith}
+use Rattle.std.proofs.Common.{◌≡◌, ℕ, ◌+◌, ◌-◌, ◌≤◌, List, length, take, drop, length-drop, refl, subst, ap, ◌∙◌, arith}
 use Rattle.std.proofs.lemmas.List.{take_rest, append-nil}
 use Rattle.encoding_mem.specs.Piece.{bad, AreGood, scalars_of}
 use Rattle.encoding_mem.specs.PieceLaws.{AreGood-last}
 use Rattle.encoding_mem.specs.Decoding.{Reports}
-use Rattle.encoding_mem.specs.Driver.{room_for}
+use Rattle.encoding_mem.specs.Room.{is_units}
 use Rattle.encoding_mem.specs.Text.{text_len}
 use Rattle.encoding_mem.specs.declared.decoder_result.DecoderResult.TheVariants.{Malformed}
-use Rattle.encoding_mem.proofs.Room.{text_room, enough_left}
+use Rattle.encoding_mem.proofs.EnoughRoom.{enough_left}
 use Rattle.encoding_mem.proofs.Progress.{took_source, took_text, text_fits, none_pending}
 use Rattle.encoding_mem.proofs.driver.decode_source.Goals as goal
 
@@ -18,14 +18,15 @@ pieces-preserved-then-not-is_empty g c =
     let fits : length text ≤ length c.args.src.now - c.pieces.read = text_fits c.args.src.now _ _ text c.pieces.read _ (take_rest c.args.src.now c.pieces.read) refl e.front in
     record {
       none = i.none;
-      enough = λ extra h. (
-          let need : ℕ → ℕ = room_for g.S.Sink.is_units (g.F.FrontPiece.units_for c.pieces.codec) (g.F.FrontPiece.bytes_for c.pieces.codec) in
-          let k : ℕ = (length c.args.src.now - (c.pieces.read + length text)) + extra in
+      limits = i.limits;
+      enough = λ k extra units stops h. (
+          let need : ℕ → ℕ = g.F.FrontPiece.needs c.pieces.codec k in
+          let rest : ℕ = (length c.args.src.now - (c.pieces.read + length text)) + extra in
           let all : ℕ = (length c.args.src.now - c.pieces.read) + extra in
-          let sum_is : length text + k ≡ all = omega (arith, fits) in
-          let P : ℕ → Type 0 = λ x. text_len g.S.Sink.is_units text + need k ≤ need x in
-          let less : text_len g.S.Sink.is_units text + need k ≤ need all = subst P sum_is (text_room g.S.Sink.is_units (g.F.FrontPiece.units_for c.pieces.codec) (g.F.FrontPiece.bytes_for c.pieces.codec) text k e.units e.bytes) in
-          enough_left (text_len g.S.Sink.is_units text) (need k) (need all) (g.S.Sink.free c.pieces.sink) (g.S.Sink.free c.put_text.new.self) less (i.enough extra h) c.put_text.ensures.free);
+          let sum_is : length text + rest ≡ all = omega (arith, fits) in
+          let len_is : text_len (is_units k) text ≡ text_len g.S.Sink.is_units text = ap (λ t. text_len t text) units in
+          let less : text_len (is_units k) text + need rest ≤ need all = subst (λ (x : ℕ). text_len (is_units k) text + need rest ≤ need x) sum_is (e.room k rest) in
+          enough_left (text_len g.S.Sink.is_units text) (need rest) (need all) (g.S.Sink.free c.pieces.sink) (g.S.Sink.free c.put_text.new.self) (omega (arith, less, len_is)) (i.enough k extra units stops h) c.put_text.ensures.free);
       takes = took_text _ (g.F.FrontPiece.pieces c.pieces.codec) c.args.src.now _ _ text c.args.last _ c.pieces.read _ (λ t. g.S.Sink.writes c.args.sink.now t c.pieces.sink) (λ t. g.S.Sink.writes c.args.sink.now t c.put_text.new.self) (take_rest c.args.src.now c.pieces.read) refl e.front c.text_at-text.utf8 e.pieces (λ t w. g.met.S.Sink.writes_more _ _ _ t _ w c.put_text.ensures.writes) i.takes;
     }
 
@@ -35,13 +36,14 @@ pieces-preserved g c =
     let i = c.pieces.invariant in
     record {
       none = i.none;
-      enough = λ extra h. (
+      limits = c.take_piece.ensures.limits ∙ i.limits;
+      enough = λ k extra units stops h. (
           let m : ℕ = (length c.args.src.now - c.pieces.read) + extra in
           let rest_len : length (drop c.pieces.read c.args.src.now) ≡ length c.args.src.now - c.pieces.read = length-drop c.pieces.read c.args.src.now in
-          let fits : c.in-Took.n ≤ length c.args.src.now - c.pieces.read = omega (arith, s.2, s.3.within, ap length (take_rest c.args.src.now c.pieces.read), rest_len) in
+          let window : length (take (length c.args.src.now - c.pieces.read) (drop c.pieces.read c.args.src.now)) ≡ length c.args.src.now - c.pieces.read = ap length (take_rest c.args.src.now c.pieces.read) ∙ rest_len in
+          let fits : c.in-Took.n ≤ length c.args.src.now - c.pieces.read = omega (arith, s.2, s.3.within, window) in
           let e : m - c.in-Took.n ≡ (length c.args.src.now - (c.pieces.read + c.in-Took.n)) + extra = omega (arith, fits) in
-          let P : ℕ → Type 0 = λ x. room_for g.S.Sink.is_units (g.F.FrontPiece.units_for c.take_piece.new.codec) (g.F.FrontPiece.bytes_for c.take_piece.new.codec) x ≤ g.S.Sink.free c.take_piece.new.sink in
-          subst P e (c.in-Took.ensures.room m (omega (arith, fits)) (i.enough extra h)));
+          subst (λ (x : ℕ). g.F.FrontPiece.needs c.take_piece.new.codec k x ≤ g.S.Sink.free c.take_piece.new.sink) e (c.in-Took.ensures.room k m units (omega (arith, window)) (λ l. omega (arith, window, stops l)) (i.enough k extra units stops h)));
       takes = took_source AreGood _ (g.F.FrontPiece.pieces c.pieces.codec) (g.F.FrontPiece.pieces c.take_piece.new.codec) c.args.src.now _ c.args.last _ c.pieces.read (λ t. g.S.Sink.writes c.args.sink.now t c.pieces.sink) (λ t. g.S.Sink.writes c.args.sink.now t c.take_piece.new.sink) s.0 c.in-Took.n s.2 (take_rest c.args.src.now c.pieces.read) i.takes s.3 (λ ps a. AreGood-last ps s.0 a s.1) (λ t w. g.met.S.Sink.writes_more _ _ _ t (scalars_of s.0) w s.4);
     }
 

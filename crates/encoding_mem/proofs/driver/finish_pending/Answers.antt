@@ -4,7 +4,6 @@ use Rattle.std.proofs.lemmas.List.{append-nil}
 use Rattle.encoding_mem.specs.Piece.{bad, AreGood, scalars_of}
 use Rattle.encoding_mem.specs.PieceLaws.{AreGood-last}
 use Rattle.encoding_mem.specs.Decoding.{Reports}
-use Rattle.encoding_mem.specs.Driver.{room_for}
 use Rattle.encoding_mem.specs.declared.decoder_result.DecoderResult.TheVariants.{Malformed}
 use Rattle.encoding_mem.proofs.Progress.{took_pending_of, near_few, left_few}
 use Rattle.encoding_mem.proofs.driver.finish_pending.Goals as goal
@@ -15,12 +14,14 @@ pieces-preserved g c =
     let s = c.in-Took.ensures.step in
     let ends : IsTrue c.if-last.take_piece → IsTrue c.args.last × (length c.args.src.now ≤ c.pieces.read) = λ t. elim c.if-last.branch [ then-last w ↦ (w.if-last.true, let same : c.pieces.read ≡ length c.args.src.now = eqb-true _ _ (sym w.take_piece-is ∙ t) in omega (arith, same)) | else-last w ↦ (let no : ⊥ = cc in absurd no) ] in
     record {
-      enough = λ extra h. (
+      limits = c.take_piece.ensures.limits ∙ c.pieces.invariant.limits;
+      enough = λ k extra units stops h. (
           let m : ℕ = length c.pieces.pending + ((length c.args.src.now - c.pieces.read) + extra) in
-          let fits : c.in-Took.n ≤ length c.pieces.pending = omega (arith, s.2, s.3.within, ap length c.as_slice.ensures) in
+          let window : length c.as_slice.result.now ≡ length c.pieces.pending = ap length c.as_slice.ensures in
+          let fits : c.in-Took.n ≤ length c.pieces.pending = omega (arith, s.2, s.3.within, window) in
+          let whole : IsTrue c.if-last.take_piece → m ≡ length c.as_slice.result.now = λ t. omega (arith, window, stops (ends t).0, (ends t).1) in
           let e : m - c.in-Took.n ≡ length c.remove_front.new.self + ((length c.args.src.now - c.pieces.read) + extra) = omega (arith, fits, ap length c.remove_front.ensures, length-drop c.in-Took.n c.pieces.pending) in
-          let P : ℕ → Type 0 = λ x. room_for g.S.Sink.is_units (g.F.FrontPiece.units_for c.take_piece.new.codec) (g.F.FrontPiece.bytes_for c.take_piece.new.codec) x ≤ g.S.Sink.free c.take_piece.new.sink in
-          subst P e (c.in-Took.ensures.room m (omega (arith, fits)) (c.pieces.invariant.enough extra h)));
+          subst (λ (x : ℕ). g.F.FrontPiece.needs c.take_piece.new.codec k x ≤ g.S.Sink.free c.take_piece.new.sink) e (c.in-Took.ensures.room k m units (omega (arith, window)) whole (c.pieces.invariant.enough k extra units stops h)));
       near = near_few (g.F.FrontPiece.pieces c.take_piece.new.codec) c.remove_front.new.self (left_few (g.F.FrontPiece.pieces c.pieces.codec) (g.F.FrontPiece.pieces c.take_piece.new.codec) c.as_slice.result.now c.pieces.pending _ c.if-last.take_piece s.0 c.in-Took.n s.2 c.as_slice.ensures c.remove_front.ensures c.pieces.invariant.near s.3);
       short = omega (arith, c.pieces.invariant.short, ap length c.remove_front.ensures, length-drop c.in-Took.n c.pieces.pending);
       takes = took_pending_of (λ _. AreGood) _ (g.F.FrontPiece.pieces c.pieces.codec) (g.F.FrontPiece.pieces c.take_piece.new.codec) c.args.src.now c.as_slice.result.now c.args.last c.if-last.take_piece _ c.pieces.pending c.remove_front.new.self c.pieces.read (λ t. g.S.Sink.writes c.args.sink.now t c.pieces.sink) (λ t. g.S.Sink.writes c.args.sink.now t c.take_piece.new.sink) s.0 c.in-Took.n s.2 c.as_slice.ensures c.remove_front.ensures ends c.pieces.invariant.takes s.3 (λ ps a. AreGood-last ps s.0 a s.1) (λ t w. g.met.S.Sink.writes_more _ _ _ t (scalars_of s.0) w s.4);

@@ -1,8 +1,7 @@
-use Rattle.std.proofs.Common.{◌≤◌, false, IsTrue, [], ◌∷◌, refl, arith}
-use Rattle.std.specs.Char.{len_utf8}
-use Rattle.encoding_mem.specs.Writing.{len_utf16}
+use Rattle.std.proofs.Common.{◌≤◌, false, IsTrue, [], ◌∷◌, length, refl, arith}
 use Rattle.encoding_mem.specs.Piece.{good}
-use Rattle.encoding_mem.proofs.Room.{has_room}
+use Rattle.encoding_mem.specs.Room.{goes_on, cost_in, mark_in, two_in}
+use Rattle.encoding_mem.proofs.EnoughRoom.{has_room, mark_first}
 use Rattle.encoding_mem.proofs.driver.take_piece.Goals as goal
 
 pub returns-else-not-has_room-clause-step : goal.returns-else-not-has_room-clause-step
@@ -15,19 +14,19 @@ returns-else-not-has_room-clause-step g c = (
 )
 
 pub returns-then-not-fits-clause-room : goal.returns-then-not-fits-clause-room
-returns-then-not-fits-clause-room g c m fits h =
+returns-then-not-fits-clause-room g c k m units window whole h =
     let e = c.in-One.ensures in
-    let k : g.S.Sink.cost c.in-One.c ≤ g.S.Sink.free c.args.sink.now = has_room g.S.Sink.is_units (g.F.FrontPiece.units_for c.args.codec.now) (g.F.FrontPiece.bytes_for c.args.codec.now) (g.S.Sink.cost c.in-One.c) (len_utf16 c.in-One.c) (len_utf8 c.in-One.c) c.in-One.n m (g.S.Sink.free c.args.sink.now) (g.met.S.Sink.cost_is c.in-One.c) (λ k. omega (arith, e.units k)) (λ k. omega (arith, e.bytes k)) (omega (arith, e.piece.within, fits)) h in
-    let no : IsTrue false = c.if-not-fits.ensures.1 k in cc
+    let fits : cost_in g.S.Sink.is_units c.in-One.c ≤ g.S.Sink.free c.args.sink.now = has_room (g.F.FrontPiece.needs c.args.codec.now) (λ t. cost_in t c.in-One.c) c.in-One.n (length c.args.bytes.now) m (g.S.Sink.free c.args.sink.now) c.args.last g.S.Sink.is_units k units e.piece.within window whole (λ j l. omega (arith, e.room k j l)) h in
+    let no : IsTrue false = c.if-not-fits.ensures.1 (omega (arith, g.met.S.Sink.cost_is c.in-One.c, fits)) in cc
 
 pub returns-then-not-has_room-clause-room : goal.returns-then-not-has_room-clause-room
-returns-then-not-has_room-clause-room g c m fits h =
+returns-then-not-has_room-clause-room g c k m units window whole h =
     let e = c.in-Two.ensures in
-    let k : g.S.Sink.room ≤ g.S.Sink.free c.args.sink.now = has_room g.S.Sink.is_units (g.F.FrontPiece.units_for c.args.codec.now) (g.F.FrontPiece.bytes_for c.args.codec.now) g.S.Sink.room 2 4 c.in-Two.n m (g.S.Sink.free c.args.sink.now) g.met.S.Sink.room_is (λ k. (e.units k).0) (λ k. (e.bytes k).0) (omega (arith, e.piece.0.within, fits)) h in
-    let no : IsTrue false = c.if-not-has_room.ensures.1 k in cc
+    let fits : two_in g.S.Sink.is_units ≤ g.S.Sink.free c.args.sink.now = has_room (g.F.FrontPiece.needs c.args.codec.now) two_in c.in-Two.n (length c.args.bytes.now) m (g.S.Sink.free c.args.sink.now) c.args.last g.S.Sink.is_units k units e.piece.0.within window whole (λ j l. (e.room k j l).0) h in
+    let no : IsTrue false = c.if-not-has_room.ensures.1 (omega (arith, g.met.S.Sink.room_is, fits)) in cc
 
 pub returns-then-not-fits-2-clause-room : goal.returns-then-not-fits-2-clause-room
-returns-then-not-fits-2-clause-room g c m fits h =
+returns-then-not-fits-2-clause-room g c k m units window whole h =
     let e = c.in-Bad.ensures in
-    let k : g.S.Sink.cost 0xFFFD ≤ g.S.Sink.free c.args.sink.now = has_room g.S.Sink.is_units (g.F.FrontPiece.units_for c.args.codec.now) (g.F.FrontPiece.bytes_for c.args.codec.now) (g.S.Sink.cost 0xFFFD) 1 3 c.in-Bad.n m (g.S.Sink.free c.args.sink.now) (g.met.S.Sink.cost_is 0xFFFD) (λ k. e.units k) (λ k. e.bytes k) (omega (arith, e.piece.0.within, fits)) h in
-    let no : IsTrue false = c.if-not-fits-2.ensures.1 k in cc
+    let fits : mark_in g.S.Sink.is_units ≤ g.S.Sink.free c.args.sink.now = has_room (g.F.FrontPiece.needs c.args.codec.now) mark_in c.in-Bad.n (length c.args.bytes.now) m (g.S.Sink.free c.args.sink.now) c.args.last g.S.Sink.is_units k units e.piece.0.within window whole (λ j l. mark_first (goes_on k) _ _ _ (e.room k j l)) h in
+    let no : IsTrue false = c.if-not-fits-2.ensures.1 (omega (arith, g.met.S.Sink.cost_is 0xFFFD, fits)) in cc

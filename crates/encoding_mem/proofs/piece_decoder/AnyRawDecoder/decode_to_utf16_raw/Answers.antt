@@ -1,4 +1,5 @@
 use Rattle.std.proofs.Common.{◌-◌, length, ap, arith}
+use Rattle.encoding_mem.specs.declared.room.Count.TheVariants.{Units}
 use Rattle.encoding_mem.proofs.Endings.{never_full}
 use Rattle.encoding_mem.proofs.piece_decoder.AnyRawDecoder.decode_to_utf16_raw.Goals as goal
 
@@ -7,4 +8,4 @@ returns-clause-enough g c h =
     let s = g.D.PieceDecoder.state in
     let sink = c.new-sink.result in
     let d = c.decode_into-outcome.new in
-    never_full (s c.args.self.now).units_for (s d.self).units_for (length c.args.src.now) (length sink.units.now - sink.written) (length d.sink.units.now - d.sink.written) c.decode_into-outcome.result.0 c.decode_into-outcome.ensures.enough (omega (arith, h, c.new-sink.ensures.written, ap length c.new-sink.ensures.units))
+    never_full (s c.args.self.now) (s d.self) Units c.args.last (length c.args.src.now) _ (length sink.units.now - sink.written) (length d.sink.units.now - d.sink.written) c.decode_into-outcome.result.0 c.decode_into-outcome.ensures.enough (omega (arith, h, c.new-sink.ensures.written, ap length c.new-sink.ensures.units))

@@ -1,6 +1,5 @@
-use Rattle.std.proofs.Common.{arith}
 use Rattle.encoding_mem.specs.TextLaws.{pieces_by-ascii}
-use Rattle.encoding_mem.specs.WritingLaws.{length-encode_utf16_chars}
+use Rattle.encoding_mem.specs.RoomLaws.{text_needs_single_byte}
 use Rattle.encoding_tables.specs.SingleByte.{front_single_byte}
 use Rattle.encoding_tables.specs.SingleByteLaws.{cuts_single_byte, ascii_is_itself}
 use Rattle.encoding_tables.proofs.single_byte_decoder.SingleByteRuleFrontPiece.text_at.Goals as goal
@@ -10,5 +9,5 @@ returns-clause-pieces c r =
     let rule = c.args.self.now in
     pieces_by-ascii (front_single_byte rule.flat) (cuts_single_byte rule.flat rule.scalars) (ascii_is_itself rule.flat) c.ascii_front.result.now r c.ascii_front.ensures.ascii
 
-pub returns-clause-units : goal.returns-clause-units
-returns-clause-units c m = omega (arith, length-encode_utf16_chars c.ascii_front.result.now c.ascii_front.utf8)
+pub returns-clause-room : goal.returns-clause-room
+returns-clause-room c k m = text_needs_single_byte c.ascii_front.result.now c.ascii_front.utf8 k m

@@ -1,0 +1,59 @@
+ghost use Rattle.std.specs.Prelude.{◌≡◌, ◌<◌, ℕ, List, length};
+ghost use Rattle.encoding_mem.specs.Decoding.{IsUndecided};
+ghost use Rattle.encoding_mem.specs.Driver.{immediate};
+
+use crate::decoder_result::DecoderResult;
+use crate::driver::decode_source;
+use crate::front::FrontPiece;
+use crate::pending::Pending;
+use crate::piece_decoder::PieceDecoder;
+use crate::room::Room;
+use crate::sink::Sink;
+
+/// A rule by which any bytes decide their first piece, as where each byte is one.
+pub trait DecidedPiece: FrontPiece {
+    ghost decided: { (s : Self) (x : List ℕ) → 0 < length x → IsUndecided (Self.pieces s) x → ⊥ };
+}
+
+/// The decoder that such a rule makes: nothing is ever pending.
+#[derive(Drop)]
+pub struct Bytewise<F: DecidedPiece> {
+    rule: F,
+}
+
+impl<F: DecidedPiece> Bytewise<F> {
+    pub fn new(rule: F) -> Self
+        ensures { result.rule ≡ rule }
+    {
+        Bytewise { rule }
+    }
+
+    /// The rule, as it is now.
+    pub fn rule(&self) -> &F
+        ensures { result.now ≡ self.now.rule }
+    {
+        &self.rule
+    }
+}
+
+impl<F: DecidedPiece> PieceDecoder for Bytewise<F> {
+    ghost state = { λ d. immediate (F.pieces d.rule) (F.whole d.rule) (F.are_pieces d.rule)
+        (F.needs d.rule) (F.limits d.rule) (F.covers d.rule) };
+
+    fn decode_into<S: Sink>(
+        &mut self,
+        src: &[u8],
+        sink: &mut S,
+        last: bool,
+    ) -> (DecoderResult, usize) {
+        decode_source(&mut self.rule, &mut Pending::new(), src, sink, last)
+    }
+
+    fn held_len(&self) -> usize {
+        0
+    }
+
+    fn room(&self) -> Room {
+        self.rule.room()
+    }
+}
