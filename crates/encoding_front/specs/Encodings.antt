@@ -5,7 +5,9 @@ use Rattle.encoding_mem.specs.Coding.{Coding}
 use Rattle.encoding_mem.specs.Utf8.{pieces_utf8}
 use Rattle.encoding_mem.specs.Utf8Coding.{utf8_coding}
 use Rattle.encoding_mem.specs.Room.{room_utf8, room_single_byte}
+use Rattle.encoding_mem.specs.TextRoom.{text_room_utf8, text_room_single_byte}
 use Rattle.encoding_mem.specs.declared.room.Room.{Room}
+use Rattle.encoding_mem.specs.declared.room.TextRoom.{TextRoom}
 use Rattle.encoding_tables.specs.IndexLists.{IndexLists, has, entries_of}
 use Rattle.encoding_tables.specs.Kinds.{is_single_byte}
 use Rattle.encoding_tables.specs.SingleByte.{pieces_single_byte, single_byte_coding}
@@ -76,6 +78,14 @@ need_of_scheme (Scheme.SingleByte kind) = 1
 
 abbrev pub need_of : Encoding → ℕ
 need_of e = need_of_scheme (scheme_of (output_encoding_of e))
+
+-- the room that is enough for what a text is written as
+abbrev pub text_room_of_scheme : Scheme → TextRoom
+text_room_of_scheme Scheme.Utf8 = text_room_utf8
+text_room_of_scheme (Scheme.SingleByte kind) = text_room_single_byte
+
+abbrev pub text_room_of : Encoding → TextRoom
+text_room_of e = text_room_of_scheme (scheme_of (output_encoding_of e))
 
 -- the room that is enough for the text of so many bytes
 abbrev pub room_of_scheme : Scheme → Room

@@ -4,10 +4,11 @@ ghost use Rattle.std.specs.Char.Utf16.{utf16_lossy_chars};
 ghost use Rattle.encoding_mem.specs.declared.form.Set.TheVariants.{Ascii};
 ghost use Rattle.encoding_mem.specs.Utf8CodingLaws.{utf8_coding_laws};
 ghost use Rattle.encoding_tables.specs.SingleByteLaws.{single_byte_laws};
-ghost use Rattle.encoding_front.specs.Encodings.{IsReady, coding_of, need_of, output_encoding_of};
+ghost use Rattle.encoding_front.specs.Encodings.{IsReady, coding_of, need_of, output_encoding_of, text_room_of};
 ghost use Rattle.encoding_front.specs.declared.variant_encoder.VariantEncoder.TheVariants.{Utf8, SingleByte};
 
 use crate::encoding::{Encoding, Scheme};
+use encoding_mem::room::TextRoom;
 use encoding_mem::{EncoderResult, RawEncoder, Utf8Encoder};
 use encoding_tables::{SingleByteEncoder, Tables};
 
@@ -25,6 +26,7 @@ impl<'t> VariantEncoder<'t> {
         ensures coding { ⟦<VariantEncoder<'t> as RawEncoder>⟧.coding result ≡ coding_of tables.now encoding }
         ensures set { ⟦<VariantEncoder<'t> as RawEncoder>⟧.set result ≡ Ascii }
         ensures need { ⟦<VariantEncoder<'t> as RawEncoder>⟧.need result ≡ need_of encoding }
+        ensures limits { ⟦<VariantEncoder<'t> as RawEncoder>⟧.limits result ≡ text_room_of encoding }
     {
         match encoding.output_encoding().scheme() {
             Scheme::Utf8 => VariantEncoder::Utf8(Utf8Encoder::new()),
@@ -49,6 +51,11 @@ impl<'t> RawEncoder for VariantEncoder<'t> {
     ghost set = { elim [
       | Utf8 e ↦ ⟦<Utf8Encoder as RawEncoder>⟧.set e
       | SingleByte e ↦ ⟦<SingleByteEncoder<'t> as RawEncoder>⟧.set e
+    ] };
+
+    ghost limits = { elim [
+      | Utf8 e ↦ ⟦<Utf8Encoder as RawEncoder>⟧.limits e
+      | SingleByte e ↦ ⟦<SingleByteEncoder<'t> as RawEncoder>⟧.limits e
     ] };
 
     ghost laws = { elim [
@@ -77,6 +84,20 @@ impl<'t> RawEncoder for VariantEncoder<'t> {
         match self {
             VariantEncoder::Utf8(encoder) => encoder.encode_from_utf16_raw(src, dst, last),
             VariantEncoder::SingleByte(encoder) => encoder.encode_from_utf16_raw(src, dst, last),
+        }
+    }
+
+    fn room(&self) -> TextRoom {
+        match self {
+            VariantEncoder::Utf8(encoder) => encoder.room(),
+            VariantEncoder::SingleByte(encoder) => encoder.room(),
+        }
+    }
+
+    fn has_pending_state(&self) -> bool {
+        match self {
+            VariantEncoder::Utf8(encoder) => encoder.has_pending_state(),
+            VariantEncoder::SingleByte(encoder) => encoder.has_pending_state(),
         }
     }
 }

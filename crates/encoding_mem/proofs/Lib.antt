@@ -5,6 +5,7 @@ pub mod Endings
 pub mod EnoughRoom
 pub mod AsciiFront
 pub mod Steps
+pub mod Spending
 pub mod Sources
 pub mod Units
 pub mod Utf8Chars

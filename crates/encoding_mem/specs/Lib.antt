@@ -25,6 +25,8 @@ pub mod Stateless
 pub mod StatelessLaws
 pub mod Utf8Coding
 pub mod Utf8CodingLaws
+pub mod TextRoom
+pub mod TextRoomLaws
 pub mod EncodingLaws
 pub mod SampleCoding
 pub mod SampleCodingLaws

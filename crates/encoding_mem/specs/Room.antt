@@ -41,9 +41,12 @@ line_of room Replaced = room.replaced
 abbrev pub counted : (in_pairs : Bool) → ℕ → ℕ
 counted in_pairs m = if in_pairs then (m + 1) / 2 else m
 
+abbrev pub line_at : Line → ℕ → ℕ
+line_at l n = l.factor * n + l.extra
+
 -- the room for m bytes
 abbrev pub room_of : Room → Count → ℕ → ℕ
-room_of room count m = (line_of room count).factor * counted room.in_pairs m + (line_of room count).extra
+room_of room count m = line_at (line_of room count) (counted room.in_pairs m)
 
 -- a number, where a usize has it
 abbrev pub checked : ℕ → Option ℕ

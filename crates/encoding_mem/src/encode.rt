@@ -1,8 +1,11 @@
 // One driver for all encoders.
 
-ghost use Rattle.std.specs.Prelude.{◌≡◌, true, ℕ, ◌+◌, ◌-◌, ◌<◌, ◌≤◌, List, [], ◌∷◌, ◌++◌, length, take, drop};
+ghost use Rattle.std.specs.Prelude.{◌≡◌, ◌≢◌, true, ℕ, ◌+◌, ◌-◌, ◌<◌, ◌≤◌, List, [], ◌∷◌, ◌++◌, length, take, drop};
 ghost use Rattle.encoding_mem.specs.Coding.{Coding, IsCoding};
 ghost use Rattle.encoding_mem.specs.Encoding.{Encodes, Answers};
+ghost use Rattle.encoding_mem.specs.Room.{line_at};
+ghost use Rattle.encoding_mem.specs.TextRoom.{IsRoomFor, line_for};
+ghost use Rattle.encoding_mem.specs.declared.room.TextRoom.{TextRoom};
 ghost use Rattle.encoding_mem.specs.Target.{CopiesAscii, IsRun, Moves, Tight, left};
 
 use crate::encoder_result::EncoderResult;
@@ -12,9 +15,12 @@ use crate::source::Source;
 /// A target: what it makes of each character, and its sets.
 pub trait Target {
     /// The most bytes that an escape or a character has.
-    ghost need: { ℕ };
+    ghost need: { Self → ℕ };
 
     ghost coding: { Self → Coding };
+
+    /// The room that is enough.
+    ghost limits: { Self → TextRoom };
 
     /// The set in which a character is written after a set, and its bytes.
     fn step(&self, set: Set, c: char) -> (Set, Form)
@@ -30,7 +36,9 @@ pub trait Target {
     fn escape(&self, from: Set, to: Set) -> Bytes
         ensures { result ≡ (coding self.now).escape from to };
 
-    ghost laws: { (x : Self) → IsCoding need (coding x) };
+    ghost laws: { (x : Self) → IsCoding (need x) (coding x) };
+
+    ghost fits: { (x : Self) → IsRoomFor (coding x) (limits x) };
 }
 
 // Puts the bytes at a place, where there is room for them, and answers the place behind them.
@@ -54,6 +62,7 @@ fn copy_run<S: Source>(source: &mut S, dst: &mut [u8], at: usize) -> usize
         (take at dst.old) (take result dst.new) }
     ensures behind { drop result dst.new ≡ drop result dst.old }
     ensures after { at ≤ result }
+    ensures place { S.place source.new ≡ S.place source.old + (result - at) }
     ensures some { (c : ℕ) (rest : List ℕ) → left S.text (S.all source.old) (S.place source.old) ≡ c ∷ rest
         → c < 0x80 → at < length dst.old
         → length (left S.text (S.all source.old) (S.place source.new)) < length (left S.text (S.all source.old) (S.place source.old)) }
@@ -78,7 +87,9 @@ pub fn encode<T: Target, S: Source>(
         (take result.1 dst.new) set.new (left S.text (S.all source.old) (S.place source.new)) }
     ensures moves { Moves (T.coding target.now) set.old set.new }
     ensures tight { Tight (T.coding target.now) result.0 set.new (left S.text (S.all source.old) (S.place source.new)) (length dst.new - result.1) }
-    ensures answers { Answers T.need last result.0 set.new (left S.text (S.all source.old) (S.place source.new)) (length dst.new - result.1) }
+    ensures enough { line_at (line_for (T.limits target.now) S.is_units) (length (S.all source.old) - S.place source.old) ≤ length dst.old
+        → result.0 ≢ EncoderResult.OutputFull }
+    ensures answers { Answers (T.need target.now) last result.0 set.new (left S.text (S.all source.old) (S.place source.new)) (length dst.new - result.1) }
 {
     let mut written = 0;
     while let Some((c, _)) = source.peek() {

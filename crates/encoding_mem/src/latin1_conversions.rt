@@ -56,14 +56,14 @@ pub(crate) fn narrow_text(text: &str, dst: &mut [u8]) -> usize
     let mut source = Utf8Source::new(text);
     let mut written = 0;
     'characters: while let Some((c, _)) = source.peek() {
-        let run = source.copy_ascii(&mut dst[written..]);
-        if run > 0 {
+        if u32::from(c) < 0x80 {
+            let run = source.copy_ascii(&mut dst[written..]);
             written += run;
-            continue;
+        } else {
+            dst[written] = u32::from(c) as u8;
+            written += 1;
+            source.advance();
         }
-        dst[written] = u32::from(c) as u8;
-        written += 1;
-        source.advance();
     }
     written
 }

@@ -1,7 +1,8 @@
 // Room that is enough, as numbers: what is answered to those who ask for it.
 
 ghost use Rattle.std.specs.Prelude.{◌≡◌, ◌+◌, false};
-ghost use Rattle.encoding_mem.specs.Room.{line_of, queried, room_utf8, room_single_byte, room_multibyte, room_utf16, room_replacement};
+ghost use Rattle.encoding_mem.specs.Room.{checked, line_at, line_of, queried, room_utf8, room_single_byte, room_multibyte, room_utf16, room_replacement};
+ghost use Rattle.encoding_mem.specs.TextRoom.{text_room_utf8, text_room_single_byte, text_room_two_byte, text_room_gb18030, text_room_iso_2022_jp};
 
 /// What room is counted in.
 #[derive(Clone, Copy)]
@@ -22,10 +23,67 @@ pub struct Line {
 }
 
 impl Line {
-    fn new(factor: usize, extra: usize) -> Line
+    pub fn new(factor: usize, extra: usize) -> Line
         ensures { result ≡ record { factor = factor; extra = extra } }
     {
         Line { factor, extra }
+    }
+
+    /// The value for a number; none where it passes a `usize`.
+    pub fn at(self, n: usize) -> Option<usize>
+        ensures { result ≡ checked (line_at self n) }
+    {
+        self.factor.checked_mul(n)?.checked_add(self.extra)
+    }
+}
+
+/// The room that is enough for what a text is encoded to, by its units of UTF-16, and by its bytes of UTF-8.
+#[derive(Clone, Copy)]
+pub struct TextRoom {
+    pub units: Line,
+    pub bytes: Line,
+}
+
+impl TextRoom {
+    /// Of UTF-8.
+    pub fn utf8() -> TextRoom
+        ensures { result ≡ text_room_utf8 }
+    {
+        TextRoom::new(Line::new(3, 0), Line::new(1, 0))
+    }
+
+    /// Of the targets with one byte a character.
+    pub fn single_byte() -> TextRoom
+        ensures { result ≡ text_room_single_byte }
+    {
+        TextRoom::new(Line::new(1, 0), Line::new(1, 0))
+    }
+
+    /// Of the targets with two bytes a character at most.
+    pub fn two_byte() -> TextRoom
+        ensures { result ≡ text_room_two_byte }
+    {
+        TextRoom::new(Line::new(2, 0), Line::new(1, 1))
+    }
+
+    /// Of gb18030.
+    pub fn gb18030() -> TextRoom
+        ensures { result ≡ text_room_gb18030 }
+    {
+        TextRoom::new(Line::new(4, 0), Line::new(2, 2))
+    }
+
+    /// Of ISO-2022-JP.
+    pub fn iso_2022_jp() -> TextRoom
+        ensures { result ≡ text_room_iso_2022_jp }
+    {
+        TextRoom::new(Line::new(5, 3), Line::new(4, 3))
+    }
+
+    fn new(units: Line, bytes: Line) -> TextRoom
+        ensures { result ≡ record { units = units; bytes = bytes } }
+    {
+        TextRoom { units, bytes }
     }
 }
 
@@ -100,8 +158,7 @@ impl Room {
         } else {
             bytes
         };
-        let line = self.line(count);
-        line.factor.checked_mul(counted)?.checked_add(line.extra)
+        self.line(count).at(counted)
     }
 
     fn line(self, count: Count) -> Line

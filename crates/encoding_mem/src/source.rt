@@ -1,9 +1,12 @@
 // A text that is read from the front.
 
-ghost use Rattle.std.specs.Prelude.{◌≡◌, ℕ, ◌+◌, ◌<◌, ◌≤◌, List, [], ◌∷◌, ◌++◌, length, take, drop, slice_index, MatchOption, IfSome};
+ghost use Rattle.std.specs.Prelude.{◌≡◌, ℕ, ◌+◌, ◌<◌, ◌≤◌, Bool, true, false, List, [], ◌∷◌, ◌++◌, length, take, drop, slice_index, MatchOption, IfSome};
 ghost use Rattle.std.specs.Str.{chars, IsAscii, IsCharBoundary};
 ghost use Rattle.std.specs.Char.{len_utf8, encode_utf8, IsScalar};
 ghost use Rattle.std.specs.Char.Utf16.{utf16_lossy_chars};
+ghost use Rattle.encoding_mem.specs.Room.{cost_in};
+ghost use Rattle.encoding_mem.specs.Writing.{len_utf16};
+ghost use Rattle.encoding_mem.specs.TextRoomLaws.{sum_within};
 
 use crate::ascii::ascii_front;
 
@@ -15,6 +18,9 @@ pub trait Source {
     /// A place between characters.
     ghost IsBoundary: { List ℕ → ℕ → Type 0 };
 
+    /// Whether it is a list of units of 16 bits.
+    ghost is_units: { Bool };
+
     /// The whole list.
     ghost all: { Self → List ℕ };
 
@@ -25,19 +31,22 @@ pub trait Source {
     fn peek(&self) -> Option<(char, usize)>
         ensures next { MatchOption result (text (drop (place self.now) (all self.now)) ≡ [])
             (λ p. text (drop (place self.now) (all self.now)) ≡ p.0 ∷ text (drop (place self.now + p.1) (all self.now))) }
-        ensures boundary { IfSome result (λ p. IsBoundary (all self.now) (place self.now + p.1)) };
+        ensures boundary { IfSome result (λ p. IsBoundary (all self.now) (place self.now + p.1)) }
+        ensures size { IfSome result (λ p. (place self.now + p.1 ≤ length (all self.now)) × (p.1 ≡ cost_in is_units p.0)) };
 
     /// Goes past the next character, which `peek` has shown to be there.
     fn advance(&mut self)
         requires { 0 < length (text (drop (place self.old) (all self.old))) }
         ensures same { all self.new ≡ all self.old }
-        ensures next { (c : ℕ) × (text (drop (place self.old) (all self.old)) ≡ c ∷ text (drop (place self.new) (all self.new))) };
+        ensures next { (c : ℕ) × (text (drop (place self.old) (all self.old)) ≡ c ∷ text (drop (place self.new) (all self.new)))
+            × (place self.new ≡ place self.old + cost_in is_units c) };
 
     /// Copies the run of ASCII that is next, as much of it as fits, and goes past it. Answers its length
     /// in characters, which is not 0 where the next character is ASCII and there is room.
     fn copy_ascii(&mut self, dst: &mut [u8]) -> usize
         ensures same { all self.new ≡ all self.old }
         ensures fits { result ≤ length dst.new }
+        ensures place { place self.new ≡ place self.old + result }
         ensures behind { drop result dst.new ≡ drop result dst.old }
         ensures ascii { IsAscii (take result dst.new) }
         ensures text { text (drop (place self.old) (all self.old))
@@ -52,6 +61,8 @@ pub trait Source {
         ensures place { result ≡ place self.now }
         ensures within { result ≤ length (all self.now) }
         ensures boundary { IsBoundary (all self.now) result };
+
+    ghost within: { (s : Self) → place s ≤ length (all s) };
 }
 
 // The first character of a text, and what follows it.
@@ -111,6 +122,8 @@ impl<'a> Source for Utf8Source<'a> {
 
     ghost IsBoundary = { IsCharBoundary };
 
+    ghost is_units = { false };
+
     ghost all = { λ s. s.text.now };
 
     ghost place = { λ s. s.read };
@@ -141,6 +154,8 @@ impl<'a> Source for Utf8Source<'a> {
     fn read(&self) -> usize {
         self.read
     }
+
+    ghost within = { λ s. sum_within s.read (length s.rest.now) (length s.text.now) s.sum };
 }
 
 // The character of a code.
@@ -159,6 +174,7 @@ fn first_of_units(units: &[u16]) -> Option<(char, usize)>
     ensures value { MatchOption result (utf16_lossy_chars units.now ≡ [])
         (λ p. utf16_lossy_chars units.now ≡ p.0 ∷ utf16_lossy_chars (drop p.1 units.now)) }
     ensures within { IfSome result (λ p. p.1 ≤ length units.now) }
+    ensures size { IfSome result (λ p. p.1 ≡ len_utf16 p.0) }
 {
     if units.is_empty() {
         return None;
@@ -218,6 +234,8 @@ impl<'a> Source for Utf16Source<'a> {
 
     ghost IsBoundary = { λ us i. i ≤ length us };
 
+    ghost is_units = { true };
+
     ghost all = { λ s. s.units.now };
 
     ghost place = { λ s. s.place };
@@ -241,4 +259,6 @@ impl<'a> Source for Utf16Source<'a> {
     fn read(&self) -> usize {
         self.place
     }
+
+    ghost within = { λ s. s.within };
 }

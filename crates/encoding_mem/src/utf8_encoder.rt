@@ -1,10 +1,13 @@
 // The encoder of UTF-8.
 
-ghost use Rattle.std.specs.Prelude.{◌≡◌, ℕ, ◌+◌, ◌-◌, ◌<◌, ◌≤◌, length, take, drop};
+ghost use Rattle.std.specs.Prelude.{◌≡◌, ◌≢◌, ℕ, ◌+◌, ◌-◌, ◌<◌, ◌≤◌, length, take, drop};
 ghost use Rattle.std.specs.Str.{chars, IsCharBoundary};
 ghost use Rattle.std.specs.Char.{encode_utf8};
 ghost use Rattle.std.specs.Char.Utf16.{utf16_lossy_chars};
 ghost use Rattle.encoding_mem.specs.Encoding.{Encodes, Answers};
+ghost use Rattle.encoding_mem.specs.Room.{line_at};
+ghost use Rattle.encoding_mem.specs.TextRoom.{text_room_utf8};
+ghost use Rattle.encoding_mem.specs.TextRoomLaws.{utf8_room};
 ghost use Rattle.encoding_mem.specs.Utf8Coding.{utf8_coding, NextIsTooLong};
 ghost use Rattle.encoding_mem.specs.Utf8CodingLaws.{utf8_coding_laws};
 ghost use Rattle.encoding_mem.specs.declared.form.Set.TheVariants.{Ascii};
@@ -13,6 +16,7 @@ use crate::encode::{Target, encode};
 use crate::encoder_result::EncoderResult;
 use crate::form::{Bytes, Form, Set};
 use crate::raw_encoder::RawEncoder;
+use crate::room::TextRoom;
 use crate::source::{Source, Utf16Source};
 
 // The bytes of a character.
@@ -45,11 +49,15 @@ fn bytes_of_char(c: char) -> Bytes
 struct Utf8;
 
 impl Target for Utf8 {
-    ghost need = { 4 };
+    ghost need = { λ _. 4 };
 
     ghost coding = { λ _. utf8_coding };
 
     ghost laws = { λ _. utf8_coding_laws };
+
+    ghost limits = { λ _. text_room_utf8 };
+
+    ghost fits = { λ _. utf8_room };
 
     fn step(&self, _set: Set, c: char) -> (Set, Form) {
         (Set::Ascii, Form::Mapped(bytes_of_char(c)))
@@ -73,6 +81,7 @@ impl Utf8Encoder {
         ensures coding { ⟦<Utf8Encoder as RawEncoder>⟧.coding result ≡ utf8_coding }
         ensures set { ⟦<Utf8Encoder as RawEncoder>⟧.set result ≡ Ascii }
         ensures need { ⟦<Utf8Encoder as RawEncoder>⟧.need result ≡ 4 }
+        ensures limits { ⟦<Utf8Encoder as RawEncoder>⟧.limits result ≡ text_room_utf8 }
     {
         Utf8Encoder {}
     }
@@ -84,6 +93,8 @@ impl RawEncoder for Utf8Encoder {
     ghost coding = { λ _. utf8_coding };
 
     ghost set = { λ _. Ascii };
+
+    ghost limits = { λ _. text_room_utf8 };
 
     ghost laws = { λ _. utf8_coding_laws };
 
@@ -99,6 +110,7 @@ impl RawEncoder for Utf8Encoder {
         ensures room { result.2 ≤ length dst.new }
         ensures behind { drop result.2 dst.new ≡ drop result.2 dst.old }
         ensures law { Encodes utf8_coding last result.0 Ascii (chars src.now) (take result.2 dst.new) Ascii (chars (drop result.1 src.now)) }
+        ensures enough { line_at text_room_utf8.bytes (length src.now) ≤ length dst.old → result.0 ≢ EncoderResult.OutputFull }
         ensures answers { Answers 4 last result.0 Ascii (chars (drop result.1 src.now)) (length dst.new - result.2) }
         ensures copies { take result.2 dst.new ≡ take result.1 src.now }
         ensures longest { (i : ℕ) → result.1 < i → i ≤ length src.now → i ≤ length dst.new → ¬ (IsCharBoundary src.now i) }
@@ -123,6 +135,7 @@ impl RawEncoder for Utf8Encoder {
         ensures room { result.2 ≤ length dst.new }
         ensures behind { drop result.2 dst.new ≡ drop result.2 dst.old }
         ensures law { Encodes utf8_coding last result.0 Ascii (utf16_lossy_chars src.now) (take result.2 dst.new) Ascii (utf16_lossy_chars (drop result.1 src.now)) }
+        ensures enough { line_at text_room_utf8.units (length src.now) ≤ length dst.old → result.0 ≢ EncoderResult.OutputFull }
         ensures answers { Answers 4 last result.0 Ascii (utf16_lossy_chars (drop result.1 src.now)) (length dst.new - result.2) }
         ensures longest { NextIsTooLong (utf16_lossy_chars (drop result.1 src.now)) (length dst.new - result.2) }
     {
@@ -130,5 +143,13 @@ impl RawEncoder for Utf8Encoder {
         let mut set = Set::Ascii;
         let (result, written) = encode(&Utf8, &mut set, &mut source, dst, last);
         (result, source.read(), written)
+    }
+
+    fn room(&self) -> TextRoom {
+        TextRoom::utf8()
+    }
+
+    fn has_pending_state(&self) -> bool {
+        false
     }
 }

@@ -6,6 +6,8 @@ use Rattle.std.proofs.lemmas.Bool.{cases_lt, cases_eq, lt-ltb, le-ltb, eq-eqb, n
 use Rattle.std.proofs.lemmas.Bool.Decides.{nat_tests}
 use Rattle.encoding_mem.specs.Coding.{IsCoding, IsShort}
 use Rattle.encoding_mem.specs.StatelessLaws.{stateless_laws, short_one, short_none}
+use Rattle.encoding_mem.specs.TextRoom.{IsRoomFor, text_room_single_byte}
+use Rattle.encoding_mem.specs.TextRoomLaws.{single_byte_room}
 use Rattle.encoding_mem.specs.Piece.{good, size_of, Cuts}
 use Rattle.encoding_mem.specs.PiecesLaws.{CutsEach, pieces_by-cons}
 use Rattle.encoding_mem.specs.Utf8Laws.{cuts_bad, cuts_one}
@@ -83,6 +85,9 @@ short_form c (Some b) = short_one
 
 pub single_byte_laws : (flat : List ℕ) → IsCoding 1 (single_byte_coding flat)
 single_byte_laws flat = stateless_laws 1 (λ c. form_of_byte c (byte_of_char flat c)) (lit≤ tt) (λ c. short_form c (byte_of_char flat c))
+
+pub single_byte_fits : (flat : List ℕ) → IsRoomFor (single_byte_coding flat) text_room_single_byte
+single_byte_fits flat = single_byte_room (λ c. form_of_byte c (byte_of_char flat c)) (λ c. short_form c (byte_of_char flat c))
 
 -- ASCII is itself, whatever follows
 pub ascii_is_itself : (flat : List ℕ) (b : ℕ) (x : List ℕ) → b < 0x80 → front_single_byte flat (b ∷ x) ≡ good 1 (b ∷ [])

@@ -1,10 +1,11 @@
 // The encoder of the single-byte encodings (the Encoding Standard, section 9.2, "single-byte encoder").
 
 ghost use Rattle.std.specs.Prelude.{◌≡◌, ◌+◌, true};
+ghost use Rattle.encoding_mem.specs.TextRoom.{text_room_single_byte};
 ghost use Rattle.encoding_tables.specs.IndexLists.{has, entries_of};
 ghost use Rattle.encoding_tables.specs.Kinds.{is_single_byte};
 ghost use Rattle.encoding_tables.specs.SingleByte.{byte_of_char, form_of_byte, single_byte_coding};
-ghost use Rattle.encoding_tables.specs.SingleByteLaws.{single_byte_laws};
+ghost use Rattle.encoding_tables.specs.SingleByteLaws.{single_byte_laws, single_byte_fits};
 ghost use Rattle.encoding_mem.specs.declared.form.Set.TheVariants.{Ascii};
 
 use crate::flat::Flat;
@@ -12,6 +13,7 @@ use crate::index_kind::IndexKind;
 use crate::tables::Tables;
 use encoding_mem::encode::{Target, encode};
 use encoding_mem::form::{Bytes, Form, Set};
+use encoding_mem::room::TextRoom;
 use encoding_mem::source::{Source, Utf8Source, Utf16Source};
 use encoding_mem::{EncoderResult, RawEncoder};
 
@@ -22,11 +24,15 @@ struct SingleByte<'a> {
 }
 
 impl<'a> Target for SingleByte<'a> {
-    ghost need = { 1 };
+    ghost need = { λ _. 1 };
 
     ghost coding = { λ s. single_byte_coding s.flat };
 
+    ghost limits = { λ _. text_room_single_byte };
+
     ghost laws = { λ s. single_byte_laws s.flat };
+
+    ghost fits = { λ s. single_byte_fits s.flat };
 
     fn step(&self, _set: Set, c: char) -> (Set, Form) {
         (Set::Ascii, form_of(c, byte_of(&self.flat, c)))
@@ -79,6 +85,7 @@ impl<'a> SingleByteEncoder<'a> {
         ensures coding { ⟦<SingleByteEncoder<'a> as RawEncoder>⟧.coding result ≡ single_byte_coding (entries_of tables.now kind) }
         ensures set { ⟦<SingleByteEncoder<'a> as RawEncoder>⟧.set result ≡ Ascii }
         ensures need { ⟦<SingleByteEncoder<'a> as RawEncoder>⟧.need result ≡ 1 }
+        ensures limits { ⟦<SingleByteEncoder<'a> as RawEncoder>⟧.limits result ≡ text_room_single_byte }
     {
         SingleByteEncoder {
             target: SingleByte {
@@ -94,6 +101,8 @@ impl<'a> RawEncoder for SingleByteEncoder<'a> {
     ghost coding = { λ e. single_byte_coding e.target.flat };
 
     ghost set = { λ _. Ascii };
+
+    ghost limits = { λ _. text_room_single_byte };
 
     ghost laws = { λ e. single_byte_laws e.target.flat };
 
@@ -119,5 +128,13 @@ impl<'a> RawEncoder for SingleByteEncoder<'a> {
         let mut set = Set::Ascii;
         let (result, written) = encode(&self.target, &mut set, &mut source, dst, last);
         (result, source.read(), written)
+    }
+
+    fn room(&self) -> TextRoom {
+        TextRoom::single_byte()
+    }
+
+    fn has_pending_state(&self) -> bool {
+        false
     }
 }

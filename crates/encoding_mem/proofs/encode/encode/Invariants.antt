@@ -1,6 +1,7 @@
-use Rattle.std.proofs.Common.{◌≡◌, ◌≤◌, length, take, drop}
+use Rattle.std.proofs.Common.{◌≡◌, ◌≤◌, ◌*◌, ◌-◌, length, take, drop}
 use Rattle.encoding_mem.proofs.Steps.{Steps}
 use Rattle.encoding_mem.specs.Target.{Moves, left}
+use Rattle.encoding_mem.specs.TextRoom.{line_for}
 use Rattle.encoding_mem.proofs.encode.encode.Given as goal
 
 abbrev pub invariant-loop-c : goal.invariant-loop-c
@@ -8,6 +9,9 @@ invariant-loop-c g l = record {
   room : l.written ≤ length l.dst;
   behind : drop l.written l.dst ≡ drop l.written l.initial.dst;
   source : g.S.Source.all l.source ≡ g.S.Source.all l.initial.source;
+  size : length l.dst ≡ length l.initial.dst;
+  after : g.S.Source.place l.initial.source ≤ g.S.Source.place l.source;
+  spent : l.written ≤ (line_for (g.T.Target.limits l.target) g.S.Source.is_units).factor * (g.S.Source.place l.source - g.S.Source.place l.initial.source);
   moves : Moves (g.T.Target.coding l.target) l.initial.set l.set;
   steps : Steps (g.T.Target.coding l.target) l.initial.set (left g.S.Source.text (g.S.Source.all l.initial.source) (g.S.Source.place l.initial.source))
       (take l.written l.dst) l.set (left g.S.Source.text (g.S.Source.all l.initial.source) (g.S.Source.place l.source));

@@ -18,8 +18,8 @@ characters-init c =
       whole = ap chars (sym same);
     }
 
-pub characters-preserved-then-run-gt0 : goal.characters-preserved-then-run-gt0
-characters-preserved-then-run-gt0 c =
+pub characters-preserved-then-from-lt128 : goal.characters-preserved-then-from-lt128
+characters-preserved-then-from-lt128 c =
     let i = c.characters.invariant in
     let e = c.copy_ascii-run.ensures in
     let n = c.characters.written in
@@ -43,3 +43,13 @@ overflow_cast-dst c =
     let low = is_low (chars c.args.text.now) (take c.characters.written c.characters.dst) _ c.in-Some.c c.characters.written c.requires.latin1
     (i.whole ∙ ap (λ l. take c.characters.written c.characters.dst ++ l) next) (length-take-le c.characters.written c.characters.dst (omega (arith, i.room))) in
     omega (arith, low, c.from.ensures)
+
+pub characters-smaller-then-from-lt128 : goal.characters-smaller-then-from-lt128
+characters-smaller-then-from-lt128 c =
+    let i = c.characters.invariant in
+    let e = c.copy_ascii-run.ensures in
+    let n = c.characters.written in
+    let xs = c.characters.dst in
+    let next = c.in-Some.ensures.next in
+    let some = e.some c.in-Some.c _ next (omega (arith, c.from.ensures, c.if-from-lt128.true)) (omega (arith, i.room, ap length next, ap length (take_rest xs n), length-drop n xs)) in
+    omega (arith, some, ap length e.text, length-append (take c.copy_ascii-run.result c.copy_ascii-run.new.dst) (chars (drop c.copy_ascii-run.new.self.read c.copy_ascii-run.new.self.text.now)), length-take-le c.copy_ascii-run.result c.copy_ascii-run.new.dst e.fits)
