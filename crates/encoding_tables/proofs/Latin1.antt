@@ -7,8 +7,9 @@ use Rattle.std.proofs.lemmas.Bool.{eqb-true, eqb-false, not-true, not-false}
 use Rattle.std.proofs.lemmas.List.Quantifiers.{position-Some}
 use Rattle.encoding_mem.specs.Piece.{Piece, good}
 use Rattle.encoding_mem.specs.PiecesLaws.{pieces_by-nil}
+use Rattle.encoding_tables.specs.EachByte.{piece_of_byte}
 use Rattle.encoding_tables.specs.Lookups.{AreEntries}
-use Rattle.encoding_tables.specs.SingleByte.{char_of_byte, piece_of_byte, front_single_byte, pieces_single_byte, has_number, IsLatin1UpTo}
+use Rattle.encoding_tables.specs.SingleByte.{char_of_byte, front_single_byte, pieces_single_byte, has_number, IsLatin1UpTo}
 use Rattle.encoding_tables.specs.SingleByteLaws.{pieces_of_byte}
 use Rattle.encoding_tables.specs.TableFaultsLaws.{no_position}
 

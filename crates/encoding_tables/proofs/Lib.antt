@@ -1,3 +1,6 @@
 mod RangeRows
 mod RowNames
 mod Latin1
+pub mod NoText
+pub mod FrontUtf16
+pub mod RoomUtf16

@@ -12,6 +12,16 @@ pub mod OptionCases
 pub mod KindsLaws
 pub mod TableFaultsLaws
 pub mod PointerLaws
+pub mod EachByte
+pub mod EachByteLaws
+pub mod EachByteReadBack
+pub mod UserDefined
+pub mod UserDefinedLaws
+pub mod Replacement
+pub mod ReplacementLaws
+pub mod Utf16
+pub mod Utf16Decide
+pub mod Utf16Laws
 pub mod SingleByte
 pub mod SingleByteLaws
 pub mod SingleByteReadBack

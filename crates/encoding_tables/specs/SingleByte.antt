@@ -4,11 +4,9 @@ use Rattle.std.proofs.Common.{refl}
 use Rattle.std.specs.Prelude.{◌≡◌, ◌≢◌, ℕ, ◌+◌, ◌-◌, ◌<◌, ◌≤◌, ◌==◌, Bool, false, List, [], ◌∷◌, length, nat_lt, if◌then◌else◌, Option, None, Some, replicate, slice_index}
 use Rattle.std.specs.Option.{option_map}
 use Rattle.encoding_mem.specs.Coding.{Coding}
-use Rattle.encoding_mem.specs.Stateless.{stateless}
 use Rattle.encoding_mem.specs.Piece.{Piece, good, bad}
 use Rattle.encoding_mem.specs.Pieces.{pieces_in, pieces_by}
-use Rattle.encoding_mem.specs.declared.form.Form.{Form}
-use Rattle.encoding_mem.specs.declared.form.Form.TheVariants.{Mapped, Unmapped}
+use Rattle.encoding_tables.specs.EachByte.{front_by_byte, coding_by_byte}
 use Rattle.encoding_tables.specs.Lookups.{value_of, first_pointer}
 
 -- the character of a byte: ASCII gives itself
@@ -19,25 +17,14 @@ char_of_byte flat b = if nat_lt b 0x80 then Some b else value_of flat (b - 0x80)
 abbrev pub byte_of_char : List ℕ → ℕ → Option ℕ
 byte_of_char flat c = if nat_lt c 0x80 then Some c else option_map (λ p. 0x80 + p) (first_pointer flat c 0 128)
 
--- a byte without a character is bad
-abbrev pub piece_of_byte : Option ℕ → Piece
-piece_of_byte None = bad 1
-piece_of_byte (Some c) = good 1 (c ∷ [])
-
 abbrev pub front_single_byte : List ℕ → List ℕ → Piece
-front_single_byte flat [] = bad 1
-front_single_byte flat (b ∷ x) = piece_of_byte (char_of_byte flat b)
+front_single_byte flat x = front_by_byte (char_of_byte flat) x
 
 abbrev pub pieces_single_byte : List ℕ → List ℕ → List Piece
 pieces_single_byte flat x = pieces_by (front_single_byte flat) x
 
--- a character without a byte is reported as it is
-abbrev pub form_of_byte : ℕ → Option ℕ → Form
-form_of_byte c None = Unmapped c
-form_of_byte c (Some b) = Mapped (b ∷ [])
-
 abbrev pub single_byte_coding : List ℕ → Coding
-single_byte_coding flat = stateless (λ c. form_of_byte c (byte_of_char flat c))
+single_byte_coding flat = coding_by_byte (byte_of_char flat)
 
 -- the character of a byte has the byte's number
 abbrev pub has_number : ℕ → Option ℕ → Bool

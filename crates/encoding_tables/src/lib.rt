@@ -1,4 +1,5 @@
-//! The indexes of the Encoding Standard, as checked tables, and the single-byte codecs over them.
+//! The indexes of the Encoding Standard, as checked tables, the single-byte codecs over them, and the codecs
+//! that need no index: x-user-defined, UTF-16 and the replacement encoding.
 #![tactic(auto)]
 
 mod accept;
@@ -6,6 +7,7 @@ pub mod flat;
 pub mod index_kind;
 pub mod laws;
 mod ranges;
+pub mod replacement_decoder;
 pub mod single_byte_decoder;
 pub mod single_byte_encoder;
 #[cfg(test)]
@@ -14,10 +16,17 @@ pub mod table_fault;
 pub mod tables;
 #[cfg(test)]
 mod tests;
+pub mod user_defined_decoder;
+pub mod user_defined_encoder;
+pub mod utf16_decoder;
 
 pub use flat::Flat;
 pub use index_kind::IndexKind;
+pub use replacement_decoder::ReplacementDecoder;
 pub use single_byte_decoder::SingleByteDecoder;
 pub use single_byte_encoder::SingleByteEncoder;
 pub use table_fault::TableFault;
 pub use tables::Tables;
+pub use user_defined_decoder::UserDefinedDecoder;
+pub use user_defined_encoder::UserDefinedEncoder;
+pub use utf16_decoder::Utf16Decoder;

@@ -2,9 +2,10 @@
 
 ghost use Rattle.std.specs.Prelude.{◌≡◌, ◌+◌, true};
 ghost use Rattle.encoding_mem.specs.TextRoom.{text_room_single_byte};
+ghost use Rattle.encoding_tables.specs.EachByte.{form_of_byte};
 ghost use Rattle.encoding_tables.specs.IndexLists.{has, entries_of};
 ghost use Rattle.encoding_tables.specs.Kinds.{is_single_byte};
-ghost use Rattle.encoding_tables.specs.SingleByte.{byte_of_char, form_of_byte, single_byte_coding};
+ghost use Rattle.encoding_tables.specs.SingleByte.{byte_of_char, single_byte_coding};
 ghost use Rattle.encoding_tables.specs.SingleByteLaws.{single_byte_laws, single_byte_fits};
 ghost use Rattle.encoding_mem.specs.declared.form.Set.TheVariants.{Ascii};
 
@@ -61,7 +62,7 @@ fn byte_of(flat: &Flat<'_>, c: char) -> Option<u8>
 }
 
 // The form of a character, by its byte. One without a byte is reported as it is.
-fn form_of(c: char, byte: Option<u8>) -> Form
+pub(crate) fn form_of(c: char, byte: Option<u8>) -> Form
     ensures { result ≡ form_of_byte c byte }
 {
     match byte {

@@ -1,0 +1,29 @@
+-- The replacement encoding (the Encoding Standard, section 14.1.1, "replacement decoder"): a stream that is not empty
+-- is one error, and no text.
+use Rattle.std.specs.Prelude.{◌≡◌, ℕ, Bool, true, false, List, [], ◌∷◌, refl}
+use Rattle.encoding_mem.specs.Piece.{Piece, good, bad}
+use Rattle.encoding_mem.specs.Pieces.{pieces_in}
+
+-- The first piece, by whether the error was returned: the first byte is bad, each later one is silent.
+abbrev pub front_replacement : (error_returned : Bool) → List ℕ → Piece
+front_replacement false x = bad 1
+front_replacement true x = good 1 []
+
+-- once it was returned, it is not returned again
+abbrev pub after_replacement : (error_returned : Bool) → List ℕ → Bool
+after_replacement error_returned x = true
+
+abbrev pub pieces_replacement : (error_returned : Bool) → List ℕ → List Piece
+pieces_replacement = pieces_in front_replacement after_replacement
+
+two_bytes : pieces_replacement false (0x41 ∷ 0x42 ∷ []) ≡ bad 1 ∷ good 1 [] ∷ []
+unfolding pieces_in
+two_bytes = refl
+
+more_bytes : pieces_replacement true (0x41 ∷ 0x42 ∷ []) ≡ good 1 [] ∷ good 1 [] ∷ []
+unfolding pieces_in
+more_bytes = refl
+
+no_bytes : pieces_replacement false [] ≡ []
+unfolding pieces_in
+no_bytes = refl

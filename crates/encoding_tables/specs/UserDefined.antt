@@ -1,0 +1,52 @@
+-- x-user-defined (the Encoding Standard, section 14.5.1, "x-user-defined decoder", and section 14.5.2, "x-user-defined
+-- encoder").
+use Rattle.std.specs.Prelude.{◌≡◌, ℕ, ◌+◌, ◌-◌, List, [], ◌∷◌, nat_lt, if◌then◌else◌, Option, None, Some, refl}
+use Rattle.std.specs.Int.{is_in_range}
+use Rattle.encoding_mem.specs.Coding.{Coding, output}
+use Rattle.encoding_mem.specs.Piece.{Piece, good}
+use Rattle.encoding_mem.specs.Pieces.{pieces_in, pieces_by}
+use Rattle.encoding_tables.specs.EachByte.{front_by_byte, coding_by_byte}
+
+-- the character of a byte: ASCII gives itself, and what is above FF is no byte
+abbrev pub user_char_of_byte : ℕ → Option ℕ
+user_char_of_byte b = if nat_lt b 0x80
+    then Some b
+    else (if is_in_range 0x80 0xFF b then Some (0xF780 + (b - 0x80)) else None)
+
+-- the byte of a character
+abbrev pub byte_of_user_char : ℕ → Option ℕ
+byte_of_user_char c = if nat_lt c 0x80
+    then Some c
+    else (if is_in_range 0xF780 0xF7FF c then Some (0x80 + (c - 0xF780)) else None)
+
+abbrev pub front_user_defined : List ℕ → Piece
+front_user_defined = front_by_byte user_char_of_byte
+
+abbrev pub pieces_user_defined : List ℕ → List Piece
+pieces_user_defined = pieces_by front_user_defined
+
+abbrev pub user_defined_coding : Coding
+user_defined_coding = coding_by_byte byte_of_user_char
+
+-- the first and the last byte that are not ASCII
+in_a_row : pieces_user_defined (0x7F ∷ 0x80 ∷ 0xFF ∷ [])
+    ≡ good 1 (0x7F ∷ []) ∷ good 1 (0xF780 ∷ []) ∷ good 1 (0xF7FF ∷ []) ∷ []
+unfolding pieces_in
+in_a_row = refl
+
+no_bytes : pieces_user_defined [] ≡ []
+unfolding pieces_in
+no_bytes = refl
+
+back : output user_defined_coding (0x7F ∷ 0xF780 ∷ 0xF7FF ∷ []) ≡ 0x7F ∷ 0x80 ∷ 0xFF ∷ []
+back = refl
+
+-- the characters beside them, and one that another encoding has at 80
+before_the_first : byte_of_user_char 0xF77F ≡ None
+before_the_first = refl
+
+behind_the_last : byte_of_user_char 0xF800 ≡ None
+behind_the_last = refl
+
+no_latin1 : byte_of_user_char 0x80 ≡ None
+no_latin1 = refl

@@ -1,0 +1,90 @@
+-- UTF-16 in bytes, of either order (the Encoding Standard, section 14.2.1, "shared UTF-16 decoder"; RFC 2781).
+use Rattle.std.specs.Prelude.{◌≡◌, ℕ, Bool, true, false, List, [], ◌∷◌, ◌++◌, if◌then◌else◌, refl}
+use Rattle.std.specs.Int.{w16, from_be_bytes, from_le_bytes, to_be_bytes, to_le_bytes}
+use Rattle.std.specs.Char.Utf16.{is_high_surrogate, is_low_surrogate, surrogate_pair_char}
+use Rattle.std.proofs.Math.Utf8.{scalar}
+use Rattle.encoding_mem.specs.Piece.{Piece, good, bad}
+use Rattle.encoding_mem.specs.Pieces.{pieces_in, pieces_by}
+
+-- the unit that two bytes are, and the two bytes of a unit
+abbrev pub unit_of : (big_endian : Bool) → ℕ → ℕ → ℕ
+unit_of big_endian a b = if big_endian then from_be_bytes w16 (a ∷ b ∷ []) else from_le_bytes w16 (a ∷ b ∷ [])
+
+abbrev pub bytes_of_unit : (big_endian : Bool) → ℕ → List ℕ
+bytes_of_unit big_endian u = if big_endian then to_be_bytes w16 u else to_le_bytes w16 u
+
+abbrev pub bytes_of_units : (big_endian : Bool) → List ℕ → List ℕ
+bytes_of_units big_endian [] = []
+bytes_of_units big_endian (u ∷ us) = bytes_of_unit big_endian u ++ bytes_of_units big_endian us
+
+-- The piece that begins with a high surrogate, by what follows it. A unit that is no low surrogate is left; a byte that
+-- the end cuts off from its unit is not.
+abbrev pub after_high_surrogate : (big_endian : Bool) → ℕ → List ℕ → Piece
+after_high_surrogate big_endian u [] = bad 2
+after_high_surrogate big_endian u (c ∷ []) = bad 3
+after_high_surrogate big_endian u (c ∷ d ∷ x) = if is_low_surrogate (unit_of big_endian c d)
+    then good 4 (surrogate_pair_char u (unit_of big_endian c d) ∷ [])
+    else bad 2
+
+-- The piece that begins with a unit. A unit that is a scalar is that character; a low surrogate is none.
+abbrev pub after_unit : (big_endian : Bool) → ℕ → List ℕ → Piece
+after_unit big_endian u x = if is_high_surrogate u
+    then after_high_surrogate big_endian u x
+    else (if scalar u then good 2 (u ∷ []) else bad 2)
+
+-- the first piece of some bytes
+abbrev pub front_utf16 : (big_endian : Bool) → List ℕ → Piece
+front_utf16 big_endian [] = bad 1
+front_utf16 big_endian (a ∷ []) = bad 1
+front_utf16 big_endian (a ∷ b ∷ x) = after_unit big_endian (unit_of big_endian a b) x
+
+-- the pieces of some bytes, where the list's end is the end of the input
+abbrev pub pieces_utf16 : (big_endian : Bool) → List ℕ → List Piece
+pieces_utf16 big_endian x = pieces_by (front_utf16 big_endian) x
+
+-- U+4E00 and U+1F4A9 in both orders
+big_text : pieces_utf16 true (0x4E ∷ 0 ∷ 0xD8 ∷ 0x3D ∷ 0xDC ∷ 0xA9 ∷ []) ≡ good 2 (0x4E00 ∷ []) ∷ good 4 (0x1F4A9 ∷ []) ∷ []
+unfolding pieces_in
+big_text = refl
+
+little_text : pieces_utf16 false (0 ∷ 0x4E ∷ 0x3D ∷ 0xD8 ∷ 0xA9 ∷ 0xDC ∷ []) ≡ good 2 (0x4E00 ∷ []) ∷ good 4 (0x1F4A9 ∷ []) ∷ []
+unfolding pieces_in
+little_text = refl
+
+-- a high surrogate before a unit that is no low one, which is read by itself
+high_alone : pieces_utf16 false (0 ∷ 0xD8 ∷ 0 ∷ 0 ∷ 0 ∷ 0x4E ∷ []) ≡ bad 2 ∷ good 2 (0 ∷ []) ∷ good 2 (0x4E00 ∷ []) ∷ []
+unfolding pieces_in
+high_alone = refl
+
+high_before_high : pieces_utf16 true (0xD8 ∷ 0 ∷ 0xD8 ∷ 0 ∷ 0xDC ∷ 0 ∷ []) ≡ bad 2 ∷ good 4 (0x10000 ∷ []) ∷ []
+unfolding pieces_in
+high_before_high = refl
+
+low_alone : pieces_utf16 true (0xDC ∷ 0 ∷ 0 ∷ 0x41 ∷ []) ≡ bad 2 ∷ good 2 (0x41 ∷ []) ∷ []
+unfolding pieces_in
+low_alone = refl
+
+-- what the end cuts
+high_at_the_end : pieces_utf16 true (0xD8 ∷ 0 ∷ []) ≡ bad 2 ∷ []
+unfolding pieces_in
+high_at_the_end = refl
+
+high_and_a_byte : pieces_utf16 false (0 ∷ 0xD8 ∷ 0x41 ∷ []) ≡ bad 3 ∷ []
+unfolding pieces_in
+high_and_a_byte = refl
+
+last_byte : pieces_utf16 false (0x41 ∷ 0 ∷ 0x42 ∷ []) ≡ good 2 (0x41 ∷ []) ∷ bad 1 ∷ []
+unfolding pieces_in
+last_byte = refl
+
+-- the units beside the surrogates
+beside_surrogates : pieces_utf16 true (0xD7 ∷ 0xFF ∷ 0xE0 ∷ 0 ∷ []) ≡ good 2 (0xD7FF ∷ []) ∷ good 2 (0xE000 ∷ []) ∷ []
+unfolding pieces_in
+beside_surrogates = refl
+
+last_scalar : pieces_utf16 true (0xDB ∷ 0xFF ∷ 0xDF ∷ 0xFF ∷ []) ≡ good 4 (0x10FFFF ∷ []) ∷ []
+unfolding pieces_in
+last_scalar = refl
+
+units : bytes_of_units false (0xD83D ∷ 0xDCA9 ∷ []) ≡ 0x3D ∷ 0xD8 ∷ 0xA9 ∷ 0xDC ∷ []
+units = refl

@@ -1,0 +1,96 @@
+// The encoder of x-user-defined (the Encoding Standard, section 14.5.2, "x-user-defined encoder").
+
+ghost use Rattle.std.specs.Prelude.{◌≡◌};
+ghost use Rattle.encoding_mem.specs.declared.form.Set.TheVariants.{Ascii};
+ghost use Rattle.encoding_tables.specs.UserDefined.{byte_of_user_char, user_defined_coding};
+ghost use Rattle.encoding_tables.specs.UserDefinedLaws.{user_defined_laws};
+
+use crate::single_byte_encoder::form_of;
+use encoding_mem::encode::{Target, encode};
+use encoding_mem::form::{Bytes, Form, Set};
+use encoding_mem::source::{Source, Utf8Source, Utf16Source};
+use encoding_mem::{EncoderResult, RawEncoder};
+
+// What x-user-defined makes of a character.
+#[derive(Clone, Copy, Drop)]
+struct UserDefined;
+
+impl Target for UserDefined {
+    ghost need = { 1 };
+
+    ghost coding = { λ _. user_defined_coding };
+
+    ghost laws = { λ _. user_defined_laws };
+
+    fn step(&self, _set: Set, c: char) -> (Set, Form) {
+        (Set::Ascii, form_of(c, byte_of(c)))
+    }
+
+    fn copies_ascii(&self, set: Set) -> bool {
+        matches!(set, Set::Ascii)
+    }
+
+    fn escape(&self, _from: Set, _to: Set) -> Bytes {
+        Bytes::none()
+    }
+}
+
+// The byte of a character.
+fn byte_of(c: char) -> Option<u8>
+    ensures { result ≡ byte_of_user_char c }
+{
+    match c {
+        '\0'..='\x7F' => Some(c as u8),
+        '\u{F780}'..='\u{F7FF}' => Some((0x80 + (c as u32 - 0xF780)) as u8),
+        _ => None,
+    }
+}
+
+/// Encodes to x-user-defined: ASCII gives itself, and U+F780 to U+F7FF give the bytes from 80. Any other
+/// character is unmappable. There is no state.
+#[derive(Drop)]
+pub struct UserDefinedEncoder {}
+
+impl UserDefinedEncoder {
+    pub fn new() -> Self
+        ensures coding { ⟦<UserDefinedEncoder as RawEncoder>⟧.coding result ≡ user_defined_coding }
+        ensures set { ⟦<UserDefinedEncoder as RawEncoder>⟧.set result ≡ Ascii }
+        ensures need { ⟦<UserDefinedEncoder as RawEncoder>⟧.need result ≡ 1 }
+    {
+        UserDefinedEncoder {}
+    }
+}
+
+impl RawEncoder for UserDefinedEncoder {
+    ghost need = { λ _. 1 };
+
+    ghost coding = { λ _. user_defined_coding };
+
+    ghost set = { λ _. Ascii };
+
+    ghost laws = { λ _. user_defined_laws };
+
+    fn encode_from_utf8_raw(
+        &mut self,
+        src: &str,
+        dst: &mut [u8],
+        last: bool,
+    ) -> (EncoderResult, usize, usize) {
+        let mut source = Utf8Source::new(src);
+        let mut set = Set::Ascii;
+        let (result, written) = encode(&UserDefined, &mut set, &mut source, dst, last);
+        (result, source.read(), written)
+    }
+
+    fn encode_from_utf16_raw(
+        &mut self,
+        src: &[u16],
+        dst: &mut [u8],
+        last: bool,
+    ) -> (EncoderResult, usize, usize) {
+        let mut source = Utf16Source::new(src);
+        let mut set = Set::Ascii;
+        let (result, written) = encode(&UserDefined, &mut set, &mut source, dst, last);
+        (result, source.read(), written)
+    }
+}

@@ -1,0 +1,185 @@
+// The decoder of UTF-16, in both byte orders (the Encoding Standard, section 14.2.1, "shared UTF-16
+// decoder").
+
+ghost use Rattle.std.specs.Prelude.{◌≡◌, ℕ, ◌+◌, ◌*◌, ◌/◌, IsTrue};
+ghost use Rattle.std.specs.Char.{IsScalar};
+ghost use Rattle.std.specs.Char.Utf16.{is_high_surrogate, is_low_surrogate, surrogate_pair_char};
+ghost use Rattle.encoding_mem.specs.PiecesLaws.{pieces_by-nil, pieces_by-whole, pieces_by-are_pieces};
+ghost use Rattle.encoding_mem.specs.Utf8Decide.{cut_short};
+ghost use Rattle.encoding_tables.specs.Utf16.{unit_of, front_utf16, pieces_utf16};
+ghost use Rattle.encoding_tables.specs.Utf16Decide.{decide_utf16, decide_unit, decide_pair};
+ghost use Rattle.encoding_tables.specs.Utf16Laws.{cuts_utf16};
+
+use encoding_mem::front::{Front, FrontPiece};
+use encoding_mem::piece_decoder::{Buffered, PieceDecoder};
+use encoding_mem::sink::Sink;
+use encoding_mem::{DecoderResult, RawDecoder};
+
+// The rule of UTF-16: a unit is a character, or two surrogates are.
+#[derive(Clone, Copy)]
+struct Utf16Rule {
+    big_endian: bool,
+}
+
+impl FrontPiece for Utf16Rule {
+    ghost pieces = { λ s x. pieces_utf16 s.big_endian x };
+
+    ghost whole = { λ s. pieces_by-whole (front_utf16 s.big_endian) (cuts_utf16 s.big_endian) };
+
+    ghost are_pieces = { λ s. pieces_by-are_pieces (front_utf16 s.big_endian) (cuts_utf16 s.big_endian) };
+
+    ghost ends = { λ s. pieces_by-nil (front_utf16 s.big_endian) };
+
+    ghost bytes_for = { λ _ m. 3 * ((m + 1) / 2) + 1 };
+
+    ghost units_for = { λ _ m. (m + 1) / 2 + 1 };
+
+    ghost after = { λ s _. s };
+
+    fn front(&self, bytes: &[u8], last: bool) -> Front {
+        decide(self.big_endian, bytes, last)
+    }
+
+    fn pass(&mut self, bytes: &[u8]) {
+        let _ = bytes;
+    }
+
+    fn text_at<'b>(&self, bytes: &'b [u8]) -> &'b str {
+        let _ = bytes;
+        ""
+    }
+}
+
+fn decide(big_endian: bool, bytes: &[u8], last: bool) -> Front
+    ensures { result ≡ decide_utf16 big_endian bytes.now last }
+{
+    match bytes {
+        [] => Front::More,
+        [_] => cut_short(1, last),
+        [a, b, rest @ ..] => decide_unit(big_endian, unit_of(big_endian, *a, *b), rest, last),
+    }
+}
+
+// By a unit, and the bytes behind it.
+fn decide_unit(big_endian: bool, unit: u16, rest: &[u8], last: bool) -> Front
+    ensures { result ≡ decide_unit big_endian unit rest.now last }
+{
+    if is_high_surrogate(unit) {
+        decide_pair(big_endian, unit, rest, last)
+    } else if is_low_surrogate(unit) {
+        Front::Bad(2)
+    } else {
+        Front::One(char_of(u32::from(unit)), 2)
+    }
+}
+
+// By a high surrogate, and the bytes behind it.
+fn decide_pair(big_endian: bool, high: u16, rest: &[u8], last: bool) -> Front
+    requires { IsTrue (is_high_surrogate high) }
+    ensures { result ≡ decide_pair big_endian high rest.now last }
+{
+    match rest {
+        [] => cut_short(2, last),
+        [_] => cut_short(3, last),
+        [a, b, ..] => {
+            let low = unit_of(big_endian, *a, *b);
+            if is_low_surrogate(low) {
+                Front::One(char_of_pair(high, low), 4)
+            } else {
+                Front::Bad(2)
+            }
+        }
+    }
+}
+
+// The bytes that are here may be the front of a longer piece.
+fn cut_short(size: usize, last: bool) -> Front
+    ensures { result ≡ cut_short size last }
+{
+    if last { Front::Bad(size) } else { Front::More }
+}
+
+// The unit that two bytes are.
+fn unit_of(big_endian: bool, a: u8, b: u8) -> u16
+    ensures { result ≡ unit_of big_endian a b }
+{
+    if big_endian {
+        u16::from_be_bytes([a, b])
+    } else {
+        u16::from_le_bytes([a, b])
+    }
+}
+
+fn is_high_surrogate(unit: u16) -> bool
+    ensures { result ≡ is_high_surrogate unit }
+{
+    unit >= 0xD800 && unit < 0xDC00
+}
+
+fn is_low_surrogate(unit: u16) -> bool
+    ensures { result ≡ is_low_surrogate unit }
+{
+    unit >= 0xDC00 && unit < 0xE000
+}
+
+fn char_of_pair(high: u16, low: u16) -> char
+    requires high { IsTrue (is_high_surrogate high) }
+    requires low { IsTrue (is_low_surrogate low) }
+    ensures { result ≡ surrogate_pair_char high low }
+{
+    char_of(0x10000 + (high as u32 - 0xD800) * 0x400 + (low as u32 - 0xDC00))
+}
+
+fn char_of(code: u32) -> char
+    requires { IsScalar code }
+    ensures { result ≡ code }
+{
+    char::from_u32(code).unwrap()
+}
+
+/// Decodes UTF-16, in either byte order. A surrogate in no pair is bad, and so are the bytes that the end
+/// of the input cuts off.
+#[derive(Drop)]
+pub struct Utf16Decoder {
+    inner: Buffered<Utf16Rule>,
+}
+
+impl Utf16Decoder {
+    /// The decoder of UTF-16BE, or of UTF-16LE. Nothing is pending. With `q` half of `m + 1`, rounded down,
+    /// the room that is enough for any `m` bytes is `3 * q + 1` bytes, or `q + 1` units.
+    pub fn new(big_endian: bool) -> Self
+        ensures pending { (⟦<Utf16Decoder as RawDecoder>⟧.state result).pending ≡ 0 }
+        ensures pieces { (⟦<Utf16Decoder as RawDecoder>⟧.state result).pieces ≡ pieces_utf16 big_endian }
+        ensures bytes { (m : ℕ) → (⟦<Utf16Decoder as RawDecoder>⟧.state result).bytes_for m ≡ 3 * ((m + 1) / 2) + 1 }
+        ensures units { (m : ℕ) → (⟦<Utf16Decoder as RawDecoder>⟧.state result).units_for m ≡ (m + 1) / 2 + 1 }
+    {
+        Utf16Decoder {
+            inner: Buffered::new(Utf16Rule { big_endian }),
+        }
+    }
+
+    /// How many bytes a question for room has to count beside the new ones, before it halves them: those
+    /// that are pending, and one, to round up.
+    pub fn additional_from_state(&self) -> usize
+        ensures { result ≡ (⟦<Utf16Decoder as RawDecoder>⟧.state self.now).pending + 1 }
+    {
+        self.pending_len() + 1
+    }
+}
+
+impl PieceDecoder for Utf16Decoder {
+    ghost state = { λ d. ⟦<Buffered<Utf16Rule> as PieceDecoder>⟧.state d.inner };
+
+    fn decode_into<S: Sink>(
+        &mut self,
+        src: &[u8],
+        sink: &mut S,
+        last: bool,
+    ) -> (DecoderResult, usize) {
+        self.inner.decode_into(src, sink, last)
+    }
+
+    fn held_len(&self) -> usize {
+        self.inner.held_len()
+    }
+}
