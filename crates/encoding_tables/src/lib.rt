@@ -12,6 +12,8 @@ pub mod single_byte_decoder;
 pub mod single_byte_encoder;
 #[cfg(test)]
 mod single_byte_tests;
+#[cfg(test)]
+mod stateless_tests;
 pub mod table_fault;
 pub mod tables;
 #[cfg(test)]
