@@ -4,3 +4,5 @@ mod Latin1
 pub mod NoText
 pub mod FrontUtf16
 pub mod RoomUtf16
+pub mod OneError
+pub mod UnitsUtf16

@@ -4,7 +4,7 @@ use Rattle.std.specs.Prelude.{slice_index, IfSome}
 use Rattle.std.specs.Char.{IsScalar}
 use Rattle.encoding_mem.specs.Coding.{IsCoding, IsShort}
 use Rattle.encoding_mem.specs.StatelessLaws.{stateless_laws, short_one, short_none}
-use Rattle.encoding_mem.specs.Piece.{good, size_of, Cuts}
+use Rattle.encoding_mem.specs.Piece.{size_of, Cuts}
 use Rattle.encoding_mem.specs.PiecesLaws.{CutsEach, pieces_by-cons}
 use Rattle.encoding_mem.specs.Utf8Laws.{cuts_bad, cuts_one}
 use Rattle.encoding_mem.specs.FrontPiece.{IsFront}

@@ -1,7 +1,7 @@
 -- The replacement encoding (the Encoding Standard, section 14.1.1, "replacement decoder"): a stream that is not empty
 -- is one error, and no text.
 use Rattle.std.specs.Prelude.{◌≡◌, ℕ, Bool, true, false, List, [], ◌∷◌, refl}
-use Rattle.encoding_mem.specs.Piece.{Piece, good, bad}
+use Rattle.encoding_mem.specs.Piece.{Piece, good, bad, bad_count, text}
 use Rattle.encoding_mem.specs.Pieces.{pieces_in}
 
 -- The first piece, by whether the error was returned: the first byte is bad, each later one is silent.
@@ -15,6 +15,10 @@ after_replacement error_returned x = true
 
 abbrev pub pieces_replacement : (error_returned : Bool) → List ℕ → List Piece
 pieces_replacement = pieces_in front_replacement after_replacement
+
+-- Some bytes are one error, whose U+FFFD is all their text.
+abbrev pub IsOneError : Type 0
+IsOneError = (b : ℕ) (x : List ℕ) → (bad_count (pieces_replacement false (b ∷ x)) ≡ 1) × (text (pieces_replacement false (b ∷ x)) ≡ 0xFFFD ∷ [])
 
 two_bytes : pieces_replacement false (0x41 ∷ 0x42 ∷ []) ≡ bad 1 ∷ good 1 [] ∷ []
 unfolding pieces_in

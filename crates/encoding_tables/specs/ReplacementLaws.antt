@@ -1,6 +1,5 @@
 -- Laws of the pieces of the replacement encoding.
-use Rattle.std.proofs.Common.{◌≡◌, ℕ, ◌+◌, ◌≤◌, ◌<◌, Bool, true, false, List, length, refl, arith, lit<, lit≤}
-use Rattle.encoding_mem.specs.Piece.{Cuts}
+use Rattle.std.proofs.Common.{ℕ, ◌+◌, ◌<◌, Bool, true, false, List, length, refl, arith, lit<, lit≤}
 use Rattle.encoding_mem.specs.PiecesLaws.{AllCut}
 use Rattle.encoding_mem.specs.Utf8Laws.{cuts_bad}
 use Rattle.encoding_mem.specs.FrontPiece.{IsFront}

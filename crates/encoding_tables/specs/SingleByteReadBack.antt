@@ -1,5 +1,5 @@
 -- What a single-byte encoding writes reads back exactly where each character has a byte.
-use Rattle.std.proofs.Common.{◌≡◌, ℕ, ◌+◌, ◌-◌, ◌≤◌, List, refl, arith, inl, inr, Some}
+use Rattle.std.proofs.Common.{◌≡◌, ℕ, ◌+◌, ◌-◌, List, refl, arith, inl, inr, Some}
 use Rattle.std.proofs.lemmas.Bool.{cases_lt, lt-ltb, le-ltb}
 use Rattle.encoding_mem.specs.Piece.{ArePieces}
 use Rattle.encoding_mem.specs.PiecesLaws.{pieces_by-are_pieces}

@@ -1,10 +1,11 @@
 -- UTF-16 in bytes, of either order (the Encoding Standard, section 14.2.1, "shared UTF-16 decoder"; RFC 2781).
-use Rattle.std.specs.Prelude.{◌≡◌, ℕ, Bool, true, false, List, [], ◌∷◌, ◌++◌, if◌then◌else◌, refl}
+use Rattle.std.specs.Prelude.{◌≡◌, ℕ, ◌*◌, ◌<◌, Bool, true, false, List, [], ◌∷◌, ◌++◌, map, slice_index, if◌then◌else◌, Option, None, Some, refl}
 use Rattle.std.specs.Int.{w16, from_be_bytes, from_le_bytes, to_be_bytes, to_le_bytes}
-use Rattle.std.specs.Char.Utf16.{is_high_surrogate, is_low_surrogate, surrogate_pair_char}
+use Rattle.std.specs.Char.Utf16.{is_high_surrogate, is_low_surrogate, surrogate_pair_char, utf16_chars}
 use Rattle.std.proofs.Math.Utf8.{scalar}
 use Rattle.encoding_mem.specs.Piece.{Piece, good, bad}
 use Rattle.encoding_mem.specs.Pieces.{pieces_in, pieces_by}
+use Rattle.encoding_mem.specs.Writing.{len_utf16}
 
 -- the unit that two bytes are, and the two bytes of a unit
 abbrev pub unit_of : (big_endian : Bool) → ℕ → ℕ → ℕ
@@ -41,6 +42,16 @@ front_utf16 big_endian (a ∷ b ∷ x) = after_unit big_endian (unit_of big_endi
 -- the pieces of some bytes, where the list's end is the end of the input
 abbrev pub pieces_utf16 : (big_endian : Bool) → List ℕ → List Piece
 pieces_utf16 big_endian x = pieces_by (front_utf16 big_endian) x
+
+-- the piece of a character, and of a surrogate in no pair
+abbrev pub piece_of_char : Option ℕ → Piece
+piece_of_char None = bad 2
+piece_of_char (Some c) = good (2 * len_utf16 c) (c ∷ [])
+
+-- The pieces of units are the characters that they spell.
+abbrev pub ReadsUnits : Type 0
+ReadsUnits = (big_endian : Bool) (units : List ℕ) → ((k : ℕ) → slice_index units k < 0x10000)
+    → pieces_utf16 big_endian (bytes_of_units big_endian units) ≡ map piece_of_char (utf16_chars units)
 
 -- U+4E00 and U+1F4A9 in both orders
 big_text : pieces_utf16 true (0x4E ∷ 0 ∷ 0xD8 ∷ 0x3D ∷ 0xDC ∷ 0xA9 ∷ []) ≡ good 2 (0x4E00 ∷ []) ∷ good 4 (0x1F4A9 ∷ []) ∷ []

@@ -1,10 +1,10 @@
 -- Laws of the pieces of UTF-16.
-use Rattle.std.proofs.Common.{◌≡◌, ℕ, suc, ◌+◌, ◌-◌, ◌*◌, ◌/◌, ◌≤◌, ◌<◌, ◌&&◌, ◌⊎◌, inl, inr, Bool, true, false, cond, List, [], ◌∷◌, ◌++◌, length, nat_lt, nat_le, refl, ◌∙◌, ap, arith, lit<, lit≤}
+use Rattle.std.proofs.Common.{◌≡◌, ℕ, ◌+◌, ◌≤◌, ◌<◌, inr, Bool, true, cond, List, [], ◌∷◌, length, nat_lt, nat_le, arith, lit<, lit≤}
 use Rattle.std.specs.Char.{IsScalar}
 use Rattle.std.specs.Char.Utf16.{is_high_surrogate, is_low_surrogate, surrogate_pair_char}
 use Rattle.std.proofs.Math.Utf8.{scalar}
 use Rattle.std.proofs.lemmas.Bool.{and_parts, leb-true, ltb-true}
-use Rattle.encoding_mem.specs.Piece.{Piece, good, bad, size_of, Cuts}
+use Rattle.encoding_mem.specs.Piece.{good, bad, Cuts}
 use Rattle.encoding_mem.specs.PiecesLaws.{CutsEach}
 use Rattle.encoding_mem.specs.Utf8Laws.{cuts_cond, cuts_bad, cuts_one, scalar_from}
 use Rattle.encoding_tables.specs.Utf16.{unit_of, after_high_surrogate, after_unit, front_utf16}

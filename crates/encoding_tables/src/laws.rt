@@ -7,6 +7,9 @@ ghost use Rattle.encoding_tables.specs.Accepted.{AcceptanceIsExact};
 ghost use Rattle.encoding_tables.specs.LookupLaws.{FirstIsLeast, LastIsGreatest};
 ghost use Rattle.encoding_tables.specs.NamedRows.{NamesAreExact};
 ghost use Rattle.encoding_tables.specs.SingleByte.{pieces_single_byte, single_byte_coding};
+ghost use Rattle.encoding_tables.specs.Replacement.{IsOneError};
+ghost use Rattle.encoding_tables.specs.UserDefined.{pieces_user_defined, user_defined_coding};
+ghost use Rattle.encoding_tables.specs.Utf16.{ReadsUnits};
 ghost use Rattle.encoding_tables.specs.RangeLaws.{ValuesAreScalars, ValuesRise, PointersAreExact, PointersReadBack};
 
 /// The lists that are taken as the index of a kind are those of its size whose mapped entries are scalars
@@ -38,4 +41,20 @@ pub fn ranges()
 /// exactly where each character of it has a byte.
 pub fn single_byte_text_reads_back()
     ensures { (flat : List ℕ) → AreEntries flat → ReadsBackExactly (pieces_single_byte flat) (single_byte_coding flat) }
+{}
+
+/// What is written in x-user-defined reads back as the text exactly where each character of it has a byte.
+pub fn user_defined_text_reads_back()
+    ensures { ReadsBackExactly pieces_user_defined user_defined_coding }
+{}
+
+/// The pieces of units in UTF-16, in either byte order, are the characters that the units spell; each
+/// surrogate in no pair is a bad piece.
+pub fn utf16_reads_units()
+    ensures { ReadsUnits }
+{}
+
+/// Some bytes in the replacement encoding are one error and no text besides.
+pub fn replacement_is_one_error()
+    ensures { IsOneError }
 {}
