@@ -1,16 +1,19 @@
 -- Room for the pieces of UTF-16.
-use Rattle.std.proofs.Common.{◌≡◌, ℕ, ◌+◌, ◌*◌, ◌/◌, ◌≤◌, ◌<◌, ◌⊎◌, inl, inr, Bool, true, false, cond, List, [], ◌∷◌, length, get_or, refl, arith, lit<}
+use Rattle.std.proofs.Common.{◌≡◌, ℕ, ◌+◌, ◌≤◌, ◌<◌, ◌⊎◌, inl, inr, Bool, true, false, cond, List, [], ◌∷◌, length, get_or, refl, arith, lit<}
 use Rattle.std.specs.Char.{len_utf8}
 use Rattle.std.specs.Char.Utf16.{is_high_surrogate, is_low_surrogate, surrogate_pair_char}
 use Rattle.std.proofs.Math.Utf8.{scalar}
 use Rattle.std.proofs.lemmas.Str.{len_utf8_bounds}
 use Rattle.std.proofs.lemmas.Bool.Decides.{nat_tests}
 use Rattle.encoding_mem.specs.FrontPiece.{IsRoomy}
+use Rattle.encoding_mem.specs.Room.{is_units, goes_on, cost_in, mark_in, left_after, room_of, room_utf16}
 use Rattle.encoding_mem.specs.Utf8Decide.{cut_short}
 use Rattle.encoding_mem.specs.Writing.{len_utf16}
 use Rattle.encoding_mem.specs.WritingLaws.{cost_fits16}
 use Rattle.encoding_mem.specs.declared.front.Front.{Front}
 use Rattle.encoding_mem.specs.declared.front.Front.TheVariants.{More, One, Two, Silent, Bad}
+use Rattle.encoding_mem.specs.declared.room.Count.{Count}
+use Rattle.encoding_mem.specs.declared.room.Count.TheVariants.{Units, Bytes, Replaced}
 use Rattle.encoding_tables.specs.Utf16.{unit_of}
 use Rattle.encoding_tables.specs.Utf16Decide.{decide_pair, decide_unit, decide_utf16}
 
@@ -55,16 +58,31 @@ len_utf8_basic c basic = grind (arith, nat_tests)
 len_utf16_basic : (c : ℕ) → c < 0x10000 → len_utf16 c ≤ 1
 len_utf16_basic c basic = grind (arith, nat_tests)
 
-pub utf16_bytes : (x : List ℕ) (last : Bool) (F : Front) → IsUtf16Front x last F → IsRoomy (λ m. 3 * ((m + 1) / 2) + 1) (λ m. 3 * ((m + 1) / 2) + 1) len_utf8 3 4 F
-utf16_bytes x last More h = tt
-utf16_bytes x last (One c n) h = λ m. elim h [ inl two ↦ omega (arith, two, len_utf8_basic c two.1) | inr four ↦ omega (arith, four, (len_utf8_bounds c).1) ]
-utf16_bytes x last (Two c d n) h = absurd h
-utf16_bytes x last (Silent n) h = absurd h
-utf16_bytes x last (Bad n) h = λ m. elim h [ inl two ↦ omega (arith, two) | inr all ↦ omega (arith, all.1) ]
+-- a character of two bytes, one of four, and a bad piece of two
+one_unit : (c n : ℕ) → n ≡ 2 → c < 0x10000 → (k : Count) (m : ℕ) → cost_in (is_units k) c + room_of room_utf16 k m ≤ room_of room_utf16 k (n + m)
+one_unit c n two basic Units m = omega (arith, two, len_utf16_basic c basic)
+one_unit c n two basic Bytes m = omega (arith, two, len_utf8_basic c basic)
+one_unit c n two basic Replaced m = omega (arith, two, len_utf8_basic c basic)
 
-pub utf16_units : (x : List ℕ) (last : Bool) (F : Front) → IsUtf16Front x last F → IsRoomy (λ m. (m + 1) / 2 + 1) (λ m. (m + 1) / 2 + 1) len_utf16 1 2 F
-utf16_units x last More h = tt
-utf16_units x last (One c n) h = λ m. elim h [ inl two ↦ omega (arith, two, len_utf16_basic c two.1) | inr four ↦ omega (arith, four, cost_fits16 c) ]
-utf16_units x last (Two c d n) h = absurd h
-utf16_units x last (Silent n) h = absurd h
-utf16_units x last (Bad n) h = λ m. elim h [ inl two ↦ omega (arith, two) | inr all ↦ omega (arith, all.1) ]
+two_units : (c n : ℕ) → n ≡ 4 → (k : Count) (m : ℕ) → cost_in (is_units k) c + room_of room_utf16 k m ≤ room_of room_utf16 k (n + m)
+two_units c n four Units m = omega (arith, four, cost_fits16 c)
+two_units c n four Bytes m = omega (arith, four, (len_utf8_bounds c).1)
+two_units c n four Replaced m = omega (arith, four, (len_utf8_bounds c).1)
+
+bad_unit : (n : ℕ) → n ≡ 2 → (k : Count) (m : ℕ) → left_after (goes_on k) (mark_in (is_units k)) (room_of room_utf16 k m) ≤ room_of room_utf16 k (n + m)
+bad_unit n two Units m = omega (arith, two)
+bad_unit n two Bytes m = omega (arith, two)
+bad_unit n two Replaced m = omega (arith, two)
+
+-- nothing follows what the end cuts
+bad_end : (n : ℕ) → 0 < n → (k : Count) (m : ℕ) → m ≡ 0 → left_after (goes_on k) (mark_in (is_units k)) (room_of room_utf16 k m) ≤ room_of room_utf16 k (n + m)
+bad_end n some Units m none = omega (arith, some, none)
+bad_end n some Bytes m none = omega (arith, some, none)
+bad_end n some Replaced m none = omega (arith, some, none)
+
+pub roomy_utf16 : (x : List ℕ) (last : Bool) (F : Front) → IsUtf16Front x last F → IsRoomy (room_of room_utf16) (room_of room_utf16) (length x) last F
+roomy_utf16 x last More h = tt
+roomy_utf16 x last (One c n) h = λ k m _. elim h [ inl two ↦ one_unit c n two.0 two.1 k m | inr four ↦ two_units c n four k m ]
+roomy_utf16 x last (Two c d n) h = absurd h
+roomy_utf16 x last (Silent n) h = absurd h
+roomy_utf16 x last (Bad n) h = λ k m e. elim h [ inl two ↦ bad_unit n two k m | inr all ↦ bad_end n all.1 k m (omega (arith, e all.0, all.2)) ]

@@ -1,12 +1,17 @@
 // The decoder of the replacement encoding (the Encoding Standard, section 14.1.1, "replacement decoder").
 
-ghost use Rattle.std.specs.Prelude.{if◌then◌else◌, ◌≡◌, ℕ, false};
+ghost use Rattle.std.proofs.Common.{refl};
+ghost use Rattle.std.specs.Prelude.{◌≡◌, false};
 ghost use Rattle.encoding_mem.specs.PiecesLaws.{pieces_in-nil, pieces_in-whole, pieces_in-are_pieces};
+ghost use Rattle.encoding_mem.specs.Room.{room_replacement};
+ghost use Rattle.encoding_mem.specs.Shows.{decided_in};
 ghost use Rattle.encoding_tables.specs.Replacement.{front_replacement, after_replacement, pieces_replacement};
-ghost use Rattle.encoding_tables.specs.ReplacementLaws.{cuts_replacement};
+ghost use Rattle.encoding_tables.specs.ReplacementLaws.{cuts_replacement, replacement_needs, replacement_covers, decided_by_one};
 
+use encoding_mem::bytewise::{Bytewise, DecidedPiece};
 use encoding_mem::front::{Front, FrontPiece};
-use encoding_mem::piece_decoder::{Buffered, PieceDecoder};
+use encoding_mem::piece_decoder::PieceDecoder;
+use encoding_mem::room::Room;
 use encoding_mem::sink::Sink;
 use encoding_mem::{DecoderResult, RawDecoder};
 
@@ -25,11 +30,15 @@ impl FrontPiece for ReplacementRule {
 
     ghost ends = { λ s. pieces_in-nil front_replacement after_replacement s.error_returned };
 
-    ghost bytes_for = { λ s _. if s.error_returned then 0 else 3 };
+    ghost needs = { λ s. replacement_needs s.error_returned };
 
-    ghost units_for = { λ s _. if s.error_returned then 0 else 1 };
+    ghost limits = { λ _. room_replacement };
+
+    ghost covers = { λ s. replacement_covers s.error_returned };
 
     ghost after = { λ s x. record s { error_returned = after_replacement s.error_returned x } };
+
+    ghost steady = { λ _ _. refl };
 
     fn front(&self, bytes: &[u8], last: bool) -> Front {
         let _ = bytes;
@@ -50,26 +59,32 @@ impl FrontPiece for ReplacementRule {
         let _ = bytes;
         ""
     }
+
+    fn room(&self) -> Room {
+        Room::replacement()
+    }
+}
+
+impl DecidedPiece for ReplacementRule {
+    ghost decided = { λ s. decided_in front_replacement after_replacement cuts_replacement decided_by_one s.error_returned };
 }
 
 /// Decodes the replacement encoding: the first byte is bad, and all bytes after it give nothing. It stands
 /// for encodings that must not be decoded.
 #[derive(Drop)]
 pub struct ReplacementDecoder {
-    inner: Buffered<ReplacementRule>,
+    inner: Bytewise<ReplacementRule>,
 }
 
 impl ReplacementDecoder {
-    /// The error is still to be returned. The room that is enough for any number of bytes is 3 bytes, or
-    /// 1 unit: that of the one U+FFFD.
+    /// The error is still to be returned. Nothing is ever pending.
     pub fn new() -> Self
         ensures pending { (⟦<ReplacementDecoder as RawDecoder>⟧.state result).pending ≡ 0 }
         ensures pieces { (⟦<ReplacementDecoder as RawDecoder>⟧.state result).pieces ≡ pieces_replacement false }
-        ensures bytes { (m : ℕ) → (⟦<ReplacementDecoder as RawDecoder>⟧.state result).bytes_for m ≡ 3 }
-        ensures units { (m : ℕ) → (⟦<ReplacementDecoder as RawDecoder>⟧.state result).units_for m ≡ 1 }
+        ensures room { (⟦<ReplacementDecoder as RawDecoder>⟧.state result).room ≡ room_replacement }
     {
         ReplacementDecoder {
-            inner: Buffered::new(ReplacementRule {
+            inner: Bytewise::new(ReplacementRule {
                 error_returned: false,
             }),
         }
@@ -77,7 +92,7 @@ impl ReplacementDecoder {
 }
 
 impl PieceDecoder for ReplacementDecoder {
-    ghost state = { λ d. ⟦<Buffered<ReplacementRule> as PieceDecoder>⟧.state d.inner };
+    ghost state = { λ d. ⟦<Bytewise<ReplacementRule> as PieceDecoder>⟧.state d.inner };
 
     fn decode_into<S: Sink>(
         &mut self,
@@ -90,5 +105,9 @@ impl PieceDecoder for ReplacementDecoder {
 
     fn held_len(&self) -> usize {
         self.inner.held_len()
+    }
+
+    fn room(&self) -> Room {
+        self.inner.room()
     }
 }

@@ -1,13 +1,18 @@
 // The decoder of x-user-defined (the Encoding Standard, section 14.5.1, "x-user-defined decoder").
 
-ghost use Rattle.std.specs.Prelude.{◌≡◌, ℕ, ◌*◌, ◌<◌, Some};
+ghost use Rattle.std.proofs.Common.{refl, arith};
+ghost use Rattle.std.specs.Prelude.{◌≡◌, ◌<◌, Some};
 ghost use Rattle.encoding_mem.specs.PiecesLaws.{pieces_by-nil, pieces_by-whole, pieces_by-are_pieces};
+ghost use Rattle.encoding_mem.specs.Room.{room_of, room_single_byte};
+ghost use Rattle.encoding_mem.specs.Shows.{decided_by};
 ghost use Rattle.encoding_tables.specs.UserDefined.{user_char_of_byte, front_user_defined, pieces_user_defined};
 ghost use Rattle.encoding_tables.specs.UserDefinedLaws.{cuts_user_defined};
 
 use encoding_mem::ascii::ascii_front;
+use encoding_mem::bytewise::{Bytewise, DecidedPiece};
 use encoding_mem::front::{Front, FrontPiece};
-use encoding_mem::piece_decoder::{Buffered, PieceDecoder};
+use encoding_mem::piece_decoder::PieceDecoder;
+use encoding_mem::room::Room;
 use encoding_mem::sink::Sink;
 use encoding_mem::{DecoderResult, RawDecoder};
 
@@ -24,11 +29,15 @@ impl FrontPiece for UserDefinedRule {
 
     ghost ends = { λ _. pieces_by-nil front_user_defined };
 
-    ghost bytes_for = { λ _ m. 3 * m };
+    ghost needs = { λ _. room_of room_single_byte };
 
-    ghost units_for = { λ _ m. m };
+    ghost limits = { λ _. room_single_byte };
+
+    ghost covers = { λ _ _ _. omega arith };
 
     ghost after = { λ s _. s };
+
+    ghost steady = { λ _ _. refl };
 
     fn front(&self, bytes: &[u8], last: bool) -> Front {
         let _ = last;
@@ -42,6 +51,14 @@ impl FrontPiece for UserDefinedRule {
     fn text_at<'b>(&self, bytes: &'b [u8]) -> &'b str {
         ascii_front(bytes)
     }
+
+    fn room(&self) -> Room {
+        Room::single_byte()
+    }
+}
+
+impl DecidedPiece for UserDefinedRule {
+    ghost decided = { λ _. decided_by front_user_defined cuts_user_defined (λ _ _ _. refl) };
 }
 
 // The character of a byte.
@@ -60,25 +77,24 @@ fn char_of(byte: u8) -> char
 /// is bad.
 #[derive(Drop)]
 pub struct UserDefinedDecoder {
-    inner: Buffered<UserDefinedRule>,
+    inner: Bytewise<UserDefinedRule>,
 }
 
 impl UserDefinedDecoder {
-    /// Nothing is pending. The room that is enough for any `m` bytes is `3 * m` bytes, or `m` units.
+    /// Nothing is ever pending.
     pub fn new() -> Self
         ensures pending { (⟦<UserDefinedDecoder as RawDecoder>⟧.state result).pending ≡ 0 }
         ensures pieces { (⟦<UserDefinedDecoder as RawDecoder>⟧.state result).pieces ≡ pieces_user_defined }
-        ensures bytes { (m : ℕ) → (⟦<UserDefinedDecoder as RawDecoder>⟧.state result).bytes_for m ≡ 3 * m }
-        ensures units { (m : ℕ) → (⟦<UserDefinedDecoder as RawDecoder>⟧.state result).units_for m ≡ m }
+        ensures room { (⟦<UserDefinedDecoder as RawDecoder>⟧.state result).room ≡ room_single_byte }
     {
         UserDefinedDecoder {
-            inner: Buffered::new(UserDefinedRule {}),
+            inner: Bytewise::new(UserDefinedRule {}),
         }
     }
 }
 
 impl PieceDecoder for UserDefinedDecoder {
-    ghost state = { λ d. ⟦<Buffered<UserDefinedRule> as PieceDecoder>⟧.state d.inner };
+    ghost state = { λ d. ⟦<Bytewise<UserDefinedRule> as PieceDecoder>⟧.state d.inner };
 
     fn decode_into<S: Sink>(
         &mut self,
@@ -91,5 +107,9 @@ impl PieceDecoder for UserDefinedDecoder {
 
     fn held_len(&self) -> usize {
         self.inner.held_len()
+    }
+
+    fn room(&self) -> Room {
+        self.inner.room()
     }
 }

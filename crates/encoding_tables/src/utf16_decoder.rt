@@ -1,10 +1,12 @@
 // The decoder of UTF-16, in both byte orders (the Encoding Standard, section 14.2.1, "shared UTF-16
 // decoder").
 
-ghost use Rattle.std.specs.Prelude.{◌≡◌, ℕ, ◌+◌, ◌*◌, ◌/◌, IsTrue};
+ghost use Rattle.std.proofs.Common.{refl, arith};
+ghost use Rattle.std.specs.Prelude.{◌≡◌, ◌+◌, IsTrue};
 ghost use Rattle.std.specs.Char.{IsScalar};
 ghost use Rattle.std.specs.Char.Utf16.{is_high_surrogate, is_low_surrogate, surrogate_pair_char};
 ghost use Rattle.encoding_mem.specs.PiecesLaws.{pieces_by-nil, pieces_by-whole, pieces_by-are_pieces};
+ghost use Rattle.encoding_mem.specs.Room.{room_of, room_utf16};
 ghost use Rattle.encoding_mem.specs.Utf8Decide.{cut_short};
 ghost use Rattle.encoding_tables.specs.Utf16.{unit_of, front_utf16, pieces_utf16};
 ghost use Rattle.encoding_tables.specs.Utf16Decide.{decide_utf16, decide_unit, decide_pair};
@@ -12,6 +14,7 @@ ghost use Rattle.encoding_tables.specs.Utf16Laws.{cuts_utf16};
 
 use encoding_mem::front::{Front, FrontPiece};
 use encoding_mem::piece_decoder::{Buffered, PieceDecoder};
+use encoding_mem::room::Room;
 use encoding_mem::sink::Sink;
 use encoding_mem::{DecoderResult, RawDecoder};
 
@@ -30,11 +33,15 @@ impl FrontPiece for Utf16Rule {
 
     ghost ends = { λ s. pieces_by-nil (front_utf16 s.big_endian) };
 
-    ghost bytes_for = { λ _ m. 3 * ((m + 1) / 2) + 1 };
+    ghost needs = { λ _. room_of room_utf16 };
 
-    ghost units_for = { λ _ m. (m + 1) / 2 + 1 };
+    ghost limits = { λ _. room_utf16 };
+
+    ghost covers = { λ _ _ _. omega arith };
 
     ghost after = { λ s _. s };
+
+    ghost steady = { λ _ _. refl };
 
     fn front(&self, bytes: &[u8], last: bool) -> Front {
         decide(self.big_endian, bytes, last)
@@ -47,6 +54,10 @@ impl FrontPiece for Utf16Rule {
     fn text_at<'b>(&self, bytes: &'b [u8]) -> &'b str {
         let _ = bytes;
         ""
+    }
+
+    fn room(&self) -> Room {
+        Room::utf16()
     }
 }
 
@@ -145,13 +156,11 @@ pub struct Utf16Decoder {
 }
 
 impl Utf16Decoder {
-    /// The decoder of UTF-16BE, or of UTF-16LE. Nothing is pending. With `q` half of `m + 1`, rounded down,
-    /// the room that is enough for any `m` bytes is `3 * q + 1` bytes, or `q + 1` units.
+    /// The decoder of UTF-16BE, or of UTF-16LE. Nothing is pending.
     pub fn new(big_endian: bool) -> Self
         ensures pending { (⟦<Utf16Decoder as RawDecoder>⟧.state result).pending ≡ 0 }
         ensures pieces { (⟦<Utf16Decoder as RawDecoder>⟧.state result).pieces ≡ pieces_utf16 big_endian }
-        ensures bytes { (m : ℕ) → (⟦<Utf16Decoder as RawDecoder>⟧.state result).bytes_for m ≡ 3 * ((m + 1) / 2) + 1 }
-        ensures units { (m : ℕ) → (⟦<Utf16Decoder as RawDecoder>⟧.state result).units_for m ≡ (m + 1) / 2 + 1 }
+        ensures room { (⟦<Utf16Decoder as RawDecoder>⟧.state result).room ≡ room_utf16 }
     {
         Utf16Decoder {
             inner: Buffered::new(Utf16Rule { big_endian }),
@@ -181,5 +190,9 @@ impl PieceDecoder for Utf16Decoder {
 
     fn held_len(&self) -> usize {
         self.inner.held_len()
+    }
+
+    fn room(&self) -> Room {
+        self.inner.room()
     }
 }

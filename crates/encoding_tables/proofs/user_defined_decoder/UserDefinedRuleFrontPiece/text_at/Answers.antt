@@ -1,6 +1,5 @@
-use Rattle.std.proofs.Common.{arith}
 use Rattle.encoding_mem.specs.TextLaws.{pieces_by-ascii}
-use Rattle.encoding_mem.specs.WritingLaws.{length-encode_utf16_chars}
+use Rattle.encoding_mem.specs.RoomLaws.{text_needs_single_byte}
 use Rattle.encoding_tables.specs.UserDefined.{front_user_defined}
 use Rattle.encoding_tables.specs.UserDefinedLaws.{cuts_user_defined, ascii_user_defined}
 use Rattle.encoding_tables.proofs.user_defined_decoder.UserDefinedRuleFrontPiece.text_at.Goals as goal
@@ -8,5 +7,5 @@ use Rattle.encoding_tables.proofs.user_defined_decoder.UserDefinedRuleFrontPiece
 pub returns-clause-pieces : goal.returns-clause-pieces
 returns-clause-pieces c r = pieces_by-ascii front_user_defined cuts_user_defined ascii_user_defined c.ascii_front.result.now r c.ascii_front.ensures.ascii
 
-pub returns-clause-units : goal.returns-clause-units
-returns-clause-units c m = omega (arith, length-encode_utf16_chars c.ascii_front.result.now c.ascii_front.utf8)
+pub returns-clause-room : goal.returns-clause-room
+returns-clause-room c k m = text_needs_single_byte c.ascii_front.result.now c.ascii_front.utf8 k m
