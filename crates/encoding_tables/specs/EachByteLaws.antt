@@ -2,6 +2,8 @@
 use Rattle.std.proofs.Common.{◌≡◌, ℕ, ◌+◌, ◌≤◌, ◌<◌, Bool, List, [], ◌∷◌, length, drop, refl, ap, ◌∙◌, arith, lit≤, lit<, Option, None, Some}
 use Rattle.std.specs.Prelude.{slice_index, IfSome}
 use Rattle.std.specs.Char.{IsScalar}
+use Rattle.encoding_mem.specs.TextRoom.{IsRoomFor, text_room_single_byte}
+use Rattle.encoding_mem.specs.TextRoomLaws.{single_byte_room}
 use Rattle.encoding_mem.specs.Coding.{IsCoding, IsShort}
 use Rattle.encoding_mem.specs.StatelessLaws.{stateless_laws, short_one, short_none}
 use Rattle.encoding_mem.specs.Piece.{size_of, Cuts}
@@ -47,6 +49,9 @@ short_form c (Some b) = short_one
 
 pub laws_by_byte : (byte_of : ℕ → Option ℕ) → IsCoding 1 (coding_by_byte byte_of)
 laws_by_byte byte_of = stateless_laws 1 (λ c. form_of_byte c (byte_of c)) (lit≤ tt) (λ c. short_form c (byte_of c))
+
+pub fits_by_byte : (byte_of : ℕ → Option ℕ) → IsRoomFor (coding_by_byte byte_of) text_room_single_byte
+fits_by_byte byte_of = single_byte_room (λ c. form_of_byte c (byte_of c)) (λ c. short_form c (byte_of c))
 
 -- the piece of a byte alone
 pub size_of-piece : (o : Option ℕ) → size_of (piece_of_byte o) ≡ 1

@@ -1,13 +1,16 @@
 // The encoder of x-user-defined (the Encoding Standard, section 14.5.2, "x-user-defined encoder").
 
 ghost use Rattle.std.specs.Prelude.{◌≡◌};
+ghost use Rattle.encoding_mem.specs.TextRoom.{text_room_single_byte};
 ghost use Rattle.encoding_mem.specs.declared.form.Set.TheVariants.{Ascii};
+ghost use Rattle.encoding_tables.specs.EachByteLaws.{fits_by_byte};
 ghost use Rattle.encoding_tables.specs.UserDefined.{byte_of_user_char, user_defined_coding};
 ghost use Rattle.encoding_tables.specs.UserDefinedLaws.{user_defined_laws};
 
 use crate::single_byte_encoder::form_of;
 use encoding_mem::encode::{Target, encode};
 use encoding_mem::form::{Bytes, Form, Set};
+use encoding_mem::room::TextRoom;
 use encoding_mem::source::{Source, Utf8Source, Utf16Source};
 use encoding_mem::{EncoderResult, RawEncoder};
 
@@ -16,11 +19,15 @@ use encoding_mem::{EncoderResult, RawEncoder};
 struct UserDefined;
 
 impl Target for UserDefined {
-    ghost need = { 1 };
+    ghost need = { λ _. 1 };
 
     ghost coding = { λ _. user_defined_coding };
 
+    ghost limits = { λ _. text_room_single_byte };
+
     ghost laws = { λ _. user_defined_laws };
+
+    ghost fits = { λ _. fits_by_byte byte_of_user_char };
 
     fn step(&self, _set: Set, c: char) -> (Set, Form) {
         (Set::Ascii, form_of(c, byte_of(c)))
@@ -56,6 +63,7 @@ impl UserDefinedEncoder {
         ensures coding { ⟦<UserDefinedEncoder as RawEncoder>⟧.coding result ≡ user_defined_coding }
         ensures set { ⟦<UserDefinedEncoder as RawEncoder>⟧.set result ≡ Ascii }
         ensures need { ⟦<UserDefinedEncoder as RawEncoder>⟧.need result ≡ 1 }
+        ensures limits { ⟦<UserDefinedEncoder as RawEncoder>⟧.limits result ≡ text_room_single_byte }
     {
         UserDefinedEncoder {}
     }
@@ -67,6 +75,8 @@ impl RawEncoder for UserDefinedEncoder {
     ghost coding = { λ _. user_defined_coding };
 
     ghost set = { λ _. Ascii };
+
+    ghost limits = { λ _. text_room_single_byte };
 
     ghost laws = { λ _. user_defined_laws };
 
@@ -92,5 +102,13 @@ impl RawEncoder for UserDefinedEncoder {
         let mut set = Set::Ascii;
         let (result, written) = encode(&UserDefined, &mut set, &mut source, dst, last);
         (result, source.read(), written)
+    }
+
+    fn room(&self) -> TextRoom {
+        TextRoom::single_byte()
+    }
+
+    fn has_pending_state(&self) -> bool {
+        false
     }
 }
