@@ -6,3 +6,4 @@ pub mod FrontUtf16
 pub mod RoomUtf16
 pub mod OneError
 pub mod UnitsUtf16
+mod KindNames

@@ -1,4 +1,5 @@
 pub mod Kinds
+pub mod FileNames
 pub mod Lookups
 pub mod LookupLaws
 pub mod Ranges

@@ -1,5 +1,6 @@
 ghost use Rattle.std.specs.Prelude.{◌≡◌, ◌<◌};
 ghost use Rattle.encoding_tables.specs.Kinds.{number, size_of, is_ranges, is_single_byte};
+ghost use Rattle.encoding_tables.specs.FileNames.{file_name_of};
 
 /// The indexes of the Encoding Standard (section 5, "Indexes"): those of the single-byte encodings, and
 /// those of the multi-byte ones. ISO-8859-8-I has that of ISO-8859-8.
@@ -74,6 +75,49 @@ impl IndexKind {
         ensures { result ≡ is_single_byte self }
     {
         self.size() == 128
+    }
+
+    /// The name of the file in which the Encoding Standard publishes this index: `index-windows-1252.txt`
+    /// and so on (section 5, "Indexes"). No two kinds have the same.
+    pub fn file_name(self) -> &'static str
+        ensures { result.now ≡ file_name_of self }
+    {
+        match self {
+            IndexKind::Ibm866 => "index-ibm866.txt",
+            IndexKind::Iso8859_2 => "index-iso-8859-2.txt",
+            IndexKind::Iso8859_3 => "index-iso-8859-3.txt",
+            IndexKind::Iso8859_4 => "index-iso-8859-4.txt",
+            IndexKind::Iso8859_5 => "index-iso-8859-5.txt",
+            IndexKind::Iso8859_6 => "index-iso-8859-6.txt",
+            IndexKind::Iso8859_7 => "index-iso-8859-7.txt",
+            IndexKind::Iso8859_8 => "index-iso-8859-8.txt",
+            IndexKind::Iso8859_10 => "index-iso-8859-10.txt",
+            IndexKind::Iso8859_13 => "index-iso-8859-13.txt",
+            IndexKind::Iso8859_14 => "index-iso-8859-14.txt",
+            IndexKind::Iso8859_15 => "index-iso-8859-15.txt",
+            IndexKind::Iso8859_16 => "index-iso-8859-16.txt",
+            IndexKind::Koi8R => "index-koi8-r.txt",
+            IndexKind::Koi8U => "index-koi8-u.txt",
+            IndexKind::Macintosh => "index-macintosh.txt",
+            IndexKind::Windows874 => "index-windows-874.txt",
+            IndexKind::Windows1250 => "index-windows-1250.txt",
+            IndexKind::Windows1251 => "index-windows-1251.txt",
+            IndexKind::Windows1252 => "index-windows-1252.txt",
+            IndexKind::Windows1253 => "index-windows-1253.txt",
+            IndexKind::Windows1254 => "index-windows-1254.txt",
+            IndexKind::Windows1255 => "index-windows-1255.txt",
+            IndexKind::Windows1256 => "index-windows-1256.txt",
+            IndexKind::Windows1257 => "index-windows-1257.txt",
+            IndexKind::Windows1258 => "index-windows-1258.txt",
+            IndexKind::XMacCyrillic => "index-x-mac-cyrillic.txt",
+            IndexKind::Big5 => "index-big5.txt",
+            IndexKind::EucKr => "index-euc-kr.txt",
+            IndexKind::Gb18030 => "index-gb18030.txt",
+            IndexKind::Gb18030Ranges => "index-gb18030-ranges.txt",
+            IndexKind::Jis0208 => "index-jis0208.txt",
+            IndexKind::Jis0212 => "index-jis0212.txt",
+            IndexKind::Iso2022JpKatakana => "index-iso-2022-jp-katakana.txt",
+        }
     }
 
     // The place of this kind among all.

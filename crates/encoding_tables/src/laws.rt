@@ -2,6 +2,7 @@
 
 ghost use Rattle.std.specs.Prelude.{ℕ, List};
 ghost use Rattle.encoding_mem.specs.ReadBack.{ReadsBackExactly};
+ghost use Rattle.encoding_tables.specs.FileNames.{FileNamesDiffer};
 ghost use Rattle.encoding_tables.specs.Lookups.{AreEntries};
 ghost use Rattle.encoding_tables.specs.Accepted.{AcceptanceIsExact};
 ghost use Rattle.encoding_tables.specs.LookupLaws.{FirstIsLeast, LastIsGreatest};
@@ -11,6 +12,11 @@ ghost use Rattle.encoding_tables.specs.Replacement.{IsOneError};
 ghost use Rattle.encoding_tables.specs.UserDefined.{pieces_user_defined, user_defined_coding};
 ghost use Rattle.encoding_tables.specs.Utf16.{ReadsUnits};
 ghost use Rattle.encoding_tables.specs.RangeLaws.{ValuesAreScalars, ValuesRise, PointersAreExact, PointersReadBack};
+
+/// Two kinds whose files have the same name are the same kind.
+pub fn file_names()
+    ensures { FileNamesDiffer }
+{}
 
 /// The lists that are taken as the index of a kind are those of its size whose mapped entries are scalars
 /// from U+0080, of the basic plane or, in Big5, of plane 2; that of JIS X 0208 maps nothing where

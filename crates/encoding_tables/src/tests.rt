@@ -238,3 +238,30 @@ fn lists_have_values_and_pointers(rt: HostRuntime) {
     assert_eq!(rt; lent.first_pointer('ア', 0, 63), Some(3));
     assert_eq!(rt; lent.last_pointer('ア', 0, 63), Some(7));
 }
+
+#[test]
+fn files_have_the_names_of_the_standard(rt: HostRuntime) {
+    let cases = [
+        (IndexKind::Ibm866, "index-ibm866.txt"),
+        (IndexKind::Iso8859_8, "index-iso-8859-8.txt"),
+        (IndexKind::Iso8859_10, "index-iso-8859-10.txt"),
+        (IndexKind::Koi8U, "index-koi8-u.txt"),
+        (IndexKind::Macintosh, "index-macintosh.txt"),
+        (IndexKind::Windows874, "index-windows-874.txt"),
+        (IndexKind::Windows1252, "index-windows-1252.txt"),
+        (IndexKind::XMacCyrillic, "index-x-mac-cyrillic.txt"),
+        (IndexKind::Big5, "index-big5.txt"),
+        (IndexKind::EucKr, "index-euc-kr.txt"),
+        (IndexKind::Gb18030, "index-gb18030.txt"),
+        (IndexKind::Gb18030Ranges, "index-gb18030-ranges.txt"),
+        (IndexKind::Jis0208, "index-jis0208.txt"),
+        (IndexKind::Jis0212, "index-jis0212.txt"),
+        (
+            IndexKind::Iso2022JpKatakana,
+            "index-iso-2022-jp-katakana.txt",
+        ),
+    ];
+    for (kind, name) in cases {
+        assert_eq!(rt; kind.file_name(), name);
+    }
+}

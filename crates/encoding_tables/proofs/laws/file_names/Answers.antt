@@ -1,0 +1,5 @@
+use Rattle.encoding_tables.proofs.KindNames.{file_names_differ}
+use Rattle.encoding_tables.proofs.laws.file_names.Goals as goal
+
+pub returns : goal.returns
+returns c = file_names_differ
