@@ -19,14 +19,21 @@ fn range_fault(alloc: Global, text: &[u8]) -> Option<(usize, IndexFaultKind)> {
 
 #[test]
 fn the_first_fault_of_a_list_is_answered(rt: HostRuntime) {
-    let cases: [(&[u8], Option<(usize, IndexFaultKind)>); 14] = [
+    let cases: [(&[u8], Option<(usize, IndexFaultKind)>); 21] = [
         (b"0\t0x0080\n0\t0x0081", Some((2, IndexFaultKind::Order))),
+        (b"3\t0x0080\n3\t0x0081", Some((2, IndexFaultKind::Order))),
         (b"0\t0x80", Some((1, IndexFaultKind::Row))),
         (b"128\t0x0080", Some((1, IndexFaultKind::Pointer))),
         (b"5\t0x0080\tx", None),
         (b"0\t0x0000", Some((1, IndexFaultKind::Row))),
         (b"0\t0x00ff", Some((1, IndexFaultKind::Row))),
+        (b"0\t0x00e9", Some((1, IndexFaultKind::Row))),
+        (b"0 0x0080", Some((1, IndexFaultKind::Row))),
         (b"00000000\t0x0080", Some((1, IndexFaultKind::Row))),
+        (b"12345678\t0x0080", Some((1, IndexFaultKind::Row))),
+        (b"0\t0x0080\rx", Some((1, IndexFaultKind::Row))),
+        (b"#\n\n128\t0x0080", Some((3, IndexFaultKind::Pointer))),
+        (b"128\t0x0080\n0\tx", Some((1, IndexFaultKind::Pointer))),
         (b"0\t0x0080\r1\t0x0081", Some((1, IndexFaultKind::Row))),
         (b"0\t0x0080\r", Some((1, IndexFaultKind::Row))),
         (b"0\t0x0080\r\r\n", Some((1, IndexFaultKind::Row))),
@@ -105,6 +112,28 @@ fn a_load_reads_then_inserts(rt: HostRuntime) {
         assert_eq!(rt; tables.value(kind, 0), Some('\u{20AC}'));
         assert_eq!(rt; tables.value(kind, 1), None);
     }
+}
+
+// What new tables answer to the text of a kind.
+fn load_alone(alloc: Global, kind: IndexKind, text: &[u8]) -> Result<(), LoadFault> {
+    load(alloc, &mut Tables::new(alloc), kind, text)
+}
+
+#[test]
+fn an_entry_is_a_scalar_of_the_kinds_planes(rt: HostRuntime) {
+    let first_entry = Err(LoadFault::Table(TableFault::Entry(0)));
+    let refused: [(IndexKind, &[u8]); 3] = [
+        (IndexKind::Windows1252, b"0\t0xD800"),
+        (IndexKind::Jis0208, b"0\t0x20000"),
+        (IndexKind::Big5, b"0\t0x10000"),
+    ];
+    for (kind, text) in refused {
+        assert_eq!(rt; load_alone(rt.alloc(), kind, text), first_entry);
+    }
+    assert_eq!(rt;
+        load_alone(rt.alloc(), IndexKind::Big5, b"0\t0x20000"),
+        Ok(())
+    );
 }
 
 #[test]
