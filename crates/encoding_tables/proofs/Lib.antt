@@ -1,4 +1,3 @@
-mod RangeRows
 mod RowNames
 mod Latin1
 pub mod NoText

@@ -8,7 +8,7 @@ use Rattle.encoding_tables.specs.Ranges.{is_valid_pointer, end_by}
 use Rattle.encoding_tables.specs.RangeFaults.{first_out_of_order, are_scalars, above_values, above_row, first_bad_value}
 use Rattle.encoding_tables.specs.NamedRows.{IsOutOfOrder, IsValue, Gives, IsScalarFrom, IsReached, HasBadValue, IsFirst, IsNamed, NamesAreExact}
 use Rattle.encoding_tables.specs.OptionCases.{and_then_some, if_none, if_some_none, and_then_none, no_stop}
-use Rattle.encoding_tables.proofs.RangeRows.{or_false, row_between, row_more, some_pointers, no_pointers}
+use Rattle.encoding_tables.specs.RangeRows.{or_false, row_between, row_more, some_pointers, no_pointers}
 
 valid_low : (q : ℕ) → q < 39420 → is_valid_pointer q ≡ true
 valid_low q low = rw (lt-ltb q 39420 low) refl

@@ -9,6 +9,7 @@ pub mod Accepted
 pub mod IndexLists
 pub mod RangeLaws
 pub mod NamedRows
+pub mod RangeRows
 pub mod OptionCases
 pub mod KindsLaws
 pub mod TableFaultsLaws

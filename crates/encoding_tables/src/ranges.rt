@@ -1,11 +1,53 @@
 // The rows of the GB18030 ranges: which are taken, and what values they give (the Encoding Standard,
 // section 5: "index gb18030 ranges code point" and "index gb18030 ranges pointer").
 
-ghost use Rattle.std.specs.Prelude.{◌≡◌, ◌+◌, ◌-◌, ◌<◌, ◌≤◌, []};
+ghost use Rattle.std.specs.Prelude.{◌≡◌, ℕ, ◌+◌, ◌-◌, ◌<◌, ◌≤◌, List, [], None, IfSome};
 ghost use Rattle.encoding_tables.specs.RangeFaults.{first_out_of_order, first_bad_value, are_scalars, above_values, above_row, bad_row};
 ghost use Rattle.encoding_tables.specs.Ranges.{end_by, last_row, row_pointer, range_value, range_pointer, is_in_row, is_valid_pointer};
 
 use crate::flat::scalar_of;
+use std::marker::Model;
+
+/// The rows of the GB18030 ranges, lent by tables: each a pointer and a code point.
+#[derive(Drop)]
+pub struct Ranges<'a> {
+    rows: &'a [(u32, u32)],
+}
+
+impl<'a> Model for Ranges<'a> {
+    ghost Value = { List (ℕ × ℕ) };
+
+    ghost view = { λ r. r.rows.now };
+
+    ghost invariant = { λ r. bad_row r.rows.now ≡ None };
+}
+
+impl<'a> Ranges<'a> {
+    /// Rows that were taken.
+    pub(crate) fn new(rows: &'a [(u32, u32)]) -> Self
+        requires { bad_row rows.now ≡ None }
+        ensures { result ≡ rows.now }
+    {
+        Ranges { rows }
+    }
+
+    /// The character at a pointer ("index gb18030 ranges code point"). None where the pointer is not
+    /// valid, and before the first row.
+    pub fn value(&self, pointer: u32) -> Option<char>
+        ensures { result ≡ range_value self.now pointer }
+    {
+        value_by_rows(self.rows, pointer)
+    }
+
+    /// The pointer that is written for a character ("index gb18030 ranges pointer"): 7457 for U+E7C7,
+    /// else the other valid pointer with that row's value.
+    pub fn pointer(&self, c: char) -> Option<u32>
+        ensures pointer { result ≡ range_pointer self.now c }
+        ensures before { IfSome result (λ p. p < 1237576) }
+    {
+        pointer_by_rows(self.rows, c)
+    }
+}
 
 // The valid pointers: those of the basic plane end here, those of the other planes begin and end there.
 const BASIC_END: u32 = 39420;

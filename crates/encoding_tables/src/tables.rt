@@ -7,13 +7,13 @@ ghost use Rattle.encoding_tables.specs.TableFaults.{flat_fault, range_fault};
 ghost use Rattle.encoding_tables.specs.RangeFaults.{bad_row};
 ghost use Rattle.encoding_tables.specs.Lookups.{AreEntries, value_of, first_pointer, last_pointer};
 ghost use Rattle.encoding_tables.specs.SingleByteLaws.{AreBasic};
-ghost use Rattle.encoding_tables.specs.Ranges.{range_value, range_pointer};
+ghost use Rattle.encoding_tables.specs.Ranges.{range_value, range_pointer, HaveScalars};
 ghost use Rattle.encoding_tables.specs.declared.index_kind.IndexKind.{IndexKind};
 
 use crate::accept::fault_of_flat;
 use crate::flat::Flat;
 use crate::index_kind::IndexKind;
-use crate::ranges::{bad_row, pointer_by_rows, value_by_rows};
+use crate::ranges::{Ranges, bad_row, pointer_by_rows, value_by_rows};
 use crate::table_fault::TableFault;
 use std::alloc::Global;
 use std::marker::Model;
@@ -130,6 +130,15 @@ impl Tables {
         ensures index { IsIndex kind result }
     {
         Flat::new(self.list(kind))
+    }
+
+    /// The rows of the GB18030 ranges that are there, for look-ups.
+    pub fn ranges(&self) -> Ranges<'_>
+        requires { has self.now IndexKind.Gb18030Ranges ≡ true }
+        ensures rows { rows_of self.now ≡ result }
+        ensures scalars { HaveScalars result }
+    {
+        Ranges::new(self.rows())
     }
 
     // The list of a single-byte encoding that is there.

@@ -212,6 +212,11 @@ fn ranges_have_values_and_pointers(rt: HostRuntime) {
     assert_eq!(rt; tables.range_pointer('\u{1E40}'), Some(7458));
     assert_eq!(rt; tables.range_pointer('\u{10000}'), Some(189000));
     assert_eq!(rt; tables.range_pointer('\u{80}'), None);
+    let lent = tables.ranges();
+    assert_eq!(rt; lent.value(189000), Some('\u{10000}'));
+    assert_eq!(rt; lent.value(0), None);
+    assert_eq!(rt; lent.pointer('\u{E7C7}'), Some(7457));
+    assert_eq!(rt; lent.pointer('\u{1E3F}'), None);
 }
 
 #[test]

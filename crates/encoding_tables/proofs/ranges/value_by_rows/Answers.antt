@@ -1,6 +1,6 @@
 use Rattle.std.proofs.Common.{◌+◌, ◌-◌, sym, arith, inl, inr}
 use Rattle.std.specs.Char.{InScalarRange}
-use Rattle.encoding_tables.proofs.RangeRows.{row_is_scalar}
+use Rattle.encoding_tables.specs.RangeRows.{row_is_scalar}
 use Rattle.encoding_tables.proofs.ranges.value_by_rows.Goals as goal
 
 pub overflow_sub-pointer : goal.overflow_sub-pointer

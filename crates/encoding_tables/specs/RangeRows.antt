@@ -1,10 +1,11 @@
 -- The values of rows that are taken, by what each row was checked for.
-use Rattle.std.proofs.Common.{◌≡◌, ◌≢◌, ℕ, ◌+◌, ◌-◌, ◌<◌, ◌≤◌, ◌⊎◌, inl, inr, List, [], ◌∷◌, ◌∙◌, ap, refl, arith, None, Some, nat_lt, Bool, true, false, cond}
-use Rattle.std.specs.Prelude.{not, ◌||◌, ◌&&◌, ◌==◌, min, max}
-use Rattle.std.specs.Char.{InScalarRange}
+use Rattle.std.proofs.Common.{◌≡◌, ◌≢◌, ℕ, ◌+◌, ◌-◌, ◌<◌, ◌≤◌, ◌⊎◌, inl, inr, List, [], ◌∷◌, ◌∙◌, ap, refl, arith, Option, None, Some, nat_lt, Bool, true, false, cond}
+use Rattle.std.specs.Prelude.{not, ◌||◌, ◌&&◌, ◌==◌, min, max, IfSome}
+use Rattle.std.specs.Char.{InScalarRange, IsScalar}
+use Rattle.std.proofs.lemmas.Bool.Decides.{nat_tests}
 use Rattle.std.proofs.lemmas.Bool.{cases_lt, cases_eq, lt-ltb, le-ltb, ltb-true, ltb-false, eq-eqb, ne_eqb, eqb-false, and_parts, or_cases, not-true, cases_Bool}
 use Rattle.std.proofs.lemmas.Option.{cond_some}
-use Rattle.encoding_tables.specs.Ranges.{is_valid_pointer, last_row, value_in, row_value, HasRowValue, end_by, is_in_row, row_pointer}
+use Rattle.encoding_tables.specs.Ranges.{is_valid_pointer, last_row, value_in, row_value, HasRowValue, end_by, is_in_row, row_pointer, range_pointer, HaveScalars}
 use Rattle.encoding_tables.specs.RangeFaults.{first_out_of_order, are_scalars, above_values, above_row, first_bad_value, bad_row}
 use Rattle.encoding_tables.specs.RangeLaws.{ValuesAreScalars, ValuesRise, PointersAreExact, PointersReadBack}
 use Rattle.encoding_tables.specs.OptionCases.{option_or_some, option_or_none, and_then_some, map_some, if_none, no_stop}
@@ -287,3 +288,38 @@ pointers_read_back rows taken c q e = elim (cases_eq c 0xE7C7) [
       let h = pointer_gives 0 0 c q rows passes.0 (rw (ne_eqb c 0xE7C7 other) at e) in
       rw (h.valid, ne_eqb q 7457 h.other) h.gives
 ]
+
+-- ---- what a look-up answers
+
+scalar_of_range : (v : ℕ) → InScalarRange v → IsScalar v
+scalar_of_range v h = grind (arith, nat_tests)
+
+-- the values of rows that are taken are scalars
+pub have_scalars : (rows : List (ℕ × ℕ)) → bad_row rows ≡ None → HaveScalars rows
+have_scalars rows taken q c e = elim (cases_Bool (is_valid_pointer q)) [
+  | inr gap ↦ absurd (let no = rw gap at e in cc)
+  | inl valid ↦ elim (cases_eq q 7457) [
+    | inl fixed ↦
+        let is = rw (valid, eq-eqb q 7457 fixed) at e in
+        let same : 0xE7C7 ≡ c = cc in
+        rw (← same) (scalar_of_range 0xE7C7 (inr (omega arith, omega arith)))
+    | inr other ↦ scalar_of_range c (values_are_scalars rows taken q c valid (rw (valid, ne_eqb q 7457 other) at e)).1
+  ]
+]
+
+if_in : (t : Bool) (p : ℕ) (o : Option ℕ) → (t ≡ true → p < 1237576) → IfSome o (λ q. q < 1237576) → IfSome (cond t (Some p) o) (λ q. q < 1237576)
+if_in true p o here rest = here refl
+if_in false p o here rest = rest
+
+row_pointer-before : (c : ℕ) (rows : List (ℕ × ℕ)) → IfSome (row_pointer c rows) (λ q. q < 1237576)
+row_pointer-before c [] = tt
+row_pointer-before c (r ∷ rows) = if_in (is_in_row r (end_by rows) c) (r.0 + (c - r.1)) (row_pointer c rows) within (row_pointer-before c rows)
+  where
+    within : is_in_row r (end_by rows) c ≡ true → r.0 + (c - r.1) < 1237576
+    within h =
+        let parts = is_in_row_parts r (end_by rows) c h in
+        elim (valid_cases (r.0 + (c - r.1)) parts.2) [ inl low ↦ omega (arith, low) | inr high ↦ high.1 ]
+
+-- a range pointer is not above the last valid one
+pub range_pointer-before : (rows : List (ℕ × ℕ)) (c : ℕ) → IfSome (range_pointer rows c) (λ q. q < 1237576)
+range_pointer-before rows c = if_in (c == 0xE7C7) 7457 (row_pointer c rows) (λ _. omega arith) (row_pointer-before c rows)
