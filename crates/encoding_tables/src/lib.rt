@@ -6,9 +6,8 @@ mod accept;
 pub mod flat;
 pub mod index_kind;
 pub mod laws;
-mod ranges;
-pub mod replacement_decoder;
 pub mod ranges;
+pub mod replacement_decoder;
 pub mod single_byte_decoder;
 pub mod single_byte_encoder;
 #[cfg(test)]
@@ -25,8 +24,8 @@ pub mod utf16_decoder;
 
 pub use flat::Flat;
 pub use index_kind::IndexKind;
-pub use replacement_decoder::ReplacementDecoder;
 pub use ranges::Ranges;
+pub use replacement_decoder::ReplacementDecoder;
 pub use single_byte_decoder::SingleByteDecoder;
 pub use single_byte_encoder::SingleByteEncoder;
 pub use table_fault::TableFault;
