@@ -1,0 +1,5 @@
+use Rattle.encoding_codecs.specs.Big5Laws.{big5_exact}
+use Rattle.encoding_codecs.proofs.laws.big5_text_reads_back.Goals as goal
+
+pub returns : goal.returns
+returns c = big5_exact

@@ -1,0 +1,5 @@
+use Rattle.encoding_codecs.specs.EucKrLaws.{euc_kr_exact}
+use Rattle.encoding_codecs.proofs.laws.euc_kr_text_reads_back.Goals as goal
+
+pub returns : goal.returns
+returns c = euc_kr_exact

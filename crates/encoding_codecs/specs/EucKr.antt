@@ -1,0 +1,85 @@
+-- EUC-KR by the list of its index (the Encoding Standard, section 13.1.1, "EUC-KR decoder", and section 13.1.2, "EUC-KR
+-- encoder").
+use Rattle.std.specs.Prelude.{◌≡◌, ℕ, ◌+◌, ◌-◌, ◌*◌, ◌/◌, ◌%◌, List, [], ◌∷◌, if◌then◌else◌, refl, replicate, ◌++◌}
+use Rattle.std.specs.Int.{is_in_range}
+use Rattle.encoding_mem.specs.Coding.{Coding}
+use Rattle.encoding_mem.specs.Piece.{Piece, good, bad}
+use Rattle.encoding_mem.specs.Pieces.{pieces_in, pieces_by}
+use Rattle.encoding_mem.specs.Stateless.{stateless}
+use Rattle.encoding_mem.specs.declared.form.Form.{Form}
+use Rattle.encoding_mem.specs.declared.form.Form.TheVariants.{Mapped, Unmapped}
+use Rattle.encoding_tables.specs.Lookups.{value_of, first_pointer}
+use Rattle.encoding_codecs.specs.TwoByte.{TwoByteRule, front_two_byte}
+use Rattle.encoding_codecs.specs.Pointers.{value_of_entry, form_by_pointer}
+use Rattle.encoding_codecs.specs.declared.lead_rule.FirstByte.{FirstByte}
+use Rattle.encoding_codecs.specs.declared.lead_rule.FirstByte.TheVariants.{Lead, Unused}
+use Rattle.encoding_codecs.specs.declared.two_byte.PairValue.{PairValue}
+use Rattle.encoding_codecs.specs.declared.two_byte.PairValue.TheVariants.{NoChar}
+
+-- the leads are 81 to FE; nothing begins with 80 or FF
+abbrev pub euc_kr_first : ℕ → FirstByte
+euc_kr_first a = if is_in_range 0x81 0xFE a then Lead else Unused
+
+-- the pointer of a lead and a trail, and what they give; the trails are 41 to FE
+abbrev pub euc_kr_pointer : ℕ → ℕ → ℕ
+euc_kr_pointer a b = (a - 0x81) * 190 + (b - 0x41)
+
+abbrev pub euc_kr_pair : List ℕ → ℕ → ℕ → PairValue
+euc_kr_pair flat a b = if is_in_range 0x41 0xFE b then value_of_entry (value_of flat (euc_kr_pointer a b)) else NoChar
+
+abbrev pub euc_kr_rule : List ℕ → TwoByteRule
+euc_kr_rule flat = record { first = euc_kr_first; pair = euc_kr_pair flat }
+
+abbrev pub front_euc_kr : List ℕ → List ℕ → Piece
+front_euc_kr flat = front_two_byte (euc_kr_rule flat)
+
+abbrev pub pieces_euc_kr : List ℕ → List ℕ → List Piece
+pieces_euc_kr flat = pieces_by (front_euc_kr flat)
+
+-- the bytes of a pointer, and the form of a scalar: its least pointer counts
+abbrev pub euc_kr_bytes : ℕ → List ℕ
+euc_kr_bytes p = (0x81 + p / 190) ∷ (0x41 + p % 190) ∷ []
+
+abbrev pub euc_kr_form : List ℕ → ℕ → Form
+euc_kr_form flat = form_by_pointer euc_kr_bytes (λ c. first_pointer flat c 0 23940)
+
+abbrev pub euc_kr_coding : List ℕ → Coding
+euc_kr_coding flat = stateless (euc_kr_form flat)
+
+-- a list for examples, of the first trails of the lead 81: U+AC02 at 41 and 43, nothing at 42
+unfoldable sample : List ℕ
+sample = 0xAC02 ∷ 0 ∷ 0xAC02 ∷ []
+
+characters : pieces_euc_kr sample (0x81 ∷ 0x43 ∷ 0x41 ∷ 0x81 ∷ 0x41 ∷ []) ≡ good 2 (0xAC02 ∷ []) ∷ good 1 (0x41 ∷ []) ∷ good 2 (0xAC02 ∷ []) ∷ []
+unfolding sample pieces_in
+characters = refl
+
+-- 42 is ASCII, and is read again; FF is no trail
+no_entry : pieces_euc_kr sample (0x81 ∷ 0x42 ∷ 0x81 ∷ 0xFF ∷ []) ≡ bad 1 ∷ good 1 (0x42 ∷ []) ∷ bad 2 ∷ []
+unfolding sample pieces_in
+no_entry = refl
+
+unused : pieces_euc_kr sample (0x80 ∷ 0xFF ∷ 0x81 ∷ []) ≡ bad 1 ∷ bad 1 ∷ bad 1 ∷ []
+unfolding sample pieces_in
+unused = refl
+
+-- B0 A1 is the pointer 9026
+first_of_wansung : euc_kr_pointer 0xB0 0xA1 ≡ 9026
+first_of_wansung = refl
+
+its_bytes : euc_kr_bytes 9026 ≡ 0xB0 ∷ 0xA1 ∷ []
+its_bytes = refl
+
+last_bytes : euc_kr_bytes 23939 ≡ 0xFE ∷ 0xFE ∷ []
+last_bytes = refl
+
+least_pointer : euc_kr_form sample 0xAC02 ≡ Mapped (0x81 ∷ 0x41 ∷ [])
+unfolding sample
+least_pointer = refl
+
+itself : euc_kr_form sample 0x41 ≡ Mapped (0x41 ∷ [])
+itself = refl
+
+none : euc_kr_form sample 0x80 ≡ Unmapped 0x80
+unfolding sample
+none = refl

@@ -1,0 +1,10 @@
+pub mod TwoByte
+pub mod TwoByteDecide
+pub mod TwoByteLaws
+pub mod Pointers
+pub mod ExactReadBack
+pub mod PointersLaws
+pub mod EucKr
+pub mod EucKrLaws
+pub mod Big5
+pub mod Big5Laws

@@ -1,0 +1,237 @@
+// Big5 (the Encoding Standard, section 11.1).
+
+ghost use Rattle.std.specs.Prelude.{◌≡◌, ◌↔◌, ℕ, ◌+◌, ◌-◌, ◌*◌, ◌/◌, ◌%◌, ◌<◌, ◌≤◌, [], ◌∷◌, true, IsTrue, IfSome};
+ghost use Rattle.encoding_mem.specs.Room.{room_multibyte};
+ghost use Rattle.encoding_tables.specs.IndexLists.{has, entries_of};
+ghost use Rattle.encoding_tables.specs.Lookups.{AreEntries};
+ghost use Rattle.encoding_codecs.specs.Big5.{big5_rule, big5_value, pieces_big5, takes_last, big5_find, big5_trail, big5_bytes, big5_form, big5_coding};
+ghost use Rattle.encoding_codecs.specs.Big5Laws.{big5_is_two_byte, big5_laws};
+ghost use Rattle.encoding_codecs.specs.PointersLaws.{ascii_by_pointer};
+ghost use Rattle.encoding_mem.specs.declared.form.Set.TheVariants.{Ascii};
+
+use crate::lead_rule::{FirstByte, LeadFront};
+use crate::stateless::{Forms, Stateless};
+use crate::two_byte::{PairValue, Pairs, TwoByte, value_of_entry};
+use encoding_mem::form::{Bytes, Form};
+use encoding_mem::piece_decoder::{Buffered, PieceDecoder};
+use encoding_mem::room::Room;
+use encoding_mem::sink::Sink;
+use encoding_mem::{DecoderResult, EncoderResult, RawDecoder, RawEncoder};
+use encoding_tables::{Flat, IndexKind, Tables};
+
+// The pointers that are written: below them stand Hong Kong's extensions.
+const WRITTEN_START: u32 = 5024;
+
+const WRITTEN_END: u32 = 19782;
+
+// Its index.
+#[derive(Drop)]
+struct Big5<'a> {
+    flat: Flat<'a>,
+    ghost scalars: { AreEntries flat },
+}
+
+impl<'a> Big5<'a> {
+    // What a pointer gives: four give a letter and a combining mark, whatever the index holds.
+    fn value(&self, pointer: u32) -> PairValue
+        ensures { result ≡ big5_value self.now.flat pointer }
+    {
+        match pointer {
+            1133 => PairValue::TwoChars('\u{CA}', '\u{304}'),
+            1135 => PairValue::TwoChars('\u{CA}', '\u{30C}'),
+            1164 => PairValue::TwoChars('\u{EA}', '\u{304}'),
+            1166 => PairValue::TwoChars('\u{EA}', '\u{30C}'),
+            _ => value_of_entry(self.flat.value(pointer)),
+        }
+    }
+
+    // The pointer that is written for a character.
+    fn pointer_of(&self, c: char) -> Option<u32>
+        ensures pointer { result ≡ big5_find self.now.flat c }
+        ensures before { IfSome result (λ p. p < 19782) }
+    {
+        if takes_last(c) {
+            self.flat.last_pointer(c, WRITTEN_START, WRITTEN_END)
+        } else {
+            self.flat.first_pointer(c, WRITTEN_START, WRITTEN_END)
+        }
+    }
+}
+
+// Whether a character that stands at two pointers is written by the last.
+fn takes_last(c: char) -> bool
+    ensures { result ≡ takes_last c }
+{
+    c == '\u{2550}'
+        || c == '\u{255E}'
+        || c == '\u{2561}'
+        || c == '\u{256A}'
+        || c == '\u{5341}'
+        || c == '\u{5345}'
+}
+
+// The trail of a pointer, by its rest.
+fn trail_of(rest: u8) -> u8
+    requires { rest < 157 }
+    ensures { result ≡ big5_trail rest }
+{
+    if rest < 63 { 0x40 + rest } else { 0x62 + rest }
+}
+
+impl<'a> TwoByte for Big5<'a> {
+    ghost rule = { λ s. big5_rule s.flat };
+
+    ghost laws = { λ s. big5_is_two_byte s.flat s.scalars };
+
+    fn first(&self, byte: u8) -> FirstByte {
+        if byte >= 0x81 && byte <= 0xFE {
+            FirstByte::Lead
+        } else {
+            FirstByte::Unused
+        }
+    }
+
+    fn pair(&self, lead: u8, second: u8) -> PairValue {
+        let row = (lead as u32 - 0x81) * 157;
+        if second >= 0x40 && second <= 0x7E {
+            self.value(row + (second as u32 - 0x40))
+        } else if second >= 0xA1 && second <= 0xFE {
+            self.value(row + (second as u32 - 0x62))
+        } else {
+            PairValue::NoChar
+        }
+    }
+}
+
+impl<'a> Forms for Big5<'a> {
+    ghost most = { 2 };
+
+    ghost form = { λ s. big5_form s.flat };
+
+    ghost coding = { λ s. big5_laws s.flat };
+
+    ghost ascii = { λ s. ascii_by_pointer big5_bytes (big5_find s.flat) };
+
+    fn form_of(&self, c: char) -> Form {
+        if c < '\u{80}' {
+            return Form::Mapped(Bytes::one(c as u8));
+        }
+        match self.pointer_of(c) {
+            Some(pointer) => Form::Mapped(Bytes::two(
+                0x81 + (pointer / 157) as u8,
+                trail_of((pointer % 157) as u8),
+            )),
+            None => Form::Unmapped(c),
+        }
+    }
+}
+
+// The index of tables in which it is there.
+fn index_of(tables: &Tables) -> Big5<'_>
+    requires { has tables.now IndexKind.Big5 ≡ true }
+    ensures { result.flat ≡ entries_of tables.now IndexKind.Big5 }
+{
+    Big5 {
+        flat: tables.flat(IndexKind::Big5),
+    }
+}
+
+/// Decodes Big5: 00 to 7F give themselves, a lead from 81 to FE and a trail from 40 to 7E or from A1 to FE
+/// the entry at `(lead - 81) * 157 + trail - offset`, where the bytes are hexadecimal and the offset is 40
+/// or 62. Four pointers give a letter and a combining mark.
+#[derive(Drop)]
+pub struct Big5Decoder<'a> {
+    inner: Buffered<LeadFront<Pairs<Big5<'a>>>>,
+}
+
+impl<'a> Big5Decoder<'a> {
+    /// The decoder of tables in which the index is there. Nothing is pending.
+    pub fn new(tables: &'a Tables) -> Self
+        requires { has tables.now IndexKind.Big5 ≡ true }
+        ensures pending { (⟦<Big5Decoder<'a> as RawDecoder>⟧.state result).pending ≡ 0 }
+        ensures pieces { (⟦<Big5Decoder<'a> as RawDecoder>⟧.state result).pieces ≡ pieces_big5 (entries_of tables.now IndexKind.Big5) }
+        ensures room { (⟦<Big5Decoder<'a> as RawDecoder>⟧.state result).room ≡ room_multibyte }
+    {
+        Big5Decoder {
+            inner: Buffered::new(LeadFront::new(Pairs::new(index_of(tables)))),
+        }
+    }
+
+    /// Whether nothing is pending.
+    pub fn in_neutral_state(&self) -> bool
+        ensures { IsTrue result ↔ ((⟦<Big5Decoder<'a> as RawDecoder>⟧.state self.now).pending ≡ 0) }
+    {
+        self.pending_len() == 0
+    }
+}
+
+impl<'a> PieceDecoder for Big5Decoder<'a> {
+    ghost state = { λ d. ⟦<Buffered<LeadFront<Pairs<Big5<'a>>>> as PieceDecoder>⟧.state d.inner };
+
+    fn decode_into<S: Sink>(
+        &mut self,
+        src: &[u8],
+        sink: &mut S,
+        last: bool,
+    ) -> (DecoderResult, usize) {
+        self.inner.decode_into(src, sink, last)
+    }
+
+    fn held_len(&self) -> usize {
+        self.inner.held_len()
+    }
+
+    fn room(&self) -> Room {
+        self.inner.room()
+    }
+}
+
+/// Encodes to Big5: ASCII gives itself, another character the lead and the trail of its least pointer
+/// from 5024 on, or of its greatest for U+2550, U+255E, U+2561, U+256A, U+5341 and U+5345. One without
+/// a pointer is unmappable. There is no state.
+#[derive(Drop)]
+pub struct Big5Encoder<'a> {
+    inner: Stateless<Big5<'a>>,
+}
+
+impl<'a> Big5Encoder<'a> {
+    /// The encoder of tables in which the index is there.
+    pub fn new(tables: &'a Tables) -> Self
+        requires { has tables.now IndexKind.Big5 ≡ true }
+        ensures coding { ⟦<Big5Encoder<'a> as RawEncoder>⟧.coding result ≡ big5_coding (entries_of tables.now IndexKind.Big5) }
+        ensures set { ⟦<Big5Encoder<'a> as RawEncoder>⟧.set result ≡ Ascii }
+        ensures need { ⟦<Big5Encoder<'a> as RawEncoder>⟧.need result ≡ 2 }
+    {
+        Big5Encoder {
+            inner: Stateless::new(index_of(tables)),
+        }
+    }
+}
+
+impl<'a> RawEncoder for Big5Encoder<'a> {
+    ghost need = { λ e. ⟦<Stateless<Big5<'a>> as RawEncoder>⟧.need e.inner };
+
+    ghost coding = { λ e. ⟦<Stateless<Big5<'a>> as RawEncoder>⟧.coding e.inner };
+
+    ghost set = { λ e. ⟦<Stateless<Big5<'a>> as RawEncoder>⟧.set e.inner };
+
+    ghost laws = { λ e. big5_laws e.inner.forms.flat };
+
+    fn encode_from_utf8_raw(
+        &mut self,
+        src: &str,
+        dst: &mut [u8],
+        last: bool,
+    ) -> (EncoderResult, usize, usize) {
+        self.inner.encode_from_utf8_raw(src, dst, last)
+    }
+
+    fn encode_from_utf16_raw(
+        &mut self,
+        src: &[u16],
+        dst: &mut [u8],
+        last: bool,
+    ) -> (EncoderResult, usize, usize) {
+        self.inner.encode_from_utf16_raw(src, dst, last)
+    }
+}

@@ -1,0 +1,180 @@
+// EUC-KR (the Encoding Standard, section 13.1).
+
+ghost use Rattle.std.specs.Prelude.{◌≡◌, ◌↔◌, ℕ, ◌+◌, ◌-◌, ◌*◌, ◌/◌, ◌%◌, ◌<◌, ◌≤◌, [], ◌∷◌, true, IsTrue};
+ghost use Rattle.encoding_mem.specs.Room.{room_multibyte};
+ghost use Rattle.encoding_tables.specs.IndexLists.{has, entries_of};
+ghost use Rattle.encoding_tables.specs.Lookups.{AreEntries, first_pointer};
+ghost use Rattle.encoding_codecs.specs.EucKr.{euc_kr_rule, pieces_euc_kr, euc_kr_bytes, euc_kr_form, euc_kr_coding};
+ghost use Rattle.encoding_codecs.specs.EucKrLaws.{euc_kr_is_two_byte, euc_kr_laws};
+ghost use Rattle.encoding_codecs.specs.PointersLaws.{ascii_by_pointer};
+ghost use Rattle.encoding_mem.specs.declared.form.Set.TheVariants.{Ascii};
+
+use crate::lead_rule::{FirstByte, LeadFront};
+use crate::stateless::{Forms, Stateless};
+use crate::two_byte::{PairValue, Pairs, TwoByte, value_of_entry};
+use encoding_mem::form::{Bytes, Form};
+use encoding_mem::piece_decoder::{Buffered, PieceDecoder};
+use encoding_mem::room::Room;
+use encoding_mem::sink::Sink;
+use encoding_mem::{DecoderResult, EncoderResult, RawDecoder, RawEncoder};
+use encoding_tables::{Flat, IndexKind, Tables};
+
+// Its index.
+#[derive(Drop)]
+struct EucKr<'a> {
+    flat: Flat<'a>,
+    ghost scalars: { AreEntries flat },
+}
+
+impl<'a> TwoByte for EucKr<'a> {
+    ghost rule = { λ s. euc_kr_rule s.flat };
+
+    ghost laws = { λ s. euc_kr_is_two_byte s.flat s.scalars };
+
+    fn first(&self, byte: u8) -> FirstByte {
+        if byte >= 0x81 && byte <= 0xFE {
+            FirstByte::Lead
+        } else {
+            FirstByte::Unused
+        }
+    }
+
+    fn pair(&self, lead: u8, second: u8) -> PairValue {
+        if second < 0x41 || second > 0xFE {
+            return PairValue::NoChar;
+        }
+        let pointer = (lead as u32 - 0x81) * 190 + (second as u32 - 0x41);
+        value_of_entry(self.flat.value(pointer))
+    }
+}
+
+impl<'a> Forms for EucKr<'a> {
+    ghost most = { 2 };
+
+    ghost form = { λ s. euc_kr_form s.flat };
+
+    ghost coding = { λ s. euc_kr_laws s.flat };
+
+    ghost ascii = { λ s. ascii_by_pointer euc_kr_bytes (λ c. first_pointer s.flat c 0 23940) };
+
+    fn form_of(&self, c: char) -> Form {
+        if c < '\u{80}' {
+            return Form::Mapped(Bytes::one(c as u8));
+        }
+        match self.flat.first_pointer(c, 0, 23940) {
+            Some(pointer) => Form::Mapped(Bytes::two(
+                0x81 + (pointer / 190) as u8,
+                0x41 + (pointer % 190) as u8,
+            )),
+            None => Form::Unmapped(c),
+        }
+    }
+}
+
+// The index of tables in which it is there.
+fn index_of(tables: &Tables) -> EucKr<'_>
+    requires { has tables.now IndexKind.EucKr ≡ true }
+    ensures { result.flat ≡ entries_of tables.now IndexKind.EucKr }
+{
+    EucKr {
+        flat: tables.flat(IndexKind::EucKr),
+    }
+}
+
+/// Decodes EUC-KR: 00 to 7F give themselves, a lead from 81 and a trail from 41, each to FE, the entry at
+/// `(lead - 81) * 190 + trail - 41`, where the bytes are hexadecimal.
+#[derive(Drop)]
+pub struct EucKrDecoder<'a> {
+    inner: Buffered<LeadFront<Pairs<EucKr<'a>>>>,
+}
+
+impl<'a> EucKrDecoder<'a> {
+    /// The decoder of tables in which the index is there. Nothing is pending.
+    pub fn new(tables: &'a Tables) -> Self
+        requires { has tables.now IndexKind.EucKr ≡ true }
+        ensures pending { (⟦<EucKrDecoder<'a> as RawDecoder>⟧.state result).pending ≡ 0 }
+        ensures pieces { (⟦<EucKrDecoder<'a> as RawDecoder>⟧.state result).pieces ≡ pieces_euc_kr (entries_of tables.now IndexKind.EucKr) }
+        ensures room { (⟦<EucKrDecoder<'a> as RawDecoder>⟧.state result).room ≡ room_multibyte }
+    {
+        EucKrDecoder {
+            inner: Buffered::new(LeadFront::new(Pairs::new(index_of(tables)))),
+        }
+    }
+
+    /// Whether nothing is pending.
+    pub fn in_neutral_state(&self) -> bool
+        ensures { IsTrue result ↔ ((⟦<EucKrDecoder<'a> as RawDecoder>⟧.state self.now).pending ≡ 0) }
+    {
+        self.pending_len() == 0
+    }
+}
+
+impl<'a> PieceDecoder for EucKrDecoder<'a> {
+    ghost state = { λ d. ⟦<Buffered<LeadFront<Pairs<EucKr<'a>>>> as PieceDecoder>⟧.state d.inner };
+
+    fn decode_into<S: Sink>(
+        &mut self,
+        src: &[u8],
+        sink: &mut S,
+        last: bool,
+    ) -> (DecoderResult, usize) {
+        self.inner.decode_into(src, sink, last)
+    }
+
+    fn held_len(&self) -> usize {
+        self.inner.held_len()
+    }
+
+    fn room(&self) -> Room {
+        self.inner.room()
+    }
+}
+
+/// Encodes to EUC-KR: ASCII gives itself, another character the lead and the trail of the least pointer
+/// with it. One without a pointer is unmappable. There is no state.
+#[derive(Drop)]
+pub struct EucKrEncoder<'a> {
+    inner: Stateless<EucKr<'a>>,
+}
+
+impl<'a> EucKrEncoder<'a> {
+    /// The encoder of tables in which the index is there.
+    pub fn new(tables: &'a Tables) -> Self
+        requires { has tables.now IndexKind.EucKr ≡ true }
+        ensures coding { ⟦<EucKrEncoder<'a> as RawEncoder>⟧.coding result ≡ euc_kr_coding (entries_of tables.now IndexKind.EucKr) }
+        ensures set { ⟦<EucKrEncoder<'a> as RawEncoder>⟧.set result ≡ Ascii }
+        ensures need { ⟦<EucKrEncoder<'a> as RawEncoder>⟧.need result ≡ 2 }
+    {
+        EucKrEncoder {
+            inner: Stateless::new(index_of(tables)),
+        }
+    }
+}
+
+impl<'a> RawEncoder for EucKrEncoder<'a> {
+    ghost need = { λ e. ⟦<Stateless<EucKr<'a>> as RawEncoder>⟧.need e.inner };
+
+    ghost coding = { λ e. ⟦<Stateless<EucKr<'a>> as RawEncoder>⟧.coding e.inner };
+
+    ghost set = { λ e. ⟦<Stateless<EucKr<'a>> as RawEncoder>⟧.set e.inner };
+
+    ghost laws = { λ e. euc_kr_laws e.inner.forms.flat };
+
+    fn encode_from_utf8_raw(
+        &mut self,
+        src: &str,
+        dst: &mut [u8],
+        last: bool,
+    ) -> (EncoderResult, usize, usize) {
+        self.inner.encode_from_utf8_raw(src, dst, last)
+    }
+
+    fn encode_from_utf16_raw(
+        &mut self,
+        src: &[u16],
+        dst: &mut [u8],
+        last: bool,
+    ) -> (EncoderResult, usize, usize) {
+        self.inner.encode_from_utf16_raw(src, dst, last)
+    }
+}

@@ -1,0 +1,97 @@
+// Encoders with one set: a character is written as its bytes, whatever comes before it.
+
+ghost use Rattle.std.specs.Prelude.{◌≡◌, ℕ, ◌<◌, [], ◌∷◌};
+ghost use Rattle.encoding_mem.specs.Coding.{IsCoding};
+ghost use Rattle.encoding_mem.specs.Stateless.{stateless};
+ghost use Rattle.encoding_mem.specs.declared.form.Form.{Form};
+ghost use Rattle.encoding_mem.specs.declared.form.Form.TheVariants.{Mapped};
+ghost use Rattle.encoding_mem.specs.declared.form.Set.TheVariants.{Ascii};
+
+use encoding_mem::encode::{Target, encode};
+use encoding_mem::form::{Bytes, Form, Set};
+use encoding_mem::source::{Source, Utf8Source, Utf16Source};
+use encoding_mem::{EncoderResult, RawEncoder};
+
+/// What an encoding makes of a character. ASCII gives itself.
+pub trait Forms {
+    /// The most bytes of a character.
+    ghost most: { ℕ };
+
+    ghost form: { Self → ℕ → Form };
+
+    ghost coding: { (s : Self) → IsCoding most (stateless (form s)) };
+
+    ghost ascii: { (s : Self) (c : ℕ) → c < 0x80 → form s c ≡ Mapped (c ∷ []) };
+
+    /// The form of a character.
+    fn form_of(&self, c: char) -> Form
+        ensures { result ≡ form self.now c };
+}
+
+/// The encoder that forms make.
+#[derive(Drop)]
+pub struct Stateless<T: Forms> {
+    forms: T,
+}
+
+impl<T: Forms> Stateless<T> {
+    pub fn new(forms: T) -> Self
+        ensures { result.forms ≡ forms }
+    {
+        Stateless { forms }
+    }
+}
+
+impl<T: Forms> Target for Stateless<T> {
+    ghost need = { T.most };
+
+    ghost coding = { λ s. stateless (T.form s.forms) };
+
+    ghost laws = { λ s. T.coding s.forms };
+
+    fn step(&self, _set: Set, c: char) -> (Set, Form) {
+        (Set::Ascii, self.forms.form_of(c))
+    }
+
+    fn copies_ascii(&self, set: Set) -> bool {
+        matches!(set, Set::Ascii)
+    }
+
+    fn escape(&self, _from: Set, _to: Set) -> Bytes {
+        Bytes::none()
+    }
+}
+
+impl<T: Forms> RawEncoder for Stateless<T> {
+    ghost need = { λ _. T.most };
+
+    ghost coding = { λ s. stateless (T.form s.forms) };
+
+    ghost set = { λ _. Ascii };
+
+    ghost laws = { λ s. T.coding s.forms };
+
+    fn encode_from_utf8_raw(
+        &mut self,
+        src: &str,
+        dst: &mut [u8],
+        last: bool,
+    ) -> (EncoderResult, usize, usize) {
+        let mut source = Utf8Source::new(src);
+        let mut set = Set::Ascii;
+        let (result, written) = encode(self, &mut set, &mut source, dst, last);
+        (result, source.read(), written)
+    }
+
+    fn encode_from_utf16_raw(
+        &mut self,
+        src: &[u16],
+        dst: &mut [u8],
+        last: bool,
+    ) -> (EncoderResult, usize, usize) {
+        let mut source = Utf16Source::new(src);
+        let mut set = Set::Ascii;
+        let (result, written) = encode(self, &mut set, &mut source, dst, last);
+        (result, source.read(), written)
+    }
+}
