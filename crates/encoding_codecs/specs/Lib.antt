@@ -8,3 +8,16 @@ pub mod EucKr
 pub mod EucKrLaws
 pub mod Big5
 pub mod Big5Laws
+pub mod Steps
+pub mod StepsLaws
+pub mod JisForms
+pub mod JisFormsLaws
+pub mod JisSteps
+pub mod ShiftJis
+pub mod ShiftJisLaws
+pub mod ShiftJisPointers
+pub mod ShiftJisSteps
+pub mod EucJp
+pub mod EucJpDecide
+pub mod EucJpLaws
+pub mod EucJpSteps

@@ -4,7 +4,11 @@ ghost use Rattle.std.specs.Prelude.{ℕ, List};
 ghost use Rattle.encoding_mem.specs.ReadBack.{ReadsBackExactly};
 ghost use Rattle.encoding_tables.specs.Lookups.{AreEntries};
 ghost use Rattle.encoding_codecs.specs.Big5.{pieces_big5, big5_coding};
+ghost use Rattle.encoding_codecs.specs.EucJp.{front_euc_jp, euc_jp_form};
 ghost use Rattle.encoding_codecs.specs.EucKr.{pieces_euc_kr, euc_kr_coding};
+ghost use Rattle.encoding_codecs.specs.ShiftJis.{front_shift_jis, shift_jis_form};
+ghost use Rattle.encoding_codecs.specs.ShiftJisPointers.{PointerIsLeastUsed};
+ghost use Rattle.encoding_codecs.specs.Steps.{StepsReadBack};
 
 /// What is written in EUC-KR reads back, by the decoder of the same index, as the text exactly where each
 /// character of it has a pointer.
@@ -16,4 +20,21 @@ pub fn euc_kr_text_reads_back()
 /// character of it has a pointer from 5024 on.
 pub fn big5_text_reads_back()
     ensures { (flat : List ℕ) → AreEntries flat → ReadsBackExactly (pieces_big5 flat) (big5_coding flat) }
+{}
+
+/// The pointer that Shift_JIS writes for a character is the least one of jis0208 with it that is not from
+/// 8272 to 8835.
+pub fn shift_jis_pointers()
+    ensures { PointerIsLeastUsed }
+{}
+
+/// What Shift_JIS writes for a character, its bytes or its reference, reads back as the character or as
+/// something else, whatever follows it and whatever the index holds.
+pub fn shift_jis_steps_read_back()
+    ensures { (jis0208 : List ℕ) → StepsReadBack (front_shift_jis jis0208) (shift_jis_form jis0208) }
+{}
+
+/// The same of EUC-JP.
+pub fn euc_jp_steps_read_back()
+    ensures { (jis0208 jis0212 : List ℕ) → StepsReadBack (front_euc_jp jis0208 jis0212) (euc_jp_form jis0208) }
 {}

@@ -2,13 +2,20 @@
 #![tactic(auto)]
 
 pub mod big5;
+pub mod euc_jp;
 pub mod euc_kr;
+mod jis;
+#[cfg(test)]
+mod jis_tests;
 pub mod laws;
 pub mod lead_rule;
+pub mod shift_jis;
 pub mod stateless;
 #[cfg(test)]
 mod tests;
 pub mod two_byte;
 
 pub use big5::{Big5Decoder, Big5Encoder};
+pub use euc_jp::{EucJpDecoder, EucJpEncoder};
 pub use euc_kr::{EucKrDecoder, EucKrEncoder};
+pub use shift_jis::{ShiftJisDecoder, ShiftJisEncoder};

@@ -1,0 +1,28 @@
+-- What Shift_JIS and EUC-JP share of the characters of JIS X 0201 (the Encoding Standard, sections 12.1 and 12.3).
+use Rattle.std.specs.Prelude.{ℕ, ◌+◌, ◌-◌, ◌==◌, Bool, List, if◌then◌else◌, Option, None, Some}
+use Rattle.std.specs.Int.{is_in_range}
+use Rattle.encoding_mem.specs.declared.form.Form.{Form}
+use Rattle.encoding_mem.specs.declared.form.Form.TheVariants.{Mapped, Unmapped}
+
+-- the bytes of halfwidth katakana, and the character of such a byte
+abbrev pub is_katakana_byte : ℕ → Bool
+is_katakana_byte b = is_in_range 0xA1 0xDF b
+
+abbrev pub katakana_of_byte : ℕ → ℕ
+katakana_of_byte b = 0xFF61 + (b - 0xA1)
+
+-- halfwidth katakana, and the byte of such a character
+abbrev pub is_katakana : ℕ → Bool
+is_katakana c = is_in_range 0xFF61 0xFF9F c
+
+abbrev pub byte_of_katakana : ℕ → ℕ
+byte_of_katakana c = 0xA1 + (c - 0xFF61)
+
+-- the character that is looked up: MINUS SIGN as FULLWIDTH HYPHEN-MINUS
+abbrev pub folded : ℕ → ℕ
+folded c = if c == 0x2212 then 0xFF0D else c
+
+-- a character without bytes is reported as it stands in the text
+abbrev pub form_of_bytes : ℕ → Option (List ℕ) → Form
+form_of_bytes c None = Unmapped c
+form_of_bytes c (Some bytes) = Mapped bytes

@@ -1,0 +1,280 @@
+// EUC-JP (the Encoding Standard, section 12.1).
+
+ghost use Rattle.std.specs.Prelude.{◌≡◌, ◌≢◌, ◌↔◌, ◌<◌, true, IsTrue};
+ghost use Rattle.encoding_mem.specs.Room.{room_multibyte};
+ghost use Rattle.encoding_tables.specs.IndexLists.{has, entries_of};
+ghost use Rattle.encoding_tables.specs.Lookups.{AreEntries};
+ghost use Rattle.encoding_codecs.specs.EucJp.{is_pointer_byte, euc_jp_first, euc_pair, euc_jp_pair, euc_jp_after, pieces_euc_jp, own_bytes, bytes_of_pointer, bytes_of_char, euc_jp_form, euc_jp_coding};
+ghost use Rattle.encoding_codecs.specs.EucJpDecide.{decide_8f, decide_euc_jp};
+ghost use Rattle.encoding_codecs.specs.EucJpLaws.{euc_jp_is_lead_rule, euc_jp_ascii, euc_jp_laws};
+ghost use Rattle.encoding_mem.specs.declared.form.Set.TheVariants.{Ascii};
+
+use crate::jis::{
+    byte_of_katakana, folded, form_of_bytes, is_katakana, is_katakana_byte, katakana_of_byte,
+};
+use crate::lead_rule::{FirstByte, LeadFront, LeadRule};
+use crate::stateless::{Forms, Stateless};
+use crate::two_byte::{PairValue, cut_short, decide_trail, value_of_entry};
+use encoding_mem::form::{Bytes, Form};
+use encoding_mem::front::Front;
+use encoding_mem::piece_decoder::{Buffered, PieceDecoder};
+use encoding_mem::room::Room;
+use encoding_mem::sink::Sink;
+use encoding_mem::{DecoderResult, EncoderResult, RawDecoder, RawEncoder};
+use encoding_tables::{Flat, IndexKind, Tables};
+
+// The indexes that are read.
+#[derive(Drop)]
+struct EucJpLeads<'a> {
+    jis0208: Flat<'a>,
+    jis0212: Flat<'a>,
+    ghost scalars: { AreEntries jis0208 },
+    ghost scalars_behind_8f: { AreEntries jis0212 },
+}
+
+impl<'a> LeadRule for EucJpLeads<'a> {
+    ghost first_byte = { λ _. euc_jp_first };
+
+    ghost after = { λ s. euc_jp_after s.jis0208 s.jis0212 };
+
+    ghost decided = { λ s. decide_euc_jp s.jis0208 s.jis0212 };
+
+    ghost laws = { λ s. euc_jp_is_lead_rule s.jis0208 s.jis0212 s.scalars s.scalars_behind_8f };
+
+    fn first(&self, byte: u8) -> FirstByte {
+        match byte {
+            0x8E | 0x8F | 0xA1..=0xFE => FirstByte::Lead,
+            _ => FirstByte::Unused,
+        }
+    }
+
+    fn after_lead(&self, lead: u8, rest: &[u8], last: bool) -> Front {
+        if lead == 0x8F {
+            return after_8f(&self.jis0212, rest, last);
+        }
+        match rest {
+            [] => cut_short(1, last),
+            [second, ..] => decide_trail(1, pair(&self.jis0208, lead, *second), *second),
+        }
+    }
+}
+
+// Whether a byte may be one of the two of a pointer.
+fn is_pointer_byte(byte: u8) -> bool
+    ensures { result ≡ is_pointer_byte byte }
+{
+    matches!(byte, 0xA1..=0xFE)
+}
+
+// What a lead other than 8F and the byte behind it give.
+fn pair(jis0208: &Flat<'_>, lead: u8, second: u8) -> PairValue
+    requires lead { euc_jp_first lead ≡ FirstByte.Lead }
+    requires other { lead ≢ 0x8F }
+    ensures { result ≡ euc_jp_pair jis0208.now lead second }
+{
+    if lead != 0x8E {
+        pair_by_index(jis0208, lead, second)
+    } else if is_katakana_byte(second) {
+        PairValue::OneChar(katakana_of_byte(second))
+    } else {
+        PairValue::NoChar
+    }
+}
+
+// What two bytes give by an index, if both are bytes of a pointer.
+fn pair_by_index(flat: &Flat<'_>, lead: u8, trail: u8) -> PairValue
+    requires { is_pointer_byte lead ≡ true }
+    ensures { result ≡ euc_pair flat.now lead trail }
+{
+    if is_pointer_byte(trail) {
+        let pointer = (lead - 0xA1) as u32 * 94 + (trail - 0xA1) as u32;
+        value_of_entry(flat.value(pointer))
+    } else {
+        PairValue::NoChar
+    }
+}
+
+// What 8F and the bytes behind it give: two of a pointer, by jis0212.
+fn after_8f(jis0212: &Flat<'_>, rest: &[u8], last: bool) -> Front
+    ensures { result ≡ decide_8f jis0212.now rest.now last }
+{
+    match rest {
+        [] => cut_short(1, last),
+        [second, rest @ ..] => {
+            let second = *second;
+            if !is_pointer_byte(second) {
+                return decide_trail(1, PairValue::NoChar, second);
+            }
+            match rest {
+                [] => cut_short(2, last),
+                [third, ..] => decide_trail(2, pair_by_index(jis0212, second, *third), *third),
+            }
+        }
+    }
+}
+
+/// Decodes EUC-JP: 00 to 7F give themselves. 8E and a byte from A1 to DF give halfwidth katakana, two bytes
+/// from A1 to FE the entry of jis0208 at their pointer, and 8F and two such bytes that of jis0212. A lead is
+/// bad alone at the end and before ASCII; with another byte with which it gives nothing both are bad. The
+/// same holds of 8F and a byte from A1 to FE before a third: two bytes are bad, or all three.
+#[derive(Drop)]
+pub struct EucJpDecoder<'a> {
+    inner: Buffered<LeadFront<EucJpLeads<'a>>>,
+}
+
+impl<'a> EucJpDecoder<'a> {
+    /// The decoder over tables with jis0208 and jis0212. Nothing is pending.
+    pub fn new(tables: &'a Tables) -> Self
+        requires there { has tables.now IndexKind.Jis0208 ≡ true }
+        requires also { has tables.now IndexKind.Jis0212 ≡ true }
+        ensures pending { (⟦<EucJpDecoder<'a> as RawDecoder>⟧.state result).pending ≡ 0 }
+        ensures pieces { (⟦<EucJpDecoder<'a> as RawDecoder>⟧.state result).pieces
+            ≡ pieces_euc_jp (entries_of tables.now IndexKind.Jis0208) (entries_of tables.now IndexKind.Jis0212) }
+        ensures room { (⟦<EucJpDecoder<'a> as RawDecoder>⟧.state result).room ≡ room_multibyte }
+    {
+        EucJpDecoder {
+            inner: Buffered::new(LeadFront::new(EucJpLeads {
+                jis0208: tables.flat(IndexKind::Jis0208),
+                jis0212: tables.flat(IndexKind::Jis0212),
+            })),
+        }
+    }
+
+    /// Whether nothing is pending.
+    pub fn in_neutral_state(&self) -> bool
+        ensures { IsTrue result ↔ ((⟦<EucJpDecoder<'a> as RawDecoder>⟧.state self.now).pending ≡ 0) }
+    {
+        self.pending_len() == 0
+    }
+}
+
+impl<'a> PieceDecoder for EucJpDecoder<'a> {
+    ghost state = { λ d. ⟦<Buffered<LeadFront<EucJpLeads<'a>>> as PieceDecoder>⟧.state d.inner };
+
+    fn decode_into<S: Sink>(
+        &mut self,
+        src: &[u8],
+        sink: &mut S,
+        last: bool,
+    ) -> (DecoderResult, usize) {
+        self.inner.decode_into(src, sink, last)
+    }
+
+    fn held_len(&self) -> usize {
+        self.inner.held_len()
+    }
+
+    fn room(&self) -> Room {
+        self.inner.room()
+    }
+}
+
+// The index that is written.
+#[derive(Drop)]
+struct EucJpForms<'a> {
+    jis0208: Flat<'a>,
+}
+
+impl<'a> Forms for EucJpForms<'a> {
+    ghost most = { 2 };
+
+    ghost form = { λ s. euc_jp_form s.jis0208 };
+
+    ghost coding = { λ s. euc_jp_laws s.jis0208 };
+
+    ghost ascii = { λ s. euc_jp_ascii s.jis0208 };
+
+    fn form_of(&self, c: char) -> Form {
+        form_of_bytes(c, bytes_of_char(&self.jis0208, c))
+    }
+}
+
+// The bytes of a character.
+fn bytes_of_char(jis0208: &Flat<'_>, c: char) -> Option<Bytes>
+    ensures { result ≡ bytes_of_char jis0208.now c }
+{
+    if let Some(bytes) = own_bytes(c) {
+        return Some(bytes);
+    }
+    match jis0208.first_pointer(folded(c), 0, 8836) {
+        Some(pointer) => Some(bytes_of_pointer(pointer)),
+        None => None,
+    }
+}
+
+// The bytes of a character that is not looked up.
+fn own_bytes(c: char) -> Option<Bytes>
+    ensures { result ≡ own_bytes c }
+{
+    if c < '\u{80}' {
+        Some(Bytes::one(c as u8))
+    } else if c == '\u{A5}' {
+        Some(Bytes::one(0x5C))
+    } else if c == '\u{203E}' {
+        Some(Bytes::one(0x7E))
+    } else if is_katakana(c) {
+        Some(Bytes::two(0x8E, byte_of_katakana(c)))
+    } else {
+        None
+    }
+}
+
+// The lead and the trail of a pointer.
+fn bytes_of_pointer(pointer: u32) -> Bytes
+    requires { pointer < 8836 }
+    ensures { result ≡ bytes_of_pointer pointer }
+{
+    Bytes::two((0xA1 + pointer / 94) as u8, (0xA1 + pointer % 94) as u8)
+}
+
+/// Encodes to EUC-JP: ASCII, U+00A5 (5C) and U+203E (7E) are one byte, halfwidth katakana is 8E and a byte;
+/// another character is two bytes, by its least pointer of jis0208 below 8836. U+2212 is looked up as
+/// U+FF0D. One without a pointer is unmappable: jis0212 is never written. There is no state.
+#[derive(Drop)]
+pub struct EucJpEncoder<'a> {
+    inner: Stateless<EucJpForms<'a>>,
+}
+
+impl<'a> EucJpEncoder<'a> {
+    /// The encoder over tables with jis0208.
+    pub fn new(tables: &'a Tables) -> Self
+        requires { has tables.now IndexKind.Jis0208 ≡ true }
+        ensures coding { ⟦<EucJpEncoder<'a> as RawEncoder>⟧.coding result ≡ euc_jp_coding (entries_of tables.now IndexKind.Jis0208) }
+        ensures set { ⟦<EucJpEncoder<'a> as RawEncoder>⟧.set result ≡ Ascii }
+        ensures need { ⟦<EucJpEncoder<'a> as RawEncoder>⟧.need result ≡ 2 }
+    {
+        EucJpEncoder {
+            inner: Stateless::new(EucJpForms {
+                jis0208: tables.flat(IndexKind::Jis0208),
+            }),
+        }
+    }
+}
+
+impl<'a> RawEncoder for EucJpEncoder<'a> {
+    ghost need = { λ e. ⟦<Stateless<EucJpForms<'a>> as RawEncoder>⟧.need e.inner };
+
+    ghost coding = { λ e. ⟦<Stateless<EucJpForms<'a>> as RawEncoder>⟧.coding e.inner };
+
+    ghost set = { λ e. ⟦<Stateless<EucJpForms<'a>> as RawEncoder>⟧.set e.inner };
+
+    ghost laws = { λ e. euc_jp_laws e.inner.forms.jis0208 };
+
+    fn encode_from_utf8_raw(
+        &mut self,
+        src: &str,
+        dst: &mut [u8],
+        last: bool,
+    ) -> (EncoderResult, usize, usize) {
+        self.inner.encode_from_utf8_raw(src, dst, last)
+    }
+
+    fn encode_from_utf16_raw(
+        &mut self,
+        src: &[u16],
+        dst: &mut [u8],
+        last: bool,
+    ) -> (EncoderResult, usize, usize) {
+        self.inner.encode_from_utf16_raw(src, dst, last)
+    }
+}

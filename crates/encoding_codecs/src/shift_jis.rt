@@ -1,0 +1,265 @@
+// Shift_JIS (the Encoding Standard, section 12.3).
+
+ghost use Rattle.std.specs.Prelude.{◌≡◌, ◌↔◌, ◌+◌, ◌<◌, true, IsTrue, IfSome};
+ghost use Rattle.encoding_mem.specs.Room.{room_multibyte};
+ghost use Rattle.encoding_tables.specs.IndexLists.{has, entries_of};
+ghost use Rattle.encoding_tables.specs.Lookups.{AreEntries};
+ghost use Rattle.encoding_codecs.specs.ShiftJis.{is_lead, is_trail, pointer_of_pair, value_of_pointer, shift_jis_rule, pieces_shift_jis, byte_of_char, shift_jis_pointer, bytes_of_pointer, bytes_of_char, shift_jis_form, shift_jis_coding};
+ghost use Rattle.encoding_codecs.specs.ShiftJisLaws.{shift_jis_is_two_byte, shift_jis_ascii, shift_jis_laws};
+ghost use Rattle.encoding_mem.specs.declared.form.Set.TheVariants.{Ascii};
+
+use crate::jis::{byte_of_katakana, folded, form_of_bytes, is_katakana, katakana_of_byte};
+use crate::lead_rule::{FirstByte, LeadFront};
+use crate::stateless::{Forms, Stateless};
+use crate::two_byte::{PairValue, Pairs, TwoByte, value_of_entry};
+use encoding_mem::form::{Bytes, Form};
+use encoding_mem::piece_decoder::{Buffered, PieceDecoder};
+use encoding_mem::room::Room;
+use encoding_mem::sink::Sink;
+use encoding_mem::{DecoderResult, EncoderResult, RawDecoder, RawEncoder};
+use encoding_tables::{Flat, IndexKind, Tables};
+
+// Its index.
+#[derive(Drop)]
+struct ShiftJis<'a> {
+    jis0208: Flat<'a>,
+    ghost scalars: { AreEntries jis0208 },
+}
+
+fn index_of(tables: &Tables) -> ShiftJis<'_>
+    requires { has tables.now IndexKind.Jis0208 ≡ true }
+    ensures { result.jis0208 ≡ entries_of tables.now IndexKind.Jis0208 }
+{
+    ShiftJis {
+        jis0208: tables.flat(IndexKind::Jis0208),
+    }
+}
+
+impl<'a> TwoByte for ShiftJis<'a> {
+    ghost rule = { λ s. shift_jis_rule s.jis0208 };
+
+    ghost laws = { λ s. shift_jis_is_two_byte s.jis0208 s.scalars };
+
+    fn first(&self, byte: u8) -> FirstByte {
+        match byte {
+            0x80 => FirstByte::Alone('\u{80}'),
+            0x81..=0x9F | 0xE0..=0xFC => FirstByte::Lead,
+            0xA1..=0xDF => FirstByte::Alone(katakana_of_byte(byte)),
+            _ => FirstByte::Unused,
+        }
+    }
+
+    fn pair(&self, lead: u8, second: u8) -> PairValue {
+        if is_trail(second) {
+            value_of_pointer(&self.jis0208, pointer_of_pair(lead, second))
+        } else {
+            PairValue::NoChar
+        }
+    }
+}
+
+impl<'a> Forms for ShiftJis<'a> {
+    ghost most = { 2 };
+
+    ghost form = { λ s. shift_jis_form s.jis0208 };
+
+    ghost coding = { λ s. shift_jis_laws s.jis0208 };
+
+    ghost ascii = { λ s. shift_jis_ascii s.jis0208 };
+
+    fn form_of(&self, c: char) -> Form {
+        form_of_bytes(c, bytes_of_char(&self.jis0208, c))
+    }
+}
+
+// Whether a byte may follow a lead.
+fn is_trail(byte: u8) -> bool
+    ensures { result ≡ is_trail byte }
+{
+    matches!(byte, 0x40..=0x7E | 0x80..=0xFC)
+}
+
+// The pointer of a lead and a trail.
+fn pointer_of_pair(lead: u8, trail: u8) -> u32
+    requires lead { is_lead lead ≡ true }
+    requires trail { is_trail trail ≡ true }
+    ensures { result ≡ pointer_of_pair lead trail }
+{
+    let lead_offset = if lead < 0xA0 { 0x81 } else { 0xC1 };
+    let offset = if trail < 0x7F { 0x40 } else { 0x41 };
+    (lead - lead_offset) as u32 * 188 + (trail - offset) as u32
+}
+
+// What a pointer gives: those from 8836 to 10715 are for private use.
+fn value_of_pointer(jis0208: &Flat<'_>, pointer: u32) -> PairValue
+    ensures { result ≡ value_of_pointer jis0208.now pointer }
+{
+    if pointer >= 8836 && pointer <= 10715 {
+        PairValue::OneChar(private_use(pointer - 8836))
+    } else {
+        value_of_entry(jis0208.value(pointer))
+    }
+}
+
+// The characters for private use from U+E000 on.
+fn private_use(place: u32) -> char
+    requires { place < 6400 }
+    ensures { result ≡ 0xE000 + place }
+{
+    char::from_u32(0xE000 + place).unwrap()
+}
+
+// The bytes of a character.
+fn bytes_of_char(jis0208: &Flat<'_>, c: char) -> Option<Bytes>
+    ensures { result ≡ bytes_of_char jis0208.now c }
+{
+    if let Some(byte) = byte_of_char(c) {
+        return Some(Bytes::one(byte));
+    }
+    match pointer_of_char(jis0208, folded(c)) {
+        Some(pointer) => Some(bytes_of_pointer(pointer)),
+        None => None,
+    }
+}
+
+// The byte of a character that is one byte.
+fn byte_of_char(c: char) -> Option<u8>
+    ensures { result ≡ byte_of_char c }
+{
+    if c <= '\u{80}' {
+        Some(c as u8)
+    } else if c == '\u{A5}' {
+        Some(0x5C)
+    } else if c == '\u{203E}' {
+        Some(0x7E)
+    } else if is_katakana(c) {
+        Some(byte_of_katakana(c))
+    } else {
+        None
+    }
+}
+
+// The pointer that is written for a character. Those from 8272 to 8835 are not used: in the standard's
+// index what they hold stands at others too.
+fn pointer_of_char(jis0208: &Flat<'_>, c: char) -> Option<u32>
+    ensures pointer { result ≡ shift_jis_pointer jis0208.now c }
+    ensures before { IfSome result (λ p. p < 11280) }
+{
+    match jis0208.first_pointer(c, 0, 8272) {
+        Some(pointer) => Some(pointer),
+        None => jis0208.first_pointer(c, 8836, 11280),
+    }
+}
+
+// The lead and the trail of a pointer.
+fn bytes_of_pointer(pointer: u32) -> Bytes
+    requires { pointer < 11280 }
+    ensures { result ≡ bytes_of_pointer pointer }
+{
+    let row = pointer / 188;
+    let cell = pointer % 188;
+    let lead_offset = if row < 31 { 0x81 } else { 0xC1 };
+    let trail_offset = if cell < 63 { 0x40 } else { 0x41 };
+    Bytes::two((row + lead_offset) as u8, (cell + trail_offset) as u8)
+}
+
+/// Decodes Shift_JIS: 00 to 7F give themselves, 80 gives U+0080, A1 to DF give halfwidth katakana. A lead
+/// (81 to 9F, E0 to FC) and a trail (40 to 7E, 80 to FC) give the entry of jis0208 at their pointer, or,
+/// for the pointers 8836 to 10715, a character for private use. A lead is bad alone at the end and before
+/// ASCII with which it gives nothing; with another byte both are bad.
+#[derive(Drop)]
+pub struct ShiftJisDecoder<'a> {
+    inner: Buffered<LeadFront<Pairs<ShiftJis<'a>>>>,
+}
+
+impl<'a> ShiftJisDecoder<'a> {
+    /// The decoder over tables with jis0208. Nothing is pending.
+    pub fn new(tables: &'a Tables) -> Self
+        requires { has tables.now IndexKind.Jis0208 ≡ true }
+        ensures pending { (⟦<ShiftJisDecoder<'a> as RawDecoder>⟧.state result).pending ≡ 0 }
+        ensures pieces { (⟦<ShiftJisDecoder<'a> as RawDecoder>⟧.state result).pieces ≡ pieces_shift_jis (entries_of tables.now IndexKind.Jis0208) }
+        ensures room { (⟦<ShiftJisDecoder<'a> as RawDecoder>⟧.state result).room ≡ room_multibyte }
+    {
+        ShiftJisDecoder {
+            inner: Buffered::new(LeadFront::new(Pairs::new(index_of(tables)))),
+        }
+    }
+
+    /// Whether nothing is pending.
+    pub fn in_neutral_state(&self) -> bool
+        ensures { IsTrue result ↔ ((⟦<ShiftJisDecoder<'a> as RawDecoder>⟧.state self.now).pending ≡ 0) }
+    {
+        self.pending_len() == 0
+    }
+}
+
+impl<'a> PieceDecoder for ShiftJisDecoder<'a> {
+    ghost state = { λ d. ⟦<Buffered<LeadFront<Pairs<ShiftJis<'a>>>> as PieceDecoder>⟧.state d.inner };
+
+    fn decode_into<S: Sink>(
+        &mut self,
+        src: &[u8],
+        sink: &mut S,
+        last: bool,
+    ) -> (DecoderResult, usize) {
+        self.inner.decode_into(src, sink, last)
+    }
+
+    fn held_len(&self) -> usize {
+        self.inner.held_len()
+    }
+
+    fn room(&self) -> Room {
+        self.inner.room()
+    }
+}
+
+/// Encodes to Shift_JIS: U+0000 to U+0080, U+00A5 (5C), U+203E (7E) and halfwidth katakana (A1 to DF) are
+/// one byte; another character is two, by its least pointer of jis0208 outside 8272 to 8835. U+2212 is
+/// looked up as U+FF0D. One without a pointer is unmappable. There is no state.
+#[derive(Drop)]
+pub struct ShiftJisEncoder<'a> {
+    inner: Stateless<ShiftJis<'a>>,
+}
+
+impl<'a> ShiftJisEncoder<'a> {
+    /// The encoder over tables with jis0208.
+    pub fn new(tables: &'a Tables) -> Self
+        requires { has tables.now IndexKind.Jis0208 ≡ true }
+        ensures coding { ⟦<ShiftJisEncoder<'a> as RawEncoder>⟧.coding result ≡ shift_jis_coding (entries_of tables.now IndexKind.Jis0208) }
+        ensures set { ⟦<ShiftJisEncoder<'a> as RawEncoder>⟧.set result ≡ Ascii }
+        ensures need { ⟦<ShiftJisEncoder<'a> as RawEncoder>⟧.need result ≡ 2 }
+    {
+        ShiftJisEncoder {
+            inner: Stateless::new(index_of(tables)),
+        }
+    }
+}
+
+impl<'a> RawEncoder for ShiftJisEncoder<'a> {
+    ghost need = { λ e. ⟦<Stateless<ShiftJis<'a>> as RawEncoder>⟧.need e.inner };
+
+    ghost coding = { λ e. ⟦<Stateless<ShiftJis<'a>> as RawEncoder>⟧.coding e.inner };
+
+    ghost set = { λ e. ⟦<Stateless<ShiftJis<'a>> as RawEncoder>⟧.set e.inner };
+
+    ghost laws = { λ e. shift_jis_laws e.inner.forms.jis0208 };
+
+    fn encode_from_utf8_raw(
+        &mut self,
+        src: &str,
+        dst: &mut [u8],
+        last: bool,
+    ) -> (EncoderResult, usize, usize) {
+        self.inner.encode_from_utf8_raw(src, dst, last)
+    }
+
+    fn encode_from_utf16_raw(
+        &mut self,
+        src: &[u16],
+        dst: &mut [u8],
+        last: bool,
+    ) -> (EncoderResult, usize, usize) {
+        self.inner.encode_from_utf16_raw(src, dst, last)
+    }
+}
