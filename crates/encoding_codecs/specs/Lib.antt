@@ -21,3 +21,8 @@ pub mod EucJp
 pub mod EucJpDecide
 pub mod EucJpLaws
 pub mod EucJpSteps
+pub mod Gb18030
+pub mod Gb18030Decide
+pub mod Gb18030Laws
+pub mod Gb18030Coding
+pub mod Gb18030CodingLaws

@@ -129,11 +129,11 @@ cuts_by_lead first after is h a x =
 pub basic_bytes : (c : ℕ) → c < 0x10000 → (len_utf8 c ≤ 3 * 1) × (len_utf16 c ≤ 1)
 basic_bytes c basic = (grind (arith, nat_tests), grind (arith, nat_tests))
 
-modest_cond : (t : Bool) (F G : Front) → IsModest F → IsModest G → IsModest (cond t F G)
+pub modest_cond : (t : Bool) (F G : Front) → IsModest F → IsModest G → IsModest (cond t F G)
 modest_cond true F G h k = h
 modest_cond false F G h k = k
 
-modest_cut : (n : ℕ) (last : Bool) → 0 < n → IsModest (cut_short n last)
+pub modest_cut : (n : ℕ) (last : Bool) → 0 < n → IsModest (cut_short n last)
 modest_cut n true some = some
 modest_cut n false some = tt
 

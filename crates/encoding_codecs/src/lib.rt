@@ -7,6 +7,9 @@ pub mod euc_kr;
 mod jis;
 #[cfg(test)]
 mod jis_tests;
+pub mod gb18030_decoder;
+pub mod gb18030_encoder;
+mod gb18030_tests;
 pub mod laws;
 pub mod lead_rule;
 pub mod shift_jis;
@@ -19,3 +22,5 @@ pub use big5::{Big5Decoder, Big5Encoder};
 pub use euc_jp::{EucJpDecoder, EucJpEncoder};
 pub use euc_kr::{EucKrDecoder, EucKrEncoder};
 pub use shift_jis::{ShiftJisDecoder, ShiftJisEncoder};
+pub use gb18030_decoder::Gb18030Decoder;
+pub use gb18030_encoder::Gb18030Encoder;

@@ -1,0 +1,108 @@
+-- What gb18030 and GBK make of a character (the Encoding Standard, section 10.2.2, "gb18030 encoder", and section
+-- 10.1.2, "GBK encoder"), by the list of the index and by the rows of the ranges. GBK has no extended range: no forms of
+-- four bytes.
+use Rattle.std.specs.Prelude.{◌≡◌, ℕ, ◌+◌, ◌/◌, ◌%◌, ◌==◌, ◌&&◌, not, Bool, true, false, List, [], ◌∷◌, nat_lt, if◌then◌else◌, Option, None, Some, refl}
+use Rattle.std.specs.List.{find}
+use Rattle.std.specs.Option.{option_map, option_or}
+use Rattle.encoding_mem.specs.Coding.{Coding}
+use Rattle.encoding_mem.specs.Stateless.{stateless}
+use Rattle.encoding_mem.specs.declared.form.Form.{Form}
+use Rattle.encoding_mem.specs.declared.form.Form.TheVariants.{Mapped, Unmapped}
+use Rattle.encoding_tables.specs.Lookups.{first_pointer}
+use Rattle.encoding_tables.specs.Ranges.{range_pointer}
+use Rattle.encoding_codecs.specs.Gb18030.{sample_flat, sample_rows}
+
+-- The standard's table of private-use characters and their bytes: those of the edition of 2005, which the decoder gives
+-- the characters that took their place.
+abbrev pub fixed_rows : List (ℕ × (ℕ × ℕ))
+fixed_rows = (0xE78D, (0xA6, 0xD9)) ∷ (0xE78E, (0xA6, 0xDA)) ∷ (0xE78F, (0xA6, 0xDB)) ∷ (0xE790, (0xA6, 0xDC))
+    ∷ (0xE791, (0xA6, 0xDD)) ∷ (0xE792, (0xA6, 0xDE)) ∷ (0xE793, (0xA6, 0xDF)) ∷ (0xE794, (0xA6, 0xEC)) ∷ (0xE795, (0xA6, 0xED))
+    ∷ (0xE796, (0xA6, 0xF3)) ∷ (0xE81E, (0xFE, 0x59)) ∷ (0xE826, (0xFE, 0x61)) ∷ (0xE82B, (0xFE, 0x66)) ∷ (0xE82C, (0xFE, 0x67))
+    ∷ (0xE832, (0xFE, 0x6D)) ∷ (0xE843, (0xFE, 0x7E)) ∷ (0xE854, (0xFE, 0x90)) ∷ (0xE864, (0xFE, 0xA0)) ∷ []
+
+-- the lead and the trail of the row of a character
+abbrev pub fixed_pair : ℕ → Option (ℕ × ℕ)
+fixed_pair c = option_map (λ r. r.1) (find (λ r. r.0 == c) fixed_rows)
+
+abbrev pub two_of : ℕ × ℕ → List ℕ
+two_of p = p.0 ∷ p.1 ∷ []
+
+-- the lead and the trail of a pointer of the index
+abbrev pub trail_of : ℕ → ℕ
+trail_of r = if nat_lt r 0x3F then 0x40 + r else 0x41 + r
+
+abbrev pub pair_bytes : ℕ → List ℕ
+pair_bytes p = (0x81 + p / 190) ∷ trail_of (p % 190) ∷ []
+
+-- the four bytes of a pointer of the ranges
+abbrev pub four_bytes : ℕ → List ℕ
+four_bytes p = (0x81 + p / 12600) ∷ (0x30 + p / 1260 % 10) ∷ (0x81 + p / 10 % 126) ∷ (0x30 + p % 10) ∷ []
+
+-- the bytes of a character above ASCII, from the standard's table, from the index, and from the ranges
+abbrev pub index_bytes : List ℕ → ℕ → Option (List ℕ)
+index_bytes flat c = option_map pair_bytes (first_pointer flat c 0 23940)
+
+abbrev pub range_bytes : List (ℕ × ℕ) → Bool → ℕ → Option (List ℕ)
+range_bytes rows extended c = if extended then option_map four_bytes (range_pointer rows c) else None
+
+-- The bytes of a character, if it has any. GBK has a byte for the euro sign.
+abbrev pub gb18030_bytes : List ℕ → List (ℕ × ℕ) → Bool → ℕ → Option (List ℕ)
+gb18030_bytes flat rows extended c = if nat_lt c 0x80 then Some (c ∷ [])
+    else if c == 0xE5E5 then None
+    else if c == 0x20AC && not extended then Some (0x80 ∷ [])
+    else option_or (option_map two_of (fixed_pair c)) (option_or (index_bytes flat c) (range_bytes rows extended c))
+
+-- a character without bytes is reported as it is
+abbrev pub form_of_bytes : ℕ → Option (List ℕ) → Form
+form_of_bytes c None = Unmapped c
+form_of_bytes c (Some bs) = Mapped bs
+
+abbrev pub gb18030_form : List ℕ → List (ℕ × ℕ) → Bool → ℕ → Form
+gb18030_form flat rows extended c = form_of_bytes c (gb18030_bytes flat rows extended c)
+
+abbrev pub gb18030_coding : List ℕ → List (ℕ × ℕ) → Bool → Coding
+gb18030_coding flat rows extended = stateless (gb18030_form flat rows extended)
+
+-- the most bytes of a character
+abbrev pub gb18030_need : Bool → ℕ
+gb18030_need extended = if extended then 4 else 2
+
+two_bytes : gb18030_form sample_flat sample_rows true 0x4E04 ≡ Mapped (0x81 ∷ 0x41 ∷ [])
+unfolding sample_flat
+two_bytes = refl
+
+four : gb18030_form sample_flat sample_rows true 0x10FFFF ≡ Mapped (0xE3 ∷ 0x32 ∷ 0x9A ∷ 0x35 ∷ [])
+unfolding sample_flat sample_rows
+four = refl
+
+four_in_gbk : gb18030_form sample_flat sample_rows false 0x10FFFF ≡ Unmapped 0x10FFFF
+unfolding sample_flat
+four_in_gbk = refl
+
+fixed_pointer : gb18030_form sample_flat sample_rows true 0xE7C7 ≡ Mapped (0x81 ∷ 0x35 ∷ 0xF4 ∷ 0x37 ∷ [])
+unfolding sample_flat
+fixed_pointer = refl
+
+first_row : gb18030_form sample_flat sample_rows true 0xE78D ≡ Mapped (0xA6 ∷ 0xD9 ∷ [])
+first_row = refl
+
+another_row : gb18030_form sample_flat sample_rows false 0xE81E ≡ Mapped (0xFE ∷ 0x59 ∷ [])
+another_row = refl
+
+last_row : gb18030_form sample_flat sample_rows true 0xE864 ≡ Mapped (0xFE ∷ 0xA0 ∷ [])
+last_row = refl
+
+never : gb18030_form sample_flat sample_rows true 0xE5E5 ≡ Unmapped 0xE5E5
+never = refl
+
+euro_in_gbk : gb18030_form sample_flat sample_rows false 0x20AC ≡ Mapped (0x80 ∷ [])
+euro_in_gbk = refl
+
+euro : gb18030_form (0x20AC ∷ []) sample_rows true 0x20AC ≡ Mapped (0x81 ∷ 0x40 ∷ [])
+euro = refl
+
+trail_behind_7f : pair_bytes 63 ≡ 0x81 ∷ 0x80 ∷ []
+trail_behind_7f = refl
+
+last_pair : pair_bytes 23939 ≡ 0xFE ∷ 0xFE ∷ []
+last_pair = refl

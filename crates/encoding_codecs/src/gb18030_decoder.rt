@@ -1,0 +1,222 @@
+// The decoder of gb18030 (the Encoding Standard, section 10.2.1, "gb18030 decoder"), which is that of GBK
+// too (section 10.1.1).
+
+ghost use Rattle.std.specs.Prelude.{◌≡◌, ◌↔◌, ◌||◌, true, IsTrue};
+ghost use Rattle.std.specs.Int.{IsInRange, is_in_range};
+ghost use Rattle.encoding_mem.specs.Room.{room_multibyte};
+ghost use Rattle.encoding_tables.specs.IndexLists.{has, entries_of, rows_of};
+ghost use Rattle.encoding_codecs.specs.Gb18030.{gb18030_first, gb18030_pair, pair_pointer, four_pointer, after_lead, pieces_gb18030};
+ghost use Rattle.encoding_codecs.specs.Gb18030Decide.{decide_lead, decide_two, decide_three, decide_four};
+ghost use Rattle.encoding_codecs.specs.Gb18030Laws.{AreGbTables, gb18030_rule};
+
+use crate::lead_rule::{FirstByte, LeadFront, LeadRule};
+use crate::two_byte::{PairValue, cut_short, decide_trail, value_of_entry};
+use encoding_mem::front::Front;
+use encoding_mem::piece_decoder::{Buffered, PieceDecoder};
+use encoding_mem::room::Room;
+use encoding_mem::sink::Sink;
+use encoding_mem::{DecoderResult, RawDecoder};
+use encoding_tables::{Flat, IndexKind, Ranges, Tables};
+
+// The leads of gb18030, and what its tables make of the bytes behind them.
+#[derive(Drop)]
+struct Gb18030Rule<'a> {
+    index: Flat<'a>,
+    ranges: Ranges<'a>,
+    ghost scalars: { AreGbTables index ranges },
+}
+
+impl<'a> LeadRule for Gb18030Rule<'a> {
+    ghost first_byte = { λ _. gb18030_first };
+
+    ghost after = { λ s. after_lead s.index s.ranges };
+
+    ghost decided = { λ s. decide_lead s.index s.ranges };
+
+    ghost laws = { λ s. gb18030_rule s.index s.ranges s.scalars };
+
+    fn first(&self, byte: u8) -> FirstByte {
+        if byte == 0x80 {
+            FirstByte::Alone('\u{20AC}')
+        } else if is_lead(byte) {
+            FirstByte::Lead
+        } else {
+            FirstByte::Unused
+        }
+    }
+
+    fn after_lead(&self, lead: u8, rest: &[u8], last: bool) -> Front {
+        match rest {
+            [] => cut_short(1, last),
+            [second, rest @ ..] => {
+                let second = *second;
+                if is_digit(second) {
+                    self.after_two(lead, second, rest, last)
+                } else {
+                    decide_trail(1, self.pair(lead, second), second)
+                }
+            }
+        }
+    }
+}
+
+impl<'a> Gb18030Rule<'a> {
+    // The character of a lead and a trail, from the index.
+    fn pair(&self, lead: u8, trail: u8) -> PairValue
+        requires { IsInRange 0x81 0xFE lead }
+        ensures { result ≡ gb18030_pair self.now.index lead trail }
+    {
+        if !is_trail(trail) {
+            return PairValue::NoChar;
+        }
+        value_of_entry(self.index.value(pair_pointer(lead, trail)))
+    }
+
+    // A lead and a digit begin a form of four bytes. Where the third or the fourth byte does not continue
+    // it, the lead is bad alone, and what is behind it is read again.
+    fn after_two(&self, a: u8, b: u8, rest: &[u8], last: bool) -> Front
+        requires lead { IsInRange 0x81 0xFE a }
+        requires second { IsInRange 0x30 0x39 b }
+        ensures { result ≡ decide_two self.now.ranges a b rest.now last }
+    {
+        match rest {
+            [] => cut_short(2, last),
+            [third, rest @ ..] => {
+                let third = *third;
+                if is_lead(third) {
+                    self.after_three(a, b, third, rest, last)
+                } else {
+                    Front::Bad(1)
+                }
+            }
+        }
+    }
+
+    fn after_three(&self, a: u8, b: u8, c: u8, rest: &[u8], last: bool) -> Front
+        requires lead { IsInRange 0x81 0xFE a }
+        requires second { IsInRange 0x30 0x39 b }
+        requires third { IsInRange 0x81 0xFE c }
+        ensures { result ≡ decide_three self.now.ranges a b c rest.now last }
+    {
+        match rest {
+            [] => cut_short(3, last),
+            [fourth, ..] => {
+                let fourth = *fourth;
+                if is_digit(fourth) {
+                    front_of_four(self.ranges.value(four_pointer(a, b, c, fourth)))
+                } else {
+                    Front::Bad(1)
+                }
+            }
+        }
+    }
+}
+
+// The first byte of a form of two or four bytes, and the third of one of four.
+fn is_lead(byte: u8) -> bool
+    ensures { result ≡ is_in_range 0x81 0xFE byte }
+{
+    byte >= 0x81 && byte <= 0xFE
+}
+
+// The second and the fourth byte of a form of four.
+fn is_digit(byte: u8) -> bool
+    ensures { result ≡ is_in_range 0x30 0x39 byte }
+{
+    byte >= 0x30 && byte <= 0x39
+}
+
+// The second byte of a form of two.
+fn is_trail(byte: u8) -> bool
+    ensures { result ≡ (is_in_range 0x40 0x7E byte || is_in_range 0x80 0xFE byte) }
+{
+    byte >= 0x40 && byte <= 0x7E || byte >= 0x80 && byte <= 0xFE
+}
+
+// The pointer of a lead and a trail: a lead has 190, and the trails leave out 7F.
+fn pair_pointer(lead: u8, trail: u8) -> u32
+    requires lead { IsInRange 0x81 0xFE lead }
+    requires trail { IsInRange 0x40 0xFE trail }
+    ensures { result ≡ pair_pointer lead trail }
+{
+    let offset = if trail < 0x7F { 0x40 } else { 0x41 };
+    (lead as u32 - 0x81) * 190 + (trail as u32 - offset)
+}
+
+// The pointer of four bytes: ten digits, 126 leads, ten digits for a lead.
+fn four_pointer(a: u8, b: u8, c: u8, d: u8) -> u32
+    requires first { IsInRange 0x81 0xFE a }
+    requires second { IsInRange 0x30 0x39 b }
+    requires third { IsInRange 0x81 0xFE c }
+    requires fourth { IsInRange 0x30 0x39 d }
+    ensures { result ≡ four_pointer a b c d }
+{
+    (a as u32 - 0x81) * 12600
+        + (b as u32 - 0x30) * 1260
+        + (c as u32 - 0x81) * 10
+        + (d as u32 - 0x30)
+}
+
+// The piece of four bytes, by the character at their pointer.
+fn front_of_four(c: Option<char>) -> Front
+    ensures { result ≡ decide_four c }
+{
+    match c {
+        Some(c) => Front::One(c, 4),
+        None => Front::Bad(4),
+    }
+}
+
+/// Decodes gb18030 and GBK. 00 to 7F give themselves, 80 gives U+20AC; a lead and a trail give the entry
+/// of the index at their pointer, four bytes the value of the ranges at theirs.
+#[derive(Drop)]
+pub struct Gb18030Decoder<'a> {
+    inner: Buffered<LeadFront<Gb18030Rule<'a>>>,
+}
+
+impl<'a> Gb18030Decoder<'a> {
+    /// The decoder of tables that have the index and the ranges of gb18030. Nothing is pending.
+    pub fn new(tables: &'a Tables) -> Self
+        requires index { has tables.now IndexKind.Gb18030 ≡ true }
+        requires ranges { has tables.now IndexKind.Gb18030Ranges ≡ true }
+        ensures pending { (⟦<Gb18030Decoder<'a> as RawDecoder>⟧.state result).pending ≡ 0 }
+        ensures pieces { (⟦<Gb18030Decoder<'a> as RawDecoder>⟧.state result).pieces
+            ≡ pieces_gb18030 (entries_of tables.now IndexKind.Gb18030) (rows_of tables.now) }
+        ensures room { (⟦<Gb18030Decoder<'a> as RawDecoder>⟧.state result).room ≡ room_multibyte }
+    {
+        Gb18030Decoder {
+            inner: Buffered::new(LeadFront::new(Gb18030Rule {
+                index: tables.flat(IndexKind::Gb18030),
+                ranges: tables.ranges(),
+            })),
+        }
+    }
+
+    /// Whether nothing is pending.
+    pub fn in_neutral_state(&self) -> bool
+        ensures { IsTrue result ↔ ((⟦<Gb18030Decoder<'a> as RawDecoder>⟧.state self.now).pending ≡ 0) }
+    {
+        self.pending_len() == 0
+    }
+}
+
+impl<'a> PieceDecoder for Gb18030Decoder<'a> {
+    ghost state = { λ d. ⟦<Buffered<LeadFront<Gb18030Rule<'a>>> as PieceDecoder>⟧.state d.inner };
+
+    fn decode_into<S: Sink>(
+        &mut self,
+        src: &[u8],
+        sink: &mut S,
+        last: bool,
+    ) -> (DecoderResult, usize) {
+        self.inner.decode_into(src, sink, last)
+    }
+
+    fn held_len(&self) -> usize {
+        self.inner.held_len()
+    }
+
+    fn room(&self) -> Room {
+        self.inner.room()
+    }
+}

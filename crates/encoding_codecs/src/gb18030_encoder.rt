@@ -1,0 +1,194 @@
+// The encoder of gb18030 (the Encoding Standard, section 10.2.2, "gb18030 encoder") and of GBK (section
+// 10.1.2), which has no forms of four bytes.
+
+ghost use Rattle.std.specs.Prelude.{◌≡◌, ◌+◌, ◌/◌, ◌%◌, ◌<◌, true};
+ghost use Rattle.encoding_tables.specs.IndexLists.{has, entries_of, rows_of};
+ghost use Rattle.encoding_codecs.specs.Gb18030Coding.{fixed_pair, pair_bytes, four_bytes, gb18030_bytes, form_of_bytes, gb18030_coding, gb18030_need};
+ghost use Rattle.encoding_codecs.specs.Gb18030CodingLaws.{gb18030_laws, gb18030_target};
+ghost use Rattle.encoding_mem.specs.declared.form.Set.TheVariants.{Ascii};
+
+use encoding_mem::encode::{Target, encode};
+use encoding_mem::form::{Bytes, Form, Set};
+use encoding_mem::source::{Source, Utf8Source, Utf16Source};
+use encoding_mem::{EncoderResult, RawEncoder};
+use encoding_tables::{Flat, IndexKind, Ranges, Tables};
+
+// What gb18030 makes of a character, with its extended range, and GBK, without.
+#[derive(Drop)]
+struct Gb18030Target<'a> {
+    index: Flat<'a>,
+    ranges: Ranges<'a>,
+    extended_range: bool,
+}
+
+impl<'a> Target for Gb18030Target<'a> {
+    ghost need = { 4 };
+
+    ghost coding = { λ s. gb18030_coding s.index s.ranges s.extended_range };
+
+    ghost laws = { λ s. gb18030_target s.index s.ranges s.extended_range };
+
+    fn step(&self, _set: Set, c: char) -> (Set, Form) {
+        (Set::Ascii, form_of(c, self.bytes_of(c)))
+    }
+
+    fn copies_ascii(&self, set: Set) -> bool {
+        matches!(set, Set::Ascii)
+    }
+
+    fn escape(&self, _from: Set, _to: Set) -> Bytes {
+        Bytes::none()
+    }
+}
+
+impl<'a> Gb18030Target<'a> {
+    // The bytes of a character, if it has any.
+    fn bytes_of(&self, c: char) -> Option<Bytes>
+        ensures { result ≡ gb18030_bytes self.now.index self.now.ranges self.now.extended_range c }
+    {
+        if c < '\u{80}' {
+            return Some(Bytes::one(c as u8));
+        }
+        if c == '\u{E5E5}' {
+            return None;
+        }
+        if c == '\u{20AC}' && !self.extended_range {
+            return Some(Bytes::one(0x80));
+        }
+        if let Some((lead, trail)) = fixed_pair(c) {
+            return Some(Bytes::two(lead, trail));
+        }
+        if let Some(pointer) = self.index.first_pointer(c, 0, 23940) {
+            return Some(pair_bytes(pointer));
+        }
+        if !self.extended_range {
+            return None;
+        }
+        match self.ranges.pointer(c) {
+            Some(pointer) => Some(four_bytes(pointer)),
+            None => None,
+        }
+    }
+}
+
+// The lead and the trail of the private-use characters that keep their bytes of the edition of 2005.
+fn fixed_pair(c: char) -> Option<(u8, u8)>
+    ensures { result ≡ fixed_pair c }
+{
+    match c {
+        '\u{E78D}' => Some((0xA6, 0xD9)),
+        '\u{E78E}' => Some((0xA6, 0xDA)),
+        '\u{E78F}' => Some((0xA6, 0xDB)),
+        '\u{E790}' => Some((0xA6, 0xDC)),
+        '\u{E791}' => Some((0xA6, 0xDD)),
+        '\u{E792}' => Some((0xA6, 0xDE)),
+        '\u{E793}' => Some((0xA6, 0xDF)),
+        '\u{E794}' => Some((0xA6, 0xEC)),
+        '\u{E795}' => Some((0xA6, 0xED)),
+        '\u{E796}' => Some((0xA6, 0xF3)),
+        '\u{E81E}' => Some((0xFE, 0x59)),
+        '\u{E826}' => Some((0xFE, 0x61)),
+        '\u{E82B}' => Some((0xFE, 0x66)),
+        '\u{E82C}' => Some((0xFE, 0x67)),
+        '\u{E832}' => Some((0xFE, 0x6D)),
+        '\u{E843}' => Some((0xFE, 0x7E)),
+        '\u{E854}' => Some((0xFE, 0x90)),
+        '\u{E864}' => Some((0xFE, 0xA0)),
+        _ => None,
+    }
+}
+
+// The lead and the trail of a pointer of the index: a lead has 190, and the trails leave out 7F.
+fn pair_bytes(pointer: u32) -> Bytes
+    requires { pointer < 23940 }
+    ensures { result ≡ pair_bytes pointer }
+{
+    let rest = pointer % 190;
+    let offset = if rest < 0x3F { 0x40 } else { 0x41 };
+    Bytes::two((0x81 + pointer / 190) as u8, (offset + rest) as u8)
+}
+
+// The four bytes of a pointer of the ranges: ten digits, 126 leads, ten digits for a lead.
+fn four_bytes(pointer: u32) -> Bytes
+    requires { pointer < 1237576 }
+    ensures { result ≡ four_bytes pointer }
+{
+    Bytes::four(
+        (0x81 + pointer / 12600) as u8,
+        (0x30 + pointer / 1260 % 10) as u8,
+        (0x81 + pointer / 10 % 126) as u8,
+        (0x30 + pointer % 10) as u8,
+    )
+}
+
+// The form of a character, by its bytes. One without bytes is reported as it is.
+fn form_of(c: char, bytes: Option<Bytes>) -> Form
+    ensures { result ≡ form_of_bytes c bytes }
+{
+    match bytes {
+        Some(bytes) => Form::Mapped(bytes),
+        None => Form::Unmapped(c),
+    }
+}
+
+/// Encodes to gb18030 or GBK. ASCII gives itself, another character the two bytes of the least pointer
+/// with it; one that the index lacks is four bytes in gb18030, and unmappable in GBK. There is no state.
+#[derive(Drop)]
+pub struct Gb18030Encoder<'a> {
+    target: Gb18030Target<'a>,
+}
+
+impl<'a> Gb18030Encoder<'a> {
+    /// The encoder of tables that have the index and the ranges of gb18030: of gb18030 with the
+    /// `extended_range`, of GBK without.
+    pub fn new(tables: &'a Tables, extended_range: bool) -> Self
+        requires index { has tables.now IndexKind.Gb18030 ≡ true }
+        requires ranges { has tables.now IndexKind.Gb18030Ranges ≡ true }
+        ensures coding { ⟦<Gb18030Encoder<'a> as RawEncoder>⟧.coding result
+            ≡ gb18030_coding (entries_of tables.now IndexKind.Gb18030) (rows_of tables.now) extended_range }
+        ensures set { ⟦<Gb18030Encoder<'a> as RawEncoder>⟧.set result ≡ Ascii }
+        ensures need { ⟦<Gb18030Encoder<'a> as RawEncoder>⟧.need result ≡ gb18030_need extended_range }
+    {
+        Gb18030Encoder {
+            target: Gb18030Target {
+                index: tables.flat(IndexKind::Gb18030),
+                ranges: tables.ranges(),
+                extended_range,
+            },
+        }
+    }
+}
+
+impl<'a> RawEncoder for Gb18030Encoder<'a> {
+    ghost need = { λ e. gb18030_need e.target.extended_range };
+
+    ghost coding = { λ e. gb18030_coding e.target.index e.target.ranges e.target.extended_range };
+
+    ghost set = { λ _. Ascii };
+
+    ghost laws = { λ e. gb18030_laws e.target.index e.target.ranges e.target.extended_range };
+
+    fn encode_from_utf8_raw(
+        &mut self,
+        src: &str,
+        dst: &mut [u8],
+        last: bool,
+    ) -> (EncoderResult, usize, usize) {
+        let mut source = Utf8Source::new(src);
+        let mut set = Set::Ascii;
+        let (result, written) = encode(&self.target, &mut set, &mut source, dst, last);
+        (result, source.read(), written)
+    }
+
+    fn encode_from_utf16_raw(
+        &mut self,
+        src: &[u16],
+        dst: &mut [u8],
+        last: bool,
+    ) -> (EncoderResult, usize, usize) {
+        let mut source = Utf16Source::new(src);
+        let mut set = Set::Ascii;
+        let (result, written) = encode(&self.target, &mut set, &mut source, dst, last);
+        (result, source.read(), written)
+    }
+}
