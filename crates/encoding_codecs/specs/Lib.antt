@@ -26,3 +26,7 @@ pub mod Gb18030Decide
 pub mod Gb18030Laws
 pub mod Gb18030Coding
 pub mod Gb18030CodingLaws
+pub mod Steps
+pub mod StepsLaws
+pub mod Gb18030Steps
+pub mod Gb18030Tables

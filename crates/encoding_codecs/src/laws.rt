@@ -1,6 +1,6 @@
 // Laws of the definitions. The functions do nothing: each contract is a law.
 
-ghost use Rattle.std.specs.Prelude.{ℕ, List};
+ghost use Rattle.std.specs.Prelude.{ℕ, Bool, List};
 ghost use Rattle.encoding_mem.specs.ReadBack.{ReadsBackExactly};
 ghost use Rattle.encoding_tables.specs.Lookups.{AreEntries};
 ghost use Rattle.encoding_codecs.specs.Big5.{pieces_big5, big5_coding};
@@ -8,6 +8,8 @@ ghost use Rattle.encoding_codecs.specs.EucJp.{front_euc_jp, euc_jp_form};
 ghost use Rattle.encoding_codecs.specs.EucKr.{pieces_euc_kr, euc_kr_coding};
 ghost use Rattle.encoding_codecs.specs.ShiftJis.{front_shift_jis, shift_jis_form};
 ghost use Rattle.encoding_codecs.specs.ShiftJisPointers.{PointerIsLeastUsed};
+ghost use Rattle.encoding_codecs.specs.Gb18030.{front_gb18030};
+ghost use Rattle.encoding_codecs.specs.Gb18030Coding.{gb18030_form};
 ghost use Rattle.encoding_codecs.specs.Steps.{StepsReadBack};
 
 /// What is written in EUC-KR reads back, by the decoder of the same index, as the text exactly where each
@@ -37,4 +39,9 @@ pub fn shift_jis_steps_read_back()
 /// The same of EUC-JP.
 pub fn euc_jp_steps_read_back()
     ensures { (jis0208 jis0212 : List ℕ) → StepsReadBack (front_euc_jp jis0208 jis0212) (euc_jp_form jis0208) }
+/// What gb18030 or GBK writes for a character, its bytes or its reference, reads back as the character
+/// or as something else, whatever follows it and whatever the tables hold.
+pub fn gb18030_steps_read_back()
+    ensures { (flat : List ℕ) (rows : List (ℕ × ℕ)) (extended : Bool)
+        → StepsReadBack (front_gb18030 flat rows) (gb18030_form flat rows extended) }
 {}

@@ -17,7 +17,7 @@ scalars_of : (kind : IndexKind) (o : Option (List ℕ)) → IfSome o (λ flat. f
 scalars_of kind None h = λ p mapped. absurd (mapped refl)
 scalars_of kind (Some flat) h = entries_are_scalars kind flat (is_index kind flat h)
 
-entries_scalars : (t : IndexLists) (kind : IndexKind) → AreAcceptedTables t → AreEntries (entries_of t kind)
+pub entries_scalars : (t : IndexLists) (kind : IndexKind) → AreAcceptedTables t → AreEntries (entries_of t kind)
 entries_scalars t kind h = scalars_of kind (flat_of t kind) (h.0 kind)
 
 -- its pieces are pieces
