@@ -30,3 +30,9 @@ pub mod Steps
 pub mod StepsLaws
 pub mod Gb18030Steps
 pub mod Gb18030Tables
+pub mod Iso2022Jp
+pub mod Iso2022JpDecide
+pub mod Iso2022JpLaws
+pub mod Iso2022JpForms
+pub mod Iso2022JpFormsLaws
+pub mod Iso2022JpRows

@@ -24,3 +24,8 @@ pub use euc_kr::{EucKrDecoder, EucKrEncoder};
 pub use shift_jis::{ShiftJisDecoder, ShiftJisEncoder};
 pub use gb18030_decoder::Gb18030Decoder;
 pub use gb18030_encoder::Gb18030Encoder;
+pub mod iso_2022_jp_decoder;
+pub mod iso_2022_jp_encoder;
+mod iso_2022_jp_tests;
+pub use iso_2022_jp_decoder::Iso2022JpDecoder;
+pub use iso_2022_jp_encoder::Iso2022JpEncoder;

@@ -1,0 +1,113 @@
+-- The pieces of ISO-2022-JP, by the list of index jis0208 (the Encoding Standard, section 12.2.1, "ISO-2022-JP
+-- decoder"). The bytes are cut before each 1B. Each part is read by itself, in the mode of the last whole escape at or
+-- before its front.
+use Rattle.std.specs.Prelude.{◌≡◌, ℕ, ◌+◌, ◌-◌, ◌*◌, ◌==◌, ◌&&◌, ◌||◌, Bool, false, List, [], ◌∷◌, ◌++◌, length, drop, is_some, nat_le, if◌then◌else◌, Option, Some, None}
+use Rattle.std.specs.Int.{is_in_range}
+use Rattle.std.specs.Option.{unwrap_or}
+use Rattle.encoding_mem.specs.Decoding.{DecoderState}
+use Rattle.encoding_mem.specs.Piece.{Piece, good, bad}
+use Rattle.encoding_mem.specs.Pieces.{pieces_by}
+use Rattle.encoding_tables.specs.Lookups.{value_of}
+use Rattle.encoding_codecs.specs.declared.iso_2022_jp_decoder.Mode.{Mode}
+use Rattle.encoding_codecs.specs.declared.iso_2022_jp_decoder.Mode.TheVariants.{Ascii, Roman, Katakana, Jis}
+
+-- ---- escapes
+
+-- the mode that three bytes switch to, if they are an escape
+abbrev pub escape_of : ℕ → ℕ → ℕ → Option Mode
+escape_of a b c = if a == 0x1B
+    then (if b == 0x28
+    then (if c == 0x42 then Some Ascii else (if c == 0x4A then Some Roman else (if c == 0x49 then Some Katakana else None)))
+    else (if b == 0x24 then (if c == 0x40 then Some Jis else (if c == 0x42 then Some Jis else None)) else None))
+    else None
+
+-- that of the whole escape with which bytes begin
+abbrev pub escape_at : List ℕ → Option Mode
+escape_at [] = None
+escape_at (a ∷ []) = None
+escape_at (a ∷ b ∷ []) = None
+escape_at (a ∷ b ∷ c ∷ x) = escape_of a b c
+
+-- ---- text
+
+-- the sets of one byte a character: what a byte is in ASCII, and in each mode but JIS
+abbrev pub ascii_piece : ℕ → Piece
+ascii_piece b = if nat_le 0x80 b || b == 0x0E || b == 0x0F || b == 0x1B then bad 1 else good 1 (b ∷ [])
+
+abbrev pub roman_piece : ℕ → Piece
+roman_piece b = if b == 0x5C then good 1 (0xA5 ∷ []) else (if b == 0x7E then good 1 (0x203E ∷ []) else ascii_piece b)
+
+abbrev pub katakana_piece : ℕ → Piece
+katakana_piece b = if is_in_range 0x21 0x5F b then good 1 ((0xFF61 + (b - 0x21)) ∷ []) else bad 1
+
+-- the set of two bytes a character
+abbrev pub pointer_of_pair : ℕ → ℕ → ℕ
+pointer_of_pair b c = (b - 0x21) * 94 + (c - 0x21)
+
+abbrev pub piece_of_entry : Option ℕ → Piece
+piece_of_entry None = bad 2
+piece_of_entry (Some c) = good 2 (c ∷ [])
+
+-- the piece that begins with a first byte b from 21 to 7E, and goes on with what follows it
+abbrev pub pair_piece : List ℕ → ℕ → List ℕ → Piece
+pair_piece jis0208 b [] = bad 1
+pair_piece jis0208 b (c ∷ x) = if is_in_range 0x21 0x7E c then piece_of_entry (value_of jis0208 (pointer_of_pair b c)) else bad 2
+
+-- the first piece of text in a mode
+abbrev pub front_text : List ℕ → Mode → List ℕ → Piece
+front_text jis0208 m [] = bad 1
+front_text jis0208 Ascii (b ∷ x) = ascii_piece b
+front_text jis0208 Roman (b ∷ x) = roman_piece b
+front_text jis0208 Katakana (b ∷ x) = katakana_piece b
+front_text jis0208 Jis (b ∷ x) = if is_in_range 0x21 0x7E b then pair_piece jis0208 b x else bad 1
+
+-- ---- parts
+
+abbrev pub begins_with_1B : List ℕ → Bool
+begins_with_1B [] = false
+begins_with_1B (b ∷ x) = b == 0x1B
+
+-- a byte before parts: it joins the first, unless that begins with 1B
+abbrev pub join : ℕ → List (List ℕ) → List (List ℕ)
+join b [] = (b ∷ []) ∷ []
+join b (part ∷ next) = if begins_with_1B part then (b ∷ []) ∷ part ∷ next else (b ∷ part) ∷ next
+
+-- the bytes, cut before each 1B
+abbrev pub parts : List ℕ → List (List ℕ)
+parts [] = []
+parts (b ∷ x) = join b (parts x)
+
+-- the first of these parts begins with a whole escape
+abbrev pub begin_with_escape : List (List ℕ) → Bool
+begin_with_escape [] = false
+begin_with_escape (part ∷ next) = is_some (escape_at part)
+
+-- The escape of a part before these: it is bad where there is nothing else in its part and another follows, and silent
+-- everywhere else.
+abbrev pub escape_piece : List ℕ → List (List ℕ) → Piece
+escape_piece part next = if length part == 3 && begin_with_escape next then bad 3 else good 3 []
+
+-- a part in a mode, with the mode of its own escape if it begins with one, and before these
+abbrev pub pieces_of_part : List ℕ → Mode → Option Mode → List ℕ → List (List ℕ) → List Piece
+pieces_of_part jis0208 m None part next = pieces_by (front_text jis0208 m) part
+pieces_of_part jis0208 m (Some own) part next = escape_piece part next ∷ pieces_by (front_text jis0208 own) (drop 3 part)
+
+-- parts, the first of which comes in a mode
+abbrev pub pieces_of_parts : List ℕ → Mode → List (List ℕ) → List Piece
+pieces_of_parts jis0208 m [] = []
+pieces_of_parts jis0208 m (part ∷ next) =
+    pieces_of_part jis0208 m (escape_at part) part next ++ pieces_of_parts jis0208 (unwrap_or (escape_at part) m) next
+
+-- bytes that come in a mode
+unfoldable pub pieces_in_mode : List ℕ → Mode → List ℕ → List Piece
+pieces_in_mode jis0208 m x = pieces_of_parts jis0208 m (parts x)
+
+-- the pieces of an input: it begins in ASCII
+abbrev pub pieces_iso_2022_jp : List ℕ → List ℕ → List Piece
+pieces_iso_2022_jp jis0208 x = pieces_in_mode jis0208 Ascii x
+
+-- nothing is pending, and what comes is read as an input is from its start
+pub record IsNeutral (s : DecoderState) : Type 0 where
+  pub none : s.pending ≡ 0
+  pub jis0208 : List ℕ
+  pub start : s.pieces ≡ pieces_iso_2022_jp jis0208

@@ -1,0 +1,90 @@
+-- What is written in ISO-2022-JP, by the lists of the indexes jis0208 and iso-2022-jp-katakana (the Encoding Standard,
+-- section 12.2.2, "ISO-2022-JP encoder").
+use Rattle.std.specs.Prelude.{ℕ, ◌+◌, ◌-◌, ◌/◌, ◌%◌, ◌==◌, ◌||◌, not, Bool, true, false, List, [], ◌∷◌, nat_lt, if◌then◌else◌, Option, None, Some}
+use Rattle.std.specs.Int.{is_in_range}
+use Rattle.encoding_mem.specs.Coding.{Coding}
+use Rattle.encoding_mem.specs.declared.form.Form.{Form}
+use Rattle.encoding_mem.specs.declared.form.Form.TheVariants.{Mapped, Unmapped}
+use Rattle.encoding_mem.specs.declared.form.Set.{Set}
+use Rattle.encoding_mem.specs.declared.form.Set.TheVariants.{Ascii, Roman, Jis}
+use Rattle.encoding_tables.specs.Lookups.{value_of, first_pointer}
+
+-- ---- the bytes of a character
+
+-- What is looked up for a character: U+FF0D for U+2212, and entry k of the katakana for U+FF61 + k.
+abbrev pub looked_up : List ℕ → ℕ → Option ℕ
+looked_up katakana c = if c == 0x2212 then Some 0xFF0D
+    else (if is_in_range 0xFF61 0xFF9F c then value_of katakana (c - 0xFF61) else Some c)
+
+abbrev pub pointer_of : List ℕ → Option ℕ → Option ℕ
+pointer_of jis0208 None = None
+pointer_of jis0208 (Some c) = first_pointer jis0208 c 0 8836
+
+abbrev pub pointer_of_char : List ℕ → List ℕ → ℕ → Option ℕ
+pointer_of_char jis0208 katakana c = pointer_of jis0208 (looked_up katakana c)
+
+abbrev pub form_of_pointer : ℕ → Option ℕ → Form
+form_of_pointer c None = Unmapped c
+form_of_pointer c (Some p) = Mapped ((0x21 + p / 94) ∷ (0x21 + p % 94) ∷ [])
+
+-- The three controls that a reader of ISO-2022-JP takes for shifts and escapes are reported as U+FFFD.
+abbrev pub ascii_form : ℕ → Form
+ascii_form c = if c == 0x0E || c == 0x0F || c == 0x1B then Unmapped 0xFFFD else Mapped (c ∷ [])
+
+abbrev pub iso_2022_jp_form : List ℕ → List ℕ → ℕ → Form
+iso_2022_jp_form jis0208 katakana c = if nat_lt c 0x80 then ascii_form c
+    else (if c == 0xA5 then Mapped (0x5C ∷ [])
+    else (if c == 0x203E then Mapped (0x7E ∷ [])
+    else form_of_pointer c (pointer_of_char jis0208 katakana c)))
+
+-- ---- the sets
+
+abbrev pub is_set : Set → Set → Bool
+is_set Ascii Ascii = true
+is_set Roman Roman = true
+is_set Jis Jis = true
+is_set Ascii Roman = false
+is_set Ascii Jis = false
+is_set Roman Ascii = false
+is_set Roman Jis = false
+is_set Jis Ascii = false
+is_set Jis Roman = false
+
+-- the sets in which a character may be written, and the one that is taken where another set is in force
+pub record Sets : Type 0 where
+  pub allows : Set → Bool
+  pub default : Set
+
+abbrev pub only : Set → Sets
+only s = record { allows = is_set s; default = s }
+
+abbrev pub ascii_or_roman : Sets
+ascii_or_roman = record { allows = λ s. not (is_set Jis s); default = Ascii }
+
+-- a set stays where it may
+abbrev pub set_after : Sets → Set → Set
+set_after sets s = if sets.allows s then s else sets.default
+
+abbrev pub sets_of_pointer : Option ℕ → Sets
+sets_of_pointer None = ascii_or_roman
+sets_of_pointer (Some p) = only Jis
+
+-- Roman has other characters at 5C and 7E. What has no bytes is reported in ASCII or in Roman.
+abbrev pub iso_2022_jp_sets : List ℕ → List ℕ → ℕ → Sets
+iso_2022_jp_sets jis0208 katakana c = if nat_lt c 0x80 then (if c == 0x5C || c == 0x7E then only Ascii else ascii_or_roman)
+    else (if c == 0xA5 || c == 0x203E then only Roman else sets_of_pointer (pointer_of_char jis0208 katakana c))
+
+abbrev pub escape_to : Set → List ℕ
+escape_to Ascii = 0x1B ∷ 0x28 ∷ 0x42 ∷ []
+escape_to Roman = 0x1B ∷ 0x28 ∷ 0x4A ∷ []
+escape_to Jis = 0x1B ∷ 0x24 ∷ 0x42 ∷ []
+
+abbrev pub iso_2022_jp_escape : Set → Set → List ℕ
+iso_2022_jp_escape s s' = if is_set s s' then [] else escape_to s'
+
+abbrev pub iso_2022_jp_coding : List ℕ → List ℕ → Coding
+iso_2022_jp_coding jis0208 katakana = record {
+  form = iso_2022_jp_form jis0208 katakana;
+  set = λ s c. set_after (iso_2022_jp_sets jis0208 katakana c) s;
+  escape = iso_2022_jp_escape;
+}

@@ -1,0 +1,313 @@
+// The decoder of ISO-2022-JP (the Encoding Standard, section 12.2.1, "ISO-2022-JP decoder").
+
+ghost use Rattle.std.proofs.Common.{refl, arith};
+ghost use Rattle.std.specs.Prelude.{◌≡◌, ◌↔◌, IsTrue, true, length, take};
+ghost use Rattle.std.specs.Int.{IsInRange};
+ghost use Rattle.encoding_mem.specs.Iso2022JpAscii.{IsIso2022JpAscii};
+ghost use Rattle.encoding_mem.specs.Room.{room_of, room_multibyte};
+ghost use Rattle.encoding_tables.specs.IndexLists.{has, entries_of};
+ghost use Rattle.encoding_tables.specs.Lookups.{AreEntries};
+ghost use Rattle.encoding_tables.specs.declared.index_kind.IndexKind.{IndexKind};
+ghost use Rattle.encoding_codecs.specs.Iso2022Jp.{escape_of, escape_at, ascii_piece, katakana_piece, piece_of_entry, pieces_in_mode, pieces_iso_2022_jp, IsNeutral};
+ghost use Rattle.encoding_codecs.specs.Iso2022JpDecide.{escape_front, char_front, pair_front, front_iso_2022_jp, mode_after, may_be_escape, is_lead, is_open, shown, decide_iso_2022_jp};
+ghost use Rattle.encoding_codecs.specs.Iso2022JpLaws.{iso_2022_jp_whole, iso_2022_jp_are_pieces, iso_2022_jp_ends};
+
+use encoding_mem::ascii::ascii_front;
+use encoding_mem::front::{Front, FrontPiece};
+use encoding_mem::piece_decoder::{Buffered, PieceDecoder};
+use encoding_mem::room::Room;
+use encoding_mem::sink::Sink;
+use encoding_mem::{DecoderResult, RawDecoder, iso_2022_jp_ascii_valid_up_to};
+use encoding_tables::{Flat, IndexKind, Tables};
+
+/// What an escape switches to.
+#[derive(Clone, Copy)]
+pub enum Mode {
+    Ascii,
+    Roman,
+    Katakana,
+    /// JIS X 0208, two bytes a character.
+    Jis,
+}
+
+// The list of index jis0208.
+#[derive(Drop)]
+struct Jis0208<'a> {
+    flat: Flat<'a>,
+    ghost scalars: { AreEntries flat },
+}
+
+// The rule of ISO-2022-JP, in a mode.
+#[derive(Drop)]
+struct Iso2022JpRule<'a> {
+    jis0208: Jis0208<'a>,
+    mode: Mode,
+}
+
+impl<'a> FrontPiece for Iso2022JpRule<'a> {
+    ghost pieces = { λ s x. pieces_in_mode s.jis0208.flat s.mode x };
+
+    ghost whole = { λ s. iso_2022_jp_whole s.jis0208.flat s.jis0208.scalars s.mode };
+
+    ghost are_pieces = { λ s. iso_2022_jp_are_pieces s.jis0208.flat s.jis0208.scalars s.mode };
+
+    ghost ends = { λ s. iso_2022_jp_ends s.jis0208.flat s.mode };
+
+    ghost needs = { λ _. room_of room_multibyte };
+
+    ghost limits = { λ _. room_multibyte };
+
+    ghost covers = { λ _ _ _. omega arith };
+
+    ghost after = { λ s x. record s { mode = mode_after s.mode x } };
+
+    ghost steady = { λ _ _. refl };
+
+    fn front(&self, bytes: &[u8], last: bool) -> Front {
+        decide(&self.jis0208.flat, self.mode, bytes, last)
+    }
+
+    fn pass(&mut self, bytes: &[u8]) {
+        if let Some(mode) = escape_at(bytes) {
+            self.mode = mode;
+        }
+    }
+
+    fn text_at<'b>(&self, bytes: &'b [u8]) -> &'b str {
+        match self.mode {
+            Mode::Ascii => plain_text(bytes),
+            _ => "",
+        }
+    }
+
+    fn room(&self) -> Room {
+        Room::multibyte()
+    }
+}
+
+// The bytes at the front that are ASCII's characters in ASCII.
+fn plain_text(bytes: &[u8]) -> &str
+    ensures front { result.now ≡ take (length result.now) bytes.now }
+    ensures plain { IsIso2022JpAscii result.now }
+{
+    ascii_front(&bytes[..iso_2022_jp_ascii_valid_up_to(bytes)])
+}
+
+// The mode that three bytes switch to, if they are an escape.
+fn escape_of(a: u8, b: u8, c: u8) -> Option<Mode>
+    ensures { result ≡ escape_of a b c }
+{
+    match (a, b, c) {
+        (0x1B, 0x28, 0x42) => Some(Mode::Ascii),
+        (0x1B, 0x28, 0x4A) => Some(Mode::Roman),
+        (0x1B, 0x28, 0x49) => Some(Mode::Katakana),
+        (0x1B, 0x24, 0x40) | (0x1B, 0x24, 0x42) => Some(Mode::Jis),
+        _ => None,
+    }
+}
+
+// That of the whole escape at the front.
+fn escape_at(bytes: &[u8]) -> Option<Mode>
+    ensures { result ≡ escape_at bytes.now }
+{
+    match bytes {
+        [a, b, c, ..] => escape_of(*a, *b, *c),
+        _ => None,
+    }
+}
+
+// Whether this is less than an escape, and may become one.
+fn may_be_escape(bytes: &[u8]) -> bool
+    ensures { result ≡ may_be_escape bytes.now }
+{
+    match bytes {
+        [] => true,
+        [a] => *a == 0x1B,
+        [a, b] => *a == 0x1B && (*b == 0x28 || *b == 0x24),
+        _ => false,
+    }
+}
+
+// Whether more bytes may change the first piece: they may be an escape, the second of two that follow one
+// another, or the second byte of a character.
+fn is_open(mode: Mode, bytes: &[u8]) -> bool
+    ensures { result ≡ is_open mode bytes.now }
+{
+    if may_be_escape(bytes) {
+        true
+    } else if escape_at(bytes).is_some() {
+        may_be_escape(&bytes[3..])
+    } else {
+        is_lead(mode, bytes)
+    }
+}
+
+// Whether this is the first byte of two, alone.
+fn is_lead(mode: Mode, bytes: &[u8]) -> bool
+    ensures { result ≡ is_lead mode bytes.now }
+{
+    match (mode, bytes) {
+        (Mode::Jis, [b]) => *b >= 0x21 && *b <= 0x7E,
+        _ => false,
+    }
+}
+
+// What these bytes show of their first piece.
+fn decide(jis0208: &Flat<'_>, mode: Mode, bytes: &[u8], last: bool) -> Front
+    ensures { result ≡ decide_iso_2022_jp jis0208.now mode bytes.now last }
+{
+    if !last && is_open(mode, bytes) {
+        Front::More
+    } else {
+        first_piece(jis0208, mode, bytes)
+    }
+}
+
+// The first piece, if the bytes end here or more of them do not matter.
+fn first_piece(jis0208: &Flat<'_>, mode: Mode, bytes: &[u8]) -> Front
+    ensures { result ≡ shown (front_iso_2022_jp jis0208.now mode bytes.now) }
+{
+    match bytes {
+        [] => Front::Bad(1),
+        [b, rest @ ..] => {
+            if escape_at(bytes).is_some() {
+                escape_front(&bytes[3..])
+            } else {
+                char_front(jis0208, mode, *b, rest)
+            }
+        }
+    }
+}
+
+// An escape, by the bytes behind it: it is bad before another.
+fn escape_front(rest: &[u8]) -> Front
+    ensures { result ≡ shown (escape_front rest.now) }
+{
+    if escape_at(rest).is_some() {
+        Front::Bad(3)
+    } else {
+        Front::Silent(3)
+    }
+}
+
+// A character in a mode, by its first byte and the bytes behind it.
+fn char_front(jis0208: &Flat<'_>, mode: Mode, b: u8, rest: &[u8]) -> Front
+    ensures { result ≡ shown (char_front jis0208.now mode b rest.now) }
+{
+    match mode {
+        Mode::Ascii => ascii_front_of(b),
+        Mode::Roman => match b {
+            0x5C => Front::One('\u{A5}', 1),
+            0x7E => Front::One('\u{203E}', 1),
+            _ => ascii_front_of(b),
+        },
+        Mode::Katakana => katakana_front(b),
+        Mode::Jis => {
+            if b >= 0x21 && b <= 0x7E {
+                pair_front(jis0208, b, rest)
+            } else {
+                Front::Bad(1)
+            }
+        }
+    }
+}
+
+fn ascii_front_of(b: u8) -> Front
+    ensures { result ≡ shown (ascii_piece b) }
+{
+    if b >= 0x80 || b == 0x0E || b == 0x0F || b == 0x1B {
+        Front::Bad(1)
+    } else {
+        Front::One(b as char, 1)
+    }
+}
+
+fn katakana_front(b: u8) -> Front
+    ensures { result ≡ shown (katakana_piece b) }
+{
+    if b >= 0x21 && b <= 0x5F {
+        let code = 0xFF61 + (b as u32 - 0x21);
+        Front::One(char::from_u32(code).unwrap(), 1)
+    } else {
+        Front::Bad(1)
+    }
+}
+
+// A first byte and what follows it: 1B is left, any other second byte is taken.
+fn pair_front(jis0208: &Flat<'_>, b: u8, rest: &[u8]) -> Front
+    requires { IsInRange 0x21 0x7E b }
+    ensures { result ≡ shown (pair_front jis0208.now b rest.now) }
+{
+    match rest {
+        [] | [0x1B, ..] => Front::Bad(1),
+        [c, ..] => {
+            let c = *c;
+            if c < 0x21 || c > 0x7E {
+                return Front::Bad(2);
+            }
+            entry_front(jis0208.value((b as u32 - 0x21) * 94 + (c as u32 - 0x21)))
+        }
+    }
+}
+
+fn entry_front(entry: Option<char>) -> Front
+    ensures { result ≡ shown (piece_of_entry entry) }
+{
+    match entry {
+        Some(c) => Front::One(c, 2),
+        None => Front::Bad(2),
+    }
+}
+
+/// Decodes ISO-2022-JP. It begins in ASCII.
+#[derive(Drop)]
+pub struct Iso2022JpDecoder<'a> {
+    inner: Buffered<Iso2022JpRule<'a>>,
+}
+
+impl<'a> Iso2022JpDecoder<'a> {
+    /// The decoder over tables that have index jis0208. Nothing is pending.
+    pub fn new(tables: &'a Tables) -> Self
+        requires { has tables.now IndexKind.Jis0208 ≡ true }
+        ensures pending { (⟦<Iso2022JpDecoder<'a> as RawDecoder>⟧.state result).pending ≡ 0 }
+        ensures pieces { (⟦<Iso2022JpDecoder<'a> as RawDecoder>⟧.state result).pieces ≡ pieces_iso_2022_jp (entries_of tables.now IndexKind.Jis0208) }
+        ensures room { (⟦<Iso2022JpDecoder<'a> as RawDecoder>⟧.state result).room ≡ room_multibyte }
+    {
+        Iso2022JpDecoder {
+            inner: Buffered::new(Iso2022JpRule {
+                jis0208: Jis0208 {
+                    flat: tables.flat(IndexKind::Jis0208),
+                },
+                mode: Mode::Ascii,
+            }),
+        }
+    }
+
+    /// Whether no byte is pending and the mode is ASCII. A whole escape that nothing follows is pending.
+    pub fn in_neutral_state(&self) -> bool
+        ensures { IsTrue result ↔ IsNeutral (⟦<Iso2022JpDecoder<'a> as RawDecoder>⟧.state self.now) }
+    {
+        self.pending_len() == 0 && matches!(self.inner.rule().mode, Mode::Ascii)
+    }
+}
+
+impl<'a> PieceDecoder for Iso2022JpDecoder<'a> {
+    ghost state = { λ d. ⟦<Buffered<Iso2022JpRule<'a>> as PieceDecoder>⟧.state d.inner };
+
+    fn decode_into<S: Sink>(
+        &mut self,
+        src: &[u8],
+        sink: &mut S,
+        last: bool,
+    ) -> (DecoderResult, usize) {
+        self.inner.decode_into(src, sink, last)
+    }
+
+    fn held_len(&self) -> usize {
+        self.inner.held_len()
+    }
+
+    fn room(&self) -> Room {
+        self.inner.room()
+    }
+}

@@ -1,0 +1,194 @@
+// The encoder of ISO-2022-JP (the Encoding Standard, section 12.2.2, "ISO-2022-JP encoder").
+
+ghost use Rattle.std.specs.Prelude.{◌≡◌, ◌≢◌, ◌↔◌, ◌+◌, ◌/◌, ◌%◌, ◌<◌, IsTrue, IfSome, true, [], ◌∷◌};
+ghost use Rattle.encoding_mem.specs.declared.form.Set.TheVariants.{Ascii};
+ghost use Rattle.encoding_tables.specs.IndexLists.{has, entries_of};
+ghost use Rattle.encoding_tables.specs.declared.index_kind.IndexKind.{IndexKind};
+ghost use Rattle.encoding_codecs.specs.Iso2022JpForms.{looked_up, pointer_of_char, ascii_form, is_set, ascii_or_roman, set_after, iso_2022_jp_coding};
+ghost use Rattle.encoding_codecs.specs.Iso2022JpFormsLaws.{iso_2022_jp_laws};
+
+use encoding_mem::encode::{Target, encode};
+use encoding_mem::form::{Bytes, Form, Set};
+use encoding_mem::source::{Source, Utf8Source, Utf16Source};
+use encoding_mem::{EncoderResult, RawEncoder};
+use encoding_tables::{Flat, IndexKind, Tables};
+
+// What ISO-2022-JP makes of a character.
+#[derive(Drop)]
+struct Iso2022Jp<'a> {
+    jis0208: Flat<'a>,
+    katakana: Flat<'a>,
+}
+
+impl<'a> Iso2022Jp<'a> {
+    // What is looked up for a character: a half-width katakana as its full-width one, and the minus sign as
+    // the full-width hyphen.
+    fn looked_up(&self, c: char) -> Option<char>
+        ensures { result ≡ looked_up self.now.katakana c }
+    {
+        if c == '\u{2212}' {
+            Some('\u{FF0D}')
+        } else if c >= '\u{FF61}' && c <= '\u{FF9F}' {
+            self.katakana.value(c as u32 - 0xFF61)
+        } else {
+            Some(c)
+        }
+    }
+
+    // The least pointer of a character.
+    fn pointer(&self, c: char) -> Option<u32>
+        ensures pointer { result ≡ pointer_of_char self.now.jis0208 self.now.katakana c }
+        ensures before { IfSome result (λ p. p < 8836) }
+    {
+        match self.looked_up(c) {
+            Some(c) => self.jis0208.first_pointer(c, 0, 8836),
+            None => None,
+        }
+    }
+}
+
+impl<'a> Target for Iso2022Jp<'a> {
+    ghost need = { 3 };
+
+    ghost coding = { λ s. iso_2022_jp_coding s.jis0208 s.katakana };
+
+    ghost laws = { λ s. iso_2022_jp_laws s.jis0208 s.katakana };
+
+    fn step(&self, set: Set, c: char) -> (Set, Form) {
+        if c < '\u{80}' {
+            let next = if c == '\\' || c == '~' {
+                Set::Ascii
+            } else {
+                ascii_or_roman(set)
+            };
+            return (next, ascii_form(c as u8));
+        }
+        if c == '\u{A5}' {
+            return (Set::Roman, Form::Mapped(Bytes::one(0x5C)));
+        }
+        if c == '\u{203E}' {
+            return (Set::Roman, Form::Mapped(Bytes::one(0x7E)));
+        }
+        match self.pointer(c) {
+            Some(pointer) => (Set::Jis, Form::Mapped(pair(pointer))),
+            None => (ascii_or_roman(set), Form::Unmapped(c)),
+        }
+    }
+
+    fn copies_ascii(&self, _set: Set) -> bool {
+        false
+    }
+
+    fn escape(&self, from: Set, to: Set) -> Bytes {
+        if is_set(from, to) {
+            return Bytes::none();
+        }
+        match to {
+            Set::Ascii => Bytes::three(0x1B, 0x28, 0x42),
+            Set::Roman => Bytes::three(0x1B, 0x28, 0x4A),
+            Set::Jis => Bytes::three(0x1B, 0x24, 0x42),
+        }
+    }
+}
+
+fn is_set(a: Set, b: Set) -> bool
+    ensures { result ≡ is_set a b }
+{
+    match (a, b) {
+        (Set::Ascii, Set::Ascii) | (Set::Roman, Set::Roman) | (Set::Jis, Set::Jis) => true,
+        _ => false,
+    }
+}
+
+// The set of a character that may be written in ASCII and in Roman.
+fn ascii_or_roman(set: Set) -> Set
+    ensures { result ≡ set_after ascii_or_roman set }
+{
+    match set {
+        Set::Jis => Set::Ascii,
+        set => set,
+    }
+}
+
+// A control that would read as a shift or an escape is not written.
+fn ascii_form(c: u8) -> Form
+    ensures { result ≡ ascii_form c }
+{
+    match c {
+        0x0E | 0x0F | 0x1B => Form::Unmapped('\u{FFFD}'),
+        _ => Form::Mapped(Bytes::one(c)),
+    }
+}
+
+// The two bytes of a pointer.
+fn pair(pointer: u32) -> Bytes
+    requires { pointer < 8836 }
+    ensures { result ≡ (0x21 + pointer / 94) ∷ (0x21 + pointer % 94) ∷ [] }
+{
+    Bytes::two(0x21 + (pointer / 94) as u8, 0x21 + (pointer % 94) as u8)
+}
+
+/// Encodes to ISO-2022-JP. It begins in ASCII, and after the end of a text it is in ASCII again.
+#[derive(Drop)]
+pub struct Iso2022JpEncoder<'a> {
+    target: Iso2022Jp<'a>,
+    set: Set,
+}
+
+impl<'a> Iso2022JpEncoder<'a> {
+    /// The encoder over tables that have the indexes jis0208 and iso-2022-jp-katakana.
+    pub fn new(tables: &'a Tables) -> Self
+        requires jis0208 { has tables.now IndexKind.Jis0208 ≡ true }
+        requires katakana { has tables.now IndexKind.Iso2022JpKatakana ≡ true }
+        ensures coding { ⟦<Iso2022JpEncoder<'a> as RawEncoder>⟧.coding result ≡ iso_2022_jp_coding (entries_of tables.now IndexKind.Jis0208) (entries_of tables.now IndexKind.Iso2022JpKatakana) }
+        ensures set { ⟦<Iso2022JpEncoder<'a> as RawEncoder>⟧.set result ≡ Ascii }
+        ensures need { ⟦<Iso2022JpEncoder<'a> as RawEncoder>⟧.need result ≡ 3 }
+    {
+        Iso2022JpEncoder {
+            target: Iso2022Jp {
+                jis0208: tables.flat(IndexKind::Jis0208),
+                katakana: tables.flat(IndexKind::Iso2022JpKatakana),
+            },
+            set: Set::Ascii,
+        }
+    }
+
+    /// Whether the set isn't ASCII: an escape is still to be written at the end.
+    pub fn has_pending_state(&self) -> bool
+        ensures { IsTrue result ↔ (⟦<Iso2022JpEncoder<'a> as RawEncoder>⟧.set self.now ≢ Ascii) }
+    {
+        !matches!(self.set, Set::Ascii)
+    }
+}
+
+impl<'a> RawEncoder for Iso2022JpEncoder<'a> {
+    ghost need = { λ _. 3 };
+
+    ghost coding = { λ e. iso_2022_jp_coding e.target.jis0208 e.target.katakana };
+
+    ghost set = { λ e. e.set };
+
+    ghost laws = { λ e. iso_2022_jp_laws e.target.jis0208 e.target.katakana };
+
+    fn encode_from_utf8_raw(
+        &mut self,
+        src: &str,
+        dst: &mut [u8],
+        last: bool,
+    ) -> (EncoderResult, usize, usize) {
+        let mut source = Utf8Source::new(src);
+        let (result, written) = encode(&self.target, &mut self.set, &mut source, dst, last);
+        (result, source.read(), written)
+    }
+
+    fn encode_from_utf16_raw(
+        &mut self,
+        src: &[u16],
+        dst: &mut [u8],
+        last: bool,
+    ) -> (EncoderResult, usize, usize) {
+        let mut source = Utf16Source::new(src);
+        let (result, written) = encode(&self.target, &mut self.set, &mut source, dst, last);
+        (result, source.read(), written)
+    }
+}
