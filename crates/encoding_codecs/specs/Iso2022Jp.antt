@@ -106,6 +106,16 @@ pieces_in_mode jis0208 m x = pieces_of_parts jis0208 m (parts x)
 abbrev pub pieces_iso_2022_jp : List ℕ → List ℕ → List Piece
 pieces_iso_2022_jp jis0208 x = pieces_in_mode jis0208 Ascii x
 
+-- the modes that are sets of the encoder too
+abbrev pub ascii_mode : Mode
+ascii_mode = Ascii
+
+abbrev pub roman_mode : Mode
+roman_mode = Roman
+
+abbrev pub jis_mode : Mode
+jis_mode = Jis
+
 -- nothing is pending, and what comes is read as an input is from its start
 pub record IsNeutral (s : DecoderState) : Type 0 where
   pub none : s.pending ≡ 0

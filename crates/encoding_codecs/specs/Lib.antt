@@ -36,3 +36,5 @@ pub mod Iso2022JpLaws
 pub mod Iso2022JpForms
 pub mod Iso2022JpFormsLaws
 pub mod Iso2022JpRows
+pub mod Iso2022JpSets
+pub mod ReadBackSteps

@@ -44,4 +44,14 @@ pub fn euc_jp_steps_read_back()
 pub fn gb18030_steps_read_back()
     ensures { (flat : List ℕ) (rows : List (ℕ × ℕ)) (extended : Bool)
         → StepsReadBack (front_gb18030 flat rows) (gb18030_form flat rows extended) }
+ghost use Rattle.std.specs.Prelude.{ℕ, List};
+ghost use Rattle.encoding_codecs.specs.Iso2022JpForms.{iso_2022_jp_coding};
+ghost use Rattle.encoding_codecs.specs.Iso2022JpSets.{pieces_from_set};
+ghost use Rattle.encoding_codecs.specs.ReadBackSteps.{StepLaw};
+/// What is written in ISO-2022-JP for a character, its escape included, is read by the decoder of the
+/// same index, in the mode of the set in force, as whole pieces with that character, after which the
+/// decoder is in the mode of the set then in force; or it never reads as that character.
+pub fn iso_2022_jp_steps()
+    ensures { (jis0208 katakana : List ℕ) → AreEntries jis0208
+        → StepLaw (iso_2022_jp_coding jis0208 katakana) (pieces_from_set jis0208) }
 {}

@@ -27,5 +27,7 @@ pub use gb18030_encoder::Gb18030Encoder;
 pub mod iso_2022_jp_decoder;
 pub mod iso_2022_jp_encoder;
 mod iso_2022_jp_tests;
+pub mod laws;
+
 pub use iso_2022_jp_decoder::Iso2022JpDecoder;
 pub use iso_2022_jp_encoder::Iso2022JpEncoder;
