@@ -1,4 +1,3 @@
-mod TightAnswers
 mod Iso2022JpFront
 mod Iso2022JpText
 mod Iso2022JpSteps

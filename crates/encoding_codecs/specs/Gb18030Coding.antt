@@ -4,6 +4,8 @@
 use Rattle.std.specs.Prelude.{◌≡◌, ℕ, ◌+◌, ◌/◌, ◌%◌, ◌==◌, ◌&&◌, not, Bool, true, false, List, [], ◌∷◌, nat_lt, if◌then◌else◌, Option, None, Some, refl}
 use Rattle.std.specs.List.{find}
 use Rattle.std.specs.Option.{option_map, option_or}
+use Rattle.encoding_mem.specs.TextRoom.{text_room_gb18030, text_room_two_byte}
+use Rattle.encoding_mem.specs.declared.room.TextRoom.{TextRoom}
 use Rattle.encoding_mem.specs.Coding.{Coding}
 use Rattle.encoding_mem.specs.Stateless.{stateless}
 use Rattle.encoding_mem.specs.declared.form.Form.{Form}
@@ -66,6 +68,10 @@ gb18030_coding flat rows extended = stateless (gb18030_form flat rows extended)
 -- the most bytes of a character
 abbrev pub gb18030_need : Bool → ℕ
 gb18030_need extended = if extended then 4 else 2
+
+-- the room that is enough for a text
+abbrev pub gb18030_text_room : Bool → TextRoom
+gb18030_text_room extended = if extended then text_room_gb18030 else text_room_two_byte
 
 two_bytes : gb18030_form sample_flat sample_rows true 0x4E04 ≡ Mapped (0x81 ∷ 0x41 ∷ [])
 unfolding sample_flat

@@ -1,12 +1,15 @@
 -- Laws of the forms of gb18030 and GBK.
-use Rattle.std.proofs.Common.{ℕ, ◌≤◌, Bool, true, false, cond, nat_lt, List, [], ◌∷◌, length, arith, Option, None, Some}
+use Rattle.std.proofs.Common.{ℕ, ◌<◌, ◌≤◌, Bool, true, false, cond, nat_lt, List, [], ◌∷◌, length, arith, Option, None, Some}
 use Rattle.std.specs.Prelude.{◌==◌, ◌&&◌, not, IfSome}
 use Rattle.std.specs.Option.{option_map, option_or}
 use Rattle.encoding_mem.specs.Coding.{IsCoding, IsShort}
-use Rattle.encoding_mem.specs.StatelessLaws.{stateless_laws, short_none}
+use Rattle.encoding_mem.specs.StatelessLaws.{stateless_laws, short_one, short_none}
+use Rattle.encoding_mem.specs.TextRoom.{IsRoomFor}
+use Rattle.encoding_mem.specs.TextRoomLaws.{two_byte_room, four_byte_room}
+use Rattle.std.proofs.lemmas.Bool.{lt-ltb}
 use Rattle.encoding_tables.specs.Lookups.{first_pointer}
 use Rattle.encoding_tables.specs.Ranges.{range_pointer}
-use Rattle.encoding_codecs.specs.Gb18030Coding.{fixed_pair, two_of, pair_bytes, four_bytes, index_bytes, range_bytes, gb18030_bytes, form_of_bytes, gb18030_form, gb18030_coding, gb18030_need}
+use Rattle.encoding_codecs.specs.Gb18030Coding.{fixed_pair, two_of, pair_bytes, four_bytes, index_bytes, range_bytes, gb18030_bytes, form_of_bytes, gb18030_form, gb18030_coding, gb18030_need, gb18030_text_room}
 
 -- at most n bytes, where there are any
 abbrev AreFew : ℕ → Option (List ℕ) → Type 0
@@ -58,9 +61,10 @@ pub gb18030_laws : (flat : List ℕ) (rows : List (ℕ × ℕ)) (extended : Bool
 gb18030_laws flat rows extended = stateless_laws (gb18030_need extended) (gb18030_form flat rows extended) (four_at_most extended)
     (λ c. short_form (gb18030_need extended) c (gb18030_bytes flat rows extended c) (few_bytes flat rows extended c))
 
--- and no part has more than four bytes
-pub gb18030_target : (flat : List ℕ) (rows : List (ℕ × ℕ)) (extended : Bool) → IsCoding 4 (gb18030_coding flat rows extended)
-gb18030_target flat rows extended =
-    let laws = gb18030_laws flat rows extended in
-    let most : gb18030_need extended ≤ 4 = four_at_most extended in
-    stateless_laws 4 (gb18030_form flat rows extended) (omega arith) (λ c. record { short = omega (arith, (laws.short c).short, most) })
+-- ASCII has one byte, so this room is enough
+one_byte : (flat : List ℕ) (rows : List (ℕ × ℕ)) (extended : Bool) (c : ℕ) → c < 0x80 → IsShort 1 (gb18030_form flat rows extended c)
+one_byte flat rows extended c low = rw (lt-ltb c 0x80 low) short_one
+
+pub gb18030_fits : (flat : List ℕ) (rows : List (ℕ × ℕ)) (extended : Bool) → IsRoomFor (gb18030_coding flat rows extended) (gb18030_text_room extended)
+gb18030_fits flat rows true = four_byte_room (gb18030_form flat rows true) (gb18030_laws flat rows true).short (one_byte flat rows true)
+gb18030_fits flat rows false = two_byte_room (gb18030_form flat rows false) (gb18030_laws flat rows false).short (one_byte flat rows false)

@@ -1,11 +1,15 @@
 -- ISO-2022-JP is a target of an encoder.
-use Rattle.std.proofs.Common.{◌≡◌, ℕ, ◌≤◌, ◌==◌, Bool, true, false, cond, List, [], length, nat_lt, Option, None, Some, refl, arith, lit≤}
+use Rattle.std.proofs.Common.{◌≡◌, ℕ, ◌+◌, ◌*◌, ◌<◌, ◌≤◌, ◌==◌, inl, inr, Bool, true, false, cond, List, [], length, nat_lt, Option, None, Some, refl, arith, lit≤}
 use Rattle.std.specs.Prelude.{◌||◌}
-use Rattle.encoding_mem.specs.Coding.{IsCoding, IsShort}
+use Rattle.std.proofs.lemmas.Bool.{cases_lt, lt-ltb}
+use Rattle.encoding_mem.specs.Coding.{IsCoding, IsShort, bytes}
+use Rattle.encoding_mem.specs.Room.{cost_in}
+use Rattle.encoding_mem.specs.TextRoom.{IsRoomFor, line_for, text_room_iso_2022_jp}
+use Rattle.encoding_mem.specs.TextRoomLaws.{cost_some, two_bytes}
 use Rattle.encoding_mem.specs.StatelessLaws.{short_if, short_one, short_none}
 use Rattle.encoding_mem.specs.declared.form.Set.{Set}
 use Rattle.encoding_mem.specs.declared.form.Set.TheVariants.{Ascii, Roman, Jis}
-use Rattle.encoding_codecs.specs.Iso2022JpForms.{pointer_of_char, form_of_pointer, is_set, Sets, only, ascii_or_roman, set_after, sets_of_pointer, iso_2022_jp_sets, escape_to, iso_2022_jp_escape, iso_2022_jp_coding}
+use Rattle.encoding_codecs.specs.Iso2022JpForms.{pointer_of_char, form_of_pointer, iso_2022_jp_form, is_set, Sets, only, ascii_or_roman, set_after, sets_of_pointer, iso_2022_jp_sets, escape_to, iso_2022_jp_escape, iso_2022_jp_coding}
 
 -- where a character has one set, that one is taken
 pub set_after-only : (q s : Set) → set_after (only q) s ≡ q
@@ -70,4 +74,33 @@ iso_2022_jp_laws jis0208 katakana = record {
       (short_if (c == 0xA5) short_one (short_if (c == 0x203E) short_one (short_pair c (pointer_of_char jis0208 katakana c))));
   escape_short = λ s s'. short_unless (is_set s s') (escape_to s') (short_escape_to s');
   few = lit≤ tt;
+}
+
+-- A character has two bytes at most, and one in ASCII, so this room is enough.
+pair_of_two : (c : ℕ) (o : Option ℕ) → IsShort 2 (form_of_pointer c o)
+pair_of_two c None = short_none
+pair_of_two c (Some p) = record { short = omega arith }
+
+two_at_most : (jis0208 katakana : List ℕ) (c : ℕ) → IsShort 2 (iso_2022_jp_form jis0208 katakana c)
+two_at_most jis0208 katakana c = short_if (nat_lt c 0x80) (short_if (c == 0x0E || c == 0x0F || c == 0x1B) short_none short_one)
+    (short_if (c == 0xA5) short_one (short_if (c == 0x203E) short_one (pair_of_two c (pointer_of_char jis0208 katakana c))))
+
+one_in_ascii : (jis0208 katakana : List ℕ) (c : ℕ) → c < 0x80 → IsShort 1 (iso_2022_jp_form jis0208 katakana c)
+one_in_ascii jis0208 katakana c low = rw (lt-ltb c 0x80 low) (short_if (c == 0x0E || c == 0x0F || c == 0x1B) short_none short_one)
+
+each_fits : (jis0208 katakana : List ℕ) (t : Bool) (s s' : Set) (c : ℕ) → length (iso_2022_jp_escape s s') + length (bytes (iso_2022_jp_form jis0208 katakana c)) ≤ (line_for text_room_iso_2022_jp t).factor * cost_in t c
+each_fits jis0208 katakana true s s' c = omega (arith, (iso_2022_jp_laws jis0208 katakana).escape_short s s', (two_at_most jis0208 katakana c).short, cost_some true c)
+each_fits jis0208 katakana false s s' c = elim (cases_lt c 0x80) [
+  | inl low ↦ omega (arith, (iso_2022_jp_laws jis0208 katakana).escape_short s s', (one_in_ascii jis0208 katakana c low).short, cost_some false c)
+  | inr high ↦ omega (arith, (iso_2022_jp_laws jis0208 katakana).escape_short s s', (two_at_most jis0208 katakana c).short, two_bytes c high)
+]
+
+last_fits : (jis0208 katakana : List ℕ) (t : Bool) (s : Set) → length (iso_2022_jp_escape s Ascii) ≤ (line_for text_room_iso_2022_jp t).extra
+last_fits jis0208 katakana true s = (iso_2022_jp_laws jis0208 katakana).escape_short s Ascii
+last_fits jis0208 katakana false s = (iso_2022_jp_laws jis0208 katakana).escape_short s Ascii
+
+pub iso_2022_jp_fits : (jis0208 katakana : List ℕ) → IsRoomFor (iso_2022_jp_coding jis0208 katakana) text_room_iso_2022_jp
+iso_2022_jp_fits jis0208 katakana t = record {
+  each = λ s c. each_fits jis0208 katakana t s ((iso_2022_jp_coding jis0208 katakana).set s c) c;
+  last = last_fits jis0208 katakana t;
 }

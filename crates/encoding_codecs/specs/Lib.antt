@@ -1,3 +1,4 @@
+pub mod TextRooms
 pub mod TwoByte
 pub mod TwoByteDecide
 pub mod TwoByteLaws
@@ -26,8 +27,6 @@ pub mod Gb18030Decide
 pub mod Gb18030Laws
 pub mod Gb18030Coding
 pub mod Gb18030CodingLaws
-pub mod Steps
-pub mod StepsLaws
 pub mod Gb18030Steps
 pub mod Gb18030Tables
 pub mod Iso2022Jp

@@ -2,6 +2,7 @@
 
 ghost use Rattle.std.specs.Prelude.{◌≡◌, ◌↔◌, ℕ, ◌+◌, ◌-◌, ◌*◌, ◌/◌, ◌%◌, ◌<◌, ◌≤◌, [], ◌∷◌, true, IsTrue, IfSome};
 ghost use Rattle.encoding_mem.specs.Room.{room_multibyte};
+ghost use Rattle.encoding_mem.specs.TextRoom.{text_room_two_byte};
 ghost use Rattle.encoding_tables.specs.IndexLists.{has, entries_of};
 ghost use Rattle.encoding_tables.specs.Lookups.{AreEntries};
 ghost use Rattle.encoding_codecs.specs.Big5.{big5_rule, big5_value, pieces_big5, takes_last, big5_find, big5_trail, big5_bytes, big5_form, big5_coding};
@@ -14,7 +15,7 @@ use crate::stateless::{Forms, Stateless};
 use crate::two_byte::{PairValue, Pairs, TwoByte, value_of_entry};
 use encoding_mem::form::{Bytes, Form};
 use encoding_mem::piece_decoder::{Buffered, PieceDecoder};
-use encoding_mem::room::Room;
+use encoding_mem::room::{Room, TextRoom};
 use encoding_mem::sink::Sink;
 use encoding_mem::{DecoderResult, EncoderResult, RawDecoder, RawEncoder};
 use encoding_tables::{Flat, IndexKind, Tables};
@@ -104,8 +105,6 @@ impl<'a> TwoByte for Big5<'a> {
 }
 
 impl<'a> Forms for Big5<'a> {
-    ghost most = { 2 };
-
     ghost form = { λ s. big5_form s.flat };
 
     ghost coding = { λ s. big5_laws s.flat };
@@ -201,6 +200,7 @@ impl<'a> Big5Encoder<'a> {
         ensures coding { ⟦<Big5Encoder<'a> as RawEncoder>⟧.coding result ≡ big5_coding (entries_of tables.now IndexKind.Big5) }
         ensures set { ⟦<Big5Encoder<'a> as RawEncoder>⟧.set result ≡ Ascii }
         ensures need { ⟦<Big5Encoder<'a> as RawEncoder>⟧.need result ≡ 2 }
+        ensures limits { ⟦<Big5Encoder<'a> as RawEncoder>⟧.limits result ≡ text_room_two_byte }
     {
         Big5Encoder {
             inner: Stateless::new(index_of(tables)),
@@ -214,6 +214,8 @@ impl<'a> RawEncoder for Big5Encoder<'a> {
     ghost coding = { λ e. ⟦<Stateless<Big5<'a>> as RawEncoder>⟧.coding e.inner };
 
     ghost set = { λ e. ⟦<Stateless<Big5<'a>> as RawEncoder>⟧.set e.inner };
+
+    ghost limits = { λ e. ⟦<Stateless<Big5<'a>> as RawEncoder>⟧.limits e.inner };
 
     ghost laws = { λ e. big5_laws e.inner.forms.flat };
 
@@ -233,5 +235,13 @@ impl<'a> RawEncoder for Big5Encoder<'a> {
         last: bool,
     ) -> (EncoderResult, usize, usize) {
         self.inner.encode_from_utf16_raw(src, dst, last)
+    }
+
+    fn room(&self) -> TextRoom {
+        self.inner.room()
+    }
+
+    fn has_pending_state(&self) -> bool {
+        self.inner.has_pending_state()
     }
 }

@@ -2,6 +2,7 @@
 
 ghost use Rattle.std.specs.Prelude.{◌≡◌, ◌≢◌, ◌↔◌, ◌<◌, true, IsTrue};
 ghost use Rattle.encoding_mem.specs.Room.{room_multibyte};
+ghost use Rattle.encoding_mem.specs.TextRoom.{text_room_two_byte};
 ghost use Rattle.encoding_tables.specs.IndexLists.{has, entries_of};
 ghost use Rattle.encoding_tables.specs.Lookups.{AreEntries};
 ghost use Rattle.encoding_codecs.specs.EucJp.{is_pointer_byte, euc_jp_first, euc_pair, euc_jp_pair, euc_jp_after, pieces_euc_jp, own_bytes, bytes_of_pointer, bytes_of_char, euc_jp_form, euc_jp_coding};
@@ -18,7 +19,7 @@ use crate::two_byte::{PairValue, cut_short, decide_trail, value_of_entry};
 use encoding_mem::form::{Bytes, Form};
 use encoding_mem::front::Front;
 use encoding_mem::piece_decoder::{Buffered, PieceDecoder};
-use encoding_mem::room::Room;
+use encoding_mem::room::{Room, TextRoom};
 use encoding_mem::sink::Sink;
 use encoding_mem::{DecoderResult, EncoderResult, RawDecoder, RawEncoder};
 use encoding_tables::{Flat, IndexKind, Tables};
@@ -176,8 +177,6 @@ struct EucJpForms<'a> {
 }
 
 impl<'a> Forms for EucJpForms<'a> {
-    ghost most = { 2 };
-
     ghost form = { λ s. euc_jp_form s.jis0208 };
 
     ghost coding = { λ s. euc_jp_laws s.jis0208 };
@@ -242,6 +241,7 @@ impl<'a> EucJpEncoder<'a> {
         ensures coding { ⟦<EucJpEncoder<'a> as RawEncoder>⟧.coding result ≡ euc_jp_coding (entries_of tables.now IndexKind.Jis0208) }
         ensures set { ⟦<EucJpEncoder<'a> as RawEncoder>⟧.set result ≡ Ascii }
         ensures need { ⟦<EucJpEncoder<'a> as RawEncoder>⟧.need result ≡ 2 }
+        ensures limits { ⟦<EucJpEncoder<'a> as RawEncoder>⟧.limits result ≡ text_room_two_byte }
     {
         EucJpEncoder {
             inner: Stateless::new(EucJpForms {
@@ -257,6 +257,8 @@ impl<'a> RawEncoder for EucJpEncoder<'a> {
     ghost coding = { λ e. ⟦<Stateless<EucJpForms<'a>> as RawEncoder>⟧.coding e.inner };
 
     ghost set = { λ e. ⟦<Stateless<EucJpForms<'a>> as RawEncoder>⟧.set e.inner };
+
+    ghost limits = { λ e. ⟦<Stateless<EucJpForms<'a>> as RawEncoder>⟧.limits e.inner };
 
     ghost laws = { λ e. euc_jp_laws e.inner.forms.jis0208 };
 
@@ -276,5 +278,13 @@ impl<'a> RawEncoder for EucJpEncoder<'a> {
         last: bool,
     ) -> (EncoderResult, usize, usize) {
         self.inner.encode_from_utf16_raw(src, dst, last)
+    }
+
+    fn room(&self) -> TextRoom {
+        self.inner.room()
+    }
+
+    fn has_pending_state(&self) -> bool {
+        self.inner.has_pending_state()
     }
 }

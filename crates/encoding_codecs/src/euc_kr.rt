@@ -2,6 +2,7 @@
 
 ghost use Rattle.std.specs.Prelude.{◌≡◌, ◌↔◌, ℕ, ◌+◌, ◌-◌, ◌*◌, ◌/◌, ◌%◌, ◌<◌, ◌≤◌, [], ◌∷◌, true, IsTrue};
 ghost use Rattle.encoding_mem.specs.Room.{room_multibyte};
+ghost use Rattle.encoding_mem.specs.TextRoom.{text_room_two_byte};
 ghost use Rattle.encoding_tables.specs.IndexLists.{has, entries_of};
 ghost use Rattle.encoding_tables.specs.Lookups.{AreEntries, first_pointer};
 ghost use Rattle.encoding_codecs.specs.EucKr.{euc_kr_rule, pieces_euc_kr, euc_kr_bytes, euc_kr_form, euc_kr_coding};
@@ -14,7 +15,7 @@ use crate::stateless::{Forms, Stateless};
 use crate::two_byte::{PairValue, Pairs, TwoByte, value_of_entry};
 use encoding_mem::form::{Bytes, Form};
 use encoding_mem::piece_decoder::{Buffered, PieceDecoder};
-use encoding_mem::room::Room;
+use encoding_mem::room::{Room, TextRoom};
 use encoding_mem::sink::Sink;
 use encoding_mem::{DecoderResult, EncoderResult, RawDecoder, RawEncoder};
 use encoding_tables::{Flat, IndexKind, Tables};
@@ -49,8 +50,6 @@ impl<'a> TwoByte for EucKr<'a> {
 }
 
 impl<'a> Forms for EucKr<'a> {
-    ghost most = { 2 };
-
     ghost form = { λ s. euc_kr_form s.flat };
 
     ghost coding = { λ s. euc_kr_laws s.flat };
@@ -144,6 +143,7 @@ impl<'a> EucKrEncoder<'a> {
         ensures coding { ⟦<EucKrEncoder<'a> as RawEncoder>⟧.coding result ≡ euc_kr_coding (entries_of tables.now IndexKind.EucKr) }
         ensures set { ⟦<EucKrEncoder<'a> as RawEncoder>⟧.set result ≡ Ascii }
         ensures need { ⟦<EucKrEncoder<'a> as RawEncoder>⟧.need result ≡ 2 }
+        ensures limits { ⟦<EucKrEncoder<'a> as RawEncoder>⟧.limits result ≡ text_room_two_byte }
     {
         EucKrEncoder {
             inner: Stateless::new(index_of(tables)),
@@ -157,6 +157,8 @@ impl<'a> RawEncoder for EucKrEncoder<'a> {
     ghost coding = { λ e. ⟦<Stateless<EucKr<'a>> as RawEncoder>⟧.coding e.inner };
 
     ghost set = { λ e. ⟦<Stateless<EucKr<'a>> as RawEncoder>⟧.set e.inner };
+
+    ghost limits = { λ e. ⟦<Stateless<EucKr<'a>> as RawEncoder>⟧.limits e.inner };
 
     ghost laws = { λ e. euc_kr_laws e.inner.forms.flat };
 
@@ -176,5 +178,13 @@ impl<'a> RawEncoder for EucKrEncoder<'a> {
         last: bool,
     ) -> (EncoderResult, usize, usize) {
         self.inner.encode_from_utf16_raw(src, dst, last)
+    }
+
+    fn room(&self) -> TextRoom {
+        self.inner.room()
+    }
+
+    fn has_pending_state(&self) -> bool {
+        self.inner.has_pending_state()
     }
 }

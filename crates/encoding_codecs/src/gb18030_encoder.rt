@@ -3,12 +3,13 @@
 
 ghost use Rattle.std.specs.Prelude.{◌≡◌, ◌+◌, ◌/◌, ◌%◌, ◌<◌, true};
 ghost use Rattle.encoding_tables.specs.IndexLists.{has, entries_of, rows_of};
-ghost use Rattle.encoding_codecs.specs.Gb18030Coding.{fixed_pair, pair_bytes, four_bytes, gb18030_bytes, form_of_bytes, gb18030_coding, gb18030_need};
-ghost use Rattle.encoding_codecs.specs.Gb18030CodingLaws.{gb18030_laws, gb18030_target};
+ghost use Rattle.encoding_codecs.specs.Gb18030Coding.{fixed_pair, pair_bytes, four_bytes, gb18030_bytes, form_of_bytes, gb18030_coding, gb18030_need, gb18030_text_room};
+ghost use Rattle.encoding_codecs.specs.Gb18030CodingLaws.{gb18030_laws, gb18030_fits};
 ghost use Rattle.encoding_mem.specs.declared.form.Set.TheVariants.{Ascii};
 
 use encoding_mem::encode::{Target, encode};
 use encoding_mem::form::{Bytes, Form, Set};
+use encoding_mem::room::TextRoom;
 use encoding_mem::source::{Source, Utf8Source, Utf16Source};
 use encoding_mem::{EncoderResult, RawEncoder};
 use encoding_tables::{Flat, IndexKind, Ranges, Tables};
@@ -22,11 +23,15 @@ struct Gb18030Target<'a> {
 }
 
 impl<'a> Target for Gb18030Target<'a> {
-    ghost need = { 4 };
+    ghost need = { λ s. gb18030_need s.extended_range };
 
     ghost coding = { λ s. gb18030_coding s.index s.ranges s.extended_range };
 
-    ghost laws = { λ s. gb18030_target s.index s.ranges s.extended_range };
+    ghost limits = { λ s. gb18030_text_room s.extended_range };
+
+    ghost laws = { λ s. gb18030_laws s.index s.ranges s.extended_range };
+
+    ghost fits = { λ s. gb18030_fits s.index s.ranges s.extended_range };
 
     fn step(&self, _set: Set, c: char) -> (Set, Form) {
         (Set::Ascii, form_of(c, self.bytes_of(c)))
@@ -148,6 +153,7 @@ impl<'a> Gb18030Encoder<'a> {
             ≡ gb18030_coding (entries_of tables.now IndexKind.Gb18030) (rows_of tables.now) extended_range }
         ensures set { ⟦<Gb18030Encoder<'a> as RawEncoder>⟧.set result ≡ Ascii }
         ensures need { ⟦<Gb18030Encoder<'a> as RawEncoder>⟧.need result ≡ gb18030_need extended_range }
+        ensures limits { ⟦<Gb18030Encoder<'a> as RawEncoder>⟧.limits result ≡ gb18030_text_room extended_range }
     {
         Gb18030Encoder {
             target: Gb18030Target {
@@ -165,6 +171,8 @@ impl<'a> RawEncoder for Gb18030Encoder<'a> {
     ghost coding = { λ e. gb18030_coding e.target.index e.target.ranges e.target.extended_range };
 
     ghost set = { λ _. Ascii };
+
+    ghost limits = { λ e. gb18030_text_room e.target.extended_range };
 
     ghost laws = { λ e. gb18030_laws e.target.index e.target.ranges e.target.extended_range };
 
@@ -190,5 +198,17 @@ impl<'a> RawEncoder for Gb18030Encoder<'a> {
         let mut set = Set::Ascii;
         let (result, written) = encode(&self.target, &mut set, &mut source, dst, last);
         (result, source.read(), written)
+    }
+
+    fn room(&self) -> TextRoom {
+        if self.target.extended_range {
+            TextRoom::gb18030()
+        } else {
+            TextRoom::two_byte()
+        }
+    }
+
+    fn has_pending_state(&self) -> bool {
+        false
     }
 }

@@ -1,14 +1,16 @@
 // The encoder of ISO-2022-JP (the Encoding Standard, section 12.2.2, "ISO-2022-JP encoder").
 
-ghost use Rattle.std.specs.Prelude.{◌≡◌, ◌≢◌, ◌↔◌, ◌+◌, ◌/◌, ◌%◌, ◌<◌, IsTrue, IfSome, true, [], ◌∷◌};
+ghost use Rattle.std.specs.Prelude.{◌≡◌, ◌+◌, ◌/◌, ◌%◌, ◌<◌, IfSome, true, [], ◌∷◌};
+ghost use Rattle.encoding_mem.specs.TextRoom.{text_room_iso_2022_jp};
 ghost use Rattle.encoding_mem.specs.declared.form.Set.TheVariants.{Ascii};
 ghost use Rattle.encoding_tables.specs.IndexLists.{has, entries_of};
 ghost use Rattle.encoding_tables.specs.declared.index_kind.IndexKind.{IndexKind};
 ghost use Rattle.encoding_codecs.specs.Iso2022JpForms.{looked_up, pointer_of_char, ascii_form, is_set, ascii_or_roman, set_after, iso_2022_jp_coding};
-ghost use Rattle.encoding_codecs.specs.Iso2022JpFormsLaws.{iso_2022_jp_laws};
+ghost use Rattle.encoding_codecs.specs.Iso2022JpFormsLaws.{iso_2022_jp_laws, iso_2022_jp_fits};
 
 use encoding_mem::encode::{Target, encode};
 use encoding_mem::form::{Bytes, Form, Set};
+use encoding_mem::room::TextRoom;
 use encoding_mem::source::{Source, Utf8Source, Utf16Source};
 use encoding_mem::{EncoderResult, RawEncoder};
 use encoding_tables::{Flat, IndexKind, Tables};
@@ -48,11 +50,15 @@ impl<'a> Iso2022Jp<'a> {
 }
 
 impl<'a> Target for Iso2022Jp<'a> {
-    ghost need = { 3 };
+    ghost need = { λ _. 3 };
 
     ghost coding = { λ s. iso_2022_jp_coding s.jis0208 s.katakana };
 
+    ghost limits = { λ _. text_room_iso_2022_jp };
+
     ghost laws = { λ s. iso_2022_jp_laws s.jis0208 s.katakana };
+
+    ghost fits = { λ s. iso_2022_jp_fits s.jis0208 s.katakana };
 
     fn step(&self, set: Set, c: char) -> (Set, Form) {
         if c < '\u{80}' {
@@ -143,6 +149,7 @@ impl<'a> Iso2022JpEncoder<'a> {
         ensures coding { ⟦<Iso2022JpEncoder<'a> as RawEncoder>⟧.coding result ≡ iso_2022_jp_coding (entries_of tables.now IndexKind.Jis0208) (entries_of tables.now IndexKind.Iso2022JpKatakana) }
         ensures set { ⟦<Iso2022JpEncoder<'a> as RawEncoder>⟧.set result ≡ Ascii }
         ensures need { ⟦<Iso2022JpEncoder<'a> as RawEncoder>⟧.need result ≡ 3 }
+        ensures limits { ⟦<Iso2022JpEncoder<'a> as RawEncoder>⟧.limits result ≡ text_room_iso_2022_jp }
     {
         Iso2022JpEncoder {
             target: Iso2022Jp {
@@ -152,13 +159,6 @@ impl<'a> Iso2022JpEncoder<'a> {
             set: Set::Ascii,
         }
     }
-
-    /// Whether the set isn't ASCII: an escape is still to be written at the end.
-    pub fn has_pending_state(&self) -> bool
-        ensures { IsTrue result ↔ (⟦<Iso2022JpEncoder<'a> as RawEncoder>⟧.set self.now ≢ Ascii) }
-    {
-        !matches!(self.set, Set::Ascii)
-    }
 }
 
 impl<'a> RawEncoder for Iso2022JpEncoder<'a> {
@@ -167,6 +167,8 @@ impl<'a> RawEncoder for Iso2022JpEncoder<'a> {
     ghost coding = { λ e. iso_2022_jp_coding e.target.jis0208 e.target.katakana };
 
     ghost set = { λ e. e.set };
+
+    ghost limits = { λ _. text_room_iso_2022_jp };
 
     ghost laws = { λ e. iso_2022_jp_laws e.target.jis0208 e.target.katakana };
 
@@ -190,5 +192,13 @@ impl<'a> RawEncoder for Iso2022JpEncoder<'a> {
         let mut source = Utf16Source::new(src);
         let (result, written) = encode(&self.target, &mut self.set, &mut source, dst, last);
         (result, source.read(), written)
+    }
+
+    fn room(&self) -> TextRoom {
+        TextRoom::iso_2022_jp()
+    }
+
+    fn has_pending_state(&self) -> bool {
+        !matches!(self.set, Set::Ascii)
     }
 }

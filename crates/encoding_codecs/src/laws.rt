@@ -11,6 +11,9 @@ ghost use Rattle.encoding_codecs.specs.ShiftJisPointers.{PointerIsLeastUsed};
 ghost use Rattle.encoding_codecs.specs.Gb18030.{front_gb18030};
 ghost use Rattle.encoding_codecs.specs.Gb18030Coding.{gb18030_form};
 ghost use Rattle.encoding_codecs.specs.Steps.{StepsReadBack};
+ghost use Rattle.encoding_codecs.specs.Iso2022JpForms.{iso_2022_jp_coding};
+ghost use Rattle.encoding_codecs.specs.Iso2022JpSets.{pieces_from_set};
+ghost use Rattle.encoding_codecs.specs.ReadBackSteps.{StepLaw};
 
 /// What is written in EUC-KR reads back, by the decoder of the same index, as the text exactly where each
 /// character of it has a pointer.
@@ -39,15 +42,15 @@ pub fn shift_jis_steps_read_back()
 /// The same of EUC-JP.
 pub fn euc_jp_steps_read_back()
     ensures { (jis0208 jis0212 : List ℕ) → StepsReadBack (front_euc_jp jis0208 jis0212) (euc_jp_form jis0208) }
+{}
+
 /// What gb18030 or GBK writes for a character, its bytes or its reference, reads back as the character
 /// or as something else, whatever follows it and whatever the tables hold.
 pub fn gb18030_steps_read_back()
     ensures { (flat : List ℕ) (rows : List (ℕ × ℕ)) (extended : Bool)
         → StepsReadBack (front_gb18030 flat rows) (gb18030_form flat rows extended) }
-ghost use Rattle.std.specs.Prelude.{ℕ, List};
-ghost use Rattle.encoding_codecs.specs.Iso2022JpForms.{iso_2022_jp_coding};
-ghost use Rattle.encoding_codecs.specs.Iso2022JpSets.{pieces_from_set};
-ghost use Rattle.encoding_codecs.specs.ReadBackSteps.{StepLaw};
+{}
+
 /// What is written in ISO-2022-JP for a character, its escape included, is read by the decoder of the
 /// same index, in the mode of the set in force, as whole pieces with that character, after which the
 /// decoder is in the mode of the set then in force; or it never reads as that character.

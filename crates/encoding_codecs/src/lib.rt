@@ -4,12 +4,17 @@
 pub mod big5;
 pub mod euc_jp;
 pub mod euc_kr;
+pub mod gb18030_decoder;
+pub mod gb18030_encoder;
+#[cfg(test)]
+mod gb18030_tests;
+pub mod iso_2022_jp_decoder;
+pub mod iso_2022_jp_encoder;
+#[cfg(test)]
+mod iso_2022_jp_tests;
 mod jis;
 #[cfg(test)]
 mod jis_tests;
-pub mod gb18030_decoder;
-pub mod gb18030_encoder;
-mod gb18030_tests;
 pub mod laws;
 pub mod lead_rule;
 pub mod shift_jis;
@@ -21,13 +26,8 @@ pub mod two_byte;
 pub use big5::{Big5Decoder, Big5Encoder};
 pub use euc_jp::{EucJpDecoder, EucJpEncoder};
 pub use euc_kr::{EucKrDecoder, EucKrEncoder};
-pub use shift_jis::{ShiftJisDecoder, ShiftJisEncoder};
 pub use gb18030_decoder::Gb18030Decoder;
 pub use gb18030_encoder::Gb18030Encoder;
-pub mod iso_2022_jp_decoder;
-pub mod iso_2022_jp_encoder;
-mod iso_2022_jp_tests;
-pub mod laws;
-
 pub use iso_2022_jp_decoder::Iso2022JpDecoder;
 pub use iso_2022_jp_encoder::Iso2022JpEncoder;
+pub use shift_jis::{ShiftJisDecoder, ShiftJisEncoder};

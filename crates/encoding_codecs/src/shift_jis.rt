@@ -2,6 +2,7 @@
 
 ghost use Rattle.std.specs.Prelude.{◌≡◌, ◌↔◌, ◌+◌, ◌<◌, true, IsTrue, IfSome};
 ghost use Rattle.encoding_mem.specs.Room.{room_multibyte};
+ghost use Rattle.encoding_mem.specs.TextRoom.{text_room_two_byte};
 ghost use Rattle.encoding_tables.specs.IndexLists.{has, entries_of};
 ghost use Rattle.encoding_tables.specs.Lookups.{AreEntries};
 ghost use Rattle.encoding_codecs.specs.ShiftJis.{is_lead, is_trail, pointer_of_pair, value_of_pointer, shift_jis_rule, pieces_shift_jis, byte_of_char, shift_jis_pointer, bytes_of_pointer, bytes_of_char, shift_jis_form, shift_jis_coding};
@@ -14,7 +15,7 @@ use crate::stateless::{Forms, Stateless};
 use crate::two_byte::{PairValue, Pairs, TwoByte, value_of_entry};
 use encoding_mem::form::{Bytes, Form};
 use encoding_mem::piece_decoder::{Buffered, PieceDecoder};
-use encoding_mem::room::Room;
+use encoding_mem::room::{Room, TextRoom};
 use encoding_mem::sink::Sink;
 use encoding_mem::{DecoderResult, EncoderResult, RawDecoder, RawEncoder};
 use encoding_tables::{Flat, IndexKind, Tables};
@@ -59,8 +60,6 @@ impl<'a> TwoByte for ShiftJis<'a> {
 }
 
 impl<'a> Forms for ShiftJis<'a> {
-    ghost most = { 2 };
-
     ghost form = { λ s. shift_jis_form s.jis0208 };
 
     ghost coding = { λ s. shift_jis_laws s.jis0208 };
@@ -229,6 +228,7 @@ impl<'a> ShiftJisEncoder<'a> {
         ensures coding { ⟦<ShiftJisEncoder<'a> as RawEncoder>⟧.coding result ≡ shift_jis_coding (entries_of tables.now IndexKind.Jis0208) }
         ensures set { ⟦<ShiftJisEncoder<'a> as RawEncoder>⟧.set result ≡ Ascii }
         ensures need { ⟦<ShiftJisEncoder<'a> as RawEncoder>⟧.need result ≡ 2 }
+        ensures limits { ⟦<ShiftJisEncoder<'a> as RawEncoder>⟧.limits result ≡ text_room_two_byte }
     {
         ShiftJisEncoder {
             inner: Stateless::new(index_of(tables)),
@@ -242,6 +242,8 @@ impl<'a> RawEncoder for ShiftJisEncoder<'a> {
     ghost coding = { λ e. ⟦<Stateless<ShiftJis<'a>> as RawEncoder>⟧.coding e.inner };
 
     ghost set = { λ e. ⟦<Stateless<ShiftJis<'a>> as RawEncoder>⟧.set e.inner };
+
+    ghost limits = { λ e. ⟦<Stateless<ShiftJis<'a>> as RawEncoder>⟧.limits e.inner };
 
     ghost laws = { λ e. shift_jis_laws e.inner.forms.jis0208 };
 
@@ -261,5 +263,13 @@ impl<'a> RawEncoder for ShiftJisEncoder<'a> {
         last: bool,
     ) -> (EncoderResult, usize, usize) {
         self.inner.encode_from_utf16_raw(src, dst, last)
+    }
+
+    fn room(&self) -> TextRoom {
+        self.inner.room()
+    }
+
+    fn has_pending_state(&self) -> bool {
+        self.inner.has_pending_state()
     }
 }

@@ -3,23 +3,24 @@
 ghost use Rattle.std.specs.Prelude.{◌≡◌, ℕ, ◌<◌, [], ◌∷◌};
 ghost use Rattle.encoding_mem.specs.Coding.{IsCoding};
 ghost use Rattle.encoding_mem.specs.Stateless.{stateless};
+ghost use Rattle.encoding_mem.specs.TextRoom.{text_room_two_byte};
+ghost use Rattle.encoding_codecs.specs.TextRooms.{two_byte_fits};
 ghost use Rattle.encoding_mem.specs.declared.form.Form.{Form};
 ghost use Rattle.encoding_mem.specs.declared.form.Form.TheVariants.{Mapped};
 ghost use Rattle.encoding_mem.specs.declared.form.Set.TheVariants.{Ascii};
 
 use encoding_mem::encode::{Target, encode};
 use encoding_mem::form::{Bytes, Form, Set};
+use encoding_mem::room::TextRoom;
 use encoding_mem::source::{Source, Utf8Source, Utf16Source};
 use encoding_mem::{EncoderResult, RawEncoder};
 
 /// What an encoding makes of a character. ASCII gives itself.
 pub trait Forms {
-    /// The most bytes of a character.
-    ghost most: { ℕ };
-
     ghost form: { Self → ℕ → Form };
 
-    ghost coding: { (s : Self) → IsCoding most (stateless (form s)) };
+    /// A character has two bytes at most.
+    ghost coding: { (s : Self) → IsCoding 2 (stateless (form s)) };
 
     ghost ascii: { (s : Self) (c : ℕ) → c < 0x80 → form s c ≡ Mapped (c ∷ []) };
 
@@ -43,11 +44,15 @@ impl<T: Forms> Stateless<T> {
 }
 
 impl<T: Forms> Target for Stateless<T> {
-    ghost need = { T.most };
+    ghost need = { λ _. 2 };
 
     ghost coding = { λ s. stateless (T.form s.forms) };
 
+    ghost limits = { λ _. text_room_two_byte };
+
     ghost laws = { λ s. T.coding s.forms };
+
+    ghost fits = { λ s. two_byte_fits (T.form s.forms) (T.coding s.forms) (T.ascii s.forms) };
 
     fn step(&self, _set: Set, c: char) -> (Set, Form) {
         (Set::Ascii, self.forms.form_of(c))
@@ -63,11 +68,13 @@ impl<T: Forms> Target for Stateless<T> {
 }
 
 impl<T: Forms> RawEncoder for Stateless<T> {
-    ghost need = { λ _. T.most };
+    ghost need = { λ _. 2 };
 
     ghost coding = { λ s. stateless (T.form s.forms) };
 
     ghost set = { λ _. Ascii };
+
+    ghost limits = { λ _. text_room_two_byte };
 
     ghost laws = { λ s. T.coding s.forms };
 
@@ -93,5 +100,13 @@ impl<T: Forms> RawEncoder for Stateless<T> {
         let mut set = Set::Ascii;
         let (result, written) = encode(self, &mut set, &mut source, dst, last);
         (result, source.read(), written)
+    }
+
+    fn room(&self) -> TextRoom {
+        TextRoom::two_byte()
+    }
+
+    fn has_pending_state(&self) -> bool {
+        false
     }
 }

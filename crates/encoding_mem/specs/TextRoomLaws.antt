@@ -26,11 +26,11 @@ stateless_room form room h t = record {
 }
 
 -- what a scalar has at least
-cost_some : (t : Bool) (c : ℕ) → 1 ≤ cost_in t c
+pub cost_some : (t : Bool) (c : ℕ) → 1 ≤ cost_in t c
 cost_some true c = grind (arith, nat_tests)
 cost_some false c = omega (arith, (len_utf8_bounds c).0)
 
-two_bytes : (c : ℕ) → 0x80 ≤ c → 2 ≤ len_utf8 c
+pub two_bytes : (c : ℕ) → 0x80 ≤ c → 2 ≤ len_utf8 c
 two_bytes c high = grind (arith, nat_tests)
 
 three_a_unit : (c : ℕ) → len_utf8 c ≤ 3 * len_utf16 c
