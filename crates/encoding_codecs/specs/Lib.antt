@@ -37,3 +37,4 @@ pub mod Iso2022JpFormsLaws
 pub mod Iso2022JpRows
 pub mod Iso2022JpSets
 pub mod ReadBackSteps
+pub mod CodecTables
