@@ -1,6 +1,6 @@
 -- Big5 by the list of its index (the Encoding Standard, section 11.1.1, "Big5 decoder", section 11.1.2, "Big5 encoder",
 -- and section 5, "index Big5 pointer").
-use Rattle.std.specs.Prelude.{◌≡◌, ℕ, ◌+◌, ◌-◌, ◌*◌, ◌/◌, ◌%◌, ◌==◌, ◌||◌, Bool, List, [], ◌∷◌, ◌++◌, nat_lt, if◌then◌else◌, refl, replicate, Option, Some}
+use Rattle.std.specs.Prelude.{◌≡◌, ℕ, ◌+◌, ◌-◌, ◌*◌, ◌/◌, ◌%◌, ◌==◌, ◌||◌, Bool, List, [], ◌∷◌, ◌++◌, nat_lt, if◌then◌else◌, refl, replicate, Option}
 use Rattle.std.specs.Int.{is_in_range}
 use Rattle.encoding_mem.specs.Coding.{Coding}
 use Rattle.encoding_mem.specs.Piece.{Piece, good, bad}

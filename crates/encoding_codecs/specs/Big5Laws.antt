@@ -1,8 +1,8 @@
 -- Laws of Big5.
-use Rattle.std.proofs.Common.{◌≡◌, ◌≢◌, ℕ, ◌+◌, ◌-◌, ◌*◌, ◌/◌, ◌%◌, ◌<◌, ◌≤◌, Bool, true, false, cond, nat_lt, List, [], ◌∷◌, length, refl, ap, ◌∙◌, arith, Option, None, Some, inl, inr}
+use Rattle.std.proofs.Common.{◌≡◌, ◌≢◌, ℕ, ◌+◌, ◌/◌, ◌%◌, ◌<◌, ◌≤◌, Bool, true, false, cond, List, refl, ap, ◌∙◌, arith, Some, inl, inr}
 use Rattle.std.specs.Prelude.{◌==◌, ◌||◌}
 use Rattle.std.specs.Int.{is_in_range}
-use Rattle.std.proofs.lemmas.Bool.{and_from, le-leb, le-ltb, lt-ltb, ne_eqb, cases_lt}
+use Rattle.std.proofs.lemmas.Bool.{le-ltb, lt-ltb, ne_eqb, cases_lt}
 use Rattle.encoding_mem.specs.Coding.{IsCoding}
 use Rattle.encoding_mem.specs.ReadBack.{ReadsBackExactly}
 use Rattle.encoding_tables.specs.Lookups.{AreEntries, value_of, first_pointer, last_pointer}
@@ -12,9 +12,8 @@ use Rattle.encoding_codecs.specs.TwoByte.{IsTwoByte, IsPairValue}
 use Rattle.encoding_codecs.specs.Pointers.{value_of_entry}
 use Rattle.encoding_codecs.specs.PointersLaws.{is_value_of_entry, is_value_if, is_first_if, in_range, coding_by_pointer, IsPairOf, reads_by_pointer}
 use Rattle.encoding_codecs.specs.ExactReadBack.{reads_back_exactly}
-use Rattle.encoding_codecs.specs.Big5.{big5_first, big5_is_trail, big5_pointer, big5_value, big5_pair, big5_rule, front_big5, pieces_big5, takes_last, big5_find, big5_trail, big5_bytes, big5_form, big5_coding}
+use Rattle.encoding_codecs.specs.Big5.{big5_is_trail, big5_pointer, big5_value, big5_pair, big5_rule, front_big5, pieces_big5, takes_last, big5_find, big5_trail, big5_bytes, big5_form, big5_coding}
 use Rattle.encoding_codecs.specs.declared.lead_rule.FirstByte.TheVariants.{Lead, Unused}
-use Rattle.encoding_codecs.specs.declared.two_byte.PairValue.{PairValue}
 use Rattle.encoding_codecs.specs.declared.two_byte.PairValue.TheVariants.{NoChar, OneChar, TwoChars}
 
 -- ---- values

@@ -1,16 +1,16 @@
 -- Laws of EUC-KR.
-use Rattle.std.proofs.Common.{◌≡◌, ℕ, ◌+◌, ◌-◌, ◌*◌, ◌/◌, ◌%◌, ◌<◌, ◌≤◌, true, List, refl, arith, Some}
+use Rattle.std.proofs.Common.{◌≡◌, ℕ, ◌+◌, ◌/◌, ◌%◌, ◌<◌, List, refl, arith, Some}
 use Rattle.std.specs.Int.{is_in_range}
 use Rattle.encoding_mem.specs.Coding.{IsCoding}
 use Rattle.encoding_mem.specs.ReadBack.{ReadsBackExactly}
 use Rattle.encoding_tables.specs.Lookups.{AreEntries, value_of, first_pointer}
 use Rattle.encoding_tables.specs.LookupLaws.{IsPointer}
 use Rattle.encoding_tables.specs.PointerLaws.{first_is_least}
-use Rattle.encoding_codecs.specs.TwoByte.{IsTwoByte, IsFirstByte, IsPairValue}
+use Rattle.encoding_codecs.specs.TwoByte.{IsTwoByte}
 use Rattle.encoding_codecs.specs.Pointers.{value_of_entry}
 use Rattle.encoding_codecs.specs.PointersLaws.{is_value_of_entry, is_value_if, is_first_if, coding_by_pointer, IsPairOf, in_range, reads_by_pointer}
 use Rattle.encoding_codecs.specs.ExactReadBack.{reads_back_exactly}
-use Rattle.encoding_codecs.specs.EucKr.{euc_kr_first, euc_kr_pair, euc_kr_pointer, euc_kr_rule, front_euc_kr, pieces_euc_kr, euc_kr_bytes, euc_kr_form, euc_kr_coding}
+use Rattle.encoding_codecs.specs.EucKr.{euc_kr_pointer, euc_kr_rule, front_euc_kr, pieces_euc_kr, euc_kr_bytes, euc_kr_form, euc_kr_coding}
 use Rattle.encoding_codecs.specs.declared.lead_rule.FirstByte.TheVariants.{Lead, Unused}
 use Rattle.encoding_codecs.specs.declared.two_byte.PairValue.TheVariants.{NoChar}
 

@@ -8,7 +8,7 @@ use Rattle.std.proofs.lemmas.Bool.{and_parts}
 use Rattle.std.proofs.lemmas.List.{append-nil, drop_at}
 use Rattle.encoding_mem.specs.Piece.{Piece, good, size_of, text, AreGood}
 use Rattle.encoding_mem.specs.Pieces.{pieces_by}
-use Rattle.encoding_mem.specs.PiecesLaws.{CutsEach, pieces_by-nil, pieces_by-first, pieces_by-cons}
+use Rattle.encoding_mem.specs.PiecesLaws.{CutsEach, pieces_by-nil, pieces_by-first}
 use Rattle.encoding_mem.specs.Coding.{AllMapped, IsMapped, open_from, output, spelled, reference}
 use Rattle.encoding_mem.specs.ReadBack.{ReadsAs, ReadsBackExactly}
 use Rattle.encoding_mem.specs.Stateless.{stateless}

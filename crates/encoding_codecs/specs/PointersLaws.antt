@@ -1,14 +1,12 @@
 -- Laws of pointers as two bytes.
-use Rattle.std.proofs.Common.{◌≡◌, ℕ, ◌<◌, ◌≤◌, Bool, true, false, cond, nat_lt, nat_le, List, [], ◌∷◌, ◌++◌, length, refl, ap, ◌∙◌, arith, Option, None, Some, inl, inr}
-use Rattle.std.specs.Char.{IsScalar}
+use Rattle.std.proofs.Common.{◌≡◌, ℕ, ◌<◌, ◌≤◌, Bool, true, false, cond, nat_lt, nat_le, List, [], ◌∷◌, length, refl, ap, ◌∙◌, arith, Option, None, Some, inl, inr}
 use Rattle.std.specs.Int.{is_in_range}
 use Rattle.std.proofs.lemmas.Bool.{cases_lt, lt-ltb, le-ltb, le-leb, and_from}
 use Rattle.encoding_mem.specs.Coding.{IsCoding, IsShort}
 use Rattle.encoding_mem.specs.Piece.{good}
 use Rattle.encoding_mem.specs.Stateless.{stateless}
 use Rattle.encoding_mem.specs.StatelessLaws.{stateless_laws, short_if, short_one, short_none}
-use Rattle.encoding_mem.specs.declared.form.Form.{Form}
-use Rattle.encoding_mem.specs.declared.form.Form.TheVariants.{Mapped, Unmapped}
+use Rattle.encoding_mem.specs.declared.form.Form.TheVariants.{Mapped}
 use Rattle.encoding_tables.specs.Lookups.{AreEntries, value_of}
 use Rattle.encoding_tables.specs.PointerLaws.{value_some}
 use Rattle.encoding_codecs.specs.TwoByte.{TwoByteRule, IsTwoByte, IsFirstByte, IsPairValue, front_two_byte, after_bytes, piece_of_first, piece_of_trail}
@@ -16,9 +14,9 @@ use Rattle.encoding_codecs.specs.TwoByteLaws.{cuts_two_byte, lead_ascii}
 use Rattle.encoding_codecs.specs.Pointers.{value_of_entry, form_of_pointer, form_by_pointer}
 use Rattle.encoding_codecs.specs.ExactReadBack.{ReadsEach, ReadsAsScalar}
 use Rattle.encoding_codecs.specs.declared.lead_rule.FirstByte.{FirstByte}
-use Rattle.encoding_codecs.specs.declared.lead_rule.FirstByte.TheVariants.{Lead, Unused}
+use Rattle.encoding_codecs.specs.declared.lead_rule.FirstByte.TheVariants.{Lead}
 use Rattle.encoding_codecs.specs.declared.two_byte.PairValue.{PairValue}
-use Rattle.encoding_codecs.specs.declared.two_byte.PairValue.TheVariants.{NoChar, OneChar}
+use Rattle.encoding_codecs.specs.declared.two_byte.PairValue.TheVariants.{OneChar}
 
 -- what an entry gives is a scalar
 value_is : (flat : List ℕ) → AreEntries flat → (p : ℕ) (o : Option ℕ) → value_of flat p ≡ o → IsPairValue (value_of_entry o)
