@@ -1,1 +1,3 @@
+pub mod Hashes
+pub mod Names
 pub mod References

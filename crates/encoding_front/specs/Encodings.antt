@@ -1,5 +1,8 @@
--- What each encoding means: the indexes that it needs, the pieces of its bytes, and what is written for a text in it.
-use Rattle.std.specs.Prelude.{◌≡◌, ℕ, true, List, [], ◌∷◌, refl}
+-- What each encoding means: what it is found by, what it needs, the pieces of its bytes, and what is written for a text
+-- in it.
+use Rattle.std.specs.Prelude.{◌≡◌, ℕ, Bool, true, false, cond, Option, None, Some, List, [], ◌∷◌, length, eqb}
+use Rattle.std.specs.List.{starts_with}
+use Rattle.encoding_labels.specs.Labels.{IsLabelOf}
 use Rattle.encoding_mem.specs.Piece.{Piece}
 use Rattle.encoding_mem.specs.Coding.{Coding}
 use Rattle.encoding_mem.specs.Utf8.{pieces_utf8}
@@ -13,31 +16,71 @@ use Rattle.encoding_tables.specs.Kinds.{is_single_byte}
 use Rattle.encoding_tables.specs.SingleByte.{pieces_single_byte, single_byte_coding}
 use Rattle.encoding_tables.specs.declared.index_kind.IndexKind.{IndexKind}
 use Rattle.encoding_front.specs.declared.encoding.Encoding.{Encoding}
-use Rattle.encoding_front.specs.declared.encoding.Name.{Name}
-use Rattle.encoding_front.specs.declared.encoding.Name.TheVariants.{Utf8, Windows1252}
-use Rattle.encoding_front.specs.declared.encoding.Scheme.{Scheme}
-use Rattle.encoding_front.specs.declared.encoding.TheConstants.{UTF_8, UTF_8_INIT, WINDOWS_1252, WINDOWS_1252_INIT}
+use Rattle.encoding_front.specs.declared.scheme.Scheme.{Scheme}
+use Rattle.encoding_front.specs.EncodingTable.{number_of, scheme_of}
 
--- how an encoding is read and written
-abbrev pub scheme_of_name : Name → Scheme
-scheme_of_name Utf8 = Scheme.Utf8
-scheme_of_name Windows1252 = Scheme.SingleByte IndexKind.Windows1252
+-- the encoding has the label ("get an encoding", the Encoding Standard, section 4.2)
+abbrev pub HasLabel : Encoding → List ℕ → Type 0
+HasLabel e label = IsLabelOf (number_of e) label
 
-abbrev pub scheme_of : Encoding → Scheme
-scheme_of e = scheme_of_name e.name
+-- the byte order marks ("BOM sniff", section 6)
+abbrev pub byte_order_marks : List (Encoding × List ℕ)
+byte_order_marks = (Encoding.Utf8, 0xEF ∷ 0xBB ∷ 0xBF ∷ []) ∷ (Encoding.Utf16Be, 0xFE ∷ 0xFF ∷ []) ∷ (Encoding.Utf16Le, 0xFF ∷ 0xFE ∷ []) ∷ []
+
+-- the first of these marks with which the bytes begin, by its encoding, and its length
+abbrev pub first_mark : List (Encoding × List ℕ) → List ℕ → Option (Encoding × ℕ)
+first_mark [] bytes = None
+first_mark (mark ∷ marks) bytes = cond (starts_with eqb bytes mark.1) (Some (mark.0, length mark.1)) (first_mark marks bytes)
+
+abbrev pub mark_in : List ℕ → Option (Encoding × ℕ)
+mark_in bytes = first_mark byte_order_marks bytes
+
+-- the encoding in which is written what is asked for in this one ("get an output encoding", section 4.3)
+abbrev pub output_of_scheme : Encoding → Scheme → Encoding
+output_of_scheme e (Scheme.Utf16 big_endian) = Encoding.Utf8
+output_of_scheme e Scheme.Replacement = Encoding.Utf8
+output_of_scheme e _ = e
+
+abbrev pub output_encoding_of : Encoding → Encoding
+output_encoding_of e = output_of_scheme e (scheme_of e)
+
+-- each byte below 80 at the front of a character is that character, and it is written so
+abbrev pub is_ascii_compatible_scheme : Scheme → Bool
+is_ascii_compatible_scheme (Scheme.Utf16 big_endian) = false
+is_ascii_compatible_scheme Scheme.Replacement = false
+is_ascii_compatible_scheme Scheme.Iso2022Jp = false
+is_ascii_compatible_scheme _ = true
+
+abbrev pub is_ascii_compatible_of : Encoding → Bool
+is_ascii_compatible_of e = is_ascii_compatible_scheme (scheme_of e)
+
+-- each byte is a character
+abbrev pub is_single_byte_scheme : Scheme → Bool
+is_single_byte_scheme (Scheme.SingleByte kind) = true
+is_single_byte_scheme Scheme.UserDefined = true
+is_single_byte_scheme _ = false
+
+abbrev pub is_single_byte_of : Encoding → Bool
+is_single_byte_of e = is_single_byte_scheme (scheme_of e)
 
 -- the index of a single-byte scheme is that of a single-byte encoding
 abbrev pub IsProper : Scheme → Type 0
-IsProper Scheme.Utf8 = Unit {0}
 IsProper (Scheme.SingleByte kind) = is_single_byte kind ≡ true
+IsProper _ = Unit {0}
 
 abbrev pub IsUtf8Encoding : Encoding → Type 0
 IsUtf8Encoding e = scheme_of e ≡ Scheme.Utf8
 
 -- the kinds of index that it needs
 abbrev pub needs_of_scheme : Scheme → List IndexKind
-needs_of_scheme Scheme.Utf8 = []
 needs_of_scheme (Scheme.SingleByte kind) = kind ∷ []
+needs_of_scheme Scheme.Big5 = IndexKind.Big5 ∷ []
+needs_of_scheme Scheme.EucKr = IndexKind.EucKr ∷ []
+needs_of_scheme Scheme.EucJp = IndexKind.Jis0208 ∷ IndexKind.Jis0212 ∷ []
+needs_of_scheme Scheme.ShiftJis = IndexKind.Jis0208 ∷ []
+needs_of_scheme (Scheme.Gb18030 extended) = IndexKind.Gb18030 ∷ IndexKind.Gb18030Ranges ∷ []
+needs_of_scheme Scheme.Iso2022Jp = IndexKind.Jis0208 ∷ IndexKind.Iso2022JpKatakana ∷ []
+needs_of_scheme _ = []
 
 abbrev pub needs_of : Encoding → List IndexKind
 needs_of e = needs_of_scheme (scheme_of e)
@@ -50,23 +93,30 @@ AreThere t (kind ∷ kinds) = (has t kind ≡ true) × AreThere t kinds
 abbrev pub IsReady : IndexLists → Encoding → Type 0
 IsReady t e = AreThere t (needs_of e)
 
+-- For the time being: the encodings that can be decoded and written. Of the others what stands below is that of UTF-8,
+-- and no call takes them.
+abbrev pub HasCodecScheme : Scheme → Type 0
+HasCodecScheme Scheme.Utf8 = Unit {0}
+HasCodecScheme (Scheme.SingleByte kind) = Unit {0}
+HasCodecScheme _ = ⊥
+
+abbrev pub HasCodec : Encoding → Type 0
+HasCodec e = HasCodecScheme (scheme_of e)
+
 -- the pieces of a whole input, without mark handling
 abbrev pub pieces_of_scheme : IndexLists → Scheme → List ℕ → List Piece
 pieces_of_scheme t Scheme.Utf8 = pieces_utf8
 pieces_of_scheme t (Scheme.SingleByte kind) = pieces_single_byte (entries_of t kind)
+pieces_of_scheme t _ = pieces_utf8
 
 abbrev pub pieces_of : IndexLists → Encoding → List ℕ → List Piece
 pieces_of t e = pieces_of_scheme t (scheme_of e)
-
--- the encoding in which is written what is asked for in this one (the Encoding Standard, section 4.3, "get an
--- output encoding")
-abbrev pub output_encoding_of : Encoding → Encoding
-output_encoding_of e = e
 
 -- what is written in the output encoding
 abbrev pub coding_of_scheme : IndexLists → Scheme → Coding
 coding_of_scheme t Scheme.Utf8 = utf8_coding
 coding_of_scheme t (Scheme.SingleByte kind) = single_byte_coding (entries_of t kind)
+coding_of_scheme t _ = utf8_coding
 
 abbrev pub coding_of : IndexLists → Encoding → Coding
 coding_of t e = coding_of_scheme t (scheme_of (output_encoding_of e))
@@ -75,6 +125,7 @@ coding_of t e = coding_of_scheme t (scheme_of (output_encoding_of e))
 abbrev pub need_of_scheme : Scheme → ℕ
 need_of_scheme Scheme.Utf8 = 4
 need_of_scheme (Scheme.SingleByte kind) = 1
+need_of_scheme _ = 4
 
 abbrev pub need_of : Encoding → ℕ
 need_of e = need_of_scheme (scheme_of (output_encoding_of e))
@@ -91,19 +142,7 @@ text_room_of e = text_room_of_scheme (scheme_of (output_encoding_of e))
 abbrev pub room_of_scheme : Scheme → Room
 room_of_scheme Scheme.Utf8 = room_utf8
 room_of_scheme (Scheme.SingleByte kind) = room_single_byte
+room_of_scheme _ = room_utf8
 
 abbrev pub room_of_encoding : Encoding → Room
 room_of_encoding e = room_of_scheme (scheme_of e)
-
--- the constants
-utf_8 : scheme_of UTF_8 ≡ Scheme.Utf8
-utf_8 = refl
-
-utf_8_init : UTF_8_INIT ≡ UTF_8
-utf_8_init = refl
-
-windows_1252 : scheme_of WINDOWS_1252 ≡ Scheme.SingleByte IndexKind.Windows1252
-windows_1252 = refl
-
-windows_1252_init : WINDOWS_1252_INIT ≡ WINDOWS_1252
-windows_1252_init = refl

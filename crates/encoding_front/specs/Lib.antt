@@ -1,2 +1,4 @@
+pub mod EncodingRows
+pub mod EncodingTable
 pub mod Encodings
 pub mod EncodingsLaws

@@ -1,53 +1,219 @@
-ghost use Rattle.std.specs.Prelude.{◌≡◌, ◌↔◌, IsTrue};
-ghost use Rattle.encoding_tables.specs.IndexLists.{AreAcceptedTables};
-ghost use Rattle.encoding_front.specs.Encodings.{IsProper, IsReady, needs_of, output_encoding_of, scheme_of};
+ghost use Rattle.std.specs.Prelude.{◌≡◌, ◌<◌, ◌↔◌, Some, IsTrue};
+ghost use Rattle.std.specs.Str.{IsAscii, IsUtf8};
+ghost use Rattle.encoding_mem.specs.Iso2022JpAscii.{IsIso2022JpAscii};
+ghost use Rattle.encoding_mem.specs.LongestPrefix.{IsLongestPrefix};
+ghost use Rattle.std.specs.List.{list_all};
+ghost use Rattle.encoding_tables.specs.IndexLists.{AreAcceptedTables, has};
+ghost use Rattle.encoding_front.specs.EncodingTable.{name_of, number_of, scheme_of};
+ghost use Rattle.encoding_front.specs.Encodings.{HasCodec, HasLabel, IsProper, IsReady, IsUtf8Encoding, is_ascii_compatible_of, is_single_byte_of, mark_in, needs_of, output_encoding_of};
+ghost use Rattle.encoding_front.specs.declared.encoding.Encoding.{Encoding};
 
+use crate::scheme::{Scheme, row_of};
+use encoding_labels::label_number;
 use encoding_tables::{IndexKind, Tables};
 
-/// An encoding of the Encoding Standard (section 4.2): a value to copy, compared and hashed by which one
-/// it is. So far there are UTF-8 and windows-1252.
+/// An encoding of the Encoding Standard (section 4.2): a value to copy, compared and hashed by which of the
+/// forty it is. Each is also a constant of this crate, as `UTF_8`.
 #[derive(Clone, Copy, PartialEq, Eq, Hash, Debug)]
-pub struct Encoding {
-    name: Name,
-}
-
-/// Which encoding it is.
-#[derive(Clone, Copy, PartialEq, Eq, Hash, Debug)]
-pub(crate) enum Name {
+pub enum Encoding {
+    Big5,
+    EucJp,
+    EucKr,
+    Gb18030,
+    Gbk,
+    Ibm866,
+    Iso2022Jp,
+    Iso8859_2,
+    Iso8859_3,
+    Iso8859_4,
+    Iso8859_5,
+    Iso8859_6,
+    Iso8859_7,
+    Iso8859_8,
+    Iso8859_8I,
+    Iso8859_10,
+    Iso8859_13,
+    Iso8859_14,
+    Iso8859_15,
+    Iso8859_16,
+    Koi8R,
+    Koi8U,
+    Macintosh,
+    Replacement,
+    ShiftJis,
     Utf8,
+    Utf16Be,
+    Utf16Le,
+    Windows874,
+    Windows1250,
+    Windows1251,
     Windows1252,
+    Windows1253,
+    Windows1254,
+    Windows1255,
+    Windows1256,
+    Windows1257,
+    Windows1258,
+    XMacCyrillic,
+    XUserDefined,
 }
 
-/// How an encoding is read and written.
-#[derive(Clone, Copy)]
-pub(crate) enum Scheme {
-    Utf8,
-    SingleByte(IndexKind),
-}
-
-/// UTF-8 (RFC 3629; the Encoding Standard, section 8.1).
-pub const UTF_8: Encoding = Encoding { name: Name::Utf8 };
-
-/// The same encoding, by its second name.
-pub const UTF_8_INIT: Encoding = UTF_8;
-
-/// windows-1252, which is what Latin 1 means on the Web (the Encoding Standard, section 9).
-pub const WINDOWS_1252: Encoding = Encoding {
-    name: Name::Windows1252,
-};
-
-/// The same encoding, by its second name.
-pub const WINDOWS_1252_INIT: Encoding = WINDOWS_1252;
+// All encodings, in the order of `encoding_labels::places`.
+const ENCODINGS: [Encoding; 40] = [
+    Encoding::Big5,
+    Encoding::EucJp,
+    Encoding::EucKr,
+    Encoding::Gb18030,
+    Encoding::Gbk,
+    Encoding::Ibm866,
+    Encoding::Iso2022Jp,
+    Encoding::Iso8859_2,
+    Encoding::Iso8859_3,
+    Encoding::Iso8859_4,
+    Encoding::Iso8859_5,
+    Encoding::Iso8859_6,
+    Encoding::Iso8859_7,
+    Encoding::Iso8859_8,
+    Encoding::Iso8859_8I,
+    Encoding::Iso8859_10,
+    Encoding::Iso8859_13,
+    Encoding::Iso8859_14,
+    Encoding::Iso8859_15,
+    Encoding::Iso8859_16,
+    Encoding::Koi8R,
+    Encoding::Koi8U,
+    Encoding::Macintosh,
+    Encoding::Replacement,
+    Encoding::ShiftJis,
+    Encoding::Utf8,
+    Encoding::Utf16Be,
+    Encoding::Utf16Le,
+    Encoding::Windows874,
+    Encoding::Windows1250,
+    Encoding::Windows1251,
+    Encoding::Windows1252,
+    Encoding::Windows1253,
+    Encoding::Windows1254,
+    Encoding::Windows1255,
+    Encoding::Windows1256,
+    Encoding::Windows1257,
+    Encoding::Windows1258,
+    Encoding::XMacCyrillic,
+    Encoding::XUserDefined,
+];
 
 impl Encoding {
+    /// The encoding that has this label: "get an encoding" of the Encoding Standard, section 4.2. White space
+    /// at both ends (the bytes 09, 0A, 0C, 0D and 20) and the case of ASCII letters do not matter.
+    pub fn for_label(label: &[u8]) -> Option<Encoding>
+        ensures { (e : Encoding) → (result ≡ Some e) ↔ HasLabel e label.now }
+    {
+        let place = label_number(label)?;
+        Some(at_place(place))
+    }
+
+    /// The same, but no encoding for the labels of replacement: for those who must not take what is not
+    /// to be decoded for something that was.
+    pub fn for_label_no_replacement(label: &[u8]) -> Option<Encoding>
+        ensures { (e : Encoding) → (result ≡ Some e) ↔ (HasLabel e label.now × ¬ (e ≡ Encoding.Replacement)) }
+    {
+        let encoding = Encoding::for_label(label)?;
+        if encoding == Encoding::Replacement {
+            return None;
+        }
+        Some(encoding)
+    }
+
+    /// The encoding whose byte order mark stands at the front of the bytes, and the length of the mark in
+    /// bytes: "BOM sniff" of the Encoding Standard, section 6.
+    pub fn for_bom(bytes: &[u8]) -> Option<(Encoding, usize)>
+        ensures { result ≡ mark_in bytes.now }
+    {
+        match bytes {
+            [0xEF, 0xBB, 0xBF, ..] => Some((Encoding::Utf8, 3)),
+            [0xFE, 0xFF, ..] => Some((Encoding::Utf16Be, 2)),
+            [0xFF, 0xFE, ..] => Some((Encoding::Utf16Le, 2)),
+            _ => None,
+        }
+    }
+
+    /// The name, as the Encoding Standard writes it (section 4.2).
+    pub fn name(self) -> &'static str
+        ensures { result.now ≡ name_of self }
+    {
+        row_of(self).name
+    }
+
+    /// The encoding in which is written what is asked for in this one (the Encoding Standard, section
+    /// 4.3, "get an output encoding"): UTF-8 for UTF-16BE, UTF-16LE and replacement.
+    pub fn output_encoding(self) -> Encoding
+        ensures { result ≡ output_encoding_of self }
+    {
+        match self.scheme() {
+            Scheme::Utf16 { .. } | Scheme::Replacement => Encoding::Utf8,
+            _ => self,
+        }
+    }
+
+    /// Whether the output encoding has bytes for every character: it does where it is UTF-8. That of
+    /// gb18030 lacks some (the Encoding Standard, section 10.2.2).
+    pub fn can_encode_everything(self) -> bool
+        ensures { IsTrue result ↔ IsUtf8Encoding (output_encoding_of self) }
+    {
+        self.output_encoding() == Encoding::Utf8
+    }
+
+    /// Whether each byte below 80 stands for the character of its number, wherever a character begins,
+    /// and such a character is written as that byte: so in all but UTF-16BE, UTF-16LE, replacement and
+    /// ISO-2022-JP.
+    pub fn is_ascii_compatible(self) -> bool
+        ensures { result ≡ is_ascii_compatible_of self }
+    {
+        match self.scheme() {
+            Scheme::Utf16 { .. } | Scheme::Replacement | Scheme::Iso2022Jp => false,
+            _ => true,
+        }
+    }
+
+    /// Whether each byte stands for a character of its own: so in the 28 single-byte encodings (the
+    /// Encoding Standard, section 9) and in x-user-defined (section 14.5).
+    pub fn is_single_byte(self) -> bool
+        ensures { result ≡ is_single_byte_of self }
+    {
+        match self.scheme() {
+            Scheme::SingleByte(_) | Scheme::UserDefined => true,
+            _ => false,
+        }
+    }
+
+    /// The length of the longest prefix that is well-formed UTF-8: it ends before the first byte of the
+    /// first broken part.
+    pub fn utf8_valid_up_to(bytes: &[u8]) -> usize
+        ensures { IsLongestPrefix IsUtf8 bytes.now result }
+    {
+        encoding_mem::utf8_valid_up_to(bytes)
+    }
+
+    /// The length of the longest prefix that is ASCII.
+    pub fn ascii_valid_up_to(bytes: &[u8]) -> usize
+        ensures { IsLongestPrefix IsAscii bytes.now result }
+    {
+        encoding_mem::ascii_valid_up_to(bytes)
+    }
+
+    /// The length of the longest prefix that ISO-2022-JP reads as ASCII, from its first state: before the
+    /// first 0E, 0F, 1B or byte from 80 on.
+    pub fn iso_2022_jp_ascii_valid_up_to(bytes: &[u8]) -> usize
+        ensures { IsLongestPrefix IsIso2022JpAscii bytes.now result }
+    {
+        encoding_mem::iso_2022_jp_ascii_valid_up_to(bytes)
+    }
+
     /// The kinds of index that the encoding needs, to be decoded and to be written.
     pub fn needs(self) -> &'static [IndexKind]
         ensures { result.now ≡ needs_of self }
     {
-        match self.name {
-            Name::Utf8 => &[],
-            Name::Windows1252 => &[IndexKind::Windows1252],
-        }
+        row_of(self).needs
     }
 
     /// Whether all of them are there. What is there was accepted.
@@ -56,18 +222,18 @@ impl Encoding {
         ensures accepted { AreAcceptedTables tables.now }
     {
         tables.accepted();
-        match self.name {
-            Name::Utf8 => true,
-            Name::Windows1252 => tables.has(IndexKind::Windows1252),
-        }
+        are_there(self.needs(), tables)
     }
 
-    /// The encoding in which is written what is asked for in this one (the Encoding Standard, section
-    /// 4.3, "get an output encoding").
-    pub fn output_encoding(self) -> Encoding
-        ensures { result ≡ output_encoding_of self }
+    /// Whether the encoding can be decoded, and written where it is an output encoding. For the time being
+    /// these are UTF-8 and the 28 single-byte encodings.
+    pub fn has_codec(self) -> bool
+        ensures { IsTrue result ↔ HasCodec self }
     {
-        self
+        match self.scheme() {
+            Scheme::Utf8 | Scheme::SingleByte(_) => true,
+            _ => false,
+        }
     }
 
     // How it is read and written.
@@ -75,9 +241,21 @@ impl Encoding {
         ensures scheme { result ≡ scheme_of self }
         ensures proper { IsProper result }
     {
-        match self.name {
-            Name::Utf8 => Scheme::Utf8,
-            Name::Windows1252 => Scheme::SingleByte(IndexKind::Windows1252),
-        }
+        row_of(self).scheme
     }
+}
+
+// Whether all of these indexes are there.
+fn are_there(kinds: &[IndexKind], tables: &Tables) -> bool
+    ensures { result ≡ list_all (has tables.now) kinds.now }
+{
+    kinds.iter().all(|kind| tables.has(*kind))
+}
+
+// The encoding at this place.
+fn at_place(place: usize) -> Encoding
+    requires { place < 40 }
+    ensures { number_of result ≡ place }
+{
+    ENCODINGS[place]
 }

@@ -1,13 +1,6 @@
-use crate::{UTF_8, UTF_8_INIT, VariantDecoder, VariantEncoder, WINDOWS_1252, WINDOWS_1252_INIT};
+use crate::{UTF_8, VariantDecoder, VariantEncoder, WINDOWS_1252};
 use encoding_mem::{DecoderResult, EncoderResult, RawDecoder, RawEncoder};
 use encoding_tables::{IndexKind, TableFault, Tables};
-
-#[test]
-fn encodings_are_equal_to_themselves_alone(rt: HostRuntime) {
-    assert_eq!(rt; UTF_8, UTF_8_INIT);
-    assert_eq!(rt; WINDOWS_1252, WINDOWS_1252_INIT);
-    assert!(rt; UTF_8 != WINDOWS_1252);
-}
 
 #[test]
 fn an_encoding_is_ready_with_its_index(rt: HostRuntime) -> Result<(), TableFault> {

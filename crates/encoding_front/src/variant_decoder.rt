@@ -1,8 +1,9 @@
 ghost use Rattle.std.specs.Prelude.{◌≡◌};
-ghost use Rattle.encoding_front.specs.Encodings.{IsReady, pieces_of, room_of_encoding};
+ghost use Rattle.encoding_front.specs.Encodings.{HasCodec, IsReady, pieces_of, room_of_encoding};
 ghost use Rattle.encoding_front.specs.declared.variant_decoder.VariantDecoder.TheVariants.{Utf8, SingleByte};
 
-use crate::encoding::{Encoding, Scheme};
+use crate::encoding::Encoding;
+use crate::scheme::Scheme;
 use encoding_mem::piece_decoder::PieceDecoder;
 use encoding_mem::room::Room;
 use encoding_mem::sink::Sink;
@@ -17,9 +18,10 @@ pub enum VariantDecoder<'t> {
 }
 
 impl<'t> VariantDecoder<'t> {
-    /// Nothing is pending.
+    /// Nothing is pending. For the time being the encoding is one that `has_codec`.
     pub fn new(encoding: Encoding, tables: &'t Tables) -> Self
-        requires { IsReady tables.now encoding }
+        requires ready { IsReady tables.now encoding }
+        requires codec { HasCodec encoding }
         ensures pending { (⟦<VariantDecoder<'t> as RawDecoder>⟧.state result).pending ≡ 0 }
         ensures pieces { (⟦<VariantDecoder<'t> as RawDecoder>⟧.state result).pieces ≡ pieces_of tables.now encoding }
         ensures room { (⟦<VariantDecoder<'t> as RawDecoder>⟧.state result).room ≡ room_of_encoding encoding }
@@ -29,6 +31,7 @@ impl<'t> VariantDecoder<'t> {
             Scheme::SingleByte(kind) => {
                 VariantDecoder::SingleByte(SingleByteDecoder::new(tables, kind))
             }
+            _ => unreachable!(),
         }
     }
 }

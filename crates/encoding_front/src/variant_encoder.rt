@@ -4,10 +4,11 @@ ghost use Rattle.std.specs.Char.Utf16.{utf16_lossy_chars};
 ghost use Rattle.encoding_mem.specs.declared.form.Set.TheVariants.{Ascii};
 ghost use Rattle.encoding_mem.specs.Utf8CodingLaws.{utf8_coding_laws};
 ghost use Rattle.encoding_tables.specs.SingleByteLaws.{single_byte_laws};
-ghost use Rattle.encoding_front.specs.Encodings.{IsReady, coding_of, need_of, output_encoding_of, text_room_of};
+ghost use Rattle.encoding_front.specs.Encodings.{HasCodec, IsReady, coding_of, need_of, output_encoding_of, text_room_of};
 ghost use Rattle.encoding_front.specs.declared.variant_encoder.VariantEncoder.TheVariants.{Utf8, SingleByte};
 
-use crate::encoding::{Encoding, Scheme};
+use crate::encoding::Encoding;
+use crate::scheme::Scheme;
 use encoding_mem::room::TextRoom;
 use encoding_mem::{EncoderResult, RawEncoder, Utf8Encoder};
 use encoding_tables::{SingleByteEncoder, Tables};
@@ -20,9 +21,11 @@ pub enum VariantEncoder<'t> {
 }
 
 impl<'t> VariantEncoder<'t> {
-    /// The encoder of what is written where this encoding is asked for, in ASCII.
+    /// The encoder of what is written where this encoding is asked for, in ASCII. For the time being the
+    /// output encoding is one that `has_codec`.
     pub fn new(encoding: Encoding, tables: &'t Tables) -> Self
-        requires { IsReady tables.now (output_encoding_of encoding) }
+        requires ready { IsReady tables.now (output_encoding_of encoding) }
+        requires codec { HasCodec (output_encoding_of encoding) }
         ensures coding { ⟦<VariantEncoder<'t> as RawEncoder>⟧.coding result ≡ coding_of tables.now encoding }
         ensures set { ⟦<VariantEncoder<'t> as RawEncoder>⟧.set result ≡ Ascii }
         ensures need { ⟦<VariantEncoder<'t> as RawEncoder>⟧.need result ≡ need_of encoding }
@@ -33,6 +36,7 @@ impl<'t> VariantEncoder<'t> {
             Scheme::SingleByte(kind) => {
                 VariantEncoder::SingleByte(SingleByteEncoder::new(tables, kind))
             }
+            _ => unreachable!(),
         }
     }
 }
