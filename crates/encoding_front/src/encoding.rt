@@ -112,8 +112,8 @@ impl Encoding {
         Some(at_place(place))
     }
 
-    /// The same, but no encoding for the labels of replacement: for those who must not take what is not
-    /// to be decoded for something that was.
+    /// The same, but `None` for a label of replacement: for a caller to whom such a label is an error, as
+    /// one that is unknown.
     pub fn for_label_no_replacement(label: &[u8]) -> Option<Encoding>
         ensures { (e : Encoding) → (result ≡ Some e) ↔ (HasLabel e label.now × ¬ (e ≡ Encoding.Replacement)) }
     {
