@@ -1,9 +1,9 @@
 -- Worked cases of the encodings.
-use Rattle.std.specs.Prelude.{◌≡◌, Bool, not, Option, None, Some, List, [], ◌∷◌, codes, filter, refl}
+use Rattle.std.specs.Prelude.{◌≡◌, not, None, Some, [], ◌∷◌, codes, filter, refl}
 use Rattle.encoding_tables.specs.declared.index_kind.IndexKind.{IndexKind}
 use Rattle.encoding_front.specs.EncodingTable.{encodings, name_of}
 use Rattle.encoding_front.specs.Encodings.{is_ascii_compatible_of, is_single_byte_of, mark_in, needs_of, output_encoding_of}
-use Rattle.encoding_front.specs.declared.constants.TheConstants.{SHIFT_JIS, SHIFT_JIS_INIT, UTF_8, UTF_8_INIT, WINDOWS_1252, WINDOWS_1252_INIT}
+use Rattle.encoding_front.specs.declared.constants.TheConstants.{SHIFT_JIS_INIT, UTF_8, UTF_8_INIT, WINDOWS_1252_INIT}
 use Rattle.encoding_front.specs.declared.encoding.Encoding.{Encoding}
 use Rattle.encoding_front.specs.declared.encoding.Encoding.TheVariants.{Big5, EucJp, EucKr, Gb18030, Gbk, Iso2022Jp, Replacement, ShiftJis, Utf8, Utf16Be, Utf16Le, Iso8859_8I, Windows1252, XUserDefined}
 
