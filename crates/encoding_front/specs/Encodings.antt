@@ -134,6 +134,7 @@ need_of e = need_of_scheme (scheme_of (output_encoding_of e))
 abbrev pub text_room_of_scheme : Scheme → TextRoom
 text_room_of_scheme Scheme.Utf8 = text_room_utf8
 text_room_of_scheme (Scheme.SingleByte kind) = text_room_single_byte
+text_room_of_scheme _ = text_room_utf8
 
 abbrev pub text_room_of : Encoding → TextRoom
 text_room_of e = text_room_of_scheme (scheme_of (output_encoding_of e))
