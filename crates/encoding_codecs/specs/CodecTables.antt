@@ -10,10 +10,16 @@ use Rattle.encoding_tables.specs.Lookups.{AreEntries}
 use Rattle.encoding_tables.specs.TableFaults.{flat_fault}
 use Rattle.encoding_tables.specs.TableFaultsLaws.{is_index, entries_are_scalars}
 use Rattle.encoding_tables.specs.declared.index_kind.IndexKind.{IndexKind}
-use Rattle.encoding_tables.specs.declared.index_kind.IndexKind.TheVariants.{Big5, EucKr}
-use Rattle.encoding_codecs.specs.TwoByteLaws.{cuts_two_byte}
+use Rattle.encoding_tables.specs.declared.index_kind.IndexKind.TheVariants.{Big5, EucKr, Jis0208, Jis0212}
+use Rattle.encoding_codecs.specs.TwoByteLaws.{cuts_two_byte, cuts_rule}
 use Rattle.encoding_codecs.specs.Big5.{big5_rule, front_big5, pieces_big5, big5_coding}
 use Rattle.encoding_codecs.specs.Big5Laws.{big5_is_two_byte, big5_exact}
+use Rattle.encoding_codecs.specs.EucJp.{front_euc_jp, pieces_euc_jp}
+use Rattle.encoding_codecs.specs.EucJpLaws.{euc_jp_is_lead_rule}
+use Rattle.encoding_codecs.specs.Iso2022Jp.{pieces_iso_2022_jp, ascii_mode}
+use Rattle.encoding_codecs.specs.Iso2022JpLaws.{iso_2022_jp_are_pieces}
+use Rattle.encoding_codecs.specs.ShiftJis.{shift_jis_rule, front_shift_jis, pieces_shift_jis}
+use Rattle.encoding_codecs.specs.ShiftJisLaws.{shift_jis_is_two_byte}
 use Rattle.encoding_codecs.specs.EucKr.{euc_kr_rule, front_euc_kr, pieces_euc_kr, euc_kr_coding}
 use Rattle.encoding_codecs.specs.EucKrLaws.{euc_kr_is_two_byte, euc_kr_exact}
 
@@ -35,6 +41,20 @@ pub big5_are_pieces : (t : IndexLists) → AreAcceptedTables t → (x : List ℕ
 big5_are_pieces t h =
     let flat = entries_of t Big5 in
     pieces_by-are_pieces (front_big5 flat) (cuts_two_byte (big5_rule flat) (big5_is_two_byte flat (entries_are_entries t Big5 h)))
+
+pub shift_jis_are_pieces : (t : IndexLists) → AreAcceptedTables t → (x : List ℕ) → ArePieces (pieces_shift_jis (entries_of t Jis0208) x)
+shift_jis_are_pieces t h =
+    let flat = entries_of t Jis0208 in
+    pieces_by-are_pieces (front_shift_jis flat) (cuts_two_byte (shift_jis_rule flat) (shift_jis_is_two_byte flat (entries_are_entries t Jis0208 h)))
+
+pub euc_jp_are_pieces : (t : IndexLists) → AreAcceptedTables t → (x : List ℕ) → ArePieces (pieces_euc_jp (entries_of t Jis0208) (entries_of t Jis0212) x)
+euc_jp_are_pieces t h =
+    let jis0208 = entries_of t Jis0208 in
+    let jis0212 = entries_of t Jis0212 in
+    pieces_by-are_pieces (front_euc_jp jis0208 jis0212) (cuts_rule _ _ _ (euc_jp_is_lead_rule jis0208 jis0212 (entries_are_entries t Jis0208 h) (entries_are_entries t Jis0212 h)))
+
+pub iso_2022_jp_tables_are_pieces : (t : IndexLists) → AreAcceptedTables t → (x : List ℕ) → ArePieces (pieces_iso_2022_jp (entries_of t Jis0208) x)
+iso_2022_jp_tables_are_pieces t h = iso_2022_jp_are_pieces (entries_of t Jis0208) (entries_are_entries t Jis0208 h) ascii_mode
 
 -- what is written reads back exactly where each character has a pointer
 pub euc_kr_tables_exact : (t : IndexLists) → AreAcceptedTables t → ReadsBackExactly (pieces_euc_kr (entries_of t EucKr)) (euc_kr_coding (entries_of t EucKr))

@@ -7,13 +7,24 @@ use Rattle.encoding_mem.specs.Piece.{Piece}
 use Rattle.encoding_mem.specs.Coding.{Coding}
 use Rattle.encoding_mem.specs.Utf8.{pieces_utf8}
 use Rattle.encoding_mem.specs.Utf8Coding.{utf8_coding}
-use Rattle.encoding_mem.specs.Room.{room_utf8, room_single_byte}
-use Rattle.encoding_mem.specs.TextRoom.{text_room_utf8, text_room_single_byte}
+use Rattle.encoding_mem.specs.Room.{room_utf8, room_single_byte, room_multibyte, room_utf16, room_replacement}
+use Rattle.encoding_mem.specs.TextRoom.{text_room_utf8, text_room_single_byte, text_room_two_byte, text_room_iso_2022_jp}
 use Rattle.encoding_mem.specs.declared.room.Room.{Room}
 use Rattle.encoding_mem.specs.declared.room.TextRoom.{TextRoom}
-use Rattle.encoding_tables.specs.IndexLists.{IndexLists, has, entries_of}
+use Rattle.encoding_tables.specs.IndexLists.{IndexLists, has, entries_of, rows_of}
 use Rattle.encoding_tables.specs.Kinds.{is_single_byte}
 use Rattle.encoding_tables.specs.SingleByte.{pieces_single_byte, single_byte_coding}
+use Rattle.encoding_tables.specs.UserDefined.{pieces_user_defined, user_defined_coding}
+use Rattle.encoding_tables.specs.Utf16.{pieces_utf16}
+use Rattle.encoding_tables.specs.Replacement.{pieces_replacement}
+use Rattle.encoding_codecs.specs.Big5.{pieces_big5, big5_coding}
+use Rattle.encoding_codecs.specs.EucKr.{pieces_euc_kr, euc_kr_coding}
+use Rattle.encoding_codecs.specs.EucJp.{pieces_euc_jp, euc_jp_coding}
+use Rattle.encoding_codecs.specs.ShiftJis.{pieces_shift_jis, shift_jis_coding}
+use Rattle.encoding_codecs.specs.Gb18030.{pieces_gb18030}
+use Rattle.encoding_codecs.specs.Gb18030Coding.{gb18030_coding, gb18030_need, gb18030_text_room}
+use Rattle.encoding_codecs.specs.Iso2022Jp.{pieces_iso_2022_jp}
+use Rattle.encoding_codecs.specs.Iso2022JpForms.{iso_2022_jp_coding}
 use Rattle.encoding_tables.specs.declared.index_kind.IndexKind.{IndexKind}
 use Rattle.encoding_front.specs.declared.encoding.Encoding.{Encoding}
 use Rattle.encoding_front.specs.declared.scheme.Scheme.{Scheme}
@@ -93,29 +104,47 @@ AreThere t (kind ∷ kinds) = (has t kind ≡ true) × AreThere t kinds
 abbrev pub IsReady : IndexLists → Encoding → Type 0
 IsReady t e = AreThere t (needs_of e)
 
--- For the time being: the encodings that can be decoded and written. Of the others what stands below is that of UTF-8,
--- and no call takes them.
-abbrev pub HasCodecScheme : Scheme → Type 0
-HasCodecScheme Scheme.Utf8 = Unit {0}
-HasCodecScheme (Scheme.SingleByte kind) = Unit {0}
-HasCodecScheme _ = ⊥
+-- What is written for a character reads back as it, or is reported: no two characters have the same bytes. The other
+-- encodings have folds, by which a character is written as another.
+abbrev pub KeepsCharactersScheme : Scheme → Type 0
+KeepsCharactersScheme Scheme.Utf8 = Unit {0}
+KeepsCharactersScheme (Scheme.SingleByte kind) = Unit {0}
+KeepsCharactersScheme Scheme.UserDefined = Unit {0}
+KeepsCharactersScheme Scheme.Big5 = Unit {0}
+KeepsCharactersScheme Scheme.EucKr = Unit {0}
+KeepsCharactersScheme _ = ⊥
 
-abbrev pub HasCodec : Encoding → Type 0
-HasCodec e = HasCodecScheme (scheme_of e)
+abbrev pub KeepsCharacters : Encoding → Type 0
+KeepsCharacters e = KeepsCharactersScheme (scheme_of (output_encoding_of e))
 
 -- the pieces of a whole input, without mark handling
 abbrev pub pieces_of_scheme : IndexLists → Scheme → List ℕ → List Piece
 pieces_of_scheme t Scheme.Utf8 = pieces_utf8
 pieces_of_scheme t (Scheme.SingleByte kind) = pieces_single_byte (entries_of t kind)
-pieces_of_scheme t _ = pieces_utf8
+pieces_of_scheme t Scheme.Big5 = pieces_big5 (entries_of t IndexKind.Big5)
+pieces_of_scheme t Scheme.EucKr = pieces_euc_kr (entries_of t IndexKind.EucKr)
+pieces_of_scheme t Scheme.EucJp = pieces_euc_jp (entries_of t IndexKind.Jis0208) (entries_of t IndexKind.Jis0212)
+pieces_of_scheme t Scheme.ShiftJis = pieces_shift_jis (entries_of t IndexKind.Jis0208)
+pieces_of_scheme t (Scheme.Gb18030 extended) = pieces_gb18030 (entries_of t IndexKind.Gb18030) (rows_of t)
+pieces_of_scheme t Scheme.Iso2022Jp = pieces_iso_2022_jp (entries_of t IndexKind.Jis0208)
+pieces_of_scheme t Scheme.UserDefined = pieces_user_defined
+pieces_of_scheme t (Scheme.Utf16 big_endian) = pieces_utf16 big_endian
+pieces_of_scheme t Scheme.Replacement = pieces_replacement false
 
 abbrev pub pieces_of : IndexLists → Encoding → List ℕ → List Piece
 pieces_of t e = pieces_of_scheme t (scheme_of e)
 
--- what is written in the output encoding
+-- what is written in the output encoding, which is never UTF-16 or replacement
 abbrev pub coding_of_scheme : IndexLists → Scheme → Coding
 coding_of_scheme t Scheme.Utf8 = utf8_coding
 coding_of_scheme t (Scheme.SingleByte kind) = single_byte_coding (entries_of t kind)
+coding_of_scheme t Scheme.Big5 = big5_coding (entries_of t IndexKind.Big5)
+coding_of_scheme t Scheme.EucKr = euc_kr_coding (entries_of t IndexKind.EucKr)
+coding_of_scheme t Scheme.EucJp = euc_jp_coding (entries_of t IndexKind.Jis0208)
+coding_of_scheme t Scheme.ShiftJis = shift_jis_coding (entries_of t IndexKind.Jis0208)
+coding_of_scheme t (Scheme.Gb18030 extended) = gb18030_coding (entries_of t IndexKind.Gb18030) (rows_of t) extended
+coding_of_scheme t Scheme.Iso2022Jp = iso_2022_jp_coding (entries_of t IndexKind.Jis0208) (entries_of t IndexKind.Iso2022JpKatakana)
+coding_of_scheme t Scheme.UserDefined = user_defined_coding
 coding_of_scheme t _ = utf8_coding
 
 abbrev pub coding_of : IndexLists → Encoding → Coding
@@ -125,6 +154,13 @@ coding_of t e = coding_of_scheme t (scheme_of (output_encoding_of e))
 abbrev pub need_of_scheme : Scheme → ℕ
 need_of_scheme Scheme.Utf8 = 4
 need_of_scheme (Scheme.SingleByte kind) = 1
+need_of_scheme Scheme.UserDefined = 1
+need_of_scheme Scheme.Big5 = 2
+need_of_scheme Scheme.EucKr = 2
+need_of_scheme Scheme.EucJp = 2
+need_of_scheme Scheme.ShiftJis = 2
+need_of_scheme (Scheme.Gb18030 extended) = gb18030_need extended
+need_of_scheme Scheme.Iso2022Jp = 3
 need_of_scheme _ = 4
 
 abbrev pub need_of : Encoding → ℕ
@@ -134,6 +170,13 @@ need_of e = need_of_scheme (scheme_of (output_encoding_of e))
 abbrev pub text_room_of_scheme : Scheme → TextRoom
 text_room_of_scheme Scheme.Utf8 = text_room_utf8
 text_room_of_scheme (Scheme.SingleByte kind) = text_room_single_byte
+text_room_of_scheme Scheme.UserDefined = text_room_single_byte
+text_room_of_scheme Scheme.Big5 = text_room_two_byte
+text_room_of_scheme Scheme.EucKr = text_room_two_byte
+text_room_of_scheme Scheme.EucJp = text_room_two_byte
+text_room_of_scheme Scheme.ShiftJis = text_room_two_byte
+text_room_of_scheme (Scheme.Gb18030 extended) = gb18030_text_room extended
+text_room_of_scheme Scheme.Iso2022Jp = text_room_iso_2022_jp
 text_room_of_scheme _ = text_room_utf8
 
 abbrev pub text_room_of : Encoding → TextRoom
@@ -143,7 +186,10 @@ text_room_of e = text_room_of_scheme (scheme_of (output_encoding_of e))
 abbrev pub room_of_scheme : Scheme → Room
 room_of_scheme Scheme.Utf8 = room_utf8
 room_of_scheme (Scheme.SingleByte kind) = room_single_byte
-room_of_scheme _ = room_utf8
+room_of_scheme Scheme.UserDefined = room_single_byte
+room_of_scheme (Scheme.Utf16 big_endian) = room_utf16
+room_of_scheme Scheme.Replacement = room_replacement
+room_of_scheme _ = room_multibyte
 
 abbrev pub room_of_encoding : Encoding → Room
 room_of_encoding e = room_of_scheme (scheme_of e)

@@ -5,7 +5,7 @@ ghost use Rattle.encoding_mem.specs.LongestPrefix.{IsLongestPrefix};
 ghost use Rattle.std.specs.List.{list_all};
 ghost use Rattle.encoding_tables.specs.IndexLists.{AreAcceptedTables, has};
 ghost use Rattle.encoding_front.specs.EncodingTable.{name_of, number_of, scheme_of};
-ghost use Rattle.encoding_front.specs.Encodings.{HasCodec, HasLabel, IsProper, IsReady, IsUtf8Encoding, is_ascii_compatible_of, is_single_byte_of, mark_in, needs_of, output_encoding_of};
+ghost use Rattle.encoding_front.specs.Encodings.{HasLabel, IsProper, IsReady, IsUtf8Encoding, KeepsCharacters, is_ascii_compatible_of, is_single_byte_of, mark_in, needs_of, output_encoding_of};
 ghost use Rattle.encoding_front.specs.declared.encoding.Encoding.{Encoding};
 
 use crate::scheme::{Scheme, row_of};
@@ -225,13 +225,15 @@ impl Encoding {
         are_there(self.needs(), tables)
     }
 
-    /// Whether the encoding can be decoded, and written where it is an output encoding. For the time being
-    /// these are UTF-8 and the 28 single-byte encodings.
-    pub fn has_codec(self) -> bool
-        ensures { IsTrue result ↔ HasCodec self }
+    /// Whether what is written for a character, where this encoding is asked for, reads back as it or is
+    /// reported. It is false for Shift_JIS, EUC-JP, ISO-2022-JP, gb18030 and GBK, which have folds: they
+    /// write some characters as others.
+    pub fn keeps_characters(self) -> bool
+        ensures { IsTrue result ↔ KeepsCharacters self }
     {
-        match self.scheme() {
-            Scheme::Utf8 | Scheme::SingleByte(_) => true,
+        match self.output_encoding().scheme() {
+            Scheme::Utf8 | Scheme::UserDefined | Scheme::SingleByte(_) => true,
+            Scheme::Big5 | Scheme::EucKr => true,
             _ => false,
         }
     }

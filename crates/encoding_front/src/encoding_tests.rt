@@ -184,8 +184,8 @@ fn single_byte_encodings(rt: HostRuntime) {
     for (encoding, _, name, _) in &ALL {
         let single = !OF_SEVERAL_BYTES.contains(encoding);
         assert_eq!(rt; encoding.is_single_byte(), single, "{name}");
-        let has_codec = *encoding == UTF_8 || single && *encoding != X_USER_DEFINED;
-        assert_eq!(rt; encoding.has_codec(), has_codec, "{name}");
+        let folds = [SHIFT_JIS, EUC_JP, ISO_2022_JP, GB18030, GBK].contains(encoding);
+        assert_eq!(rt; encoding.keeps_characters(), !folds, "{name}");
     }
 }
 

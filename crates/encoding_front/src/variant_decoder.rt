@@ -1,27 +1,40 @@
 ghost use Rattle.std.specs.Prelude.{◌≡◌};
-ghost use Rattle.encoding_front.specs.Encodings.{HasCodec, IsReady, pieces_of, room_of_encoding};
-ghost use Rattle.encoding_front.specs.declared.variant_decoder.VariantDecoder.TheVariants.{Utf8, SingleByte};
+ghost use Rattle.encoding_front.specs.Encodings.{IsReady, pieces_of, room_of_encoding};
+ghost use Rattle.encoding_front.specs.declared.variant_decoder.VariantDecoder.TheVariants.{Utf8, SingleByte, Big5, EucKr, EucJp, ShiftJis, Gb18030, Iso2022Jp, UserDefined, Utf16, Replacement};
 
 use crate::encoding::Encoding;
 use crate::scheme::Scheme;
+use encoding_codecs::{
+    Big5Decoder, EucJpDecoder, EucKrDecoder, Gb18030Decoder, Iso2022JpDecoder, ShiftJisDecoder,
+};
 use encoding_mem::piece_decoder::PieceDecoder;
 use encoding_mem::room::Room;
 use encoding_mem::sink::Sink;
 use encoding_mem::{DecoderResult, RawDecoder, Utf8Decoder};
-use encoding_tables::{SingleByteDecoder, Tables};
+use encoding_tables::{
+    ReplacementDecoder, SingleByteDecoder, Tables, UserDefinedDecoder, Utf16Decoder,
+};
 
 /// The decoder of any encoding, without mark handling.
 #[derive(Drop)]
 pub enum VariantDecoder<'t> {
     Utf8(Utf8Decoder),
     SingleByte(SingleByteDecoder<'t>),
+    Big5(Big5Decoder<'t>),
+    EucKr(EucKrDecoder<'t>),
+    EucJp(EucJpDecoder<'t>),
+    ShiftJis(ShiftJisDecoder<'t>),
+    Gb18030(Gb18030Decoder<'t>),
+    Iso2022Jp(Iso2022JpDecoder<'t>),
+    UserDefined(UserDefinedDecoder),
+    Utf16(Utf16Decoder),
+    Replacement(ReplacementDecoder),
 }
 
 impl<'t> VariantDecoder<'t> {
-    /// Nothing is pending. For the time being the encoding is one that `has_codec`.
+    /// Nothing is pending.
     pub fn new(encoding: Encoding, tables: &'t Tables) -> Self
-        requires ready { IsReady tables.now encoding }
-        requires codec { HasCodec encoding }
+        requires { IsReady tables.now encoding }
         ensures pending { (⟦<VariantDecoder<'t> as RawDecoder>⟧.state result).pending ≡ 0 }
         ensures pieces { (⟦<VariantDecoder<'t> as RawDecoder>⟧.state result).pieces ≡ pieces_of tables.now encoding }
         ensures room { (⟦<VariantDecoder<'t> as RawDecoder>⟧.state result).room ≡ room_of_encoding encoding }
@@ -31,7 +44,15 @@ impl<'t> VariantDecoder<'t> {
             Scheme::SingleByte(kind) => {
                 VariantDecoder::SingleByte(SingleByteDecoder::new(tables, kind))
             }
-            _ => unreachable!(),
+            Scheme::Big5 => VariantDecoder::Big5(Big5Decoder::new(tables)),
+            Scheme::EucKr => VariantDecoder::EucKr(EucKrDecoder::new(tables)),
+            Scheme::EucJp => VariantDecoder::EucJp(EucJpDecoder::new(tables)),
+            Scheme::ShiftJis => VariantDecoder::ShiftJis(ShiftJisDecoder::new(tables)),
+            Scheme::Gb18030 { .. } => VariantDecoder::Gb18030(Gb18030Decoder::new(tables)),
+            Scheme::Iso2022Jp => VariantDecoder::Iso2022Jp(Iso2022JpDecoder::new(tables)),
+            Scheme::UserDefined => VariantDecoder::UserDefined(UserDefinedDecoder::new()),
+            Scheme::Utf16 { big_endian } => VariantDecoder::Utf16(Utf16Decoder::new(big_endian)),
+            Scheme::Replacement => VariantDecoder::Replacement(ReplacementDecoder::new()),
         }
     }
 }
@@ -40,6 +61,15 @@ impl<'t> PieceDecoder for VariantDecoder<'t> {
     ghost state = { elim [
       | Utf8 d ↦ ⟦<Utf8Decoder as PieceDecoder>⟧.state d
       | SingleByte d ↦ ⟦<SingleByteDecoder<'t> as PieceDecoder>⟧.state d
+      | Big5 d ↦ ⟦<Big5Decoder<'t> as PieceDecoder>⟧.state d
+      | EucKr d ↦ ⟦<EucKrDecoder<'t> as PieceDecoder>⟧.state d
+      | EucJp d ↦ ⟦<EucJpDecoder<'t> as PieceDecoder>⟧.state d
+      | ShiftJis d ↦ ⟦<ShiftJisDecoder<'t> as PieceDecoder>⟧.state d
+      | Gb18030 d ↦ ⟦<Gb18030Decoder<'t> as PieceDecoder>⟧.state d
+      | Iso2022Jp d ↦ ⟦<Iso2022JpDecoder<'t> as PieceDecoder>⟧.state d
+      | UserDefined d ↦ ⟦<UserDefinedDecoder as PieceDecoder>⟧.state d
+      | Utf16 d ↦ ⟦<Utf16Decoder as PieceDecoder>⟧.state d
+      | Replacement d ↦ ⟦<ReplacementDecoder as PieceDecoder>⟧.state d
     ] };
 
     fn decode_into<S: Sink>(
@@ -51,6 +81,15 @@ impl<'t> PieceDecoder for VariantDecoder<'t> {
         match self {
             VariantDecoder::Utf8(decoder) => decoder.decode_into(src, sink, last),
             VariantDecoder::SingleByte(decoder) => decoder.decode_into(src, sink, last),
+            VariantDecoder::Big5(decoder) => decoder.decode_into(src, sink, last),
+            VariantDecoder::EucKr(decoder) => decoder.decode_into(src, sink, last),
+            VariantDecoder::EucJp(decoder) => decoder.decode_into(src, sink, last),
+            VariantDecoder::ShiftJis(decoder) => decoder.decode_into(src, sink, last),
+            VariantDecoder::Gb18030(decoder) => decoder.decode_into(src, sink, last),
+            VariantDecoder::Iso2022Jp(decoder) => decoder.decode_into(src, sink, last),
+            VariantDecoder::UserDefined(decoder) => decoder.decode_into(src, sink, last),
+            VariantDecoder::Utf16(decoder) => decoder.decode_into(src, sink, last),
+            VariantDecoder::Replacement(decoder) => decoder.decode_into(src, sink, last),
         }
     }
 
@@ -58,6 +97,15 @@ impl<'t> PieceDecoder for VariantDecoder<'t> {
         match self {
             VariantDecoder::Utf8(decoder) => decoder.held_len(),
             VariantDecoder::SingleByte(decoder) => decoder.held_len(),
+            VariantDecoder::Big5(decoder) => decoder.held_len(),
+            VariantDecoder::EucKr(decoder) => decoder.held_len(),
+            VariantDecoder::EucJp(decoder) => decoder.held_len(),
+            VariantDecoder::ShiftJis(decoder) => decoder.held_len(),
+            VariantDecoder::Gb18030(decoder) => decoder.held_len(),
+            VariantDecoder::Iso2022Jp(decoder) => decoder.held_len(),
+            VariantDecoder::UserDefined(decoder) => decoder.held_len(),
+            VariantDecoder::Utf16(decoder) => decoder.held_len(),
+            VariantDecoder::Replacement(decoder) => decoder.held_len(),
         }
     }
 
@@ -65,6 +113,15 @@ impl<'t> PieceDecoder for VariantDecoder<'t> {
         match self {
             VariantDecoder::Utf8(decoder) => decoder.room(),
             VariantDecoder::SingleByte(decoder) => decoder.room(),
+            VariantDecoder::Big5(decoder) => decoder.room(),
+            VariantDecoder::EucKr(decoder) => decoder.room(),
+            VariantDecoder::EucJp(decoder) => decoder.room(),
+            VariantDecoder::ShiftJis(decoder) => decoder.room(),
+            VariantDecoder::Gb18030(decoder) => decoder.room(),
+            VariantDecoder::Iso2022Jp(decoder) => decoder.room(),
+            VariantDecoder::UserDefined(decoder) => decoder.room(),
+            VariantDecoder::Utf16(decoder) => decoder.room(),
+            VariantDecoder::Replacement(decoder) => decoder.room(),
         }
     }
 }

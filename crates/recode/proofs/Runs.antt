@@ -55,11 +55,11 @@ text_are_scalars j x v = text_scalars (input_pieces j x) (are_pieces_of j.tables
 -- nothing was lost where each piece is good and each character has bytes, and only there
 pub faithful_where_kept : (j : Job) (x : List ℕ) → IsValidJob j → AreGood (input_pieces j x) → AllMapped (target_of j) (input_text j x) → Faithful j x
 faithful_where_kept j x v h k =
-    let back = (reads_back_exactly j.tables.now j.to v.tables (input_text j x) (text_are_scalars j x v)).1 k in
+    let back = (reads_back_exactly j.tables.now j.to v.kept v.tables (input_text j x) (text_are_scalars j x v)).1 k in
     record { source = h; target = back.good; same = back.same }
 
 pub kept_where_faithful : (j : Job) (x : List ℕ) → IsValidJob j → Faithful j x → AllMapped (target_of j) (input_text j x)
-kept_where_faithful j x v f = (reads_back_exactly j.tables.now j.to v.tables (input_text j x) (text_are_scalars j x v)).0 (record { good = f.target; same = f.same })
+kept_where_faithful j x v f = (reads_back_exactly j.tables.now j.to v.kept v.tables (input_text j x) (text_are_scalars j x v)).0 (record { good = f.target; same = f.same })
 
 verdict : (j : Job) (x : List ℕ) (b l : ℕ) (f : Bool) → IsValidJob j → b ≡ bad_count (input_pieces j x) → l ≡ lost_count (target_of j) (input_text j x) → f ≡ (b == 0 && l == 0) → IsTrue f ↔ Faithful j x
 verdict j x b l f v bad_is lost_is is = (

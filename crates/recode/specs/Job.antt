@@ -7,7 +7,7 @@ use Rattle.encoding_mem.specs.Items.{Item, trace_from}
 use Rattle.encoding_mem.specs.declared.form.Form.{Form}
 use Rattle.encoding_mem.specs.declared.form.Form.TheVariants.{Mapped, Unmapped}
 use Rattle.encoding_mem.specs.declared.form.Set.TheVariants.{Ascii}
-use Rattle.encoding_front.specs.Encodings.{HasCodec, IsReady, pieces_of, coding_of, output_encoding_of}
+use Rattle.encoding_front.specs.Encodings.{IsReady, KeepsCharacters, pieces_of, coding_of, output_encoding_of}
 use Rattle.encoding_tables.specs.IndexLists.{AreAcceptedTables}
 use Rattle.recode_log.specs.Line.{line_bytes}
 use Rattle.recode_log.specs.declared.line.LogLine.{LogLine}
@@ -15,14 +15,13 @@ use Rattle.recode_log.specs.declared.line.LogLine.TheVariants.{Bad, Lost}
 use Rattle.recode.specs.declared.job.Job.{Job}
 use Rattle.recode.specs.declared.job.Mark.TheVariants.{Keep}
 
--- the indexes of both encodings are there, as they were accepted; for the time being both have a codec; marks are kept;
+-- the indexes of both encodings are there, as they were accepted; for the time being the target has no folds; marks are kept;
 -- the limit is that of the log's places
 pub record IsValidJob (j : Job) : Type 0 where
   pub tables : AreAcceptedTables j.tables.now
   pub from : IsReady j.tables.now j.from
   pub to : IsReady j.tables.now (output_encoding_of j.to)
-  pub from_codec : HasCodec j.from
-  pub to_codec : HasCodec (output_encoding_of j.to)
+  pub kept : KeepsCharacters j.to
   pub mark : j.mark ≡ Keep
   pub limit : j.limit ≤ 2 ^ 48
 

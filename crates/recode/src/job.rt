@@ -34,7 +34,8 @@ impl<'t> Job<'t> {
     ghost use Rattle.recode.specs.Job.{IsValidJob};
 
     /// Whether the job can be run: the indexes that the two encodings need are there, and its limit is at
-    /// most `GREATEST_LIMIT`. So far marks are kept, and both encodings are ones that have a codec.
+    /// most `GREATEST_LIMIT`. So far marks are kept, and what is written has no folds
+    /// (`keeps_characters`).
     pub fn is_valid(&self) -> bool
         ensures { IsTrue result ↔ IsValidJob self.now }
     {
@@ -42,7 +43,6 @@ impl<'t> Job<'t> {
             && self.limit <= GREATEST_LIMIT
             && self.from.is_ready(self.tables)
             && self.to.output_encoding().is_ready(self.tables)
-            && self.from.has_codec()
-            && self.to.output_encoding().has_codec()
+            && self.to.keeps_characters()
     }
 }
