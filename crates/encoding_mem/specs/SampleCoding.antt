@@ -2,6 +2,8 @@
 -- itself in ASCII or Roman, and the rest has no bytes and is referred to in ASCII or Roman.
 use Rattle.std.specs.Prelude.{ℕ, List, [], ◌∷◌, nat_lt, nat_eq, if◌then◌else◌}
 use Rattle.encoding_mem.specs.Coding.{Coding}
+use Rattle.encoding_mem.specs.Room.{line}
+use Rattle.encoding_mem.specs.declared.room.TextRoom.{TextRoom}
 use Rattle.encoding_mem.specs.declared.form.Form.{Form}
 use Rattle.encoding_mem.specs.declared.form.Form.TheVariants.{Mapped, Unmapped}
 use Rattle.encoding_mem.specs.declared.form.Set.{Set}
@@ -30,6 +32,10 @@ sample_form c = if nat_lt c 0x80 then Mapped (c ∷ []) else if nat_eq c 0xA5 th
 
 abbrev pub sample_set : Set → ℕ → Set
 sample_set s c = if nat_eq c 0xA5 then Roman else if nat_eq c 0x3042 then Jis else out_of_jis s
+
+-- more room than is needed
+abbrev pub sample_room : TextRoom
+sample_room = record { units = line 6 3; bytes = line 6 3 }
 
 abbrev pub sample_coding : Coding
 sample_coding = record { form = sample_form; set = sample_set; escape = escape_between }

@@ -1,8 +1,11 @@
 -- The sample is a target of at most three bytes a step.
-use Rattle.std.proofs.Common.{◌≡◌, ℕ, ◌≤◌, Bool, true, false, cond, length, [], refl, lit≤, nat_lt, nat_eq}
-use Rattle.encoding_mem.specs.Coding.{IsCoding, IsShort}
+use Rattle.std.proofs.Common.{◌≡◌, ℕ, ◌+◌, ◌*◌, ◌≤◌, arith, Bool, true, false, cond, length, [], refl, lit≤, nat_lt, nat_eq}
+use Rattle.encoding_mem.specs.Coding.{IsCoding, IsShort, bytes}
+use Rattle.encoding_mem.specs.Room.{cost_in}
+use Rattle.encoding_mem.specs.TextRoom.{IsRoomFor, line_for}
+use Rattle.encoding_mem.specs.TextRoomLaws.{cost_some}
 use Rattle.encoding_mem.specs.StatelessLaws.{short_if, short_one, short_none}
-use Rattle.encoding_mem.specs.SampleCoding.{out_of_jis, escape_between, sample_form, sample_coding}
+use Rattle.encoding_mem.specs.SampleCoding.{out_of_jis, escape_between, sample_form, sample_coding, sample_room}
 use Rattle.encoding_mem.specs.declared.form.Set.{Set}
 use Rattle.encoding_mem.specs.declared.form.Set.TheVariants.{Ascii, Roman, Jis}
 
@@ -43,3 +46,14 @@ sample_coding_laws = record {
   escape_short = short_escape;
   few = lit≤ tt;
 }
+
+each_fits : (t : Bool) (s s' : Set) (c : ℕ) → length (escape_between s s') + length (bytes (sample_form c)) ≤ (line_for sample_room t).factor * cost_in t c
+each_fits true s s' c = omega (arith, short_escape s s', (short_form c).short, cost_some true c)
+each_fits false s s' c = omega (arith, short_escape s s', (short_form c).short, cost_some false c)
+
+last_fits : (t : Bool) (s : Set) → length (escape_between s Ascii) ≤ (line_for sample_room t).extra
+last_fits true s = short_escape s Ascii
+last_fits false s = short_escape s Ascii
+
+pub sample_fits : IsRoomFor sample_coding sample_room
+sample_fits t = record { each = λ s c. each_fits t s (sample_coding.set s c) c; last = last_fits t }

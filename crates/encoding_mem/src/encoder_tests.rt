@@ -1,8 +1,8 @@
 // Encoders into rooms of every size, against outputs worked by hand.
 
 ghost use Rattle.std.specs.Prelude.{◌≤◌, length};
-ghost use Rattle.encoding_mem.specs.SampleCoding.{sample_coding};
-ghost use Rattle.encoding_mem.specs.SampleCodingLaws.{sample_coding_laws};
+ghost use Rattle.encoding_mem.specs.SampleCoding.{sample_coding, sample_room};
+ghost use Rattle.encoding_mem.specs.SampleCodingLaws.{sample_coding_laws, sample_fits};
 
 use crate::encode::{Target, encode};
 use crate::encoder_result::EncoderResult;
@@ -16,11 +16,15 @@ use crate::utf8_encoder::Utf8Encoder;
 struct Sample;
 
 impl Target for Sample {
-    ghost need = { 3 };
+    ghost need = { λ _. 3 };
 
     ghost coding = { λ _. sample_coding };
 
+    ghost limits = { λ _. sample_room };
+
     ghost laws = { λ _. sample_coding_laws };
+
+    ghost fits = { λ _. sample_fits };
 
     fn step(&self, set: Set, c: char) -> (Set, Form) {
         let stays = match set {
@@ -171,4 +175,15 @@ fn escapes_of_units(rt: HostRuntime) {
     let ended = encode(&Sample, &mut set, &mut source, &mut dst, false);
     assert_eq!(rt; ended, (EncoderResult::InputEmpty, 5));
     assert_eq!(rt; (source.read(), set), (1, Set::Jis));
+}
+
+#[test]
+fn room_of_utf_8(rt: HostRuntime) {
+    let encoder = Utf8Encoder::new();
+    let units = encoder.max_buffer_length_from_utf16_without_replacement(5);
+    let bytes = encoder.max_buffer_length_from_utf8_without_replacement(5);
+    assert_eq!(rt; (units, bytes), (Some(15), Some(5)));
+    let too_many = encoder.max_buffer_length_from_utf16_without_replacement(usize::MAX / 2);
+    assert_eq!(rt; too_many, None);
+    assert!(rt; !encoder.has_pending_state());
 }

@@ -12,7 +12,7 @@ use std::alloc::{AllocError, Global};
 use std::borrow::CowStr;
 
 /// Latin1 that is a part of a text, where that is ASCII, or was made of one.
-#[derive(Drop)]
+#[derive(Debug, PartialEq, Eq, Drop)]
 pub enum Latin1Bytes<'a> {
     Borrowed(&'a [u8]),
     Owned(Vec<u8>),

@@ -121,3 +121,46 @@ fn a_long_text_is_decoded_whole(rt: HostRuntime) -> Result<(), Fail> {
     assert_eq!(rt; room.get(..16_000), source.get(..16_000));
     Ok(())
 }
+
+#[test]
+fn a_lead_at_the_end_is_bad_in_units_too(rt: HostRuntime) {
+    let mut units = [0; 2];
+    let answer = Utf8Decoder::new().decode_to_utf16_raw(&[0xC3], &mut units, true);
+    assert_eq!(rt; answer, (DecoderResult::Malformed(1, 0), 1, 0));
+}
+
+#[test]
+fn room_is_told_with_what_is_pending(rt: HostRuntime) {
+    let mut decoder = Utf8Decoder::new();
+    assert_eq!(rt; decoder.max_utf16_buffer_length(4), Some(5));
+    let mut room = [0; 4];
+    let answer = decoder.decode_to_utf8_raw(&[0xE2, 0x82], &mut room, false);
+    assert_eq!(rt; answer, (DecoderResult::InputEmpty, 2, 0));
+    assert_eq!(rt; decoder.max_utf16_buffer_length(4), Some(7));
+    assert_eq!(rt;
+        decoder.max_utf8_buffer_length_without_replacement(4),
+        Some(9)
+    );
+    assert_eq!(rt; decoder.max_utf8_buffer_length(4), Some(21));
+    assert_eq!(rt; decoder.max_utf8_buffer_length(usize::MAX), None);
+    assert_eq!(rt;
+        decoder.max_utf16_buffer_length(usize::MAX - 3),
+        Some(usize::MAX)
+    );
+    assert_eq!(rt; decoder.max_utf16_buffer_length(usize::MAX - 2), None);
+}
+
+#[test]
+fn room_that_is_asked_for_is_enough(rt: HostRuntime) {
+    let src = [0x61, 0xED, 0xA0, 0x80, 0xF0, 0x9F, 0x92, 0xA9];
+    for len in 0..=src.len() {
+        let mut decoder = Utf8Decoder::new();
+        let room = decoder
+            .max_utf8_buffer_length_without_replacement(len)
+            .unwrap_or(0);
+        assert_eq!(rt; room, len + 3);
+        let mut dst = [0; 16];
+        let answer = decoder.decode_to_utf8_raw(&src[..len], &mut dst[..room], true);
+        assert!(rt; answer.0 != DecoderResult::OutputFull, "{len}");
+    }
+}

@@ -1,12 +1,13 @@
 use crate::row::{EMPTY, Row, check_cuts};
 use encoding_front::WINDOWS_1252;
+use encoding_tables::IndexKind;
 use std::alloc::AllocError;
 
 // The euro sign and é.
-const TWO: &[u8] = b"0\t0x20AC\n105\t0x00E9";
+const TWO: &[(IndexKind, &[u8])] = &[(IndexKind::Windows1252, b"0\t0x20AC\n105\t0x00E9")];
 
 // The euro sign, twice.
-const TWICE: &[u8] = b"0\t0x20AC\n1\t0x20AC\n";
+const TWICE: &[(IndexKind, &[u8])] = &[(IndexKind::Windows1252, b"0\t0x20AC\n1\t0x20AC\n")];
 
 const FROM_UTF_8: Row = Row {
     to: WINDOWS_1252,

@@ -1,6 +1,7 @@
 use crate::source::Reads;
 use crate::trial::{LEAST, ROOMY, Trial, WAYS, recode};
 use encoding_front::{Encoding, UTF_8};
+use encoding_tables::IndexKind;
 use recode::Report;
 use std::alloc::AllocError;
 use std::process::Abort;
@@ -10,8 +11,8 @@ use std::process::Abort;
 pub struct Row {
     pub from: Encoding,
     pub to: Encoding,
-    /// The text of the index of windows-1252.
-    pub index: &'static [u8],
+    /// The texts of indexes. Those that are needed beside them are empty.
+    pub index: &'static [(IndexKind, &'static [u8])],
     pub input: &'static [u8],
     pub output: &'static [u8],
     pub log: &'static str,
@@ -23,7 +24,7 @@ pub struct Row {
 pub const EMPTY: Row = Row {
     from: UTF_8,
     to: UTF_8,
-    index: b"",
+    index: &[],
     input: b"",
     output: b"",
     log: "",

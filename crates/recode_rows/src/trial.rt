@@ -56,8 +56,8 @@ pub const WAYS: [Way; 2] = [Way::Run, Way::Steps];
 pub struct Trial {
     pub from: Encoding,
     pub to: Encoding,
-    /// The text of the index of windows-1252.
-    pub index: &'static [u8],
+    /// The texts of indexes. Those that are needed beside them are empty.
+    pub index: &'static [(IndexKind, &'static [u8])],
     pub input: &'static [u8],
     pub limit: u64,
     pub sizes: Sizes,
@@ -75,7 +75,7 @@ impl Trial {
         Trial {
             from: UTF_8,
             to: UTF_8,
-            index: b"",
+            index: &[],
             input,
             limit: GREATEST_LIMIT,
             sizes: ROOMY,
@@ -97,11 +97,21 @@ impl Trial {
         }
     }
 
-    // Tables with the index.
+    // Tables with the indexes.
     fn tables(&self, rt: &(impl Abort + AllocGlobal)) -> Tables {
         let mut tables = Tables::new(rt.alloc());
-        let loaded = load(rt.alloc(), &mut tables, IndexKind::Windows1252, self.index);
-        assert_eq!(rt; loaded, Ok(()));
+        for (kind, text) in self.index {
+            let loaded = load(rt.alloc(), &mut tables, *kind, text);
+            assert_eq!(rt; loaded, Ok(()));
+        }
+        for encoding in [self.from, self.to.output_encoding()] {
+            for kind in encoding.needs() {
+                if !tables.has(*kind) {
+                    let loaded = load(rt.alloc(), &mut tables, *kind, b"");
+                    assert_eq!(rt; loaded, Ok(()));
+                }
+            }
+        }
         tables
     }
 
