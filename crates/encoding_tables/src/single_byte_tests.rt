@@ -139,11 +139,17 @@ fn room_for_what_is_asked(rt: HostRuntime) {
     let tables = tables(rt.alloc());
     assert!(rt; tables.has(KIND));
     let decoder = SingleByteDecoder::new(&tables, KIND);
-    assert_eq!(rt; decoder.max_utf8_buffer_length_without_replacement(4), Some(12));
+    assert_eq!(rt;
+        decoder.max_utf8_buffer_length_without_replacement(4),
+        Some(12)
+    );
     assert_eq!(rt; decoder.max_utf8_buffer_length(4), Some(12));
     assert_eq!(rt; decoder.max_utf16_buffer_length(4), Some(4));
     assert_eq!(rt; decoder.max_utf8_buffer_length(usize::MAX), None);
-    assert_eq!(rt; decoder.max_utf16_buffer_length(usize::MAX), Some(usize::MAX));
+    assert_eq!(rt;
+        decoder.max_utf16_buffer_length(usize::MAX),
+        Some(usize::MAX)
+    );
     let encoder = SingleByteEncoder::new(&tables, KIND);
     let units = encoder.max_buffer_length_from_utf16_without_replacement(5);
     let bytes = encoder.max_buffer_length_from_utf8_without_replacement(5);
