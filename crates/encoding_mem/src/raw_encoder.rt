@@ -4,6 +4,7 @@ ghost use Rattle.std.specs.Char.Utf16.{utf16_lossy_chars};
 ghost use Rattle.encoding_mem.specs.Coding.{Coding, IsCoding};
 ghost use Rattle.encoding_mem.specs.Encoding.{Encodes, Answers};
 ghost use Rattle.encoding_mem.specs.Room.{checked, line_at};
+ghost use Rattle.encoding_mem.specs.Target.{Moves};
 ghost use Rattle.encoding_mem.specs.declared.form.Set.{Set};
 ghost use Rattle.encoding_mem.specs.declared.form.Set.TheVariants.{Ascii};
 ghost use Rattle.encoding_mem.specs.declared.room.TextRoom.{TextRoom};
@@ -41,7 +42,9 @@ pub trait RawEncoder {
         ensures law { Encodes (coding self.old) last result.0 (set self.old) (chars src.now) (take result.2 dst.new) (set self.new) (chars (drop result.1 src.now)) }
         ensures answers { Answers (need self.old) last result.0 (set self.new) (chars (drop result.1 src.now)) (length dst.new - result.2) }
         ensures enough { line_at (limits self.old).bytes (length src.now) ≤ length dst.old → result.0 ≢ EncoderResult.OutputFull }
-        ensures limits { limits self.new ≡ limits self.old };
+        ensures limits { limits self.new ≡ limits self.old }
+        ensures need { need self.new ≡ need self.old }
+        ensures moves { Moves (coding self.old) (set self.old) (set self.new) };
 
     /// Encodes units of UTF-16, in which a surrogate outside a pair is U+FFFD. The slice is read by
     /// itself, and no pair that it holds is parted. Answers as above, with the units read.
@@ -58,7 +61,9 @@ pub trait RawEncoder {
         ensures law { Encodes (coding self.old) last result.0 (set self.old) (utf16_lossy_chars src.now) (take result.2 dst.new) (set self.new) (utf16_lossy_chars (drop result.1 src.now)) }
         ensures answers { Answers (need self.old) last result.0 (set self.new) (utf16_lossy_chars (drop result.1 src.now)) (length dst.new - result.2) }
         ensures enough { line_at (limits self.old).units (length src.now) ≤ length dst.old → result.0 ≢ EncoderResult.OutputFull }
-        ensures limits { limits self.new ≡ limits self.old };
+        ensures limits { limits self.new ≡ limits self.old }
+        ensures need { need self.new ≡ need self.old }
+        ensures moves { Moves (coding self.old) (set self.old) (set self.new) };
 
     /// The room that is enough.
     fn room(&self) -> TextRoom
