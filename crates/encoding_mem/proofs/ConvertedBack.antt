@@ -30,9 +30,9 @@ plain c is small = elim (scalar_cases c is) [
 scalar_back : (c : ℕ) (units : List ℕ) → scalar c ≡ true → utf16_lossy_chars (encode_utf16 c ++ units) ≡ c ∷ utf16_lossy_chars units
 scalar_back c units is = elim (cases_lt c 0x1_0000) [
   | inl small ↦ (let p = plain c is small in
-      rw (lt-ltb c 0x1_0000 small) (one c units (λ q. p.1 0 q.0 q.1) ∙ ap (λ x. x ∷ utf16_lossy_chars units) p.0))
+      rw (lt-ltb c 0x1_0000 small) (one c units (λ q. p.1 0 q.0.0 (omega (arith, q.0))) ∙ ap (λ x. x ∷ utf16_lossy_chars units) p.0))
   | inr great ↦ (let below : c < 0x11_0000 = elim (scalar_cases c is) [ inl low ↦ omega arith | inr high ↦ omega (arith, high.1) ] in
-      rw (le-ltb c 0x1_0000 great) (two _ _ units (omega arith, omega arith, omega arith, omega arith) ∙ ap (λ x. x ∷ utf16_lossy_chars units) (omega arith)))
+      rw (le-ltb c 0x1_0000 great) (two _ _ units ((omega arith, omega arith), (omega arith, omega arith)) ∙ ap (λ x. x ∷ utf16_lossy_chars units) (omega arith)))
 ]
 
 scalars_back : (cs : List ℕ) → all_scalars cs ≡ true → utf16_lossy_chars (encode_utf16_all cs) ≡ cs

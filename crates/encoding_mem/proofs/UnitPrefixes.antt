@@ -3,11 +3,11 @@ use Rattle.std.proofs.Common.{◌≡◌, ℕ, zero, suc, ◌+◌, ◌*◌, ◌-�
 use Rattle.std.specs.Option.{unwrap_or}
 use Rattle.std.specs.Char.{encode_utf8, len_utf8}
 use Rattle.std.specs.Char.Utf16.{utf16_lossy_chars, lone_unit_char, surrogate_pair_char}
-use Rattle.std.proofs.lemmas.Bool.{cases_lt}
 use Rattle.std.proofs.lemmas.Bool.Decides.{nat_tests}
 use Rattle.std.proofs.lemmas.List.{append_cancel_left, append_cancel_right, drop-drop, drop_at, take-take, take_all, get_or-drop, get_or-take, length-take-le}
 use Rattle.std.proofs.lemmas.Str.{utf16_chars_lone, utf16_chars_pair, encodes-append, length-encode, len_utf8_bounds}
-use Rattle.encoding_mem.specs.Conversions.{IsLongest, IsSurrogatePair, IsUnitBoundary, units_in_utf8}
+use Rattle.encoding_mem.specs.Conversions.{IsLongest, IsUnitBoundary, units_in_utf8}
+use Rattle.encoding_mem.specs.Surrogates.{IsSurrogatePair}
 use Rattle.encoding_mem.specs.Coding.{output}
 use Rattle.encoding_mem.specs.Encoding.{Encodes}
 use Rattle.encoding_mem.specs.EncodingLaws.{encoded_bytes, utf8_output}
@@ -16,28 +16,23 @@ use Rattle.encoding_mem.specs.declared.encoder_result.EncoderResult.{EncoderResu
 use Rattle.encoding_mem.specs.declared.encoder_result.EncoderResult.TheVariants.{InputEmpty, OutputFull, Unmappable}
 use Rattle.encoding_mem.specs.declared.form.Set.TheVariants.{Ascii}
 use Rattle.encoding_mem.proofs.Prefixes.{over, reads_whole}
+use Rattle.encoding_mem.proofs.LoneSurrogates.{cases_high, cases_low}
 use Rattle.encoding_mem.proofs.Units.{no_units, lone_unit, pair_of_units}
 
 pub pair_or_not : (u v : ℕ) → IsSurrogatePair u v ⊎ (¬ (IsSurrogatePair u v))
-pair_or_not u v = elim (cases_lt u 0xD800) [
-  | inl a ↦ inr (λ p. absurd (omega arith))
-  | inr a ↦ elim (cases_lt u 0xDC00) [
-    | inr b ↦ inr (λ p. absurd (omega arith))
-    | inl b ↦ elim (cases_lt v 0xDC00) [
-      | inl d ↦ inr (λ p. absurd (omega arith))
-      | inr d ↦ elim (cases_lt v 0xE000) [ inl e ↦ inl (a, b, d, e) | inr e ↦ inr (λ p. absurd (omega arith)) ]
-    ]
-  ]
+pair_or_not u v = elim (cases_high u) [
+  | inl high ↦ elim (cases_low v) [ inl low ↦ inl (high, low) | inr other ↦ inr (λ p. other p.1) ]
+  | inr other ↦ inr (λ p. other p.0)
 ]
 
 abbrev pub char_of : ℕ → ℕ
 char_of u = unwrap_or (lone_unit_char u) 0xFFFD
 
 pub one : (u : ℕ) (us : List ℕ) → ¬ (IsSurrogatePair u (get_or us 0 0)) → utf16_lossy_chars (u ∷ us) ≡ char_of u ∷ utf16_lossy_chars us
-one u us apart = ap (map (λ o. unwrap_or o 0xFFFD)) (utf16_chars_lone u us apart)
+one u us apart = ap (map (λ o. unwrap_or o 0xFFFD)) (utf16_chars_lone u us (λ p. apart ((p.0, omega arith), (p.2, omega arith))))
 
 pub two : (u v : ℕ) (us : List ℕ) → IsSurrogatePair u v → utf16_lossy_chars (u ∷ v ∷ us) ≡ surrogate_pair_char u v ∷ utf16_lossy_chars us
-two u v us p = ap (map (λ o. unwrap_or o 0xFFFD)) (utf16_chars_pair u v us p)
+two u v us p = ap (map (λ o. unwrap_or o 0xFFFD)) (utf16_chars_pair u v us (p.0.0, omega arith, p.1.0, omega arith))
 
 head_of : (u i : ℕ) (us : List ℕ) → IsSurrogatePair u (get_or (take i us) 0 0) → IsSurrogatePair u (get_or us 0 0)
 head_of u zero us p = absurd (omega arith)

@@ -1,15 +1,10 @@
 -- What conversions read and write.
-use Rattle.std.specs.Prelude.{◌≡◌, ℕ, ◌+◌, ◌%◌, ◌<◌, ◌≤◌, List, length, map, take, slice_index}
-use Rattle.std.specs.Str.{IsAscii, chars, encode_utf8_all}
+use Rattle.std.specs.Prelude.{◌≡◌, ℕ, ◌+◌, ◌%◌, ◌<◌, ◌≤◌, List, map, take, slice_index}
+use Rattle.std.specs.Str.{chars, encode_utf8_all}
 use Rattle.std.specs.Str.Lossy.{utf8_valid_len}
 use Rattle.std.specs.Char.Utf16.{utf16_lossy_chars}
+use Rattle.encoding_mem.specs.Surrogates.{IsSurrogatePair}
 use Rattle.encoding_mem.specs.Writing.{encode_utf16_all}
-
--- the length of the ASCII at the front
-pub record IsAsciiPrefix (units : List ℕ) (n : ℕ) : Type 0 where
-  pub within : n ≤ length units
-  pub ascii : IsAscii (take n units)
-  pub ends : n < length units → 0x80 ≤ slice_index units n
 
 -- the low eight bits of each unit
 abbrev pub low_bytes : List ℕ → List ℕ
@@ -29,10 +24,6 @@ pub record IsLongest (Whole : ℕ → Type 0) (size : ℕ → ℕ) (len room n :
   pub whole : Whole n
   pub fits : size n ≤ room
   pub longest : (i : ℕ) → n < i → i ≤ len → Whole i → room < size i
-
--- the two units of one character
-abbrev pub IsSurrogatePair : ℕ → ℕ → Type 0
-IsSurrogatePair u v = (0xD800 ≤ u) × (u < 0xDC00) × (0xDC00 ≤ v) × (v < 0xE000)
 
 -- a place in units of UTF-16 that is not between the two of a surrogate pair
 abbrev pub IsUnitBoundary : List ℕ → ℕ → Type 0

@@ -9,6 +9,10 @@ IsHighSurrogate u = IsInRange 0xD800 0xDBFF u
 abbrev pub IsLowSurrogate : ℕ → Type 0
 IsLowSurrogate u = IsInRange 0xDC00 0xDFFF u
 
+-- the two units of one character
+abbrev pub IsSurrogatePair : ℕ → ℕ → Type 0
+IsSurrogatePair u v = IsHighSurrogate u × IsLowSurrogate v
+
 -- the unit at i is a surrogate with no partner: a first one that no second one follows, or a second one
 -- that follows no first one
 abbrev pub IsLoneSurrogate : List ℕ → ℕ → Type 0

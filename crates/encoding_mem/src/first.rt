@@ -25,7 +25,7 @@ pub(crate) fn first_byte_from(bytes: &[u8], limit: u8) -> usize
     ensures ends { result < length bytes.now → limit ≤ slice_index bytes.now result }
 {
     let mut at = 0;
-    'runs: while bytes.len() - at >= BLOCK {
+    'runs: while bytes.len() - at >= BLOCK && bytes[at] < limit {
         if !all_bytes_below(&bytes[at..at + BLOCK], limit) {
             break;
         }
@@ -56,7 +56,7 @@ pub(crate) fn first_unit_from(units: &[u16], limit: u16) -> usize
     ensures ends { result < length units.now → limit ≤ slice_index units.now result }
 {
     let mut at = 0;
-    'runs: while units.len() - at >= BLOCK {
+    'runs: while units.len() - at >= BLOCK && units[at] < limit {
         if !all_units_below(&units[at..at + BLOCK], limit) {
             break;
         }

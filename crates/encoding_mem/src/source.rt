@@ -9,6 +9,7 @@ ghost use Rattle.encoding_mem.specs.Writing.{len_utf16};
 ghost use Rattle.encoding_mem.specs.TextRoomLaws.{sum_within};
 
 use crate::ascii::ascii_front;
+use crate::ascii_copies::copy_basic_latin_to_ascii;
 
 /// A source of characters: a list of bytes or units, which stays as it is, and a place in it.
 pub trait Source {
@@ -66,7 +67,7 @@ pub trait Source {
 }
 
 // The first character of a text, and what follows it.
-fn first_char(text: &str) -> Option<(char, &str)>
+pub(crate) fn first_char(text: &str) -> Option<(char, &str)>
     ensures chars { MatchOption result (chars text.now ≡ []) (λ p. chars text.now ≡ p.0 ∷ chars p.1.now) }
     ensures bytes { IfSome result (λ p. text.now ≡ encode_utf8 p.0 ++ p.1.now) }
     ensures boundary { IfSome result (λ p. IsCharBoundary text.now (len_utf8 p.0)) }
@@ -203,12 +204,7 @@ fn narrow_ascii(units: &[u16], dst: &mut [u8]) -> usize
     ensures longest { result < length units.now → result < length dst.old → 0x80 ≤ slice_index units.now result }
 {
     let end = units.len().min(dst.len());
-    let mut n = 0;
-    'units: while n < end && units[n] < 0x80 {
-        dst[n] = units[n] as u8;
-        n += 1;
-    }
-    n
+    copy_basic_latin_to_ascii(&units[..end], dst)
 }
 
 /// The characters of units of UTF-16, read from their start. A surrogate in no pair is U+FFFD.
