@@ -1,8 +1,15 @@
 -- Examples of the checks and the conversions of texts, worked by hand.
-use Rattle.std.specs.Prelude.{◌≡◌, true, false, [], ◌∷◌, refl}
-use Rattle.std.specs.Str.{chars}
+use Rattle.std.proofs.Common.{◌≡◌, ℕ, zero, suc, ◌+◌, ◌<◌, ◌≤◌, true, false, inl, inr, List, [], ◌∷◌, length, take, refl, subst, arith}
+use Rattle.std.specs.Prelude.{slice_index}
+use Rattle.std.specs.Char.{encode_utf8}
+use Rattle.std.specs.Char.Utf16.{utf16_chars}
+use Rattle.std.specs.Str.{chars, is_utf8, IsAscii, IsUtf8}
+use Rattle.std.specs.Str.Lossy.{utf8_valid_len}
+use Rattle.std.proofs.lemmas.Str.{utf8_valid_len-IsUtf8}
 use Rattle.encoding_mem.specs.Bidi.{is_bidi_char, is_bidi_unit}
-use Rattle.encoding_mem.specs.Conversions.{low_bytes}
+use Rattle.encoding_mem.specs.Conversions.{IsLongest, IsUnitBoundary, low_bytes, units_in_utf8, text_in_utf16}
+use Rattle.encoding_mem.specs.LongestPrefix.{IsLongestPrefix}
+use Rattle.encoding_mem.specs.Surrogates.{IsHighSurrogate, IsLoneSurrogate, IsMended}
 use Rattle.encoding_mem.specs.TextDestination.{cleared}
 
 -- the edges of a block, and the character before the first one
@@ -44,3 +51,121 @@ letter_stays = refl
 -- the low eight bits of U+0141 are those of `A`
 pub high_bits_are_lost : low_bytes (0x141 ∷ 0xE9 ∷ []) ≡ 0x41 ∷ 0xE9 ∷ []
 high_bits_are_lost = refl
+
+-- a surrogate in no pair is U+FFFD, and a pair is one character
+pub units_as_bytes : units_in_utf8 (0x41 ∷ 0xDCA9 ∷ 0xD83D ∷ 0xDCA9 ∷ 0xD83D ∷ [])
+    ≡ 0x41 ∷ 0xEF ∷ 0xBF ∷ 0xBD ∷ 0xF0 ∷ 0x9F ∷ 0x92 ∷ 0xA9 ∷ 0xEF ∷ 0xBF ∷ 0xBD ∷ []
+unfolding utf16_chars encode_utf8
+units_as_bytes = refl
+
+pub text_as_units : text_in_utf16 (0x41 ∷ 0xE2 ∷ 0x82 ∷ 0xAC ∷ 0xF0 ∷ 0x9F ∷ 0x92 ∷ 0xA9 ∷ []) ≡ 0x41 ∷ 0x20AC ∷ 0xD83D ∷ 0xDCA9 ∷ []
+unfolding chars
+text_as_units = refl
+
+three_or_four : 3 < 4
+three_or_four = omega arith
+
+abbrev bytes_before : List ℕ → ℕ → ℕ
+bytes_before units i = length (units_in_utf8 (take i units))
+
+-- `A€` into three bytes: the three of the euro sign do not fit behind the letter.
+abbrev letter_and_euro : List ℕ
+letter_and_euro = 0x41 ∷ 0x20AC ∷ []
+
+euro_is_the_rest : (i : ℕ) → 1 < i → i ≤ 2 → 2 ≡ i
+euro_is_the_rest i more le = omega arith
+
+pub letter_fits_alone : IsLongest (IsUnitBoundary letter_and_euro) (bytes_before letter_and_euro) 2 3 1
+unfolding utf16_chars encode_utf8
+letter_fits_alone = record {
+  within = omega arith;
+  whole = λ k e p. absurd (omega (arith, p.1));
+  fits = omega arith;
+  longest = λ i more le _. subst (λ n. 3 < bytes_before letter_and_euro n) (euro_is_the_rest i more le) three_or_four;
+}
+
+-- The two units of U+1F4A9 into three bytes: it needs four, and the pair is not parted.
+abbrev pair : List ℕ
+pair = 0xD83D ∷ 0xDCA9 ∷ []
+
+longer_than_none : (i : ℕ) → 0 < i → i ≤ 2 → IsUnitBoundary pair i → 3 < bytes_before pair i
+unfolding utf16_chars encode_utf8
+longer_than_none zero more le whole = absurd (omega arith)
+longer_than_none (suc zero) more le whole = absurd (whole 0 refl ((omega arith, omega arith), (omega arith, omega arith)))
+longer_than_none (suc (suc zero)) more le whole = three_or_four
+longer_than_none (suc (suc (suc i))) more le whole = absurd (omega arith)
+
+pub pair_is_not_parted : IsLongest (IsUnitBoundary pair) (bytes_before pair) 2 3 0
+unfolding utf16_chars
+pair_is_not_parted = record {
+  within = omega arith;
+  whole = λ k e. absurd (omega arith);
+  fits = omega arith;
+  longest = longer_than_none;
+}
+
+-- The ASCII at the front of `Aé`.
+abbrev letter_and_accent : List ℕ
+letter_and_accent = 0x41 ∷ 0xC3 ∷ 0xA9 ∷ []
+
+all_of_letter : (i : ℕ) → slice_index (0x41 ∷ []) i < 0x80
+all_of_letter zero = omega arith
+all_of_letter (suc i) = omega arith
+
+accent_is_none : (m : ℕ) → 1 < m → m ≤ 3 → ¬ (IsAscii (take m letter_and_accent))
+accent_is_none zero more le ascii = absurd (omega arith)
+accent_is_none (suc zero) more le ascii = absurd (omega arith)
+accent_is_none (suc (suc m)) more le ascii = let first = ascii 1 in absurd (omega arith)
+
+pub ascii_ends_before_the_accent : IsLongestPrefix IsAscii letter_and_accent 1
+ascii_ends_before_the_accent = record { within = omega arith; good = all_of_letter; longest = accent_is_none }
+
+-- The text at the front of a letter and a cut sequence.
+abbrev letter_and_cut : List ℕ
+letter_and_cut = 0x41 ∷ 0xE2 ∷ 0x82 ∷ []
+
+text_in_cut : utf8_valid_len (0x41 ∷ 0xE2 ∷ []) ≡ 1
+unfolding utf8_valid_len is_utf8 chars encode_utf8
+text_in_cut = refl
+
+text_in_longer_cut : utf8_valid_len letter_and_cut ≡ 1
+unfolding utf8_valid_len is_utf8 chars encode_utf8
+text_in_longer_cut = refl
+
+cut_is_none : (m : ℕ) → 1 < m → m ≤ 3 → ¬ (IsUtf8 (take m letter_and_cut))
+cut_is_none zero more le utf8 = absurd (omega arith)
+cut_is_none (suc zero) more le utf8 = absurd (omega arith)
+cut_is_none (suc (suc zero)) more le utf8 = absurd (omega (arith, text_in_cut, utf8_valid_len-IsUtf8 (0x41 ∷ 0xE2 ∷ []) utf8))
+cut_is_none (suc (suc (suc zero))) more le utf8 = absurd (omega (arith, text_in_longer_cut, utf8_valid_len-IsUtf8 letter_and_cut utf8))
+cut_is_none (suc (suc (suc (suc m)))) more le utf8 = absurd (omega arith)
+
+pub text_ends_before_the_cut : IsLongestPrefix IsUtf8 letter_and_cut 1
+unfolding encode_utf8
+text_ends_before_the_cut = record { within = omega arith; good = (0x41 ∷ [], (refl, refl)); longest = cut_is_none }
+
+-- Each surrogate of a high one, a letter and a low one is alone.
+abbrev parted : List ℕ
+parted = 0xD83D ∷ 0x41 ∷ 0xDCA9 ∷ []
+
+abbrev mended : List ℕ
+mended = 0xFFFD ∷ 0x41 ∷ 0xFFFD ∷ []
+
+mended_where_alone : (i : ℕ) → IsLoneSurrogate parted i → slice_index mended i ≡ 0xFFFD
+mended_where_alone zero alone = refl
+mended_where_alone (suc zero) alone = elim alone [ inl high ↦ absurd (omega (arith, high.0)) | inr low ↦ absurd (omega (arith, low.0)) ]
+mended_where_alone (suc (suc zero)) alone = refl
+mended_where_alone (suc (suc (suc i))) alone = elim alone [ inl high ↦ absurd (omega (arith, high.0)) | inr low ↦ absurd (omega (arith, low.0)) ]
+
+others_stay : (i : ℕ) → ¬ (IsLoneSurrogate parted i) → slice_index mended i ≡ slice_index parted i
+others_stay zero paired = absurd (paired (inl ((omega arith, omega arith), λ low. absurd (omega (arith, low)))))
+others_stay (suc zero) paired = refl
+others_stay (suc (suc zero)) paired = absurd (paired (inr ((omega arith, omega arith), behind_the_letter)))
+  where
+    behind_the_letter : (k : ℕ) → k + 1 ≡ 2 → ¬ (IsHighSurrogate (slice_index parted k))
+    behind_the_letter zero e high = absurd (omega arith)
+    behind_the_letter (suc zero) e high = absurd (omega (arith, high))
+    behind_the_letter (suc (suc k)) e high = absurd (omega arith)
+others_stay (suc (suc (suc i))) paired = refl
+
+pub both_are_mended : IsMended parted mended
+both_are_mended = record { same_length = refl; lone = mended_where_alone; others = others_stay }
