@@ -1,12 +1,15 @@
 -- Prefixes of bytes that are text.
-use Rattle.std.proofs.Common.{◌≡◌, ℕ, ◌+◌, ◌-◌, ◌<◌, ◌≤◌, inl, inr, List, [], ◌∷◌, ◌++◌, length, take, drop, sym, ◌∙◌, ap, subst, arith, append_assoc, length-drop, encode_utf8_all}
-use Rattle.std.specs.Str.{chars, IsUtf8, IsCharBoundary}
-use Rattle.std.proofs.lemmas.List.{append_cancel_left, append_cancel_right, take-append-drop, take-take, get_or-take, length-take-le}
-use Rattle.std.proofs.lemmas.Str.{chars-append, chars_past_char, IsUtf8-take, IsUtf8-drop, IsCharBoundary-from_take, utf8_valid_len_le}
+use Rattle.std.proofs.Common.{◌≡◌, ℕ, suc, ◌+◌, ◌-◌, ◌<◌, ◌≤◌, inl, inr, List, [], ◌∷◌, ◌++◌, length, take, drop, refl, sym, ◌∙◌, ap, subst, arith, append_assoc, length-drop, encode_utf8_all}
+use Rattle.std.specs.Char.{encode_utf8, len_utf8}
+use Rattle.std.specs.Str.{chars, IsAscii, IsUtf8, IsCharBoundary}
+use Rattle.std.proofs.Math.Seq.{take-add}
+use Rattle.std.proofs.lemmas.List.{append_cancel_left, append_cancel_right, take-append-drop, take-take, take_at, append-nil, get_or-take, length-take-le}
+use Rattle.std.proofs.lemmas.Str.{chars-append, chars-nil, chars-IsAscii, chars_past_char, length-encode, IsUtf8-take, IsUtf8-drop, IsCharBoundary-from_take, IsCharBoundary-from_rest, IsCharBoundary-past_char, len_utf8_bounds, utf8_valid_len_le}
 use Rattle.std.specs.Str.Lossy.{utf8_valid_len}
-use Rattle.std.proofs.lemmas.Bool.{cases_lt}
+use Rattle.std.proofs.lemmas.Bool.{cases_lt, lt-ltb}
 use Rattle.encoding_mem.specs.Conversions.{IsLongest, text_in_utf16, text_front}
-use Rattle.encoding_mem.specs.Writing.{len_utf16, encode_utf16_all}
+use Rattle.encoding_mem.specs.Writing.{Adds, len_utf16, encode_utf16_all}
+use Rattle.encoding_mem.specs.WritingLaws.{adds_none, adds_encoded16}
 use Rattle.encoding_mem.proofs.Prefixes.{over16}
 
 pub chars_at : (text : List ℕ) (n : ℕ) → IsUtf8 text → IsCharBoundary text n → chars text ≡ chars (take n text) ++ chars (drop n text)
@@ -21,6 +24,57 @@ chars_step text n m c d rest utf8 b e at next =
     sym (chars_at text m utf8 e) ∙ chars_at text n utf8 b ∙ ap (λ l. chars (take n text) ++ l) (next ∙ ap (λ x. x ∷ chars (drop m text)) same)
     ∙ sym (append_assoc (chars (take n text)) (c ∷ []) (chars (drop m text))) in
     append_cancel_right (chars (take m text)) (chars (take n text) ++ (c ∷ [])) (chars (drop m text)) all
+
+-- A part further, of what follows the front.
+pub part_boundary : (text rest : List ℕ) (i n : ℕ) → IsCharBoundary text i → rest ≡ drop i text → IsCharBoundary rest n → IsCharBoundary text (i + n)
+part_boundary text rest i n b at d = IsCharBoundary-from_rest text i n b.0 (subst (λ r. IsCharBoundary r n) at d)
+
+chars_part : (text rest : List ℕ) (i n : ℕ) → IsUtf8 text → IsCharBoundary text i → rest ≡ drop i text → chars (take (i + n) text) ≡ chars (take i text) ++ chars (take n rest)
+chars_part text rest i n utf8 b at =
+    ap chars (take-add i n text ∙ ap (λ l. take i text ++ take n l) (sym at)) ∙ chars-append (take i text) (take n rest) (IsUtf8-take text i utf8 b)
+
+-- the first character alone
+pub first_alone : (rest more : List ℕ) (c n : ℕ) → IsUtf8 rest → rest ≡ encode_utf8 c ++ more → n ≡ len_utf8 c → IsCharBoundary rest n → chars (take n rest) ≡ c ∷ []
+first_alone rest more c n utf8 is len b =
+    let front : take n rest ≡ encode_utf8 c ++ [] = ap (take n) is ∙ take_at (encode_utf8 c) more n (length-encode c ∙ sym len) ∙ sym (append-nil (encode_utf8 c)) in
+    chars_past_char (take n rest) [] c (IsUtf8-take rest n utf8 b) front ∙ ap (λ l. c ∷ l) chars-nil
+
+-- a run of ASCII is its own units
+in_utf16 : (run : List ℕ) → IsAscii run → encode_utf16_all run ≡ run
+in_utf16 [] low = refl
+in_utf16 (b ∷ run) low = let small : b < 0x1_0000 = omega (arith, low 0) in rw (lt-ltb b 0x1_0000 small) (ap (λ l. b ∷ l) (in_utf16 run (λ k. low (suc k))))
+
+pub ascii_in_utf16 : (run : List ℕ) → IsAscii run → text_in_utf16 run ≡ run
+ascii_in_utf16 run low = ap encode_utf16_all (chars-IsAscii run low) ∙ in_utf16 run low
+
+-- what is written of a text in UTF-16: nothing yet, and a part further
+pub adds_start : (text old : List ℕ) (count : ℕ) → count ≤ length old → Adds old count (text_in_utf16 (take 0 text)) old count
+adds_start text old count within = subst (λ cs. Adds old count (encode_utf16_all cs) old count) (sym chars-nil) (adds_none old count within)
+
+pub adds_part : (text rest old : List ℕ) (count : ℕ) (mid : List ℕ) (m : ℕ) (new : List ℕ) (k i n : ℕ) → IsUtf8 text → IsCharBoundary text i → rest ≡ drop i text
+    → Adds old count (text_in_utf16 (take i text)) mid m → Adds mid m (text_in_utf16 (take n rest)) new k → Adds old count (text_in_utf16 (take (i + n) text)) new k
+adds_part text rest old count mid m new k i n utf8 b at h j =
+    subst (λ cs. Adds old count (encode_utf16_all cs) new k) (sym (chars_part text rest i n utf8 b at))
+    (adds_encoded16 old count (chars (take i text)) (chars (take n rest)) mid m new k h j)
+
+-- and all of it, where nothing is left
+pub all_read : (text rest : List ℕ) (i : ℕ) → IsUtf8 text → IsCharBoundary text i → rest ≡ drop i text → chars rest ≡ [] → chars (take i text) ≡ chars text
+all_read text rest i utf8 b at none =
+    sym (append-nil (chars (take i text))) ∙ ap (λ l. chars (take i text) ++ l) (sym none ∙ ap chars at) ∙ sym (chars_at text i utf8 b)
+
+-- the last place between characters in four bytes or more is behind the first character or later
+pub some_cut : (text : List ℕ) (n most : ℕ) → IsUtf8 text → 0 < length text → 4 ≤ most → ((i : ℕ) → n < i → i ≤ most → ¬ (IsCharBoundary text i)) → 0 < n
+some_cut text n most utf8 some wide nearest = of_list utf8.0 utf8.1.1
+  where
+    of_list : (cs : List ℕ) → encode_utf8_all cs ≡ text → 0 < n
+    of_list [] is = let l : 0 ≡ length text = ap length is in absurd (omega arith)
+    of_list (c ∷ cs) is = elim (cases_lt 0 n) [
+      | inl more ↦ more
+      | inr none ↦
+          let size = len_utf8_bounds c in
+          let next = IsCharBoundary-past_char text (encode_utf8_all cs) 0 c (omega arith) utf8 (sym is) in
+          absurd (nearest (0 + len_utf8 c) (omega (arith, size.0)) (omega (arith, size.1)) next)
+    ]
 
 -- text begins with a character
 begins : (text : List ℕ) → IsUtf8 text → 0 < length text → (c : ℕ) × (more : List ℕ) × (chars text ≡ c ∷ chars more)

@@ -1,9 +1,14 @@
 ghost use Rattle.std.specs.Prelude.{true, ◌≡◌, ◌-◌, ◌<◌, ◌≤◌, ◌∷◌, [], length, refl};
 ghost use Rattle.std.proofs.Common.{◌∙◌};
+ghost use Rattle.encoding_mem.specs.Conversions.{text_in_utf16};
 ghost use Rattle.encoding_mem.specs.Writing.{Adds, len_utf16, encode_utf16_all};
 ghost use Rattle.encoding_mem.specs.WritingLaws.{adds_none, adds_encoded16, cost_fits16, cost_two16};
 
+use crate::latin1_conversions::convert_latin1_to_utf16;
 use crate::sink::Sink;
+
+// How many bytes of a text are put at a time, as units where all of them are ASCII.
+const BLOCK: usize = 64;
 
 /// A destination in UTF-16, which is filled from its front.
 #[derive(Drop)]
@@ -30,6 +35,41 @@ impl<'a> Utf16Sink<'a> {
     {
         self.units[self.written] = unit;
         self.written += 1;
+    }
+
+    // Puts each byte as a unit.
+    fn put_bytes(&mut self, bytes: &[u8])
+        requires { length bytes.now ≤ length self.old.units.now - self.old.written }
+        ensures same_reference { self.new.units.ghost_name ≡ self.old.units.ghost_name }
+        ensures adds { Adds self.old.units.now self.old.written bytes.now self.new.units.now self.new.written }
+    {
+        let end = self.written + bytes.len();
+        convert_latin1_to_utf16(bytes, &mut self.units[self.written..end]);
+        self.written = end;
+    }
+
+    // Puts each character of a text.
+    fn put_chars(&mut self, text: &str)
+        requires { length text.now ≤ length self.old.units.now - self.old.written }
+        ensures same_reference { self.new.units.ghost_name ≡ self.old.units.ghost_name }
+        ensures adds { Adds self.old.units.now self.old.written (text_in_utf16 text.now) self.new.units.now self.new.written }
+    {
+        for c in text.chars() {
+            self.put(c);
+        }
+    }
+
+    // Puts a text, at once if it is ASCII.
+    fn put_block(&mut self, text: &str)
+        requires { length text.now ≤ length self.old.units.now - self.old.written }
+        ensures same_reference { self.new.units.ghost_name ≡ self.old.units.ghost_name }
+        ensures adds { Adds self.old.units.now self.old.written (text_in_utf16 text.now) self.new.units.now self.new.written }
+    {
+        if text.is_ascii() {
+            self.put_bytes(text.as_bytes());
+        } else {
+            self.put_chars(text);
+        }
     }
 }
 
@@ -70,8 +110,12 @@ impl<'a> Sink for Utf16Sink<'a> {
     }
 
     fn put_text(&mut self, text: &str) {
-        for c in text.chars() {
-            self.put(c);
+        let mut read = 0;
+        'parts: while read < text.len() {
+            let rest = &text[read..];
+            let block = &rest[..rest.floor_char_boundary(BLOCK)];
+            self.put_block(block);
+            read += block.len();
         }
     }
 

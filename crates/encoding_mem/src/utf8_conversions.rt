@@ -11,7 +11,7 @@ ghost use Rattle.encoding_mem.specs.Writing.{len_utf16, encode_utf16_all};
 use crate::decoder_result::DecoderResult;
 use crate::piece_decoder::PieceDecoder;
 use crate::sink::Sink;
-use crate::source::{Source, Utf8Source};
+use crate::source::first_char;
 use crate::utf8::Utf8Decoder;
 use crate::utf16_sink::Utf16Sink;
 
@@ -93,15 +93,23 @@ fn put_prefix<'a>(text: &str, sink: &mut Utf16Sink<'a>) -> usize
     ensures next { (c : ℕ) (rest : List ℕ) → chars (drop result text.now) ≡ c ∷ rest
         → ⟦<Utf16Sink<'a> as Sink>⟧.free sink.new < len_utf16 c }
 {
-    let mut source = Utf8Source::new(text);
-    'characters: while let Some((c, _)) = source.peek() {
-        if !sink.fits(c) {
-            return source.read();
+    let mut read = 0;
+    'parts: loop {
+        let rest = &text[read..];
+        let sure = rest.floor_char_boundary(sink.free_len());
+        if sure > 0 {
+            sink.put_text(&rest[..sure]);
+            read += sure;
+            continue;
         }
-        sink.put(c);
-        source.advance();
+        match first_char(rest) {
+            Some((c, _)) if sink.fits(c) => {
+                sink.put(c);
+                read += c.len_utf8();
+            }
+            _ => return read,
+        }
     }
-    source.read()
 }
 
 // Puts the text of bytes, with U+FFFD for each broken part.

@@ -1,11 +1,12 @@
 // The encoder of UTF-8.
 
-ghost use Rattle.std.specs.Prelude.{◌≡◌, ◌≢◌, ℕ, ◌+◌, ◌-◌, ◌<◌, ◌≤◌, length, take, drop};
+ghost use Rattle.std.specs.Prelude.{true, ◌≡◌, ◌≢◌, ℕ, ◌+◌, ◌-◌, ◌<◌, ◌≤◌, length, take, drop};
 ghost use Rattle.std.specs.Str.{chars, IsCharBoundary};
 ghost use Rattle.std.specs.Char.{encode_utf8};
 ghost use Rattle.std.specs.Char.Utf16.{utf16_lossy_chars};
 ghost use Rattle.encoding_mem.specs.Encoding.{Encodes, Answers};
 ghost use Rattle.encoding_mem.specs.Room.{line_at};
+ghost use Rattle.encoding_mem.specs.Target.{CopiesAscii};
 ghost use Rattle.encoding_mem.specs.TextRoom.{text_room_utf8};
 ghost use Rattle.encoding_mem.specs.TextRoomLaws.{utf8_room};
 ghost use Rattle.encoding_mem.specs.Utf8Coding.{utf8_coding, NextIsTooLong};
@@ -63,7 +64,10 @@ impl Target for Utf8 {
         (Set::Ascii, Form::Mapped(bytes_of_char(c)))
     }
 
-    fn copies_ascii(&self, set: Set) -> bool {
+    fn copies_ascii(&self, set: Set) -> bool
+        ensures copies { result ≡ true → CopiesAscii utf8_coding set }
+        ensures ascii { set ≡ Ascii → result ≡ true }
+    {
         matches!(set, Set::Ascii)
     }
 

@@ -1,35 +1,52 @@
-use Rattle.std.proofs.Common.{◌≡◌, ◌∙◌, [], ◌∷◌, take, drop, sym, ap, subst, refl}
-use Rattle.std.specs.Str.{chars, IsUtf8, IsCharBoundary}
-use Rattle.std.proofs.lemmas.Str.{chars-nil}
+use Rattle.std.proofs.Common.{◌≡◌, ◌-◌, ◌∙◌, take, refl, subst, sym, ap, arith}
+use Rattle.std.specs.Str.{IsCharBoundary}
+use Rattle.std.proofs.lemmas.Str.{IsCharBoundary-start}
+use Rattle.encoding_mem.specs.Conversions.{text_in_utf16}
 use Rattle.encoding_mem.specs.Writing.{Adds, encode_utf16_all}
-use Rattle.encoding_mem.specs.WritingLaws.{adds_none, adds_encoded16}
-use Rattle.encoding_mem.proofs.Utf8Prefixes.{chars_step}
+use Rattle.encoding_mem.proofs.Utf8Prefixes.{part_boundary, first_alone, adds_start, adds_part}
 use Rattle.encoding_mem.proofs.utf8_conversions.put_prefix.Goals as goal
 
-pub characters-init : goal.characters-init
-characters-init c =
-    let s = c.args.sink.now in
-    let none : chars (take c.new-source.result.read c.new-source.result.text.now) ≡ [] = ap (λ n. chars (take n c.new-source.result.text.now)) c.new-source.ensures.read ∙ chars-nil in
+pub parts-init : goal.parts-init
+parts-init c = record {
+  boundary = IsCharBoundary-start _ c.utf8.text;
+  same = refl;
+  adds = adds_start c.args.text.now _ _ c.args.sink.now.within;
+}
+
+pub parts-preserved-then-sure-gt0 : goal.parts-preserved-then-sure-gt0
+parts-preserved-then-sure-gt0 c =
+    let i = c.parts.invariant in
+    let n = c.floor_char_boundary-sure.result in
+    let at = c.range_from-rest.ensures.value in
+    let w = c.put_text.ensures.writes in
+    let old = c.parts.sink in
+    let s = c.put_text.new.self in
+    let all : n - 0 ≡ n = omega arith in
+    let part = c.range.ensures.value ∙ ap (λ k. take k c.range_from-rest.result.now) all in
+    let wrote : Adds old.units.now old.written (text_in_utf16 (take n c.range_from-rest.result.now)) s.units.now s.written =
+    subst (λ t. Adds old.units.now old.written (text_in_utf16 t) s.units.now s.written) part w.1 in
     record {
-      whole = c.new-source.ensures.text;
-      same = refl;
-      adds = subst (λ cs. Adds s.units.now s.written (encode_utf16_all cs) s.units.now s.written) (sym none) (adds_none s.units.now s.written s.within);
+      boundary = part_boundary _ _ _ _ i.boundary at c.floor_char_boundary-sure.ensures.boundary;
+      same = w.0 ∙ i.same;
+      adds = adds_part c.args.text.now _ _ _ _ _ _ _ c.parts.read n c.utf8.text i.boundary at i.adds wrote;
     }
 
-pub characters-preserved : goal.characters-preserved
-characters-preserved c =
-    let i = c.characters.invariant in
-    let a = c.advance.ensures in
-    let old = c.characters.source in
-    let new = c.advance.new.self in
-    let text_is : new.text.now ≡ old.text.now = a.same in
-    let utf8 : IsUtf8 old.text.now = subst IsUtf8 (sym i.whole) c.utf8.text in
-    let step = chars_step old.text.now old.read new.read c.in-Some.c a.next.0 _ utf8 old.boundary (subst (λ t. IsCharBoundary t new.read) text_is new.boundary) c.in-Some.ensures.next (a.next.1 ∙ ap (λ t. a.next.0 ∷ chars (drop new.read t)) text_is) in
+pub parts-preserved : goal.parts-preserved
+parts-preserved c =
+    let i = c.parts.invariant in
+    let f = c.in-Some.ensures in
+    let at = c.range_from-rest.ensures.value in
+    let rest = c.range_from-rest.result.now in
     let w = c.put.ensures.writes in
+    let old = c.parts.sink in
     let s = c.put.new.self in
+    let len = c.len_utf8-read.ensures.value in
+    let n = c.len_utf8-read.result in
+    let b = subst (IsCharBoundary rest) (sym len) f.boundary in
+    let wrote : Adds old.units.now old.written (text_in_utf16 (take n rest)) s.units.now s.written =
+    subst (λ cs. Adds old.units.now old.written (encode_utf16_all cs) s.units.now s.written) (sym (first_alone rest _ c.in-Some.c n c.range_from-rest.utf8 f.bytes len b)) w.1 in
     record {
-      whole = text_is ∙ i.whole;
+      boundary = part_boundary _ _ _ _ i.boundary at b;
       same = w.0 ∙ i.same;
-      adds = subst (λ cs. Adds c.args.sink.now.units.now c.args.sink.now.written (encode_utf16_all cs) s.units.now s.written) (sym (ap (λ t. chars (take new.read t)) text_is ∙ step))
-          (adds_encoded16 _ _ (chars (take old.read old.text.now)) (c.in-Some.c ∷ []) _ _ _ _ i.adds w.1);
+      adds = adds_part c.args.text.now _ _ _ _ _ _ _ c.parts.read n c.utf8.text i.boundary at i.adds wrote;
     }

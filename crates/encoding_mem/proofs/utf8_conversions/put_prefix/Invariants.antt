@@ -1,15 +1,15 @@
-use Rattle.std.proofs.Common.{◌≡◌, length, take, drop}
-use Rattle.std.specs.Str.{chars}
+use Rattle.std.proofs.Common.{◌≡◌, ◌-◌, length, take}
+use Rattle.std.specs.Str.{IsCharBoundary}
 use Rattle.encoding_mem.specs.Conversions.{text_in_utf16}
 use Rattle.encoding_mem.specs.Writing.{Adds}
 use Rattle.encoding_mem.proofs.utf8_conversions.put_prefix.Given as goal
 
-abbrev pub invariant-characters : goal.invariant-characters
-invariant-characters l = record {
-  whole : l.source.text.now ≡ l.fn.text;
+abbrev pub invariant-parts : goal.invariant-parts
+invariant-parts l = record {
+  boundary : IsCharBoundary l.text l.read;
   same : l.sink.units.ghost_name ≡ l.initial.sink.units.ghost_name;
-  adds : Adds l.initial.sink.units.now l.initial.sink.written (text_in_utf16 (take l.source.read l.source.text.now)) l.sink.units.now l.sink.written;
+  adds : Adds l.initial.sink.units.now l.initial.sink.written (text_in_utf16 (take l.read l.text)) l.sink.units.now l.sink.written;
 }
 
-abbrev pub decreases-characters : goal.decreases-characters
-decreases-characters l = length (chars (drop l.source.read l.source.text.now))
+abbrev pub decreases-parts : goal.decreases-parts
+decreases-parts l = length l.text - l.read
