@@ -9,8 +9,12 @@ use Rattle.std.proofs.lemmas.Str.{utf8_valid_len-IsUtf8}
 use Rattle.encoding_mem.specs.Bidi.{is_bidi_char, is_bidi_unit}
 use Rattle.encoding_mem.specs.Conversions.{IsLongest, IsUnitBoundary, low_bytes, units_in_utf8, text_in_utf16}
 use Rattle.encoding_mem.specs.LongestPrefix.{IsLongestPrefix}
+use Rattle.encoding_mem.specs.Piece.{text}
+use Rattle.encoding_mem.specs.Pieces.{pieces_in}
 use Rattle.encoding_mem.specs.Surrogates.{IsHighSurrogate, IsLoneSurrogate, IsMended}
 use Rattle.encoding_mem.specs.TextDestination.{cleared}
+use Rattle.encoding_mem.specs.Utf8.{pieces_utf8}
+use Rattle.encoding_mem.specs.Writing.{encode_utf16_all}
 
 -- the edges of a block, and the character before the first one
 pub hebrew_block_begins : is_bidi_char 0x590 ≡ true
@@ -62,6 +66,11 @@ pub text_as_units : text_in_utf16 (0x41 ∷ 0xE2 ∷ 0x82 ∷ 0xAC ∷ 0xF0 ∷ 
 unfolding chars
 text_as_units = refl
 
+-- the three bytes of a surrogate's form between two letters are three broken parts
+pub broken_text_as_units : encode_utf16_all (text (pieces_utf8 (0x61 ∷ 0xED ∷ 0xA0 ∷ 0x80 ∷ 0x5A ∷ []))) ≡ 0x61 ∷ 0xFFFD ∷ 0xFFFD ∷ 0xFFFD ∷ 0x5A ∷ []
+unfolding pieces_in
+broken_text_as_units = refl
+
 three_or_four : 3 < 4
 three_or_four = omega arith
 
@@ -82,6 +91,16 @@ letter_fits_alone = record {
   whole = λ k e p. absurd (omega (arith, p.1));
   fits = omega arith;
   longest = λ i more le _. subst (λ n. 3 < bytes_before letter_and_euro n) (euro_is_the_rest i more le) three_or_four;
+}
+
+-- into four bytes both fit
+pub letter_and_euro_fit : IsLongest (IsUnitBoundary letter_and_euro) (bytes_before letter_and_euro) 2 4 2
+unfolding utf16_chars encode_utf8
+letter_and_euro_fit = record {
+  within = omega arith;
+  whole = λ k e p. absurd (omega (arith, p.1));
+  fits = omega arith;
+  longest = λ i more le _. absurd (omega arith);
 }
 
 -- The two units of U+1F4A9 into three bytes: it needs four, and the pair is not parted.
@@ -119,6 +138,15 @@ accent_is_none (suc (suc m)) more le ascii = let first = ascii 1 in absurd (omeg
 
 pub ascii_ends_before_the_accent : IsLongestPrefix IsAscii letter_and_accent 1
 ascii_ends_before_the_accent = record { within = omega arith; good = all_of_letter; longest = accent_is_none }
+
+-- a front is not the longest where the next byte is ASCII too
+all_of_letters : (i : ℕ) → slice_index (0x41 ∷ 0x42 ∷ []) i < 0x80
+all_of_letters zero = omega arith
+all_of_letters (suc zero) = omega arith
+all_of_letters (suc (suc i)) = omega arith
+
+pub ascii_goes_on : ¬ (IsLongestPrefix IsAscii (0x41 ∷ 0x42 ∷ []) 1)
+ascii_goes_on prefix = prefix.longest 2 (omega arith) (omega arith) all_of_letters
 
 -- The text at the front of a letter and a cut sequence.
 abbrev letter_and_cut : List ℕ
