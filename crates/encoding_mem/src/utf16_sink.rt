@@ -68,9 +68,21 @@ impl<'a> Utf16Sink<'a> {
         if text.is_ascii() {
             self.put_bytes(text.as_bytes());
         } else {
-            self.put_chars(text);
+            let count = write_chars(text, &mut self.units[self.written..]);
+            self.written += count;
         }
     }
+}
+
+// Writes each character of a text to the front of units, and answers the units written. The sink is its own,
+// so that the place stays in a register.
+fn write_chars(text: &str, dst: &mut [u16]) -> usize
+    requires { length text.now ≤ length dst.old }
+    ensures { Adds dst.old 0 (text_in_utf16 text.now) dst.new result }
+{
+    let mut sink = Utf16Sink::new(dst);
+    sink.put_chars(text);
+    sink.written()
 }
 
 impl<'a> Sink for Utf16Sink<'a> {
