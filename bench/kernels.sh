@@ -1,0 +1,38 @@
+#!/usr/bin/env bash
+# Measures functions of encoding_mem beside those of the crate encoding_rs: see docs/PERFORMANCE.md.
+#
+#   bench/kernels.sh [WORD]     all functions, or those with the word in their names
+#
+# Wants cargo, rt and Debian's package librust-encoding-rs-dev. Works in a folder outside the repository, since
+# the merge gate reads each crate in it; what is proved there stays for the next run.
+set -euo pipefail
+here=$(cd "$(dirname "$0")" && pwd)
+work=${KERNELS_WORK:-${TMPDIR:-/tmp}/jillapun-kernels-$(id -u)}
+
+if ! ls -d /usr/share/cargo/registry/encoding_rs-* >/dev/null 2>&1; then
+    echo "kernels.sh: install the package librust-encoding-rs-dev first" >&2
+    exit 2
+fi
+KIT=$(dirname "$(rt doc | grep -o '/.*/START-HERE.md' | head -1)")
+export KIT OURS=$work/crates/mem_exports/out CARGO_TARGET_DIR=$work/target
+
+# The functions of ours as a static library.
+mkdir -p "$work/crates/encoding_mem" "$work/crates/mem_exports/src"
+cp "$here/../HANDLES" "$work/"
+for part in src specs proofs; do
+    rm -rf "$work/crates/encoding_mem/$part"
+    cp -a "$here/../crates/encoding_mem/$part" "$work/crates/encoding_mem/"
+done
+cmp -s "$here/kernels/exports.rt.txt" "$work/crates/mem_exports/src/lib.rt" ||
+    cp "$here/kernels/exports.rt.txt" "$work/crates/mem_exports/src/lib.rt"
+printf 'encoding_mem: simdutf8\nmem_exports staticlib: encoding_mem\n' > "$work/crates.txt"
+(cd "$work/crates/mem_exports" && rt lib > "$work/rt.out" 2>&1) || { tail -40 "$work/rt.out" >&2; exit 1; }
+
+# The driver, which links it.
+cp -a "$here/kernels/." "$work/driver/"
+(cd "$work/driver" && cargo build --release --offline --quiet)
+
+echo "$(rustc --version); $(rt version | head -1); encoding_rs $(basename /usr/share/cargo/registry/encoding_rs-* | cut -d- -f2)"
+echo "$(sed -n 's/^model name[^:]*: //p' /proc/cpuinfo | head -1), $(nproc) processors, load $(cut -d' ' -f1 /proc/loadavg); $(date -u +%F)"
+echo "MB/s of input, medians; ratio: ours to theirs"
+"$work/target/release/kernels" "$@"
