@@ -17,7 +17,7 @@ use texts::Text;
 
 /// A round takes about this long, and at least one call.
 const ROUND: Duration = Duration::from_micros(1500);
-const ROUNDS: usize = 31;
+const ROUNDS: usize = 41;
 
 /// Sizes of the texts, in bytes of UTF-8.
 const SIZES: [usize; 2] = [1_000_000, 64];
