@@ -58,7 +58,10 @@ struct Room {
 impl Room {
     /// Room for each conversion of a text of so many bytes. Bytes of 0 are a text, as some functions ask.
     fn new(size: usize) -> Room {
-        Room { bytes: vec![0; 3 * size + 16], units: vec![0; size + 16] }
+        Room {
+            bytes: vec![0; 3 * size + 16],
+            units: vec![0; size + 16],
+        }
     }
 }
 
@@ -110,7 +113,12 @@ fn kernels() -> Vec<Kernel> {
 }
 
 /// Calls a function so many times, and gives its last answer.
-fn repeat<T, U>(times: u64, src: &[T], dst: &mut [U], call: impl Fn(&[T], &mut [U]) -> usize) -> usize {
+fn repeat<T, U>(
+    times: u64,
+    src: &[T],
+    dst: &mut [U],
+    call: impl Fn(&[T], &mut [U]) -> usize,
+) -> usize {
     let mut answer = 0;
     for _ in 0..times {
         answer = black_box(call(black_box(src), black_box(&mut *dst)));
@@ -120,7 +128,11 @@ fn repeat<T, U>(times: u64, src: &[T], dst: &mut [U], call: impl Fn(&[T], &mut [
 
 impl Kernel {
     fn bytes<'a>(&self, text: &'a Text) -> &'a [u8] {
-        if self.takes_latin1 { &text.latin1 } else { &text.utf8 }
+        if self.takes_latin1 {
+            &text.latin1
+        } else {
+            &text.utf8
+        }
     }
 
     /// The bytes of input that one call reads.
@@ -137,8 +149,12 @@ impl Kernel {
     fn run(&self, call: Call, text: &Text, room: &mut Room, times: u64) -> usize {
         let (bytes, units) = (self.bytes(text), &text.utf16[..]);
         match black_box(call) {
-            Call::Bytes(f) => repeat(times, bytes, &mut room.units, |s, _| unsafe { f(s.as_ptr(), s.len()) }),
-            Call::Units(f) => repeat(times, units, &mut room.units, |s, _| unsafe { f(s.as_ptr(), s.len()) }),
+            Call::Bytes(f) => repeat(times, bytes, &mut room.units, |s, _| unsafe {
+                f(s.as_ptr(), s.len())
+            }),
+            Call::Units(f) => repeat(times, units, &mut room.units, |s, _| unsafe {
+                f(s.as_ptr(), s.len())
+            }),
             Call::BytesToBytes(f) => repeat(times, bytes, &mut room.bytes, |s, d| unsafe {
                 f(s.as_ptr(), s.len(), d.as_mut_ptr(), d.len())
             }),
@@ -148,9 +164,12 @@ impl Kernel {
             Call::UnitsToBytes(f) => repeat(times, units, &mut room.bytes, |s, d| unsafe {
                 f(s.as_ptr(), s.len(), d.as_mut_ptr(), d.len())
             }),
-            Call::InUnits(f) => repeat(times, units, &mut room.units[..units.len()], |_, d| unsafe {
-                f(d.as_mut_ptr(), d.len())
-            }),
+            Call::InUnits(f) => repeat(
+                times,
+                units,
+                &mut room.units[..units.len()],
+                |_, d| unsafe { f(d.as_mut_ptr(), d.len()) },
+            ),
         }
     }
 
@@ -172,10 +191,20 @@ impl Kernel {
         match self.ours {
             Call::Bytes(_) | Call::Units(_) => {}
             Call::BytesToBytes(_) | Call::UnitsToBytes(_) => {
-                assert!(a.bytes[..ours] == b.bytes[..ours], "{} of {}: bytes", self.name, text.name)
+                assert!(
+                    a.bytes[..ours] == b.bytes[..ours],
+                    "{} of {}: bytes",
+                    self.name,
+                    text.name
+                )
             }
             Call::BytesToUnits(_) | Call::InUnits(_) => {
-                assert!(a.units[..ours] == b.units[..ours], "{} of {}: units", self.name, text.name)
+                assert!(
+                    a.units[..ours] == b.units[..ours],
+                    "{} of {}: units",
+                    self.name,
+                    text.name
+                )
             }
         }
     }
@@ -200,8 +229,12 @@ impl Kernel {
     /// rounds that ran one behind the other.
     fn measure(&self, text: &Text) -> (f64, f64, f64) {
         let mut room = self.room(text);
-        let (ours, theirs) = (self.fill(self.ours, text, &mut room), self.fill(self.theirs, text, &mut room));
-        let rate = |times: u64, t: Duration| times as f64 * self.size(text) as f64 / t.as_secs_f64() / 1e6;
+        let (ours, theirs) = (
+            self.fill(self.ours, text, &mut room),
+            self.fill(self.theirs, text, &mut room),
+        );
+        let rate =
+            |times: u64, t: Duration| times as f64 * self.size(text) as f64 / t.as_secs_f64() / 1e6;
         let mut rows: Vec<(f64, f64)> = Vec::new();
         for round in 0..ROUNDS {
             let mut row = (0.0, 0.0);
@@ -233,7 +266,10 @@ fn processor_time() -> Duration {
         fn clock_gettime(clock: i32, time: *mut Timespec) -> i32;
     }
     const THREAD_PROCESSOR_TIME: i32 = 3;
-    let mut time = Timespec { seconds: 0, nanoseconds: 0 };
+    let mut time = Timespec {
+        seconds: 0,
+        nanoseconds: 0,
+    };
     let status = unsafe { clock_gettime(THREAD_PROCESSOR_TIME, &mut time) };
     assert_eq!(status, 0, "this system has no clock of a thread's time");
     Duration::new(time.seconds as u64, time.nanoseconds as u32)
@@ -251,7 +287,10 @@ fn main() {
     println!("| Function | Text | ours, 1 MB | theirs | ratio | ours, 64 bytes | theirs | ratio |");
     println!("|---|---|---:|---:|---:|---:|---:|---:|");
     for kernel in kernels().iter().filter(|k| k.name.contains(&word)) {
-        for (place, reach) in [Reach::Ascii, Reach::Latin1, Reach::All].into_iter().enumerate() {
+        for (place, reach) in [Reach::Ascii, Reach::Latin1, Reach::All]
+            .into_iter()
+            .enumerate()
+        {
             if reach > kernel.reach {
                 continue;
             }

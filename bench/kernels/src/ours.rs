@@ -28,19 +28,80 @@ unsafe extern "C" {
     pub fn ours_check_utf8_for_latin1_and_bidi(src: *const u8, len: usize) -> usize;
     pub fn ours_check_str_for_latin1_and_bidi(src: *const u8, len: usize) -> usize;
     pub fn ours_check_utf16_for_latin1_and_bidi(src: *const u16, len: usize) -> usize;
-    pub fn ours_convert_utf8_to_utf16(src: *const u8, len: usize, dst: *mut u16, room: usize) -> usize;
-    pub fn ours_convert_str_to_utf16(src: *const u8, len: usize, dst: *mut u16, room: usize) -> usize;
-    pub fn ours_convert_utf8_to_utf16_without_replacement(src: *const u8, len: usize, dst: *mut u16, room: usize) -> usize;
-    pub fn ours_convert_utf16_to_utf8(src: *const u16, len: usize, dst: *mut u8, room: usize) -> usize;
-    pub fn ours_convert_utf16_to_str(src: *const u16, len: usize, dst: *mut u8, room: usize) -> usize;
-    pub fn ours_convert_latin1_to_utf16(src: *const u8, len: usize, dst: *mut u16, room: usize) -> usize;
-    pub fn ours_convert_latin1_to_utf8(src: *const u8, len: usize, dst: *mut u8, room: usize) -> usize;
-    pub fn ours_convert_latin1_to_str(src: *const u8, len: usize, dst: *mut u8, room: usize) -> usize;
-    pub fn ours_convert_utf8_to_latin1_lossy(src: *const u8, len: usize, dst: *mut u8, room: usize) -> usize;
-    pub fn ours_convert_utf16_to_latin1_lossy(src: *const u16, len: usize, dst: *mut u8, room: usize) -> usize;
-    pub fn ours_copy_ascii_to_ascii(src: *const u8, len: usize, dst: *mut u8, room: usize) -> usize;
-    pub fn ours_copy_ascii_to_basic_latin(src: *const u8, len: usize, dst: *mut u16, room: usize) -> usize;
-    pub fn ours_copy_basic_latin_to_ascii(src: *const u16, len: usize, dst: *mut u8, room: usize) -> usize;
+    pub fn ours_convert_utf8_to_utf16(
+        src: *const u8,
+        len: usize,
+        dst: *mut u16,
+        room: usize,
+    ) -> usize;
+    pub fn ours_convert_str_to_utf16(
+        src: *const u8,
+        len: usize,
+        dst: *mut u16,
+        room: usize,
+    ) -> usize;
+    pub fn ours_convert_utf8_to_utf16_without_replacement(
+        src: *const u8,
+        len: usize,
+        dst: *mut u16,
+        room: usize,
+    ) -> usize;
+    pub fn ours_convert_utf16_to_utf8(
+        src: *const u16,
+        len: usize,
+        dst: *mut u8,
+        room: usize,
+    ) -> usize;
+    pub fn ours_convert_utf16_to_str(
+        src: *const u16,
+        len: usize,
+        dst: *mut u8,
+        room: usize,
+    ) -> usize;
+    pub fn ours_convert_latin1_to_utf16(
+        src: *const u8,
+        len: usize,
+        dst: *mut u16,
+        room: usize,
+    ) -> usize;
+    pub fn ours_convert_latin1_to_utf8(
+        src: *const u8,
+        len: usize,
+        dst: *mut u8,
+        room: usize,
+    ) -> usize;
+    pub fn ours_convert_latin1_to_str(
+        src: *const u8,
+        len: usize,
+        dst: *mut u8,
+        room: usize,
+    ) -> usize;
+    pub fn ours_convert_utf8_to_latin1_lossy(
+        src: *const u8,
+        len: usize,
+        dst: *mut u8,
+        room: usize,
+    ) -> usize;
+    pub fn ours_convert_utf16_to_latin1_lossy(
+        src: *const u16,
+        len: usize,
+        dst: *mut u8,
+        room: usize,
+    ) -> usize;
+    pub fn ours_copy_ascii_to_ascii(src: *const u8, len: usize, dst: *mut u8, room: usize)
+        -> usize;
+    pub fn ours_copy_ascii_to_basic_latin(
+        src: *const u8,
+        len: usize,
+        dst: *mut u16,
+        room: usize,
+    ) -> usize;
+    pub fn ours_copy_basic_latin_to_ascii(
+        src: *const u16,
+        len: usize,
+        dst: *mut u8,
+        room: usize,
+    ) -> usize;
     // An allocator takes no bytes, so that none is passed.
     pub fn ours_decode_latin1(src: *const u8, len: usize) -> usize;
     pub fn ours_encode_latin1_lossy(src: *const u8, len: usize) -> usize;

@@ -28,7 +28,9 @@ fn words(alphabets: &[&str], size: usize) -> String {
     let mut state: u64 = 1;
     let mut next = |below: usize| {
         // A linear congruential generator (Knuth's MMIX constants), of which the high bits are taken.
-        state = state.wrapping_mul(6364136223846793005).wrapping_add(1442695040888963407);
+        state = state
+            .wrapping_mul(6364136223846793005)
+            .wrapping_add(1442695040888963407);
         (state >> 33) as usize % below
     };
     let mut text = String::new();
@@ -55,7 +57,10 @@ fn words(alphabets: &[&str], size: usize) -> String {
 
 fn text(name: &'static str, alphabets: &[&str], size: usize) -> Text {
     let text = words(alphabets, size);
-    let narrow: Option<Vec<u8>> = text.chars().map(|c| u8::try_from(u32::from(c)).ok()).collect();
+    let narrow: Option<Vec<u8>> = text
+        .chars()
+        .map(|c| u8::try_from(u32::from(c)).ok())
+        .collect();
     Text {
         name,
         utf16: text.encode_utf16().collect(),
