@@ -1,0 +1,3 @@
+mod Limits
+mod Parse
+mod Present

@@ -1,0 +1,47 @@
+-- The values that clap's parse of the words gives to the options.
+use Rattle.std.specs.Prelude.{◌≡◌, ◌⊎◌, List, Option, Some, None, [], codes, is_some, true}
+use Rattle.clap.specs.Words.{Text, fault_of, first_of, first_value, found_of, matches_of}
+use Rattle.clap.specs.declared.parser.matches.ArgMatches.{ArgMatches}
+use Rattle.recode_words.specs.Command.{recode_app}
+use Rattle.recode_words.specs.Meaning.{limit_of, mark_of, pivot_of}
+use Rattle.recode_words.specs.declared.values.Values.{Values}
+use Rattle.recode_words.specs.declared.words.Words.{Words}
+
+-- the value of an option in clap's parse of the words
+abbrev pub given : Text → List Text → Option Text
+given name words = first_of name (matches_of recode_app words)
+
+-- the matches are those of clap's parse of the words, and each option has its value
+pub record IsMatch (words : List Text) (m : ArgMatches) : Type 0 where
+  pub taken : fault_of recode_app words ≡ []
+  pub same : (name : Text) → given name words ≡ first_value (found_of m) name
+  pub from : is_some (first_value (found_of m) (codes "from")) ≡ true
+  pub to : is_some (first_value (found_of m) (codes "to")) ≡ true
+  pub indexes : is_some (first_value (found_of m) (codes "indexes")) ≡ true
+  pub mark : is_some (first_value (found_of m) (codes "mark")) ≡ true
+  pub pivot : is_some (first_value (found_of m) (codes "pivot")) ≡ true
+  pub limit : is_some (first_value (found_of m) (codes "limit")) ≡ true
+
+-- clap refuses nothing in the words, and the values are those that it gives
+pub record HasValues (words : List Text) (v : Values) : Type 0 where
+  pub taken : fault_of recode_app words ≡ []
+  pub from : given (codes "from") words ≡ Some v.from.now
+  pub to : given (codes "to") words ≡ Some v.to.now
+  pub indexes : given (codes "indexes") words ≡ Some v.indexes.now
+  pub mark : given (codes "mark") words ≡ Some v.mark.now
+  pub pivot : given (codes "pivot") words ≡ Some v.pivot.now
+  pub limit : given (codes "limit") words ≡ Some v.limit.now
+
+-- what the values stand for
+pub record IsReading (v : Values) (w : Words) : Type 0 where
+  pub from : w.from.now ≡ v.from.now
+  pub to : w.to.now ≡ v.to.now
+  pub indexes : w.indexes.now ≡ v.indexes.now
+  pub mark : mark_of v.mark.now ≡ Some w.mark
+  pub pivot : pivot_of v.pivot.now ≡ Some w.pivot
+  pub limit : limit_of v.limit.now ≡ Some w.limit
+
+-- one of the values stands for nothing
+abbrev pub HasWrongValue : Values → Type 0
+HasWrongValue v = (mark_of v.mark.now ≡ None)
+    ⊎ ((pivot_of v.pivot.now ≡ None) ⊎ (limit_of v.limit.now ≡ None))

@@ -1,0 +1,5 @@
+pub mod Command
+pub mod Given
+pub mod Meaning
+pub mod Request
+pub mod Rows

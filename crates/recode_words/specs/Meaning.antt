@@ -1,0 +1,30 @@
+-- What the values of options stand for.
+use Rattle.std.specs.Prelude.{ℕ, Bool, Option, Some, None, codes, ◌&&◌, nat_le}
+use Rattle.std.specs.Prelude.{if◌then◌else◌}
+use Rattle.std.specs.Str.{bytes_eq}
+use Rattle.std.specs.Str.Parse.{digits_value}
+use Rattle.clap.specs.Words.{Text}
+use Rattle.clap.specs.ValueTests.{is_numeral}
+use Rattle.recode_words.specs.declared.words.MarkWord.{MarkWord}
+use Rattle.recode_words.specs.declared.words.MarkWord.TheVariants.{Sniff, Remove, Keep}
+use Rattle.recode_words.specs.declared.words.PivotWord.{PivotWord}
+use Rattle.recode_words.specs.declared.words.PivotWord.TheVariants.{Utf8, Utf16}
+
+-- what to do with a byte order mark, by its name
+abbrev pub mark_of : Text → Option MarkWord
+mark_of text = if bytes_eq text (codes "sniff") then Some Sniff
+    else (if bytes_eq text (codes "remove") then Some Remove
+    else (if bytes_eq text (codes "keep") then Some Keep else None))
+
+-- the form of the text between the two codecs, by its name
+abbrev pub pivot_of : Text → Option PivotWord
+pivot_of text = if bytes_eq text (codes "utf8") then Some Utf8
+    else (if bytes_eq text (codes "utf16") then Some Utf16 else None)
+
+-- decimal digits, one or more, of a number up to 2^48
+abbrev pub is_limit : Text → Bool
+is_limit text = is_numeral text && nat_le (digits_value 10 text) 281474976710656
+
+-- the number that a limit's digits write
+abbrev pub limit_of : Text → Option ℕ
+limit_of text = if is_limit text then Some (digits_value 10 text) else None

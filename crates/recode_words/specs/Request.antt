@@ -1,0 +1,73 @@
+-- What the words of the command line ask for, and when they are refused.
+use Rattle.std.specs.Prelude.{◌≡◌, ◌≢◌, ◌⊎◌, ◌≤◌, ◌++◌, ⊤, ℕ, Bool, List, Option, Some, None, ◌∷◌, [], codes, drop}
+use Rattle.std.specs.Prelude.{option_and_then, string_bytes, true, false}
+use Rattle.std.specs.List.{list_any}
+use Rattle.std.specs.Str.{bytes_eq}
+use Rattle.clap.specs.Words.{Text, fault_of}
+use Rattle.clap.specs.Kinds.{IsAmong}
+use Rattle.clap.specs.declared.error.kind.ErrorKind.{ErrorKind}
+use Rattle.clap.specs.declared.error.kind.ErrorKind.TheVariants.{DisplayHelp, DisplayVersion}
+use Rattle.recode_words.specs.Command.{recode_app}
+use Rattle.recode_words.specs.Given.{given}
+use Rattle.recode_words.specs.Meaning.{limit_of, mark_of, pivot_of}
+use Rattle.recode_words.specs.declared.request.Request.{Request}
+use Rattle.recode_words.specs.declared.request.Request.TheVariants.{Run, Help, Version, List as Listing}
+use Rattle.recode_words.specs.declared.request.WordsFault.{WordsFault}
+use Rattle.recode_words.specs.declared.request.WordsFault.TheVariants.{Refused, OutOfMemory}
+use Rattle.recode_words.specs.declared.words.Words.{Words}
+
+-- the text ends with a line feed
+abbrev pub IsLine : List ℕ → Type 0
+IsLine text = (front : List ℕ) × (text ≡ front ++ 10 ∷ [])
+
+-- clap's parse of the words ends in this kind
+abbrev pub EndsIn : ErrorKind → List Text → Type 0
+EndsIn kind words = IsAmong kind (fault_of recode_app words)
+
+-- what the value of an option stands for, if clap's parse gives one, and it stands for something
+abbrev pub meant : {T : Type 0} → (Text → Option T) → Text → List Text → Option T
+meant read name words = option_and_then read (given name words)
+
+-- one of the words after the program's name is `--list`
+abbrev pub asks_list : List Text → Bool
+asks_list words = list_any (λ word. bytes_eq word (codes "--list")) (drop 1 words)
+
+-- clap refuses nothing in the words, and each field is what its option stands for
+pub record IsMeantBy (words : List Text) (w : Words) : Type 0 where
+  pub taken : fault_of recode_app words ≡ []
+  pub from : given (codes "from") words ≡ Some w.from.now
+  pub to : given (codes "to") words ≡ Some w.to.now
+  pub indexes : given (codes "indexes") words ≡ Some w.indexes.now
+  pub mark : meant mark_of (codes "mark") words ≡ Some w.mark
+  pub pivot : meant pivot_of (codes "pivot") words ≡ Some w.pivot
+  pub limit : meant limit_of (codes "limit") words ≡ Some w.limit
+
+-- what the words ask for: clap's kind for `--version` is also that for `--list`
+abbrev pub Answers : List Text → Request → Type 0
+Answers words (Run w) = IsMeantBy words w
+Answers words (Help text) = EndsIn DisplayHelp words × IsLine (string_bytes text)
+Answers words (Version text) =
+    EndsIn DisplayVersion words × (asks_list words ≡ false) × IsLine (string_bytes text)
+Answers words Listing = EndsIn DisplayVersion words × (asks_list words ≡ true)
+
+-- clap refuses the words: they ask for neither help nor the version
+abbrev pub IsRefusedByClap : List Text → Type 0
+IsRefusedByClap words = (kind : ErrorKind) × EndsIn kind words × (kind ≢ DisplayHelp) × (kind ≢ DisplayVersion)
+
+-- clap takes the words, but the value of one of these options stands for nothing
+abbrev pub HasMeaninglessValue : List Text → Type 0
+HasMeaninglessValue words = (fault_of recode_app words ≡ [])
+    × ((meant mark_of (codes "mark") words ≡ None)
+    ⊎ ((meant pivot_of (codes "pivot") words ≡ None)
+    ⊎ (meant limit_of (codes "limit") words ≡ None)))
+
+-- when each fault comes; memory may be refused at any words
+abbrev pub IsFaultOf : List Text → WordsFault → Type 0
+IsFaultOf words (Refused text) =
+    (IsRefusedByClap words ⊎ HasMeaninglessValue words) × IsLine (string_bytes text)
+IsFaultOf words OutOfMemory = ⊤
+
+-- the limit of a run is at most 2^48
+abbrev pub HasGoodLimit : Request → Type 0
+HasGoodLimit (Run w) = w.limit ≤ 281474976710656
+HasGoodLimit _ = ⊤

@@ -1,0 +1,128 @@
+ghost use Rattle.std.specs.Prelude.{◌≡◌, IfOk, false};
+ghost use Rattle.clap.specs.Words.{app_of, rule_of};
+ghost use Rattle.recode_words.specs.Command.{default_rule, named_app, list_rule, recode_app, required_rule};
+
+use clap::{Arg, ArgAction, Command};
+use std::alloc::{AllocError, Global};
+
+/// The version of the program.
+pub const VERSION: &str = "0.1.0";
+
+const ABOUT: &str =
+    "Converts standard input to another encoding on standard output, and logs what is lost";
+
+const AFTER_HELP: &str =
+    "Labels: LABEL is any of the Encoding Standard's, in upper or lower case, as utf-8, shift_jis or
+windows-1252.
+
+Index files: most encodings need one or two files index-NAME.txt, which are not built in. The
+program's repository has them in its folder \"indexes\"; the standard's own are at
+https://encoding.spec.whatwg.org/index-NAME.txt.
+
+Byte order mark at the start of the input:
+  sniff   that of UTF-8, UTF-16LE or UTF-16BE names the encoding, whatever --from says, and is
+          left out
+  remove  that of the encoding of --from is left out
+  keep    it is text: U+FEFF
+
+Log, on standard error, a line for each loss:
+  bad OFFSET LENGTH  these bytes of the input stand for no character; the output has U+FFFD in
+                     their place
+  lost INDEX SCALAR  the character with this index in the text, and with this number, has no bytes
+                     in the output's encoding; the output has &#SCALAR; in its place
+Numbers are decimal. OFFSET and INDEX count bytes and characters from 0.
+
+Exit status:
+  0  all was converted, and nothing was lost
+  1  all was converted, and something was lost: the log says what; if it is empty, a character
+     was written as one like it, as U+00A5 as the byte 5C in Shift_JIS
+  2  the words were refused
+  3  an index file is missing or faulty, or memory was refused at the start
+  4  a read, a write or a write of the log failed, or the input is longer than the limit
+With 2, 3 and 4 a message on standard error says why.";
+
+// `--name VALUE`, which has to be there.
+fn required_option<'a>(alloc: Global, name: &'a str, value_name: &'a str, help: &'a str) -> Arg<'a>
+    ensures rule { rule_of result ≡ required_rule name.entry.now }
+    ensures local { result.global ≡ false }
+{
+    Arg::new(alloc, name)
+        .long(name)
+        .action(ArgAction::Set)
+        .value_name(value_name)
+        .required(true)
+        .help(help)
+}
+
+// `--name VALUE`, where `value` is the value if the option is not there.
+fn default_option<'a>(
+    alloc: Global,
+    name: &'a str,
+    value: &'a str,
+    value_name: &'a str,
+    help: &'a str,
+) -> Arg<'a>
+    ensures rule { rule_of result ≡ default_rule name.entry.now value.entry.now }
+    ensures local { result.global ≡ false }
+{
+    Arg::new(alloc, name)
+        .long(name)
+        .action(ArgAction::Set)
+        .value_name(value_name)
+        .default_value(value)
+        .help(help)
+}
+
+// `--list`, at which the parse ends, as it does at `--version`: so the options that have to be there
+// may be left out.
+fn list_flag<'a>(alloc: Global) -> Arg<'a>
+    ensures rule { rule_of result ≡ list_rule }
+    ensures local { result.global ≡ false }
+{
+    Arg::new(alloc, "list")
+        .long("list")
+        .action(ArgAction::Version)
+        .help("Print the encodings and their labels")
+}
+
+// The command with its texts and no options.
+fn named_command<'a>(alloc: Global) -> Command<'a>
+    ensures { app_of result ≡ named_app }
+{
+    Command::new(alloc, "recode")
+        .version(VERSION)
+        .about(ABOUT)
+        .after_help(AFTER_HELP)
+}
+
+// The command line of the program.
+pub(crate) fn command<'a>(alloc: Global) -> Result<Command<'a>, AllocError>
+    ensures { IfOk result (λ c. app_of c ≡ recode_app) }
+{
+    named_command(alloc)
+        .arg(required_option(alloc, "from", "LABEL", "Encoding of the input"))?
+        .arg(required_option(alloc, "to", "LABEL", "Encoding of the output"))?
+        .arg(default_option(alloc, "indexes", ".", "DIR", "Folder of the index files"))?
+        .arg(default_option(
+            alloc,
+            "mark",
+            "sniff",
+            "MODE",
+            "What to do with a byte order mark: sniff, remove or keep",
+        ))?
+        .arg(default_option(
+            alloc,
+            "pivot",
+            "utf8",
+            "FORM",
+            "Form in between: utf8 or utf16, with the same output",
+        ))?
+        .arg(default_option(
+            alloc,
+            "limit",
+            "281474976710656",
+            "N",
+            "Most bytes of input, 0 to the default, in digits",
+        ))?
+        .arg(list_flag(alloc))
+}

@@ -1,0 +1,13 @@
+//! The words of the program `recode`: what its command line asks for.
+#![tactic(auto)]
+
+mod command;
+pub mod request;
+#[cfg(test)]
+mod tests;
+mod values;
+pub mod words;
+
+pub use command::VERSION;
+pub use request::{Request, WordsFault, parse_words};
+pub use words::{GREATEST_LIMIT, MarkWord, PivotWord, Words};

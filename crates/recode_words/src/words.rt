@@ -1,0 +1,83 @@
+ghost use Rattle.std.specs.Prelude.{◌≡◌};
+ghost use Rattle.recode_words.specs.Meaning.{limit_of, mark_of, pivot_of};
+
+/// The greatest limit, in bytes of input: 2^48.
+pub const GREATEST_LIMIT: u64 = 281474976710656;
+
+/// What is done with a byte order mark at the start of the input.
+#[derive(Clone, Copy, Debug, PartialEq, Eq)]
+pub enum MarkWord {
+    /// `sniff`: the mark of UTF-8, UTF-16LE or UTF-16BE chooses the encoding, and is left out.
+    Sniff,
+    /// `remove`: the mark of the named encoding is left out.
+    Remove,
+    /// `keep`: a mark is text, as any other character.
+    Keep,
+}
+
+impl MarkWord {
+    /// The variant with this name, or `None` if there is none.
+    pub fn from_name(name: &str) -> Option<MarkWord>
+        ensures { result ≡ mark_of name.now }
+    {
+        match name {
+            "sniff" => Some(MarkWord::Sniff),
+            "remove" => Some(MarkWord::Remove),
+            "keep" => Some(MarkWord::Keep),
+            _ => None,
+        }
+    }
+}
+
+/// The form of the text between the decoder and the encoder.
+#[derive(Clone, Copy, Debug, PartialEq, Eq)]
+pub enum PivotWord {
+    /// `utf8`: bytes of UTF-8.
+    Utf8,
+    /// `utf16`: units of UTF-16.
+    Utf16,
+}
+
+impl PivotWord {
+    /// The variant with this name, or `None` if there is none.
+    pub fn from_name(name: &str) -> Option<PivotWord>
+        ensures { result ≡ pivot_of name.now }
+    {
+        match name {
+            "utf8" => Some(PivotWord::Utf8),
+            "utf16" => Some(PivotWord::Utf16),
+            _ => None,
+        }
+    }
+}
+
+/// What to convert, and how, as the words say it. Whether a label names an encoding, and whether the
+/// folder has the index files, is not asked yet.
+#[derive(Clone, Copy, Debug)]
+pub struct Words<'a> {
+    /// The label of the input's encoding.
+    pub from: &'a str,
+    /// The label of the output's encoding.
+    pub to: &'a str,
+    /// The folder of the index files.
+    pub indexes: &'a str,
+    /// What is done with a byte order mark.
+    pub mark: MarkWord,
+    /// The form of the text between the decoder and the encoder.
+    pub pivot: PivotWord,
+    /// The most bytes of input, at most `GREATEST_LIMIT`.
+    pub limit: u64,
+}
+
+// The number that the text stands for: decimal digits with no sign, at most `GREATEST_LIMIT`.
+pub(crate) fn limit_from(text: &str) -> Option<u64>
+    ensures { result ≡ limit_of text.now }
+{
+    if text.as_bytes().starts_with(b"+") {
+        return None;
+    }
+    match text.parse::<u64>() {
+        Ok(limit) if limit <= GREATEST_LIMIT => Some(limit),
+        _ => None,
+    }
+}
