@@ -1,0 +1,31 @@
+use recode::index_source::{IndexSource, SourceFault, read_index_file};
+use std::alloc::Global;
+use std::fs;
+use std::io::ErrorKind;
+use std::rt::Files;
+
+// The files that a runtime reaches.
+#[derive(Drop)]
+pub(crate) struct SystemFiles<'r, R> {
+    runtime: &'r R,
+}
+
+impl<'r, R> SystemFiles<'r, R> {
+    pub(crate) fn new(runtime: &'r R) -> SystemFiles<'r, R> {
+        SystemFiles { runtime }
+    }
+}
+
+impl<'r, R: Files> IndexSource for SystemFiles<'r, R> {
+    // Reads `DIR/FILE`.
+    fn read_file(&mut self, alloc: Global, dir: &str, file: &str) -> Result<Vec<u8>, SourceFault> {
+        let Ok(path) = format!(in alloc; "{dir}/{file}") else {
+            return Err(SourceFault::Memory);
+        };
+        match fs::open(self.runtime, path.as_str()) {
+            Ok(opened) => read_index_file(alloc, opened),
+            Err(error) if error.kind() == ErrorKind::OutOfMemory => Err(SourceFault::Memory),
+            Err(_) => Err(SourceFault::Missing),
+        }
+    }
+}
