@@ -105,7 +105,8 @@ fn refusal(
 
 /// What the words ask for, the program's name first: `recode --from LABEL --to LABEL [--indexes DIR]
 /// [--mark sniff|remove|keep] [--pivot utf8|utf16] [--limit N]`, or `--help`, `--version` or `--list`,
-/// at the first of which the words behind it are not read.
+/// which is the answer wherever the words before it are good. With `--version` and `--list` it is the
+/// list.
 ///
 /// The defaults are `.`, `sniff`, `utf8` and 2^48, which is also the greatest N; N is decimal digits with
 /// no sign. An option that is given twice, one with no value, an unknown one and a word that is no

@@ -65,6 +65,7 @@ fn requests(rt: HostRuntime) -> Result<(), Fail> {
         ("--list", "list"),
         ("--from a --list", "list"),
         ("--list --bogus", "list"),
+        ("--version --list", "list"),
         ("--version", "version recode 0.1.0\n"),
         ("-V", "version recode 0.1.0\n"),
         ("--from a --version", "version recode 0.1.0\n"),
