@@ -1,3 +1,4 @@
 mod Limits
 mod Parse
 mod Present
+mod Single

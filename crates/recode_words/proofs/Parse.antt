@@ -1,7 +1,7 @@
 -- What follows from the clauses of clap's parse, where the command is that of `recode`.
 use Rattle.std.proofs.Common.{◌≡◌, ◌∙◌, ap, sym, refl, subst, inl, inr, true, false, List, [], codes, lit<}
 use Rattle.std.specs.Prelude.{IfErr, IfOk, Result, Ok, Err}
-use Rattle.clap.specs.Words.{BuildsTo, FailsBy, HasMatchesOf, IsParsed, IsParsedFrom, Text, app_of, fault_of, first_of, first_value, found_of, has_subcommand, is_simple, is_simple_and_free, matches_of}
+use Rattle.clap.specs.Words.{BuildsTo, FailsBy, HasMatchesOf, IsParsed, IsParsedFrom, Text, app_of, fault_of, first_of, first_value, found_of, has_subcommand, is_simple, is_simple_and_free, kind_of, matches_of}
 use Rattle.clap.specs.Kinds.{HasKind}
 use Rattle.clap.specs.declared.builder.command.Command.{Command}
 use Rattle.clap.specs.declared.builder.command.Command.TheViews.{out-Command}
@@ -10,8 +10,9 @@ use Rattle.clap.specs.declared.parser.matches.ArgMatches.{ArgMatches}
 use Rattle.clap.proofs.OnLiterals.{clap_on_literals}
 use Rattle.clap.proofs.WalkLemmas.{first_value-rows}
 use Rattle.recode_words.specs.Command.{default_rule, recode_app, required_rule}
-use Rattle.recode_words.specs.Given.{IsMatch, given}
+use Rattle.recode_words.specs.Given.{IsEndOf, IsMatch, given}
 use Rattle.recode_words.proofs.Present.{has_value}
+use Rattle.recode_words.proofs.Single.{fault_is_single, only_kind}
 
 recode_simple : is_simple recode_app ≡ true
 unfolding clap_on_literals
@@ -115,9 +116,15 @@ matched c d words (Ok m) app ok kinds =
     (ap (λ a. fault_of a words) (sym app) ∙ kinds (ap is_simple_and_free app ∙ recode_free))
 matched c d words (Err e) app ok kinds = tt
 
+one_kind : (words : List Text) (e : Error) → HasKind (fault_of recode_app words) e → IsEndOf words e
+one_kind words e h = elim h [
+  | inl memory ↦ inl memory
+  | inr among ↦ inr (only_kind (kind_of e) (fault_of recode_app words) (fault_is_single words) among)
+]
+
 -- a parse that ends early
 pub ended : (c : Command) (words : List Text) (r : Result ArgMatches Error) → app_of c ≡ recode_app
-    → (is_simple_and_free (app_of c) ≡ true → FailsBy (fault_of (app_of c) words) r) → IfErr r (HasKind (fault_of recode_app words))
+    → (is_simple_and_free (app_of c) ≡ true → FailsBy (fault_of (app_of c) words) r) → IfErr r (IsEndOf words)
 ended c words (Ok m) app kinds = tt
 ended c words (Err e) app kinds =
-    subst (λ a. HasKind (fault_of a words) e) app (kinds (ap is_simple_and_free app ∙ recode_free))
+    one_kind words e (subst (λ a. HasKind (fault_of a words) e) app (kinds (ap is_simple_and_free app ∙ recode_free)))

@@ -1,6 +1,9 @@
 -- The values that clap's parse of the words gives to the options.
-use Rattle.std.specs.Prelude.{◌≡◌, ◌⊎◌, List, Option, Some, None, [], codes, is_some, true}
-use Rattle.clap.specs.Words.{Text, fault_of, first_of, first_value, found_of, matches_of}
+use Rattle.std.specs.Prelude.{◌≡◌, ◌⊎◌, List, Option, Some, None, ◌∷◌, [], codes, is_some, true}
+use Rattle.clap.specs.Words.{Text, fault_of, first_of, first_value, found_of, kind_of, matches_of}
+use Rattle.clap.specs.declared.error.Error.{Error}
+use Rattle.clap.specs.declared.error.kind.ErrorKind.{ErrorKind}
+use Rattle.clap.specs.declared.error.kind.ErrorKind.TheVariants.{OutOfMemory}
 use Rattle.clap.specs.declared.parser.matches.ArgMatches.{ArgMatches}
 use Rattle.recode_words.specs.Command.{recode_app}
 use Rattle.recode_words.specs.Meaning.{limit_of, mark_of, pivot_of}
@@ -10,6 +13,14 @@ use Rattle.recode_words.specs.declared.words.Words.{Words}
 -- the value of an option in clap's parse of the words
 abbrev pub given : Text → List Text → Option Text
 given name words = first_of name (matches_of recode_app words)
+
+-- clap's parse of the words ends in this kind, and in no other
+abbrev pub EndsIn : ErrorKind → List Text → Type 0
+EndsIn kind words = fault_of recode_app words ≡ kind ∷ []
+
+-- the error is of the kind that clap's parse ends in, or memory ran out
+abbrev pub IsEndOf : List Text → Error → Type 0
+IsEndOf words error = (kind_of error ≡ OutOfMemory) ⊎ EndsIn (kind_of error) words
 
 -- the matches are those of clap's parse of the words, and each option has its value
 pub record IsMatch (words : List Text) (m : ArgMatches) : Type 0 where

@@ -4,11 +4,10 @@ use Rattle.std.specs.Prelude.{option_and_then, string_bytes, true, false}
 use Rattle.std.specs.List.{list_any}
 use Rattle.std.specs.Str.{bytes_eq}
 use Rattle.clap.specs.Words.{Text, fault_of}
-use Rattle.clap.specs.Kinds.{IsAmong}
 use Rattle.clap.specs.declared.error.kind.ErrorKind.{ErrorKind}
 use Rattle.clap.specs.declared.error.kind.ErrorKind.TheVariants.{DisplayHelp, DisplayVersion}
 use Rattle.recode_words.specs.Command.{recode_app}
-use Rattle.recode_words.specs.Given.{given}
+use Rattle.recode_words.specs.Given.{EndsIn, given}
 use Rattle.recode_words.specs.Meaning.{limit_of, mark_of, pivot_of}
 use Rattle.recode_words.specs.declared.request.Request.{Request}
 use Rattle.recode_words.specs.declared.request.Request.TheVariants.{Run, Help, Version, List as Listing}
@@ -19,10 +18,6 @@ use Rattle.recode_words.specs.declared.words.Words.{Words}
 -- the text ends with a line feed
 abbrev pub IsLine : List ℕ → Type 0
 IsLine text = (front : List ℕ) × (text ≡ front ++ 10 ∷ [])
-
--- clap's parse of the words ends in this kind
-abbrev pub EndsIn : ErrorKind → List Text → Type 0
-EndsIn kind words = IsAmong kind (fault_of recode_app words)
 
 -- what the value of an option stands for, if clap's parse gives one, and it stands for something
 abbrev pub meant : {T : Type 0} → (Text → Option T) → Text → List Text → Option T

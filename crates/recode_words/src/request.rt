@@ -1,7 +1,5 @@
 ghost use Rattle.std.specs.Prelude.{◌≡◌, ◌<◌, IfErr, IfOk, codes, length, map, string_bytes};
-ghost use Rattle.clap.specs.Words.{fault_of};
-ghost use Rattle.clap.specs.Kinds.{HasKind};
-ghost use Rattle.recode_words.specs.Command.{recode_app};
+ghost use Rattle.recode_words.specs.Given.{IsEndOf};
 ghost use Rattle.recode_words.specs.Request.{Answers, HasGoodLimit, IsFaultOf, IsLine, asks_list};
 
 use crate::command::command;
@@ -70,7 +68,7 @@ fn early_answer<'a>(
     words: &'a [&'a str],
 ) -> Result<Request<'a>, WordsFault>
     requires named { 0 < length words.now }
-    requires kind { HasKind (fault_of recode_app (map (λ s. s.now) words.now)) error.now }
+    requires end { IsEndOf (map (λ s. s.now) words.now) error.now }
     ensures ok { IfOk result (Answers (map (λ s. s.now) words.now)) }
     ensures err { IfErr result (IsFaultOf (map (λ s. s.now) words.now)) }
 {

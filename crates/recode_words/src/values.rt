@@ -1,8 +1,7 @@
 ghost use Rattle.std.specs.Prelude.{◌≡◌, IfOk, IfErr, Some, codes, map, true, is_some};
-ghost use Rattle.clap.specs.Words.{app_of, fault_of, first_value, found_of};
-ghost use Rattle.clap.specs.Kinds.{HasKind};
+ghost use Rattle.clap.specs.Words.{app_of, first_value, found_of};
 ghost use Rattle.recode_words.specs.Command.{recode_app};
-ghost use Rattle.recode_words.specs.Given.{HasValues, HasWrongValue, IsMatch, IsReading};
+ghost use Rattle.recode_words.specs.Given.{HasValues, HasWrongValue, IsEndOf, IsMatch, IsReading};
 
 use crate::words::{MarkWord, PivotWord, Words, limit_from};
 use clap::{ArgMatches, Command, Error};
@@ -32,7 +31,7 @@ pub(crate) struct WrongValue<'a> {
 fn matches<'a>(command: &mut Command<'a>, words: &'a [&'a str]) -> Result<ArgMatches<'a>, Error>
     requires { app_of command.old ≡ recode_app }
     ensures ok { IfOk result (IsMatch (map (λ s. s.now) words.now)) }
-    ensures err { IfErr result (HasKind (fault_of recode_app (map (λ s. s.now) words.now))) }
+    ensures err { IfErr result (IsEndOf (map (λ s. s.now) words.now)) }
 {
     command.try_get_matches_from_mut(words)
 }
@@ -53,7 +52,7 @@ impl<'a> Values<'a> {
     ) -> Result<Values<'a>, Error>
         requires { app_of command.old ≡ recode_app }
         ensures ok { IfOk result (HasValues (map (λ s. s.now) words.now)) }
-        ensures err { IfErr result (HasKind (fault_of recode_app (map (λ s. s.now) words.now))) }
+        ensures err { IfErr result (IsEndOf (map (λ s. s.now) words.now)) }
     {
         let matches = matches(command, words)?;
         Ok(Values {
