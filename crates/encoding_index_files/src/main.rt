@@ -1,14 +1,19 @@
 //! Loads the index of every kind from the files in the folder that it is run in, and prints some entries
-//! of each: a pointer, and the character there.
+//! of each: a pointer, and the character there. Then it prints what the encodings of more than one byte a
+//! character make of every sequence of two bytes, over these indexes.
 //!
 //! The file `stdout` beside `src/` has what it must print. Its characters were taken from ISO 8859, RFC 1489
 //! and RFC 2319 (KOI8), the code pages of the vendors, JIS X 0208 and 0212, KS X 1001, GB 18030 and the
-//! notes of the Encoding Standard, never from the files.
+//! notes of the Encoding Standard, never from the files. Its lines on sequences are those of
+//! `tools/sequences.py`, a program that reads the same files by itself.
 #![tactic(auto)]
 
 ghost use Rattle.std.specs.Prelude.{◌≡◌, true};
 ghost use Rattle.encoding_tables.specs.IndexLists.{has};
 
+mod sequences;
+
+use crate::sequences::print_sequences;
 use anyhow::{Context, ensure};
 use encoding_index::load;
 use encoding_tables::{IndexKind, Tables};
@@ -94,5 +99,27 @@ fn main(rt: HostRuntime) -> anyhow::Result<()> {
         ensure!(tables.has(kind), "an index that was loaded is not there");
         print_entries(&rt, &tables, kind, pointers)?;
     }
-    Ok(())
+    ensure!(
+        tables.has(IndexKind::Big5),
+        "the index of Big5 is not there"
+    );
+    ensure!(
+        tables.has(IndexKind::EucKr),
+        "the index of EUC-KR is not there"
+    );
+    ensure!(tables.has(IndexKind::Jis0208), "JIS X 0208 is not there");
+    ensure!(tables.has(IndexKind::Jis0212), "JIS X 0212 is not there");
+    ensure!(
+        tables.has(IndexKind::Gb18030),
+        "the index of gb18030 is not there"
+    );
+    ensure!(
+        tables.has(IndexKind::Gb18030Ranges),
+        "the ranges of gb18030 are not there"
+    );
+    ensure!(
+        tables.has(IndexKind::Iso2022JpKatakana),
+        "halfwidth katakana are not there"
+    );
+    print_sequences(&rt, &tables)
 }
