@@ -1,5 +1,6 @@
 // gb18030 and GBK over small tables, with answers worked by hand.
 
+use crate::streams::{MARK, decode_bytes, decode_units, insert};
 use crate::{Gb18030Decoder, Gb18030Encoder};
 use encoding_mem::{DecoderResult, EncoderResult, RawDecoder, RawEncoder};
 use encoding_tables::{IndexKind, Tables};
@@ -20,65 +21,10 @@ const AROUND_7457: [(u32, u32); 4] = [
 ];
 
 fn tables(alloc: Global, rows: &[(u32, u32)]) -> Result<Tables, AllocError> {
-    let mut flat = std::vec![in alloc; 0; 23940]?;
-    for (pointer, entry) in &ENTRIES {
-        if let Some(place) = flat.get_mut(*pointer) {
-            *place = *entry;
-        }
-    }
     let mut tables = Tables::new(alloc);
-    let _ = tables.insert(IndexKind::Gb18030, flat.as_slice());
+    insert(alloc, &mut tables, IndexKind::Gb18030, &ENTRIES)?;
     let _ = tables.insert_ranges(rows);
     Ok(tables)
-}
-
-// Stands in a log for a bad piece, with its length behind it.
-const MARK: u16 = 0xFFFF;
-
-// Decodes into 4 bytes at a time, and appends what is written, and each bad piece, to the log.
-fn decode_bytes(
-    decoder: &mut Gb18030Decoder<'_>,
-    src: &[u8],
-    last: bool,
-    log: &mut Vec<u16>,
-) -> Result<(), AllocError> {
-    let mut rest = src;
-    for _ in 0..80 {
-        let mut room = [0; 4];
-        let (outcome, read, written) = decoder.decode_to_utf8_raw(rest, &mut room, last);
-        for byte in &room[..written] {
-            log.push(u16::from(*byte))?;
-        }
-        rest = &rest[read..];
-        match outcome {
-            DecoderResult::InputEmpty => return Ok(()),
-            DecoderResult::OutputFull => {}
-            DecoderResult::Malformed(size, _) => log.extend_from_slice(&[MARK, u16::from(size)])?,
-        }
-    }
-    Ok(())
-}
-
-// The same into 2 units at a time.
-fn decode_units(
-    decoder: &mut Gb18030Decoder<'_>,
-    src: &[u8],
-    last: bool,
-    log: &mut Vec<u16>,
-) -> Result<(), AllocError> {
-    let mut rest = src;
-    for _ in 0..80 {
-        let mut room = [0; 2];
-        let (outcome, read, written) = decoder.decode_to_utf16_raw(rest, &mut room, last);
-        log.extend_from_slice(&room[..written])?;
-        rest = &rest[read..];
-        match outcome {
-            DecoderResult::InputEmpty => return Ok(()),
-            DecoderResult::OutputFull => {}
-            DecoderResult::Malformed(size, _) => log.extend_from_slice(&[MARK, u16::from(size)])?,
-        }
-    }
-    Ok(())
 }
 
 // Single bytes, forms of two and of four bytes, and each way in which they break off.
@@ -107,13 +53,14 @@ fn bytes_at_every_cut(rt: HostRuntime) -> Result<(), Fail> {
     for cut in 0..35 {
         let mut decoder = Gb18030Decoder::new(&tables);
         let mut log = Vec::new(rt.alloc());
-        decode_units(&mut decoder, &BYTES[..cut], false, &mut log)?;
-        decode_units(&mut decoder, &BYTES[cut..], true, &mut log)?;
+        decode_units(&mut decoder, &BYTES[..cut], false, &mut [0; 2], &mut log)?;
+        decode_units(&mut decoder, &BYTES[cut..], true, &mut [0; 2], &mut log)?;
         assert_eq!(rt; log.as_slice(), UNITS.as_slice(), "cut at {cut}");
         assert!(rt; decoder.in_neutral_state(), "cut at {cut}");
+        let mut decoder = Gb18030Decoder::new(&tables);
         let mut log = Vec::new(rt.alloc());
-        decode_bytes(&mut decoder, &BYTES[..cut], false, &mut log)?;
-        decode_bytes(&mut decoder, &BYTES[cut..], true, &mut log)?;
+        decode_bytes(&mut decoder, &BYTES[..cut], false, &mut [0; 4], &mut log)?;
+        decode_bytes(&mut decoder, &BYTES[cut..], true, &mut [0; 4], &mut log)?;
         assert_eq!(rt; log.as_slice(), UTF8.as_slice(), "cut at {cut}");
     }
     Ok(())
@@ -139,6 +86,7 @@ fn three_bytes_are_read_again(rt: HostRuntime) -> Result<(), Fail> {
     assert_eq!(rt; answer, (DecoderResult::InputEmpty, 0, 4));
     assert_eq!(rt; room.get(..4), Some("0丄".as_bytes()));
     assert!(rt; decoder.in_neutral_state());
+    let mut decoder = Gb18030Decoder::new(&tables);
     let answer = decoder.decode_to_utf8_raw(&[0x81, 0x30, 0x81, 0x41], &mut room, true);
     assert_eq!(rt; answer, (DecoderResult::Malformed(1, 0), 1, 0));
     Ok(())
@@ -149,16 +97,13 @@ fn the_end_comes_too_soon(rt: HostRuntime) -> Result<(), Fail> {
     let tables = tables(rt.alloc(), &SUPPLEMENTARY)?;
     assert!(rt; tables.has(IndexKind::Gb18030));
     assert!(rt; tables.has(IndexKind::Gb18030Ranges));
-    let mut decoder = Gb18030Decoder::new(&tables);
-    let mut room = [0; 2];
-    let answer = decoder.decode_to_utf16_raw(&[0x81], &mut room, true);
-    assert_eq!(rt; answer, (DecoderResult::Malformed(1, 0), 1, 0));
-    let answer = decoder.decode_to_utf16_raw(&[0x81, 0x30], &mut room, true);
-    assert_eq!(rt; answer, (DecoderResult::Malformed(2, 0), 2, 0));
-    let answer = decoder.decode_to_utf16_raw(&[0x81, 0x30, 0x81], &mut room, true);
-    assert_eq!(rt; answer, (DecoderResult::Malformed(3, 0), 3, 0));
-    let answer = decoder.decode_to_utf16_raw(&[0x81, 0x30, 0x81, 0x30], &mut room, true);
-    assert_eq!(rt; answer, (DecoderResult::Malformed(4, 0), 4, 0));
+    let bytes = [0x81, 0x30, 0x81, 0x30];
+    for (size, length) in [(1, 1), (2, 2), (3, 3), (4, 4)] {
+        let mut decoder = Gb18030Decoder::new(&tables);
+        let mut room = [0; 2];
+        let answer = decoder.decode_to_utf16_raw(&bytes[..length], &mut room, true);
+        assert_eq!(rt; answer, (DecoderResult::Malformed(size, 0), length, 0));
+    }
     Ok(())
 }
 

@@ -166,7 +166,7 @@ fn bytes_become_units(rt: HostRuntime) {
     let mut decoder = Iso2022JpDecoder::new(&tables);
     let mut units = [0; 8];
     let src = [0x41, 0x1B, 0x24, 0x42, 0x25, 0x4F, 0x1B, 0x28, 0x4A, 0x5C];
-    let answer = decoder.decode_to_utf16_raw(&src, &mut units, true);
+    let answer = decoder.decode_to_utf16_raw(&src, &mut units, false);
     assert_eq!(rt; answer, (DecoderResult::InputEmpty, 10, 3));
     assert_eq!(rt; units, [0x41, 0x30CF, 0xA5, 0, 0, 0, 0, 0]);
     assert!(rt; !decoder.in_neutral_state());

@@ -1,5 +1,6 @@
 // Shift_JIS and EUC-JP over small lists, with answers worked by hand.
 
+use crate::streams::{MARK, decode_bytes, decode_units, insert};
 use crate::{EucJpDecoder, EucJpEncoder, ShiftJisDecoder, ShiftJisEncoder};
 use encoding_mem::{DecoderResult, EncoderResult, RawDecoder, RawEncoder};
 use encoding_tables::{IndexKind, Tables};
@@ -19,74 +20,12 @@ const ENTRIES: [(usize, u32); 9] = [
     (1485, 0x4E00),
 ];
 
-// A list with these entries.
-fn list(alloc: Global, size: usize, entries: &[(usize, u32)]) -> Result<Vec<u32>, AllocError> {
-    let mut list = std::vec![in alloc; 0; size]?;
-    for (pointer, entry) in entries {
-        if let Some(place) = list.get_mut(*pointer) {
-            *place = *entry;
-        }
-    }
-    Ok(list)
-}
-
 // Tables with these entries of jis0208, and in jis0212 `˘` at 1.
 fn tables(alloc: Global, entries: &[(usize, u32)]) -> Result<Tables, AllocError> {
     let mut tables = Tables::new(alloc);
-    let jis0208 = list(alloc, 11280, entries)?;
-    let _ = tables.insert(IndexKind::Jis0208, jis0208.as_slice());
-    let jis0212 = list(alloc, 8836, &[(1, 0x02D8)])?;
-    let _ = tables.insert(IndexKind::Jis0212, jis0212.as_slice());
+    insert(alloc, &mut tables, IndexKind::Jis0208, entries)?;
+    insert(alloc, &mut tables, IndexKind::Jis0212, &[(1, 0x02D8)])?;
     Ok(tables)
-}
-
-// Stands in a log for a bad piece, with its length behind it.
-const MARK: u16 = 0xFFFF;
-
-// Decodes into 4 bytes at a time, and appends what is written, and each bad piece, to the log.
-fn decode_bytes<D: RawDecoder>(
-    decoder: &mut D,
-    src: &[u8],
-    last: bool,
-    log: &mut Vec<u16>,
-) -> Result<(), AllocError> {
-    let mut rest = src;
-    for _ in 0..40 {
-        let mut room = [0; 4];
-        let (outcome, read, written) = decoder.decode_to_utf8_raw(rest, &mut room, last);
-        for byte in &room[..written] {
-            log.push(u16::from(*byte))?;
-        }
-        rest = &rest[read..];
-        match outcome {
-            DecoderResult::InputEmpty => return Ok(()),
-            DecoderResult::OutputFull => {}
-            DecoderResult::Malformed(size, _) => log.extend_from_slice(&[MARK, u16::from(size)])?,
-        }
-    }
-    Ok(())
-}
-
-// The same into 2 units at a time.
-fn decode_units<D: RawDecoder>(
-    decoder: &mut D,
-    src: &[u8],
-    last: bool,
-    log: &mut Vec<u16>,
-) -> Result<(), AllocError> {
-    let mut rest = src;
-    for _ in 0..40 {
-        let mut room = [0; 2];
-        let (outcome, read, written) = decoder.decode_to_utf16_raw(rest, &mut room, last);
-        log.extend_from_slice(&room[..written])?;
-        rest = &rest[read..];
-        match outcome {
-            DecoderResult::InputEmpty => return Ok(()),
-            DecoderResult::OutputFull => {}
-            DecoderResult::Malformed(size, _) => log.extend_from_slice(&[MARK, u16::from(size)])?,
-        }
-    }
-    Ok(())
 }
 
 const HELLO: [u8; 16] = [
@@ -108,14 +47,15 @@ fn a_text_of_shift_jis_at_every_cut(rt: HostRuntime) -> Result<(), Fail> {
     for cut in 0..17 {
         let mut log = Vec::new(rt.alloc());
         let mut decoder = ShiftJisDecoder::new(&tables);
-        decode_bytes(&mut decoder, &HELLO[..cut], false, &mut log)?;
+        decode_bytes(&mut decoder, &HELLO[..cut], false, &mut [0; 4], &mut log)?;
         assert_eq!(rt; decoder.in_neutral_state(), cut % 2 == 0, "cut at {cut}");
-        decode_bytes(&mut decoder, &HELLO[cut..], true, &mut log)?;
+        decode_bytes(&mut decoder, &HELLO[cut..], true, &mut [0; 4], &mut log)?;
         assert_eq!(rt; log.as_slice(), bytes.as_slice(), "cut at {cut}");
         let mut log = Vec::new(rt.alloc());
-        decode_units(&mut decoder, &HELLO[..cut], false, &mut log)?;
+        let mut decoder = ShiftJisDecoder::new(&tables);
+        decode_units(&mut decoder, &HELLO[..cut], false, &mut [0; 2], &mut log)?;
         assert_eq!(rt; decoder.pending_len(), cut % 2, "cut at {cut}");
-        decode_units(&mut decoder, &HELLO[cut..], true, &mut log)?;
+        decode_units(&mut decoder, &HELLO[cut..], true, &mut [0; 2], &mut log)?;
         assert_eq!(rt; log.as_slice(), &HELLO_UNITS[..], "cut at {cut}");
     }
     Ok(())
@@ -127,11 +67,27 @@ fn slices_of_shift_jis(rt: HostRuntime) -> Result<(), Fail> {
     assert!(rt; tables.has(IndexKind::Jis0208));
     let mut decoder = ShiftJisDecoder::new(&tables);
     let mut log = Vec::new(rt.alloc());
-    decode_units(&mut decoder, &HELLO[..1], false, &mut log)?;
-    decode_units(&mut decoder, &HELLO[1..5], false, &mut log)?;
-    decode_units(&mut decoder, &HELLO[5..13], false, &mut log)?;
-    decode_units(&mut decoder, &HELLO[13..], true, &mut log)?;
+    decode_units(&mut decoder, &HELLO[..1], false, &mut [0; 2], &mut log)?;
+    decode_units(&mut decoder, &HELLO[1..5], false, &mut [0; 2], &mut log)?;
+    decode_units(&mut decoder, &HELLO[5..13], false, &mut [0; 2], &mut log)?;
+    decode_units(&mut decoder, &HELLO[13..], true, &mut [0; 2], &mut log)?;
     assert_eq!(rt; log.as_slice(), &HELLO_UNITS[..]);
+    let mut decoder = ShiftJisDecoder::new(&tables);
+    let mut log = Vec::new(rt.alloc());
+    let mut room = [0; 8];
+    for (from, to) in [(0, 1), (1, 5), (5, 13), (13, 16)] {
+        decode_bytes(
+            &mut decoder,
+            &HELLO[from..to],
+            to == 16,
+            &mut room,
+            &mut log,
+        )?;
+    }
+    assert_eq!(rt; log.len(), 24);
+    for (unit, byte) in log.iter().zip("ハロー・ワールド".as_bytes()) {
+        assert_eq!(rt; *unit, u16::from(*byte));
+    }
     Ok(())
 }
 
@@ -152,8 +108,8 @@ fn other_bytes_of_shift_jis_at_every_cut(rt: HostRuntime) -> Result<(), Fail> {
     for cut in 0..17 {
         let mut log = Vec::new(rt.alloc());
         let mut decoder = ShiftJisDecoder::new(&tables);
-        decode_units(&mut decoder, &bytes[..cut], false, &mut log)?;
-        decode_units(&mut decoder, &bytes[cut..], true, &mut log)?;
+        decode_units(&mut decoder, &bytes[..cut], false, &mut [0; 2], &mut log)?;
+        decode_units(&mut decoder, &bytes[cut..], true, &mut [0; 2], &mut log)?;
         assert_eq!(rt; log.as_slice(), &units[..], "cut at {cut}");
     }
     Ok(())
@@ -181,13 +137,14 @@ fn bytes_of_euc_jp_at_every_cut(rt: HostRuntime) -> Result<(), Fail> {
     for cut in 0..24 {
         let mut log = Vec::new(rt.alloc());
         let mut decoder = EucJpDecoder::new(&tables);
-        decode_units(&mut decoder, &bytes[..cut], false, &mut log)?;
+        decode_units(&mut decoder, &bytes[..cut], false, &mut [0; 2], &mut log)?;
         assert_eq!(rt; decoder.in_neutral_state(), decoder.pending_len() == 0);
-        decode_units(&mut decoder, &bytes[cut..], true, &mut log)?;
+        decode_units(&mut decoder, &bytes[cut..], true, &mut [0; 2], &mut log)?;
         assert_eq!(rt; log.as_slice(), &units[..], "cut at {cut}");
         let mut log = Vec::new(rt.alloc());
-        decode_bytes(&mut decoder, &bytes[..cut], false, &mut log)?;
-        decode_bytes(&mut decoder, &bytes[cut..], true, &mut log)?;
+        let mut decoder = EucJpDecoder::new(&tables);
+        decode_bytes(&mut decoder, &bytes[..cut], false, &mut [0; 4], &mut log)?;
+        decode_bytes(&mut decoder, &bytes[cut..], true, &mut [0; 4], &mut log)?;
         assert_eq!(rt; log.as_slice(), &text[..], "cut at {cut}");
     }
     Ok(())

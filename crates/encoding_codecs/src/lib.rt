@@ -20,8 +20,12 @@ pub mod lead_rule;
 pub mod shift_jis;
 pub mod stateless;
 #[cfg(test)]
-mod tests;
+mod streams;
+#[cfg(test)]
+mod text_tests;
 pub mod two_byte;
+#[cfg(test)]
+mod two_byte_tests;
 
 pub use big5::{Big5Decoder, Big5Encoder};
 pub use euc_jp::{EucJpDecoder, EucJpEncoder};

@@ -1,105 +1,33 @@
 // The two-byte codecs over small indexes, with answers worked by hand.
 
+use crate::streams::{MARK, decode_bytes, decode_units, insert};
 use crate::{Big5Decoder, Big5Encoder, EucKrDecoder, EucKrEncoder};
 use encoding_mem::{DecoderResult, EncoderResult, RawDecoder, RawEncoder};
 use encoding_tables::{IndexKind, Tables};
 use std::alloc::{AllocError, Global};
 use std::test::Fail;
 
-// Tables with one index, which has these entries.
-fn tables_of(
-    alloc: Global,
-    kind: IndexKind,
-    size: usize,
-    entries: &[(usize, u32)],
-) -> Result<Tables, AllocError> {
-    let mut flat = std::vec![in alloc; 0; size]?;
-    for (pointer, entry) in entries {
-        if let Some(place) = flat.get_mut(*pointer) {
-            *place = *entry;
-        }
-    }
-    let mut tables = Tables::new(alloc);
-    if !kind.is_ranges() {
-        let _ = tables.insert(kind, flat.as_slice());
-    }
-    Ok(tables)
-}
-
 // U+AC00 at 9026 and 9028, and U+4F3D at the last pointer.
 fn euc_kr(alloc: Global) -> Result<Tables, AllocError> {
-    tables_of(
-        alloc,
-        IndexKind::EucKr,
-        23940,
-        &[(9026, 0xAC00), (9028, 0xAC00), (23939, 0x4F3D)],
-    )
+    let mut tables = Tables::new(alloc);
+    let entries = [(9026, 0xAC00), (9028, 0xAC00), (23939, 0x4F3D)];
+    insert(alloc, &mut tables, IndexKind::EucKr, &entries)?;
+    Ok(tables)
 }
 
 // U+5341 at 5287 and 5512, U+4E00 at 5024 and 5025, U+43F0 at 0 and U+2008A at 942.
 fn big5(alloc: Global) -> Result<Tables, AllocError> {
-    tables_of(
-        alloc,
-        IndexKind::Big5,
-        19782,
-        &[
-            (0, 0x43F0),
-            (942, 0x2_008A),
-            (5024, 0x4E00),
-            (5025, 0x4E00),
-            (5287, 0x5341),
-            (5512, 0x5341),
-        ],
-    )
-}
-
-// Stands in a log for a bad piece, with its length behind it.
-const MARK: u8 = 0xFF;
-
-// Decodes into 4 bytes at a time, and appends what is written, and each bad piece, to the log.
-fn decode_bytes<D: RawDecoder>(
-    decoder: &mut D,
-    src: &[u8],
-    last: bool,
-    log: &mut Vec<u8>,
-) -> Result<(), AllocError> {
-    let mut rest = src;
-    for _ in 0..40 {
-        let mut room = [0; 4];
-        let (outcome, read, written) = decoder.decode_to_utf8_raw(rest, &mut room, last);
-        log.extend_from_slice(&room[..written])?;
-        rest = &rest[read..];
-        match outcome {
-            DecoderResult::InputEmpty => return Ok(()),
-            DecoderResult::OutputFull => {}
-            DecoderResult::Malformed(size, _) => log.extend_from_slice(&[MARK, size])?,
-        }
-    }
-    Ok(())
-}
-
-// Decodes into 2 units at a time. A bad piece is FFFF and its length.
-fn decode_units<D: RawDecoder>(
-    decoder: &mut D,
-    src: &[u8],
-    last: bool,
-    log: &mut Vec<u16>,
-) -> Result<(), AllocError> {
-    let mut rest = src;
-    for _ in 0..40 {
-        let mut room = [0; 2];
-        let (outcome, read, written) = decoder.decode_to_utf16_raw(rest, &mut room, last);
-        log.extend_from_slice(&room[..written])?;
-        rest = &rest[read..];
-        match outcome {
-            DecoderResult::InputEmpty => return Ok(()),
-            DecoderResult::OutputFull => {}
-            DecoderResult::Malformed(size, _) => {
-                log.extend_from_slice(&[0xFFFF, u16::from(size)])?;
-            }
-        }
-    }
-    Ok(())
+    let mut tables = Tables::new(alloc);
+    let entries = [
+        (0, 0x43F0),
+        (942, 0x2_008A),
+        (5024, 0x4E00),
+        (5025, 0x4E00),
+        (5287, 0x5341),
+        (5512, 0x5341),
+    ];
+    insert(alloc, &mut tables, IndexKind::Big5, &entries)?;
+    Ok(tables)
 }
 
 #[test]
@@ -113,8 +41,8 @@ fn euc_kr_at_every_cut(rt: HostRuntime) -> Result<(), Fail> {
     for cut in 0..12 {
         let mut log = Vec::new(rt.alloc());
         let mut decoder = EucKrDecoder::new(&tables);
-        decode_bytes(&mut decoder, &src[..cut], false, &mut log)?;
-        decode_bytes(&mut decoder, &src[cut..], true, &mut log)?;
+        decode_bytes(&mut decoder, &src[..cut], false, &mut [0; 4], &mut log)?;
+        decode_bytes(&mut decoder, &src[cut..], true, &mut [0; 4], &mut log)?;
         assert!(rt; decoder.in_neutral_state());
         assert_eq!(rt;
             log.as_slice(),
@@ -127,12 +55,12 @@ fn euc_kr_at_every_cut(rt: HostRuntime) -> Result<(), Fail> {
     for cut in 0..12 {
         let mut log = Vec::new(rt.alloc());
         let mut decoder = EucKrDecoder::new(&tables);
-        decode_units(&mut decoder, &src[..cut], false, &mut log)?;
-        decode_units(&mut decoder, &src[cut..], true, &mut log)?;
+        decode_units(&mut decoder, &src[..cut], false, &mut [0; 2], &mut log)?;
+        decode_units(&mut decoder, &src[cut..], true, &mut [0; 2], &mut log)?;
         assert_eq!(rt;
             log.as_slice(),
             &[
-                0xAC00, 0xFFFF, 1, 0x41, 0x4F3D, 0xFFFF, 2, 0xFFFF, 1, 0x7F, 0xFFFF, 1
+                0xAC00, MARK, 1, 0x41, 0x4F3D, MARK, 2, MARK, 1, 0x7F, MARK, 1
             ][..],
             "cut at {cut}"
         );
@@ -235,21 +163,21 @@ fn big5_at_every_cut(rt: HostRuntime) -> Result<(), Fail> {
     ];
     let units = [
         0xCA, 0x304, 0xCA, 0x30C, 0xEA, 0x304, 0xEA, 0x30C, 0x43F0, 0xD840, 0xDC8A, 0x5341, 0x4E00,
-        0xFFFF, 1, 0x7F, 0xFFFF, 2, 0xFFFF, 1, 0xFFFF, 1,
+        MARK, 1, 0x7F, MARK, 2, MARK, 1, MARK, 1,
     ];
     for cut in 0..23 {
         let mut log = Vec::new(rt.alloc());
         let mut decoder = Big5Decoder::new(&tables);
-        decode_units(&mut decoder, &src[..cut], false, &mut log)?;
-        decode_units(&mut decoder, &src[cut..], true, &mut log)?;
+        decode_units(&mut decoder, &src[..cut], false, &mut [0; 2], &mut log)?;
+        decode_units(&mut decoder, &src[cut..], true, &mut [0; 2], &mut log)?;
         assert!(rt; decoder.in_neutral_state());
         assert_eq!(rt; log.as_slice(), &units[..], "cut at {cut}");
     }
     for cut in 0..3 {
         let mut log = Vec::new(rt.alloc());
         let mut decoder = Big5Decoder::new(&tables);
-        decode_bytes(&mut decoder, &src[..cut], false, &mut log)?;
-        decode_bytes(&mut decoder, &src[cut..2], true, &mut log)?;
+        decode_bytes(&mut decoder, &src[..cut], false, &mut [0; 4], &mut log)?;
+        decode_bytes(&mut decoder, &src[cut..2], true, &mut [0; 4], &mut log)?;
         assert_eq!(rt;
             log.as_slice(),
             &[0xC3, 0x8A, 0xCC, 0x84][..],
