@@ -7,6 +7,7 @@ use Rattle.std.proofs.lemmas.Bool.Decides.{nat_tests}
 use Rattle.encoding_mem.specs.Coding.{spelled, reference}
 use Rattle.encoding_mem.specs.Piece.{Piece, good, size_of, sizes, text, AreGood}
 use Rattle.encoding_mem.specs.PiecesLaws.{pieces_in-cons}
+use Rattle.encoding_mem.specs.Steps.{Follows, IsBroken, StepLaw}
 use Rattle.encoding_mem.specs.declared.form.Form.TheVariants.{Mapped, Unmapped}
 use Rattle.encoding_mem.specs.declared.form.Set.{Set}
 use Rattle.encoding_mem.specs.declared.form.Set.TheVariants.{Ascii, Roman, Jis}
@@ -19,7 +20,6 @@ use Rattle.encoding_codecs.specs.Iso2022JpForms.{looked_up, pointer_of, pointer_
 use Rattle.encoding_codecs.specs.Iso2022JpFormsLaws.{set_after-only}
 use Rattle.encoding_codecs.specs.Iso2022JpLaws.{cuts_iso_2022_jp, agrees, no_escape_at}
 use Rattle.encoding_codecs.specs.Iso2022JpSets.{mode_of, pieces_from_set}
-use Rattle.encoding_codecs.specs.ReadBackSteps.{Follows, IsBroken, StepLaw}
 use Rattle.encoding_codecs.specs.declared.iso_2022_jp_decoder.Mode.{Mode}
 
 -- ---- pieces at the front

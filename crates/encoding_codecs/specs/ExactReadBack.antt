@@ -1,6 +1,6 @@
--- What a target with one set writes reads back exactly where each scalar has bytes, if the bytes of a scalar are a piece
--- that gives it, and no ASCII is unmappable.
-use Rattle.std.proofs.Common.{◌≡◌, ℕ, ◌<◌, ◌≤◌, true, List, [], ◌∷◌, ◌++◌, length, drop, refl, sym, ◌∙◌, ap, subst, arith, length-append}
+-- What a target with one set writes reads back exactly where each scalar has bytes, and scalar by scalar, if the bytes of
+-- a scalar are a piece that gives it, and no ASCII is unmappable.
+use Rattle.std.proofs.Common.{◌≡◌, ℕ, ◌<◌, ◌≤◌, ◌⊎◌, inl, inr, true, List, [], ◌∷◌, ◌++◌, length, drop, refl, sym, ◌∙◌, ap, subst, arith, length-append}
 use Rattle.std.specs.Char.{IsScalar}
 use Rattle.std.specs.Str.{all_scalars}
 use Rattle.std.proofs.Math.Utf8.{scalar}
@@ -12,10 +12,13 @@ use Rattle.encoding_mem.specs.PiecesLaws.{CutsEach, pieces_by-nil, pieces_by-fir
 use Rattle.encoding_mem.specs.Coding.{AllMapped, IsMapped, open_from, output, spelled, reference}
 use Rattle.encoding_mem.specs.ReadBack.{ReadsAs, ReadsBackExactly}
 use Rattle.encoding_mem.specs.Stateless.{stateless}
+use Rattle.encoding_mem.specs.Steps.{StepLaw, in_any_set, Returns, Strays}
+use Rattle.encoding_mem.specs.StepsLaws.{step_law}
 use Rattle.encoding_mem.specs.declared.form.Form.{Form}
 use Rattle.encoding_mem.specs.declared.form.Form.TheVariants.{Mapped, Unmapped}
 use Rattle.encoding_mem.specs.declared.form.Set.{Set}
 use Rattle.encoding_mem.specs.declared.form.Set.TheVariants.{Ascii}
+use Rattle.encoding_codecs.specs.StepsLaws.{reference_strays}
 
 -- these bytes are a piece that gives the scalar, whatever follows; one without bytes is above ASCII
 abbrev pub ReadsAsScalar : (List ℕ → Piece) → ℕ → Form → Type 0
@@ -100,3 +103,12 @@ reads_back_exactly front form is t k =
       λ back. all_mapped front form is Ascii t k (subst (λ l. ReadsAs (pieces_by front) l t) whole back),
       λ mapped. subst (λ l. ReadsAs (pieces_by front) l t) (sym whole) (reads front form is Ascii t k mapped),
     )
+
+-- and scalar by scalar
+one_step : (front : List ℕ → Piece) (form : ℕ → Form) → ReadsEach front form → (c : ℕ) (f : Form) → ReadsAsScalar front c f
+    → Returns front (spelled f) c ⊎ Strays front (spelled f) c
+one_step front form is c (Mapped bs) h = inl (record { piece = h.1 })
+one_step front form is c (Unmapped d) h = inr (reference_strays front is.ascii c d h)
+
+pub reads_back_by_steps : (front : List ℕ → Piece) (form : ℕ → Form) → ReadsEach front form → StepLaw (stateless form) (in_any_set (pieces_by front))
+reads_back_by_steps front form is = step_law front form is.cuts (λ c scalar. one_step front form is c (form c) (is.scalar c scalar))

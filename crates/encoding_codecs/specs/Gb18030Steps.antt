@@ -8,6 +8,7 @@ use Rattle.std.proofs.lemmas.Bool.{cases_lt, lt-ltb, le-ltb, leb-true, and_parts
 use Rattle.std.proofs.lemmas.Bool.Decides.{nat_tests}
 use Rattle.encoding_mem.specs.Coding.{spelled}
 use Rattle.encoding_mem.specs.Piece.{good, bad}
+use Rattle.encoding_mem.specs.Steps.{Returns, Strays, StepsReadBack}
 use Rattle.encoding_tables.specs.Lookups.{value_of, first_pointer}
 use Rattle.encoding_tables.specs.LookupLaws.{IsPointer}
 use Rattle.encoding_tables.specs.OptionCases.{map_some}
@@ -20,7 +21,6 @@ use Rattle.encoding_codecs.specs.Pointers.{value_of_entry}
 use Rattle.encoding_codecs.specs.declared.two_byte.PairValue.TheVariants.{NoChar}
 use Rattle.encoding_codecs.specs.Gb18030.{gb18030_first, gb18030_pair, pair_pointer, four_pointer, piece_of_four, after_two, after_lead, front_gb18030}
 use Rattle.encoding_codecs.specs.Gb18030Coding.{fixed_rows, fixed_pair, two_of, trail_of, pair_bytes, four_bytes, index_bytes, range_bytes, form_of_bytes, gb18030_form}
-use Rattle.encoding_codecs.specs.Steps.{Returns, Strays, StepsReadBack}
 use Rattle.encoding_codecs.specs.StepsLaws.{IsEither, bad_either, one_either, either_if, by_piece, reference_strays}
 
 -- ---- the first piece of a lead and what follows it

@@ -9,7 +9,6 @@ pub mod EucKr
 pub mod EucKrLaws
 pub mod Big5
 pub mod Big5Laws
-pub mod Steps
 pub mod StepsLaws
 pub mod JisForms
 pub mod JisFormsLaws
@@ -36,5 +35,5 @@ pub mod Iso2022JpForms
 pub mod Iso2022JpFormsLaws
 pub mod Iso2022JpRows
 pub mod Iso2022JpSets
-pub mod ReadBackSteps
 pub mod CodecTables
+pub mod CodecSteps

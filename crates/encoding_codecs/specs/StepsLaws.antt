@@ -3,7 +3,8 @@ use Rattle.std.proofs.Common.{◌≡◌, ◌≢◌, ℕ, ◌<◌, ◌≤◌, ◌
 use Rattle.std.proofs.lemmas.Bool.{cases_eq}
 use Rattle.encoding_mem.specs.Coding.{reference}
 use Rattle.encoding_mem.specs.Piece.{Piece, good, bad, size_of, scalars_of, IsGood}
-use Rattle.encoding_codecs.specs.Steps.{Returns, Strays}
+use Rattle.encoding_mem.specs.Steps.{Returns, Strays}
+use Rattle.encoding_mem.specs.StepsLaws.{strays_at_reference}
 
 -- a piece of so many bytes gives the scalar, or it is wrong
 pub record IsWrong (n c : ℕ) (p : Piece) : Type 0 where
@@ -32,12 +33,7 @@ pub by_piece : (front : List ℕ → Piece) (bytes : List ℕ) (c : ℕ) (p : Pi
 by_piece front bytes c p is (inl same) = inl (record { piece = λ y. is y ∙ same })
 by_piece front bytes c p is (inr wrong) = inr (record { piece = p; first = is; within = wrong.within; wrong = wrong.wrong })
 
--- a reference begins with `&`, and stands for no ASCII
+-- a reference stands for no character from 80 on
 pub reference_strays : (front : List ℕ → Piece) → ((b : ℕ) (x : List ℕ) → b < 0x80 → front (b ∷ x) ≡ good 1 (b ∷ [])) → (c d : ℕ) → 0x80 ≤ c
     → Strays front (reference d) c
-reference_strays front ascii c d high = record {
-  piece = good 1 (0x26 ∷ []);
-  first = λ y. ascii 0x26 _ (omega arith);
-  within = omega arith;
-  wrong = inr (0x26, λ same. omega (arith, same, high), refl);
-}
+reference_strays front ascii c d high = strays_at_reference front c d (λ x. ascii 0x26 x (omega arith)) (λ same. omega (arith, same, high))

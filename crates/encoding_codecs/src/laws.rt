@@ -2,18 +2,18 @@
 
 ghost use Rattle.std.specs.Prelude.{ℕ, Bool, List};
 ghost use Rattle.encoding_mem.specs.ReadBack.{ReadsBackExactly};
+ghost use Rattle.encoding_mem.specs.Steps.{StepLaw, in_any_set};
 ghost use Rattle.encoding_tables.specs.Lookups.{AreEntries};
+ghost use Rattle.encoding_tables.specs.Ranges.{HaveScalars};
 ghost use Rattle.encoding_codecs.specs.Big5.{pieces_big5, big5_coding};
-ghost use Rattle.encoding_codecs.specs.EucJp.{front_euc_jp, euc_jp_form};
+ghost use Rattle.encoding_codecs.specs.EucJp.{pieces_euc_jp, euc_jp_coding};
 ghost use Rattle.encoding_codecs.specs.EucKr.{pieces_euc_kr, euc_kr_coding};
-ghost use Rattle.encoding_codecs.specs.ShiftJis.{front_shift_jis, shift_jis_form};
+ghost use Rattle.encoding_codecs.specs.ShiftJis.{pieces_shift_jis, shift_jis_coding};
 ghost use Rattle.encoding_codecs.specs.ShiftJisPointers.{PointerIsLeastUsed};
-ghost use Rattle.encoding_codecs.specs.Gb18030.{front_gb18030};
-ghost use Rattle.encoding_codecs.specs.Gb18030Coding.{gb18030_form};
-ghost use Rattle.encoding_codecs.specs.Steps.{StepsReadBack};
+ghost use Rattle.encoding_codecs.specs.Gb18030.{pieces_gb18030};
+ghost use Rattle.encoding_codecs.specs.Gb18030Coding.{gb18030_coding};
 ghost use Rattle.encoding_codecs.specs.Iso2022JpForms.{iso_2022_jp_coding};
 ghost use Rattle.encoding_codecs.specs.Iso2022JpSets.{pieces_from_set};
-ghost use Rattle.encoding_codecs.specs.ReadBackSteps.{StepLaw};
 
 /// What is written in EUC-KR reads back, by the decoder of the same index, as the text exactly where each
 /// character of it has a pointer.
@@ -33,22 +33,33 @@ pub fn shift_jis_pointers()
     ensures { PointerIsLeastUsed }
 {}
 
-/// What Shift_JIS writes for a character, its bytes or its reference, reads back as the character or as
-/// something else, whatever follows it and whatever the index holds.
-pub fn shift_jis_steps_read_back()
-    ensures { (jis0208 : List ℕ) → StepsReadBack (front_shift_jis jis0208) (shift_jis_form jis0208) }
+/// What Shift_JIS writes for a character, its bytes or its reference, reads back, by the decoder of the same
+/// index, as that character, or begins with a piece that is bad or another character, whatever follows it.
+pub fn shift_jis_steps()
+    ensures { (jis0208 : List ℕ) → AreEntries jis0208
+        → StepLaw (shift_jis_coding jis0208) (in_any_set (pieces_shift_jis jis0208)) }
 {}
 
 /// The same of EUC-JP.
-pub fn euc_jp_steps_read_back()
-    ensures { (jis0208 jis0212 : List ℕ) → StepsReadBack (front_euc_jp jis0208 jis0212) (euc_jp_form jis0208) }
+pub fn euc_jp_steps()
+    ensures { (jis0208 jis0212 : List ℕ) → AreEntries jis0208 → AreEntries jis0212
+        → StepLaw (euc_jp_coding jis0208) (in_any_set (pieces_euc_jp jis0208 jis0212)) }
 {}
 
-/// What gb18030 or GBK writes for a character, its bytes or its reference, reads back as the character
-/// or as something else, whatever follows it and whatever the tables hold.
-pub fn gb18030_steps_read_back()
-    ensures { (flat : List ℕ) (rows : List (ℕ × ℕ)) (extended : Bool)
-        → StepsReadBack (front_gb18030 flat rows) (gb18030_form flat rows extended) }
+/// The same of gb18030, and of GBK.
+pub fn gb18030_steps()
+    ensures { (flat : List ℕ) (rows : List (ℕ × ℕ)) (extended : Bool) → AreEntries flat → HaveScalars rows
+        → StepLaw (gb18030_coding flat rows extended) (in_any_set (pieces_gb18030 flat rows)) }
+{}
+
+/// The same of EUC-KR.
+pub fn euc_kr_steps()
+    ensures { (flat : List ℕ) → AreEntries flat → StepLaw (euc_kr_coding flat) (in_any_set (pieces_euc_kr flat)) }
+{}
+
+/// The same of Big5.
+pub fn big5_steps()
+    ensures { (flat : List ℕ) → AreEntries flat → StepLaw (big5_coding flat) (in_any_set (pieces_big5 flat)) }
 {}
 
 /// What is written in ISO-2022-JP for a character, its escape included, is read by the decoder of the

@@ -33,6 +33,8 @@ pub mod SampleCodingLaws
 pub mod EncodingRows
 pub mod ReadBack
 pub mod ReadBackLaws
+pub mod Steps
+pub mod StepsLaws
 pub mod Latin1
 pub mod Bidi
 pub mod LongestPrefix

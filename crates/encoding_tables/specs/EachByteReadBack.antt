@@ -1,16 +1,18 @@
 -- Where each byte is a piece and the byte of a character reads as that character, what is written reads back exactly
--- where each character has a byte.
-use Rattle.std.proofs.Common.{◌≡◌, ℕ, ◌+◌, ◌≤◌, List, [], ◌∷◌, ◌++◌, length, sym, ◌∙◌, ap, subst, refl, arith, Option, None, Some, append-nil, length-append}
+-- where each character has a byte, and character by character.
+use Rattle.std.proofs.Common.{◌≡◌, ℕ, ◌+◌, ◌≤◌, List, [], ◌∷◌, ◌++◌, length, sym, ◌≢◌, ◌⊎◌, inl, inr, ◌∙◌, ap, subst, refl, arith, Option, None, Some, append-nil, length-append}
 use Rattle.std.specs.Fmt.{decimal}
 use Rattle.encoding_mem.specs.Piece.{text, text_of, AreGood}
 use Rattle.encoding_mem.specs.PiecesLaws.{pieces_by-nil}
 use Rattle.encoding_mem.specs.Coding.{AllMapped, IsMapped, open_from, output, spelled, lost_count, unmapped_count}
+use Rattle.encoding_mem.specs.Steps.{StepLaw, in_any_set, Returns, Strays}
+use Rattle.encoding_mem.specs.StepsLaws.{step_law, strays_at_reference}
 use Rattle.encoding_mem.specs.ReadBack.{ReadsAs, ReadsBackExactly}
 use Rattle.encoding_mem.specs.ReadBackLaws.{all_mapped}
 use Rattle.encoding_mem.specs.declared.form.Set.{Set}
 use Rattle.encoding_mem.specs.declared.form.Set.TheVariants.{Ascii}
 use Rattle.encoding_tables.specs.EachByte.{piece_of_byte, front_by_byte, pieces_by_byte, form_of_byte, coding_by_byte}
-use Rattle.encoding_tables.specs.EachByteLaws.{AreScalars, pieces_by_byte-cons}
+use Rattle.encoding_tables.specs.EachByteLaws.{AreScalars, cuts_by_byte, pieces_by_byte-cons}
 
 -- the byte of a character reads as that character
 abbrev pub ReadsBack : (char_of byte_of : ℕ → Option ℕ) → Type 0
@@ -66,3 +68,21 @@ exact_by_byte char_of byte_of scalars back t h =
           all_mapped (coding_by_byte byte_of) t (omega (arith, long, ap length whole, open_length byte_of Ascii t)),
       λ mapped. subst (λ l. ReadsAs (pieces_by_byte char_of) l t) (sym whole) (reads char_of byte_of Ascii t scalars back mapped),
     )
+
+-- What is written for a character is the byte that reads as it; or a reference, which begins with the byte of `&`.
+abbrev IsAbsent : Option ℕ → Type 0
+IsAbsent None = Unit {0}
+IsAbsent (Some b) = ⊥
+
+one_step : (char_of byte_of : ℕ → Option ℕ) → ReadsBack char_of byte_of → byte_of 0x26 ≡ Some 0x26 → (c : ℕ) (o : Option ℕ) → byte_of c ≡ o
+    → Returns (front_by_byte char_of) (spelled (form_of_byte c o)) c ⊎ Strays (front_by_byte char_of) (spelled (form_of_byte c o)) c
+one_step char_of byte_of back ampersand c None is =
+    let other : c ≢ 0x26 = λ same. subst IsAbsent (sym is ∙ ap byte_of same ∙ ampersand) tt in
+    inr (strays_at_reference (front_by_byte char_of) c c (λ x. ap piece_of_byte (back 0x26 0x26 ampersand)) other)
+one_step char_of byte_of back ampersand c (Some b) is = inl (record { piece = λ y. ap piece_of_byte (back c b is) })
+
+pub steps_by_byte : (char_of byte_of : ℕ → Option ℕ) → AreScalars char_of → ReadsBack char_of byte_of → byte_of 0x26 ≡ Some 0x26
+    → StepLaw (coding_by_byte byte_of) (in_any_set (pieces_by_byte char_of))
+steps_by_byte char_of byte_of scalars back ampersand =
+    step_law (front_by_byte char_of) (λ c. form_of_byte c (byte_of c)) (cuts_by_byte char_of scalars)
+    (λ c scalar. one_step char_of byte_of back ampersand c (byte_of c) refl)

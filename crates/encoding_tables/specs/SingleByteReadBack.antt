@@ -1,10 +1,11 @@
--- What a single-byte encoding writes reads back exactly where each character has a byte.
+-- What a single-byte encoding writes reads back exactly where each character has a byte, and character by character.
 use Rattle.std.proofs.Common.{◌≡◌, ℕ, ◌+◌, ◌-◌, List, refl, arith, inl, inr, Some}
 use Rattle.std.proofs.lemmas.Bool.{cases_lt, lt-ltb, le-ltb}
 use Rattle.encoding_mem.specs.Piece.{ArePieces}
 use Rattle.encoding_mem.specs.PiecesLaws.{pieces_by-are_pieces}
 use Rattle.encoding_mem.specs.ReadBack.{ReadsBackExactly}
-use Rattle.encoding_tables.specs.EachByteReadBack.{ReadsBack, exact_by_byte}
+use Rattle.encoding_mem.specs.Steps.{StepLaw, in_any_set}
+use Rattle.encoding_tables.specs.EachByteReadBack.{ReadsBack, exact_by_byte, steps_by_byte}
 use Rattle.encoding_tables.specs.Lookups.{AreEntries, first_pointer}
 use Rattle.encoding_tables.specs.SingleByte.{char_of_byte, byte_of_char, front_single_byte, pieces_single_byte, single_byte_coding}
 use Rattle.encoding_tables.specs.LookupLaws.{IsPointer}
@@ -30,6 +31,9 @@ byte_reads_back flat c b e = elim (cases_lt c 0x80) [
 
 pub single_byte_exact : (flat : List ℕ) → AreEntries flat → ReadsBackExactly (pieces_single_byte flat) (single_byte_coding flat)
 single_byte_exact flat scalars = exact_by_byte (char_of_byte flat) (byte_of_char flat) (scalar_of_byte flat scalars) (byte_reads_back flat)
+
+pub single_byte_steps : (flat : List ℕ) → AreEntries flat → StepLaw (single_byte_coding flat) (in_any_set (pieces_single_byte flat))
+single_byte_steps flat scalars = steps_by_byte (char_of_byte flat) (byte_of_char flat) (scalar_of_byte flat scalars) (byte_reads_back flat) refl
 
 -- and bytes are cut into pieces
 pub single_byte_are_pieces : (flat : List ℕ) → AreEntries flat → (x : List ℕ) → ArePieces (pieces_single_byte flat x)

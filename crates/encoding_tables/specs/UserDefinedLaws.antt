@@ -11,7 +11,8 @@ use Rattle.encoding_mem.specs.PiecesLaws.{CutsEach}
 use Rattle.encoding_mem.specs.ReadBack.{ReadsBackExactly}
 use Rattle.encoding_mem.specs.Utf8Laws.{range_from, scalar_from}
 use Rattle.encoding_tables.specs.EachByteLaws.{AreScalars, cuts_by_byte, laws_by_byte}
-use Rattle.encoding_tables.specs.EachByteReadBack.{ReadsBack, exact_by_byte}
+use Rattle.encoding_mem.specs.Steps.{StepLaw, in_any_set}
+use Rattle.encoding_tables.specs.EachByteReadBack.{ReadsBack, exact_by_byte, steps_by_byte}
 use Rattle.encoding_tables.specs.OptionCases.{if_some_some}
 use Rattle.encoding_tables.specs.UserDefined.{user_char_of_byte, byte_of_user_char, front_user_defined, pieces_user_defined, user_defined_coding}
 
@@ -55,3 +56,7 @@ reads_back c b e = elim (cases_lt c 0x80) [
 -- what is written reads back exactly where each character has a byte
 pub user_defined_exact : ReadsBackExactly pieces_user_defined user_defined_coding
 user_defined_exact = exact_by_byte user_char_of_byte byte_of_user_char scalars_user_defined reads_back
+
+-- and character by character
+pub user_defined_steps : StepLaw user_defined_coding (in_any_set pieces_user_defined)
+user_defined_steps = steps_by_byte user_char_of_byte byte_of_user_char scalars_user_defined reads_back refl

@@ -2,6 +2,7 @@
 
 ghost use Rattle.std.specs.Prelude.{ℕ, List};
 ghost use Rattle.encoding_mem.specs.ReadBack.{ReadsBackExactly};
+ghost use Rattle.encoding_mem.specs.Steps.{StepLaw, in_any_set};
 ghost use Rattle.encoding_tables.specs.FileNames.{FileNamesDiffer};
 ghost use Rattle.encoding_tables.specs.Lookups.{AreEntries};
 ghost use Rattle.encoding_tables.specs.Accepted.{AcceptanceIsExact};
@@ -52,6 +53,18 @@ pub fn single_byte_text_reads_back()
 /// What is written in x-user-defined reads back as the text exactly where each character of it has a byte.
 pub fn user_defined_text_reads_back()
     ensures { ReadsBackExactly pieces_user_defined user_defined_coding }
+{}
+
+/// What is written in a single-byte encoding for a character, its byte or its reference, reads back, by the
+/// decoder of the same list, as that character, or begins with a piece that is bad or another character,
+/// whatever follows it.
+pub fn single_byte_steps()
+    ensures { (flat : List ℕ) → AreEntries flat → StepLaw (single_byte_coding flat) (in_any_set (pieces_single_byte flat)) }
+{}
+
+/// The same of x-user-defined.
+pub fn user_defined_steps()
+    ensures { StepLaw user_defined_coding (in_any_set pieces_user_defined) }
 {}
 
 /// The pieces of units in UTF-16, in either byte order, are the characters that the units spell; each

@@ -1,9 +1,10 @@
--- What the bytes of one character read as: how a whole output reads follows from it, character by character.
-use Rattle.std.specs.Prelude.{◌≡◌, ◌≢◌, ℕ, ◌<◌, ◌⊎◌, List, [], ◌∷◌, ◌++◌, length, slice_index}
+-- What is written for one character, read back: how a whole output reads follows from it, character by character.
+use Rattle.std.specs.Prelude.{◌≡◌, ◌≢◌, ℕ, ◌<◌, ◌≤◌, ◌⊎◌, List, [], ◌∷◌, ◌++◌, length, slice_index}
 use Rattle.std.specs.Char.{IsScalar}
 use Rattle.encoding_mem.specs.Coding.{Coding, spelled}
 use Rattle.encoding_mem.specs.Decoding.{IsDecided}
-use Rattle.encoding_mem.specs.Piece.{Piece, text, sizes, AreGood}
+use Rattle.encoding_mem.specs.Piece.{Piece, size_of, scalars_of, text, sizes, IsGood, AreGood, good}
+use Rattle.encoding_mem.specs.declared.form.Form.{Form}
 use Rattle.encoding_mem.specs.declared.form.Set.{Set}
 
 -- what is written for a character from a set: its escape, and its bytes or its reference
@@ -35,3 +36,24 @@ pub record IsBroken (before : List ℕ → List Piece) (bytes t : List ℕ) : Ty
 abbrev pub StepLaw : Coding → (Set → List ℕ → List Piece) → Type 0
 StepLaw e pieces_from = (s : Set) (c : ℕ) → IsScalar c
     → Follows (pieces_from s) (pieces_from (e.set s c)) (one_from e s c) (c ∷ []) ⊎ IsBroken (pieces_from s) (one_from e s c) (c ∷ [])
+
+-- the pieces of a decoder that has one mode
+abbrev pub in_any_set : (List ℕ → List Piece) → Set → List ℕ → List Piece
+in_any_set pieces s = pieces
+
+-- ---- the same by the first piece, where there is one mode
+
+-- whatever follows these bytes, they are a piece that gives the scalar
+pub record Returns (front : List ℕ → Piece) (bytes : List ℕ) (c : ℕ) : Type 0 where
+  pub piece : (y : List ℕ) → front (bytes ++ y) ≡ good (length bytes) (c ∷ [])
+
+-- whatever follows them, they begin with a piece that is bad, or gives another scalar
+pub record Strays (front : List ℕ → Piece) (bytes : List ℕ) (c : ℕ) : Type 0 where
+  pub piece : Piece
+  pub first : (y : List ℕ) → front (bytes ++ y) ≡ piece
+  pub within : size_of piece ≤ length bytes
+  pub wrong : (¬ (IsGood piece)) ⊎ ((d : ℕ) × (d ≢ c) × (scalars_of piece ≡ d ∷ []))
+
+-- what is written for each scalar, its bytes or its reference, does the one or the other
+abbrev pub StepsReadBack : (List ℕ → Piece) → (ℕ → Form) → Type 0
+StepsReadBack front form = (c : ℕ) → IsScalar c → Returns front (spelled (form c)) c ⊎ Strays front (spelled (form c)) c

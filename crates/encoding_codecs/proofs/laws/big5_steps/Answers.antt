@@ -1,0 +1,5 @@
+use Rattle.encoding_codecs.specs.Big5Laws.{big5_steps}
+use Rattle.encoding_codecs.proofs.laws.big5_steps.Goals as goal
+
+pub returns : goal.returns
+returns c = big5_steps

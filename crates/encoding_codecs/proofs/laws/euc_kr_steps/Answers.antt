@@ -1,0 +1,5 @@
+use Rattle.encoding_codecs.specs.EucKrLaws.{euc_kr_steps}
+use Rattle.encoding_codecs.proofs.laws.euc_kr_steps.Goals as goal
+
+pub returns : goal.returns
+returns c = euc_kr_steps

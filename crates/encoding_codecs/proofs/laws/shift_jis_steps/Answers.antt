@@ -1,0 +1,5 @@
+use Rattle.encoding_codecs.specs.CodecSteps.{shift_jis_step_law}
+use Rattle.encoding_codecs.proofs.laws.shift_jis_steps.Goals as goal
+
+pub returns : goal.returns
+returns c = shift_jis_step_law

@@ -1,0 +1,5 @@
+use Rattle.encoding_tables.specs.UserDefinedLaws.{user_defined_steps}
+use Rattle.encoding_tables.proofs.laws.user_defined_steps.Goals as goal
+
+pub returns : goal.returns
+returns c = user_defined_steps
