@@ -37,3 +37,4 @@ pub mod Iso2022JpRows
 pub mod Iso2022JpSets
 pub mod CodecTables
 pub mod CodecSteps
+pub mod TwoByteRows
