@@ -1,6 +1,6 @@
 -- What a call of a decoder does.
 use Rattle.std.specs.Prelude.{◌≡◌, ℕ, ◌+◌, ◌-◌, ◌≤◌, ◌<◌, ◌≢◌, ◌⊎◌, Bool, false, IsTrue, Some, List, [], ◌∷◌, ◌++◌, length, drop}
-use Rattle.encoding_mem.specs.Piece.{Piece, bad, first, size_of, sizes, scalars, AreGood, ArePieces}
+use Rattle.encoding_mem.specs.Piece.{Piece, bad, first, size_of, sizes, scalars, text_of, AreGood, ArePieces}
 use Rattle.encoding_mem.specs.Room.{room_of}
 use Rattle.encoding_mem.specs.declared.room.Count.{Count}
 use Rattle.encoding_mem.specs.declared.room.Room.{Room}
@@ -37,9 +37,10 @@ pub record Waits (pieces : List ℕ → List Piece) (pending : ℕ) : Type 0 whe
   pub undecided : IsUndecided pieces []
   pub soon : (r : List ℕ) (p : Piece) → first (pieces r) ≡ Some p → pending ≤ size_of p + 2
 
--- the first piece of what is left is there, however it goes on
+-- the first piece of what is left is there, however it goes on, and has text
 abbrev pub IsKnown : (pieces : List ℕ → List Piece) (unread : List ℕ) (last : Bool) → Type 0
-IsKnown pieces unread last = (p : Piece) × ((r : List ℕ) → (IsTrue last → r ≡ []) → first (pieces (unread ++ r)) ≡ Some p)
+IsKnown pieces unread last =
+    (p : Piece) × ((r : List ℕ) → (IsTrue last → r ≡ []) → first (pieces (unread ++ r)) ≡ Some p) × (0 < length (text_of p))
 
 -- which pieces a call took: only the last may be bad, and the caller is told so
 abbrev pub Reports : DecoderResult → ℕ → List Piece → Type 0

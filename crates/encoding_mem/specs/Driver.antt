@@ -1,7 +1,7 @@
 -- What the driver of a rule does, where its state is known by the rule's pieces and by what is pending.
 use Rattle.std.specs.Prelude.{◌≡◌, ℕ, ◌+◌, ◌-◌, ◌≤◌, ◌<◌, ◌⊎◌, Bool, false, IsTrue, Option, Some, None, List, [], ◌++◌, length}
 use Rattle.std.proofs.Common.{◌∙◌, length-append, subst, arith}
-use Rattle.encoding_mem.specs.Piece.{Piece, bad, first, size_of, scalars_of, sizes, IsGood, AreGood, ArePieces}
+use Rattle.encoding_mem.specs.Piece.{Piece, bad, first, size_of, scalars_of, text_of, sizes, IsGood, AreGood, ArePieces}
 use Rattle.encoding_mem.specs.Decoding.{DecoderState, IsUndecided, IsKnown, Reports}
 use Rattle.encoding_mem.specs.FrontPiece.{IsFirst, IsSoon}
 use Rattle.encoding_mem.specs.Room.{is_units, goes_on, mark_in, left_after, room_of}
@@ -22,7 +22,7 @@ abbrev pub IsStep : {C W : Type 0} (pieces : C → List ℕ → List Piece) (wri
 IsStep pieces writes free room mark before after bytes last old new Wait =
     (last ≡ false) × (length bytes < 6) × IsUndecided (pieces before) bytes × IsSoon (pieces before) bytes × (after ≡ before) × (new ≡ old)
 IsStep pieces writes free room mark before after bytes last old new Full =
-    (free new < room) × ((p : Piece) × (rest : List ℕ → List Piece) × IsFirst (pieces before) rest bytes last p) × (after ≡ before) × (new ≡ old)
+    (free new < room) × ((p : Piece) × (rest : List ℕ → List Piece) × IsFirst (pieces before) rest bytes last p × (0 < length (text_of p))) × (after ≡ before) × (new ≡ old)
 IsStep pieces writes free room mark before after bytes last old new (Took n) =
     (p : Piece) × IsGood p × (size_of p ≡ n) × IsFirst (pieces before) (pieces after) bytes last p × writes old (scalars_of p) new
 IsStep pieces writes free room mark before after bytes last old new (Broke n) =

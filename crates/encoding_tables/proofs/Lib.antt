@@ -4,5 +4,6 @@ pub mod NoText
 pub mod FrontUtf16
 pub mod RoomUtf16
 pub mod OneError
+pub mod RoomOnce
 pub mod UnitsUtf16
 mod KindNames

@@ -1,8 +1,10 @@
 -- The replacement encoding (the Encoding Standard, section 14.1.1, "replacement decoder"): a stream that is not empty
 -- is one error, and no text.
-use Rattle.std.specs.Prelude.{◌≡◌, ℕ, Bool, true, false, List, [], ◌∷◌, refl}
+use Rattle.std.specs.Prelude.{◌≡◌, ℕ, Bool, true, false, IsTrue, List, [], ◌∷◌, ◌++◌, refl}
 use Rattle.encoding_mem.specs.Piece.{Piece, good, bad, bad_count, text}
+use Rattle.encoding_mem.specs.Decoding.{DecoderState, EndsWith}
 use Rattle.encoding_mem.specs.Pieces.{pieces_in}
+use Rattle.encoding_mem.specs.declared.decoder_result.DecoderResult.TheVariants.{OutputFull}
 
 -- The first piece, by whether the error was returned: the first byte is bad, each later one is silent.
 abbrev pub front_replacement : (error_returned : Bool) → List ℕ → Piece
@@ -19,6 +21,12 @@ pieces_replacement = pieces_in front_replacement after_replacement
 -- Some bytes are one error, whose U+FFFD is all their text.
 abbrev pub IsOneError : Type 0
 IsOneError = (b : ℕ) (x : List ℕ) → (bad_count (pieces_replacement false (b ∷ x)) ≡ 1) × (text (pieces_replacement false (b ∷ x)) ≡ 0xFFFD ∷ [])
+
+-- Where the error was returned, no call ends for want of room.
+abbrev pub NeedsRoomOnce : Type 0
+NeedsRoomOnce = (s : DecoderState) (unread : List ℕ) (last : Bool) (free room mark : ℕ)
+    → ((r : List ℕ) → (IsTrue last → r ≡ []) → s.pieces (unread ++ r) ≡ pieces_replacement true (unread ++ r))
+    → EndsWith s unread last free room mark OutputFull → ⊥
 
 two_bytes : pieces_replacement false (0x41 ∷ 0x42 ∷ []) ≡ bad 1 ∷ good 1 [] ∷ []
 unfolding pieces_in

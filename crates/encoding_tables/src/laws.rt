@@ -9,7 +9,7 @@ ghost use Rattle.encoding_tables.specs.Accepted.{AcceptanceIsExact};
 ghost use Rattle.encoding_tables.specs.LookupLaws.{FirstIsLeast, LastIsGreatest};
 ghost use Rattle.encoding_tables.specs.NamedRows.{NamesAreExact};
 ghost use Rattle.encoding_tables.specs.SingleByte.{pieces_single_byte, single_byte_coding};
-ghost use Rattle.encoding_tables.specs.Replacement.{IsOneError};
+ghost use Rattle.encoding_tables.specs.Replacement.{IsOneError, NeedsRoomOnce};
 ghost use Rattle.encoding_tables.specs.UserDefined.{pieces_user_defined, user_defined_coding};
 ghost use Rattle.encoding_tables.specs.Utf16.{ReadsUnits};
 ghost use Rattle.encoding_tables.specs.RangeLaws.{ValuesAreScalars, ValuesRise, PointersAreExact, PointersReadBack};
@@ -76,4 +76,10 @@ pub fn utf16_reads_units()
 /// Some bytes in the replacement encoding are one error and no text besides.
 pub fn replacement_is_one_error()
     ensures { IsOneError }
+{}
+
+/// A call of replacement's decoder ends for want of room only before its error: once that is returned, no
+/// call of a decoder with these pieces answers `OutputFull`.
+pub fn replacement_needs_room_once()
+    ensures { NeedsRoomOnce }
 {}
