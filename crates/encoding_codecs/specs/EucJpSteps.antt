@@ -9,11 +9,12 @@ use Rattle.encoding_mem.specs.Piece.{good}
 use Rattle.encoding_mem.specs.Steps.{Returns, Strays, StepsReadBack}
 use Rattle.encoding_tables.specs.Lookups.{value_of, first_pointer}
 use Rattle.encoding_codecs.specs.EucJp.{is_pointer_byte, pointer_of_pair, euc_jp_first, euc_jp_pair, euc_jp_after, front_euc_jp, bytes_of_pointer, euc_jp_form}
-use Rattle.encoding_codecs.specs.JisForms.{is_katakana_byte, katakana_of_byte, is_katakana, byte_of_katakana, folded, form_of_bytes}
+use Rattle.encoding_codecs.specs.JisForms.{is_katakana_byte, katakana_of_byte, is_katakana, byte_of_katakana, folded}
 use Rattle.encoding_codecs.specs.JisSteps.{choose, either_of_entry, either_of_none, pointer_before}
 use Rattle.encoding_codecs.specs.StepsLaws.{IsEither, one_either, by_piece, reference_strays}
 use Rattle.encoding_codecs.specs.TwoByte.{piece_of_first, piece_of_trail}
 use Rattle.encoding_codecs.specs.TwoByteLaws.{lead_ascii}
+use Rattle.encoding_codecs.specs.Pointers.{form_of_bytes}
 use Rattle.encoding_codecs.specs.declared.lead_rule.FirstByte.TheVariants.{Lead}
 use Rattle.encoding_codecs.specs.declared.two_byte.PairValue.{PairValue}
 use Rattle.encoding_codecs.specs.declared.two_byte.PairValue.TheVariants.{NoChar, OneChar}

@@ -13,6 +13,7 @@ use Rattle.encoding_mem.specs.declared.form.Form.TheVariants.{Mapped, Unmapped}
 use Rattle.encoding_tables.specs.Lookups.{first_pointer}
 use Rattle.encoding_tables.specs.Ranges.{range_pointer}
 use Rattle.encoding_codecs.specs.Gb18030.{sample_flat, sample_rows}
+use Rattle.encoding_codecs.specs.Pointers.{form_of_bytes}
 
 -- The standard's table of private-use characters and their bytes: those of the edition of 2005, which the decoder gives
 -- the characters that took their place.
@@ -53,11 +54,6 @@ gb18030_bytes flat rows extended c = if nat_lt c 0x80 then Some (c ∷ [])
     else if c == 0xE5E5 then None
     else if c == 0x20AC && not extended then Some (0x80 ∷ [])
     else option_or (option_map two_of (fixed_pair c)) (option_or (index_bytes flat c) (range_bytes rows extended c))
-
--- a character without bytes is reported as it is
-abbrev pub form_of_bytes : ℕ → Option (List ℕ) → Form
-form_of_bytes c None = Unmapped c
-form_of_bytes c (Some bs) = Mapped bs
 
 abbrev pub gb18030_form : List ℕ → List (ℕ × ℕ) → Bool → ℕ → Form
 gb18030_form flat rows extended c = form_of_bytes c (gb18030_bytes flat rows extended c)

@@ -9,7 +9,8 @@ use Rattle.encoding_mem.specs.TextRoomLaws.{two_byte_room, four_byte_room}
 use Rattle.std.proofs.lemmas.Bool.{lt-ltb}
 use Rattle.encoding_tables.specs.Lookups.{first_pointer}
 use Rattle.encoding_tables.specs.Ranges.{range_pointer}
-use Rattle.encoding_codecs.specs.Gb18030Coding.{fixed_pair, two_of, pair_bytes, four_bytes, index_bytes, range_bytes, gb18030_bytes, form_of_bytes, gb18030_form, gb18030_coding, gb18030_need, gb18030_text_room}
+use Rattle.encoding_codecs.specs.Gb18030Coding.{fixed_pair, two_of, pair_bytes, four_bytes, index_bytes, range_bytes, gb18030_bytes, gb18030_form, gb18030_coding, gb18030_need, gb18030_text_room}
+use Rattle.encoding_codecs.specs.Pointers.{form_of_bytes}
 
 -- at most n bytes, where there are any
 abbrev AreFew : ℕ → Option (List ℕ) → Type 0

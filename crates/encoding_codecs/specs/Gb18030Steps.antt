@@ -17,10 +17,10 @@ use Rattle.encoding_tables.specs.Ranges.{range_value, range_pointer}
 use Rattle.encoding_tables.specs.RangeRows.{range_pointer-before}
 use Rattle.encoding_codecs.specs.TwoByte.{piece_of_trail}
 use Rattle.encoding_codecs.specs.TwoByteLaws.{lead_ascii}
-use Rattle.encoding_codecs.specs.Pointers.{value_of_entry}
+use Rattle.encoding_codecs.specs.Pointers.{value_of_entry, form_of_bytes}
 use Rattle.encoding_codecs.specs.declared.two_byte.PairValue.TheVariants.{NoChar}
 use Rattle.encoding_codecs.specs.Gb18030.{gb18030_first, gb18030_pair, pair_pointer, four_pointer, piece_of_four, after_two, after_lead, front_gb18030}
-use Rattle.encoding_codecs.specs.Gb18030Coding.{fixed_rows, fixed_pair, two_of, trail_of, pair_bytes, four_bytes, index_bytes, range_bytes, form_of_bytes, gb18030_form}
+use Rattle.encoding_codecs.specs.Gb18030Coding.{fixed_rows, fixed_pair, two_of, trail_of, pair_bytes, four_bytes, index_bytes, range_bytes, gb18030_form}
 use Rattle.encoding_codecs.specs.StepsLaws.{IsEither, bad_either, one_either, either_if, by_piece, reference_strays}
 
 -- ---- the first piece of a lead and what follows it

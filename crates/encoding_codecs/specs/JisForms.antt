@@ -1,8 +1,6 @@
 -- What Shift_JIS and EUC-JP share of the characters of JIS X 0201 (the Encoding Standard, sections 12.1 and 12.3).
-use Rattle.std.specs.Prelude.{ℕ, ◌+◌, ◌-◌, ◌==◌, Bool, List, if◌then◌else◌, Option, None, Some}
+use Rattle.std.specs.Prelude.{ℕ, ◌+◌, ◌-◌, ◌==◌, Bool, if◌then◌else◌}
 use Rattle.std.specs.Int.{is_in_range}
-use Rattle.encoding_mem.specs.declared.form.Form.{Form}
-use Rattle.encoding_mem.specs.declared.form.Form.TheVariants.{Mapped, Unmapped}
 
 -- the bytes of halfwidth katakana, and the character of such a byte
 abbrev pub is_katakana_byte : ℕ → Bool
@@ -21,8 +19,3 @@ byte_of_katakana c = 0xA1 + (c - 0xFF61)
 -- the character that is looked up: MINUS SIGN as FULLWIDTH HYPHEN-MINUS
 abbrev pub folded : ℕ → ℕ
 folded c = if c == 0x2212 then 0xFF0D else c
-
--- a character without bytes is reported as it stands in the text
-abbrev pub form_of_bytes : ℕ → Option (List ℕ) → Form
-form_of_bytes c None = Unmapped c
-form_of_bytes c (Some bytes) = Mapped bytes

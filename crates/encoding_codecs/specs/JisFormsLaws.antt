@@ -7,8 +7,9 @@ use Rattle.encoding_mem.specs.Coding.{IsCoding, IsShort}
 use Rattle.encoding_mem.specs.StatelessLaws.{stateless_laws, short_none}
 use Rattle.encoding_mem.specs.Stateless.{stateless}
 use Rattle.encoding_mem.specs.Utf8Laws.{scalar_from, range_from}
-use Rattle.encoding_codecs.specs.JisForms.{is_katakana_byte, katakana_of_byte, form_of_bytes}
+use Rattle.encoding_codecs.specs.JisForms.{is_katakana_byte, katakana_of_byte}
 use Rattle.encoding_codecs.specs.TwoByte.{IsFirstByte, IsPairValue}
+use Rattle.encoding_codecs.specs.Pointers.{form_of_bytes}
 use Rattle.encoding_codecs.specs.declared.lead_rule.FirstByte.{FirstByte}
 use Rattle.encoding_codecs.specs.declared.two_byte.PairValue.{PairValue}
 

@@ -18,3 +18,8 @@ form_of_pointer bytes c (Some p) = Mapped (bytes p)
 -- the form of any scalar: ASCII gives itself
 abbrev pub form_by_pointer : (ℕ → List ℕ) → (ℕ → Option ℕ) → ℕ → Form
 form_by_pointer bytes pointer c = if nat_lt c 0x80 then Mapped (c ∷ []) else form_of_pointer bytes c (pointer c)
+
+-- the form of a scalar by its bytes; one without bytes is reported as it is
+abbrev pub form_of_bytes : ℕ → Option (List ℕ) → Form
+form_of_bytes c None = Unmapped c
+form_of_bytes c (Some bs) = Mapped bs

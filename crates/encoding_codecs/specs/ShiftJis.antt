@@ -10,8 +10,8 @@ use Rattle.encoding_mem.specs.Stateless.{stateless}
 use Rattle.encoding_tables.specs.Lookups.{value_of, first_pointer}
 use Rattle.encoding_mem.specs.declared.form.Form.{Form}
 use Rattle.encoding_mem.specs.declared.form.Form.TheVariants.{Mapped, Unmapped}
-use Rattle.encoding_codecs.specs.JisForms.{is_katakana_byte, katakana_of_byte, is_katakana, byte_of_katakana, folded, form_of_bytes}
-use Rattle.encoding_codecs.specs.Pointers.{value_of_entry}
+use Rattle.encoding_codecs.specs.JisForms.{is_katakana_byte, katakana_of_byte, is_katakana, byte_of_katakana, folded}
+use Rattle.encoding_codecs.specs.Pointers.{value_of_entry, form_of_bytes}
 use Rattle.encoding_codecs.specs.TwoByte.{TwoByteRule, front_two_byte}
 use Rattle.encoding_codecs.specs.declared.lead_rule.FirstByte.{FirstByte}
 use Rattle.encoding_codecs.specs.declared.lead_rule.FirstByte.TheVariants.{Alone, Lead, Unused}

@@ -11,12 +11,13 @@ use Rattle.encoding_mem.specs.Utf8Laws.{range_from}
 use Rattle.encoding_mem.specs.Steps.{Returns, Strays, StepsReadBack}
 use Rattle.encoding_tables.specs.Lookups.{value_of, first_pointer}
 use Rattle.encoding_tables.specs.OptionCases.{option_or_some}
-use Rattle.encoding_codecs.specs.JisForms.{is_katakana_byte, katakana_of_byte, is_katakana, byte_of_katakana, folded, form_of_bytes}
+use Rattle.encoding_codecs.specs.JisForms.{is_katakana_byte, katakana_of_byte, is_katakana, byte_of_katakana, folded}
 use Rattle.encoding_codecs.specs.JisSteps.{choose, either_of_entry, either_of_none, pointer_before}
 use Rattle.encoding_codecs.specs.ShiftJis.{is_lead, is_trail, shift_jis_first, shift_jis_pair, pointer_of_pair, front_shift_jis, shift_jis_pointer, lead_of, trail_of, bytes_of_pointer, shift_jis_form}
 use Rattle.encoding_codecs.specs.StepsLaws.{IsEither, one_either, by_piece, reference_strays}
 use Rattle.encoding_codecs.specs.TwoByte.{after_bytes, piece_of_first, piece_of_trail}
 use Rattle.encoding_codecs.specs.TwoByteLaws.{lead_ascii}
+use Rattle.encoding_codecs.specs.Pointers.{form_of_bytes}
 use Rattle.encoding_codecs.specs.declared.lead_rule.FirstByte.TheVariants.{Alone, Lead}
 use Rattle.encoding_codecs.specs.declared.two_byte.PairValue.{PairValue}
 use Rattle.encoding_codecs.specs.declared.two_byte.PairValue.TheVariants.{NoChar}

@@ -10,11 +10,9 @@ ghost use Rattle.encoding_codecs.specs.EucJpDecide.{decide_8f, decide_euc_jp};
 ghost use Rattle.encoding_codecs.specs.EucJpLaws.{euc_jp_is_lead_rule, euc_jp_ascii, euc_jp_laws};
 ghost use Rattle.encoding_mem.specs.declared.form.Set.TheVariants.{Ascii};
 
-use crate::jis::{
-    byte_of_katakana, folded, form_of_bytes, is_katakana, is_katakana_byte, katakana_of_byte,
-};
+use crate::jis::{byte_of_katakana, folded, is_katakana, is_katakana_byte, katakana_of_byte};
 use crate::lead_rule::{FirstByte, LeadFront, LeadRule};
-use crate::stateless::{Forms, Stateless};
+use crate::stateless::{Forms, Stateless, form_of_bytes};
 use crate::two_byte::{PairValue, cut_short, decide_trail, value_of_entry};
 use encoding_mem::form::{Bytes, Form};
 use encoding_mem::front::Front;
@@ -126,8 +124,8 @@ pub struct EucJpDecoder<'a> {
 impl<'a> EucJpDecoder<'a> {
     /// The decoder over tables with jis0208 and jis0212. Nothing is pending.
     pub fn new(tables: &'a Tables) -> Self
-        requires there { has tables.now IndexKind.Jis0208 ≡ true }
-        requires also { has tables.now IndexKind.Jis0212 ≡ true }
+        requires jis0208 { has tables.now IndexKind.Jis0208 ≡ true }
+        requires jis0212 { has tables.now IndexKind.Jis0212 ≡ true }
         ensures pending { (⟦<EucJpDecoder<'a> as RawDecoder>⟧.state result).pending ≡ 0 }
         ensures pieces { (⟦<EucJpDecoder<'a> as RawDecoder>⟧.state result).pieces
             ≡ pieces_euc_jp (entries_of tables.now IndexKind.Jis0208) (entries_of tables.now IndexKind.Jis0212) }

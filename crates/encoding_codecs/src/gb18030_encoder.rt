@@ -3,10 +3,11 @@
 
 ghost use Rattle.std.specs.Prelude.{◌≡◌, ◌+◌, ◌/◌, ◌%◌, ◌<◌, true};
 ghost use Rattle.encoding_tables.specs.IndexLists.{has, entries_of, rows_of};
-ghost use Rattle.encoding_codecs.specs.Gb18030Coding.{fixed_pair, pair_bytes, four_bytes, gb18030_bytes, form_of_bytes, gb18030_coding, gb18030_need, gb18030_text_room};
+ghost use Rattle.encoding_codecs.specs.Gb18030Coding.{fixed_pair, pair_bytes, four_bytes, gb18030_bytes, gb18030_coding, gb18030_need, gb18030_text_room};
 ghost use Rattle.encoding_codecs.specs.Gb18030CodingLaws.{gb18030_laws, gb18030_fits};
 ghost use Rattle.encoding_mem.specs.declared.form.Set.TheVariants.{Ascii};
 
+use crate::stateless::form_of_bytes;
 use encoding_mem::encode::{Target, encode};
 use encoding_mem::form::{Bytes, Form, Set};
 use encoding_mem::room::TextRoom;
@@ -34,7 +35,7 @@ impl<'a> Target for Gb18030Target<'a> {
     ghost fits = { λ s. gb18030_fits s.index s.ranges s.extended_range };
 
     fn step(&self, _set: Set, c: char) -> (Set, Form) {
-        (Set::Ascii, form_of(c, self.bytes_of(c)))
+        (Set::Ascii, form_of_bytes(c, self.bytes_of(c)))
     }
 
     fn copies_ascii(&self, set: Set) -> bool {
@@ -124,16 +125,6 @@ fn four_bytes(pointer: u32) -> Bytes
         (0x81 + pointer / 10 % 126) as u8,
         (0x30 + pointer % 10) as u8,
     )
-}
-
-// The form of a character, by its bytes. One without bytes is reported as it is.
-fn form_of(c: char, bytes: Option<Bytes>) -> Form
-    ensures { result ≡ form_of_bytes c bytes }
-{
-    match bytes {
-        Some(bytes) => Form::Mapped(bytes),
-        None => Form::Unmapped(c),
-    }
 }
 
 /// Encodes to gb18030 or GBK. ASCII gives itself, another character the two bytes of the least pointer

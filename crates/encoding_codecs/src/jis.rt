@@ -1,9 +1,7 @@
 // What Shift_JIS and EUC-JP share.
 
 ghost use Rattle.std.specs.Prelude.{◌≡◌, true};
-ghost use Rattle.encoding_codecs.specs.JisForms.{is_katakana_byte, katakana_of_byte, is_katakana, byte_of_katakana, folded, form_of_bytes};
-
-use encoding_mem::form::{Bytes, Form};
+ghost use Rattle.encoding_codecs.specs.JisForms.{is_katakana_byte, katakana_of_byte, is_katakana, byte_of_katakana, folded};
 
 // Whether a byte is one of halfwidth katakana.
 pub(crate) fn is_katakana_byte(byte: u8) -> bool
@@ -40,14 +38,4 @@ pub(crate) fn folded(c: char) -> char
     ensures { result ≡ folded c }
 {
     if c == '\u{2212}' { '\u{FF0D}' } else { c }
-}
-
-// The form of a character, by its bytes. One without bytes is reported as it is.
-pub(crate) fn form_of_bytes(c: char, bytes: Option<Bytes>) -> Form
-    ensures { result ≡ form_of_bytes c bytes }
-{
-    match bytes {
-        Some(bytes) => Form::Mapped(bytes),
-        None => Form::Unmapped(c),
-    }
 }

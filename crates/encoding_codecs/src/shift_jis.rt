@@ -9,9 +9,9 @@ ghost use Rattle.encoding_codecs.specs.ShiftJis.{is_lead, is_trail, pointer_of_p
 ghost use Rattle.encoding_codecs.specs.ShiftJisLaws.{shift_jis_is_two_byte, shift_jis_ascii, shift_jis_laws};
 ghost use Rattle.encoding_mem.specs.declared.form.Set.TheVariants.{Ascii};
 
-use crate::jis::{byte_of_katakana, folded, form_of_bytes, is_katakana, katakana_of_byte};
+use crate::jis::{byte_of_katakana, folded, is_katakana, katakana_of_byte};
 use crate::lead_rule::{FirstByte, LeadFront};
-use crate::stateless::{Forms, Stateless};
+use crate::stateless::{Forms, Stateless, form_of_bytes};
 use crate::two_byte::{PairValue, Pairs, TwoByte, value_of_entry};
 use encoding_mem::form::{Bytes, Form};
 use encoding_mem::piece_decoder::{Buffered, PieceDecoder};

@@ -4,6 +4,7 @@ ghost use Rattle.std.specs.Prelude.{◌≡◌, ℕ, ◌<◌, [], ◌∷◌};
 ghost use Rattle.encoding_mem.specs.Coding.{IsCoding};
 ghost use Rattle.encoding_mem.specs.Stateless.{stateless};
 ghost use Rattle.encoding_mem.specs.TextRoom.{text_room_two_byte};
+ghost use Rattle.encoding_codecs.specs.Pointers.{form_of_bytes};
 ghost use Rattle.encoding_codecs.specs.TextRooms.{two_byte_fits};
 ghost use Rattle.encoding_mem.specs.declared.form.Form.{Form};
 ghost use Rattle.encoding_mem.specs.declared.form.Form.TheVariants.{Mapped};
@@ -108,5 +109,15 @@ impl<T: Forms> RawEncoder for Stateless<T> {
 
     fn has_pending_state(&self) -> bool {
         false
+    }
+}
+
+// The form of a character, by its bytes. One without bytes is reported as it is.
+pub(crate) fn form_of_bytes(c: char, bytes: Option<Bytes>) -> Form
+    ensures { result ≡ form_of_bytes c bytes }
+{
+    match bytes {
+        Some(bytes) => Form::Mapped(bytes),
+        None => Form::Unmapped(c),
     }
 }
