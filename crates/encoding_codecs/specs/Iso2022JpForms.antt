@@ -1,20 +1,19 @@
 -- What is written in ISO-2022-JP, by the lists of the indexes jis0208 and iso-2022-jp-katakana (the Encoding Standard,
 -- section 12.2.2, "ISO-2022-JP encoder").
 use Rattle.std.specs.Prelude.{ℕ, ◌+◌, ◌-◌, ◌/◌, ◌%◌, ◌==◌, ◌||◌, not, Bool, true, false, List, [], ◌∷◌, nat_lt, if◌then◌else◌, Option, None, Some}
-use Rattle.std.specs.Int.{is_in_range}
 use Rattle.encoding_mem.specs.Coding.{Coding}
 use Rattle.encoding_mem.specs.declared.form.Form.{Form}
 use Rattle.encoding_mem.specs.declared.form.Form.TheVariants.{Mapped, Unmapped}
 use Rattle.encoding_mem.specs.declared.form.Set.{Set}
 use Rattle.encoding_mem.specs.declared.form.Set.TheVariants.{Ascii, Roman, Jis}
 use Rattle.encoding_tables.specs.Lookups.{value_of, first_pointer}
+use Rattle.encoding_codecs.specs.JisForms.{is_katakana, folded}
 
 -- ---- the bytes of a character
 
 -- What is looked up for a character: U+FF0D for U+2212, and entry k of the katakana for U+FF61 + k.
 abbrev pub looked_up : List ℕ → ℕ → Option ℕ
-looked_up katakana c = if c == 0x2212 then Some 0xFF0D
-    else (if is_in_range 0xFF61 0xFF9F c then value_of katakana (c - 0xFF61) else Some c)
+looked_up katakana c = if is_katakana c then value_of katakana (c - 0xFF61) else Some (folded c)
 
 abbrev pub pointer_of : List ℕ → Option ℕ → Option ℕ
 pointer_of jis0208 None = None

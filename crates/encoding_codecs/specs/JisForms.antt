@@ -1,4 +1,4 @@
--- What Shift_JIS and EUC-JP share of the characters of JIS X 0201 (the Encoding Standard, sections 12.1 and 12.3).
+-- What the Japanese encodings share of the characters of JIS X 0201 (the Encoding Standard, sections 12.1 to 12.3).
 use Rattle.std.specs.Prelude.{ℕ, ◌+◌, ◌-◌, ◌==◌, Bool, if◌then◌else◌}
 use Rattle.std.specs.Int.{is_in_range}
 

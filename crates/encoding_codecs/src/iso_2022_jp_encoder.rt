@@ -8,6 +8,7 @@ ghost use Rattle.encoding_tables.specs.declared.index_kind.IndexKind.{IndexKind}
 ghost use Rattle.encoding_codecs.specs.Iso2022JpForms.{looked_up, pointer_of_char, ascii_form, is_set, ascii_or_roman, set_after, iso_2022_jp_coding};
 ghost use Rattle.encoding_codecs.specs.Iso2022JpFormsLaws.{iso_2022_jp_laws, iso_2022_jp_fits};
 
+use crate::jis::{folded, is_katakana};
 use encoding_mem::encode::{Target, encode};
 use encoding_mem::form::{Bytes, Form, Set};
 use encoding_mem::room::TextRoom;
@@ -28,12 +29,10 @@ impl<'a> Iso2022Jp<'a> {
     fn looked_up(&self, c: char) -> Option<char>
         ensures { result ≡ looked_up self.now.katakana c }
     {
-        if c == '\u{2212}' {
-            Some('\u{FF0D}')
-        } else if c >= '\u{FF61}' && c <= '\u{FF9F}' {
+        if is_katakana(c) {
             self.katakana.value(c as u32 - 0xFF61)
         } else {
-            Some(c)
+            Some(folded(c))
         }
     }
 
