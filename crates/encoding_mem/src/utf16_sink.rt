@@ -8,7 +8,7 @@ use crate::latin1_conversions::convert_latin1_to_utf16;
 use crate::sink::Sink;
 
 // How many bytes of a text are put at a time, as units where all of them are ASCII.
-const BLOCK: usize = 64;
+const BLOCK: usize = 256;
 
 /// A destination in UTF-16, which is filled from its front.
 #[derive(Drop)]

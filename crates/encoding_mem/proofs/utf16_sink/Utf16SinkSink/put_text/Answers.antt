@@ -45,7 +45,7 @@ parts-smaller c =
     let n = c.floor_char_boundary.result in
     let e = c.floor_char_boundary.ensures in
     let size = ap length c.range_from-rest.ensures.value in
-    let some = some_cut rest n 64 c.range_from-rest.utf8 (omega (arith, size, length-drop c.parts.read c.args.text.now, c.parts-test.true)) (omega arith) e.nearest in
+    let some = some_cut rest n 256 c.range_from-rest.utf8 (omega (arith, size, length-drop c.parts.read c.args.text.now, c.parts-test.true)) (omega arith) e.nearest in
     let all : n - 0 ≡ n = omega arith in
     let len = ap length (c.range-block.ensures.value ∙ ap (λ k. take k rest) all) ∙ length-take-le n rest e.boundary.0 in
     omega (arith, some, len, c.parts-test.true)
