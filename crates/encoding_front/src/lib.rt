@@ -1,6 +1,7 @@
 //! Encodings by name.
 #![tactic(auto)]
 
+pub mod coder_result;
 pub mod constants;
 pub mod encoding;
 #[cfg(test)]
@@ -13,6 +14,7 @@ mod tests;
 pub mod variant_decoder;
 pub mod variant_encoder;
 
+pub use coder_result::CoderResult;
 pub use constants::{
     BIG5, BIG5_INIT, EUC_JP, EUC_JP_INIT, EUC_KR, EUC_KR_INIT, GB18030, GB18030_INIT, GBK,
     GBK_INIT, IBM866, IBM866_INIT, ISO_2022_JP, ISO_2022_JP_INIT, ISO_8859_2, ISO_8859_2_INIT,
