@@ -1,3 +1,7 @@
+pub mod Encoders
 pub mod Hashes
 pub mod Names
 pub mod References
+pub mod TurnLaws
+pub mod ReferenceEnds
+pub mod ReferenceTurns

@@ -1,3 +1,5 @@
+pub mod Encoder
+pub mod EncoderLaws
 pub mod EncodingRows
 pub mod EncodingTable
 pub mod Encodings

@@ -3,12 +3,17 @@
 
 pub mod coder_result;
 pub mod constants;
+pub mod encoder;
+#[cfg(test)]
+mod encoder_tests;
 pub mod encoding;
 #[cfg(test)]
 mod encoding_tests;
 pub mod laws;
 pub mod reference;
+mod replacing;
 mod scheme;
+mod source_text;
 #[cfg(test)]
 mod tests;
 pub mod variant_decoder;
@@ -31,6 +36,7 @@ pub use constants::{
     WINDOWS_1258, WINDOWS_1258_INIT, X_MAC_CYRILLIC, X_MAC_CYRILLIC_INIT, X_USER_DEFINED,
     X_USER_DEFINED_INIT,
 };
+pub use encoder::Encoder;
 pub use encoding::Encoding;
 pub use reference::write_reference;
 pub use variant_decoder::VariantDecoder;

@@ -1,0 +1,20 @@
+use Rattle.std.proofs.Common.{◌≡◌, ◌+◌, ◌≤◌, length, take, drop}
+use Rattle.encoding_front.specs.Encoder.{EncoderState, coding_in, kept_back}
+use Rattle.encoding_front.proofs.ReferenceEnds.{Going}
+use Rattle.encoding_front.proofs.replacing.encode_replacing.Given as goal
+
+abbrev pub invariant-turns : goal.invariant-turns
+invariant-turns g l = record {
+  within : l.written ≤ l.end;
+  part : l.end + kept_back l.initial.encoder.encoding ≡ length l.dst;
+  size : length l.dst ≡ length l.initial.dst;
+  behind : drop l.written l.dst ≡ drop l.written l.initial.dst;
+  read : l.read ≤ length (g.T.SourceText.list l.src);
+  boundary : g.T.SourceText.IsBoundary (g.T.SourceText.list l.src) l.read;
+  same : ◌≡◌ {A = EncoderState} l.encoder (record l.initial.encoder { set = l.encoder.set });
+  going : Going (coding_in l.initial.encoder) l.last l.initial.encoder.set (g.T.SourceText.text (g.T.SourceText.list l.src)) (take l.written l.dst)
+      l.encoder.set (g.T.SourceText.text (drop l.read (g.T.SourceText.list l.src))) l.has_lost l.end;
+}
+
+abbrev pub decreases-turns : goal.decreases-turns
+decreases-turns g l = length (g.T.SourceText.text (drop l.read (g.T.SourceText.list l.src)))

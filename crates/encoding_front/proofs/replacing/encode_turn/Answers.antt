@@ -1,0 +1,37 @@
+use Rattle.std.proofs.Common.{◌≡◌, ◌+◌, ◌-◌, ◌≤◌, ◌++◌, ◌∙◌, [], length, take, drop, refl, sym, ap, arith, length-append, length-drop}
+use Rattle.std.proofs.lemmas.List.{append-nil, length-take-le, take-append-le}
+use Rattle.encoding_mem.specs.declared.encoder_result.EncoderResult.TheVariants.{Unmappable}
+use Rattle.encoding_front.specs.Encoder.{kept_back, referred}
+use Rattle.encoding_front.proofs.Encoders.{behind_part, behind_put, nothing_referred, turned, unmappable_keeps}
+use Rattle.encoding_front.proofs.replacing.encode_turn.Goals as goal
+
+pub put_reference-requires : goal.put_reference-requires
+put_reference-requires g c =
+    let e = c.encode-answer.ensures in
+    let kept : kept_back c.args.encoder.now.encoding ≡ 10 = unmappable_keeps _ _ _ _ _ _ _ _ _ e.call c.in-Unmappable.is in
+    let size : length c.encode-answer.new.dst ≡ length (take c.args.end c.args.dst.now) = c.encode-answer.auto.dst in
+    omega (arith, e.room, length-append c.encode-answer.new.dst (drop c.args.end c.args.dst.now), length-drop c.args.end c.args.dst.now, length-take-le c.args.end c.args.dst.now (omega arith))
+
+pub returns-in_default-clause-behind : goal.returns-in_default-clause-behind
+returns-in_default-clause-behind g c =
+    let e = c.encode-answer.ensures in
+    behind_part _ _ _ _ (omega (arith, c.requires)) e.room c.encode-answer.auto.dst e.behind
+
+pub returns-in-Unmappable-clause-behind : goal.returns-in-Unmappable-clause-behind
+returns-in-Unmappable-clause-behind g c =
+    let e = c.encode-answer.ensures in
+    behind_put _ _ _ _ _ _ c.put_reference.ensures.end (behind_part _ _ _ _ (omega (arith, c.requires)) e.room c.encode-answer.auto.dst e.behind) c.put_reference.ensures.behind
+
+pub returns-in_default-clause-turn : goal.returns-in_default-clause-turn
+returns-in_default-clause-turn g c =
+    let e = c.encode-answer.ensures in
+    let size : length c.encode-answer.new.dst ≡ c.args.end = c.encode-answer.auto.dst ∙ length-take-le c.args.end c.args.dst.now (omega (arith, c.requires)) in
+    turned _ _ _ _ _ _ _ _ c.encode-answer.result.2 _ _ e.call (length-take-le _ _ e.room) (omega (arith, e.room)) (ap (λ n. n - c.encode-answer.result.2) size)
+    (take-append-le _ _ _ e.room ∙ sym (append-nil _) ∙ ap (λ l. take c.encode-answer.result.2 c.encode-answer.new.dst ++ l) (sym (nothing_referred _ c.in_default.not-Unmappable)))
+
+pub returns-in-Unmappable-clause-turn : goal.returns-in-Unmappable-clause-turn
+returns-in-Unmappable-clause-turn g c =
+    let e = c.encode-answer.ensures in
+    let size : length c.encode-answer.new.dst ≡ c.args.end = c.encode-answer.auto.dst ∙ length-take-le c.args.end c.args.dst.now (omega (arith, c.requires)) in
+    turned _ _ _ _ _ _ _ _ c.encode-answer.result.2 _ _ (rw c.in-Unmappable.is at e.call) (length-take-le _ _ e.room) (omega (arith, e.room)) (ap (λ n. n - c.encode-answer.result.2) size)
+    (c.put_reference.ensures.front ∙ ap (λ l. l ++ referred (Unmappable c.in-Unmappable.c)) (take-append-le _ _ _ e.room))

@@ -1,0 +1,98 @@
+-- What an encoder is to its callers, and what its calls do (the Encoding Standard, sections 4.1 and 6).
+use Rattle.std.specs.Prelude.{◌≡◌, ℕ, ◌+◌, ◌-◌, ◌<◌, ◌≤◌, Bool, true, false, List, [], ◌∷◌, ◌++◌, length, IsTrue, ◌↔◌, ◌⊎◌, ◌≢◌, Option}
+use Rattle.std.specs.Bool.{MatchBool}
+use Rattle.encoding_mem.specs.Coding.{Coding, IsMapped, last_set, lost_count, open_from, reference, whole_from}
+use Rattle.encoding_mem.specs.Encoding.{Answers, Continues, Encodes, Writes}
+use Rattle.encoding_mem.specs.Room.{checked, line_at}
+use Rattle.encoding_mem.specs.TextRoom.{line_for}
+use Rattle.encoding_mem.specs.declared.encoder_result.EncoderResult.{EncoderResult}
+use Rattle.encoding_mem.specs.declared.form.Set.{Set}
+use Rattle.encoding_mem.specs.declared.form.Set.TheVariants.{Ascii}
+use Rattle.encoding_mem.specs.declared.room.TextRoom.{TextRoom}
+use Rattle.encoding_tables.specs.IndexLists.{IndexLists}
+use Rattle.encoding_front.specs.EncodingTable.{scheme_of}
+use Rattle.encoding_front.specs.Encodings.{coding_of, need_of, output_encoding_of, text_room_of}
+use Rattle.encoding_front.specs.declared.coder_result.CoderResult.{CoderResult}
+use Rattle.encoding_front.specs.declared.encoding.Encoding.{Encoding}
+use Rattle.encoding_front.specs.declared.scheme.Scheme.{Scheme}
+
+-- the indexes that it reads, its output encoding, and the set in force
+pub record EncoderState : Type 0 where
+  pub tables : IndexLists
+  pub encoding : Encoding
+  pub set : Set
+
+abbrev pub coding_in : EncoderState → Coding
+coding_in x = coding_of x.tables x.encoding
+
+-- of a new stream
+abbrev pub new_state : IndexLists → Encoding → EncoderState
+new_state t e = record { tables = t; encoding = output_encoding_of e; set = Ascii }
+
+-- what an encoder of this encoding does is what its parts do
+pub record IsEncoderOf (t : IndexLists) (e : Encoding) (coding : Coding) (need : ℕ) (limits : TextRoom) : Type 0 where
+  pub codes : coding ≡ coding_of t e
+  pub needs : need ≡ need_of e
+  pub limited : limits ≡ text_room_of e
+
+-- A call without replacement on a text, of an encoder that was x and is x': room is what is free behind what is
+-- written.
+pub record Encoded (x : EncoderState) (last : Bool) (answer : EncoderResult) (text written : List ℕ) (x' : EncoderState) (rest : List ℕ) (room : ℕ) : Type 0 where
+  pub same : x' ≡ record x { set = x'.set }
+  pub law : Encodes (coding_in x) last answer x.set text written x'.set rest
+  pub bytes : Writes (coding_in x) last answer x.set text written x'.set rest
+  pub answers : Answers (need_of x.encoding) last answer x'.set rest room
+
+-- The bytes that are kept back for a reference, of which the longest is `&#1114111;`: none where each character has
+-- bytes.
+abbrev pub kept_by_scheme : Scheme → ℕ
+kept_by_scheme Scheme.Utf8 = 0
+kept_by_scheme _ = 10
+
+abbrev pub kept_back : Encoding → ℕ
+kept_back e = kept_by_scheme (scheme_of (output_encoding_of e))
+
+-- the room that is enough for so many bytes or units, without references, and with the bytes that are kept back
+abbrev pub room_for : Encoding → (is_units : Bool) → ℕ → ℕ
+room_for e is_units n = line_at (line_for (text_room_of e) is_units) n
+
+abbrev pub queried_room : Encoding → (is_units : Bool) → ℕ → Option ℕ
+queried_room e is_units n = checked (room_for e is_units n)
+
+abbrev pub queried_with_kept : Encoding → (is_units : Bool) → ℕ → Option ℕ
+queried_with_kept e is_units n = checked (room_for e is_units n + kept_back e)
+
+-- How a call with replacement ends: whether something is left to do.
+abbrev pub Ends : Bool → CoderResult → Set → List ℕ → Type 0
+Ends last CoderResult.InputEmpty s rest = (rest ≡ []) × (last ≡ true → s ≡ Ascii)
+Ends last CoderResult.OutputFull s rest = (0 < length rest) ⊎ ((last ≡ true) × (s ≢ Ascii))
+
+-- A call with replacement on a text, into size bytes, of which the part before the kept ones has part bytes: what is
+-- written has the references, lost tells whether there is one, and where a reference ends at that part's end or behind it
+-- nothing more is read or written.
+pub record Replaces (x : EncoderState) (last : Bool) (outcome : CoderResult) (text written : List ℕ) (x' : EncoderState) (rest : List ℕ) (lost : Bool) (size : ℕ) : Type 0 where
+  pub same : x' ≡ record x { set = x'.set }
+  pub front : List ℕ
+  pub split : text ≡ front ++ rest
+  pub bytes : MatchBool last (whole_from (coding_in x) x.set text ≡ written ++ whole_from (coding_in x) x'.set rest)
+      (Continues (coding_in x) x.set text written x'.set rest)
+  pub sets : last ≡ false → last_set (coding_in x) x.set text ≡ last_set (coding_in x) x'.set rest
+  pub told : IsTrue lost ↔ (0 < lost_count (coding_in x) front)
+  pub ends : Ends last outcome x'.set rest
+  pub full : outcome ≡ CoderResult.OutputFull → size - kept_back x.encoding - length written < need_of x.encoding
+  pub few : size < kept_back x.encoding → (front ≡ []) × (written ≡ [])
+  pub stops : (before : List ℕ) (c : ℕ) (after : List ℕ) → front ≡ before ++ c ∷ after → ¬ (IsMapped ((coding_in x).form c))
+      → size - kept_back x.encoding ≤ length (open_from (coding_in x) x.set (before ++ c ∷ [])) → (after ≡ []) × (written ≡ open_from (coding_in x) x.set front)
+
+-- what a call without replacement asks its caller to write
+abbrev pub referred : EncoderResult → List ℕ
+referred EncoderResult.InputEmpty = []
+referred EncoderResult.OutputFull = []
+referred (EncoderResult.Unmappable c) = reference c
+
+-- such a call into end bytes, and that reference
+pub record Turned (x : EncoderState) (last : Bool) (answer : EncoderResult) (text written : List ℕ) (x' : EncoderState) (rest : List ℕ) (end : ℕ) : Type 0 where
+  pub called : List ℕ
+  pub all : written ≡ called ++ referred answer
+  pub fits : length called ≤ end
+  pub call : Encoded x last answer text called x' rest (end - length called)

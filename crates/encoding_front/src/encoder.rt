@@ -1,0 +1,196 @@
+ghost use Rattle.std.specs.Prelude.{◌≡◌, ◌≢◌, ◌↔◌, ℕ, ◌+◌, ◌-◌, ◌≤◌, true, false, IsTrue, length, take, drop};
+ghost use Rattle.std.specs.Str.{chars, IsCharBoundary};
+ghost use Rattle.std.specs.Char.Utf16.{utf16_lossy_chars};
+ghost use Rattle.encoding_mem.specs.Room.{checked};
+ghost use Rattle.encoding_mem.specs.declared.form.Set.TheVariants.{Ascii};
+ghost use Rattle.encoding_front.specs.Encoder.{Encoded, EncoderState, IsEncoderOf, Replaces, kept_back, new_state, queried_room, queried_with_kept, room_for};
+ghost use Rattle.encoding_front.specs.Encodings.{IsReady, output_encoding_of};
+
+use crate::coder_result::CoderResult;
+use crate::encoding::Encoding;
+use crate::replacing::encode_replacing;
+use crate::variant_encoder::VariantEncoder;
+use encoding_mem::{EncoderResult, RawEncoder};
+use encoding_tables::Tables;
+use std::fmt;
+use std::marker::Model;
+
+/// An encoder of one stream into one output encoding. It is given the text in cuts of any size, and room of
+/// any size. Its state is the set in force, which only ISO-2022-JP has.
+#[derive(Drop)]
+pub struct Encoder<'t> {
+    tables: &'t Tables,
+    encoding: Encoding,
+    variant: VariantEncoder<'t>,
+}
+
+impl<'t> Model for Encoder<'t> {
+    ghost Value = { EncoderState };
+
+    ghost view = { λ s. record { tables = s.tables.now; encoding = s.encoding; set = ⟦<VariantEncoder<'static> as RawEncoder>⟧.set s.variant } };
+
+    ghost invariant = { λ s. IsEncoderOf s.tables.now s.encoding (⟦<VariantEncoder<'static> as RawEncoder>⟧.coding s.variant)
+        (⟦<VariantEncoder<'static> as RawEncoder>⟧.need s.variant) (⟦<VariantEncoder<'static> as RawEncoder>⟧.limits s.variant) };
+}
+
+impl Encoding {
+    /// An encoder of a new stream into the output encoding of this one.
+    pub fn new_encoder(self, tables: &Tables) -> Encoder<'_>
+        requires { IsReady tables.now (output_encoding_of self) }
+        ensures { result ≡ new_state tables.now self }
+    {
+        let encoding = self.output_encoding();
+        Encoder {
+            tables,
+            encoding,
+            variant: VariantEncoder::new(encoding, tables),
+        }
+    }
+}
+
+impl<'t> Encoder<'t> {
+    /// The output encoding.
+    pub fn encoding(&self) -> Encoding
+        ensures { result ≡ self.now.encoding }
+    {
+        self.encoding
+    }
+
+    /// Whether an escape to ASCII is owed at the end of the stream.
+    pub fn has_pending_state(&self) -> bool
+        ensures { IsTrue result ↔ (self.now.set ≢ Ascii) }
+    {
+        self.variant.has_pending_state()
+    }
+
+    /// How many bytes are room enough for what `n` bytes of UTF-8 are encoded to without replacement, and for
+    /// the last escape; none where that passes a `usize`. References are not counted.
+    pub fn max_buffer_length_from_utf8_without_replacement(&self, n: usize) -> Option<usize>
+        ensures { result ≡ queried_room self.now.encoding false n }
+    {
+        self.variant
+            .max_buffer_length_from_utf8_without_replacement(n)
+    }
+
+    /// The same for `n` units of UTF-16.
+    pub fn max_buffer_length_from_utf16_without_replacement(&self, n: usize) -> Option<usize>
+        ensures { result ≡ queried_room self.now.encoding true n }
+    {
+        self.variant
+            .max_buffer_length_from_utf16_without_replacement(n)
+    }
+
+    /// How many bytes are room enough for what `n` bytes of UTF-8 are encoded to with replacement, if each
+    /// character has bytes: those of the call without replacement, and those that are kept back for a
+    /// reference; none where that passes a `usize`.
+    pub fn max_buffer_length_from_utf8_if_no_unmappables(&self, n: usize) -> Option<usize>
+        ensures { result ≡ queried_with_kept self.now.encoding false n }
+    {
+        self.with_kept(self.max_buffer_length_from_utf8_without_replacement(n)?)
+    }
+
+    /// The same for `n` units of UTF-16.
+    pub fn max_buffer_length_from_utf16_if_no_unmappables(&self, n: usize) -> Option<usize>
+        ensures { result ≡ queried_with_kept self.now.encoding true n }
+    {
+        self.with_kept(self.max_buffer_length_from_utf16_without_replacement(n)?)
+    }
+
+    // So many bytes, and those that are kept back.
+    fn with_kept(&self, n: usize) -> Option<usize>
+        ensures { result ≡ checked (n + kept_back self.now.encoding) }
+    {
+        n.checked_add(self.kept_back())
+    }
+
+    /// The bytes that a call with replacement keeps back for a reference: none in UTF-8.
+    pub(crate) fn kept_back(&self) -> usize
+        ensures { result ≡ kept_back self.now.encoding }
+    {
+        if self.encoding.can_encode_everything() {
+            0
+        } else {
+            10
+        }
+    }
+
+    /// Encodes a text, and stops behind a character without bytes. Answers how the call ended, the bytes of
+    /// text read and the bytes written. What was read ends between characters; nothing behind what is
+    /// written changes.
+    pub fn encode_from_utf8_without_replacement(
+        &mut self,
+        src: &str,
+        dst: &mut [u8],
+        last: bool,
+    ) -> (EncoderResult, usize, usize)
+        ensures read { result.1 ≤ length src.now }
+        ensures boundary { IsCharBoundary src.now result.1 }
+        ensures room { result.2 ≤ length dst.new }
+        ensures behind { drop result.2 dst.new ≡ drop result.2 dst.old }
+        ensures call { Encoded self.old last result.0 (chars src.now) (take result.2 dst.new) self.new (chars (drop result.1 src.now)) (length dst.new - result.2) }
+        ensures enough { room_for self.old.encoding false (length src.now) ≤ length dst.old → result.0 ≢ EncoderResult.OutputFull }
+    {
+        self.variant.encode_from_utf8_raw(src, dst, last)
+    }
+
+    /// The same for units of UTF-16, in which a surrogate outside a pair is U+FFFD. The slice is read by
+    /// itself, and no pair that it holds is parted. The second number counts units.
+    pub fn encode_from_utf16_without_replacement(
+        &mut self,
+        src: &[u16],
+        dst: &mut [u8],
+        last: bool,
+    ) -> (EncoderResult, usize, usize)
+        ensures read { result.1 ≤ length src.now }
+        ensures room { result.2 ≤ length dst.new }
+        ensures behind { drop result.2 dst.new ≡ drop result.2 dst.old }
+        ensures call { Encoded self.old last result.0 (utf16_lossy_chars src.now) (take result.2 dst.new) self.new (utf16_lossy_chars (drop result.1 src.now)) (length dst.new - result.2) }
+        ensures enough { room_for self.old.encoding true (length src.now) ≤ length dst.old → result.0 ≢ EncoderResult.OutputFull }
+    {
+        self.variant.encode_from_utf16_raw(src, dst, last)
+    }
+
+    /// Encodes a text, and writes a numeric character reference for each character without bytes. Answers how
+    /// the call ended, the bytes of text read, the bytes written, and whether a reference was written.
+    ///
+    /// Unless the output encoding is UTF-8, the last ten bytes of `dst` are kept back, so that a reference is
+    /// never cut: only one that begins before them reaches into them, and it ends the call.
+    pub fn encode_from_utf8(
+        &mut self,
+        src: &str,
+        dst: &mut [u8],
+        last: bool,
+    ) -> (CoderResult, usize, usize, bool)
+        ensures read { result.1 ≤ length src.now }
+        ensures boundary { IsCharBoundary src.now result.1 }
+        ensures room { result.2 ≤ length dst.new }
+        ensures behind { drop result.2 dst.new ≡ drop result.2 dst.old }
+        ensures call { Replaces self.old last result.0 (chars src.now) (take result.2 dst.new) self.new (chars (drop result.1 src.now)) result.3 (length dst.new) }
+    {
+        encode_replacing(self, src, dst, last)
+    }
+
+    /// The same for units of UTF-16, in which a surrogate outside a pair is U+FFFD. The slice is read by
+    /// itself, and no pair that it holds is parted. The second number counts units.
+    pub fn encode_from_utf16(
+        &mut self,
+        src: &[u16],
+        dst: &mut [u8],
+        last: bool,
+    ) -> (CoderResult, usize, usize, bool)
+        ensures read { result.1 ≤ length src.now }
+        ensures room { result.2 ≤ length dst.new }
+        ensures behind { drop result.2 dst.new ≡ drop result.2 dst.old }
+        ensures call { Replaces self.old last result.0 (utf16_lossy_chars src.now) (take result.2 dst.new) self.new (utf16_lossy_chars (drop result.1 src.now)) result.3 (length dst.new) }
+    {
+        encode_replacing(self, src, dst, last)
+    }
+}
+
+impl<'t> fmt::Debug for Encoder<'t> {
+    fn fmt<W: fmt::Write>(&self, f: &mut fmt::Formatter<W>) -> fmt::Result {
+        f.debug_struct("Encoder")
+            .field("encoding", &self.encoding.name())
+            .finish()
+    }
+}
