@@ -1,5 +1,5 @@
 -- Calls of an encoder without replacement.
-use Rattle.std.proofs.Common.{◌≡◌, ℕ, ◌+◌, ◌-◌, ◌≤◌, Bool, List, [], ◌++◌, length, take, drop, refl, sym, ◌∙◌, ap, subst, arith, length-append}
+use Rattle.std.proofs.Common.{◌≡◌, ℕ, ◌+◌, ◌-◌, ◌≤◌, Bool, List, [], ◌++◌, length, take, drop, refl, sym, ◌∙◌, ap, subst, arith}
 use Rattle.std.proofs.lemmas.List.{drop-append-le, drop-drop, take-append-drop}
 use Rattle.encoding_mem.specs.Coding.{Coding}
 use Rattle.encoding_mem.specs.Encoding.{Answers, Encodes}
@@ -12,7 +12,7 @@ use Rattle.encoding_mem.specs.declared.room.TextRoom.{TextRoom}
 use Rattle.encoding_tables.specs.IndexLists.{IndexLists}
 use Rattle.encoding_front.specs.Encoder.{Encoded, EncoderState, IsEncoderOf, Turned, kept_back, kept_by_scheme, referred}
 use Rattle.encoding_front.specs.EncodingTable.{scheme_of}
-use Rattle.encoding_front.specs.Encodings.{coding_of, coding_of_scheme, need_of, output_encoding_of}
+use Rattle.encoding_front.specs.Encodings.{coding_of, coding_of_scheme, output_encoding_of}
 use Rattle.encoding_front.specs.declared.encoding.Encoding.{Encoding}
 use Rattle.encoding_front.specs.declared.scheme.Scheme.{Scheme}
 

@@ -1,13 +1,11 @@
 -- Calls with replacement: what the calls without replacement and the references between them make together.
-use Rattle.std.proofs.Common.{◌≡◌, ◌↔◌, ℕ, ◌+◌, ◌-◌, ◌≤◌, ◌<◌, Bool, true, false, IsTrue, cond, List, [], ◌∷◌, ◌++◌, length, map, ◌⊎◌, inl, inr, refl, sym, ◌∙◌, ap, subst, arith, append_assoc, length-append, add_assoc, add-zero, zero-add}
-use Rattle.std.specs.Bool.{MatchBool}
+use Rattle.std.proofs.Common.{◌≡◌, ◌↔◌, ℕ, ◌+◌, ◌<◌, Bool, true, false, IsTrue, List, [], ◌∷◌, ◌++◌, length, map, refl, sym, ◌∙◌, ap, arith, append_assoc, length-append, add_assoc, add-zero, zero-add}
 use Rattle.std.proofs.lemmas.List.{append-nil, append_cancel_left, map-append}
-use Rattle.encoding_mem.specs.Coding.{AllMapped, Coding, IsMapped, last_set, lost_count, open_from, reference, spelled, unmapped_count, whole_from}
-use Rattle.encoding_mem.specs.Encoding.{Continues, Encodes, Writes, reported}
+use Rattle.encoding_mem.specs.Coding.{AllMapped, Coding, IsMapped, last_set, lost_count, open_from, reference, spelled, unmapped_count}
+use Rattle.encoding_mem.specs.Encoding.{Continues, Encodes}
 use Rattle.encoding_mem.specs.EncodingLaws.{encoded_bytes}
-use Rattle.encoding_mem.specs.Items.{Byte, Item, LostAt, closing, form_items, open_items, whole_items}
-use Rattle.encoding_mem.specs.declared.encoder_result.EncoderResult.{EncoderResult}
-use Rattle.encoding_mem.specs.declared.encoder_result.EncoderResult.TheVariants.{InputEmpty, OutputFull, Unmappable}
+use Rattle.encoding_mem.specs.Items.{Byte, Item, LostAt, form_items, open_items, whole_items}
+use Rattle.encoding_mem.specs.declared.encoder_result.EncoderResult.TheVariants.{Unmappable}
 use Rattle.encoding_mem.specs.declared.form.Form.{Form}
 use Rattle.encoding_mem.specs.declared.form.Form.TheVariants.{Mapped, Unmapped}
 use Rattle.encoding_mem.specs.declared.form.Set.{Set}

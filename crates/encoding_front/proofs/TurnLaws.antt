@@ -6,7 +6,6 @@ use borrow.Rule.Slice.PartMut.{put_mid, post_of}
 use Rattle.encoding_mem.specs.Coding.{reference}
 use Rattle.encoding_mem.specs.declared.encoder_result.EncoderResult.{EncoderResult}
 use Rattle.encoding_mem.specs.declared.encoder_result.EncoderResult.TheVariants.{InputEmpty, OutputFull, Unmappable}
-use Rattle.encoding_mem.specs.declared.form.Set.{Set}
 use Rattle.encoding_front.specs.Encoder.{Encoded, EncoderState, Ends, Replaces, Turned, coding_in, kept_back, referred}
 use Rattle.encoding_front.specs.declared.coder_result.CoderResult.{CoderResult}
 use Rattle.encoding_front.proofs.ReferenceEnds.{Going, ended, going_on, reached}

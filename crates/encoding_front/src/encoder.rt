@@ -1,4 +1,4 @@
-ghost use Rattle.std.specs.Prelude.{◌≡◌, ◌≢◌, ◌↔◌, ℕ, ◌+◌, ◌-◌, ◌≤◌, true, false, IsTrue, length, take, drop};
+ghost use Rattle.std.specs.Prelude.{◌≡◌, ◌≢◌, ◌↔◌, ℕ, ◌+◌, ◌-◌, ◌≤◌, ◌++◌, true, false, IsTrue, List, length, take, drop, vec_capacity, vec_len};
 ghost use Rattle.std.specs.Str.{chars, IsCharBoundary};
 ghost use Rattle.std.specs.Char.Utf16.{utf16_lossy_chars};
 ghost use Rattle.encoding_mem.specs.Room.{checked};
@@ -185,6 +185,68 @@ impl<'t> Encoder<'t> {
     {
         encode_replacing(self, src, dst, last)
     }
+
+    /// Encodes a text into the spare capacity of a vector, behind what it holds; its capacity stays as it is.
+    /// Answers as the call into a slice, without what was written.
+    pub fn encode_from_utf8_to_vec(
+        &mut self,
+        src: &str,
+        dst: &mut Vec<u8>,
+        last: bool,
+    ) -> (CoderResult, usize, bool)
+        ensures read { result.1 ≤ length src.now }
+        ensures boundary { IsCharBoundary src.now result.1 }
+        ensures capacity { vec_capacity dst.new ≡ vec_capacity dst.old }
+        ensures call { (written : List ℕ) × (dst.new.items ≡ dst.old.items ++ written)
+            × Replaces self.old last result.0 (chars src.now) written self.new (chars (drop result.1 src.now)) result.2 (vec_capacity dst.old - vec_len dst.old) }
+    {
+        let len = fill_spare(dst);
+        let (result, read, written, had_unmappables) = self.encode_from_utf8(
+            src,
+            &mut dst[len..],
+            last,
+        );
+        dst.truncate(len + written);
+        (result, read, had_unmappables)
+    }
+
+    /// The same without replacement.
+    pub fn encode_from_utf8_to_vec_without_replacement(
+        &mut self,
+        src: &str,
+        dst: &mut Vec<u8>,
+        last: bool,
+    ) -> (EncoderResult, usize)
+        ensures read { result.1 ≤ length src.now }
+        ensures boundary { IsCharBoundary src.now result.1 }
+        ensures capacity { vec_capacity dst.new ≡ vec_capacity dst.old }
+        ensures call { (written : List ℕ) × (dst.new.items ≡ dst.old.items ++ written)
+            × Encoded self.old last result.0 (chars src.now) written self.new (chars (drop result.1 src.now)) (vec_capacity dst.old - vec_len dst.old - length written) }
+    {
+        let len = fill_spare(dst);
+        let (result, read, written) = self.encode_from_utf8_without_replacement(
+            src,
+            &mut dst[len..],
+            last,
+        );
+        dst.truncate(len + written);
+        (result, read)
+    }
+}
+
+// Fills the spare capacity with zeros, and answers the length before.
+fn fill_spare(dst: &mut Vec<u8>) -> usize
+    ensures len { result ≡ vec_len dst.old }
+    ensures items { take result dst.new.items ≡ dst.old.items }
+    ensures within { result ≤ length dst.new.items }
+    ensures full { length dst.new.items ≡ vec_capacity dst.old }
+    ensures capacity { vec_capacity dst.new ≡ vec_capacity dst.old }
+{
+    let len = dst.len();
+    while dst.len() < dst.capacity() {
+        dst.push_reserved(0);
+    }
+    len
 }
 
 impl<'t> fmt::Debug for Encoder<'t> {

@@ -1,8 +1,8 @@
 // Encoders over small indexes, with answers worked by hand.
 
 use crate::{
-    CoderResult, GB18030, ISO_2022_JP, REPLACEMENT, SHIFT_JIS, UTF_8, UTF_16BE, UTF_16LE,
-    WINDOWS_1252, WINDOWS_1253,
+    CoderResult, Encoder, Encoding, GB18030, ISO_2022_JP, REPLACEMENT, SHIFT_JIS, UTF_8, UTF_16BE,
+    UTF_16LE, WINDOWS_1252, WINDOWS_1253,
 };
 use encoding_mem::EncoderResult;
 use encoding_tables::{IndexKind, Tables};
@@ -183,52 +183,66 @@ const ROWS: [Row; 13] = [
     },
 ];
 
+// What a call tells, and what it leaves of 32 bytes, of which it is given so many.
+type Told = ((CoderResult, usize, usize, bool), [u8; 32]);
+
+fn from_text(encoder: &mut Encoder<'_>, text: &str, size: usize, last: bool) -> Told {
+    let mut dst = [UNWRITTEN; 32];
+    let told = encoder.encode_from_utf8(text, &mut dst[..size.min(32)], last);
+    (told, dst)
+}
+
+fn from_units(encoder: &mut Encoder<'_>, units: &[u16], size: usize, last: bool) -> Told {
+    let mut dst = [UNWRITTEN; 32];
+    let told = encoder.encode_from_utf16(units, &mut dst[..size.min(32)], last);
+    (told, dst)
+}
+
+// The same without replacement, of a last text.
+type ToldWithout = ((EncoderResult, usize, usize), [u8; 32]);
+
+fn from_text_without(encoder: &mut Encoder<'_>, text: &str, size: usize) -> ToldWithout {
+    let mut dst = [UNWRITTEN; 32];
+    let told = encoder.encode_from_utf8_without_replacement(text, &mut dst[..size.min(32)], true);
+    (told, dst)
+}
+
+fn from_units_without(encoder: &mut Encoder<'_>, units: &[u16], size: usize) -> ToldWithout {
+    let mut dst = [UNWRITTEN; 32];
+    let told = encoder.encode_from_utf16_without_replacement(units, &mut dst[..size.min(32)], true);
+    (told, dst)
+}
+
+// Whether these bytes are written, and nothing behind them.
+fn holds(dst: &[u8; 32], bytes: &[u8]) -> bool {
+    dst.as_slice().starts_with(bytes) && dst.iter().skip(bytes.len()).all(|byte| *byte == UNWRITTEN)
+}
+
 #[test]
 fn references_into_iso_2022_jp(rt: HostRuntime) -> Result<(), Fail> {
     let tables = tables(rt.alloc(), &[(282, 0x3041), (422, 0x30CF)])?;
     assert!(rt; ISO_2022_JP.is_ready(&tables));
     for row in &ROWS {
-        let size = row.size.min(32);
         let count = row.bytes.len();
-        let mut dst = [UNWRITTEN; 32];
         let mut encoder = ISO_2022_JP.new_encoder(&tables);
-        let told = encoder.encode_from_utf8(row.text, &mut dst[..size], row.last);
+        let (told, dst) = from_text(&mut encoder, row.text, row.size, row.last);
         assert_eq!(rt;
             told,
             (row.answer, row.read.0, count, row.lost),
-            "{} into {size}",
+            "{}",
             row.text
         );
-        assert!(rt;
-            dst.as_slice().starts_with(row.bytes),
-            "{} into {size}",
-            row.text
-        );
-        assert!(rt;
-            dst.iter().skip(count).all(|byte| *byte == UNWRITTEN),
-            "{} into {size}",
-            row.text
-        );
+        assert!(rt; holds(&dst, row.bytes), "{}", row.text);
 
-        let mut dst = [UNWRITTEN; 32];
         let mut encoder = ISO_2022_JP.new_encoder(&tables);
-        let told = encoder.encode_from_utf16(row.units, &mut dst[..size], row.last);
+        let (told, dst) = from_units(&mut encoder, row.units, row.size, row.last);
         assert_eq!(rt;
             told,
             (row.answer, row.read.1, count, row.lost),
-            "{} into {size}",
+            "{}",
             row.text
         );
-        assert!(rt;
-            dst.as_slice().starts_with(row.bytes),
-            "{} into {size}",
-            row.text
-        );
-        assert!(rt;
-            dst.iter().skip(count).all(|byte| *byte == UNWRITTEN),
-            "{} into {size}",
-            row.text
-        );
+        assert!(rt; holds(&dst, row.bytes), "{}", row.text);
     }
     Ok(())
 }
@@ -237,21 +251,23 @@ fn references_into_iso_2022_jp(rt: HostRuntime) -> Result<(), Fail> {
 fn pending_state_in_too_little_room(rt: HostRuntime) -> Result<(), Fail> {
     let tables = tables(rt.alloc(), &[])?;
     assert!(rt; ISO_2022_JP.is_ready(&tables));
-    let mut dst = [UNWRITTEN; 16];
     let mut encoder = ISO_2022_JP.new_encoder(&tables);
     assert!(rt; !encoder.has_pending_state());
-    let told = encoder.encode_from_utf8("\u{A5}", &mut dst, false);
+    let (told, _) = from_text(&mut encoder, "\u{A5}", 16, false);
     assert_eq!(rt; told, (CoderResult::InputEmpty, 2, 4, false));
     assert!(rt; encoder.has_pending_state());
-    let full = (CoderResult::OutputFull, 0, 0, false);
-    let done = (CoderResult::InputEmpty, 0, 0, false);
-    assert_eq!(rt; encoder.encode_from_utf8("", &mut dst[..8], false), done);
-    assert_eq!(rt; encoder.encode_from_utf8("", &mut dst[..8], true), full);
-    assert_eq!(rt; encoder.encode_from_utf16(&[], &mut dst[..8], false), done);
-    assert_eq!(rt; encoder.encode_from_utf16(&[], &mut dst[..8], true), full);
-    let told = encoder.encode_from_utf16(&[], &mut dst, true);
+    for (last, answer) in [
+        (false, CoderResult::InputEmpty),
+        (true, CoderResult::OutputFull),
+    ] {
+        let (told, _) = from_text(&mut encoder, "", 8, last);
+        assert_eq!(rt; told, (answer, 0, 0, false));
+        let (told, _) = from_units(&mut encoder, &[], 8, last);
+        assert_eq!(rt; told, (answer, 0, 0, false));
+    }
+    let (told, dst) = from_units(&mut encoder, &[], 16, true);
     assert_eq!(rt; told, (CoderResult::InputEmpty, 0, 3, false));
-    assert_eq!(rt; &dst[..3], b"\x1B(B".as_slice());
+    assert!(rt; holds(&dst, b"\x1B(B"));
     assert!(rt; !encoder.has_pending_state());
     Ok(())
 }
@@ -259,36 +275,39 @@ fn pending_state_in_too_little_room(rt: HostRuntime) -> Result<(), Fail> {
 #[test]
 fn a_character_that_does_not_fit(rt: HostRuntime) -> Result<(), Fail> {
     let tables = tables(rt.alloc(), &[(1485, 0x4E00)])?;
-    assert!(rt; SHIFT_JIS.is_ready(&tables));
-    assert!(rt; GB18030.is_ready(&tables));
+    let rows: [(Encoding, &str, &[u16], usize, &[u8]); 2] = [
+        (
+            SHIFT_JIS,
+            "abc\u{4E00}",
+            &[0x61, 0x62, 0x63, 0x4E00],
+            5,
+            b"abc\x88\xEA",
+        ),
+        (
+            GB18030,
+            "abc\u{10000}",
+            &[0x61, 0x62, 0x63, 0xD800, 0xDC00],
+            7,
+            b"abc\x90\x30\x81\x30",
+        ),
+    ];
     let full = (EncoderResult::OutputFull, 3, 3);
-
-    let mut dst = [0; 7];
-    let mut encoder = SHIFT_JIS.new_encoder(&tables);
-    let told = encoder.encode_from_utf8_without_replacement("abc\u{4E00}", &mut dst[..4], true);
-    assert_eq!(rt; told, full);
-    let units = [0x61, 0x62, 0x63, 0x4E00];
-    let told = encoder.encode_from_utf16_without_replacement(&units, &mut dst[..4], true);
-    assert_eq!(rt; told, full);
-    let told = encoder.encode_from_utf8_without_replacement("abc\u{4E00}", &mut dst[..5], true);
-    assert_eq!(rt; told, (EncoderResult::InputEmpty, 6, 5));
-    assert_eq!(rt; &dst[..5], b"abc\x88\xEA".as_slice());
-    let told = encoder.encode_from_utf16_without_replacement(&units, &mut dst[..5], true);
-    assert_eq!(rt; told, (EncoderResult::InputEmpty, 4, 5));
-    assert_eq!(rt; &dst[..5], b"abc\x88\xEA".as_slice());
-
-    let mut encoder = GB18030.new_encoder(&tables);
-    let told = encoder.encode_from_utf8_without_replacement("abc\u{10000}", &mut dst[..6], true);
-    assert_eq!(rt; told, full);
-    let units = [0x61, 0x62, 0x63, 0xD800, 0xDC00];
-    let told = encoder.encode_from_utf16_without_replacement(&units, &mut dst[..6], true);
-    assert_eq!(rt; told, full);
-    let told = encoder.encode_from_utf8_without_replacement("abc\u{10000}", &mut dst, true);
-    assert_eq!(rt; told, (EncoderResult::InputEmpty, 7, 7));
-    assert_eq!(rt; &dst, b"abc\x90\x30\x81\x30");
-    let told = encoder.encode_from_utf16_without_replacement(&units, &mut dst, true);
-    assert_eq!(rt; told, (EncoderResult::InputEmpty, 5, 7));
-    assert_eq!(rt; &dst, b"abc\x90\x30\x81\x30");
+    for (encoding, text, units, size, bytes) in rows {
+        assert!(rt; encoding.output_encoding().is_ready(&tables));
+        let mut encoder = encoding.new_encoder(&tables);
+        let (told, dst) = from_text_without(&mut encoder, text, size.saturating_sub(1));
+        assert_eq!(rt; told, full);
+        assert!(rt; holds(&dst, b"abc"));
+        let (told, dst) = from_units_without(&mut encoder, units, size.saturating_sub(1));
+        assert_eq!(rt; told, full);
+        assert!(rt; holds(&dst, b"abc"));
+        let (told, dst) = from_text_without(&mut encoder, text, size);
+        assert_eq!(rt; told, (EncoderResult::InputEmpty, text.len(), size));
+        assert!(rt; holds(&dst, bytes));
+        let (told, dst) = from_units_without(&mut encoder, units, size);
+        assert_eq!(rt; told, (EncoderResult::InputEmpty, units.len(), size));
+        assert!(rt; holds(&dst, bytes));
+    }
     Ok(())
 }
 
@@ -297,18 +316,36 @@ fn greek_and_a_character_without_bytes(rt: HostRuntime) -> Result<(), Fail> {
     let tables = tables(rt.alloc(), &[])?;
     assert!(rt; WINDOWS_1253.is_ready(&tables));
     let mut encoder = WINDOWS_1253.new_encoder(&tables);
-    let mut dst = [UNWRITTEN; 32];
     let units = [0x391, 0xD83D, 0xDCA9, 0x3C4];
-    let told = encoder.encode_from_utf16_without_replacement(&units, &mut dst[..2], true);
+    let (told, dst) = from_units_without(&mut encoder, &units, 2);
     assert_eq!(rt; told, (EncoderResult::Unmappable('\u{1F4A9}'), 3, 1));
-    assert_eq!(rt; &dst[..2], [0xC1, UNWRITTEN].as_slice());
-    let told = encoder.encode_from_utf8("\u{1F4A9}", &mut dst, true);
+    assert!(rt; holds(&dst, b"\xC1"));
+    let (told, dst) = from_text(&mut encoder, "\u{1F4A9}", 32, true);
     assert_eq!(rt; told, (CoderResult::InputEmpty, 4, 9, true));
-    assert_eq!(rt; &dst[..9], POO);
-    // two references, of which the first ends before the ten bytes and the second reaches into them
-    let told = encoder.encode_from_utf8("\u{1F4A9}\u{391}\u{1F4A9}a", &mut dst[..21], true);
+    assert!(rt; holds(&dst, POO));
+    // Of two references the first ends before the ten bytes, the second reaches into them.
+    let (told, dst) = from_text(&mut encoder, "\u{1F4A9}\u{391}\u{1F4A9}a", 21, true);
     assert_eq!(rt; told, (CoderResult::OutputFull, 10, 19, true));
-    assert_eq!(rt; &dst[..19], b"&#128169;\xC1&#128169;".as_slice());
+    assert!(rt; holds(&dst, b"&#128169;\xC1&#128169;"));
+    Ok(())
+}
+
+// The spare capacity is the room: of 16 bytes 14, of which 10 are kept back.
+#[test]
+fn into_the_spare_capacity(rt: HostRuntime) -> Result<(), Fail> {
+    let tables = tables(rt.alloc(), &[])?;
+    assert!(rt; WINDOWS_1253.is_ready(&tables));
+    let mut encoder = WINDOWS_1253.new_encoder(&tables);
+    let mut dst = Vec::with_capacity(rt.alloc(), 16)?;
+    dst.extend_from_slice(b"ab")?;
+    let told = encoder.encode_from_utf8_to_vec("\u{3C4}\u{1F4A9}c", &mut dst, true);
+    assert_eq!(rt; told, (CoderResult::OutputFull, 6, true));
+    assert_eq!(rt; dst.as_slice(), b"ab\xF4&#128169;".as_slice());
+    assert_eq!(rt; dst.capacity(), 16);
+    let told = encoder.encode_from_utf8_to_vec_without_replacement("cdefg", &mut dst, true);
+    assert_eq!(rt; told, (EncoderResult::OutputFull, 4));
+    assert_eq!(rt; dst.as_slice(), b"ab\xF4&#128169;cdef".as_slice());
+    assert_eq!(rt; dst.capacity(), 16);
     Ok(())
 }
 

@@ -1,4 +1,3 @@
-use Rattle.std.proofs.Common.{◌≡◌}
 use Rattle.encoding_front.proofs.Encoders.{encoded}
 use Rattle.encoding_front.proofs.encoder.Encoder.encode_from_utf16_without_replacement.Goals as goal
 
