@@ -154,7 +154,8 @@ impl<'t> Encoder<'t> {
     /// the call ended, the bytes of text read, the bytes written, and whether a reference was written.
     ///
     /// Unless the output encoding is UTF-8, the last ten bytes of `dst` are kept back, so that a reference is
-    /// never cut: only one that begins before them reaches into them, and it ends the call.
+    /// never cut: only one that begins before them reaches into them, and it ends the call. In the room that
+    /// is asked for with `max_buffer_length_from_utf8_if_no_unmappables` only a reference ends a call so.
     pub fn encode_from_utf8(
         &mut self,
         src: &str,
@@ -166,6 +167,7 @@ impl<'t> Encoder<'t> {
         ensures room { result.2 ≤ length dst.new }
         ensures behind { drop result.2 dst.new ≡ drop result.2 dst.old }
         ensures call { Replaces self.old last result.0 (chars src.now) (take result.2 dst.new) self.new (chars (drop result.1 src.now)) result.3 (length dst.new) }
+        ensures enough { room_for self.old.encoding false (length src.now) + kept_back self.old.encoding ≤ length dst.old → result.3 ≡ false → result.0 ≢ CoderResult.OutputFull }
     {
         encode_replacing(self, src, dst, last)
     }
@@ -182,6 +184,7 @@ impl<'t> Encoder<'t> {
         ensures room { result.2 ≤ length dst.new }
         ensures behind { drop result.2 dst.new ≡ drop result.2 dst.old }
         ensures call { Replaces self.old last result.0 (utf16_lossy_chars src.now) (take result.2 dst.new) self.new (utf16_lossy_chars (drop result.1 src.now)) result.3 (length dst.new) }
+        ensures enough { room_for self.old.encoding true (length src.now) + kept_back self.old.encoding ≤ length dst.old → result.3 ≡ false → result.0 ≢ CoderResult.OutputFull }
     {
         encode_replacing(self, src, dst, last)
     }
@@ -199,6 +202,7 @@ impl<'t> Encoder<'t> {
         ensures capacity { vec_capacity dst.new ≡ vec_capacity dst.old }
         ensures call { (written : List ℕ) × (dst.new.items ≡ dst.old.items ++ written)
             × Replaces self.old last result.0 (chars src.now) written self.new (chars (drop result.1 src.now)) result.2 (vec_capacity dst.old - vec_len dst.old) }
+        ensures enough { room_for self.old.encoding false (length src.now) + kept_back self.old.encoding ≤ vec_capacity dst.old - vec_len dst.old → result.2 ≡ false → result.0 ≢ CoderResult.OutputFull }
     {
         let len = fill_spare(dst);
         let (result, read, written, had_unmappables) = self.encode_from_utf8(
@@ -222,6 +226,7 @@ impl<'t> Encoder<'t> {
         ensures capacity { vec_capacity dst.new ≡ vec_capacity dst.old }
         ensures call { (written : List ℕ) × (dst.new.items ≡ dst.old.items ++ written)
             × Encoded self.old last result.0 (chars src.now) written self.new (chars (drop result.1 src.now)) (vec_capacity dst.old - vec_len dst.old - length written) }
+        ensures enough { room_for self.old.encoding false (length src.now) ≤ vec_capacity dst.old - vec_len dst.old → result.0 ≢ EncoderResult.OutputFull }
     {
         let len = fill_spare(dst);
         let (result, read, written) = self.encode_from_utf8_without_replacement(

@@ -1,8 +1,8 @@
 // Encoding with references for characters without bytes, once for both kinds of text.
 
-ghost use Rattle.std.specs.Prelude.{◌≡◌, ℕ, ◌+◌, ◌-◌, ◌≤◌, ◌++◌, length, take, drop};
+ghost use Rattle.std.specs.Prelude.{◌≡◌, ◌≢◌, false, ℕ, ◌+◌, ◌-◌, ◌≤◌, ◌++◌, length, take, drop};
 ghost use Rattle.encoding_mem.specs.Coding.{reference};
-ghost use Rattle.encoding_front.specs.Encoder.{Ends, Replaces, Turned, kept_back};
+ghost use Rattle.encoding_front.specs.Encoder.{Ends, Replaces, Turned, kept_back, room_for};
 
 use crate::coder_result::CoderResult;
 use crate::encoder::Encoder;
@@ -40,6 +40,7 @@ fn encode_turn<T: SourceText>(
     ensures boundary { T.IsBoundary (T.list src) result.1 }
     ensures room { result.2 ≤ length dst.new }
     ensures behind { drop result.2 dst.new ≡ drop result.2 dst.old }
+    ensures enough { room_for encoder.old.encoding T.is_units (length (T.list src)) ≤ end → result.0 ≢ EncoderResult.OutputFull }
     ensures turn { Turned encoder.old last result.0 (T.text (T.list src)) (take result.2 dst.new) encoder.new (T.text (drop result.1 (T.list src))) end }
 {
     let (answer, read, written) = src.encode(encoder, &mut dst[..end], last);
@@ -74,6 +75,8 @@ pub(crate) fn encode_replacing<T: SourceText>(
     ensures room { result.2 ≤ length dst.new }
     ensures behind { drop result.2 dst.new ≡ drop result.2 dst.old }
     ensures call { Replaces encoder.old last result.0 (T.text (T.list src)) (take result.2 dst.new) encoder.new (T.text (drop result.1 (T.list src))) result.3 (length dst.new) }
+    ensures enough { room_for encoder.old.encoding T.is_units (length (T.list src)) + kept_back encoder.old.encoding ≤ length dst.old
+        → result.3 ≡ false → result.0 ≢ CoderResult.OutputFull }
 {
     let kept = encoder.kept_back();
     if dst.len() < kept {

@@ -17,6 +17,7 @@ turns-init g c = record {
   boundary = c.requires;
   same = refl;
   going = going_none _ _ _ _ _;
+  fresh = λ h. (refl, refl, refl);
 }
 
 pub overflow_add-read : goal.overflow_add-read
@@ -91,4 +92,5 @@ turns-preserved g c =
       boundary = g.met.T.SourceText.further all _ _ i.read (rw c.rest.ensures at e.boundary);
       same = still_same c.args.encoder.now c.turns.encoder c.encode_turn-answer.new.encoder _ _ _ _ _ _ i.same turn;
       going = turn_on c.args.encoder.now c.turns.encoder c.encode_turn-answer.new.encoder _ _ _ _ _ _ _ _ _ _ _ _ i.same i.going turn c.in-Unmappable.is (take_into _ _ _ _ _ within e.room) (omega (arith, length_is, c.if-end-written.false));
+      fresh = λ h. absurd (cc);
     }

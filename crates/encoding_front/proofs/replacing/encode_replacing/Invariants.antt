@@ -1,4 +1,4 @@
-use Rattle.std.proofs.Common.{◌≡◌, ◌+◌, ◌≤◌, length, take, drop}
+use Rattle.std.proofs.Common.{◌≡◌, ◌+◌, ◌≤◌, false, length, take, drop}
 use Rattle.encoding_front.specs.Encoder.{EncoderState, coding_in, kept_back}
 use Rattle.encoding_front.proofs.ReferenceEnds.{Going}
 use Rattle.encoding_front.proofs.replacing.encode_replacing.Given as goal
@@ -14,6 +14,7 @@ invariant-turns g l = record {
   same : ◌≡◌ {A = EncoderState} l.encoder (record l.initial.encoder { set = l.encoder.set });
   going : Going (coding_in l.initial.encoder) l.last l.initial.encoder.set (g.T.SourceText.text (g.T.SourceText.list l.src)) (take l.written l.dst)
       l.encoder.set (g.T.SourceText.text (drop l.read (g.T.SourceText.list l.src))) l.has_lost l.end;
+  fresh : l.has_lost ≡ false → (l.read ≡ 0) × (l.written ≡ 0) × (◌≡◌ {A = EncoderState} l.encoder l.initial.encoder);
 }
 
 abbrev pub decreases-turns : goal.decreases-turns
