@@ -4,5 +4,6 @@ pub mod Names
 pub mod References
 pub mod TurnLaws
 pub mod VecWrites
+pub mod WholeTexts
 pub mod ReferenceEnds
 pub mod ReferenceTurns

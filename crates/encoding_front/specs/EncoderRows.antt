@@ -1,5 +1,5 @@
 -- Worked cases of encoders: in the sample target a yen sign is 5C in Roman, and U+1F4A9 has no bytes.
-use Rattle.std.specs.Prelude.{◌≡◌, true, false, None, Some, [], ◌∷◌, ◌++◌, codes, ◌⊎◌, refl}
+use Rattle.std.specs.Prelude.{◌≡◌, true, false, None, Some, [], ◌∷◌, ◌++◌, codes, refl}
 use Rattle.std.specs.Fmt.{digits}
 use Rattle.std.proofs.Common.{inr}
 use Rattle.encoding_mem.specs.Coding.{lost_count, open_from, whole_from}

@@ -10,6 +10,10 @@ pub mod encoding;
 #[cfg(test)]
 mod encoding_tests;
 pub mod laws;
+mod one_shot_encoding;
+#[cfg(test)]
+mod one_shot_encoding_tests;
+pub mod one_shot_fault;
 pub mod reference;
 mod replacing;
 mod scheme;
@@ -38,6 +42,7 @@ pub use constants::{
 };
 pub use encoder::Encoder;
 pub use encoding::Encoding;
+pub use one_shot_fault::OneShotFault;
 pub use reference::write_reference;
 pub use variant_decoder::VariantDecoder;
 pub use variant_encoder::VariantEncoder;
