@@ -7,3 +7,10 @@ pub mod VecWrites
 pub mod WholeTexts
 pub mod ReferenceEnds
 pub mod ReferenceTurns
+pub mod Seeing
+pub mod MarkCalls
+pub mod HeldCalls
+pub mod SettledCalls
+pub mod MarkSources
+pub mod AskedRoom
+pub mod DecodedTexts

@@ -5,3 +5,10 @@ pub mod EncodingRows
 pub mod EncodingTable
 pub mod Encodings
 pub mod EncodingsLaws
+pub mod Marks
+pub mod Seeking
+pub mod SeekingLaws
+pub mod MarkedState
+pub mod TakesMark
+pub mod Stream
+pub mod DecodedText

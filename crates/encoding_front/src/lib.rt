@@ -3,20 +3,29 @@
 
 pub mod coder_result;
 pub mod constants;
+mod decode_replacing;
+pub mod decoder;
+#[cfg(test)]
+mod decoder_tests;
 pub mod encoder;
 #[cfg(test)]
 mod encoder_tests;
 pub mod encoding;
 #[cfg(test)]
 mod encoding_tests;
+mod held;
 pub mod laws;
+pub mod mark;
+mod marked_decoder;
 mod one_shot_encoding;
 #[cfg(test)]
 mod one_shot_encoding_tests;
 pub mod one_shot_fault;
 pub mod reference;
 mod replacing;
+mod replay;
 mod scheme;
+mod seeking;
 mod source_text;
 #[cfg(test)]
 mod tests;
@@ -40,8 +49,10 @@ pub use constants::{
     WINDOWS_1258, WINDOWS_1258_INIT, X_MAC_CYRILLIC, X_MAC_CYRILLIC_INIT, X_USER_DEFINED,
     X_USER_DEFINED_INIT,
 };
+pub use decoder::{Decoder, StreamDecoder};
 pub use encoder::Encoder;
 pub use encoding::Encoding;
+pub use mark::Mark;
 pub use one_shot_fault::OneShotFault;
 pub use reference::write_reference;
 pub use variant_decoder::VariantDecoder;

@@ -1,0 +1,16 @@
+use Rattle.std.proofs.Common.{◌-◌, length, ap, refl, arith}
+use Rattle.encoding_mem.specs.declared.room.Count.TheVariants.{Replaced}
+use Rattle.encoding_front.specs.Seeking.{sought_needs}
+use Rattle.encoding_front.specs.contracts.variant_decoder.VariantDecoderPieceDecoder.TheImpl.{state-value}
+use Rattle.encoding_front.proofs.AskedRoom.{asked_covers, asked_never_full_text}
+use Rattle.encoding_front.proofs.MarkCalls.{few_of}
+use Rattle.encoding_front.proofs.decoder.Decoder.decode_to_utf8.Goals as goal
+
+pub returns-clause-enough : goal.returns-clause-enough
+returns-clause-enough c =
+    let marked = c.args.self.now.marked in
+    let own = (state-value).it marked.inner in
+    let call = c.decode_text_into-outcome in
+    λ n asked fits. asked_never_full_text (sought_needs marked.sought own.needs marked.held) Replaced c.args.last (length c.args.src.now) (length c.new-sink.result.bytes.now - c.new-sink.result.written) call.result.0 refl call.ensures.enough n
+    (asked_covers marked.sought own marked.held Replaced (length c.args.src.now) n (few_of (length marked.held) own.pending marked.few) asked)
+    (omega (arith, ap length c.new-sink.ensures.bytes, c.new-sink.ensures.written, fits))

@@ -1,0 +1,61 @@
+-- Byte order marks: which one is taken from the front of an input, in which encoding what follows it is then, and the
+-- pieces of both (the Encoding Standard, section 6, "decode", "UTF-8 decode" and "UTF-8 decode without BOM").
+use Rattle.std.specs.Prelude.{◌≡◌, ℕ, zero, suc, ◌==◌, Bool, true, false, Option, None, Some, List, [], ◌∷◌, ◌++◌, drop, filter, refl}
+use Rattle.encoding_mem.specs.Piece.{Piece, good, text}
+use Rattle.encoding_tables.specs.IndexLists.{IndexLists}
+use Rattle.encoding_front.specs.EncodingTable.{number_of}
+use Rattle.encoding_front.specs.Encodings.{byte_order_marks, first_mark, pieces_of}
+use Rattle.encoding_front.specs.declared.encoding.Encoding.{Encoding}
+use Rattle.encoding_front.specs.declared.mark.Mark.{Mark}
+use Rattle.encoding_front.specs.declared.mark.Mark.TheVariants.{Sniff, Remove, Keep}
+
+-- whether a mark of f is taken from an input that is said to be in e
+abbrev pub takes_mark_of : Mark → (e f : Encoding) → Bool
+takes_mark_of Sniff e f = true
+takes_mark_of Remove e f = number_of e == number_of f
+takes_mark_of Keep e f = false
+
+abbrev pub marks_taken : Mark → Encoding → List (Encoding × List ℕ)
+marks_taken mark e = filter (λ m. takes_mark_of mark e m.0) byte_order_marks
+
+-- the encoding of what follows the mark that is taken, and its length; none is taken of no length
+abbrev pub source_or : Encoding → Option (Encoding × ℕ) → Encoding × ℕ
+source_or e None = (e, 0)
+source_or e (Some s) = s
+
+abbrev pub source_of : Mark → Encoding → List ℕ → Encoding × ℕ
+source_of mark e x = source_or e (first_mark (marks_taken mark e) x)
+
+-- a mark of n bytes is a piece with no text
+abbrev pub mark_piece : ℕ → List Piece
+mark_piece zero = []
+mark_piece (suc n) = good (suc n) [] ∷ []
+
+-- the pieces of a whole input
+abbrev pub pieces_from : IndexLists → Encoding × ℕ → List ℕ → List Piece
+pieces_from t s x = mark_piece s.1 ++ pieces_of t s.0 (drop s.1 x)
+
+abbrev pub marked_pieces : IndexLists → Mark → Encoding → List ℕ → List Piece
+marked_pieces t mark e x = pieces_from t (source_of mark e x) x
+
+-- and its text
+abbrev pub marked_text : IndexLists → Mark → Encoding → List ℕ → List ℕ
+marked_text t mark e x = text (marked_pieces t mark e x)
+
+sniffed : source_of Sniff Encoding.Windows1252 (0xEF ∷ 0xBB ∷ 0xBF ∷ 0x41 ∷ []) ≡ (Encoding.Utf8, 3)
+sniffed = refl
+
+sniffed_units : source_of Sniff Encoding.Utf8 (0xFF ∷ 0xFE ∷ []) ≡ (Encoding.Utf16Le, 2)
+sniffed_units = refl
+
+sniffed_none : source_of Sniff Encoding.Utf8 (0xEF ∷ 0xBB ∷ []) ≡ (Encoding.Utf8, 0)
+sniffed_none = refl
+
+removed : source_of Remove Encoding.Utf16Be (0xFE ∷ 0xFF ∷ 0x00 ∷ 0x41 ∷ []) ≡ (Encoding.Utf16Be, 2)
+removed = refl
+
+another_is_text : source_of Remove Encoding.Windows1252 (0xEF ∷ 0xBB ∷ 0xBF ∷ []) ≡ (Encoding.Windows1252, 0)
+another_is_text = refl
+
+kept : source_of Keep Encoding.Utf8 (0xEF ∷ 0xBB ∷ 0xBF ∷ []) ≡ (Encoding.Utf8, 0)
+kept = refl

@@ -1,0 +1,109 @@
+-- A decoder of a stream, as its callers know it.
+use Rattle.std.specs.Prelude.{◌≡◌, ℕ, ◌+◌, ◌||◌, ◌&&◌, nat_lt, Bool, true, false, if◌then◌else◌, Option, None, Some, List, [], ◌∷◌, refl}
+use Rattle.encoding_mem.specs.Decoding.{DecoderState}
+use Rattle.encoding_mem.specs.Room.{queried, room_utf8, room_utf16, room_single_byte, room_replacement}
+use Rattle.encoding_mem.specs.declared.decoder_result.DecoderResult.{DecoderResult}
+use Rattle.encoding_mem.specs.declared.decoder_result.DecoderResult.TheVariants.{InputEmpty, OutputFull, Malformed}
+use Rattle.encoding_mem.specs.declared.room.Count.{Count}
+use Rattle.encoding_mem.specs.declared.room.Count.TheVariants.{Units, Bytes, Replaced}
+use Rattle.encoding_mem.specs.declared.room.Room.{Room}
+use Rattle.encoding_tables.specs.IndexLists.{IndexLists}
+use Rattle.encoding_front.specs.Encodings.{room_of_encoding}
+use Rattle.encoding_front.specs.Marks.{marked_pieces, source_of}
+use Rattle.encoding_front.specs.Seeking.{can_be, encoding_of_mark, nothing_sought, sought_by}
+use Rattle.encoding_front.specs.declared.encoding.Encoding.{Encoding}
+use Rattle.encoding_front.specs.declared.mark.Mark.{Mark}
+use Rattle.encoding_front.specs.declared.mark.Mark.TheVariants.{Sniff}
+use Rattle.encoding_front.specs.declared.seeking.ByteOrderMark.{ByteOrderMark}
+use Rattle.encoding_front.specs.declared.seeking.ByteOrderMark.TheVariants.{Utf8, Utf16Be, Utf16Le}
+use Rattle.encoding_front.specs.declared.seeking.Sought.{Sought}
+
+-- the encoding of an input that was said to be in e, and that begins with this mark, or with none
+abbrev pub encoding_after : Encoding → Option ByteOrderMark → Encoding
+encoding_after e None = e
+encoding_after e (Some m) = encoding_of_mark m
+
+-- What the room that is enough depends on: the marks that are looked for, the bytes that are held meanwhile, and the
+-- room of the encoding in force with the bytes that are pending there.
+pub record Opening : Type 0 where
+  pub sought : Sought
+  pub held : List ℕ
+  pub room : Room
+  pub pending : ℕ
+
+-- the greater of two numbers, where there are both
+abbrev pub greater : Option ℕ → Option ℕ → Option ℕ
+greater None n = None
+greater (Some m) None = None
+greater (Some m) (Some n) = Some (if nat_lt m n then n else m)
+
+abbrev pub greater_if : Bool → (other own : Option ℕ) → Option ℕ
+greater_if t other own = if t then greater own other else own
+
+-- bytes that are held count as two
+abbrev pub ahead : List ℕ → ℕ
+ahead [] = 0
+ahead (b ∷ held) = 2
+
+-- The room that is enough for n more bytes: the greatest among those of the encodings that the input may still turn
+-- out to be in.
+abbrev pub room_asked : Opening → Count → ℕ → Option ℕ
+room_asked o k n =
+    greater_if (can_be o.sought o.held Utf16Be || can_be o.sought o.held Utf16Le) (queried room_utf16 k (n + ahead o.held))
+    (greater_if (can_be o.sought o.held Utf8) (queried room_utf8 k (n + ahead o.held))
+    (queried o.room k (o.pending + (n + ahead o.held))))
+
+sniffing_windows_1252 : List ℕ → Opening
+sniffing_windows_1252 held = record { sought = sought_by Sniff Encoding.Windows1252; held = held; room = room_single_byte; pending = 0 }
+
+at_the_start : room_asked (sniffing_windows_1252 []) Bytes 4 ≡ Some 12
+unfolding sniffing_windows_1252
+at_the_start = refl
+
+at_the_start_too_many : room_asked (sniffing_windows_1252 []) Replaced 0xFFFFFFFFFFFFFFFF ≡ None
+unfolding sniffing_windows_1252
+at_the_start_too_many = refl
+
+held_to_units : room_asked (sniffing_windows_1252 (0xEF ∷ [])) Units 1 ≡ Some 4
+unfolding sniffing_windows_1252
+held_to_units = refl
+
+held_to_bytes : room_asked (sniffing_windows_1252 (0xEF ∷ [])) Bytes 1 ≡ Some 9
+unfolding sniffing_windows_1252
+held_to_bytes = refl
+
+held_with_replacement : room_asked (sniffing_windows_1252 (0xEF ∷ [])) Replaced 1 ≡ Some 12
+unfolding sniffing_windows_1252
+held_with_replacement = refl
+
+-- a BB that is still to be handed on, where nothing is looked for any more
+handed_on : room_asked (record { sought = nothing_sought; held = 0xBB ∷ []; room = room_single_byte; pending = 0 }) Units 1 ≡ Some 3
+handed_on = refl
+
+of_replacement : room_asked (record { sought = nothing_sought; held = []; room = room_replacement; pending = 0 }) Bytes 0xFFFFFFFFFFFFFFFF ≡ Some 3
+of_replacement = refl
+
+-- after a last call that answered InputEmpty nothing follows
+abbrev pub is_input_empty : DecoderResult → Bool
+is_input_empty InputEmpty = true
+is_input_empty OutputFull = false
+is_input_empty (Malformed a b) = false
+
+abbrev pub finishes : (last : Bool) → DecoderResult → Bool
+finishes last outcome = last && is_input_empty outcome
+
+-- A decoder: the pieces of what is to come, the encoding that an input which goes on so turns out to be in, what the
+-- room that is enough depends on, and whether it came to its end.
+pub record DecoderView : Type 0 where
+  pub state : DecoderState
+  pub source : List ℕ → Encoding
+  pub opening : Opening
+  pub finished : Bool
+
+-- one that has read nothing
+pub record Begins (v : DecoderView) (t : IndexLists) (mark : Mark) (e : Encoding) : Type 0 where
+  pub pieces : (x : List ℕ) → v.state.pieces x ≡ marked_pieces t mark e x
+  pub pending : v.state.pending ≡ 0
+  pub source : (x : List ℕ) → v.source x ≡ (source_of mark e x).0
+  pub opening : v.opening ≡ record { sought = sought_by mark e; held = []; room = room_of_encoding e; pending = 0 }
+  pub open_ : v.finished ≡ false

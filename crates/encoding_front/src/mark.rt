@@ -1,0 +1,28 @@
+ghost use Rattle.std.specs.Prelude.{◌≡◌};
+ghost use Rattle.encoding_front.specs.Marks.{takes_mark_of};
+
+use crate::encoding::Encoding;
+
+/// What is done with a byte order mark at the front of an input (the Encoding Standard, section 6).
+#[derive(Clone, Copy, PartialEq, Eq, Debug)]
+pub enum Mark {
+    /// A mark of UTF-8, UTF-16BE or UTF-16LE is taken, and says what the encoding is.
+    Sniff,
+    /// The encoding's own mark is taken.
+    Remove,
+    /// No mark is taken: it is text.
+    Keep,
+}
+
+impl Mark {
+    /// Whether a mark of `other` is taken from an input that is said to be in `encoding`.
+    pub fn takes(self, encoding: Encoding, other: Encoding) -> bool
+        ensures { result ≡ takes_mark_of self encoding other }
+    {
+        match self {
+            Mark::Sniff => true,
+            Mark::Remove => encoding == other,
+            Mark::Keep => false,
+        }
+    }
+}

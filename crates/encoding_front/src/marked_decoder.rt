@@ -1,0 +1,193 @@
+ghost use Rattle.std.specs.Prelude.{◌≡◌, ℕ, ◌<◌, ◌≤◌, ◌+◌, ◌-◌, ◌++◌, List, Some, None, [], length, drop, IsTrue};
+ghost use Rattle.encoding_mem.specs.Decoding.{DecoderState, StateLaw, EndsWith};
+ghost use Rattle.encoding_mem.specs.Driver.{Suffices};
+ghost use Rattle.encoding_mem.specs.Room.{room_of};
+ghost use Rattle.encoding_mem.specs.declared.room.Count.{Count};
+ghost use Rattle.encoding_front.specs.Seeking.{find_mark, is_sought, mark_taken, pieces_after, room_after, room_widest, sought_needs, sought_pieces};
+ghost use Rattle.encoding_front.specs.declared.seeking.Seen.{Seen};
+ghost use Rattle.encoding_front.specs.MarkedState.{marked_state};
+ghost use Rattle.encoding_front.specs.Stream.{ahead, greater_if, room_asked};
+ghost use Rattle.encoding_front.specs.TakesMark.{TakesMark};
+
+use crate::held::Held;
+use crate::replay::decode_held;
+use crate::seeking::{ByteOrderMark, Seen, Sought, find_mark};
+use encoding_mem::DecoderResult;
+use encoding_mem::piece_decoder::PieceDecoder;
+use encoding_mem::room::{Count, Line, Room};
+use encoding_mem::sink::Sink;
+
+/// A decoder that there is also for what follows each byte order mark.
+pub(crate) trait Switches: PieceDecoder + Drop {
+    /// The decoder of what follows the mark. Nothing is pending.
+    fn after_mark(mark: ByteOrderMark) -> Self
+        ensures pieces { (Self.state result).pieces ≡ pieces_after mark }
+        ensures pending { (Self.state result).pending ≡ 0 }
+        ensures room { (Self.state result).room ≡ room_after mark };
+}
+
+/// A decoder whose input may begin with a byte order mark.
+#[derive(Drop)]
+pub(crate) struct MarkedDecoder<D: Switches> {
+    inner: D,
+    sought: Sought,
+    held: Held,
+    taken: Option<ByteOrderMark>,
+    ghost few: { 0 < length held → (D.state inner).pending + length held ≤ 2 },
+    ghost fresh: { IsTrue (is_sought sought) → (D.state inner).pending ≡ 0 },
+    ghost front: { IsTrue (is_sought sought) → find_mark sought held ≡ Seen.Front },
+    ghost bounded: { (k : Count) (n : ℕ) → room_of (D.state inner).room k n ≤ room_of room_widest k n },
+}
+
+impl<D: Switches> MarkedDecoder<D> {
+    /// Nothing is read yet.
+    pub(crate) fn new(inner: D, sought: Sought) -> Self
+        requires pending { (D.state inner).pending ≡ 0 }
+        requires bounded { (k : Count) (n : ℕ) → room_of (D.state inner).room k n ≤ room_of room_widest k n }
+        ensures inner { result.inner ≡ inner }
+        ensures sought { result.sought ≡ sought }
+        ensures held { result.held ≡ [] }
+        ensures taken { result.taken ≡ None }
+    {
+        MarkedDecoder {
+            inner,
+            sought,
+            held: Held::new(),
+            taken: None,
+        }
+    }
+
+    // Looks for a mark, and answers how many bytes were read with it: none where what is there may still
+    // become one, and all is held.
+    fn take_mark(&mut self, src: &[u8], last: bool) -> Option<usize>
+        ensures takes { TakesMark (marked_state self.old.sought (D.state self.old.inner) self.old.held self.old.fresh self.old.bounded)
+            (marked_state self.new.sought (D.state self.new.inner) self.new.held self.new.fresh self.new.bounded)
+            src.now last self.new.sought result }
+        ensures taken { (r : List ℕ) → (IsTrue last → r ≡ []) → mark_taken self.old.sought self.old.taken (self.old.held ++ (src.now ++ r))
+            ≡ mark_taken self.new.sought self.new.taken (self.new.held ++ r) }
+    {
+        if !self.sought.is_any() {
+            return Some(0);
+        }
+        let window = Held::front_of(&self.held, src);
+        match find_mark(self.sought, window.as_slice()) {
+            Seen::Front if !last => {
+                self.held = window;
+                return None;
+            }
+            Seen::Whole(mark) => {
+                let read = mark.len() - self.held.len();
+                self.held = Held::new();
+                self.sought = Sought::nothing();
+                self.taken = Some(mark);
+                self.inner = D::after_mark(mark);
+                Some(read)
+            }
+            _ => {
+                self.sought = Sought::nothing();
+                Some(0)
+            }
+        }
+    }
+
+    /// Decodes, and says besides which mark was taken.
+    pub(crate) fn decode_marked<S: Sink>(
+        &mut self,
+        src: &[u8],
+        sink: &mut S,
+        last: bool,
+    ) -> (DecoderResult, usize)
+        ensures law { StateLaw (marked_state self.old.sought (D.state self.old.inner) self.old.held self.old.fresh self.old.bounded)
+            (marked_state self.new.sought (D.state self.new.inner) self.new.held self.new.fresh self.new.bounded)
+            src.now last result.1 (λ text. S.writes sink.old text sink.new) result.0 }
+        ensures ends { EndsWith (marked_state self.new.sought (D.state self.new.inner) self.new.held self.new.fresh self.new.bounded)
+            (drop result.1 src.now) last (S.free sink.new) S.room (S.cost 0xFFFD) result.0 }
+        ensures enough { Suffices (sought_needs self.old.sought (D.state self.old.inner).needs self.old.held)
+            (sought_needs self.new.sought (D.state self.new.inner).needs self.new.held) S.is_units last
+            (length src.now) (length src.now - result.1) (S.free sink.old) (S.free sink.new) result.0 }
+        ensures taken { (r : List ℕ) → (IsTrue last → r ≡ []) → mark_taken self.old.sought self.old.taken (self.old.held ++ (src.now ++ r))
+            ≡ mark_taken self.new.sought self.new.taken (self.new.held ++ (drop result.1 src.now ++ r)) }
+    {
+        match self.take_mark(src, last) {
+            None => (DecoderResult::InputEmpty, src.len()),
+            Some(taken) => {
+                let rest = &src[taken..];
+                let (outcome, read) = decode_held(
+                    &mut self.inner,
+                    &mut self.held,
+                    rest,
+                    sink,
+                    last,
+                );
+                (outcome, taken + read)
+            }
+        }
+    }
+
+    /// The mark that was taken.
+    pub(crate) fn taken(&self) -> Option<ByteOrderMark>
+        ensures { result ≡ self.now.taken }
+    {
+        self.taken
+    }
+
+    /// The room that is enough for `n` more bytes; none where it passes a `usize`.
+    pub(crate) fn query(&self, count: Count, n: usize) -> Option<usize>
+        ensures { result ≡ room_asked (record { sought = self.now.sought; held = self.now.held; room = (D.state self.now.inner).room; pending = (D.state self.now.inner).pending }) count n }
+    {
+        let held = self.held.as_slice();
+        let n = n.checked_add(ahead(held))?;
+        let own = self.inner.room().query(count, self.inner.held_len(), n)?;
+        let is_utf8 = self.sought.can_be(held, ByteOrderMark::Utf8);
+        let is_utf16 = self.sought.can_be_utf16(held);
+        let own = greater_if(is_utf8, Room::utf8().query(count, 0, n), own)?;
+        greater_if(is_utf16, Room::utf16().query(count, 0, n), own)
+    }
+}
+
+// What is counted for bytes that are held.
+fn ahead(held: &[u8]) -> usize
+    ensures { result ≡ ahead held.now }
+{
+    match held {
+        [] => 0,
+        _ => 2,
+    }
+}
+
+// The greater of two numbers where the first is asked for, and there.
+fn greater_if(is_asked: bool, other: Option<usize>, own: usize) -> Option<usize>
+    ensures { result ≡ greater_if is_asked other (Some own) }
+{
+    if !is_asked {
+        return Some(own);
+    }
+    let other = other?;
+    Some(if own < other { other } else { own })
+}
+
+impl<D: Switches> PieceDecoder for MarkedDecoder<D> {
+    ghost state = { λ d. marked_state d.sought (D.state d.inner) d.held d.fresh d.bounded };
+
+    fn decode_into<S: Sink>(
+        &mut self,
+        src: &[u8],
+        sink: &mut S,
+        last: bool,
+    ) -> (DecoderResult, usize) {
+        self.decode_marked(src, sink, last)
+    }
+
+    fn held_len(&self) -> usize {
+        self.inner.held_len() + self.held.len()
+    }
+
+    fn room(&self) -> Room {
+        Room {
+            in_pairs: false,
+            units: Line::new(1, 1),
+            bytes: Line::new(3, 3),
+            replaced: Line::new(3, 3),
+        }
+    }
+}

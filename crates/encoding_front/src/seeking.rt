@@ -1,0 +1,176 @@
+// Looks for a byte order mark at the front of some bytes.
+
+ghost use Rattle.std.specs.Prelude.{◌≡◌, ◌||◌};
+ghost use Rattle.encoding_front.specs.Seeking.{can_be, encoding_of_mark, find_end, find_mark, find_second, head_of, is_sought, len_of, nothing_sought, seeks, sought_by};
+ghost use Rattle.encoding_front.specs.declared.seeking.ByteOrderMark.TheVariants.{Utf16Be, Utf16Le};
+
+use crate::encoding::Encoding;
+use crate::mark::Mark;
+
+/// A byte order mark.
+#[derive(Clone, Copy)]
+pub(crate) enum ByteOrderMark {
+    Utf8,
+    Utf16Be,
+    Utf16Le,
+}
+
+impl ByteOrderMark {
+    /// How many bytes it has.
+    pub(crate) fn len(self) -> usize
+        ensures { result ≡ len_of self }
+    {
+        match self {
+            ByteOrderMark::Utf8 => 3,
+            ByteOrderMark::Utf16Be | ByteOrderMark::Utf16Le => 2,
+        }
+    }
+
+    // Its first byte.
+    fn head(self) -> u8
+        ensures { result ≡ head_of self }
+    {
+        match self {
+            ByteOrderMark::Utf8 => 0xEF,
+            ByteOrderMark::Utf16Be => 0xFE,
+            ByteOrderMark::Utf16Le => 0xFF,
+        }
+    }
+
+    /// The encoding that it is the mark of.
+    pub(crate) fn encoding(self) -> Encoding
+        ensures { result ≡ encoding_of_mark self }
+    {
+        match self {
+            ByteOrderMark::Utf8 => Encoding::Utf8,
+            ByteOrderMark::Utf16Be => Encoding::Utf16Be,
+            ByteOrderMark::Utf16Le => Encoding::Utf16Le,
+        }
+    }
+}
+
+/// The marks that would be taken.
+#[derive(Clone, Copy)]
+pub(crate) struct Sought {
+    pub(crate) utf8: bool,
+    pub(crate) utf16_be: bool,
+    pub(crate) utf16_le: bool,
+}
+
+impl Sought {
+    /// Those that are taken from an input that is said to be in this encoding.
+    pub(crate) fn new(mark: Mark, encoding: Encoding) -> Sought
+        ensures { result ≡ sought_by mark encoding }
+    {
+        Sought {
+            utf8: mark.takes(encoding, Encoding::Utf8),
+            utf16_be: mark.takes(encoding, Encoding::Utf16Be),
+            utf16_le: mark.takes(encoding, Encoding::Utf16Le),
+        }
+    }
+
+    /// None, as after the front of an input.
+    pub(crate) fn nothing() -> Sought
+        ensures { result ≡ nothing_sought }
+    {
+        Sought {
+            utf8: false,
+            utf16_be: false,
+            utf16_le: false,
+        }
+    }
+
+    fn seeks(self, mark: ByteOrderMark) -> bool
+        ensures { result ≡ seeks self mark }
+    {
+        match mark {
+            ByteOrderMark::Utf8 => self.utf8,
+            ByteOrderMark::Utf16Be => self.utf16_be,
+            ByteOrderMark::Utf16Le => self.utf16_le,
+        }
+    }
+
+    /// Whether bytes of which these are held may turn out to begin with this mark.
+    pub(crate) fn can_be(self, held: &[u8], mark: ByteOrderMark) -> bool
+        ensures { result ≡ can_be self held.now mark }
+    {
+        match held {
+            [] => self.seeks(mark),
+            [b, ..] => *b == mark.head() && self.seeks(mark),
+        }
+    }
+
+    /// The same of a mark of UTF-16, of either byte order.
+    pub(crate) fn can_be_utf16(self, held: &[u8]) -> bool
+        ensures { result ≡ (can_be self held.now Utf16Be || can_be self held.now Utf16Le) }
+    {
+        self.can_be(held, ByteOrderMark::Utf16Be) || self.can_be(held, ByteOrderMark::Utf16Le)
+    }
+
+    pub(crate) fn is_any(self) -> bool
+        ensures { result ≡ is_sought self }
+    {
+        self.utf8 || self.utf16_be || self.utf16_le
+    }
+}
+
+/// What some bytes are to those who look for a mark.
+#[derive(Clone, Copy)]
+pub(crate) enum Seen {
+    /// Some of a mark, and no more.
+    Front,
+    Whole(ByteOrderMark),
+    Other,
+}
+
+/// What stands at the front of these bytes.
+pub(crate) fn find_mark(sought: Sought, bytes: &[u8]) -> Seen
+    ensures { result ≡ find_mark sought bytes.now }
+{
+    match bytes {
+        [] => Seen::Front,
+        [a, rest @ ..] => {
+            if *a == 0xEF && sought.utf8 {
+                find_second(rest)
+            } else if *a == 0xFE && sought.utf16_be {
+                find_end(0xFF, ByteOrderMark::Utf16Be, rest)
+            } else if *a == 0xFF && sought.utf16_le {
+                find_end(0xFE, ByteOrderMark::Utf16Le, rest)
+            } else {
+                Seen::Other
+            }
+        }
+    }
+}
+
+// The second byte of a mark of UTF-8, and what follows it.
+fn find_second(bytes: &[u8]) -> Seen
+    ensures { result ≡ find_second bytes.now }
+{
+    match bytes {
+        [] => Seen::Front,
+        [b, rest @ ..] => {
+            if *b == 0xBB {
+                find_end(0xBF, ByteOrderMark::Utf8, rest)
+            } else {
+                Seen::Other
+            }
+        }
+    }
+}
+
+// The last byte of a mark.
+fn find_end(byte: u8, mark: ByteOrderMark, bytes: &[u8]) -> Seen
+    ensures { result ≡ find_end byte mark bytes.now }
+{
+    match bytes {
+        [] => Seen::Front,
+        [c, ..] => {
+            if *c == byte {
+                Seen::Whole(mark)
+            } else {
+                Seen::Other
+            }
+        }
+    }
+}
