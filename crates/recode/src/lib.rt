@@ -9,6 +9,7 @@ mod counts;
 mod encode;
 mod engine;
 pub mod fault;
+pub mod index_source;
 pub mod job;
 pub mod laws;
 mod lines;

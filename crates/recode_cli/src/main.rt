@@ -1,6 +1,8 @@
 //! Recodes standard input to standard output, and tells on standard error what was lost.
 #![tactic(auto)]
 
+mod system_files;
+
 use encoding_front::UTF_8;
 use encoding_tables::Tables;
 use recode::{Buffers, GREATEST_LIMIT, Job, Mark, Pivot, convert};
