@@ -1,8 +1,8 @@
 -- How a call with replacement ends.
-use Rattle.std.proofs.Common.{◌≡◌, ℕ, ◌-◌, ◌≤◌, ◌<◌, Bool, true, false, List, [], ◌∷◌, ◌++◌, length, ◌⊎◌, inl, inr, refl, sym, ◌∙◌, ap, subst, arith, append_assoc}
+use Rattle.std.proofs.Common.{◌≡◌, ℕ, ◌-◌, ◌≤◌, ◌<◌, Bool, true, false, List, [], ◌∷◌, ◌++◌, length, ◌⊎◌, inl, inr, refl, sym, ◌∙◌, ap, subst, arith, append_assoc, length-append}
 use Rattle.std.specs.Bool.{MatchBool}
 use Rattle.std.proofs.lemmas.List.{append-nil}
-use Rattle.encoding_mem.specs.Coding.{AllMapped, Coding, IsMapped, last_set, lost_count, open_from, reference, whole_from}
+use Rattle.encoding_mem.specs.Coding.{AllMapped, Coding, IsMapped, last_set, lost_count, open_from, reference, spelled, whole_from}
 use Rattle.encoding_mem.specs.Encoding.{Continues, Encodes}
 use Rattle.encoding_mem.specs.declared.encoder_result.EncoderResult.TheVariants.{Unmappable}
 use Rattle.encoding_mem.specs.declared.form.Set.{Set}
@@ -126,9 +126,9 @@ pub ended : (x x' : EncoderState) (last : Bool) (outcome : CoderResult) (text wr
     → end ≡ size - kept_back x.encoding → kept_back x.encoding ≤ size → Going (coding_in x) last x.set text written s rest lost end
     → x' ≡ record x { set = x'.set } → rest ≡ front ++ rest' → AllMapped (coding_in x) front → Bytes (coding_in x) last s rest w x'.set rest'
     → (last ≡ false → last_set (coding_in x) s rest ≡ last_set (coding_in x) x'.set rest') → Ends last outcome x'.set rest'
-    → (outcome ≡ CoderResult.OutputFull → end - length (written ++ w) < need_of x.encoding)
+    → (outcome ≡ CoderResult.OutputFull → end - length (written ++ w) < need_of x.encoding) → length (written ++ w) ≤ end
     → Replaces x last outcome text (written ++ w) x' rest' lost size
-ended x x' last outcome text written s rest lost w rest' front size end at enough g same split mapped bytes sets ends full =
+ended x x' last outcome text written s rest lost w rest' front size end at enough g same split mapped bytes sets ends full fits =
     let e = coding_in x in
     record {
       same = same;
@@ -141,6 +141,7 @@ ended x x' last outcome text written s rest lost w rest' front size end at enoug
           (λ h. omega (arith, g.gone.told.0 h), λ h. g.gone.told.1 (omega arith));
       ends = ends;
       full = λ h. omega (arith, full h);
+      kept = λ more. absurd (omega arith);
       few = λ less. absurd (omega arith);
       stops = λ before c after is unmapped reach.
           let found = in_front e g.front front before c after mapped is unmapped in
@@ -151,9 +152,9 @@ ended x x' last outcome text written s rest lost w rest' front size end at enoug
 pub reached : (x x' : EncoderState) (last : Bool) (outcome : CoderResult) (text written : List ℕ) (s : Set) (rest : List ℕ) (lost : Bool) (w : List ℕ) (u : ℕ) (rest' : List ℕ) (size end : ℕ)
     → end ≡ size - kept_back x.encoding → kept_back x.encoding ≤ size → Going (coding_in x) last x.set text written s rest lost end
     → x' ≡ record x { set = x'.set } → Encodes (coding_in x) last (Unmappable u) s rest w x'.set rest' → Ends last outcome x'.set rest'
-    → end ≤ length (written ++ (w ++ reference u))
+    → end ≤ length (written ++ (w ++ reference u)) → length (written ++ w) ≤ end
     → Replaces x last outcome text (written ++ (w ++ reference u)) x' rest' true size
-reached x x' last outcome text written s rest lost w u rest' size end at enough g same p ends reach =
+reached x x' last outcome text written s rest lost w u rest' size end at enough g same p ends reach fits =
     let e = coding_in x in
     let on = gone_on e last x.set text written s rest lost g.front w u x'.set rest' g.gone p in
     record {
@@ -165,6 +166,16 @@ reached x x' last outcome text written s rest lost w u rest' size end at enough 
       told = on.told;
       ends = ends;
       full = λ h. omega (arith, need_positive x.encoding);
+      kept = λ more. record {
+        before = g.front ++ p.reads.0;
+        lost = p.reads.1;
+        is = ap (λ l. g.front ++ l) p.reads.2 ∙ sym (append_assoc g.front p.reads.0 (p.reads.1 ∷ []));
+        unmapped = λ mapped. subst IsMapped p.reads.4 mapped;
+        whole = on.opened;
+        begins =
+            let spelled_is : length (spelled (e.form p.reads.1)) ≡ length (reference u) = ap (λ f. length (spelled f)) p.reads.4 in
+            omega (arith, at, fits, spelled_is, length-append written (w ++ reference u), length-append w (reference u), length-append written w);
+      };
       few = λ less. absurd (omega arith);
       stops = λ before c after is unmapped past.
           let parts = ap (λ l. g.front ++ l) (sym p.reads.2) ∙ is in
@@ -188,6 +199,7 @@ too_few x last outcome text size less ends =
       told = none.told;
       ends = ends;
       full = λ h. omega (arith, need_positive x.encoding);
+      kept = λ more. absurd (omega arith);
       few = λ h. (refl, refl);
       stops = λ before c after is unmapped reach. absurd (not_nil before c after is);
     }

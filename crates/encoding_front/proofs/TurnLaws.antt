@@ -64,36 +64,36 @@ as_first x x1 last answer text written x' rest room same call = subst (λ (y : E
 -- of a turn that ends the call
 pub input_empty : (x x1 x' : EncoderState) (last : Bool) (answer : EncoderResult) (text old rest : List ℕ) (lost : Bool) (more rest' new : List ℕ) (size end n : ℕ)
     → end ≡ size - kept_back x.encoding → kept_back x.encoding ≤ size → x1 ≡ record x { set = x1.set } → Going (coding_in x) last x.set text old x1.set rest lost end
-    → Turned x1 last answer rest more x' rest' n → answer ≡ InputEmpty → new ≡ old ++ more
+    → Turned x1 last answer rest more x' rest' n → answer ≡ InputEmpty → new ≡ old ++ more → n ≡ end - length old → length old ≤ end
     → Replaces x last CoderResult.InputEmpty text new x' rest' lost size
-input_empty x x1 x' last answer text old rest lost more rest' new size end n at enough same going t is new_is =
+input_empty x x1 x' last answer text old rest lost more rest' new size end n at enough same going t is new_is left within =
     let call = as_first x x1 last InputEmpty rest t.called x' rest' (n - length t.called) same (rw is at t.call) in
     let bytes : more ≡ t.called = t.all ∙ ap (λ (a : EncoderResult). t.called ++ referred a) is ∙ append-nil t.called in
     subst (λ (l : List ℕ). Replaces x last CoderResult.InputEmpty text l x' rest' lost size) (sym (new_is ∙ ap (λ l. old ++ l) bytes))
     (ended x x' last CoderResult.InputEmpty text old x1.set rest lost t.called rest' call.law.front size end at enough going
-    call.same call.law.split call.law.reads call.bytes call.law.sets call.answers (λ h. absurd (cc)))
+    call.same call.law.split call.law.reads call.bytes call.law.sets call.answers (λ h. absurd (cc)) (omega (arith, t.fits, left, length-append old t.called)))
 
 pub output_full : (x x1 x' : EncoderState) (last : Bool) (answer : EncoderResult) (text old rest : List ℕ) (lost : Bool) (more rest' new : List ℕ) (size end n : ℕ)
     → end ≡ size - kept_back x.encoding → kept_back x.encoding ≤ size → x1 ≡ record x { set = x1.set } → Going (coding_in x) last x.set text old x1.set rest lost end
-    → Turned x1 last answer rest more x' rest' n → answer ≡ OutputFull → new ≡ old ++ more → n ≡ end - length old
+    → Turned x1 last answer rest more x' rest' n → answer ≡ OutputFull → new ≡ old ++ more → n ≡ end - length old → length old ≤ end
     → Replaces x last CoderResult.OutputFull text new x' rest' lost size
-output_full x x1 x' last answer text old rest lost more rest' new size end n at enough same going t is new_is left =
+output_full x x1 x' last answer text old rest lost more rest' new size end n at enough same going t is new_is left within =
     let call = as_first x x1 last OutputFull rest t.called x' rest' (n - length t.called) same (rw is at t.call) in
     let bytes : more ≡ t.called = t.all ∙ ap (λ (a : EncoderResult). t.called ++ referred a) is ∙ append-nil t.called in
     subst (λ (l : List ℕ). Replaces x last CoderResult.OutputFull text l x' rest' lost size) (sym (new_is ∙ ap (λ l. old ++ l) bytes))
     (ended x x' last CoderResult.OutputFull text old x1.set rest lost t.called rest' call.law.front size end at enough going
-    call.same call.law.split call.law.reads call.bytes call.law.sets call.answers.1 (λ h. omega (arith, call.answers.0, length-append old t.called)))
+    call.same call.law.split call.law.reads call.bytes call.law.sets call.answers.1 (λ h. omega (arith, call.answers.0, length-append old t.called)) (omega (arith, t.fits, left, length-append old t.called)))
 
 -- of a turn that writes a reference
 pub reference_reached : (x x1 x' : EncoderState) (last : Bool) (answer : EncoderResult) (u : ℕ) (outcome : CoderResult) (text old rest : List ℕ) (lost : Bool) (more rest' new : List ℕ) (size end n : ℕ)
     → end ≡ size - kept_back x.encoding → kept_back x.encoding ≤ size → x1 ≡ record x { set = x1.set } → Going (coding_in x) last x.set text old x1.set rest lost end
-    → Turned x1 last answer rest more x' rest' n → answer ≡ Unmappable u → new ≡ old ++ more → Ends last outcome x'.set rest' → end ≤ length new
+    → Turned x1 last answer rest more x' rest' n → answer ≡ Unmappable u → new ≡ old ++ more → Ends last outcome x'.set rest' → end ≤ length new → n ≡ end - length old → length old ≤ end
     → Replaces x last outcome text new x' rest' true size
-reference_reached x x1 x' last answer u outcome text old rest lost more rest' new size end n at enough same going t is new_is ends reach =
+reference_reached x x1 x' last answer u outcome text old rest lost more rest' new size end n at enough same going t is new_is ends reach left within =
     let call = as_first x x1 last (Unmappable u) rest t.called x' rest' (n - length t.called) same (rw is at t.call) in
     let bytes : new ≡ old ++ (t.called ++ reference u) = new_is ∙ ap (λ l. old ++ l) (t.all ∙ ap (λ (a : EncoderResult). t.called ++ referred a) is) in
     subst (λ (l : List ℕ). Replaces x last outcome text l x' rest' true size) (sym bytes)
-    (reached x x' last outcome text old x1.set rest lost t.called u rest' size end at enough going call.same call.law ends (omega (arith, reach, ap length bytes)))
+    (reached x x' last outcome text old x1.set rest lost t.called u rest' size end at enough going call.same call.law ends (omega (arith, reach, ap length bytes)) (omega (arith, t.fits, left, length-append old t.called)))
 
 pub turn_on : (x x1 x' : EncoderState) (last : Bool) (answer : EncoderResult) (u : ℕ) (text old rest : List ℕ) (lost : Bool) (more rest' new : List ℕ) (end n : ℕ)
     → x1 ≡ record x { set = x1.set } → Going (coding_in x) last x.set text old x1.set rest lost end

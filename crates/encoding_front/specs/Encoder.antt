@@ -1,7 +1,7 @@
 -- What an encoder is to its callers, and what its calls do (the Encoding Standard, sections 4.1 and 6).
 use Rattle.std.specs.Prelude.{◌≡◌, ℕ, ◌+◌, ◌-◌, ◌<◌, ◌≤◌, Bool, true, false, List, [], ◌∷◌, ◌++◌, length, IsTrue, ◌↔◌, ◌⊎◌, ◌≢◌, Option}
 use Rattle.std.specs.Bool.{MatchBool}
-use Rattle.encoding_mem.specs.Coding.{Coding, IsMapped, last_set, lost_count, open_from, reference, whole_from}
+use Rattle.encoding_mem.specs.Coding.{Coding, IsMapped, last_set, lost_count, open_from, reference, spelled, whole_from}
 use Rattle.encoding_mem.specs.Encoding.{Answers, Continues, Encodes, Writes}
 use Rattle.encoding_mem.specs.Room.{checked, line_at}
 use Rattle.encoding_mem.specs.TextRoom.{line_for}
@@ -67,9 +67,18 @@ abbrev pub Ends : Bool → CoderResult → Set → List ℕ → Type 0
 Ends last CoderResult.InputEmpty s rest = (rest ≡ []) × (last ≡ true → s ≡ Ascii)
 Ends last CoderResult.OutputFull s rest = (0 < length rest) ⊎ ((last ≡ true) × (s ≢ Ascii))
 
--- A call with replacement on a text, into size bytes, of which the part before the kept ones has part bytes: what is
--- written has the references, lost tells whether there is one, and where a reference ends at that part's end or behind it
--- nothing more is read or written.
+-- What is written for a text ends with a reference that begins at a place or before it.
+pub record EndsWithReference (e : Coding) (s : Set) (front written : List ℕ) (end : ℕ) : Type 0 where
+  pub before : List ℕ
+  pub lost : ℕ
+  pub is : front ≡ before ++ lost ∷ []
+  pub unmapped : ¬ (IsMapped (e.form lost))
+  pub whole : written ≡ open_from e s front
+  pub begins : length written ≤ end + length (spelled (e.form lost))
+
+-- A call with replacement on a text, into size bytes, the last of which are kept back: what is written has the
+-- references, and lost tells whether there is one. Only a reference reaches into the kept bytes, and where one ends there,
+-- or where they begin, nothing more is read or written.
 pub record Replaces (x : EncoderState) (last : Bool) (outcome : CoderResult) (text written : List ℕ) (x' : EncoderState) (rest : List ℕ) (lost : Bool) (size : ℕ) : Type 0 where
   pub same : x' ≡ record x { set = x'.set }
   pub front : List ℕ
@@ -80,6 +89,7 @@ pub record Replaces (x : EncoderState) (last : Bool) (outcome : CoderResult) (te
   pub told : IsTrue lost ↔ (0 < lost_count (coding_in x) front)
   pub ends : Ends last outcome x'.set rest
   pub full : outcome ≡ CoderResult.OutputFull → size - kept_back x.encoding - length written < need_of x.encoding
+  pub kept : size - kept_back x.encoding < length written → EndsWithReference (coding_in x) x.set front written (size - kept_back x.encoding)
   pub few : size < kept_back x.encoding → (front ≡ []) × (written ≡ [])
   pub stops : (before : List ℕ) (c : ℕ) (after : List ℕ) → front ≡ before ++ c ∷ after → ¬ (IsMapped ((coding_in x).form c))
       → size - kept_back x.encoding ≤ length (open_from (coding_in x) x.set (before ++ c ∷ [])) → (after ≡ []) × (written ≡ open_from (coding_in x) x.set front)

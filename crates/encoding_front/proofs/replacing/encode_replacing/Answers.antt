@@ -52,6 +52,7 @@ returns-in-InputEmpty-clause-call g c =
     let size = length_turn c.turns.dst c.encode_turn-answer.new.dst c.turns.written within c.encode_turn-answer.auto.dst in
     input_empty c.args.encoder.now c.turns.encoder c.encode_turn-answer.new.encoder _ _ _ _ _ _ _ _ _ _ _ _ (omega (arith, size, c.kept_back-kept.ensures, i.size)) (omega (arith, size, c.kept_back-kept.ensures, i.size, c.if-dst-kept.false)) i.same i.going
     (at_rest g.T.SourceText.text _ _ _ _ _ _ _ _ _ _ c.rest.ensures e.turn) c.in-InputEmpty.is (take_into _ _ _ _ _ within e.room)
+    (ap (λ n. length c.args.dst.now - c.kept_back-kept.result - n) (sym (length-take-le c.turns.written c.turns.dst within))) (omega (arith, length-take-le c.turns.written c.turns.dst within, i.within))
 
 pub returns-in-OutputFull-clause-call : goal.returns-in-OutputFull-clause-call
 returns-in-OutputFull-clause-call g c =
@@ -61,7 +62,7 @@ returns-in-OutputFull-clause-call g c =
     let size = length_turn c.turns.dst c.encode_turn-answer.new.dst c.turns.written within c.encode_turn-answer.auto.dst in
     output_full c.args.encoder.now c.turns.encoder c.encode_turn-answer.new.encoder _ _ _ _ _ _ _ _ _ _ _ _ (omega (arith, size, c.kept_back-kept.ensures, i.size)) (omega (arith, size, c.kept_back-kept.ensures, i.size, c.if-dst-kept.false)) i.same i.going
     (at_rest g.T.SourceText.text _ _ _ _ _ _ _ _ _ _ c.rest.ensures e.turn) c.in-OutputFull.is (take_into _ _ _ _ _ within e.room)
-    (ap (λ n. length c.args.dst.now - c.kept_back-kept.result - n) (sym (length-take-le c.turns.written c.turns.dst within)))
+    (ap (λ n. length c.args.dst.now - c.kept_back-kept.result - n) (sym (length-take-le c.turns.written c.turns.dst within))) (omega (arith, length-take-le c.turns.written c.turns.dst within, i.within))
 
 pub returns-then-end-written-clause-call : goal.returns-then-end-written-clause-call
 returns-then-end-written-clause-call g c =
@@ -73,6 +74,7 @@ returns-then-end-written-clause-call g c =
     reference_reached c.args.encoder.now c.turns.encoder c.encode_turn-answer.new.encoder _ _ _ _ _ _ _ _ _ _ _ _ _ _ (omega (arith, size, c.kept_back-kept.ensures, i.size)) (omega (arith, size, c.kept_back-kept.ensures, i.size, c.if-dst-kept.false)) i.same i.going
     (at_rest g.T.SourceText.text _ _ _ _ _ _ _ _ _ _ c.rest.ensures e.turn) c.in-Unmappable.is (take_into _ _ _ _ _ within e.room)
     (rw c.rest-then-end-written.ensures at c.outcome-then-end-written.ensures) (omega (arith, length_is, c.if-end-written.true))
+    (ap (λ n. length c.args.dst.now - c.kept_back-kept.result - n) (sym (length-take-le c.turns.written c.turns.dst within))) (omega (arith, length-take-le c.turns.written c.turns.dst within, i.within))
 
 pub turns-preserved : goal.turns-preserved
 turns-preserved g c =
