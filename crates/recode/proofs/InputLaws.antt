@@ -10,6 +10,8 @@ use Rattle.encoding_mem.specs.ReadBackLaws.{all_in_utf8, text_pieces-good, text_
 use Rattle.encoding_mem.specs.declared.form.Form.{Form}
 use Rattle.encoding_mem.specs.declared.form.Form.TheVariants.{Mapped, Unmapped}
 use Rattle.encoding_front.specs.Encodings.{IsUtf8Encoding}
+use Rattle.encoding_front.specs.Marks.{marked_pieces}
+use Rattle.encoding_front.specs.declared.mark.Mark.TheVariants.{Keep}
 use Rattle.encoding_front.specs.EncodingsLaws.{pieces_of_utf8, coding_of_utf8}
 use Rattle.encoding_mem.specs.Text.{text_pieces}
 use Rattle.encoding_mem.specs.Utf8.{front_utf8, pieces_utf8}
@@ -89,17 +91,17 @@ utf8_pieces : (x : List ℕ) → IsUtf8 x → pieces_utf8 x ≡ text_pieces (cha
 utf8_pieces x u = ap pieces_utf8 (sym (append-nil x)) ∙ pieces_utf8-text x [] u ∙ ap (λ ps. text_pieces (chars x) ++ ps) (pieces_by-nil front_utf8) ∙ append-nil (text_pieces (chars x))
 
 -- From UTF-8 to UTF-8.
-text_is : (j : Job) (x : List ℕ) → IsUtf8Encoding j.from → IsUtf8 x → input_pieces j x ≡ text_pieces (chars x)
-text_is j x from u = ap (λ f. f x) (pieces_of_utf8 j.tables.now j.from from) ∙ utf8_pieces x u
+text_is : (j : Job) (x : List ℕ) → j.mark ≡ Keep → IsUtf8Encoding j.from → IsUtf8 x → input_pieces j x ≡ text_pieces (chars x)
+text_is j x kept from u = ap (λ m. marked_pieces j.tables.now m j.from x) kept ∙ ap (λ f. f x) (pieces_of_utf8 j.tables.now j.from from) ∙ utf8_pieces x u
 
-pub kept_output : (j : Job) (x : List ℕ) → IsUtf8Encoding j.from → IsUtf8Encoding j.to → IsUtf8 x → output_of j x ≡ x
-kept_output j x from to u =
+pub kept_output : (j : Job) (x : List ℕ) → j.mark ≡ Keep → IsUtf8Encoding j.from → IsUtf8Encoding j.to → IsUtf8 x → output_of j x ≡ x
+kept_output j x kept from to u =
     ap (λ e. output e (input_text j x)) (coding_of_utf8 j.tables.now j.to to) ∙ utf8_output (input_text j x)
-    ∙ ap encode_utf8_all (ap text (text_is j x from u) ∙ text_pieces-text (chars x)) ∙ encodes-chars x u
+    ∙ ap encode_utf8_all (ap text (text_is j x kept from u) ∙ text_pieces-text (chars x)) ∙ encodes-chars x u
 
-pub kept_log : (j : Job) (x : List ℕ) → IsUtf8Encoding j.from → IsUtf8Encoding j.to → IsUtf8 x → log_of j x ≡ []
-kept_log j x from to u =
-    let good_text : AreGood (input_pieces j x) = subst AreGood (sym (text_is j x from u)) (text_pieces-good (chars x)) in
+pub kept_log : (j : Job) (x : List ℕ) → j.mark ≡ Keep → IsUtf8Encoding j.from → IsUtf8Encoding j.to → IsUtf8 x → log_of j x ≡ []
+kept_log j x kept from to u =
+    let good_text : AreGood (input_pieces j x) = subst AreGood (sym (text_is j x kept from u)) (text_pieces-good (chars x)) in
     let mapped : AllMapped (target_of j) (input_text j x) = subst (λ e. AllMapped e (input_text j x)) (sym (coding_of_utf8 j.tables.now j.to to)) (all_in_utf8 (input_text j x)) in
     ap (flat_map line_bytes) (no_lines (target_of j) 0 0 (input_pieces j x) good_text mapped)
 

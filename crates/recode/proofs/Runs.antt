@@ -1,5 +1,5 @@
 -- From steps to runs.
-use Rattle.std.proofs.Common.{◌≡◌, ℕ, ◌+◌, ◌==◌, ◌&&◌, ◌↔◌, Bool, true, false, IsTrue, List, [], ◌∷◌, ◌++◌, length, refl, sym, ◌∙◌, ap, subst, arith, append-nil, Option}
+use Rattle.std.proofs.Common.{◌≡◌, ℕ, zero, suc, drop, ◌+◌, ◌==◌, ◌&&◌, ◌↔◌, Bool, true, false, IsTrue, List, [], ◌∷◌, ◌++◌, length, refl, sym, ◌∙◌, ap, subst, arith, append-nil, Option}
 use Rattle.std.specs.Io.KnownBytes.{Appends}
 use Rattle.std.specs.Str.{all_scalars}
 use Rattle.std.proofs.lemmas.Bool.{false≢true, eqb-true}
@@ -8,6 +8,9 @@ use Rattle.encoding_mem.specs.Coding.{AllMapped, lost_count}
 use Rattle.encoding_mem.specs.ReadBackLaws.{all_mapped, none_lost}
 use Rattle.encoding_mem.specs.declared.form.Set.TheVariants.{Ascii}
 use Rattle.encoding_front.specs.EncodingsLaws.{are_pieces_of, reads_back_exactly}
+use Rattle.encoding_front.specs.Marks.{pieces_from, source_of}
+use Rattle.encoding_tables.specs.IndexLists.{IndexLists, AreAcceptedTables}
+use Rattle.encoding_front.specs.declared.encoding.Encoding.{Encoding}
 use Rattle.recode.specs.Marked.{Marked, Wrote, IsFront, marks, outputs, lines}
 use Rattle.recode.specs.Payment.{bad_lines, lost_lines}
 use Rattle.recode.specs.Job.{IsValidJob, Faithful, input_pieces, input_text, target_of, trace}
@@ -48,9 +51,14 @@ text_scalars : (ps : List Piece) → ArePieces ps → all_scalars (text ps) ≡ 
 text_scalars [] h = refl
 text_scalars (p ∷ ps) h = all_scalars-cons (text_of p) (text ps) (piece_text p h.0) (text_scalars ps h.1)
 
+-- a mark is a piece, and so are those behind it
+are_pieces_from : (t : IndexLists) (e : Encoding) (n : ℕ) (x : List ℕ) → AreAcceptedTables t → ArePieces (pieces_from t (e, n) x)
+are_pieces_from t e zero x taken = are_pieces_of t e taken x
+are_pieces_from t e (suc n) x taken = (record { some = omega arith; few = omega arith; are_scalars = refl }, are_pieces_of t e taken (drop (suc n) x))
+
 -- the text of an input is scalars
 text_are_scalars : (j : Job) (x : List ℕ) → IsValidJob j → all_scalars (input_text j x) ≡ true
-text_are_scalars j x v = text_scalars (input_pieces j x) (are_pieces_of j.tables.now j.from v.tables x)
+text_are_scalars j x v = text_scalars (input_pieces j x) (are_pieces_from j.tables.now (source_of j.mark j.from x).0 (source_of j.mark j.from x).1 x v.tables)
 
 -- nothing was lost where each piece is good and each character has bytes, and only there
 pub faithful_where_kept : (j : Job) (x : List ℕ) → IsValidJob j → AreGood (input_pieces j x) → AllMapped (target_of j) (input_text j x) → Faithful j x
@@ -75,7 +83,7 @@ verdict j x b l f v bad_is lost_is is = (
 )
 
 -- The report.
-is_report : (j : Job) (x : List ℕ) (v w : View) (p : Report) → IsValidJob j → Begins v j → Tells w p → w.job ≡ v.job → w.counts.read ≡ v.counts.read + length x
+is_report : (j : Job) (x : List ℕ) (v w : View) (p : Report) → IsValidJob j → Begins v j → Tells w p → v.source x ≡ w.source [] → w.counts.read ≡ v.counts.read + length x
     → w.counts.bad ≡ v.counts.bad + bad_lines (trace j x) → w.counts.lost ≡ v.counts.lost + lost_lines (trace j x) → IsReport j x p
 is_report j x v w p valid b t same read_is bad_is lost_is =
     let e = target_of j in
@@ -85,12 +93,12 @@ is_report j x v w p valid b t same read_is bad_is lost_is =
       read = omega (arith, t.read, read_is, b.read);
       bad = bads;
       lost = losts;
-      encoding = t.encoding ∙ ap (λ (k : Job). k.from) (same ∙ b.job);
+      encoding = t.encoding ∙ sym same ∙ b.source x;
       faithful = verdict j x p.bad p.lost p.faithful valid bads losts (t.verdict ∙ ap (λ (n : ℕ). n == 0 && w.counts.lost == 0) (sym t.bad) ∙ ap (λ (n : ℕ). p.bad == 0 && n == 0) (sym t.lost));
     }
 
-pub completes : (a a' w w' l l' : Option (List ℕ)) (j : Job) (v u : View) (p : Report) → IsValidJob j → Begins v j → Finishes a a' w w' l l' v.counts u.counts j.limit (owed v) → Tells u p → u.job ≡ v.job → Completes a a' w w' l l' j p
-completes a a' w w' l l' j v u p valid b f t same =
+pub completes : (a a' w w' l l' : Option (List ℕ)) (j : Job) (v u : View) (p : Report) → IsValidJob j → Begins v j → Finishes a a' w w' l l' v.counts u.counts j.limit (owed v) v.source u.source → Tells u p → Completes a a' w w' l l' j p
+completes a a' w w' l l' j v u p valid b f t =
     let x : List ℕ = f.chunk in
     let paid : f.pays.paid ≡ trace j x = sym (append-nil f.pays.paid) ∙ sym f.pays.equals ∙ b.owes_trace x in
     let wrote : Wrote w w' l l' (marks (trace j x)) = subst (λ t. Wrote w w' l l' (marks t)) paid f.pays.wrote in
@@ -102,7 +110,7 @@ completes a a' w w' l l' j v u p valid b f t same =
       wrote = wrote;
       output = subst (Appends w w') (outputs-trace (target_of j) Ascii 0 0 (input_pieces j x)) wrote.output;
       logged = subst (Appends l l') (lines-trace (target_of j) Ascii 0 0 (input_pieces j x)) wrote.lined;
-      report = is_report j x v u p valid b t same f.counted
+      report = is_report j x v u p valid b t f.source f.counted
           (f.pays.counted.bad ∙ ap (λ t. v.counts.bad + bad_lines t) paid) (f.pays.counted.lost ∙ ap (λ t. v.counts.lost + lost_lines t) paid);
     }
 

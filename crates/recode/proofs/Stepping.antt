@@ -3,6 +3,7 @@ use Rattle.std.proofs.Common.{Err, ◌≡◌, ℕ, ◌+◌, ◌≤◌, ◌<◌, 
 use Rattle.std.specs.Io.KnownBytes.{Consumes, Keeps, IsAtEnd}
 use Rattle.std.proofs.KnownBytes.{Consumes-nil, Consumes-kept, Consumes-trans}
 use Rattle.encoding_mem.specs.Items.{Item}
+use Rattle.encoding_front.specs.declared.encoding.Encoding.{Encoding}
 use Rattle.recode.specs.Marked.{Wrote, marks}
 use Rattle.recode.specs.Payment.{UnderpaysFor}
 use Rattle.recode.specs.Step.{GoesOn, Finishes, Stops, PassesLimit}
@@ -74,18 +75,19 @@ stops_under a b w w' l l' c limit last chunk owed f p e writing within q = recor
   pays = q;
 }
 
-pub goes_on_start : (a w l : Option (List ℕ)) (c : Counts) (limit : ℕ) (owed : List ℕ → List Item) → c.read ≤ limit → GoesOn a a w w l l c c limit owed owed
-goes_on_start a w l c limit owed within = record {
+pub goes_on_start : (a w l : Option (List ℕ)) (c : Counts) (limit : ℕ) (owed : List ℕ → List Item) (s : List ℕ → Encoding) → c.read ≤ limit → GoesOn a a w w l l c c limit owed owed s s
+goes_on_start a w l c limit owed s within = record {
   chunk = [];
   consumed = Consumes-nil a;
   counted = sym (add-zero c.read);
   within = within;
   pays = PaysFor-start w l c false owed;
+  source = λ r. refl;
 }
 
-pub goes_on_more : (a b c w w' w'' l l' l'' : Option (List ℕ)) (x y z : Counts) (limit : ℕ) (o o' o'' : List ℕ → List Item)
-    → GoesOn a b w w' l l' x y limit o o' → GoesOn b c w' w'' l' l'' y z limit o' o'' → GoesOn a c w w'' l l'' x z limit o o''
-goes_on_more a b c w w' w'' l l' l'' x y z limit o o' o'' p q = record {
+pub goes_on_more : (a b c w w' w'' l l' l'' : Option (List ℕ)) (x y z : Counts) (limit : ℕ) (o o' o'' : List ℕ → List Item) (s s' s'' : List ℕ → Encoding)
+    → GoesOn a b w w' l l' x y limit o o' s s' → GoesOn b c w' w'' l' l'' y z limit o' o'' s' s'' → GoesOn a c w w'' l l'' x z limit o o'' s s''
+goes_on_more a b c w w' w'' l l' l'' x y z limit o o' o'' s s' s'' p q = record {
   chunk = p.chunk ++ q.chunk;
   consumed = Consumes-trans a b c p.chunk q.chunk p.consumed q.consumed;
   counted = omega (arith, p.counted, q.counted, length-append p.chunk q.chunk);
@@ -96,11 +98,12 @@ goes_on_more a b c w w' w'' l l' l'' x y z limit o o' o'' p q = record {
     counted = AreCounted-trans x y z p.pays.paid q.pays.paid p.pays.counted q.pays.counted;
     equals = λ r h. ap o (append_assoc p.chunk q.chunk r) ∙ p.pays.equals (q.chunk ++ r) (λ k. cc) ∙ ap (λ t. p.pays.paid ++ t) (q.pays.equals r h) ∙ sym (append_assoc p.pays.paid q.pays.paid (o'' r));
   };
+  source = λ r. ap s (append_assoc p.chunk q.chunk r) ∙ p.source (q.chunk ++ r) ∙ q.source r;
 }
 
-pub goes_on_finish : (a b c w w' w'' l l' l'' : Option (List ℕ)) (x y z : Counts) (limit : ℕ) (o o' : List ℕ → List Item)
-    → GoesOn a b w w' l l' x y limit o o' → Finishes b c w' w'' l' l'' y z limit o' → Finishes a c w w'' l l'' x z limit o
-goes_on_finish a b c w w' w'' l l' l'' x y z limit o o' p q = record {
+pub goes_on_finish : (a b c w w' w'' l l' l'' : Option (List ℕ)) (x y z : Counts) (limit : ℕ) (o o' : List ℕ → List Item) (s s' s'' : List ℕ → Encoding)
+    → GoesOn a b w w' l l' x y limit o o' s s' → Finishes b c w' w'' l' l'' y z limit o' s' s'' → Finishes a c w w'' l l'' x z limit o s s''
+goes_on_finish a b c w w' w'' l l' l'' x y z limit o o' s s' s'' p q = record {
   chunk = p.chunk ++ q.chunk;
   consumed = Consumes-trans a b c p.chunk q.chunk p.consumed q.consumed;
   end = q.end;
@@ -112,14 +115,15 @@ goes_on_finish a b c w w' w'' l l' l'' x y z limit o o' p q = record {
     counted = AreCounted-trans x y z p.pays.paid q.pays.paid p.pays.counted q.pays.counted;
     equals = p.pays.equals q.chunk (λ k. cc) ∙ ap (λ t. p.pays.paid ++ t) q.pays.equals ∙ sym (append_assoc p.pays.paid q.pays.paid []);
   };
+  source = p.source q.chunk ∙ q.source;
 }
 
 limit_on : (n m limit : ℕ) (f : Fault) → n ≡ m → PassesLimit n limit f → PassesLimit m limit f
 limit_on n m limit f e h = subst (λ (k : ℕ). PassesLimit k limit f) e h
 
-pub goes_on_stop : (a b c w w' w'' l l' l'' : Option (List ℕ)) (x y : Counts) (limit : ℕ) (o o' : List ℕ → List Item) (f : Fault)
-    → GoesOn a b w w' l l' x y limit o o' → Stops b c w' w'' l' l'' y limit o' f → Stops a c w w'' l l'' x limit o f
-goes_on_stop a b c w w' w'' l l' l'' x y limit o o' f p q = record {
+pub goes_on_stop : (a b c w w' w'' l l' l'' : Option (List ℕ)) (x y : Counts) (limit : ℕ) (o o' : List ℕ → List Item) (s s' : List ℕ → Encoding) (f : Fault)
+    → GoesOn a b w w' l l' x y limit o o' s s' → Stops b c w' w'' l' l'' y limit o' f → Stops a c w w'' l l'' x limit o f
+goes_on_stop a b c w w' w'' l l' l'' x y limit o o' s s' f p q = record {
   chunk = p.chunk ++ q.chunk;
   refused = q.refused;
   ended = q.ended;

@@ -8,26 +8,29 @@ use Rattle.encoding_mem.specs.declared.form.Form.{Form}
 use Rattle.encoding_mem.specs.declared.form.Form.TheVariants.{Mapped, Unmapped}
 use Rattle.encoding_mem.specs.declared.form.Set.TheVariants.{Ascii}
 use Rattle.encoding_front.specs.Encodings.{IsReady, KeepsCharacters, pieces_of, coding_of, output_encoding_of}
+use Rattle.encoding_front.specs.Marks.{marked_pieces, source_of}
+use Rattle.encoding_front.specs.declared.encoding.Encoding.{Encoding}
 use Rattle.encoding_tables.specs.IndexLists.{AreAcceptedTables}
 use Rattle.recode_log.specs.Line.{line_bytes}
 use Rattle.recode_log.specs.declared.line.LogLine.{LogLine}
 use Rattle.recode_log.specs.declared.line.LogLine.TheVariants.{Bad, Lost}
 use Rattle.recode.specs.declared.job.Job.{Job}
-use Rattle.recode.specs.declared.job.Mark.TheVariants.{Keep}
 
--- the indexes of both encodings are there, as they were accepted; for the time being the target has no folds; marks are kept;
--- the limit is that of the log's places
+-- the indexes of both encodings are there, as they were accepted; for the time being the target has no folds; the limit is that of the log's places
 pub record IsValidJob (j : Job) : Type 0 where
   pub tables : AreAcceptedTables j.tables.now
   pub from : IsReady j.tables.now j.from
   pub to : IsReady j.tables.now (output_encoding_of j.to)
   pub kept : KeepsCharacters j.to
-  pub mark : j.mark ≡ Keep
   pub limit : j.limit ≤ 2 ^ 48
 
--- the pieces of the input, and its text
+-- the encoding that the input is in, which its byte order mark may say, if marks are taken
+abbrev pub source_in : Job → List ℕ → Encoding
+source_in j x = (source_of j.mark j.from x).0
+
+-- the pieces of the input, of which the mark that is taken is the first, and its text
 abbrev pub input_pieces : Job → List ℕ → List Piece
-input_pieces j x = pieces_of j.tables.now j.from x
+input_pieces j x = marked_pieces j.tables.now j.mark j.from x
 
 abbrev pub input_text : Job → List ℕ → List ℕ
 input_text j x = text (input_pieces j x)

@@ -6,7 +6,8 @@ use Rattle.encoding_mem.specs.Decoding.{DecoderState}
 use Rattle.encoding_mem.specs.Coding.{Coding, lost_count}
 use Rattle.encoding_mem.specs.Items.{Item}
 use Rattle.encoding_mem.specs.declared.form.Set.{Set}
-use Rattle.recode.specs.Job.{trace, target_of, output_of, log_of, input_pieces, input_text, Faithful}
+use Rattle.encoding_front.specs.declared.encoding.Encoding.{Encoding}
+use Rattle.recode.specs.Job.{trace, target_of, output_of, log_of, source_in, input_pieces, input_text, Faithful}
 use Rattle.recode.specs.Marked.{Marked, Wrote, IsFront, marks, outputs, lines}
 use Rattle.recode.specs.Owed.{owes}
 use Rattle.recode.specs.Step.{PassesLimit}
@@ -21,6 +22,7 @@ use Rattle.recode.specs.declared.phase.Phase.TheVariants.{Open, Done, Stopped}
 pub record View : Type 0 where
   pub job : Job
   pub decoder : DecoderState
+  pub source : List ℕ → Encoding
   pub coding : Coding
   pub set : Set
   pub counts : Counts
@@ -44,6 +46,7 @@ phase_after (Err f) = Stopped
 pub record Begins (v : View) (j : Job) : Type 0 where
   pub job : v.job ≡ j
   pub open_ : v.phase ≡ Open
+  pub source : (x : List ℕ) → v.source x ≡ source_in j x
   pub coding : v.coding ≡ target_of j
   pub read : v.counts.read ≡ 0
   pub bad : v.counts.bad ≡ 0
@@ -55,7 +58,7 @@ pub record Tells (v : View) (p : Report) : Type 0 where
   pub read : p.read ≡ v.counts.read
   pub bad : p.bad ≡ v.counts.bad
   pub lost : p.lost ≡ v.counts.lost
-  pub encoding : p.encoding ≡ v.job.from
+  pub encoding : p.encoding ≡ v.source []
   pub verdict : p.faithful ≡ (v.counts.bad == 0 && v.counts.lost == 0)
 
 -- the report on an input
@@ -63,7 +66,7 @@ pub record IsReport (j : Job) (x : List ℕ) (p : Report) : Type 0 where
   pub read : p.read ≡ length x
   pub bad : p.bad ≡ bad_count (input_pieces j x)
   pub lost : p.lost ≡ lost_count (target_of j) (input_text j x)
-  pub encoding : p.encoding ≡ j.from
+  pub encoding : p.encoding ≡ source_in j x
   pub faithful : IsTrue p.faithful ↔ Faithful j x
 
 -- A run that came to its end: the input was read whole and is within the limit, output and log are whole, and the

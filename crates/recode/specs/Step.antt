@@ -2,28 +2,32 @@
 use Rattle.std.specs.Prelude.{◌≡◌, ℕ, ◌+◌, ◌<◌, ◌≤◌, List, [], ◌++◌, length, Option, Bool, true, false}
 use Rattle.std.specs.Io.KnownBytes.{Consumes, IsAtEnd}
 use Rattle.encoding_mem.specs.Items.{Item}
+use Rattle.encoding_front.specs.declared.encoding.Encoding.{Encoding}
 use Rattle.recode.specs.Marked.{Marked, Wrote, IsFront, marks}
 use Rattle.recode.specs.Payment.{Pays, PaysFor, UnderpaysFor}
 use Rattle.recode.specs.declared.counts.Counts.{Counts}
 use Rattle.recode.specs.declared.fault.Fault.{Fault}
 use Rattle.recode.specs.declared.fault.Fault.TheVariants.{Read, Write, Log, TooLong}
 
--- Some bytes were read, and what was owed for them and any bytes to come is what was written, then what is owed now.
-pub record GoesOn (reader reader' writer writer' log log' : Option (List ℕ)) (c c' : Counts) (limit : ℕ) (owed owed' : List ℕ → List Item) : Type 0 where
+-- Some bytes were read, and what was owed for them and any bytes to come is what was written, then what is owed now;
+-- the encoding that the input turns out to be in stays the same.
+pub record GoesOn (reader reader' writer writer' log log' : Option (List ℕ)) (c c' : Counts) (limit : ℕ) (owed owed' : List ℕ → List Item) (encoding encoding' : List ℕ → Encoding) : Type 0 where
   pub chunk : List ℕ
   pub consumed : Consumes reader reader' chunk
   pub counted : c'.read ≡ c.read + length chunk
   pub within : c'.read ≤ limit
   pub pays : PaysFor writer writer' log log' c c' false (λ r. owed (chunk ++ r)) owed'
+  pub source : (r : List ℕ) → encoding (chunk ++ r) ≡ encoding' r
 
 -- The end was read, and all that was owed for it was written.
-pub record Finishes (reader reader' writer writer' log log' : Option (List ℕ)) (c c' : Counts) (limit : ℕ) (owed : List ℕ → List Item) : Type 0 where
+pub record Finishes (reader reader' writer writer' log log' : Option (List ℕ)) (c c' : Counts) (limit : ℕ) (owed : List ℕ → List Item) (encoding encoding' : List ℕ → Encoding) : Type 0 where
   pub chunk : List ℕ
   pub consumed : Consumes reader reader' chunk
   pub end : IsAtEnd reader'
   pub counted : c'.read ≡ c.read + length chunk
   pub within : c'.read ≤ limit
   pub pays : Pays writer writer' log log' c c' (owed chunk) []
+  pub source : encoding chunk ≡ encoding' []
 
 -- where the bytes that were read pass the limit, or not
 abbrev pub PassesLimit : (read limit : ℕ) → Fault → Type 0

@@ -11,7 +11,8 @@ use crate::counts::Counts;
 use crate::encode::encode_all;
 use crate::fault::Fault;
 use crate::lines::log_line;
-use encoding_mem::{DecoderResult, RawDecoder, RawEncoder};
+use encoding_front::StreamDecoder;
+use encoding_mem::{DecoderResult, RawEncoder};
 use recode_log::counted::Counted;
 use recode_log::line::LogLine;
 use std::io::Write;
@@ -86,7 +87,7 @@ fn report_bad<W: Write, L: Write, E: RawEncoder>(
 }
 
 /// One call of the decoder, and all that follows from it.
-pub fn decode_once<W: Write, L: Write, D: RawDecoder, E: RawEncoder>(
+pub fn decode_once<W: Write, L: Write, D: StreamDecoder, E: RawEncoder>(
     writer: &mut Counted<W>,
     log: &mut Counted<L>,
     decoder: &mut D,
@@ -99,29 +100,33 @@ pub fn decode_once<W: Write, L: Write, D: RawDecoder, E: RawEncoder>(
 ) -> Result<DecodeTurn, Fault>
     requires pivot { 4 ≤ length pivot.old }
     requires out { 4 ≤ length out.old }
-    requires sound { AreSound (D.state decoder.old).pending counts }
+    requires open_ { (D.view decoder.old).finished ≡ false }
+    requires sound { AreSound (D.view decoder.old).state.pending counts }
     requires limit { counts.read + length src.now ≤ 2 ^ 48 }
     requires writer { failures_of writer.old < 2 ^ 64 - 1 }
     requires log { failures_of log.old < 2 ^ 64 - 1 }
 
     ensures within { IfOk result (λ p. p.read ≤ length src.now) }
     ensures pays { IfOk result (λ p. PaysFor (W.contents (inner_of writer.old)) (W.contents (inner_of writer.new)) (L.contents (inner_of log.old)) (L.contents (inner_of log.new)) counts p.counts last
-        (λ r. owes (D.state decoder.old) (E.coding encoder.old) (E.set encoder.old) counts (src.now ++ r))
-        (λ r. owes (D.state decoder.new) (E.coding encoder.old) (E.set encoder.new) p.counts (drop p.read src.now ++ r))) }
+        (λ r. owes (D.view decoder.old).state (E.coding encoder.old) (E.set encoder.old) counts (src.now ++ r))
+        (λ r. owes (D.view decoder.new).state (E.coding encoder.old) (E.set encoder.new) p.counts (drop p.read src.now ++ r))) }
+    ensures source { IfOk result (λ p. (r : List ℕ) → (last ≡ true → r ≡ []) → (D.view decoder.old).source (src.now ++ r) ≡ (D.view decoder.new).source (drop p.read src.now ++ r)) }
+    ensures more_open { IfOk result (λ p. p.is_done ≡ false → (D.view decoder.new).finished ≡ false) }
+    ensures open_ { IfOk result (λ p. last ≡ false → (D.view decoder.new).finished ≡ false) }
     ensures counted { IfOk result (λ p. p.counts.read ≡ counts.read + p.read) }
-    ensures sound { IfOk result (λ p. AreSound (D.state decoder.new).pending p.counts) }
+    ensures sound { IfOk result (λ p. AreSound (D.view decoder.new).state.pending p.counts) }
     ensures target { E.coding encoder.new ≡ E.coding encoder.old }
     ensures done { IfOk result (λ p. p.is_done ≡ true → p.read ≡ length src.now) }
-    ensures end { IfOk result (λ p. p.is_done ≡ true → last ≡ true → owes (D.state decoder.new) (E.coding encoder.old) (E.set encoder.new) p.counts [] ≡ []) }
-    ensures more { IfOk result (λ p. p.is_done ≡ false → length ((D.state decoder.new).pieces (drop p.read src.now)) < length ((D.state decoder.old).pieces src.now)) }
+    ensures end { IfOk result (λ p. p.is_done ≡ true → last ≡ true → owes (D.view decoder.new).state (E.coding encoder.old) (E.set encoder.new) p.counts [] ≡ []) }
+    ensures more { IfOk result (λ p. p.is_done ≡ false → length ((D.view decoder.new).state.pieces (drop p.read src.now)) < length ((D.view decoder.old).state.pieces src.now)) }
     ensures err { OnErr result (UnderpaysFor (W.contents (inner_of writer.old)) (W.contents (inner_of writer.new)) (L.contents (inner_of log.old)) (L.contents (inner_of log.new)) last
-        (λ r. owes (D.state decoder.old) (E.coding encoder.old) (E.set encoder.old) counts (src.now ++ r))) }
+        (λ r. owes (D.view decoder.old).state (E.coding encoder.old) (E.set encoder.old) counts (src.now ++ r))) }
     ensures writer_count { failures_of writer.new ≡ failures_of writer.old + of_writer result }
     ensures reader_count { of_reader result ≡ 0 }
     ensures only_writers { of_other result ≡ 0 }
     ensures log_count { failures_of log.new ≡ failures_of log.old + of_log result }
 {
-    let (answer, read, written) = decoder.decode_to_utf8_raw(src, pivot, last);
+    let (answer, read, written) = decoder.decode_to_utf8_without_replacement(src, pivot, last);
     let counts = Counts {
         read: counts.read + read as u64,
         calls: counts.calls.saturating_add(1),
@@ -159,7 +164,7 @@ pub fn decode_once<W: Write, L: Write, D: RawDecoder, E: RawEncoder>(
 }
 
 /// Converts all of a chunk, and logs what is lost. Answers the counts then.
-pub fn convert_chunk<W: Write, L: Write, D: RawDecoder, E: RawEncoder>(
+pub fn convert_chunk<W: Write, L: Write, D: StreamDecoder, E: RawEncoder>(
     writer: &mut Counted<W>,
     log: &mut Counted<L>,
     decoder: &mut D,
@@ -172,20 +177,23 @@ pub fn convert_chunk<W: Write, L: Write, D: RawDecoder, E: RawEncoder>(
 ) -> Result<Counts, Fault>
     requires pivot { 4 ≤ length pivot.old }
     requires out { 4 ≤ length out.old }
-    requires sound { AreSound (D.state decoder.old).pending counts }
+    requires open_ { (D.view decoder.old).finished ≡ false }
+    requires sound { AreSound (D.view decoder.old).state.pending counts }
     requires limit { counts.read + length src.now ≤ 2 ^ 48 }
     requires writer { failures_of writer.old < 2 ^ 64 - 1 }
     requires log { failures_of log.old < 2 ^ 64 - 1 }
 
     ensures pays { IfOk result (λ c. PaysFor (W.contents (inner_of writer.old)) (W.contents (inner_of writer.new)) (L.contents (inner_of log.old)) (L.contents (inner_of log.new)) counts c last
-        (λ r. owes (D.state decoder.old) (E.coding encoder.old) (E.set encoder.old) counts (src.now ++ r))
-        (λ r. owes (D.state decoder.new) (E.coding encoder.old) (E.set encoder.new) c r)) }
+        (λ r. owes (D.view decoder.old).state (E.coding encoder.old) (E.set encoder.old) counts (src.now ++ r))
+        (λ r. owes (D.view decoder.new).state (E.coding encoder.old) (E.set encoder.new) c r)) }
+    ensures source { IfOk result (λ c. (r : List ℕ) → (last ≡ true → r ≡ []) → (D.view decoder.old).source (src.now ++ r) ≡ (D.view decoder.new).source r) }
+    ensures open_ { IfOk result (λ c. last ≡ false → (D.view decoder.new).finished ≡ false) }
     ensures read { IfOk result (λ c. c.read ≡ counts.read + length src.now) }
-    ensures sound { IfOk result (λ c. AreSound (D.state decoder.new).pending c) }
+    ensures sound { IfOk result (λ c. AreSound (D.view decoder.new).state.pending c) }
     ensures target { E.coding encoder.new ≡ E.coding encoder.old }
-    ensures end { IfOk result (λ c. last ≡ true → owes (D.state decoder.new) (E.coding encoder.old) (E.set encoder.new) c [] ≡ []) }
+    ensures end { IfOk result (λ c. last ≡ true → owes (D.view decoder.new).state (E.coding encoder.old) (E.set encoder.new) c [] ≡ []) }
     ensures err { OnErr result (UnderpaysFor (W.contents (inner_of writer.old)) (W.contents (inner_of writer.new)) (L.contents (inner_of log.old)) (L.contents (inner_of log.new)) last
-        (λ r. owes (D.state decoder.old) (E.coding encoder.old) (E.set encoder.old) counts (src.now ++ r))) }
+        (λ r. owes (D.view decoder.old).state (E.coding encoder.old) (E.set encoder.old) counts (src.now ++ r))) }
     ensures writer_count { failures_of writer.new ≡ failures_of writer.old + of_writer result }
     ensures reader_count { of_reader result ≡ 0 }
     ensures only_writers { of_other result ≡ 0 }

@@ -3,7 +3,8 @@ use crate::chunk::convert_chunk;
 use crate::counts::Counts;
 use crate::fault::Fault;
 use crate::progress::Progress;
-use encoding_mem::{RawDecoder, RawEncoder};
+use encoding_front::StreamDecoder;
+use encoding_mem::RawEncoder;
 use recode_log::counted::Counted;
 use std::io::{Read, Write};
 
@@ -15,8 +16,8 @@ pub struct Engine<D, E> {
     pub counts: Counts,
 }
 
-impl<D: RawDecoder, E: RawEncoder> Engine<D, E> {
-    ghost use Rattle.std.specs.Prelude.{◌≡◌, ℕ, ◌+◌, ◌-◌, ◌^◌, ◌<◌, ◌≤◌, List, length, OnOk, IfErr};
+impl<D: StreamDecoder, E: RawEncoder> Engine<D, E> {
+    ghost use Rattle.std.specs.Prelude.{◌≡◌, ℕ, ◌+◌, ◌-◌, ◌^◌, ◌<◌, ◌≤◌, List, length, false, OnOk, IfErr};
     ghost use Rattle.recode_log.specs.Counted.{inner_of, failures_of};
     ghost use Rattle.recode.specs.Buffers.{IsRoomy};
     ghost use Rattle.recode.specs.Owed.{owes, AreSound};
@@ -37,7 +38,8 @@ impl<D: RawDecoder, E: RawEncoder> Engine<D, E> {
     ) -> Result<Progress, Fault>
         requires limit { limit ≤ 2 ^ 48 }
         requires read { self.old.counts.read ≤ limit }
-        requires sound { AreSound (D.state self.old.decoder).pending self.old.counts }
+        requires open_ { (D.view self.old.decoder).finished ≡ false }
+        requires sound { AreSound (D.view self.old.decoder).state.pending self.old.counts }
         requires input { 0 < length input.old }
         requires pivot { 4 ≤ length pivot.old }
         requires output { 4 ≤ length output.old }
@@ -46,15 +48,18 @@ impl<D: RawDecoder, E: RawEncoder> Engine<D, E> {
         requires log { failures_of log.old < 2 ^ 64 - 1 }
 
         ensures more { result ≡ Ok Progress.More → GoesOn (R.remaining (inner_of reader.old)) (R.remaining (inner_of reader.new)) (W.contents (inner_of writer.old)) (W.contents (inner_of writer.new)) (L.contents (inner_of log.old)) (L.contents (inner_of log.new)) self.old.counts self.new.counts limit
-            (owes (D.state self.old.decoder) (E.coding self.old.encoder) (E.set self.old.encoder) self.old.counts)
-            (owes (D.state self.new.decoder) (E.coding self.old.encoder) (E.set self.new.encoder) self.new.counts) }
+            (owes (D.view self.old.decoder).state (E.coding self.old.encoder) (E.set self.old.encoder) self.old.counts)
+            (owes (D.view self.new.decoder).state (E.coding self.old.encoder) (E.set self.new.encoder) self.new.counts)
+            (D.view self.old.decoder).source (D.view self.new.decoder).source }
         ensures grows { result ≡ Ok Progress.More → self.old.counts.read < self.new.counts.read }
         ensures done { result ≡ Ok Progress.Done → Finishes (R.remaining (inner_of reader.old)) (R.remaining (inner_of reader.new)) (W.contents (inner_of writer.old)) (W.contents (inner_of writer.new)) (L.contents (inner_of log.old)) (L.contents (inner_of log.new)) self.old.counts self.new.counts limit
-            (owes (D.state self.old.decoder) (E.coding self.old.encoder) (E.set self.old.encoder) self.old.counts) }
+            (owes (D.view self.old.decoder).state (E.coding self.old.encoder) (E.set self.old.encoder) self.old.counts)
+            (D.view self.old.decoder).source (D.view self.new.decoder).source }
         ensures fault { IfErr result (λ f. Stops (R.remaining (inner_of reader.old)) (R.remaining (inner_of reader.new)) (W.contents (inner_of writer.old)) (W.contents (inner_of writer.new)) (L.contents (inner_of log.old)) (L.contents (inner_of log.new)) self.old.counts limit
-            (owes (D.state self.old.decoder) (E.coding self.old.encoder) (E.set self.old.encoder) self.old.counts) f) }
+            (owes (D.view self.old.decoder).state (E.coding self.old.encoder) (E.set self.old.encoder) self.old.counts) f) }
         ensures untouched { of_other result ≡ 1 → Keeps (W.contents (inner_of writer.old)) (W.contents (inner_of writer.new)) × Keeps (L.contents (inner_of log.old)) (L.contents (inner_of log.new)) }
-        ensures sound { OnOk result (AreSound (D.state self.new.decoder).pending self.new.counts) }
+        ensures sound { OnOk result (AreSound (D.view self.new.decoder).state.pending self.new.counts) }
+        ensures open_ { result ≡ Ok Progress.More → (D.view self.new.decoder).finished ≡ false }
         ensures within { OnOk result (self.new.counts.read ≤ limit) }
         ensures target { E.coding self.new.encoder ≡ E.coding self.old.encoder }
         ensures reader_count { failures_of reader.new ≡ failures_of reader.old + of_reader result }
@@ -106,7 +111,8 @@ impl<D: RawDecoder, E: RawEncoder> Engine<D, E> {
     ) -> Result<Progress, Fault>
         requires limit { limit ≤ 2 ^ 48 }
         requires read { self.old.counts.read ≤ limit }
-        requires sound { AreSound (D.state self.old.decoder).pending self.old.counts }
+        requires open_ { (D.view self.old.decoder).finished ≡ false }
+        requires sound { AreSound (D.view self.old.decoder).state.pending self.old.counts }
         requires input { 0 < length input.old }
         requires pivot { IsRoomy pivot.old }
         requires output { 4 ≤ length output.old }
@@ -115,15 +121,18 @@ impl<D: RawDecoder, E: RawEncoder> Engine<D, E> {
         requires log { failures_of log.old < 2 ^ 64 - 1 }
 
         ensures more { result ≡ Ok Progress.More → GoesOn (R.remaining (inner_of reader.old)) (R.remaining (inner_of reader.new)) (W.contents (inner_of writer.old)) (W.contents (inner_of writer.new)) (L.contents (inner_of log.old)) (L.contents (inner_of log.new)) self.old.counts self.new.counts limit
-            (owes (D.state self.old.decoder) (E.coding self.old.encoder) (E.set self.old.encoder) self.old.counts)
-            (owes (D.state self.new.decoder) (E.coding self.old.encoder) (E.set self.new.encoder) self.new.counts) }
+            (owes (D.view self.old.decoder).state (E.coding self.old.encoder) (E.set self.old.encoder) self.old.counts)
+            (owes (D.view self.new.decoder).state (E.coding self.old.encoder) (E.set self.new.encoder) self.new.counts)
+            (D.view self.old.decoder).source (D.view self.new.decoder).source }
         ensures grows { result ≡ Ok Progress.More → self.old.counts.read < self.new.counts.read }
         ensures done { result ≡ Ok Progress.Done → Finishes (R.remaining (inner_of reader.old)) (R.remaining (inner_of reader.new)) (W.contents (inner_of writer.old)) (W.contents (inner_of writer.new)) (L.contents (inner_of log.old)) (L.contents (inner_of log.new)) self.old.counts self.new.counts limit
-            (owes (D.state self.old.decoder) (E.coding self.old.encoder) (E.set self.old.encoder) self.old.counts) }
+            (owes (D.view self.old.decoder).state (E.coding self.old.encoder) (E.set self.old.encoder) self.old.counts)
+            (D.view self.old.decoder).source (D.view self.new.decoder).source }
         ensures fault { IfErr result (λ f. Stops (R.remaining (inner_of reader.old)) (R.remaining (inner_of reader.new)) (W.contents (inner_of writer.old)) (W.contents (inner_of writer.new)) (L.contents (inner_of log.old)) (L.contents (inner_of log.new)) self.old.counts limit
-            (owes (D.state self.old.decoder) (E.coding self.old.encoder) (E.set self.old.encoder) self.old.counts) f) }
+            (owes (D.view self.old.decoder).state (E.coding self.old.encoder) (E.set self.old.encoder) self.old.counts) f) }
         ensures untouched { of_other result ≡ 1 → Keeps (W.contents (inner_of writer.old)) (W.contents (inner_of writer.new)) × Keeps (L.contents (inner_of log.old)) (L.contents (inner_of log.new)) }
-        ensures sound { OnOk result (AreSound (D.state self.new.decoder).pending self.new.counts) }
+        ensures sound { OnOk result (AreSound (D.view self.new.decoder).state.pending self.new.counts) }
+        ensures open_ { result ≡ Ok Progress.More → (D.view self.new.decoder).finished ≡ false }
         ensures within { OnOk result (self.new.counts.read ≤ limit) }
         ensures target { E.coding self.new.encoder ≡ E.coding self.old.encoder }
         ensures reader_count { failures_of reader.new ≡ failures_of reader.old + of_reader result }

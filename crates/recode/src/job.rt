@@ -1,16 +1,5 @@
-use encoding_front::Encoding;
+use encoding_front::{Encoding, Mark};
 use encoding_tables::Tables;
-
-/// What is done with a byte order mark at the front of the input.
-#[derive(Clone, Copy, PartialEq, Eq, Debug)]
-pub enum Mark {
-    /// A mark of UTF-8, UTF-16LE or UTF-16BE is taken, and says what the source is.
-    Sniff,
-    /// The source's own mark is taken.
-    Remove,
-    /// No mark is taken: it is text.
-    Keep,
-}
 
 /// The greatest limit of a job, in bytes.
 pub const GREATEST_LIMIT: u64 = 1 << 48;
@@ -18,10 +7,11 @@ pub const GREATEST_LIMIT: u64 = 1 << 48;
 /// What to recode, and how.
 #[derive(Clone, Copy)]
 pub struct Job<'t> {
-    /// The encoding of the input.
+    /// The encoding of the input, where a byte order mark does not say another.
     pub from: Encoding,
     /// The encoding that is asked for. What is written is in its output encoding.
     pub to: Encoding,
+    /// What is done with a byte order mark at the front of the input.
     pub mark: Mark,
     /// How many bytes the input may have.
     pub limit: u64,
@@ -34,13 +24,11 @@ impl<'t> Job<'t> {
     ghost use Rattle.recode.specs.Job.{IsValidJob};
 
     /// Whether the job can be run: the indexes that the two encodings need are there, and its limit is at
-    /// most `GREATEST_LIMIT`. So far marks are kept, and what is written has no folds
-    /// (`keeps_characters`).
+    /// most `GREATEST_LIMIT`. So far what is written has no folds (`keeps_characters`).
     pub fn is_valid(&self) -> bool
         ensures { IsTrue result ↔ IsValidJob self.now }
     {
-        matches!(self.mark, Mark::Keep)
-            && self.limit <= GREATEST_LIMIT
+        self.limit <= GREATEST_LIMIT
             && self.from.is_ready(self.tables)
             && self.to.output_encoding().is_ready(self.tables)
             && self.to.keeps_characters()

@@ -5,6 +5,7 @@ ghost use Rattle.std.specs.Str.{IsUtf8};
 ghost use Rattle.encoding_mem.specs.Piece.{bad_count};
 ghost use Rattle.encoding_mem.specs.Coding.{lost_count};
 ghost use Rattle.encoding_front.specs.Encodings.{IsUtf8Encoding};
+ghost use Rattle.encoding_front.specs.declared.mark.Mark.{Mark};
 ghost use Rattle.recode.specs.Job.{Faithful, IsValidJob, input_pieces, input_text, log_of, output_of, target_of, trace};
 ghost use Rattle.recode.specs.Marked.{lines, marks, outputs};
 ghost use Rattle.recode.specs.Payment.{bad_lines, lost_lines};
@@ -22,10 +23,10 @@ pub fn trace_of_input()
     ensures lost { (j : Job) (x : List ℕ) → lost_lines (trace j x) ≡ lost_count (target_of j) (input_text j x) }
 {}
 
-/// From UTF-8 to UTF-8, text gives its own bytes, and an empty log.
+/// From UTF-8 to UTF-8, where marks are kept, text gives its own bytes, and an empty log.
 pub fn utf8_text_is_kept()
-    ensures output { (j : Job) (x : List ℕ) → IsUtf8Encoding j.from → IsUtf8Encoding j.to → IsUtf8 x → output_of j x ≡ x }
-    ensures log { (j : Job) (x : List ℕ) → IsUtf8Encoding j.from → IsUtf8Encoding j.to → IsUtf8 x → log_of j x ≡ [] }
+    ensures output { (j : Job) (x : List ℕ) → j.mark ≡ Mark.Keep → IsUtf8Encoding j.from → IsUtf8Encoding j.to → IsUtf8 x → output_of j x ≡ x }
+    ensures log { (j : Job) (x : List ℕ) → j.mark ≡ Mark.Keep → IsUtf8Encoding j.from → IsUtf8Encoding j.to → IsUtf8 x → log_of j x ≡ [] }
 {}
 
 /// Nothing was lost exactly where the log is empty.

@@ -20,8 +20,9 @@ pub mod session;
 
 pub use buffers::{Buffers, Pivot};
 pub use conversion::{FAITHFUL, FAULT, NOT_FAITHFUL, convert};
+pub use encoding_front::Mark;
 pub use fault::Fault;
-pub use job::{GREATEST_LIMIT, Job, Mark};
+pub use job::{GREATEST_LIMIT, Job};
 pub use progress::Progress;
 pub use report::Report;
 pub use session::{Session, run};

@@ -11,7 +11,7 @@ pub struct Report {
     pub lost: u64,
     /// The calls of codecs.
     pub calls: u64,
-    /// The encoding of the input.
+    /// The encoding of the input, as its byte order mark says where one of another encoding is taken.
     pub encoding: Encoding,
     /// Whether nothing was lost: no piece of the input is bad, and the output, decoded without mark
     /// handling, is the input's text.

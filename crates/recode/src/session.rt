@@ -1,4 +1,4 @@
-ghost use Rattle.std.specs.Prelude.{◌≡◌, ◌≤◌, ◌<◌, ◌^◌, ◌+◌, ◌-◌, ◌↔◌, ◌==◌, IsTrue, IsSome, OnOk, IfOk, IfErr, IfSome, true};
+ghost use Rattle.std.specs.Prelude.{◌≡◌, ◌≤◌, ◌<◌, ◌^◌, ◌+◌, ◌-◌, ◌↔◌, ◌==◌, IsTrue, IsSome, OnOk, IfOk, IfErr, IfSome, true, false};
 ghost use Rattle.encoding_mem.specs.Decoding.{DecoderState};
 ghost use Rattle.recode_log.specs.Counted.{inner_of, failures_of};
 ghost use Rattle.recode.specs.Job.{IsValidJob};
@@ -18,8 +18,8 @@ use crate::job::Job;
 use crate::phase::Phase;
 use crate::progress::Progress;
 use crate::report::Report;
-use encoding_front::{VariantDecoder, VariantEncoder};
-use encoding_mem::{RawDecoder, RawEncoder};
+use encoding_front::{Decoder, StreamDecoder, VariantEncoder};
+use encoding_mem::RawEncoder;
 use recode_log::counted::Counted;
 use std::io::{Read, Write};
 
@@ -31,18 +31,20 @@ pub trait Viewed {
 /// A conversion, step by step. It holds no buffer: each step is lent some.
 #[derive(Drop)]
 pub struct Session<'t> {
-    engine: Engine<VariantDecoder<'t>, VariantEncoder<'t>>,
+    engine: Engine<Decoder<'t>, VariantEncoder<'t>>,
     job: Job<'t>,
     phase: Phase,
     ghost small: { job.limit ≤ 2 ^ 48 },
-    ghost sound: { phase ≡ Open → AreSound (⟦<VariantDecoder<'static> as RawDecoder>⟧.state engine.decoder).pending engine.counts },
+    ghost sound: { phase ≡ Open → AreSound (⟦<Decoder<'static> as StreamDecoder>⟧.view engine.decoder).state.pending engine.counts },
+    ghost open_: { phase ≡ Open → (⟦<Decoder<'static> as StreamDecoder>⟧.view engine.decoder).finished ≡ false },
     ghost within: { phase ≡ Open → engine.counts.read ≤ job.limit },
 }
 
 impl<'t> Viewed for Session<'t> {
     ghost view = { λ s. record {
       job = s.job;
-      decoder = ⟦<VariantDecoder<'t> as RawDecoder>⟧.state s.engine.decoder;
+      decoder = (⟦<Decoder<'t> as StreamDecoder>⟧.view s.engine.decoder).state;
+      source = (⟦<Decoder<'t> as StreamDecoder>⟧.view s.engine.decoder).source;
       coding = ⟦<VariantEncoder<'t> as RawEncoder>⟧.coding s.engine.encoder;
       set = ⟦<VariantEncoder<'t> as RawEncoder>⟧.set s.engine.encoder;
       counts = s.engine.counts;
@@ -58,7 +60,7 @@ impl<'t> Session<'t> {
     {
         Session {
             engine: Engine {
-                decoder: VariantDecoder::new(job.from, job.tables),
+                decoder: Decoder::new(job.from, job.mark, job.tables),
                 encoder: VariantEncoder::new(job.to, job.tables),
                 counts: Counts {
                     read: 0,
@@ -103,7 +105,7 @@ impl<'t> Session<'t> {
             bad: counts.bad,
             lost: counts.lost,
             calls: counts.calls,
-            encoding: self.job.from,
+            encoding: self.engine.decoder.encoding(),
             faithful: counts.bad == 0 && counts.lost == 0,
         }
     }
@@ -124,9 +126,9 @@ impl<'t> Session<'t> {
         requires writer { failures_of writer.old < 2 ^ 64 - 1 }
         requires log { failures_of log.old < 2 ^ 64 - 1 }
 
-        ensures more { result ≡ Ok Progress.More → GoesOn (R.remaining (inner_of reader.old)) (R.remaining (inner_of reader.new)) (W.contents (inner_of writer.old)) (W.contents (inner_of writer.new)) (L.contents (inner_of log.old)) (L.contents (inner_of log.new)) (⟦<Session<'t> as Viewed>⟧.view self.old).counts (⟦<Session<'t> as Viewed>⟧.view self.new).counts (⟦<Session<'t> as Viewed>⟧.view self.old).job.limit (owed (⟦<Session<'t> as Viewed>⟧.view self.old)) (owed (⟦<Session<'t> as Viewed>⟧.view self.new)) }
+        ensures more { result ≡ Ok Progress.More → GoesOn (R.remaining (inner_of reader.old)) (R.remaining (inner_of reader.new)) (W.contents (inner_of writer.old)) (W.contents (inner_of writer.new)) (L.contents (inner_of log.old)) (L.contents (inner_of log.new)) (⟦<Session<'t> as Viewed>⟧.view self.old).counts (⟦<Session<'t> as Viewed>⟧.view self.new).counts (⟦<Session<'t> as Viewed>⟧.view self.old).job.limit (owed (⟦<Session<'t> as Viewed>⟧.view self.old)) (owed (⟦<Session<'t> as Viewed>⟧.view self.new)) (⟦<Session<'t> as Viewed>⟧.view self.old).source (⟦<Session<'t> as Viewed>⟧.view self.new).source }
         ensures grows { result ≡ Ok Progress.More → (⟦<Session<'t> as Viewed>⟧.view self.old).counts.read < (⟦<Session<'t> as Viewed>⟧.view self.new).counts.read }
-        ensures done { result ≡ Ok Progress.Done → Finishes (R.remaining (inner_of reader.old)) (R.remaining (inner_of reader.new)) (W.contents (inner_of writer.old)) (W.contents (inner_of writer.new)) (L.contents (inner_of log.old)) (L.contents (inner_of log.new)) (⟦<Session<'t> as Viewed>⟧.view self.old).counts (⟦<Session<'t> as Viewed>⟧.view self.new).counts (⟦<Session<'t> as Viewed>⟧.view self.old).job.limit (owed (⟦<Session<'t> as Viewed>⟧.view self.old)) }
+        ensures done { result ≡ Ok Progress.Done → Finishes (R.remaining (inner_of reader.old)) (R.remaining (inner_of reader.new)) (W.contents (inner_of writer.old)) (W.contents (inner_of writer.new)) (L.contents (inner_of log.old)) (L.contents (inner_of log.new)) (⟦<Session<'t> as Viewed>⟧.view self.old).counts (⟦<Session<'t> as Viewed>⟧.view self.new).counts (⟦<Session<'t> as Viewed>⟧.view self.old).job.limit (owed (⟦<Session<'t> as Viewed>⟧.view self.old)) (⟦<Session<'t> as Viewed>⟧.view self.old).source (⟦<Session<'t> as Viewed>⟧.view self.new).source }
         ensures fault { IfErr result (λ f. Stops (R.remaining (inner_of reader.old)) (R.remaining (inner_of reader.new)) (W.contents (inner_of writer.old)) (W.contents (inner_of writer.new)) (L.contents (inner_of log.old)) (L.contents (inner_of log.new)) (⟦<Session<'t> as Viewed>⟧.view self.old).counts (⟦<Session<'t> as Viewed>⟧.view self.old).job.limit (owed (⟦<Session<'t> as Viewed>⟧.view self.old)) f) }
         ensures untouched { of_other result ≡ 1 → Keeps (W.contents (inner_of writer.old)) (W.contents (inner_of writer.new)) × Keeps (L.contents (inner_of log.old)) (L.contents (inner_of log.new)) }
         ensures phase { (⟦<Session<'t> as Viewed>⟧.view self.new).phase ≡ phase_after result }

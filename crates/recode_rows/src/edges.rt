@@ -11,8 +11,8 @@ fn a_job_is_valid_up_to_its_edges(rt: HostRuntime) {
         (Mark::Keep, 0, true),
         (Mark::Keep, greatest, true),
         (Mark::Keep, greatest + 1, false),
-        (Mark::Sniff, greatest, false),
-        (Mark::Remove, greatest, false),
+        (Mark::Sniff, greatest, true),
+        (Mark::Remove, greatest, true),
     ];
     for (mark, limit, want) in rows {
         let job = Job {

@@ -11,6 +11,8 @@ mod faults;
 #[cfg(test)]
 mod limits;
 #[cfg(test)]
+mod marks;
+#[cfg(test)]
 mod pairs;
 #[cfg(test)]
 mod row;

@@ -2,7 +2,7 @@ use crate::source::Reads;
 use crate::trial::{LEAST, ROOMY, Trial, WAYS, recode};
 use encoding_front::{Encoding, UTF_8};
 use encoding_tables::IndexKind;
-use recode::Report;
+use recode::{Mark, Report};
 use std::alloc::AllocError;
 use std::process::Abort;
 
@@ -11,6 +11,9 @@ use std::process::Abort;
 pub struct Row {
     pub from: Encoding,
     pub to: Encoding,
+    pub mark: Mark,
+    /// What the input turns out to be in, where a mark of another encoding is taken.
+    pub found: Option<Encoding>,
     /// The texts of indexes. Those that are needed beside them are empty.
     pub index: &'static [(IndexKind, &'static [u8])],
     pub input: &'static [u8],
@@ -20,10 +23,12 @@ pub struct Row {
     pub lost: u64,
 }
 
-/// Nothing, from UTF-8 to UTF-8.
+/// Nothing, from UTF-8 to UTF-8 with marks kept.
 pub const EMPTY: Row = Row {
     from: UTF_8,
     to: UTF_8,
+    mark: Mark::Keep,
+    found: None,
     index: &[],
     input: b"",
     output: b"",
@@ -39,6 +44,7 @@ fn check(rt: &(impl Abort + AllocGlobal), row: Row, reads: Reads) -> Result<(), 
             let trial = Trial {
                 from: row.from,
                 to: row.to,
+                mark: row.mark,
                 index: row.index,
                 reads,
                 sizes,
@@ -52,7 +58,7 @@ fn check(rt: &(impl Abort + AllocGlobal), row: Row, reads: Reads) -> Result<(), 
                 bad: row.bad,
                 lost: row.lost,
                 calls: report.calls,
-                encoding: row.from,
+                encoding: row.found.unwrap_or(row.from),
                 faithful: row.log.is_empty(),
             };
             assert_eq!(rt; report, want, "{trial:?}");

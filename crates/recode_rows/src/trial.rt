@@ -51,11 +51,12 @@ pub enum Way {
 
 pub const WAYS: [Way; 2] = [Way::Run, Way::Steps];
 
-/// A conversion that keeps marks, and what its devices do.
+/// A conversion, and what its devices do.
 #[derive(Clone, Copy, Debug)]
 pub struct Trial {
     pub from: Encoding,
     pub to: Encoding,
+    pub mark: Mark,
     /// The texts of indexes. Those that are needed beside them are empty.
     pub index: &'static [(IndexKind, &'static [u8])],
     pub input: &'static [u8],
@@ -70,11 +71,12 @@ pub struct Trial {
 }
 
 impl Trial {
-    /// From UTF-8 to UTF-8: the input in one read, large buffers, and no fault.
+    /// From UTF-8 to UTF-8 with marks kept: the input in one read, large buffers, and no fault.
     pub fn new(input: &'static [u8]) -> Trial {
         Trial {
             from: UTF_8,
             to: UTF_8,
+            mark: Mark::Keep,
             index: &[],
             input,
             limit: GREATEST_LIMIT,
@@ -91,7 +93,7 @@ impl Trial {
         Job {
             from: self.from,
             to: self.to,
-            mark: Mark::Keep,
+            mark: self.mark,
             limit: self.limit,
             tables,
         }

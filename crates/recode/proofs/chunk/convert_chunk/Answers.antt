@@ -1,4 +1,4 @@
-use Rattle.std.proofs.Common.{◌∙◌, ◌++◌, arith, refl, ap, length, length-drop, drop_of_length-le}
+use Rattle.std.proofs.Common.{◌∙◌, ◌++◌, arith, refl, sym, ap, length, length-drop, drop_of_length-le}
 use Rattle.std.proofs.lemmas.List.{take_rest}
 use Rattle.recode.specs.Owed.{owes}
 use Rattle.recode.proofs.Traces.{PaysFor-start, PaysFor-trans, PaysFor-to, PaysFor-under, on_err}
@@ -7,6 +7,8 @@ use Rattle.recode.proofs.chunk.convert_chunk.Goals as goal
 pub chunk-init : goal.chunk-init
 chunk-init g c = record {
   pays = PaysFor-start _ _ _ _ _;
+  source = λ r h. refl;
+  open_ = c.requires.open_;
   passed = refl;
   sound = c.requires.sound;
   target = refl;
@@ -19,6 +21,8 @@ chunk-preserved g c =
     let rest_is = take_rest c.chunk.rest.now c.in_ok-turn.turn.read in
     record {
       pays = rw rest_is (PaysFor-trans _ _ _ _ _ _ _ _ _ _ _ _ _ c.chunk.invariant.pays (rw c.chunk.invariant.target at c.in_ok-turn.ensures.pays));
+      source = λ r h. c.chunk.invariant.source r h ∙ c.in_ok-turn.ensures.source r h ∙ ap (λ x. (g.D.StreamDecoder.view c.decode_once.new.decoder).source (x ++ r)) (sym rest_is);
+      open_ = c.in_ok-turn.ensures.more_open c.if-turn.false;
       passed = omega (arith, c.in_ok-turn.ensures.counted, c.chunk.invariant.passed, ap length rest_is, length-drop c.in_ok-turn.turn.read c.chunk.rest.now, c.in_ok-turn.ensures.within);
       sound = c.in_ok-turn.ensures.sound;
       target = c.decode_once.ensures.target ∙ c.chunk.invariant.target;
@@ -37,7 +41,12 @@ returns-then-turn-clause-pays g c =
     let all = drop_of_length-le c.chunk.rest.now {i = c.in_ok-turn.turn.read} (omega (arith, c.in_ok-turn.ensures.done c.if-turn.true)) in
     PaysFor-to _ _ _ _ _ _ _ _ _ _
     (PaysFor-trans _ _ _ _ _ _ _ _ _ _ _ _ _ c.chunk.invariant.pays (rw c.chunk.invariant.target at c.in_ok-turn.ensures.pays))
-    (λ r. ap (λ x. owes (g.D.RawDecoder.state c.decode_once.new.decoder) (g.E.RawEncoder.coding c.args.encoder.now) (g.E.RawEncoder.set c.decode_once.new.encoder) c.in_ok-turn.turn.counts (x ++ r)) all)
+    (λ r. ap (λ x. owes (g.D.StreamDecoder.view c.decode_once.new.decoder).state (g.E.RawEncoder.coding c.args.encoder.now) (g.E.RawEncoder.set c.decode_once.new.encoder) c.in_ok-turn.turn.counts (x ++ r)) all)
+
+pub returns-then-turn-clause-source : goal.returns-then-turn-clause-source
+returns-then-turn-clause-source g c r h =
+    let all = drop_of_length-le c.chunk.rest.now {i = c.in_ok-turn.turn.read} (omega (arith, c.in_ok-turn.ensures.done c.if-turn.true)) in
+    c.chunk.invariant.source r h ∙ c.in_ok-turn.ensures.source r h ∙ ap (λ x. (g.D.StreamDecoder.view c.decode_once.new.decoder).source (x ++ r)) all
 
 pub returns-then-turn-clause-end : goal.returns-then-turn-clause-end
 returns-then-turn-clause-end g c = rw c.chunk.invariant.target at (c.in_ok-turn.ensures.end c.if-turn.true)

@@ -1,4 +1,4 @@
-use Rattle.std.proofs.Common.{◌∙◌, Ok, refl, sym, ap, subst, arith}
+use Rattle.std.proofs.Common.{◌∙◌, Ok, refl, ap, subst, arith}
 use Rattle.recode.specs.Session.{IsOver, phase_after}
 use Rattle.recode.specs.contracts.session.SessionViewed.TheImpl.{ghosts}
 use Rattle.recode.proofs.Stepping.{goes_on_start, goes_on_more, goes_on_finish, goes_on_stop}
@@ -7,7 +7,7 @@ use Rattle.recode.proofs.session.run.Goals as goal
 
 pub run-init : goal.run-init
 run-init g c = record {
-  ran = goes_on_start _ _ _ _ _ _ (omega (arith, c.new-session.ensures.read));
+  ran = goes_on_start _ _ _ _ _ _ _ (omega (arith, c.new-session.ensures.read));
   open_ = c.new-session.ensures.open_;
   job = c.new-session.ensures.job;
   enough = c.requires.buffers;
@@ -35,7 +35,7 @@ pub run-preserved : goal.run-preserved
 run-preserved g c =
     let e = c.in-Ok-More.ensures in
     record {
-      ran = goes_on_more _ _ _ _ _ _ _ _ _ _ _ _ _ _ _ _ c.run.invariant.ran (rw c.run.invariant.job at (e.more (ap Ok c.in-Ok-More.field-0-is)));
+      ran = goes_on_more _ _ _ _ _ _ _ _ _ _ _ _ _ _ _ _ _ _ _ c.run.invariant.ran (rw c.run.invariant.job at (e.more (ap Ok c.in-Ok-More.field-0-is)));
       open_ = e.phase ∙ ap (λ p. phase_after (Ok p)) c.in-Ok-More.field-0-is;
       job = e.job ∙ c.run.invariant.job;
       enough = e.buffers;
@@ -48,11 +48,10 @@ pub returns-in-Ok-Done-clause-completes : goal.returns-in-Ok-Done-clause-complet
 returns-in-Ok-Done-clause-completes g c =
     let e = c.in-Ok-Done.ensures in
     completes _ _ _ _ _ _ c.args.job (ghosts.view c.new-session.result) (ghosts.view c.step.new.self) _ c.requires.job c.new-session.ensures
-    (goes_on_finish _ _ _ _ _ _ _ _ _ _ _ _ _ _ _ c.run.invariant.ran (rw c.run.invariant.job at (e.done (ap Ok c.in-Ok-Done.field-0-is))))
+    (goes_on_finish _ _ _ _ _ _ _ _ _ _ _ _ _ _ _ _ _ _ c.run.invariant.ran (rw c.run.invariant.job at (e.done (ap Ok c.in-Ok-Done.field-0-is))))
     c.totals.ensures
-    (e.job ∙ c.run.invariant.job ∙ sym c.new-session.ensures.job)
 
 pub returns-in-Err-clause-fails : goal.returns-in-Err-clause-fails
 returns-in-Err-clause-fails g c =
     fails _ _ _ _ _ _ c.args.job (ghosts.view c.new-session.result) _ c.new-session.ensures
-    (goes_on_stop _ _ _ _ _ _ _ _ _ _ _ _ _ _ _ c.run.invariant.ran (rw c.run.invariant.job at c.in-Err.ensures.fault))
+    (goes_on_stop _ _ _ _ _ _ _ _ _ _ _ _ _ _ _ _ _ c.run.invariant.ran (rw c.run.invariant.job at c.in-Err.ensures.fault))

@@ -14,7 +14,7 @@ returns-then-read-limit-clause-fault g c = stops_refused _ _ _ _ _ _ _ _ c.in-Ok
 
 pub returns-in-Err-clause-fault : goal.returns-in-Err-clause-fault
 returns-in-Err-clause-fault g c = stops_under _ _ _ _ _ _ c.args.self.now.counts c.args.limit _ _
-    (owes (g.D.RawDecoder.state c.args.self.now.decoder) (g.E.RawEncoder.coding c.args.self.now.encoder) (g.E.RawEncoder.set c.args.self.now.encoder) c.args.self.now.counts) _
+    (owes (g.D.StreamDecoder.view c.args.self.now.decoder).state (g.E.RawEncoder.coding c.args.self.now.encoder) (g.E.RawEncoder.set c.args.self.now.encoder) c.args.self.now.counts) _
     c.in-Ok.ensures.bytes.0
     (λ h. c.in-Ok.ensures.bytes.1 (eqb-true c.in-Ok.read 0 h) (omega (arith, c.read.auto.buf)))
     (is_writing Counts _ c.in-Err.ensures.only_writers)

@@ -1,0 +1,18 @@
+use Rattle.std.proofs.Common.{Ok, ◌∙◌, ap, sym}
+use Rattle.encoding_front.specs.contracts.decoder.DecoderStreamDecoder.TheImpl as decoder
+use Rattle.encoding_front.specs.contracts.variant_encoder.VariantEncoderRawEncoder.TheImpl as encoder
+use Rattle.recode.specs.Owed.{owes}
+use Rattle.recode.proofs.Traces.{PaysFor-to}
+use Rattle.recode.proofs.session.Session.step.Goals as goal
+
+pub returns-in-Ok-More-clause-more : goal.returns-in-Ok-More-clause-more
+returns-in-Ok-More-clause-more g c e =
+    let m = c.step_with-answer.ensures.more (c.in-Ok-More.is ∙ ap Ok (rw c.in-Ok-More.is at c.in-Ok-More.field-0-is)) in
+    record {
+      chunk = m.chunk;
+      consumed = m.consumed;
+      counted = m.counted;
+      within = m.within;
+      pays = PaysFor-to _ _ _ _ _ _ _ _ _ _ m.pays (λ r. ap (λ k. owes (decoder.ghosts.view c.step_with-answer.new.self.decoder).state k (encoder.ghosts.set c.step_with-answer.new.self.encoder) c.step_with-answer.new.self.counts r) (sym c.step_with-answer.ensures.target));
+      source = m.source;
+    }
