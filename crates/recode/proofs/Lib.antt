@@ -4,6 +4,7 @@ pub mod Owing
 pub mod Calls
 pub mod Stepping
 pub mod Wholes
+pub mod QuietLogs
 pub mod Runs
 pub mod InputLaws
 pub mod Conversions

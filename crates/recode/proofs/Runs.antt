@@ -1,25 +1,29 @@
 -- From steps to runs.
 use Rattle.std.proofs.Common.{◌≡◌, ℕ, zero, suc, drop, ◌+◌, ◌==◌, ◌&&◌, ◌↔◌, Bool, true, false, IsTrue, List, [], ◌∷◌, ◌++◌, length, refl, sym, ◌∙◌, ap, subst, arith, append-nil, Option}
 use Rattle.std.specs.Io.KnownBytes.{Appends}
+use Rattle.std.specs.List.{flat_map}
 use Rattle.std.specs.Str.{all_scalars}
 use Rattle.std.proofs.lemmas.Bool.{false≢true, eqb-true}
 use Rattle.encoding_mem.specs.Piece.{Piece, good, bad, text, text_of, AreGood, IsPiece, ArePieces, bad_count}
 use Rattle.encoding_mem.specs.Coding.{AllMapped, lost_count}
 use Rattle.encoding_mem.specs.ReadBackLaws.{all_mapped, none_lost}
 use Rattle.encoding_mem.specs.declared.form.Set.TheVariants.{Ascii}
+use Rattle.encoding_front.specs.Encodings.{KeepsCharacters}
 use Rattle.encoding_front.specs.EncodingsLaws.{are_pieces_of, reads_back_exactly}
 use Rattle.encoding_front.specs.Marks.{pieces_from, source_of}
 use Rattle.encoding_tables.specs.IndexLists.{IndexLists, AreAcceptedTables}
 use Rattle.encoding_front.specs.declared.encoding.Encoding.{Encoding}
+use Rattle.recode_log.specs.Line.{line_bytes}
 use Rattle.recode.specs.Marked.{Marked, Wrote, IsFront, marks, outputs, lines}
 use Rattle.recode.specs.Payment.{bad_lines, lost_lines}
-use Rattle.recode.specs.Job.{IsValidJob, Faithful, input_pieces, input_text, target_of, trace}
+use Rattle.recode.specs.Job.{IsValidJob, Faithful, input_pieces, input_text, target_of, log_of, trace}
 use Rattle.recode.specs.Session.{View, owed, Begins, Tells, IsReport, Completes, Fails}
 use Rattle.recode.specs.Step.{Finishes, Stops, PassesLimit}
 use Rattle.recode.specs.declared.fault.Fault.{Fault}
 use Rattle.recode.specs.declared.job.Job.{Job}
 use Rattle.recode.specs.declared.report.Report.{Report}
 use Rattle.recode.proofs.Traces.{outputs-append, lines-append}
+use Rattle.recode.proofs.QuietLogs.{no_lines, kept_where_no_lines, no_lines_without_bytes}
 use Rattle.recode.proofs.Wholes.{outputs-trace, lines-trace, bad_lines-trace, lost_lines-trace}
 
 -- No bad piece.
@@ -61,26 +65,45 @@ text_are_scalars : (j : Job) (x : List ℕ) → IsValidJob j → all_scalars (in
 text_are_scalars j x v = text_scalars (input_pieces j x) (are_pieces_from j.tables.now (source_of j.mark j.from x).0 (source_of j.mark j.from x).1 x v.tables)
 
 -- nothing was lost where each piece is good and each character has bytes, and only there
-pub faithful_where_kept : (j : Job) (x : List ℕ) → IsValidJob j → AreGood (input_pieces j x) → AllMapped (target_of j) (input_text j x) → Faithful j x
-faithful_where_kept j x v h k =
-    let back = (reads_back_exactly j.tables.now j.to v.kept v.tables (input_text j x) (text_are_scalars j x v)).1 k in
+pub faithful_where_kept : (j : Job) (x : List ℕ) → IsValidJob j → KeepsCharacters j.to → AreGood (input_pieces j x) → AllMapped (target_of j) (input_text j x) → Faithful j x
+faithful_where_kept j x v keeps h k =
+    let back = (reads_back_exactly j.tables.now j.to keeps v.tables (input_text j x) (text_are_scalars j x v)).1 k in
     record { source = h; target = back.good; same = back.same }
 
-pub kept_where_faithful : (j : Job) (x : List ℕ) → IsValidJob j → Faithful j x → AllMapped (target_of j) (input_text j x)
-kept_where_faithful j x v f = (reads_back_exactly j.tables.now j.to v.kept v.tables (input_text j x) (text_are_scalars j x v)).0 (record { good = f.target; same = f.same })
+pub kept_where_faithful : (j : Job) (x : List ℕ) → IsValidJob j → KeepsCharacters j.to → Faithful j x → AllMapped (target_of j) (input_text j x)
+kept_where_faithful j x v keeps f = (reads_back_exactly j.tables.now j.to keeps v.tables (input_text j x) (text_are_scalars j x v)).0 (record { good = f.target; same = f.same })
 
-verdict : (j : Job) (x : List ℕ) (b l : ℕ) (f : Bool) → IsValidJob j → b ≡ bad_count (input_pieces j x) → l ≡ lost_count (target_of j) (input_text j x) → f ≡ (b == 0 && l == 0) → IsTrue f ↔ Faithful j x
-verdict j x b l f v bad_is lost_is is = (
-  λ t.
+-- the log is empty exactly where each piece is good and each character has bytes
+pub quiet_where_kept : (j : Job) (x : List ℕ) → AreGood (input_pieces j x) → AllMapped (target_of j) (input_text j x) → log_of j x ≡ []
+quiet_where_kept j x h k = ap (flat_map line_bytes) (no_lines (target_of j) 0 0 (input_pieces j x) h k)
+
+pub kept_where_quiet : (j : Job) (x : List ℕ) → log_of j x ≡ [] → AreGood (input_pieces j x) × AllMapped (target_of j) (input_text j x)
+kept_where_quiet j x h = kept_where_no_lines (target_of j) 0 0 (input_pieces j x) (no_lines_without_bytes _ h)
+
+-- The verdict: nothing was counted.
+module _ (j : Job) (x : List ℕ) (b l : ℕ) (f : Bool) (bad_is : b ≡ bad_count (input_pieces j x)) (lost_is : l ≡ lost_count (target_of j) (input_text j x)) (is : f ≡ (b == 0 && l == 0)) where
+  kept_where_true : IsTrue f → AreGood (input_pieces j x) × AllMapped (target_of j) (input_text j x)
+  kept_where_true t =
       let both = both_true (b == 0) (l == 0) (sym is ∙ t) in
-      faithful_where_kept j x v
-      (none_bad (input_pieces j x) (sym bad_is ∙ eqb-true b 0 both.0))
-      (all_mapped (target_of j) (input_text j x) (sym lost_is ∙ eqb-true l 0 both.1)),
-  λ h.
-      let none : b ≡ 0 = bad_is ∙ good_count (input_pieces j x) h.source in
-      let kept : l ≡ 0 = lost_is ∙ none_lost (target_of j) (input_text j x) (kept_where_faithful j x v h) in
-      is ∙ ap (λ (n : ℕ). n == 0 && l == 0) none ∙ ap (λ (n : ℕ). 0 == 0 && n == 0) kept,
-)
+      (none_bad (input_pieces j x) (sym bad_is ∙ eqb-true b 0 both.0), all_mapped (target_of j) (input_text j x) (sym lost_is ∙ eqb-true l 0 both.1))
+
+  true_where_kept : AreGood (input_pieces j x) → AllMapped (target_of j) (input_text j x) → IsTrue f
+  true_where_kept h k =
+      let none : b ≡ 0 = bad_is ∙ good_count (input_pieces j x) h in
+      let kept : l ≡ 0 = lost_is ∙ none_lost (target_of j) (input_text j x) k in
+      is ∙ ap (λ (n : ℕ). n == 0 && l == 0) none ∙ ap (λ (n : ℕ). 0 == 0 && n == 0) kept
+
+  quiet_verdict : IsTrue f ↔ (log_of j x ≡ [])
+  quiet_verdict = (
+    λ t. let kept = kept_where_true t in quiet_where_kept j x kept.0 kept.1,
+    λ h. let kept = kept_where_quiet j x h in true_where_kept kept.0 kept.1,
+  )
+
+  verdict : IsValidJob j → KeepsCharacters j.to → IsTrue f ↔ Faithful j x
+  verdict v keeps = (
+    λ t. let kept = kept_where_true t in faithful_where_kept j x v keeps kept.0 kept.1,
+    λ h. true_where_kept h.source (kept_where_faithful j x v keeps h),
+  )
 
 -- The report.
 is_report : (j : Job) (x : List ℕ) (v w : View) (p : Report) → IsValidJob j → Begins v j → Tells w p → v.source x ≡ w.source [] → w.counts.read ≡ v.counts.read + length x
@@ -89,12 +112,14 @@ is_report j x v w p valid b t same read_is bad_is lost_is =
     let e = target_of j in
     let bads : p.bad ≡ bad_count (input_pieces j x) = omega (arith, t.bad, bad_is, b.bad, bad_lines-trace e Ascii 0 0 (input_pieces j x)) in
     let losts : p.lost ≡ lost_count e (input_text j x) = omega (arith, t.lost, lost_is, b.lost, lost_lines-trace e Ascii 0 0 (input_pieces j x)) in
+    let told : p.faithful ≡ (p.bad == 0 && p.lost == 0) = t.verdict ∙ ap (λ (n : ℕ). n == 0 && w.counts.lost == 0) (sym t.bad) ∙ ap (λ (n : ℕ). p.bad == 0 && n == 0) (sym t.lost) in
     record {
       read = omega (arith, t.read, read_is, b.read);
       bad = bads;
       lost = losts;
       encoding = t.encoding ∙ sym same ∙ b.source x;
-      faithful = verdict j x p.bad p.lost p.faithful valid bads losts (t.verdict ∙ ap (λ (n : ℕ). n == 0 && w.counts.lost == 0) (sym t.bad) ∙ ap (λ (n : ℕ). p.bad == 0 && n == 0) (sym t.lost));
+      quiet = quiet_verdict j x p.bad p.lost p.faithful bads losts told;
+      faithful = verdict j x p.bad p.lost p.faithful bads losts told valid;
     }
 
 pub completes : (a a' w w' l l' : Option (List ℕ)) (j : Job) (v u : View) (p : Report) → IsValidJob j → Begins v j → Finishes a a' w w' l l' v.counts u.counts j.limit (owed v) v.source u.source → Tells u p → Completes a a' w w' l l' j p

@@ -1,14 +1,15 @@
 -- What a whole conversion says by its status.
 use Rattle.std.specs.Prelude.{◌≡◌, ℕ, ◌<◌, ◌≤◌, ◌⊎◌, List, [], ◌++◌, length, take, Option, Bool, true, codes}
 use Rattle.std.specs.Io.KnownBytes.{Appends, Consumes, IsAtEnd}
+use Rattle.encoding_front.specs.Encodings.{KeepsCharacters}
 use Rattle.recode.specs.Job.{trace, output_of, log_of, Faithful}
 use Rattle.recode.specs.Marked.{Marked, Wrote, IsFront, marks, outputs, lines}
 use Rattle.recode.specs.declared.fault.Fault.{Fault}
 use Rattle.recode.specs.declared.fault.Fault.TheVariants.{Read, Write, Log, TooLong}
 use Rattle.recode.specs.declared.job.Job.{Job}
 
--- The input was read whole and is within the limit, output and log are whole, and the status tells whether anything
--- was lost.
+-- The input was read whole and is within the limit, output and log are whole, and the status tells whether the log
+-- has a line: where the target has no folds, whether anything was lost.
 pub record Converts (reader reader' writer writer' log log' : Option (List ℕ)) (j : Job) (status : ℕ) : Type 0 where
   pub input : List ℕ
   pub consumed : Consumes reader reader' input
@@ -18,8 +19,10 @@ pub record Converts (reader reader' writer writer' log log' : Option (List ℕ))
   pub output : Appends writer writer' (output_of j input)
   pub logged : Appends log log' (log_of j input)
   pub known : (status ≡ 0) ⊎ (status ≡ 1)
-  pub faithful : status ≡ 0 → Faithful j input
-  pub lossy : status ≡ 1 → Faithful j input → ⊥
+  pub quiet : status ≡ 0 → log_of j input ≡ []
+  pub told : status ≡ 1 → log_of j input ≡ [] → ⊥
+  pub faithful : KeepsCharacters j.to → status ≡ 0 → Faithful j input
+  pub lossy : KeepsCharacters j.to → status ≡ 1 → Faithful j input → ⊥
 
 -- more bytes were read than the limit
 pub record PassedLimit (reader reader' : Option (List ℕ)) (limit : ℕ) : Type 0 where

@@ -7,7 +7,7 @@ use Rattle.encoding_mem.specs.Items.{Item, trace_from}
 use Rattle.encoding_mem.specs.declared.form.Form.{Form}
 use Rattle.encoding_mem.specs.declared.form.Form.TheVariants.{Mapped, Unmapped}
 use Rattle.encoding_mem.specs.declared.form.Set.TheVariants.{Ascii}
-use Rattle.encoding_front.specs.Encodings.{IsReady, KeepsCharacters, pieces_of, coding_of, output_encoding_of}
+use Rattle.encoding_front.specs.Encodings.{IsReady, pieces_of, coding_of, output_encoding_of}
 use Rattle.encoding_front.specs.Marks.{marked_pieces, source_of}
 use Rattle.encoding_front.specs.declared.encoding.Encoding.{Encoding}
 use Rattle.encoding_tables.specs.IndexLists.{AreAcceptedTables}
@@ -16,12 +16,11 @@ use Rattle.recode_log.specs.declared.line.LogLine.{LogLine}
 use Rattle.recode_log.specs.declared.line.LogLine.TheVariants.{Bad, Lost}
 use Rattle.recode.specs.declared.job.Job.{Job}
 
--- the indexes of both encodings are there, as they were accepted; for the time being the target has no folds; the limit is that of the log's places
+-- the indexes of both encodings are there, as they were accepted; the limit is that of the log's places
 pub record IsValidJob (j : Job) : Type 0 where
   pub tables : AreAcceptedTables j.tables.now
   pub from : IsReady j.tables.now j.from
   pub to : IsReady j.tables.now (output_encoding_of j.to)
-  pub kept : KeepsCharacters j.to
   pub limit : j.limit ≤ 2 ^ 48
 
 -- the encoding that the input is in, which its byte order mark may say, if marks are taken

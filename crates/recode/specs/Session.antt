@@ -6,6 +6,7 @@ use Rattle.encoding_mem.specs.Decoding.{DecoderState}
 use Rattle.encoding_mem.specs.Coding.{Coding, lost_count}
 use Rattle.encoding_mem.specs.Items.{Item}
 use Rattle.encoding_mem.specs.declared.form.Set.{Set}
+use Rattle.encoding_front.specs.Encodings.{KeepsCharacters}
 use Rattle.encoding_front.specs.declared.encoding.Encoding.{Encoding}
 use Rattle.recode.specs.Job.{trace, target_of, output_of, log_of, source_in, input_pieces, input_text, Faithful}
 use Rattle.recode.specs.Marked.{Marked, Wrote, IsFront, marks, outputs, lines}
@@ -61,13 +62,14 @@ pub record Tells (v : View) (p : Report) : Type 0 where
   pub encoding : p.encoding ≡ v.source []
   pub verdict : p.faithful ≡ (v.counts.bad == 0 && v.counts.lost == 0)
 
--- the report on an input
+-- The report on an input. Where the target has no folds, that the log is empty means that nothing was lost.
 pub record IsReport (j : Job) (x : List ℕ) (p : Report) : Type 0 where
   pub read : p.read ≡ length x
   pub bad : p.bad ≡ bad_count (input_pieces j x)
   pub lost : p.lost ≡ lost_count (target_of j) (input_text j x)
   pub encoding : p.encoding ≡ source_in j x
-  pub faithful : IsTrue p.faithful ↔ Faithful j x
+  pub quiet : IsTrue p.faithful ↔ (log_of j x ≡ [])
+  pub faithful : KeepsCharacters j.to → IsTrue p.faithful ↔ Faithful j x
 
 -- A run that came to its end: the input was read whole and is within the limit, output and log are whole, and the
 -- report is of this input.

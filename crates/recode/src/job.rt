@@ -24,13 +24,12 @@ impl<'t> Job<'t> {
     ghost use Rattle.recode.specs.Job.{IsValidJob};
 
     /// Whether the job can be run: the indexes that the two encodings need are there, and its limit is at
-    /// most `GREATEST_LIMIT`. So far what is written has no folds (`keeps_characters`).
+    /// most `GREATEST_LIMIT`.
     pub fn is_valid(&self) -> bool
         ensures { IsTrue result ↔ IsValidJob self.now }
     {
         self.limit <= GREATEST_LIMIT
             && self.from.is_ready(self.tables)
             && self.to.output_encoding().is_ready(self.tables)
-            && self.to.keeps_characters()
     }
 }

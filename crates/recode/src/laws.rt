@@ -2,9 +2,9 @@
 
 ghost use Rattle.std.specs.Prelude.{◌≡◌, ◌↔◌, ◌<◌, ℕ, List, [], length, Option};
 ghost use Rattle.std.specs.Str.{IsUtf8};
-ghost use Rattle.encoding_mem.specs.Piece.{bad_count};
-ghost use Rattle.encoding_mem.specs.Coding.{lost_count};
-ghost use Rattle.encoding_front.specs.Encodings.{IsUtf8Encoding};
+ghost use Rattle.encoding_mem.specs.Piece.{AreGood, bad_count};
+ghost use Rattle.encoding_mem.specs.Coding.{AllMapped, lost_count};
+ghost use Rattle.encoding_front.specs.Encodings.{IsUtf8Encoding, KeepsCharacters};
 ghost use Rattle.encoding_front.specs.declared.mark.Mark.{Mark};
 ghost use Rattle.recode.specs.Job.{Faithful, IsValidJob, input_pieces, input_text, log_of, output_of, target_of, trace};
 ghost use Rattle.recode.specs.Marked.{lines, marks, outputs};
@@ -29,9 +29,14 @@ pub fn utf8_text_is_kept()
     ensures log { (j : Job) (x : List ℕ) → j.mark ≡ Mark.Keep → IsUtf8Encoding j.from → IsUtf8Encoding j.to → IsUtf8 x → log_of j x ≡ [] }
 {}
 
-/// Nothing was lost exactly where the log is empty.
+/// Where what is written has no folds, nothing was lost exactly where the log is empty.
 pub fn faithful_where_log_is_empty()
-    ensures { (j : Job) (x : List ℕ) → IsValidJob j → Faithful j x ↔ (log_of j x ≡ []) }
+    ensures { (j : Job) (x : List ℕ) → IsValidJob j → KeepsCharacters j.to → Faithful j x ↔ (log_of j x ≡ []) }
+{}
+
+/// The log is empty exactly where no piece of the input is bad, and each character of its text has bytes.
+pub fn log_is_empty()
+    ensures { (j : Job) (x : List ℕ) → (log_of j x ≡ []) ↔ (AreGood (input_pieces j x) × AllMapped (target_of j) (input_text j x)) }
 {}
 
 /// Of a reader that tells its bytes, a run that came to its end read them all: cuts and sizes of buffers change

@@ -13,7 +13,8 @@ pub struct Report {
     pub calls: u64,
     /// The encoding of the input, as its byte order mark says where one of another encoding is taken.
     pub encoding: Encoding,
-    /// Whether nothing was lost: no piece of the input is bad, and the output, decoded without mark
+    /// Whether the log is empty. Where what is written has no folds (`keeps_characters`), this holds
+    /// exactly if nothing was lost: no piece of the input is bad, and the output, decoded without mark
     /// handling, is the input's text.
     pub faithful: bool,
 }

@@ -1,4 +1,4 @@
-use encoding_front::UTF_8;
+use encoding_front::{GB18030, REPLACEMENT, SHIFT_JIS, UTF_8, UTF_16LE, X_USER_DEFINED};
 use encoding_tables::Tables;
 use recode::{Buffers, GREATEST_LIMIT, Job, Mark, Pivot};
 
@@ -23,6 +23,30 @@ fn a_job_is_valid_up_to_its_edges(rt: HostRuntime) {
             tables: &tables,
         };
         assert_eq!(rt; job.is_valid(), want, "{mark:?} {limit}");
+    }
+}
+
+#[test]
+fn a_job_needs_the_indexes_of_both_encodings(rt: HostRuntime) {
+    let tables = Tables::new(rt.alloc());
+    let rows = [
+        (UTF_8, SHIFT_JIS, false),
+        (SHIFT_JIS, UTF_8, false),
+        (UTF_8, GB18030, false),
+        (UTF_8, X_USER_DEFINED, true),
+        // What is written is UTF-8.
+        (UTF_16LE, UTF_16LE, true),
+        (REPLACEMENT, REPLACEMENT, true),
+    ];
+    for (from, to, want) in rows {
+        let job = Job {
+            from,
+            to,
+            mark: Mark::Sniff,
+            limit: 0,
+            tables: &tables,
+        };
+        assert_eq!(rt; job.is_valid(), want, "{from:?} {to:?}");
     }
 }
 

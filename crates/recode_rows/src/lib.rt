@@ -9,6 +9,8 @@ mod encodings;
 #[cfg(test)]
 mod faults;
 #[cfg(test)]
+mod folds;
+#[cfg(test)]
 mod limits;
 #[cfg(test)]
 mod marks;

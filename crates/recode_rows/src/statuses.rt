@@ -1,6 +1,7 @@
 use crate::sink::{Failure, Flushes, Manners, WILLING};
 use crate::source::Reads;
 use crate::trial::{LEAST, ROOMY, Trial, status};
+use encoding_front::SHIFT_JIS;
 use recode::{FAITHFUL, FAULT, NOT_FAITHFUL};
 use std::alloc::AllocError;
 use std::io::ErrorKind;
@@ -90,6 +91,23 @@ fn a_whole_conversion_tells_whether_it_is_faithful(rt: HostRuntime) -> Result<()
         check(&rt, &trial, lossy)?;
     }
     Ok(())
+}
+
+// ¥ is written as a backslash, and the log is empty.
+#[test]
+fn a_fold_is_not_told(rt: HostRuntime) -> Result<(), AllocError> {
+    let trial = Trial {
+        to: SHIFT_JIS,
+        ..Trial::new(b"\xC2\xA5")
+    };
+    let want = Want {
+        status: 0,
+        output: b"\\",
+        lines: "",
+        log: "",
+        failures: [0, 0, 0],
+    };
+    check(&rt, &trial, want)
 }
 
 #[test]
