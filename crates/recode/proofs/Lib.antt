@@ -9,3 +9,4 @@ pub mod Runs
 pub mod InputLaws
 pub mod Conversions
 pub mod CharacterCounts
+pub mod Loading

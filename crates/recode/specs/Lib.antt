@@ -9,3 +9,4 @@ pub mod JobRows
 pub mod Buffers
 pub mod Session
 pub mod Conversion
+pub mod Program

@@ -1,0 +1,42 @@
+use Rattle.std.proofs.Common.{◌≡◌, ◌⊎◌, ◌↔◌, ℕ, List, Option, Some, None, inl, inr, refl}
+use Rattle.encoding_front.specs.Encodings.{HasLabel}
+use Rattle.encoding_front.specs.declared.encoding.Encoding.{Encoding}
+use Rattle.recode.specs.Program.{IsUnknown}
+use Rattle.recode.proofs.program.run_words.Goals as goal
+
+unknown_of : (r : Option Encoding) (label bytes : List ℕ) → bytes ≡ label → r ≡ None → ((e : Encoding) → (r ≡ Some e) ↔ HasLabel e bytes) → IsUnknown label
+unknown_of r label bytes same none law e h =
+    let some : r ≡ Some e = (law e).1 (rw same h) in
+    cc
+
+known_of : (r : Option Encoding) (label bytes : List ℕ) (e : Encoding) → bytes ≡ label → r ≡ Some e → ((e : Encoding) → (r ≡ Some e) ↔ HasLabel e bytes) → HasLabel e label
+known_of r label bytes e same some law = rw same at (law e).0 some
+
+-- a label was refused, or memory for its message
+refused : {X Y Z : Type 0} (status : ℕ) → X → Y → (status ≡ 2) ⊎ (status ≡ 3) → ((status ≡ 2) × X × Y) ⊎ (((status ≡ 3) × Y) ⊎ Z)
+refused status x y (inl two) = inl (two, x, y)
+refused status x y (inr three) = inr (inl (three, y))
+
+pub returns-in_default : goal.returns-in_default
+returns-in_default g c =
+    refused c.refuse_label.result (inl (unknown_of c.for_label.result c.args.words.from.now c.as_bytes.result.now c.as_bytes.ensures.value c.in_default.is c.for_label.ensures))
+    record { unread = refl; unwritten = refl } c.refuse_label.ensures
+
+pub returns-in_default-for_label : goal.returns-in_default-for_label
+returns-in_default-for_label g c =
+    refused c.refuse_label-in_default-for_label.result
+    (inr (unknown_of c.for_label-2.result c.args.words.to.now c.as_bytes-2.result.now c.as_bytes-2.ensures.value c.in_default-for_label.is c.for_label-2.ensures))
+    record { unread = refl; unwritten = refl } c.refuse_label-in_default-for_label.ensures
+
+pub returns : goal.returns
+returns g c = inr (inr (
+  _,
+  record {
+    from = known_of c.for_label.result c.args.words.from.now c.as_bytes.result.now c.in-Some.from c.as_bytes.ensures.value c.in-Some.is c.for_label.ensures;
+    to = known_of c.for_label-2.result c.args.words.to.now c.as_bytes-2.result.now c.in-Some-for_label.to c.as_bytes-2.ensures.value c.in-Some-for_label.is c.for_label-2.ensures;
+    mark = c.mark_of.ensures;
+    limit = refl;
+    valid = record { tables = c.accepted.ensures; from = c.in-Ok.ensures.from; to = c.in-Ok.ensures.to; limit = c.requires.limit };
+  },
+  c.convert_in_buffers.ensures,
+))

@@ -1,0 +1,200 @@
+ghost use Rattle.std.specs.Prelude.{◌≡◌, ◌⊎◌, ◌≤◌, ◌<◌, ◌^◌, ◌-◌, ℕ, length, map, OnOk};
+ghost use Rattle.encoding_front.specs.Encodings.{IsReady, output_encoding_of};
+ghost use Rattle.recode_log.specs.Counted.{failures_of};
+ghost use Rattle.recode.specs.Job.{IsValidJob};
+ghost use Rattle.recode.specs.Program.{AnswersProgram, AnswersWords, IsConversion, mark_of};
+
+use crate::buffers::{Buffers, Pivot};
+use crate::conversion::{FAITHFUL, convert};
+use crate::index_source::IndexSource;
+use crate::indexes::{StartFault, load_indexes};
+use crate::job::Job;
+use crate::listing::listing;
+use encoding_front::{Encoding, Mark};
+use encoding_tables::Tables;
+use recode_log::counted::Counted;
+use recode_log::deliver::deliver;
+use recode_words::{MarkWord, Request, Words, WordsFault, parse_words};
+use std::alloc::Global;
+use std::io::{Read, Write};
+
+/// The status where the words are refused, or a label in them is unknown.
+pub const REFUSED: u8 = 2;
+
+/// The status where an index file is missing or faulty, or memory was refused before anything was read.
+pub const NOT_STARTED: u8 = 3;
+
+// Writes a text; where that fails, the rest of it is dropped.
+fn say<W: Write>(writer: &mut Counted<W>, text: &str)
+    requires { failures_of writer.old < 2 ^ 64 - 1 }
+{
+    match deliver(writer, text.as_bytes(), ()) {
+        Ok(()) => {}
+        Err(()) => {}
+    }
+}
+
+// Tells why nothing is read.
+fn refuse_start<L: Write>(alloc: Global, log: &mut Counted<L>, fault: &StartFault) -> u8
+    requires { failures_of log.old < 2 ^ 64 - 1 }
+    ensures { result ≡ 3 }
+{
+    match format!(in alloc; "recode: {fault}\n") {
+        Ok(text) => say(log, &text),
+        Err(_) => say(log, "recode: out of memory\n"),
+    }
+    NOT_STARTED
+}
+
+// Tells that no encoding has the label.
+fn refuse_label<L: Write>(alloc: Global, log: &mut Counted<L>, label: &str) -> u8
+    requires { failures_of log.old < 2 ^ 64 - 1 }
+    ensures { (result ≡ 2) ⊎ (result ≡ 3) }
+{
+    match format!(in alloc; "recode: unknown label {label}\n") {
+        Ok(text) => {
+            say(log, &text);
+            REFUSED
+        }
+        Err(_) => refuse_start(alloc, log, &StartFault::Memory),
+    }
+}
+
+// What the word for a mark mode says.
+fn mark_of(word: MarkWord) -> Mark
+    ensures { result ≡ mark_of word }
+{
+    match word {
+        MarkWord::Sniff => Mark::Sniff,
+        MarkWord::Remove => Mark::Remove,
+        MarkWord::Keep => Mark::Keep,
+    }
+}
+
+// The indexes that both encodings need.
+fn load_both<S: IndexSource>(
+    alloc: Global,
+    source: &mut S,
+    dir: &str,
+    from: Encoding,
+    to: Encoding,
+    tables: &mut Tables,
+) -> Result<(), StartFault>
+    ensures from { OnOk result (IsReady tables.new from) }
+    ensures to { OnOk result (IsReady tables.new (output_encoding_of to)) }
+{
+    load_indexes(alloc, source, dir, from, tables)?;
+    load_indexes(alloc, source, dir, to.output_encoding(), tables)
+}
+
+// Converts with buffers of 4096 bytes each.
+fn convert_in_buffers<R: Read, W: Write, L: Write>(
+    reader: &mut Counted<R>,
+    writer: &mut Counted<W>,
+    log: &mut Counted<L>,
+    job: Job<'_>,
+) -> u8
+    requires job { IsValidJob job }
+    requires reader { failures_of reader.old ≤ 2 ^ 64 - 5 }
+    requires writer { failures_of writer.old ≤ 2 ^ 64 - 5 }
+    requires log { failures_of log.old ≤ 2 ^ 64 - 5 }
+    ensures { IsConversion (λ r. R.remaining r) (λ w. W.contents w) (λ l. L.contents l) reader.old reader.new writer.old writer.new log.old log.new job.entry result }
+{
+    let mut input = [0u8; 4096];
+    let mut text = [0u8; 4096];
+    let mut output = [0u8; 4096];
+    let mut again = [0u8; 4096];
+    let pivot = Pivot::Utf8(&mut text);
+    let check = Pivot::Utf8(&mut again);
+    let mut buffers = Buffers {
+        input: &mut input,
+        pivot,
+        output: &mut output,
+        check,
+    };
+    convert(reader, writer, log, job, &mut buffers)
+}
+
+// Converts what the words say, if their labels are known and the indexes can be loaded.
+fn run_words<S: IndexSource, R: Read, W: Write, L: Write>(
+    alloc: Global,
+    words: Words<'_>,
+    source: &mut S,
+    reader: &mut Counted<R>,
+    writer: &mut Counted<W>,
+    log: &mut Counted<L>,
+) -> u8
+    requires limit { words.limit ≤ 2 ^ 48 }
+    requires reader { failures_of reader.old ≤ 2 ^ 64 - 5 }
+    requires writer { failures_of writer.old ≤ 2 ^ 64 - 5 }
+    requires log { failures_of log.old ≤ 2 ^ 64 - 5 }
+    ensures { AnswersWords (λ r. R.remaining r) (λ w. W.contents w) (λ l. L.contents l) reader.old reader.new writer.old writer.new log.old log.new words.entry result }
+{
+    let Some(from) = Encoding::for_label(words.from.as_bytes()) else {
+        return refuse_label(alloc, log, words.from);
+    };
+    let Some(to) = Encoding::for_label(words.to.as_bytes()) else {
+        return refuse_label(alloc, log, words.to);
+    };
+    let mut tables = Tables::new(alloc);
+    match load_both(alloc, source, words.indexes, from, to, &mut tables) {
+        Ok(()) => {}
+        Err(fault) => return refuse_start(alloc, log, &fault),
+    }
+    tables.accepted();
+    let job = Job {
+        from,
+        to,
+        mark: mark_of(words.mark),
+        limit: words.limit,
+        tables: &tables,
+    };
+    convert_in_buffers(reader, writer, log, job)
+}
+
+/// Does what the words ask for, the program's name first, as `parse_words` of `recode_words` reads them,
+/// and answers the exit status. The help, the version and the list of encodings go to the writer, with
+/// status 0.
+///
+/// A run looks up the label of `--from`, then that of `--to`, reads the index files that the source
+/// and then the target's output encoding need, each once, and converts with buffers of 4096 elements.
+/// The form of the text in between is UTF-8 with `--pivot utf16` too: what is written is the same.
+///
+/// The statuses 0, 1 and 4 are those of `convert`. Otherwise a message says why nothing was read:
+/// - 2 (`REFUSED`): that of `clap`, or `recode: unknown label WORD`;
+/// - 3 (`NOT_STARTED`): `recode: FILE: missing`, `recode: FILE: line N: KIND` with a kind of
+///   `IndexFaultKind`, `recode: FILE: table: KIND` with one of `TableFault`, and `recode: out of memory`
+///   wherever memory was refused.
+///
+/// Messages go to the log. What can't be written of a message or a text is dropped.
+pub fn program<S: IndexSource, R: Read, W: Write, L: Write>(
+    alloc: Global,
+    words: &[&str],
+    source: &mut S,
+    reader: &mut Counted<R>,
+    writer: &mut Counted<W>,
+    log: &mut Counted<L>,
+) -> u8
+    requires words { 0 < length words.now }
+    requires reader { failures_of reader.old ≤ 2 ^ 64 - 5 }
+    requires writer { failures_of writer.old ≤ 2 ^ 64 - 5 }
+    requires log { failures_of log.old ≤ 2 ^ 64 - 5 }
+    ensures { AnswersProgram (λ r. R.remaining r) (λ w. W.contents w) (λ l. L.contents l) reader.old reader.new writer.old writer.new log.old log.new (map (λ s. s.now) words.now) result }
+{
+    match parse_words(alloc, words) {
+        Ok(Request::Run(words)) => run_words(alloc, words, source, reader, writer, log),
+        Ok(Request::Help(text)) | Ok(Request::Version(text)) => {
+            say(writer, &text);
+            FAITHFUL
+        }
+        Ok(Request::List) => {
+            say(writer, listing());
+            FAITHFUL
+        }
+        Err(WordsFault::Refused(text)) => {
+            say(log, &text);
+            REFUSED
+        }
+        Err(WordsFault::OutOfMemory) => refuse_start(alloc, log, &StartFault::Memory),
+    }
+}
