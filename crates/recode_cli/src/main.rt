@@ -1,42 +1,62 @@
-//! Recodes standard input to standard output, and tells on standard error what was lost.
+//! Recodes standard input to standard output, as the words of the command line ask, and tells on standard
+//! error what was lost.
 #![tactic(auto)]
 
 mod system_files;
 
-use encoding_front::UTF_8;
-use encoding_tables::Tables;
-use recode::{Buffers, GREATEST_LIMIT, Job, Mark, Pivot, convert};
+use crate::system_files::SystemFiles;
+use recode::program::{NOT_STARTED, REFUSED, program};
 use recode_log::counted::Counted;
+use std::alloc::{AllocError, Global};
+use std::env;
+use std::io::{ErrorKind, Write};
 use std::process::ExitCode;
 
-fn run(rt: &HostRuntime) -> u8 {
-    let tables = Tables::new(rt.alloc());
-    let job = Job {
-        from: UTF_8,
-        to: UTF_8,
-        mark: Mark::Keep,
-        limit: GREATEST_LIMIT,
-        tables: &tables,
-    };
-    let mut input = [0u8; 4096];
-    let mut text = [0u8; 4096];
-    let mut output = [0u8; 4096];
-    let mut again = [0u8; 4096];
-    let pivot = Pivot::Utf8(&mut text);
-    let check = Pivot::Utf8(&mut again);
-    let mut buffers = Buffers {
-        input: &mut input,
-        pivot,
-        output: &mut output,
-        check,
-    };
-    convert(
+// Writes a message to standard error; where that fails, it is dropped.
+fn tell(rt: &HostRuntime, message: &str) {
+    let _ = rt.stderr().write_all(message.as_bytes());
+}
+
+// The words as slices of text.
+fn slices<'a>(alloc: Global, words: &'a [String]) -> Result<Vec<&'a str>, AllocError> {
+    words.iter().map(|word| word.as_str()).collect(alloc)
+}
+
+fn out_of_memory(rt: &HostRuntime) -> u8 {
+    tell(rt, "recode: out of memory\n");
+    NOT_STARTED
+}
+
+// Does what the words ask for. Where there are none, not even a name, the program has its own.
+fn answer(rt: &HostRuntime, words: &[&str]) -> u8 {
+    let words = if words.is_empty() { &["recode"] } else { words };
+    program(
+        rt.alloc(),
+        words,
+        &mut SystemFiles::new(rt),
         &mut Counted::new(rt.stdin()),
         &mut Counted::new(rt.stdout()),
         &mut Counted::new(rt.stderr()),
-        job,
-        &mut buffers,
     )
+}
+
+fn run(rt: &HostRuntime) -> u8 {
+    let alloc = rt.alloc();
+    let collected: Result<Vec<String>, AllocError> = match env::args(rt) {
+        Ok(words) => words.collect(alloc),
+        Err(error) if error.kind() == ErrorKind::OutOfMemory => return out_of_memory(rt),
+        Err(_) => {
+            tell(rt, "recode: a word is not UTF-8\n");
+            return REFUSED;
+        }
+    };
+    let Ok(words) = collected else {
+        return out_of_memory(rt);
+    };
+    match slices(alloc, words.as_slice()) {
+        Ok(words) => answer(rt, words.as_slice()),
+        Err(_) => out_of_memory(rt),
+    }
 }
 
 fn main(rt: HostRuntime) -> ExitCode {
