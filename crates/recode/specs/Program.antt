@@ -80,22 +80,22 @@ AnswersWords left written logged reader reader' writer writer' log log' w status
 
 -- What is answered to the program's words: they are refused, or the start fails, with nothing read and nothing written
 -- but a message; or they ask for a text, with nothing read and no message; or the job that they mean is converted.
-pub record Refuses {R W : Type 0} (reader reader' : Counted R) (writer writer' : Counted W) (words : List (List ℕ)) (status : ℕ) : Type 0 where
+pub record RefusesWords {R W : Type 0} (reader reader' : Counted R) (writer writer' : Counted W) (words : List (List ℕ)) (status : ℕ) : Type 0 where
   pub answered : status ≡ 2
   pub refused : IsRefusedByClap words ⊎ (HasMeaninglessValue words ⊎ NamesUnknown words)
   pub alone : IsLeftAlone reader reader' writer writer'
 
-pub record Fails {R W : Type 0} (reader reader' : Counted R) (writer writer' : Counted W) (status : ℕ) : Type 0 where
+pub record FailsToStart {R W : Type 0} (reader reader' : Counted R) (writer writer' : Counted W) (status : ℕ) : Type 0 where
   pub answered : status ≡ 3
   pub alone : IsLeftAlone reader reader' writer writer'
 
-pub record Tells {R L : Type 0} (reader reader' : Counted R) (log log' : Counted L) (words : List (List ℕ)) (status : ℕ) : Type 0 where
+pub record TellsText {R L : Type 0} (reader reader' : Counted R) (log log' : Counted L) (words : List (List ℕ)) (status : ℕ) : Type 0 where
   pub answered : status ≡ 0
   pub asked : AskForText words
   pub unread : reader' ≡ reader
   pub unlogged : log' ≡ log
 
-pub record Runs {R W L : Type 0} (left : R → Option (List ℕ)) (written : W → Option (List ℕ)) (logged : L → Option (List ℕ)) (reader reader' : Counted R) (writer writer' : Counted W) (log log' : Counted L) (words : List (List ℕ)) (status : ℕ) : Type 0 where
+pub record RunsJob {R W L : Type 0} (left : R → Option (List ℕ)) (written : W → Option (List ℕ)) (logged : L → Option (List ℕ)) (reader reader' : Counted R) (writer writer' : Counted W) (log log' : Counted L) (words : List (List ℕ)) (status : ℕ) : Type 0 where
   pub w : Words
   pub meant : Answers words (Run w)
   pub j : Job
@@ -104,7 +104,7 @@ pub record Runs {R W L : Type 0} (left : R → Option (List ℕ)) (written : W �
 
 abbrev pub AnswersProgram : {R W L : Type 0} (left : R → Option (List ℕ)) (written : W → Option (List ℕ)) (logged : L → Option (List ℕ)) (reader reader' : Counted R) (writer writer' : Counted W) (log log' : Counted L) → List (List ℕ) → ℕ → Type 0
 AnswersProgram left written logged reader reader' writer writer' log log' words status =
-    Refuses reader reader' writer writer' words status
-    ⊎ (Fails reader reader' writer writer' status
-    ⊎ (Tells reader reader' log log' words status
-    ⊎ Runs left written logged reader reader' writer writer' log log' words status))
+    RefusesWords reader reader' writer writer' words status
+    ⊎ (FailsToStart reader reader' writer writer' status
+    ⊎ (TellsText reader reader' log log' words status
+    ⊎ RunsJob left written logged reader reader' writer writer' log log' words status))

@@ -34,13 +34,31 @@ fn say<W: Write>(writer: &mut Counted<W>, text: &str)
     }
 }
 
-// Tells why nothing is read.
+// Writes a text that the words ask for.
+fn tell_text<W: Write>(writer: &mut Counted<W>, text: &str) -> u8
+    requires { failures_of writer.old < 2 ^ 64 - 1 }
+    ensures { result ≡ 0 }
+{
+    say(writer, text);
+    FAITHFUL
+}
+
+// Tells why the words are refused.
+fn refuse_words<L: Write>(log: &mut Counted<L>, message: &str) -> u8
+    requires { failures_of log.old < 2 ^ 64 - 1 }
+    ensures { result ≡ 2 }
+{
+    say(log, message);
+    REFUSED
+}
+
+// Tells which index is not there, or that memory was refused.
 fn refuse_start<L: Write>(alloc: Global, log: &mut Counted<L>, fault: &StartFault) -> u8
     requires { failures_of log.old < 2 ^ 64 - 1 }
     ensures { result ≡ 3 }
 {
     match format!(in alloc; "recode: {fault}\n") {
-        Ok(text) => say(log, &text),
+        Ok(message) => say(log, &message),
         Err(_) => say(log, "recode: out of memory\n"),
     }
     NOT_STARTED
@@ -52,10 +70,7 @@ fn refuse_label<L: Write>(alloc: Global, log: &mut Counted<L>, label: &str) -> u
     ensures { (result ≡ 2) ⊎ (result ≡ 3) }
 {
     match format!(in alloc; "recode: unknown label {label}\n") {
-        Ok(text) => {
-            say(log, &text);
-            REFUSED
-        }
+        Ok(message) => refuse_words(log, &message),
         Err(_) => refuse_start(alloc, log, &StartFault::Memory),
     }
 }
@@ -183,18 +198,9 @@ pub fn program<S: IndexSource, R: Read, W: Write, L: Write>(
 {
     match parse_words(alloc, words) {
         Ok(Request::Run(words)) => run_words(alloc, words, source, reader, writer, log),
-        Ok(Request::Help(text)) | Ok(Request::Version(text)) => {
-            say(writer, &text);
-            FAITHFUL
-        }
-        Ok(Request::List) => {
-            say(writer, listing());
-            FAITHFUL
-        }
-        Err(WordsFault::Refused(text)) => {
-            say(log, &text);
-            REFUSED
-        }
+        Ok(Request::Help(text)) | Ok(Request::Version(text)) => tell_text(writer, &text),
+        Ok(Request::List) => tell_text(writer, listing()),
+        Err(WordsFault::Refused(message)) => refuse_words(log, &message),
         Err(WordsFault::OutOfMemory) => refuse_start(alloc, log, &StartFault::Memory),
     }
 }
