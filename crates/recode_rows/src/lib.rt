@@ -17,6 +17,8 @@ mod marks;
 #[cfg(test)]
 mod pairs;
 #[cfg(test)]
+mod programs;
+#[cfg(test)]
 mod row;
 #[cfg(test)]
 mod sink;
