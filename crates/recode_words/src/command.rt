@@ -33,9 +33,9 @@ Log, on standard error, a line for each loss:
 Numbers are decimal. OFFSET and INDEX count bytes and characters from 0.
 
 Exit status:
-  0  all was converted, and nothing was lost
-  1  all was converted, and something was lost: the log says what; if it is empty, a character
-     was written as one like it, as U+00A5 as the byte 5C in Shift_JIS
+  0  all was converted, and the log is empty: nothing was lost, but that Shift_JIS, EUC-JP,
+     ISO-2022-JP, gb18030 and GBK write some characters as others, as U+00A5 as the byte 5C
+  1  all was converted, and something was lost: the log says what
   2  the words were refused
   3  an index file is missing or faulty, or memory was refused at the start
   4  a read, a write or a write of the log failed, or the input is longer than the limit
