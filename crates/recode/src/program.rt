@@ -181,7 +181,8 @@ fn run_words<S: IndexSource, R: Read, W: Write, L: Write>(
 ///   `IndexFaultKind`, `recode: FILE: table: KIND` with one of `TableFault`, and `recode: out of memory`
 ///   wherever memory was refused.
 ///
-/// Messages go to the log. What can't be written of a message or a text is dropped.
+/// Messages go to the log. What can't be written of a message or a text is dropped, and neither is
+/// flushed.
 pub fn program<S: IndexSource, R: Read, W: Write, L: Write>(
     alloc: Global,
     words: &[&str],
