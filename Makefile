@@ -1,18 +1,25 @@
 PREFIX = /usr/local
+FROM = utf-8
+TO = utf-8
 
 .PHONY: build test run install
 
 # Proves the program and all that it stands on, and builds it: crates/recode_cli/out/recode_cli.
 build:
-	@cd crates/recode_cli && rt run < /dev/null
+	@cd crates/recode_cli && rt run -- --version > /dev/null
 
-# The merge gate.
+# The merge gate, and that the index texts of the program are those that the tests load.
 test:
+	@diff -r indexes crates/encoding_index_files/data
 	@rt ci
 
-# The program on standard input, proved and built before where something has changed.
+# The program on standard input, from FROM to TO, proved and built before where something has changed.
 run:
-	@cd crates/recode_cli && rt run
+	@cd crates/recode_cli && rt run -- --from $(FROM) --to $(TO) --indexes $(CURDIR)/indexes
 
+# The program, its man page and the index texts.
 install: build
 	@install -D -m 755 crates/recode_cli/out/recode_cli $(DESTDIR)$(PREFIX)/bin/recode
+	@install -D -m 644 man/recode.1 $(DESTDIR)$(PREFIX)/share/man/man1/recode.1
+	@install -d $(DESTDIR)$(PREFIX)/share/recode/indexes
+	@install -m 644 indexes/* $(DESTDIR)$(PREFIX)/share/recode/indexes
