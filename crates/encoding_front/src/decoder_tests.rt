@@ -66,7 +66,9 @@ fn tables_with(
         }
     }
     let mut tables = Tables::new(alloc);
-    tables.insert(kind, &list)?;
+    if !kind.is_ranges() {
+        tables.insert(kind, &list)?;
+    }
     Ok(tables)
 }
 
