@@ -155,15 +155,14 @@ fn ahead(held: &[u8]) -> usize
     }
 }
 
-// The greater of two numbers where the first is asked for, and there.
-fn greater_if(is_asked: bool, other: Option<usize>, own: usize) -> Option<usize>
-    ensures { result ≡ greater_if is_asked other (Some own) }
+// The greater of two numbers where the second is asked for, and there.
+fn greater_if(is_asked: bool, other: Option<usize>, number: usize) -> Option<usize>
+    ensures { result ≡ greater_if is_asked other (Some number) }
 {
     if !is_asked {
-        return Some(own);
+        return Some(number);
     }
-    let other = other?;
-    Some(if own < other { other } else { own })
+    Some(number.max(other?))
 }
 
 impl<D: Switches> PieceDecoder for MarkedDecoder<D> {
