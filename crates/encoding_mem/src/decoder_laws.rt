@@ -1,14 +1,15 @@
 // Laws of the decoders' definitions.
 
-ghost use Rattle.std.specs.Prelude.{◌≢◌, ◌≡◌, ◌+◌, ◌-◌, ◌≤◌, true, false, List, [], ℕ, length, drop, encode_utf8_all};
+ghost use Rattle.std.specs.Prelude.{◌≢◌, ◌≡◌, ◌+◌, ◌-◌, ◌≤◌, Bool, true, false, List, [], ℕ, length, drop, encode_utf8_all};
 ghost use Rattle.std.specs.Str.{all_scalars};
 ghost use Rattle.encoding_mem.specs.Piece.{Piece};
-ghost use Rattle.encoding_mem.specs.Decoding.{EventLaw, StateLaw, EndsWith, IsUndecided, IsDecided};
+ghost use Rattle.encoding_mem.specs.Decoding.{DecoderState, EventLaw, StateLaw, EndsWith, IsUndecided, IsDecided};
 ghost use Rattle.encoding_mem.specs.Driver.{Suffices};
 ghost use Rattle.encoding_mem.specs.Room.{room_of};
 ghost use Rattle.encoding_mem.specs.Writing.{Adds};
 ghost use Rattle.encoding_mem.specs.Text.{text_pieces};
 ghost use Rattle.encoding_mem.specs.Utf8.{pieces_utf8};
+ghost use Rattle.encoding_mem.specs.declared.decoder_result.DecoderResult.{DecoderResult};
 ghost use Rattle.encoding_mem.specs.declared.room.Count.TheVariants.{Bytes};
 
 use crate::decoder_result::DecoderResult;
@@ -36,6 +37,14 @@ pub fn decode_with_events<D: RawDecoder>(
 {
     decoder.decode_to_utf8_raw(src, dst, last)
 }
+
+/// The law over events, of every call that meets the state law and adds its text to a slice: in bytes or
+/// units, raw or with byte order marks.
+pub fn calls_have_events()
+    ensures { (before after : DecoderState) (src : List ℕ) (last : Bool) (read : ℕ) (encode : List ℕ → List ℕ) (old new : List ℕ) (written : ℕ) (outcome : DecoderResult)
+        → StateLaw before after src last read (λ text. Adds old 0 (encode text) new written) outcome
+        → EventLaw before after src last read (λ text. Adds old 0 (encode text) new written) outcome }
+{}
 
 /// What waits for more decides nothing.
 pub fn undecided_decides_nothing()

@@ -66,7 +66,7 @@ pub use latin1_texts::{Latin1Bytes, decode_latin1, encode_latin1_lossy};
 pub use raw_decoder::RawDecoder;
 pub use raw_encoder::RawEncoder;
 pub use text_destinations::{
-    convert_latin1_to_str, convert_latin1_to_str_partial, convert_utf16_to_str,
+    clear_behind, convert_latin1_to_str, convert_latin1_to_str_partial, convert_utf16_to_str,
     convert_utf16_to_str_partial,
 };
 pub use utf8::Utf8Decoder;

@@ -1,7 +1,7 @@
 // Conversions to UTF-8 in a destination that is text before the call and after it.
 
-ghost use Rattle.std.specs.Prelude.{◌≡◌, ℕ, ◌*◌, ◌≤◌, length, take, drop, encode_utf8_all};
-ghost use Rattle.std.specs.Str.{IsUtf8};
+ghost use Rattle.std.specs.Prelude.{◌≡◌, ℕ, ◌*◌, ◌≤◌, true, List, length, take, drop, encode_utf8_all};
+ghost use Rattle.std.specs.Str.{IsUtf8, all_scalars};
 ghost use Rattle.encoding_mem.specs.Conversions.{IsLongest, IsUnitBoundary, units_in_utf8};
 ghost use Rattle.encoding_mem.specs.TextDestination.{cleared};
 
@@ -19,6 +19,19 @@ fn clear_front(bytes: &mut [u8])
     }
 }
 
+/// Clears what is behind the first `written` bytes of a destination that was a text before they were
+/// overwritten: the continuation bytes there, of a character whose front is gone, become 00. So it is a text
+/// again where what was written is one. Nothing else changes.
+pub fn clear_behind(dst: &mut [u8], written: usize)
+    requires { written ≤ length dst.old }
+    ensures front { take written dst.new ≡ take written dst.old }
+    ensures behind { drop written dst.new ≡ cleared (drop written dst.old) }
+    ensures utf8 { (text before : List ℕ) → all_scalars text ≡ true → IsUtf8 before → take written dst.old ≡ encode_utf8_all text
+        → drop written dst.old ≡ drop written before → IsUtf8 dst.new }
+{
+    clear_front(&mut dst[written..]);
+}
+
 /// Converts the longest prefix of whole characters that fits, as `convert_utf16_to_utf8_partial`, into a
 /// text. Of a character whose front is overwritten the other bytes become 00, so that it stays a text.
 pub fn convert_utf16_to_str_partial(src: &[u16], dst: &mut [u8]) -> (usize, usize)
@@ -31,7 +44,7 @@ pub fn convert_utf16_to_str_partial(src: &[u16], dst: &mut [u8]) -> (usize, usiz
     ensures utf8 { IsUtf8 dst.new }
 {
     let (read, written) = convert_utf16_to_utf8_partial(src, dst);
-    clear_front(&mut dst[written..]);
+    clear_behind(dst, written);
     (read, written)
 }
 
@@ -61,7 +74,7 @@ pub fn convert_latin1_to_str_partial(src: &[u8], dst: &mut [u8]) -> (usize, usiz
     ensures utf8 { IsUtf8 dst.new }
 {
     let (read, written) = convert_latin1_to_utf8_partial(src, dst);
-    clear_front(&mut dst[written..]);
+    clear_behind(dst, written);
     (read, written)
 }
 

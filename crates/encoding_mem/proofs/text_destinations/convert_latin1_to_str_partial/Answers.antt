@@ -1,21 +1,17 @@
-use Rattle.std.proofs.Common.{◌∙◌, take, arith}
-use Rattle.encoding_mem.proofs.ClearedText.{put_front, cleared_behind, text_stays, take_low, bytes_are_scalars}
+use Rattle.std.proofs.Common.{◌∙◌, ap, take, arith}
+use Rattle.encoding_mem.specs.TextDestination.{cleared}
+use Rattle.encoding_mem.proofs.ClearedText.{take_low, bytes_are_scalars}
 use Rattle.encoding_mem.proofs.text_destinations.convert_latin1_to_str_partial.Goals as goal
 
 pub returns-clause-text : goal.returns-clause-text
-returns-clause-text c =
-    let f = c.convert_latin1_to_utf8_partial-read in
-    put_front f.result.1 f.new.dst c.clear_front.new.bytes f.ensures.fits ∙ f.ensures.text
+returns-clause-text c = c.clear_behind.ensures.front ∙ c.convert_latin1_to_utf8_partial-read.ensures.text
 
 pub returns-clause-behind : goal.returns-clause-behind
-returns-clause-behind c =
-    let f = c.convert_latin1_to_utf8_partial-read in
-    cleared_behind f.result.1 f.new.dst c.clear_front.new.bytes c.args.dst.now f.ensures.fits c.clear_front.ensures f.ensures.behind
+returns-clause-behind c = c.clear_behind.ensures.behind ∙ ap cleared c.convert_latin1_to_utf8_partial-read.ensures.behind
 
 pub returns-clause-utf8 : goal.returns-clause-utf8
 returns-clause-utf8 c =
     let f = c.convert_latin1_to_utf8_partial-read in
-    let are = bytes_are_scalars (take f.result.0 c.args.src.now) (take_low 256 f.result.0 c.args.src.now (omega arith) (λ k. omega (arith, c.type_inv.src k))) in
-    text_stays (take f.result.0 c.args.src.now) c.args.dst.now _ f.result.1 are c.requires
-    (put_front f.result.1 f.new.dst c.clear_front.new.bytes f.ensures.fits ∙ f.ensures.text)
-    (cleared_behind f.result.1 f.new.dst c.clear_front.new.bytes c.args.dst.now f.ensures.fits c.clear_front.ensures f.ensures.behind)
+    c.clear_behind.ensures.utf8 (take f.result.0 c.args.src.now) c.args.dst.now
+    (bytes_are_scalars (take f.result.0 c.args.src.now) (take_low 256 f.result.0 c.args.src.now (omega arith) (λ k. omega (arith, c.type_inv.src k))))
+    c.requires f.ensures.text f.ensures.behind
