@@ -14,3 +14,4 @@ pub mod SettledCalls
 pub mod MarkSources
 pub mod AskedRoom
 pub mod DecodedTexts
+pub mod TextDestinations

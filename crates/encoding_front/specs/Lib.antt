@@ -10,5 +10,6 @@ pub mod Seeking
 pub mod SeekingLaws
 pub mod MarkedState
 pub mod TakesMark
+pub mod Latin1Prefix
 pub mod Stream
 pub mod DecodedText

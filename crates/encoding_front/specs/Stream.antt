@@ -1,5 +1,5 @@
 -- A decoder of a stream, as its callers know it.
-use Rattle.std.specs.Prelude.{◌≡◌, ℕ, ◌+◌, ◌||◌, ◌&&◌, nat_lt, Bool, true, false, if◌then◌else◌, Option, None, Some, List, [], ◌∷◌, refl}
+use Rattle.std.specs.Prelude.{◌≡◌, ℕ, ◌+◌, ◌||◌, ◌&&◌, nat_lt, Bool, true, false, if◌then◌else◌, IsTrue, Option, None, Some, List, [], ◌∷◌, ◌++◌, length, refl}
 use Rattle.encoding_mem.specs.Decoding.{DecoderState}
 use Rattle.encoding_mem.specs.Room.{queried, room_utf8, room_utf16, room_single_byte, room_replacement}
 use Rattle.encoding_mem.specs.declared.decoder_result.DecoderResult.{DecoderResult}
@@ -8,14 +8,16 @@ use Rattle.encoding_mem.specs.declared.room.Count.{Count}
 use Rattle.encoding_mem.specs.declared.room.Count.TheVariants.{Units, Bytes, Replaced}
 use Rattle.encoding_mem.specs.declared.room.Room.{Room}
 use Rattle.encoding_tables.specs.IndexLists.{IndexLists}
-use Rattle.encoding_front.specs.Encodings.{room_of_encoding}
+use Rattle.encoding_front.specs.Encodings.{pieces_of, room_of_encoding}
+use Rattle.encoding_front.specs.Latin1Prefix.{latin1_rule, IsAtRest, IsLatin1Prefix}
 use Rattle.encoding_front.specs.Marks.{marked_pieces, source_of}
-use Rattle.encoding_front.specs.Seeking.{can_be, encoding_of_mark, nothing_sought, sought_by}
+use Rattle.encoding_front.specs.Seeking.{can_be, encoding_of_mark, find_mark, is_sought, nothing_sought, sought_by, sought_pieces}
 use Rattle.encoding_front.specs.declared.encoding.Encoding.{Encoding}
 use Rattle.encoding_front.specs.declared.mark.Mark.{Mark}
 use Rattle.encoding_front.specs.declared.mark.Mark.TheVariants.{Sniff}
 use Rattle.encoding_front.specs.declared.seeking.ByteOrderMark.{ByteOrderMark}
 use Rattle.encoding_front.specs.declared.seeking.ByteOrderMark.TheVariants.{Utf8, Utf16Be, Utf16Le}
+use Rattle.encoding_front.specs.declared.seeking.Seen.{Seen}
 use Rattle.encoding_front.specs.declared.seeking.Sought.{Sought}
 
 -- the encoding of an input that was said to be in e, and that begins with this mark, or with none
@@ -93,12 +95,34 @@ abbrev pub finishes : (last : Bool) → DecoderResult → Bool
 finishes last outcome = last && is_input_empty outcome
 
 -- A decoder: the pieces of what is to come, the encoding that an input which goes on so turns out to be in, what the
--- room that is enough depends on, and whether it came to its end.
+-- room that is enough depends on, the state of the decoder of the encoding in force, without marks and without what is
+-- held, and whether it came to its end.
 pub record DecoderView : Type 0 where
   pub state : DecoderState
   pub source : List ℕ → Encoding
   pub opening : Opening
+  pub own : DecoderState
   pub finished : Bool
+
+-- The pieces of what is to come are those of what is held and of what follows, in the encoding in force or behind a
+-- mark; what is held is the front of a mark, where one is sought.
+pub record IsOpenedBy (v : DecoderView) : Type 0 where
+  pub pieces : (x : List ℕ) → v.state.pieces x ≡ sought_pieces v.opening.sought v.own.pieces (v.opening.held ++ x)
+  pub pending : v.state.pending ≡ v.opening.pending + length v.opening.held
+  pub own_pending : v.opening.pending ≡ v.own.pending
+  pub own_room : v.opening.room ≡ v.own.room
+  pub front : IsTrue (is_sought v.opening.sought) → find_mark v.opening.sought v.opening.held ≡ Seen.Front
+  pub fresh : IsTrue (is_sought v.opening.sought) → v.own.pending ≡ 0
+
+-- no mark is sought any more, and nothing is held
+abbrev pub IsSettled : Opening → Type 0
+IsSettled o = (is_sought o.sought ≡ false) × (o.held ≡ [])
+
+-- how far bytes are their characters in Latin1: it is told where marks are settled, and the decoder of the encoding in
+-- force is at rest
+abbrev pub TellsLatin1Prefix : DecoderView → List ℕ → Option ℕ → Type 0
+TellsLatin1Prefix v bytes None = ¬ (IsSettled v.opening × IsAtRest (latin1_rule (v.source [])) v.own)
+TellsLatin1Prefix v bytes (Some n) = IsSettled v.opening × IsAtRest (latin1_rule (v.source [])) v.own × IsLatin1Prefix (latin1_rule (v.source [])) v.own.pieces bytes n
 
 -- one that has read nothing
 pub record Begins (v : DecoderView) (t : IndexLists) (mark : Mark) (e : Encoding) : Type 0 where
@@ -106,4 +130,5 @@ pub record Begins (v : DecoderView) (t : IndexLists) (mark : Mark) (e : Encoding
   pub pending : v.state.pending ≡ 0
   pub source : (x : List ℕ) → v.source x ≡ (source_of mark e x).0
   pub opening : v.opening ≡ record { sought = sought_by mark e; held = []; room = room_of_encoding e; pending = 0 }
+  pub own : v.own.pieces ≡ pieces_of t e
   pub open_ : v.finished ≡ false

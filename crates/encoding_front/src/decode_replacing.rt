@@ -1,8 +1,11 @@
 ghost use Rattle.std.specs.Prelude.{◌≡◌, ℕ, ◌-◌, ◌++◌, IsTrue, List, [], length, drop};
 ghost use Rattle.encoding_mem.specs.Decoding.{EndsWith};
 ghost use Rattle.encoding_front.specs.DecodedText.{NeverFull, TakesText, raw_result};
+ghost use Rattle.encoding_front.specs.Latin1Prefix.{latin1_rule};
 ghost use Rattle.encoding_front.specs.MarkedState.{marked_state};
 ghost use Rattle.encoding_front.specs.Seeking.{mark_taken, sought_needs};
+ghost use Rattle.encoding_front.specs.Stream.{encoding_after};
+ghost use Rattle.encoding_front.specs.declared.encoding.Encoding.{Encoding};
 
 use crate::coder_result::CoderResult;
 use crate::marked_decoder::{MarkedDecoder, Switches};
@@ -29,6 +32,8 @@ impl<D: Switches> MarkedDecoder<D> {
             S.is_units last (length src.now) (S.free sink.old) result.0 }
         ensures taken { (r : List ℕ) → (IsTrue last → r ≡ []) → mark_taken self.old.sought self.old.taken (self.old.held ++ (src.now ++ r))
             ≡ mark_taken self.new.sought self.new.taken (self.new.held ++ (drop result.1 src.now ++ r)) }
+        ensures rule { (e : Encoding) → D.rule self.old.inner ≡ latin1_rule (encoding_after e self.old.taken)
+            → D.rule self.new.inner ≡ latin1_rule (encoding_after e self.new.taken) }
     {
         let mut read = 0;
         let mut had_errors = false;

@@ -1,41 +1,40 @@
-ghost use Rattle.std.specs.Prelude.{◌≡◌, ◌≢◌, ℕ, ◌≤◌, ◌-◌, ◌++◌, Bool, true, false, IsTrue, List, [], Some, length, drop, encode_utf8_all};
+ghost use Rattle.std.specs.Prelude.{string_bytes, string_capacity, string_len, take, vec_capacity, vec_len, ◌≡◌, ◌≢◌, ℕ, ◌≤◌, ◌-◌, ◌++◌, Bool, true, false, IsTrue, List, [], Some, length, drop, encode_utf8_all, refl};
+ghost use Rattle.std.specs.Str.{IsUtf8};
 ghost use Rattle.encoding_mem.specs.Decoding.{StateLaw, EndsWith};
 ghost use Rattle.encoding_mem.specs.Driver.{Suffices};
+ghost use Rattle.encoding_mem.specs.TextDestination.{Overwrites};
 ghost use Rattle.encoding_mem.specs.Writing.{Adds, encode_utf16_all};
 ghost use Rattle.encoding_mem.specs.declared.room.Count.TheVariants.{Units, Bytes, Replaced};
 ghost use Rattle.encoding_front.specs.DecodedText.{NeverFull, TakesText, raw_result};
 ghost use Rattle.encoding_front.specs.Encodings.{IsReady};
+ghost use Rattle.encoding_front.specs.Latin1Prefix.{latin1_rule};
 ghost use Rattle.encoding_front.specs.Seeking.{mark_taken};
-ghost use Rattle.encoding_front.specs.Stream.{Begins, DecoderView, encoding_after, finishes, room_asked};
+ghost use Rattle.encoding_front.specs.Stream.{Begins, DecoderView, IsOpenedBy, TellsLatin1Prefix, encoding_after, finishes, room_asked};
 ghost use Rattle.encoding_front.specs.declared.mark.Mark.{Mark};
 
 use crate::coder_result::CoderResult;
+use crate::encoder::fill_spare;
 use crate::encoding::Encoding;
 use crate::mark::Mark;
 use crate::marked_decoder::{MarkedDecoder, Switches};
-use crate::seeking::{ByteOrderMark, Sought};
+use crate::seeking::Sought;
 use crate::variant_decoder::VariantDecoder;
 use encoding_mem::piece_decoder::PieceDecoder;
 use encoding_mem::room::Count;
 use encoding_mem::sink::Sink;
 use encoding_mem::utf8_sink::Utf8Sink;
 use encoding_mem::utf16_sink::Utf16Sink;
-use encoding_mem::{DecoderResult, Utf8Decoder};
-use encoding_tables::{Tables, Utf16Decoder};
-
-impl<'t> Switches for VariantDecoder<'t> {
-    fn after_mark(mark: ByteOrderMark) -> Self {
-        match mark {
-            ByteOrderMark::Utf8 => VariantDecoder::Utf8(Utf8Decoder::new()),
-            ByteOrderMark::Utf16Be => VariantDecoder::Utf16(Utf16Decoder::new(true)),
-            ByteOrderMark::Utf16Le => VariantDecoder::Utf16(Utf16Decoder::new(false)),
-        }
-    }
-}
+use encoding_mem::{DecoderResult, clear_behind};
+use encoding_tables::Tables;
+use std::fmt;
+use std::mem;
 
 /// A decoder of a stream that may begin with a byte order mark.
 pub trait StreamDecoder {
     ghost view: { Self → DecoderView };
+
+    /// What its parts have to do with each other.
+    ghost opened: { (d : Self) → IsOpenedBy (view d) };
 
     /// Decodes bytes to UTF-8 up to the first bad piece. Answers how the call ended, the bytes read and the
     /// bytes written. A character is never split; nothing behind what is written changes.
@@ -77,6 +76,7 @@ pub struct Decoder<'t> {
     marked: MarkedDecoder<VariantDecoder<'t>>,
     encoding: Encoding,
     is_finished: bool,
+    ghost rule: { ⟦<VariantDecoder<'static> as Switches>⟧.rule marked.inner ≡ latin1_rule (encoding_after encoding marked.taken) },
 }
 
 impl Encoding {
@@ -157,7 +157,17 @@ impl<'t> StreamDecoder for Decoder<'t> {
         room = (⟦<VariantDecoder<'t> as PieceDecoder>⟧.state d.marked.inner).room;
         pending = (⟦<VariantDecoder<'t> as PieceDecoder>⟧.state d.marked.inner).pending;
       };
+      own = ⟦<VariantDecoder<'t> as PieceDecoder>⟧.state d.marked.inner;
       finished = d.is_finished;
+    } };
+
+    ghost opened = { λ d. record {
+      pieces = λ x. refl;
+      pending = refl;
+      own_pending = refl;
+      own_room = refl;
+      front = d.marked.front;
+      fresh = d.marked.fresh;
     } };
 
     fn decode_to_utf8_without_replacement(
@@ -199,6 +209,20 @@ impl<'t> Decoder<'t> {
         ensures { result ≡ (⟦<Decoder<'t> as StreamDecoder>⟧.view self.now).finished }
     {
         self.is_finished
+    }
+
+    /// How many of these bytes, if they come next, are their characters in Latin1: each scalar is the byte's own
+    /// number. None before marks are settled, where something is pending or a mode other than ASCII is in force,
+    /// and in UTF-16 and replacement. Those of a single-byte encoding are told by its index, and all others
+    /// only up to the first byte that is not ASCII (in ISO-2022-JP also before 0E, 0F and 1B).
+    pub fn latin1_byte_compatible_up_to(&self, bytes: &[u8]) -> Option<usize>
+        requires { (⟦<Decoder<'t> as StreamDecoder>⟧.view self.now).finished ≡ false }
+        ensures { TellsLatin1Prefix (⟦<Decoder<'t> as StreamDecoder>⟧.view self.now) bytes.now result }
+    {
+        if !self.marked.is_settled() {
+            return None;
+        }
+        self.marked.inner().latin1_byte_compatible_up_to(bytes)
     }
 
     /// How many units are room enough for the text of `n` more bytes; none where that passes a `usize`. So
@@ -299,5 +323,153 @@ impl<'t> Decoder<'t> {
         let (outcome, read, had_errors) = self.decode_text_into(src, &mut sink, last);
         let written = sink.written();
         (outcome, read, written, had_errors)
+    }
+}
+
+impl<'t> Decoder<'t> {
+    /// Decodes into a text, as `decode_to_utf8` into bytes. Of a character whose front is overwritten the other
+    /// bytes become 00, so that it stays a text; nothing else behind what is written changes.
+    pub fn decode_to_str(
+        &mut self,
+        src: &[u8],
+        dst: &mut [u8],
+        last: bool,
+    ) -> (CoderResult, usize, usize, bool)
+        requires finished { (⟦<Decoder<'t> as StreamDecoder>⟧.view self.old).finished ≡ false }
+        requires utf8 { IsUtf8 dst.old }
+        ensures law { TakesText (⟦<Decoder<'t> as StreamDecoder>⟧.view self.old).state.pieces (⟦<Decoder<'t> as StreamDecoder>⟧.view self.new).state.pieces src.now last
+            (⟦<Decoder<'t> as StreamDecoder>⟧.view self.old).state.pending (⟦<Decoder<'t> as StreamDecoder>⟧.view self.new).state.pending result.1
+            (λ text. Overwrites dst.old (encode_utf8_all text) dst.new result.2) result.3 }
+        ensures ends { EndsWith (⟦<Decoder<'t> as StreamDecoder>⟧.view self.new).state (drop result.1 src.now) last
+            (length (drop result.2 dst.new)) 4 3 (raw_result result.0) }
+        ensures enough { (n : ℕ) → room_asked (⟦<Decoder<'t> as StreamDecoder>⟧.view self.old).opening Replaced (length src.now) ≡ Some n
+            → n ≤ length dst.old → result.0 ≢ CoderResult.OutputFull }
+        ensures source { (r : List ℕ) → (IsTrue last → r ≡ []) → (⟦<Decoder<'t> as StreamDecoder>⟧.view self.old).source (src.now ++ r)
+            ≡ (⟦<Decoder<'t> as StreamDecoder>⟧.view self.new).source (drop result.1 src.now ++ r) }
+        ensures finished { (⟦<Decoder<'t> as StreamDecoder>⟧.view self.new).finished ≡ finishes last (raw_result result.0) }
+        ensures utf8 { IsUtf8 dst.new }
+    {
+        let (outcome, read, written, had_errors) = self.decode_to_utf8(src, dst, last);
+        clear_behind(dst, written);
+        (outcome, read, written, had_errors)
+    }
+
+    /// The same up to the first bad piece, as `decode_to_utf8_without_replacement`.
+    pub fn decode_to_str_without_replacement(
+        &mut self,
+        src: &[u8],
+        dst: &mut [u8],
+        last: bool,
+    ) -> (DecoderResult, usize, usize)
+        requires finished { (⟦<Decoder<'t> as StreamDecoder>⟧.view self.old).finished ≡ false }
+        requires utf8 { IsUtf8 dst.old }
+        ensures law { StateLaw (⟦<Decoder<'t> as StreamDecoder>⟧.view self.old).state (⟦<Decoder<'t> as StreamDecoder>⟧.view self.new).state src.now last result.1
+            (λ text. Overwrites dst.old (encode_utf8_all text) dst.new result.2) result.0 }
+        ensures ends { EndsWith (⟦<Decoder<'t> as StreamDecoder>⟧.view self.new).state (drop result.1 src.now) last
+            (length (drop result.2 dst.new)) 4 3 result.0 }
+        ensures enough { (n : ℕ) → room_asked (⟦<Decoder<'t> as StreamDecoder>⟧.view self.old).opening Bytes (length src.now) ≡ Some n
+            → n ≤ length dst.old → result.0 ≢ DecoderResult.OutputFull }
+        ensures source { (r : List ℕ) → (IsTrue last → r ≡ []) → (⟦<Decoder<'t> as StreamDecoder>⟧.view self.old).source (src.now ++ r)
+            ≡ (⟦<Decoder<'t> as StreamDecoder>⟧.view self.new).source (drop result.1 src.now ++ r) }
+        ensures finished { (⟦<Decoder<'t> as StreamDecoder>⟧.view self.new).finished ≡ finishes last result.0 }
+        ensures utf8 { IsUtf8 dst.new }
+    {
+        let (outcome, read, written) = self.decode_to_utf8_without_replacement(src, dst, last);
+        clear_behind(dst, written);
+        (outcome, read, written)
+    }
+
+    /// Decodes into the spare capacity of a text, behind what it has, as `decode_to_utf8` into bytes; its
+    /// capacity stays as it is. Answers as the call into bytes, without what was written.
+    pub fn decode_to_string(
+        &mut self,
+        src: &[u8],
+        dst: &mut String,
+        last: bool,
+    ) -> (CoderResult, usize, bool)
+        requires { (⟦<Decoder<'t> as StreamDecoder>⟧.view self.old).finished ≡ false }
+        ensures capacity { string_capacity dst.new ≡ string_capacity dst.old }
+        ensures law { TakesText (⟦<Decoder<'t> as StreamDecoder>⟧.view self.old).state.pieces (⟦<Decoder<'t> as StreamDecoder>⟧.view self.new).state.pieces src.now last
+            (⟦<Decoder<'t> as StreamDecoder>⟧.view self.old).state.pending (⟦<Decoder<'t> as StreamDecoder>⟧.view self.new).state.pending result.1
+            (λ text. string_bytes dst.new ≡ string_bytes dst.old ++ encode_utf8_all text) result.2 }
+        ensures ends { EndsWith (⟦<Decoder<'t> as StreamDecoder>⟧.view self.new).state (drop result.1 src.now) last
+            (string_capacity dst.new - string_len dst.new) 4 3 (raw_result result.0) }
+        ensures enough { (n : ℕ) → room_asked (⟦<Decoder<'t> as StreamDecoder>⟧.view self.old).opening Replaced (length src.now) ≡ Some n
+            → n ≤ string_capacity dst.old - string_len dst.old → result.0 ≢ CoderResult.OutputFull }
+        ensures source { (r : List ℕ) → (IsTrue last → r ≡ []) → (⟦<Decoder<'t> as StreamDecoder>⟧.view self.old).source (src.now ++ r)
+            ≡ (⟦<Decoder<'t> as StreamDecoder>⟧.view self.new).source (drop result.1 src.now ++ r) }
+        ensures finished { (⟦<Decoder<'t> as StreamDecoder>⟧.view self.new).finished ≡ finishes last (raw_result result.0) }
+    {
+        let mut bytes = take_bytes(dst);
+        let len = fill_spare(&mut bytes);
+        let (outcome, read, written, had_errors) = self.decode_to_utf8(
+            src,
+            &mut bytes[len..],
+            last,
+        );
+        put_bytes(dst, bytes, len + written);
+        (outcome, read, had_errors)
+    }
+
+    /// The same up to the first bad piece, as `decode_to_utf8_without_replacement`.
+    pub fn decode_to_string_without_replacement(
+        &mut self,
+        src: &[u8],
+        dst: &mut String,
+        last: bool,
+    ) -> (DecoderResult, usize)
+        requires { (⟦<Decoder<'t> as StreamDecoder>⟧.view self.old).finished ≡ false }
+        ensures capacity { string_capacity dst.new ≡ string_capacity dst.old }
+        ensures law { StateLaw (⟦<Decoder<'t> as StreamDecoder>⟧.view self.old).state (⟦<Decoder<'t> as StreamDecoder>⟧.view self.new).state src.now last result.1
+            (λ text. string_bytes dst.new ≡ string_bytes dst.old ++ encode_utf8_all text) result.0 }
+        ensures ends { EndsWith (⟦<Decoder<'t> as StreamDecoder>⟧.view self.new).state (drop result.1 src.now) last
+            (string_capacity dst.new - string_len dst.new) 4 3 result.0 }
+        ensures enough { (n : ℕ) → room_asked (⟦<Decoder<'t> as StreamDecoder>⟧.view self.old).opening Bytes (length src.now) ≡ Some n
+            → n ≤ string_capacity dst.old - string_len dst.old → result.0 ≢ DecoderResult.OutputFull }
+        ensures source { (r : List ℕ) → (IsTrue last → r ≡ []) → (⟦<Decoder<'t> as StreamDecoder>⟧.view self.old).source (src.now ++ r)
+            ≡ (⟦<Decoder<'t> as StreamDecoder>⟧.view self.new).source (drop result.1 src.now ++ r) }
+        ensures finished { (⟦<Decoder<'t> as StreamDecoder>⟧.view self.new).finished ≡ finishes last result.0 }
+    {
+        let mut bytes = take_bytes(dst);
+        let len = fill_spare(&mut bytes);
+        let (outcome, read, added) = self.decode_to_utf8_without_replacement(
+            src,
+            &mut bytes[len..],
+            last,
+        );
+        put_bytes(dst, bytes, len + added);
+        (outcome, read)
+    }
+}
+
+// Takes the bytes of a text, and leaves none.
+fn take_bytes(text: &mut String) -> Vec<u8>
+    ensures bytes { result.items ≡ string_bytes text.old }
+    ensures len { vec_len result ≡ string_len text.old }
+    ensures capacity { vec_capacity result ≡ string_capacity text.old }
+    ensures utf8 { IsUtf8 result.items }
+{
+    let _ = text.as_str();
+    let empty = String::new(*text.allocator());
+    mem::replace(text, empty).into_bytes()
+}
+
+// Makes the first bytes of these a text.
+fn put_bytes(text: &mut String, mut bytes: Vec<u8>, len: usize)
+    requires utf8 { IsUtf8 (take len bytes.items) }
+    requires within { len ≤ length bytes.items }
+    ensures bytes { string_bytes text.new ≡ take len bytes.items }
+    ensures len { string_len text.new ≡ len }
+    ensures capacity { string_capacity text.new ≡ vec_capacity bytes }
+{
+    bytes.truncate(len);
+    *text = unsafe { String::from_utf8_unchecked(bytes) };
+}
+
+impl<'t> fmt::Debug for Decoder<'t> {
+    fn fmt<W: fmt::Write>(&self, f: &mut fmt::Formatter<W>) -> fmt::Result {
+        f.debug_struct("Decoder")
+            .field("encoding", &self.encoding().name())
+            .finish()
     }
 }

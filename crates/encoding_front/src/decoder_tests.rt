@@ -1,10 +1,10 @@
 use crate::{
-    CoderResult, Decoder, Encoding, IBM866, ISO_2022_JP, Mark, REPLACEMENT, StreamDecoder, UTF_8,
-    UTF_16BE, UTF_16LE, WINDOWS_1252, X_USER_DEFINED,
+    BIG5, CoderResult, Decoder, EUC_JP, EUC_KR, Encoding, GB18030, GBK, IBM866, ISO_2022_JP, Mark,
+    REPLACEMENT, SHIFT_JIS, StreamDecoder, UTF_8, UTF_16BE, UTF_16LE, WINDOWS_1252, X_USER_DEFINED,
 };
 use encoding_mem::DecoderResult;
 use encoding_tables::{IndexKind, TableFault, Tables};
-use std::alloc::Global;
+use std::alloc::{AllocError, Global};
 
 // What a stream gives that comes in two slices: its units, whether a piece was bad, and the encoding at its
 // end.
@@ -221,5 +221,184 @@ fn room_that_is_asked_for(rt: HostRuntime) -> Result<(), TableFault> {
         Some(9)
     );
     assert_eq!(rt; decoder.max_utf8_buffer_length(1), Some(12));
+    Ok(())
+}
+
+// All indexes that are not of a single-byte encoding, without entries.
+fn empty_tables(alloc: Global) -> Result<Tables, TableFault> {
+    let zeros = [0; 23940];
+    let mut tables = Tables::new(alloc);
+    let kinds = [
+        IndexKind::Big5,
+        IndexKind::EucKr,
+        IndexKind::Gb18030,
+        IndexKind::Jis0208,
+        IndexKind::Jis0212,
+        IndexKind::Iso2022JpKatakana,
+    ];
+    for kind in kinds {
+        if let Some(list) = zeros.get(..kind.size()) {
+            if !kind.is_ranges() {
+                tables.insert(kind, list)?;
+            }
+        }
+    }
+    tables.insert_ranges(&[])?;
+    Ok(tables)
+}
+
+// What a new decoder without marks answers; none where its indexes are not there.
+fn latin1_at_the_start(
+    tables: &Tables,
+    encoding: Encoding,
+    bytes: &[u8],
+) -> Option<Option<usize>> {
+    if !encoding.is_ready(tables) {
+        return None;
+    }
+    let decoder = encoding.new_decoder_without_bom_handling(tables);
+    Some(decoder.latin1_byte_compatible_up_to(bytes))
+}
+
+#[test]
+fn bytes_that_are_latin1(rt: HostRuntime) -> Result<(), TableFault> {
+    let bytes = b"a\x81\xB6\xF6\xF0\x82\xB4";
+    let tables = empty_tables(rt.alloc())?;
+    let rows = [
+        (UTF_8, Some(1)),
+        (X_USER_DEFINED, Some(1)),
+        (BIG5, Some(1)),
+        (EUC_JP, Some(1)),
+        (EUC_KR, Some(1)),
+        (GB18030, Some(1)),
+        (GBK, Some(1)),
+        (ISO_2022_JP, Some(1)),
+        (SHIFT_JIS, Some(1)),
+        (UTF_16BE, None),
+        (UTF_16LE, None),
+        (REPLACEMENT, None),
+    ];
+    for (encoding, up_to) in rows {
+        assert_eq!(rt; latin1_at_the_start(&tables, encoding, bytes), Some(up_to), "{encoding:?}");
+    }
+    assert_eq!(rt; latin1_at_the_start(&tables, ISO_2022_JP, b"a\x0E"), Some(Some(1)));
+    assert_eq!(rt; latin1_at_the_start(&tables, EUC_JP, b"a\x0E"), Some(Some(2)));
+    let entries = [
+        (1, 0x81),
+        (2, 0x201A),
+        (54, 0xB6),
+        (112, 0xF0),
+        (118, 0xF6),
+    ];
+    let tables = tables_with(rt.alloc(), IndexKind::Windows1252, &entries)?;
+    let up_to = latin1_at_the_start(&tables, WINDOWS_1252, bytes);
+    assert_eq!(rt; up_to, Some(Some(5)));
+    Ok(())
+}
+
+#[test]
+fn latin1_waits_for_the_mark(rt: HostRuntime) {
+    let tables = Tables::new(rt.alloc());
+    let bytes = b"a\x81\xB6\xF6\xF0\x82\xB4";
+    let mut decoder = UTF_8.new_decoder(&tables);
+    let mut dst = [0; 4];
+    assert_eq!(rt; decoder.latin1_byte_compatible_up_to(bytes), None);
+    let held = decoder.decode_to_utf8(b"\xEF", &mut dst, false);
+    assert_eq!(rt; held, (CoderResult::InputEmpty, 1, 0, false));
+    assert_eq!(rt; decoder.latin1_byte_compatible_up_to(bytes), None);
+    let taken = decoder.decode_to_utf8(b"\xBB\xBF", &mut dst, false);
+    assert_eq!(rt; taken, (CoderResult::InputEmpty, 2, 0, false));
+    assert_eq!(rt; decoder.latin1_byte_compatible_up_to(bytes), Some(1));
+    let pending = decoder.decode_to_utf8(b"\xEF", &mut dst, false);
+    assert_eq!(rt; pending, (CoderResult::InputEmpty, 1, 0, false));
+    assert_eq!(rt; decoder.latin1_byte_compatible_up_to(bytes), None);
+}
+
+// A call into the units that were asked for just before.
+fn decode_queried(decoder: &mut Decoder<'_>, bytes: &[u8], last: bool) -> Option<CoderResult> {
+    if decoder.is_finished() {
+        return None;
+    }
+    let mut units = [0; 16];
+    let size = decoder.max_utf16_buffer_length(bytes.len())?;
+    let (outcome, ..) = decoder.decode_to_utf16(bytes, units.get_mut(..size)?, last);
+    Some(outcome)
+}
+
+#[test]
+fn room_that_was_asked_for_is_enough(rt: HostRuntime) {
+    let tables = Tables::new(rt.alloc());
+    for encoding in [UTF_16LE, UTF_8] {
+        let rows: [&[&[u8]]; 3] = [
+            &[b"\xFF", b"\xFF"],
+            &[b"\xEF", b"\xBB", b"\xFF"],
+            &[b"\xFF\xFF"],
+        ];
+        for slices in rows {
+            if encoding.is_ready(&tables) {
+                let mut decoder = encoding.new_decoder(&tables);
+                for (i, bytes) in slices.iter().enumerate() {
+                    let outcome = decode_queried(&mut decoder, bytes, i + 1 == slices.len());
+                    assert_eq!(rt; outcome, Some(CoderResult::InputEmpty), "{encoding:?} {bytes:?}");
+                }
+            }
+        }
+    }
+}
+
+#[test]
+fn half_a_unit_at_the_end(rt: HostRuntime) {
+    let tables = Tables::new(rt.alloc());
+    let mut decoder = UTF_16BE.new_decoder_without_bom_handling(&tables);
+    let mut dst = [0; 4];
+    let answer = decoder.decode_to_utf8(b"\xD8\x00", &mut dst, true);
+    assert_eq!(rt; answer, (CoderResult::InputEmpty, 2, 3, true));
+    assert_eq!(rt; dst, [0xEF, 0xBF, 0xBD, 0]);
+}
+
+#[test]
+fn over_a_text(rt: HostRuntime) {
+    let tables = Tables::new(rt.alloc());
+    let mut dst = *b"\xC3\xA9B\xC3\xA9";
+    let mut decoder = UTF_8.new_decoder(&tables);
+    if encoding_mem::utf8_valid_up_to(&dst) == dst.len() {
+        let answer = decoder.decode_to_str(b"A", &mut dst, true);
+        assert_eq!(rt; answer, (CoderResult::InputEmpty, 1, 1, false));
+        assert_eq!(rt; dst, *b"A\x00B\xC3\xA9");
+    }
+    let mut dst = *b"A\xC3\xA9BCDEFG";
+    let mut decoder = UTF_8.new_decoder(&tables);
+    if encoding_mem::utf8_valid_up_to(&dst) == dst.len() {
+        let answer = decoder.decode_to_str_without_replacement(b"xy\xFF", &mut dst, true);
+        assert_eq!(rt; answer, (DecoderResult::Malformed(1, 0), 3, 2));
+        assert_eq!(rt; dst, *b"xy\x00BCDEFG");
+    }
+}
+
+#[test]
+fn into_the_spare_capacity(rt: HostRuntime) -> Result<(), AllocError> {
+    let tables = Tables::new(rt.alloc());
+    let mut text = String::with_capacity(rt.alloc(), 6)?;
+    text.push_str("x")?;
+    let room = text.capacity();
+    let mut decoder = UTF_8.new_decoder(&tables);
+    let answer = decoder.decode_to_string(b"ab\xFFc", &mut text, false);
+    assert_eq!(rt; answer, (CoderResult::OutputFull, 3, true));
+    assert_eq!(rt; text.as_str(), "xab\u{FFFD}");
+    assert_eq!(rt; text.capacity(), room);
+    let mut text = String::with_capacity(rt.alloc(), 6)?;
+    text.push_str("x")?;
+    let mut decoder = UTF_8.new_decoder(&tables);
+    let answer = decoder.decode_to_string_without_replacement(b"ab\xFFc", &mut text, true);
+    assert_eq!(rt; answer, (DecoderResult::Malformed(1, 0), 3));
+    assert_eq!(rt; text.as_str(), "xab");
+    Ok(())
+}
+
+#[test]
+fn the_debug_text_names_the_encoding(rt: HostRuntime) -> Result<(), AllocError> {
+    let tables = Tables::new(rt.alloc());
+    let text = format!(in rt.alloc(); "{:?}", UTF_8.new_decoder(&tables))?;
+    assert!(rt; text.contains("UTF-8"));
     Ok(())
 }

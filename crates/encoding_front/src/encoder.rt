@@ -240,7 +240,7 @@ impl<'t> Encoder<'t> {
 }
 
 // Fills the spare capacity with zeros, and answers the length before.
-fn fill_spare(dst: &mut Vec<u8>) -> usize
+pub(crate) fn fill_spare(dst: &mut Vec<u8>) -> usize
     ensures len { result ≡ vec_len dst.old }
     ensures items { take result dst.new.items ≡ dst.old.items }
     ensures within { result ≤ length dst.new.items }

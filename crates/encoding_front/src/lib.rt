@@ -6,6 +6,8 @@ pub mod constants;
 mod decode_replacing;
 pub mod decoder;
 #[cfg(test)]
+mod decoder_calls_tests;
+#[cfg(test)]
 mod decoder_tests;
 pub mod encoder;
 #[cfg(test)]
@@ -25,7 +27,7 @@ pub mod reference;
 mod replacing;
 mod replay;
 mod scheme;
-mod seeking;
+pub mod seeking;
 mod source_text;
 #[cfg(test)]
 mod tests;

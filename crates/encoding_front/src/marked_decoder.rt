@@ -1,12 +1,14 @@
-ghost use Rattle.std.specs.Prelude.{◌≡◌, ℕ, ◌<◌, ◌≤◌, ◌+◌, ◌-◌, ◌++◌, List, Some, None, [], length, drop, IsTrue};
+ghost use Rattle.std.specs.Prelude.{◌≡◌, ◌↔◌, ℕ, ◌<◌, ◌≤◌, ◌+◌, ◌-◌, ◌++◌, false, List, Some, None, [], length, drop, IsTrue};
 ghost use Rattle.encoding_mem.specs.Decoding.{DecoderState, StateLaw, EndsWith};
 ghost use Rattle.encoding_mem.specs.Driver.{Suffices};
 ghost use Rattle.encoding_mem.specs.Room.{room_of};
 ghost use Rattle.encoding_mem.specs.declared.room.Count.{Count};
-ghost use Rattle.encoding_front.specs.Seeking.{find_mark, is_sought, mark_taken, pieces_after, room_after, room_widest, sought_needs, sought_pieces};
+ghost use Rattle.encoding_front.specs.Latin1Prefix.{Latin1Rule, latin1_rule};
+ghost use Rattle.encoding_front.specs.Seeking.{encoding_of_mark, find_mark, is_sought, mark_taken, pieces_after, room_after, room_widest, sought_needs, sought_pieces};
 ghost use Rattle.encoding_front.specs.declared.seeking.Seen.{Seen};
 ghost use Rattle.encoding_front.specs.MarkedState.{marked_state};
-ghost use Rattle.encoding_front.specs.Stream.{ahead, greater_if, room_asked};
+ghost use Rattle.encoding_front.specs.Stream.{ahead, encoding_after, greater_if, room_asked};
+ghost use Rattle.encoding_front.specs.declared.encoding.Encoding.{Encoding};
 ghost use Rattle.encoding_front.specs.TakesMark.{TakesMark};
 
 use crate::held::Held;
@@ -19,11 +21,31 @@ use encoding_mem::sink::Sink;
 
 /// A decoder that there is also for what follows each byte order mark.
 pub(crate) trait Switches: PieceDecoder + Drop {
+    /// By which rule it tells how far bytes are their characters in Latin1.
+    ghost rule: { Self → Latin1Rule };
+
     /// The decoder of what follows the mark. Nothing is pending.
     fn after_mark(mark: ByteOrderMark) -> Self
         ensures pieces { (Self.state result).pieces ≡ pieces_after mark }
         ensures pending { (Self.state result).pending ≡ 0 }
-        ensures room { (Self.state result).room ≡ room_after mark };
+        ensures room { (Self.state result).room ≡ room_after mark }
+        ensures rule { rule result ≡ latin1_rule (encoding_of_mark mark) };
+
+    /// The call `decode_into`. The rule stays as it is.
+    fn decode_on<S: Sink>(
+        &mut self,
+        src: &[u8],
+        sink: &mut S,
+        last: bool,
+    ) -> (DecoderResult, usize)
+        ensures law { StateLaw (Self.state self.old) (Self.state self.new) src.now last result.1
+            (λ text. S.writes sink.old text sink.new) result.0 }
+        ensures ends { EndsWith (Self.state self.new) (drop result.1 src.now) last
+            (S.free sink.new) S.room (S.cost 0xFFFD) result.0 }
+        ensures enough { Suffices (Self.state self.old).needs (Self.state self.new).needs S.is_units last
+            (length src.now) (length src.now - result.1) (S.free sink.old) (S.free sink.new) result.0 }
+        ensures limits { (Self.state self.new).room ≡ (Self.state self.old).room }
+        ensures rule { rule self.new ≡ rule self.old };
 }
 
 /// A decoder whose input may begin with a byte order mark.
@@ -65,6 +87,8 @@ impl<D: Switches> MarkedDecoder<D> {
             src.now last self.new.sought result }
         ensures taken { (r : List ℕ) → (IsTrue last → r ≡ []) → mark_taken self.old.sought self.old.taken (self.old.held ++ (src.now ++ r))
             ≡ mark_taken self.new.sought self.new.taken (self.new.held ++ r) }
+        ensures rule { (e : Encoding) → D.rule self.old.inner ≡ latin1_rule (encoding_after e self.old.taken)
+            → D.rule self.new.inner ≡ latin1_rule (encoding_after e self.new.taken) }
     {
         if !self.sought.is_any() {
             return Some(0);
@@ -107,6 +131,8 @@ impl<D: Switches> MarkedDecoder<D> {
             (length src.now) (length src.now - result.1) (S.free sink.old) (S.free sink.new) result.0 }
         ensures taken { (r : List ℕ) → (IsTrue last → r ≡ []) → mark_taken self.old.sought self.old.taken (self.old.held ++ (src.now ++ r))
             ≡ mark_taken self.new.sought self.new.taken (self.new.held ++ (drop result.1 src.now ++ r)) }
+        ensures rule { (e : Encoding) → D.rule self.old.inner ≡ latin1_rule (encoding_after e self.old.taken)
+            → D.rule self.new.inner ≡ latin1_rule (encoding_after e self.new.taken) }
     {
         match self.take_mark(src, last) {
             None => (DecoderResult::InputEmpty, src.len()),
@@ -129,6 +155,20 @@ impl<D: Switches> MarkedDecoder<D> {
         ensures { result ≡ self.now.taken }
     {
         self.taken
+    }
+
+    /// Whether no mark is sought any more, and nothing is held.
+    pub(crate) fn is_settled(&self) -> bool
+        ensures { IsTrue result ↔ ((is_sought self.now.sought ≡ false) × (self.now.held ≡ [])) }
+    {
+        !self.sought.is_any() && self.held.len() == 0
+    }
+
+    /// The decoder of the encoding in force.
+    pub(crate) fn inner(&self) -> &D
+        ensures { result.now ≡ self.now.inner }
+    {
+        &self.inner
     }
 
     /// The room that is enough for `n` more bytes; none where it passes a `usize`.

@@ -4,12 +4,12 @@ ghost use Rattle.encoding_mem.specs.Driver.{Suffices};
 ghost use Rattle.encoding_front.specs.MarkedState.{held_state};
 
 use crate::held::Held;
+use crate::marked_decoder::Switches;
 use encoding_mem::DecoderResult;
-use encoding_mem::piece_decoder::PieceDecoder;
 use encoding_mem::sink::Sink;
 
 /// Decodes what is held, and then the source.
-pub(crate) fn decode_held<D: PieceDecoder, S: Sink>(
+pub(crate) fn decode_held<D: Switches, S: Sink>(
     inner: &mut D,
     held: &mut Held,
     src: &[u8],
@@ -24,15 +24,16 @@ pub(crate) fn decode_held<D: PieceDecoder, S: Sink>(
     ensures enough { Suffices (held_state (D.state inner.old) held.old).needs (held_state (D.state inner.new) held.new).needs
         S.is_units last (length src.now) (length src.now - result.1) (S.free sink.old) (S.free sink.new) result.0 }
     ensures limits { (D.state inner.new).room ≡ (D.state inner.old).room }
+    ensures rule { D.rule inner.new ≡ D.rule inner.old }
     ensures few { 0 < length held.new → (D.state inner.new).pending + length held.new ≤ 2 }
 {
     if held.len() == 0 {
-        return inner.decode_into(src, sink, last);
+        return inner.decode_on(src, sink, last);
     }
-    let (outcome, taken) = inner.decode_into(held.as_slice(), sink, false);
+    let (outcome, taken) = inner.decode_on(held.as_slice(), sink, false);
     held.remove_front(taken);
     match outcome {
-        DecoderResult::InputEmpty => inner.decode_into(src, sink, last),
+        DecoderResult::InputEmpty => inner.decode_on(src, sink, last),
         DecoderResult::OutputFull => (DecoderResult::OutputFull, 0),
         DecoderResult::Malformed(a, b) => (DecoderResult::Malformed(a, b + held.len() as u8), 0),
     }

@@ -7,11 +7,14 @@ ghost use Rattle.encoding_front.specs.declared.seeking.ByteOrderMark.TheVariants
 use crate::encoding::Encoding;
 use crate::mark::Mark;
 
-/// A byte order mark.
+/// A byte order mark (the Encoding Standard, section 6, "BOM sniff").
 #[derive(Clone, Copy)]
-pub(crate) enum ByteOrderMark {
+pub enum ByteOrderMark {
+    /// EF BB BF
     Utf8,
+    /// FE FF
     Utf16Be,
+    /// FF FE
     Utf16Le,
 }
 
@@ -51,10 +54,10 @@ impl ByteOrderMark {
 
 /// The marks that would be taken.
 #[derive(Clone, Copy)]
-pub(crate) struct Sought {
-    pub(crate) utf8: bool,
-    pub(crate) utf16_be: bool,
-    pub(crate) utf16_le: bool,
+pub struct Sought {
+    pub utf8: bool,
+    pub utf16_be: bool,
+    pub utf16_le: bool,
 }
 
 impl Sought {
@@ -116,7 +119,7 @@ impl Sought {
 
 /// What some bytes are to those who look for a mark.
 #[derive(Clone, Copy)]
-pub(crate) enum Seen {
+pub enum Seen {
     /// Some of a mark, and no more.
     Front,
     Whole(ByteOrderMark),

@@ -1,16 +1,21 @@
 ghost use Rattle.std.specs.Prelude.{◌≡◌};
 ghost use Rattle.encoding_front.specs.Encodings.{IsReady, pieces_of, room_of_encoding};
+ghost use Rattle.encoding_front.specs.Latin1Prefix.{TellsLatin1, by_ascii, by_index, by_mode, latin1_rule, untold};
 ghost use Rattle.encoding_front.specs.declared.variant_decoder.VariantDecoder.TheVariants.{Utf8, SingleByte, Big5, EucKr, EucJp, ShiftJis, Gb18030, Iso2022Jp, UserDefined, Utf16, Replacement};
 
 use crate::encoding::Encoding;
+use crate::marked_decoder::Switches;
 use crate::scheme::Scheme;
+use crate::seeking::ByteOrderMark;
 use encoding_codecs::{
     Big5Decoder, EucJpDecoder, EucKrDecoder, Gb18030Decoder, Iso2022JpDecoder, ShiftJisDecoder,
 };
 use encoding_mem::piece_decoder::PieceDecoder;
 use encoding_mem::room::Room;
 use encoding_mem::sink::Sink;
-use encoding_mem::{DecoderResult, RawDecoder, Utf8Decoder};
+use encoding_mem::{
+    DecoderResult, RawDecoder, Utf8Decoder, ascii_valid_up_to, iso_2022_jp_ascii_valid_up_to,
+};
 use encoding_tables::{
     ReplacementDecoder, SingleByteDecoder, Tables, UserDefinedDecoder, Utf16Decoder,
 };
@@ -38,6 +43,7 @@ impl<'t> VariantDecoder<'t> {
         ensures pending { (⟦<VariantDecoder<'t> as RawDecoder>⟧.state result).pending ≡ 0 }
         ensures pieces { (⟦<VariantDecoder<'t> as RawDecoder>⟧.state result).pieces ≡ pieces_of tables.now encoding }
         ensures room { (⟦<VariantDecoder<'t> as RawDecoder>⟧.state result).room ≡ room_of_encoding encoding }
+        ensures rule { ⟦<VariantDecoder<'t> as Switches>⟧.rule result ≡ latin1_rule encoding }
     {
         match encoding.scheme() {
             Scheme::Utf8 => VariantDecoder::Utf8(Utf8Decoder::new()),
@@ -53,6 +59,31 @@ impl<'t> VariantDecoder<'t> {
             Scheme::UserDefined => VariantDecoder::UserDefined(UserDefinedDecoder::new()),
             Scheme::Utf16 { big_endian } => VariantDecoder::Utf16(Utf16Decoder::new(big_endian)),
             Scheme::Replacement => VariantDecoder::Replacement(ReplacementDecoder::new()),
+        }
+    }
+
+    /// How far bytes that follow are their characters in Latin1; none where something is pending or a mode is
+    /// in force, and in UTF-16 and replacement.
+    pub(crate) fn latin1_byte_compatible_up_to(&self, bytes: &[u8]) -> Option<usize>
+        ensures { TellsLatin1 (⟦<VariantDecoder<'t> as Switches>⟧.rule self.now) (⟦<VariantDecoder<'t> as RawDecoder>⟧.state self.now) bytes.now result }
+    {
+        match self {
+            VariantDecoder::SingleByte(decoder) => {
+                Some(decoder.latin1_byte_compatible_up_to(bytes))
+            }
+            VariantDecoder::Iso2022Jp(decoder) => {
+                if !decoder.in_neutral_state() {
+                    return None;
+                }
+                Some(iso_2022_jp_ascii_valid_up_to(bytes))
+            }
+            VariantDecoder::Utf16(_) | VariantDecoder::Replacement(_) => None,
+            _ => {
+                if self.held_len() > 0 {
+                    return None;
+                }
+                Some(ascii_valid_up_to(bytes))
+            }
         }
     }
 }
@@ -78,19 +109,7 @@ impl<'t> PieceDecoder for VariantDecoder<'t> {
         sink: &mut S,
         last: bool,
     ) -> (DecoderResult, usize) {
-        match self {
-            VariantDecoder::Utf8(decoder) => decoder.decode_into(src, sink, last),
-            VariantDecoder::SingleByte(decoder) => decoder.decode_into(src, sink, last),
-            VariantDecoder::Big5(decoder) => decoder.decode_into(src, sink, last),
-            VariantDecoder::EucKr(decoder) => decoder.decode_into(src, sink, last),
-            VariantDecoder::EucJp(decoder) => decoder.decode_into(src, sink, last),
-            VariantDecoder::ShiftJis(decoder) => decoder.decode_into(src, sink, last),
-            VariantDecoder::Gb18030(decoder) => decoder.decode_into(src, sink, last),
-            VariantDecoder::Iso2022Jp(decoder) => decoder.decode_into(src, sink, last),
-            VariantDecoder::UserDefined(decoder) => decoder.decode_into(src, sink, last),
-            VariantDecoder::Utf16(decoder) => decoder.decode_into(src, sink, last),
-            VariantDecoder::Replacement(decoder) => decoder.decode_into(src, sink, last),
-        }
+        self.decode_on(src, sink, last)
     }
 
     fn held_len(&self) -> usize {
@@ -122,6 +141,51 @@ impl<'t> PieceDecoder for VariantDecoder<'t> {
             VariantDecoder::UserDefined(decoder) => decoder.room(),
             VariantDecoder::Utf16(decoder) => decoder.room(),
             VariantDecoder::Replacement(decoder) => decoder.room(),
+        }
+    }
+}
+
+impl<'t> Switches for VariantDecoder<'t> {
+    ghost rule = { elim [
+      | Utf8 d ↦ by_ascii
+      | SingleByte d ↦ by_index
+      | Big5 d ↦ by_ascii
+      | EucKr d ↦ by_ascii
+      | EucJp d ↦ by_ascii
+      | ShiftJis d ↦ by_ascii
+      | Gb18030 d ↦ by_ascii
+      | Iso2022Jp d ↦ by_mode
+      | UserDefined d ↦ by_ascii
+      | Utf16 d ↦ untold
+      | Replacement d ↦ untold
+    ] };
+
+    fn after_mark(mark: ByteOrderMark) -> Self {
+        match mark {
+            ByteOrderMark::Utf8 => VariantDecoder::Utf8(Utf8Decoder::new()),
+            ByteOrderMark::Utf16Be => VariantDecoder::Utf16(Utf16Decoder::new(true)),
+            ByteOrderMark::Utf16Le => VariantDecoder::Utf16(Utf16Decoder::new(false)),
+        }
+    }
+
+    fn decode_on<S: Sink>(
+        &mut self,
+        src: &[u8],
+        sink: &mut S,
+        last: bool,
+    ) -> (DecoderResult, usize) {
+        match self {
+            VariantDecoder::Utf8(decoder) => decoder.decode_into(src, sink, last),
+            VariantDecoder::SingleByte(decoder) => decoder.decode_into(src, sink, last),
+            VariantDecoder::Big5(decoder) => decoder.decode_into(src, sink, last),
+            VariantDecoder::EucKr(decoder) => decoder.decode_into(src, sink, last),
+            VariantDecoder::EucJp(decoder) => decoder.decode_into(src, sink, last),
+            VariantDecoder::ShiftJis(decoder) => decoder.decode_into(src, sink, last),
+            VariantDecoder::Gb18030(decoder) => decoder.decode_into(src, sink, last),
+            VariantDecoder::Iso2022Jp(decoder) => decoder.decode_into(src, sink, last),
+            VariantDecoder::UserDefined(decoder) => decoder.decode_into(src, sink, last),
+            VariantDecoder::Utf16(decoder) => decoder.decode_into(src, sink, last),
+            VariantDecoder::Replacement(decoder) => decoder.decode_into(src, sink, last),
         }
     }
 }

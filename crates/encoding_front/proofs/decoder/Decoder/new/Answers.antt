@@ -13,6 +13,7 @@ returns c =
         pending = omega (arith, ap (λ d. ((state-value).it d).pending) made.inner, c.new.ensures.pending, ap length made.held);
         source = begun_source c.args.mark c.args.encoding c.new-3.result.sought c.new-3.result.taken c.new-3.result.held sought made.taken made.held;
         opening = begun_opening c.args.mark c.args.encoding c.new-3.result.sought c.new-3.result.held ((state-value).it c.new-3.result.inner).room ((state-value).it c.new-3.result.inner).pending sought made.held (ap (λ d. ((state-value).it d).room) made.inner ∙ c.new.ensures.room) (ap (λ d. ((state-value).it d).pending) made.inner ∙ c.new.ensures.pending);
+        own = ap (λ d. ((state-value).it d).pieces) made.inner ∙ c.new.ensures.pieces;
         open_ = refl;
       };
     }

@@ -47,3 +47,6 @@ returns-in-Some-clause-taken g c =
     let mid = c.take_mark.new.self in
     let settled : is_sought mid.sought ≡ false = ap is_sought c.in-Some.ensures.takes.0 in
     λ r e. c.in-Some.ensures.taken r e ∙ untaken mid.sought mid.taken (mid.held ++ r) settled ∙ sym (untaken mid.sought mid.taken (c.decode_held-outcome.new.held ++ (drop (c.in-Some.taken + c.decode_held-outcome.result.1) c.args.src.now ++ r)) settled)
+
+pub returns-in-Some-clause-rule : goal.returns-in-Some-clause-rule
+returns-in-Some-clause-rule g c = λ e was. c.decode_held-outcome.ensures.rule ∙ c.in-Some.ensures.rule e was

@@ -15,6 +15,7 @@ pieces-init g c = record {
   law = starts (λ x. sought_pieces c.args.self.now.sought (g.D.PieceDecoder.state c.args.self.now.inner).pieces (c.args.self.now.held ++ x)) c.args.src.now c.args.last _ (λ t. g.S.Sink.writes c.args.sink.now t c.args.sink.now) (g.met.S.Sink.writes_none c.args.sink.now);
   enough = suffices_start (sought_needs c.args.self.now.sought (g.D.PieceDecoder.state c.args.self.now.inner).needs c.args.self.now.held) g.S.Sink.is_units c.args.last (length c.args.src.now) (g.S.Sink.free c.args.sink.now);
   taken = λ r e. refl;
+  rule = λ e was. was;
 }
 
 pub returns-in-InputEmpty-clause-law : goal.returns-in-InputEmpty-clause-law
@@ -102,4 +103,11 @@ pieces-preserved g c =
       enough = suffices_bad (sought_needs was.sought (state was.inner).needs was.held) (sought_needs mid.sought (state mid.inner).needs mid.held) (sought_needs now.sought (state now.inner).needs now.held) g.S.Sink.is_units c.args.last (length c.args.src.now) _ c.pieces.read call.result.1 _ (g.S.Sink.free c.pieces.sink) (g.S.Sink.free call.new.sink) (g.S.Sink.free sink) c.in-Malformed.field-0 c.in-Malformed.field-1 (g.S.Sink.cost 0xFFFD)
           call.result.0 c.in-Malformed.is size (g.met.S.Sink.cost_is 0xFFFD) c.put.ensures.free c.pieces.invariant.within call.ensures.law.within c.pieces.invariant.enough call.ensures.enough;
       taken = λ r e. c.pieces.invariant.taken r e ∙ ap (λ x. mark_taken mid.sought mid.taken (mid.held ++ (x ++ r))) (sym left) ∙ call.ensures.taken r e ∙ ap (λ x. mark_taken now.sought now.taken (now.held ++ (x ++ r))) (ap (λ x. drop call.result.1 x) left ∙ drop-drop call.result.1 c.pieces.read c.args.src.now);
+      rule = λ e was. call.ensures.rule e (c.pieces.invariant.rule e was);
     }
+
+pub returns-in-InputEmpty-clause-rule : goal.returns-in-InputEmpty-clause-rule
+returns-in-InputEmpty-clause-rule g c = λ e was. c.decode_marked-outcome.ensures.rule e (c.pieces.invariant.rule e was)
+
+pub returns-in-OutputFull-clause-rule : goal.returns-in-OutputFull-clause-rule
+returns-in-OutputFull-clause-rule g c = λ e was. c.decode_marked-outcome.ensures.rule e (c.pieces.invariant.rule e was)
