@@ -1,4 +1,4 @@
-ghost use Rattle.std.specs.Prelude.{string_bytes, string_capacity, string_len, take, vec_capacity, vec_len, ◌≡◌, ◌≢◌, ℕ, ◌≤◌, ◌-◌, ◌++◌, Bool, true, false, IsTrue, List, [], Some, length, drop, encode_utf8_all, refl};
+ghost use Rattle.std.specs.Prelude.{◌≡◌, ◌≢◌, ℕ, ◌≤◌, ◌-◌, ◌++◌, Bool, true, false, IsTrue, List, [], Some, length, take, drop, encode_utf8_all, refl, string_bytes, string_capacity, string_len, vec_capacity, vec_len};
 ghost use Rattle.std.specs.Str.{IsUtf8};
 ghost use Rattle.encoding_mem.specs.Decoding.{StateLaw, EndsWith};
 ghost use Rattle.encoding_mem.specs.Driver.{Suffices};
@@ -26,8 +26,7 @@ use encoding_mem::utf8_sink::Utf8Sink;
 use encoding_mem::utf16_sink::Utf16Sink;
 use encoding_mem::{DecoderResult, clear_behind};
 use encoding_tables::Tables;
-use std::fmt;
-use std::mem;
+use std::{fmt, mem};
 
 /// A decoder of a stream that may begin with a byte order mark.
 pub trait StreamDecoder {

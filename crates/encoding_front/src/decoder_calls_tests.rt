@@ -20,11 +20,12 @@ struct Kind {
     replaces: bool,
 }
 
-// The answer of a call, and the text that it wrote.
-struct Answer<'b> {
+// The answer of a call, with how many bytes the text has that it wrote.
+#[derive(Clone, Copy)]
+struct Answer {
     outcome: DecoderResult,
     read: usize,
-    text: &'b [u8],
+    written: usize,
 }
 
 fn outcome_of(outcome: CoderResult) -> DecoderResult {
@@ -45,13 +46,13 @@ fn asked(decoder: &Decoder<'_>, kind: Kind, n: usize) -> Option<usize> {
     }
 }
 
-fn call_bytes<'b>(
+fn call_bytes(
     decoder: &mut Decoder<'_>,
     replaces: bool,
-    dst: &'b mut [u8],
+    dst: &mut [u8],
     src: &[u8],
     last: bool,
-) -> Option<Answer<'b>> {
+) -> Option<Answer> {
     if decoder.is_finished() {
         return None;
     }
@@ -61,21 +62,20 @@ fn call_bytes<'b>(
     } else {
         decoder.decode_to_utf8_without_replacement(src, dst, last)
     };
-    let text = dst.get(..written)?;
     Some(Answer {
         outcome,
         read,
-        text,
+        written,
     })
 }
 
-fn call_text<'b>(
+fn call_text(
     decoder: &mut Decoder<'_>,
     replaces: bool,
-    dst: &'b mut [u8],
+    dst: &mut [u8],
     src: &[u8],
     last: bool,
-) -> Option<Answer<'b>> {
+) -> Option<Answer> {
     if decoder.is_finished() || utf8_valid_up_to(dst) != dst.len() {
         return None;
     }
@@ -85,22 +85,21 @@ fn call_text<'b>(
     } else {
         decoder.decode_to_str_without_replacement(src, dst, last)
     };
-    let text = dst.get(..written)?;
     Some(Answer {
         outcome,
         read,
-        text,
+        written,
     })
 }
 
-fn call_units<'b>(
+fn call_units(
     decoder: &mut Decoder<'_>,
     replaces: bool,
     room: usize,
-    dst: &'b mut [u8],
+    dst: &mut [u8],
     src: &[u8],
     last: bool,
-) -> Option<Answer<'b>> {
+) -> Option<Answer> {
     let mut units = [0; 40];
     let units = units.get_mut(..room)?;
     if decoder.is_finished() {
@@ -113,11 +112,10 @@ fn call_units<'b>(
         decoder.decode_to_utf16_without_replacement(src, units, last)
     };
     let (_, len) = convert_utf16_to_utf8_partial(units.get(..written)?, dst);
-    let text = dst.get(..len)?;
     Some(Answer {
         outcome,
         read,
-        text,
+        written: len,
     })
 }
 
@@ -127,15 +125,28 @@ fn call_spare(
     text: &mut String,
     src: &[u8],
     last: bool,
-) -> Option<(DecoderResult, usize)> {
+) -> Option<Answer> {
     if decoder.is_finished() {
         return None;
     }
-    if replaces {
+    let (outcome, read) = if replaces {
         let (outcome, read, _) = decoder.decode_to_string(src, text, last);
-        return Some((outcome_of(outcome), read));
+        (outcome_of(outcome), read)
+    } else {
+        decoder.decode_to_string_without_replacement(src, text, last)
+    };
+    Some(Answer {
+        outcome,
+        read,
+        written: text.len(),
+    })
+}
+
+fn add(text: &mut String, bytes: &[u8]) -> Result<(), AllocError> {
+    if let Ok(more) = std::str::from_utf8(bytes) {
+        text.push_str(more)?;
     }
-    Some(decoder.decode_to_string_without_replacement(src, text, last))
+    Ok(())
 }
 
 // One call into so much room, or into the room that is asked for. Adds what it wrote to the text, and U+FFFD
@@ -156,14 +167,7 @@ fn call(
     let mut spare = String::with_capacity(alloc, size)?;
     let answer = match kind.destination {
         Destination::Units => call_units(decoder, kind.replaces, size, &mut bytes, src, last),
-        Destination::Spare => {
-            let answer = call_spare(decoder, kind.replaces, &mut spare, src, last);
-            answer.map(|(outcome, read)| Answer {
-                outcome,
-                read,
-                text: spare.as_bytes(),
-            })
-        }
+        Destination::Spare => call_spare(decoder, kind.replaces, &mut spare, src, last),
         _ => match bytes.get_mut(..size) {
             None => None,
             Some(dst) if kind.destination == Destination::Text => {
@@ -175,8 +179,11 @@ fn call(
     let Some(answer) = answer else {
         return Ok(None);
     };
-    if let Ok(more) = std::str::from_utf8(answer.text) {
-        text.push_str(more)?;
+    add(text, spare.as_bytes())?;
+    if kind.destination != Destination::Spare {
+        if let Some(written) = bytes.get(..answer.written) {
+            add(text, written)?;
+        }
     }
     if let DecoderResult::Malformed(..) = answer.outcome {
         text.push('\u{FFFD}')?;
@@ -231,8 +238,15 @@ fn each_call_decodes_the_stream(rt: HostRuntime) -> Result<(), AllocError> {
                     let mut decoder = UTF_8.new_decoder(&tables);
                     let mut text = String::new(rt.alloc());
                     if let Some((front, rest)) = bytes.split_at_checked(cut) {
-                        let well = feed(rt.alloc(), &mut decoder, kind, room, front, false, &mut text)?
-                            && feed(rt.alloc(), &mut decoder, kind, room, rest, true, &mut text)?;
+                        let well = feed(
+                            rt.alloc(),
+                            &mut decoder,
+                            kind,
+                            room,
+                            front,
+                            false,
+                            &mut text,
+                        )? && feed(rt.alloc(), &mut decoder, kind, room, rest, true, &mut text)?;
                         assert!(rt; well && decoder.is_finished(), "{kind:?} {room:?} {cut}");
                     }
                     assert_eq!(rt; text.as_str(), expected, "{kind:?} {room:?} {cut}");

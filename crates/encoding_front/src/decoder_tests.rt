@@ -248,11 +248,7 @@ fn empty_tables(alloc: Global) -> Result<Tables, TableFault> {
 }
 
 // What a new decoder without marks answers; none where its indexes are not there.
-fn latin1_at_the_start(
-    tables: &Tables,
-    encoding: Encoding,
-    bytes: &[u8],
-) -> Option<Option<usize>> {
+fn latin1_at_the_start(tables: &Tables, encoding: Encoding, bytes: &[u8]) -> Option<Option<usize>> {
     if !encoding.is_ready(tables) {
         return None;
     }
@@ -279,17 +275,21 @@ fn bytes_that_are_latin1(rt: HostRuntime) -> Result<(), TableFault> {
         (REPLACEMENT, None),
     ];
     for (encoding, up_to) in rows {
-        assert_eq!(rt; latin1_at_the_start(&tables, encoding, bytes), Some(up_to), "{encoding:?}");
+        assert_eq!(rt;
+            latin1_at_the_start(&tables, encoding, bytes),
+            Some(up_to),
+            "{encoding:?}"
+        );
     }
-    assert_eq!(rt; latin1_at_the_start(&tables, ISO_2022_JP, b"a\x0E"), Some(Some(1)));
-    assert_eq!(rt; latin1_at_the_start(&tables, EUC_JP, b"a\x0E"), Some(Some(2)));
-    let entries = [
-        (1, 0x81),
-        (2, 0x201A),
-        (54, 0xB6),
-        (112, 0xF0),
-        (118, 0xF6),
-    ];
+    assert_eq!(rt;
+        latin1_at_the_start(&tables, ISO_2022_JP, b"a\x0E"),
+        Some(Some(1))
+    );
+    assert_eq!(rt;
+        latin1_at_the_start(&tables, EUC_JP, b"a\x0E"),
+        Some(Some(2))
+    );
+    let entries = [(1, 0x81), (2, 0x201A), (54, 0xB6), (112, 0xF0), (118, 0xF6)];
     let tables = tables_with(rt.alloc(), IndexKind::Windows1252, &entries)?;
     let up_to = latin1_at_the_start(&tables, WINDOWS_1252, bytes);
     assert_eq!(rt; up_to, Some(Some(5)));
@@ -339,7 +339,11 @@ fn room_that_was_asked_for_is_enough(rt: HostRuntime) {
                 let mut decoder = encoding.new_decoder(&tables);
                 for (i, bytes) in slices.iter().enumerate() {
                     let outcome = decode_queried(&mut decoder, bytes, i + 1 == slices.len());
-                    assert_eq!(rt; outcome, Some(CoderResult::InputEmpty), "{encoding:?} {bytes:?}");
+                    assert_eq!(rt;
+                        outcome,
+                        Some(CoderResult::InputEmpty),
+                        "{encoding:?} {bytes:?}"
+                    );
                 }
             }
         }

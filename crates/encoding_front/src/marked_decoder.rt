@@ -32,12 +32,7 @@ pub(crate) trait Switches: PieceDecoder + Drop {
         ensures rule { rule result ≡ latin1_rule (encoding_of_mark mark) };
 
     /// The call `decode_into`. The rule stays as it is.
-    fn decode_on<S: Sink>(
-        &mut self,
-        src: &[u8],
-        sink: &mut S,
-        last: bool,
-    ) -> (DecoderResult, usize)
+    fn decode_on<S: Sink>(&mut self, src: &[u8], sink: &mut S, last: bool) -> (DecoderResult, usize)
         ensures law { StateLaw (Self.state self.old) (Self.state self.new) src.now last result.1
             (λ text. S.writes sink.old text sink.new) result.0 }
         ensures ends { EndsWith (Self.state self.new) (drop result.1 src.now) last

@@ -1,7 +1,6 @@
-use Rattle.std.proofs.Common.{◌-◌, ap, sym, subst, length, drop, ◌∙◌, arith, length-drop, encode_utf8_all}
+use Rattle.std.proofs.Common.{◌-◌, ap, sym, subst, drop, ◌∙◌, arith, length-drop, encode_utf8_all}
 use Rattle.encoding_mem.specs.Piece.{scalars}
 use Rattle.encoding_mem.specs.Decoding.{EndsWith}
-
 use Rattle.encoding_front.specs.MarkedState.{marked_state}
 use Rattle.encoding_front.specs.contracts.variant_decoder.VariantDecoderPieceDecoder.TheImpl.{state-value}
 use Rattle.encoding_front.proofs.TextDestinations.{scalars_are, scalars_into, added, kept, overwrites}
