@@ -13,3 +13,6 @@ pub mod TakesMark
 pub mod Latin1Prefix
 pub mod Stream
 pub mod DecodedText
+pub mod Bounds
+pub mod BoundsLaws
+pub mod InputLaws

@@ -1,8 +1,17 @@
 //! Laws of encodings. The functions do nothing: each contract is a law.
 
-ghost use Rattle.std.specs.Prelude.{◌≡◌, ◌↔◌, IsTrue};
+ghost use Rattle.std.specs.Prelude.{◌≡◌, ◌↔◌, ◌<◌, ◌≤◌, ◌+◌, ◌*◌, ℕ, true, IsTrue, List, length, encode_utf8_all};
+ghost use Rattle.std.specs.Str.{all_scalars, chars};
+ghost use Rattle.encoding_mem.specs.Coding.{bytes, open_from, output, reference};
+ghost use Rattle.encoding_mem.specs.Piece.{ArePieces, sizes};
+ghost use Rattle.encoding_mem.specs.ReadBack.{ReadsBackExactly};
+ghost use Rattle.encoding_mem.specs.declared.form.Set.{Set};
+ghost use Rattle.encoding_tables.specs.IndexLists.{AreAcceptedTables, IndexLists};
+ghost use Rattle.encoding_front.specs.Bounds.{ReportsItself};
 ghost use Rattle.encoding_front.specs.EncodingTable.{name_of};
-ghost use Rattle.encoding_front.specs.Encodings.{HasLabel, output_encoding_of};
+ghost use Rattle.encoding_front.specs.Encodings.{HasLabel, KeepsCharacters, coding_of, output_encoding_of, pieces_of};
+ghost use Rattle.encoding_front.specs.Marks.{marked_pieces, marked_text};
+ghost use Rattle.encoding_front.specs.declared.mark.Mark.{Mark};
 ghost use Rattle.encoding_front.specs.declared.encoding.Encoding.{Encoding};
 ghost use Rattle.encoding_front.specs.declared.encoding.Encoding.TheVariants.{Replacement, Utf16Be, Utf16Le};
 
@@ -27,4 +36,38 @@ pub fn output_encodings()
 /// The name of an encoding is a label of it: so `for_label` of the name is the encoding.
 pub fn names_are_labels()
     ensures { (e : Encoding) → HasLabel e (name_of e) }
+{}
+
+/// What is written for a text reads back as that text exactly where each character of it has bytes, by any
+/// indexes that were accepted, where the output encoding has no folds.
+pub fn texts_read_back()
+    ensures { (t : IndexLists) (e : Encoding) → KeepsCharacters e → AreAcceptedTables t → ReadsBackExactly (pieces_of t (output_encoding_of e)) (coding_of t e) }
+{}
+
+/// How long what is written can be. A character without bytes is reported as it is or as U+FFFD; a text of n
+/// characters is written in at most 13 n + 3 bytes.
+pub fn written_is_short()
+    ensures form { (t : IndexLists) (e : Encoding) (c : ℕ) → length (bytes ((coding_of t e).form c)) ≤ 4 }
+    ensures escape { (t : IndexLists) (e : Encoding) (s s' : Set) → length ((coding_of t e).escape s s') ≤ 3 }
+    ensures reported { (t : IndexLists) (e : Encoding) (c : ℕ) → ReportsItself c ((coding_of t e).form c) }
+    ensures reference { (c : ℕ) → c < 0x110000 → length (reference c) ≤ 10 }
+    ensures part { (t : IndexLists) (e : Encoding) (s : Set) (text : List ℕ) → all_scalars text ≡ true → length (open_from (coding_of t e) s text) ≤ 13 * length text }
+    ensures whole { (t : IndexLists) (e : Encoding) (text : List ℕ) → all_scalars text ≡ true → length (output (coding_of t e) text) ≤ 13 * length text + 3 }
+{}
+
+/// An input is its pieces, and what it is recoded to is bounded by its length: it has no more characters than
+/// bytes. Each character of its text is a scalar.
+pub fn input_is_its_pieces()
+    ensures pieces { (t : IndexLists) (mark : Mark) (e : Encoding) (x : List ℕ) → AreAcceptedTables t → ArePieces (marked_pieces t mark e x) }
+    ensures whole { (t : IndexLists) (mark : Mark) (e : Encoding) (x : List ℕ) → AreAcceptedTables t → sizes (marked_pieces t mark e x) ≡ length x }
+    ensures few { (t : IndexLists) (mark : Mark) (e : Encoding) (x : List ℕ) → AreAcceptedTables t → length (marked_text t mark e x) ≤ length x }
+    ensures scalars { (t : IndexLists) (mark : Mark) (e : Encoding) (x : List ℕ) → AreAcceptedTables t → all_scalars (marked_text t mark e x) ≡ true }
+    ensures recoded { (t : IndexLists) (mark : Mark) (from to : Encoding) (x : List ℕ) → AreAcceptedTables t
+        → length (output (coding_of t to) (marked_text t mark from x)) ≤ 13 * length x + 3 }
+{}
+
+/// An input that is decoded at once, and its text encoded at once, gives the output for its text.
+pub fn both_at_once()
+    ensures { (t : IndexLists) (mark : Mark) (from to : Encoding) (x decoded : List ℕ) → AreAcceptedTables t → decoded ≡ encode_utf8_all (marked_text t mark from x)
+        → output (coding_of t to) (chars decoded) ≡ output (coding_of t to) (marked_text t mark from x) }
 {}

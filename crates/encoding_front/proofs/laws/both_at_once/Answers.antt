@@ -1,0 +1,5 @@
+use Rattle.encoding_front.specs.InputLaws.{recoded_at_once}
+use Rattle.encoding_front.proofs.laws.both_at_once.Goals as goal
+
+pub returns : goal.returns
+returns c = recoded_at_once
