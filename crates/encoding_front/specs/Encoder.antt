@@ -4,6 +4,7 @@ use Rattle.std.specs.Bool.{MatchBool}
 use Rattle.encoding_mem.specs.Coding.{Coding, IsMapped, last_set, lost_count, open_from, reference, spelled, whole_from}
 use Rattle.encoding_mem.specs.Encoding.{Answers, Continues, Encodes, Writes}
 use Rattle.encoding_mem.specs.Room.{checked, line_at}
+use Rattle.encoding_mem.specs.Target.{Moves}
 use Rattle.encoding_mem.specs.TextRoom.{line_for}
 use Rattle.encoding_mem.specs.declared.encoder_result.EncoderResult.{EncoderResult}
 use Rattle.encoding_mem.specs.declared.form.Set.{Set}
@@ -42,6 +43,7 @@ pub record Encoded (x : EncoderState) (last : Bool) (answer : EncoderResult) (te
   pub law : Encodes (coding_in x) last answer x.set text written x'.set rest
   pub bytes : Writes (coding_in x) last answer x.set text written x'.set rest
   pub answers : Answers (need_of x.encoding) last answer x'.set rest room
+  pub moves : Moves (coding_in x) x.set x'.set
 
 -- The bytes that are kept back for a reference, of which the longest is `&#1114111;`: none where each character has
 -- bytes.

@@ -3,13 +3,15 @@ ghost use Rattle.std.specs.Str.{chars, IsCharBoundary};
 ghost use Rattle.std.specs.Char.Utf16.{utf16_lossy_chars};
 ghost use Rattle.encoding_mem.specs.Room.{checked};
 ghost use Rattle.encoding_mem.specs.declared.form.Set.TheVariants.{Ascii};
-ghost use Rattle.encoding_front.specs.Encoder.{Encoded, EncoderState, IsEncoderOf, Replaces, kept_back, new_state, queried_room, queried_with_kept, room_for};
-ghost use Rattle.encoding_front.specs.Encodings.{IsReady, output_encoding_of};
+ghost use Rattle.encoding_front.specs.Encoder.{Encoded, EncoderState, IsEncoderOf, Replaces, coding_in, kept_back, new_state, queried_room, queried_with_kept, room_for};
+ghost use Rattle.encoding_front.specs.EncoderLaws.{coding_laws};
+ghost use Rattle.encoding_front.specs.Encodings.{IsReady, coding_of, need_of, output_encoding_of, text_room_of};
 
 use crate::coder_result::CoderResult;
 use crate::encoding::Encoding;
 use crate::replacing::encode_replacing;
 use crate::variant_encoder::VariantEncoder;
+use encoding_mem::room::TextRoom;
 use encoding_mem::{EncoderResult, RawEncoder};
 use encoding_tables::Tables;
 use std::fmt;
@@ -37,7 +39,8 @@ impl Encoding {
     /// An encoder of a new stream into the output encoding of this one.
     pub fn new_encoder(self, tables: &Tables) -> Encoder<'_>
         requires { IsReady tables.now (output_encoding_of self) }
-        ensures { result ≡ new_state tables.now self }
+        ensures state { result ≡ new_state tables.now self }
+        ensures coding { ⟦<Encoder<'static> as RawEncoder>⟧.coding result ≡ coding_of tables.now self }
     {
         let encoding = self.output_encoding();
         Encoder {
@@ -236,6 +239,44 @@ impl<'t> Encoder<'t> {
         );
         dst.truncate(len + written);
         (result, read)
+    }
+}
+
+impl<'t> RawEncoder for Encoder<'t> {
+    ghost need = { λ x. need_of x.encoding };
+
+    ghost coding = { coding_in };
+
+    ghost set = { λ x. x.set };
+
+    ghost limits = { λ x. text_room_of x.encoding };
+
+    ghost laws = { λ x. coding_laws x.tables x.encoding };
+
+    fn encode_from_utf8_raw(
+        &mut self,
+        src: &str,
+        dst: &mut [u8],
+        last: bool,
+    ) -> (EncoderResult, usize, usize) {
+        self.encode_from_utf8_without_replacement(src, dst, last)
+    }
+
+    fn encode_from_utf16_raw(
+        &mut self,
+        src: &[u16],
+        dst: &mut [u8],
+        last: bool,
+    ) -> (EncoderResult, usize, usize) {
+        self.encode_from_utf16_without_replacement(src, dst, last)
+    }
+
+    fn room(&self) -> TextRoom {
+        self.variant.room()
+    }
+
+    fn has_pending_state(&self) -> bool {
+        RawEncoder::has_pending_state(&self.variant)
     }
 }
 

@@ -7,14 +7,14 @@ pub returns-in-InputEmpty-clause-bytes : goal.returns-in-InputEmpty-clause-bytes
 returns-in-InputEmpty-clause-bytes c =
     let e = c.encode_from_utf8_to_vec-result.ensures.call in
     let ends = rw c.in-InputEmpty.is at e.2.ends in
-    all_bytes _ _ c.new_encoder-encoder.result c.encode_from_utf8_to_vec-result.new.self _ _ _ _ c.new_encoder-encoder.ensures
+    all_bytes _ _ c.new_encoder-encoder.result c.encode_from_utf8_to_vec-result.new.self _ _ _ _ c.new_encoder-encoder.ensures.state
     (one_more c.new_encoder-encoder.result c.text.encoder c.encode_from_utf8_to_vec-result.new.self _ _ _ _ _ _ _ _ _ _ _ c.text.invariant.passed c.reserve_for.ensures.items e.1 e.2) ends.0 (ends.1 refl)
 
 pub returns-in-InputEmpty-clause-lost : goal.returns-in-InputEmpty-clause-lost
 returns-in-InputEmpty-clause-lost c =
     let e = c.encode_from_utf8_to_vec-result.ensures.call in
     let ends = rw c.in-InputEmpty.is at e.2.ends in
-    all_told _ _ c.new_encoder-encoder.result c.encode_from_utf8_to_vec-result.new.self _ _ _ _ c.new_encoder-encoder.ensures
+    all_told _ _ c.new_encoder-encoder.result c.encode_from_utf8_to_vec-result.new.self _ _ _ _ c.new_encoder-encoder.ensures.state
     (one_more c.new_encoder-encoder.result c.text.encoder c.encode_from_utf8_to_vec-result.new.self _ _ _ _ _ _ _ _ _ _ _ c.text.invariant.passed c.reserve_for.ensures.items e.1 e.2) ends.0
 
 pub text-preserved : goal.text-preserved
