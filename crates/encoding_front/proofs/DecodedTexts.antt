@@ -14,17 +14,17 @@ use Rattle.encoding_mem.specs.declared.decoder_result.DecoderResult.TheVariants.
 use Rattle.encoding_front.specs.DecodedText.{TakesText, SufficesText}
 
 -- good pieces have the text of their scalars
-good_text : (ps : List Piece) → AreGood ps → text ps ≡ scalars ps
+pub good_text : (ps : List Piece) → AreGood ps → text ps ≡ scalars ps
 good_text [] h = refl
 good_text (good n cs ∷ ps) h = ap (λ t. cs ++ t) (good_text ps h.1)
 good_text (bad n ∷ ps) h = absurd h.0
 
-good_none : (ps : List Piece) → AreGood ps → bad_count ps ≡ 0
+pub good_none : (ps : List Piece) → AreGood ps → bad_count ps ≡ 0
 good_none [] h = refl
 good_none (good n cs ∷ ps) h = good_none ps h.1
 good_none (bad n ∷ ps) h = absurd h.0
 
-bad_count-append : (a b : List Piece) → bad_count (a ++ b) ≡ bad_count a + bad_count b
+pub bad_count-append : (a b : List Piece) → bad_count (a ++ b) ≡ bad_count a + bad_count b
 bad_count-append [] b = omega arith
 bad_count-append (good n cs ∷ a) b = bad_count-append a b
 bad_count-append (bad n ∷ a) b = omega (arith, bad_count-append a b)

@@ -15,3 +15,4 @@ pub mod MarkSources
 pub mod AskedRoom
 pub mod DecodedTexts
 pub mod TextDestinations
+pub mod WholeInputs

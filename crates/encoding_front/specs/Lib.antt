@@ -13,6 +13,7 @@ pub mod TakesMark
 pub mod Latin1Prefix
 pub mod Stream
 pub mod DecodedText
+pub mod OneShot
 pub mod Bounds
 pub mod BoundsLaws
 pub mod InputLaws

@@ -19,6 +19,9 @@ mod held;
 pub mod laws;
 pub mod mark;
 mod marked_decoder;
+mod one_shot_decoding;
+#[cfg(test)]
+mod one_shot_decoding_tests;
 mod one_shot_encoding;
 #[cfg(test)]
 mod one_shot_encoding_tests;

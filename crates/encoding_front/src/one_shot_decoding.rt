@@ -1,0 +1,142 @@
+// A whole input at once.
+
+ghost use Rattle.std.specs.Prelude.{◌≡◌, ◌↔◌, ℕ, ◌<◌, IsTrue, Option, None, Some, length, IfOk, IfErr, IfSome, encode_utf8_all};
+ghost use Rattle.std.specs.String.{string_bytes};
+ghost use Rattle.encoding_mem.specs.Piece.{bad_count};
+ghost use Rattle.encoding_mem.specs.declared.room.Count.TheVariants.{Bytes, Replaced};
+ghost use Rattle.encoding_front.specs.Encodings.{IsReady};
+ghost use Rattle.encoding_front.specs.Marks.{marked_pieces, marked_text, source_of};
+ghost use Rattle.encoding_front.specs.OneShot.{IsRefused, room_at_start};
+
+use crate::decoder::{Decoder, StreamDecoder};
+use crate::encoding::Encoding;
+use crate::mark::Mark;
+use crate::one_shot_fault::OneShotFault;
+use encoding_mem::DecoderResult;
+use encoding_tables::Tables;
+use std::alloc::Global;
+
+impl Encoding {
+    /// Decodes a whole input, in which any of the three byte order marks is taken (the Encoding Standard,
+    /// section 6, "decode"). Answers the text, with U+FFFD for each bad piece, the encoding that the mark
+    /// says or else this one, and whether there was a bad piece.
+    ///
+    /// `Overflow` is answered where the room that a new decoder asks for the input passes a `usize`;
+    /// `Memory` where it was refused.
+    pub fn decode(
+        self,
+        alloc: Global,
+        tables: &Tables,
+        bytes: &[u8],
+    ) -> Result<(String, Encoding, bool), OneShotFault>
+        requires { IsReady tables.now self }
+        ensures text { IfOk result (λ r. string_bytes r.0 ≡ encode_utf8_all (marked_text tables.now Mark.Sniff self bytes.now)) }
+        ensures encoding { IfOk result (λ r. r.1 ≡ (source_of Mark.Sniff self bytes.now).0) }
+        ensures bad { IfOk result (λ r. IsTrue r.2 ↔ (0 < bad_count (marked_pieces tables.now Mark.Sniff self bytes.now))) }
+        ensures fault { IfErr result (IsRefused (room_at_start Mark.Sniff self Replaced (length bytes.now))) }
+        ensures asked { room_at_start Mark.Sniff self Replaced (length bytes.now) ≡ None → result ≡ Err OneShotFault.Overflow }
+    {
+        self.decode_marked(Mark::Sniff, alloc, tables, bytes)
+    }
+
+    /// Decodes a whole input, from which the encoding's own byte order mark is taken (as in "UTF-8 decode").
+    /// Answers the text and whether there was a bad piece. Faults are those of `decode`.
+    pub fn decode_with_bom_removal(
+        self,
+        alloc: Global,
+        tables: &Tables,
+        bytes: &[u8],
+    ) -> Result<(String, bool), OneShotFault>
+        requires { IsReady tables.now self }
+        ensures text { IfOk result (λ r. string_bytes r.0 ≡ encode_utf8_all (marked_text tables.now Mark.Remove self bytes.now)) }
+        ensures bad { IfOk result (λ r. IsTrue r.1 ↔ (0 < bad_count (marked_pieces tables.now Mark.Remove self bytes.now))) }
+        ensures fault { IfErr result (IsRefused (room_at_start Mark.Remove self Replaced (length bytes.now))) }
+        ensures asked { room_at_start Mark.Remove self Replaced (length bytes.now) ≡ None → result ≡ Err OneShotFault.Overflow }
+    {
+        let (text, _, had_errors) = self.decode_marked(Mark::Remove, alloc, tables, bytes)?;
+        Ok((text, had_errors))
+    }
+
+    /// Decodes a whole input, in which a byte order mark is text (as in "UTF-8 decode without BOM"). Answers
+    /// the text and whether there was a bad piece. Faults are those of `decode`.
+    pub fn decode_without_bom_handling(
+        self,
+        alloc: Global,
+        tables: &Tables,
+        bytes: &[u8],
+    ) -> Result<(String, bool), OneShotFault>
+        requires { IsReady tables.now self }
+        ensures text { IfOk result (λ r. string_bytes r.0 ≡ encode_utf8_all (marked_text tables.now Mark.Keep self bytes.now)) }
+        ensures bad { IfOk result (λ r. IsTrue r.1 ↔ (0 < bad_count (marked_pieces tables.now Mark.Keep self bytes.now))) }
+        ensures fault { IfErr result (IsRefused (room_at_start Mark.Keep self Replaced (length bytes.now))) }
+        ensures asked { room_at_start Mark.Keep self Replaced (length bytes.now) ≡ None → result ≡ Err OneShotFault.Overflow }
+    {
+        let (text, _, had_errors) = self.decode_marked(Mark::Keep, alloc, tables, bytes)?;
+        Ok((text, had_errors))
+    }
+
+    /// Decodes a whole input, in which a byte order mark is text. Answers none where a piece is bad. Faults
+    /// are those of `decode`, by the room that is asked for without replacement.
+    pub fn decode_without_bom_handling_and_without_replacement(
+        self,
+        alloc: Global,
+        tables: &Tables,
+        bytes: &[u8],
+    ) -> Result<Option<String>, OneShotFault>
+        requires { IsReady tables.now self }
+        ensures text { IfOk result (λ r. IfSome r (λ text. string_bytes text ≡ encode_utf8_all (marked_text tables.now Mark.Keep self bytes.now))) }
+        ensures bad { IfOk result (λ r. (r ≡ None) ↔ (0 < bad_count (marked_pieces tables.now Mark.Keep self bytes.now))) }
+        ensures fault { IfErr result (IsRefused (room_at_start Mark.Keep self Bytes (length bytes.now))) }
+        ensures asked { room_at_start Mark.Keep self Bytes (length bytes.now) ≡ None → result ≡ Err OneShotFault.Overflow }
+    {
+        let mut decoder = self.new_decoder_without_bom_handling(tables);
+        let room = decoder.max_utf8_buffer_length_without_replacement(bytes.len());
+        let mut text = filled(alloc, room)?;
+        let (outcome, _, written) = decoder.decode_to_utf8_without_replacement(
+            bytes, &mut text, true,
+        );
+        if let DecoderResult::Malformed(..) = outcome {
+            return Ok(None);
+        }
+        text.truncate(written);
+        Ok(Some(unsafe { String::from_utf8_unchecked(text) }))
+    }
+
+    // The text, the encoding in force, and whether there was a bad piece.
+    fn decode_marked(
+        self,
+        mark: Mark,
+        alloc: Global,
+        tables: &Tables,
+        bytes: &[u8],
+    ) -> Result<(String, Encoding, bool), OneShotFault>
+        requires { IsReady tables.now self }
+        ensures text { IfOk result (λ r. string_bytes r.0 ≡ encode_utf8_all (marked_text tables.now mark self bytes.now)) }
+        ensures encoding { IfOk result (λ r. r.1 ≡ (source_of mark self bytes.now).0) }
+        ensures bad { IfOk result (λ r. IsTrue r.2 ↔ (0 < bad_count (marked_pieces tables.now mark self bytes.now))) }
+        ensures fault { IfErr result (IsRefused (room_at_start mark self Replaced (length bytes.now))) }
+        ensures asked { room_at_start mark self Replaced (length bytes.now) ≡ None → result ≡ Err OneShotFault.Overflow }
+    {
+        let mut decoder = Decoder::new(self, mark, tables);
+        let room = decoder.max_utf8_buffer_length(bytes.len());
+        let mut text = filled(alloc, room)?;
+        let (_, _, written, had_errors) = decoder.decode_to_utf8(bytes, &mut text, true);
+        text.truncate(written);
+        let text = unsafe { String::from_utf8_unchecked(text) };
+        Ok((text, decoder.encoding(), had_errors))
+    }
+}
+
+// So many zeros.
+fn filled(alloc: Global, room: Option<usize>) -> Result<Vec<u8>, OneShotFault>
+    ensures len { IfOk result (λ v. room ≡ Some (length v.items)) }
+    ensures fault { IfErr result (IsRefused room) }
+    ensures asked { room ≡ None → result ≡ Err OneShotFault.Overflow }
+{
+    let Some(room) = room else {
+        return Err(OneShotFault::Overflow);
+    };
+    let mut bytes = Vec::new(alloc);
+    bytes.resize(room, 0)?;
+    Ok(bytes)
+}
