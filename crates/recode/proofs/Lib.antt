@@ -7,6 +7,9 @@ pub mod Wholes
 pub mod QuietLogs
 pub mod Runs
 pub mod InputLaws
+pub mod PieceSizes
+pub mod OutputLaws
+pub mod TwoRuns
 pub mod Conversions
 pub mod CharacterCounts
 pub mod Loading

@@ -27,7 +27,7 @@ use Rattle.recode.proofs.QuietLogs.{no_lines, kept_where_no_lines, no_lines_with
 use Rattle.recode.proofs.Wholes.{outputs-trace, lines-trace, bad_lines-trace, lost_lines-trace}
 
 -- No bad piece.
-none_bad : (ps : List Piece) → bad_count ps ≡ 0 → AreGood ps
+pub none_bad : (ps : List Piece) → bad_count ps ≡ 0 → AreGood ps
 none_bad [] h = tt
 none_bad (good n cs ∷ ps) h = (tt, none_bad ps h)
 none_bad (bad n ∷ ps) h = absurd (omega arith)

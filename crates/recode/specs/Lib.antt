@@ -8,5 +8,8 @@ pub mod Job
 pub mod JobRows
 pub mod Buffers
 pub mod Session
+pub mod Slices
+pub mod ReadBack
+pub mod Runs
 pub mod Conversion
 pub mod Program

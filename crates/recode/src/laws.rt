@@ -1,14 +1,19 @@
 //! Laws of what a run writes. The functions do nothing: each contract is a law over the definitions.
 
-ghost use Rattle.std.specs.Prelude.{◌≡◌, ◌↔◌, ◌<◌, ℕ, List, [], length, Option};
-ghost use Rattle.std.specs.Str.{IsUtf8};
-ghost use Rattle.encoding_mem.specs.Piece.{AreGood, bad_count};
-ghost use Rattle.encoding_mem.specs.Coding.{AllMapped, lost_count};
-ghost use Rattle.encoding_front.specs.Encodings.{IsUtf8Encoding, KeepsCharacters};
+ghost use Rattle.std.specs.Prelude.{◌≡◌, ◌↔◌, ◌<◌, ◌≤◌, ◌+◌, ◌*◌, ℕ, Bool, IsTrue, IsFalse, List, [], length, map, Option, encode_utf8_all};
+ghost use Rattle.std.specs.List.{concat};
+ghost use Rattle.std.specs.Str.{chars, IsUtf8};
+ghost use Rattle.std.specs.Io.KnownBytes.{Appends};
+ghost use Rattle.encoding_mem.specs.Piece.{AreGood, ArePieces, bad_count, size_of, sizes};
+ghost use Rattle.encoding_mem.specs.Coding.{AllMapped, lost_count, output};
+ghost use Rattle.encoding_front.specs.Encodings.{IsUtf8Encoding, KeepsCharacters, coding_of, output_encoding_of};
+ghost use Rattle.encoding_front.specs.Marks.{marked_pieces, marked_text};
 ghost use Rattle.encoding_front.specs.declared.mark.Mark.{Mark};
 ghost use Rattle.recode.specs.Job.{Faithful, IsValidJob, input_pieces, input_text, log_of, output_of, target_of, trace};
 ghost use Rattle.recode.specs.Marked.{lines, marks, outputs};
 ghost use Rattle.recode.specs.Payment.{bad_lines, lost_lines};
+ghost use Rattle.recode.specs.ReadBack.{back, in_utf8};
+ghost use Rattle.recode.specs.Slices.{slices};
 ghost use Rattle.recode.specs.Session.{Completes, Fails, IsConverted};
 ghost use Rattle.recode.specs.Step.{WroteFront};
 ghost use Rattle.recode.specs.declared.fault.Fault.{Fault};
@@ -46,4 +51,47 @@ pub fn known_input()
     ensures completes { (x : List ℕ) (r w w' l l' : Option (List ℕ)) (j : Job) (p : Report) → Completes (Some x) r w w' l l' j p → IsConverted w w' l l' j x p }
     ensures fails { (x : List ℕ) (r w w' l l' : Option (List ℕ)) (j : Job) (f : Fault) → Fails (Some x) r w w' l l' j f → WroteFront w w' l l' (trace j x) }
     ensures too_long { (x : List ℕ) (r w w' l l' : Option (List ℕ)) (j : Job) → Fails (Some x) r w w' l l' j Fault.TooLong → j.limit < length x }
+{}
+
+/// The pieces of an input, the mark that is taken among them, stand for some bytes each, and for no more characters
+/// than bytes. Joined, they are the input.
+pub fn pieces_are_the_input()
+    ensures pieces { (j : Job) (x : List ℕ) → IsValidJob j → ArePieces (input_pieces j x) }
+    ensures sizes { (j : Job) (x : List ℕ) → IsValidJob j → sizes (input_pieces j x) ≡ length x }
+    ensures covers { (j : Job) (x : List ℕ) → IsValidJob j → map length (slices (input_pieces j x) x) ≡ map size_of (input_pieces j x) }
+    ensures joined { (j : Job) (x : List ℕ) → IsValidJob j → concat (slices (input_pieces j x) x) ≡ x }
+{}
+
+/// The text has at most as many characters as the input has bytes. The output has at most 13 bytes for each byte of
+/// the input, as many as an escape of ISO-2022-JP and the longest reference have, and three more.
+pub fn lengths_are_bounded()
+    ensures text { (j : Job) (x : List ℕ) → IsValidJob j → length (input_text j x) ≤ length x }
+    ensures output { (j : Job) (x : List ℕ) → IsValidJob j → length (output_of j x) ≤ 13 * length x + 3 }
+{}
+
+/// Where nothing was lost, the output, recoded from its encoding to UTF-8 with marks kept, gives what the input gives
+/// that is recoded to UTF-8; and neither loses anything.
+pub fn output_reads_back()
+    ensures jobs { (j : Job) → IsValidJob j → IsValidJob (back j) × IsValidJob (in_utf8 j) }
+    ensures output { (j : Job) (x : List ℕ) → Faithful j x → output_of (back j) (output_of j x) ≡ output_of (in_utf8 j) x }
+    ensures log { (j : Job) (x : List ℕ) → Faithful j x → (log_of (back j) (output_of j x) ≡ []) × (log_of (in_utf8 j) x ≡ []) }
+{}
+
+/// Where the output is UTF-8, no character is lost, and no line tells one.
+pub fn utf8_loses_nothing()
+    ensures lines { (j : Job) (x : List ℕ) → IsUtf8Encoding (output_encoding_of j.to) → lost_lines (trace j x) ≡ 0 }
+    ensures lost { (j : Job) (x : List ℕ) → IsUtf8Encoding (output_encoding_of j.to) → lost_count (target_of j) (input_text j x) ≡ 0 }
+{}
+
+/// Where a character is lost and what is written has no folds, the output does not read back.
+pub fn lost_is_unfaithful()
+    ensures { (j : Job) (x : List ℕ) → IsValidJob j → KeepsCharacters j.to → 0 < lost_count (target_of j) (input_text j x) → ¬ (Faithful j x) }
+{}
+
+/// What is decoded at once and then encoded at once is what a run writes that ends well, with the same handling of
+/// marks: `decode` and `encode` give the output. Its log is empty exactly where neither told a loss.
+pub fn whole_texts_are_the_same()
+    ensures bytes { (j : Job) (x decoded bytes : List ℕ) → IsValidJob j → decoded ≡ encode_utf8_all (marked_text j.tables.now j.mark j.from x) → bytes ≡ output (coding_of j.tables.now j.to) (chars decoded) → bytes ≡ output_of j x }
+    ensures run { (j : Job) (x decoded bytes : List ℕ) (w w' l l' : Option (List ℕ)) (p : Report) → IsValidJob j → decoded ≡ encode_utf8_all (marked_text j.tables.now j.mark j.from x) → bytes ≡ output (coding_of j.tables.now j.to) (chars decoded) → IsConverted w w' l l' j x p → Appends w w' bytes }
+    ensures log { (j : Job) (x decoded : List ℕ) (bad lost : Bool) → IsValidJob j → decoded ≡ encode_utf8_all (marked_text j.tables.now j.mark j.from x) → IsTrue bad ↔ (0 < bad_count (marked_pieces j.tables.now j.mark j.from x)) → IsTrue lost ↔ (0 < lost_count (coding_of j.tables.now j.to) (chars decoded)) → (log_of j x ≡ []) ↔ (IsFalse bad × IsFalse lost) }
 {}

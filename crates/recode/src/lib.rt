@@ -19,6 +19,7 @@ mod phase;
 pub mod program;
 pub mod progress;
 pub mod report;
+pub mod run_laws;
 pub mod session;
 
 pub use buffers::{Buffers, Pivot};

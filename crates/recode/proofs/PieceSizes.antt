@@ -1,0 +1,46 @@
+-- The pieces of an input, joined, are the input.
+use Rattle.std.proofs.Common.{◌≡◌, ℕ, ◌+◌, ◌*◌, ◌≤◌, List, [], ◌∷◌, ◌++◌, map, length, take, drop, refl, ◌∙◌, ap, arith, length-drop, length-take, take-append-drop}
+use Rattle.std.specs.List.{concat}
+use Rattle.encoding_mem.specs.Piece.{Piece, size_of, sizes, ArePieces}
+use Rattle.encoding_front.specs.InputLaws.{marked_are_pieces, marked_few, marked_whole, short_recoded}
+use Rattle.recode.specs.Job.{IsValidJob, input_pieces, input_text, output_of}
+use Rattle.recode.specs.Slices.{slices}
+use Rattle.recode.specs.declared.job.Job.{Job}
+
+pub input_are_pieces : (j : Job) (x : List ℕ) → IsValidJob j → ArePieces (input_pieces j x)
+input_are_pieces j x v = marked_are_pieces j.tables.now j.mark j.from x v.tables
+
+pub input_whole : (j : Job) (x : List ℕ) → IsValidJob j → sizes (input_pieces j x) ≡ length x
+input_whole j x v = marked_whole j.tables.now j.mark j.from x v.tables
+
+-- their bytes, joined, are the input
+joined : (ps : List Piece) (x : List ℕ) → sizes ps ≡ length x → concat (slices ps x) ≡ x
+joined [] [] h = refl
+joined [] (b ∷ x) h = absurd (omega (arith, h))
+joined (p ∷ ps) x h =
+    ap (λ l. take (size_of p) x ++ l) (joined ps (drop (size_of p) x) (omega (arith, h, length-drop (size_of p) x)))
+    ∙ take-append-drop (size_of p) x
+
+pub input_joined : (j : Job) (x : List ℕ) → IsValidJob j → concat (slices (input_pieces j x) x) ≡ x
+input_joined j x v = joined (input_pieces j x) x (input_whole j x v)
+
+-- and each has the bytes of its size
+same_cons : (a b : ℕ) (k l : List ℕ) → a ≡ b → k ≡ l → a ∷ k ≡ b ∷ l
+same_cons a b k l h i = cc
+
+covers : (ps : List Piece) (x : List ℕ) → sizes ps ≤ length x → map length (slices ps x) ≡ map size_of ps
+covers [] x h = refl
+covers (p ∷ ps) x h =
+    same_cons (length (take (size_of p) x)) (size_of p) (map length (slices ps (drop (size_of p) x))) (map size_of ps)
+    (omega (arith, h, length-take (size_of p) x))
+    (covers ps (drop (size_of p) x) (omega (arith, h, length-drop (size_of p) x)))
+
+pub input_covers : (j : Job) (x : List ℕ) → IsValidJob j → map length (slices (input_pieces j x) x) ≡ map size_of (input_pieces j x)
+input_covers j x v = covers (input_pieces j x) x (omega (arith, input_whole j x v))
+
+-- the lengths of the text and of the output
+pub text_within : (j : Job) (x : List ℕ) → IsValidJob j → length (input_text j x) ≤ length x
+text_within j x v = marked_few j.tables.now j.mark j.from x v.tables
+
+pub output_within : (j : Job) (x : List ℕ) → IsValidJob j → length (output_of j x) ≤ 13 * length x + 3
+output_within j x v = short_recoded j.tables.now j.mark j.from j.to x v.tables

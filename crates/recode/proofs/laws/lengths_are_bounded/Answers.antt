@@ -1,0 +1,5 @@
+use Rattle.recode.proofs.PieceSizes.{text_within, output_within}
+use Rattle.recode.proofs.laws.lengths_are_bounded.Goals as goal
+
+pub returns : goal.returns
+returns c = record { text = text_within; output = output_within }

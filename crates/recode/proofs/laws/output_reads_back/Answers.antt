@@ -1,0 +1,5 @@
+use Rattle.recode.proofs.OutputLaws.{valid_back, reads_back, quiet_back}
+use Rattle.recode.proofs.laws.output_reads_back.Goals as goal
+
+pub returns : goal.returns
+returns c = record { jobs = valid_back; output = reads_back; log = quiet_back }

@@ -1,0 +1,5 @@
+use Rattle.recode.proofs.OutputLaws.{lost_is_told}
+use Rattle.recode.proofs.run_laws.lost_is_told.Goals as goal
+
+pub returns : goal.returns
+returns c = lost_is_told
