@@ -1,5 +1,5 @@
 -- What is written, beside what another job writes.
-use Rattle.std.proofs.Common.{◌≡◌, ℕ, ◌<◌, ◌↔◌, inl, inr, Bool, true, false, IsTrue, IsFalse, List, [], Option, refl, sym, ◌∙◌, ap, subst, arith, encode_utf8_all, true≢false}
+use Rattle.std.proofs.Common.{◌≡◌, ℕ, ◌<◌, ◌↔◌, inl, inr, Bool, true, false, IsTrue, IsFalse, List, [], Option, Some, refl, sym, ◌∙◌, ap, subst, arith, encode_utf8_all, true≢false}
 use Rattle.std.specs.Str.{chars}
 use Rattle.std.specs.Io.KnownBytes.{Appends}
 use Rattle.std.proofs.lemmas.Bool.{cases_lt, false≢true}
@@ -35,6 +35,12 @@ quiet_in_utf8 j x h = quiet_where_kept (in_utf8 j) x h (all_in_utf8 (input_text 
 
 pub quiet_back : (j : Job) (x : List ℕ) → Faithful j x → (log_of (back j) (output_of j x) ≡ []) × (log_of (in_utf8 j) x ≡ [])
 quiet_back j x f = (quiet_where_kept (back j) (output_of j x) f.target (all_in_utf8 (text (output_pieces j (output_of j x)))), quiet_in_utf8 j x f.source)
+
+-- in runs whose writers begin with nothing
+pub runs_read_back : (j : Job) (x bytes again direct : List ℕ) (l l' m m' n n' : Option (List ℕ)) (p q r : Report) → KeepsCharacters j.to → IsTrue p.faithful → IsConverted (Some []) (Some bytes) l l' j x p
+    → IsConverted (Some []) (Some again) m m' (back j) bytes q → IsConverted (Some []) (Some direct) n n' (in_utf8 j) x r → again ≡ direct
+runs_read_back j x bytes again direct l l' m m' n n' p q r keeps told a b c =
+    b.output ∙ ap (output_of (back j)) a.output ∙ reads_back j x ((a.report.faithful keeps).0 told) ∙ sym c.output
 
 -- UTF-8 loses no character.
 pub none_lost_in_utf8 : (j : Job) (x : List ℕ) → IsUtf8Encoding (output_encoding_of j.to) → lost_count (target_of j) (input_text j x) ≡ 0

@@ -1,6 +1,8 @@
 //! Laws of runs, as the contract of `run` tells them. The functions do nothing: each contract is a law.
 
-ghost use Rattle.std.specs.Prelude.{◌≡◌, ◌↔◌, ◌⊎◌, ◌<◌, ◌≤◌, ℕ, IsOk, IsTrue, List, length, Option, Result, Some, Err};
+ghost use Rattle.std.specs.Prelude.{◌≡◌, ◌↔◌, ◌⊎◌, ◌<◌, ◌≤◌, ℕ, IsOk, IsTrue, List, [], length, Option, Result, Some, Err};
+ghost use Rattle.encoding_front.specs.Encodings.{KeepsCharacters};
+ghost use Rattle.recode.specs.ReadBack.{back, in_utf8};
 ghost use Rattle.recode.specs.Runs.{AgreeButForCalls, Answers, WroteTheSame};
 ghost use Rattle.recode.specs.Session.{Completes, IsConverted, IsReport};
 ghost use Rattle.recode.specs.declared.fault.Fault.{Fault};
@@ -28,4 +30,10 @@ pub fn answers_without_faults()
 /// A report that tells a lost character does not say that nothing was lost.
 pub fn lost_is_told()
     ensures { (j : Job) (x : List ℕ) (p : Report) → IsReport j x p → 0 < p.lost → ¬ (IsTrue p.faithful) }
+{}
+
+/// Where a run says that nothing was lost, and its target has no folds, a run that recodes its output to UTF-8, with
+/// marks kept, writes what one writes that recodes its input to UTF-8.
+pub fn faithful_output_reads_back()
+    ensures { (j : Job) (x bytes again direct : List ℕ) (l l' m m' n n' : Option (List ℕ)) (p q r : Report) → KeepsCharacters j.to → IsTrue p.faithful → IsConverted (Some []) (Some bytes) l l' j x p → IsConverted (Some []) (Some again) m m' (back j) bytes q → IsConverted (Some []) (Some direct) n n' (in_utf8 j) x r → again ≡ direct }
 {}
