@@ -1,10 +1,9 @@
--- What a call of a decoder took, in words of the text that it wrote.
-use Rattle.std.proofs.Common.{◌≡◌, ℕ, ◌+◌, ◌-◌, ◌≤◌, ◌<◌, Bool, true, false, List, [], ◌∷◌, ◌++◌, map, length, take, drop, refl, sym, ◌∙◌, ap, subst, arith, append_assoc, append-nil, length-append, encode_utf8_all, ◌⊎◌, inl, inr}
-use Rattle.std.specs.Str.{chars, IsUtf8}
+-- What a call of a decoder took, in words of the text that it wrote. W says which text was written.
+use Rattle.std.proofs.Common.{◌≡◌, ℕ, ◌+◌, ◌-◌, ◌≤◌, ◌<◌, Bool, true, false, List, [], ◌∷◌, ◌++◌, map, length, drop, refl, sym, ◌∙◌, ap, subst, arith, append_assoc, append-nil, length-append, ◌⊎◌, inl, inr}
+use Rattle.std.specs.Str.{all_scalars}
 use Rattle.std.proofs.lemmas.Bool.{false≢true}
 use Rattle.encoding_mem.specs.Piece.{Piece, good, bad, size_of, sizes, scalars, AreGood, ArePieces}
 use Rattle.encoding_mem.specs.Decoding.{DecoderState, Takes, StateLaw}
-use Rattle.encoding_mem.specs.Writing.{Adds}
 use Rattle.encoding_mem.specs.Coding.{Coding, IsCoding, last_set}
 use Rattle.encoding_mem.specs.Items.{Item, Byte, BadAt, open_items, whole_items, closing, trace_from}
 use Rattle.encoding_mem.specs.declared.form.Set.{Set}
@@ -13,7 +12,7 @@ use Rattle.encoding_mem.specs.declared.decoder_result.DecoderResult.{DecoderResu
 use Rattle.encoding_mem.specs.declared.decoder_result.DecoderResult.TheVariants.{InputEmpty, OutputFull, Malformed}
 use Rattle.recode.specs.Owed.{owes, AreSound}
 use Rattle.recode.specs.declared.counts.Counts.{Counts}
-use Rattle.recode.proofs.Owing.{trace_good, front_pieces, few_scalars, scalars_are, sizes-append, scalars-append, pivot_utf8, pivot_chars}
+use Rattle.recode.proofs.Owing.{trace_good, front_pieces, few_scalars, scalars_are, sizes-append, scalars-append}
 
 -- a call that met no bad piece
 pub record GoodCall (before after : DecoderState) (src : List ℕ) (last : Bool) (read : ℕ) (t : List ℕ) : Type 0 where
@@ -41,16 +40,20 @@ pub record BadCall (before after : DecoderState) (src : List ℕ) (last : Bool) 
 are_taken : {Good : List Piece → Type 0} (before after : DecoderState) (src : List ℕ) (last : Bool) (read : ℕ) {W : List ℕ → Type 0} (k : Takes Good before.pieces after.pieces src last before.pending after.pending read W) → ArePieces k.taken
 are_taken before after src last read k = front_pieces k.taken (after.pieces (drop read src ++ [])) (subst ArePieces (k.rest [] (λ _. refl)) (before.are_pieces (src ++ [])))
 
--- what was written is text
-pub text_utf8 : (before after : DecoderState) (src : List ℕ) (last : Bool) (read : ℕ) (old new : List ℕ) (n : ℕ) (outcome : DecoderResult)
-    → StateLaw before after src last read (λ t. Adds old 0 (encode_utf8_all t) new n) outcome → IsUtf8 (take n new)
-text_utf8 before after src last read old new n outcome k = pivot_utf8 old new (scalars k.taken) n k.writes (scalars_are k.taken (are_taken before after src last read k))
+-- whatever text was written is this one
+abbrev pub IsText : (List ℕ → Type 0) → List ℕ → Type 0
+IsText W text = (t : List ℕ) → all_scalars t ≡ true → W t → text ≡ t
 
-good_call : (before after : DecoderState) (src : List ℕ) (last : Bool) (read : ℕ) (old new text : List ℕ) (n : ℕ)
-    → Takes AreGood before.pieces after.pieces src last before.pending after.pending read (λ t. Adds old 0 (encode_utf8_all t) new n) → text ≡ take n new → GoodCall before after src last read (chars text)
-good_call before after src last read old new text n k e =
+-- some text was written
+pub some_written : (before after : DecoderState) (src : List ℕ) (last : Bool) (read : ℕ) (W : List ℕ → Type 0) (outcome : DecoderResult)
+    → StateLaw before after src last read W outcome → (t : List ℕ) × (all_scalars t ≡ true) × W t
+some_written before after src last read W outcome k = (scalars k.taken, scalars_are k.taken (are_taken before after src last read k), k.writes)
+
+good_call : (before after : DecoderState) (src : List ℕ) (last : Bool) (read : ℕ) (W : List ℕ → Type 0) (text : List ℕ)
+    → Takes AreGood before.pieces after.pieces src last before.pending after.pending read W → IsText W text → GoodCall before after src last read text
+good_call before after src last read W text k e =
     let are = are_taken before after src last read k in
-    let is : chars text ≡ scalars k.taken = pivot_chars old new (scalars k.taken) text n k.writes (scalars_are k.taken are) e in
+    let is : text ≡ scalars k.taken = e (scalars k.taken) (scalars_are k.taken are) k.writes in
     record {
       taken = k.taken;
       fine = k.good;
@@ -61,46 +64,41 @@ good_call before after src last read old new text n k e =
       rest = k.rest;
     }
 
-pub empty_call : (before after : DecoderState) (src : List ℕ) (last : Bool) (read : ℕ) (old new text : List ℕ) (n : ℕ)
-    → StateLaw before after src last read (λ t. Adds old 0 (encode_utf8_all t) new n) InputEmpty → text ≡ take n new → GoodCall before after src last read (chars text)
-empty_call before after src last read old new text n k e =
-    good_call before after src last read old new text n (record { taken = k.taken; good = k.good; within = k.within; counted = k.counted; writes = k.writes; rest = k.rest }) e
+pub empty_call : (before after : DecoderState) (src : List ℕ) (last : Bool) (read : ℕ) (W : List ℕ → Type 0) (text : List ℕ)
+    → StateLaw before after src last read W InputEmpty → IsText W text → GoodCall before after src last read text
+empty_call before after src last read W text k e =
+    good_call before after src last read W text (record { taken = k.taken; good = k.good; within = k.within; counted = k.counted; writes = k.writes; rest = k.rest }) e
 
 -- the end of the input leaves no piece
 pub end_none : {A P B : Type 0} (last : Bool) → (A × P) ⊎ ((last ≡ false) × B) → last ≡ true → P
 end_none last (inl h) e = h.1
 end_none last (inr h) e = absurd (false≢true (sym h.0 ∙ e))
 
-some_text : (t bytes : List ℕ) (n : ℕ) → n ≡ 0 + length (encode_utf8_all t) → 0 < n → 0 < length t
-some_text [] bytes n e h = omega arith
-some_text (c ∷ t) bytes n e h = omega arith
+pub full_some : (before after : DecoderState) (src : List ℕ) (last : Bool) (read : ℕ) (W : List ℕ → Type 0) (text : List ℕ) (outcome : DecoderResult)
+    → StateLaw before after src last read W outcome → IsText W text → ((t : List ℕ) → W t → 0 < length t) → 0 < length text
+full_some before after src last read W text outcome k e some =
+    omega (arith, ap length (e (scalars k.taken) (scalars_are k.taken (are_taken before after src last read k)) k.writes), some (scalars k.taken) k.writes)
 
-pub full_some : (before after : DecoderState) (src : List ℕ) (last : Bool) (read : ℕ) (old new text : List ℕ) (n : ℕ) (outcome : DecoderResult)
-    → StateLaw before after src last read (λ t. Adds old 0 (encode_utf8_all t) new n) outcome → text ≡ take n new → 0 < n → 0 < length (chars text)
-full_some before after src last read old new text n outcome k e some =
-    let is : chars text ≡ scalars k.taken = pivot_chars old new (scalars k.taken) text n k.writes (scalars_are k.taken (are_taken before after src last read k)) e in
-    omega (arith, ap length is, some_text (scalars k.taken) new n k.writes.counted some)
-
-pub full_call : (before after : DecoderState) (src : List ℕ) (last : Bool) (read : ℕ) (old new text : List ℕ) (n : ℕ)
-    → StateLaw before after src last read (λ t. Adds old 0 (encode_utf8_all t) new n) OutputFull → text ≡ take n new → GoodCall before after src last read (chars text)
-full_call before after src last read old new text n k e =
-    good_call before after src last read old new text n (record { taken = k.taken; good = k.good; within = k.within; counted = k.counted; writes = k.writes; rest = k.rest }) e
+pub full_call : (before after : DecoderState) (src : List ℕ) (last : Bool) (read : ℕ) (W : List ℕ → Type 0) (text : List ℕ)
+    → StateLaw before after src last read W OutputFull → IsText W text → GoodCall before after src last read text
+full_call before after src last read W text k e =
+    good_call before after src last read W text (record { taken = k.taken; good = k.good; within = k.within; counted = k.counted; writes = k.writes; rest = k.rest }) e
 
 -- the last of some pieces
 last_piece : (ps : List Piece) (p : Piece) → ArePieces (ps ++ p ∷ []) → Rattle.encoding_mem.specs.Piece.IsPiece p
 last_piece [] p h = h.0
 last_piece (q ∷ ps) p h = last_piece ps p h.1
 
-pub bad_call : (before after : DecoderState) (src : List ℕ) (last : Bool) (read a b : ℕ) (old new text : List ℕ) (n : ℕ)
-    → StateLaw before after src last read (λ t. Adds old 0 (encode_utf8_all t) new n) (Malformed a b) → text ≡ take n new → BadCall before after src last read a b (chars text)
-bad_call before after src last read a b old new text n k e =
+pub bad_call : (before after : DecoderState) (src : List ℕ) (last : Bool) (read a b : ℕ) (W : List ℕ → Type 0) (text : List ℕ)
+    → StateLaw before after src last read W (Malformed a b) → IsText W text → BadCall before after src last read a b text
+bad_call before after src last read a b W text k e =
     let are = are_taken before after src last read k in
     let front : List Piece = k.good.4.0 in
     let fine : AreGood front = k.good.4.1 in
     let cut : k.taken ≡ front ++ (bad a ∷ []) = k.good.4.2 in
     let are_cut : ArePieces (front ++ (bad a ∷ [])) = subst ArePieces cut are in
-    let is : chars text ≡ scalars front =
-    pivot_chars old new (scalars k.taken) text n k.writes (scalars_are k.taken are) e ∙ ap scalars cut ∙ scalars-append front (bad a ∷ []) ∙ append-nil (scalars front) in
+    let is : text ≡ scalars front =
+    e (scalars k.taken) (scalars_are k.taken are) k.writes ∙ ap scalars cut ∙ scalars-append front (bad a ∷ []) ∙ append-nil (scalars front) in
     record {
       front = front;
       fine = fine;

@@ -1,20 +1,12 @@
 -- How many characters a text has.
-use Rattle.std.proofs.Common.{◌≡◌, ℕ, ◌+◌, ◌/◌, ◌%◌, ◌≤◌, ◌<◌, true, false, cond, List, [], ◌∷◌, ◌++◌, length, take, drop, refl, sym, ◌∙◌, ap, arith, length-append, encode_utf8_all, inl, inr}
+use Rattle.std.proofs.Common.{◌≡◌, ℕ, ◌+◌, ◌/◌, ◌%◌, ◌≤◌, ◌<◌, true, false, cond, List, [], ◌∷◌, length, refl, sym, ◌∙◌, ap, arith, encode_utf8_all, inl, inr}
 use Rattle.std.specs.List.{count_by}
 use Rattle.std.specs.Char.{encode_utf8}
-use Rattle.std.specs.Str.{chars, IsUtf8, IsCharBoundary}
-use Rattle.std.proofs.lemmas.Str.{chars-append, IsUtf8-take, encodes-chars}
-use Rattle.std.proofs.lemmas.List.{take-append-drop}
+use Rattle.std.specs.Str.{chars, IsUtf8}
+use Rattle.std.proofs.lemmas.Str.{encodes-chars}
 use Rattle.std.proofs.lemmas.List.Sums.{sum_by-append}
 use Rattle.std.proofs.lemmas.Bool.{cases_lt, lt-ltb, le-ltb, le-leb, lt-leb}
 use Rattle.recode.specs.Character.{begins_character}
-
--- the characters of a front and of the rest
-pub chars-cut : (text : List ℕ) (n : ℕ) → IsUtf8 text → IsCharBoundary text n → chars text ≡ chars (take n text) ++ chars (drop n text)
-chars-cut text n u b = ap chars (sym (take-append-drop n text)) ∙ chars-append (take n text) (drop n text) (IsUtf8-take text n u b)
-
-pub cut_length : (text part : List ℕ) (n : ℕ) → IsUtf8 text → IsCharBoundary text n → part ≡ take n text → length (chars part) + length (chars (drop n text)) ≡ length (chars text)
-cut_length text part n u b e = omega (arith, ap (λ t. length (chars t)) e, ap length (chars-cut text n u b), length-append (chars (take n text)) (chars (drop n text)))
 
 begins_low : (b : ℕ) → b < 0x80 → begins_character b ≡ true
 begins_low b h = rw (lt-ltb b 0x80 h) refl

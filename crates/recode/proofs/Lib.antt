@@ -12,4 +12,6 @@ pub mod OutputLaws
 pub mod TwoRuns
 pub mod Conversions
 pub mod CharacterCounts
+pub mod PivotTexts
+pub mod Latencies
 pub mod Loading

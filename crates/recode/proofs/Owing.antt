@@ -1,12 +1,9 @@
 -- What the pieces that a call took stand for.
-use Rattle.std.proofs.Common.{◌≡◌, ℕ, suc, ◌+◌, ◌≤◌, Bool, true, false, ◌&&◌, List, [], ◌∷◌, ◌++◌, map, length, take, drop, refl, sym, ◌∙◌, ap, arith, append_assoc, append-nil, length-append, add-zero, encode_utf8_all}
+use Rattle.std.proofs.Common.{◌≡◌, ℕ, suc, ◌+◌, ◌≤◌, Bool, true, false, ◌&&◌, List, [], ◌∷◌, ◌++◌, map, length, refl, sym, ◌∙◌, ap, arith, append_assoc, append-nil, length-append, add-zero}
 use lib.Utf8.{scalar}
 use Rattle.std.proofs.lemmas.Bool.{false≢true}
-use Rattle.std.proofs.lemmas.List.{take_at}
-use Rattle.std.specs.Str.{chars, IsUtf8, all_scalars}
-use Rattle.std.proofs.lemmas.Str.{chars-encodes}
+use Rattle.std.specs.Str.{chars, all_scalars}
 use Rattle.encoding_mem.specs.Piece.{Piece, good, bad, scalars_of, sizes, scalars, AreGood, ArePieces}
-use Rattle.encoding_mem.specs.Writing.{Adds}
 use Rattle.encoding_mem.specs.Coding.{Coding, last_set}
 use Rattle.encoding_mem.specs.Items.{Item, Byte, BadAt, open_items, whole_items, closing, trace_from}
 use Rattle.encoding_mem.specs.declared.form.Set.{Set}
@@ -83,13 +80,3 @@ replacement_text = refl
 
 pub open_replacement : (e : Coding) (s : Set) (i : ℕ) → open_items e s i (0xFFFD ∷ []) ≡ whole_items e false s i (chars (239 ∷ 191 ∷ 189 ∷ []))
 open_replacement e s i = rw replacement_text (sym (append-nil (open_items e s i (0xFFFD ∷ []))))
-
--- The text that a call wrote to a pivot.
-pub pivot_is : (old new t : List ℕ) (n : ℕ) → Adds old 0 (encode_utf8_all t) new n → take n new ≡ encode_utf8_all t
-pivot_is old new t n a = ap (take n) a.list ∙ take_at (encode_utf8_all t) (drop n old) n (omega (arith, a.counted))
-
-pub pivot_utf8 : (old new t : List ℕ) (n : ℕ) → Adds old 0 (encode_utf8_all t) new n → all_scalars t ≡ true → IsUtf8 (take n new)
-pivot_utf8 old new t n a h = (t, (h, sym (pivot_is old new t n a)))
-
-pub pivot_chars : (old new t text : List ℕ) (n : ℕ) → Adds old 0 (encode_utf8_all t) new n → all_scalars t ≡ true → text ≡ take n new → chars text ≡ t
-pivot_chars old new t text n a h e = ap chars (e ∙ pivot_is old new t n a) ∙ chars-encodes t h

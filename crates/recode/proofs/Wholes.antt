@@ -27,7 +27,7 @@ outputs-marks (BadAt place size ∷ t) =
 outputs-marks (LostAt index scalar ∷ t) =
     outputs-append (map Line (line_bytes (LogLine.Lost index scalar))) (marks t) ∙ ap (λ x. x ++ outputs (marks t)) (outputs-lines (line_bytes (LogLine.Lost index scalar))) ∙ outputs-marks t
 
-open_from-append : (e : Coding) (s : Set) (a b : List ℕ) → open_from e s (a ++ b) ≡ open_from e s a ++ open_from e (last_set e s a) b
+pub open_from-append : (e : Coding) (s : Set) (a b : List ℕ) → open_from e s (a ++ b) ≡ open_from e s a ++ open_from e (last_set e s a) b
 open_from-append e s [] b = refl
 open_from-append e s (c ∷ a) b =
     let escape : List ℕ = e.escape s (e.set s c) in
@@ -36,7 +36,7 @@ open_from-append e s (c ∷ a) b =
     ∙ ap (λ x. escape ++ x) (sym (append_assoc form (open_from e (e.set s c) a) (open_from e (last_set e (e.set s c) a) b)))
     ∙ sym (append_assoc escape (form ++ open_from e (e.set s c) a) (open_from e (last_set e (e.set s c) a) b))
 
-whole_from-append : (e : Coding) (s : Set) (a b : List ℕ) → whole_from e s (a ++ b) ≡ open_from e s a ++ whole_from e (last_set e s a) b
+pub whole_from-append : (e : Coding) (s : Set) (a b : List ℕ) → whole_from e s (a ++ b) ≡ open_from e s a ++ whole_from e (last_set e s a) b
 whole_from-append e s a b =
     ap (λ x. x ++ e.escape (last_set e s (a ++ b)) Ascii) (open_from-append e s a b)
     ∙ ap (λ q. (open_from e s a ++ open_from e (last_set e s a) b) ++ e.escape q Ascii) (last_set-append e s a b)

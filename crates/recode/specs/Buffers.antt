@@ -1,15 +1,21 @@
 -- Which buffers are enough.
-use Rattle.std.specs.Prelude.{◌<◌, ◌≤◌, length}
+use Rattle.std.specs.Prelude.{◌≡◌, ◌<◌, ◌≤◌, Bool, true, false, length}
 use Rattle.recode.specs.declared.buffers.Buffers.{Buffers}
 use Rattle.recode.specs.declared.buffers.Pivot.{Pivot}
 use Rattle.recode.specs.declared.buffers.Pivot.TheVariants.{Utf8, Utf16}
 
+-- it holds any character: 4 bytes of UTF-8, or 2 units of UTF-16
 abbrev pub IsRoomy : Pivot → Type 0
 IsRoomy (Utf8 bytes) = 4 ≤ length bytes.now
-IsRoomy (Utf16 units) = ⊥
+IsRoomy (Utf16 units) = 2 ≤ length units.now
+
+abbrev pub is_wide : Pivot → Bool
+is_wide (Utf8 bytes) = false
+is_wide (Utf16 units) = true
 
 pub record AreEnough (b : Buffers) : Type 0 where
   pub input : 0 < length b.input.now
   pub pivot : IsRoomy b.pivot
   pub output : 4 ≤ length b.output.now
   pub check : IsRoomy b.check
+  pub one_kind : is_wide b.pivot ≡ is_wide b.check

@@ -7,9 +7,12 @@ pub mod Step
 pub mod Job
 pub mod JobRows
 pub mod Buffers
+pub mod PivotText
+pub mod CodecCalls
 pub mod Session
 pub mod Slices
 pub mod ReadBack
 pub mod Runs
+pub mod Latency
 pub mod Conversion
 pub mod Program

@@ -6,6 +6,7 @@ use Rattle.encoding_mem.specs.Decoding.{DecoderState}
 use Rattle.encoding_mem.specs.Coding.{Coding, lost_count}
 use Rattle.encoding_mem.specs.Items.{Item}
 use Rattle.encoding_mem.specs.declared.form.Set.{Set}
+use Rattle.encoding_mem.specs.declared.form.Set.TheVariants.{Ascii}
 use Rattle.encoding_front.specs.Encodings.{KeepsCharacters}
 use Rattle.encoding_front.specs.declared.encoding.Encoding.{Encoding}
 use Rattle.recode.specs.Job.{trace, target_of, output_of, log_of, source_in, input_pieces, input_text, Faithful}
@@ -52,6 +53,10 @@ pub record Begins (v : View) (j : Job) : Type 0 where
   pub read : v.counts.read ≡ 0
   pub bad : v.counts.bad ≡ 0
   pub lost : v.counts.lost ≡ 0
+  pub index : v.counts.index ≡ 0
+  pub set : v.set ≡ Ascii
+  pub pending : v.decoder.pending ≡ 0
+  pub pieces : (x : List ℕ) → v.decoder.pieces x ≡ input_pieces j x
   pub owes_trace : (x : List ℕ) → owed v x ≡ trace j x
 
 -- what a session tells that has read all

@@ -19,16 +19,26 @@ pub struct Buffers<'b> {
 }
 
 impl<'b> Pivot<'b> {
-    ghost use Rattle.std.specs.Prelude.{IsTrue, ◌↔◌};
-    ghost use Rattle.recode.specs.Buffers.{IsRoomy};
+    ghost use Rattle.std.specs.Prelude.{IsTrue, ◌≡◌, ◌↔◌};
+    ghost use Rattle.recode.specs.Buffers.{IsRoomy, is_wide};
 
-    // Whether it can hold any character. So far text is UTF-8 alone.
+    // Whether it can hold any character.
     fn is_roomy(&self) -> bool
         ensures { IsTrue result ↔ IsRoomy self.now }
     {
         match self {
             Pivot::Utf8(bytes) => bytes.len() >= 4,
-            Pivot::Utf16(_) => false,
+            Pivot::Utf16(units) => units.len() >= 2,
+        }
+    }
+
+    // Whether it is of UTF-16.
+    fn is_wide(&self) -> bool
+        ensures { result ≡ is_wide self.now }
+    {
+        match self {
+            Pivot::Utf8(_) => false,
+            Pivot::Utf16(_) => true,
         }
     }
 }
@@ -37,8 +47,8 @@ impl<'b> Buffers<'b> {
     ghost use Rattle.std.specs.Prelude.{IsTrue, ◌↔◌};
     ghost use Rattle.recode.specs.Buffers.{AreEnough};
 
-    /// Whether a step can be lent these: input of at least 1 byte, pivot and check of at least 4 bytes
-    /// each, output of at least 4 bytes. So far pivots of UTF-16 are not.
+    /// Whether a step can be lent these: input of at least 1 byte, pivot and check of one kind, with at least
+    /// 4 bytes or 2 units each, output of at least 4 bytes.
     pub fn is_enough(&self) -> bool
         ensures { IsTrue result ↔ AreEnough self.now }
     {
@@ -46,5 +56,6 @@ impl<'b> Buffers<'b> {
             && self.pivot.is_roomy()
             && self.output.len() >= 4
             && self.check.is_roomy()
+            && self.pivot.is_wide() == self.check.is_wide()
     }
 }

@@ -1,16 +1,20 @@
 ghost use Rattle.std.specs.Prelude.{◌≡◌, ℕ, ◌+◌, ◌-◌, ◌^◌, ◌<◌, ◌≤◌, ◌++◌, ◌∷◌, List, [], true, false, take, drop, length, IfOk, OnOk, OnErr};
-ghost use Rattle.std.specs.Str.{IsUtf8};
 ghost use Rattle.recode_log.specs.Counted.{inner_of, failures_of};
 ghost use Rattle.encoding_mem.specs.Coding.{Coding};
 ghost use Rattle.encoding_mem.specs.Items.{Item, BadAt, open_items};
 ghost use Rattle.recode.specs.Payment.{Pays, Underpays, PaysFor, UnderpaysFor};
+ghost use Rattle.recode.specs.Buffers.{IsRoomy, is_wide};
+ghost use Rattle.recode.specs.Latency.{Advances, IsSettled};
 ghost use Rattle.recode.specs.Owed.{owes, AreSound};
 ghost use Rattle.recode.specs.Fault.{of_reader, of_writer, of_log, of_other};
 
+use crate::buffers::Pivot;
+use crate::codec_calls::decode_some;
 use crate::counts::Counts;
 use crate::encode::encode_all;
 use crate::fault::Fault;
 use crate::lines::log_line;
+use crate::pivot_text::{PivotText, text_in};
 use encoding_front::StreamDecoder;
 use encoding_mem::{DecoderResult, RawEncoder};
 use recode_log::counted::Counted;
@@ -25,16 +29,6 @@ pub struct DecodeTurn {
     /// Whether all of the chunk is read, and all that it gives is written.
     pub is_done: bool,
     pub counts: Counts,
-}
-
-// The text at the front of a pivot.
-fn text_of(pivot: &[u8], len: usize) -> &str
-    requires within { len ≤ length pivot.now }
-    requires text { IsUtf8 (take len pivot.now) }
-    ensures { result.now ≡ take len pivot.now }
-{
-    // The decoder wrote text: no second check.
-    unsafe { std::str::from_utf8_unchecked(&pivot[..len]) }
 }
 
 // Logs a bad piece, and encodes U+FFFD in its place.
@@ -82,7 +76,8 @@ fn report_bad<W: Write, L: Write, E: RawEncoder>(
         bad: counts.bad + 1,
         ..counts
     };
-    let counts = encode_all(writer, log, encoder, counts, "\u{FFFD}", out, false)?;
+    let text = PivotText::Utf8("\u{FFFD}");
+    let counts = encode_all(writer, log, encoder, counts, text, out, false)?;
     Ok(counts)
 }
 
@@ -94,11 +89,11 @@ pub fn decode_once<W: Write, L: Write, D: StreamDecoder, E: RawEncoder>(
     encoder: &mut E,
     counts: Counts,
     src: &[u8],
-    pivot: &mut [u8],
+    pivot: &mut Pivot<'_>,
     out: &mut [u8],
     last: bool,
 ) -> Result<DecodeTurn, Fault>
-    requires pivot { 4 ≤ length pivot.old }
+    requires pivot { IsRoomy pivot.old }
     requires out { 4 ≤ length out.old }
     requires open_ { (D.view decoder.old).finished ≡ false }
     requires sound { AreSound (D.view decoder.old).state.pending counts }
@@ -118,6 +113,9 @@ pub fn decode_once<W: Write, L: Write, D: StreamDecoder, E: RawEncoder>(
     ensures target { E.coding encoder.new ≡ E.coding encoder.old }
     ensures done { IfOk result (λ p. p.is_done ≡ true → p.read ≡ length src.now) }
     ensures end { IfOk result (λ p. p.is_done ≡ true → last ≡ true → owes (D.view decoder.new).state (E.coding encoder.old) (E.set encoder.new) p.counts [] ≡ []) }
+    ensures advances { IfOk result (λ p. last ≡ false → Advances (λ r. (D.view decoder.old).state.pieces (src.now ++ r)) (λ r. (D.view decoder.new).state.pieces (drop p.read src.now ++ r))
+        (E.coding encoder.old) (E.set encoder.old) (E.set encoder.new) counts p.counts) }
+    ensures settled { IfOk result (λ p. p.is_done ≡ true → IsSettled (D.view decoder.new).state) }
     ensures more { IfOk result (λ p. p.is_done ≡ false → length ((D.view decoder.new).state.pieces (drop p.read src.now)) < length ((D.view decoder.old).state.pieces src.now)) }
     ensures err { OnErr result (UnderpaysFor (W.contents (inner_of writer.old)) (W.contents (inner_of writer.new)) (L.contents (inner_of log.old)) (L.contents (inner_of log.new)) last
         (λ r. owes (D.view decoder.old).state (E.coding encoder.old) (E.set encoder.old) counts (src.now ++ r))) }
@@ -125,19 +123,21 @@ pub fn decode_once<W: Write, L: Write, D: StreamDecoder, E: RawEncoder>(
     ensures reader_count { of_reader result ≡ 0 }
     ensures only_writers { of_other result ≡ 0 }
     ensures log_count { failures_of log.new ≡ failures_of log.old + of_log result }
+    ensures roomy { IsRoomy pivot.new }
+    ensures kind { is_wide pivot.new ≡ is_wide pivot.old }
 {
-    let (answer, read, written) = decoder.decode_to_utf8_without_replacement(src, pivot, last);
+    let call = decode_some(decoder, counts.calls, src, pivot, last);
     let counts = Counts {
-        read: counts.read + read as u64,
-        calls: counts.calls.saturating_add(1),
+        read: counts.read + call.read as u64,
+        calls: call.calls,
         ..counts
     };
-    let text = text_of(pivot, written);
-    match answer {
+    let text = text_in(pivot, call.written);
+    match call.answer {
         DecoderResult::InputEmpty => {
             let counts = encode_all(writer, log, encoder, counts, text, out, last)?;
             Ok(DecodeTurn {
-                read,
+                read: call.read,
                 is_done: true,
                 counts,
             })
@@ -145,7 +145,7 @@ pub fn decode_once<W: Write, L: Write, D: StreamDecoder, E: RawEncoder>(
         DecoderResult::OutputFull => {
             let counts = encode_all(writer, log, encoder, counts, text, out, false)?;
             Ok(DecodeTurn {
-                read,
+                read: call.read,
                 is_done: false,
                 counts,
             })
@@ -155,7 +155,7 @@ pub fn decode_once<W: Write, L: Write, D: StreamDecoder, E: RawEncoder>(
             let offset = counts.read - u64::from(after) - u64::from(size);
             let counts = report_bad(writer, log, encoder, counts, offset, size, out)?;
             Ok(DecodeTurn {
-                read,
+                read: call.read,
                 is_done: false,
                 counts,
             })
@@ -171,11 +171,11 @@ pub fn convert_chunk<W: Write, L: Write, D: StreamDecoder, E: RawEncoder>(
     encoder: &mut E,
     counts: Counts,
     src: &[u8],
-    pivot: &mut [u8],
+    pivot: &mut Pivot<'_>,
     out: &mut [u8],
     last: bool,
 ) -> Result<Counts, Fault>
-    requires pivot { 4 ≤ length pivot.old }
+    requires pivot { IsRoomy pivot.old }
     requires out { 4 ≤ length out.old }
     requires open_ { (D.view decoder.old).finished ≡ false }
     requires sound { AreSound (D.view decoder.old).state.pending counts }
@@ -192,12 +192,17 @@ pub fn convert_chunk<W: Write, L: Write, D: StreamDecoder, E: RawEncoder>(
     ensures sound { IfOk result (λ c. AreSound (D.view decoder.new).state.pending c) }
     ensures target { E.coding encoder.new ≡ E.coding encoder.old }
     ensures end { IfOk result (λ c. last ≡ true → owes (D.view decoder.new).state (E.coding encoder.old) (E.set encoder.new) c [] ≡ []) }
+    ensures advances { IfOk result (λ c. last ≡ false → Advances (λ r. (D.view decoder.old).state.pieces (src.now ++ r)) (D.view decoder.new).state.pieces
+        (E.coding encoder.old) (E.set encoder.old) (E.set encoder.new) counts c) }
+    ensures settled { OnOk result (IsSettled (D.view decoder.new).state) }
     ensures err { OnErr result (UnderpaysFor (W.contents (inner_of writer.old)) (W.contents (inner_of writer.new)) (L.contents (inner_of log.old)) (L.contents (inner_of log.new)) last
         (λ r. owes (D.view decoder.old).state (E.coding encoder.old) (E.set encoder.old) counts (src.now ++ r))) }
     ensures writer_count { failures_of writer.new ≡ failures_of writer.old + of_writer result }
     ensures reader_count { of_reader result ≡ 0 }
     ensures only_writers { of_other result ≡ 0 }
     ensures log_count { failures_of log.new ≡ failures_of log.old + of_log result }
+    ensures roomy { IsRoomy pivot.new }
+    ensures kind { is_wide pivot.new ≡ is_wide pivot.old }
 {
     let mut counts = counts;
     let mut rest = src;

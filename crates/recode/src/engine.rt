@@ -19,7 +19,8 @@ pub struct Engine<D, E> {
 impl<D: StreamDecoder, E: RawEncoder> Engine<D, E> {
     ghost use Rattle.std.specs.Prelude.{◌≡◌, ℕ, ◌+◌, ◌-◌, ◌^◌, ◌<◌, ◌≤◌, List, length, false, OnOk, IfErr};
     ghost use Rattle.recode_log.specs.Counted.{inner_of, failures_of};
-    ghost use Rattle.recode.specs.Buffers.{IsRoomy};
+    ghost use Rattle.recode.specs.Buffers.{IsRoomy, is_wide};
+    ghost use Rattle.recode.specs.Latency.{Settles};
     ghost use Rattle.recode.specs.Owed.{owes, AreSound};
     ghost use Rattle.recode.specs.Step.{GoesOn, Finishes, Stops};
     ghost use Rattle.recode.specs.Fault.{of_reader, of_writer, of_log, of_other};
@@ -33,7 +34,7 @@ impl<D: StreamDecoder, E: RawEncoder> Engine<D, E> {
         log: &mut Counted<L>,
         limit: u64,
         input: &mut [u8],
-        pivot: &mut [u8],
+        pivot: &mut Pivot<'_>,
         output: &mut [u8],
     ) -> Result<Progress, Fault>
         requires limit { limit ≤ 2 ^ 48 }
@@ -41,7 +42,7 @@ impl<D: StreamDecoder, E: RawEncoder> Engine<D, E> {
         requires open_ { (D.view self.old.decoder).finished ≡ false }
         requires sound { AreSound (D.view self.old.decoder).state.pending self.old.counts }
         requires input { 0 < length input.old }
-        requires pivot { 4 ≤ length pivot.old }
+        requires pivot { IsRoomy pivot.old }
         requires output { 4 ≤ length output.old }
         requires reader { failures_of reader.old < 2 ^ 64 - 1 }
         requires writer { failures_of writer.old < 2 ^ 64 - 1 }
@@ -51,6 +52,8 @@ impl<D: StreamDecoder, E: RawEncoder> Engine<D, E> {
             (owes (D.view self.old.decoder).state (E.coding self.old.encoder) (E.set self.old.encoder) self.old.counts)
             (owes (D.view self.new.decoder).state (E.coding self.old.encoder) (E.set self.new.encoder) self.new.counts)
             (D.view self.old.decoder).source (D.view self.new.decoder).source }
+        ensures settled { result ≡ Ok Progress.More → Settles (R.remaining (inner_of reader.old)) (R.remaining (inner_of reader.new)) (W.contents (inner_of writer.old)) (W.contents (inner_of writer.new)) (L.contents (inner_of log.old)) (L.contents (inner_of log.new))
+            (D.view self.old.decoder).state (D.view self.new.decoder).state (E.coding self.old.encoder) (E.set self.old.encoder) (E.set self.new.encoder) self.old.counts self.new.counts }
         ensures grows { result ≡ Ok Progress.More → self.old.counts.read < self.new.counts.read }
         ensures done { result ≡ Ok Progress.Done → Finishes (R.remaining (inner_of reader.old)) (R.remaining (inner_of reader.new)) (W.contents (inner_of writer.old)) (W.contents (inner_of writer.new)) (L.contents (inner_of log.old)) (L.contents (inner_of log.new)) self.old.counts self.new.counts limit
             (owes (D.view self.old.decoder).state (E.coding self.old.encoder) (E.set self.old.encoder) self.old.counts)
@@ -65,6 +68,8 @@ impl<D: StreamDecoder, E: RawEncoder> Engine<D, E> {
         ensures reader_count { failures_of reader.new ≡ failures_of reader.old + of_reader result }
         ensures writer_count { failures_of writer.new ≡ failures_of writer.old + of_writer result }
         ensures log_count { failures_of log.new ≡ failures_of log.old + of_log result }
+        ensures roomy { IsRoomy pivot.new }
+        ensures kind { is_wide pivot.new ≡ is_wide pivot.old }
     {
         let Ok(read) = reader.read(input) else {
             return Err(Fault::Read);
@@ -95,54 +100,6 @@ impl<D: StreamDecoder, E: RawEncoder> Engine<D, E> {
                 }
             }
             Err(fault) => Err(fault),
-        }
-    }
-
-    /// The same with a pivot that may be of either kind.
-    pub fn step_with<R: Read, W: Write, L: Write>(
-        &mut self,
-        reader: &mut Counted<R>,
-        writer: &mut Counted<W>,
-        log: &mut Counted<L>,
-        limit: u64,
-        input: &mut [u8],
-        pivot: &mut Pivot<'_>,
-        output: &mut [u8],
-    ) -> Result<Progress, Fault>
-        requires limit { limit ≤ 2 ^ 48 }
-        requires read { self.old.counts.read ≤ limit }
-        requires open_ { (D.view self.old.decoder).finished ≡ false }
-        requires sound { AreSound (D.view self.old.decoder).state.pending self.old.counts }
-        requires input { 0 < length input.old }
-        requires pivot { IsRoomy pivot.old }
-        requires output { 4 ≤ length output.old }
-        requires reader { failures_of reader.old < 2 ^ 64 - 1 }
-        requires writer { failures_of writer.old < 2 ^ 64 - 1 }
-        requires log { failures_of log.old < 2 ^ 64 - 1 }
-
-        ensures more { result ≡ Ok Progress.More → GoesOn (R.remaining (inner_of reader.old)) (R.remaining (inner_of reader.new)) (W.contents (inner_of writer.old)) (W.contents (inner_of writer.new)) (L.contents (inner_of log.old)) (L.contents (inner_of log.new)) self.old.counts self.new.counts limit
-            (owes (D.view self.old.decoder).state (E.coding self.old.encoder) (E.set self.old.encoder) self.old.counts)
-            (owes (D.view self.new.decoder).state (E.coding self.old.encoder) (E.set self.new.encoder) self.new.counts)
-            (D.view self.old.decoder).source (D.view self.new.decoder).source }
-        ensures grows { result ≡ Ok Progress.More → self.old.counts.read < self.new.counts.read }
-        ensures done { result ≡ Ok Progress.Done → Finishes (R.remaining (inner_of reader.old)) (R.remaining (inner_of reader.new)) (W.contents (inner_of writer.old)) (W.contents (inner_of writer.new)) (L.contents (inner_of log.old)) (L.contents (inner_of log.new)) self.old.counts self.new.counts limit
-            (owes (D.view self.old.decoder).state (E.coding self.old.encoder) (E.set self.old.encoder) self.old.counts)
-            (D.view self.old.decoder).source (D.view self.new.decoder).source }
-        ensures fault { IfErr result (λ f. Stops (R.remaining (inner_of reader.old)) (R.remaining (inner_of reader.new)) (W.contents (inner_of writer.old)) (W.contents (inner_of writer.new)) (L.contents (inner_of log.old)) (L.contents (inner_of log.new)) self.old.counts limit
-            (owes (D.view self.old.decoder).state (E.coding self.old.encoder) (E.set self.old.encoder) self.old.counts) f) }
-        ensures untouched { of_other result ≡ 1 → Keeps (W.contents (inner_of writer.old)) (W.contents (inner_of writer.new)) × Keeps (L.contents (inner_of log.old)) (L.contents (inner_of log.new)) }
-        ensures sound { OnOk result (AreSound (D.view self.new.decoder).state.pending self.new.counts) }
-        ensures open_ { result ≡ Ok Progress.More → (D.view self.new.decoder).finished ≡ false }
-        ensures within { OnOk result (self.new.counts.read ≤ limit) }
-        ensures target { E.coding self.new.encoder ≡ E.coding self.old.encoder }
-        ensures reader_count { failures_of reader.new ≡ failures_of reader.old + of_reader result }
-        ensures writer_count { failures_of writer.new ≡ failures_of writer.old + of_writer result }
-        ensures pivot { IsRoomy pivot.new }
-        ensures log_count { failures_of log.new ≡ failures_of log.old + of_log result }
-    {
-        match pivot {
-            Pivot::Utf8(bytes) => self.step(reader, writer, log, limit, input, bytes, output),
-            Pivot::Utf16(_) => unreachable!(),
         }
     }
 }

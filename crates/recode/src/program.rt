@@ -14,7 +14,7 @@ use encoding_front::{Encoding, Mark};
 use encoding_tables::Tables;
 use recode_log::counted::Counted;
 use recode_log::deliver::deliver;
-use recode_words::{MarkWord, Request, Words, WordsFault, parse_words};
+use recode_words::{MarkWord, PivotWord, Request, Words, WordsFault, parse_words};
 use std::alloc::Global;
 use std::io::{Read, Write};
 
@@ -102,8 +102,27 @@ fn load_both<S: IndexSource>(
     load_indexes(alloc, source, dir, to.output_encoding(), tables)
 }
 
-// Converts with buffers of 4096 bytes each.
+// Converts with buffers of 4096 elements each, and text of this form in between.
 fn convert_in_buffers<R: Read, W: Write, L: Write>(
+    reader: &mut Counted<R>,
+    writer: &mut Counted<W>,
+    log: &mut Counted<L>,
+    job: Job<'_>,
+    form: PivotWord,
+) -> u8
+    requires job { IsValidJob job }
+    requires reader { failures_of reader.old ≤ 2 ^ 64 - 5 }
+    requires writer { failures_of writer.old ≤ 2 ^ 64 - 5 }
+    requires log { failures_of log.old ≤ 2 ^ 64 - 5 }
+    ensures { IsConversion (λ r. R.remaining r) (λ w. W.contents w) (λ l. L.contents l) reader.old reader.new writer.old writer.new log.old log.new job.entry result }
+{
+    match form {
+        PivotWord::Utf8 => convert_in_utf8(reader, writer, log, job),
+        PivotWord::Utf16 => convert_in_utf16(reader, writer, log, job),
+    }
+}
+
+fn convert_in_utf8<R: Read, W: Write, L: Write>(
     reader: &mut Counted<R>,
     writer: &mut Counted<W>,
     log: &mut Counted<L>,
@@ -121,6 +140,33 @@ fn convert_in_buffers<R: Read, W: Write, L: Write>(
     let mut again = [0u8; 4096];
     let pivot = Pivot::Utf8(&mut text);
     let check = Pivot::Utf8(&mut again);
+    let mut buffers = Buffers {
+        input: &mut input,
+        pivot,
+        output: &mut output,
+        check,
+    };
+    convert(reader, writer, log, job, &mut buffers)
+}
+
+fn convert_in_utf16<R: Read, W: Write, L: Write>(
+    reader: &mut Counted<R>,
+    writer: &mut Counted<W>,
+    log: &mut Counted<L>,
+    job: Job<'_>,
+) -> u8
+    requires job { IsValidJob job }
+    requires reader { failures_of reader.old ≤ 2 ^ 64 - 5 }
+    requires writer { failures_of writer.old ≤ 2 ^ 64 - 5 }
+    requires log { failures_of log.old ≤ 2 ^ 64 - 5 }
+    ensures { IsConversion (λ r. R.remaining r) (λ w. W.contents w) (λ l. L.contents l) reader.old reader.new writer.old writer.new log.old log.new job.entry result }
+{
+    let mut input = [0u8; 4096];
+    let mut text = [0u16; 4096];
+    let mut output = [0u8; 4096];
+    let mut again = [0u16; 4096];
+    let pivot = Pivot::Utf16(&mut text);
+    let check = Pivot::Utf16(&mut again);
     let mut buffers = Buffers {
         input: &mut input,
         pivot,
@@ -164,7 +210,7 @@ fn run_words<S: IndexSource, R: Read, W: Write, L: Write>(
         limit: words.limit,
         tables: &tables,
     };
-    convert_in_buffers(reader, writer, log, job)
+    convert_in_buffers(reader, writer, log, job, words.pivot)
 }
 
 /// Does what the words ask for, the program's name first, as `parse_words` of `recode_words` reads them,
@@ -173,7 +219,7 @@ fn run_words<S: IndexSource, R: Read, W: Write, L: Write>(
 ///
 /// A run looks up the label of `--from`, then that of `--to`, reads the index files that the source
 /// and then the target's output encoding need, each once, and converts with buffers of 4096 elements.
-/// The form of the text in between is UTF-8 with `--pivot utf16` too: what is written is the same.
+/// With `--pivot utf16` the text in between is UTF-16, else UTF-8: what is written is the same.
 ///
 /// The statuses 0, 1 and 4 are those of `convert`. Otherwise a message says why nothing was read:
 /// - 2 (`REFUSED`): that of `clap`, or `recode: unknown label WORD`;

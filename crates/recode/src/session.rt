@@ -3,6 +3,7 @@ ghost use Rattle.encoding_mem.specs.Decoding.{DecoderState};
 ghost use Rattle.recode_log.specs.Counted.{inner_of, failures_of};
 ghost use Rattle.recode.specs.Job.{IsValidJob};
 ghost use Rattle.recode.specs.Buffers.{AreEnough, IsRoomy};
+ghost use Rattle.recode.specs.Latency.{StepsOn};
 ghost use Rattle.recode.specs.Owed.{AreSound};
 ghost use Rattle.recode.specs.Session.{View, owed, IsOver, Begins, Tells, Completes, Fails, phase_after};
 ghost use Rattle.recode.specs.declared.phase.Phase.TheVariants.{Open};
@@ -127,6 +128,7 @@ impl<'t> Session<'t> {
         requires log { failures_of log.old < 2 ^ 64 - 1 }
 
         ensures more { result ≡ Ok Progress.More → GoesOn (R.remaining (inner_of reader.old)) (R.remaining (inner_of reader.new)) (W.contents (inner_of writer.old)) (W.contents (inner_of writer.new)) (L.contents (inner_of log.old)) (L.contents (inner_of log.new)) (⟦<Session<'t> as Viewed>⟧.view self.old).counts (⟦<Session<'t> as Viewed>⟧.view self.new).counts (⟦<Session<'t> as Viewed>⟧.view self.old).job.limit (owed (⟦<Session<'t> as Viewed>⟧.view self.old)) (owed (⟦<Session<'t> as Viewed>⟧.view self.new)) (⟦<Session<'t> as Viewed>⟧.view self.old).source (⟦<Session<'t> as Viewed>⟧.view self.new).source }
+        ensures steps_on { result ≡ Ok Progress.More → StepsOn (R.remaining (inner_of reader.old)) (R.remaining (inner_of reader.new)) (W.contents (inner_of writer.old)) (W.contents (inner_of writer.new)) (L.contents (inner_of log.old)) (L.contents (inner_of log.new)) (⟦<Session<'t> as Viewed>⟧.view self.old) (⟦<Session<'t> as Viewed>⟧.view self.new) }
         ensures grows { result ≡ Ok Progress.More → (⟦<Session<'t> as Viewed>⟧.view self.old).counts.read < (⟦<Session<'t> as Viewed>⟧.view self.new).counts.read }
         ensures done { result ≡ Ok Progress.Done → Finishes (R.remaining (inner_of reader.old)) (R.remaining (inner_of reader.new)) (W.contents (inner_of writer.old)) (W.contents (inner_of writer.new)) (L.contents (inner_of log.old)) (L.contents (inner_of log.new)) (⟦<Session<'t> as Viewed>⟧.view self.old).counts (⟦<Session<'t> as Viewed>⟧.view self.new).counts (⟦<Session<'t> as Viewed>⟧.view self.old).job.limit (owed (⟦<Session<'t> as Viewed>⟧.view self.old)) (⟦<Session<'t> as Viewed>⟧.view self.old).source (⟦<Session<'t> as Viewed>⟧.view self.new).source }
         ensures fault { IfErr result (λ f. Stops (R.remaining (inner_of reader.old)) (R.remaining (inner_of reader.new)) (W.contents (inner_of writer.old)) (W.contents (inner_of writer.new)) (L.contents (inner_of log.old)) (L.contents (inner_of log.new)) (⟦<Session<'t> as Viewed>⟧.view self.old).counts (⟦<Session<'t> as Viewed>⟧.view self.old).job.limit (owed (⟦<Session<'t> as Viewed>⟧.view self.old)) f) }
@@ -141,7 +143,7 @@ impl<'t> Session<'t> {
     {
         let limit = self.job.limit;
         self.phase = Phase::Stopped;
-        let answer = self.engine.step_with(
+        let answer = self.engine.step(
             reader,
             writer,
             log,

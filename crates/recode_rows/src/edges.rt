@@ -79,7 +79,28 @@ fn buffers_are_enough_up_to_their_edges(rt: HostRuntime) {
 }
 
 #[test]
-fn a_pivot_of_wide_units_is_not_enough(rt: HostRuntime) {
+fn wide_pivots_are_enough_up_to_their_edges(rt: HostRuntime) {
+    let rows = [(2, 2, true), (8, 8, true), (1, 2, false), (2, 1, false)];
+    for (pivot_len, check_len, want) in rows {
+        let mut input = [0u8; 1];
+        let mut text = [0u16; 8];
+        let mut output = [0u8; 4];
+        let mut again = [0u16; 8];
+        let pivot = Pivot::Utf16(&mut text[..pivot_len]);
+        let check = Pivot::Utf16(&mut again[..check_len]);
+        let buffers = Buffers {
+            input: &mut input,
+            pivot,
+            output: &mut output,
+            check,
+        };
+        let sizes = (pivot_len, check_len);
+        assert_eq!(rt; buffers.is_enough(), want, "{sizes:?}");
+    }
+}
+
+#[test]
+fn pivots_of_two_kinds_are_not_enough(rt: HostRuntime) {
     for wide_pivot in [true, false] {
         let mut input = [0u8; 8];
         let mut output = [0u8; 8];

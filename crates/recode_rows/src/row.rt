@@ -1,5 +1,5 @@
 use crate::source::Reads;
-use crate::trial::{LEAST, ROOMY, Trial, WAYS, recode};
+use crate::trial::{LEAST, LEAST_WIDE, ROOMY, Trial, WAYS, recode};
 use encoding_front::{Encoding, UTF_8};
 use encoding_tables::IndexKind;
 use recode::{Mark, Report};
@@ -37,10 +37,10 @@ pub const EMPTY: Row = Row {
     lost: 0,
 };
 
-// Converts the row in both ways, with the least buffers and with large ones.
+// Converts the row in both ways, with the least buffers, of either kind of pivot, and with large ones.
 fn check(rt: &(impl Abort + AllocGlobal), row: Row, reads: Reads) -> Result<(), AllocError> {
     for way in WAYS {
-        for sizes in [LEAST, ROOMY] {
+        for sizes in [LEAST, LEAST_WIDE, ROOMY] {
             let trial = Trial {
                 from: row.from,
                 to: row.to,

@@ -15,13 +15,14 @@ use std::cell::Cell;
 use std::io::ErrorKind;
 use std::process::Abort;
 
-/// How many elements the buffers have.
+/// How many elements the buffers have, and whether the pivots are of UTF-16.
 #[derive(Clone, Copy, Debug)]
 pub struct Sizes {
     pub input: usize,
     pub pivot: usize,
     pub output: usize,
     pub check: usize,
+    pub is_wide: bool,
 }
 
 /// The least that is enough.
@@ -30,6 +31,15 @@ pub const LEAST: Sizes = Sizes {
     pivot: 4,
     output: 4,
     check: 4,
+    is_wide: false,
+};
+
+/// The least that is enough with pivots of UTF-16.
+pub const LEAST_WIDE: Sizes = Sizes {
+    pivot: 2,
+    check: 2,
+    is_wide: true,
+    ..LEAST
 };
 
 /// Room for all of a small input.
@@ -38,6 +48,7 @@ pub const ROOMY: Sizes = Sizes {
     pivot: 4096,
     output: 4096,
     check: 4096,
+    is_wide: false,
 };
 
 /// What is called.
@@ -185,24 +196,44 @@ impl<'a> Devices<'a> {
 #[derive(Drop)]
 struct Rooms {
     input: Vec<u8>,
-    pivot: Vec<u8>,
     output: Vec<u8>,
-    check: Vec<u8>,
+    pivots: Pivots,
+}
+
+// The pivot and the room to read back.
+#[derive(Drop)]
+enum Pivots {
+    Narrow(Vec<u8>, Vec<u8>),
+    Wide(Vec<u16>, Vec<u16>),
 }
 
 impl Rooms {
     fn new(alloc: Global, sizes: Sizes) -> Result<Rooms, AllocError> {
+        let pivots = if sizes.is_wide {
+            let pivot = vec![in alloc; 0; sizes.pivot]?;
+            Pivots::Wide(pivot, vec![in alloc; 0; sizes.check]?)
+        } else {
+            let pivot = vec![in alloc; 0; sizes.pivot]?;
+            Pivots::Narrow(pivot, vec![in alloc; 0; sizes.check]?)
+        };
         Ok(Rooms {
             input: vec![in alloc; 0; sizes.input]?,
-            pivot: vec![in alloc; 0; sizes.pivot]?,
             output: vec![in alloc; 0; sizes.output]?,
-            check: vec![in alloc; 0; sizes.check]?,
+            pivots,
         })
     }
 
     fn lend(&mut self) -> Buffers<'_> {
-        let pivot = Pivot::Utf8(self.pivot.as_mut_slice());
-        let check = Pivot::Utf8(self.check.as_mut_slice());
+        let (pivot, check) = match &mut self.pivots {
+            Pivots::Narrow(pivot, check) => (
+                Pivot::Utf8(pivot.as_mut_slice()),
+                Pivot::Utf8(check.as_mut_slice()),
+            ),
+            Pivots::Wide(pivot, check) => (
+                Pivot::Utf16(pivot.as_mut_slice()),
+                Pivot::Utf16(check.as_mut_slice()),
+            ),
+        };
         Buffers {
             input: self.input.as_mut_slice(),
             pivot,

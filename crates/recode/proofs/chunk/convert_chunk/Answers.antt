@@ -1,6 +1,7 @@
 use Rattle.std.proofs.Common.{◌∙◌, ◌++◌, arith, refl, sym, ap, length, length-drop, drop_of_length-le}
 use Rattle.std.proofs.lemmas.List.{take_rest}
 use Rattle.recode.specs.Owed.{owes}
+use Rattle.recode.proofs.Latencies.{advances_start, advances_more, advances_to}
 use Rattle.recode.proofs.Traces.{PaysFor-start, PaysFor-trans, PaysFor-to, PaysFor-under, on_err}
 use Rattle.recode.proofs.chunk.convert_chunk.Goals as goal
 
@@ -13,6 +14,9 @@ chunk-init g c = record {
   sound = c.requires.sound;
   target = refl;
   writer_count = refl;
+  advances = λ h. advances_start _ _ _ _;
+  roomy = c.requires.pivot;
+  kind = refl;
   log_count = refl;
 }
 
@@ -27,6 +31,9 @@ chunk-preserved g c =
       sound = c.in_ok-turn.ensures.sound;
       target = c.decode_once.ensures.target ∙ c.chunk.invariant.target;
       writer_count = omega (arith, c.in_ok-turn.ensures.writer_count);
+      advances = λ h. rw rest_is (advances_more _ _ _ _ _ _ _ _ _ _ (c.chunk.invariant.advances h) (rw c.chunk.invariant.target at (c.in_ok-turn.ensures.advances h)));
+      roomy = c.decode_once.ensures.roomy;
+      kind = c.decode_once.ensures.kind ∙ c.chunk.invariant.kind;
       log_count = omega (arith, c.in_ok-turn.ensures.log_count);
     }
 
@@ -50,3 +57,13 @@ returns-then-turn-clause-source g c r h =
 
 pub returns-then-turn-clause-end : goal.returns-then-turn-clause-end
 returns-then-turn-clause-end g c = rw c.chunk.invariant.target at (c.in_ok-turn.ensures.end c.if-turn.true)
+
+pub returns-then-turn-clause-advances : goal.returns-then-turn-clause-advances
+returns-then-turn-clause-advances g c h =
+    let all = drop_of_length-le c.chunk.rest.now {i = c.in_ok-turn.turn.read} (omega (arith, c.in_ok-turn.ensures.done c.if-turn.true)) in
+    advances_to _ _ _ _ _ _ _ _
+    (advances_more _ _ _ _ _ _ _ _ _ _ (c.chunk.invariant.advances h) (rw c.chunk.invariant.target at (c.in_ok-turn.ensures.advances h)))
+    (λ r. ap (λ x. (g.D.StreamDecoder.view c.decode_once.new.decoder).state.pieces (x ++ r)) all)
+
+pub returns-then-turn-clause-settled : goal.returns-then-turn-clause-settled
+returns-then-turn-clause-settled g c = c.in_ok-turn.ensures.settled c.if-turn.true

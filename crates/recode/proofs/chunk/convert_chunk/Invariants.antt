@@ -1,4 +1,6 @@
 use Rattle.std.proofs.Common.{◌≡◌, ℕ, List, [], true, false, ◌+◌, ◌++◌, length}
+use Rattle.recode.specs.Buffers.{IsRoomy, is_wide}
+use Rattle.recode.specs.Latency.{Advances}
 use Rattle.recode.specs.Payment.{PaysFor}
 use Rattle.recode.specs.Owed.{owes, AreSound}
 use Rattle.recode_log.specs.Counted.{inner_of, failures_of}
@@ -15,6 +17,10 @@ invariant-chunk g l = record {
   sound : AreSound (g.D.StreamDecoder.view l.decoder).state.pending l.counts;
   target : g.E.RawEncoder.coding l.encoder ≡ g.E.RawEncoder.coding l.initial.encoder;
   writer_count : failures_of l.writer ≡ failures_of l.initial.writer;
+  advances : l.last ≡ false → Advances (λ r. (g.D.StreamDecoder.view l.initial.decoder).state.pieces (l.initial.rest ++ r)) (λ r. (g.D.StreamDecoder.view l.decoder).state.pieces (l.rest ++ r))
+      (g.E.RawEncoder.coding l.initial.encoder) (g.E.RawEncoder.set l.initial.encoder) (g.E.RawEncoder.set l.encoder) l.initial.counts l.counts;
+  roomy : IsRoomy l.pivot;
+  kind : is_wide l.pivot ≡ is_wide l.initial.pivot;
   log_count : failures_of l.log ≡ failures_of l.initial.log;
 }
 

@@ -4,7 +4,6 @@ use Rattle.recode.proofs.encode.encode_all.Goals as goal
 
 pub text-init : goal.text-init
 text-init g c = record {
-  utf8 = c.utf8.text;
   pays = Pays-nil _ _ _ _;
   passed = refl;
   lost = c.requires.lost;
@@ -18,24 +17,17 @@ text-init g c = record {
 
 pub text-preserved : goal.text-preserved
 text-preserved g c = record {
-  utf8 = c.range_from-rest.utf8;
   pays = Pays-trans _ _ _ _ _ _ _ _ _ _ _ _ c.text.invariant.pays
-      (rw c.range_from-rest.ensures.value (rw c.text.invariant.target at c.in_ok-turn.ensures.pays));
-  passed = rw c.range_from-rest.ensures.value (c.in_ok-turn.ensures.passed ∙ c.text.invariant.passed);
+      (rw c.text.invariant.target at c.in_ok-turn.ensures.pays);
+  passed = c.in_ok-turn.ensures.passed ∙ c.text.invariant.passed;
   lost = c.in_ok-turn.ensures.lost;
   bad = c.in_ok-turn.ensures.bad ∙ c.text.invariant.bad;
   read = c.in_ok-turn.ensures.read ∙ c.text.invariant.read;
   target = c.encode_once.ensures.target ∙ c.text.invariant.target;
-  state = λ h. c.text.invariant.state h ∙ rw c.range_from-rest.ensures.value (rw c.text.invariant.target at (c.in_ok-turn.ensures.state h));
+  state = λ h. c.text.invariant.state h ∙ (rw c.text.invariant.target at (c.in_ok-turn.ensures.state h));
   writer_count = omega (arith, c.in_ok-turn.ensures.writer_count);
   log_count = omega (arith, c.in_ok-turn.ensures.log_count);
 }
-
-pub encode_once-requires-text-text : goal.encode_once-requires-text-text
-encode_once-requires-text-text g c = λ _ _. c.text.invariant.utf8
-
-pub range_from-rest-requires-text-s : goal.range_from-rest-requires-text-s
-range_from-rest-requires-text-s g c = λ _. c.text.invariant.utf8
 
 pub returns-in_err-turn-clause-err : goal.returns-in_err-turn-clause-err
 returns-in_err-turn-clause-err g c = on_err _ (Pays-under _ _ _ _ _ _ _ _ _ _ c.text.invariant.pays

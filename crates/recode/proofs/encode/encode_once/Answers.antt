@@ -1,50 +1,50 @@
-use Rattle.std.proofs.Common.{◌-◌, arith, sym, ap, drop, map}
-use Rattle.std.specs.Str.{chars}
+use Rattle.std.proofs.Common.{◌+◌, ◌-◌, arith, refl, sym, ap, map}
 use Rattle.recode.proofs.Traces.{pays_bytes, under_bytes, Pays-trans, Pays-under, Pays-to, on_err}
 use Rattle.recode.proofs.Turns.{turn_items, less_bytes, less_note}
 use Rattle.encoding_mem.specs.Coding.{reference}
 use Rattle.encoding_mem.specs.Items.{Byte, LostAt, whole_items}
+use Rattle.recode.specs.PivotText.{text_of}
 use Rattle.recode.specs.declared.counts.Counts.{Counts}
 use Rattle.recode.proofs.encode.encode_once.Goals as goal
 
 pub returns-in_err-deliver-clause-err : goal.returns-in_err-deliver-clause-err
 returns-in_err-deliver-clause-err g c = on_err _
-    (under_bytes _ _ _ _ _ _ _ c.in_err-deliver.ensures.err.2 (c.encode_from_utf8_raw-answer.ensures.law.items c.args.counts.index))
+    (under_bytes _ _ _ _ _ _ _ c.in_err-deliver.ensures.err.2 (c.encode_some-call.ensures.law.items c.args.counts.index))
 
 pub returns-in_err-counts-in-Unmappable-clause-err : goal.returns-in_err-counts-in-Unmappable-clause-err
 returns-in_err-counts-in-Unmappable-clause-err g c =
-    let law = turn_items _ _ _ _ _ _ _ _ c.args.counts.index c.count_turn-counts.result.index c.encode_from_utf8_raw-answer.ensures.law c.count_turn-counts.ensures.index in
-    on_err _ (Pays-under _ _ _ _ _ _ c.args.counts c.count_turn-counts.result _ _
-    (pays_bytes _ _ _ _ _ _ _ _ c.in_ok-deliver.ensures.ok.0 c.count_turn-counts.ensures.bad c.count_turn-counts.ensures.lost (rw c.in-Unmappable.is at law))
+    let law = turn_items _ _ _ _ _ _ _ _ c.args.counts.index (c.args.counts.index + c.encode_some-call.result.characters) c.encode_some-call.ensures.law (omega (arith, c.encode_some-call.ensures.passed)) in
+    on_err _ (Pays-under _ _ _ _ _ _ c.args.counts (record c.args.counts { index = c.args.counts.index + c.encode_some-call.result.characters; calls = c.encode_some-call.result.calls }) _ _
+    (pays_bytes _ _ _ _ _ _ _ _ c.in_ok-deliver.ensures.ok.0 refl refl (rw c.in-Unmappable.is at law))
     (c.in_err-counts-in-Unmappable.ensures.err _))
 
 pub returns-in-InputEmpty-clause-pays : goal.returns-in-InputEmpty-clause-pays
 returns-in-InputEmpty-clause-pays g c =
-    let law = turn_items _ _ _ _ _ _ _ _ c.args.counts.index c.count_turn-counts.result.index c.encode_from_utf8_raw-answer.ensures.law c.count_turn-counts.ensures.index in
-    pays_bytes _ _ _ _ _ _ _ _ c.in_ok-deliver.ensures.ok.0 c.count_turn-counts.ensures.bad c.count_turn-counts.ensures.lost (rw c.in-InputEmpty.is at law)
+    let law = turn_items _ _ _ _ _ _ _ _ c.args.counts.index (c.args.counts.index + c.encode_some-call.result.characters) c.encode_some-call.ensures.law (omega (arith, c.encode_some-call.ensures.passed)) in
+    pays_bytes _ _ _ _ _ _ _ _ c.in_ok-deliver.ensures.ok.0 refl refl (rw c.in-InputEmpty.is at law)
 
 pub returns-in-OutputFull-clause-pays : goal.returns-in-OutputFull-clause-pays
 returns-in-OutputFull-clause-pays g c =
-    let law = turn_items _ _ _ _ _ _ _ _ c.args.counts.index c.count_turn-counts.result.index c.encode_from_utf8_raw-answer.ensures.law c.count_turn-counts.ensures.index in
-    pays_bytes _ _ _ _ _ _ _ _ c.in_ok-deliver.ensures.ok.0 c.count_turn-counts.ensures.bad c.count_turn-counts.ensures.lost (rw c.in-OutputFull.is at law)
+    let law = turn_items _ _ _ _ _ _ _ _ c.args.counts.index (c.args.counts.index + c.encode_some-call.result.characters) c.encode_some-call.ensures.law (omega (arith, c.encode_some-call.ensures.passed)) in
+    pays_bytes _ _ _ _ _ _ _ _ c.in_ok-deliver.ensures.ok.0 refl refl (rw c.in-OutputFull.is at law)
 
 pub returns-in-OutputFull-clause-more : goal.returns-in-OutputFull-clause-more
 returns-in-OutputFull-clause-more g c same =
-    let law = turn_items _ _ _ _ _ _ _ _ c.args.counts.index c.count_turn-counts.result.index c.encode_from_utf8_raw-answer.ensures.law c.count_turn-counts.ensures.index in
-    let full = rw c.in-OutputFull.is at c.encode_from_utf8_raw-answer.ensures.answers in
-    less_bytes _ _ _ _ (rw c.in-OutputFull.is at law) c.encode_from_utf8_raw-answer.ensures.room
+    let law = turn_items _ _ _ _ _ _ _ _ c.args.counts.index (c.args.counts.index + c.encode_some-call.result.characters) c.encode_some-call.ensures.law (omega (arith, c.encode_some-call.ensures.passed)) in
+    let full = rw c.in-OutputFull.is at c.encode_some-call.ensures.answers in
+    less_bytes _ _ _ _ (rw c.in-OutputFull.is at law) c.encode_some-call.ensures.room
     (omega (arith, full.0, (g.met.E.RawEncoder.laws c.args.encoder.now).few, c.requires.room))
 
 pub returns-in_ok-counts-in-Unmappable-clause-pays : goal.returns-in_ok-counts-in-Unmappable-clause-pays
 returns-in_ok-counts-in-Unmappable-clause-pays g c =
-    let law = turn_items _ _ _ _ _ _ _ _ c.args.counts.index c.count_turn-counts.result.index c.encode_from_utf8_raw-answer.ensures.law c.count_turn-counts.ensures.index in
+    let law = turn_items _ _ _ _ _ _ _ _ c.args.counts.index (c.args.counts.index + c.encode_some-call.result.characters) c.encode_some-call.ensures.law (omega (arith, c.encode_some-call.ensures.passed)) in
     Pays-to _ _ _ _ _ _ _ _ _
-    (Pays-trans _ _ _ _ _ _ c.args.counts c.count_turn-counts.result c.in_ok-counts-in-Unmappable.counts _ _ _
-    (pays_bytes _ _ _ _ _ _ _ _ c.in_ok-deliver.ensures.ok.0 c.count_turn-counts.ensures.bad c.count_turn-counts.ensures.lost (rw c.in-Unmappable.is at law))
+    (Pays-trans _ _ _ _ _ _ c.args.counts (record c.args.counts { index = c.args.counts.index + c.encode_some-call.result.characters; calls = c.encode_some-call.result.calls }) c.in_ok-counts-in-Unmappable.counts _ _ _
+    (pays_bytes _ _ _ _ _ _ _ _ c.in_ok-deliver.ensures.ok.0 refl refl (rw c.in-Unmappable.is at law))
     (c.in_ok-counts-in-Unmappable.ensures.pays _))
-    (ap (λ (k : Counts). whole_items (g.E.RawEncoder.coding c.args.encoder.now) c.args.last (g.E.RawEncoder.set c.encode_from_utf8_raw-answer.new.self) k.index (chars (drop c.encode_from_utf8_raw-answer.result.1 c.args.text.now))) (sym c.in_ok-counts-in-Unmappable.ensures.counts))
+    (ap (λ (k : Counts). whole_items (g.E.RawEncoder.coding c.args.encoder.now) c.args.last (g.E.RawEncoder.set c.encode_some-call.new.encoder) k.index (text_of c.encode_some-call.result.rest)) (sym c.in_ok-counts-in-Unmappable.ensures.counts))
 
 pub returns-in_ok-counts-in-Unmappable-clause-more : goal.returns-in_ok-counts-in-Unmappable-clause-more
 returns-in_ok-counts-in-Unmappable-clause-more g c same =
-    let law = turn_items _ _ _ _ _ _ _ _ c.args.counts.index c.count_turn-counts.result.index c.encode_from_utf8_raw-answer.ensures.law c.count_turn-counts.ensures.index in
-    rw c.in_ok-counts-in-Unmappable.ensures.counts (less_note _ _ _ (LostAt (c.count_turn-counts.result.index - 1) c.in-Unmappable.scalar) (map Byte (reference c.in-Unmappable.scalar)) (rw c.in-Unmappable.is at law))
+    let law = turn_items _ _ _ _ _ _ _ _ c.args.counts.index (c.args.counts.index + c.encode_some-call.result.characters) c.encode_some-call.ensures.law (omega (arith, c.encode_some-call.ensures.passed)) in
+    rw c.in_ok-counts-in-Unmappable.ensures.counts (less_note _ _ _ (LostAt ((c.args.counts.index + c.encode_some-call.result.characters) - 1) c.in-Unmappable.scalar) (map Byte (reference c.in-Unmappable.scalar)) (rw c.in-Unmappable.is at law))

@@ -7,12 +7,19 @@ use Rattle.recode.proofs.session.Session.step.Goals as goal
 
 pub returns-in-Ok-More-clause-more : goal.returns-in-Ok-More-clause-more
 returns-in-Ok-More-clause-more g c e =
-    let m = c.step_with-answer.ensures.more (c.in-Ok-More.is ∙ ap Ok (rw c.in-Ok-More.is at c.in-Ok-More.field-0-is)) in
+    let m = c.step-answer.ensures.more (c.in-Ok-More.is ∙ ap Ok (rw c.in-Ok-More.is at c.in-Ok-More.field-0-is)) in
     record {
       chunk = m.chunk;
       consumed = m.consumed;
       counted = m.counted;
       within = m.within;
-      pays = PaysFor-to _ _ _ _ _ _ _ _ _ _ m.pays (λ r. ap (λ k. owes (decoder.ghosts.view c.step_with-answer.new.self.decoder).state k (encoder.ghosts.set c.step_with-answer.new.self.encoder) c.step_with-answer.new.self.counts r) (sym c.step_with-answer.ensures.target));
+      pays = PaysFor-to _ _ _ _ _ _ _ _ _ _ m.pays (λ r. ap (λ k. owes (decoder.ghosts.view c.step-answer.new.self.decoder).state k (encoder.ghosts.set c.step-answer.new.self.encoder) c.step-answer.new.self.counts r) (sym c.step-answer.ensures.target));
       source = m.source;
+    }
+
+pub returns-in-Ok-More-clause-steps_on : goal.returns-in-Ok-More-clause-steps_on
+returns-in-Ok-More-clause-steps_on g c e =
+    record {
+      coding = c.step-answer.ensures.target;
+      settles = c.step-answer.ensures.settled (c.in-Ok-More.is ∙ ap Ok (rw c.in-Ok-More.is at c.in-Ok-More.field-0-is));
     }
