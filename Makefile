@@ -11,6 +11,7 @@ build:
 # The merge gate, and that the index texts of the program are those that the tests load.
 test:
 	@diff -r indexes crates/encoding_index_files/data
+	@diff indexes/index-jis0208.txt crates/recode_sample/data/index-jis0208.txt
 	@rt ci
 
 # The program on standard input, from FROM to TO, proved and built before where something has changed.
