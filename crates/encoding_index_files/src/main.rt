@@ -11,8 +11,13 @@
 ghost use Rattle.std.specs.Prelude.{◌≡◌, true};
 ghost use Rattle.encoding_tables.specs.IndexLists.{has};
 
+mod characters;
+mod digest;
+mod encodings;
 mod sequences;
+mod streams;
 
+use crate::encodings::print_encodings;
 use crate::sequences::print_sequences;
 use anyhow::{Context, ensure};
 use encoding_index::load;
@@ -121,5 +126,6 @@ fn main(rt: HostRuntime) -> anyhow::Result<()> {
         tables.has(IndexKind::Iso2022JpKatakana),
         "halfwidth katakana are not there"
     );
-    print_sequences(&rt, &tables)
+    print_sequences(&rt, &tables)?;
+    print_encodings(&rt, &tables)
 }

@@ -4,6 +4,7 @@
 ghost use Rattle.std.specs.Prelude.{◌≡◌, true};
 ghost use Rattle.encoding_tables.specs.IndexLists.{has};
 
+use crate::digest::{Digest, END};
 use encoding_codecs::{
     Big5Decoder, Big5Encoder, EucJpDecoder, EucJpEncoder, EucKrDecoder, EucKrEncoder,
     Gb18030Decoder, Gb18030Encoder, Iso2022JpDecoder, Iso2022JpEncoder, ShiftJisDecoder,
@@ -46,38 +47,11 @@ const SEQUENCES: [(&str, Codec, &[u8]); 11] = [
     ),
 ];
 
-// FNV-1a over numbers of 32 bits, the lowest byte first.
-#[derive(Clone, Copy)]
-struct Digest {
-    hash: u32,
-}
-
-impl Digest {
-    fn new() -> Self {
-        Digest { hash: 0x811C_9DC5 }
-    }
-
-    // The number so far, for a new beginning.
-    fn take(&mut self) -> u32 {
-        let hash = self.hash;
-        *self = Digest::new();
-        hash
-    }
-
-    fn add(&mut self, item: u32) {
-        for byte in item.to_le_bytes() {
-            self.hash = (self.hash ^ u32::from(byte)).wrapping_mul(0x0100_0193);
-        }
-    }
-}
-
 // What stands in a digest for a bad piece, besides its length.
 const BAD: u32 = 0x0011_0000;
 
 // What stands in a digest for a character without bytes, besides its number.
 const UNMAPPABLE: u32 = 0x0100_0000;
-
-const END: u32 = 0xFFFF_FFFF;
 
 // What was seen: digests of the sequences with one lead, and counts of all.
 #[derive(Drop)]
