@@ -1,4 +1,4 @@
-use crate::row::{EMPTY, Row, check_cuts};
+use crate::row::{EMPTY, Row, check_marks};
 use encoding_front::{
     BIG5, EUC_JP, EUC_KR, GB18030, ISO_2022_JP, REPLACEMENT, SHIFT_JIS, UTF_16BE, UTF_16LE,
     WINDOWS_1253, X_USER_DEFINED,
@@ -157,7 +157,7 @@ const ROWS: [Row; 18] = [
 #[test]
 fn each_encoding_at_every_cut(rt: HostRuntime) -> Result<(), AllocError> {
     for row in ROWS {
-        check_cuts(&rt, row)?;
+        check_marks(&rt, row)?;
     }
     Ok(())
 }

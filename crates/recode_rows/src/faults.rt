@@ -1,7 +1,7 @@
 use crate::sink::{Failure, Manners, WILLING};
 use crate::source::Reads;
 use crate::trial::{LEAST, ROOMY, Trial, WAYS, recode};
-use encoding_front::WINDOWS_1252;
+use encoding_front::{ISO_2022_JP, WINDOWS_1252};
 use recode::Fault;
 use std::alloc::AllocError;
 use std::io::ErrorKind;
@@ -148,6 +148,67 @@ fn a_whole_line_needs_a_call_a_byte(rt: HostRuntime) -> Result<(), AllocError> {
         let outcome = recode(&rt, way, &trial)?;
         outcome.check(&rt, &trial, b"a\xEF\xBF\xBDZ", b"bad 1 1\n", [0, 0, 0]);
         assert!(rt; outcome.answer.is_ok());
+    }
+    Ok(())
+}
+
+// An escape, a character, a reference in the set of JIS X 0201, and the escape back to ASCII.
+fn escaped() -> Trial {
+    Trial {
+        to: ISO_2022_JP,
+        ..Trial::new(b"\xC2\xA5\xF0\x9F\x92\xA9")
+    }
+}
+
+const ESCAPED: &[u8] = b"\x1B(J\\&#128169;\x1B(B";
+
+const ESCAPED_LINE: &[u8] = b"lost 1 128169\n";
+
+// What stands before the line's place is written before the line, and the rest behind it.
+#[test]
+fn a_failed_escape_ends_it(rt: HostRuntime) -> Result<(), AllocError> {
+    for way in WAYS {
+        for sizes in [LEAST, ROOMY] {
+            for failure in FAILURES {
+                for taken in 0..16 {
+                    let trial = Trial {
+                        sizes,
+                        writer: slow(taken + 1, failure),
+                        ..escaped()
+                    };
+                    let outcome = recode(&rt, way, &trial)?;
+                    let log = if taken < 4 {
+                        b"".as_slice()
+                    } else {
+                        ESCAPED_LINE
+                    };
+                    outcome.check(&rt, &trial, &ESCAPED[..taken], log, [0, 1, 0]);
+                    assert_eq!(rt; outcome.answer, Err(Fault::Write), "{trial:?}");
+                }
+            }
+        }
+    }
+    Ok(())
+}
+
+#[test]
+fn a_failed_line_in_another_set_ends_it(rt: HostRuntime) -> Result<(), AllocError> {
+    for way in WAYS {
+        for sizes in [LEAST, ROOMY] {
+            for failure in FAILURES {
+                for taken in 0..14 {
+                    let trial = Trial {
+                        sizes,
+                        log: slow(taken + 1, failure),
+                        ..escaped()
+                    };
+                    let outcome = recode(&rt, way, &trial)?;
+                    let line = &ESCAPED_LINE[..taken];
+                    outcome.check(&rt, &trial, &ESCAPED[..4], line, [0, 0, 1]);
+                    assert_eq!(rt; outcome.answer, Err(Fault::Log), "{trial:?}");
+                }
+            }
+        }
     }
     Ok(())
 }

@@ -1,4 +1,4 @@
-use crate::row::{EMPTY, Row, check_cuts};
+use crate::row::{EMPTY, Row, check_marks};
 use encoding_front::{EUC_JP, GB18030, GBK, ISO_2022_JP, SHIFT_JIS, WINDOWS_1252};
 use encoding_tables::IndexKind;
 use std::alloc::AllocError;
@@ -18,7 +18,7 @@ const FROM_SHIFT_JIS: Row = Row {
 };
 
 // A fold has no line: ¥ is written as a backslash.
-const FOLDS: [Row; 4] = [
+const FOLDS: [Row; 6] = [
     Row {
         to: SHIFT_JIS,
         input: b"\xC2\xA5",
@@ -44,6 +44,20 @@ const FOLDS: [Row; 4] = [
         to: GB18030,
         input: b"\xEE\x9F\x87",
         output: b"\x81\x35\xF4\x37",
+        ..EMPTY
+    },
+    // U+E81E, which the standard writes so with every index, and with one that reads it back.
+    Row {
+        to: GB18030,
+        input: b"\xEE\xA0\x9E",
+        output: b"\xFE\x59",
+        ..EMPTY
+    },
+    Row {
+        to: GB18030,
+        index: &[(IndexKind::Gb18030, b"23775\t0xE81E")],
+        input: b"\xEE\xA0\x9E",
+        output: b"\xFE\x59",
         ..EMPTY
     },
 ];
@@ -106,7 +120,7 @@ const LOST: [Row; 2] = [
 #[test]
 fn a_fold_is_not_told(rt: HostRuntime) -> Result<(), AllocError> {
     for row in FOLDS {
-        check_cuts(&rt, row)?;
+        check_marks(&rt, row)?;
     }
     Ok(())
 }
@@ -114,7 +128,7 @@ fn a_fold_is_not_told(rt: HostRuntime) -> Result<(), AllocError> {
 #[test]
 fn sets_of_characters_follow_one_another(rt: HostRuntime) -> Result<(), AllocError> {
     for row in SETS {
-        check_cuts(&rt, row)?;
+        check_marks(&rt, row)?;
     }
     Ok(())
 }
@@ -122,7 +136,7 @@ fn sets_of_characters_follow_one_another(rt: HostRuntime) -> Result<(), AllocErr
 #[test]
 fn what_has_no_bytes_is_told(rt: HostRuntime) -> Result<(), AllocError> {
     for row in LOST {
-        check_cuts(&rt, row)?;
+        check_marks(&rt, row)?;
     }
     Ok(())
 }

@@ -5,6 +5,8 @@
 #[cfg(test)]
 mod edges;
 #[cfg(test)]
+mod empty;
+#[cfg(test)]
 mod encodings;
 #[cfg(test)]
 mod faults;

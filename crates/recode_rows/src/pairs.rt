@@ -1,4 +1,4 @@
-use crate::row::{EMPTY, Row, check_cuts};
+use crate::row::{EMPTY, Row, check_marks};
 use encoding_front::WINDOWS_1252;
 use encoding_tables::IndexKind;
 use std::alloc::AllocError;
@@ -82,7 +82,7 @@ const ROWS: [Row; 9] = [
 #[test]
 fn each_pair_at_every_cut(rt: HostRuntime) -> Result<(), AllocError> {
     for row in ROWS {
-        check_cuts(&rt, row)?;
+        check_marks(&rt, row)?;
     }
     Ok(())
 }

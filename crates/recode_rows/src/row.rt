@@ -1,7 +1,7 @@
 use crate::source::Reads;
-use crate::trial::{LEAST, LEAST_WIDE, ROOMY, Trial, WAYS, recode};
+use crate::trial::{LEAST, LEAST_WIDE, ROOMY, Trial, WAYS, recode_over};
 use encoding_front::{Encoding, UTF_8};
-use encoding_tables::IndexKind;
+use encoding_tables::{IndexKind, Tables};
 use recode::{Mark, Report};
 use std::alloc::AllocError;
 use std::process::Abort;
@@ -37,20 +37,33 @@ pub const EMPTY: Row = Row {
     lost: 0,
 };
 
+impl Row {
+    fn trial(self) -> Trial {
+        Trial {
+            from: self.from,
+            to: self.to,
+            mark: self.mark,
+            index: self.index,
+            ..Trial::new(self.input)
+        }
+    }
+}
+
 // Converts the row in both ways, with the least buffers, of either kind of pivot, and with large ones.
-fn check(rt: &(impl Abort + AllocGlobal), row: Row, reads: Reads) -> Result<(), AllocError> {
+fn check(
+    rt: &(impl Abort + AllocGlobal),
+    row: Row,
+    reads: Reads,
+    tables: &Tables,
+) -> Result<(), AllocError> {
     for way in WAYS {
         for sizes in [LEAST, LEAST_WIDE, ROOMY] {
             let trial = Trial {
-                from: row.from,
-                to: row.to,
-                mark: row.mark,
-                index: row.index,
                 reads,
                 sizes,
-                ..Trial::new(row.input)
+                ..row.trial()
             };
-            let outcome = recode(rt, way, &trial)?;
+            let outcome = recode_over(rt, way, &trial, tables)?;
             outcome.check(rt, &trial, row.output, row.log.as_bytes(), [0, 0, 0]);
             let report = outcome.answer.expect(rt, "a report");
             let want = Report {
@@ -67,10 +80,27 @@ fn check(rt: &(impl Abort + AllocGlobal), row: Row, reads: Reads) -> Result<(), 
     Ok(())
 }
 
+fn check_cuts_over(
+    rt: &(impl Abort + AllocGlobal),
+    row: Row,
+    tables: &Tables,
+) -> Result<(), AllocError> {
+    for place in 0..=row.input.len() {
+        check(rt, row, Reads::CutAt(place), tables)?;
+    }
+    check(rt, row, Reads::OneByOne, tables)
+}
+
 /// Converts the row at every cut, and byte by byte.
 pub fn check_cuts(rt: &(impl Abort + AllocGlobal), row: Row) -> Result<(), AllocError> {
-    for place in 0..=row.input.len() {
-        check(rt, row, Reads::CutAt(place))?;
+    check_cuts_over(rt, row, &row.trial().tables(rt))
+}
+
+/// Converts the row so with marks sniffed, removed and kept.
+pub fn check_marks(rt: &(impl Abort + AllocGlobal), row: Row) -> Result<(), AllocError> {
+    let tables = row.trial().tables(rt);
+    for mark in [Mark::Sniff, Mark::Remove, Mark::Keep] {
+        check_cuts_over(rt, Row { mark, ..row }, &tables)?;
     }
-    check(rt, row, Reads::OneByOne)
+    Ok(())
 }

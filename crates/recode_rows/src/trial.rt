@@ -110,8 +110,8 @@ impl Trial {
         }
     }
 
-    // Tables with the indexes.
-    fn tables(&self, rt: &(impl Abort + AllocGlobal)) -> Tables {
+    /// Tables with the indexes.
+    pub fn tables(&self, rt: &(impl Abort + AllocGlobal)) -> Tables {
         let mut tables = Tables::new(rt.alloc());
         for (kind, text) in self.index {
             let loaded = load(rt.alloc(), &mut tables, *kind, text);
@@ -144,6 +144,8 @@ pub struct Outcome<A> {
     pub answer: A,
     pub output: Vec<u8>,
     pub log: Vec<u8>,
+    /// How often the reader was called.
+    pub reads: usize,
     /// The failures of the reader, the writer and the log.
     pub failures: [u64; 3],
     pub writer_flushes: Flushes,
@@ -180,12 +182,14 @@ impl<'a> Devices<'a> {
             self.writer.failures(),
             self.log.failures(),
         ];
+        let reads = self.reader.get_ref().calls();
         let writer = self.writer.into_inner();
         let log = self.log.into_inner();
         Outcome {
             answer,
             output: writer.taken,
             log: log.taken,
+            reads,
             failures,
             writer_flushes: writer.flushes,
             log_flushes: log.flushes,
@@ -298,7 +302,7 @@ fn by_steps(
 ) -> Result<Report, Fault> {
     assert!(rt; job.is_valid());
     let mut session = Session::new(job);
-    for steps in 1..100 {
+    for steps in 1..200 {
         let answer = step(rt, &mut session, devices, buffers);
         assert_eq!(rt; devices.reader.get_ref().calls(), steps);
         match answer {
@@ -323,12 +327,21 @@ pub fn recode(
     way: Way,
     trial: &Trial,
 ) -> Result<Outcome<Result<Report, Fault>>, AllocError> {
-    let tables = trial.tables(rt);
+    recode_over(rt, way, trial, &trial.tables(rt))
+}
+
+/// The same with tables that are there.
+pub fn recode_over(
+    rt: &(impl Abort + AllocGlobal),
+    way: Way,
+    trial: &Trial,
+    tables: &Tables,
+) -> Result<Outcome<Result<Report, Fault>>, AllocError> {
     let turns = Cell::new(0);
     let mut devices = trial.devices(rt.alloc(), &turns);
     let mut rooms = Rooms::new(rt.alloc(), trial.sizes)?;
     let mut buffers = rooms.lend();
-    let job = trial.job(&tables);
+    let job = trial.job(tables);
     let answer = match way {
         Way::Run => by_run(rt, &mut devices, job, &mut buffers),
         Way::Steps => by_steps(rt, &mut devices, job, &mut buffers),
