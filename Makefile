@@ -2,7 +2,7 @@ PREFIX = /usr/local
 FROM = utf-8
 TO = utf-8
 
-.PHONY: build test run install
+.PHONY: build test run refused install
 
 # Proves the program and all that it stands on, and builds it: crates/recode_cli/out/recode_cli.
 build:
@@ -17,6 +17,13 @@ test:
 # The program on standard input, from FROM to TO, proved and built before where something has changed.
 run:
 	@cd crates/recode_cli && rt run -- --from $(FROM) --to $(TO) --indexes $(CURDIR)/indexes
+
+# The program, and calls of the libraries, with each request for memory refused in turn by an allocator that is loaded
+# before them: `recode` must end with status 3 and say so, and a call must answer it, and succeed when it is made again.
+# This needs Python and a C compiler.
+refused: build
+	@cd crates/encoding_refusals && rt run > /dev/null
+	@python3 tools/refused_memory.py crates/recode_cli/out/recode_cli indexes crates/encoding_refusals/out/encoding_refusals
 
 # The program, its man page and the index texts.
 install: build

@@ -1,0 +1,245 @@
+//! Makes each call that takes memory of the libraries of encodings, again where memory is refused, and prints
+//! what it answers. `make refused` runs it with each request for memory refused in turn.
+#![tactic(auto)]
+
+use anyhow::bail;
+use encoding_front::{Encoding, OneShotFault, UTF_8, WINDOWS_1252};
+use encoding_index::{IndexFaultKind, LoadFault, load, read_index, read_ranges};
+use encoding_mem::{Latin1Bytes, decode_latin1, encode_latin1_lossy, is_str_latin1};
+use encoding_tables::{IndexKind, TableFault, Tables};
+use std::alloc::Global;
+
+// What came of a call.
+#[derive(Drop)]
+enum Answer {
+    // Memory was refused, and the tables are as they were.
+    Refused,
+    // Something else went wrong.
+    Wrong,
+    // A number that only the right answer has.
+    Is(u32),
+}
+
+#[derive(Clone, Copy)]
+enum Call {
+    Insert,
+    InsertRanges,
+    ReadIndex,
+    ReadRanges,
+    Load,
+    LoadRanges,
+    DecodeLatin1,
+    DecodeAscii,
+    EncodeLatin1,
+    Encode,
+    EncodeUtf8,
+}
+
+const CALLS: [(&str, Call); 11] = [
+    ("insert", Call::Insert),
+    ("insert_ranges", Call::InsertRanges),
+    ("read_index", Call::ReadIndex),
+    ("read_ranges", Call::ReadRanges),
+    ("load", Call::Load),
+    ("load of ranges", Call::LoadRanges),
+    ("decode_latin1", Call::DecodeLatin1),
+    ("decode_latin1 of ASCII", Call::DecodeAscii),
+    ("encode_latin1_lossy", Call::EncodeLatin1),
+    ("encode", Call::Encode),
+    ("encode to UTF-8", Call::EncodeUtf8),
+];
+
+const KIND: IndexKind = IndexKind::Windows1252;
+
+const INDEX: &[u8] = b"0\t0x20AC\n105\t0x00E9\n";
+
+const RANGES: &[u8] =
+    b"0\t0x0080\n36\t0x00A5\n38\t0x00A9\n45\t0x00B2\n50\t0x00B8\n81\t0x00D8\n189000\t0x10000\n";
+
+// The character at pointer 105, of an index that is there.
+fn character(tables: &Tables) -> Answer {
+    if !tables.has(KIND) {
+        return Answer::Wrong;
+    }
+    match tables.value(KIND, 105) {
+        Some(c) => Answer::Is(u32::from(c)),
+        None => Answer::Wrong,
+    }
+}
+
+// The character at pointer 82 of the ranges.
+fn range_character(tables: &Tables) -> Answer {
+    if !tables.has(IndexKind::Gb18030Ranges) {
+        return Answer::Wrong;
+    }
+    match tables.range_value(82) {
+        Some(c) => Answer::Is(u32::from(c)),
+        None => Answer::Wrong,
+    }
+}
+
+// A refusal leaves the tables empty.
+fn refused(tables: &Tables) -> Answer {
+    if tables.has(KIND) || tables.has(IndexKind::Gb18030Ranges) {
+        Answer::Wrong
+    } else {
+        Answer::Refused
+    }
+}
+
+fn insert(tables: &mut Tables) -> Answer {
+    let mut list = [0; 128];
+    list[105] = 0xE9;
+    match tables.insert(KIND, &list) {
+        Ok(()) => character(tables),
+        Err(TableFault::Memory) => refused(tables),
+        Err(_) => Answer::Wrong,
+    }
+}
+
+fn insert_ranges(tables: &mut Tables) -> Answer {
+    match tables.insert_ranges(&[(0, 0x80), (81, 0xD8), (189000, 0x10000)]) {
+        Ok(()) => range_character(tables),
+        Err(TableFault::Memory) => refused(tables),
+        Err(_) => Answer::Wrong,
+    }
+}
+
+fn index_list(alloc: Global) -> Answer {
+    match read_index(alloc, KIND, INDEX) {
+        Ok(list) => match list.get(105) {
+            Some(entry) => Answer::Is(*entry),
+            None => Answer::Wrong,
+        },
+        Err(fault) if fault.kind == IndexFaultKind::Memory && fault.line == 0 => Answer::Refused,
+        Err(_) => Answer::Wrong,
+    }
+}
+
+fn range_rows(alloc: Global) -> Answer {
+    match read_ranges(alloc, RANGES) {
+        Ok(rows) => match rows.last() {
+            Some((pointer, value)) => Answer::Is(pointer.wrapping_add(*value)),
+            None => Answer::Wrong,
+        },
+        Err(fault) if fault.kind == IndexFaultKind::Memory && fault.line == 0 => Answer::Refused,
+        Err(_) => Answer::Wrong,
+    }
+}
+
+// Loads a text, and answers whether memory was refused.
+fn load_text(
+    alloc: Global,
+    tables: &mut Tables,
+    kind: IndexKind,
+    text: &[u8],
+) -> Result<(), Answer> {
+    match load(alloc, tables, kind, text) {
+        Ok(()) => Ok(()),
+        Err(LoadFault::Text(fault)) if fault.kind == IndexFaultKind::Memory => {
+            Err(refused(tables))
+        }
+        Err(LoadFault::Table(TableFault::Memory)) => Err(refused(tables)),
+        Err(_) => Err(Answer::Wrong),
+    }
+}
+
+fn load_index(alloc: Global, tables: &mut Tables) -> Answer {
+    match load_text(alloc, tables, KIND, INDEX) {
+        Ok(()) => character(tables),
+        Err(answer) => answer,
+    }
+}
+
+fn load_ranges(alloc: Global, tables: &mut Tables) -> Answer {
+    match load_text(alloc, tables, IndexKind::Gb18030Ranges, RANGES) {
+        Ok(()) => range_character(tables),
+        Err(answer) => answer,
+    }
+}
+
+// So many bytes.
+fn number_of(length: usize) -> Answer {
+    match u32::try_from(length) {
+        Ok(number) => Answer::Is(number),
+        Err(_) => Answer::Wrong,
+    }
+}
+
+fn latin1_text(alloc: Global, bytes: &[u8]) -> Answer {
+    match decode_latin1(alloc, bytes) {
+        Ok(text) => number_of(text.as_str().len()),
+        Err(_) => Answer::Refused,
+    }
+}
+
+fn latin1_bytes(alloc: Global) -> Answer {
+    let text = "caf\u{E9}";
+    if !is_str_latin1(text) {
+        return Answer::Wrong;
+    }
+    match encode_latin1_lossy(alloc, text) {
+        Ok(Latin1Bytes::Borrowed(_)) => Answer::Wrong,
+        Ok(Latin1Bytes::Owned(bytes)) => number_of(bytes.len()),
+        Err(_) => Answer::Refused,
+    }
+}
+
+// A text with more references than room is asked for at first.
+const LOST: &str = "\u{6587}\u{5B57}\u{306F}\u{3001}\u{8AAD}\u{307E}\u{308C}\u{3066}\u{3001}\u{E9}";
+
+fn encoded(alloc: Global, tables: &Tables, encoding: Encoding) -> Answer {
+    if !encoding.output_encoding().is_ready(tables) {
+        return Answer::Wrong;
+    }
+    match encoding.encode(alloc, tables, LOST) {
+        Ok((bytes, _, _)) => number_of(bytes.len()),
+        Err(OneShotFault::Memory) => Answer::Refused,
+        Err(OneShotFault::Overflow) => Answer::Wrong,
+    }
+}
+
+fn encode(alloc: Global, tables: &mut Tables) -> Answer {
+    if !tables.has(KIND)
+        && let Err(answer) = load_text(alloc, tables, KIND, INDEX)
+    {
+        return answer;
+    }
+    encoded(alloc, tables, WINDOWS_1252)
+}
+
+impl Call {
+    fn make(self, alloc: Global, tables: &mut Tables) -> Answer {
+        match self {
+            Call::Insert => insert(tables),
+            Call::InsertRanges => insert_ranges(tables),
+            Call::ReadIndex => index_list(alloc),
+            Call::ReadRanges => range_rows(alloc),
+            Call::Load => load_index(alloc, tables),
+            Call::LoadRanges => load_ranges(alloc, tables),
+            Call::DecodeLatin1 => latin1_text(alloc, b"caf\xE9"),
+            Call::DecodeAscii => latin1_text(alloc, b"cafe"),
+            Call::EncodeLatin1 => latin1_bytes(alloc),
+            Call::Encode => encode(alloc, tables),
+            Call::EncodeUtf8 => encoded(alloc, tables, UTF_8),
+        }
+    }
+}
+
+fn main(rt: HostRuntime) -> anyhow::Result<()> {
+    for (name, call) in CALLS {
+        let mut tables = Tables::new(rt.alloc());
+        let mut answer = call.make(rt.alloc(), &mut tables);
+        print!(rt; "{name}: ")?;
+        if let Answer::Refused = answer {
+            print!(rt; "refused, then ")?;
+            answer = call.make(rt.alloc(), &mut tables);
+        }
+        match answer {
+            Answer::Is(number) => println!(rt; "{number}")?,
+            Answer::Refused => bail!("refused again"),
+            Answer::Wrong => bail!("another answer"),
+        }
+    }
+    Ok(())
+}
