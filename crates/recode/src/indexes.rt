@@ -78,6 +78,7 @@ fn load_index<S: IndexSource>(
     tables: &mut Tables,
 ) -> Result<(), StartFault>
     ensures there { OnOk result (has tables.new kind ≡ true) }
+    ensures once { has tables.old kind ≡ true → source.new ≡ source.old }
     ensures kept { AreKept tables.old tables.new }
 {
     if tables.has(kind) {
