@@ -5,6 +5,7 @@ ghost use Rattle.recode.specs.Job.{IsValidJob};
 ghost use Rattle.recode.specs.Buffers.{AreEnough, IsRoomy};
 ghost use Rattle.recode.specs.Latency.{StepsOn};
 ghost use Rattle.recode.specs.Owed.{AreSound};
+ghost use Rattle.recode.specs.Runs.{Answers};
 ghost use Rattle.recode.specs.Session.{View, owed, IsOver, Begins, Tells, Completes, Fails, phase_after};
 ghost use Rattle.recode.specs.declared.phase.Phase.TheVariants.{Open};
 ghost use Rattle.recode.specs.Step.{GoesOn, Finishes, Stops};
@@ -187,6 +188,7 @@ pub fn run<R: Read, W: Write, L: Write>(
     ensures reader_count { failures_of reader.new ≡ failures_of reader.old + of_reader result }
     ensures writer_count { failures_of writer.new ≡ failures_of writer.old + of_writer result }
     ensures log_count { failures_of log.new ≡ failures_of log.old + of_log result }
+    ensures answers { Answers (R.remaining (inner_of reader.old)) (R.remaining (inner_of reader.new)) (W.contents (inner_of writer.old)) (W.contents (inner_of writer.new)) (L.contents (inner_of log.old)) (L.contents (inner_of log.new)) (failures_of reader.old) (failures_of reader.new) (failures_of writer.old) (failures_of writer.new) (failures_of log.old) (failures_of log.new) job.entry result }
 {
     let mut session = Session::new(job);
     'run: loop {

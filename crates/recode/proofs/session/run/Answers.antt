@@ -55,3 +55,25 @@ pub returns-in-Err-clause-fails : goal.returns-in-Err-clause-fails
 returns-in-Err-clause-fails g c =
     fails _ _ _ _ _ _ c.args.job (ghosts.view c.new-session.result) _ c.new-session.ensures
     (goes_on_stop _ _ _ _ _ _ _ _ _ _ _ _ _ _ _ _ _ c.run.invariant.ran (rw c.run.invariant.job at c.in-Err.ensures.fault))
+
+pub returns-in-Ok-Done-clause-answers : goal.returns-in-Ok-Done-clause-answers
+returns-in-Ok-Done-clause-answers g c =
+    let e = c.in-Ok-Done.ensures in
+    record {
+      completes = returns-in-Ok-Done-clause-completes g c;
+      fails = tt;
+      reader_count = omega (arith, e.reader_count, c.run.invariant.reader_count);
+      writer_count = omega (arith, e.writer_count, c.run.invariant.writer_count);
+      log_count = omega (arith, e.log_count, c.run.invariant.log_count);
+    }
+
+pub returns-in-Err-clause-answers : goal.returns-in-Err-clause-answers
+returns-in-Err-clause-answers g c =
+    let e = c.in-Err.ensures in
+    record {
+      completes = tt;
+      fails = returns-in-Err-clause-fails g c;
+      reader_count = omega (arith, e.reader_count, c.run.invariant.reader_count);
+      writer_count = omega (arith, e.writer_count, c.run.invariant.writer_count);
+      log_count = omega (arith, e.log_count, c.run.invariant.log_count);
+    }
