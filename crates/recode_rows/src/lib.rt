@@ -21,6 +21,8 @@ mod pairs;
 #[cfg(test)]
 mod programs;
 #[cfg(test)]
+mod roads;
+#[cfg(test)]
 mod row;
 #[cfg(test)]
 mod sink;

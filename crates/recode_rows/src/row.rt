@@ -38,7 +38,8 @@ pub const EMPTY: Row = Row {
 };
 
 impl Row {
-    fn trial(self) -> Trial {
+    /// The conversion of the row: the input in one read, large buffers, and no fault.
+    pub fn trial(self) -> Trial {
         Trial {
             from: self.from,
             to: self.to,
