@@ -1,4 +1,4 @@
-use crate::trial::{LEAST, Trial, Way, recode};
+use crate::trial::{LEAST, LEAST_WIDE, Sizes, Trial, Way, recode};
 use encoding_front::{
     BIG5, EUC_JP, EUC_KR, Encoding, GB18030, GBK, IBM866, ISO_2022_JP, ISO_8859_2, ISO_8859_3,
     ISO_8859_4, ISO_8859_5, ISO_8859_6, ISO_8859_7, ISO_8859_8, ISO_8859_8_I, ISO_8859_10,
@@ -60,12 +60,13 @@ fn check(
     from: Encoding,
     to: Encoding,
     mark: Mark,
+    sizes: Sizes,
 ) -> Result<(), AllocError> {
     let trial = Trial {
         from,
         to,
         mark,
-        sizes: LEAST,
+        sizes,
         ..Trial::new(b"")
     };
     let outcome = recode(rt, Way::Run, &trial)?;
@@ -87,10 +88,21 @@ fn check(
 fn nothing_stays_nothing(rt: HostRuntime) -> Result<(), AllocError> {
     for from in ENCODINGS {
         for to in ENCODINGS {
-            check(&rt, from, to, Mark::Sniff)?;
+            check(&rt, from, to, Mark::Sniff, LEAST)?;
         }
         for mark in [Mark::Remove, Mark::Keep] {
-            check(&rt, from, UTF_8, mark)?;
+            check(&rt, from, UTF_8, mark, LEAST)?;
+        }
+    }
+    Ok(())
+}
+
+// Each encoding once on either side, with a pivot of two units.
+#[test]
+fn nothing_stays_nothing_with_a_wide_pivot(rt: HostRuntime) -> Result<(), AllocError> {
+    for encoding in ENCODINGS {
+        for mark in [Mark::Sniff, Mark::Remove, Mark::Keep] {
+            check(&rt, encoding, encoding, mark, LEAST_WIDE)?;
         }
     }
     Ok(())

@@ -1,6 +1,6 @@
 use crate::sink::{Failure, Manners, WILLING};
 use crate::source::Reads;
-use crate::trial::{LEAST, ROOMY, Trial, WAYS, recode};
+use crate::trial::{SIZES, Trial, WAYS, recode};
 use encoding_front::{ISO_2022_JP, WINDOWS_1252};
 use recode::Fault;
 use std::alloc::AllocError;
@@ -26,7 +26,7 @@ fn slow(fails_at: usize, failure: Failure) -> Manners {
 fn a_failed_read_ends_it(rt: HostRuntime) -> Result<(), AllocError> {
     let rows: [(usize, &[u8]); 4] = [(1, b""), (2, b"A"), (3, b"A"), (4, b"A\xC3\xA9")];
     for way in WAYS {
-        for sizes in [LEAST, ROOMY] {
+        for sizes in SIZES {
             for read_kind in [ErrorKind::BrokenPipe, ErrorKind::Interrupted] {
                 for (read_fails_at, output) in rows {
                     let trial = Trial {
@@ -49,7 +49,7 @@ fn a_failed_read_ends_it(rt: HostRuntime) -> Result<(), AllocError> {
 #[test]
 fn a_failed_write_ends_it(rt: HostRuntime) -> Result<(), AllocError> {
     for way in WAYS {
-        for sizes in [LEAST, ROOMY] {
+        for sizes in SIZES {
             for failure in FAILURES {
                 let trial = Trial {
                     sizes,
@@ -69,7 +69,7 @@ fn a_failed_write_ends_it(rt: HostRuntime) -> Result<(), AllocError> {
 fn a_failed_line_ends_it(rt: HostRuntime) -> Result<(), AllocError> {
     let line = "bad 1 1\n";
     for way in WAYS {
-        for sizes in [LEAST, ROOMY] {
+        for sizes in SIZES {
             for failure in FAILURES {
                 for taken in 0..8 {
                     let trial = Trial {
@@ -101,7 +101,7 @@ fn a_line_of_a_lost_character_comes_before_its_reference(
 ) -> Result<(), AllocError> {
     let line = "lost 1 232\n";
     for way in WAYS {
-        for sizes in [LEAST, ROOMY] {
+        for sizes in SIZES {
             for taken in 0..11 {
                 let trial = Trial {
                     sizes,
@@ -121,7 +121,7 @@ fn a_line_of_a_lost_character_comes_before_its_reference(
 fn a_failed_reference_ends_it(rt: HostRuntime) -> Result<(), AllocError> {
     let output = "a&#232;";
     for way in WAYS {
-        for sizes in [LEAST, ROOMY] {
+        for sizes in SIZES {
             for taken in 1..7 {
                 let trial = Trial {
                     sizes,
@@ -168,7 +168,7 @@ const ESCAPED_LINE: &[u8] = b"lost 1 128169\n";
 #[test]
 fn a_failed_escape_ends_it(rt: HostRuntime) -> Result<(), AllocError> {
     for way in WAYS {
-        for sizes in [LEAST, ROOMY] {
+        for sizes in SIZES {
             for failure in FAILURES {
                 for taken in 0..16 {
                     let trial = Trial {
@@ -194,7 +194,7 @@ fn a_failed_escape_ends_it(rt: HostRuntime) -> Result<(), AllocError> {
 #[test]
 fn a_failed_line_in_another_set_ends_it(rt: HostRuntime) -> Result<(), AllocError> {
     for way in WAYS {
-        for sizes in [LEAST, ROOMY] {
+        for sizes in SIZES {
             for failure in FAILURES {
                 for taken in 0..14 {
                     let trial = Trial {

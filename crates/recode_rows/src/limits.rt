@@ -1,32 +1,51 @@
 use crate::source::Reads;
-use crate::trial::{LEAST, ROOMY, Trial, WAYS, recode};
+use crate::trial::{LEAST, LEAST_WIDE, ROOMY, SIZES, Sizes, Trial, WAYS, recode};
 use recode::Fault;
 use std::alloc::AllocError;
+use std::process::Abort;
+
+// Converts `abcd` in both ways to the limit, with this output.
+fn check_refused(
+    rt: &(impl Abort + AllocGlobal),
+    limit: u64,
+    sizes: Sizes,
+    reads: Reads,
+    output: &str,
+) -> Result<(), AllocError> {
+    for way in WAYS {
+        let trial = Trial {
+            limit,
+            sizes,
+            reads,
+            ..Trial::new(b"abcd")
+        };
+        let outcome = recode(rt, way, &trial)?;
+        outcome.check(rt, &trial, output.as_bytes(), b"", [0, 0, 0]);
+        assert_eq!(rt; outcome.answer, Err(Fault::TooLong), "{trial:?}");
+    }
+    Ok(())
+}
 
 #[test]
 fn bytes_past_the_limit_are_refused(rt: HostRuntime) -> Result<(), AllocError> {
-    // The limit, the size of a read, and what is written.
+    for sizes in [LEAST, LEAST_WIDE] {
+        check_refused(&rt, 3, sizes, Reads::OneByOne, "abc")?;
+        check_refused(&rt, 3, sizes, Reads::CutAt(0), "abc")?;
+        check_refused(&rt, 0, sizes, Reads::OneByOne, "")?;
+    }
+    Ok(())
+}
+
+#[test]
+fn reads_past_the_limit_are_not_converted(rt: HostRuntime) -> Result<(), AllocError> {
     let rows = [
-        (3, LEAST, Reads::OneByOne, "abc"),
-        (3, LEAST, Reads::CutAt(0), "abc"),
-        (3, ROOMY, Reads::OneByOne, "abc"),
-        (3, ROOMY, Reads::CutAt(0), ""),
-        (3, ROOMY, Reads::CutAt(3), "abc"),
-        (3, ROOMY, Reads::CutAt(2), "ab"),
-        (0, LEAST, Reads::OneByOne, ""),
+        (Reads::OneByOne, "abc"),
+        (Reads::CutAt(0), ""),
+        (Reads::CutAt(3), "abc"),
+        (Reads::CutAt(2), "ab"),
     ];
-    for way in WAYS {
-        for (limit, sizes, reads, output) in rows {
-            let trial = Trial {
-                limit,
-                sizes,
-                reads,
-                ..Trial::new(b"abcd")
-            };
-            let outcome = recode(&rt, way, &trial)?;
-            outcome.check(&rt, &trial, output.as_bytes(), b"", [0, 0, 0]);
-            assert_eq!(rt; outcome.answer, Err(Fault::TooLong), "{trial:?}");
-        }
+    for (reads, output) in rows {
+        check_refused(&rt, 3, ROOMY, reads, output)?;
     }
     Ok(())
 }
@@ -35,7 +54,7 @@ fn bytes_past_the_limit_are_refused(rt: HostRuntime) -> Result<(), AllocError> {
 #[test]
 fn half_a_character_below_the_limit_is_not_written(rt: HostRuntime) -> Result<(), AllocError> {
     for way in WAYS {
-        for sizes in [LEAST, ROOMY] {
+        for sizes in SIZES {
             let trial = Trial {
                 limit: 2,
                 sizes,
@@ -56,15 +75,17 @@ const LONG: [u8; 1000] = [0x61; 1000];
 #[test]
 fn a_long_input_is_read_to_the_limit(rt: HostRuntime) -> Result<(), AllocError> {
     for way in WAYS {
-        let trial = Trial {
-            limit: 100,
-            sizes: LEAST,
-            ..Trial::new(&LONG)
-        };
-        let outcome = recode(&rt, way, &trial)?;
-        outcome.check(&rt, &trial, &LONG[..100], b"", [0, 0, 0]);
-        assert_eq!(rt; outcome.answer, Err(Fault::TooLong), "{trial:?}");
-        assert_eq!(rt; outcome.reads, 101, "{trial:?}");
+        for sizes in [LEAST, LEAST_WIDE] {
+            let trial = Trial {
+                limit: 100,
+                sizes,
+                ..Trial::new(&LONG)
+            };
+            let outcome = recode(&rt, way, &trial)?;
+            outcome.check(&rt, &trial, &LONG[..100], b"", [0, 0, 0]);
+            assert_eq!(rt; outcome.answer, Err(Fault::TooLong), "{trial:?}");
+            assert_eq!(rt; outcome.reads, 101, "{trial:?}");
+        }
     }
     Ok(())
 }
@@ -72,7 +93,7 @@ fn a_long_input_is_read_to_the_limit(rt: HostRuntime) -> Result<(), AllocError> 
 #[test]
 fn an_input_of_the_limit_is_converted(rt: HostRuntime) -> Result<(), AllocError> {
     for way in WAYS {
-        for sizes in [LEAST, ROOMY] {
+        for sizes in SIZES {
             let trial = Trial {
                 limit: 4,
                 sizes,

@@ -1,6 +1,6 @@
 use crate::row::{EMPTY, Row, check_cuts};
 use crate::source::Reads;
-use crate::trial::{LEAST, LEAST_WIDE, ROOMY, Trial, WAYS, recode};
+use crate::trial::{SIZES, Trial, WAYS, recode};
 use encoding_front::{IBM866, UTF_8, UTF_16LE, WINDOWS_1252};
 use encoding_tables::IndexKind;
 use recode::{Fault, Mark};
@@ -128,7 +128,7 @@ fn marks_at_every_cut(rt: HostRuntime) -> Result<(), AllocError> {
 fn the_front_of_a_mark_is_held(rt: HostRuntime) -> Result<(), AllocError> {
     let rows: [(Mark, &[u8]); 2] = [(Mark::Sniff, b""), (Mark::Keep, b"\xC3\xAF\xC2\xBB")];
     for way in WAYS {
-        for sizes in [LEAST, LEAST_WIDE, ROOMY] {
+        for sizes in SIZES {
             for (mark, output) in rows {
                 let trial = Trial {
                     from: WINDOWS_1252,

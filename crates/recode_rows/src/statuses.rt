@@ -1,6 +1,6 @@
 use crate::sink::{Failure, Flushes, Manners, WILLING};
 use crate::source::Reads;
-use crate::trial::{LEAST, ROOMY, Trial, status};
+use crate::trial::{LEAST, LEAST_WIDE, SIZES, Trial, status};
 use encoding_front::SHIFT_JIS;
 use recode::{FAITHFUL, FAULT, NOT_FAITHFUL};
 use std::alloc::AllocError;
@@ -78,7 +78,7 @@ fn a_whole_conversion_tells_whether_it_is_faithful(rt: HostRuntime) -> Result<()
         log: lines,
         failures: [0, 0, 0],
     };
-    for sizes in [LEAST, ROOMY] {
+    for sizes in SIZES {
         let trial = Trial {
             sizes,
             ..Trial::new(b"A\xC3\xA9")
@@ -112,11 +112,6 @@ fn a_fold_is_not_told(rt: HostRuntime) -> Result<(), AllocError> {
 
 #[test]
 fn an_input_too_long_is_told(rt: HostRuntime) -> Result<(), AllocError> {
-    let trial = Trial {
-        limit: 3,
-        sizes: LEAST,
-        ..Trial::new(b"abcd")
-    };
     let want = Want {
         status: 4,
         output: b"abc",
@@ -124,16 +119,19 @@ fn an_input_too_long_is_told(rt: HostRuntime) -> Result<(), AllocError> {
         log: "recode: input too long\n",
         failures: [0, 0, 0],
     };
-    check(&rt, &trial, want)
+    for sizes in [LEAST, LEAST_WIDE] {
+        let trial = Trial {
+            limit: 3,
+            sizes,
+            ..Trial::new(b"abcd")
+        };
+        check(&rt, &trial, want)?;
+    }
+    Ok(())
 }
 
 #[test]
 fn the_message_comes_behind_the_lines(rt: HostRuntime) -> Result<(), AllocError> {
-    let trial = Trial {
-        limit: 4,
-        sizes: LEAST,
-        ..Trial::new(b"a\xED\xA0\x80Z")
-    };
     let want = Want {
         status: 4,
         output: b"a\xEF\xBF\xBD\xEF\xBF\xBD\xEF\xBF\xBD",
@@ -141,7 +139,15 @@ fn the_message_comes_behind_the_lines(rt: HostRuntime) -> Result<(), AllocError>
         log: "bad 1 1\nbad 2 1\nbad 3 1\nrecode: input too long\n",
         failures: [0, 0, 0],
     };
-    check(&rt, &trial, want)
+    for sizes in [LEAST, LEAST_WIDE] {
+        let trial = Trial {
+            limit: 4,
+            sizes,
+            ..Trial::new(b"a\xED\xA0\x80Z")
+        };
+        check(&rt, &trial, want)?;
+    }
+    Ok(())
 }
 
 #[test]

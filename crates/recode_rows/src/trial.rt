@@ -51,6 +51,9 @@ pub const ROOMY: Sizes = Sizes {
     is_wide: false,
 };
 
+/// The least buffers, of either kind of pivot, and large ones.
+pub const SIZES: [Sizes; 3] = [LEAST, LEAST_WIDE, ROOMY];
+
 /// What is called.
 #[derive(Clone, Copy, Debug)]
 pub enum Way {
