@@ -13,6 +13,8 @@ mod faults;
 #[cfg(test)]
 mod folds;
 #[cfg(test)]
+mod latency;
+#[cfg(test)]
 mod limits;
 #[cfg(test)]
 mod marks;

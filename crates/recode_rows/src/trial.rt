@@ -296,6 +296,50 @@ fn step(
     )
 }
 
+/// What the writers must hold after a step that goes on.
+#[derive(Clone, Copy, Debug)]
+pub struct Held {
+    pub output: &'static [u8],
+    pub log: &'static str,
+}
+
+// Steps that go on, with what must be written after each.
+fn watch_steps(
+    rt: &impl Abort,
+    session: &mut Session<'_>,
+    devices: &mut Devices<'_>,
+    buffers: &mut Buffers<'_>,
+    wants: &[Held],
+) {
+    for want in wants {
+        let answer = step(rt, session, devices, buffers);
+        assert_eq!(rt; answer, Ok(Progress::More), "{want:?}");
+        let output = &devices.writer.get_ref().taken;
+        assert_eq!(rt; output.as_slice(), want.output, "{want:?}");
+        let log = &devices.log.get_ref().taken;
+        assert_eq!(rt; log.as_slice(), want.log.as_bytes(), "{want:?}");
+    }
+}
+
+/// Asserts what is written after each step but the last, and answers what came of that one.
+pub fn watch(
+    rt: &(impl Abort + AllocGlobal),
+    trial: &Trial,
+    wants: &[Held],
+) -> Result<Outcome<Result<Progress, Fault>>, AllocError> {
+    let tables = trial.tables(rt);
+    let turns = Cell::new(0);
+    let mut devices = trial.devices(rt.alloc(), &turns);
+    let mut rooms = Rooms::new(rt.alloc(), trial.sizes)?;
+    let mut buffers = rooms.lend();
+    let job = trial.job(&tables);
+    assert!(rt; job.is_valid());
+    let mut session = Session::new(job);
+    watch_steps(rt, &mut session, &mut devices, &mut buffers, wants);
+    let answer = step(rt, &mut session, &mut devices, &mut buffers);
+    Ok(devices.outcome(answer))
+}
+
 // Steps with one call of the reader each.
 fn by_steps(
     rt: &impl Abort,
