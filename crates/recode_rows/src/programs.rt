@@ -163,6 +163,36 @@ fn a_run_tells_what_it_lost(rt: HostRuntime) -> Result<(), Fail> {
     Ok(())
 }
 
+// Two units of UTF-16.
+#[test]
+fn a_surrogate_pair_stays_as_it_is(rt: HostRuntime) -> Result<(), Fail> {
+    check(
+        &rt,
+        &Call {
+            line: "--from utf-8 --to utf-8 --pivot utf16",
+            input: b"\xF0\x9F\x92\xA9",
+            output: b"\xF0\x9F\x92\xA9",
+            ..EMPTY
+        },
+    )
+}
+
+// ¥ is written as a backslash, and the log is empty.
+#[test]
+fn a_fold_is_not_told(rt: HostRuntime) -> Result<(), Fail> {
+    check(
+        &rt,
+        &Call {
+            line: "--from utf-8 --to shift_jis",
+            files: &[("index-jis0208.txt", b"")],
+            input: b"\xC2\xA5",
+            output: b"\\",
+            asked: 1,
+            ..EMPTY
+        },
+    )
+}
+
 #[test]
 fn marks_are_sniffed_removed_or_kept(rt: HostRuntime) -> Result<(), Fail> {
     // The words and the output.
