@@ -4,6 +4,7 @@ use Rattle.std.specs.Bool.{MatchBool}
 use Rattle.std.proofs.lemmas.List.{append-nil}
 use Rattle.encoding_mem.specs.Coding.{AllMapped, Coding, IsMapped, last_set, lost_count, open_from, reference, spelled, whole_from}
 use Rattle.encoding_mem.specs.Encoding.{Continues, Encodes}
+use Rattle.encoding_mem.specs.Target.{Moves}
 use Rattle.encoding_mem.specs.declared.encoder_result.EncoderResult.TheVariants.{Unmappable}
 use Rattle.encoding_mem.specs.declared.form.Set.{Set}
 use Rattle.encoding_mem.specs.declared.form.Set.TheVariants.{Ascii}
@@ -67,27 +68,35 @@ in_front_or_last e (x ∷ a) b d (y ∷ before) c after mapped is lost =
       | inr last ↦ inr (last.0, ap (λ (n : ℕ). n ∷ before ++ c ∷ []) (sym same) ∙ ap (λ l. x ∷ l) last.1)
     ]
 
+-- two moves are one
+moves_on : (e : Coding) (s s' s'' : Set) → Moves e s s' → Moves e s' s'' → Moves e s s''
+moves_on e s s' s'' h (inl same) = subst (λ (q : Set). Moves e s q) (sym same) h
+moves_on e s s' s'' h (inr moved) = inr moved
+
 -- Behind a reference.
 pub record Going (e : Coding) (last : Bool) (s : Set) (text written : List ℕ) (s' : Set) (rest : List ℕ) (lost : Bool) (end : ℕ) : Type 0 where
   pub front : List ℕ
   pub gone : Gone e last s text written s' rest lost front
+  pub moves : Moves e s s'
   pub before : EndBefore e s end front
 
 pub going_none : (e : Coding) (last : Bool) (s : Set) (text : List ℕ) (end : ℕ) → Going e last s text [] s text false end
 going_none e last s text end = record {
   front = [];
   gone = gone_none e last s text;
+  moves = inl refl;
   before = record { each = λ before c after is lost. absurd (not_nil before c after is) };
 }
 
 pub going_on : (e : Coding) (last : Bool) (s : Set) (text written : List ℕ) (s' : Set) (rest : List ℕ) (lost : Bool) (end : ℕ) (w : List ℕ) (u : ℕ) (s'' : Set) (rest' : List ℕ)
-    → Going e last s text written s' rest lost end → Encodes e last (Unmappable u) s' rest w s'' rest' → length (written ++ (w ++ reference u)) < end
+    → Going e last s text written s' rest lost end → Encodes e last (Unmappable u) s' rest w s'' rest' → Moves e s' s'' → length (written ++ (w ++ reference u)) < end
     → Going e last s text (written ++ (w ++ reference u)) s'' rest' true end
-going_on e last s text written s' rest lost end w u s'' rest' g p more =
+going_on e last s text written s' rest lost end w u s'' rest' g p moves more =
     let on = gone_on e last s text written s' rest lost g.front w u s'' rest' g.gone p in
     record {
       front = g.front ++ p.front;
       gone = on;
+      moves = moves_on e s s' s'' g.moves moves;
       before = record {
         each = λ before c after is unmapped.
             let at = ap (λ l. g.front ++ l) (sym p.reads.2) ∙ is in
@@ -125,10 +134,10 @@ joined e false s text written s' rest lost front w s'' rest' g is = λ r. g.cont
 pub ended : (x x' : EncoderState) (last : Bool) (outcome : CoderResult) (text written : List ℕ) (s : Set) (rest : List ℕ) (lost : Bool) (w rest' front : List ℕ) (size end : ℕ)
     → end ≡ size - kept_back x.encoding → kept_back x.encoding ≤ size → Going (coding_in x) last x.set text written s rest lost end
     → x' ≡ record x { set = x'.set } → rest ≡ front ++ rest' → AllMapped (coding_in x) front → Bytes (coding_in x) last s rest w x'.set rest'
-    → (last ≡ false → last_set (coding_in x) s rest ≡ last_set (coding_in x) x'.set rest') → Ends last outcome x'.set rest'
+    → (last ≡ false → last_set (coding_in x) s rest ≡ last_set (coding_in x) x'.set rest') → Moves (coding_in x) s x'.set → Ends last outcome x'.set rest'
     → (outcome ≡ CoderResult.OutputFull → end - length (written ++ w) < need_of x.encoding) → length (written ++ w) ≤ end
     → Replaces x last outcome text (written ++ w) x' rest' lost size
-ended x x' last outcome text written s rest lost w rest' front size end at enough g same split mapped bytes sets ends full fits =
+ended x x' last outcome text written s rest lost w rest' front size end at enough g same split mapped bytes sets moves ends full fits =
     let e = coding_in x in
     record {
       same = same;
@@ -136,6 +145,7 @@ ended x x' last outcome text written s rest lost w rest' front size end at enoug
       split = g.gone.split ∙ ap (λ l. g.front ++ l) split ∙ sym (append_assoc g.front front rest');
       bytes = joined e last x.set text written s rest lost g.front w x'.set rest' g.gone bytes;
       sets = λ h. g.gone.sets ∙ sets h;
+      moves = moves_on e x.set s x'.set g.moves moves;
       told =
           let count : lost_count e (g.front ++ front) ≡ lost_count e g.front = count-append e g.front front ∙ omega (arith, count_mapped e front mapped) in
           (λ h. omega (arith, g.gone.told.0 h), λ h. g.gone.told.1 (omega arith));
@@ -151,10 +161,10 @@ ended x x' last outcome text written s rest lost w rest' front size end at enoug
 -- a reference that reaches the end
 pub reached : (x x' : EncoderState) (last : Bool) (outcome : CoderResult) (text written : List ℕ) (s : Set) (rest : List ℕ) (lost : Bool) (w : List ℕ) (u : ℕ) (rest' : List ℕ) (size end : ℕ)
     → end ≡ size - kept_back x.encoding → kept_back x.encoding ≤ size → Going (coding_in x) last x.set text written s rest lost end
-    → x' ≡ record x { set = x'.set } → Encodes (coding_in x) last (Unmappable u) s rest w x'.set rest' → Ends last outcome x'.set rest'
+    → x' ≡ record x { set = x'.set } → Encodes (coding_in x) last (Unmappable u) s rest w x'.set rest' → Moves (coding_in x) s x'.set → Ends last outcome x'.set rest'
     → end ≤ length (written ++ (w ++ reference u)) → length (written ++ w) ≤ end
     → Replaces x last outcome text (written ++ (w ++ reference u)) x' rest' true size
-reached x x' last outcome text written s rest lost w u rest' size end at enough g same p ends reach fits =
+reached x x' last outcome text written s rest lost w u rest' size end at enough g same p moves ends reach fits =
     let e = coding_in x in
     let on = gone_on e last x.set text written s rest lost g.front w u x'.set rest' g.gone p in
     record {
@@ -163,6 +173,7 @@ reached x x' last outcome text written s rest lost w u rest' size end at enough 
       split = on.split;
       bytes = gone_bytes e last x.set text (written ++ (w ++ reference u)) x'.set rest' true (g.front ++ p.front) on;
       sets = λ h. on.sets;
+      moves = moves_on e x.set s x'.set g.moves moves;
       told = on.told;
       ends = ends;
       full = λ h. omega (arith, need_positive x.encoding);
@@ -196,6 +207,7 @@ too_few x last outcome text size less ends =
       split = refl;
       bytes = gone_bytes (coding_in x) last x.set text [] x.set text false [] none;
       sets = λ h. refl;
+      moves = inl refl;
       told = none.told;
       ends = ends;
       full = λ h. omega (arith, need_positive x.encoding);

@@ -71,7 +71,7 @@ input_empty x x1 x' last answer text old rest lost more rest' new size end n at 
     let bytes : more ≡ t.called = t.all ∙ ap (λ (a : EncoderResult). t.called ++ referred a) is ∙ append-nil t.called in
     subst (λ (l : List ℕ). Replaces x last CoderResult.InputEmpty text l x' rest' lost size) (sym (new_is ∙ ap (λ l. old ++ l) bytes))
     (ended x x' last CoderResult.InputEmpty text old x1.set rest lost t.called rest' call.law.front size end at enough going
-    call.same call.law.split call.law.reads call.bytes call.law.sets call.answers (λ h. absurd (cc)) (omega (arith, t.fits, left, length-append old t.called)))
+    call.same call.law.split call.law.reads call.bytes call.law.sets call.moves call.answers (λ h. absurd (cc)) (omega (arith, t.fits, left, length-append old t.called)))
 
 pub output_full : (x x1 x' : EncoderState) (last : Bool) (answer : EncoderResult) (text old rest : List ℕ) (lost : Bool) (more rest' new : List ℕ) (size end n : ℕ)
     → end ≡ size - kept_back x.encoding → kept_back x.encoding ≤ size → x1 ≡ record x { set = x1.set } → Going (coding_in x) last x.set text old x1.set rest lost end
@@ -82,7 +82,7 @@ output_full x x1 x' last answer text old rest lost more rest' new size end n at 
     let bytes : more ≡ t.called = t.all ∙ ap (λ (a : EncoderResult). t.called ++ referred a) is ∙ append-nil t.called in
     subst (λ (l : List ℕ). Replaces x last CoderResult.OutputFull text l x' rest' lost size) (sym (new_is ∙ ap (λ l. old ++ l) bytes))
     (ended x x' last CoderResult.OutputFull text old x1.set rest lost t.called rest' call.law.front size end at enough going
-    call.same call.law.split call.law.reads call.bytes call.law.sets call.answers.1 (λ h. omega (arith, call.answers.0, length-append old t.called)) (omega (arith, t.fits, left, length-append old t.called)))
+    call.same call.law.split call.law.reads call.bytes call.law.sets call.moves call.answers.1 (λ h. omega (arith, call.answers.0, length-append old t.called)) (omega (arith, t.fits, left, length-append old t.called)))
 
 -- of a turn that writes a reference
 pub reference_reached : (x x1 x' : EncoderState) (last : Bool) (answer : EncoderResult) (u : ℕ) (outcome : CoderResult) (text old rest : List ℕ) (lost : Bool) (more rest' new : List ℕ) (size end n : ℕ)
@@ -93,7 +93,7 @@ reference_reached x x1 x' last answer u outcome text old rest lost more rest' ne
     let call = as_first x x1 last (Unmappable u) rest t.called x' rest' (n - length t.called) same (rw is at t.call) in
     let bytes : new ≡ old ++ (t.called ++ reference u) = new_is ∙ ap (λ l. old ++ l) (t.all ∙ ap (λ (a : EncoderResult). t.called ++ referred a) is) in
     subst (λ (l : List ℕ). Replaces x last outcome text l x' rest' true size) (sym bytes)
-    (reached x x' last outcome text old x1.set rest lost t.called u rest' size end at enough going call.same call.law ends (omega (arith, reach, ap length bytes)) (omega (arith, t.fits, left, length-append old t.called)))
+    (reached x x' last outcome text old x1.set rest lost t.called u rest' size end at enough going call.same call.law call.moves ends (omega (arith, reach, ap length bytes)) (omega (arith, t.fits, left, length-append old t.called)))
 
 pub turn_on : (x x1 x' : EncoderState) (last : Bool) (answer : EncoderResult) (u : ℕ) (text old rest : List ℕ) (lost : Bool) (more rest' new : List ℕ) (end n : ℕ)
     → x1 ≡ record x { set = x1.set } → Going (coding_in x) last x.set text old x1.set rest lost end
@@ -103,7 +103,7 @@ turn_on x x1 x' last answer u text old rest lost more rest' new end n same going
     let call = as_first x x1 last (Unmappable u) rest t.called x' rest' (n - length t.called) same (rw is at t.call) in
     let bytes : new ≡ old ++ (t.called ++ reference u) = new_is ∙ ap (λ l. old ++ l) (t.all ∙ ap (λ (a : EncoderResult). t.called ++ referred a) is) in
     subst (λ (l : List ℕ). Going (coding_in x) last x.set text l x'.set rest' true end) (sym bytes)
-    (going_on (coding_in x) last x.set text old x1.set rest lost end t.called u x'.set rest' going call.law (omega (arith, short, ap length bytes)))
+    (going_on (coding_in x) last x.set text old x1.set rest lost end t.called u x'.set rest' going call.law call.moves (omega (arith, short, ap length bytes)))
 
 -- the encoder afterwards
 pub still_same : (x x1 x' : EncoderState) (last : Bool) (answer : EncoderResult) (text more : List ℕ) (rest : List ℕ) (n : ℕ) → x1 ≡ record x { set = x1.set } → Turned x1 last answer text more x' rest n

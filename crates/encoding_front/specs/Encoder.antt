@@ -88,6 +88,7 @@ pub record Replaces (x : EncoderState) (last : Bool) (outcome : CoderResult) (te
   pub bytes : MatchBool last (whole_from (coding_in x) x.set text ≡ written ++ whole_from (coding_in x) x'.set rest)
       (Continues (coding_in x) x.set text written x'.set rest)
   pub sets : last ≡ false → last_set (coding_in x) x.set text ≡ last_set (coding_in x) x'.set rest
+  pub moves : Moves (coding_in x) x.set x'.set
   pub told : IsTrue lost ↔ (0 < lost_count (coding_in x) front)
   pub ends : Ends last outcome x'.set rest
   pub full : outcome ≡ CoderResult.OutputFull → size - kept_back x.encoding - length written < need_of x.encoding
