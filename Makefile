@@ -2,7 +2,7 @@ PREFIX = /usr/local
 FROM = utf-8
 TO = utf-8
 
-.PHONY: build test run refused install
+.PHONY: build test run refused characters install
 
 # Proves the program and all that it stands on, and builds it: crates/recode_cli/out/recode_cli.
 build:
@@ -24,6 +24,14 @@ run:
 refused: build
 	@cd crates/encoding_refusals && rt run > /dev/null
 	@python3 tools/refused_memory.py crates/recode_cli/out/recode_cli indexes crates/encoding_refusals/out/encoding_refusals
+
+# Every character in every encoding, written and read again, against `tools/encodings.py`, a plain program over the
+# same index texts: the gate runs a sample. This needs Python and bash, and takes minutes.
+characters: SHELL = bash
+characters:
+	@cd indexes && rt run encoding_index_files > /dev/null
+	@cd indexes && diff <(python3 ../tools/encodings.py . all) \
+		<(../crates/encoding_index_files/out/encoding_index_files all | sed -n '/ reads: /,$$p')
 
 # The program, its man page and the index texts.
 install: build

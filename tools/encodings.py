@@ -4,6 +4,9 @@
     cd crates/encoding_index_files
     python3 ../../tools/encodings.py data | diff - <(sed -n '/ reads: /,$p' stdout)
 
+With the word `all` behind the folder, it is what the program must print with this word, by which it writes every
+character in every encoding (`make characters`).
+
 Of each encoding: what it reads in short streams of bytes, among which are the bytes of every character of its
 indexes; and what it writes for each character, and how that is read again. Like `sequences.py`, whose codecs it
 uses, this is a plain program over the index texts, which follows the steps of the Encoding Standard.
@@ -226,14 +229,14 @@ ENCODINGS = [
 ]
 
 # Their encoders search long lists in the program: of the planes from 1 on it writes every 64th character, but all
-# of plane 2, which no other index has, in Big5.
+# of plane 2, which no other index has, in Big5. With the word `all` it writes every character here too.
 SLOW = {"GBK", "gb18030", "Big5", "EUC-JP", "ISO-2022-JP", "Shift_JIS", "EUC-KR"}
 
 
-def is_written(name, point):
+def is_written(name, point, is_all):
     if 0xD800 <= point <= 0xDFFF:
         return False
-    if name not in SLOW or point < 0x10000 or point % 64 == 0:
+    if is_all or name not in SLOW or point < 0x10000 or point % 64 == 0:
         return True
     return name == "Big5" and point >> 16 == 2
 
@@ -271,10 +274,10 @@ def reads(name, decoder, tables, streams):
     return f"{name} reads: {whole} whole, {bad} with a bad piece, {digest.hash:08x}"
 
 
-def writes(name, decoder, encoder, tables):
+def writes(name, decoder, encoder, tables, is_all):
     lost, folded, written, again = 0, 0, Digest(), Digest()
     for point in range(0x110000):
-        if not is_written(name, point):
+        if not is_written(name, point, is_all):
             continue
         items = sequences.encode(encoder(tables), [point])
         out = b"".join(
@@ -291,7 +294,7 @@ def writes(name, decoder, encoder, tables):
 
 
 def lines(task):
-    folder, (name, decoder, encoder, streams) = task
+    folder, is_all, (name, decoder, encoder, streams) = task
     if name in SINGLE_BYTE:
         tables = sequences.Index(sequences.index(folder, SINGLE_BYTE[name]))
     elif name.startswith("UTF-16"):
@@ -301,10 +304,11 @@ def lines(task):
     first = reads(name, decoder, tables, streams)
     if encoder is None:
         decoder, encoder = Utf8Decoder, Utf8Encoder
-    return [first, writes(name, decoder, encoder, tables)]
+    return [first, writes(name, decoder, encoder, tables, is_all)]
 
 
 if __name__ == "__main__":
+    folder, is_all = sys.argv[1], sys.argv[2:] == ["all"]
     with multiprocessing.Pool() as pool:
-        for pair in pool.imap(lines, [(sys.argv[1], row) for row in ENCODINGS], 1):
+        for pair in pool.imap(lines, [(folder, is_all, row) for row in ENCODINGS], 1):
             print(*pair, sep="\n", flush=True)

@@ -63,15 +63,29 @@ fn is_slow(encoding: Encoding) -> bool {
     }
 }
 
-// Whether a character is written in this encoding. The slow encoders write all of the basic plane, and every
-// 64th character of the others: no index has one of these but that of Big5, which writes all of plane 2.
-fn is_written(encoding: Encoding, number: u32) -> bool {
+// Which characters the slow encoders write. The others write every one.
+#[derive(Clone, Copy, PartialEq, Eq)]
+pub(crate) enum Extent {
+    // All of the basic plane, and every 64th of the others: no index has one of these but that of Big5, which
+    // writes all of plane 2.
+    Sample,
+    // Every one.
+    All,
+}
+
+// Whether a slow encoder writes a character of a sample.
+fn is_sample(encoding: Encoding, number: u32) -> bool {
     let is_whole = match number / 0x10000 {
         0 => true,
         2 => encoding == Encoding::Big5,
         _ => false,
     };
-    is_whole || number % 64 == 0 || !is_slow(encoding)
+    is_whole || number % 64 == 0
+}
+
+// Whether a character is written in this encoding.
+fn is_written(extent: Extent, encoding: Encoding, number: u32) -> bool {
+    extent == Extent::All || !is_slow(encoding) || is_sample(encoding, number)
 }
 
 // Prints how many characters an encoding has no bytes for, how many it writes as others, and the digests of
@@ -79,6 +93,7 @@ fn is_written(encoding: Encoding, number: u32) -> bool {
 pub(crate) fn print_characters(
     rt: &impl Print,
     tables: &Tables,
+    extent: Extent,
     encoding: Encoding,
 ) -> anyhow::Result<()>
     requires { IsReady tables.now (output_encoding_of encoding) }
@@ -91,7 +106,7 @@ pub(crate) fn print_characters(
     };
     let mut encoder = encoding.new_encoder(tables);
     for number in 0..0x110000 {
-        if is_written(encoding, number)
+        if is_written(extent, encoding, number)
             && let Some(c) = char::from_u32(number)
         {
             told.character(tables, encoding.output_encoding(), &mut encoder, c);

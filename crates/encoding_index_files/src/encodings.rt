@@ -1,6 +1,6 @@
 // The forty encodings by name, over the tables of the files: what each reads, and how each is written.
 
-use crate::characters::print_characters;
+use crate::characters::{Extent, print_characters};
 use crate::streams::print_streams;
 use anyhow::ensure;
 use encoding_front::{
@@ -61,6 +61,7 @@ const ENCODINGS: [Encoding; 40] = [
 pub(crate) fn print_encodings(
     rt: &(impl Print + AllocGlobal),
     tables: &Tables,
+    extent: Extent,
 ) -> anyhow::Result<()> {
     for encoding in ENCODINGS {
         ensure!(encoding.is_ready(tables), "an index is not there");
@@ -69,7 +70,7 @@ pub(crate) fn print_encodings(
             encoding.output_encoding().is_ready(tables),
             "an index of the output is not there"
         );
-        print_characters(rt, tables, encoding)?;
+        print_characters(rt, tables, extent, encoding)?;
     }
     Ok(())
 }

@@ -5,7 +5,11 @@
 //! The file `stdout` beside `src/` has what it must print. Its characters were taken from ISO 8859, RFC 1489
 //! and RFC 2319 (KOI8), the code pages of the vendors, JIS X 0208 and 0212, KS X 1001, GB 18030 and the
 //! notes of the Encoding Standard, never from the files. Its lines on sequences are those of
-//! `tools/sequences.py`, a program that reads the same files by itself.
+//! `tools/sequences.py`, a program that reads the same files by itself, and those on the forty encodings by name
+//! are those of `tools/encodings.py`.
+//!
+//! The encoders that search lists of thousands of entries write a sample of the characters above the basic
+//! plane. With the word `all` they write every character (`make characters`).
 #![tactic(auto)]
 
 ghost use Rattle.std.specs.Prelude.{◌≡◌, true};
@@ -17,12 +21,14 @@ mod encodings;
 mod sequences;
 mod streams;
 
+use crate::characters::Extent;
 use crate::encodings::print_encodings;
 use crate::sequences::print_sequences;
-use anyhow::{Context, ensure};
+use anyhow::{Context, bail, ensure};
 use encoding_index::load;
 use encoding_tables::{IndexKind, Tables};
-use std::fs;
+use std::env::Env;
+use std::{env, fs};
 
 // The pointers that are printed of each kind.
 const POINTERS: [(IndexKind, &[u32]); 34] = [
@@ -96,7 +102,18 @@ fn print_entries(
     Ok(())
 }
 
+// What the words of the command line ask for.
+fn extent(env: &(impl Env + AllocGlobal)) -> anyhow::Result<Extent> {
+    let words: Vec<String> = env::args(env)?.collect(env.alloc())?;
+    match words.get(1) {
+        None => Ok(Extent::Sample),
+        Some(word) if word.as_str() == "all" => Ok(Extent::All),
+        Some(_) => bail!("the only word is `all`"),
+    }
+}
+
 fn main(rt: HostRuntime) -> anyhow::Result<()> {
+    let extent = extent(&rt)?;
     let mut tables = Tables::new(rt.alloc());
     for (kind, pointers) in POINTERS {
         let text = fs::read(&rt, kind.file_name()).context(kind.file_name())?;
@@ -127,5 +144,5 @@ fn main(rt: HostRuntime) -> anyhow::Result<()> {
         "halfwidth katakana are not there"
     );
     print_sequences(&rt, &tables)?;
-    print_encodings(&rt, &tables)
+    print_encodings(&rt, &tables, extent)
 }
