@@ -5,6 +5,8 @@ use crate::{
 use encoding_mem::DecoderResult;
 use encoding_tables::{IndexKind, TableFault, Tables};
 use std::alloc::{AllocError, Global};
+use std::process::Abort;
+use std::test::Fail;
 
 // What a stream gives that comes in two slices: its units, whether a piece was bad, and the encoding at its
 // end.
@@ -133,12 +135,18 @@ fn marks_are_removed_or_kept(rt: HostRuntime) {
     }
 }
 
-#[test]
-fn half_a_mark_is_text(rt: HostRuntime) -> Result<(), TableFault> {
+// The indexes of IBM866, with ╗ and я, and of ISO-2022-JP, without entries.
+fn tables_of_two(alloc: Global) -> Result<Tables, TableFault> {
     let entries = [(59, 0x2557), (111, 0x44F)];
-    let mut tables = tables_with(rt.alloc(), IndexKind::Ibm866, &entries)?;
+    let mut tables = tables_with(alloc, IndexKind::Ibm866, &entries)?;
     tables.insert(IndexKind::Iso2022JpKatakana, &[0; 63])?;
     tables.insert(IndexKind::Jis0208, &[0; 11280])?;
+    Ok(tables)
+}
+
+#[test]
+fn half_a_mark_is_text(rt: HostRuntime) -> Result<(), TableFault> {
+    let tables = tables_of_two(rt.alloc())?;
     let rows: [(Encoding, &[u8], &[u16], bool); 5] = [
         (IBM866, b"\xEF\xBBab", &[0x44F, 0x2557, 0x61, 0x62], false),
         (
@@ -160,6 +168,88 @@ fn half_a_mark_is_text(rt: HostRuntime) -> Result<(), TableFault> {
         for cut in 0..=bytes.len() {
             let read = read_cut(&tables, encoding, Mark::Sniff, bytes, cut);
             assert_eq!(rt; read, expected(text, bad, encoding), "{bytes:?} {cut}");
+        }
+    }
+    Ok(())
+}
+
+// Calls into so many bytes each until all is read, and adds what they write. Answers whether a piece was bad;
+// none where they do not get there.
+fn read_bytes(
+    decoder: &mut Decoder<'_>,
+    room: usize,
+    src: &[u8],
+    last: bool,
+    text: &mut Vec<u8>,
+) -> Result<Option<bool>, AllocError> {
+    let mut had_errors = false;
+    let mut left = src;
+    for _ in 0..8 {
+        let mut bytes = [0; 7];
+        let Some(dst) = bytes.get_mut(..room) else {
+            return Ok(None);
+        };
+        if decoder.is_finished() {
+            return Ok(None);
+        }
+        let (outcome, read, written, bad) = decoder.decode_to_utf8(left, dst, last);
+        text.extend_from_slice(dst.get(..written).unwrap_or(&[]))?;
+        left = left.get(read..).unwrap_or(&[]);
+        had_errors = had_errors || bad;
+        if outcome == CoderResult::InputEmpty {
+            return Ok(Some(had_errors));
+        }
+    }
+    Ok(None)
+}
+
+// A stream that comes in two slices, in which marks are sniffed.
+fn check_bytes(
+    rt: &(impl Abort + AllocGlobal),
+    tables: &Tables,
+    row: (Encoding, &[u8], &str, bool),
+    cut: usize,
+    room: usize,
+) -> Result<(), AllocError> {
+    let (encoding, bytes, expected, bad) = row;
+    assert!(rt; encoding.is_ready(tables));
+    let mut decoder = encoding.new_decoder(tables);
+    let mut text = Vec::new(rt.alloc());
+    let (front, rest) = bytes.split_at_checked(cut).expect(rt, "a cut in the bytes");
+    let first = read_bytes(&mut decoder, room, front, false, &mut text)?;
+    let second = read_bytes(&mut decoder, room, rest, true, &mut text)?;
+    assert_eq!(rt;
+        text.as_slice(),
+        expected.as_bytes(),
+        "{encoding:?} {cut} {room}"
+    );
+    assert!(rt;
+        first.is_some() && second.is_some(),
+        "{encoding:?} {cut} {room}"
+    );
+    assert_eq!(rt;
+        first == Some(true) || second == Some(true),
+        bad,
+        "{encoding:?} {cut} {room}"
+    );
+    assert_eq!(rt; decoder.encoding(), encoding, "{cut} {room}");
+    Ok(())
+}
+
+#[test]
+fn half_a_mark_into_few_bytes(rt: HostRuntime) -> Result<(), Fail> {
+    let tables = tables_of_two(rt.alloc())?;
+    let rows: [(Encoding, &[u8], &str, bool); 4] = [
+        (IBM866, b"\xEF\xBBab", "\u{44F}\u{2557}ab", false),
+        (X_USER_DEFINED, b"\xEF\xBBab", "\u{F7EF}\u{F7BB}ab", false),
+        (ISO_2022_JP, b"\xEF\xBBab", "\u{FFFD}\u{FFFD}ab", true),
+        (X_USER_DEFINED, b"\xFE\x80", "\u{F7FE}\u{F780}", false),
+    ];
+    for row in rows {
+        for cut in 0..=row.1.len() {
+            for room in 4..8 {
+                check_bytes(&rt, &tables, row, cut, room)?;
+            }
         }
     }
     Ok(())
