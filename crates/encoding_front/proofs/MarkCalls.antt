@@ -266,11 +266,3 @@ first_room held src h = sym (take_past 3 held src (omega (arith, h)))
 
 pub needs_settled : (s : Sought) (own : Count → ℕ → ℕ) (held : List ℕ) → s ≡ nothing_sought → (k : Count) (n : ℕ) → sought_needs s own held k n ≡ own k (length held + n)
 needs_settled s own held e k n = ap (λ (t : Sought). sought_needs t own held k n) e ∙ needs_own own held k n
-
--- what is held is no mark yet
-held_at : (t : Bool) (taken : Option ByteOrderMark) (F : Seen) → (IsTrue t → F ≡ Front) → cond t (mark_seen taken F) taken ≡ taken
-held_at true taken F h = ap (mark_seen taken) (h refl)
-held_at false taken F h = refl
-
-pub held_taken : (s : Sought) (taken : Option ByteOrderMark) (held : List ℕ) → (IsTrue (is_sought s) → find_mark s held ≡ Front) → mark_taken s taken (held ++ []) ≡ taken
-held_taken s taken held h = ap (mark_taken s taken) (append-nil held) ∙ held_at (is_sought s) taken (find_mark s held) h

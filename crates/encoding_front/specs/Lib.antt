@@ -12,6 +12,7 @@ pub mod MarkedState
 pub mod TakesMark
 pub mod Latin1Prefix
 pub mod Stream
+pub mod StreamLaws
 pub mod DecodedText
 pub mod OneShot
 pub mod Bounds

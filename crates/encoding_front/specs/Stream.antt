@@ -11,7 +11,7 @@ use Rattle.encoding_tables.specs.IndexLists.{IndexLists}
 use Rattle.encoding_front.specs.Encodings.{pieces_of, room_of_encoding}
 use Rattle.encoding_front.specs.Latin1Prefix.{latin1_rule, IsAtRest, IsLatin1Prefix}
 use Rattle.encoding_front.specs.Marks.{marked_pieces, source_of}
-use Rattle.encoding_front.specs.Seeking.{can_be, encoding_of_mark, find_mark, is_sought, nothing_sought, sought_by, sought_pieces}
+use Rattle.encoding_front.specs.Seeking.{can_be, encoding_of_mark, find_mark, is_sought, mark_taken, nothing_sought, sought_by, sought_pieces}
 use Rattle.encoding_front.specs.declared.encoding.Encoding.{Encoding}
 use Rattle.encoding_front.specs.declared.mark.Mark.{Mark}
 use Rattle.encoding_front.specs.declared.mark.Mark.TheVariants.{Sniff}
@@ -105,7 +105,8 @@ pub record DecoderView : Type 0 where
   pub finished : Bool
 
 -- The pieces of what is to come are those of what is held and of what follows, in the encoding in force or behind a
--- mark; what is held is the front of a mark, where one is sought.
+-- mark; what is held is the front of a mark, where one is sought. So it is with the encoding that the input turns out to
+-- be in, and the room is that of the one in force.
 pub record IsOpenedBy (v : DecoderView) : Type 0 where
   pub pieces : (x : List ℕ) → v.state.pieces x ≡ sought_pieces v.opening.sought v.own.pieces (v.opening.held ++ x)
   pub pending : v.state.pending ≡ v.opening.pending + length v.opening.held
@@ -113,6 +114,8 @@ pub record IsOpenedBy (v : DecoderView) : Type 0 where
   pub own_room : v.opening.room ≡ v.own.room
   pub front : IsTrue (is_sought v.opening.sought) → find_mark v.opening.sought v.opening.held ≡ Seen.Front
   pub fresh : IsTrue (is_sought v.opening.sought) → v.own.pending ≡ 0
+  pub named : (x : List ℕ) → v.source x ≡ encoding_after (v.source []) (mark_taken v.opening.sought None (v.opening.held ++ x))
+  pub room : v.opening.room ≡ room_of_encoding (v.source [])
 
 -- no mark is sought any more, and nothing is held
 abbrev pub IsSettled : Opening → Type 0

@@ -1,6 +1,7 @@
 ghost use Rattle.std.specs.Prelude.{◌≡◌, ℕ, ◌-◌, ◌++◌, IsTrue, List, [], length, drop};
 ghost use Rattle.encoding_mem.specs.Decoding.{EndsWith};
 ghost use Rattle.encoding_front.specs.DecodedText.{NeverFull, TakesText, raw_result};
+ghost use Rattle.encoding_front.specs.Encodings.{room_of_encoding};
 ghost use Rattle.encoding_front.specs.Latin1Prefix.{latin1_rule};
 ghost use Rattle.encoding_front.specs.MarkedState.{marked_state};
 ghost use Rattle.encoding_front.specs.Seeking.{mark_taken, sought_needs};
@@ -34,6 +35,8 @@ impl<D: Switches> MarkedDecoder<D> {
             ≡ mark_taken self.new.sought self.new.taken (self.new.held ++ (drop result.1 src.now ++ r)) }
         ensures rule { (e : Encoding) → D.rule self.old.inner ≡ latin1_rule (encoding_after e self.old.taken)
             → D.rule self.new.inner ≡ latin1_rule (encoding_after e self.new.taken) }
+        ensures room { (e : Encoding) → (D.state self.old.inner).room ≡ room_of_encoding (encoding_after e self.old.taken)
+            → (D.state self.new.inner).room ≡ room_of_encoding (encoding_after e self.new.taken) }
     {
         let mut read = 0;
         let mut had_errors = false;

@@ -6,10 +6,11 @@ ghost use Rattle.encoding_mem.specs.TextDestination.{Overwrites};
 ghost use Rattle.encoding_mem.specs.Writing.{Adds, encode_utf16_all};
 ghost use Rattle.encoding_mem.specs.declared.room.Count.TheVariants.{Units, Bytes, Replaced};
 ghost use Rattle.encoding_front.specs.DecodedText.{NeverFull, TakesText, raw_result};
-ghost use Rattle.encoding_front.specs.Encodings.{IsReady};
+ghost use Rattle.encoding_front.specs.Encodings.{IsReady, room_of_encoding};
 ghost use Rattle.encoding_front.specs.Latin1Prefix.{latin1_rule};
 ghost use Rattle.encoding_front.specs.Seeking.{mark_taken};
 ghost use Rattle.encoding_front.specs.Stream.{Begins, DecoderView, IsOpenedBy, TellsLatin1Prefix, encoding_after, finishes, room_asked};
+ghost use Rattle.encoding_front.specs.StreamLaws.{named_by, room_named};
 ghost use Rattle.encoding_front.specs.declared.mark.Mark.{Mark};
 
 use crate::coder_result::CoderResult;
@@ -76,6 +77,7 @@ pub struct Decoder<'t> {
     encoding: Encoding,
     is_finished: bool,
     ghost rule: { ⟦<VariantDecoder<'static> as Switches>⟧.rule marked.inner ≡ latin1_rule (encoding_after encoding marked.taken) },
+    ghost room: { (⟦<VariantDecoder<'static> as PieceDecoder>⟧.state marked.inner).room ≡ room_of_encoding (encoding_after encoding marked.taken) },
 }
 
 impl Encoding {
@@ -167,6 +169,8 @@ impl<'t> StreamDecoder for Decoder<'t> {
       own_room = refl;
       front = d.marked.front;
       fresh = d.marked.fresh;
+      named = named_by d.encoding d.marked.sought d.marked.taken d.marked.held d.marked.front;
+      room = room_named d.encoding d.marked.sought d.marked.taken d.marked.held _ d.marked.front d.room;
     } };
 
     fn decode_to_utf8_without_replacement(

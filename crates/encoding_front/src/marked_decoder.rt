@@ -3,6 +3,7 @@ ghost use Rattle.encoding_mem.specs.Decoding.{DecoderState, StateLaw, EndsWith};
 ghost use Rattle.encoding_mem.specs.Driver.{Suffices};
 ghost use Rattle.encoding_mem.specs.Room.{room_of};
 ghost use Rattle.encoding_mem.specs.declared.room.Count.{Count};
+ghost use Rattle.encoding_front.specs.Encodings.{room_of_encoding};
 ghost use Rattle.encoding_front.specs.Latin1Prefix.{Latin1Rule, latin1_rule};
 ghost use Rattle.encoding_front.specs.Seeking.{encoding_of_mark, find_mark, is_sought, mark_taken, pieces_after, room_after, room_widest, sought_needs, sought_pieces};
 ghost use Rattle.encoding_front.specs.declared.seeking.Seen.{Seen};
@@ -84,6 +85,8 @@ impl<D: Switches> MarkedDecoder<D> {
             ≡ mark_taken self.new.sought self.new.taken (self.new.held ++ r) }
         ensures rule { (e : Encoding) → D.rule self.old.inner ≡ latin1_rule (encoding_after e self.old.taken)
             → D.rule self.new.inner ≡ latin1_rule (encoding_after e self.new.taken) }
+        ensures room { (e : Encoding) → (D.state self.old.inner).room ≡ room_of_encoding (encoding_after e self.old.taken)
+            → (D.state self.new.inner).room ≡ room_of_encoding (encoding_after e self.new.taken) }
     {
         if !self.sought.is_any() {
             return Some(0);
@@ -128,6 +131,8 @@ impl<D: Switches> MarkedDecoder<D> {
             ≡ mark_taken self.new.sought self.new.taken (self.new.held ++ (drop result.1 src.now ++ r)) }
         ensures rule { (e : Encoding) → D.rule self.old.inner ≡ latin1_rule (encoding_after e self.old.taken)
             → D.rule self.new.inner ≡ latin1_rule (encoding_after e self.new.taken) }
+        ensures room { (e : Encoding) → (D.state self.old.inner).room ≡ room_of_encoding (encoding_after e self.old.taken)
+            → (D.state self.new.inner).room ≡ room_of_encoding (encoding_after e self.new.taken) }
     {
         match self.take_mark(src, last) {
             None => (DecoderResult::InputEmpty, src.len()),

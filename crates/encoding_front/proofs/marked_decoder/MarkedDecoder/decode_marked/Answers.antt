@@ -50,3 +50,6 @@ returns-in-Some-clause-taken g c =
 
 pub returns-in-Some-clause-rule : goal.returns-in-Some-clause-rule
 returns-in-Some-clause-rule g c = λ e was. c.decode_held-outcome.ensures.rule ∙ c.in-Some.ensures.rule e was
+
+pub returns-in-Some-clause-room : goal.returns-in-Some-clause-room
+returns-in-Some-clause-room g c = λ e was. c.decode_held-outcome.ensures.limits ∙ c.in-Some.ensures.room e was

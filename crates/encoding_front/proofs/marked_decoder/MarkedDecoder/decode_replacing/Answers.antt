@@ -16,6 +16,7 @@ pieces-init g c = record {
   enough = suffices_start (sought_needs c.args.self.now.sought (g.D.PieceDecoder.state c.args.self.now.inner).needs c.args.self.now.held) g.S.Sink.is_units c.args.last (length c.args.src.now) (g.S.Sink.free c.args.sink.now);
   taken = λ r e. refl;
   rule = λ e was. was;
+  room = λ e was. was;
 }
 
 pub returns-in-InputEmpty-clause-law : goal.returns-in-InputEmpty-clause-law
@@ -104,6 +105,7 @@ pieces-preserved g c =
           call.result.0 c.in-Malformed.is size (g.met.S.Sink.cost_is 0xFFFD) c.put.ensures.free c.pieces.invariant.within call.ensures.law.within c.pieces.invariant.enough call.ensures.enough;
       taken = λ r e. c.pieces.invariant.taken r e ∙ ap (λ x. mark_taken mid.sought mid.taken (mid.held ++ (x ++ r))) (sym left) ∙ call.ensures.taken r e ∙ ap (λ x. mark_taken now.sought now.taken (now.held ++ (x ++ r))) (ap (λ x. drop call.result.1 x) left ∙ drop-drop call.result.1 c.pieces.read c.args.src.now);
       rule = λ e was. call.ensures.rule e (c.pieces.invariant.rule e was);
+      room = λ e was. call.ensures.room e (c.pieces.invariant.room e was);
     }
 
 pub returns-in-InputEmpty-clause-rule : goal.returns-in-InputEmpty-clause-rule
@@ -111,3 +113,9 @@ returns-in-InputEmpty-clause-rule g c = λ e was. c.decode_marked-outcome.ensure
 
 pub returns-in-OutputFull-clause-rule : goal.returns-in-OutputFull-clause-rule
 returns-in-OutputFull-clause-rule g c = λ e was. c.decode_marked-outcome.ensures.rule e (c.pieces.invariant.rule e was)
+
+pub returns-in-InputEmpty-clause-room : goal.returns-in-InputEmpty-clause-room
+returns-in-InputEmpty-clause-room g c = λ e was. c.decode_marked-outcome.ensures.room e (c.pieces.invariant.room e was)
+
+pub returns-in-OutputFull-clause-room : goal.returns-in-OutputFull-clause-room
+returns-in-OutputFull-clause-room g c = λ e was. c.decode_marked-outcome.ensures.room e (c.pieces.invariant.room e was)

@@ -1,5 +1,6 @@
 use Rattle.std.proofs.Common.{◌≡◌, ℕ, ◌+◌, ◌-◌, ◌≤◌, ◌++◌, IsTrue, List, [], length, drop}
 use Rattle.encoding_front.specs.DecodedText.{TakesText, SufficesText}
+use Rattle.encoding_front.specs.Encodings.{room_of_encoding}
 use Rattle.encoding_front.specs.Latin1Prefix.{latin1_rule}
 use Rattle.encoding_front.specs.Stream.{encoding_after}
 use Rattle.encoding_front.specs.declared.encoding.Encoding.{Encoding}
@@ -14,6 +15,7 @@ invariant-pieces g l = record {
   enough : SufficesText (sought_needs l.fn.self.sought (g.D.PieceDecoder.state l.fn.self.inner).needs l.fn.self.held) (sought_needs l.self.sought (g.D.PieceDecoder.state l.self.inner).needs l.self.held) g.S.Sink.is_units l.last (length l.src) (length l.src - l.read) (g.S.Sink.free l.fn.sink) (g.S.Sink.free l.sink);
   taken : (r : List ℕ) → (IsTrue l.last → r ≡ []) → mark_taken l.fn.self.sought l.fn.self.taken (l.fn.self.held ++ (l.src ++ r)) ≡ mark_taken l.self.sought l.self.taken (l.self.held ++ (drop l.read l.src ++ r));
   rule : (e : Encoding) → g.D.Switches.rule l.fn.self.inner ≡ latin1_rule (encoding_after e l.fn.self.taken) → g.D.Switches.rule l.self.inner ≡ latin1_rule (encoding_after e l.self.taken);
+  room : (e : Encoding) → (g.D.PieceDecoder.state l.fn.self.inner).room ≡ room_of_encoding (encoding_after e l.fn.self.taken) → (g.D.PieceDecoder.state l.self.inner).room ≡ room_of_encoding (encoding_after e l.self.taken);
 }
 
 abbrev pub decreases-pieces : goal.decreases-pieces

@@ -1,5 +1,6 @@
 use Rattle.std.proofs.Common.{rules, arith, ◌≡◌, ℕ, ◌-◌, ◌++◌, List, length, true, false, sym, ◌∙◌, ap, subst, [], Some}
 use Rattle.encoding_front.specs.Seeking.{len_of, is_sought, find_mark, sought_pieces, sought_needs}
+use Rattle.encoding_front.specs.StreamLaws.{room_after_is}
 use Rattle.encoding_front.specs.TakesMark.{Leaves}
 use Rattle.encoding_front.specs.declared.seeking.Sought.{Sought}
 use Rattle.encoding_front.specs.declared.seeking.Seen.TheVariants.{Front, Whole}
@@ -43,6 +44,9 @@ returns-in-Whole-clause-taken g c =
     let e : is_sought d.sought ≡ true = search rules in
     let f : find_mark d.sought window ≡ Whole c.in-Whole.mark = ap (find_mark d.sought) (sym c.as_slice.ensures) ∙ sym c.find_mark.ensures ∙ c.in-Whole.is in
     λ r h. taken_whole d.sought d.taken d.held c.args.src.now window r c.in-Whole.mark e c.front_of-window.ensures f ∙ sym (untaken c.nothing-self.result (Some c.in-Whole.mark) (c.new-self.result ++ r) (ap is_sought c.nothing-self.ensures))
+
+pub returns-in-Whole-clause-room : goal.returns-in-Whole-clause-room
+returns-in-Whole-clause-room g c = λ e was. c.after_mark.ensures.room ∙ room_after_is c.in-Whole.mark
 
 pub returns-in_default-clause-takes : goal.returns-in_default-clause-takes
 returns-in_default-clause-takes g c =
