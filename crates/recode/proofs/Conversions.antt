@@ -2,7 +2,7 @@
 use Rattle.std.proofs.Common.{◌≡◌, ℕ, ◌+◌, ◌<◌, ◌≤◌, true, List, [], ◌++◌, length, take, Option, Err, refl, sym, ◌∙◌, ap, subst, append-nil, arith}
 use Rattle.std.specs.Io.KnownBytes.{Appends, Consumes, Keeps}
 use Rattle.std.proofs.KnownBytes.{Appends-kept, Appends-trans}
-use Rattle.recode.specs.Conversion.{Breaks, IsCause, IsFlushCause, message_of}
+use Rattle.recode.specs.Conversion.{Breaks, IsCause, IsFlushCause, IsTold, message_of}
 use Rattle.recode.specs.Fault.{of_reader, of_writer, of_log}
 use Rattle.recode.specs.Step.{PassesLimit}
 use Rattle.recode.specs.Marked.{Marked, marks, outputs, lines}
@@ -36,17 +36,17 @@ run_counted T reads reads' writes writes1 writes' logs logs1 logs' Log r w l mor
 run_counted T reads reads' writes writes1 writes' logs logs1 logs' TooLong r w l more lore = tt
 
 -- a flush's fault is counted
-pub flush_cause : (reads reads' writes writes1 writes' logs logs1 logs2 logs' limit : ℕ) (a a' : Option (List ℕ)) (f : Fault) → writes ≤ writes1 → logs ≤ logs1 → IsFlushCause writes1 writes' logs1 logs2 f → logs2 ≤ logs'
+pub flush_cause : (reads reads' writes writes1 writes' logs logs1 logs' limit : ℕ) (a a' : Option (List ℕ)) (f : Fault) → writes ≤ writes1 → logs ≤ logs1 → IsFlushCause writes1 writes' logs1 logs' f
     → IsCause reads reads' writes writes' logs logs' a a' limit f
-flush_cause reads reads' writes writes1 writes' logs logs1 logs2 logs' limit a a' Read w l h more = absurd h
-flush_cause reads reads' writes writes1 writes' logs logs1 logs2 logs' limit a a' Write w l h more = omega (arith, w, h)
-flush_cause reads reads' writes writes1 writes' logs logs1 logs2 logs' limit a a' Log w l h more = omega (arith, l, h, more)
-flush_cause reads reads' writes writes1 writes' logs logs1 logs2 logs' limit a a' TooLong w l h more = absurd h
+flush_cause reads reads' writes writes1 writes' logs logs1 logs' limit a a' Read w l h = absurd h
+flush_cause reads reads' writes writes1 writes' logs logs1 logs' limit a a' Write w l h = omega (arith, w, h)
+flush_cause reads reads' writes writes1 writes' logs logs1 logs' limit a a' Log w l h = omega (arith, l, h)
+flush_cause reads reads' writes writes1 writes' logs logs1 logs' limit a a' TooLong w l h = absurd h
 
 -- by a run that failed
-pub run_broke : (a a' w w1 w2 l l1 l2 l3 : Option (List ℕ)) (reads reads' writes writes' logs logs' : ℕ) (j : Job) (f : Fault) → Fails a a' w w1 l l1 j f → Keeps w1 w2 → Keeps l1 l2
-    → (n : ℕ) × Appends l2 l3 (take n (message_of f)) → IsCounted reads reads' writes writes' logs logs' f → Breaks a a' w w2 l l3 reads reads' writes writes' logs logs' j
-run_broke a a' w w1 w2 l l1 l2 l3 reads reads' writes writes' logs logs' j f k kept kept' told counted = record {
+pub run_broke : (a a' w w1 w2 l l1 l2 l3 : Option (List ℕ)) (reads reads' writes writes' logs before logs' : ℕ) (j : Job) (f : Fault) → Fails a a' w w1 l l1 j f → Keeps w1 w2 → Keeps l1 l2
+    → (n : ℕ) × IsTold before logs' (message_of f) n × Appends l2 l3 (take n (message_of f)) → logs ≤ before → IsCounted reads reads' writes writes' logs before f → Breaks a a' w w2 l l3 reads reads' writes writes' logs logs' j
+run_broke a a' w w1 w2 l l1 l2 l3 reads reads' writes writes' logs before logs' j f k kept kept' told since counted = record {
   input = k.input;
   refused = k.refused;
   ended = k.ended;
@@ -56,17 +56,20 @@ run_broke a a' w w1 w2 l l1 l2 l3 reads reads' writes writes' logs logs' j f k k
   within = k.within;
   taken = k.taken;
   fault = f;
-  cause = run_cause a a' reads reads' writes writes' logs logs' j.limit (k.input ++ k.refused) f k.consumed k.limited counted;
+  before = before;
+  since = since;
+  cause = run_cause a a' reads reads' writes writes' logs before j.limit (k.input ++ k.refused) f k.consumed k.limited counted;
   told = told.0;
+  whole = told.1;
   output = Appends-kept w w1 w2 (outputs k.taken) k.wrote.output kept;
-  logged = Appends-trans l l2 l3 (lines k.taken) (take told.0 (message_of f)) (Appends-kept l l1 l2 (lines k.taken) k.wrote.lined kept') told.1;
+  logged = Appends-trans l l2 l3 (lines k.taken) (take told.0 (message_of f)) (Appends-kept l l1 l2 (lines k.taken) k.wrote.lined kept') told.2;
   front = k.front;
 }
 
 -- by a flush that failed
-pub flush_broke : (a a' w w1 w2 l l1 l2 l3 : Option (List ℕ)) (reads reads' writes writes' logs logs' : ℕ) (j : Job) (p : Report) (g : Fault) → Completes a a' w w1 l l1 j p → Keeps w1 w2 → Keeps l1 l2
-    → (n : ℕ) × Appends l2 l3 (take n (message_of g)) → IsCause reads reads' writes writes' logs logs' a a' j.limit g → Breaks a a' w w2 l l3 reads reads' writes writes' logs logs' j
-flush_broke a a' w w1 w2 l l1 l2 l3 reads reads' writes writes' logs logs' j p g k kept kept' told cause =
+pub flush_broke : (a a' w w1 w2 l l1 l2 l3 : Option (List ℕ)) (reads reads' writes writes' logs before logs' : ℕ) (j : Job) (p : Report) (g : Fault) → Completes a a' w w1 l l1 j p → Keeps w1 w2 → Keeps l1 l2
+    → (n : ℕ) × IsTold before logs' (message_of g) n × Appends l2 l3 (take n (message_of g)) → logs ≤ before → IsCause reads reads' writes writes' logs before a a' j.limit g → Breaks a a' w w2 l l3 reads reads' writes writes' logs logs' j
+flush_broke a a' w w1 w2 l l1 l2 l3 reads reads' writes writes' logs before logs' j p g k kept kept' told since cause =
     let all : List Marked = marks (trace j k.input) in
     record {
       input = k.input;
@@ -78,9 +81,12 @@ flush_broke a a' w w1 w2 l l1 l2 l3 reads reads' writes writes' logs logs' j p g
       within = k.within;
       taken = all;
       fault = g;
+      before = before;
+      since = since;
       cause = cause;
       told = told.0;
+      whole = told.1;
       output = Appends-kept w w1 w2 (outputs all) k.wrote.output kept;
-      logged = Appends-trans l l2 l3 (lines all) (take told.0 (message_of g)) (Appends-kept l l1 l2 (lines all) k.wrote.lined kept') told.1;
+      logged = Appends-trans l l2 l3 (lines all) (take told.0 (message_of g)) (Appends-kept l l1 l2 (lines all) k.wrote.lined kept') told.2;
       front = λ r h. ([], ap (λ t. marks (trace j t)) (ap (λ t. k.input ++ t) (h refl) ∙ append-nil k.input) ∙ sym (append-nil all));
     }

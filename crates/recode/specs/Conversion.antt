@@ -1,5 +1,5 @@
 -- What a whole conversion says by its status.
-use Rattle.std.specs.Prelude.{◌≡◌, ℕ, ◌<◌, ◌≤◌, ◌⊎◌, List, [], ◌++◌, length, take, Option, Bool, true, codes}
+use Rattle.std.specs.Prelude.{◌≡◌, ℕ, ◌+◌, ◌<◌, ◌≤◌, ◌⊎◌, List, [], ◌++◌, length, take, Option, Bool, true, codes}
 use Rattle.std.specs.Io.KnownBytes.{Appends, Consumes, IsAtEnd}
 use Rattle.encoding_front.specs.Encodings.{KeepsCharacters}
 use Rattle.recode.specs.Job.{trace, output_of, log_of, Faithful}
@@ -51,8 +51,13 @@ message_of Write = codes "recode: write fault\n"
 message_of Log = codes "recode: log fault\n"
 message_of TooLong = codes "recode: input too long\n"
 
+-- the message is whole, or a call of the log failed and its end is missing
+abbrev pub IsTold : (before after : ℕ) (message : List ℕ) (told : ℕ) → Type 0
+IsTold before after message told = ((after ≡ before) × (take told message ≡ message)) ⊎ ((after ≡ before + 1) × (told < length message))
+
 -- What a conversion leaves that failed: output and log are a front of what any continuation of the bytes read gives,
--- none where the end was read, in their one order; behind it the log has a front of the message of a fault that came.
+-- none where the end was read, in their one order; behind it the log has a front of the message of a fault that came,
+-- all of it where no call of the log failed while it was written. `before` is the log's count when it was begun.
 pub record Breaks (reader reader' writer writer' log log' : Option (List ℕ)) (reads reads' writes writes' logs logs' : ℕ) (j : Job) : Type 0 where
   pub input : List ℕ
   pub refused : List ℕ
@@ -63,8 +68,11 @@ pub record Breaks (reader reader' writer writer' log log' : Option (List ℕ)) (
   pub within : length input ≤ j.limit
   pub taken : List Marked
   pub fault : Fault
-  pub cause : IsCause reads reads' writes writes' logs logs' reader reader' j.limit fault
+  pub before : ℕ
+  pub since : logs ≤ before
+  pub cause : IsCause reads reads' writes writes' logs before reader reader' j.limit fault
   pub told : ℕ
+  pub whole : IsTold before logs' (message_of fault) told
   pub output : Appends writer writer' (outputs taken)
   pub logged : Appends log log' (lines taken ++ take told (message_of fault))
   pub front : (r : List ℕ) → (ended ≡ true → r ≡ []) → IsFront taken (marks (trace j (input ++ r)))

@@ -3,7 +3,7 @@ ghost use Rattle.std.specs.Io.KnownBytes.{Appends, Keeps};
 ghost use Rattle.recode_log.specs.Counted.{inner_of, failures_of};
 ghost use Rattle.recode.specs.Job.{IsValidJob};
 ghost use Rattle.recode.specs.Buffers.{AreEnough};
-ghost use Rattle.recode.specs.Conversion.{Breaks, Converts, IsFlushCause, message_of};
+ghost use Rattle.recode.specs.Conversion.{Breaks, Converts, IsFlushCause, IsTold, message_of};
 
 use crate::buffers::Buffers;
 use crate::fault::Fault;
@@ -64,7 +64,7 @@ fn message_of(fault: Fault) -> &'static [u8]
 // Writes the message of a fault to the log; where that fails, the rest of it is dropped.
 fn tell<L: Write>(log: &mut Counted<L>, fault: Fault)
     requires { failures_of log.old < 2 ^ 64 - 1 }
-    ensures message { (n : ℕ) × Appends (L.contents (inner_of log.old)) (L.contents (inner_of log.new)) (take n (message_of fault)) }
+    ensures message { (n : ℕ) × IsTold (failures_of log.old) (failures_of log.new) (message_of fault) n × Appends (L.contents (inner_of log.old)) (L.contents (inner_of log.new)) (take n (message_of fault)) }
     ensures count { failures_of log.old ≤ failures_of log.new }
 {
     match deliver(log, message_of(fault), fault) {
