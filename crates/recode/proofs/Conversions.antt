@@ -53,6 +53,7 @@ run_broke a a' w w1 w2 l l1 l2 l3 reads reads' writes writes' logs before logs' 
   consumed = k.consumed;
   end = k.end;
   none = k.none;
+  spared = k.spared;
   within = k.within;
   taken = k.taken;
   fault = f;
@@ -78,6 +79,7 @@ flush_broke a a' w w1 w2 l l1 l2 l3 reads reads' writes writes' logs before logs
       consumed = subst (Consumes a a') (sym (append-nil k.input)) k.consumed;
       end = λ h. k.end;
       none = λ h. refl;
+      spared = λ h. refl;
       within = k.within;
       taken = all;
       fault = g;

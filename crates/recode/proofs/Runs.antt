@@ -156,6 +156,7 @@ fails a a' w w' l l' j v f b s =
       consumed = s.consumed;
       end = s.end;
       none = s.none;
+      spared = s.spared;
       within = omega (arith, s.within, b.read);
       limited = subst (λ (n : ℕ). PassesLimit n j.limit f) (ap (λ (n : ℕ). n + length (s.chunk ++ s.refused)) b.read ∙ zero_plus (length (s.chunk ++ s.refused))) s.limited;
       taken = s.pays.taken;

@@ -20,6 +20,7 @@ pub stops_unread : (a b w l : Option (List ℕ)) (c : Counts) (limit : ℕ) (owe
 stops_unread a b w l c limit owed p within = record {
   chunk = [];
   refused = [];
+  spared = λ h. refl;
   ended = false;
   consumed = Consumes-kept a a b [] (Consumes-nil a) p;
   end = λ h. cc;
@@ -33,6 +34,7 @@ pub stops_refused : (a b w l : Option (List ℕ)) (c : Counts) (limit : ℕ) (ch
 stops_refused a b w l c limit chunk owed p within past = record {
   chunk = [];
   refused = chunk;
+  spared = λ h. absurd (h refl);
   ended = false;
   consumed = p;
   end = λ h. cc;
@@ -66,6 +68,7 @@ pub stops_under : (a b w w' l l' : Option (List ℕ)) (c : Counts) (limit : ℕ)
 stops_under a b w w' l l' c limit last chunk owed f p e writing within q = record {
   chunk = chunk;
   refused = [];
+  spared = λ h. refl;
   ended = last;
   consumed = subst (Consumes a b) (sym (append-nil chunk)) p;
   end = e;
@@ -128,6 +131,7 @@ goes_on_stop a b c w w' w'' l l' l'' x y limit o o' s s' f p q = record {
   refused = q.refused;
   ended = q.ended;
   none = q.none;
+  spared = q.spared;
   consumed = subst (Consumes a c) (sym (append_assoc p.chunk q.chunk q.refused)) (Consumes-trans a b c p.chunk (q.chunk ++ q.refused) p.consumed q.consumed);
   end = q.end;
   within = omega (arith, p.counted, length-append p.chunk q.chunk, q.within);

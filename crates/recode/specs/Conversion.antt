@@ -1,5 +1,5 @@
 -- What a whole conversion says by its status.
-use Rattle.std.specs.Prelude.{◌≡◌, ℕ, ◌+◌, ◌<◌, ◌≤◌, ◌⊎◌, List, [], ◌++◌, length, take, Option, Bool, true, codes}
+use Rattle.std.specs.Prelude.{◌≡◌, ◌≢◌, ℕ, ◌+◌, ◌<◌, ◌≤◌, ◌⊎◌, List, [], ◌++◌, length, take, Option, Bool, true, codes}
 use Rattle.std.specs.Io.KnownBytes.{Appends, Consumes, IsAtEnd}
 use Rattle.encoding_front.specs.Encodings.{KeepsCharacters}
 use Rattle.recode.specs.Job.{trace, output_of, log_of, Faithful}
@@ -68,6 +68,7 @@ pub record Breaks (reader reader' writer writer' log log' : Option (List ℕ)) (
   pub within : length input ≤ j.limit
   pub taken : List Marked
   pub fault : Fault
+  pub spared : fault ≢ TooLong → refused ≡ []
   pub before : ℕ
   pub since : logs ≤ before
   pub cause : IsCause reads reads' writes writes' logs before reader reader' j.limit fault

@@ -1,5 +1,5 @@
 -- A session as its callers know it, and what a run of it says.
-use Rattle.std.specs.Prelude.{◌≡◌, ℕ, ◌≤◌, ◌↔◌, IsTrue, List, [], ◌++◌, length, Option, Bool, true, Result, Ok, Err, ◌==◌, ◌&&◌}
+use Rattle.std.specs.Prelude.{◌≡◌, ◌≢◌, ℕ, ◌≤◌, ◌↔◌, IsTrue, List, [], ◌++◌, length, Option, Bool, true, Result, Ok, Err, ◌==◌, ◌&&◌}
 use Rattle.std.specs.Io.KnownBytes.{Appends, Consumes, IsAtEnd}
 use Rattle.encoding_mem.specs.Piece.{bad_count}
 use Rattle.encoding_mem.specs.Decoding.{DecoderState}
@@ -15,6 +15,7 @@ use Rattle.recode.specs.Owed.{owes}
 use Rattle.recode.specs.Step.{PassesLimit}
 use Rattle.recode.specs.declared.counts.Counts.{Counts}
 use Rattle.recode.specs.declared.fault.Fault.{Fault}
+use Rattle.recode.specs.declared.fault.Fault.TheVariants.{TooLong}
 use Rattle.recode.specs.declared.job.Job.{Job}
 use Rattle.recode.specs.declared.progress.Progress.{Progress}
 use Rattle.recode.specs.declared.report.Report.{Report}
@@ -89,7 +90,7 @@ pub record Completes (reader reader' writer writer' log log' : Option (List ℕ)
   pub report : IsReport j input p
 
 -- A run that a fault ended: what was written is a front of what any continuation of the bytes read gives, none where
--- the end was read, output and log in their one order. The bytes that were refused pass the limit.
+-- the end was read, output and log in their one order. Bytes are refused by `TooLong` alone, and pass the limit.
 pub record Fails (reader reader' writer writer' log log' : Option (List ℕ)) (j : Job) (f : Fault) : Type 0 where
   pub input : List ℕ
   pub refused : List ℕ
@@ -97,6 +98,7 @@ pub record Fails (reader reader' writer writer' log log' : Option (List ℕ)) (j
   pub consumed : Consumes reader reader' (input ++ refused)
   pub end : ended ≡ true → IsAtEnd reader'
   pub none : ended ≡ true → refused ≡ []
+  pub spared : f ≢ TooLong → refused ≡ []
   pub within : length input ≤ j.limit
   pub limited : PassesLimit (length (input ++ refused)) j.limit f
   pub taken : List Marked

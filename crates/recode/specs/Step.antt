@@ -1,5 +1,5 @@
 -- What one step does, for every continuation of the bytes read.
-use Rattle.std.specs.Prelude.{◌≡◌, ℕ, ◌+◌, ◌<◌, ◌≤◌, List, [], ◌++◌, length, Option, Bool, true, false}
+use Rattle.std.specs.Prelude.{◌≡◌, ◌≢◌, ℕ, ◌+◌, ◌<◌, ◌≤◌, List, [], ◌++◌, length, Option, Bool, true, false}
 use Rattle.std.specs.Io.KnownBytes.{Consumes, IsAtEnd}
 use Rattle.encoding_mem.specs.Items.{Item}
 use Rattle.encoding_front.specs.declared.encoding.Encoding.{Encoding}
@@ -37,7 +37,7 @@ PassesLimit read limit Write = read ≤ limit
 PassesLimit read limit Log = read ≤ limit
 
 -- What was written is a front of what was owed for the bytes that were read and counted, and any bytes to come, none
--- where the end was read. Those that were refused pass the limit.
+-- where the end was read. Bytes are refused by `TooLong` alone, and pass the limit.
 pub record Stops (reader reader' writer writer' log log' : Option (List ℕ)) (c : Counts) (limit : ℕ) (owed : List ℕ → List Item) (fault : Fault) : Type 0 where
   pub chunk : List ℕ
   pub refused : List ℕ
@@ -45,6 +45,7 @@ pub record Stops (reader reader' writer writer' log log' : Option (List ℕ)) (c
   pub consumed : Consumes reader reader' (chunk ++ refused)
   pub end : ended ≡ true → IsAtEnd reader'
   pub none : ended ≡ true → refused ≡ []
+  pub spared : fault ≢ TooLong → refused ≡ []
   pub within : c.read + length chunk ≤ limit
   pub limited : PassesLimit (c.read + length (chunk ++ refused)) limit fault
   pub pays : UnderpaysFor writer writer' log log' ended (λ r. owed (chunk ++ r))
