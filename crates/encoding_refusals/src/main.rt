@@ -33,9 +33,19 @@ enum Call {
     EncodeLatin1,
     Encode,
     EncodeUtf8,
+    Decode(Marks),
 }
 
-const CALLS: [(&str, Call); 11] = [
+// What a whole input is decoded by.
+#[derive(Clone, Copy)]
+enum Marks {
+    Sniffed,
+    Removed,
+    Kept,
+    KeptInGoodText,
+}
+
+const CALLS: [(&str, Call); 15] = [
     ("insert", Call::Insert),
     ("insert_ranges", Call::InsertRanges),
     ("read_index", Call::ReadIndex),
@@ -47,6 +57,13 @@ const CALLS: [(&str, Call); 11] = [
     ("encode_latin1_lossy", Call::EncodeLatin1),
     ("encode", Call::Encode),
     ("encode to UTF-8", Call::EncodeUtf8),
+    ("decode", Call::Decode(Marks::Sniffed)),
+    ("decode_with_bom_removal", Call::Decode(Marks::Removed)),
+    ("decode_without_bom_handling", Call::Decode(Marks::Kept)),
+    (
+        "decode_without_bom_handling_and_without_replacement",
+        Call::Decode(Marks::KeptInGoodText),
+    ),
 ];
 
 const KIND: IndexKind = IndexKind::Windows1252;
@@ -208,6 +225,40 @@ fn encode(alloc: Global, tables: &mut Tables) -> Answer {
     encoded(alloc, tables, WINDOWS_1252)
 }
 
+// A mark, and then `café`, in UTF-8.
+const MARKED: &[u8] = b"\xEF\xBB\xBFcaf\xC3\xA9";
+
+fn text_of(alloc: Global, tables: &Tables, marks: Marks) -> Result<Option<String>, OneShotFault> {
+    if !UTF_8.is_ready(tables) {
+        return Ok(None);
+    }
+    match marks {
+        Marks::Sniffed => {
+            let (text, _, _) = UTF_8.decode(alloc, tables, MARKED)?;
+            Ok(Some(text))
+        }
+        Marks::Removed => {
+            let (text, _) = UTF_8.decode_with_bom_removal(alloc, tables, MARKED)?;
+            Ok(Some(text))
+        }
+        Marks::Kept => {
+            let (text, _) = UTF_8.decode_without_bom_handling(alloc, tables, MARKED)?;
+            Ok(Some(text))
+        }
+        Marks::KeptInGoodText => {
+            UTF_8.decode_without_bom_handling_and_without_replacement(alloc, tables, MARKED)
+        }
+    }
+}
+
+fn decoded(alloc: Global, tables: &Tables, marks: Marks) -> Answer {
+    match text_of(alloc, tables, marks) {
+        Ok(Some(text)) => number_of(text.len()),
+        Err(OneShotFault::Memory) => Answer::Refused,
+        Ok(None) | Err(OneShotFault::Overflow) => Answer::Wrong,
+    }
+}
+
 impl Call {
     fn make(self, alloc: Global, tables: &mut Tables) -> Answer {
         match self {
@@ -222,6 +273,7 @@ impl Call {
             Call::EncodeLatin1 => latin1_bytes(alloc),
             Call::Encode => encode(alloc, tables),
             Call::EncodeUtf8 => encoded(alloc, tables, UTF_8),
+            Call::Decode(marks) => decoded(alloc, tables, marks),
         }
     }
 }
