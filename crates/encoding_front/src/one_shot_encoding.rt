@@ -5,6 +5,7 @@ ghost use Rattle.std.specs.Str.{chars};
 ghost use Rattle.encoding_mem.specs.Coding.{lost_count, output};
 ghost use Rattle.encoding_front.specs.Encoder.{kept_back, queried_with_kept, room_for};
 ghost use Rattle.encoding_front.specs.Encodings.{IsReady, coding_of, output_encoding_of};
+ghost use Rattle.encoding_front.specs.OneShot.{IsRefused};
 
 use crate::coder_result::CoderResult;
 use crate::encoder::Encoder;
@@ -29,7 +30,7 @@ impl Encoding {
         ensures bytes { IfOk result (λ r. r.0.items ≡ output (coding_of tables.now self) (chars text.now)) }
         ensures encoding { IfOk result (λ r. r.1 ≡ output_encoding_of self) }
         ensures lost { IfOk result (λ r. IsTrue r.2 ↔ (0 < lost_count (coding_of tables.now self) (chars text.now))) }
-        ensures overflow { IfErr result (λ fault. fault ≡ OneShotFault.Overflow → queried_with_kept (output_encoding_of self) false (length text.now) ≡ None) }
+        ensures fault { IfErr result (IsRefused (queried_with_kept (output_encoding_of self) false (length text.now))) }
         ensures asked { queried_with_kept (output_encoding_of self) false (length text.now) ≡ None → result ≡ Err OneShotFault.Overflow }
     {
         let mut encoder = self.new_encoder(tables);
@@ -52,7 +53,7 @@ impl Encoding {
 fn reserve_for(encoder: &Encoder<'_>, len: usize, bytes: &mut Vec<u8>) -> Result<(), OneShotFault>
     ensures items { bytes.new.items ≡ bytes.old.items }
     ensures room { IfOk result (λ _. room_for encoder.now.encoding false len + kept_back encoder.now.encoding ≤ vec_capacity bytes.new - vec_len bytes.new) }
-    ensures overflow { IfErr result (λ fault. fault ≡ OneShotFault.Overflow → queried_with_kept encoder.now.encoding false len ≡ None) }
+    ensures fault { IfErr result (IsRefused (queried_with_kept encoder.now.encoding false len)) }
     ensures asked { queried_with_kept encoder.now.encoding false len ≡ None → result ≡ Err OneShotFault.Overflow }
 {
     match encoder.max_buffer_length_from_utf8_if_no_unmappables(len) {
