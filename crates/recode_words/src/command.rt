@@ -13,10 +13,11 @@ const ABOUT: &str =
 
 const AFTER_HELP: &str =
     "Labels: LABEL is any of the Encoding Standard's, in upper or lower case, as utf-8, shift_jis or
-windows-1252.
+windows-1252. UTF-16 and replacement are written as UTF-8.
 
 Index files: most encodings need one or two files index-NAME.txt, which are not built in. The
-program's repository has them in its folder \"indexes\"; the standard's own are at
+program's repository has them in its folder \"indexes\", which its \"make install\" copies to
+PREFIX/share/recode/indexes; the standard's own are at
 https://encoding.spec.whatwg.org/index-NAME.txt.
 
 Byte order mark at the start of the input:
