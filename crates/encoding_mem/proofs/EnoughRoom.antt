@@ -1,5 +1,5 @@
 -- Room that is enough.
-use Rattle.std.proofs.Common.{◌≡◌, ℕ, ◌+◌, ◌-◌, ◌≤◌, Bool, true, false, IsTrue, subst, sym, arith}
+use Rattle.std.proofs.Common.{◌≡◌, ℕ, ◌+◌, ◌-◌, ◌≤◌, Bool, true, false, IsTrue, subst, arith}
 use Rattle.encoding_mem.specs.Room.{is_units, left_after}
 use Rattle.encoding_mem.specs.declared.room.Count.{Count}
 

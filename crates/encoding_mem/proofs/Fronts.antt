@@ -1,6 +1,10 @@
 -- What is read of a front, and prefixes by a fact of each element.
 use Rattle.std.proofs.Common.{ap, drop, length-drop, ◌-◌, ◌≡◌, ℕ, ◌+◌, ◌<◌, ◌≤◌, inl, inr, List, length, take, get_or, arith, length-take}
-use Rattle.std.proofs.lemmas.Bool.{cases_lt}
+use Rattle.std.specs.Prelude.{not, nat_le}
+use Rattle.std.specs.List.{prefix_len}
+use lib.Lanes.{chunk}
+use Rattle.std.proofs.lemmas.Bool.{cases_lt, leb-false}
+use Rattle.std.proofs.lemmas.Simd.{run_in_chunk_fails}
 use Rattle.std.proofs.lemmas.List.{get_or-take, get_or-drop, get_or_past}
 use Rattle.encoding_mem.specs.LongestPrefix.{IsLongestPrefix}
 
@@ -41,4 +45,12 @@ below_block xs at size limit fits below block k inside = elim (cases_lt k at) [
       let there : at + (k - at) ≡ k = omega arith in
       let read = block (k - at) (omega (arith, length-take ((at + size) - at) (drop at xs), length-drop at xs)) in
       omega (arith, read, get_or-take ((at + size) - at) (drop at xs) (k - at) 0 here, get_or-drop at xs (k - at) 0, ap (λ j. get_or xs j 0) there)
+]
+
+-- the lanes of a vector more, up to the first that is not below the limit
+pub below_run : (xs : List ℕ) (at size run limit : ℕ) → at + size ≤ length xs → ((k : ℕ) → k < at → get_or xs k 0 < limit)
+    → run ≡ prefix_len (λ b. not (nat_le limit b)) (chunk at size xs) → (k : ℕ) → k < at + run → get_or xs k 0 < limit
+below_run xs at size run limit fits below counted k inside = elim (cases_lt k at) [
+  | inl before ↦ below k before
+  | inr from ↦ leb-false _ _ (run_in_chunk_fails (nat_le limit) xs at size run 0 fits counted k from inside)
 ]

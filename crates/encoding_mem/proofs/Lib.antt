@@ -13,6 +13,7 @@ pub mod Utf8Texts
 pub mod AsciiRuns
 pub mod Parts
 pub mod Fronts
+pub mod LaneMasks
 pub mod LoneSurrogates
 pub mod Latin1Texts
 pub mod BidiTexts

@@ -1,5 +1,5 @@
 -- What was written for what was read, and what is next.
-use Rattle.std.proofs.Common.{◌≡◌, ℕ, ◌+◌, ◌-◌, ◌*◌, ◌≤◌, ◌<◌, Bool, true, false, List, [], ◌∷◌, length, refl, ap, lit<, arith}
+use Rattle.std.proofs.Common.{◌≡◌, ℕ, ◌+◌, ◌-◌, ◌*◌, ◌≤◌, Bool, true, false, List, ◌∷◌, length, refl, ap, lit<, arith}
 use native.Mathlib.Nat.{mul-add, mul_comm}
 use Rattle.encoding_mem.specs.Coding.{Coding, IsCoding, bytes}
 use Rattle.encoding_mem.specs.Room.{cost_in}

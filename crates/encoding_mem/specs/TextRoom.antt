@@ -1,5 +1,5 @@
 -- Room that is enough for what a text is encoded to.
-use Rattle.std.specs.Prelude.{◌≡◌, ℕ, ◌+◌, ◌*◌, ◌≤◌, Bool, if◌then◌else◌, length, refl}
+use Rattle.std.specs.Prelude.{ℕ, ◌+◌, ◌*◌, ◌≤◌, Bool, if◌then◌else◌, length}
 use Rattle.encoding_mem.specs.Coding.{Coding, bytes}
 use Rattle.encoding_mem.specs.Room.{cost_in, line}
 use Rattle.encoding_mem.specs.declared.form.Set.{Set}

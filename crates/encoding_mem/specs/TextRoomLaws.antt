@@ -1,5 +1,5 @@
 -- Room that is enough for what a text is encoded to: what a target's law on room asks for.
-use Rattle.std.proofs.Common.{◌≡◌, ℕ, ◌+◌, ◌-◌, ◌*◌, ◌≤◌, ◌<◌, Bool, true, false, cond, inl, inr, length, arith}
+use Rattle.std.proofs.Common.{◌≡◌, ℕ, ◌+◌, ◌*◌, ◌≤◌, ◌<◌, Bool, true, false, inl, inr, length, arith}
 use Rattle.std.proofs.lemmas.Bool.{cases_lt}
 use Rattle.std.proofs.lemmas.Bool.Decides.{nat_tests}
 use Rattle.std.proofs.lemmas.Str.{length-encode, len_utf8_bounds}
@@ -7,12 +7,11 @@ use Rattle.std.specs.Char.{len_utf8, encode_utf8}
 use Rattle.encoding_mem.specs.Coding.{bytes, IsShort}
 use Rattle.encoding_mem.specs.Room.{cost_in}
 use Rattle.encoding_mem.specs.Stateless.{stateless}
-use Rattle.encoding_mem.specs.TextRoom.{IsLineFor, IsRoomFor, line_for, text_room_utf8, text_room_single_byte, text_room_two_byte, text_room_gb18030}
+use Rattle.encoding_mem.specs.TextRoom.{IsRoomFor, line_for, text_room_utf8, text_room_single_byte, text_room_two_byte, text_room_gb18030}
 use Rattle.encoding_mem.specs.Utf8Coding.{utf8_coding}
 use Rattle.encoding_mem.specs.Writing.{len_utf16}
 use Rattle.encoding_mem.specs.declared.form.Form.{Form}
 use Rattle.encoding_mem.specs.declared.form.Form.TheVariants.{Mapped}
-use Rattle.encoding_mem.specs.declared.room.Line.{Line}
 use Rattle.encoding_mem.specs.declared.room.TextRoom.{TextRoom}
 
 pub sum_within : (a b c : ℕ) → a + b ≡ c → a ≤ c

@@ -3,8 +3,7 @@ ghost use Rattle.std.specs.Str.{IsAscii};
 
 use crate::first::first_byte_from;
 
-/// The run of ASCII at the front of these bytes, which may be empty: what a rule in which each ASCII
-/// byte is itself answers as `text_at`.
+/// The run of ASCII at the front of these bytes, which may be empty.
 pub fn ascii_front(bytes: &[u8]) -> &str
     ensures front { result.now ≡ take (length result.now) bytes.now }
     ensures ascii { IsAscii result.now }
@@ -12,4 +11,21 @@ pub fn ascii_front(bytes: &[u8]) -> &str
 {
     let end = first_byte_from(bytes, 0x80);
     unsafe { std::str::from_utf8_unchecked(&bytes[..end]) }
+}
+
+/// The run of ASCII at the front of these bytes if it has two bytes at least, and else nothing: what a rule
+/// in which each ASCII byte is itself answers as `text_at`. A run of one is cheaper as a character.
+#[inline(always)]
+pub fn longer_ascii_front(bytes: &[u8]) -> &str
+    ensures front { result.now ≡ take (length result.now) bytes.now }
+    ensures ascii { IsAscii result.now }
+    ensures some { 2 ≤ length bytes.now → slice_index bytes.now 0 < 0x80
+        → slice_index bytes.now 1 < 0x80 → 2 ≤ length result.now }
+    ensures longest { 0 < length result.now → length result.now < length bytes.now
+        → 0x80 ≤ slice_index bytes.now (length result.now) }
+{
+    match bytes {
+        [a, b, ..] if *a < 0x80 && *b < 0x80 => ascii_front(bytes),
+        _ => "",
+    }
 }

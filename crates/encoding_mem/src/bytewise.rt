@@ -40,6 +40,7 @@ impl<F: DecidedPiece> PieceDecoder for Bytewise<F> {
     ghost state = { λ d. immediate (F.pieces d.rule) (F.whole d.rule) (F.are_pieces d.rule)
         (F.needs d.rule) (F.limits d.rule) (F.covers d.rule) };
 
+    #[inline(always)]
     fn decode_into<S: Sink>(
         &mut self,
         src: &[u8],

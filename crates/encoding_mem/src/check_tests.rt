@@ -1,3 +1,4 @@
+use crate::ascii::longer_ascii_front;
 use crate::ascii_text::{
     ascii_valid_up_to, is_ascii, is_basic_latin, iso_2022_jp_ascii_valid_up_to,
 };
@@ -135,4 +136,25 @@ fn long_runs(rt: HostRuntime) {
     units[69] = 0xFF;
     assert!(rt; !is_basic_latin(&units) && is_utf16_latin1(&units));
     assert!(rt; is_str_latin1("éÿ") && !is_str_latin1("Ā"));
+}
+
+// Vectors have 16 bytes, so the lengths are those around none, one and two of them.
+#[test]
+fn first_high_byte_at_each_place(rt: HostRuntime) {
+    for length in 0..34 {
+        let mut bytes = [0x7F; 33];
+        assert_eq!(rt; ascii_valid_up_to(&bytes[..length]), length);
+        for place in (0..length).rev() {
+            bytes[place] = 0x80;
+            assert_eq!(rt; ascii_valid_up_to(&bytes[..length]), place);
+        }
+    }
+}
+
+#[test]
+fn runs_of_two_are_copied(rt: HostRuntime) {
+    assert_eq!(rt; longer_ascii_front(&[0x61, 0x62, 0xC3]), "ab");
+    assert_eq!(rt; longer_ascii_front(&[0x61, 0x7F]), "a\u{7F}");
+    assert_eq!(rt; longer_ascii_front(&[0x61, 0xC3, 0x61]), "");
+    assert_eq!(rt; longer_ascii_front(&[0x61]), "");
 }

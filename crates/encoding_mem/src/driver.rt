@@ -7,6 +7,9 @@ use crate::front::{Front, FrontPiece};
 use crate::pending::Pending;
 use crate::sink::Sink;
 
+// `#[inline(always)]`, here and at rules and sinks in any crate, brings what is done for each piece into one
+// loop: so what a rule answers and what a step did stay in registers. What is rare keeps its calls.
+
 // What one step did: nothing, since the piece is not decided, or since it has no room; or it took a
 // piece of so many bytes, which is good, or bad.
 enum Step {
@@ -17,6 +20,7 @@ enum Step {
 }
 
 // Takes the first piece of these bytes, if it is decided and has room. That it is decided is asked first.
+#[inline(always)]
 fn take_piece<F: FrontPiece, S: Sink>(codec: &mut F, bytes: &[u8], last: bool, sink: &mut S) -> Step
     requires { 0 < length bytes.now }
     ensures step { IsStep F.pieces S.writes S.free S.room (S.cost 0xFFFD)
@@ -60,6 +64,7 @@ fn take_piece<F: FrontPiece, S: Sink>(codec: &mut F, bytes: &[u8], last: bool, s
 
 // Takes the pieces that begin with what is pending, with as many bytes of the source as they need. No
 // outcome: nothing is pending any more.
+#[inline(always)]
 fn finish_pending<F: FrontPiece, S: Sink>(
     codec: &mut F,
     pending: &mut Pending,
@@ -106,6 +111,7 @@ fn finish_pending<F: FrontPiece, S: Sink>(
 }
 
 /// Decodes a source where nothing is pending: runs of text as a whole, and what else there is by pieces.
+#[inline(always)]
 pub fn decode_source<F: FrontPiece, S: Sink>(
     codec: &mut F,
     pending: &mut Pending,
@@ -150,6 +156,7 @@ pub fn decode_source<F: FrontPiece, S: Sink>(
 }
 
 /// Decodes until the input is read, there is no room or a piece is bad. Answers which, and the bytes read.
+#[inline(always)]
 pub fn decode<F: FrontPiece, S: Sink>(
     codec: &mut F,
     pending: &mut Pending,

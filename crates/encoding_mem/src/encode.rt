@@ -41,7 +41,10 @@ pub trait Target {
     ghost fits: { (x : Self) → IsRoomFor (coding x) (limits x) };
 }
 
+// `#[inline(always)]` at targets and sources is for the loop below, as in `driver.rt`.
+
 // Puts the bytes at a place, where there is room for them, and answers the place behind them.
+#[inline(always)]
 fn put(dst: &mut [u8], at: usize, bytes: &[u8]) -> usize
     requires { at + length bytes.now ≤ length dst.old }
     ensures end { result ≡ at + length bytes.now }
@@ -54,6 +57,7 @@ fn put(dst: &mut [u8], at: usize, bytes: &[u8]) -> usize
 }
 
 // Copies the run of ASCII that is next to a place, as much of it as fits, and answers the place behind it.
+#[inline(always)]
 fn copy_run<S: Source>(source: &mut S, dst: &mut [u8], at: usize) -> usize
     requires { at ≤ length dst.old }
     ensures same { S.all source.new ≡ S.all source.old }

@@ -28,6 +28,7 @@ impl Model for Bytes {
 }
 
 impl Bytes {
+    #[inline(always)]
     pub fn none() -> Self
         ensures { result ≡ [] }
     {
@@ -37,6 +38,7 @@ impl Bytes {
         }
     }
 
+    #[inline(always)]
     pub fn one(a: u8) -> Self
         ensures { result ≡ a ∷ [] }
     {
@@ -46,6 +48,7 @@ impl Bytes {
         }
     }
 
+    #[inline(always)]
     pub fn two(a: u8, b: u8) -> Self
         ensures { result ≡ a ∷ b ∷ [] }
     {
@@ -55,6 +58,7 @@ impl Bytes {
         }
     }
 
+    #[inline(always)]
     pub fn three(a: u8, b: u8, c: u8) -> Self
         ensures { result ≡ a ∷ b ∷ c ∷ [] }
     {
@@ -64,6 +68,7 @@ impl Bytes {
         }
     }
 
+    #[inline(always)]
     pub fn four(a: u8, b: u8, c: u8, d: u8) -> Self
         ensures { result ≡ a ∷ b ∷ c ∷ d ∷ [] }
     {
@@ -73,6 +78,7 @@ impl Bytes {
         }
     }
 
+    #[inline(always)]
     pub fn as_slice(&self) -> &[u8]
         ensures value { result.now ≡ self.now }
         ensures short { length self.now ≤ 4 }

@@ -125,6 +125,7 @@ impl<F: FrontPiece> PieceDecoder for Buffered<F> {
     ghost state = { λ d. buffered (F.pieces d.rule) (F.whole d.rule) (F.are_pieces d.rule)
         (F.needs d.rule) (F.limits d.rule) (F.covers d.rule) d.pending };
 
+    #[inline(always)]
     fn decode_into<S: Sink>(
         &mut self,
         src: &[u8],

@@ -67,6 +67,7 @@ pub trait Source {
 }
 
 // The first character of a text, and what follows it.
+#[inline(always)]
 pub(crate) fn first_char(text: &str) -> Option<(char, &str)>
     ensures chars { MatchOption result (chars text.now ≡ []) (λ p. chars text.now ≡ p.0 ∷ chars p.1.now) }
     ensures bytes { IfSome result (λ p. text.now ≡ encode_utf8 p.0 ++ p.1.now) }
@@ -80,6 +81,7 @@ pub(crate) fn first_char(text: &str) -> Option<(char, &str)>
 }
 
 // The run of ASCII at the front of a text, at most so many bytes of it, and what follows.
+#[inline(always)]
 fn ascii_run(text: &str, most: usize) -> (&str, &str)
     ensures bytes { text.now ≡ result.0.now ++ result.1.now }
     ensures chars { chars text.now ≡ result.0.now ++ chars result.1.now }
@@ -129,6 +131,7 @@ impl<'a> Source for Utf8Source<'a> {
 
     ghost place = { λ s. s.read };
 
+    #[inline(always)]
     fn peek(&self) -> Option<(char, usize)> {
         match first_char(self.rest) {
             Some((c, _)) => Some((c, c.len_utf8())),
@@ -136,6 +139,7 @@ impl<'a> Source for Utf8Source<'a> {
         }
     }
 
+    #[inline(always)]
     fn advance(&mut self) {
         if let Some((c, rest)) = first_char(self.rest) {
             self.rest = rest;
@@ -152,6 +156,7 @@ impl<'a> Source for Utf8Source<'a> {
         count
     }
 
+    #[inline(always)]
     fn read(&self) -> usize {
         self.read
     }
@@ -160,6 +165,7 @@ impl<'a> Source for Utf8Source<'a> {
 }
 
 // The character of a code.
+#[inline(always)]
 fn scalar_of(code: u32) -> char
     requires { IsScalar code }
     ensures { result ≡ code }
@@ -171,6 +177,7 @@ fn scalar_of(code: u32) -> char
 }
 
 // The first character of units, and how many units it has. A surrogate in no pair gives U+FFFD.
+#[inline(always)]
 fn first_of_units(units: &[u16]) -> Option<(char, usize)>
     ensures value { MatchOption result (utf16_lossy_chars units.now ≡ [])
         (λ p. utf16_lossy_chars units.now ≡ p.0 ∷ utf16_lossy_chars (drop p.1 units.now)) }
@@ -236,10 +243,12 @@ impl<'a> Source for Utf16Source<'a> {
 
     ghost place = { λ s. s.place };
 
+    #[inline(always)]
     fn peek(&self) -> Option<(char, usize)> {
         first_of_units(&self.units[self.place..])
     }
 
+    #[inline(always)]
     fn advance(&mut self) {
         if let Some((_, n)) = first_of_units(&self.units[self.place..]) {
             self.place += n;
@@ -252,6 +261,7 @@ impl<'a> Source for Utf16Source<'a> {
         count
     }
 
+    #[inline(always)]
     fn read(&self) -> usize {
         self.place
     }

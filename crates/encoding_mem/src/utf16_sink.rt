@@ -20,6 +20,7 @@ pub struct Utf16Sink<'a> {
 
 impl<'a> Utf16Sink<'a> {
     /// Nothing is written yet.
+    #[inline(always)]
     pub fn new(units: &'a mut [u16]) -> Utf16Sink<'a>
         ensures same_reference { result.units.ghost_name ≡ units.entry.ghost_name }
         ensures written { result.written ≡ 0 }
@@ -28,6 +29,7 @@ impl<'a> Utf16Sink<'a> {
         Utf16Sink { units, written: 0 }
     }
 
+    #[inline(always)]
     fn put_unit(&mut self, unit: u16)
         requires { self.old.written < length self.old.units.now }
         ensures same_reference { self.new.units.ghost_name ≡ self.old.units.ghost_name }
@@ -98,18 +100,22 @@ impl<'a> Sink for Utf16Sink<'a> {
 
     ghost writes = { λ s cs t. (t.units.ghost_name ≡ s.units.ghost_name) × Adds s.units.now s.written (encode_utf16_all cs) t.units.now t.written };
 
+    #[inline(always)]
     fn free_len(&self) -> usize {
         self.units.len() - self.written
     }
 
+    #[inline(always)]
     fn has_room(&self) -> bool {
         self.free_len() >= 2
     }
 
+    #[inline(always)]
     fn fits(&self, c: char) -> bool {
         self.free_len() >= c.len_utf16()
     }
 
+    #[inline(always)]
     fn put(&mut self, c: char) {
         let code = c as u32;
         if code < 0x1_0000 {
@@ -131,6 +137,7 @@ impl<'a> Sink for Utf16Sink<'a> {
         }
     }
 
+    #[inline(always)]
     fn written(&self) -> usize {
         self.written
     }

@@ -16,6 +16,7 @@ pub struct Utf8Sink<'a> {
 
 impl<'a> Utf8Sink<'a> {
     /// Nothing is written yet.
+    #[inline(always)]
     pub fn new(bytes: &'a mut [u8]) -> Utf8Sink<'a>
         ensures same_reference { result.bytes.ghost_name ≡ bytes.entry.ghost_name }
         ensures written { result.written ≡ 0 }
@@ -24,6 +25,7 @@ impl<'a> Utf8Sink<'a> {
         Utf8Sink { bytes, written: 0 }
     }
 
+    #[inline(always)]
     fn put_byte(&mut self, b: u8)
         requires { self.old.written < length self.old.bytes.now }
         ensures same_reference { self.new.bytes.ghost_name ≡ self.old.bytes.ghost_name }
@@ -33,6 +35,7 @@ impl<'a> Utf8Sink<'a> {
         self.written += 1;
     }
 
+    #[inline(always)]
     fn put_bytes(&mut self, bytes: &[u8])
         requires { length bytes.now ≤ length self.old.bytes.now - self.old.written }
         ensures same_reference { self.new.bytes.ghost_name ≡ self.old.bytes.ghost_name }
@@ -57,41 +60,52 @@ impl<'a> Sink for Utf8Sink<'a> {
 
     ghost writes = { λ s cs t. (t.bytes.ghost_name ≡ s.bytes.ghost_name) × Adds s.bytes.now s.written (encode_utf8_all cs) t.bytes.now t.written };
 
+    #[inline(always)]
     fn free_len(&self) -> usize {
         self.bytes.len() - self.written
     }
 
+    #[inline(always)]
     fn has_room(&self) -> bool {
         self.free_len() >= 4
     }
 
+    // Where any character fits, its length is not asked.
+    #[inline(always)]
     fn fits(&self, c: char) -> bool {
-        self.free_len() >= c.len_utf8()
+        let free = self.free_len();
+        free >= 4 || free >= c.len_utf8()
     }
 
+    #[inline(always)]
     fn put(&mut self, c: char) {
         let code = c as u32;
         if code < 0x80 {
             self.put_byte(code as u8);
         } else if code < 0x800 {
-            self.put_byte((0xC0 + code / 64) as u8);
-            self.put_byte((0x80 + code % 64) as u8);
+            self.put_bytes(&[(0xC0 + code / 64) as u8, (0x80 + code % 64) as u8]);
         } else if code < 0x1_0000 {
-            self.put_byte((0xE0 + code / 4096) as u8);
-            self.put_byte((0x80 + code / 64 % 64) as u8);
-            self.put_byte((0x80 + code % 64) as u8);
+            self.put_bytes(&[
+                (0xE0 + code / 4096) as u8,
+                (0x80 + code / 64 % 64) as u8,
+                (0x80 + code % 64) as u8,
+            ]);
         } else {
-            self.put_byte((0xF0 + code / 262144) as u8);
-            self.put_byte((0x80 + code / 4096 % 64) as u8);
-            self.put_byte((0x80 + code / 64 % 64) as u8);
-            self.put_byte((0x80 + code % 64) as u8);
+            self.put_bytes(&[
+                (0xF0 + code / 262144) as u8,
+                (0x80 + code / 4096 % 64) as u8,
+                (0x80 + code / 64 % 64) as u8,
+                (0x80 + code % 64) as u8,
+            ]);
         }
     }
 
+    #[inline(always)]
     fn put_text(&mut self, text: &str) {
         self.put_bytes(text.as_bytes());
     }
 
+    #[inline(always)]
     fn written(&self) -> usize {
         self.written
     }

@@ -1,8 +1,6 @@
-use Rattle.std.proofs.Common.{◌≡◌, ℕ, ◌+◌, ◌-◌, ◌<◌, inl, inr, List, [], ◌++◌, length, drop, subst, refl}
-use Rattle.encoding_mem.specs.Piece.{Piece}
-use Rattle.encoding_mem.specs.Decoding.{Takes, Reports, IsUndecided}
-use Rattle.encoding_mem.specs.Driver.{Ends, Suffices, Remains}
-use Rattle.encoding_mem.specs.declared.room.Count.{Count}
+use Rattle.std.proofs.Common.{◌≡◌, ℕ, List, [], ◌++◌, length, drop, subst}
+use Rattle.encoding_mem.specs.Decoding.{Takes, Reports}
+use Rattle.encoding_mem.specs.Driver.{Ends}
 use Rattle.encoding_mem.proofs.Endings.{ends_with, nothing_remains, suffices_now}
 use Rattle.encoding_mem.proofs.bytewise.BytewisePieceDecoder.decode_into.Goals as goal
 
