@@ -34,6 +34,7 @@ struct Big5<'a> {
 
 impl<'a> Big5<'a> {
     // What a pointer gives: four give a letter and a combining mark, whatever the index holds.
+    #[inline(always)]
     fn value(&self, pointer: u32) -> PairValue
         ensures { result ≡ big5_value self.now.flat pointer }
     {
@@ -84,6 +85,7 @@ impl<'a> TwoByte for Big5<'a> {
 
     ghost laws = { λ s. big5_is_two_byte s.flat s.scalars };
 
+    #[inline(always)]
     fn first(&self, byte: u8) -> FirstByte {
         if byte >= 0x81 && byte <= 0xFE {
             FirstByte::Lead
@@ -92,6 +94,7 @@ impl<'a> TwoByte for Big5<'a> {
         }
     }
 
+    #[inline(always)]
     fn pair(&self, lead: u8, second: u8) -> PairValue {
         let row = (lead as u32 - 0x81) * 157;
         if second >= 0x40 && second <= 0x7E {
@@ -167,6 +170,7 @@ impl<'a> Big5Decoder<'a> {
 impl<'a> PieceDecoder for Big5Decoder<'a> {
     ghost state = { λ d. ⟦<Buffered<LeadFront<Pairs<Big5<'a>>>> as PieceDecoder>⟧.state d.inner };
 
+    #[inline(always)]
     fn decode_into<S: Sink>(
         &mut self,
         src: &[u8],

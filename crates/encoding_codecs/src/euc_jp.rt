@@ -40,6 +40,7 @@ impl<'a> LeadRule for EucJpLeads<'a> {
 
     ghost laws = { λ s. euc_jp_is_lead_rule s.jis0208 s.jis0212 s.scalars s.scalars_behind_8f };
 
+    #[inline(always)]
     fn first(&self, byte: u8) -> FirstByte {
         match byte {
             0x8E | 0x8F | 0xA1..=0xFE => FirstByte::Lead,
@@ -47,6 +48,7 @@ impl<'a> LeadRule for EucJpLeads<'a> {
         }
     }
 
+    #[inline(always)]
     fn after_lead(&self, lead: u8, rest: &[u8], last: bool) -> Front {
         if lead == 0x8F {
             return after_8f(&self.jis0212, rest, last);
@@ -59,6 +61,7 @@ impl<'a> LeadRule for EucJpLeads<'a> {
 }
 
 // Whether a byte may be one of the two of a pointer.
+#[inline(always)]
 fn is_pointer_byte(byte: u8) -> bool
     ensures { result ≡ is_pointer_byte byte }
 {
@@ -66,6 +69,7 @@ fn is_pointer_byte(byte: u8) -> bool
 }
 
 // What a lead other than 8F and the byte behind it give.
+#[inline(always)]
 fn pair(jis0208: &Flat<'_>, lead: u8, second: u8) -> PairValue
     requires lead { euc_jp_first lead ≡ FirstByte.Lead }
     requires other { lead ≢ 0x8F }
@@ -81,6 +85,7 @@ fn pair(jis0208: &Flat<'_>, lead: u8, second: u8) -> PairValue
 }
 
 // What two bytes give by an index, if both are bytes of a pointer.
+#[inline(always)]
 fn pair_by_index(flat: &Flat<'_>, lead: u8, trail: u8) -> PairValue
     requires { is_pointer_byte lead ≡ true }
     ensures { result ≡ euc_pair flat.now lead trail }
@@ -150,6 +155,7 @@ impl<'a> EucJpDecoder<'a> {
 impl<'a> PieceDecoder for EucJpDecoder<'a> {
     ghost state = { λ d. ⟦<Buffered<LeadFront<EucJpLeads<'a>>> as PieceDecoder>⟧.state d.inner };
 
+    #[inline(always)]
     fn decode_into<S: Sink>(
         &mut self,
         src: &[u8],

@@ -32,6 +32,7 @@ impl<'a> TwoByte for EucKr<'a> {
 
     ghost laws = { λ s. euc_kr_is_two_byte s.flat s.scalars };
 
+    #[inline(always)]
     fn first(&self, byte: u8) -> FirstByte {
         if byte >= 0x81 && byte <= 0xFE {
             FirstByte::Lead
@@ -40,6 +41,7 @@ impl<'a> TwoByte for EucKr<'a> {
         }
     }
 
+    #[inline(always)]
     fn pair(&self, lead: u8, second: u8) -> PairValue {
         if second < 0x41 || second > 0xFE {
             return PairValue::NoChar;
@@ -111,6 +113,7 @@ impl<'a> EucKrDecoder<'a> {
 impl<'a> PieceDecoder for EucKrDecoder<'a> {
     ghost state = { λ d. ⟦<Buffered<LeadFront<Pairs<EucKr<'a>>>> as PieceDecoder>⟧.state d.inner };
 
+    #[inline(always)]
     fn decode_into<S: Sink>(
         &mut self,
         src: &[u8],

@@ -35,6 +35,7 @@ impl<'a> LeadRule for Gb18030Rule<'a> {
 
     ghost laws = { λ s. gb18030_rule s.index s.ranges s.scalars };
 
+    #[inline(always)]
     fn first(&self, byte: u8) -> FirstByte {
         if byte == 0x80 {
             FirstByte::Alone('\u{20AC}')
@@ -45,6 +46,7 @@ impl<'a> LeadRule for Gb18030Rule<'a> {
         }
     }
 
+    #[inline(always)]
     fn after_lead(&self, lead: u8, rest: &[u8], last: bool) -> Front {
         match rest {
             [] => cut_short(1, last),
@@ -62,6 +64,7 @@ impl<'a> LeadRule for Gb18030Rule<'a> {
 
 impl<'a> Gb18030Rule<'a> {
     // The character of a lead and a trail, from the index.
+    #[inline(always)]
     fn pair(&self, lead: u8, trail: u8) -> PairValue
         requires { IsInRange 0x81 0xFE lead }
         ensures { result ≡ gb18030_pair self.now.index lead trail }
@@ -113,6 +116,7 @@ impl<'a> Gb18030Rule<'a> {
 }
 
 // The first byte of a form of two or four bytes, and the third of one of four.
+#[inline(always)]
 fn is_lead(byte: u8) -> bool
     ensures { result ≡ is_in_range 0x81 0xFE byte }
 {
@@ -120,6 +124,7 @@ fn is_lead(byte: u8) -> bool
 }
 
 // The second and the fourth byte of a form of four.
+#[inline(always)]
 fn is_digit(byte: u8) -> bool
     ensures { result ≡ is_in_range 0x30 0x39 byte }
 {
@@ -127,6 +132,7 @@ fn is_digit(byte: u8) -> bool
 }
 
 // The second byte of a form of two.
+#[inline(always)]
 fn is_trail(byte: u8) -> bool
     ensures { result ≡ (is_in_range 0x40 0x7E byte || is_in_range 0x80 0xFE byte) }
 {
@@ -134,6 +140,7 @@ fn is_trail(byte: u8) -> bool
 }
 
 // The pointer of a lead and a trail: a lead has 190, and the trails leave out 7F.
+#[inline(always)]
 fn pair_pointer(lead: u8, trail: u8) -> u32
     requires lead { IsInRange 0x81 0xFE lead }
     requires trail { IsInRange 0x40 0xFE trail }
@@ -203,6 +210,7 @@ impl<'a> Gb18030Decoder<'a> {
 impl<'a> PieceDecoder for Gb18030Decoder<'a> {
     ghost state = { λ d. ⟦<Buffered<LeadFront<Gb18030Rule<'a>>> as PieceDecoder>⟧.state d.inner };
 
+    #[inline(always)]
     fn decode_into<S: Sink>(
         &mut self,
         src: &[u8],

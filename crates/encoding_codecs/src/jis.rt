@@ -4,6 +4,7 @@ ghost use Rattle.std.specs.Prelude.{◌≡◌, true};
 ghost use Rattle.encoding_codecs.specs.JisForms.{is_katakana_byte, katakana_of_byte, is_katakana, byte_of_katakana, folded};
 
 // Whether a byte is one of halfwidth katakana.
+#[inline(always)]
 pub(crate) fn is_katakana_byte(byte: u8) -> bool
     ensures { result ≡ is_katakana_byte byte }
 {
@@ -11,6 +12,7 @@ pub(crate) fn is_katakana_byte(byte: u8) -> bool
 }
 
 // The halfwidth katakana of a byte.
+#[inline(always)]
 pub(crate) fn katakana_of_byte(byte: u8) -> char
     requires { is_katakana_byte byte ≡ true }
     ensures { result ≡ katakana_of_byte byte }

@@ -13,7 +13,7 @@ ghost use Rattle.encoding_codecs.specs.TwoByteDecide.{decide_by_lead};
 ghost use Rattle.encoding_codecs.specs.TwoByteLaws.{IsLeadRule, cuts_rule};
 ghost use Rattle.encoding_codecs.specs.declared.lead_rule.FirstByte.{FirstByte};
 
-use encoding_mem::ascii::ascii_front;
+use encoding_mem::ascii::longer_ascii_front;
 use encoding_mem::front::{Front, FrontPiece};
 use encoding_mem::room::Room;
 
@@ -86,16 +86,19 @@ impl<T: LeadRule> FrontPiece for LeadFront<T> {
 
     ghost steady = { λ _ _. refl };
 
+    #[inline(always)]
     fn front(&self, bytes: &[u8], last: bool) -> Front {
         decide(&self.encoding, bytes, last)
     }
 
+    #[inline(always)]
     fn pass(&mut self, bytes: &[u8]) {
         let _ = bytes;
     }
 
+    #[inline(always)]
     fn text_at<'b>(&self, bytes: &'b [u8]) -> &'b str {
-        ascii_front(bytes)
+        longer_ascii_front(bytes)
     }
 
     fn room(&self) -> Room {
@@ -103,6 +106,7 @@ impl<T: LeadRule> FrontPiece for LeadFront<T> {
     }
 }
 
+#[inline(always)]
 fn decide<T: LeadRule>(encoding: &T, bytes: &[u8], last: bool) -> Front
     ensures { result ≡ decide_by_lead (T.first_byte encoding.now) (T.decided encoding.now) bytes.now last }
 {

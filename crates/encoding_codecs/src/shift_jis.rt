@@ -41,6 +41,7 @@ impl<'a> TwoByte for ShiftJis<'a> {
 
     ghost laws = { λ s. shift_jis_is_two_byte s.jis0208 s.scalars };
 
+    #[inline(always)]
     fn first(&self, byte: u8) -> FirstByte {
         match byte {
             0x80 => FirstByte::Alone('\u{80}'),
@@ -50,6 +51,7 @@ impl<'a> TwoByte for ShiftJis<'a> {
         }
     }
 
+    #[inline(always)]
     fn pair(&self, lead: u8, second: u8) -> PairValue {
         if is_trail(second) {
             value_of_pointer(&self.jis0208, pointer_of_pair(lead, second))
@@ -72,6 +74,7 @@ impl<'a> Forms for ShiftJis<'a> {
 }
 
 // Whether a byte may follow a lead.
+#[inline(always)]
 fn is_trail(byte: u8) -> bool
     ensures { result ≡ is_trail byte }
 {
@@ -79,6 +82,7 @@ fn is_trail(byte: u8) -> bool
 }
 
 // The pointer of a lead and a trail.
+#[inline(always)]
 fn pointer_of_pair(lead: u8, trail: u8) -> u32
     requires lead { is_lead lead ≡ true }
     requires trail { is_trail trail ≡ true }
@@ -90,6 +94,7 @@ fn pointer_of_pair(lead: u8, trail: u8) -> u32
 }
 
 // What a pointer gives: those from 8836 to 10715 are for private use.
+#[inline(always)]
 fn value_of_pointer(jis0208: &Flat<'_>, pointer: u32) -> PairValue
     ensures { result ≡ value_of_pointer jis0208.now pointer }
 {
@@ -101,6 +106,7 @@ fn value_of_pointer(jis0208: &Flat<'_>, pointer: u32) -> PairValue
 }
 
 // The characters for private use from U+E000 on.
+#[inline(always)]
 fn private_use(place: u32) -> char
     requires { place < 6400 }
     ensures { result ≡ 0xE000 + place }
@@ -195,6 +201,7 @@ impl<'a> ShiftJisDecoder<'a> {
 impl<'a> PieceDecoder for ShiftJisDecoder<'a> {
     ghost state = { λ d. ⟦<Buffered<LeadFront<Pairs<ShiftJis<'a>>>> as PieceDecoder>⟧.state d.inner };
 
+    #[inline(always)]
     fn decode_into<S: Sink>(
         &mut self,
         src: &[u8],

@@ -58,10 +58,12 @@ impl<T: TwoByte> LeadRule for Pairs<T> {
 
     ghost laws = { λ s. two_byte_rule (T.rule s.encoding) (T.laws s.encoding) };
 
+    #[inline(always)]
     fn first(&self, byte: u8) -> FirstByte {
         self.encoding.first(byte)
     }
 
+    #[inline(always)]
     fn after_lead(&self, lead: u8, rest: &[u8], last: bool) -> Front {
         match rest {
             [] => cut_short(1, last),
@@ -71,6 +73,7 @@ impl<T: TwoByte> LeadRule for Pairs<T> {
 }
 
 /// What `before` bytes give that want a trail, where there are no more bytes.
+#[inline(always)]
 pub(crate) fn cut_short(before: usize, last: bool) -> Front
     ensures { result ≡ cut_short before last }
 {
@@ -83,6 +86,7 @@ pub(crate) fn cut_short(before: usize, last: bool) -> Front
 
 /// What `before` bytes that want a trail give with this byte. Where together they have no value, it is
 /// left unread if it is ASCII, and is bad with them otherwise.
+#[inline(always)]
 pub(crate) fn decide_trail(before: usize, value: PairValue, trail: u8) -> Front
     requires { before ≤ 3 }
     ensures { result ≡ decide_trail before value trail }
@@ -96,6 +100,7 @@ pub(crate) fn decide_trail(before: usize, value: PairValue, trail: u8) -> Front
 }
 
 /// What a lead and a trail give, by the entry at their pointer.
+#[inline(always)]
 pub(crate) fn value_of_entry(entry: Option<char>) -> PairValue
     ensures { result ≡ value_of_entry entry }
 {

@@ -16,7 +16,7 @@ ghost use Rattle.encoding_tables.specs.SingleByteLaws.{AreBasic, cuts_single_byt
 use crate::flat::Flat;
 use crate::index_kind::IndexKind;
 use crate::tables::Tables;
-use encoding_mem::ascii::ascii_front;
+use encoding_mem::ascii::longer_ascii_front;
 use encoding_mem::bytewise::{Bytewise, DecidedPiece};
 use encoding_mem::front::{Front, FrontPiece};
 use encoding_mem::piece_decoder::PieceDecoder;
@@ -34,6 +34,7 @@ struct SingleByteRule<'a> {
 
 impl<'a> SingleByteRule<'a> {
     // The character of a byte.
+    #[inline(always)]
     fn char_of(&self, byte: u8) -> Option<char>
         ensures { result ≡ char_of_byte self.now.flat byte }
     {
@@ -91,17 +92,20 @@ impl<'a> FrontPiece for SingleByteRule<'a> {
 
     ghost steady = { λ _ _. refl };
 
+    #[inline(always)]
     fn front(&self, bytes: &[u8], last: bool) -> Front {
         let _ = last;
         front_of(self.char_of(bytes[0]))
     }
 
+    #[inline(always)]
     fn pass(&mut self, bytes: &[u8]) {
         let _ = bytes;
     }
 
+    #[inline(always)]
     fn text_at<'b>(&self, bytes: &'b [u8]) -> &'b str {
-        ascii_front(bytes)
+        longer_ascii_front(bytes)
     }
 
     fn room(&self) -> Room {
@@ -114,6 +118,7 @@ impl<'a> DecidedPiece for SingleByteRule<'a> {
 }
 
 // The piece of a byte, by its character: a byte that has none is bad.
+#[inline(always)]
 fn front_of(c: Option<char>) -> Front
     ensures { result ≡ front_of_byte c }
 {
@@ -158,6 +163,7 @@ impl<'a> SingleByteDecoder<'a> {
 impl<'a> PieceDecoder for SingleByteDecoder<'a> {
     ghost state = { λ d. ⟦<Bytewise<SingleByteRule<'a>> as PieceDecoder>⟧.state d.inner };
 
+    #[inline(always)]
     fn decode_into<S: Sink>(
         &mut self,
         src: &[u8],

@@ -35,20 +35,24 @@ impl<'a> Target for SingleByte<'a> {
 
     ghost fits = { λ s. single_byte_fits s.flat };
 
+    #[inline(always)]
     fn step(&self, _set: Set, c: char) -> (Set, Form) {
         (Set::Ascii, form_of(c, byte_of(&self.flat, c)))
     }
 
+    #[inline(always)]
     fn copies_ascii(&self, set: Set) -> bool {
         matches!(set, Set::Ascii)
     }
 
+    #[inline(always)]
     fn escape(&self, _from: Set, _to: Set) -> Bytes {
         Bytes::none()
     }
 }
 
 // The byte of a character. ASCII is not looked up.
+#[inline(always)]
 fn byte_of(flat: &Flat<'_>, c: char) -> Option<u8>
     ensures { result ≡ byte_of_char flat.now c }
 {
@@ -62,6 +66,7 @@ fn byte_of(flat: &Flat<'_>, c: char) -> Option<u8>
 }
 
 // The form of a character, by its byte. One without a byte is reported as it is.
+#[inline(always)]
 pub(crate) fn form_of(c: char, byte: Option<u8>) -> Form
     ensures { result ≡ form_of_byte c byte }
 {

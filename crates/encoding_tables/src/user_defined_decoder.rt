@@ -8,7 +8,7 @@ ghost use Rattle.encoding_mem.specs.Shows.{decided_by};
 ghost use Rattle.encoding_tables.specs.UserDefined.{user_char_of_byte, front_user_defined, pieces_user_defined};
 ghost use Rattle.encoding_tables.specs.UserDefinedLaws.{cuts_user_defined};
 
-use encoding_mem::ascii::ascii_front;
+use encoding_mem::ascii::longer_ascii_front;
 use encoding_mem::bytewise::{Bytewise, DecidedPiece};
 use encoding_mem::front::{Front, FrontPiece};
 use encoding_mem::piece_decoder::PieceDecoder;
@@ -49,7 +49,7 @@ impl FrontPiece for UserDefinedRule {
     }
 
     fn text_at<'b>(&self, bytes: &'b [u8]) -> &'b str {
-        ascii_front(bytes)
+        longer_ascii_front(bytes)
     }
 
     fn room(&self) -> Room {

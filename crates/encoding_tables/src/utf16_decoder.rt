@@ -43,14 +43,17 @@ impl FrontPiece for Utf16Rule {
 
     ghost steady = { λ _ _. refl };
 
+    #[inline(always)]
     fn front(&self, bytes: &[u8], last: bool) -> Front {
         decide(self.big_endian, bytes, last)
     }
 
+    #[inline(always)]
     fn pass(&mut self, bytes: &[u8]) {
         let _ = bytes;
     }
 
+    #[inline(always)]
     fn text_at<'b>(&self, bytes: &'b [u8]) -> &'b str {
         let _ = bytes;
         ""
@@ -61,6 +64,7 @@ impl FrontPiece for Utf16Rule {
     }
 }
 
+#[inline(always)]
 fn decide(big_endian: bool, bytes: &[u8], last: bool) -> Front
     ensures { result ≡ decide_utf16 big_endian bytes.now last }
 {
@@ -72,6 +76,7 @@ fn decide(big_endian: bool, bytes: &[u8], last: bool) -> Front
 }
 
 // By a unit, and the bytes behind it.
+#[inline(always)]
 fn decide_unit(big_endian: bool, unit: u16, rest: &[u8], last: bool) -> Front
     ensures { result ≡ decide_unit big_endian unit rest.now last }
 {
@@ -85,6 +90,7 @@ fn decide_unit(big_endian: bool, unit: u16, rest: &[u8], last: bool) -> Front
 }
 
 // By a high surrogate, and the bytes behind it.
+#[inline(always)]
 fn decide_pair(big_endian: bool, high: u16, rest: &[u8], last: bool) -> Front
     requires { IsTrue (is_high_surrogate high) }
     ensures { result ≡ decide_pair big_endian high rest.now last }
@@ -104,6 +110,7 @@ fn decide_pair(big_endian: bool, high: u16, rest: &[u8], last: bool) -> Front
 }
 
 // The bytes that are here may be the front of a longer piece.
+#[inline(always)]
 fn cut_short(size: usize, last: bool) -> Front
     ensures { result ≡ cut_short size last }
 {
@@ -111,6 +118,7 @@ fn cut_short(size: usize, last: bool) -> Front
 }
 
 // The unit that two bytes are.
+#[inline(always)]
 fn unit_of(big_endian: bool, a: u8, b: u8) -> u16
     ensures { result ≡ unit_of big_endian a b }
 {
@@ -121,18 +129,21 @@ fn unit_of(big_endian: bool, a: u8, b: u8) -> u16
     }
 }
 
+#[inline(always)]
 fn is_high_surrogate(unit: u16) -> bool
     ensures { result ≡ is_high_surrogate unit }
 {
     unit >= 0xD800 && unit < 0xDC00
 }
 
+#[inline(always)]
 fn is_low_surrogate(unit: u16) -> bool
     ensures { result ≡ is_low_surrogate unit }
 {
     unit >= 0xDC00 && unit < 0xE000
 }
 
+#[inline(always)]
 fn char_of_pair(high: u16, low: u16) -> char
     requires high { IsTrue (is_high_surrogate high) }
     requires low { IsTrue (is_low_surrogate low) }
@@ -141,6 +152,7 @@ fn char_of_pair(high: u16, low: u16) -> char
     char_of(0x10000 + (high as u32 - 0xD800) * 0x400 + (low as u32 - 0xDC00))
 }
 
+#[inline(always)]
 fn char_of(code: u32) -> char
     requires { IsScalar code }
     ensures { result ≡ code }
@@ -179,6 +191,7 @@ impl Utf16Decoder {
 impl PieceDecoder for Utf16Decoder {
     ghost state = { λ d. ⟦<Buffered<Utf16Rule> as PieceDecoder>⟧.state d.inner };
 
+    #[inline(always)]
     fn decode_into<S: Sink>(
         &mut self,
         src: &[u8],

@@ -10,7 +10,7 @@ returns-clause-pieces g c r =
     let first = g.T.LeadRule.first_byte s in
     let after = g.T.LeadRule.after s in
     pieces_by-ascii (front_by_lead first after) (cuts_rule first after (g.T.LeadRule.decided s) (g.T.LeadRule.laws s)) (lead_ascii first after)
-    c.ascii_front.result.now r c.ascii_front.ensures.ascii
+    c.longer_ascii_front.result.now r c.longer_ascii_front.ensures.ascii
 
 pub returns-clause-room : goal.returns-clause-room
-returns-clause-room g c k m = text_needs_multibyte c.ascii_front.result.now c.ascii_front.utf8 k m
+returns-clause-room g c k m = text_needs_multibyte c.longer_ascii_front.result.now c.longer_ascii_front.utf8 k m

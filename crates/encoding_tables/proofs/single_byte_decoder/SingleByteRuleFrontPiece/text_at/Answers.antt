@@ -7,7 +7,7 @@ use Rattle.encoding_tables.proofs.single_byte_decoder.SingleByteRuleFrontPiece.t
 pub returns-clause-pieces : goal.returns-clause-pieces
 returns-clause-pieces c r =
     let rule = c.args.self.now in
-    pieces_by-ascii (front_single_byte rule.flat) (cuts_single_byte rule.flat rule.scalars) (ascii_is_itself rule.flat) c.ascii_front.result.now r c.ascii_front.ensures.ascii
+    pieces_by-ascii (front_single_byte rule.flat) (cuts_single_byte rule.flat rule.scalars) (ascii_is_itself rule.flat) c.longer_ascii_front.result.now r c.longer_ascii_front.ensures.ascii
 
 pub returns-clause-room : goal.returns-clause-room
-returns-clause-room c k m = text_needs_single_byte c.ascii_front.result.now c.ascii_front.utf8 k m
+returns-clause-room c k m = text_needs_single_byte c.longer_ascii_front.result.now c.longer_ascii_front.utf8 k m

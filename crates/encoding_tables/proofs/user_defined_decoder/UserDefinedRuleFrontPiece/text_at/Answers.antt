@@ -5,7 +5,7 @@ use Rattle.encoding_tables.specs.UserDefinedLaws.{cuts_user_defined, ascii_user_
 use Rattle.encoding_tables.proofs.user_defined_decoder.UserDefinedRuleFrontPiece.text_at.Goals as goal
 
 pub returns-clause-pieces : goal.returns-clause-pieces
-returns-clause-pieces c r = pieces_by-ascii front_user_defined cuts_user_defined ascii_user_defined c.ascii_front.result.now r c.ascii_front.ensures.ascii
+returns-clause-pieces c r = pieces_by-ascii front_user_defined cuts_user_defined ascii_user_defined c.longer_ascii_front.result.now r c.longer_ascii_front.ensures.ascii
 
 pub returns-clause-room : goal.returns-clause-room
-returns-clause-room c k m = text_needs_single_byte c.ascii_front.result.now c.ascii_front.utf8 k m
+returns-clause-room c k m = text_needs_single_byte c.longer_ascii_front.result.now c.longer_ascii_front.utf8 k m
