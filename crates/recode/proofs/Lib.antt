@@ -12,6 +12,7 @@ pub mod OutputLaws
 pub mod TwoRuns
 pub mod Conversions
 pub mod CharacterCounts
+mod CharacterLanes
 pub mod PivotTexts
 pub mod Latencies
 pub mod Loading

@@ -2,6 +2,8 @@ ghost use Rattle.std.specs.Prelude.{◌≡◌, length, count_by};
 ghost use Rattle.std.specs.Str.{chars};
 ghost use Rattle.recode.specs.Character.{begins_character};
 
+use std::simd::prelude::*;
+
 /// How many characters a text has.
 pub fn count_characters(text: &str) -> usize
     ensures { result ≡ length (chars text.now) }
@@ -9,9 +11,59 @@ pub fn count_characters(text: &str) -> usize
     count_beginnings(text.as_bytes())
 }
 
-// How many bytes begin a character.
-fn count_beginnings(bytes: &[u8]) -> usize
+// How many bytes are looked at together.
+const LANES: usize = 64;
+
+// How many bytes of a vector begin a character.
+#[inline(always)]
+fn beginnings_in(block: u8x64) -> usize
+    ensures { result ≡ count_by begins_character block }
+{
+    let alone = block.simd_lt(u8x64::splat(0x80)).to_bitmask().count_ones();
+    let leads = block.simd_ge(u8x64::splat(0xC0)).to_bitmask().count_ones();
+    alone as usize + leads as usize
+}
+
+// How many bytes begin a character, one by one.
+fn count_singly(bytes: &[u8]) -> usize
     ensures { result ≡ count_by begins_character bytes.now }
 {
     bytes.iter().filter(|b| **b < 0x80 || **b >= 0xC0).count()
+}
+
+// How many bytes begin a character, by vectors and then one by one.
+fn count_beginnings(bytes: &[u8]) -> usize
+    ensures { result ≡ count_by begins_character bytes.now }
+{
+    let mut at = 0;
+    let mut count = 0;
+    'vectors: while bytes.len() - at >= LANES {
+        count += beginnings_in(u8x64::from_slice(&bytes[at..]));
+        at += LANES;
+    }
+    count + count_singly(&bytes[at..])
+}
+
+#[cfg(test)]
+mod tests {
+    use super::*;
+
+    #[test]
+    fn characters_of_each_length(rt: HostRuntime) {
+        assert_eq!(rt; count_characters(""), 0);
+        assert_eq!(rt; count_characters("aé€😀"), 4);
+    }
+
+    // Vectors have 64 bytes, so the lengths are those up to and behind none, one and two of them.
+    #[test]
+    fn beginnings_at_each_place(rt: HostRuntime) {
+        for length in 0..130 {
+            let mut bytes = [0xBF; 129];
+            assert_eq!(rt; count_beginnings(&bytes[..length]), 0);
+            for place in 0..length {
+                bytes[place] = if place % 2 == 0 { 0x7F } else { 0xC0 };
+                assert_eq!(rt; count_beginnings(&bytes[..length]), place + 1);
+            }
+        }
+    }
 }
