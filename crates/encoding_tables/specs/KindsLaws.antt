@@ -1,6 +1,6 @@
 -- Lists by the kinds' numbers.
-use Rattle.std.proofs.Common.{◌≡◌, ◌≢◌, ℕ, ◌<◌, List, [], ◌∷◌, length, sym, ◌∙◌, ap, refl, map, Option, None, Some, get_or, Bool, true, false, inl, inr}
-use Rattle.std.proofs.lemmas.List.{map-set, get_or-set_same, get_or-set_other, length-map}
+use Rattle.std.proofs.Common.{◌≡◌, ◌≢◌, ℕ, ◌<◌, List, [], ◌∷◌, length, sym, ◌∙◌, ap, refl, Option, None, Some, get_or, Bool, true, false, inl, inr}
+use Rattle.std.proofs.lemmas.List.{get_or-set_same, get_or-set_other}
 use Rattle.std.proofs.Math.ListN.{set}
 use Rattle.encoding_tables.specs.Kinds.{number}
 use Rattle.std.proofs.lemmas.Bool.{cases_eq}
@@ -54,25 +54,20 @@ again Iso2022JpKatakana = refl
 pub number-apart : (a b : IndexKind) → a ≢ b → number a ≢ number b
 number-apart a b h e = h (sym (again a) ∙ ap (λ n. get_or kind_at n Ibm866) e ∙ again b)
 
-pub index-put : {X : Type 0} (f : X → Option (List ℕ)) (slots : List X) (n : ℕ) (x : X) (kind : IndexKind) → n ≡ number kind → n < length slots
-    → flat_at (map f (set slots n x)) kind ≡ f x
-index-put f slots n x kind is within =
-    let within_map : n < length (map f slots) = rw length-map within in
-    rw (← is, map-set f slots n x) (get_or-set_same (map f slots) n (f x) None within_map)
+pub index-put : (slots : List (Option (List ℕ))) (n : ℕ) (x : Option (List ℕ)) (kind : IndexKind) → n ≡ number kind → n < length slots → flat_at (set slots n x) kind ≡ x
+index-put slots n x kind is within = rw (← is) (get_or-set_same slots n x None within)
 
-pub index-others : {X : Type 0} (f : X → Option (List ℕ)) (slots : List X) (n : ℕ) (x : X) (kind k : IndexKind) → n ≡ number kind → k ≢ kind
-    → flat_at (map f (set slots n x)) k ≡ flat_at (map f slots) k
-index-others f slots n x kind k is apart =
-    rw (map-set f slots n x, is) (get_or-set_other (map f slots) (number kind) (number k) (f x) None (number-apart k kind apart))
+pub index-others : (slots : List (Option (List ℕ))) (n : ℕ) (x : Option (List ℕ)) (kind k : IndexKind) → n ≡ number kind → k ≢ kind → flat_at (set slots n x) k ≡ flat_at slots k
+index-others slots n x kind k is apart = rw is (get_or-set_other slots (number kind) (number k) x None (number-apart k kind apart))
 
 pub number-same : (a b : IndexKind) → number a ≡ number b → a ≡ b
 number-same a b e = sym (again a) ∙ ap (λ n. get_or kind_at n Ibm866) e ∙ again b
 
-pub accepted-put : {X : Type 0} (f : X → Option (List ℕ)) (slots : List X) (n : ℕ) (x : X) (kind : IndexKind) (flat : List ℕ) → n ≡ number kind → n < length slots
-    → f x ≡ Some flat → flat_fault false kind flat ≡ None → AreAccepted (map f slots) → AreAccepted (map f (set slots n x))
-accepted-put f slots n x kind flat is within gives good before k = elim (cases_eq (number k) (number kind)) [
-  | inl same ↦ rw (index-put f slots n x k (is ∙ sym same) within, gives) (rw (number-same k kind same) good)
-  | inr apart ↦ rw (index-others f slots n x kind k is (λ e. apart (ap number e))) (before k)
+pub accepted-put : (slots : List (Option (List ℕ))) (n : ℕ) (kind : IndexKind) (flat : List ℕ) → n ≡ number kind → n < length slots
+    → flat_fault false kind flat ≡ None → AreAccepted slots → AreAccepted (set slots n (Some flat))
+accepted-put slots n kind flat is within good before k = elim (cases_eq (number k) (number kind)) [
+  | inl same ↦ rw (index-put slots n (Some flat) k (is ∙ sym same) within) (rw (number-same k kind same) good)
+  | inr apart ↦ rw (index-others slots n (Some flat) kind k is (λ e. apart (ap number e))) (before k)
 ]
 
 pub no_fault : (there : Bool) (kind : IndexKind) (flat : List ℕ) → flat_fault there kind flat ≡ None → flat_fault false kind flat ≡ None

@@ -10,6 +10,8 @@ pub mod IndexLists
 pub mod RangeLaws
 pub mod NamedRows
 pub mod RangeRows
+pub mod SortedRows
+pub mod RangeRuns
 pub mod OptionCases
 pub mod KindsLaws
 pub mod TableFaultsLaws
@@ -28,3 +30,5 @@ pub mod SingleByte
 pub mod SingleByteLaws
 pub mod SingleByteReadBack
 pub mod SingleByteTables
+pub mod PackedRows
+pub mod PackedLists

@@ -45,7 +45,7 @@ some_pointers r from to least above more e = cond_some _ _ _ (rw (lt-ltb from to
 pub no_pointers : (r : ℕ × ℕ) (from to least above : ℕ) → to ≤ from → above_values r from to least ≡ Some above → least ≡ above
 no_pointers r from to least above none e = let same = rw (le-ltb from to none) at e in cc
 
-values_between : (r : ℕ × ℕ) (from to least above : ℕ) → r.0 ≤ from → above_values r from to least ≡ Some above
+pub values_between : (r : ℕ × ℕ) (from to least above : ℕ) → r.0 ≤ from → above_values r from to least ≡ Some above
     → (q : ℕ) → from ≤ q → q < to → IsBetween least above (value_in q r)
 values_between r from to least above start e q low high =
     let both = some_pointers r from to least above (omega arith) e in
@@ -58,7 +58,7 @@ values_between r from to least above start e q low high =
       scalar = elim parts.1 [ inl under ↦ inl (omega arith) | inr over ↦ inr (omega arith, omega arith) ];
     }
 
-values_more : (r : ℕ × ℕ) (from to least above : ℕ) → above_values r from to least ≡ Some above → least ≤ above
+pub values_more : (r : ℕ × ℕ) (from to least above : ℕ) → above_values r from to least ≡ Some above → least ≤ above
 values_more r from to least above e = elim (cases_lt from to) [
   | inr none ↦ omega (arith, no_pointers r from to least above none e)
   | inl more ↦
@@ -90,14 +90,14 @@ row_between r end least above e q valid start under =
 -- ---- rows
 
 -- what the two passes say of the first row, and of the rows after it
-record IsTaken (row from least : ℕ) (r : ℕ × ℕ) (rows : List (ℕ × ℕ)) (above : ℕ) : Type 0 where
-  start : from ≤ r.0
-  last : r.0 ≤ 1237575
-  values : above_row r (end_by rows) least ≡ Some above
-  order : first_out_of_order (row + 1) (r.0 + 1) rows ≡ None
-  rest : first_bad_value (row + 1) above rows ≡ None
+pub record IsTaken (row from least : ℕ) (r : ℕ × ℕ) (rows : List (ℕ × ℕ)) (above : ℕ) : Type 0 where
+  pub start : from ≤ r.0
+  pub last : r.0 ≤ 1237575
+  pub values : above_row r (end_by rows) least ≡ Some above
+  pub order : first_out_of_order (row + 1) (r.0 + 1) rows ≡ None
+  pub rest : first_bad_value (row + 1) above rows ≡ None
 
-taken : (row from least : ℕ) (r : ℕ × ℕ) (rows : List (ℕ × ℕ)) → first_out_of_order row from (r ∷ rows) ≡ None → first_bad_value row least (r ∷ rows) ≡ None
+pub taken : (row from least : ℕ) (r : ℕ × ℕ) (rows : List (ℕ × ℕ)) → first_out_of_order row from (r ∷ rows) ≡ None → first_bad_value row least (r ∷ rows) ≡ None
     → (above : ℕ) × IsTaken row from least r rows above
 taken row from least r rows order values =
     let a = if_none _ _ _ order in
@@ -106,7 +106,7 @@ taken row from least r rows order values =
     (b.0, record { start = ltb-false r.0 from tests.0; last = ltb-false 1237575 r.0 tests.1; values = b.1; order = a.1; rest = b.2 })
 
 -- the last row of a list with a row in front
-row_in_front : (q : ℕ) (r : ℕ × ℕ) (rows : List (ℕ × ℕ)) (s : ℕ × ℕ) → last_row q (r ∷ rows) ≡ Some s
+pub row_in_front : (q : ℕ) (r : ℕ × ℕ) (rows : List (ℕ × ℕ)) (s : ℕ × ℕ) → last_row q (r ∷ rows) ≡ Some s
     → (last_row q rows ≡ Some s) ⊎ ((last_row q rows ≡ None) × (r.0 ≤ q) × (r ≡ s))
 row_in_front q r rows s e = elim (option_or_some (last_row q rows) (cond (nat_lt q r.0) None (Some r)) s e) [
   | inl later ↦ inl later
@@ -117,7 +117,7 @@ row_in_front q r rows s e = elim (option_or_some (last_row q rows) (cond (nat_lt
 ]
 
 -- a pointer without a row is before the rows
-before_rows : (q : ℕ) (rows : List (ℕ × ℕ)) → is_valid_pointer q ≡ true → last_row q rows ≡ None → q < end_by rows
+pub before_rows : (q : ℕ) (rows : List (ℕ × ℕ)) → is_valid_pointer q ≡ true → last_row q rows ≡ None → q < end_by rows
 before_rows q [] valid e = elim (valid_cases q valid) [ inl low ↦ omega arith | inr high ↦ high.1 ]
 before_rows q (r ∷ rows) valid e = elim (cases_lt q r.0) [
   | inl before ↦ before

@@ -29,11 +29,15 @@ first_reserved flat = option_map (λ k. 8836 + k) (position (λ v. not (v == 0))
 abbrev pub reserved_fault : IndexKind → List ℕ → Option TableFault
 reserved_fault kind flat = if is_kind kind Jis0208 then option_map Reserved (first_reserved flat) else None
 
+-- what is wrong with the entries of a list
+abbrev pub entry_fault : IndexKind → List ℕ → Option TableFault
+entry_fault kind flat = option_or (option_map Entry (first_bad_entry kind flat)) (reserved_fault kind flat)
+
 -- the first fault of a list, in this order
 abbrev pub flat_fault : Bool → IndexKind → List ℕ → Option TableFault
 flat_fault there kind flat = if there then Some Present
     else if not (length flat == size_of kind) then Some Size
-    else option_or (option_map Entry (first_bad_entry kind flat)) (reserved_fault kind flat)
+    else entry_fault kind flat
 
 -- the first fault of rows
 abbrev pub range_fault : Bool → List (ℕ × ℕ) → Option TableFault

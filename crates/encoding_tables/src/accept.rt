@@ -2,7 +2,9 @@
 
 ghost use Rattle.std.specs.Prelude.{◌≡◌, ◌+◌, ◌<◌, ◌≤◌, not, ◌==◌, length, IfSome};
 ghost use Rattle.std.specs.List.{position};
-ghost use Rattle.encoding_tables.specs.TableFaults.{is_entry_of, first_bad_entry, first_reserved, flat_fault};
+ghost use Rattle.encoding_tables.specs.Kinds.{size_of};
+ghost use Rattle.encoding_tables.specs.PackedRows.{flat_list, PointersRise, PointersAreBelow};
+ghost use Rattle.encoding_tables.specs.TableFaults.{is_entry_of, first_bad_entry, first_reserved, entry_fault, flat_fault};
 
 use crate::index_kind::IndexKind;
 use crate::table_fault::TableFault;
@@ -70,4 +72,67 @@ pub(crate) fn fault_of_flat(is_there: bool, kind: IndexKind, flat: &[u32]) -> Op
         }
     }
     None
+}
+
+// The pointer of the first row whose entry a list of the kind may not have.
+fn first_bad_row(kind: IndexKind, rows: &[(u32, u32)]) -> Option<u32>
+    requires rise { PointersRise rows.now }
+    requires below { PointersAreBelow (size_of kind) rows.now }
+    ensures { result ≡ first_bad_entry kind (flat_list (size_of kind) rows.now) }
+{
+    for (pointer, entry) in rows {
+        if !is_entry(kind, *entry) {
+            return Some(*pointer);
+        }
+    }
+    None
+}
+
+// The pointer of the first mapped row at which Shift_JIS has an end-user-defined character.
+fn first_reserved_row(kind: IndexKind, rows: &[(u32, u32)]) -> Option<u32>
+    requires rise { PointersRise rows.now }
+    requires below { PointersAreBelow (size_of kind) rows.now }
+    ensures { result ≡ first_reserved (flat_list (size_of kind) rows.now) }
+{
+    for (pointer, entry) in rows {
+        let at = *pointer as usize;
+        if *entry != 0 && at >= RESERVED_START && at < RESERVED_END {
+            return Some(*pointer);
+        }
+    }
+    None
+}
+
+// What is wrong with the entries of the list that rows stand for.
+fn fault_of_entries(kind: IndexKind, rows: &[(u32, u32)]) -> Option<TableFault>
+    requires rise { PointersRise rows.now }
+    requires below { PointersAreBelow (size_of kind) rows.now }
+    ensures { result ≡ entry_fault kind (flat_list (size_of kind) rows.now) }
+{
+    if let Some(pointer) = first_bad_row(kind, rows) {
+        return Some(TableFault::Entry(pointer));
+    }
+    if kind == IndexKind::Jis0208 {
+        if let Some(pointer) = first_reserved_row(kind, rows) {
+            return Some(TableFault::Reserved(pointer));
+        }
+    }
+    None
+}
+
+// The first fault of the list that rows stand for, if it has one.
+pub(crate) fn fault_of_rows(
+    present: bool,
+    kind: IndexKind,
+    rows: &[(u32, u32)],
+) -> Option<TableFault>
+    requires rise { PointersRise rows.now }
+    requires below { PointersAreBelow (size_of kind) rows.now }
+    ensures { result ≡ flat_fault present kind (flat_list (size_of kind) rows.now) }
+{
+    if present {
+        Some(TableFault::Present)
+    } else {
+        fault_of_entries(kind, rows)
+    }
 }

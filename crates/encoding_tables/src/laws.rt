@@ -1,4 +1,5 @@
-// Laws of the definitions. The functions do nothing: each contract is a law.
+// Laws of the definitions: the functions do nothing, and each contract is a law. Beside them stands the search
+// that every look-up makes, whose contract bounds its comparisons.
 
 ghost use Rattle.std.specs.Prelude.{ℕ, List};
 ghost use Rattle.encoding_mem.specs.ReadBack.{ReadsBackExactly};
@@ -13,6 +14,8 @@ ghost use Rattle.encoding_tables.specs.Replacement.{IsOneError, NeedsRoomOnce};
 ghost use Rattle.encoding_tables.specs.UserDefined.{pieces_user_defined, user_defined_coding};
 ghost use Rattle.encoding_tables.specs.Utf16.{ReadsUnits};
 ghost use Rattle.encoding_tables.specs.RangeLaws.{ValuesAreScalars, ValuesRise, PointersAreExact, PointersReadBack};
+
+pub use crate::search::search;
 
 /// Two kinds whose files have the same name are the same kind.
 pub fn file_names()

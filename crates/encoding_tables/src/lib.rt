@@ -3,15 +3,22 @@
 #![tactic(auto)]
 
 mod accept;
+mod accept_ranges;
 pub mod flat;
 pub mod index_kind;
 pub mod laws;
+mod packed_index;
+mod packed_ranges;
 pub mod ranges;
 pub mod replacement_decoder;
+#[cfg(test)]
+mod row_tests;
+mod search;
 pub mod single_byte_decoder;
 pub mod single_byte_encoder;
 #[cfg(test)]
 mod single_byte_tests;
+mod sorted_rows;
 #[cfg(test)]
 mod stateless_tests;
 pub mod table_fault;

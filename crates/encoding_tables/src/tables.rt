@@ -1,8 +1,8 @@
-ghost use Rattle.std.specs.Prelude.{◌≡◌, ◌≢◌, map, false, true, MatchOption, OnOk, OnErr, is_some, ◌⊎◌};
-ghost use Rattle.std.specs.Option.{option_map};
-ghost use Rattle.encoding_tables.specs.Kinds.{is_ranges, is_single_byte};
+ghost use Rattle.std.specs.Prelude.{◌≡◌, ◌≢◌, false, true, MatchOption, OnOk, OnErr, is_some, ◌⊎◌};
+ghost use Rattle.encoding_tables.specs.Kinds.{is_ranges, is_single_byte, size_of};
 ghost use Rattle.encoding_tables.specs.IndexLists.{IndexLists, flat_of, has, entries_of, rows_of, AreAcceptedTables, AreTaken};
 ghost use Rattle.encoding_tables.specs.Accepted.{IsIndex};
+ghost use Rattle.encoding_tables.specs.PackedRows.{flat_list, PointersRise, PointersAreBelow};
 ghost use Rattle.encoding_tables.specs.TableFaults.{flat_fault, range_fault};
 ghost use Rattle.encoding_tables.specs.RangeFaults.{bad_row};
 ghost use Rattle.encoding_tables.specs.Lookups.{AreEntries, value_of, first_pointer, last_pointer};
@@ -10,10 +10,13 @@ ghost use Rattle.encoding_tables.specs.SingleByteLaws.{AreBasic};
 ghost use Rattle.encoding_tables.specs.Ranges.{range_value, range_pointer, HaveScalars};
 ghost use Rattle.encoding_tables.specs.declared.index_kind.IndexKind.{IndexKind};
 
-use crate::accept::fault_of_flat;
+use crate::accept::{fault_of_flat, fault_of_rows};
+use crate::accept_ranges::bad_row;
 use crate::flat::Flat;
 use crate::index_kind::IndexKind;
-use crate::ranges::{Ranges, bad_row, pointer_by_rows, value_by_rows};
+use crate::packed_index::PackedIndex;
+use crate::packed_ranges::PackedRanges;
+use crate::ranges::Ranges;
 use crate::table_fault::TableFault;
 use std::alloc::Global;
 use std::marker::Model;
@@ -23,20 +26,19 @@ use std::marker::Model;
 #[derive(Drop)]
 pub struct Tables {
     alloc: Global,
-    flats: [Option<Vec<u32>>; 34],
-    ranges: Option<Vec<(u32, u32)>>,
+    flats: [Option<PackedIndex>; 34],
+    ranges: Option<PackedRanges>,
 }
 
 impl Model for Tables {
     ghost Value = { IndexLists };
 
     ghost view = { λ t. record {
-      flats = map (λ v. option_map (λ w. w.items) v) t.flats;
-      rows = option_map (λ w. w.items) t.ranges;
+      flats = t.flats;
+      rows = t.ranges;
     } };
 
-    ghost invariant = { λ t. AreTaken (map (λ v. option_map (λ w. w.items) v) t.flats)
-        (option_map (λ w. w.items) t.ranges) };
+    ghost invariant = { λ t. AreTaken t.flats t.ranges };
 }
 
 impl Tables {
@@ -89,9 +91,39 @@ impl Tables {
         if let Some(fault) = fault_of_flat(self.has(kind), kind, flat) {
             return Err(fault);
         }
-        match Vec::from_slice(self.alloc, flat) {
-            Ok(list) => {
-                self.flats[kind.slot()] = Some(list);
+        match PackedIndex::from_list(self.alloc, flat) {
+            Ok(index) => {
+                self.flats[kind.slot()] = Some(index);
+                Ok(())
+            }
+            Err(_) => Err(TableFault::Memory),
+        }
+    }
+
+    /// Takes the list of a kind by its rows, each a pointer and an entry: the list has 0 at the pointers of
+    /// no row. Accepts and refuses as [`Tables::insert`] does for that list.
+    ///
+    /// Pointers rise from row to row, which `rows.windows(2).all(|pair| pair[0].0 < pair[1].0)` tests, and
+    /// are below the kind's `size`. No rows are rows of the list of zeros.
+    pub fn insert_rows(&mut self, kind: IndexKind, rows: &[(u32, u32)]) -> Result<(), TableFault>
+        requires listed { is_ranges kind ≡ false }
+        requires rise { PointersRise rows.now }
+        requires below { PointersAreBelow (size_of kind) rows.now }
+        ensures fault { MatchOption
+            (flat_fault (has self.old kind) kind (flat_list (size_of kind) rows.now))
+            ((result ≡ Ok tt) ⊎ (result ≡ Err TableFault.Memory)) (λ f. result ≡ Err f) }
+        ensures taken { OnOk result
+            (flat_of self.new kind ≡ Some (flat_list (size_of kind) rows.now)) }
+        ensures others { (other : IndexKind) → other ≢ kind → flat_of self.new other ≡ flat_of self.old other }
+        ensures rows { self.new.rows ≡ self.old.rows }
+        ensures unchanged { OnErr result (self.new ≡ self.old) }
+    {
+        if let Some(fault) = fault_of_rows(self.has(kind), kind, rows) {
+            return Err(fault);
+        }
+        match PackedIndex::from_rows(self.alloc, kind.size(), rows) {
+            Ok(index) => {
+                self.flats[kind.slot()] = Some(index);
                 Ok(())
             }
             Err(_) => Err(TableFault::Memory),
@@ -113,9 +145,9 @@ impl Tables {
         if let Some(row) = bad_row(rows) {
             return Err(TableFault::Ranges(row));
         }
-        match Vec::from_slice(self.alloc, rows) {
-            Ok(list) => {
-                self.ranges = Some(list);
+        match PackedRanges::from_rows(self.alloc, rows) {
+            Ok(packed) => {
+                self.ranges = Some(packed);
                 Ok(())
             }
             Err(_) => Err(TableFault::Memory),
@@ -129,7 +161,7 @@ impl Tables {
         ensures entries { flat_of self.now kind ≡ Some result }
         ensures index { IsIndex kind result }
     {
-        Flat::new(self.list(kind))
+        Flat::new(self.index(kind))
     }
 
     /// The rows of the GB18030 ranges that are there, for look-ups.
@@ -185,7 +217,7 @@ impl Tables {
         requires { has self.now IndexKind.Gb18030Ranges ≡ true }
         ensures { result ≡ range_value (rows_of self.now) pointer }
     {
-        value_by_rows(self.rows(), pointer)
+        self.rows().value(pointer)
     }
 
     /// The pointer of the GB18030 ranges that is written for this character: 7457 for U+E7C7, else the
@@ -194,30 +226,30 @@ impl Tables {
         requires { has self.now IndexKind.Gb18030Ranges ≡ true }
         ensures { result ≡ range_pointer (rows_of self.now) c }
     {
-        pointer_by_rows(self.rows(), c)
+        self.rows().pointer(c)
     }
 
-    // The list of a kind.
-    fn list(&self, kind: IndexKind) -> &[u32]
+    // The index of a kind that is there.
+    fn index(&self, kind: IndexKind) -> &PackedIndex
         requires there { has self.now kind ≡ true }
         requires listed { is_ranges kind ≡ false }
         ensures entries { flat_of self.now kind ≡ Some result.now }
         ensures accepted { flat_fault false kind result.now ≡ None }
     {
         match &self.flats[kind.slot()] {
-            Some(list) => list.as_slice(),
+            Some(index) => index,
             None => unreachable!(),
         }
     }
 
     // The rows of the ranges.
-    fn rows(&self) -> &[(u32, u32)]
+    fn rows(&self) -> &PackedRanges
         requires { has self.now IndexKind.Gb18030Ranges ≡ true }
         ensures rows { rows_of self.now ≡ result.now }
         ensures taken { bad_row result.now ≡ None }
     {
         match &self.ranges {
-            Some(rows) => rows.as_slice(),
+            Some(rows) => rows,
             None => unreachable!(),
         }
     }

@@ -220,6 +220,75 @@ fn ranges_have_values_and_pointers(rt: HostRuntime) {
 }
 
 #[test]
+fn ranges_are_searched_on_both_sides_of_the_gap(rt: HostRuntime) {
+    let mut tables = Tables::new(rt.alloc());
+    // the row at 100000 has no valid pointer, and the next has none before 189000
+    let rows = [
+        (10, 0x100),
+        (7456, 0x1E3E),
+        (7457, 0x1E3F),
+        (7458, 0x1E40),
+        (39418, 0xA000),
+        (100000, u32::MAX),
+        (188990, 0xE000),
+        (189005, 0x1_0000),
+    ];
+    assert_eq!(rt; tables.insert_ranges(&rows), Ok(()));
+    assert!(rt; tables.has(IndexKind::Gb18030Ranges));
+    // the first and the last pointer of each run of values
+    let both_ways = [
+        (10, '\u{100}'),
+        (7455, '\u{1E15}'),
+        (7456, '\u{1E3E}'),
+        (7457, '\u{E7C7}'),
+        (7458, '\u{1E40}'),
+        (39417, '\u{9B17}'),
+        (39418, '\u{A000}'),
+        (39419, '\u{A001}'),
+        (189000, '\u{E00A}'),
+        (189004, '\u{E00E}'),
+        (189005, '\u{1_0000}'),
+        (1237575, '\u{10_FFFA}'),
+    ];
+    for (pointer, c) in both_ways {
+        assert_eq!(rt; tables.range_value(pointer), Some(c), "at {pointer}");
+        assert_eq!(rt; tables.range_pointer(c), Some(pointer), "at {pointer}");
+    }
+    for pointer in [0, 9, 39420, 100000, 188990, 188999, 1237576, u32::MAX] {
+        assert_eq!(rt; tables.range_value(pointer), None, "at {pointer}");
+    }
+    // before, between and behind the runs
+    let unmapped = [
+        '\0',
+        'ÿ',
+        '\u{1E16}',
+        '\u{1E3F}',
+        '\u{9B18}',
+        '\u{A002}',
+        '\u{E000}',
+        '\u{E009}',
+        '\u{E00F}',
+        '\u{FFFF}',
+        '\u{10_FFFB}',
+        '\u{10_FFFF}',
+    ];
+    for c in unmapped {
+        assert_eq!(rt; tables.range_pointer(c), None, "{c:?}");
+    }
+}
+
+#[test]
+fn no_rows_give_only_the_fixed_pointer(rt: HostRuntime) {
+    let mut tables = Tables::new(rt.alloc());
+    assert_eq!(rt; tables.insert_ranges(&[]), Ok(()));
+    assert!(rt; tables.has(IndexKind::Gb18030Ranges));
+    assert_eq!(rt; tables.range_value(0), None);
+    assert_eq!(rt; tables.range_value(7457), Some('\u{E7C7}'));
+    assert_eq!(rt; tables.range_pointer('\u{80}'), None);
+    assert_eq!(rt; tables.range_pointer('\u{E7C7}'), Some(7457));
+}
+
+#[test]
 fn lists_have_values_and_pointers(rt: HostRuntime) {
     let mut tables = Tables::new(rt.alloc());
     let kind = IndexKind::Iso2022JpKatakana;

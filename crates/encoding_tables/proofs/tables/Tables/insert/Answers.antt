@@ -1,17 +1,26 @@
-use Rattle.std.proofs.Common.{sym, ◌∙◌, ap, arith, Some}
-use Rattle.encoding_tables.specs.IndexLists.{flat_at}
+use Rattle.std.proofs.Common.{sym, ◌∙◌, ap, arith, Some, subst}
+use Rattle.encoding_tables.specs.IndexLists.{flat_at, AreAccepted}
+use Rattle.std.proofs.Math.ListN.{set}
 use Rattle.encoding_tables.specs.KindsLaws.{index-put, index-others, accepted-put, no_fault}
+use Rattle.encoding_tables.specs.TableFaultsLaws.{is_index}
+use Rattle.encoding_tables.proofs.KindSizes.{size_is_small}
 use Rattle.encoding_tables.proofs.tables.Tables.insert.Goals as goal
 
+pub from_list-requires : goal.from_list-requires
+from_list-requires c =
+    let index = is_index c.args.kind c.args.flat.now (no_fault _ c.args.kind c.args.flat.now (sym c.fault_of_flat.ensures ∙ c.in_default.is)) in
+    omega (arith, index.size, size_is_small c.args.kind)
+
 pub returns-in-Ok-clause-taken : goal.returns-in-Ok-clause-taken
-returns-in-Ok-clause-taken c = index-put _ c.self.inside.flats c.slot.result (Some c.in-Ok.list) c.args.kind c.slot.ensures.value (omega arith) ∙ ap Some c.in-Ok.ensures.items
+returns-in-Ok-clause-taken c = index-put c.self.inside.flats c.slot.result (Some c.in-Ok.index) c.args.kind c.slot.ensures.value (omega arith) ∙ ap Some c.in-Ok.ensures
 
 pub returns-in-Ok-clause-others : goal.returns-in-Ok-clause-others
-returns-in-Ok-clause-others c = λ k h. index-others _ c.self.inside.flats c.slot.result (Some c.in-Ok.list) c.args.kind k c.slot.ensures.value h ∙ ap (λ v. flat_at v.flats k) (c.self.view_is)
+returns-in-Ok-clause-others c = λ k h. index-others c.self.inside.flats c.slot.result (Some c.in-Ok.index) c.args.kind k c.slot.ensures.value h ∙ ap (λ v. flat_at v.flats k) c.self.view_is
 
 pub invariant_of-self : goal.invariant_of-self
-invariant_of-self c = (
-  accepted-put _ c.self.inside.flats c.slot.result (Some c.in-Ok.list) c.args.kind c.args.flat.now c.slot.ensures.value (omega arith) (ap Some c.in-Ok.ensures.items)
-      (no_fault _ c.args.kind c.args.flat.now (sym c.fault_of_flat.ensures ∙ c.in_default.is)) c.self.invariant.0,
-  c.self.invariant.1,
-)
+invariant_of-self c =
+    let good = no_fault _ c.args.kind c.args.flat.now (sym c.fault_of_flat.ensures ∙ c.in_default.is) in (
+      subst (λ list. AreAccepted (set c.self.inside.flats c.slot.result (Some list))) (sym c.in-Ok.ensures)
+          (accepted-put c.self.inside.flats c.slot.result c.args.kind c.args.flat.now c.slot.ensures.value (omega arith) good c.self.invariant.0),
+      c.self.invariant.1,
+    )

@@ -1,0 +1,43 @@
+-- Rows of a pointer and an entry, and the list that they stand for (the Encoding Standard, section 5, "Indexes").
+use Rattle.std.proofs.Common.{refl}
+use Rattle.std.specs.Prelude.{◌≡◌, ℕ, ◌+◌, ◌<◌, List, [], ◌∷◌, length, map, ◌==◌, not, if◌then◌else◌}
+use Rattle.std.specs.List.{filter, range_with_len}
+use Rattle.encoding_tables.specs.SortedRows.{row_at}
+
+-- the entry of the row with this pointer, or 0 where no row has it
+abbrev pub entry_at : List (ℕ × ℕ) → ℕ → ℕ
+entry_at [] pointer = 0
+entry_at (row ∷ rows) pointer = if row.0 == pointer then row.1 else entry_at rows pointer
+
+-- the list of rows: for each pointer below `size` its entry
+abbrev pub flat_list : ℕ → List (ℕ × ℕ) → List ℕ
+flat_list size rows = map (entry_at rows) (range_with_len 0 size)
+
+-- each pointer is below that of the next row
+abbrev pub PointersRise : List (ℕ × ℕ) → Type 0
+PointersRise rows = (k : ℕ) → k + 1 < length rows → (row_at rows k).0 < (row_at rows (k + 1)).0
+
+abbrev pub PointersAreBelow : ℕ → List (ℕ × ℕ) → Type 0
+PointersAreBelow size rows = (k : ℕ) → k < length rows → (row_at rows k).0 < size
+
+-- the rows with an entry that is not 0
+abbrev pub mapped_rows : List (ℕ × ℕ) → List (ℕ × ℕ)
+mapped_rows rows = filter (λ row. not (row.1 == 0)) rows
+
+-- the mapped rows of a list whose first pointer is this one
+abbrev pub listed_rows : ℕ → List ℕ → List (ℕ × ℕ)
+listed_rows pointer [] = []
+listed_rows pointer (v ∷ vs) = if v == 0 then listed_rows (pointer + 1) vs else (pointer, v) ∷ listed_rows (pointer + 1) vs
+
+-- a row with its two numbers the other way round
+abbrev pub swapped : ℕ × ℕ → ℕ × ℕ
+swapped row = (row.1, row.0)
+
+listed : listed_rows 0 (0 ∷ 0xE9 ∷ 0 ∷ 0xE8 ∷ []) ≡ (1, 0xE9) ∷ (3, 0xE8) ∷ []
+listed = refl
+
+flat : flat_list 4 ((1, 0xE9) ∷ (3, 0xE8) ∷ []) ≡ 0 ∷ 0xE9 ∷ 0 ∷ 0xE8 ∷ []
+flat = refl
+
+mapped : mapped_rows ((1, 0xE9) ∷ (2, 0) ∷ []) ≡ (1, 0xE9) ∷ []
+mapped = refl

@@ -1,0 +1,165 @@
+// An index as rows: by pointer for decoders, and by entry for encoders.
+
+ghost use Rattle.std.specs.Prelude.{◌≡◌, ℕ, ◌+◌, ◌^◌, ◌<◌, List, length, map, IfOk, IfSome};
+ghost use Rattle.encoding_tables.specs.Lookups.{value_of, first_pointer, last_pointer};
+ghost use Rattle.std.specs.List.Sorted.{IsPermutation};
+ghost use Rattle.encoding_tables.specs.SortedRows.{AreSorted};
+ghost use Rattle.encoding_tables.specs.PackedRows.{flat_list, mapped_rows, listed_rows, swapped, PointersRise, PointersAreBelow};
+ghost use Rattle.encoding_tables.specs.PackedLists.{AreIndexRows, IsPacked, IsReversed};
+
+use crate::search::search;
+use crate::sorted_rows::SortedRows;
+use std::alloc::{AllocError, Global};
+use std::marker::Model;
+
+/// The list of an index, of which the mapped entries alone are kept.
+#[derive(Drop)]
+pub(crate) struct PackedIndex {
+    // How many entries the list has, mapped or not.
+    size: usize,
+    // A pointer and its entry.
+    by_pointer: SortedRows,
+    // An entry and its pointer.
+    by_entry: SortedRows,
+}
+
+impl Model for PackedIndex {
+    ghost Value = { List ℕ };
+
+    ghost view = { λ p. flat_list p.size p.by_pointer };
+
+    ghost invariant = { λ p. IsPacked p.size p.by_pointer p.by_entry };
+}
+
+impl PackedIndex {
+    /// The index of a list. It takes all its memory before it answers.
+    pub(crate) fn from_list(alloc: Global, list: &[u32]) -> Result<Self, AllocError>
+        requires { length list.now < 2 ^ 16 }
+        ensures { IfOk result (λ index. index ≡ list.now) }
+    {
+        let rows = rows_of_list(alloc, list)?;
+        PackedIndex::new(alloc, list.len(), rows)
+    }
+
+    /// The index of a list with these entries and 0 elsewhere.
+    pub(crate) fn from_rows(
+        alloc: Global,
+        size: usize,
+        rows: &[(u32, u32)],
+    ) -> Result<Self, AllocError>
+        requires rise { PointersRise rows.now }
+        requires below { PointersAreBelow size rows.now }
+        requires small { size < 2 ^ 16 }
+        ensures { IfOk result (λ index. index ≡ flat_list size rows.now) }
+    {
+        let rows = rows_with_entry(alloc, rows)?;
+        PackedIndex::new(alloc, size, rows)
+    }
+
+    // The index of mapped rows.
+    fn new(alloc: Global, size: usize, rows: Vec<(u32, u32)>) -> Result<Self, AllocError>
+        requires rows { AreIndexRows size rows.items }
+        requires small { size < 2 ^ 16 }
+        ensures { IfOk result (λ index. index ≡ flat_list size rows.items) }
+    {
+        let pairs = reversed(alloc, &rows)?;
+        Ok(PackedIndex {
+            size,
+            by_pointer: SortedRows::new(alloc, rows)?,
+            by_entry: SortedRows::new(alloc, pairs)?,
+        })
+    }
+
+    /// The entry at a pointer.
+    #[inline(always)]
+    pub(crate) fn value(&self, pointer: u32) -> Option<u32>
+        ensures { result ≡ value_of self.now pointer }
+    {
+        let (begin, end) = self.by_pointer.span(pointer);
+        if begin == end {
+            return None;
+        }
+        let rows = self.by_pointer.rows();
+        let (below, _) = search(&rows[begin..begin + 1], (pointer, 0));
+        Some(rows[begin + below].1)
+    }
+
+    /// The least pointer from `from` to below `to` with an entry, which is none where it is 0.
+    #[inline]
+    pub(crate) fn first_pointer(&self, entry: u32, from: u32, to: u32) -> Option<u32>
+        ensures pointer { result ≡ first_pointer self.now entry from to }
+        ensures before { IfSome result (λ p. p < to) }
+    {
+        let place = self.by_entry.rank((entry, from));
+        match self.by_entry.rows().get(place) {
+            Some((first, pointer)) if *first == entry && *pointer < to => Some(*pointer),
+            _ => None,
+        }
+    }
+
+    /// The greatest one.
+    #[inline]
+    pub(crate) fn last_pointer(&self, entry: u32, from: u32, to: u32) -> Option<u32>
+        ensures pointer { result ≡ last_pointer self.now entry from to }
+        ensures before { IfSome result (λ p. p < to) }
+    {
+        let behind = self.by_entry.rank((entry, to));
+        if behind == 0 {
+            return None;
+        }
+        let (first, pointer) = self.by_entry.rows()[behind - 1];
+        if first == entry && pointer >= from {
+            Some(pointer)
+        } else {
+            None
+        }
+    }
+}
+
+// The mapped entries of a list, each with its pointer.
+fn rows_of_list(alloc: Global, list: &[u32]) -> Result<Vec<(u32, u32)>, AllocError>
+    requires { length list.now < 2 ^ 16 }
+    ensures { IfOk result (λ rows. rows.items ≡ listed_rows 0 list.now) }
+{
+    let mut rows = Vec::new(alloc);
+    for (pointer, entry) in list.iter().enumerate() {
+        if *entry != 0 {
+            rows.push((pointer as u32, *entry))?;
+        }
+    }
+    Ok(rows)
+}
+
+// The rows whose entry is not 0.
+fn rows_with_entry(alloc: Global, rows: &[(u32, u32)]) -> Result<Vec<(u32, u32)>, AllocError>
+    ensures { IfOk result (λ mapped. mapped.items ≡ mapped_rows rows.now) }
+{
+    let mut mapped = Vec::new(alloc);
+    for row in rows {
+        if row.1 != 0 {
+            mapped.push(*row)?;
+        }
+    }
+    Ok(mapped)
+}
+
+// Each row the other way round, in order.
+fn reversed(alloc: Global, rows: &[(u32, u32)]) -> Result<Vec<(u32, u32)>, AllocError>
+    requires { PointersRise rows.now }
+    ensures { IfOk result (λ pairs. IsReversed rows.now pairs.items) }
+{
+    let mut pairs = Vec::with_capacity(alloc, rows.len())?;
+    for (pointer, entry) in rows {
+        pairs.push((*entry, *pointer))?;
+    }
+    sort(&mut pairs);
+    Ok(pairs)
+}
+
+// By entry, and by pointer where the entries are equal, so that the least pointer of an entry comes first.
+fn sort(pairs: &mut Vec<(u32, u32)>)
+    ensures moved { IsPermutation pairs.old.items pairs.new.items }
+    ensures sorted { AreSorted pairs.new.items }
+{
+    pairs.sort_unstable();
+}

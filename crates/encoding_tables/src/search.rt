@@ -1,0 +1,60 @@
+// A binary search among rows in order.
+
+ghost use Rattle.std.specs.Prelude.{◌≡◌, ◌+◌, ◌*◌, ◌^◌, length};
+ghost use Rattle.encoding_tables.specs.SortedRows.{is_below, AreRising, IsRank, IsWithinDigits};
+
+// Whether a row is below a key: by the first number, and by the second where the first are equal. Both are
+// put into one number, so that one comparison decides.
+#[inline(always)]
+fn is_below(row: (u32, u32), key: (u32, u32)) -> bool
+    ensures { result ≡ is_below row key }
+{
+    joined(row) < joined(key)
+}
+
+// The first number in the upper half, the second in the lower.
+#[inline(always)]
+fn joined(row: (u32, u32)) -> u64
+    ensures { result ≡ row.0 * 2 ^ 32 + row.1 }
+{
+    row.0 as u64 * (1 << 32) + row.1 as u64
+}
+
+/// How many of some rows are below `key`, and how many rows were compared with it: at most the number of
+/// binary digits of how many rows there are.
+///
+/// A row is below another by its first number, and by the second where the first are equal. The rows rise
+/// strictly in this order, which `rows.windows(2).all(|pair| pair[0] < pair[1])` tests; no rows and one
+/// row do.
+#[inline(always)]
+pub fn search(rows: &[(u32, u32)], key: (u32, u32)) -> (usize, u32)
+    requires { AreRising rows.now }
+    ensures rank { IsRank rows.now key result.0 }
+    ensures compared { IsWithinDigits result.1 (length rows.now) }
+{
+    match rows {
+        [] => (0, 0),
+        [row] => (is_below(*row, key) as usize, 1),
+        _ => search_by_halves(rows, key),
+    }
+}
+
+fn search_by_halves(rows: &[(u32, u32)], key: (u32, u32)) -> (usize, u32)
+    requires { AreRising rows.now }
+    ensures rank { IsRank rows.now key result.0 }
+    ensures compared { IsWithinDigits result.1 (length rows.now) }
+{
+    let mut low = 0;
+    let mut high = rows.len();
+    let mut compared = 0;
+    'halves: while low < high {
+        let middle = low + (high - low) / 2;
+        compared += 1;
+        if is_below(rows[middle], key) {
+            low = middle + 1;
+        } else {
+            high = middle;
+        }
+    }
+    (low, compared)
+}

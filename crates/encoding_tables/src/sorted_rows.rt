@@ -1,0 +1,106 @@
+// Rows in order, with a directory of the place at which the rows of each first number begin, so that a search
+// looks at the rows of one first number alone.
+
+ghost use Rattle.std.specs.Prelude.{◌≡◌, ◌<◌, ◌^◌, List, ℕ, length, IfOk};
+ghost use Rattle.encoding_tables.specs.SortedRows.{AreRising, IsRank, IsDirectory, IsSpan};
+
+use crate::search::search;
+use std::alloc::{AllocError, Global};
+use std::marker::Model;
+
+/// Rows in order, fewer than 2^16.
+#[derive(Drop)]
+pub(crate) struct SortedRows {
+    rows: Vec<(u32, u32)>,
+    // How many rows stand before each first number, and at last how many there are.
+    begins: Vec<u16>,
+}
+
+impl Model for SortedRows {
+    ghost Value = { List (ℕ × ℕ) };
+
+    ghost view = { λ s. s.rows.items };
+
+    ghost invariant = { λ s. AreRising s.rows.items × IsDirectory s.rows.items s.begins.items };
+}
+
+impl SortedRows {
+    /// Rows in order, with their directory.
+    pub(crate) fn new(alloc: Global, rows: Vec<(u32, u32)>) -> Result<Self, AllocError>
+        requires rising { AreRising rows.items }
+        requires few { length rows.items < 2 ^ 16 }
+        ensures { IfOk result (λ sorted. sorted ≡ rows.items) }
+    {
+        let begins = directory(alloc, &rows)?;
+        Ok(SortedRows { rows, begins })
+    }
+
+    /// The rows.
+    #[inline(always)]
+    pub(crate) fn rows(&self) -> &[(u32, u32)]
+        ensures { result.now ≡ self.now }
+    {
+        self.rows.as_slice()
+    }
+
+    /// Where the rows with a first number begin and end.
+    #[inline(always)]
+    pub(crate) fn span(&self, first: u32) -> (usize, usize)
+        ensures { IsSpan self.now first result.0 result.1 }
+    {
+        span_in(self.rows.as_slice(), self.begins.as_slice(), first)
+    }
+
+    /// How many rows are below a key.
+    #[inline(always)]
+    pub(crate) fn rank(&self, key: (u32, u32)) -> usize
+        ensures { IsRank self.now key result }
+    {
+        rank_in(self.rows.as_slice(), self.begins.as_slice(), key)
+    }
+}
+
+// Where the rows with a first number begin and end, by their directory.
+#[inline(always)]
+fn span_in(rows: &[(u32, u32)], begins: &[u16], first: u32) -> (usize, usize)
+    requires { IsDirectory rows.now begins.now }
+    ensures { IsSpan rows.now first result.0 result.1 }
+{
+    let place = first as usize;
+    if place + 1 < begins.len() {
+        (begins[place] as usize, begins[place + 1] as usize)
+    } else {
+        (rows.len(), rows.len())
+    }
+}
+
+// How many rows are below a key, by a search of the rows with its first number.
+#[inline(always)]
+fn rank_in(rows: &[(u32, u32)], begins: &[u16], key: (u32, u32)) -> usize
+    requires rising { AreRising rows.now }
+    requires directory { IsDirectory rows.now begins.now }
+    ensures { IsRank rows.now key result }
+{
+    let (begin, end) = span_in(rows, begins, key.0);
+    begin + search(&rows[begin..end], key).0
+}
+
+// How many rows stand before each first number, and at last how many there are.
+fn directory(alloc: Global, rows: &[(u32, u32)]) -> Result<Vec<u16>, AllocError>
+    requires rising { AreRising rows.now }
+    requires few { length rows.now < 2 ^ 16 }
+    ensures { IfOk result (λ begins. IsDirectory rows.now begins.items) }
+{
+    let numbers = match rows {
+        [.., (first, _)] => *first as usize + 1,
+        [] => 0,
+    };
+    let mut begins = Vec::with_capacity(alloc, numbers + 1)?;
+    'rows: for (place, (first, _)) in rows.iter().enumerate() {
+        'numbers: while begins.len() <= *first as usize {
+            begins.push(place as u16)?;
+        }
+    }
+    begins.push(rows.len() as u16)?;
+    Ok(begins)
+}
