@@ -5,7 +5,8 @@ use Rattle.std.proofs.lemmas.Bool.Decides.{nat_tests}
 use Rattle.std.proofs.lemmas.List.{length-set, get_or-set_other, get_or-replicate, length-replicate}
 use Rattle.std.proofs.lemmas.Grind.{get_or-set_at}
 use Rattle.std.proofs.lemmas.List.FromFn.{fill_by_all}
-use Rattle.encoding_index.specs.IndexText.{code_at, flat_list, lines_in, rows_in, first_fault}
+use Rattle.encoding_tables.specs.PackedRows.{entry_at, flat_list}
+use Rattle.encoding_index.specs.IndexText.{lines_in, rows_in, first_fault}
 use Rattle.encoding_index.specs.Outcomes.{outcomes}
 use Rattle.encoding_index.specs.declared.fault.IndexFault.{IndexFault}
 use Rattle.encoding_index.proofs.OutcomeLists.{AreRising, fault_in, rows_read, first_fault_is, rows_rise, rows_read_is}
@@ -19,27 +20,27 @@ length-filled : (list : List ℕ) (rows : List (ℕ × ℕ)) → length (filled 
 length-filled list [] = refl
 length-filled list (row ∷ rows) = length-filled (set list row.0 row.1) rows ∙ length-set list row.0 row.1
 
--- `code_at`, with a value for pointers of no row
-code_or : List (ℕ × ℕ) → ℕ → ℕ → ℕ
-code_or [] pointer d = d
-code_or (row ∷ rows) pointer d = cond (eqb row.0 pointer) row.1 (code_or rows pointer d)
+-- `entry_at`, with a value for pointers of no row
+entry_or : List (ℕ × ℕ) → ℕ → ℕ → ℕ
+entry_or [] pointer d = d
+entry_or (row ∷ rows) pointer d = cond (eqb row.0 pointer) row.1 (entry_or rows pointer d)
 
-code_or_zero : (rows : List (ℕ × ℕ)) (pointer : ℕ) → code_or rows pointer 0 ≡ code_at rows pointer
-unfolding code_or
-code_or_zero [] pointer = refl
-code_or_zero (row ∷ rows) pointer = ap (λ d. cond (eqb row.0 pointer) row.1 d) (code_or_zero rows pointer)
+entry_or_zero : (rows : List (ℕ × ℕ)) (pointer : ℕ) → entry_or rows pointer 0 ≡ entry_at rows pointer
+unfolding entry_or
+entry_or_zero [] pointer = refl
+entry_or_zero (row ∷ rows) pointer = ap (λ d. cond (eqb row.0 pointer) row.1 d) (entry_or_zero rows pointer)
 
-code_or_below : (size least : ℕ) (rows : List (ℕ × ℕ)) (pointer d : ℕ) → AreRising size least rows → pointer < least → code_or rows pointer d ≡ d
-unfolding code_or
-code_or_below size least [] pointer d rising below = refl
-code_or_below size least (row ∷ rows) pointer d rising below =
+entry_or_below : (size least : ℕ) (rows : List (ℕ × ℕ)) (pointer d : ℕ) → AreRising size least rows → pointer < least → entry_or rows pointer d ≡ d
+unfolding entry_or
+entry_or_below size least [] pointer d rising below = refl
+entry_or_below size least (row ∷ rows) pointer d rising below =
     let low : least ≤ row.0 = rising.0 in
-    let rest = code_or_below size (row.0 + 1) rows pointer d rising.2 (omega arith) in
+    let rest = entry_or_below size (row.0 + 1) rows pointer d rising.2 (omega arith) in
     grind (arith, nat_tests)
 
 get_or-filled : (size least : ℕ) (list : List ℕ) (rows : List (ℕ × ℕ)) (pointer : ℕ) → AreRising size least rows → length list ≡ size
-    → get_or (filled list rows) pointer 0 ≡ code_or rows pointer (get_or list pointer 0)
-unfolding code_or
+    → get_or (filled list rows) pointer 0 ≡ entry_or rows pointer (get_or list pointer 0)
+unfolding entry_or
 get_or-filled size least list [] pointer rising sized = refl
 get_or-filled size least list (row ∷ rows) pointer rising sized =
     let high : row.0 < size = rising.1 in
@@ -47,20 +48,20 @@ get_or-filled size least list (row ∷ rows) pointer rising sized =
     let rest = get_or-filled size (row.0 + 1) wrote rows pointer rising.2 (length-set list row.0 row.1 ∙ sized) in
     elim (cases_order row.0 pointer) [
       | inl same ↦
-          let none = code_or_below size (row.0 + 1) rows pointer (get_or wrote pointer 0) rising.2 (omega arith) in
+          let none = entry_or_below size (row.0 + 1) rows pointer (get_or wrote pointer 0) rising.2 (omega arith) in
           let put = get_or-set_at list row.0 pointer row.1 0 (sym same) (omega arith) in
           grind (arith, nat_tests)
       | inr other ↦
           let kept = get_or-set_other list row.0 pointer row.1 0 (λ e. omega arith) in
-          let moved = ap (code_or rows pointer) kept in
+          let moved = ap (entry_or rows pointer) kept in
           grind (arith, nat_tests)
     ]
 
 pub filled_is_flat : (size least : ℕ) (rows : List (ℕ × ℕ)) → AreRising size least rows → filled (replicate size 0) rows ≡ flat_list size rows
-filled_is_flat size least rows rising = fill_by_all (code_at rows) (filled (replicate size 0) rows) size 0 (length-filled (replicate size 0) rows ∙ length-replicate size 0) (λ k below.
+filled_is_flat size least rows rising = fill_by_all (entry_at rows) (filled (replicate size 0) rows) size 0 (length-filled (replicate size 0) rows ∙ length-replicate size 0) (λ k below.
     get_or-filled size least (replicate size 0) rows k rising (length-replicate size 0)
-    ∙ ap (code_or rows k) (get_or-replicate size k 0 0 below)
-    ∙ code_or_zero rows k)
+    ∙ ap (entry_or rows k) (get_or-replicate size k 0 0 below)
+    ∙ entry_or_zero rows k)
 
 -- rows were written into a list of zeros, and `left` is still to come of `all` the outcomes
 pub record IsFilling (size : ℕ) (all : List (Result (ℕ × ℕ) IndexFault)) (list : List ℕ) (left : List (Result (ℕ × ℕ) IndexFault)) : Type 0 where

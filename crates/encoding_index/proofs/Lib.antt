@@ -4,6 +4,7 @@ pub mod SkippedLines
 pub mod OutcomeLists
 pub mod FlatLists
 pub mod RowLists
+pub mod RisingRows
 pub mod ResultCases
 pub mod LoadAnswers
 pub mod WrittenRows

@@ -1,21 +1,23 @@
 -- The entries of a list of rows.
-use Rattle.std.proofs.Common.{◌≡◌, ◌≢◌, ℕ, zero, suc, ◌+◌, ◌<◌, ◌≤◌, false, eqb, List, [], ◌∷◌, length, get_or, inl, inr, refl, sym, subst, ◌∙◌, arith}
+use Rattle.std.proofs.Common.{◌≡◌, ◌≢◌, ℕ, zero, suc, ◌+◌, ◌<◌, ◌≤◌, false, eqb, List, [], ◌∷◌, length, get_or, inl, inr, refl, ◌∙◌, arith}
 use Rattle.std.specs.Prelude.{All}
 use Rattle.std.proofs.Math.ListN.{get_or-eq_default}
 use Rattle.std.proofs.lemmas.Bool.{cases_lt}
 use Rattle.std.proofs.lemmas.Bool.Decides.{nat_tests}
 use Rattle.std.proofs.lemmas.List.FromFn.{get_or-map-range_with_len, length-map-range_with_len}
-use Rattle.encoding_index.specs.IndexText.{lines_in, text_rows, flat_list, code_at}
+use Rattle.encoding_tables.specs.PackedRows.{entry_at, flat_list}
+use Rattle.encoding_index.specs.IndexText.{text_rows}
 use Rattle.encoding_index.specs.ListLaws.{IsListOf, ListsAreOfRows}
-use Rattle.encoding_index.proofs.OutcomeLists.{AreRising, first_fault_is, rows_rise, rows_read_is}
+use Rattle.encoding_index.proofs.OutcomeLists.{AreRising}
+use Rattle.encoding_index.proofs.RisingRows.{text_rows_rise}
 
 length-flat_list : (size : ℕ) (rows : List (ℕ × ℕ)) → length (flat_list size rows) ≡ size
-length-flat_list size rows = length-map-range_with_len (code_at rows) 0 size
+length-flat_list size rows = length-map-range_with_len (entry_at rows) 0 size
 
-entry_within : (size : ℕ) (rows : List (ℕ × ℕ)) (pointer : ℕ) → pointer < size → get_or (flat_list size rows) pointer 0 ≡ code_at rows pointer
-entry_within size rows pointer below = get_or-map-range_with_len (code_at rows) 0 size pointer pointer 0 below (omega arith)
+entry_within : (size : ℕ) (rows : List (ℕ × ℕ)) (pointer : ℕ) → pointer < size → get_or (flat_list size rows) pointer 0 ≡ entry_at rows pointer
+entry_within size rows pointer below = get_or-map-range_with_len (entry_at rows) 0 size pointer pointer 0 below (omega arith)
 
-entry_of_none : (rows : List (ℕ × ℕ)) (pointer : ℕ) → All (λ row. row.0 ≢ pointer) rows → code_at rows pointer ≡ 0
+entry_of_none : (rows : List (ℕ × ℕ)) (pointer : ℕ) → All (λ row. row.0 ≢ pointer) rows → entry_at rows pointer ≡ 0
 entry_of_none [] pointer none = refl
 entry_of_none (row ∷ rows) pointer none =
     let other : row.0 ≢ pointer = none 0 row (omega arith) in
@@ -25,7 +27,7 @@ entry_of_none (row ∷ rows) pointer none =
 record IsEntry (size least : ℕ) (rows : List (ℕ × ℕ)) (row : ℕ × ℕ) : Type 0 where
   pub above : least ≤ row.0
   pub below : row.0 < size
-  pub entry : code_at rows row.0 ≡ row.1
+  pub entry : entry_at rows row.0 ≡ row.1
 
 entry_of_row : (size least : ℕ) (rows : List (ℕ × ℕ)) (k : ℕ) (d : ℕ × ℕ) → AreRising size least rows → k < length rows → IsEntry size least rows (get_or rows k d)
 entry_of_row size least [] k d rising within = absurd (omega arith)
@@ -49,7 +51,4 @@ list_of_rows size least rows rising = record {
 }
 
 pub lists_are_of_rows : ListsAreOfRows
-lists_are_of_rows size text none =
-    let lines = lines_in text in
-    let read = rows_read_is size 0 0 lines (sym (first_fault_is size 0 0 [] lines refl refl) ∙ none) in
-    list_of_rows size 0 (text_rows text) (subst (AreRising size 0) read (rows_rise size 0 0 lines))
+lists_are_of_rows size text none = list_of_rows size 0 (text_rows text) (text_rows_rise size text none)

@@ -5,11 +5,12 @@ use Rattle.std.specs.Option.{MatchOption, option_map, option_or}
 use Rattle.std.specs.Result.{IsErrAnd}
 use Rattle.encoding_tables.specs.Kinds.{size_of, is_ranges}
 use Rattle.encoding_tables.specs.IndexLists.{IndexLists, has}
+use Rattle.encoding_tables.specs.PackedRows.{flat_list}
 use Rattle.encoding_tables.specs.TableFaults.{flat_fault}
 use Rattle.encoding_tables.specs.declared.index_kind.IndexKind.{IndexKind}
 use Rattle.encoding_tables.specs.declared.table_fault.TableFault.{TableFault}
 use Rattle.encoding_tables.specs.declared.table_fault.TableFault.TheVariants.{Memory}
-use Rattle.encoding_index.specs.IndexText.{first_fault, text_list, out_of_memory}
+use Rattle.encoding_index.specs.IndexText.{first_fault, text_rows, out_of_memory}
 use Rattle.encoding_index.specs.Loads.{table_fault, load_fault, WantsMemory}
 use Rattle.encoding_index.proofs.ResultCases.{err_is}
 use Rattle.encoding_index.specs.declared.fault.IndexFault.{IndexFault}
@@ -60,11 +61,13 @@ answers_insert (Some f) (Err fault) result told follows =
     inl (follows ∙ ap (λ f. Err (Table f)) same)
 
 -- the text of a list was read
-pub answers_list : (tables : IndexLists) (kind : IndexKind) (text list : List ℕ) (inserted : Result Done TableFault) (result : Result Done LoadFault) → is_ranges kind ≡ false
-    → first_fault (size_of kind) text ≡ None → list ≡ text_list (size_of kind) text
-    → MatchOption (flat_fault (has tables kind) kind list) ((inserted ≡ Ok tt) ⊎ (inserted ≡ Err Memory)) (λ f. inserted ≡ Err f) → Follows inserted result
+pub answers_rows : (tables : IndexLists) (kind : IndexKind) (text : List ℕ) (rows : List (ℕ × ℕ)) (inserted : Result Done TableFault) (result : Result Done LoadFault) → is_ranges kind ≡ false
+    → first_fault (size_of kind) text ≡ None → rows ≡ text_rows text
+    → MatchOption (flat_fault (has tables kind) kind (flat_list (size_of kind) rows)) ((inserted ≡ Ok tt) ⊎ (inserted ≡ Err Memory)) (λ f. inserted ≡ Err f)
+    → Follows inserted result
     → Answers (load_fault tables kind text) result
-answers_list tables kind text list inserted result listed none same told follows =
+answers_rows tables kind text rows inserted result listed none same told follows =
+    let list = flat_list (size_of kind) rows in
     let flat : table_fault tables kind text ≡ flat_fault (has tables kind) kind list = rw (listed, ← same) refl in
     let fault = load_fault-text tables kind text None listed none ∙ ap (option_map Table) flat in
     subst (λ o. Answers o result) (sym fault) (answers_insert (flat_fault (has tables kind) kind list) inserted result told follows)

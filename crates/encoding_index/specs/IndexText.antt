@@ -1,8 +1,9 @@
 -- A whole index text (the Encoding Standard, section 5, "Indexes"): its lines, its rows, its first fault, and the list that it stands for.
-use Rattle.std.specs.Prelude.{ℕ, ◌+◌, ◌==◌, nat_eq, nat_lt, if◌then◌else◌, List, [], ◌∷◌, ◌++◌, length, map, drop, Option, Some, None}
-use Rattle.std.specs.List.{starts_with, filter_map, last_or, range_with_len}
+use Rattle.std.specs.Prelude.{ℕ, ◌+◌, nat_eq, nat_lt, if◌then◌else◌, List, [], ◌∷◌, ◌++◌, length, drop, Option, Some, None}
+use Rattle.std.specs.List.{starts_with, filter_map, last_or}
 use Rattle.std.specs.Option.{option_map_or}
 use Rattle.std.specs.Str.Lines.{lines}
+use Rattle.encoding_tables.specs.PackedRows.{flat_list}
 use Rattle.encoding_index.specs.IndexLine.{is_skipped, row_in}
 use Rattle.encoding_index.specs.declared.fault.IndexFault.{IndexFault}
 use Rattle.encoding_index.specs.declared.fault.IndexFaultKind.{IndexFaultKind}
@@ -51,15 +52,6 @@ first_fault_behind size before (line ∷ after) =
 -- the first fault of a text, where pointers below `size` are right
 abbrev pub first_fault : ℕ → List ℕ → Option IndexFault
 first_fault size text = first_fault_behind size [] (lines_in text)
-
--- the code point of the row with this pointer, or 0 where no row has it
-abbrev pub code_at : List (ℕ × ℕ) → ℕ → ℕ
-code_at [] pointer = 0
-code_at (row ∷ rows) pointer = if row.0 == pointer then row.1 else code_at rows pointer
-
--- the list of rows: for each pointer below `size` its code point
-abbrev pub flat_list : ℕ → List (ℕ × ℕ) → List ℕ
-flat_list size rows = map (code_at rows) (range_with_len 0 size)
 
 -- the rows of a text
 abbrev pub text_rows : List ℕ → List (ℕ × ℕ)

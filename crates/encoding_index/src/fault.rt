@@ -19,7 +19,7 @@ pub enum IndexFaultKind {
     /// ranges above 1237575.
     #[error("the index has no such pointer")]
     Pointer,
-    /// There was no memory for the list, or for one more row of the ranges.
+    /// There was no memory for the list, or for one more row.
     #[error("out of memory")]
     Memory,
 }

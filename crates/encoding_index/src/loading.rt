@@ -3,14 +3,14 @@ ghost use Rattle.encoding_index.specs.IndexText.{out_of_memory};
 ghost use Rattle.encoding_index.specs.Loads.{load_fault, Loads, KeepsOthers, WantsMemory};
 
 use crate::fault::LoadFault;
-use crate::reading::{read_index, read_ranges};
+use crate::reading::{read_ranges, rows_below};
 use encoding_tables::{IndexKind, Tables};
 use std::alloc::Global;
 
 /// Reads the text of an index and puts what it stands for into the tables.
 ///
 /// The text is read whole before the tables are asked, so a faulty text is named also where the index is
-/// there already. After a fault the tables are as they were.
+/// there already. After a fault the tables are as they were. While it reads, it asks for memory row by row.
 pub fn load(
     alloc: Global,
     tables: &mut Tables,
@@ -28,8 +28,8 @@ pub fn load(
         let rows = read_ranges(alloc, text)?;
         tables.insert_ranges(&rows)?;
     } else {
-        let list = read_index(alloc, kind, text)?;
-        tables.insert(kind, &list)?;
+        let rows = rows_below(alloc, text, kind.size() as u32)?;
+        tables.insert_rows(kind, &rows)?;
     }
     Ok(())
 }

@@ -42,8 +42,23 @@ pub fn read_ranges(alloc: Global, text: &[u8]) -> Result<Vec<(u32, u32)>, IndexF
         ⊎ (fault ≡ out_of_memory)) }
     ensures grows { text_rows text.now ≡ [] → result ≢ Err out_of_memory }
 {
+    rows_below(alloc, text, RANGE_POINTERS)
+}
+
+/// Reads the rows of a text, where pointers are to be below `size`. Asks for memory row by row.
+pub(crate) fn rows_below(
+    alloc: Global,
+    text: &[u8],
+    size: u32,
+) -> Result<Vec<(u32, u32)>, IndexFault>
+    ensures rows { IfOk result (λ rows. (first_fault size text.now ≡ None)
+        × (rows.items ≡ text_rows text.now)) }
+    ensures fault { IfErr result (λ fault. (first_fault size text.now ≡ Some fault)
+        ⊎ (fault ≡ out_of_memory)) }
+    ensures grows { text_rows text.now ≡ [] → result ≢ Err out_of_memory }
+{
     let mut rows = Vec::new(alloc);
-    for row in IndexRows::new(text, RANGE_POINTERS) {
+    for row in IndexRows::new(text, size) {
         rows.push(row?)?;
     }
     Ok(rows)

@@ -2,7 +2,7 @@ use crate::fault::{IndexFault, IndexFaultKind, LoadFault};
 use crate::loading::load;
 use crate::reading::{read_index, read_ranges};
 use encoding_tables::{IndexKind, TableFault, Tables};
-use std::alloc::Global;
+use std::alloc::{AllocError, Global};
 use std::test::Fail;
 
 // What is wrong with the text of a single-byte index.
@@ -155,4 +155,124 @@ fn a_load_takes_ranges(rt: HostRuntime) {
     if tables.has(kind) {
         assert_eq!(rt; tables.range_value(1237575), Some('\u{10FFFF}'));
     }
+}
+
+// The answer to a text with this fault.
+fn text_fault(line: usize, kind: IndexFaultKind) -> LoadFault {
+    LoadFault::Text(IndexFault { line, kind })
+}
+
+// A text with a row for each pointer below `size`, to U+4E00 and the code points behind it.
+fn full_text(alloc: Global, size: u32) -> Result<String, AllocError> {
+    let mut text = String::new(alloc);
+    for pointer in 0..size {
+        writeln!(text, "{pointer}\t0x{:04X}", u64::from(pointer) + 0x4E00)?;
+    }
+    Ok(text)
+}
+
+#[test]
+fn a_load_takes_a_row_for_each_pointer(rt: HostRuntime) -> Result<(), Fail> {
+    let mut tables = Tables::new(rt.alloc());
+    let kind = IndexKind::EucKr;
+    let text = full_text(rt.alloc(), 23940)?;
+    assert_eq!(rt;
+        load(rt.alloc(), &mut tables, kind, text.as_bytes()),
+        Ok(())
+    );
+    assert!(rt; tables.has(kind));
+    assert_eq!(rt; tables.value(kind, 0), Some('\u{4E00}'));
+    assert_eq!(rt; tables.value(kind, 1), Some('\u{4E01}'));
+    assert_eq!(rt; tables.value(kind, 23939), Some('\u{AB83}'));
+    assert_eq!(rt; tables.value(kind, 23940), None);
+    assert_eq!(rt;
+        tables.first_pointer(kind, '\u{AB83}', 0, 23940),
+        Some(23939)
+    );
+    let longer = full_text(rt.alloc(), 23941)?;
+    assert_eq!(rt;
+        load_alone(rt.alloc(), kind, longer.as_bytes()),
+        Err(text_fault(23941, IndexFaultKind::Pointer))
+    );
+    Ok(())
+}
+
+#[test]
+fn a_load_maps_the_pointers_of_rows_alone(rt: HostRuntime) {
+    let mut tables = Tables::new(rt.alloc());
+    let kind = IndexKind::Big5;
+    let text = b"5000\t0x4E00\n7000\t0x4E00\n19781\t0x4E00";
+    assert_eq!(rt; load(rt.alloc(), &mut tables, kind, text), Ok(()));
+    assert!(rt; tables.has(kind));
+    assert_eq!(rt; tables.value(kind, 4999), None);
+    assert_eq!(rt; tables.value(kind, 7000), Some('\u{4E00}'));
+    assert_eq!(rt; tables.value(kind, 19781), Some('\u{4E00}'));
+    let c = '\u{4E00}';
+    assert_eq!(rt; tables.first_pointer(kind, c, 0, 19782), Some(5000));
+    assert_eq!(rt; tables.last_pointer(kind, c, 0, 19782), Some(19781));
+    assert_eq!(rt; tables.last_pointer(kind, c, 0, 19781), Some(7000));
+}
+
+// The characters of an index, or none where it is not there.
+fn characters(
+    alloc: Global,
+    tables: &Tables,
+    kind: IndexKind,
+) -> Result<Vec<Option<char>>, AllocError> {
+    let mut characters = Vec::new(alloc);
+    if !kind.is_ranges() && tables.has(kind) {
+        for pointer in 0..kind.size() as u32 {
+            characters.push(tables.value(kind, pointer))?;
+        }
+    }
+    Ok(characters)
+}
+
+#[test]
+fn a_text_without_rows_maps_nothing(rt: HostRuntime) -> Result<(), Fail> {
+    let mut tables = Tables::new(rt.alloc());
+    let kind = IndexKind::Jis0212;
+    assert_eq!(rt; load(rt.alloc(), &mut tables, kind, b""), Ok(()));
+    let nothing = std::vec![in rt.alloc(); None; 8836]?;
+    assert_eq!(rt;
+        characters(rt.alloc(), &tables, kind)?.as_slice(),
+        nothing.as_slice()
+    );
+    assert_eq!(rt;
+        load(rt.alloc(), &mut tables, kind, b"# x\n"),
+        Err(LoadFault::Table(TableFault::Present))
+    );
+    Ok(())
+}
+
+#[test]
+fn a_refused_load_changes_no_index(rt: HostRuntime) -> Result<(), Fail> {
+    let mut tables = Tables::new(rt.alloc());
+    let (there, absent) = (IndexKind::Koi8R, IndexKind::EucKr);
+    let text = b"0\t0x2500\n127\t0x042A";
+    assert_eq!(rt; load(rt.alloc(), &mut tables, there, text), Ok(()));
+    let before = characters(rt.alloc(), &tables, there)?;
+    assert_eq!(rt; before.first(), Some(&Some('\u{2500}')));
+    assert_eq!(rt; before.last(), Some(&Some('\u{42A}')));
+    let cases: [(IndexKind, &[u8], LoadFault); 4] = [
+        (there, b"0\t0x2502\nx", text_fault(2, IndexFaultKind::Row)),
+        (there, b"0\t0x2502", LoadFault::Table(TableFault::Present)),
+        (
+            absent,
+            b"0\t0xAC00\n0\t0xAC01",
+            text_fault(2, IndexFaultKind::Order),
+        ),
+        (
+            absent,
+            b"0\t0xAC00\n1\t0x0041",
+            LoadFault::Table(TableFault::Entry(1)),
+        ),
+    ];
+    for (kind, text, fault) in cases {
+        assert_eq!(rt; load(rt.alloc(), &mut tables, kind, text), Err(fault));
+        assert!(rt; !tables.has(absent));
+        let after = characters(rt.alloc(), &tables, there)?;
+        assert_eq!(rt; after.as_slice(), before.as_slice());
+    }
+    Ok(())
 }

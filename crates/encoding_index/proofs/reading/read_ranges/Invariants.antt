@@ -1,9 +1,0 @@
-use Rattle.encoding_index.specs.IndexText.{lines_in}
-use Rattle.encoding_index.specs.Outcomes.{outcomes}
-use Rattle.encoding_index.specs.RowsLeft.{outcomes_left}
-use Rattle.encoding_index.proofs.RowLists.{IsGathering}
-use Rattle.encoding_index.specs.declared.reading.TheConstants.{RANGE_POINTERS}
-use Rattle.encoding_index.proofs.reading.read_ranges.Given as goal
-
-abbrev pub invariant-loop-row : goal.invariant-loop-row
-invariant-loop-row l = IsGathering (outcomes RANGE_POINTERS 0 0 (lines_in l.fn.text)) l.rows.items (outcomes_left l.row-iterator)
