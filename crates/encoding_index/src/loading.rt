@@ -10,7 +10,8 @@ use std::alloc::Global;
 /// Reads the text of an index and puts what it stands for into the tables.
 ///
 /// The text is read whole before the tables are asked, so a faulty text is named also where the index is
-/// there already. After a fault the tables are as they were. While it reads, it asks for memory row by row.
+/// there already. After a fault the tables are as they were. While it reads, it asks for memory row by
+/// row: want of that is `Text` with line 0, want of the tables' own memory is `Table`.
 pub fn load(
     alloc: Global,
     tables: &mut Tables,

@@ -32,7 +32,7 @@ impl Model for PackedIndex {
 }
 
 impl PackedIndex {
-    /// The index of a list. It takes all its memory before it answers.
+    /// The index of a list.
     pub(crate) fn from_list(alloc: Global, list: &[u32]) -> Result<Self, AllocError>
         requires { length list.now < 2 ^ 16 }
         ensures { IfOk result (λ index. index ≡ list.now) }

@@ -20,12 +20,16 @@ fn joined(row: (u32, u32)) -> u64
     row.0 as u64 * (1 << 32) + row.1 as u64
 }
 
-/// How many of some rows are below `key`, and how many rows were compared with it: at most the number of
-/// binary digits of how many rows there are.
+/// How many of some rows are below `key`, which is the place of the first row that is not, where there is
+/// one; and how many rows were compared with it: at most the number of binary digits of how many rows
+/// there are.
 ///
 /// A row is below another by its first number, and by the second where the first are equal. The rows rise
-/// strictly in this order, which `rows.windows(2).all(|pair| pair[0] < pair[1])` tests; no rows and one
-/// row do.
+/// strictly in this order, which no rows and one row do. A comparison of neighbours tests it:
+///
+///     rows.windows(2).all(|pair| {
+///         pair[0].0 < pair[1].0 || pair[0].0 == pair[1].0 && pair[0].1 < pair[1].1
+///     })
 #[inline(always)]
 pub fn search(rows: &[(u32, u32)], key: (u32, u32)) -> (usize, u32)
     requires { AreRising rows.now }

@@ -101,10 +101,12 @@ impl Tables {
     }
 
     /// Takes the list of a kind by its rows, each a pointer and an entry: the list has 0 at the pointers of
-    /// no row. Accepts and refuses as [`Tables::insert`] does for that list.
+    /// no row, so no rows stand for the list of zeros. Accepts and refuses as [`Tables::insert`] does for
+    /// that list, whose size is right: the fault is any but `Size` and `Ranges`, and then nothing changes.
     ///
-    /// Pointers rise from row to row, which `rows.windows(2).all(|pair| pair[0].0 < pair[1].0)` tests, and
-    /// are below the kind's `size`. No rows are rows of the list of zeros.
+    /// The kind is one for which [`IndexKind::is_ranges`] is false. Pointers rise from row to row, which
+    /// `rows.windows(2).all(|pair| pair[0].0 < pair[1].0)` tests, and are below the kind's size, which
+    /// `rows.iter().all(|row| (row.0 as usize) < kind.size())` tests.
     pub fn insert_rows(&mut self, kind: IndexKind, rows: &[(u32, u32)]) -> Result<(), TableFault>
         requires listed { is_ranges kind ≡ false }
         requires rise { PointersRise rows.now }
