@@ -23,7 +23,6 @@ enum Answer {
 #[derive(Clone, Copy)]
 enum Call {
     Insert,
-    InsertRows,
     InsertRanges,
     ReadIndex,
     ReadRanges,
@@ -46,9 +45,8 @@ enum Marks {
     KeptInGoodText,
 }
 
-const CALLS: [(&str, Call); 16] = [
+const CALLS: [(&str, Call); 15] = [
     ("insert", Call::Insert),
-    ("insert_rows", Call::InsertRows),
     ("insert_ranges", Call::InsertRanges),
     ("read_index", Call::ReadIndex),
     ("read_ranges", Call::ReadRanges),
@@ -97,43 +95,7 @@ fn range_character(tables: &Tables) -> Answer {
     }
 }
 
-// An index that is there before each call, and its rows.
-const OTHER: IndexKind = IndexKind::Koi8R;
-
-const OTHER_ROWS: [(u32, u32); 3] = [(3, 0x2500), (64, 0x44E), (127, 0x2500)];
-
-fn insert_other(tables: &mut Tables) -> Result<(), Answer> {
-    if tables.has(OTHER) {
-        return Ok(());
-    }
-    match tables.insert_rows(OTHER, &OTHER_ROWS) {
-        Ok(()) => Ok(()),
-        Err(TableFault::Memory) => Err(refused(tables)),
-        Err(_) => Err(Answer::Wrong),
-    }
-}
-
-// Whether the other index has its rows, and nothing else.
-fn has_other(tables: &Tables) -> bool {
-    if !tables.has(OTHER) {
-        return false;
-    }
-    for pointer in 0..128 {
-        let entry = match pointer {
-            3 | 127 => Some('\u{2500}'),
-            64 => Some('\u{44E}'),
-            _ => None,
-        };
-        if tables.value(OTHER, pointer) != entry {
-            return false;
-        }
-    }
-    tables.first_pointer(OTHER, '\u{2500}', 0, 128) == Some(3)
-        && tables.last_pointer(OTHER, '\u{2500}', 0, 128) == Some(127)
-        && tables.first_pointer(OTHER, '\u{44E}', 0, 128) == Some(64)
-}
-
-// A refusal leaves the tables without what was asked for.
+// A refusal leaves the tables empty.
 fn refused(tables: &Tables) -> Answer {
     if tables.has(KIND) || tables.has(IndexKind::Gb18030Ranges) {
         Answer::Wrong
@@ -146,14 +108,6 @@ fn insert(tables: &mut Tables) -> Answer {
     let mut list = [0; 128];
     list[105] = 0xE9;
     match tables.insert(KIND, &list) {
-        Ok(()) => character(tables),
-        Err(TableFault::Memory) => refused(tables),
-        Err(_) => Answer::Wrong,
-    }
-}
-
-fn insert_rows(tables: &mut Tables) -> Answer {
-    match tables.insert_rows(KIND, &[(0, 0x20AC), (100, 0), (105, 0xE9)]) {
         Ok(()) => character(tables),
         Err(TableFault::Memory) => refused(tables),
         Err(_) => Answer::Wrong,
@@ -306,23 +260,9 @@ fn decoded(alloc: Global, tables: &Tables, marks: Marks) -> Answer {
 }
 
 impl Call {
-    // Makes the call in tables with another index, which has to be there as it was afterwards.
     fn make(self, alloc: Global, tables: &mut Tables) -> Answer {
-        if let Err(answer) = insert_other(tables) {
-            return answer;
-        }
-        let answer = self.answer(alloc, tables);
-        if has_other(tables) {
-            answer
-        } else {
-            Answer::Wrong
-        }
-    }
-
-    fn answer(self, alloc: Global, tables: &mut Tables) -> Answer {
         match self {
             Call::Insert => insert(tables),
-            Call::InsertRows => insert_rows(tables),
             Call::InsertRanges => insert_ranges(tables),
             Call::ReadIndex => index_list(alloc),
             Call::ReadRanges => range_rows(alloc),
