@@ -75,6 +75,7 @@ impl PackedIndex {
     pub(crate) fn value(&self, pointer: u32) -> Option<u32>
         ensures { result ≡ value_of self.now pointer }
     {
+        // The directory leaves one row at most, since pointers differ: reading costs one comparison.
         let (begin, end) = self.by_pointer.span(pointer);
         if begin == end {
             return None;
