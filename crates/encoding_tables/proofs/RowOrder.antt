@@ -27,9 +27,6 @@ below_below r s key a b = elim (below_cases r s a) [
   | inr x ↦ elim (below_cases s key b) [ inl y ↦ below_first r key (omega (arith, x.0)) | inr y ↦ below_second r key (omega (arith, x.0, y.0)) (omega (arith, x.1, y.1)) ]
 ]
 
-pub not_below_itself : (r : ℕ × ℕ) → ¬ (IsBelow r r)
-not_below_itself r e = elim (below_cases r r e) [ inl less ↦ omega arith | inr same ↦ omega (arith, same.1) ]
-
 -- each row is below all that stand after it
 far : (rows : List (ℕ × ℕ)) → AreRising rows → (i n : ℕ) → i + suc n < length rows → IsBelow (row_at rows i) (row_at rows (i + suc n))
 far rows rise i zero within =
