@@ -48,6 +48,7 @@ impl<'a> Big5<'a> {
     }
 
     // The pointer that is written for a character.
+    #[inline(always)]
     fn pointer_of(&self, c: char) -> Option<u32>
         ensures pointer { result ≡ big5_find self.now.flat c }
         ensures before { IfSome result (λ p. p < 19782) }
@@ -61,6 +62,7 @@ impl<'a> Big5<'a> {
 }
 
 // Whether a character that stands at two pointers is written by the last.
+#[inline(always)]
 fn takes_last(c: char) -> bool
     ensures { result ≡ takes_last c }
 {
@@ -73,6 +75,7 @@ fn takes_last(c: char) -> bool
 }
 
 // The trail of a pointer, by its rest.
+#[inline(always)]
 fn trail_of(rest: u8) -> u8
     requires { rest < 157 }
     ensures { result ≡ big5_trail rest }
@@ -114,6 +117,7 @@ impl<'a> Forms for Big5<'a> {
 
     ghost ascii = { λ s. ascii_by_pointer big5_bytes (big5_find s.flat) };
 
+    #[inline(always)]
     fn form_of(&self, c: char) -> Form {
         if c < '\u{80}' {
             return Form::Mapped(Bytes::one(c as u8));

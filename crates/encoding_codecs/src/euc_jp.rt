@@ -187,12 +187,14 @@ impl<'a> Forms for EucJpForms<'a> {
 
     ghost ascii = { λ s. euc_jp_ascii s.jis0208 };
 
+    #[inline(always)]
     fn form_of(&self, c: char) -> Form {
         form_of_bytes(c, bytes_of_char(&self.jis0208, c))
     }
 }
 
 // The bytes of a character.
+#[inline(always)]
 fn bytes_of_char(jis0208: &Flat<'_>, c: char) -> Option<Bytes>
     ensures { result ≡ bytes_of_char jis0208.now c }
 {
@@ -206,6 +208,7 @@ fn bytes_of_char(jis0208: &Flat<'_>, c: char) -> Option<Bytes>
 }
 
 // The bytes of a character that is not looked up.
+#[inline(always)]
 fn own_bytes(c: char) -> Option<Bytes>
     ensures { result ≡ own_bytes c }
 {
@@ -223,6 +226,7 @@ fn own_bytes(c: char) -> Option<Bytes>
 }
 
 // The lead and the trail of a pointer.
+#[inline(always)]
 fn bytes_of_pointer(pointer: u32) -> Bytes
     requires { pointer < 8836 }
     ensures { result ≡ bytes_of_pointer pointer }

@@ -58,6 +58,7 @@ impl<'a> Forms for EucKr<'a> {
 
     ghost ascii = { λ s. ascii_by_pointer euc_kr_bytes (λ c. first_pointer s.flat c 0 23940) };
 
+    #[inline(always)]
     fn form_of(&self, c: char) -> Form {
         if c < '\u{80}' {
             return Form::Mapped(Bytes::one(c as u8));

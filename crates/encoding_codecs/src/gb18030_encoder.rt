@@ -34,14 +34,17 @@ impl<'a> Target for Gb18030Target<'a> {
 
     ghost fits = { λ s. gb18030_fits s.index s.ranges s.extended_range };
 
+    #[inline(always)]
     fn step(&self, _set: Set, c: char) -> (Set, Form) {
         (Set::Ascii, form_of_bytes(c, self.bytes_of(c)))
     }
 
+    #[inline(always)]
     fn copies_ascii(&self, set: Set) -> bool {
         matches!(set, Set::Ascii)
     }
 
+    #[inline(always)]
     fn escape(&self, _from: Set, _to: Set) -> Bytes {
         Bytes::none()
     }
@@ -49,6 +52,7 @@ impl<'a> Target for Gb18030Target<'a> {
 
 impl<'a> Gb18030Target<'a> {
     // The bytes of a character, if it has any.
+    #[inline(always)]
     fn bytes_of(&self, c: char) -> Option<Bytes>
         ensures { result ≡ gb18030_bytes self.now.index self.now.ranges self.now.extended_range c }
     {
@@ -78,6 +82,7 @@ impl<'a> Gb18030Target<'a> {
 }
 
 // The lead and the trail of the private-use characters that keep their bytes of the edition of 2005.
+#[inline(always)]
 fn fixed_pair(c: char) -> Option<(u8, u8)>
     ensures { result ≡ fixed_pair c }
 {
@@ -105,6 +110,7 @@ fn fixed_pair(c: char) -> Option<(u8, u8)>
 }
 
 // The lead and the trail of a pointer of the index: a lead has 190, and the trails leave out 7F.
+#[inline(always)]
 fn pair_bytes(pointer: u32) -> Bytes
     requires { pointer < 23940 }
     ensures { result ≡ pair_bytes pointer }
@@ -115,6 +121,7 @@ fn pair_bytes(pointer: u32) -> Bytes
 }
 
 // The four bytes of a pointer of the ranges: ten digits, 126 leads, ten digits for a lead.
+#[inline(always)]
 fn four_bytes(pointer: u32) -> Bytes
     requires { pointer < 1237576 }
     ensures { result ≡ four_bytes pointer }

@@ -26,6 +26,7 @@ struct Iso2022Jp<'a> {
 impl<'a> Iso2022Jp<'a> {
     // What is looked up for a character: a half-width katakana as its full-width one, and the minus sign as
     // the full-width hyphen.
+    #[inline(always)]
     fn looked_up(&self, c: char) -> Option<char>
         ensures { result ≡ looked_up self.now.katakana c }
     {
@@ -37,6 +38,7 @@ impl<'a> Iso2022Jp<'a> {
     }
 
     // The least pointer of a character.
+    #[inline(always)]
     fn pointer(&self, c: char) -> Option<u32>
         ensures pointer { result ≡ pointer_of_char self.now.jis0208 self.now.katakana c }
         ensures before { IfSome result (λ p. p < 8836) }
@@ -59,6 +61,7 @@ impl<'a> Target for Iso2022Jp<'a> {
 
     ghost fits = { λ s. iso_2022_jp_fits s.jis0208 s.katakana };
 
+    #[inline(always)]
     fn step(&self, set: Set, c: char) -> (Set, Form) {
         if c < '\u{80}' {
             let next = if c == '\\' || c == '~' {
@@ -80,10 +83,12 @@ impl<'a> Target for Iso2022Jp<'a> {
         }
     }
 
+    #[inline(always)]
     fn copies_ascii(&self, _set: Set) -> bool {
         false
     }
 
+    #[inline(always)]
     fn escape(&self, from: Set, to: Set) -> Bytes {
         if is_set(from, to) {
             return Bytes::none();
@@ -96,6 +101,7 @@ impl<'a> Target for Iso2022Jp<'a> {
     }
 }
 
+#[inline(always)]
 fn is_set(a: Set, b: Set) -> bool
     ensures { result ≡ is_set a b }
 {
@@ -106,6 +112,7 @@ fn is_set(a: Set, b: Set) -> bool
 }
 
 // The set of a character that may be written in ASCII and in Roman.
+#[inline(always)]
 fn ascii_or_roman(set: Set) -> Set
     ensures { result ≡ set_after ascii_or_roman set }
 {
@@ -116,6 +123,7 @@ fn ascii_or_roman(set: Set) -> Set
 }
 
 // A control that would read as a shift or an escape is not written.
+#[inline(always)]
 fn ascii_form(c: u8) -> Form
     ensures { result ≡ ascii_form c }
 {
@@ -126,6 +134,7 @@ fn ascii_form(c: u8) -> Form
 }
 
 // The two bytes of a pointer.
+#[inline(always)]
 fn pair(pointer: u32) -> Bytes
     requires { pointer < 8836 }
     ensures { result ≡ (0x21 + pointer / 94) ∷ (0x21 + pointer % 94) ∷ [] }

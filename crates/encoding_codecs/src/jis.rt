@@ -21,6 +21,7 @@ pub(crate) fn katakana_of_byte(byte: u8) -> char
 }
 
 // Whether a character is halfwidth katakana.
+#[inline(always)]
 pub(crate) fn is_katakana(c: char) -> bool
     ensures { result ≡ is_katakana c }
 {
@@ -28,6 +29,7 @@ pub(crate) fn is_katakana(c: char) -> bool
 }
 
 // The byte of halfwidth katakana.
+#[inline(always)]
 pub(crate) fn byte_of_katakana(c: char) -> u8
     requires { is_katakana c ≡ true }
     ensures { result ≡ byte_of_katakana c }
@@ -36,6 +38,7 @@ pub(crate) fn byte_of_katakana(c: char) -> u8
 }
 
 // The character that is looked up for a character.
+#[inline(always)]
 pub(crate) fn folded(c: char) -> char
     ensures { result ≡ folded c }
 {

@@ -68,6 +68,7 @@ impl<'a> Forms for ShiftJis<'a> {
 
     ghost ascii = { λ s. shift_jis_ascii s.jis0208 };
 
+    #[inline(always)]
     fn form_of(&self, c: char) -> Form {
         form_of_bytes(c, bytes_of_char(&self.jis0208, c))
     }
@@ -115,6 +116,7 @@ fn private_use(place: u32) -> char
 }
 
 // The bytes of a character.
+#[inline(always)]
 fn bytes_of_char(jis0208: &Flat<'_>, c: char) -> Option<Bytes>
     ensures { result ≡ bytes_of_char jis0208.now c }
 {
@@ -128,6 +130,7 @@ fn bytes_of_char(jis0208: &Flat<'_>, c: char) -> Option<Bytes>
 }
 
 // The byte of a character that is one byte.
+#[inline(always)]
 fn byte_of_char(c: char) -> Option<u8>
     ensures { result ≡ byte_of_char c }
 {
@@ -146,6 +149,7 @@ fn byte_of_char(c: char) -> Option<u8>
 
 // The pointer that is written for a character. Those from 8272 to 8835 are not used: in the standard's
 // index what they hold stands at others too.
+#[inline(always)]
 fn pointer_of_char(jis0208: &Flat<'_>, c: char) -> Option<u32>
     ensures pointer { result ≡ shift_jis_pointer jis0208.now c }
     ensures before { IfSome result (λ p. p < 11280) }
@@ -157,6 +161,7 @@ fn pointer_of_char(jis0208: &Flat<'_>, c: char) -> Option<u32>
 }
 
 // The lead and the trail of a pointer.
+#[inline(always)]
 fn bytes_of_pointer(pointer: u32) -> Bytes
     requires { pointer < 11280 }
     ensures { result ≡ bytes_of_pointer pointer }

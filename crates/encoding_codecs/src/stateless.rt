@@ -55,14 +55,17 @@ impl<T: Forms> Target for Stateless<T> {
 
     ghost fits = { λ s. two_byte_fits (T.form s.forms) (T.coding s.forms) (T.ascii s.forms) };
 
+    #[inline(always)]
     fn step(&self, _set: Set, c: char) -> (Set, Form) {
         (Set::Ascii, self.forms.form_of(c))
     }
 
+    #[inline(always)]
     fn copies_ascii(&self, set: Set) -> bool {
         matches!(set, Set::Ascii)
     }
 
+    #[inline(always)]
     fn escape(&self, _from: Set, _to: Set) -> Bytes {
         Bytes::none()
     }
@@ -113,6 +116,7 @@ impl<T: Forms> RawEncoder for Stateless<T> {
 }
 
 // The form of a character, by its bytes. One without bytes is reported as it is.
+#[inline(always)]
 pub(crate) fn form_of_bytes(c: char, bytes: Option<Bytes>) -> Form
     ensures { result ≡ form_of_bytes c bytes }
 {

@@ -1,5 +1,5 @@
 -- A run of text that a decoder copies as it is.
-use Rattle.std.specs.Prelude.{ℕ, Bool, List, [], ◌∷◌, length, map, if◌then◌else◌}
+use Rattle.std.specs.Prelude.{ℕ, ◌<◌, Bool, List, [], ◌∷◌, length, map, slice_index, if◌then◌else◌}
 use Rattle.std.specs.Char.{len_utf8}
 use Rattle.std.specs.Str.{chars}
 use Rattle.encoding_mem.specs.Piece.{Piece, good}
@@ -12,3 +12,7 @@ text_pieces cs = map (λ c. good (len_utf8 c) (c ∷ [])) cs
 -- the length of a text in units of 16 bits, or in bytes
 abbrev pub text_len : (is_units : Bool) → List ℕ → ℕ
 text_len is_units text = if is_units then length (encode_utf16_all (chars text)) else length text
+
+-- the second of some bytes or units is there and ASCII
+abbrev pub IsSecondAscii : List ℕ → Type 0
+IsSecondAscii xs = (1 < length xs) × (slice_index xs 1 < 0x80)

@@ -45,7 +45,7 @@ pub trait Target {
 
 // Puts the bytes at a place, where there is room for them, and answers the place behind them.
 #[inline(always)]
-fn put(dst: &mut [u8], at: usize, bytes: &[u8]) -> usize
+fn put_all(dst: &mut [u8], at: usize, bytes: &[u8]) -> usize
     requires { at + length bytes.now ≤ length dst.old }
     ensures end { result ≡ at + length bytes.now }
     ensures front { take result dst.new ≡ take at dst.old ++ bytes.now }
@@ -54,6 +54,25 @@ fn put(dst: &mut [u8], at: usize, bytes: &[u8]) -> usize
     let end = at + bytes.len();
     dst[at..end].copy_from_slice(bytes);
     end
+}
+
+// The same for the few bytes of an escape or of a character: where the compiler knows how many there are, it makes
+// one store of them.
+#[inline(always)]
+fn put(dst: &mut [u8], at: usize, bytes: &[u8]) -> usize
+    requires { at + length bytes.now ≤ length dst.old }
+    ensures end { result ≡ at + length bytes.now }
+    ensures front { take result dst.new ≡ take at dst.old ++ bytes.now }
+    ensures back { drop result dst.new ≡ drop result dst.old }
+{
+    match *bytes {
+        [] => at,
+        [a] => put_all(dst, at, &[a]),
+        [a, b] => put_all(dst, at, &[a, b]),
+        [a, b, c] => put_all(dst, at, &[a, b, c]),
+        [a, b, c, d] => put_all(dst, at, &[a, b, c, d]),
+        _ => put_all(dst, at, bytes),
+    }
 }
 
 // Copies the run of ASCII that is next to a place, as much of it as fits, and answers the place behind it.
@@ -97,7 +116,8 @@ pub fn encode<T: Target, S: Source>(
 {
     let mut written = 0;
     while let Some((c, _)) = source.peek() {
-        if u32::from(c) < 0x80 && written < dst.len() && target.copies_ascii(*set) {
+        let is_run = u32::from(c) < 0x80 && source.is_second_ascii();
+        if is_run && written < dst.len() && target.copies_ascii(*set) {
             written = copy_run(source, dst, written);
             continue;
         }

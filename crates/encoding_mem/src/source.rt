@@ -1,10 +1,11 @@
 // A text that is read from the front.
 
-ghost use Rattle.std.specs.Prelude.{◌≡◌, ℕ, ◌+◌, ◌<◌, ◌≤◌, Bool, true, false, List, [], ◌∷◌, ◌++◌, length, take, drop, slice_index, MatchOption, IfSome};
+ghost use Rattle.std.specs.Prelude.{◌≡◌, ◌↔◌, IsTrue, ℕ, ◌+◌, ◌<◌, ◌≤◌, Bool, true, false, List, [], ◌∷◌, ◌++◌, length, take, drop, slice_index, MatchOption, IfSome};
 ghost use Rattle.std.specs.Str.{chars, IsAscii, IsCharBoundary};
 ghost use Rattle.std.specs.Char.{len_utf8, encode_utf8, IsScalar};
 ghost use Rattle.std.specs.Char.Utf16.{utf16_lossy_chars};
 ghost use Rattle.encoding_mem.specs.Room.{cost_in};
+ghost use Rattle.encoding_mem.specs.Text.{IsSecondAscii};
 ghost use Rattle.encoding_mem.specs.Writing.{len_utf16};
 ghost use Rattle.encoding_mem.specs.TextRoomLaws.{sum_within};
 
@@ -41,6 +42,11 @@ pub trait Source {
         ensures same { all self.new ≡ all self.old }
         ensures next { (c : ℕ) × (text (drop (place self.old) (all self.old)) ≡ c ∷ text (drop (place self.new) (all self.new)))
             × (place self.new ≡ place self.old + cost_in is_units c) };
+
+    /// Whether the second of the bytes or units that are next is ASCII. Where the first is, a run of two
+    /// characters at least is next, which is worth a copy.
+    fn is_second_ascii(&self) -> bool
+        ensures { IsTrue result ↔ IsSecondAscii (drop (place self.now) (all self.now)) };
 
     /// Copies the run of ASCII that is next, as much of it as fits, and goes past it. Answers its length
     /// in characters, which is not 0 where the next character is ASCII and there is room.
@@ -145,6 +151,11 @@ impl<'a> Source for Utf8Source<'a> {
             self.rest = rest;
             self.read += c.len_utf8();
         }
+    }
+
+    #[inline(always)]
+    fn is_second_ascii(&self) -> bool {
+        matches!(self.rest.as_bytes(), [_, b, ..] if *b < 0x80)
     }
 
     fn copy_ascii(&mut self, dst: &mut [u8]) -> usize {
@@ -253,6 +264,11 @@ impl<'a> Source for Utf16Source<'a> {
         if let Some((_, n)) = first_of_units(&self.units[self.place..]) {
             self.place += n;
         }
+    }
+
+    #[inline(always)]
+    fn is_second_ascii(&self) -> bool {
+        matches!(&self.units[self.place..], [_, unit, ..] if *unit < 0x80)
     }
 
     fn copy_ascii(&mut self, dst: &mut [u8]) -> usize {

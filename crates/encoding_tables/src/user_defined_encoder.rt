@@ -29,20 +29,24 @@ impl Target for UserDefined {
 
     ghost fits = { λ _. fits_by_byte byte_of_user_char };
 
+    #[inline(always)]
     fn step(&self, _set: Set, c: char) -> (Set, Form) {
         (Set::Ascii, form_of(c, byte_of(c)))
     }
 
+    #[inline(always)]
     fn copies_ascii(&self, set: Set) -> bool {
         matches!(set, Set::Ascii)
     }
 
+    #[inline(always)]
     fn escape(&self, _from: Set, _to: Set) -> Bytes {
         Bytes::none()
     }
 }
 
 // The byte of a character.
+#[inline(always)]
 fn byte_of(c: char) -> Option<u8>
     ensures { result ≡ byte_of_user_char c }
 {
