@@ -23,6 +23,20 @@ pub(crate) fn insert(
     Ok(())
 }
 
+// Puts an index of these rows into tables, where they are rows that may be handed in.
+pub(crate) fn insert_rows(tables: &mut Tables, kind: IndexKind, rows: &[(u32, u32)]) {
+    if kind.is_ranges() {
+        return;
+    }
+    if !rows.windows(2).all(|pair| pair[0].0 < pair[1].0) {
+        return;
+    }
+    if !rows.iter().all(|row| (row.0 as usize) < kind.size()) {
+        return;
+    }
+    let _ = tables.insert_rows(kind, rows);
+}
+
 // Stands in a log for a bad piece, with its length behind it.
 pub(crate) const MARK: u16 = 0xFFFF;
 

@@ -1,6 +1,6 @@
 // The two-byte codecs over small indexes, with answers worked by hand.
 
-use crate::streams::{MARK, decode_bytes, decode_units, insert};
+use crate::streams::{MARK, decode_bytes, decode_units, insert, insert_rows};
 use crate::{Big5Decoder, Big5Encoder, EucKrDecoder, EucKrEncoder};
 use encoding_mem::{DecoderResult, EncoderResult, RawDecoder, RawEncoder};
 use encoding_tables::{IndexKind, Tables};
@@ -247,4 +247,16 @@ fn big5_takes_the_first_or_the_last_pointer(rt: HostRuntime) -> Result<(), Fail>
     let answer = encoder.encode_from_utf8_raw("A\u{5341}", &mut dst[..2], true);
     assert_eq!(rt; answer, (EncoderResult::OutputFull, 1, 1));
     Ok(())
+}
+
+#[test]
+fn big5_of_rows_takes_the_last_pointer(rt: HostRuntime) {
+    let mut tables = Tables::new(rt.alloc());
+    insert_rows(&mut tables, IndexKind::Big5, &[(5287, 0x5341), (5512, 0x5341)]);
+    assert!(rt; tables.has(IndexKind::Big5));
+    let mut encoder = Big5Encoder::new(&tables);
+    let mut dst = [0; 4];
+    let answer = encoder.encode_from_utf8_raw("\u{5341}", &mut dst, true);
+    assert_eq!(rt; answer, (EncoderResult::InputEmpty, 3, 2));
+    assert_eq!(rt; dst.get(..2), Some([0xA4, 0x51].as_slice()));
 }

@@ -22,6 +22,7 @@ enum Answer {
 
 #[derive(Clone, Copy)]
 enum Call {
+    InsertRows,
     Insert,
     InsertRanges,
     ReadIndex,
@@ -45,13 +46,15 @@ enum Marks {
     KeptInGoodText,
 }
 
-const CALLS: [(&str, Call); 15] = [
+// The calls of a round are made on the same tables, so that each finds the indexes of those before it there.
+type Round = &'static [(&'static str, Call)];
+
+const LISTS: Round = &[
+    ("insert_rows", Call::InsertRows),
     ("insert", Call::Insert),
     ("insert_ranges", Call::InsertRanges),
     ("read_index", Call::ReadIndex),
     ("read_ranges", Call::ReadRanges),
-    ("load", Call::Load),
-    ("load of ranges", Call::LoadRanges),
     ("decode_latin1", Call::DecodeLatin1),
     ("decode_latin1 of ASCII", Call::DecodeAscii),
     ("encode_latin1_lossy", Call::EncodeLatin1),
@@ -66,12 +69,44 @@ const CALLS: [(&str, Call); 15] = [
     ),
 ];
 
+const TEXTS: Round = &[
+    ("insert_rows before load", Call::InsertRows),
+    ("load", Call::Load),
+    ("load of ranges", Call::LoadRanges),
+    ("encode by what was loaded", Call::Encode),
+];
+
 const KIND: IndexKind = IndexKind::Windows1252;
 
 const INDEX: &[u8] = b"0\t0x20AC\n105\t0x00E9\n";
 
 const RANGES: &[u8] =
     b"0\t0x0080\n36\t0x00A5\n38\t0x00A9\n45\t0x00B2\n50\t0x00B8\n81\t0x00D8\n189000\t0x10000\n";
+
+// The index that is inserted before all else, and its rows.
+const FIRST: IndexKind = IndexKind::Koi8R;
+
+const FIRST_ROWS: [(u32, u32); 3] = [(3, 0x2500), (64, 0x44E), (127, 0x2500)];
+
+// Whether the first index has its rows, and nothing else.
+fn has_first(tables: &Tables) -> bool {
+    if !tables.has(FIRST) {
+        return false;
+    }
+    for pointer in 0..128 {
+        let entry = match pointer {
+            3 | 127 => Some('\u{2500}'),
+            64 => Some('\u{44E}'),
+            _ => None,
+        };
+        if tables.value(FIRST, pointer) != entry {
+            return false;
+        }
+    }
+    tables.first_pointer(FIRST, '\u{2500}', 0, 128) == Some(3)
+        && tables.last_pointer(FIRST, '\u{2500}', 0, 128) == Some(127)
+        && tables.first_pointer(FIRST, '\u{44E}', 0, 128) == Some(64)
+}
 
 // The character at pointer 105, of an index that is there.
 fn character(tables: &Tables) -> Answer {
@@ -95,12 +130,20 @@ fn range_character(tables: &Tables) -> Answer {
     }
 }
 
-// A refusal leaves the tables empty.
-fn refused(tables: &Tables) -> Answer {
-    if tables.has(KIND) || tables.has(IndexKind::Gb18030Ranges) {
+// A refusal leaves the tables without the index that was asked for.
+fn refused(tables: &Tables, kind: IndexKind) -> Answer {
+    if tables.has(kind) {
         Answer::Wrong
     } else {
         Answer::Refused
+    }
+}
+
+fn insert_rows(tables: &mut Tables) -> Answer {
+    match tables.insert_rows(FIRST, &FIRST_ROWS) {
+        Ok(()) => Answer::Is(127),
+        Err(TableFault::Memory) => refused(tables, FIRST),
+        Err(_) => Answer::Wrong,
     }
 }
 
@@ -109,7 +152,7 @@ fn insert(tables: &mut Tables) -> Answer {
     list[105] = 0xE9;
     match tables.insert(KIND, &list) {
         Ok(()) => character(tables),
-        Err(TableFault::Memory) => refused(tables),
+        Err(TableFault::Memory) => refused(tables, KIND),
         Err(_) => Answer::Wrong,
     }
 }
@@ -117,7 +160,7 @@ fn insert(tables: &mut Tables) -> Answer {
 fn insert_ranges(tables: &mut Tables) -> Answer {
     match tables.insert_ranges(&[(0, 0x80), (81, 0xD8), (189000, 0x10000)]) {
         Ok(()) => range_character(tables),
-        Err(TableFault::Memory) => refused(tables),
+        Err(TableFault::Memory) => refused(tables, IndexKind::Gb18030Ranges),
         Err(_) => Answer::Wrong,
     }
 }
@@ -154,9 +197,9 @@ fn load_text(
     match load(alloc, tables, kind, text) {
         Ok(()) => Ok(()),
         Err(LoadFault::Text(fault)) if fault.kind == IndexFaultKind::Memory => {
-            Err(refused(tables))
+            Err(refused(tables, kind))
         }
-        Err(LoadFault::Table(TableFault::Memory)) => Err(refused(tables)),
+        Err(LoadFault::Table(TableFault::Memory)) => Err(refused(tables, kind)),
         Err(_) => Err(Answer::Wrong),
     }
 }
@@ -216,15 +259,6 @@ fn encoded(alloc: Global, tables: &Tables, encoding: Encoding) -> Answer {
     }
 }
 
-fn encode(alloc: Global, tables: &mut Tables) -> Answer {
-    if !tables.has(KIND)
-        && let Err(answer) = load_text(alloc, tables, KIND, INDEX)
-    {
-        return answer;
-    }
-    encoded(alloc, tables, WINDOWS_1252)
-}
-
 // A mark, and then `café`, in UTF-8.
 const MARKED: &[u8] = b"\xEF\xBB\xBFcaf\xC3\xA9";
 
@@ -262,6 +296,7 @@ fn decoded(alloc: Global, tables: &Tables, marks: Marks) -> Answer {
 impl Call {
     fn make(self, alloc: Global, tables: &mut Tables) -> Answer {
         match self {
+            Call::InsertRows => insert_rows(tables),
             Call::Insert => insert(tables),
             Call::InsertRanges => insert_ranges(tables),
             Call::ReadIndex => index_list(alloc),
@@ -271,21 +306,29 @@ impl Call {
             Call::DecodeLatin1 => latin1_text(alloc, b"caf\xE9"),
             Call::DecodeAscii => latin1_text(alloc, b"cafe"),
             Call::EncodeLatin1 => latin1_bytes(alloc),
-            Call::Encode => encode(alloc, tables),
+            Call::Encode => encoded(alloc, tables, WINDOWS_1252),
             Call::EncodeUtf8 => encoded(alloc, tables, UTF_8),
             Call::Decode(marks) => decoded(alloc, tables, marks),
         }
     }
 }
 
-fn main(rt: HostRuntime) -> anyhow::Result<()> {
-    for (name, call) in CALLS {
-        let mut tables = Tables::new(rt.alloc());
+// Makes the calls of a round, those that are refused a second time, and prints their answers. After each call the
+// first index has to be there as it was inserted.
+fn make(rt: HostRuntime, round: Round) -> anyhow::Result<()> {
+    let mut tables = Tables::new(rt.alloc());
+    for (name, call) in round {
         let mut answer = call.make(rt.alloc(), &mut tables);
         print!(rt; "{name}: ")?;
         if let Answer::Refused = answer {
+            if tables.has(FIRST) && !has_first(&tables) {
+                bail!("the first index changed");
+            }
             print!(rt; "refused, then ")?;
             answer = call.make(rt.alloc(), &mut tables);
+        }
+        if !has_first(&tables) {
+            bail!("the first index changed");
         }
         match answer {
             Answer::Is(number) => println!(rt; "{number}")?,
@@ -294,4 +337,9 @@ fn main(rt: HostRuntime) -> anyhow::Result<()> {
         }
     }
     Ok(())
+}
+
+fn main(rt: HostRuntime) -> anyhow::Result<()> {
+    make(rt, LISTS)?;
+    make(rt, TEXTS)
 }
