@@ -2,17 +2,26 @@ PREFIX = /usr/local
 FROM = utf-8
 TO = utf-8
 
-.PHONY: build test run refused characters install
+.PHONY: build test lint edits run refused characters install
 
 # Proves the program and all that it stands on, and builds it: crates/recode_cli/out/recode_cli.
 build:
 	@cd crates/recode_cli && rt run -- --version > /dev/null
 
-# The merge gate, and that the index texts of the program are those that the tests load.
-test:
+# The merge gate, behind what it does not look at.
+test: lint
+	@rt ci
+
+# In seconds: one definition for each name, no more long lines than before, edits that fit their files, and the index
+# texts of the program are those that the tests load.
+lint:
+	@python3 tools/lint.py
 	@diff -r indexes crates/encoding_index_files/data
 	@diff indexes/index-jis0208.txt crates/recode_sample/data/index-jis0208.txt
-	@rt ci
+
+# The edits that the gate leaves out, each of which the prover must refuse: for a release, 10 to 15 seconds each.
+edits:
+	@python3 tools/edits.py
 
 # The program on standard input, from FROM to TO, proved and built before where something has changed.
 run:

@@ -4,16 +4,16 @@ use Rattle.std.specs.Prelude.{is_some, not}
 use Rattle.std.specs.Option.{unwrap_or}
 use Rattle.std.proofs.lemmas.Bool.{eqb-true, and_parts, or_cases, or_parts}
 use Rattle.std.proofs.lemmas.List.{append-nil}
-use Rattle.encoding_mem.specs.Piece.{Piece, good, bad, size_of}
-use Rattle.encoding_mem.specs.FrontPiece.{IsFront, IsModest}
+use Rattle.encoding_mem.specs.Piece.{Piece, good, bad, piece_len}
+use Rattle.encoding_mem.specs.FrontPiece.{TellsFirstPiece, IsModest}
 use Rattle.encoding_mem.specs.Pieces.{pieces_in}
-use Rattle.encoding_mem.specs.Shows.{Shows, Awaits, Settles, shows_front_in, broken_then_good, good_then_broken}
+use Rattle.encoding_mem.specs.laws.Shows.{Shows, Awaits, SettlesMode, shows_front_in, broken_then_good, good_then_broken}
 use Rattle.encoding_mem.specs.declared.front.Front.{Front}
 use Rattle.encoding_mem.specs.declared.front.Front.TheVariants.{More}
 use Rattle.encoding_tables.specs.Lookups.{AreEntries}
 use Rattle.encoding_codecs.specs.Iso2022Jp.{escape_at, escape_of, pieces_in_mode}
-use Rattle.encoding_codecs.specs.Iso2022JpDecide.{escape_front, char_front, front_iso_2022_jp, mode_after, may_be_escape, is_lead, is_open, shown, decide_iso_2022_jp}
-use Rattle.encoding_codecs.specs.Iso2022JpLaws.{IsSmall, small_front, cuts_iso_2022_jp, agrees}
+use Rattle.encoding_codecs.specs.laws.Iso2022JpDecide.{escape_front, char_front, front_iso_2022_jp, mode_after, may_be_escape, is_jis_lead, is_open, shown, decide_iso_2022_jp}
+use Rattle.encoding_codecs.specs.laws.Iso2022Jp.{IsSmall, small_front, cuts_iso_2022_jp, agrees}
 use Rattle.encoding_codecs.specs.declared.iso_2022_jp_decoder.Mode.{Mode}
 use Rattle.encoding_codecs.specs.declared.iso_2022_jp_decoder.Mode.TheVariants.{Ascii, Roman, Katakana, Jis}
 
@@ -60,7 +60,7 @@ completes (a ∷ b ∷ c ∷ x) e = absurd (clash e)
 
 -- ---- bytes whose first piece is decided
 
-fixed_char : (jis0208 : List ℕ) (m : Mode) (b : ℕ) (x r : List ℕ) → is_lead m (b ∷ x) ≡ false → char_front jis0208 m b (x ++ r) ≡ char_front jis0208 m b x
+fixed_char : (jis0208 : List ℕ) (m : Mode) (b : ℕ) (x r : List ℕ) → is_jis_lead m (b ∷ x) ≡ false → char_front jis0208 m b (x ++ r) ≡ char_front jis0208 m b x
 fixed_char jis0208 Ascii b x r e = refl
 fixed_char jis0208 Roman b x r e = refl
 fixed_char jis0208 Katakana b x r e = refl
@@ -74,7 +74,7 @@ fixed_escape (a ∷ b ∷ []) r e f = cc
 fixed_escape (a ∷ b ∷ c ∷ x) r e f = ap (λ o. cond (is_some o) (bad 3) (good 3 [])) (escape_fixed x r f)
 
 fixed_by : (jis0208 : List ℕ) (m : Mode) (b : ℕ) (x r : List ℕ) (t : Bool) → is_some (escape_at (b ∷ x)) ≡ t → may_be_escape (b ∷ x) ≡ false
-    → cond t (may_be_escape (drop 3 (b ∷ x))) (is_lead m (b ∷ x)) ≡ false
+    → cond t (may_be_escape (drop 3 (b ∷ x))) (is_jis_lead m (b ∷ x)) ≡ false
     → front_iso_2022_jp jis0208 m (b ∷ (x ++ r)) ≡ front_iso_2022_jp jis0208 m (b ∷ x)
 fixed_by jis0208 m b x r true e whole rest =
     rw (escape_fixed (b ∷ x) r whole, e) (fixed_escape (b ∷ x) r e rest)
@@ -84,7 +84,7 @@ fixed_by jis0208 m b x r false e whole rest =
 fixed : (jis0208 : List ℕ) (m : Mode) (x r : List ℕ) → is_open m x ≡ false → front_iso_2022_jp jis0208 m (x ++ r) ≡ front_iso_2022_jp jis0208 m x
 fixed jis0208 m [] r e = cc
 fixed jis0208 m (b ∷ x) r e =
-    let parts = or_parts (may_be_escape (b ∷ x)) (cond (is_some (escape_at (b ∷ x))) (may_be_escape (drop 3 (b ∷ x))) (is_lead m (b ∷ x))) e in
+    let parts = or_parts (may_be_escape (b ∷ x)) (cond (is_some (escape_at (b ∷ x))) (may_be_escape (drop 3 (b ∷ x))) (is_jis_lead m (b ∷ x))) e in
     fixed_by jis0208 m b x r (is_some (escape_at (b ∷ x))) refl parts.0 parts.1
 
 -- ---- bytes whose first piece is not
@@ -141,10 +141,10 @@ awaits_escape jis0208 m (a ∷ b ∷ c ∷ x) h e = absurd (clash e)
     clash k = cc
 
 -- an escape that another may follow
-size_escape : (x : List ℕ) → 3 ≤ size_of (escape_front x)
+size_escape : (x : List ℕ) → 3 ≤ piece_len (escape_front x)
 size_escape x = either (is_some (escape_at x))
   where
-    either : (t : Bool) → 3 ≤ size_of (cond t (bad 3) (good 3 []))
+    either : (t : Bool) → 3 ≤ piece_len (cond t (bad 3) (good 3 []))
     either true = lit≤ tt
     either false = lit≤ tt
 
@@ -165,11 +165,11 @@ awaits_another jis0208 m (a ∷ b ∷ c ∷ x) e f =
       more = k.more;
       few = k.few;
       differs = good_then_broken (front_iso_2022_jp jis0208 m (a ∷ b ∷ c ∷ x)) (front_iso_2022_jp jis0208 m (a ∷ b ∷ c ∷ (x ++ k.more))) 3 3 [] now then;
-      soon = λ r. omega (arith, k.short, size_escape (x ++ r), ap size_of (front_escape jis0208 m a b c (x ++ r) e));
+      soon = λ r. omega (arith, k.short, size_escape (x ++ r), ap piece_len (front_escape jis0208 m a b c (x ++ r) e));
     }
 
 -- the first of two bytes
-awaits_second : (jis0208 : List ℕ) (m : Mode) (x : List ℕ) → is_lead m x ≡ true → Awaits (front_iso_2022_jp jis0208 m) 0 x false
+awaits_second : (jis0208 : List ℕ) (m : Mode) (x : List ℕ) → is_jis_lead m x ≡ true → Awaits (front_iso_2022_jp jis0208 m) 0 x false
 awaits_second jis0208 Ascii x e = cc
 awaits_second jis0208 Roman x e = cc
 awaits_second jis0208 Katakana x e = cc
@@ -187,12 +187,12 @@ awaits_second jis0208 Jis (b ∷ []) e =
     }
 awaits_second jis0208 Jis (b ∷ c ∷ x) e = cc
 
-awaits_by : (jis0208 : List ℕ) (m : Mode) (x : List ℕ) (t : Bool) → is_some (escape_at x) ≡ t → cond t (may_be_escape (drop 3 x)) (is_lead m x) ≡ true → Awaits (front_iso_2022_jp jis0208 m) 0 x false
+awaits_by : (jis0208 : List ℕ) (m : Mode) (x : List ℕ) (t : Bool) → is_some (escape_at x) ≡ t → cond t (may_be_escape (drop 3 x)) (is_jis_lead m x) ≡ true → Awaits (front_iso_2022_jp jis0208 m) 0 x false
 awaits_by jis0208 m x true e f = awaits_another jis0208 m x e f
 awaits_by jis0208 m x false e f = awaits_second jis0208 m x f
 
 awaits : (jis0208 : List ℕ) (m : Mode) (x : List ℕ) → 0 < length x → is_open m x ≡ true → Awaits (front_iso_2022_jp jis0208 m) 0 x false
-awaits jis0208 m x h e = elim (or_cases (may_be_escape x) (cond (is_some (escape_at x)) (may_be_escape (drop 3 x)) (is_lead m x)) e) [
+awaits jis0208 m x h e = elim (or_cases (may_be_escape x) (cond (is_some (escape_at x)) (may_be_escape (drop 3 x)) (is_jis_lead m x)) e) [
   | inl may ↦ awaits_escape jis0208 m x h may
   | inr rest ↦ awaits_by jis0208 m x (is_some (escape_at x)) refl rest
 ]
@@ -222,15 +222,15 @@ shows_by jis0208 scalars m x false true h e = awaits jis0208 m x h e
 shows_by jis0208 scalars m x false false h e = shows_known jis0208 scalars m x false h (λ r none. fixed jis0208 m x r e)
 
 -- the mode after it
-settles_by : (jis0208 : List ℕ) (m : Mode) (x : List ℕ) (last open_ : Bool) → is_open m x ≡ open_ → (cond (not last && open_) More (shown (front_iso_2022_jp jis0208 m x)) ≡ More → ⊥) → Settles mode_after m (mode_after m x) x last
+settles_by : (jis0208 : List ℕ) (m : Mode) (x : List ℕ) (last open_ : Bool) → is_open m x ≡ open_ → (cond (not last && open_) More (shown (front_iso_2022_jp jis0208 m x)) ≡ More → ⊥) → SettlesMode mode_after m (mode_after m x) x last
 settles_by jis0208 m x true open_ e known r none = ap (mode_after m) (ap (λ q. x ++ q) (none refl) ∙ append-nil x)
 settles_by jis0208 m x false true e known r none = absurd (known refl)
 settles_by jis0208 m x false false e known r none =
-    let parts = or_parts (may_be_escape x) (cond (is_some (escape_at x)) (may_be_escape (drop 3 x)) (is_lead m x)) e in
+    let parts = or_parts (may_be_escape x) (cond (is_some (escape_at x)) (may_be_escape (drop 3 x)) (is_jis_lead m x)) e in
     ap (λ o. unwrap_or o m) (escape_fixed x r parts.0)
 
 front_by_rule : (jis0208 : List ℕ) → AreEntries jis0208 → (m : Mode) (x : List ℕ) (last : Bool) → 0 < length x
-    → IsFront (pieces_in (front_iso_2022_jp jis0208) mode_after m) (pieces_in (front_iso_2022_jp jis0208) mode_after (mode_after m x)) x last (decide_iso_2022_jp jis0208 m x last)
+    → TellsFirstPiece (pieces_in (front_iso_2022_jp jis0208) mode_after m) (pieces_in (front_iso_2022_jp jis0208) mode_after (mode_after m x)) x last (decide_iso_2022_jp jis0208 m x last)
 front_by_rule jis0208 scalars m x last h =
     shows_front_in (front_iso_2022_jp jis0208) mode_after (cuts_iso_2022_jp jis0208 scalars) m (mode_after m x) x last (decide_iso_2022_jp jis0208 m x last) h
     (settles_by jis0208 m x last (is_open m x) refl) (shows_by jis0208 scalars m x last (is_open m x) h refl)
@@ -240,7 +240,7 @@ agree jis0208 scalars m = λ i x. agrees jis0208 scalars m x i
 
 -- the first piece of the parts is what a look at the front shows
 pub iso_2022_jp_front : (jis0208 : List ℕ) → AreEntries jis0208 → (m : Mode) (x : List ℕ) (last : Bool) → 0 < length x
-    → IsFront (pieces_in_mode jis0208 m) (pieces_in_mode jis0208 (mode_after m x)) x last (decide_iso_2022_jp jis0208 m x last)
+    → TellsFirstPiece (pieces_in_mode jis0208 m) (pieces_in_mode jis0208 (mode_after m x)) x last (decide_iso_2022_jp jis0208 m x last)
 iso_2022_jp_front jis0208 scalars m x last h = rw (← agree jis0208 scalars m, ← agree jis0208 scalars (mode_after m x)) (front_by_rule jis0208 scalars m x last h)
 
 -- ---- room

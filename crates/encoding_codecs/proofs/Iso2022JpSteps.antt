@@ -5,31 +5,31 @@ use Rattle.std.specs.Int.{is_in_range}
 use Rattle.std.proofs.lemmas.Bool.{cases_lt, cases_eq, cases_Bool, lt-ltb, le-ltb, le-leb, ne_eqb, eqb-false, or_parts, and_from}
 use Rattle.std.proofs.lemmas.Bool.Decides.{nat_tests}
 use Rattle.encoding_mem.specs.Coding.{spelled, reference}
-use Rattle.encoding_mem.specs.Piece.{Piece, good, size_of, sizes, text, AreGood}
-use Rattle.encoding_mem.specs.PiecesLaws.{pieces_in-cons}
+use Rattle.encoding_mem.specs.Piece.{Piece, good, piece_len, sizes, text, AreGood}
+use Rattle.encoding_mem.specs.laws.Pieces.{pieces_in-cons}
 use Rattle.encoding_mem.specs.Steps.{Follows, IsBroken, StepLaw}
 use Rattle.encoding_mem.specs.declared.form.Form.TheVariants.{Mapped, Unmapped}
 use Rattle.encoding_mem.specs.declared.form.Set.{Set}
 use Rattle.encoding_mem.specs.declared.form.Set.TheVariants.{Ascii, Roman, Jis}
-use Rattle.encoding_tables.specs.LookupLaws.{IsPointer}
+use Rattle.encoding_tables.specs.laws.Lookups.{IsPointer}
 use Rattle.encoding_tables.specs.Lookups.{AreEntries, value_of, first_pointer}
-use Rattle.encoding_tables.specs.PointerLaws.{first_is_least}
-use Rattle.encoding_codecs.specs.Iso2022Jp.{ascii_mode, roman_mode, jis_mode, ascii_piece, pieces_in_mode, pointer_of_pair}
-use Rattle.encoding_codecs.specs.Iso2022JpDecide.{front_iso_2022_jp, char_front, mode_after}
-use Rattle.encoding_codecs.specs.Iso2022JpForms.{looked_up, pointer_of, pointer_of_char, form_of_pointer, ascii_form, iso_2022_jp_form, is_set, only, ascii_or_roman, set_after, sets_of_pointer, iso_2022_jp_sets, escape_to, iso_2022_jp_escape, iso_2022_jp_coding}
-use Rattle.encoding_codecs.specs.Iso2022JpFormsLaws.{set_after-only}
-use Rattle.encoding_codecs.specs.Iso2022JpLaws.{cuts_iso_2022_jp, agrees, no_escape_at}
+use Rattle.encoding_tables.specs.laws.Pointers.{first_is_least}
+use Rattle.encoding_codecs.specs.Iso2022Jp.{ascii_mode, roman_mode, jis_mode, ascii_piece, pieces_in_mode, jis_pair_pointer}
+use Rattle.encoding_codecs.specs.laws.Iso2022JpDecide.{front_iso_2022_jp, char_front, mode_after}
+use Rattle.encoding_codecs.specs.Iso2022JpForms.{looked_up, pointer_of, pointer_of_char, jis_form_of_pointer, ascii_form, iso_2022_jp_form, is_set, only, ascii_or_roman, set_after, sets_of_pointer, iso_2022_jp_sets, iso_2022_jp_escape_to, iso_2022_jp_escape, iso_2022_jp_coding}
+use Rattle.encoding_codecs.specs.laws.Iso2022JpForms.{set_after-only}
+use Rattle.encoding_codecs.specs.laws.Iso2022Jp.{cuts_iso_2022_jp, agrees, no_escape_at}
 use Rattle.encoding_codecs.specs.Iso2022JpSets.{mode_of, pieces_from_set}
 use Rattle.encoding_codecs.specs.declared.iso_2022_jp_decoder.Mode.{Mode}
 
 -- ---- pieces at the front
 
 cons : (jis0208 : List ℕ) → AreEntries jis0208 → (m : Mode) (b : ℕ) (x : List ℕ)
-    → pieces_in_mode jis0208 m (b ∷ x) ≡ front_iso_2022_jp jis0208 m (b ∷ x) ∷ pieces_in_mode jis0208 (mode_after m (b ∷ x)) (drop (size_of (front_iso_2022_jp jis0208 m (b ∷ x))) (b ∷ x))
+    → pieces_in_mode jis0208 m (b ∷ x) ≡ front_iso_2022_jp jis0208 m (b ∷ x) ∷ pieces_in_mode jis0208 (mode_after m (b ∷ x)) (drop (piece_len (front_iso_2022_jp jis0208 m (b ∷ x))) (b ∷ x))
 cons jis0208 scalars m b x =
     sym (agrees jis0208 scalars m (b ∷ x))
     ∙ pieces_in-cons (front_iso_2022_jp jis0208) mode_after (cuts_iso_2022_jp jis0208 scalars) m b x
-    ∙ ap (λ ps. front_iso_2022_jp jis0208 m (b ∷ x) ∷ ps) (agrees jis0208 scalars (mode_after m (b ∷ x)) (drop (size_of (front_iso_2022_jp jis0208 m (b ∷ x))) (b ∷ x)))
+    ∙ ap (λ ps. front_iso_2022_jp jis0208 m (b ∷ x) ∷ ps) (agrees jis0208 scalars (mode_after m (b ∷ x)) (drop (piece_len (front_iso_2022_jp jis0208 m (b ∷ x))) (b ∷ x)))
 
 -- a byte that is a piece alone
 byte : (jis0208 : List ℕ) → AreEntries jis0208 → (m : Mode) (b c : ℕ) (y : List ℕ) → b ≢ 0x1B → char_front jis0208 m b y ≡ good 1 (c ∷ [])
@@ -40,7 +40,7 @@ byte jis0208 scalars m b c y n is = cons jis0208 scalars m b y ∙ rw (no_escape
 in_row : (n : ℕ) → n < 94 → is_in_range 0x21 0x7E (0x21 + n) ≡ true
 in_row n h = and_from (nat_le 0x21 (0x21 + n)) (nat_le (0x21 + n) 0x7E) (le-leb 0x21 (0x21 + n) (omega arith)) (le-leb (0x21 + n) 0x7E (omega (arith, h)))
 
-pair : (jis0208 : List ℕ) → AreEntries jis0208 → (k l d : ℕ) (y : List ℕ) → k < 94 → l < 94 → value_of jis0208 (pointer_of_pair (0x21 + k) (0x21 + l)) ≡ Some d
+pair : (jis0208 : List ℕ) → AreEntries jis0208 → (k l d : ℕ) (y : List ℕ) → k < 94 → l < 94 → value_of jis0208 (jis_pair_pointer (0x21 + k) (0x21 + l)) ≡ Some d
     → pieces_in_mode jis0208 jis_mode ((0x21 + k) ∷ (0x21 + l) ∷ y) ≡ good 2 (d ∷ []) ∷ pieces_in_mode jis0208 jis_mode y
 pair jis0208 scalars k l d y h j is =
     cons jis0208 scalars jis_mode (0x21 + k) ((0x21 + l) ∷ y)
@@ -48,7 +48,7 @@ pair jis0208 scalars k l d y h j is =
 
 -- an escape before a byte that is no 1B
 silent : (jis0208 : List ℕ) → AreEntries jis0208 → (m : Mode) (q : Set) (f : ℕ) (z : List ℕ) → f ≢ 0x1B
-    → pieces_in_mode jis0208 m (escape_to q ++ (f ∷ z)) ≡ good 3 [] ∷ pieces_in_mode jis0208 (mode_of q) (f ∷ z)
+    → pieces_in_mode jis0208 m (iso_2022_jp_escape_to q ++ (f ∷ z)) ≡ good 3 [] ∷ pieces_in_mode jis0208 (mode_of q) (f ∷ z)
 silent jis0208 scalars m Ascii f z n = cons jis0208 scalars m 0x1B (0x28 ∷ 0x42 ∷ f ∷ z) ∙ rw (no_escape_at f z n) refl
 silent jis0208 scalars m Roman f z n = cons jis0208 scalars m 0x1B (0x28 ∷ 0x4A ∷ f ∷ z) ∙ rw (no_escape_at f z n) refl
 silent jis0208 scalars m Jis f z n = cons jis0208 scalars m 0x1B (0x24 ∷ 0x42 ∷ f ∷ z) ∙ rw (no_escape_at f z n) refl
@@ -98,7 +98,7 @@ escapes_sizes : (s q : Set) (ps : List Piece) (bs : List ℕ) → sizes ps ≡ l
 unfolding escapes
 escapes_sizes s q ps bs h = either (is_set s q) q
   where
-    either : (t : Bool) (q : Set) → sizes (cond t [] (good 3 [] ∷ []) ++ ps) ≡ length (cond t [] (escape_to q) ++ bs)
+    either : (t : Bool) (q : Set) → sizes (cond t [] (good 3 [] ∷ []) ++ ps) ≡ length (cond t [] (iso_2022_jp_escape_to q) ++ bs)
     either true q = h
     either false Ascii = omega (arith, h)
     either false Roman = omega (arith, h)
@@ -233,16 +233,16 @@ gives_pair jis0208 scalars d p c e =
     let below : p < 8836 = at.before in
     let high : p / 94 < 94 = omega (arith, below) in
     let low : p % 94 < 94 = omega arith in
-    let back : pointer_of_pair (0x21 + p / 94) (0x21 + p % 94) ≡ p = omega arith in
-    let entry : value_of jis0208 (pointer_of_pair (0x21 + p / 94) (0x21 + p % 94)) ≡ Some d = ap (value_of jis0208) back ∙ at.entry in
+    let back : jis_pair_pointer (0x21 + p / 94) (0x21 + p % 94) ≡ p = omega arith in
+    let entry : value_of jis0208 (jis_pair_pointer (0x21 + p / 94) (0x21 + p % 94)) ≡ Some d = ap (value_of jis0208) back ∙ at.entry in
     gives_piece jis0208 Jis (0x21 + p / 94) ((0x21 + p % 94) ∷ []) d c (λ k. absurd (omega (arith, k))) (λ r. pair jis0208 scalars (p / 94) (p % 94) d r high low entry)
 
 gives_pointer : (jis0208 : List ℕ) → AreEntries jis0208 → (o : Option ℕ) (s : Set) (c : ℕ) → 0x80 ≤ c
-    → Gives jis0208 (set_after (sets_of_pointer (pointer_of jis0208 o)) s) (spelled (form_of_pointer c (pointer_of jis0208 o))) c
+    → Gives jis0208 (set_after (sets_of_pointer (pointer_of jis0208 o)) s) (spelled (jis_form_of_pointer c (pointer_of jis0208 o))) c
 gives_pointer jis0208 scalars None s c high = gives_reference jis0208 scalars (set_after ascii_or_roman s) c c (one_byte s) (λ e. absurd (omega (arith, e, high)))
 gives_pointer jis0208 scalars (Some d) s c high = by (first_pointer jis0208 d 0 8836) refl
   where
-    by : (p : Option ℕ) → first_pointer jis0208 d 0 8836 ≡ p → Gives jis0208 (set_after (sets_of_pointer (first_pointer jis0208 d 0 8836)) s) (spelled (form_of_pointer c (first_pointer jis0208 d 0 8836))) c
+    by : (p : Option ℕ) → first_pointer jis0208 d 0 8836 ≡ p → Gives jis0208 (set_after (sets_of_pointer (first_pointer jis0208 d 0 8836)) s) (spelled (jis_form_of_pointer c (first_pointer jis0208 d 0 8836))) c
     by None e = rw e (gives_reference jis0208 scalars (set_after ascii_or_roman s) c c (one_byte s) (λ k. absurd (omega (arith, k, high))))
     by (Some p) e = rw (e, set_after-only Jis s) (gives_pair jis0208 scalars d p c e)
 
@@ -273,7 +273,7 @@ ascii_step jis0208 scalars s c low = elim (cases_Bool (c == 0x0E || c == 0x0F ||
 
 high_step : (jis0208 katakana : List ℕ) → AreEntries jis0208 → (s : Set) (c : ℕ) → 0x80 ≤ c
     → Gives jis0208 (set_after (cond (c == 0xA5 || c == 0x203E) (only Roman) (sets_of_pointer (pointer_of_char jis0208 katakana c))) s)
-    (spelled (cond (c == 0xA5) (Mapped (0x5C ∷ [])) (cond (c == 0x203E) (Mapped (0x7E ∷ [])) (form_of_pointer c (pointer_of_char jis0208 katakana c))))) c
+    (spelled (cond (c == 0xA5) (Mapped (0x5C ∷ [])) (cond (c == 0x203E) (Mapped (0x7E ∷ [])) (jis_form_of_pointer c (pointer_of_char jis0208 katakana c))))) c
 high_step jis0208 katakana scalars s c high = elim (cases_eq c 0xA5) [
   | inl yen ↦ rw (yen, set_after-only Roman s) (gives_piece jis0208 Roman 0x5C [] 0xA5 0xA5 (λ e. absurd (omega (arith, e))) (λ r. byte jis0208 scalars roman_mode 0x5C 0xA5 r (λ e. absurd (omega (arith, e))) refl))
   | inr free ↦ elim (cases_eq c 0x203E) [

@@ -8,17 +8,17 @@ use Rattle.std.proofs.lemmas.Bool.Decides.{nat_tests}
 use Rattle.std.proofs.lemmas.Str.{chars-IsAscii, len_utf8_ascii}
 use Rattle.encoding_mem.specs.Decoding.{DecoderState}
 use Rattle.encoding_mem.specs.Iso2022JpAscii.{IsIso2022JpAscii, IsIso2022JpAsciiByte}
-use Rattle.encoding_mem.specs.Piece.{Piece, good, bad, size_of}
+use Rattle.encoding_mem.specs.Piece.{Piece, good, bad, piece_len}
 use Rattle.encoding_mem.specs.Pieces.{pieces_in}
-use Rattle.encoding_mem.specs.PiecesLaws.{pieces_in-cons}
+use Rattle.encoding_mem.specs.laws.Pieces.{pieces_in-cons}
 use Rattle.encoding_mem.specs.Room.{is_units, room_of, room_multibyte}
 use Rattle.encoding_mem.specs.Text.{text_pieces, text_len}
 use Rattle.encoding_mem.specs.declared.room.Count.{Count}
 use Rattle.encoding_mem.specs.declared.room.Count.TheVariants.{Units, Bytes, Replaced}
 use Rattle.encoding_tables.specs.Lookups.{AreEntries}
 use Rattle.encoding_codecs.specs.Iso2022Jp.{ascii_piece, pieces_in_mode, IsNeutral}
-use Rattle.encoding_codecs.specs.Iso2022JpDecide.{front_iso_2022_jp, mode_after}
-use Rattle.encoding_codecs.specs.Iso2022JpLaws.{cuts_iso_2022_jp, no_escape_at, agrees}
+use Rattle.encoding_codecs.specs.laws.Iso2022JpDecide.{front_iso_2022_jp, mode_after}
+use Rattle.encoding_codecs.specs.laws.Iso2022Jp.{cuts_iso_2022_jp, no_escape_at, agrees}
 use Rattle.encoding_codecs.specs.declared.iso_2022_jp_decoder.Mode.{Mode}
 use Rattle.encoding_codecs.specs.declared.iso_2022_jp_decoder.Mode.TheVariants.{Ascii, Roman, Katakana, Jis}
 
@@ -47,7 +47,7 @@ plain_bytes jis0208 scalars [] r h = refl
 plain_bytes jis0208 scalars (b ∷ t) r h =
     let one : good 1 (b ∷ []) ≡ good (len_utf8 b) (b ∷ []) = ap (λ n. good n (b ∷ [])) (sym (len_utf8_ascii b (h 0).0)) in
     pieces_in-cons (front_iso_2022_jp jis0208) mode_after (cuts_iso_2022_jp jis0208 scalars) Ascii b (t ++ r)
-    ∙ ap (λ p. p ∷ pieces_in (front_iso_2022_jp jis0208) mode_after (mode_after Ascii (b ∷ (t ++ r))) (drop (size_of p) (b ∷ (t ++ r)))) (plain_piece jis0208 b (t ++ r) (h 0))
+    ∙ ap (λ p. p ∷ pieces_in (front_iso_2022_jp jis0208) mode_after (mode_after Ascii (b ∷ (t ++ r))) (drop (piece_len p) (b ∷ (t ++ r)))) (plain_piece jis0208 b (t ++ r) (h 0))
     ∙ ap (λ m. good 1 (b ∷ []) ∷ pieces_in (front_iso_2022_jp jis0208) mode_after m (t ++ r)) (plain_mode b (t ++ r) (h 0))
     ∙ ap (λ p. p ∷ pieces_in (front_iso_2022_jp jis0208) mode_after Ascii (t ++ r)) one
     ∙ ap (λ ps. good (len_utf8 b) (b ∷ []) ∷ ps) (plain_bytes jis0208 scalars t r (λ i. h (suc i)))

@@ -38,20 +38,20 @@ piece_of_four (Some c) = good 4 (c ∷ [])
 
 -- The piece that begins with three, two and one bytes of a longer form, and goes on with what follows them. Where four
 -- bytes break off, the first is bad alone, and those behind it are read again.
-abbrev pub after_three : List (ℕ × ℕ) → ℕ → ℕ → ℕ → List ℕ → Piece
-after_three rows a b c [] = bad 3
-after_three rows a b c (d ∷ x) = if is_in_range 0x30 0x39 d then piece_of_four (range_value rows (four_pointer a b c d)) else bad 1
+abbrev pub gb18030_after_three : List (ℕ × ℕ) → ℕ → ℕ → ℕ → List ℕ → Piece
+gb18030_after_three rows a b c [] = bad 3
+gb18030_after_three rows a b c (d ∷ x) = if is_in_range 0x30 0x39 d then piece_of_four (range_value rows (four_pointer a b c d)) else bad 1
 
-abbrev pub after_two : List (ℕ × ℕ) → ℕ → ℕ → List ℕ → Piece
-after_two rows a b [] = bad 2
-after_two rows a b (c ∷ x) = if is_in_range 0x81 0xFE c then after_three rows a b c x else bad 1
+abbrev pub gb18030_after_two : List (ℕ × ℕ) → ℕ → ℕ → List ℕ → Piece
+gb18030_after_two rows a b [] = bad 2
+gb18030_after_two rows a b (c ∷ x) = if is_in_range 0x81 0xFE c then gb18030_after_three rows a b c x else bad 1
 
-abbrev pub after_lead : List ℕ → List (ℕ × ℕ) → ℕ → List ℕ → Piece
-after_lead flat rows a [] = bad 1
-after_lead flat rows a (b ∷ x) = if is_in_range 0x30 0x39 b then after_two rows a b x else piece_of_trail 1 (gb18030_pair flat a b) b
+abbrev pub gb18030_after_lead : List ℕ → List (ℕ × ℕ) → ℕ → List ℕ → Piece
+gb18030_after_lead flat rows a [] = bad 1
+gb18030_after_lead flat rows a (b ∷ x) = if is_in_range 0x30 0x39 b then gb18030_after_two rows a b x else piece_of_trail 1 (gb18030_pair flat a b) b
 
 abbrev pub front_gb18030 : List ℕ → List (ℕ × ℕ) → List ℕ → Piece
-front_gb18030 flat rows = front_by_lead gb18030_first (after_lead flat rows)
+front_gb18030 flat rows = front_by_lead gb18030_first (gb18030_after_lead flat rows)
 
 abbrev pub pieces_gb18030 : List ℕ → List (ℕ × ℕ) → List ℕ → List Piece
 pieces_gb18030 flat rows = pieces_by (front_gb18030 flat rows)
@@ -62,50 +62,3 @@ sample_flat = 0 ∷ 0x4E04 ∷ []
 
 unfoldable pub sample_rows : List (ℕ × ℕ)
 sample_rows = (189000, 0x10000) ∷ []
-
-alone : pieces_gb18030 sample_flat sample_rows (0x41 ∷ 0x80 ∷ 0xFF ∷ []) ≡ good 1 (0x41 ∷ []) ∷ good 1 (0x20AC ∷ []) ∷ bad 1 ∷ []
-unfolding pieces_in
-alone = refl
-
-two_bytes : pieces_gb18030 sample_flat sample_rows (0x81 ∷ 0x41 ∷ []) ≡ good 2 (0x4E04 ∷ []) ∷ []
-unfolding sample_flat pieces_in
-two_bytes = refl
-
--- a trail that gives nothing is left if it is ASCII
-no_entry : pieces_gb18030 sample_flat sample_rows (0x81 ∷ 0x40 ∷ 0x81 ∷ 0x80 ∷ 0x81 ∷ 0xFF ∷ []) ≡ bad 1 ∷ good 1 (0x40 ∷ []) ∷ bad 2 ∷ bad 2 ∷ []
-unfolding sample_flat pieces_in
-no_entry = refl
-
-last_character : pieces_gb18030 sample_flat sample_rows (0xE3 ∷ 0x32 ∷ 0x9A ∷ 0x35 ∷ []) ≡ good 4 (0x10FFFF ∷ []) ∷ []
-unfolding sample_rows pieces_in
-last_character = refl
-
-no_row : pieces_gb18030 sample_flat sample_rows (0x81 ∷ 0x30 ∷ 0x81 ∷ 0x30 ∷ 0xE3 ∷ 0x32 ∷ 0x9A ∷ 0x36 ∷ []) ≡ bad 4 ∷ bad 4 ∷ []
-unfolding sample_rows pieces_in
-no_row = refl
-
-fixed_pointer : pieces_gb18030 sample_flat sample_rows (0x81 ∷ 0x35 ∷ 0xF4 ∷ 0x37 ∷ []) ≡ good 4 (0xE7C7 ∷ []) ∷ []
-unfolding pieces_in
-fixed_pointer = refl
-
--- the bytes behind the first are read again
-broken_third : pieces_gb18030 sample_flat sample_rows (0x81 ∷ 0x30 ∷ 0x41 ∷ []) ≡ bad 1 ∷ good 1 (0x30 ∷ []) ∷ good 1 (0x41 ∷ []) ∷ []
-unfolding pieces_in
-broken_third = refl
-
-broken_fourth : pieces_gb18030 sample_flat sample_rows (0x81 ∷ 0x30 ∷ 0x81 ∷ 0x41 ∷ []) ≡ bad 1 ∷ good 1 (0x30 ∷ []) ∷ good 2 (0x4E04 ∷ []) ∷ []
-unfolding sample_flat pieces_in
-broken_fourth = refl
-
--- at the end
-cut_after_one : pieces_gb18030 sample_flat sample_rows (0x81 ∷ []) ≡ bad 1 ∷ []
-unfolding pieces_in
-cut_after_one = refl
-
-cut_after_two : pieces_gb18030 sample_flat sample_rows (0x81 ∷ 0x30 ∷ []) ≡ bad 2 ∷ []
-unfolding pieces_in
-cut_after_two = refl
-
-cut_after_three : pieces_gb18030 sample_flat sample_rows (0x81 ∷ 0x30 ∷ 0x81 ∷ []) ≡ bad 3 ∷ []
-unfolding pieces_in
-cut_after_three = refl

@@ -31,11 +31,11 @@ abbrev pub two_of : ℕ × ℕ → List ℕ
 two_of p = p.0 ∷ p.1 ∷ []
 
 -- the lead and the trail of a pointer of the index
-abbrev pub trail_of : ℕ → ℕ
-trail_of r = if nat_lt r 0x3F then 0x40 + r else 0x41 + r
+abbrev pub gb18030_trail : ℕ → ℕ
+gb18030_trail r = if nat_lt r 0x3F then 0x40 + r else 0x41 + r
 
-abbrev pub pair_bytes : ℕ → List ℕ
-pair_bytes p = (0x81 + p / 190) ∷ trail_of (p % 190) ∷ []
+abbrev pub gb18030_pair_bytes : ℕ → List ℕ
+gb18030_pair_bytes p = (0x81 + p / 190) ∷ gb18030_trail (p % 190) ∷ []
 
 -- the four bytes of a pointer of the ranges
 abbrev pub four_bytes : ℕ → List ℕ
@@ -43,7 +43,7 @@ four_bytes p = (0x81 + p / 12600) ∷ (0x30 + p / 1260 % 10) ∷ (0x81 + p / 10 
 
 -- the bytes of a character above ASCII, from the standard's table, from the index, and from the ranges
 abbrev pub index_bytes : List ℕ → ℕ → Option (List ℕ)
-index_bytes flat c = option_map pair_bytes (first_pointer flat c 0 23940)
+index_bytes flat c = option_map gb18030_pair_bytes (first_pointer flat c 0 23940)
 
 abbrev pub range_bytes : List (ℕ × ℕ) → Bool → ℕ → Option (List ℕ)
 range_bytes rows extended c = if extended then option_map four_bytes (range_pointer rows c) else None
@@ -68,43 +68,3 @@ gb18030_need extended = if extended then 4 else 2
 -- the room that is enough for a text
 abbrev pub gb18030_text_room : Bool → TextRoom
 gb18030_text_room extended = if extended then text_room_gb18030 else text_room_two_byte
-
-two_bytes : gb18030_form sample_flat sample_rows true 0x4E04 ≡ Mapped (0x81 ∷ 0x41 ∷ [])
-unfolding sample_flat
-two_bytes = refl
-
-four : gb18030_form sample_flat sample_rows true 0x10FFFF ≡ Mapped (0xE3 ∷ 0x32 ∷ 0x9A ∷ 0x35 ∷ [])
-unfolding sample_flat sample_rows
-four = refl
-
-four_in_gbk : gb18030_form sample_flat sample_rows false 0x10FFFF ≡ Unmapped 0x10FFFF
-unfolding sample_flat
-four_in_gbk = refl
-
-fixed_pointer : gb18030_form sample_flat sample_rows true 0xE7C7 ≡ Mapped (0x81 ∷ 0x35 ∷ 0xF4 ∷ 0x37 ∷ [])
-unfolding sample_flat
-fixed_pointer = refl
-
-first_row : gb18030_form sample_flat sample_rows true 0xE78D ≡ Mapped (0xA6 ∷ 0xD9 ∷ [])
-first_row = refl
-
-another_row : gb18030_form sample_flat sample_rows false 0xE81E ≡ Mapped (0xFE ∷ 0x59 ∷ [])
-another_row = refl
-
-last_row : gb18030_form sample_flat sample_rows true 0xE864 ≡ Mapped (0xFE ∷ 0xA0 ∷ [])
-last_row = refl
-
-never : gb18030_form sample_flat sample_rows true 0xE5E5 ≡ Unmapped 0xE5E5
-never = refl
-
-euro_in_gbk : gb18030_form sample_flat sample_rows false 0x20AC ≡ Mapped (0x80 ∷ [])
-euro_in_gbk = refl
-
-euro : gb18030_form (0x20AC ∷ []) sample_rows true 0x20AC ≡ Mapped (0x81 ∷ 0x40 ∷ [])
-euro = refl
-
-trail_behind_7f : pair_bytes 63 ≡ 0x81 ∷ 0x80 ∷ []
-trail_behind_7f = refl
-
-last_pair : pair_bytes 23939 ≡ 0xFE ∷ 0xFE ∷ []
-last_pair = refl

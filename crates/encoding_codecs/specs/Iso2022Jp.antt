@@ -41,8 +41,8 @@ abbrev pub katakana_piece : ℕ → Piece
 katakana_piece b = if is_in_range 0x21 0x5F b then good 1 ((0xFF61 + (b - 0x21)) ∷ []) else bad 1
 
 -- the set of two bytes a character
-abbrev pub pointer_of_pair : ℕ → ℕ → ℕ
-pointer_of_pair b c = (b - 0x21) * 94 + (c - 0x21)
+abbrev pub jis_pair_pointer : ℕ → ℕ → ℕ
+jis_pair_pointer b c = (b - 0x21) * 94 + (c - 0x21)
 
 abbrev pub piece_of_entry : Option ℕ → Piece
 piece_of_entry None = bad 2
@@ -51,7 +51,7 @@ piece_of_entry (Some c) = good 2 (c ∷ [])
 -- the piece that begins with a first byte b from 21 to 7E, and goes on with what follows it
 abbrev pub pair_piece : List ℕ → ℕ → List ℕ → Piece
 pair_piece jis0208 b [] = bad 1
-pair_piece jis0208 b (c ∷ x) = if is_in_range 0x21 0x7E c then piece_of_entry (value_of jis0208 (pointer_of_pair b c)) else bad 2
+pair_piece jis0208 b (c ∷ x) = if is_in_range 0x21 0x7E c then piece_of_entry (value_of jis0208 (jis_pair_pointer b c)) else bad 2
 
 -- the first piece of text in a mode
 abbrev pub front_text : List ℕ → Mode → List ℕ → Piece

@@ -22,9 +22,9 @@ pointer_of jis0208 (Some c) = first_pointer jis0208 c 0 8836
 abbrev pub pointer_of_char : List ℕ → List ℕ → ℕ → Option ℕ
 pointer_of_char jis0208 katakana c = pointer_of jis0208 (looked_up katakana c)
 
-abbrev pub form_of_pointer : ℕ → Option ℕ → Form
-form_of_pointer c None = Unmapped c
-form_of_pointer c (Some p) = Mapped ((0x21 + p / 94) ∷ (0x21 + p % 94) ∷ [])
+abbrev pub jis_form_of_pointer : ℕ → Option ℕ → Form
+jis_form_of_pointer c None = Unmapped c
+jis_form_of_pointer c (Some p) = Mapped ((0x21 + p / 94) ∷ (0x21 + p % 94) ∷ [])
 
 -- The three controls that a reader of ISO-2022-JP takes for shifts and escapes are reported as U+FFFD.
 abbrev pub ascii_form : ℕ → Form
@@ -34,7 +34,7 @@ abbrev pub iso_2022_jp_form : List ℕ → List ℕ → ℕ → Form
 iso_2022_jp_form jis0208 katakana c = if nat_lt c 0x80 then ascii_form c
     else (if c == 0xA5 then Mapped (0x5C ∷ [])
     else (if c == 0x203E then Mapped (0x7E ∷ [])
-    else form_of_pointer c (pointer_of_char jis0208 katakana c)))
+    else jis_form_of_pointer c (pointer_of_char jis0208 katakana c)))
 
 -- ---- the sets
 
@@ -73,13 +73,13 @@ abbrev pub iso_2022_jp_sets : List ℕ → List ℕ → ℕ → Sets
 iso_2022_jp_sets jis0208 katakana c = if nat_lt c 0x80 then (if c == 0x5C || c == 0x7E then only Ascii else ascii_or_roman)
     else (if c == 0xA5 || c == 0x203E then only Roman else sets_of_pointer (pointer_of_char jis0208 katakana c))
 
-abbrev pub escape_to : Set → List ℕ
-escape_to Ascii = 0x1B ∷ 0x28 ∷ 0x42 ∷ []
-escape_to Roman = 0x1B ∷ 0x28 ∷ 0x4A ∷ []
-escape_to Jis = 0x1B ∷ 0x24 ∷ 0x42 ∷ []
+abbrev pub iso_2022_jp_escape_to : Set → List ℕ
+iso_2022_jp_escape_to Ascii = 0x1B ∷ 0x28 ∷ 0x42 ∷ []
+iso_2022_jp_escape_to Roman = 0x1B ∷ 0x28 ∷ 0x4A ∷ []
+iso_2022_jp_escape_to Jis = 0x1B ∷ 0x24 ∷ 0x42 ∷ []
 
 abbrev pub iso_2022_jp_escape : Set → Set → List ℕ
-iso_2022_jp_escape s s' = if is_set s s' then [] else escape_to s'
+iso_2022_jp_escape s s' = if is_set s s' then [] else iso_2022_jp_escape_to s'
 
 abbrev pub iso_2022_jp_coding : List ℕ → List ℕ → Coding
 iso_2022_jp_coding jis0208 katakana = record {

@@ -5,9 +5,9 @@ ghost use Rattle.encoding_mem.specs.Room.{room_multibyte};
 ghost use Rattle.encoding_mem.specs.TextRoom.{text_room_two_byte};
 ghost use Rattle.encoding_tables.specs.IndexLists.{has, entries_of};
 ghost use Rattle.encoding_tables.specs.Lookups.{AreEntries};
-ghost use Rattle.encoding_codecs.specs.EucJp.{is_pointer_byte, euc_jp_first, euc_pair, euc_jp_pair, euc_jp_after, pieces_euc_jp, own_bytes, bytes_of_pointer, bytes_of_char, euc_jp_form, euc_jp_coding};
-ghost use Rattle.encoding_codecs.specs.EucJpDecide.{decide_8f, decide_euc_jp};
-ghost use Rattle.encoding_codecs.specs.EucJpLaws.{euc_jp_is_lead_rule, euc_jp_ascii, euc_jp_laws};
+ghost use Rattle.encoding_codecs.specs.EucJp.{is_pointer_byte, euc_jp_first, euc_pair, euc_jp_pair, euc_jp_after, pieces_euc_jp, own_bytes, euc_jp_pair_bytes, euc_jp_char_bytes, euc_jp_form, euc_jp_coding};
+ghost use Rattle.encoding_codecs.specs.laws.EucJpDecide.{decide_8f, decide_euc_jp};
+ghost use Rattle.encoding_codecs.specs.laws.EucJp.{euc_jp_is_lead_rule, euc_jp_ascii, euc_jp_laws};
 ghost use Rattle.encoding_mem.specs.declared.form.Set.TheVariants.{Ascii};
 
 use crate::jis::{byte_of_katakana, folded, is_katakana, is_katakana_byte, katakana_of_byte};
@@ -196,7 +196,7 @@ impl<'a> Forms for EucJpForms<'a> {
 // The bytes of a character.
 #[inline(always)]
 fn bytes_of_char(jis0208: &Flat<'_>, c: char) -> Option<Bytes>
-    ensures { result ≡ bytes_of_char jis0208.now c }
+    ensures { result ≡ euc_jp_char_bytes jis0208.now c }
 {
     if let Some(bytes) = own_bytes(c) {
         return Some(bytes);
@@ -229,7 +229,7 @@ fn own_bytes(c: char) -> Option<Bytes>
 #[inline(always)]
 fn bytes_of_pointer(pointer: u32) -> Bytes
     requires { pointer < 8836 }
-    ensures { result ≡ bytes_of_pointer pointer }
+    ensures { result ≡ euc_jp_pair_bytes pointer }
 {
     Bytes::two((0xA1 + pointer / 94) as u8, (0xA1 + pointer % 94) as u8)
 }

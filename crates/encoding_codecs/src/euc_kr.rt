@@ -6,8 +6,8 @@ ghost use Rattle.encoding_mem.specs.TextRoom.{text_room_two_byte};
 ghost use Rattle.encoding_tables.specs.IndexLists.{has, entries_of};
 ghost use Rattle.encoding_tables.specs.Lookups.{AreEntries, first_pointer};
 ghost use Rattle.encoding_codecs.specs.EucKr.{euc_kr_rule, pieces_euc_kr, euc_kr_bytes, euc_kr_form, euc_kr_coding};
-ghost use Rattle.encoding_codecs.specs.EucKrLaws.{euc_kr_is_two_byte, euc_kr_laws};
-ghost use Rattle.encoding_codecs.specs.PointersLaws.{ascii_by_pointer};
+ghost use Rattle.encoding_codecs.specs.laws.EucKr.{euc_kr_is_two_byte, euc_kr_laws};
+ghost use Rattle.encoding_codecs.specs.laws.Pointers.{ascii_by_pointer};
 ghost use Rattle.encoding_mem.specs.declared.form.Set.TheVariants.{Ascii};
 
 use crate::lead_rule::{FirstByte, LeadFront};

@@ -5,9 +5,9 @@ ghost use Rattle.std.specs.Prelude.{◌≡◌, ◌↔◌, ◌||◌, true, IsTrue
 ghost use Rattle.std.specs.Int.{IsInRange, is_in_range};
 ghost use Rattle.encoding_mem.specs.Room.{room_multibyte};
 ghost use Rattle.encoding_tables.specs.IndexLists.{has, entries_of, rows_of};
-ghost use Rattle.encoding_codecs.specs.Gb18030.{gb18030_first, gb18030_pair, pair_pointer, four_pointer, after_lead, pieces_gb18030};
-ghost use Rattle.encoding_codecs.specs.Gb18030Decide.{decide_lead, decide_two, decide_three, decide_four};
-ghost use Rattle.encoding_codecs.specs.Gb18030Laws.{AreGbTables, gb18030_rule};
+ghost use Rattle.encoding_codecs.specs.Gb18030.{gb18030_first, gb18030_pair, pair_pointer, four_pointer, gb18030_after_lead, pieces_gb18030};
+ghost use Rattle.encoding_codecs.specs.laws.Gb18030Decide.{gb18030_decide_lead, gb18030_decide_two, gb18030_decide_three, decide_four};
+ghost use Rattle.encoding_codecs.specs.laws.Gb18030.{AreGbTables, gb18030_rule};
 
 use crate::lead_rule::{FirstByte, LeadFront, LeadRule};
 use crate::two_byte::{PairValue, cut_short, decide_trail, value_of_entry};
@@ -29,9 +29,9 @@ struct Gb18030Rule<'a> {
 impl<'a> LeadRule for Gb18030Rule<'a> {
     ghost first_byte = { λ _. gb18030_first };
 
-    ghost after = { λ s. after_lead s.index s.ranges };
+    ghost after = { λ s. gb18030_after_lead s.index s.ranges };
 
-    ghost decided = { λ s. decide_lead s.index s.ranges };
+    ghost decided = { λ s. gb18030_decide_lead s.index s.ranges };
 
     ghost laws = { λ s. gb18030_rule s.index s.ranges s.scalars };
 
@@ -80,7 +80,7 @@ impl<'a> Gb18030Rule<'a> {
     fn after_two(&self, a: u8, b: u8, rest: &[u8], last: bool) -> Front
         requires lead { IsInRange 0x81 0xFE a }
         requires second { IsInRange 0x30 0x39 b }
-        ensures { result ≡ decide_two self.now.ranges a b rest.now last }
+        ensures { result ≡ gb18030_decide_two self.now.ranges a b rest.now last }
     {
         match rest {
             [] => cut_short(2, last),
@@ -99,7 +99,7 @@ impl<'a> Gb18030Rule<'a> {
         requires lead { IsInRange 0x81 0xFE a }
         requires second { IsInRange 0x30 0x39 b }
         requires third { IsInRange 0x81 0xFE c }
-        ensures { result ≡ decide_three self.now.ranges a b c rest.now last }
+        ensures { result ≡ gb18030_decide_three self.now.ranges a b c rest.now last }
     {
         match rest {
             [] => cut_short(3, last),

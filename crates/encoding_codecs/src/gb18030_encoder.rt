@@ -3,8 +3,8 @@
 
 ghost use Rattle.std.specs.Prelude.{◌≡◌, ◌+◌, ◌/◌, ◌%◌, ◌<◌, true};
 ghost use Rattle.encoding_tables.specs.IndexLists.{has, entries_of, rows_of};
-ghost use Rattle.encoding_codecs.specs.Gb18030Coding.{fixed_pair, pair_bytes, four_bytes, gb18030_bytes, gb18030_coding, gb18030_need, gb18030_text_room};
-ghost use Rattle.encoding_codecs.specs.Gb18030CodingLaws.{gb18030_laws, gb18030_fits};
+ghost use Rattle.encoding_codecs.specs.Gb18030Coding.{fixed_pair, gb18030_pair_bytes, four_bytes, gb18030_bytes, gb18030_coding, gb18030_need, gb18030_text_room};
+ghost use Rattle.encoding_codecs.specs.laws.Gb18030Coding.{gb18030_laws, gb18030_fits};
 ghost use Rattle.encoding_mem.specs.declared.form.Set.TheVariants.{Ascii};
 
 use crate::stateless::form_of_bytes;
@@ -113,7 +113,7 @@ fn fixed_pair(c: char) -> Option<(u8, u8)>
 #[inline(always)]
 fn pair_bytes(pointer: u32) -> Bytes
     requires { pointer < 23940 }
-    ensures { result ≡ pair_bytes pointer }
+    ensures { result ≡ gb18030_pair_bytes pointer }
 {
     let rest = pointer % 190;
     let offset = if rest < 0x3F { 0x40 } else { 0x41 };

@@ -9,8 +9,8 @@ ghost use Rattle.encoding_tables.specs.IndexLists.{has, entries_of};
 ghost use Rattle.encoding_tables.specs.Lookups.{AreEntries};
 ghost use Rattle.encoding_tables.specs.declared.index_kind.IndexKind.{IndexKind};
 ghost use Rattle.encoding_codecs.specs.Iso2022Jp.{escape_of, escape_at, ascii_piece, katakana_piece, piece_of_entry, pieces_in_mode, pieces_iso_2022_jp, IsNeutral};
-ghost use Rattle.encoding_codecs.specs.Iso2022JpDecide.{escape_front, char_front, pair_front, front_iso_2022_jp, mode_after, may_be_escape, is_lead, is_open, shown, decide_iso_2022_jp};
-ghost use Rattle.encoding_codecs.specs.Iso2022JpLaws.{iso_2022_jp_whole, iso_2022_jp_are_pieces, iso_2022_jp_ends};
+ghost use Rattle.encoding_codecs.specs.laws.Iso2022JpDecide.{escape_front, char_front, jis_pair_front, front_iso_2022_jp, mode_after, may_be_escape, is_jis_lead, is_open, shown, decide_iso_2022_jp};
+ghost use Rattle.encoding_codecs.specs.laws.Iso2022Jp.{iso_2022_jp_whole, iso_2022_jp_are_pieces, iso_2022_jp_ends};
 
 use encoding_mem::ascii::ascii_front;
 use encoding_mem::front::{Front, FrontPiece};
@@ -144,7 +144,7 @@ fn is_open(mode: Mode, bytes: &[u8]) -> bool
 
 // Whether this is the first byte of two, alone.
 fn is_lead(mode: Mode, bytes: &[u8]) -> bool
-    ensures { result ≡ is_lead mode bytes.now }
+    ensures { result ≡ is_jis_lead mode bytes.now }
 {
     match (mode, bytes) {
         (Mode::Jis, [b]) => *b >= 0x21 && *b <= 0x7E,
@@ -236,7 +236,7 @@ fn katakana_front(b: u8) -> Front
 // A first byte and what follows it: 1B is left, any other second byte is taken.
 fn pair_front(jis0208: &Flat<'_>, b: u8, rest: &[u8]) -> Front
     requires { IsInRange 0x21 0x7E b }
-    ensures { result ≡ shown (pair_front jis0208.now b rest.now) }
+    ensures { result ≡ shown (jis_pair_front jis0208.now b rest.now) }
 {
     match rest {
         [] | [0x1B, ..] => Front::Bad(1),

@@ -6,7 +6,7 @@ ghost use Rattle.encoding_mem.specs.declared.form.Set.TheVariants.{Ascii};
 ghost use Rattle.encoding_tables.specs.IndexLists.{has, entries_of};
 ghost use Rattle.encoding_tables.specs.declared.index_kind.IndexKind.{IndexKind};
 ghost use Rattle.encoding_codecs.specs.Iso2022JpForms.{looked_up, pointer_of_char, ascii_form, is_set, ascii_or_roman, set_after, iso_2022_jp_coding};
-ghost use Rattle.encoding_codecs.specs.Iso2022JpFormsLaws.{iso_2022_jp_laws, iso_2022_jp_fits};
+ghost use Rattle.encoding_codecs.specs.laws.Iso2022JpForms.{iso_2022_jp_laws, iso_2022_jp_fits};
 
 use crate::jis::{folded, is_katakana};
 use encoding_mem::encode::{Target, encode};

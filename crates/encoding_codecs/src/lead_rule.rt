@@ -5,12 +5,12 @@ ghost use Rattle.std.proofs.Common.{refl, arith};
 ghost use Rattle.std.specs.Prelude.{◌≡◌, ℕ, ◌≤◌, ◌<◌, Bool, List};
 ghost use Rattle.encoding_mem.specs.Piece.{Piece};
 ghost use Rattle.encoding_mem.specs.Pieces.{pieces_by};
-ghost use Rattle.encoding_mem.specs.PiecesLaws.{pieces_by-nil, pieces_by-whole, pieces_by-are_pieces};
+ghost use Rattle.encoding_mem.specs.laws.Pieces.{pieces_by-nil, pieces_by-whole, pieces_by-are_pieces};
 ghost use Rattle.encoding_mem.specs.Room.{room_of, room_multibyte};
 ghost use Rattle.encoding_mem.specs.declared.front.Front.{Front};
 ghost use Rattle.encoding_codecs.specs.TwoByte.{front_by_lead};
-ghost use Rattle.encoding_codecs.specs.TwoByteDecide.{decide_by_lead};
-ghost use Rattle.encoding_codecs.specs.TwoByteLaws.{IsLeadRule, cuts_rule};
+ghost use Rattle.encoding_codecs.specs.laws.TwoByteDecide.{decide_by_lead};
+ghost use Rattle.encoding_codecs.specs.laws.TwoByte.{IsLeadRule, cuts_rule};
 ghost use Rattle.encoding_codecs.specs.declared.lead_rule.FirstByte.{FirstByte};
 
 use encoding_mem::ascii::longer_ascii_front;

@@ -5,8 +5,8 @@ ghost use Rattle.encoding_mem.specs.Room.{room_multibyte};
 ghost use Rattle.encoding_mem.specs.TextRoom.{text_room_two_byte};
 ghost use Rattle.encoding_tables.specs.IndexLists.{has, entries_of};
 ghost use Rattle.encoding_tables.specs.Lookups.{AreEntries};
-ghost use Rattle.encoding_codecs.specs.ShiftJis.{is_lead, is_trail, pointer_of_pair, value_of_pointer, shift_jis_rule, pieces_shift_jis, byte_of_char, shift_jis_pointer, bytes_of_pointer, bytes_of_char, shift_jis_form, shift_jis_coding};
-ghost use Rattle.encoding_codecs.specs.ShiftJisLaws.{shift_jis_is_two_byte, shift_jis_ascii, shift_jis_laws};
+ghost use Rattle.encoding_codecs.specs.ShiftJis.{is_shift_jis_lead, is_trail, shift_jis_pair_pointer, value_of_pointer, shift_jis_rule, pieces_shift_jis, shift_jis_single_byte, shift_jis_pointer, shift_jis_pair_bytes, shift_jis_char_bytes, shift_jis_form, shift_jis_coding};
+ghost use Rattle.encoding_codecs.specs.laws.ShiftJis.{shift_jis_is_two_byte, shift_jis_ascii, shift_jis_laws};
 ghost use Rattle.encoding_mem.specs.declared.form.Set.TheVariants.{Ascii};
 
 use crate::jis::{byte_of_katakana, folded, is_katakana, katakana_of_byte};
@@ -85,9 +85,9 @@ fn is_trail(byte: u8) -> bool
 // The pointer of a lead and a trail.
 #[inline(always)]
 fn pointer_of_pair(lead: u8, trail: u8) -> u32
-    requires lead { is_lead lead ≡ true }
+    requires lead { is_shift_jis_lead lead ≡ true }
     requires trail { is_trail trail ≡ true }
-    ensures { result ≡ pointer_of_pair lead trail }
+    ensures { result ≡ shift_jis_pair_pointer lead trail }
 {
     let lead_offset = if lead < 0xA0 { 0x81 } else { 0xC1 };
     let offset = if trail < 0x7F { 0x40 } else { 0x41 };
@@ -118,7 +118,7 @@ fn private_use(place: u32) -> char
 // The bytes of a character.
 #[inline(always)]
 fn bytes_of_char(jis0208: &Flat<'_>, c: char) -> Option<Bytes>
-    ensures { result ≡ bytes_of_char jis0208.now c }
+    ensures { result ≡ shift_jis_char_bytes jis0208.now c }
 {
     if let Some(byte) = byte_of_char(c) {
         return Some(Bytes::one(byte));
@@ -132,7 +132,7 @@ fn bytes_of_char(jis0208: &Flat<'_>, c: char) -> Option<Bytes>
 // The byte of a character that is one byte.
 #[inline(always)]
 fn byte_of_char(c: char) -> Option<u8>
-    ensures { result ≡ byte_of_char c }
+    ensures { result ≡ shift_jis_single_byte c }
 {
     if c <= '\u{80}' {
         Some(c as u8)
@@ -164,7 +164,7 @@ fn pointer_of_char(jis0208: &Flat<'_>, c: char) -> Option<u32>
 #[inline(always)]
 fn bytes_of_pointer(pointer: u32) -> Bytes
     requires { pointer < 11280 }
-    ensures { result ≡ bytes_of_pointer pointer }
+    ensures { result ≡ shift_jis_pair_bytes pointer }
 {
     let row = pointer / 188;
     let cell = pointer % 188;

@@ -5,7 +5,7 @@ ghost use Rattle.encoding_mem.specs.Coding.{IsCoding};
 ghost use Rattle.encoding_mem.specs.Stateless.{stateless};
 ghost use Rattle.encoding_mem.specs.TextRoom.{text_room_two_byte};
 ghost use Rattle.encoding_codecs.specs.Pointers.{form_of_bytes};
-ghost use Rattle.encoding_codecs.specs.TextRooms.{two_byte_fits};
+ghost use Rattle.encoding_codecs.specs.laws.TextRooms.{two_byte_fits};
 ghost use Rattle.encoding_mem.specs.declared.form.Form.{Form};
 ghost use Rattle.encoding_mem.specs.declared.form.Form.TheVariants.{Mapped};
 ghost use Rattle.encoding_mem.specs.declared.form.Set.TheVariants.{Ascii};

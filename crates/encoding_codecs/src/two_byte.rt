@@ -1,10 +1,10 @@
 // The rule of the encodings of one and two bytes a character, and its parts, for longer ones.
 
 ghost use Rattle.std.specs.Prelude.{◌≡◌, ℕ, ◌+◌, ◌≤◌, List};
-ghost use Rattle.encoding_mem.specs.Utf8Decide.{cut_short};
+ghost use Rattle.encoding_mem.specs.laws.Utf8Decide.{cut_short};
 ghost use Rattle.encoding_codecs.specs.TwoByte.{TwoByteRule, IsTwoByte, after_bytes};
-ghost use Rattle.encoding_codecs.specs.TwoByteDecide.{decide_trail, decide_after};
-ghost use Rattle.encoding_codecs.specs.TwoByteLaws.{two_byte_rule};
+ghost use Rattle.encoding_codecs.specs.laws.TwoByteDecide.{decide_trail, decide_after};
+ghost use Rattle.encoding_codecs.specs.laws.TwoByte.{two_byte_rule};
 ghost use Rattle.encoding_codecs.specs.Pointers.{value_of_entry};
 
 use crate::lead_rule::{FirstByte, LeadRule};

@@ -252,7 +252,11 @@ fn big5_takes_the_first_or_the_last_pointer(rt: HostRuntime) -> Result<(), Fail>
 #[test]
 fn big5_of_rows_takes_the_last_pointer(rt: HostRuntime) {
     let mut tables = Tables::new(rt.alloc());
-    insert_rows(&mut tables, IndexKind::Big5, &[(5287, 0x5341), (5512, 0x5341)]);
+    insert_rows(
+        &mut tables,
+        IndexKind::Big5,
+        &[(5287, 0x5341), (5512, 0x5341)],
+    );
     assert!(rt; tables.has(IndexKind::Big5));
     let mut encoder = Big5Encoder::new(&tables);
     let mut dst = [0; 4];

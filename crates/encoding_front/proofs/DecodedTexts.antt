@@ -4,10 +4,10 @@ use Rattle.std.proofs.lemmas.List.{append-nil, drop-drop}
 use Rattle.std.specs.Char.{len_utf8}
 use Rattle.encoding_mem.specs.Writing.{len_utf16}
 use Rattle.encoding_mem.specs.Piece.{Piece, good, bad, text, scalars, sizes, bad_count, AreGood}
-use Rattle.encoding_mem.specs.PieceLaws.{sizes-append, scalars-append, text-append}
+use Rattle.encoding_mem.specs.laws.Piece.{sizes-append, scalars-append, text-append}
 use Rattle.encoding_mem.specs.Decoding.{Takes, Reports}
 use Rattle.encoding_mem.specs.Driver.{Suffices}
-use Rattle.encoding_mem.specs.Room.{is_units, goes_on, mark_in, left_after}
+use Rattle.encoding_mem.specs.Room.{is_units, goes_on, replacement_len, left_after}
 use Rattle.encoding_mem.specs.declared.room.Count.{Count}
 use Rattle.encoding_mem.specs.declared.decoder_result.DecoderResult.{DecoderResult}
 use Rattle.encoding_mem.specs.declared.decoder_result.DecoderResult.TheVariants.{OutputFull, Malformed}
@@ -108,7 +108,7 @@ fewer M A outcome a b c left rest last q s read W outcome_is rest_is told =
 pub suffices_start : (needs : Count → ℕ → ℕ) (t last : Bool) (size free : ℕ) → SufficesText needs needs t last size (size - 0) free free
 suffices_start needs t last size free k m on is stops fits = (let same : (size - 0) + m ≡ size + m = omega arith in omega (arith, ap (needs k) same, fits))
 
-mark_cost : (t : Bool) → cond t (len_utf16 0xFFFD) (len_utf8 0xFFFD) ≡ mark_in t
+mark_cost : (t : Bool) → cond t (len_utf16 0xFFFD) (len_utf8 0xFFFD) ≡ replacement_len t
 mark_cost true = refl
 mark_cost false = refl
 
@@ -121,7 +121,7 @@ pub suffices_bad : (before now after : Count → ℕ → ℕ) (t last : Bool) (s
 suffices_bad before now after t last size left n read old mid new rest a b cost outcome outcome_is left_is cost_is put within few h told k m on is stops fits =
     let s : Suffices now after t last left (left - read) mid new (Malformed a b) = subst (λ (o : DecoderResult). Suffices now after t last left (left - read) mid new o) outcome_is told in
     let here : now k (left + m) ≤ mid = (let same : (size - n) + m ≡ left + m = omega (arith, left_is) in omega (arith, ap (now k) same, h k m on is stops fits)) in
-    let there : mark_in t + after k ((left - read) + m) ≤ new = left_on (goes_on k) (mark_in t) (after k ((left - read) + m)) new on (s k m is stops here) in
+    let there : replacement_len t + after k ((left - read) + m) ≤ new = left_on (goes_on k) (replacement_len t) (after k ((left - read) + m)) new on (s k m is stops here) in
     let same : (left - read) + m ≡ (size - (n + read)) + m = omega (arith, left_is) in
     omega (arith, there, ap (after k) same, cost_is, mark_cost t, put)
 

@@ -2,8 +2,8 @@
 use Rattle.std.proofs.Common.{◌≡◌, ℕ, ◌+◌, ◌-◌, ◌≤◌, Bool, List, [], ◌++◌, length, take, drop, refl, sym, ◌∙◌, ap, subst, arith}
 use Rattle.std.proofs.lemmas.List.{drop-append-le, drop-drop, take-append-drop}
 use Rattle.encoding_mem.specs.Coding.{Coding}
-use Rattle.encoding_mem.specs.Encoding.{Answers, Encodes}
-use Rattle.encoding_mem.specs.EncodingLaws.{encoded_bytes}
+use Rattle.encoding_mem.specs.Encoding.{EncodeEndsWith, Encodes}
+use Rattle.encoding_mem.specs.laws.Encoding.{encoded_bytes}
 use Rattle.encoding_mem.specs.Target.{Moves}
 use Rattle.encoding_mem.specs.declared.encoder_result.EncoderResult.{EncoderResult}
 use Rattle.encoding_mem.specs.declared.encoder_result.EncoderResult.TheVariants.{InputEmpty, OutputFull, Unmappable}
@@ -19,7 +19,7 @@ use Rattle.encoding_front.specs.declared.scheme.Scheme.{Scheme}
 
 -- what its parts do, said of its state
 pub encoded : (t : IndexLists) (enc : Encoding) (s s' : Set) (coding : Coding) (need : ℕ) (limits : TextRoom) → IsEncoderOf t enc coding need limits
-    → (last : Bool) (answer : EncoderResult) (text written rest : List ℕ) (room : ℕ) → Encodes coding last answer s text written s' rest → Answers need last answer s' rest room → Moves coding s s'
+    → (last : Bool) (answer : EncoderResult) (text written rest : List ℕ) (room : ℕ) → Encodes coding last answer s text written s' rest → EncodeEndsWith need last answer s' rest room → Moves coding s s'
     → Encoded (record { tables = t; encoding = enc; set = s }) last answer text written (record { tables = t; encoding = enc; set = s' }) rest room
 encoded t enc s s' coding need limits parts last answer text written rest room law answers moves =
     let of_coding : Encodes (coding_of t enc) last answer s text written s' rest = subst (λ (e : Coding). Encodes e last answer s text written s' rest) parts.codes law in
@@ -27,7 +27,7 @@ encoded t enc s s' coding need limits parts last answer text written rest room l
       same = refl;
       law = of_coding;
       bytes = encoded_bytes (coding_of t enc) last answer s text written s' rest of_coding;
-      answers = subst (λ (n : ℕ). Answers n last answer s' rest room) parts.needs answers;
+      answers = subst (λ (n : ℕ). EncodeEndsWith n last answer s' rest room) parts.needs answers;
       moves = subst (λ (e : Coding). Moves e s s') parts.codes moves;
     }
 

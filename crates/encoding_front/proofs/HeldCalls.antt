@@ -3,10 +3,10 @@ use Rattle.std.proofs.Common.{◌≡◌, ℕ, ◌+◌, ◌-◌, ◌≤◌, inl, 
 use Rattle.encoding_mem.specs.Piece.{Piece, scalars, AreGood}
 use Rattle.encoding_mem.specs.Decoding.{DecoderState, Takes, Reports, EndsWith}
 use Rattle.encoding_mem.specs.Driver.{Suffices}
-use Rattle.encoding_mem.specs.Room.{goes_on, mark_in, left_after}
+use Rattle.encoding_mem.specs.Room.{goes_on, replacement_len, left_after}
 use Rattle.encoding_mem.specs.declared.decoder_result.DecoderResult.{DecoderResult}
 use Rattle.encoding_mem.specs.declared.decoder_result.DecoderResult.TheVariants.{InputEmpty, OutputFull, Malformed}
-use Rattle.encoding_mem.specs.PieceLaws.{sizes-append, scalars-append, AreGood-append}
+use Rattle.encoding_mem.specs.laws.Piece.{sizes-append, scalars-append, AreGood-append}
 use Rattle.encoding_front.specs.MarkedState.{held_state}
 
 -- what a second call reports, after pieces that are good
@@ -76,7 +76,7 @@ suffices_none s u held after t last size unread old new OutputFull e g h = λ k 
 suffices_none s u held after t last size unread old new (Malformed a b) e g h = λ k m is stops fits.
     (let here : length held + (size + m) ≡ size + m = omega (arith, e) in
     let there : unread + m ≡ length after + (unread + m) = omega (arith, g) in
-    subst (λ (n : ℕ). left_after (goes_on k) (mark_in t) (u.needs k n) ≤ new) there (h k m is stops (omega (arith, ap (s.needs k) here, fits))))
+    subst (λ (n : ℕ). left_after (goes_on k) (replacement_len t) (u.needs k n) ≤ new) there (h k m is stops (omega (arith, ap (s.needs k) here, fits))))
 
 -- after a call that read all held bytes, the next
 pub suffices_then : (O M A : DecoderState) (held after : List ℕ) (t last : Bool) (size unread old mid new : ℕ) (first_of outcome : DecoderResult) → length after ≡ 0 → first_of ≡ InputEmpty → Suffices O.needs M.needs t false (length held) 0 old mid first_of
@@ -87,7 +87,7 @@ suffices_then O M A held after t last size unread old mid new InputEmpty InputEm
 suffices_then O M A held after t last size unread old mid new InputEmpty OutputFull g e h j = λ k m is stops fits. j k m is stops (h k (size + m) is (λ n. cc) fits)
 suffices_then O M A held after t last size unread old mid new InputEmpty (Malformed a b) g e h j = λ k m is stops fits.
     (let there : unread + m ≡ length after + (unread + m) = omega (arith, g) in
-    subst (λ (n : ℕ). left_after (goes_on k) (mark_in t) (A.needs k n) ≤ new) there (j k m is stops (h k (size + m) is (λ n. cc) fits)))
+    subst (λ (n : ℕ). left_after (goes_on k) (replacement_len t) (A.needs k n) ≤ new) there (j k m is stops (h k (size + m) is (λ n. cc) fits)))
 suffices_then O M A held after t last size unread old mid new OutputFull outcome g e h j = cc
 suffices_then O M A held after t last size unread old mid new (Malformed a b) outcome g e h j = cc
 
@@ -102,4 +102,4 @@ suffices_bad O M held after t last size left old new a b c InputEmpty e g h = cc
 suffices_bad O M held after t last size left old new a b c OutputFull e g h = cc
 suffices_bad O M held after t last size left old new a b c (Malformed i j) e g h = λ k m is stops fits.
     (let there : left + (size + m) ≡ length after + ((size - 0) + m) = omega (arith, g) in
-    subst (λ (n : ℕ). left_after (goes_on k) (mark_in t) (M.needs k n) ≤ new) there (h k (size + m) is (λ n. cc) fits))
+    subst (λ (n : ℕ). left_after (goes_on k) (replacement_len t) (M.needs k n) ≤ new) there (h k (size + m) is (λ n. cc) fits))

@@ -1,7 +1,7 @@
 -- What a look for a mark does.
 use Rattle.std.proofs.Common.{◌≡◌, ℕ, zero, suc, ◌+◌, ◌-◌, ◌≤◌, ◌<◌, ◌==◌, ◌&&◌, Bool, true, false, cond, IsTrue, List, [], ◌∷◌, ◌++◌, length, take, drop, refl, sym, ◌∙◌, ap, subst, arith, append_assoc, length-append, length-take, Some, Option}
 use Rattle.std.proofs.lemmas.List.{append-nil, take-append-drop, drop_all, drop-append-le}
-use Rattle.encoding_mem.specs.Piece.{Piece, good, first, size_of, sizes, AreGood}
+use Rattle.encoding_mem.specs.Piece.{Piece, good, first, piece_len, sizes, AreGood}
 use Rattle.encoding_mem.specs.Decoding.{DecoderState, Takes, Waits}
 use Rattle.encoding_mem.specs.Room.{room_of}
 use Rattle.encoding_mem.specs.declared.room.Count.{Count}
@@ -32,9 +32,9 @@ unmarked s own x e = rw e refl
 pub untaken : (s : Sought) (taken : Option ByteOrderMark) (x : List ℕ) → is_sought s ≡ false → mark_taken s taken x ≡ taken
 untaken s taken x e = rw e refl
 
-first_within : (ps : List Piece) (p : Piece) → first ps ≡ Some p → size_of p ≤ sizes ps
+first_within : (ps : List Piece) (p : Piece) → first ps ≡ Some p → piece_len p ≤ sizes ps
 first_within [] p e = cc
-first_within (q ∷ ps) p e = let same : q ≡ p = cc in omega (arith, ap size_of same)
+first_within (q ∷ ps) p e = let same : q ≡ p = cc in omega (arith, ap piece_len same)
 
 -- the three bytes that are looked at, and the rest
 cut : (held src window r : List ℕ) → window ≡ take 3 (held ++ src) → held ++ (src ++ r) ≡ window ++ (drop 3 (held ++ src) ++ r)

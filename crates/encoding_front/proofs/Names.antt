@@ -11,7 +11,7 @@ use Rattle.std.specs.Str.{bytes_eq}
 use Rattle.encoding_labels.specs.Labels.{IsLabelOf, label_text, labels, place_in}
 use Rattle.encoding_tables.specs.IndexLists.{IndexLists, has}
 use Rattle.encoding_tables.specs.declared.index_kind.IndexKind.{IndexKind}
-use Rattle.encoding_front.specs.EncodingTable.{encodings, number_of, name_of, places}
+use Rattle.encoding_front.specs.EncodingTable.{encodings, number_of, encoding_name, numbers_rise}
 use Rattle.encoding_front.specs.Encodings.{AreThere, HasLabel}
 use Rattle.encoding_front.specs.declared.encoding.Encoding.{Encoding}
 use Rattle.encoding_front.specs.declared.encoding.Encoding.TheVariants.{Big5}
@@ -28,7 +28,7 @@ same_number d e h = sym (at_number d) ∙ ap (λ (n : ℕ). slice_index_or encod
 pub number_at : (place : ℕ) (d : Encoding) → place < 40 → number_of (slice_index_or encodings place d) ≡ place
 number_at place d lt =
     sym (get_or-map number_of encodings place d (number_of d) lt)
-    ∙ ap (λ (l : List ℕ). slice_index_or l place (number_of d)) places
+    ∙ ap (λ (l : List ℕ). slice_index_or l place (number_of d)) numbers_rise
     ∙ get_or-range_with_len 0 40 place (number_of d) lt
     ∙ zero-add place
 
@@ -101,11 +101,11 @@ place_in-row (entry ∷ rows) text place h =
         let first : entry.0 ≡ place = cc in
         ap (λ (n : ℕ). (n, entry.1)) first ∙ ap (λ (l : List ℕ). (place, l)) e
 
-name_place : (e : Encoding) → place_in labels (label_text (name_of e)) ≡ Some (number_of e)
+name_place : (e : Encoding) → place_in labels (label_text (encoding_name e)) ≡ Some (number_of e)
 unfolding labels
 name_place Big5 = refl
 name_place _ = refl
 
 -- the name of an encoding is a label of it
-pub name_label : (e : Encoding) → HasLabel e (name_of e)
-name_label e = place_in-row labels (label_text (name_of e)) (number_of e) (name_place e)
+pub name_label : (e : Encoding) → HasLabel e (encoding_name e)
+name_label e = place_in-row labels (label_text (encoding_name e)) (number_of e) (name_place e)

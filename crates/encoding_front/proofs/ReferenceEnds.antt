@@ -8,8 +8,8 @@ use Rattle.encoding_mem.specs.Target.{Moves}
 use Rattle.encoding_mem.specs.declared.encoder_result.EncoderResult.TheVariants.{Unmappable}
 use Rattle.encoding_mem.specs.declared.form.Set.{Set}
 use Rattle.encoding_mem.specs.declared.form.Set.TheVariants.{Ascii}
-use Rattle.encoding_front.specs.Encoder.{EncoderState, Ends, Replaces, coding_in, kept_back}
-use Rattle.encoding_front.specs.EncoderLaws.{need_positive}
+use Rattle.encoding_front.specs.Encoder.{EncoderState, ReplacingEndsWith, Replaces, coding_in, kept_back}
+use Rattle.encoding_front.specs.laws.Encoder.{need_positive}
 use Rattle.encoding_front.specs.Encodings.{need_of}
 use Rattle.encoding_front.specs.declared.coder_result.CoderResult.{CoderResult}
 use Rattle.encoding_front.proofs.ReferenceTurns.{Gone, count-append, count_mapped, gone_none, gone_on}
@@ -134,7 +134,7 @@ joined e false s text written s' rest lost front w s'' rest' g is = λ r. g.cont
 pub ended : (x x' : EncoderState) (last : Bool) (outcome : CoderResult) (text written : List ℕ) (s : Set) (rest : List ℕ) (lost : Bool) (w rest' front : List ℕ) (size end : ℕ)
     → end ≡ size - kept_back x.encoding → kept_back x.encoding ≤ size → Going (coding_in x) last x.set text written s rest lost end
     → x' ≡ record x { set = x'.set } → rest ≡ front ++ rest' → AllMapped (coding_in x) front → Bytes (coding_in x) last s rest w x'.set rest'
-    → (last ≡ false → last_set (coding_in x) s rest ≡ last_set (coding_in x) x'.set rest') → Moves (coding_in x) s x'.set → Ends last outcome x'.set rest'
+    → (last ≡ false → last_set (coding_in x) s rest ≡ last_set (coding_in x) x'.set rest') → Moves (coding_in x) s x'.set → ReplacingEndsWith last outcome x'.set rest'
     → (outcome ≡ CoderResult.OutputFull → end - length (written ++ w) < need_of x.encoding) → length (written ++ w) ≤ end
     → Replaces x last outcome text (written ++ w) x' rest' lost size
 ended x x' last outcome text written s rest lost w rest' front size end at enough g same split mapped bytes sets moves ends full fits =
@@ -161,7 +161,7 @@ ended x x' last outcome text written s rest lost w rest' front size end at enoug
 -- a reference that reaches the end
 pub reached : (x x' : EncoderState) (last : Bool) (outcome : CoderResult) (text written : List ℕ) (s : Set) (rest : List ℕ) (lost : Bool) (w : List ℕ) (u : ℕ) (rest' : List ℕ) (size end : ℕ)
     → end ≡ size - kept_back x.encoding → kept_back x.encoding ≤ size → Going (coding_in x) last x.set text written s rest lost end
-    → x' ≡ record x { set = x'.set } → Encodes (coding_in x) last (Unmappable u) s rest w x'.set rest' → Moves (coding_in x) s x'.set → Ends last outcome x'.set rest'
+    → x' ≡ record x { set = x'.set } → Encodes (coding_in x) last (Unmappable u) s rest w x'.set rest' → Moves (coding_in x) s x'.set → ReplacingEndsWith last outcome x'.set rest'
     → end ≤ length (written ++ (w ++ reference u)) → length (written ++ w) ≤ end
     → Replaces x last outcome text (written ++ (w ++ reference u)) x' rest' true size
 reached x x' last outcome text written s rest lost w u rest' size end at enough g same p moves ends reach fits =
@@ -197,7 +197,7 @@ reached x x' last outcome text written s rest lost w u rest' size end at enough 
     }
 
 -- a call into fewer bytes than are kept back
-pub too_few : (x : EncoderState) (last : Bool) (outcome : CoderResult) (text : List ℕ) (size : ℕ) → size < kept_back x.encoding → Ends last outcome x.set text
+pub too_few : (x : EncoderState) (last : Bool) (outcome : CoderResult) (text : List ℕ) (size : ℕ) → size < kept_back x.encoding → ReplacingEndsWith last outcome x.set text
     → Replaces x last outcome text [] x text false size
 too_few x last outcome text size less ends =
     let none = gone_none (coding_in x) last x.set text in

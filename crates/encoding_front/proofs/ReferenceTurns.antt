@@ -3,7 +3,7 @@ use Rattle.std.proofs.Common.{◌≡◌, ◌↔◌, ℕ, ◌+◌, ◌<◌, Bool,
 use Rattle.std.proofs.lemmas.List.{append-nil, append_cancel_left, map-append}
 use Rattle.encoding_mem.specs.Coding.{AllMapped, Coding, IsMapped, last_set, lost_count, open_from, reference, spelled, unmapped_count}
 use Rattle.encoding_mem.specs.Encoding.{Continues, Encodes}
-use Rattle.encoding_mem.specs.EncodingLaws.{encoded_bytes}
+use Rattle.encoding_mem.specs.laws.Encoding.{encoded_bytes}
 use Rattle.encoding_mem.specs.Items.{Byte, Item, LostAt, form_items, open_items, whole_items}
 use Rattle.encoding_mem.specs.declared.encoder_result.EncoderResult.TheVariants.{Unmappable}
 use Rattle.encoding_mem.specs.declared.form.Form.{Form}

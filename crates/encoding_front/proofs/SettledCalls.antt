@@ -2,10 +2,10 @@
 use Rattle.std.proofs.Common.{◌≡◌, ℕ, ◌+◌, ◌-◌, ◌≤◌, inl, inr, Bool, List, [], ◌++◌, length, drop, refl, sym, ◌∙◌, ap, subst, arith, append_assoc, length-drop}
 use Rattle.std.proofs.lemmas.List.{drop-drop}
 use Rattle.encoding_mem.specs.Piece.{Piece, first, AreGood}
-use Rattle.encoding_mem.specs.PieceLaws.{sizes-append, scalars-append}
+use Rattle.encoding_mem.specs.laws.Piece.{sizes-append, scalars-append}
 use Rattle.encoding_mem.specs.Decoding.{DecoderState, Takes, Reports, EndsWith}
 use Rattle.encoding_mem.specs.Driver.{Suffices}
-use Rattle.encoding_mem.specs.Room.{goes_on, mark_in, left_after}
+use Rattle.encoding_mem.specs.Room.{goes_on, replacement_len, left_after}
 use Rattle.encoding_mem.specs.declared.room.Count.{Count}
 use Rattle.encoding_mem.specs.declared.decoder_result.DecoderResult.{DecoderResult}
 use Rattle.encoding_mem.specs.declared.decoder_result.DecoderResult.TheVariants.{InputEmpty, OutputFull, Malformed}
@@ -65,4 +65,4 @@ suffices_settled W X N A B t last size left n read old new OutputFull x b within
 suffices_settled W X N A B t last size left n read old new (Malformed i j) x b within is few leaves h = λ k m units stops fits.
     (let same : n + (left + m) ≡ size + m = omega (arith, within, is) in
     let there : A k ((left - read) + m) ≡ B k ((size - (n + read)) + m) = ap (A k) (let e : (left - read) + m ≡ (size - (n + read)) + m = omega (arith, within, is, few) in e) ∙ sym (b k ((size - (n + read)) + m)) in
-    subst (λ (v : ℕ). left_after (goes_on k) (mark_in t) v ≤ new) there (h k m units stops (omega (arith, x k (left + m), leaves k (left + m), ap (W k) same, fits))))
+    subst (λ (v : ℕ). left_after (goes_on k) (replacement_len t) v ≤ new) there (h k m units stops (omega (arith, x k (left + m), leaves k (left + m), ap (W k) same, fits))))

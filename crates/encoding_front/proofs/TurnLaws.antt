@@ -6,7 +6,7 @@ use borrow.Rule.Slice.PartMut.{put_mid, post_of}
 use Rattle.encoding_mem.specs.Coding.{reference}
 use Rattle.encoding_mem.specs.declared.encoder_result.EncoderResult.{EncoderResult}
 use Rattle.encoding_mem.specs.declared.encoder_result.EncoderResult.TheVariants.{InputEmpty, OutputFull, Unmappable}
-use Rattle.encoding_front.specs.Encoder.{Encoded, EncoderState, Ends, Replaces, Turned, coding_in, kept_back, referred}
+use Rattle.encoding_front.specs.Encoder.{Encoded, EncoderState, ReplacingEndsWith, Replaces, Turned, coding_in, kept_back, referred}
 use Rattle.encoding_front.specs.declared.coder_result.CoderResult.{CoderResult}
 use Rattle.encoding_front.proofs.ReferenceEnds.{Going, ended, going_on, reached}
 
@@ -87,7 +87,7 @@ output_full x x1 x' last answer text old rest lost more rest' new size end n at 
 -- of a turn that writes a reference
 pub reference_reached : (x x1 x' : EncoderState) (last : Bool) (answer : EncoderResult) (u : ℕ) (outcome : CoderResult) (text old rest : List ℕ) (lost : Bool) (more rest' new : List ℕ) (size end n : ℕ)
     → end ≡ size - kept_back x.encoding → kept_back x.encoding ≤ size → x1 ≡ record x { set = x1.set } → Going (coding_in x) last x.set text old x1.set rest lost end
-    → Turned x1 last answer rest more x' rest' n → answer ≡ Unmappable u → new ≡ old ++ more → Ends last outcome x'.set rest' → end ≤ length new → n ≡ end - length old → length old ≤ end
+    → Turned x1 last answer rest more x' rest' n → answer ≡ Unmappable u → new ≡ old ++ more → ReplacingEndsWith last outcome x'.set rest' → end ≤ length new → n ≡ end - length old → length old ≤ end
     → Replaces x last outcome text new x' rest' true size
 reference_reached x x1 x' last answer u outcome text old rest lost more rest' new size end n at enough same going t is new_is ends reach left within =
     let call = as_first x x1 last (Unmappable u) rest t.called x' rest' (n - length t.called) same (rw is at t.call) in

@@ -4,7 +4,7 @@ use Rattle.std.proofs.lemmas.List.{append-nil}
 use Rattle.encoding_mem.specs.Coding.{lost_count, output, whole_from}
 use Rattle.encoding_mem.specs.declared.form.Set.TheVariants.{Ascii}
 use Rattle.encoding_front.specs.Encoder.{EncoderState, Replaces, coding_in, new_state}
-use Rattle.encoding_front.specs.EncoderLaws.{coding_laws, output_twice}
+use Rattle.encoding_front.specs.laws.Encoder.{coding_laws, output_twice}
 use Rattle.encoding_front.specs.EncodingTable.{scheme_of}
 use Rattle.encoding_front.specs.Encodings.{coding_of, coding_of_scheme}
 use Rattle.encoding_front.specs.declared.encoding.Encoding.{Encoding}

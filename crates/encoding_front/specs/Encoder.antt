@@ -2,7 +2,7 @@
 use Rattle.std.specs.Prelude.{◌≡◌, ℕ, ◌+◌, ◌-◌, ◌<◌, ◌≤◌, Bool, true, false, List, [], ◌∷◌, ◌++◌, length, IsTrue, ◌↔◌, ◌⊎◌, ◌≢◌, Option}
 use Rattle.std.specs.Bool.{MatchBool}
 use Rattle.encoding_mem.specs.Coding.{Coding, IsMapped, last_set, lost_count, open_from, reference, spelled, whole_from}
-use Rattle.encoding_mem.specs.Encoding.{Answers, Continues, Encodes, Writes}
+use Rattle.encoding_mem.specs.Encoding.{EncodeEndsWith, Continues, Encodes, Writes}
 use Rattle.encoding_mem.specs.Room.{checked, line_at}
 use Rattle.encoding_mem.specs.Target.{Moves}
 use Rattle.encoding_mem.specs.TextRoom.{line_for}
@@ -42,7 +42,7 @@ pub record Encoded (x : EncoderState) (last : Bool) (answer : EncoderResult) (te
   pub same : x' ≡ record x { set = x'.set }
   pub law : Encodes (coding_in x) last answer x.set text written x'.set rest
   pub bytes : Writes (coding_in x) last answer x.set text written x'.set rest
-  pub answers : Answers (need_of x.encoding) last answer x'.set rest room
+  pub answers : EncodeEndsWith (need_of x.encoding) last answer x'.set rest room
   pub moves : Moves (coding_in x) x.set x'.set
 
 -- The bytes that are kept back for a reference, of which the longest is `&#1114111;`: none where each character has
@@ -65,9 +65,9 @@ abbrev pub queried_with_kept : Encoding → (is_units : Bool) → ℕ → Option
 queried_with_kept e is_units n = checked (room_for e is_units n + kept_back e)
 
 -- How a call with replacement ends: whether something is left to do.
-abbrev pub Ends : Bool → CoderResult → Set → List ℕ → Type 0
-Ends last CoderResult.InputEmpty s rest = (rest ≡ []) × (last ≡ true → s ≡ Ascii)
-Ends last CoderResult.OutputFull s rest = (0 < length rest) ⊎ ((last ≡ true) × (s ≢ Ascii))
+abbrev pub ReplacingEndsWith : Bool → CoderResult → Set → List ℕ → Type 0
+ReplacingEndsWith last CoderResult.InputEmpty s rest = (rest ≡ []) × (last ≡ true → s ≡ Ascii)
+ReplacingEndsWith last CoderResult.OutputFull s rest = (0 < length rest) ⊎ ((last ≡ true) × (s ≢ Ascii))
 
 -- What is written for a text ends with a reference that begins at a place or before it.
 pub record EndsWithReference (e : Coding) (s : Set) (front written : List ℕ) (end : ℕ) : Type 0 where
@@ -90,7 +90,7 @@ pub record Replaces (x : EncoderState) (last : Bool) (outcome : CoderResult) (te
   pub sets : last ≡ false → last_set (coding_in x) x.set text ≡ last_set (coding_in x) x'.set rest
   pub moves : Moves (coding_in x) x.set x'.set
   pub told : IsTrue lost ↔ (0 < lost_count (coding_in x) front)
-  pub ends : Ends last outcome x'.set rest
+  pub ends : ReplacingEndsWith last outcome x'.set rest
   pub full : outcome ≡ CoderResult.OutputFull → size - kept_back x.encoding - length written < need_of x.encoding
   pub kept : size - kept_back x.encoding < length written → EndsWithReference (coding_in x) x.set front written (size - kept_back x.encoding)
   pub few : size < kept_back x.encoding → (front ≡ []) × (written ≡ [])

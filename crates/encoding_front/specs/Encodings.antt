@@ -43,8 +43,8 @@ abbrev pub first_mark : List (Encoding × List ℕ) → List ℕ → Option (Enc
 first_mark [] bytes = None
 first_mark (mark ∷ marks) bytes = cond (starts_with eqb bytes mark.1) (Some (mark.0, length mark.1)) (first_mark marks bytes)
 
-abbrev pub mark_in : List ℕ → Option (Encoding × ℕ)
-mark_in bytes = first_mark byte_order_marks bytes
+abbrev pub mark_at_start : List ℕ → Option (Encoding × ℕ)
+mark_at_start bytes = first_mark byte_order_marks bytes
 
 -- the encoding in which is written what is asked for in this one ("get an output encoding", section 4.3)
 abbrev pub output_of_scheme : Encoding → Scheme → Encoding

@@ -29,24 +29,6 @@ latin1_rule_of_scheme _ = by_ascii
 abbrev pub latin1_rule : Encoding → Latin1Rule
 latin1_rule e = latin1_rule_of_scheme (scheme_of e)
 
-of_windows_1252 : latin1_rule Encoding.Windows1252 ≡ by_index
-of_windows_1252 = refl
-
-of_iso_2022_jp : latin1_rule Encoding.Iso2022Jp ≡ by_mode
-of_iso_2022_jp = refl
-
-of_utf_8 : latin1_rule Encoding.Utf8 ≡ by_ascii
-of_utf_8 = refl
-
-of_user_defined : latin1_rule Encoding.XUserDefined ≡ by_ascii
-of_user_defined = refl
-
-of_utf_16 : latin1_rule Encoding.Utf16Le ≡ untold
-of_utf_16 = refl
-
-of_replacement : latin1_rule Encoding.Replacement ≡ untold
-of_replacement = refl
-
 -- nothing is pending, and what follows is decoded as from the start of an input
 abbrev pub IsAtRest : Latin1Rule → DecoderState → Type 0
 IsAtRest by_index s = s.pending ≡ 0

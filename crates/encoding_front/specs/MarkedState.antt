@@ -5,7 +5,7 @@ use Rattle.encoding_mem.specs.Decoding.{DecoderState}
 use Rattle.encoding_mem.specs.Room.{room_of}
 use Rattle.encoding_mem.specs.declared.room.Count.{Count}
 use Rattle.encoding_front.specs.Seeking.{is_sought, sought_pieces, sought_needs, room_widest}
-use Rattle.encoding_front.specs.SeekingLaws.{sought_whole, sought_are_pieces, sought_covers}
+use Rattle.encoding_front.specs.laws.Seeking.{sought_whole, sought_are_pieces, sought_covers}
 use Rattle.encoding_front.specs.declared.seeking.Sought.{Sought}
 
 pub held_whole : (own : DecoderState) (held x : List ℕ) → sizes (own.pieces (held ++ x)) ≡ (own.pending + length held) + length x

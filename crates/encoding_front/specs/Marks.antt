@@ -41,21 +41,3 @@ marked_pieces t mark e x = pieces_from t (source_of mark e x) x
 -- and its text
 abbrev pub marked_text : IndexLists → Mark → Encoding → List ℕ → List ℕ
 marked_text t mark e x = text (marked_pieces t mark e x)
-
-sniffed : source_of Sniff Encoding.Windows1252 (0xEF ∷ 0xBB ∷ 0xBF ∷ 0x41 ∷ []) ≡ (Encoding.Utf8, 3)
-sniffed = refl
-
-sniffed_units : source_of Sniff Encoding.Utf8 (0xFF ∷ 0xFE ∷ []) ≡ (Encoding.Utf16Le, 2)
-sniffed_units = refl
-
-sniffed_none : source_of Sniff Encoding.Utf8 (0xEF ∷ 0xBB ∷ []) ≡ (Encoding.Utf8, 0)
-sniffed_none = refl
-
-removed : source_of Remove Encoding.Utf16Be (0xFE ∷ 0xFF ∷ 0x00 ∷ 0x41 ∷ []) ≡ (Encoding.Utf16Be, 2)
-removed = refl
-
-another_is_text : source_of Remove Encoding.Windows1252 (0xEF ∷ 0xBB ∷ 0xBF ∷ []) ≡ (Encoding.Windows1252, 0)
-another_is_text = refl
-
-kept : source_of Keep Encoding.Utf8 (0xEF ∷ 0xBB ∷ 0xBF ∷ []) ≡ (Encoding.Utf8, 0)
-kept = refl

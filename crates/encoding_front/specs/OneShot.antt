@@ -19,18 +19,3 @@ room_at_start mark e k n = room_asked (record { sought = sought_by mark e; held 
 abbrev pub IsRefused : Option ℕ → OneShotFault → Type 0
 IsRefused room Overflow = room ≡ None
 IsRefused room Memory = (n : ℕ) × (room ≡ Some n) × (0 < n)
-
-sniffed : room_at_start Sniff Encoding.Windows1252 Replaced 4 ≡ Some 15
-sniffed = refl
-
-kept : room_at_start Keep Encoding.Windows1252 Replaced 4 ≡ Some 12
-kept = refl
-
-kept_without_replacement : room_at_start Keep Encoding.Utf8 Bytes 4 ≡ Some 7
-kept_without_replacement = refl
-
-nothing : room_at_start Keep Encoding.Windows1252 Replaced 0 ≡ Some 0
-nothing = refl
-
-too_much : room_at_start Keep Encoding.Utf8 Replaced 0x5555555555555555 ≡ None
-too_much = refl

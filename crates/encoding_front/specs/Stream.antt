@@ -55,36 +55,6 @@ room_asked o k n =
     (greater_if (can_be o.sought o.held Utf8) (queried room_utf8 k (n + ahead o.held))
     (queried o.room k (o.pending + (n + ahead o.held))))
 
-sniffing_windows_1252 : List ℕ → Opening
-sniffing_windows_1252 held = record { sought = sought_by Sniff Encoding.Windows1252; held = held; room = room_single_byte; pending = 0 }
-
-at_the_start : room_asked (sniffing_windows_1252 []) Bytes 4 ≡ Some 12
-unfolding sniffing_windows_1252
-at_the_start = refl
-
-at_the_start_too_many : room_asked (sniffing_windows_1252 []) Replaced 0xFFFFFFFFFFFFFFFF ≡ None
-unfolding sniffing_windows_1252
-at_the_start_too_many = refl
-
-held_to_units : room_asked (sniffing_windows_1252 (0xEF ∷ [])) Units 1 ≡ Some 4
-unfolding sniffing_windows_1252
-held_to_units = refl
-
-held_to_bytes : room_asked (sniffing_windows_1252 (0xEF ∷ [])) Bytes 1 ≡ Some 9
-unfolding sniffing_windows_1252
-held_to_bytes = refl
-
-held_with_replacement : room_asked (sniffing_windows_1252 (0xEF ∷ [])) Replaced 1 ≡ Some 12
-unfolding sniffing_windows_1252
-held_with_replacement = refl
-
--- a BB that is still to be handed on, where nothing is looked for any more
-handed_on : room_asked (record { sought = nothing_sought; held = 0xBB ∷ []; room = room_single_byte; pending = 0 }) Units 1 ≡ Some 3
-handed_on = refl
-
-of_replacement : room_asked (record { sought = nothing_sought; held = []; room = room_replacement; pending = 0 }) Bytes 0xFFFFFFFFFFFFFFFF ≡ Some 3
-of_replacement = refl
-
 -- after a last call that answered InputEmpty nothing follows
 abbrev pub is_input_empty : DecoderResult → Bool
 is_input_empty InputEmpty = true
@@ -118,17 +88,17 @@ pub record IsOpenedBy (v : DecoderView) : Type 0 where
   pub room : v.opening.room ≡ room_of_encoding (v.source [])
 
 -- no mark is sought any more, and nothing is held
-abbrev pub IsSettled : Opening → Type 0
-IsSettled o = (is_sought o.sought ≡ false) × (o.held ≡ [])
+abbrev pub SeeksNoMark : Opening → Type 0
+SeeksNoMark o = (is_sought o.sought ≡ false) × (o.held ≡ [])
 
 -- how far bytes are their characters in Latin1: it is told where marks are settled, and the decoder of the encoding in
 -- force is at rest
 abbrev pub TellsLatin1Prefix : DecoderView → List ℕ → Option ℕ → Type 0
-TellsLatin1Prefix v bytes None = ¬ (IsSettled v.opening × IsAtRest (latin1_rule (v.source [])) v.own)
-TellsLatin1Prefix v bytes (Some n) = IsSettled v.opening × IsAtRest (latin1_rule (v.source [])) v.own × IsLatin1Prefix (latin1_rule (v.source [])) v.own.pieces bytes n
+TellsLatin1Prefix v bytes None = ¬ (SeeksNoMark v.opening × IsAtRest (latin1_rule (v.source [])) v.own)
+TellsLatin1Prefix v bytes (Some n) = SeeksNoMark v.opening × IsAtRest (latin1_rule (v.source [])) v.own × IsLatin1Prefix (latin1_rule (v.source [])) v.own.pieces bytes n
 
 -- one that has read nothing
-pub record Begins (v : DecoderView) (t : IndexLists) (mark : Mark) (e : Encoding) : Type 0 where
+pub record IsNewDecoder (v : DecoderView) (t : IndexLists) (mark : Mark) (e : Encoding) : Type 0 where
   pub pieces : (x : List ℕ) → v.state.pieces x ≡ marked_pieces t mark e x
   pub pending : v.state.pending ≡ 0
   pub source : (x : List ℕ) → v.source x ≡ (source_of mark e x).0

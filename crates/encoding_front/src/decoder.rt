@@ -9,8 +9,8 @@ ghost use Rattle.encoding_front.specs.DecodedText.{NeverFull, TakesText, raw_res
 ghost use Rattle.encoding_front.specs.Encodings.{IsReady, room_of_encoding};
 ghost use Rattle.encoding_front.specs.Latin1Prefix.{latin1_rule};
 ghost use Rattle.encoding_front.specs.Seeking.{mark_taken};
-ghost use Rattle.encoding_front.specs.Stream.{Begins, DecoderView, IsOpenedBy, TellsLatin1Prefix, encoding_after, finishes, room_asked};
-ghost use Rattle.encoding_front.specs.StreamLaws.{named_by, room_named};
+ghost use Rattle.encoding_front.specs.Stream.{IsNewDecoder, DecoderView, IsOpenedBy, TellsLatin1Prefix, encoding_after, finishes, room_asked};
+ghost use Rattle.encoding_front.specs.laws.Stream.{named_by, room_named};
 ghost use Rattle.encoding_front.specs.declared.mark.Mark.{Mark};
 
 use crate::coder_result::CoderResult;
@@ -85,7 +85,7 @@ impl Encoding {
     /// Encoding Standard, section 6, "decode").
     pub fn new_decoder<'t>(self, tables: &'t Tables) -> Decoder<'t>
         requires { IsReady tables.now self }
-        ensures begins { Begins (⟦<Decoder<'t> as StreamDecoder>⟧.view result) tables.now Mark.Sniff self }
+        ensures begins { IsNewDecoder (⟦<Decoder<'t> as StreamDecoder>⟧.view result) tables.now Mark.Sniff self }
     {
         Decoder::new(self, Mark::Sniff, tables)
     }
@@ -93,7 +93,7 @@ impl Encoding {
     /// A decoder that takes the encoding's own byte order mark, if there is one (as in "UTF-8 decode").
     pub fn new_decoder_with_bom_removal<'t>(self, tables: &'t Tables) -> Decoder<'t>
         requires { IsReady tables.now self }
-        ensures begins { Begins (⟦<Decoder<'t> as StreamDecoder>⟧.view result) tables.now Mark.Remove self }
+        ensures begins { IsNewDecoder (⟦<Decoder<'t> as StreamDecoder>⟧.view result) tables.now Mark.Remove self }
     {
         Decoder::new(self, Mark::Remove, tables)
     }
@@ -101,7 +101,7 @@ impl Encoding {
     /// A decoder to which a byte order mark is text (as in "UTF-8 decode without BOM").
     pub fn new_decoder_without_bom_handling<'t>(self, tables: &'t Tables) -> Decoder<'t>
         requires { IsReady tables.now self }
-        ensures begins { Begins (⟦<Decoder<'t> as StreamDecoder>⟧.view result) tables.now Mark.Keep self }
+        ensures begins { IsNewDecoder (⟦<Decoder<'t> as StreamDecoder>⟧.view result) tables.now Mark.Keep self }
     {
         Decoder::new(self, Mark::Keep, tables)
     }
@@ -111,7 +111,7 @@ impl<'t> Decoder<'t> {
     /// A decoder of a new stream.
     pub fn new(encoding: Encoding, mark: Mark, tables: &'t Tables) -> Self
         requires { IsReady tables.now encoding }
-        ensures begins { Begins (⟦<Decoder<'t> as StreamDecoder>⟧.view result) tables.now mark encoding }
+        ensures begins { IsNewDecoder (⟦<Decoder<'t> as StreamDecoder>⟧.view result) tables.now mark encoding }
     {
         Decoder {
             marked: MarkedDecoder::new(

@@ -4,7 +4,7 @@ ghost use Rattle.std.specs.Char.Utf16.{utf16_lossy_chars};
 ghost use Rattle.encoding_mem.specs.Room.{checked};
 ghost use Rattle.encoding_mem.specs.declared.form.Set.TheVariants.{Ascii};
 ghost use Rattle.encoding_front.specs.Encoder.{Encoded, EncoderState, IsEncoderOf, Replaces, coding_in, kept_back, new_state, queried_room, queried_with_kept, room_for};
-ghost use Rattle.encoding_front.specs.EncoderLaws.{coding_laws};
+ghost use Rattle.encoding_front.specs.laws.Encoder.{coding_laws};
 ghost use Rattle.encoding_front.specs.Encodings.{IsReady, coding_of, need_of, output_encoding_of, text_room_of};
 
 use crate::coder_result::CoderResult;

@@ -4,8 +4,8 @@ ghost use Rattle.encoding_mem.specs.Iso2022JpAscii.{IsIso2022JpAscii};
 ghost use Rattle.encoding_mem.specs.LongestPrefix.{IsLongestPrefix};
 ghost use Rattle.std.specs.List.{list_all};
 ghost use Rattle.encoding_tables.specs.IndexLists.{AreAcceptedTables, has};
-ghost use Rattle.encoding_front.specs.EncodingTable.{name_of, number_of, scheme_of};
-ghost use Rattle.encoding_front.specs.Encodings.{HasLabel, IsProper, IsReady, IsUtf8Encoding, KeepsCharacters, is_ascii_compatible_of, is_single_byte_of, mark_in, needs_of, output_encoding_of};
+ghost use Rattle.encoding_front.specs.EncodingTable.{encoding_name, number_of, scheme_of};
+ghost use Rattle.encoding_front.specs.Encodings.{HasLabel, IsProper, IsReady, IsUtf8Encoding, KeepsCharacters, is_ascii_compatible_of, is_single_byte_of, mark_at_start, needs_of, output_encoding_of};
 ghost use Rattle.encoding_front.specs.declared.encoding.Encoding.{Encoding};
 
 use crate::scheme::{Scheme, row_of};
@@ -127,7 +127,7 @@ impl Encoding {
     /// The encoding whose byte order mark stands at the front of the bytes, and the length of the mark in
     /// bytes: "BOM sniff" of the Encoding Standard, section 6.
     pub fn for_bom(bytes: &[u8]) -> Option<(Encoding, usize)>
-        ensures { result ≡ mark_in bytes.now }
+        ensures { result ≡ mark_at_start bytes.now }
     {
         match bytes {
             [0xEF, 0xBB, 0xBF, ..] => Some((Encoding::Utf8, 3)),
@@ -139,7 +139,7 @@ impl Encoding {
 
     /// The name, as the Encoding Standard writes it (section 4.2).
     pub fn name(self) -> &'static str
-        ensures { result.now ≡ name_of self }
+        ensures { result.now ≡ encoding_name self }
     {
         row_of(self).name
     }

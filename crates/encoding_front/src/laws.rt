@@ -8,7 +8,7 @@ ghost use Rattle.encoding_mem.specs.ReadBack.{ReadsBackExactly};
 ghost use Rattle.encoding_mem.specs.declared.form.Set.{Set};
 ghost use Rattle.encoding_tables.specs.IndexLists.{AreAcceptedTables, IndexLists};
 ghost use Rattle.encoding_front.specs.Bounds.{ReportsItself};
-ghost use Rattle.encoding_front.specs.EncodingTable.{name_of};
+ghost use Rattle.encoding_front.specs.EncodingTable.{encoding_name};
 ghost use Rattle.encoding_front.specs.Encodings.{HasLabel, KeepsCharacters, coding_of, output_encoding_of, pieces_of};
 ghost use Rattle.encoding_front.specs.Marks.{marked_pieces, marked_text};
 ghost use Rattle.encoding_front.specs.declared.mark.Mark.{Mark};
@@ -35,7 +35,7 @@ pub fn output_encodings()
 
 /// The name of an encoding is a label of it: so `for_label` of the name is the encoding.
 pub fn names_are_labels()
-    ensures { (e : Encoding) → HasLabel e (name_of e) }
+    ensures { (e : Encoding) → HasLabel e (encoding_name e) }
 {}
 
 /// What is written for a text reads back as that text exactly where each character of it has bytes, by any

@@ -2,7 +2,7 @@
 
 ghost use Rattle.std.specs.Prelude.{◌≡◌, ◌≢◌, false, ℕ, ◌+◌, ◌-◌, ◌≤◌, ◌++◌, length, take, drop};
 ghost use Rattle.encoding_mem.specs.Coding.{reference};
-ghost use Rattle.encoding_front.specs.Encoder.{Ends, Replaces, Turned, kept_back, room_for};
+ghost use Rattle.encoding_front.specs.Encoder.{ReplacingEndsWith, Replaces, Turned, kept_back, room_for};
 
 use crate::coder_result::CoderResult;
 use crate::encoder::Encoder;
@@ -52,7 +52,7 @@ fn encode_turn<T: SourceText>(
 
 // How a call ends that has done what it could: whether something is left to do.
 fn outcome<T: SourceText>(encoder: &Encoder<'_>, rest: T, last: bool) -> CoderResult
-    ensures { Ends last result encoder.now.set (T.text (T.list rest)) }
+    ensures { ReplacingEndsWith last result encoder.now.set (T.text (T.list rest)) }
 {
     if rest.is_empty() && !(last && encoder.has_pending_state()) {
         CoderResult::InputEmpty

@@ -2,7 +2,7 @@
 
 ghost use Rattle.std.specs.Prelude.{◌≡◌};
 ghost use Rattle.std.specs.List.{slice_index_or};
-ghost use Rattle.encoding_front.specs.EncodingTable.{name_of, scheme_of};
+ghost use Rattle.encoding_front.specs.EncodingTable.{encoding_name, scheme_of};
 ghost use Rattle.encoding_front.specs.Encodings.{IsProper, needs_of};
 
 use crate::encoding::Encoding;
@@ -58,7 +58,7 @@ impl Row {
 }
 
 pub(crate) fn row_of(encoding: Encoding) -> Row
-    ensures name { result.name.now ≡ name_of encoding }
+    ensures name { result.name.now ≡ encoding_name encoding }
     ensures scheme { result.scheme ≡ scheme_of encoding }
     ensures proper { IsProper result.scheme }
     ensures needs { result.needs.now ≡ needs_of encoding }

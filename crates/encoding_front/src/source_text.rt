@@ -5,7 +5,7 @@ ghost use Rattle.std.specs.Str.{chars, IsCharBoundary};
 ghost use Rattle.std.specs.Char.Utf16.{utf16_lossy_chars};
 ghost use Rattle.std.proofs.lemmas.Str.{IsCharBoundary-from_rest};
 ghost use Rattle.encoding_front.specs.Encoder.{Encoded, room_for};
-ghost use Rattle.encoding_front.specs.EncoderLaws.{within_from_rest};
+ghost use Rattle.encoding_front.specs.laws.Encoder.{within_from_rest};
 
 use crate::encoder::Encoder;
 use encoding_mem::EncoderResult;

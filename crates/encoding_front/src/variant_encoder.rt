@@ -2,15 +2,15 @@ ghost use Rattle.std.specs.Prelude.{◌≡◌, ◌≢◌, ◌↔◌, ℕ, ◌-�
 ghost use Rattle.std.specs.Str.{chars, IsCharBoundary};
 ghost use Rattle.std.specs.Char.Utf16.{utf16_lossy_chars};
 ghost use Rattle.encoding_mem.specs.declared.form.Set.TheVariants.{Ascii};
-ghost use Rattle.encoding_mem.specs.Utf8CodingLaws.{utf8_coding_laws};
-ghost use Rattle.encoding_tables.specs.SingleByteLaws.{single_byte_laws};
-ghost use Rattle.encoding_tables.specs.UserDefinedLaws.{user_defined_laws};
-ghost use Rattle.encoding_codecs.specs.Big5Laws.{big5_laws};
-ghost use Rattle.encoding_codecs.specs.EucKrLaws.{euc_kr_laws};
-ghost use Rattle.encoding_codecs.specs.EucJpLaws.{euc_jp_laws};
-ghost use Rattle.encoding_codecs.specs.ShiftJisLaws.{shift_jis_laws};
-ghost use Rattle.encoding_codecs.specs.Gb18030CodingLaws.{gb18030_laws};
-ghost use Rattle.encoding_codecs.specs.Iso2022JpFormsLaws.{iso_2022_jp_laws};
+ghost use Rattle.encoding_mem.specs.laws.Utf8Coding.{utf8_coding_laws};
+ghost use Rattle.encoding_tables.specs.laws.SingleByte.{single_byte_laws};
+ghost use Rattle.encoding_tables.specs.laws.UserDefined.{user_defined_laws};
+ghost use Rattle.encoding_codecs.specs.laws.Big5.{big5_laws};
+ghost use Rattle.encoding_codecs.specs.laws.EucKr.{euc_kr_laws};
+ghost use Rattle.encoding_codecs.specs.laws.EucJp.{euc_jp_laws};
+ghost use Rattle.encoding_codecs.specs.laws.ShiftJis.{shift_jis_laws};
+ghost use Rattle.encoding_codecs.specs.laws.Gb18030Coding.{gb18030_laws};
+ghost use Rattle.encoding_codecs.specs.laws.Iso2022JpForms.{iso_2022_jp_laws};
 ghost use Rattle.encoding_front.specs.Encodings.{IsReady, coding_of, need_of, output_encoding_of, text_room_of};
 ghost use Rattle.encoding_front.specs.declared.variant_encoder.VariantEncoder.TheVariants.{Utf8, SingleByte, Big5, EucKr, EucJp, ShiftJis, Gb18030, Iso2022Jp, UserDefined};
 

@@ -7,7 +7,7 @@ use Rattle.std.proofs.lemmas.Grind.{get_or-set_at}
 use Rattle.std.proofs.lemmas.List.FromFn.{fill_by_all}
 use Rattle.encoding_tables.specs.PackedRows.{entry_at, flat_list}
 use Rattle.encoding_index.specs.IndexText.{lines_in, rows_in, first_fault}
-use Rattle.encoding_index.specs.Outcomes.{outcomes}
+use Rattle.encoding_index.specs.laws.Outcomes.{outcomes}
 use Rattle.encoding_index.specs.declared.fault.IndexFault.{IndexFault}
 use Rattle.encoding_index.proofs.OutcomeLists.{AreRising, fault_in, rows_read, first_fault_is, rows_rise, rows_read_is}
 

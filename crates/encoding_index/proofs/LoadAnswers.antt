@@ -3,7 +3,7 @@ use Rattle.std.proofs.Common.{◌≡◌, ◌⊎◌, inl, inr, ℕ, false, List, 
 use Rattle.std.specs.Prelude.{if◌then◌else◌}
 use Rattle.std.specs.Option.{MatchOption, option_map, option_or}
 use Rattle.std.specs.Result.{IsErrAnd}
-use Rattle.encoding_tables.specs.Kinds.{size_of, is_ranges}
+use Rattle.encoding_tables.specs.Kinds.{index_size, is_ranges}
 use Rattle.encoding_tables.specs.IndexLists.{IndexLists, has}
 use Rattle.encoding_tables.specs.PackedRows.{flat_list}
 use Rattle.encoding_tables.specs.TableFaults.{flat_fault}
@@ -29,15 +29,15 @@ answers_memory : (fault : Option LoadFault) (result : Result Done LoadFault) →
 answers_memory None result refused = inr (inl refused)
 answers_memory (Some f) result refused = inr refused
 
-load_fault-text : (tables : IndexLists) (kind : IndexKind) (text : List ℕ) (fault : Option IndexFault) → is_ranges kind ≡ false → first_fault (size_of kind) text ≡ fault
+load_fault-text : (tables : IndexLists) (kind : IndexKind) (text : List ℕ) (fault : Option IndexFault) → is_ranges kind ≡ false → first_fault (index_size kind) text ≡ fault
     → load_fault tables kind text ≡ option_or (option_map Text fault) (option_map Table (table_fault tables kind text))
 load_fault-text tables kind text fault listed found =
     ap (λ o. option_or (option_map Text o) (option_map Table (table_fault tables kind text)))
-    (ap (λ b. first_fault (if b then RANGE_POINTERS else size_of kind) text) listed ∙ found)
+    (ap (λ b. first_fault (if b then RANGE_POINTERS else index_size kind) text) listed ∙ found)
 
 -- the text of a list was not read
 pub answers_text : (tables : IndexLists) (kind : IndexKind) (text : List ℕ) (fault : IndexFault) (result : Result Done LoadFault) → is_ranges kind ≡ false
-    → (first_fault (size_of kind) text ≡ Some fault) ⊎ (fault ≡ out_of_memory) → IsErrAnd result (λ x. x ≡ Text fault) → Answers (load_fault tables kind text) result
+    → (first_fault (index_size kind) text ≡ Some fault) ⊎ (fault ≡ out_of_memory) → IsErrAnd result (λ x. x ≡ Text fault) → Answers (load_fault tables kind text) result
 answers_text tables kind text fault result listed (inl found) told =
     subst (λ o. Answers o result) (sym (load_fault-text tables kind text (Some fault) listed found)) (inl (err_is result (Text fault) told))
 answers_text tables kind text fault result listed (inr refused) told =
@@ -62,12 +62,12 @@ answers_insert (Some f) (Err fault) result told follows =
 
 -- the text of a list was read
 pub answers_rows : (tables : IndexLists) (kind : IndexKind) (text : List ℕ) (rows : List (ℕ × ℕ)) (inserted : Result Done TableFault) (result : Result Done LoadFault) → is_ranges kind ≡ false
-    → first_fault (size_of kind) text ≡ None → rows ≡ text_rows text
-    → MatchOption (flat_fault (has tables kind) kind (flat_list (size_of kind) rows)) ((inserted ≡ Ok tt) ⊎ (inserted ≡ Err Memory)) (λ f. inserted ≡ Err f)
+    → first_fault (index_size kind) text ≡ None → rows ≡ text_rows text
+    → MatchOption (flat_fault (has tables kind) kind (flat_list (index_size kind) rows)) ((inserted ≡ Ok tt) ⊎ (inserted ≡ Err Memory)) (λ f. inserted ≡ Err f)
     → Follows inserted result
     → Answers (load_fault tables kind text) result
 answers_rows tables kind text rows inserted result listed none same told follows =
-    let list = flat_list (size_of kind) rows in
+    let list = flat_list (index_size kind) rows in
     let flat : table_fault tables kind text ≡ flat_fault (has tables kind) kind list = rw (listed, ← same) refl in
     let fault = load_fault-text tables kind text None listed none ∙ ap (option_map Table) flat in
     subst (λ o. Answers o result) (sym fault) (answers_insert (flat_fault (has tables kind) kind list) inserted result told follows)

@@ -6,7 +6,7 @@ use Rattle.std.proofs.lemmas.List.Elements.{filter_map-append}
 use Rattle.std.proofs.lemmas.Bool.Decides.{nat_tests}
 use Rattle.encoding_index.specs.IndexLine.{is_skipped, row_in}
 use Rattle.encoding_index.specs.IndexText.{rows_in, least_above, row_fault, line_fault, first_fault_behind}
-use Rattle.encoding_index.specs.Outcomes.{outcome_of, outcomes}
+use Rattle.encoding_index.specs.laws.Outcomes.{outcome_of, outcomes}
 use Rattle.encoding_index.specs.declared.fault.IndexFault.{IndexFault}
 use Rattle.encoding_index.specs.declared.fault.IndexFaultKind.{IndexFaultKind}
 use Rattle.encoding_index.specs.declared.fault.IndexFaultKind.TheVariants.{Row}

@@ -2,7 +2,7 @@
 use Rattle.std.proofs.Common.{◌≡◌, ℕ, List, [], ◌∷◌, ◌++◌, None, Some, Result, Ok, Err, refl, sym, ap, ◌∙◌, ◌≢◌, length, length-append, arith}
 use Rattle.std.proofs.lemmas.List.{append_assoc, append-nil}
 use Rattle.encoding_index.specs.IndexText.{lines_in, text_rows, first_fault}
-use Rattle.encoding_index.specs.Outcomes.{outcomes}
+use Rattle.encoding_index.specs.laws.Outcomes.{outcomes}
 use Rattle.encoding_index.specs.declared.fault.IndexFault.{IndexFault}
 use Rattle.encoding_index.proofs.OutcomeLists.{fault_in, rows_read, first_fault_is, rows_read_is, no_rows_read}
 

@@ -2,7 +2,7 @@
 use Rattle.std.specs.Prelude.{◌≡◌, ◌≢◌, ◌⊎◌, ℕ, false, is_some, if◌then◌else◌, List, Option, Some, Result, Err}
 use Rattle.std.specs.Bool.{MatchBool}
 use Rattle.std.specs.Option.{option_map, option_or}
-use Rattle.encoding_tables.specs.Kinds.{size_of, is_ranges}
+use Rattle.encoding_tables.specs.Kinds.{index_size, is_ranges}
 use Rattle.encoding_tables.specs.IndexLists.{IndexLists, flat_of, has}
 use Rattle.encoding_tables.specs.TableFaults.{flat_fault, range_fault}
 use Rattle.encoding_tables.specs.declared.index_kind.IndexKind.{IndexKind}
@@ -15,7 +15,7 @@ use Rattle.encoding_index.specs.declared.fault.LoadFault.TheVariants.{Text, Tabl
 
 -- how many pointers the texts of a kind can name
 abbrev pub pointers_of : IndexKind → ℕ
-pointers_of kind = if is_ranges kind then range_pointers else size_of kind
+pointers_of kind = if is_ranges kind then range_pointers else index_size kind
 
 -- the first fault of a text of the kind
 abbrev pub text_fault : IndexKind → List ℕ → Option IndexFault
@@ -25,7 +25,7 @@ text_fault kind text = first_fault (pointers_of kind) text
 abbrev pub table_fault : IndexLists → IndexKind → List ℕ → Option TableFault
 table_fault tables kind text =
     if is_ranges kind then range_fault (is_some tables.rows) (text_rows text)
-    else flat_fault (has tables kind) kind (text_list (size_of kind) text)
+    else flat_fault (has tables kind) kind (text_list (index_size kind) text)
 
 -- the first fault of a load: that of the text comes before that of the tables
 abbrev pub load_fault : IndexLists → IndexKind → List ℕ → Option LoadFault
@@ -34,7 +34,7 @@ load_fault tables kind text = option_or (option_map Text (text_fault kind text))
 -- the tables have what the text stands for
 abbrev pub Loads : IndexLists → IndexKind → List ℕ → Type 0
 Loads tables kind text =
-    MatchBool (is_ranges kind) (tables.rows ≡ Some (text_rows text)) (flat_of tables kind ≡ Some (text_list (size_of kind) text))
+    MatchBool (is_ranges kind) (tables.rows ≡ Some (text_rows text)) (flat_of tables kind ≡ Some (text_list (index_size kind) text))
 
 -- nothing but the index of the kind may differ
 abbrev pub KeepsOthers : IndexLists → IndexLists → IndexKind → Type 0

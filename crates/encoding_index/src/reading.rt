@@ -1,5 +1,5 @@
 ghost use Rattle.std.specs.Prelude.{◌≡◌, ◌≢◌, ◌⊎◌, [], None, Some, IfOk, IfErr, false};
-ghost use Rattle.encoding_tables.specs.Kinds.{size_of, is_ranges};
+ghost use Rattle.encoding_tables.specs.Kinds.{index_size, is_ranges};
 ghost use Rattle.encoding_index.specs.IndexText.{range_pointers, first_fault, text_list, text_rows, out_of_memory};
 
 use crate::fault::IndexFault;
@@ -18,9 +18,9 @@ pub const RANGE_POINTERS: u32 = 1_237_576;
 /// The fault is the first of the first faulty line, or want of memory.
 pub fn read_index(alloc: Global, kind: IndexKind, text: &[u8]) -> Result<Vec<u32>, IndexFault>
     requires { is_ranges kind ≡ false }
-    ensures list { IfOk result (λ list. (first_fault (size_of kind) text.now ≡ None)
-        × (list.items ≡ text_list (size_of kind) text.now)) }
-    ensures fault { IfErr result (λ fault. (first_fault (size_of kind) text.now ≡ Some fault)
+    ensures list { IfOk result (λ list. (first_fault (index_size kind) text.now ≡ None)
+        × (list.items ≡ text_list (index_size kind) text.now)) }
+    ensures fault { IfErr result (λ fault. (first_fault (index_size kind) text.now ≡ Some fault)
         ⊎ (fault ≡ out_of_memory)) }
 {
     let mut list = vec![in alloc; 0; kind.size()]?;

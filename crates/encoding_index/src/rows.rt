@@ -2,7 +2,7 @@ ghost use Rattle.std.specs.Prelude.{◌≡◌, ℕ, ◌+◌, ◌^◌, ◌<◌, �
 ghost use Rattle.std.specs.List.{position_or_len};
 ghost use Rattle.std.specs.Str.Lines.{lines, strip_carriage_return};
 ghost use Rattle.encoding_index.specs.IndexText.{lines_in};
-ghost use Rattle.encoding_index.specs.Outcomes.{outcomes, outcome_of};
+ghost use Rattle.encoding_index.specs.laws.Outcomes.{outcomes, outcome_of};
 
 use crate::fault::{IndexFault, IndexFaultKind};
 use crate::line::{is_skipped, row_of};
@@ -68,7 +68,7 @@ pub(crate) struct IndexRows<'a> {
 }
 
 impl<'a> IndexRows<'a> {
-    ghost use Rattle.encoding_index.specs.RowsLeft.{outcomes_left};
+    ghost use Rattle.encoding_index.specs.laws.RowsLeft.{outcomes_left};
 
     /// The rows of a text whose pointers are below `size`.
     pub(crate) fn new(text: &'a [u8], size: u32) -> Self
@@ -85,7 +85,7 @@ impl<'a> IndexRows<'a> {
 
 impl<'a> Iterator for IndexRows<'a> {
     ghost use Rattle.std.specs.Iterator.{YieldsFirst, item_count};
-    ghost use Rattle.encoding_index.specs.RowsLeft.{outcomes_left};
+    ghost use Rattle.encoding_index.specs.laws.RowsLeft.{outcomes_left};
 
     type Item = Result<(u32, u32), IndexFault>;
 

@@ -15,7 +15,7 @@ use Rattle.std.specs.List.{list_all}
 use Rattle.std.specs.Str.{bytes_eq}
 use Rattle.std.specs.Char.{to_ascii_lowercase}
 use Rattle.encoding_labels.specs.Labels.{labels, place_in, place_of, without_leading, trimmed, IsLabelText}
-use Rattle.encoding_labels.specs.Rows.{entries, labels_of_length}
+use Rattle.encoding_labels.specs.laws.ByLength.{entries, labels_of_length}
 use Rattle.encoding_labels.proofs.Computed.{at_label, and_parts, is_label_text, all_texts, all_places, all_first, is_place, is_place-some, lt_from_test, text_from_test}
 
 -- a test is false where what it decides does not hold

@@ -105,9 +105,9 @@ pub record IsLabelText (text : List ℕ) : Type 0 where
   pub longest : length text ≤ 19
   pub bytes : AllPass is_label_byte text
 
--- the encodings in the order of their places
-pub places : (BIG5 ∷ EUC_JP ∷ EUC_KR ∷ GB18030 ∷ GBK ∷ IBM866 ∷ ISO_2022_JP ∷ ISO_8859_2 ∷ ISO_8859_3 ∷ ISO_8859_4 ∷ ISO_8859_5 ∷ ISO_8859_6 ∷ ISO_8859_7 ∷ ISO_8859_8 ∷ ISO_8859_8_I ∷ ISO_8859_10 ∷ ISO_8859_13 ∷ ISO_8859_14 ∷ ISO_8859_15 ∷ ISO_8859_16 ∷ KOI8_R ∷ KOI8_U ∷ MACINTOSH ∷ REPLACEMENT ∷ SHIFT_JIS ∷ UTF_8 ∷ UTF_16BE ∷ UTF_16LE ∷ WINDOWS_874 ∷ WINDOWS_1250 ∷ WINDOWS_1251 ∷ WINDOWS_1252 ∷ WINDOWS_1253 ∷ WINDOWS_1254 ∷ WINDOWS_1255 ∷ WINDOWS_1256 ∷ WINDOWS_1257 ∷ WINDOWS_1258 ∷ X_MAC_CYRILLIC ∷ X_USER_DEFINED ∷ []) ≡ range_with_len 0 ENCODING_COUNT
-places = refl
+-- the encodings in the order of their places_rise
+pub places_rise : (BIG5 ∷ EUC_JP ∷ EUC_KR ∷ GB18030 ∷ GBK ∷ IBM866 ∷ ISO_2022_JP ∷ ISO_8859_2 ∷ ISO_8859_3 ∷ ISO_8859_4 ∷ ISO_8859_5 ∷ ISO_8859_6 ∷ ISO_8859_7 ∷ ISO_8859_8 ∷ ISO_8859_8_I ∷ ISO_8859_10 ∷ ISO_8859_13 ∷ ISO_8859_14 ∷ ISO_8859_15 ∷ ISO_8859_16 ∷ KOI8_R ∷ KOI8_U ∷ MACINTOSH ∷ REPLACEMENT ∷ SHIFT_JIS ∷ UTF_8 ∷ UTF_16BE ∷ UTF_16LE ∷ WINDOWS_874 ∷ WINDOWS_1250 ∷ WINDOWS_1251 ∷ WINDOWS_1252 ∷ WINDOWS_1253 ∷ WINDOWS_1254 ∷ WINDOWS_1255 ∷ WINDOWS_1256 ∷ WINDOWS_1257 ∷ WINDOWS_1258 ∷ X_MAC_CYRILLIC ∷ X_USER_DEFINED ∷ []) ≡ range_with_len 0 ENCODING_COUNT
+places_rise = refl
 
 pub length-labels : length labels ≡ 228
 unfolding labels

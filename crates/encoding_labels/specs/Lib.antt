@@ -1,2 +1,2 @@
 pub mod Labels
-pub mod Rows
+pub mod laws

@@ -1,7 +1,7 @@
 ghost use Rattle.std.specs.Prelude.{◌≡◌, ℕ, ◌<◌, ◌↔◌, Option, Some, IfSome, OnSome, map};
 ghost use Rattle.std.specs.Char.{to_ascii_lowercase};
 ghost use Rattle.encoding_labels.specs.Labels.{label_text, trimmed, IsLabelOf, IsLabelText, place_in, place_of};
-ghost use Rattle.encoding_labels.specs.Rows.{entries};
+ghost use Rattle.encoding_labels.specs.laws.ByLength.{entries};
 
 use crate::places::ENCODING_COUNT;
 use crate::table::rows_of_length;

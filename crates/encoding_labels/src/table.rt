@@ -3,7 +3,7 @@
 // case, each with the place of its encoding.
 
 ghost use Rattle.std.specs.Prelude.{◌≡◌, ℕ};
-ghost use Rattle.encoding_labels.specs.Rows.{entries, labels_of_length};
+ghost use Rattle.encoding_labels.specs.laws.ByLength.{entries, labels_of_length};
 
 use crate::places::{
     BIG5, EUC_JP, EUC_KR, GB18030, GBK, IBM866, ISO_2022_JP, ISO_8859_2, ISO_8859_3, ISO_8859_4,

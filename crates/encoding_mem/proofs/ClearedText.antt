@@ -13,7 +13,7 @@ use Rattle.std.specs.Option.{unwrap_or}
 use Rattle.std.proofs.lemmas.Str.{IsUtf8-append, IsUtf8-from_ascii, IsUtf8-nil, encode_ascii}
 use borrow.Rule.Slice.PartMut.{put_mid, post_of}
 use Rattle.encoding_mem.specs.TextDestination.{cleared}
-use Rattle.encoding_mem.specs.Utf8Laws.{scalar_from}
+use Rattle.encoding_mem.specs.laws.Utf8.{scalar_from}
 use Rattle.encoding_mem.proofs.UnitPrefixes.{char_of, one, two, pair_or_not}
 use Rattle.encoding_mem.proofs.Units.{no_units}
 use Rattle.encoding_mem.proofs.Utf8Chars.{of_two, of_three, of_four}

@@ -3,14 +3,14 @@ use Rattle.std.proofs.Common.{◌≡◌, ◌≢◌, ℕ, ◌+◌, ◌<◌, ◌�
 use Rattle.std.proofs.lemmas.List.{append-nil}
 use Rattle.encoding_mem.specs.Piece.{Piece, first, sizes, ArePieces}
 use Rattle.encoding_mem.specs.Decoding.{DecoderState, EndsWith, IsUndecided}
-use Rattle.encoding_mem.specs.Room.{is_units, goes_on, mark_in, left_after, room_of}
+use Rattle.encoding_mem.specs.Room.{is_units, goes_on, replacement_len, left_after, room_of}
 use Rattle.encoding_mem.specs.declared.room.Count.{Count}
 use Rattle.encoding_mem.specs.declared.room.Room.{Room}
-use Rattle.encoding_mem.specs.Driver.{Ends, Suffices, Remains, buffered}
+use Rattle.encoding_mem.specs.Driver.{DriverEndsWith, Suffices, Remains, buffered}
 use Rattle.encoding_mem.specs.declared.decoder_result.DecoderResult.{DecoderResult}
 use Rattle.encoding_mem.specs.declared.decoder_result.DecoderResult.TheVariants.{InputEmpty, OutputFull, Malformed}
 
-pub ends_with : (P : List ℕ → List Piece) (pending unread : List ℕ) (last : Bool) (free room mark : ℕ) (whole : (x : List ℕ) → sizes (P x) ≡ length x) (are_pieces : (x : List ℕ) → ArePieces (P x)) (needs : Count → ℕ → ℕ) (limits : Room) (covers : (k : Count) (n : ℕ) → needs k n ≤ room_of limits k n) (outcome : DecoderResult) → P [] ≡ [] → Ends P pending unread last free room mark outcome
+pub ends_with : (P : List ℕ → List Piece) (pending unread : List ℕ) (last : Bool) (free room mark : ℕ) (whole : (x : List ℕ) → sizes (P x) ≡ length x) (are_pieces : (x : List ℕ) → ArePieces (P x)) (needs : Count → ℕ → ℕ) (limits : Room) (covers : (k : Count) (n : ℕ) → needs k n ≤ room_of limits k n) (outcome : DecoderResult) → P [] ≡ [] → DriverEndsWith P pending unread last free room mark outcome
     → EndsWith (buffered P whole are_pieces needs limits covers pending) unread last free room mark outcome
 ends_with P pending unread last free room mark whole are_pieces needs limits covers InputEmpty e h = (
   h.0,
@@ -49,4 +49,4 @@ nothing_remains P pending decided h = elim h [
 pub suffices_now : (before need : Count → ℕ → ℕ) (t last : Bool) (size unread old new : ℕ) (pending : List ℕ) (outcome : DecoderResult) → pending ≡ [] → Suffices before (λ k n. need k (length pending + n)) t last size unread old new outcome → Suffices before need t last size unread old new outcome
 suffices_now before need t last size unread old new pending InputEmpty none h = λ k m is stops fits. (let same : length pending + m ≡ m = omega (arith, ap length none) in subst (λ (n : ℕ). need k n ≤ new) same (h k m is stops fits))
 suffices_now before need t last size unread old new pending OutputFull none h = h
-suffices_now before need t last size unread old new pending (Malformed a b) none h = λ k m is stops fits. (let same : length pending + (unread + m) ≡ unread + m = omega (arith, ap length none) in subst (λ (n : ℕ). left_after (goes_on k) (mark_in t) (need k n) ≤ new) same (h k m is stops fits))
+suffices_now before need t last size unread old new pending (Malformed a b) none h = λ k m is stops fits. (let same : length pending + (unread + m) ≡ unread + m = omega (arith, ap length none) in subst (λ (n : ℕ). left_after (goes_on k) (replacement_len t) (need k n) ≤ new) same (h k m is stops fits))

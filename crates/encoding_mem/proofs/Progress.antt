@@ -4,11 +4,11 @@ use Rattle.std.proofs.lemmas.List.{append-nil, drop-drop, drop_all, drop_more, t
 use Rattle.std.proofs.lemmas.Str.{encodes-chars, length-encode}
 use Rattle.std.specs.Char.{encode_utf8}
 use Rattle.std.specs.Str.{chars, IsUtf8}
-use Rattle.encoding_mem.specs.Piece.{Piece, bad, size_of, first, scalars_of, sizes, scalars, AreGood}
-use Rattle.encoding_mem.specs.PieceLaws.{sizes-append, scalars-append, AreGood-append}
+use Rattle.encoding_mem.specs.Piece.{Piece, bad, piece_len, first, scalars_of, sizes, scalars, AreGood}
+use Rattle.encoding_mem.specs.laws.Piece.{sizes-append, scalars-append, AreGood-append}
 use Rattle.encoding_mem.specs.Text.{text_pieces}
 use Rattle.encoding_mem.specs.Decoding.{Takes, Reports}
-use Rattle.encoding_mem.specs.FrontPiece.{IsFirst, IsSoon}
+use Rattle.encoding_mem.specs.FrontPiece.{IsFirstPiece, IsSoon}
 use Rattle.encoding_mem.specs.Driver.{IsNear, PartReports, PartSuffices, Suffices}
 use Rattle.encoding_mem.specs.Room.{is_units}
 use Rattle.encoding_mem.specs.declared.room.Count.{Count}
@@ -23,15 +23,15 @@ wrote W W' taken p step w =
 
 -- from the source, where nothing is pending
 pub took_source : (Good : List Piece → Type 0) (before P P' : List ℕ → List Piece) (src window : List ℕ) (last : Bool) (held read : ℕ) (W W' : List ℕ → Type 0) (p : Piece) (n : ℕ)
-    → size_of p ≡ n
+    → piece_len p ≡ n
     → window ≡ drop read src
     → Takes AreGood before P src last held 0 read W
-    → IsFirst P P' window last p
+    → IsFirstPiece P P' window last p
     → ((ps : List Piece) → AreGood ps → Good (ps ++ p ∷ []))
     → ((t : List ℕ) → W t → W' (t ++ scalars_of p))
     → Takes Good before P' src last held 0 (read + n) W'
 took_source Good before P P' src window last held read W W' p n e is h given fine step =
-    let here : IsFirst P P' (drop read src) last p = subst (λ (x : List ℕ). IsFirst P P' x last p) is given in
+    let here : IsFirstPiece P P' (drop read src) last p = subst (λ (x : List ℕ). IsFirstPiece P P' x last p) is given in
     record {
       taken = h.taken ++ p ∷ [];
       good = fine h.taken h.good;
@@ -170,19 +170,19 @@ part_suffices ended before need t last size unread left old mid pending is none 
 pub took_pending : (Good : List Piece → Type 0) (before P P' : List ℕ → List Piece) (src : List ℕ) (last here : Bool) (held : ℕ) (pending : List ℕ) (read : ℕ) (W W' : List ℕ → Type 0) (p : Piece)
     → (IsTrue here → IsTrue last × (length src ≤ read))
     → Takes AreGood before (λ x. P (pending ++ x)) src last held (length pending) read W
-    → IsFirst P P' pending here p
+    → IsFirstPiece P P' pending here p
     → ((ps : List Piece) → AreGood ps → Good (ps ++ p ∷ []))
     → ((t : List ℕ) → W t → W' (t ++ scalars_of p))
-    → Takes Good before (λ x. P' (drop (size_of p) pending ++ x)) src last held (length (drop (size_of p) pending)) read W'
+    → Takes Good before (λ x. P' (drop (piece_len p) pending ++ x)) src last held (length (drop (piece_len p) pending)) read W'
 took_pending Good before P P' src last here held pending read W W' p ends h first fine step = record {
   taken = h.taken ++ p ∷ [];
   good = fine h.taken h.good;
   within = h.within;
-  counted = omega (arith, h.counted, sizes-append h.taken (p ∷ []), length-drop (size_of p) pending, first.within);
+  counted = omega (arith, h.counted, sizes-append h.taken (p ∷ []), length-drop (piece_len p) pending, first.within);
   writes = wrote W W' h.taken p step h.writes;
   rest = λ r e.
       let none : IsTrue here → drop read src ++ r ≡ [] = λ t. rw (drop_all read src (ends t).1) (e (ends t).0) in
-      h.rest r e ∙ ap (λ x. h.taken ++ x) (first.rest (drop read src ++ r) none) ∙ sym (append_assoc h.taken (p ∷ []) (P' (drop (size_of p) pending ++ (drop read src ++ r))));
+      h.rest r e ∙ ap (λ x. h.taken ++ x) (first.rest (drop read src ++ r) none) ∙ sym (append_assoc h.taken (p ∷ []) (P' (drop (piece_len p) pending ++ (drop read src ++ r))));
 }
 
 -- one more byte is pending
@@ -200,21 +200,21 @@ held_byte before P src last held pending read W lt h = record {
 }
 
 pub took_pending_of : (Good : List ℕ → List Piece → Type 0) (before P P' : List ℕ → List Piece) (src window : List ℕ) (last here : Bool) (held : ℕ) (pending now : List ℕ) (read : ℕ) (W W' : List ℕ → Type 0) (p : Piece) (n : ℕ)
-    → size_of p ≡ n
+    → piece_len p ≡ n
     → window ≡ pending
     → now ≡ drop n pending
     → (IsTrue here → IsTrue last × (length src ≤ read))
     → Takes AreGood before (λ x. P (pending ++ x)) src last held (length pending) read W
-    → IsFirst P P' window here p
+    → IsFirstPiece P P' window here p
     → ((ps : List Piece) → AreGood ps → Good now (ps ++ p ∷ []))
     → ((t : List ℕ) → W t → W' (t ++ scalars_of p))
     → Takes (Good now) before (λ x. P' (now ++ x)) src last held (length now) read W'
 took_pending_of Good before P P' src window last here held pending now read W W' p n e whole is ends h first fine step =
-    let same : drop (size_of p) pending ≡ now = ap (λ k. drop k pending) e ∙ sym is in
-    let first' : IsFirst P P' pending here p = subst (λ (x : List ℕ). IsFirst P P' x here p) whole first in
-    let fine' : (ps : List Piece) → AreGood ps → Good (drop (size_of p) pending) (ps ++ p ∷ []) = λ ps a. subst (λ (x : List ℕ). Good x (ps ++ p ∷ [])) (sym same) (fine ps a) in
+    let same : drop (piece_len p) pending ≡ now = ap (λ k. drop k pending) e ∙ sym is in
+    let first' : IsFirstPiece P P' pending here p = subst (λ (x : List ℕ). IsFirstPiece P P' x here p) whole first in
+    let fine' : (ps : List Piece) → AreGood ps → Good (drop (piece_len p) pending) (ps ++ p ∷ []) = λ ps a. subst (λ (x : List ℕ). Good x (ps ++ p ∷ [])) (sym same) (fine ps a) in
     subst (λ (y : List ℕ). Takes (Good y) before (λ x. P' (y ++ x)) src last held (length y) read W') same
-    (took_pending (Good (drop (size_of p) pending)) before P P' src last here held pending read W W' p ends h first' fine' step)
+    (took_pending (Good (drop (piece_len p) pending)) before P P' src last here held pending read W W' p ends h first' fine' step)
 
 -- what is pending ends soon after its first piece
 pub near_few : (P : List ℕ → List Piece) (x : List ℕ) → length x ≤ 3 → IsNear P x
@@ -228,7 +228,7 @@ near_push P x y z b e f h r p k =
     let there : first (P (y ++ (b ∷ r))) ≡ Some p = ap (λ s. first (P s)) (ap (λ s. s ++ (b ∷ r)) e ∙ sym (append_assoc x (b ∷ []) r) ∙ ap (λ s. s ++ r) (sym f)) ∙ k in
     omega (arith, h (b ∷ r) p there, ap length e, ap length f, length-append x (b ∷ []))
 
-pub left_few : (P P' : List ℕ → List Piece) (window pending now : List ℕ) (here : Bool) (p : Piece) (n : ℕ) → size_of p ≡ n → window ≡ pending → now ≡ drop n pending → IsNear P pending → IsFirst P P' window here p → length now ≤ 3
+pub left_few : (P P' : List ℕ → List Piece) (window pending now : List ℕ) (here : Bool) (p : Piece) (n : ℕ) → piece_len p ≡ n → window ≡ pending → now ≡ drop n pending → IsNear P pending → IsFirstPiece P P' window here p → length now ≤ 3
 left_few P P' window pending now here p n s e f near first_is =
     let there : first (P (pending ++ [])) ≡ Some p = ap (λ x. first (P (x ++ []))) (sym e) ∙ ap first (first_is.rest [] (λ _. refl)) in
     omega (arith, near [] p there, ap length f, length-drop n pending, s)

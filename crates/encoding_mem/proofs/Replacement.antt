@@ -4,17 +4,17 @@ use Rattle.std.specs.Int.{is_in_range}
 use Rattle.std.specs.Char.Escape.{encode_utf16}
 use Rattle.std.proofs.lemmas.Bool.{lt-ltb, ltb-true}
 use Rattle.std.proofs.lemmas.List.{append-nil, take_rest, drop-drop}
-use Rattle.encoding_mem.specs.Piece.{Piece, good, bad, size_of, sizes, scalars, scalars_of, text_of, text, first, AreGood, ArePieces}
-use Rattle.encoding_mem.specs.PiecesLaws.{pieces_by-nil, pieces_by-cons, pieces_by-whole}
-use Rattle.encoding_mem.specs.Utf8.{second_min, second_max, scalar_of_two, scalar_of_three, scalar_of_four, after_three, after_two, after_lead, front_utf8, pieces_utf8}
-use Rattle.encoding_mem.specs.Utf8Laws.{cuts_utf8}
+use Rattle.encoding_mem.specs.Piece.{Piece, good, bad, piece_len, sizes, scalars, scalars_of, text_of, text, first, AreGood, ArePieces}
+use Rattle.encoding_mem.specs.laws.Pieces.{pieces_by-nil, pieces_by-cons, pieces_by-whole}
+use Rattle.encoding_mem.specs.Utf8.{second_min, second_max, scalar_of_two, scalar_of_three, scalar_of_four, utf8_after_three, utf8_after_two, utf8_after_lead, front_utf8, pieces_utf8}
+use Rattle.encoding_mem.specs.laws.Utf8.{cuts_utf8}
 use Rattle.encoding_mem.specs.Writing.{Adds, len_utf16, encode_utf16_all}
-use Rattle.encoding_mem.specs.WritingLaws.{adds_encoded16, adds-length, encode_utf16_all-append, length-encode_utf16, cost_fits16}
+use Rattle.encoding_mem.specs.laws.Writing.{adds_encoded16, adds-length, encode_utf16_all-append, length-encode_utf16, cost_fits16}
 
 -- A piece gives some text, and no more units than it has bytes.
 record Fits (p : Piece) : Type 0 where
   some : 0 < length (encode_utf16_all (text_of p))
-  few : length (encode_utf16_all (text_of p)) ≤ size_of p
+  few : length (encode_utf16_all (text_of p)) ≤ piece_len p
 
 fits_good : (n c : ℕ) → 2 ≤ n → Fits (good n (c ∷ []))
 fits_good n c h =
@@ -40,22 +40,22 @@ fits_if : (t : Bool) (p q : Piece) → (t ≡ true → Fits p) → Fits q → Fi
 fits_if true p q f g = f refl
 fits_if false p q f g = g
 
-fits_three : (b c d : ℕ) (x : List ℕ) → Fits (after_three b c d x)
+fits_three : (b c d : ℕ) (x : List ℕ) → Fits (utf8_after_three b c d x)
 fits_three b c d [] = fits_bad 3 (omega arith)
 fits_three b c d (e ∷ x) = fits_if (is_in_range 0x80 0xBF e) _ _ (λ _. fits_good 4 (scalar_of_four b c d e) (omega arith)) (fits_bad 3 (omega arith))
 
-fits_two : (b c : ℕ) (x : List ℕ) → Fits (after_two b c x)
+fits_two : (b c : ℕ) (x : List ℕ) → Fits (utf8_after_two b c x)
 fits_two b c [] = fits_bad 2 (omega arith)
-fits_two b c (d ∷ x) = fits_if (is_in_range 0x80 0xBF d) (cond (nat_lt b 0xF0) (good 3 (scalar_of_three b c d ∷ [])) (after_three b c d x)) (bad 2)
+fits_two b c (d ∷ x) = fits_if (is_in_range 0x80 0xBF d) (cond (nat_lt b 0xF0) (good 3 (scalar_of_three b c d ∷ [])) (utf8_after_three b c d x)) (bad 2)
     (λ _. fits_if (nat_lt b 0xF0) _ _ (λ _. fits_good 3 (scalar_of_three b c d) (omega arith)) (fits_three b c d x)) (fits_bad 2 (omega arith))
 
-fits_lead : (b : ℕ) (x : List ℕ) → Fits (after_lead b x)
+fits_lead : (b : ℕ) (x : List ℕ) → Fits (utf8_after_lead b x)
 fits_lead b [] = fits_bad 1 (omega arith)
-fits_lead b (c ∷ x) = fits_if (is_in_range (second_min b) (second_max b) c) (cond (nat_lt b 0xE0) (good 2 (scalar_of_two b c ∷ [])) (after_two b c x)) (bad 1)
+fits_lead b (c ∷ x) = fits_if (is_in_range (second_min b) (second_max b) c) (cond (nat_lt b 0xE0) (good 2 (scalar_of_two b c ∷ [])) (utf8_after_two b c x)) (bad 1)
     (λ _. fits_if (nat_lt b 0xE0) _ _ (λ _. fits_good 2 (scalar_of_two b c) (omega arith)) (fits_two b c x)) (fits_bad 1 (omega arith))
 
 fits_front : (b : ℕ) (x : List ℕ) → Fits (front_utf8 (b ∷ x))
-fits_front b x = fits_if (nat_lt b 0x80) (good 1 (b ∷ [])) (cond (is_in_range 0xC2 0xF4 b) (after_lead b x) (bad 1))
+fits_front b x = fits_if (nat_lt b 0x80) (good 1 (b ∷ [])) (cond (is_in_range 0xC2 0xF4 b) (utf8_after_lead b x) (bad 1))
     (λ t. fits_byte b (ltb-true b 0x80 t)) (fits_if (is_in_range 0xC2 0xF4 b) _ _ (λ _. fits_lead b x) (fits_bad 1 (omega arith)))
 
 abbrev AllFit : List Piece → Type 0
@@ -69,7 +69,7 @@ all_fit (suc n) (b ∷ x) h =
     let cut = cuts_utf8 b x in
     let size = cut.piece.some in
     subst AllFit (sym (pieces_by-cons front_utf8 cuts_utf8 b x))
-    (fits_front b x, all_fit n (drop (size_of (front_utf8 (b ∷ x))) (b ∷ x)) (omega (arith, length-drop (size_of (front_utf8 (b ∷ x))) (b ∷ x))))
+    (fits_front b x, all_fit n (drop (piece_len (front_utf8 (b ∷ x))) (b ∷ x)) (omega (arith, length-drop (piece_len (front_utf8 (b ∷ x))) (b ∷ x))))
 
 fit_back : (ps qs : List Piece) → AllFit (ps ++ qs) → AllFit qs
 fit_back [] qs h = h

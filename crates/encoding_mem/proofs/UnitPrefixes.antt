@@ -10,7 +10,7 @@ use Rattle.encoding_mem.specs.Conversions.{IsLongest, IsUnitBoundary, units_in_u
 use Rattle.encoding_mem.specs.Surrogates.{IsSurrogatePair}
 use Rattle.encoding_mem.specs.Coding.{output}
 use Rattle.encoding_mem.specs.Encoding.{Encodes}
-use Rattle.encoding_mem.specs.EncodingLaws.{encoded_bytes, utf8_output}
+use Rattle.encoding_mem.specs.laws.Encoding.{encoded_bytes, utf8_output}
 use Rattle.encoding_mem.specs.Utf8Coding.{utf8_coding, NextIsTooLong}
 use Rattle.encoding_mem.specs.declared.encoder_result.EncoderResult.{EncoderResult}
 use Rattle.encoding_mem.specs.declared.encoder_result.EncoderResult.TheVariants.{InputEmpty, OutputFull, Unmappable}

@@ -9,7 +9,7 @@ use Rattle.std.specs.Str.Lossy.{utf8_valid_len}
 use Rattle.std.proofs.lemmas.Bool.{cases_lt, lt-ltb}
 use Rattle.encoding_mem.specs.Conversions.{IsLongest, text_in_utf16, text_front}
 use Rattle.encoding_mem.specs.Writing.{Adds, len_utf16, encode_utf16_all}
-use Rattle.encoding_mem.specs.WritingLaws.{adds_none, adds_encoded16}
+use Rattle.encoding_mem.specs.laws.Writing.{adds_none, adds_encoded16}
 use Rattle.encoding_mem.proofs.Prefixes.{over16}
 
 pub chars_at : (text : List ℕ) (n : ℕ) → IsUtf8 text → IsCharBoundary text n → chars text ≡ chars (take n text) ++ chars (drop n text)

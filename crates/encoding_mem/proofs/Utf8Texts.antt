@@ -7,7 +7,7 @@ use Rattle.std.specs.Str.{chars, IsUtf8, IsCharBoundary, encode_utf8_all}
 use Rattle.std.specs.Char.{encode_utf8, len_utf8}
 use Rattle.encoding_mem.specs.Coding.{AllMapped, last_set}
 use Rattle.encoding_mem.specs.Items.{Byte, open_items, whole_items}
-use Rattle.encoding_mem.specs.Encoding.{Encodes, Answers}
+use Rattle.encoding_mem.specs.Encoding.{Encodes, EncodeEndsWith}
 use Rattle.encoding_mem.specs.Target.{Tight}
 use Rattle.encoding_mem.specs.Utf8Coding.{utf8_coding, NextIsTooLong}
 use Rattle.encoding_mem.specs.declared.form.Set.{Set}
@@ -95,7 +95,7 @@ stops_near bs n room u b short nearest =
 
 -- Where the driver stopped, the next character is too long.
 pub next_over : (last : Bool) (outcome : EncoderResult) (s : Set) (t w : List ℕ) (s' : Set) (rest : List ℕ) (free : ℕ)
-    → Encodes utf8_coding last outcome s t w s' rest → Tight utf8_coding outcome s' rest free → Answers 4 last outcome s' rest free
+    → Encodes utf8_coding last outcome s t w s' rest → Tight utf8_coding outcome s' rest free → EncodeEndsWith 4 last outcome s' rest free
     → NextIsTooLong rest free
 next_over last InputEmpty s t w s' rest free law tight answers = rw answers.0 tt
 next_over last OutputFull s t w s' [] free law tight answers = tt

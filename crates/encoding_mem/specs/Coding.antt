@@ -63,7 +63,7 @@ lost_count e [] = 0
 lost_count e (c ∷ t) = unmapped_count (e.form c) + lost_count e t
 
 -- no more bytes than need
-pub record IsShort (need : ℕ) (f : Form) : Type 0 where
+pub record FitsNeed (need : ℕ) (f : Form) : Type 0 where
   pub short : length (bytes f) ≤ need
 
 -- What a target is: a set that a scalar has chosen stays for it, a set has no escape to itself, and no part is
@@ -71,6 +71,6 @@ pub record IsShort (need : ℕ) (f : Form) : Type 0 where
 pub record IsCoding (need : ℕ) (e : Coding) : Type 0 where
   pub stays : (s : Set) (c : ℕ) → e.set (e.set s c) c ≡ e.set s c
   pub same : (s : Set) → e.escape s s ≡ []
-  pub short : (c : ℕ) → IsShort need (e.form c)
+  pub short : (c : ℕ) → FitsNeed need (e.form c)
   pub escape_short : (s s' : Set) → length (e.escape s s') ≤ need
   pub few : need ≤ 4

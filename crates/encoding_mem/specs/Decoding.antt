@@ -1,6 +1,6 @@
 -- What a call of a decoder does.
 use Rattle.std.specs.Prelude.{◌≡◌, ℕ, ◌+◌, ◌-◌, ◌≤◌, ◌<◌, ◌≢◌, ◌⊎◌, Bool, false, IsTrue, Some, List, [], ◌∷◌, ◌++◌, length, drop}
-use Rattle.encoding_mem.specs.Piece.{Piece, bad, first, size_of, sizes, scalars, text_of, AreGood, ArePieces}
+use Rattle.encoding_mem.specs.Piece.{Piece, bad, first, piece_len, sizes, scalars, text_of, AreGood, ArePieces}
 use Rattle.encoding_mem.specs.Room.{room_of}
 use Rattle.encoding_mem.specs.declared.room.Count.{Count}
 use Rattle.encoding_mem.specs.declared.room.Room.{Room}
@@ -35,7 +35,7 @@ pub record IsUndecided (pieces : List ℕ → List Piece) (x : List ℕ) : Type 
 pub record Waits (pieces : List ℕ → List Piece) (pending : ℕ) : Type 0 where
   pub short : pending < 6
   pub undecided : IsUndecided pieces []
-  pub soon : (r : List ℕ) (p : Piece) → first (pieces r) ≡ Some p → pending ≤ size_of p + 2
+  pub soon : (r : List ℕ) (p : Piece) → first (pieces r) ≡ Some p → pending ≤ piece_len p + 2
 
 -- the first piece of what is left is there, however it goes on, and has text
 abbrev pub IsKnown : (pieces : List ℕ → List Piece) (unread : List ℕ) (last : Bool) → Type 0
@@ -71,15 +71,15 @@ EndsWith after unread last free room mark OutputFull = (free < room) × IsKnown 
 EndsWith after unread last free room mark (Malformed a b) = mark ≤ free
 
 -- what an answer tells beside the scalars that were written: a bad piece that ends at this place
-abbrev pub reported : DecoderResult → ℕ → List Event
-reported InputEmpty place = []
-reported OutputFull place = []
-reported (Malformed a b) place = malformed a place ∷ []
+abbrev pub reported_event : DecoderResult → ℕ → List Event
+reported_event InputEmpty place = []
+reported_event OutputFull place = []
+reported_event (Malformed a b) place = malformed a place ∷ []
 
 -- The state law over events, whose places count from the first pending byte: the events of every continuation are the
--- scalars that were written, what was reported, and the events of what is left.
+-- scalars that were written, what was reported_event, and the events of what is left.
 abbrev pub EventLaw : (before after : DecoderState) (src : List ℕ) (last : Bool) (read : ℕ) (Writes : List ℕ → Type 0) → DecoderResult → Type 0
 EventLaw before after src last read Writes outcome =
     let place : ℕ = before.pending + read - after.pending in
     (written : List ℕ) × Writes written × ((r : List ℕ) → (IsTrue last → r ≡ []) →
-    events 0 (before.pieces (src ++ r)) ≡ (scalar_events written ++ reported outcome place) ++ events place (after.pieces (drop read src ++ r)))
+    events 0 (before.pieces (src ++ r)) ≡ (scalar_events written ++ reported_event outcome place) ++ events place (after.pieces (drop read src ++ r)))

@@ -1,10 +1,10 @@
 -- What the driver of a rule does, where its state is known by the rule's pieces and by what is pending.
 use Rattle.std.specs.Prelude.{◌≡◌, ℕ, ◌+◌, ◌-◌, ◌≤◌, ◌<◌, ◌⊎◌, Bool, false, IsTrue, Option, Some, None, List, [], ◌++◌, length}
 use Rattle.std.proofs.Common.{◌∙◌, length-append, subst, arith}
-use Rattle.encoding_mem.specs.Piece.{Piece, bad, first, size_of, scalars_of, text_of, sizes, IsGood, AreGood, ArePieces}
+use Rattle.encoding_mem.specs.Piece.{Piece, bad, first, piece_len, scalars_of, text_of, sizes, IsGood, AreGood, ArePieces}
 use Rattle.encoding_mem.specs.Decoding.{DecoderState, IsUndecided, IsKnown, Reports}
-use Rattle.encoding_mem.specs.FrontPiece.{IsFirst, IsSoon}
-use Rattle.encoding_mem.specs.Room.{is_units, goes_on, mark_in, left_after, room_of}
+use Rattle.encoding_mem.specs.FrontPiece.{IsFirstPiece, IsSoon}
+use Rattle.encoding_mem.specs.Room.{is_units, goes_on, replacement_len, left_after, room_of}
 use Rattle.encoding_mem.specs.declared.room.Count.{Count}
 use Rattle.encoding_mem.specs.declared.room.Room.{Room}
 use Rattle.encoding_mem.specs.declared.decoder_result.DecoderResult.{DecoderResult}
@@ -14,7 +14,7 @@ use Rattle.encoding_mem.specs.declared.driver.Step.TheVariants.{Wait, Full, Took
 
 -- the first piece ends at most three bytes before the end of x, whatever follows
 abbrev pub IsNear : (List ℕ → List Piece) → List ℕ → Type 0
-IsNear pieces x = (r : List ℕ) (p : Piece) → first (pieces (x ++ r)) ≡ Some p → length x ≤ size_of p + 3
+IsNear pieces x = (r : List ℕ) (p : Piece) → first (pieces (x ++ r)) ≡ Some p → length x ≤ piece_len p + 3
 
 -- A step: wait for more, no room, a piece that is not bad, a bad piece. mark is what U+FFFD needs.
 abbrev pub IsStep : {C W : Type 0} (pieces : C → List ℕ → List Piece) (writes : W → List ℕ → W → Type 0) (free : W → ℕ)
@@ -22,11 +22,11 @@ abbrev pub IsStep : {C W : Type 0} (pieces : C → List ℕ → List Piece) (wri
 IsStep pieces writes free room mark before after bytes last old new Wait =
     (last ≡ false) × (length bytes < 6) × IsUndecided (pieces before) bytes × IsSoon (pieces before) bytes × (after ≡ before) × (new ≡ old)
 IsStep pieces writes free room mark before after bytes last old new Full =
-    (free new < room) × ((p : Piece) × (rest : List ℕ → List Piece) × IsFirst (pieces before) rest bytes last p × (0 < length (text_of p))) × (after ≡ before) × (new ≡ old)
+    (free new < room) × ((p : Piece) × (rest : List ℕ → List Piece) × IsFirstPiece (pieces before) rest bytes last p × (0 < length (text_of p))) × (after ≡ before) × (new ≡ old)
 IsStep pieces writes free room mark before after bytes last old new (Took n) =
-    (p : Piece) × IsGood p × (size_of p ≡ n) × IsFirst (pieces before) (pieces after) bytes last p × writes old (scalars_of p) new
+    (p : Piece) × IsGood p × (piece_len p ≡ n) × IsFirstPiece (pieces before) (pieces after) bytes last p × writes old (scalars_of p) new
 IsStep pieces writes free room mark before after bytes last old new (Broke n) =
-    IsFirst (pieces before) (pieces after) bytes last (bad n) × (n ≤ 4) × (new ≡ old) × (mark ≤ free new)
+    IsFirstPiece (pieces before) (pieces after) bytes last (bad n) × (n ≤ 4) × (new ≡ old) × (mark ≤ free new)
 
 -- Where there was room for m bytes, a step isn't refused for want of it, and what is left is room for the rest. window
 -- is how many bytes were looked at: all that there are, where last.
@@ -34,14 +34,14 @@ abbrev pub IsRoomyStep : (before after : Count → ℕ → ℕ) (t last : Bool) 
 IsRoomyStep before after t last window old new Wait = Unit {0}
 IsRoomyStep before after t last window old new Full = (k : Count) (m : ℕ) → is_units k ≡ t → window ≤ m → (IsTrue last → m ≡ window) → before k m ≤ old → ⊥
 IsRoomyStep before after t last window old new (Took n) = (k : Count) (m : ℕ) → is_units k ≡ t → window ≤ m → (IsTrue last → m ≡ window) → before k m ≤ old → after k (m - n) ≤ new
-IsRoomyStep before after t last window old new (Broke n) = (k : Count) (m : ℕ) → is_units k ≡ t → window ≤ m → (IsTrue last → m ≡ window) → before k m ≤ old → left_after (goes_on k) (mark_in t) (after k (m - n)) ≤ new
+IsRoomyStep before after t last window old new (Broke n) = (k : Count) (m : ℕ) → is_units k ≡ t → window ≤ m → (IsTrue last → m ≡ window) → before k m ≤ old → left_after (goes_on k) (replacement_len t) (after k (m - n)) ≤ new
 
 -- why a call ended: pieces are those from the state at the end, mark is what U+FFFD needs
-abbrev pub Ends : (pieces : List ℕ → List Piece) (pending unread : List ℕ) (last : Bool) (free room mark : ℕ) → DecoderResult → Type 0
-Ends pieces pending unread last free room mark InputEmpty =
+abbrev pub DriverEndsWith : (pieces : List ℕ → List Piece) (pending unread : List ℕ) (last : Bool) (free room mark : ℕ) → DecoderResult → Type 0
+DriverEndsWith pieces pending unread last free room mark InputEmpty =
     (unread ≡ []) × ((pending ≡ []) ⊎ ((last ≡ false) × (length pending < 6) × IsUndecided pieces pending × IsSoon pieces pending))
-Ends pieces pending unread last free room mark OutputFull = (free < room) × IsKnown (λ x. pieces (pending ++ x)) unread last
-Ends pieces pending unread last free room mark (Malformed a b) = mark ≤ free
+DriverEndsWith pieces pending unread last free room mark OutputFull = (free < room) × IsKnown (λ x. pieces (pending ++ x)) unread last
+DriverEndsWith pieces pending unread last free room mark (Malformed a b) = mark ≤ free
 
 -- what a call leaves pending that began with nothing
 abbrev pub Remains : (pieces : List ℕ → List Piece) (pending : List ℕ) → Type 0
@@ -53,7 +53,7 @@ Remains pieces pending = (pending ≡ []) ⊎ ((0 < length pending) × IsUndecid
 abbrev pub Suffices : (before after : Count → ℕ → ℕ) (t last : Bool) (size unread old new : ℕ) → DecoderResult → Type 0
 Suffices before after t last size unread old new InputEmpty = (k : Count) (m : ℕ) → is_units k ≡ t → (IsTrue last → m ≡ 0) → before k (size + m) ≤ old → after k m ≤ new
 Suffices before after t last size unread old new OutputFull = (k : Count) (m : ℕ) → is_units k ≡ t → (IsTrue last → m ≡ 0) → before k (size + m) ≤ old → ⊥
-Suffices before after t last size unread old new (Malformed a b) = (k : Count) (m : ℕ) → is_units k ≡ t → (IsTrue last → m ≡ 0) → before k (size + m) ≤ old → left_after (goes_on k) (mark_in t) (after k (unread + m)) ≤ new
+Suffices before after t last size unread old new (Malformed a b) = (k : Count) (m : ℕ) → is_units k ≡ t → (IsTrue last → m ≡ 0) → before k (size + m) ≤ old → left_after (goes_on k) (replacement_len t) (after k (unread + m)) ≤ new
 
 -- The same of a part of a call, which has ended only with an outcome, and else left nothing pending.
 abbrev pub PartReports : Option DecoderResult → ℕ → List Piece → Type 0
@@ -62,7 +62,7 @@ PartReports (Some outcome) pending taken = Reports outcome pending taken
 
 abbrev pub PartEnds : (pieces : List ℕ → List Piece) (pending unread : List ℕ) (last : Bool) (free room mark : ℕ) → Option DecoderResult → Type 0
 PartEnds pieces pending unread last free room mark None = pending ≡ []
-PartEnds pieces pending unread last free room mark (Some outcome) = Ends pieces pending unread last free room mark outcome
+PartEnds pieces pending unread last free room mark (Some outcome) = DriverEndsWith pieces pending unread last free room mark outcome
 
 abbrev pub PartSuffices : (before after : Count → ℕ → ℕ) (t last : Bool) (size unread old new : ℕ) → Option DecoderResult → Type 0
 PartSuffices before after t last size unread old new None = (k : Count) (m : ℕ) → is_units k ≡ t → (IsTrue last → m ≡ 0) → before k (size + m) ≤ old → after k (unread + m) ≤ new

@@ -10,22 +10,22 @@ use Rattle.encoding_mem.specs.declared.encoder_result.EncoderResult.{EncoderResu
 use Rattle.encoding_mem.specs.declared.encoder_result.EncoderResult.TheVariants.{InputEmpty, OutputFull, Unmappable}
 
 -- what an answer asks its caller to add, where the characters with indexes below n were read
-abbrev pub reported : ℕ → EncoderResult → List Item
-reported n InputEmpty = []
-reported n OutputFull = []
-reported n (Unmappable c) = LostAt (n - 1) c ∷ map Byte (reference c)
+abbrev pub reported_item : ℕ → EncoderResult → List Item
+reported_item n InputEmpty = []
+reported_item n OutputFull = []
+reported_item n (Unmappable c) = LostAt (n - 1) c ∷ map Byte (reference c)
 
--- what was read has no unmappable but the reported last
+-- what was read has no unmappable but the reported_item last
 abbrev pub Reads : Coding → EncoderResult → List ℕ → Type 0
 Reads e InputEmpty front = AllMapped e front
 Reads e OutputFull front = AllMapped e front
 Reads e (Unmappable c) front = (before : List ℕ) × (d : ℕ) × (front ≡ before ++ d ∷ []) × AllMapped e before × (e.form d ≡ Unmapped c)
 
 -- the text goes on after this answer
-abbrev pub GoesOn : Bool → EncoderResult → Type 0
-GoesOn last InputEmpty = last ≡ false
-GoesOn last OutputFull = last ≡ false
-GoesOn last (Unmappable c) = Unit {0}
+abbrev pub TextGoesOn : Bool → EncoderResult → Type 0
+TextGoesOn last InputEmpty = last ≡ false
+TextGoesOn last OutputFull = last ≡ false
+TextGoesOn last (Unmappable c) = Unit {0}
 
 -- The law of a call on a text from the set s, which leaves the rest and the set s': whatever index the text
 -- begins at, what it stands for is what was written, what the answer reports, and what the rest stands for.
@@ -34,14 +34,14 @@ pub record Encodes (e : Coding) (last : Bool) (outcome : EncoderResult) (s : Set
   pub split : text ≡ front ++ rest
   pub reads : Reads e outcome front
   pub items : (i : ℕ) → whole_items e last s i text
-      ≡ map Byte written ++ (reported (i + length front) outcome ++ whole_items e last s' (i + length front) rest)
-  pub sets : GoesOn last outcome → last_set e s text ≡ last_set e s' rest
+      ≡ map Byte written ++ (reported_item (i + length front) outcome ++ whole_items e last s' (i + length front) rest)
+  pub sets : TextGoesOn last outcome → last_set e s text ≡ last_set e s' rest
 
 -- When each answer comes: room is what is free behind what is written.
-abbrev pub Answers : ℕ → Bool → EncoderResult → Set → List ℕ → ℕ → Type 0
-Answers need last InputEmpty s' rest room = (rest ≡ []) × (last ≡ true → s' ≡ Ascii)
-Answers need last OutputFull s' rest room = (room < need) × ((0 < length rest) ⊎ ((last ≡ true) × (s' ≢ Ascii)))
-Answers need last (Unmappable c) s' rest room = Unit {0}
+abbrev pub EncodeEndsWith : ℕ → Bool → EncoderResult → Set → List ℕ → ℕ → Type 0
+EncodeEndsWith need last InputEmpty s' rest room = (rest ≡ []) × (last ≡ true → s' ≡ Ascii)
+EncodeEndsWith need last OutputFull s' rest room = (room < need) × ((0 < length rest) ⊎ ((last ≡ true) × (s' ≢ Ascii)))
+EncodeEndsWith need last (Unmappable c) s' rest room = Unit {0}
 
 -- The same law in bytes. Of the text t from s the bytes w are written, and rest from s' is owed, whatever follows.
 abbrev pub Continues : Coding → Set → List ℕ → List ℕ → Set → List ℕ → Type 0

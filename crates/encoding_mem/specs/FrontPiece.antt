@@ -1,47 +1,47 @@
 -- What a rule says of the front of some bytes.
 use Rattle.std.specs.Prelude.{◌≡◌, ℕ, ◌+◌, ◌*◌, ◌≤◌, ◌<◌, Bool, false, IsTrue, Some, List, [], ◌∷◌, ◌++◌, length, drop}
 use Rattle.std.specs.Char.{len_utf8}
-use Rattle.encoding_mem.specs.Piece.{Piece, good, bad, first, size_of}
+use Rattle.encoding_mem.specs.Piece.{Piece, good, bad, first, piece_len}
 use Rattle.encoding_mem.specs.Decoding.{IsUndecided}
 use Rattle.encoding_mem.specs.Writing.{len_utf16}
-use Rattle.encoding_mem.specs.Room.{is_units, goes_on, cost_in, mark_in, two_in, left_after}
+use Rattle.encoding_mem.specs.Room.{is_units, goes_on, cost_in, replacement_len, two_in, left_after}
 use Rattle.encoding_mem.specs.declared.room.Count.{Count}
 use Rattle.encoding_mem.specs.declared.front.Front.{Front}
 use Rattle.encoding_mem.specs.declared.front.Front.TheVariants.{More, One, Two, Silent, Bad}
 
 -- the first piece ends at most two bytes before the end of x, whatever follows
 abbrev pub IsSoon : (List ℕ → List Piece) → List ℕ → Type 0
-IsSoon pieces x = (r : List ℕ) (p : Piece) → first (pieces (x ++ r)) ≡ Some p → length x ≤ size_of p + 2
+IsSoon pieces x = (r : List ℕ) (p : Piece) → first (pieces (x ++ r)) ≡ Some p → length x ≤ piece_len p + 2
 
 -- p is the first piece of bytes, however they go on, or, where last, if they end; after are the pieces from then on
-pub record IsFirst (before after : List ℕ → List Piece) (bytes : List ℕ) (last : Bool) (p : Piece) : Type 0 where
-  pub some : 0 < size_of p
-  pub within : size_of p ≤ length bytes
-  pub rest : (r : List ℕ) → (IsTrue last → r ≡ []) → before (bytes ++ r) ≡ p ∷ after (drop (size_of p) bytes ++ r)
+pub record IsFirstPiece (before after : List ℕ → List Piece) (bytes : List ℕ) (last : Bool) (p : Piece) : Type 0 where
+  pub some : 0 < piece_len p
+  pub within : piece_len p ≤ length bytes
+  pub rest : (r : List ℕ) → (IsTrue last → r ≡ []) → before (bytes ++ r) ≡ p ∷ after (drop (piece_len p) bytes ++ r)
 
-abbrev pub IsFront : (before after : List ℕ → List Piece) → List ℕ → Bool → Front → Type 0
-IsFront before after bytes last More = (last ≡ false) × (length bytes < 6) × IsUndecided before bytes × IsSoon before bytes
-IsFront before after bytes last (One c n) = IsFirst before after bytes last (good n (c ∷ []))
-IsFront before after bytes last (Two c d n) = IsFirst before after bytes last (good n (c ∷ d ∷ [])) × (c < 0x800) × (d < 0x800)
-IsFront before after bytes last (Silent n) = IsFirst before after bytes last (good n [])
-IsFront before after bytes last (Bad n) = IsFirst before after bytes last (bad n) × (n ≤ 4)
+abbrev pub TellsFirstPiece : (before after : List ℕ → List Piece) → List ℕ → Bool → Front → Type 0
+TellsFirstPiece before after bytes last More = (last ≡ false) × (length bytes < 6) × IsUndecided before bytes × IsSoon before bytes
+TellsFirstPiece before after bytes last (One c n) = IsFirstPiece before after bytes last (good n (c ∷ []))
+TellsFirstPiece before after bytes last (Two c d n) = IsFirstPiece before after bytes last (good n (c ∷ d ∷ [])) × (c < 0x800) × (d < 0x800)
+TellsFirstPiece before after bytes last (Silent n) = IsFirstPiece before after bytes last (good n [])
+TellsFirstPiece before after bytes last (Bad n) = IsFirstPiece before after bytes last (bad n) × (n ≤ 4)
 
 -- The room that is wanted in a count: before the first piece of len bytes, with what is behind it n + m bytes in all,
 -- and after it. Nothing follows the bytes where they are the last.
-abbrev pub IsRoomy : (before after : Count → ℕ → ℕ) (len : ℕ) (last : Bool) → Front → Type 0
-IsRoomy before after len last More = Unit {0}
-IsRoomy before after len last (One c n) = (k : Count) (m : ℕ) → (IsTrue last → n + m ≡ len) → cost_in (is_units k) c + after k m ≤ before k (n + m)
-IsRoomy before after len last (Two c d n) = (k : Count) (m : ℕ) → (IsTrue last → n + m ≡ len) → (two_in (is_units k) ≤ before k (n + m)) × (cost_in (is_units k) c + cost_in (is_units k) d + after k m ≤ before k (n + m))
-IsRoomy before after len last (Silent n) = (k : Count) (m : ℕ) → (IsTrue last → n + m ≡ len) → after k m ≤ before k (n + m)
-IsRoomy before after len last (Bad n) = (k : Count) (m : ℕ) → (IsTrue last → n + m ≡ len) → left_after (goes_on k) (mark_in (is_units k)) (after k m) ≤ before k (n + m)
+abbrev pub HasRoomFor : (before after : Count → ℕ → ℕ) (len : ℕ) (last : Bool) → Front → Type 0
+HasRoomFor before after len last More = Unit {0}
+HasRoomFor before after len last (One c n) = (k : Count) (m : ℕ) → (IsTrue last → n + m ≡ len) → cost_in (is_units k) c + after k m ≤ before k (n + m)
+HasRoomFor before after len last (Two c d n) = (k : Count) (m : ℕ) → (IsTrue last → n + m ≡ len) → (two_in (is_units k) ≤ before k (n + m)) × (cost_in (is_units k) c + cost_in (is_units k) d + after k m ≤ before k (n + m))
+HasRoomFor before after len last (Silent n) = (k : Count) (m : ℕ) → (IsTrue last → n + m ≡ len) → after k m ≤ before k (n + m)
+HasRoomFor before after len last (Bad n) = (k : Count) (m : ℕ) → (IsTrue last → n + m ≡ len) → left_after (goes_on k) (replacement_len (is_units k)) (after k m) ≤ before k (n + m)
 
 -- one scalar at most, of no more bytes than it was read from
-abbrev pub IsShort : Front → Type 0
-IsShort More = Unit {0}
-IsShort (One c n) = len_utf8 c ≤ n
-IsShort (Two c d n) = ⊥
-IsShort (Silent n) = Unit {0}
-IsShort (Bad n) = 0 < n
+abbrev pub IsNotLonger : Front → Type 0
+IsNotLonger More = Unit {0}
+IsNotLonger (One c n) = len_utf8 c ≤ n
+IsNotLonger (Two c d n) = ⊥
+IsNotLonger (Silent n) = Unit {0}
+IsNotLonger (Bad n) = 0 < n
 
 -- one scalar of the basic plane, or a bad piece
 abbrev pub IsBasic : Front → Type 0

@@ -8,9 +8,9 @@ pub data Piece : Type 0 where
   good : (size : ℕ) (scalars : List ℕ) → Piece
   bad : (size : ℕ) → Piece
 
-abbrev pub size_of : Piece → ℕ
-size_of (good n cs) = n
-size_of (bad n) = n
+abbrev pub piece_len : Piece → ℕ
+piece_len (good n cs) = n
+piece_len (bad n) = n
 
 -- the scalars that the bytes give
 abbrev pub scalars_of : Piece → List ℕ
@@ -29,7 +29,7 @@ IsGood (bad n) = ⊥
 -- The same of pieces in a row: their bytes, scalars and text, and that none is bad.
 abbrev pub sizes : List Piece → ℕ
 sizes [] = 0
-sizes (p ∷ ps) = size_of p + sizes ps
+sizes (p ∷ ps) = piece_len p + sizes ps
 
 abbrev pub scalars : List Piece → List ℕ
 scalars [] = []
@@ -55,8 +55,8 @@ first (p ∷ ps) = Some p
 
 -- what every piece is: some bytes, not more scalars than bytes, and scalars they are
 pub record IsPiece (p : Piece) : Type 0 where
-  pub some : 0 < size_of p
-  pub few : length (text_of p) ≤ size_of p
+  pub some : 0 < piece_len p
+  pub few : length (text_of p) ≤ piece_len p
   pub are_scalars : all_scalars (scalars_of p) ≡ true
 
 abbrev pub ArePieces : List Piece → Type 0
@@ -66,4 +66,4 @@ ArePieces (p ∷ ps) = IsPiece p × ArePieces ps
 -- a first piece of n bytes
 pub record Cuts (p : Piece) (n : ℕ) : Type 0 where
   pub piece : IsPiece p
-  pub within : size_of p ≤ n
+  pub within : piece_len p ≤ n

@@ -22,8 +22,8 @@ goes_on Replaced = true
 abbrev pub cost_in : (is_units : Bool) → ℕ → ℕ
 cost_in is_units c = if is_units then len_utf16 c else len_utf8 c
 
-abbrev pub mark_in : (is_units : Bool) → ℕ
-mark_in is_units = if is_units then 1 else 3
+abbrev pub replacement_len : (is_units : Bool) → ℕ
+replacement_len is_units = if is_units then 1 else 3
 
 abbrev pub two_in : (is_units : Bool) → ℕ
 two_in is_units = if is_units then 2 else 4
@@ -79,34 +79,3 @@ room_utf16 = record { in_pairs = true; units = line 1 1; bytes = line 3 1; repla
 
 abbrev pub room_replacement : Room
 room_replacement = of_bytes (line 0 1) (line 0 3) (line 0 3)
-
-utf8_in_units : queried room_utf8 Units 5 ≡ Some 6
-utf8_in_units = refl
-
-utf8_in_bytes : queried room_utf8 Bytes 5 ≡ Some 8
-utf8_in_bytes = refl
-
-utf8_with_replacement : queried room_utf8 Replaced 5 ≡ Some 18
-utf8_with_replacement = refl
-
-single_byte_in_bytes : queried room_single_byte Bytes 4 ≡ Some 12
-single_byte_in_bytes = refl
-
-utf16_in_bytes : queried room_utf16 Bytes 3 ≡ Some 7
-utf16_in_bytes = refl
-
-utf16_in_units : queried room_utf16 Units 4 ≡ Some 3
-utf16_in_units = refl
-
-replacement_in_units : queried room_replacement Units 0xFFFFFFFFFFFFFFFF ≡ Some 1
-replacement_in_units = refl
-
-too_many : queried room_utf8 Units 0xFFFFFFFFFFFFFFFF ≡ None
-too_many = refl
-
-too_many_bytes : queried room_single_byte Bytes 0x5555555555555556 ≡ None
-too_many_bytes = refl
-
--- q + 1 units would fit, but the sum that q is half of does not
-too_many_pairs : queried room_utf16 Units 0xFFFFFFFFFFFFFFFF ≡ None
-too_many_pairs = refl

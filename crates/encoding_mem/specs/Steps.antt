@@ -3,7 +3,7 @@ use Rattle.std.specs.Prelude.{◌≡◌, ◌≢◌, ℕ, ◌<◌, ◌≤◌, ◌
 use Rattle.std.specs.Char.{IsScalar}
 use Rattle.encoding_mem.specs.Coding.{Coding, spelled}
 use Rattle.encoding_mem.specs.Decoding.{IsDecided}
-use Rattle.encoding_mem.specs.Piece.{Piece, size_of, scalars_of, text, sizes, IsGood, AreGood, good}
+use Rattle.encoding_mem.specs.Piece.{Piece, piece_len, scalars_of, text, sizes, IsGood, AreGood, good}
 use Rattle.encoding_mem.specs.declared.form.Form.{Form}
 use Rattle.encoding_mem.specs.declared.form.Set.{Set}
 
@@ -51,7 +51,7 @@ pub record Returns (front : List ℕ → Piece) (bytes : List ℕ) (c : ℕ) : T
 pub record Strays (front : List ℕ → Piece) (bytes : List ℕ) (c : ℕ) : Type 0 where
   pub piece : Piece
   pub first : (y : List ℕ) → front (bytes ++ y) ≡ piece
-  pub within : size_of piece ≤ length bytes
+  pub within : piece_len piece ≤ length bytes
   pub wrong : (¬ (IsGood piece)) ⊎ ((d : ℕ) × (d ≢ c) × (scalars_of piece ≡ d ∷ []))
 
 -- what is written for each scalar, its bytes or its reference, does the one or the other

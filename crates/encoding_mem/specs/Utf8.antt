@@ -25,22 +25,22 @@ abbrev pub scalar_of_four : ℕ → ℕ → ℕ → ℕ → ℕ
 scalar_of_four b c d e = (b - 0xF0) * 262144 + (c - 0x80) * 4096 + (d - 0x80) * 64 + (e - 0x80)
 
 -- the piece that begins with one, two and three bytes of a longer sequence, and goes on with what follows them
-abbrev pub after_three : ℕ → ℕ → ℕ → List ℕ → Piece
-after_three b c d [] = bad 3
-after_three b c d (e ∷ x) = if is_in_range 0x80 0xBF e
+abbrev pub utf8_after_three : ℕ → ℕ → ℕ → List ℕ → Piece
+utf8_after_three b c d [] = bad 3
+utf8_after_three b c d (e ∷ x) = if is_in_range 0x80 0xBF e
     then good 4 (scalar_of_four b c d e ∷ [])
     else bad 3
 
-abbrev pub after_two : ℕ → ℕ → List ℕ → Piece
-after_two b c [] = bad 2
-after_two b c (d ∷ x) = if is_in_range 0x80 0xBF d
-    then (if nat_lt b 0xF0 then good 3 (scalar_of_three b c d ∷ []) else after_three b c d x)
+abbrev pub utf8_after_two : ℕ → ℕ → List ℕ → Piece
+utf8_after_two b c [] = bad 2
+utf8_after_two b c (d ∷ x) = if is_in_range 0x80 0xBF d
+    then (if nat_lt b 0xF0 then good 3 (scalar_of_three b c d ∷ []) else utf8_after_three b c d x)
     else bad 2
 
-abbrev pub after_lead : ℕ → List ℕ → Piece
-after_lead b [] = bad 1
-after_lead b (c ∷ x) = if is_in_range (second_min b) (second_max b) c
-    then (if nat_lt b 0xE0 then good 2 (scalar_of_two b c ∷ []) else after_two b c x)
+abbrev pub utf8_after_lead : ℕ → List ℕ → Piece
+utf8_after_lead b [] = bad 1
+utf8_after_lead b (c ∷ x) = if is_in_range (second_min b) (second_max b) c
+    then (if nat_lt b 0xE0 then good 2 (scalar_of_two b c ∷ []) else utf8_after_two b c x)
     else bad 1
 
 -- the first piece of some bytes
@@ -48,55 +48,8 @@ abbrev pub front_utf8 : List ℕ → Piece
 front_utf8 [] = bad 1
 front_utf8 (b ∷ x) = if nat_lt b 0x80
     then good 1 (b ∷ [])
-    else (if is_in_range 0xC2 0xF4 b then after_lead b x else bad 1)
+    else (if is_in_range 0xC2 0xF4 b then utf8_after_lead b x else bad 1)
 
 -- the pieces of some bytes, where the list's end is the end of the input
 abbrev pub pieces_utf8 : List ℕ → List Piece
 pieces_utf8 = pieces_by front_utf8
-
--- `Aé`
-two_characters : pieces_utf8 (0x41 ∷ 0xC3 ∷ 0xA9 ∷ []) ≡ good 1 (0x41 ∷ []) ∷ good 2 (0xE9 ∷ []) ∷ []
-unfolding pieces_in
-two_characters = refl
-
--- a surrogate is three bad pieces between two letters
-surrogate : pieces_utf8 (0x61 ∷ 0xED ∷ 0xA0 ∷ 0x80 ∷ 0x5A ∷ [])
-    ≡ good 1 (0x61 ∷ []) ∷ bad 1 ∷ bad 1 ∷ bad 1 ∷ good 1 (0x5A ∷ []) ∷ []
-unfolding pieces_in
-surrogate = refl
-
--- `€`, and a byte that begins nothing
-euro_sign : pieces_utf8 (0xE2 ∷ 0x82 ∷ 0xAC ∷ 0x80 ∷ []) ≡ good 3 (0x20AC ∷ []) ∷ bad 1 ∷ []
-unfolding pieces_in
-euro_sign = refl
-
--- a sequence that the end cuts
-cut_sequence : pieces_utf8 (0xC3 ∷ []) ≡ bad 1 ∷ []
-unfolding pieces_in
-cut_sequence = refl
-
-four_bytes : pieces_utf8 (0xF0 ∷ 0x9F ∷ 0x92 ∷ 0xA9 ∷ []) ≡ good 4 (0x1F4A9 ∷ []) ∷ []
-unfolding pieces_in
-four_bytes = refl
-
--- above 10FFFF
-too_great : pieces_utf8 (0xF4 ∷ 0x90 ∷ 0x80 ∷ 0x80 ∷ []) ≡ bad 1 ∷ bad 1 ∷ bad 1 ∷ bad 1 ∷ []
-unfolding pieces_in
-too_great = refl
-
-no_bytes : pieces_utf8 [] ≡ []
-unfolding pieces_in
-no_bytes = refl
-
--- forms longer than the shortest
-overlong_two : pieces_utf8 (0xC0 ∷ 0x80 ∷ []) ≡ bad 1 ∷ bad 1 ∷ []
-unfolding pieces_in
-overlong_two = refl
-
-overlong_three : pieces_utf8 (0xE0 ∷ 0x9F ∷ 0xBF ∷ []) ≡ bad 1 ∷ bad 1 ∷ bad 1 ∷ []
-unfolding pieces_in
-overlong_three = refl
-
-overlong_four : pieces_utf8 (0xF0 ∷ 0x8F ∷ 0xBF ∷ 0xBF ∷ []) ≡ bad 1 ∷ bad 1 ∷ bad 1 ∷ bad 1 ∷ []
-unfolding pieces_in
-overlong_four = refl

@@ -1,6 +1,6 @@
 ghost use Rattle.std.specs.Prelude.{◌+◌, ◌-◌, ◌≡◌, ◌<◌, ◌≤◌, ◌++◌, [], length, drop};
 ghost use Rattle.encoding_mem.specs.Decoding.{Takes, Reports};
-ghost use Rattle.encoding_mem.specs.Driver.{IsNear, IsStep, IsRoomyStep, Ends, Remains, Suffices, PartReports, PartEnds, PartSuffices};
+ghost use Rattle.encoding_mem.specs.Driver.{IsNear, IsStep, IsRoomyStep, DriverEndsWith, Remains, Suffices, PartReports, PartEnds, PartSuffices};
 
 use crate::decoder_result::DecoderResult;
 use crate::front::{Front, FrontPiece};
@@ -123,7 +123,7 @@ pub fn decode_source<F: FrontPiece, S: Sink>(
     ensures law { Takes (Reports result.0 (length pending.new))
         (F.pieces codec.old) (λ x. F.pieces codec.new (pending.new ++ x))
         src.now last 0 (length pending.new) result.1 (λ text. S.writes sink.old text sink.new) }
-    ensures ends { Ends (F.pieces codec.new) pending.new (drop result.1 src.now) last
+    ensures ends { DriverEndsWith (F.pieces codec.new) pending.new (drop result.1 src.now) last
         (S.free sink.new) S.room (S.cost 0xFFFD) result.0 }
     ensures enough { Suffices (F.needs codec.old)
         (λ k n. F.needs codec.new k (length pending.new + n)) S.is_units last
@@ -170,7 +170,7 @@ pub fn decode<F: FrontPiece, S: Sink>(
         (λ x. F.pieces codec.old (pending.old ++ x)) (λ x. F.pieces codec.new (pending.new ++ x))
         src.now last (length pending.old) (length pending.new) result.1
         (λ text. S.writes sink.old text sink.new) }
-    ensures ends { Ends (F.pieces codec.new) pending.new (drop result.1 src.now) last
+    ensures ends { DriverEndsWith (F.pieces codec.new) pending.new (drop result.1 src.now) last
         (S.free sink.new) S.room (S.cost 0xFFFD) result.0 }
     ensures enough { Suffices (λ k n. F.needs codec.old k (length pending.old + n))
         (λ k n. F.needs codec.new k (length pending.new + n)) S.is_units last

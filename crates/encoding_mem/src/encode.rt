@@ -2,7 +2,7 @@
 
 ghost use Rattle.std.specs.Prelude.{◌≡◌, ◌≢◌, true, ℕ, ◌+◌, ◌-◌, ◌<◌, ◌≤◌, List, [], ◌∷◌, ◌++◌, length, take, drop};
 ghost use Rattle.encoding_mem.specs.Coding.{Coding, IsCoding};
-ghost use Rattle.encoding_mem.specs.Encoding.{Encodes, Answers};
+ghost use Rattle.encoding_mem.specs.Encoding.{Encodes, EncodeEndsWith};
 ghost use Rattle.encoding_mem.specs.Room.{line_at};
 ghost use Rattle.encoding_mem.specs.TextRoom.{IsRoomFor, line_for};
 ghost use Rattle.encoding_mem.specs.declared.room.TextRoom.{TextRoom};
@@ -112,7 +112,7 @@ pub fn encode<T: Target, S: Source>(
     ensures tight { Tight (T.coding target.now) result.0 set.new (left S.text (S.all source.old) (S.place source.new)) (length dst.new - result.1) }
     ensures enough { line_at (line_for (T.limits target.now) S.is_units) (length (S.all source.old) - S.place source.old) ≤ length dst.old
         → result.0 ≢ EncoderResult.OutputFull }
-    ensures answers { Answers (T.need target.now) last result.0 set.new (left S.text (S.all source.old) (S.place source.new)) (length dst.new - result.1) }
+    ensures answers { EncodeEndsWith (T.need target.now) last result.0 set.new (left S.text (S.all source.old) (S.place source.new)) (length dst.new - result.1) }
 {
     let mut written = 0;
     while let Some((c, _)) = source.peek() {

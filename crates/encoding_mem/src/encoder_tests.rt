@@ -1,8 +1,8 @@
 // Encoders into rooms of every size, against outputs worked by hand.
 
 ghost use Rattle.std.specs.Prelude.{◌≤◌, length};
-ghost use Rattle.encoding_mem.specs.SampleCoding.{sample_coding, sample_room};
-ghost use Rattle.encoding_mem.specs.SampleCodingLaws.{sample_coding_laws, sample_fits};
+ghost use Rattle.encoding_mem.specs.examples.SampleCoding.{sample_coding, sample_room};
+ghost use Rattle.encoding_mem.specs.laws.SampleCoding.{sample_coding_laws, sample_fits};
 
 use crate::encode::{Target, encode};
 use crate::encoder_result::EncoderResult;

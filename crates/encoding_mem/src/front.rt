@@ -1,7 +1,7 @@
 ghost use Rattle.std.specs.Prelude.{◌≡◌, ℕ, ◌<◌, ◌≤◌, ◌+◌, ◌++◌, List, [], length, take};
 ghost use Rattle.std.specs.Str.{chars};
 ghost use Rattle.encoding_mem.specs.Piece.{Piece, sizes, ArePieces};
-ghost use Rattle.encoding_mem.specs.FrontPiece.{IsFront, IsRoomy};
+ghost use Rattle.encoding_mem.specs.FrontPiece.{TellsFirstPiece, HasRoomFor};
 ghost use Rattle.encoding_mem.specs.Room.{is_units, room_of};
 ghost use Rattle.encoding_mem.specs.Text.{text_len, text_pieces};
 ghost use Rattle.encoding_mem.specs.declared.room.Count.{Count};
@@ -52,8 +52,8 @@ pub trait FrontPiece {
     /// The first piece of these bytes, which go on unless they are the last.
     fn front(&self, bytes: &[u8], last: bool) -> Front
         requires { 0 < length bytes.now }
-        ensures piece { IsFront (pieces self.now) (pieces (after self.now bytes.now)) bytes.now last result }
-        ensures room { IsRoomy (needs self.now) (needs (after self.now bytes.now)) (length bytes.now) last result };
+        ensures piece { TellsFirstPiece (pieces self.now) (pieces (after self.now bytes.now)) bytes.now last result }
+        ensures room { HasRoomFor (needs self.now) (needs (after self.now bytes.now)) (length bytes.now) last result };
 
     /// Goes past the first piece of these bytes.
     fn pass(&mut self, bytes: &[u8])

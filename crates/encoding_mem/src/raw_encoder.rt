@@ -2,7 +2,7 @@ ghost use Rattle.std.specs.Prelude.{◌≡◌, ◌≢◌, ◌↔◌, ℕ, ◌-�
 ghost use Rattle.std.specs.Str.{chars, IsCharBoundary};
 ghost use Rattle.std.specs.Char.Utf16.{utf16_lossy_chars};
 ghost use Rattle.encoding_mem.specs.Coding.{Coding, IsCoding};
-ghost use Rattle.encoding_mem.specs.Encoding.{Encodes, Answers};
+ghost use Rattle.encoding_mem.specs.Encoding.{Encodes, EncodeEndsWith};
 ghost use Rattle.encoding_mem.specs.Room.{checked, line_at};
 ghost use Rattle.encoding_mem.specs.Target.{Moves};
 ghost use Rattle.encoding_mem.specs.declared.form.Set.{Set};
@@ -40,7 +40,7 @@ pub trait RawEncoder {
         ensures behind { drop result.2 dst.new ≡ drop result.2 dst.old }
         ensures target { coding self.new ≡ coding self.old }
         ensures law { Encodes (coding self.old) last result.0 (set self.old) (chars src.now) (take result.2 dst.new) (set self.new) (chars (drop result.1 src.now)) }
-        ensures answers { Answers (need self.old) last result.0 (set self.new) (chars (drop result.1 src.now)) (length dst.new - result.2) }
+        ensures answers { EncodeEndsWith (need self.old) last result.0 (set self.new) (chars (drop result.1 src.now)) (length dst.new - result.2) }
         ensures enough { line_at (limits self.old).bytes (length src.now) ≤ length dst.old → result.0 ≢ EncoderResult.OutputFull }
         ensures limits { limits self.new ≡ limits self.old }
         ensures need { need self.new ≡ need self.old }
@@ -59,7 +59,7 @@ pub trait RawEncoder {
         ensures behind { drop result.2 dst.new ≡ drop result.2 dst.old }
         ensures target { coding self.new ≡ coding self.old }
         ensures law { Encodes (coding self.old) last result.0 (set self.old) (utf16_lossy_chars src.now) (take result.2 dst.new) (set self.new) (utf16_lossy_chars (drop result.1 src.now)) }
-        ensures answers { Answers (need self.old) last result.0 (set self.new) (utf16_lossy_chars (drop result.1 src.now)) (length dst.new - result.2) }
+        ensures answers { EncodeEndsWith (need self.old) last result.0 (set self.new) (utf16_lossy_chars (drop result.1 src.now)) (length dst.new - result.2) }
         ensures enough { line_at (limits self.old).units (length src.now) ≤ length dst.old → result.0 ≢ EncoderResult.OutputFull }
         ensures limits { limits self.new ≡ limits self.old }
         ensures need { need self.new ≡ need self.old }

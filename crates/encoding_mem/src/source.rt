@@ -7,7 +7,7 @@ ghost use Rattle.std.specs.Char.Utf16.{utf16_lossy_chars};
 ghost use Rattle.encoding_mem.specs.Room.{cost_in};
 ghost use Rattle.encoding_mem.specs.Text.{IsSecondAscii};
 ghost use Rattle.encoding_mem.specs.Writing.{len_utf16};
-ghost use Rattle.encoding_mem.specs.TextRoomLaws.{sum_within};
+ghost use Rattle.encoding_mem.specs.laws.TextRoom.{sum_within};
 
 use crate::ascii::ascii_front;
 use crate::ascii_copies::copy_basic_latin_to_ascii;

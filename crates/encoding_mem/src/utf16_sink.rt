@@ -2,7 +2,7 @@ ghost use Rattle.std.specs.Prelude.{true, ◌≡◌, ◌-◌, ◌<◌, ◌≤◌
 ghost use Rattle.std.proofs.Common.{◌∙◌};
 ghost use Rattle.encoding_mem.specs.Conversions.{text_in_utf16};
 ghost use Rattle.encoding_mem.specs.Writing.{Adds, len_utf16, encode_utf16_all};
-ghost use Rattle.encoding_mem.specs.WritingLaws.{adds_none, adds_encoded16, cost_fits16, cost_two16};
+ghost use Rattle.encoding_mem.specs.laws.Writing.{adds_none, adds_encoded16, cost_fits16, cost_two16};
 
 use crate::latin1_conversions::convert_latin1_to_utf16;
 use crate::sink::Sink;

@@ -4,12 +4,12 @@ ghost use Rattle.std.specs.Int.{IsInRange, is_in_range};
 ghost use Rattle.std.specs.Char.{InScalarRange};
 ghost use Rattle.std.specs.Str.{IsUtf8};
 ghost use Rattle.std.specs.Str.Lossy.{utf8_valid_len};
-ghost use Rattle.encoding_mem.specs.FrontPiece.{IsShort};
+ghost use Rattle.encoding_mem.specs.FrontPiece.{IsNotLonger};
 ghost use Rattle.encoding_mem.specs.Room.{room_of, room_utf8};
-ghost use Rattle.encoding_mem.specs.PiecesLaws.{pieces_by-nil, pieces_by-whole, pieces_by-are_pieces};
+ghost use Rattle.encoding_mem.specs.laws.Pieces.{pieces_by-nil, pieces_by-whole, pieces_by-are_pieces};
 ghost use Rattle.encoding_mem.specs.Utf8.{front_utf8, pieces_utf8, scalar_of_two, scalar_of_three, scalar_of_four, second_min, second_max};
-ghost use Rattle.encoding_mem.specs.Utf8Decide.{decide_utf8, decide_lead, decide_two, decide_three, cut_short};
-ghost use Rattle.encoding_mem.specs.Utf8Laws.{cuts_utf8};
+ghost use Rattle.encoding_mem.specs.laws.Utf8Decide.{decide_utf8, utf8_decide_lead, utf8_decide_two, utf8_decide_three, cut_short};
+ghost use Rattle.encoding_mem.specs.laws.Utf8.{cuts_utf8};
 
 use crate::decoder_result::DecoderResult;
 use crate::front::{Front, FrontPiece};
@@ -117,7 +117,7 @@ fn valid_front(bytes: &[u8]) -> &str
 
 fn decide(bytes: &[u8], last: bool) -> Front
     ensures value { result ≡ decide_utf8 bytes.now last }
-    ensures short { IsShort result }
+    ensures short { IsNotLonger result }
 {
     match bytes {
         [] => Front::More,
@@ -179,8 +179,8 @@ fn is_second(b: u8, c: u8) -> bool
 
 fn decide_lead(b: u8, rest: &[u8], last: bool) -> Front
     requires { IsInRange 0xC2 0xF4 b }
-    ensures value { result ≡ decide_lead b rest.now last }
-    ensures short { IsShort result }
+    ensures value { result ≡ utf8_decide_lead b rest.now last }
+    ensures short { IsNotLonger result }
 {
     match rest {
         [] => cut_short(1, last),
@@ -200,8 +200,8 @@ fn decide_lead(b: u8, rest: &[u8], last: bool) -> Front
 fn decide_two(b: u8, c: u8, rest: &[u8], last: bool) -> Front
     requires lead { IsInRange 0xE0 0xF4 b }
     requires second { IsTrue (is_in_range (second_min b) (second_max b) c) }
-    ensures value { result ≡ decide_two b c rest.now last }
-    ensures short { IsShort result }
+    ensures value { result ≡ utf8_decide_two b c rest.now last }
+    ensures short { IsNotLonger result }
 {
     match rest {
         [] => cut_short(2, last),
@@ -225,8 +225,8 @@ fn decide_three(b: u8, c: u8, d: u8, rest: &[u8], last: bool) -> Front
     requires lead { IsInRange 0xF0 0xF4 b }
     requires second { IsTrue (is_in_range (second_min b) (second_max b) c) }
     requires third { IsInRange 0x80 0xBF d }
-    ensures value { result ≡ decide_three b c d rest.now last }
-    ensures short { IsShort result }
+    ensures value { result ≡ utf8_decide_three b c d rest.now last }
+    ensures short { IsNotLonger result }
 {
     match rest {
         [] => cut_short(3, last),

@@ -4,13 +4,13 @@ ghost use Rattle.std.specs.Prelude.{true, ◌≡◌, ◌≢◌, ℕ, ◌+◌, �
 ghost use Rattle.std.specs.Str.{chars, IsCharBoundary};
 ghost use Rattle.std.specs.Char.{encode_utf8};
 ghost use Rattle.std.specs.Char.Utf16.{utf16_lossy_chars};
-ghost use Rattle.encoding_mem.specs.Encoding.{Encodes, Answers};
+ghost use Rattle.encoding_mem.specs.Encoding.{Encodes, EncodeEndsWith};
 ghost use Rattle.encoding_mem.specs.Room.{line_at};
 ghost use Rattle.encoding_mem.specs.Target.{CopiesAscii};
 ghost use Rattle.encoding_mem.specs.TextRoom.{text_room_utf8};
-ghost use Rattle.encoding_mem.specs.TextRoomLaws.{utf8_room};
+ghost use Rattle.encoding_mem.specs.laws.TextRoom.{utf8_room};
 ghost use Rattle.encoding_mem.specs.Utf8Coding.{utf8_coding, NextIsTooLong};
-ghost use Rattle.encoding_mem.specs.Utf8CodingLaws.{utf8_coding_laws};
+ghost use Rattle.encoding_mem.specs.laws.Utf8Coding.{utf8_coding_laws};
 ghost use Rattle.encoding_mem.specs.declared.form.Set.TheVariants.{Ascii};
 
 use crate::encode::{Target, encode};
@@ -115,7 +115,7 @@ impl RawEncoder for Utf8Encoder {
         ensures behind { drop result.2 dst.new ≡ drop result.2 dst.old }
         ensures law { Encodes utf8_coding last result.0 Ascii (chars src.now) (take result.2 dst.new) Ascii (chars (drop result.1 src.now)) }
         ensures enough { line_at text_room_utf8.bytes (length src.now) ≤ length dst.old → result.0 ≢ EncoderResult.OutputFull }
-        ensures answers { Answers 4 last result.0 Ascii (chars (drop result.1 src.now)) (length dst.new - result.2) }
+        ensures answers { EncodeEndsWith 4 last result.0 Ascii (chars (drop result.1 src.now)) (length dst.new - result.2) }
         ensures copies { take result.2 dst.new ≡ take result.1 src.now }
         ensures longest { (i : ℕ) → result.1 < i → i ≤ length src.now → i ≤ length dst.new → ¬ (IsCharBoundary src.now i) }
     {
@@ -140,7 +140,7 @@ impl RawEncoder for Utf8Encoder {
         ensures behind { drop result.2 dst.new ≡ drop result.2 dst.old }
         ensures law { Encodes utf8_coding last result.0 Ascii (utf16_lossy_chars src.now) (take result.2 dst.new) Ascii (utf16_lossy_chars (drop result.1 src.now)) }
         ensures enough { line_at text_room_utf8.units (length src.now) ≤ length dst.old → result.0 ≢ EncoderResult.OutputFull }
-        ensures answers { Answers 4 last result.0 Ascii (utf16_lossy_chars (drop result.1 src.now)) (length dst.new - result.2) }
+        ensures answers { EncodeEndsWith 4 last result.0 Ascii (utf16_lossy_chars (drop result.1 src.now)) (length dst.new - result.2) }
         ensures longest { NextIsTooLong (utf16_lossy_chars (drop result.1 src.now)) (length dst.new - result.2) }
     {
         let mut source = Utf16Source::new(src);

@@ -2,7 +2,7 @@ ghost use Rattle.std.specs.Prelude.{false, ◌≡◌, ◌-◌, ◌<◌, ◌≤�
 ghost use Rattle.std.specs.Char.{len_utf8};
 ghost use Rattle.std.proofs.Common.{◌∙◌};
 ghost use Rattle.encoding_mem.specs.Writing.{Adds};
-ghost use Rattle.encoding_mem.specs.WritingLaws.{adds_none, adds_encoded, cost_fits, cost_two};
+ghost use Rattle.encoding_mem.specs.laws.Writing.{adds_none, adds_encoded, cost_fits, cost_two};
 
 use crate::sink::Sink;
 

@@ -2,32 +2,32 @@
 use Rattle.std.proofs.Common.{◌≡◌, ℕ, ◌≤◌, ◌<◌, Bool, true, false, cond, List, [], ◌∷◌, length, refl, ◌∙◌, ap, arith, lit<, lit≤}
 use Rattle.std.specs.Char.Utf16.{is_high_surrogate, is_low_surrogate, surrogate_pair_char}
 use Rattle.std.proofs.Math.Utf8.{scalar}
-use Rattle.encoding_mem.specs.Piece.{Piece, good, bad, size_of}
-use Rattle.encoding_mem.specs.Utf8Decide.{cut_short}
-use Rattle.encoding_mem.specs.Shows.{Shows, shows_cond, shows_cons, shows_const}
+use Rattle.encoding_mem.specs.Piece.{Piece, good, bad, piece_len}
+use Rattle.encoding_mem.specs.laws.Utf8Decide.{cut_short}
+use Rattle.encoding_mem.specs.laws.Shows.{Shows, shows_cond, shows_cons, shows_const}
 use Rattle.encoding_tables.specs.Utf16.{unit_of, after_high_surrogate, after_unit, front_utf16}
-use Rattle.encoding_tables.specs.Utf16Decide.{decide_pair, decide_unit, decide_utf16}
+use Rattle.encoding_tables.specs.laws.Utf16Decide.{decide_pair, decide_unit, decide_utf16}
 
 -- each piece has a byte
-some_cond : (t : Bool) (p q : Piece) → 0 < size_of p → 0 < size_of q → 0 < size_of (cond t p q)
+some_cond : (t : Bool) (p q : Piece) → 0 < piece_len p → 0 < piece_len q → 0 < piece_len (cond t p q)
 some_cond true p q h k = h
 some_cond false p q h k = k
 
-some_pair : (e : Bool) (u : ℕ) (x : List ℕ) → 0 < size_of (after_high_surrogate e u x)
+some_pair : (e : Bool) (u : ℕ) (x : List ℕ) → 0 < piece_len (after_high_surrogate e u x)
 some_pair e u [] = lit< tt
 some_pair e u (c ∷ []) = lit< tt
 some_pair e u (c ∷ d ∷ x) = some_cond (is_low_surrogate (unit_of e c d)) (good 4 (surrogate_pair_char u (unit_of e c d) ∷ [])) (bad 2) (lit< tt) (lit< tt)
 
-some_unit : (e : Bool) (u : ℕ) (x : List ℕ) → 0 < size_of (after_unit e u x)
+some_unit : (e : Bool) (u : ℕ) (x : List ℕ) → 0 < piece_len (after_unit e u x)
 some_unit e u x = some_cond (is_high_surrogate u) (after_high_surrogate e u x) (cond (scalar u) (good 2 (u ∷ [])) (bad 2)) (some_pair e u x)
     (some_cond (scalar u) (good 2 (u ∷ [])) (bad 2) (lit< tt) (lit< tt))
 
-some_byte : (e : Bool) (a : ℕ) (x : List ℕ) → 0 < size_of (front_utf16 e (a ∷ x))
+some_byte : (e : Bool) (a : ℕ) (x : List ℕ) → 0 < piece_len (front_utf16 e (a ∷ x))
 some_byte e a [] = lit< tt
 some_byte e a (b ∷ x) = some_unit e (unit_of e a b) x
 
 -- the bytes end here, and with more the piece is another
-shows_cut : (f : List ℕ → Piece) (n : ℕ) (last : Bool) (more : List ℕ) → 0 < n → n ≤ 3 → ((x : List ℕ) → 0 < size_of (f x)) → f [] ≡ bad n → length more ≤ 3 → (f [] ≡ f more → ⊥) → Shows f n [] last (cut_short n last)
+shows_cut : (f : List ℕ → Piece) (n : ℕ) (last : Bool) (more : List ℕ) → 0 < n → n ≤ 3 → ((x : List ℕ) → 0 < piece_len (f x)) → f [] ≡ bad n → length more ≤ 3 → (f [] ≡ f more → ⊥) → Shows f n [] last (cut_short n last)
 shows_cut f n true more some few each now short differs = ((some, omega arith, λ r e. ap f (e refl) ∙ now), omega arith)
 shows_cut f n false more some few each now short differs = record { goes_on = refl; short = omega arith; more = more; few = short; differs = differs; soon = λ r. omega (arith, each r, few) }
 
@@ -39,12 +39,12 @@ pair_comes false u h = cc
 -- with a whole unit no third byte is bad
 no_third : (t : Bool) (c : ℕ) → bad 3 ≡ cond t (good 4 (c ∷ [])) (bad 2) → ⊥
 no_third true c h = cc
-no_third false c h = let three : 3 ≡ 2 = ap size_of h in absurd (omega (arith, three))
+no_third false c h = let three : 3 ≡ 2 = ap piece_len h in absurd (omega (arith, three))
 
 no_first : (t s : Bool) (u : ℕ) → bad 1 ≡ cond t (bad 2) (cond s (good 2 (u ∷ [])) (bad 2)) → ⊥
-no_first true s u h = let one : 1 ≡ 2 = ap size_of h in absurd (omega (arith, one))
+no_first true s u h = let one : 1 ≡ 2 = ap piece_len h in absurd (omega (arith, one))
 no_first false true u h = cc
-no_first false false u h = let one : 1 ≡ 2 = ap size_of h in absurd (omega (arith, one))
+no_first false false u h = let one : 1 ≡ 2 = ap piece_len h in absurd (omega (arith, one))
 
 shows_pair : (e : Bool) (u : ℕ) (x : List ℕ) (last : Bool) → Shows (after_high_surrogate e u) 2 x last (decide_pair e u x last)
 shows_pair e u [] last = shows_cut (after_high_surrogate e u) 2 last (0xDC ∷ 0xDC ∷ []) (lit< tt) (lit≤ tt) (some_pair e u) refl (lit≤ tt) (pair_comes e u)

@@ -1,10 +1,10 @@
 -- The sizes of the kinds.
 use Rattle.std.proofs.Common.{◌<◌, ◌^◌, arith}
-use Rattle.encoding_tables.specs.Kinds.{size_of}
+use Rattle.encoding_tables.specs.Kinds.{index_size}
 use Rattle.encoding_tables.specs.declared.index_kind.IndexKind.{IndexKind}
 use Rattle.encoding_tables.specs.declared.index_kind.IndexKind.TheVariants.{Ibm866, Iso8859_2, Iso8859_3, Iso8859_4, Iso8859_5, Iso8859_6, Iso8859_7, Iso8859_8, Iso8859_10, Iso8859_13, Iso8859_14, Iso8859_15, Iso8859_16, Koi8R, Koi8U, Macintosh, Windows874, Windows1250, Windows1251, Windows1252, Windows1253, Windows1254, Windows1255, Windows1256, Windows1257, Windows1258, XMacCyrillic, Big5, EucKr, Gb18030, Gb18030Ranges, Jis0208, Jis0212, Iso2022JpKatakana}
 
-pub size_is_small : (kind : IndexKind) → size_of kind < 2 ^ 16
+pub size_is_small : (kind : IndexKind) → index_size kind < 2 ^ 16
 size_is_small Ibm866 = omega arith
 size_is_small Iso8859_2 = omega arith
 size_is_small Iso8859_3 = omega arith

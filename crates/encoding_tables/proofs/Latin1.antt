@@ -6,12 +6,12 @@ use Rattle.std.specs.Option.{unwrap_or}
 use Rattle.std.proofs.lemmas.Bool.{eqb-true, eqb-false, not-true, not-false}
 use Rattle.std.proofs.lemmas.List.Quantifiers.{position-Some}
 use Rattle.encoding_mem.specs.Piece.{good}
-use Rattle.encoding_mem.specs.PiecesLaws.{pieces_by-nil}
+use Rattle.encoding_mem.specs.laws.Pieces.{pieces_by-nil}
 use Rattle.encoding_tables.specs.EachByte.{piece_of_byte}
 use Rattle.encoding_tables.specs.Lookups.{AreEntries}
 use Rattle.encoding_tables.specs.SingleByte.{char_of_byte, front_single_byte, pieces_single_byte, has_number, IsLatin1UpTo}
-use Rattle.encoding_tables.specs.SingleByteLaws.{pieces_of_byte}
-use Rattle.encoding_tables.specs.TableFaultsLaws.{no_position}
+use Rattle.encoding_tables.specs.laws.SingleByte.{pieces_of_byte}
+use Rattle.encoding_tables.specs.laws.TableFaults.{no_position}
 
 alone : (flat : List ℕ) → AreEntries flat → (b : ℕ) → pieces_single_byte flat (b ∷ []) ≡ piece_of_byte (char_of_byte flat b) ∷ []
 alone flat scalars b = pieces_of_byte flat scalars b [] ∙ ap (λ ps. piece_of_byte (char_of_byte flat b) ∷ ps) (pieces_by-nil (front_single_byte flat))

@@ -1,9 +1,9 @@
 -- The replacement encoding gives one error and no text.
 use Rattle.std.proofs.Common.{◌≡◌, ℕ, ◌+◌, true, false, List, [], ◌∷◌, ◌∙◌, ap}
 use Rattle.encoding_mem.specs.Piece.{good, bad, bad_count, text}
-use Rattle.encoding_mem.specs.PiecesLaws.{pieces_in-nil, pieces_in-cons}
+use Rattle.encoding_mem.specs.laws.Pieces.{pieces_in-nil, pieces_in-cons}
 use Rattle.encoding_tables.specs.Replacement.{front_replacement, after_replacement, pieces_replacement, IsOneError}
-use Rattle.encoding_tables.specs.ReplacementLaws.{cuts_replacement}
+use Rattle.encoding_tables.specs.laws.Replacement.{cuts_replacement}
 
 first_is_bad : (b : ℕ) (x : List ℕ) → pieces_replacement false (b ∷ x) ≡ bad 1 ∷ pieces_replacement true x
 first_is_bad b x = pieces_in-cons front_replacement after_replacement cuts_replacement false b x

@@ -1,9 +1,9 @@
 -- Where the error was returned, what is left of a replacement input has no text.
 use Rattle.std.proofs.Common.{◌≡◌, ℕ, true, List, [], ◌∷◌, ◌++◌, length, refl, sym, ◌∙◌, ap, arith, Option, Some, None}
 use Rattle.encoding_mem.specs.Piece.{Piece, first, text_of}
-use Rattle.encoding_mem.specs.PiecesLaws.{pieces_in-nil, pieces_in-cons}
+use Rattle.encoding_mem.specs.laws.Pieces.{pieces_in-nil, pieces_in-cons}
 use Rattle.encoding_tables.specs.Replacement.{front_replacement, after_replacement, pieces_replacement, NeedsRoomOnce}
-use Rattle.encoding_tables.specs.ReplacementLaws.{cuts_replacement}
+use Rattle.encoding_tables.specs.laws.Replacement.{cuts_replacement}
 
 -- how long the text of a first piece is
 first_text : Option Piece → ℕ

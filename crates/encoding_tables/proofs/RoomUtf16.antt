@@ -5,17 +5,17 @@ use Rattle.std.specs.Char.Utf16.{is_high_surrogate, is_low_surrogate, surrogate_
 use Rattle.std.proofs.Math.Utf8.{scalar}
 use Rattle.std.proofs.lemmas.Str.{len_utf8_bounds}
 use Rattle.std.proofs.lemmas.Bool.Decides.{nat_tests}
-use Rattle.encoding_mem.specs.FrontPiece.{IsRoomy}
-use Rattle.encoding_mem.specs.Room.{is_units, goes_on, cost_in, mark_in, left_after, room_of, room_utf16}
-use Rattle.encoding_mem.specs.Utf8Decide.{cut_short}
+use Rattle.encoding_mem.specs.FrontPiece.{HasRoomFor}
+use Rattle.encoding_mem.specs.Room.{is_units, goes_on, cost_in, replacement_len, left_after, room_of, room_utf16}
+use Rattle.encoding_mem.specs.laws.Utf8Decide.{cut_short}
 use Rattle.encoding_mem.specs.Writing.{len_utf16}
-use Rattle.encoding_mem.specs.WritingLaws.{cost_fits16}
+use Rattle.encoding_mem.specs.laws.Writing.{cost_fits16}
 use Rattle.encoding_mem.specs.declared.front.Front.{Front}
 use Rattle.encoding_mem.specs.declared.front.Front.TheVariants.{More, One, Two, Silent, Bad}
 use Rattle.encoding_mem.specs.declared.room.Count.{Count}
 use Rattle.encoding_mem.specs.declared.room.Count.TheVariants.{Units, Bytes, Replaced}
 use Rattle.encoding_tables.specs.Utf16.{unit_of}
-use Rattle.encoding_tables.specs.Utf16Decide.{decide_pair, decide_unit, decide_utf16}
+use Rattle.encoding_tables.specs.laws.Utf16Decide.{decide_pair, decide_unit, decide_utf16}
 
 -- What a look at bytes answers. A character of two bytes is in the basic plane, another has four; what is bad has two
 -- bytes, or is all that there is.
@@ -69,18 +69,18 @@ two_units c n four Units m = omega (arith, four, cost_fits16 c)
 two_units c n four Bytes m = omega (arith, four, (len_utf8_bounds c).1)
 two_units c n four Replaced m = omega (arith, four, (len_utf8_bounds c).1)
 
-bad_unit : (n : ℕ) → n ≡ 2 → (k : Count) (m : ℕ) → left_after (goes_on k) (mark_in (is_units k)) (room_of room_utf16 k m) ≤ room_of room_utf16 k (n + m)
+bad_unit : (n : ℕ) → n ≡ 2 → (k : Count) (m : ℕ) → left_after (goes_on k) (replacement_len (is_units k)) (room_of room_utf16 k m) ≤ room_of room_utf16 k (n + m)
 bad_unit n two Units m = omega (arith, two)
 bad_unit n two Bytes m = omega (arith, two)
 bad_unit n two Replaced m = omega (arith, two)
 
 -- nothing follows what the end cuts
-bad_end : (n : ℕ) → 0 < n → (k : Count) (m : ℕ) → m ≡ 0 → left_after (goes_on k) (mark_in (is_units k)) (room_of room_utf16 k m) ≤ room_of room_utf16 k (n + m)
+bad_end : (n : ℕ) → 0 < n → (k : Count) (m : ℕ) → m ≡ 0 → left_after (goes_on k) (replacement_len (is_units k)) (room_of room_utf16 k m) ≤ room_of room_utf16 k (n + m)
 bad_end n some Units m none = omega (arith, some, none)
 bad_end n some Bytes m none = omega (arith, some, none)
 bad_end n some Replaced m none = omega (arith, some, none)
 
-pub roomy_utf16 : (x : List ℕ) (last : Bool) (F : Front) → IsUtf16Front x last F → IsRoomy (room_of room_utf16) (room_of room_utf16) (length x) last F
+pub roomy_utf16 : (x : List ℕ) (last : Bool) (F : Front) → IsUtf16Front x last F → HasRoomFor (room_of room_utf16) (room_of room_utf16) (length x) last F
 roomy_utf16 x last More h = tt
 roomy_utf16 x last (One c n) h = λ k m _. elim h [ inl two ↦ one_unit c n two.0 two.1 k m | inr four ↦ two_units c n four k m ]
 roomy_utf16 x last (Two c d n) h = absurd h

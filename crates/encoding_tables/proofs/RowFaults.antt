@@ -8,7 +8,7 @@ use Rattle.std.proofs.lemmas.List.Edits.{get_or-between}
 use Rattle.std.proofs.lemmas.List.Sums.{position_or_len_is}
 use Rattle.encoding_tables.specs.SortedRows.{row_at}
 use Rattle.encoding_tables.specs.PackedRows.{flat_list, entry_at, PointersRise, PointersAreBelow}
-use Rattle.encoding_tables.specs.Kinds.{size_of}
+use Rattle.encoding_tables.specs.Kinds.{index_size}
 use Rattle.encoding_tables.specs.TableFaults.{first_reserved, flat_fault, entry_fault}
 use Rattle.encoding_tables.specs.declared.index_kind.IndexKind.{IndexKind}
 use Rattle.encoding_tables.proofs.ListedRows.{length-flat_list, entry_within, entry_past, entry_at_row, row_of_entry, pointers_far}
@@ -104,5 +104,5 @@ no_reserved_row size rows none =
 -- ---- a fault
 
 -- the size of the list is the kind's
-pub fault_of_flat_list : (kind : IndexKind) (rows : List (ℕ × ℕ)) → flat_fault false kind (flat_list (size_of kind) rows) ≡ entry_fault kind (flat_list (size_of kind) rows)
-fault_of_flat_list kind rows = rw (eq-eqb (length (flat_list (size_of kind) rows)) (size_of kind) (length-flat_list (size_of kind) rows)) refl
+pub fault_of_flat_list : (kind : IndexKind) (rows : List (ℕ × ℕ)) → flat_fault false kind (flat_list (index_size kind) rows) ≡ entry_fault kind (flat_list (index_size kind) rows)
+fault_of_flat_list kind rows = rw (eq-eqb (length (flat_list (index_size kind) rows)) (index_size kind) (length-flat_list (index_size kind) rows)) refl

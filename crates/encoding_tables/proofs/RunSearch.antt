@@ -2,10 +2,10 @@
 use Rattle.std.proofs.Common.{◌≡◌, ◌≢◌, ℕ, ◌+◌, ◌-◌, ◌<◌, ◌≤◌, ◌^◌, inl, inr, zero, suc, List, [], ◌∷◌, length, drop, arith, refl, sym, Option, None, Some, true}
 use Rattle.std.specs.Prelude.{max, min}
 use Rattle.std.proofs.lemmas.Bool.{lt-ltb, le-ltb, eq-eqb, ne_eqb, cases_lt, cases_eq, cases_Bool}
-use Rattle.encoding_tables.specs.OptionCases.{and_then_some, option_or_none, map_some}
+use Rattle.encoding_tables.specs.laws.OptionCases.{and_then_some, option_or_none, map_some}
 use Rattle.encoding_tables.specs.RangeFaults.{first_out_of_order, first_bad_value, above_values, bad_row}
-use Rattle.encoding_tables.specs.RangeRows.{taken, IsTaken, row_in_front, before_rows, values_more, values_between, row_between, valid_cases, pointers_are_exact}
-use Rattle.encoding_tables.specs.RangeRuns.{with_low, with_high, runs_of, ArePacked}
+use Rattle.encoding_tables.specs.laws.Ranges.{taken, IsTaken, row_in_front, before_rows, values_more, values_between, row_between, valid_cases, pointers_are_exact}
+use Rattle.encoding_tables.specs.laws.RangeRuns.{with_low, with_high, runs_of, ArePacked}
 use Rattle.encoding_tables.specs.Ranges.{is_valid_pointer, last_row, value_in, range_value, HasRowValue, end_by, range_pointer}
 use Rattle.encoding_tables.specs.SortedRows.{row_at, AreRising}
 use Rattle.encoding_tables.proofs.RowSearch.{AreFrom, from_less, rising, none_from}

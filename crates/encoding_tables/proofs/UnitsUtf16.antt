@@ -5,10 +5,10 @@ use Rattle.std.specs.Char.Utf16.{is_low_surrogate, surrogate_pair_char, lone_uni
 use Rattle.std.proofs.str.Utf16.{IsPair}
 use Rattle.std.proofs.lemmas.Str.{utf16_chars_lone, utf16_chars_pair, utf16_chars-nil}
 use Rattle.std.proofs.lemmas.Bool.{cases_lt, le-leb, lt-leb, lt-ltb, le-ltb}
-use Rattle.encoding_mem.specs.Piece.{Piece, good, bad, size_of}
-use Rattle.encoding_mem.specs.PiecesLaws.{pieces_by-nil, pieces_by-cons}
+use Rattle.encoding_mem.specs.Piece.{Piece, good, bad, piece_len}
+use Rattle.encoding_mem.specs.laws.Pieces.{pieces_by-nil, pieces_by-cons}
 use Rattle.encoding_tables.specs.Utf16.{unit_of, bytes_of_unit, bytes_of_units, after_high_surrogate, after_unit, front_utf16, pieces_utf16, piece_of_char, ReadsUnits}
-use Rattle.encoding_tables.specs.Utf16Laws.{cuts_utf16}
+use Rattle.encoding_tables.specs.laws.Utf16.{cuts_utf16}
 
 -- the two bytes of a unit
 record TwoBytes (e : Bool) (u : ℕ) : Type 0 where
@@ -22,13 +22,13 @@ two_bytes true u h = record { a = byte_at 1 u; b = byte_at 0 u; unit = omega ari
 two_bytes false u h = record { a = byte_at 0 u; b = byte_at 1 u; unit = omega arith; bytes = λ r. refl }
 
 -- a piece that begins with a unit and has n bytes more, then the pieces of what follows
-first_unit : (e : Bool) (u : ℕ) (r : List ℕ) → u < 0x10000 → (p : Piece) (n : ℕ) → after_unit e u r ≡ p → size_of p ≡ suc (suc n)
+first_unit : (e : Bool) (u : ℕ) (r : List ℕ) → u < 0x10000 → (p : Piece) (n : ℕ) → after_unit e u r ≡ p → piece_len p ≡ suc (suc n)
     → pieces_utf16 e (bytes_of_unit e u ++ r) ≡ p ∷ pieces_utf16 e (drop n r)
 first_unit e u r h p n is size =
     let w = two_bytes e u h in
     ap (pieces_utf16 e) (w.bytes r)
     ∙ pieces_by-cons (front_utf16 e) (cuts_utf16 e) w.a (w.b ∷ r)
-    ∙ ap (λ q. q ∷ pieces_utf16 e (drop (size_of q) (w.a ∷ w.b ∷ r))) (ap (λ v. after_unit e v r) w.unit ∙ is)
+    ∙ ap (λ q. q ∷ pieces_utf16 e (drop (piece_len q) (w.a ∷ w.b ∷ r))) (ap (λ v. after_unit e v r) w.unit ∙ is)
     ∙ ap (λ k. p ∷ pieces_utf16 e (drop k (w.a ∷ w.b ∷ r))) size
 
 -- a unit that is no surrogate, a low surrogate, and a high one with no low one behind it
@@ -87,7 +87,7 @@ alone e u us short h apart = elim (cases_lt u 0xD800) [
 ]
 
 -- such a piece has two bytes
-lone_size : (u : ℕ) → u < 0x10000 → size_of (piece_of_char (lone_unit_char u)) ≡ 2
+lone_size : (u : ℕ) → u < 0x10000 → piece_len (piece_of_char (lone_unit_char u)) ≡ 2
 lone_size u short = elim (cases_lt u 0xD800) [
   | inl less ↦ rw (lt-leb 0xD800 u less, lt-ltb u 0x10000 short) refl
   | inr from ↦ elim (cases_lt u 0xE000) [

@@ -1,7 +1,7 @@
 -- The lists that are taken as the index of a kind, in the words of the rule.
 use Rattle.std.specs.Prelude.{◌≡◌, ◌≢◌, ℕ, ◌<◌, ◌≤◌, ◌⊎◌, ◌↔◌, false, List, length, None, slice_index}
 use Rattle.std.specs.Char.{IsScalar}
-use Rattle.encoding_tables.specs.Kinds.{size_of}
+use Rattle.encoding_tables.specs.Kinds.{index_size}
 use Rattle.encoding_tables.specs.TableFaults.{flat_fault}
 use Rattle.encoding_tables.specs.declared.index_kind.IndexKind.{IndexKind}
 use Rattle.encoding_tables.specs.declared.index_kind.IndexKind.TheVariants.{Big5, Jis0208}
@@ -15,7 +15,7 @@ pub record IsEntry (kind : IndexKind) (v : ℕ) : Type 0 where
 -- a list of the kind's size, whose mapped entries are such scalars; where Shift_JIS has end-user-defined characters,
 -- that of JIS X 0208 maps nothing
 pub record IsIndex (kind : IndexKind) (flat : List ℕ) : Type 0 where
-  pub size : length flat ≡ size_of kind
+  pub size : length flat ≡ index_size kind
   pub entries : (p : ℕ) → slice_index flat p ≢ 0 → IsEntry kind (slice_index flat p)
   pub reserved : kind ≡ Jis0208 → (p : ℕ) → 8836 ≤ p → p < 10716 → slice_index flat p ≡ 0
 

@@ -41,15 +41,15 @@ number Jis0212 = 32
 number Iso2022JpKatakana = 33
 
 -- how many entries the list of a kind has
-abbrev pub size_of : IndexKind → ℕ
-size_of Big5 = 19782
-size_of EucKr = 23940
-size_of Gb18030 = 23940
-size_of Gb18030Ranges = 0
-size_of Jis0208 = 11280
-size_of Jis0212 = 8836
-size_of Iso2022JpKatakana = 63
-size_of _ = 128
+abbrev pub index_size : IndexKind → ℕ
+index_size Big5 = 19782
+index_size EucKr = 23940
+index_size Gb18030 = 23940
+index_size Gb18030Ranges = 0
+index_size Jis0208 = 11280
+index_size Jis0212 = 8836
+index_size Iso2022JpKatakana = 63
+index_size _ = 128
 
 -- the kind with rows
 abbrev pub is_ranges : IndexKind → Bool
@@ -58,4 +58,4 @@ is_ranges _ = false
 
 -- the kinds of the single-byte encodings
 abbrev pub is_single_byte : IndexKind → Bool
-is_single_byte kind = nat_eq (size_of kind) 128
+is_single_byte kind = nat_eq (index_size kind) 128

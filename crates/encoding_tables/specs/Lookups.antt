@@ -26,12 +26,3 @@ first_pointer flat c from to = if c == 0 then None else option_map (λ k. from +
 -- the greatest one
 abbrev pub last_pointer : List ℕ → ℕ → ℕ → ℕ → Option ℕ
 last_pointer flat c from to = if c == 0 then None else option_map (λ k. from + k) (last_position (λ v. v == c) (slice_range flat from to))
-
-first : first_pointer (0 ∷ 0xE9 ∷ 0xE9 ∷ []) 0xE9 0 3 ≡ Some 1
-first = refl
-
-last : last_pointer (0 ∷ 0xE9 ∷ 0xE9 ∷ 0 ∷ []) 0xE9 0 9 ≡ Some 2
-last = refl
-
-unmapped : first_pointer (0 ∷ 0xE9 ∷ []) 0 0 2 ≡ None
-unmapped = refl

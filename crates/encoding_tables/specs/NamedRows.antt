@@ -43,12 +43,12 @@ pub record HasBadValue (least : ℕ) (rows : List (ℕ × ℕ)) (k : ℕ) : Type
   pub gives : Gives rows k pointer value
   pub bad : (¬ (IsScalarFrom least value)) ⊎ IsReached rows k value
 
-abbrev pub IsFirst : (ℕ → Type 0) → ℕ → Type 0
-IsFirst P k = P k × ((j : ℕ) → j < k → ¬ (P j))
+abbrev pub IsFirstWith : (ℕ → Type 0) → ℕ → Type 0
+IsFirstWith P k = P k × ((j : ℕ) → j < k → ¬ (P j))
 
 -- the first row out of order; where there is none, the first with a bad value
 abbrev pub IsNamed : List (ℕ × ℕ) → ℕ → Type 0
-IsNamed rows k = IsFirst (IsOutOfOrder 0 rows) k ⊎ (((j : ℕ) → ¬ (IsOutOfOrder 0 rows j)) × IsFirst (HasBadValue 0x80 rows) k)
+IsNamed rows k = IsFirstWith (IsOutOfOrder 0 rows) k ⊎ (((j : ℕ) → ¬ (IsOutOfOrder 0 rows j)) × IsFirstWith (HasBadValue 0x80 rows) k)
 
 -- `bad_row` finds the row that is named, and None where there is none
 abbrev pub NamesAreExact : Type 0

@@ -32,12 +32,3 @@ listed_rows pointer (v ∷ vs) = if v == 0 then listed_rows (pointer + 1) vs els
 -- a row with its two numbers the other way round
 abbrev pub swapped : ℕ × ℕ → ℕ × ℕ
 swapped row = (row.1, row.0)
-
-listed : listed_rows 0 (0 ∷ 0xE9 ∷ 0 ∷ 0xE8 ∷ []) ≡ (1, 0xE9) ∷ (3, 0xE8) ∷ []
-listed = refl
-
-flat : flat_list 4 ((1, 0xE9) ∷ (3, 0xE8) ∷ []) ≡ 0 ∷ 0xE9 ∷ 0 ∷ 0xE8 ∷ []
-flat = refl
-
-mapped : mapped_rows ((1, 0xE9) ∷ (2, 0) ∷ []) ≡ (1, 0xE9) ∷ []
-mapped = refl

@@ -27,15 +27,3 @@ abbrev pub NeedsRoomOnce : Type 0
 NeedsRoomOnce = (s : DecoderState) (unread : List ℕ) (last : Bool) (free room mark : ℕ)
     → ((r : List ℕ) → (IsTrue last → r ≡ []) → s.pieces (unread ++ r) ≡ pieces_replacement true (unread ++ r))
     → EndsWith s unread last free room mark OutputFull → ⊥
-
-two_bytes : pieces_replacement false (0x41 ∷ 0x42 ∷ []) ≡ bad 1 ∷ good 1 [] ∷ []
-unfolding pieces_in
-two_bytes = refl
-
-more_bytes : pieces_replacement true (0x41 ∷ 0x42 ∷ []) ≡ good 1 [] ∷ good 1 [] ∷ []
-unfolding pieces_in
-more_bytes = refl
-
-no_bytes : pieces_replacement false [] ≡ []
-unfolding pieces_in
-no_bytes = refl

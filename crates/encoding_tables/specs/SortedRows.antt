@@ -30,12 +30,6 @@ pub record IsRank (rows : List (ℕ × ℕ)) (key : ℕ × ℕ) (rank : ℕ) : T
 abbrev pub IsWithinDigits : ℕ → ℕ → Type 0
 IsWithinDigits count n = (digits : ℕ) → n < 2 ^ digits → count ≤ digits
 
-by_the_first : is_below (3, 9) (4, 0) ≡ true
-by_the_first = refl
-
-by_the_second : is_below (3, 8) (3, 9) ≡ true
-by_the_second = refl
-
 -- how many rows stand before each first number, and at last how many there are
 pub record IsDirectory (rows : List (ℕ × ℕ)) (begins : List ℕ) : Type 0 where
   pub ranks : (first : ℕ) → first < length begins → IsRank rows (first, 0) (slice_index begins first)

@@ -3,7 +3,7 @@ use Rattle.std.specs.Prelude.{◌≡◌, ℕ, ◌+◌, Bool, List, [], ◌∷◌
 use Rattle.std.proofs.Common.{refl}
 use Rattle.std.specs.List.{position}
 use Rattle.std.specs.Option.{option_map, option_or}
-use Rattle.encoding_tables.specs.Kinds.{number, size_of}
+use Rattle.encoding_tables.specs.Kinds.{number, index_size}
 use Rattle.encoding_tables.specs.RangeFaults.{bad_row}
 use Rattle.encoding_tables.specs.declared.index_kind.IndexKind.{IndexKind}
 use Rattle.encoding_tables.specs.declared.index_kind.IndexKind.TheVariants.{Big5, Jis0208, Windows1252}
@@ -36,33 +36,9 @@ entry_fault kind flat = option_or (option_map Entry (first_bad_entry kind flat))
 -- the first fault of a list, in this order
 abbrev pub flat_fault : Bool → IndexKind → List ℕ → Option TableFault
 flat_fault there kind flat = if there then Some Present
-    else if not (length flat == size_of kind) then Some Size
+    else if not (length flat == index_size kind) then Some Size
     else entry_fault kind flat
 
 -- the first fault of rows
 abbrev pub range_fault : Bool → List (ℕ × ℕ) → Option TableFault
 range_fault there rows = if there then Some Present else option_map Ranges (bad_row rows)
-
-short : flat_fault false Windows1252 (replicate 127 0) ≡ Some Size
-short = refl
-
-nothing_mapped : flat_fault false Windows1252 (replicate 128 0) ≡ None
-nothing_mapped = refl
-
-repeated : flat_fault false Windows1252 (replicate 128 0xE9) ≡ None
-repeated = refl
-
-ascii : flat_fault false Windows1252 (0x41 ∷ replicate 127 0) ≡ Some (Entry 0)
-ascii = refl
-
-surrogate : flat_fault false Windows1252 (0 ∷ 0xD800 ∷ replicate 126 0) ≡ Some (Entry 1)
-surrogate = refl
-
-second_plane : is_entry_of Big5 0x2008A ≡ true
-second_plane = refl
-
-other_plane : is_entry_of Windows1252 0x2008A ≡ false
-other_plane = refl
-
-there_already : flat_fault true Windows1252 [] ≡ Some Present
-there_already = refl

@@ -27,26 +27,3 @@ pieces_user_defined = pieces_by front_user_defined
 
 abbrev pub user_defined_coding : Coding
 user_defined_coding = coding_by_byte byte_of_user_char
-
--- the first and the last byte that are not ASCII
-in_a_row : pieces_user_defined (0x7F ∷ 0x80 ∷ 0xFF ∷ [])
-    ≡ good 1 (0x7F ∷ []) ∷ good 1 (0xF780 ∷ []) ∷ good 1 (0xF7FF ∷ []) ∷ []
-unfolding pieces_in
-in_a_row = refl
-
-no_bytes : pieces_user_defined [] ≡ []
-unfolding pieces_in
-no_bytes = refl
-
-back : output user_defined_coding (0x7F ∷ 0xF780 ∷ 0xF7FF ∷ []) ≡ 0x7F ∷ 0x80 ∷ 0xFF ∷ []
-back = refl
-
--- the characters beside them, and one that another encoding has at 80
-before_the_first : byte_of_user_char 0xF77F ≡ None
-before_the_first = refl
-
-behind_the_last : byte_of_user_char 0xF800 ≡ None
-behind_the_last = refl
-
-no_latin1 : byte_of_user_char 0x80 ≡ None
-no_latin1 = refl

@@ -53,49 +53,5 @@ abbrev pub ReadsUnits : Type 0
 ReadsUnits = (big_endian : Bool) (units : List ℕ) → ((k : ℕ) → slice_index units k < 0x10000)
     → pieces_utf16 big_endian (bytes_of_units big_endian units) ≡ map piece_of_char (utf16_chars units)
 
--- U+4E00 and U+1F4A9 in both orders
-big_text : pieces_utf16 true (0x4E ∷ 0 ∷ 0xD8 ∷ 0x3D ∷ 0xDC ∷ 0xA9 ∷ []) ≡ good 2 (0x4E00 ∷ []) ∷ good 4 (0x1F4A9 ∷ []) ∷ []
-unfolding pieces_in
-big_text = refl
-
-little_text : pieces_utf16 false (0 ∷ 0x4E ∷ 0x3D ∷ 0xD8 ∷ 0xA9 ∷ 0xDC ∷ []) ≡ good 2 (0x4E00 ∷ []) ∷ good 4 (0x1F4A9 ∷ []) ∷ []
-unfolding pieces_in
-little_text = refl
-
--- a high surrogate before a unit that is no low one, which is read by itself
-high_alone : pieces_utf16 false (0 ∷ 0xD8 ∷ 0 ∷ 0 ∷ 0 ∷ 0x4E ∷ []) ≡ bad 2 ∷ good 2 (0 ∷ []) ∷ good 2 (0x4E00 ∷ []) ∷ []
-unfolding pieces_in
-high_alone = refl
-
-high_before_high : pieces_utf16 true (0xD8 ∷ 0 ∷ 0xD8 ∷ 0 ∷ 0xDC ∷ 0 ∷ []) ≡ bad 2 ∷ good 4 (0x10000 ∷ []) ∷ []
-unfolding pieces_in
-high_before_high = refl
-
-low_alone : pieces_utf16 true (0xDC ∷ 0 ∷ 0 ∷ 0x41 ∷ []) ≡ bad 2 ∷ good 2 (0x41 ∷ []) ∷ []
-unfolding pieces_in
-low_alone = refl
-
--- what the end cuts
-high_at_the_end : pieces_utf16 true (0xD8 ∷ 0 ∷ []) ≡ bad 2 ∷ []
-unfolding pieces_in
-high_at_the_end = refl
-
-high_and_a_byte : pieces_utf16 false (0 ∷ 0xD8 ∷ 0x41 ∷ []) ≡ bad 3 ∷ []
-unfolding pieces_in
-high_and_a_byte = refl
-
-last_byte : pieces_utf16 false (0x41 ∷ 0 ∷ 0x42 ∷ []) ≡ good 2 (0x41 ∷ []) ∷ bad 1 ∷ []
-unfolding pieces_in
-last_byte = refl
-
--- the units beside the surrogates
-beside_surrogates : pieces_utf16 true (0xD7 ∷ 0xFF ∷ 0xE0 ∷ 0 ∷ []) ≡ good 2 (0xD7FF ∷ []) ∷ good 2 (0xE000 ∷ []) ∷ []
-unfolding pieces_in
-beside_surrogates = refl
-
-last_scalar : pieces_utf16 true (0xDB ∷ 0xFF ∷ 0xDF ∷ 0xFF ∷ []) ≡ good 4 (0x10FFFF ∷ []) ∷ []
-unfolding pieces_in
-last_scalar = refl
-
 units : bytes_of_units false (0xD83D ∷ 0xDCA9 ∷ []) ≡ 0x3D ∷ 0xD8 ∷ 0xA9 ∷ 0xDC ∷ []
 units = refl

@@ -2,7 +2,7 @@
 
 ghost use Rattle.std.specs.Prelude.{◌≡◌, ◌+◌, ◌<◌, ◌≤◌, not, ◌==◌, length, IfSome};
 ghost use Rattle.std.specs.List.{position};
-ghost use Rattle.encoding_tables.specs.Kinds.{size_of};
+ghost use Rattle.encoding_tables.specs.Kinds.{index_size};
 ghost use Rattle.encoding_tables.specs.PackedRows.{flat_list, PointersRise, PointersAreBelow};
 ghost use Rattle.encoding_tables.specs.TableFaults.{is_entry_of, first_bad_entry, first_reserved, entry_fault, flat_fault};
 
@@ -77,8 +77,8 @@ pub(crate) fn fault_of_flat(is_there: bool, kind: IndexKind, flat: &[u32]) -> Op
 // The pointer of the first row whose entry a list of the kind may not have.
 fn first_bad_row(kind: IndexKind, rows: &[(u32, u32)]) -> Option<u32>
     requires rise { PointersRise rows.now }
-    requires below { PointersAreBelow (size_of kind) rows.now }
-    ensures { result ≡ first_bad_entry kind (flat_list (size_of kind) rows.now) }
+    requires below { PointersAreBelow (index_size kind) rows.now }
+    ensures { result ≡ first_bad_entry kind (flat_list (index_size kind) rows.now) }
 {
     for (pointer, entry) in rows {
         if !is_entry(kind, *entry) {
@@ -91,8 +91,8 @@ fn first_bad_row(kind: IndexKind, rows: &[(u32, u32)]) -> Option<u32>
 // The pointer of the first mapped row at which Shift_JIS has an end-user-defined character.
 fn first_reserved_row(kind: IndexKind, rows: &[(u32, u32)]) -> Option<u32>
     requires rise { PointersRise rows.now }
-    requires below { PointersAreBelow (size_of kind) rows.now }
-    ensures { result ≡ first_reserved (flat_list (size_of kind) rows.now) }
+    requires below { PointersAreBelow (index_size kind) rows.now }
+    ensures { result ≡ first_reserved (flat_list (index_size kind) rows.now) }
 {
     for (pointer, entry) in rows {
         let at = *pointer as usize;
@@ -106,8 +106,8 @@ fn first_reserved_row(kind: IndexKind, rows: &[(u32, u32)]) -> Option<u32>
 // What is wrong with the entries of the list that rows stand for.
 fn fault_of_entries(kind: IndexKind, rows: &[(u32, u32)]) -> Option<TableFault>
     requires rise { PointersRise rows.now }
-    requires below { PointersAreBelow (size_of kind) rows.now }
-    ensures { result ≡ entry_fault kind (flat_list (size_of kind) rows.now) }
+    requires below { PointersAreBelow (index_size kind) rows.now }
+    ensures { result ≡ entry_fault kind (flat_list (index_size kind) rows.now) }
 {
     if let Some(pointer) = first_bad_row(kind, rows) {
         return Some(TableFault::Entry(pointer));
@@ -127,8 +127,8 @@ pub(crate) fn fault_of_rows(
     rows: &[(u32, u32)],
 ) -> Option<TableFault>
     requires rise { PointersRise rows.now }
-    requires below { PointersAreBelow (size_of kind) rows.now }
-    ensures { result ≡ flat_fault present kind (flat_list (size_of kind) rows.now) }
+    requires below { PointersAreBelow (index_size kind) rows.now }
+    ensures { result ≡ flat_fault present kind (flat_list (index_size kind) rows.now) }
 {
     if present {
         Some(TableFault::Present)

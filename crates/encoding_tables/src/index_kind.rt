@@ -1,5 +1,5 @@
 ghost use Rattle.std.specs.Prelude.{◌≡◌, ◌<◌};
-ghost use Rattle.encoding_tables.specs.Kinds.{number, size_of, is_ranges, is_single_byte};
+ghost use Rattle.encoding_tables.specs.Kinds.{number, index_size, is_ranges, is_single_byte};
 ghost use Rattle.encoding_tables.specs.FileNames.{file_name_of};
 
 /// The indexes of the Encoding Standard (section 5, "Indexes"): those of the single-byte encodings, and
@@ -47,7 +47,7 @@ impl IndexKind {
     /// How many entries the list of this kind has: one more than its greatest pointer can be. 0 for the
     /// ranges, which have rows and no list.
     pub fn size(self) -> usize
-        ensures { result ≡ size_of self }
+        ensures { result ≡ index_size self }
     {
         match self {
             IndexKind::Big5 => 19782,

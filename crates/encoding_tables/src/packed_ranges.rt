@@ -3,7 +3,7 @@
 
 ghost use Rattle.std.specs.Prelude.{◌≡◌, ℕ, ◌<◌, ◌^◌, ◌++◌, List, max, None, IfOk, OnOk, IfSome};
 ghost use Rattle.encoding_tables.specs.RangeFaults.{bad_row};
-ghost use Rattle.encoding_tables.specs.RangeRuns.{runs_of, with_low, with_high, ArePacked};
+ghost use Rattle.encoding_tables.specs.laws.RangeRuns.{runs_of, with_low, with_high, ArePacked};
 ghost use Rattle.encoding_tables.specs.Ranges.{last_row, range_value, range_pointer, value_in, is_valid_pointer};
 ghost use Rattle.encoding_tables.specs.SortedRows.{AreRising};
 

@@ -2,11 +2,11 @@
 
 ghost use Rattle.std.proofs.Common.{refl};
 ghost use Rattle.std.specs.Prelude.{◌≡◌, false};
-ghost use Rattle.encoding_mem.specs.PiecesLaws.{pieces_in-nil, pieces_in-whole, pieces_in-are_pieces};
+ghost use Rattle.encoding_mem.specs.laws.Pieces.{pieces_in-nil, pieces_in-whole, pieces_in-are_pieces};
 ghost use Rattle.encoding_mem.specs.Room.{room_replacement};
-ghost use Rattle.encoding_mem.specs.Shows.{decided_in};
+ghost use Rattle.encoding_mem.specs.laws.Shows.{decided_in};
 ghost use Rattle.encoding_tables.specs.Replacement.{front_replacement, after_replacement, pieces_replacement};
-ghost use Rattle.encoding_tables.specs.ReplacementLaws.{cuts_replacement, replacement_needs, replacement_covers, decided_by_one};
+ghost use Rattle.encoding_tables.specs.laws.Replacement.{cuts_replacement, replacement_needs, replacement_covers, decided_by_one};
 
 use encoding_mem::bytewise::{Bytewise, DecidedPiece};
 use encoding_mem::front::{Front, FrontPiece};

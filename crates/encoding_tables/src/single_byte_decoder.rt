@@ -3,15 +3,15 @@
 ghost use Rattle.std.proofs.Common.{refl, arith};
 ghost use Rattle.std.specs.Prelude.{◌≡◌, ℕ, ◌<◌, not, true};
 ghost use Rattle.std.specs.List.{position};
-ghost use Rattle.encoding_mem.specs.PiecesLaws.{pieces_by-nil, pieces_by-whole, pieces_by-are_pieces};
+ghost use Rattle.encoding_mem.specs.laws.Pieces.{pieces_by-nil, pieces_by-whole, pieces_by-are_pieces};
 ghost use Rattle.encoding_mem.specs.Room.{room_of, room_single_byte};
-ghost use Rattle.encoding_mem.specs.Shows.{decided_by};
-ghost use Rattle.encoding_tables.specs.EachByteLaws.{front_of_byte};
+ghost use Rattle.encoding_mem.specs.laws.Shows.{decided_by};
+ghost use Rattle.encoding_tables.specs.laws.EachByte.{front_of_byte};
 ghost use Rattle.encoding_tables.specs.IndexLists.{has, entries_of};
 ghost use Rattle.encoding_tables.specs.Kinds.{is_single_byte};
 ghost use Rattle.encoding_tables.specs.Lookups.{AreEntries};
 ghost use Rattle.encoding_tables.specs.SingleByte.{char_of_byte, has_number, front_single_byte, pieces_single_byte, IsLatin1UpTo};
-ghost use Rattle.encoding_tables.specs.SingleByteLaws.{AreBasic, cuts_single_byte};
+ghost use Rattle.encoding_tables.specs.laws.SingleByte.{AreBasic, cuts_single_byte};
 
 use crate::flat::Flat;
 use crate::index_kind::IndexKind;

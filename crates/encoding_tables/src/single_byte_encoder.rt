@@ -5,8 +5,8 @@ ghost use Rattle.encoding_mem.specs.TextRoom.{text_room_single_byte};
 ghost use Rattle.encoding_tables.specs.EachByte.{form_of_byte};
 ghost use Rattle.encoding_tables.specs.IndexLists.{has, entries_of};
 ghost use Rattle.encoding_tables.specs.Kinds.{is_single_byte};
-ghost use Rattle.encoding_tables.specs.SingleByte.{byte_of_char, single_byte_coding};
-ghost use Rattle.encoding_tables.specs.SingleByteLaws.{single_byte_laws, single_byte_fits};
+ghost use Rattle.encoding_tables.specs.SingleByte.{single_byte_of_char, single_byte_coding};
+ghost use Rattle.encoding_tables.specs.laws.SingleByte.{single_byte_laws, single_byte_fits};
 ghost use Rattle.encoding_mem.specs.declared.form.Set.TheVariants.{Ascii};
 
 use crate::flat::Flat;
@@ -54,7 +54,7 @@ impl<'a> Target for SingleByte<'a> {
 // The byte of a character. ASCII is not looked up.
 #[inline(always)]
 fn byte_of(flat: &Flat<'_>, c: char) -> Option<u8>
-    ensures { result ≡ byte_of_char flat.now c }
+    ensures { result ≡ single_byte_of_char flat.now c }
 {
     if c < '\u{80}' {
         return Some(c as u8);

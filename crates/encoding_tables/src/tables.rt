@@ -1,12 +1,12 @@
 ghost use Rattle.std.specs.Prelude.{◌≡◌, ◌≢◌, false, true, MatchOption, OnOk, OnErr, is_some, ◌⊎◌};
-ghost use Rattle.encoding_tables.specs.Kinds.{is_ranges, is_single_byte, size_of};
+ghost use Rattle.encoding_tables.specs.Kinds.{is_ranges, is_single_byte, index_size};
 ghost use Rattle.encoding_tables.specs.IndexLists.{IndexLists, flat_of, has, entries_of, rows_of, AreAcceptedTables, AreTaken};
 ghost use Rattle.encoding_tables.specs.Accepted.{IsIndex};
 ghost use Rattle.encoding_tables.specs.PackedRows.{flat_list, PointersRise, PointersAreBelow};
 ghost use Rattle.encoding_tables.specs.TableFaults.{flat_fault, range_fault};
 ghost use Rattle.encoding_tables.specs.RangeFaults.{bad_row};
 ghost use Rattle.encoding_tables.specs.Lookups.{AreEntries, value_of, first_pointer, last_pointer};
-ghost use Rattle.encoding_tables.specs.SingleByteLaws.{AreBasic};
+ghost use Rattle.encoding_tables.specs.laws.SingleByte.{AreBasic};
 ghost use Rattle.encoding_tables.specs.Ranges.{range_value, range_pointer, HaveScalars};
 ghost use Rattle.encoding_tables.specs.declared.index_kind.IndexKind.{IndexKind};
 
@@ -110,12 +110,12 @@ impl Tables {
     pub fn insert_rows(&mut self, kind: IndexKind, rows: &[(u32, u32)]) -> Result<(), TableFault>
         requires listed { is_ranges kind ≡ false }
         requires rise { PointersRise rows.now }
-        requires below { PointersAreBelow (size_of kind) rows.now }
+        requires below { PointersAreBelow (index_size kind) rows.now }
         ensures fault { MatchOption
-            (flat_fault (has self.old kind) kind (flat_list (size_of kind) rows.now))
+            (flat_fault (has self.old kind) kind (flat_list (index_size kind) rows.now))
             ((result ≡ Ok tt) ⊎ (result ≡ Err TableFault.Memory)) (λ f. result ≡ Err f) }
         ensures taken { OnOk result
-            (flat_of self.new kind ≡ Some (flat_list (size_of kind) rows.now)) }
+            (flat_of self.new kind ≡ Some (flat_list (index_size kind) rows.now)) }
         ensures others { (other : IndexKind) → other ≢ kind → flat_of self.new other ≡ flat_of self.old other }
         ensures rows { self.new.rows ≡ self.old.rows }
         ensures unchanged { OnErr result (self.new ≡ self.old) }

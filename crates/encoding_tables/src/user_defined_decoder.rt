@@ -2,11 +2,11 @@
 
 ghost use Rattle.std.proofs.Common.{refl, arith};
 ghost use Rattle.std.specs.Prelude.{◌≡◌, ◌<◌, Some};
-ghost use Rattle.encoding_mem.specs.PiecesLaws.{pieces_by-nil, pieces_by-whole, pieces_by-are_pieces};
+ghost use Rattle.encoding_mem.specs.laws.Pieces.{pieces_by-nil, pieces_by-whole, pieces_by-are_pieces};
 ghost use Rattle.encoding_mem.specs.Room.{room_of, room_single_byte};
-ghost use Rattle.encoding_mem.specs.Shows.{decided_by};
+ghost use Rattle.encoding_mem.specs.laws.Shows.{decided_by};
 ghost use Rattle.encoding_tables.specs.UserDefined.{user_char_of_byte, front_user_defined, pieces_user_defined};
-ghost use Rattle.encoding_tables.specs.UserDefinedLaws.{cuts_user_defined};
+ghost use Rattle.encoding_tables.specs.laws.UserDefined.{cuts_user_defined};
 
 use encoding_mem::ascii::longer_ascii_front;
 use encoding_mem::bytewise::{Bytewise, DecidedPiece};

@@ -3,9 +3,9 @@
 ghost use Rattle.std.specs.Prelude.{◌≡◌};
 ghost use Rattle.encoding_mem.specs.TextRoom.{text_room_single_byte};
 ghost use Rattle.encoding_mem.specs.declared.form.Set.TheVariants.{Ascii};
-ghost use Rattle.encoding_tables.specs.EachByteLaws.{fits_by_byte};
+ghost use Rattle.encoding_tables.specs.laws.EachByte.{fits_by_byte};
 ghost use Rattle.encoding_tables.specs.UserDefined.{byte_of_user_char, user_defined_coding};
-ghost use Rattle.encoding_tables.specs.UserDefinedLaws.{user_defined_laws};
+ghost use Rattle.encoding_tables.specs.laws.UserDefined.{user_defined_laws};
 
 use crate::single_byte_encoder::form_of;
 use encoding_mem::encode::{Target, encode};

@@ -5,12 +5,12 @@ ghost use Rattle.std.proofs.Common.{refl, arith};
 ghost use Rattle.std.specs.Prelude.{◌≡◌, ◌+◌, IsTrue};
 ghost use Rattle.std.specs.Char.{IsScalar};
 ghost use Rattle.std.specs.Char.Utf16.{is_high_surrogate, is_low_surrogate, surrogate_pair_char};
-ghost use Rattle.encoding_mem.specs.PiecesLaws.{pieces_by-nil, pieces_by-whole, pieces_by-are_pieces};
+ghost use Rattle.encoding_mem.specs.laws.Pieces.{pieces_by-nil, pieces_by-whole, pieces_by-are_pieces};
 ghost use Rattle.encoding_mem.specs.Room.{room_of, room_utf16};
-ghost use Rattle.encoding_mem.specs.Utf8Decide.{cut_short};
+ghost use Rattle.encoding_mem.specs.laws.Utf8Decide.{cut_short};
 ghost use Rattle.encoding_tables.specs.Utf16.{unit_of, front_utf16, pieces_utf16};
-ghost use Rattle.encoding_tables.specs.Utf16Decide.{decide_utf16, decide_unit, decide_pair};
-ghost use Rattle.encoding_tables.specs.Utf16Laws.{cuts_utf16};
+ghost use Rattle.encoding_tables.specs.laws.Utf16Decide.{decide_utf16, decide_unit, decide_pair};
+ghost use Rattle.encoding_tables.specs.laws.Utf16.{cuts_utf16};
 
 use encoding_mem::front::{Front, FrontPiece};
 use encoding_mem::piece_decoder::{Buffered, PieceDecoder};

@@ -2,7 +2,7 @@
 use Rattle.std.proofs.Common.{◌≡◌, ℕ, ◌+◌, ◌-◌, ◌≤◌, ◌<◌, Bool, true, false, List, [], ◌∷◌, ◌++◌, map, length, drop, refl, sym, ◌∙◌, ap, subst, arith, append_assoc, append-nil, length-append, ◌⊎◌, inl, inr}
 use Rattle.std.specs.Str.{all_scalars}
 use Rattle.std.proofs.lemmas.Bool.{false≢true}
-use Rattle.encoding_mem.specs.Piece.{Piece, good, bad, size_of, sizes, scalars, AreGood, ArePieces}
+use Rattle.encoding_mem.specs.Piece.{Piece, good, bad, piece_len, sizes, scalars, AreGood, ArePieces}
 use Rattle.encoding_mem.specs.Decoding.{DecoderState, Takes, StateLaw}
 use Rattle.encoding_mem.specs.Coding.{Coding, IsCoding, last_set}
 use Rattle.encoding_mem.specs.Items.{Item, Byte, BadAt, open_items, whole_items, closing, trace_from}

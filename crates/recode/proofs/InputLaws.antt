@@ -5,16 +5,16 @@ use Rattle.std.specs.Str.{chars, IsUtf8}
 use Rattle.std.proofs.lemmas.Str.{encodes-chars}
 use Rattle.encoding_mem.specs.Piece.{text, AreGood}
 use Rattle.encoding_mem.specs.Coding.{AllMapped, output}
-use Rattle.encoding_mem.specs.EncodingLaws.{utf8_output}
-use Rattle.encoding_mem.specs.ReadBackLaws.{all_in_utf8, text_pieces-good, text_pieces-text}
+use Rattle.encoding_mem.specs.laws.Encoding.{utf8_output}
+use Rattle.encoding_mem.specs.laws.ReadBack.{all_in_utf8, text_pieces-good, text_pieces-text}
 use Rattle.encoding_front.specs.Encodings.{IsUtf8Encoding, KeepsCharacters}
 use Rattle.encoding_front.specs.Marks.{marked_pieces}
 use Rattle.encoding_front.specs.declared.mark.Mark.TheVariants.{Keep}
-use Rattle.encoding_front.specs.EncodingsLaws.{pieces_of_utf8, coding_of_utf8}
+use Rattle.encoding_front.specs.laws.Encodings.{pieces_of_utf8, coding_of_utf8}
 use Rattle.encoding_mem.specs.Text.{text_pieces}
 use Rattle.encoding_mem.specs.Utf8.{front_utf8, pieces_utf8}
-use Rattle.encoding_mem.specs.Utf8Laws.{pieces_utf8-text}
-use Rattle.encoding_mem.specs.PiecesLaws.{pieces_by-nil}
+use Rattle.encoding_mem.specs.laws.Utf8.{pieces_utf8-text}
+use Rattle.encoding_mem.specs.laws.Pieces.{pieces_by-nil}
 use Rattle.recode_log.specs.Line.{line_bytes}
 use Rattle.recode.specs.Marked.{marks}
 use Rattle.recode.specs.Job.{IsValidJob, Faithful, input_pieces, input_text, target_of, output_of, log_of, trace}

@@ -16,11 +16,11 @@ use Rattle.recode_log.specs.Line.{line_bytes}
 use Rattle.recode_log.specs.declared.line.LogLine.{LogLine}
 use Rattle.recode_log.specs.declared.line.LogLine.TheVariants.{Bad}
 use Rattle.recode.specs.Job.{input_pieces, log_lines, lost_in, target_of}
-use Rattle.recode.specs.Latency.{Advances, IsSettled, Settles, StandsAt, StepsOn}
-use Rattle.recode.specs.Marked.{IsFront, lines, marks, outputs}
+use Rattle.recode.specs.Latency.{Advances, IsNearlyDecided, ConvertsDecided, StandsAt, StepsOn}
+use Rattle.recode.specs.Marked.{IsPrefix, lines, marks, outputs}
 use Rattle.recode.specs.Owed.{AreSound, owes}
 use Rattle.recode.specs.Payment.{PaysFor}
-use Rattle.recode.specs.Session.{Begins, View}
+use Rattle.recode.specs.Session.{IsNewSession, View}
 use Rattle.recode.specs.declared.counts.Counts.{Counts}
 use Rattle.recode.specs.declared.job.Job.{Job}
 use Rattle.recode.proofs.Calls.{BadCall, GoodCall}
@@ -140,7 +140,7 @@ taken_sizes d d1 chunk taken is = omega (arith, d.whole (chunk ++ []), d1.whole 
 pub settles : (a b w w1 l l1 : Option (List ℕ)) (d d1 : DecoderState) (e : Coding) (s s1 : Set) (c c1 : Counts) (chunk : List ℕ) (last : Bool)
     → Consumes a b chunk → c1.read ≡ c.read + length chunk → AreSound d.pending c
     → PaysFor w w1 l l1 c c1 last (λ r. owes d e s c (chunk ++ r)) (λ r. owes d1 e s1 c1 r)
-    → Advances (λ r. d.pieces (chunk ++ r)) d1.pieces e s s1 c c1 → IsSettled d1 → Settles a b w w1 l l1 d d1 e s s1 c c1
+    → Advances (λ r. d.pieces (chunk ++ r)) d1.pieces e s s1 c c1 → IsNearlyDecided d1 → ConvertsDecided a b w w1 l l1 d d1 e s s1 c c1
 settles a b w w1 l l1 d d1 e s s1 c c1 chunk last read_in counted sound pays p settled =
     let place = c.read - d.pending in
     let place1 = c1.read - d1.pending in
@@ -159,7 +159,7 @@ settles a b w w1 l l1 d d1 e s s1 c c1 chunk last read_in counted sound pays p s
     }
 
 -- A session that has read nothing, and one that steps on.
-pub stands_first : (r w l : Option (List ℕ)) (j : Job) (v : View) → Begins v j → StandsAt r r w w l l j v [] []
+pub stands_first : (r w l : Option (List ℕ)) (j : Job) (v : View) → IsNewSession v j → StandsAt r r w w l l j v [] []
 stands_first r w l j v b = record {
   coding = b.coding;
   read = b.read;
@@ -200,7 +200,7 @@ stands_on r r1 r2 w w1 w2 l l1 l2 j v v1 x ps k p =
     }
 
 -- Of two fronts of one list one is a front of the other.
-fronts : (a b c d : List Piece) → a ++ b ≡ c ++ d → IsFront c a ⊎ ((p : Piece) × (more : List Piece) × (c ≡ a ++ (p ∷ more)) × (b ≡ p ∷ (more ++ d)))
+fronts : (a b c d : List Piece) → a ++ b ≡ c ++ d → IsPrefix c a ⊎ ((p : Piece) × (more : List Piece) × (c ≡ a ++ (p ∷ more)) × (b ≡ p ∷ (more ++ d)))
 fronts [] b [] d e = inl ([], refl)
 fronts [] b (p ∷ c) d e = inr (p, c, refl, e)
 fronts (q ∷ a) b [] d e = inl (q ∷ a, refl)
@@ -226,7 +226,7 @@ same_start (o ∷ a) p q c d e =
     let tails : a ++ (p ∷ c) ≡ a ++ (q ∷ d) = cc in
     same_start a p q c d tails
 
-none_more : (d : DecoderState) (a qs : List Piece) → IsSettled d → ((y : List ℕ) → (rest : List Piece) × (a ++ d.pieces y ≡ qs ++ rest)) → IsFront qs a
+none_more : (d : DecoderState) (a qs : List Piece) → IsNearlyDecided d → ((y : List ℕ) → (rest : List Piece) × (a ++ d.pieces y ≡ qs ++ rest)) → IsPrefix qs a
 none_more d a qs settled h =
     let h0 = h [] in
     elim (fronts a (d.pieces []) qs h0.0 h0.1) [
@@ -246,11 +246,11 @@ none_more d a qs settled h =
     ]
 
 pub longest : (r r1 w w1 l l1 : Option (List ℕ)) (j : Job) (v : View) (x : List ℕ) (ps qs : List Piece)
-    → StandsAt r r1 w w1 l l1 j v x ps → IsSettled v.decoder → IsDecided (input_pieces j) x qs → IsFront qs ps
+    → StandsAt r r1 w w1 l l1 j v x ps → IsNearlyDecided v.decoder → IsDecided (input_pieces j) x qs → IsPrefix qs ps
 longest r r1 w w1 l l1 j v x ps qs k settled h = none_more v.decoder ps qs settled (λ y. let f = h y in (f.0, sym (k.pieces y) ∙ f.1))
 
 pub soon : (r r1 w w1 l l1 : Option (List ℕ)) (j : Job) (v : View) (x y : List ℕ) (ps qs more : List Piece)
-    → StandsAt r r1 w w1 l l1 j v x ps → IsSettled v.decoder → input_pieces j (x ++ y) ≡ qs ++ more → sizes qs + 3 ≤ length x → IsFront qs ps
+    → StandsAt r r1 w w1 l l1 j v x ps → IsNearlyDecided v.decoder → input_pieces j (x ++ y) ≡ qs ++ more → sizes qs + 3 ≤ length x → IsPrefix qs ps
 soon r r1 w w1 l l1 j v x y ps qs more k settled is early =
     elim (fronts ps (v.decoder.pieces y) qs more (sym (k.pieces y) ∙ is)) [
       | inl f ↦ f
@@ -263,6 +263,6 @@ soon r r1 w w1 l l1 j v x y ps qs more k settled is early =
     ]
 
 -- A call that read all leaves what is pending settled.
-pub settled_of : (d : DecoderState) (last : Bool) → ((d.pending ≡ 0) × (d.pieces [] ≡ [])) ⊎ ((last ≡ false) × Waits d.pieces d.pending) → IsSettled d
+pub settled_of : (d : DecoderState) (last : Bool) → ((d.pending ≡ 0) × (d.pieces [] ≡ [])) ⊎ ((last ≡ false) × Waits d.pieces d.pending) → IsNearlyDecided d
 settled_of d last (inl h) = inl h
 settled_of d last (inr h) = inr h.1

@@ -4,8 +4,8 @@ use Rattle.std.specs.Prelude.{if◌then◌else◌}
 use Rattle.std.specs.Bool.{MatchBool}
 use Rattle.std.proofs.lemmas.Bool.{cases_eq}
 use Rattle.encoding_tables.specs.IndexLists.{IndexLists, flat_of, has}
-use Rattle.encoding_tables.specs.Kinds.{is_ranges, number, size_of}
-use Rattle.encoding_tables.specs.KindsLaws.{number-same}
+use Rattle.encoding_tables.specs.Kinds.{is_ranges, number, index_size}
+use Rattle.encoding_tables.specs.laws.Kinds.{number-same}
 use Rattle.encoding_tables.specs.declared.index_kind.IndexKind.{IndexKind}
 use Rattle.encoding_front.specs.Encodings.{AreThere}
 use Rattle.encoding_index.specs.IndexText.{text_list, text_rows}
@@ -18,7 +18,7 @@ some_there true rows flat r f h = ap is_some h
 some_there false rows flat r f h = ap is_some h
 
 pub loaded_there : (new : IndexLists) (kind : IndexKind) (text : List ℕ) → Loads new kind text → has new kind ≡ true
-loaded_there new kind text h = some_there (is_ranges kind) new.rows (flat_of new kind) (text_rows text) (text_list (size_of kind) text) h
+loaded_there new kind text h = some_there (is_ranges kind) new.rows (flat_of new kind) (text_rows text) (text_list (index_size kind) text) h
 
 rows_there : (b : Bool) (rows : Option (List (ℕ × ℕ))) (flat : Option (List ℕ)) (r : List (ℕ × ℕ)) (f : List ℕ)
     → MatchBool b (rows ≡ Some r) (flat ≡ Some f) → b ≡ true → is_some rows ≡ true
@@ -36,7 +36,7 @@ pub load_keeps : (old new : IndexLists) (kind : IndexKind) (text : List ℕ) →
 load_keeps old new kind text loads keeps k was = elim (cases_eq (number k) (number kind)) [
   | inl same ↦ rw (number-same k kind same) (loaded_there new kind text loads)
   | inr apart ↦ kept_where (is_ranges k) (is_ranges kind) old.rows new.rows (flat_of old k) (flat_of new k) keeps.1
-      (rows_there (is_ranges kind) new.rows (flat_of new kind) (text_rows text) (text_list (size_of kind) text) loads)
+      (rows_there (is_ranges kind) new.rows (flat_of new kind) (text_rows text) (text_list (index_size kind) text) loads)
       (keeps.0 k (λ e. apart (ap number e))) was
 ]
 

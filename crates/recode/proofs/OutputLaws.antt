@@ -6,12 +6,12 @@ use Rattle.std.proofs.lemmas.Bool.{cases_lt, false≢true}
 use Rattle.std.proofs.lemmas.Str.{chars-encodes}
 use Rattle.encoding_mem.specs.Piece.{text, AreGood, bad_count}
 use Rattle.encoding_mem.specs.Coding.{output, lost_count}
-use Rattle.encoding_mem.specs.EncodingLaws.{utf8_lost_count}
-use Rattle.encoding_mem.specs.ReadBackLaws.{all_in_utf8, none_lost, all_mapped}
+use Rattle.encoding_mem.specs.laws.Encoding.{utf8_lost_count}
+use Rattle.encoding_mem.specs.laws.ReadBack.{all_in_utf8, none_lost, all_mapped}
 use Rattle.encoding_mem.specs.Utf8Coding.{utf8_coding}
 use Rattle.encoding_mem.specs.declared.form.Set.TheVariants.{Ascii}
 use Rattle.encoding_front.specs.Encodings.{IsUtf8Encoding, KeepsCharacters, coding_of, coding_of_scheme, output_encoding_of}
-use Rattle.encoding_front.specs.InputLaws.{marked_scalars, recoded_at_once}
+use Rattle.encoding_front.specs.laws.Input.{marked_scalars, recoded_at_once}
 use Rattle.encoding_front.specs.Marks.{marked_pieces, marked_text}
 use Rattle.recode.specs.Job.{IsValidJob, Faithful, input_pieces, input_text, output_pieces, target_of, output_of, log_of, trace}
 use Rattle.recode.specs.Payment.{lost_lines}

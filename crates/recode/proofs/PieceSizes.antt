@@ -1,8 +1,8 @@
 -- The pieces of an input, joined, are the input.
 use Rattle.std.proofs.Common.{◌≡◌, ℕ, ◌+◌, ◌*◌, ◌≤◌, List, [], ◌∷◌, ◌++◌, map, length, take, drop, refl, ◌∙◌, ap, arith, length-drop, length-take, take-append-drop}
 use Rattle.std.specs.List.{concat}
-use Rattle.encoding_mem.specs.Piece.{Piece, size_of, sizes, ArePieces}
-use Rattle.encoding_front.specs.InputLaws.{marked_are_pieces, marked_few, marked_whole, short_recoded}
+use Rattle.encoding_mem.specs.Piece.{Piece, piece_len, sizes, ArePieces}
+use Rattle.encoding_front.specs.laws.Input.{marked_are_pieces, marked_few, marked_whole, short_recoded}
 use Rattle.recode.specs.Job.{IsValidJob, input_pieces, input_text, output_of}
 use Rattle.recode.specs.Slices.{slices}
 use Rattle.recode.specs.declared.job.Job.{Job}
@@ -18,8 +18,8 @@ joined : (ps : List Piece) (x : List ℕ) → sizes ps ≡ length x → concat (
 joined [] [] h = refl
 joined [] (b ∷ x) h = absurd (omega (arith, h))
 joined (p ∷ ps) x h =
-    ap (λ l. take (size_of p) x ++ l) (joined ps (drop (size_of p) x) (omega (arith, h, length-drop (size_of p) x)))
-    ∙ take-append-drop (size_of p) x
+    ap (λ l. take (piece_len p) x ++ l) (joined ps (drop (piece_len p) x) (omega (arith, h, length-drop (piece_len p) x)))
+    ∙ take-append-drop (piece_len p) x
 
 pub input_joined : (j : Job) (x : List ℕ) → IsValidJob j → concat (slices (input_pieces j x) x) ≡ x
 input_joined j x v = joined (input_pieces j x) x (input_whole j x v)
@@ -28,14 +28,14 @@ input_joined j x v = joined (input_pieces j x) x (input_whole j x v)
 same_cons : (a b : ℕ) (k l : List ℕ) → a ≡ b → k ≡ l → a ∷ k ≡ b ∷ l
 same_cons a b k l h i = cc
 
-covers : (ps : List Piece) (x : List ℕ) → sizes ps ≤ length x → map length (slices ps x) ≡ map size_of ps
+covers : (ps : List Piece) (x : List ℕ) → sizes ps ≤ length x → map length (slices ps x) ≡ map piece_len ps
 covers [] x h = refl
 covers (p ∷ ps) x h =
-    same_cons (length (take (size_of p) x)) (size_of p) (map length (slices ps (drop (size_of p) x))) (map size_of ps)
-    (omega (arith, h, length-take (size_of p) x))
-    (covers ps (drop (size_of p) x) (omega (arith, h, length-drop (size_of p) x)))
+    same_cons (length (take (piece_len p) x)) (piece_len p) (map length (slices ps (drop (piece_len p) x))) (map piece_len ps)
+    (omega (arith, h, length-take (piece_len p) x))
+    (covers ps (drop (piece_len p) x) (omega (arith, h, length-drop (piece_len p) x)))
 
-pub input_covers : (j : Job) (x : List ℕ) → IsValidJob j → map length (slices (input_pieces j x) x) ≡ map size_of (input_pieces j x)
+pub input_covers : (j : Job) (x : List ℕ) → IsValidJob j → map length (slices (input_pieces j x) x) ≡ map piece_len (input_pieces j x)
 input_covers j x v = covers (input_pieces j x) x (omega (arith, input_whole j x v))
 
 -- the lengths of the text and of the output

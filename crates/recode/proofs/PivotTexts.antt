@@ -17,7 +17,7 @@ use Rattle.encoding_mem.specs.declared.decoder_result.DecoderResult.{DecoderResu
 use Rattle.encoding_mem.specs.declared.decoder_result.DecoderResult.TheVariants.{InputEmpty, OutputFull, Malformed}
 use Rattle.encoding_mem.proofs.UnitPrefixes.{char_of, one, two, reads_text}
 use Rattle.encoding_mem.proofs.Units.{no_units}
-use Rattle.recode.specs.CodecCalls.{Ends}
+use Rattle.recode.specs.CodecCalls.{DecodeCallEndsWith}
 use Rattle.recode.specs.PivotText.{Holds}
 use Rattle.recode.specs.declared.buffers.Pivot.{Pivot}
 use Rattle.recode.specs.declared.buffers.Pivot.TheVariants.{Utf8, Utf16}
@@ -37,7 +37,7 @@ written_to before after src last read W V outcome k f =
 
 -- and how it ended, where the pivot has room
 pub ends_of : (after : DecoderState) (unread : List ℕ) (last : Bool) (new : List ℕ) (written room mark : ℕ) (outcome : DecoderResult)
-    → EndsWith after unread last (length (drop written new)) room mark outcome → room ≤ length new → Ends after unread last written outcome
+    → EndsWith after unread last (length (drop written new)) room mark outcome → room ≤ length new → DecodeCallEndsWith after unread last written outcome
 ends_of after unread last new written room mark InputEmpty e h = e
 ends_of after unread last new written room mark OutputFull e h = omega (arith, e.0, length-drop written new)
 ends_of after unread last new written room mark (Malformed a b) e h = tt

@@ -6,18 +6,18 @@ use Rattle.std.specs.Str.{all_scalars}
 use Rattle.std.proofs.lemmas.Bool.{false≢true, eqb-true}
 use Rattle.encoding_mem.specs.Piece.{Piece, good, bad, text, text_of, AreGood, IsPiece, ArePieces, bad_count}
 use Rattle.encoding_mem.specs.Coding.{AllMapped, lost_count}
-use Rattle.encoding_mem.specs.ReadBackLaws.{all_mapped, none_lost}
+use Rattle.encoding_mem.specs.laws.ReadBack.{all_mapped, none_lost}
 use Rattle.encoding_mem.specs.declared.form.Set.TheVariants.{Ascii}
 use Rattle.encoding_front.specs.Encodings.{KeepsCharacters}
-use Rattle.encoding_front.specs.EncodingsLaws.{are_pieces_of, reads_back_exactly}
+use Rattle.encoding_front.specs.laws.Encodings.{are_pieces_of, reads_back_exactly}
 use Rattle.encoding_front.specs.Marks.{pieces_from, source_of}
 use Rattle.encoding_tables.specs.IndexLists.{IndexLists, AreAcceptedTables}
 use Rattle.encoding_front.specs.declared.encoding.Encoding.{Encoding}
 use Rattle.recode_log.specs.Line.{line_bytes}
-use Rattle.recode.specs.Marked.{Marked, Wrote, IsFront, marks, outputs, lines}
+use Rattle.recode.specs.Marked.{Marked, Wrote, IsPrefix, marks, outputs, lines}
 use Rattle.recode.specs.Payment.{bad_lines, lost_lines}
 use Rattle.recode.specs.Job.{IsValidJob, Faithful, input_pieces, input_text, target_of, log_of, trace}
-use Rattle.recode.specs.Session.{View, owed, Begins, Tells, IsReport, Completes, Fails}
+use Rattle.recode.specs.Session.{View, owed, IsNewSession, Tells, IsReport, Completes, Fails}
 use Rattle.recode.specs.Step.{Finishes, Stops, PassesLimit}
 use Rattle.recode.specs.declared.fault.Fault.{Fault}
 use Rattle.recode.specs.declared.job.Job.{Job}
@@ -106,7 +106,7 @@ module _ (j : Job) (x : List ℕ) (b l : ℕ) (f : Bool) (bad_is : b ≡ bad_cou
   )
 
 -- The report.
-is_report : (j : Job) (x : List ℕ) (v w : View) (p : Report) → IsValidJob j → Begins v j → Tells w p → v.source x ≡ w.source [] → w.counts.read ≡ v.counts.read + length x
+is_report : (j : Job) (x : List ℕ) (v w : View) (p : Report) → IsValidJob j → IsNewSession v j → Tells w p → v.source x ≡ w.source [] → w.counts.read ≡ v.counts.read + length x
     → w.counts.bad ≡ v.counts.bad + bad_lines (trace j x) → w.counts.lost ≡ v.counts.lost + lost_lines (trace j x) → IsReport j x p
 is_report j x v w p valid b t same read_is bad_is lost_is =
     let e = target_of j in
@@ -122,7 +122,7 @@ is_report j x v w p valid b t same read_is bad_is lost_is =
       faithful = verdict j x p.bad p.lost p.faithful bads losts told valid;
     }
 
-pub completes : (a a' w w' l l' : Option (List ℕ)) (j : Job) (v u : View) (p : Report) → IsValidJob j → Begins v j → Finishes a a' w w' l l' v.counts u.counts j.limit (owed v) v.source u.source → Tells u p → Completes a a' w w' l l' j p
+pub completes : (a a' w w' l l' : Option (List ℕ)) (j : Job) (v u : View) (p : Report) → IsValidJob j → IsNewSession v j → Finishes a a' w w' l l' v.counts u.counts j.limit (owed v) v.source u.source → Tells u p → Completes a a' w w' l l' j p
 completes a a' w w' l l' j v u p valid b f t =
     let x : List ℕ = f.chunk in
     let paid : f.pays.paid ≡ trace j x = sym (append-nil f.pays.paid) ∙ sym f.pays.equals ∙ b.owes_trace x in
@@ -139,16 +139,16 @@ completes a a' w w' l l' j v u p valid b f t =
           (f.pays.counted.bad ∙ ap (λ t. v.counts.bad + bad_lines t) paid) (f.pays.counted.lost ∙ ap (λ t. v.counts.lost + lost_lines t) paid);
     }
 
-front_outputs : (t u : List Marked) → IsFront t u → IsFront (outputs t) (outputs u)
+front_outputs : (t u : List Marked) → IsPrefix t u → IsPrefix (outputs t) (outputs u)
 front_outputs t u f = (outputs f.0, ap outputs f.1 ∙ outputs-append t f.0)
 
-front_lines : (t u : List Marked) → IsFront t u → IsFront (lines t) (lines u)
+front_lines : (t u : List Marked) → IsPrefix t u → IsPrefix (lines t) (lines u)
 front_lines t u f = (lines f.0, ap lines f.1 ∙ lines-append t f.0)
 
-pub fails : (a a' w w' l l' : Option (List ℕ)) (j : Job) (v : View) (f : Fault) → Begins v j → Stops a a' w w' l l' v.counts j.limit (owed v) f → Fails a a' w w' l l' j f
+pub fails : (a a' w w' l l' : Option (List ℕ)) (j : Job) (v : View) (f : Fault) → IsNewSession v j → Stops a a' w w' l l' v.counts j.limit (owed v) f → Fails a a' w w' l l' j f
 fails a a' w w' l l' j v f b s =
-    let front : (r : List ℕ) → (s.ended ≡ true → r ≡ []) → IsFront s.pays.taken (marks (trace j (s.chunk ++ r))) =
-    λ r h. subst (λ t. IsFront s.pays.taken (marks t)) (b.owes_trace (s.chunk ++ r)) (s.pays.front r h) in
+    let front : (r : List ℕ) → (s.ended ≡ true → r ≡ []) → IsPrefix s.pays.taken (marks (trace j (s.chunk ++ r))) =
+    λ r h. subst (λ t. IsPrefix s.pays.taken (marks t)) (b.owes_trace (s.chunk ++ r)) (s.pays.front r h) in
     record {
       input = s.chunk;
       refused = s.refused;
@@ -162,8 +162,8 @@ fails a a' w w' l l' j v f b s =
       taken = s.pays.taken;
       wrote = s.pays.wrote;
       front = front;
-      output = λ r h. subst (IsFront (outputs s.pays.taken)) (outputs-trace (target_of j) Ascii 0 0 (input_pieces j (s.chunk ++ r))) (front_outputs _ _ (front r h));
-      logged = λ r h. subst (IsFront (lines s.pays.taken)) (lines-trace (target_of j) Ascii 0 0 (input_pieces j (s.chunk ++ r))) (front_lines _ _ (front r h));
+      output = λ r h. subst (IsPrefix (outputs s.pays.taken)) (outputs-trace (target_of j) Ascii 0 0 (input_pieces j (s.chunk ++ r))) (front_outputs _ _ (front r h));
+      logged = λ r h. subst (IsPrefix (lines s.pays.taken)) (lines-trace (target_of j) Ascii 0 0 (input_pieces j (s.chunk ++ r))) (front_lines _ _ (front r h));
     }
   where
     zero_plus : (n : ℕ) → 0 + n ≡ n

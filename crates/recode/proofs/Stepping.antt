@@ -6,7 +6,7 @@ use Rattle.encoding_mem.specs.Items.{Item}
 use Rattle.encoding_front.specs.declared.encoding.Encoding.{Encoding}
 use Rattle.recode.specs.Marked.{Wrote, marks}
 use Rattle.recode.specs.Payment.{UnderpaysFor}
-use Rattle.recode.specs.Step.{GoesOn, Finishes, Stops, PassesLimit}
+use Rattle.recode.specs.Step.{StepGoesOn, Finishes, Stops, PassesLimit}
 use Rattle.recode.specs.Fault.{of_other}
 use Rattle.recode.specs.declared.counts.Counts.{Counts}
 use Rattle.recode.specs.declared.fault.Fault.{Fault}
@@ -78,7 +78,7 @@ stops_under a b w w' l l' c limit last chunk owed f p e writing within q = recor
   pays = q;
 }
 
-pub goes_on_start : (a w l : Option (List ℕ)) (c : Counts) (limit : ℕ) (owed : List ℕ → List Item) (s : List ℕ → Encoding) → c.read ≤ limit → GoesOn a a w w l l c c limit owed owed s s
+pub goes_on_start : (a w l : Option (List ℕ)) (c : Counts) (limit : ℕ) (owed : List ℕ → List Item) (s : List ℕ → Encoding) → c.read ≤ limit → StepGoesOn a a w w l l c c limit owed owed s s
 goes_on_start a w l c limit owed s within = record {
   chunk = [];
   consumed = Consumes-nil a;
@@ -89,7 +89,7 @@ goes_on_start a w l c limit owed s within = record {
 }
 
 pub goes_on_more : (a b c w w' w'' l l' l'' : Option (List ℕ)) (x y z : Counts) (limit : ℕ) (o o' o'' : List ℕ → List Item) (s s' s'' : List ℕ → Encoding)
-    → GoesOn a b w w' l l' x y limit o o' s s' → GoesOn b c w' w'' l' l'' y z limit o' o'' s' s'' → GoesOn a c w w'' l l'' x z limit o o'' s s''
+    → StepGoesOn a b w w' l l' x y limit o o' s s' → StepGoesOn b c w' w'' l' l'' y z limit o' o'' s' s'' → StepGoesOn a c w w'' l l'' x z limit o o'' s s''
 goes_on_more a b c w w' w'' l l' l'' x y z limit o o' o'' s s' s'' p q = record {
   chunk = p.chunk ++ q.chunk;
   consumed = Consumes-trans a b c p.chunk q.chunk p.consumed q.consumed;
@@ -105,7 +105,7 @@ goes_on_more a b c w w' w'' l l' l'' x y z limit o o' o'' s s' s'' p q = record 
 }
 
 pub goes_on_finish : (a b c w w' w'' l l' l'' : Option (List ℕ)) (x y z : Counts) (limit : ℕ) (o o' : List ℕ → List Item) (s s' s'' : List ℕ → Encoding)
-    → GoesOn a b w w' l l' x y limit o o' s s' → Finishes b c w' w'' l' l'' y z limit o' s' s'' → Finishes a c w w'' l l'' x z limit o s s''
+    → StepGoesOn a b w w' l l' x y limit o o' s s' → Finishes b c w' w'' l' l'' y z limit o' s' s'' → Finishes a c w w'' l l'' x z limit o s s''
 goes_on_finish a b c w w' w'' l l' l'' x y z limit o o' s s' s'' p q = record {
   chunk = p.chunk ++ q.chunk;
   consumed = Consumes-trans a b c p.chunk q.chunk p.consumed q.consumed;
@@ -125,7 +125,7 @@ limit_on : (n m limit : ℕ) (f : Fault) → n ≡ m → PassesLimit n limit f �
 limit_on n m limit f e h = subst (λ (k : ℕ). PassesLimit k limit f) e h
 
 pub goes_on_stop : (a b c w w' w'' l l' l'' : Option (List ℕ)) (x y : Counts) (limit : ℕ) (o o' : List ℕ → List Item) (s s' : List ℕ → Encoding) (f : Fault)
-    → GoesOn a b w w' l l' x y limit o o' s s' → Stops b c w' w'' l' l'' y limit o' f → Stops a c w w'' l l'' x limit o f
+    → StepGoesOn a b w w' l l' x y limit o o' s s' → Stops b c w' w'' l' l'' y limit o' f → Stops a c w w'' l l'' x limit o f
 goes_on_stop a b c w w' w'' l l' l'' x y limit o o' s s' f p q = record {
   chunk = p.chunk ++ q.chunk;
   refused = q.refused;

@@ -3,16 +3,16 @@ use Rattle.std.proofs.Common.{◌≡◌, ℕ, ◌+◌, ◌≤◌, ◌<◌, Bool,
 use Rattle.std.proofs.lemmas.List.{length-map, length-take-le}
 use Rattle.encoding_mem.specs.Coding.{Coding}
 use Rattle.encoding_mem.specs.Items.{Item, Byte, whole_items}
-use Rattle.encoding_mem.specs.Encoding.{Encodes, reported}
+use Rattle.encoding_mem.specs.Encoding.{Encodes, reported_item}
 use Rattle.encoding_mem.specs.declared.form.Set.{Set}
 use Rattle.encoding_mem.specs.declared.encoder_result.EncoderResult.{EncoderResult}
 
 pub turn_items : (e : Coding) (last : Bool) (outcome : EncoderResult) (s : Set) (text written : List ℕ) (s' : Set) (rest : List ℕ) (i i' : ℕ)
     → Encodes e last outcome s text written s' rest → i' + length rest ≡ i + length text
-    → whole_items e last s i text ≡ map Byte written ++ (reported i' outcome ++ whole_items e last s' i' rest)
+    → whole_items e last s i text ≡ map Byte written ++ (reported_item i' outcome ++ whole_items e last s' i' rest)
 turn_items e last outcome s text written s' rest i i' k passed =
     let at : i + length k.front ≡ i' = omega (arith, ap length k.split, length-append k.front rest) in
-    let P : ℕ → Type 0 = λ n. whole_items e last s i text ≡ map Byte written ++ (reported n outcome ++ whole_items e last s' n rest) in
+    let P : ℕ → Type 0 = λ n. whole_items e last s i text ≡ map Byte written ++ (reported_item n outcome ++ whole_items e last s' n rest) in
     subst P at (k.items i)
 
 -- some bytes less are owed

@@ -4,7 +4,7 @@ use Rattle.std.proofs.lemmas.Bool.{false≢true}
 use Rattle.encoding_front.specs.declared.encoding.Encoding.{Encoding}
 use Rattle.recode.specs.Job.{trace}
 use Rattle.recode.specs.Marked.{marks}
-use Rattle.recode.specs.Runs.{WroteTheSame, AgreeButForCalls, Answers}
+use Rattle.recode.specs.Runs.{WroteTheSame, AgreeButForCalls, RunReturns}
 use Rattle.recode.specs.Session.{IsReport, IsConverted, Completes}
 use Rattle.recode.specs.declared.fault.Fault.{Fault}
 use Rattle.recode.specs.declared.fault.Fault.TheVariants.{Read, Write, Log, TooLong}
@@ -47,7 +47,7 @@ same_bytes j x w w' v' l l' m' p q a b = (a.output ∙ sym b.output, a.logged �
 
 -- A run in which no call failed.
 module _ (j : Job) (r r' w w' l l' : Option (List ℕ)) (n m k : ℕ) where
-  pub well_or_long : (answer : Result Report Fault) → Answers r r' w w' l l' n n m m k k j answer → IsOk answer ⊎ (answer ≡ Err TooLong)
+  pub well_or_long : (answer : Result Report Fault) → RunReturns r r' w w' l l' n n m m k k j answer → IsOk answer ⊎ (answer ≡ Err TooLong)
   well_or_long (Ok p) a = inl refl
   well_or_long (Err Read) a = absurd (omega (arith, a.reader_count))
   well_or_long (Err Write) a = absurd (omega (arith, a.writer_count))
@@ -56,18 +56,18 @@ module _ (j : Job) (r r' w w' l l' : Option (List ℕ)) (n m k : ℕ) where
 
 -- and whose reader tells its bytes
 module _ (j : Job) (x : List ℕ) (r w w' l l' : Option (List ℕ)) (n m k : ℕ) where
-  fits_where_well : (answer : Result Report Fault) → Answers (Some x) r w w' l l' n n m m k k j answer → IsOk answer → length x ≤ j.limit
+  fits_where_well : (answer : Result Report Fault) → RunReturns (Some x) r w w' l l' n n m m k k j answer → IsOk answer → length x ≤ j.limit
   fits_where_well (Ok p) a h = (known_completes x r w w' l l' j p a.completes).within
   fits_where_well (Err f) a h = absurd (false≢true h)
 
-  too_long_where_told : (answer : Result Report Fault) → Answers (Some x) r w w' l l' n n m m k k j answer → answer ≡ Err TooLong → j.limit < length x
+  too_long_where_told : (answer : Result Report Fault) → RunReturns (Some x) r w w' l l' n n m m k k j answer → answer ≡ Err TooLong → j.limit < length x
   too_long_where_told (Ok p) a h = absurd (cc)
   too_long_where_told (Err Read) a h = absurd (omega (arith, a.reader_count))
   too_long_where_told (Err Write) a h = absurd (omega (arith, a.writer_count))
   too_long_where_told (Err Log) a h = absurd (omega (arith, a.log_count))
   too_long_where_told (Err TooLong) a h = known_too_long x r w w' l l' j a.fails
 
-  pub well_where_it_fits : (answer : Result Report Fault) → Answers (Some x) r w w' l l' n n m m k k j answer → IsOk answer ↔ (length x ≤ j.limit)
+  pub well_where_it_fits : (answer : Result Report Fault) → RunReturns (Some x) r w w' l l' n n m m k k j answer → IsOk answer ↔ (length x ≤ j.limit)
   well_where_it_fits answer a = (
     fits_where_well answer a,
     λ h. elim (well_or_long j (Some x) r w w' l l' n m k answer a) [
@@ -76,7 +76,7 @@ module _ (j : Job) (x : List ℕ) (r w w' l l' : Option (List ℕ)) (n m k : ℕ
     ],
   )
 
-  pub told_where_too_long : (answer : Result Report Fault) → Answers (Some x) r w w' l l' n n m m k k j answer → (answer ≡ Err TooLong) ↔ (j.limit < length x)
+  pub told_where_too_long : (answer : Result Report Fault) → RunReturns (Some x) r w w' l l' n n m m k k j answer → (answer ≡ Err TooLong) ↔ (j.limit < length x)
   told_where_too_long answer a = (
     too_long_where_told answer a,
     λ h. elim (well_or_long j (Some x) r w w' l l' n m k answer a) [

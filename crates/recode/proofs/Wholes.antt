@@ -5,7 +5,7 @@ use Rattle.std.proofs.lemmas.Grind.{flat_map-append}
 use Rattle.encoding_mem.specs.Piece.{Piece, good, bad, text, bad_count}
 use Rattle.encoding_mem.specs.Coding.{Coding, open_from, whole_from, last_set, output, lost_count, unmapped_count, reference}
 use Rattle.encoding_mem.specs.Items.{Item, Byte, BadAt, LostAt, bytes_of, open_items, form_items, trace_from}
-use Rattle.encoding_mem.specs.EncodingLaws.{bytes_of-append, bytes_of-bytes, bytes_of-open_items}
+use Rattle.encoding_mem.specs.laws.Encoding.{bytes_of-append, bytes_of-bytes, bytes_of-open_items}
 use Rattle.encoding_mem.specs.declared.form.Form.{Form}
 use Rattle.encoding_mem.specs.declared.form.Form.TheVariants.{Mapped, Unmapped}
 use Rattle.encoding_mem.specs.declared.form.Set.{Set}

@@ -5,9 +5,9 @@ use Rattle.recode.specs.declared.buffers.Pivot.{Pivot}
 use Rattle.recode.specs.declared.buffers.Pivot.TheVariants.{Utf8, Utf16}
 
 -- it holds any character: 4 bytes of UTF-8, or 2 units of UTF-16
-abbrev pub IsRoomy : Pivot → Type 0
-IsRoomy (Utf8 bytes) = 4 ≤ length bytes.now
-IsRoomy (Utf16 units) = 2 ≤ length units.now
+abbrev pub HoldsAnyCharacter : Pivot → Type 0
+HoldsAnyCharacter (Utf8 bytes) = 4 ≤ length bytes.now
+HoldsAnyCharacter (Utf16 units) = 2 ≤ length units.now
 
 abbrev pub is_wide : Pivot → Bool
 is_wide (Utf8 bytes) = false
@@ -15,7 +15,7 @@ is_wide (Utf16 units) = true
 
 pub record AreEnough (b : Buffers) : Type 0 where
   pub input : 0 < length b.input.now
-  pub pivot : IsRoomy b.pivot
+  pub pivot : HoldsAnyCharacter b.pivot
   pub output : 4 ≤ length b.output.now
-  pub check : IsRoomy b.check
+  pub check : HoldsAnyCharacter b.check
   pub one_kind : is_wide b.pivot ≡ is_wide b.check

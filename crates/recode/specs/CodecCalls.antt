@@ -6,8 +6,8 @@ use Rattle.encoding_mem.specs.declared.decoder_result.DecoderResult.TheVariants.
 
 -- All is read, and no piece of what is pending is decided, after a last call nothing is pending; or the pivot is full,
 -- with something written.
-abbrev pub Ends : (after : DecoderState) (unread : List ℕ) (last : Bool) (written : ℕ) → DecoderResult → Type 0
-Ends after unread last written InputEmpty =
+abbrev pub DecodeCallEndsWith : (after : DecoderState) (unread : List ℕ) (last : Bool) (written : ℕ) → DecoderResult → Type 0
+DecodeCallEndsWith after unread last written InputEmpty =
     (unread ≡ []) × (((after.pending ≡ 0) × (after.pieces [] ≡ [])) ⊎ ((last ≡ false) × Waits after.pieces after.pending))
-Ends after unread last written OutputFull = 0 < written
-Ends after unread last written (Malformed a b) = Unit {0}
+DecodeCallEndsWith after unread last written OutputFull = 0 < written
+DecodeCallEndsWith after unread last written (Malformed a b) = Unit {0}

@@ -3,7 +3,7 @@ use Rattle.std.specs.Prelude.{◌≡◌, ◌≢◌, ℕ, ◌+◌, ◌<◌, ◌�
 use Rattle.std.specs.Io.KnownBytes.{Appends, Consumes, IsAtEnd}
 use Rattle.encoding_front.specs.Encodings.{KeepsCharacters}
 use Rattle.recode.specs.Job.{trace, output_of, log_of, Faithful}
-use Rattle.recode.specs.Marked.{Marked, Wrote, IsFront, marks, outputs, lines}
+use Rattle.recode.specs.Marked.{Marked, Wrote, IsPrefix, marks, outputs, lines}
 use Rattle.recode.specs.declared.fault.Fault.{Fault}
 use Rattle.recode.specs.declared.fault.Fault.TheVariants.{Read, Write, Log, TooLong}
 use Rattle.recode.specs.declared.job.Job.{Job}
@@ -76,4 +76,4 @@ pub record Breaks (reader reader' writer writer' log log' : Option (List ℕ)) (
   pub whole : IsTold before logs' (message_of fault) told
   pub output : Appends writer writer' (outputs taken)
   pub logged : Appends log log' (lines taken ++ take told (message_of fault))
-  pub front : (r : List ℕ) → (ended ≡ true → r ≡ []) → IsFront taken (marks (trace j (input ++ r)))
+  pub front : (r : List ℕ) → (ended ≡ true → r ≡ []) → IsPrefix taken (marks (trace j (input ++ r)))

@@ -15,8 +15,8 @@ use Rattle.recode.specs.declared.job.Job.{Job}
 
 -- Nothing is pending, or bytes whose first piece changes with at most three more, and ends at most two bytes before
 -- their end.
-abbrev pub IsSettled : DecoderState → Type 0
-IsSettled d = ((d.pending ≡ 0) × (d.pieces [] ≡ [])) ⊎ Waits d.pieces d.pending
+abbrev pub IsNearlyDecided : DecoderState → Type 0
+IsNearlyDecided d = ((d.pending ≡ 0) × (d.pieces [] ≡ [])) ⊎ Waits d.pieces d.pending
 
 -- These pieces were taken from the front of those to come, however the input goes on, and their text was encoded.
 pub record Advances (before after : List ℕ → List Piece) (e : Coding) (s s' : Set) (c c' : Counts) : Type 0 where
@@ -27,14 +27,14 @@ pub record Advances (before after : List ℕ → List Piece) (e : Coding) (s s' 
 
 -- A chunk was read. The pieces that it decides were taken, however the input goes on: what was written is their text
 -- and what was logged their lines, no more and no less, and what is pending is settled.
-pub record Settles (reader reader' writer writer' log log' : Option (List ℕ)) (d d' : DecoderState) (e : Coding) (s s' : Set) (c c' : Counts) : Type 0 where
+pub record ConvertsDecided (reader reader' writer writer' log log' : Option (List ℕ)) (d d' : DecoderState) (e : Coding) (s s' : Set) (c c' : Counts) : Type 0 where
   pub chunk : List ℕ
   pub consumed : Consumes reader reader' chunk
   pub counted : c'.read ≡ c.read + length chunk
   pub advances : Advances (λ r. d.pieces (chunk ++ r)) d'.pieces e s s' c c'
   pub output : Appends writer writer' (open_from e s (text advances.taken))
   pub logged : Appends log log' (flat_map line_bytes (log_lines e (c.read - d.pending) c.index advances.taken))
-  pub settled : IsSettled d'
+  pub settled : IsNearlyDecided d'
 
 -- A session of a job has read x, and has converted the pieces ps: those of x, however it goes on, are ps and then what
 -- is to come. The output so far is the text of ps, and the log so far their lines.
@@ -52,4 +52,4 @@ pub record StandsAt (reader reader' writer writer' log log' : Option (List ℕ))
 -- a step of this session that goes on
 pub record StepsOn (reader reader' writer writer' log log' : Option (List ℕ)) (v v' : View) : Type 0 where
   pub coding : v'.coding ≡ v.coding
-  pub settles : Settles reader reader' writer writer' log log' v.decoder v'.decoder v.coding v.set v'.set v.counts v'.counts
+  pub settles : ConvertsDecided reader reader' writer writer' log log' v.decoder v'.decoder v.coding v.set v'.set v.counts v'.counts

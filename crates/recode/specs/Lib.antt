@@ -5,7 +5,6 @@ pub mod Fault
 pub mod Owed
 pub mod Step
 pub mod Job
-pub mod JobRows
 pub mod Buffers
 pub mod PivotText
 pub mod CodecCalls
@@ -16,3 +15,4 @@ pub mod Runs
 pub mod Latency
 pub mod Conversion
 pub mod Program
+pub mod examples

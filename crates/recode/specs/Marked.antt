@@ -32,8 +32,8 @@ abbrev pub marks : List Item → List Marked
 marks items = flat_map marks_of items
 
 -- t stands at the front of u
-abbrev pub IsFront : {X : Type 0} → List X → List X → Type 0
-IsFront {X} t u = (rest : List X) × (u ≡ t ++ rest)
+abbrev pub IsPrefix : {X : Type 0} → List X → List X → Type 0
+IsPrefix {X} t u = (rest : List X) × (u ≡ t ++ rest)
 
 -- the writer's known bytes grew by the output bytes of t, and the log's by its log bytes
 pub record Wrote (writer writer' log log' : Option (List ℕ)) (t : List Marked) : Type 0 where

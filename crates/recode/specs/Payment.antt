@@ -1,7 +1,7 @@
 -- How what is owed is paid: what a conversion has still to write for the input to come is a list of items.
 use Rattle.std.specs.Prelude.{◌≡◌, ℕ, ◌+◌, List, [], ◌∷◌, ◌++◌, Option, Bool, true}
 use Rattle.encoding_mem.specs.Items.{Item, Byte, BadAt, LostAt}
-use Rattle.recode.specs.Marked.{Marked, Wrote, IsFront, marks}
+use Rattle.recode.specs.Marked.{Marked, Wrote, IsPrefix, marks}
 use Rattle.recode.specs.declared.counts.Counts.{Counts}
 
 -- how many lines of each kind the items have
@@ -33,7 +33,7 @@ pub record Pays (writer writer' log log' : Option (List ℕ)) (c c' : Counts) (o
 pub record Underpays (writer writer' log log' : Option (List ℕ)) (owed : List Item) : Type 0 where
   pub taken : List Marked
   pub wrote : Wrote writer writer' log log' taken
-  pub front : IsFront taken (marks owed)
+  pub front : IsPrefix taken (marks owed)
 
 -- The same for every continuation of the bytes that were handed in, which is the empty one after the last.
 pub record PaysFor (writer writer' log log' : Option (List ℕ)) (c c' : Counts) (last : Bool) (owed owed' : List ℕ → List Item) : Type 0 where
@@ -45,4 +45,4 @@ pub record PaysFor (writer writer' log log' : Option (List ℕ)) (c c' : Counts)
 pub record UnderpaysFor (writer writer' log log' : Option (List ℕ)) (last : Bool) (owed : List ℕ → List Item) : Type 0 where
   pub taken : List Marked
   pub wrote : Wrote writer writer' log log' taken
-  pub front : (r : List ℕ) → (last ≡ true → r ≡ []) → IsFront taken (marks (owed r))
+  pub front : (r : List ℕ) → (last ≡ true → r ≡ []) → IsPrefix taken (marks (owed r))

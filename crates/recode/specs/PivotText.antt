@@ -9,9 +9,9 @@ use Rattle.recode.specs.declared.pivot_text.PivotText.{PivotText}
 use Rattle.recode.specs.declared.pivot_text.PivotText.TheVariants.{Utf8, Utf16}
 
 -- its characters
-abbrev pub text_of : PivotText → List ℕ
-text_of (Utf8 text) = chars text.now
-text_of (Utf16 units) = utf16_lossy_chars units.now
+abbrev pub pivot_chars : PivotText → List ℕ
+pivot_chars (Utf8 text) = chars text.now
+pivot_chars (Utf16 units) = utf16_lossy_chars units.now
 
 -- the first n elements of a pivot are a text in the pivot's form
 abbrev pub Holds : Pivot → ℕ → List ℕ → Type 0

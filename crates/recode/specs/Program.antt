@@ -7,7 +7,7 @@ use Rattle.encoding_tables.specs.IndexLists.{IndexLists, has}
 use Rattle.encoding_tables.specs.declared.index_kind.IndexKind.{IndexKind}
 use Rattle.recode_log.specs.Counted.{inner_of, failures_of}
 use Rattle.recode_log.specs.declared.counted.Counted.{Counted}
-use Rattle.recode_words.specs.Request.{Answers, HasMeaninglessValue, IsRefusedByClap}
+use Rattle.recode_words.specs.Request.{AsksFor, HasMeaninglessValue, IsRefusedByClap}
 use Rattle.recode_words.specs.declared.request.Request.{Request}
 use Rattle.recode_words.specs.declared.request.Request.TheVariants.{Run, Help, Version, List as Listing}
 use Rattle.recode_words.specs.declared.words.MarkWord.{MarkWord}
@@ -17,16 +17,16 @@ use Rattle.recode.specs.Job.{IsValidJob}
 use Rattle.recode.specs.declared.job.Job.{Job}
 
 -- what the word for a mark mode says
-abbrev pub mark_of : MarkWord → Mark
-mark_of MarkWord.Sniff = Mark.Sniff
-mark_of MarkWord.Remove = Mark.Remove
-mark_of MarkWord.Keep = Mark.Keep
+abbrev pub mark_of_word : MarkWord → Mark
+mark_of_word MarkWord.Sniff = Mark.Sniff
+mark_of_word MarkWord.Remove = Mark.Remove
+mark_of_word MarkWord.Keep = Mark.Keep
 
 -- the job of the words: its encodings have their labels, and it can be run
 pub record IsJobOf (w : Words) (j : Job) : Type 0 where
   pub from : HasLabel j.from w.from.now
   pub to : HasLabel j.to w.to.now
-  pub mark : j.mark ≡ mark_of w.mark
+  pub mark : j.mark ≡ mark_of_word w.mark
   pub limit : j.limit ≡ w.limit
   pub valid : IsValidJob j
 
@@ -40,7 +40,7 @@ HasUnknownLabel w = IsUnknown w.from.now ⊎ IsUnknown w.to.now
 -- clap takes the words, but a label in them is unknown
 pub record NamesUnknown (words : List (List ℕ)) : Type 0 where
   pub w : Words
-  pub meant : Answers words (Run w)
+  pub meant : AsksFor words (Run w)
   pub unknown : HasUnknownLabel w
 
 -- the words ask for a text of the program's own
@@ -52,7 +52,7 @@ IsText Listing = Unit {0}
 
 pub record AskForText (words : List (List ℕ)) : Type 0 where
   pub request : Request
-  pub asked : Answers words request
+  pub asked : AsksFor words request
   pub text : IsText request
 
 -- each index that was there is there
@@ -97,7 +97,7 @@ pub record TellsText {R L : Type 0} (reader reader' : Counted R) (log log' : Cou
 
 pub record RunsJob {R W L : Type 0} (left : R → Option (List ℕ)) (written : W → Option (List ℕ)) (logged : L → Option (List ℕ)) (reader reader' : Counted R) (writer writer' : Counted W) (log log' : Counted L) (words : List (List ℕ)) (status : ℕ) : Type 0 where
   pub w : Words
-  pub meant : Answers words (Run w)
+  pub meant : AsksFor words (Run w)
   pub j : Job
   pub job : IsJobOf w j
   pub converted : IsConversion left written logged reader reader' writer writer' log log' j status

@@ -18,7 +18,7 @@ abbrev pub AgreeButForCalls : Report → Report → Type 0
 AgreeButForCalls p q = q ≡ record p { calls = q.calls }
 
 -- what `run` ensures of its answer: each count of failed calls rises by the fault of its device
-pub record Answers (reader reader' writer writer' log log' : Option (List ℕ)) (reads reads' writes writes' logs logs' : ℕ) (j : Job) (answer : Result Report Fault) : Type 0 where
+pub record RunReturns (reader reader' writer writer' log log' : Option (List ℕ)) (reads reads' writes writes' logs logs' : ℕ) (j : Job) (answer : Result Report Fault) : Type 0 where
   pub completes : IfOk answer (Completes reader reader' writer writer' log log' j)
   pub fails : IfErr answer (Fails reader reader' writer writer' log log' j)
   pub reader_count : reads' ≡ reads + of_reader answer

@@ -10,7 +10,7 @@ use Rattle.encoding_mem.specs.declared.form.Set.TheVariants.{Ascii}
 use Rattle.encoding_front.specs.Encodings.{KeepsCharacters}
 use Rattle.encoding_front.specs.declared.encoding.Encoding.{Encoding}
 use Rattle.recode.specs.Job.{trace, target_of, output_of, log_of, source_in, input_pieces, input_text, Faithful}
-use Rattle.recode.specs.Marked.{Marked, Wrote, IsFront, marks, outputs, lines}
+use Rattle.recode.specs.Marked.{Marked, Wrote, IsPrefix, marks, outputs, lines}
 use Rattle.recode.specs.Owed.{owes}
 use Rattle.recode.specs.Step.{PassesLimit}
 use Rattle.recode.specs.declared.counts.Counts.{Counts}
@@ -46,7 +46,7 @@ phase_after (Ok Progress.Done) = Done
 phase_after (Err f) = Stopped
 
 -- a session that has read nothing
-pub record Begins (v : View) (j : Job) : Type 0 where
+pub record IsNewSession (v : View) (j : Job) : Type 0 where
   pub job : v.job ≡ j
   pub open_ : v.phase ≡ Open
   pub source : (x : List ℕ) → v.source x ≡ source_in j x
@@ -103,9 +103,9 @@ pub record Fails (reader reader' writer writer' log log' : Option (List ℕ)) (j
   pub limited : PassesLimit (length (input ++ refused)) j.limit f
   pub taken : List Marked
   pub wrote : Wrote writer writer' log log' taken
-  pub front : (r : List ℕ) → (ended ≡ true → r ≡ []) → IsFront taken (marks (trace j (input ++ r)))
-  pub output : (r : List ℕ) → (ended ≡ true → r ≡ []) → IsFront (outputs taken) (output_of j (input ++ r))
-  pub logged : (r : List ℕ) → (ended ≡ true → r ≡ []) → IsFront (lines taken) (log_of j (input ++ r))
+  pub front : (r : List ℕ) → (ended ≡ true → r ≡ []) → IsPrefix taken (marks (trace j (input ++ r)))
+  pub output : (r : List ℕ) → (ended ≡ true → r ≡ []) → IsPrefix (outputs taken) (output_of j (input ++ r))
+  pub logged : (r : List ℕ) → (ended ≡ true → r ≡ []) → IsPrefix (lines taken) (log_of j (input ++ r))
 
 -- The whole input x was converted and reported.
 pub record IsConverted (writer writer' log log' : Option (List ℕ)) (j : Job) (x : List ℕ) (p : Report) : Type 0 where

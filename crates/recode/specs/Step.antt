@@ -3,7 +3,7 @@ use Rattle.std.specs.Prelude.{◌≡◌, ◌≢◌, ℕ, ◌+◌, ◌<◌, ◌�
 use Rattle.std.specs.Io.KnownBytes.{Consumes, IsAtEnd}
 use Rattle.encoding_mem.specs.Items.{Item}
 use Rattle.encoding_front.specs.declared.encoding.Encoding.{Encoding}
-use Rattle.recode.specs.Marked.{Marked, Wrote, IsFront, marks}
+use Rattle.recode.specs.Marked.{Marked, Wrote, IsPrefix, marks}
 use Rattle.recode.specs.Payment.{Pays, PaysFor, UnderpaysFor}
 use Rattle.recode.specs.declared.counts.Counts.{Counts}
 use Rattle.recode.specs.declared.fault.Fault.{Fault}
@@ -11,7 +11,7 @@ use Rattle.recode.specs.declared.fault.Fault.TheVariants.{Read, Write, Log, TooL
 
 -- Some bytes were read, and what was owed for them and any bytes to come is what was written, then what is owed now;
 -- the encoding that the input turns out to be in stays the same.
-pub record GoesOn (reader reader' writer writer' log log' : Option (List ℕ)) (c c' : Counts) (limit : ℕ) (owed owed' : List ℕ → List Item) (encoding encoding' : List ℕ → Encoding) : Type 0 where
+pub record StepGoesOn (reader reader' writer writer' log log' : Option (List ℕ)) (c c' : Counts) (limit : ℕ) (owed owed' : List ℕ → List Item) (encoding encoding' : List ℕ → Encoding) : Type 0 where
   pub chunk : List ℕ
   pub consumed : Consumes reader reader' chunk
   pub counted : c'.read ≡ c.read + length chunk
@@ -54,4 +54,4 @@ pub record Stops (reader reader' writer writer' log log' : Option (List ℕ)) (c
 pub record WroteFront (writer writer' log log' : Option (List ℕ)) (owed : List Item) : Type 0 where
   pub taken : List Marked
   pub wrote : Wrote writer writer' log log' taken
-  pub front : IsFront taken (marks owed)
+  pub front : IsPrefix taken (marks owed)

@@ -20,11 +20,11 @@ pub struct Buffers<'b> {
 
 impl<'b> Pivot<'b> {
     ghost use Rattle.std.specs.Prelude.{IsTrue, ◌≡◌, ◌↔◌};
-    ghost use Rattle.recode.specs.Buffers.{IsRoomy, is_wide};
+    ghost use Rattle.recode.specs.Buffers.{HoldsAnyCharacter, is_wide};
 
     // Whether it can hold any character.
     fn is_roomy(&self) -> bool
-        ensures { IsTrue result ↔ IsRoomy self.now }
+        ensures { IsTrue result ↔ HoldsAnyCharacter self.now }
     {
         match self {
             Pivot::Utf8(bytes) => bytes.len() >= 4,

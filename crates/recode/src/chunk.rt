@@ -3,8 +3,8 @@ ghost use Rattle.recode_log.specs.Counted.{inner_of, failures_of};
 ghost use Rattle.encoding_mem.specs.Coding.{Coding};
 ghost use Rattle.encoding_mem.specs.Items.{Item, BadAt, open_items};
 ghost use Rattle.recode.specs.Payment.{Pays, Underpays, PaysFor, UnderpaysFor};
-ghost use Rattle.recode.specs.Buffers.{IsRoomy, is_wide};
-ghost use Rattle.recode.specs.Latency.{Advances, IsSettled};
+ghost use Rattle.recode.specs.Buffers.{HoldsAnyCharacter, is_wide};
+ghost use Rattle.recode.specs.Latency.{Advances, IsNearlyDecided};
 ghost use Rattle.recode.specs.Owed.{owes, AreSound};
 ghost use Rattle.recode.specs.Fault.{of_reader, of_writer, of_log, of_other};
 
@@ -93,7 +93,7 @@ pub fn decode_once<W: Write, L: Write, D: StreamDecoder, E: RawEncoder>(
     out: &mut [u8],
     last: bool,
 ) -> Result<DecodeTurn, Fault>
-    requires pivot { IsRoomy pivot.old }
+    requires pivot { HoldsAnyCharacter pivot.old }
     requires out { 4 ≤ length out.old }
     requires open_ { (D.view decoder.old).finished ≡ false }
     requires sound { AreSound (D.view decoder.old).state.pending counts }
@@ -115,7 +115,7 @@ pub fn decode_once<W: Write, L: Write, D: StreamDecoder, E: RawEncoder>(
     ensures end { IfOk result (λ p. p.is_done ≡ true → last ≡ true → owes (D.view decoder.new).state (E.coding encoder.old) (E.set encoder.new) p.counts [] ≡ []) }
     ensures advances { IfOk result (λ p. last ≡ false → Advances (λ r. (D.view decoder.old).state.pieces (src.now ++ r)) (λ r. (D.view decoder.new).state.pieces (drop p.read src.now ++ r))
         (E.coding encoder.old) (E.set encoder.old) (E.set encoder.new) counts p.counts) }
-    ensures settled { IfOk result (λ p. p.is_done ≡ true → IsSettled (D.view decoder.new).state) }
+    ensures settled { IfOk result (λ p. p.is_done ≡ true → IsNearlyDecided (D.view decoder.new).state) }
     ensures more { IfOk result (λ p. p.is_done ≡ false → length ((D.view decoder.new).state.pieces (drop p.read src.now)) < length ((D.view decoder.old).state.pieces src.now)) }
     ensures err { OnErr result (UnderpaysFor (W.contents (inner_of writer.old)) (W.contents (inner_of writer.new)) (L.contents (inner_of log.old)) (L.contents (inner_of log.new)) last
         (λ r. owes (D.view decoder.old).state (E.coding encoder.old) (E.set encoder.old) counts (src.now ++ r))) }
@@ -123,7 +123,7 @@ pub fn decode_once<W: Write, L: Write, D: StreamDecoder, E: RawEncoder>(
     ensures reader_count { of_reader result ≡ 0 }
     ensures only_writers { of_other result ≡ 0 }
     ensures log_count { failures_of log.new ≡ failures_of log.old + of_log result }
-    ensures roomy { IsRoomy pivot.new }
+    ensures roomy { HoldsAnyCharacter pivot.new }
     ensures kind { is_wide pivot.new ≡ is_wide pivot.old }
 {
     let call = decode_some(decoder, counts.calls, src, pivot, last);
@@ -175,7 +175,7 @@ pub fn convert_chunk<W: Write, L: Write, D: StreamDecoder, E: RawEncoder>(
     out: &mut [u8],
     last: bool,
 ) -> Result<Counts, Fault>
-    requires pivot { IsRoomy pivot.old }
+    requires pivot { HoldsAnyCharacter pivot.old }
     requires out { 4 ≤ length out.old }
     requires open_ { (D.view decoder.old).finished ≡ false }
     requires sound { AreSound (D.view decoder.old).state.pending counts }
@@ -194,14 +194,14 @@ pub fn convert_chunk<W: Write, L: Write, D: StreamDecoder, E: RawEncoder>(
     ensures end { IfOk result (λ c. last ≡ true → owes (D.view decoder.new).state (E.coding encoder.old) (E.set encoder.new) c [] ≡ []) }
     ensures advances { IfOk result (λ c. last ≡ false → Advances (λ r. (D.view decoder.old).state.pieces (src.now ++ r)) (D.view decoder.new).state.pieces
         (E.coding encoder.old) (E.set encoder.old) (E.set encoder.new) counts c) }
-    ensures settled { OnOk result (IsSettled (D.view decoder.new).state) }
+    ensures settled { OnOk result (IsNearlyDecided (D.view decoder.new).state) }
     ensures err { OnErr result (UnderpaysFor (W.contents (inner_of writer.old)) (W.contents (inner_of writer.new)) (L.contents (inner_of log.old)) (L.contents (inner_of log.new)) last
         (λ r. owes (D.view decoder.old).state (E.coding encoder.old) (E.set encoder.old) counts (src.now ++ r))) }
     ensures writer_count { failures_of writer.new ≡ failures_of writer.old + of_writer result }
     ensures reader_count { of_reader result ≡ 0 }
     ensures only_writers { of_other result ≡ 0 }
     ensures log_count { failures_of log.new ≡ failures_of log.old + of_log result }
-    ensures roomy { IsRoomy pivot.new }
+    ensures roomy { HoldsAnyCharacter pivot.new }
     ensures kind { is_wide pivot.new ≡ is_wide pivot.old }
 {
     let mut counts = counts;

@@ -3,11 +3,11 @@
 
 ghost use Rattle.std.specs.Prelude.{◌≡◌, ℕ, ◌+◌, ◌-◌, ◌≤◌, ◌++◌, List, [], false, IsTrue, take, drop, length};
 ghost use Rattle.encoding_mem.specs.Decoding.{StateLaw};
-ghost use Rattle.encoding_mem.specs.Encoding.{Encodes, Answers};
+ghost use Rattle.encoding_mem.specs.Encoding.{Encodes, EncodeEndsWith};
 ghost use Rattle.encoding_front.specs.Stream.{finishes};
-ghost use Rattle.recode.specs.Buffers.{IsRoomy, is_wide};
-ghost use Rattle.recode.specs.CodecCalls.{Ends};
-ghost use Rattle.recode.specs.PivotText.{Holds, text_of};
+ghost use Rattle.recode.specs.Buffers.{HoldsAnyCharacter, is_wide};
+ghost use Rattle.recode.specs.CodecCalls.{DecodeCallEndsWith};
+ghost use Rattle.recode.specs.PivotText.{Holds, pivot_chars};
 
 use crate::buffers::Pivot;
 use crate::characters::count_characters;
@@ -34,13 +34,13 @@ fn decode_into<D: StreamDecoder>(
     pivot: &mut Pivot<'_>,
     last: bool,
 ) -> (DecoderResult, usize, usize)
-    requires pivot { IsRoomy pivot.old }
+    requires pivot { HoldsAnyCharacter pivot.old }
     requires open_ { (D.view decoder.old).finished ≡ false }
     ensures law { StateLaw (D.view decoder.old).state (D.view decoder.new).state src.now last result.1 (Holds pivot.new result.2) result.0 }
-    ensures ends { Ends (D.view decoder.new).state (drop result.1 src.now) last result.2 result.0 }
+    ensures ends { DecodeCallEndsWith (D.view decoder.new).state (drop result.1 src.now) last result.2 result.0 }
     ensures source { (r : List ℕ) → (IsTrue last → r ≡ []) → (D.view decoder.old).source (src.now ++ r) ≡ (D.view decoder.new).source (drop result.1 src.now ++ r) }
     ensures finished { (D.view decoder.new).finished ≡ finishes last result.0 }
-    ensures roomy { IsRoomy pivot.new }
+    ensures roomy { HoldsAnyCharacter pivot.new }
     ensures kind { is_wide pivot.new ≡ is_wide pivot.old }
 {
     match pivot {
@@ -57,13 +57,13 @@ pub fn decode_some<D: StreamDecoder>(
     pivot: &mut Pivot<'_>,
     last: bool,
 ) -> DecodeCall
-    requires pivot { IsRoomy pivot.old }
+    requires pivot { HoldsAnyCharacter pivot.old }
     requires open_ { (D.view decoder.old).finished ≡ false }
     ensures law { StateLaw (D.view decoder.old).state (D.view decoder.new).state src.now last result.read (Holds pivot.new result.written) result.answer }
-    ensures ends { Ends (D.view decoder.new).state (drop result.read src.now) last result.written result.answer }
+    ensures ends { DecodeCallEndsWith (D.view decoder.new).state (drop result.read src.now) last result.written result.answer }
     ensures source { (r : List ℕ) → (IsTrue last → r ≡ []) → (D.view decoder.old).source (src.now ++ r) ≡ (D.view decoder.new).source (drop result.read src.now ++ r) }
     ensures finished { (D.view decoder.new).finished ≡ finishes last result.answer }
-    ensures roomy { IsRoomy pivot.new }
+    ensures roomy { HoldsAnyCharacter pivot.new }
     ensures kind { is_wide pivot.new ≡ is_wide pivot.old }
 {
     let (answer, read, written) = decode_into(decoder, src, pivot, last);
@@ -96,11 +96,11 @@ fn encode_from<'p, E: RawEncoder>(
     out: &mut [u8],
     last: bool,
 ) -> (EncoderResult, usize, usize, PivotText<'p>)
-    ensures passed { result.1 + length (text_of result.3) ≡ length (text_of text.entry) }
+    ensures passed { result.1 + length (pivot_chars result.3) ≡ length (pivot_chars text.entry) }
     ensures room { result.2 ≤ length out.new }
     ensures target { E.coding encoder.new ≡ E.coding encoder.old }
-    ensures law { Encodes (E.coding encoder.old) last result.0 (E.set encoder.old) (text_of text.entry) (take result.2 out.new) (E.set encoder.new) (text_of result.3) }
-    ensures answers { Answers (E.need encoder.old) last result.0 (E.set encoder.new) (text_of result.3) (length out.new - result.2) }
+    ensures law { Encodes (E.coding encoder.old) last result.0 (E.set encoder.old) (pivot_chars text.entry) (take result.2 out.new) (E.set encoder.new) (pivot_chars result.3) }
+    ensures answers { EncodeEndsWith (E.need encoder.old) last result.0 (E.set encoder.new) (pivot_chars result.3) (length out.new - result.2) }
 {
     match text {
         PivotText::Utf8(text) => {
@@ -129,11 +129,11 @@ pub fn encode_some<'p, E: RawEncoder>(
     out: &mut [u8],
     last: bool,
 ) -> EncodeCall<'p>
-    ensures passed { result.characters + length (text_of result.rest) ≡ length (text_of text.entry) }
+    ensures passed { result.characters + length (pivot_chars result.rest) ≡ length (pivot_chars text.entry) }
     ensures room { result.written ≤ length out.new }
     ensures target { E.coding encoder.new ≡ E.coding encoder.old }
-    ensures law { Encodes (E.coding encoder.old) last result.answer (E.set encoder.old) (text_of text.entry) (take result.written out.new) (E.set encoder.new) (text_of result.rest) }
-    ensures answers { Answers (E.need encoder.old) last result.answer (E.set encoder.new) (text_of result.rest) (length out.new - result.written) }
+    ensures law { Encodes (E.coding encoder.old) last result.answer (E.set encoder.old) (pivot_chars text.entry) (take result.written out.new) (E.set encoder.new) (pivot_chars result.rest) }
+    ensures answers { EncodeEndsWith (E.need encoder.old) last result.answer (E.set encoder.new) (pivot_chars result.rest) (length out.new - result.written) }
 {
     let (answer, characters, written, rest) = encode_from(encoder, text, out, last);
     EncodeCall {

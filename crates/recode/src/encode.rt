@@ -4,7 +4,7 @@ ghost use Rattle.encoding_mem.specs.Coding.{last_set, reference};
 ghost use Rattle.encoding_mem.specs.Items.{Item, LostAt, Byte, whole_items};
 ghost use Rattle.encoding_mem.specs.declared.form.Set.TheVariants.{Ascii};
 ghost use Rattle.recode.specs.Payment.{Pays, Underpays};
-ghost use Rattle.recode.specs.PivotText.{text_of};
+ghost use Rattle.recode.specs.PivotText.{pivot_chars};
 ghost use Rattle.recode.specs.Fault.{of_reader, of_writer, of_log, of_other};
 
 use crate::codec_calls::encode_some;
@@ -69,25 +69,25 @@ pub fn encode_once<'p, W: Write, L: Write, E: RawEncoder>(
     last: bool,
 ) -> Result<EncodeTurn<'p>, Fault>
     requires room { 4 ≤ length out.old }
-    requires index { counts.index + length (text_of text) ≤ 2 ^ 48 }
+    requires index { counts.index + length (pivot_chars text) ≤ 2 ^ 48 }
     requires lost { counts.lost ≤ counts.index }
     requires writer { failures_of writer.old < 2 ^ 64 - 1 }
     requires log { failures_of log.old < 2 ^ 64 - 1 }
 
     ensures pays { IfOk result (λ p. Pays (W.contents (inner_of writer.old)) (W.contents (inner_of writer.new)) (L.contents (inner_of log.old)) (L.contents (inner_of log.new)) counts p.counts
-        (whole_items (E.coding encoder.old) last (E.set encoder.old) counts.index (text_of text.entry))
-        (whole_items (E.coding encoder.old) last (E.set encoder.new) p.counts.index (text_of p.rest))) }
-    ensures passed { IfOk result (λ p. p.counts.index + length (text_of p.rest) ≡ counts.index + length (text_of text.entry)) }
+        (whole_items (E.coding encoder.old) last (E.set encoder.old) counts.index (pivot_chars text.entry))
+        (whole_items (E.coding encoder.old) last (E.set encoder.new) p.counts.index (pivot_chars p.rest))) }
+    ensures passed { IfOk result (λ p. p.counts.index + length (pivot_chars p.rest) ≡ counts.index + length (pivot_chars text.entry)) }
     ensures lost { IfOk result (λ p. p.counts.lost ≤ p.counts.index) }
     ensures bad { IfOk result (λ p. p.counts.bad ≡ counts.bad) }
     ensures read { IfOk result (λ p. p.counts.read ≡ counts.read) }
     ensures target { E.coding encoder.new ≡ E.coding encoder.old }
-    ensures state { IfOk result (λ p. last ≡ false → last_set (E.coding encoder.old) (E.set encoder.old) (text_of text.entry) ≡ last_set (E.coding encoder.old) (E.set encoder.new) (text_of p.rest)) }
-    ensures done { IfOk result (λ p. p.is_done ≡ true → (text_of p.rest ≡ []) × (last ≡ true → E.set encoder.new ≡ Ascii)) }
-    ensures more { IfOk result (λ p. p.is_done ≡ false → length (whole_items (E.coding encoder.old) last (E.set encoder.new) p.counts.index (text_of p.rest))
-        < length (whole_items (E.coding encoder.old) last (E.set encoder.old) counts.index (text_of text.entry))) }
+    ensures state { IfOk result (λ p. last ≡ false → last_set (E.coding encoder.old) (E.set encoder.old) (pivot_chars text.entry) ≡ last_set (E.coding encoder.old) (E.set encoder.new) (pivot_chars p.rest)) }
+    ensures done { IfOk result (λ p. p.is_done ≡ true → (pivot_chars p.rest ≡ []) × (last ≡ true → E.set encoder.new ≡ Ascii)) }
+    ensures more { IfOk result (λ p. p.is_done ≡ false → length (whole_items (E.coding encoder.old) last (E.set encoder.new) p.counts.index (pivot_chars p.rest))
+        < length (whole_items (E.coding encoder.old) last (E.set encoder.old) counts.index (pivot_chars text.entry))) }
     ensures err { OnErr result (Underpays (W.contents (inner_of writer.old)) (W.contents (inner_of writer.new)) (L.contents (inner_of log.old)) (L.contents (inner_of log.new))
-        (whole_items (E.coding encoder.old) last (E.set encoder.old) counts.index (text_of text.entry))) }
+        (whole_items (E.coding encoder.old) last (E.set encoder.old) counts.index (pivot_chars text.entry))) }
     ensures writer_count { failures_of writer.new ≡ failures_of writer.old + of_writer result }
     ensures reader_count { of_reader result ≡ 0 }
     ensures only_writers { of_other result ≡ 0 }
@@ -133,22 +133,22 @@ pub fn encode_all<W: Write, L: Write, E: RawEncoder>(
     last: bool,
 ) -> Result<Counts, Fault>
     requires room { 4 ≤ length out.old }
-    requires index { counts.index + length (text_of text) ≤ 2 ^ 48 }
+    requires index { counts.index + length (pivot_chars text) ≤ 2 ^ 48 }
     requires lost { counts.lost ≤ counts.index }
     requires writer { failures_of writer.old < 2 ^ 64 - 1 }
     requires log { failures_of log.old < 2 ^ 64 - 1 }
 
     ensures pays { IfOk result (λ c. Pays (W.contents (inner_of writer.old)) (W.contents (inner_of writer.new)) (L.contents (inner_of log.old)) (L.contents (inner_of log.new)) counts c
-        (whole_items (E.coding encoder.old) last (E.set encoder.old) counts.index (text_of text.entry)) []) }
-    ensures passed { IfOk result (λ c. c.index ≡ counts.index + length (text_of text.entry)) }
+        (whole_items (E.coding encoder.old) last (E.set encoder.old) counts.index (pivot_chars text.entry)) []) }
+    ensures passed { IfOk result (λ c. c.index ≡ counts.index + length (pivot_chars text.entry)) }
     ensures lost { IfOk result (λ c. c.lost ≤ c.index) }
     ensures bad { IfOk result (λ c. c.bad ≡ counts.bad) }
     ensures read { IfOk result (λ c. c.read ≡ counts.read) }
     ensures target { E.coding encoder.new ≡ E.coding encoder.old }
-    ensures state { OnOk result (last ≡ false → E.set encoder.new ≡ last_set (E.coding encoder.old) (E.set encoder.old) (text_of text.entry)) }
+    ensures state { OnOk result (last ≡ false → E.set encoder.new ≡ last_set (E.coding encoder.old) (E.set encoder.old) (pivot_chars text.entry)) }
     ensures closed { OnOk result (last ≡ true → E.set encoder.new ≡ Ascii) }
     ensures err { OnErr result (Underpays (W.contents (inner_of writer.old)) (W.contents (inner_of writer.new)) (L.contents (inner_of log.old)) (L.contents (inner_of log.new))
-        (whole_items (E.coding encoder.old) last (E.set encoder.old) counts.index (text_of text.entry))) }
+        (whole_items (E.coding encoder.old) last (E.set encoder.old) counts.index (pivot_chars text.entry))) }
     ensures writer_count { failures_of writer.new ≡ failures_of writer.old + of_writer result }
     ensures reader_count { of_reader result ≡ 0 }
     ensures only_writers { of_other result ≡ 0 }

@@ -19,10 +19,10 @@ pub struct Engine<D, E> {
 impl<D: StreamDecoder, E: RawEncoder> Engine<D, E> {
     ghost use Rattle.std.specs.Prelude.{◌≡◌, ℕ, ◌+◌, ◌-◌, ◌^◌, ◌<◌, ◌≤◌, List, length, false, OnOk, IfErr};
     ghost use Rattle.recode_log.specs.Counted.{inner_of, failures_of};
-    ghost use Rattle.recode.specs.Buffers.{IsRoomy, is_wide};
-    ghost use Rattle.recode.specs.Latency.{Settles};
+    ghost use Rattle.recode.specs.Buffers.{HoldsAnyCharacter, is_wide};
+    ghost use Rattle.recode.specs.Latency.{ConvertsDecided};
     ghost use Rattle.recode.specs.Owed.{owes, AreSound};
-    ghost use Rattle.recode.specs.Step.{GoesOn, Finishes, Stops};
+    ghost use Rattle.recode.specs.Step.{StepGoesOn, Finishes, Stops};
     ghost use Rattle.recode.specs.Fault.{of_reader, of_writer, of_log, of_other};
     ghost use Rattle.std.specs.Io.KnownBytes.{Keeps};
 
@@ -42,17 +42,17 @@ impl<D: StreamDecoder, E: RawEncoder> Engine<D, E> {
         requires open_ { (D.view self.old.decoder).finished ≡ false }
         requires sound { AreSound (D.view self.old.decoder).state.pending self.old.counts }
         requires input { 0 < length input.old }
-        requires pivot { IsRoomy pivot.old }
+        requires pivot { HoldsAnyCharacter pivot.old }
         requires output { 4 ≤ length output.old }
         requires reader { failures_of reader.old < 2 ^ 64 - 1 }
         requires writer { failures_of writer.old < 2 ^ 64 - 1 }
         requires log { failures_of log.old < 2 ^ 64 - 1 }
 
-        ensures more { result ≡ Ok Progress.More → GoesOn (R.remaining (inner_of reader.old)) (R.remaining (inner_of reader.new)) (W.contents (inner_of writer.old)) (W.contents (inner_of writer.new)) (L.contents (inner_of log.old)) (L.contents (inner_of log.new)) self.old.counts self.new.counts limit
+        ensures more { result ≡ Ok Progress.More → StepGoesOn (R.remaining (inner_of reader.old)) (R.remaining (inner_of reader.new)) (W.contents (inner_of writer.old)) (W.contents (inner_of writer.new)) (L.contents (inner_of log.old)) (L.contents (inner_of log.new)) self.old.counts self.new.counts limit
             (owes (D.view self.old.decoder).state (E.coding self.old.encoder) (E.set self.old.encoder) self.old.counts)
             (owes (D.view self.new.decoder).state (E.coding self.old.encoder) (E.set self.new.encoder) self.new.counts)
             (D.view self.old.decoder).source (D.view self.new.decoder).source }
-        ensures settled { result ≡ Ok Progress.More → Settles (R.remaining (inner_of reader.old)) (R.remaining (inner_of reader.new)) (W.contents (inner_of writer.old)) (W.contents (inner_of writer.new)) (L.contents (inner_of log.old)) (L.contents (inner_of log.new))
+        ensures settled { result ≡ Ok Progress.More → ConvertsDecided (R.remaining (inner_of reader.old)) (R.remaining (inner_of reader.new)) (W.contents (inner_of writer.old)) (W.contents (inner_of writer.new)) (L.contents (inner_of log.old)) (L.contents (inner_of log.new))
             (D.view self.old.decoder).state (D.view self.new.decoder).state (E.coding self.old.encoder) (E.set self.old.encoder) (E.set self.new.encoder) self.old.counts self.new.counts }
         ensures grows { result ≡ Ok Progress.More → self.old.counts.read < self.new.counts.read }
         ensures done { result ≡ Ok Progress.Done → Finishes (R.remaining (inner_of reader.old)) (R.remaining (inner_of reader.new)) (W.contents (inner_of writer.old)) (W.contents (inner_of writer.new)) (L.contents (inner_of log.old)) (L.contents (inner_of log.new)) self.old.counts self.new.counts limit
@@ -68,7 +68,7 @@ impl<D: StreamDecoder, E: RawEncoder> Engine<D, E> {
         ensures reader_count { failures_of reader.new ≡ failures_of reader.old + of_reader result }
         ensures writer_count { failures_of writer.new ≡ failures_of writer.old + of_writer result }
         ensures log_count { failures_of log.new ≡ failures_of log.old + of_log result }
-        ensures roomy { IsRoomy pivot.new }
+        ensures roomy { HoldsAnyCharacter pivot.new }
         ensures kind { is_wide pivot.new ≡ is_wide pivot.old }
     {
         let Ok(read) = reader.read(input) else {

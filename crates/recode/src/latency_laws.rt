@@ -4,14 +4,14 @@ ghost use Rattle.std.specs.Prelude.{◌≡◌, ◌+◌, ◌≤◌, ◌++◌, ℕ
 ghost use Rattle.encoding_mem.specs.Decoding.{IsDecided};
 ghost use Rattle.encoding_mem.specs.Piece.{Piece, sizes};
 ghost use Rattle.recode.specs.Job.{input_pieces};
-ghost use Rattle.recode.specs.Latency.{IsSettled, StandsAt, StepsOn};
-ghost use Rattle.recode.specs.Marked.{IsFront};
-ghost use Rattle.recode.specs.Session.{Begins, View};
+ghost use Rattle.recode.specs.Latency.{IsNearlyDecided, StandsAt, StepsOn};
+ghost use Rattle.recode.specs.Marked.{IsPrefix};
+ghost use Rattle.recode.specs.Session.{IsNewSession, View};
 ghost use Rattle.recode.specs.declared.job.Job.{Job};
 
 /// A new session has converted nothing. One that steps on has converted the pieces that the step took too.
 pub fn steps_add_up()
-    ensures first { (r w l : Option (List ℕ)) (j : Job) (v : View) → Begins v j → StandsAt r r w w l l j v [] [] }
+    ensures first { (r w l : Option (List ℕ)) (j : Job) (v : View) → IsNewSession v j → StandsAt r r w w l l j v [] [] }
     ensures next { (r r1 r2 w w1 w2 l l1 l2 : Option (List ℕ)) (j : Job) (v v1 : View) (x : List ℕ) (ps : List Piece)
         → StandsAt r r1 w w1 l l1 j v x ps → (p : StepsOn r1 r2 w1 w2 l1 l2 v v1)
         → StandsAt r r2 w w2 l l2 j v1 (x ++ p.settles.chunk) (ps ++ p.settles.advances.taken) }
@@ -24,7 +24,7 @@ pub fn decided_pieces_are_converted()
     ensures decided { (r r1 w w1 l l1 : Option (List ℕ)) (j : Job) (v : View) (x : List ℕ) (ps : List Piece)
         → StandsAt r r1 w w1 l l1 j v x ps → IsDecided (input_pieces j) x ps }
     ensures longest { (r r1 w w1 l l1 : Option (List ℕ)) (j : Job) (v : View) (x : List ℕ) (ps qs : List Piece)
-        → StandsAt r r1 w w1 l l1 j v x ps → IsSettled v.decoder → IsDecided (input_pieces j) x qs → IsFront qs ps }
+        → StandsAt r r1 w w1 l l1 j v x ps → IsNearlyDecided v.decoder → IsDecided (input_pieces j) x qs → IsPrefix qs ps }
     ensures soon { (r r1 w w1 l l1 : Option (List ℕ)) (j : Job) (v : View) (x y : List ℕ) (ps qs more : List Piece)
-        → StandsAt r r1 w w1 l l1 j v x ps → IsSettled v.decoder → input_pieces j (x ++ y) ≡ qs ++ more → sizes qs + 3 ≤ length x → IsFront qs ps }
+        → StandsAt r r1 w w1 l l1 j v x ps → IsNearlyDecided v.decoder → input_pieces j (x ++ y) ≡ qs ++ more → sizes qs + 3 ≤ length x → IsPrefix qs ps }
 {}

@@ -4,7 +4,7 @@ ghost use Rattle.std.specs.Prelude.{◌≡◌, ◌↔◌, ◌<◌, ◌≤◌, �
 ghost use Rattle.std.specs.List.{concat};
 ghost use Rattle.std.specs.Str.{chars, IsUtf8};
 ghost use Rattle.std.specs.Io.KnownBytes.{Appends};
-ghost use Rattle.encoding_mem.specs.Piece.{AreGood, ArePieces, bad_count, size_of, sizes};
+ghost use Rattle.encoding_mem.specs.Piece.{AreGood, ArePieces, bad_count, piece_len, sizes};
 ghost use Rattle.encoding_mem.specs.Coding.{AllMapped, lost_count, output};
 ghost use Rattle.encoding_front.specs.Encodings.{IsUtf8Encoding, KeepsCharacters, coding_of, output_encoding_of};
 ghost use Rattle.encoding_front.specs.Marks.{marked_pieces, marked_text};
@@ -58,7 +58,7 @@ pub fn known_input()
 pub fn pieces_are_the_input()
     ensures pieces { (j : Job) (x : List ℕ) → IsValidJob j → ArePieces (input_pieces j x) }
     ensures sizes { (j : Job) (x : List ℕ) → IsValidJob j → sizes (input_pieces j x) ≡ length x }
-    ensures covers { (j : Job) (x : List ℕ) → IsValidJob j → map length (slices (input_pieces j x) x) ≡ map size_of (input_pieces j x) }
+    ensures covers { (j : Job) (x : List ℕ) → IsValidJob j → map length (slices (input_pieces j x) x) ≡ map piece_len (input_pieces j x) }
     ensures joined { (j : Job) (x : List ℕ) → IsValidJob j → concat (slices (input_pieces j x) x) ≡ x }
 {}
 

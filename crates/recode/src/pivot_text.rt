@@ -1,7 +1,7 @@
 ghost use Rattle.std.specs.Prelude.{◌≡◌, ℕ, List, true, length};
 ghost use Rattle.std.specs.Str.{all_scalars};
 ghost use Rattle.std.specs.Char.Utf16.{utf16_lossy_chars};
-ghost use Rattle.recode.specs.PivotText.{text_of, Holds, HoldsText};
+ghost use Rattle.recode.specs.PivotText.{pivot_chars, Holds, HoldsText};
 
 use crate::buffers::Pivot;
 use encoding_mem::source::{Source, Utf16Source};
@@ -16,7 +16,7 @@ pub enum PivotText<'p> {
 /// The text at the front of a pivot, of so many bytes or units.
 pub fn text_in<'p>(pivot: &'p Pivot<'_>, len: usize) -> PivotText<'p>
     requires { HoldsText pivot.now len }
-    ensures { (text : List ℕ) → all_scalars text ≡ true → Holds pivot.now len text → text_of result ≡ text }
+    ensures { (text : List ℕ) → all_scalars text ≡ true → Holds pivot.now len text → pivot_chars result ≡ text }
 {
     match pivot {
         // The decoder wrote text: no second check.

@@ -2,7 +2,7 @@ ghost use Rattle.std.specs.Prelude.{◌≡◌, ◌⊎◌, ◌≤◌, ◌<◌, �
 ghost use Rattle.encoding_front.specs.Encodings.{IsReady, output_encoding_of};
 ghost use Rattle.recode_log.specs.Counted.{failures_of};
 ghost use Rattle.recode.specs.Job.{IsValidJob};
-ghost use Rattle.recode.specs.Program.{AnswersProgram, AnswersWords, IsConversion, mark_of};
+ghost use Rattle.recode.specs.Program.{AnswersProgram, AnswersWords, IsConversion, mark_of_word};
 
 use crate::buffers::{Buffers, Pivot};
 use crate::conversion::{FAITHFUL, convert};
@@ -77,7 +77,7 @@ fn refuse_label<L: Write>(alloc: Global, log: &mut Counted<L>, label: &str) -> u
 
 // What the word for a mark mode says.
 fn mark_of(word: MarkWord) -> Mark
-    ensures { result ≡ mark_of word }
+    ensures { result ≡ mark_of_word word }
 {
     match word {
         MarkWord::Sniff => Mark::Sniff,

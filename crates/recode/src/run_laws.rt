@@ -3,7 +3,7 @@
 ghost use Rattle.std.specs.Prelude.{◌≡◌, ◌↔◌, ◌⊎◌, ◌<◌, ◌≤◌, ℕ, IsOk, IsTrue, List, [], length, Option, Result, Some, Err};
 ghost use Rattle.encoding_front.specs.Encodings.{KeepsCharacters};
 ghost use Rattle.recode.specs.ReadBack.{back, in_utf8};
-ghost use Rattle.recode.specs.Runs.{AgreeButForCalls, Answers, WroteTheSame};
+ghost use Rattle.recode.specs.Runs.{AgreeButForCalls, RunReturns, WroteTheSame};
 ghost use Rattle.recode.specs.Session.{Completes, IsConverted, IsReport};
 ghost use Rattle.recode.specs.declared.fault.Fault.{Fault};
 ghost use Rattle.recode.specs.declared.job.Job.{Job};
@@ -22,9 +22,9 @@ pub fn runs_agree()
 /// Where no call of a device fails, a run answers `Ok` exactly where the input is within the limit, and else
 /// `TooLong`. The reader tells its bytes; where it does not, the answer is still one of the two.
 pub fn answers_without_faults()
-    ensures ok { (j : Job) (x : List ℕ) (r w w' l l' : Option (List ℕ)) (n m k : ℕ) (answer : Result Report Fault) → Answers (Some x) r w w' l l' n n m m k k j answer → IsOk answer ↔ (length x ≤ j.limit) }
-    ensures too_long { (j : Job) (x : List ℕ) (r w w' l l' : Option (List ℕ)) (n m k : ℕ) (answer : Result Report Fault) → Answers (Some x) r w w' l l' n n m m k k j answer → (answer ≡ Err Fault.TooLong) ↔ (j.limit < length x) }
-    ensures either { (j : Job) (r r' w w' l l' : Option (List ℕ)) (n m k : ℕ) (answer : Result Report Fault) → Answers r r' w w' l l' n n m m k k j answer → IsOk answer ⊎ (answer ≡ Err Fault.TooLong) }
+    ensures ok { (j : Job) (x : List ℕ) (r w w' l l' : Option (List ℕ)) (n m k : ℕ) (answer : Result Report Fault) → RunReturns (Some x) r w w' l l' n n m m k k j answer → IsOk answer ↔ (length x ≤ j.limit) }
+    ensures too_long { (j : Job) (x : List ℕ) (r w w' l l' : Option (List ℕ)) (n m k : ℕ) (answer : Result Report Fault) → RunReturns (Some x) r w w' l l' n n m m k k j answer → (answer ≡ Err Fault.TooLong) ↔ (j.limit < length x) }
+    ensures either { (j : Job) (r r' w w' l l' : Option (List ℕ)) (n m k : ℕ) (answer : Result Report Fault) → RunReturns r r' w w' l l' n n m m k k j answer → IsOk answer ⊎ (answer ≡ Err Fault.TooLong) }
 {}
 
 /// A report that tells a lost character does not say that nothing was lost.

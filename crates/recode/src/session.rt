@@ -2,13 +2,13 @@ ghost use Rattle.std.specs.Prelude.{◌≡◌, ◌≤◌, ◌<◌, ◌^◌, ◌+
 ghost use Rattle.encoding_mem.specs.Decoding.{DecoderState};
 ghost use Rattle.recode_log.specs.Counted.{inner_of, failures_of};
 ghost use Rattle.recode.specs.Job.{IsValidJob};
-ghost use Rattle.recode.specs.Buffers.{AreEnough, IsRoomy};
+ghost use Rattle.recode.specs.Buffers.{AreEnough, HoldsAnyCharacter};
 ghost use Rattle.recode.specs.Latency.{StepsOn};
 ghost use Rattle.recode.specs.Owed.{AreSound};
-ghost use Rattle.recode.specs.Runs.{Answers};
-ghost use Rattle.recode.specs.Session.{View, owed, IsOver, Begins, Tells, Completes, Fails, phase_after};
+ghost use Rattle.recode.specs.Runs.{RunReturns};
+ghost use Rattle.recode.specs.Session.{View, owed, IsOver, IsNewSession, Tells, Completes, Fails, phase_after};
 ghost use Rattle.recode.specs.declared.phase.Phase.TheVariants.{Open};
-ghost use Rattle.recode.specs.Step.{GoesOn, Finishes, Stops};
+ghost use Rattle.recode.specs.Step.{StepGoesOn, Finishes, Stops};
 ghost use Rattle.recode.specs.Fault.{of_reader, of_writer, of_log, of_other};
 ghost use Rattle.std.specs.Io.KnownBytes.{Keeps};
 
@@ -58,7 +58,7 @@ impl<'t> Session<'t> {
     /// A session that has read nothing.
     pub fn new(job: Job<'t>) -> Self
         requires { IsValidJob job }
-        ensures { Begins (⟦<Session<'t> as Viewed>⟧.view result) job.entry }
+        ensures { IsNewSession (⟦<Session<'t> as Viewed>⟧.view result) job.entry }
     {
         Session {
             engine: Engine {
@@ -128,7 +128,7 @@ impl<'t> Session<'t> {
         requires writer { failures_of writer.old < 2 ^ 64 - 1 }
         requires log { failures_of log.old < 2 ^ 64 - 1 }
 
-        ensures more { result ≡ Ok Progress.More → GoesOn (R.remaining (inner_of reader.old)) (R.remaining (inner_of reader.new)) (W.contents (inner_of writer.old)) (W.contents (inner_of writer.new)) (L.contents (inner_of log.old)) (L.contents (inner_of log.new)) (⟦<Session<'t> as Viewed>⟧.view self.old).counts (⟦<Session<'t> as Viewed>⟧.view self.new).counts (⟦<Session<'t> as Viewed>⟧.view self.old).job.limit (owed (⟦<Session<'t> as Viewed>⟧.view self.old)) (owed (⟦<Session<'t> as Viewed>⟧.view self.new)) (⟦<Session<'t> as Viewed>⟧.view self.old).source (⟦<Session<'t> as Viewed>⟧.view self.new).source }
+        ensures more { result ≡ Ok Progress.More → StepGoesOn (R.remaining (inner_of reader.old)) (R.remaining (inner_of reader.new)) (W.contents (inner_of writer.old)) (W.contents (inner_of writer.new)) (L.contents (inner_of log.old)) (L.contents (inner_of log.new)) (⟦<Session<'t> as Viewed>⟧.view self.old).counts (⟦<Session<'t> as Viewed>⟧.view self.new).counts (⟦<Session<'t> as Viewed>⟧.view self.old).job.limit (owed (⟦<Session<'t> as Viewed>⟧.view self.old)) (owed (⟦<Session<'t> as Viewed>⟧.view self.new)) (⟦<Session<'t> as Viewed>⟧.view self.old).source (⟦<Session<'t> as Viewed>⟧.view self.new).source }
         ensures steps_on { result ≡ Ok Progress.More → StepsOn (R.remaining (inner_of reader.old)) (R.remaining (inner_of reader.new)) (W.contents (inner_of writer.old)) (W.contents (inner_of writer.new)) (L.contents (inner_of log.old)) (L.contents (inner_of log.new)) (⟦<Session<'t> as Viewed>⟧.view self.old) (⟦<Session<'t> as Viewed>⟧.view self.new) }
         ensures grows { result ≡ Ok Progress.More → (⟦<Session<'t> as Viewed>⟧.view self.old).counts.read < (⟦<Session<'t> as Viewed>⟧.view self.new).counts.read }
         ensures done { result ≡ Ok Progress.Done → Finishes (R.remaining (inner_of reader.old)) (R.remaining (inner_of reader.new)) (W.contents (inner_of writer.old)) (W.contents (inner_of writer.new)) (L.contents (inner_of log.old)) (L.contents (inner_of log.new)) (⟦<Session<'t> as Viewed>⟧.view self.old).counts (⟦<Session<'t> as Viewed>⟧.view self.new).counts (⟦<Session<'t> as Viewed>⟧.view self.old).job.limit (owed (⟦<Session<'t> as Viewed>⟧.view self.old)) (⟦<Session<'t> as Viewed>⟧.view self.old).source (⟦<Session<'t> as Viewed>⟧.view self.new).source }
@@ -188,7 +188,7 @@ pub fn run<R: Read, W: Write, L: Write>(
     ensures reader_count { failures_of reader.new ≡ failures_of reader.old + of_reader result }
     ensures writer_count { failures_of writer.new ≡ failures_of writer.old + of_writer result }
     ensures log_count { failures_of log.new ≡ failures_of log.old + of_log result }
-    ensures answers { Answers (R.remaining (inner_of reader.old)) (R.remaining (inner_of reader.new)) (W.contents (inner_of writer.old)) (W.contents (inner_of writer.new)) (L.contents (inner_of log.old)) (L.contents (inner_of log.new)) (failures_of reader.old) (failures_of reader.new) (failures_of writer.old) (failures_of writer.new) (failures_of log.old) (failures_of log.new) job.entry result }
+    ensures answers { RunReturns (R.remaining (inner_of reader.old)) (R.remaining (inner_of reader.new)) (W.contents (inner_of writer.old)) (W.contents (inner_of writer.new)) (L.contents (inner_of log.old)) (L.contents (inner_of log.new)) (failures_of reader.old) (failures_of reader.new) (failures_of writer.old) (failures_of writer.new) (failures_of log.old) (failures_of log.new) job.entry result }
 {
     let mut session = Session::new(job);
     'run: loop {

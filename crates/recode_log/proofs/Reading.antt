@@ -12,24 +12,24 @@ use Rattle.std.proofs.lemmas.Str.Parse.{IsNumeralModel, numerals_by_value, tells
 use Rattle.std.specs.Fmt.{decimal}
 use Rattle.std.specs.List.{position_or_len}
 use Rattle.std.specs.Str.Parse.{AllDigits, digits_value}
-use Rattle.recode_log.specs.Line.{row_bytes, pair_bytes}
+use Rattle.recode_log.specs.Line.{row_bytes, two_numbers}
 
 -- the digits that `decimal` writes, and their value
 model : IsNumeralModel (AllDigits 10) (digits_value 10)
 model = numerals_by_value _ tells_digits
 
 -- a row, part by part
-pub row_bytes-parts : (word : List ℕ) (place value : ℕ) → row_bytes word place value ≡ word ++ (pair_bytes place value ++ codes "\n")
+pub row_bytes-parts : (word : List ℕ) (place value : ℕ) → row_bytes word place value ≡ word ++ (two_numbers place value ++ codes "\n")
 row_bytes-parts word place value = simp append_assoc
 
 -- the numbers are what is left of a row without its word and its end
-pub pair-from_row : (word rest row : List ℕ) (place value : ℕ) → row_bytes word place value ≡ word ++ rest → rest ≡ row ++ codes "\n" → pair_bytes place value ≡ row
+pub pair-from_row : (word rest row : List ℕ) (place value : ℕ) → row_bytes word place value ≡ word ++ rest → rest ≡ row ++ codes "\n" → two_numbers place value ≡ row
 pair-from_row word rest row place value whole ended =
     append_cancel_right _ _ (codes "\n")
     (append_cancel_left word _ _ (sym (row_bytes-parts word place value) ∙ whole) ∙ ended)
 
 -- and with them it is that row
-pub row-from_pair : (word bytes rest row : List ℕ) (place value : ℕ) → bytes ≡ word ++ rest → rest ≡ row ++ codes "\n" → pair_bytes place value ≡ row → row_bytes word place value ≡ bytes
+pub row-from_pair : (word bytes rest row : List ℕ) (place value : ℕ) → bytes ≡ word ++ rest → rest ≡ row ++ codes "\n" → two_numbers place value ≡ row → row_bytes word place value ≡ bytes
 row-from_pair word bytes rest row place value whole ended same =
     row_bytes-parts word place value ∙ ap (λ xs. word ++ (xs ++ codes "\n")) same ∙ ap (λ xs. word ++ xs) (sym ended) ∙ sym whole
 
@@ -39,7 +39,7 @@ not_space n k small within =
     ne_eqb _ _ (not_in_digits model (decimal n) 32 (digits_decimal model n small) (λ r. absurd (omega arith)) k within)
 
 -- so the first space stands behind the place
-pub position-pair : (bytes : List ℕ) (place value : ℕ) → place < 2 ^ 64 → pair_bytes place value ≡ bytes → position (λ b. b == 32) bytes ≡ Some (length (decimal place))
+pub position-pair : (bytes : List ℕ) (place value : ℕ) → place < 2 ^ 64 → two_numbers place value ≡ bytes → position (λ b. b == 32) bytes ≡ Some (length (decimal place))
 position-pair bytes place value small same =
     let parts : bytes ≡ decimal place ++ (32 ∷ decimal value) = sym same ∙ append_assoc (decimal place) (32 ∷ []) (decimal value) in
     let within : length (decimal place) < length (decimal place ++ (32 ∷ decimal value)) = omega (arith, length-append (decimal place) (32 ∷ decimal value)) in
@@ -51,7 +51,7 @@ position-pair bytes place value small same =
     rw (parts, first, lt-ltb _ _ within)
 
 -- the numbers of a pair are its parts before and behind the first space
-pub parts_of_pair : (bytes : List ℕ) (space place value : ℕ) → place < 2 ^ 64 → pair_bytes place value ≡ bytes → Some space ≡ position (λ b. b == 32) bytes
+pub parts_of_pair : (bytes : List ℕ) (space place value : ℕ) → place < 2 ^ 64 → two_numbers place value ≡ bytes → Some space ≡ position (λ b. b == 32) bytes
     → (decimal place ≡ take space bytes) × (decimal value ≡ take (length bytes - (space + 1)) (drop (space + 1) bytes))
 parts_of_pair bytes space place value small same found =
     let parts : decimal place ++ (32 ∷ decimal value) ≡ bytes = sym (append_assoc (decimal place) (32 ∷ []) (decimal value)) ∙ same in
@@ -63,7 +63,7 @@ parts_of_pair bytes space place value small same found =
 
 -- and with them it is that pair
 pub pair_of_parts : (bytes : List ℕ) (space place value : ℕ) → Some space ≡ position (λ b. b == 32) bytes
-    → decimal place ≡ take space bytes → decimal value ≡ take (length bytes - (space + 1)) (drop (space + 1) bytes) → pair_bytes place value ≡ bytes
+    → decimal place ≡ take space bytes → decimal value ≡ take (length bytes - (space + 1)) (drop (space + 1) bytes) → two_numbers place value ≡ bytes
 pair_of_parts bytes space place value found front behind =
     let at = position-Some (λ b. b == 32) bytes space 0 (sym found) in
     let within : space < length bytes = at.0 in

@@ -16,8 +16,8 @@ HasScalar (Bad offset length) = Unit {0}
 HasScalar (Lost index scalar) = IsScalar scalar
 
 -- two numbers with a space between them
-abbrev pub pair_bytes : ℕ → ℕ → List ℕ
-pair_bytes place value = decimal place ++ codes " " ++ decimal value
+abbrev pub two_numbers : ℕ → ℕ → List ℕ
+two_numbers place value = decimal place ++ codes " " ++ decimal value
 
 -- a word with the space behind it, two numbers with a space between them, and the end of the line
 abbrev pub row_bytes : List ℕ → ℕ → ℕ → List ℕ

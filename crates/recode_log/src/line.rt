@@ -1,6 +1,6 @@
 ghost use Rattle.std.specs.Prelude.{◌≡◌, ℕ, ◌+◌, ◌^◌, ◌<◌, ◌≤◌, ◌↔◌, ◌++◌, length, take, drop, position, ◌==◌, IsTrue, IfSome};
 ghost use Rattle.std.specs.Fmt.{decimal};
-ghost use Rattle.recode_log.specs.Line.{row_bytes, pair_bytes};
+ghost use Rattle.recode_log.specs.Line.{row_bytes, two_numbers};
 
 use itoa::Buffer;
 use std::str;
@@ -112,9 +112,9 @@ fn read_row(bytes: &[u8], word: &[u8]) -> Option<(u64, u64)>
 
 // Reads two numbers with a space between them.
 fn read_pair(bytes: &[u8]) -> Option<(u64, u64)>
-    ensures pair { IfSome result (λ numbers. pair_bytes numbers.0 numbers.1 ≡ bytes.now) }
+    ensures pair { IfSome result (λ numbers. two_numbers numbers.0 numbers.1 ≡ bytes.now) }
     ensures only { (place value : ℕ) → place < 2 ^ 64 → value < 2 ^ 64 →
-        pair_bytes place value ≡ bytes.now → result ≡ Some (place, value) }
+        two_numbers place value ≡ bytes.now → result ≡ Some (place, value) }
 {
     let space = first_space(bytes)?;
     let place = read_number(&bytes[..space])?;

@@ -13,7 +13,7 @@ use Rattle.clap.proofs.ValueTestLemmas.{Accepts-accepts, accepts-Accepts}
 use Rattle.clap.proofs.WalkLemmas.{both}
 use Rattle.recode_words.specs.Given.{given}
 use Rattle.recode_words.specs.Meaning.{is_limit, limit_of}
-use Rattle.recode_words.specs.Request.{Answers, HasGoodLimit}
+use Rattle.recode_words.specs.Request.{AsksFor, HasGoodLimit}
 use Rattle.recode_words.specs.declared.request.Request.{Request}
 use Rattle.recode_words.specs.declared.request.Request.TheVariants.{Run, Help, Version, List as Listing}
 use Rattle.recode_words.specs.declared.request.WordsFault.{WordsFault}
@@ -72,7 +72,7 @@ meant_small : (o : Option Text) (n : ℕ) → option_and_then limit_of o ≡ Som
 meant_small None n e = cc
 meant_small (Some text) n e = small_by text n (is_limit text) refl e
 
-pub answer_small : (words : List Text) (r : Result Request WordsFault) → IfOk r (Answers words) → IfOk r HasGoodLimit
+pub answer_small : (words : List Text) (r : Result Request WordsFault) → IfOk r (AsksFor words) → IfOk r HasGoodLimit
 answer_small words (Ok (Run w)) h = meant_small (given (codes "limit") words) w.limit h.limit
 answer_small words (Ok (Help text)) h = tt
 answer_small words (Ok (Version text)) h = tt

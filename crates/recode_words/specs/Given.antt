@@ -6,7 +6,7 @@ use Rattle.clap.specs.declared.error.kind.ErrorKind.{ErrorKind}
 use Rattle.clap.specs.declared.error.kind.ErrorKind.TheVariants.{OutOfMemory}
 use Rattle.clap.specs.declared.parser.matches.ArgMatches.{ArgMatches}
 use Rattle.recode_words.specs.Command.{recode_app}
-use Rattle.recode_words.specs.Meaning.{limit_of, mark_of, pivot_of}
+use Rattle.recode_words.specs.Meaning.{limit_of, mark_named, pivot_of}
 use Rattle.recode_words.specs.declared.values.Values.{Values}
 use Rattle.recode_words.specs.declared.words.Words.{Words}
 
@@ -48,11 +48,11 @@ pub record IsReading (v : Values) (w : Words) : Type 0 where
   pub from : w.from.now ≡ v.from.now
   pub to : w.to.now ≡ v.to.now
   pub indexes : w.indexes.now ≡ v.indexes.now
-  pub mark : mark_of v.mark.now ≡ Some w.mark
+  pub mark : mark_named v.mark.now ≡ Some w.mark
   pub pivot : pivot_of v.pivot.now ≡ Some w.pivot
   pub limit : limit_of v.limit.now ≡ Some w.limit
 
 -- one of the values stands for nothing
 abbrev pub HasWrongValue : Values → Type 0
-HasWrongValue v = (mark_of v.mark.now ≡ None)
+HasWrongValue v = (mark_named v.mark.now ≡ None)
     ⊎ ((pivot_of v.pivot.now ≡ None) ⊎ (limit_of v.limit.now ≡ None))

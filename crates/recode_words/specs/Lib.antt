@@ -2,4 +2,4 @@ pub mod Command
 pub mod Given
 pub mod Meaning
 pub mod Request
-pub mod Rows
+pub mod examples

@@ -11,8 +11,8 @@ use Rattle.recode_words.specs.declared.words.PivotWord.{PivotWord}
 use Rattle.recode_words.specs.declared.words.PivotWord.TheVariants.{Utf8, Utf16}
 
 -- what to do with a byte order mark, by its name
-abbrev pub mark_of : Text → Option MarkWord
-mark_of text = if bytes_eq text (codes "sniff") then Some Sniff
+abbrev pub mark_named : Text → Option MarkWord
+mark_named text = if bytes_eq text (codes "sniff") then Some Sniff
     else (if bytes_eq text (codes "remove") then Some Remove
     else (if bytes_eq text (codes "keep") then Some Keep else None))
 

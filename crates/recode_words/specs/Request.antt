@@ -8,7 +8,7 @@ use Rattle.clap.specs.declared.error.kind.ErrorKind.{ErrorKind}
 use Rattle.clap.specs.declared.error.kind.ErrorKind.TheVariants.{DisplayHelp, DisplayVersion}
 use Rattle.recode_words.specs.Command.{recode_app}
 use Rattle.recode_words.specs.Given.{EndsIn, given}
-use Rattle.recode_words.specs.Meaning.{limit_of, mark_of, pivot_of}
+use Rattle.recode_words.specs.Meaning.{limit_of, mark_named, pivot_of}
 use Rattle.recode_words.specs.declared.request.Request.{Request}
 use Rattle.recode_words.specs.declared.request.Request.TheVariants.{Run, Help, Version, List as Listing}
 use Rattle.recode_words.specs.declared.request.WordsFault.{WordsFault}
@@ -33,17 +33,17 @@ pub record IsMeantBy (words : List Text) (w : Words) : Type 0 where
   pub from : given (codes "from") words ≡ Some w.from.now
   pub to : given (codes "to") words ≡ Some w.to.now
   pub indexes : given (codes "indexes") words ≡ Some w.indexes.now
-  pub mark : meant mark_of (codes "mark") words ≡ Some w.mark
+  pub mark : meant mark_named (codes "mark") words ≡ Some w.mark
   pub pivot : meant pivot_of (codes "pivot") words ≡ Some w.pivot
   pub limit : meant limit_of (codes "limit") words ≡ Some w.limit
 
 -- what the words ask for: clap's kind for `--version` is also that for `--list`
-abbrev pub Answers : List Text → Request → Type 0
-Answers words (Run w) = IsMeantBy words w
-Answers words (Help text) = EndsIn DisplayHelp words × IsLine (string_bytes text)
-Answers words (Version text) =
+abbrev pub AsksFor : List Text → Request → Type 0
+AsksFor words (Run w) = IsMeantBy words w
+AsksFor words (Help text) = EndsIn DisplayHelp words × IsLine (string_bytes text)
+AsksFor words (Version text) =
     EndsIn DisplayVersion words × (asks_list words ≡ false) × IsLine (string_bytes text)
-Answers words Listing = EndsIn DisplayVersion words × (asks_list words ≡ true)
+AsksFor words Listing = EndsIn DisplayVersion words × (asks_list words ≡ true)
 
 -- clap refuses the words: they ask for neither help nor the version
 abbrev pub IsRefusedByClap : List Text → Type 0
@@ -52,7 +52,7 @@ IsRefusedByClap words = (kind : ErrorKind) × EndsIn kind words × (kind ≢ Dis
 -- clap takes the words, but the value of one of these options stands for nothing
 abbrev pub HasMeaninglessValue : List Text → Type 0
 HasMeaninglessValue words = (fault_of recode_app words ≡ [])
-    × ((meant mark_of (codes "mark") words ≡ None)
+    × ((meant mark_named (codes "mark") words ≡ None)
     ⊎ ((meant pivot_of (codes "pivot") words ≡ None)
     ⊎ (meant limit_of (codes "limit") words ≡ None)))
 

@@ -1,6 +1,6 @@
 ghost use Rattle.std.specs.Prelude.{◌≡◌, ◌<◌, IfErr, IfOk, codes, length, map, string_bytes};
 ghost use Rattle.recode_words.specs.Given.{IsEndOf};
-ghost use Rattle.recode_words.specs.Request.{Answers, HasGoodLimit, IsFaultOf, IsLine, asks_list};
+ghost use Rattle.recode_words.specs.Request.{AsksFor, HasGoodLimit, IsFaultOf, IsLine, asks_list};
 
 use crate::command::command;
 use crate::values::{Values, WrongValue};
@@ -69,7 +69,7 @@ fn early_answer<'a>(
 ) -> Result<Request<'a>, WordsFault>
     requires named { 0 < length words.now }
     requires end { IsEndOf (map (λ s. s.now) words.now) error.now }
-    ensures ok { IfOk result (Answers (map (λ s. s.now) words.now)) }
+    ensures ok { IfOk result (AsksFor (map (λ s. s.now) words.now)) }
     ensures err { IfErr result (IsFaultOf (map (λ s. s.now) words.now)) }
 {
     match error.kind() {
@@ -111,7 +111,7 @@ fn refusal(
 /// option are refused. An empty label or folder is a value as any other.
 pub fn parse_words<'a>(alloc: Global, words: &'a [&'a str]) -> Result<Request<'a>, WordsFault>
     requires { 0 < length words.now }
-    ensures ok { IfOk result (Answers (map (λ s. s.now) words.now)) }
+    ensures ok { IfOk result (AsksFor (map (λ s. s.now) words.now)) }
     ensures limit { IfOk result HasGoodLimit }
     ensures err { IfErr result (IsFaultOf (map (λ s. s.now) words.now)) }
 {

@@ -1,5 +1,5 @@
 ghost use Rattle.std.specs.Prelude.{◌≡◌};
-ghost use Rattle.recode_words.specs.Meaning.{limit_of, mark_of, pivot_of};
+ghost use Rattle.recode_words.specs.Meaning.{limit_of, mark_named, pivot_of};
 
 /// The greatest limit, in bytes of input: 2^48.
 pub const GREATEST_LIMIT: u64 = 281474976710656;
@@ -18,7 +18,7 @@ pub enum MarkWord {
 impl MarkWord {
     /// The variant with this name, or `None` if there is none.
     pub fn from_name(name: &str) -> Option<MarkWord>
-        ensures { result ≡ mark_of name.now }
+        ensures { result ≡ mark_named name.now }
     {
         match name {
             "sniff" => Some(MarkWord::Sniff),

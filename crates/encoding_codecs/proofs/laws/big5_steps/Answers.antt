@@ -1,4 +1,4 @@
-use Rattle.encoding_codecs.specs.Big5Laws.{big5_steps}
+use Rattle.encoding_codecs.specs.laws.Big5.{big5_steps}
 use Rattle.encoding_codecs.proofs.laws.big5_steps.Goals as goal
 
 pub returns : goal.returns

@@ -1,4 +1,4 @@
-use Rattle.encoding_codecs.specs.CodecSteps.{gb18030_step_law}
+use Rattle.encoding_codecs.specs.laws.CodecSteps.{gb18030_step_law}
 use Rattle.encoding_codecs.proofs.laws.gb18030_steps.Goals as goal
 
 pub returns : goal.returns

@@ -1,4 +1,4 @@
-use Rattle.encoding_codecs.specs.CodecSteps.{shift_jis_step_law}
+use Rattle.encoding_codecs.specs.laws.CodecSteps.{shift_jis_step_law}
 use Rattle.encoding_codecs.proofs.laws.shift_jis_steps.Goals as goal
 
 pub returns : goal.returns

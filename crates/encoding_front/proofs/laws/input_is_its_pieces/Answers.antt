@@ -1,4 +1,4 @@
-use Rattle.encoding_front.specs.InputLaws.{marked_are_pieces, marked_few, marked_scalars, marked_whole, short_recoded}
+use Rattle.encoding_front.specs.laws.Input.{marked_are_pieces, marked_few, marked_scalars, marked_whole, short_recoded}
 use Rattle.encoding_front.proofs.laws.input_is_its_pieces.Goals as goal
 
 pub returns : goal.returns

@@ -1,7 +1,7 @@
 use Rattle.std.proofs.Common.{◌≡◌, ◌⊎◌, inl, ◌∷◌, Some, ap, sym, subst, ◌∙◌}
 use Rattle.encoding_index.specs.IndexText.{lines_in, first_fault, out_of_memory}
-use Rattle.encoding_index.specs.Outcomes.{outcomes}
-use Rattle.encoding_index.specs.RowsLeft.{outcomes_left}
+use Rattle.encoding_index.specs.laws.Outcomes.{outcomes}
+use Rattle.encoding_index.specs.laws.RowsLeft.{outcomes_left}
 use Rattle.encoding_index.proofs.ResultCases.{IfErr-from_residual, err_is}
 use Rattle.encoding_index.proofs.FirstFaults.{fault_has_a_line}
 use Rattle.encoding_index.proofs.RowLists.{IsGathering, gathering_stops, gathering_has_rows, gathering_ends}

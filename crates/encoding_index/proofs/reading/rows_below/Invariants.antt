@@ -1,6 +1,6 @@
 use Rattle.encoding_index.specs.IndexText.{lines_in}
-use Rattle.encoding_index.specs.Outcomes.{outcomes}
-use Rattle.encoding_index.specs.RowsLeft.{outcomes_left}
+use Rattle.encoding_index.specs.laws.Outcomes.{outcomes}
+use Rattle.encoding_index.specs.laws.RowsLeft.{outcomes_left}
 use Rattle.encoding_index.proofs.RowLists.{IsGathering}
 use Rattle.encoding_index.proofs.reading.rows_below.Given as goal
 

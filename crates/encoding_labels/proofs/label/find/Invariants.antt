@@ -1,7 +1,7 @@
 use Rattle.std.proofs.Common.{◌≡◌, map, drop}
 use Rattle.std.specs.Char.{to_ascii_lowercase}
 use Rattle.encoding_labels.specs.Labels.{place_in}
-use Rattle.encoding_labels.specs.Rows.{entries}
+use Rattle.encoding_labels.specs.laws.ByLength.{entries}
 use Rattle.encoding_labels.proofs.label.find.Given as goal
 
 abbrev pub invariant-loop-label : goal.invariant-loop-label

@@ -1,4 +1,4 @@
-use Rattle.encoding_mem.specs.EventLaws.{event_law}
+use Rattle.encoding_mem.specs.laws.Event.{event_law}
 use Rattle.encoding_mem.proofs.decoder_laws.decode_with_events.Goals as goal
 
 pub returns-clause-events : goal.returns-clause-events

@@ -1,4 +1,4 @@
-use Rattle.encoding_mem.specs.Utf8Laws.{utf8_reads_back}
+use Rattle.encoding_mem.specs.laws.Utf8.{utf8_reads_back}
 use Rattle.encoding_mem.proofs.decoder_laws.utf8_text_reads_back.Goals as goal
 
 pub returns : goal.returns

@@ -1,7 +1,7 @@
 use Rattle.std.proofs.Common.{◌≡◌, ℕ, ◌+◌, ◌-◌, ◌≤◌, List, length, take, drop, length-drop, refl, subst, ap, ◌∙◌, arith}
 use Rattle.std.proofs.lemmas.List.{take_rest, append-nil}
 use Rattle.encoding_mem.specs.Piece.{bad, AreGood, scalars_of}
-use Rattle.encoding_mem.specs.PieceLaws.{AreGood-last}
+use Rattle.encoding_mem.specs.laws.Piece.{AreGood-last}
 use Rattle.encoding_mem.specs.Decoding.{Reports}
 use Rattle.encoding_mem.specs.Room.{is_units}
 use Rattle.encoding_mem.specs.Text.{text_len}

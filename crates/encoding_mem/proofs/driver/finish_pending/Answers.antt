@@ -2,7 +2,7 @@ use Rattle.std.proofs.Common.{◌≡◌, ℕ, ◌+◌, ◌-◌, ◌≤◌, IsTru
 use Rattle.std.proofs.lemmas.Bool.{eqb-true}
 use Rattle.std.proofs.lemmas.List.{append-nil}
 use Rattle.encoding_mem.specs.Piece.{bad, AreGood, scalars_of}
-use Rattle.encoding_mem.specs.PieceLaws.{AreGood-last}
+use Rattle.encoding_mem.specs.laws.Piece.{AreGood-last}
 use Rattle.encoding_mem.specs.Decoding.{Reports}
 use Rattle.encoding_mem.specs.declared.decoder_result.DecoderResult.TheVariants.{Malformed}
 use Rattle.encoding_mem.proofs.Progress.{took_pending_of, near_few, left_few}

@@ -1,4 +1,4 @@
-use Rattle.encoding_mem.specs.EncodingLaws.{bytes_of-open_items, bytes_of-whole_items}
+use Rattle.encoding_mem.specs.laws.Encoding.{bytes_of-open_items, bytes_of-whole_items}
 use Rattle.encoding_mem.proofs.encoder_laws.bytes_of_items.Goals as goal
 
 pub returns-clause-text : goal.returns-clause-text

@@ -3,7 +3,7 @@ use Rattle.std.proofs.lemmas.List.{take_more, length-drop}
 use Rattle.std.proofs.lemmas.Str.{chars-IsAscii}
 use Rattle.std.proofs.lemmas.Bool.{cases_lt}
 use Rattle.std.specs.Char.{len_utf8}
-use Rattle.encoding_mem.specs.WritingLaws.{adds_encoded, adds-length}
+use Rattle.encoding_mem.specs.laws.Writing.{adds_encoded, adds-length}
 use Rattle.encoding_mem.proofs.Prefixes.{run_taken, run_within, latin1_over}
 use Rattle.encoding_mem.proofs.latin1_conversions.convert_latin1_to_utf8_partial.Goals as goal
 use Rattle.encoding_mem.proofs.latin1_conversions.convert_latin1_to_utf8_partial.Goals.{else-bytes-test, then-bytes-test+else-not-is_empty+then-not-fits}

@@ -1,5 +1,5 @@
 use Rattle.std.proofs.Common.{length, ap, arith}
-use Rattle.encoding_mem.specs.WritingLaws.{adds-length}
+use Rattle.encoding_mem.specs.laws.Writing.{adds-length}
 use Rattle.encoding_mem.proofs.Utf8Prefixes.{fits_longest}
 use Rattle.encoding_mem.proofs.utf8_conversions.convert_utf8_to_utf16_up_to_invalid.Goals as goal
 

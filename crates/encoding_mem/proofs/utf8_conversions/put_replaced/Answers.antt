@@ -4,7 +4,7 @@ use Rattle.encoding_mem.specs.contracts.utf8.Utf8DecoderPieceDecoder.TheImpl.{gh
 use Rattle.encoding_mem.specs.Decoding.{Reports, EndsWith}
 use Rattle.encoding_mem.specs.Piece.{ArePieces, first}
 use Rattle.encoding_mem.specs.Writing.{len_utf16}
-use Rattle.encoding_mem.specs.WritingLaws.{adds_none}
+use Rattle.encoding_mem.specs.laws.Writing.{adds_none}
 use Rattle.encoding_mem.proofs.Replacement.{goes_on, goes_on_bad, some_taken, all_written, never_full}
 use Rattle.encoding_mem.proofs.utf8_conversions.put_replaced.Goals as goal
 

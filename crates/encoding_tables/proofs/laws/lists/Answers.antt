@@ -1,4 +1,4 @@
-use Rattle.encoding_tables.specs.TableFaultsLaws.{acceptance_is_exact}
+use Rattle.encoding_tables.specs.laws.TableFaults.{acceptance_is_exact}
 use Rattle.encoding_tables.proofs.laws.lists.Goals as goal
 
 pub returns : goal.returns

@@ -1,4 +1,4 @@
-use Rattle.encoding_tables.specs.PointerLaws.{first_is_least, last_is_greatest}
+use Rattle.encoding_tables.specs.laws.Pointers.{first_is_least, last_is_greatest}
 use Rattle.encoding_tables.proofs.laws.pointers.Goals as goal
 
 pub returns : goal.returns

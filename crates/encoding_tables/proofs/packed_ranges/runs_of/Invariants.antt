@@ -1,5 +1,5 @@
 use Rattle.std.proofs.Common.{◌≡◌, ◌++◌, drop}
-use Rattle.encoding_tables.specs.RangeRuns.{runs_of}
+use Rattle.encoding_tables.specs.laws.RangeRuns.{runs_of}
 use Rattle.encoding_tables.proofs.packed_ranges.runs_of.Given as goal
 
 abbrev pub invariant-loop-index : goal.invariant-loop-index

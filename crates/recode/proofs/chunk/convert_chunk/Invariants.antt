@@ -1,5 +1,5 @@
 use Rattle.std.proofs.Common.{◌≡◌, ℕ, List, [], true, false, ◌+◌, ◌++◌, length}
-use Rattle.recode.specs.Buffers.{IsRoomy, is_wide}
+use Rattle.recode.specs.Buffers.{HoldsAnyCharacter, is_wide}
 use Rattle.recode.specs.Latency.{Advances}
 use Rattle.recode.specs.Payment.{PaysFor}
 use Rattle.recode.specs.Owed.{owes, AreSound}
@@ -19,7 +19,7 @@ invariant-chunk g l = record {
   writer_count : failures_of l.writer ≡ failures_of l.initial.writer;
   advances : l.last ≡ false → Advances (λ r. (g.D.StreamDecoder.view l.initial.decoder).state.pieces (l.initial.rest ++ r)) (λ r. (g.D.StreamDecoder.view l.decoder).state.pieces (l.rest ++ r))
       (g.E.RawEncoder.coding l.initial.encoder) (g.E.RawEncoder.set l.initial.encoder) (g.E.RawEncoder.set l.encoder) l.initial.counts l.counts;
-  roomy : IsRoomy l.pivot;
+  roomy : HoldsAnyCharacter l.pivot;
   kind : is_wide l.pivot ≡ is_wide l.initial.pivot;
   log_count : failures_of l.log ≡ failures_of l.initial.log;
 }

@@ -2,7 +2,7 @@ use Rattle.std.proofs.Common.{◌∙◌, ◌+◌, arith, refl, ap, length, lengt
 use Rattle.recode.proofs.Traces.{PaysFor-of, UnderpaysFor-of, Pays-join, Pays-join-under, on_err}
 use Rattle.recode.proofs.Calls.{some_written, empty_call, full_call, bad_call, end_none, full_some, good_fits, good_sound, ended_owed, ended_front, none_owed, full_owed, full_left, bad_fits, bad_sound, bad_place, bad_owed, bad_text_front, bad_piece_front, bad_left}
 use Rattle.encoding_mem.specs.Coding.{last_set}
-use Rattle.recode.specs.PivotText.{text_of}
+use Rattle.recode.specs.PivotText.{pivot_chars}
 use Rattle.recode.proofs.Latencies.{good_advances, bad_advances, settled_of}
 use Rattle.recode.proofs.PivotTexts.{holds_some}
 use Rattle.recode.proofs.chunk.decode_once.Goals as goal
@@ -31,7 +31,7 @@ pub returns-in_err-counts-in-OutputFull-clause-err : goal.returns-in_err-counts-
 returns-in_err-counts-in-OutputFull-clause-err g c =
     let k = full_call (g.D.StreamDecoder.view c.args.decoder.now).state (g.D.StreamDecoder.view c.decode_some-call.new.decoder).state _ _ _ _ _ (rw c.in-OutputFull.is at c.decode_some-call.ensures.law) c.text_in-text.ensures in
     on_err _ (UnderpaysFor-of _ _ _ _ _ _ _ c.in_err-counts-in-OutputFull.ensures.err
-    (λ r h. (_, full_owed _ _ _ _ _ _ k (g.E.RawEncoder.coding c.args.encoder.now) (g.E.RawEncoder.set c.args.encoder.now) (last_set (g.E.RawEncoder.coding c.args.encoder.now) (g.E.RawEncoder.set c.args.encoder.now) (text_of c.text_in-text.result)) c.args.counts (record c.args.counts { read = c.args.counts.read + c.decode_some-call.result.read; index = c.args.counts.index + length (text_of c.text_in-text.result) }) (omega (arith, c.requires.sound.index)) refl refl refl r h)))
+    (λ r h. (_, full_owed _ _ _ _ _ _ k (g.E.RawEncoder.coding c.args.encoder.now) (g.E.RawEncoder.set c.args.encoder.now) (last_set (g.E.RawEncoder.coding c.args.encoder.now) (g.E.RawEncoder.set c.args.encoder.now) (pivot_chars c.text_in-text.result)) c.args.counts (record c.args.counts { read = c.args.counts.read + c.decode_some-call.result.read; index = c.args.counts.index + length (pivot_chars c.text_in-text.result) }) (omega (arith, c.requires.sound.index)) refl refl refl r h)))
 
 pub encode_all-requires-in-Malformed-clause-index : goal.encode_all-requires-in-Malformed-clause-index
 encode_all-requires-in-Malformed-clause-index g c =

@@ -1,6 +1,6 @@
 use Rattle.std.proofs.Common.{◌∙◌, sym, ap, length}
 use Rattle.std.proofs.lemmas.Slice.{between_from_start}
-use Rattle.recode.specs.PivotText.{text_of}
+use Rattle.recode.specs.PivotText.{pivot_chars}
 use Rattle.recode.proofs.PivotTexts.{bytes_passed, units_passed}
 use Rattle.recode.proofs.codec_calls.encode_from.Goals as goal
 
@@ -8,9 +8,9 @@ pub returns-in-Utf8-clause-passed : goal.returns-in-Utf8-clause-passed
 returns-in-Utf8-clause-passed g c =
     bytes_passed c.in-Utf8.text.now c.range.result.now c.range_from.result.now c.encode_from_utf8_raw-answer.result.1 _ c.range.utf8 c.count_characters-characters.ensures
     (c.range.ensures.value ∙ between_from_start _ _) c.range_from.ensures.value
-    ∙ ap (λ t. length (text_of t)) (sym c.in-Utf8.is)
+    ∙ ap (λ t. length (pivot_chars t)) (sym c.in-Utf8.is)
 
 pub returns-in-Utf16-clause-passed : goal.returns-in-Utf16-clause-passed
 returns-in-Utf16-clause-passed g c =
     units_passed c.in-Utf16.units.now c.encode_from_utf16_raw-answer.ensures.law.front c.encode_from_utf16_raw-answer.result.1 _ c.encode_from_utf16_raw-answer.ensures.law.split c.count_in_units-characters.ensures
-    ∙ ap (λ t. length (text_of t)) (sym c.in-Utf16.is)
+    ∙ ap (λ t. length (pivot_chars t)) (sym c.in-Utf16.is)

@@ -3,7 +3,7 @@ use Rattle.recode.proofs.Traces.{pays_bytes, under_bytes, Pays-trans, Pays-under
 use Rattle.recode.proofs.Turns.{turn_items, less_bytes, less_note}
 use Rattle.encoding_mem.specs.Coding.{reference}
 use Rattle.encoding_mem.specs.Items.{Byte, LostAt, whole_items}
-use Rattle.recode.specs.PivotText.{text_of}
+use Rattle.recode.specs.PivotText.{pivot_chars}
 use Rattle.recode.specs.declared.counts.Counts.{Counts}
 use Rattle.recode.proofs.encode.encode_once.Goals as goal
 
@@ -42,7 +42,7 @@ returns-in_ok-counts-in-Unmappable-clause-pays g c =
     (Pays-trans _ _ _ _ _ _ c.args.counts (record c.args.counts { index = c.args.counts.index + c.encode_some-call.result.characters; calls = c.encode_some-call.result.calls }) c.in_ok-counts-in-Unmappable.counts _ _ _
     (pays_bytes _ _ _ _ _ _ _ _ c.in_ok-deliver.ensures.ok.0 refl refl (rw c.in-Unmappable.is at law))
     (c.in_ok-counts-in-Unmappable.ensures.pays _))
-    (ap (λ (k : Counts). whole_items (g.E.RawEncoder.coding c.args.encoder.now) c.args.last (g.E.RawEncoder.set c.encode_some-call.new.encoder) k.index (text_of c.encode_some-call.result.rest)) (sym c.in_ok-counts-in-Unmappable.ensures.counts))
+    (ap (λ (k : Counts). whole_items (g.E.RawEncoder.coding c.args.encoder.now) c.args.last (g.E.RawEncoder.set c.encode_some-call.new.encoder) k.index (pivot_chars c.encode_some-call.result.rest)) (sym c.in_ok-counts-in-Unmappable.ensures.counts))
 
 pub returns-in_ok-counts-in-Unmappable-clause-more : goal.returns-in_ok-counts-in-Unmappable-clause-more
 returns-in_ok-counts-in-Unmappable-clause-more g c same =

@@ -1,13 +1,13 @@
 use Rattle.std.proofs.Common.{ℕ, List, Option, inl, inr, map}
 use Rattle.recode_log.specs.declared.counted.Counted.{Counted}
-use Rattle.recode_words.specs.Request.{Answers}
+use Rattle.recode_words.specs.Request.{AsksFor}
 use Rattle.recode_words.specs.declared.request.Request.TheVariants.{Run}
 use Rattle.recode_words.specs.declared.words.Words.{Words}
 use Rattle.recode.specs.Program.{AnswersProgram, AnswersWords}
 use Rattle.recode.proofs.program.program.Goals as goal
 
 answers : {R W L : Type 0} (left : R → Option (List ℕ)) (written : W → Option (List ℕ)) (logged : L → Option (List ℕ)) (reader reader' : Counted R) (writer writer' : Counted W) (log log' : Counted L)
-    (words : List (List ℕ)) (w : Words) (status : ℕ) → Answers words (Run w) → AnswersWords left written logged reader reader' writer writer' log log' w status
+    (words : List (List ℕ)) (w : Words) (status : ℕ) → AsksFor words (Run w) → AnswersWords left written logged reader reader' writer writer' log log' w status
     → AnswersProgram left written logged reader reader' writer writer' log log' words status
 answers left written logged reader reader' writer writer' log log' words w status meant (inl (two, unknown, alone)) =
     inl record { answered = two; refused = inr (inr record { w = w; meant = meant; unknown = unknown }); alone = alone }

@@ -1,5 +1,5 @@
 use Rattle.std.proofs.Common.{length}
-use Rattle.encoding_mem.specs.RoomLaws.{roomy_modest}
+use Rattle.encoding_mem.specs.laws.Room.{roomy_modest}
 use Rattle.encoding_codecs.proofs.Iso2022JpFront.{iso_2022_jp_front, iso_2022_jp_modest}
 use Rattle.encoding_codecs.proofs.iso_2022_jp_decoder.Iso2022JpRuleFrontPiece.front.Goals as goal
 

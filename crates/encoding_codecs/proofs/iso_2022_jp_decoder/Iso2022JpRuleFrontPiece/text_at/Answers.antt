@@ -1,5 +1,5 @@
 use Rattle.std.proofs.Common.{refl}
-use Rattle.encoding_mem.specs.RoomLaws.{text_needs_multibyte}
+use Rattle.encoding_mem.specs.laws.Room.{text_needs_multibyte}
 use Rattle.encoding_codecs.proofs.Iso2022JpText.{plain_pieces, no_pieces, no_room}
 use Rattle.encoding_codecs.proofs.iso_2022_jp_decoder.Iso2022JpRuleFrontPiece.text_at.Goals as goal
 

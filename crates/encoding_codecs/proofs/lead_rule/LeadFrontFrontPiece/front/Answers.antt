@@ -1,6 +1,6 @@
 use Rattle.std.proofs.Common.{length}
-use Rattle.encoding_mem.specs.RoomLaws.{roomy_modest}
-use Rattle.encoding_codecs.specs.TwoByteLaws.{rule_front, modest_rule}
+use Rattle.encoding_mem.specs.laws.Room.{roomy_modest}
+use Rattle.encoding_codecs.specs.laws.TwoByte.{rule_front, modest_rule}
 use Rattle.encoding_codecs.proofs.lead_rule.LeadFrontFrontPiece.front.Goals as goal
 
 pub returns-clause-piece : goal.returns-clause-piece

@@ -1,7 +1,7 @@
-use Rattle.encoding_mem.specs.TextLaws.{pieces_by-ascii}
-use Rattle.encoding_mem.specs.RoomLaws.{text_needs_multibyte}
+use Rattle.encoding_mem.specs.laws.Text.{pieces_by-ascii}
+use Rattle.encoding_mem.specs.laws.Room.{text_needs_multibyte}
 use Rattle.encoding_codecs.specs.TwoByte.{front_by_lead}
-use Rattle.encoding_codecs.specs.TwoByteLaws.{cuts_rule, lead_ascii}
+use Rattle.encoding_codecs.specs.laws.TwoByte.{cuts_rule, lead_ascii}
 use Rattle.encoding_codecs.proofs.lead_rule.LeadFrontFrontPiece.text_at.Goals as goal
 
 pub returns-clause-pieces : goal.returns-clause-pieces

@@ -1,6 +1,6 @@
 use Rattle.std.proofs.Common.{ap, sym, ◌∙◌}
 use Rattle.encoding_front.specs.Stream.{encoding_after}
-use Rattle.encoding_front.specs.StreamLaws.{held_taken}
+use Rattle.encoding_front.specs.laws.Stream.{held_taken}
 use Rattle.encoding_front.proofs.decoder.DecoderStreamDecoder.encoding.Goals as goal
 
 pub returns-in-Some : goal.returns-in-Some

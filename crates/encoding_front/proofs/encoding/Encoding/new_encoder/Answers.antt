@@ -1,5 +1,5 @@
 use Rattle.std.proofs.Common.{◌∙◌, ap}
-use Rattle.encoding_front.specs.EncoderLaws.{output_twice}
+use Rattle.encoding_front.specs.laws.Encoder.{output_twice}
 use Rattle.encoding_front.specs.EncodingTable.{scheme_of}
 use Rattle.encoding_front.specs.Encodings.{coding_of, coding_of_scheme}
 use Rattle.encoding_front.specs.declared.encoding.Encoding.{Encoding}

@@ -1,6 +1,6 @@
 use Rattle.std.proofs.Common.{rules, arith, ◌≡◌, ℕ, ◌-◌, ◌++◌, List, length, true, false, sym, ◌∙◌, ap, subst, [], Some}
 use Rattle.encoding_front.specs.Seeking.{len_of, is_sought, find_mark, sought_pieces, sought_needs}
-use Rattle.encoding_front.specs.StreamLaws.{room_after_is}
+use Rattle.encoding_front.specs.laws.Stream.{room_after_is}
 use Rattle.encoding_front.specs.TakesMark.{Leaves}
 use Rattle.encoding_front.specs.declared.seeking.Sought.{Sought}
 use Rattle.encoding_front.specs.declared.seeking.Seen.TheVariants.{Front, Whole}

@@ -1,5 +1,5 @@
 use Rattle.std.proofs.Common.{◌≡◌, length}
-use Rattle.encoding_index.specs.RowsLeft.{outcomes_left}
+use Rattle.encoding_index.specs.laws.RowsLeft.{outcomes_left}
 use Rattle.encoding_index.proofs.rows.IndexRowsIterator.next.Given as goal
 
 abbrev pub invariant-loop-line : goal.invariant-loop-line

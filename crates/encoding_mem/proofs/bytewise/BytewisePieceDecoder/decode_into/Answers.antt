@@ -1,6 +1,6 @@
 use Rattle.std.proofs.Common.{◌≡◌, ℕ, List, [], ◌++◌, length, drop, subst}
 use Rattle.encoding_mem.specs.Decoding.{Takes, Reports}
-use Rattle.encoding_mem.specs.Driver.{Ends}
+use Rattle.encoding_mem.specs.Driver.{DriverEndsWith}
 use Rattle.encoding_mem.proofs.Endings.{ends_with, nothing_remains, suffices_now}
 use Rattle.encoding_mem.proofs.bytewise.BytewisePieceDecoder.decode_into.Goals as goal
 
@@ -18,7 +18,7 @@ returns-clause-ends g c =
     let P = F.pieces d.new.codec in
     let none : d.new.pending ≡ [] = nothing_remains P d.new.pending (g.met.F.DecidedPiece.decided d.new.codec) d.ensures.waits in
     ends_with P [] _ c.args.last _ _ _ (F.whole d.new.codec) (F.are_pieces d.new.codec) (F.needs d.new.codec) (F.limits d.new.codec) (F.covers d.new.codec) d.result.0 (F.ends d.new.codec)
-    (subst (λ (p : List ℕ). Ends P p (drop d.result.1 c.args.src.now) c.args.last (g.S.Sink.free d.new.sink) g.S.Sink.room (g.S.Sink.cost 0xFFFD) d.result.0) none d.ensures.ends)
+    (subst (λ (p : List ℕ). DriverEndsWith P p (drop d.result.1 c.args.src.now) c.args.last (g.S.Sink.free d.new.sink) g.S.Sink.room (g.S.Sink.cost 0xFFFD) d.result.0) none d.ensures.ends)
 
 pub returns-clause-enough : goal.returns-clause-enough
 returns-clause-enough g c =

@@ -5,7 +5,7 @@ use Rattle.std.specs.Str.Iter.{chars_rest}
 use Rattle.std.proofs.StrCases.{chars_of_empty}
 use Rattle.std.proofs.lemmas.List.{append-nil}
 use Rattle.std.proofs.lemmas.Str.{IsUtf8-past_char, chars_past_char, length-encode}
-use Rattle.encoding_mem.specs.WritingLaws.{len_utf16_le, adds_encoded16}
+use Rattle.encoding_mem.specs.laws.Writing.{len_utf16_le, adds_encoded16}
 use Rattle.encoding_mem.proofs.utf16_sink.Utf16Sink.put_chars.Goals as goal
 
 pub put-requires : goal.put-requires

@@ -1,9 +1,9 @@
 use Rattle.std.proofs.Common.{length}
 use Rattle.encoding_mem.specs.Utf8.{front_utf8}
-use Rattle.encoding_mem.specs.Utf8Decide.{decide_utf8}
-use Rattle.encoding_mem.specs.Utf8Laws.{cuts_utf8}
-use Rattle.encoding_mem.specs.Shows.{shows_front}
-use Rattle.encoding_mem.specs.RoomLaws.{roomy_short}
+use Rattle.encoding_mem.specs.laws.Utf8Decide.{decide_utf8}
+use Rattle.encoding_mem.specs.laws.Utf8.{cuts_utf8}
+use Rattle.encoding_mem.specs.laws.Shows.{shows_front}
+use Rattle.encoding_mem.specs.laws.Room.{roomy_short}
 use Rattle.encoding_mem.proofs.FrontUtf8.{shows_utf8}
 use Rattle.encoding_mem.proofs.utf8.Utf8FrontFrontPiece.front.Goals as goal
 

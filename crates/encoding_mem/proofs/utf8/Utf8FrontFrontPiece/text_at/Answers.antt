@@ -1,5 +1,5 @@
-use Rattle.encoding_mem.specs.Utf8Laws.{pieces_utf8-text}
-use Rattle.encoding_mem.specs.RoomLaws.{text_needs}
+use Rattle.encoding_mem.specs.laws.Utf8.{pieces_utf8-text}
+use Rattle.encoding_mem.specs.laws.Room.{text_needs}
 use Rattle.encoding_mem.proofs.utf8.Utf8FrontFrontPiece.text_at.Goals as goal
 
 pub returns-clause-pieces : goal.returns-clause-pieces

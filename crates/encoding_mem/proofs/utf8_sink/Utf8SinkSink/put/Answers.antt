@@ -1,4 +1,4 @@
-use Rattle.encoding_mem.specs.Utf8Laws.{encode_two, encode_three, encode_four}
+use Rattle.encoding_mem.specs.laws.Utf8.{encode_two, encode_three, encode_four}
 use Rattle.encoding_mem.proofs.utf8_sink.Utf8SinkSink.put.Goals as goal
 
 pub returns-then-code-lt2048-clause-writes : goal.returns-then-code-lt2048-clause-writes

@@ -1,4 +1,4 @@
-use Rattle.encoding_tables.specs.RangeRows.{range_pointer-before}
+use Rattle.encoding_tables.specs.laws.Ranges.{range_pointer-before}
 use Rattle.encoding_tables.proofs.packed_ranges.PackedRanges.pointer.Goals as goal
 
 pub returns-clause-before : goal.returns-clause-before

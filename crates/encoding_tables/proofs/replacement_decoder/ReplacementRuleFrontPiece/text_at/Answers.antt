@@ -1,6 +1,6 @@
 use Rattle.encoding_mem.specs.Room.{is_units}
 use Rattle.encoding_tables.specs.Replacement.{pieces_replacement}
-use Rattle.encoding_tables.specs.ReplacementLaws.{replacement_needs}
+use Rattle.encoding_tables.specs.laws.Replacement.{replacement_needs}
 use Rattle.encoding_tables.proofs.NoText.{no_pieces, no_room}
 use Rattle.encoding_tables.proofs.replacement_decoder.ReplacementRuleFrontPiece.text_at.Goals as goal
 

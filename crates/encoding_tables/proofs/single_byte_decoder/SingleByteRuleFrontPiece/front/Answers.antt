@@ -1,4 +1,4 @@
-use Rattle.encoding_tables.specs.SingleByteLaws.{single_byte_front}
+use Rattle.encoding_tables.specs.laws.SingleByte.{single_byte_front}
 use Rattle.encoding_tables.proofs.single_byte_decoder.SingleByteRuleFrontPiece.front.Goals as goal
 
 pub returns-clause-piece : goal.returns-clause-piece

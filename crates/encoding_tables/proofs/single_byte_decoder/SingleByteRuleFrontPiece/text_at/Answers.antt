@@ -1,7 +1,7 @@
-use Rattle.encoding_mem.specs.TextLaws.{pieces_by-ascii}
-use Rattle.encoding_mem.specs.RoomLaws.{text_needs_single_byte}
+use Rattle.encoding_mem.specs.laws.Text.{pieces_by-ascii}
+use Rattle.encoding_mem.specs.laws.Room.{text_needs_single_byte}
 use Rattle.encoding_tables.specs.SingleByte.{front_single_byte}
-use Rattle.encoding_tables.specs.SingleByteLaws.{cuts_single_byte, ascii_is_itself}
+use Rattle.encoding_tables.specs.laws.SingleByte.{cuts_single_byte, ascii_is_itself}
 use Rattle.encoding_tables.proofs.single_byte_decoder.SingleByteRuleFrontPiece.text_at.Goals as goal
 
 pub returns-clause-pieces : goal.returns-clause-pieces

@@ -1,4 +1,4 @@
-use Rattle.encoding_tables.specs.TableFaultsLaws.{is_index, entries_are_scalars}
+use Rattle.encoding_tables.specs.laws.TableFaults.{is_index, entries_are_scalars}
 use Rattle.encoding_tables.proofs.tables.Tables.flat.Goals as goal
 
 pub new-requires : goal.new-requires

@@ -1,8 +1,8 @@
 use Rattle.std.proofs.Common.{sym, ◌∙◌, ap, arith, Some, subst}
 use Rattle.encoding_tables.specs.IndexLists.{flat_at, AreAccepted}
 use Rattle.std.proofs.Math.ListN.{set}
-use Rattle.encoding_tables.specs.KindsLaws.{index-put, index-others, accepted-put, no_fault}
-use Rattle.encoding_tables.specs.TableFaultsLaws.{is_index}
+use Rattle.encoding_tables.specs.laws.Kinds.{index-put, index-others, accepted-put, no_fault}
+use Rattle.encoding_tables.specs.laws.TableFaults.{is_index}
 use Rattle.encoding_tables.proofs.KindSizes.{size_is_small}
 use Rattle.encoding_tables.proofs.tables.Tables.insert.Goals as goal
 

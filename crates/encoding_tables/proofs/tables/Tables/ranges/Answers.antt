@@ -1,4 +1,4 @@
-use Rattle.encoding_tables.specs.RangeRows.{have_scalars}
+use Rattle.encoding_tables.specs.laws.Ranges.{have_scalars}
 use Rattle.encoding_tables.proofs.tables.Tables.ranges.Goals as goal
 
 pub returns-clause-scalars : goal.returns-clause-scalars

@@ -1,4 +1,4 @@
-use Rattle.encoding_tables.specs.TableFaultsLaws.{entries_are_basic}
+use Rattle.encoding_tables.specs.laws.TableFaults.{entries_are_basic}
 use Rattle.encoding_tables.proofs.tables.Tables.single_byte.Goals as goal
 
 pub returns-clause-basic : goal.returns-clause-basic

@@ -1,7 +1,7 @@
-use Rattle.encoding_mem.specs.TextLaws.{pieces_by-ascii}
-use Rattle.encoding_mem.specs.RoomLaws.{text_needs_single_byte}
+use Rattle.encoding_mem.specs.laws.Text.{pieces_by-ascii}
+use Rattle.encoding_mem.specs.laws.Room.{text_needs_single_byte}
 use Rattle.encoding_tables.specs.UserDefined.{front_user_defined}
-use Rattle.encoding_tables.specs.UserDefinedLaws.{cuts_user_defined, ascii_user_defined}
+use Rattle.encoding_tables.specs.laws.UserDefined.{cuts_user_defined, ascii_user_defined}
 use Rattle.encoding_tables.proofs.user_defined_decoder.UserDefinedRuleFrontPiece.text_at.Goals as goal
 
 pub returns-clause-pieces : goal.returns-clause-pieces

@@ -1,8 +1,8 @@
 use Rattle.std.proofs.Common.{subst, sym, arith}
-use Rattle.encoding_mem.specs.Shows.{shows_front}
+use Rattle.encoding_mem.specs.laws.Shows.{shows_front}
 use Rattle.encoding_tables.specs.Utf16.{front_utf16}
-use Rattle.encoding_tables.specs.Utf16Decide.{decide_utf16}
-use Rattle.encoding_tables.specs.Utf16Laws.{cuts_utf16}
+use Rattle.encoding_tables.specs.laws.Utf16Decide.{decide_utf16}
+use Rattle.encoding_tables.specs.laws.Utf16.{cuts_utf16}
 use Rattle.encoding_tables.proofs.FrontUtf16.{shows_utf16}
 use Rattle.encoding_tables.proofs.RoomUtf16.{IsUtf16Front, of_utf16, roomy_utf16}
 use Rattle.encoding_tables.proofs.utf16_decoder.Utf16RuleFrontPiece.front.Goals as goal

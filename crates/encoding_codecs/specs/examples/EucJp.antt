@@ -1,0 +1,80 @@
+-- Worked rows of `specs/EucJp.antt`.
+use Rattle.std.specs.Prelude.{◌≡◌, ℕ, ◌+◌, ◌-◌, ◌*◌, ◌/◌, ◌%◌, ◌==◌, ◌||◌, Bool, List, [], ◌∷◌, ◌++◌, nat_lt, if◌then◌else◌, Option, None, Some, replicate}
+use Rattle.std.proofs.Common.{refl}
+use Rattle.std.specs.Int.{is_in_range}
+use Rattle.std.specs.Option.{option_map, option_or}
+use Rattle.encoding_mem.specs.Coding.{Coding}
+use Rattle.encoding_mem.specs.Piece.{Piece, good, bad}
+use Rattle.encoding_mem.specs.Pieces.{pieces_in, pieces_by}
+use Rattle.encoding_mem.specs.Stateless.{stateless}
+use Rattle.encoding_tables.specs.Lookups.{value_of, first_pointer}
+use Rattle.encoding_mem.specs.declared.form.Form.{Form}
+use Rattle.encoding_mem.specs.declared.form.Form.TheVariants.{Unmapped}
+use Rattle.encoding_codecs.specs.JisForms.{is_katakana_byte, katakana_of_byte, is_katakana, byte_of_katakana, folded}
+use Rattle.encoding_codecs.specs.Pointers.{value_of_entry, form_of_bytes}
+use Rattle.encoding_codecs.specs.TwoByte.{front_by_lead, after_bytes, piece_of_trail}
+use Rattle.encoding_codecs.specs.declared.lead_rule.FirstByte.{FirstByte}
+use Rattle.encoding_codecs.specs.declared.lead_rule.FirstByte.TheVariants.{Lead, Unused}
+use Rattle.encoding_codecs.specs.declared.two_byte.PairValue.{PairValue}
+use Rattle.encoding_codecs.specs.declared.two_byte.PairValue.TheVariants.{NoChar, OneChar}
+use Rattle.encoding_codecs.specs.EucJp.{pieces_euc_jp, euc_jp_pair_bytes, euc_jp_char_bytes, euc_jp_form}
+
+-- lists for examples: of jis0208 U+30FB at 5, U+4E00 at 7 and 9 and U+FF0D at 60, of jis0212 U+02D8 at 1
+unfoldable sample : List ℕ
+sample = replicate 5 0 ++ (0x30FB ∷ 0 ∷ 0x4E00 ∷ 0 ∷ 0x4E00 ∷ (replicate 50 0 ++ 0xFF0D ∷ []))
+
+unfoldable sample_0212 : List ℕ
+sample_0212 = 0 ∷ 0x02D8 ∷ []
+
+two_bytes : pieces_euc_jp sample sample_0212 (0xA1 ∷ 0xA6 ∷ 0x8E ∷ 0xDF ∷ 0x41 ∷ 0xA1 ∷ 0xDD ∷ [])
+    ≡ good 2 (0x30FB ∷ []) ∷ good 2 (0xFF9F ∷ []) ∷ good 1 (0x41 ∷ []) ∷ good 2 (0xFF0D ∷ []) ∷ []
+unfolding sample sample_0212 pieces_in
+two_bytes = refl
+
+three_bytes : pieces_euc_jp sample sample_0212 (0x8F ∷ 0xA1 ∷ 0xA2 ∷ 0x8F ∷ 0xA1 ∷ 0xA6 ∷ [])
+    ≡ good 3 (0x02D8 ∷ []) ∷ bad 3 ∷ []
+unfolding sample sample_0212 pieces_in
+three_bytes = refl
+
+-- what is ASCII is left unread, behind one byte and behind two
+ascii_is_left : pieces_euc_jp sample sample_0212 (0x8F ∷ 0xA1 ∷ 0x41 ∷ 0x8F ∷ 0x42 ∷ 0x8E ∷ 0x43 ∷ 0xA1 ∷ 0x44 ∷ [])
+    ≡ bad 2 ∷ good 1 (0x41 ∷ []) ∷ bad 1 ∷ good 1 (0x42 ∷ []) ∷ bad 1 ∷ good 1 (0x43 ∷ []) ∷ bad 1 ∷ good 1 (0x44 ∷ []) ∷ []
+unfolding sample sample_0212 pieces_in
+ascii_is_left = refl
+
+other_is_read : pieces_euc_jp sample sample_0212 (0x8F ∷ 0xA0 ∷ 0x8E ∷ 0xE0 ∷ 0xA1 ∷ 0xA1 ∷ 0x80 ∷ 0xFF ∷ [])
+    ≡ bad 2 ∷ bad 2 ∷ bad 2 ∷ bad 1 ∷ bad 1 ∷ []
+unfolding sample sample_0212 pieces_in
+other_is_read = refl
+
+cut_short : (pieces_euc_jp sample sample_0212 (0x8F ∷ 0xA1 ∷ []) ≡ bad 2 ∷ []) × (pieces_euc_jp sample sample_0212 (0x8F ∷ []) ≡ bad 1 ∷ [])
+unfolding sample sample_0212 pieces_in
+cut_short = (refl, refl)
+
+last_pointer : euc_jp_pair_bytes 8835 ≡ 0xFE ∷ 0xFE ∷ []
+last_pointer = refl
+
+overline : euc_jp_char_bytes sample 0x203E ≡ Some (0x7E ∷ [])
+unfolding sample
+overline = refl
+
+minus_sign : euc_jp_char_bytes sample 0x2212 ≡ Some (0xA1 ∷ 0xDD ∷ [])
+unfolding sample
+minus_sign = refl
+
+first_of_two : euc_jp_char_bytes sample 0x4E00 ≡ Some (0xA1 ∷ 0xA8 ∷ [])
+unfolding sample
+first_of_two = refl
+
+last_katakana : euc_jp_char_bytes sample 0xFF9F ≡ Some (0x8E ∷ 0xDF ∷ [])
+unfolding sample
+last_katakana = refl
+
+-- it is the minus sign that is reported, and not what it is looked up as
+unmappable_minus_sign : euc_jp_form [] 0x2212 ≡ Unmapped 0x2212
+unmappable_minus_sign = refl
+
+-- 80 is no character of EUC-JP
+no_control : euc_jp_form sample 0x80 ≡ Unmapped 0x80
+unfolding sample
+no_control = refl

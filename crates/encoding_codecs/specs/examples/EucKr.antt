@@ -1,0 +1,55 @@
+-- Worked rows of `specs/EucKr.antt`.
+use Rattle.std.specs.Prelude.{◌≡◌, ℕ, ◌+◌, ◌-◌, ◌*◌, ◌/◌, ◌%◌, List, [], ◌∷◌, if◌then◌else◌, refl}
+use Rattle.std.specs.Int.{is_in_range}
+use Rattle.encoding_mem.specs.Coding.{Coding}
+use Rattle.encoding_mem.specs.Piece.{Piece, good, bad}
+use Rattle.encoding_mem.specs.Pieces.{pieces_in, pieces_by}
+use Rattle.encoding_mem.specs.Stateless.{stateless}
+use Rattle.encoding_mem.specs.declared.form.Form.{Form}
+use Rattle.encoding_mem.specs.declared.form.Form.TheVariants.{Mapped, Unmapped}
+use Rattle.encoding_tables.specs.Lookups.{value_of, first_pointer}
+use Rattle.encoding_codecs.specs.TwoByte.{TwoByteRule, front_two_byte}
+use Rattle.encoding_codecs.specs.Pointers.{value_of_entry, form_by_pointer}
+use Rattle.encoding_codecs.specs.declared.lead_rule.FirstByte.{FirstByte}
+use Rattle.encoding_codecs.specs.declared.lead_rule.FirstByte.TheVariants.{Lead, Unused}
+use Rattle.encoding_codecs.specs.declared.two_byte.PairValue.{PairValue}
+use Rattle.encoding_codecs.specs.declared.two_byte.PairValue.TheVariants.{NoChar}
+use Rattle.encoding_codecs.specs.EucKr.{euc_kr_pointer, pieces_euc_kr, euc_kr_bytes, euc_kr_form}
+
+-- a list for examples, of the first trails of the lead 81: U+AC02 at 41 and 43, nothing at 42
+unfoldable sample : List ℕ
+sample = 0xAC02 ∷ 0 ∷ 0xAC02 ∷ []
+
+characters : pieces_euc_kr sample (0x81 ∷ 0x43 ∷ 0x41 ∷ 0x81 ∷ 0x41 ∷ []) ≡ good 2 (0xAC02 ∷ []) ∷ good 1 (0x41 ∷ []) ∷ good 2 (0xAC02 ∷ []) ∷ []
+unfolding sample pieces_in
+characters = refl
+
+-- 42 is ASCII, and is read again; FF is no trail
+no_entry : pieces_euc_kr sample (0x81 ∷ 0x42 ∷ 0x81 ∷ 0xFF ∷ []) ≡ bad 1 ∷ good 1 (0x42 ∷ []) ∷ bad 2 ∷ []
+unfolding sample pieces_in
+no_entry = refl
+
+unused : pieces_euc_kr sample (0x80 ∷ 0xFF ∷ 0x81 ∷ []) ≡ bad 1 ∷ bad 1 ∷ bad 1 ∷ []
+unfolding sample pieces_in
+unused = refl
+
+-- B0 A1 is the pointer 9026
+first_of_wansung : euc_kr_pointer 0xB0 0xA1 ≡ 9026
+first_of_wansung = refl
+
+its_bytes : euc_kr_bytes 9026 ≡ 0xB0 ∷ 0xA1 ∷ []
+its_bytes = refl
+
+last_bytes : euc_kr_bytes 23939 ≡ 0xFE ∷ 0xFE ∷ []
+last_bytes = refl
+
+least_pointer : euc_kr_form sample 0xAC02 ≡ Mapped (0x81 ∷ 0x41 ∷ [])
+unfolding sample
+least_pointer = refl
+
+itself : euc_kr_form sample 0x41 ≡ Mapped (0x41 ∷ [])
+itself = refl
+
+none : euc_kr_form sample 0x80 ≡ Unmapped 0x80
+unfolding sample
+none = refl

@@ -1,0 +1,26 @@
+-- Lemmas about the definitions of `specs/`. Nothing here has to be read to trust a claim.
+pub mod Big5
+pub mod CodecSteps
+pub mod CodecTables
+pub mod EucJpDecide
+pub mod EucJp
+pub mod EucJpSteps
+pub mod EucKr
+pub mod ExactReadBack
+pub mod Gb18030Coding
+pub mod Gb18030Decide
+pub mod Gb18030
+pub mod Gb18030Steps
+pub mod Gb18030Tables
+pub mod Iso2022JpDecide
+pub mod Iso2022JpForms
+pub mod Iso2022Jp
+pub mod JisForms
+pub mod JisSteps
+pub mod Pointers
+pub mod ShiftJis
+pub mod ShiftJisSteps
+pub mod Steps
+pub mod TextRooms
+pub mod TwoByteDecide
+pub mod TwoByte

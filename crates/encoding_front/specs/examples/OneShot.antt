@@ -1,0 +1,28 @@
+-- Worked rows of `specs/OneShot.antt`.
+use Rattle.std.specs.Prelude.{◌≡◌, ℕ, ◌<◌, Option, None, Some, [], refl}
+use Rattle.encoding_mem.specs.declared.room.Count.{Count}
+use Rattle.encoding_mem.specs.declared.room.Count.TheVariants.{Bytes, Replaced}
+use Rattle.encoding_front.specs.Encodings.{room_of_encoding}
+use Rattle.encoding_front.specs.Seeking.{sought_by}
+use Rattle.encoding_front.specs.Stream.{room_asked}
+use Rattle.encoding_front.specs.declared.encoding.Encoding.{Encoding}
+use Rattle.encoding_front.specs.declared.mark.Mark.{Mark}
+use Rattle.encoding_front.specs.declared.mark.Mark.TheVariants.{Sniff, Keep}
+use Rattle.encoding_front.specs.declared.one_shot_fault.OneShotFault.{OneShotFault}
+use Rattle.encoding_front.specs.declared.one_shot_fault.OneShotFault.TheVariants.{Overflow, Memory}
+use Rattle.encoding_front.specs.OneShot.{room_at_start}
+
+sniffed : room_at_start Sniff Encoding.Windows1252 Replaced 4 ≡ Some 15
+sniffed = refl
+
+kept : room_at_start Keep Encoding.Windows1252 Replaced 4 ≡ Some 12
+kept = refl
+
+kept_without_replacement : room_at_start Keep Encoding.Utf8 Bytes 4 ≡ Some 7
+kept_without_replacement = refl
+
+nothing : room_at_start Keep Encoding.Windows1252 Replaced 0 ≡ Some 0
+nothing = refl
+
+too_much : room_at_start Keep Encoding.Utf8 Replaced 0x5555555555555555 ≡ None
+too_much = refl

@@ -1,0 +1,52 @@
+-- Worked rows of `specs/Stream.antt`.
+use Rattle.std.specs.Prelude.{◌≡◌, ℕ, ◌+◌, ◌||◌, ◌&&◌, nat_lt, Bool, true, false, if◌then◌else◌, IsTrue, Option, None, Some, List, [], ◌∷◌, ◌++◌, length, refl}
+use Rattle.encoding_mem.specs.Decoding.{DecoderState}
+use Rattle.encoding_mem.specs.Room.{queried, room_utf8, room_utf16, room_single_byte, room_replacement}
+use Rattle.encoding_mem.specs.declared.decoder_result.DecoderResult.{DecoderResult}
+use Rattle.encoding_mem.specs.declared.decoder_result.DecoderResult.TheVariants.{InputEmpty, OutputFull, Malformed}
+use Rattle.encoding_mem.specs.declared.room.Count.{Count}
+use Rattle.encoding_mem.specs.declared.room.Count.TheVariants.{Units, Bytes, Replaced}
+use Rattle.encoding_mem.specs.declared.room.Room.{Room}
+use Rattle.encoding_tables.specs.IndexLists.{IndexLists}
+use Rattle.encoding_front.specs.Encodings.{pieces_of, room_of_encoding}
+use Rattle.encoding_front.specs.Latin1Prefix.{latin1_rule, IsAtRest, IsLatin1Prefix}
+use Rattle.encoding_front.specs.Marks.{marked_pieces, source_of}
+use Rattle.encoding_front.specs.Seeking.{can_be, encoding_of_mark, find_mark, is_sought, mark_taken, nothing_sought, sought_by, sought_pieces}
+use Rattle.encoding_front.specs.declared.encoding.Encoding.{Encoding}
+use Rattle.encoding_front.specs.declared.mark.Mark.{Mark}
+use Rattle.encoding_front.specs.declared.mark.Mark.TheVariants.{Sniff}
+use Rattle.encoding_front.specs.declared.seeking.ByteOrderMark.{ByteOrderMark}
+use Rattle.encoding_front.specs.declared.seeking.ByteOrderMark.TheVariants.{Utf8, Utf16Be, Utf16Le}
+use Rattle.encoding_front.specs.declared.seeking.Seen.{Seen}
+use Rattle.encoding_front.specs.declared.seeking.Sought.{Sought}
+use Rattle.encoding_front.specs.Stream.{Opening, room_asked}
+
+sniffing_windows_1252 : List ℕ → Opening
+sniffing_windows_1252 held = record { sought = sought_by Sniff Encoding.Windows1252; held = held; room = room_single_byte; pending = 0 }
+
+at_the_start : room_asked (sniffing_windows_1252 []) Bytes 4 ≡ Some 12
+unfolding sniffing_windows_1252
+at_the_start = refl
+
+at_the_start_too_many : room_asked (sniffing_windows_1252 []) Replaced 0xFFFFFFFFFFFFFFFF ≡ None
+unfolding sniffing_windows_1252
+at_the_start_too_many = refl
+
+held_to_units : room_asked (sniffing_windows_1252 (0xEF ∷ [])) Units 1 ≡ Some 4
+unfolding sniffing_windows_1252
+held_to_units = refl
+
+held_to_bytes : room_asked (sniffing_windows_1252 (0xEF ∷ [])) Bytes 1 ≡ Some 9
+unfolding sniffing_windows_1252
+held_to_bytes = refl
+
+held_with_replacement : room_asked (sniffing_windows_1252 (0xEF ∷ [])) Replaced 1 ≡ Some 12
+unfolding sniffing_windows_1252
+held_with_replacement = refl
+
+-- a BB that is still to be handed on, where nothing is looked for any more
+handed_on : room_asked (record { sought = nothing_sought; held = 0xBB ∷ []; room = room_single_byte; pending = 0 }) Units 1 ≡ Some 3
+handed_on = refl
+
+of_replacement : room_asked (record { sought = nothing_sought; held = []; room = room_replacement; pending = 0 }) Bytes 0xFFFFFFFFFFFFFFFF ≡ Some 3
+of_replacement = refl

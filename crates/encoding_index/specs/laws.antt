@@ -1,0 +1,3 @@
+-- Lemmas about the definitions of `specs/`. Nothing here has to be read to trust a claim.
+pub mod Outcomes
+pub mod RowsLeft

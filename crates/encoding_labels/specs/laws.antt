@@ -1,0 +1,2 @@
+-- Lemmas about the definitions of `specs/`. Nothing here has to be read to trust a claim.
+pub mod ByLength

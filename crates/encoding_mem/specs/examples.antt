@@ -1,0 +1,6 @@
+-- Worked rows: what the definitions of `specs/` come to on inputs that a reader can work by hand.
+pub mod Encoding
+pub mod Texts
+pub mod SampleCoding
+pub mod Room
+pub mod Utf8

@@ -1,0 +1,12 @@
+-- Worked rows: what the definitions of `specs/` come to on inputs that a reader can work by hand.
+pub mod FileNames
+pub mod Lookups
+pub mod PackedRows
+pub mod RangeFaults
+pub mod Ranges
+pub mod Replacement
+pub mod SingleByte
+pub mod SortedRows
+pub mod TableFaults
+pub mod UserDefined
+pub mod Utf16

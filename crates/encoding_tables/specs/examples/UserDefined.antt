@@ -1,0 +1,31 @@
+-- Worked rows of `specs/UserDefined.antt`.
+use Rattle.std.specs.Prelude.{◌≡◌, ℕ, ◌+◌, ◌-◌, List, [], ◌∷◌, nat_lt, if◌then◌else◌, Option, None, Some, refl}
+use Rattle.std.specs.Int.{is_in_range}
+use Rattle.encoding_mem.specs.Coding.{Coding, output}
+use Rattle.encoding_mem.specs.Piece.{Piece, good}
+use Rattle.encoding_mem.specs.Pieces.{pieces_in, pieces_by}
+use Rattle.encoding_tables.specs.EachByte.{front_by_byte, coding_by_byte}
+use Rattle.encoding_tables.specs.UserDefined.{byte_of_user_char, pieces_user_defined, user_defined_coding}
+
+-- the first and the last byte that are not ASCII
+in_a_row : pieces_user_defined (0x7F ∷ 0x80 ∷ 0xFF ∷ [])
+    ≡ good 1 (0x7F ∷ []) ∷ good 1 (0xF780 ∷ []) ∷ good 1 (0xF7FF ∷ []) ∷ []
+unfolding pieces_in
+in_a_row = refl
+
+no_bytes : pieces_user_defined [] ≡ []
+unfolding pieces_in
+no_bytes = refl
+
+back : output user_defined_coding (0x7F ∷ 0xF780 ∷ 0xF7FF ∷ []) ≡ 0x7F ∷ 0x80 ∷ 0xFF ∷ []
+back = refl
+
+-- the characters beside them, and one that another encoding has at 80
+before_the_first : byte_of_user_char 0xF77F ≡ None
+before_the_first = refl
+
+behind_the_last : byte_of_user_char 0xF800 ≡ None
+behind_the_last = refl
+
+no_latin1 : byte_of_user_char 0x80 ≡ None
+no_latin1 = refl

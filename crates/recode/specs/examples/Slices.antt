@@ -1,0 +1,11 @@
+-- Worked rows of `specs/Slices.antt`.
+use Rattle.std.specs.Prelude.{◌≡◌, ℕ, List, [], ◌∷◌, take, drop, refl}
+use Rattle.encoding_mem.specs.Piece.{Piece, piece_len}
+use Rattle.encoding_mem.specs.Pieces.{pieces_in}
+use Rattle.encoding_mem.specs.Utf8.{pieces_utf8}
+use Rattle.recode.specs.Slices.{slices}
+
+-- `Aé`, and a byte that begins nothing
+of_text : slices (pieces_utf8 (0x41 ∷ 0xC3 ∷ 0xA9 ∷ 0x80 ∷ [])) (0x41 ∷ 0xC3 ∷ 0xA9 ∷ 0x80 ∷ []) ≡ (0x41 ∷ []) ∷ (0xC3 ∷ 0xA9 ∷ []) ∷ (0x80 ∷ []) ∷ []
+unfolding pieces_in
+of_text = refl

@@ -1,0 +1,110 @@
+#!/usr/bin/env python3
+"""What the merge gate does not look at, in seconds: `make lint`.
+
+    python3 tools/lint.py
+
+- A public name of `specs/` has one definition in the whole repository.
+- Lines of `src/` over 100 columns: no more than `tools/long_lines` says, and that number is today's, so it only falls.
+- Each edit of `must-fail/` and `edits/` names a file, and each text that it replaces stands in it once.
+- Each root file begins its code with the tactic that proofs are found by, and no handle is allowed.
+"""
+
+import collections
+import os
+import re
+import sys
+
+TOP = os.path.join(os.path.dirname(os.path.abspath(__file__)), "..")
+CRATES = os.path.join(TOP, "crates")
+LONG_LINES = os.path.join(TOP, "tools", "long_lines")
+COLUMNS = 100
+
+# A public definition of a file of `specs/`: a record, a function or an abbreviation, with its type.
+DEFINITION = re.compile(r"^(?:abbrev |unfoldable |irrelevant )*pub (?:(?:record|data|abbrev|unfoldable) )*([^\s:({]+)")
+
+
+def read(path):
+    with open(path, encoding="utf-8") as file:
+        return file.read()
+
+
+def files(folder, ending):
+    """The files with an ending in each crate's folder of that name and in the folders below it."""
+    for crate in sorted(os.listdir(CRATES)):
+        for place, folders, names in os.walk(os.path.join(CRATES, crate, folder)):
+            folders.sort()
+            for name in sorted(names):
+                if name.endswith(ending):
+                    yield os.path.relpath(os.path.join(place, name), TOP)
+
+
+def double_names():
+    places = collections.defaultdict(list)
+    for path in files("specs", ".antt"):
+        for number, line in enumerate(read(os.path.join(TOP, path)).split("\n"), 1):
+            found = DEFINITION.match(line)
+            if found and found.group(1) not in ("mod", "use"):
+                places[found.group(1)].append("%s:%d" % (path, number))
+    for name, found in sorted(places.items()):
+        if len(found) > 1:
+            yield "%s is defined %d times: %s" % (name, len(found), ", ".join(found))
+
+
+def long_lines():
+    count = sum(
+        len(line) > COLUMNS for path in files("src", ".rt") for line in read(os.path.join(TOP, path)).split("\n")
+    )
+    limit = int(read(LONG_LINES))
+    if count > limit:
+        yield "%d lines of src/ have more than %d columns; tools/long_lines allows %d" % (count, COLUMNS, limit)
+    if count < limit:
+        yield "%d lines of src/ have more than %d columns: write this number to tools/long_lines" % (count, COLUMNS)
+
+
+def edit_faults(path):
+    """What is wrong with an edit. A later text is looked for in what the earlier ones have made."""
+    crate, texts, target, old = path.split("/")[1], {}, None, None
+    for line in read(os.path.join(TOP, path)).rstrip("\n").split("\n"):
+        word, _, rest = line.partition(":")
+        rest = rest.removeprefix(" ")
+        if word == "file":
+            target = os.path.join(CRATES, crate, rest)
+            if not os.path.isfile(target):
+                yield "%s names %s, which is no file" % (path, rest)
+                return
+            texts.setdefault(target, read(target))
+        elif word == "old" and target:
+            old = rest
+            count = texts[target].count(old)
+            if count != 1:
+                yield "%s: %r stands %d times in its file" % (path, old, count)
+        elif word == "new" and old:
+            texts[target] = texts[target].replace(old, rest)
+        else:
+            yield "%s has a line that is no file, old or new" % path
+
+
+def edits():
+    for folder in ("must-fail", "edits"):
+        for path in files(folder, ".edit"):
+            yield from edit_faults(path)
+
+
+def roots():
+    if read(os.path.join(TOP, "HANDLES")) != "Handles allowed: none.\n":
+        yield "HANDLES is not the line 'Handles allowed: none.'"
+    for name in ("lib.rt", "main.rt"):
+        for path in files("src", name):
+            if "#![tactic(auto)]\n" not in read(os.path.join(TOP, path)):
+                yield "%s has no line #![tactic(auto)]" % path
+
+
+def main():
+    faults = [fault for check in (double_names, long_lines, edits, roots) for fault in check()]
+    for fault in faults:
+        print(fault)
+    return 1 if faults else 0
+
+
+if __name__ == "__main__":
+    sys.exit(main())
