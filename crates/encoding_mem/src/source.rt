@@ -181,10 +181,7 @@ fn scalar_of(code: u32) -> char
     requires { IsScalar code }
     ensures { result ≡ code }
 {
-    match char::from_u32(code) {
-        Some(c) => c,
-        None => unreachable!(),
-    }
+    unsafe { char::from_u32_unchecked(code) }
 }
 
 // The first character of units, and how many units it has. A surrogate in no pair gives U+FFFD.

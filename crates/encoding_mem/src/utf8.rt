@@ -249,11 +249,12 @@ fn decide_three(b: u8, c: u8, d: u8, rest: &[u8], last: bool) -> Front
     }
 }
 
+#[inline(always)]
 fn char_of(code: u32) -> char
     requires { InScalarRange code }
     ensures { result ≡ code }
 {
-    char::from_u32(code).unwrap()
+    unsafe { char::from_u32_unchecked(code) }
 }
 
 /// Decodes UTF-8.

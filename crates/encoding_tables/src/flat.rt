@@ -67,5 +67,5 @@ pub(crate) fn scalar_of(code: u32) -> char
     requires { InScalarRange code }
     ensures { result ≡ code }
 {
-    char::from_u32(code).unwrap()
+    unsafe { char::from_u32_unchecked(code) }
 }

@@ -157,7 +157,7 @@ fn char_of(code: u32) -> char
     requires { IsScalar code }
     ensures { result ≡ code }
 {
-    char::from_u32(code).unwrap()
+    unsafe { char::from_u32_unchecked(code) }
 }
 
 /// Decodes UTF-16, in either byte order. A surrogate in no pair is bad, and so are the bytes that the end
