@@ -1,0 +1,22 @@
+-- Worked rows of `specs/Coding.antt`. Outputs are in `Encoding`.
+use Rattle.std.specs.Prelude.{◌≡◌, [], ◌∷◌, codes, refl}
+use Rattle.std.specs.Fmt.{digits}
+use Rattle.encoding_mem.specs.Coding.{open_from, last_set, lost_count}
+use Rattle.encoding_mem.specs.examples.SampleCoding.{sample_coding}
+use Rattle.encoding_mem.specs.declared.form.Set.TheVariants.{Ascii, Roman, Jis}
+
+-- `A`, é, あ, Ê: the two with accents have no bytes in the sample target
+lost_letters : lost_count sample_coding (0x41 ∷ 0xE9 ∷ 0x3042 ∷ 0xCA ∷ []) ≡ 2
+lost_letters = refl
+
+-- a yen sign needs Roman, in which `A` stays; あ needs JIS
+roman_stays : last_set sample_coding Ascii (0xA5 ∷ 0x41 ∷ []) ≡ Roman
+roman_stays = refl
+
+jis_is_last : last_set sample_coding Roman (0x41 ∷ 0x3042 ∷ []) ≡ Jis
+jis_is_last = refl
+
+-- the escape to Roman, the yen sign, and the reference of é in Roman
+reference_in_roman : open_from sample_coding Ascii (0xA5 ∷ 0xE9 ∷ []) ≡ 0x1B ∷ 0x28 ∷ 0x4A ∷ 0x5C ∷ codes "&#233;"
+unfolding digits
+reference_in_roman = refl
