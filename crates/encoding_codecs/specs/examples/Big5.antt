@@ -1,5 +1,5 @@
 -- Worked rows of `specs/Big5.antt`.
-use Rattle.std.specs.Prelude.{◌≡◌, ℕ, ◌+◌, ◌-◌, ◌*◌, ◌/◌, ◌%◌, ◌==◌, ◌||◌, Bool, List, [], ◌∷◌, ◌++◌, nat_lt, if◌then◌else◌, refl, replicate, Option}
+use Rattle.std.specs.Prelude.{◌≡◌, ℕ, ◌+◌, ◌-◌, ◌*◌, ◌/◌, ◌%◌, ◌==◌, ◌||◌, Bool, List, [], ◌∷◌, ◌++◌, nat_lt, if◌then◌else◌, refl, replicate, Option, map}
 use Rattle.std.specs.Int.{is_in_range}
 use Rattle.encoding_mem.specs.Coding.{Coding}
 use Rattle.encoding_mem.specs.Piece.{Piece, good, bad}
@@ -71,3 +71,69 @@ takes_the_last = refl
 takes_the_first : big5_form (twice 0x4E00) 0x4E00 ≡ Mapped (0xA1 ∷ 0x40 ∷ [])
 unfolding twice
 takes_the_first = refl
+
+-- U+2550, U+255E, U+2561, U+256A, U+5341 and U+5345 take their last pointer, the scalar values beside them their first
+unfoldable last_pointers : List ℕ
+last_pointers = 0x2550 ∷ 0x255E ∷ 0x2561 ∷ 0x256A ∷ 0x5341 ∷ 0x5345 ∷ []
+
+unfoldable other_scalars : List ℕ
+other_scalars = 0x2551 ∷ 0x255D ∷ 0x2562 ∷ 0x2569 ∷ 0x5342 ∷ 0x5344 ∷ []
+
+written_by_the_last : map (big5_form (replicate 5024 0 ++ (last_pointers ++ last_pointers))) last_pointers
+    ≡ Mapped (0xA1 ∷ 0x46 ∷ []) ∷ Mapped (0xA1 ∷ 0x47 ∷ []) ∷ Mapped (0xA1 ∷ 0x48 ∷ []) ∷ Mapped (0xA1 ∷ 0x49 ∷ []) ∷ Mapped (0xA1 ∷ 0x4A ∷ []) ∷ Mapped (0xA1 ∷ 0x4B ∷ []) ∷ []
+unfolding last_pointers
+written_by_the_last = refl
+
+written_by_the_first : map (big5_form (replicate 5024 0 ++ (other_scalars ++ other_scalars))) other_scalars
+    ≡ Mapped (0xA1 ∷ 0x40 ∷ []) ∷ Mapped (0xA1 ∷ 0x41 ∷ []) ∷ Mapped (0xA1 ∷ 0x42 ∷ []) ∷ Mapped (0xA1 ∷ 0x43 ∷ []) ∷ Mapped (0xA1 ∷ 0x44 ∷ []) ∷ Mapped (0xA1 ∷ 0x45 ∷ []) ∷ []
+unfolding other_scalars
+written_by_the_first = refl
+
+-- an index with one entry
+abbrev at : ℕ → ℕ → List ℕ
+at pointer c = replicate pointer 0 ++ (c ∷ [])
+
+-- pointers from 5024 to 19781 are written, by the first and by the last
+pointers_of_the_first : map (λ p. big5_form (at p 0x4E00) 0x4E00) (5023 ∷ 5024 ∷ 19781 ∷ 19782 ∷ [])
+    ≡ Unmapped 0x4E00 ∷ Mapped (0xA1 ∷ 0x40 ∷ []) ∷ Mapped (0xFE ∷ 0xFE ∷ []) ∷ Unmapped 0x4E00 ∷ []
+pointers_of_the_first = refl
+
+pointers_of_the_last : map (λ p. big5_form (at p 0x5341) 0x5341) (5023 ∷ 5024 ∷ 19781 ∷ 19782 ∷ [])
+    ≡ Unmapped 0x5341 ∷ Mapped (0xA1 ∷ 0x40 ∷ []) ∷ Mapped (0xFE ∷ 0xFE ∷ []) ∷ Unmapped 0x5341 ∷ []
+pointers_of_the_last = refl
+
+-- U+007F is ASCII, U+0080 is not
+ascii_end : map (big5_form []) (0x7F ∷ 0x80 ∷ []) ≡ Mapped (0x7F ∷ []) ∷ Unmapped 0x80 ∷ []
+ascii_end = refl
+
+-- the trails 7E and A1 stand side by side, FE before the next lead
+bytes_side_by_side : map big5_bytes (5086 ∷ 5087 ∷ 5180 ∷ 5181 ∷ [])
+    ≡ (0xA1 ∷ 0x7E ∷ []) ∷ (0xA1 ∷ 0xA1 ∷ []) ∷ (0xA1 ∷ 0xFE ∷ []) ∷ (0xA2 ∷ 0x40 ∷ []) ∷ []
+bytes_side_by_side = refl
+
+unfoldable neighbours : List ℕ
+neighbours = 0x4E00 ∷ (replicate 61 0 ++ (0x4E01 ∷ 0x4E02 ∷ (replicate 92 0 ++ (0x4E03 ∷ 0x4E04 ∷ []))))
+
+trail_ends : pieces_big5 neighbours (0x81 ∷ 0x40 ∷ 0x81 ∷ 0x7E ∷ 0x81 ∷ 0xA1 ∷ 0x81 ∷ 0xFE ∷ 0x82 ∷ 0x40 ∷ [])
+    ≡ good 2 (0x4E00 ∷ []) ∷ good 2 (0x4E01 ∷ []) ∷ good 2 (0x4E02 ∷ []) ∷ good 2 (0x4E03 ∷ []) ∷ good 2 (0x4E04 ∷ []) ∷ []
+unfolding neighbours pieces_in
+trail_ends = refl
+
+-- with another trail a pair is malformed, whatever the index holds: 3F and 7F are ASCII, and are read again
+no_trails : pieces_big5 (replicate 320 0x4E00) (0x81 ∷ 0x3F ∷ 0x81 ∷ 0x7F ∷ 0x81 ∷ 0x80 ∷ 0x81 ∷ 0xA0 ∷ 0x81 ∷ 0xFF ∷ [])
+    ≡ bad 1 ∷ good 1 (0x3F ∷ []) ∷ bad 1 ∷ good 1 (0x7F ∷ []) ∷ bad 2 ∷ bad 2 ∷ bad 2 ∷ []
+unfolding pieces_in
+no_trails = refl
+
+-- FE leads, at the pointers 19625 to 19781; 80 and FF do not
+last_lead : pieces_big5 (replicate 19625 0 ++ (0x4E00 ∷ (replicate 155 0 ++ (0x4E01 ∷ [])))) (0xFE ∷ 0x40 ∷ 0xFE ∷ 0xFE ∷ 0xFF ∷ 0x40 ∷ 0x80 ∷ 0x40 ∷ [])
+    ≡ good 2 (0x4E00 ∷ []) ∷ good 2 (0x4E01 ∷ []) ∷ bad 1 ∷ good 1 (0x40 ∷ []) ∷ bad 1 ∷ good 1 (0x40 ∷ []) ∷ []
+unfolding pieces_in
+last_lead = refl
+
+-- the four pointers give their letters whatever the index holds, and those beside them what it holds
+beside_letters : pieces_big5 (replicate 1168 0x4E00) (0x88 ∷ 0x61 ∷ 0x88 ∷ 0x62 ∷ 0x88 ∷ 0x63 ∷ 0x88 ∷ 0x64 ∷ 0x88 ∷ 0x65 ∷ 0x88 ∷ 0xA2 ∷ 0x88 ∷ 0xA3 ∷ 0x88 ∷ 0xA4 ∷ 0x88 ∷ 0xA5 ∷ 0x88 ∷ 0xA6 ∷ [])
+    ≡ good 2 (0x4E00 ∷ []) ∷ good 2 (0xCA ∷ 0x304 ∷ []) ∷ good 2 (0x4E00 ∷ []) ∷ good 2 (0xCA ∷ 0x30C ∷ []) ∷ good 2 (0x4E00 ∷ [])
+    ∷ good 2 (0x4E00 ∷ []) ∷ good 2 (0xEA ∷ 0x304 ∷ []) ∷ good 2 (0x4E00 ∷ []) ∷ good 2 (0xEA ∷ 0x30C ∷ []) ∷ good 2 (0x4E00 ∷ []) ∷ []
+unfolding pieces_in
+beside_letters = refl

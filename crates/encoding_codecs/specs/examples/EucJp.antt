@@ -1,5 +1,5 @@
 -- Worked rows of `specs/EucJp.antt`.
-use Rattle.std.specs.Prelude.{◌≡◌, ℕ, ◌+◌, ◌-◌, ◌*◌, ◌/◌, ◌%◌, ◌==◌, ◌||◌, Bool, List, [], ◌∷◌, ◌++◌, nat_lt, if◌then◌else◌, Option, None, Some, replicate}
+use Rattle.std.specs.Prelude.{◌≡◌, ℕ, ◌+◌, ◌-◌, ◌*◌, ◌/◌, ◌%◌, ◌==◌, ◌||◌, Bool, List, [], ◌∷◌, ◌++◌, nat_lt, if◌then◌else◌, Option, None, Some, replicate, map}
 use Rattle.std.proofs.Common.{refl}
 use Rattle.std.specs.Int.{is_in_range}
 use Rattle.std.specs.Option.{option_map, option_or}
@@ -9,7 +9,7 @@ use Rattle.encoding_mem.specs.Pieces.{pieces_in, pieces_by}
 use Rattle.encoding_mem.specs.Stateless.{stateless}
 use Rattle.encoding_tables.specs.Lookups.{value_of, first_pointer}
 use Rattle.encoding_mem.specs.declared.form.Form.{Form}
-use Rattle.encoding_mem.specs.declared.form.Form.TheVariants.{Unmapped}
+use Rattle.encoding_mem.specs.declared.form.Form.TheVariants.{Unmapped, Mapped}
 use Rattle.encoding_codecs.specs.JisForms.{is_katakana_byte, katakana_of_byte, is_katakana, byte_of_katakana, folded}
 use Rattle.encoding_codecs.specs.Pointers.{value_of_entry, form_of_bytes}
 use Rattle.encoding_codecs.specs.TwoByte.{front_by_lead, after_bytes, piece_of_trail}
@@ -78,3 +78,75 @@ unmappable_minus_sign = refl
 no_control : euc_jp_form sample 0x80 ≡ Unmapped 0x80
 unfolding sample
 no_control = refl
+
+-- an index with one entry
+abbrev at : ℕ → ℕ → List ℕ
+at pointer c = replicate pointer 0 ++ (c ∷ [])
+
+-- U+4E9C at 1410, its row 16 and cell 1: B0 A1
+a_kanji : (pieces_euc_jp (at 1410 0x4E9C) [] (0xB0 ∷ 0xA1 ∷ []) ≡ good 2 (0x4E9C ∷ []) ∷ [])
+    × (euc_jp_form (at 1410 0x4E9C) 0x4E9C ≡ Mapped (0xB0 ∷ 0xA1 ∷ []))
+unfolding pieces_in
+a_kanji = (refl, refl)
+
+-- U+02D8 at 108 of jis0212, its row 2 and cell 15: 8F A2 AF; it is never written
+three_byte_kanji : (pieces_euc_jp [] (at 108 0x02D8) (0x8F ∷ 0xA2 ∷ 0xAF ∷ []) ≡ good 3 (0x02D8 ∷ []) ∷ [])
+    × (euc_jp_form [] 0x02D8 ≡ Unmapped 0x02D8)
+unfolding pieces_in
+three_byte_kanji = (refl, refl)
+
+-- jis0208 is written from the pointers below 8836, which two bytes reach
+last_written : map (λ p. euc_jp_form (at p 0x4E00) 0x4E00) (0 ∷ 93 ∷ 94 ∷ 8272 ∷ 8835 ∷ 8836 ∷ [])
+    ≡ Mapped (0xA1 ∷ 0xA1 ∷ []) ∷ Mapped (0xA1 ∷ 0xFE ∷ []) ∷ Mapped (0xA2 ∷ 0xA1 ∷ []) ∷ Mapped (0xF9 ∷ 0xA1 ∷ []) ∷ Mapped (0xFE ∷ 0xFE ∷ []) ∷ Unmapped 0x4E00 ∷ []
+last_written = refl
+
+-- two bytes are A1 to FE each: the pointers 0, 93, 94 and 8835
+unfoldable corners : List ℕ
+corners = 0x4E00 ∷ (replicate 92 0 ++ (0x4E01 ∷ 0x4E02 ∷ (replicate 8740 0 ++ (0x4E03 ∷ []))))
+
+pair_ends : pieces_euc_jp corners [] (0xA1 ∷ 0xA1 ∷ 0xA1 ∷ 0xFE ∷ 0xA2 ∷ 0xA1 ∷ 0xFE ∷ 0xFE ∷ [])
+    ≡ good 2 (0x4E00 ∷ []) ∷ good 2 (0x4E01 ∷ []) ∷ good 2 (0x4E02 ∷ []) ∷ good 2 (0x4E03 ∷ []) ∷ []
+unfolding corners pieces_in
+pair_ends = refl
+
+triple_ends : pieces_euc_jp [] corners (0x8F ∷ 0xA1 ∷ 0xA1 ∷ 0x8F ∷ 0xA1 ∷ 0xFE ∷ 0x8F ∷ 0xA2 ∷ 0xA1 ∷ 0x8F ∷ 0xFE ∷ 0xFE ∷ [])
+    ≡ good 3 (0x4E00 ∷ []) ∷ good 3 (0x4E01 ∷ []) ∷ good 3 (0x4E02 ∷ []) ∷ good 3 (0x4E03 ∷ []) ∷ []
+unfolding corners pieces_in
+triple_ends = refl
+
+-- A0 and FF are neither second nor third bytes, whatever the indexes hold
+no_trails : pieces_euc_jp (replicate 190 0x4E00) (replicate 190 0x4E00) (0xA1 ∷ 0xA0 ∷ 0xA1 ∷ 0xFF ∷ 0x8F ∷ 0xA0 ∷ 0x8F ∷ 0xFF ∷ 0x8F ∷ 0xA1 ∷ 0xA0 ∷ 0x8F ∷ 0xA1 ∷ 0xFF ∷ [])
+    ≡ bad 2 ∷ bad 2 ∷ bad 2 ∷ bad 2 ∷ bad 3 ∷ bad 3 ∷ []
+unfolding pieces_in
+no_trails = refl
+
+-- 7F is ASCII, 80 is not
+ascii_end : pieces_euc_jp [] [] (0xA1 ∷ 0x7F ∷ 0x8F ∷ 0xA1 ∷ 0x7F ∷ 0xA1 ∷ 0x80 ∷ 0x8F ∷ 0xA1 ∷ 0x80 ∷ [])
+    ≡ bad 1 ∷ good 1 (0x7F ∷ []) ∷ bad 2 ∷ good 1 (0x7F ∷ []) ∷ bad 2 ∷ bad 3 ∷ []
+unfolding pieces_in
+ascii_end = refl
+
+-- nothing begins with 80, 8D, 90, A0 or FF
+no_leads : pieces_euc_jp (replicate 8836 0x4E00) [] (0x80 ∷ 0x8D ∷ 0x90 ∷ 0xA0 ∷ 0xFF ∷ 0x41 ∷ [])
+    ≡ bad 1 ∷ bad 1 ∷ bad 1 ∷ bad 1 ∷ bad 1 ∷ good 1 (0x41 ∷ []) ∷ []
+unfolding pieces_in
+no_leads = refl
+
+-- behind 8E A1 to DF are halfwidth katakana
+katakana_ends : pieces_euc_jp [] [] (0x8E ∷ 0xA1 ∷ 0x8E ∷ 0xDF ∷ 0x8E ∷ 0xA0 ∷ 0x8E ∷ 0xE0 ∷ [])
+    ≡ good 2 (0xFF61 ∷ []) ∷ good 2 (0xFF9F ∷ []) ∷ bad 2 ∷ bad 2 ∷ []
+unfolding pieces_in
+katakana_ends = refl
+
+-- U+00A5 is 5C, U+203E 7E, U+FF61 to U+FF9F 8E and A1 to DF; those beside them have no bytes
+own_forms : map (euc_jp_form []) (0x5C ∷ 0x7E ∷ 0x7F ∷ 0xA5 ∷ 0x203E ∷ 0xFF61 ∷ 0xFF9F ∷ [])
+    ≡ Mapped (0x5C ∷ []) ∷ Mapped (0x7E ∷ []) ∷ Mapped (0x7F ∷ []) ∷ Mapped (0x5C ∷ []) ∷ Mapped (0x7E ∷ []) ∷ Mapped (0x8E ∷ 0xA1 ∷ []) ∷ Mapped (0x8E ∷ 0xDF ∷ []) ∷ []
+own_forms = refl
+
+no_own_form : map (euc_jp_form []) (0xA4 ∷ 0xA6 ∷ 0x203D ∷ 0x203F ∷ 0xFF60 ∷ 0xFFA0 ∷ [])
+    ≡ map Unmapped (0xA4 ∷ 0xA6 ∷ 0x203D ∷ 0x203F ∷ 0xFF60 ∷ 0xFFA0 ∷ [])
+no_own_form = refl
+
+-- U+2212 is looked up as U+FF0D
+looked_up : map (euc_jp_form (0x2212 ∷ 0xFF0D ∷ [])) (0x2212 ∷ 0xFF0D ∷ []) ≡ Mapped (0xA1 ∷ 0xA2 ∷ []) ∷ Mapped (0xA1 ∷ 0xA2 ∷ []) ∷ []
+looked_up = refl

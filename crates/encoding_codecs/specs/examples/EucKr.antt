@@ -1,5 +1,5 @@
 -- Worked rows of `specs/EucKr.antt`.
-use Rattle.std.specs.Prelude.{◌≡◌, ℕ, ◌+◌, ◌-◌, ◌*◌, ◌/◌, ◌%◌, List, [], ◌∷◌, if◌then◌else◌, refl}
+use Rattle.std.specs.Prelude.{◌≡◌, ℕ, ◌+◌, ◌-◌, ◌*◌, ◌/◌, ◌%◌, List, [], ◌∷◌, if◌then◌else◌, refl, map, replicate, ◌++◌}
 use Rattle.std.specs.Int.{is_in_range}
 use Rattle.encoding_mem.specs.Coding.{Coding}
 use Rattle.encoding_mem.specs.Piece.{Piece, good, bad}
@@ -53,3 +53,26 @@ itself = refl
 none : euc_kr_form sample 0x80 ≡ Unmapped 0x80
 unfolding sample
 none = refl
+
+-- the trails are 41 to FE, a lead has 190; 40 is no trail
+unfoldable neighbours : List ℕ
+neighbours = 0xAC00 ∷ (replicate 188 0xAC01 ++ (0xAC02 ∷ 0xAC03 ∷ []))
+
+trail_ends : pieces_euc_kr neighbours (0x81 ∷ 0x41 ∷ 0x81 ∷ 0xFE ∷ 0x82 ∷ 0x41 ∷ 0x82 ∷ 0x40 ∷ 0x81 ∷ 0xFF ∷ [])
+    ≡ good 2 (0xAC00 ∷ []) ∷ good 2 (0xAC02 ∷ []) ∷ good 2 (0xAC03 ∷ []) ∷ bad 1 ∷ good 1 (0x40 ∷ []) ∷ bad 2 ∷ []
+unfolding neighbours pieces_in
+trail_ends = refl
+
+-- FE leads
+last_lead : pieces_euc_kr (replicate 23939 0 ++ (0xAC00 ∷ [])) (0xFE ∷ 0xFE ∷ 0xFF ∷ 0x41 ∷ [])
+    ≡ good 2 (0xAC00 ∷ []) ∷ bad 1 ∷ good 1 (0x41 ∷ []) ∷ []
+unfolding pieces_in
+last_lead = refl
+
+-- the index has the pointers below 23940
+last_of_index : map (λ p. euc_kr_form (replicate p 0 ++ (0xAC00 ∷ [])) 0xAC00) (189 ∷ 190 ∷ 23939 ∷ 23940 ∷ [])
+    ≡ Mapped (0x81 ∷ 0xFE ∷ []) ∷ Mapped (0x82 ∷ 0x41 ∷ []) ∷ Mapped (0xFE ∷ 0xFE ∷ []) ∷ Unmapped 0xAC00 ∷ []
+last_of_index = refl
+
+ascii_end : euc_kr_form [] 0x7F ≡ Mapped (0x7F ∷ [])
+ascii_end = refl

@@ -1,5 +1,5 @@
 -- Worked rows of `specs/Gb18030.antt`.
-use Rattle.std.specs.Prelude.{◌≡◌, ℕ, ◌+◌, ◌-◌, ◌*◌, ◌==◌, ◌||◌, List, [], ◌∷◌, nat_lt, if◌then◌else◌, Option, None, Some, refl}
+use Rattle.std.specs.Prelude.{◌≡◌, ℕ, ◌+◌, ◌-◌, ◌*◌, ◌==◌, ◌||◌, List, [], ◌∷◌, nat_lt, if◌then◌else◌, Option, None, Some, refl, replicate, ◌++◌}
 use Rattle.std.specs.Int.{is_in_range}
 use Rattle.encoding_mem.specs.Piece.{Piece, good, bad}
 use Rattle.encoding_mem.specs.Pieces.{pieces_in, pieces_by}
@@ -59,3 +59,74 @@ cut_after_two = refl
 cut_after_three : pieces_gb18030 sample_flat sample_rows (0x81 ∷ 0x30 ∷ 0x81 ∷ []) ≡ bad 3 ∷ []
 unfolding pieces_in
 cut_after_three = refl
+
+-- entries: U+4E00 at the first two leads' pointers, U+4E05 at 23750 and U+4E06 at 23939, the first and the last of FE
+unfoldable wide : List ℕ
+wide = replicate 381 0x4E00 ++ (replicate 23369 0 ++ (0x4E05 ∷ (replicate 188 0 ++ (0x4E06 ∷ []))))
+
+-- the trails are 40 to 7E and 80 to FE
+trail_ends : pieces_gb18030 wide [] (0x81 ∷ 0x40 ∷ 0x81 ∷ 0x7E ∷ 0x81 ∷ 0x80 ∷ 0x81 ∷ 0xFE ∷ []) ≡ replicate 4 (good 2 (0x4E00 ∷ []))
+unfolding wide pieces_in
+trail_ends = refl
+
+-- with another trail a pair is malformed: 3F and 7F are ASCII, and are read again; FF is not
+no_trails : pieces_gb18030 wide [] (0x81 ∷ 0x3F ∷ 0x81 ∷ 0x7F ∷ 0x81 ∷ 0xFF ∷ 0x41 ∷ [])
+    ≡ bad 1 ∷ good 1 (0x3F ∷ []) ∷ bad 1 ∷ good 1 (0x7F ∷ []) ∷ bad 2 ∷ good 1 (0x41 ∷ []) ∷ []
+unfolding wide pieces_in
+no_trails = refl
+
+-- 7E and 80 are trails of neighbours; each lead has 190 pointers; FE leads, FF does not
+unfoldable neighbours : List ℕ
+neighbours = 0x4E00 ∷ (replicate 61 0 ++ (0x4E01 ∷ 0x4E02 ∷ (replicate 125 0 ++ (0x4E03 ∷ 0x4E04 ∷ []))))
+
+pairs : pieces_gb18030 neighbours [] (0x81 ∷ 0x40 ∷ 0x81 ∷ 0x7E ∷ 0x81 ∷ 0x80 ∷ 0x81 ∷ 0xFE ∷ 0x82 ∷ 0x40 ∷ [])
+    ≡ good 2 (0x4E00 ∷ []) ∷ good 2 (0x4E01 ∷ []) ∷ good 2 (0x4E02 ∷ []) ∷ good 2 (0x4E03 ∷ []) ∷ good 2 (0x4E04 ∷ []) ∷ []
+unfolding neighbours pieces_in
+pairs = refl
+
+last_lead : pieces_gb18030 wide [] (0xFE ∷ 0x40 ∷ 0xFE ∷ 0xFE ∷ 0xFF ∷ 0x40 ∷ [])
+    ≡ good 2 (0x4E05 ∷ []) ∷ good 2 (0x4E06 ∷ []) ∷ bad 1 ∷ good 1 (0x40 ∷ []) ∷ []
+unfolding wide pieces_in
+last_lead = refl
+
+-- ranges that give U+0080 to the pointer 0, and U+10000 to 189000: the second and the fourth byte are 30 to 39, the third 81 to FE
+unfoldable ranges : List (ℕ × ℕ)
+ranges = (0, 0x80) ∷ (189000, 0x10000) ∷ []
+
+four_bytes_first : pieces_gb18030 [] ranges (0x81 ∷ 0x30 ∷ 0x81 ∷ 0x30 ∷ 0x81 ∷ 0x30 ∷ 0x81 ∷ 0x39 ∷ [])
+    ≡ good 4 (0x80 ∷ []) ∷ good 4 (0x89 ∷ []) ∷ []
+unfolding ranges pieces_in
+four_bytes_first = refl
+
+-- the pointers 1250, 11340 and 12600
+four_bytes_up : pieces_gb18030 [] ranges (0x81 ∷ 0x30 ∷ 0xFE ∷ 0x30 ∷ 0x81 ∷ 0x39 ∷ 0x81 ∷ 0x30 ∷ 0x82 ∷ 0x30 ∷ 0x81 ∷ 0x30 ∷ [])
+    ≡ good 4 (0x562 ∷ []) ∷ good 4 (0x2CCC ∷ []) ∷ good 4 (0x31B8 ∷ []) ∷ []
+unfolding ranges pieces_in
+four_bytes_up = refl
+
+-- 2F and 3A are no digits: what is behind the lead is read again
+no_second_digit : pieces_gb18030 [] ranges (0x81 ∷ 0x2F ∷ 0x81 ∷ 0x3A ∷ []) ≡ bad 1 ∷ good 1 (0x2F ∷ []) ∷ bad 1 ∷ good 1 (0x3A ∷ []) ∷ []
+unfolding ranges pieces_in
+no_second_digit = refl
+
+no_fourth_digit : pieces_gb18030 [] ranges (0x81 ∷ 0x30 ∷ 0x81 ∷ 0x2F ∷ 0x81 ∷ 0x30 ∷ 0x81 ∷ 0x3A ∷ [])
+    ≡ bad 1 ∷ good 1 (0x30 ∷ []) ∷ bad 1 ∷ good 1 (0x2F ∷ []) ∷ bad 1 ∷ good 1 (0x30 ∷ []) ∷ bad 1 ∷ good 1 (0x3A ∷ []) ∷ []
+unfolding ranges pieces_in
+no_fourth_digit = refl
+
+-- nor are 80 and FF third bytes
+no_third_byte : pieces_gb18030 [] ranges (0x81 ∷ 0x30 ∷ 0x80 ∷ 0x81 ∷ 0x30 ∷ 0xFF ∷ [])
+    ≡ bad 1 ∷ good 1 (0x30 ∷ []) ∷ good 1 (0x20AC ∷ []) ∷ bad 1 ∷ good 1 (0x30 ∷ []) ∷ bad 1 ∷ []
+unfolding ranges pieces_in
+no_third_byte = refl
+
+-- the last pointer in the basic plane and the one behind it, the one before the first above it and that one
+planes : pieces_gb18030 [] ranges (0x84 ∷ 0x31 ∷ 0xA4 ∷ 0x39 ∷ 0x84 ∷ 0x31 ∷ 0xA5 ∷ 0x30 ∷ 0x8F ∷ 0x39 ∷ 0xFE ∷ 0x39 ∷ 0x90 ∷ 0x30 ∷ 0x81 ∷ 0x30 ∷ [])
+    ≡ good 4 (0x9A7B ∷ []) ∷ bad 4 ∷ bad 4 ∷ good 4 (0x10000 ∷ []) ∷ []
+unfolding ranges pieces_in
+planes = refl
+
+-- FE leads four bytes too; FF does not
+last_lead_of_four : pieces_gb18030 [] ranges (0xFE ∷ 0x30 ∷ 0x81 ∷ 0x30 ∷ 0xFF ∷ 0x30 ∷ []) ≡ bad 4 ∷ bad 1 ∷ good 1 (0x30 ∷ []) ∷ []
+unfolding ranges pieces_in
+last_lead_of_four = refl

@@ -1,5 +1,5 @@
 -- Worked rows of `specs/ShiftJis.antt`.
-use Rattle.std.specs.Prelude.{◌≡◌, ℕ, ◌+◌, ◌-◌, ◌*◌, ◌/◌, ◌%◌, ◌==◌, ◌||◌, Bool, List, [], ◌∷◌, ◌++◌, nat_lt, if◌then◌else◌, Option, None, Some, replicate}
+use Rattle.std.specs.Prelude.{◌≡◌, ℕ, ◌+◌, ◌-◌, ◌*◌, ◌/◌, ◌%◌, ◌==◌, ◌||◌, Bool, List, [], ◌∷◌, ◌++◌, nat_lt, if◌then◌else◌, Option, None, Some, replicate, map}
 use Rattle.std.proofs.Common.{refl}
 use Rattle.std.specs.Int.{is_in_range}
 use Rattle.std.specs.Option.{option_map, option_or}
@@ -68,3 +68,84 @@ private_use_is_unmappable = refl
 last_katakana : shift_jis_form sample 0xFF9F ≡ Mapped (0xDF ∷ [])
 unfolding sample
 last_katakana = refl
+
+-- an index with one entry
+abbrev at : ℕ → ℕ → List ℕ
+at pointer c = replicate pointer 0 ++ (c ∷ [])
+
+-- U+4E9C at 1410, its row 16 and cell 1: 88 9F
+a_kanji : (pieces_shift_jis (at 1410 0x4E9C) (0x88 ∷ 0x9F ∷ []) ≡ good 2 (0x4E9C ∷ []) ∷ [])
+    × (shift_jis_form (at 1410 0x4E9C) 0x4E9C ≡ Mapped (0x88 ∷ 0x9F ∷ []))
+unfolding pieces_in
+a_kanji = (refl, refl)
+
+-- ED 40 to EF FC, the pointers 8272 to 8835, are read and not written
+gap_is_read : pieces_shift_jis (replicate 8271 0 ++ (0x4E01 ∷ 0x4E00 ∷ (replicate 562 0 ++ (0x4E02 ∷ [])))) (0xEC ∷ 0xFC ∷ 0xED ∷ 0x40 ∷ 0xEF ∷ 0xFC ∷ [])
+    ≡ good 2 (0x4E01 ∷ []) ∷ good 2 (0x4E00 ∷ []) ∷ good 2 (0x4E02 ∷ []) ∷ []
+unfolding pieces_in
+gap_is_read = refl
+
+gap_is_not_written : map (λ p. shift_jis_form (at p 0x4E00) 0x4E00) (8271 ∷ 8272 ∷ 8835 ∷ 8836 ∷ [])
+    ≡ Mapped (0xEC ∷ 0xFC ∷ []) ∷ Unmapped 0x4E00 ∷ Unmapped 0x4E00 ∷ Mapped (0xF0 ∷ 0x40 ∷ []) ∷ []
+gap_is_not_written = refl
+
+-- what stands in it and behind it is written as that which stands behind
+behind_the_gap : shift_jis_form (replicate 8272 0 ++ (0x4E00 ∷ (replicate 2443 0 ++ (0x4E00 ∷ [])))) 0x4E00 ≡ Mapped (0xFA ∷ 0x40 ∷ [])
+behind_the_gap = refl
+
+-- the index has the pointers below 11280
+last_of_index : map (λ p. shift_jis_form (at p 0x4E00) 0x4E00) (11279 ∷ 11280 ∷ []) ≡ Mapped (0xFC ∷ 0xFC ∷ []) ∷ Unmapped 0x4E00 ∷ []
+last_of_index = refl
+
+-- beside the characters for private use, which the pointers 8836 to 10715 give, the index counts
+beside_private_use : pieces_shift_jis (replicate 11280 0x4E00) (0xEF ∷ 0xFC ∷ 0xF0 ∷ 0x40 ∷ 0xF0 ∷ 0x41 ∷ 0xF9 ∷ 0xFB ∷ 0xF9 ∷ 0xFC ∷ 0xFA ∷ 0x40 ∷ [])
+    ≡ good 2 (0x4E00 ∷ []) ∷ good 2 (0xE000 ∷ []) ∷ good 2 (0xE001 ∷ []) ∷ good 2 (0xE756 ∷ []) ∷ good 2 (0xE757 ∷ []) ∷ good 2 (0x4E00 ∷ []) ∷ []
+unfolding pieces_in
+beside_private_use = refl
+
+private_use_has_no_form : map (shift_jis_form sample) (0xE000 ∷ 0xE757 ∷ []) ≡ Unmapped 0xE000 ∷ Unmapped 0xE757 ∷ []
+unfolding sample
+private_use_has_no_form = refl
+
+-- the trails are 40 to 7E and 80 to FC: a lead has 188
+unfoldable neighbours : List ℕ
+neighbours = 0x4E00 ∷ (replicate 61 0 ++ (0x4E01 ∷ 0x4E02 ∷ (replicate 123 0 ++ (0x4E03 ∷ 0x4E04 ∷ []))))
+
+trail_ends : pieces_shift_jis neighbours (0x81 ∷ 0x40 ∷ 0x81 ∷ 0x7E ∷ 0x81 ∷ 0x80 ∷ 0x81 ∷ 0xFC ∷ 0x82 ∷ 0x40 ∷ [])
+    ≡ good 2 (0x4E00 ∷ []) ∷ good 2 (0x4E01 ∷ []) ∷ good 2 (0x4E02 ∷ []) ∷ good 2 (0x4E03 ∷ []) ∷ good 2 (0x4E04 ∷ []) ∷ []
+unfolding neighbours pieces_in
+trail_ends = refl
+
+-- with another trail a pair is malformed: 3F and 7F are ASCII, and are read again
+no_trails : pieces_shift_jis (replicate 380 0x4E00) (0x81 ∷ 0x3F ∷ 0x81 ∷ 0x7F ∷ 0x81 ∷ 0xFD ∷ 0x81 ∷ 0xFF ∷ [])
+    ≡ bad 1 ∷ good 1 (0x3F ∷ []) ∷ bad 1 ∷ good 1 (0x7F ∷ []) ∷ bad 2 ∷ bad 2 ∷ []
+unfolding pieces_in
+no_trails = refl
+
+-- the leads are 81 to 9F and E0 to FC; A1 to DF are halfwidth katakana
+leads : pieces_shift_jis (replicate 11280 0x4E00) (0x9F ∷ 0xFC ∷ 0xE0 ∷ 0x40 ∷ 0xFC ∷ 0xFC ∷ []) ≡ replicate 3 (good 2 (0x4E00 ∷ []))
+unfolding pieces_in
+leads = refl
+
+no_leads : pieces_shift_jis (replicate 11280 0x4E00) (0x80 ∷ 0x40 ∷ 0xA0 ∷ 0x40 ∷ 0xA1 ∷ 0x40 ∷ 0xDF ∷ 0x40 ∷ 0xFD ∷ 0x40 ∷ 0xFF ∷ [])
+    ≡ good 1 (0x80 ∷ []) ∷ good 1 (0x40 ∷ []) ∷ bad 1 ∷ good 1 (0x40 ∷ []) ∷ good 1 (0xFF61 ∷ []) ∷ good 1 (0x40 ∷ []) ∷ good 1 (0xFF9F ∷ []) ∷ good 1 (0x40 ∷ []) ∷ bad 1 ∷ good 1 (0x40 ∷ []) ∷ bad 1 ∷ []
+unfolding pieces_in
+no_leads = refl
+
+bytes_side_by_side : map shift_jis_pair_bytes (0 ∷ 187 ∷ 188 ∷ 5828 ∷ 8272 ∷ [])
+    ≡ (0x81 ∷ 0x40 ∷ []) ∷ (0x81 ∷ 0xFC ∷ []) ∷ (0x82 ∷ 0x40 ∷ []) ∷ (0xE0 ∷ 0x40 ∷ []) ∷ (0xED ∷ 0x40 ∷ []) ∷ []
+bytes_side_by_side = refl
+
+-- ASCII and U+0080 are themselves, U+00A5 is 5C, U+203E 7E, U+FF61 to U+FF9F A1 to DF; those beside them have no byte
+single_byte_forms : map (shift_jis_form []) (0x5C ∷ 0x7E ∷ 0x7F ∷ 0x80 ∷ 0xA5 ∷ 0x203E ∷ 0xFF61 ∷ 0xFF9F ∷ [])
+    ≡ Mapped (0x5C ∷ []) ∷ Mapped (0x7E ∷ []) ∷ Mapped (0x7F ∷ []) ∷ Mapped (0x80 ∷ []) ∷ Mapped (0x5C ∷ []) ∷ Mapped (0x7E ∷ []) ∷ Mapped (0xA1 ∷ []) ∷ Mapped (0xDF ∷ []) ∷ []
+single_byte_forms = refl
+
+no_single_byte : map (shift_jis_form []) (0x81 ∷ 0xA4 ∷ 0xA6 ∷ 0x203D ∷ 0x203F ∷ 0xFF60 ∷ 0xFFA0 ∷ [])
+    ≡ map Unmapped (0x81 ∷ 0xA4 ∷ 0xA6 ∷ 0x203D ∷ 0x203F ∷ 0xFF60 ∷ 0xFFA0 ∷ [])
+no_single_byte = refl
+
+-- U+2212 is looked up as U+FF0D, and as nothing else
+looked_up : (map (shift_jis_form (0x2212 ∷ 0xFF0D ∷ [])) (0x2212 ∷ 0xFF0D ∷ []) ≡ Mapped (0x81 ∷ 0x41 ∷ []) ∷ Mapped (0x81 ∷ 0x41 ∷ []) ∷ [])
+    × (shift_jis_form (0x2212 ∷ []) 0x2212 ≡ Unmapped 0x2212)
+looked_up = (refl, refl)
