@@ -1,6 +1,7 @@
 pub mod Progress
 pub mod Shift
 pub mod FrontUtf8
+pub mod MaximalSubparts
 pub mod Endings
 pub mod EnoughRoom
 pub mod AsciiFront

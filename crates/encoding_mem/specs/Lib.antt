@@ -11,6 +11,7 @@ pub mod Text
 pub mod FrontPiece
 pub mod Driver
 pub mod Utf8
+pub mod MaximalSubparts
 pub mod Target
 pub mod Stateless
 pub mod Utf8Coding

@@ -9,6 +9,7 @@ ghost use Rattle.encoding_mem.specs.Room.{room_of};
 ghost use Rattle.encoding_mem.specs.Writing.{Adds};
 ghost use Rattle.encoding_mem.specs.Text.{text_pieces};
 ghost use Rattle.encoding_mem.specs.Utf8.{pieces_utf8};
+ghost use Rattle.encoding_mem.specs.MaximalSubparts.{Utf8PiecesAreMaximal};
 ghost use Rattle.encoding_mem.specs.declared.decoder_result.DecoderResult.{DecoderResult};
 ghost use Rattle.encoding_mem.specs.declared.room.Count.TheVariants.{Bytes};
 
@@ -55,4 +56,13 @@ pub fn undecided_decides_nothing()
 /// Text that is written in UTF-8 is read back, each scalar as a piece.
 pub fn utf8_text_reads_back()
     ensures { (t : List ℕ) → all_scalars t ≡ true → pieces_utf8 (encode_utf8_all t) ≡ text_pieces t }
+{}
+
+/// The pieces of UTF-8, of any bytes. Where they begin with the whole form of a scalar value, the
+/// first piece is that form and gives that scalar value. Else it is malformed and is their maximal
+/// subpart: the longest prefix of them that is a prefix of the form of some scalar value, or one
+/// byte where none but the empty one is. The pieces behind the first are those of the bytes behind
+/// it. No other first piece meets this, so it says which bytes are one error and which are not.
+pub fn malformed_utf8_is_maximal_subpart()
+    ensures { Utf8PiecesAreMaximal }
 {}

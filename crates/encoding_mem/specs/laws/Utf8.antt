@@ -145,10 +145,10 @@ pub scalar_from : (c : ℕ) → (c < 55296) ⊎ ((57344 ≤ c) × (c < 1114112))
 scalar_from c (inl h) = low (nat_lt c 55296) (nat_le 57344 c && nat_lt c 1114112) (lt-ltb c 55296 h)
 scalar_from c (inr h) = high (nat_lt c 55296) (nat_le 57344 c && nat_lt c 1114112) (and_from (nat_le 57344 c) (nat_lt c 1114112) (le-leb 57344 c h.0) (lt-ltb c 1114112 h.1))
 
-second_low : (b c : ℕ) → second_min b ≤ c → 0x80 ≤ c
+pub second_low : (b c : ℕ) → second_min b ≤ c → 0x80 ≤ c
 second_low b c h = grind (arith, nat_tests)
 
-second_high : (b c : ℕ) → c ≤ second_max b → (c ≤ 0xBF) × (b ≡ 0xED → c ≤ 0x9F) × (b ≡ 0xF4 → c ≤ 0x8F)
+pub second_high : (b c : ℕ) → c ≤ second_max b → (c ≤ 0xBF) × (b ≡ 0xED → c ≤ 0x9F) × (b ≡ 0xF4 → c ≤ 0x8F)
 second_high b c h = (grind (arith, nat_tests), λ e. grind (arith, nat_tests), λ e. grind (arith, nat_tests))
 
 scalar_three : (b c d : ℕ) → 0xE0 ≤ b → b < 0xF0 → 0x80 ≤ c → c ≤ 0xBF → (b ≡ 0xED → c ≤ 0x9F) → 0x80 ≤ d → d ≤ 0xBF → IsScalar (scalar_of_three b c d)
@@ -163,7 +163,7 @@ scalar_four b c d e lo hi c0 c1 f0 f4 d0 d1 e0 e1 = scalar_from (scalar_of_four 
   elim (cases_lt b 0xF4) [ inl less ↦ omega arith | inr most ↦ (let is : b ≡ 0xF4 = omega arith in omega (arith, f4 is)) ],
 ))
 
-second_least : (b c : ℕ) → second_min b ≤ c → b ≡ 0xF0 → 0x90 ≤ c
+pub second_least : (b c : ℕ) → second_min b ≤ c → b ≡ 0xF0 → 0x90 ≤ c
 second_least b c h e = grind (arith, nat_tests)
 
 -- what the tests of the bytes before say

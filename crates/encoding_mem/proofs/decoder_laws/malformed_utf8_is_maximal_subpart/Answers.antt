@@ -1,0 +1,5 @@
+use Rattle.encoding_mem.proofs.MaximalSubparts.{pieces_are_maximal}
+use Rattle.encoding_mem.proofs.decoder_laws.malformed_utf8_is_maximal_subpart.Goals as goal
+
+pub returns : goal.returns
+returns c = pieces_are_maximal
