@@ -1,23 +1,14 @@
 // A binary search among rows in order.
 
-ghost use Rattle.std.specs.Prelude.{◌≡◌, ◌+◌, ◌*◌, ◌^◌, length};
+ghost use Rattle.std.specs.Prelude.{◌≡◌, length};
 ghost use Rattle.encoding_tables.specs.SortedRows.{is_below, AreRising, IsRank, IsWithinDigits};
 
-// Whether a row is below a key: by the first number, and by the second where the first are equal. Both are
-// put into one number, so that one comparison decides.
+// Whether a row is below a key: by the first number, and by the second where the first are equal.
 #[inline(always)]
 fn is_below(row: (u32, u32), key: (u32, u32)) -> bool
     ensures { result ≡ is_below row key }
 {
-    joined(row) < joined(key)
-}
-
-// The first number in the upper half, the second in the lower.
-#[inline(always)]
-fn joined(row: (u32, u32)) -> u64
-    ensures { result ≡ row.0 * 2 ^ 32 + row.1 }
-{
-    row.0 as u64 * (1 << 32) + row.1 as u64
+    row.0 < key.0 || row.0 == key.0 && row.1 < key.1
 }
 
 /// How many of some rows are below `key`, which is the place of the first row that is not, where there is
