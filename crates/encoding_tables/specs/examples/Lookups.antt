@@ -1,10 +1,7 @@
 -- Worked rows of `specs/Lookups.antt`.
 use Rattle.std.proofs.Common.{refl}
-use Rattle.std.specs.Prelude.{◌≡◌, ◌≢◌, ℕ, ◌+◌, Bool, List, [], ◌∷◌, ◌==◌, if◌then◌else◌, Option, None, Some, slice_range, slice_index}
-use Rattle.std.specs.Char.{IsScalar}
-use Rattle.std.specs.List.{position}
-use Rattle.std.specs.Option.{option_map, option_or}
-use Rattle.encoding_tables.specs.Lookups.{first_pointer, last_pointer}
+use Rattle.std.specs.Prelude.{◌≡◌, [], ◌∷◌, None, Some}
+use Rattle.encoding_tables.specs.Lookups.{value_of, first_pointer, last_pointer}
 
 first : first_pointer (0 ∷ 0xE9 ∷ 0xE9 ∷ []) 0xE9 0 3 ≡ Some 1
 first = refl
@@ -14,3 +11,26 @@ last = refl
 
 unmapped : first_pointer (0 ∷ 0xE9 ∷ []) 0 0 2 ≡ None
 unmapped = refl
+
+-- the entry at a pointer; an entry 0 is none, and so is what is behind the end
+entry : value_of (0 ∷ 0xE9 ∷ []) 1 ≡ Some 0xE9
+entry = refl
+
+zero_is_none : value_of (0 ∷ 0xE9 ∷ []) 0 ≡ None
+zero_is_none = refl
+
+behind_the_end : value_of (0 ∷ 0xE9 ∷ []) 2 ≡ None
+behind_the_end = refl
+
+-- pointers are looked for from the first one given to before the second
+from_a_pointer : first_pointer (0xE9 ∷ 0 ∷ 0xE9 ∷ []) 0xE9 1 3 ≡ Some 2
+from_a_pointer = refl
+
+before_a_pointer : first_pointer (0 ∷ 0xE9 ∷ []) 0xE9 0 1 ≡ None
+before_a_pointer = refl
+
+last_from_a_pointer : last_pointer (0xE9 ∷ 0 ∷ 0xE9 ∷ 0xE9 ∷ []) 0xE9 1 3 ≡ Some 2
+last_from_a_pointer = refl
+
+zero_is_at_none : last_pointer (0 ∷ 0xE9 ∷ []) 0 0 2 ≡ None
+zero_is_at_none = refl

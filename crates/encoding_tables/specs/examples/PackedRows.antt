@@ -1,8 +1,6 @@
 -- Worked rows of `specs/PackedRows.antt`.
 use Rattle.std.proofs.Common.{refl}
-use Rattle.std.specs.Prelude.{◌≡◌, ℕ, ◌+◌, ◌<◌, List, [], ◌∷◌, length, map, ◌==◌, not, if◌then◌else◌}
-use Rattle.std.specs.List.{filter, range_with_len}
-use Rattle.encoding_tables.specs.SortedRows.{row_at}
+use Rattle.std.specs.Prelude.{◌≡◌, [], ◌∷◌}
 use Rattle.encoding_tables.specs.PackedRows.{flat_list, mapped_rows, listed_rows}
 
 listed : listed_rows 0 (0 ∷ 0xE9 ∷ 0 ∷ 0xE8 ∷ []) ≡ (1, 0xE9) ∷ (3, 0xE8) ∷ []

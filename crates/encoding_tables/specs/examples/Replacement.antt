@@ -1,9 +1,7 @@
 -- Worked rows of `specs/Replacement.antt`.
-use Rattle.std.specs.Prelude.{◌≡◌, ℕ, Bool, true, false, IsTrue, List, [], ◌∷◌, ◌++◌, refl}
-use Rattle.encoding_mem.specs.Piece.{Piece, good, bad, bad_count, text}
-use Rattle.encoding_mem.specs.Decoding.{DecoderState, EndsWith}
+use Rattle.std.specs.Prelude.{◌≡◌, true, false, [], ◌∷◌, refl}
+use Rattle.encoding_mem.specs.Piece.{good, bad, bad_count, text}
 use Rattle.encoding_mem.specs.Pieces.{pieces_in}
-use Rattle.encoding_mem.specs.declared.decoder_result.DecoderResult.TheVariants.{OutputFull}
 use Rattle.encoding_tables.specs.Replacement.{pieces_replacement}
 
 two_bytes : pieces_replacement false (0x41 ∷ 0x42 ∷ []) ≡ bad 1 ∷ good 1 [] ∷ []
@@ -17,3 +15,16 @@ more_bytes = refl
 no_bytes : pieces_replacement false [] ≡ []
 unfolding pieces_in
 no_bytes = refl
+
+-- one byte is the error, and all three bytes are one U+FFFD
+one_byte : pieces_replacement false (0x41 ∷ []) ≡ bad 1 ∷ []
+unfolding pieces_in
+one_byte = refl
+
+text_of_three : text (pieces_replacement false (0x41 ∷ 0x42 ∷ 0x43 ∷ [])) ≡ 0xFFFD ∷ []
+unfolding pieces_in
+text_of_three = refl
+
+one_error : bad_count (pieces_replacement false (0x41 ∷ 0x42 ∷ 0x43 ∷ [])) ≡ 1
+unfolding pieces_in
+one_error = refl

@@ -1,12 +1,8 @@
 -- Worked rows of `specs/SingleByte.antt`.
 use Rattle.std.proofs.Common.{refl}
-use Rattle.std.specs.Prelude.{◌≡◌, ◌≢◌, ℕ, ◌+◌, ◌-◌, ◌<◌, ◌≤◌, ◌==◌, Bool, false, List, [], ◌∷◌, length, nat_lt, if◌then◌else◌, Option, None, Some, replicate, slice_index}
-use Rattle.std.specs.Option.{option_map}
-use Rattle.encoding_mem.specs.Coding.{Coding}
-use Rattle.encoding_mem.specs.Piece.{Piece, good, bad}
-use Rattle.encoding_mem.specs.Pieces.{pieces_in, pieces_by}
-use Rattle.encoding_tables.specs.EachByte.{front_by_byte, coding_by_byte}
-use Rattle.encoding_tables.specs.Lookups.{value_of, first_pointer}
+use Rattle.std.specs.Prelude.{◌≡◌, ℕ, List, [], ◌∷◌, ◌++◌, None, Some, replicate}
+use Rattle.encoding_mem.specs.Piece.{good, bad}
+use Rattle.encoding_mem.specs.Pieces.{pieces_in}
 use Rattle.encoding_tables.specs.SingleByte.{char_of_byte, single_byte_of_char, front_single_byte, pieces_single_byte}
 
 -- a list for examples, from 80 on: U+20AC, nothing, U+00E9, U+00E9
@@ -48,3 +44,42 @@ nul = refl
 in_a_row : pieces_single_byte sample (0x41 ∷ 0x80 ∷ 0x81 ∷ []) ≡ good 1 (0x41 ∷ []) ∷ good 1 (0x20AC ∷ []) ∷ bad 1 ∷ []
 unfolding sample pieces_in
 in_a_row = refl
+
+-- the last ASCII character, either way
+last_ascii : char_of_byte sample 0x7F ≡ Some 0x7F
+unfolding sample
+last_ascii = refl
+
+last_ascii_back : single_byte_of_char sample 0x7F ≡ Some 0x7F
+unfolding sample
+last_ascii_back = refl
+
+-- U+0080 is looked up; here it has no byte
+above_ascii : single_byte_of_char sample 0x80 ≡ None
+unfolding sample
+above_ascii = refl
+
+-- the first pointer is 80
+euro_back : single_byte_of_char sample 0x20AC ≡ Some 0x80
+unfolding sample
+euro_back = refl
+
+-- of windows-1253: Α at 65 is C1, τ at 116 is F4
+greek : List ℕ
+greek = replicate 65 0 ++ (0x391 ∷ (replicate 50 0 ++ (0x3C4 ∷ replicate 11 0)))
+
+alpha : single_byte_of_char greek 0x391 ≡ Some 0xC1
+unfolding greek
+alpha = refl
+
+tau : single_byte_of_char greek 0x3C4 ≡ Some 0xF4
+unfolding greek
+tau = refl
+
+tau_read : pieces_single_byte greek (0xF4 ∷ 0xF5 ∷ []) ≡ good 1 (0x3C4 ∷ []) ∷ bad 1 ∷ []
+unfolding greek pieces_in
+tau_read = refl
+
+-- the last pointer, 127, is FF
+last_pointer_is_last_byte : single_byte_of_char (replicate 127 0 ++ (0xFF ∷ [])) 0xFF ≡ Some 0xFF
+last_pointer_is_last_byte = refl

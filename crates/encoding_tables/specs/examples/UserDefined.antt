@@ -1,11 +1,9 @@
 -- Worked rows of `specs/UserDefined.antt`.
-use Rattle.std.specs.Prelude.{◌≡◌, ℕ, ◌+◌, ◌-◌, List, [], ◌∷◌, nat_lt, if◌then◌else◌, Option, None, Some, refl}
-use Rattle.std.specs.Int.{is_in_range}
-use Rattle.encoding_mem.specs.Coding.{Coding, output}
-use Rattle.encoding_mem.specs.Piece.{Piece, good}
-use Rattle.encoding_mem.specs.Pieces.{pieces_in, pieces_by}
-use Rattle.encoding_tables.specs.EachByte.{front_by_byte, coding_by_byte}
-use Rattle.encoding_tables.specs.UserDefined.{byte_of_user_char, pieces_user_defined, user_defined_coding}
+use Rattle.std.specs.Prelude.{◌≡◌, [], ◌∷◌, None, Some, refl}
+use Rattle.encoding_mem.specs.Coding.{output}
+use Rattle.encoding_mem.specs.Piece.{good}
+use Rattle.encoding_mem.specs.Pieces.{pieces_in}
+use Rattle.encoding_tables.specs.UserDefined.{user_char_of_byte, byte_of_user_char, pieces_user_defined, user_defined_coding}
 
 -- the first and the last byte that are not ASCII
 in_a_row : pieces_user_defined (0x7F ∷ 0x80 ∷ 0xFF ∷ [])
@@ -29,3 +27,18 @@ behind_the_last = refl
 
 no_latin1 : byte_of_user_char 0x80 ≡ None
 no_latin1 = refl
+
+-- a byte in between, either way: A4 is 24 above 80
+in_between : user_char_of_byte 0xA4 ≡ Some 0xF7A4
+in_between = refl
+
+in_between_back : byte_of_user_char 0xF7A4 ≡ Some 0xA4
+in_between_back = refl
+
+-- the last ASCII character is its byte
+last_ascii : byte_of_user_char 0x7F ≡ Some 0x7F
+last_ascii = refl
+
+-- a number above FF is no byte
+above_bytes : user_char_of_byte 0x100 ≡ None
+above_bytes = refl

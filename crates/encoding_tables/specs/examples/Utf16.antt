@@ -1,12 +1,8 @@
 -- Worked rows of `specs/Utf16.antt`.
-use Rattle.std.specs.Prelude.{◌≡◌, ℕ, ◌*◌, ◌<◌, Bool, true, false, List, [], ◌∷◌, ◌++◌, map, slice_index, if◌then◌else◌, Option, None, Some, refl}
-use Rattle.std.specs.Int.{w16, from_be_bytes, from_le_bytes, to_be_bytes, to_le_bytes}
-use Rattle.std.specs.Char.Utf16.{is_high_surrogate, is_low_surrogate, surrogate_pair_char, utf16_chars}
-use Rattle.std.proofs.Math.Utf8.{scalar}
-use Rattle.encoding_mem.specs.Piece.{Piece, good, bad}
-use Rattle.encoding_mem.specs.Pieces.{pieces_in, pieces_by}
-use Rattle.encoding_mem.specs.Writing.{len_utf16}
-use Rattle.encoding_tables.specs.Utf16.{pieces_utf16}
+use Rattle.std.specs.Prelude.{◌≡◌, true, false, [], ◌∷◌, map, None, Some, refl}
+use Rattle.encoding_mem.specs.Piece.{good, bad}
+use Rattle.encoding_mem.specs.Pieces.{pieces_in}
+use Rattle.encoding_tables.specs.Utf16.{bytes_of_units, pieces_utf16, piece_of_char}
 
 -- U+4E00 and U+1F4A9 in both orders
 big_text : pieces_utf16 true (0x4E ∷ 0 ∷ 0xD8 ∷ 0x3D ∷ 0xDC ∷ 0xA9 ∷ []) ≡ good 2 (0x4E00 ∷ []) ∷ good 4 (0x1F4A9 ∷ []) ∷ []
@@ -51,3 +47,37 @@ beside_surrogates = refl
 last_scalar : pieces_utf16 true (0xDB ∷ 0xFF ∷ 0xDF ∷ 0xFF ∷ []) ≡ good 4 (0x10FFFF ∷ []) ∷ []
 unfolding pieces_in
 last_scalar = refl
+
+-- the ends of both kinds of surrogates in pairs: U+10000, U+103FF, U+10FC00
+ends_of_pairs : pieces_utf16 true (0xD8 ∷ 0 ∷ 0xDC ∷ 0 ∷ 0xD8 ∷ 0 ∷ 0xDF ∷ 0xFF ∷ 0xDB ∷ 0xFF ∷ 0xDC ∷ 0 ∷ [])
+    ≡ good 4 (0x10000 ∷ []) ∷ good 4 (0x103FF ∷ []) ∷ good 4 (0x10FC00 ∷ []) ∷ []
+unfolding pieces_in
+ends_of_pairs = refl
+
+-- behind the last high surrogate neither a high one nor U+E000 is the second of a pair
+no_second : pieces_utf16 true (0xDB ∷ 0xFF ∷ 0xDB ∷ 0xFF ∷ 0xE0 ∷ 0 ∷ []) ≡ bad 2 ∷ bad 2 ∷ good 2 (0xE000 ∷ []) ∷ []
+unfolding pieces_in
+no_second = refl
+
+-- the last low surrogate alone, and a byte that the end cuts off
+last_low_alone : pieces_utf16 false (0xFF ∷ 0xDF ∷ 0xD8 ∷ []) ≡ bad 2 ∷ bad 1 ∷ []
+unfolding pieces_in
+last_low_alone = refl
+
+-- one byte alone
+one_byte : pieces_utf16 true (0xD8 ∷ []) ≡ bad 1 ∷ []
+unfolding pieces_in
+one_byte = refl
+
+-- the end cuts a pair after three bytes
+three_of_a_pair : pieces_utf16 true (0xD8 ∷ 0x3D ∷ 0xDC ∷ []) ≡ bad 3 ∷ []
+unfolding pieces_in
+three_of_a_pair = refl
+
+-- the units of U+1F4A9 in bytes of the other order
+big_units : bytes_of_units true (0xD83D ∷ 0xDCA9 ∷ []) ≡ 0xD8 ∷ 0x3D ∷ 0xDC ∷ 0xA9 ∷ []
+big_units = refl
+
+-- two bytes up to U+FFFF, four above, and two for a surrogate alone
+sizes_of_characters : map piece_of_char (Some 0xFFFF ∷ Some 0x10000 ∷ None ∷ []) ≡ good 2 (0xFFFF ∷ []) ∷ good 4 (0x10000 ∷ []) ∷ bad 2 ∷ []
+sizes_of_characters = refl
