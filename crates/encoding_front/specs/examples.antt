@@ -4,4 +4,5 @@ pub mod Encodings
 pub mod Latin1Prefix
 pub mod Marks
 pub mod OneShot
+pub mod Seeking
 pub mod Stream

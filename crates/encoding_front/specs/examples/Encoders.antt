@@ -1,13 +1,16 @@
 -- Worked cases of encoders: in the sample target a yen sign is 5C in Roman, and U+1F4A9 has no bytes.
-use Rattle.std.specs.Prelude.{◌≡◌, true, false, None, Some, [], ◌∷◌, ◌++◌, codes, refl}
+use Rattle.std.specs.Prelude.{◌≡◌, true, false, None, Some, [], ◌∷◌, ◌++◌, codes, refl, ℕ, List, Option, map, replicate}
 use Rattle.std.specs.Fmt.{digits}
-use Rattle.std.proofs.Common.{inr}
-use Rattle.encoding_mem.specs.Coding.{lost_count, open_from, whole_from}
+use Rattle.std.proofs.Common.{inr, lit≤}
+use Rattle.encoding_mem.specs.Coding.{lost_count, open_from, whole_from, last_set}
 use Rattle.encoding_mem.specs.examples.SampleCoding.{sample_coding}
 use Rattle.encoding_mem.specs.declared.form.Set.TheVariants.{Ascii, Roman}
-use Rattle.encoding_front.specs.Encoder.{ReplacingEndsWith, kept_back, queried_room, queried_with_kept}
+use Rattle.encoding_front.specs.Encoder.{ReplacingEndsWith, kept_back, queried_room, queried_with_kept, EndsWithReference}
 use Rattle.encoding_front.specs.declared.coder_result.CoderResult.{CoderResult}
-use Rattle.encoding_front.specs.declared.encoding.Encoding.TheVariants.{Iso2022Jp, Replacement, Utf8, Utf16Le, Windows1252}
+use Rattle.encoding_front.specs.declared.encoding.Encoding.TheVariants.{Iso2022Jp, Replacement, Utf8, Utf16Le, Windows1252, Big5, EucJp, EucKr, Gb18030, Gbk, ShiftJis, XUserDefined, Utf16Be}
+use Rattle.encoding_tables.specs.IndexLists.{IndexLists}
+use Rattle.encoding_front.specs.Encodings.{coding_of}
+use Rattle.encoding_front.specs.declared.encoding.Encoding.{Encoding}
 
 kept_utf_8 : kept_back Utf8 ≡ 0
 kept_utf_8 = refl
@@ -57,3 +60,57 @@ reference_ends = refl
 
 one_lost : lost_count sample_coding (0xA5 ∷ 0x1F4A9 ∷ 0x41 ∷ []) ≡ 1
 one_lost = refl
+
+kept_by_others : map kept_back (Big5 ∷ EucJp ∷ EucKr ∷ Gb18030 ∷ Gbk ∷ Iso2022Jp ∷ ShiftJis ∷ XUserDefined ∷ []) ≡ replicate 8 10
+kept_by_others = refl
+
+kept_utf_16be : kept_back Utf16Be ≡ 0
+kept_utf_16be = refl
+
+-- the room for 7 units and for 7 bytes of text without references: 3n and n, n and n, 2n and n + 1, 4n and 2n + 2, 5n + 3 and 4n + 3
+room_for_7 : Encoding → List (Option ℕ)
+room_for_7 e = queried_room e true 7 ∷ queried_room e false 7 ∷ []
+
+rooms_of_utf_8 : map room_for_7 (Utf8 ∷ Utf16Be ∷ Utf16Le ∷ Replacement ∷ []) ≡ replicate 4 (Some 21 ∷ Some 7 ∷ [])
+unfolding room_for_7
+rooms_of_utf_8 = refl
+
+rooms_of_one_byte : map room_for_7 (Windows1252 ∷ XUserDefined ∷ []) ≡ replicate 2 (Some 7 ∷ Some 7 ∷ [])
+unfolding room_for_7
+rooms_of_one_byte = refl
+
+rooms_of_two_bytes : map room_for_7 (Big5 ∷ EucJp ∷ EucKr ∷ ShiftJis ∷ Gbk ∷ []) ≡ replicate 5 (Some 14 ∷ Some 8 ∷ [])
+unfolding room_for_7
+rooms_of_two_bytes = refl
+
+room_of_gb18030 : room_for_7 Gb18030 ≡ Some 28 ∷ Some 16 ∷ []
+unfolding room_for_7
+room_of_gb18030 = refl
+
+room_of_iso_2022_jp : room_for_7 Iso2022Jp ≡ Some 38 ∷ Some 31 ∷ []
+unfolding room_for_7
+room_of_iso_2022_jp = refl
+
+-- UTF-8 keeps nothing back
+room_of_utf_8_with_kept : queried_with_kept Utf8 true 7 ≡ Some 21
+room_of_utf_8_with_kept = refl
+
+-- of ISO-2022-JP with no index: U+00A5 is written in Roman, and U+1F4A9 as a reference of 9 bytes
+unfoldable no_tables : IndexLists
+no_tables = record { flats = []; rows = None }
+
+abbrev yen_and_pile : List ℕ
+yen_and_pile = 0xA5 ∷ 0x1F4A9 ∷ []
+
+abbrev yen_and_its_reference : List ℕ
+yen_and_its_reference = 0x1B ∷ 0x28 ∷ 0x4A ∷ 0x5C ∷ 0x26 ∷ 0x23 ∷ 0x31 ∷ 0x32 ∷ 0x38 ∷ 0x31 ∷ 0x36 ∷ 0x39 ∷ 0x3B ∷ []
+
+written_in_roman : (open_from (coding_of no_tables Iso2022Jp) Ascii yen_and_pile ≡ yen_and_its_reference)
+    × (last_set (coding_of no_tables Iso2022Jp) Ascii yen_and_pile ≡ Roman)
+unfolding no_tables digits
+written_in_roman = (refl, refl)
+
+-- The reference begins behind 4 bytes: it is written into 14 bytes, of which 10 are kept back, and not into 13.
+reaches_into_the_kept : EndsWithReference (coding_of no_tables Iso2022Jp) Ascii yen_and_pile yen_and_its_reference 4
+unfolding no_tables digits
+reaches_into_the_kept = record { before = 0xA5 ∷ []; lost = 0x1F4A9; is = refl; unmapped = λ h. h; whole = refl; begins = lit≤ tt }

@@ -50,3 +50,33 @@ handed_on = refl
 
 of_replacement : room_asked (record { sought = nothing_sought; held = []; room = room_replacement; pending = 0 }) Bytes 0xFFFFFFFFFFFFFFFF ≡ Some 3
 of_replacement = refl
+
+-- "replacement" has so little room of its own that the others show: at the start UTF-8's, of n bytes
+sniffing_replacement : List ℕ → Opening
+sniffing_replacement held = record { sought = sought_by Sniff Encoding.Replacement; held = held; room = room_replacement; pending = 0 }
+
+rooms_with : List ℕ → ℕ → List (Option ℕ)
+rooms_with held n = room_asked (sniffing_replacement held) Units n ∷ room_asked (sniffing_replacement held) Bytes n ∷ room_asked (sniffing_replacement held) Replaced n ∷ []
+
+nothing_held : rooms_with [] 4 ≡ Some 5 ∷ Some 7 ∷ Some 15 ∷ []
+unfolding rooms_with sniffing_replacement
+nothing_held = refl
+
+-- EF, or EF and BB, count as two bytes before the next, of UTF-8
+utf_8_held : (rooms_with (0xEF ∷ []) 1 ≡ Some 4 ∷ Some 6 ∷ Some 12 ∷ []) × (rooms_with (0xEF ∷ 0xBB ∷ []) 1 ≡ Some 4 ∷ Some 6 ∷ Some 12 ∷ [])
+unfolding rooms_with sniffing_replacement
+utf_8_held = (refl, refl)
+
+-- FE or FF, of UTF-16
+utf_16_held : (rooms_with (0xFE ∷ []) 1 ≡ Some 3 ∷ Some 7 ∷ Some 7 ∷ []) × (rooms_with (0xFF ∷ []) 1 ≡ Some 3 ∷ Some 7 ∷ Some 7 ∷ [])
+unfolding rooms_with sniffing_replacement
+utf_16_held = (refl, refl)
+
+-- UTF-16 asks for more than one byte a character does, at the start and with FE held
+utf_16_and_own : room_asked (sniffing_windows_1252 (0xFE ∷ [])) Units 1 ≡ Some 3
+unfolding sniffing_windows_1252
+utf_16_and_own = refl
+
+-- pending bytes count with those that come
+pending_and_new : room_asked (record { sought = nothing_sought; held = []; room = room_utf8; pending = 3 }) Replaced 4 ≡ Some 24
+pending_and_new = refl

@@ -1,0 +1,58 @@
+-- Worked rows of `specs/Seeking.antt`.
+use Rattle.std.specs.Prelude.{◌≡◌, ℕ, Bool, true, false, List, [], ◌∷◌, map, replicate, None, Some, refl}
+use Rattle.encoding_mem.specs.Piece.{Piece, good}
+use Rattle.encoding_mem.specs.Pieces.{pieces_in}
+use Rattle.encoding_mem.specs.declared.room.Count.TheVariants.{Units, Bytes, Replaced}
+use Rattle.encoding_front.specs.Seeking.{find_mark, mark_needs, mark_taken, can_be, nothing_sought, sought_by, sought_pieces}
+use Rattle.encoding_front.specs.declared.encoding.Encoding.{Encoding}
+use Rattle.encoding_front.specs.declared.mark.Mark.TheVariants.{Sniff, Remove, Keep}
+use Rattle.encoding_front.specs.declared.seeking.ByteOrderMark.TheVariants.{Utf8, Utf16Be, Utf16Le}
+use Rattle.encoding_front.specs.declared.seeking.Seen.{Seen}
+use Rattle.encoding_front.specs.declared.seeking.Seen.TheVariants.{Front, Whole, Other}
+use Rattle.encoding_front.specs.declared.seeking.Sought.{Sought}
+
+abbrev all_marks : Sought
+all_marks = sought_by Sniff Encoding.Windows1252
+
+-- where all three marks are looked for, these may become one
+fronts : map (find_mark all_marks) ([] ∷ (0xEF ∷ []) ∷ (0xEF ∷ 0xBB ∷ []) ∷ (0xFE ∷ []) ∷ (0xFF ∷ []) ∷ []) ≡ replicate 5 Front
+fronts = refl
+
+whole_marks : map (find_mark all_marks) ((0xEF ∷ 0xBB ∷ 0xBF ∷ []) ∷ (0xFE ∷ 0xFF ∷ []) ∷ (0xFF ∷ 0xFE ∷ []) ∷ (0xEF ∷ 0xBB ∷ 0xBF ∷ 0xEF ∷ []) ∷ [])
+    ≡ Whole Utf8 ∷ Whole Utf16Be ∷ Whole Utf16Le ∷ Whole Utf8 ∷ []
+whole_marks = refl
+
+no_marks : map (find_mark all_marks) ((0xEE ∷ []) ∷ (0xF0 ∷ []) ∷ (0xFD ∷ []) ∷ (0xEF ∷ 0xBA ∷ []) ∷ (0xEF ∷ 0xBC ∷ []) ∷ (0xEF ∷ 0xBB ∷ 0xBE ∷ []) ∷ (0xEF ∷ 0xBB ∷ 0xC0 ∷ []) ∷ (0xFE ∷ 0xFE ∷ []) ∷ (0xFF ∷ 0xFF ∷ []) ∷ (0xFF ∷ 0xFD ∷ []) ∷ [])
+    ≡ replicate 10 Other
+no_marks = refl
+
+-- only an own mark is removed, and none is where it is kept
+removed : map (find_mark (sought_by Remove Encoding.Utf16Le)) ((0xEF ∷ 0xBB ∷ 0xBF ∷ []) ∷ (0xFE ∷ 0xFF ∷ []) ∷ (0xFF ∷ 0xFE ∷ []) ∷ [])
+    ≡ Other ∷ Other ∷ Whole Utf16Le ∷ []
+removed = refl
+
+kept : sought_by Keep Encoding.Utf8 ≡ nothing_sought
+kept = refl
+
+-- a mark is a piece of 3 bytes or of 2, and what follows it is in its encoding
+after_marks : map (sought_pieces all_marks (λ x. [])) ((0xEF ∷ 0xBB ∷ 0xBF ∷ 0xC3 ∷ 0xA9 ∷ []) ∷ (0xFE ∷ 0xFF ∷ 0x4E ∷ 0x00 ∷ []) ∷ (0xFF ∷ 0xFE ∷ 0x00 ∷ 0x4E ∷ []) ∷ (0xEF ∷ 0xBB ∷ []) ∷ [])
+    ≡ (good 3 [] ∷ good 2 (0xE9 ∷ []) ∷ []) ∷ (good 2 [] ∷ good 2 (0x4E00 ∷ []) ∷ []) ∷ (good 2 [] ∷ good 2 (0x4E00 ∷ []) ∷ []) ∷ [] ∷ []
+unfolding pieces_in
+after_marks = refl
+
+taken_marks : map (mark_taken all_marks None) ((0xEF ∷ 0xBB ∷ 0xBF ∷ []) ∷ (0xFE ∷ 0xFF ∷ []) ∷ (0xFF ∷ 0xFE ∷ []) ∷ (0xEF ∷ 0xBB ∷ []) ∷ (0x41 ∷ []) ∷ [])
+    ≡ Some Utf8 ∷ Some Utf16Be ∷ Some Utf16Le ∷ None ∷ None ∷ []
+taken_marks = refl
+
+-- what held bytes may become
+may_become : (map (λ held. can_be all_marks held Utf8) ([] ∷ (0xEF ∷ []) ∷ (0xEF ∷ 0xBB ∷ []) ∷ (0xFE ∷ []) ∷ (0xFF ∷ []) ∷ []) ≡ true ∷ true ∷ true ∷ false ∷ false ∷ [])
+    × (map (λ held. can_be all_marks held Utf16Be) ([] ∷ (0xEF ∷ []) ∷ (0xFE ∷ []) ∷ (0xFF ∷ []) ∷ []) ≡ true ∷ false ∷ true ∷ false ∷ [])
+    × (map (λ held. can_be all_marks held Utf16Le) ([] ∷ (0xEF ∷ []) ∷ (0xFE ∷ []) ∷ (0xFF ∷ []) ∷ []) ≡ true ∷ false ∷ false ∷ true ∷ [])
+may_become = (refl, refl, refl)
+
+-- behind EF and 9 more bytes 7 may follow the mark of UTF-8, behind FE and 8 more 7 that of UTF-16
+wanted_behind_marks : (mark_needs all_marks (0xEF ∷ []) Bytes 9 Utf8 ≡ 10)
+    × (mark_needs all_marks (0xFE ∷ []) Bytes 8 Utf16Be ≡ 13)
+    × (mark_needs all_marks (0xFF ∷ []) Units 8 Utf16Le ≡ 5)
+    × (mark_needs all_marks (0xEF ∷ []) Bytes 9 Utf16Be ≡ 0)
+wanted_behind_marks = (refl, refl, refl, refl)
