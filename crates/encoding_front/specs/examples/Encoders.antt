@@ -1,16 +1,17 @@
 -- Worked cases of encoders: in the sample target a yen sign is 5C in Roman, and U+1F4A9 has no bytes.
 use Rattle.std.specs.Prelude.{◌≡◌, true, false, None, Some, [], ◌∷◌, ◌++◌, codes, refl, ℕ, List, Option, map, replicate}
 use Rattle.std.specs.Fmt.{digits}
-use Rattle.std.proofs.Common.{inr, lit≤}
-use Rattle.encoding_mem.specs.Coding.{lost_count, open_from, whole_from, last_set}
+use Rattle.std.proofs.Common.{inr, lit≤, lit<, inl, arith, subst}
+use Rattle.encoding_mem.specs.Coding.{lost_count, open_from, whole_from, last_set, IsMapped}
 use Rattle.encoding_mem.specs.examples.SampleCoding.{sample_coding}
 use Rattle.encoding_mem.specs.declared.form.Set.TheVariants.{Ascii, Roman}
-use Rattle.encoding_front.specs.Encoder.{ReplacingEndsWith, kept_back, queried_room, queried_with_kept, EndsWithReference}
+use Rattle.encoding_front.specs.Encoder.{ReplacingEndsWith, kept_back, queried_room, queried_with_kept, EndsWithReference, EncoderState, Replaces}
 use Rattle.encoding_front.specs.declared.coder_result.CoderResult.{CoderResult}
 use Rattle.encoding_front.specs.declared.encoding.Encoding.TheVariants.{Iso2022Jp, Replacement, Utf8, Utf16Le, Windows1252, Big5, EucJp, EucKr, Gb18030, Gbk, ShiftJis, XUserDefined, Utf16Be}
 use Rattle.encoding_tables.specs.IndexLists.{IndexLists}
 use Rattle.encoding_front.specs.Encodings.{coding_of}
 use Rattle.encoding_front.specs.declared.encoding.Encoding.{Encoding}
+use Rattle.encoding_mem.specs.declared.form.Set.{Set}
 
 kept_utf_8 : kept_back Utf8 ≡ 0
 kept_utf_8 = refl
@@ -114,3 +115,33 @@ written_in_roman = (refl, refl)
 reaches_into_the_kept : EndsWithReference (coding_of no_tables Iso2022Jp) Ascii yen_and_pile yen_and_its_reference 4
 unfolding no_tables digits
 reaches_into_the_kept = record { before = 0xA5 ∷ []; lost = 0x1F4A9; is = refl; unmapped = λ h. h; whole = refl; begins = lit≤ tt }
+
+-- U+00A5 U+1F4A9 into 18 bytes, of which 10 are kept back: the reference reaches into those, and ends the call. The last
+-- call still owes the escape to ASCII, another owes nothing.
+state : Set → EncoderState
+state s = record { tables = no_tables; encoding = Iso2022Jp; set = s }
+
+only_pile_is_lost : (before : List ℕ) (c : ℕ) (after : List ℕ) → yen_and_pile ≡ before ++ c ∷ after → ¬ (IsMapped ((coding_of no_tables Iso2022Jp).form c)) → after ≡ []
+unfolding no_tables
+only_pile_is_lost [] c after is lost = let same : 0xA5
+    ≡ c = cc is in absurd (lost (subst (λ (d : ℕ). IsMapped ((coding_of no_tables Iso2022Jp).form d)) same tt))
+only_pile_is_lost (x ∷ []) c after is lost = cc is
+only_pile_is_lost (x ∷ y ∷ []) c after is lost = absurd (cc is)
+only_pile_is_lost (x ∷ y ∷ z ∷ before) c after is lost = absurd (cc is)
+
+last_call_into_18 : Replaces (state Ascii) true CoderResult.OutputFull yen_and_pile yen_and_its_reference (state Roman) [] true 18
+unfolding no_tables digits state
+last_call_into_18 = record {
+  same = refl;
+  front = yen_and_pile;
+  split = refl;
+  bytes = refl;
+  sets = λ h. absurd (cc h);
+  moves = inr (inl (Ascii, 0xA5, refl));
+  told = (λ h. lit< tt, λ h. refl);
+  ends = inr (refl, λ h. cc);
+  full = λ h. lit< tt;
+  kept = λ h. record { before = 0xA5 ∷ []; lost = 0x1F4A9; is = refl; unmapped = λ h. h; whole = refl; begins = lit≤ tt };
+  few = λ h. absurd (omega (arith, h));
+  stops = λ before c after is lost reached. (only_pile_is_lost before c after is lost, refl);
+}
