@@ -1,7 +1,8 @@
 -- Worked rows of `specs/Coding.antt`. Outputs are in `Encoding`.
 use Rattle.std.specs.Prelude.{◌≡◌, [], ◌∷◌, codes, refl}
+use Rattle.std.proofs.Common.{arith}
 use Rattle.std.specs.Fmt.{digits}
-use Rattle.encoding_mem.specs.Coding.{open_from, last_set, lost_count}
+use Rattle.encoding_mem.specs.Coding.{Coding, IsCoding, open_from, last_set, lost_count}
 use Rattle.encoding_mem.specs.examples.SampleCoding.{sample_coding}
 use Rattle.encoding_mem.specs.declared.form.Set.TheVariants.{Ascii, Roman, Jis}
 
@@ -20,3 +21,7 @@ jis_is_last = refl
 reference_in_roman : open_from sample_coding Ascii (0xA5 ∷ 0xE9 ∷ []) ≡ 0x1B ∷ 0x28 ∷ 0x4A ∷ 0x5C ∷ codes "&#233;"
 unfolding digits
 reference_in_roman = refl
+
+-- no target needs more than four bytes at once
+not_five_at_once : (e : Coding) → ¬ (IsCoding 5 e)
+not_five_at_once e coding = absurd (omega (arith, coding.few))

@@ -1,9 +1,9 @@
 -- Worked rows of `specs/Decoding.antt`.
-use Rattle.std.proofs.Common.{◌≡◌, [], ◌∷◌, refl, arith}
-use Rattle.encoding_mem.specs.Piece.{good, bad}
+use Rattle.std.proofs.Common.{◌≡◌, ◌≢◌, ℕ, nat_eq, Bool, true, false, if◌then◌else◌, Some, ◌+◌, ◌≤◌, List, [], ◌∷◌, length, refl, arith}
+use Rattle.encoding_mem.specs.Piece.{Piece, good, bad, first, piece_len, text_of}
 use Rattle.encoding_mem.specs.Pieces.{pieces_in}
 use Rattle.encoding_mem.specs.Event.{malformed}
-use Rattle.encoding_mem.specs.Decoding.{IsDecided, IsUndecided, Reports, reported_event}
+use Rattle.encoding_mem.specs.Decoding.{IsDecided, IsUndecided, Waits, IsKnown, Reports, reported_event}
 use Rattle.encoding_mem.specs.Utf8.{pieces_utf8}
 use Rattle.encoding_mem.specs.declared.decoder_result.DecoderResult.TheVariants.{InputEmpty, Malformed}
 
@@ -41,3 +41,68 @@ prefix_is_undecided = record { more = 0xAC ∷ []; short = omega arith; differs 
 malformed_is_decided : IsDecided pieces_utf8 (0xE2 ∷ 0x82 ∷ 0x41 ∷ []) (bad 2 ∷ good 1 (0x41 ∷ []) ∷ [])
 unfolding pieces_in
 malformed_is_decided = λ r. (_, refl)
+
+-- of F0 three more bytes may make a character
+lead_is_undecided : IsUndecided pieces_utf8 (0xF0 ∷ [])
+unfolding pieces_in
+lead_is_undecided = record { more = 0x9F ∷ 0x92 ∷ 0xA9 ∷ []; short = omega arith; differs = λ e. cc }
+
+-- pieces for examples that four more bytes change, and no fewer
+abbrev late_pieces : List ℕ → List Piece
+late_pieces [] = bad 1 ∷ []
+late_pieces (a ∷ []) = bad 1 ∷ []
+late_pieces (a ∷ b ∷ []) = bad 1 ∷ []
+late_pieces (a ∷ b ∷ c ∷ []) = bad 1 ∷ []
+late_pieces (a ∷ b ∷ c ∷ d ∷ x) = good 1 [] ∷ []
+
+none_of_three : (more : List ℕ) → length more ≤ 3 → ¬ (first (late_pieces []) ≢ first (late_pieces more))
+none_of_three [] short differs = differs refl
+none_of_three (a ∷ []) short differs = differs refl
+none_of_three (a ∷ b ∷ []) short differs = differs refl
+none_of_three (a ∷ b ∷ c ∷ []) short differs = differs refl
+none_of_three (a ∷ b ∷ c ∷ d ∷ x) short differs = absurd (omega (arith, short))
+
+late_is_decided : ¬ (IsUndecided late_pieces [])
+late_is_decided undecided = none_of_three undecided.more undecided.short undecided.differs
+
+-- The pieces behind 1B 28 42 1B 28, which are pending in ISO-2022-JP: with 42 the first escape is a malformed sequence of
+-- three bytes, else it stands for nothing.
+abbrev behind_escape : List ℕ → List Piece
+behind_escape [] = good 3 [] ∷ bad 1 ∷ good 1 (0x28 ∷ []) ∷ []
+behind_escape (b ∷ x) = if nat_eq b 0x42 then bad 3 ∷ [] else good 3 [] ∷ []
+
+some_len : (p q : Piece) → Some p ≡ Some q → piece_len p ≡ piece_len q
+some_len p q e = cc
+
+escape_or_malformed : (t : Bool) (p : Piece) → first (if t then bad 3 ∷ [] else good 3 [] ∷ []) ≡ Some p → 5 ≤ piece_len p + 2
+escape_or_malformed true p e = omega (arith, some_len (bad 3) p e)
+escape_or_malformed false p e = omega (arith, some_len (good 3 []) p e)
+
+escape_is_near : (r : List ℕ) (p : Piece) → first (behind_escape r) ≡ Some p → 5 ≤ piece_len p + 2
+escape_is_near [] p e = omega (arith, some_len (good 3 []) p e)
+escape_is_near (b ∷ x) p e = escape_or_malformed (nat_eq b 0x42) p e
+
+-- five bytes may be pending, the first piece two bytes before their end; six may not, nor a piece three bytes before it
+five_wait : Waits behind_escape 5
+five_wait = record {
+  short = omega arith;
+  undecided = record { more = 0x42 ∷ []; short = omega arith; differs = λ e. cc };
+  soon = escape_is_near;
+}
+
+six_do_not_wait : (pieces : List ℕ → List Piece) → ¬ (Waits pieces 6)
+six_do_not_wait pieces waits = absurd (omega (arith, waits.short))
+
+three_behind_do_not_wait : ¬ (Waits (λ x. good 2 [] ∷ []) 5)
+three_behind_do_not_wait waits = absurd (omega (arith, waits.soon [] (good 2 []) refl))
+
+-- `A` is known whatever follows; bytes that stand for nothing need no room, and do not count as known
+letter_is_known : IsKnown pieces_utf8 (0x41 ∷ []) false
+unfolding pieces_in
+letter_is_known = (good 1 (0x41 ∷ []), λ r last. refl, omega arith)
+
+same_text_len : (p q : Piece) → Some p ≡ Some q → length (text_of p) ≡ length (text_of q)
+same_text_len p q e = cc
+
+silent_is_not_known : ¬ (IsKnown (λ x. good 3 [] ∷ []) [] false)
+silent_is_not_known known = absurd (omega (arith, same_text_len (good 3 []) known.0 (known.1 [] (λ last. refl)), known.2))

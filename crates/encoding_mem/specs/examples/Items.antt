@@ -1,12 +1,14 @@
 -- Worked rows of `specs/Items.antt`: bytes of the output and notes for the log, in their order. The sample target has
 -- a yen sign as 5C in Roman and あ as 24 22 in JIS; U+FFFD, é and Ê have no bytes there.
-use Rattle.std.specs.Prelude.{◌≡◌, true, false, [], ◌∷◌, ◌++◌, map, codes, refl}
+use Rattle.std.specs.Prelude.{◌≡◌, nat_eq, if◌then◌else◌, true, false, [], ◌∷◌, ◌++◌, map, codes, refl}
 use Rattle.std.specs.Char.{encode_utf8}
 use Rattle.std.specs.Fmt.{digits}
 use Rattle.encoding_mem.specs.Piece.{good, bad}
 use Rattle.encoding_mem.specs.Items.{Byte, BadAt, LostAt, bytes_of, whole_items, trace_from}
+use Rattle.encoding_mem.specs.Coding.{Coding}
 use Rattle.encoding_mem.specs.Utf8Coding.{utf8_coding}
 use Rattle.encoding_mem.specs.examples.SampleCoding.{sample_coding}
+use Rattle.encoding_mem.specs.declared.form.Form.TheVariants.{Mapped}
 use Rattle.encoding_mem.specs.declared.form.Set.TheVariants.{Ascii, Jis}
 
 -- the bytes without the notes
@@ -70,3 +72,16 @@ escape_at_the_end = refl
 
 nothing_left : trace_from sample_coding Jis 9 4 [] ≡ map Byte (0x1B ∷ 0x28 ∷ 0x42 ∷ [])
 nothing_left = refl
+
+-- a target for examples that has U+FFFD, as 22 2E in JIS: the set stays behind a malformed sequence
+abbrev with_replacement : Coding
+with_replacement = record {
+  form = λ c. if nat_eq c 0xFFFD then Mapped (0x22 ∷ 0x2E ∷ []) else sample_coding.form c;
+  set = λ s c. if nat_eq c 0xFFFD then Jis else sample_coding.set s c;
+  escape = sample_coding.escape;
+}
+
+-- two malformed sequences and `A`
+set_behind_malformed : trace_from with_replacement Ascii 0 0 (bad 1 ∷ bad 2 ∷ good 1 (0x41 ∷ []) ∷ [])
+    ≡ (BadAt 0 1 ∷ map Byte (0x1B ∷ 0x24 ∷ 0x42 ∷ 0x22 ∷ 0x2E ∷ [])) ++ (BadAt 1 2 ∷ map Byte (0x22 ∷ 0x2E ∷ 0x1B ∷ 0x28 ∷ 0x42 ∷ 0x41 ∷ []))
+set_behind_malformed = refl

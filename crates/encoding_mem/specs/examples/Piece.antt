@@ -1,6 +1,6 @@
 -- Worked rows of `specs/Piece.antt`: `A`, a malformed sequence of three bytes, and two characters of two bytes.
-use Rattle.std.specs.Prelude.{◌≡◌, List, [], ◌∷◌, refl}
-use Rattle.encoding_mem.specs.Piece.{Piece, good, bad, sizes, scalars, text, bad_count}
+use Rattle.std.proofs.Common.{◌≡◌, List, [], ◌∷◌, refl, arith}
+use Rattle.encoding_mem.specs.Piece.{Piece, good, bad, sizes, scalars, text, bad_count, IsPiece}
 
 abbrev sample : List Piece
 sample = good 1 (0x41 ∷ []) ∷ bad 3 ∷ good 2 (0xCA ∷ 0x304 ∷ []) ∷ []
@@ -18,3 +18,16 @@ scalars_without_it = refl
 
 one_is_malformed : bad_count sample ≡ 1
 one_is_malformed = refl
+
+-- a piece has a byte at least, no more characters than bytes, and no surrogate among them
+letter_is_a_piece : IsPiece (good 1 (0x41 ∷ []))
+letter_is_a_piece = record { some = omega arith; few = omega arith; are_scalars = refl }
+
+no_bytes_are_none : ¬ (IsPiece (good 0 []))
+no_bytes_are_none piece = absurd (omega (arith, piece.some))
+
+two_of_one_byte_are_none : ¬ (IsPiece (good 1 (0xCA ∷ 0x304 ∷ [])))
+two_of_one_byte_are_none piece = absurd (omega (arith, piece.few))
+
+surrogate_is_none : ¬ (IsPiece (good 3 (0xD800 ∷ [])))
+surrogate_is_none piece = let surrogate = piece.are_scalars in cc
