@@ -1,5 +1,6 @@
 -- Worked rows: what the definitions of `specs/` come to on inputs that a reader can work by hand.
 pub mod FileNames
+pub mod IndexLists
 pub mod Kinds
 pub mod Lookups
 pub mod PackedRows

@@ -73,3 +73,10 @@ at_7457 = refl
 -- values rise over both parts: U+FFFF again at 189000
 over_both_parts : bad_row ((39419, 0xFFFF) ∷ (189000, 0xFFFF) ∷ []) ≡ Some 1
 over_both_parts = refl
+
+-- a pointer may not stand twice, though the values of the second row rise
+pointer_twice : bad_row ((5, 0x80) ∷ (5, 0x90) ∷ (39420, 0x80) ∷ (189000, 0x10000) ∷ []) ≡ Some 1
+pointer_twice = refl
+
+next_pointer : bad_row ((5, 0x80) ∷ (6, 0x90) ∷ (39420, 0x80) ∷ (189000, 0x10000) ∷ []) ≡ None
+next_pointer = refl

@@ -1,7 +1,7 @@
 -- Worked rows of `specs/Ranges.antt`.
-use Rattle.std.proofs.Common.{refl}
+use Rattle.std.proofs.Common.{ℕ, refl, arith}
 use Rattle.std.specs.Prelude.{◌≡◌, true, false, [], ◌∷◌, map, None, Some}
-use Rattle.encoding_tables.specs.Ranges.{is_valid_pointer, range_value, range_pointer}
+use Rattle.encoding_tables.specs.Ranges.{is_valid_pointer, range_value, range_pointer, HasRowValue, end_by}
 
 one : range_value ((0, 0x80) ∷ []) 7456 ≡ Some 0x1DA0
 one = refl
@@ -108,3 +108,17 @@ behind_the_fixed_pointer = refl
 -- U+E7C7 is 7457 also where a row gives it to another pointer
 fixed_pointer_first : range_pointer ((0, 0xE7C7) ∷ []) 0xE7C7 ≡ Some 7457
 fixed_pointer_first = refl
+
+-- behind the last row the pointers end
+end_of_pointers : end_by [] ≡ 1237576
+end_of_pointers = refl
+
+-- beside 7457 a row gives its values
+before_7457 : HasRowValue ((0, 0x80) ∷ []) 7456 0x1DA0
+before_7457 = record { valid = refl; other = λ e. absurd (omega (arith, e)); gives = refl }
+
+at_7457 : (c : ℕ) → ¬ (HasRowValue ((0, 0x80) ∷ []) 7457 c)
+at_7457 c row = row.other refl
+
+behind_7457 : HasRowValue ((0, 0x80) ∷ []) 7458 0x1DA2
+behind_7457 = record { valid = refl; other = λ e. absurd (omega (arith, e)); gives = refl }

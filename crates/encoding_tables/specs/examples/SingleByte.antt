@@ -1,9 +1,9 @@
 -- Worked rows of `specs/SingleByte.antt`.
-use Rattle.std.proofs.Common.{refl}
-use Rattle.std.specs.Prelude.{◌≡◌, ℕ, List, [], ◌∷◌, ◌++◌, None, Some, replicate}
-use Rattle.encoding_mem.specs.Piece.{good, bad}
+use Rattle.std.proofs.Common.{ℕ, zero, suc, ◌<◌, refl, ap, arith}
+use Rattle.std.specs.Prelude.{◌≡◌, ℕ, List, [], ◌∷◌, ◌++◌, None, Some, replicate, slice_index, ◌≢◌}
+use Rattle.encoding_mem.specs.Piece.{good, bad, scalars}
 use Rattle.encoding_mem.specs.Pieces.{pieces_in}
-use Rattle.encoding_tables.specs.SingleByte.{char_of_byte, single_byte_of_char, front_single_byte, pieces_single_byte}
+use Rattle.encoding_tables.specs.SingleByte.{char_of_byte, single_byte_of_char, front_single_byte, pieces_single_byte, IsLatin1UpTo}
 
 -- a list for examples, from 80 on: U+20AC, nothing, U+00E9, U+00E9
 sample : List ℕ
@@ -83,3 +83,16 @@ tau_read = refl
 -- the last pointer, 127, is FF
 last_pointer_is_last_byte : single_byte_of_char (replicate 127 0 ++ (0xFF ∷ [])) 0xFF ≡ Some 0xFF
 last_pointer_is_last_byte = refl
+
+euro_is_another : good 1 (0x20AC ∷ []) ∷ [] ≢ good 1 (0x80 ∷ []) ∷ []
+euro_is_another e = let characters : 0x20AC ≡ 0x80 = ap (λ ps. slice_index (scalars ps) 0) e in absurd (omega (arith, characters))
+
+-- 80 is U+20AC here, as in windows-1252: only the bytes before it are the characters with their numbers
+letters_before_euro : IsLatin1UpTo (pieces_single_byte sample) (0x41 ∷ 0x42 ∷ 0x80 ∷ []) 2
+unfolding sample pieces_in
+letters_before_euro = record { within = omega arith; same = each_letter; other = λ more. euro_is_another }
+  where
+    each_letter : (k : ℕ) → k < 2 → pieces_single_byte sample (slice_index (0x41 ∷ 0x42 ∷ 0x80 ∷ []) k ∷ []) ≡ good 1 (slice_index (0x41 ∷ 0x42 ∷ 0x80 ∷ []) k ∷ []) ∷ []
+    each_letter zero less = refl
+    each_letter (suc zero) less = refl
+    each_letter (suc (suc k)) less = absurd (omega (arith, less))
