@@ -1,3 +1,4 @@
 mod Iso2022JpFront
 mod Iso2022JpText
 mod Iso2022JpSteps
+pub mod JisPointers

@@ -10,6 +10,7 @@ pub mod Gb18030
 pub mod Gb18030Coding
 pub mod Iso2022Jp
 pub mod Iso2022JpForms
+pub mod JisPointers
 pub mod Iso2022JpSets
 pub mod laws
 pub mod examples

@@ -10,6 +10,7 @@ ghost use Rattle.encoding_codecs.specs.EucJp.{pieces_euc_jp, euc_jp_coding};
 ghost use Rattle.encoding_codecs.specs.EucKr.{pieces_euc_kr, euc_kr_coding};
 ghost use Rattle.encoding_codecs.specs.ShiftJis.{pieces_shift_jis, shift_jis_coding};
 ghost use Rattle.encoding_codecs.specs.ShiftJisPointers.{PointerIsLeastUsed};
+ghost use Rattle.encoding_codecs.specs.JisPointers.{EucJpPointerIsLeast, Iso2022JpPointerIsLeast};
 ghost use Rattle.encoding_codecs.specs.Gb18030.{pieces_gb18030};
 ghost use Rattle.encoding_codecs.specs.Gb18030Coding.{gb18030_coding};
 ghost use Rattle.encoding_codecs.specs.Iso2022JpForms.{iso_2022_jp_coding};
@@ -31,6 +32,21 @@ pub fn big5_text_reads_back()
 /// 8272 to 8835.
 pub fn shift_jis_pointers()
     ensures { PointerIsLeastUsed }
+{}
+
+/// What EUC-JP writes for a character that is not ASCII, U+00A5, U+203E or halfwidth katakana:
+/// the two bytes of the least pointer below 8836 of jis0208 with it, or with U+FF0D for U+2212.
+/// Where there is none, the character has no form.
+pub fn euc_jp_pointers()
+    ensures { EucJpPointerIsLeast }
+{}
+
+/// What ISO-2022-JP writes for a character that is not ASCII, U+00A5 or U+203E: the two bytes of
+/// the least pointer below 8836 of jis0208 with what is looked up for it. That is U+FF0D for
+/// U+2212, the entry in the index iso-2022-jp-katakana for halfwidth katakana, and else itself.
+/// Where there is no such pointer or no such entry, the character has no form.
+pub fn iso_2022_jp_pointers()
+    ensures { Iso2022JpPointerIsLeast }
 {}
 
 /// What Shift_JIS writes for a character, its bytes or its reference, reads back, by the decoder of the same

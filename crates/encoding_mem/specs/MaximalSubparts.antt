@@ -1,5 +1,5 @@
--- The first piece of UTF-8, said of forms and not of single bytes (Unicode, section 3.9, "U+FFFD Substitution of Maximal
--- Subparts"; the Encoding Standard, section 8.1.1, "UTF-8 decoder").
+-- The first piece of UTF-8, said of forms and not of single bytes (Unicode, section 3.9, "U+FFFD Substitution of
+-- Maximal Subparts"; the Encoding Standard, section 8.1.1, "UTF-8 decoder").
 use Rattle.std.specs.Prelude.{◌≡◌, ◌↔◌, ℕ, ◌<◌, ◌⊎◌, List, [], ◌∷◌, ◌++◌, length, drop}
 use Rattle.std.specs.Char.{IsScalar, encode_utf8}
 use Rattle.encoding_mem.specs.LongestPrefix.{IsLongestPrefix}
