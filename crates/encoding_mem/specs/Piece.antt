@@ -53,10 +53,11 @@ abbrev pub first : List Piece → Option Piece
 first [] = None
 first (p ∷ ps) = Some p
 
--- what every piece is: some bytes, not more scalars than bytes, and scalars they are
+-- what every piece is: some bytes, at most two scalars and not more than bytes, and scalars they are
 pub record IsPiece (p : Piece) : Type 0 where
   pub some : 0 < piece_len p
   pub few : length (text_of p) ≤ piece_len p
+  pub at_most_two : length (scalars_of p) ≤ 2
   pub are_scalars : all_scalars (scalars_of p) ≡ true
 
 abbrev pub ArePieces : List Piece → Type 0

@@ -1,8 +1,9 @@
 // Laws of the decoders' definitions.
 
 ghost use Rattle.std.specs.Prelude.{◌≢◌, ◌≡◌, ◌+◌, ◌-◌, ◌≤◌, Bool, true, false, List, [], ℕ, length, drop, encode_utf8_all};
+ghost use Rattle.std.specs.List.{All};
 ghost use Rattle.std.specs.Str.{all_scalars};
-ghost use Rattle.encoding_mem.specs.Piece.{Piece};
+ghost use Rattle.encoding_mem.specs.Piece.{Piece, scalars_of};
 ghost use Rattle.encoding_mem.specs.Decoding.{DecoderState, EventLaw, StateLaw, EndsWith, IsUndecided, IsDecided};
 ghost use Rattle.encoding_mem.specs.Driver.{Suffices};
 ghost use Rattle.encoding_mem.specs.Room.{room_of};
@@ -51,6 +52,13 @@ pub fn calls_have_events()
 pub fn undecided_decides_nothing()
     ensures { (pieces : List ℕ → List Piece) (x : List ℕ) (ps : List Piece)
         → IsUndecided pieces x → IsDecided pieces x ps → ps ≡ [] }
+{}
+
+/// No piece gives more than two scalar values: of any decoder, in whatever state it is, and
+/// whatever bytes come. Big5 has pieces that give two, as `88 62`.
+pub fn pieces_give_at_most_two()
+    ensures { (state : DecoderState) (x : List ℕ)
+        → All (λ p. length (scalars_of p) ≤ 2) (state.pieces x) }
 {}
 
 /// Text that is written in UTF-8 is read back, each scalar as a piece.

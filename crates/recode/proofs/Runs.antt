@@ -58,7 +58,7 @@ text_scalars (p ∷ ps) h = all_scalars-cons (text_of p) (text ps) (piece_text p
 -- a mark is a piece, and so are those behind it
 are_pieces_from : (t : IndexLists) (e : Encoding) (n : ℕ) (x : List ℕ) → AreAcceptedTables t → ArePieces (pieces_from t (e, n) x)
 are_pieces_from t e zero x taken = are_pieces_of t e taken x
-are_pieces_from t e (suc n) x taken = (record { some = omega arith; few = omega arith; are_scalars = refl }, are_pieces_of t e taken (drop (suc n) x))
+are_pieces_from t e (suc n) x taken = (record { some = omega arith; few = omega arith; at_most_two = omega arith; are_scalars = refl }, are_pieces_of t e taken (drop (suc n) x))
 
 -- the text of an input is scalars
 text_are_scalars : (j : Job) (x : List ℕ) → IsValidJob j → all_scalars (input_text j x) ≡ true

@@ -100,7 +100,7 @@ small_front jis0208 scalars m b x = small_if (is_some (escape_at (b ∷ x))) (es
 
 cuts_small : (p : Piece) (k : ℕ) → IsSmall p k → Cuts p k
 cuts_small (bad n) k s = cuts_bad n k s.0 s.1
-cuts_small (good n []) k s = record { piece = record { some = s.0; few = omega arith; are_scalars = refl }; within = s.1 }
+cuts_small (good n []) k s = record { piece = record { some = s.0; few = omega arith; at_most_two = omega arith; are_scalars = refl }; within = s.1 }
 cuts_small (good n (c ∷ [])) k s = cuts_one n c k s.0 s.1 s.2
 cuts_small (good n (c ∷ d ∷ cs)) k s = absurd s
 

@@ -95,7 +95,7 @@ shows_by_lead first after decide h (a ∷ x) last some =
 
 cuts_two : (n c d k : ℕ) → 1 < n → n ≤ k → IsScalar c → IsScalar d → Cuts (good n (c ∷ d ∷ [])) k
 cuts_two n c d k some fits is also = record {
-  piece = record { some = omega (arith, some); few = some; are_scalars = and_from (scalar c) _ is (and_from (scalar d) true also refl) };
+  piece = record { some = omega (arith, some); few = some; at_most_two = omega arith; are_scalars = and_from (scalar c) _ is (and_from (scalar d) true also refl) };
   within = fits;
 }
 

@@ -99,7 +99,7 @@ mark_size (suc n) = omega arith
 
 mark_is : (n : ℕ) → ArePieces (mark_piece n)
 mark_is zero = tt
-mark_is (suc n) = (record { some = omega arith; few = omega arith; are_scalars = refl }, tt)
+mark_is (suc n) = (record { some = omega arith; few = omega arith; at_most_two = omega arith; are_scalars = refl }, tt)
 
 -- with the mark
 pub marked_are_pieces : (t : IndexLists) (mark : Mark) (e : Encoding) (x : List ℕ) → AreAcceptedTables t → ArePieces (marked_pieces t mark e x)

@@ -79,9 +79,9 @@ sought_whole s own held fresh x =
     whole_at (is_sought s) own (held ++ x) (find_mark s (held ++ x)) fresh (within_mark s (held ++ x)) ∙ omega (arith, length-append held x)
 
 pieces_of_mark : (m : ByteOrderMark) (x : List ℕ) → ArePieces (pieces_seen (λ _. []) x (Whole m))
-pieces_of_mark Utf8 x = (record { some = omega arith; few = omega arith; are_scalars = refl }, are_pieces_after Utf8 (drop 3 x))
-pieces_of_mark Utf16Be x = (record { some = omega arith; few = omega arith; are_scalars = refl }, are_pieces_after Utf16Be (drop 2 x))
-pieces_of_mark Utf16Le x = (record { some = omega arith; few = omega arith; are_scalars = refl }, are_pieces_after Utf16Le (drop 2 x))
+pieces_of_mark Utf8 x = (record { some = omega arith; few = omega arith; at_most_two = omega arith; are_scalars = refl }, are_pieces_after Utf8 (drop 3 x))
+pieces_of_mark Utf16Be x = (record { some = omega arith; few = omega arith; at_most_two = omega arith; are_scalars = refl }, are_pieces_after Utf16Be (drop 2 x))
+pieces_of_mark Utf16Le x = (record { some = omega arith; few = omega arith; at_most_two = omega arith; are_scalars = refl }, are_pieces_after Utf16Le (drop 2 x))
 
 pieces_seen_are : (own : DecoderState) (x : List ℕ) (F : Seen) → ArePieces (pieces_seen own.pieces x F)
 pieces_seen_are own x Front = own.are_pieces x

@@ -125,10 +125,10 @@ cuts_cond true p q n h k = h refl
 cuts_cond false p q n h k = k refl
 
 pub cuts_bad : (n k : ℕ) → 0 < n → n ≤ k → Cuts (bad n) k
-cuts_bad n k some fits = record { piece = record { some = some; few = omega arith; are_scalars = refl }; within = fits }
+cuts_bad n k some fits = record { piece = record { some = some; few = omega arith; at_most_two = omega arith; are_scalars = refl }; within = fits }
 
 pub cuts_one : (n c k : ℕ) → 0 < n → n ≤ k → IsScalar c → Cuts (good n (c ∷ [])) k
-cuts_one n c k some fits is = record { piece = record { some = some; few = omega arith; are_scalars = and_from (scalar c) true is refl }; within = fits }
+cuts_one n c k some fits is = record { piece = record { some = some; few = omega arith; at_most_two = omega arith; are_scalars = and_from (scalar c) true is refl }; within = fits }
 
 pub range_from : (lo hi c : ℕ) → is_in_range lo hi c ≡ true → IsInRange lo hi c
 range_from lo hi c h = let parts = and_parts (nat_le lo c) (nat_le c hi) h in (leb-true lo c parts.0, leb-true c hi parts.1)

@@ -13,7 +13,7 @@ use Rattle.encoding_tables.specs.Replacement.{front_replacement, after_replaceme
 
 pub cuts_replacement : AllCut front_replacement
 cuts_replacement false b x = cuts_bad 1 (1 + length x) (lit< tt) (omega arith)
-cuts_replacement true b x = record { piece = record { some = lit< tt; few = omega arith; are_scalars = refl }; within = omega arith }
+cuts_replacement true b x = record { piece = record { some = lit< tt; few = omega arith; at_most_two = omega arith; are_scalars = refl }; within = omega arith }
 
 -- what a look at the first byte shows
 abbrev pub decide_replacement : (error_returned : Bool) → Front
