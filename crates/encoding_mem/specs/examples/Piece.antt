@@ -21,7 +21,7 @@ one_is_malformed = refl
 
 -- a piece has a byte at least, no more characters than bytes, and no surrogate among them
 letter_is_a_piece : IsPiece (good 1 (0x41 ∷ []))
-letter_is_a_piece = record { some = omega arith; few = omega arith; are_scalars = refl }
+letter_is_a_piece = record { some = omega arith; few = omega arith; at_most_two = omega arith; are_scalars = refl }
 
 no_bytes_are_none : ¬ (IsPiece (good 0 []))
 no_bytes_are_none piece = absurd (omega (arith, piece.some))
