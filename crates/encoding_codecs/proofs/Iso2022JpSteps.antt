@@ -11,7 +11,7 @@ use Rattle.encoding_mem.specs.Steps.{Follows, IsBroken, StepLaw}
 use Rattle.encoding_mem.specs.declared.form.Form.TheVariants.{Mapped, Unmapped}
 use Rattle.encoding_mem.specs.declared.form.Set.{Set}
 use Rattle.encoding_mem.specs.declared.form.Set.TheVariants.{Ascii, Roman, Jis}
-use Rattle.encoding_tables.specs.laws.Lookups.{IsPointer}
+use Rattle.encoding_tables.specs.LookupLaws.{IsPointer}
 use Rattle.encoding_tables.specs.Lookups.{AreEntries, value_of, first_pointer}
 use Rattle.encoding_tables.specs.laws.Pointers.{first_is_least}
 use Rattle.encoding_codecs.specs.Iso2022Jp.{ascii_mode, roman_mode, jis_mode, ascii_piece, pieces_in_mode, jis_pair_pointer}

@@ -4,7 +4,7 @@
 use Rattle.std.specs.Prelude.{◌≡◌, ◌≢◌, ℕ, ◌+◌, ◌/◌, ◌%◌, ◌≤◌, List, [], ◌∷◌, false, Option, MatchOption}
 use Rattle.encoding_mem.specs.declared.form.Form.{Form}
 use Rattle.encoding_mem.specs.declared.form.Form.TheVariants.{Unmapped}
-use Rattle.encoding_tables.specs.laws.Lookups.{IsPointer}
+use Rattle.encoding_tables.specs.LookupLaws.{IsPointer}
 use Rattle.encoding_codecs.specs.EucJp.{euc_jp_form, euc_jp_pair_bytes}
 use Rattle.encoding_codecs.specs.Iso2022JpForms.{iso_2022_jp_form, looked_up}
 use Rattle.encoding_codecs.specs.JisForms.{is_katakana, folded}

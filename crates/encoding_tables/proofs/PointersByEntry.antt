@@ -3,7 +3,7 @@ use Rattle.std.proofs.Common.{◌≡◌, ◌≢◌, ℕ, ◌-◌, ◌<◌, ◌�
 use Rattle.std.specs.Prelude.{MatchOption}
 use Rattle.std.proofs.lemmas.Bool.{cases_lt, cases_eq}
 use Rattle.encoding_tables.specs.Lookups.{first_pointer, last_pointer}
-use Rattle.encoding_tables.specs.laws.Lookups.{IsPointer}
+use Rattle.encoding_tables.specs.LookupLaws.{IsPointer}
 use Rattle.encoding_tables.specs.laws.Pointers.{value_some, first_is_least, last_is_greatest}
 use Rattle.encoding_tables.specs.SortedRows.{row_at, IsRank}
 use Rattle.encoding_tables.specs.PackedRows.{flat_list, swapped}

@@ -16,5 +16,6 @@ pub mod Utf16
 pub mod SingleByte
 pub mod PackedRows
 pub mod PackedLists
+pub mod LookupLaws
 pub mod laws
 pub mod examples

@@ -2,7 +2,6 @@
 pub mod EachByte
 pub mod EachByteReadBack
 pub mod Kinds
-pub mod Lookups
 pub mod OptionCases
 pub mod Pointers
 pub mod Ranges

@@ -7,7 +7,7 @@ ghost use Rattle.encoding_mem.specs.Steps.{StepLaw, in_any_set};
 ghost use Rattle.encoding_tables.specs.FileNames.{FileNamesDiffer};
 ghost use Rattle.encoding_tables.specs.Lookups.{AreEntries};
 ghost use Rattle.encoding_tables.specs.Accepted.{AcceptanceIsExact};
-ghost use Rattle.encoding_tables.specs.laws.Lookups.{FirstIsLeast, LastIsGreatest};
+ghost use Rattle.encoding_tables.specs.LookupLaws.{FirstIsLeast, LastIsGreatest};
 ghost use Rattle.encoding_tables.specs.NamedRows.{NamesAreExact};
 ghost use Rattle.encoding_tables.specs.SingleByte.{pieces_single_byte, single_byte_coding};
 ghost use Rattle.encoding_tables.specs.Replacement.{IsOneError, NeedsRoomOnce};

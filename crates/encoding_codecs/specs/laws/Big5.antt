@@ -6,7 +6,7 @@ use Rattle.std.proofs.lemmas.Bool.{le-ltb, lt-ltb, ne_eqb, cases_lt}
 use Rattle.encoding_mem.specs.Coding.{IsCoding}
 use Rattle.encoding_mem.specs.ReadBack.{ReadsBackExactly}
 use Rattle.encoding_tables.specs.Lookups.{AreEntries, value_of, first_pointer, last_pointer}
-use Rattle.encoding_tables.specs.laws.Lookups.{IsPointer}
+use Rattle.encoding_tables.specs.LookupLaws.{IsPointer}
 use Rattle.encoding_tables.specs.laws.Pointers.{first_is_least, last_is_greatest}
 use Rattle.encoding_codecs.specs.TwoByte.{IsTwoByte, IsPairValue}
 use Rattle.encoding_codecs.specs.Pointers.{value_of_entry}
