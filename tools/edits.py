@@ -5,7 +5,7 @@
 
 Each is a wrong body that the prover must refuse. A copy of the repository, with what checks have kept in `out/`, is
 made in a folder of its own, in which `edits/` stands for `must-fail/`. The status is 0 where all are refused. It takes
-10 to 15 seconds an edit where the crates are proved, and is meant for a release.
+some 30 seconds an edit where the crates are proved, and is meant for a release.
 """
 
 import os
