@@ -4,7 +4,5 @@
 mod label;
 pub mod places;
 mod table;
-#[cfg(test)]
-mod tests;
 
 pub use label::label_number;

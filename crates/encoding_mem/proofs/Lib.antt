@@ -25,5 +25,4 @@ pub mod Utf8Prefixes
 pub mod Replacement
 pub mod ClearedText
 pub mod ConvertedBack
-pub mod SmallTexts
 pub mod Utf16Texts

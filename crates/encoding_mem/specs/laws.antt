@@ -12,6 +12,5 @@ pub mod Stateless
 pub mod Utf8Coding
 pub mod TextRoom
 pub mod Encoding
-pub mod SampleCoding
 pub mod ReadBack
 pub mod Steps

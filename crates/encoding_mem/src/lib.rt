@@ -8,19 +8,13 @@ pub mod ascii_copies;
 pub mod ascii_text;
 pub mod bidi;
 pub mod bytewise;
-#[cfg(test)]
-mod check_tests;
 pub mod conversion_laws;
-#[cfg(test)]
-mod conversion_tests;
 pub mod decoder_laws;
 pub mod decoder_result;
 mod driver;
 pub mod encode;
 pub mod encoder_laws;
 pub mod encoder_result;
-#[cfg(test)]
-mod encoder_tests;
 mod first;
 pub mod form;
 pub mod front;
@@ -35,8 +29,6 @@ pub mod raw_encoder;
 pub mod room;
 pub mod sink;
 pub mod source;
-#[cfg(test)]
-mod tests;
 pub mod text_destinations;
 pub mod utf16_conversions;
 pub mod utf16_sink;

@@ -1,16 +1,11 @@
-use crate::ascii::longer_ascii_front;
-use crate::ascii_text::{
-    ascii_valid_up_to, is_ascii, is_basic_latin, iso_2022_jp_ascii_valid_up_to,
+use encoding_mem::ascii::longer_ascii_front;
+use encoding_mem::{
+    Latin1Bidi, ascii_valid_up_to, check_str_for_latin1_and_bidi, check_utf8_for_latin1_and_bidi,
+    check_utf16_for_latin1_and_bidi, ensure_utf16_validity, is_ascii, is_basic_latin, is_char_bidi,
+    is_str_bidi, is_str_latin1, is_utf8_bidi, is_utf8_latin1, is_utf16_bidi,
+    is_utf16_code_unit_bidi, is_utf16_latin1, iso_2022_jp_ascii_valid_up_to, str_latin1_up_to,
+    utf8_latin1_up_to, utf8_valid_up_to, utf16_valid_up_to,
 };
-use crate::bidi::{
-    Latin1Bidi, check_str_for_latin1_and_bidi, check_utf8_for_latin1_and_bidi,
-    check_utf16_for_latin1_and_bidi, is_char_bidi, is_str_bidi, is_utf8_bidi, is_utf16_bidi,
-    is_utf16_code_unit_bidi,
-};
-use crate::latin1::{
-    is_str_latin1, is_utf8_latin1, is_utf16_latin1, str_latin1_up_to, utf8_latin1_up_to,
-};
-use crate::validity::{ensure_utf16_validity, utf8_valid_up_to, utf16_valid_up_to};
 
 #[test]
 fn latin1_left_to_right_and_bidi(rt: HostRuntime) {

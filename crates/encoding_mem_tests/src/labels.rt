@@ -1,5 +1,4 @@
-use crate::label_number;
-use crate::table::rows_of_length;
+use encoding_labels::label_number;
 use std::test::Fail;
 
 // Each encoding by its own name, in the order of the places.
@@ -55,19 +54,14 @@ fn each_name_has_its_place(rt: HostRuntime) {
 
 #[test]
 fn case_and_white_space_do_not_matter(rt: HostRuntime) -> Result<(), Fail> {
-    let mut count = 0u32;
-    for length in 0..30 {
-        for (label, place) in rows_of_length(length) {
-            let mut text = vec![in rt.alloc(); b'\t', b'\n', 0x0C, b'\r', b' ']?;
-            for byte in label.bytes() {
-                text.push(byte.to_ascii_uppercase())?;
-            }
-            text.extend_from_slice(b" \r\x0C\n\t")?;
-            assert_eq!(rt; label_number(text.as_slice()), Some(*place), "{label}");
-            count = count.saturating_add(1);
+    for (place, name) in NAMES.iter().enumerate() {
+        let mut text = vec![in rt.alloc(); b'\t', b'\n', 0x0C, b'\r', b' ']?;
+        for byte in name.bytes() {
+            text.push(byte.to_ascii_uppercase())?;
         }
+        text.extend_from_slice(b" \r\x0C\n\t")?;
+        assert_eq!(rt; label_number(text.as_slice()), Some(place), "{name}");
     }
-    assert_eq!(rt; count, 228);
     Ok(())
 }
 

@@ -2,14 +2,12 @@
 
 ghost use Rattle.std.specs.Prelude.{◌≤◌, length};
 ghost use Rattle.encoding_mem.specs.examples.SampleCoding.{sample_coding, sample_room};
-ghost use Rattle.encoding_mem.specs.laws.SampleCoding.{sample_coding_laws, sample_fits};
+ghost use Rattle.encoding_mem_tests.specs.SampleCoding.{sample_coding_laws, sample_fits};
 
-use crate::encode::{Target, encode};
-use crate::encoder_result::EncoderResult;
-use crate::form::{Bytes, Form, Set};
-use crate::raw_encoder::RawEncoder;
-use crate::source::{Source, Utf8Source, Utf16Source};
-use crate::utf8_encoder::Utf8Encoder;
+use encoding_mem::encode::{Target, encode};
+use encoding_mem::form::{Bytes, Form, Set};
+use encoding_mem::source::{Source, Utf8Source, Utf16Source};
+use encoding_mem::{EncoderResult, RawEncoder, Utf8Encoder};
 
 // The small target with three sets.
 #[derive(Clone, Copy, Drop)]

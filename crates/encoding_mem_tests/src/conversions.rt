@@ -1,4 +1,4 @@
-use crate::{
+use encoding_mem::{
     Latin1Bytes, convert_latin1_to_str_partial, convert_latin1_to_utf8_partial,
     convert_str_to_utf16, convert_utf8_to_latin1_lossy, convert_utf8_to_utf16,
     convert_utf8_to_utf16_up_to_invalid, convert_utf8_to_utf16_without_replacement,

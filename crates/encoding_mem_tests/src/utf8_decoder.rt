@@ -1,7 +1,5 @@
-use crate::decoder_laws::decode_with_events;
-use crate::decoder_result::DecoderResult;
-use crate::raw_decoder::RawDecoder;
-use crate::utf8::Utf8Decoder;
+use encoding_mem::decoder_laws::decode_with_events;
+use encoding_mem::{DecoderResult, RawDecoder, Utf8Decoder};
 use std::alloc::AllocError;
 use std::test::Fail;
 
