@@ -11,20 +11,12 @@ mod packed_index;
 mod packed_ranges;
 pub mod ranges;
 pub mod replacement_decoder;
-#[cfg(test)]
-mod row_tests;
 mod search;
 pub mod single_byte_decoder;
 pub mod single_byte_encoder;
-#[cfg(test)]
-mod single_byte_tests;
 mod sorted_rows;
-#[cfg(test)]
-mod stateless_tests;
 pub mod table_fault;
 pub mod tables;
-#[cfg(test)]
-mod tests;
 pub mod user_defined_decoder;
 pub mod user_defined_encoder;
 pub mod utf16_decoder;

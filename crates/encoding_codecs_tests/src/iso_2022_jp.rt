@@ -1,6 +1,6 @@
 // ISO-2022-JP over small lists, with answers worked by hand.
 
-use crate::{Iso2022JpDecoder, Iso2022JpEncoder};
+use encoding_codecs::{Iso2022JpDecoder, Iso2022JpEncoder};
 use encoding_mem::{DecoderResult, EncoderResult, RawDecoder, RawEncoder};
 use encoding_tables::{IndexKind, Tables};
 use std::alloc::{AllocError, Global};

@@ -1,7 +1,7 @@
 // The two-byte codecs over small indexes, with answers worked by hand.
 
 use crate::streams::{MARK, decode_bytes, decode_units, insert, insert_rows};
-use crate::{Big5Decoder, Big5Encoder, EucKrDecoder, EucKrEncoder};
+use encoding_codecs::{Big5Decoder, Big5Encoder, EucKrDecoder, EucKrEncoder};
 use encoding_mem::{DecoderResult, EncoderResult, RawDecoder, RawEncoder};
 use encoding_tables::{IndexKind, Tables};
 use std::alloc::{AllocError, Global};

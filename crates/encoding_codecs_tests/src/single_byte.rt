@@ -1,7 +1,7 @@
 // The single-byte codecs over small lists, with answers worked by hand.
 
-use crate::{IndexKind, SingleByteDecoder, SingleByteEncoder, Tables};
 use encoding_mem::{DecoderResult, EncoderResult, RawDecoder, RawEncoder};
+use encoding_tables::{IndexKind, SingleByteDecoder, SingleByteEncoder, Tables};
 use std::alloc::Global;
 use std::test::Fail;
 

@@ -1,7 +1,7 @@
 // The codecs that need no index, with rows of the standard worked by hand.
 
-use crate::{ReplacementDecoder, UserDefinedDecoder, UserDefinedEncoder, Utf16Decoder};
 use encoding_mem::{DecoderResult, EncoderResult, RawDecoder, RawEncoder};
+use encoding_tables::{ReplacementDecoder, UserDefinedDecoder, UserDefinedEncoder, Utf16Decoder};
 use std::alloc::{AllocError, Global};
 use std::test::Fail;
 

@@ -1,7 +1,7 @@
 // Texts that encoders are handed in two calls, and the rooms that encoders and decoders ask for.
 
 use crate::streams::{MARK, decode_bytes, decode_units, encode_text, encode_units, insert};
-use crate::{
+use encoding_codecs::{
     Big5Decoder, Big5Encoder, EucJpDecoder, EucJpEncoder, EucKrDecoder, EucKrEncoder,
     Gb18030Decoder, Gb18030Encoder, Iso2022JpDecoder, Iso2022JpEncoder, ShiftJisDecoder,
     ShiftJisEncoder,

@@ -1,6 +1,6 @@
 // Lists and rows that are taken or refused, with answers worked by hand.
 
-use crate::{IndexKind, TableFault, Tables};
+use encoding_tables::{IndexKind, TableFault, Tables};
 use std::alloc::{AllocError, Global};
 use std::test::Fail;
 

@@ -1,7 +1,7 @@
 // gb18030 and GBK over small tables, with answers worked by hand.
 
 use crate::streams::{MARK, decode_bytes, decode_units, insert};
-use crate::{Gb18030Decoder, Gb18030Encoder};
+use encoding_codecs::{Gb18030Decoder, Gb18030Encoder};
 use encoding_mem::{DecoderResult, EncoderResult, RawDecoder, RawEncoder};
 use encoding_tables::{IndexKind, Tables};
 use std::alloc::{AllocError, Global};

@@ -1,7 +1,7 @@
 // Shift_JIS and EUC-JP over small lists, with answers worked by hand.
 
 use crate::streams::{MARK, decode_bytes, decode_units, insert};
-use crate::{EucJpDecoder, EucJpEncoder, ShiftJisDecoder, ShiftJisEncoder};
+use encoding_codecs::{EucJpDecoder, EucJpEncoder, ShiftJisDecoder, ShiftJisEncoder};
 use encoding_mem::{DecoderResult, EncoderResult, RawDecoder, RawEncoder};
 use encoding_tables::{IndexKind, Tables};
 use std::alloc::{AllocError, Global};

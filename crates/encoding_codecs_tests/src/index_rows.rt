@@ -1,7 +1,7 @@
 // Rows of an index, and the search among rows, with answers worked by hand.
 
-use crate::laws::search;
-use crate::{IndexKind, TableFault, Tables};
+use encoding_tables::laws::search;
+use encoding_tables::{IndexKind, TableFault, Tables};
 use std::alloc::Global;
 use std::test::Fail;
 
