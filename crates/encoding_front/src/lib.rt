@@ -5,26 +5,14 @@ pub mod coder_result;
 pub mod constants;
 mod decode_replacing;
 pub mod decoder;
-#[cfg(test)]
-mod decoder_calls_tests;
-#[cfg(test)]
-mod decoder_tests;
 pub mod encoder;
-#[cfg(test)]
-mod encoder_tests;
 pub mod encoding;
-#[cfg(test)]
-mod encoding_tests;
 mod held;
 pub mod laws;
 pub mod mark;
 mod marked_decoder;
 mod one_shot_decoding;
-#[cfg(test)]
-mod one_shot_decoding_tests;
 mod one_shot_encoding;
-#[cfg(test)]
-mod one_shot_encoding_tests;
 pub mod one_shot_fault;
 pub mod reference;
 mod replacing;
@@ -32,8 +20,6 @@ mod replay;
 mod scheme;
 pub mod seeking;
 mod source_text;
-#[cfg(test)]
-mod tests;
 pub mod variant_decoder;
 pub mod variant_encoder;
 

@@ -14,8 +14,6 @@ mod line;
 pub mod loading;
 pub mod reading;
 mod rows;
-#[cfg(test)]
-mod tests;
 
 pub use fault::{IndexFault, IndexFaultKind, LoadFault};
 pub use loading::load;

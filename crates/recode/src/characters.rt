@@ -43,27 +43,3 @@ fn count_beginnings(bytes: &[u8]) -> usize
     }
     count + count_singly(&bytes[at..])
 }
-
-#[cfg(test)]
-mod tests {
-    use super::*;
-
-    #[test]
-    fn characters_of_each_length(rt: HostRuntime) {
-        assert_eq!(rt; count_characters(""), 0);
-        assert_eq!(rt; count_characters("aé€😀"), 4);
-    }
-
-    // Vectors have 64 bytes, so the lengths are those up to and behind none, one and two of them.
-    #[test]
-    fn beginnings_at_each_place(rt: HostRuntime) {
-        for length in 0..130 {
-            let mut bytes = [0xBF; 129];
-            assert_eq!(rt; count_beginnings(&bytes[..length]), 0);
-            for place in 0..length {
-                bytes[place] = if place % 2 == 0 { 0x7F } else { 0xC0 };
-                assert_eq!(rt; count_beginnings(&bytes[..length]), place + 1);
-            }
-        }
-    }
-}

@@ -5,5 +5,3 @@
 pub mod counted;
 pub mod deliver;
 pub mod line;
-#[cfg(test)]
-mod tests;

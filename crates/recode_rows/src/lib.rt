@@ -1,7 +1,14 @@
-//! Conversions worked by hand, over the whole stack of crates: devices that cut, stop and fail, and what
-//! must have been written then. There are tests alone here.
+//! Conversions worked by hand, over the whole stack of crates: devices that cut, stop and fail, and
+//! what must have been written then. Beside them stand calls of `recode_log`, `recode_words`,
+//! `recode` and `recode_system`. There are tests alone here.
 #![tactic(auto)]
 
+#[cfg(test)]
+mod command_line;
+#[cfg(test)]
+mod counts;
+#[cfg(test)]
+mod devices;
 #[cfg(test)]
 mod edges;
 #[cfg(test)]
@@ -13,9 +20,13 @@ mod faults;
 #[cfg(test)]
 mod folds;
 #[cfg(test)]
+mod index_files;
+#[cfg(test)]
 mod latency;
 #[cfg(test)]
 mod limits;
+#[cfg(test)]
+mod log_lines;
 #[cfg(test)]
 mod marks;
 #[cfg(test)]
@@ -34,5 +45,7 @@ mod source;
 mod statuses;
 #[cfg(test)]
 mod trial;
+#[cfg(test)]
+mod words;
 #[cfg(test)]
 mod worked;

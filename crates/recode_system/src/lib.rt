@@ -3,7 +3,5 @@
 
 pub mod command_line;
 mod system_files;
-#[cfg(test)]
-mod tests;
 
 pub use command_line::answer;

@@ -3,8 +3,6 @@
 
 mod command;
 pub mod request;
-#[cfg(test)]
-mod tests;
 mod values;
 pub mod words;
 

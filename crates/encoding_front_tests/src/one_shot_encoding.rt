@@ -1,6 +1,6 @@
 // Whole texts at once, with answers worked by hand.
 
-use crate::{Encoding, ISO_2022_JP, UTF_8, UTF_16LE, WINDOWS_1257};
+use encoding_front::{Encoding, ISO_2022_JP, UTF_8, UTF_16LE, WINDOWS_1257};
 use encoding_tables::{IndexKind, Tables};
 use std::test::Fail;
 

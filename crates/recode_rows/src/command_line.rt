@@ -1,5 +1,5 @@
-use crate::answer;
 use recode_log::counted::Counted;
+use recode_system::answer;
 use std::alloc::Global;
 use std::env::{Env, FillError};
 use std::fs::Files;

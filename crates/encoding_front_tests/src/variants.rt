@@ -1,4 +1,4 @@
-use crate::{UTF_8, VariantDecoder, VariantEncoder, WINDOWS_1252};
+use encoding_front::{UTF_8, VariantDecoder, VariantEncoder, WINDOWS_1252};
 use encoding_mem::{DecoderResult, EncoderResult, RawDecoder, RawEncoder};
 use encoding_tables::{IndexKind, TableFault, Tables};
 

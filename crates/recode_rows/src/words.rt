@@ -1,6 +1,6 @@
 // Texts, which no clause says, and the words as a user writes them.
 
-use crate::{Request, WordsFault, parse_words};
+use recode_words::{Request, WordsFault, parse_words};
 use std::alloc::Global;
 use std::process::Abort;
 use std::test::Fail;

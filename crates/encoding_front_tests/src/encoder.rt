@@ -1,6 +1,6 @@
 // Encoders over small indexes, with answers worked by hand.
 
-use crate::{
+use encoding_front::{
     CoderResult, Encoder, Encoding, GB18030, ISO_2022_JP, REPLACEMENT, SHIFT_JIS, UTF_8, UTF_16BE,
     UTF_16LE, WINDOWS_1252, WINDOWS_1253,
 };

@@ -1,6 +1,6 @@
 // Whole inputs at once, with answers worked by hand.
 
-use crate::{Encoding, OneShotFault, SHIFT_JIS, UTF_8, WINDOWS_1257};
+use encoding_front::{Encoding, OneShotFault, SHIFT_JIS, UTF_8, WINDOWS_1257};
 use encoding_tables::{IndexKind, Tables};
 use std::alloc::Global;
 use std::test::Fail;

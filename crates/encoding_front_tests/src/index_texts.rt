@@ -1,6 +1,4 @@
-use crate::fault::{IndexFault, IndexFaultKind, LoadFault};
-use crate::loading::load;
-use crate::reading::{read_index, read_ranges};
+use encoding_index::{IndexFault, IndexFaultKind, LoadFault, load, read_index, read_ranges};
 use encoding_tables::{IndexKind, TableFault, Tables};
 use std::alloc::{AllocError, Global};
 use std::test::Fail;
