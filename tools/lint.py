@@ -5,6 +5,7 @@
 
 - A public name of `specs/` has one definition in the whole repository.
 - Lines of `src/` over 100 columns: no more than `tools/long_lines` says, and that number is today's, so it only falls.
+- `docs/DEFINITIONS.md` names each file of definitions, and no other.
 - Each edit of `must-fail/` and `edits/` names a file, and each text that it replaces stands in it once.
 - Each root file begins its code with the tactic that proofs are found by, and no handle is allowed.
 """
@@ -61,6 +62,21 @@ def long_lines():
         yield "%d lines of src/ have more than %d columns: write this number to tools/long_lines" % (count, COLUMNS)
 
 
+def unnamed_definitions():
+    """The files of `specs/` itself are what has to be read to trust a claim; those of crates of tests are not."""
+    there = {
+        path
+        for path in files("specs", ".antt")
+        if path.count("/") == 3 and not path.split("/")[1].endswith("_tests")
+        if os.path.basename(path) not in ("Lib.antt", "laws.antt", "examples.antt")
+    }
+    named = set(re.findall(r"\(\.\./(crates/[^)]*\.antt)\)", read(os.path.join(TOP, "docs", "DEFINITIONS.md"))))
+    for path in sorted(there - named):
+        yield "docs/DEFINITIONS.md does not name %s" % path
+    for path in sorted(named - there):
+        yield "docs/DEFINITIONS.md names %s, which is no file of definitions" % path
+
+
 def edit_faults(path):
     """What is wrong with an edit. A later text is looked for in what the earlier ones have made."""
     crate, texts, target, old = path.split("/")[1], {}, None, None
@@ -100,7 +116,7 @@ def roots():
 
 
 def main():
-    faults = [fault for check in (double_names, long_lines, edits, roots) for fault in check()]
+    faults = [fault for check in (double_names, long_lines, unnamed_definitions, edits, roots) for fault in check()]
     for fault in faults:
         print(fault)
     return 1 if faults else 0

@@ -1,4 +1,3 @@
-mod Iso2022JpFront
-mod Iso2022JpText
-mod Iso2022JpSteps
-pub mod JisPointers
+mod Iso2022JpPieceLemmas
+mod Iso2022JpStepLemmas
+pub mod JisPointerLemmas

@@ -3,16 +3,16 @@
 use Rattle.std.specs.Prelude.{◌≡◌, ℕ, ◌+◌, ◌-◌, ◌*◌, ◌/◌, ◌%◌, ◌==◌, ◌||◌, Bool, List, [], ◌∷◌, ◌++◌, nat_lt, if◌then◌else◌, refl, replicate, Option}
 use Rattle.std.specs.Int.{is_in_range}
 use Rattle.encoding_mem.specs.Coding.{Coding}
-use Rattle.encoding_mem.specs.Piece.{Piece, good, bad}
+use Rattle.encoding_mem.specs.Piece.{Piece, well_formed, malformed}
 use Rattle.encoding_mem.specs.Pieces.{pieces_in, pieces_by}
 use Rattle.encoding_mem.specs.Stateless.{stateless}
 use Rattle.encoding_mem.specs.declared.form.Form.{Form}
 use Rattle.encoding_mem.specs.declared.form.Form.TheVariants.{Mapped, Unmapped}
 use Rattle.encoding_tables.specs.Lookups.{value_of, first_pointer, last_pointer}
-use Rattle.encoding_codecs.specs.TwoByte.{TwoByteRule, front_two_byte}
+use Rattle.encoding_codecs.specs.TwoByte.{TwoByteRule, first_piece_two_byte}
 use Rattle.encoding_codecs.specs.Pointers.{value_of_entry, form_by_pointer}
-use Rattle.encoding_codecs.specs.declared.lead_rule.FirstByte.{FirstByte}
-use Rattle.encoding_codecs.specs.declared.lead_rule.FirstByte.TheVariants.{Lead, Unused}
+use Rattle.encoding_codecs.specs.declared.lead_byte_rule.FirstByte.{FirstByte}
+use Rattle.encoding_codecs.specs.declared.lead_byte_rule.FirstByte.TheVariants.{Lead, Unused}
 use Rattle.encoding_codecs.specs.declared.two_byte.PairValue.{PairValue}
 use Rattle.encoding_codecs.specs.declared.two_byte.PairValue.TheVariants.{NoChar, TwoChars}
 
@@ -42,11 +42,11 @@ big5_pair flat a b = if big5_is_trail b then big5_value flat (big5_pointer a b) 
 abbrev pub big5_rule : List ℕ → TwoByteRule
 big5_rule flat = record { first = big5_first; pair = big5_pair flat }
 
-abbrev pub front_big5 : List ℕ → List ℕ → Piece
-front_big5 flat = front_two_byte (big5_rule flat)
+abbrev pub first_piece_big5 : List ℕ → List ℕ → Piece
+first_piece_big5 flat = first_piece_two_byte (big5_rule flat)
 
 abbrev pub pieces_big5 : List ℕ → List ℕ → List Piece
-pieces_big5 flat = pieces_by (front_big5 flat)
+pieces_big5 flat = pieces_by (first_piece_big5 flat)
 
 -- The pointer of a scalar is the least from 5024 on, below which Hong Kong's extensions stand; of six scalars it is the
 -- greatest.

@@ -4,7 +4,7 @@ use Rattle.std.proofs.Common.{refl}
 use Rattle.std.specs.Int.{is_in_range}
 use Rattle.std.specs.Option.{option_map, option_or}
 use Rattle.encoding_mem.specs.Coding.{Coding}
-use Rattle.encoding_mem.specs.Piece.{Piece, good, bad}
+use Rattle.encoding_mem.specs.Piece.{Piece, well_formed, malformed}
 use Rattle.encoding_mem.specs.Pieces.{pieces_in, pieces_by}
 use Rattle.encoding_mem.specs.Stateless.{stateless}
 use Rattle.encoding_tables.specs.Lookups.{value_of, first_pointer}
@@ -12,9 +12,9 @@ use Rattle.encoding_mem.specs.declared.form.Form.{Form}
 use Rattle.encoding_mem.specs.declared.form.Form.TheVariants.{Unmapped}
 use Rattle.encoding_codecs.specs.JisForms.{is_katakana_byte, katakana_of_byte, is_katakana, byte_of_katakana, folded}
 use Rattle.encoding_codecs.specs.Pointers.{value_of_entry, form_of_bytes}
-use Rattle.encoding_codecs.specs.TwoByte.{front_by_lead, after_bytes, piece_of_trail}
-use Rattle.encoding_codecs.specs.declared.lead_rule.FirstByte.{FirstByte}
-use Rattle.encoding_codecs.specs.declared.lead_rule.FirstByte.TheVariants.{Lead, Unused}
+use Rattle.encoding_codecs.specs.TwoByte.{first_piece_by_lead, after_bytes, piece_of_trail}
+use Rattle.encoding_codecs.specs.declared.lead_byte_rule.FirstByte.{FirstByte}
+use Rattle.encoding_codecs.specs.declared.lead_byte_rule.FirstByte.TheVariants.{Lead, Unused}
 use Rattle.encoding_codecs.specs.declared.two_byte.PairValue.{PairValue}
 use Rattle.encoding_codecs.specs.declared.two_byte.PairValue.TheVariants.{NoChar, OneChar}
 
@@ -43,7 +43,7 @@ euc_jp_pair jis0208 a b = if a == 0x8E
 
 -- the piece that 8F begins, with the bytes behind it: two bytes by jis0212
 abbrev pub after_8f : List ℕ → List ℕ → Piece
-after_8f jis0212 [] = bad 1
+after_8f jis0212 [] = malformed 1
 after_8f jis0212 (b ∷ x) = if is_pointer_byte b
     then after_bytes 2 (euc_pair jis0212 b) x
     else piece_of_trail 1 NoChar b
@@ -52,11 +52,11 @@ after_8f jis0212 (b ∷ x) = if is_pointer_byte b
 abbrev pub euc_jp_after : (jis0208 jis0212 : List ℕ) → ℕ → List ℕ → Piece
 euc_jp_after jis0208 jis0212 a x = if a == 0x8F then after_8f jis0212 x else after_bytes 1 (euc_jp_pair jis0208 a) x
 
-abbrev pub front_euc_jp : (jis0208 jis0212 : List ℕ) → List ℕ → Piece
-front_euc_jp jis0208 jis0212 = front_by_lead euc_jp_first (euc_jp_after jis0208 jis0212)
+abbrev pub first_piece_euc_jp : (jis0208 jis0212 : List ℕ) → List ℕ → Piece
+first_piece_euc_jp jis0208 jis0212 = first_piece_by_lead euc_jp_first (euc_jp_after jis0208 jis0212)
 
 abbrev pub pieces_euc_jp : (jis0208 jis0212 : List ℕ) → List ℕ → List Piece
-pieces_euc_jp jis0208 jis0212 = pieces_by (front_euc_jp jis0208 jis0212)
+pieces_euc_jp jis0208 jis0212 = pieces_by (first_piece_euc_jp jis0208 jis0212)
 
 -- ---- the encoder
 

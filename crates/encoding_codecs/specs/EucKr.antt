@@ -3,16 +3,16 @@
 use Rattle.std.specs.Prelude.{◌≡◌, ℕ, ◌+◌, ◌-◌, ◌*◌, ◌/◌, ◌%◌, List, [], ◌∷◌, if◌then◌else◌, refl}
 use Rattle.std.specs.Int.{is_in_range}
 use Rattle.encoding_mem.specs.Coding.{Coding}
-use Rattle.encoding_mem.specs.Piece.{Piece, good, bad}
+use Rattle.encoding_mem.specs.Piece.{Piece, well_formed, malformed}
 use Rattle.encoding_mem.specs.Pieces.{pieces_in, pieces_by}
 use Rattle.encoding_mem.specs.Stateless.{stateless}
 use Rattle.encoding_mem.specs.declared.form.Form.{Form}
 use Rattle.encoding_mem.specs.declared.form.Form.TheVariants.{Mapped, Unmapped}
 use Rattle.encoding_tables.specs.Lookups.{value_of, first_pointer}
-use Rattle.encoding_codecs.specs.TwoByte.{TwoByteRule, front_two_byte}
+use Rattle.encoding_codecs.specs.TwoByte.{TwoByteRule, first_piece_two_byte}
 use Rattle.encoding_codecs.specs.Pointers.{value_of_entry, form_by_pointer}
-use Rattle.encoding_codecs.specs.declared.lead_rule.FirstByte.{FirstByte}
-use Rattle.encoding_codecs.specs.declared.lead_rule.FirstByte.TheVariants.{Lead, Unused}
+use Rattle.encoding_codecs.specs.declared.lead_byte_rule.FirstByte.{FirstByte}
+use Rattle.encoding_codecs.specs.declared.lead_byte_rule.FirstByte.TheVariants.{Lead, Unused}
 use Rattle.encoding_codecs.specs.declared.two_byte.PairValue.{PairValue}
 use Rattle.encoding_codecs.specs.declared.two_byte.PairValue.TheVariants.{NoChar}
 
@@ -30,11 +30,11 @@ euc_kr_pair flat a b = if is_in_range 0x41 0xFE b then value_of_entry (value_of 
 abbrev pub euc_kr_rule : List ℕ → TwoByteRule
 euc_kr_rule flat = record { first = euc_kr_first; pair = euc_kr_pair flat }
 
-abbrev pub front_euc_kr : List ℕ → List ℕ → Piece
-front_euc_kr flat = front_two_byte (euc_kr_rule flat)
+abbrev pub first_piece_euc_kr : List ℕ → List ℕ → Piece
+first_piece_euc_kr flat = first_piece_two_byte (euc_kr_rule flat)
 
 abbrev pub pieces_euc_kr : List ℕ → List ℕ → List Piece
-pieces_euc_kr flat = pieces_by (front_euc_kr flat)
+pieces_euc_kr flat = pieces_by (first_piece_euc_kr flat)
 
 -- the bytes of a pointer, and the form of a scalar: its least pointer counts
 abbrev pub euc_kr_bytes : ℕ → List ℕ

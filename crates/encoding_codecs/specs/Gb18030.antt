@@ -2,14 +2,14 @@
 -- list of the index and by the rows of the ranges.
 use Rattle.std.specs.Prelude.{◌≡◌, ℕ, ◌+◌, ◌-◌, ◌*◌, ◌==◌, ◌||◌, List, [], ◌∷◌, nat_lt, if◌then◌else◌, Option, None, Some, refl}
 use Rattle.std.specs.Int.{is_in_range}
-use Rattle.encoding_mem.specs.Piece.{Piece, good, bad}
+use Rattle.encoding_mem.specs.Piece.{Piece, well_formed, malformed}
 use Rattle.encoding_mem.specs.Pieces.{pieces_in, pieces_by}
 use Rattle.encoding_tables.specs.Lookups.{value_of}
 use Rattle.encoding_tables.specs.Ranges.{range_value}
 use Rattle.encoding_codecs.specs.Pointers.{value_of_entry}
-use Rattle.encoding_codecs.specs.TwoByte.{front_by_lead, piece_of_trail}
-use Rattle.encoding_codecs.specs.declared.lead_rule.FirstByte.{FirstByte}
-use Rattle.encoding_codecs.specs.declared.lead_rule.FirstByte.TheVariants.{Alone, Lead, Unused}
+use Rattle.encoding_codecs.specs.TwoByte.{first_piece_by_lead, piece_of_trail}
+use Rattle.encoding_codecs.specs.declared.lead_byte_rule.FirstByte.{FirstByte}
+use Rattle.encoding_codecs.specs.declared.lead_byte_rule.FirstByte.TheVariants.{Alone, Lead, Unused}
 use Rattle.encoding_codecs.specs.declared.two_byte.PairValue.{PairValue}
 use Rattle.encoding_codecs.specs.declared.two_byte.PairValue.TheVariants.{NoChar}
 
@@ -33,28 +33,28 @@ abbrev pub four_pointer : ℕ → ℕ → ℕ → ℕ → ℕ
 four_pointer a b c d = (a - 0x81) * 12600 + (b - 0x30) * 1260 + (c - 0x81) * 10 + (d - 0x30)
 
 abbrev pub piece_of_four : Option ℕ → Piece
-piece_of_four None = bad 4
-piece_of_four (Some c) = good 4 (c ∷ [])
+piece_of_four None = malformed 4
+piece_of_four (Some c) = well_formed 4 (c ∷ [])
 
 -- The piece that begins with three, two and one bytes of a longer form, and goes on with what follows them. Where four
--- bytes break off, the first is bad alone, and those behind it are read again.
+-- bytes break off, the first is malformed alone, and those behind it are read again.
 abbrev pub gb18030_after_three : List (ℕ × ℕ) → ℕ → ℕ → ℕ → List ℕ → Piece
-gb18030_after_three rows a b c [] = bad 3
-gb18030_after_three rows a b c (d ∷ x) = if is_in_range 0x30 0x39 d then piece_of_four (range_value rows (four_pointer a b c d)) else bad 1
+gb18030_after_three rows a b c [] = malformed 3
+gb18030_after_three rows a b c (d ∷ x) = if is_in_range 0x30 0x39 d then piece_of_four (range_value rows (four_pointer a b c d)) else malformed 1
 
 abbrev pub gb18030_after_two : List (ℕ × ℕ) → ℕ → ℕ → List ℕ → Piece
-gb18030_after_two rows a b [] = bad 2
-gb18030_after_two rows a b (c ∷ x) = if is_in_range 0x81 0xFE c then gb18030_after_three rows a b c x else bad 1
+gb18030_after_two rows a b [] = malformed 2
+gb18030_after_two rows a b (c ∷ x) = if is_in_range 0x81 0xFE c then gb18030_after_three rows a b c x else malformed 1
 
 abbrev pub gb18030_after_lead : List ℕ → List (ℕ × ℕ) → ℕ → List ℕ → Piece
-gb18030_after_lead flat rows a [] = bad 1
+gb18030_after_lead flat rows a [] = malformed 1
 gb18030_after_lead flat rows a (b ∷ x) = if is_in_range 0x30 0x39 b then gb18030_after_two rows a b x else piece_of_trail 1 (gb18030_pair flat a b) b
 
-abbrev pub front_gb18030 : List ℕ → List (ℕ × ℕ) → List ℕ → Piece
-front_gb18030 flat rows = front_by_lead gb18030_first (gb18030_after_lead flat rows)
+abbrev pub first_piece_gb18030 : List ℕ → List (ℕ × ℕ) → List ℕ → Piece
+first_piece_gb18030 flat rows = first_piece_by_lead gb18030_first (gb18030_after_lead flat rows)
 
 abbrev pub pieces_gb18030 : List ℕ → List (ℕ × ℕ) → List ℕ → List Piece
-pieces_gb18030 flat rows = pieces_by (front_gb18030 flat rows)
+pieces_gb18030 flat rows = pieces_by (first_piece_gb18030 flat rows)
 
 -- tables for examples: U+4E04 at the pointer 1, and no other entry
 unfoldable pub sample_flat : List ℕ

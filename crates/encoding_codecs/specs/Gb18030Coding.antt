@@ -4,8 +4,8 @@
 use Rattle.std.specs.Prelude.{◌≡◌, ℕ, ◌+◌, ◌/◌, ◌%◌, ◌==◌, ◌&&◌, not, Bool, true, false, List, [], ◌∷◌, nat_lt, if◌then◌else◌, Option, None, Some, refl}
 use Rattle.std.specs.List.{find}
 use Rattle.std.specs.Option.{option_map, option_or}
-use Rattle.encoding_mem.specs.TextRoom.{text_room_gb18030, text_room_two_byte}
-use Rattle.encoding_mem.specs.declared.room.TextRoom.{TextRoom}
+use Rattle.encoding_mem.specs.EncodedLength.{encoded_length_gb18030, encoded_length_two_byte}
+use Rattle.encoding_mem.specs.declared.room.EncodedLength.{EncodedLength}
 use Rattle.encoding_mem.specs.Coding.{Coding}
 use Rattle.encoding_mem.specs.Stateless.{stateless}
 use Rattle.encoding_mem.specs.declared.form.Form.{Form}
@@ -16,7 +16,7 @@ use Rattle.encoding_codecs.specs.Gb18030.{sample_flat, sample_rows}
 use Rattle.encoding_codecs.specs.Pointers.{form_of_bytes}
 
 -- The standard's table of private-use characters and their bytes: those of the edition of 2005, which the decoder gives
--- the characters that took their place.
+-- the characters that took their offset.
 abbrev pub fixed_rows : List (ℕ × (ℕ × ℕ))
 fixed_rows = (0xE78D, (0xA6, 0xD9)) ∷ (0xE78E, (0xA6, 0xDA)) ∷ (0xE78F, (0xA6, 0xDB)) ∷ (0xE790, (0xA6, 0xDC))
     ∷ (0xE791, (0xA6, 0xDD)) ∷ (0xE792, (0xA6, 0xDE)) ∷ (0xE793, (0xA6, 0xDF)) ∷ (0xE794, (0xA6, 0xEC)) ∷ (0xE795, (0xA6, 0xED))
@@ -66,5 +66,5 @@ abbrev pub gb18030_need : Bool → ℕ
 gb18030_need extended = if extended then 4 else 2
 
 -- the room that is enough for a text
-abbrev pub gb18030_text_room : Bool → TextRoom
-gb18030_text_room extended = if extended then text_room_gb18030 else text_room_two_byte
+abbrev pub gb18030_encoded_length : Bool → EncodedLength
+gb18030_encoded_length extended = if extended then encoded_length_gb18030 else encoded_length_two_byte

@@ -1,11 +1,11 @@
 -- The pieces of ISO-2022-JP, by the list of index jis0208 (the Encoding Standard, section 12.2.1, "ISO-2022-JP
 -- decoder"). The bytes are cut before each 1B. Each part is read by itself, in the mode of the last whole escape at or
--- before its front.
+-- before its start.
 use Rattle.std.specs.Prelude.{◌≡◌, ℕ, ◌+◌, ◌-◌, ◌*◌, ◌==◌, ◌&&◌, ◌||◌, Bool, false, List, [], ◌∷◌, ◌++◌, length, drop, is_some, nat_le, if◌then◌else◌, Option, Some, None}
 use Rattle.std.specs.Int.{is_in_range}
 use Rattle.std.specs.Option.{unwrap_or}
 use Rattle.encoding_mem.specs.Decoding.{DecoderState}
-use Rattle.encoding_mem.specs.Piece.{Piece, good, bad}
+use Rattle.encoding_mem.specs.Piece.{Piece, well_formed, malformed}
 use Rattle.encoding_mem.specs.Pieces.{pieces_by}
 use Rattle.encoding_tables.specs.Lookups.{value_of}
 use Rattle.encoding_codecs.specs.declared.iso_2022_jp_decoder.Mode.{Mode}
@@ -32,34 +32,34 @@ escape_at (a ∷ b ∷ c ∷ x) = escape_of a b c
 
 -- the sets of one byte a character: what a byte is in ASCII, and in each mode but JIS
 abbrev pub ascii_piece : ℕ → Piece
-ascii_piece b = if nat_le 0x80 b || b == 0x0E || b == 0x0F || b == 0x1B then bad 1 else good 1 (b ∷ [])
+ascii_piece b = if nat_le 0x80 b || b == 0x0E || b == 0x0F || b == 0x1B then malformed 1 else well_formed 1 (b ∷ [])
 
 abbrev pub roman_piece : ℕ → Piece
-roman_piece b = if b == 0x5C then good 1 (0xA5 ∷ []) else (if b == 0x7E then good 1 (0x203E ∷ []) else ascii_piece b)
+roman_piece b = if b == 0x5C then well_formed 1 (0xA5 ∷ []) else (if b == 0x7E then well_formed 1 (0x203E ∷ []) else ascii_piece b)
 
 abbrev pub katakana_piece : ℕ → Piece
-katakana_piece b = if is_in_range 0x21 0x5F b then good 1 ((0xFF61 + (b - 0x21)) ∷ []) else bad 1
+katakana_piece b = if is_in_range 0x21 0x5F b then well_formed 1 ((0xFF61 + (b - 0x21)) ∷ []) else malformed 1
 
 -- the set of two bytes a character
 abbrev pub jis_pair_pointer : ℕ → ℕ → ℕ
 jis_pair_pointer b c = (b - 0x21) * 94 + (c - 0x21)
 
 abbrev pub piece_of_entry : Option ℕ → Piece
-piece_of_entry None = bad 2
-piece_of_entry (Some c) = good 2 (c ∷ [])
+piece_of_entry None = malformed 2
+piece_of_entry (Some c) = well_formed 2 (c ∷ [])
 
 -- the piece that begins with a first byte b from 21 to 7E, and goes on with what follows it
 abbrev pub pair_piece : List ℕ → ℕ → List ℕ → Piece
-pair_piece jis0208 b [] = bad 1
-pair_piece jis0208 b (c ∷ x) = if is_in_range 0x21 0x7E c then piece_of_entry (value_of jis0208 (jis_pair_pointer b c)) else bad 2
+pair_piece jis0208 b [] = malformed 1
+pair_piece jis0208 b (c ∷ x) = if is_in_range 0x21 0x7E c then piece_of_entry (value_of jis0208 (jis_pair_pointer b c)) else malformed 2
 
 -- the first piece of text in a mode
-abbrev pub front_text : List ℕ → Mode → List ℕ → Piece
-front_text jis0208 m [] = bad 1
-front_text jis0208 Ascii (b ∷ x) = ascii_piece b
-front_text jis0208 Roman (b ∷ x) = roman_piece b
-front_text jis0208 Katakana (b ∷ x) = katakana_piece b
-front_text jis0208 Jis (b ∷ x) = if is_in_range 0x21 0x7E b then pair_piece jis0208 b x else bad 1
+abbrev pub prefix_text : List ℕ → Mode → List ℕ → Piece
+prefix_text jis0208 m [] = malformed 1
+prefix_text jis0208 Ascii (b ∷ x) = ascii_piece b
+prefix_text jis0208 Roman (b ∷ x) = roman_piece b
+prefix_text jis0208 Katakana (b ∷ x) = katakana_piece b
+prefix_text jis0208 Jis (b ∷ x) = if is_in_range 0x21 0x7E b then pair_piece jis0208 b x else malformed 1
 
 -- ---- parts
 
@@ -82,15 +82,15 @@ abbrev pub begin_with_escape : List (List ℕ) → Bool
 begin_with_escape [] = false
 begin_with_escape (part ∷ next) = is_some (escape_at part)
 
--- The escape of a part before these: it is bad where there is nothing else in its part and another follows, and silent
--- everywhere else.
+-- The escape of a part before these: it is malformed where there is nothing else in its part and another follows, and
+-- ignored everywhere else.
 abbrev pub escape_piece : List ℕ → List (List ℕ) → Piece
-escape_piece part next = if length part == 3 && begin_with_escape next then bad 3 else good 3 []
+escape_piece part next = if length part == 3 && begin_with_escape next then malformed 3 else well_formed 3 []
 
 -- a part in a mode, with the mode of its own escape if it begins with one, and before these
 abbrev pub pieces_of_part : List ℕ → Mode → Option Mode → List ℕ → List (List ℕ) → List Piece
-pieces_of_part jis0208 m None part next = pieces_by (front_text jis0208 m) part
-pieces_of_part jis0208 m (Some own) part next = escape_piece part next ∷ pieces_by (front_text jis0208 own) (drop 3 part)
+pieces_of_part jis0208 m None part next = pieces_by (prefix_text jis0208 m) part
+pieces_of_part jis0208 m (Some own) part next = escape_piece part next ∷ pieces_by (prefix_text jis0208 own) (drop 3 part)
 
 -- parts, the first of which comes in a mode
 abbrev pub pieces_of_parts : List ℕ → Mode → List (List ℕ) → List Piece

@@ -4,8 +4,8 @@ use Rattle.std.specs.Prelude.{ℕ, ◌+◌, ◌-◌, ◌/◌, ◌%◌, ◌==◌,
 use Rattle.encoding_mem.specs.Coding.{Coding}
 use Rattle.encoding_mem.specs.declared.form.Form.{Form}
 use Rattle.encoding_mem.specs.declared.form.Form.TheVariants.{Mapped, Unmapped}
-use Rattle.encoding_mem.specs.declared.form.Set.{Set}
-use Rattle.encoding_mem.specs.declared.form.Set.TheVariants.{Ascii, Roman, Jis}
+use Rattle.encoding_mem.specs.declared.form.EscapeState.{EscapeState}
+use Rattle.encoding_mem.specs.declared.form.EscapeState.TheVariants.{Ascii, Roman, Jis}
 use Rattle.encoding_tables.specs.Lookups.{value_of, first_pointer}
 use Rattle.encoding_codecs.specs.JisForms.{is_katakana, folded}
 
@@ -38,7 +38,7 @@ iso_2022_jp_form jis0208 katakana c = if nat_lt c 0x80 then ascii_form c
 
 -- ---- the sets
 
-abbrev pub is_set : Set → Set → Bool
+abbrev pub is_set : EscapeState → EscapeState → Bool
 is_set Ascii Ascii = true
 is_set Roman Roman = true
 is_set Jis Jis = true
@@ -51,17 +51,17 @@ is_set Jis Roman = false
 
 -- the sets in which a character may be written, and the one that is taken where another set is in force
 pub record Sets : Type 0 where
-  pub allows : Set → Bool
-  pub default : Set
+  pub allows : EscapeState → Bool
+  pub default : EscapeState
 
-abbrev pub only : Set → Sets
+abbrev pub only : EscapeState → Sets
 only s = record { allows = is_set s; default = s }
 
 abbrev pub ascii_or_roman : Sets
 ascii_or_roman = record { allows = λ s. not (is_set Jis s); default = Ascii }
 
 -- a set stays where it may
-abbrev pub set_after : Sets → Set → Set
+abbrev pub set_after : Sets → EscapeState → EscapeState
 set_after sets s = if sets.allows s then s else sets.default
 
 abbrev pub sets_of_pointer : Option ℕ → Sets
@@ -73,12 +73,12 @@ abbrev pub iso_2022_jp_sets : List ℕ → List ℕ → ℕ → Sets
 iso_2022_jp_sets jis0208 katakana c = if nat_lt c 0x80 then (if c == 0x5C || c == 0x7E then only Ascii else ascii_or_roman)
     else (if c == 0xA5 || c == 0x203E then only Roman else sets_of_pointer (pointer_of_char jis0208 katakana c))
 
-abbrev pub iso_2022_jp_escape_to : Set → List ℕ
+abbrev pub iso_2022_jp_escape_to : EscapeState → List ℕ
 iso_2022_jp_escape_to Ascii = 0x1B ∷ 0x28 ∷ 0x42 ∷ []
 iso_2022_jp_escape_to Roman = 0x1B ∷ 0x28 ∷ 0x4A ∷ []
 iso_2022_jp_escape_to Jis = 0x1B ∷ 0x24 ∷ 0x42 ∷ []
 
-abbrev pub iso_2022_jp_escape : Set → Set → List ℕ
+abbrev pub iso_2022_jp_escape : EscapeState → EscapeState → List ℕ
 iso_2022_jp_escape s s' = if is_set s s' then [] else iso_2022_jp_escape_to s'
 
 abbrev pub iso_2022_jp_coding : List ℕ → List ℕ → Coding

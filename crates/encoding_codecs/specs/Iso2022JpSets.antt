@@ -1,16 +1,16 @@
 -- The sets of ISO-2022-JP as modes of its decoder.
 use Rattle.std.specs.Prelude.{ℕ, List}
 use Rattle.encoding_mem.specs.Piece.{Piece}
-use Rattle.encoding_mem.specs.declared.form.Set.{Set}
-use Rattle.encoding_mem.specs.declared.form.Set.TheVariants.{Ascii, Roman, Jis}
+use Rattle.encoding_mem.specs.declared.form.EscapeState.{EscapeState}
+use Rattle.encoding_mem.specs.declared.form.EscapeState.TheVariants.{Ascii, Roman, Jis}
 use Rattle.encoding_codecs.specs.Iso2022Jp.{ascii_mode, roman_mode, jis_mode, pieces_in_mode}
 use Rattle.encoding_codecs.specs.declared.iso_2022_jp_decoder.Mode.{Mode}
 
 -- the mode to which the escape to a set switches
-abbrev pub mode_of : Set → Mode
+abbrev pub mode_of : EscapeState → Mode
 mode_of Ascii = ascii_mode
 mode_of Roman = roman_mode
 mode_of Jis = jis_mode
 
-abbrev pub pieces_from_set : List ℕ → Set → List ℕ → List Piece
+abbrev pub pieces_from_set : List ℕ → EscapeState → List ℕ → List Piece
 pieces_from_set jis0208 s x = pieces_in_mode jis0208 (mode_of s) x

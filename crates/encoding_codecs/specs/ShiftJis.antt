@@ -4,7 +4,7 @@ use Rattle.std.proofs.Common.{refl}
 use Rattle.std.specs.Int.{is_in_range}
 use Rattle.std.specs.Option.{option_map, option_or}
 use Rattle.encoding_mem.specs.Coding.{Coding}
-use Rattle.encoding_mem.specs.Piece.{Piece, good, bad}
+use Rattle.encoding_mem.specs.Piece.{Piece, well_formed, malformed}
 use Rattle.encoding_mem.specs.Pieces.{pieces_in, pieces_by}
 use Rattle.encoding_mem.specs.Stateless.{stateless}
 use Rattle.encoding_tables.specs.Lookups.{value_of, first_pointer}
@@ -12,9 +12,9 @@ use Rattle.encoding_mem.specs.declared.form.Form.{Form}
 use Rattle.encoding_mem.specs.declared.form.Form.TheVariants.{Mapped, Unmapped}
 use Rattle.encoding_codecs.specs.JisForms.{is_katakana_byte, katakana_of_byte, is_katakana, byte_of_katakana, folded}
 use Rattle.encoding_codecs.specs.Pointers.{value_of_entry, form_of_bytes}
-use Rattle.encoding_codecs.specs.TwoByte.{TwoByteRule, front_two_byte}
-use Rattle.encoding_codecs.specs.declared.lead_rule.FirstByte.{FirstByte}
-use Rattle.encoding_codecs.specs.declared.lead_rule.FirstByte.TheVariants.{Alone, Lead, Unused}
+use Rattle.encoding_codecs.specs.TwoByte.{TwoByteRule, first_piece_two_byte}
+use Rattle.encoding_codecs.specs.declared.lead_byte_rule.FirstByte.{FirstByte}
+use Rattle.encoding_codecs.specs.declared.lead_byte_rule.FirstByte.TheVariants.{Alone, Lead, Unused}
 use Rattle.encoding_codecs.specs.declared.two_byte.PairValue.{PairValue}
 use Rattle.encoding_codecs.specs.declared.two_byte.PairValue.TheVariants.{NoChar, OneChar}
 
@@ -48,11 +48,11 @@ shift_jis_pair jis0208 a b = if is_trail b then value_of_pointer jis0208 (shift_
 abbrev pub shift_jis_rule : List ℕ → TwoByteRule
 shift_jis_rule jis0208 = record { first = shift_jis_first; pair = shift_jis_pair jis0208 }
 
-abbrev pub front_shift_jis : List ℕ → List ℕ → Piece
-front_shift_jis jis0208 = front_two_byte (shift_jis_rule jis0208)
+abbrev pub first_piece_shift_jis : List ℕ → List ℕ → Piece
+first_piece_shift_jis jis0208 = first_piece_two_byte (shift_jis_rule jis0208)
 
 abbrev pub pieces_shift_jis : List ℕ → List ℕ → List Piece
-pieces_shift_jis jis0208 = pieces_by (front_shift_jis jis0208)
+pieces_shift_jis jis0208 = pieces_by (first_piece_shift_jis jis0208)
 
 -- ---- the encoder
 

@@ -1,36 +1,37 @@
 -- The rule of the encodings with characters of two bytes (the Encoding Standard, section 10.2.1, "gb18030 decoder",
--- section 11.1.1, "Big5 decoder", sections 12.1.1 and 12.3.1, "EUC-JP decoder" and "Shift_JIS decoder", and section 13.1.1,
--- "EUC-KR decoder", in what they share). 00 to 7F give themselves. A lead wants a trail: at the end it is bad alone. A
--- trail with which it gives nothing is left unread if it is ASCII, and is bad with the lead otherwise.
+-- section 11.1.1, "Big5 decoder", sections 12.1.1 and 12.3.1, "EUC-JP decoder" and "Shift_JIS decoder", and section
+-- 13.1.1, "EUC-KR decoder", in what they share). 00 to 7F give themselves. A lead wants a trail: at the end it is
+-- malformed alone. A trail with which it gives nothing is left unread if it is ASCII, and is malformed with the lead
+-- otherwise.
 use Rattle.std.specs.Prelude.{◌≡◌, ℕ, ◌+◌, ◌<◌, List, [], ◌∷◌, nat_lt, if◌then◌else◌, refl}
 use Rattle.std.specs.Char.{IsScalar}
-use Rattle.encoding_mem.specs.Piece.{Piece, good, bad}
+use Rattle.encoding_mem.specs.Piece.{Piece, well_formed, malformed}
 use Rattle.encoding_mem.specs.Pieces.{pieces_in, pieces_by}
-use Rattle.encoding_codecs.specs.declared.lead_rule.FirstByte.{FirstByte}
-use Rattle.encoding_codecs.specs.declared.lead_rule.FirstByte.TheVariants.{Alone, Lead, Unused}
+use Rattle.encoding_codecs.specs.declared.lead_byte_rule.FirstByte.{FirstByte}
+use Rattle.encoding_codecs.specs.declared.lead_byte_rule.FirstByte.TheVariants.{Alone, Lead, Unused}
 use Rattle.encoding_codecs.specs.declared.two_byte.PairValue.{PairValue}
 use Rattle.encoding_codecs.specs.declared.two_byte.PairValue.TheVariants.{NoChar, OneChar, TwoChars}
 
 -- The first piece of bytes, by what a first byte from 80 on is, and by the piece that a lead begins with the bytes
 -- behind it.
 abbrev pub piece_of_first : FirstByte → Piece → Piece
-piece_of_first (Alone c) piece = good 1 (c ∷ [])
+piece_of_first (Alone c) piece = well_formed 1 (c ∷ [])
 piece_of_first Lead piece = piece
-piece_of_first Unused piece = bad 1
+piece_of_first Unused piece = malformed 1
 
-abbrev pub front_by_lead : (ℕ → FirstByte) → (ℕ → List ℕ → Piece) → List ℕ → Piece
-front_by_lead first after [] = bad 1
-front_by_lead first after (a ∷ x) = if nat_lt a 0x80 then good 1 (a ∷ []) else piece_of_first (first a) (after a x)
+abbrev pub first_piece_by_lead : (ℕ → FirstByte) → (ℕ → List ℕ → Piece) → List ℕ → Piece
+first_piece_by_lead first after [] = malformed 1
+first_piece_by_lead first after (a ∷ x) = if nat_lt a 0x80 then well_formed 1 (a ∷ []) else piece_of_first (first a) (after a x)
 
 -- The piece of n bytes that want a trail, with the byte b behind them, where together they have this value.
 abbrev pub piece_of_trail : ℕ → PairValue → ℕ → Piece
-piece_of_trail n NoChar b = if nat_lt b 0x80 then bad n else bad (n + 1)
-piece_of_trail n (OneChar c) b = good (n + 1) (c ∷ [])
-piece_of_trail n (TwoChars c d) b = good (n + 1) (c ∷ d ∷ [])
+piece_of_trail n NoChar b = if nat_lt b 0x80 then malformed n else malformed (n + 1)
+piece_of_trail n (OneChar c) b = well_formed (n + 1) (c ∷ [])
+piece_of_trail n (TwoChars c d) b = well_formed (n + 1) (c ∷ d ∷ [])
 
 -- The piece of n bytes that want a trail, with what is behind them, by the values of the trails.
 abbrev pub after_bytes : ℕ → (ℕ → PairValue) → List ℕ → Piece
-after_bytes n value [] = bad n
+after_bytes n value [] = malformed n
 after_bytes n value (b ∷ x) = piece_of_trail n (value b) b
 
 -- An encoding of one and two bytes: what a first byte from 80 on is, and the value of a lead and a trail.
@@ -38,11 +39,11 @@ pub record TwoByteRule : Type 0 where
   pub first : ℕ → FirstByte
   pub pair : ℕ → ℕ → PairValue
 
-abbrev pub front_two_byte : TwoByteRule → List ℕ → Piece
-front_two_byte e = front_by_lead e.first (λ a. after_bytes 1 (e.pair a))
+abbrev pub first_piece_two_byte : TwoByteRule → List ℕ → Piece
+first_piece_two_byte e = first_piece_by_lead e.first (λ a. after_bytes 1 (e.pair a))
 
 abbrev pub pieces_two_byte : TwoByteRule → List ℕ → List Piece
-pieces_two_byte e = pieces_by (front_two_byte e)
+pieces_two_byte e = pieces_by (first_piece_two_byte e)
 
 -- What these are: scalars, of one byte in the basic plane, and two of a pair below U+0800.
 abbrev pub IsFirstByte : FirstByte → Type 0

@@ -21,6 +21,6 @@ pub mod Pointers
 pub mod ShiftJis
 pub mod ShiftJisSteps
 pub mod Steps
-pub mod TextRooms
+pub mod EncodedLengths
 pub mod TwoByteDecide
 pub mod TwoByte

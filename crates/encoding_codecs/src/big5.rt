@@ -1,22 +1,22 @@
 // Big5 (the Encoding Standard, section 11.1).
 
 ghost use Rattle.std.specs.Prelude.{◌≡◌, ◌↔◌, ℕ, ◌+◌, ◌-◌, ◌*◌, ◌/◌, ◌%◌, ◌<◌, ◌≤◌, [], ◌∷◌, true, IsTrue, IfSome};
-ghost use Rattle.encoding_mem.specs.Room.{room_multibyte};
-ghost use Rattle.encoding_mem.specs.TextRoom.{text_room_two_byte};
+ghost use Rattle.encoding_mem.specs.DecodedLength.{decoded_length_multibyte};
+ghost use Rattle.encoding_mem.specs.EncodedLength.{encoded_length_two_byte};
 ghost use Rattle.encoding_tables.specs.IndexLists.{has, entries_of};
 ghost use Rattle.encoding_tables.specs.Lookups.{AreEntries};
 ghost use Rattle.encoding_codecs.specs.Big5.{big5_rule, big5_value, pieces_big5, takes_last, big5_find, big5_trail, big5_bytes, big5_form, big5_coding};
 ghost use Rattle.encoding_codecs.specs.laws.Big5.{big5_is_two_byte, big5_laws};
 ghost use Rattle.encoding_codecs.specs.laws.Pointers.{ascii_by_pointer};
-ghost use Rattle.encoding_mem.specs.declared.form.Set.TheVariants.{Ascii};
+ghost use Rattle.encoding_mem.specs.declared.form.EscapeState.TheVariants.{Ascii};
 
-use crate::lead_rule::{FirstByte, LeadFront};
+use crate::lead_byte_rule::{FirstByte, LeadByteDecoderRule};
 use crate::stateless::{Forms, Stateless};
 use crate::two_byte::{PairValue, Pairs, TwoByte, value_of_entry};
 use encoding_mem::form::{Bytes, Form};
-use encoding_mem::piece_decoder::{Buffered, PieceDecoder};
-use encoding_mem::room::{Room, TextRoom};
+use encoding_mem::room::{DecodedLength, EncodedLength};
 use encoding_mem::sink::Sink;
+use encoding_mem::sink_decoder::{Buffered, SinkDecoder};
 use encoding_mem::{DecoderResult, EncoderResult, RawDecoder, RawEncoder};
 use encoding_tables::{Flat, IndexKind, Tables};
 
@@ -147,7 +147,7 @@ fn index_of(tables: &Tables) -> Big5<'_>
 /// or 62. Four pointers give a letter and a combining mark.
 #[derive(Drop)]
 pub struct Big5Decoder<'a> {
-    inner: Buffered<LeadFront<Pairs<Big5<'a>>>>,
+    inner: Buffered<LeadByteDecoderRule<Pairs<Big5<'a>>>>,
 }
 
 impl<'a> Big5Decoder<'a> {
@@ -156,10 +156,10 @@ impl<'a> Big5Decoder<'a> {
         requires { has tables.now IndexKind.Big5 ≡ true }
         ensures pending { (⟦<Big5Decoder<'a> as RawDecoder>⟧.state result).pending ≡ 0 }
         ensures pieces { (⟦<Big5Decoder<'a> as RawDecoder>⟧.state result).pieces ≡ pieces_big5 (entries_of tables.now IndexKind.Big5) }
-        ensures room { (⟦<Big5Decoder<'a> as RawDecoder>⟧.state result).room ≡ room_multibyte }
+        ensures room { (⟦<Big5Decoder<'a> as RawDecoder>⟧.state result).room ≡ decoded_length_multibyte }
     {
         Big5Decoder {
-            inner: Buffered::new(LeadFront::new(Pairs::new(index_of(tables)))),
+            inner: Buffered::new(LeadByteDecoderRule::new(Pairs::new(index_of(tables)))),
         }
     }
 
@@ -171,8 +171,8 @@ impl<'a> Big5Decoder<'a> {
     }
 }
 
-impl<'a> PieceDecoder for Big5Decoder<'a> {
-    ghost state = { λ d. ⟦<Buffered<LeadFront<Pairs<Big5<'a>>>> as PieceDecoder>⟧.state d.inner };
+impl<'a> SinkDecoder for Big5Decoder<'a> {
+    ghost state = { λ d. ⟦<Buffered<LeadByteDecoderRule<Pairs<Big5<'a>>>> as SinkDecoder>⟧.state d.inner };
 
     #[inline(always)]
     fn decode_into<S: Sink>(
@@ -188,7 +188,7 @@ impl<'a> PieceDecoder for Big5Decoder<'a> {
         self.inner.held_len()
     }
 
-    fn room(&self) -> Room {
+    fn room(&self) -> DecodedLength {
         self.inner.room()
     }
 }
@@ -208,7 +208,7 @@ impl<'a> Big5Encoder<'a> {
         ensures coding { ⟦<Big5Encoder<'a> as RawEncoder>⟧.coding result ≡ big5_coding (entries_of tables.now IndexKind.Big5) }
         ensures set { ⟦<Big5Encoder<'a> as RawEncoder>⟧.set result ≡ Ascii }
         ensures need { ⟦<Big5Encoder<'a> as RawEncoder>⟧.need result ≡ 2 }
-        ensures limits { ⟦<Big5Encoder<'a> as RawEncoder>⟧.limits result ≡ text_room_two_byte }
+        ensures limits { ⟦<Big5Encoder<'a> as RawEncoder>⟧.limits result ≡ encoded_length_two_byte }
     {
         Big5Encoder {
             inner: Stateless::new(index_of(tables)),
@@ -245,7 +245,7 @@ impl<'a> RawEncoder for Big5Encoder<'a> {
         self.inner.encode_from_utf16_raw(src, dst, last)
     }
 
-    fn room(&self) -> TextRoom {
+    fn room(&self) -> EncodedLength {
         self.inner.room()
     }
 

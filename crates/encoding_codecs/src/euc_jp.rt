@@ -1,24 +1,24 @@
 // EUC-JP (the Encoding Standard, section 12.1).
 
 ghost use Rattle.std.specs.Prelude.{◌≡◌, ◌≢◌, ◌↔◌, ◌<◌, true, IsTrue};
-ghost use Rattle.encoding_mem.specs.Room.{room_multibyte};
-ghost use Rattle.encoding_mem.specs.TextRoom.{text_room_two_byte};
+ghost use Rattle.encoding_mem.specs.DecodedLength.{decoded_length_multibyte};
+ghost use Rattle.encoding_mem.specs.EncodedLength.{encoded_length_two_byte};
 ghost use Rattle.encoding_tables.specs.IndexLists.{has, entries_of};
 ghost use Rattle.encoding_tables.specs.Lookups.{AreEntries};
 ghost use Rattle.encoding_codecs.specs.EucJp.{is_pointer_byte, euc_jp_first, euc_pair, euc_jp_pair, euc_jp_after, pieces_euc_jp, own_bytes, euc_jp_pair_bytes, euc_jp_char_bytes, euc_jp_form, euc_jp_coding};
 ghost use Rattle.encoding_codecs.specs.laws.EucJpDecide.{decide_8f, decide_euc_jp};
 ghost use Rattle.encoding_codecs.specs.laws.EucJp.{euc_jp_is_lead_rule, euc_jp_ascii, euc_jp_laws};
-ghost use Rattle.encoding_mem.specs.declared.form.Set.TheVariants.{Ascii};
+ghost use Rattle.encoding_mem.specs.declared.form.EscapeState.TheVariants.{Ascii};
 
 use crate::jis::{byte_of_katakana, folded, is_katakana, is_katakana_byte, katakana_of_byte};
-use crate::lead_rule::{FirstByte, LeadFront, LeadRule};
+use crate::lead_byte_rule::{FirstByte, LeadByteDecoderRule, LeadByteRule};
 use crate::stateless::{Forms, Stateless, form_of_bytes};
 use crate::two_byte::{PairValue, cut_short, decide_trail, value_of_entry};
+use encoding_mem::first_piece::FirstPiece;
 use encoding_mem::form::{Bytes, Form};
-use encoding_mem::front::Front;
-use encoding_mem::piece_decoder::{Buffered, PieceDecoder};
-use encoding_mem::room::{Room, TextRoom};
+use encoding_mem::room::{DecodedLength, EncodedLength};
 use encoding_mem::sink::Sink;
+use encoding_mem::sink_decoder::{Buffered, SinkDecoder};
 use encoding_mem::{DecoderResult, EncoderResult, RawDecoder, RawEncoder};
 use encoding_tables::{Flat, IndexKind, Tables};
 
@@ -31,7 +31,7 @@ struct EucJpLeads<'a> {
     ghost scalars_behind_8f: { AreEntries jis0212 },
 }
 
-impl<'a> LeadRule for EucJpLeads<'a> {
+impl<'a> LeadByteRule for EucJpLeads<'a> {
     ghost first_byte = { λ _. euc_jp_first };
 
     ghost after = { λ s. euc_jp_after s.jis0208 s.jis0212 };
@@ -49,7 +49,7 @@ impl<'a> LeadRule for EucJpLeads<'a> {
     }
 
     #[inline(always)]
-    fn after_lead(&self, lead: u8, rest: &[u8], last: bool) -> Front {
+    fn after_lead(&self, lead: u8, rest: &[u8], last: bool) -> FirstPiece {
         if lead == 0x8F {
             return after_8f(&self.jis0212, rest, last);
         }
@@ -99,7 +99,7 @@ fn pair_by_index(flat: &Flat<'_>, lead: u8, trail: u8) -> PairValue
 }
 
 // What 8F and the bytes behind it give: two of a pointer, by jis0212.
-fn after_8f(jis0212: &Flat<'_>, rest: &[u8], last: bool) -> Front
+fn after_8f(jis0212: &Flat<'_>, rest: &[u8], last: bool) -> FirstPiece
     ensures { result ≡ decide_8f jis0212.now rest.now last }
 {
     match rest {
@@ -117,13 +117,14 @@ fn after_8f(jis0212: &Flat<'_>, rest: &[u8], last: bool) -> Front
     }
 }
 
-/// Decodes EUC-JP: 00 to 7F give themselves. 8E and a byte from A1 to DF give halfwidth katakana, two bytes
-/// from A1 to FE the entry of jis0208 at their pointer, and 8F and two such bytes that of jis0212. A lead is
-/// bad alone at the end and before ASCII; with another byte with which it gives nothing both are bad. The
-/// same holds of 8F and a byte from A1 to FE before a third: two bytes are bad, or all three.
+/// Decodes EUC-JP: 00 to 7F give themselves. 8E and a byte from A1 to DF give halfwidth katakana,
+/// two bytes from A1 to FE the entry of jis0208 at their pointer, and 8F and two such bytes that of
+/// jis0212. A lead is bad alone at the end and before ASCII; with another byte with which it gives
+/// nothing both are malformed. The same holds of 8F and a byte from A1 to FE before a third: two
+/// bytes are malformed, or all three.
 #[derive(Drop)]
 pub struct EucJpDecoder<'a> {
-    inner: Buffered<LeadFront<EucJpLeads<'a>>>,
+    inner: Buffered<LeadByteDecoderRule<EucJpLeads<'a>>>,
 }
 
 impl<'a> EucJpDecoder<'a> {
@@ -134,10 +135,10 @@ impl<'a> EucJpDecoder<'a> {
         ensures pending { (⟦<EucJpDecoder<'a> as RawDecoder>⟧.state result).pending ≡ 0 }
         ensures pieces { (⟦<EucJpDecoder<'a> as RawDecoder>⟧.state result).pieces
             ≡ pieces_euc_jp (entries_of tables.now IndexKind.Jis0208) (entries_of tables.now IndexKind.Jis0212) }
-        ensures room { (⟦<EucJpDecoder<'a> as RawDecoder>⟧.state result).room ≡ room_multibyte }
+        ensures room { (⟦<EucJpDecoder<'a> as RawDecoder>⟧.state result).room ≡ decoded_length_multibyte }
     {
         EucJpDecoder {
-            inner: Buffered::new(LeadFront::new(EucJpLeads {
+            inner: Buffered::new(LeadByteDecoderRule::new(EucJpLeads {
                 jis0208: tables.flat(IndexKind::Jis0208),
                 jis0212: tables.flat(IndexKind::Jis0212),
             })),
@@ -152,8 +153,8 @@ impl<'a> EucJpDecoder<'a> {
     }
 }
 
-impl<'a> PieceDecoder for EucJpDecoder<'a> {
-    ghost state = { λ d. ⟦<Buffered<LeadFront<EucJpLeads<'a>>> as PieceDecoder>⟧.state d.inner };
+impl<'a> SinkDecoder for EucJpDecoder<'a> {
+    ghost state = { λ d. ⟦<Buffered<LeadByteDecoderRule<EucJpLeads<'a>>> as SinkDecoder>⟧.state d.inner };
 
     #[inline(always)]
     fn decode_into<S: Sink>(
@@ -169,7 +170,7 @@ impl<'a> PieceDecoder for EucJpDecoder<'a> {
         self.inner.held_len()
     }
 
-    fn room(&self) -> Room {
+    fn room(&self) -> DecodedLength {
         self.inner.room()
     }
 }
@@ -249,7 +250,7 @@ impl<'a> EucJpEncoder<'a> {
         ensures coding { ⟦<EucJpEncoder<'a> as RawEncoder>⟧.coding result ≡ euc_jp_coding (entries_of tables.now IndexKind.Jis0208) }
         ensures set { ⟦<EucJpEncoder<'a> as RawEncoder>⟧.set result ≡ Ascii }
         ensures need { ⟦<EucJpEncoder<'a> as RawEncoder>⟧.need result ≡ 2 }
-        ensures limits { ⟦<EucJpEncoder<'a> as RawEncoder>⟧.limits result ≡ text_room_two_byte }
+        ensures limits { ⟦<EucJpEncoder<'a> as RawEncoder>⟧.limits result ≡ encoded_length_two_byte }
     {
         EucJpEncoder {
             inner: Stateless::new(EucJpForms {
@@ -288,7 +289,7 @@ impl<'a> RawEncoder for EucJpEncoder<'a> {
         self.inner.encode_from_utf16_raw(src, dst, last)
     }
 
-    fn room(&self) -> TextRoom {
+    fn room(&self) -> EncodedLength {
         self.inner.room()
     }
 

@@ -1,22 +1,22 @@
 // EUC-KR (the Encoding Standard, section 13.1).
 
 ghost use Rattle.std.specs.Prelude.{◌≡◌, ◌↔◌, ℕ, ◌+◌, ◌-◌, ◌*◌, ◌/◌, ◌%◌, ◌<◌, ◌≤◌, [], ◌∷◌, true, IsTrue};
-ghost use Rattle.encoding_mem.specs.Room.{room_multibyte};
-ghost use Rattle.encoding_mem.specs.TextRoom.{text_room_two_byte};
+ghost use Rattle.encoding_mem.specs.DecodedLength.{decoded_length_multibyte};
+ghost use Rattle.encoding_mem.specs.EncodedLength.{encoded_length_two_byte};
 ghost use Rattle.encoding_tables.specs.IndexLists.{has, entries_of};
 ghost use Rattle.encoding_tables.specs.Lookups.{AreEntries, first_pointer};
 ghost use Rattle.encoding_codecs.specs.EucKr.{euc_kr_rule, pieces_euc_kr, euc_kr_bytes, euc_kr_form, euc_kr_coding};
 ghost use Rattle.encoding_codecs.specs.laws.EucKr.{euc_kr_is_two_byte, euc_kr_laws};
 ghost use Rattle.encoding_codecs.specs.laws.Pointers.{ascii_by_pointer};
-ghost use Rattle.encoding_mem.specs.declared.form.Set.TheVariants.{Ascii};
+ghost use Rattle.encoding_mem.specs.declared.form.EscapeState.TheVariants.{Ascii};
 
-use crate::lead_rule::{FirstByte, LeadFront};
+use crate::lead_byte_rule::{FirstByte, LeadByteDecoderRule};
 use crate::stateless::{Forms, Stateless};
 use crate::two_byte::{PairValue, Pairs, TwoByte, value_of_entry};
 use encoding_mem::form::{Bytes, Form};
-use encoding_mem::piece_decoder::{Buffered, PieceDecoder};
-use encoding_mem::room::{Room, TextRoom};
+use encoding_mem::room::{DecodedLength, EncodedLength};
 use encoding_mem::sink::Sink;
+use encoding_mem::sink_decoder::{Buffered, SinkDecoder};
 use encoding_mem::{DecoderResult, EncoderResult, RawDecoder, RawEncoder};
 use encoding_tables::{Flat, IndexKind, Tables};
 
@@ -87,7 +87,7 @@ fn index_of(tables: &Tables) -> EucKr<'_>
 /// `(lead - 81) * 190 + trail - 41`, where the bytes are hexadecimal.
 #[derive(Drop)]
 pub struct EucKrDecoder<'a> {
-    inner: Buffered<LeadFront<Pairs<EucKr<'a>>>>,
+    inner: Buffered<LeadByteDecoderRule<Pairs<EucKr<'a>>>>,
 }
 
 impl<'a> EucKrDecoder<'a> {
@@ -96,10 +96,10 @@ impl<'a> EucKrDecoder<'a> {
         requires { has tables.now IndexKind.EucKr ≡ true }
         ensures pending { (⟦<EucKrDecoder<'a> as RawDecoder>⟧.state result).pending ≡ 0 }
         ensures pieces { (⟦<EucKrDecoder<'a> as RawDecoder>⟧.state result).pieces ≡ pieces_euc_kr (entries_of tables.now IndexKind.EucKr) }
-        ensures room { (⟦<EucKrDecoder<'a> as RawDecoder>⟧.state result).room ≡ room_multibyte }
+        ensures room { (⟦<EucKrDecoder<'a> as RawDecoder>⟧.state result).room ≡ decoded_length_multibyte }
     {
         EucKrDecoder {
-            inner: Buffered::new(LeadFront::new(Pairs::new(index_of(tables)))),
+            inner: Buffered::new(LeadByteDecoderRule::new(Pairs::new(index_of(tables)))),
         }
     }
 
@@ -111,8 +111,8 @@ impl<'a> EucKrDecoder<'a> {
     }
 }
 
-impl<'a> PieceDecoder for EucKrDecoder<'a> {
-    ghost state = { λ d. ⟦<Buffered<LeadFront<Pairs<EucKr<'a>>>> as PieceDecoder>⟧.state d.inner };
+impl<'a> SinkDecoder for EucKrDecoder<'a> {
+    ghost state = { λ d. ⟦<Buffered<LeadByteDecoderRule<Pairs<EucKr<'a>>>> as SinkDecoder>⟧.state d.inner };
 
     #[inline(always)]
     fn decode_into<S: Sink>(
@@ -128,7 +128,7 @@ impl<'a> PieceDecoder for EucKrDecoder<'a> {
         self.inner.held_len()
     }
 
-    fn room(&self) -> Room {
+    fn room(&self) -> DecodedLength {
         self.inner.room()
     }
 }
@@ -147,7 +147,7 @@ impl<'a> EucKrEncoder<'a> {
         ensures coding { ⟦<EucKrEncoder<'a> as RawEncoder>⟧.coding result ≡ euc_kr_coding (entries_of tables.now IndexKind.EucKr) }
         ensures set { ⟦<EucKrEncoder<'a> as RawEncoder>⟧.set result ≡ Ascii }
         ensures need { ⟦<EucKrEncoder<'a> as RawEncoder>⟧.need result ≡ 2 }
-        ensures limits { ⟦<EucKrEncoder<'a> as RawEncoder>⟧.limits result ≡ text_room_two_byte }
+        ensures limits { ⟦<EucKrEncoder<'a> as RawEncoder>⟧.limits result ≡ encoded_length_two_byte }
     {
         EucKrEncoder {
             inner: Stateless::new(index_of(tables)),
@@ -184,7 +184,7 @@ impl<'a> RawEncoder for EucKrEncoder<'a> {
         self.inner.encode_from_utf16_raw(src, dst, last)
     }
 
-    fn room(&self) -> TextRoom {
+    fn room(&self) -> EncodedLength {
         self.inner.room()
     }
 

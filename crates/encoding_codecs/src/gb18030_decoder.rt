@@ -3,18 +3,18 @@
 
 ghost use Rattle.std.specs.Prelude.{◌≡◌, ◌↔◌, ◌||◌, true, IsTrue};
 ghost use Rattle.std.specs.Int.{IsInRange, is_in_range};
-ghost use Rattle.encoding_mem.specs.Room.{room_multibyte};
+ghost use Rattle.encoding_mem.specs.DecodedLength.{decoded_length_multibyte};
 ghost use Rattle.encoding_tables.specs.IndexLists.{has, entries_of, rows_of};
 ghost use Rattle.encoding_codecs.specs.Gb18030.{gb18030_first, gb18030_pair, pair_pointer, four_pointer, gb18030_after_lead, pieces_gb18030};
 ghost use Rattle.encoding_codecs.specs.laws.Gb18030Decide.{gb18030_decide_lead, gb18030_decide_two, gb18030_decide_three, decide_four};
 ghost use Rattle.encoding_codecs.specs.laws.Gb18030.{AreGbTables, gb18030_rule};
 
-use crate::lead_rule::{FirstByte, LeadFront, LeadRule};
+use crate::lead_byte_rule::{FirstByte, LeadByteDecoderRule, LeadByteRule};
 use crate::two_byte::{PairValue, cut_short, decide_trail, value_of_entry};
-use encoding_mem::front::Front;
-use encoding_mem::piece_decoder::{Buffered, PieceDecoder};
-use encoding_mem::room::Room;
+use encoding_mem::first_piece::FirstPiece;
+use encoding_mem::room::DecodedLength;
 use encoding_mem::sink::Sink;
+use encoding_mem::sink_decoder::{Buffered, SinkDecoder};
 use encoding_mem::{DecoderResult, RawDecoder};
 use encoding_tables::{Flat, IndexKind, Ranges, Tables};
 
@@ -26,7 +26,7 @@ struct Gb18030Rule<'a> {
     ghost scalars: { AreGbTables index ranges },
 }
 
-impl<'a> LeadRule for Gb18030Rule<'a> {
+impl<'a> LeadByteRule for Gb18030Rule<'a> {
     ghost first_byte = { λ _. gb18030_first };
 
     ghost after = { λ s. gb18030_after_lead s.index s.ranges };
@@ -47,7 +47,7 @@ impl<'a> LeadRule for Gb18030Rule<'a> {
     }
 
     #[inline(always)]
-    fn after_lead(&self, lead: u8, rest: &[u8], last: bool) -> Front {
+    fn after_lead(&self, lead: u8, rest: &[u8], last: bool) -> FirstPiece {
         match rest {
             [] => cut_short(1, last),
             [second, rest @ ..] => {
@@ -75,9 +75,9 @@ impl<'a> Gb18030Rule<'a> {
         value_of_entry(self.index.value(pair_pointer(lead, trail)))
     }
 
-    // A lead and a digit begin a form of four bytes. Where the third or the fourth byte does not continue
-    // it, the lead is bad alone, and what is behind it is read again.
-    fn after_two(&self, a: u8, b: u8, rest: &[u8], last: bool) -> Front
+    // A lead and a digit begin a form of four bytes. Where the third or the fourth byte does not
+    // continue it, the lead is malformed alone, and what is behind it is read again.
+    fn after_two(&self, a: u8, b: u8, rest: &[u8], last: bool) -> FirstPiece
         requires lead { IsInRange 0x81 0xFE a }
         requires second { IsInRange 0x30 0x39 b }
         ensures { result ≡ gb18030_decide_two self.now.ranges a b rest.now last }
@@ -89,13 +89,13 @@ impl<'a> Gb18030Rule<'a> {
                 if is_lead(third) {
                     self.after_three(a, b, third, rest, last)
                 } else {
-                    Front::Bad(1)
+                    FirstPiece::Malformed(1)
                 }
             }
         }
     }
 
-    fn after_three(&self, a: u8, b: u8, c: u8, rest: &[u8], last: bool) -> Front
+    fn after_three(&self, a: u8, b: u8, c: u8, rest: &[u8], last: bool) -> FirstPiece
         requires lead { IsInRange 0x81 0xFE a }
         requires second { IsInRange 0x30 0x39 b }
         requires third { IsInRange 0x81 0xFE c }
@@ -106,9 +106,9 @@ impl<'a> Gb18030Rule<'a> {
             [fourth, ..] => {
                 let fourth = *fourth;
                 if is_digit(fourth) {
-                    front_of_four(self.ranges.value(four_pointer(a, b, c, fourth)))
+                    first_piece_of_four(self.ranges.value(four_pointer(a, b, c, fourth)))
                 } else {
-                    Front::Bad(1)
+                    FirstPiece::Malformed(1)
                 }
             }
         }
@@ -165,12 +165,12 @@ fn four_pointer(a: u8, b: u8, c: u8, d: u8) -> u32
 }
 
 // The piece of four bytes, by the character at their pointer.
-fn front_of_four(c: Option<char>) -> Front
+fn first_piece_of_four(c: Option<char>) -> FirstPiece
     ensures { result ≡ decide_four c }
 {
     match c {
-        Some(c) => Front::One(c, 4),
-        None => Front::Bad(4),
+        Some(c) => FirstPiece::One(c, 4),
+        None => FirstPiece::Malformed(4),
     }
 }
 
@@ -178,7 +178,7 @@ fn front_of_four(c: Option<char>) -> Front
 /// of the index at their pointer, four bytes the value of the ranges at theirs.
 #[derive(Drop)]
 pub struct Gb18030Decoder<'a> {
-    inner: Buffered<LeadFront<Gb18030Rule<'a>>>,
+    inner: Buffered<LeadByteDecoderRule<Gb18030Rule<'a>>>,
 }
 
 impl<'a> Gb18030Decoder<'a> {
@@ -189,10 +189,10 @@ impl<'a> Gb18030Decoder<'a> {
         ensures pending { (⟦<Gb18030Decoder<'a> as RawDecoder>⟧.state result).pending ≡ 0 }
         ensures pieces { (⟦<Gb18030Decoder<'a> as RawDecoder>⟧.state result).pieces
             ≡ pieces_gb18030 (entries_of tables.now IndexKind.Gb18030) (rows_of tables.now) }
-        ensures room { (⟦<Gb18030Decoder<'a> as RawDecoder>⟧.state result).room ≡ room_multibyte }
+        ensures room { (⟦<Gb18030Decoder<'a> as RawDecoder>⟧.state result).room ≡ decoded_length_multibyte }
     {
         Gb18030Decoder {
-            inner: Buffered::new(LeadFront::new(Gb18030Rule {
+            inner: Buffered::new(LeadByteDecoderRule::new(Gb18030Rule {
                 index: tables.flat(IndexKind::Gb18030),
                 ranges: tables.ranges(),
             })),
@@ -207,8 +207,8 @@ impl<'a> Gb18030Decoder<'a> {
     }
 }
 
-impl<'a> PieceDecoder for Gb18030Decoder<'a> {
-    ghost state = { λ d. ⟦<Buffered<LeadFront<Gb18030Rule<'a>>> as PieceDecoder>⟧.state d.inner };
+impl<'a> SinkDecoder for Gb18030Decoder<'a> {
+    ghost state = { λ d. ⟦<Buffered<LeadByteDecoderRule<Gb18030Rule<'a>>> as SinkDecoder>⟧.state d.inner };
 
     #[inline(always)]
     fn decode_into<S: Sink>(
@@ -224,7 +224,7 @@ impl<'a> PieceDecoder for Gb18030Decoder<'a> {
         self.inner.held_len()
     }
 
-    fn room(&self) -> Room {
+    fn room(&self) -> DecodedLength {
         self.inner.room()
     }
 }

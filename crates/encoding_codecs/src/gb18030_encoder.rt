@@ -3,54 +3,54 @@
 
 ghost use Rattle.std.specs.Prelude.{◌≡◌, ◌+◌, ◌/◌, ◌%◌, ◌<◌, true};
 ghost use Rattle.encoding_tables.specs.IndexLists.{has, entries_of, rows_of};
-ghost use Rattle.encoding_codecs.specs.Gb18030Coding.{fixed_pair, gb18030_pair_bytes, four_bytes, gb18030_bytes, gb18030_coding, gb18030_need, gb18030_text_room};
+ghost use Rattle.encoding_codecs.specs.Gb18030Coding.{fixed_pair, gb18030_pair_bytes, four_bytes, gb18030_bytes, gb18030_coding, gb18030_need, gb18030_encoded_length};
 ghost use Rattle.encoding_codecs.specs.laws.Gb18030Coding.{gb18030_laws, gb18030_fits};
-ghost use Rattle.encoding_mem.specs.declared.form.Set.TheVariants.{Ascii};
+ghost use Rattle.encoding_mem.specs.declared.form.EscapeState.TheVariants.{Ascii};
 
 use crate::stateless::form_of_bytes;
-use encoding_mem::encode::{Target, encode};
-use encoding_mem::form::{Bytes, Form, Set};
-use encoding_mem::room::TextRoom;
+use encoding_mem::encode::{EncoderRule, encode};
+use encoding_mem::form::{Bytes, EscapeState, Form};
+use encoding_mem::room::EncodedLength;
 use encoding_mem::source::{Source, Utf8Source, Utf16Source};
 use encoding_mem::{EncoderResult, RawEncoder};
 use encoding_tables::{Flat, IndexKind, Ranges, Tables};
 
 // What gb18030 makes of a character, with its extended range, and GBK, without.
 #[derive(Drop)]
-struct Gb18030Target<'a> {
+struct Gb18030EncoderRule<'a> {
     index: Flat<'a>,
     ranges: Ranges<'a>,
     extended_range: bool,
 }
 
-impl<'a> Target for Gb18030Target<'a> {
+impl<'a> EncoderRule for Gb18030EncoderRule<'a> {
     ghost need = { λ s. gb18030_need s.extended_range };
 
     ghost coding = { λ s. gb18030_coding s.index s.ranges s.extended_range };
 
-    ghost limits = { λ s. gb18030_text_room s.extended_range };
+    ghost limits = { λ s. gb18030_encoded_length s.extended_range };
 
     ghost laws = { λ s. gb18030_laws s.index s.ranges s.extended_range };
 
     ghost fits = { λ s. gb18030_fits s.index s.ranges s.extended_range };
 
     #[inline(always)]
-    fn step(&self, _set: Set, c: char) -> (Set, Form) {
-        (Set::Ascii, form_of_bytes(c, self.bytes_of(c)))
+    fn step(&self, _set: EscapeState, c: char) -> (EscapeState, Form) {
+        (EscapeState::Ascii, form_of_bytes(c, self.bytes_of(c)))
     }
 
     #[inline(always)]
-    fn copies_ascii(&self, set: Set) -> bool {
-        matches!(set, Set::Ascii)
+    fn copies_ascii(&self, set: EscapeState) -> bool {
+        matches!(set, EscapeState::Ascii)
     }
 
     #[inline(always)]
-    fn escape(&self, _from: Set, _to: Set) -> Bytes {
+    fn escape(&self, _from: EscapeState, _to: EscapeState) -> Bytes {
         Bytes::none()
     }
 }
 
-impl<'a> Gb18030Target<'a> {
+impl<'a> Gb18030EncoderRule<'a> {
     // The bytes of a character, if it has any.
     #[inline(always)]
     fn bytes_of(&self, c: char) -> Option<Bytes>
@@ -138,7 +138,7 @@ fn four_bytes(pointer: u32) -> Bytes
 /// with it; one that the index lacks is four bytes in gb18030, and unmappable in GBK. There is no state.
 #[derive(Drop)]
 pub struct Gb18030Encoder<'a> {
-    target: Gb18030Target<'a>,
+    target: Gb18030EncoderRule<'a>,
 }
 
 impl<'a> Gb18030Encoder<'a> {
@@ -151,10 +151,10 @@ impl<'a> Gb18030Encoder<'a> {
             ≡ gb18030_coding (entries_of tables.now IndexKind.Gb18030) (rows_of tables.now) extended_range }
         ensures set { ⟦<Gb18030Encoder<'a> as RawEncoder>⟧.set result ≡ Ascii }
         ensures need { ⟦<Gb18030Encoder<'a> as RawEncoder>⟧.need result ≡ gb18030_need extended_range }
-        ensures limits { ⟦<Gb18030Encoder<'a> as RawEncoder>⟧.limits result ≡ gb18030_text_room extended_range }
+        ensures limits { ⟦<Gb18030Encoder<'a> as RawEncoder>⟧.limits result ≡ gb18030_encoded_length extended_range }
     {
         Gb18030Encoder {
-            target: Gb18030Target {
+            target: Gb18030EncoderRule {
                 index: tables.flat(IndexKind::Gb18030),
                 ranges: tables.ranges(),
                 extended_range,
@@ -170,7 +170,7 @@ impl<'a> RawEncoder for Gb18030Encoder<'a> {
 
     ghost set = { λ _. Ascii };
 
-    ghost limits = { λ e. gb18030_text_room e.target.extended_range };
+    ghost limits = { λ e. gb18030_encoded_length e.target.extended_range };
 
     ghost laws = { λ e. gb18030_laws e.target.index e.target.ranges e.target.extended_range };
 
@@ -181,7 +181,7 @@ impl<'a> RawEncoder for Gb18030Encoder<'a> {
         last: bool,
     ) -> (EncoderResult, usize, usize) {
         let mut source = Utf8Source::new(src);
-        let mut set = Set::Ascii;
+        let mut set = EscapeState::Ascii;
         let (result, written) = encode(&self.target, &mut set, &mut source, dst, last);
         (result, source.read(), written)
     }
@@ -193,16 +193,16 @@ impl<'a> RawEncoder for Gb18030Encoder<'a> {
         last: bool,
     ) -> (EncoderResult, usize, usize) {
         let mut source = Utf16Source::new(src);
-        let mut set = Set::Ascii;
+        let mut set = EscapeState::Ascii;
         let (result, written) = encode(&self.target, &mut set, &mut source, dst, last);
         (result, source.read(), written)
     }
 
-    fn room(&self) -> TextRoom {
+    fn room(&self) -> EncodedLength {
         if self.target.extended_range {
-            TextRoom::gb18030()
+            EncodedLength::gb18030()
         } else {
-            TextRoom::two_byte()
+            EncodedLength::two_byte()
         }
     }
 

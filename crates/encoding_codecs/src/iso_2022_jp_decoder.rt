@@ -4,19 +4,19 @@ ghost use Rattle.std.proofs.Common.{refl, arith};
 ghost use Rattle.std.specs.Prelude.{◌≡◌, ◌↔◌, IsTrue, true, length, take};
 ghost use Rattle.std.specs.Int.{IsInRange};
 ghost use Rattle.encoding_mem.specs.Iso2022JpAscii.{IsIso2022JpAscii};
-ghost use Rattle.encoding_mem.specs.Room.{room_of, room_multibyte};
+ghost use Rattle.encoding_mem.specs.DecodedLength.{decoded_length, decoded_length_multibyte};
 ghost use Rattle.encoding_tables.specs.IndexLists.{has, entries_of};
 ghost use Rattle.encoding_tables.specs.Lookups.{AreEntries};
 ghost use Rattle.encoding_tables.specs.declared.index_kind.IndexKind.{IndexKind};
 ghost use Rattle.encoding_codecs.specs.Iso2022Jp.{escape_of, escape_at, ascii_piece, katakana_piece, piece_of_entry, pieces_in_mode, pieces_iso_2022_jp, IsNeutral};
-ghost use Rattle.encoding_codecs.specs.laws.Iso2022JpDecide.{escape_front, char_front, jis_pair_front, front_iso_2022_jp, mode_after, may_be_escape, is_jis_lead, is_open, shown, decide_iso_2022_jp};
+ghost use Rattle.encoding_codecs.specs.laws.Iso2022JpDecide.{escape_first_piece, char_first_piece, jis_pair_first_piece, first_piece_iso_2022_jp, mode_after, may_be_escape, is_jis_lead, is_open, shown, decide_iso_2022_jp};
 ghost use Rattle.encoding_codecs.specs.laws.Iso2022Jp.{iso_2022_jp_whole, iso_2022_jp_are_pieces, iso_2022_jp_ends};
 
-use encoding_mem::ascii::ascii_front;
-use encoding_mem::front::{Front, FrontPiece};
-use encoding_mem::piece_decoder::{Buffered, PieceDecoder};
-use encoding_mem::room::Room;
+use encoding_mem::ascii::ascii_prefix;
+use encoding_mem::first_piece::{DecoderRule, FirstPiece};
+use encoding_mem::room::DecodedLength;
 use encoding_mem::sink::Sink;
+use encoding_mem::sink_decoder::{Buffered, SinkDecoder};
 use encoding_mem::{DecoderResult, RawDecoder, iso_2022_jp_ascii_valid_up_to};
 use encoding_tables::{Flat, IndexKind, Tables};
 
@@ -44,7 +44,7 @@ struct Iso2022JpRule<'a> {
     mode: Mode,
 }
 
-impl<'a> FrontPiece for Iso2022JpRule<'a> {
+impl<'a> DecoderRule for Iso2022JpRule<'a> {
     ghost pieces = { λ s x. pieces_in_mode s.jis0208.flat s.mode x };
 
     ghost whole = { λ s. iso_2022_jp_whole s.jis0208.flat s.jis0208.scalars s.mode };
@@ -53,9 +53,9 @@ impl<'a> FrontPiece for Iso2022JpRule<'a> {
 
     ghost ends = { λ s. iso_2022_jp_ends s.jis0208.flat s.mode };
 
-    ghost needs = { λ _. room_of room_multibyte };
+    ghost needs = { λ _. decoded_length decoded_length_multibyte };
 
-    ghost limits = { λ _. room_multibyte };
+    ghost limits = { λ _. decoded_length_multibyte };
 
     ghost covers = { λ _ _ _. omega arith };
 
@@ -63,7 +63,7 @@ impl<'a> FrontPiece for Iso2022JpRule<'a> {
 
     ghost steady = { λ _ _. refl };
 
-    fn front(&self, bytes: &[u8], last: bool) -> Front {
+    fn first_piece(&self, bytes: &[u8], last: bool) -> FirstPiece {
         decide(&self.jis0208.flat, self.mode, bytes, last)
     }
 
@@ -80,17 +80,17 @@ impl<'a> FrontPiece for Iso2022JpRule<'a> {
         }
     }
 
-    fn room(&self) -> Room {
-        Room::multibyte()
+    fn room(&self) -> DecodedLength {
+        DecodedLength::multibyte()
     }
 }
 
-// The bytes at the front that are ASCII's characters in ASCII.
+// The bytes at the start that are ASCII's characters in ASCII.
 fn plain_text(bytes: &[u8]) -> &str
-    ensures front { result.now ≡ take (length result.now) bytes.now }
+    ensures prefix { result.now ≡ take (length result.now) bytes.now }
     ensures plain { IsIso2022JpAscii result.now }
 {
-    ascii_front(&bytes[..iso_2022_jp_ascii_valid_up_to(bytes)])
+    ascii_prefix(&bytes[..iso_2022_jp_ascii_valid_up_to(bytes)])
 }
 
 // The mode that three bytes switch to, if they are an escape.
@@ -106,7 +106,7 @@ fn escape_of(a: u8, b: u8, c: u8) -> Option<Mode>
     }
 }
 
-// That of the whole escape at the front.
+// That of the whole escape at the start.
 fn escape_at(bytes: &[u8]) -> Option<Mode>
     ensures { result ≡ escape_at bytes.now }
 {
@@ -153,109 +153,109 @@ fn is_lead(mode: Mode, bytes: &[u8]) -> bool
 }
 
 // What these bytes show of their first piece.
-fn decide(jis0208: &Flat<'_>, mode: Mode, bytes: &[u8], last: bool) -> Front
+fn decide(jis0208: &Flat<'_>, mode: Mode, bytes: &[u8], last: bool) -> FirstPiece
     ensures { result ≡ decide_iso_2022_jp jis0208.now mode bytes.now last }
 {
     if !last && is_open(mode, bytes) {
-        Front::More
+        FirstPiece::More
     } else {
-        first_piece(jis0208, mode, bytes)
+        first_piece_in_mode(jis0208, mode, bytes)
     }
 }
 
 // The first piece, if the bytes end here or more of them do not matter.
-fn first_piece(jis0208: &Flat<'_>, mode: Mode, bytes: &[u8]) -> Front
-    ensures { result ≡ shown (front_iso_2022_jp jis0208.now mode bytes.now) }
+fn first_piece_in_mode(jis0208: &Flat<'_>, mode: Mode, bytes: &[u8]) -> FirstPiece
+    ensures { result ≡ shown (first_piece_iso_2022_jp jis0208.now mode bytes.now) }
 {
     match bytes {
-        [] => Front::Bad(1),
+        [] => FirstPiece::Malformed(1),
         [b, rest @ ..] => {
             if escape_at(bytes).is_some() {
-                escape_front(&bytes[3..])
+                escape_first_piece(&bytes[3..])
             } else {
-                char_front(jis0208, mode, *b, rest)
+                char_first_piece(jis0208, mode, *b, rest)
             }
         }
     }
 }
 
-// An escape, by the bytes behind it: it is bad before another.
-fn escape_front(rest: &[u8]) -> Front
-    ensures { result ≡ shown (escape_front rest.now) }
+// An escape, by the bytes behind it: it is malformed before another.
+fn escape_first_piece(rest: &[u8]) -> FirstPiece
+    ensures { result ≡ shown (escape_first_piece rest.now) }
 {
     if escape_at(rest).is_some() {
-        Front::Bad(3)
+        FirstPiece::Malformed(3)
     } else {
-        Front::Silent(3)
+        FirstPiece::Ignored(3)
     }
 }
 
 // A character in a mode, by its first byte and the bytes behind it.
-fn char_front(jis0208: &Flat<'_>, mode: Mode, b: u8, rest: &[u8]) -> Front
-    ensures { result ≡ shown (char_front jis0208.now mode b rest.now) }
+fn char_first_piece(jis0208: &Flat<'_>, mode: Mode, b: u8, rest: &[u8]) -> FirstPiece
+    ensures { result ≡ shown (char_first_piece jis0208.now mode b rest.now) }
 {
     match mode {
-        Mode::Ascii => ascii_front_of(b),
+        Mode::Ascii => ascii_prefix_of(b),
         Mode::Roman => match b {
-            0x5C => Front::One('\u{A5}', 1),
-            0x7E => Front::One('\u{203E}', 1),
-            _ => ascii_front_of(b),
+            0x5C => FirstPiece::One('\u{A5}', 1),
+            0x7E => FirstPiece::One('\u{203E}', 1),
+            _ => ascii_prefix_of(b),
         },
-        Mode::Katakana => katakana_front(b),
+        Mode::Katakana => katakana_first_piece(b),
         Mode::Jis => {
             if b >= 0x21 && b <= 0x7E {
-                pair_front(jis0208, b, rest)
+                pair_first_piece(jis0208, b, rest)
             } else {
-                Front::Bad(1)
+                FirstPiece::Malformed(1)
             }
         }
     }
 }
 
-fn ascii_front_of(b: u8) -> Front
+fn ascii_prefix_of(b: u8) -> FirstPiece
     ensures { result ≡ shown (ascii_piece b) }
 {
     if b >= 0x80 || b == 0x0E || b == 0x0F || b == 0x1B {
-        Front::Bad(1)
+        FirstPiece::Malformed(1)
     } else {
-        Front::One(b as char, 1)
+        FirstPiece::One(b as char, 1)
     }
 }
 
-fn katakana_front(b: u8) -> Front
+fn katakana_first_piece(b: u8) -> FirstPiece
     ensures { result ≡ shown (katakana_piece b) }
 {
     if b >= 0x21 && b <= 0x5F {
         let code = 0xFF61 + (b as u32 - 0x21);
-        Front::One(char::from_u32(code).unwrap(), 1)
+        FirstPiece::One(char::from_u32(code).unwrap(), 1)
     } else {
-        Front::Bad(1)
+        FirstPiece::Malformed(1)
     }
 }
 
 // A first byte and what follows it: 1B is left, any other second byte is taken.
-fn pair_front(jis0208: &Flat<'_>, b: u8, rest: &[u8]) -> Front
+fn pair_first_piece(jis0208: &Flat<'_>, b: u8, rest: &[u8]) -> FirstPiece
     requires { IsInRange 0x21 0x7E b }
-    ensures { result ≡ shown (jis_pair_front jis0208.now b rest.now) }
+    ensures { result ≡ shown (jis_pair_first_piece jis0208.now b rest.now) }
 {
     match rest {
-        [] | [0x1B, ..] => Front::Bad(1),
+        [] | [0x1B, ..] => FirstPiece::Malformed(1),
         [c, ..] => {
             let c = *c;
             if c < 0x21 || c > 0x7E {
-                return Front::Bad(2);
+                return FirstPiece::Malformed(2);
             }
-            entry_front(jis0208.value((b as u32 - 0x21) * 94 + (c as u32 - 0x21)))
+            entry_first_piece(jis0208.value((b as u32 - 0x21) * 94 + (c as u32 - 0x21)))
         }
     }
 }
 
-fn entry_front(entry: Option<char>) -> Front
+fn entry_first_piece(entry: Option<char>) -> FirstPiece
     ensures { result ≡ shown (piece_of_entry entry) }
 {
     match entry {
-        Some(c) => Front::One(c, 2),
-        None => Front::Bad(2),
+        Some(c) => FirstPiece::One(c, 2),
+        None => FirstPiece::Malformed(2),
     }
 }
 
@@ -271,7 +271,7 @@ impl<'a> Iso2022JpDecoder<'a> {
         requires { has tables.now IndexKind.Jis0208 ≡ true }
         ensures pending { (⟦<Iso2022JpDecoder<'a> as RawDecoder>⟧.state result).pending ≡ 0 }
         ensures pieces { (⟦<Iso2022JpDecoder<'a> as RawDecoder>⟧.state result).pieces ≡ pieces_iso_2022_jp (entries_of tables.now IndexKind.Jis0208) }
-        ensures room { (⟦<Iso2022JpDecoder<'a> as RawDecoder>⟧.state result).room ≡ room_multibyte }
+        ensures room { (⟦<Iso2022JpDecoder<'a> as RawDecoder>⟧.state result).room ≡ decoded_length_multibyte }
     {
         Iso2022JpDecoder {
             inner: Buffered::new(Iso2022JpRule {
@@ -291,8 +291,8 @@ impl<'a> Iso2022JpDecoder<'a> {
     }
 }
 
-impl<'a> PieceDecoder for Iso2022JpDecoder<'a> {
-    ghost state = { λ d. ⟦<Buffered<Iso2022JpRule<'a>> as PieceDecoder>⟧.state d.inner };
+impl<'a> SinkDecoder for Iso2022JpDecoder<'a> {
+    ghost state = { λ d. ⟦<Buffered<Iso2022JpRule<'a>> as SinkDecoder>⟧.state d.inner };
 
     fn decode_into<S: Sink>(
         &mut self,
@@ -307,7 +307,7 @@ impl<'a> PieceDecoder for Iso2022JpDecoder<'a> {
         self.inner.held_len()
     }
 
-    fn room(&self) -> Room {
+    fn room(&self) -> DecodedLength {
         self.inner.room()
     }
 }

@@ -1,17 +1,17 @@
 // The encoder of ISO-2022-JP (the Encoding Standard, section 12.2.2, "ISO-2022-JP encoder").
 
 ghost use Rattle.std.specs.Prelude.{◌≡◌, ◌+◌, ◌/◌, ◌%◌, ◌<◌, IfSome, true, [], ◌∷◌};
-ghost use Rattle.encoding_mem.specs.TextRoom.{text_room_iso_2022_jp};
-ghost use Rattle.encoding_mem.specs.declared.form.Set.TheVariants.{Ascii};
+ghost use Rattle.encoding_mem.specs.EncodedLength.{encoded_length_iso_2022_jp};
+ghost use Rattle.encoding_mem.specs.declared.form.EscapeState.TheVariants.{Ascii};
 ghost use Rattle.encoding_tables.specs.IndexLists.{has, entries_of};
 ghost use Rattle.encoding_tables.specs.declared.index_kind.IndexKind.{IndexKind};
 ghost use Rattle.encoding_codecs.specs.Iso2022JpForms.{looked_up, pointer_of_char, ascii_form, is_set, ascii_or_roman, set_after, iso_2022_jp_coding};
 ghost use Rattle.encoding_codecs.specs.laws.Iso2022JpForms.{iso_2022_jp_laws, iso_2022_jp_fits};
 
 use crate::jis::{folded, is_katakana};
-use encoding_mem::encode::{Target, encode};
-use encoding_mem::form::{Bytes, Form, Set};
-use encoding_mem::room::TextRoom;
+use encoding_mem::encode::{EncoderRule, encode};
+use encoding_mem::form::{Bytes, EscapeState, Form};
+use encoding_mem::room::EncodedLength;
 use encoding_mem::source::{Source, Utf8Source, Utf16Source};
 use encoding_mem::{EncoderResult, RawEncoder};
 use encoding_tables::{Flat, IndexKind, Tables};
@@ -50,74 +50,76 @@ impl<'a> Iso2022Jp<'a> {
     }
 }
 
-impl<'a> Target for Iso2022Jp<'a> {
+impl<'a> EncoderRule for Iso2022Jp<'a> {
     ghost need = { λ _. 3 };
 
     ghost coding = { λ s. iso_2022_jp_coding s.jis0208 s.katakana };
 
-    ghost limits = { λ _. text_room_iso_2022_jp };
+    ghost limits = { λ _. encoded_length_iso_2022_jp };
 
     ghost laws = { λ s. iso_2022_jp_laws s.jis0208 s.katakana };
 
     ghost fits = { λ s. iso_2022_jp_fits s.jis0208 s.katakana };
 
     #[inline(always)]
-    fn step(&self, set: Set, c: char) -> (Set, Form) {
+    fn step(&self, set: EscapeState, c: char) -> (EscapeState, Form) {
         if c < '\u{80}' {
             let next = if c == '\\' || c == '~' {
-                Set::Ascii
+                EscapeState::Ascii
             } else {
                 ascii_or_roman(set)
             };
             return (next, ascii_form(c as u8));
         }
         if c == '\u{A5}' {
-            return (Set::Roman, Form::Mapped(Bytes::one(0x5C)));
+            return (EscapeState::Roman, Form::Mapped(Bytes::one(0x5C)));
         }
         if c == '\u{203E}' {
-            return (Set::Roman, Form::Mapped(Bytes::one(0x7E)));
+            return (EscapeState::Roman, Form::Mapped(Bytes::one(0x7E)));
         }
         match self.pointer(c) {
-            Some(pointer) => (Set::Jis, Form::Mapped(pair(pointer))),
+            Some(pointer) => (EscapeState::Jis, Form::Mapped(pair(pointer))),
             None => (ascii_or_roman(set), Form::Unmapped(c)),
         }
     }
 
     #[inline(always)]
-    fn copies_ascii(&self, _set: Set) -> bool {
+    fn copies_ascii(&self, _set: EscapeState) -> bool {
         false
     }
 
     #[inline(always)]
-    fn escape(&self, from: Set, to: Set) -> Bytes {
+    fn escape(&self, from: EscapeState, to: EscapeState) -> Bytes {
         if is_set(from, to) {
             return Bytes::none();
         }
         match to {
-            Set::Ascii => Bytes::three(0x1B, 0x28, 0x42),
-            Set::Roman => Bytes::three(0x1B, 0x28, 0x4A),
-            Set::Jis => Bytes::three(0x1B, 0x24, 0x42),
+            EscapeState::Ascii => Bytes::three(0x1B, 0x28, 0x42),
+            EscapeState::Roman => Bytes::three(0x1B, 0x28, 0x4A),
+            EscapeState::Jis => Bytes::three(0x1B, 0x24, 0x42),
         }
     }
 }
 
 #[inline(always)]
-fn is_set(a: Set, b: Set) -> bool
+fn is_set(a: EscapeState, b: EscapeState) -> bool
     ensures { result ≡ is_set a b }
 {
     match (a, b) {
-        (Set::Ascii, Set::Ascii) | (Set::Roman, Set::Roman) | (Set::Jis, Set::Jis) => true,
+        (EscapeState::Ascii, EscapeState::Ascii)
+        | (EscapeState::Roman, EscapeState::Roman)
+        | (EscapeState::Jis, EscapeState::Jis) => true,
         _ => false,
     }
 }
 
 // The set of a character that may be written in ASCII and in Roman.
 #[inline(always)]
-fn ascii_or_roman(set: Set) -> Set
+fn ascii_or_roman(set: EscapeState) -> EscapeState
     ensures { result ≡ set_after ascii_or_roman set }
 {
     match set {
-        Set::Jis => Set::Ascii,
+        EscapeState::Jis => EscapeState::Ascii,
         set => set,
     }
 }
@@ -146,7 +148,7 @@ fn pair(pointer: u32) -> Bytes
 #[derive(Drop)]
 pub struct Iso2022JpEncoder<'a> {
     target: Iso2022Jp<'a>,
-    set: Set,
+    set: EscapeState,
 }
 
 impl<'a> Iso2022JpEncoder<'a> {
@@ -157,14 +159,14 @@ impl<'a> Iso2022JpEncoder<'a> {
         ensures coding { ⟦<Iso2022JpEncoder<'a> as RawEncoder>⟧.coding result ≡ iso_2022_jp_coding (entries_of tables.now IndexKind.Jis0208) (entries_of tables.now IndexKind.Iso2022JpKatakana) }
         ensures set { ⟦<Iso2022JpEncoder<'a> as RawEncoder>⟧.set result ≡ Ascii }
         ensures need { ⟦<Iso2022JpEncoder<'a> as RawEncoder>⟧.need result ≡ 3 }
-        ensures limits { ⟦<Iso2022JpEncoder<'a> as RawEncoder>⟧.limits result ≡ text_room_iso_2022_jp }
+        ensures limits { ⟦<Iso2022JpEncoder<'a> as RawEncoder>⟧.limits result ≡ encoded_length_iso_2022_jp }
     {
         Iso2022JpEncoder {
             target: Iso2022Jp {
                 jis0208: tables.flat(IndexKind::Jis0208),
                 katakana: tables.flat(IndexKind::Iso2022JpKatakana),
             },
-            set: Set::Ascii,
+            set: EscapeState::Ascii,
         }
     }
 }
@@ -176,7 +178,7 @@ impl<'a> RawEncoder for Iso2022JpEncoder<'a> {
 
     ghost set = { λ e. e.set };
 
-    ghost limits = { λ _. text_room_iso_2022_jp };
+    ghost limits = { λ _. encoded_length_iso_2022_jp };
 
     ghost laws = { λ e. iso_2022_jp_laws e.target.jis0208 e.target.katakana };
 
@@ -202,11 +204,11 @@ impl<'a> RawEncoder for Iso2022JpEncoder<'a> {
         (result, source.read(), written)
     }
 
-    fn room(&self) -> TextRoom {
-        TextRoom::iso_2022_jp()
+    fn room(&self) -> EncodedLength {
+        EncodedLength::iso_2022_jp()
     }
 
     fn has_pending_state(&self) -> bool {
-        !matches!(self.set, Set::Ascii)
+        !matches!(self.set, EscapeState::Ascii)
     }
 }

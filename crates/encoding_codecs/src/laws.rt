@@ -49,8 +49,9 @@ pub fn iso_2022_jp_pointers()
     ensures { Iso2022JpPointerIsLeast }
 {}
 
-/// What Shift_JIS writes for a character, its bytes or its reference, reads back, by the decoder of the same
-/// index, as that character, or begins with a piece that is bad or another character, whatever follows it.
+/// What Shift_JIS writes for a character, its bytes or its reference, reads back, by the decoder of
+/// the same index, as that character, or begins with a piece that is malformed or another
+/// character, whatever follows it.
 pub fn shift_jis_steps()
     ensures { (jis0208 : List ℕ) → AreEntries jis0208
         → StepLaw (shift_jis_coding jis0208) (in_any_set (pieces_shift_jis jis0208)) }

@@ -10,7 +10,7 @@ pub mod iso_2022_jp_decoder;
 pub mod iso_2022_jp_encoder;
 mod jis;
 pub mod laws;
-pub mod lead_rule;
+pub mod lead_byte_rule;
 pub mod shift_jis;
 pub mod stateless;
 pub mod two_byte;

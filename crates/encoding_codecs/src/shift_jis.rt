@@ -1,22 +1,22 @@
 // Shift_JIS (the Encoding Standard, section 12.3).
 
 ghost use Rattle.std.specs.Prelude.{◌≡◌, ◌↔◌, ◌+◌, ◌<◌, true, IsTrue, IfSome};
-ghost use Rattle.encoding_mem.specs.Room.{room_multibyte};
-ghost use Rattle.encoding_mem.specs.TextRoom.{text_room_two_byte};
+ghost use Rattle.encoding_mem.specs.DecodedLength.{decoded_length_multibyte};
+ghost use Rattle.encoding_mem.specs.EncodedLength.{encoded_length_two_byte};
 ghost use Rattle.encoding_tables.specs.IndexLists.{has, entries_of};
 ghost use Rattle.encoding_tables.specs.Lookups.{AreEntries};
 ghost use Rattle.encoding_codecs.specs.ShiftJis.{is_shift_jis_lead, is_trail, shift_jis_pair_pointer, value_of_pointer, shift_jis_rule, pieces_shift_jis, shift_jis_single_byte, shift_jis_pointer, shift_jis_pair_bytes, shift_jis_char_bytes, shift_jis_form, shift_jis_coding};
 ghost use Rattle.encoding_codecs.specs.laws.ShiftJis.{shift_jis_is_two_byte, shift_jis_ascii, shift_jis_laws};
-ghost use Rattle.encoding_mem.specs.declared.form.Set.TheVariants.{Ascii};
+ghost use Rattle.encoding_mem.specs.declared.form.EscapeState.TheVariants.{Ascii};
 
 use crate::jis::{byte_of_katakana, folded, is_katakana, katakana_of_byte};
-use crate::lead_rule::{FirstByte, LeadFront};
+use crate::lead_byte_rule::{FirstByte, LeadByteDecoderRule};
 use crate::stateless::{Forms, Stateless, form_of_bytes};
 use crate::two_byte::{PairValue, Pairs, TwoByte, value_of_entry};
 use encoding_mem::form::{Bytes, Form};
-use encoding_mem::piece_decoder::{Buffered, PieceDecoder};
-use encoding_mem::room::{Room, TextRoom};
+use encoding_mem::room::{DecodedLength, EncodedLength};
 use encoding_mem::sink::Sink;
+use encoding_mem::sink_decoder::{Buffered, SinkDecoder};
 use encoding_mem::{DecoderResult, EncoderResult, RawDecoder, RawEncoder};
 use encoding_tables::{Flat, IndexKind, Tables};
 
@@ -108,11 +108,11 @@ fn value_of_pointer(jis0208: &Flat<'_>, pointer: u32) -> PairValue
 
 // The characters for private use from U+E000 on.
 #[inline(always)]
-fn private_use(place: u32) -> char
-    requires { place < 6400 }
-    ensures { result ≡ 0xE000 + place }
+fn private_use(offset: u32) -> char
+    requires { offset < 6400 }
+    ensures { result ≡ 0xE000 + offset }
 {
-    char::from_u32(0xE000 + place).unwrap()
+    char::from_u32(0xE000 + offset).unwrap()
 }
 
 // The bytes of a character.
@@ -173,13 +173,14 @@ fn bytes_of_pointer(pointer: u32) -> Bytes
     Bytes::two((row + lead_offset) as u8, (cell + trail_offset) as u8)
 }
 
-/// Decodes Shift_JIS: 00 to 7F give themselves, 80 gives U+0080, A1 to DF give halfwidth katakana. A lead
-/// (81 to 9F, E0 to FC) and a trail (40 to 7E, 80 to FC) give the entry of jis0208 at their pointer, or,
-/// for the pointers 8836 to 10715, a character for private use. A lead is bad alone at the end and before
-/// ASCII with which it gives nothing; with another byte both are bad.
+/// Decodes Shift_JIS: 00 to 7F give themselves, 80 gives U+0080, A1 to DF give halfwidth katakana.
+/// A lead (81 to 9F, E0 to FC) and a trail (40 to 7E, 80 to FC) give the entry of jis0208 at their
+/// pointer, or, for the pointers 8836 to 10715, a character for private use. A lead is malformed
+/// alone at the end and before ASCII with which it gives nothing; with another byte both are
+/// malformed.
 #[derive(Drop)]
 pub struct ShiftJisDecoder<'a> {
-    inner: Buffered<LeadFront<Pairs<ShiftJis<'a>>>>,
+    inner: Buffered<LeadByteDecoderRule<Pairs<ShiftJis<'a>>>>,
 }
 
 impl<'a> ShiftJisDecoder<'a> {
@@ -188,10 +189,10 @@ impl<'a> ShiftJisDecoder<'a> {
         requires { has tables.now IndexKind.Jis0208 ≡ true }
         ensures pending { (⟦<ShiftJisDecoder<'a> as RawDecoder>⟧.state result).pending ≡ 0 }
         ensures pieces { (⟦<ShiftJisDecoder<'a> as RawDecoder>⟧.state result).pieces ≡ pieces_shift_jis (entries_of tables.now IndexKind.Jis0208) }
-        ensures room { (⟦<ShiftJisDecoder<'a> as RawDecoder>⟧.state result).room ≡ room_multibyte }
+        ensures room { (⟦<ShiftJisDecoder<'a> as RawDecoder>⟧.state result).room ≡ decoded_length_multibyte }
     {
         ShiftJisDecoder {
-            inner: Buffered::new(LeadFront::new(Pairs::new(index_of(tables)))),
+            inner: Buffered::new(LeadByteDecoderRule::new(Pairs::new(index_of(tables)))),
         }
     }
 
@@ -203,8 +204,8 @@ impl<'a> ShiftJisDecoder<'a> {
     }
 }
 
-impl<'a> PieceDecoder for ShiftJisDecoder<'a> {
-    ghost state = { λ d. ⟦<Buffered<LeadFront<Pairs<ShiftJis<'a>>>> as PieceDecoder>⟧.state d.inner };
+impl<'a> SinkDecoder for ShiftJisDecoder<'a> {
+    ghost state = { λ d. ⟦<Buffered<LeadByteDecoderRule<Pairs<ShiftJis<'a>>>> as SinkDecoder>⟧.state d.inner };
 
     #[inline(always)]
     fn decode_into<S: Sink>(
@@ -220,7 +221,7 @@ impl<'a> PieceDecoder for ShiftJisDecoder<'a> {
         self.inner.held_len()
     }
 
-    fn room(&self) -> Room {
+    fn room(&self) -> DecodedLength {
         self.inner.room()
     }
 }
@@ -240,7 +241,7 @@ impl<'a> ShiftJisEncoder<'a> {
         ensures coding { ⟦<ShiftJisEncoder<'a> as RawEncoder>⟧.coding result ≡ shift_jis_coding (entries_of tables.now IndexKind.Jis0208) }
         ensures set { ⟦<ShiftJisEncoder<'a> as RawEncoder>⟧.set result ≡ Ascii }
         ensures need { ⟦<ShiftJisEncoder<'a> as RawEncoder>⟧.need result ≡ 2 }
-        ensures limits { ⟦<ShiftJisEncoder<'a> as RawEncoder>⟧.limits result ≡ text_room_two_byte }
+        ensures limits { ⟦<ShiftJisEncoder<'a> as RawEncoder>⟧.limits result ≡ encoded_length_two_byte }
     {
         ShiftJisEncoder {
             inner: Stateless::new(index_of(tables)),
@@ -277,7 +278,7 @@ impl<'a> RawEncoder for ShiftJisEncoder<'a> {
         self.inner.encode_from_utf16_raw(src, dst, last)
     }
 
-    fn room(&self) -> TextRoom {
+    fn room(&self) -> EncodedLength {
         self.inner.room()
     }
 

@@ -3,16 +3,16 @@
 ghost use Rattle.std.specs.Prelude.{◌≡◌, ℕ, ◌<◌, [], ◌∷◌};
 ghost use Rattle.encoding_mem.specs.Coding.{IsCoding};
 ghost use Rattle.encoding_mem.specs.Stateless.{stateless};
-ghost use Rattle.encoding_mem.specs.TextRoom.{text_room_two_byte};
+ghost use Rattle.encoding_mem.specs.EncodedLength.{encoded_length_two_byte};
 ghost use Rattle.encoding_codecs.specs.Pointers.{form_of_bytes};
-ghost use Rattle.encoding_codecs.specs.laws.TextRooms.{two_byte_fits};
+ghost use Rattle.encoding_codecs.specs.laws.EncodedLengths.{two_byte_fits};
 ghost use Rattle.encoding_mem.specs.declared.form.Form.{Form};
 ghost use Rattle.encoding_mem.specs.declared.form.Form.TheVariants.{Mapped};
-ghost use Rattle.encoding_mem.specs.declared.form.Set.TheVariants.{Ascii};
+ghost use Rattle.encoding_mem.specs.declared.form.EscapeState.TheVariants.{Ascii};
 
-use encoding_mem::encode::{Target, encode};
-use encoding_mem::form::{Bytes, Form, Set};
-use encoding_mem::room::TextRoom;
+use encoding_mem::encode::{EncoderRule, encode};
+use encoding_mem::form::{Bytes, EscapeState, Form};
+use encoding_mem::room::EncodedLength;
 use encoding_mem::source::{Source, Utf8Source, Utf16Source};
 use encoding_mem::{EncoderResult, RawEncoder};
 
@@ -44,29 +44,29 @@ impl<T: Forms> Stateless<T> {
     }
 }
 
-impl<T: Forms> Target for Stateless<T> {
+impl<T: Forms> EncoderRule for Stateless<T> {
     ghost need = { λ _. 2 };
 
     ghost coding = { λ s. stateless (T.form s.forms) };
 
-    ghost limits = { λ _. text_room_two_byte };
+    ghost limits = { λ _. encoded_length_two_byte };
 
     ghost laws = { λ s. T.coding s.forms };
 
     ghost fits = { λ s. two_byte_fits (T.form s.forms) (T.coding s.forms) (T.ascii s.forms) };
 
     #[inline(always)]
-    fn step(&self, _set: Set, c: char) -> (Set, Form) {
-        (Set::Ascii, self.forms.form_of(c))
+    fn step(&self, _set: EscapeState, c: char) -> (EscapeState, Form) {
+        (EscapeState::Ascii, self.forms.form_of(c))
     }
 
     #[inline(always)]
-    fn copies_ascii(&self, set: Set) -> bool {
-        matches!(set, Set::Ascii)
+    fn copies_ascii(&self, set: EscapeState) -> bool {
+        matches!(set, EscapeState::Ascii)
     }
 
     #[inline(always)]
-    fn escape(&self, _from: Set, _to: Set) -> Bytes {
+    fn escape(&self, _from: EscapeState, _to: EscapeState) -> Bytes {
         Bytes::none()
     }
 }
@@ -78,7 +78,7 @@ impl<T: Forms> RawEncoder for Stateless<T> {
 
     ghost set = { λ _. Ascii };
 
-    ghost limits = { λ _. text_room_two_byte };
+    ghost limits = { λ _. encoded_length_two_byte };
 
     ghost laws = { λ s. T.coding s.forms };
 
@@ -89,7 +89,7 @@ impl<T: Forms> RawEncoder for Stateless<T> {
         last: bool,
     ) -> (EncoderResult, usize, usize) {
         let mut source = Utf8Source::new(src);
-        let mut set = Set::Ascii;
+        let mut set = EscapeState::Ascii;
         let (result, written) = encode(self, &mut set, &mut source, dst, last);
         (result, source.read(), written)
     }
@@ -101,13 +101,13 @@ impl<T: Forms> RawEncoder for Stateless<T> {
         last: bool,
     ) -> (EncoderResult, usize, usize) {
         let mut source = Utf16Source::new(src);
-        let mut set = Set::Ascii;
+        let mut set = EscapeState::Ascii;
         let (result, written) = encode(self, &mut set, &mut source, dst, last);
         (result, source.read(), written)
     }
 
-    fn room(&self) -> TextRoom {
-        TextRoom::two_byte()
+    fn room(&self) -> EncodedLength {
+        EncodedLength::two_byte()
     }
 
     fn has_pending_state(&self) -> bool {

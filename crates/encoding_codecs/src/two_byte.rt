@@ -7,8 +7,8 @@ ghost use Rattle.encoding_codecs.specs.laws.TwoByteDecide.{decide_trail, decide_
 ghost use Rattle.encoding_codecs.specs.laws.TwoByte.{two_byte_rule};
 ghost use Rattle.encoding_codecs.specs.Pointers.{value_of_entry};
 
-use crate::lead_rule::{FirstByte, LeadRule};
-use encoding_mem::front::Front;
+use crate::lead_byte_rule::{FirstByte, LeadByteRule};
+use encoding_mem::first_piece::FirstPiece;
 
 /// What a lead and a trail give.
 #[derive(Clone, Copy)]
@@ -49,7 +49,7 @@ impl<T: TwoByte> Pairs<T> {
     }
 }
 
-impl<T: TwoByte> LeadRule for Pairs<T> {
+impl<T: TwoByte> LeadByteRule for Pairs<T> {
     ghost first_byte = { λ s. (T.rule s.encoding).first };
 
     ghost after = { λ s a. after_bytes 1 ((T.rule s.encoding).pair a) };
@@ -64,7 +64,7 @@ impl<T: TwoByte> LeadRule for Pairs<T> {
     }
 
     #[inline(always)]
-    fn after_lead(&self, lead: u8, rest: &[u8], last: bool) -> Front {
+    fn after_lead(&self, lead: u8, rest: &[u8], last: bool) -> FirstPiece {
         match rest {
             [] => cut_short(1, last),
             [second, ..] => decide_trail(1, self.encoding.pair(lead, *second), *second),
@@ -74,28 +74,28 @@ impl<T: TwoByte> LeadRule for Pairs<T> {
 
 /// What `before` bytes give that want a trail, where there are no more bytes.
 #[inline(always)]
-pub(crate) fn cut_short(before: usize, last: bool) -> Front
+pub(crate) fn cut_short(before: usize, last: bool) -> FirstPiece
     ensures { result ≡ cut_short before last }
 {
     if last {
-        Front::Bad(before)
+        FirstPiece::Malformed(before)
     } else {
-        Front::More
+        FirstPiece::More
     }
 }
 
-/// What `before` bytes that want a trail give with this byte. Where together they have no value, it is
-/// left unread if it is ASCII, and is bad with them otherwise.
+/// What `before` bytes that want a trail give with this byte. Where together they have no value, it
+/// is left unread if it is ASCII, and is malformed with them otherwise.
 #[inline(always)]
-pub(crate) fn decide_trail(before: usize, value: PairValue, trail: u8) -> Front
+pub(crate) fn decide_trail(before: usize, value: PairValue, trail: u8) -> FirstPiece
     requires { before ≤ 3 }
     ensures { result ≡ decide_trail before value trail }
 {
     match value {
-        PairValue::NoChar if trail < 0x80 => Front::Bad(before),
-        PairValue::NoChar => Front::Bad(before + 1),
-        PairValue::OneChar(c) => Front::One(c, before + 1),
-        PairValue::TwoChars(c, d) => Front::Two(c, d, before + 1),
+        PairValue::NoChar if trail < 0x80 => FirstPiece::Malformed(before),
+        PairValue::NoChar => FirstPiece::Malformed(before + 1),
+        PairValue::OneChar(c) => FirstPiece::One(c, before + 1),
+        PairValue::TwoChars(c, d) => FirstPiece::Two(c, d, before + 1),
     }
 }
 

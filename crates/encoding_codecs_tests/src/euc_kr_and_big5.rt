@@ -1,4 +1,4 @@
-// The two-byte codecs over small indexes, with answers worked by hand.
+// The two-byte codecs over small indexes, with results worked by hand.
 
 use crate::streams::{MARK, decode_bytes, decode_units, insert, insert_rows};
 use encoding_codecs::{Big5Decoder, Big5Encoder, EucKrDecoder, EucKrEncoder};
@@ -68,9 +68,10 @@ fn euc_kr_at_every_cut(rt: HostRuntime) -> Result<(), Fail> {
     Ok(())
 }
 
-// Where the bad piece is: it ends as many bytes before the end of what was read as the answer says.
+// Where the malformed sequence is: it ends as many bytes before the end of what was read as the
+// result says.
 #[test]
-fn a_lead_before_ascii_is_bad_at_its_place(rt: HostRuntime) -> Result<(), Fail> {
+fn a_lead_before_ascii_is_malformed_at_its_offset(rt: HostRuntime) -> Result<(), Fail> {
     let tables = euc_kr(rt.alloc())?;
     assert!(rt; tables.has(IndexKind::EucKr));
     let mut decoder = EucKrDecoder::new(&tables);
@@ -103,7 +104,7 @@ fn a_lead_is_pending(rt: HostRuntime) -> Result<(), Fail> {
     assert_eq!(rt; answer, (DecoderResult::InputEmpty, 1, 0));
     assert_eq!(rt; decoder.pending_len(), 1);
     assert!(rt; !decoder.in_neutral_state());
-    // the lead alone is bad; what is read behind it is pending
+    // the lead alone is malformed; what is read behind it is pending
     let src = [0x41, 0xB0];
     let (outcome, read, written) = decoder.decode_to_utf8_raw(&src, &mut dst, false);
     assert!(rt; matches!(outcome, DecoderResult::Malformed(1, _)));

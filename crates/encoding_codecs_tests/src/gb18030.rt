@@ -1,4 +1,4 @@
-// gb18030 and GBK over small tables, with answers worked by hand.
+// gb18030 and GBK over small tables, with results worked by hand.
 
 use crate::streams::{MARK, decode_bytes, decode_units, insert};
 use encoding_codecs::{Gb18030Decoder, Gb18030Encoder};

@@ -1,4 +1,4 @@
-// ISO-2022-JP over small lists, with answers worked by hand.
+// ISO-2022-JP over small lists, with results worked by hand.
 
 use encoding_codecs::{Iso2022JpDecoder, Iso2022JpEncoder};
 use encoding_mem::{DecoderResult, EncoderResult, RawDecoder, RawEncoder};
@@ -19,7 +19,7 @@ fn tables(alloc: Global) -> Tables {
     tables
 }
 
-// Stands in a log for a bad piece, with its length and the place where it ends behind it.
+// Stands in a log for a malformed sequence, with its length and the offset where it ends behind it.
 const MARK: u8 = 0xFF;
 
 const UNIT_MARK: u16 = 0xFFFF;
@@ -80,8 +80,8 @@ const ROWS: [(&[u8], &[u8], &[u16]); 10] = [
     ),
 ];
 
-// Decodes into 4 bytes at a time, from a place of an input on, and appends what is written, and each bad
-// piece, to the log.
+// Decodes into 4 bytes at a time, from an offset of an input on, and appends what is written, and
+// each malformed sequence, to the log.
 fn decode_part(
     decoder: &mut Iso2022JpDecoder<'_>,
     src: &[u8],
@@ -90,18 +90,18 @@ fn decode_part(
     log: &mut Vec<u8>,
 ) -> Result<(), AllocError> {
     let mut rest = src;
-    let mut place = from;
+    let mut offset = from;
     for _ in 0..20 {
         let mut room = [0; 4];
         let (outcome, read, written) = decoder.decode_to_utf8_raw(rest, &mut room, last);
         log.extend_from_slice(&room[..written])?;
         rest = &rest[read..];
-        place = place.wrapping_add(read);
+        offset = offset.wrapping_add(read);
         match outcome {
             DecoderResult::InputEmpty => return Ok(()),
             DecoderResult::OutputFull => {}
             DecoderResult::Malformed(size, behind) => {
-                let end = place.wrapping_sub(behind as usize);
+                let end = offset.wrapping_sub(behind as usize);
                 log.extend_from_slice(&[MARK, size, (end % 256) as u8])?;
             }
         }
@@ -118,18 +118,18 @@ fn decode_part_to_units(
     log: &mut Vec<u16>,
 ) -> Result<(), AllocError> {
     let mut rest = src;
-    let mut place = from;
+    let mut offset = from;
     for _ in 0..20 {
         let mut room = [0; 2];
         let (outcome, read, written) = decoder.decode_to_utf16_raw(rest, &mut room, last);
         log.extend_from_slice(&room[..written])?;
         rest = &rest[read..];
-        place = place.wrapping_add(read);
+        offset = offset.wrapping_add(read);
         match outcome {
             DecoderResult::InputEmpty => return Ok(()),
             DecoderResult::OutputFull => {}
             DecoderResult::Malformed(size, behind) => {
-                let end = place.wrapping_sub(behind as usize);
+                let end = offset.wrapping_sub(behind as usize);
                 log.extend_from_slice(&[UNIT_MARK, size as u16, (end % 256) as u16])?;
             }
         }
@@ -193,7 +193,7 @@ fn a_whole_escape_is_pending(rt: HostRuntime) {
 }
 
 #[test]
-fn an_escape_is_bad_after_its_second_is_whole(rt: HostRuntime) {
+fn an_escape_is_malformed_after_its_second_is_whole(rt: HostRuntime) {
     let tables = tables(rt.alloc());
     assert!(rt; tables.has(IndexKind::Jis0208));
     let mut decoder = Iso2022JpDecoder::new(&tables);

@@ -1,4 +1,4 @@
-// Shift_JIS and EUC-JP over small lists, with answers worked by hand.
+// Shift_JIS and EUC-JP over small lists, with results worked by hand.
 
 use crate::streams::{MARK, decode_bytes, decode_units, insert};
 use encoding_codecs::{EucJpDecoder, EucJpEncoder, ShiftJisDecoder, ShiftJisEncoder};
@@ -163,7 +163,7 @@ fn one_byte_a_call_of_euc_jp(rt: HostRuntime) -> Result<(), Fail> {
         assert_eq!(rt; decoder.pending_len(), i + 1);
         assert!(rt; !decoder.in_neutral_state());
     }
-    // the third byte is read, and is pending behind the bad piece
+    // the third byte is read, and is pending behind the malformed sequence
     let answer = decoder.decode_to_utf16_raw(&[0x41, 0x8E, 0xB1], &mut units, true);
     assert_eq!(rt; answer, (DecoderResult::Malformed(2, 1), 1, 0));
     let answer = decoder.decode_to_utf16_raw(&[0x8E, 0xB1], &mut units, true);

@@ -13,8 +13,8 @@ pub(crate) fn insert(
 ) -> Result<(), AllocError> {
     let mut flat = std::vec![in alloc; 0; kind.size()]?;
     for (pointer, entry) in entries {
-        if let Some(place) = flat.get_mut(*pointer) {
-            *place = *entry;
+        if let Some(offset) = flat.get_mut(*pointer) {
+            *offset = *entry;
         }
     }
     if !kind.is_ranges() {
@@ -37,11 +37,11 @@ pub(crate) fn insert_rows(tables: &mut Tables, kind: IndexKind, rows: &[(u32, u3
     let _ = tables.insert_rows(kind, rows);
 }
 
-// Stands in a log for a bad piece, with its length behind it.
+// Stands in a log for a malformed sequence, with its length behind it.
 pub(crate) const MARK: u16 = 0xFFFF;
 
-// Decodes to UTF-8 by calls with this room, and appends what is written, and each bad piece, to the log.
-// Answers how many calls had too little room.
+// Decodes to UTF-8 by calls with this room, and appends what is written, and each malformed
+// sequence, to the log. Returns how many calls had too little room.
 pub(crate) fn decode_bytes<D: RawDecoder>(
     decoder: &mut D,
     src: &[u8],
@@ -89,8 +89,8 @@ pub(crate) fn decode_units<D: RawDecoder>(
     Ok(full)
 }
 
-// Encodes a text by calls with this room, and appends to the log what is written, and the reference of each
-// character without bytes. Answers how many calls had too little room.
+// Encodes a text by calls with this room, and appends to the log what is written, and the reference
+// of each character without bytes. Returns how many calls had too little room.
 pub(crate) fn encode_text<E: RawEncoder>(
     encoder: &mut E,
     text: &str,
@@ -141,8 +141,8 @@ fn append_reference(c: char, log: &mut Vec<u8>) -> Result<(), AllocError> {
     log.extend_from_slice(b"&#")?;
     let number = u32::from(c);
     let places = [1_000_000, 100_000, 10_000, 1000, 100, 10, 1];
-    for place in places.into_iter().filter(|place| *place <= number) {
-        let digit = number.checked_div(place).unwrap_or(0) % 10;
+    for offset in places.into_iter().filter(|offset| *offset <= number) {
+        let digit = number.checked_div(offset).unwrap_or(0) % 10;
         log.push((0x30 + digit) as u8)?;
     }
     log.push(b';')?;

@@ -3,25 +3,25 @@ use Rattle.std.specs.Prelude.{◌≡◌, ℕ, ◌+◌, ◌-◌, ◌<◌, ◌≤�
 use Rattle.std.specs.Bool.{MatchBool}
 use Rattle.encoding_mem.specs.Coding.{Coding, IsMapped, last_set, lost_count, open_from, reference, spelled, whole_from}
 use Rattle.encoding_mem.specs.Encoding.{EncodeEndsWith, Continues, Encodes, Writes}
-use Rattle.encoding_mem.specs.Room.{checked, line_at}
-use Rattle.encoding_mem.specs.Target.{Moves}
-use Rattle.encoding_mem.specs.TextRoom.{line_for}
+use Rattle.encoding_mem.specs.DecodedLength.{checked, bound_at}
+use Rattle.encoding_mem.specs.EncoderRule.{Moves}
+use Rattle.encoding_mem.specs.EncodedLength.{bound_for}
 use Rattle.encoding_mem.specs.declared.encoder_result.EncoderResult.{EncoderResult}
-use Rattle.encoding_mem.specs.declared.form.Set.{Set}
-use Rattle.encoding_mem.specs.declared.form.Set.TheVariants.{Ascii}
-use Rattle.encoding_mem.specs.declared.room.TextRoom.{TextRoom}
+use Rattle.encoding_mem.specs.declared.form.EscapeState.{EscapeState}
+use Rattle.encoding_mem.specs.declared.form.EscapeState.TheVariants.{Ascii}
+use Rattle.encoding_mem.specs.declared.room.EncodedLength.{EncodedLength}
 use Rattle.encoding_tables.specs.IndexLists.{IndexLists}
-use Rattle.encoding_front.specs.EncodingTable.{scheme_of}
-use Rattle.encoding_front.specs.Encodings.{coding_of, need_of, output_encoding_of, text_room_of}
+use Rattle.encoding_front.specs.EncodingTable.{codec_kind_of}
+use Rattle.encoding_front.specs.Encodings.{coding_of, need_of, output_encoding_of, encoded_length_of}
 use Rattle.encoding_front.specs.declared.coder_result.CoderResult.{CoderResult}
 use Rattle.encoding_front.specs.declared.encoding.Encoding.{Encoding}
-use Rattle.encoding_front.specs.declared.scheme.Scheme.{Scheme}
+use Rattle.encoding_front.specs.declared.codec_kind.CodecKind.{CodecKind}
 
 -- the indexes that it reads, its output encoding, and the set in force
 pub record EncoderState : Type 0 where
   pub tables : IndexLists
   pub encoding : Encoding
-  pub set : Set
+  pub set : EscapeState
 
 abbrev pub coding_in : EncoderState → Coding
 coding_in x = coding_of x.tables x.encoding
@@ -31,10 +31,10 @@ abbrev pub new_state : IndexLists → Encoding → EncoderState
 new_state t e = record { tables = t; encoding = output_encoding_of e; set = Ascii }
 
 -- what an encoder of this encoding does is what its parts do
-pub record IsEncoderOf (t : IndexLists) (e : Encoding) (coding : Coding) (need : ℕ) (limits : TextRoom) : Type 0 where
+pub record IsEncoderOf (t : IndexLists) (e : Encoding) (coding : Coding) (need : ℕ) (limits : EncodedLength) : Type 0 where
   pub codes : coding ≡ coding_of t e
   pub needs : need ≡ need_of e
-  pub limited : limits ≡ text_room_of e
+  pub limited : limits ≡ encoded_length_of e
 
 -- A call without replacement on a text, of an encoder that was x and is x': room is what is free behind what is
 -- written.
@@ -47,16 +47,16 @@ pub record Encoded (x : EncoderState) (last : Bool) (answer : EncoderResult) (te
 
 -- The bytes that are kept back for a reference, of which the longest is `&#1114111;`: none where each character has
 -- bytes.
-abbrev pub kept_by_scheme : Scheme → ℕ
-kept_by_scheme Scheme.Utf8 = 0
-kept_by_scheme _ = 10
+abbrev pub kept_by_codec_kind : CodecKind → ℕ
+kept_by_codec_kind CodecKind.Utf8 = 0
+kept_by_codec_kind _ = 10
 
 abbrev pub kept_back : Encoding → ℕ
-kept_back e = kept_by_scheme (scheme_of (output_encoding_of e))
+kept_back e = kept_by_codec_kind (codec_kind_of (output_encoding_of e))
 
 -- the room that is enough for so many bytes or units, without references, and with the bytes that are kept back
 abbrev pub room_for : Encoding → (is_units : Bool) → ℕ → ℕ
-room_for e is_units n = line_at (line_for (text_room_of e) is_units) n
+room_for e is_units n = bound_at (bound_for (encoded_length_of e) is_units) n
 
 abbrev pub queried_room : Encoding → (is_units : Bool) → ℕ → Option ℕ
 queried_room e is_units n = checked (room_for e is_units n)
@@ -65,17 +65,17 @@ abbrev pub queried_with_kept : Encoding → (is_units : Bool) → ℕ → Option
 queried_with_kept e is_units n = checked (room_for e is_units n + kept_back e)
 
 -- How a call with replacement ends: whether something is left to do.
-abbrev pub ReplacingEndsWith : Bool → CoderResult → Set → List ℕ → Type 0
+abbrev pub ReplacingEndsWith : Bool → CoderResult → EscapeState → List ℕ → Type 0
 ReplacingEndsWith last CoderResult.InputEmpty s rest = (rest ≡ []) × (last ≡ true → s ≡ Ascii)
 ReplacingEndsWith last CoderResult.OutputFull s rest = (0 < length rest) ⊎ ((last ≡ true) × (s ≢ Ascii))
 
--- What is written for a text ends with a reference that begins at a place or before it.
-pub record EndsWithReference (e : Coding) (s : Set) (front written : List ℕ) (end : ℕ) : Type 0 where
+-- What is written for a text ends with a reference that begins at an offset or before it.
+pub record EndsWithReference (e : Coding) (s : EscapeState) (prefix written : List ℕ) (end : ℕ) : Type 0 where
   pub before : List ℕ
   pub lost : ℕ
-  pub is : front ≡ before ++ lost ∷ []
+  pub is : prefix ≡ before ++ lost ∷ []
   pub unmapped : ¬ (IsMapped (e.form lost))
-  pub whole : written ≡ open_from e s front
+  pub whole : written ≡ open_from e s prefix
   pub begins : length written ≤ end + length (spelled (e.form lost))
 
 -- A call with replacement on a text, into size bytes, the last of which are kept back: what is written has the
@@ -83,19 +83,19 @@ pub record EndsWithReference (e : Coding) (s : Set) (front written : List ℕ) (
 -- or where they begin, nothing more is read or written.
 pub record Replaces (x : EncoderState) (last : Bool) (outcome : CoderResult) (text written : List ℕ) (x' : EncoderState) (rest : List ℕ) (lost : Bool) (size : ℕ) : Type 0 where
   pub same : x' ≡ record x { set = x'.set }
-  pub front : List ℕ
-  pub split : text ≡ front ++ rest
+  pub prefix : List ℕ
+  pub split : text ≡ prefix ++ rest
   pub bytes : MatchBool last (whole_from (coding_in x) x.set text ≡ written ++ whole_from (coding_in x) x'.set rest)
       (Continues (coding_in x) x.set text written x'.set rest)
   pub sets : last ≡ false → last_set (coding_in x) x.set text ≡ last_set (coding_in x) x'.set rest
   pub moves : Moves (coding_in x) x.set x'.set
-  pub told : IsTrue lost ↔ (0 < lost_count (coding_in x) front)
+  pub told : IsTrue lost ↔ (0 < lost_count (coding_in x) prefix)
   pub ends : ReplacingEndsWith last outcome x'.set rest
   pub full : outcome ≡ CoderResult.OutputFull → size - kept_back x.encoding - length written < need_of x.encoding
-  pub kept : size - kept_back x.encoding < length written → EndsWithReference (coding_in x) x.set front written (size - kept_back x.encoding)
-  pub few : size < kept_back x.encoding → (front ≡ []) × (written ≡ [])
-  pub stops : (before : List ℕ) (c : ℕ) (after : List ℕ) → front ≡ before ++ c ∷ after → ¬ (IsMapped ((coding_in x).form c))
-      → size - kept_back x.encoding ≤ length (open_from (coding_in x) x.set (before ++ c ∷ [])) → (after ≡ []) × (written ≡ open_from (coding_in x) x.set front)
+  pub kept : size - kept_back x.encoding < length written → EndsWithReference (coding_in x) x.set prefix written (size - kept_back x.encoding)
+  pub few : size < kept_back x.encoding → (prefix ≡ []) × (written ≡ [])
+  pub stops : (before : List ℕ) (c : ℕ) (after : List ℕ) → prefix ≡ before ++ c ∷ after → ¬ (IsMapped ((coding_in x).form c))
+      → size - kept_back x.encoding ≤ length (open_from (coding_in x) x.set (before ++ c ∷ [])) → (after ≡ []) × (written ≡ open_from (coding_in x) x.set prefix)
 
 -- what a call without replacement asks its caller to write
 abbrev pub referred : EncoderResult → List ℕ

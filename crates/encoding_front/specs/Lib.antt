@@ -3,7 +3,7 @@ pub mod EncodingTable
 pub mod Encodings
 pub mod Marks
 pub mod Seeking
-pub mod MarkedState
+pub mod BomDecoderState
 pub mod TakesMark
 pub mod Latin1Prefix
 pub mod Stream

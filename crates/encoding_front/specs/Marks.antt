@@ -1,7 +1,7 @@
--- Byte order marks: which one is taken from the front of an input, in which encoding what follows it is then, and the
+-- Byte order marks: which one is taken from the prefix of an input, in which encoding what follows it is then, and the
 -- pieces of both (the Encoding Standard, section 6, "decode", "UTF-8 decode" and "UTF-8 decode without BOM").
 use Rattle.std.specs.Prelude.{◌≡◌, ℕ, zero, suc, ◌==◌, Bool, true, false, Option, None, Some, List, [], ◌∷◌, ◌++◌, drop, filter, refl}
-use Rattle.encoding_mem.specs.Piece.{Piece, good, text}
+use Rattle.encoding_mem.specs.Piece.{Piece, well_formed, text}
 use Rattle.encoding_tables.specs.IndexLists.{IndexLists}
 use Rattle.encoding_front.specs.EncodingTable.{number_of}
 use Rattle.encoding_front.specs.Encodings.{byte_order_marks, first_mark, pieces_of}
@@ -29,7 +29,7 @@ source_of mark e x = source_or e (first_mark (marks_taken mark e) x)
 -- a mark of n bytes is a piece with no text
 abbrev pub mark_piece : ℕ → List Piece
 mark_piece zero = []
-mark_piece (suc n) = good (suc n) [] ∷ []
+mark_piece (suc n) = well_formed (suc n) [] ∷ []
 
 -- the pieces of a whole input
 abbrev pub pieces_from : IndexLists → Encoding × ℕ → List ℕ → List Piece

@@ -1,19 +1,19 @@
 -- A look for a byte order mark, and the state of a decoder that looks for one.
 use Rattle.std.specs.Prelude.{ℕ, ◌+◌, ◌-◌, ◌==◌, ◌&&◌, ◌||◌, Bool, true, false, List, [], ◌∷◌, length, drop, if◌then◌else◌, max, Option, Some}
-use Rattle.encoding_mem.specs.Piece.{Piece, good}
-use Rattle.encoding_mem.specs.Room.{room_of, room_utf8, room_utf16, of_bytes, line}
+use Rattle.encoding_mem.specs.Piece.{Piece, well_formed}
+use Rattle.encoding_mem.specs.DecodedLength.{decoded_length, decoded_length_utf8, decoded_length_utf16, of_bytes, line}
 use Rattle.encoding_mem.specs.Utf8.{pieces_utf8}
-use Rattle.encoding_mem.specs.declared.room.Count.{Count}
-use Rattle.encoding_mem.specs.declared.room.Room.{Room}
+use Rattle.encoding_mem.specs.declared.room.OutputUnit.{OutputUnit}
+use Rattle.encoding_mem.specs.declared.room.DecodedLength.{DecodedLength}
 use Rattle.encoding_tables.specs.Utf16.{pieces_utf16}
 use Rattle.encoding_front.specs.Marks.{takes_mark_of}
 use Rattle.encoding_front.specs.declared.encoding.Encoding.{Encoding}
 use Rattle.encoding_front.specs.declared.mark.Mark.{Mark}
 use Rattle.encoding_front.specs.declared.seeking.ByteOrderMark.{ByteOrderMark}
 use Rattle.encoding_front.specs.declared.seeking.ByteOrderMark.TheVariants.{Utf8, Utf16Be, Utf16Le}
-use Rattle.encoding_front.specs.declared.seeking.Sought.{Sought}
-use Rattle.encoding_front.specs.declared.seeking.Seen.{Seen}
-use Rattle.encoding_front.specs.declared.seeking.Seen.TheVariants.{Front, Whole, Other}
+use Rattle.encoding_front.specs.declared.seeking.BomSet.{BomSet}
+use Rattle.encoding_front.specs.declared.seeking.BomMatch.{BomMatch}
+use Rattle.encoding_front.specs.declared.seeking.BomMatch.TheVariants.{Prefix, Whole, Other}
 
 -- of each mark its encoding, how many bytes it has, the first of them, and the pieces and the room of what follows it
 abbrev pub encoding_of_mark : ByteOrderMark → Encoding
@@ -36,75 +36,75 @@ pieces_after Utf8 = pieces_utf8
 pieces_after Utf16Be = pieces_utf16 true
 pieces_after Utf16Le = pieces_utf16 false
 
-abbrev pub room_after : ByteOrderMark → Room
-room_after Utf8 = room_utf8
-room_after Utf16Be = room_utf16
-room_after Utf16Le = room_utf16
+abbrev pub room_after : ByteOrderMark → DecodedLength
+room_after Utf8 = decoded_length_utf8
+room_after Utf16Be = decoded_length_utf16
+room_after Utf16Le = decoded_length_utf16
 
 -- the marks that would be taken
-abbrev pub sought_by : Mark → Encoding → Sought
+abbrev pub sought_by : Mark → Encoding → BomSet
 sought_by mark e = record {
   utf8 = takes_mark_of mark e Encoding.Utf8;
   utf16_be = takes_mark_of mark e Encoding.Utf16Be;
   utf16_le = takes_mark_of mark e Encoding.Utf16Le;
 }
 
-abbrev pub nothing_sought : Sought
+abbrev pub nothing_sought : BomSet
 nothing_sought = record { utf8 = false; utf16_be = false; utf16_le = false }
 
-abbrev pub is_sought : Sought → Bool
+abbrev pub is_sought : BomSet → Bool
 is_sought s = (s.utf8 || s.utf16_be) || s.utf16_le
 
-abbrev pub seeks : Sought → ByteOrderMark → Bool
+abbrev pub seeks : BomSet → ByteOrderMark → Bool
 seeks s Utf8 = s.utf8
 seeks s Utf16Be = s.utf16_be
 seeks s Utf16Le = s.utf16_le
 
 -- what some bytes show of them
-abbrev pub find_end : (byte : ℕ) → ByteOrderMark → List ℕ → Seen
-find_end byte mark [] = Front
+abbrev pub find_end : (byte : ℕ) → ByteOrderMark → List ℕ → BomMatch
+find_end byte mark [] = Prefix
 find_end byte mark (c ∷ x) = if c == byte then Whole mark else Other
 
-abbrev pub find_second : List ℕ → Seen
-find_second [] = Front
+abbrev pub find_second : List ℕ → BomMatch
+find_second [] = Prefix
 find_second (b ∷ x) = if b == 0xBB then find_end 0xBF Utf8 x else Other
 
-abbrev pub find_mark : Sought → List ℕ → Seen
-find_mark s [] = Front
+abbrev pub find_mark : BomSet → List ℕ → BomMatch
+find_mark s [] = Prefix
 find_mark s (a ∷ x) = if (a == 0xEF) && s.utf8 then find_second x
     else (if (a == 0xFE) && s.utf16_be then find_end 0xFF Utf16Be x
     else (if (a == 0xFF) && s.utf16_le then find_end 0xFE Utf16Le x else Other))
 
 -- the pieces of an input that may begin with one of them, where own are those of one that doesn't
-abbrev pub pieces_seen : (own : List ℕ → List Piece) → List ℕ → Seen → List Piece
-pieces_seen own x Front = own x
-pieces_seen own x (Whole m) = good (len_of m) [] ∷ pieces_after m (drop (len_of m) x)
+abbrev pub pieces_seen : (own : List ℕ → List Piece) → List ℕ → BomMatch → List Piece
+pieces_seen own x Prefix = own x
+pieces_seen own x (Whole m) = well_formed (len_of m) [] ∷ pieces_after m (drop (len_of m) x)
 pieces_seen own x Other = own x
 
-abbrev pub sought_pieces : Sought → (own : List ℕ → List Piece) → List ℕ → List Piece
+abbrev pub sought_pieces : BomSet → (own : List ℕ → List Piece) → List ℕ → List Piece
 sought_pieces s own x = if is_sought s then pieces_seen own x (find_mark s x) else own x
 
 -- the mark that such an input begins with, or one that was taken before
-abbrev pub mark_seen : Option ByteOrderMark → Seen → Option ByteOrderMark
-mark_seen taken Front = taken
+abbrev pub mark_seen : Option ByteOrderMark → BomMatch → Option ByteOrderMark
+mark_seen taken Prefix = taken
 mark_seen taken (Whole m) = Some m
 mark_seen taken Other = taken
 
-abbrev pub mark_taken : Sought → Option ByteOrderMark → List ℕ → Option ByteOrderMark
+abbrev pub mark_taken : BomSet → Option ByteOrderMark → List ℕ → Option ByteOrderMark
 mark_taken s taken x = if is_sought s then mark_seen taken (find_mark s x) else taken
 
 -- whether the bytes that are held may become this mark
-abbrev pub can_be : Sought → (held : List ℕ) → ByteOrderMark → Bool
+abbrev pub can_be : BomSet → (held : List ℕ) → ByteOrderMark → Bool
 can_be s [] m = seeks s m
 can_be s (b ∷ held) m = (b == head_of m) && seeks s m
 
 -- The most room that a call wants free for n more bytes: as the decoder, or as that of a mark behind it.
-abbrev pub mark_needs : Sought → (held : List ℕ) → Count → ℕ → ByteOrderMark → ℕ
-mark_needs s held k n m = if can_be s held m then room_of (room_after m) k ((length held + n) - len_of m) else 0
+abbrev pub mark_needs : BomSet → (held : List ℕ) → OutputUnit → ℕ → ByteOrderMark → ℕ
+mark_needs s held k n m = if can_be s held m then decoded_length (room_after m) k ((length held + n) - len_of m) else 0
 
-abbrev pub sought_needs : Sought → (own : Count → ℕ → ℕ) (held : List ℕ) → Count → ℕ → ℕ
+abbrev pub sought_needs : BomSet → (own : OutputUnit → ℕ → ℕ) (held : List ℕ) → OutputUnit → ℕ → ℕ
 sought_needs s own held k n = max (own k (length held + n)) (max (mark_needs s held k n Utf8) (max (mark_needs s held k n Utf16Be) (mark_needs s held k n Utf16Le)))
 
 -- room that is enough for the text of any input in any encoding
-abbrev pub room_widest : Room
+abbrev pub room_widest : DecodedLength
 room_widest = of_bytes (line 1 1) (line 3 3) (line 3 3)

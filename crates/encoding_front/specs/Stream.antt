@@ -1,14 +1,14 @@
 -- A decoder of a stream, as its callers know it.
 use Rattle.std.specs.Prelude.{◌≡◌, ℕ, ◌+◌, ◌||◌, ◌&&◌, nat_lt, Bool, true, false, if◌then◌else◌, IsTrue, Option, None, Some, List, [], ◌∷◌, ◌++◌, length, refl}
 use Rattle.encoding_mem.specs.Decoding.{DecoderState}
-use Rattle.encoding_mem.specs.Room.{queried, room_utf8, room_utf16, room_single_byte, room_replacement}
+use Rattle.encoding_mem.specs.DecodedLength.{queried, decoded_length_utf8, decoded_length_utf16, decoded_length_single_byte, decoded_length_replacement}
 use Rattle.encoding_mem.specs.declared.decoder_result.DecoderResult.{DecoderResult}
 use Rattle.encoding_mem.specs.declared.decoder_result.DecoderResult.TheVariants.{InputEmpty, OutputFull, Malformed}
-use Rattle.encoding_mem.specs.declared.room.Count.{Count}
-use Rattle.encoding_mem.specs.declared.room.Count.TheVariants.{Units, Bytes, Replaced}
-use Rattle.encoding_mem.specs.declared.room.Room.{Room}
+use Rattle.encoding_mem.specs.declared.room.OutputUnit.{OutputUnit}
+use Rattle.encoding_mem.specs.declared.room.OutputUnit.TheVariants.{Units, Bytes, Replaced}
+use Rattle.encoding_mem.specs.declared.room.DecodedLength.{DecodedLength}
 use Rattle.encoding_tables.specs.IndexLists.{IndexLists}
-use Rattle.encoding_front.specs.Encodings.{pieces_of, room_of_encoding}
+use Rattle.encoding_front.specs.Encodings.{pieces_of, decoded_length_of}
 use Rattle.encoding_front.specs.Latin1Prefix.{latin1_rule, IsAtRest, IsLatin1Prefix}
 use Rattle.encoding_front.specs.Marks.{marked_pieces, source_of}
 use Rattle.encoding_front.specs.Seeking.{can_be, encoding_of_mark, find_mark, is_sought, mark_taken, nothing_sought, sought_by, sought_pieces}
@@ -17,8 +17,8 @@ use Rattle.encoding_front.specs.declared.mark.Mark.{Mark}
 use Rattle.encoding_front.specs.declared.mark.Mark.TheVariants.{Sniff}
 use Rattle.encoding_front.specs.declared.seeking.ByteOrderMark.{ByteOrderMark}
 use Rattle.encoding_front.specs.declared.seeking.ByteOrderMark.TheVariants.{Utf8, Utf16Be, Utf16Le}
-use Rattle.encoding_front.specs.declared.seeking.Seen.{Seen}
-use Rattle.encoding_front.specs.declared.seeking.Sought.{Sought}
+use Rattle.encoding_front.specs.declared.seeking.BomMatch.{BomMatch}
+use Rattle.encoding_front.specs.declared.seeking.BomSet.{BomSet}
 
 -- the encoding of an input that was said to be in e, and that begins with this mark, or with none
 abbrev pub encoding_after : Encoding → Option ByteOrderMark → Encoding
@@ -28,9 +28,9 @@ encoding_after e (Some m) = encoding_of_mark m
 -- What the room that is enough depends on: the marks that are looked for, the bytes that are held meanwhile, and the
 -- room of the encoding in force with the bytes that are pending there.
 pub record Opening : Type 0 where
-  pub sought : Sought
+  pub sought : BomSet
   pub held : List ℕ
-  pub room : Room
+  pub room : DecodedLength
   pub pending : ℕ
 
 -- the greater of two numbers, where there are both
@@ -49,13 +49,13 @@ ahead (b ∷ held) = 2
 
 -- The room that is enough for n more bytes: the greatest among those of the encodings that the input may still turn
 -- out to be in.
-abbrev pub room_asked : Opening → Count → ℕ → Option ℕ
+abbrev pub room_asked : Opening → OutputUnit → ℕ → Option ℕ
 room_asked o k n =
-    greater_if (can_be o.sought o.held Utf16Be || can_be o.sought o.held Utf16Le) (queried room_utf16 k (n + ahead o.held))
-    (greater_if (can_be o.sought o.held Utf8) (queried room_utf8 k (n + ahead o.held))
+    greater_if (can_be o.sought o.held Utf16Be || can_be o.sought o.held Utf16Le) (queried decoded_length_utf16 k (n + ahead o.held))
+    (greater_if (can_be o.sought o.held Utf8) (queried decoded_length_utf8 k (n + ahead o.held))
     (queried o.room k (o.pending + (n + ahead o.held))))
 
--- after a last call that answered InputEmpty nothing follows
+-- after a last call that returned InputEmpty nothing follows
 abbrev pub is_input_empty : DecoderResult → Bool
 is_input_empty InputEmpty = true
 is_input_empty OutputFull = false
@@ -75,17 +75,17 @@ pub record DecoderView : Type 0 where
   pub finished : Bool
 
 -- The pieces of what is to come are those of what is held and of what follows, in the encoding in force or behind a
--- mark; what is held is the front of a mark, where one is sought. So it is with the encoding that the input turns out to
--- be in, and the room is that of the one in force.
+-- mark; what is held is the prefix of a mark, where one is sought. So it is with the encoding that the input turns out
+-- to be in, and the room is that of the one in force.
 pub record IsOpenedBy (v : DecoderView) : Type 0 where
   pub pieces : (x : List ℕ) → v.state.pieces x ≡ sought_pieces v.opening.sought v.own.pieces (v.opening.held ++ x)
   pub pending : v.state.pending ≡ v.opening.pending + length v.opening.held
   pub own_pending : v.opening.pending ≡ v.own.pending
   pub own_room : v.opening.room ≡ v.own.room
-  pub front : IsTrue (is_sought v.opening.sought) → find_mark v.opening.sought v.opening.held ≡ Seen.Front
+  pub prefix : IsTrue (is_sought v.opening.sought) → find_mark v.opening.sought v.opening.held ≡ BomMatch.Prefix
   pub fresh : IsTrue (is_sought v.opening.sought) → v.own.pending ≡ 0
   pub named : (x : List ℕ) → v.source x ≡ encoding_after (v.source []) (mark_taken v.opening.sought None (v.opening.held ++ x))
-  pub room : v.opening.room ≡ room_of_encoding (v.source [])
+  pub room : v.opening.room ≡ decoded_length_of (v.source [])
 
 -- no mark is sought any more, and nothing is held
 abbrev pub SeeksNoMark : Opening → Type 0
@@ -102,6 +102,6 @@ pub record IsNewDecoder (v : DecoderView) (t : IndexLists) (mark : Mark) (e : En
   pub pieces : (x : List ℕ) → v.state.pieces x ≡ marked_pieces t mark e x
   pub pending : v.state.pending ≡ 0
   pub source : (x : List ℕ) → v.source x ≡ (source_of mark e x).0
-  pub opening : v.opening ≡ record { sought = sought_by mark e; held = []; room = room_of_encoding e; pending = 0 }
+  pub opening : v.opening ≡ record { sought = sought_by mark e; held = []; room = decoded_length_of e; pending = 0 }
   pub own : v.own.pieces ≡ pieces_of t e
   pub open_ : v.finished ≡ false

@@ -4,25 +4,25 @@ ghost use Rattle.encoding_mem.specs.Decoding.{StateLaw, EndsWith};
 ghost use Rattle.encoding_mem.specs.Driver.{Suffices};
 ghost use Rattle.encoding_mem.specs.TextDestination.{Overwrites};
 ghost use Rattle.encoding_mem.specs.Writing.{Adds, encode_utf16_all};
-ghost use Rattle.encoding_mem.specs.declared.room.Count.TheVariants.{Units, Bytes, Replaced};
+ghost use Rattle.encoding_mem.specs.declared.room.OutputUnit.TheVariants.{Units, Bytes, Replaced};
 ghost use Rattle.encoding_front.specs.DecodedText.{NeverFull, TakesText, raw_result};
-ghost use Rattle.encoding_front.specs.Encodings.{IsReady, room_of_encoding};
+ghost use Rattle.encoding_front.specs.Encodings.{IsReady, decoded_length_of};
 ghost use Rattle.encoding_front.specs.Latin1Prefix.{latin1_rule};
 ghost use Rattle.encoding_front.specs.Seeking.{mark_taken};
 ghost use Rattle.encoding_front.specs.Stream.{IsNewDecoder, DecoderView, IsOpenedBy, TellsLatin1Prefix, encoding_after, finishes, room_asked};
 ghost use Rattle.encoding_front.specs.laws.Stream.{named_by, room_named};
 ghost use Rattle.encoding_front.specs.declared.mark.Mark.{Mark};
 
+use crate::bom_decoder::{BomDecoder, Switches};
 use crate::coder_result::CoderResult;
 use crate::encoder::fill_spare;
 use crate::encoding::Encoding;
 use crate::mark::Mark;
-use crate::marked_decoder::{MarkedDecoder, Switches};
-use crate::seeking::Sought;
+use crate::seeking::BomSet;
 use crate::variant_decoder::VariantDecoder;
-use encoding_mem::piece_decoder::PieceDecoder;
-use encoding_mem::room::Count;
+use encoding_mem::room::OutputUnit;
 use encoding_mem::sink::Sink;
+use encoding_mem::sink_decoder::SinkDecoder;
 use encoding_mem::utf8_sink::Utf8Sink;
 use encoding_mem::utf16_sink::Utf16Sink;
 use encoding_mem::{DecoderResult, clear_behind};
@@ -36,8 +36,9 @@ pub trait StreamDecoder {
     /// What its parts have to do with each other.
     ghost opened: { (d : Self) → IsOpenedBy (view d) };
 
-    /// Decodes bytes to UTF-8 up to the first bad piece. Answers how the call ended, the bytes read and the
-    /// bytes written. A character is never split; nothing behind what is written changes.
+    /// Decodes bytes to UTF-8 up to the first malformed sequence. Returns how the call ended, the
+    /// bytes read and the bytes written. A character is never split; nothing behind what is written
+    /// changes.
     fn decode_to_utf8_without_replacement(
         &mut self,
         src: &[u8],
@@ -51,7 +52,7 @@ pub trait StreamDecoder {
         ensures source { (r : List ℕ) → (IsTrue last → r ≡ []) → (view self.old).source (src.now ++ r) ≡ (view self.new).source (drop result.1 src.now ++ r) }
         ensures finished { (view self.new).finished ≡ finishes last result.0 };
 
-    /// The same to UTF-16. Answers the units written.
+    /// The same to UTF-16. Returns the units written.
     fn decode_to_utf16_without_replacement(
         &mut self,
         src: &[u8],
@@ -73,11 +74,11 @@ pub trait StreamDecoder {
 /// The decoder of a stream in some encoding. Held bytes of a mark count as read and pending.
 #[derive(Drop)]
 pub struct Decoder<'t> {
-    marked: MarkedDecoder<VariantDecoder<'t>>,
+    marked: BomDecoder<VariantDecoder<'t>>,
     encoding: Encoding,
     is_finished: bool,
     ghost rule: { ⟦<VariantDecoder<'static> as Switches>⟧.rule marked.inner ≡ latin1_rule (encoding_after encoding marked.taken) },
-    ghost room: { (⟦<VariantDecoder<'static> as PieceDecoder>⟧.state marked.inner).room ≡ room_of_encoding (encoding_after encoding marked.taken) },
+    ghost room: { (⟦<VariantDecoder<'static> as SinkDecoder>⟧.state marked.inner).room ≡ decoded_length_of (encoding_after encoding marked.taken) },
 }
 
 impl Encoding {
@@ -114,9 +115,9 @@ impl<'t> Decoder<'t> {
         ensures begins { IsNewDecoder (⟦<Decoder<'t> as StreamDecoder>⟧.view result) tables.now mark encoding }
     {
         Decoder {
-            marked: MarkedDecoder::new(
+            marked: BomDecoder::new(
                 VariantDecoder::new(encoding, tables),
-                Sought::new(mark, encoding),
+                BomSet::new(mark, encoding),
             ),
             encoding,
             is_finished: false,
@@ -142,7 +143,7 @@ impl<'t> Decoder<'t> {
             ≡ (⟦<Decoder<'t> as StreamDecoder>⟧.view self.new).source (drop result.1 src.now ++ r) }
         ensures finished { (⟦<Decoder<'t> as StreamDecoder>⟧.view self.new).finished ≡ finishes last result.0 }
     {
-        let (outcome, read) = self.marked.decode_marked(src, sink, last);
+        let (outcome, read) = self.marked.decode_behind_bom(src, sink, last);
         self.is_finished = last && matches!(outcome, DecoderResult::InputEmpty);
         (outcome, read)
     }
@@ -150,15 +151,15 @@ impl<'t> Decoder<'t> {
 
 impl<'t> StreamDecoder for Decoder<'t> {
     ghost view = { λ d. record {
-      state = ⟦<MarkedDecoder<VariantDecoder<'t>> as PieceDecoder>⟧.state d.marked;
+      state = ⟦<BomDecoder<VariantDecoder<'t>> as SinkDecoder>⟧.state d.marked;
       source = λ x. encoding_after d.encoding (mark_taken d.marked.sought d.marked.taken (d.marked.held ++ x));
       opening = record {
         sought = d.marked.sought;
         held = d.marked.held;
-        room = (⟦<VariantDecoder<'t> as PieceDecoder>⟧.state d.marked.inner).room;
-        pending = (⟦<VariantDecoder<'t> as PieceDecoder>⟧.state d.marked.inner).pending;
+        room = (⟦<VariantDecoder<'t> as SinkDecoder>⟧.state d.marked.inner).room;
+        pending = (⟦<VariantDecoder<'t> as SinkDecoder>⟧.state d.marked.inner).pending;
       };
-      own = ⟦<VariantDecoder<'t> as PieceDecoder>⟧.state d.marked.inner;
+      own = ⟦<VariantDecoder<'t> as SinkDecoder>⟧.state d.marked.inner;
       finished = d.is_finished;
     } };
 
@@ -167,10 +168,10 @@ impl<'t> StreamDecoder for Decoder<'t> {
       pending = refl;
       own_pending = refl;
       own_room = refl;
-      front = d.marked.front;
+      prefix = d.marked.prefix;
       fresh = d.marked.fresh;
-      named = named_by d.encoding d.marked.sought d.marked.taken d.marked.held d.marked.front;
-      room = room_named d.encoding d.marked.sought d.marked.taken d.marked.held _ d.marked.front d.room;
+      named = named_by d.encoding d.marked.sought d.marked.taken d.marked.held d.marked.prefix;
+      room = room_named d.encoding d.marked.sought d.marked.taken d.marked.held _ d.marked.prefix d.room;
     } };
 
     fn decode_to_utf8_without_replacement(
@@ -206,8 +207,8 @@ impl<'t> StreamDecoder for Decoder<'t> {
 }
 
 impl<'t> Decoder<'t> {
-    /// Whether a last call has answered that all is read. Then no other call may follow but this one and
-    /// `encoding`.
+    /// Whether a last call has returned that all is read. Then no other call may follow but this
+    /// one and `encoding`.
     pub fn is_finished(&self) -> bool
         ensures { result ≡ (⟦<Decoder<'t> as StreamDecoder>⟧.view self.now).finished }
     {
@@ -228,34 +229,34 @@ impl<'t> Decoder<'t> {
         self.marked.inner().latin1_byte_compatible_up_to(bytes)
     }
 
-    /// How many units are room enough for the text of `n` more bytes; none where that passes a `usize`. So
-    /// much room is also enough where each bad piece is written as U+FFFD.
+    /// How many units are room enough for the text of `n` more bytes; none where that passes a
+    /// `usize`. So much room is also enough where each malformed sequence is written as U+FFFD.
     pub fn max_utf16_buffer_length(&self, n: usize) -> Option<usize>
         requires { (⟦<Decoder<'t> as StreamDecoder>⟧.view self.now).finished ≡ false }
         ensures { result ≡ room_asked (⟦<Decoder<'t> as StreamDecoder>⟧.view self.now).opening Units n }
     {
-        self.marked.query(Count::Units, n)
+        self.marked.query(OutputUnit::Units, n)
     }
 
-    /// How many bytes are room enough for the text of `n` more bytes up to the first bad piece, and for a
-    /// U+FFFD; none where that passes a `usize`.
+    /// How many bytes are room enough for the text of `n` more bytes up to the first malformed
+    /// sequence, and for a U+FFFD; none where that passes a `usize`.
     pub fn max_utf8_buffer_length_without_replacement(&self, n: usize) -> Option<usize>
         requires { (⟦<Decoder<'t> as StreamDecoder>⟧.view self.now).finished ≡ false }
         ensures { result ≡ room_asked (⟦<Decoder<'t> as StreamDecoder>⟧.view self.now).opening Bytes n }
     {
-        self.marked.query(Count::Bytes, n)
+        self.marked.query(OutputUnit::Bytes, n)
     }
 
-    /// How many bytes are room enough for the text of `n` more bytes, with U+FFFD for each bad piece; none
-    /// where that passes a `usize`.
+    /// How many bytes are room enough for the text of `n` more bytes, with U+FFFD for each
+    /// malformed sequence; none where that passes a `usize`.
     pub fn max_utf8_buffer_length(&self, n: usize) -> Option<usize>
         requires { (⟦<Decoder<'t> as StreamDecoder>⟧.view self.now).finished ≡ false }
         ensures { result ≡ room_asked (⟦<Decoder<'t> as StreamDecoder>⟧.view self.now).opening Replaced n }
     {
-        self.marked.query(Count::Replaced, n)
+        self.marked.query(OutputUnit::Replaced, n)
     }
 
-    // Decodes into any destination, with U+FFFD for each bad piece.
+    // Decodes into any destination, with U+FFFD for each malformed sequence.
     fn decode_text_into<S: Sink>(
         &mut self,
         src: &[u8],
@@ -276,9 +277,9 @@ impl<'t> Decoder<'t> {
         (outcome, read, had_errors)
     }
 
-    /// Decodes bytes to UTF-8, with U+FFFD for each bad piece. Answers how the call ended, the bytes read, the
-    /// bytes written, and whether there was a bad piece. A character is never split; nothing behind what is
-    /// written changes.
+    /// Decodes bytes to UTF-8, with U+FFFD for each malformed sequence. Returns how the call ended,
+    /// the bytes read, the bytes written, and whether there was a malformed sequence. A character
+    /// is never split; nothing behind what is written changes.
     pub fn decode_to_utf8(
         &mut self,
         src: &[u8],
@@ -303,7 +304,7 @@ impl<'t> Decoder<'t> {
         (outcome, read, written, had_errors)
     }
 
-    /// The same to UTF-16. Answers the units written.
+    /// The same to UTF-16. Returns the units written.
     pub fn decode_to_utf16(
         &mut self,
         src: &[u8],
@@ -330,8 +331,9 @@ impl<'t> Decoder<'t> {
 }
 
 impl<'t> Decoder<'t> {
-    /// Decodes into a text, as `decode_to_utf8` into bytes. Of a character whose front is overwritten the other
-    /// bytes become 00, so that it stays a text; nothing else behind what is written changes.
+    /// Decodes into a text, as `decode_to_utf8` into bytes. Of a character whose first bytes are
+    /// overwritten the other bytes become 00, so that it stays a text; nothing else behind what is
+    /// written changes.
     pub fn decode_to_str(
         &mut self,
         src: &[u8],
@@ -357,7 +359,7 @@ impl<'t> Decoder<'t> {
         (outcome, read, written, had_errors)
     }
 
-    /// The same up to the first bad piece, as `decode_to_utf8_without_replacement`.
+    /// The same up to the first malformed sequence, as `decode_to_utf8_without_replacement`.
     pub fn decode_to_str_without_replacement(
         &mut self,
         src: &[u8],
@@ -382,8 +384,9 @@ impl<'t> Decoder<'t> {
         (outcome, read, written)
     }
 
-    /// Decodes into the spare capacity of a text, behind what it has, as `decode_to_utf8` into bytes; its
-    /// capacity stays as it is. Answers as the call into bytes, without what was written.
+    /// Decodes into the spare capacity of a text, behind what it has, as `decode_to_utf8` into
+    /// bytes; its capacity stays as it is. Returns as the call into bytes, without what was
+    /// written.
     pub fn decode_to_string(
         &mut self,
         src: &[u8],
@@ -414,7 +417,7 @@ impl<'t> Decoder<'t> {
         (outcome, read, had_errors)
     }
 
-    /// The same up to the first bad piece, as `decode_to_utf8_without_replacement`.
+    /// The same up to the first malformed sequence, as `decode_to_utf8_without_replacement`.
     pub fn decode_to_string_without_replacement(
         &mut self,
         src: &[u8],

@@ -1,17 +1,17 @@
 ghost use Rattle.std.specs.Prelude.{◌≡◌, ◌≢◌, ◌↔◌, ℕ, ◌+◌, ◌-◌, ◌≤◌, ◌++◌, true, false, IsTrue, List, length, take, drop, vec_capacity, vec_len};
 ghost use Rattle.std.specs.Str.{chars, IsCharBoundary};
 ghost use Rattle.std.specs.Char.Utf16.{utf16_lossy_chars};
-ghost use Rattle.encoding_mem.specs.Room.{checked};
-ghost use Rattle.encoding_mem.specs.declared.form.Set.TheVariants.{Ascii};
+ghost use Rattle.encoding_mem.specs.DecodedLength.{checked};
+ghost use Rattle.encoding_mem.specs.declared.form.EscapeState.TheVariants.{Ascii};
 ghost use Rattle.encoding_front.specs.Encoder.{Encoded, EncoderState, IsEncoderOf, Replaces, coding_in, kept_back, new_state, queried_room, queried_with_kept, room_for};
 ghost use Rattle.encoding_front.specs.laws.Encoder.{coding_laws};
-ghost use Rattle.encoding_front.specs.Encodings.{IsReady, coding_of, need_of, output_encoding_of, text_room_of};
+ghost use Rattle.encoding_front.specs.Encodings.{IsReady, coding_of, need_of, output_encoding_of, encoded_length_of};
 
 use crate::coder_result::CoderResult;
 use crate::encoding::Encoding;
 use crate::replacing::encode_replacing;
 use crate::variant_encoder::VariantEncoder;
-use encoding_mem::room::TextRoom;
+use encoding_mem::room::EncodedLength;
 use encoding_mem::{EncoderResult, RawEncoder};
 use encoding_tables::Tables;
 use std::fmt;
@@ -59,7 +59,7 @@ impl<'t> Encoder<'t> {
         self.encoding
     }
 
-    /// Whether an escape to ASCII is owed at the end of the stream.
+    /// Whether an escape to ASCII is still to be written at the end of the stream.
     pub fn has_pending_state(&self) -> bool
         ensures { IsTrue result ↔ (self.now.set ≢ Ascii) }
     {
@@ -117,9 +117,9 @@ impl<'t> Encoder<'t> {
         }
     }
 
-    /// Encodes a text, and stops behind a character without bytes. Answers how the call ended, the bytes of
-    /// text read and the bytes written. What was read ends between characters; nothing behind what is
-    /// written changes.
+    /// Encodes a text, and stops behind a character without bytes. Returns how the call ended, the
+    /// bytes of text read and the bytes written. What was read ends between characters; nothing
+    /// behind what is written changes.
     pub fn encode_from_utf8_without_replacement(
         &mut self,
         src: &str,
@@ -153,8 +153,9 @@ impl<'t> Encoder<'t> {
         self.variant.encode_from_utf16_raw(src, dst, last)
     }
 
-    /// Encodes a text, and writes a numeric character reference for each character without bytes. Answers how
-    /// the call ended, the bytes of text read, the bytes written, and whether a reference was written.
+    /// Encodes a text, and writes a numeric character reference for each character without bytes.
+    /// Returns how the call ended, the bytes of text read, the bytes written, and whether a
+    /// reference was written.
     ///
     /// Unless the output encoding is UTF-8, the last ten bytes of `dst` are kept back, so that a reference is
     /// never cut: only one that begins before them reaches into them, and it ends the call. In the room that
@@ -192,8 +193,8 @@ impl<'t> Encoder<'t> {
         encode_replacing(self, src, dst, last)
     }
 
-    /// Encodes a text into the spare capacity of a vector, behind what it holds; its capacity stays as it is.
-    /// Answers as the call into a slice, without what was written.
+    /// Encodes a text into the spare capacity of a vector, behind what it holds; its capacity stays
+    /// as it is. Returns as the call into a slice, without what was written.
     pub fn encode_from_utf8_to_vec(
         &mut self,
         src: &str,
@@ -249,7 +250,7 @@ impl<'t> RawEncoder for Encoder<'t> {
 
     ghost set = { λ x. x.set };
 
-    ghost limits = { λ x. text_room_of x.encoding };
+    ghost limits = { λ x. encoded_length_of x.encoding };
 
     ghost laws = { λ x. coding_laws x.tables x.encoding };
 
@@ -271,7 +272,7 @@ impl<'t> RawEncoder for Encoder<'t> {
         self.encode_from_utf16_without_replacement(src, dst, last)
     }
 
-    fn room(&self) -> TextRoom {
+    fn room(&self) -> EncodedLength {
         self.variant.room()
     }
 
@@ -280,7 +281,7 @@ impl<'t> RawEncoder for Encoder<'t> {
     }
 }
 
-// Fills the spare capacity with zeros, and answers the length before.
+// Fills the spare capacity with zeros, and returns the length before.
 pub(crate) fn fill_spare(dst: &mut Vec<u8>) -> usize
     ensures len { result ≡ vec_len dst.old }
     ensures items { take result dst.new.items ≡ dst.old.items }

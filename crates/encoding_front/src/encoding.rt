@@ -4,11 +4,11 @@ ghost use Rattle.encoding_mem.specs.Iso2022JpAscii.{IsIso2022JpAscii};
 ghost use Rattle.encoding_mem.specs.LongestPrefix.{IsLongestPrefix};
 ghost use Rattle.std.specs.List.{list_all};
 ghost use Rattle.encoding_tables.specs.IndexLists.{AreAcceptedTables, has};
-ghost use Rattle.encoding_front.specs.EncodingTable.{encoding_name, number_of, scheme_of};
+ghost use Rattle.encoding_front.specs.EncodingTable.{encoding_name, number_of, codec_kind_of};
 ghost use Rattle.encoding_front.specs.Encodings.{HasLabel, IsProper, IsReady, IsUtf8Encoding, KeepsCharacters, is_ascii_compatible_of, is_single_byte_of, mark_at_start, needs_of, output_encoding_of};
 ghost use Rattle.encoding_front.specs.declared.encoding.Encoding.{Encoding};
 
-use crate::scheme::{Scheme, row_of};
+use crate::codec_kind::{CodecKind, row_of};
 use encoding_labels::label_number;
 use encoding_tables::{IndexKind, Tables};
 
@@ -108,8 +108,8 @@ impl Encoding {
     pub fn for_label(label: &[u8]) -> Option<Encoding>
         ensures { (e : Encoding) → (result ≡ Some e) ↔ HasLabel e label.now }
     {
-        let place = label_number(label)?;
-        Some(at_place(place))
+        let number = label_number(label)?;
+        Some(at_number(number))
     }
 
     /// The same, but `None` for a label of replacement: for a caller to whom such a label is an error, as
@@ -124,8 +124,8 @@ impl Encoding {
         Some(encoding)
     }
 
-    /// The encoding whose byte order mark stands at the front of the bytes, and the length of the mark in
-    /// bytes: "BOM sniff" of the Encoding Standard, section 6.
+    /// The encoding whose byte order mark stands at the start of the bytes, and the length of the
+    /// mark in bytes: "BOM sniff" of the Encoding Standard, section 6.
     pub fn for_bom(bytes: &[u8]) -> Option<(Encoding, usize)>
         ensures { result ≡ mark_at_start bytes.now }
     {
@@ -149,8 +149,8 @@ impl Encoding {
     pub fn output_encoding(self) -> Encoding
         ensures { result ≡ output_encoding_of self }
     {
-        match self.scheme() {
-            Scheme::Utf16 { .. } | Scheme::Replacement => Encoding::Utf8,
+        match self.codec_kind() {
+            CodecKind::Utf16 { .. } | CodecKind::Replacement => Encoding::Utf8,
             _ => self,
         }
     }
@@ -169,8 +169,8 @@ impl Encoding {
     pub fn is_ascii_compatible(self) -> bool
         ensures { result ≡ is_ascii_compatible_of self }
     {
-        match self.scheme() {
-            Scheme::Utf16 { .. } | Scheme::Replacement | Scheme::Iso2022Jp => false,
+        match self.codec_kind() {
+            CodecKind::Utf16 { .. } | CodecKind::Replacement | CodecKind::Iso2022Jp => false,
             _ => true,
         }
     }
@@ -180,14 +180,14 @@ impl Encoding {
     pub fn is_single_byte(self) -> bool
         ensures { result ≡ is_single_byte_of self }
     {
-        match self.scheme() {
-            Scheme::SingleByte(_) | Scheme::UserDefined => true,
+        match self.codec_kind() {
+            CodecKind::SingleByte(_) | CodecKind::UserDefined => true,
             _ => false,
         }
     }
 
-    /// The length of the longest prefix that is well-formed UTF-8: it ends before the first byte of the
-    /// first broken part.
+    /// The length of the longest prefix that is well-formed UTF-8: it ends before the first byte of
+    /// the first malformed sequence.
     pub fn utf8_valid_up_to(bytes: &[u8]) -> usize
         ensures { IsLongestPrefix IsUtf8 bytes.now result }
     {
@@ -231,19 +231,19 @@ impl Encoding {
     pub fn keeps_characters(self) -> bool
         ensures { IsTrue result ↔ KeepsCharacters self }
     {
-        match self.output_encoding().scheme() {
-            Scheme::Utf8 | Scheme::UserDefined | Scheme::SingleByte(_) => true,
-            Scheme::Big5 | Scheme::EucKr => true,
+        match self.output_encoding().codec_kind() {
+            CodecKind::Utf8 | CodecKind::UserDefined | CodecKind::SingleByte(_) => true,
+            CodecKind::Big5 | CodecKind::EucKr => true,
             _ => false,
         }
     }
 
     // How it is read and written.
-    pub(crate) fn scheme(self) -> Scheme
-        ensures scheme { result ≡ scheme_of self }
+    pub(crate) fn codec_kind(self) -> CodecKind
+        ensures codec_kind { result ≡ codec_kind_of self }
         ensures proper { IsProper result }
     {
-        row_of(self).scheme
+        row_of(self).codec_kind
     }
 }
 
@@ -254,10 +254,10 @@ fn are_there(kinds: &[IndexKind], tables: &Tables) -> bool
     kinds.iter().all(|kind| tables.has(*kind))
 }
 
-// The encoding at this place.
-fn at_place(place: usize) -> Encoding
-    requires { place < 40 }
-    ensures { number_of result ≡ place }
+// The encoding at this number.
+fn at_number(number: usize) -> Encoding
+    requires { number < 40 }
+    ensures { number_of result ≡ number }
 {
-    ENCODINGS[place]
+    ENCODINGS[number]
 }

@@ -1,4 +1,4 @@
-// Bytes that were read, and that may be the front of a byte order mark.
+// Bytes that were read, and that may be the prefix of a byte order mark.
 
 ghost use Rattle.std.specs.Prelude.{◌≡◌, ℕ, ◌≤◌, ◌+◌, ◌++◌, List, [], length, drop, take};
 
@@ -6,12 +6,12 @@ use std::marker::Model;
 
 /// At most three bytes.
 #[derive(Drop)]
-pub(crate) struct Held {
+pub(crate) struct BomPrefix {
     bytes: [u8; 3],
     len: usize,
 }
 
-impl Model for Held {
+impl Model for BomPrefix {
     ghost Value = { List ℕ };
 
     ghost view = { λ h. take h.len h.bytes };
@@ -19,24 +19,24 @@ impl Model for Held {
     ghost invariant = { λ h. h.len ≤ 3 };
 }
 
-impl Held {
+impl BomPrefix {
     pub(crate) fn new() -> Self
         ensures { result ≡ [] }
     {
-        Held {
+        BomPrefix {
             bytes: [0; 3],
             len: 0,
         }
     }
 
     /// The first three bytes of these two in a row, or all that there are.
-    pub(crate) fn front_of(held: &Held, src: &[u8]) -> Self
+    pub(crate) fn prefix_of(held: &BomPrefix, src: &[u8]) -> Self
         ensures { result ≡ take 3 (held.now ++ src.now) }
     {
         let mut bytes = held.bytes;
         let end = 3.min(held.len + src.len());
         bytes[held.len..end].copy_from_slice(&src[..end - held.len]);
-        Held { bytes, len: end }
+        BomPrefix { bytes, len: end }
     }
 
     pub(crate) fn len(&self) -> usize
@@ -53,7 +53,7 @@ impl Held {
     }
 
     /// Removes the first `n` bytes.
-    pub(crate) fn remove_front(&mut self, n: usize)
+    pub(crate) fn remove_prefix(&mut self, n: usize)
         requires { n ≤ length self.old }
         ensures { self.new ≡ drop n self.old }
     {

@@ -5,7 +5,7 @@ ghost use Rattle.std.specs.Str.{all_scalars, chars};
 ghost use Rattle.encoding_mem.specs.Coding.{bytes, open_from, output, reference};
 ghost use Rattle.encoding_mem.specs.Piece.{ArePieces, sizes};
 ghost use Rattle.encoding_mem.specs.ReadBack.{ReadsBackExactly};
-ghost use Rattle.encoding_mem.specs.declared.form.Set.{Set};
+ghost use Rattle.encoding_mem.specs.declared.form.EscapeState.{EscapeState};
 ghost use Rattle.encoding_tables.specs.IndexLists.{AreAcceptedTables, IndexLists};
 ghost use Rattle.encoding_front.specs.Bounds.{ReportsItself};
 ghost use Rattle.encoding_front.specs.EncodingTable.{encoding_name};
@@ -48,10 +48,10 @@ pub fn texts_read_back()
 /// characters is written in at most 13 n + 3 bytes.
 pub fn written_is_short()
     ensures form { (t : IndexLists) (e : Encoding) (c : ℕ) → length (bytes ((coding_of t e).form c)) ≤ 4 }
-    ensures escape { (t : IndexLists) (e : Encoding) (s s' : Set) → length ((coding_of t e).escape s s') ≤ 3 }
+    ensures escape { (t : IndexLists) (e : Encoding) (s s' : EscapeState) → length ((coding_of t e).escape s s') ≤ 3 }
     ensures reported { (t : IndexLists) (e : Encoding) (c : ℕ) → ReportsItself c ((coding_of t e).form c) }
     ensures reference { (c : ℕ) → c < 0x110000 → length (reference c) ≤ 10 }
-    ensures part { (t : IndexLists) (e : Encoding) (s : Set) (text : List ℕ) → all_scalars text ≡ true → length (open_from (coding_of t e) s text) ≤ 13 * length text }
+    ensures part { (t : IndexLists) (e : Encoding) (s : EscapeState) (text : List ℕ) → all_scalars text ≡ true → length (open_from (coding_of t e) s text) ≤ 13 * length text }
     ensures whole { (t : IndexLists) (e : Encoding) (text : List ℕ) → all_scalars text ≡ true → length (output (coding_of t e) text) ≤ 13 * length text + 3 }
 {}
 

@@ -1,6 +1,8 @@
 //! Encodings by name.
 #![tactic(auto)]
 
+mod bom_decoder;
+mod codec_kind;
 pub mod coder_result;
 pub mod constants;
 mod decode_replacing;
@@ -10,14 +12,12 @@ pub mod encoding;
 mod held;
 pub mod laws;
 pub mod mark;
-mod marked_decoder;
 mod one_shot_decoding;
 mod one_shot_encoding;
 pub mod one_shot_fault;
 pub mod reference;
 mod replacing;
 mod replay;
-mod scheme;
 pub mod seeking;
 mod source_text;
 pub mod variant_decoder;

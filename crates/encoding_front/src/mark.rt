@@ -3,7 +3,7 @@ ghost use Rattle.encoding_front.specs.Marks.{takes_mark_of};
 
 use crate::encoding::Encoding;
 
-/// What is done with a byte order mark at the front of an input (the Encoding Standard, section 6).
+/// What is done with a byte order mark at the start of an input (the Encoding Standard, section 6).
 #[derive(Clone, Copy, PartialEq, Eq, Debug)]
 pub enum Mark {
     /// A mark of UTF-8, UTF-16BE or UTF-16LE is taken, and says what the encoding is.

@@ -2,8 +2,8 @@
 
 ghost use Rattle.std.specs.Prelude.{◌≡◌, ◌↔◌, ℕ, ◌<◌, IsTrue, Option, None, Some, length, IfOk, IfErr, IfSome, encode_utf8_all};
 ghost use Rattle.std.specs.String.{string_bytes};
-ghost use Rattle.encoding_mem.specs.Piece.{bad_count};
-ghost use Rattle.encoding_mem.specs.declared.room.Count.TheVariants.{Bytes, Replaced};
+ghost use Rattle.encoding_mem.specs.Piece.{malformed_count};
+ghost use Rattle.encoding_mem.specs.declared.room.OutputUnit.TheVariants.{Bytes, Replaced};
 ghost use Rattle.encoding_front.specs.Encodings.{IsReady};
 ghost use Rattle.encoding_front.specs.Marks.{marked_pieces, marked_text, source_of};
 ghost use Rattle.encoding_front.specs.OneShot.{IsRefused, room_at_start};
@@ -17,12 +17,13 @@ use encoding_tables::Tables;
 use std::alloc::Global;
 
 impl Encoding {
-    /// Decodes a whole input, in which any of the three byte order marks is taken (the Encoding Standard,
-    /// section 6, "decode"). Answers the text, with U+FFFD for each bad piece, the encoding that the mark
-    /// says or else this one, and whether there was a bad piece.
+    /// Decodes a whole input, in which any of the three byte order marks is taken (the Encoding
+    /// Standard, section 6, "decode"). Returns the text, with U+FFFD for each malformed sequence,
+    /// the encoding that the mark says or else this one, and whether there was a malformed
+    /// sequence.
     ///
-    /// `Overflow` is answered where the room that a new decoder asks for the input passes a `usize`;
-    /// `Memory` where it was refused.
+    /// `Overflow` is returned where the room that a new decoder asks for the input passes a
+    /// `usize`; `Memory` where it was refused.
     pub fn decode(
         self,
         alloc: Global,
@@ -32,15 +33,16 @@ impl Encoding {
         requires { IsReady tables.now self }
         ensures text { IfOk result (λ r. string_bytes r.0 ≡ encode_utf8_all (marked_text tables.now Mark.Sniff self bytes.now)) }
         ensures encoding { IfOk result (λ r. r.1 ≡ (source_of Mark.Sniff self bytes.now).0) }
-        ensures bad { IfOk result (λ r. IsTrue r.2 ↔ (0 < bad_count (marked_pieces tables.now Mark.Sniff self bytes.now))) }
+        ensures malformed { IfOk result (λ r. IsTrue r.2 ↔ (0 < malformed_count (marked_pieces tables.now Mark.Sniff self bytes.now))) }
         ensures fault { IfErr result (IsRefused (room_at_start Mark.Sniff self Replaced (length bytes.now))) }
         ensures asked { room_at_start Mark.Sniff self Replaced (length bytes.now) ≡ None → result ≡ Err OneShotFault.Overflow }
     {
-        self.decode_marked(Mark::Sniff, alloc, tables, bytes)
+        self.decode_behind_bom(Mark::Sniff, alloc, tables, bytes)
     }
 
-    /// Decodes a whole input, from which the encoding's own byte order mark is taken (as in "UTF-8 decode").
-    /// Answers the text and whether there was a bad piece. Faults are those of `decode`.
+    /// Decodes a whole input, from which the encoding's own byte order mark is taken (as in "UTF-8
+    /// decode"). Returns the text and whether there was a malformed sequence. Faults are those of
+    /// `decode`.
     pub fn decode_with_bom_removal(
         self,
         alloc: Global,
@@ -49,16 +51,17 @@ impl Encoding {
     ) -> Result<(String, bool), OneShotFault>
         requires { IsReady tables.now self }
         ensures text { IfOk result (λ r. string_bytes r.0 ≡ encode_utf8_all (marked_text tables.now Mark.Remove self bytes.now)) }
-        ensures bad { IfOk result (λ r. IsTrue r.1 ↔ (0 < bad_count (marked_pieces tables.now Mark.Remove self bytes.now))) }
+        ensures malformed { IfOk result (λ r. IsTrue r.1 ↔ (0 < malformed_count (marked_pieces tables.now Mark.Remove self bytes.now))) }
         ensures fault { IfErr result (IsRefused (room_at_start Mark.Remove self Replaced (length bytes.now))) }
         ensures asked { room_at_start Mark.Remove self Replaced (length bytes.now) ≡ None → result ≡ Err OneShotFault.Overflow }
     {
-        let (text, _, had_errors) = self.decode_marked(Mark::Remove, alloc, tables, bytes)?;
+        let (text, _, had_errors) = self.decode_behind_bom(Mark::Remove, alloc, tables, bytes)?;
         Ok((text, had_errors))
     }
 
-    /// Decodes a whole input, in which a byte order mark is text (as in "UTF-8 decode without BOM"). Answers
-    /// the text and whether there was a bad piece. Faults are those of `decode`.
+    /// Decodes a whole input, in which a byte order mark is text (as in "UTF-8 decode without
+    /// BOM"). Returns the text and whether there was a malformed sequence. Faults are those of
+    /// `decode`.
     pub fn decode_without_bom_handling(
         self,
         alloc: Global,
@@ -67,16 +70,16 @@ impl Encoding {
     ) -> Result<(String, bool), OneShotFault>
         requires { IsReady tables.now self }
         ensures text { IfOk result (λ r. string_bytes r.0 ≡ encode_utf8_all (marked_text tables.now Mark.Keep self bytes.now)) }
-        ensures bad { IfOk result (λ r. IsTrue r.1 ↔ (0 < bad_count (marked_pieces tables.now Mark.Keep self bytes.now))) }
+        ensures malformed { IfOk result (λ r. IsTrue r.1 ↔ (0 < malformed_count (marked_pieces tables.now Mark.Keep self bytes.now))) }
         ensures fault { IfErr result (IsRefused (room_at_start Mark.Keep self Replaced (length bytes.now))) }
         ensures asked { room_at_start Mark.Keep self Replaced (length bytes.now) ≡ None → result ≡ Err OneShotFault.Overflow }
     {
-        let (text, _, had_errors) = self.decode_marked(Mark::Keep, alloc, tables, bytes)?;
+        let (text, _, had_errors) = self.decode_behind_bom(Mark::Keep, alloc, tables, bytes)?;
         Ok((text, had_errors))
     }
 
-    /// Decodes a whole input, in which a byte order mark is text. Answers none where a piece is bad. Faults
-    /// are those of `decode`, by the room that is asked for without replacement.
+    /// Decodes a whole input, in which a byte order mark is text. Returns none where a piece is
+    /// malformed. Faults are those of `decode`, by the room that is asked for without replacement.
     pub fn decode_without_bom_handling_and_without_replacement(
         self,
         alloc: Global,
@@ -85,7 +88,7 @@ impl Encoding {
     ) -> Result<Option<String>, OneShotFault>
         requires { IsReady tables.now self }
         ensures text { IfOk result (λ r. IfSome r (λ text. string_bytes text ≡ encode_utf8_all (marked_text tables.now Mark.Keep self bytes.now))) }
-        ensures bad { IfOk result (λ r. (r ≡ None) ↔ (0 < bad_count (marked_pieces tables.now Mark.Keep self bytes.now))) }
+        ensures malformed { IfOk result (λ r. (r ≡ None) ↔ (0 < malformed_count (marked_pieces tables.now Mark.Keep self bytes.now))) }
         ensures fault { IfErr result (IsRefused (room_at_start Mark.Keep self Bytes (length bytes.now))) }
         ensures asked { room_at_start Mark.Keep self Bytes (length bytes.now) ≡ None → result ≡ Err OneShotFault.Overflow }
     {
@@ -102,8 +105,8 @@ impl Encoding {
         Ok(Some(unsafe { String::from_utf8_unchecked(text) }))
     }
 
-    // The text, the encoding in force, and whether there was a bad piece.
-    fn decode_marked(
+    // The text, the encoding in force, and whether there was a malformed sequence.
+    fn decode_behind_bom(
         self,
         mark: Mark,
         alloc: Global,
@@ -113,7 +116,7 @@ impl Encoding {
         requires { IsReady tables.now self }
         ensures text { IfOk result (λ r. string_bytes r.0 ≡ encode_utf8_all (marked_text tables.now mark self bytes.now)) }
         ensures encoding { IfOk result (λ r. r.1 ≡ (source_of mark self bytes.now).0) }
-        ensures bad { IfOk result (λ r. IsTrue r.2 ↔ (0 < bad_count (marked_pieces tables.now mark self bytes.now))) }
+        ensures malformed { IfOk result (λ r. IsTrue r.2 ↔ (0 < malformed_count (marked_pieces tables.now mark self bytes.now))) }
         ensures fault { IfErr result (IsRefused (room_at_start mark self Replaced (length bytes.now))) }
         ensures asked { room_at_start mark self Replaced (length bytes.now) ≡ None → result ≡ Err OneShotFault.Overflow }
     {

@@ -15,11 +15,12 @@ use encoding_tables::Tables;
 use std::alloc::Global;
 
 impl Encoding {
-    /// Encodes a whole text into the output encoding, with a numeric character reference for each character
-    /// without bytes. Answers the bytes, the output encoding, and whether a reference was written.
+    /// Encodes a whole text into the output encoding, with a numeric character reference for each
+    /// character without bytes. Returns the bytes, the output encoding, and whether a reference was
+    /// written.
     ///
-    /// `Overflow` is answered where the room for the text, as asked for beforehand, passes a `usize`; `Memory`
-    /// where it was refused.
+    /// `Overflow` is returned where the room for the text, as asked for beforehand, passes a
+    /// `usize`; `Memory` where it was refused.
     pub fn encode(
         self,
         alloc: Global,

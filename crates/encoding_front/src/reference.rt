@@ -3,8 +3,8 @@ ghost use Rattle.encoding_mem.specs.Coding.{reference};
 
 use itoa::Buffer;
 
-/// Writes the numeric character reference of `c` (`&#`, its number in decimal, `;`) at the front of
-/// `dst`, and answers its length in bytes. The bytes behind it stay as they were.
+/// Writes the numeric character reference of `c` (`&#`, its number in decimal, `;`) at the start of
+/// `dst`, and returns its length in bytes. The bytes behind it stay as they were.
 pub fn write_reference(c: char, dst: &mut [u8; 10]) -> usize
     ensures size { result ≡ length (reference c) }
     ensures fits { result ≤ 10 }
@@ -22,7 +22,7 @@ pub fn write_reference(c: char, dst: &mut [u8; 10]) -> usize
 fn put(dst: &mut [u8; 10], at: usize, bytes: &[u8]) -> usize
     requires { at + length bytes.now ≤ 10 }
     ensures size { result ≡ at + length bytes.now }
-    ensures front { take result dst.new ≡ take at dst.old ++ bytes.now }
+    ensures prefix { take result dst.new ≡ take at dst.old ++ bytes.now }
     ensures behind { drop result dst.new ≡ drop result dst.old }
 {
     let end = at + bytes.len();

@@ -10,13 +10,13 @@ use crate::reference::write_reference;
 use crate::source_text::SourceText;
 use encoding_mem::EncoderResult;
 
-// Puts the reference of a character at a place, behind which there is room for the longest, and answers the
-// place behind it.
+// Puts the reference of a character at an offset, behind which there is room for the longest, and
+// returns the offset behind it.
 fn put_reference(dst: &mut [u8], at: usize, c: char) -> usize
     requires { at + 10 ≤ length dst.old }
     ensures end { result ≡ at + length (reference c) }
     ensures fits { result ≤ length dst.new }
-    ensures front { take result dst.new ≡ take at dst.old ++ reference c }
+    ensures prefix { take result dst.new ≡ take at dst.old ++ reference c }
     ensures behind { drop result dst.new ≡ drop result dst.old }
 {
     let mut bytes = [0; 10];
@@ -26,8 +26,9 @@ fn put_reference(dst: &mut [u8], at: usize, c: char) -> usize
     end
 }
 
-// One call without replacement into the part of `dst` before `end`, and the reference that it asks for, which
-// may reach behind that part. Answers as the call does, and counts the reference as written.
+// One call without replacement into the part of `dst` before `end`, and the reference that it asks
+// for, which may reach behind that part. Returns as the call does, and counts the reference as
+// written.
 fn encode_turn<T: SourceText>(
     encoder: &mut Encoder<'_>,
     src: T,
@@ -61,8 +62,8 @@ fn outcome<T: SourceText>(encoder: &Encoder<'_>, rest: T, last: bool) -> CoderRe
     }
 }
 
-/// Encodes a text, and writes a reference for each character without bytes. Answers how the call ended, the
-/// bytes or units read, the bytes written, and whether a reference was written.
+/// Encodes a text, and writes a reference for each character without bytes. Returns how the call
+/// ended, the bytes or units read, the bytes written, and whether a reference was written.
 pub(crate) fn encode_replacing<T: SourceText>(
     encoder: &mut Encoder<'_>,
     src: T,

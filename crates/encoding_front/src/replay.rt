@@ -1,17 +1,17 @@
 ghost use Rattle.std.specs.Prelude.{◌≡◌, ◌<◌, ◌≤◌, ◌+◌, ◌-◌, length, drop};
 ghost use Rattle.encoding_mem.specs.Decoding.{StateLaw, EndsWith};
 ghost use Rattle.encoding_mem.specs.Driver.{Suffices};
-ghost use Rattle.encoding_front.specs.MarkedState.{held_state};
+ghost use Rattle.encoding_front.specs.BomDecoderState.{held_state};
 
-use crate::held::Held;
-use crate::marked_decoder::Switches;
+use crate::bom_decoder::Switches;
+use crate::held::BomPrefix;
 use encoding_mem::DecoderResult;
 use encoding_mem::sink::Sink;
 
 /// Decodes what is held, and then the source.
 pub(crate) fn decode_held<D: Switches, S: Sink>(
     inner: &mut D,
-    held: &mut Held,
+    held: &mut BomPrefix,
     src: &[u8],
     sink: &mut S,
     last: bool,
@@ -31,7 +31,7 @@ pub(crate) fn decode_held<D: Switches, S: Sink>(
         return inner.decode_on(src, sink, last);
     }
     let (outcome, taken) = inner.decode_on(held.as_slice(), sink, false);
-    held.remove_front(taken);
+    held.remove_prefix(taken);
     match outcome {
         DecoderResult::InputEmpty => inner.decode_on(src, sink, last),
         DecoderResult::OutputFull => (DecoderResult::OutputFull, 0),

@@ -1,4 +1,4 @@
-// Looks for a byte order mark at the front of some bytes.
+// Looks for a byte order mark at the start of some bytes.
 
 ghost use Rattle.std.specs.Prelude.{◌≡◌, ◌||◌};
 ghost use Rattle.encoding_front.specs.Seeking.{can_be, encoding_of_mark, find_end, find_mark, find_second, head_of, is_sought, len_of, nothing_sought, seeks, sought_by};
@@ -54,29 +54,29 @@ impl ByteOrderMark {
 
 /// The marks that would be taken.
 #[derive(Clone, Copy)]
-pub struct Sought {
+pub struct BomSet {
     pub utf8: bool,
     pub utf16_be: bool,
     pub utf16_le: bool,
 }
 
-impl Sought {
+impl BomSet {
     /// Those that are taken from an input that is said to be in this encoding.
-    pub(crate) fn new(mark: Mark, encoding: Encoding) -> Sought
+    pub(crate) fn new(mark: Mark, encoding: Encoding) -> BomSet
         ensures { result ≡ sought_by mark encoding }
     {
-        Sought {
+        BomSet {
             utf8: mark.takes(encoding, Encoding::Utf8),
             utf16_be: mark.takes(encoding, Encoding::Utf16Be),
             utf16_le: mark.takes(encoding, Encoding::Utf16Le),
         }
     }
 
-    /// None, as after the front of an input.
-    pub(crate) fn nothing() -> Sought
+    /// None, as after the start of an input.
+    pub(crate) fn nothing() -> BomSet
         ensures { result ≡ nothing_sought }
     {
-        Sought {
+        BomSet {
             utf8: false,
             utf16_be: false,
             utf16_le: false,
@@ -119,19 +119,19 @@ impl Sought {
 
 /// What some bytes are to those who look for a mark.
 #[derive(Clone, Copy)]
-pub enum Seen {
+pub enum BomMatch {
     /// Some of a mark, and no more.
-    Front,
+    Prefix,
     Whole(ByteOrderMark),
     Other,
 }
 
-/// What stands at the front of these bytes.
-pub(crate) fn find_mark(sought: Sought, bytes: &[u8]) -> Seen
+/// What stands at the start of these bytes.
+pub(crate) fn find_mark(sought: BomSet, bytes: &[u8]) -> BomMatch
     ensures { result ≡ find_mark sought bytes.now }
 {
     match bytes {
-        [] => Seen::Front,
+        [] => BomMatch::Prefix,
         [a, rest @ ..] => {
             if *a == 0xEF && sought.utf8 {
                 find_second(rest)
@@ -140,39 +140,39 @@ pub(crate) fn find_mark(sought: Sought, bytes: &[u8]) -> Seen
             } else if *a == 0xFF && sought.utf16_le {
                 find_end(0xFE, ByteOrderMark::Utf16Le, rest)
             } else {
-                Seen::Other
+                BomMatch::Other
             }
         }
     }
 }
 
 // The second byte of a mark of UTF-8, and what follows it.
-fn find_second(bytes: &[u8]) -> Seen
+fn find_second(bytes: &[u8]) -> BomMatch
     ensures { result ≡ find_second bytes.now }
 {
     match bytes {
-        [] => Seen::Front,
+        [] => BomMatch::Prefix,
         [b, rest @ ..] => {
             if *b == 0xBB {
                 find_end(0xBF, ByteOrderMark::Utf8, rest)
             } else {
-                Seen::Other
+                BomMatch::Other
             }
         }
     }
 }
 
 // The last byte of a mark.
-fn find_end(byte: u8, mark: ByteOrderMark, bytes: &[u8]) -> Seen
+fn find_end(byte: u8, mark: ByteOrderMark, bytes: &[u8]) -> BomMatch
     ensures { result ≡ find_end byte mark bytes.now }
 {
     match bytes {
-        [] => Seen::Front,
+        [] => BomMatch::Prefix,
         [c, ..] => {
             if *c == byte {
-                Seen::Whole(mark)
+                BomMatch::Whole(mark)
             } else {
-                Seen::Other
+                BomMatch::Other
             }
         }
     }

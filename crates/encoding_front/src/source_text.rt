@@ -19,7 +19,7 @@ pub(crate) trait SourceText: Copy {
     /// The text of bytes or units.
     ghost text: { List ℕ → List ℕ };
 
-    /// A place between characters.
+    /// An offset between characters.
     ghost IsBoundary: { List ℕ → ℕ → Type 0 };
 
     /// Whether it is a list of units of 16 bits.
@@ -37,8 +37,8 @@ pub(crate) trait SourceText: Copy {
         requires { IsBoundary (list self) read }
         ensures { list result ≡ drop read (list self) };
 
-    /// Encodes it without replacement. Answers how the call ended, the bytes or units read, and the bytes
-    /// written.
+    /// Encodes it without replacement. Returns how the call ended, the bytes or units read, and the
+    /// bytes written.
     fn encode(
         self,
         encoder: &mut Encoder<'_>,

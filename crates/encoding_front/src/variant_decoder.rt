@@ -1,18 +1,18 @@
 ghost use Rattle.std.specs.Prelude.{◌≡◌};
-ghost use Rattle.encoding_front.specs.Encodings.{IsReady, pieces_of, room_of_encoding};
+ghost use Rattle.encoding_front.specs.Encodings.{IsReady, pieces_of, decoded_length_of};
 ghost use Rattle.encoding_front.specs.Latin1Prefix.{TellsLatin1, by_ascii, by_index, by_mode, latin1_rule, untold};
 ghost use Rattle.encoding_front.specs.declared.variant_decoder.VariantDecoder.TheVariants.{Utf8, SingleByte, Big5, EucKr, EucJp, ShiftJis, Gb18030, Iso2022Jp, UserDefined, Utf16, Replacement};
 
+use crate::bom_decoder::Switches;
+use crate::codec_kind::CodecKind;
 use crate::encoding::Encoding;
-use crate::marked_decoder::Switches;
-use crate::scheme::Scheme;
 use crate::seeking::ByteOrderMark;
 use encoding_codecs::{
     Big5Decoder, EucJpDecoder, EucKrDecoder, Gb18030Decoder, Iso2022JpDecoder, ShiftJisDecoder,
 };
-use encoding_mem::piece_decoder::PieceDecoder;
-use encoding_mem::room::Room;
+use encoding_mem::room::DecodedLength;
 use encoding_mem::sink::Sink;
+use encoding_mem::sink_decoder::SinkDecoder;
 use encoding_mem::{
     DecoderResult, RawDecoder, Utf8Decoder, ascii_valid_up_to, iso_2022_jp_ascii_valid_up_to,
 };
@@ -42,23 +42,23 @@ impl<'t> VariantDecoder<'t> {
         requires { IsReady tables.now encoding }
         ensures pending { (⟦<VariantDecoder<'t> as RawDecoder>⟧.state result).pending ≡ 0 }
         ensures pieces { (⟦<VariantDecoder<'t> as RawDecoder>⟧.state result).pieces ≡ pieces_of tables.now encoding }
-        ensures room { (⟦<VariantDecoder<'t> as RawDecoder>⟧.state result).room ≡ room_of_encoding encoding }
+        ensures room { (⟦<VariantDecoder<'t> as RawDecoder>⟧.state result).room ≡ decoded_length_of encoding }
         ensures rule { ⟦<VariantDecoder<'t> as Switches>⟧.rule result ≡ latin1_rule encoding }
     {
-        match encoding.scheme() {
-            Scheme::Utf8 => VariantDecoder::Utf8(Utf8Decoder::new()),
-            Scheme::SingleByte(kind) => {
+        match encoding.codec_kind() {
+            CodecKind::Utf8 => VariantDecoder::Utf8(Utf8Decoder::new()),
+            CodecKind::SingleByte(kind) => {
                 VariantDecoder::SingleByte(SingleByteDecoder::new(tables, kind))
             }
-            Scheme::Big5 => VariantDecoder::Big5(Big5Decoder::new(tables)),
-            Scheme::EucKr => VariantDecoder::EucKr(EucKrDecoder::new(tables)),
-            Scheme::EucJp => VariantDecoder::EucJp(EucJpDecoder::new(tables)),
-            Scheme::ShiftJis => VariantDecoder::ShiftJis(ShiftJisDecoder::new(tables)),
-            Scheme::Gb18030 { .. } => VariantDecoder::Gb18030(Gb18030Decoder::new(tables)),
-            Scheme::Iso2022Jp => VariantDecoder::Iso2022Jp(Iso2022JpDecoder::new(tables)),
-            Scheme::UserDefined => VariantDecoder::UserDefined(UserDefinedDecoder::new()),
-            Scheme::Utf16 { big_endian } => VariantDecoder::Utf16(Utf16Decoder::new(big_endian)),
-            Scheme::Replacement => VariantDecoder::Replacement(ReplacementDecoder::new()),
+            CodecKind::Big5 => VariantDecoder::Big5(Big5Decoder::new(tables)),
+            CodecKind::EucKr => VariantDecoder::EucKr(EucKrDecoder::new(tables)),
+            CodecKind::EucJp => VariantDecoder::EucJp(EucJpDecoder::new(tables)),
+            CodecKind::ShiftJis => VariantDecoder::ShiftJis(ShiftJisDecoder::new(tables)),
+            CodecKind::Gb18030 { .. } => VariantDecoder::Gb18030(Gb18030Decoder::new(tables)),
+            CodecKind::Iso2022Jp => VariantDecoder::Iso2022Jp(Iso2022JpDecoder::new(tables)),
+            CodecKind::UserDefined => VariantDecoder::UserDefined(UserDefinedDecoder::new()),
+            CodecKind::Utf16 { big_endian } => VariantDecoder::Utf16(Utf16Decoder::new(big_endian)),
+            CodecKind::Replacement => VariantDecoder::Replacement(ReplacementDecoder::new()),
         }
     }
 
@@ -88,19 +88,19 @@ impl<'t> VariantDecoder<'t> {
     }
 }
 
-impl<'t> PieceDecoder for VariantDecoder<'t> {
+impl<'t> SinkDecoder for VariantDecoder<'t> {
     ghost state = { elim [
-      | Utf8 d ↦ ⟦<Utf8Decoder as PieceDecoder>⟧.state d
-      | SingleByte d ↦ ⟦<SingleByteDecoder<'t> as PieceDecoder>⟧.state d
-      | Big5 d ↦ ⟦<Big5Decoder<'t> as PieceDecoder>⟧.state d
-      | EucKr d ↦ ⟦<EucKrDecoder<'t> as PieceDecoder>⟧.state d
-      | EucJp d ↦ ⟦<EucJpDecoder<'t> as PieceDecoder>⟧.state d
-      | ShiftJis d ↦ ⟦<ShiftJisDecoder<'t> as PieceDecoder>⟧.state d
-      | Gb18030 d ↦ ⟦<Gb18030Decoder<'t> as PieceDecoder>⟧.state d
-      | Iso2022Jp d ↦ ⟦<Iso2022JpDecoder<'t> as PieceDecoder>⟧.state d
-      | UserDefined d ↦ ⟦<UserDefinedDecoder as PieceDecoder>⟧.state d
-      | Utf16 d ↦ ⟦<Utf16Decoder as PieceDecoder>⟧.state d
-      | Replacement d ↦ ⟦<ReplacementDecoder as PieceDecoder>⟧.state d
+      | Utf8 d ↦ ⟦<Utf8Decoder as SinkDecoder>⟧.state d
+      | SingleByte d ↦ ⟦<SingleByteDecoder<'t> as SinkDecoder>⟧.state d
+      | Big5 d ↦ ⟦<Big5Decoder<'t> as SinkDecoder>⟧.state d
+      | EucKr d ↦ ⟦<EucKrDecoder<'t> as SinkDecoder>⟧.state d
+      | EucJp d ↦ ⟦<EucJpDecoder<'t> as SinkDecoder>⟧.state d
+      | ShiftJis d ↦ ⟦<ShiftJisDecoder<'t> as SinkDecoder>⟧.state d
+      | Gb18030 d ↦ ⟦<Gb18030Decoder<'t> as SinkDecoder>⟧.state d
+      | Iso2022Jp d ↦ ⟦<Iso2022JpDecoder<'t> as SinkDecoder>⟧.state d
+      | UserDefined d ↦ ⟦<UserDefinedDecoder as SinkDecoder>⟧.state d
+      | Utf16 d ↦ ⟦<Utf16Decoder as SinkDecoder>⟧.state d
+      | Replacement d ↦ ⟦<ReplacementDecoder as SinkDecoder>⟧.state d
     ] };
 
     fn decode_into<S: Sink>(
@@ -128,7 +128,7 @@ impl<'t> PieceDecoder for VariantDecoder<'t> {
         }
     }
 
-    fn room(&self) -> Room {
+    fn room(&self) -> DecodedLength {
         match self {
             VariantDecoder::Utf8(decoder) => decoder.room(),
             VariantDecoder::SingleByte(decoder) => decoder.room(),

@@ -1,7 +1,7 @@
 ghost use Rattle.std.specs.Prelude.{◌≡◌, ◌≢◌, ◌↔◌, ℕ, ◌-◌, ◌≤◌, IsTrue, length, take, drop};
 ghost use Rattle.std.specs.Str.{chars, IsCharBoundary};
 ghost use Rattle.std.specs.Char.Utf16.{utf16_lossy_chars};
-ghost use Rattle.encoding_mem.specs.declared.form.Set.TheVariants.{Ascii};
+ghost use Rattle.encoding_mem.specs.declared.form.EscapeState.TheVariants.{Ascii};
 ghost use Rattle.encoding_mem.specs.laws.Utf8Coding.{utf8_coding_laws};
 ghost use Rattle.encoding_tables.specs.laws.SingleByte.{single_byte_laws};
 ghost use Rattle.encoding_tables.specs.laws.UserDefined.{user_defined_laws};
@@ -11,15 +11,15 @@ ghost use Rattle.encoding_codecs.specs.laws.EucJp.{euc_jp_laws};
 ghost use Rattle.encoding_codecs.specs.laws.ShiftJis.{shift_jis_laws};
 ghost use Rattle.encoding_codecs.specs.laws.Gb18030Coding.{gb18030_laws};
 ghost use Rattle.encoding_codecs.specs.laws.Iso2022JpForms.{iso_2022_jp_laws};
-ghost use Rattle.encoding_front.specs.Encodings.{IsReady, coding_of, need_of, output_encoding_of, text_room_of};
+ghost use Rattle.encoding_front.specs.Encodings.{IsReady, coding_of, need_of, output_encoding_of, encoded_length_of};
 ghost use Rattle.encoding_front.specs.declared.variant_encoder.VariantEncoder.TheVariants.{Utf8, SingleByte, Big5, EucKr, EucJp, ShiftJis, Gb18030, Iso2022Jp, UserDefined};
 
+use crate::codec_kind::CodecKind;
 use crate::encoding::Encoding;
-use crate::scheme::Scheme;
 use encoding_codecs::{
     Big5Encoder, EucJpEncoder, EucKrEncoder, Gb18030Encoder, Iso2022JpEncoder, ShiftJisEncoder,
 };
-use encoding_mem::room::TextRoom;
+use encoding_mem::room::EncodedLength;
 use encoding_mem::{EncoderResult, RawEncoder, Utf8Encoder};
 use encoding_tables::{SingleByteEncoder, Tables, UserDefinedEncoder};
 
@@ -44,23 +44,23 @@ impl<'t> VariantEncoder<'t> {
         ensures coding { ⟦<VariantEncoder<'t> as RawEncoder>⟧.coding result ≡ coding_of tables.now encoding }
         ensures set { ⟦<VariantEncoder<'t> as RawEncoder>⟧.set result ≡ Ascii }
         ensures need { ⟦<VariantEncoder<'t> as RawEncoder>⟧.need result ≡ need_of encoding }
-        ensures limits { ⟦<VariantEncoder<'t> as RawEncoder>⟧.limits result ≡ text_room_of encoding }
+        ensures limits { ⟦<VariantEncoder<'t> as RawEncoder>⟧.limits result ≡ encoded_length_of encoding }
     {
-        match encoding.output_encoding().scheme() {
-            Scheme::SingleByte(kind) => {
+        match encoding.output_encoding().codec_kind() {
+            CodecKind::SingleByte(kind) => {
                 VariantEncoder::SingleByte(SingleByteEncoder::new(tables, kind))
             }
-            Scheme::Big5 => VariantEncoder::Big5(Big5Encoder::new(tables)),
-            Scheme::EucKr => VariantEncoder::EucKr(EucKrEncoder::new(tables)),
-            Scheme::EucJp => VariantEncoder::EucJp(EucJpEncoder::new(tables)),
-            Scheme::ShiftJis => VariantEncoder::ShiftJis(ShiftJisEncoder::new(tables)),
-            Scheme::Gb18030 { extended } => {
+            CodecKind::Big5 => VariantEncoder::Big5(Big5Encoder::new(tables)),
+            CodecKind::EucKr => VariantEncoder::EucKr(EucKrEncoder::new(tables)),
+            CodecKind::EucJp => VariantEncoder::EucJp(EucJpEncoder::new(tables)),
+            CodecKind::ShiftJis => VariantEncoder::ShiftJis(ShiftJisEncoder::new(tables)),
+            CodecKind::Gb18030 { extended } => {
                 VariantEncoder::Gb18030(Gb18030Encoder::new(tables, extended))
             }
-            Scheme::Iso2022Jp => VariantEncoder::Iso2022Jp(Iso2022JpEncoder::new(tables)),
-            Scheme::UserDefined => VariantEncoder::UserDefined(UserDefinedEncoder::new()),
+            CodecKind::Iso2022Jp => VariantEncoder::Iso2022Jp(Iso2022JpEncoder::new(tables)),
+            CodecKind::UserDefined => VariantEncoder::UserDefined(UserDefinedEncoder::new()),
             // No output encoding is UTF-16 or replacement.
-            Scheme::Utf8 | Scheme::Utf16 { .. } | Scheme::Replacement => {
+            CodecKind::Utf8 | CodecKind::Utf16 { .. } | CodecKind::Replacement => {
                 VariantEncoder::Utf8(Utf8Encoder::new())
             }
         }
@@ -166,7 +166,7 @@ impl<'t> RawEncoder for VariantEncoder<'t> {
         }
     }
 
-    fn room(&self) -> TextRoom {
+    fn room(&self) -> EncodedLength {
         match self {
             VariantEncoder::Utf8(encoder) => encoder.room(),
             VariantEncoder::SingleByte(encoder) => encoder.room(),

@@ -8,8 +8,8 @@ use std::alloc::{AllocError, Global};
 use std::process::Abort;
 use std::test::Fail;
 
-// What a stream gives that comes in two slices: its units, whether a piece was bad, and the encoding at its
-// end.
+// What a stream gives that comes in two slices: its units, whether a piece was malformed, and the
+// encoding at its end.
 #[derive(Clone, Copy, PartialEq, Eq, Debug)]
 struct Read {
     units: [u16; 12],
@@ -28,10 +28,10 @@ fn read_cut(
     if !encoding.is_ready(tables) {
         return None;
     }
-    let (front, rest) = bytes.split_at_checked(cut)?;
+    let (prefix, rest) = bytes.split_at_checked(cut)?;
     let mut decoder = Decoder::new(encoding, mark, tables);
     let mut units = [0; 12];
-    let (_, _, first, bad) = decoder.decode_to_utf16(front, &mut units, false);
+    let (_, _, first, bad) = decoder.decode_to_utf16(prefix, &mut units, false);
     let room = units.get_mut(first..)?;
     let (outcome, _, second, worse) = decoder.decode_to_utf16(rest, room, true);
     if outcome != CoderResult::InputEmpty {
@@ -173,8 +173,8 @@ fn half_a_mark_is_text(rt: HostRuntime) -> Result<(), TableFault> {
     Ok(())
 }
 
-// Calls into so many bytes each until all is read, and adds what they write. Answers whether a piece was bad;
-// none where they do not get there.
+// Calls into so many bytes each until all is read, and adds what they write. Returns whether a
+// piece was malformed; none where they do not get there.
 fn read_bytes(
     decoder: &mut Decoder<'_>,
     room: usize,
@@ -215,8 +215,8 @@ fn check_bytes(
     assert!(rt; encoding.is_ready(tables));
     let mut decoder = encoding.new_decoder(tables);
     let mut text = Vec::new(rt.alloc());
-    let (front, rest) = bytes.split_at_checked(cut).expect(rt, "a cut in the bytes");
-    let first = read_bytes(&mut decoder, room, front, false, &mut text)?;
+    let (prefix, rest) = bytes.split_at_checked(cut).expect(rt, "a cut in the bytes");
+    let first = read_bytes(&mut decoder, room, prefix, false, &mut text)?;
     let second = read_bytes(&mut decoder, room, rest, true, &mut text)?;
     assert_eq!(rt;
         text.as_slice(),
@@ -256,7 +256,7 @@ fn half_a_mark_into_few_bytes(rt: HostRuntime) -> Result<(), Fail> {
 }
 
 #[test]
-fn bad_pieces_behind_half_a_mark(rt: HostRuntime) {
+fn malformed_pieces_behind_half_a_mark(rt: HostRuntime) {
     let tables = Tables::new(rt.alloc());
     let mut decoder = REPLACEMENT.new_decoder(&tables);
     let mut dst = [0; 7];
@@ -337,7 +337,7 @@ fn empty_tables(alloc: Global) -> Result<Tables, TableFault> {
     Ok(tables)
 }
 
-// What a new decoder without marks answers; none where its indexes are not there.
+// What a new decoder without marks returns; none where its indexes are not there.
 fn latin1_at_the_start(tables: &Tables, encoding: Encoding, bytes: &[u8]) -> Option<Option<usize>> {
     if !encoding.is_ready(tables) {
         return None;

@@ -13,14 +13,14 @@ enum Destination {
     Spare,
 }
 
-// A kind of call: where the text goes, and whether U+FFFD is written for bad pieces.
+// A kind of call: where the text goes, and whether U+FFFD is written for malformed sequences.
 #[derive(Clone, Copy, PartialEq, Eq, Debug)]
 struct Kind {
     destination: Destination,
     replaces: bool,
 }
 
-// The answer of a call, with how many bytes the text has that it wrote.
+// The result of a call, with how many bytes the text has that it wrote.
 #[derive(Clone, Copy)]
 struct Answer {
     outcome: DecoderResult,
@@ -149,8 +149,8 @@ fn add(text: &mut String, bytes: &[u8]) -> Result<(), AllocError> {
     Ok(())
 }
 
-// One call into so much room, or into the room that is asked for. Adds what it wrote to the text, and U+FFFD
-// for a bad piece that it reports. Answers whether all was read, and how much.
+// One call into so much room, or into the room that is asked for. Adds what it wrote to the text,
+// and U+FFFD for a malformed sequence that it reports. Returns whether all was read, and how much.
 fn call(
     alloc: Global,
     decoder: &mut Decoder<'_>,
@@ -191,7 +191,8 @@ fn call(
     Ok(Some((answer.outcome, answer.read)))
 }
 
-// Calls until all is read. Answers whether no call into the room that was asked for was told that it is full.
+// Calls until all is read. Returns whether no call into the room that was asked for was told that
+// it is full.
 fn feed(
     alloc: Global,
     decoder: &mut Decoder<'_>,
@@ -237,13 +238,13 @@ fn each_call_decodes_the_stream(rt: HostRuntime) -> Result<(), AllocError> {
                     };
                     let mut decoder = UTF_8.new_decoder(&tables);
                     let mut text = String::new(rt.alloc());
-                    if let Some((front, rest)) = bytes.split_at_checked(cut) {
+                    if let Some((prefix, rest)) = bytes.split_at_checked(cut) {
                         let well = feed(
                             rt.alloc(),
                             &mut decoder,
                             kind,
                             room,
-                            front,
+                            prefix,
                             false,
                             &mut text,
                         )? && feed(rt.alloc(), &mut decoder, kind, room, rest, true, &mut text)?;

@@ -1,4 +1,4 @@
-// Encoders over small indexes, with answers worked by hand.
+// Encoders over small indexes, with results worked by hand.
 
 use encoding_front::{
     CoderResult, Encoder, Encoding, GB18030, ISO_2022_JP, REPLACEMENT, SHIFT_JIS, UTF_8, UTF_16BE,
@@ -17,8 +17,8 @@ const UNWRITTEN: u8 = 0xEE;
 fn tables(alloc: Global, entries: &[(usize, u32)]) -> Result<Tables, AllocError> {
     let mut jis0208 = std::vec![in alloc; 0; 11280]?;
     for (pointer, entry) in entries {
-        if let Some(place) = jis0208.get_mut(*pointer) {
-            *place = *entry;
+        if let Some(offset) = jis0208.get_mut(*pointer) {
+            *offset = *entry;
         }
     }
     let mut greek = [0; 128];
@@ -34,8 +34,8 @@ fn tables(alloc: Global, entries: &[(usize, u32)]) -> Result<Tables, AllocError>
     Ok(tables)
 }
 
-// A text, its units, the room, whether it is the last, the answer, whether a reference was written, and what was
-// read of the text and of the units.
+// A text, its units, the room, whether it is the last, the result, whether a reference was written,
+// and what was read of the text and of the units.
 struct Row {
     text: &'static str,
     units: &'static [u16],

@@ -78,10 +78,10 @@ const OF_SEVERAL_BYTES: [Encoding; 11] = [
 
 #[test]
 fn each_encoding_has_two_names(rt: HostRuntime) {
-    for (place, (encoding, second, name, _)) in ALL.iter().enumerate() {
+    for (offset, (encoding, second, name, _)) in ALL.iter().enumerate() {
         assert_eq!(rt; encoding, second, "{name}");
         assert_eq!(rt; encoding.name(), *name);
-        for (other, _, other_name, _) in &ALL[..place] {
+        for (other, _, other_name, _) in &ALL[..offset] {
             assert!(rt; encoding != other, "{name} {other_name}");
         }
     }

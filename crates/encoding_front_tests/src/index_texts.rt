@@ -112,7 +112,7 @@ fn a_load_reads_then_inserts(rt: HostRuntime) {
     }
 }
 
-// What new tables answer to the text of a kind.
+// What new tables return for the text of a kind.
 fn load_alone(alloc: Global, kind: IndexKind, text: &[u8]) -> Result<(), LoadFault> {
     load(alloc, &mut Tables::new(alloc), kind, text)
 }
@@ -155,7 +155,7 @@ fn a_load_takes_ranges(rt: HostRuntime) {
     }
 }
 
-// The answer to a text with this fault.
+// The result for a text with this fault.
 fn text_fault(line: usize, kind: IndexFaultKind) -> LoadFault {
     LoadFault::Text(IndexFault { line, kind })
 }

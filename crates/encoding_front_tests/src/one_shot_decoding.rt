@@ -1,4 +1,4 @@
-// Whole inputs at once, with answers worked by hand.
+// Whole inputs at once, with results worked by hand.
 
 use encoding_front::{Encoding, OneShotFault, SHIFT_JIS, UTF_8, WINDOWS_1257};
 use encoding_tables::{IndexKind, Tables};
@@ -48,7 +48,8 @@ fn is_removed(
     Ok(text.as_bytes() == want.0.as_bytes() && bad == want.1)
 }
 
-// Whether a whole input, in which a mark is text, is this text; and whether it has none where a piece is bad.
+// Whether a whole input, in which a mark is text, is this text; and whether it has none where a
+// piece is malformed.
 fn is_kept(
     alloc: Global,
     tables: &Tables,
@@ -103,13 +104,13 @@ fn sniffed_marks(rt: HostRuntime) -> Result<(), Fail> {
     let alloc = rt.alloc();
     let tables = baltic(alloc, &[]);
     let marked = b"\xEF\xBB\xBF\xE2\x82\xAC\xC3\xA4";
-    let marked_bad = b"\xEF\xBB\xBF\xE2\x82\xAC\x80\xC3\xA4";
+    let marked_malformed = b"\xEF\xBB\xBF\xE2\x82\xAC\x80\xC3\xA4";
     let good = ("\u{20AC}\u{E4}", UTF_8, false);
     let bad = ("\u{20AC}\u{FFFD}\u{E4}", UTF_8, true);
     assert!(rt; is_sniffed(alloc, &tables, WINDOWS_1257, marked, good)?);
     assert!(rt; is_sniffed(alloc, &tables, UTF_8, marked, good)?);
-    assert!(rt; is_sniffed(alloc, &tables, WINDOWS_1257, marked_bad, bad)?);
-    assert!(rt; is_sniffed(alloc, &tables, UTF_8, marked_bad, bad)?);
+    assert!(rt; is_sniffed(alloc, &tables, WINDOWS_1257, marked_malformed, bad)?);
+    assert!(rt; is_sniffed(alloc, &tables, UTF_8, marked_malformed, bad)?);
     Ok(())
 }
 
@@ -162,7 +163,7 @@ fn inputs_whose_mark_is_text(rt: HostRuntime) -> Result<(), Fail> {
     let alloc = rt.alloc();
     let tables = baltic(alloc, EURO);
     let marked = b"\xEF\xBB\xBF\xE2\x82\xAC\xC3\xA4";
-    let marked_bad = b"\xEF\xBB\xBF\xE2\x82\xAC\x80\xC3\xA4";
+    let marked_malformed = b"\xEF\xBB\xBF\xE2\x82\xAC\x80\xC3\xA4";
     assert!(rt;
         is_kept(
             alloc,
@@ -187,7 +188,7 @@ fn inputs_whose_mark_is_text(rt: HostRuntime) -> Result<(), Fail> {
             alloc,
             &tables,
             UTF_8,
-            marked_bad,
+            marked_malformed,
             ("\u{FEFF}\u{20AC}\u{FFFD}\u{E4}", true)
         )?
     );

@@ -1,12 +1,4 @@
-pub mod DigitLists
-pub mod LineEnds
-pub mod SkippedLines
-pub mod OutcomeLists
-pub mod FlatLists
-pub mod RowLists
-pub mod RisingRows
-pub mod ResultCases
-pub mod LoadAnswers
-pub mod WrittenRows
-pub mod FirstFaults
-pub mod ListEntries
+pub mod LineLemmas
+pub mod FaultLemmas
+pub mod RowLemmas
+pub mod LoadLemmas

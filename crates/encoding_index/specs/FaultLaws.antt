@@ -1,24 +1,25 @@
--- Which fault is the first, said of the lines by their places.
+-- Which fault is the first, said of the lines by their offsets.
 use Rattle.std.specs.Prelude.{◌≡◌, ℕ, ◌+◌, ◌<◌, List, [], length, take, Option, None, Some, MatchOption, slice_index_or}
 use Rattle.encoding_index.specs.IndexText.{lines_in, rows_in, least_above, line_fault, first_fault}
 use Rattle.encoding_index.specs.declared.fault.IndexFault.{IndexFault}
 use Rattle.encoding_index.specs.declared.fault.IndexFaultKind.{IndexFaultKind}
 
--- what is wrong with the line that stands behind `place` lines: its pointer is to rise above those of the rows before it
+-- what is wrong with the line that stands behind `offset` lines: its pointer is to rise above those of the rows before
+-- it
 abbrev pub fault_at : ℕ → List (List ℕ) → ℕ → Option IndexFaultKind
-fault_at size lines place = line_fault size (least_above (rows_in (take place lines))) (slice_index_or lines place [])
+fault_at size lines offset = line_fault size (least_above (rows_in (take offset lines))) (slice_index_or lines offset [])
 
--- no line before that place is faulty
+-- no line before that offset is faulty
 abbrev pub NoneFaultyBefore : ℕ → List (List ℕ) → ℕ → Type 0
-NoneFaultyBefore size lines place = (k : ℕ) → k < place → fault_at size lines k ≡ None
+NoneFaultyBefore size lines offset = (k : ℕ) → k < offset → fault_at size lines k ≡ None
 
 -- the line is faulty, and no line before it is
 pub record IsFirstFault (size : ℕ) (lines : List (List ℕ)) (fault : IndexFault) : Type 0 where
-  pub place : ℕ
-  pub within : place < length lines
-  pub numbered : fault.line ≡ place + 1
-  pub faulty : fault_at size lines place ≡ Some fault.kind
-  pub none_before : NoneFaultyBefore size lines place
+  pub offset : ℕ
+  pub within : offset < length lines
+  pub numbered : fault.line ≡ offset + 1
+  pub faulty : fault_at size lines offset ≡ Some fault.kind
+  pub none_before : NoneFaultyBefore size lines offset
 
 -- a text has a first fault, or no line is faulty
 abbrev pub FaultsAreFirst : Type 0

@@ -28,18 +28,18 @@ o >>= f = option_and_then f o
 
 -- the bytes behind these
 abbrev pub behind : List ℕ → List ℕ → Option (List ℕ)
-behind front bytes = if starts_with nat_eq bytes front then Some (drop (length front) bytes) else None
+behind prefix bytes = if starts_with nat_eq bytes prefix then Some (drop (length prefix) bytes) else None
 
 -- the number that the first `count` bytes write, if they are `least` to `most`, and the bytes behind them
 abbrev pub number_in : ℕ → ℕ → ℕ → ℕ → List ℕ → Option (ℕ × List ℕ)
 number_in radix least most count bytes =
     if nat_lt count least || nat_lt most count then None else Some (digits_value radix (take count bytes), drop count bytes)
 
--- 1 to 7 decimal digits, all that stand at the front
+-- 1 to 7 decimal digits, all that stand at the start
 abbrev pub pointer_in : List ℕ → Option (ℕ × List ℕ)
 pointer_in bytes = number_in 10 1 7 (prefix_len is_digit bytes) bytes
 
--- 4 to 6 hexadecimal digits, all that stand at the front
+-- 4 to 6 hexadecimal digits, all that stand at the start
 abbrev pub code_in : List ℕ → Option (ℕ × List ℕ)
 code_in bytes = number_in 16 4 6 (prefix_len is_hex_digit bytes) bytes
 

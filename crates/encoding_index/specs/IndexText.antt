@@ -61,6 +61,6 @@ text_rows text = rows_in (lines_in text)
 abbrev pub text_list : ℕ → List ℕ → List ℕ
 text_list size text = flat_list size (text_rows text)
 
--- the answer where memory is refused
+-- the result where memory is refused
 abbrev pub out_of_memory : IndexFault
 out_of_memory = record { line = 0; kind = Memory }

@@ -25,7 +25,7 @@ fn is_hex_digit(b: u8) -> bool
     b.is_ascii_digit() || (b'A'..=b'F').contains(&b)
 }
 
-// How many spaces stand at the front.
+// How many spaces stand at the start.
 fn spaces_len(bytes: &[u8]) -> usize
     ensures count { result ≡ prefix_len is_space bytes.now }
     ensures within { result ≤ length bytes.now }
@@ -33,7 +33,7 @@ fn spaces_len(bytes: &[u8]) -> usize
     bytes.iter().take_while(|b| **b == b' ').count()
 }
 
-// How many decimal digits stand at the front.
+// How many decimal digits stand at the start.
 fn digits_len(bytes: &[u8]) -> usize
     ensures count { result ≡ prefix_len is_digit bytes.now }
     ensures within { result ≤ length bytes.now }
@@ -41,7 +41,7 @@ fn digits_len(bytes: &[u8]) -> usize
     bytes.iter().take_while(|b| b.is_ascii_digit()).count()
 }
 
-// How many hexadecimal digits stand at the front.
+// How many hexadecimal digits stand at the start.
 fn hex_digits_len(bytes: &[u8]) -> usize
     ensures count { result ≡ prefix_len is_hex_digit bytes.now }
     ensures within { result ≤ length bytes.now }
@@ -64,7 +64,7 @@ fn digits_value(digits: &[u8], radix: u32) -> u32
     value
 }
 
-// The pointer at the front, and the bytes behind it.
+// The pointer at the start, and the bytes behind it.
 fn pointer_in(bytes: &[u8]) -> Option<(u32, &[u8])>
     ensures none { result ≡ None → pointer_in bytes.now ≡ None }
     ensures some { IfSome result (λ p. pointer_in bytes.now ≡ Some (p.0, p.1.now)) }
@@ -77,7 +77,7 @@ fn pointer_in(bytes: &[u8]) -> Option<(u32, &[u8])>
     Some((digits_value(digits, 10), rest))
 }
 
-// The code point at the front, and the bytes behind it.
+// The code point at the start, and the bytes behind it.
 fn code_in(bytes: &[u8]) -> Option<(u32, &[u8])>
     ensures none { result ≡ None → code_in bytes.now ≡ None }
     ensures some { IfSome result (λ p. code_in bytes.now ≡ Some (p.0, p.1.now)) }

@@ -12,7 +12,7 @@ fn without_carriage_return(line: &[u8]) -> &[u8]
     ensures { result.now ≡ strip_carriage_return line.now }
 {
     match line {
-        [front @ .., b'\r'] => front,
+        [prefix @ .., b'\r'] => prefix,
         _ => line,
     }
 }
@@ -25,7 +25,7 @@ fn line_len(text: &[u8]) -> usize
 }
 
 // The first line of a text with some bytes, without its end, and what stands behind that.
-#[tactic(auto, using(crate::proofs::LineEnds::lines_last))]
+#[tactic(auto, using(crate::proofs::LineLemmas::lines_last))]
 fn first_line(text: &[u8]) -> (&[u8], &[u8])
     requires { 0 < length text.now }
     ensures lines { lines text.now ≡ result.0.now ∷ lines result.1.now }

@@ -47,7 +47,7 @@ const SEQUENCES: [(&str, Codec, &[u8]); 11] = [
     ),
 ];
 
-// What stands in a digest for a bad piece, besides its length.
+// What stands in a digest for a malformed sequence, besides its length.
 const BAD: u32 = 0x0011_0000;
 
 // What stands in a digest for a character without bytes, besides its number.
@@ -76,7 +76,8 @@ impl Seen {
         }
     }
 
-    // Encodes a text to its end. Answers whether it was written by one call, with these bytes in front.
+    // Encodes a text to its end. Returns whether it was written by one call, with these bytes
+    // before them.
     fn write<E: RawEncoder>(&mut self, encoder: &mut E, text: &[u16], bytes: &[u8]) -> bool {
         let mut rest = text;
         for calls in 0..16 {
@@ -100,7 +101,8 @@ impl Seen {
         false
     }
 
-    // Decodes a sequence to its end, and encodes the text before each bad piece and behind the last.
+    // Decodes a sequence to its end, and encodes the text before each malformed sequence and behind
+    // the last.
     fn read<D: RawDecoder, E: RawEncoder>(
         &mut self,
         decoder: &mut D,
@@ -185,9 +187,10 @@ impl Seen {
     }
 }
 
-// Prints of each encoding, and what stands before the two bytes, how many sequences are read without a bad
-// piece, how many of these are written as they were read, and how many bad pieces and characters without
-// bytes there are; then, for each lead, the digest of all that is read with it, and of all that is written.
+// Prints of each encoding, and what stands before the two bytes, how many sequences are read
+// without a malformed sequence, how many of these are written as they were read, and how many
+// malformed sequences and characters without bytes there are; then, for each lead, the digest of
+// all that is read with it, and of all that is written.
 pub(crate) fn print_sequences(rt: &(impl Print + Alloc), tables: &Tables) -> anyhow::Result<()>
     requires big5 { has tables.now IndexKind.Big5 ≡ true }
     requires euc_kr { has tables.now IndexKind.EucKr ≡ true }
@@ -197,12 +200,12 @@ pub(crate) fn print_sequences(rt: &(impl Print + Alloc), tables: &Tables) -> any
     requires ranges { has tables.now IndexKind.Gb18030Ranges ≡ true }
     requires katakana { has tables.now IndexKind.Iso2022JpKatakana ≡ true }
 {
-    for (name, codec, front) in SEQUENCES {
+    for (name, codec, prefix) in SEQUENCES {
         let mut seen = Seen::new();
         let mut read = Vec::new(rt.alloc());
         let mut written = Vec::new(rt.alloc());
         for lead in 0..=255 {
-            let mut bytes = Vec::from_slice(rt.alloc(), front)?;
+            let mut bytes = Vec::from_slice(rt.alloc(), prefix)?;
             bytes.extend_from_slice(&[lead, 0])?;
             for second in 0..=255 {
                 if let Some(last) = bytes.last_mut() {

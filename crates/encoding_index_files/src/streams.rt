@@ -40,7 +40,8 @@ fn streams_of(encoding: Encoding) -> &'static [Streams] {
     }
 }
 
-// What was read: how many streams have no bad piece, how many have one, and all of the text.
+// What was read: how many streams have no malformed sequence, how many have one, and all of the
+// text.
 #[derive(Drop)]
 struct Told {
     whole: u32,
@@ -70,11 +71,11 @@ impl Told {
         alloc: Global,
         tables: &Tables,
         encoding: Encoding,
-        front: &[u8],
+        prefix: &[u8],
     ) -> Result<(), AllocError>
         requires { IsReady tables.now encoding }
     {
-        let mut bytes = Vec::from_slice(alloc, front)?;
+        let mut bytes = Vec::from_slice(alloc, prefix)?;
         bytes.push(0)?;
         for value in 0..=255 {
             if let Some(last) = bytes.last_mut() {
@@ -90,11 +91,11 @@ impl Told {
         alloc: Global,
         tables: &Tables,
         encoding: Encoding,
-        front: &[u8],
+        prefix: &[u8],
     ) -> Result<(), AllocError>
         requires { IsReady tables.now encoding }
     {
-        let mut bytes = Vec::from_slice(alloc, front)?;
+        let mut bytes = Vec::from_slice(alloc, prefix)?;
         bytes.push(0)?;
         for value in 0..=255 {
             if let Some(last) = bytes.last_mut() {
@@ -120,8 +121,8 @@ impl Told {
     }
 }
 
-// Prints how many streams an encoding reads without a bad piece, how many with one, and the digest of what
-// is read.
+// Prints how many streams an encoding reads without a malformed sequence, how many with one, and
+// the digest of what is read.
 pub(crate) fn print_streams(
     rt: &(impl Print + AllocGlobal),
     tables: &Tables,
@@ -136,8 +137,8 @@ pub(crate) fn print_streams(
     };
     for streams in streams_of(encoding) {
         match streams {
-            Streams::One(front) => told.one(rt.alloc(), tables, encoding, front)?,
-            Streams::Two(front) => told.two(rt.alloc(), tables, encoding, front)?,
+            Streams::One(prefix) => told.one(rt.alloc(), tables, encoding, prefix)?,
+            Streams::Two(prefix) => told.two(rt.alloc(), tables, encoding, prefix)?,
             Streams::Four => told.four(tables, encoding),
         }
     }

@@ -1,2 +1,1 @@
-pub mod Search
-pub mod Computed
+pub mod LabelLemmas

@@ -15,15 +15,15 @@ abbrev pub words : List ℕ → List (List ℕ)
 words [] = [] ∷ []
 words (b ∷ bs) = add_byte b (words bs)
 
--- a row of the table: the labels of one encoding, each with the encoding's place
+-- a row of the table: the labels of one encoding, each with the encoding's number
 abbrev pub row : ℕ → String → List (ℕ × List ℕ)
-row place text = map (λ (label : List ℕ). (place, label)) (words (codes text))
+row number text = map (λ (label : List ℕ). (number, label)) (words (codes text))
 
 abbrev pub all_of : List (List (ℕ × List ℕ)) → List (ℕ × List ℕ)
 all_of [] = []
 all_of (r ∷ rows) = r ++ all_of rows
 
--- every label, with the place of its encoding: the standard's table, row by row
+-- every label, with the number of its encoding: the standard's table, row by row
 unfoldable pub labels : List (ℕ × List ℕ)
 labels = all_of (
     row UTF_8 "unicode-1-1-utf-8 unicode11utf8 unicode20utf8 utf-8 utf8 x-unicode20utf8"
@@ -82,18 +82,18 @@ trimmed bytes = without_trailing (without_leading bytes)
 abbrev pub label_text : List ℕ → List ℕ
 label_text label = map to_ascii_lowercase (trimmed label)
 
--- the encoding at this place has the label ("get an encoding")
+-- the encoding at this number has the label ("get an encoding")
 abbrev pub IsLabelOf : ℕ → List ℕ → Type 0
-IsLabelOf place label = Contains labels (place, label_text label)
+IsLabelOf number label = Contains labels (number, label_text label)
 
--- the place at the first entry with this text
-abbrev pub place_in : List (ℕ × List ℕ) → List ℕ → Option ℕ
-place_in [] text = None
-place_in (entry ∷ entries) text = cond (bytes_eq entry.1 text) (Some entry.0) (place_in entries text)
+-- the number at the first entry with this text
+abbrev pub label_number_in : List (ℕ × List ℕ) → List ℕ → Option ℕ
+label_number_in [] text = None
+label_number_in (entry ∷ entries) text = cond (bytes_eq entry.1 text) (Some entry.0) (label_number_in entries text)
 
--- the place of the encoding that has the label
-abbrev pub place_of : List ℕ → Option ℕ
-place_of label = place_in labels (label_text label)
+-- the number of the encoding that has the label
+abbrev pub number_of_label : List ℕ → Option ℕ
+number_of_label label = label_number_in labels (label_text label)
 
 -- the bytes that labels are made of
 abbrev pub is_label_byte : ℕ → Bool
@@ -106,8 +106,8 @@ pub record IsLabelText (text : List ℕ) : Type 0 where
   pub bytes : AllPass is_label_byte text
 
 -- the encodings in the order of their places_rise
-pub places_rise : (BIG5 ∷ EUC_JP ∷ EUC_KR ∷ GB18030 ∷ GBK ∷ IBM866 ∷ ISO_2022_JP ∷ ISO_8859_2 ∷ ISO_8859_3 ∷ ISO_8859_4 ∷ ISO_8859_5 ∷ ISO_8859_6 ∷ ISO_8859_7 ∷ ISO_8859_8 ∷ ISO_8859_8_I ∷ ISO_8859_10 ∷ ISO_8859_13 ∷ ISO_8859_14 ∷ ISO_8859_15 ∷ ISO_8859_16 ∷ KOI8_R ∷ KOI8_U ∷ MACINTOSH ∷ REPLACEMENT ∷ SHIFT_JIS ∷ UTF_8 ∷ UTF_16BE ∷ UTF_16LE ∷ WINDOWS_874 ∷ WINDOWS_1250 ∷ WINDOWS_1251 ∷ WINDOWS_1252 ∷ WINDOWS_1253 ∷ WINDOWS_1254 ∷ WINDOWS_1255 ∷ WINDOWS_1256 ∷ WINDOWS_1257 ∷ WINDOWS_1258 ∷ X_MAC_CYRILLIC ∷ X_USER_DEFINED ∷ []) ≡ range_with_len 0 ENCODING_COUNT
-places_rise = refl
+pub label_numbers_rise : (BIG5 ∷ EUC_JP ∷ EUC_KR ∷ GB18030 ∷ GBK ∷ IBM866 ∷ ISO_2022_JP ∷ ISO_8859_2 ∷ ISO_8859_3 ∷ ISO_8859_4 ∷ ISO_8859_5 ∷ ISO_8859_6 ∷ ISO_8859_7 ∷ ISO_8859_8 ∷ ISO_8859_8_I ∷ ISO_8859_10 ∷ ISO_8859_13 ∷ ISO_8859_14 ∷ ISO_8859_15 ∷ ISO_8859_16 ∷ KOI8_R ∷ KOI8_U ∷ MACINTOSH ∷ REPLACEMENT ∷ SHIFT_JIS ∷ UTF_8 ∷ UTF_16BE ∷ UTF_16LE ∷ WINDOWS_874 ∷ WINDOWS_1250 ∷ WINDOWS_1251 ∷ WINDOWS_1252 ∷ WINDOWS_1253 ∷ WINDOWS_1254 ∷ WINDOWS_1255 ∷ WINDOWS_1256 ∷ WINDOWS_1257 ∷ WINDOWS_1258 ∷ X_MAC_CYRILLIC ∷ X_USER_DEFINED ∷ []) ≡ range_with_len 0 ENCODING_COUNT
+label_numbers_rise = refl
 
 pub length-labels : length labels ≡ 228
 unfolding labels
@@ -135,22 +135,22 @@ label_text-tab = refl
 pub label_text-white : label_text (9 ∷ 10 ∷ 12 ∷ 13 ∷ 32 ∷ []) ≡ []
 label_text-white = refl
 
-pub place_of-latin2 : place_of (codes " Latin2") ≡ Some 7
+pub number_of_label-latin2 : number_of_label (codes " Latin2") ≡ Some 7
 unfolding labels
-place_of-latin2 = refl
+number_of_label-latin2 = refl
 
-pub place_of-unicode11utf8 : place_of (codes "unicode11utf8") ≡ Some 25
+pub number_of_label-unicode11utf8 : number_of_label (codes "unicode11utf8") ≡ Some 25
 unfolding labels
-place_of-unicode11utf8 = refl
+number_of_label-unicode11utf8 = refl
 
-pub place_of-utf-16be : place_of (codes "UTF-16BE") ≡ Some 26
+pub number_of_label-utf-16be : number_of_label (codes "UTF-16BE") ≡ Some 26
 unfolding labels
-place_of-utf-16be = refl
+number_of_label-utf-16be = refl
 
-pub place_of-none : place_of (codes "utf-8 _") ≡ None
+pub number_of_label-none : number_of_label (codes "utf-8 _") ≡ None
 unfolding labels
-place_of-none = refl
+number_of_label-none = refl
 
-pub place_of-empty : place_of [] ≡ None
+pub number_of_label-empty : number_of_label [] ≡ None
 unfolding labels
-place_of-empty = refl
+number_of_label-empty = refl

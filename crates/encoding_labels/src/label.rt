@@ -1,21 +1,21 @@
 ghost use Rattle.std.specs.Prelude.{◌≡◌, ℕ, ◌<◌, ◌↔◌, Option, Some, IfSome, OnSome, map};
 ghost use Rattle.std.specs.Char.{to_ascii_lowercase};
-ghost use Rattle.encoding_labels.specs.Labels.{label_text, trimmed, IsLabelOf, IsLabelText, place_in, place_of};
+ghost use Rattle.encoding_labels.specs.Labels.{label_text, trimmed, IsLabelOf, IsLabelText, label_number_in, number_of_label};
 ghost use Rattle.encoding_labels.specs.laws.ByLength.{entries};
 
 use crate::places::ENCODING_COUNT;
 use crate::table::rows_of_length;
 
-/// The place of the encoding that has this label, as in `places`, or `None` where no encoding has
+/// The number of the encoding that has this label, as in `places`, or `None` where no encoding has
 /// it: "get an encoding" of the Encoding Standard, section 4.2.
 ///
 /// White space at both ends (the bytes 09, 0A, 0C, 0D and 20) and the case of ASCII letters do not
 /// matter. The label may have any length. It is not copied, and what is left of it between the
 /// white space is compared with the labels of its own length alone, of which there are 38 at most.
 pub fn label_number(label: &[u8]) -> Option<usize>
-    ensures labels { (place : ℕ) → (result ≡ Some place) ↔ IsLabelOf place label.now }
-    ensures value { result ≡ place_of label.now }
-    ensures below { IfSome result (λ place. place < ENCODING_COUNT) }
+    ensures labels { (number : ℕ) → (result ≡ Some number) ↔ IsLabelOf number label.now }
+    ensures value { result ≡ number_of_label label.now }
+    ensures below { IfSome result (λ number. number < ENCODING_COUNT) }
     ensures text { OnSome result (IsLabelText (label_text label.now)) }
 {
     let text = trim(label);
@@ -29,13 +29,13 @@ fn trim(label: &[u8]) -> &[u8]
     label.trim_ascii()
 }
 
-// The place in the first row whose label is the text, where ASCII case does not matter.
+// The number in the first row whose label is the text, where ASCII case does not matter.
 fn find(rows: &[(&str, usize)], text: &[u8]) -> Option<usize>
-    ensures { result ≡ place_in (entries rows.now) (map to_ascii_lowercase text.now) }
+    ensures { result ≡ label_number_in (entries rows.now) (map to_ascii_lowercase text.now) }
 {
-    for (label, place) in rows {
+    for (label, number) in rows {
         if label.as_bytes().eq_ignore_ascii_case(text) {
-            return Some(*place);
+            return Some(*number);
         }
     }
     None

@@ -1,5 +1,5 @@
-//! The place of each encoding in the list of all of them, from 0. The list has the encodings of the
-//! Encoding Standard, in the order of the names below.
+//! The number of each encoding in the list of all of them, from 0. The list has the encodings of
+//! the Encoding Standard, in the order of the names below.
 
 pub const BIG5: usize = 0;
 

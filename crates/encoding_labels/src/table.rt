@@ -1,6 +1,6 @@
-// The labels for the search, by their length: that leaves few to compare with, and the lists need no
-// order and no index. In each list the labels stand in the order of the Encoding Standard, in lower
-// case, each with the place of its encoding.
+// The labels for the search, by their length: that leaves few to compare with, and the lists need
+// no order and no index. In each list the labels stand in the order of the Encoding Standard, in
+// lower case, each with the number of its encoding.
 
 ghost use Rattle.std.specs.Prelude.{◌≡◌, ℕ};
 ghost use Rattle.encoding_labels.specs.laws.ByLength.{entries, labels_of_length};
@@ -15,7 +15,7 @@ use crate::places::{
 };
 
 // The labels of this length, in bytes.
-#[tactic(auto, using(crate::proofs::Search::labels_of_length_other), unfolding(crate::specs::Labels::labels))]
+#[tactic(auto, using(crate::proofs::LabelLemmas::labels_of_length_other), unfolding(crate::specs::Labels::labels))]
 pub(crate) fn rows_of_length(length: usize) -> &'static [(&'static str, usize)]
     ensures { entries result.now ≡ labels_of_length length }
 {

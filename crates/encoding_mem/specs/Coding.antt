@@ -3,15 +3,15 @@ use Rattle.std.specs.Prelude.{◌≡◌, ℕ, ◌+◌, ◌≤◌, List, [], ◌�
 use Rattle.std.specs.Fmt.{decimal}
 use Rattle.encoding_mem.specs.declared.form.Form.{Form}
 use Rattle.encoding_mem.specs.declared.form.Form.TheVariants.{Mapped, Unmapped}
-use Rattle.encoding_mem.specs.declared.form.Set.{Set}
-use Rattle.encoding_mem.specs.declared.form.Set.TheVariants.{Ascii}
+use Rattle.encoding_mem.specs.declared.form.EscapeState.{EscapeState}
+use Rattle.encoding_mem.specs.declared.form.EscapeState.TheVariants.{Ascii}
 
 -- A target: the form of each scalar, the set in which it is written after one that is in force, and the
 -- escape between two sets.
 pub record Coding : Type 0 where
   pub form : ℕ → Form
-  pub set : Set → ℕ → Set
-  pub escape : Set → Set → List ℕ
+  pub set : EscapeState → ℕ → EscapeState
+  pub escape : EscapeState → EscapeState → List ℕ
 
 -- the numeric character reference: `&#`, the decimal digits, `;`
 abbrev pub reference : ℕ → List ℕ
@@ -27,17 +27,17 @@ spelled (Mapped bs) = bs
 spelled (Unmapped c) = reference c
 
 -- a text from a set: each scalar's escape, then its bytes or its reference
-abbrev pub open_from : Coding → Set → List ℕ → List ℕ
+abbrev pub open_from : Coding → EscapeState → List ℕ → List ℕ
 open_from e s [] = []
 open_from e s (c ∷ t) = e.escape s (e.set s c) ++ (spelled (e.form c) ++ open_from e (e.set s c) t)
 
 -- the set after a text
-abbrev pub last_set : Coding → Set → List ℕ → Set
+abbrev pub last_set : Coding → EscapeState → List ℕ → EscapeState
 last_set e s [] = s
 last_set e s (c ∷ t) = last_set e (e.set s c) t
 
 -- that text, and the escape to ASCII
-abbrev pub whole_from : Coding → Set → List ℕ → List ℕ
+abbrev pub whole_from : Coding → EscapeState → List ℕ → List ℕ
 whole_from e s t = open_from e s t ++ e.escape (last_set e s t) Ascii
 
 -- the output for a text
@@ -69,8 +69,8 @@ pub record FitsNeed (need : ℕ) (f : Form) : Type 0 where
 -- What a target is: a set that a scalar has chosen stays for it, a set has no escape to itself, and no part is
 -- longer than need, which is 4 at most.
 pub record IsCoding (need : ℕ) (e : Coding) : Type 0 where
-  pub stays : (s : Set) (c : ℕ) → e.set (e.set s c) c ≡ e.set s c
-  pub same : (s : Set) → e.escape s s ≡ []
+  pub stays : (s : EscapeState) (c : ℕ) → e.set (e.set s c) c ≡ e.set s c
+  pub same : (s : EscapeState) → e.escape s s ≡ []
   pub short : (c : ℕ) → FitsNeed need (e.form c)
-  pub escape_short : (s s' : Set) → length (e.escape s s') ≤ need
+  pub escape_short : (s s' : EscapeState) → length (e.escape s s') ≤ need
   pub few : need ≤ 4

@@ -25,10 +25,10 @@ pub record IsLongest (Whole : ℕ → Type 0) (size : ℕ → ℕ) (len room n :
   pub fits : size n ≤ room
   pub longest : (i : ℕ) → n < i → i ≤ len → Whole i → room < size i
 
--- a place in units of UTF-16 that is not between the two of a surrogate pair
+-- an offset in units of UTF-16 that is not between the two of a surrogate pair
 abbrev pub IsUnitBoundary : List ℕ → ℕ → Type 0
 IsUnitBoundary units i = (k : ℕ) → i ≡ k + 1 → ¬ (IsSurrogatePair (slice_index units k) (slice_index units i))
 
--- the longest text at the front of bytes
-abbrev pub text_front : List ℕ → List ℕ
-text_front bytes = take (utf8_valid_len bytes) bytes
+-- the longest text at the start of bytes
+abbrev pub text_prefix : List ℕ → List ℕ
+text_prefix bytes = take (utf8_valid_len bytes) bytes

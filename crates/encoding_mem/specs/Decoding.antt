@@ -1,10 +1,10 @@
 -- What a call of a decoder does.
 use Rattle.std.specs.Prelude.{◌≡◌, ℕ, ◌+◌, ◌-◌, ◌≤◌, ◌<◌, ◌≢◌, ◌⊎◌, Bool, false, IsTrue, Some, List, [], ◌∷◌, ◌++◌, length, drop}
-use Rattle.encoding_mem.specs.Piece.{Piece, bad, first, piece_len, sizes, scalars, text_of, AreGood, ArePieces}
-use Rattle.encoding_mem.specs.Room.{room_of}
-use Rattle.encoding_mem.specs.declared.room.Count.{Count}
-use Rattle.encoding_mem.specs.declared.room.Room.{Room}
-use Rattle.encoding_mem.specs.Event.{Event, malformed, events, scalar_events}
+use Rattle.encoding_mem.specs.Piece.{Piece, malformed, first, piece_len, sizes, scalars, text_of, AreWellFormed, ArePieces}
+use Rattle.encoding_mem.specs.DecodedLength.{decoded_length}
+use Rattle.encoding_mem.specs.declared.room.OutputUnit.{OutputUnit}
+use Rattle.encoding_mem.specs.declared.room.DecodedLength.{DecodedLength}
+use Rattle.encoding_mem.specs.Event.{Event, malformed_at, events, scalar_events}
 use Rattle.encoding_mem.specs.declared.decoder_result.DecoderResult.{DecoderResult}
 use Rattle.encoding_mem.specs.declared.decoder_result.DecoderResult.TheVariants.{InputEmpty, OutputFull, Malformed}
 
@@ -16,10 +16,10 @@ pub record DecoderState : Type 0 where
   -- joined, the pieces are the pending bytes and those that follow
   pub whole : (x : List ℕ) → sizes (pieces x) ≡ pending + length x
   pub are_pieces : (x : List ℕ) → ArePieces (pieces x)
-  -- the most room that a call wants free for so many new bytes, and what is answered to those who ask
-  pub needs : Count → ℕ → ℕ
-  pub room : Room
-  pub covers : (k : Count) (n : ℕ) → needs k n ≤ room_of room k (pending + n)
+  -- the most room that a call wants free for so many new bytes, and what is returned to those who ask
+  pub needs : OutputUnit → ℕ → ℕ
+  pub room : DecodedLength
+  pub covers : (k : OutputUnit) (n : ℕ) → needs k n ≤ decoded_length room k (pending + n)
 
 -- a list of pieces that the pieces of every continuation begin with
 abbrev pub IsDecided : (List ℕ → List Piece) → List ℕ → List Piece → Type 0
@@ -42,17 +42,17 @@ abbrev pub IsKnown : (pieces : List ℕ → List Piece) (unread : List ℕ) (las
 IsKnown pieces unread last =
     (p : Piece) × ((r : List ℕ) → (IsTrue last → r ≡ []) → first (pieces (unread ++ r)) ≡ Some p) × (0 < length (text_of p))
 
--- which pieces a call took: only the last may be bad, and the caller is told so
+-- which pieces a call took: only the last may be malformed, and the caller is told so
 abbrev pub Reports : DecoderResult → ℕ → List Piece → Type 0
-Reports InputEmpty pending taken = AreGood taken
-Reports OutputFull pending taken = AreGood taken
-Reports (Malformed a b) pending taken = (pending ≡ b) × (a ≤ 4) × (b ≤ 3) × (a + b ≤ 6) × ((front : List Piece) × AreGood front × (taken ≡ front ++ (bad a ∷ [])))
+Reports InputEmpty pending taken = AreWellFormed taken
+Reports OutputFull pending taken = AreWellFormed taken
+Reports (Malformed a b) pending taken = (pending ≡ b) × (a ≤ 4) × (b ≤ 3) × (a + b ≤ 6) × ((prefix : List Piece) × AreWellFormed prefix × (taken ≡ prefix ++ (malformed a ∷ [])))
 
 -- What a call took: pieces that are Good as a whole. before and after are the pieces that the bytes to come give,
 -- from the decoder as it was and as it is; Writes says that the scalars were written.
-pub record Takes (Good : List Piece → Type 0) (before after : List ℕ → List Piece) (src : List ℕ) (last : Bool) (pending_before pending_after read : ℕ) (Writes : List ℕ → Type 0) : Type 0 where
+pub record Takes (WellFormed : List Piece → Type 0) (before after : List ℕ → List Piece) (src : List ℕ) (last : Bool) (pending_before pending_after read : ℕ) (Writes : List ℕ → Type 0) : Type 0 where
   pub taken : List Piece
-  pub good : Good taken
+  pub well_formed : WellFormed taken
   pub within : read ≤ length src
   pub counted : pending_before + read ≡ sizes taken + pending_after
   pub writes : Writes (scalars taken)
@@ -70,16 +70,16 @@ EndsWith after unread last free room mark InputEmpty =
 EndsWith after unread last free room mark OutputFull = (free < room) × IsKnown after.pieces unread last
 EndsWith after unread last free room mark (Malformed a b) = mark ≤ free
 
--- what an answer tells beside the scalars that were written: a bad piece that ends at this place
+-- what a result tells beside the scalars that were written: a malformed sequence that ends at this offset
 abbrev pub reported_event : DecoderResult → ℕ → List Event
-reported_event InputEmpty place = []
-reported_event OutputFull place = []
-reported_event (Malformed a b) place = malformed a place ∷ []
+reported_event InputEmpty offset = []
+reported_event OutputFull offset = []
+reported_event (Malformed a b) offset = malformed_at a offset ∷ []
 
--- The state law over events, whose places count from the first pending byte: the events of every continuation are the
+-- The state law over events, whose offsets count from the first pending byte: the events of every continuation are the
 -- scalars that were written, what was reported_event, and the events of what is left.
 abbrev pub EventLaw : (before after : DecoderState) (src : List ℕ) (last : Bool) (read : ℕ) (Writes : List ℕ → Type 0) → DecoderResult → Type 0
 EventLaw before after src last read Writes outcome =
-    let place : ℕ = before.pending + read - after.pending in
+    let offset : ℕ = before.pending + read - after.pending in
     (written : List ℕ) × Writes written × ((r : List ℕ) → (IsTrue last → r ≡ []) →
-    events 0 (before.pieces (src ++ r)) ≡ (scalar_events written ++ reported_event outcome place) ++ events place (after.pieces (drop read src ++ r)))
+    events 0 (before.pieces (src ++ r)) ≡ (scalar_events written ++ reported_event outcome offset) ++ events offset (after.pieces (drop read src ++ r)))

@@ -1,12 +1,12 @@
 -- What the driver of a rule does, where its state is known by the rule's pieces and by what is pending.
 use Rattle.std.specs.Prelude.{◌≡◌, ℕ, ◌+◌, ◌-◌, ◌≤◌, ◌<◌, ◌⊎◌, Bool, false, IsTrue, Option, Some, None, List, [], ◌++◌, length}
 use Rattle.std.proofs.Common.{◌∙◌, length-append, subst, arith}
-use Rattle.encoding_mem.specs.Piece.{Piece, bad, first, piece_len, scalars_of, text_of, sizes, IsGood, AreGood, ArePieces}
+use Rattle.encoding_mem.specs.Piece.{Piece, malformed, first, piece_len, scalars_of, text_of, sizes, IsWellFormed, AreWellFormed, ArePieces}
 use Rattle.encoding_mem.specs.Decoding.{DecoderState, IsUndecided, IsKnown, Reports}
-use Rattle.encoding_mem.specs.FrontPiece.{IsFirstPiece, IsSoon}
-use Rattle.encoding_mem.specs.Room.{is_units, goes_on, replacement_len, left_after, room_of}
-use Rattle.encoding_mem.specs.declared.room.Count.{Count}
-use Rattle.encoding_mem.specs.declared.room.Room.{Room}
+use Rattle.encoding_mem.specs.DecoderRule.{IsFirstPiece, IsSoon}
+use Rattle.encoding_mem.specs.DecodedLength.{is_units, goes_on, replacement_len, left_after, decoded_length}
+use Rattle.encoding_mem.specs.declared.room.OutputUnit.{OutputUnit}
+use Rattle.encoding_mem.specs.declared.room.DecodedLength.{DecodedLength}
 use Rattle.encoding_mem.specs.declared.decoder_result.DecoderResult.{DecoderResult}
 use Rattle.encoding_mem.specs.declared.decoder_result.DecoderResult.TheVariants.{InputEmpty, OutputFull, Malformed}
 use Rattle.encoding_mem.specs.declared.driver.Step.{Step}
@@ -16,7 +16,7 @@ use Rattle.encoding_mem.specs.declared.driver.Step.TheVariants.{Wait, Full, Took
 abbrev pub IsNear : (List ℕ → List Piece) → List ℕ → Type 0
 IsNear pieces x = (r : List ℕ) (p : Piece) → first (pieces (x ++ r)) ≡ Some p → length x ≤ piece_len p + 3
 
--- A step: wait for more, no room, a piece that is not bad, a bad piece. mark is what U+FFFD needs.
+-- A step: wait for more, no room, a piece that is not malformed, a malformed sequence. mark is what U+FFFD needs.
 abbrev pub IsStep : {C W : Type 0} (pieces : C → List ℕ → List Piece) (writes : W → List ℕ → W → Type 0) (free : W → ℕ)
     (room mark : ℕ) (before after : C) (bytes : List ℕ) (last : Bool) (old new : W) → Step → Type 0
 IsStep pieces writes free room mark before after bytes last old new Wait =
@@ -24,17 +24,17 @@ IsStep pieces writes free room mark before after bytes last old new Wait =
 IsStep pieces writes free room mark before after bytes last old new Full =
     (free new < room) × ((p : Piece) × (rest : List ℕ → List Piece) × IsFirstPiece (pieces before) rest bytes last p × (0 < length (text_of p))) × (after ≡ before) × (new ≡ old)
 IsStep pieces writes free room mark before after bytes last old new (Took n) =
-    (p : Piece) × IsGood p × (piece_len p ≡ n) × IsFirstPiece (pieces before) (pieces after) bytes last p × writes old (scalars_of p) new
+    (p : Piece) × IsWellFormed p × (piece_len p ≡ n) × IsFirstPiece (pieces before) (pieces after) bytes last p × writes old (scalars_of p) new
 IsStep pieces writes free room mark before after bytes last old new (Broke n) =
-    IsFirstPiece (pieces before) (pieces after) bytes last (bad n) × (n ≤ 4) × (new ≡ old) × (mark ≤ free new)
+    IsFirstPiece (pieces before) (pieces after) bytes last (malformed n) × (n ≤ 4) × (new ≡ old) × (mark ≤ free new)
 
 -- Where there was room for m bytes, a step isn't refused for want of it, and what is left is room for the rest. window
 -- is how many bytes were looked at: all that there are, where last.
-abbrev pub IsRoomyStep : (before after : Count → ℕ → ℕ) (t last : Bool) (window old new : ℕ) → Step → Type 0
+abbrev pub IsRoomyStep : (before after : OutputUnit → ℕ → ℕ) (t last : Bool) (window old new : ℕ) → Step → Type 0
 IsRoomyStep before after t last window old new Wait = Unit {0}
-IsRoomyStep before after t last window old new Full = (k : Count) (m : ℕ) → is_units k ≡ t → window ≤ m → (IsTrue last → m ≡ window) → before k m ≤ old → ⊥
-IsRoomyStep before after t last window old new (Took n) = (k : Count) (m : ℕ) → is_units k ≡ t → window ≤ m → (IsTrue last → m ≡ window) → before k m ≤ old → after k (m - n) ≤ new
-IsRoomyStep before after t last window old new (Broke n) = (k : Count) (m : ℕ) → is_units k ≡ t → window ≤ m → (IsTrue last → m ≡ window) → before k m ≤ old → left_after (goes_on k) (replacement_len t) (after k (m - n)) ≤ new
+IsRoomyStep before after t last window old new Full = (k : OutputUnit) (m : ℕ) → is_units k ≡ t → window ≤ m → (IsTrue last → m ≡ window) → before k m ≤ old → ⊥
+IsRoomyStep before after t last window old new (Took n) = (k : OutputUnit) (m : ℕ) → is_units k ≡ t → window ≤ m → (IsTrue last → m ≡ window) → before k m ≤ old → after k (m - n) ≤ new
+IsRoomyStep before after t last window old new (Broke n) = (k : OutputUnit) (m : ℕ) → is_units k ≡ t → window ≤ m → (IsTrue last → m ≡ window) → before k m ≤ old → left_after (goes_on k) (replacement_len t) (after k (m - n)) ≤ new
 
 -- why a call ended: pieces are those from the state at the end, mark is what U+FFFD needs
 abbrev pub DriverEndsWith : (pieces : List ℕ → List Piece) (pending unread : List ℕ) (last : Bool) (free room mark : ℕ) → DecoderResult → Type 0
@@ -50,28 +50,28 @@ Remains pieces pending = (pending ≡ []) ⊎ ((0 < length pending) × IsUndecid
 -- Room that is enough for the size bytes of a call and m more, none after a last call, isn't refused, and what is left
 -- is enough for the unread ones of them. before and after are the needs of so many new bytes, old and new is the room
 -- that is free.
-abbrev pub Suffices : (before after : Count → ℕ → ℕ) (t last : Bool) (size unread old new : ℕ) → DecoderResult → Type 0
-Suffices before after t last size unread old new InputEmpty = (k : Count) (m : ℕ) → is_units k ≡ t → (IsTrue last → m ≡ 0) → before k (size + m) ≤ old → after k m ≤ new
-Suffices before after t last size unread old new OutputFull = (k : Count) (m : ℕ) → is_units k ≡ t → (IsTrue last → m ≡ 0) → before k (size + m) ≤ old → ⊥
-Suffices before after t last size unread old new (Malformed a b) = (k : Count) (m : ℕ) → is_units k ≡ t → (IsTrue last → m ≡ 0) → before k (size + m) ≤ old → left_after (goes_on k) (replacement_len t) (after k (unread + m)) ≤ new
+abbrev pub Suffices : (before after : OutputUnit → ℕ → ℕ) (t last : Bool) (size unread old new : ℕ) → DecoderResult → Type 0
+Suffices before after t last size unread old new InputEmpty = (k : OutputUnit) (m : ℕ) → is_units k ≡ t → (IsTrue last → m ≡ 0) → before k (size + m) ≤ old → after k m ≤ new
+Suffices before after t last size unread old new OutputFull = (k : OutputUnit) (m : ℕ) → is_units k ≡ t → (IsTrue last → m ≡ 0) → before k (size + m) ≤ old → ⊥
+Suffices before after t last size unread old new (Malformed a b) = (k : OutputUnit) (m : ℕ) → is_units k ≡ t → (IsTrue last → m ≡ 0) → before k (size + m) ≤ old → left_after (goes_on k) (replacement_len t) (after k (unread + m)) ≤ new
 
 -- The same of a part of a call, which has ended only with an outcome, and else left nothing pending.
 abbrev pub PartReports : Option DecoderResult → ℕ → List Piece → Type 0
-PartReports None pending taken = AreGood taken
+PartReports None pending taken = AreWellFormed taken
 PartReports (Some outcome) pending taken = Reports outcome pending taken
 
 abbrev pub PartEnds : (pieces : List ℕ → List Piece) (pending unread : List ℕ) (last : Bool) (free room mark : ℕ) → Option DecoderResult → Type 0
 PartEnds pieces pending unread last free room mark None = pending ≡ []
 PartEnds pieces pending unread last free room mark (Some outcome) = DriverEndsWith pieces pending unread last free room mark outcome
 
-abbrev pub PartSuffices : (before after : Count → ℕ → ℕ) (t last : Bool) (size unread old new : ℕ) → Option DecoderResult → Type 0
-PartSuffices before after t last size unread old new None = (k : Count) (m : ℕ) → is_units k ≡ t → (IsTrue last → m ≡ 0) → before k (size + m) ≤ old → after k (unread + m) ≤ new
+abbrev pub PartSuffices : (before after : OutputUnit → ℕ → ℕ) (t last : Bool) (size unread old new : ℕ) → Option DecoderResult → Type 0
+PartSuffices before after t last size unread old new None = (k : OutputUnit) (m : ℕ) → is_units k ≡ t → (IsTrue last → m ≡ 0) → before k (size + m) ≤ old → after k (unread + m) ≤ new
 PartSuffices before after t last size unread old new (Some outcome) = Suffices before after t last size unread old new outcome
 
 -- the state of a rule with what is pending
 abbrev pub buffered : (pieces : List ℕ → List Piece) (whole : (x : List ℕ) → sizes (pieces x) ≡ length x)
-    (are_pieces : (x : List ℕ) → ArePieces (pieces x)) (needs : Count → ℕ → ℕ) (room : Room)
-    (covers : (k : Count) (n : ℕ) → needs k n ≤ room_of room k n) (pending : List ℕ) → DecoderState
+    (are_pieces : (x : List ℕ) → ArePieces (pieces x)) (needs : OutputUnit → ℕ → ℕ) (room : DecodedLength)
+    (covers : (k : OutputUnit) (n : ℕ) → needs k n ≤ decoded_length room k n) (pending : List ℕ) → DecoderState
 buffered pieces whole are_pieces needs room covers pending = record {
   pieces = λ x. pieces (pending ++ x);
   pending = length pending;
@@ -84,8 +84,8 @@ buffered pieces whole are_pieces needs room covers pending = record {
 
 -- the state of a rule where nothing is ever pending
 abbrev pub immediate : (pieces : List ℕ → List Piece) (whole : (x : List ℕ) → sizes (pieces x) ≡ length x)
-    (are_pieces : (x : List ℕ) → ArePieces (pieces x)) (needs : Count → ℕ → ℕ) (room : Room)
-    (covers : (k : Count) (n : ℕ) → needs k n ≤ room_of room k n) → DecoderState
+    (are_pieces : (x : List ℕ) → ArePieces (pieces x)) (needs : OutputUnit → ℕ → ℕ) (room : DecodedLength)
+    (covers : (k : OutputUnit) (n : ℕ) → needs k n ≤ decoded_length room k n) → DecoderState
 immediate pieces whole are_pieces needs room covers = record {
   pieces = pieces;
   pending = 0;
@@ -93,5 +93,5 @@ immediate pieces whole are_pieces needs room covers = record {
   are_pieces = are_pieces;
   needs = needs;
   room = room;
-  covers = λ k n. (let same : n ≡ 0 + n = omega arith in subst (λ (m : ℕ). needs k n ≤ room_of room k m) same (covers k n));
+  covers = λ k n. (let same : n ≡ 0 + n = omega arith in subst (λ (m : ℕ). needs k n ≤ decoded_length room k m) same (covers k n));
 }

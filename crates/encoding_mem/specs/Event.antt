@@ -1,17 +1,17 @@
--- What a caller is told: scalars one by one, and each bad piece with its length and the place where it ends.
+-- What a caller is told: scalars one by one, and each malformed sequence with its length and the offset where it ends.
 use Rattle.std.specs.Prelude.{ℕ, ◌+◌, List, [], ◌∷◌, ◌++◌}
-use Rattle.encoding_mem.specs.Piece.{Piece, good, bad}
+use Rattle.encoding_mem.specs.Piece.{Piece, well_formed, malformed}
 
 pub data Event : Type 0 where
   scalar : (c : ℕ) → Event
-  malformed : (size end : ℕ) → Event
+  malformed_at : (size end : ℕ) → Event
 
 abbrev pub scalar_events : List ℕ → List Event
 scalar_events [] = []
 scalar_events (c ∷ cs) = scalar c ∷ scalar_events cs
 
--- of pieces that begin at a place
+-- of pieces that begin at an offset
 abbrev pub events : ℕ → List Piece → List Event
-events place [] = []
-events place (good n cs ∷ ps) = scalar_events cs ++ events (place + n) ps
-events place (bad n ∷ ps) = malformed n (place + n) ∷ events (place + n) ps
+events offset [] = []
+events offset (well_formed n cs ∷ ps) = scalar_events cs ++ events (offset + n) ps
+events offset (malformed n ∷ ps) = malformed_at n (offset + n) ∷ events (offset + n) ps

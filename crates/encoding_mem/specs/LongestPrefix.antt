@@ -2,7 +2,7 @@
 use Rattle.std.specs.Prelude.{ℕ, ◌<◌, ◌≤◌, List, length, take}
 
 -- the first n elements have the property, and no longer prefix has it
-pub record IsLongestPrefix (Good : List ℕ → Type 0) (xs : List ℕ) (n : ℕ) : Type 0 where
+pub record IsLongestPrefix (WellFormed : List ℕ → Type 0) (xs : List ℕ) (n : ℕ) : Type 0 where
   pub within : n ≤ length xs
-  pub good : Good (take n xs)
-  pub longest : (m : ℕ) → n < m → m ≤ length xs → ¬ (Good (take m xs))
+  pub well_formed : WellFormed (take n xs)
+  pub longest : (m : ℕ) → n < m → m ≤ length xs → ¬ (WellFormed (take m xs))

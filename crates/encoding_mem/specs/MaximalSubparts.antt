@@ -3,7 +3,7 @@
 use Rattle.std.specs.Prelude.{◌≡◌, ◌↔◌, ℕ, ◌<◌, ◌⊎◌, List, [], ◌∷◌, ◌++◌, length, drop}
 use Rattle.std.specs.Char.{IsScalar, encode_utf8}
 use Rattle.encoding_mem.specs.LongestPrefix.{IsLongestPrefix}
-use Rattle.encoding_mem.specs.Piece.{Piece, good, bad, piece_len}
+use Rattle.encoding_mem.specs.Piece.{Piece, well_formed, malformed, piece_len}
 use Rattle.encoding_mem.specs.Utf8.{pieces_utf8}
 
 -- bytes begin with the whole form of this scalar value
@@ -31,8 +31,8 @@ pub record IsMaximalSubpart (bytes : List ℕ) (n : ℕ) : Type 0 where
 
 -- what the first piece is to be: the form of a scalar value, which it gives, or else the maximal subpart
 abbrev pub IsUtf8Piece : List ℕ → Piece → Type 0
-IsUtf8Piece bytes (good n cs) = (c : ℕ) × BeginsWithForm bytes c × (n ≡ length (encode_utf8 c)) × (cs ≡ c ∷ [])
-IsUtf8Piece bytes (bad n) = IsMaximalSubpart bytes n
+IsUtf8Piece bytes (well_formed n cs) = (c : ℕ) × BeginsWithForm bytes c × (n ≡ length (encode_utf8 c)) × (cs ≡ c ∷ [])
+IsUtf8Piece bytes (malformed n) = IsMaximalSubpart bytes n
 
 -- the pieces of bytes are these: such a one, and then the pieces of the bytes behind it
 abbrev pub Utf8PiecesAreMaximal : Type 0

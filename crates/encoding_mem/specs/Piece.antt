@@ -1,32 +1,32 @@
 -- Pieces: an input is cut into consecutive bytes that are decoded together (the Encoding Standard, section 4.1,
--- "decoder": what its handler makes of the bytes between two answers).
+-- "decoder": what its handler makes of the bytes between two returns).
 use Rattle.std.specs.Prelude.{◌≡◌, ℕ, ◌+◌, ◌≤◌, ◌<◌, true, List, [], ◌∷◌, ◌++◌, length, Option, Some, None}
 use Rattle.std.specs.Str.{all_scalars}
 
--- size bytes that give these scalars (one, or two, or none), or size bytes that are bad
+-- size bytes that give these scalars (one, or two, or none), or size bytes that are malformed
 pub data Piece : Type 0 where
-  good : (size : ℕ) (scalars : List ℕ) → Piece
-  bad : (size : ℕ) → Piece
+  well_formed : (size : ℕ) (scalars : List ℕ) → Piece
+  malformed : (size : ℕ) → Piece
 
 abbrev pub piece_len : Piece → ℕ
-piece_len (good n cs) = n
-piece_len (bad n) = n
+piece_len (well_formed n cs) = n
+piece_len (malformed n) = n
 
 -- the scalars that the bytes give
 abbrev pub scalars_of : Piece → List ℕ
-scalars_of (good n cs) = cs
-scalars_of (bad n) = []
+scalars_of (well_formed n cs) = cs
+scalars_of (malformed n) = []
 
--- what stands for them in the text: U+FFFD where they are bad
+-- what stands for them in the text: U+FFFD where they are malformed
 abbrev pub text_of : Piece → List ℕ
-text_of (good n cs) = cs
-text_of (bad n) = 0xFFFD ∷ []
+text_of (well_formed n cs) = cs
+text_of (malformed n) = 0xFFFD ∷ []
 
-abbrev pub IsGood : Piece → Type 0
-IsGood (good n cs) = Unit {0}
-IsGood (bad n) = ⊥
+abbrev pub IsWellFormed : Piece → Type 0
+IsWellFormed (well_formed n cs) = Unit {0}
+IsWellFormed (malformed n) = ⊥
 
--- The same of pieces in a row: their bytes, scalars and text, and that none is bad.
+-- The same of pieces in a row: their bytes, scalars and text, and that none is malformed.
 abbrev pub sizes : List Piece → ℕ
 sizes [] = 0
 sizes (p ∷ ps) = piece_len p + sizes ps
@@ -39,15 +39,15 @@ abbrev pub text : List Piece → List ℕ
 text [] = []
 text (p ∷ ps) = text_of p ++ text ps
 
-abbrev pub AreGood : List Piece → Type 0
-AreGood [] = Unit {0}
-AreGood (p ∷ ps) = IsGood p × AreGood ps
+abbrev pub AreWellFormed : List Piece → Type 0
+AreWellFormed [] = Unit {0}
+AreWellFormed (p ∷ ps) = IsWellFormed p × AreWellFormed ps
 
--- how many are bad
-abbrev pub bad_count : List Piece → ℕ
-bad_count [] = 0
-bad_count (good n cs ∷ ps) = bad_count ps
-bad_count (bad n ∷ ps) = 1 + bad_count ps
+-- how many are malformed
+abbrev pub malformed_count : List Piece → ℕ
+malformed_count [] = 0
+malformed_count (well_formed n cs ∷ ps) = malformed_count ps
+malformed_count (malformed n ∷ ps) = 1 + malformed_count ps
 
 abbrev pub first : List Piece → Option Piece
 first [] = None

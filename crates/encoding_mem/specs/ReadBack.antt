@@ -1,12 +1,12 @@
 -- Reading back what a target has written.
 use Rattle.std.specs.Prelude.{◌≡◌, ℕ, ◌↔◌, true, List}
 use Rattle.std.specs.Str.{all_scalars}
-use Rattle.encoding_mem.specs.Piece.{Piece, text, AreGood}
+use Rattle.encoding_mem.specs.Piece.{Piece, text, AreWellFormed}
 use Rattle.encoding_mem.specs.Coding.{Coding, AllMapped, output}
 
--- Decoded into these pieces, bytes have no bad piece and are the text.
+-- Decoded into these pieces, bytes have no malformed sequence and are the text.
 pub record ReadsAs (pieces : List ℕ → List Piece) (bytes t : List ℕ) : Type 0 where
-  pub good : AreGood (pieces bytes)
+  pub well_formed : AreWellFormed (pieces bytes)
   pub same : text (pieces bytes) ≡ t
 
 -- The output for a text reads as the text exactly where each scalar of it has bytes.

@@ -3,57 +3,57 @@ use Rattle.std.specs.Prelude.{◌≡◌, ◌≢◌, ℕ, ◌<◌, ◌≤◌, ◌
 use Rattle.std.specs.Char.{IsScalar}
 use Rattle.encoding_mem.specs.Coding.{Coding, spelled}
 use Rattle.encoding_mem.specs.Decoding.{IsDecided}
-use Rattle.encoding_mem.specs.Piece.{Piece, piece_len, scalars_of, text, sizes, IsGood, AreGood, good}
+use Rattle.encoding_mem.specs.Piece.{Piece, piece_len, scalars_of, text, sizes, IsWellFormed, AreWellFormed, well_formed}
 use Rattle.encoding_mem.specs.declared.form.Form.{Form}
-use Rattle.encoding_mem.specs.declared.form.Set.{Set}
+use Rattle.encoding_mem.specs.declared.form.EscapeState.{EscapeState}
 
 -- what is written for a character from a set: its escape, and its bytes or its reference
-abbrev pub one_from : Coding → Set → ℕ → List ℕ
+abbrev pub one_from : Coding → EscapeState → ℕ → List ℕ
 one_from e s c = e.escape s (e.set s c) ++ spelled (e.form c)
 
 -- Bytes are whole pieces with this text, and what follows them is read from another state.
 pub record Follows (before after : List ℕ → List Piece) (bytes t : List ℕ) : Type 0 where
   pub taken : List Piece
-  pub good : AreGood taken
+  pub well_formed : AreWellFormed taken
   pub same : text taken ≡ t
   pub whole : sizes taken ≡ length bytes
   pub rest : (r : List ℕ) → before (bytes ++ r) ≡ taken ++ after r
 
--- two texts differ at a place that both have
+-- two texts differ at an offset that both have
 pub record AreApart (a b : List ℕ) : Type 0 where
-  pub place : ℕ
-  pub in_one : place < length a
-  pub in_other : place < length b
-  pub apart : slice_index a place ≢ slice_index b place
+  pub offset : ℕ
+  pub in_one : offset < length a
+  pub in_other : offset < length b
+  pub apart : slice_index a offset ≢ slice_index b offset
 
--- Bytes never read as this text: of the pieces that they decide one is bad, or the text is another.
+-- Bytes never read as this text: of the pieces that they decide one is malformed, or the text is another.
 pub record IsBroken (before : List ℕ → List Piece) (bytes t : List ℕ) : Type 0 where
   pub taken : List Piece
   pub decided : IsDecided before bytes taken
-  pub wrong : (AreGood taken → ⊥) ⊎ AreApart (text taken) t
+  pub wrong : (AreWellFormed taken → ⊥) ⊎ AreApart (text taken) t
 
 -- A target reads back step by step: read from the set in force, what is written for a character is it, or is broken.
-abbrev pub StepLaw : Coding → (Set → List ℕ → List Piece) → Type 0
-StepLaw e pieces_from = (s : Set) (c : ℕ) → IsScalar c
+abbrev pub StepLaw : Coding → (EscapeState → List ℕ → List Piece) → Type 0
+StepLaw e pieces_from = (s : EscapeState) (c : ℕ) → IsScalar c
     → Follows (pieces_from s) (pieces_from (e.set s c)) (one_from e s c) (c ∷ []) ⊎ IsBroken (pieces_from s) (one_from e s c) (c ∷ [])
 
 -- the pieces of a decoder that has one mode
-abbrev pub in_any_set : (List ℕ → List Piece) → Set → List ℕ → List Piece
+abbrev pub in_any_set : (List ℕ → List Piece) → EscapeState → List ℕ → List Piece
 in_any_set pieces s = pieces
 
 -- ---- the same by the first piece, where there is one mode
 
 -- whatever follows these bytes, they are a piece that gives the scalar
-pub record Returns (front : List ℕ → Piece) (bytes : List ℕ) (c : ℕ) : Type 0 where
-  pub piece : (y : List ℕ) → front (bytes ++ y) ≡ good (length bytes) (c ∷ [])
+pub record Returns (first_piece : List ℕ → Piece) (bytes : List ℕ) (c : ℕ) : Type 0 where
+  pub piece : (y : List ℕ) → first_piece (bytes ++ y) ≡ well_formed (length bytes) (c ∷ [])
 
--- whatever follows them, they begin with a piece that is bad, or gives another scalar
-pub record Strays (front : List ℕ → Piece) (bytes : List ℕ) (c : ℕ) : Type 0 where
+-- whatever follows them, they begin with a piece that is malformed, or gives another scalar
+pub record Strays (first_piece : List ℕ → Piece) (bytes : List ℕ) (c : ℕ) : Type 0 where
   pub piece : Piece
-  pub first : (y : List ℕ) → front (bytes ++ y) ≡ piece
+  pub first : (y : List ℕ) → first_piece (bytes ++ y) ≡ piece
   pub within : piece_len piece ≤ length bytes
-  pub wrong : (¬ (IsGood piece)) ⊎ ((d : ℕ) × (d ≢ c) × (scalars_of piece ≡ d ∷ []))
+  pub wrong : (¬ (IsWellFormed piece)) ⊎ ((d : ℕ) × (d ≢ c) × (scalars_of piece ≡ d ∷ []))
 
 -- what is written for each scalar, its bytes or its reference, does the one or the other
 abbrev pub StepsReadBack : (List ℕ → Piece) → (ℕ → Form) → Type 0
-StepsReadBack front form = (c : ℕ) → IsScalar c → Returns front (spelled (form c)) c ⊎ Strays front (spelled (form c)) c
+StepsReadBack prefix form = (c : ℕ) → IsScalar c → Returns prefix (spelled (form c)) c ⊎ Strays prefix (spelled (form c)) c

@@ -2,12 +2,12 @@
 use Rattle.std.specs.Prelude.{ℕ, ◌<◌, Bool, List, [], ◌∷◌, length, map, slice_index, if◌then◌else◌}
 use Rattle.std.specs.Char.{len_utf8}
 use Rattle.std.specs.Str.{chars}
-use Rattle.encoding_mem.specs.Piece.{Piece, good}
+use Rattle.encoding_mem.specs.Piece.{Piece, well_formed}
 use Rattle.encoding_mem.specs.Writing.{encode_utf16_all}
 
 -- its pieces, where the bytes are UTF-8: each scalar is one
 abbrev pub text_pieces : List ℕ → List Piece
-text_pieces cs = map (λ c. good (len_utf8 c) (c ∷ [])) cs
+text_pieces cs = map (λ c. well_formed (len_utf8 c) (c ∷ [])) cs
 
 -- the length of a text in units of 16 bits, or in bytes
 abbrev pub text_len : (is_units : Bool) → List ℕ → ℕ

@@ -1,9 +1,9 @@
--- The pieces of UTF-8 (RFC 3629, section 4; Unicode, table 3-7; the Encoding Standard, section 8.1.1, "UTF-8
--- decoder"). A well-formed sequence is one scalar. A bad piece is the longest front of some well-formed sequence,
--- and one byte at least.
+-- The pieces of UTF-8 (RFC 3629, section 4; Unicode, table 3-7; the Encoding Standard, section 8.1.1, "UTF-8 decoder").
+-- A well-formed sequence is one scalar. A malformed sequence is the longest prefix of some well-formed sequence, and
+-- one byte at least.
 use Rattle.std.specs.Prelude.{◌≡◌, ℕ, ◌+◌, ◌-◌, ◌*◌, ◌==◌, List, [], ◌∷◌, nat_lt, if◌then◌else◌, refl}
 use Rattle.std.specs.Int.{is_in_range}
-use Rattle.encoding_mem.specs.Piece.{Piece, good, bad}
+use Rattle.encoding_mem.specs.Piece.{Piece, well_formed, malformed}
 use Rattle.encoding_mem.specs.Pieces.{pieces_in, pieces_by}
 
 -- The least and the greatest byte that may follow the first byte b: no form that is too long (E0, F0), no
@@ -26,30 +26,30 @@ scalar_of_four b c d e = (b - 0xF0) * 262144 + (c - 0x80) * 4096 + (d - 0x80) * 
 
 -- the piece that begins with one, two and three bytes of a longer sequence, and goes on with what follows them
 abbrev pub utf8_after_three : ℕ → ℕ → ℕ → List ℕ → Piece
-utf8_after_three b c d [] = bad 3
+utf8_after_three b c d [] = malformed 3
 utf8_after_three b c d (e ∷ x) = if is_in_range 0x80 0xBF e
-    then good 4 (scalar_of_four b c d e ∷ [])
-    else bad 3
+    then well_formed 4 (scalar_of_four b c d e ∷ [])
+    else malformed 3
 
 abbrev pub utf8_after_two : ℕ → ℕ → List ℕ → Piece
-utf8_after_two b c [] = bad 2
+utf8_after_two b c [] = malformed 2
 utf8_after_two b c (d ∷ x) = if is_in_range 0x80 0xBF d
-    then (if nat_lt b 0xF0 then good 3 (scalar_of_three b c d ∷ []) else utf8_after_three b c d x)
-    else bad 2
+    then (if nat_lt b 0xF0 then well_formed 3 (scalar_of_three b c d ∷ []) else utf8_after_three b c d x)
+    else malformed 2
 
 abbrev pub utf8_after_lead : ℕ → List ℕ → Piece
-utf8_after_lead b [] = bad 1
+utf8_after_lead b [] = malformed 1
 utf8_after_lead b (c ∷ x) = if is_in_range (second_min b) (second_max b) c
-    then (if nat_lt b 0xE0 then good 2 (scalar_of_two b c ∷ []) else utf8_after_two b c x)
-    else bad 1
+    then (if nat_lt b 0xE0 then well_formed 2 (scalar_of_two b c ∷ []) else utf8_after_two b c x)
+    else malformed 1
 
 -- the first piece of some bytes
-abbrev pub front_utf8 : List ℕ → Piece
-front_utf8 [] = bad 1
-front_utf8 (b ∷ x) = if nat_lt b 0x80
-    then good 1 (b ∷ [])
-    else (if is_in_range 0xC2 0xF4 b then utf8_after_lead b x else bad 1)
+abbrev pub first_piece_utf8 : List ℕ → Piece
+first_piece_utf8 [] = malformed 1
+first_piece_utf8 (b ∷ x) = if nat_lt b 0x80
+    then well_formed 1 (b ∷ [])
+    else (if is_in_range 0xC2 0xF4 b then utf8_after_lead b x else malformed 1)
 
 -- the pieces of some bytes, where the list's end is the end of the input
 abbrev pub pieces_utf8 : List ℕ → List Piece
-pieces_utf8 = pieces_by front_utf8
+pieces_utf8 = pieces_by first_piece_utf8

@@ -6,8 +6,8 @@ pub mod Piece
 pub mod Utf8
 pub mod Event
 pub mod Writing
-pub mod Room
-pub mod TextRoom
+pub mod DecodedLength
+pub mod EncodedLength
 pub mod Coding
 pub mod Items
 pub mod Decoding

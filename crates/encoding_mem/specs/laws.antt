@@ -6,11 +6,11 @@ pub mod Event
 pub mod Writing
 pub mod Utf8
 pub mod Shows
-pub mod Room
+pub mod DecodedLength
 pub mod Text
 pub mod Stateless
 pub mod Utf8Coding
-pub mod TextRoom
+pub mod EncodedLength
 pub mod Encoding
 pub mod ReadBack
 pub mod Steps

@@ -3,9 +3,9 @@ ghost use Rattle.std.specs.Str.{IsAscii};
 
 use crate::first::first_byte_from;
 
-/// The run of ASCII at the front of these bytes, which may be empty.
-pub fn ascii_front(bytes: &[u8]) -> &str
-    ensures front { result.now ≡ take (length result.now) bytes.now }
+/// The run of ASCII at the start of these bytes, which may be empty.
+pub fn ascii_prefix(bytes: &[u8]) -> &str
+    ensures prefix { result.now ≡ take (length result.now) bytes.now }
     ensures ascii { IsAscii result.now }
     ensures longest { length result.now < length bytes.now → 0x80 ≤ slice_index bytes.now (length result.now) }
 {
@@ -13,11 +13,12 @@ pub fn ascii_front(bytes: &[u8]) -> &str
     unsafe { std::str::from_utf8_unchecked(&bytes[..end]) }
 }
 
-/// The run of ASCII at the front of these bytes if it has two bytes at least, and else nothing: what a rule
-/// in which each ASCII byte is itself answers as `text_at`. A run of one is cheaper as a character.
+/// The run of ASCII at the start of these bytes if it has two bytes at least, and else nothing:
+/// what a rule in which each ASCII byte is itself returns as `text_at`. A run of one is cheaper as
+/// a character.
 #[inline(always)]
-pub fn longer_ascii_front(bytes: &[u8]) -> &str
-    ensures front { result.now ≡ take (length result.now) bytes.now }
+pub fn longer_ascii_prefix(bytes: &[u8]) -> &str
+    ensures prefix { result.now ≡ take (length result.now) bytes.now }
     ensures ascii { IsAscii result.now }
     ensures some { 2 ≤ length bytes.now → slice_index bytes.now 0 < 0x80
         → slice_index bytes.now 1 < 0x80 → 2 ≤ length result.now }
@@ -25,7 +26,7 @@ pub fn longer_ascii_front(bytes: &[u8]) -> &str
         → 0x80 ≤ slice_index bytes.now (length result.now) }
 {
     match bytes {
-        [a, b, ..] if *a < 0x80 && *b < 0x80 => ascii_front(bytes),
+        [a, b, ..] if *a < 0x80 && *b < 0x80 => ascii_prefix(bytes),
         _ => "",
     }
 }

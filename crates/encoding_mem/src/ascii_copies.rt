@@ -1,4 +1,4 @@
-// Copies of the ASCII at the front.
+// Copies of the ASCII at the start.
 
 ghost use Rattle.std.specs.Prelude.{◌≡◌, ◌≤◌, length, take, drop};
 ghost use Rattle.std.specs.Str.{IsAscii};
@@ -6,8 +6,8 @@ ghost use Rattle.encoding_mem.specs.LongestPrefix.{IsLongestPrefix};
 
 use crate::first::{first_byte_from, first_unit_from};
 
-/// Copies the ASCII at the front, and answers its length. The destination is at least as long as the
-/// source.
+/// Copies the ASCII at the start, and returns its length. The destination is at least as long as
+/// the source.
 pub fn copy_ascii_to_ascii(src: &[u8], dst: &mut [u8]) -> usize
     requires { length src.now ≤ length dst.old }
     ensures prefix { IsLongestPrefix IsAscii src.now result }
@@ -19,8 +19,8 @@ pub fn copy_ascii_to_ascii(src: &[u8], dst: &mut [u8]) -> usize
     count
 }
 
-/// Copies the ASCII at the front into units of UTF-16, and answers its length. The destination is at least
-/// as long as the source.
+/// Copies the ASCII at the start into units of UTF-16, and returns its length. The destination is
+/// at least as long as the source.
 pub fn copy_ascii_to_basic_latin(src: &[u8], dst: &mut [u16]) -> usize
     requires { length src.now ≤ length dst.old }
     ensures prefix { IsLongestPrefix IsAscii src.now result }
@@ -34,8 +34,8 @@ pub fn copy_ascii_to_basic_latin(src: &[u8], dst: &mut [u16]) -> usize
     count
 }
 
-/// Copies the ASCII at the front of units of UTF-16 into bytes, and answers its length. The destination is
-/// at least as long as the source.
+/// Copies the ASCII at the start of units of UTF-16 into bytes, and returns its length. The
+/// destination is at least as long as the source.
 pub fn copy_basic_latin_to_ascii(src: &[u16], dst: &mut [u8]) -> usize
     requires { length src.now ≤ length dst.old }
     ensures prefix { IsLongestPrefix IsAscii src.now result }

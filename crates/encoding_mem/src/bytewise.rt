@@ -4,14 +4,14 @@ ghost use Rattle.encoding_mem.specs.Driver.{immediate};
 
 use crate::decoder_result::DecoderResult;
 use crate::driver::decode_source;
-use crate::front::FrontPiece;
+use crate::first_piece::DecoderRule;
 use crate::pending::Pending;
-use crate::piece_decoder::PieceDecoder;
-use crate::room::Room;
+use crate::room::DecodedLength;
 use crate::sink::Sink;
+use crate::sink_decoder::SinkDecoder;
 
 /// A rule by which any bytes decide their first piece, as where each byte is one.
-pub trait DecidedPiece: FrontPiece {
+pub trait DecidedPiece: DecoderRule {
     ghost decided: { (s : Self) (x : List ℕ) → 0 < length x → IsUndecided (Self.pieces s) x → ⊥ };
 }
 
@@ -36,7 +36,7 @@ impl<F: DecidedPiece> Bytewise<F> {
     }
 }
 
-impl<F: DecidedPiece> PieceDecoder for Bytewise<F> {
+impl<F: DecidedPiece> SinkDecoder for Bytewise<F> {
     ghost state = { λ d. immediate (F.pieces d.rule) (F.whole d.rule) (F.are_pieces d.rule)
         (F.needs d.rule) (F.limits d.rule) (F.covers d.rule) };
 
@@ -54,7 +54,7 @@ impl<F: DecidedPiece> PieceDecoder for Bytewise<F> {
         0
     }
 
-    fn room(&self) -> Room {
+    fn room(&self) -> DecodedLength {
         self.rule.room()
     }
 }

@@ -6,13 +6,13 @@ ghost use Rattle.std.specs.Str.{all_scalars};
 ghost use Rattle.encoding_mem.specs.Piece.{Piece, scalars_of};
 ghost use Rattle.encoding_mem.specs.Decoding.{DecoderState, EventLaw, StateLaw, EndsWith, IsUndecided, IsDecided};
 ghost use Rattle.encoding_mem.specs.Driver.{Suffices};
-ghost use Rattle.encoding_mem.specs.Room.{room_of};
+ghost use Rattle.encoding_mem.specs.DecodedLength.{decoded_length};
 ghost use Rattle.encoding_mem.specs.Writing.{Adds};
 ghost use Rattle.encoding_mem.specs.Text.{text_pieces};
 ghost use Rattle.encoding_mem.specs.Utf8.{pieces_utf8};
 ghost use Rattle.encoding_mem.specs.MaximalSubparts.{Utf8PiecesAreMaximal};
 ghost use Rattle.encoding_mem.specs.declared.decoder_result.DecoderResult.{DecoderResult};
-ghost use Rattle.encoding_mem.specs.declared.room.Count.TheVariants.{Bytes};
+ghost use Rattle.encoding_mem.specs.declared.room.OutputUnit.TheVariants.{Bytes};
 
 use crate::decoder_result::DecoderResult;
 use crate::raw_decoder::RawDecoder;
@@ -31,7 +31,7 @@ pub fn decode_with_events<D: RawDecoder>(
         (λ text. Adds dst.old 0 (encode_utf8_all text) dst.new result.2) result.0 }
     ensures ends { EndsWith (D.state decoder.new) (drop result.1 src.now) last
         (length (drop result.2 dst.new)) 4 3 result.0 }
-    ensures enough { room_of (D.state decoder.old).room Bytes ((D.state decoder.old).pending + length src.now) ≤ length dst.old
+    ensures enough { decoded_length (D.state decoder.old).room Bytes ((D.state decoder.old).pending + length src.now) ≤ length dst.old
         → result.0 ≢ DecoderResult.OutputFull }
     ensures leaves { Suffices (D.state decoder.old).needs (D.state decoder.new).needs false last (length src.now)
         (length src.now - result.1) (length dst.old) (length (drop result.2 dst.new)) result.0 }

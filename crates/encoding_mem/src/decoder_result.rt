@@ -7,7 +7,8 @@ pub enum DecoderResult {
     /// Fewer than 4 bytes, or 2 units of UTF-16, are free behind what is written, and something is left
     /// to do.
     OutputFull,
-    /// A bad piece. The first number is its length in bytes, 1 to 4; the second is how many bytes,
-    /// 0 to 3, were read after it and are pending. The caller writes U+FFFD, or not, and goes on.
+    /// A malformed sequence. The first number is its length in bytes, 1 to 4; the second is how
+    /// many bytes, 0 to 3, were read after it and are pending. The caller writes U+FFFD, or not,
+    /// and goes on.
     Malformed(u8, u8),
 }

@@ -3,15 +3,16 @@ ghost use Rattle.encoding_mem.specs.Decoding.{Takes, Reports};
 ghost use Rattle.encoding_mem.specs.Driver.{IsNear, IsStep, IsRoomyStep, DriverEndsWith, Remains, Suffices, PartReports, PartEnds, PartSuffices};
 
 use crate::decoder_result::DecoderResult;
-use crate::front::{Front, FrontPiece};
+use crate::first_piece::{DecoderRule, FirstPiece};
 use crate::pending::Pending;
 use crate::sink::Sink;
 
-// `#[inline(always)]`, here and at rules and sinks in any crate, brings what is done for each piece into one
-// loop: so what a rule answers and what a step did stay in registers. What is rare keeps its calls.
+// `#[inline(always)]`, here and at rules and sinks in any crate, brings what is done for each piece
+// into one loop: so what a rule returns and what a step did stay in registers. What is rare keeps
+// its calls.
 
 // What one step did: nothing, since the piece is not decided, or since it has no room; or it took a
-// piece of so many bytes, which is good, or bad.
+// piece of so many bytes, which is well-formed, or malformed.
 enum Step {
     Wait,
     Full,
@@ -21,7 +22,12 @@ enum Step {
 
 // Takes the first piece of these bytes, if it is decided and has room. That it is decided is asked first.
 #[inline(always)]
-fn take_piece<F: FrontPiece, S: Sink>(codec: &mut F, bytes: &[u8], last: bool, sink: &mut S) -> Step
+fn take_piece<F: DecoderRule, S: Sink>(
+    codec: &mut F,
+    bytes: &[u8],
+    last: bool,
+    sink: &mut S,
+) -> Step
     requires { 0 < length bytes.now }
     ensures step { IsStep F.pieces S.writes S.free S.room (S.cost 0xFFFD)
         codec.old codec.new bytes.now last sink.old sink.new result }
@@ -29,9 +35,9 @@ fn take_piece<F: FrontPiece, S: Sink>(codec: &mut F, bytes: &[u8], last: bool, s
         (length bytes.now) (S.free sink.old) (S.free sink.new) result }
     ensures limits { F.limits codec.new ≡ F.limits codec.old }
 {
-    match codec.front(bytes, last) {
-        Front::More => Step::Wait,
-        Front::One(c, n) => {
+    match codec.first_piece(bytes, last) {
+        FirstPiece::More => Step::Wait,
+        FirstPiece::One(c, n) => {
             if !sink.fits(c) {
                 return Step::Full;
             }
@@ -39,7 +45,7 @@ fn take_piece<F: FrontPiece, S: Sink>(codec: &mut F, bytes: &[u8], last: bool, s
             codec.pass(bytes);
             Step::Took(n)
         }
-        Front::Two(c, d, n) => {
+        FirstPiece::Two(c, d, n) => {
             if !sink.has_room() {
                 return Step::Full;
             }
@@ -48,11 +54,11 @@ fn take_piece<F: FrontPiece, S: Sink>(codec: &mut F, bytes: &[u8], last: bool, s
             codec.pass(bytes);
             Step::Took(n)
         }
-        Front::Silent(n) => {
+        FirstPiece::Ignored(n) => {
             codec.pass(bytes);
             Step::Took(n)
         }
-        Front::Bad(n) => {
+        FirstPiece::Malformed(n) => {
             if !sink.fits('\u{FFFD}') {
                 return Step::Full;
             }
@@ -65,7 +71,7 @@ fn take_piece<F: FrontPiece, S: Sink>(codec: &mut F, bytes: &[u8], last: bool, s
 // Takes the pieces that begin with what is pending, with as many bytes of the source as they need. No
 // outcome: nothing is pending any more.
 #[inline(always)]
-fn finish_pending<F: FrontPiece, S: Sink>(
+fn finish_pending<F: DecoderRule, S: Sink>(
     codec: &mut F,
     pending: &mut Pending,
     src: &[u8],
@@ -99,9 +105,9 @@ fn finish_pending<F: FrontPiece, S: Sink>(
                 read += 1;
             }
             Step::Full => return (Some(DecoderResult::OutputFull), read),
-            Step::Took(n) => pending.remove_front(n),
+            Step::Took(n) => pending.remove_prefix(n),
             Step::Broke(n) => {
-                pending.remove_front(n);
+                pending.remove_prefix(n);
                 let behind = pending.len() as u8;
                 return (Some(DecoderResult::Malformed(n as u8, behind)), read);
             }
@@ -112,7 +118,7 @@ fn finish_pending<F: FrontPiece, S: Sink>(
 
 /// Decodes a source where nothing is pending: runs of text as a whole, and what else there is by pieces.
 #[inline(always)]
-pub fn decode_source<F: FrontPiece, S: Sink>(
+pub fn decode_source<F: DecoderRule, S: Sink>(
     codec: &mut F,
     pending: &mut Pending,
     src: &[u8],
@@ -155,9 +161,10 @@ pub fn decode_source<F: FrontPiece, S: Sink>(
     (DecoderResult::InputEmpty, read)
 }
 
-/// Decodes until the input is read, there is no room or a piece is bad. Answers which, and the bytes read.
+/// Decodes until the input is read, there is no room or a piece is malformed. Returns which, and
+/// the bytes read.
 #[inline(always)]
-pub fn decode<F: FrontPiece, S: Sink>(
+pub fn decode<F: DecoderRule, S: Sink>(
     codec: &mut F,
     pending: &mut Pending,
     src: &[u8],

@@ -3,37 +3,37 @@
 ghost use Rattle.std.specs.Prelude.{◌≡◌, ◌≢◌, true, ℕ, ◌+◌, ◌-◌, ◌<◌, ◌≤◌, List, [], ◌∷◌, ◌++◌, length, take, drop};
 ghost use Rattle.encoding_mem.specs.Coding.{Coding, IsCoding};
 ghost use Rattle.encoding_mem.specs.Encoding.{Encodes, EncodeEndsWith};
-ghost use Rattle.encoding_mem.specs.Room.{line_at};
-ghost use Rattle.encoding_mem.specs.TextRoom.{IsRoomFor, line_for};
-ghost use Rattle.encoding_mem.specs.declared.room.TextRoom.{TextRoom};
-ghost use Rattle.encoding_mem.specs.Target.{CopiesAscii, IsRun, Moves, Tight, left};
+ghost use Rattle.encoding_mem.specs.DecodedLength.{bound_at};
+ghost use Rattle.encoding_mem.specs.EncodedLength.{IsRoomFor, bound_for};
+ghost use Rattle.encoding_mem.specs.declared.room.EncodedLength.{EncodedLength};
+ghost use Rattle.encoding_mem.specs.EncoderRule.{CopiesAscii, IsRun, Moves, Tight, left};
 
 use crate::encoder_result::EncoderResult;
-use crate::form::{Bytes, Form, Set};
+use crate::form::{Bytes, EscapeState, Form};
 use crate::source::Source;
 
 /// A target: what it makes of each character, and its sets.
-pub trait Target {
+pub trait EncoderRule {
     /// The most bytes that an escape or a character has.
     ghost need: { Self → ℕ };
 
     ghost coding: { Self → Coding };
 
     /// The room that is enough.
-    ghost limits: { Self → TextRoom };
+    ghost limits: { Self → EncodedLength };
 
     /// The set in which a character is written after a set, and its bytes.
-    fn step(&self, set: Set, c: char) -> (Set, Form)
+    fn step(&self, set: EscapeState, c: char) -> (EscapeState, Form)
         ensures set { result.0 ≡ (coding self.now).set set c }
         ensures form { result.1 ≡ (coding self.now).form c };
 
     /// Whether in this set each ASCII character is its own byte and leaves the set as it is, so that a run
     /// of them can be copied.
-    fn copies_ascii(&self, set: Set) -> bool
+    fn copies_ascii(&self, set: EscapeState) -> bool
         ensures { result ≡ true → CopiesAscii (coding self.now) set };
 
     /// The escape from one set to another.
-    fn escape(&self, from: Set, to: Set) -> Bytes
+    fn escape(&self, from: EscapeState, to: EscapeState) -> Bytes
         ensures { result ≡ (coding self.now).escape from to };
 
     ghost laws: { (x : Self) → IsCoding (need x) (coding x) };
@@ -43,12 +43,12 @@ pub trait Target {
 
 // `#[inline(always)]` at targets and sources is for the loop below, as in `driver.rt`.
 
-// Puts the bytes at a place, where there is room for them, and answers the place behind them.
+// Puts the bytes at an offset, where there is room for them, and returns the offset behind them.
 #[inline(always)]
 fn put_all(dst: &mut [u8], at: usize, bytes: &[u8]) -> usize
     requires { at + length bytes.now ≤ length dst.old }
     ensures end { result ≡ at + length bytes.now }
-    ensures front { take result dst.new ≡ take at dst.old ++ bytes.now }
+    ensures prefix { take result dst.new ≡ take at dst.old ++ bytes.now }
     ensures back { drop result dst.new ≡ drop result dst.old }
 {
     let end = at + bytes.len();
@@ -62,7 +62,7 @@ fn put_all(dst: &mut [u8], at: usize, bytes: &[u8]) -> usize
 fn put(dst: &mut [u8], at: usize, bytes: &[u8]) -> usize
     requires { at + length bytes.now ≤ length dst.old }
     ensures end { result ≡ at + length bytes.now }
-    ensures front { take result dst.new ≡ take at dst.old ++ bytes.now }
+    ensures prefix { take result dst.new ≡ take at dst.old ++ bytes.now }
     ensures back { drop result dst.new ≡ drop result dst.old }
 {
     match *bytes {
@@ -75,30 +75,32 @@ fn put(dst: &mut [u8], at: usize, bytes: &[u8]) -> usize
     }
 }
 
-// Copies the run of ASCII that is next to a place, as much of it as fits, and answers the place behind it.
+// Copies the run of ASCII that is next to an offset, as much of it as fits, and returns the offset
+// behind it.
 #[inline(always)]
 fn copy_run<S: Source>(source: &mut S, dst: &mut [u8], at: usize) -> usize
     requires { at ≤ length dst.old }
     ensures same { S.all source.new ≡ S.all source.old }
     ensures room { result ≤ length dst.new }
-    ensures run { IsRun (left S.text (S.all source.old) (S.place source.old)) (left S.text (S.all source.old) (S.place source.new))
+    ensures run { IsRun (left S.text (S.all source.old) (S.offset source.old)) (left S.text (S.all source.old) (S.offset source.new))
         (take at dst.old) (take result dst.new) }
     ensures behind { drop result dst.new ≡ drop result dst.old }
     ensures after { at ≤ result }
-    ensures place { S.place source.new ≡ S.place source.old + (result - at) }
-    ensures some { (c : ℕ) (rest : List ℕ) → left S.text (S.all source.old) (S.place source.old) ≡ c ∷ rest
+    ensures offset { S.offset source.new ≡ S.offset source.old + (result - at) }
+    ensures some { (c : ℕ) (rest : List ℕ) → left S.text (S.all source.old) (S.offset source.old) ≡ c ∷ rest
         → c < 0x80 → at < length dst.old
-        → length (left S.text (S.all source.old) (S.place source.new)) < length (left S.text (S.all source.old) (S.place source.old)) }
+        → length (left S.text (S.all source.old) (S.offset source.new)) < length (left S.text (S.all source.old) (S.offset source.old)) }
 {
     at + source.copy_ascii(&mut dst[at..])
 }
 
-/// Encodes what is left of a source, from a set. Answers how it ended and how many bytes are written.
-/// It stops at the end, at the first character without bytes, whose escape is written, and where the
-/// next escape or the next character does not fit. After the end of a last call the set is ASCII.
-pub fn encode<T: Target, S: Source>(
+/// Encodes what is left of a source, from a set. Returns how it ended and how many bytes are
+/// written. It stops at the end, at the first character without bytes, whose escape is written, and
+/// where the next escape or the next character does not fit. After the end of a last call the set
+/// is ASCII.
+pub fn encode<T: EncoderRule, S: Source>(
     target: &T,
-    set: &mut Set,
+    set: &mut EscapeState,
     source: &mut S,
     dst: &mut [u8],
     last: bool,
@@ -106,13 +108,13 @@ pub fn encode<T: Target, S: Source>(
     ensures room { result.1 ≤ length dst.new }
     ensures behind { drop result.1 dst.new ≡ drop result.1 dst.old }
     ensures source { S.all source.new ≡ S.all source.old }
-    ensures law { Encodes (T.coding target.now) last result.0 set.old (left S.text (S.all source.old) (S.place source.old))
-        (take result.1 dst.new) set.new (left S.text (S.all source.old) (S.place source.new)) }
+    ensures law { Encodes (T.coding target.now) last result.0 set.old (left S.text (S.all source.old) (S.offset source.old))
+        (take result.1 dst.new) set.new (left S.text (S.all source.old) (S.offset source.new)) }
     ensures moves { Moves (T.coding target.now) set.old set.new }
-    ensures tight { Tight (T.coding target.now) result.0 set.new (left S.text (S.all source.old) (S.place source.new)) (length dst.new - result.1) }
-    ensures enough { line_at (line_for (T.limits target.now) S.is_units) (length (S.all source.old) - S.place source.old) ≤ length dst.old
+    ensures tight { Tight (T.coding target.now) result.0 set.new (left S.text (S.all source.old) (S.offset source.new)) (length dst.new - result.1) }
+    ensures enough { bound_at (bound_for (T.limits target.now) S.is_units) (length (S.all source.old) - S.offset source.old) ≤ length dst.old
         → result.0 ≢ EncoderResult.OutputFull }
-    ensures answers { EncodeEndsWith (T.need target.now) last result.0 set.new (left S.text (S.all source.old) (S.place source.new)) (length dst.new - result.1) }
+    ensures answers { EncodeEndsWith (T.need target.now) last result.0 set.new (left S.text (S.all source.old) (S.offset source.new)) (length dst.new - result.1) }
 {
     let mut written = 0;
     while let Some((c, _)) = source.peek() {
@@ -145,13 +147,13 @@ pub fn encode<T: Target, S: Source>(
         }
     }
     if last {
-        let escape = target.escape(*set, Set::Ascii);
+        let escape = target.escape(*set, EscapeState::Ascii);
         let bytes = escape.as_slice();
         if dst.len() - written < bytes.len() {
             return (EncoderResult::OutputFull, written);
         }
         written = put(dst, written, bytes);
-        *set = Set::Ascii;
+        *set = EscapeState::Ascii;
     }
     (EncoderResult::InputEmpty, written)
 }

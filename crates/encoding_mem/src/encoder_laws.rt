@@ -9,19 +9,20 @@ ghost use Rattle.encoding_mem.specs.ReadBack.{ReadsBackExactly};
 ghost use Rattle.encoding_mem.specs.Utf8.{pieces_utf8};
 ghost use Rattle.encoding_mem.specs.Utf8Coding.{utf8_coding};
 ghost use Rattle.encoding_mem.specs.declared.encoder_result.EncoderResult.{EncoderResult};
-ghost use Rattle.encoding_mem.specs.declared.form.Set.{Set};
+ghost use Rattle.encoding_mem.specs.declared.form.EscapeState.{EscapeState};
 
-/// The law of a call in items gives the same law in bytes: whatever follows the text, what was written,
-/// the reference if one is owed, and what the rest stands for are what the whole stands for.
+/// The law of a call in items gives the same law in bytes: whatever follows the text, what was
+/// written, the reference if one is still to be written, and what the rest stands for are what the
+/// whole stands for.
 pub fn encoded_bytes()
-    ensures { (e : Coding) (last : Bool) (outcome : EncoderResult) (before : Set) (text written : List ℕ) (after : Set) (rest : List ℕ)
+    ensures { (e : Coding) (last : Bool) (outcome : EncoderResult) (before : EscapeState) (text written : List ℕ) (after : EscapeState) (rest : List ℕ)
         → Encodes e last outcome before text written after rest → Writes e last outcome before text written after rest }
 {}
 
 /// The items of a text without their notes are its bytes.
 pub fn bytes_of_items()
-    ensures text { (e : Coding) (s : Set) (i : ℕ) (t : List ℕ) → bytes_of (open_items e s i t) ≡ open_from e s t }
-    ensures whole { (e : Coding) (s : Set) (i : ℕ) (t : List ℕ) → bytes_of (whole_items e true s i t) ≡ whole_from e s t }
+    ensures text { (e : Coding) (s : EscapeState) (i : ℕ) (t : List ℕ) → bytes_of (open_items e s i t) ≡ open_from e s t }
+    ensures whole { (e : Coding) (s : EscapeState) (i : ℕ) (t : List ℕ) → bytes_of (whole_items e true s i t) ≡ whole_from e s t }
 {}
 
 /// The output in UTF-8 is the UTF-8 of each character, no character is lost, and it reads back.

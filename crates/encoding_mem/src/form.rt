@@ -6,7 +6,7 @@ use std::marker::Model;
 
 /// The set that an encoder is in. All but ISO-2022-JP stay in the first.
 #[derive(Clone, Copy, Debug, PartialEq, Eq)]
-pub enum Set {
+pub enum EscapeState {
     Ascii,
     Roman,
     Jis,

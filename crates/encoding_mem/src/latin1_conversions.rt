@@ -5,7 +5,7 @@ ghost use Rattle.std.specs.Str.{chars};
 ghost use Rattle.encoding_mem.specs.Conversions.{IsLongest, low_bytes};
 ghost use Rattle.encoding_mem.specs.Latin1.{AllLatin1, IsLatin1Text};
 
-use crate::ascii::ascii_front;
+use crate::ascii::ascii_prefix;
 use crate::sink::Sink;
 use crate::source::{Source, Utf8Source};
 use crate::utf8_sink::Utf8Sink;
@@ -33,8 +33,8 @@ pub fn convert_utf16_to_latin1_lossy(src: &[u16], dst: &mut [u8])
     }
 }
 
-/// Converts UTF-8 to Latin1, and answers the bytes written. The source is well-formed UTF-8 with no scalar
-/// above U+00FF, and the destination is at least as long.
+/// Converts UTF-8 to Latin1, and returns the bytes written. The source is well-formed UTF-8 with no
+/// scalar above U+00FF, and the destination is at least as long.
 pub fn convert_utf8_to_latin1_lossy(src: &[u8], dst: &mut [u8]) -> usize
     requires latin1 { IsLatin1Text src.now }
     requires room { length src.now ≤ length dst.old }
@@ -68,7 +68,8 @@ pub(crate) fn narrow_text(text: &str, dst: &mut [u8]) -> usize
     written
 }
 
-/// Converts the longest prefix of Latin1 whose UTF-8 fits, and answers the bytes read and the bytes written.
+/// Converts the longest prefix of Latin1 whose UTF-8 fits, and returns the bytes read and the bytes
+/// written.
 pub fn convert_latin1_to_utf8_partial(src: &[u8], dst: &mut [u8]) -> (usize, usize)
     ensures longest { IsLongest (λ _. Unit {0}) (λ i. length (encode_utf8_all (take i src.now)))
         (length src.now) (length dst.old) result.0 }
@@ -80,7 +81,7 @@ pub fn convert_latin1_to_utf8_partial(src: &[u8], dst: &mut [u8]) -> (usize, usi
     let mut read = 0;
     'bytes: while read < src.len() {
         let rest = &src[read..];
-        let run = ascii_front(&rest[..rest.len().min(sink.free_len())]);
+        let run = ascii_prefix(&rest[..rest.len().min(sink.free_len())]);
         if !run.is_empty() {
             sink.put_text(run);
             read += run.len();
@@ -96,8 +97,8 @@ pub fn convert_latin1_to_utf8_partial(src: &[u8], dst: &mut [u8]) -> (usize, usi
     (read, sink.written())
 }
 
-/// Converts Latin1 to UTF-8, and answers the bytes written. The destination is at least twice as long as
-/// the source.
+/// Converts Latin1 to UTF-8, and returns the bytes written. The destination is at least twice as
+/// long as the source.
 pub fn convert_latin1_to_utf8(src: &[u8], dst: &mut [u8]) -> usize
     requires { 2 * length src.now ≤ length dst.old }
     ensures fits { result ≤ length dst.new }

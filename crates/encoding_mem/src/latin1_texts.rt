@@ -6,7 +6,7 @@ ghost use Rattle.std.specs.Str.{chars, IsAscii};
 ghost use Rattle.encoding_mem.specs.Latin1.{AllLatin1};
 ghost use Rattle.encoding_mem.specs.Latin1Texts.{latin1_bytes, AreBorrowed};
 
-use crate::ascii::ascii_front;
+use crate::ascii::ascii_prefix;
 use crate::latin1_conversions::narrow_text;
 use std::alloc::{AllocError, Global};
 use std::borrow::CowStr;
@@ -23,7 +23,7 @@ pub fn decode_latin1(alloc: Global, bytes: &[u8]) -> Result<CowStr<'_>, AllocErr
     ensures text { IfOk result (λ t. cow_str_bytes t ≡ encode_utf8_all bytes.now) }
     ensures borrowed { IfOk result (λ t. IsBorrowedStr t ↔ IsAscii bytes.now) }
 {
-    let run = ascii_front(bytes);
+    let run = ascii_prefix(bytes);
     if run.len() == bytes.len() {
         return Ok(CowStr::Borrowed(run));
     }
@@ -41,7 +41,7 @@ pub fn encode_latin1_lossy(alloc: Global, text: &str) -> Result<Latin1Bytes<'_>,
     ensures bytes { IfOk result (λ b. latin1_bytes b ≡ chars text.now) }
     ensures borrowed { IfOk result (λ b. AreBorrowed b ↔ IsAscii text.now) }
 {
-    let run = ascii_front(text.as_bytes());
+    let run = ascii_prefix(text.as_bytes());
     if run.len() == text.len() {
         return Ok(Latin1Bytes::Borrowed(run.as_bytes()));
     }

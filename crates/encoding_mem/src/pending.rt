@@ -50,7 +50,7 @@ impl Pending {
     }
 
     /// Removes the first `n` bytes.
-    pub fn remove_front(&mut self, n: usize)
+    pub fn remove_prefix(&mut self, n: usize)
         requires { n ≤ length self.old }
         ensures { self.new ≡ drop n self.old }
     {

@@ -3,14 +3,14 @@ ghost use Rattle.std.specs.Str.{chars, IsCharBoundary};
 ghost use Rattle.std.specs.Char.Utf16.{utf16_lossy_chars};
 ghost use Rattle.encoding_mem.specs.Coding.{Coding, IsCoding};
 ghost use Rattle.encoding_mem.specs.Encoding.{Encodes, EncodeEndsWith};
-ghost use Rattle.encoding_mem.specs.Room.{checked, line_at};
-ghost use Rattle.encoding_mem.specs.Target.{Moves};
-ghost use Rattle.encoding_mem.specs.declared.form.Set.{Set};
-ghost use Rattle.encoding_mem.specs.declared.form.Set.TheVariants.{Ascii};
-ghost use Rattle.encoding_mem.specs.declared.room.TextRoom.{TextRoom};
+ghost use Rattle.encoding_mem.specs.DecodedLength.{checked, bound_at};
+ghost use Rattle.encoding_mem.specs.EncoderRule.{Moves};
+ghost use Rattle.encoding_mem.specs.declared.form.EscapeState.{EscapeState};
+ghost use Rattle.encoding_mem.specs.declared.form.EscapeState.TheVariants.{Ascii};
+ghost use Rattle.encoding_mem.specs.declared.room.EncodedLength.{EncodedLength};
 
 use crate::encoder_result::EncoderResult;
-use crate::room::TextRoom;
+use crate::room::EncodedLength;
 
 /// An encoder that is fed text in cuts of any size, and writes bytes into room of any size. It reports
 /// each character without bytes, and does not write its reference.
@@ -21,13 +21,13 @@ pub trait RawEncoder {
     ghost coding: { Self → Coding };
 
     /// The set that is in force.
-    ghost set: { Self → Set };
+    ghost set: { Self → EscapeState };
 
-    /// What is answered to those who ask for room.
-    ghost limits: { Self → TextRoom };
+    /// What the length queries return.
+    ghost limits: { Self → EncodedLength };
 
-    /// Encodes a text. Answers how the call ended, the bytes of text read and the bytes written. What
-    /// was read ends between characters; nothing behind what is written changes.
+    /// Encodes a text. Returns how the call ended, the bytes of text read and the bytes written.
+    /// What was read ends between characters; nothing behind what is written changes.
     fn encode_from_utf8_raw(
         &mut self,
         src: &str,
@@ -41,13 +41,13 @@ pub trait RawEncoder {
         ensures target { coding self.new ≡ coding self.old }
         ensures law { Encodes (coding self.old) last result.0 (set self.old) (chars src.now) (take result.2 dst.new) (set self.new) (chars (drop result.1 src.now)) }
         ensures answers { EncodeEndsWith (need self.old) last result.0 (set self.new) (chars (drop result.1 src.now)) (length dst.new - result.2) }
-        ensures enough { line_at (limits self.old).bytes (length src.now) ≤ length dst.old → result.0 ≢ EncoderResult.OutputFull }
+        ensures enough { bound_at (limits self.old).bytes (length src.now) ≤ length dst.old → result.0 ≢ EncoderResult.OutputFull }
         ensures limits { limits self.new ≡ limits self.old }
         ensures need { need self.new ≡ need self.old }
         ensures moves { Moves (coding self.old) (set self.old) (set self.new) };
 
     /// Encodes units of UTF-16, in which a surrogate outside a pair is U+FFFD. The slice is read by
-    /// itself, and no pair that it holds is parted. Answers as above, with the units read.
+    /// itself, and no pair that it holds is parted. Returns as above, with the units read.
     fn encode_from_utf16_raw(
         &mut self,
         src: &[u16],
@@ -60,19 +60,19 @@ pub trait RawEncoder {
         ensures target { coding self.new ≡ coding self.old }
         ensures law { Encodes (coding self.old) last result.0 (set self.old) (utf16_lossy_chars src.now) (take result.2 dst.new) (set self.new) (utf16_lossy_chars (drop result.1 src.now)) }
         ensures answers { EncodeEndsWith (need self.old) last result.0 (set self.new) (utf16_lossy_chars (drop result.1 src.now)) (length dst.new - result.2) }
-        ensures enough { line_at (limits self.old).units (length src.now) ≤ length dst.old → result.0 ≢ EncoderResult.OutputFull }
+        ensures enough { bound_at (limits self.old).units (length src.now) ≤ length dst.old → result.0 ≢ EncoderResult.OutputFull }
         ensures limits { limits self.new ≡ limits self.old }
         ensures need { need self.new ≡ need self.old }
         ensures moves { Moves (coding self.old) (set self.old) (set self.new) };
 
     /// The room that is enough.
-    fn room(&self) -> TextRoom
+    fn room(&self) -> EncodedLength
         ensures { result ≡ limits self.now };
 
     /// How many bytes are room enough for what `n` units of UTF-16 are encoded to, and for the last escape;
     /// none where that passes a `usize`. References are not counted.
     fn max_buffer_length_from_utf16_without_replacement(&self, n: usize) -> Option<usize>
-        ensures { result ≡ checked (line_at (limits self.now).units n) }
+        ensures { result ≡ checked (bound_at (limits self.now).units n) }
     {
         self.room().units.at(n)
     }
@@ -80,12 +80,12 @@ pub trait RawEncoder {
     /// How many bytes are room enough for what `n` bytes of UTF-8 are encoded to, and for the last escape;
     /// none where that passes a `usize`. References are not counted.
     fn max_buffer_length_from_utf8_without_replacement(&self, n: usize) -> Option<usize>
-        ensures { result ≡ checked (line_at (limits self.now).bytes n) }
+        ensures { result ≡ checked (bound_at (limits self.now).bytes n) }
     {
         self.room().bytes.at(n)
     }
 
-    /// Whether an escape to ASCII is owed at the end.
+    /// Whether an escape to ASCII is still to be written at the end.
     fn has_pending_state(&self) -> bool
         ensures { IsTrue result ↔ (set self.now ≢ Ascii) };
 

@@ -1,23 +1,23 @@
-// A text that is read from the front.
+// A text that is read from its start.
 
 ghost use Rattle.std.specs.Prelude.{◌≡◌, ◌↔◌, IsTrue, ℕ, ◌+◌, ◌<◌, ◌≤◌, Bool, true, false, List, [], ◌∷◌, ◌++◌, length, take, drop, slice_index, MatchOption, IfSome};
 ghost use Rattle.std.specs.Str.{chars, IsAscii, IsCharBoundary};
 ghost use Rattle.std.specs.Char.{len_utf8, encode_utf8, IsScalar};
 ghost use Rattle.std.specs.Char.Utf16.{utf16_lossy_chars};
-ghost use Rattle.encoding_mem.specs.Room.{cost_in};
+ghost use Rattle.encoding_mem.specs.DecodedLength.{cost_in};
 ghost use Rattle.encoding_mem.specs.Text.{IsSecondAscii};
 ghost use Rattle.encoding_mem.specs.Writing.{len_utf16};
-ghost use Rattle.encoding_mem.specs.laws.TextRoom.{sum_within};
+ghost use Rattle.encoding_mem.specs.laws.EncodedLength.{sum_within};
 
-use crate::ascii::ascii_front;
+use crate::ascii::ascii_prefix;
 use crate::ascii_copies::copy_basic_latin_to_ascii;
 
-/// A source of characters: a list of bytes or units, which stays as it is, and a place in it.
+/// A source of characters: a list of bytes or units, which stays as it is, and an offset in it.
 pub trait Source {
     /// The text of a list.
     ghost text: { List ℕ → List ℕ };
 
-    /// A place between characters.
+    /// An offset between characters.
     ghost IsBoundary: { List ℕ → ℕ → Type 0 };
 
     /// Whether it is a list of units of 16 bits.
@@ -27,49 +27,49 @@ pub trait Source {
     ghost all: { Self → List ℕ };
 
     /// How much of it was read.
-    ghost place: { Self → ℕ };
+    ghost offset: { Self → ℕ };
 
     /// The next character and its length in bytes or units, or `None` at the end. It stays unread.
     fn peek(&self) -> Option<(char, usize)>
-        ensures next { MatchOption result (text (drop (place self.now) (all self.now)) ≡ [])
-            (λ p. text (drop (place self.now) (all self.now)) ≡ p.0 ∷ text (drop (place self.now + p.1) (all self.now))) }
-        ensures boundary { IfSome result (λ p. IsBoundary (all self.now) (place self.now + p.1)) }
-        ensures size { IfSome result (λ p. (place self.now + p.1 ≤ length (all self.now)) × (p.1 ≡ cost_in is_units p.0)) };
+        ensures next { MatchOption result (text (drop (offset self.now) (all self.now)) ≡ [])
+            (λ p. text (drop (offset self.now) (all self.now)) ≡ p.0 ∷ text (drop (offset self.now + p.1) (all self.now))) }
+        ensures boundary { IfSome result (λ p. IsBoundary (all self.now) (offset self.now + p.1)) }
+        ensures size { IfSome result (λ p. (offset self.now + p.1 ≤ length (all self.now)) × (p.1 ≡ cost_in is_units p.0)) };
 
     /// Goes past the next character, which `peek` has shown to be there.
     fn advance(&mut self)
-        requires { 0 < length (text (drop (place self.old) (all self.old))) }
+        requires { 0 < length (text (drop (offset self.old) (all self.old))) }
         ensures same { all self.new ≡ all self.old }
-        ensures next { (c : ℕ) × (text (drop (place self.old) (all self.old)) ≡ c ∷ text (drop (place self.new) (all self.new)))
-            × (place self.new ≡ place self.old + cost_in is_units c) };
+        ensures next { (c : ℕ) × (text (drop (offset self.old) (all self.old)) ≡ c ∷ text (drop (offset self.new) (all self.new)))
+            × (offset self.new ≡ offset self.old + cost_in is_units c) };
 
     /// Whether the second of the bytes or units that are next is ASCII. Where the first is, a run of two
     /// characters at least is next, which is worth a copy.
     fn is_second_ascii(&self) -> bool
-        ensures { IsTrue result ↔ IsSecondAscii (drop (place self.now) (all self.now)) };
+        ensures { IsTrue result ↔ IsSecondAscii (drop (offset self.now) (all self.now)) };
 
-    /// Copies the run of ASCII that is next, as much of it as fits, and goes past it. Answers its length
-    /// in characters, which is not 0 where the next character is ASCII and there is room.
+    /// Copies the run of ASCII that is next, as much of it as fits, and goes past it. Returns its
+    /// length in characters, which is not 0 where the next character is ASCII and there is room.
     fn copy_ascii(&mut self, dst: &mut [u8]) -> usize
         ensures same { all self.new ≡ all self.old }
         ensures fits { result ≤ length dst.new }
-        ensures place { place self.new ≡ place self.old + result }
+        ensures offset { offset self.new ≡ offset self.old + result }
         ensures behind { drop result dst.new ≡ drop result dst.old }
         ensures ascii { IsAscii (take result dst.new) }
-        ensures text { text (drop (place self.old) (all self.old))
-            ≡ take result dst.new ++ text (drop (place self.new) (all self.new)) }
-        ensures some { (c : ℕ) (rest : List ℕ) → text (drop (place self.old) (all self.old)) ≡ c ∷ rest
+        ensures text { text (drop (offset self.old) (all self.old))
+            ≡ take result dst.new ++ text (drop (offset self.new) (all self.new)) }
+        ensures some { (c : ℕ) (rest : List ℕ) → text (drop (offset self.old) (all self.old)) ≡ c ∷ rest
             → c < 0x80 → 0 < length dst.old → 0 < result }
         ensures longest { result < length dst.old
-            → (c : ℕ) (rest : List ℕ) → text (drop (place self.new) (all self.new)) ≡ c ∷ rest → 0x80 ≤ c };
+            → (c : ℕ) (rest : List ℕ) → text (drop (offset self.new) (all self.new)) ≡ c ∷ rest → 0x80 ≤ c };
 
     /// How many bytes or units were read. They end between characters.
     fn read(&self) -> usize
-        ensures place { result ≡ place self.now }
+        ensures offset { result ≡ offset self.now }
         ensures within { result ≤ length (all self.now) }
         ensures boundary { IsBoundary (all self.now) result };
 
-    ghost within: { (s : Self) → place s ≤ length (all s) };
+    ghost within: { (s : Self) → offset s ≤ length (all s) };
 }
 
 // The first character of a text, and what follows it.
@@ -86,7 +86,7 @@ pub(crate) fn first_char(text: &str) -> Option<(char, &str)>
     }
 }
 
-// The run of ASCII at the front of a text, at most so many bytes of it, and what follows.
+// The run of ASCII at the start of a text, at most so many bytes of it, and what follows.
 #[inline(always)]
 fn ascii_run(text: &str, most: usize) -> (&str, &str)
     ensures bytes { text.now ≡ result.0.now ++ result.1.now }
@@ -97,7 +97,7 @@ fn ascii_run(text: &str, most: usize) -> (&str, &str)
     ensures some { (c : ℕ) (rest : List ℕ) → chars text.now ≡ c ∷ rest → c < 0x80 → 0 < most → 0 < length result.0.now }
     ensures longest { length result.0.now < most → (c : ℕ) (rest : List ℕ) → chars result.1.now ≡ c ∷ rest → 0x80 ≤ c }
 {
-    let run = ascii_front(&text.as_bytes()[..text.len().min(most)]);
+    let run = ascii_prefix(&text.as_bytes()[..text.len().min(most)]);
     text.split_at(run.len())
 }
 
@@ -108,7 +108,7 @@ pub struct Utf8Source<'a> {
     rest: &'a str,
     read: usize,
     ghost sum: { read + length rest.now ≡ length text.now },
-    ghost place: { rest.now ≡ drop read text.now },
+    ghost offset: { rest.now ≡ drop read text.now },
     ghost boundary: { IsCharBoundary text.now read },
 }
 
@@ -135,7 +135,7 @@ impl<'a> Source for Utf8Source<'a> {
 
     ghost all = { λ s. s.text.now };
 
-    ghost place = { λ s. s.read };
+    ghost offset = { λ s. s.read };
 
     #[inline(always)]
     fn peek(&self) -> Option<(char, usize)> {
@@ -208,7 +208,7 @@ fn first_of_units(units: &[u16]) -> Option<(char, usize)>
     Some(('\u{fffd}', 1))
 }
 
-// Copies the run of ASCII at the front of units, as much of it as fits, and answers its length.
+// Copies the run of ASCII at the start of units, as much of it as fits, and returns its length.
 fn narrow_ascii(units: &[u16], dst: &mut [u8]) -> usize
     ensures within { result ≤ length units.now }
     ensures size { length dst.new ≡ length dst.old }
@@ -226,17 +226,17 @@ fn narrow_ascii(units: &[u16], dst: &mut [u8]) -> usize
 #[derive(Drop)]
 pub struct Utf16Source<'a> {
     units: &'a [u16],
-    place: usize,
-    ghost within: { place ≤ length units.now },
+    offset: usize,
+    ghost within: { offset ≤ length units.now },
 }
 
 impl<'a> Utf16Source<'a> {
     /// None of the units is read.
     pub fn new(units: &'a [u16]) -> Self
         ensures units { result.units.now ≡ units.now }
-        ensures place { result.place ≡ 0 }
+        ensures offset { result.offset ≡ 0 }
     {
-        Utf16Source { units, place: 0 }
+        Utf16Source { units, offset: 0 }
     }
 }
 
@@ -249,34 +249,34 @@ impl<'a> Source for Utf16Source<'a> {
 
     ghost all = { λ s. s.units.now };
 
-    ghost place = { λ s. s.place };
+    ghost offset = { λ s. s.offset };
 
     #[inline(always)]
     fn peek(&self) -> Option<(char, usize)> {
-        first_of_units(&self.units[self.place..])
+        first_of_units(&self.units[self.offset..])
     }
 
     #[inline(always)]
     fn advance(&mut self) {
-        if let Some((_, n)) = first_of_units(&self.units[self.place..]) {
-            self.place += n;
+        if let Some((_, n)) = first_of_units(&self.units[self.offset..]) {
+            self.offset += n;
         }
     }
 
     #[inline(always)]
     fn is_second_ascii(&self) -> bool {
-        matches!(&self.units[self.place..], [_, unit, ..] if *unit < 0x80)
+        matches!(&self.units[self.offset..], [_, unit, ..] if *unit < 0x80)
     }
 
     fn copy_ascii(&mut self, dst: &mut [u8]) -> usize {
-        let count = narrow_ascii(&self.units[self.place..], dst);
-        self.place += count;
+        let count = narrow_ascii(&self.units[self.offset..], dst);
+        self.offset += count;
         count
     }
 
     #[inline(always)]
     fn read(&self) -> usize {
-        self.place
+        self.offset
     }
 
     ghost within = { λ s. s.within };

@@ -8,32 +8,33 @@ ghost use Rattle.encoding_mem.specs.TextDestination.{cleared};
 use crate::latin1_conversions::convert_latin1_to_utf8_partial;
 use crate::utf16_conversions::convert_utf16_to_utf8_partial;
 
-// Sets the continuation bytes at the front to 00.
-fn clear_front(bytes: &mut [u8])
+// Sets the continuation bytes at the start to 00.
+fn clear_prefix(bytes: &mut [u8])
     ensures { bytes.new ≡ cleared bytes.old }
 {
-    let mut place = 0;
-    'bytes: while place < bytes.len() && bytes[place] >= 0x80 && bytes[place] <= 0xBF {
-        bytes[place] = 0;
-        place += 1;
+    let mut offset = 0;
+    'bytes: while offset < bytes.len() && bytes[offset] >= 0x80 && bytes[offset] <= 0xBF {
+        bytes[offset] = 0;
+        offset += 1;
     }
 }
 
-/// Clears what is behind the first `written` bytes of a destination that was a text before they were
-/// overwritten: the continuation bytes there, of a character whose front is gone, become 00. So it is a text
-/// again where what was written is one. Nothing else changes.
+/// Clears what is behind the first `written` bytes of a destination that was a text before they
+/// were overwritten: the continuation bytes there, of a character whose prefix is gone, become 00.
+/// So it is a text again where what was written is one. Nothing else changes.
 pub fn clear_behind(dst: &mut [u8], written: usize)
     requires { written ≤ length dst.old }
-    ensures front { take written dst.new ≡ take written dst.old }
+    ensures prefix { take written dst.new ≡ take written dst.old }
     ensures behind { drop written dst.new ≡ cleared (drop written dst.old) }
     ensures utf8 { (text before : List ℕ) → all_scalars text ≡ true → IsUtf8 before → take written dst.old ≡ encode_utf8_all text
         → drop written dst.old ≡ drop written before → IsUtf8 dst.new }
 {
-    clear_front(&mut dst[written..]);
+    clear_prefix(&mut dst[written..]);
 }
 
-/// Converts the longest prefix of whole characters that fits, as `convert_utf16_to_utf8_partial`, into a
-/// text. Of a character whose front is overwritten the other bytes become 00, so that it stays a text.
+/// Converts the longest prefix of whole characters that fits, as `convert_utf16_to_utf8_partial`,
+/// into a text. Of a character whose first bytes are overwritten the other bytes become 00, so that
+/// it stays a text.
 pub fn convert_utf16_to_str_partial(src: &[u16], dst: &mut [u8]) -> (usize, usize)
     requires { IsUtf8 dst.old }
     ensures longest { IsLongest (IsUnitBoundary src.now) (λ i. length (units_in_utf8 (take i src.now)))
@@ -62,8 +63,9 @@ pub fn convert_utf16_to_str(src: &[u16], dst: &mut [u8]) -> usize
     written
 }
 
-/// Converts the longest prefix of Latin1 whose UTF-8 fits, as `convert_latin1_to_utf8_partial`, into a text.
-/// Of a character whose front is overwritten the other bytes become 00, so that it stays a text.
+/// Converts the longest prefix of Latin1 whose UTF-8 fits, as `convert_latin1_to_utf8_partial`,
+/// into a text. Of a character whose first bytes are overwritten the other bytes become 00, so that
+/// it stays a text.
 pub fn convert_latin1_to_str_partial(src: &[u8], dst: &mut [u8]) -> (usize, usize)
     requires { IsUtf8 dst.old }
     ensures longest { IsLongest (λ _. Unit {0}) (λ i. length (encode_utf8_all (take i src.now)))

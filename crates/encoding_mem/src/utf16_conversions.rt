@@ -6,8 +6,8 @@ ghost use Rattle.encoding_mem.specs.Conversions.{IsLongest, IsUnitBoundary, unit
 use crate::raw_encoder::RawEncoder;
 use crate::utf8_encoder::Utf8Encoder;
 
-/// Converts the longest prefix of whole characters that fits, and answers the units read and the bytes
-/// written.
+/// Converts the longest prefix of whole characters that fits, and returns the units read and the
+/// bytes written.
 pub fn convert_utf16_to_utf8_partial(src: &[u16], dst: &mut [u8]) -> (usize, usize)
     ensures longest { IsLongest (IsUnitBoundary src.now) (λ i. length (units_in_utf8 (take i src.now)))
         (length src.now) (length dst.old) result.0 }
@@ -20,8 +20,8 @@ pub fn convert_utf16_to_utf8_partial(src: &[u16], dst: &mut [u8]) -> (usize, usi
     (read, written)
 }
 
-/// Converts all units, and answers the bytes written. The destination is at least three times as long as
-/// the source.
+/// Converts all units, and returns the bytes written. The destination is at least three times as
+/// long as the source.
 pub fn convert_utf16_to_utf8(src: &[u16], dst: &mut [u8]) -> usize
     requires { 3 * length src.now ≤ length dst.old }
     ensures fits { result ≤ length dst.new }

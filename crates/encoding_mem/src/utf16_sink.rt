@@ -10,7 +10,7 @@ use crate::sink::Sink;
 // How many bytes of a text are put at a time, as units where all of them are ASCII.
 const BLOCK: usize = 256;
 
-/// A destination in UTF-16, which is filled from its front.
+/// A destination in UTF-16, which is filled from its start.
 #[derive(Drop)]
 pub struct Utf16Sink<'a> {
     units: &'a mut [u16],
@@ -76,8 +76,8 @@ impl<'a> Utf16Sink<'a> {
     }
 }
 
-// Writes each character of a text to the front of units, and answers the units written. The sink is its own,
-// so that the place stays in a register.
+// Writes each character of a text to the prefix of units, and returns the units written. The sink
+// is its own, so that the offset stays in a register.
 fn write_chars(text: &str, dst: &mut [u16]) -> usize
     requires { length text.now ≤ length dst.old }
     ensures { Adds dst.old 0 (text_in_utf16 text.now) dst.new result }

@@ -4,36 +4,36 @@ ghost use Rattle.std.specs.Int.{IsInRange, is_in_range};
 ghost use Rattle.std.specs.Char.{InScalarRange};
 ghost use Rattle.std.specs.Str.{IsUtf8};
 ghost use Rattle.std.specs.Str.Lossy.{utf8_valid_len};
-ghost use Rattle.encoding_mem.specs.FrontPiece.{IsNotLonger};
-ghost use Rattle.encoding_mem.specs.Room.{room_of, room_utf8};
+ghost use Rattle.encoding_mem.specs.DecoderRule.{IsNotLonger};
+ghost use Rattle.encoding_mem.specs.DecodedLength.{decoded_length, decoded_length_utf8};
 ghost use Rattle.encoding_mem.specs.laws.Pieces.{pieces_by-nil, pieces_by-whole, pieces_by-are_pieces};
-ghost use Rattle.encoding_mem.specs.Utf8.{front_utf8, pieces_utf8, scalar_of_two, scalar_of_three, scalar_of_four, second_min, second_max};
+ghost use Rattle.encoding_mem.specs.Utf8.{first_piece_utf8, pieces_utf8, scalar_of_two, scalar_of_three, scalar_of_four, second_min, second_max};
 ghost use Rattle.encoding_mem.specs.laws.Utf8Decide.{decide_utf8, utf8_decide_lead, utf8_decide_two, utf8_decide_three, cut_short};
 ghost use Rattle.encoding_mem.specs.laws.Utf8.{cuts_utf8};
 
 use crate::decoder_result::DecoderResult;
-use crate::front::{Front, FrontPiece};
-use crate::piece_decoder::{Buffered, PieceDecoder};
+use crate::first_piece::{DecoderRule, FirstPiece};
 use crate::raw_decoder::RawDecoder;
-use crate::room::Room;
+use crate::room::DecodedLength;
 use crate::sink::Sink;
+use crate::sink_decoder::{Buffered, SinkDecoder};
 
 /// The rule of UTF-8.
 #[derive(Clone, Copy)]
-struct Utf8Front {}
+struct Utf8Rule {}
 
-impl FrontPiece for Utf8Front {
+impl DecoderRule for Utf8Rule {
     ghost pieces = { λ _ x. pieces_utf8 x };
 
-    ghost whole = { λ _. pieces_by-whole front_utf8 cuts_utf8 };
+    ghost whole = { λ _. pieces_by-whole first_piece_utf8 cuts_utf8 };
 
-    ghost are_pieces = { λ _. pieces_by-are_pieces front_utf8 cuts_utf8 };
+    ghost are_pieces = { λ _. pieces_by-are_pieces first_piece_utf8 cuts_utf8 };
 
-    ghost ends = { λ _. pieces_by-nil front_utf8 };
+    ghost ends = { λ _. pieces_by-nil first_piece_utf8 };
 
-    ghost needs = { λ _. room_of room_utf8 };
+    ghost needs = { λ _. decoded_length decoded_length_utf8 };
 
-    ghost limits = { λ _. room_utf8 };
+    ghost limits = { λ _. decoded_length_utf8 };
 
     ghost covers = { λ _ _ _. omega arith };
 
@@ -41,7 +41,7 @@ impl FrontPiece for Utf8Front {
 
     ghost steady = { λ _ _. refl };
 
-    fn front(&self, bytes: &[u8], last: bool) -> Front {
+    fn first_piece(&self, bytes: &[u8], last: bool) -> FirstPiece {
         decide(bytes, last)
     }
 
@@ -50,36 +50,36 @@ impl FrontPiece for Utf8Front {
     }
 
     fn text_at<'b>(&self, bytes: &'b [u8]) -> &'b str {
-        text_front(bytes)
+        text_prefix(bytes)
     }
 
-    fn room(&self) -> Room {
-        Room::utf8()
+    fn room(&self) -> DecodedLength {
+        DecodedLength::utf8()
     }
 }
 
-// How many bytes are tested for text at a time: few, and more where these are text. Each test reads all
-// of them, so that input with many bad pieces stays cheap.
+// How many bytes are tested for text at a time: few, and more where these are text. Each test reads
+// all of them, so that input with many malformed sequences stays cheap.
 const FEW: usize = 32;
 
 const MANY: usize = 4096;
 
-// A text at the front, the longest there is in so many bytes.
-fn text_front(bytes: &[u8]) -> &str
+// A text at the start, the longest there is in so many bytes.
+fn text_prefix(bytes: &[u8]) -> &str
     ensures { result.now ≡ take (length result.now) bytes.now }
 {
     let few = text_window(bytes, FEW);
-    let text = valid_front(few);
+    let text = valid_prefix(few);
     if text.len() < few.len() {
         text
     } else {
-        valid_front(text_window(bytes, MANY))
+        valid_prefix(text_window(bytes, MANY))
     }
 }
 
 // The first bytes, at most so many, without a sequence that their end may cut.
 fn text_window(bytes: &[u8], most: usize) -> &[u8]
-    ensures front { result.now ≡ take (length result.now) bytes.now }
+    ensures prefix { result.now ≡ take (length result.now) bytes.now }
     ensures few { length result.now ≤ most }
     ensures long { min (length bytes.now) most ≤ length result.now + 3 }
 {
@@ -104,9 +104,9 @@ fn cut_len(bytes: &[u8]) -> usize
     }
 }
 
-// The longest text at the front.
-fn valid_front(bytes: &[u8]) -> &str
-    ensures front { result.now ≡ take (length result.now) bytes.now }
+// The longest text at the start.
+fn valid_prefix(bytes: &[u8]) -> &str
+    ensures prefix { result.now ≡ take (length result.now) bytes.now }
     ensures longest { length result.now ≡ utf8_valid_len bytes.now }
 {
     match simdutf8::compat::from_utf8(bytes) {
@@ -115,30 +115,34 @@ fn valid_front(bytes: &[u8]) -> &str
     }
 }
 
-fn decide(bytes: &[u8], last: bool) -> Front
+fn decide(bytes: &[u8], last: bool) -> FirstPiece
     ensures value { result ≡ decide_utf8 bytes.now last }
     ensures short { IsNotLonger result }
 {
     match bytes {
-        [] => Front::More,
+        [] => FirstPiece::More,
         [b, rest @ ..] => {
             let b = *b;
             if b < 0x80 {
-                Front::One(b as char, 1)
+                FirstPiece::One(b as char, 1)
             } else if b >= 0xC2 && b <= 0xF4 {
                 decide_lead(b, rest, last)
             } else {
-                Front::Bad(1)
+                FirstPiece::Malformed(1)
             }
         }
     }
 }
 
-// The bytes that are here may be the front of a longer sequence.
-fn cut_short(size: usize, last: bool) -> Front
+// The bytes that are here may be the prefix of a longer sequence.
+fn cut_short(size: usize, last: bool) -> FirstPiece
     ensures { result ≡ cut_short size last }
 {
-    if last { Front::Bad(size) } else { Front::More }
+    if last {
+        FirstPiece::Malformed(size)
+    } else {
+        FirstPiece::More
+    }
 }
 
 fn second_min(b: u8) -> u8
@@ -177,7 +181,7 @@ fn is_second(b: u8, c: u8) -> bool
     c >= second_min(b) && c <= second_max(b)
 }
 
-fn decide_lead(b: u8, rest: &[u8], last: bool) -> Front
+fn decide_lead(b: u8, rest: &[u8], last: bool) -> FirstPiece
     requires { IsInRange 0xC2 0xF4 b }
     ensures value { result ≡ utf8_decide_lead b rest.now last }
     ensures short { IsNotLonger result }
@@ -187,9 +191,9 @@ fn decide_lead(b: u8, rest: &[u8], last: bool) -> Front
         [c, rest @ ..] => {
             let c = *c;
             if !is_second(b, c) {
-                Front::Bad(1)
+                FirstPiece::Malformed(1)
             } else if b < 0xE0 {
-                Front::One(char_of((b as u32 - 0xC0) * 64 + (c as u32 - 0x80)), 2)
+                FirstPiece::One(char_of((b as u32 - 0xC0) * 64 + (c as u32 - 0x80)), 2)
             } else {
                 decide_two(b, c, rest, last)
             }
@@ -197,7 +201,7 @@ fn decide_lead(b: u8, rest: &[u8], last: bool) -> Front
     }
 }
 
-fn decide_two(b: u8, c: u8, rest: &[u8], last: bool) -> Front
+fn decide_two(b: u8, c: u8, rest: &[u8], last: bool) -> FirstPiece
     requires lead { IsInRange 0xE0 0xF4 b }
     requires second { IsTrue (is_in_range (second_min b) (second_max b) c) }
     ensures value { result ≡ utf8_decide_two b c rest.now last }
@@ -208,9 +212,9 @@ fn decide_two(b: u8, c: u8, rest: &[u8], last: bool) -> Front
         [d, rest @ ..] => {
             let d = *d;
             if !is_continuation(d) {
-                Front::Bad(2)
+                FirstPiece::Malformed(2)
             } else if b < 0xF0 {
-                Front::One(
+                FirstPiece::One(
                     char_of((b as u32 - 0xE0) * 4096 + (c as u32 - 0x80) * 64 + (d as u32 - 0x80)),
                     3,
                 )
@@ -221,7 +225,7 @@ fn decide_two(b: u8, c: u8, rest: &[u8], last: bool) -> Front
     }
 }
 
-fn decide_three(b: u8, c: u8, d: u8, rest: &[u8], last: bool) -> Front
+fn decide_three(b: u8, c: u8, d: u8, rest: &[u8], last: bool) -> FirstPiece
     requires lead { IsInRange 0xF0 0xF4 b }
     requires second { IsTrue (is_in_range (second_min b) (second_max b) c) }
     requires third { IsInRange 0x80 0xBF d }
@@ -233,9 +237,9 @@ fn decide_three(b: u8, c: u8, d: u8, rest: &[u8], last: bool) -> Front
         [e, ..] => {
             let e = *e;
             if !is_continuation(e) {
-                Front::Bad(3)
+                FirstPiece::Malformed(3)
             } else {
-                Front::One(
+                FirstPiece::One(
                     char_of(
                         (b as u32 - 0xF0) * 262144
                             + (c as u32 - 0x80) * 4096
@@ -260,7 +264,7 @@ fn char_of(code: u32) -> char
 /// Decodes UTF-8.
 #[derive(Drop)]
 pub struct Utf8Decoder {
-    inner: Buffered<Utf8Front>,
+    inner: Buffered<Utf8Rule>,
 }
 
 impl Utf8Decoder {
@@ -268,10 +272,10 @@ impl Utf8Decoder {
     pub fn new() -> Self
         ensures pending { (⟦<Utf8Decoder as RawDecoder>⟧.state result).pending ≡ 0 }
         ensures pieces { (⟦<Utf8Decoder as RawDecoder>⟧.state result).pieces ≡ pieces_utf8 }
-        ensures room { (⟦<Utf8Decoder as RawDecoder>⟧.state result).room ≡ room_utf8 }
+        ensures room { (⟦<Utf8Decoder as RawDecoder>⟧.state result).room ≡ decoded_length_utf8 }
     {
         Utf8Decoder {
-            inner: Buffered::new(Utf8Front {}),
+            inner: Buffered::new(Utf8Rule {}),
         }
     }
 
@@ -283,8 +287,8 @@ impl Utf8Decoder {
     }
 }
 
-impl PieceDecoder for Utf8Decoder {
-    ghost state = { λ d. ⟦<Buffered<Utf8Front> as PieceDecoder>⟧.state d.inner };
+impl SinkDecoder for Utf8Decoder {
+    ghost state = { λ d. ⟦<Buffered<Utf8Rule> as SinkDecoder>⟧.state d.inner };
 
     fn decode_into<S: Sink>(
         &mut self,
@@ -299,7 +303,7 @@ impl PieceDecoder for Utf8Decoder {
         self.inner.held_len()
     }
 
-    fn room(&self) -> Room {
+    fn room(&self) -> DecodedLength {
         self.inner.room()
     }
 }

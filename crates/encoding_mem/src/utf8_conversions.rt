@@ -3,20 +3,20 @@
 ghost use Rattle.std.specs.Prelude.{◌≡◌, ℕ, ◌<◌, ◌≤◌, List, ◌∷◌, length, take, drop, MatchOption};
 ghost use Rattle.std.specs.Str.{chars, IsUtf8, IsCharBoundary};
 ghost use Rattle.std.specs.Str.Lossy.{utf8_valid_len};
-ghost use Rattle.encoding_mem.specs.Conversions.{IsLongest, text_in_utf16, text_front};
+ghost use Rattle.encoding_mem.specs.Conversions.{IsLongest, text_in_utf16, text_prefix};
 ghost use Rattle.encoding_mem.specs.Piece.{text};
 ghost use Rattle.encoding_mem.specs.Utf8.{pieces_utf8};
 ghost use Rattle.encoding_mem.specs.Writing.{len_utf16, encode_utf16_all};
 
 use crate::decoder_result::DecoderResult;
-use crate::piece_decoder::PieceDecoder;
 use crate::sink::Sink;
+use crate::sink_decoder::SinkDecoder;
 use crate::source::first_char;
 use crate::utf8::Utf8Decoder;
 use crate::utf16_sink::Utf16Sink;
 
-/// Converts a text to UTF-16, and answers the units written. The destination is at least as long as the
-/// source.
+/// Converts a text to UTF-16, and returns the units written. The destination is at least as long as
+/// the source.
 pub fn convert_str_to_utf16(src: &str, dst: &mut [u16]) -> usize
     requires { length src.now ≤ length dst.old }
     ensures fits { result ≤ length dst.new }
@@ -28,17 +28,18 @@ pub fn convert_str_to_utf16(src: &str, dst: &mut [u16]) -> usize
     sink.written()
 }
 
-/// Converts UTF-8 to UTF-16, and answers the units written, or `None` where the source is not well-formed:
-/// the destination then holds the text before the first broken part. It is at least as long as the source.
+/// Converts UTF-8 to UTF-16, and returns the units written, or `None` where the source is not
+/// well-formed: the destination then holds the text before the first malformed sequence. It is at
+/// least as long as the source.
 pub fn convert_utf8_to_utf16_without_replacement(src: &[u8], dst: &mut [u16]) -> Option<usize>
     requires { length src.now ≤ length dst.old }
     ensures answer { MatchOption result (¬ (IsUtf8 src.now))
         (λ n. IsUtf8 src.now × (n ≡ length (text_in_utf16 src.now))) }
-    ensures fits { length (text_in_utf16 (text_front src.now)) ≤ length dst.new }
-    ensures units { let units = text_in_utf16 (text_front src.now) in take (length units) dst.new ≡ units }
-    ensures behind { let count = length (text_in_utf16 (text_front src.now)) in drop count dst.new ≡ drop count dst.old }
+    ensures fits { length (text_in_utf16 (text_prefix src.now)) ≤ length dst.new }
+    ensures units { let units = text_in_utf16 (text_prefix src.now) in take (length units) dst.new ≡ units }
+    ensures behind { let count = length (text_in_utf16 (text_prefix src.now)) in drop count dst.new ≡ drop count dst.old }
 {
-    let text = front_text(src);
+    let text = prefix_text(src);
     let written = convert_str_to_utf16(text, dst);
     if text.len() < src.len() {
         None
@@ -47,8 +48,8 @@ pub fn convert_utf8_to_utf16_without_replacement(src: &[u8], dst: &mut [u16]) ->
     }
 }
 
-/// Converts the longest well-formed prefix whose UTF-16 fits, and answers the bytes read and the units
-/// written.
+/// Converts the longest well-formed prefix whose UTF-16 fits, and returns the bytes read and the
+/// units written.
 pub fn convert_utf8_to_utf16_up_to_invalid(src: &[u8], dst: &mut [u16]) -> (usize, usize)
     ensures longest { IsLongest (λ i. IsUtf8 (take i src.now)) (λ i. length (text_in_utf16 (take i src.now)))
         (length src.now) (length dst.old) result.0 }
@@ -57,12 +58,12 @@ pub fn convert_utf8_to_utf16_up_to_invalid(src: &[u8], dst: &mut [u16]) -> (usiz
     ensures behind { drop result.1 dst.new ≡ drop result.1 dst.old }
 {
     let mut sink = Utf16Sink::new(dst);
-    let read = put_prefix(front_text(src), &mut sink);
+    let read = put_prefix(prefix_text(src), &mut sink);
     (read, sink.written())
 }
 
-/// Converts UTF-8 to UTF-16 with U+FFFD for each broken part, and answers the units written. The
-/// destination is longer than the source.
+/// Converts UTF-8 to UTF-16 with U+FFFD for each malformed sequence, and returns the units written.
+/// The destination is longer than the source.
 pub fn convert_utf8_to_utf16(src: &[u8], dst: &mut [u16]) -> usize
     requires { length src.now < length dst.old }
     ensures fits { result ≤ length dst.new }
@@ -74,9 +75,9 @@ pub fn convert_utf8_to_utf16(src: &[u8], dst: &mut [u16]) -> usize
     sink.written()
 }
 
-// The longest text at the front.
-fn front_text(bytes: &[u8]) -> &str
-    ensures front { result.now ≡ text_front bytes.now }
+// The longest text at the start.
+fn prefix_text(bytes: &[u8]) -> &str
+    ensures prefix { result.now ≡ text_prefix bytes.now }
     ensures within { length result.now ≤ length bytes.now }
     ensures longest { (i : ℕ) → utf8_valid_len bytes.now < i → i ≤ length bytes.now → ¬ (IsUtf8 (take i bytes.now)) }
 {
@@ -86,7 +87,7 @@ fn front_text(bytes: &[u8]) -> &str
     }
 }
 
-// Puts the longest prefix that fits, and answers its length in bytes.
+// Puts the longest prefix that fits, and returns its length in bytes.
 fn put_prefix<'a>(text: &str, sink: &mut Utf16Sink<'a>) -> usize
     ensures boundary { IsCharBoundary text.now result }
     ensures writes { ⟦<Utf16Sink<'a> as Sink>⟧.writes sink.old (chars (take result text.now)) sink.new }
@@ -112,7 +113,7 @@ fn put_prefix<'a>(text: &str, sink: &mut Utf16Sink<'a>) -> usize
     }
 }
 
-// Puts the text of bytes, with U+FFFD for each broken part.
+// Puts the text of bytes, with U+FFFD for each malformed sequence.
 fn put_replaced<'a>(src: &[u8], sink: &mut Utf16Sink<'a>)
     requires { length src.now < ⟦<Utf16Sink<'a> as Sink>⟧.free sink.old }
     ensures { ⟦<Utf16Sink<'a> as Sink>⟧.writes sink.old (text (pieces_utf8 src.now)) sink.new }

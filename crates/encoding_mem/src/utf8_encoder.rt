@@ -5,19 +5,19 @@ ghost use Rattle.std.specs.Str.{chars, IsCharBoundary};
 ghost use Rattle.std.specs.Char.{encode_utf8};
 ghost use Rattle.std.specs.Char.Utf16.{utf16_lossy_chars};
 ghost use Rattle.encoding_mem.specs.Encoding.{Encodes, EncodeEndsWith};
-ghost use Rattle.encoding_mem.specs.Room.{line_at};
-ghost use Rattle.encoding_mem.specs.Target.{CopiesAscii};
-ghost use Rattle.encoding_mem.specs.TextRoom.{text_room_utf8};
-ghost use Rattle.encoding_mem.specs.laws.TextRoom.{utf8_room};
+ghost use Rattle.encoding_mem.specs.DecodedLength.{bound_at};
+ghost use Rattle.encoding_mem.specs.EncoderRule.{CopiesAscii};
+ghost use Rattle.encoding_mem.specs.EncodedLength.{encoded_length_utf8};
+ghost use Rattle.encoding_mem.specs.laws.EncodedLength.{utf8_room};
 ghost use Rattle.encoding_mem.specs.Utf8Coding.{utf8_coding, NextIsTooLong};
 ghost use Rattle.encoding_mem.specs.laws.Utf8Coding.{utf8_coding_laws};
-ghost use Rattle.encoding_mem.specs.declared.form.Set.TheVariants.{Ascii};
+ghost use Rattle.encoding_mem.specs.declared.form.EscapeState.TheVariants.{Ascii};
 
-use crate::encode::{Target, encode};
+use crate::encode::{EncoderRule, encode};
 use crate::encoder_result::EncoderResult;
-use crate::form::{Bytes, Form, Set};
+use crate::form::{Bytes, EscapeState, Form};
 use crate::raw_encoder::RawEncoder;
-use crate::room::TextRoom;
+use crate::room::EncodedLength;
 use crate::source::{Source, Utf16Source};
 
 // The bytes of a character.
@@ -49,34 +49,34 @@ fn bytes_of_char(c: char) -> Bytes
 #[derive(Clone, Copy, Drop)]
 struct Utf8;
 
-impl Target for Utf8 {
+impl EncoderRule for Utf8 {
     ghost need = { λ _. 4 };
 
     ghost coding = { λ _. utf8_coding };
 
     ghost laws = { λ _. utf8_coding_laws };
 
-    ghost limits = { λ _. text_room_utf8 };
+    ghost limits = { λ _. encoded_length_utf8 };
 
     ghost fits = { λ _. utf8_room };
 
-    fn step(&self, _set: Set, c: char) -> (Set, Form) {
-        (Set::Ascii, Form::Mapped(bytes_of_char(c)))
+    fn step(&self, _set: EscapeState, c: char) -> (EscapeState, Form) {
+        (EscapeState::Ascii, Form::Mapped(bytes_of_char(c)))
     }
 
-    fn copies_ascii(&self, set: Set) -> bool
+    fn copies_ascii(&self, set: EscapeState) -> bool
         ensures copies { result ≡ true → CopiesAscii utf8_coding set }
         ensures ascii { set ≡ Ascii → result ≡ true }
     {
-        matches!(set, Set::Ascii)
+        matches!(set, EscapeState::Ascii)
     }
 
-    fn escape(&self, _from: Set, _to: Set) -> Bytes {
+    fn escape(&self, _from: EscapeState, _to: EscapeState) -> Bytes {
         Bytes::none()
     }
 }
 
-/// The encoder of UTF-8. It never answers `Unmappable`, and has no state.
+/// The encoder of UTF-8. It never returns `Unmappable`, and has no state.
 #[derive(Drop)]
 pub struct Utf8Encoder {}
 
@@ -85,7 +85,7 @@ impl Utf8Encoder {
         ensures coding { ⟦<Utf8Encoder as RawEncoder>⟧.coding result ≡ utf8_coding }
         ensures set { ⟦<Utf8Encoder as RawEncoder>⟧.set result ≡ Ascii }
         ensures need { ⟦<Utf8Encoder as RawEncoder>⟧.need result ≡ 4 }
-        ensures limits { ⟦<Utf8Encoder as RawEncoder>⟧.limits result ≡ text_room_utf8 }
+        ensures limits { ⟦<Utf8Encoder as RawEncoder>⟧.limits result ≡ encoded_length_utf8 }
     {
         Utf8Encoder {}
     }
@@ -98,7 +98,7 @@ impl RawEncoder for Utf8Encoder {
 
     ghost set = { λ _. Ascii };
 
-    ghost limits = { λ _. text_room_utf8 };
+    ghost limits = { λ _. encoded_length_utf8 };
 
     ghost laws = { λ _. utf8_coding_laws };
 
@@ -114,7 +114,7 @@ impl RawEncoder for Utf8Encoder {
         ensures room { result.2 ≤ length dst.new }
         ensures behind { drop result.2 dst.new ≡ drop result.2 dst.old }
         ensures law { Encodes utf8_coding last result.0 Ascii (chars src.now) (take result.2 dst.new) Ascii (chars (drop result.1 src.now)) }
-        ensures enough { line_at text_room_utf8.bytes (length src.now) ≤ length dst.old → result.0 ≢ EncoderResult.OutputFull }
+        ensures enough { bound_at encoded_length_utf8.bytes (length src.now) ≤ length dst.old → result.0 ≢ EncoderResult.OutputFull }
         ensures answers { EncodeEndsWith 4 last result.0 Ascii (chars (drop result.1 src.now)) (length dst.new - result.2) }
         ensures copies { take result.2 dst.new ≡ take result.1 src.now }
         ensures longest { (i : ℕ) → result.1 < i → i ≤ length src.now → i ≤ length dst.new → ¬ (IsCharBoundary src.now i) }
@@ -139,18 +139,18 @@ impl RawEncoder for Utf8Encoder {
         ensures room { result.2 ≤ length dst.new }
         ensures behind { drop result.2 dst.new ≡ drop result.2 dst.old }
         ensures law { Encodes utf8_coding last result.0 Ascii (utf16_lossy_chars src.now) (take result.2 dst.new) Ascii (utf16_lossy_chars (drop result.1 src.now)) }
-        ensures enough { line_at text_room_utf8.units (length src.now) ≤ length dst.old → result.0 ≢ EncoderResult.OutputFull }
+        ensures enough { bound_at encoded_length_utf8.units (length src.now) ≤ length dst.old → result.0 ≢ EncoderResult.OutputFull }
         ensures answers { EncodeEndsWith 4 last result.0 Ascii (utf16_lossy_chars (drop result.1 src.now)) (length dst.new - result.2) }
         ensures longest { NextIsTooLong (utf16_lossy_chars (drop result.1 src.now)) (length dst.new - result.2) }
     {
         let mut source = Utf16Source::new(src);
-        let mut set = Set::Ascii;
+        let mut set = EscapeState::Ascii;
         let (result, written) = encode(&Utf8, &mut set, &mut source, dst, last);
         (result, source.read(), written)
     }
 
-    fn room(&self) -> TextRoom {
-        TextRoom::utf8()
+    fn room(&self) -> EncodedLength {
+        EncodedLength::utf8()
     }
 
     fn has_pending_state(&self) -> bool {

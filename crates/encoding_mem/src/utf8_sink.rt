@@ -6,7 +6,7 @@ ghost use Rattle.encoding_mem.specs.laws.Writing.{adds_none, adds_encoded, cost_
 
 use crate::sink::Sink;
 
-/// A destination in UTF-8, which is filled from its front.
+/// A destination in UTF-8, which is filled from its start.
 #[derive(Drop)]
 pub struct Utf8Sink<'a> {
     bytes: &'a mut [u8],

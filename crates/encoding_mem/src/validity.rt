@@ -7,8 +7,8 @@ ghost use Rattle.encoding_mem.specs.Surrogates.{IsHighSurrogate, IsLowSurrogate,
 
 use crate::first::first_unit_from;
 
-/// The length of the longest prefix that is well-formed UTF-8: it ends before the first byte of the first
-/// broken part.
+/// The length of the longest prefix that is well-formed UTF-8: it ends before the first byte of the
+/// first malformed sequence.
 pub fn utf8_valid_up_to(bytes: &[u8]) -> usize
     ensures { IsLongestPrefix IsUtf8 bytes.now result }
 {

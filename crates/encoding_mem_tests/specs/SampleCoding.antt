@@ -1,30 +1,30 @@
 -- The sample is a target of at most three bytes a step.
 use Rattle.std.proofs.Common.{◌≡◌, ℕ, ◌+◌, ◌*◌, ◌≤◌, arith, Bool, true, false, cond, length, [], refl, lit≤, nat_lt, nat_eq}
 use Rattle.encoding_mem.specs.Coding.{IsCoding, FitsNeed, bytes}
-use Rattle.encoding_mem.specs.Room.{cost_in}
-use Rattle.encoding_mem.specs.TextRoom.{IsRoomFor, line_for}
-use Rattle.encoding_mem.specs.laws.TextRoom.{cost_some}
+use Rattle.encoding_mem.specs.DecodedLength.{cost_in}
+use Rattle.encoding_mem.specs.EncodedLength.{IsRoomFor, bound_for}
+use Rattle.encoding_mem.specs.laws.EncodedLength.{cost_some}
 use Rattle.encoding_mem.specs.laws.Stateless.{short_if, short_one, short_none}
 use Rattle.encoding_mem.specs.examples.SampleCoding.{out_of_jis, escape_between, sample_form, sample_coding, sample_room}
-use Rattle.encoding_mem.specs.declared.form.Set.{Set}
-use Rattle.encoding_mem.specs.declared.form.Set.TheVariants.{Ascii, Roman, Jis}
+use Rattle.encoding_mem.specs.declared.form.EscapeState.{EscapeState}
+use Rattle.encoding_mem.specs.declared.form.EscapeState.TheVariants.{Ascii, Roman, Jis}
 
-out_twice : (s : Set) → out_of_jis (out_of_jis s) ≡ out_of_jis s
+out_twice : (s : EscapeState) → out_of_jis (out_of_jis s) ≡ out_of_jis s
 out_twice Ascii = refl
 out_twice Roman = refl
 out_twice Jis = refl
 
-chosen : (yen hiragana : Bool) (s : Set) → cond yen Roman (cond hiragana Jis (out_of_jis (cond yen Roman (cond hiragana Jis (out_of_jis s))))) ≡ cond yen Roman (cond hiragana Jis (out_of_jis s))
+chosen : (yen hiragana : Bool) (s : EscapeState) → cond yen Roman (cond hiragana Jis (out_of_jis (cond yen Roman (cond hiragana Jis (out_of_jis s))))) ≡ cond yen Roman (cond hiragana Jis (out_of_jis s))
 chosen true hiragana s = refl
 chosen false true s = refl
 chosen false false s = out_twice s
 
-to_itself : (s : Set) → escape_between s s ≡ []
+to_itself : (s : EscapeState) → escape_between s s ≡ []
 to_itself Ascii = refl
 to_itself Roman = refl
 to_itself Jis = refl
 
-short_escape : (s s' : Set) → length (escape_between s s') ≤ 3
+short_escape : (s s' : EscapeState) → length (escape_between s s') ≤ 3
 short_escape Ascii Ascii = lit≤ tt
 short_escape Ascii Roman = lit≤ tt
 short_escape Ascii Jis = lit≤ tt
@@ -47,11 +47,11 @@ sample_coding_laws = record {
   few = lit≤ tt;
 }
 
-each_fits : (t : Bool) (s s' : Set) (c : ℕ) → length (escape_between s s') + length (bytes (sample_form c)) ≤ (line_for sample_room t).factor * cost_in t c
+each_fits : (t : Bool) (s s' : EscapeState) (c : ℕ) → length (escape_between s s') + length (bytes (sample_form c)) ≤ (bound_for sample_room t).factor * cost_in t c
 each_fits true s s' c = omega (arith, short_escape s s', (short_form c).short, cost_some true c)
 each_fits false s s' c = omega (arith, short_escape s s', (short_form c).short, cost_some false c)
 
-last_fits : (t : Bool) (s : Set) → length (escape_between s Ascii) ≤ (line_for sample_room t).extra
+last_fits : (t : Bool) (s : EscapeState) → length (escape_between s Ascii) ≤ (bound_for sample_room t).extra
 last_fits true s = short_escape s Ascii
 last_fits false s = short_escape s Ascii
 

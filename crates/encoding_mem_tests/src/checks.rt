@@ -1,4 +1,4 @@
-use encoding_mem::ascii::longer_ascii_front;
+use encoding_mem::ascii::longer_ascii_prefix;
 use encoding_mem::{
     Latin1Bidi, ascii_valid_up_to, check_str_for_latin1_and_bidi, check_utf8_for_latin1_and_bidi,
     check_utf16_for_latin1_and_bidi, ensure_utf16_validity, is_ascii, is_basic_latin, is_char_bidi,
@@ -135,21 +135,21 @@ fn long_runs(rt: HostRuntime) {
 
 // Vectors have 16 bytes, so the lengths are those around none, one and two of them.
 #[test]
-fn first_high_byte_at_each_place(rt: HostRuntime) {
+fn first_high_byte_at_each_offset(rt: HostRuntime) {
     for length in 0..34 {
         let mut bytes = [0x7F; 33];
         assert_eq!(rt; ascii_valid_up_to(&bytes[..length]), length);
-        for place in (0..length).rev() {
-            bytes[place] = 0x80;
-            assert_eq!(rt; ascii_valid_up_to(&bytes[..length]), place);
+        for offset in (0..length).rev() {
+            bytes[offset] = 0x80;
+            assert_eq!(rt; ascii_valid_up_to(&bytes[..length]), offset);
         }
     }
 }
 
 #[test]
 fn runs_of_two_are_copied(rt: HostRuntime) {
-    assert_eq!(rt; longer_ascii_front(&[0x61, 0x62, 0xC3]), "ab");
-    assert_eq!(rt; longer_ascii_front(&[0x61, 0x7F]), "a\u{7F}");
-    assert_eq!(rt; longer_ascii_front(&[0x61, 0xC3, 0x61]), "");
-    assert_eq!(rt; longer_ascii_front(&[0x61]), "");
+    assert_eq!(rt; longer_ascii_prefix(&[0x61, 0x62, 0xC3]), "ab");
+    assert_eq!(rt; longer_ascii_prefix(&[0x61, 0x7F]), "a\u{7F}");
+    assert_eq!(rt; longer_ascii_prefix(&[0x61, 0xC3, 0x61]), "");
+    assert_eq!(rt; longer_ascii_prefix(&[0x61]), "");
 }

@@ -4,8 +4,8 @@ ghost use Rattle.std.specs.Prelude.{◌≤◌, length};
 ghost use Rattle.encoding_mem.specs.examples.SampleCoding.{sample_coding, sample_room};
 ghost use Rattle.encoding_mem_tests.specs.SampleCoding.{sample_coding_laws, sample_fits};
 
-use encoding_mem::encode::{Target, encode};
-use encoding_mem::form::{Bytes, Form, Set};
+use encoding_mem::encode::{EncoderRule, encode};
+use encoding_mem::form::{Bytes, EscapeState, Form};
 use encoding_mem::source::{Source, Utf8Source, Utf16Source};
 use encoding_mem::{EncoderResult, RawEncoder, Utf8Encoder};
 
@@ -13,7 +13,7 @@ use encoding_mem::{EncoderResult, RawEncoder, Utf8Encoder};
 #[derive(Clone, Copy, Drop)]
 struct Sample;
 
-impl Target for Sample {
+impl EncoderRule for Sample {
     ghost need = { λ _. 3 };
 
     ghost coding = { λ _. sample_coding };
@@ -24,17 +24,17 @@ impl Target for Sample {
 
     ghost fits = { λ _. sample_fits };
 
-    fn step(&self, set: Set, c: char) -> (Set, Form) {
+    fn step(&self, set: EscapeState, c: char) -> (EscapeState, Form) {
         let stays = match set {
-            Set::Ascii => Set::Ascii,
-            Set::Roman => Set::Roman,
-            Set::Jis => Set::Ascii,
+            EscapeState::Ascii => EscapeState::Ascii,
+            EscapeState::Roman => EscapeState::Roman,
+            EscapeState::Jis => EscapeState::Ascii,
         };
         let code = c as u32;
         if code == 0xa5 {
-            (Set::Roman, Form::Mapped(Bytes::one(0x5c)))
+            (EscapeState::Roman, Form::Mapped(Bytes::one(0x5c)))
         } else if code == 0x3042 {
-            (Set::Jis, Form::Mapped(Bytes::two(0x24, 0x22)))
+            (EscapeState::Jis, Form::Mapped(Bytes::two(0x24, 0x22)))
         } else if code < 0x80 {
             (stays, Form::Mapped(Bytes::one(code as u8)))
         } else {
@@ -42,17 +42,18 @@ impl Target for Sample {
         }
     }
 
-    fn copies_ascii(&self, set: Set) -> bool {
-        matches!(set, Set::Ascii | Set::Roman)
+    fn copies_ascii(&self, set: EscapeState) -> bool {
+        matches!(set, EscapeState::Ascii | EscapeState::Roman)
     }
 
-    fn escape(&self, from: Set, to: Set) -> Bytes {
+    fn escape(&self, from: EscapeState, to: EscapeState) -> Bytes {
         match (from, to) {
-            (Set::Ascii, Set::Ascii) | (Set::Roman, Set::Roman) | (Set::Jis, Set::Jis) =>
-                Bytes::none(),
-            (_, Set::Ascii) => Bytes::three(0x1b, 0x28, 0x42),
-            (_, Set::Roman) => Bytes::three(0x1b, 0x28, 0x4a),
-            (_, Set::Jis) => Bytes::three(0x1b, 0x24, 0x42),
+            (EscapeState::Ascii, EscapeState::Ascii)
+            | (EscapeState::Roman, EscapeState::Roman)
+            | (EscapeState::Jis, EscapeState::Jis) => Bytes::none(),
+            (_, EscapeState::Ascii) => Bytes::three(0x1b, 0x28, 0x42),
+            (_, EscapeState::Roman) => Bytes::three(0x1b, 0x28, 0x4a),
+            (_, EscapeState::Jis) => Bytes::three(0x1b, 0x24, 0x42),
         }
     }
 }
@@ -125,54 +126,54 @@ fn surrogates_outside_a_pair(rt: HostRuntime) {
 
 #[test]
 fn escapes_into_tiny_rooms(rt: HostRuntime) {
-    let mut set = Set::Ascii;
+    let mut set = EscapeState::Ascii;
     let mut source = Utf8Source::new("あé¥a");
     let mut dst = [0xff; 4];
     // between the escape and its character
     let ended = encode(&Sample, &mut set, &mut source, &mut dst[..3], true);
     assert_eq!(rt; ended, (EncoderResult::OutputFull, 3));
-    assert_eq!(rt; (source.read(), set), (0, Set::Jis));
+    assert_eq!(rt; (source.read(), set), (0, EscapeState::Jis));
     assert_eq!(rt; dst, [0x1b, 0x24, 0x42, 0xff]);
     // before the escape of a character without bytes
     let ended = encode(&Sample, &mut set, &mut source, &mut dst, true);
     assert_eq!(rt; ended, (EncoderResult::OutputFull, 2));
-    assert_eq!(rt; (source.read(), set), (3, Set::Jis));
+    assert_eq!(rt; (source.read(), set), (3, EscapeState::Jis));
     assert_eq!(rt; dst, [0x24, 0x22, 0x42, 0xff]);
     // the escape before the reference, and no reference
     let ended = encode(&Sample, &mut set, &mut source, &mut dst[..3], true);
     assert_eq!(rt; ended, (EncoderResult::Unmappable('é'), 3));
-    assert_eq!(rt; (source.read(), set), (5, Set::Ascii));
+    assert_eq!(rt; (source.read(), set), (5, EscapeState::Ascii));
     assert_eq!(rt; dst, [0x1b, 0x28, 0x42, 0xff]);
     // an escape and its character
     let ended = encode(&Sample, &mut set, &mut source, &mut dst, true);
     assert_eq!(rt; ended, (EncoderResult::OutputFull, 4));
-    assert_eq!(rt; (source.read(), set), (7, Set::Roman));
+    assert_eq!(rt; (source.read(), set), (7, EscapeState::Roman));
     assert_eq!(rt; dst, [0x1b, 0x28, 0x4a, 0x5c]);
     // ASCII in Roman, and no room for the final escape
     let ended = encode(&Sample, &mut set, &mut source, &mut dst[..3], true);
     assert_eq!(rt; ended, (EncoderResult::OutputFull, 1));
-    assert_eq!(rt; (source.read(), set), (8, Set::Roman));
+    assert_eq!(rt; (source.read(), set), (8, EscapeState::Roman));
     // the final escape
     let ended = encode(&Sample, &mut set, &mut source, &mut dst[..3], true);
     assert_eq!(rt; ended, (EncoderResult::InputEmpty, 3));
-    assert_eq!(rt; (source.read(), set), (8, Set::Ascii));
+    assert_eq!(rt; (source.read(), set), (8, EscapeState::Ascii));
     assert_eq!(rt; dst, [0x1b, 0x28, 0x42, 0x5c]);
 }
 
 #[test]
 fn escapes_of_units(rt: HostRuntime) {
-    let mut set = Set::Ascii;
+    let mut set = EscapeState::Ascii;
     let units = [0x3042, 0xd83d, 0xdca9, 0x61];
     let mut source = Utf16Source::new(&units);
     let mut dst = [0xff; 16];
     let ended = encode(&Sample, &mut set, &mut source, &mut dst, true);
     assert_eq!(rt; ended, (EncoderResult::Unmappable('💩'), 8));
-    assert_eq!(rt; (source.read(), set), (3, Set::Ascii));
+    assert_eq!(rt; (source.read(), set), (3, EscapeState::Ascii));
     // a call that is not the last leaves the set
     let mut source = Utf16Source::new(&units[..1]);
     let ended = encode(&Sample, &mut set, &mut source, &mut dst, false);
     assert_eq!(rt; ended, (EncoderResult::InputEmpty, 5));
-    assert_eq!(rt; (source.read(), set), (1, Set::Jis));
+    assert_eq!(rt; (source.read(), set), (1, EscapeState::Jis));
 }
 
 #[test]

@@ -1,7 +1,7 @@
 use encoding_labels::label_number;
 use std::test::Fail;
 
-// Each encoding by its own name, in the order of the places.
+// Each encoding by its own name, in the order of the offsets.
 const NAMES: [&str; 40] = [
     "big5",
     "euc-jp",
@@ -46,21 +46,21 @@ const NAMES: [&str; 40] = [
 ];
 
 #[test]
-fn each_name_has_its_place(rt: HostRuntime) {
-    for (place, name) in NAMES.iter().enumerate() {
-        assert_eq!(rt; label_number(name.as_bytes()), Some(place), "{name}");
+fn each_name_has_its_number(rt: HostRuntime) {
+    for (offset, name) in NAMES.iter().enumerate() {
+        assert_eq!(rt; label_number(name.as_bytes()), Some(offset), "{name}");
     }
 }
 
 #[test]
 fn case_and_white_space_do_not_matter(rt: HostRuntime) -> Result<(), Fail> {
-    for (place, name) in NAMES.iter().enumerate() {
+    for (offset, name) in NAMES.iter().enumerate() {
         let mut text = vec![in rt.alloc(); b'\t', b'\n', 0x0C, b'\r', b' ']?;
         for byte in name.bytes() {
             text.push(byte.to_ascii_uppercase())?;
         }
         text.extend_from_slice(b" \r\x0C\n\t")?;
-        assert_eq!(rt; label_number(text.as_slice()), Some(place), "{name}");
+        assert_eq!(rt; label_number(text.as_slice()), Some(offset), "{name}");
     }
     Ok(())
 }
@@ -82,8 +82,8 @@ fn labels_have_their_encodings(rt: HostRuntime) {
         ("windows-949", 2),
         ("hz-gb-2312", 23),
     ];
-    for (label, place) in rows {
-        assert_eq!(rt; label_number(label.as_bytes()), Some(place), "{label}");
+    for (label, offset) in rows {
+        assert_eq!(rt; label_number(label.as_bytes()), Some(offset), "{label}");
     }
 }
 

@@ -5,10 +5,11 @@ use std::test::Fail;
 
 const SURROGATE: [u8; 5] = [0x61, 0xED, 0xA0, 0x80, 0x5A];
 
-// Stands in a log for a bad piece, with its length behind it.
+// Stands in a log for a malformed sequence, with its length behind it.
 const MARK: u8 = 0xFF;
 
-// Decodes into 4 bytes at a time, and appends what is written, and each bad piece, to the log.
+// Decodes into 4 bytes at a time, and appends what is written, and each malformed sequence, to the
+// log.
 fn decode_part(
     decoder: &mut Utf8Decoder,
     src: &[u8],
@@ -31,7 +32,7 @@ fn decode_part(
 }
 
 #[test]
-fn a_surrogate_is_three_bad_pieces_at_every_cut(rt: HostRuntime) -> Result<(), Fail> {
+fn a_surrogate_is_three_malformed_pieces_at_every_cut(rt: HostRuntime) -> Result<(), Fail> {
     for cut in 0..6 {
         let mut log = Vec::new(rt.alloc());
         let mut decoder = Utf8Decoder::new();
@@ -63,7 +64,7 @@ fn four_bytes_come_one_a_call(rt: HostRuntime) {
 }
 
 #[test]
-fn a_cut_sequence_at_the_end_is_bad(rt: HostRuntime) {
+fn a_cut_sequence_at_the_end_is_malformed(rt: HostRuntime) {
     let mut decoder = Utf8Decoder::new();
     let answer = decoder.decode_to_utf16_raw(&[0xC3], &mut [0; 2], true);
     assert_eq!(rt; answer, (DecoderResult::Malformed(1, 0), 1, 0));
@@ -72,7 +73,7 @@ fn a_cut_sequence_at_the_end_is_bad(rt: HostRuntime) {
 }
 
 #[test]
-fn a_byte_behind_a_bad_piece_is_pending(rt: HostRuntime) {
+fn a_byte_behind_a_malformed_piece_is_pending(rt: HostRuntime) {
     let mut decoder = Utf8Decoder::new();
     let mut room = [0; 8];
     let answer = decoder.decode_to_utf8_raw(&[0xED], &mut room, false);
@@ -121,7 +122,7 @@ fn a_long_text_is_decoded_whole(rt: HostRuntime) -> Result<(), Fail> {
 }
 
 #[test]
-fn a_lead_at_the_end_is_bad_in_units_too(rt: HostRuntime) {
+fn a_lead_at_the_end_is_malformed_in_units_too(rt: HostRuntime) {
     let mut units = [0; 2];
     let answer = Utf8Decoder::new().decode_to_utf16_raw(&[0xC3], &mut units, true);
     assert_eq!(rt; answer, (DecoderResult::Malformed(1, 0), 1, 0));

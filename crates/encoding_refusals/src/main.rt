@@ -1,5 +1,5 @@
-//! Makes each call that takes memory of the libraries of encodings, again where memory is refused, and prints
-//! what it answers. `make refused` runs it with each request for memory refused in turn.
+//! Makes each call that takes memory of the libraries of encodings, again where memory is refused,
+//! and prints what it returns. `make refused` runs it with each request for memory refused in turn.
 #![tactic(auto)]
 
 use anyhow::bail;
@@ -16,7 +16,7 @@ enum Answer {
     Refused,
     // Something else went wrong.
     Wrong,
-    // A number that only the right answer has.
+    // A number that only the right result has.
     Is(u32),
 }
 
@@ -43,7 +43,7 @@ enum Marks {
     Sniffed,
     Removed,
     Kept,
-    KeptInGoodText,
+    KeptInWellFormedText,
 }
 
 // The calls of a round are made on the same tables, so that each finds the indexes of those before it there.
@@ -65,7 +65,7 @@ const LISTS: Round = &[
     ("decode_without_bom_handling", Call::Decode(Marks::Kept)),
     (
         "decode_without_bom_handling_and_without_replacement",
-        Call::Decode(Marks::KeptInGoodText),
+        Call::Decode(Marks::KeptInWellFormedText),
     ),
 ];
 
@@ -187,7 +187,7 @@ fn range_rows(alloc: Global) -> Answer {
     }
 }
 
-// Loads a text, and answers whether memory was refused.
+// Loads a text, and returns whether memory was refused.
 fn load_text(
     alloc: Global,
     tables: &mut Tables,
@@ -279,7 +279,7 @@ fn text_of(alloc: Global, tables: &Tables, marks: Marks) -> Result<Option<String
             let (text, _) = UTF_8.decode_without_bom_handling(alloc, tables, MARKED)?;
             Ok(Some(text))
         }
-        Marks::KeptInGoodText => {
+        Marks::KeptInWellFormedText => {
             UTF_8.decode_without_bom_handling_and_without_replacement(alloc, tables, MARKED)
         }
     }
@@ -313,8 +313,8 @@ impl Call {
     }
 }
 
-// Makes the calls of a round, those that are refused a second time, and prints their answers. After each call the
-// first index has to be there as it was inserted.
+// Makes the calls of a round, those that are refused a second time, and prints their returns. After
+// each call the first index has to be there as it was inserted.
 fn make(rt: HostRuntime, round: Round) -> anyhow::Result<()> {
     let mut tables = Tables::new(rt.alloc());
     for (name, call) in round {

@@ -1,19 +1,10 @@
-mod RowSearch
-mod RunSearch
-mod RowNames
-mod Latin1
-pub mod NoText
-pub mod FrontUtf16
-pub mod RoomUtf16
-pub mod OneError
-pub mod RoomOnce
-pub mod UnitsUtf16
-mod KindNames
-pub mod RowOrder
-pub mod Directory
-pub mod ListedRows
-pub mod PointersByEntry
-pub mod ReversedRows
-pub mod IndexRows
-mod KindSizes
-mod RowFaults
+pub mod SearchLemmas
+mod RangeLemmas
+mod RowNameLemmas
+mod SingleByteLemmas
+pub mod ReplacementLemmas
+pub mod Utf16Lemmas
+pub mod ReplacementLengthLemmas
+mod KindLemmas
+pub mod RowLemmas
+mod RowFaultLemmas

@@ -3,23 +3,23 @@
 use Rattle.std.specs.Prelude.{ℕ, List, [], ◌∷◌, Option, None, Some}
 use Rattle.encoding_mem.specs.Coding.{Coding}
 use Rattle.encoding_mem.specs.Stateless.{stateless}
-use Rattle.encoding_mem.specs.Piece.{Piece, good, bad}
+use Rattle.encoding_mem.specs.Piece.{Piece, well_formed, malformed}
 use Rattle.encoding_mem.specs.Pieces.{pieces_by}
 use Rattle.encoding_mem.specs.declared.form.Form.{Form}
 use Rattle.encoding_mem.specs.declared.form.Form.TheVariants.{Mapped, Unmapped}
 
--- a byte without a character is bad
+-- a byte without a character is malformed
 abbrev pub piece_of_byte : Option ℕ → Piece
-piece_of_byte None = bad 1
-piece_of_byte (Some c) = good 1 (c ∷ [])
+piece_of_byte None = malformed 1
+piece_of_byte (Some c) = well_formed 1 (c ∷ [])
 
 -- the pieces of bytes that have these characters
-abbrev pub front_by_byte : (ℕ → Option ℕ) → List ℕ → Piece
-front_by_byte char_of [] = bad 1
-front_by_byte char_of (b ∷ x) = piece_of_byte (char_of b)
+abbrev pub first_piece_by_byte : (ℕ → Option ℕ) → List ℕ → Piece
+first_piece_by_byte char_of [] = malformed 1
+first_piece_by_byte char_of (b ∷ x) = piece_of_byte (char_of b)
 
 abbrev pub pieces_by_byte : (ℕ → Option ℕ) → List ℕ → List Piece
-pieces_by_byte char_of x = pieces_by (front_by_byte char_of) x
+pieces_by_byte char_of x = pieces_by (first_piece_by_byte char_of) x
 
 -- a character without a byte is reported as it is
 abbrev pub form_of_byte : ℕ → Option ℕ → Form

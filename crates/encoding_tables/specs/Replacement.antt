@@ -1,26 +1,26 @@
 -- The replacement encoding (the Encoding Standard, section 14.1.1, "replacement decoder"): a stream that is not empty
 -- is one error, and no text.
 use Rattle.std.specs.Prelude.{◌≡◌, ℕ, Bool, true, false, IsTrue, List, [], ◌∷◌, ◌++◌, refl}
-use Rattle.encoding_mem.specs.Piece.{Piece, good, bad, bad_count, text}
+use Rattle.encoding_mem.specs.Piece.{Piece, well_formed, malformed, malformed_count, text}
 use Rattle.encoding_mem.specs.Decoding.{DecoderState, EndsWith}
 use Rattle.encoding_mem.specs.Pieces.{pieces_in}
 use Rattle.encoding_mem.specs.declared.decoder_result.DecoderResult.TheVariants.{OutputFull}
 
--- The first piece, by whether the error was returned: the first byte is bad, each later one is silent.
-abbrev pub front_replacement : (error_returned : Bool) → List ℕ → Piece
-front_replacement false x = bad 1
-front_replacement true x = good 1 []
+-- The first piece, by whether the error was returned: the first byte is malformed, each later one is ignored.
+abbrev pub first_piece_replacement : (error_returned : Bool) → List ℕ → Piece
+first_piece_replacement false x = malformed 1
+first_piece_replacement true x = well_formed 1 []
 
 -- once it was returned, it is not returned again
 abbrev pub after_replacement : (error_returned : Bool) → List ℕ → Bool
 after_replacement error_returned x = true
 
 abbrev pub pieces_replacement : (error_returned : Bool) → List ℕ → List Piece
-pieces_replacement = pieces_in front_replacement after_replacement
+pieces_replacement = pieces_in first_piece_replacement after_replacement
 
 -- Some bytes are one error, whose U+FFFD is all their text.
 abbrev pub IsOneError : Type 0
-IsOneError = (b : ℕ) (x : List ℕ) → (bad_count (pieces_replacement false (b ∷ x)) ≡ 1) × (text (pieces_replacement false (b ∷ x)) ≡ 0xFFFD ∷ [])
+IsOneError = (b : ℕ) (x : List ℕ) → (malformed_count (pieces_replacement false (b ∷ x)) ≡ 1) × (text (pieces_replacement false (b ∷ x)) ≡ 0xFFFD ∷ [])
 
 -- Where the error was returned, no call ends for want of room.
 abbrev pub NeedsRoomOnce : Type 0

@@ -4,9 +4,9 @@ use Rattle.std.proofs.Common.{refl}
 use Rattle.std.specs.Prelude.{◌≡◌, ◌≢◌, ℕ, ◌+◌, ◌-◌, ◌<◌, ◌≤◌, ◌==◌, Bool, false, List, [], ◌∷◌, length, nat_lt, if◌then◌else◌, Option, None, Some, replicate, slice_index}
 use Rattle.std.specs.Option.{option_map}
 use Rattle.encoding_mem.specs.Coding.{Coding}
-use Rattle.encoding_mem.specs.Piece.{Piece, good, bad}
+use Rattle.encoding_mem.specs.Piece.{Piece, well_formed, malformed}
 use Rattle.encoding_mem.specs.Pieces.{pieces_in, pieces_by}
-use Rattle.encoding_tables.specs.EachByte.{front_by_byte, coding_by_byte}
+use Rattle.encoding_tables.specs.EachByte.{first_piece_by_byte, coding_by_byte}
 use Rattle.encoding_tables.specs.Lookups.{value_of, first_pointer}
 
 -- the character of a byte: ASCII gives itself
@@ -17,11 +17,11 @@ char_of_byte flat b = if nat_lt b 0x80 then Some b else value_of flat (b - 0x80)
 abbrev pub single_byte_of_char : List ℕ → ℕ → Option ℕ
 single_byte_of_char flat c = if nat_lt c 0x80 then Some c else option_map (λ p. 0x80 + p) (first_pointer flat c 0 128)
 
-abbrev pub front_single_byte : List ℕ → List ℕ → Piece
-front_single_byte flat x = front_by_byte (char_of_byte flat) x
+abbrev pub first_piece_single_byte : List ℕ → List ℕ → Piece
+first_piece_single_byte flat x = first_piece_by_byte (char_of_byte flat) x
 
 abbrev pub pieces_single_byte : List ℕ → List ℕ → List Piece
-pieces_single_byte flat x = pieces_by (front_single_byte flat) x
+pieces_single_byte flat x = pieces_by (first_piece_single_byte flat) x
 
 abbrev pub single_byte_coding : List ℕ → Coding
 single_byte_coding flat = coding_by_byte (single_byte_of_char flat)
@@ -35,5 +35,5 @@ has_number b (Some c) = c == b
 -- are those of bytes.
 pub record IsLatin1UpTo (pieces : List ℕ → List Piece) (bytes : List ℕ) (n : ℕ) : Type 0 where
   pub within : n ≤ length bytes
-  pub same : (k : ℕ) → k < n → pieces (slice_index bytes k ∷ []) ≡ good 1 (slice_index bytes k ∷ []) ∷ []
-  pub other : n < length bytes → pieces (slice_index bytes n ∷ []) ≢ good 1 (slice_index bytes n ∷ []) ∷ []
+  pub same : (k : ℕ) → k < n → pieces (slice_index bytes k ∷ []) ≡ well_formed 1 (slice_index bytes k ∷ []) ∷ []
+  pub other : n < length bytes → pieces (slice_index bytes n ∷ []) ≢ well_formed 1 (slice_index bytes n ∷ []) ∷ []

@@ -3,9 +3,9 @@
 use Rattle.std.specs.Prelude.{◌≡◌, ℕ, ◌+◌, ◌-◌, List, [], ◌∷◌, nat_lt, if◌then◌else◌, Option, None, Some, refl}
 use Rattle.std.specs.Int.{is_in_range}
 use Rattle.encoding_mem.specs.Coding.{Coding, output}
-use Rattle.encoding_mem.specs.Piece.{Piece, good}
+use Rattle.encoding_mem.specs.Piece.{Piece, well_formed}
 use Rattle.encoding_mem.specs.Pieces.{pieces_in, pieces_by}
-use Rattle.encoding_tables.specs.EachByte.{front_by_byte, coding_by_byte}
+use Rattle.encoding_tables.specs.EachByte.{first_piece_by_byte, coding_by_byte}
 
 -- the character of a byte: ASCII gives itself, and what is above FF is no byte
 abbrev pub user_char_of_byte : ℕ → Option ℕ
@@ -19,11 +19,11 @@ byte_of_user_char c = if nat_lt c 0x80
     then Some c
     else (if is_in_range 0xF780 0xF7FF c then Some (0x80 + (c - 0xF780)) else None)
 
-abbrev pub front_user_defined : List ℕ → Piece
-front_user_defined = front_by_byte user_char_of_byte
+abbrev pub first_piece_user_defined : List ℕ → Piece
+first_piece_user_defined = first_piece_by_byte user_char_of_byte
 
 abbrev pub pieces_user_defined : List ℕ → List Piece
-pieces_user_defined = pieces_by front_user_defined
+pieces_user_defined = pieces_by first_piece_user_defined
 
 abbrev pub user_defined_coding : Coding
 user_defined_coding = coding_by_byte byte_of_user_char

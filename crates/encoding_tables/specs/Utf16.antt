@@ -3,7 +3,7 @@ use Rattle.std.specs.Prelude.{◌≡◌, ℕ, ◌*◌, ◌<◌, Bool, true, fals
 use Rattle.std.specs.Int.{w16, from_be_bytes, from_le_bytes, to_be_bytes, to_le_bytes}
 use Rattle.std.specs.Char.Utf16.{is_high_surrogate, is_low_surrogate, surrogate_pair_char, utf16_chars}
 use Rattle.std.proofs.Math.Utf8.{scalar}
-use Rattle.encoding_mem.specs.Piece.{Piece, good, bad}
+use Rattle.encoding_mem.specs.Piece.{Piece, well_formed, malformed}
 use Rattle.encoding_mem.specs.Pieces.{pieces_in, pieces_by}
 use Rattle.encoding_mem.specs.Writing.{len_utf16}
 
@@ -21,32 +21,32 @@ bytes_of_units big_endian (u ∷ us) = bytes_of_unit big_endian u ++ bytes_of_un
 -- The piece that begins with a high surrogate, by what follows it. A unit that is no low surrogate is left; a byte that
 -- the end cuts off from its unit is not.
 abbrev pub after_high_surrogate : (big_endian : Bool) → ℕ → List ℕ → Piece
-after_high_surrogate big_endian u [] = bad 2
-after_high_surrogate big_endian u (c ∷ []) = bad 3
+after_high_surrogate big_endian u [] = malformed 2
+after_high_surrogate big_endian u (c ∷ []) = malformed 3
 after_high_surrogate big_endian u (c ∷ d ∷ x) = if is_low_surrogate (unit_of big_endian c d)
-    then good 4 (surrogate_pair_char u (unit_of big_endian c d) ∷ [])
-    else bad 2
+    then well_formed 4 (surrogate_pair_char u (unit_of big_endian c d) ∷ [])
+    else malformed 2
 
 -- The piece that begins with a unit. A unit that is a scalar is that character; a low surrogate is none.
 abbrev pub after_unit : (big_endian : Bool) → ℕ → List ℕ → Piece
 after_unit big_endian u x = if is_high_surrogate u
     then after_high_surrogate big_endian u x
-    else (if scalar u then good 2 (u ∷ []) else bad 2)
+    else (if scalar u then well_formed 2 (u ∷ []) else malformed 2)
 
 -- the first piece of some bytes
-abbrev pub front_utf16 : (big_endian : Bool) → List ℕ → Piece
-front_utf16 big_endian [] = bad 1
-front_utf16 big_endian (a ∷ []) = bad 1
-front_utf16 big_endian (a ∷ b ∷ x) = after_unit big_endian (unit_of big_endian a b) x
+abbrev pub first_piece_utf16 : (big_endian : Bool) → List ℕ → Piece
+first_piece_utf16 big_endian [] = malformed 1
+first_piece_utf16 big_endian (a ∷ []) = malformed 1
+first_piece_utf16 big_endian (a ∷ b ∷ x) = after_unit big_endian (unit_of big_endian a b) x
 
 -- the pieces of some bytes, where the list's end is the end of the input
 abbrev pub pieces_utf16 : (big_endian : Bool) → List ℕ → List Piece
-pieces_utf16 big_endian x = pieces_by (front_utf16 big_endian) x
+pieces_utf16 big_endian x = pieces_by (first_piece_utf16 big_endian) x
 
 -- the piece of a character, and of a surrogate in no pair
 abbrev pub piece_of_char : Option ℕ → Piece
-piece_of_char None = bad 2
-piece_of_char (Some c) = good (2 * len_utf16 c) (c ∷ [])
+piece_of_char None = malformed 2
+piece_of_char (Some c) = well_formed (2 * len_utf16 c) (c ∷ [])
 
 -- The pieces of units are the characters that they spell.
 abbrev pub ReadsUnits : Type 0

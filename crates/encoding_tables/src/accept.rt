@@ -27,15 +27,15 @@ fn is_entry(kind: IndexKind, entry: u32) -> bool
 
 // The pointer of the first entry that a list of the kind may not have.
 fn first_bad_entry(kind: IndexKind, flat: &[u32]) -> Option<usize>
-    ensures place { result ≡ first_bad_entry kind flat.now }
+    ensures offset { result ≡ first_bad_entry kind flat.now }
     ensures within { IfSome result (λ k. k < length flat.now) }
 {
     flat.iter().position(|entry| !is_entry(kind, *entry))
 }
 
-// The place of the first entry that is mapped.
+// The offset of the first entry that is mapped.
 fn first_mapped(flat: &[u32]) -> Option<usize>
-    ensures place { result ≡ position (λ v. not (v == 0)) flat.now }
+    ensures offset { result ≡ position (λ v. not (v == 0)) flat.now }
     ensures within { IfSome result (λ k. k < length flat.now) }
 {
     flat.iter().position(|entry| *entry != 0)
@@ -48,7 +48,7 @@ fn first_reserved(flat: &[u32]) -> Option<usize>
     ensures within { IfSome result (λ k. k < 10716) }
 {
     match first_mapped(&flat[RESERVED_START..RESERVED_END]) {
-        Some(place) => Some(RESERVED_START + place),
+        Some(offset) => Some(RESERVED_START + offset),
         None => None,
     }
 }

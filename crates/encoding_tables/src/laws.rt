@@ -58,9 +58,9 @@ pub fn user_defined_text_reads_back()
     ensures { ReadsBackExactly pieces_user_defined user_defined_coding }
 {}
 
-/// What is written in a single-byte encoding for a character, its byte or its reference, reads back, by the
-/// decoder of the same list, as that character, or begins with a piece that is bad or another character,
-/// whatever follows it.
+/// What is written in a single-byte encoding for a character, its byte or its reference, reads
+/// back, by the decoder of the same list, as that character, or begins with a piece that is
+/// malformed or another character, whatever follows it.
 pub fn single_byte_steps()
     ensures { (flat : List ℕ) → AreEntries flat → StepLaw (single_byte_coding flat) (in_any_set (pieces_single_byte flat)) }
 {}
@@ -70,8 +70,8 @@ pub fn user_defined_steps()
     ensures { StepLaw user_defined_coding (in_any_set pieces_user_defined) }
 {}
 
-/// The pieces of units in UTF-16, in either byte order, are the characters that the units spell; each
-/// surrogate in no pair is a bad piece.
+/// The pieces of units in UTF-16, in either byte order, are the characters that the units spell;
+/// each surrogate in no pair is a malformed sequence.
 pub fn utf16_reads_units()
     ensures { ReadsUnits }
 {}
@@ -81,8 +81,8 @@ pub fn replacement_is_one_error()
     ensures { IsOneError }
 {}
 
-/// A call of replacement's decoder ends for want of room only before its error: once that is returned, no
-/// call of a decoder with these pieces answers `OutputFull`.
+/// A call of replacement's decoder ends for want of room only before its error: once that is
+/// returned, no call of a decoder with these pieces returns `OutputFull`.
 pub fn replacement_needs_room_once()
     ensures { NeedsRoomOnce }
 {}

@@ -91,8 +91,8 @@ impl PackedIndex {
         ensures pointer { result ≡ first_pointer self.now entry from to }
         ensures before { IfSome result (λ p. p < to) }
     {
-        let place = self.by_entry.rank((entry, from));
-        match self.by_entry.rows().get(place) {
+        let offset = self.by_entry.rank((entry, from));
+        match self.by_entry.rows().get(offset) {
             Some((first, pointer)) if *first == entry && *pointer < to => Some(*pointer),
             _ => None,
         }

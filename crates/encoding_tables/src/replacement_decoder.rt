@@ -3,16 +3,16 @@
 ghost use Rattle.std.proofs.Common.{refl};
 ghost use Rattle.std.specs.Prelude.{◌≡◌, false};
 ghost use Rattle.encoding_mem.specs.laws.Pieces.{pieces_in-nil, pieces_in-whole, pieces_in-are_pieces};
-ghost use Rattle.encoding_mem.specs.Room.{room_replacement};
+ghost use Rattle.encoding_mem.specs.DecodedLength.{decoded_length_replacement};
 ghost use Rattle.encoding_mem.specs.laws.Shows.{decided_in};
-ghost use Rattle.encoding_tables.specs.Replacement.{front_replacement, after_replacement, pieces_replacement};
+ghost use Rattle.encoding_tables.specs.Replacement.{first_piece_replacement, after_replacement, pieces_replacement};
 ghost use Rattle.encoding_tables.specs.laws.Replacement.{cuts_replacement, replacement_needs, replacement_covers, decided_by_one};
 
 use encoding_mem::bytewise::{Bytewise, DecidedPiece};
-use encoding_mem::front::{Front, FrontPiece};
-use encoding_mem::piece_decoder::PieceDecoder;
-use encoding_mem::room::Room;
+use encoding_mem::first_piece::{DecoderRule, FirstPiece};
+use encoding_mem::room::DecodedLength;
 use encoding_mem::sink::Sink;
+use encoding_mem::sink_decoder::SinkDecoder;
 use encoding_mem::{DecoderResult, RawDecoder};
 
 // The rule of the replacement encoding: one error, and no text.
@@ -21,18 +21,18 @@ struct ReplacementRule {
     error_returned: bool,
 }
 
-impl FrontPiece for ReplacementRule {
+impl DecoderRule for ReplacementRule {
     ghost pieces = { λ s x. pieces_replacement s.error_returned x };
 
-    ghost whole = { λ s. pieces_in-whole front_replacement after_replacement cuts_replacement s.error_returned };
+    ghost whole = { λ s. pieces_in-whole first_piece_replacement after_replacement cuts_replacement s.error_returned };
 
-    ghost are_pieces = { λ s. pieces_in-are_pieces front_replacement after_replacement cuts_replacement s.error_returned };
+    ghost are_pieces = { λ s. pieces_in-are_pieces first_piece_replacement after_replacement cuts_replacement s.error_returned };
 
-    ghost ends = { λ s. pieces_in-nil front_replacement after_replacement s.error_returned };
+    ghost ends = { λ s. pieces_in-nil first_piece_replacement after_replacement s.error_returned };
 
     ghost needs = { λ s. replacement_needs s.error_returned };
 
-    ghost limits = { λ _. room_replacement };
+    ghost limits = { λ _. decoded_length_replacement };
 
     ghost covers = { λ s. replacement_covers s.error_returned };
 
@@ -40,13 +40,13 @@ impl FrontPiece for ReplacementRule {
 
     ghost steady = { λ _ _. refl };
 
-    fn front(&self, bytes: &[u8], last: bool) -> Front {
+    fn first_piece(&self, bytes: &[u8], last: bool) -> FirstPiece {
         let _ = bytes;
         let _ = last;
         if self.error_returned {
-            Front::Silent(1)
+            FirstPiece::Ignored(1)
         } else {
-            Front::Bad(1)
+            FirstPiece::Malformed(1)
         }
     }
 
@@ -60,17 +60,17 @@ impl FrontPiece for ReplacementRule {
         ""
     }
 
-    fn room(&self) -> Room {
-        Room::replacement()
+    fn room(&self) -> DecodedLength {
+        DecodedLength::replacement()
     }
 }
 
 impl DecidedPiece for ReplacementRule {
-    ghost decided = { λ s. decided_in front_replacement after_replacement cuts_replacement decided_by_one s.error_returned };
+    ghost decided = { λ s. decided_in first_piece_replacement after_replacement cuts_replacement decided_by_one s.error_returned };
 }
 
-/// Decodes the replacement encoding: the first byte is bad, and all bytes after it give nothing. It stands
-/// for encodings that must not be decoded.
+/// Decodes the replacement encoding: the first byte is malformed, and all bytes after it give
+/// nothing. It stands for encodings that must not be decoded.
 #[derive(Drop)]
 pub struct ReplacementDecoder {
     inner: Bytewise<ReplacementRule>,
@@ -81,7 +81,7 @@ impl ReplacementDecoder {
     pub fn new() -> Self
         ensures pending { (⟦<ReplacementDecoder as RawDecoder>⟧.state result).pending ≡ 0 }
         ensures pieces { (⟦<ReplacementDecoder as RawDecoder>⟧.state result).pieces ≡ pieces_replacement false }
-        ensures room { (⟦<ReplacementDecoder as RawDecoder>⟧.state result).room ≡ room_replacement }
+        ensures room { (⟦<ReplacementDecoder as RawDecoder>⟧.state result).room ≡ decoded_length_replacement }
     {
         ReplacementDecoder {
             inner: Bytewise::new(ReplacementRule {
@@ -91,8 +91,8 @@ impl ReplacementDecoder {
     }
 }
 
-impl PieceDecoder for ReplacementDecoder {
-    ghost state = { λ d. ⟦<Bytewise<ReplacementRule> as PieceDecoder>⟧.state d.inner };
+impl SinkDecoder for ReplacementDecoder {
+    ghost state = { λ d. ⟦<Bytewise<ReplacementRule> as SinkDecoder>⟧.state d.inner };
 
     fn decode_into<S: Sink>(
         &mut self,
@@ -107,7 +107,7 @@ impl PieceDecoder for ReplacementDecoder {
         self.inner.held_len()
     }
 
-    fn room(&self) -> Room {
+    fn room(&self) -> DecodedLength {
         self.inner.room()
     }
 }

@@ -11,9 +11,9 @@ fn is_below(row: (u32, u32), key: (u32, u32)) -> bool
     row.0 < key.0 || row.0 == key.0 && row.1 < key.1
 }
 
-/// How many of some rows are below `key`, which is the place of the first row that is not, where there is
-/// one; and how many rows were compared with it: at most the number of binary digits of how many rows
-/// there are.
+/// How many of some rows are below `key`, which is the offset of the first row that is not, where
+/// there is one; and how many rows were compared with it: at most the number of binary digits of
+/// how many rows there are.
 ///
 /// A row is below another by its first number, and by the second where the first are equal. The rows rise
 /// strictly in this order, which no rows and one row do. A comparison of neighbours tests it:

@@ -4,24 +4,24 @@ ghost use Rattle.std.proofs.Common.{refl, arith};
 ghost use Rattle.std.specs.Prelude.{◌≡◌, ℕ, ◌<◌, not, true};
 ghost use Rattle.std.specs.List.{position};
 ghost use Rattle.encoding_mem.specs.laws.Pieces.{pieces_by-nil, pieces_by-whole, pieces_by-are_pieces};
-ghost use Rattle.encoding_mem.specs.Room.{room_of, room_single_byte};
+ghost use Rattle.encoding_mem.specs.DecodedLength.{decoded_length, decoded_length_single_byte};
 ghost use Rattle.encoding_mem.specs.laws.Shows.{decided_by};
-ghost use Rattle.encoding_tables.specs.laws.EachByte.{front_of_byte};
+ghost use Rattle.encoding_tables.specs.laws.EachByte.{first_piece_of_byte};
 ghost use Rattle.encoding_tables.specs.IndexLists.{has, entries_of};
 ghost use Rattle.encoding_tables.specs.Kinds.{is_single_byte};
 ghost use Rattle.encoding_tables.specs.Lookups.{AreEntries};
-ghost use Rattle.encoding_tables.specs.SingleByte.{char_of_byte, has_number, front_single_byte, pieces_single_byte, IsLatin1UpTo};
+ghost use Rattle.encoding_tables.specs.SingleByte.{char_of_byte, has_number, first_piece_single_byte, pieces_single_byte, IsLatin1UpTo};
 ghost use Rattle.encoding_tables.specs.laws.SingleByte.{AreBasic, cuts_single_byte};
 
 use crate::flat::Flat;
 use crate::index_kind::IndexKind;
 use crate::tables::Tables;
-use encoding_mem::ascii::longer_ascii_front;
+use encoding_mem::ascii::longer_ascii_prefix;
 use encoding_mem::bytewise::{Bytewise, DecidedPiece};
-use encoding_mem::front::{Front, FrontPiece};
-use encoding_mem::piece_decoder::PieceDecoder;
-use encoding_mem::room::Room;
+use encoding_mem::first_piece::{DecoderRule, FirstPiece};
+use encoding_mem::room::DecodedLength;
 use encoding_mem::sink::Sink;
+use encoding_mem::sink_decoder::SinkDecoder;
 use encoding_mem::{DecoderResult, RawDecoder};
 
 // The rule of a single-byte encoding: each byte is a piece.
@@ -55,36 +55,36 @@ impl<'a> SingleByteRule<'a> {
         }
     }
 
-    // The place of the first byte whose character has another number, or that has no character.
+    // The offset of the first byte whose character has another number, or that has no character.
     fn first_other(&self, bytes: &[u8]) -> Option<usize>
         ensures { result ≡ position (λ b. not (has_number b (char_of_byte self.now.flat b))) bytes.now }
     {
         bytes.iter().position(|byte| !self.is_latin1(*byte))
     }
 
-    // How many bytes at the front are characters with the bytes' numbers.
+    // How many bytes at the start are characters with the bytes' numbers.
     fn latin1_len(&self, bytes: &[u8]) -> usize
         ensures { IsLatin1UpTo (pieces_single_byte self.now.flat) bytes.now result }
     {
         match self.first_other(bytes) {
-            Some(place) => place,
+            Some(offset) => offset,
             None => bytes.len(),
         }
     }
 }
 
-impl<'a> FrontPiece for SingleByteRule<'a> {
+impl<'a> DecoderRule for SingleByteRule<'a> {
     ghost pieces = { λ s x. pieces_single_byte s.flat x };
 
-    ghost whole = { λ s. pieces_by-whole (front_single_byte s.flat) (cuts_single_byte s.flat s.scalars) };
+    ghost whole = { λ s. pieces_by-whole (first_piece_single_byte s.flat) (cuts_single_byte s.flat s.scalars) };
 
-    ghost are_pieces = { λ s. pieces_by-are_pieces (front_single_byte s.flat) (cuts_single_byte s.flat s.scalars) };
+    ghost are_pieces = { λ s. pieces_by-are_pieces (first_piece_single_byte s.flat) (cuts_single_byte s.flat s.scalars) };
 
-    ghost ends = { λ s. pieces_by-nil (front_single_byte s.flat) };
+    ghost ends = { λ s. pieces_by-nil (first_piece_single_byte s.flat) };
 
-    ghost needs = { λ _. room_of room_single_byte };
+    ghost needs = { λ _. decoded_length decoded_length_single_byte };
 
-    ghost limits = { λ _. room_single_byte };
+    ghost limits = { λ _. decoded_length_single_byte };
 
     ghost covers = { λ _ _ _. omega arith };
 
@@ -93,9 +93,9 @@ impl<'a> FrontPiece for SingleByteRule<'a> {
     ghost steady = { λ _ _. refl };
 
     #[inline(always)]
-    fn front(&self, bytes: &[u8], last: bool) -> Front {
+    fn first_piece(&self, bytes: &[u8], last: bool) -> FirstPiece {
         let _ = last;
-        front_of(self.char_of(bytes[0]))
+        prefix_of(self.char_of(bytes[0]))
     }
 
     #[inline(always)]
@@ -105,31 +105,31 @@ impl<'a> FrontPiece for SingleByteRule<'a> {
 
     #[inline(always)]
     fn text_at<'b>(&self, bytes: &'b [u8]) -> &'b str {
-        longer_ascii_front(bytes)
+        longer_ascii_prefix(bytes)
     }
 
-    fn room(&self) -> Room {
-        Room::single_byte()
+    fn room(&self) -> DecodedLength {
+        DecodedLength::single_byte()
     }
 }
 
 impl<'a> DecidedPiece for SingleByteRule<'a> {
-    ghost decided = { λ s. decided_by (front_single_byte s.flat) (cuts_single_byte s.flat s.scalars) (λ _ _ _. refl) };
+    ghost decided = { λ s. decided_by (first_piece_single_byte s.flat) (cuts_single_byte s.flat s.scalars) (λ _ _ _. refl) };
 }
 
-// The piece of a byte, by its character: a byte that has none is bad.
+// The piece of a byte, by its character: a byte that has none is malformed.
 #[inline(always)]
-fn front_of(c: Option<char>) -> Front
-    ensures { result ≡ front_of_byte c }
+fn prefix_of(c: Option<char>) -> FirstPiece
+    ensures { result ≡ first_piece_of_byte c }
 {
     match c {
-        Some(c) => Front::One(c, 1),
-        None => Front::Bad(1),
+        Some(c) => FirstPiece::One(c, 1),
+        None => FirstPiece::Malformed(1),
     }
 }
 
 /// Decodes a single-byte encoding: 00 to 7F give themselves, a byte from 80 gives the entry at the
-/// pointer that is the byte less 80, and one without an entry is bad.
+/// pointer that is the byte less 80, and one without an entry is malformed.
 #[derive(Drop)]
 pub struct SingleByteDecoder<'a> {
     inner: Bytewise<SingleByteRule<'a>>,
@@ -142,7 +142,7 @@ impl<'a> SingleByteDecoder<'a> {
         requires single { is_single_byte kind ≡ true }
         ensures pending { (⟦<SingleByteDecoder<'a> as RawDecoder>⟧.state result).pending ≡ 0 }
         ensures pieces { (⟦<SingleByteDecoder<'a> as RawDecoder>⟧.state result).pieces ≡ pieces_single_byte (entries_of tables.now kind) }
-        ensures room { (⟦<SingleByteDecoder<'a> as RawDecoder>⟧.state result).room ≡ room_single_byte }
+        ensures room { (⟦<SingleByteDecoder<'a> as RawDecoder>⟧.state result).room ≡ decoded_length_single_byte }
     {
         SingleByteDecoder {
             inner: Bytewise::new(SingleByteRule {
@@ -151,8 +151,9 @@ impl<'a> SingleByteDecoder<'a> {
         }
     }
 
-    /// The place of the first byte whose character has another number than the byte, or that is bad; the
-    /// length where there is none. Up to there the bytes are their characters in Latin1.
+    /// The offset of the first byte whose character has another number than the byte, or that is
+    /// malformed; the length where there is none. Up to there the bytes are their characters in
+    /// Latin1.
     pub fn latin1_byte_compatible_up_to(&self, bytes: &[u8]) -> usize
         ensures { IsLatin1UpTo (⟦<SingleByteDecoder<'a> as RawDecoder>⟧.state self.now).pieces bytes.now result }
     {
@@ -160,8 +161,8 @@ impl<'a> SingleByteDecoder<'a> {
     }
 }
 
-impl<'a> PieceDecoder for SingleByteDecoder<'a> {
-    ghost state = { λ d. ⟦<Bytewise<SingleByteRule<'a>> as PieceDecoder>⟧.state d.inner };
+impl<'a> SinkDecoder for SingleByteDecoder<'a> {
+    ghost state = { λ d. ⟦<Bytewise<SingleByteRule<'a>> as SinkDecoder>⟧.state d.inner };
 
     #[inline(always)]
     fn decode_into<S: Sink>(
@@ -177,7 +178,7 @@ impl<'a> PieceDecoder for SingleByteDecoder<'a> {
         self.inner.held_len()
     }
 
-    fn room(&self) -> Room {
+    fn room(&self) -> DecodedLength {
         self.inner.room()
     }
 }

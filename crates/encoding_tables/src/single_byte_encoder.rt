@@ -1,20 +1,20 @@
 // The encoder of the single-byte encodings (the Encoding Standard, section 9.2, "single-byte encoder").
 
 ghost use Rattle.std.specs.Prelude.{◌≡◌, ◌+◌, true};
-ghost use Rattle.encoding_mem.specs.TextRoom.{text_room_single_byte};
+ghost use Rattle.encoding_mem.specs.EncodedLength.{encoded_length_single_byte};
 ghost use Rattle.encoding_tables.specs.EachByte.{form_of_byte};
 ghost use Rattle.encoding_tables.specs.IndexLists.{has, entries_of};
 ghost use Rattle.encoding_tables.specs.Kinds.{is_single_byte};
 ghost use Rattle.encoding_tables.specs.SingleByte.{single_byte_of_char, single_byte_coding};
 ghost use Rattle.encoding_tables.specs.laws.SingleByte.{single_byte_laws, single_byte_fits};
-ghost use Rattle.encoding_mem.specs.declared.form.Set.TheVariants.{Ascii};
+ghost use Rattle.encoding_mem.specs.declared.form.EscapeState.TheVariants.{Ascii};
 
 use crate::flat::Flat;
 use crate::index_kind::IndexKind;
 use crate::tables::Tables;
-use encoding_mem::encode::{Target, encode};
-use encoding_mem::form::{Bytes, Form, Set};
-use encoding_mem::room::TextRoom;
+use encoding_mem::encode::{EncoderRule, encode};
+use encoding_mem::form::{Bytes, EscapeState, Form};
+use encoding_mem::room::EncodedLength;
 use encoding_mem::source::{Source, Utf8Source, Utf16Source};
 use encoding_mem::{EncoderResult, RawEncoder};
 
@@ -24,29 +24,29 @@ struct SingleByte<'a> {
     flat: Flat<'a>,
 }
 
-impl<'a> Target for SingleByte<'a> {
+impl<'a> EncoderRule for SingleByte<'a> {
     ghost need = { λ _. 1 };
 
     ghost coding = { λ s. single_byte_coding s.flat };
 
-    ghost limits = { λ _. text_room_single_byte };
+    ghost limits = { λ _. encoded_length_single_byte };
 
     ghost laws = { λ s. single_byte_laws s.flat };
 
     ghost fits = { λ s. single_byte_fits s.flat };
 
     #[inline(always)]
-    fn step(&self, _set: Set, c: char) -> (Set, Form) {
-        (Set::Ascii, form_of(c, byte_of(&self.flat, c)))
+    fn step(&self, _set: EscapeState, c: char) -> (EscapeState, Form) {
+        (EscapeState::Ascii, form_of(c, byte_of(&self.flat, c)))
     }
 
     #[inline(always)]
-    fn copies_ascii(&self, set: Set) -> bool {
-        matches!(set, Set::Ascii)
+    fn copies_ascii(&self, set: EscapeState) -> bool {
+        matches!(set, EscapeState::Ascii)
     }
 
     #[inline(always)]
-    fn escape(&self, _from: Set, _to: Set) -> Bytes {
+    fn escape(&self, _from: EscapeState, _to: EscapeState) -> Bytes {
         Bytes::none()
     }
 }
@@ -91,7 +91,7 @@ impl<'a> SingleByteEncoder<'a> {
         ensures coding { ⟦<SingleByteEncoder<'a> as RawEncoder>⟧.coding result ≡ single_byte_coding (entries_of tables.now kind) }
         ensures set { ⟦<SingleByteEncoder<'a> as RawEncoder>⟧.set result ≡ Ascii }
         ensures need { ⟦<SingleByteEncoder<'a> as RawEncoder>⟧.need result ≡ 1 }
-        ensures limits { ⟦<SingleByteEncoder<'a> as RawEncoder>⟧.limits result ≡ text_room_single_byte }
+        ensures limits { ⟦<SingleByteEncoder<'a> as RawEncoder>⟧.limits result ≡ encoded_length_single_byte }
     {
         SingleByteEncoder {
             target: SingleByte {
@@ -108,7 +108,7 @@ impl<'a> RawEncoder for SingleByteEncoder<'a> {
 
     ghost set = { λ _. Ascii };
 
-    ghost limits = { λ _. text_room_single_byte };
+    ghost limits = { λ _. encoded_length_single_byte };
 
     ghost laws = { λ e. single_byte_laws e.target.flat };
 
@@ -119,7 +119,7 @@ impl<'a> RawEncoder for SingleByteEncoder<'a> {
         last: bool,
     ) -> (EncoderResult, usize, usize) {
         let mut source = Utf8Source::new(src);
-        let mut set = Set::Ascii;
+        let mut set = EscapeState::Ascii;
         let (result, written) = encode(&self.target, &mut set, &mut source, dst, last);
         (result, source.read(), written)
     }
@@ -131,13 +131,13 @@ impl<'a> RawEncoder for SingleByteEncoder<'a> {
         last: bool,
     ) -> (EncoderResult, usize, usize) {
         let mut source = Utf16Source::new(src);
-        let mut set = Set::Ascii;
+        let mut set = EscapeState::Ascii;
         let (result, written) = encode(&self.target, &mut set, &mut source, dst, last);
         (result, source.read(), written)
     }
 
-    fn room(&self) -> TextRoom {
-        TextRoom::single_byte()
+    fn room(&self) -> EncodedLength {
+        EncodedLength::single_byte()
     }
 
     fn has_pending_state(&self) -> bool {

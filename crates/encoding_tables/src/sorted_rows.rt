@@ -1,5 +1,5 @@
-// Rows in order, with a directory of the place at which the rows of each first number begin, so that a search
-// looks at the rows of one first number alone.
+// Rows in order, with a directory of the offset at which the rows of each first number begin, so
+// that a search looks at the rows of one first number alone.
 
 ghost use Rattle.std.specs.Prelude.{◌≡◌, ◌<◌, ◌^◌, List, ℕ, length, IfOk};
 ghost use Rattle.encoding_tables.specs.SortedRows.{AreRising, IsRank, IsDirectory, IsSpan};
@@ -66,9 +66,9 @@ fn span_in(rows: &[(u32, u32)], begins: &[u16], first: u32) -> (usize, usize)
     requires { IsDirectory rows.now begins.now }
     ensures { IsSpan rows.now first result.0 result.1 }
 {
-    let place = first as usize;
-    if place + 1 < begins.len() {
-        (begins[place] as usize, begins[place + 1] as usize)
+    let offset = first as usize;
+    if offset + 1 < begins.len() {
+        (begins[offset] as usize, begins[offset + 1] as usize)
     } else {
         (rows.len(), rows.len())
     }
@@ -96,9 +96,9 @@ fn directory(alloc: Global, rows: &[(u32, u32)]) -> Result<Vec<u16>, AllocError>
         [] => 0,
     };
     let mut begins = Vec::with_capacity(alloc, numbers + 1)?;
-    'rows: for (place, (first, _)) in rows.iter().enumerate() {
+    'rows: for (offset, (first, _)) in rows.iter().enumerate() {
         'numbers: while begins.len() <= *first as usize {
-            begins.push(place as u16)?;
+            begins.push(offset as u16)?;
         }
     }
     begins.push(rows.len() as u16)?;

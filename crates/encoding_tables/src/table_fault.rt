@@ -1,6 +1,7 @@
 use thiserror::Error;
 
-/// Why a list or rows were not taken. The first that holds is answered, in the order of the variants.
+/// Why a list or rows were not taken. The first that holds is returned, in the order of the
+/// variants.
 #[derive(Debug, Drop, PartialEq, Eq, Error)]
 pub enum TableFault {
     /// The kind is there already.

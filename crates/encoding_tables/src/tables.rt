@@ -77,8 +77,8 @@ impl Tables {
         }
     }
 
-    /// Takes a copy of the list of a kind, `size` entries of the kind. Otherwise nothing changes, and the
-    /// answer says why.
+    /// Takes a copy of the list of a kind, `size` entries of the kind. Otherwise nothing changes,
+    /// and the result says why.
     pub fn insert(&mut self, kind: IndexKind, flat: &[u32]) -> Result<(), TableFault>
         requires { is_ranges kind ≡ false }
         ensures fault { MatchOption (flat_fault (has self.old kind) kind flat.now)
@@ -132,8 +132,8 @@ impl Tables {
         }
     }
 
-    /// Takes a copy of the rows of the GB18030 ranges, each a pointer and a code point. Otherwise nothing
-    /// changes, and the answer says why.
+    /// Takes a copy of the rows of the GB18030 ranges, each a pointer and a code point. Otherwise
+    /// nothing changes, and the result says why.
     pub fn insert_ranges(&mut self, rows: &[(u32, u32)]) -> Result<(), TableFault>
         ensures fault { MatchOption (range_fault (is_some self.old.rows) rows.now)
             ((result ≡ Ok tt) ⊎ (result ≡ Err TableFault.Memory)) (λ f. result ≡ Err f) }

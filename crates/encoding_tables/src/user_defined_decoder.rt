@@ -3,35 +3,35 @@
 ghost use Rattle.std.proofs.Common.{refl, arith};
 ghost use Rattle.std.specs.Prelude.{◌≡◌, ◌<◌, Some};
 ghost use Rattle.encoding_mem.specs.laws.Pieces.{pieces_by-nil, pieces_by-whole, pieces_by-are_pieces};
-ghost use Rattle.encoding_mem.specs.Room.{room_of, room_single_byte};
+ghost use Rattle.encoding_mem.specs.DecodedLength.{decoded_length, decoded_length_single_byte};
 ghost use Rattle.encoding_mem.specs.laws.Shows.{decided_by};
-ghost use Rattle.encoding_tables.specs.UserDefined.{user_char_of_byte, front_user_defined, pieces_user_defined};
+ghost use Rattle.encoding_tables.specs.UserDefined.{user_char_of_byte, first_piece_user_defined, pieces_user_defined};
 ghost use Rattle.encoding_tables.specs.laws.UserDefined.{cuts_user_defined};
 
-use encoding_mem::ascii::longer_ascii_front;
+use encoding_mem::ascii::longer_ascii_prefix;
 use encoding_mem::bytewise::{Bytewise, DecidedPiece};
-use encoding_mem::front::{Front, FrontPiece};
-use encoding_mem::piece_decoder::PieceDecoder;
-use encoding_mem::room::Room;
+use encoding_mem::first_piece::{DecoderRule, FirstPiece};
+use encoding_mem::room::DecodedLength;
 use encoding_mem::sink::Sink;
+use encoding_mem::sink_decoder::SinkDecoder;
 use encoding_mem::{DecoderResult, RawDecoder};
 
 // The rule of x-user-defined: each byte is a character.
 #[derive(Clone, Copy)]
 struct UserDefinedRule {}
 
-impl FrontPiece for UserDefinedRule {
+impl DecoderRule for UserDefinedRule {
     ghost pieces = { λ _ x. pieces_user_defined x };
 
-    ghost whole = { λ _. pieces_by-whole front_user_defined cuts_user_defined };
+    ghost whole = { λ _. pieces_by-whole first_piece_user_defined cuts_user_defined };
 
-    ghost are_pieces = { λ _. pieces_by-are_pieces front_user_defined cuts_user_defined };
+    ghost are_pieces = { λ _. pieces_by-are_pieces first_piece_user_defined cuts_user_defined };
 
-    ghost ends = { λ _. pieces_by-nil front_user_defined };
+    ghost ends = { λ _. pieces_by-nil first_piece_user_defined };
 
-    ghost needs = { λ _. room_of room_single_byte };
+    ghost needs = { λ _. decoded_length decoded_length_single_byte };
 
-    ghost limits = { λ _. room_single_byte };
+    ghost limits = { λ _. decoded_length_single_byte };
 
     ghost covers = { λ _ _ _. omega arith };
 
@@ -39,9 +39,9 @@ impl FrontPiece for UserDefinedRule {
 
     ghost steady = { λ _ _. refl };
 
-    fn front(&self, bytes: &[u8], last: bool) -> Front {
+    fn first_piece(&self, bytes: &[u8], last: bool) -> FirstPiece {
         let _ = last;
-        Front::One(char_of(bytes[0]), 1)
+        FirstPiece::One(char_of(bytes[0]), 1)
     }
 
     fn pass(&mut self, bytes: &[u8]) {
@@ -49,16 +49,16 @@ impl FrontPiece for UserDefinedRule {
     }
 
     fn text_at<'b>(&self, bytes: &'b [u8]) -> &'b str {
-        longer_ascii_front(bytes)
+        longer_ascii_prefix(bytes)
     }
 
-    fn room(&self) -> Room {
-        Room::single_byte()
+    fn room(&self) -> DecodedLength {
+        DecodedLength::single_byte()
     }
 }
 
 impl DecidedPiece for UserDefinedRule {
-    ghost decided = { λ _. decided_by front_user_defined cuts_user_defined (λ _ _ _. refl) };
+    ghost decided = { λ _. decided_by first_piece_user_defined cuts_user_defined (λ _ _ _. refl) };
 }
 
 // The character of a byte.
@@ -73,8 +73,8 @@ fn char_of(byte: u8) -> char
     }
 }
 
-/// Decodes x-user-defined: 00 to 7F give themselves, and the bytes from 80 give U+F780 to U+F7FF. No byte
-/// is bad.
+/// Decodes x-user-defined: 00 to 7F give themselves, and the bytes from 80 give U+F780 to U+F7FF.
+/// No byte is malformed.
 #[derive(Drop)]
 pub struct UserDefinedDecoder {
     inner: Bytewise<UserDefinedRule>,
@@ -85,7 +85,7 @@ impl UserDefinedDecoder {
     pub fn new() -> Self
         ensures pending { (⟦<UserDefinedDecoder as RawDecoder>⟧.state result).pending ≡ 0 }
         ensures pieces { (⟦<UserDefinedDecoder as RawDecoder>⟧.state result).pieces ≡ pieces_user_defined }
-        ensures room { (⟦<UserDefinedDecoder as RawDecoder>⟧.state result).room ≡ room_single_byte }
+        ensures room { (⟦<UserDefinedDecoder as RawDecoder>⟧.state result).room ≡ decoded_length_single_byte }
     {
         UserDefinedDecoder {
             inner: Bytewise::new(UserDefinedRule {}),
@@ -93,8 +93,8 @@ impl UserDefinedDecoder {
     }
 }
 
-impl PieceDecoder for UserDefinedDecoder {
-    ghost state = { λ d. ⟦<Bytewise<UserDefinedRule> as PieceDecoder>⟧.state d.inner };
+impl SinkDecoder for UserDefinedDecoder {
+    ghost state = { λ d. ⟦<Bytewise<UserDefinedRule> as SinkDecoder>⟧.state d.inner };
 
     fn decode_into<S: Sink>(
         &mut self,
@@ -109,7 +109,7 @@ impl PieceDecoder for UserDefinedDecoder {
         self.inner.held_len()
     }
 
-    fn room(&self) -> Room {
+    fn room(&self) -> DecodedLength {
         self.inner.room()
     }
 }

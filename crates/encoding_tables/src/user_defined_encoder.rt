@@ -1,16 +1,16 @@
 // The encoder of x-user-defined (the Encoding Standard, section 14.5.2, "x-user-defined encoder").
 
 ghost use Rattle.std.specs.Prelude.{◌≡◌};
-ghost use Rattle.encoding_mem.specs.TextRoom.{text_room_single_byte};
-ghost use Rattle.encoding_mem.specs.declared.form.Set.TheVariants.{Ascii};
+ghost use Rattle.encoding_mem.specs.EncodedLength.{encoded_length_single_byte};
+ghost use Rattle.encoding_mem.specs.declared.form.EscapeState.TheVariants.{Ascii};
 ghost use Rattle.encoding_tables.specs.laws.EachByte.{fits_by_byte};
 ghost use Rattle.encoding_tables.specs.UserDefined.{byte_of_user_char, user_defined_coding};
 ghost use Rattle.encoding_tables.specs.laws.UserDefined.{user_defined_laws};
 
 use crate::single_byte_encoder::form_of;
-use encoding_mem::encode::{Target, encode};
-use encoding_mem::form::{Bytes, Form, Set};
-use encoding_mem::room::TextRoom;
+use encoding_mem::encode::{EncoderRule, encode};
+use encoding_mem::form::{Bytes, EscapeState, Form};
+use encoding_mem::room::EncodedLength;
 use encoding_mem::source::{Source, Utf8Source, Utf16Source};
 use encoding_mem::{EncoderResult, RawEncoder};
 
@@ -18,29 +18,29 @@ use encoding_mem::{EncoderResult, RawEncoder};
 #[derive(Clone, Copy, Drop)]
 struct UserDefined;
 
-impl Target for UserDefined {
+impl EncoderRule for UserDefined {
     ghost need = { λ _. 1 };
 
     ghost coding = { λ _. user_defined_coding };
 
-    ghost limits = { λ _. text_room_single_byte };
+    ghost limits = { λ _. encoded_length_single_byte };
 
     ghost laws = { λ _. user_defined_laws };
 
     ghost fits = { λ _. fits_by_byte byte_of_user_char };
 
     #[inline(always)]
-    fn step(&self, _set: Set, c: char) -> (Set, Form) {
-        (Set::Ascii, form_of(c, byte_of(c)))
+    fn step(&self, _set: EscapeState, c: char) -> (EscapeState, Form) {
+        (EscapeState::Ascii, form_of(c, byte_of(c)))
     }
 
     #[inline(always)]
-    fn copies_ascii(&self, set: Set) -> bool {
-        matches!(set, Set::Ascii)
+    fn copies_ascii(&self, set: EscapeState) -> bool {
+        matches!(set, EscapeState::Ascii)
     }
 
     #[inline(always)]
-    fn escape(&self, _from: Set, _to: Set) -> Bytes {
+    fn escape(&self, _from: EscapeState, _to: EscapeState) -> Bytes {
         Bytes::none()
     }
 }
@@ -67,7 +67,7 @@ impl UserDefinedEncoder {
         ensures coding { ⟦<UserDefinedEncoder as RawEncoder>⟧.coding result ≡ user_defined_coding }
         ensures set { ⟦<UserDefinedEncoder as RawEncoder>⟧.set result ≡ Ascii }
         ensures need { ⟦<UserDefinedEncoder as RawEncoder>⟧.need result ≡ 1 }
-        ensures limits { ⟦<UserDefinedEncoder as RawEncoder>⟧.limits result ≡ text_room_single_byte }
+        ensures limits { ⟦<UserDefinedEncoder as RawEncoder>⟧.limits result ≡ encoded_length_single_byte }
     {
         UserDefinedEncoder {}
     }
@@ -80,7 +80,7 @@ impl RawEncoder for UserDefinedEncoder {
 
     ghost set = { λ _. Ascii };
 
-    ghost limits = { λ _. text_room_single_byte };
+    ghost limits = { λ _. encoded_length_single_byte };
 
     ghost laws = { λ _. user_defined_laws };
 
@@ -91,7 +91,7 @@ impl RawEncoder for UserDefinedEncoder {
         last: bool,
     ) -> (EncoderResult, usize, usize) {
         let mut source = Utf8Source::new(src);
-        let mut set = Set::Ascii;
+        let mut set = EscapeState::Ascii;
         let (result, written) = encode(&UserDefined, &mut set, &mut source, dst, last);
         (result, source.read(), written)
     }
@@ -103,13 +103,13 @@ impl RawEncoder for UserDefinedEncoder {
         last: bool,
     ) -> (EncoderResult, usize, usize) {
         let mut source = Utf16Source::new(src);
-        let mut set = Set::Ascii;
+        let mut set = EscapeState::Ascii;
         let (result, written) = encode(&UserDefined, &mut set, &mut source, dst, last);
         (result, source.read(), written)
     }
 
-    fn room(&self) -> TextRoom {
-        TextRoom::single_byte()
+    fn room(&self) -> EncodedLength {
+        EncodedLength::single_byte()
     }
 
     fn has_pending_state(&self) -> bool {

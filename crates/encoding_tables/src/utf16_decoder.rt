@@ -6,16 +6,16 @@ ghost use Rattle.std.specs.Prelude.{◌≡◌, ◌+◌, IsTrue};
 ghost use Rattle.std.specs.Char.{IsScalar};
 ghost use Rattle.std.specs.Char.Utf16.{is_high_surrogate, is_low_surrogate, surrogate_pair_char};
 ghost use Rattle.encoding_mem.specs.laws.Pieces.{pieces_by-nil, pieces_by-whole, pieces_by-are_pieces};
-ghost use Rattle.encoding_mem.specs.Room.{room_of, room_utf16};
+ghost use Rattle.encoding_mem.specs.DecodedLength.{decoded_length, decoded_length_utf16};
 ghost use Rattle.encoding_mem.specs.laws.Utf8Decide.{cut_short};
-ghost use Rattle.encoding_tables.specs.Utf16.{unit_of, front_utf16, pieces_utf16};
+ghost use Rattle.encoding_tables.specs.Utf16.{unit_of, first_piece_utf16, pieces_utf16};
 ghost use Rattle.encoding_tables.specs.laws.Utf16Decide.{decide_utf16, decide_unit, decide_pair};
 ghost use Rattle.encoding_tables.specs.laws.Utf16.{cuts_utf16};
 
-use encoding_mem::front::{Front, FrontPiece};
-use encoding_mem::piece_decoder::{Buffered, PieceDecoder};
-use encoding_mem::room::Room;
+use encoding_mem::first_piece::{DecoderRule, FirstPiece};
+use encoding_mem::room::DecodedLength;
 use encoding_mem::sink::Sink;
+use encoding_mem::sink_decoder::{Buffered, SinkDecoder};
 use encoding_mem::{DecoderResult, RawDecoder};
 
 // The rule of UTF-16: a unit is a character, or two surrogates are.
@@ -24,18 +24,18 @@ struct Utf16Rule {
     big_endian: bool,
 }
 
-impl FrontPiece for Utf16Rule {
+impl DecoderRule for Utf16Rule {
     ghost pieces = { λ s x. pieces_utf16 s.big_endian x };
 
-    ghost whole = { λ s. pieces_by-whole (front_utf16 s.big_endian) (cuts_utf16 s.big_endian) };
+    ghost whole = { λ s. pieces_by-whole (first_piece_utf16 s.big_endian) (cuts_utf16 s.big_endian) };
 
-    ghost are_pieces = { λ s. pieces_by-are_pieces (front_utf16 s.big_endian) (cuts_utf16 s.big_endian) };
+    ghost are_pieces = { λ s. pieces_by-are_pieces (first_piece_utf16 s.big_endian) (cuts_utf16 s.big_endian) };
 
-    ghost ends = { λ s. pieces_by-nil (front_utf16 s.big_endian) };
+    ghost ends = { λ s. pieces_by-nil (first_piece_utf16 s.big_endian) };
 
-    ghost needs = { λ _. room_of room_utf16 };
+    ghost needs = { λ _. decoded_length decoded_length_utf16 };
 
-    ghost limits = { λ _. room_utf16 };
+    ghost limits = { λ _. decoded_length_utf16 };
 
     ghost covers = { λ _ _ _. omega arith };
 
@@ -44,7 +44,7 @@ impl FrontPiece for Utf16Rule {
     ghost steady = { λ _ _. refl };
 
     #[inline(always)]
-    fn front(&self, bytes: &[u8], last: bool) -> Front {
+    fn first_piece(&self, bytes: &[u8], last: bool) -> FirstPiece {
         decide(self.big_endian, bytes, last)
     }
 
@@ -59,17 +59,17 @@ impl FrontPiece for Utf16Rule {
         ""
     }
 
-    fn room(&self) -> Room {
-        Room::utf16()
+    fn room(&self) -> DecodedLength {
+        DecodedLength::utf16()
     }
 }
 
 #[inline(always)]
-fn decide(big_endian: bool, bytes: &[u8], last: bool) -> Front
+fn decide(big_endian: bool, bytes: &[u8], last: bool) -> FirstPiece
     ensures { result ≡ decide_utf16 big_endian bytes.now last }
 {
     match bytes {
-        [] => Front::More,
+        [] => FirstPiece::More,
         [_] => cut_short(1, last),
         [a, b, rest @ ..] => decide_unit(big_endian, unit_of(big_endian, *a, *b), rest, last),
     }
@@ -77,21 +77,21 @@ fn decide(big_endian: bool, bytes: &[u8], last: bool) -> Front
 
 // By a unit, and the bytes behind it.
 #[inline(always)]
-fn decide_unit(big_endian: bool, unit: u16, rest: &[u8], last: bool) -> Front
+fn decide_unit(big_endian: bool, unit: u16, rest: &[u8], last: bool) -> FirstPiece
     ensures { result ≡ decide_unit big_endian unit rest.now last }
 {
     if is_high_surrogate(unit) {
         decide_pair(big_endian, unit, rest, last)
     } else if is_low_surrogate(unit) {
-        Front::Bad(2)
+        FirstPiece::Malformed(2)
     } else {
-        Front::One(char_of(u32::from(unit)), 2)
+        FirstPiece::One(char_of(u32::from(unit)), 2)
     }
 }
 
 // By a high surrogate, and the bytes behind it.
 #[inline(always)]
-fn decide_pair(big_endian: bool, high: u16, rest: &[u8], last: bool) -> Front
+fn decide_pair(big_endian: bool, high: u16, rest: &[u8], last: bool) -> FirstPiece
     requires { IsTrue (is_high_surrogate high) }
     ensures { result ≡ decide_pair big_endian high rest.now last }
 {
@@ -101,20 +101,24 @@ fn decide_pair(big_endian: bool, high: u16, rest: &[u8], last: bool) -> Front
         [a, b, ..] => {
             let low = unit_of(big_endian, *a, *b);
             if is_low_surrogate(low) {
-                Front::One(char_of_pair(high, low), 4)
+                FirstPiece::One(char_of_pair(high, low), 4)
             } else {
-                Front::Bad(2)
+                FirstPiece::Malformed(2)
             }
         }
     }
 }
 
-// The bytes that are here may be the front of a longer piece.
+// The bytes that are here may be the prefix of a longer piece.
 #[inline(always)]
-fn cut_short(size: usize, last: bool) -> Front
+fn cut_short(size: usize, last: bool) -> FirstPiece
     ensures { result ≡ cut_short size last }
 {
-    if last { Front::Bad(size) } else { Front::More }
+    if last {
+        FirstPiece::Malformed(size)
+    } else {
+        FirstPiece::More
+    }
 }
 
 // The unit that two bytes are.
@@ -160,8 +164,8 @@ fn char_of(code: u32) -> char
     unsafe { char::from_u32_unchecked(code) }
 }
 
-/// Decodes UTF-16, in either byte order. A surrogate in no pair is bad, and so are the bytes that the end
-/// of the input cuts off.
+/// Decodes UTF-16, in either byte order. A surrogate in no pair is malformed, and so are the bytes
+/// that the end of the input cuts off.
 #[derive(Drop)]
 pub struct Utf16Decoder {
     inner: Buffered<Utf16Rule>,
@@ -172,7 +176,7 @@ impl Utf16Decoder {
     pub fn new(big_endian: bool) -> Self
         ensures pending { (⟦<Utf16Decoder as RawDecoder>⟧.state result).pending ≡ 0 }
         ensures pieces { (⟦<Utf16Decoder as RawDecoder>⟧.state result).pieces ≡ pieces_utf16 big_endian }
-        ensures room { (⟦<Utf16Decoder as RawDecoder>⟧.state result).room ≡ room_utf16 }
+        ensures room { (⟦<Utf16Decoder as RawDecoder>⟧.state result).room ≡ decoded_length_utf16 }
     {
         Utf16Decoder {
             inner: Buffered::new(Utf16Rule { big_endian }),
@@ -188,8 +192,8 @@ impl Utf16Decoder {
     }
 }
 
-impl PieceDecoder for Utf16Decoder {
-    ghost state = { λ d. ⟦<Buffered<Utf16Rule> as PieceDecoder>⟧.state d.inner };
+impl SinkDecoder for Utf16Decoder {
+    ghost state = { λ d. ⟦<Buffered<Utf16Rule> as SinkDecoder>⟧.state d.inner };
 
     #[inline(always)]
     fn decode_into<S: Sink>(
@@ -205,7 +209,7 @@ impl PieceDecoder for Utf16Decoder {
         self.inner.held_len()
     }
 
-    fn room(&self) -> Room {
+    fn room(&self) -> DecodedLength {
         self.inner.room()
     }
 }

@@ -1,4 +1,4 @@
-// Lists and rows that are taken or refused, with answers worked by hand.
+// Lists and rows that are taken or refused, with results worked by hand.
 
 use encoding_tables::{IndexKind, TableFault, Tables};
 use std::alloc::{AllocError, Global};
@@ -41,7 +41,7 @@ const LISTED: [IndexKind; 33] = [
     IndexKind::Iso2022JpKatakana,
 ];
 
-// What new tables answer to so many entries, all 0 but one.
+// What new tables return for so many entries, all 0 but one.
 fn fault_of_one(
     alloc: Global,
     kind: IndexKind,
@@ -50,8 +50,8 @@ fn fault_of_one(
     entry: u32,
 ) -> Result<Result<(), TableFault>, AllocError> {
     let mut flat = std::vec![in alloc; 0; size]?;
-    if let Some(place) = flat.get_mut(pointer) {
-        *place = entry;
+    if let Some(offset) = flat.get_mut(pointer) {
+        *offset = entry;
     }
     let mut tables = Tables::new(alloc);
     if kind.is_ranges() {
@@ -147,7 +147,7 @@ fn lists_are_refused_by_the_first_fault(rt: HostRuntime) -> Result<(), Fail> {
     Ok(())
 }
 
-// What new tables answer to rows.
+// What new tables return for rows.
 fn fault_of_rows(alloc: Global, rows: &[(u32, u32)]) -> Result<(), TableFault> {
     Tables::new(alloc).insert_ranges(rows)
 }

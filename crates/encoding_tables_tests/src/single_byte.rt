@@ -1,4 +1,4 @@
-// The single-byte codecs over small lists, with answers worked by hand.
+// The single-byte codecs over small lists, with results worked by hand.
 
 use encoding_mem::{DecoderResult, EncoderResult, RawDecoder, RawEncoder};
 use encoding_tables::{IndexKind, SingleByteDecoder, SingleByteEncoder, Tables};
@@ -67,7 +67,7 @@ fn bytes_become_units(rt: HostRuntime) {
 }
 
 #[test]
-fn a_byte_with_no_entry_is_bad(rt: HostRuntime) {
+fn a_byte_with_no_entry_is_malformed(rt: HostRuntime) {
     let tables = tables(rt.alloc());
     assert!(rt; tables.has(KIND));
     let mut decoder = SingleByteDecoder::new(&tables, KIND);

@@ -5,10 +5,11 @@ use encoding_tables::{ReplacementDecoder, UserDefinedDecoder, UserDefinedEncoder
 use std::alloc::{AllocError, Global};
 use std::test::Fail;
 
-// Stands in a log for a bad piece, with its length behind it. No UTF-8 has this byte.
+// Stands in a log for a malformed sequence, with its length behind it. No UTF-8 has this byte.
 const MARK: u8 = 0xFF;
 
-// Decodes into 4 bytes at a time, and appends what is written, and each bad piece, to the log.
+// Decodes into 4 bytes at a time, and appends what is written, and each malformed sequence, to the
+// log.
 fn decode_bytes<D: RawDecoder>(
     decoder: &mut D,
     src: &[u8],
@@ -30,7 +31,7 @@ fn decode_bytes<D: RawDecoder>(
     Ok(())
 }
 
-// The same into 2 units at a time. A bad piece is its length in the log.
+// The same into 2 units at a time. A malformed sequence is its length in the log.
 fn decode_units<D: RawDecoder>(
     decoder: &mut D,
     src: &[u8],
@@ -91,7 +92,7 @@ fn units_and_pairs_at_every_cut(rt: HostRuntime) -> Result<(), Fail> {
 }
 
 #[test]
-fn a_surrogate_in_no_pair_is_bad_at_every_cut(rt: HostRuntime) -> Result<(), Fail> {
+fn a_surrogate_in_no_pair_is_malformed_at_every_cut(rt: HostRuntime) -> Result<(), Fail> {
     let bytes = [MARK, 2, 0, 0xE4, 0xB8, 0x80];
     let units = [2, 0, 0x4E00];
     assert!(rt; reads_as(rt.alloc(), false, &[0, 0xD8, 0, 0, 0, 0x4E], &bytes, &units)?);
@@ -108,7 +109,7 @@ fn a_surrogate_in_no_pair_is_bad_at_every_cut(rt: HostRuntime) -> Result<(), Fai
 }
 
 #[test]
-fn what_the_end_cuts_is_bad(rt: HostRuntime) -> Result<(), Fail> {
+fn what_the_end_cuts_is_malformed(rt: HostRuntime) -> Result<(), Fail> {
     assert!(rt; reads_as(rt.alloc(), false, &[0, 0xD8], &[MARK, 2], &[2])?);
     assert!(rt; reads_as(rt.alloc(), false, &[0, 0xD8, 0x41], &[MARK, 3], &[3])?);
     assert!(rt; reads_as(rt.alloc(), true, &[0xD8, 0, 0xDC], &[MARK, 3], &[3])?);
@@ -135,7 +136,7 @@ fn what_the_end_cuts_is_bad(rt: HostRuntime) -> Result<(), Fail> {
 }
 
 #[test]
-fn a_unit_behind_a_bad_piece_is_pending(rt: HostRuntime) {
+fn a_unit_behind_a_malformed_piece_is_pending(rt: HostRuntime) {
     let mut decoder = Utf16Decoder::new(false);
     let mut room = [0; 8];
     assert_eq!(rt; decoder.additional_from_state(), 1);

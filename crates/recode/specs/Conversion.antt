@@ -3,7 +3,7 @@ use Rattle.std.specs.Prelude.{◌≡◌, ◌≢◌, ℕ, ◌+◌, ◌<◌, ◌�
 use Rattle.std.specs.Io.KnownBytes.{Appends, Consumes, IsAtEnd}
 use Rattle.encoding_front.specs.Encodings.{KeepsCharacters}
 use Rattle.recode.specs.Job.{trace, output_of, log_of, Faithful}
-use Rattle.recode.specs.Marked.{Marked, Wrote, IsPrefix, marks, outputs, lines}
+use Rattle.recode.specs.TaggedByte.{TaggedByte, Wrote, IsPrefix, tagged, outputs, lines}
 use Rattle.recode.specs.declared.fault.Fault.{Fault}
 use Rattle.recode.specs.declared.fault.Fault.TheVariants.{Read, Write, Log, TooLong}
 use Rattle.recode.specs.declared.job.Job.{Job}
@@ -15,7 +15,7 @@ pub record Converts (reader reader' writer writer' log log' : Option (List ℕ))
   pub consumed : Consumes reader reader' input
   pub end : IsAtEnd reader'
   pub within : length input ≤ j.limit
-  pub wrote : Wrote writer writer' log log' (marks (trace j input))
+  pub wrote : Wrote writer writer' log log' (tagged (trace j input))
   pub output : Appends writer writer' (output_of j input)
   pub logged : Appends log log' (log_of j input)
   pub known : (status ≡ 0) ⊎ (status ≡ 1)
@@ -55,8 +55,8 @@ message_of TooLong = codes "recode: input too long\n"
 abbrev pub IsTold : (before after : ℕ) (message : List ℕ) (told : ℕ) → Type 0
 IsTold before after message told = ((after ≡ before) × (take told message ≡ message)) ⊎ ((after ≡ before + 1) × (told < length message))
 
--- What a conversion leaves that failed: output and log are a front of what any continuation of the bytes read gives,
--- none where the end was read, in their one order; behind it the log has a front of the message of a fault that came,
+-- What a conversion leaves that failed: output and log are a prefix of what any continuation of the bytes read gives,
+-- none where the end was read, in their one order; behind it the log has a prefix of the message of a fault that came,
 -- all of it where no call of the log failed while it was written. `before` is the log's count when it was begun.
 pub record Breaks (reader reader' writer writer' log log' : Option (List ℕ)) (reads reads' writes writes' logs logs' : ℕ) (j : Job) : Type 0 where
   pub input : List ℕ
@@ -66,7 +66,7 @@ pub record Breaks (reader reader' writer writer' log log' : Option (List ℕ)) (
   pub end : ended ≡ true → IsAtEnd reader'
   pub none : ended ≡ true → refused ≡ []
   pub within : length input ≤ j.limit
-  pub taken : List Marked
+  pub taken : List TaggedByte
   pub fault : Fault
   pub spared : fault ≢ TooLong → refused ≡ []
   pub before : ℕ
@@ -76,4 +76,4 @@ pub record Breaks (reader reader' writer writer' log log' : Option (List ℕ)) (
   pub whole : IsTold before logs' (message_of fault) told
   pub output : Appends writer writer' (outputs taken)
   pub logged : Appends log log' (lines taken ++ take told (message_of fault))
-  pub front : (r : List ℕ) → (ended ≡ true → r ≡ []) → IsPrefix taken (marks (trace j (input ++ r)))
+  pub prefix : (r : List ℕ) → (ended ≡ true → r ≡ []) → IsPrefix taken (tagged (trace j (input ++ r)))

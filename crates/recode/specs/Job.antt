@@ -1,12 +1,12 @@
 -- What a job makes of a whole input.
 use Rattle.std.specs.Prelude.{◌≡◌, ℕ, ◌+◌, ◌^◌, ◌≤◌, List, [], ◌∷◌, ◌++◌, length}
 use Rattle.std.specs.List.{flat_map}
-use Rattle.encoding_mem.specs.Piece.{Piece, good, bad, text, AreGood}
+use Rattle.encoding_mem.specs.Piece.{Piece, well_formed, malformed, text, AreWellFormed}
 use Rattle.encoding_mem.specs.Coding.{Coding, output}
 use Rattle.encoding_mem.specs.Items.{Item, trace_from}
 use Rattle.encoding_mem.specs.declared.form.Form.{Form}
 use Rattle.encoding_mem.specs.declared.form.Form.TheVariants.{Mapped, Unmapped}
-use Rattle.encoding_mem.specs.declared.form.Set.TheVariants.{Ascii}
+use Rattle.encoding_mem.specs.declared.form.EscapeState.TheVariants.{Ascii}
 use Rattle.encoding_front.specs.Encodings.{IsReady, pieces_of, coding_of, output_encoding_of}
 use Rattle.encoding_front.specs.Marks.{marked_pieces, source_of}
 use Rattle.encoding_front.specs.declared.encoding.Encoding.{Encoding}
@@ -16,7 +16,7 @@ use Rattle.recode_log.specs.declared.line.LogLine.{LogLine}
 use Rattle.recode_log.specs.declared.line.LogLine.TheVariants.{Bad, Lost}
 use Rattle.recode.specs.declared.job.Job.{Job}
 
--- the indexes of both encodings are there, as they were accepted; the limit is that of the log's places
+-- the indexes of both encodings are there, as they were accepted; the limit is that of the log's offsets
 pub record IsValidJob (j : Job) : Type 0 where
   pub tables : AreAcceptedTables j.tables.now
   pub from : IsReady j.tables.now j.from
@@ -55,12 +55,12 @@ abbrev pub lost_in : Coding → ℕ → List ℕ → List LogLine
 lost_in e i [] = []
 lost_in e i (c ∷ t) = form_lines i (e.form c) ++ lost_in e (i + 1) t
 
--- The lines of pieces, the first at this place, by rising index: where a character stands for a bad piece its line
--- comes first, then that of the character, if it has no bytes.
-abbrev pub log_lines : Coding → (place i : ℕ) → List Piece → List LogLine
-log_lines e place i [] = []
-log_lines e place i (good n cs ∷ ps) = lost_in e i cs ++ log_lines e (place + n) (i + length cs) ps
-log_lines e place i (bad n ∷ ps) = Bad place n ∷ (lost_in e i (0xFFFD ∷ []) ++ log_lines e (place + n) (i + 1) ps)
+-- The lines of pieces, the first at this offset, by rising index: where a character stands for a malformed sequence its
+-- line comes first, then that of the character, if it has no bytes.
+abbrev pub log_lines : Coding → (offset i : ℕ) → List Piece → List LogLine
+log_lines e offset i [] = []
+log_lines e offset i (well_formed n cs ∷ ps) = lost_in e i cs ++ log_lines e (offset + n) (i + length cs) ps
+log_lines e offset i (malformed n ∷ ps) = Bad offset n ∷ (lost_in e i (0xFFFD ∷ []) ++ log_lines e (offset + n) (i + 1) ps)
 
 -- what is written to the log
 abbrev pub log_of : Job → List ℕ → List ℕ
@@ -70,9 +70,9 @@ log_of j x = flat_map line_bytes (log_lines (target_of j) 0 0 (input_pieces j x)
 abbrev pub trace : Job → List ℕ → List Item
 trace j x = trace_from (target_of j) Ascii 0 0 (input_pieces j x)
 
--- Nothing was lost: no piece of the input is bad, and the output, decoded without mark handling, has no bad piece
--- and is the input's text.
+-- Nothing was lost: no piece of the input is malformed, and the output, decoded without mark handling, has no malformed
+-- sequence and is the input's text.
 pub record Faithful (j : Job) (x : List ℕ) : Type 0 where
-  pub source : AreGood (input_pieces j x)
-  pub target : AreGood (output_pieces j (output_of j x))
+  pub source : AreWellFormed (input_pieces j x)
+  pub target : AreWellFormed (output_pieces j (output_of j x))
   pub same : text (output_pieces j (output_of j x)) ≡ input_text j x

@@ -5,8 +5,8 @@ use Rattle.std.specs.List.{flat_map}
 use Rattle.encoding_mem.specs.Piece.{Piece, sizes, text}
 use Rattle.encoding_mem.specs.Decoding.{DecoderState, Waits}
 use Rattle.encoding_mem.specs.Coding.{Coding, last_set, open_from}
-use Rattle.encoding_mem.specs.declared.form.Set.{Set}
-use Rattle.encoding_mem.specs.declared.form.Set.TheVariants.{Ascii}
+use Rattle.encoding_mem.specs.declared.form.EscapeState.{EscapeState}
+use Rattle.encoding_mem.specs.declared.form.EscapeState.TheVariants.{Ascii}
 use Rattle.recode_log.specs.Line.{line_bytes}
 use Rattle.recode.specs.Job.{input_pieces, log_lines, target_of}
 use Rattle.recode.specs.Session.{View}
@@ -18,8 +18,8 @@ use Rattle.recode.specs.declared.job.Job.{Job}
 abbrev pub IsNearlyDecided : DecoderState → Type 0
 IsNearlyDecided d = ((d.pending ≡ 0) × (d.pieces [] ≡ [])) ⊎ Waits d.pieces d.pending
 
--- These pieces were taken from the front of those to come, however the input goes on, and their text was encoded.
-pub record Advances (before after : List ℕ → List Piece) (e : Coding) (s s' : Set) (c c' : Counts) : Type 0 where
+-- These pieces were taken from the start of those to come, however the input goes on, and their text was encoded.
+pub record Advances (before after : List ℕ → List Piece) (e : Coding) (s s' : EscapeState) (c c' : Counts) : Type 0 where
   pub taken : List Piece
   pub rest : (r : List ℕ) → before r ≡ taken ++ after r
   pub set : s' ≡ last_set e s (text taken)
@@ -27,7 +27,7 @@ pub record Advances (before after : List ℕ → List Piece) (e : Coding) (s s' 
 
 -- A chunk was read. The pieces that it decides were taken, however the input goes on: what was written is their text
 -- and what was logged their lines, no more and no less, and what is pending is settled.
-pub record ConvertsDecided (reader reader' writer writer' log log' : Option (List ℕ)) (d d' : DecoderState) (e : Coding) (s s' : Set) (c c' : Counts) : Type 0 where
+pub record ConvertsDecided (reader reader' writer writer' log log' : Option (List ℕ)) (d d' : DecoderState) (e : Coding) (s s' : EscapeState) (c c' : Counts) : Type 0 where
   pub chunk : List ℕ
   pub consumed : Consumes reader reader' chunk
   pub counted : c'.read ≡ c.read + length chunk

@@ -1,8 +1,8 @@
 pub mod Character
-pub mod Marked
-pub mod Payment
+pub mod TaggedByte
+pub mod WrittenItems
 pub mod Fault
-pub mod Owed
+pub mod TraceToWrite
 pub mod Step
 pub mod Job
 pub mod Buffers

@@ -1,4 +1,4 @@
 -- Worked rows: what the definitions of `specs/` come to on inputs that a reader can work by hand.
 pub mod Jobs
-pub mod Payment
+pub mod WrittenItems
 pub mod Slices

@@ -1,11 +1,11 @@
 ghost use Rattle.std.specs.Prelude.{◌≡◌, ℕ, ◌+◌, ◌-◌, ◌^◌, ◌<◌, ◌≤◌, ◌++◌, ◌∷◌, List, [], true, false, take, drop, length, IfOk, OnOk, OnErr};
 ghost use Rattle.recode_log.specs.Counted.{inner_of, failures_of};
 ghost use Rattle.encoding_mem.specs.Coding.{Coding};
-ghost use Rattle.encoding_mem.specs.Items.{Item, BadAt, open_items};
-ghost use Rattle.recode.specs.Payment.{Pays, Underpays, PaysFor, UnderpaysFor};
+ghost use Rattle.encoding_mem.specs.Items.{Item, MalformedAt, open_items};
+ghost use Rattle.recode.specs.WrittenItems.{WritesItems, WritesPrefix, WritesItemsFor, WritesPrefixFor};
 ghost use Rattle.recode.specs.Buffers.{HoldsAnyCharacter, is_wide};
 ghost use Rattle.recode.specs.Latency.{Advances, IsNearlyDecided};
-ghost use Rattle.recode.specs.Owed.{owes, AreSound};
+ghost use Rattle.recode.specs.TraceToWrite.{trace_to_write, AreSound};
 ghost use Rattle.recode.specs.Fault.{of_reader, of_writer, of_log, of_other};
 
 use crate::buffers::Pivot;
@@ -31,8 +31,8 @@ pub struct DecodeTurn {
     pub counts: Counts,
 }
 
-// Logs a bad piece, and encodes U+FFFD in its place.
-fn report_bad<W: Write, L: Write, E: RawEncoder>(
+// Logs a malformed sequence, and encodes U+FFFD in its place.
+fn report_malformed<W: Write, L: Write, E: RawEncoder>(
     writer: &mut Counted<W>,
     log: &mut Counted<L>,
     encoder: &mut E,
@@ -50,16 +50,16 @@ fn report_bad<W: Write, L: Write, E: RawEncoder>(
     requires bad { counts.bad ≤ counts.index }
     requires writer { failures_of writer.old < 2 ^ 64 - 1 }
     requires log { failures_of log.old < 2 ^ 64 - 1 }
-    ensures pays { IfOk result (λ c. Pays (W.contents (inner_of writer.old)) (W.contents (inner_of writer.new)) (L.contents (inner_of log.old)) (L.contents (inner_of log.new)) counts c
-        (BadAt offset size ∷ open_items (E.coding encoder.old) (E.set encoder.old) counts.index (0xFFFD ∷ [])) []) }
+    ensures pays { IfOk result (λ c. WritesItems (W.contents (inner_of writer.old)) (W.contents (inner_of writer.new)) (L.contents (inner_of log.old)) (L.contents (inner_of log.new)) counts c
+        (MalformedAt offset size ∷ open_items (E.coding encoder.old) (E.set encoder.old) counts.index (0xFFFD ∷ [])) []) }
     ensures index { IfOk result (λ c. c.index ≡ counts.index + 1) }
     ensures read { IfOk result (λ c. c.read ≡ counts.read) }
     ensures lost { IfOk result (λ c. c.lost ≤ c.index) }
     ensures bad { IfOk result (λ c. c.bad ≤ c.index) }
     ensures target { E.coding encoder.new ≡ E.coding encoder.old }
     ensures state { OnOk result (E.set encoder.new ≡ (E.coding encoder.old).set (E.set encoder.old) 0xFFFD) }
-    ensures err { OnErr result (Underpays (W.contents (inner_of writer.old)) (W.contents (inner_of writer.new)) (L.contents (inner_of log.old)) (L.contents (inner_of log.new))
-        (BadAt offset size ∷ open_items (E.coding encoder.old) (E.set encoder.old) counts.index (0xFFFD ∷ []))) }
+    ensures err { OnErr result (WritesPrefix (W.contents (inner_of writer.old)) (W.contents (inner_of writer.new)) (L.contents (inner_of log.old)) (L.contents (inner_of log.new))
+        (MalformedAt offset size ∷ open_items (E.coding encoder.old) (E.set encoder.old) counts.index (0xFFFD ∷ []))) }
     ensures writer_count { failures_of writer.new ≡ failures_of writer.old + of_writer result }
     ensures reader_count { of_reader result ≡ 0 }
     ensures only_writers { of_other result ≡ 0 }
@@ -102,9 +102,9 @@ pub fn decode_once<W: Write, L: Write, D: StreamDecoder, E: RawEncoder>(
     requires log { failures_of log.old < 2 ^ 64 - 1 }
 
     ensures within { IfOk result (λ p. p.read ≤ length src.now) }
-    ensures pays { IfOk result (λ p. PaysFor (W.contents (inner_of writer.old)) (W.contents (inner_of writer.new)) (L.contents (inner_of log.old)) (L.contents (inner_of log.new)) counts p.counts last
-        (λ r. owes (D.view decoder.old).state (E.coding encoder.old) (E.set encoder.old) counts (src.now ++ r))
-        (λ r. owes (D.view decoder.new).state (E.coding encoder.old) (E.set encoder.new) p.counts (drop p.read src.now ++ r))) }
+    ensures pays { IfOk result (λ p. WritesItemsFor (W.contents (inner_of writer.old)) (W.contents (inner_of writer.new)) (L.contents (inner_of log.old)) (L.contents (inner_of log.new)) counts p.counts last
+        (λ r. trace_to_write (D.view decoder.old).state (E.coding encoder.old) (E.set encoder.old) counts (src.now ++ r))
+        (λ r. trace_to_write (D.view decoder.new).state (E.coding encoder.old) (E.set encoder.new) p.counts (drop p.read src.now ++ r))) }
     ensures source { IfOk result (λ p. (r : List ℕ) → (last ≡ true → r ≡ []) → (D.view decoder.old).source (src.now ++ r) ≡ (D.view decoder.new).source (drop p.read src.now ++ r)) }
     ensures more_open { IfOk result (λ p. p.is_done ≡ false → (D.view decoder.new).finished ≡ false) }
     ensures open_ { IfOk result (λ p. last ≡ false → (D.view decoder.new).finished ≡ false) }
@@ -112,13 +112,13 @@ pub fn decode_once<W: Write, L: Write, D: StreamDecoder, E: RawEncoder>(
     ensures sound { IfOk result (λ p. AreSound (D.view decoder.new).state.pending p.counts) }
     ensures target { E.coding encoder.new ≡ E.coding encoder.old }
     ensures done { IfOk result (λ p. p.is_done ≡ true → p.read ≡ length src.now) }
-    ensures end { IfOk result (λ p. p.is_done ≡ true → last ≡ true → owes (D.view decoder.new).state (E.coding encoder.old) (E.set encoder.new) p.counts [] ≡ []) }
+    ensures end { IfOk result (λ p. p.is_done ≡ true → last ≡ true → trace_to_write (D.view decoder.new).state (E.coding encoder.old) (E.set encoder.new) p.counts [] ≡ []) }
     ensures advances { IfOk result (λ p. last ≡ false → Advances (λ r. (D.view decoder.old).state.pieces (src.now ++ r)) (λ r. (D.view decoder.new).state.pieces (drop p.read src.now ++ r))
         (E.coding encoder.old) (E.set encoder.old) (E.set encoder.new) counts p.counts) }
     ensures settled { IfOk result (λ p. p.is_done ≡ true → IsNearlyDecided (D.view decoder.new).state) }
     ensures more { IfOk result (λ p. p.is_done ≡ false → length ((D.view decoder.new).state.pieces (drop p.read src.now)) < length ((D.view decoder.old).state.pieces src.now)) }
-    ensures err { OnErr result (UnderpaysFor (W.contents (inner_of writer.old)) (W.contents (inner_of writer.new)) (L.contents (inner_of log.old)) (L.contents (inner_of log.new)) last
-        (λ r. owes (D.view decoder.old).state (E.coding encoder.old) (E.set encoder.old) counts (src.now ++ r))) }
+    ensures err { OnErr result (WritesPrefixFor (W.contents (inner_of writer.old)) (W.contents (inner_of writer.new)) (L.contents (inner_of log.old)) (L.contents (inner_of log.new)) last
+        (λ r. trace_to_write (D.view decoder.old).state (E.coding encoder.old) (E.set encoder.old) counts (src.now ++ r))) }
     ensures writer_count { failures_of writer.new ≡ failures_of writer.old + of_writer result }
     ensures reader_count { of_reader result ≡ 0 }
     ensures only_writers { of_other result ≡ 0 }
@@ -153,7 +153,7 @@ pub fn decode_once<W: Write, L: Write, D: StreamDecoder, E: RawEncoder>(
         DecoderResult::Malformed(size, after) => {
             let counts = encode_all(writer, log, encoder, counts, text, out, false)?;
             let offset = counts.read - u64::from(after) - u64::from(size);
-            let counts = report_bad(writer, log, encoder, counts, offset, size, out)?;
+            let counts = report_malformed(writer, log, encoder, counts, offset, size, out)?;
             Ok(DecodeTurn {
                 read: call.read,
                 is_done: false,
@@ -163,7 +163,7 @@ pub fn decode_once<W: Write, L: Write, D: StreamDecoder, E: RawEncoder>(
     }
 }
 
-/// Converts all of a chunk, and logs what is lost. Answers the counts then.
+/// Converts all of a chunk, and logs what is lost. Returns the counts then.
 pub fn convert_chunk<W: Write, L: Write, D: StreamDecoder, E: RawEncoder>(
     writer: &mut Counted<W>,
     log: &mut Counted<L>,
@@ -183,20 +183,20 @@ pub fn convert_chunk<W: Write, L: Write, D: StreamDecoder, E: RawEncoder>(
     requires writer { failures_of writer.old < 2 ^ 64 - 1 }
     requires log { failures_of log.old < 2 ^ 64 - 1 }
 
-    ensures pays { IfOk result (λ c. PaysFor (W.contents (inner_of writer.old)) (W.contents (inner_of writer.new)) (L.contents (inner_of log.old)) (L.contents (inner_of log.new)) counts c last
-        (λ r. owes (D.view decoder.old).state (E.coding encoder.old) (E.set encoder.old) counts (src.now ++ r))
-        (λ r. owes (D.view decoder.new).state (E.coding encoder.old) (E.set encoder.new) c r)) }
+    ensures pays { IfOk result (λ c. WritesItemsFor (W.contents (inner_of writer.old)) (W.contents (inner_of writer.new)) (L.contents (inner_of log.old)) (L.contents (inner_of log.new)) counts c last
+        (λ r. trace_to_write (D.view decoder.old).state (E.coding encoder.old) (E.set encoder.old) counts (src.now ++ r))
+        (λ r. trace_to_write (D.view decoder.new).state (E.coding encoder.old) (E.set encoder.new) c r)) }
     ensures source { IfOk result (λ c. (r : List ℕ) → (last ≡ true → r ≡ []) → (D.view decoder.old).source (src.now ++ r) ≡ (D.view decoder.new).source r) }
     ensures open_ { IfOk result (λ c. last ≡ false → (D.view decoder.new).finished ≡ false) }
     ensures read { IfOk result (λ c. c.read ≡ counts.read + length src.now) }
     ensures sound { IfOk result (λ c. AreSound (D.view decoder.new).state.pending c) }
     ensures target { E.coding encoder.new ≡ E.coding encoder.old }
-    ensures end { IfOk result (λ c. last ≡ true → owes (D.view decoder.new).state (E.coding encoder.old) (E.set encoder.new) c [] ≡ []) }
+    ensures end { IfOk result (λ c. last ≡ true → trace_to_write (D.view decoder.new).state (E.coding encoder.old) (E.set encoder.new) c [] ≡ []) }
     ensures advances { IfOk result (λ c. last ≡ false → Advances (λ r. (D.view decoder.old).state.pieces (src.now ++ r)) (D.view decoder.new).state.pieces
         (E.coding encoder.old) (E.set encoder.old) (E.set encoder.new) counts c) }
     ensures settled { OnOk result (IsNearlyDecided (D.view decoder.new).state) }
-    ensures err { OnErr result (UnderpaysFor (W.contents (inner_of writer.old)) (W.contents (inner_of writer.new)) (L.contents (inner_of log.old)) (L.contents (inner_of log.new)) last
-        (λ r. owes (D.view decoder.old).state (E.coding encoder.old) (E.set encoder.old) counts (src.now ++ r))) }
+    ensures err { OnErr result (WritesPrefixFor (W.contents (inner_of writer.old)) (W.contents (inner_of writer.new)) (L.contents (inner_of log.old)) (L.contents (inner_of log.new)) last
+        (λ r. trace_to_write (D.view decoder.old).state (E.coding encoder.old) (E.set encoder.old) counts (src.now ++ r))) }
     ensures writer_count { failures_of writer.new ≡ failures_of writer.old + of_writer result }
     ensures reader_count { of_reader result ≡ 0 }
     ensures only_writers { of_other result ≡ 0 }

@@ -27,7 +27,7 @@ pub struct DecodeCall {
     pub calls: u64,
 }
 
-// Decodes into a pivot. Answers how the call ended, the bytes read and the elements written.
+// Decodes into a pivot. Returns how the call ended, the bytes read and the elements written.
 fn decode_into<D: StreamDecoder>(
     decoder: &mut D,
     src: &[u8],
@@ -89,7 +89,7 @@ pub struct EncodeCall<'p> {
     pub calls: u64,
 }
 
-// Encodes a text. Answers how the call ended, the characters read, the bytes written, and the rest.
+// Encodes a text. Returns how the call ended, the characters read, the bytes written, and the rest.
 fn encode_from<'p, E: RawEncoder>(
     encoder: &mut E,
     text: PivotText<'p>,

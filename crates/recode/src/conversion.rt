@@ -23,7 +23,7 @@ pub const NOT_FAITHFUL: u8 = 1;
 /// The status where a call of a device failed, or the input was too long.
 pub const FAULT: u8 = 4;
 
-// Flushes both, and answers the first fault.
+// Flushes both, and returns the first fault.
 fn flush_both<W: Write, L: Write>(
     writer: &mut Counted<W>,
     log: &mut Counted<L>,
@@ -73,9 +73,9 @@ fn tell<L: Write>(log: &mut Counted<L>, fault: Fault)
     }
 }
 
-/// Runs the job, flushes the writer, then the log, and answers the status: `FAITHFUL`, `NOT_FAITHFUL` or
-/// `FAULT`. Where it answers `FAULT`, the message of the first fault is written to the log last, as
-/// `recode: write fault`; what can't be written of it is dropped.
+/// Runs the job, flushes the writer, then the log, and returns the status: `FAITHFUL`,
+/// `NOT_FAITHFUL` or `FAULT`. Where it returns `FAULT`, the message of the first fault is written
+/// to the log last, as `recode: write fault`; what can't be written of it is dropped.
 pub fn convert<R: Read, W: Write, L: Write>(
     reader: &mut Counted<R>,
     writer: &mut Counted<W>,

@@ -5,7 +5,7 @@ pub struct Counts {
     pub read: u64,
     /// The characters of the text that were encoded: the index of the next one.
     pub index: u64,
-    /// The bad pieces that were logged.
+    /// The malformed sequences that were logged.
     pub bad: u64,
     /// The lost characters that were logged.
     pub lost: u64,

@@ -2,8 +2,8 @@ ghost use Rattle.std.specs.Prelude.{◌≡◌, ℕ, ◌+◌, ◌-◌, ◌^◌, �
 ghost use Rattle.recode_log.specs.Counted.{inner_of, failures_of};
 ghost use Rattle.encoding_mem.specs.Coding.{last_set, reference};
 ghost use Rattle.encoding_mem.specs.Items.{Item, LostAt, Byte, whole_items};
-ghost use Rattle.encoding_mem.specs.declared.form.Set.TheVariants.{Ascii};
-ghost use Rattle.recode.specs.Payment.{Pays, Underpays};
+ghost use Rattle.encoding_mem.specs.declared.form.EscapeState.TheVariants.{Ascii};
+ghost use Rattle.recode.specs.WrittenItems.{WritesItems, WritesPrefix};
 ghost use Rattle.recode.specs.PivotText.{pivot_chars};
 ghost use Rattle.recode.specs.Fault.{of_reader, of_writer, of_log, of_other};
 
@@ -39,10 +39,10 @@ fn report_lost<W: Write, L: Write>(
     requires small { counts.index ≤ 2 ^ 48 }
     requires writer { failures_of writer.old < 2 ^ 64 - 1 }
     requires log { failures_of log.old < 2 ^ 64 - 1 }
-    ensures pays { IfOk result (λ c. (rest : List Item) → Pays (W.contents (inner_of writer.old)) (W.contents (inner_of writer.new)) (L.contents (inner_of log.old)) (L.contents (inner_of log.new)) counts c
+    ensures pays { IfOk result (λ c. (rest : List Item) → WritesItems (W.contents (inner_of writer.old)) (W.contents (inner_of writer.new)) (L.contents (inner_of log.old)) (L.contents (inner_of log.new)) counts c
         (LostAt (counts.index - 1) scalar ∷ map Byte (reference scalar) ++ rest) rest) }
     ensures counts { IfOk result (λ c. c ≡ record counts { lost = counts.lost + 1 }) }
-    ensures err { OnErr result ((rest : List Item) → Underpays (W.contents (inner_of writer.old)) (W.contents (inner_of writer.new)) (L.contents (inner_of log.old)) (L.contents (inner_of log.new))
+    ensures err { OnErr result ((rest : List Item) → WritesPrefix (W.contents (inner_of writer.old)) (W.contents (inner_of writer.new)) (L.contents (inner_of log.old)) (L.contents (inner_of log.new))
         (LostAt (counts.index - 1) scalar ∷ map Byte (reference scalar) ++ rest)) }
     ensures writer_count { failures_of writer.new ≡ failures_of writer.old + of_writer result }
     ensures reader_count { of_reader result ≡ 0 }
@@ -74,7 +74,7 @@ pub fn encode_once<'p, W: Write, L: Write, E: RawEncoder>(
     requires writer { failures_of writer.old < 2 ^ 64 - 1 }
     requires log { failures_of log.old < 2 ^ 64 - 1 }
 
-    ensures pays { IfOk result (λ p. Pays (W.contents (inner_of writer.old)) (W.contents (inner_of writer.new)) (L.contents (inner_of log.old)) (L.contents (inner_of log.new)) counts p.counts
+    ensures pays { IfOk result (λ p. WritesItems (W.contents (inner_of writer.old)) (W.contents (inner_of writer.new)) (L.contents (inner_of log.old)) (L.contents (inner_of log.new)) counts p.counts
         (whole_items (E.coding encoder.old) last (E.set encoder.old) counts.index (pivot_chars text.entry))
         (whole_items (E.coding encoder.old) last (E.set encoder.new) p.counts.index (pivot_chars p.rest))) }
     ensures passed { IfOk result (λ p. p.counts.index + length (pivot_chars p.rest) ≡ counts.index + length (pivot_chars text.entry)) }
@@ -86,7 +86,7 @@ pub fn encode_once<'p, W: Write, L: Write, E: RawEncoder>(
     ensures done { IfOk result (λ p. p.is_done ≡ true → (pivot_chars p.rest ≡ []) × (last ≡ true → E.set encoder.new ≡ Ascii)) }
     ensures more { IfOk result (λ p. p.is_done ≡ false → length (whole_items (E.coding encoder.old) last (E.set encoder.new) p.counts.index (pivot_chars p.rest))
         < length (whole_items (E.coding encoder.old) last (E.set encoder.old) counts.index (pivot_chars text.entry))) }
-    ensures err { OnErr result (Underpays (W.contents (inner_of writer.old)) (W.contents (inner_of writer.new)) (L.contents (inner_of log.old)) (L.contents (inner_of log.new))
+    ensures err { OnErr result (WritesPrefix (W.contents (inner_of writer.old)) (W.contents (inner_of writer.new)) (L.contents (inner_of log.old)) (L.contents (inner_of log.new))
         (whole_items (E.coding encoder.old) last (E.set encoder.old) counts.index (pivot_chars text.entry))) }
     ensures writer_count { failures_of writer.new ≡ failures_of writer.old + of_writer result }
     ensures reader_count { of_reader result ≡ 0 }
@@ -122,7 +122,7 @@ pub fn encode_once<'p, W: Write, L: Write, E: RawEncoder>(
     }
 }
 
-/// Encodes all of the text, and logs each character that has no bytes. Answers the counts then.
+/// Encodes all of the text, and logs each character that has no bytes. Returns the counts then.
 pub fn encode_all<W: Write, L: Write, E: RawEncoder>(
     writer: &mut Counted<W>,
     log: &mut Counted<L>,
@@ -138,7 +138,7 @@ pub fn encode_all<W: Write, L: Write, E: RawEncoder>(
     requires writer { failures_of writer.old < 2 ^ 64 - 1 }
     requires log { failures_of log.old < 2 ^ 64 - 1 }
 
-    ensures pays { IfOk result (λ c. Pays (W.contents (inner_of writer.old)) (W.contents (inner_of writer.new)) (L.contents (inner_of log.old)) (L.contents (inner_of log.new)) counts c
+    ensures pays { IfOk result (λ c. WritesItems (W.contents (inner_of writer.old)) (W.contents (inner_of writer.new)) (L.contents (inner_of log.old)) (L.contents (inner_of log.new)) counts c
         (whole_items (E.coding encoder.old) last (E.set encoder.old) counts.index (pivot_chars text.entry)) []) }
     ensures passed { IfOk result (λ c. c.index ≡ counts.index + length (pivot_chars text.entry)) }
     ensures lost { IfOk result (λ c. c.lost ≤ c.index) }
@@ -147,7 +147,7 @@ pub fn encode_all<W: Write, L: Write, E: RawEncoder>(
     ensures target { E.coding encoder.new ≡ E.coding encoder.old }
     ensures state { OnOk result (last ≡ false → E.set encoder.new ≡ last_set (E.coding encoder.old) (E.set encoder.old) (pivot_chars text.entry)) }
     ensures closed { OnOk result (last ≡ true → E.set encoder.new ≡ Ascii) }
-    ensures err { OnErr result (Underpays (W.contents (inner_of writer.old)) (W.contents (inner_of writer.new)) (L.contents (inner_of log.old)) (L.contents (inner_of log.new))
+    ensures err { OnErr result (WritesPrefix (W.contents (inner_of writer.old)) (W.contents (inner_of writer.new)) (L.contents (inner_of log.old)) (L.contents (inner_of log.new))
         (whole_items (E.coding encoder.old) last (E.set encoder.old) counts.index (pivot_chars text.entry))) }
     ensures writer_count { failures_of writer.new ≡ failures_of writer.old + of_writer result }
     ensures reader_count { of_reader result ≡ 0 }

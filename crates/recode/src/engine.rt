@@ -21,7 +21,7 @@ impl<D: StreamDecoder, E: RawEncoder> Engine<D, E> {
     ghost use Rattle.recode_log.specs.Counted.{inner_of, failures_of};
     ghost use Rattle.recode.specs.Buffers.{HoldsAnyCharacter, is_wide};
     ghost use Rattle.recode.specs.Latency.{ConvertsDecided};
-    ghost use Rattle.recode.specs.Owed.{owes, AreSound};
+    ghost use Rattle.recode.specs.TraceToWrite.{trace_to_write, AreSound};
     ghost use Rattle.recode.specs.Step.{StepGoesOn, Finishes, Stops};
     ghost use Rattle.recode.specs.Fault.{of_reader, of_writer, of_log, of_other};
     ghost use Rattle.std.specs.Io.KnownBytes.{Keeps};
@@ -49,17 +49,17 @@ impl<D: StreamDecoder, E: RawEncoder> Engine<D, E> {
         requires log { failures_of log.old < 2 ^ 64 - 1 }
 
         ensures more { result ≡ Ok Progress.More → StepGoesOn (R.remaining (inner_of reader.old)) (R.remaining (inner_of reader.new)) (W.contents (inner_of writer.old)) (W.contents (inner_of writer.new)) (L.contents (inner_of log.old)) (L.contents (inner_of log.new)) self.old.counts self.new.counts limit
-            (owes (D.view self.old.decoder).state (E.coding self.old.encoder) (E.set self.old.encoder) self.old.counts)
-            (owes (D.view self.new.decoder).state (E.coding self.old.encoder) (E.set self.new.encoder) self.new.counts)
+            (trace_to_write (D.view self.old.decoder).state (E.coding self.old.encoder) (E.set self.old.encoder) self.old.counts)
+            (trace_to_write (D.view self.new.decoder).state (E.coding self.old.encoder) (E.set self.new.encoder) self.new.counts)
             (D.view self.old.decoder).source (D.view self.new.decoder).source }
         ensures settled { result ≡ Ok Progress.More → ConvertsDecided (R.remaining (inner_of reader.old)) (R.remaining (inner_of reader.new)) (W.contents (inner_of writer.old)) (W.contents (inner_of writer.new)) (L.contents (inner_of log.old)) (L.contents (inner_of log.new))
             (D.view self.old.decoder).state (D.view self.new.decoder).state (E.coding self.old.encoder) (E.set self.old.encoder) (E.set self.new.encoder) self.old.counts self.new.counts }
         ensures grows { result ≡ Ok Progress.More → self.old.counts.read < self.new.counts.read }
         ensures done { result ≡ Ok Progress.Done → Finishes (R.remaining (inner_of reader.old)) (R.remaining (inner_of reader.new)) (W.contents (inner_of writer.old)) (W.contents (inner_of writer.new)) (L.contents (inner_of log.old)) (L.contents (inner_of log.new)) self.old.counts self.new.counts limit
-            (owes (D.view self.old.decoder).state (E.coding self.old.encoder) (E.set self.old.encoder) self.old.counts)
+            (trace_to_write (D.view self.old.decoder).state (E.coding self.old.encoder) (E.set self.old.encoder) self.old.counts)
             (D.view self.old.decoder).source (D.view self.new.decoder).source }
         ensures fault { IfErr result (λ f. Stops (R.remaining (inner_of reader.old)) (R.remaining (inner_of reader.new)) (W.contents (inner_of writer.old)) (W.contents (inner_of writer.new)) (L.contents (inner_of log.old)) (L.contents (inner_of log.new)) self.old.counts limit
-            (owes (D.view self.old.decoder).state (E.coding self.old.encoder) (E.set self.old.encoder) self.old.counts) f) }
+            (trace_to_write (D.view self.old.decoder).state (E.coding self.old.encoder) (E.set self.old.encoder) self.old.counts) f) }
         ensures untouched { of_other result ≡ 1 → Keeps (W.contents (inner_of writer.old)) (W.contents (inner_of writer.new)) × Keeps (L.contents (inner_of log.old)) (L.contents (inner_of log.new)) }
         ensures sound { OnOk result (AreSound (D.view self.new.decoder).state.pending self.new.counts) }
         ensures open_ { result ≡ Ok Progress.More → (D.view self.new.decoder).finished ≡ false }

@@ -11,7 +11,7 @@ pub struct Job<'t> {
     pub from: Encoding,
     /// The encoding that is asked for. What is written is in its output encoding.
     pub to: Encoding,
-    /// What is done with a byte order mark at the front of the input.
+    /// What is done with a byte order mark at the start of the input.
     pub mark: Mark,
     /// How many bytes the input may have.
     pub limit: u64,

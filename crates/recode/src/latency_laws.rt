@@ -5,7 +5,7 @@ ghost use Rattle.encoding_mem.specs.Decoding.{IsDecided};
 ghost use Rattle.encoding_mem.specs.Piece.{Piece, sizes};
 ghost use Rattle.recode.specs.Job.{input_pieces};
 ghost use Rattle.recode.specs.Latency.{IsNearlyDecided, StandsAt, StepsOn};
-ghost use Rattle.recode.specs.Marked.{IsPrefix};
+ghost use Rattle.recode.specs.TaggedByte.{IsPrefix};
 ghost use Rattle.recode.specs.Session.{IsNewSession, View};
 ghost use Rattle.recode.specs.declared.job.Job.{Job};
 

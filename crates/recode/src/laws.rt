@@ -4,27 +4,27 @@ ghost use Rattle.std.specs.Prelude.{◌≡◌, ◌↔◌, ◌<◌, ◌≤◌, �
 ghost use Rattle.std.specs.List.{concat};
 ghost use Rattle.std.specs.Str.{chars, IsUtf8};
 ghost use Rattle.std.specs.Io.KnownBytes.{Appends};
-ghost use Rattle.encoding_mem.specs.Piece.{AreGood, ArePieces, bad_count, piece_len, sizes};
+ghost use Rattle.encoding_mem.specs.Piece.{AreWellFormed, ArePieces, malformed_count, piece_len, sizes};
 ghost use Rattle.encoding_mem.specs.Coding.{AllMapped, lost_count, output};
 ghost use Rattle.encoding_front.specs.Encodings.{IsUtf8Encoding, KeepsCharacters, coding_of, output_encoding_of};
 ghost use Rattle.encoding_front.specs.Marks.{marked_pieces, marked_text};
 ghost use Rattle.encoding_front.specs.declared.mark.Mark.{Mark};
 ghost use Rattle.recode.specs.Job.{Faithful, IsValidJob, input_pieces, input_text, log_of, output_of, target_of, trace};
-ghost use Rattle.recode.specs.Marked.{lines, marks, outputs};
-ghost use Rattle.recode.specs.Payment.{bad_lines, lost_lines};
+ghost use Rattle.recode.specs.TaggedByte.{lines, tagged, outputs};
+ghost use Rattle.recode.specs.WrittenItems.{bad_lines, lost_lines};
 ghost use Rattle.recode.specs.ReadBack.{back, in_utf8};
 ghost use Rattle.recode.specs.Slices.{slices};
 ghost use Rattle.recode.specs.Session.{Completes, Fails, IsConverted};
-ghost use Rattle.recode.specs.Step.{WroteFront};
+ghost use Rattle.recode.specs.Step.{WrotePrefix};
 ghost use Rattle.recode.specs.declared.fault.Fault.{Fault};
 ghost use Rattle.recode.specs.declared.job.Job.{Job};
 ghost use Rattle.recode.specs.declared.report.Report.{Report};
 
 /// The trace of an input is its output and its log: their bytes, and how many lines of each kind.
 pub fn trace_of_input()
-    ensures output { (j : Job) (x : List ℕ) → outputs (marks (trace j x)) ≡ output_of j x }
-    ensures log { (j : Job) (x : List ℕ) → lines (marks (trace j x)) ≡ log_of j x }
-    ensures bad { (j : Job) (x : List ℕ) → bad_lines (trace j x) ≡ bad_count (input_pieces j x) }
+    ensures output { (j : Job) (x : List ℕ) → outputs (tagged (trace j x)) ≡ output_of j x }
+    ensures log { (j : Job) (x : List ℕ) → lines (tagged (trace j x)) ≡ log_of j x }
+    ensures bad { (j : Job) (x : List ℕ) → bad_lines (trace j x) ≡ malformed_count (input_pieces j x) }
     ensures lost { (j : Job) (x : List ℕ) → lost_lines (trace j x) ≡ lost_count (target_of j) (input_text j x) }
 {}
 
@@ -39,17 +39,18 @@ pub fn faithful_where_log_is_empty()
     ensures { (j : Job) (x : List ℕ) → IsValidJob j → KeepsCharacters j.to → Faithful j x ↔ (log_of j x ≡ []) }
 {}
 
-/// The log is empty exactly where no piece of the input is bad, and each character of its text has bytes.
+/// The log is empty exactly where no piece of the input is malformed, and each character of its
+/// text has bytes.
 pub fn log_is_empty()
-    ensures { (j : Job) (x : List ℕ) → (log_of j x ≡ []) ↔ (AreGood (input_pieces j x) × AllMapped (target_of j) (input_text j x)) }
+    ensures { (j : Job) (x : List ℕ) → (log_of j x ≡ []) ↔ (AreWellFormed (input_pieces j x) × AllMapped (target_of j) (input_text j x)) }
 {}
 
-/// Of a reader that tells its bytes, a run that came to its end read them all: cuts and sizes of buffers change
-/// nothing of the output, the log or the report. A run that a fault ended wrote fronts of them, and said that the
-/// input is too long only where it is.
+/// Of a reader that tells its bytes, a run that came to its end read them all: cuts and sizes of
+/// buffers change nothing of the output, the log or the report. A run that a fault ended wrote
+/// prefixes of them, and said that the input is too long only where it is.
 pub fn known_input()
     ensures completes { (x : List ℕ) (r w w' l l' : Option (List ℕ)) (j : Job) (p : Report) → Completes (Some x) r w w' l l' j p → IsConverted w w' l l' j x p }
-    ensures fails { (x : List ℕ) (r w w' l l' : Option (List ℕ)) (j : Job) (f : Fault) → Fails (Some x) r w w' l l' j f → WroteFront w w' l l' (trace j x) }
+    ensures fails { (x : List ℕ) (r w w' l l' : Option (List ℕ)) (j : Job) (f : Fault) → Fails (Some x) r w w' l l' j f → WrotePrefix w w' l l' (trace j x) }
     ensures too_long { (x : List ℕ) (r w w' l l' : Option (List ℕ)) (j : Job) → Fails (Some x) r w w' l l' j Fault.TooLong → j.limit < length x }
 {}
 
@@ -93,5 +94,5 @@ pub fn lost_is_unfaithful()
 pub fn whole_texts_are_the_same()
     ensures bytes { (j : Job) (x decoded bytes : List ℕ) → IsValidJob j → decoded ≡ encode_utf8_all (marked_text j.tables.now j.mark j.from x) → bytes ≡ output (coding_of j.tables.now j.to) (chars decoded) → bytes ≡ output_of j x }
     ensures run { (j : Job) (x decoded bytes : List ℕ) (w w' l l' : Option (List ℕ)) (p : Report) → IsValidJob j → decoded ≡ encode_utf8_all (marked_text j.tables.now j.mark j.from x) → bytes ≡ output (coding_of j.tables.now j.to) (chars decoded) → IsConverted w w' l l' j x p → Appends w w' bytes }
-    ensures log { (j : Job) (x decoded : List ℕ) (bad lost : Bool) → IsValidJob j → decoded ≡ encode_utf8_all (marked_text j.tables.now j.mark j.from x) → IsTrue bad ↔ (0 < bad_count (marked_pieces j.tables.now j.mark j.from x)) → IsTrue lost ↔ (0 < lost_count (coding_of j.tables.now j.to) (chars decoded)) → (log_of j x ≡ []) ↔ (IsFalse bad × IsFalse lost) }
+    ensures log { (j : Job) (x decoded : List ℕ) (malformed lost : Bool) → IsValidJob j → decoded ≡ encode_utf8_all (marked_text j.tables.now j.mark j.from x) → IsTrue malformed ↔ (0 < malformed_count (marked_pieces j.tables.now j.mark j.from x)) → IsTrue lost ↔ (0 < lost_count (coding_of j.tables.now j.to) (chars decoded)) → (log_of j x ≡ []) ↔ (IsFalse malformed × IsFalse lost) }
 {}

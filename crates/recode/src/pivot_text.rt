@@ -13,7 +13,7 @@ pub enum PivotText<'p> {
     Utf16(&'p [u16]),
 }
 
-/// The text at the front of a pivot, of so many bytes or units.
+/// The text at the start of a pivot, of so many bytes or units.
 pub fn text_in<'p>(pivot: &'p Pivot<'_>, len: usize) -> PivotText<'p>
     requires { HoldsText pivot.now len }
     ensures { (text : List ℕ) → all_scalars text ≡ true → Holds pivot.now len text → pivot_chars result ≡ text }

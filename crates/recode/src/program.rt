@@ -213,9 +213,9 @@ fn run_words<S: IndexSource, R: Read, W: Write, L: Write>(
     convert_in_buffers(reader, writer, log, job, words.pivot)
 }
 
-/// Does what the words ask for, the program's name first, as `parse_words` of `recode_words` reads them,
-/// and answers the exit status. The help, the version and the list of encodings go to the writer, with
-/// status 0.
+/// Does what the words ask for, the program's name first, as `parse_words` of `recode_words` reads
+/// them, and returns the exit status. The help, the version and the list of encodings go to the
+/// writer, with status 0.
 ///
 /// A run looks up the label of `--from`, then that of `--to`, reads the index files that the source
 /// and then the target's output encoding need, each once, and converts with buffers of 4096 elements.

@@ -5,7 +5,7 @@ use encoding_front::Encoding;
 pub struct Report {
     /// The bytes of the input.
     pub read: u64,
-    /// The lines of the log that tell a bad piece.
+    /// The lines of the log that tell a malformed sequence.
     pub bad: u64,
     /// The lines of the log that tell a lost character.
     pub lost: u64,
@@ -13,8 +13,8 @@ pub struct Report {
     pub calls: u64,
     /// The encoding of the input, as its byte order mark says where one of another encoding is taken.
     pub encoding: Encoding,
-    /// Whether the log is empty. Where what is written has no folds (`keeps_characters`), this holds
-    /// exactly if nothing was lost: no piece of the input is bad, and the output, decoded without mark
-    /// handling, is the input's text.
+    /// Whether the log is empty. Where what is written has no folds (`keeps_characters`), this
+    /// holds exactly if nothing was lost: no piece of the input is malformed, and the output,
+    /// decoded without mark handling, is the input's text.
     pub faithful: bool,
 }

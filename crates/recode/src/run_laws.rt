@@ -19,8 +19,9 @@ pub fn runs_agree()
     ensures bytes { (j : Job) (x w w' v' l l' m' : List ℕ) (p q : Report) → IsConverted (Some w) (Some w') (Some l) (Some l') j x p → IsConverted (Some w) (Some v') (Some l) (Some m') j x q → (w' ≡ v') × (l' ≡ m') }
 {}
 
-/// Where no call of a device fails, a run answers `Ok` exactly where the input is within the limit, and else
-/// `TooLong`. The reader tells its bytes; where it does not, the answer is still one of the two.
+/// Where no call of a device fails, a run returns `Ok` exactly where the input is within the limit,
+/// and else `TooLong`. The reader tells its bytes; where it does not, the result is still one of
+/// the two.
 pub fn answers_without_faults()
     ensures ok { (j : Job) (x : List ℕ) (r w w' l l' : Option (List ℕ)) (n m k : ℕ) (answer : Result Report Fault) → RunReturns (Some x) r w w' l l' n n m m k k j answer → IsOk answer ↔ (length x ≤ j.limit) }
     ensures too_long { (j : Job) (x : List ℕ) (r w w' l l' : Option (List ℕ)) (n m k : ℕ) (answer : Result Report Fault) → RunReturns (Some x) r w w' l l' n n m m k k j answer → (answer ≡ Err Fault.TooLong) ↔ (j.limit < length x) }

@@ -4,9 +4,9 @@ ghost use Rattle.recode_log.specs.Counted.{inner_of, failures_of};
 ghost use Rattle.recode.specs.Job.{IsValidJob};
 ghost use Rattle.recode.specs.Buffers.{AreEnough, HoldsAnyCharacter};
 ghost use Rattle.recode.specs.Latency.{StepsOn};
-ghost use Rattle.recode.specs.Owed.{AreSound};
+ghost use Rattle.recode.specs.TraceToWrite.{AreSound};
 ghost use Rattle.recode.specs.Runs.{RunReturns};
-ghost use Rattle.recode.specs.Session.{View, owed, IsOver, IsNewSession, Tells, Completes, Fails, phase_after};
+ghost use Rattle.recode.specs.Session.{View, to_write, IsOver, IsNewSession, Tells, Completes, Fails, phase_after};
 ghost use Rattle.recode.specs.declared.phase.Phase.TheVariants.{Open};
 ghost use Rattle.recode.specs.Step.{StepGoesOn, Finishes, Stops};
 ghost use Rattle.recode.specs.Fault.{of_reader, of_writer, of_log, of_other};
@@ -128,11 +128,11 @@ impl<'t> Session<'t> {
         requires writer { failures_of writer.old < 2 ^ 64 - 1 }
         requires log { failures_of log.old < 2 ^ 64 - 1 }
 
-        ensures more { result ≡ Ok Progress.More → StepGoesOn (R.remaining (inner_of reader.old)) (R.remaining (inner_of reader.new)) (W.contents (inner_of writer.old)) (W.contents (inner_of writer.new)) (L.contents (inner_of log.old)) (L.contents (inner_of log.new)) (⟦<Session<'t> as Viewed>⟧.view self.old).counts (⟦<Session<'t> as Viewed>⟧.view self.new).counts (⟦<Session<'t> as Viewed>⟧.view self.old).job.limit (owed (⟦<Session<'t> as Viewed>⟧.view self.old)) (owed (⟦<Session<'t> as Viewed>⟧.view self.new)) (⟦<Session<'t> as Viewed>⟧.view self.old).source (⟦<Session<'t> as Viewed>⟧.view self.new).source }
+        ensures more { result ≡ Ok Progress.More → StepGoesOn (R.remaining (inner_of reader.old)) (R.remaining (inner_of reader.new)) (W.contents (inner_of writer.old)) (W.contents (inner_of writer.new)) (L.contents (inner_of log.old)) (L.contents (inner_of log.new)) (⟦<Session<'t> as Viewed>⟧.view self.old).counts (⟦<Session<'t> as Viewed>⟧.view self.new).counts (⟦<Session<'t> as Viewed>⟧.view self.old).job.limit (to_write (⟦<Session<'t> as Viewed>⟧.view self.old)) (to_write (⟦<Session<'t> as Viewed>⟧.view self.new)) (⟦<Session<'t> as Viewed>⟧.view self.old).source (⟦<Session<'t> as Viewed>⟧.view self.new).source }
         ensures steps_on { result ≡ Ok Progress.More → StepsOn (R.remaining (inner_of reader.old)) (R.remaining (inner_of reader.new)) (W.contents (inner_of writer.old)) (W.contents (inner_of writer.new)) (L.contents (inner_of log.old)) (L.contents (inner_of log.new)) (⟦<Session<'t> as Viewed>⟧.view self.old) (⟦<Session<'t> as Viewed>⟧.view self.new) }
         ensures grows { result ≡ Ok Progress.More → (⟦<Session<'t> as Viewed>⟧.view self.old).counts.read < (⟦<Session<'t> as Viewed>⟧.view self.new).counts.read }
-        ensures done { result ≡ Ok Progress.Done → Finishes (R.remaining (inner_of reader.old)) (R.remaining (inner_of reader.new)) (W.contents (inner_of writer.old)) (W.contents (inner_of writer.new)) (L.contents (inner_of log.old)) (L.contents (inner_of log.new)) (⟦<Session<'t> as Viewed>⟧.view self.old).counts (⟦<Session<'t> as Viewed>⟧.view self.new).counts (⟦<Session<'t> as Viewed>⟧.view self.old).job.limit (owed (⟦<Session<'t> as Viewed>⟧.view self.old)) (⟦<Session<'t> as Viewed>⟧.view self.old).source (⟦<Session<'t> as Viewed>⟧.view self.new).source }
-        ensures fault { IfErr result (λ f. Stops (R.remaining (inner_of reader.old)) (R.remaining (inner_of reader.new)) (W.contents (inner_of writer.old)) (W.contents (inner_of writer.new)) (L.contents (inner_of log.old)) (L.contents (inner_of log.new)) (⟦<Session<'t> as Viewed>⟧.view self.old).counts (⟦<Session<'t> as Viewed>⟧.view self.old).job.limit (owed (⟦<Session<'t> as Viewed>⟧.view self.old)) f) }
+        ensures done { result ≡ Ok Progress.Done → Finishes (R.remaining (inner_of reader.old)) (R.remaining (inner_of reader.new)) (W.contents (inner_of writer.old)) (W.contents (inner_of writer.new)) (L.contents (inner_of log.old)) (L.contents (inner_of log.new)) (⟦<Session<'t> as Viewed>⟧.view self.old).counts (⟦<Session<'t> as Viewed>⟧.view self.new).counts (⟦<Session<'t> as Viewed>⟧.view self.old).job.limit (to_write (⟦<Session<'t> as Viewed>⟧.view self.old)) (⟦<Session<'t> as Viewed>⟧.view self.old).source (⟦<Session<'t> as Viewed>⟧.view self.new).source }
+        ensures fault { IfErr result (λ f. Stops (R.remaining (inner_of reader.old)) (R.remaining (inner_of reader.new)) (W.contents (inner_of writer.old)) (W.contents (inner_of writer.new)) (L.contents (inner_of log.old)) (L.contents (inner_of log.new)) (⟦<Session<'t> as Viewed>⟧.view self.old).counts (⟦<Session<'t> as Viewed>⟧.view self.old).job.limit (to_write (⟦<Session<'t> as Viewed>⟧.view self.old)) f) }
         ensures untouched { of_other result ≡ 1 → Keeps (W.contents (inner_of writer.old)) (W.contents (inner_of writer.new)) × Keeps (L.contents (inner_of log.old)) (L.contents (inner_of log.new)) }
         ensures phase { (⟦<Session<'t> as Viewed>⟧.view self.new).phase ≡ phase_after result }
         ensures job { (⟦<Session<'t> as Viewed>⟧.view self.new).job ≡ (⟦<Session<'t> as Viewed>⟧.view self.old).job }

@@ -1,3 +1,1 @@
-pub mod Bytes
-pub mod Reading
-pub mod Rows
+pub mod LineLemmas

@@ -5,7 +5,7 @@ use Rattle.std.specs.Fmt.{decimal, digits}
 use Rattle.recode_log.specs.declared.line.LogLine.{LogLine}
 use Rattle.recode_log.specs.declared.line.LogLine.TheVariants.{Bad, Lost}
 
--- the place is one that the log can name, and bad bytes are one to four
+-- the offset is one that the log can name, and malformed bytes are one to four
 abbrev pub IsValid : LogLine → Type 0
 IsValid (Bad offset length) = (offset ≤ 2 ^ 48) × (1 ≤ length) × (length ≤ 4)
 IsValid (Lost index scalar) = index ≤ 2 ^ 48
@@ -17,28 +17,28 @@ HasScalar (Lost index scalar) = IsScalar scalar
 
 -- two numbers with a space between them
 abbrev pub two_numbers : ℕ → ℕ → List ℕ
-two_numbers place value = decimal place ++ codes " " ++ decimal value
+two_numbers offset value = decimal offset ++ codes " " ++ decimal value
 
 -- a word with the space behind it, two numbers with a space between them, and the end of the line
 abbrev pub row_bytes : List ℕ → ℕ → ℕ → List ℕ
-row_bytes word place value = word ++ decimal place ++ codes " " ++ decimal value ++ codes "\n"
+row_bytes word offset value = word ++ decimal offset ++ codes " " ++ decimal value ++ codes "\n"
 
 -- the line's text
 abbrev pub line_bytes : LogLine → List ℕ
 line_bytes (Bad offset length) = row_bytes (codes "bad ") offset length
 line_bytes (Lost index scalar) = row_bytes (codes "lost ") index scalar
 
-pub line_bytes-bad_first : line_bytes (Bad 0 3) ≡ codes "bad 0 3\n"
+pub line_bytes-malformed_first : line_bytes (Bad 0 3) ≡ codes "bad 0 3\n"
 unfolding digits
-line_bytes-bad_first = refl
+line_bytes-malformed_first = refl
 
-pub line_bytes-bad : line_bytes (Bad 6 1) ≡ codes "bad 6 1\n"
+pub line_bytes-malformed : line_bytes (Bad 6 1) ≡ codes "bad 6 1\n"
 unfolding digits
-line_bytes-bad = refl
+line_bytes-malformed = refl
 
-pub line_bytes-bad_longest : line_bytes (Bad 281474976710656 4) ≡ codes "bad 281474976710656 4\n"
+pub line_bytes-malformed_longest : line_bytes (Bad 281474976710656 4) ≡ codes "bad 281474976710656 4\n"
 unfolding digits
-line_bytes-bad_longest = refl
+line_bytes-malformed_longest = refl
 
 pub line_bytes-lost : line_bytes (Lost 1 128169) ≡ codes "lost 1 128169\n"
 unfolding digits

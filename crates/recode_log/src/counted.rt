@@ -8,7 +8,7 @@ use std::io::{Read, Write};
 
 /// A reader or a writer, and how many of its calls have failed.
 ///
-/// A call fails if it answers an `Err`, as an interrupted one does too, or if it is a write of
+/// A call fails if it returns an `Err`, as an interrupted one does too, or if it is a write of
 /// some bytes that takes none. A read that gives no bytes is no failure.
 #[derive(Debug, Drop)]
 pub struct Counted<T> {
@@ -65,8 +65,8 @@ impl<T> Counted<T> {
 impl<T: Read> Counted<T> {
     ghost use Rattle.recode_log.specs.Counted.{inner_of, failures_of};
 
-    /// Calls `Read::read` of the wrapped reader once, and answers what it answered: how many bytes
-    /// stand at the front of `buf`, with 0 for the end, or the reader's error, which is counted.
+    /// Calls `Read::read` of the wrapped reader once, and returns what it returned: how many bytes
+    /// stand at the start of `buf`, with 0 for the end, or the reader's error, which is counted.
     pub fn read(&mut self, buf: &mut [u8]) -> io::Result<usize>
         requires { failures_of self.old < 2 ^ 64 - 1 }
         ensures bound { ReadsAtMost result buf.new }
@@ -84,9 +84,9 @@ impl<T: Read> Counted<T> {
 impl<T: Write> Counted<T> {
     ghost use Rattle.recode_log.specs.Counted.{inner_of, failures_of};
 
-    /// Calls `Write::write` of the wrapped writer once, and answers what it answered: how many bytes
-    /// it took from the front of `buf`, or its error. An error is counted, and so is a 0 unless
-    /// `buf` is empty.
+    /// Calls `Write::write` of the wrapped writer once, and returns what it returned: how many
+    /// bytes it took from the prefix of `buf`, or its error. An error is counted, and so is a 0
+    /// unless `buf` is empty.
     pub fn write(&mut self, buf: &[u8]) -> io::Result<usize>
         requires { failures_of self.old < 2 ^ 64 - 1 }
         ensures bound { WritesAtMost result buf.now }
@@ -108,7 +108,7 @@ impl<T: Write> Counted<T> {
         taken
     }
 
-    /// Calls `Write::flush` of the wrapped writer once, and answers what it answered. An error is
+    /// Calls `Write::flush` of the wrapped writer once, and returns what it returned. An error is
     /// counted.
     pub fn flush(&mut self) -> io::Result<()>
         requires { failures_of self.old < 2 ^ 64 - 1 }

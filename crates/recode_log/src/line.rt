@@ -6,7 +6,7 @@ use itoa::Buffer;
 use std::str;
 
 /// The greatest offset or index that a line of the log can name.
-pub const GREATEST_PLACE: u64 = 1 << 48;
+pub const GREATEST_OFFSET: u64 = 1 << 48;
 
 /// One line of the log: a word and two decimal numbers with a space between, and a line feed at the
 /// end, as in `bad 6 1` and `lost 1 128169`.
@@ -24,19 +24,20 @@ impl LogLine {
     ghost use Rattle.recode_log.specs.Line.{IsValid, HasScalar, line_bytes};
     ghost use Rattle.recode_log.specs.declared.line.LogLine.{LogLine};
 
-    /// Whether the offset or the index is at most `GREATEST_PLACE`, and the length is 1 to 4 bytes.
+    /// Whether the offset or the index is at most `GREATEST_OFFSET`, and the length is 1 to 4
+    /// bytes.
     pub fn is_valid(&self) -> bool
         ensures { IsTrue result ↔ IsValid self.now }
     {
         match *self {
             LogLine::Bad { offset, length } => {
-                offset <= GREATEST_PLACE && (1..=4).contains(&length)
+                offset <= GREATEST_OFFSET && (1..=4).contains(&length)
             }
-            LogLine::Lost { index, scalar: _ } => index <= GREATEST_PLACE,
+            LogLine::Lost { index, scalar: _ } => index <= GREATEST_OFFSET,
         }
     }
 
-    /// Writes the line at the front of `dst`, and returns its length in bytes, line feed included.
+    /// Writes the line at the start of `dst`, and returns its length in bytes, line feed included.
     /// The bytes behind it stay as they were. A valid line always fits.
     pub fn write_into(&self, dst: &mut [u8; 32]) -> usize
         requires { IsValid self.now }
@@ -74,16 +75,16 @@ impl LogLine {
     }
 }
 
-// Writes a line at the front, and returns where it ends.
-fn write_row(dst: &mut [u8; 32], word: &[u8], place: u64, value: u32) -> usize
-    requires { length (row_bytes word.now place value) ≤ 32 }
-    ensures size { result ≡ length (row_bytes word.now place value) }
-    ensures line { take result dst.new ≡ row_bytes word.now place value }
+// Writes a line at the start, and returns where it ends.
+fn write_row(dst: &mut [u8; 32], word: &[u8], offset: u64, value: u32) -> usize
+    requires { length (row_bytes word.now offset value) ≤ 32 }
+    ensures size { result ≡ length (row_bytes word.now offset value) }
+    ensures line { take result dst.new ≡ row_bytes word.now offset value }
     ensures behind { drop result dst.new ≡ drop result dst.old }
 {
     let mut digits = Buffer::new();
-    let place_at = put(dst, 0, word);
-    let space_at = put(dst, place_at, digits.format(place).as_bytes());
+    let offset_at = put(dst, 0, word);
+    let space_at = put(dst, offset_at, digits.format(offset).as_bytes());
     let value_at = put(dst, space_at, b" ");
     let end_at = put(dst, value_at, digits.format(value).as_bytes());
     put(dst, end_at, b"\n")
@@ -93,7 +94,7 @@ fn write_row(dst: &mut [u8; 32], word: &[u8], place: u64, value: u32) -> usize
 fn put(dst: &mut [u8; 32], at: usize, bytes: &[u8]) -> usize
     requires { at + length bytes.now ≤ 32 }
     ensures size { result ≡ at + length bytes.now }
-    ensures front { take result dst.new ≡ take at dst.old ++ bytes.now }
+    ensures prefix { take result dst.new ≡ take at dst.old ++ bytes.now }
     ensures behind { drop result dst.new ≡ drop result dst.old }
 {
     let end = at + bytes.len();
@@ -104,8 +105,8 @@ fn put(dst: &mut [u8; 32], at: usize, bytes: &[u8]) -> usize
 // Reads the two numbers of a line with this word, as `write_row` writes them.
 fn read_row(bytes: &[u8], word: &[u8]) -> Option<(u64, u64)>
     ensures row { IfSome result (λ numbers. row_bytes word.now numbers.0 numbers.1 ≡ bytes.now) }
-    ensures only { (place value : ℕ) → place < 2 ^ 64 → value < 2 ^ 64 →
-        row_bytes word.now place value ≡ bytes.now → result ≡ Some (place, value) }
+    ensures only { (offset value : ℕ) → offset < 2 ^ 64 → value < 2 ^ 64 →
+        row_bytes word.now offset value ≡ bytes.now → result ≡ Some (offset, value) }
 {
     read_pair(bytes.strip_prefix(word)?.strip_suffix(b"\n")?)
 }
@@ -113,13 +114,13 @@ fn read_row(bytes: &[u8], word: &[u8]) -> Option<(u64, u64)>
 // Reads two numbers with a space between them.
 fn read_pair(bytes: &[u8]) -> Option<(u64, u64)>
     ensures pair { IfSome result (λ numbers. two_numbers numbers.0 numbers.1 ≡ bytes.now) }
-    ensures only { (place value : ℕ) → place < 2 ^ 64 → value < 2 ^ 64 →
-        two_numbers place value ≡ bytes.now → result ≡ Some (place, value) }
+    ensures only { (offset value : ℕ) → offset < 2 ^ 64 → value < 2 ^ 64 →
+        two_numbers offset value ≡ bytes.now → result ≡ Some (offset, value) }
 {
     let space = first_space(bytes)?;
-    let place = read_number(&bytes[..space])?;
+    let offset = read_number(&bytes[..space])?;
     let value = read_number(&bytes[space + 1..])?;
-    Some((place, value))
+    Some((offset, value))
 }
 
 // Where the first space stands.

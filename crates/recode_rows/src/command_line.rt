@@ -41,7 +41,8 @@ impl Env for Line {
     }
 }
 
-// Answers to the words with the bytes `ab` as input, and asserts the status, the output and the log.
+// Returns to the words with the bytes `ab` as input, and asserts the status, the output and the
+// log.
 fn check(
     rt: &(impl Abort + Files + AllocGlobal),
     words: &'static [&'static [u8]],

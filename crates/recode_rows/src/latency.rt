@@ -53,8 +53,8 @@ fn a_range_of_four_bytes_is_undecided_before_the_last(rt: HostRuntime) -> Result
     check(&rt, GB18030, b"A\x810\x81A", &wants, last)
 }
 
-// An escape directly behind another makes the first one bad, once it is whole: `1B 28` might still be
-// two bad bytes of their own.
+// An escape directly behind another makes the first one malformed, once it is whole: `1B 28` might
+// still be two malformed bytes of their own.
 #[test]
 fn an_escape_is_undecided_before_the_next_is_whole(rt: HostRuntime) -> Result<(), AllocError> {
     let last = Held {

@@ -1,6 +1,6 @@
 // The lines of the log, byte for byte.
 
-use recode_log::line::{GREATEST_PLACE, LogLine};
+use recode_log::line::{GREATEST_OFFSET, LogLine};
 
 fn bad(offset: u64, length: u8) -> LogLine {
     LogLine::Bad { offset, length }
@@ -36,11 +36,11 @@ fn a_line_is_valid_up_to_its_edges(rt: HostRuntime) {
     let rows = [
         (bad(0, 0), false),
         (bad(0, 1), true),
-        (bad(GREATEST_PLACE, 4), true),
-        (bad(GREATEST_PLACE, 5), false),
-        (bad(GREATEST_PLACE + 1, 4), false),
-        (lost(GREATEST_PLACE, 'a'), true),
-        (lost(GREATEST_PLACE + 1, 'a'), false),
+        (bad(GREATEST_OFFSET, 4), true),
+        (bad(GREATEST_OFFSET, 5), false),
+        (bad(GREATEST_OFFSET + 1, 4), false),
+        (lost(GREATEST_OFFSET, 'a'), true),
+        (lost(GREATEST_OFFSET + 1, 'a'), false),
     ];
     for (line, want) in rows {
         assert_eq!(rt; line.is_valid(), want, "{line:?}");
@@ -53,13 +53,13 @@ fn a_written_line_is_read_back(rt: HostRuntime) {
         bad(0, 1),
         bad(0, 4),
         bad(10, 2),
-        bad(GREATEST_PLACE, 1),
-        bad(GREATEST_PLACE, 4),
+        bad(GREATEST_OFFSET, 1),
+        bad(GREATEST_OFFSET, 4),
         lost(0, '\0'),
         lost(1, '\u{d7ff}'),
         lost(99, '\u{e000}'),
-        lost(GREATEST_PLACE, '\0'),
-        lost(GREATEST_PLACE, char::MAX),
+        lost(GREATEST_OFFSET, '\0'),
+        lost(GREATEST_OFFSET, char::MAX),
     ];
     for line in rows {
         assert!(rt; line.is_valid(), "{line:?}");

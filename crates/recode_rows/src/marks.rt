@@ -44,7 +44,7 @@ const ROWS: [Row; 13] = [
         output: b"\xEF\xBB\xBFA",
         ..EMPTY
     },
-    // A place counts the bytes of the mark.
+    // An offset counts the bytes of the mark.
     Row {
         input: b"\xEF\xBB\xBF\xE2\x82\xAC\x80",
         output: b"\xE2\x82\xAC\xEF\xBF\xBD",
@@ -123,9 +123,9 @@ fn marks_at_every_cut(rt: HostRuntime) -> Result<(), AllocError> {
     Ok(())
 }
 
-// The third read fails: what may be the front of a mark is held until more is known.
+// The third read fails: what may be the prefix of a mark is held until more is known.
 #[test]
-fn the_front_of_a_mark_is_held(rt: HostRuntime) -> Result<(), AllocError> {
+fn the_prefix_of_a_mark_is_held(rt: HostRuntime) -> Result<(), AllocError> {
     let rows: [(Mark, &[u8]); 2] = [(Mark::Sniff, b""), (Mark::Keep, b"\xC3\xAF\xC2\xBB")];
     for way in WAYS {
         for sizes in SIZES {

@@ -83,12 +83,12 @@ fn at_once(
 ) -> Result<Whole, OneShotFault> {
     assert!(rt; row.from.is_ready(tables));
     assert!(rt; row.to.output_encoding().is_ready(tables));
-    let (text, encoding, is_bad) = row.from.decode(rt.alloc(), tables, row.input)?;
+    let (text, encoding, is_malformed) = row.from.decode(rt.alloc(), tables, row.input)?;
     let (bytes, _, is_lost) = row.to.encode(rt.alloc(), tables, text.as_str())?;
     Ok(Whole {
         bytes,
         encoding,
-        is_faithful: !is_bad && !is_lost,
+        is_faithful: !is_malformed && !is_lost,
     })
 }
 

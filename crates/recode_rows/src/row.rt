@@ -86,8 +86,8 @@ fn check_cuts_over(
     row: Row,
     tables: &Tables,
 ) -> Result<(), AllocError> {
-    for place in 0..=row.input.len() {
-        check(rt, row, Reads::CutAt(place), tables)?;
+    for offset in 0..=row.input.len() {
+        check(rt, row, Reads::CutAt(offset), tables)?;
     }
     check(rt, row, Reads::OneByOne, tables)
 }

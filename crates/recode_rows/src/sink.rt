@@ -8,7 +8,7 @@ use std::io::{ErrorKind, Write};
 pub enum Failure {
     /// It takes no byte.
     Nothing,
-    /// It answers an error.
+    /// It returns an error.
     Error(ErrorKind),
 }
 
@@ -38,7 +38,7 @@ pub const WILLING: Manners = Manners {
 pub struct Flushes {
     /// How often.
     pub calls: usize,
-    /// The place of the last one among the flushes of all writers, from 1.
+    /// The offset of the last one among the flushes of all writers, from 1.
     pub turn: usize,
     /// How many bytes it had taken then.
     pub taken: usize,

@@ -4,7 +4,7 @@ use std::io::{ErrorKind, Read};
 /// How the input is cut into reads.
 #[derive(Clone, Copy, Debug)]
 pub enum Reads {
-    /// No read passes this place: where there is room, there are two.
+    /// No read passes this offset: where there is room, there are two.
     CutAt(usize),
     /// A read gives one byte.
     OneByOne,
@@ -42,7 +42,7 @@ impl Source {
     // How many bytes the next read may give.
     fn most(&self) -> usize {
         match self.reads {
-            Reads::CutAt(place) if self.given < place => place - self.given,
+            Reads::CutAt(offset) if self.given < offset => offset - self.given,
             Reads::CutAt(_) => usize::MAX,
             Reads::OneByOne => 1,
         }
@@ -56,8 +56,8 @@ impl Read for Source {
             return Err(io::Error::from(self.kind));
         }
         let count = self.most().min(self.rest.len()).min(buf.len());
-        let (front, rest) = self.rest.split_at(count);
-        buf[..count].copy_from_slice(front);
+        let (prefix, rest) = self.rest.split_at(count);
+        buf[..count].copy_from_slice(prefix);
         self.rest = rest;
         self.given = self.given.saturating_add(count);
         Ok(count)

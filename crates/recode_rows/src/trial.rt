@@ -321,7 +321,7 @@ fn watch_steps(
     }
 }
 
-/// Asserts what is written after each step but the last, and answers what came of that one.
+/// Asserts what is written after each step but the last, and returns what came of that one.
 pub fn watch(
     rt: &(impl Abort + AllocGlobal),
     trial: &Trial,
@@ -413,7 +413,7 @@ fn by_convert(
     )
 }
 
-/// Converts by `convert`, and answers its status.
+/// Converts by `convert`, and returns its status.
 pub fn status(rt: &(impl Abort + AllocGlobal), trial: &Trial) -> Result<Outcome<u8>, AllocError> {
     let tables = trial.tables(rt);
     let turns = Cell::new(0);

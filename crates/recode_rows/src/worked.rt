@@ -52,7 +52,7 @@ const BAD: [Row; 4] = [
 ];
 
 #[test]
-fn good_text_stays_as_it_is(rt: HostRuntime) -> Result<(), AllocError> {
+fn well_formed_text_stays_as_it_is(rt: HostRuntime) -> Result<(), AllocError> {
     for row in GOOD {
         check_cuts(&rt, row)?;
     }
@@ -60,7 +60,7 @@ fn good_text_stays_as_it_is(rt: HostRuntime) -> Result<(), AllocError> {
 }
 
 #[test]
-fn a_bad_piece_is_replaced_and_logged(rt: HostRuntime) -> Result<(), AllocError> {
+fn a_malformed_piece_is_replaced_and_logged(rt: HostRuntime) -> Result<(), AllocError> {
     for row in BAD {
         check_cuts(&rt, row)?;
     }

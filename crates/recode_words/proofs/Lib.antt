@@ -1,4 +1,3 @@
-mod Limits
-mod Parse
-mod Present
-mod Single
+mod LimitLemmas
+mod ParseLemmas
+mod ParseKindLemmas

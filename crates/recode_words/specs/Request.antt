@@ -17,7 +17,7 @@ use Rattle.recode_words.specs.declared.words.Words.{Words}
 
 -- the text ends with a line feed
 abbrev pub IsLine : List ℕ → Type 0
-IsLine text = (front : List ℕ) × (text ≡ front ++ 10 ∷ [])
+IsLine text = (prefix : List ℕ) × (text ≡ prefix ++ 10 ∷ [])
 
 -- what the value of an option stands for, if clap's parse gives one, and it stands for something
 abbrev pub meant : {T : Type 0} → (Text → Option T) → Text → List Text → Option T

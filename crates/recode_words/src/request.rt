@@ -61,7 +61,7 @@ fn has_list(words: &[&str]) -> bool
     words[1..].contains(&"--list")
 }
 
-// What a parse that ended early answers.
+// What a parse that ended early returns.
 fn early_answer<'a>(
     alloc: Global,
     error: &Error,
@@ -101,10 +101,10 @@ fn refusal(
     text_of(alloc, &error)
 }
 
-/// What the words ask for, the program's name first: `recode --from LABEL --to LABEL [--indexes DIR]
-/// [--mark sniff|remove|keep] [--pivot utf8|utf16] [--limit N]`, or `--help`, `--version` or `--list`,
-/// which is the answer wherever the words before it are good. With `--version` and `--list` it is the
-/// list.
+/// What the words ask for, the program's name first: `recode --from LABEL --to LABEL [--indexes
+/// DIR] [--mark sniff|remove|keep] [--pivot utf8|utf16] [--limit N]`, or `--help`, `--version` or
+/// `--list`, which is the result wherever the words before it are well-formed. With `--version` and
+/// `--list` it is the list.
 ///
 /// The defaults are `.`, `sniff`, `utf8` and 2^48, which is also the greatest N; N is decimal digits with
 /// no sign. An option that is given twice, one with no value, an unknown one and a word that is no

@@ -2,23 +2,23 @@
 use Rattle.std.specs.Prelude.{◌≡◌, ℕ, ◌+◌, ◌-◌, ◌*◌, ◌/◌, ◌%◌, ◌==◌, ◌||◌, Bool, List, [], ◌∷◌, ◌++◌, nat_lt, if◌then◌else◌, refl, replicate, Option, map}
 use Rattle.std.specs.Int.{is_in_range}
 use Rattle.encoding_mem.specs.Coding.{Coding}
-use Rattle.encoding_mem.specs.Piece.{Piece, good, bad}
+use Rattle.encoding_mem.specs.Piece.{Piece, well_formed, malformed}
 use Rattle.encoding_mem.specs.Pieces.{pieces_in, pieces_by}
 use Rattle.encoding_mem.specs.Stateless.{stateless}
 use Rattle.encoding_mem.specs.declared.form.Form.{Form}
 use Rattle.encoding_mem.specs.declared.form.Form.TheVariants.{Mapped, Unmapped}
 use Rattle.encoding_tables.specs.Lookups.{value_of, first_pointer, last_pointer}
-use Rattle.encoding_codecs.specs.TwoByte.{TwoByteRule, front_two_byte}
+use Rattle.encoding_codecs.specs.TwoByte.{TwoByteRule, first_piece_two_byte}
 use Rattle.encoding_codecs.specs.Pointers.{value_of_entry, form_by_pointer}
-use Rattle.encoding_codecs.specs.declared.lead_rule.FirstByte.{FirstByte}
-use Rattle.encoding_codecs.specs.declared.lead_rule.FirstByte.TheVariants.{Lead, Unused}
+use Rattle.encoding_codecs.specs.declared.lead_byte_rule.FirstByte.{FirstByte}
+use Rattle.encoding_codecs.specs.declared.lead_byte_rule.FirstByte.TheVariants.{Lead, Unused}
 use Rattle.encoding_codecs.specs.declared.two_byte.PairValue.{PairValue}
 use Rattle.encoding_codecs.specs.declared.two_byte.PairValue.TheVariants.{NoChar, TwoChars}
 use Rattle.encoding_codecs.specs.Big5.{big5_pointer, pieces_big5, big5_bytes, big5_form}
 
 -- 88 62, 88 64, 88 A3 and 88 A5 are the four pointers, also where an index maps nothing
 letters_with_marks : pieces_big5 [] (0x88 ∷ 0x62 ∷ 0x88 ∷ 0x64 ∷ 0x88 ∷ 0xA3 ∷ 0x88 ∷ 0xA5 ∷ [])
-    ≡ good 2 (0xCA ∷ 0x304 ∷ []) ∷ good 2 (0xCA ∷ 0x30C ∷ []) ∷ good 2 (0xEA ∷ 0x304 ∷ []) ∷ good 2 (0xEA ∷ 0x30C ∷ []) ∷ []
+    ≡ well_formed 2 (0xCA ∷ 0x304 ∷ []) ∷ well_formed 2 (0xCA ∷ 0x30C ∷ []) ∷ well_formed 2 (0xEA ∷ 0x304 ∷ []) ∷ well_formed 2 (0xEA ∷ 0x30C ∷ []) ∷ []
 unfolding pieces_in
 letters_with_marks = refl
 
@@ -26,13 +26,13 @@ letters_with_marks = refl
 unfoldable sample : List ℕ
 sample = 0x43F0 ∷ 0 ∷ []
 
-characters : pieces_big5 sample (0x81 ∷ 0x40 ∷ 0x41 ∷ []) ≡ good 2 (0x43F0 ∷ []) ∷ good 1 (0x41 ∷ []) ∷ []
+characters : pieces_big5 sample (0x81 ∷ 0x40 ∷ 0x41 ∷ []) ≡ well_formed 2 (0x43F0 ∷ []) ∷ well_formed 1 (0x41 ∷ []) ∷ []
 unfolding sample pieces_in
 characters = refl
 
 -- 41 and 7F are ASCII, and are read again; 80 and FF are no trails; nothing begins with 80
 wrong_trails : pieces_big5 sample (0x81 ∷ 0x41 ∷ 0x81 ∷ 0x7F ∷ 0x81 ∷ 0x80 ∷ 0x81 ∷ 0xFF ∷ 0x80 ∷ 0x81 ∷ [])
-    ≡ bad 1 ∷ good 1 (0x41 ∷ []) ∷ bad 1 ∷ good 1 (0x7F ∷ []) ∷ bad 2 ∷ bad 2 ∷ bad 1 ∷ bad 1 ∷ []
+    ≡ malformed 1 ∷ well_formed 1 (0x41 ∷ []) ∷ malformed 1 ∷ well_formed 1 (0x7F ∷ []) ∷ malformed 2 ∷ malformed 2 ∷ malformed 1 ∷ malformed 1 ∷ []
 unfolding sample pieces_in
 wrong_trails = refl
 
@@ -115,25 +115,25 @@ unfoldable neighbours : List ℕ
 neighbours = 0x4E00 ∷ (replicate 61 0 ++ (0x4E01 ∷ 0x4E02 ∷ (replicate 92 0 ++ (0x4E03 ∷ 0x4E04 ∷ []))))
 
 trail_ends : pieces_big5 neighbours (0x81 ∷ 0x40 ∷ 0x81 ∷ 0x7E ∷ 0x81 ∷ 0xA1 ∷ 0x81 ∷ 0xFE ∷ 0x82 ∷ 0x40 ∷ [])
-    ≡ good 2 (0x4E00 ∷ []) ∷ good 2 (0x4E01 ∷ []) ∷ good 2 (0x4E02 ∷ []) ∷ good 2 (0x4E03 ∷ []) ∷ good 2 (0x4E04 ∷ []) ∷ []
+    ≡ well_formed 2 (0x4E00 ∷ []) ∷ well_formed 2 (0x4E01 ∷ []) ∷ well_formed 2 (0x4E02 ∷ []) ∷ well_formed 2 (0x4E03 ∷ []) ∷ well_formed 2 (0x4E04 ∷ []) ∷ []
 unfolding neighbours pieces_in
 trail_ends = refl
 
 -- with another trail a pair is malformed, whatever the index holds: 3F and 7F are ASCII, and are read again
 no_trails : pieces_big5 (replicate 320 0x4E00) (0x81 ∷ 0x3F ∷ 0x81 ∷ 0x7F ∷ 0x81 ∷ 0x80 ∷ 0x81 ∷ 0xA0 ∷ 0x81 ∷ 0xFF ∷ [])
-    ≡ bad 1 ∷ good 1 (0x3F ∷ []) ∷ bad 1 ∷ good 1 (0x7F ∷ []) ∷ bad 2 ∷ bad 2 ∷ bad 2 ∷ []
+    ≡ malformed 1 ∷ well_formed 1 (0x3F ∷ []) ∷ malformed 1 ∷ well_formed 1 (0x7F ∷ []) ∷ malformed 2 ∷ malformed 2 ∷ malformed 2 ∷ []
 unfolding pieces_in
 no_trails = refl
 
 -- FE leads, at the pointers 19625 to 19781; 80 and FF do not
 last_lead : pieces_big5 (replicate 19625 0 ++ (0x4E00 ∷ (replicate 155 0 ++ (0x4E01 ∷ [])))) (0xFE ∷ 0x40 ∷ 0xFE ∷ 0xFE ∷ 0xFF ∷ 0x40 ∷ 0x80 ∷ 0x40 ∷ [])
-    ≡ good 2 (0x4E00 ∷ []) ∷ good 2 (0x4E01 ∷ []) ∷ bad 1 ∷ good 1 (0x40 ∷ []) ∷ bad 1 ∷ good 1 (0x40 ∷ []) ∷ []
+    ≡ well_formed 2 (0x4E00 ∷ []) ∷ well_formed 2 (0x4E01 ∷ []) ∷ malformed 1 ∷ well_formed 1 (0x40 ∷ []) ∷ malformed 1 ∷ well_formed 1 (0x40 ∷ []) ∷ []
 unfolding pieces_in
 last_lead = refl
 
 -- the four pointers give their letters whatever the index holds, and those beside them what it holds
 beside_letters : pieces_big5 (replicate 1168 0x4E00) (0x88 ∷ 0x61 ∷ 0x88 ∷ 0x62 ∷ 0x88 ∷ 0x63 ∷ 0x88 ∷ 0x64 ∷ 0x88 ∷ 0x65 ∷ 0x88 ∷ 0xA2 ∷ 0x88 ∷ 0xA3 ∷ 0x88 ∷ 0xA4 ∷ 0x88 ∷ 0xA5 ∷ 0x88 ∷ 0xA6 ∷ [])
-    ≡ good 2 (0x4E00 ∷ []) ∷ good 2 (0xCA ∷ 0x304 ∷ []) ∷ good 2 (0x4E00 ∷ []) ∷ good 2 (0xCA ∷ 0x30C ∷ []) ∷ good 2 (0x4E00 ∷ [])
-    ∷ good 2 (0x4E00 ∷ []) ∷ good 2 (0xEA ∷ 0x304 ∷ []) ∷ good 2 (0x4E00 ∷ []) ∷ good 2 (0xEA ∷ 0x30C ∷ []) ∷ good 2 (0x4E00 ∷ []) ∷ []
+    ≡ well_formed 2 (0x4E00 ∷ []) ∷ well_formed 2 (0xCA ∷ 0x304 ∷ []) ∷ well_formed 2 (0x4E00 ∷ []) ∷ well_formed 2 (0xCA ∷ 0x30C ∷ []) ∷ well_formed 2 (0x4E00 ∷ [])
+    ∷ well_formed 2 (0x4E00 ∷ []) ∷ well_formed 2 (0xEA ∷ 0x304 ∷ []) ∷ well_formed 2 (0x4E00 ∷ []) ∷ well_formed 2 (0xEA ∷ 0x30C ∷ []) ∷ well_formed 2 (0x4E00 ∷ []) ∷ []
 unfolding pieces_in
 beside_letters = refl

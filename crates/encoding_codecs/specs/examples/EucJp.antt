@@ -4,7 +4,7 @@ use Rattle.std.proofs.Common.{refl}
 use Rattle.std.specs.Int.{is_in_range}
 use Rattle.std.specs.Option.{option_map, option_or}
 use Rattle.encoding_mem.specs.Coding.{Coding}
-use Rattle.encoding_mem.specs.Piece.{Piece, good, bad}
+use Rattle.encoding_mem.specs.Piece.{Piece, well_formed, malformed}
 use Rattle.encoding_mem.specs.Pieces.{pieces_in, pieces_by}
 use Rattle.encoding_mem.specs.Stateless.{stateless}
 use Rattle.encoding_tables.specs.Lookups.{value_of, first_pointer}
@@ -12,9 +12,9 @@ use Rattle.encoding_mem.specs.declared.form.Form.{Form}
 use Rattle.encoding_mem.specs.declared.form.Form.TheVariants.{Unmapped, Mapped}
 use Rattle.encoding_codecs.specs.JisForms.{is_katakana_byte, katakana_of_byte, is_katakana, byte_of_katakana, folded}
 use Rattle.encoding_codecs.specs.Pointers.{value_of_entry, form_of_bytes}
-use Rattle.encoding_codecs.specs.TwoByte.{front_by_lead, after_bytes, piece_of_trail}
-use Rattle.encoding_codecs.specs.declared.lead_rule.FirstByte.{FirstByte}
-use Rattle.encoding_codecs.specs.declared.lead_rule.FirstByte.TheVariants.{Lead, Unused}
+use Rattle.encoding_codecs.specs.TwoByte.{first_piece_by_lead, after_bytes, piece_of_trail}
+use Rattle.encoding_codecs.specs.declared.lead_byte_rule.FirstByte.{FirstByte}
+use Rattle.encoding_codecs.specs.declared.lead_byte_rule.FirstByte.TheVariants.{Lead, Unused}
 use Rattle.encoding_codecs.specs.declared.two_byte.PairValue.{PairValue}
 use Rattle.encoding_codecs.specs.declared.two_byte.PairValue.TheVariants.{NoChar, OneChar}
 use Rattle.encoding_codecs.specs.EucJp.{pieces_euc_jp, euc_jp_pair_bytes, euc_jp_char_bytes, euc_jp_form}
@@ -27,27 +27,27 @@ unfoldable sample_0212 : List ℕ
 sample_0212 = 0 ∷ 0x02D8 ∷ []
 
 two_bytes : pieces_euc_jp sample sample_0212 (0xA1 ∷ 0xA6 ∷ 0x8E ∷ 0xDF ∷ 0x41 ∷ 0xA1 ∷ 0xDD ∷ [])
-    ≡ good 2 (0x30FB ∷ []) ∷ good 2 (0xFF9F ∷ []) ∷ good 1 (0x41 ∷ []) ∷ good 2 (0xFF0D ∷ []) ∷ []
+    ≡ well_formed 2 (0x30FB ∷ []) ∷ well_formed 2 (0xFF9F ∷ []) ∷ well_formed 1 (0x41 ∷ []) ∷ well_formed 2 (0xFF0D ∷ []) ∷ []
 unfolding sample sample_0212 pieces_in
 two_bytes = refl
 
 three_bytes : pieces_euc_jp sample sample_0212 (0x8F ∷ 0xA1 ∷ 0xA2 ∷ 0x8F ∷ 0xA1 ∷ 0xA6 ∷ [])
-    ≡ good 3 (0x02D8 ∷ []) ∷ bad 3 ∷ []
+    ≡ well_formed 3 (0x02D8 ∷ []) ∷ malformed 3 ∷ []
 unfolding sample sample_0212 pieces_in
 three_bytes = refl
 
 -- what is ASCII is left unread, behind one byte and behind two
 ascii_is_left : pieces_euc_jp sample sample_0212 (0x8F ∷ 0xA1 ∷ 0x41 ∷ 0x8F ∷ 0x42 ∷ 0x8E ∷ 0x43 ∷ 0xA1 ∷ 0x44 ∷ [])
-    ≡ bad 2 ∷ good 1 (0x41 ∷ []) ∷ bad 1 ∷ good 1 (0x42 ∷ []) ∷ bad 1 ∷ good 1 (0x43 ∷ []) ∷ bad 1 ∷ good 1 (0x44 ∷ []) ∷ []
+    ≡ malformed 2 ∷ well_formed 1 (0x41 ∷ []) ∷ malformed 1 ∷ well_formed 1 (0x42 ∷ []) ∷ malformed 1 ∷ well_formed 1 (0x43 ∷ []) ∷ malformed 1 ∷ well_formed 1 (0x44 ∷ []) ∷ []
 unfolding sample sample_0212 pieces_in
 ascii_is_left = refl
 
 other_is_read : pieces_euc_jp sample sample_0212 (0x8F ∷ 0xA0 ∷ 0x8E ∷ 0xE0 ∷ 0xA1 ∷ 0xA1 ∷ 0x80 ∷ 0xFF ∷ [])
-    ≡ bad 2 ∷ bad 2 ∷ bad 2 ∷ bad 1 ∷ bad 1 ∷ []
+    ≡ malformed 2 ∷ malformed 2 ∷ malformed 2 ∷ malformed 1 ∷ malformed 1 ∷ []
 unfolding sample sample_0212 pieces_in
 other_is_read = refl
 
-cut_short : (pieces_euc_jp sample sample_0212 (0x8F ∷ 0xA1 ∷ []) ≡ bad 2 ∷ []) × (pieces_euc_jp sample sample_0212 (0x8F ∷ []) ≡ bad 1 ∷ [])
+cut_short : (pieces_euc_jp sample sample_0212 (0x8F ∷ 0xA1 ∷ []) ≡ malformed 2 ∷ []) × (pieces_euc_jp sample sample_0212 (0x8F ∷ []) ≡ malformed 1 ∷ [])
 unfolding sample sample_0212 pieces_in
 cut_short = (refl, refl)
 
@@ -84,13 +84,13 @@ abbrev at : ℕ → ℕ → List ℕ
 at pointer c = replicate pointer 0 ++ (c ∷ [])
 
 -- U+4E9C at 1410, its row 16 and cell 1: B0 A1
-a_kanji : (pieces_euc_jp (at 1410 0x4E9C) [] (0xB0 ∷ 0xA1 ∷ []) ≡ good 2 (0x4E9C ∷ []) ∷ [])
+a_kanji : (pieces_euc_jp (at 1410 0x4E9C) [] (0xB0 ∷ 0xA1 ∷ []) ≡ well_formed 2 (0x4E9C ∷ []) ∷ [])
     × (euc_jp_form (at 1410 0x4E9C) 0x4E9C ≡ Mapped (0xB0 ∷ 0xA1 ∷ []))
 unfolding pieces_in
 a_kanji = (refl, refl)
 
 -- U+02D8 at 108 of jis0212, its row 2 and cell 15: 8F A2 AF; it is never written
-three_byte_kanji : (pieces_euc_jp [] (at 108 0x02D8) (0x8F ∷ 0xA2 ∷ 0xAF ∷ []) ≡ good 3 (0x02D8 ∷ []) ∷ [])
+three_byte_kanji : (pieces_euc_jp [] (at 108 0x02D8) (0x8F ∷ 0xA2 ∷ 0xAF ∷ []) ≡ well_formed 3 (0x02D8 ∷ []) ∷ [])
     × (euc_jp_form [] 0x02D8 ≡ Unmapped 0x02D8)
 unfolding pieces_in
 three_byte_kanji = (refl, refl)
@@ -105,36 +105,36 @@ unfoldable corners : List ℕ
 corners = 0x4E00 ∷ (replicate 92 0 ++ (0x4E01 ∷ 0x4E02 ∷ (replicate 8740 0 ++ (0x4E03 ∷ []))))
 
 pair_ends : pieces_euc_jp corners [] (0xA1 ∷ 0xA1 ∷ 0xA1 ∷ 0xFE ∷ 0xA2 ∷ 0xA1 ∷ 0xFE ∷ 0xFE ∷ [])
-    ≡ good 2 (0x4E00 ∷ []) ∷ good 2 (0x4E01 ∷ []) ∷ good 2 (0x4E02 ∷ []) ∷ good 2 (0x4E03 ∷ []) ∷ []
+    ≡ well_formed 2 (0x4E00 ∷ []) ∷ well_formed 2 (0x4E01 ∷ []) ∷ well_formed 2 (0x4E02 ∷ []) ∷ well_formed 2 (0x4E03 ∷ []) ∷ []
 unfolding corners pieces_in
 pair_ends = refl
 
 triple_ends : pieces_euc_jp [] corners (0x8F ∷ 0xA1 ∷ 0xA1 ∷ 0x8F ∷ 0xA1 ∷ 0xFE ∷ 0x8F ∷ 0xA2 ∷ 0xA1 ∷ 0x8F ∷ 0xFE ∷ 0xFE ∷ [])
-    ≡ good 3 (0x4E00 ∷ []) ∷ good 3 (0x4E01 ∷ []) ∷ good 3 (0x4E02 ∷ []) ∷ good 3 (0x4E03 ∷ []) ∷ []
+    ≡ well_formed 3 (0x4E00 ∷ []) ∷ well_formed 3 (0x4E01 ∷ []) ∷ well_formed 3 (0x4E02 ∷ []) ∷ well_formed 3 (0x4E03 ∷ []) ∷ []
 unfolding corners pieces_in
 triple_ends = refl
 
 -- A0 and FF are neither second nor third bytes, whatever the indexes hold
 no_trails : pieces_euc_jp (replicate 190 0x4E00) (replicate 190 0x4E00) (0xA1 ∷ 0xA0 ∷ 0xA1 ∷ 0xFF ∷ 0x8F ∷ 0xA0 ∷ 0x8F ∷ 0xFF ∷ 0x8F ∷ 0xA1 ∷ 0xA0 ∷ 0x8F ∷ 0xA1 ∷ 0xFF ∷ [])
-    ≡ bad 2 ∷ bad 2 ∷ bad 2 ∷ bad 2 ∷ bad 3 ∷ bad 3 ∷ []
+    ≡ malformed 2 ∷ malformed 2 ∷ malformed 2 ∷ malformed 2 ∷ malformed 3 ∷ malformed 3 ∷ []
 unfolding pieces_in
 no_trails = refl
 
 -- 7F is ASCII, 80 is not
 ascii_end : pieces_euc_jp [] [] (0xA1 ∷ 0x7F ∷ 0x8F ∷ 0xA1 ∷ 0x7F ∷ 0xA1 ∷ 0x80 ∷ 0x8F ∷ 0xA1 ∷ 0x80 ∷ [])
-    ≡ bad 1 ∷ good 1 (0x7F ∷ []) ∷ bad 2 ∷ good 1 (0x7F ∷ []) ∷ bad 2 ∷ bad 3 ∷ []
+    ≡ malformed 1 ∷ well_formed 1 (0x7F ∷ []) ∷ malformed 2 ∷ well_formed 1 (0x7F ∷ []) ∷ malformed 2 ∷ malformed 3 ∷ []
 unfolding pieces_in
 ascii_end = refl
 
 -- nothing begins with 80, 8D, 90, A0 or FF
 no_leads : pieces_euc_jp (replicate 8836 0x4E00) [] (0x80 ∷ 0x8D ∷ 0x90 ∷ 0xA0 ∷ 0xFF ∷ 0x41 ∷ [])
-    ≡ bad 1 ∷ bad 1 ∷ bad 1 ∷ bad 1 ∷ bad 1 ∷ good 1 (0x41 ∷ []) ∷ []
+    ≡ malformed 1 ∷ malformed 1 ∷ malformed 1 ∷ malformed 1 ∷ malformed 1 ∷ well_formed 1 (0x41 ∷ []) ∷ []
 unfolding pieces_in
 no_leads = refl
 
 -- behind 8E A1 to DF are halfwidth katakana
 katakana_ends : pieces_euc_jp [] [] (0x8E ∷ 0xA1 ∷ 0x8E ∷ 0xDF ∷ 0x8E ∷ 0xA0 ∷ 0x8E ∷ 0xE0 ∷ [])
-    ≡ good 2 (0xFF61 ∷ []) ∷ good 2 (0xFF9F ∷ []) ∷ bad 2 ∷ bad 2 ∷ []
+    ≡ well_formed 2 (0xFF61 ∷ []) ∷ well_formed 2 (0xFF9F ∷ []) ∷ malformed 2 ∷ malformed 2 ∷ []
 unfolding pieces_in
 katakana_ends = refl
 

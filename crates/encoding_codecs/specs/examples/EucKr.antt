@@ -2,16 +2,16 @@
 use Rattle.std.specs.Prelude.{◌≡◌, ℕ, ◌+◌, ◌-◌, ◌*◌, ◌/◌, ◌%◌, List, [], ◌∷◌, if◌then◌else◌, refl, map, replicate, ◌++◌}
 use Rattle.std.specs.Int.{is_in_range}
 use Rattle.encoding_mem.specs.Coding.{Coding}
-use Rattle.encoding_mem.specs.Piece.{Piece, good, bad}
+use Rattle.encoding_mem.specs.Piece.{Piece, well_formed, malformed}
 use Rattle.encoding_mem.specs.Pieces.{pieces_in, pieces_by}
 use Rattle.encoding_mem.specs.Stateless.{stateless}
 use Rattle.encoding_mem.specs.declared.form.Form.{Form}
 use Rattle.encoding_mem.specs.declared.form.Form.TheVariants.{Mapped, Unmapped}
 use Rattle.encoding_tables.specs.Lookups.{value_of, first_pointer}
-use Rattle.encoding_codecs.specs.TwoByte.{TwoByteRule, front_two_byte}
+use Rattle.encoding_codecs.specs.TwoByte.{TwoByteRule, first_piece_two_byte}
 use Rattle.encoding_codecs.specs.Pointers.{value_of_entry, form_by_pointer}
-use Rattle.encoding_codecs.specs.declared.lead_rule.FirstByte.{FirstByte}
-use Rattle.encoding_codecs.specs.declared.lead_rule.FirstByte.TheVariants.{Lead, Unused}
+use Rattle.encoding_codecs.specs.declared.lead_byte_rule.FirstByte.{FirstByte}
+use Rattle.encoding_codecs.specs.declared.lead_byte_rule.FirstByte.TheVariants.{Lead, Unused}
 use Rattle.encoding_codecs.specs.declared.two_byte.PairValue.{PairValue}
 use Rattle.encoding_codecs.specs.declared.two_byte.PairValue.TheVariants.{NoChar}
 use Rattle.encoding_codecs.specs.EucKr.{euc_kr_pointer, pieces_euc_kr, euc_kr_bytes, euc_kr_form}
@@ -20,16 +20,16 @@ use Rattle.encoding_codecs.specs.EucKr.{euc_kr_pointer, pieces_euc_kr, euc_kr_by
 unfoldable sample : List ℕ
 sample = 0xAC02 ∷ 0 ∷ 0xAC02 ∷ []
 
-characters : pieces_euc_kr sample (0x81 ∷ 0x43 ∷ 0x41 ∷ 0x81 ∷ 0x41 ∷ []) ≡ good 2 (0xAC02 ∷ []) ∷ good 1 (0x41 ∷ []) ∷ good 2 (0xAC02 ∷ []) ∷ []
+characters : pieces_euc_kr sample (0x81 ∷ 0x43 ∷ 0x41 ∷ 0x81 ∷ 0x41 ∷ []) ≡ well_formed 2 (0xAC02 ∷ []) ∷ well_formed 1 (0x41 ∷ []) ∷ well_formed 2 (0xAC02 ∷ []) ∷ []
 unfolding sample pieces_in
 characters = refl
 
 -- 42 is ASCII, and is read again; FF is no trail
-no_entry : pieces_euc_kr sample (0x81 ∷ 0x42 ∷ 0x81 ∷ 0xFF ∷ []) ≡ bad 1 ∷ good 1 (0x42 ∷ []) ∷ bad 2 ∷ []
+no_entry : pieces_euc_kr sample (0x81 ∷ 0x42 ∷ 0x81 ∷ 0xFF ∷ []) ≡ malformed 1 ∷ well_formed 1 (0x42 ∷ []) ∷ malformed 2 ∷ []
 unfolding sample pieces_in
 no_entry = refl
 
-unused : pieces_euc_kr sample (0x80 ∷ 0xFF ∷ 0x81 ∷ []) ≡ bad 1 ∷ bad 1 ∷ bad 1 ∷ []
+unused : pieces_euc_kr sample (0x80 ∷ 0xFF ∷ 0x81 ∷ []) ≡ malformed 1 ∷ malformed 1 ∷ malformed 1 ∷ []
 unfolding sample pieces_in
 unused = refl
 
@@ -59,13 +59,13 @@ unfoldable neighbours : List ℕ
 neighbours = 0xAC00 ∷ (replicate 188 0xAC01 ++ (0xAC02 ∷ 0xAC03 ∷ []))
 
 trail_ends : pieces_euc_kr neighbours (0x81 ∷ 0x41 ∷ 0x81 ∷ 0xFE ∷ 0x82 ∷ 0x41 ∷ 0x82 ∷ 0x40 ∷ 0x81 ∷ 0xFF ∷ [])
-    ≡ good 2 (0xAC00 ∷ []) ∷ good 2 (0xAC02 ∷ []) ∷ good 2 (0xAC03 ∷ []) ∷ bad 1 ∷ good 1 (0x40 ∷ []) ∷ bad 2 ∷ []
+    ≡ well_formed 2 (0xAC00 ∷ []) ∷ well_formed 2 (0xAC02 ∷ []) ∷ well_formed 2 (0xAC03 ∷ []) ∷ malformed 1 ∷ well_formed 1 (0x40 ∷ []) ∷ malformed 2 ∷ []
 unfolding neighbours pieces_in
 trail_ends = refl
 
 -- FE leads
 last_lead : pieces_euc_kr (replicate 23939 0 ++ (0xAC00 ∷ [])) (0xFE ∷ 0xFE ∷ 0xFF ∷ 0x41 ∷ [])
-    ≡ good 2 (0xAC00 ∷ []) ∷ bad 1 ∷ good 1 (0x41 ∷ []) ∷ []
+    ≡ well_formed 2 (0xAC00 ∷ []) ∷ malformed 1 ∷ well_formed 1 (0x41 ∷ []) ∷ []
 unfolding pieces_in
 last_lead = refl
 

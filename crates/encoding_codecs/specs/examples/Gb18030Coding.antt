@@ -2,8 +2,8 @@
 use Rattle.std.specs.Prelude.{◌≡◌, ℕ, ◌+◌, ◌/◌, ◌%◌, ◌==◌, ◌&&◌, not, Bool, true, false, List, [], ◌∷◌, nat_lt, if◌then◌else◌, Option, None, Some, refl, map, replicate, ◌++◌}
 use Rattle.std.specs.List.{find}
 use Rattle.std.specs.Option.{option_map, option_or}
-use Rattle.encoding_mem.specs.TextRoom.{text_room_gb18030, text_room_two_byte, line_for}
-use Rattle.encoding_mem.specs.declared.room.TextRoom.{TextRoom}
+use Rattle.encoding_mem.specs.EncodedLength.{encoded_length_gb18030, encoded_length_two_byte, bound_for}
+use Rattle.encoding_mem.specs.declared.room.EncodedLength.{EncodedLength}
 use Rattle.encoding_mem.specs.Coding.{Coding}
 use Rattle.encoding_mem.specs.Stateless.{stateless}
 use Rattle.encoding_mem.specs.declared.form.Form.{Form}
@@ -12,8 +12,8 @@ use Rattle.encoding_tables.specs.Lookups.{first_pointer}
 use Rattle.encoding_tables.specs.Ranges.{range_pointer}
 use Rattle.encoding_codecs.specs.Gb18030.{sample_flat, sample_rows}
 use Rattle.encoding_codecs.specs.Pointers.{form_of_bytes}
-use Rattle.encoding_codecs.specs.Gb18030Coding.{gb18030_pair_bytes, gb18030_form, four_bytes, gb18030_need, gb18030_text_room}
-use Rattle.encoding_mem.specs.Room.{line_at}
+use Rattle.encoding_codecs.specs.Gb18030Coding.{gb18030_pair_bytes, gb18030_form, four_bytes, gb18030_need, gb18030_encoded_length}
+use Rattle.encoding_mem.specs.DecodedLength.{bound_at}
 
 two_bytes : gb18030_form sample_flat sample_rows true 0x4E04 ≡ Mapped (0x81 ∷ 0x41 ∷ [])
 unfolding sample_flat
@@ -141,7 +141,7 @@ most_bytes = (refl, refl)
 
 -- the room for 7 units and for 7 bytes of text: 4n and 2n + 2 in gb18030, 2n and n + 1 in GBK
 room_of_text : Bool → Bool → ℕ
-room_of_text extended is_units = line_at (line_for (gb18030_text_room extended) is_units) 7
+room_of_text extended is_units = bound_at (bound_for (gb18030_encoded_length extended) is_units) 7
 
 rooms : (map (room_of_text true) (true ∷ false ∷ []) ≡ 28 ∷ 16 ∷ []) × (map (room_of_text false) (true ∷ false ∷ []) ≡ 14 ∷ 8 ∷ [])
 unfolding room_of_text

@@ -1,10 +1,10 @@
 -- Examples of ISO-2022-JP, worked by hand.
 use Rattle.std.specs.Prelude.{◌≡◌, ℕ, List, [], ◌∷◌, ◌++◌, replicate, refl, map}
 use Rattle.encoding_mem.specs.Coding.{output, open_from}
-use Rattle.encoding_mem.specs.Piece.{good, bad}
+use Rattle.encoding_mem.specs.Piece.{well_formed, malformed}
 use Rattle.encoding_mem.specs.Pieces.{pieces_in}
 use Rattle.encoding_mem.specs.declared.form.Form.TheVariants.{Mapped, Unmapped}
-use Rattle.encoding_mem.specs.declared.form.Set.TheVariants.{Ascii, Roman, Jis}
+use Rattle.encoding_mem.specs.declared.form.EscapeState.TheVariants.{Ascii, Roman, Jis}
 use Rattle.encoding_codecs.specs.Iso2022Jp.{parts, pieces_in_mode, pieces_iso_2022_jp}
 use Rattle.encoding_codecs.specs.Iso2022JpForms.{iso_2022_jp_form, iso_2022_jp_sets, set_after, iso_2022_jp_coding}
 
@@ -20,41 +20,41 @@ katakana = 0x3002 ∷ 0 ∷ []
 cut_before_each_1B : parts (0x41 ∷ 0x1B ∷ 0x28 ∷ 0x1B ∷ 0x1B ∷ 0x42 ∷ []) ≡ (0x41 ∷ []) ∷ (0x1B ∷ 0x28 ∷ []) ∷ (0x1B ∷ []) ∷ (0x1B ∷ 0x42 ∷ []) ∷ []
 cut_before_each_1B = refl
 
-escape_before_escape : pieces_iso_2022_jp jis0208 (0x1B ∷ 0x28 ∷ 0x42 ∷ 0x1B ∷ 0x28 ∷ 0x4A ∷ []) ≡ bad 3 ∷ good 3 [] ∷ []
+escape_before_escape : pieces_iso_2022_jp jis0208 (0x1B ∷ 0x28 ∷ 0x42 ∷ 0x1B ∷ 0x28 ∷ 0x4A ∷ []) ≡ malformed 3 ∷ well_formed 3 [] ∷ []
 unfolding pieces_in_mode pieces_in
 escape_before_escape = refl
 
-no_whole_escape : pieces_iso_2022_jp jis0208 (0x1B ∷ 0x24 ∷ 0x41 ∷ []) ≡ bad 1 ∷ good 1 (0x24 ∷ []) ∷ good 1 (0x41 ∷ []) ∷ []
+no_whole_escape : pieces_iso_2022_jp jis0208 (0x1B ∷ 0x24 ∷ 0x41 ∷ []) ≡ malformed 1 ∷ well_formed 1 (0x24 ∷ []) ∷ well_formed 1 (0x41 ∷ []) ∷ []
 unfolding pieces_in_mode pieces_in
 no_whole_escape = refl
 
--- a bad escape changes the mode too
+-- a malformed escape changes the mode too
 three_escapes : pieces_iso_2022_jp jis0208 (0x1B ∷ 0x24 ∷ 0x42 ∷ 0x1B ∷ 0x28 ∷ 0x42 ∷ 0x1B ∷ 0x28 ∷ 0x4A ∷ 0x5C ∷ [])
-    ≡ bad 3 ∷ bad 3 ∷ good 3 [] ∷ good 1 (0xA5 ∷ []) ∷ []
+    ≡ malformed 3 ∷ malformed 3 ∷ well_formed 3 [] ∷ well_formed 1 (0xA5 ∷ []) ∷ []
 unfolding pieces_in_mode pieces_in
 three_escapes = refl
 
--- what follows the front of an escape is read in the mode of the escape before it
-bad_escape_in_katakana : pieces_iso_2022_jp jis0208 (0x1B ∷ 0x28 ∷ 0x49 ∷ 0x1B ∷ 0x28 ∷ 0x21 ∷ []) ≡ good 3 [] ∷ bad 1 ∷ good 1 (0xFF68 ∷ []) ∷ good 1 (0xFF61 ∷ []) ∷ []
+-- what follows the prefix of an escape is read in the mode of the escape before it
+malformed_escape_in_katakana : pieces_iso_2022_jp jis0208 (0x1B ∷ 0x28 ∷ 0x49 ∷ 0x1B ∷ 0x28 ∷ 0x21 ∷ []) ≡ well_formed 3 [] ∷ malformed 1 ∷ well_formed 1 (0xFF68 ∷ []) ∷ well_formed 1 (0xFF61 ∷ []) ∷ []
 unfolding pieces_in_mode pieces_in
-bad_escape_in_katakana = refl
+malformed_escape_in_katakana = refl
 
-katakana_bytes : pieces_iso_2022_jp jis0208 (0x1B ∷ 0x28 ∷ 0x49 ∷ 0x21 ∷ 0x5F ∷ 0x60 ∷ []) ≡ good 3 [] ∷ good 1 (0xFF61 ∷ []) ∷ good 1 (0xFF9F ∷ []) ∷ bad 1 ∷ []
+katakana_bytes : pieces_iso_2022_jp jis0208 (0x1B ∷ 0x28 ∷ 0x49 ∷ 0x21 ∷ 0x5F ∷ 0x60 ∷ []) ≡ well_formed 3 [] ∷ well_formed 1 (0xFF61 ∷ []) ∷ well_formed 1 (0xFF9F ∷ []) ∷ malformed 1 ∷ []
 unfolding pieces_in_mode pieces_in
 katakana_bytes = refl
 
 there_and_back : pieces_iso_2022_jp jis0208 (0x41 ∷ 0x1B ∷ 0x24 ∷ 0x42 ∷ 0x25 ∷ 0x4F ∷ 0x1B ∷ 0x28 ∷ 0x42 ∷ 0x42 ∷ [])
-    ≡ good 1 (0x41 ∷ []) ∷ good 3 [] ∷ good 2 (0x30CF ∷ []) ∷ good 3 [] ∷ good 1 (0x42 ∷ []) ∷ []
+    ≡ well_formed 1 (0x41 ∷ []) ∷ well_formed 3 [] ∷ well_formed 2 (0x30CF ∷ []) ∷ well_formed 3 [] ∷ well_formed 1 (0x42 ∷ []) ∷ []
 unfolding pieces_in_mode pieces_in jis0208
 there_and_back = refl
 
 -- a first byte before 1B, before a wrong second byte, before one without an entry, and at the end
 half_a_character : pieces_iso_2022_jp jis0208 (0x1B ∷ 0x24 ∷ 0x40 ∷ 0x25 ∷ 0x1B ∷ 0x24 ∷ 0x42 ∷ 0x25 ∷ 0x80 ∷ 0x21 ∷ 0x21 ∷ 0x80 ∷ 0x25 ∷ [])
-    ≡ good 3 [] ∷ bad 1 ∷ good 3 [] ∷ bad 2 ∷ bad 2 ∷ bad 1 ∷ bad 1 ∷ []
+    ≡ well_formed 3 [] ∷ malformed 1 ∷ well_formed 3 [] ∷ malformed 2 ∷ malformed 2 ∷ malformed 1 ∷ malformed 1 ∷ []
 unfolding pieces_in_mode pieces_in jis0208
 half_a_character = refl
 
-shift_out : pieces_iso_2022_jp jis0208 (0x0E ∷ 0x41 ∷ 0x80 ∷ []) ≡ bad 1 ∷ good 1 (0x41 ∷ []) ∷ bad 1 ∷ []
+shift_out : pieces_iso_2022_jp jis0208 (0x0E ∷ 0x41 ∷ 0x80 ∷ []) ≡ malformed 1 ∷ well_formed 1 (0x41 ∷ []) ∷ malformed 1 ∷ []
 unfolding pieces_in_mode pieces_in
 shift_out = refl
 
@@ -98,7 +98,7 @@ unfoldable corners : List ℕ
 corners = 0x3000 ∷ (replicate 92 0 ++ (0x25C7 ∷ 0x25C6 ∷ (replicate 1315 0 ++ (0x4E9C ∷ (replicate 7424 0 ++ (0x4E00 ∷ []))))))
 
 pairs_are_read : pieces_iso_2022_jp corners (0x1B ∷ 0x24 ∷ 0x42 ∷ 0x21 ∷ 0x21 ∷ 0x21 ∷ 0x7E ∷ 0x22 ∷ 0x21 ∷ 0x30 ∷ 0x21 ∷ 0x7E ∷ 0x7E ∷ [])
-    ≡ good 3 [] ∷ good 2 (0x3000 ∷ []) ∷ good 2 (0x25C7 ∷ []) ∷ good 2 (0x25C6 ∷ []) ∷ good 2 (0x4E9C ∷ []) ∷ good 2 (0x4E00 ∷ []) ∷ []
+    ≡ well_formed 3 [] ∷ well_formed 2 (0x3000 ∷ []) ∷ well_formed 2 (0x25C7 ∷ []) ∷ well_formed 2 (0x25C6 ∷ []) ∷ well_formed 2 (0x4E9C ∷ []) ∷ well_formed 2 (0x4E00 ∷ []) ∷ []
 unfolding pieces_in_mode pieces_in corners
 pairs_are_read = refl
 
@@ -113,41 +113,41 @@ behind_the_last = refl
 
 -- 20 and 7F are neither first nor second bytes, whatever the index holds
 no_pairs : pieces_iso_2022_jp (replicate 200 0x4E00) (0x1B ∷ 0x24 ∷ 0x42 ∷ 0x20 ∷ 0x7F ∷ 0x21 ∷ 0x20 ∷ 0x21 ∷ 0x7F ∷ 0x22 ∷ 0x20 ∷ 0x22 ∷ 0x7F ∷ [])
-    ≡ good 3 [] ∷ bad 1 ∷ bad 1 ∷ bad 2 ∷ bad 2 ∷ bad 2 ∷ bad 2 ∷ []
+    ≡ well_formed 3 [] ∷ malformed 1 ∷ malformed 1 ∷ malformed 2 ∷ malformed 2 ∷ malformed 2 ∷ malformed 2 ∷ []
 unfolding pieces_in_mode pieces_in
 no_pairs = refl
 
 no_first_byte : pieces_iso_2022_jp (replicate 8930 0x4E00) (0x1B ∷ 0x24 ∷ 0x42 ∷ 0x7F ∷ 0x21 ∷ 0x21 ∷ [])
-    ≡ good 3 [] ∷ bad 1 ∷ good 2 (0x4E00 ∷ []) ∷ []
+    ≡ well_formed 3 [] ∷ malformed 1 ∷ well_formed 2 (0x4E00 ∷ []) ∷ []
 unfolding pieces_in_mode pieces_in
 no_first_byte = refl
 
 -- 5C and 7E are U+00A5 and U+203E in Roman, and other bytes what they are in ASCII
 roman_bytes : pieces_iso_2022_jp [] (0x1B ∷ 0x28 ∷ 0x4A ∷ 0x5B ∷ 0x5C ∷ 0x5D ∷ 0x7D ∷ 0x7E ∷ 0x7F ∷ 0x0E ∷ 0x0F ∷ 0x80 ∷ [])
-    ≡ good 3 [] ∷ good 1 (0x5B ∷ []) ∷ good 1 (0xA5 ∷ []) ∷ good 1 (0x5D ∷ []) ∷ good 1 (0x7D ∷ []) ∷ good 1 (0x203E ∷ []) ∷ good 1 (0x7F ∷ []) ∷ bad 1 ∷ bad 1 ∷ bad 1 ∷ []
+    ≡ well_formed 3 [] ∷ well_formed 1 (0x5B ∷ []) ∷ well_formed 1 (0xA5 ∷ []) ∷ well_formed 1 (0x5D ∷ []) ∷ well_formed 1 (0x7D ∷ []) ∷ well_formed 1 (0x203E ∷ []) ∷ well_formed 1 (0x7F ∷ []) ∷ malformed 1 ∷ malformed 1 ∷ malformed 1 ∷ []
 unfolding pieces_in_mode pieces_in
 roman_bytes = refl
 
 -- 0E, 0F and 1B are malformed in ASCII, the controls beside them are not
 controls : pieces_iso_2022_jp [] (0x0D ∷ 0x0E ∷ 0x0F ∷ 0x10 ∷ 0x1A ∷ 0x1B ∷ 0x1C ∷ 0x5C ∷ 0x7E ∷ 0x7F ∷ 0x80 ∷ [])
-    ≡ good 1 (0x0D ∷ []) ∷ bad 1 ∷ bad 1 ∷ good 1 (0x10 ∷ []) ∷ good 1 (0x1A ∷ []) ∷ bad 1 ∷ good 1 (0x1C ∷ []) ∷ good 1 (0x5C ∷ []) ∷ good 1 (0x7E ∷ []) ∷ good 1 (0x7F ∷ []) ∷ bad 1 ∷ []
+    ≡ well_formed 1 (0x0D ∷ []) ∷ malformed 1 ∷ malformed 1 ∷ well_formed 1 (0x10 ∷ []) ∷ well_formed 1 (0x1A ∷ []) ∷ malformed 1 ∷ well_formed 1 (0x1C ∷ []) ∷ well_formed 1 (0x5C ∷ []) ∷ well_formed 1 (0x7E ∷ []) ∷ well_formed 1 (0x7F ∷ []) ∷ malformed 1 ∷ []
 unfolding pieces_in_mode pieces_in
 controls = refl
 
 -- halfwidth katakana is 21 to 5F
 katakana_ends : pieces_iso_2022_jp [] (0x1B ∷ 0x28 ∷ 0x49 ∷ 0x20 ∷ 0x21 ∷ 0x5F ∷ 0x60 ∷ [])
-    ≡ good 3 [] ∷ bad 1 ∷ good 1 (0xFF61 ∷ []) ∷ good 1 (0xFF9F ∷ []) ∷ bad 1 ∷ []
+    ≡ well_formed 3 [] ∷ malformed 1 ∷ well_formed 1 (0xFF61 ∷ []) ∷ well_formed 1 (0xFF9F ∷ []) ∷ malformed 1 ∷ []
 unfolding pieces_in_mode pieces_in
 katakana_ends = refl
 
 -- 1B 24 40 and 1B 24 42 both go to pairs; 1B 24 28 42 and 1B 29 42 are no escapes
 both_to_pairs : pieces_iso_2022_jp corners (0x1B ∷ 0x24 ∷ 0x40 ∷ 0x21 ∷ 0x21 ∷ 0x1B ∷ 0x24 ∷ 0x42 ∷ 0x21 ∷ 0x21 ∷ [])
-    ≡ good 3 [] ∷ good 2 (0x3000 ∷ []) ∷ good 3 [] ∷ good 2 (0x3000 ∷ []) ∷ []
+    ≡ well_formed 3 [] ∷ well_formed 2 (0x3000 ∷ []) ∷ well_formed 3 [] ∷ well_formed 2 (0x3000 ∷ []) ∷ []
 unfolding pieces_in_mode pieces_in corners
 both_to_pairs = refl
 
 other_escapes : pieces_iso_2022_jp [] (0x1B ∷ 0x24 ∷ 0x28 ∷ 0x1B ∷ 0x29 ∷ 0x42 ∷ 0x1B ∷ 0x28 ∷ 0x48 ∷ [])
-    ≡ bad 1 ∷ good 1 (0x24 ∷ []) ∷ good 1 (0x28 ∷ []) ∷ bad 1 ∷ good 1 (0x29 ∷ []) ∷ good 1 (0x42 ∷ []) ∷ bad 1 ∷ good 1 (0x28 ∷ []) ∷ good 1 (0x48 ∷ []) ∷ []
+    ≡ malformed 1 ∷ well_formed 1 (0x24 ∷ []) ∷ well_formed 1 (0x28 ∷ []) ∷ malformed 1 ∷ well_formed 1 (0x29 ∷ []) ∷ well_formed 1 (0x42 ∷ []) ∷ malformed 1 ∷ well_formed 1 (0x28 ∷ []) ∷ well_formed 1 (0x48 ∷ []) ∷ []
 unfolding pieces_in_mode pieces_in
 other_escapes = refl
 

@@ -4,7 +4,7 @@ use Rattle.std.proofs.Common.{refl}
 use Rattle.std.specs.Int.{is_in_range}
 use Rattle.std.specs.Option.{option_map, option_or}
 use Rattle.encoding_mem.specs.Coding.{Coding}
-use Rattle.encoding_mem.specs.Piece.{Piece, good, bad}
+use Rattle.encoding_mem.specs.Piece.{Piece, well_formed, malformed}
 use Rattle.encoding_mem.specs.Pieces.{pieces_in, pieces_by}
 use Rattle.encoding_mem.specs.Stateless.{stateless}
 use Rattle.encoding_tables.specs.Lookups.{value_of, first_pointer}
@@ -12,9 +12,9 @@ use Rattle.encoding_mem.specs.declared.form.Form.{Form}
 use Rattle.encoding_mem.specs.declared.form.Form.TheVariants.{Mapped, Unmapped}
 use Rattle.encoding_codecs.specs.JisForms.{is_katakana_byte, katakana_of_byte, is_katakana, byte_of_katakana, folded}
 use Rattle.encoding_codecs.specs.Pointers.{value_of_entry, form_of_bytes}
-use Rattle.encoding_codecs.specs.TwoByte.{TwoByteRule, front_two_byte}
-use Rattle.encoding_codecs.specs.declared.lead_rule.FirstByte.{FirstByte}
-use Rattle.encoding_codecs.specs.declared.lead_rule.FirstByte.TheVariants.{Alone, Lead, Unused}
+use Rattle.encoding_codecs.specs.TwoByte.{TwoByteRule, first_piece_two_byte}
+use Rattle.encoding_codecs.specs.declared.lead_byte_rule.FirstByte.{FirstByte}
+use Rattle.encoding_codecs.specs.declared.lead_byte_rule.FirstByte.TheVariants.{Alone, Lead, Unused}
 use Rattle.encoding_codecs.specs.declared.two_byte.PairValue.{PairValue}
 use Rattle.encoding_codecs.specs.declared.two_byte.PairValue.TheVariants.{NoChar, OneChar}
 use Rattle.encoding_codecs.specs.ShiftJis.{shift_jis_pair_pointer, pieces_shift_jis, shift_jis_pair_bytes, shift_jis_char_bytes, shift_jis_form}
@@ -24,18 +24,18 @@ unfoldable sample : List ℕ
 sample = replicate 5 0 ++ (0x30FB ∷ 0 ∷ 0x4E00 ∷ 0 ∷ 0x4E00 ∷ (replicate 50 0 ++ 0xFF0D ∷ []))
 
 single_bytes : pieces_shift_jis sample (0x5C ∷ 0x7E ∷ 0x80 ∷ 0xA1 ∷ 0xDF ∷ 0xA0 ∷ 0xFD ∷ [])
-    ≡ good 1 (0x5C ∷ []) ∷ good 1 (0x7E ∷ []) ∷ good 1 (0x80 ∷ []) ∷ good 1 (0xFF61 ∷ []) ∷ good 1 (0xFF9F ∷ []) ∷ bad 1 ∷ bad 1 ∷ []
+    ≡ well_formed 1 (0x5C ∷ []) ∷ well_formed 1 (0x7E ∷ []) ∷ well_formed 1 (0x80 ∷ []) ∷ well_formed 1 (0xFF61 ∷ []) ∷ well_formed 1 (0xFF9F ∷ []) ∷ malformed 1 ∷ malformed 1 ∷ []
 unfolding sample pieces_in
 single_bytes = refl
 
 pairs : pieces_shift_jis sample (0x81 ∷ 0x45 ∷ 0x81 ∷ 0x7C ∷ 0x81 ∷ 0x5C ∷ 0x81 ∷ 0xA1 ∷ 0x81 ∷ [])
-    ≡ good 2 (0x30FB ∷ []) ∷ good 2 (0xFF0D ∷ []) ∷ bad 1 ∷ good 1 (0x5C ∷ []) ∷ bad 2 ∷ bad 1 ∷ []
+    ≡ well_formed 2 (0x30FB ∷ []) ∷ well_formed 2 (0xFF0D ∷ []) ∷ malformed 1 ∷ well_formed 1 (0x5C ∷ []) ∷ malformed 2 ∷ malformed 1 ∷ []
 unfolding sample pieces_in
 pairs = refl
 
 -- the first and the last characters for private use
 private_use : pieces_shift_jis sample (0xF0 ∷ 0x40 ∷ 0xF9 ∷ 0xFC ∷ 0xFA ∷ 0x40 ∷ [])
-    ≡ good 2 (0xE000 ∷ []) ∷ good 2 (0xE757 ∷ []) ∷ bad 1 ∷ good 1 (0x40 ∷ []) ∷ []
+    ≡ well_formed 2 (0xE000 ∷ []) ∷ well_formed 2 (0xE757 ∷ []) ∷ malformed 1 ∷ well_formed 1 (0x40 ∷ []) ∷ []
 unfolding sample pieces_in
 private_use = refl
 
@@ -74,14 +74,14 @@ abbrev at : ℕ → ℕ → List ℕ
 at pointer c = replicate pointer 0 ++ (c ∷ [])
 
 -- U+4E9C at 1410, its row 16 and cell 1: 88 9F
-a_kanji : (pieces_shift_jis (at 1410 0x4E9C) (0x88 ∷ 0x9F ∷ []) ≡ good 2 (0x4E9C ∷ []) ∷ [])
+a_kanji : (pieces_shift_jis (at 1410 0x4E9C) (0x88 ∷ 0x9F ∷ []) ≡ well_formed 2 (0x4E9C ∷ []) ∷ [])
     × (shift_jis_form (at 1410 0x4E9C) 0x4E9C ≡ Mapped (0x88 ∷ 0x9F ∷ []))
 unfolding pieces_in
 a_kanji = (refl, refl)
 
 -- ED 40 to EF FC, the pointers 8272 to 8835, are read and not written
 gap_is_read : pieces_shift_jis (replicate 8271 0 ++ (0x4E01 ∷ 0x4E00 ∷ (replicate 562 0 ++ (0x4E02 ∷ [])))) (0xEC ∷ 0xFC ∷ 0xED ∷ 0x40 ∷ 0xEF ∷ 0xFC ∷ [])
-    ≡ good 2 (0x4E01 ∷ []) ∷ good 2 (0x4E00 ∷ []) ∷ good 2 (0x4E02 ∷ []) ∷ []
+    ≡ well_formed 2 (0x4E01 ∷ []) ∷ well_formed 2 (0x4E00 ∷ []) ∷ well_formed 2 (0x4E02 ∷ []) ∷ []
 unfolding pieces_in
 gap_is_read = refl
 
@@ -99,7 +99,7 @@ last_of_index = refl
 
 -- beside the characters for private use, which the pointers 8836 to 10715 give, the index counts
 beside_private_use : pieces_shift_jis (replicate 11280 0x4E00) (0xEF ∷ 0xFC ∷ 0xF0 ∷ 0x40 ∷ 0xF0 ∷ 0x41 ∷ 0xF9 ∷ 0xFB ∷ 0xF9 ∷ 0xFC ∷ 0xFA ∷ 0x40 ∷ [])
-    ≡ good 2 (0x4E00 ∷ []) ∷ good 2 (0xE000 ∷ []) ∷ good 2 (0xE001 ∷ []) ∷ good 2 (0xE756 ∷ []) ∷ good 2 (0xE757 ∷ []) ∷ good 2 (0x4E00 ∷ []) ∷ []
+    ≡ well_formed 2 (0x4E00 ∷ []) ∷ well_formed 2 (0xE000 ∷ []) ∷ well_formed 2 (0xE001 ∷ []) ∷ well_formed 2 (0xE756 ∷ []) ∷ well_formed 2 (0xE757 ∷ []) ∷ well_formed 2 (0x4E00 ∷ []) ∷ []
 unfolding pieces_in
 beside_private_use = refl
 
@@ -112,23 +112,23 @@ unfoldable neighbours : List ℕ
 neighbours = 0x4E00 ∷ (replicate 61 0 ++ (0x4E01 ∷ 0x4E02 ∷ (replicate 123 0 ++ (0x4E03 ∷ 0x4E04 ∷ []))))
 
 trail_ends : pieces_shift_jis neighbours (0x81 ∷ 0x40 ∷ 0x81 ∷ 0x7E ∷ 0x81 ∷ 0x80 ∷ 0x81 ∷ 0xFC ∷ 0x82 ∷ 0x40 ∷ [])
-    ≡ good 2 (0x4E00 ∷ []) ∷ good 2 (0x4E01 ∷ []) ∷ good 2 (0x4E02 ∷ []) ∷ good 2 (0x4E03 ∷ []) ∷ good 2 (0x4E04 ∷ []) ∷ []
+    ≡ well_formed 2 (0x4E00 ∷ []) ∷ well_formed 2 (0x4E01 ∷ []) ∷ well_formed 2 (0x4E02 ∷ []) ∷ well_formed 2 (0x4E03 ∷ []) ∷ well_formed 2 (0x4E04 ∷ []) ∷ []
 unfolding neighbours pieces_in
 trail_ends = refl
 
 -- with another trail a pair is malformed: 3F and 7F are ASCII, and are read again
 no_trails : pieces_shift_jis (replicate 380 0x4E00) (0x81 ∷ 0x3F ∷ 0x81 ∷ 0x7F ∷ 0x81 ∷ 0xFD ∷ 0x81 ∷ 0xFF ∷ [])
-    ≡ bad 1 ∷ good 1 (0x3F ∷ []) ∷ bad 1 ∷ good 1 (0x7F ∷ []) ∷ bad 2 ∷ bad 2 ∷ []
+    ≡ malformed 1 ∷ well_formed 1 (0x3F ∷ []) ∷ malformed 1 ∷ well_formed 1 (0x7F ∷ []) ∷ malformed 2 ∷ malformed 2 ∷ []
 unfolding pieces_in
 no_trails = refl
 
 -- the leads are 81 to 9F and E0 to FC; A1 to DF are halfwidth katakana
-leads : pieces_shift_jis (replicate 11280 0x4E00) (0x9F ∷ 0xFC ∷ 0xE0 ∷ 0x40 ∷ 0xFC ∷ 0xFC ∷ []) ≡ replicate 3 (good 2 (0x4E00 ∷ []))
+leads : pieces_shift_jis (replicate 11280 0x4E00) (0x9F ∷ 0xFC ∷ 0xE0 ∷ 0x40 ∷ 0xFC ∷ 0xFC ∷ []) ≡ replicate 3 (well_formed 2 (0x4E00 ∷ []))
 unfolding pieces_in
 leads = refl
 
 no_leads : pieces_shift_jis (replicate 11280 0x4E00) (0x80 ∷ 0x40 ∷ 0xA0 ∷ 0x40 ∷ 0xA1 ∷ 0x40 ∷ 0xDF ∷ 0x40 ∷ 0xFD ∷ 0x40 ∷ 0xFF ∷ [])
-    ≡ good 1 (0x80 ∷ []) ∷ good 1 (0x40 ∷ []) ∷ bad 1 ∷ good 1 (0x40 ∷ []) ∷ good 1 (0xFF61 ∷ []) ∷ good 1 (0x40 ∷ []) ∷ good 1 (0xFF9F ∷ []) ∷ good 1 (0x40 ∷ []) ∷ bad 1 ∷ good 1 (0x40 ∷ []) ∷ bad 1 ∷ []
+    ≡ well_formed 1 (0x80 ∷ []) ∷ well_formed 1 (0x40 ∷ []) ∷ malformed 1 ∷ well_formed 1 (0x40 ∷ []) ∷ well_formed 1 (0xFF61 ∷ []) ∷ well_formed 1 (0x40 ∷ []) ∷ well_formed 1 (0xFF9F ∷ []) ∷ well_formed 1 (0x40 ∷ []) ∷ malformed 1 ∷ well_formed 1 (0x40 ∷ []) ∷ malformed 1 ∷ []
 unfolding pieces_in
 no_leads = refl
 

@@ -1,10 +1,10 @@
 -- Worked rows of `specs/TwoByte.antt`.
 use Rattle.std.specs.Prelude.{◌≡◌, ℕ, ◌+◌, ◌<◌, List, [], ◌∷◌, nat_lt, if◌then◌else◌, refl}
 use Rattle.std.specs.Char.{IsScalar}
-use Rattle.encoding_mem.specs.Piece.{Piece, good, bad}
+use Rattle.encoding_mem.specs.Piece.{Piece, well_formed, malformed}
 use Rattle.encoding_mem.specs.Pieces.{pieces_in, pieces_by}
-use Rattle.encoding_codecs.specs.declared.lead_rule.FirstByte.{FirstByte}
-use Rattle.encoding_codecs.specs.declared.lead_rule.FirstByte.TheVariants.{Alone, Lead, Unused}
+use Rattle.encoding_codecs.specs.declared.lead_byte_rule.FirstByte.{FirstByte}
+use Rattle.encoding_codecs.specs.declared.lead_byte_rule.FirstByte.TheVariants.{Alone, Lead, Unused}
 use Rattle.encoding_codecs.specs.declared.two_byte.PairValue.{PairValue}
 use Rattle.encoding_codecs.specs.declared.two_byte.PairValue.TheVariants.{NoChar, OneChar, TwoChars}
 use Rattle.encoding_codecs.specs.TwoByte.{TwoByteRule, pieces_two_byte}
@@ -20,19 +20,19 @@ unfoldable sample : TwoByteRule
 sample = record { first = sample_first; pair = sample_pair }
 
 characters : pieces_two_byte sample (0x41 ∷ 0x80 ∷ 0x81 ∷ 0xE1 ∷ 0xFE ∷ 0x61 ∷ [])
-    ≡ good 1 (0x41 ∷ []) ∷ good 1 (0x20AC ∷ []) ∷ good 2 (0xAC00 ∷ []) ∷ good 2 (0xCA ∷ 0x304 ∷ []) ∷ []
+    ≡ well_formed 1 (0x41 ∷ []) ∷ well_formed 1 (0x20AC ∷ []) ∷ well_formed 2 (0xAC00 ∷ []) ∷ well_formed 2 (0xCA ∷ 0x304 ∷ []) ∷ []
 unfolding sample pieces_in
 characters = refl
 
 -- a trail that gives nothing is left unread if it is ASCII
-ascii_is_left : pieces_two_byte sample (0x81 ∷ 0x41 ∷ []) ≡ bad 1 ∷ good 1 (0x41 ∷ []) ∷ []
+ascii_is_left : pieces_two_byte sample (0x81 ∷ 0x41 ∷ []) ≡ malformed 1 ∷ well_formed 1 (0x41 ∷ []) ∷ []
 unfolding sample pieces_in
 ascii_is_left = refl
 
-other_is_read : pieces_two_byte sample (0x81 ∷ 0x80 ∷ 0x41 ∷ []) ≡ bad 2 ∷ good 1 (0x41 ∷ []) ∷ []
+other_is_read : pieces_two_byte sample (0x81 ∷ 0x80 ∷ 0x41 ∷ []) ≡ malformed 2 ∷ well_formed 1 (0x41 ∷ []) ∷ []
 unfolding sample pieces_in
 other_is_read = refl
 
-unused_then_cut : pieces_two_byte sample (0xFF ∷ 0x81 ∷ []) ≡ bad 1 ∷ bad 1 ∷ []
+unused_then_cut : pieces_two_byte sample (0xFF ∷ 0x81 ∷ []) ≡ malformed 1 ∷ malformed 1 ∷ []
 unfolding sample pieces_in
 unused_then_cut = refl

@@ -1,6 +1,6 @@
 -- Rows of EUC-KR, Big5 and EUC-JP with entries at the pointers of their indexes.
 use Rattle.std.specs.Prelude.{◌≡◌, ℕ, List, [], ◌∷◌, ◌++◌, replicate, refl}
-use Rattle.encoding_mem.specs.Piece.{good, bad}
+use Rattle.encoding_mem.specs.Piece.{well_formed, malformed}
 use Rattle.encoding_mem.specs.Pieces.{pieces_in}
 use Rattle.encoding_mem.specs.declared.form.Form.TheVariants.{Mapped}
 use Rattle.encoding_codecs.specs.EucKr.{pieces_euc_kr, euc_kr_form}
@@ -11,7 +11,7 @@ use Rattle.encoding_codecs.specs.EucJp.{pieces_euc_jp}
 unfoldable wansung : List ℕ
 wansung = replicate 9026 0 ++ (0xAC00 ∷ [])
 
-a_lead_before_ascii : pieces_euc_kr wansung (0xB0 ∷ 0xA1 ∷ 0xB0 ∷ 0x41 ∷ []) ≡ good 2 (0xAC00 ∷ []) ∷ bad 1 ∷ good 1 (0x41 ∷ []) ∷ []
+a_lead_before_ascii : pieces_euc_kr wansung (0xB0 ∷ 0xA1 ∷ 0xB0 ∷ 0x41 ∷ []) ≡ well_formed 2 (0xAC00 ∷ []) ∷ malformed 1 ∷ well_formed 1 (0x41 ∷ []) ∷ []
 unfolding wansung pieces_in
 a_lead_before_ascii = refl
 
@@ -23,7 +23,7 @@ its_pointer = refl
 unfoldable ten : List ℕ
 ten = replicate 5287 0 ++ (0x5341 ∷ (replicate 224 0 ++ (0x5341 ∷ [])))
 
-both_pointers : pieces_big5 ten (0xA2 ∷ 0xCC ∷ 0xA4 ∷ 0x51 ∷ []) ≡ good 2 (0x5341 ∷ []) ∷ good 2 (0x5341 ∷ []) ∷ []
+both_pointers : pieces_big5 ten (0xA2 ∷ 0xCC ∷ 0xA4 ∷ 0x51 ∷ []) ≡ well_formed 2 (0x5341 ∷ []) ∷ well_formed 2 (0x5341 ∷ []) ∷ []
 unfolding ten pieces_in
 both_pointers = refl
 
@@ -32,10 +32,10 @@ unfolding ten
 the_last = refl
 
 -- EUC-JP with nothing in either index: three bytes that break off, and that have no character
-break_off : pieces_euc_jp [] [] (0x8F ∷ 0xA1 ∷ 0x41 ∷ 0x8E ∷ 0xB1 ∷ []) ≡ bad 2 ∷ good 1 (0x41 ∷ []) ∷ good 2 (0xFF71 ∷ []) ∷ []
+break_off : pieces_euc_jp [] [] (0x8F ∷ 0xA1 ∷ 0x41 ∷ 0x8E ∷ 0xB1 ∷ []) ≡ malformed 2 ∷ well_formed 1 (0x41 ∷ []) ∷ well_formed 2 (0xFF71 ∷ []) ∷ []
 unfolding pieces_in
 break_off = refl
 
-no_character : pieces_euc_jp [] [] (0x8F ∷ 0xA1 ∷ 0xA6 ∷ 0x8F ∷ 0xA1 ∷ []) ≡ bad 3 ∷ bad 2 ∷ []
+no_character : pieces_euc_jp [] [] (0x8F ∷ 0xA1 ∷ 0xA6 ∷ 0x8F ∷ 0xA1 ∷ []) ≡ malformed 3 ∷ malformed 2 ∷ []
 unfolding pieces_in
 no_character = refl

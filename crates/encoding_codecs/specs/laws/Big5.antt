@@ -13,8 +13,8 @@ use Rattle.encoding_codecs.specs.Pointers.{value_of_entry}
 use Rattle.encoding_codecs.specs.laws.Pointers.{is_value_of_entry, is_value_if, is_first_if, in_range, coding_by_pointer, IsPairOf, reads_by_pointer}
 use Rattle.encoding_mem.specs.Steps.{StepLaw, in_any_set}
 use Rattle.encoding_codecs.specs.laws.ExactReadBack.{ReadsEach, each_reads_back_exactly, reads_back_by_steps}
-use Rattle.encoding_codecs.specs.Big5.{big5_is_trail, big5_pointer, big5_value, big5_pair, big5_rule, front_big5, pieces_big5, takes_last, big5_find, big5_trail, big5_bytes, big5_form, big5_coding}
-use Rattle.encoding_codecs.specs.declared.lead_rule.FirstByte.TheVariants.{Lead, Unused}
+use Rattle.encoding_codecs.specs.Big5.{big5_is_trail, big5_pointer, big5_value, big5_pair, big5_rule, first_piece_big5, pieces_big5, takes_last, big5_find, big5_trail, big5_bytes, big5_form, big5_coding}
+use Rattle.encoding_codecs.specs.declared.lead_byte_rule.FirstByte.TheVariants.{Lead, Unused}
 use Rattle.encoding_codecs.specs.declared.two_byte.PairValue.TheVariants.{NoChar, OneChar, TwoChars}
 
 -- ---- values
@@ -95,13 +95,13 @@ found : (flat : List ℕ) (c p : ℕ) (t : Bool) → cond t (last_pointer flat c
 found flat c p true e = (rw e at (last_is_greatest flat c 5024 19782)).0
 found flat c p false e = (rw e at (first_is_least flat c 5024 19782)).0
 
-reads_each : (flat : List ℕ) → AreEntries flat → ReadsEach (front_big5 flat) (big5_form flat)
+reads_each : (flat : List ℕ) → AreEntries flat → ReadsEach (first_piece_big5 flat) (big5_form flat)
 reads_each flat scalars =
     reads_by_pointer (big5_rule flat) (big5_is_two_byte flat scalars) big5_bytes (big5_find flat)
     (λ c p high e. pair_of flat c p (found flat c p (takes_last c) e))
 
 pub big5_exact : (flat : List ℕ) → AreEntries flat → ReadsBackExactly (pieces_big5 flat) (big5_coding flat)
-big5_exact flat scalars = each_reads_back_exactly (front_big5 flat) (big5_form flat) (reads_each flat scalars)
+big5_exact flat scalars = each_reads_back_exactly (first_piece_big5 flat) (big5_form flat) (reads_each flat scalars)
 
 pub big5_steps : (flat : List ℕ) → AreEntries flat → StepLaw (big5_coding flat) (in_any_set (pieces_big5 flat))
-big5_steps flat scalars = reads_back_by_steps (front_big5 flat) (big5_form flat) (reads_each flat scalars)
+big5_steps flat scalars = reads_back_by_steps (first_piece_big5 flat) (big5_form flat) (reads_each flat scalars)

@@ -5,13 +5,13 @@ use Rattle.encoding_mem.specs.laws.Steps.{step_law}
 use Rattle.encoding_tables.specs.Lookups.{AreEntries}
 use Rattle.encoding_tables.specs.Ranges.{HaveScalars}
 use Rattle.encoding_codecs.specs.laws.TwoByte.{cuts_two_byte, cuts_rule}
-use Rattle.encoding_codecs.specs.ShiftJis.{shift_jis_rule, front_shift_jis, pieces_shift_jis, shift_jis_form, shift_jis_coding}
+use Rattle.encoding_codecs.specs.ShiftJis.{shift_jis_rule, first_piece_shift_jis, pieces_shift_jis, shift_jis_form, shift_jis_coding}
 use Rattle.encoding_codecs.specs.laws.ShiftJis.{shift_jis_is_two_byte}
 use Rattle.encoding_codecs.specs.laws.ShiftJisSteps.{shift_jis_steps}
-use Rattle.encoding_codecs.specs.EucJp.{front_euc_jp, pieces_euc_jp, euc_jp_form, euc_jp_coding}
+use Rattle.encoding_codecs.specs.EucJp.{first_piece_euc_jp, pieces_euc_jp, euc_jp_form, euc_jp_coding}
 use Rattle.encoding_codecs.specs.laws.EucJp.{euc_jp_is_lead_rule}
 use Rattle.encoding_codecs.specs.laws.EucJpSteps.{euc_jp_steps}
-use Rattle.encoding_codecs.specs.Gb18030.{front_gb18030, pieces_gb18030}
+use Rattle.encoding_codecs.specs.Gb18030.{first_piece_gb18030, pieces_gb18030}
 use Rattle.encoding_codecs.specs.Gb18030Coding.{gb18030_form, gb18030_coding}
 use Rattle.encoding_codecs.specs.laws.Gb18030.{cuts_gb18030}
 use Rattle.encoding_codecs.specs.laws.Gb18030Steps.{gb18030_steps}
@@ -19,17 +19,17 @@ use Rattle.encoding_codecs.specs.laws.Gb18030Steps.{gb18030_steps}
 pub shift_jis_step_law : (jis0208 : List ℕ) → AreEntries jis0208
     → StepLaw (shift_jis_coding jis0208) (in_any_set (pieces_shift_jis jis0208))
 shift_jis_step_law jis0208 scalars =
-    step_law (front_shift_jis jis0208) (shift_jis_form jis0208) (cuts_two_byte (shift_jis_rule jis0208) (shift_jis_is_two_byte jis0208 scalars))
+    step_law (first_piece_shift_jis jis0208) (shift_jis_form jis0208) (cuts_two_byte (shift_jis_rule jis0208) (shift_jis_is_two_byte jis0208 scalars))
     (shift_jis_steps jis0208)
 
 pub euc_jp_step_law : (jis0208 jis0212 : List ℕ) → AreEntries jis0208 → AreEntries jis0212
     → StepLaw (euc_jp_coding jis0208) (in_any_set (pieces_euc_jp jis0208 jis0212))
 euc_jp_step_law jis0208 jis0212 scalars more =
-    step_law (front_euc_jp jis0208 jis0212) (euc_jp_form jis0208) (cuts_rule _ _ _ (euc_jp_is_lead_rule jis0208 jis0212 scalars more))
+    step_law (first_piece_euc_jp jis0208 jis0212) (euc_jp_form jis0208) (cuts_rule _ _ _ (euc_jp_is_lead_rule jis0208 jis0212 scalars more))
     (euc_jp_steps jis0208 jis0212)
 
 pub gb18030_step_law : (flat : List ℕ) (rows : List (ℕ × ℕ)) (extended : Bool) → AreEntries flat → HaveScalars rows
     → StepLaw (gb18030_coding flat rows extended) (in_any_set (pieces_gb18030 flat rows))
 gb18030_step_law flat rows extended scalars values =
-    step_law (front_gb18030 flat rows) (gb18030_form flat rows extended) (cuts_gb18030 flat rows (record { entries = scalars; values = values }))
+    step_law (first_piece_gb18030 flat rows) (gb18030_form flat rows extended) (cuts_gb18030 flat rows (record { entries = scalars; values = values }))
     (gb18030_steps flat rows extended)

@@ -7,38 +7,38 @@ use Rattle.encoding_tables.specs.IndexLists.{IndexLists, entries_of, AreAccepted
 use Rattle.encoding_tables.specs.laws.SingleByteTables.{entries_scalars}
 use Rattle.encoding_tables.specs.declared.index_kind.IndexKind.TheVariants.{Big5, EucKr, Jis0208, Jis0212}
 use Rattle.encoding_codecs.specs.laws.TwoByte.{cuts_two_byte, cuts_rule}
-use Rattle.encoding_codecs.specs.Big5.{big5_rule, front_big5, pieces_big5, big5_coding}
+use Rattle.encoding_codecs.specs.Big5.{big5_rule, first_piece_big5, pieces_big5, big5_coding}
 use Rattle.encoding_codecs.specs.laws.Big5.{big5_is_two_byte, big5_exact}
-use Rattle.encoding_codecs.specs.EucJp.{front_euc_jp, pieces_euc_jp}
+use Rattle.encoding_codecs.specs.EucJp.{first_piece_euc_jp, pieces_euc_jp}
 use Rattle.encoding_codecs.specs.laws.EucJp.{euc_jp_is_lead_rule}
 use Rattle.encoding_codecs.specs.Iso2022Jp.{pieces_iso_2022_jp, ascii_mode}
 use Rattle.encoding_codecs.specs.laws.Iso2022Jp.{iso_2022_jp_are_pieces}
-use Rattle.encoding_codecs.specs.ShiftJis.{shift_jis_rule, front_shift_jis, pieces_shift_jis}
+use Rattle.encoding_codecs.specs.ShiftJis.{shift_jis_rule, first_piece_shift_jis, pieces_shift_jis}
 use Rattle.encoding_codecs.specs.laws.ShiftJis.{shift_jis_is_two_byte}
-use Rattle.encoding_codecs.specs.EucKr.{euc_kr_rule, front_euc_kr, pieces_euc_kr, euc_kr_coding}
+use Rattle.encoding_codecs.specs.EucKr.{euc_kr_rule, first_piece_euc_kr, pieces_euc_kr, euc_kr_coding}
 use Rattle.encoding_codecs.specs.laws.EucKr.{euc_kr_is_two_byte, euc_kr_exact}
 
 -- their pieces are pieces
 pub euc_kr_are_pieces : (t : IndexLists) → AreAcceptedTables t → (x : List ℕ) → ArePieces (pieces_euc_kr (entries_of t EucKr) x)
 euc_kr_are_pieces t h =
     let flat = entries_of t EucKr in
-    pieces_by-are_pieces (front_euc_kr flat) (cuts_two_byte (euc_kr_rule flat) (euc_kr_is_two_byte flat (entries_scalars t EucKr h)))
+    pieces_by-are_pieces (first_piece_euc_kr flat) (cuts_two_byte (euc_kr_rule flat) (euc_kr_is_two_byte flat (entries_scalars t EucKr h)))
 
 pub big5_are_pieces : (t : IndexLists) → AreAcceptedTables t → (x : List ℕ) → ArePieces (pieces_big5 (entries_of t Big5) x)
 big5_are_pieces t h =
     let flat = entries_of t Big5 in
-    pieces_by-are_pieces (front_big5 flat) (cuts_two_byte (big5_rule flat) (big5_is_two_byte flat (entries_scalars t Big5 h)))
+    pieces_by-are_pieces (first_piece_big5 flat) (cuts_two_byte (big5_rule flat) (big5_is_two_byte flat (entries_scalars t Big5 h)))
 
 pub shift_jis_are_pieces : (t : IndexLists) → AreAcceptedTables t → (x : List ℕ) → ArePieces (pieces_shift_jis (entries_of t Jis0208) x)
 shift_jis_are_pieces t h =
     let flat = entries_of t Jis0208 in
-    pieces_by-are_pieces (front_shift_jis flat) (cuts_two_byte (shift_jis_rule flat) (shift_jis_is_two_byte flat (entries_scalars t Jis0208 h)))
+    pieces_by-are_pieces (first_piece_shift_jis flat) (cuts_two_byte (shift_jis_rule flat) (shift_jis_is_two_byte flat (entries_scalars t Jis0208 h)))
 
 pub euc_jp_are_pieces : (t : IndexLists) → AreAcceptedTables t → (x : List ℕ) → ArePieces (pieces_euc_jp (entries_of t Jis0208) (entries_of t Jis0212) x)
 euc_jp_are_pieces t h =
     let jis0208 = entries_of t Jis0208 in
     let jis0212 = entries_of t Jis0212 in
-    pieces_by-are_pieces (front_euc_jp jis0208 jis0212) (cuts_rule _ _ _ (euc_jp_is_lead_rule jis0208 jis0212 (entries_scalars t Jis0208 h) (entries_scalars t Jis0212 h)))
+    pieces_by-are_pieces (first_piece_euc_jp jis0208 jis0212) (cuts_rule _ _ _ (euc_jp_is_lead_rule jis0208 jis0212 (entries_scalars t Jis0208 h) (entries_scalars t Jis0212 h)))
 
 pub iso_2022_jp_tables_are_pieces : (t : IndexLists) → AreAcceptedTables t → (x : List ℕ) → ArePieces (pieces_iso_2022_jp (entries_of t Jis0208) x)
 iso_2022_jp_tables_are_pieces t h = iso_2022_jp_are_pieces (entries_of t Jis0208) (entries_scalars t Jis0208 h) ascii_mode

@@ -4,11 +4,11 @@ use Rattle.std.specs.Prelude.{◌==◌, ◌||◌}
 use Rattle.std.proofs.lemmas.Bool.{lt-ltb}
 use Rattle.encoding_mem.specs.Coding.{IsCoding}
 use Rattle.encoding_mem.specs.Piece.{Piece, piece_len, Cuts}
-use Rattle.encoding_mem.specs.FrontPiece.{IsModest}
+use Rattle.encoding_mem.specs.DecoderRule.{IsModest}
 use Rattle.encoding_mem.specs.laws.Shows.{Shows, shows_cond, shows_cons}
-use Rattle.encoding_mem.specs.laws.Utf8.{cuts_cond, cuts_bad}
+use Rattle.encoding_mem.specs.laws.Utf8.{cuts_cond, cuts_malformed}
 use Rattle.encoding_mem.specs.declared.form.Form.TheVariants.{Mapped}
-use Rattle.encoding_mem.specs.declared.front.Front.{Front}
+use Rattle.encoding_mem.specs.declared.first_piece.FirstPiece.{FirstPiece}
 use Rattle.encoding_tables.specs.Lookups.{AreEntries, first_pointer}
 use Rattle.encoding_codecs.specs.EucJp.{is_pointer_byte, euc_jp_pair_pointer, euc_jp_first, euc_pair, euc_jp_pair, after_8f, euc_jp_after, own_bytes, euc_jp_pair_bytes, euc_jp_char_bytes, euc_jp_form, euc_jp_coding}
 use Rattle.encoding_codecs.specs.laws.EucJpDecide.{decide_8f, decide_euc_jp}
@@ -16,7 +16,7 @@ use Rattle.encoding_codecs.specs.JisForms.{folded, is_katakana, is_katakana_byte
 use Rattle.encoding_codecs.specs.laws.JisForms.{AreFew, few_or, few_map, few_if, few_one, few_two, few_none, two_byte_laws, katakana_is_char, first_if, pair_if}
 use Rattle.encoding_codecs.specs.laws.Pointers.{is_value_of_entry}
 use Rattle.encoding_codecs.specs.TwoByte.{IsFirstByte, IsPairValue, after_bytes, piece_of_trail}
-use Rattle.encoding_codecs.specs.laws.TwoByte.{IsLeadRule, some_after, shows_end, shows_trail, shows_after, cuts_trail, cuts_after, modest_trail, modest_after}
+use Rattle.encoding_codecs.specs.laws.TwoByte.{IsLeadByteRule, some_after, shows_end, shows_trail, shows_after, cuts_trail, cuts_after, modest_trail, modest_after}
 use Rattle.encoding_codecs.specs.declared.two_byte.PairValue.TheVariants.{NoChar, OneChar}
 
 -- a target of at most two bytes a character
@@ -70,7 +70,7 @@ shows_8f jis0212 scalars (b ∷ x) last =
     (shows_trail 1 NoChar b x last (omega arith) (omega arith) tt))
 
 cuts_8f : (jis0212 : List ℕ) → AreEntries jis0212 → (x : List ℕ) → Cuts (after_8f jis0212 x) (1 + length x)
-cuts_8f jis0212 scalars [] = cuts_bad 1 _ (omega arith) (omega arith)
+cuts_8f jis0212 scalars [] = cuts_malformed 1 _ (omega arith) (omega arith)
 cuts_8f jis0212 scalars (b ∷ x) =
     cuts_cond (is_pointer_byte b) (after_bytes 2 (euc_pair jis0212 b) x) (piece_of_trail 1 NoChar b) _
     (λ _. longer (cuts_after 2 (euc_pair jis0212 b) x (omega arith) (pair_by_index jis0212 scalars b)))
@@ -79,7 +79,7 @@ cuts_8f jis0212 scalars (b ∷ x) =
     longer : {p : Piece} → Cuts p (2 + length x) → Cuts p (1 + length (b ∷ x))
     longer h = record { piece = h.piece; within = omega (arith, h.within) }
 
-modest_either : (t : Bool) (F G : Front) → IsModest F → IsModest G → IsModest (cond t F G)
+modest_either : (t : Bool) (F G : FirstPiece) → IsModest F → IsModest G → IsModest (cond t F G)
 modest_either true F G h k = h
 modest_either false F G h k = k
 
@@ -93,7 +93,7 @@ modest_8f jis0212 scalars (b ∷ x) last =
 -- ---- the rule
 
 pub euc_jp_is_lead_rule : (jis0208 jis0212 : List ℕ) → AreEntries jis0208 → AreEntries jis0212
-    → IsLeadRule euc_jp_first (euc_jp_after jis0208 jis0212) (decide_euc_jp jis0208 jis0212)
+    → IsLeadByteRule euc_jp_first (euc_jp_after jis0208 jis0212) (decide_euc_jp jis0208 jis0212)
 euc_jp_is_lead_rule jis0208 jis0212 scalars more = record {
   firsts = firsts;
   cuts = λ a x _. cuts_cond (a == 0x8F) (after_8f jis0212 x) (after_bytes 1 (euc_jp_pair jis0208 a) x) _

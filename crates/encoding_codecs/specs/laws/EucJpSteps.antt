@@ -5,29 +5,29 @@ use Rattle.std.specs.Option.{option_map, option_or}
 use Rattle.std.proofs.lemmas.Bool.{le-ltb, ltb-true, ltb-false}
 use Rattle.std.proofs.lemmas.Bool.Decides.{nat_tests}
 use Rattle.encoding_mem.specs.Coding.{spelled}
-use Rattle.encoding_mem.specs.Piece.{good}
+use Rattle.encoding_mem.specs.Piece.{well_formed}
 use Rattle.encoding_mem.specs.Steps.{Returns, Strays, StepsReadBack}
 use Rattle.encoding_tables.specs.Lookups.{value_of, first_pointer}
-use Rattle.encoding_codecs.specs.EucJp.{is_pointer_byte, euc_jp_pair_pointer, euc_jp_first, euc_jp_pair, euc_jp_after, front_euc_jp, euc_jp_pair_bytes, euc_jp_form}
+use Rattle.encoding_codecs.specs.EucJp.{is_pointer_byte, euc_jp_pair_pointer, euc_jp_first, euc_jp_pair, euc_jp_after, first_piece_euc_jp, euc_jp_pair_bytes, euc_jp_form}
 use Rattle.encoding_codecs.specs.JisForms.{is_katakana_byte, katakana_of_byte, is_katakana, byte_of_katakana, folded}
 use Rattle.encoding_codecs.specs.laws.JisSteps.{choose, either_of_entry, either_of_none, pointer_before}
 use Rattle.encoding_codecs.specs.laws.Steps.{IsEither, one_either, by_piece, reference_strays}
 use Rattle.encoding_codecs.specs.TwoByte.{piece_of_first, piece_of_trail}
 use Rattle.encoding_codecs.specs.laws.TwoByte.{lead_ascii}
 use Rattle.encoding_codecs.specs.Pointers.{form_of_bytes}
-use Rattle.encoding_codecs.specs.declared.lead_rule.FirstByte.TheVariants.{Lead}
+use Rattle.encoding_codecs.specs.declared.lead_byte_rule.FirstByte.TheVariants.{Lead}
 use Rattle.encoding_codecs.specs.declared.two_byte.PairValue.{PairValue}
 use Rattle.encoding_codecs.specs.declared.two_byte.PairValue.TheVariants.{NoChar, OneChar}
 
 abbrev Steps : (jis0208 jis0212 : List ℕ) → ℕ → List ℕ → Type 0
-Steps jis0208 jis0212 c bytes = Returns (front_euc_jp jis0208 jis0212) bytes c ⊎ Strays (front_euc_jp jis0208 jis0212) bytes c
+Steps jis0208 jis0212 c bytes = Returns (first_piece_euc_jp jis0208 jis0212) bytes c ⊎ Strays (first_piece_euc_jp jis0208 jis0212) bytes c
 
-itself : (jis0208 jis0212 : List ℕ) (b : ℕ) (y : List ℕ) → b < 0x80 → front_euc_jp jis0208 jis0212 (b ∷ y) ≡ good 1 (b ∷ [])
+itself : (jis0208 jis0212 : List ℕ) (b : ℕ) (y : List ℕ) → b < 0x80 → first_piece_euc_jp jis0208 jis0212 (b ∷ y) ≡ well_formed 1 (b ∷ [])
 itself jis0208 jis0212 = lead_ascii euc_jp_first (euc_jp_after jis0208 jis0212)
 
 ascii_steps : (jis0208 jis0212 : List ℕ) (c b : ℕ) → b < 0x80 → Steps jis0208 jis0212 c (b ∷ [])
 ascii_steps jis0208 jis0212 c b low =
-    by_piece (front_euc_jp jis0208 jis0212) (b ∷ []) c (good 1 (b ∷ [])) (λ y. itself jis0208 jis0212 b y low) (one_either 1 c b)
+    by_piece (first_piece_euc_jp jis0208 jis0212) (b ∷ []) c (well_formed 1 (b ∷ [])) (λ y. itself jis0208 jis0212 b y low) (one_either 1 c b)
 
 -- ---- two bytes, of which the first is not 8F
 
@@ -42,7 +42,7 @@ pair_either jis0208 c a b =
 
 pair_steps : (jis0208 jis0212 : List ℕ) (c a b : ℕ) → 0x80 ≤ a → (a == 0x8F) ≡ false → euc_jp_first a ≡ Lead → Steps jis0208 jis0212 c (a ∷ b ∷ [])
 pair_steps jis0208 jis0212 c a b high other lead =
-    by_piece (front_euc_jp jis0208 jis0212) (a ∷ b ∷ []) c (piece_of_trail 1 (euc_jp_pair jis0208 a b) b)
+    by_piece (first_piece_euc_jp jis0208 jis0212) (a ∷ b ∷ []) c (piece_of_trail 1 (euc_jp_pair jis0208 a b) b)
     (λ y. rw (le-ltb a 0x80 high) (ap (λ o. piece_of_first o (euc_jp_after jis0208 jis0212 a (b ∷ y))) lead ∙ rw other refl))
     (pair_either jis0208 c a b)
 
@@ -54,7 +54,7 @@ pointer_lead a from to =
 
 pointer_steps : (jis0208 jis0212 : List ℕ) (c : ℕ) (o : Option ℕ) → 0x80 ≤ c → ((p : ℕ) → o ≡ Some p → p < 8836)
     → Steps jis0208 jis0212 c (spelled (form_of_bytes c (option_map euc_jp_pair_bytes o)))
-pointer_steps jis0208 jis0212 c None high before = inr (reference_strays (front_euc_jp jis0208 jis0212) (itself jis0208 jis0212) c c high)
+pointer_steps jis0208 jis0212 c None high before = inr (reference_strays (first_piece_euc_jp jis0208 jis0212) (itself jis0208 jis0212) c c high)
 pointer_steps jis0208 jis0212 c (Some p) high before =
     let below : p < 8836 = before p refl in
     let lead = pointer_lead (0xA1 + p / 94) (omega arith) (omega arith) in
@@ -66,7 +66,7 @@ pointer_steps jis0208 jis0212 c (Some p) high before =
 abbrev ByBytes : (jis0208 jis0212 : List ℕ) → ℕ → Option (List ℕ) → Type 0
 ByBytes jis0208 jis0212 c own = Steps jis0208 jis0212 c (spelled (form_of_bytes c (option_or own (option_map euc_jp_pair_bytes (first_pointer jis0208 (folded c) 0 8836)))))
 
-pub euc_jp_steps : (jis0208 jis0212 : List ℕ) → StepsReadBack (front_euc_jp jis0208 jis0212) (euc_jp_form jis0208)
+pub euc_jp_steps : (jis0208 jis0212 : List ℕ) → StepsReadBack (first_piece_euc_jp jis0208 jis0212) (euc_jp_form jis0208)
 euc_jp_steps jis0208 jis0212 c scalar =
     choose (ByBytes jis0208 jis0212 c) (nat_lt c 0x80) (Some (c ∷ [])) _
     (λ low. ascii_steps jis0208 jis0212 c c (ltb-true c 0x80 low))

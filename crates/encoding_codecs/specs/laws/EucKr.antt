@@ -11,8 +11,8 @@ use Rattle.encoding_codecs.specs.Pointers.{value_of_entry}
 use Rattle.encoding_codecs.specs.laws.Pointers.{is_value_of_entry, is_value_if, is_first_if, coding_by_pointer, IsPairOf, in_range, reads_by_pointer}
 use Rattle.encoding_mem.specs.Steps.{StepLaw, in_any_set}
 use Rattle.encoding_codecs.specs.laws.ExactReadBack.{ReadsEach, each_reads_back_exactly, reads_back_by_steps}
-use Rattle.encoding_codecs.specs.EucKr.{euc_kr_pointer, euc_kr_rule, front_euc_kr, pieces_euc_kr, euc_kr_bytes, euc_kr_form, euc_kr_coding}
-use Rattle.encoding_codecs.specs.declared.lead_rule.FirstByte.TheVariants.{Lead, Unused}
+use Rattle.encoding_codecs.specs.EucKr.{euc_kr_pointer, euc_kr_rule, first_piece_euc_kr, pieces_euc_kr, euc_kr_bytes, euc_kr_form, euc_kr_coding}
+use Rattle.encoding_codecs.specs.declared.lead_byte_rule.FirstByte.TheVariants.{Lead, Unused}
 use Rattle.encoding_codecs.specs.declared.two_byte.PairValue.TheVariants.{NoChar}
 
 pub euc_kr_is_two_byte : (flat : List ℕ) → AreEntries flat → IsTwoByte (euc_kr_rule flat)
@@ -41,13 +41,13 @@ pair_of flat c p h =
 found : (flat : List ℕ) (c p : ℕ) → first_pointer flat c 0 23940 ≡ Some p → IsPointer flat c 0 23940 p
 found flat c p e = (rw e at (first_is_least flat c 0 23940)).0
 
-reads_each : (flat : List ℕ) → AreEntries flat → ReadsEach (front_euc_kr flat) (euc_kr_form flat)
+reads_each : (flat : List ℕ) → AreEntries flat → ReadsEach (first_piece_euc_kr flat) (euc_kr_form flat)
 reads_each flat scalars =
     reads_by_pointer (euc_kr_rule flat) (euc_kr_is_two_byte flat scalars) euc_kr_bytes (λ c. first_pointer flat c 0 23940)
     (λ c p high e. pair_of flat c p (found flat c p e))
 
 pub euc_kr_exact : (flat : List ℕ) → AreEntries flat → ReadsBackExactly (pieces_euc_kr flat) (euc_kr_coding flat)
-euc_kr_exact flat scalars = each_reads_back_exactly (front_euc_kr flat) (euc_kr_form flat) (reads_each flat scalars)
+euc_kr_exact flat scalars = each_reads_back_exactly (first_piece_euc_kr flat) (euc_kr_form flat) (reads_each flat scalars)
 
 pub euc_kr_steps : (flat : List ℕ) → AreEntries flat → StepLaw (euc_kr_coding flat) (in_any_set (pieces_euc_kr flat))
-euc_kr_steps flat scalars = reads_back_by_steps (front_euc_kr flat) (euc_kr_form flat) (reads_each flat scalars)
+euc_kr_steps flat scalars = reads_back_by_steps (first_piece_euc_kr flat) (euc_kr_form flat) (reads_each flat scalars)

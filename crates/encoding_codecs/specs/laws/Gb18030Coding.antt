@@ -4,12 +4,12 @@ use Rattle.std.specs.Prelude.{◌==◌, ◌&&◌, not, IfSome}
 use Rattle.std.specs.Option.{option_map, option_or}
 use Rattle.encoding_mem.specs.Coding.{IsCoding, FitsNeed}
 use Rattle.encoding_mem.specs.laws.Stateless.{stateless_laws, short_one, short_none}
-use Rattle.encoding_mem.specs.TextRoom.{IsRoomFor}
-use Rattle.encoding_mem.specs.laws.TextRoom.{two_byte_room, four_byte_room}
+use Rattle.encoding_mem.specs.EncodedLength.{IsRoomFor}
+use Rattle.encoding_mem.specs.laws.EncodedLength.{two_byte_room, four_byte_room}
 use Rattle.std.proofs.lemmas.Bool.{lt-ltb}
 use Rattle.encoding_tables.specs.Lookups.{first_pointer}
 use Rattle.encoding_tables.specs.Ranges.{range_pointer}
-use Rattle.encoding_codecs.specs.Gb18030Coding.{fixed_pair, two_of, gb18030_pair_bytes, four_bytes, index_bytes, range_bytes, gb18030_bytes, gb18030_form, gb18030_coding, gb18030_need, gb18030_text_room}
+use Rattle.encoding_codecs.specs.Gb18030Coding.{fixed_pair, two_of, gb18030_pair_bytes, four_bytes, index_bytes, range_bytes, gb18030_bytes, gb18030_form, gb18030_coding, gb18030_need, gb18030_encoded_length}
 use Rattle.encoding_codecs.specs.Pointers.{form_of_bytes}
 
 -- at most n bytes, where there are any
@@ -66,6 +66,6 @@ gb18030_laws flat rows extended = stateless_laws (gb18030_need extended) (gb1803
 one_byte : (flat : List ℕ) (rows : List (ℕ × ℕ)) (extended : Bool) (c : ℕ) → c < 0x80 → FitsNeed 1 (gb18030_form flat rows extended c)
 one_byte flat rows extended c low = rw (lt-ltb c 0x80 low) short_one
 
-pub gb18030_fits : (flat : List ℕ) (rows : List (ℕ × ℕ)) (extended : Bool) → IsRoomFor (gb18030_coding flat rows extended) (gb18030_text_room extended)
+pub gb18030_fits : (flat : List ℕ) (rows : List (ℕ × ℕ)) (extended : Bool) → IsRoomFor (gb18030_coding flat rows extended) (gb18030_encoded_length extended)
 gb18030_fits flat rows true = four_byte_room (gb18030_form flat rows true) (gb18030_laws flat rows true).short (one_byte flat rows true)
 gb18030_fits flat rows false = two_byte_room (gb18030_form flat rows false) (gb18030_laws flat rows false).short (one_byte flat rows false)

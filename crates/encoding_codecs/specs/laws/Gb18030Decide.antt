@@ -3,24 +3,24 @@
 use Rattle.std.specs.Prelude.{ℕ, Bool, List, [], ◌∷◌, if◌then◌else◌, Option, None, Some}
 use Rattle.std.specs.Int.{is_in_range}
 use Rattle.encoding_mem.specs.laws.Utf8Decide.{cut_short}
-use Rattle.encoding_mem.specs.declared.front.Front.{Front}
-use Rattle.encoding_mem.specs.declared.front.Front.TheVariants.{One, Bad}
+use Rattle.encoding_mem.specs.declared.first_piece.FirstPiece.{FirstPiece}
+use Rattle.encoding_mem.specs.declared.first_piece.FirstPiece.TheVariants.{One, Malformed}
 use Rattle.encoding_tables.specs.Ranges.{range_value}
 use Rattle.encoding_codecs.specs.laws.TwoByteDecide.{decide_trail}
 use Rattle.encoding_codecs.specs.Gb18030.{gb18030_pair, four_pointer}
 
-abbrev pub decide_four : Option ℕ → Front
-decide_four None = Bad 4
+abbrev pub decide_four : Option ℕ → FirstPiece
+decide_four None = Malformed 4
 decide_four (Some c) = One c 4
 
-abbrev pub gb18030_decide_three : List (ℕ × ℕ) → ℕ → ℕ → ℕ → List ℕ → Bool → Front
+abbrev pub gb18030_decide_three : List (ℕ × ℕ) → ℕ → ℕ → ℕ → List ℕ → Bool → FirstPiece
 gb18030_decide_three rows a b c [] last = cut_short 3 last
-gb18030_decide_three rows a b c (d ∷ x) last = if is_in_range 0x30 0x39 d then decide_four (range_value rows (four_pointer a b c d)) else Bad 1
+gb18030_decide_three rows a b c (d ∷ x) last = if is_in_range 0x30 0x39 d then decide_four (range_value rows (four_pointer a b c d)) else Malformed 1
 
-abbrev pub gb18030_decide_two : List (ℕ × ℕ) → ℕ → ℕ → List ℕ → Bool → Front
+abbrev pub gb18030_decide_two : List (ℕ × ℕ) → ℕ → ℕ → List ℕ → Bool → FirstPiece
 gb18030_decide_two rows a b [] last = cut_short 2 last
-gb18030_decide_two rows a b (c ∷ x) last = if is_in_range 0x81 0xFE c then gb18030_decide_three rows a b c x last else Bad 1
+gb18030_decide_two rows a b (c ∷ x) last = if is_in_range 0x81 0xFE c then gb18030_decide_three rows a b c x last else Malformed 1
 
-abbrev pub gb18030_decide_lead : List ℕ → List (ℕ × ℕ) → ℕ → List ℕ → Bool → Front
+abbrev pub gb18030_decide_lead : List ℕ → List (ℕ × ℕ) → ℕ → List ℕ → Bool → FirstPiece
 gb18030_decide_lead flat rows a [] last = cut_short 1 last
 gb18030_decide_lead flat rows a (b ∷ x) last = if is_in_range 0x30 0x39 b then gb18030_decide_two rows a b x last else decide_trail 1 (gb18030_pair flat a b) b

@@ -7,7 +7,7 @@ use Rattle.std.specs.Option.{option_map, option_or}
 use Rattle.std.proofs.lemmas.Bool.{cases_lt, lt-ltb, le-ltb, leb-true, and_parts}
 use Rattle.std.proofs.lemmas.Bool.Decides.{nat_tests}
 use Rattle.encoding_mem.specs.Coding.{spelled}
-use Rattle.encoding_mem.specs.Piece.{good, bad}
+use Rattle.encoding_mem.specs.Piece.{well_formed, malformed}
 use Rattle.encoding_mem.specs.Steps.{Returns, Strays, StepsReadBack}
 use Rattle.encoding_tables.specs.Lookups.{value_of, first_pointer}
 use Rattle.encoding_tables.specs.LookupLaws.{IsPointer}
@@ -19,9 +19,9 @@ use Rattle.encoding_codecs.specs.TwoByte.{piece_of_trail}
 use Rattle.encoding_codecs.specs.laws.TwoByte.{lead_ascii}
 use Rattle.encoding_codecs.specs.Pointers.{value_of_entry, form_of_bytes}
 use Rattle.encoding_codecs.specs.declared.two_byte.PairValue.TheVariants.{NoChar}
-use Rattle.encoding_codecs.specs.Gb18030.{gb18030_first, gb18030_pair, pair_pointer, four_pointer, piece_of_four, gb18030_after_two, gb18030_after_lead, front_gb18030}
+use Rattle.encoding_codecs.specs.Gb18030.{gb18030_first, gb18030_pair, pair_pointer, four_pointer, piece_of_four, gb18030_after_two, gb18030_after_lead, first_piece_gb18030}
 use Rattle.encoding_codecs.specs.Gb18030Coding.{fixed_rows, fixed_pair, two_of, gb18030_trail, gb18030_pair_bytes, four_bytes, index_bytes, range_bytes, gb18030_form}
-use Rattle.encoding_codecs.specs.laws.Steps.{IsEither, bad_either, one_either, either_if, by_piece, reference_strays}
+use Rattle.encoding_codecs.specs.laws.Steps.{IsEither, malformed_either, one_either, either_if, by_piece, reference_strays}
 
 -- ---- the first piece of a lead and what follows it
 
@@ -34,40 +34,40 @@ no_digit b from = grind (arith, nat_tests)
 no_euro : (a : ℕ) → 0x81 ≤ a → (a == 0x80) ≡ false
 no_euro a from = grind (arith, nat_tests)
 
-lead_front : (flat : List ℕ) (rows : List (ℕ × ℕ)) (a : ℕ) (x : List ℕ) → 0x81 ≤ a → a ≤ 0xFE → front_gb18030 flat rows (a ∷ x) ≡ gb18030_after_lead flat rows a x
-lead_front flat rows a x from to = rw (le-ltb a 0x80 (omega (arith, from)), no_euro a from, in_range 0x81 0xFE a from to) refl
+lead_first_piece : (flat : List ℕ) (rows : List (ℕ × ℕ)) (a : ℕ) (x : List ℕ) → 0x81 ≤ a → a ≤ 0xFE → first_piece_gb18030 flat rows (a ∷ x) ≡ gb18030_after_lead flat rows a x
+lead_first_piece flat rows a x from to = rw (le-ltb a 0x80 (omega (arith, from)), no_euro a from, in_range 0x81 0xFE a from to) refl
 
-pair_front : (flat : List ℕ) (rows : List (ℕ × ℕ)) (a b : ℕ) (y : List ℕ) → 0x81 ≤ a → a ≤ 0xFE → 0x40 ≤ b
-    → front_gb18030 flat rows (a ∷ b ∷ y) ≡ piece_of_trail 1 (gb18030_pair flat a b) b
-pair_front flat rows a b y from to trail =
-    lead_front flat rows a (b ∷ y) from to
+pair_first_piece : (flat : List ℕ) (rows : List (ℕ × ℕ)) (a b : ℕ) (y : List ℕ) → 0x81 ≤ a → a ≤ 0xFE → 0x40 ≤ b
+    → first_piece_gb18030 flat rows (a ∷ b ∷ y) ≡ piece_of_trail 1 (gb18030_pair flat a b) b
+pair_first_piece flat rows a b y from to trail =
+    lead_first_piece flat rows a (b ∷ y) from to
     ∙ ap (λ t. cond t (gb18030_after_two rows a b y) (piece_of_trail 1 (gb18030_pair flat a b) b)) (no_digit b trail)
 
 -- a pair gives one scalar or none
 trail_either : (c b : ℕ) (t : Bool) (o : Option ℕ) → IsEither 2 c (piece_of_trail 1 (cond t (value_of_entry o) NoChar) b)
 trail_either c b true (Some d) = one_either 2 c d
-trail_either c b true None = either_if 2 c (nat_lt b 0x80) (bad 1) (bad 2) (bad_either 2 1 c (omega arith)) (bad_either 2 2 c (omega arith))
-trail_either c b false o = either_if 2 c (nat_lt b 0x80) (bad 1) (bad 2) (bad_either 2 1 c (omega arith)) (bad_either 2 2 c (omega arith))
+trail_either c b true None = either_if 2 c (nat_lt b 0x80) (malformed 1) (malformed 2) (malformed_either 2 1 c (omega arith)) (malformed_either 2 2 c (omega arith))
+trail_either c b false o = either_if 2 c (nat_lt b 0x80) (malformed 1) (malformed 2) (malformed_either 2 1 c (omega arith)) (malformed_either 2 2 c (omega arith))
 
 four_either : (c : ℕ) (o : Option ℕ) → IsEither 4 c (piece_of_four o)
-four_either c None = bad_either 4 4 c (omega arith)
+four_either c None = malformed_either 4 4 c (omega arith)
 four_either c (Some d) = one_either 4 c d
 
 -- ---- bytes by where they come from
 
 abbrev Steps : List ℕ → List (ℕ × ℕ) → ℕ → List ℕ → Type 0
-Steps flat rows c bs = Returns (front_gb18030 flat rows) bs c ⊎ Strays (front_gb18030 flat rows) bs c
+Steps flat rows c bs = Returns (first_piece_gb18030 flat rows) bs c ⊎ Strays (first_piece_gb18030 flat rows) bs c
 
 pair_steps : (flat : List ℕ) (rows : List (ℕ × ℕ)) (c a b : ℕ) → 0x81 ≤ a → a ≤ 0xFE → 0x40 ≤ b → Steps flat rows c (a ∷ b ∷ [])
 pair_steps flat rows c a b from to trail =
-    by_piece (front_gb18030 flat rows) (a ∷ b ∷ []) c (piece_of_trail 1 (gb18030_pair flat a b) b) (λ y. pair_front flat rows a b y from to trail)
+    by_piece (first_piece_gb18030 flat rows) (a ∷ b ∷ []) c (piece_of_trail 1 (gb18030_pair flat a b) b) (λ y. pair_first_piece flat rows a b y from to trail)
     (trail_either c b (is_in_range 0x40 0x7E b || is_in_range 0x80 0xFE b) (value_of flat (pair_pointer a b)))
 
 four_steps : (flat : List ℕ) (rows : List (ℕ × ℕ)) (s a b c d : ℕ) → 0x81 ≤ a → a ≤ 0xFE → 0x30 ≤ b → b ≤ 0x39 → 0x81 ≤ c → c ≤ 0xFE → 0x30 ≤ d → d ≤ 0x39
     → Steps flat rows s (a ∷ b ∷ c ∷ d ∷ [])
 four_steps flat rows s a b c d from_a to_a from_b to_b from_c to_c from_d to_d =
-    by_piece (front_gb18030 flat rows) (a ∷ b ∷ c ∷ d ∷ []) s (piece_of_four (range_value rows (four_pointer a b c d)))
-    (λ y. lead_front flat rows a (b ∷ c ∷ d ∷ y) from_a to_a ∙ rw (in_range 0x30 0x39 b from_b to_b, in_range 0x81 0xFE c from_c to_c, in_range 0x30 0x39 d from_d to_d) refl)
+    by_piece (first_piece_gb18030 flat rows) (a ∷ b ∷ c ∷ d ∷ []) s (piece_of_four (range_value rows (four_pointer a b c d)))
+    (λ y. lead_first_piece flat rows a (b ∷ c ∷ d ∷ y) from_a to_a ∙ rw (in_range 0x30 0x39 b from_b to_b, in_range 0x81 0xFE c from_c to_c, in_range 0x30 0x39 d from_d to_d) refl)
     (four_either s (range_value rows (four_pointer a b c d)))
 
 -- the rows of the standard's table
@@ -149,11 +149,11 @@ steps_or : (flat : List ℕ) (rows : List (ℕ × ℕ)) (c : ℕ) (o p : Option 
 steps_or flat rows c None p h k = k
 steps_or flat rows c (Some bs) p h k = h bs refl
 
-ascii_front : (flat : List ℕ) (rows : List (ℕ × ℕ)) (b : ℕ) (x : List ℕ) → b < 0x80 → front_gb18030 flat rows (b ∷ x) ≡ good 1 (b ∷ [])
-ascii_front flat rows = lead_ascii gb18030_first (gb18030_after_lead flat rows)
+ascii_prefix : (flat : List ℕ) (rows : List (ℕ × ℕ)) (b : ℕ) (x : List ℕ) → b < 0x80 → first_piece_gb18030 flat rows (b ∷ x) ≡ well_formed 1 (b ∷ [])
+ascii_prefix flat rows = lead_ascii gb18030_first (gb18030_after_lead flat rows)
 
 none_steps : (flat : List ℕ) (rows : List (ℕ × ℕ)) (c : ℕ) → 0x80 ≤ c → StepsOf flat rows c None
-none_steps flat rows c high = inr (reference_strays (front_gb18030 flat rows) (ascii_front flat rows) c c high)
+none_steps flat rows c high = inr (reference_strays (first_piece_gb18030 flat rows) (ascii_prefix flat rows) c c high)
 
 high_steps : (flat : List ℕ) (rows : List (ℕ × ℕ)) (extended : Bool) (c : ℕ) → 0x80 ≤ c
     → StepsOf flat rows c (option_or (option_map two_of (fixed_pair c)) (option_or (index_bytes flat c) (range_bytes rows extended c)))
@@ -165,12 +165,12 @@ high_steps flat rows extended c high =
     last None e = none_steps flat rows c high
     last (Some bs) e = range_steps flat rows extended c bs e
 
-pub gb18030_steps : (flat : List ℕ) (rows : List (ℕ × ℕ)) (extended : Bool) → StepsReadBack (front_gb18030 flat rows) (gb18030_form flat rows extended)
+pub gb18030_steps : (flat : List ℕ) (rows : List (ℕ × ℕ)) (extended : Bool) → StepsReadBack (first_piece_gb18030 flat rows) (gb18030_form flat rows extended)
 gb18030_steps flat rows extended c scalar = elim (cases_lt c 0x80) [
-  | inl low ↦ rw (lt-ltb c 0x80 low) (inl (record { piece = λ y. ascii_front flat rows c y low }))
+  | inl low ↦ rw (lt-ltb c 0x80 low) (inl (record { piece = λ y. ascii_prefix flat rows c y low }))
   | inr high ↦ rw (le-ltb c 0x80 high)
       (steps_if flat rows c (c == 0xE5E5) None _ (none_steps flat rows c high)
       (steps_if flat rows c (c == 0x20AC && not extended) (Some (0x80 ∷ [])) _
-      (by_piece (front_gb18030 flat rows) (0x80 ∷ []) c (good 1 (0x20AC ∷ [])) (λ y. refl) (one_either 1 c 0x20AC))
+      (by_piece (first_piece_gb18030 flat rows) (0x80 ∷ []) c (well_formed 1 (0x20AC ∷ [])) (λ y. refl) (one_either 1 c 0x20AC))
       (high_steps flat rows extended c high)))
 ]

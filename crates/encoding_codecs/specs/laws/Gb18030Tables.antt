@@ -10,7 +10,7 @@ use Rattle.encoding_tables.specs.laws.Ranges.{have_scalars}
 use Rattle.encoding_tables.specs.Ranges.{HaveScalars}
 use Rattle.encoding_tables.specs.laws.SingleByteTables.{entries_scalars}
 use Rattle.encoding_tables.specs.declared.index_kind.IndexKind.TheVariants.{Gb18030}
-use Rattle.encoding_codecs.specs.Gb18030.{front_gb18030, pieces_gb18030}
+use Rattle.encoding_codecs.specs.Gb18030.{first_piece_gb18030, pieces_gb18030}
 use Rattle.encoding_codecs.specs.laws.Gb18030.{AreGbTables, cuts_gb18030}
 
 -- What is there was accepted, and what is not there has no rows.
@@ -23,4 +23,4 @@ gb18030_tables t h = record { entries = entries_scalars t Gb18030 h; values = sc
 
 -- its pieces are pieces
 pub gb18030_are_pieces : (t : IndexLists) → AreAcceptedTables t → (x : List ℕ) → ArePieces (pieces_gb18030 (entries_of t Gb18030) (rows_of t) x)
-gb18030_are_pieces t h x = pieces_by-are_pieces (front_gb18030 (entries_of t Gb18030) (rows_of t)) (cuts_gb18030 (entries_of t Gb18030) (rows_of t) (gb18030_tables t h)) x
+gb18030_are_pieces t h x = pieces_by-are_pieces (first_piece_gb18030 (entries_of t Gb18030) (rows_of t)) (cuts_gb18030 (entries_of t Gb18030) (rows_of t) (gb18030_tables t h)) x

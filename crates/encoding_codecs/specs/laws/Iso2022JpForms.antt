@@ -3,16 +3,16 @@ use Rattle.std.proofs.Common.{◌≡◌, ℕ, ◌+◌, ◌*◌, ◌<◌, ◌≤�
 use Rattle.std.specs.Prelude.{◌||◌}
 use Rattle.std.proofs.lemmas.Bool.{cases_lt, lt-ltb}
 use Rattle.encoding_mem.specs.Coding.{IsCoding, FitsNeed, bytes}
-use Rattle.encoding_mem.specs.Room.{cost_in}
-use Rattle.encoding_mem.specs.TextRoom.{IsRoomFor, line_for, text_room_iso_2022_jp}
-use Rattle.encoding_mem.specs.laws.TextRoom.{cost_some, two_bytes}
+use Rattle.encoding_mem.specs.DecodedLength.{cost_in}
+use Rattle.encoding_mem.specs.EncodedLength.{IsRoomFor, bound_for, encoded_length_iso_2022_jp}
+use Rattle.encoding_mem.specs.laws.EncodedLength.{cost_some, two_bytes}
 use Rattle.encoding_mem.specs.laws.Stateless.{short_if, short_one, short_none}
-use Rattle.encoding_mem.specs.declared.form.Set.{Set}
-use Rattle.encoding_mem.specs.declared.form.Set.TheVariants.{Ascii, Roman, Jis}
+use Rattle.encoding_mem.specs.declared.form.EscapeState.{EscapeState}
+use Rattle.encoding_mem.specs.declared.form.EscapeState.TheVariants.{Ascii, Roman, Jis}
 use Rattle.encoding_codecs.specs.Iso2022JpForms.{pointer_of_char, jis_form_of_pointer, iso_2022_jp_form, is_set, Sets, only, ascii_or_roman, set_after, sets_of_pointer, iso_2022_jp_sets, iso_2022_jp_escape_to, iso_2022_jp_escape, iso_2022_jp_coding}
 
 -- where a character has one set, that one is taken
-pub set_after-only : (q s : Set) → set_after (only q) s ≡ q
+pub set_after-only : (q s : EscapeState) → set_after (only q) s ≡ q
 set_after-only Ascii Ascii = refl
 set_after-only Ascii Roman = refl
 set_after-only Ascii Jis = refl
@@ -23,7 +23,7 @@ set_after-only Jis Ascii = refl
 set_after-only Jis Roman = refl
 set_after-only Jis Jis = refl
 
-is_set-same : (s : Set) → is_set s s ≡ true
+is_set-same : (s : EscapeState) → is_set s s ≡ true
 is_set-same Ascii = refl
 is_set-same Roman = refl
 is_set-same Jis = refl
@@ -44,14 +44,14 @@ allows_default jis0208 katakana c =
     (allows_if (c == 0xA5 || c == 0x203E) (only Roman) (sets_of_pointer (pointer_of_char jis0208 katakana c)) refl (allows_pointer (pointer_of_char jis0208 katakana c)))
 
 -- so a set that was taken stays
-stays_by : (a : Sets) (s : Set) (t : Bool) → a.allows s ≡ t → a.allows a.default ≡ true → set_after a (cond t s a.default) ≡ cond t s a.default
+stays_by : (a : Sets) (s : EscapeState) (t : Bool) → a.allows s ≡ t → a.allows a.default ≡ true → set_after a (cond t s a.default) ≡ cond t s a.default
 stays_by a s true e h = rw e refl
 stays_by a s false e h = rw h refl
 
-same : (s : Set) → iso_2022_jp_escape s s ≡ []
+same : (s : EscapeState) → iso_2022_jp_escape s s ≡ []
 same s = rw (is_set-same s) refl
 
-short_escape_to : (s : Set) → length (iso_2022_jp_escape_to s) ≤ 3
+short_escape_to : (s : EscapeState) → length (iso_2022_jp_escape_to s) ≤ 3
 short_escape_to Ascii = lit≤ tt
 short_escape_to Roman = lit≤ tt
 short_escape_to Jis = lit≤ tt
@@ -88,18 +88,18 @@ two_at_most jis0208 katakana c = short_if (nat_lt c 0x80) (short_if (c == 0x0E |
 one_in_ascii : (jis0208 katakana : List ℕ) (c : ℕ) → c < 0x80 → FitsNeed 1 (iso_2022_jp_form jis0208 katakana c)
 one_in_ascii jis0208 katakana c low = rw (lt-ltb c 0x80 low) (short_if (c == 0x0E || c == 0x0F || c == 0x1B) short_none short_one)
 
-each_fits : (jis0208 katakana : List ℕ) (t : Bool) (s s' : Set) (c : ℕ) → length (iso_2022_jp_escape s s') + length (bytes (iso_2022_jp_form jis0208 katakana c)) ≤ (line_for text_room_iso_2022_jp t).factor * cost_in t c
+each_fits : (jis0208 katakana : List ℕ) (t : Bool) (s s' : EscapeState) (c : ℕ) → length (iso_2022_jp_escape s s') + length (bytes (iso_2022_jp_form jis0208 katakana c)) ≤ (bound_for encoded_length_iso_2022_jp t).factor * cost_in t c
 each_fits jis0208 katakana true s s' c = omega (arith, (iso_2022_jp_laws jis0208 katakana).escape_short s s', (two_at_most jis0208 katakana c).short, cost_some true c)
 each_fits jis0208 katakana false s s' c = elim (cases_lt c 0x80) [
   | inl low ↦ omega (arith, (iso_2022_jp_laws jis0208 katakana).escape_short s s', (one_in_ascii jis0208 katakana c low).short, cost_some false c)
   | inr high ↦ omega (arith, (iso_2022_jp_laws jis0208 katakana).escape_short s s', (two_at_most jis0208 katakana c).short, two_bytes c high)
 ]
 
-last_fits : (jis0208 katakana : List ℕ) (t : Bool) (s : Set) → length (iso_2022_jp_escape s Ascii) ≤ (line_for text_room_iso_2022_jp t).extra
+last_fits : (jis0208 katakana : List ℕ) (t : Bool) (s : EscapeState) → length (iso_2022_jp_escape s Ascii) ≤ (bound_for encoded_length_iso_2022_jp t).extra
 last_fits jis0208 katakana true s = (iso_2022_jp_laws jis0208 katakana).escape_short s Ascii
 last_fits jis0208 katakana false s = (iso_2022_jp_laws jis0208 katakana).escape_short s Ascii
 
-pub iso_2022_jp_fits : (jis0208 katakana : List ℕ) → IsRoomFor (iso_2022_jp_coding jis0208 katakana) text_room_iso_2022_jp
+pub iso_2022_jp_fits : (jis0208 katakana : List ℕ) → IsRoomFor (iso_2022_jp_coding jis0208 katakana) encoded_length_iso_2022_jp
 iso_2022_jp_fits jis0208 katakana t = record {
   each = λ s c. each_fits jis0208 katakana t s ((iso_2022_jp_coding jis0208 katakana).set s c) c;
   last = last_fits jis0208 katakana t;

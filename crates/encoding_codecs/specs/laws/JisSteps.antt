@@ -1,11 +1,11 @@
 -- What the steps of Shift_JIS and EUC-JP share.
 use Rattle.std.proofs.Common.{◌≡◌, ℕ, ◌<◌, Bool, true, false, cond, List, nat_lt, refl, arith, Option, None, Some}
-use Rattle.encoding_mem.specs.Piece.{bad}
+use Rattle.encoding_mem.specs.Piece.{malformed}
 use Rattle.encoding_tables.specs.Lookups.{first_pointer}
 use Rattle.encoding_tables.specs.LookupLaws.{IsPointer}
 use Rattle.encoding_tables.specs.laws.Pointers.{first_is_least}
 use Rattle.encoding_codecs.specs.Pointers.{value_of_entry}
-use Rattle.encoding_codecs.specs.laws.Steps.{IsEither, bad_either, one_either, either_if}
+use Rattle.encoding_codecs.specs.laws.Steps.{IsEither, malformed_either, one_either, either_if}
 use Rattle.encoding_codecs.specs.TwoByte.{piece_of_trail}
 use Rattle.encoding_codecs.specs.declared.two_byte.PairValue.TheVariants.{NoChar}
 
@@ -16,7 +16,7 @@ choose P false x y h k = k refl
 
 -- a lead and a trail give one scalar or none
 pub either_of_none : (c b : ℕ) → IsEither 2 c (piece_of_trail 1 NoChar b)
-either_of_none c b = either_if 2 c (nat_lt b 0x80) (bad 1) (bad 2) (bad_either 2 1 c (omega arith)) (bad_either 2 2 c (omega arith))
+either_of_none c b = either_if 2 c (nat_lt b 0x80) (malformed 1) (malformed 2) (malformed_either 2 1 c (omega arith)) (malformed_either 2 2 c (omega arith))
 
 pub either_of_entry : (c b : ℕ) (o : Option ℕ) → IsEither 2 c (piece_of_trail 1 (value_of_entry o) b)
 either_of_entry c b None = either_of_none c b

@@ -6,37 +6,37 @@ use Rattle.std.specs.Option.{option_map, option_or}
 use Rattle.std.proofs.lemmas.Bool.{cases_lt, lt-ltb, le-ltb, ltb-true, ltb-false}
 use Rattle.std.proofs.lemmas.Bool.Decides.{nat_tests}
 use Rattle.encoding_mem.specs.Coding.{spelled}
-use Rattle.encoding_mem.specs.Piece.{good}
+use Rattle.encoding_mem.specs.Piece.{well_formed}
 use Rattle.encoding_mem.specs.laws.Utf8.{range_from}
 use Rattle.encoding_mem.specs.Steps.{Returns, Strays, StepsReadBack}
 use Rattle.encoding_tables.specs.Lookups.{value_of, first_pointer}
 use Rattle.encoding_tables.specs.laws.OptionCases.{option_or_some}
 use Rattle.encoding_codecs.specs.JisForms.{is_katakana_byte, katakana_of_byte, is_katakana, byte_of_katakana, folded}
 use Rattle.encoding_codecs.specs.laws.JisSteps.{choose, either_of_entry, either_of_none, pointer_before}
-use Rattle.encoding_codecs.specs.ShiftJis.{is_shift_jis_lead, is_trail, shift_jis_first, shift_jis_pair, shift_jis_pair_pointer, front_shift_jis, shift_jis_pointer, lead_of, shift_jis_trail, shift_jis_pair_bytes, shift_jis_form}
+use Rattle.encoding_codecs.specs.ShiftJis.{is_shift_jis_lead, is_trail, shift_jis_first, shift_jis_pair, shift_jis_pair_pointer, first_piece_shift_jis, shift_jis_pointer, lead_of, shift_jis_trail, shift_jis_pair_bytes, shift_jis_form}
 use Rattle.encoding_codecs.specs.laws.Steps.{IsEither, one_either, by_piece, reference_strays}
 use Rattle.encoding_codecs.specs.TwoByte.{after_bytes, piece_of_first, piece_of_trail}
 use Rattle.encoding_codecs.specs.laws.TwoByte.{lead_ascii}
 use Rattle.encoding_codecs.specs.Pointers.{form_of_bytes}
-use Rattle.encoding_codecs.specs.declared.lead_rule.FirstByte.TheVariants.{Alone, Lead}
+use Rattle.encoding_codecs.specs.declared.lead_byte_rule.FirstByte.TheVariants.{Alone, Lead}
 use Rattle.encoding_codecs.specs.declared.two_byte.PairValue.{PairValue}
 use Rattle.encoding_codecs.specs.declared.two_byte.PairValue.TheVariants.{NoChar}
 
 abbrev Steps : List ℕ → ℕ → List ℕ → Type 0
-Steps jis0208 c bytes = Returns (front_shift_jis jis0208) bytes c ⊎ Strays (front_shift_jis jis0208) bytes c
+Steps jis0208 c bytes = Returns (first_piece_shift_jis jis0208) bytes c ⊎ Strays (first_piece_shift_jis jis0208) bytes c
 
 -- ---- one byte
 
-itself : (jis0208 : List ℕ) (b : ℕ) (y : List ℕ) → b < 0x80 → front_shift_jis jis0208 (b ∷ y) ≡ good 1 (b ∷ [])
+itself : (jis0208 : List ℕ) (b : ℕ) (y : List ℕ) → b < 0x80 → first_piece_shift_jis jis0208 (b ∷ y) ≡ well_formed 1 (b ∷ [])
 itself jis0208 = lead_ascii shift_jis_first (λ a. after_bytes 1 (shift_jis_pair jis0208 a))
 
 ascii_steps : (jis0208 : List ℕ) (c b : ℕ) → b < 0x80 → Steps jis0208 c (b ∷ [])
 ascii_steps jis0208 c b low =
-    by_piece (front_shift_jis jis0208) (b ∷ []) c (good 1 (b ∷ [])) (λ y. itself jis0208 b y low) (one_either 1 c b)
+    by_piece (first_piece_shift_jis jis0208) (b ∷ []) c (well_formed 1 (b ∷ [])) (λ y. itself jis0208 b y low) (one_either 1 c b)
 
 alone_steps : (jis0208 : List ℕ) (c b d : ℕ) → 0x80 ≤ b → shift_jis_first b ≡ Alone d → Steps jis0208 c (b ∷ [])
 alone_steps jis0208 c b d high is =
-    by_piece (front_shift_jis jis0208) (b ∷ []) c (good 1 (d ∷ []))
+    by_piece (first_piece_shift_jis jis0208) (b ∷ []) c (well_formed 1 (d ∷ []))
     (λ y. rw (le-ltb b 0x80 high) (ap (λ o. piece_of_first o (after_bytes 1 (shift_jis_pair jis0208 b) y)) is))
     (one_either 1 c d)
 
@@ -93,7 +93,7 @@ pair_either jis0208 c a b =
 pair_steps : (jis0208 : List ℕ) (c p : ℕ) → p < 11280 → Steps jis0208 c (shift_jis_pair_bytes p)
 pair_steps jis0208 c p below =
     let lead = lead_is p below in
-    by_piece (front_shift_jis jis0208) (shift_jis_pair_bytes p) c (piece_of_trail 1 (shift_jis_pair jis0208 (lead_of p) (shift_jis_trail p)) (shift_jis_trail p))
+    by_piece (first_piece_shift_jis jis0208) (shift_jis_pair_bytes p) c (piece_of_trail 1 (shift_jis_pair jis0208 (lead_of p) (shift_jis_trail p)) (shift_jis_trail p))
     (λ y. rw (le-ltb (lead_of p) 0x80 lead.0) (ap (λ o. piece_of_first o (after_bytes 1 (shift_jis_pair jis0208 (lead_of p)) (shift_jis_trail p ∷ y))) lead.1))
     (pair_either jis0208 c (lead_of p) (shift_jis_trail p))
 
@@ -105,7 +105,7 @@ used jis0208 c p e = elim (option_or_some (first_pointer jis0208 c 0 8272) (firs
 
 pointer_steps : (jis0208 : List ℕ) (c : ℕ) (o : Option ℕ) → 0x80 ≤ c → ((p : ℕ) → o ≡ Some p → p < 11280)
     → Steps jis0208 c (spelled (form_of_bytes c (option_map shift_jis_pair_bytes o)))
-pointer_steps jis0208 c None high before = inr (reference_strays (front_shift_jis jis0208) (itself jis0208) c c high)
+pointer_steps jis0208 c None high before = inr (reference_strays (first_piece_shift_jis jis0208) (itself jis0208) c c high)
 pointer_steps jis0208 c (Some p) high before = pair_steps jis0208 c p (before p refl)
 
 -- ---- any scalar
@@ -114,7 +114,7 @@ pointer_steps jis0208 c (Some p) high before = pair_steps jis0208 c p (before p 
 abbrev ByByte : List ℕ → ℕ → Option ℕ → Type 0
 ByByte jis0208 c byte = Steps jis0208 c (spelled (form_of_bytes c (option_or (option_map (λ b. b ∷ []) byte) (option_map shift_jis_pair_bytes (shift_jis_pointer jis0208 (folded c))))))
 
-pub shift_jis_steps : (jis0208 : List ℕ) → StepsReadBack (front_shift_jis jis0208) (shift_jis_form jis0208)
+pub shift_jis_steps : (jis0208 : List ℕ) → StepsReadBack (first_piece_shift_jis jis0208) (shift_jis_form jis0208)
 shift_jis_steps jis0208 c scalar =
     choose (ByByte jis0208 c) (nat_lt c 0x81) (Some c) _
     (λ low. low_steps jis0208 c (ltb-true c 0x81 low))

@@ -2,24 +2,24 @@
 use Rattle.std.proofs.Common.{◌≡◌, ◌≢◌, ℕ, ◌<◌, ◌≤◌, ◌⊎◌, Bool, true, false, cond, List, [], ◌∷◌, ◌++◌, length, refl, ◌∙◌, ap, arith, inl, inr}
 use Rattle.std.proofs.lemmas.Bool.{cases_eq}
 use Rattle.encoding_mem.specs.Coding.{reference}
-use Rattle.encoding_mem.specs.Piece.{Piece, good, bad, piece_len, scalars_of, IsGood}
+use Rattle.encoding_mem.specs.Piece.{Piece, well_formed, malformed, piece_len, scalars_of, IsWellFormed}
 use Rattle.encoding_mem.specs.Steps.{Returns, Strays}
 use Rattle.encoding_mem.specs.laws.Steps.{strays_at_reference}
 
 -- a piece of so many bytes gives the scalar, or it is wrong
 pub record IsWrong (n c : ℕ) (p : Piece) : Type 0 where
   pub within : piece_len p ≤ n
-  pub wrong : (¬ (IsGood p)) ⊎ ((d : ℕ) × (d ≢ c) × (scalars_of p ≡ d ∷ []))
+  pub wrong : (¬ (IsWellFormed p)) ⊎ ((d : ℕ) × (d ≢ c) × (scalars_of p ≡ d ∷ []))
 
 abbrev pub IsEither : ℕ → ℕ → Piece → Type 0
-IsEither n c p = (p ≡ good n (c ∷ [])) ⊎ IsWrong n c p
+IsEither n c p = (p ≡ well_formed n (c ∷ [])) ⊎ IsWrong n c p
 
-pub bad_either : (n m c : ℕ) → m ≤ n → IsEither n c (bad m)
-bad_either n m c fits = inr (record { within = fits; wrong = inl (λ h. h) })
+pub malformed_either : (n m c : ℕ) → m ≤ n → IsEither n c (malformed m)
+malformed_either n m c fits = inr (record { within = fits; wrong = inl (λ h. h) })
 
-pub one_either : (n c d : ℕ) → IsEither n c (good n (d ∷ []))
+pub one_either : (n c d : ℕ) → IsEither n c (well_formed n (d ∷ []))
 one_either n c d = elim (cases_eq d c) [
-  | inl same ↦ inl (ap (λ e. good n (e ∷ [])) same)
+  | inl same ↦ inl (ap (λ e. well_formed n (e ∷ [])) same)
   | inr apart ↦ inr (record { within = omega arith; wrong = inr (d, apart, refl) })
 ]
 
@@ -28,12 +28,12 @@ either_if n c true p q h k = h
 either_if n c false p q h k = k
 
 -- bytes that begin with this piece, whatever follows
-pub by_piece : (front : List ℕ → Piece) (bytes : List ℕ) (c : ℕ) (p : Piece) → ((y : List ℕ) → front (bytes ++ y) ≡ p) → IsEither (length bytes) c p
-    → Returns front bytes c ⊎ Strays front bytes c
-by_piece front bytes c p is (inl same) = inl (record { piece = λ y. is y ∙ same })
-by_piece front bytes c p is (inr wrong) = inr (record { piece = p; first = is; within = wrong.within; wrong = wrong.wrong })
+pub by_piece : (first_piece : List ℕ → Piece) (bytes : List ℕ) (c : ℕ) (p : Piece) → ((y : List ℕ) → first_piece (bytes ++ y) ≡ p) → IsEither (length bytes) c p
+    → Returns first_piece bytes c ⊎ Strays first_piece bytes c
+by_piece first_piece bytes c p is (inl same) = inl (record { piece = λ y. is y ∙ same })
+by_piece first_piece bytes c p is (inr wrong) = inr (record { piece = p; first = is; within = wrong.within; wrong = wrong.wrong })
 
 -- a reference stands for no character from 80 on
-pub reference_strays : (front : List ℕ → Piece) → ((b : ℕ) (x : List ℕ) → b < 0x80 → front (b ∷ x) ≡ good 1 (b ∷ [])) → (c d : ℕ) → 0x80 ≤ c
-    → Strays front (reference d) c
-reference_strays front ascii c d high = strays_at_reference front c d (λ x. ascii 0x26 x (omega arith)) (λ same. omega (arith, same, high))
+pub reference_strays : (first_piece : List ℕ → Piece) → ((b : ℕ) (x : List ℕ) → b < 0x80 → first_piece (b ∷ x) ≡ well_formed 1 (b ∷ [])) → (c d : ℕ) → 0x80 ≤ c
+    → Strays first_piece (reference d) c
+reference_strays first_piece ascii c d high = strays_at_reference first_piece c d (λ x. ascii 0x26 x (omega arith)) (λ same. omega (arith, same, high))

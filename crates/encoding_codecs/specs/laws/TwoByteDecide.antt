@@ -2,27 +2,27 @@
 -- the piece.
 use Rattle.std.specs.Prelude.{ℕ, ◌+◌, Bool, List, [], ◌∷◌, nat_lt, if◌then◌else◌}
 use Rattle.encoding_mem.specs.laws.Utf8Decide.{cut_short}
-use Rattle.encoding_mem.specs.declared.front.Front.{Front}
-use Rattle.encoding_mem.specs.declared.front.Front.TheVariants.{More, One, Two, Bad}
-use Rattle.encoding_codecs.specs.declared.lead_rule.FirstByte.{FirstByte}
-use Rattle.encoding_codecs.specs.declared.lead_rule.FirstByte.TheVariants.{Alone, Lead, Unused}
+use Rattle.encoding_mem.specs.declared.first_piece.FirstPiece.{FirstPiece}
+use Rattle.encoding_mem.specs.declared.first_piece.FirstPiece.TheVariants.{More, One, Two, Malformed}
+use Rattle.encoding_codecs.specs.declared.lead_byte_rule.FirstByte.{FirstByte}
+use Rattle.encoding_codecs.specs.declared.lead_byte_rule.FirstByte.TheVariants.{Alone, Lead, Unused}
 use Rattle.encoding_codecs.specs.declared.two_byte.PairValue.{PairValue}
 use Rattle.encoding_codecs.specs.declared.two_byte.PairValue.TheVariants.{NoChar, OneChar, TwoChars}
 
-abbrev pub decide_of_first : FirstByte → Front → Front
-decide_of_first (Alone c) front = One c 1
-decide_of_first Lead front = front
-decide_of_first Unused front = Bad 1
+abbrev pub decide_of_first : FirstByte → FirstPiece → FirstPiece
+decide_of_first (Alone c) prefix = One c 1
+decide_of_first Lead prefix = prefix
+decide_of_first Unused prefix = Malformed 1
 
-abbrev pub decide_by_lead : (ℕ → FirstByte) → (ℕ → List ℕ → Bool → Front) → List ℕ → Bool → Front
+abbrev pub decide_by_lead : (ℕ → FirstByte) → (ℕ → List ℕ → Bool → FirstPiece) → List ℕ → Bool → FirstPiece
 decide_by_lead first after [] last = More
 decide_by_lead first after (a ∷ x) last = if nat_lt a 0x80 then One a 1 else decide_of_first (first a) (after a x last)
 
-abbrev pub decide_trail : ℕ → PairValue → ℕ → Front
-decide_trail n NoChar b = if nat_lt b 0x80 then Bad n else Bad (n + 1)
+abbrev pub decide_trail : ℕ → PairValue → ℕ → FirstPiece
+decide_trail n NoChar b = if nat_lt b 0x80 then Malformed n else Malformed (n + 1)
 decide_trail n (OneChar c) b = One c (n + 1)
 decide_trail n (TwoChars c d) b = Two c d (n + 1)
 
-abbrev pub decide_after : ℕ → (ℕ → PairValue) → List ℕ → Bool → Front
+abbrev pub decide_after : ℕ → (ℕ → PairValue) → List ℕ → Bool → FirstPiece
 decide_after n value [] last = cut_short n last
 decide_after n value (b ∷ x) last = decide_trail n (value b) b

@@ -4,14 +4,14 @@ use Rattle.std.specs.Fmt.{digits}
 use Rattle.std.proofs.Common.{inr, lit≤, lit<, inl, arith, subst}
 use Rattle.encoding_mem.specs.Coding.{lost_count, open_from, whole_from, last_set, IsMapped}
 use Rattle.encoding_mem.specs.examples.SampleCoding.{sample_coding}
-use Rattle.encoding_mem.specs.declared.form.Set.TheVariants.{Ascii, Roman}
+use Rattle.encoding_mem.specs.declared.form.EscapeState.TheVariants.{Ascii, Roman}
 use Rattle.encoding_front.specs.Encoder.{ReplacingEndsWith, kept_back, queried_room, queried_with_kept, EndsWithReference, EncoderState, Replaces}
 use Rattle.encoding_front.specs.declared.coder_result.CoderResult.{CoderResult}
 use Rattle.encoding_front.specs.declared.encoding.Encoding.TheVariants.{Iso2022Jp, Replacement, Utf8, Utf16Le, Windows1252, Big5, EucJp, EucKr, Gb18030, Gbk, ShiftJis, XUserDefined, Utf16Be}
 use Rattle.encoding_tables.specs.IndexLists.{IndexLists}
 use Rattle.encoding_front.specs.Encodings.{coding_of}
 use Rattle.encoding_front.specs.declared.encoding.Encoding.{Encoding}
-use Rattle.encoding_mem.specs.declared.form.Set.{Set}
+use Rattle.encoding_mem.specs.declared.form.EscapeState.{EscapeState}
 
 kept_utf_8 : kept_back Utf8 ≡ 0
 kept_utf_8 = refl
@@ -41,7 +41,7 @@ room_fits = refl
 room_does_not_fit : queried_with_kept Windows1252 false 0xFFFFFFFFFFFFFFFF ≡ None
 room_does_not_fit = refl
 
--- a last call that ends behind the reference owes the escape to ASCII
+-- a last call that ends behind the reference has still to write the escape to ASCII
 yen_and_reference : whole_from sample_coding Ascii (0xA5 ∷ 0x1F4A9 ∷ [])
     ≡ (0x1B ∷ 0x28 ∷ 0x4A ∷ 0x5C ∷ codes "&#128169;") ++ whole_from sample_coding Roman []
 unfolding digits
@@ -50,11 +50,11 @@ yen_and_reference = refl
 owes_escape : ReplacingEndsWith true CoderResult.OutputFull Roman []
 owes_escape = inr (refl, λ h. cc)
 
--- a call that is not the last owes nothing
+-- a call that is not the last has still to write nothing
 owes_nothing : ReplacingEndsWith false CoderResult.InputEmpty Roman []
 owes_nothing = (refl, λ h. absurd (cc))
 
--- the place that is compared with the end of the part before the kept bytes
+-- the offset that is compared with the end of the part before the kept bytes
 reference_ends : open_from sample_coding Ascii (0xA5 ∷ 0x1F4A9 ∷ []) ≡ 0x1B ∷ 0x28 ∷ 0x4A ∷ 0x5C ∷ codes "&#128169;"
 unfolding digits
 reference_ends = refl
@@ -116,9 +116,9 @@ reaches_into_the_kept : EndsWithReference (coding_of no_tables Iso2022Jp) Ascii 
 unfolding no_tables digits
 reaches_into_the_kept = record { before = 0xA5 ∷ []; lost = 0x1F4A9; is = refl; unmapped = λ h. h; whole = refl; begins = lit≤ tt }
 
--- U+00A5 U+1F4A9 into 18 bytes, of which 10 are kept back: the reference reaches into those, and ends the call. The last
--- call still owes the escape to ASCII, another owes nothing.
-state : Set → EncoderState
+-- U+00A5 U+1F4A9 into 18 bytes, of which 10 are kept back: the reference reaches into those, and ends the call. The
+-- last call still has still to write the escape to ASCII, another has still to write nothing.
+state : EscapeState → EncoderState
 state s = record { tables = no_tables; encoding = Iso2022Jp; set = s }
 
 only_pile_is_lost : (before : List ℕ) (c : ℕ) (after : List ℕ) → yen_and_pile ≡ before ++ c ∷ after → ¬ (IsMapped ((coding_of no_tables Iso2022Jp).form c)) → after ≡ []
@@ -133,7 +133,7 @@ last_call_into_18 : Replaces (state Ascii) true CoderResult.OutputFull yen_and_p
 unfolding no_tables digits state
 last_call_into_18 = record {
   same = refl;
-  front = yen_and_pile;
+  prefix = yen_and_pile;
   split = refl;
   bytes = refl;
   sets = λ h. absurd (cc h);

@@ -2,17 +2,17 @@
 use Rattle.std.specs.Prelude.{◌≡◌, not, None, Some, [], ◌∷◌, codes, filter, refl, ℕ, ◌+◌, ◌==◌, if◌then◌else◌, List, Option, map, replicate}
 use Rattle.encoding_tables.specs.declared.index_kind.IndexKind.{IndexKind}
 use Rattle.encoding_front.specs.EncodingTable.{encodings, encoding_name}
-use Rattle.encoding_front.specs.Encodings.{is_ascii_compatible_of, is_single_byte_of, mark_at_start, needs_of, output_encoding_of, byte_order_marks, need_of, room_of_encoding, pieces_of, coding_of}
+use Rattle.encoding_front.specs.Encodings.{is_ascii_compatible_of, is_single_byte_of, mark_at_start, needs_of, output_encoding_of, byte_order_marks, need_of, decoded_length_of, pieces_of, coding_of}
 use Rattle.encoding_front.specs.declared.constants.TheConstants.{SHIFT_JIS_INIT, UTF_8, UTF_8_INIT, WINDOWS_1252_INIT}
 use Rattle.encoding_front.specs.declared.encoding.Encoding.{Encoding}
 use Rattle.encoding_front.specs.declared.encoding.Encoding.TheVariants.{Big5, EucJp, EucKr, Gb18030, Gbk, Iso2022Jp, Replacement, ShiftJis, Utf8, Utf16Be, Utf16Le, Iso8859_8I, Windows1252, XUserDefined, Ibm866, Iso8859_10, Iso8859_13, Iso8859_14, Iso8859_15, Iso8859_16, Iso8859_2, Iso8859_3, Iso8859_4, Iso8859_5, Iso8859_6, Iso8859_7, Iso8859_8, Koi8R, Koi8U, Macintosh, Windows1250, Windows1251, Windows1253, Windows1254, Windows1255, Windows1256, Windows1257, Windows1258, Windows874, XMacCyrillic}
 use Rattle.std.specs.List.{range_with_len}
 use Rattle.std.specs.Char.{encode_utf8}
-use Rattle.encoding_mem.specs.Piece.{good, bad}
+use Rattle.encoding_mem.specs.Piece.{well_formed, malformed}
 use Rattle.encoding_mem.specs.Pieces.{pieces_in}
-use Rattle.encoding_mem.specs.Room.{queried}
+use Rattle.encoding_mem.specs.DecodedLength.{queried}
 use Rattle.encoding_mem.specs.declared.form.Form.TheVariants.{Mapped, Unmapped}
-use Rattle.encoding_mem.specs.declared.room.Count.TheVariants.{Units, Bytes, Replaced}
+use Rattle.encoding_mem.specs.declared.room.OutputUnit.TheVariants.{Units, Bytes, Replaced}
 use Rattle.encoding_tables.specs.IndexLists.{IndexLists}
 use Rattle.encoding_codecs.specs.Iso2022Jp.{pieces_in_mode}
 
@@ -92,7 +92,7 @@ steps_of_two = refl
 
 -- the room for 7 bytes, of which some may be pending: in units, in bytes, and in bytes with U+FFFD for malformed sequences
 room_for_7 : Encoding → List (Option ℕ)
-room_for_7 e = queried (room_of_encoding e) Units 7 ∷ queried (room_of_encoding e) Bytes 7 ∷ queried (room_of_encoding e) Replaced 7 ∷ []
+room_for_7 e = queried (decoded_length_of e) Units 7 ∷ queried (decoded_length_of e) Bytes 7 ∷ queried (decoded_length_of e) Replaced 7 ∷ []
 
 rooms_of_one_byte : map room_for_7 (Windows1252 ∷ XUserDefined ∷ []) ≡ replicate 2 (Some 7 ∷ Some 21 ∷ Some 21 ∷ [])
 unfolding room_for_7
@@ -107,7 +107,7 @@ rooms_of_utf_16 : map room_for_7 (Utf16Be ∷ Utf16Le ∷ []) ≡ replicate 2 (S
 unfolding room_for_7
 rooms_of_utf_16 = refl
 
-room_of_whole_units : queried (room_of_encoding Utf16Le) Bytes 8 ≡ Some 13
+room_of_whole_units : queried (decoded_length_of Utf16Le) Bytes 8 ≡ Some 13
 room_of_whole_units = refl
 
 rooms_of_replacement : room_for_7 Replacement ≡ Some 1 ∷ Some 3 ∷ Some 3 ∷ []
@@ -120,14 +120,14 @@ unfolding room_for_7
 rooms_of_multi_byte = refl
 
 -- the last rooms that are a usize, and the first that are not: 3n + 1 in Shift_JIS, n + 3 in UTF-8, 3(n / 2) + 1 in UTF-16
-usize_of_shift_jis : map (queried (room_of_encoding ShiftJis) Bytes) (0x5555555555555554 ∷ 0x5555555555555555 ∷ [])
+usize_of_shift_jis : map (queried (decoded_length_of ShiftJis) Bytes) (0x5555555555555554 ∷ 0x5555555555555555 ∷ [])
     ≡ Some 0xFFFFFFFFFFFFFFFD ∷ None ∷ []
 usize_of_shift_jis = refl
 
-usize_of_utf_8 : map (queried (room_of_encoding Utf8) Bytes) (0xFFFFFFFFFFFFFFFC ∷ 0xFFFFFFFFFFFFFFFD ∷ []) ≡ Some 0xFFFFFFFFFFFFFFFF ∷ None ∷ []
+usize_of_utf_8 : map (queried (decoded_length_of Utf8) Bytes) (0xFFFFFFFFFFFFFFFC ∷ 0xFFFFFFFFFFFFFFFD ∷ []) ≡ Some 0xFFFFFFFFFFFFFFFF ∷ None ∷ []
 usize_of_utf_8 = refl
 
-usize_of_utf_16 : map (queried (room_of_encoding Utf16Le) Units) (0xFFFFFFFFFFFFFFFE ∷ 0xFFFFFFFFFFFFFFFF ∷ []) ≡ Some 0x8000000000000000 ∷ None ∷ []
+usize_of_utf_16 : map (queried (decoded_length_of Utf16Le) Units) (0xFFFFFFFFFFFFFFFE ∷ 0xFFFFFFFFFFFFFFFF ∷ []) ≡ Some 0x8000000000000000 ∷ None ∷ []
 usize_of_utf_16 = refl
 
 -- Tables for examples: the index of the kind k has U+0100 + k at the pointer 0; that of jis0208 has beside it what the
@@ -146,7 +146,7 @@ own_index = (Ibm866, 0x100) ∷ (Iso8859_2, 0x101) ∷ (Iso8859_3, 0x102) ∷ (I
     ∷ (Windows1256, 0x117) ∷ (Windows1257, 0x118) ∷ (Windows1258, 0x119) ∷ (XMacCyrillic, 0x11A) ∷ []
 
 reads_own_index : map (λ (r : Encoding × ℕ). pieces_of tables r.0 (0x80 ∷ [])) own_index
-    ≡ map (λ (r : Encoding × ℕ). good 1 (r.1 ∷ []) ∷ []) own_index
+    ≡ map (λ (r : Encoding × ℕ). well_formed 1 (r.1 ∷ []) ∷ []) own_index
 unfolding tables list_of own_index pieces_in
 reads_own_index = refl
 
@@ -155,45 +155,45 @@ unfolding tables list_of own_index
 writes_own_index = refl
 
 -- the pointer 0 of the index of each other encoding
-reads_big5 : pieces_of tables Big5 (0x81 ∷ 0x40 ∷ []) ≡ good 2 (0x11B ∷ []) ∷ []
+reads_big5 : pieces_of tables Big5 (0x81 ∷ 0x40 ∷ []) ≡ well_formed 2 (0x11B ∷ []) ∷ []
 unfolding tables list_of pieces_in
 reads_big5 = refl
 
-reads_euc_kr : pieces_of tables EucKr (0x81 ∷ 0x41 ∷ []) ≡ good 2 (0x11C ∷ []) ∷ []
+reads_euc_kr : pieces_of tables EucKr (0x81 ∷ 0x41 ∷ []) ≡ well_formed 2 (0x11C ∷ []) ∷ []
 unfolding tables list_of pieces_in
 reads_euc_kr = refl
 
 reads_gb18030 : map (λ e. pieces_of tables e (0x81 ∷ 0x40 ∷ 0x81 ∷ 0x30 ∷ 0x81 ∷ 0x30 ∷ [])) (Gb18030 ∷ Gbk ∷ [])
-    ≡ replicate 2 (good 2 (0x11D ∷ []) ∷ good 4 (0x80 ∷ []) ∷ [])
+    ≡ replicate 2 (well_formed 2 (0x11D ∷ []) ∷ well_formed 4 (0x80 ∷ []) ∷ [])
 unfolding tables list_of pieces_in
 reads_gb18030 = refl
 
-reads_euc_jp : pieces_of tables EucJp (0xA1 ∷ 0xA1 ∷ 0x8F ∷ 0xA1 ∷ 0xA1 ∷ []) ≡ good 2 (0x11F ∷ []) ∷ good 3 (0x120 ∷ []) ∷ []
+reads_euc_jp : pieces_of tables EucJp (0xA1 ∷ 0xA1 ∷ 0x8F ∷ 0xA1 ∷ 0xA1 ∷ []) ≡ well_formed 2 (0x11F ∷ []) ∷ well_formed 3 (0x120 ∷ []) ∷ []
 unfolding tables list_of pieces_in
 reads_euc_jp = refl
 
-reads_shift_jis : pieces_of tables ShiftJis (0x81 ∷ 0x40 ∷ []) ≡ good 2 (0x11F ∷ []) ∷ []
+reads_shift_jis : pieces_of tables ShiftJis (0x81 ∷ 0x40 ∷ []) ≡ well_formed 2 (0x11F ∷ []) ∷ []
 unfolding tables list_of pieces_in
 reads_shift_jis = refl
 
-reads_iso_2022_jp : pieces_of tables Iso2022Jp (0x1B ∷ 0x24 ∷ 0x42 ∷ 0x21 ∷ 0x21 ∷ []) ≡ good 3 [] ∷ good 2 (0x11F ∷ []) ∷ []
+reads_iso_2022_jp : pieces_of tables Iso2022Jp (0x1B ∷ 0x24 ∷ 0x42 ∷ 0x21 ∷ 0x21 ∷ []) ≡ well_formed 3 [] ∷ well_formed 2 (0x11F ∷ []) ∷ []
 unfolding tables list_of pieces_in_mode pieces_in
 reads_iso_2022_jp = refl
 
-reads_utf_8 : pieces_of tables Utf8 (0xC3 ∷ 0xA9 ∷ 0x80 ∷ []) ≡ good 2 (0xE9 ∷ []) ∷ bad 1 ∷ []
+reads_utf_8 : pieces_of tables Utf8 (0xC3 ∷ 0xA9 ∷ 0x80 ∷ []) ≡ well_formed 2 (0xE9 ∷ []) ∷ malformed 1 ∷ []
 unfolding pieces_in
 reads_utf_8 = refl
 
-reads_utf_16 : (pieces_of tables Utf16Be (0x4E ∷ 0x00 ∷ 0x80 ∷ []) ≡ good 2 (0x4E00 ∷ []) ∷ bad 1 ∷ [])
-    × (pieces_of tables Utf16Le (0x00 ∷ 0x4E ∷ 0x80 ∷ []) ≡ good 2 (0x4E00 ∷ []) ∷ bad 1 ∷ [])
+reads_utf_16 : (pieces_of tables Utf16Be (0x4E ∷ 0x00 ∷ 0x80 ∷ []) ≡ well_formed 2 (0x4E00 ∷ []) ∷ malformed 1 ∷ [])
+    × (pieces_of tables Utf16Le (0x00 ∷ 0x4E ∷ 0x80 ∷ []) ≡ well_formed 2 (0x4E00 ∷ []) ∷ malformed 1 ∷ [])
 unfolding pieces_in
 reads_utf_16 = (refl, refl)
 
-reads_user_defined : pieces_of tables XUserDefined (0x7F ∷ 0x80 ∷ 0xFF ∷ []) ≡ good 1 (0x7F ∷ []) ∷ good 1 (0xF780 ∷ []) ∷ good 1 (0xF7FF ∷ []) ∷ []
+reads_user_defined : pieces_of tables XUserDefined (0x7F ∷ 0x80 ∷ 0xFF ∷ []) ≡ well_formed 1 (0x7F ∷ []) ∷ well_formed 1 (0xF780 ∷ []) ∷ well_formed 1 (0xF7FF ∷ []) ∷ []
 unfolding pieces_in
 reads_user_defined = refl
 
-reads_replacement : pieces_of tables Replacement (0x41 ∷ 0x42 ∷ []) ≡ bad 1 ∷ good 1 [] ∷ []
+reads_replacement : pieces_of tables Replacement (0x41 ∷ 0x42 ∷ []) ≡ malformed 1 ∷ well_formed 1 [] ∷ []
 unfolding pieces_in
 reads_replacement = refl
 

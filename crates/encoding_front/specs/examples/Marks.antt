@@ -1,6 +1,6 @@
 -- Worked rows of `specs/Marks.antt`.
 use Rattle.std.specs.Prelude.{◌≡◌, ℕ, zero, suc, ◌==◌, Bool, true, false, Option, None, Some, List, [], ◌∷◌, ◌++◌, drop, filter, refl, replicate}
-use Rattle.encoding_mem.specs.Piece.{Piece, good, text, bad}
+use Rattle.encoding_mem.specs.Piece.{Piece, well_formed, text, malformed}
 use Rattle.encoding_tables.specs.IndexLists.{IndexLists}
 use Rattle.encoding_front.specs.EncodingTable.{number_of}
 use Rattle.encoding_front.specs.Encodings.{byte_order_marks, first_mark, pieces_of}
@@ -30,7 +30,7 @@ kept = refl
 
 -- the mark of UTF-8 is a piece of 3 bytes with no text; the malformed sequence at 6 stands behind it and U+20AC
 after_the_mark : (t : IndexLists) → marked_pieces t Sniff Encoding.Windows1252 (0xEF ∷ 0xBB ∷ 0xBF ∷ 0xE2 ∷ 0x82 ∷ 0xAC ∷ 0x80 ∷ [])
-    ≡ good 3 [] ∷ good 3 (0x20AC ∷ []) ∷ bad 1 ∷ []
+    ≡ well_formed 3 [] ∷ well_formed 3 (0x20AC ∷ []) ∷ malformed 1 ∷ []
 unfolding pieces_in
 after_the_mark t = refl
 
@@ -49,13 +49,13 @@ unfolding pieces_in
 removed_mark t = refl
 
 -- the marks of UTF-16 are pieces of 2 bytes
-marks_of_two : (t : IndexLists) → (marked_pieces t Sniff Encoding.Utf8 (0xFE ∷ 0xFF ∷ 0x00 ∷ 0x41 ∷ []) ≡ good 2 [] ∷ good 2 (0x41 ∷ []) ∷ [])
-    × (marked_pieces t Sniff Encoding.Utf8 (0xFF ∷ 0xFE ∷ 0x41 ∷ 0x00 ∷ []) ≡ good 2 [] ∷ good 2 (0x41 ∷ []) ∷ [])
+marks_of_two : (t : IndexLists) → (marked_pieces t Sniff Encoding.Utf8 (0xFE ∷ 0xFF ∷ 0x00 ∷ 0x41 ∷ []) ≡ well_formed 2 [] ∷ well_formed 2 (0x41 ∷ []) ∷ [])
+    × (marked_pieces t Sniff Encoding.Utf8 (0xFF ∷ 0xFE ∷ 0x41 ∷ 0x00 ∷ []) ≡ well_formed 2 [] ∷ well_formed 2 (0x41 ∷ []) ∷ [])
 unfolding pieces_in
 marks_of_two t = (refl, refl)
 
 -- the mark of another encoding is not removed: UTF-16LE reads FE FF as U+FFFE
-mark_of_another : (t : IndexLists) → marked_pieces t Remove Encoding.Utf16Le (0xFE ∷ 0xFF ∷ []) ≡ good 2 (0xFFFE ∷ []) ∷ []
+mark_of_another : (t : IndexLists) → marked_pieces t Remove Encoding.Utf16Le (0xFE ∷ 0xFF ∷ []) ≡ well_formed 2 (0xFFFE ∷ []) ∷ []
 unfolding pieces_in
 mark_of_another t = refl
 
@@ -67,9 +67,9 @@ empty_input t = refl
 unfoldable windows_1252 : IndexLists
 windows_1252 = record { flats = replicate 19 None ++ (Some (replicate 59 0 ++ (0xBB ∷ (replicate 51 0 ++ (0xEF ∷ replicate 16 0)))) ∷ []); rows = None }
 
-front_of_a_mark : marked_pieces windows_1252 Sniff Encoding.Windows1252 (0xEF ∷ 0xBB ∷ []) ≡ good 1 (0xEF ∷ []) ∷ good 1 (0xBB ∷ []) ∷ []
+prefix_of_a_mark : marked_pieces windows_1252 Sniff Encoding.Windows1252 (0xEF ∷ 0xBB ∷ []) ≡ well_formed 1 (0xEF ∷ []) ∷ well_formed 1 (0xBB ∷ []) ∷ []
 unfolding windows_1252 pieces_in
-front_of_a_mark = refl
+prefix_of_a_mark = refl
 
 -- an index of windows-1257 with U+201A at 2, U+00A4 at 36, U+00AC at 44, U+00BB at 59, U+00E6 at 63, U+0106 at 67, U+0101
 -- at 98 and U+013C at 111: the mark of UTF-8 is text where only an own mark is removed

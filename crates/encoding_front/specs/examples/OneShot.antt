@@ -1,8 +1,8 @@
 -- Worked rows of `specs/OneShot.antt`.
 use Rattle.std.specs.Prelude.{◌≡◌, ℕ, ◌<◌, Option, None, Some, [], refl}
-use Rattle.encoding_mem.specs.declared.room.Count.{Count}
-use Rattle.encoding_mem.specs.declared.room.Count.TheVariants.{Bytes, Replaced}
-use Rattle.encoding_front.specs.Encodings.{room_of_encoding}
+use Rattle.encoding_mem.specs.declared.room.OutputUnit.{OutputUnit}
+use Rattle.encoding_mem.specs.declared.room.OutputUnit.TheVariants.{Bytes, Replaced}
+use Rattle.encoding_front.specs.Encodings.{decoded_length_of}
 use Rattle.encoding_front.specs.Seeking.{sought_by}
 use Rattle.encoding_front.specs.Stream.{room_asked}
 use Rattle.encoding_front.specs.declared.encoding.Encoding.{Encoding}

@@ -1,22 +1,22 @@
 -- Worked rows of `specs/Seeking.antt`.
 use Rattle.std.specs.Prelude.{◌≡◌, ℕ, Bool, true, false, List, [], ◌∷◌, map, replicate, None, Some, refl}
-use Rattle.encoding_mem.specs.Piece.{Piece, good}
+use Rattle.encoding_mem.specs.Piece.{Piece, well_formed}
 use Rattle.encoding_mem.specs.Pieces.{pieces_in}
-use Rattle.encoding_mem.specs.declared.room.Count.TheVariants.{Units, Bytes, Replaced}
+use Rattle.encoding_mem.specs.declared.room.OutputUnit.TheVariants.{Units, Bytes, Replaced}
 use Rattle.encoding_front.specs.Seeking.{find_mark, mark_needs, mark_taken, can_be, nothing_sought, sought_by, sought_pieces}
 use Rattle.encoding_front.specs.declared.encoding.Encoding.{Encoding}
 use Rattle.encoding_front.specs.declared.mark.Mark.TheVariants.{Sniff, Remove, Keep}
 use Rattle.encoding_front.specs.declared.seeking.ByteOrderMark.TheVariants.{Utf8, Utf16Be, Utf16Le}
-use Rattle.encoding_front.specs.declared.seeking.Seen.{Seen}
-use Rattle.encoding_front.specs.declared.seeking.Seen.TheVariants.{Front, Whole, Other}
-use Rattle.encoding_front.specs.declared.seeking.Sought.{Sought}
+use Rattle.encoding_front.specs.declared.seeking.BomMatch.{BomMatch}
+use Rattle.encoding_front.specs.declared.seeking.BomMatch.TheVariants.{Prefix, Whole, Other}
+use Rattle.encoding_front.specs.declared.seeking.BomSet.{BomSet}
 
-abbrev all_marks : Sought
+abbrev all_marks : BomSet
 all_marks = sought_by Sniff Encoding.Windows1252
 
 -- where all three marks are looked for, these may become one
-fronts : map (find_mark all_marks) ([] ∷ (0xEF ∷ []) ∷ (0xEF ∷ 0xBB ∷ []) ∷ (0xFE ∷ []) ∷ (0xFF ∷ []) ∷ []) ≡ replicate 5 Front
-fronts = refl
+prefixes : map (find_mark all_marks) ([] ∷ (0xEF ∷ []) ∷ (0xEF ∷ 0xBB ∷ []) ∷ (0xFE ∷ []) ∷ (0xFF ∷ []) ∷ []) ≡ replicate 5 Prefix
+prefixes = refl
 
 whole_marks : map (find_mark all_marks) ((0xEF ∷ 0xBB ∷ 0xBF ∷ []) ∷ (0xFE ∷ 0xFF ∷ []) ∷ (0xFF ∷ 0xFE ∷ []) ∷ (0xEF ∷ 0xBB ∷ 0xBF ∷ 0xEF ∷ []) ∷ [])
     ≡ Whole Utf8 ∷ Whole Utf16Be ∷ Whole Utf16Le ∷ Whole Utf8 ∷ []
@@ -36,7 +36,7 @@ kept = refl
 
 -- a mark is a piece of 3 bytes or of 2, and what follows it is in its encoding
 after_marks : map (sought_pieces all_marks (λ x. [])) ((0xEF ∷ 0xBB ∷ 0xBF ∷ 0xC3 ∷ 0xA9 ∷ []) ∷ (0xFE ∷ 0xFF ∷ 0x4E ∷ 0x00 ∷ []) ∷ (0xFF ∷ 0xFE ∷ 0x00 ∷ 0x4E ∷ []) ∷ (0xEF ∷ 0xBB ∷ []) ∷ [])
-    ≡ (good 3 [] ∷ good 2 (0xE9 ∷ []) ∷ []) ∷ (good 2 [] ∷ good 2 (0x4E00 ∷ []) ∷ []) ∷ (good 2 [] ∷ good 2 (0x4E00 ∷ []) ∷ []) ∷ [] ∷ []
+    ≡ (well_formed 3 [] ∷ well_formed 2 (0xE9 ∷ []) ∷ []) ∷ (well_formed 2 [] ∷ well_formed 2 (0x4E00 ∷ []) ∷ []) ∷ (well_formed 2 [] ∷ well_formed 2 (0x4E00 ∷ []) ∷ []) ∷ [] ∷ []
 unfolding pieces_in
 after_marks = refl
 

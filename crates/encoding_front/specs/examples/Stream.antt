@@ -1,14 +1,14 @@
 -- Worked rows of `specs/Stream.antt`.
 use Rattle.std.specs.Prelude.{◌≡◌, ℕ, ◌+◌, ◌||◌, ◌&&◌, nat_lt, Bool, true, false, if◌then◌else◌, IsTrue, Option, None, Some, List, [], ◌∷◌, ◌++◌, length, refl}
 use Rattle.encoding_mem.specs.Decoding.{DecoderState}
-use Rattle.encoding_mem.specs.Room.{queried, room_utf8, room_utf16, room_single_byte, room_replacement}
+use Rattle.encoding_mem.specs.DecodedLength.{queried, decoded_length_utf8, decoded_length_utf16, decoded_length_single_byte, decoded_length_replacement}
 use Rattle.encoding_mem.specs.declared.decoder_result.DecoderResult.{DecoderResult}
 use Rattle.encoding_mem.specs.declared.decoder_result.DecoderResult.TheVariants.{InputEmpty, OutputFull, Malformed}
-use Rattle.encoding_mem.specs.declared.room.Count.{Count}
-use Rattle.encoding_mem.specs.declared.room.Count.TheVariants.{Units, Bytes, Replaced}
-use Rattle.encoding_mem.specs.declared.room.Room.{Room}
+use Rattle.encoding_mem.specs.declared.room.OutputUnit.{OutputUnit}
+use Rattle.encoding_mem.specs.declared.room.OutputUnit.TheVariants.{Units, Bytes, Replaced}
+use Rattle.encoding_mem.specs.declared.room.DecodedLength.{DecodedLength}
 use Rattle.encoding_tables.specs.IndexLists.{IndexLists}
-use Rattle.encoding_front.specs.Encodings.{pieces_of, room_of_encoding}
+use Rattle.encoding_front.specs.Encodings.{pieces_of, decoded_length_of}
 use Rattle.encoding_front.specs.Latin1Prefix.{latin1_rule, IsAtRest, IsLatin1Prefix}
 use Rattle.encoding_front.specs.Marks.{marked_pieces, source_of}
 use Rattle.encoding_front.specs.Seeking.{can_be, encoding_of_mark, find_mark, is_sought, mark_taken, nothing_sought, sought_by, sought_pieces}
@@ -17,12 +17,12 @@ use Rattle.encoding_front.specs.declared.mark.Mark.{Mark}
 use Rattle.encoding_front.specs.declared.mark.Mark.TheVariants.{Sniff}
 use Rattle.encoding_front.specs.declared.seeking.ByteOrderMark.{ByteOrderMark}
 use Rattle.encoding_front.specs.declared.seeking.ByteOrderMark.TheVariants.{Utf8, Utf16Be, Utf16Le}
-use Rattle.encoding_front.specs.declared.seeking.Seen.{Seen}
-use Rattle.encoding_front.specs.declared.seeking.Sought.{Sought}
+use Rattle.encoding_front.specs.declared.seeking.BomMatch.{BomMatch}
+use Rattle.encoding_front.specs.declared.seeking.BomSet.{BomSet}
 use Rattle.encoding_front.specs.Stream.{Opening, room_asked}
 
 sniffing_windows_1252 : List ℕ → Opening
-sniffing_windows_1252 held = record { sought = sought_by Sniff Encoding.Windows1252; held = held; room = room_single_byte; pending = 0 }
+sniffing_windows_1252 held = record { sought = sought_by Sniff Encoding.Windows1252; held = held; room = decoded_length_single_byte; pending = 0 }
 
 at_the_start : room_asked (sniffing_windows_1252 []) Bytes 4 ≡ Some 12
 unfolding sniffing_windows_1252
@@ -45,15 +45,15 @@ unfolding sniffing_windows_1252
 held_with_replacement = refl
 
 -- a BB that is still to be handed on, where nothing is looked for any more
-handed_on : room_asked (record { sought = nothing_sought; held = 0xBB ∷ []; room = room_single_byte; pending = 0 }) Units 1 ≡ Some 3
+handed_on : room_asked (record { sought = nothing_sought; held = 0xBB ∷ []; room = decoded_length_single_byte; pending = 0 }) Units 1 ≡ Some 3
 handed_on = refl
 
-of_replacement : room_asked (record { sought = nothing_sought; held = []; room = room_replacement; pending = 0 }) Bytes 0xFFFFFFFFFFFFFFFF ≡ Some 3
+of_replacement : room_asked (record { sought = nothing_sought; held = []; room = decoded_length_replacement; pending = 0 }) Bytes 0xFFFFFFFFFFFFFFFF ≡ Some 3
 of_replacement = refl
 
 -- "replacement" has so little room of its own that the others show: at the start UTF-8's, of n bytes
 sniffing_replacement : List ℕ → Opening
-sniffing_replacement held = record { sought = sought_by Sniff Encoding.Replacement; held = held; room = room_replacement; pending = 0 }
+sniffing_replacement held = record { sought = sought_by Sniff Encoding.Replacement; held = held; room = decoded_length_replacement; pending = 0 }
 
 rooms_with : List ℕ → ℕ → List (Option ℕ)
 rooms_with held n = room_asked (sniffing_replacement held) Units n ∷ room_asked (sniffing_replacement held) Bytes n ∷ room_asked (sniffing_replacement held) Replaced n ∷ []
@@ -78,5 +78,5 @@ unfolding sniffing_windows_1252
 utf_16_and_own = refl
 
 -- pending bytes count with those that come
-pending_and_new : room_asked (record { sought = nothing_sought; held = []; room = room_utf8; pending = 3 }) Replaced 4 ≡ Some 24
+pending_and_new : room_asked (record { sought = nothing_sought; held = []; room = decoded_length_utf8; pending = 3 }) Replaced 4 ≡ Some 24
 pending_and_new = refl

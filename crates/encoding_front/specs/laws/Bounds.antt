@@ -9,8 +9,8 @@ use Rattle.encoding_mem.specs.Coding.{Coding, bytes, last_set, open_from, output
 use Rattle.std.proofs.lemmas.Bool.{and_parts}
 use Rattle.encoding_mem.specs.declared.form.Form.{Form}
 use Rattle.encoding_mem.specs.declared.form.Form.TheVariants.{Mapped, Unmapped}
-use Rattle.encoding_mem.specs.declared.form.Set.{Set}
-use Rattle.encoding_mem.specs.declared.form.Set.TheVariants.{Ascii}
+use Rattle.encoding_mem.specs.declared.form.EscapeState.{EscapeState}
+use Rattle.encoding_mem.specs.declared.form.EscapeState.TheVariants.{Ascii}
 use Rattle.encoding_tables.specs.EachByte.{form_of_byte}
 use Rattle.encoding_tables.specs.IndexLists.{IndexLists, entries_of, rows_of}
 use Rattle.encoding_tables.specs.Lookups.{first_pointer}
@@ -27,10 +27,10 @@ use Rattle.encoding_codecs.specs.Pointers.{form_of_bytes, form_of_pointer}
 use Rattle.encoding_codecs.specs.ShiftJis.{shift_jis_char_bytes as shift_jis_bytes}
 use Rattle.encoding_front.specs.Bounds.{ReportsItself}
 use Rattle.encoding_front.specs.laws.Encoder.{coding_laws}
-use Rattle.encoding_front.specs.Encodings.{coding_of, coding_of_scheme, output_encoding_of}
-use Rattle.encoding_front.specs.EncodingTable.{scheme_of}
+use Rattle.encoding_front.specs.Encodings.{coding_of, coding_of_codec_kind, output_encoding_of}
+use Rattle.encoding_front.specs.EncodingTable.{codec_kind_of}
 use Rattle.encoding_front.specs.declared.encoding.Encoding.{Encoding}
-use Rattle.encoding_front.specs.declared.scheme.Scheme.{Scheme}
+use Rattle.encoding_front.specs.declared.codec_kind.CodecKind.{CodecKind}
 
 -- what is reported
 reports_if : (t : Bool) (c : ℕ) (f g : Form) → ReportsItself c f → ReportsItself c g → ReportsItself c (cond t f g)
@@ -53,35 +53,35 @@ reports_jis : (c : ℕ) (o : Option ℕ) → ReportsItself c (jis_form c o)
 reports_jis c None = inl refl
 reports_jis c (Some p) = tt
 
-reports_in : (t : IndexLists) (s : Scheme) (c : ℕ) → ReportsItself c ((coding_of_scheme t s).form c)
-reports_in t Scheme.Utf8 c = tt
-reports_in t (Scheme.SingleByte kind) c = reports_byte c (single_byte_of_char (entries_of t kind) c)
-reports_in t Scheme.Big5 c = reports_if (nat_lt c 0x80) c (Mapped (c ∷ [])) _ tt (reports_pointer big5_bytes c (big5_find (entries_of t IndexKind.Big5) c))
-reports_in t Scheme.EucKr c = reports_if (nat_lt c 0x80) c (Mapped (c ∷ [])) _ tt (reports_pointer euc_kr_bytes c (first_pointer (entries_of t IndexKind.EucKr) c 0 23940))
-reports_in t Scheme.EucJp c = reports_bytes c (euc_jp_bytes (entries_of t IndexKind.Jis0208) c)
-reports_in t Scheme.ShiftJis c = reports_bytes c (shift_jis_bytes (entries_of t IndexKind.Jis0208) c)
-reports_in t (Scheme.Gb18030 extended) c = reports_bytes c (gb18030_bytes (entries_of t IndexKind.Gb18030) (rows_of t) extended c)
-reports_in t Scheme.Iso2022Jp c =
+reports_in : (t : IndexLists) (s : CodecKind) (c : ℕ) → ReportsItself c ((coding_of_codec_kind t s).form c)
+reports_in t CodecKind.Utf8 c = tt
+reports_in t (CodecKind.SingleByte kind) c = reports_byte c (single_byte_of_char (entries_of t kind) c)
+reports_in t CodecKind.Big5 c = reports_if (nat_lt c 0x80) c (Mapped (c ∷ [])) _ tt (reports_pointer big5_bytes c (big5_find (entries_of t IndexKind.Big5) c))
+reports_in t CodecKind.EucKr c = reports_if (nat_lt c 0x80) c (Mapped (c ∷ [])) _ tt (reports_pointer euc_kr_bytes c (first_pointer (entries_of t IndexKind.EucKr) c 0 23940))
+reports_in t CodecKind.EucJp c = reports_bytes c (euc_jp_bytes (entries_of t IndexKind.Jis0208) c)
+reports_in t CodecKind.ShiftJis c = reports_bytes c (shift_jis_bytes (entries_of t IndexKind.Jis0208) c)
+reports_in t (CodecKind.Gb18030 extended) c = reports_bytes c (gb18030_bytes (entries_of t IndexKind.Gb18030) (rows_of t) extended c)
+reports_in t CodecKind.Iso2022Jp c =
     let other = reports_jis c (pointer_of_char (entries_of t IndexKind.Jis0208) (entries_of t IndexKind.Iso2022JpKatakana) c) in
     reports_if (nat_lt c 0x80) c _ _ (reports_if (c == 0x0E || c == 0x0F || c == 0x1B) c (Unmapped 0xFFFD) (Mapped (c ∷ [])) (inr refl) tt)
     (reports_if (c == 0xA5) c (Mapped (0x5C ∷ [])) _ tt (reports_if (c == 0x203E) c (Mapped (0x7E ∷ [])) _ tt other))
-reports_in t Scheme.UserDefined c = reports_byte c (byte_of_user_char c)
-reports_in t (Scheme.Utf16 big_endian) c = tt
-reports_in t Scheme.Replacement c = tt
+reports_in t CodecKind.UserDefined c = reports_byte c (byte_of_user_char c)
+reports_in t (CodecKind.Utf16 big_endian) c = tt
+reports_in t CodecKind.Replacement c = tt
 
 pub reports_itself : (t : IndexLists) (e : Encoding) (c : ℕ) → ReportsItself c ((coding_of t e).form c)
-reports_itself t e c = reports_in t (scheme_of (output_encoding_of e)) c
+reports_itself t e c = reports_in t (codec_kind_of (output_encoding_of e)) c
 
 -- the bytes of a character are at most four, an escape has at most three
 pub short_form : (t : IndexLists) (e : Encoding) (c : ℕ) → length (bytes ((coding_of t e).form c)) ≤ 4
 short_form t e c = omega (arith, ((coding_laws t e).short c).short, (coding_laws t e).few)
 
-escape_in : (t : IndexLists) (k : Scheme) (s s' : Set) → length ((coding_of_scheme t k).escape s s') ≤ 3
-escape_in t Scheme.Iso2022Jp s s' = (iso_2022_jp_laws (entries_of t IndexKind.Jis0208) (entries_of t IndexKind.Iso2022JpKatakana)).escape_short s s'
+escape_in : (t : IndexLists) (k : CodecKind) (s s' : EscapeState) → length ((coding_of_codec_kind t k).escape s s') ≤ 3
+escape_in t CodecKind.Iso2022Jp s s' = (iso_2022_jp_laws (entries_of t IndexKind.Jis0208) (entries_of t IndexKind.Iso2022JpKatakana)).escape_short s s'
 escape_in t _ s s' = omega arith
 
-pub short_escape : (t : IndexLists) (e : Encoding) (s s' : Set) → length ((coding_of t e).escape s s') ≤ 3
-short_escape t e s s' = escape_in t (scheme_of (output_encoding_of e)) s s'
+pub short_escape : (t : IndexLists) (e : Encoding) (s s' : EscapeState) → length ((coding_of t e).escape s s') ≤ 3
+short_escape t e s s' = escape_in t (codec_kind_of (output_encoding_of e)) s s'
 
 -- the longest reference is `&#1114111;`
 pub short_reference : (c : ℕ) → c < 0x110000 → length (reference c) ≤ 10
@@ -96,7 +96,7 @@ below_all : (c : ℕ) → scalar c ≡ true → c < 0x110000
 below_all c h = elim (scalar_cases c h) [ inl low ↦ omega (arith, low) | inr high ↦ omega (arith, high.1) ]
 
 -- a text of n characters is written in at most 13 * n + 3 bytes
-short_text : (e : Coding) (s : Set) (t : List ℕ) → ((a b : Set) → length (e.escape a b) ≤ 3) → ((c : ℕ) → c < 0x110000 → length (spelled (e.form c)) ≤ 10) → all_scalars t ≡ true
+short_text : (e : Coding) (s : EscapeState) (t : List ℕ) → ((a b : EscapeState) → length (e.escape a b) ≤ 3) → ((c : ℕ) → c < 0x110000 → length (spelled (e.form c)) ≤ 10) → all_scalars t ≡ true
     → length (open_from e s t) ≤ 13 * length t
 short_text e s [] escapes forms are = omega arith
 short_text e s (c ∷ t) escapes forms are =
@@ -110,7 +110,7 @@ short_text e s (c ∷ t) escapes forms are =
       length-append (spelled (e.form c)) (open_from e (e.set s c) t),
     )
 
-pub short_open : (t : IndexLists) (e : Encoding) (s : Set) (text : List ℕ) → all_scalars text ≡ true → length (open_from (coding_of t e) s text) ≤ 13 * length text
+pub short_open : (t : IndexLists) (e : Encoding) (s : EscapeState) (text : List ℕ) → all_scalars text ≡ true → length (open_from (coding_of t e) s text) ≤ 13 * length text
 short_open t e s text are = short_text (coding_of t e) s text (short_escape t e) (λ c small. short_spelled c ((coding_of t e).form c) small (short_form t e c) (reports_itself t e c)) are
 
 pub short_output : (t : IndexLists) (e : Encoding) (text : List ℕ) → all_scalars text ≡ true → length (output (coding_of t e) text) ≤ 13 * length text + 3

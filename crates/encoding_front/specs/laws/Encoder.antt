@@ -12,13 +12,13 @@ use Rattle.encoding_codecs.specs.laws.EucJp.{euc_jp_laws}
 use Rattle.encoding_codecs.specs.laws.ShiftJis.{shift_jis_laws}
 use Rattle.encoding_codecs.specs.laws.Gb18030Coding.{gb18030_laws}
 use Rattle.encoding_codecs.specs.laws.Iso2022JpForms.{iso_2022_jp_laws}
-use Rattle.encoding_front.specs.Encodings.{coding_of, coding_of_scheme, need_of, need_of_scheme, output_encoding_of}
-use Rattle.encoding_front.specs.EncodingTable.{scheme_of}
+use Rattle.encoding_front.specs.Encodings.{coding_of, coding_of_codec_kind, need_of, need_of_codec_kind, output_encoding_of}
+use Rattle.encoding_front.specs.EncodingTable.{codec_kind_of}
 use Rattle.encoding_front.specs.declared.encoding.Encoding.{Encoding}
 use Rattle.encoding_front.specs.declared.encoding.Encoding.TheVariants.{Big5}
-use Rattle.encoding_front.specs.declared.scheme.Scheme.{Scheme}
+use Rattle.encoding_front.specs.declared.codec_kind.CodecKind.{CodecKind}
 
--- a place in what follows i is a place in the list
+-- an offset in what follows i is an offset in the list
 pub within_from_rest : (xs : List ℕ) (i j : ℕ) → i ≤ length xs → j ≤ length (drop i xs) → i + j ≤ length xs
 within_from_rest xs i j within more = omega (arith, length-drop i xs)
 
@@ -28,27 +28,27 @@ output_twice Big5 = refl
 output_twice _ = refl
 
 -- a step writes something
-need_of_scheme-positive : (s : Scheme) → 0 < need_of_scheme s
-need_of_scheme-positive (Scheme.Gb18030 true) = lit< tt
-need_of_scheme-positive (Scheme.Gb18030 false) = lit< tt
-need_of_scheme-positive _ = lit< tt
+need_of_codec_kind-positive : (s : CodecKind) → 0 < need_of_codec_kind s
+need_of_codec_kind-positive (CodecKind.Gb18030 true) = lit< tt
+need_of_codec_kind-positive (CodecKind.Gb18030 false) = lit< tt
+need_of_codec_kind-positive _ = lit< tt
 
 pub need_positive : (e : Encoding) → 0 < need_of e
-need_positive e = need_of_scheme-positive (scheme_of (output_encoding_of e))
+need_positive e = need_of_codec_kind-positive (codec_kind_of (output_encoding_of e))
 
 -- what is written in an output encoding is a coding
-coding_of_scheme-laws : (t : IndexLists) (s : Scheme) → IsCoding (need_of_scheme s) (coding_of_scheme t s)
-coding_of_scheme-laws t Scheme.Utf8 = utf8_coding_laws
-coding_of_scheme-laws t (Scheme.SingleByte kind) = single_byte_laws (entries_of t kind)
-coding_of_scheme-laws t Scheme.Big5 = big5_laws (entries_of t IndexKind.Big5)
-coding_of_scheme-laws t Scheme.EucKr = euc_kr_laws (entries_of t IndexKind.EucKr)
-coding_of_scheme-laws t Scheme.EucJp = euc_jp_laws (entries_of t IndexKind.Jis0208)
-coding_of_scheme-laws t Scheme.ShiftJis = shift_jis_laws (entries_of t IndexKind.Jis0208)
-coding_of_scheme-laws t (Scheme.Gb18030 extended) = gb18030_laws (entries_of t IndexKind.Gb18030) (rows_of t) extended
-coding_of_scheme-laws t Scheme.Iso2022Jp = iso_2022_jp_laws (entries_of t IndexKind.Jis0208) (entries_of t IndexKind.Iso2022JpKatakana)
-coding_of_scheme-laws t Scheme.UserDefined = user_defined_laws
-coding_of_scheme-laws t (Scheme.Utf16 big_endian) = utf8_coding_laws
-coding_of_scheme-laws t Scheme.Replacement = utf8_coding_laws
+coding_of_codec_kind-laws : (t : IndexLists) (s : CodecKind) → IsCoding (need_of_codec_kind s) (coding_of_codec_kind t s)
+coding_of_codec_kind-laws t CodecKind.Utf8 = utf8_coding_laws
+coding_of_codec_kind-laws t (CodecKind.SingleByte kind) = single_byte_laws (entries_of t kind)
+coding_of_codec_kind-laws t CodecKind.Big5 = big5_laws (entries_of t IndexKind.Big5)
+coding_of_codec_kind-laws t CodecKind.EucKr = euc_kr_laws (entries_of t IndexKind.EucKr)
+coding_of_codec_kind-laws t CodecKind.EucJp = euc_jp_laws (entries_of t IndexKind.Jis0208)
+coding_of_codec_kind-laws t CodecKind.ShiftJis = shift_jis_laws (entries_of t IndexKind.Jis0208)
+coding_of_codec_kind-laws t (CodecKind.Gb18030 extended) = gb18030_laws (entries_of t IndexKind.Gb18030) (rows_of t) extended
+coding_of_codec_kind-laws t CodecKind.Iso2022Jp = iso_2022_jp_laws (entries_of t IndexKind.Jis0208) (entries_of t IndexKind.Iso2022JpKatakana)
+coding_of_codec_kind-laws t CodecKind.UserDefined = user_defined_laws
+coding_of_codec_kind-laws t (CodecKind.Utf16 big_endian) = utf8_coding_laws
+coding_of_codec_kind-laws t CodecKind.Replacement = utf8_coding_laws
 
 pub coding_laws : (t : IndexLists) (e : Encoding) → IsCoding (need_of e) (coding_of t e)
-coding_laws t e = coding_of_scheme-laws t (scheme_of (output_encoding_of e))
+coding_laws t e = coding_of_codec_kind-laws t (codec_kind_of (output_encoding_of e))

@@ -8,75 +8,75 @@ use Rattle.std.proofs.lemmas.List.{length-take}
 use lib.Pointwise.{pointwise_long}
 use lib.Utf8.{scalar}
 use Rattle.encoding_mem.specs.Coding.{output}
-use Rattle.encoding_mem.specs.Piece.{Piece, good, bad, text, text_of, sizes, ArePieces}
+use Rattle.encoding_mem.specs.Piece.{Piece, well_formed, malformed, text, text_of, sizes, ArePieces}
 use Rattle.encoding_mem.specs.laws.Piece.{sizes-append, ArePieces-append}
 use Rattle.encoding_mem.specs.laws.Pieces.{pieces_by-whole, pieces_in-whole}
-use Rattle.encoding_mem.specs.Utf8.{front_utf8}
+use Rattle.encoding_mem.specs.Utf8.{first_piece_utf8}
 use Rattle.encoding_mem.specs.laws.Utf8.{cuts_utf8}
 use Rattle.std.proofs.lemmas.Bool.{and_parts}
 use Rattle.encoding_tables.specs.IndexLists.{IndexLists, AreAcceptedTables, entries_of, rows_of}
-use Rattle.encoding_tables.specs.Replacement.{front_replacement, after_replacement}
+use Rattle.encoding_tables.specs.Replacement.{first_piece_replacement, after_replacement}
 use Rattle.encoding_tables.specs.laws.Replacement.{cuts_replacement}
-use Rattle.encoding_tables.specs.SingleByte.{front_single_byte}
+use Rattle.encoding_tables.specs.SingleByte.{first_piece_single_byte}
 use Rattle.encoding_tables.specs.laws.SingleByte.{cuts_single_byte}
 use Rattle.encoding_tables.specs.laws.SingleByteTables.{entries_scalars}
-use Rattle.encoding_tables.specs.UserDefined.{front_user_defined}
+use Rattle.encoding_tables.specs.UserDefined.{first_piece_user_defined}
 use Rattle.encoding_tables.specs.laws.UserDefined.{cuts_user_defined}
-use Rattle.encoding_tables.specs.Utf16.{front_utf16}
+use Rattle.encoding_tables.specs.Utf16.{first_piece_utf16}
 use Rattle.encoding_tables.specs.laws.Utf16.{cuts_utf16}
 use Rattle.encoding_tables.specs.declared.index_kind.IndexKind.{IndexKind}
-use Rattle.encoding_codecs.specs.Big5.{big5_rule, front_big5}
+use Rattle.encoding_codecs.specs.Big5.{big5_rule, first_piece_big5}
 use Rattle.encoding_codecs.specs.laws.Big5.{big5_is_two_byte}
-use Rattle.encoding_codecs.specs.EucJp.{front_euc_jp}
+use Rattle.encoding_codecs.specs.EucJp.{first_piece_euc_jp}
 use Rattle.encoding_codecs.specs.laws.EucJp.{euc_jp_is_lead_rule}
-use Rattle.encoding_codecs.specs.EucKr.{euc_kr_rule, front_euc_kr}
+use Rattle.encoding_codecs.specs.EucKr.{euc_kr_rule, first_piece_euc_kr}
 use Rattle.encoding_codecs.specs.laws.EucKr.{euc_kr_is_two_byte}
-use Rattle.encoding_codecs.specs.Gb18030.{front_gb18030}
+use Rattle.encoding_codecs.specs.Gb18030.{first_piece_gb18030}
 use Rattle.encoding_codecs.specs.laws.Gb18030.{cuts_gb18030}
 use Rattle.encoding_codecs.specs.laws.Gb18030Tables.{gb18030_tables}
 use Rattle.encoding_codecs.specs.Iso2022Jp.{ascii_mode}
 use Rattle.encoding_codecs.specs.laws.Iso2022Jp.{iso_2022_jp_whole}
-use Rattle.encoding_codecs.specs.ShiftJis.{shift_jis_rule, front_shift_jis}
+use Rattle.encoding_codecs.specs.ShiftJis.{shift_jis_rule, first_piece_shift_jis}
 use Rattle.encoding_codecs.specs.laws.ShiftJis.{shift_jis_is_two_byte}
 use Rattle.encoding_codecs.specs.laws.TwoByte.{cuts_rule, cuts_two_byte}
 use Rattle.encoding_front.specs.laws.Bounds.{short_output}
-use Rattle.encoding_front.specs.Encodings.{coding_of, first_mark, pieces_of, pieces_of_scheme}
-use Rattle.encoding_front.specs.EncodingTable.{scheme_of}
+use Rattle.encoding_front.specs.Encodings.{coding_of, first_mark, pieces_of, pieces_of_codec_kind}
+use Rattle.encoding_front.specs.EncodingTable.{codec_kind_of}
 use Rattle.encoding_front.specs.laws.Encodings.{are_pieces_of}
 use Rattle.encoding_front.specs.Marks.{mark_piece, marked_pieces, marked_text, marks_taken, source_of, source_or}
 use Rattle.encoding_front.specs.declared.encoding.Encoding.{Encoding}
 use Rattle.encoding_front.specs.declared.mark.Mark.{Mark}
-use Rattle.encoding_front.specs.declared.scheme.Scheme.{Scheme}
+use Rattle.encoding_front.specs.declared.codec_kind.CodecKind.{CodecKind}
 
 -- the pieces of bytes, joined, are the bytes
-whole_in : (t : IndexLists) (s : Scheme) → AreAcceptedTables t → (x : List ℕ) → sizes (pieces_of_scheme t s x) ≡ length x
-whole_in t Scheme.Utf8 taken x = pieces_by-whole front_utf8 cuts_utf8 x
-whole_in t (Scheme.SingleByte kind) taken x =
+whole_in : (t : IndexLists) (s : CodecKind) → AreAcceptedTables t → (x : List ℕ) → sizes (pieces_of_codec_kind t s x) ≡ length x
+whole_in t CodecKind.Utf8 taken x = pieces_by-whole first_piece_utf8 cuts_utf8 x
+whole_in t (CodecKind.SingleByte kind) taken x =
     let flat = entries_of t kind in
-    pieces_by-whole (front_single_byte flat) (cuts_single_byte flat (entries_scalars t kind taken)) x
-whole_in t Scheme.Big5 taken x =
+    pieces_by-whole (first_piece_single_byte flat) (cuts_single_byte flat (entries_scalars t kind taken)) x
+whole_in t CodecKind.Big5 taken x =
     let flat = entries_of t IndexKind.Big5 in
-    pieces_by-whole (front_big5 flat) (cuts_two_byte (big5_rule flat) (big5_is_two_byte flat (entries_scalars t IndexKind.Big5 taken))) x
-whole_in t Scheme.EucKr taken x =
+    pieces_by-whole (first_piece_big5 flat) (cuts_two_byte (big5_rule flat) (big5_is_two_byte flat (entries_scalars t IndexKind.Big5 taken))) x
+whole_in t CodecKind.EucKr taken x =
     let flat = entries_of t IndexKind.EucKr in
-    pieces_by-whole (front_euc_kr flat) (cuts_two_byte (euc_kr_rule flat) (euc_kr_is_two_byte flat (entries_scalars t IndexKind.EucKr taken))) x
-whole_in t Scheme.EucJp taken x =
+    pieces_by-whole (first_piece_euc_kr flat) (cuts_two_byte (euc_kr_rule flat) (euc_kr_is_two_byte flat (entries_scalars t IndexKind.EucKr taken))) x
+whole_in t CodecKind.EucJp taken x =
     let jis0208 = entries_of t IndexKind.Jis0208 in
     let jis0212 = entries_of t IndexKind.Jis0212 in
-    pieces_by-whole (front_euc_jp jis0208 jis0212) (cuts_rule _ _ _ (euc_jp_is_lead_rule jis0208 jis0212 (entries_scalars t IndexKind.Jis0208 taken) (entries_scalars t IndexKind.Jis0212 taken))) x
-whole_in t Scheme.ShiftJis taken x =
+    pieces_by-whole (first_piece_euc_jp jis0208 jis0212) (cuts_rule _ _ _ (euc_jp_is_lead_rule jis0208 jis0212 (entries_scalars t IndexKind.Jis0208 taken) (entries_scalars t IndexKind.Jis0212 taken))) x
+whole_in t CodecKind.ShiftJis taken x =
     let flat = entries_of t IndexKind.Jis0208 in
-    pieces_by-whole (front_shift_jis flat) (cuts_two_byte (shift_jis_rule flat) (shift_jis_is_two_byte flat (entries_scalars t IndexKind.Jis0208 taken))) x
-whole_in t (Scheme.Gb18030 extended) taken x =
+    pieces_by-whole (first_piece_shift_jis flat) (cuts_two_byte (shift_jis_rule flat) (shift_jis_is_two_byte flat (entries_scalars t IndexKind.Jis0208 taken))) x
+whole_in t (CodecKind.Gb18030 extended) taken x =
     let flat = entries_of t IndexKind.Gb18030 in
-    pieces_by-whole (front_gb18030 flat (rows_of t)) (cuts_gb18030 flat (rows_of t) (gb18030_tables t taken)) x
-whole_in t Scheme.Iso2022Jp taken x = iso_2022_jp_whole (entries_of t IndexKind.Jis0208) (entries_scalars t IndexKind.Jis0208 taken) ascii_mode x
-whole_in t Scheme.UserDefined taken x = pieces_by-whole front_user_defined cuts_user_defined x
-whole_in t (Scheme.Utf16 big_endian) taken x = pieces_by-whole (front_utf16 big_endian) (cuts_utf16 big_endian) x
-whole_in t Scheme.Replacement taken x = pieces_in-whole front_replacement after_replacement cuts_replacement false x
+    pieces_by-whole (first_piece_gb18030 flat (rows_of t)) (cuts_gb18030 flat (rows_of t) (gb18030_tables t taken)) x
+whole_in t CodecKind.Iso2022Jp taken x = iso_2022_jp_whole (entries_of t IndexKind.Jis0208) (entries_scalars t IndexKind.Jis0208 taken) ascii_mode x
+whole_in t CodecKind.UserDefined taken x = pieces_by-whole first_piece_user_defined cuts_user_defined x
+whole_in t (CodecKind.Utf16 big_endian) taken x = pieces_by-whole (first_piece_utf16 big_endian) (cuts_utf16 big_endian) x
+whole_in t CodecKind.Replacement taken x = pieces_in-whole first_piece_replacement after_replacement cuts_replacement false x
 
 pub whole_of : (t : IndexLists) (e : Encoding) → AreAcceptedTables t → (x : List ℕ) → sizes (pieces_of t e x) ≡ length x
-whole_of t e taken x = whole_in t (scheme_of e) taken x
+whole_of t e taken x = whole_in t (codec_kind_of e) taken x
 
 -- a mark that is taken stands in the bytes
 mark_fits : (x m : List ℕ) → starts_with eqb x m ≡ true → length m ≤ length x
@@ -125,8 +125,8 @@ all_scalars-append (c ∷ a) b h k =
 
 pub text_scalars : (ps : List Piece) → ArePieces ps → all_scalars (text ps) ≡ true
 text_scalars [] h = refl
-text_scalars (good n cs ∷ ps) h = all_scalars-append cs (text ps) h.0.are_scalars (text_scalars ps h.1)
-text_scalars (bad n ∷ ps) h = text_scalars ps h.1
+text_scalars (well_formed n cs ∷ ps) h = all_scalars-append cs (text ps) h.0.are_scalars (text_scalars ps h.1)
+text_scalars (malformed n ∷ ps) h = text_scalars ps h.1
 
 pub marked_few : (t : IndexLists) (mark : Mark) (e : Encoding) (x : List ℕ) → AreAcceptedTables t → length (marked_text t mark e x) ≤ length x
 marked_few t mark e x taken = omega (arith, few_text (marked_pieces t mark e x) (marked_are_pieces t mark e x taken), marked_whole t mark e x taken)

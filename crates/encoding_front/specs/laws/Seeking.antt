@@ -3,47 +3,47 @@ use Rattle.std.proofs.Common.{◌≡◌, ℕ, suc, ◌+◌, ◌-◌, ◌≤◌, 
 use Rattle.encoding_mem.specs.Piece.{sizes, ArePieces}
 use Rattle.encoding_mem.specs.laws.Pieces.{pieces_by-are_pieces, pieces_by-whole}
 use Rattle.encoding_mem.specs.Decoding.{DecoderState}
-use Rattle.encoding_mem.specs.Room.{room_of, room_utf8, room_utf16, room_single_byte, room_multibyte, room_replacement}
-use Rattle.encoding_mem.specs.Utf8.{front_utf8}
+use Rattle.encoding_mem.specs.DecodedLength.{decoded_length, decoded_length_utf8, decoded_length_utf16, decoded_length_single_byte, decoded_length_multibyte, decoded_length_replacement}
+use Rattle.encoding_mem.specs.Utf8.{first_piece_utf8}
 use Rattle.encoding_mem.specs.laws.Utf8.{cuts_utf8}
-use Rattle.encoding_mem.specs.declared.room.Count.{Count}
-use Rattle.encoding_mem.specs.declared.room.Count.TheVariants.{Units, Bytes, Replaced}
-use Rattle.encoding_tables.specs.Utf16.{front_utf16}
+use Rattle.encoding_mem.specs.declared.room.OutputUnit.{OutputUnit}
+use Rattle.encoding_mem.specs.declared.room.OutputUnit.TheVariants.{Units, Bytes, Replaced}
+use Rattle.encoding_tables.specs.Utf16.{first_piece_utf16}
 use Rattle.encoding_tables.specs.laws.Utf16.{cuts_utf16}
-use Rattle.encoding_front.specs.EncodingTable.{scheme_of}
-use Rattle.encoding_front.specs.Encodings.{room_of_encoding, room_of_scheme}
+use Rattle.encoding_front.specs.EncodingTable.{codec_kind_of}
+use Rattle.encoding_front.specs.Encodings.{decoded_length_of, room_of_codec_kind}
 use Rattle.encoding_front.specs.declared.encoding.Encoding.{Encoding}
-use Rattle.encoding_front.specs.declared.scheme.Scheme.{Scheme}
+use Rattle.encoding_front.specs.declared.codec_kind.CodecKind.{CodecKind}
 use Rattle.encoding_front.specs.Seeking.{len_of, pieces_after, room_after, is_sought, find_mark, find_second, find_end, pieces_seen, sought_pieces, can_be, sought_needs, room_widest}
 use Rattle.encoding_front.specs.declared.seeking.ByteOrderMark.{ByteOrderMark}
 use Rattle.encoding_front.specs.declared.seeking.ByteOrderMark.TheVariants.{Utf8, Utf16Be, Utf16Le}
-use Rattle.encoding_front.specs.declared.seeking.Sought.{Sought}
-use Rattle.encoding_front.specs.declared.seeking.Seen.{Seen}
-use Rattle.encoding_front.specs.declared.seeking.Seen.TheVariants.{Front, Whole, Other}
+use Rattle.encoding_front.specs.declared.seeking.BomSet.{BomSet}
+use Rattle.encoding_front.specs.declared.seeking.BomMatch.{BomMatch}
+use Rattle.encoding_front.specs.declared.seeking.BomMatch.TheVariants.{Prefix, Whole, Other}
 
 -- what follows a mark
 pub whole_after : (m : ByteOrderMark) (x : List ℕ) → sizes (pieces_after m x) ≡ length x
-whole_after Utf8 x = pieces_by-whole front_utf8 cuts_utf8 x
-whole_after Utf16Be x = pieces_by-whole (front_utf16 true) (cuts_utf16 true) x
-whole_after Utf16Le x = pieces_by-whole (front_utf16 false) (cuts_utf16 false) x
+whole_after Utf8 x = pieces_by-whole first_piece_utf8 cuts_utf8 x
+whole_after Utf16Be x = pieces_by-whole (first_piece_utf16 true) (cuts_utf16 true) x
+whole_after Utf16Le x = pieces_by-whole (first_piece_utf16 false) (cuts_utf16 false) x
 
 pub are_pieces_after : (m : ByteOrderMark) (x : List ℕ) → ArePieces (pieces_after m x)
-are_pieces_after Utf8 x = pieces_by-are_pieces front_utf8 cuts_utf8 x
-are_pieces_after Utf16Be x = pieces_by-are_pieces (front_utf16 true) (cuts_utf16 true) x
-are_pieces_after Utf16Le x = pieces_by-are_pieces (front_utf16 false) (cuts_utf16 false) x
+are_pieces_after Utf8 x = pieces_by-are_pieces first_piece_utf8 cuts_utf8 x
+are_pieces_after Utf16Be x = pieces_by-are_pieces (first_piece_utf16 true) (cuts_utf16 true) x
+are_pieces_after Utf16Le x = pieces_by-are_pieces (first_piece_utf16 false) (cuts_utf16 false) x
 
 -- a whole mark stands in n bytes
-abbrev IsWithin : ℕ → Seen → Type 0
-IsWithin n Front = Unit {0}
+abbrev IsWithin : ℕ → BomMatch → Type 0
+IsWithin n Prefix = Unit {0}
 IsWithin n (Whole m) = len_of m ≤ n
 IsWithin n Other = Unit {0}
 
-within_cond : (t : Bool) (n : ℕ) (F G : Seen) → IsWithin n F → IsWithin n G → IsWithin n (cond t F G)
+within_cond : (t : Bool) (n : ℕ) (F G : BomMatch) → IsWithin n F → IsWithin n G → IsWithin n (cond t F G)
 within_cond true n F G h k = h
 within_cond false n F G h k = k
 
-within_more : (F : Seen) (n m : ℕ) → n ≤ m → IsWithin n F → IsWithin m F
-within_more Front n m e h = tt
+within_more : (F : BomMatch) (n m : ℕ) → n ≤ m → IsWithin n F → IsWithin m F
+within_more Prefix n m e h = tt
 within_more (Whole mark) n m e h = omega (arith, e, h)
 within_more Other n m e h = tt
 
@@ -55,7 +55,7 @@ within_second : (x : List ℕ) → IsWithin (1 + length x) (find_second x)
 within_second [] = tt
 within_second (b ∷ x) = within_cond (b == 0xBB) _ (find_end 0xBF Utf8 x) Other (within_more (find_end 0xBF Utf8 x) _ _ (let e : 2 + length x ≤ 1 + length (b ∷ x) = omega arith in e) (within_end 0xBF Utf8 2 x refl)) tt
 
-within_mark : (s : Sought) (x : List ℕ) → IsWithin (length x) (find_mark s x)
+within_mark : (s : BomSet) (x : List ℕ) → IsWithin (length x) (find_mark s x)
 within_mark s [] = tt
 within_mark s (a ∷ x) =
     let e : 1 + length x ≤ length (a ∷ x) = omega arith in
@@ -64,17 +64,17 @@ within_mark s (a ∷ x) =
     (within_cond ((a == 0xFE) && s.utf16_be) _ (find_end 0xFF Utf16Be x) _ (within_end 0xFF Utf16Be 1 x refl)
     (within_cond ((a == 0xFF) && s.utf16_le) _ (find_end 0xFE Utf16Le x) Other (within_end 0xFE Utf16Le 1 x refl) tt)))
 
-whole_seen : (own : DecoderState) (x : List ℕ) (F : Seen) → own.pending ≡ 0 → IsWithin (length x) F → sizes (pieces_seen own.pieces x F) ≡ own.pending + length x
-whole_seen own x Front e h = own.whole x
+whole_seen : (own : DecoderState) (x : List ℕ) (F : BomMatch) → own.pending ≡ 0 → IsWithin (length x) F → sizes (pieces_seen own.pieces x F) ≡ own.pending + length x
+whole_seen own x Prefix e h = own.whole x
 whole_seen own x (Whole m) e h = omega (arith, e, h, whole_after m (drop (len_of m) x), length-drop (len_of m) x)
 whole_seen own x Other e h = own.whole x
 
-whole_at : (t : Bool) (own : DecoderState) (x : List ℕ) (F : Seen) → (IsTrue t → own.pending ≡ 0) → IsWithin (length x) F → sizes (cond t (pieces_seen own.pieces x F) (own.pieces x)) ≡ own.pending + length x
+whole_at : (t : Bool) (own : DecoderState) (x : List ℕ) (F : BomMatch) → (IsTrue t → own.pending ≡ 0) → IsWithin (length x) F → sizes (cond t (pieces_seen own.pieces x F) (own.pieces x)) ≡ own.pending + length x
 whole_at true own x F fresh h = whole_seen own x F (fresh refl) h
 whole_at false own x F fresh h = own.whole x
 
 -- the pieces, joined, are the input
-pub sought_whole : (s : Sought) (own : DecoderState) (held : List ℕ) → (IsTrue (is_sought s) → own.pending ≡ 0) → (x : List ℕ) → sizes (sought_pieces s own.pieces (held ++ x)) ≡ (own.pending + length held) + length x
+pub sought_whole : (s : BomSet) (own : DecoderState) (held : List ℕ) → (IsTrue (is_sought s) → own.pending ≡ 0) → (x : List ℕ) → sizes (sought_pieces s own.pieces (held ++ x)) ≡ (own.pending + length held) + length x
 sought_whole s own held fresh x =
     whole_at (is_sought s) own (held ++ x) (find_mark s (held ++ x)) fresh (within_mark s (held ++ x)) ∙ omega (arith, length-append held x)
 
@@ -83,51 +83,51 @@ pieces_of_mark Utf8 x = (record { some = omega arith; few = omega arith; at_most
 pieces_of_mark Utf16Be x = (record { some = omega arith; few = omega arith; at_most_two = omega arith; are_scalars = refl }, are_pieces_after Utf16Be (drop 2 x))
 pieces_of_mark Utf16Le x = (record { some = omega arith; few = omega arith; at_most_two = omega arith; are_scalars = refl }, are_pieces_after Utf16Le (drop 2 x))
 
-pieces_seen_are : (own : DecoderState) (x : List ℕ) (F : Seen) → ArePieces (pieces_seen own.pieces x F)
-pieces_seen_are own x Front = own.are_pieces x
+pieces_seen_are : (own : DecoderState) (x : List ℕ) (F : BomMatch) → ArePieces (pieces_seen own.pieces x F)
+pieces_seen_are own x Prefix = own.are_pieces x
 pieces_seen_are own x (Whole m) = pieces_of_mark m x
 pieces_seen_are own x Other = own.are_pieces x
 
-are_at : (t : Bool) (own : DecoderState) (x : List ℕ) (F : Seen) → ArePieces (cond t (pieces_seen own.pieces x F) (own.pieces x))
+are_at : (t : Bool) (own : DecoderState) (x : List ℕ) (F : BomMatch) → ArePieces (cond t (pieces_seen own.pieces x F) (own.pieces x))
 are_at true own x F = pieces_seen_are own x F
 are_at false own x F = own.are_pieces x
 
 -- each is a piece
-pub sought_are_pieces : (s : Sought) (own : DecoderState) (held x : List ℕ) → ArePieces (sought_pieces s own.pieces (held ++ x))
+pub sought_are_pieces : (s : BomSet) (own : DecoderState) (held x : List ℕ) → ArePieces (sought_pieces s own.pieces (held ++ x))
 sought_are_pieces s own held x = are_at (is_sought s) own (held ++ x) (find_mark s (held ++ x))
 
 -- the widest room is enough for what follows a mark
-pub widest_utf8 : (k : Count) (n : ℕ) → room_of room_utf8 k n ≤ room_of room_widest k n
+pub widest_utf8 : (k : OutputUnit) (n : ℕ) → decoded_length decoded_length_utf8 k n ≤ decoded_length room_widest k n
 widest_utf8 Units n = omega arith
 widest_utf8 Bytes n = omega arith
 widest_utf8 Replaced n = omega arith
 
-pub widest_utf16 : (k : Count) (n : ℕ) → room_of room_utf16 k n ≤ room_of room_widest k n
+pub widest_utf16 : (k : OutputUnit) (n : ℕ) → decoded_length decoded_length_utf16 k n ≤ decoded_length room_widest k n
 widest_utf16 Units n = omega arith
 widest_utf16 Bytes n = omega arith
 widest_utf16 Replaced n = omega arith
 
-pub widest_after : (m : ByteOrderMark) (k : Count) (n : ℕ) → room_of (room_after m) k n ≤ room_of room_widest k n
+pub widest_after : (m : ByteOrderMark) (k : OutputUnit) (n : ℕ) → decoded_length (room_after m) k n ≤ decoded_length room_widest k n
 widest_after Utf8 k n = widest_utf8 k n
 widest_after Utf16Be k n = widest_utf16 k n
 widest_after Utf16Le k n = widest_utf16 k n
 
-widest_rises : (k : Count) (m n : ℕ) → m ≤ n → room_of room_widest k m ≤ room_of room_widest k n
+widest_rises : (k : OutputUnit) (m n : ℕ) → m ≤ n → decoded_length room_widest k m ≤ decoded_length room_widest k n
 widest_rises Units m n h = omega (arith, h)
 widest_rises Bytes m n h = omega (arith, h)
 widest_rises Replaced m n h = omega (arith, h)
 
-widest_cond : (t : Bool) (m : ByteOrderMark) (k : Count) (j n : ℕ) → j ≤ n → cond t (room_of (room_after m) k j) 0 ≤ room_of room_widest k n
+widest_cond : (t : Bool) (m : ByteOrderMark) (k : OutputUnit) (j n : ℕ) → j ≤ n → cond t (decoded_length (room_after m) k j) 0 ≤ decoded_length room_widest k n
 widest_cond true m k j n h = omega (arith, widest_after m k j, widest_rises k j n h)
 widest_cond false m k j n h = omega arith
 
 -- it is enough for a decoder that looks for a mark, where it is for its own
-pub sought_covers : (s : Sought) (own : DecoderState) (held : List ℕ) → ((k : Count) (n : ℕ) → room_of own.room k n ≤ room_of room_widest k n)
-    → (k : Count) (n : ℕ) → sought_needs s own.needs held k n ≤ room_of room_widest k ((own.pending + length held) + n)
+pub sought_covers : (s : BomSet) (own : DecoderState) (held : List ℕ) → ((k : OutputUnit) (n : ℕ) → decoded_length own.room k n ≤ decoded_length room_widest k n)
+    → (k : OutputUnit) (n : ℕ) → sought_needs s own.needs held k n ≤ decoded_length room_widest k ((own.pending + length held) + n)
 sought_covers s own held bounded k n =
     let all : ℕ = (own.pending + length held) + n in
     let same : own.pending + (length held + n) ≡ all = omega arith in
-    let mine : own.needs k (length held + n) ≤ room_of room_widest k (own.pending + (length held + n)) = omega (arith, own.covers k (length held + n), bounded k (own.pending + (length held + n))) in
+    let mine : own.needs k (length held + n) ≤ decoded_length room_widest k (own.pending + (length held + n)) = omega (arith, own.covers k (length held + n), bounded k (own.pending + (length held + n))) in
     omega (
       arith,
       mine,
@@ -138,28 +138,28 @@ sought_covers s own held bounded k n =
     )
 
 -- and in every encoding
-widest_single_byte : (k : Count) (n : ℕ) → room_of room_single_byte k n ≤ room_of room_widest k n
+widest_single_byte : (k : OutputUnit) (n : ℕ) → decoded_length decoded_length_single_byte k n ≤ decoded_length room_widest k n
 widest_single_byte Units n = omega arith
 widest_single_byte Bytes n = omega arith
 widest_single_byte Replaced n = omega arith
 
-widest_multibyte : (k : Count) (n : ℕ) → room_of room_multibyte k n ≤ room_of room_widest k n
+widest_multibyte : (k : OutputUnit) (n : ℕ) → decoded_length decoded_length_multibyte k n ≤ decoded_length room_widest k n
 widest_multibyte Units n = omega arith
 widest_multibyte Bytes n = omega arith
 widest_multibyte Replaced n = omega arith
 
-widest_replacement : (k : Count) (n : ℕ) → room_of room_replacement k n ≤ room_of room_widest k n
+widest_replacement : (k : OutputUnit) (n : ℕ) → decoded_length decoded_length_replacement k n ≤ decoded_length room_widest k n
 widest_replacement Units n = omega arith
 widest_replacement Bytes n = omega arith
 widest_replacement Replaced n = omega arith
 
-widest_scheme : (s : Scheme) (k : Count) (n : ℕ) → room_of (room_of_scheme s) k n ≤ room_of room_widest k n
-widest_scheme Scheme.Utf8 k n = widest_utf8 k n
-widest_scheme (Scheme.SingleByte kind) k n = widest_single_byte k n
-widest_scheme Scheme.UserDefined k n = widest_single_byte k n
-widest_scheme (Scheme.Utf16 big_endian) k n = widest_utf16 k n
-widest_scheme Scheme.Replacement k n = widest_replacement k n
-widest_scheme _ k n = widest_multibyte k n
+widest_codec_kind : (s : CodecKind) (k : OutputUnit) (n : ℕ) → decoded_length (room_of_codec_kind s) k n ≤ decoded_length room_widest k n
+widest_codec_kind CodecKind.Utf8 k n = widest_utf8 k n
+widest_codec_kind (CodecKind.SingleByte kind) k n = widest_single_byte k n
+widest_codec_kind CodecKind.UserDefined k n = widest_single_byte k n
+widest_codec_kind (CodecKind.Utf16 big_endian) k n = widest_utf16 k n
+widest_codec_kind CodecKind.Replacement k n = widest_replacement k n
+widest_codec_kind _ k n = widest_multibyte k n
 
-pub widest_encoding : (e : Encoding) (k : Count) (n : ℕ) → room_of (room_of_encoding e) k n ≤ room_of room_widest k n
-widest_encoding e k n = widest_scheme (scheme_of e) k n
+pub widest_encoding : (e : Encoding) (k : OutputUnit) (n : ℕ) → decoded_length (decoded_length_of e) k n ≤ decoded_length room_widest k n
+widest_encoding e k n = widest_codec_kind (codec_kind_of e) k n

@@ -1,44 +1,44 @@
 -- What holds of a decoder that may still look for a mark.
 use Rattle.std.proofs.Common.{◌≡◌, ℕ, Bool, true, false, cond, IsTrue, Option, None, List, [], ◌++◌, refl, sym, ◌∙◌, ap}
 use Rattle.std.proofs.lemmas.List.{append-nil}
-use Rattle.encoding_mem.specs.declared.room.Room.{Room}
-use Rattle.encoding_front.specs.Encodings.{room_of_encoding}
+use Rattle.encoding_mem.specs.declared.room.DecodedLength.{DecodedLength}
+use Rattle.encoding_front.specs.Encodings.{decoded_length_of}
 use Rattle.encoding_front.specs.Seeking.{encoding_of_mark, find_mark, is_sought, mark_seen, mark_taken, room_after}
 use Rattle.encoding_front.specs.Stream.{encoding_after}
 use Rattle.encoding_front.specs.declared.encoding.Encoding.{Encoding}
 use Rattle.encoding_front.specs.declared.seeking.ByteOrderMark.{ByteOrderMark}
 use Rattle.encoding_front.specs.declared.seeking.ByteOrderMark.TheVariants.{Utf8, Utf16Be, Utf16Le}
-use Rattle.encoding_front.specs.declared.seeking.Seen.{Seen}
-use Rattle.encoding_front.specs.declared.seeking.Seen.TheVariants.{Front, Whole, Other}
-use Rattle.encoding_front.specs.declared.seeking.Sought.{Sought}
+use Rattle.encoding_front.specs.declared.seeking.BomMatch.{BomMatch}
+use Rattle.encoding_front.specs.declared.seeking.BomMatch.TheVariants.{Prefix, Whole, Other}
+use Rattle.encoding_front.specs.declared.seeking.BomSet.{BomSet}
 
 -- what is held is no mark yet
-held_at : (t : Bool) (taken : Option ByteOrderMark) (F : Seen) → (IsTrue t → F ≡ Front) → cond t (mark_seen taken F) taken ≡ taken
+held_at : (t : Bool) (taken : Option ByteOrderMark) (F : BomMatch) → (IsTrue t → F ≡ Prefix) → cond t (mark_seen taken F) taken ≡ taken
 held_at true taken F h = ap (mark_seen taken) (h refl)
 held_at false taken F h = refl
 
-pub held_taken : (s : Sought) (taken : Option ByteOrderMark) (held : List ℕ) → (IsTrue (is_sought s) → find_mark s held ≡ Front) → mark_taken s taken (held ++ []) ≡ taken
+pub held_taken : (s : BomSet) (taken : Option ByteOrderMark) (held : List ℕ) → (IsTrue (is_sought s) → find_mark s held ≡ Prefix) → mark_taken s taken (held ++ []) ≡ taken
 held_taken s taken held h = ap (mark_taken s taken) (append-nil held) ∙ held_at (is_sought s) taken (find_mark s held) h
 
 -- the encoding that an input turns out to be in is that of its mark, or the one in force
-seen_named : (t : Bool) (e : Encoding) (taken : Option ByteOrderMark) (F : Seen) → encoding_after e (cond t (mark_seen taken F) taken) ≡ encoding_after (encoding_after e taken) (cond t (mark_seen None F) None)
-seen_named true e taken Front = refl
+seen_named : (t : Bool) (e : Encoding) (taken : Option ByteOrderMark) (F : BomMatch) → encoding_after e (cond t (mark_seen taken F) taken) ≡ encoding_after (encoding_after e taken) (cond t (mark_seen None F) None)
+seen_named true e taken Prefix = refl
 seen_named true e taken (Whole m) = refl
 seen_named true e taken Other = refl
 seen_named false e taken F = refl
 
-pub named_by : (e : Encoding) (s : Sought) (taken : Option ByteOrderMark) (held : List ℕ) → (IsTrue (is_sought s) → find_mark s held ≡ Front) → (x : List ℕ)
+pub named_by : (e : Encoding) (s : BomSet) (taken : Option ByteOrderMark) (held : List ℕ) → (IsTrue (is_sought s) → find_mark s held ≡ Prefix) → (x : List ℕ)
     → encoding_after e (mark_taken s taken (held ++ x)) ≡ encoding_after (encoding_after e (mark_taken s taken (held ++ []))) (mark_taken s None (held ++ x))
-named_by e s taken held front x =
+named_by e s taken held prefix x =
     seen_named (is_sought s) e taken (find_mark s (held ++ x))
-    ∙ ap (λ (m : Option ByteOrderMark). encoding_after (encoding_after e m) (mark_taken s None (held ++ x))) (sym (held_taken s taken held front))
+    ∙ ap (λ (m : Option ByteOrderMark). encoding_after (encoding_after e m) (mark_taken s None (held ++ x))) (sym (held_taken s taken held prefix))
 
 -- and the room is that of the encoding in force
-pub room_after_is : (m : ByteOrderMark) → room_after m ≡ room_of_encoding (encoding_of_mark m)
+pub room_after_is : (m : ByteOrderMark) → room_after m ≡ decoded_length_of (encoding_of_mark m)
 room_after_is Utf8 = refl
 room_after_is Utf16Be = refl
 room_after_is Utf16Le = refl
 
-pub room_named : (e : Encoding) (s : Sought) (taken : Option ByteOrderMark) (held : List ℕ) (room : Room) → (IsTrue (is_sought s) → find_mark s held ≡ Front)
-    → room ≡ room_of_encoding (encoding_after e taken) → room ≡ room_of_encoding (encoding_after e (mark_taken s taken (held ++ [])))
-room_named e s taken held room front is = is ∙ ap (λ (m : Option ByteOrderMark). room_of_encoding (encoding_after e m)) (sym (held_taken s taken held front))
+pub room_named : (e : Encoding) (s : BomSet) (taken : Option ByteOrderMark) (held : List ℕ) (room : DecodedLength) → (IsTrue (is_sought s) → find_mark s held ≡ Prefix)
+    → room ≡ decoded_length_of (encoding_after e taken) → room ≡ decoded_length_of (encoding_after e (mark_taken s taken (held ++ [])))
+room_named e s taken held room prefix is = is ∙ ap (λ (m : Option ByteOrderMark). decoded_length_of (encoding_after e m)) (sym (held_taken s taken held prefix))

@@ -40,9 +40,9 @@ carriage_return_behind_a_tab : row_in (codes "0\t0x0080\t\r") ≡ Some (0, 0x80)
 unfolding row_in
 carriage_return_behind_a_tab = refl
 
-tab_in_front : row_in (codes "\t0\t0x0080") ≡ None
+tab_in_prefix : row_in (codes "\t0\t0x0080") ≡ None
 unfolding row_in
-tab_in_front = refl
+tab_in_prefix = refl
 
 blank_line : is_skipped (codes " \t ") ≡ true
 unfolding is_skipped

@@ -61,7 +61,7 @@ marked_list = refl
 nothing : text_list 3 [] ≡ 0 ∷ 0 ∷ 0 ∷ []
 nothing = refl
 
--- another mark, and the front of this one, are no mark
+-- another mark, and the prefix of this one, are no mark
 other_marks : map (λ (m : List ℕ). first_fault 128 (m ++ codes "#")) ([] ∷ (0xEF ∷ 0xBB ∷ 0xBF ∷ []) ∷ (0xEF ∷ 0xBB ∷ []) ∷ (0xEF ∷ 0xBB ∷ 0xBE ∷ []) ∷ (0xEF ∷ 0xBA ∷ 0xBF ∷ []) ∷ (0xFE ∷ 0xFF ∷ []) ∷ [])
     ≡ None ∷ None ∷ fault_at 1 Row ∷ fault_at 1 Row ∷ fault_at 1 Row ∷ fault_at 1 Row ∷ []
 unfolding is_skipped row_in row_fault
@@ -92,7 +92,7 @@ last_pointer : first_fault 128 (codes "127\t0x0080") ≡ None
 unfolding is_skipped row_in row_fault
 last_pointer = refl
 
--- a line that breaks off, behind a good one
+-- a line that breaks off, behind a well-formed one
 no_tab : first_fault 128 (codes "0\t0x0080\n1 0x0081") ≡ fault_at 2 Row
 unfolding is_skipped row_in row_fault
 no_tab = refl
@@ -106,7 +106,7 @@ sizes : map pointers_of (Ibm866 ∷ Big5 ∷ EucKr ∷ Gb18030 ∷ Gb18030Ranges
     ≡ 128 ∷ 19782 ∷ 23940 ∷ 23940 ∷ 1237576 ∷ 11280 ∷ 8836 ∷ 63 ∷ []
 sizes = refl
 
--- what a load answers first: the fault of the text, then that of the tables
+-- what a load returns first: the fault of the text, then that of the tables
 unfoldable empty_tables : IndexLists
 empty_tables = record { flats = []; rows = None }
 

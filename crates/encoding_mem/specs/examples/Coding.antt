@@ -4,7 +4,7 @@ use Rattle.std.proofs.Common.{arith}
 use Rattle.std.specs.Fmt.{digits}
 use Rattle.encoding_mem.specs.Coding.{Coding, IsCoding, open_from, last_set, lost_count}
 use Rattle.encoding_mem.specs.examples.SampleCoding.{sample_coding}
-use Rattle.encoding_mem.specs.declared.form.Set.TheVariants.{Ascii, Roman, Jis}
+use Rattle.encoding_mem.specs.declared.form.EscapeState.TheVariants.{Ascii, Roman, Jis}
 
 -- `A`, é, あ, Ê: the two with accents have no bytes in the sample target
 lost_letters : lost_count sample_coding (0x41 ∷ 0xE9 ∷ 0x3042 ∷ 0xCA ∷ []) ≡ 2

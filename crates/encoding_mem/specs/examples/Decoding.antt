@@ -1,44 +1,44 @@
 -- Worked rows of `specs/Decoding.antt`.
 use Rattle.std.proofs.Common.{◌≡◌, ◌≢◌, ℕ, nat_eq, Bool, true, false, if◌then◌else◌, Some, ◌+◌, ◌≤◌, List, [], ◌∷◌, length, refl, arith}
-use Rattle.encoding_mem.specs.Piece.{Piece, good, bad, first, piece_len, text_of}
+use Rattle.encoding_mem.specs.Piece.{Piece, well_formed, malformed, first, piece_len, text_of}
 use Rattle.encoding_mem.specs.Pieces.{pieces_in}
-use Rattle.encoding_mem.specs.Event.{malformed}
+use Rattle.encoding_mem.specs.Event.{malformed_at}
 use Rattle.encoding_mem.specs.Decoding.{IsDecided, IsUndecided, Waits, IsKnown, Reports, reported_event}
 use Rattle.encoding_mem.specs.Utf8.{pieces_utf8}
 use Rattle.encoding_mem.specs.declared.decoder_result.DecoderResult.TheVariants.{InputEmpty, Malformed}
 
--- a malformed sequence of two bytes is told of at the place where it ends
-told_of : reported_event (Malformed 2 1) 5 ≡ malformed 2 5 ∷ []
+-- a malformed sequence of two bytes is told of at the offset where it ends
+told_of : reported_event (Malformed 2 1) 5 ≡ malformed_at 2 5 ∷ []
 told_of = refl
 
 -- a call took `A` and a malformed sequence of four bytes, and has read two bytes behind it
-four_and_two : Reports (Malformed 4 2) 2 (good 1 (0x41 ∷ []) ∷ bad 4 ∷ [])
-four_and_two = (refl, omega arith, omega arith, omega arith, (good 1 (0x41 ∷ []) ∷ [], (tt, tt), refl))
+four_and_two : Reports (Malformed 4 2) 2 (well_formed 1 (0x41 ∷ []) ∷ malformed 4 ∷ [])
+four_and_two = (refl, omega arith, omega arith, omega arith, (well_formed 1 (0x41 ∷ []) ∷ [], (tt, tt), refl))
 
 -- three bytes behind one of three, but not of four; no longer one, and no more behind it
-three_and_three : Reports (Malformed 3 3) 3 (bad 3 ∷ [])
+three_and_three : Reports (Malformed 3 3) 3 (malformed 3 ∷ [])
 three_and_three = (refl, omega arith, omega arith, omega arith, ([], tt, refl))
 
-not_four_and_three : ¬ (Reports (Malformed 4 3) 3 (bad 4 ∷ []))
+not_four_and_three : ¬ (Reports (Malformed 4 3) 3 (malformed 4 ∷ []))
 not_four_and_three reports = absurd (omega (arith, reports.3))
 
-not_five : ¬ (Reports (Malformed 5 0) 0 (bad 5 ∷ []))
+not_five : ¬ (Reports (Malformed 5 0) 0 (malformed 5 ∷ []))
 not_five reports = absurd (omega (arith, reports.1))
 
-not_four_behind : ¬ (Reports (Malformed 1 4) 4 (bad 1 ∷ []))
+not_four_behind : ¬ (Reports (Malformed 1 4) 4 (malformed 1 ∷ []))
 not_four_behind reports = absurd (omega (arith, reports.2))
 
 -- no malformed sequence is left untold
-not_untold : ¬ (Reports InputEmpty 0 (bad 1 ∷ []))
+not_untold : ¬ (Reports InputEmpty 0 (malformed 1 ∷ []))
 not_untold reports = reports.0
 
--- E2 82 may be the front of a character, and what AC behind it makes of it is another piece
+-- E2 82 may be the prefix of a character, and what AC behind it makes of it is another piece
 prefix_is_undecided : IsUndecided pieces_utf8 (0xE2 ∷ 0x82 ∷ [])
 unfolding pieces_in
 prefix_is_undecided = record { more = 0xAC ∷ []; short = omega arith; differs = λ e. cc }
 
 -- with `A` behind them they are a malformed sequence, whatever follows
-malformed_is_decided : IsDecided pieces_utf8 (0xE2 ∷ 0x82 ∷ 0x41 ∷ []) (bad 2 ∷ good 1 (0x41 ∷ []) ∷ [])
+malformed_is_decided : IsDecided pieces_utf8 (0xE2 ∷ 0x82 ∷ 0x41 ∷ []) (malformed 2 ∷ well_formed 1 (0x41 ∷ []) ∷ [])
 unfolding pieces_in
 malformed_is_decided = λ r. (_, refl)
 
@@ -49,11 +49,11 @@ lead_is_undecided = record { more = 0x9F ∷ 0x92 ∷ 0xA9 ∷ []; short = omega
 
 -- pieces for examples that four more bytes change, and no fewer
 abbrev late_pieces : List ℕ → List Piece
-late_pieces [] = bad 1 ∷ []
-late_pieces (a ∷ []) = bad 1 ∷ []
-late_pieces (a ∷ b ∷ []) = bad 1 ∷ []
-late_pieces (a ∷ b ∷ c ∷ []) = bad 1 ∷ []
-late_pieces (a ∷ b ∷ c ∷ d ∷ x) = good 1 [] ∷ []
+late_pieces [] = malformed 1 ∷ []
+late_pieces (a ∷ []) = malformed 1 ∷ []
+late_pieces (a ∷ b ∷ []) = malformed 1 ∷ []
+late_pieces (a ∷ b ∷ c ∷ []) = malformed 1 ∷ []
+late_pieces (a ∷ b ∷ c ∷ d ∷ x) = well_formed 1 [] ∷ []
 
 none_of_three : (more : List ℕ) → length more ≤ 3 → ¬ (first (late_pieces []) ≢ first (late_pieces more))
 none_of_three [] short differs = differs refl
@@ -68,18 +68,18 @@ late_is_decided undecided = none_of_three undecided.more undecided.short undecid
 -- The pieces behind 1B 28 42 1B 28, which are pending in ISO-2022-JP: with 42 the first escape is a malformed sequence of
 -- three bytes, else it stands for nothing.
 abbrev behind_escape : List ℕ → List Piece
-behind_escape [] = good 3 [] ∷ bad 1 ∷ good 1 (0x28 ∷ []) ∷ []
-behind_escape (b ∷ x) = if nat_eq b 0x42 then bad 3 ∷ [] else good 3 [] ∷ []
+behind_escape [] = well_formed 3 [] ∷ malformed 1 ∷ well_formed 1 (0x28 ∷ []) ∷ []
+behind_escape (b ∷ x) = if nat_eq b 0x42 then malformed 3 ∷ [] else well_formed 3 [] ∷ []
 
 some_len : (p q : Piece) → Some p ≡ Some q → piece_len p ≡ piece_len q
 some_len p q e = cc
 
-escape_or_malformed : (t : Bool) (p : Piece) → first (if t then bad 3 ∷ [] else good 3 [] ∷ []) ≡ Some p → 5 ≤ piece_len p + 2
-escape_or_malformed true p e = omega (arith, some_len (bad 3) p e)
-escape_or_malformed false p e = omega (arith, some_len (good 3 []) p e)
+escape_or_malformed : (t : Bool) (p : Piece) → first (if t then malformed 3 ∷ [] else well_formed 3 [] ∷ []) ≡ Some p → 5 ≤ piece_len p + 2
+escape_or_malformed true p e = omega (arith, some_len (malformed 3) p e)
+escape_or_malformed false p e = omega (arith, some_len (well_formed 3 []) p e)
 
 escape_is_near : (r : List ℕ) (p : Piece) → first (behind_escape r) ≡ Some p → 5 ≤ piece_len p + 2
-escape_is_near [] p e = omega (arith, some_len (good 3 []) p e)
+escape_is_near [] p e = omega (arith, some_len (well_formed 3 []) p e)
 escape_is_near (b ∷ x) p e = escape_or_malformed (nat_eq b 0x42) p e
 
 -- five bytes may be pending, the first piece two bytes before their end; six may not, nor a piece three bytes before it
@@ -93,16 +93,16 @@ five_wait = record {
 six_do_not_wait : (pieces : List ℕ → List Piece) → ¬ (Waits pieces 6)
 six_do_not_wait pieces waits = absurd (omega (arith, waits.short))
 
-three_behind_do_not_wait : ¬ (Waits (λ x. good 2 [] ∷ []) 5)
-three_behind_do_not_wait waits = absurd (omega (arith, waits.soon [] (good 2 []) refl))
+three_behind_do_not_wait : ¬ (Waits (λ x. well_formed 2 [] ∷ []) 5)
+three_behind_do_not_wait waits = absurd (omega (arith, waits.soon [] (well_formed 2 []) refl))
 
 -- `A` is known whatever follows; bytes that stand for nothing need no room, and do not count as known
 letter_is_known : IsKnown pieces_utf8 (0x41 ∷ []) false
 unfolding pieces_in
-letter_is_known = (good 1 (0x41 ∷ []), λ r last. refl, omega arith)
+letter_is_known = (well_formed 1 (0x41 ∷ []), λ r last. refl, omega arith)
 
 same_text_len : (p q : Piece) → Some p ≡ Some q → length (text_of p) ≡ length (text_of q)
 same_text_len p q e = cc
 
-silent_is_not_known : ¬ (IsKnown (λ x. good 3 [] ∷ []) [] false)
-silent_is_not_known known = absurd (omega (arith, same_text_len (good 3 []) known.0 (known.1 [] (λ last. refl)), known.2))
+ignored_is_not_known : ¬ (IsKnown (λ x. well_formed 3 [] ∷ []) [] false)
+ignored_is_not_known known = absurd (omega (arith, same_text_len (well_formed 3 []) known.0 (known.1 [] (λ last. refl)), known.2))

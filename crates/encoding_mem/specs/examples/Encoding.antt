@@ -6,7 +6,7 @@ use Rattle.encoding_mem.specs.Coding.{reference, output}
 use Rattle.encoding_mem.specs.Items.{Byte, LostAt, open_items}
 use Rattle.encoding_mem.specs.Utf8Coding.{utf8_coding}
 use Rattle.encoding_mem.specs.examples.SampleCoding.{sample_coding}
-use Rattle.encoding_mem.specs.declared.form.Set.TheVariants.{Ascii, Jis}
+use Rattle.encoding_mem.specs.declared.form.EscapeState.TheVariants.{Ascii, Jis}
 
 -- the reference of U+FFFD
 pub replacement_reference : reference 65533 ≡ codes "&#65533;"

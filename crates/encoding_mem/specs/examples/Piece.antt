@@ -1,9 +1,9 @@
 -- Worked rows of `specs/Piece.antt`: `A`, a malformed sequence of three bytes, and two characters of two bytes.
 use Rattle.std.proofs.Common.{◌≡◌, List, [], ◌∷◌, refl, arith}
-use Rattle.encoding_mem.specs.Piece.{Piece, good, bad, sizes, scalars, text, bad_count, IsPiece}
+use Rattle.encoding_mem.specs.Piece.{Piece, well_formed, malformed, sizes, scalars, text, malformed_count, IsPiece}
 
 abbrev sample : List Piece
-sample = good 1 (0x41 ∷ []) ∷ bad 3 ∷ good 2 (0xCA ∷ 0x304 ∷ []) ∷ []
+sample = well_formed 1 (0x41 ∷ []) ∷ malformed 3 ∷ well_formed 2 (0xCA ∷ 0x304 ∷ []) ∷ []
 
 -- six bytes in all
 bytes_in_all : sizes sample ≡ 6
@@ -16,18 +16,18 @@ text_with_replacement = refl
 scalars_without_it : scalars sample ≡ 0x41 ∷ 0xCA ∷ 0x304 ∷ []
 scalars_without_it = refl
 
-one_is_malformed : bad_count sample ≡ 1
+one_is_malformed : malformed_count sample ≡ 1
 one_is_malformed = refl
 
 -- a piece has a byte at least, no more characters than bytes, and no surrogate among them
-letter_is_a_piece : IsPiece (good 1 (0x41 ∷ []))
+letter_is_a_piece : IsPiece (well_formed 1 (0x41 ∷ []))
 letter_is_a_piece = record { some = omega arith; few = omega arith; at_most_two = omega arith; are_scalars = refl }
 
-no_bytes_are_none : ¬ (IsPiece (good 0 []))
+no_bytes_are_none : ¬ (IsPiece (well_formed 0 []))
 no_bytes_are_none piece = absurd (omega (arith, piece.some))
 
-two_of_one_byte_are_none : ¬ (IsPiece (good 1 (0xCA ∷ 0x304 ∷ [])))
+two_of_one_byte_are_none : ¬ (IsPiece (well_formed 1 (0xCA ∷ 0x304 ∷ [])))
 two_of_one_byte_are_none piece = absurd (omega (arith, piece.few))
 
-surrogate_is_none : ¬ (IsPiece (good 3 (0xD800 ∷ [])))
+surrogate_is_none : ¬ (IsPiece (well_formed 3 (0xD800 ∷ [])))
 surrogate_is_none piece = let surrogate = piece.are_scalars in cc

@@ -2,25 +2,25 @@
 -- itself in ASCII or Roman, and the rest has no bytes and is referred to in ASCII or Roman.
 use Rattle.std.specs.Prelude.{ℕ, List, [], ◌∷◌, nat_lt, nat_eq, if◌then◌else◌}
 use Rattle.encoding_mem.specs.Coding.{Coding}
-use Rattle.encoding_mem.specs.Room.{line}
-use Rattle.encoding_mem.specs.declared.room.TextRoom.{TextRoom}
+use Rattle.encoding_mem.specs.DecodedLength.{line}
+use Rattle.encoding_mem.specs.declared.room.EncodedLength.{EncodedLength}
 use Rattle.encoding_mem.specs.declared.form.Form.{Form}
 use Rattle.encoding_mem.specs.declared.form.Form.TheVariants.{Mapped, Unmapped}
-use Rattle.encoding_mem.specs.declared.form.Set.{Set}
-use Rattle.encoding_mem.specs.declared.form.Set.TheVariants.{Ascii, Roman, Jis}
+use Rattle.encoding_mem.specs.declared.form.EscapeState.{EscapeState}
+use Rattle.encoding_mem.specs.declared.form.EscapeState.TheVariants.{Ascii, Roman, Jis}
 
 -- out of JIS to ASCII
-abbrev pub out_of_jis : Set → Set
+abbrev pub out_of_jis : EscapeState → EscapeState
 out_of_jis Ascii = Ascii
 out_of_jis Roman = Roman
 out_of_jis Jis = Ascii
 
-abbrev pub sample_escape_to : Set → List ℕ
+abbrev pub sample_escape_to : EscapeState → List ℕ
 sample_escape_to Ascii = 0x1B ∷ 0x28 ∷ 0x42 ∷ []
 sample_escape_to Roman = 0x1B ∷ 0x28 ∷ 0x4A ∷ []
 sample_escape_to Jis = 0x1B ∷ 0x24 ∷ 0x42 ∷ []
 
-abbrev pub escape_between : Set → Set → List ℕ
+abbrev pub escape_between : EscapeState → EscapeState → List ℕ
 escape_between Ascii Ascii = []
 escape_between Roman Roman = []
 escape_between Jis Jis = []
@@ -30,11 +30,11 @@ abbrev pub sample_form : ℕ → Form
 sample_form c = if nat_lt c 0x80 then Mapped (c ∷ []) else if nat_eq c 0xA5 then Mapped (0x5C ∷ [])
     else if nat_eq c 0x3042 then Mapped (0x24 ∷ 0x22 ∷ []) else Unmapped c
 
-abbrev pub sample_set : Set → ℕ → Set
+abbrev pub sample_set : EscapeState → ℕ → EscapeState
 sample_set s c = if nat_eq c 0xA5 then Roman else if nat_eq c 0x3042 then Jis else out_of_jis s
 
 -- more room than is needed
-abbrev pub sample_room : TextRoom
+abbrev pub sample_room : EncodedLength
 sample_room = record { units = line 6 3; bytes = line 6 3 }
 
 abbrev pub sample_coding : Coding

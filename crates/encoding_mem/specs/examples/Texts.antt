@@ -66,7 +66,7 @@ pub text_as_units : text_in_utf16 (0x41 ∷ 0xE2 ∷ 0x82 ∷ 0xAC ∷ 0xF0 ∷ 
 unfolding chars
 text_as_units = refl
 
--- the three bytes of a surrogate's form between two letters are three broken parts
+-- the three bytes of a surrogate's form between two letters are three malformed sequences
 pub broken_text_as_units : encode_utf16_all (text (pieces_utf8 (0x61 ∷ 0xED ∷ 0xA0 ∷ 0x80 ∷ 0x5A ∷ []))) ≡ 0x61 ∷ 0xFFFD ∷ 0xFFFD ∷ 0xFFFD ∷ 0x5A ∷ []
 unfolding pieces_in
 broken_text_as_units = refl
@@ -123,7 +123,7 @@ pair_is_not_parted = record {
   longest = longer_than_none;
 }
 
--- The ASCII at the front of `Aé`.
+-- The ASCII at the start of `Aé`.
 abbrev letter_and_accent : List ℕ
 letter_and_accent = 0x41 ∷ 0xC3 ∷ 0xA9 ∷ []
 
@@ -137,9 +137,9 @@ accent_is_none (suc zero) more le ascii = absurd (omega arith)
 accent_is_none (suc (suc m)) more le ascii = let first = ascii 1 in absurd (omega arith)
 
 pub ascii_ends_before_the_accent : IsLongestPrefix IsAscii letter_and_accent 1
-ascii_ends_before_the_accent = record { within = omega arith; good = all_of_letter; longest = accent_is_none }
+ascii_ends_before_the_accent = record { within = omega arith; well_formed = all_of_letter; longest = accent_is_none }
 
--- a front is not the longest where the next byte is ASCII too
+-- a prefix is not the longest where the next byte is ASCII too
 all_of_letters : (i : ℕ) → slice_index (0x41 ∷ 0x42 ∷ []) i < 0x80
 all_of_letters zero = omega arith
 all_of_letters (suc zero) = omega arith
@@ -148,7 +148,7 @@ all_of_letters (suc (suc i)) = omega arith
 pub ascii_goes_on : ¬ (IsLongestPrefix IsAscii (0x41 ∷ 0x42 ∷ []) 1)
 ascii_goes_on prefix = prefix.longest 2 (omega arith) (omega arith) all_of_letters
 
--- The text at the front of a letter and a cut sequence.
+-- The text at the start of a letter and a cut sequence.
 abbrev letter_and_cut : List ℕ
 letter_and_cut = 0x41 ∷ 0xE2 ∷ 0x82 ∷ []
 
@@ -169,7 +169,7 @@ cut_is_none (suc (suc (suc (suc m)))) more le utf8 = absurd (omega arith)
 
 pub text_ends_before_the_cut : IsLongestPrefix IsUtf8 letter_and_cut 1
 unfolding encode_utf8
-text_ends_before_the_cut = record { within = omega arith; good = (0x41 ∷ [], (refl, refl)); longest = cut_is_none }
+text_ends_before_the_cut = record { within = omega arith; well_formed = (0x41 ∷ [], (refl, refl)); longest = cut_is_none }
 
 -- Each surrogate of a high one, a letter and a low one is alone.
 abbrev parted : List ℕ

@@ -1,6 +1,6 @@
 -- Pieces in a row, and more pieces behind them.
 use Rattle.std.proofs.Common.{◌≡◌, ◌+◌, List, [], ◌∷◌, ◌++◌, refl, sym, ◌∙◌, ap, arith, append_assoc}
-use Rattle.encoding_mem.specs.Piece.{Piece, scalars_of, text_of, sizes, scalars, text, IsGood, AreGood, ArePieces}
+use Rattle.encoding_mem.specs.Piece.{Piece, scalars_of, text_of, sizes, scalars, text, IsWellFormed, AreWellFormed, ArePieces}
 
 pub sizes-append : (a b : List Piece) → sizes (a ++ b) ≡ sizes a + sizes b
 sizes-append [] b = omega arith
@@ -14,12 +14,12 @@ pub text-append : (a b : List Piece) → text (a ++ b) ≡ text a ++ text b
 text-append [] b = refl
 text-append (p ∷ a) b = ap (λ x. text_of p ++ x) (text-append a b) ∙ sym (append_assoc (text_of p) (text a) (text b))
 
-pub AreGood-append : (a b : List Piece) → AreGood a → AreGood b → AreGood (a ++ b)
-AreGood-append [] b h k = k
-AreGood-append (p ∷ a) b h k = (h.0, AreGood-append a b h.1 k)
+pub AreWellFormed-append : (a b : List Piece) → AreWellFormed a → AreWellFormed b → AreWellFormed (a ++ b)
+AreWellFormed-append [] b h k = k
+AreWellFormed-append (p ∷ a) b h k = (h.0, AreWellFormed-append a b h.1 k)
 
-pub AreGood-last : (a : List Piece) (p : Piece) → AreGood a → IsGood p → AreGood (a ++ p ∷ [])
-AreGood-last a p h k = AreGood-append a (p ∷ []) h (k, tt)
+pub AreWellFormed-last : (a : List Piece) (p : Piece) → AreWellFormed a → IsWellFormed p → AreWellFormed (a ++ p ∷ [])
+AreWellFormed-last a p h k = AreWellFormed-append a (p ∷ []) h (k, tt)
 
 pub ArePieces-append : (a b : List Piece) → ArePieces a → ArePieces b → ArePieces (a ++ b)
 ArePieces-append [] b h k = k

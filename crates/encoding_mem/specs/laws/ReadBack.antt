@@ -1,7 +1,7 @@
 -- What UTF-8 writes reads back.
 use Rattle.std.proofs.Common.{◌≡◌, ℕ, List, [], ◌∷◌, true, refl, sym, ◌∙◌, ap, subst, arith}
 use Rattle.std.specs.Str.{all_scalars}
-use Rattle.encoding_mem.specs.Piece.{text, AreGood}
+use Rattle.encoding_mem.specs.Piece.{text, AreWellFormed}
 use Rattle.encoding_mem.specs.Text.{text_pieces}
 use Rattle.encoding_mem.specs.Coding.{Coding, AllMapped, IsMapped, output, lost_count, unmapped_count}
 use Rattle.encoding_mem.specs.laws.Encoding.{utf8_output}
@@ -12,10 +12,10 @@ use Rattle.encoding_mem.specs.laws.Utf8.{utf8_reads_back}
 use Rattle.encoding_mem.specs.declared.form.Form.{Form}
 use Rattle.encoding_mem.specs.declared.form.Form.TheVariants.{Mapped, Unmapped}
 
--- Pieces of text are good, and are that text.
-pub text_pieces-good : (t : List ℕ) → AreGood (text_pieces t)
-text_pieces-good [] = tt
-text_pieces-good (c ∷ t) = (tt, text_pieces-good t)
+-- Pieces of text are well-formed, and are that text.
+pub text_pieces-well_formed : (t : List ℕ) → AreWellFormed (text_pieces t)
+text_pieces-well_formed [] = tt
+text_pieces-well_formed (c ∷ t) = (tt, text_pieces-well_formed t)
 
 pub text_pieces-text : (t : List ℕ) → text (text_pieces t) ≡ t
 text_pieces-text [] = refl
@@ -50,7 +50,7 @@ pub utf8_exact : ReadsBackExactly pieces_utf8 utf8_coding
 utf8_exact t h = (
   λ _. all_in_utf8 t,
   λ _. record {
-    good = subst AreGood (sym (read_back t h)) (text_pieces-good t);
+    well_formed = subst AreWellFormed (sym (read_back t h)) (text_pieces-well_formed t);
     same = ap text (read_back t h) ∙ text_pieces-text t;
   },
 )

@@ -2,7 +2,7 @@
 use Rattle.std.proofs.Common.{◌≡◌, ◌≢◌, ℕ, ◌<◌, List, [], ◌∷◌, ◌++◌, length, drop, refl, sym, ◌∙◌, ap, arith, lit<, inl, inr, length-append}
 use Rattle.std.proofs.lemmas.List.{drop_at}
 use Rattle.encoding_mem.specs.Coding.{reference, spelled}
-use Rattle.encoding_mem.specs.Piece.{Piece, good, bad, piece_len, scalars_of, text}
+use Rattle.encoding_mem.specs.Piece.{Piece, well_formed, malformed, piece_len, scalars_of, text}
 use Rattle.encoding_mem.specs.Pieces.{pieces_by}
 use Rattle.encoding_mem.specs.laws.Pieces.{CutsEach, pieces_by-first}
 use Rattle.encoding_mem.specs.Stateless.{stateless}
@@ -10,59 +10,59 @@ use Rattle.encoding_mem.specs.Steps.{Follows, AreApart, IsBroken, StepLaw, in_an
 use Rattle.encoding_mem.specs.declared.form.Form.{Form}
 
 -- some bytes are written, since a piece is some bytes
-returned : (front : List ℕ → Piece) → CutsEach front → (bytes : List ℕ) (c : ℕ) → Returns front bytes c → 0 < length bytes
-returned front cuts [] c h =
-    let empty : piece_len (front (0 ∷ [])) ≡ 0 = ap piece_len (h.piece (0 ∷ [])) in
+returned : (first_piece : List ℕ → Piece) → CutsEach first_piece → (bytes : List ℕ) (c : ℕ) → Returns first_piece bytes c → 0 < length bytes
+returned first_piece cuts [] c h =
+    let empty : piece_len (first_piece (0 ∷ [])) ≡ 0 = ap piece_len (h.piece (0 ∷ [])) in
     omega (arith, empty, (cuts 0 []).piece.some)
-returned front cuts (b ∷ x) c h = omega arith
+returned first_piece cuts (b ∷ x) c h = omega arith
 
-strayed : (front : List ℕ → Piece) → CutsEach front → (bytes : List ℕ) (c : ℕ) → Strays front bytes c → 0 < length bytes
-strayed front cuts bytes c h =
-    let size : piece_len (front (bytes ++ (0 ∷ []))) ≡ piece_len h.piece = ap piece_len (h.first (0 ∷ [])) in
+strayed : (first_piece : List ℕ → Piece) → CutsEach first_piece → (bytes : List ℕ) (c : ℕ) → Strays first_piece bytes c → 0 < length bytes
+strayed first_piece cuts bytes c h =
+    let size : piece_len (first_piece (bytes ++ (0 ∷ []))) ≡ piece_len h.piece = ap piece_len (h.first (0 ∷ [])) in
     omega (arith, size, h.within, some bytes)
   where
-    some : (bytes : List ℕ) → 0 < piece_len (front (bytes ++ (0 ∷ [])))
+    some : (bytes : List ℕ) → 0 < piece_len (first_piece (bytes ++ (0 ∷ [])))
     some [] = (cuts 0 []).piece.some
     some (b ∷ x) = (cuts b (x ++ (0 ∷ []))).piece.some
 
 -- the first piece, and what follows it
-begins : (front : List ℕ → Piece) → CutsEach front → (bytes r : List ℕ) (p : Piece) → 0 < length bytes → front (bytes ++ r) ≡ p
-    → pieces_by front (bytes ++ r) ≡ p ∷ pieces_by front (drop (piece_len p) (bytes ++ r))
-begins front cuts bytes r p some is =
-    pieces_by-first front cuts (bytes ++ r) (omega (arith, some, length-append bytes r))
-    ∙ ap (λ q. q ∷ pieces_by front (drop (piece_len q) (bytes ++ r))) is
+begins : (first_piece : List ℕ → Piece) → CutsEach first_piece → (bytes r : List ℕ) (p : Piece) → 0 < length bytes → first_piece (bytes ++ r) ≡ p
+    → pieces_by first_piece (bytes ++ r) ≡ p ∷ pieces_by first_piece (drop (piece_len p) (bytes ++ r))
+begins first_piece cuts bytes r p some is =
+    pieces_by-first first_piece cuts (bytes ++ r) (omega (arith, some, length-append bytes r))
+    ∙ ap (λ q. q ∷ pieces_by first_piece (drop (piece_len q) (bytes ++ r))) is
 
-follows : (front : List ℕ → Piece) → CutsEach front → (bytes : List ℕ) (c : ℕ) → Returns front bytes c
-    → Follows (pieces_by front) (pieces_by front) bytes (c ∷ [])
-follows front cuts bytes c h = record {
-  taken = good (length bytes) (c ∷ []) ∷ [];
-  good = (tt, tt);
+follows : (first_piece : List ℕ → Piece) → CutsEach first_piece → (bytes : List ℕ) (c : ℕ) → Returns first_piece bytes c
+    → Follows (pieces_by first_piece) (pieces_by first_piece) bytes (c ∷ [])
+follows first_piece cuts bytes c h = record {
+  taken = well_formed (length bytes) (c ∷ []) ∷ [];
+  well_formed = (tt, tt);
   same = refl;
   whole = omega arith;
   rest = λ r.
-      begins front cuts bytes r (good (length bytes) (c ∷ [])) (returned front cuts bytes c h) (h.piece r)
-      ∙ ap (λ x. good (length bytes) (c ∷ []) ∷ pieces_by front x) (drop_at bytes r (length bytes) refl);
+      begins first_piece cuts bytes r (well_formed (length bytes) (c ∷ [])) (returned first_piece cuts bytes c h) (h.piece r)
+      ∙ ap (λ x. well_formed (length bytes) (c ∷ []) ∷ pieces_by first_piece x) (drop_at bytes r (length bytes) refl);
 }
 
 -- a piece with one other scalar
 other_text : (p : Piece) (d : ℕ) → scalars_of p ≡ d ∷ [] → text (p ∷ []) ≡ d ∷ []
-other_text (good n cs) d is = ap (λ x. x ++ []) is
-other_text (bad n) d is = absurd (omega (arith, ap (λ x. length x) is))
+other_text (well_formed n cs) d is = ap (λ x. x ++ []) is
+other_text (malformed n) d is = absurd (omega (arith, ap (λ x. length x) is))
 
 apart : (p : Piece) (c d : ℕ) → d ≢ c → scalars_of p ≡ d ∷ [] → AreApart (text (p ∷ [])) (c ∷ [])
 apart p c d differs is = rw (other_text p d is) (record {
-  place = 0;
+  offset = 0;
   in_one = lit< tt;
   in_other = lit< tt;
   apart = differs;
 })
 
-broken : (front : List ℕ → Piece) → CutsEach front → (bytes : List ℕ) (c : ℕ) → Strays front bytes c → IsBroken (pieces_by front) bytes (c ∷ [])
-broken front cuts bytes c h = record {
+broken : (first_piece : List ℕ → Piece) → CutsEach first_piece → (bytes : List ℕ) (c : ℕ) → Strays first_piece bytes c → IsBroken (pieces_by first_piece) bytes (c ∷ [])
+broken first_piece cuts bytes c h = record {
   taken = h.piece ∷ [];
   decided = λ r. (
-    pieces_by front (drop (piece_len h.piece) (bytes ++ r)),
-    begins front cuts bytes r h.piece (strayed front cuts bytes c h) (h.first r),
+    pieces_by first_piece (drop (piece_len h.piece) (bytes ++ r)),
+    begins first_piece cuts bytes r h.piece (strayed first_piece cuts bytes c h) (h.first r),
   );
   wrong = elim h.wrong [
     | inl none ↦ inl (λ all. none all.0)
@@ -70,17 +70,17 @@ broken front cuts bytes c h = record {
   ];
 }
 
-pub step_law : (front : List ℕ → Piece) (form : ℕ → Form) → CutsEach front → StepsReadBack front form
-    → StepLaw (stateless form) (in_any_set (pieces_by front))
-step_law front form cuts steps s c scalar = elim (steps c scalar) [
-  | inl h ↦ inl (follows front cuts (spelled (form c)) c h)
-  | inr h ↦ inr (broken front cuts (spelled (form c)) c h)
+pub step_law : (first_piece : List ℕ → Piece) (form : ℕ → Form) → CutsEach first_piece → StepsReadBack first_piece form
+    → StepLaw (stateless form) (in_any_set (pieces_by first_piece))
+step_law first_piece form cuts steps s c scalar = elim (steps c scalar) [
+  | inl h ↦ inl (follows first_piece cuts (spelled (form c)) c h)
+  | inr h ↦ inr (broken first_piece cuts (spelled (form c)) c h)
 ]
 
 -- a reference begins with `&`, and stands for no other character
-pub strays_at_reference : (front : List ℕ → Piece) (c d : ℕ) → ((x : List ℕ) → front (0x26 ∷ x) ≡ good 1 (0x26 ∷ [])) → c ≢ 0x26 → Strays front (reference d) c
-strays_at_reference front c d ascii apart = record {
-  piece = good 1 (0x26 ∷ []);
+pub strays_at_reference : (first_piece : List ℕ → Piece) (c d : ℕ) → ((x : List ℕ) → first_piece (0x26 ∷ x) ≡ well_formed 1 (0x26 ∷ [])) → c ≢ 0x26 → Strays first_piece (reference d) c
+strays_at_reference first_piece c d ascii apart = record {
+  piece = well_formed 1 (0x26 ∷ []);
   first = λ y. ascii _;
   within = omega arith;
   wrong = inr (0x26, λ same. apart (sym same), refl);

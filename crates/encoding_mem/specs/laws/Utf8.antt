@@ -9,10 +9,10 @@ use Rattle.std.proofs.lemmas.List.{append-nil, drop_at}
 use Rattle.std.proofs.lemmas.Bool.{lt-ltb, le-ltb, le-leb, ltb-true, ltb-false, leb-true, and_from, and_parts, cases_lt}
 use Rattle.std.proofs.lemmas.Bool.Decides.{nat_tests}
 use Rattle.std.specs.Int.{IsInRange}
-use Rattle.encoding_mem.specs.Piece.{Piece, good, bad, piece_len, Cuts}
+use Rattle.encoding_mem.specs.Piece.{Piece, well_formed, malformed, piece_len, Cuts}
 use Rattle.encoding_mem.specs.laws.Pieces.{pieces_by-nil, pieces_by-first}
 use Rattle.encoding_mem.specs.Text.{text_pieces}
-use Rattle.encoding_mem.specs.Utf8.{pieces_utf8, front_utf8, utf8_after_lead, utf8_after_two, utf8_after_three, second_min, second_max, scalar_of_two, scalar_of_three, scalar_of_four}
+use Rattle.encoding_mem.specs.Utf8.{pieces_utf8, first_piece_utf8, utf8_after_lead, utf8_after_two, utf8_after_three, second_min, second_max, scalar_of_two, scalar_of_three, scalar_of_four}
 
 in_range : (lo hi c : ℕ) → lo ≤ c → c ≤ hi → is_in_range lo hi c ≡ true
 in_range lo hi c h k = and_from (nat_le lo c) (nat_le c hi) (le-leb lo c h) (le-leb c hi k)
@@ -20,15 +20,15 @@ in_range lo hi c h k = and_from (nat_le lo c) (nat_le c hi) (le-leb lo c h) (le-
 fits_second : (b c : ℕ) → 0x80 ≤ c → c ≤ 0xBF → (b ≡ 0xE0 → 0xA0 ≤ c) → (b ≡ 0xF0 → 0x90 ≤ c) → (b ≡ 0xED → c ≤ 0x9F) → (b ≡ 0xF4 → c ≤ 0x8F) → is_in_range (second_min b) (second_max b) c ≡ true
 fits_second b c h k e0 f0 ed f4 = in_range (second_min b) (second_max b) c (grind (arith, nat_tests)) (grind (arith, nat_tests))
 
-front_two : (b c : ℕ) (x : List ℕ) → 0xC2 ≤ b → b < 0xE0 → 0x80 ≤ c → c ≤ 0xBF → front_utf8 (b ∷ c ∷ x) ≡ good 2 (scalar_of_two b c ∷ [])
-front_two b c x h k i j =
+first_piece_two : (b c : ℕ) (x : List ℕ) → 0xC2 ≤ b → b < 0xE0 → 0x80 ≤ c → c ≤ 0xBF → first_piece_utf8 (b ∷ c ∷ x) ≡ well_formed 2 (scalar_of_two b c ∷ [])
+first_piece_two b c x h k i j =
     rw (le-ltb b 0x80 (omega arith))
     (rw (in_range 0xC2 0xF4 b h (omega arith))
     (rw (fits_second b c i j (λ e. absurd (omega arith)) (λ e. absurd (omega arith)) (λ e. absurd (omega arith)) (λ e. absurd (omega arith)))
     (rw (lt-ltb b 0xE0 k) refl)))
 
-front_three : (b c d : ℕ) (x : List ℕ) → 0xE0 ≤ b → b < 0xF0 → is_in_range (second_min b) (second_max b) c ≡ true → 0x80 ≤ d → d ≤ 0xBF → front_utf8 (b ∷ c ∷ d ∷ x) ≡ good 3 (scalar_of_three b c d ∷ [])
-front_three b c d x h k second i j =
+first_piece_three : (b c d : ℕ) (x : List ℕ) → 0xE0 ≤ b → b < 0xF0 → is_in_range (second_min b) (second_max b) c ≡ true → 0x80 ≤ d → d ≤ 0xBF → first_piece_utf8 (b ∷ c ∷ d ∷ x) ≡ well_formed 3 (scalar_of_three b c d ∷ [])
+first_piece_three b c d x h k second i j =
     rw (le-ltb b 0x80 (omega arith))
     (rw (in_range 0xC2 0xF4 b (omega arith) (omega arith))
     (rw second
@@ -36,8 +36,8 @@ front_three b c d x h k second i j =
     (rw (in_range 0x80 0xBF d i j)
     (rw (lt-ltb b 0xF0 k) refl)))))
 
-front_four : (b c d e : ℕ) (x : List ℕ) → 0xF0 ≤ b → b ≤ 0xF4 → is_in_range (second_min b) (second_max b) c ≡ true → 0x80 ≤ d → d ≤ 0xBF → 0x80 ≤ e → e ≤ 0xBF → front_utf8 (b ∷ c ∷ d ∷ e ∷ x) ≡ good 4 (scalar_of_four b c d e ∷ [])
-front_four b c d e x h k second i j m n =
+first_piece_four : (b c d e : ℕ) (x : List ℕ) → 0xF0 ≤ b → b ≤ 0xF4 → is_in_range (second_min b) (second_max b) c ≡ true → 0x80 ≤ d → d ≤ 0xBF → 0x80 ≤ e → e ≤ 0xBF → first_piece_utf8 (b ∷ c ∷ d ∷ e ∷ x) ≡ well_formed 4 (scalar_of_four b c d e ∷ [])
+first_piece_four b c d e x h k second i j m n =
     rw (le-ltb b 0x80 (omega arith))
     (rw (in_range 0xC2 0xF4 b (omega arith) k)
     (rw second
@@ -59,8 +59,8 @@ pub encode_four : (c : ℕ) → 65536 ≤ c → encode_utf8 c ≡ (240 + c / 262
 unfolding encode_utf8
 encode_four c h = rw (le-ltb c 128 (omega arith)) (rw (le-ltb c 2048 (omega arith)) (rw (le-ltb c 65536 h) refl))
 
-same_good : (n m c d : ℕ) → n ≡ m → c ≡ d → good n (c ∷ []) ≡ good m (d ∷ [])
-same_good n m c d h k = cc
+same_well_formed : (n m c d : ℕ) → n ≡ m → c ≡ d → well_formed n (c ∷ []) ≡ well_formed m (d ∷ [])
+same_well_formed n m c d h k = cc
 
 length_two : (c : ℕ) → 128 ≤ c → c < 2048 → 2 ≡ len_utf8 c
 length_two c h k = grind (arith, nat_tests)
@@ -71,36 +71,36 @@ length_three c h k = grind (arith, nat_tests)
 length_four : (c : ℕ) → 65536 ≤ c → 4 ≡ len_utf8 c
 length_four c h = grind (arith, nat_tests)
 
-reads_two : (c : ℕ) (x : List ℕ) → 128 ≤ c → c < 2048 → front_utf8 (encode_utf8 c ++ x) ≡ good (len_utf8 c) (c ∷ [])
+reads_two : (c : ℕ) (x : List ℕ) → 128 ≤ c → c < 2048 → first_piece_utf8 (encode_utf8 c ++ x) ≡ well_formed (len_utf8 c) (c ∷ [])
 reads_two c x h k =
     rw (encode_two c h k)
-    (front_two (192 + c / 64) (128 + c % 64) x (omega arith) (omega arith) (omega arith) (omega arith)
-    ∙ same_good 2 (len_utf8 c) (scalar_of_two (192 + c / 64) (128 + c % 64)) c (length_two c h k) (omega arith))
+    (first_piece_two (192 + c / 64) (128 + c % 64) x (omega arith) (omega arith) (omega arith) (omega arith)
+    ∙ same_well_formed 2 (len_utf8 c) (scalar_of_two (192 + c / 64) (128 + c % 64)) c (length_two c h k) (omega arith))
 
 second_three : (c : ℕ) → 2048 ≤ c → c < 65536 → (c < 55296) ⊎ (57344 ≤ c) → is_in_range (second_min (224 + c / 4096)) (second_max (224 + c / 4096)) (128 + c / 64 % 64) ≡ true
 second_three c h k gap = fits_second (224 + c / 4096) (128 + c / 64 % 64) (omega arith) (omega arith) (λ e. omega arith) (λ e. absurd (omega arith)) (λ e. elim gap [ inl low ↦ omega arith | inr high ↦ omega arith ]) (λ e. absurd (omega arith))
 
-reads_three : (c : ℕ) (x : List ℕ) → 2048 ≤ c → c < 65536 → (c < 55296) ⊎ (57344 ≤ c) → front_utf8 (encode_utf8 c ++ x) ≡ good (len_utf8 c) (c ∷ [])
+reads_three : (c : ℕ) (x : List ℕ) → 2048 ≤ c → c < 65536 → (c < 55296) ⊎ (57344 ≤ c) → first_piece_utf8 (encode_utf8 c ++ x) ≡ well_formed (len_utf8 c) (c ∷ [])
 reads_three c x h k gap =
     rw (encode_three c h k)
-    (front_three (224 + c / 4096) (128 + c / 64 % 64) (128 + c % 64) x (omega arith) (omega arith) (second_three c h k gap) (omega arith) (omega arith)
-    ∙ same_good 3 (len_utf8 c) (scalar_of_three (224 + c / 4096) (128 + c / 64 % 64) (128 + c % 64)) c (length_three c h k) (omega arith))
+    (first_piece_three (224 + c / 4096) (128 + c / 64 % 64) (128 + c % 64) x (omega arith) (omega arith) (second_three c h k gap) (omega arith) (omega arith)
+    ∙ same_well_formed 3 (len_utf8 c) (scalar_of_three (224 + c / 4096) (128 + c / 64 % 64) (128 + c % 64)) c (length_three c h k) (omega arith))
 
 second_four : (c : ℕ) → 65536 ≤ c → c < 1114112 → is_in_range (second_min (240 + c / 262144)) (second_max (240 + c / 262144)) (128 + c / 4096 % 64) ≡ true
 second_four c h k = fits_second (240 + c / 262144) (128 + c / 4096 % 64) (omega arith) (omega arith) (λ e. absurd (omega arith)) (λ e. omega arith) (λ e. absurd (omega arith)) (λ e. omega arith)
 
-reads_four : (c : ℕ) (x : List ℕ) → 65536 ≤ c → c < 1114112 → front_utf8 (encode_utf8 c ++ x) ≡ good (len_utf8 c) (c ∷ [])
+reads_four : (c : ℕ) (x : List ℕ) → 65536 ≤ c → c < 1114112 → first_piece_utf8 (encode_utf8 c ++ x) ≡ well_formed (len_utf8 c) (c ∷ [])
 reads_four c x h k =
     rw (encode_four c h)
-    (front_four (240 + c / 262144) (128 + c / 4096 % 64) (128 + c / 64 % 64) (128 + c % 64) x (omega arith) (omega arith) (second_four c h k) (omega arith) (omega arith) (omega arith) (omega arith)
-    ∙ same_good 4 (len_utf8 c) (scalar_of_four (240 + c / 262144) (128 + c / 4096 % 64) (128 + c / 64 % 64) (128 + c % 64)) c (length_four c h) (omega arith))
+    (first_piece_four (240 + c / 262144) (128 + c / 4096 % 64) (128 + c / 64 % 64) (128 + c % 64) x (omega arith) (omega arith) (second_four c h k) (omega arith) (omega arith) (omega arith) (omega arith)
+    ∙ same_well_formed 4 (len_utf8 c) (scalar_of_four (240 + c / 262144) (128 + c / 4096 % 64) (128 + c / 64 % 64) (128 + c % 64)) c (length_four c h) (omega arith))
 
-reads_one : (c : ℕ) (x : List ℕ) → c < 128 → front_utf8 (encode_utf8 c ++ x) ≡ good (len_utf8 c) (c ∷ [])
+reads_one : (c : ℕ) (x : List ℕ) → c < 128 → first_piece_utf8 (encode_utf8 c ++ x) ≡ well_formed (len_utf8 c) (c ∷ [])
 reads_one c x h =
     rw (encode_ascii c h)
     (rw (lt-ltb c 0x80 h) refl)
 
-reads_low : (c : ℕ) (x : List ℕ) → c < 65536 → (c < 55296) ⊎ (57344 ≤ c) → front_utf8 (encode_utf8 c ++ x) ≡ good (len_utf8 c) (c ∷ [])
+reads_low : (c : ℕ) (x : List ℕ) → c < 65536 → (c < 55296) ⊎ (57344 ≤ c) → first_piece_utf8 (encode_utf8 c ++ x) ≡ well_formed (len_utf8 c) (c ∷ [])
 reads_low c x h gap = elim (cases_lt c 128) [
   | inl one ↦ reads_one c x one
   | inr more ↦ elim (cases_lt c 2048) [
@@ -110,8 +110,8 @@ reads_low c x h gap = elim (cases_lt c 128) [
 ]
 
 -- the bytes of a scalar are its piece, whatever follows
-pub front_utf8-encode : (c : ℕ) (x : List ℕ) → IsScalar c → front_utf8 (encode_utf8 c ++ x) ≡ good (len_utf8 c) (c ∷ [])
-front_utf8-encode c x is = elim (scalar_cases c is) [
+pub first_piece_utf8-encode : (c : ℕ) (x : List ℕ) → IsScalar c → first_piece_utf8 (encode_utf8 c ++ x) ≡ well_formed (len_utf8 c) (c ∷ [])
+first_piece_utf8-encode c x is = elim (scalar_cases c is) [
   | inl low ↦ reads_low c x (omega arith) (inl low)
   | inr high ↦ elim (cases_lt c 65536) [
     | inl three ↦ reads_low c x three (inr high.0)
@@ -124,10 +124,10 @@ pub cuts_cond : (t : Bool) (p q : Piece) (n : ℕ) → (t ≡ true → Cuts p n)
 cuts_cond true p q n h k = h refl
 cuts_cond false p q n h k = k refl
 
-pub cuts_bad : (n k : ℕ) → 0 < n → n ≤ k → Cuts (bad n) k
-cuts_bad n k some fits = record { piece = record { some = some; few = omega arith; at_most_two = omega arith; are_scalars = refl }; within = fits }
+pub cuts_malformed : (n k : ℕ) → 0 < n → n ≤ k → Cuts (malformed n) k
+cuts_malformed n k some fits = record { piece = record { some = some; few = omega arith; at_most_two = omega arith; are_scalars = refl }; within = fits }
 
-pub cuts_one : (n c k : ℕ) → 0 < n → n ≤ k → IsScalar c → Cuts (good n (c ∷ [])) k
+pub cuts_one : (n c k : ℕ) → 0 < n → n ≤ k → IsScalar c → Cuts (well_formed n (c ∷ [])) k
 cuts_one n c k some fits is = record { piece = record { some = some; few = omega arith; at_most_two = omega arith; are_scalars = and_from (scalar c) true is refl }; within = fits }
 
 pub range_from : (lo hi c : ℕ) → is_in_range lo hi c ≡ true → IsInRange lo hi c
@@ -172,50 +172,50 @@ record Begins (b c : ℕ) : Type 0 where
   second : IsInRange (second_min b) (second_max b) c
 
 cuts_three : (b c d : ℕ) (x : List ℕ) → Begins b c → 0xF0 ≤ b → IsInRange 0x80 0xBF d → Cuts (utf8_after_three b c d x) (3 + length x)
-cuts_three b c d [] begins four third = cuts_bad 3 3 (omega arith) (omega arith)
+cuts_three b c d [] begins four third = cuts_malformed 3 3 (omega arith) (omega arith)
 cuts_three b c d (e ∷ x) begins four third =
     let h = second_high b c begins.second.1 in
-    cuts_cond (is_in_range 0x80 0xBF e) (good 4 (scalar_of_four b c d e ∷ [])) (bad 3) _
+    cuts_cond (is_in_range 0x80 0xBF e) (well_formed 4 (scalar_of_four b c d e ∷ [])) (malformed 3) _
     (λ t. let fourth = range_from 0x80 0xBF e t in cuts_one 4 (scalar_of_four b c d e) _ (omega arith) (omega arith) (scalar_four b c d e four begins.lead.1 (second_low b c begins.second.0) h.0 (second_least b c begins.second.0) h.2 third.0 third.1 fourth.0 fourth.1))
-    (λ t. cuts_bad 3 _ (omega arith) (omega arith))
+    (λ t. cuts_malformed 3 _ (omega arith) (omega arith))
 
 longer : (p : Piece) (n k : ℕ) → n ≤ k → Cuts p n → Cuts p k
 longer p n k h s = record { piece = s.piece; within = omega (arith, h, s.within) }
 
 cuts_two : (b c : ℕ) (x : List ℕ) → Begins b c → Cuts (utf8_after_two b c x) (2 + length x)
-cuts_two b c [] begins = cuts_bad 2 2 (omega arith) (omega arith)
+cuts_two b c [] begins = cuts_malformed 2 2 (omega arith) (omega arith)
 cuts_two b c (d ∷ x) begins =
     let h = second_high b c begins.second.1 in
-    cuts_cond (is_in_range 0x80 0xBF d) (cond (nat_lt b 0xF0) (good 3 (scalar_of_three b c d ∷ [])) (utf8_after_three b c d x)) (bad 2) _
+    cuts_cond (is_in_range 0x80 0xBF d) (cond (nat_lt b 0xF0) (well_formed 3 (scalar_of_three b c d ∷ [])) (utf8_after_three b c d x)) (malformed 2) _
     (λ t. let third = range_from 0x80 0xBF d t in
-    cuts_cond (nat_lt b 0xF0) (good 3 (scalar_of_three b c d ∷ [])) (utf8_after_three b c d x) _
+    cuts_cond (nat_lt b 0xF0) (well_formed 3 (scalar_of_three b c d ∷ [])) (utf8_after_three b c d x) _
     (λ u. cuts_one 3 (scalar_of_three b c d) _ (omega arith) (omega arith) (scalar_three b c d begins.lead.0 (ltb-true b 0xF0 u) (second_low b c begins.second.0) h.0 h.1 third.0 third.1))
     (λ u. longer (utf8_after_three b c d x) (3 + length x) _ (omega arith) (cuts_three b c d x begins (ltb-false b 0xF0 u) third)))
-    (λ t. cuts_bad 2 _ (omega arith) (omega arith))
+    (λ t. cuts_malformed 2 _ (omega arith) (omega arith))
 
 cuts_lead : (b : ℕ) (x : List ℕ) → IsInRange 0xC2 0xF4 b → Cuts (utf8_after_lead b x) (1 + length x)
-cuts_lead b [] lead = cuts_bad 1 1 (omega arith) (omega arith)
+cuts_lead b [] lead = cuts_malformed 1 1 (omega arith) (omega arith)
 cuts_lead b (c ∷ x) lead =
-    cuts_cond (is_in_range (second_min b) (second_max b) c) (cond (nat_lt b 0xE0) (good 2 (scalar_of_two b c ∷ [])) (utf8_after_two b c x)) (bad 1) _
+    cuts_cond (is_in_range (second_min b) (second_max b) c) (cond (nat_lt b 0xE0) (well_formed 2 (scalar_of_two b c ∷ [])) (utf8_after_two b c x)) (malformed 1) _
     (λ t. let second = range_from (second_min b) (second_max b) c t in
     let h = second_high b c second.1 in
-    cuts_cond (nat_lt b 0xE0) (good 2 (scalar_of_two b c ∷ [])) (utf8_after_two b c x) _
+    cuts_cond (nat_lt b 0xE0) (well_formed 2 (scalar_of_two b c ∷ [])) (utf8_after_two b c x) _
     (λ u. let less = ltb-true b 0xE0 u in cuts_one 2 (scalar_of_two b c) _ (omega arith) (omega arith) (scalar_from (scalar_of_two b c) (inl (omega (arith, less, h.0)))))
     (λ u. longer (utf8_after_two b c x) (2 + length x) _ (omega arith) (cuts_two b c x (record { lead = (ltb-false b 0xE0 u, lead.1); second = second }))))
-    (λ t. cuts_bad 1 _ (omega arith) (omega arith))
+    (λ t. cuts_malformed 1 _ (omega arith) (omega arith))
 
-pub cuts_utf8 : (b : ℕ) (x : List ℕ) → Cuts (front_utf8 (b ∷ x)) (1 + length x)
-cuts_utf8 b x = cuts_cond (nat_lt b 0x80) (good 1 (b ∷ [])) (cond (is_in_range 0xC2 0xF4 b) (utf8_after_lead b x) (bad 1)) _
+pub cuts_utf8 : (b : ℕ) (x : List ℕ) → Cuts (first_piece_utf8 (b ∷ x)) (1 + length x)
+cuts_utf8 b x = cuts_cond (nat_lt b 0x80) (well_formed 1 (b ∷ [])) (cond (is_in_range 0xC2 0xF4 b) (utf8_after_lead b x) (malformed 1)) _
     (λ t. let less = ltb-true b 0x80 t in cuts_one 1 b _ (omega arith) (omega arith) (scalar_from b (inl (omega (arith, less)))))
-    (λ t. cuts_cond (is_in_range 0xC2 0xF4 b) (utf8_after_lead b x) (bad 1) _ (λ u. cuts_lead b x (range_from 0xC2 0xF4 b u)) (λ u. cuts_bad 1 _ (omega arith) (omega arith)))
+    (λ t. cuts_cond (is_in_range 0xC2 0xF4 b) (utf8_after_lead b x) (malformed 1) _ (λ u. cuts_lead b x (range_from 0xC2 0xF4 b u)) (λ u. cuts_malformed 1 _ (omega arith) (omega arith)))
 
 -- a scalar's bytes, then the pieces of what follows
-pieces_utf8-scalar : (c : ℕ) (x : List ℕ) → IsScalar c → pieces_utf8 (encode_utf8 c ++ x) ≡ good (len_utf8 c) (c ∷ []) ∷ pieces_utf8 x
+pieces_utf8-scalar : (c : ℕ) (x : List ℕ) → IsScalar c → pieces_utf8 (encode_utf8 c ++ x) ≡ well_formed (len_utf8 c) (c ∷ []) ∷ pieces_utf8 x
 pieces_utf8-scalar c x is =
     let some : 0 < length (encode_utf8 c ++ x) = omega (arith, length-append (encode_utf8 c) x, length-encode c, (len_utf8_bounds c).0) in
-    pieces_by-first front_utf8 cuts_utf8 (encode_utf8 c ++ x) some
-    ∙ ap (λ p. p ∷ pieces_utf8 (drop (piece_len p) (encode_utf8 c ++ x))) (front_utf8-encode c x is)
-    ∙ ap (λ y. good (len_utf8 c) (c ∷ []) ∷ pieces_utf8 y) (drop_at (encode_utf8 c) x (len_utf8 c) (length-encode c))
+    pieces_by-first first_piece_utf8 cuts_utf8 (encode_utf8 c ++ x) some
+    ∙ ap (λ p. p ∷ pieces_utf8 (drop (piece_len p) (encode_utf8 c ++ x))) (first_piece_utf8-encode c x is)
+    ∙ ap (λ y. well_formed (len_utf8 c) (c ∷ []) ∷ pieces_utf8 y) (drop_at (encode_utf8 c) x (len_utf8 c) (length-encode c))
 
 -- scalars in UTF-8 are their pieces, whatever follows
 pub pieces_utf8-encodes : (t r : List ℕ) → all_scalars t ≡ true → pieces_utf8 (encode_utf8_all t ++ r) ≡ text_pieces t ++ pieces_utf8 r
@@ -224,7 +224,7 @@ pieces_utf8-encodes (c ∷ t) r h =
     let parts = and_parts (scalar c) (all_scalars t) h in
     ap pieces_utf8 (append_assoc (encode_utf8 c) (encode_utf8_all t) r)
     ∙ pieces_utf8-scalar c (encode_utf8_all t ++ r) parts.0
-    ∙ ap (λ ps. good (len_utf8 c) (c ∷ []) ∷ ps) (pieces_utf8-encodes t r parts.1)
+    ∙ ap (λ ps. well_formed (len_utf8 c) (c ∷ []) ∷ ps) (pieces_utf8-encodes t r parts.1)
 
 -- and so are those of a text
 pub pieces_utf8-text : (text r : List ℕ) → IsUtf8 text → pieces_utf8 (text ++ r) ≡ text_pieces (chars text) ++ pieces_utf8 r
@@ -232,4 +232,4 @@ pieces_utf8-text text r utf8 = ap (λ x. pieces_utf8 (x ++ r)) (sym (encodes-cha
 
 -- text that is written in UTF-8 reads back
 pub utf8_reads_back : (t : List ℕ) → all_scalars t ≡ true → pieces_utf8 (encode_utf8_all t) ≡ text_pieces t
-utf8_reads_back t h = ap pieces_utf8 (sym (append-nil (encode_utf8_all t))) ∙ pieces_utf8-encodes t [] h ∙ ap (λ ps. text_pieces t ++ ps) (pieces_by-nil front_utf8) ∙ append-nil (text_pieces t)
+utf8_reads_back t h = ap pieces_utf8 (sym (append-nil (encode_utf8_all t))) ∙ pieces_utf8-encodes t [] h ∙ ap (λ ps. text_pieces t ++ ps) (pieces_by-nil first_piece_utf8) ∙ append-nil (text_pieces t)

@@ -3,32 +3,32 @@
 use Rattle.std.specs.Prelude.{ℕ, Bool, true, false, List, [], ◌∷◌, nat_lt, if◌then◌else◌}
 use Rattle.std.specs.Int.{is_in_range}
 use Rattle.encoding_mem.specs.Utf8.{second_min, second_max, scalar_of_two, scalar_of_three, scalar_of_four}
-use Rattle.encoding_mem.specs.declared.front.Front.{Front}
-use Rattle.encoding_mem.specs.declared.front.Front.TheVariants.{More, One, Bad}
+use Rattle.encoding_mem.specs.declared.first_piece.FirstPiece.{FirstPiece}
+use Rattle.encoding_mem.specs.declared.first_piece.FirstPiece.TheVariants.{More, One, Malformed}
 
 -- the bytes end in the midst of a sequence
-abbrev pub cut_short : ℕ → Bool → Front
-cut_short n true = Bad n
+abbrev pub cut_short : ℕ → Bool → FirstPiece
+cut_short n true = Malformed n
 cut_short n false = More
 
-abbrev pub utf8_decide_three : ℕ → ℕ → ℕ → List ℕ → Bool → Front
+abbrev pub utf8_decide_three : ℕ → ℕ → ℕ → List ℕ → Bool → FirstPiece
 utf8_decide_three b c d [] last = cut_short 3 last
-utf8_decide_three b c d (e ∷ x) last = if is_in_range 0x80 0xBF e then One (scalar_of_four b c d e) 4 else Bad 3
+utf8_decide_three b c d (e ∷ x) last = if is_in_range 0x80 0xBF e then One (scalar_of_four b c d e) 4 else Malformed 3
 
-abbrev pub utf8_decide_two : ℕ → ℕ → List ℕ → Bool → Front
+abbrev pub utf8_decide_two : ℕ → ℕ → List ℕ → Bool → FirstPiece
 utf8_decide_two b c [] last = cut_short 2 last
 utf8_decide_two b c (d ∷ x) last = if is_in_range 0x80 0xBF d
     then (if nat_lt b 0xF0 then One (scalar_of_three b c d) 3 else utf8_decide_three b c d x last)
-    else Bad 2
+    else Malformed 2
 
-abbrev pub utf8_decide_lead : ℕ → List ℕ → Bool → Front
+abbrev pub utf8_decide_lead : ℕ → List ℕ → Bool → FirstPiece
 utf8_decide_lead b [] last = cut_short 1 last
 utf8_decide_lead b (c ∷ x) last = if is_in_range (second_min b) (second_max b) c
     then (if nat_lt b 0xE0 then One (scalar_of_two b c) 2 else utf8_decide_two b c x last)
-    else Bad 1
+    else Malformed 1
 
-abbrev pub decide_utf8 : List ℕ → Bool → Front
+abbrev pub decide_utf8 : List ℕ → Bool → FirstPiece
 decide_utf8 [] last = More
 decide_utf8 (b ∷ x) last = if nat_lt b 0x80
     then One b 1
-    else (if is_in_range 0xC2 0xF4 b then utf8_decide_lead b x last else Bad 1)
+    else (if is_in_range 0xC2 0xF4 b then utf8_decide_lead b x last else Malformed 1)

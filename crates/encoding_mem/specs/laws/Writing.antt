@@ -11,16 +11,16 @@ use Rattle.std.specs.Char.Escape.{encode_utf16}
 use Rattle.std.proofs.lemmas.Bool.{lt-ltb}
 use Rattle.encoding_mem.specs.Writing.{Adds, len_utf16, encode_utf16_all}
 
-length_front : (n : ℕ) (xs : List ℕ) → n ≤ length xs → length (take n xs) ≡ n
-length_front n xs h = grind (arith, common_steps)
+length_prefix : (n : ℕ) (xs : List ℕ) → n ≤ length xs → length (take n xs) ≡ n
+length_prefix n xs h = grind (arith, common_steps)
 
 pub adds_none : (old : List ℕ) (n : ℕ) → n ≤ length old → Adds old n [] old n
 adds_none old n h = record { counted = omega arith; within = h; list = sym (take-append-drop n old) }
 
 pub adds_more : (old : List ℕ) (n : ℕ) (a mid : List ℕ) (m : ℕ) (b new : List ℕ) (k : ℕ) → Adds old n a mid m → Adds mid m b new k → Adds old n (a ++ b) new k
 adds_more old n a mid m b new k h j =
-    let front : length (take n old) ≡ n = length_front n old (omega (arith, h.within, h.counted)) in
-    let seam : length (take n old ++ a) ≡ m = length-append (take n old) a ∙ omega (arith, h.counted, front) in
+    let prefix : length (take n old) ≡ n = length_prefix n old (omega (arith, h.within, h.counted)) in
+    let seam : length (take n old ++ a) ≡ m = length-append (take n old) a ∙ omega (arith, h.counted, prefix) in
     let mid_is : mid ≡ (take n old ++ a) ++ drop m old = h.list ∙ sym (append_assoc (take n old) a (drop m old)) in
     let len : length mid ≡ length old = ap length mid_is ∙ length-append (take n old ++ a) (drop m old) ∙ omega (arith, seam, length-drop m old, h.within) in
     let early : take m mid ≡ take n old ++ a = ap (take m) mid_is ∙ take_at (take n old ++ a) (drop m old) m seam in
@@ -34,8 +34,8 @@ adds_more old n a mid m b new k h j =
 -- what is written is as long as what was there
 pub adds-length : (old : List ℕ) (n : ℕ) (text new : List ℕ) (k : ℕ) → Adds old n text new k → length new ≡ length old
 adds-length old n text new k h =
-    let front : length (take n old) ≡ n = length_front n old (omega (arith, h.within, h.counted)) in
-    ap length h.list ∙ length-append (take n old) (text ++ drop k old) ∙ omega (arith, front, h.counted, h.within, length-append text (drop k old), length-drop k old)
+    let prefix : length (take n old) ≡ n = length_prefix n old (omega (arith, h.within, h.counted)) in
+    ap length h.list ∙ length-append (take n old) (text ++ drop k old) ∙ omega (arith, prefix, h.counted, h.within, length-append text (drop k old), length-drop k old)
 
 pub cost_fits : (c : ℕ) → len_utf8 c ≤ 4
 cost_fits c = (len_utf8_bounds c).1

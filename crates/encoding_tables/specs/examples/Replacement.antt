@@ -1,14 +1,14 @@
 -- Worked rows of `specs/Replacement.antt`.
 use Rattle.std.specs.Prelude.{◌≡◌, true, false, [], ◌∷◌, refl}
-use Rattle.encoding_mem.specs.Piece.{good, bad, bad_count, text}
+use Rattle.encoding_mem.specs.Piece.{well_formed, malformed, malformed_count, text}
 use Rattle.encoding_mem.specs.Pieces.{pieces_in}
 use Rattle.encoding_tables.specs.Replacement.{pieces_replacement}
 
-two_bytes : pieces_replacement false (0x41 ∷ 0x42 ∷ []) ≡ bad 1 ∷ good 1 [] ∷ []
+two_bytes : pieces_replacement false (0x41 ∷ 0x42 ∷ []) ≡ malformed 1 ∷ well_formed 1 [] ∷ []
 unfolding pieces_in
 two_bytes = refl
 
-more_bytes : pieces_replacement true (0x41 ∷ 0x42 ∷ []) ≡ good 1 [] ∷ good 1 [] ∷ []
+more_bytes : pieces_replacement true (0x41 ∷ 0x42 ∷ []) ≡ well_formed 1 [] ∷ well_formed 1 [] ∷ []
 unfolding pieces_in
 more_bytes = refl
 
@@ -17,7 +17,7 @@ unfolding pieces_in
 no_bytes = refl
 
 -- one byte is the error, and all three bytes are one U+FFFD
-one_byte : pieces_replacement false (0x41 ∷ []) ≡ bad 1 ∷ []
+one_byte : pieces_replacement false (0x41 ∷ []) ≡ malformed 1 ∷ []
 unfolding pieces_in
 one_byte = refl
 
@@ -25,6 +25,6 @@ text_of_three : text (pieces_replacement false (0x41 ∷ 0x42 ∷ 0x43 ∷ [])) 
 unfolding pieces_in
 text_of_three = refl
 
-one_error : bad_count (pieces_replacement false (0x41 ∷ 0x42 ∷ 0x43 ∷ [])) ≡ 1
+one_error : malformed_count (pieces_replacement false (0x41 ∷ 0x42 ∷ 0x43 ∷ [])) ≡ 1
 unfolding pieces_in
 one_error = refl

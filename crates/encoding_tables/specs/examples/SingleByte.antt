@@ -1,9 +1,9 @@
 -- Worked rows of `specs/SingleByte.antt`.
 use Rattle.std.proofs.Common.{ℕ, zero, suc, ◌<◌, refl, ap, arith}
 use Rattle.std.specs.Prelude.{◌≡◌, ℕ, List, [], ◌∷◌, ◌++◌, None, Some, replicate, slice_index, ◌≢◌}
-use Rattle.encoding_mem.specs.Piece.{good, bad, scalars}
+use Rattle.encoding_mem.specs.Piece.{well_formed, malformed, scalars}
 use Rattle.encoding_mem.specs.Pieces.{pieces_in}
-use Rattle.encoding_tables.specs.SingleByte.{char_of_byte, single_byte_of_char, front_single_byte, pieces_single_byte, IsLatin1UpTo}
+use Rattle.encoding_tables.specs.SingleByte.{char_of_byte, single_byte_of_char, first_piece_single_byte, pieces_single_byte, IsLatin1UpTo}
 
 -- a list for examples, from 80 on: U+20AC, nothing, U+00E9, U+00E9
 sample : List ℕ
@@ -17,7 +17,7 @@ euro : char_of_byte sample 0x80 ≡ Some 0x20AC
 unfolding sample
 euro = refl
 
-nothing : front_single_byte sample (0x81 ∷ 0x41 ∷ []) ≡ bad 1
+nothing : first_piece_single_byte sample (0x81 ∷ 0x41 ∷ []) ≡ malformed 1
 unfolding sample
 nothing = refl
 
@@ -41,7 +41,7 @@ nul : single_byte_of_char sample 0 ≡ Some 0
 unfolding sample
 nul = refl
 
-in_a_row : pieces_single_byte sample (0x41 ∷ 0x80 ∷ 0x81 ∷ []) ≡ good 1 (0x41 ∷ []) ∷ good 1 (0x20AC ∷ []) ∷ bad 1 ∷ []
+in_a_row : pieces_single_byte sample (0x41 ∷ 0x80 ∷ 0x81 ∷ []) ≡ well_formed 1 (0x41 ∷ []) ∷ well_formed 1 (0x20AC ∷ []) ∷ malformed 1 ∷ []
 unfolding sample pieces_in
 in_a_row = refl
 
@@ -76,7 +76,7 @@ tau : single_byte_of_char greek 0x3C4 ≡ Some 0xF4
 unfolding greek
 tau = refl
 
-tau_read : pieces_single_byte greek (0xF4 ∷ 0xF5 ∷ []) ≡ good 1 (0x3C4 ∷ []) ∷ bad 1 ∷ []
+tau_read : pieces_single_byte greek (0xF4 ∷ 0xF5 ∷ []) ≡ well_formed 1 (0x3C4 ∷ []) ∷ malformed 1 ∷ []
 unfolding greek pieces_in
 tau_read = refl
 
@@ -84,7 +84,7 @@ tau_read = refl
 last_pointer_is_last_byte : single_byte_of_char (replicate 127 0 ++ (0xFF ∷ [])) 0xFF ≡ Some 0xFF
 last_pointer_is_last_byte = refl
 
-euro_is_another : good 1 (0x20AC ∷ []) ∷ [] ≢ good 1 (0x80 ∷ []) ∷ []
+euro_is_another : well_formed 1 (0x20AC ∷ []) ∷ [] ≢ well_formed 1 (0x80 ∷ []) ∷ []
 euro_is_another e = let characters : 0x20AC ≡ 0x80 = ap (λ ps. slice_index (scalars ps) 0) e in absurd (omega (arith, characters))
 
 -- 80 is U+20AC here, as in windows-1252: only the bytes before it are the characters with their numbers
@@ -92,7 +92,7 @@ letters_before_euro : IsLatin1UpTo (pieces_single_byte sample) (0x41 ∷ 0x42 �
 unfolding sample pieces_in
 letters_before_euro = record { within = omega arith; same = each_letter; other = λ more. euro_is_another }
   where
-    each_letter : (k : ℕ) → k < 2 → pieces_single_byte sample (slice_index (0x41 ∷ 0x42 ∷ 0x80 ∷ []) k ∷ []) ≡ good 1 (slice_index (0x41 ∷ 0x42 ∷ 0x80 ∷ []) k ∷ []) ∷ []
+    each_letter : (k : ℕ) → k < 2 → pieces_single_byte sample (slice_index (0x41 ∷ 0x42 ∷ 0x80 ∷ []) k ∷ []) ≡ well_formed 1 (slice_index (0x41 ∷ 0x42 ∷ 0x80 ∷ []) k ∷ []) ∷ []
     each_letter zero less = refl
     each_letter (suc zero) less = refl
     each_letter (suc (suc k)) less = absurd (omega (arith, less))

@@ -1,13 +1,13 @@
 -- Worked rows of `specs/UserDefined.antt`.
 use Rattle.std.specs.Prelude.{◌≡◌, [], ◌∷◌, None, Some, refl}
 use Rattle.encoding_mem.specs.Coding.{output}
-use Rattle.encoding_mem.specs.Piece.{good}
+use Rattle.encoding_mem.specs.Piece.{well_formed}
 use Rattle.encoding_mem.specs.Pieces.{pieces_in}
 use Rattle.encoding_tables.specs.UserDefined.{user_char_of_byte, byte_of_user_char, pieces_user_defined, user_defined_coding}
 
 -- the first and the last byte that are not ASCII
 in_a_row : pieces_user_defined (0x7F ∷ 0x80 ∷ 0xFF ∷ [])
-    ≡ good 1 (0x7F ∷ []) ∷ good 1 (0xF780 ∷ []) ∷ good 1 (0xF7FF ∷ []) ∷ []
+    ≡ well_formed 1 (0x7F ∷ []) ∷ well_formed 1 (0xF780 ∷ []) ∷ well_formed 1 (0xF7FF ∷ []) ∷ []
 unfolding pieces_in
 in_a_row = refl
 

@@ -2,45 +2,45 @@
 use Rattle.std.proofs.Common.{◌≡◌, ℕ, ◌+◌, ◌≤◌, ◌<◌, Bool, List, [], ◌∷◌, length, drop, refl, ap, ◌∙◌, arith, lit≤, lit<, Option, None, Some}
 use Rattle.std.specs.Prelude.{slice_index, IfSome}
 use Rattle.std.specs.Char.{IsScalar}
-use Rattle.encoding_mem.specs.TextRoom.{IsRoomFor, text_room_single_byte}
-use Rattle.encoding_mem.specs.laws.TextRoom.{single_byte_room}
+use Rattle.encoding_mem.specs.EncodedLength.{IsRoomFor, encoded_length_single_byte}
+use Rattle.encoding_mem.specs.laws.EncodedLength.{single_byte_room}
 use Rattle.encoding_mem.specs.Coding.{IsCoding, FitsNeed}
 use Rattle.encoding_mem.specs.laws.Stateless.{stateless_laws, short_one, short_none}
 use Rattle.encoding_mem.specs.Piece.{piece_len, Cuts}
 use Rattle.encoding_mem.specs.laws.Pieces.{CutsEach, pieces_by-cons}
-use Rattle.encoding_mem.specs.laws.Utf8.{cuts_bad, cuts_one}
-use Rattle.encoding_mem.specs.FrontPiece.{TellsFirstPiece}
-use Rattle.encoding_mem.specs.laws.Shows.{Shows, shows_front}
-use Rattle.encoding_mem.specs.declared.front.Front.{Front}
-use Rattle.encoding_mem.specs.declared.front.Front.TheVariants.{One, Bad}
-use Rattle.encoding_tables.specs.EachByte.{piece_of_byte, front_by_byte, pieces_by_byte, form_of_byte, coding_by_byte}
+use Rattle.encoding_mem.specs.laws.Utf8.{cuts_malformed, cuts_one}
+use Rattle.encoding_mem.specs.DecoderRule.{TellsFirstPiece}
+use Rattle.encoding_mem.specs.laws.Shows.{Shows, shows_first_piece}
+use Rattle.encoding_mem.specs.declared.first_piece.FirstPiece.{FirstPiece}
+use Rattle.encoding_mem.specs.declared.first_piece.FirstPiece.TheVariants.{One, Malformed}
+use Rattle.encoding_tables.specs.EachByte.{piece_of_byte, first_piece_by_byte, pieces_by_byte, form_of_byte, coding_by_byte}
 
 -- each character is a scalar
 abbrev pub AreScalars : (ℕ → Option ℕ) → Type 0
 AreScalars char_of = (b : ℕ) → IfSome (char_of b) IsScalar
 
 -- what a look at a byte shows: it is decided at once
-abbrev pub front_of_byte : Option ℕ → Front
-front_of_byte None = Bad 1
-front_of_byte (Some c) = One c 1
+abbrev pub first_piece_of_byte : Option ℕ → FirstPiece
+first_piece_of_byte None = Malformed 1
+first_piece_of_byte (Some c) = One c 1
 
 cuts_piece : (o : Option ℕ) (n : ℕ) → 1 ≤ n → IfSome o IsScalar → Cuts (piece_of_byte o) n
-cuts_piece None n some scalar = cuts_bad 1 n (lit< tt) some
+cuts_piece None n some scalar = cuts_malformed 1 n (lit< tt) some
 cuts_piece (Some c) n some scalar = cuts_one 1 c n (lit< tt) some scalar
 
-pub cuts_by_byte : (char_of : ℕ → Option ℕ) → AreScalars char_of → CutsEach (front_by_byte char_of)
+pub cuts_by_byte : (char_of : ℕ → Option ℕ) → AreScalars char_of → CutsEach (first_piece_by_byte char_of)
 cuts_by_byte char_of scalars b x = cuts_piece (char_of b) (1 + length x) (omega arith) (scalars b)
 
-shows_byte : (char_of : ℕ → Option ℕ) (b : ℕ) (x : List ℕ) (last : Bool) (o : Option ℕ) → char_of b ≡ o → Shows (front_by_byte char_of) 0 (b ∷ x) last (front_of_byte o)
+shows_byte : (char_of : ℕ → Option ℕ) (b : ℕ) (x : List ℕ) (last : Bool) (o : Option ℕ) → char_of b ≡ o → Shows (first_piece_by_byte char_of) 0 (b ∷ x) last (first_piece_of_byte o)
 shows_byte char_of b x last None is = ((lit< tt, omega arith, λ r e. ap piece_of_byte is), lit≤ tt)
 shows_byte char_of b x last (Some c) is = (lit< tt, omega arith, λ r e. ap piece_of_byte is)
 
 -- the first piece of bytes is that of the first byte
-pub front_by_first : (char_of : ℕ → Option ℕ) → AreScalars char_of → (x : List ℕ) (last : Bool) → 0 < length x
-    → TellsFirstPiece (pieces_by_byte char_of) (pieces_by_byte char_of) x last (front_of_byte (char_of (slice_index x 0)))
-front_by_first char_of scalars [] last some = absurd (omega (arith, some))
-front_by_first char_of scalars (b ∷ x) last some =
-    shows_front (front_by_byte char_of) (cuts_by_byte char_of scalars) (b ∷ x) last _ some (shows_byte char_of b x last (char_of b) refl)
+pub first_piece_by_first : (char_of : ℕ → Option ℕ) → AreScalars char_of → (x : List ℕ) (last : Bool) → 0 < length x
+    → TellsFirstPiece (pieces_by_byte char_of) (pieces_by_byte char_of) x last (first_piece_of_byte (char_of (slice_index x 0)))
+first_piece_by_first char_of scalars [] last some = absurd (omega (arith, some))
+first_piece_by_first char_of scalars (b ∷ x) last some =
+    shows_first_piece (first_piece_by_byte char_of) (cuts_by_byte char_of scalars) (b ∷ x) last _ some (shows_byte char_of b x last (char_of b) refl)
 
 -- a target of one byte a character
 short_form : (c : ℕ) (o : Option ℕ) → FitsNeed 1 (form_of_byte c o)
@@ -50,7 +50,7 @@ short_form c (Some b) = short_one
 pub laws_by_byte : (byte_of : ℕ → Option ℕ) → IsCoding 1 (coding_by_byte byte_of)
 laws_by_byte byte_of = stateless_laws 1 (λ c. form_of_byte c (byte_of c)) (lit≤ tt) (λ c. short_form c (byte_of c))
 
-pub fits_by_byte : (byte_of : ℕ → Option ℕ) → IsRoomFor (coding_by_byte byte_of) text_room_single_byte
+pub fits_by_byte : (byte_of : ℕ → Option ℕ) → IsRoomFor (coding_by_byte byte_of) encoded_length_single_byte
 fits_by_byte byte_of = single_byte_room (λ c. form_of_byte c (byte_of c)) (λ c. short_form c (byte_of c))
 
 -- the piece of a byte alone
@@ -60,5 +60,5 @@ size_of-piece (Some c) = refl
 
 pub pieces_by_byte-cons : (char_of : ℕ → Option ℕ) → AreScalars char_of → (b : ℕ) (x : List ℕ) → pieces_by_byte char_of (b ∷ x) ≡ piece_of_byte (char_of b) ∷ pieces_by_byte char_of x
 pieces_by_byte-cons char_of scalars b x =
-    pieces_by-cons (front_by_byte char_of) (cuts_by_byte char_of scalars) b x
+    pieces_by-cons (first_piece_by_byte char_of) (cuts_by_byte char_of scalars) b x
     ∙ ap (λ n. piece_of_byte (char_of b) ∷ pieces_by_byte char_of (drop n (b ∷ x))) (size_of-piece (char_of b))

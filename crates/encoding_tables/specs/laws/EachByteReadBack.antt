@@ -2,16 +2,16 @@
 -- where each character has a byte, and character by character.
 use Rattle.std.proofs.Common.{◌≡◌, ℕ, ◌+◌, ◌≤◌, List, [], ◌∷◌, ◌++◌, length, sym, ◌≢◌, ◌⊎◌, inl, inr, ◌∙◌, ap, subst, refl, arith, Option, None, Some, append-nil, length-append}
 use Rattle.std.specs.Fmt.{decimal}
-use Rattle.encoding_mem.specs.Piece.{text, text_of, AreGood}
+use Rattle.encoding_mem.specs.Piece.{text, text_of, AreWellFormed}
 use Rattle.encoding_mem.specs.laws.Pieces.{pieces_by-nil}
 use Rattle.encoding_mem.specs.Coding.{AllMapped, IsMapped, open_from, output, spelled, lost_count, unmapped_count}
 use Rattle.encoding_mem.specs.Steps.{StepLaw, in_any_set, Returns, Strays}
 use Rattle.encoding_mem.specs.laws.Steps.{step_law, strays_at_reference}
 use Rattle.encoding_mem.specs.ReadBack.{ReadsAs, ReadsBackExactly}
 use Rattle.encoding_mem.specs.laws.ReadBack.{all_mapped}
-use Rattle.encoding_mem.specs.declared.form.Set.{Set}
-use Rattle.encoding_mem.specs.declared.form.Set.TheVariants.{Ascii}
-use Rattle.encoding_tables.specs.EachByte.{piece_of_byte, front_by_byte, pieces_by_byte, form_of_byte, coding_by_byte}
+use Rattle.encoding_mem.specs.declared.form.EscapeState.{EscapeState}
+use Rattle.encoding_mem.specs.declared.form.EscapeState.TheVariants.{Ascii}
+use Rattle.encoding_tables.specs.EachByte.{piece_of_byte, first_piece_by_byte, pieces_by_byte, form_of_byte, coding_by_byte}
 use Rattle.encoding_tables.specs.laws.EachByte.{AreScalars, cuts_by_byte, pieces_by_byte-cons}
 
 -- the byte of a character reads as that character
@@ -23,7 +23,7 @@ one_text None = refl
 one_text (Some c) = refl
 
 as_long : (char_of : ℕ → Option ℕ) → AreScalars char_of → (x : List ℕ) → length (text (pieces_by_byte char_of x)) ≡ length x
-as_long char_of scalars [] = ap (λ ps. length (text ps)) (pieces_by-nil (front_by_byte char_of))
+as_long char_of scalars [] = ap (λ ps. length (text ps)) (pieces_by-nil (first_piece_by_byte char_of))
 as_long char_of scalars (b ∷ x) =
     ap (λ ps. length (text ps)) (pieces_by_byte-cons char_of scalars b x)
     ∙ omega (arith, length-append (text_of (piece_of_byte (char_of b))) (text (pieces_by_byte char_of x)), one_text (char_of b), as_long char_of scalars x)
@@ -33,11 +33,11 @@ mapped_byte : (c : ℕ) (o : Option ℕ) → IsMapped (form_of_byte c o) → (b 
 mapped_byte c None h = absurd h
 mapped_byte c (Some b) h = (b, refl)
 
-reads : (char_of byte_of : ℕ → Option ℕ) (s : Set) (t : List ℕ) → AreScalars char_of → ReadsBack char_of byte_of → AllMapped (coding_by_byte byte_of) t
+reads : (char_of byte_of : ℕ → Option ℕ) (s : EscapeState) (t : List ℕ) → AreScalars char_of → ReadsBack char_of byte_of → AllMapped (coding_by_byte byte_of) t
     → ReadsAs (pieces_by_byte char_of) (open_from (coding_by_byte byte_of) s t) t
 reads char_of byte_of s [] scalars back h = record {
-  good = subst AreGood (sym (pieces_by-nil (front_by_byte char_of))) tt;
-  same = ap text (pieces_by-nil (front_by_byte char_of));
+  well_formed = subst AreWellFormed (sym (pieces_by-nil (first_piece_by_byte char_of))) tt;
+  same = ap text (pieces_by-nil (first_piece_by_byte char_of));
 }
 reads char_of byte_of s (c ∷ t) scalars back h =
     let more = reads char_of byte_of Ascii t scalars back h.1 in
@@ -46,7 +46,7 @@ reads char_of byte_of s (c ∷ t) scalars back h =
     let pieces = ap (pieces_by_byte char_of) begins ∙ pieces_by_byte-cons char_of scalars byte.0 (open_from (coding_by_byte byte_of) Ascii t)
     ∙ ap (λ o. piece_of_byte o ∷ pieces_by_byte char_of (open_from (coding_by_byte byte_of) Ascii t)) (back c byte.0 byte.1) in
     record {
-      good = subst AreGood (sym pieces) (tt, more.good);
+      well_formed = subst AreWellFormed (sym pieces) (tt, more.well_formed);
       same = ap text pieces ∙ ap (λ l. c ∷ l) more.same;
     }
 
@@ -55,7 +55,7 @@ spelled_length : (c : ℕ) (o : Option ℕ) → 1 + unmapped_count (form_of_byte
 spelled_length c None = omega (arith, length-append (decimal c) (0x3B ∷ []))
 spelled_length c (Some b) = omega arith
 
-open_length : (byte_of : ℕ → Option ℕ) (s : Set) (t : List ℕ) → length t + lost_count (coding_by_byte byte_of) t ≤ length (open_from (coding_by_byte byte_of) s t)
+open_length : (byte_of : ℕ → Option ℕ) (s : EscapeState) (t : List ℕ) → length t + lost_count (coding_by_byte byte_of) t ≤ length (open_from (coding_by_byte byte_of) s t)
 open_length byte_of s [] = omega arith
 open_length byte_of s (c ∷ t) =
     omega (arith, spelled_length c (byte_of c), open_length byte_of Ascii t, length-append (spelled (form_of_byte c (byte_of c))) (open_from (coding_by_byte byte_of) Ascii t))
@@ -75,14 +75,14 @@ IsAbsent None = Unit {0}
 IsAbsent (Some b) = ⊥
 
 one_step : (char_of byte_of : ℕ → Option ℕ) → ReadsBack char_of byte_of → byte_of 0x26 ≡ Some 0x26 → (c : ℕ) (o : Option ℕ) → byte_of c ≡ o
-    → Returns (front_by_byte char_of) (spelled (form_of_byte c o)) c ⊎ Strays (front_by_byte char_of) (spelled (form_of_byte c o)) c
+    → Returns (first_piece_by_byte char_of) (spelled (form_of_byte c o)) c ⊎ Strays (first_piece_by_byte char_of) (spelled (form_of_byte c o)) c
 one_step char_of byte_of back ampersand c None is =
     let other : c ≢ 0x26 = λ same. subst IsAbsent (sym is ∙ ap byte_of same ∙ ampersand) tt in
-    inr (strays_at_reference (front_by_byte char_of) c c (λ x. ap piece_of_byte (back 0x26 0x26 ampersand)) other)
+    inr (strays_at_reference (first_piece_by_byte char_of) c c (λ x. ap piece_of_byte (back 0x26 0x26 ampersand)) other)
 one_step char_of byte_of back ampersand c (Some b) is = inl (record { piece = λ y. ap piece_of_byte (back c b is) })
 
 pub steps_by_byte : (char_of byte_of : ℕ → Option ℕ) → AreScalars char_of → ReadsBack char_of byte_of → byte_of 0x26 ≡ Some 0x26
     → StepLaw (coding_by_byte byte_of) (in_any_set (pieces_by_byte char_of))
 steps_by_byte char_of byte_of scalars back ampersand =
-    step_law (front_by_byte char_of) (λ c. form_of_byte c (byte_of c)) (cuts_by_byte char_of scalars)
+    step_law (first_piece_by_byte char_of) (λ c. form_of_byte c (byte_of c)) (cuts_by_byte char_of scalars)
     (λ c scalar. one_step char_of byte_of back ampersand c (byte_of c) refl)

@@ -65,8 +65,8 @@ number-same a b e = sym (again a) ∙ ap (λ n. get_or kind_at n Ibm866) e ∙ a
 
 pub accepted-put : (slots : List (Option (List ℕ))) (n : ℕ) (kind : IndexKind) (flat : List ℕ) → n ≡ number kind → n < length slots
     → flat_fault false kind flat ≡ None → AreAccepted slots → AreAccepted (set slots n (Some flat))
-accepted-put slots n kind flat is within good before k = elim (cases_eq (number k) (number kind)) [
-  | inl same ↦ rw (index-put slots n (Some flat) k (is ∙ sym same) within) (rw (number-same k kind same) good)
+accepted-put slots n kind flat is within well_formed before k = elim (cases_eq (number k) (number kind)) [
+  | inl same ↦ rw (index-put slots n (Some flat) k (is ∙ sym same) within) (rw (number-same k kind same) well_formed)
   | inr apart ↦ rw (index-others slots n (Some flat) kind k is (λ e. apart (ap number e))) (before k)
 ]
 

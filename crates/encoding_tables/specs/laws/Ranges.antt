@@ -105,10 +105,10 @@ taken row from least r rows order values =
     let tests = or_false (nat_lt r.0 from) (nat_lt 1237575 r.0) a.0 in
     (b.0, record { start = ltb-false r.0 from tests.0; last = ltb-false 1237575 r.0 tests.1; values = b.1; order = a.1; rest = b.2 })
 
--- the last row of a list with a row in front
-pub row_in_front : (q : ℕ) (r : ℕ × ℕ) (rows : List (ℕ × ℕ)) (s : ℕ × ℕ) → last_row q (r ∷ rows) ≡ Some s
+-- the last row of a list with a row before them
+pub row_in_prefix : (q : ℕ) (r : ℕ × ℕ) (rows : List (ℕ × ℕ)) (s : ℕ × ℕ) → last_row q (r ∷ rows) ≡ Some s
     → (last_row q rows ≡ Some s) ⊎ ((last_row q rows ≡ None) × (r.0 ≤ q) × (r ≡ s))
-row_in_front q r rows s e = elim (option_or_some (last_row q rows) (cond (nat_lt q r.0) None (Some r)) s e) [
+row_in_prefix q r rows s e = elim (option_or_some (last_row q rows) (cond (nat_lt q r.0) None (Some r)) s e) [
   | inl later ↦ inl later
   | inr here ↦ elim (cases_lt q r.0) [
     | inl above ↦ absurd (let no = rw (lt-ltb q r.0 above) at here.1 in cc)
@@ -159,7 +159,7 @@ pub found : (row from least q : ℕ) (rows : List (ℕ × ℕ)) (s : ℕ × ℕ)
 found row from least q [] s order values valid e = absurd (cc)
 found row from least q (r ∷ rows) s order values valid e =
     let t = taken row from least r rows order values in
-    elim (row_in_front q r rows s e) [
+    elim (row_in_prefix q r rows s e) [
       | inl later ↦
           let f = found (row + 1) (r.0 + 1) t.0 q rows s t.1.order t.1.rest valid later in
           record { from = f.from; high = omega (arith, f.high, row_more r (end_by rows) least t.0 t.1.values); scalar = f.scalar }
@@ -173,15 +173,15 @@ pub rise : (row from least q p : ℕ) (rows : List (ℕ × ℕ)) (r s : ℕ × �
 rise row from least q p [] r s order values valid valid_p less e f = absurd (cc)
 rise row from least q p (first ∷ rows) r s order values valid valid_p less e f =
     let t = taken row from least first rows order values in
-    elim (row_in_front p first rows s f) [
-      | inl later ↦ elim (row_in_front q first rows r e) [
+    elim (row_in_prefix p first rows s f) [
+      | inl later ↦ elim (row_in_prefix q first rows r e) [
         | inl both ↦ rise (row + 1) (first.0 + 1) t.0 q p rows r s t.1.order t.1.rest valid valid_p less both later
         | inr here ↦
             let b = row_between first (end_by rows) least t.0 t.1.values q valid here.1 (before_rows q rows valid here.0) in
             let g = found (row + 1) (first.0 + 1) t.0 p rows s t.1.order t.1.rest valid_p later in
             rw (← here.2) (omega (arith, b.below, g.high))
       ]
-      | inr last ↦ elim (row_in_front q first rows r e) [
+      | inr last ↦ elim (row_in_prefix q first rows r e) [
         | inl early ↦ absurd (let no = no_row_left q p rows less last.0 in cc)
         | inr here ↦ rw (← here.2, ← last.2) (omega (arith, here.1))
       ]
@@ -236,7 +236,7 @@ pointer_found row from least c q [] order values h = absurd (let e = h.gives in 
 pointer_found row from least c q (r ∷ rows) order values h =
     let t = taken row from least r rows order values in
     let s = map_some (value_in q) (last_row q (r ∷ rows)) c h.gives in
-    elim (row_in_front q r rows s.0 s.1) [
+    elim (row_in_prefix q r rows s.0 s.1) [
       | inr here ↦
           let is : value_in q r ≡ c = rw here.2 s.2 in
           let low : r.1 ≤ c = omega (arith, is) in
@@ -289,7 +289,7 @@ pointers_read_back rows taken c q e = elim (cases_eq c 0xE7C7) [
       rw (h.valid, ne_eqb q 7457 h.other) h.gives
 ]
 
--- ---- what a look-up answers
+-- ---- what a look-up returns
 
 scalar_of_range : (v : ℕ) → InScalarRange v → IsScalar v
 scalar_of_range v h = grind (arith, nat_tests)

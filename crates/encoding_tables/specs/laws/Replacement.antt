@@ -1,48 +1,48 @@
 -- Laws of the pieces of the replacement encoding.
 use Rattle.std.proofs.Common.{◌≡◌, ℕ, ◌+◌, ◌≤◌, ◌<◌, Bool, true, false, List, ◌∷◌, length, refl, arith, lit<, lit≤}
 use Rattle.encoding_mem.specs.laws.Pieces.{AllCut}
-use Rattle.encoding_mem.specs.laws.Utf8.{cuts_bad}
-use Rattle.encoding_mem.specs.FrontPiece.{TellsFirstPiece, HasRoomFor}
-use Rattle.encoding_mem.specs.Room.{is_units, goes_on, replacement_len, left_after, room_of, room_replacement}
-use Rattle.encoding_mem.specs.laws.Shows.{Shows, shows_front_in}
-use Rattle.encoding_mem.specs.declared.front.Front.{Front}
-use Rattle.encoding_mem.specs.declared.front.Front.TheVariants.{Silent, Bad}
-use Rattle.encoding_mem.specs.declared.room.Count.{Count}
-use Rattle.encoding_mem.specs.declared.room.Count.TheVariants.{Units, Bytes, Replaced}
-use Rattle.encoding_tables.specs.Replacement.{front_replacement, after_replacement, pieces_replacement}
+use Rattle.encoding_mem.specs.laws.Utf8.{cuts_malformed}
+use Rattle.encoding_mem.specs.DecoderRule.{TellsFirstPiece, HasRoomFor}
+use Rattle.encoding_mem.specs.DecodedLength.{is_units, goes_on, replacement_len, left_after, decoded_length, decoded_length_replacement}
+use Rattle.encoding_mem.specs.laws.Shows.{Shows, shows_first_piece_in}
+use Rattle.encoding_mem.specs.declared.first_piece.FirstPiece.{FirstPiece}
+use Rattle.encoding_mem.specs.declared.first_piece.FirstPiece.TheVariants.{Ignored, Malformed}
+use Rattle.encoding_mem.specs.declared.room.OutputUnit.{OutputUnit}
+use Rattle.encoding_mem.specs.declared.room.OutputUnit.TheVariants.{Units, Bytes, Replaced}
+use Rattle.encoding_tables.specs.Replacement.{first_piece_replacement, after_replacement, pieces_replacement}
 
-pub cuts_replacement : AllCut front_replacement
-cuts_replacement false b x = cuts_bad 1 (1 + length x) (lit< tt) (omega arith)
+pub cuts_replacement : AllCut first_piece_replacement
+cuts_replacement false b x = cuts_malformed 1 (1 + length x) (lit< tt) (omega arith)
 cuts_replacement true b x = record { piece = record { some = lit< tt; few = omega arith; at_most_two = omega arith; are_scalars = refl }; within = omega arith }
 
 -- what a look at the first byte shows
-abbrev pub decide_replacement : (error_returned : Bool) → Front
-decide_replacement false = Bad 1
-decide_replacement true = Silent 1
+abbrev pub decide_replacement : (error_returned : Bool) → FirstPiece
+decide_replacement false = Malformed 1
+decide_replacement true = Ignored 1
 
-shows_replacement : (e : Bool) (x : List ℕ) (last : Bool) → 0 < length x → Shows (front_replacement e) 0 x last (decide_replacement e)
+shows_replacement : (e : Bool) (x : List ℕ) (last : Bool) → 0 < length x → Shows (first_piece_replacement e) 0 x last (decide_replacement e)
 shows_replacement false x last some = ((lit< tt, omega (arith, some), λ r h. refl), lit≤ tt)
 shows_replacement true x last some = (lit< tt, omega (arith, some), λ r h. refl)
 
-pub replacement_front : (e : Bool) (x : List ℕ) (last : Bool) → 0 < length x → TellsFirstPiece (pieces_replacement e) (pieces_replacement true) x last (decide_replacement e)
-replacement_front e x last some =
-    shows_front_in front_replacement after_replacement cuts_replacement e true x last (decide_replacement e) some (λ _ r h. refl) (shows_replacement e x last some)
+pub replacement_first_piece : (e : Bool) (x : List ℕ) (last : Bool) → 0 < length x → TellsFirstPiece (pieces_replacement e) (pieces_replacement true) x last (decide_replacement e)
+replacement_first_piece e x last some =
+    shows_first_piece_in first_piece_replacement after_replacement cuts_replacement e true x last (decide_replacement e) some (λ _ r h. refl) (shows_replacement e x last some)
 
 -- the first byte decides
-pub decided_by_one : (e : Bool) (b : ℕ) (x y : List ℕ) → front_replacement e (b ∷ x) ≡ front_replacement e (b ∷ y)
+pub decided_by_one : (e : Bool) (b : ℕ) (x y : List ℕ) → first_piece_replacement e (b ∷ x) ≡ first_piece_replacement e (b ∷ y)
 decided_by_one false b x y = refl
 decided_by_one true b x y = refl
 
 -- room is wanted for the one error, and none once it was returned
-abbrev pub replacement_needs : (error_returned : Bool) → Count → ℕ → ℕ
-replacement_needs false k m = room_of room_replacement k m
+abbrev pub replacement_needs : (error_returned : Bool) → OutputUnit → ℕ → ℕ
+replacement_needs false k m = decoded_length decoded_length_replacement k m
 replacement_needs true k m = 0
 
-pub replacement_covers : (e : Bool) (k : Count) (m : ℕ) → replacement_needs e k m ≤ room_of room_replacement k m
+pub replacement_covers : (e : Bool) (k : OutputUnit) (m : ℕ) → replacement_needs e k m ≤ decoded_length decoded_length_replacement k m
 replacement_covers false k m = omega arith
 replacement_covers true k m = omega arith
 
-error_fits : (k : Count) (m : ℕ) → left_after (goes_on k) (replacement_len (is_units k)) 0 ≤ room_of room_replacement k m
+error_fits : (k : OutputUnit) (m : ℕ) → left_after (goes_on k) (replacement_len (is_units k)) 0 ≤ decoded_length decoded_length_replacement k m
 error_fits Units m = omega arith
 error_fits Bytes m = omega arith
 error_fits Replaced m = omega arith

@@ -5,14 +5,14 @@ use Rattle.std.specs.Char.{IsScalar}
 use Rattle.std.proofs.lemmas.Bool.{cases_lt, cases_eq, lt-ltb, le-ltb, eq-eqb, ne_eqb}
 use Rattle.std.proofs.lemmas.Bool.Decides.{nat_tests}
 use Rattle.encoding_mem.specs.Coding.{IsCoding}
-use Rattle.encoding_mem.specs.TextRoom.{IsRoomFor, text_room_single_byte}
-use Rattle.encoding_mem.specs.Piece.{good}
+use Rattle.encoding_mem.specs.EncodedLength.{IsRoomFor, encoded_length_single_byte}
+use Rattle.encoding_mem.specs.Piece.{well_formed}
 use Rattle.encoding_mem.specs.laws.Pieces.{CutsEach}
-use Rattle.encoding_mem.specs.FrontPiece.{TellsFirstPiece, IsBasic}
+use Rattle.encoding_mem.specs.DecoderRule.{TellsFirstPiece, IsBasic}
 use Rattle.encoding_tables.specs.EachByte.{piece_of_byte}
-use Rattle.encoding_tables.specs.laws.EachByte.{AreScalars, front_of_byte, cuts_by_byte, front_by_first, laws_by_byte, fits_by_byte, pieces_by_byte-cons}
+use Rattle.encoding_tables.specs.laws.EachByte.{AreScalars, first_piece_of_byte, cuts_by_byte, first_piece_by_first, laws_by_byte, fits_by_byte, pieces_by_byte-cons}
 use Rattle.encoding_tables.specs.Lookups.{AreEntries, value_of}
-use Rattle.encoding_tables.specs.SingleByte.{char_of_byte, single_byte_of_char, front_single_byte, pieces_single_byte, single_byte_coding}
+use Rattle.encoding_tables.specs.SingleByte.{char_of_byte, single_byte_of_char, first_piece_single_byte, pieces_single_byte, single_byte_coding}
 
 -- each entry is in the basic plane
 abbrev pub AreBasic : List ℕ → Type 0
@@ -45,28 +45,28 @@ basic_of_byte flat basic b = elim (cases_lt b 0x80) [
   | inr high ↦ rw (le-ltb b 0x80 high) (basic_value flat basic (b - 0x80))
 ]
 
-pub cuts_single_byte : (flat : List ℕ) → AreEntries flat → CutsEach (front_single_byte flat)
+pub cuts_single_byte : (flat : List ℕ) → AreEntries flat → CutsEach (first_piece_single_byte flat)
 cuts_single_byte flat scalars = cuts_by_byte (char_of_byte flat) (scalar_of_byte flat scalars)
 
 -- the first piece of bytes is that of the first byte
-pub single_byte_front : (flat : List ℕ) → AreEntries flat → (x : List ℕ) (last : Bool) → 0 < length x
-    → TellsFirstPiece (pieces_single_byte flat) (pieces_single_byte flat) x last (front_of_byte (char_of_byte flat (slice_index x 0)))
-single_byte_front flat scalars = front_by_first (char_of_byte flat) (scalar_of_byte flat scalars)
+pub single_byte_first_piece : (flat : List ℕ) → AreEntries flat → (x : List ℕ) (last : Bool) → 0 < length x
+    → TellsFirstPiece (pieces_single_byte flat) (pieces_single_byte flat) x last (first_piece_of_byte (char_of_byte flat (slice_index x 0)))
+single_byte_first_piece flat scalars = first_piece_by_first (char_of_byte flat) (scalar_of_byte flat scalars)
 
--- one scalar of the basic plane, or a bad byte
-pub basic_front : (o : Option ℕ) → IfSome o (λ c. c < 0x10000) → IsBasic (front_of_byte o)
-basic_front None basic = lit< tt
-basic_front (Some c) basic = (basic, lit< tt)
+-- one scalar of the basic plane, or a malformed byte
+pub basic_prefix : (o : Option ℕ) → IfSome o (λ c. c < 0x10000) → IsBasic (first_piece_of_byte o)
+basic_prefix None basic = lit< tt
+basic_prefix (Some c) basic = (basic, lit< tt)
 
 -- a target of one byte a character
 pub single_byte_laws : (flat : List ℕ) → IsCoding 1 (single_byte_coding flat)
 single_byte_laws flat = laws_by_byte (single_byte_of_char flat)
 
-pub single_byte_fits : (flat : List ℕ) → IsRoomFor (single_byte_coding flat) text_room_single_byte
+pub single_byte_fits : (flat : List ℕ) → IsRoomFor (single_byte_coding flat) encoded_length_single_byte
 single_byte_fits flat = fits_by_byte (single_byte_of_char flat)
 
 -- ASCII is itself, whatever follows
-pub ascii_is_itself : (flat : List ℕ) (b : ℕ) (x : List ℕ) → b < 0x80 → front_single_byte flat (b ∷ x) ≡ good 1 (b ∷ [])
+pub ascii_is_itself : (flat : List ℕ) (b : ℕ) (x : List ℕ) → b < 0x80 → first_piece_single_byte flat (b ∷ x) ≡ well_formed 1 (b ∷ [])
 ascii_is_itself flat b x low = rw (lt-ltb b 0x80 low) refl
 
 -- the piece of a byte, then the pieces of what follows

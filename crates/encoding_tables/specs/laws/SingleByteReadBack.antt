@@ -7,7 +7,7 @@ use Rattle.encoding_mem.specs.ReadBack.{ReadsBackExactly}
 use Rattle.encoding_mem.specs.Steps.{StepLaw, in_any_set}
 use Rattle.encoding_tables.specs.laws.EachByteReadBack.{ReadsBack, exact_by_byte, steps_by_byte}
 use Rattle.encoding_tables.specs.Lookups.{AreEntries, first_pointer}
-use Rattle.encoding_tables.specs.SingleByte.{char_of_byte, single_byte_of_char, front_single_byte, pieces_single_byte, single_byte_coding}
+use Rattle.encoding_tables.specs.SingleByte.{char_of_byte, single_byte_of_char, first_piece_single_byte, pieces_single_byte, single_byte_coding}
 use Rattle.encoding_tables.specs.LookupLaws.{IsPointer}
 use Rattle.encoding_tables.specs.laws.OptionCases.{map_some}
 use Rattle.encoding_tables.specs.laws.Pointers.{first_is_least}
@@ -37,4 +37,4 @@ single_byte_steps flat scalars = steps_by_byte (char_of_byte flat) (single_byte_
 
 -- and bytes are cut into pieces
 pub single_byte_are_pieces : (flat : List ℕ) → AreEntries flat → (x : List ℕ) → ArePieces (pieces_single_byte flat x)
-single_byte_are_pieces flat scalars x = pieces_by-are_pieces (front_single_byte flat) (cuts_single_byte flat scalars) x
+single_byte_are_pieces flat scalars x = pieces_by-are_pieces (first_piece_single_byte flat) (cuts_single_byte flat scalars) x

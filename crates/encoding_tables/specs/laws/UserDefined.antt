@@ -6,7 +6,7 @@ use Rattle.std.specs.Char.{IsScalar}
 use Rattle.std.proofs.lemmas.Bool.{cases_lt, lt-ltb, le-ltb}
 use Rattle.std.proofs.lemmas.Bool.Decides.{nat_tests}
 use Rattle.encoding_mem.specs.Coding.{IsCoding}
-use Rattle.encoding_mem.specs.Piece.{good}
+use Rattle.encoding_mem.specs.Piece.{well_formed}
 use Rattle.encoding_mem.specs.laws.Pieces.{CutsEach}
 use Rattle.encoding_mem.specs.ReadBack.{ReadsBackExactly}
 use Rattle.encoding_mem.specs.laws.Utf8.{range_from, scalar_from}
@@ -14,7 +14,7 @@ use Rattle.encoding_tables.specs.laws.EachByte.{AreScalars, cuts_by_byte, laws_b
 use Rattle.encoding_mem.specs.Steps.{StepLaw, in_any_set}
 use Rattle.encoding_tables.specs.laws.EachByteReadBack.{ReadsBack, exact_by_byte, steps_by_byte}
 use Rattle.encoding_tables.specs.laws.OptionCases.{if_some_some}
-use Rattle.encoding_tables.specs.UserDefined.{user_char_of_byte, byte_of_user_char, front_user_defined, pieces_user_defined, user_defined_coding}
+use Rattle.encoding_tables.specs.UserDefined.{user_char_of_byte, byte_of_user_char, first_piece_user_defined, pieces_user_defined, user_defined_coding}
 
 -- the characters are scalars
 upper : (t : Bool) (b : ℕ) → (t ≡ true → IsScalar (0xF780 + (b - 0x80))) → IfSome (cond t (Some (0xF780 + (b - 0x80))) None) IsScalar
@@ -27,14 +27,14 @@ scalars_user_defined b = elim (cases_lt b 0x80) [
   | inr high ↦ rw (le-ltb b 0x80 high) (upper (is_in_range 0x80 0xFF b) b (λ t. let r = range_from 0x80 0xFF b t in scalar_from (0xF780 + (b - 0x80)) (inr (omega (arith, r), omega (arith, r)))))
 ]
 
-pub cuts_user_defined : CutsEach front_user_defined
+pub cuts_user_defined : CutsEach first_piece_user_defined
 cuts_user_defined = cuts_by_byte user_char_of_byte scalars_user_defined
 
 pub user_defined_laws : IsCoding 1 user_defined_coding
 user_defined_laws = laws_by_byte byte_of_user_char
 
 -- ASCII is itself, whatever follows
-pub ascii_user_defined : (b : ℕ) (x : List ℕ) → b < 0x80 → front_user_defined (b ∷ x) ≡ good 1 (b ∷ [])
+pub ascii_user_defined : (b : ℕ) (x : List ℕ) → b < 0x80 → first_piece_user_defined (b ∷ x) ≡ well_formed 1 (b ∷ [])
 ascii_user_defined b x low = rw (lt-ltb b 0x80 low) refl
 
 -- the byte of a character reads as that character

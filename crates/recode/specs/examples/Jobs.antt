@@ -3,7 +3,7 @@ use Rattle.std.specs.Prelude.{◌≡◌, ℕ, List, [], ◌∷◌, ◌++◌, rep
 use Rattle.std.specs.Char.{encode_utf8}
 use Rattle.std.specs.Fmt.{digits}
 use Rattle.encoding_mem.specs.Coding.{output}
-use Rattle.encoding_mem.specs.Piece.{text, good, bad}
+use Rattle.encoding_mem.specs.Piece.{text, well_formed, malformed}
 use Rattle.encoding_mem.specs.Pieces.{pieces_in}
 use Rattle.encoding_mem.specs.Utf8.{pieces_utf8}
 use Rattle.encoding_mem.specs.Utf8Coding.{utf8_coding}
@@ -14,7 +14,7 @@ use Rattle.encoding_front.specs.declared.encoding.Encoding.{Encoding}
 use Rattle.recode_log.specs.declared.line.LogLine.TheVariants.{Bad, Lost}
 use Rattle.recode.specs.Job.{log_lines, Faithful, input_pieces, log_of, output_of, source_in, trace}
 use Rattle.std.proofs.Common.{ap}
-use Rattle.encoding_mem.specs.Items.{Byte, BadAt, LostAt}
+use Rattle.encoding_mem.specs.Items.{Byte, MalformedAt, LostAt}
 use Rattle.encoding_front.specs.declared.mark.Mark.{Mark}
 use Rattle.encoding_front.specs.declared.mark.Mark.TheVariants.{Sniff, Remove, Keep}
 use Rattle.recode.specs.declared.job.Job.{Job}
@@ -35,9 +35,9 @@ references : output (single_byte_coding two) (text (pieces_utf8 (0xC3 ∷ 0xA8 �
 unfolding pieces_in two digits
 references = refl
 
-lost_and_bad : log_lines (single_byte_coding two) 0 0 (pieces_utf8 (0xC3 ∷ 0xA8 ∷ 0xFF ∷ [])) ≡ Lost 0 232 ∷ Bad 2 1 ∷ Lost 1 65533 ∷ []
+lost_and_malformed : log_lines (single_byte_coding two) 0 0 (pieces_utf8 (0xC3 ∷ 0xA8 ∷ 0xFF ∷ [])) ≡ Lost 0 232 ∷ Bad 2 1 ∷ Lost 1 65533 ∷ []
 unfolding pieces_in two
-lost_and_bad = refl
+lost_and_malformed = refl
 
 from_single_byte : output utf8_coding (text (pieces_single_byte two (0x80 ∷ 0x81 ∷ 0xE9 ∷ []))) ≡ 0xE2 ∷ 0x82 ∷ 0xAC ∷ 0xEF ∷ 0xBF ∷ 0xBD ∷ 0xC3 ∷ 0xA9 ∷ []
 unfolding pieces_in two encode_utf8
@@ -100,15 +100,15 @@ removed_mark : (j : Job) → Gives (job j no_tables Encoding.Utf8 Encoding.Utf8 
 unfolding pieces_in encode_utf8
 removed_mark j = (refl, refl)
 
--- the place of a malformed sequence counts the bytes of the mark
+-- the offset of a malformed sequence counts the bytes of the mark
 sniffed_mark : (j : Job) → Gives (job j no_tables Encoding.Windows1252 Encoding.Utf8 Sniff) (0xEF ∷ 0xBB ∷ 0xBF ∷ 0xE2 ∷ 0x82 ∷ 0xAC ∷ 0x80 ∷ []) (0xE2 ∷ 0x82 ∷ 0xAC ∷ 0xEF ∷ 0xBF ∷ 0xBD ∷ []) (codes "bad 6 1\n")
 unfolding pieces_in encode_utf8 digits
 sniffed_mark j = (refl, refl)
 
 -- EF BB is no mark: U+00EF and U+00BB of windows-1252
-front_of_a_mark : (j : Job) → Gives (job j windows_1252 Encoding.Windows1252 Encoding.Utf8 Sniff) (0xEF ∷ 0xBB ∷ []) (0xC3 ∷ 0xAF ∷ 0xC2 ∷ 0xBB ∷ []) ([])
+prefix_of_a_mark : (j : Job) → Gives (job j windows_1252 Encoding.Windows1252 Encoding.Utf8 Sniff) (0xEF ∷ 0xBB ∷ []) (0xC3 ∷ 0xAF ∷ 0xC2 ∷ 0xBB ∷ []) ([])
 unfolding pieces_in encode_utf8 windows_1252
-front_of_a_mark j = (refl, refl)
+prefix_of_a_mark j = (refl, refl)
 
 -- U+FFFD for a malformed sequence has no bytes in Shift_JIS: a line for each
 malformed_and_lost : (j : Job) → Gives (job j no_tables Encoding.Utf8 Encoding.ShiftJis Sniff) (0xFF ∷ []) (codes "&#65533;") (codes "bad 0 1\nlost 0 65533\n")
@@ -192,7 +192,7 @@ lost_in_a_pair : (j : Job) → Gives (job j no_tables Encoding.Big5 Encoding.Win
 unfolding pieces_in no_tables digits
 lost_in_a_pair j = (refl, refl)
 
--- behind a malformed sequence the index goes on by one, the place by its length
+-- behind a malformed sequence the index goes on by one, the offset by its length
 lost_behind_malformed : (j : Job) → Gives (job j no_tables Encoding.Utf8 Encoding.Windows1252 Sniff) (0x41 ∷ 0xE2 ∷ 0x82 ∷ 0xC3 ∷ 0xA8 ∷ 0xC3 ∷ 0xA8 ∷ []) (0x41 ∷ codes "&#65533;&#232;&#232;") (codes "bad 1 2\nlost 1 65533\nlost 2 232\nlost 3 232\n")
 unfolding pieces_in no_tables digits
 lost_behind_malformed j = (refl, refl)
@@ -215,10 +215,10 @@ user_defined : (j : Job) → Gives (job j no_tables Encoding.XUserDefined Encodi
 unfolding pieces_in encode_utf8
 user_defined j = (refl, refl)
 
--- a front of a mark before ASCII is malformed UTF-8
-front_of_a_mark_in_utf_8 : (j : Job) → Gives (job j no_tables Encoding.Utf8 Encoding.Utf8 Sniff) (0xEF ∷ 0xBB ∷ 0x41 ∷ []) (0xEF ∷ 0xBF ∷ 0xBD ∷ 0x41 ∷ []) (codes "bad 0 2\n")
+-- a prefix of a mark before ASCII is malformed UTF-8
+prefix_of_a_mark_in_utf_8 : (j : Job) → Gives (job j no_tables Encoding.Utf8 Encoding.Utf8 Sniff) (0xEF ∷ 0xBB ∷ 0x41 ∷ []) (0xEF ∷ 0xBF ∷ 0xBD ∷ 0x41 ∷ []) (codes "bad 0 2\n")
 unfolding pieces_in encode_utf8 digits
-front_of_a_mark_in_utf_8 j = (refl, refl)
+prefix_of_a_mark_in_utf_8 j = (refl, refl)
 
 -- no bytes
 empty_input : (j : Job) → Gives (job j no_tables Encoding.ShiftJis Encoding.Iso2022Jp Sniff) ([]) ([]) ([])
@@ -231,7 +231,7 @@ encoding_of_input : (j : Job) → source_in (job j no_tables Encoding.Windows125
 encoding_of_input j = refl
 
 pieces_of_input : (j : Job) → input_pieces (job j no_tables Encoding.Windows1252 Encoding.Utf8 Sniff) (0xEF ∷ 0xBB ∷ 0xBF ∷ 0xE2 ∷ 0x82 ∷ 0xAC ∷ 0x80 ∷ [])
-    ≡ good 3 [] ∷ good 3 (0x20AC ∷ []) ∷ bad 1 ∷ []
+    ≡ well_formed 3 [] ∷ well_formed 3 (0x20AC ∷ []) ∷ malformed 1 ∷ []
 unfolding pieces_in
 pieces_of_input j = refl
 
@@ -239,7 +239,7 @@ pieces_of_input j = refl
 
 -- the line of a malformed sequence, that of its U+FFFD, and its reference
 order_of_lines : (j : Job) → trace (job j no_tables Encoding.Utf8 Encoding.ShiftJis Sniff) (0x41 ∷ 0xFF ∷ [])
-    ≡ Byte 0x41 ∷ BadAt 1 1 ∷ LostAt 1 65533 ∷ map Byte (codes "&#65533;")
+    ≡ Byte 0x41 ∷ MalformedAt 1 1 ∷ LostAt 1 65533 ∷ map Byte (codes "&#65533;")
 unfolding pieces_in no_tables digits
 order_of_lines j = refl
 
@@ -256,7 +256,7 @@ escape_at_the_end j = refl
 
 -- the index behind a malformed sequence, and in a pair of Big5
 index_behind : (j : Job) → trace (job j no_tables Encoding.Big5 Encoding.Windows1252 Sniff) (0xFF ∷ 0x88 ∷ 0x62 ∷ [])
-    ≡ BadAt 0 1 ∷ LostAt 0 65533 ∷ (map Byte (codes "&#65533;") ++ (LostAt 1 202 ∷ (map Byte (codes "&#202;") ++ (LostAt 2 772 ∷ map Byte (codes "&#772;")))))
+    ≡ MalformedAt 0 1 ∷ LostAt 0 65533 ∷ (map Byte (codes "&#65533;") ++ (LostAt 1 202 ∷ (map Byte (codes "&#202;") ++ (LostAt 2 772 ∷ map Byte (codes "&#772;")))))
 unfolding pieces_in no_tables digits
 index_behind j = refl
 

@@ -1,5 +1,5 @@
 use Rattle.std.proofs.Common.{ap}
-use Rattle.encoding_front.proofs.Hashes.{given, same_given}
+use Rattle.encoding_front.proofs.EncodingLemmas.{given, same_given}
 use Rattle.encoding_front.proofs.laws.equality.Goals as goal
 
 pub returns-clause-hash : goal.returns-clause-hash

@@ -1,4 +1,4 @@
-use Rattle.encoding_front.proofs.Names.{name_label}
+use Rattle.encoding_front.proofs.EncodingLemmas.{name_label}
 use Rattle.encoding_front.proofs.laws.names_are_labels.Goals as goal
 
 pub returns : goal.returns

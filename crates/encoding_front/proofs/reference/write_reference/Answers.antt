@@ -1,5 +1,5 @@
 use Rattle.std.proofs.Common.{arith, ◌∙◌, ◌≤◌, length}
-use Rattle.encoding_front.proofs.References.{digits_fit}
+use Rattle.encoding_front.proofs.ReferenceLemmas.{digits_fit}
 use Rattle.encoding_front.proofs.reference.write_reference.Goals as goal
 
 pub put-end_at-requires : goal.put-end_at-requires

@@ -1,7 +1,6 @@
 use Rattle.std.proofs.Common.{◌-◌, ◌≤◌, length, refl, sym, ◌∙◌, ap, arith, length-drop}
 use Rattle.std.proofs.lemmas.List.{length-take-le}
-use Rattle.encoding_front.proofs.ReferenceEnds.{going_none, too_few}
-use Rattle.encoding_front.proofs.TurnLaws.{at_rest, behind_turn, input_empty, length_new, length_turn, output_full, reference_reached, still_same, take_into, turn_on}
+use Rattle.encoding_front.proofs.ReferenceLemmas.{going_none, too_few, at_rest, behind_turn, input_empty, length_new, length_turn, output_full, reference_reached, still_same, take_into, turn_on}
 use Rattle.encoding_front.proofs.replacing.encode_replacing.Goals as goal
 
 pub returns-then-dst-kept-clause-call : goal.returns-then-dst-kept-clause-call

@@ -2,7 +2,7 @@ use Rattle.std.proofs.Common.{◌≡◌, ◌-◌, ◌++◌, ◌∙◌, length, t
 use Rattle.std.proofs.lemmas.List.{append-nil, length-take-le, take-append-le}
 use Rattle.encoding_mem.specs.declared.encoder_result.EncoderResult.TheVariants.{Unmappable}
 use Rattle.encoding_front.specs.Encoder.{kept_back, referred}
-use Rattle.encoding_front.proofs.Encoders.{behind_part, behind_put, nothing_referred, turned, unmappable_keeps}
+use Rattle.encoding_front.proofs.EncoderCallLemmas.{behind_part, behind_put, nothing_referred, turned, unmappable_keeps}
 use Rattle.encoding_front.proofs.replacing.encode_turn.Goals as goal
 
 pub put_reference-requires : goal.put_reference-requires
@@ -34,4 +34,4 @@ returns-in-Unmappable-clause-turn g c =
     let e = c.encode-answer.ensures in
     let size : length c.encode-answer.new.dst ≡ c.args.end = c.encode-answer.auto.dst ∙ length-take-le c.args.end c.args.dst.now (omega (arith, c.requires)) in
     turned _ _ _ _ _ _ _ _ c.encode-answer.result.2 _ _ (rw c.in-Unmappable.is at e.call) (length-take-le _ _ e.room) (omega (arith, e.room)) (ap (λ n. n - c.encode-answer.result.2) size)
-    (c.put_reference.ensures.front ∙ ap (λ l. l ++ referred (Unmappable c.in-Unmappable.c)) (take-append-le _ _ _ e.room))
+    (c.put_reference.ensures.prefix ∙ ap (λ l. l ++ referred (Unmappable c.in-Unmappable.c)) (take-append-le _ _ _ e.room))

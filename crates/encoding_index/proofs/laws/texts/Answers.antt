@@ -1,6 +1,6 @@
-use Rattle.encoding_index.proofs.ListEntries.{lists_are_of_rows}
-use Rattle.encoding_index.proofs.FirstFaults.{faults_are_first}
-use Rattle.encoding_index.proofs.WrittenRows.{row_in-written, written-row_in}
+use Rattle.encoding_index.proofs.RowLemmas.{lists_are_of_rows}
+use Rattle.encoding_index.proofs.FaultLemmas.{faults_are_first}
+use Rattle.encoding_index.proofs.LineLemmas.{row_in-written, written-row_in}
 use Rattle.encoding_index.proofs.laws.texts.Goals as goal
 
 pub returns-clause-rows : goal.returns-clause-rows

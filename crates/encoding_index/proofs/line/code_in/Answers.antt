@@ -1,5 +1,5 @@
 use Rattle.std.proofs.Common.{arith}
-use Rattle.encoding_index.proofs.DigitLists.{hex_at, hex_small}
+use Rattle.encoding_index.proofs.LineLemmas.{hex_at, hex_small}
 use Rattle.encoding_index.proofs.line.code_in.Goals as goal
 
 pub digits_value-requires-clause-digits : goal.digits_value-requires-clause-digits

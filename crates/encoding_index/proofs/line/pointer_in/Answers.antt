@@ -1,5 +1,5 @@
 use Rattle.std.proofs.Common.{arith}
-use Rattle.encoding_index.proofs.DigitLists.{decimal_at, decimal_small}
+use Rattle.encoding_index.proofs.LineLemmas.{decimal_at, decimal_small}
 use Rattle.encoding_index.proofs.line.pointer_in.Goals as goal
 
 pub digits_value-requires-clause-digits : goal.digits_value-requires-clause-digits

@@ -1,8 +1,7 @@
 use Rattle.std.proofs.Common.{◌≡◌, ◌⊎◌, Ok, Some, refl, sym, subst, ◌∙◌}
 use Rattle.encoding_index.specs.IndexText.{first_fault, out_of_memory}
-use Rattle.encoding_index.proofs.LoadAnswers.{Follows, answers_text, answers_rows}
-use Rattle.encoding_index.proofs.RisingRows.{read_rows_rise, read_rows_are_below}
-use Rattle.encoding_index.proofs.ResultCases.{err_is}
+use Rattle.encoding_index.proofs.LoadLemmas.{Follows, answers_text, answers_rows, err_is}
+use Rattle.encoding_index.proofs.RowLemmas.{read_rows_rise, read_rows_are_below}
 use Rattle.encoding_index.specs.declared.fault.LoadFault.TheVariants.{Table}
 use Rattle.encoding_index.proofs.loading.load.Goals as goal
 

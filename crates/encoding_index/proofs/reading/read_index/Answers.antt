@@ -3,8 +3,8 @@ use Rattle.encoding_tables.specs.Kinds.{index_size}
 use Rattle.encoding_index.specs.IndexText.{lines_in, first_fault, out_of_memory}
 use Rattle.encoding_index.specs.laws.Outcomes.{outcomes}
 use Rattle.encoding_index.specs.laws.RowsLeft.{outcomes_left}
-use Rattle.encoding_index.proofs.ResultCases.{IfErr-from_residual}
-use Rattle.encoding_index.proofs.FlatLists.{IsFilling, filling_starts, filling_turn, filling_stops, filling_ends}
+use Rattle.encoding_index.proofs.LoadLemmas.{IfErr-from_residual}
+use Rattle.encoding_index.proofs.RowLemmas.{IsFilling, filling_starts, filling_turn, filling_stops, filling_ends}
 use Rattle.encoding_index.proofs.reading.read_index.Goals as goal
 
 pub loop-row-init : goal.loop-row-init

@@ -2,7 +2,7 @@ use Rattle.encoding_tables.specs.Kinds.{index_size}
 use Rattle.encoding_index.specs.IndexText.{lines_in}
 use Rattle.encoding_index.specs.laws.Outcomes.{outcomes}
 use Rattle.encoding_index.specs.laws.RowsLeft.{outcomes_left}
-use Rattle.encoding_index.proofs.FlatLists.{IsFilling}
+use Rattle.encoding_index.proofs.RowLemmas.{IsFilling}
 use Rattle.encoding_index.proofs.reading.read_index.Given as goal
 
 abbrev pub invariant-loop-row : goal.invariant-loop-row

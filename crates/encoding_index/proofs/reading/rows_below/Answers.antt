@@ -2,9 +2,9 @@ use Rattle.std.proofs.Common.{◌≡◌, ◌⊎◌, inl, ◌∷◌, Some, ap, sy
 use Rattle.encoding_index.specs.IndexText.{lines_in, first_fault, out_of_memory}
 use Rattle.encoding_index.specs.laws.Outcomes.{outcomes}
 use Rattle.encoding_index.specs.laws.RowsLeft.{outcomes_left}
-use Rattle.encoding_index.proofs.ResultCases.{IfErr-from_residual, err_is}
-use Rattle.encoding_index.proofs.FirstFaults.{fault_has_a_line}
-use Rattle.encoding_index.proofs.RowLists.{IsGathering, gathering_stops, gathering_has_rows, gathering_ends}
+use Rattle.encoding_index.proofs.LoadLemmas.{IfErr-from_residual, err_is}
+use Rattle.encoding_index.proofs.FaultLemmas.{fault_has_a_line}
+use Rattle.encoding_index.proofs.RowLemmas.{IsGathering, gathering_stops, gathering_has_rows, gathering_ends}
 use Rattle.encoding_index.proofs.reading.rows_below.Goals as goal
 
 pub returns-in_err-row-clause-fault : goal.returns-in_err-row-clause-fault

@@ -1,7 +1,7 @@
 use Rattle.encoding_index.specs.IndexText.{lines_in}
 use Rattle.encoding_index.specs.laws.Outcomes.{outcomes}
 use Rattle.encoding_index.specs.laws.RowsLeft.{outcomes_left}
-use Rattle.encoding_index.proofs.RowLists.{IsGathering}
+use Rattle.encoding_index.proofs.RowLemmas.{IsGathering}
 use Rattle.encoding_index.proofs.reading.rows_below.Given as goal
 
 abbrev pub invariant-loop-row : goal.invariant-loop-row

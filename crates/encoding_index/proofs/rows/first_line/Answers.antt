@@ -1,5 +1,5 @@
 use Rattle.std.proofs.lemmas.List.{take_rest}
-use Rattle.encoding_index.proofs.LineEnds.{lines_first_at}
+use Rattle.encoding_index.proofs.LineLemmas.{lines_first_at}
 use Rattle.encoding_index.proofs.rows.first_line.Goals as goal
 
 pub returns-then-end-text-clause-lines : goal.returns-then-end-text-clause-lines

@@ -1,4 +1,4 @@
-use Rattle.encoding_labels.proofs.Search.{trims}
+use Rattle.encoding_labels.proofs.LabelLemmas.{trims}
 use Rattle.encoding_labels.proofs.label.trim.Goals as goal
 
 pub returns : goal.returns

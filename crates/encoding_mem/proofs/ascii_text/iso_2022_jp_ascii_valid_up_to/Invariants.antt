@@ -5,7 +5,7 @@ use Rattle.encoding_mem.proofs.ascii_text.iso_2022_jp_ascii_valid_up_to.Given as
 abbrev pub invariant-bytes : goal.invariant-bytes
 invariant-bytes l = record {
   within : l.at ≤ length l.bytes;
-  good : (k : ℕ) → k < l.at → IsIso2022JpAsciiByte (get_or l.bytes k 0);
+  well_formed : (k : ℕ) → k < l.at → IsIso2022JpAsciiByte (get_or l.bytes k 0);
 }
 
 abbrev pub decreases-bytes : goal.decreases-bytes

@@ -1,5 +1,5 @@
 use Rattle.std.proofs.Common.{ℕ, ◌<◌, ◌≤◌, length, get_or, subst, arith}
-use Rattle.encoding_mem.proofs.BidiTexts.{text_bidi}
+use Rattle.encoding_mem.proofs.BidiLemmas.{text_bidi}
 use Rattle.encoding_mem.proofs.bidi.is_str_bidi.Goals as goal
 
 pub returns : goal.returns

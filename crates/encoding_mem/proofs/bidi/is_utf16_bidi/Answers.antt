@@ -1,5 +1,5 @@
 use Rattle.std.proofs.lemmas.List.{take_rest}
-use Rattle.encoding_mem.proofs.BidiTexts.{units_bidi}
+use Rattle.encoding_mem.proofs.BidiLemmas.{units_bidi}
 use Rattle.encoding_mem.proofs.bidi.is_utf16_bidi.Goals as goal
 
 pub returns : goal.returns

@@ -1,4 +1,4 @@
-use Rattle.encoding_mem.proofs.ConvertedBack.{latin1_text, latin1_chars}
+use Rattle.encoding_mem.proofs.ConversionLemmas.{latin1_text, latin1_chars}
 use Rattle.encoding_mem.proofs.conversion_laws.latin1_reads_back.Goals as goal
 
 pub returns-clause-text : goal.returns-clause-text

@@ -1,4 +1,4 @@
-use Rattle.encoding_mem.proofs.ConvertedBack.{text_back}
+use Rattle.encoding_mem.proofs.ConversionLemmas.{text_back}
 use Rattle.encoding_mem.proofs.conversion_laws.utf16_reads_back.Goals as goal
 
 pub returns : goal.returns

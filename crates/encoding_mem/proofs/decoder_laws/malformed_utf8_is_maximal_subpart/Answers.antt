@@ -1,4 +1,4 @@
-use Rattle.encoding_mem.proofs.MaximalSubparts.{pieces_are_maximal}
+use Rattle.encoding_mem.proofs.Utf8PieceLemmas.{pieces_are_maximal}
 use Rattle.encoding_mem.proofs.decoder_laws.malformed_utf8_is_maximal_subpart.Goals as goal
 
 pub returns : goal.returns

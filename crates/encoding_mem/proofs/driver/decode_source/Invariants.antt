@@ -1,16 +1,16 @@
 use Rattle.std.proofs.Common.{ℕ, IsTrue, ◌≡◌, ◌≤◌, ◌+◌, ◌-◌, [], length}
-use Rattle.encoding_mem.specs.Piece.{AreGood}
+use Rattle.encoding_mem.specs.Piece.{AreWellFormed}
 use Rattle.encoding_mem.specs.Decoding.{Takes}
-use Rattle.encoding_mem.specs.Room.{is_units}
-use Rattle.encoding_mem.specs.declared.room.Count.{Count}
+use Rattle.encoding_mem.specs.DecodedLength.{is_units}
+use Rattle.encoding_mem.specs.declared.room.OutputUnit.{OutputUnit}
 use Rattle.encoding_mem.proofs.driver.decode_source.Given as goal
 
 abbrev pub invariant-pieces : goal.invariant-pieces
 invariant-pieces g l = record {
   none : l.pending ≡ [];
-  limits : g.F.FrontPiece.limits l.codec ≡ g.F.FrontPiece.limits l.initial.codec;
-  enough : (k : Count) (m : ℕ) → is_units k ≡ g.S.Sink.is_units → (IsTrue l.last → m ≡ 0) → g.F.FrontPiece.needs l.initial.codec k (length l.src + m) ≤ g.S.Sink.free l.initial.sink → g.F.FrontPiece.needs l.codec k ((length l.src - l.read) + m) ≤ g.S.Sink.free l.sink;
-  takes : Takes AreGood (g.F.FrontPiece.pieces l.initial.codec) (g.F.FrontPiece.pieces l.codec) l.src l.last 0 0 l.read (λ t. g.S.Sink.writes l.initial.sink t l.sink);
+  limits : g.F.DecoderRule.limits l.codec ≡ g.F.DecoderRule.limits l.initial.codec;
+  enough : (k : OutputUnit) (m : ℕ) → is_units k ≡ g.S.Sink.is_units → (IsTrue l.last → m ≡ 0) → g.F.DecoderRule.needs l.initial.codec k (length l.src + m) ≤ g.S.Sink.free l.initial.sink → g.F.DecoderRule.needs l.codec k ((length l.src - l.read) + m) ≤ g.S.Sink.free l.sink;
+  takes : Takes AreWellFormed (g.F.DecoderRule.pieces l.initial.codec) (g.F.DecoderRule.pieces l.codec) l.src l.last 0 0 l.read (λ t. g.S.Sink.writes l.initial.sink t l.sink);
 }
 
 abbrev pub decreases-pieces : goal.decreases-pieces

@@ -1,18 +1,18 @@
 use Rattle.std.proofs.Common.{ℕ, IsTrue, ◌≡◌, ◌<◌, ◌≤◌, ◌+◌, ◌-◌, ◌*◌, ◌++◌, length}
-use Rattle.encoding_mem.specs.Piece.{AreGood}
+use Rattle.encoding_mem.specs.Piece.{AreWellFormed}
 use Rattle.encoding_mem.specs.Decoding.{Takes}
 use Rattle.encoding_mem.specs.Driver.{IsNear}
-use Rattle.encoding_mem.specs.Room.{is_units}
-use Rattle.encoding_mem.specs.declared.room.Count.{Count}
+use Rattle.encoding_mem.specs.DecodedLength.{is_units}
+use Rattle.encoding_mem.specs.declared.room.OutputUnit.{OutputUnit}
 use Rattle.encoding_mem.proofs.driver.finish_pending.Given as goal
 
 abbrev pub invariant-pieces : goal.invariant-pieces
 invariant-pieces g l = record {
   short : length l.pending < 7;
-  limits : g.F.FrontPiece.limits l.codec ≡ g.F.FrontPiece.limits l.initial.codec;
-  enough : (k : Count) (m : ℕ) → is_units k ≡ g.S.Sink.is_units → (IsTrue l.last → m ≡ 0) → g.F.FrontPiece.needs l.initial.codec k (length l.initial.pending + (length l.src + m)) ≤ g.S.Sink.free l.initial.sink → g.F.FrontPiece.needs l.codec k (length l.pending + ((length l.src - l.read) + m)) ≤ g.S.Sink.free l.sink;
-  near : IsNear (g.F.FrontPiece.pieces l.codec) l.pending;
-  takes : Takes AreGood (λ x. g.F.FrontPiece.pieces l.initial.codec (l.initial.pending ++ x)) (λ x. g.F.FrontPiece.pieces l.codec (l.pending ++ x)) l.src l.last (length l.initial.pending) (length l.pending) l.read (λ t. g.S.Sink.writes l.initial.sink t l.sink);
+  limits : g.F.DecoderRule.limits l.codec ≡ g.F.DecoderRule.limits l.initial.codec;
+  enough : (k : OutputUnit) (m : ℕ) → is_units k ≡ g.S.Sink.is_units → (IsTrue l.last → m ≡ 0) → g.F.DecoderRule.needs l.initial.codec k (length l.initial.pending + (length l.src + m)) ≤ g.S.Sink.free l.initial.sink → g.F.DecoderRule.needs l.codec k (length l.pending + ((length l.src - l.read) + m)) ≤ g.S.Sink.free l.sink;
+  near : IsNear (g.F.DecoderRule.pieces l.codec) l.pending;
+  takes : Takes AreWellFormed (λ x. g.F.DecoderRule.pieces l.initial.codec (l.initial.pending ++ x)) (λ x. g.F.DecoderRule.pieces l.codec (l.pending ++ x)) l.src l.last (length l.initial.pending) (length l.pending) l.read (λ t. g.S.Sink.writes l.initial.sink t l.sink);
 }
 
 abbrev pub decreases-pieces : goal.decreases-pieces

@@ -1,6 +1,6 @@
 use Rattle.std.proofs.Common.{refl, ◌++◌, ◌∙◌, ap, take}
-use Rattle.encoding_mem.proofs.Parts.{take_into, drop_into}
-use Rattle.encoding_mem.specs.Target.{left}
+use Rattle.encoding_mem.proofs.DestinationLemmas.{take_into, drop_into}
+use Rattle.encoding_mem.specs.EncoderRule.{left}
 use Rattle.encoding_mem.proofs.encode.copy_run.Goals as goal
 
 pub returns-clause-run : goal.returns-clause-run
@@ -10,7 +10,7 @@ returns-clause-run g c =
     record {
       run = run;
       ascii = e.ascii;
-      taken = e.text ∙ ap (λ l. run ++ left g.S.Source.text l (g.S.Source.place c.copy_ascii.new.self)) e.same;
+      taken = e.text ∙ ap (λ l. run ++ left g.S.Source.text l (g.S.Source.offset c.copy_ascii.new.self)) e.same;
       put = take_into _ _ _ _ _ c.requires e.fits;
     }
 

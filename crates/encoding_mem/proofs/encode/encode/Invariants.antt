@@ -1,7 +1,7 @@
 use Rattle.std.proofs.Common.{◌≡◌, ◌≤◌, ◌*◌, ◌-◌, length, take, drop}
-use Rattle.encoding_mem.proofs.Steps.{Steps}
-use Rattle.encoding_mem.specs.Target.{Moves, left}
-use Rattle.encoding_mem.specs.TextRoom.{line_for}
+use Rattle.encoding_mem.proofs.EncoderCallLemmas.{Steps}
+use Rattle.encoding_mem.specs.EncoderRule.{Moves, left}
+use Rattle.encoding_mem.specs.EncodedLength.{bound_for}
 use Rattle.encoding_mem.proofs.encode.encode.Given as goal
 
 abbrev pub invariant-loop-c : goal.invariant-loop-c
@@ -10,12 +10,12 @@ invariant-loop-c g l = record {
   behind : drop l.written l.dst ≡ drop l.written l.initial.dst;
   source : g.S.Source.all l.source ≡ g.S.Source.all l.initial.source;
   size : length l.dst ≡ length l.initial.dst;
-  after : g.S.Source.place l.initial.source ≤ g.S.Source.place l.source;
-  spent : l.written ≤ (line_for (g.T.Target.limits l.target) g.S.Source.is_units).factor * (g.S.Source.place l.source - g.S.Source.place l.initial.source);
-  moves : Moves (g.T.Target.coding l.target) l.initial.set l.set;
-  steps : Steps (g.T.Target.coding l.target) l.initial.set (left g.S.Source.text (g.S.Source.all l.initial.source) (g.S.Source.place l.initial.source))
-      (take l.written l.dst) l.set (left g.S.Source.text (g.S.Source.all l.initial.source) (g.S.Source.place l.source));
+  after : g.S.Source.offset l.initial.source ≤ g.S.Source.offset l.source;
+  spent : l.written ≤ (bound_for (g.T.EncoderRule.limits l.target) g.S.Source.is_units).factor * (g.S.Source.offset l.source - g.S.Source.offset l.initial.source);
+  moves : Moves (g.T.EncoderRule.coding l.target) l.initial.set l.set;
+  steps : Steps (g.T.EncoderRule.coding l.target) l.initial.set (left g.S.Source.text (g.S.Source.all l.initial.source) (g.S.Source.offset l.initial.source))
+      (take l.written l.dst) l.set (left g.S.Source.text (g.S.Source.all l.initial.source) (g.S.Source.offset l.source));
 }
 
 abbrev pub decreases-loop-c : goal.decreases-loop-c
-decreases-loop-c g l = length (left g.S.Source.text (g.S.Source.all l.source) (g.S.Source.place l.source))
+decreases-loop-c g l = length (left g.S.Source.text (g.S.Source.all l.source) (g.S.Source.offset l.source))

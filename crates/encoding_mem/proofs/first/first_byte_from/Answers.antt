@@ -2,7 +2,7 @@ use Rattle.std.proofs.Common.{◌≤◌, ◌+◌, length, arith}
 use Rattle.std.specs.Prelude.{nat_le}
 use Rattle.std.proofs.lemmas.Bool.{leb-true}
 use Rattle.std.proofs.lemmas.Simd.{run_in_chunk_le, run_in_chunk_stops}
-use Rattle.encoding_mem.proofs.Fronts.{below_run}
+use Rattle.encoding_mem.proofs.PrefixLemmas.{below_run}
 use Rattle.encoding_mem.proofs.first.first_byte_from.Goals as goal
 
 pub returns-then-run-lt-LANES-clause-below : goal.returns-then-run-lt-LANES-clause-below

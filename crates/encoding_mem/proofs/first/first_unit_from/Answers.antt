@@ -1,5 +1,5 @@
 use Rattle.std.proofs.Common.{arith}
-use Rattle.encoding_mem.proofs.Fronts.{below_block}
+use Rattle.encoding_mem.proofs.PrefixLemmas.{below_block}
 use Rattle.encoding_mem.proofs.first.first_unit_from.Goals as goal
 
 pub runs-preserved : goal.runs-preserved

@@ -2,7 +2,7 @@ use Rattle.std.proofs.Common.{◌∙◌, sym, ap, arith}
 use lib.Count.{count_trailing_zeros}
 use Rattle.std.specs.Prelude.{nat_le}
 use Rattle.std.proofs.lemmas.Simd.{leading_from_mask_l, trailing_mask_l}
-use Rattle.encoding_mem.proofs.LaneMasks.{bitmask_splat_left}
+use Rattle.encoding_mem.proofs.AsciiLemmas.{bitmask_splat_left}
 use Rattle.encoding_mem.proofs.first.lanes_below.Goals as goal
 use mir.Syntax.{w8}
 

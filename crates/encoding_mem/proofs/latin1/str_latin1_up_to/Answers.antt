@@ -1,7 +1,7 @@
 use Rattle.std.proofs.Common.{subst}
 use Rattle.encoding_mem.specs.Latin1.{IsLatin1Text}
 use Rattle.encoding_mem.specs.LongestPrefix.{IsLongestPrefix}
-use Rattle.encoding_mem.proofs.Latin1Texts.{str_up_to}
+use Rattle.encoding_mem.proofs.Latin1Lemmas.{str_up_to}
 use Rattle.encoding_mem.proofs.latin1.str_latin1_up_to.Goals as goal
 
 pub returns : goal.returns

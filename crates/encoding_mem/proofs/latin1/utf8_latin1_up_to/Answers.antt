@@ -1,5 +1,5 @@
 use Rattle.std.proofs.Common.{arith, refl, length-take}
-use Rattle.encoding_mem.proofs.Latin1Texts.{bytes_up_to}
+use Rattle.encoding_mem.proofs.Latin1Lemmas.{bytes_up_to}
 use Rattle.encoding_mem.proofs.latin1.utf8_latin1_up_to.Goals as goal
 
 pub returns : goal.returns

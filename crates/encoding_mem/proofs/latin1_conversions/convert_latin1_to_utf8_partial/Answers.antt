@@ -4,7 +4,7 @@ use Rattle.std.proofs.lemmas.Str.{chars-IsAscii}
 use Rattle.std.proofs.lemmas.Bool.{cases_lt}
 use Rattle.std.specs.Char.{len_utf8}
 use Rattle.encoding_mem.specs.laws.Writing.{adds_encoded, adds-length}
-use Rattle.encoding_mem.proofs.Prefixes.{run_taken, run_within, latin1_over}
+use Rattle.encoding_mem.proofs.LongestPrefixLemmas.{run_taken, run_within, latin1_over}
 use Rattle.encoding_mem.proofs.latin1_conversions.convert_latin1_to_utf8_partial.Goals as goal
 use Rattle.encoding_mem.proofs.latin1_conversions.convert_latin1_to_utf8_partial.Goals.{else-bytes-test, then-bytes-test+else-not-is_empty+then-not-fits}
 
@@ -12,13 +12,13 @@ pub bytes-preserved-then-not-is_empty : goal.bytes-preserved-then-not-is_empty
 bytes-preserved-then-not-is_empty c =
     let i = c.bytes.invariant in
     let src = c.args.src.now in
-    let run = c.ascii_front-run.result.now in
+    let run = c.ascii_prefix-run.result.now in
     let w = c.put_text.ensures.writes in
-    let taken = run_taken src run c.bytes.read c.min.result i.within (omega (arith, c.min.ensures, length-drop c.bytes.read src)) c.ascii_front-run.ensures.front in
+    let taken = run_taken src run c.bytes.read c.min.result i.within (omega (arith, c.min.ensures, length-drop c.bytes.read src)) c.ascii_prefix-run.ensures.prefix in
     record {
       within = run_within src run c.bytes.read i.within taken;
       same = w.0 ∙ i.same;
-      adds = rw taken (adds_encoded _ _ (take c.bytes.read src) run _ _ _ _ i.adds (rw (← chars-IsAscii run c.ascii_front-run.ensures.ascii) w.1));
+      adds = rw taken (adds_encoded _ _ (take c.bytes.read src) run _ _ _ _ i.adds (rw (← chars-IsAscii run c.ascii_prefix-run.ensures.ascii) w.1));
     }
 
 pub bytes-preserved : goal.bytes-preserved

@@ -1,8 +1,8 @@
 use Rattle.std.proofs.Common.{◌≡◌, ◌∙◌, ◌++◌, ◌-◌, ◌≤◌, length, take, drop, sym, ap, refl, arith, append_assoc, length-append}
 use Rattle.std.proofs.lemmas.List.{length-take-le, length-drop, take_rest}
 use Rattle.std.specs.Str.{chars}
-use Rattle.encoding_mem.proofs.Parts.{take_into, drop_into}
-use Rattle.encoding_mem.proofs.Prefixes.{chars_short, is_low, length_put, behind_more}
+use Rattle.encoding_mem.proofs.DestinationLemmas.{take_into, drop_into}
+use Rattle.encoding_mem.proofs.LongestPrefixLemmas.{chars_short, is_low, length_put, behind_more}
 use Rattle.encoding_mem.proofs.latin1_conversions.narrow_text.Goals as goal
 
 pub characters-init : goal.characters-init

@@ -1,4 +1,4 @@
-use Rattle.encoding_mem.proofs.BidiForms.{str_agrees, utf8_agrees, utf16_agrees}
+use Rattle.encoding_mem.proofs.BidiLemmas.{str_agrees, utf8_agrees, utf16_agrees}
 use Rattle.encoding_mem.proofs.mem_laws.bidi_checks_agree.Goals as goal
 
 pub returns-clause-str : goal.returns-clause-str

@@ -1,4 +1,4 @@
-use Rattle.encoding_mem.proofs.LoneSurrogates.{mended_utf16, mended_again}
+use Rattle.encoding_mem.proofs.Utf16Lemmas.{mended_utf16, mended_again}
 use Rattle.encoding_mem.proofs.mem_laws.mended_units_stay.Goals as goal
 
 pub returns : goal.returns

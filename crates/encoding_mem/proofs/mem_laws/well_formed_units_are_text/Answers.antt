@@ -1,4 +1,4 @@
-use Rattle.encoding_mem.proofs.Utf16Texts.{text_is_utf16, utf16_is_text}
+use Rattle.encoding_mem.proofs.Utf16Lemmas.{text_is_utf16, utf16_is_text}
 use Rattle.encoding_mem.proofs.mem_laws.well_formed_units_are_text.Goals as goal
 
 pub returns-clause-text : goal.returns-clause-text

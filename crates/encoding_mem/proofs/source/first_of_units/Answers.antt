@@ -1,7 +1,7 @@
 use Rattle.std.proofs.Common.{◌∷◌, drop, sym, ◌∙◌, ap, arith, inl, inr}
 use borrow.Author.Tests.{true-eqb, false-eqb}
 use Rattle.std.specs.Char.Utf16.{utf16_lossy_chars}
-use Rattle.encoding_mem.proofs.Units.{no_second, no_units, plain_unit, lone_unit, pair_of_units}
+use Rattle.encoding_mem.proofs.Utf16Lemmas.{no_second, no_units, plain_unit, lone_unit, pair_of_units}
 use Rattle.encoding_mem.proofs.source.first_of_units.Goals as goal
 use Rattle.encoding_mem.proofs.source.first_of_units.Goals.{then-u-lt55296-via-then-u-lt55296, then-u-lt55296-via-else-u-lt55296+then-u-ge57344, else-v-ge56320-via-then-v-ge56320+else-v-lt57344, else-v-ge56320-via-else-v-ge56320, else-u-lt56320-via-then-u-lt56320+else-units-ge2, else-u-lt56320-via-else-u-lt56320}
 

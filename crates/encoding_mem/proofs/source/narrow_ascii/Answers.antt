@@ -1,6 +1,6 @@
 use Rattle.std.proofs.Common.{◌<◌, take, arith, length-take}
 use Rattle.std.proofs.lemmas.List.{get_or-take}
-use Rattle.encoding_mem.proofs.AsciiFront.{behind_ascii}
+use Rattle.encoding_mem.proofs.AsciiLemmas.{behind_ascii}
 use Rattle.encoding_mem.proofs.source.narrow_ascii.Goals as goal
 
 pub returns-clause-longest : goal.returns-clause-longest

@@ -1,5 +1,5 @@
 use Rattle.std.proofs.Common.{length, arith}
-use Rattle.encoding_mem.proofs.Prefixes.{whole_latin1}
+use Rattle.encoding_mem.proofs.LongestPrefixLemmas.{whole_latin1}
 use Rattle.encoding_mem.proofs.text_destinations.convert_latin1_to_str.Goals as goal
 
 pub returns-clause-text : goal.returns-clause-text

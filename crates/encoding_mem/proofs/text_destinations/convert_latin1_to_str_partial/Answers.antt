@@ -1,10 +1,10 @@
 use Rattle.std.proofs.Common.{◌∙◌, ap, take, arith}
 use Rattle.encoding_mem.specs.TextDestination.{cleared}
-use Rattle.encoding_mem.proofs.ClearedText.{take_low, bytes_are_scalars}
+use Rattle.encoding_mem.proofs.DestinationLemmas.{take_low, bytes_are_scalars}
 use Rattle.encoding_mem.proofs.text_destinations.convert_latin1_to_str_partial.Goals as goal
 
 pub returns-clause-text : goal.returns-clause-text
-returns-clause-text c = c.clear_behind.ensures.front ∙ c.convert_latin1_to_utf8_partial-read.ensures.text
+returns-clause-text c = c.clear_behind.ensures.prefix ∙ c.convert_latin1_to_utf8_partial-read.ensures.text
 
 pub returns-clause-behind : goal.returns-clause-behind
 returns-clause-behind c = c.clear_behind.ensures.behind ∙ ap cleared c.convert_latin1_to_utf8_partial-read.ensures.behind

@@ -1,11 +1,11 @@
 use Rattle.std.proofs.Common.{◌∙◌, ap, take, arith}
 use Rattle.std.specs.Char.Utf16.{utf16_lossy_chars}
 use Rattle.encoding_mem.specs.TextDestination.{cleared}
-use Rattle.encoding_mem.proofs.ClearedText.{take_low, units_are_scalars}
+use Rattle.encoding_mem.proofs.DestinationLemmas.{take_low, units_are_scalars}
 use Rattle.encoding_mem.proofs.text_destinations.convert_utf16_to_str_partial.Goals as goal
 
 pub returns-clause-text : goal.returns-clause-text
-returns-clause-text c = c.clear_behind.ensures.front ∙ c.convert_utf16_to_utf8_partial-read.ensures.text
+returns-clause-text c = c.clear_behind.ensures.prefix ∙ c.convert_utf16_to_utf8_partial-read.ensures.text
 
 pub returns-clause-behind : goal.returns-clause-behind
 returns-clause-behind c = c.clear_behind.ensures.behind ∙ ap cleared c.convert_utf16_to_utf8_partial-read.ensures.behind

@@ -1,5 +1,5 @@
 use Rattle.std.proofs.Common.{length, arith}
-use Rattle.encoding_mem.proofs.UnitPrefixes.{whole_units}
+use Rattle.encoding_mem.proofs.UnitPrefixLemmas.{whole_units}
 use Rattle.encoding_mem.proofs.utf16_conversions.convert_utf16_to_utf8.Goals as goal
 
 pub returns-clause-text : goal.returns-clause-text

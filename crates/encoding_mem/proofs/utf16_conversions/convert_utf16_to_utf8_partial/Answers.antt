@@ -1,7 +1,7 @@
 use Rattle.std.proofs.Common.{ℕ, length, take, subst}
 use Rattle.std.proofs.lemmas.List.{length-take-le}
 use Rattle.encoding_mem.specs.Conversions.{IsLongest, IsUnitBoundary, units_in_utf8}
-use Rattle.encoding_mem.proofs.UnitPrefixes.{written_text, written_longest}
+use Rattle.encoding_mem.proofs.UnitPrefixLemmas.{written_text, written_longest}
 use Rattle.encoding_mem.proofs.utf16_conversions.convert_utf16_to_utf8_partial.Goals as goal
 
 pub returns-clause-longest : goal.returns-clause-longest

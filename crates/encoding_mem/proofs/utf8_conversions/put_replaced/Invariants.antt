@@ -1,6 +1,6 @@
 use Rattle.std.proofs.Common.{◌+◌, ◌-◌, ◌≡◌, ◌≤◌, length}
-use Rattle.encoding_mem.specs.contracts.utf8.Utf8DecoderPieceDecoder.TheImpl.{ghosts}
-use Rattle.encoding_mem.proofs.Replacement.{HasWritten}
+use Rattle.encoding_mem.specs.contracts.utf8.Utf8DecoderSinkDecoder.TheImpl.{ghosts}
+use Rattle.encoding_mem.proofs.ReplacementLemmas.{HasWritten}
 use Rattle.encoding_mem.proofs.utf8_conversions.put_replaced.Given as goal
 
 abbrev pub invariant-parts : goal.invariant-parts

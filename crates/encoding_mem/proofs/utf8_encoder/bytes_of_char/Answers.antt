@@ -1,5 +1,5 @@
 use Rattle.std.proofs.Common.{sym, ◌∙◌}
-use Rattle.encoding_mem.proofs.Utf8Chars.{of_two, of_three, of_four}
+use Rattle.encoding_mem.proofs.Utf8TextLemmas.{of_two, of_three, of_four}
 use Rattle.encoding_mem.proofs.utf8_encoder.bytes_of_char.Goals as goal
 
 pub returns-then-code-lt2048 : goal.returns-then-code-lt2048

@@ -1,5 +1,5 @@
 use Rattle.std.proofs.Common.{arith, refl}
-use Rattle.encoding_mem.proofs.LoneSurrogates.{none_mended, mend_one, leave_one, all_mended, mended_utf16}
+use Rattle.encoding_mem.proofs.Utf16Lemmas.{none_mended, mend_one, leave_one, all_mended, mended_utf16}
 use Rattle.encoding_mem.proofs.validity.ensure_utf16_validity.Goals as goal
 use Rattle.encoding_mem.proofs.validity.ensure_utf16_validity.Goals.{then-is_lone_surrogate, else-is_lone_surrogate}
 

@@ -1,5 +1,5 @@
 use Rattle.std.proofs.Common.{◌≡◌, ◌-◌, length}
-use Rattle.encoding_mem.proofs.LoneSurrogates.{MendedBelow}
+use Rattle.encoding_mem.proofs.Utf16Lemmas.{MendedBelow}
 use Rattle.encoding_mem.proofs.validity.ensure_utf16_validity.Given as goal
 
 abbrev pub invariant-units : goal.invariant-units

@@ -1,5 +1,5 @@
 use Rattle.std.proofs.Common.{arith, refl}
-use Rattle.encoding_mem.proofs.LoneSurrogates.{up_to_lone}
+use Rattle.encoding_mem.proofs.Utf16Lemmas.{up_to_lone}
 use Rattle.encoding_mem.proofs.validity.utf16_valid_up_to.Goals as goal
 
 pub returns-else-not-is_lone_surrogate : goal.returns-else-not-is_lone_surrogate

@@ -8,6 +8,6 @@ returns-in-Err c =
     let up_to = c.in-Err.ensures.cases.1 in
     subst (λ n. IsLongestPrefix IsUtf8 c.args.bytes.now n) (sym c.valid_up_to.ensures) (record {
       within = omega (arith, up_to.short);
-      good = up_to.front;
+      well_formed = up_to.front;
       longest = λ m more some. up_to.longest m more;
     })

@@ -1,5 +1,5 @@
 use Rattle.std.proofs.Common.{◌∙◌, sym}
-use Rattle.encoding_tables.proofs.RowFaults.{fault_of_flat_list}
+use Rattle.encoding_tables.proofs.RowFaultLemmas.{fault_of_flat_list}
 use Rattle.encoding_tables.proofs.accept.fault_of_rows.Goals as goal
 
 pub returns-else-present : goal.returns-else-present

@@ -1,6 +1,6 @@
 use Rattle.std.proofs.Common.{sym, arith}
 use Rattle.encoding_tables.specs.Kinds.{index_size}
-use Rattle.encoding_tables.proofs.RowFaults.{reserved_row, no_reserved_row}
+use Rattle.encoding_tables.proofs.RowFaultLemmas.{reserved_row, no_reserved_row}
 use Rattle.encoding_tables.proofs.accept.first_reserved_row.Goals as goal
 
 pub returns-then-at-lt-RESERVED_END : goal.returns-then-at-lt-RESERVED_END

@@ -1,4 +1,4 @@
-use Rattle.encoding_tables.proofs.KindNames.{file_names_differ}
+use Rattle.encoding_tables.proofs.KindLemmas.{file_names_differ}
 use Rattle.encoding_tables.proofs.laws.file_names.Goals as goal
 
 pub returns : goal.returns

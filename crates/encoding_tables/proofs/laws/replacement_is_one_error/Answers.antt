@@ -1,4 +1,4 @@
-use Rattle.encoding_tables.proofs.OneError.{is_one_error}
+use Rattle.encoding_tables.proofs.ReplacementLemmas.{is_one_error}
 use Rattle.encoding_tables.proofs.laws.replacement_is_one_error.Goals as goal
 
 pub returns : goal.returns

@@ -1,4 +1,4 @@
-use Rattle.encoding_tables.proofs.RoomOnce.{needs_room_once}
+use Rattle.encoding_tables.proofs.ReplacementLengthLemmas.{needs_room_once}
 use Rattle.encoding_tables.proofs.laws.replacement_needs_room_once.Goals as goal
 
 pub returns : goal.returns

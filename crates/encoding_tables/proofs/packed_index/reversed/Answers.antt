@@ -2,7 +2,7 @@ use Rattle.std.proofs.Common.{◌≡◌, ◌++◌, [], ◌∙◌, sym, ap, drop,
 use Rattle.std.proofs.Math.ListN.{drop_of_length-le}
 use Rattle.std.proofs.lemmas.List.{append-nil}
 use Rattle.encoding_tables.specs.PackedRows.{swapped}
-use Rattle.encoding_tables.proofs.ReversedRows.{sorted_is_reversed}
+use Rattle.encoding_tables.proofs.RowLemmas.{sorted_is_reversed}
 use Rattle.encoding_tables.proofs.packed_index.reversed.Goals as goal
 
 pub returns : goal.returns

@@ -1,5 +1,5 @@
 use Rattle.std.proofs.Common.{sym}
-use Rattle.encoding_tables.proofs.RowSearch.{none_below, some_below}
+use Rattle.encoding_tables.proofs.SearchLemmas.{none_below, some_below}
 use Rattle.encoding_tables.proofs.packed_ranges.last_row.Goals as goal
 
 pub returns-then-below-eq0 : goal.returns-then-below-eq0

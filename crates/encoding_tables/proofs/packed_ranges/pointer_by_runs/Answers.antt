@@ -1,5 +1,5 @@
 use Rattle.std.proofs.Common.{◌+◌, ◌-◌, ◌∙◌, sym, ap, arith, Some}
-use Rattle.encoding_tables.proofs.RunSearch.{runs_rise, run_within, no_pointer, one_pointer, another_pointer}
+use Rattle.encoding_tables.proofs.RangeLemmas.{runs_rise, run_within, no_pointer, one_pointer, another_pointer}
 use Rattle.encoding_tables.proofs.packed_ranges.pointer_by_runs.Goals as goal
 
 pub last_row-requires-clause-rising : goal.last_row-requires-clause-rising

@@ -1,7 +1,7 @@
 use Rattle.std.proofs.Common.{◌≡◌, ◌+◌, ◌∙◌, ap, drop}
 use Rattle.std.proofs.lemmas.List.{take_rest}
 use Rattle.encoding_tables.specs.Ranges.{end_by}
-use Rattle.encoding_tables.proofs.RunSearch.{run_small}
+use Rattle.encoding_tables.proofs.RangeLemmas.{run_small}
 use Rattle.encoding_tables.proofs.packed_ranges.runs_of.Goals as goal
 
 pub push_runs-requires : goal.push_runs-requires

@@ -1,7 +1,7 @@
 use Rattle.std.proofs.Common.{◌+◌, ◌-◌, sym, arith, inl, inr}
 use Rattle.std.specs.Char.{InScalarRange}
 use Rattle.encoding_tables.specs.laws.Ranges.{row_is_scalar}
-use Rattle.encoding_tables.proofs.RunSearch.{rows_rise}
+use Rattle.encoding_tables.proofs.RangeLemmas.{rows_rise}
 use Rattle.encoding_tables.proofs.packed_ranges.value_by_rows.Goals as goal
 
 pub last_row-requires-clause-rising : goal.last_row-requires-clause-rising

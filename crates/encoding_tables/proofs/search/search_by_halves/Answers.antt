@@ -1,5 +1,5 @@
 use Rattle.std.proofs.Common.{arith, sym}
-use Rattle.encoding_tables.proofs.RowOrder.{step_up, step_down}
+use Rattle.encoding_tables.proofs.SearchLemmas.{step_up, step_down}
 use Rattle.encoding_tables.proofs.search.search_by_halves.Goals as goal
 
 pub overflow_add-compared : goal.overflow_add-compared

@@ -1,5 +1,5 @@
 use Rattle.std.proofs.Common.{◌-◌}
-use Rattle.encoding_tables.proofs.RowOrder.{IsNarrowed}
+use Rattle.encoding_tables.proofs.SearchLemmas.{IsNarrowed}
 use Rattle.encoding_tables.proofs.search.search_by_halves.Given as goal
 
 abbrev pub invariant-halves : goal.invariant-halves

@@ -1,4 +1,4 @@
-use Rattle.encoding_tables.proofs.Directory.{rank_in_span, part_rises}
+use Rattle.encoding_tables.proofs.SearchLemmas.{rank_in_span, part_rises}
 use Rattle.encoding_tables.proofs.sorted_rows.rank_in.Goals as goal
 
 pub search-requires : goal.search-requires

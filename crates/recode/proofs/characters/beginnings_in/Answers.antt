@@ -3,8 +3,8 @@ use Rattle.std.specs.Prelude.{nat_lt, nat_le}
 use Rattle.std.specs.Int.RustNames.{count_ones}
 use mir.Syntax.{w8}
 use Rattle.std.proofs.lemmas.Simd.{bitmask_splat, ones-mask_l}
-use Rattle.encoding_mem.proofs.LaneMasks.{bitmask_splat_left}
-use Rattle.recode.proofs.CharacterLanes.{both_counts}
+use Rattle.encoding_mem.proofs.AsciiLemmas.{bitmask_splat_left}
+use Rattle.recode.proofs.CharacterLemmas.{both_counts}
 use Rattle.recode.proofs.characters.beginnings_in.Goals as goal
 
 pub returns : goal.returns

@@ -1,7 +1,7 @@
 use Rattle.std.proofs.Common.{◌∙◌, ap}
 use Rattle.std.specs.List.{count_by}
 use Rattle.recode.specs.Character.{begins_character}
-use Rattle.recode.proofs.CharacterCounts.{characters_begin}
+use Rattle.recode.proofs.CharacterLemmas.{characters_begin}
 use Rattle.recode.proofs.characters.count_characters.Goals as goal
 
 pub returns : goal.returns

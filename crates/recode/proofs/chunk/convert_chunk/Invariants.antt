@@ -1,16 +1,16 @@
 use Rattle.std.proofs.Common.{◌≡◌, ℕ, List, [], true, false, ◌+◌, ◌++◌, length}
 use Rattle.recode.specs.Buffers.{HoldsAnyCharacter, is_wide}
 use Rattle.recode.specs.Latency.{Advances}
-use Rattle.recode.specs.Payment.{PaysFor}
-use Rattle.recode.specs.Owed.{owes, AreSound}
+use Rattle.recode.specs.WrittenItems.{WritesItemsFor}
+use Rattle.recode.specs.TraceToWrite.{trace_to_write, AreSound}
 use Rattle.recode_log.specs.Counted.{inner_of, failures_of}
 use Rattle.recode.proofs.chunk.convert_chunk.Given as goal
 
 abbrev pub invariant-chunk : goal.invariant-chunk
 invariant-chunk g l = record {
-  pays : PaysFor (g.W.Write.contents (inner_of l.initial.writer)) (g.W.Write.contents (inner_of l.writer)) (g.L.Write.contents (inner_of l.initial.log)) (g.L.Write.contents (inner_of l.log)) l.initial.counts l.counts l.last
-      (λ r. owes (g.D.StreamDecoder.view l.initial.decoder).state (g.E.RawEncoder.coding l.initial.encoder) (g.E.RawEncoder.set l.initial.encoder) l.initial.counts (l.initial.rest ++ r))
-      (λ r. owes (g.D.StreamDecoder.view l.decoder).state (g.E.RawEncoder.coding l.initial.encoder) (g.E.RawEncoder.set l.encoder) l.counts (l.rest ++ r));
+  pays : WritesItemsFor (g.W.Write.contents (inner_of l.initial.writer)) (g.W.Write.contents (inner_of l.writer)) (g.L.Write.contents (inner_of l.initial.log)) (g.L.Write.contents (inner_of l.log)) l.initial.counts l.counts l.last
+      (λ r. trace_to_write (g.D.StreamDecoder.view l.initial.decoder).state (g.E.RawEncoder.coding l.initial.encoder) (g.E.RawEncoder.set l.initial.encoder) l.initial.counts (l.initial.rest ++ r))
+      (λ r. trace_to_write (g.D.StreamDecoder.view l.decoder).state (g.E.RawEncoder.coding l.initial.encoder) (g.E.RawEncoder.set l.encoder) l.counts (l.rest ++ r));
   source : (r : List ℕ) → (l.last ≡ true → r ≡ []) → (g.D.StreamDecoder.view l.initial.decoder).source (l.initial.rest ++ r) ≡ (g.D.StreamDecoder.view l.decoder).source (l.rest ++ r);
   open_ : (g.D.StreamDecoder.view l.decoder).finished ≡ false;
   passed : l.counts.read + length l.rest ≡ l.initial.counts.read + length l.initial.rest;

@@ -1,12 +1,12 @@
 use Rattle.std.proofs.Common.{arith}
-use Rattle.recode.proofs.PivotTexts.{written_front, written_within, written_to, ends_of}
+use Rattle.recode.proofs.PivotLemmas.{written_prefix, written_within, written_to, ends_of}
 use Rattle.recode.proofs.codec_calls.decode_into.Goals as goal
 
 pub returns-in-Utf8-clause-law : goal.returns-in-Utf8-clause-law
 returns-in-Utf8-clause-law g c =
     let call = c.decode_to_utf8_without_replacement in
     written_to (g.D.StreamDecoder.view c.args.decoder.now).state (g.D.StreamDecoder.view call.new.self).state _ _ _ _ _ _ call.ensures.law
-    (λ t w. (written_within _ _ _ _ call.auto.dst w, written_front _ _ _ _ w))
+    (λ t w. (written_within _ _ _ _ call.auto.dst w, written_prefix _ _ _ _ w))
 
 pub returns-in-Utf8-clause-ends : goal.returns-in-Utf8-clause-ends
 returns-in-Utf8-clause-ends g c =
@@ -17,7 +17,7 @@ pub returns-in-Utf16-clause-law : goal.returns-in-Utf16-clause-law
 returns-in-Utf16-clause-law g c =
     let call = c.decode_to_utf16_without_replacement in
     written_to (g.D.StreamDecoder.view c.args.decoder.now).state (g.D.StreamDecoder.view call.new.self).state _ _ _ _ _ _ call.ensures.law
-    (λ t w. (written_within _ _ _ _ call.auto.dst w, written_front _ _ _ _ w))
+    (λ t w. (written_within _ _ _ _ call.auto.dst w, written_prefix _ _ _ _ w))
 
 pub returns-in-Utf16-clause-ends : goal.returns-in-Utf16-clause-ends
 returns-in-Utf16-clause-ends g c =

@@ -1,7 +1,7 @@
 use Rattle.std.proofs.Common.{◌∙◌, sym, ap, length}
 use Rattle.std.proofs.lemmas.Slice.{between_from_start}
 use Rattle.recode.specs.PivotText.{pivot_chars}
-use Rattle.recode.proofs.PivotTexts.{bytes_passed, units_passed}
+use Rattle.recode.proofs.PivotLemmas.{bytes_passed, units_passed}
 use Rattle.recode.proofs.codec_calls.encode_from.Goals as goal
 
 pub returns-in-Utf8-clause-passed : goal.returns-in-Utf8-clause-passed
@@ -12,5 +12,5 @@ returns-in-Utf8-clause-passed g c =
 
 pub returns-in-Utf16-clause-passed : goal.returns-in-Utf16-clause-passed
 returns-in-Utf16-clause-passed g c =
-    units_passed c.in-Utf16.units.now c.encode_from_utf16_raw-answer.ensures.law.front c.encode_from_utf16_raw-answer.result.1 _ c.encode_from_utf16_raw-answer.ensures.law.split c.count_in_units-characters.ensures
+    units_passed c.in-Utf16.units.now c.encode_from_utf16_raw-answer.ensures.law.prefix c.encode_from_utf16_raw-answer.result.1 _ c.encode_from_utf16_raw-answer.ensures.law.split c.count_in_units-characters.ensures
     ∙ ap (λ t. length (pivot_chars t)) (sym c.in-Utf16.is)

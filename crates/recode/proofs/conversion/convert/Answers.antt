@@ -1,5 +1,5 @@
 use Rattle.std.proofs.Common.{arith}
-use Rattle.recode.proofs.Conversions.{run_broke, run_counted, flush_broke, flush_cause}
+use Rattle.recode.proofs.StepLemmas.{run_broke, run_counted, flush_broke, flush_cause}
 use Rattle.recode.specs.declared.report.Report.{Report}
 use Rattle.recode.proofs.conversion.convert.Goals as goal
 

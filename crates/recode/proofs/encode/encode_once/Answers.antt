@@ -1,6 +1,6 @@
 use Rattle.std.proofs.Common.{◌+◌, ◌-◌, arith, refl, sym, ap, map}
-use Rattle.recode.proofs.Traces.{pays_bytes, under_bytes, Pays-trans, Pays-under, Pays-to, on_err}
-use Rattle.recode.proofs.Turns.{turn_items, less_bytes, less_note}
+use Rattle.recode.proofs.TraceLemmas.{writes_bytes, under_bytes, WritesItems-trans, WritesItems-under, WritesItems-to, on_err}
+use Rattle.recode.proofs.EncoderCallLemmas.{turn_items, less_bytes, less_note}
 use Rattle.encoding_mem.specs.Coding.{reference}
 use Rattle.encoding_mem.specs.Items.{Byte, LostAt, whole_items}
 use Rattle.recode.specs.PivotText.{pivot_chars}
@@ -14,19 +14,19 @@ returns-in_err-deliver-clause-err g c = on_err _
 pub returns-in_err-counts-in-Unmappable-clause-err : goal.returns-in_err-counts-in-Unmappable-clause-err
 returns-in_err-counts-in-Unmappable-clause-err g c =
     let law = turn_items _ _ _ _ _ _ _ _ c.args.counts.index (c.args.counts.index + c.encode_some-call.result.characters) c.encode_some-call.ensures.law (omega (arith, c.encode_some-call.ensures.passed)) in
-    on_err _ (Pays-under _ _ _ _ _ _ c.args.counts (record c.args.counts { index = c.args.counts.index + c.encode_some-call.result.characters; calls = c.encode_some-call.result.calls }) _ _
-    (pays_bytes _ _ _ _ _ _ _ _ c.in_ok-deliver.ensures.ok.0 refl refl (rw c.in-Unmappable.is at law))
+    on_err _ (WritesItems-under _ _ _ _ _ _ c.args.counts (record c.args.counts { index = c.args.counts.index + c.encode_some-call.result.characters; calls = c.encode_some-call.result.calls }) _ _
+    (writes_bytes _ _ _ _ _ _ _ _ c.in_ok-deliver.ensures.ok.0 refl refl (rw c.in-Unmappable.is at law))
     (c.in_err-counts-in-Unmappable.ensures.err _))
 
 pub returns-in-InputEmpty-clause-pays : goal.returns-in-InputEmpty-clause-pays
 returns-in-InputEmpty-clause-pays g c =
     let law = turn_items _ _ _ _ _ _ _ _ c.args.counts.index (c.args.counts.index + c.encode_some-call.result.characters) c.encode_some-call.ensures.law (omega (arith, c.encode_some-call.ensures.passed)) in
-    pays_bytes _ _ _ _ _ _ _ _ c.in_ok-deliver.ensures.ok.0 refl refl (rw c.in-InputEmpty.is at law)
+    writes_bytes _ _ _ _ _ _ _ _ c.in_ok-deliver.ensures.ok.0 refl refl (rw c.in-InputEmpty.is at law)
 
 pub returns-in-OutputFull-clause-pays : goal.returns-in-OutputFull-clause-pays
 returns-in-OutputFull-clause-pays g c =
     let law = turn_items _ _ _ _ _ _ _ _ c.args.counts.index (c.args.counts.index + c.encode_some-call.result.characters) c.encode_some-call.ensures.law (omega (arith, c.encode_some-call.ensures.passed)) in
-    pays_bytes _ _ _ _ _ _ _ _ c.in_ok-deliver.ensures.ok.0 refl refl (rw c.in-OutputFull.is at law)
+    writes_bytes _ _ _ _ _ _ _ _ c.in_ok-deliver.ensures.ok.0 refl refl (rw c.in-OutputFull.is at law)
 
 pub returns-in-OutputFull-clause-more : goal.returns-in-OutputFull-clause-more
 returns-in-OutputFull-clause-more g c same =
@@ -38,9 +38,9 @@ returns-in-OutputFull-clause-more g c same =
 pub returns-in_ok-counts-in-Unmappable-clause-pays : goal.returns-in_ok-counts-in-Unmappable-clause-pays
 returns-in_ok-counts-in-Unmappable-clause-pays g c =
     let law = turn_items _ _ _ _ _ _ _ _ c.args.counts.index (c.args.counts.index + c.encode_some-call.result.characters) c.encode_some-call.ensures.law (omega (arith, c.encode_some-call.ensures.passed)) in
-    Pays-to _ _ _ _ _ _ _ _ _
-    (Pays-trans _ _ _ _ _ _ c.args.counts (record c.args.counts { index = c.args.counts.index + c.encode_some-call.result.characters; calls = c.encode_some-call.result.calls }) c.in_ok-counts-in-Unmappable.counts _ _ _
-    (pays_bytes _ _ _ _ _ _ _ _ c.in_ok-deliver.ensures.ok.0 refl refl (rw c.in-Unmappable.is at law))
+    WritesItems-to _ _ _ _ _ _ _ _ _
+    (WritesItems-trans _ _ _ _ _ _ c.args.counts (record c.args.counts { index = c.args.counts.index + c.encode_some-call.result.characters; calls = c.encode_some-call.result.calls }) c.in_ok-counts-in-Unmappable.counts _ _ _
+    (writes_bytes _ _ _ _ _ _ _ _ c.in_ok-deliver.ensures.ok.0 refl refl (rw c.in-Unmappable.is at law))
     (c.in_ok-counts-in-Unmappable.ensures.pays _))
     (ap (λ (k : Counts). whole_items (g.E.RawEncoder.coding c.args.encoder.now) c.args.last (g.E.RawEncoder.set c.encode_some-call.new.encoder) k.index (pivot_chars c.encode_some-call.result.rest)) (sym c.in_ok-counts-in-Unmappable.ensures.counts))
 

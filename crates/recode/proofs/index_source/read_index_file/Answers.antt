@@ -3,7 +3,7 @@ use Rattle.std.specs.Prelude.{IfSome, option_map}
 use Rattle.std.proofs.lemmas.List.{length-take, take_all}
 use Rattle.recode.proofs.index_source.read_index_file.Goals as goal
 
--- a front that is shorter than the limit is all
+-- a prefix that is shorter than the limit is all
 all_of : (limit : ℕ) (items all : List ℕ) → items ≡ take limit all → length items + 1 ≤ limit → items ≡ all
 all_of limit items all e small =
     let size : length items ≡ min limit (length all) = ap length e ∙ length-take limit all in

@@ -1,4 +1,4 @@
-use Rattle.recode.proofs.Loading.{loaded_there, load_keeps}
+use Rattle.recode.proofs.LoadLemmas.{loaded_there, load_keeps}
 use Rattle.recode.proofs.indexes.load_index.Goals as goal
 
 pub returns-in-Ok-load-clause-there : goal.returns-in-Ok-load-clause-there

@@ -1,7 +1,7 @@
 use Rattle.std.proofs.Common.{◌<◌, arith, length}
 use Rattle.std.proofs.lemmas.List.{take_more}
 use Rattle.encoding_tables.specs.declared.index_kind.IndexKind.{IndexKind}
-use Rattle.recode.proofs.Loading.{there_kept, there_more}
+use Rattle.recode.proofs.LoadLemmas.{there_kept, there_more}
 use Rattle.recode.proofs.indexes.load_indexes.Goals as goal
 
 pub loop-kind-preserved : goal.loop-kind-preserved

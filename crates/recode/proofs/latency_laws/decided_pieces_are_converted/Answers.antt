@@ -1,4 +1,4 @@
-use Rattle.recode.proofs.Latencies.{decided, longest, soon}
+use Rattle.recode.proofs.LatencyLemmas.{decided, longest, soon}
 use Rattle.recode.proofs.latency_laws.decided_pieces_are_converted.Goals as goal
 
 pub returns-clause-decided : goal.returns-clause-decided

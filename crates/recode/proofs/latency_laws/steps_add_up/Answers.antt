@@ -1,4 +1,4 @@
-use Rattle.recode.proofs.Latencies.{stands_first, stands_on}
+use Rattle.recode.proofs.LatencyLemmas.{stands_first, stands_on}
 use Rattle.recode.proofs.latency_laws.steps_add_up.Goals as goal
 
 pub returns-clause-first : goal.returns-clause-first

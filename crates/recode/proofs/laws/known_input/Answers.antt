@@ -1,4 +1,4 @@
-use Rattle.recode.proofs.InputLaws.{known_completes, known_fails, known_too_long}
+use Rattle.recode.proofs.InputLemmas.{known_completes, known_fails, known_too_long}
 use Rattle.recode.proofs.laws.known_input.Goals as goal
 
 pub returns : goal.returns

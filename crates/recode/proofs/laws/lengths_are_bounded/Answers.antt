@@ -1,4 +1,4 @@
-use Rattle.recode.proofs.PieceSizes.{text_within, output_within}
+use Rattle.recode.proofs.PieceLemmas.{text_within, output_within}
 use Rattle.recode.proofs.laws.lengths_are_bounded.Goals as goal
 
 pub returns : goal.returns

@@ -1,4 +1,4 @@
-use Rattle.recode.proofs.PieceSizes.{input_are_pieces, input_whole, input_covers, input_joined}
+use Rattle.recode.proofs.PieceLemmas.{input_are_pieces, input_whole, input_covers, input_joined}
 use Rattle.recode.proofs.laws.pieces_are_the_input.Goals as goal
 
 pub returns : goal.returns

@@ -1,6 +1,6 @@
-use Rattle.encoding_mem.specs.declared.form.Set.TheVariants.{Ascii}
+use Rattle.encoding_mem.specs.declared.form.EscapeState.TheVariants.{Ascii}
 use Rattle.recode.specs.Job.{input_pieces, target_of}
-use Rattle.recode.proofs.Wholes.{outputs-trace, lines-trace, bad_lines-trace, lost_lines-trace}
+use Rattle.recode.proofs.TraceLemmas.{outputs-trace, lines-trace, bad_lines-trace, lost_lines-trace}
 use Rattle.recode.proofs.laws.trace_of_input.Goals as goal
 
 pub returns : goal.returns

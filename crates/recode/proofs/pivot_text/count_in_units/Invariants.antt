@@ -5,9 +5,9 @@ use Rattle.recode.proofs.pivot_text.count_in_units.Given as goal
 abbrev pub invariant-loop-source : goal.invariant-loop-source
 invariant-loop-source l = record {
   same : l.source.units.now ≡ l.units;
-  few : l.count ≤ l.source.place;
-  counted : l.count + length (utf16_lossy_chars (drop l.source.place l.units)) ≡ length (utf16_lossy_chars l.units);
+  few : l.count ≤ l.source.offset;
+  counted : l.count + length (utf16_lossy_chars (drop l.source.offset l.units)) ≡ length (utf16_lossy_chars l.units);
 }
 
 abbrev pub decreases-loop-source : goal.decreases-loop-source
-decreases-loop-source l = length l.units - l.source.place
+decreases-loop-source l = length l.units - l.source.offset

@@ -1,7 +1,7 @@
 use Rattle.std.proofs.Common.{◌∙◌}
 use Rattle.recode.specs.PivotText.{Holds}
 use Rattle.recode.specs.declared.buffers.Pivot.TheVariants.{Utf8, Utf16}
-use Rattle.recode.proofs.PivotTexts.{bytes_text, units_text}
+use Rattle.recode.proofs.PivotLemmas.{bytes_text, units_text}
 use Rattle.recode.proofs.pivot_text.text_in.Goals as goal
 
 pub returns-in-Utf8 : goal.returns-in-Utf8

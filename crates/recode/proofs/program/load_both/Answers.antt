@@ -1,6 +1,6 @@
 use Rattle.std.proofs.Common.{Result, Ok, Err, OnOk}
 use Rattle.encoding_front.specs.Encodings.{needs_of}
-use Rattle.recode.proofs.Loading.{there_kept}
+use Rattle.recode.proofs.LoadLemmas.{there_kept}
 use Rattle.recode.proofs.program.load_both.Goals as goal
 
 on_ok : {T E : Type 0} (r : Result T E) (P : Type 0) → P → OnOk r P

@@ -1,4 +1,4 @@
-use Rattle.recode.proofs.OutputLaws.{runs_read_back}
+use Rattle.recode.proofs.OutputLemmas.{runs_read_back}
 use Rattle.recode.proofs.run_laws.faithful_output_reads_back.Goals as goal
 
 pub returns : goal.returns

@@ -1,4 +1,4 @@
-use Rattle.recode.proofs.OutputLaws.{lost_is_told}
+use Rattle.recode.proofs.OutputLemmas.{lost_is_told}
 use Rattle.recode.proofs.run_laws.lost_is_told.Goals as goal
 
 pub returns : goal.returns

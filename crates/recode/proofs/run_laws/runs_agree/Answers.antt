@@ -1,4 +1,4 @@
-use Rattle.recode.proofs.TwoRuns.{same_written, same_reports, same_runs, same_bytes}
+use Rattle.recode.proofs.TwoRunLemmas.{same_written, same_reports, same_runs, same_bytes}
 use Rattle.recode.proofs.run_laws.runs_agree.Goals as goal
 
 pub returns : goal.returns

@@ -1,8 +1,8 @@
 use Rattle.std.proofs.Common.{◌∙◌, Ok, refl, ap, subst, arith}
 use Rattle.recode.specs.Session.{IsOver, phase_after}
 use Rattle.recode.specs.contracts.session.SessionViewed.TheImpl.{ghosts}
-use Rattle.recode.proofs.Stepping.{goes_on_start, goes_on_more, goes_on_finish, goes_on_stop}
-use Rattle.recode.proofs.Runs.{completes, fails}
+use Rattle.recode.proofs.StepLemmas.{goes_on_start, goes_on_more, goes_on_finish, goes_on_stop}
+use Rattle.recode.proofs.RunLemmas.{completes, fails}
 use Rattle.recode.proofs.session.run.Goals as goal
 
 pub run-init : goal.run-init

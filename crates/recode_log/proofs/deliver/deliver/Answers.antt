@@ -1,5 +1,5 @@
 use Rattle.std.proofs.Common.{◌∙◌, arith}
-use Rattle.recode_log.proofs.Bytes.{appends_more, taken_within}
+use Rattle.recode_log.proofs.LineLemmas.{appends_more, taken_within}
 use Rattle.recode_log.proofs.deliver.deliver.Goals as goal
 
 pub loop-at-preserved : goal.loop-at-preserved

@@ -1,5 +1,5 @@
 use Rattle.std.proofs.Common.{map}
-use Rattle.recode_words.proofs.Limits.{answer_small}
+use Rattle.recode_words.proofs.LimitLemmas.{answer_small}
 use Rattle.recode_words.proofs.request.parse_words.Goals as goal
 
 pub returns-clause-limit : goal.returns-clause-limit

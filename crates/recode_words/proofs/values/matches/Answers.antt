@@ -1,5 +1,5 @@
 use Rattle.std.proofs.Common.{map}
-use Rattle.recode_words.proofs.Parse.{ended, matched}
+use Rattle.recode_words.proofs.ParseLemmas.{ended, matched}
 use Rattle.recode_words.proofs.values.matches.Goals as goal
 
 pub returns-clause-ok : goal.returns-clause-ok

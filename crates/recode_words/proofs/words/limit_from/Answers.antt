@@ -1,7 +1,7 @@
 use Rattle.std.proofs.Common.{◌≡◌, ◌∷◌, [], arith, subst, take}
 use Rattle.std.specs.Prelude.{nat_eq}
 use Rattle.std.specs.Cmp.Lexicographic.{pointwise}
-use Rattle.recode_words.proofs.Limits.{limit_read, no_limit, unsigned}
+use Rattle.recode_words.proofs.LimitLemmas.{limit_read, no_limit, unsigned}
 use Rattle.recode_words.proofs.words.limit_from.Goals as goal
 
 pub returns-in-Ok : goal.returns-in-Ok

@@ -1,5 +1,5 @@
 use Rattle.std.proofs.Common.{ap, refl, ◌∙◌}
-use Rattle.encoding_codecs.proofs.Iso2022JpText.{neutral_is}
+use Rattle.encoding_codecs.proofs.Iso2022JpPieceLemmas.{neutral_is}
 use Rattle.encoding_codecs.proofs.iso_2022_jp_decoder.Iso2022JpDecoder.in_neutral_state.Goals as goal
 
 pub returns-in_default : goal.returns-in_default

@@ -1,9 +1,9 @@
 use Rattle.std.proofs.Common.{◌-◌, length, ap, refl, arith}
-use Rattle.encoding_mem.specs.declared.room.Count.TheVariants.{Replaced}
+use Rattle.encoding_mem.specs.declared.room.OutputUnit.TheVariants.{Replaced}
 use Rattle.encoding_front.specs.Seeking.{sought_needs}
-use Rattle.encoding_front.specs.contracts.variant_decoder.VariantDecoderPieceDecoder.TheImpl.{state-value}
-use Rattle.encoding_front.proofs.AskedRoom.{asked_covers, asked_never_full_text}
-use Rattle.encoding_front.proofs.MarkCalls.{few_of}
+use Rattle.encoding_front.specs.contracts.variant_decoder.VariantDecoderSinkDecoder.TheImpl.{state-value}
+use Rattle.encoding_front.proofs.DecodedLengthLemmas.{asked_covers, asked_never_full_text}
+use Rattle.encoding_front.proofs.BomLemmas.{few_of}
 use Rattle.encoding_front.proofs.decoder.Decoder.decode_to_utf8.Goals as goal
 
 pub returns-clause-enough : goal.returns-clause-enough

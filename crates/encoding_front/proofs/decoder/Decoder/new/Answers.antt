@@ -1,6 +1,6 @@
 use Rattle.std.proofs.Common.{length, arith, refl, ap, ◌∙◌}
-use Rattle.encoding_front.proofs.MarkSources.{begun_pieces, begun_source, begun_opening}
-use Rattle.encoding_front.specs.contracts.variant_decoder.VariantDecoderPieceDecoder.TheImpl.{state-value}
+use Rattle.encoding_front.proofs.BomLemmas.{begun_pieces, begun_source, begun_opening}
+use Rattle.encoding_front.specs.contracts.variant_decoder.VariantDecoderSinkDecoder.TheImpl.{state-value}
 use Rattle.encoding_front.proofs.decoder.Decoder.new.Goals as goal
 
 pub returns : goal.returns

@@ -1,9 +1,9 @@
 use Rattle.std.proofs.Common.{◌-◌, length, ap, arith}
-use Rattle.encoding_mem.specs.declared.room.Count.TheVariants.{Units}
+use Rattle.encoding_mem.specs.declared.room.OutputUnit.TheVariants.{Units}
 use Rattle.encoding_front.specs.Seeking.{sought_needs}
-use Rattle.encoding_front.specs.contracts.variant_decoder.VariantDecoderPieceDecoder.TheImpl.{state-value}
-use Rattle.encoding_front.proofs.AskedRoom.{asked_covers, asked_never_full}
-use Rattle.encoding_front.proofs.MarkCalls.{few_of}
+use Rattle.encoding_front.specs.contracts.variant_decoder.VariantDecoderSinkDecoder.TheImpl.{state-value}
+use Rattle.encoding_front.proofs.DecodedLengthLemmas.{asked_covers, asked_never_full}
+use Rattle.encoding_front.proofs.BomLemmas.{few_of}
 use Rattle.encoding_front.proofs.decoder.DecoderStreamDecoder.decode_to_utf16_without_replacement.Goals as goal
 
 pub returns-clause-enough : goal.returns-clause-enough

@@ -1,4 +1,4 @@
-use Rattle.encoding_front.proofs.Encoders.{encoded}
+use Rattle.encoding_front.proofs.EncoderCallLemmas.{encoded}
 use Rattle.encoding_front.proofs.encoder.Encoder.encode_from_utf16_without_replacement.Goals as goal
 
 pub returns-clause-call : goal.returns-clause-call

@@ -1,7 +1,7 @@
 use Rattle.std.proofs.Common.{◌-◌, ◌≤◌, length, take, drop, sym, ◌∙◌, ap, subst, arith, vec_capacity}
 use Rattle.std.specs.Str.{chars}
 use Rattle.encoding_front.specs.Encoder.{Replaces}
-use Rattle.encoding_front.proofs.VecWrites.{spare, vec_written}
+use Rattle.encoding_front.proofs.DestinationLemmas.{spare, vec_written}
 use Rattle.encoding_front.proofs.encoder.Encoder.encode_from_utf8_to_vec.Goals as goal
 
 pub returns-clause-call : goal.returns-clause-call

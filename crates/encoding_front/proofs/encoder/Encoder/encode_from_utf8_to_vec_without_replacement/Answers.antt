@@ -2,7 +2,7 @@ use Rattle.std.proofs.Common.{◌-◌, ◌≤◌, length, take, drop, sym, ◌�
 use Rattle.std.proofs.lemmas.List.{length-take-le}
 use Rattle.std.specs.Str.{chars}
 use Rattle.encoding_front.specs.Encoder.{Encoded}
-use Rattle.encoding_front.proofs.VecWrites.{spare, vec_written}
+use Rattle.encoding_front.proofs.DestinationLemmas.{spare, vec_written}
 use Rattle.encoding_front.proofs.encoder.Encoder.encode_from_utf8_to_vec_without_replacement.Goals as goal
 
 pub returns-clause-call : goal.returns-clause-call

@@ -1,7 +1,7 @@
 use Rattle.std.proofs.Common.{◌≡◌, ◌≤◌, false, None, length}
 use Rattle.std.specs.Str.{IsUtf8, chars}
 use Rattle.encoding_front.specs.Encoder.{queried_with_kept}
-use Rattle.encoding_front.proofs.WholeTexts.{Passed}
+use Rattle.encoding_front.proofs.ReferenceLemmas.{Passed}
 use Rattle.encoding_front.proofs.encoding.Encoding.encode.Given as goal
 
 abbrev pub invariant-text : goal.invariant-text

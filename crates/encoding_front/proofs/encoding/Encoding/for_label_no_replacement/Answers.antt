@@ -1,5 +1,5 @@
 use Rattle.std.proofs.Common.{rules, ◌≡◌, None, Some, refl, ap}
-use Rattle.encoding_front.proofs.Names.{but_found, but_none, but_other}
+use Rattle.encoding_front.proofs.EncodingLemmas.{but_found, but_none, but_other}
 use Rattle.encoding_front.specs.Encodings.{HasLabel}
 use Rattle.encoding_front.specs.declared.encoding.Encoding.TheVariants.{Replacement}
 use Rattle.encoding_front.proofs.encoding.Encoding.for_label_no_replacement.Goals as goal

@@ -1,5 +1,5 @@
 use Rattle.encoding_front.specs.Encodings.{needs_of}
-use Rattle.encoding_front.proofs.Names.{all_there}
+use Rattle.encoding_front.proofs.EncodingLemmas.{all_there}
 use Rattle.encoding_front.proofs.encoding.Encoding.is_ready.Goals as goal
 
 pub returns-clause-ready : goal.returns-clause-ready

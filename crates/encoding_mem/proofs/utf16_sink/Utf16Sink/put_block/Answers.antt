@@ -1,6 +1,6 @@
 use Rattle.std.proofs.Common.{◌∙◌, subst, sym}
 use Rattle.encoding_mem.specs.Writing.{Adds}
-use Rattle.encoding_mem.proofs.Utf8Prefixes.{ascii_in_utf16}
+use Rattle.encoding_mem.proofs.Utf8TextLemmas.{ascii_in_utf16}
 use Rattle.encoding_mem.proofs.utf16_sink.Utf16Sink.put_block.Goals as goal
 
 pub returns-then-is_ascii-clause-adds : goal.returns-then-is_ascii-clause-adds

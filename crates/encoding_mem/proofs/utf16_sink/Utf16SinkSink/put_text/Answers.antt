@@ -5,7 +5,7 @@ use Rattle.std.specs.Str.{IsCharBoundary}
 use Rattle.encoding_mem.specs.Conversions.{text_in_utf16}
 use Rattle.encoding_mem.specs.Writing.{Adds}
 use Rattle.encoding_mem.specs.laws.Writing.{adds-length, length-encode_utf16_chars}
-use Rattle.encoding_mem.proofs.Utf8Prefixes.{part_boundary, adds_start, adds_part, some_cut}
+use Rattle.encoding_mem.proofs.Utf8TextLemmas.{part_boundary, adds_start, adds_part, some_cut}
 use Rattle.encoding_mem.proofs.utf16_sink.Utf16SinkSink.put_text.Goals as goal
 
 pub parts-init : goal.parts-init

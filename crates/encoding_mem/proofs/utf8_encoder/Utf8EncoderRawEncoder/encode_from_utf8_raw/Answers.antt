@@ -1,6 +1,6 @@
 use Rattle.std.proofs.Common.{take, ap, ◌∙◌, inl, arith, length, refl}
 use Rattle.std.proofs.lemmas.List.{length-append, length-drop, length-take}
-use Rattle.encoding_mem.proofs.Utf8Texts.{copied_all, copied_part, copy_is, none_left, stops_near}
+use Rattle.encoding_mem.proofs.Utf8TextLemmas.{copied_all, copied_part, copy_is, none_left, stops_near}
 use Rattle.encoding_mem.proofs.utf8_encoder.Utf8EncoderRawEncoder.encode_from_utf8_raw.Goals as goal
 
 pub returns-then-read-src-clause-law : goal.returns-then-read-src-clause-law

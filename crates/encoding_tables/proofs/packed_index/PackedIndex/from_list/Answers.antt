@@ -1,7 +1,7 @@
 use Rattle.std.proofs.Common.{◌≡◌, ◌∙◌, length, ap, subst}
 use Rattle.std.specs.Prelude.{IfOk}
 use Rattle.encoding_tables.specs.PackedRows.{flat_list}
-use Rattle.encoding_tables.proofs.IndexRows.{listed_are_rows, flat_of_listed}
+use Rattle.encoding_tables.proofs.RowLemmas.{listed_are_rows, flat_of_listed}
 use Rattle.encoding_tables.proofs.packed_index.PackedIndex.from_list.Goals as goal
 
 pub new-requires-clause-rows : goal.new-requires-clause-rows

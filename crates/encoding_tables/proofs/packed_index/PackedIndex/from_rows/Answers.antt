@@ -1,7 +1,7 @@
 use Rattle.std.proofs.Common.{◌≡◌, ◌∙◌, ap, subst}
 use Rattle.std.specs.Prelude.{IfOk}
 use Rattle.encoding_tables.specs.PackedRows.{flat_list}
-use Rattle.encoding_tables.proofs.IndexRows.{mapped_are_rows, flat_of_mapped}
+use Rattle.encoding_tables.proofs.RowLemmas.{mapped_are_rows, flat_of_mapped}
 use Rattle.encoding_tables.proofs.packed_index.PackedIndex.from_rows.Goals as goal
 
 pub new-requires-clause-rows : goal.new-requires-clause-rows

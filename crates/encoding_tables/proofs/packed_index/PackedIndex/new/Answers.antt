@@ -1,6 +1,5 @@
 use Rattle.std.proofs.Common.{arith}
-use Rattle.encoding_tables.proofs.ListedRows.{pointers_rise}
-use Rattle.encoding_tables.proofs.IndexRows.{at_most_the_size}
+use Rattle.encoding_tables.proofs.RowLemmas.{pointers_rise, at_most_the_size}
 use Rattle.encoding_tables.proofs.packed_index.PackedIndex.new.Goals as goal
 
 pub new-requires-clause-rising : goal.new-requires-clause-rising

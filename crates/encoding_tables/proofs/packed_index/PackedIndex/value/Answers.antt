@@ -1,8 +1,8 @@
 use Rattle.std.proofs.Common.{◌≡◌, ◌+◌, length, sym, ap, ◌∙◌, arith, None, Some, subst}
 use Rattle.encoding_tables.specs.Lookups.{value_of}
 use Rattle.encoding_tables.specs.SortedRows.{row_at}
-use Rattle.encoding_tables.proofs.Directory.{span_has, span_empty, rank_of_one}
-use Rattle.encoding_tables.proofs.ListedRows.{value_here, value_nowhere}
+use Rattle.encoding_tables.proofs.SearchLemmas.{span_has, span_empty, rank_of_one}
+use Rattle.encoding_tables.proofs.RowLemmas.{value_here, value_nowhere}
 use Rattle.encoding_tables.proofs.packed_index.PackedIndex.value.Goals as goal
 
 pub returns-then-begin-end : goal.returns-then-begin-end
@@ -22,8 +22,8 @@ returns c =
     let rows = c.self.inside.by_pointer in
     let begin = c.span-begin.result.0 in
     let none = rank_of_one rows c.rows-rows.result.now c.args.pointer begin c.span-begin.result.1 c.search-below.result.0 c.span-begin.ensures c.if-begin-end.false c.rows-rows.ensures c.search-below.ensures.rank in
-    let place : begin + c.search-below.result.0 ≡ begin = omega (arith, none) in
-    let row : row_at c.rows-rows.result.now (begin + c.search-below.result.0) ≡ row_at rows begin = ap (λ k. row_at c.rows-rows.result.now k) place ∙ ap (λ l. row_at l begin) c.rows-rows.ensures in
+    let offset : begin + c.search-below.result.0 ≡ begin = omega (arith, none) in
+    let row : row_at c.rows-rows.result.now (begin + c.search-below.result.0) ≡ row_at rows begin = ap (λ k. row_at c.rows-rows.result.now k) offset ∙ ap (λ l. row_at l begin) c.rows-rows.ensures in
     let here = value_here c.self.inside.size rows c.args.pointer begin c.self.invariant.index (omega (arith, c.span-begin.ensures.ordered, c.span-begin.ensures.inside, c.if-begin-end.false))
     (span_has rows c.args.pointer begin c.span-begin.result.1 c.span-begin.ensures c.if-begin-end.false) in
     subst (λ list. Some (row_at c.rows-rows.result.now (begin + c.search-below.result.0)).1 ≡ value_of list c.args.pointer) c.self.view_is (ap (λ r. Some r.1) row ∙ sym here)

@@ -1,5 +1,5 @@
 use Rattle.std.proofs.Common.{sym, ◌∙◌}
-use Rattle.encoding_tables.proofs.Latin1.{latin1_up_to}
+use Rattle.encoding_tables.proofs.SingleByteLemmas.{latin1_up_to}
 use Rattle.encoding_tables.proofs.single_byte_decoder.SingleByteRule.latin1_len.Goals as goal
 
 pub returns-in-Some : goal.returns-in-Some

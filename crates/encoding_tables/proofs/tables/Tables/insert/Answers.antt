@@ -3,7 +3,7 @@ use Rattle.encoding_tables.specs.IndexLists.{flat_at, AreAccepted}
 use Rattle.std.proofs.Math.ListN.{set}
 use Rattle.encoding_tables.specs.laws.Kinds.{index-put, index-others, accepted-put, no_fault}
 use Rattle.encoding_tables.specs.laws.TableFaults.{is_index}
-use Rattle.encoding_tables.proofs.KindSizes.{size_is_small}
+use Rattle.encoding_tables.proofs.KindLemmas.{size_is_small}
 use Rattle.encoding_tables.proofs.tables.Tables.insert.Goals as goal
 
 pub from_list-requires : goal.from_list-requires
@@ -19,8 +19,8 @@ returns-in-Ok-clause-others c = λ k h. index-others c.self.inside.flats c.slot.
 
 pub invariant_of-self : goal.invariant_of-self
 invariant_of-self c =
-    let good = no_fault _ c.args.kind c.args.flat.now (sym c.fault_of_flat.ensures ∙ c.in_default.is) in (
+    let well_formed = no_fault _ c.args.kind c.args.flat.now (sym c.fault_of_flat.ensures ∙ c.in_default.is) in (
       subst (λ list. AreAccepted (set c.self.inside.flats c.slot.result (Some list))) (sym c.in-Ok.ensures)
-          (accepted-put c.self.inside.flats c.slot.result c.args.kind c.args.flat.now c.slot.ensures.value (omega arith) good c.self.invariant.0),
+          (accepted-put c.self.inside.flats c.slot.result c.args.kind c.args.flat.now c.slot.ensures.value (omega arith) well_formed c.self.invariant.0),
       c.self.invariant.1,
     )

@@ -4,7 +4,7 @@ use Rattle.std.proofs.Math.ListN.{set}
 use Rattle.encoding_tables.specs.laws.Kinds.{index-put, index-others, accepted-put, no_fault}
 use Rattle.encoding_tables.specs.Kinds.{index_size}
 use Rattle.encoding_tables.specs.PackedRows.{flat_list}
-use Rattle.encoding_tables.proofs.KindSizes.{size_is_small}
+use Rattle.encoding_tables.proofs.KindLemmas.{size_is_small}
 use Rattle.encoding_tables.proofs.tables.Tables.insert_rows.Goals as goal
 
 pub from_rows-requires-clause-small : goal.from_rows-requires-clause-small
@@ -18,8 +18,8 @@ returns-in-Ok-clause-others c = λ k h. index-others c.self.inside.flats c.slot.
 
 pub invariant_of-self : goal.invariant_of-self
 invariant_of-self c =
-    let good = no_fault _ c.args.kind (flat_list (index_size c.args.kind) c.args.rows.now) (sym c.fault_of_rows.ensures ∙ c.in_default.is) in (
+    let well_formed = no_fault _ c.args.kind (flat_list (index_size c.args.kind) c.args.rows.now) (sym c.fault_of_rows.ensures ∙ c.in_default.is) in (
       subst (λ list. AreAccepted (set c.self.inside.flats c.slot.result (Some list))) (sym (c.in-Ok.ensures ∙ ap (λ n. flat_list n c.args.rows.now) c.size.ensures))
-          (accepted-put c.self.inside.flats c.slot.result c.args.kind (flat_list (index_size c.args.kind) c.args.rows.now) c.slot.ensures.value (omega arith) good c.self.invariant.0),
+          (accepted-put c.self.inside.flats c.slot.result c.args.kind (flat_list (index_size c.args.kind) c.args.rows.now) c.slot.ensures.value (omega arith) well_formed c.self.invariant.0),
       c.self.invariant.1,
     )

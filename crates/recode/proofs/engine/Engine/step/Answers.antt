@@ -1,9 +1,9 @@
 use Rattle.std.proofs.Common.{arith}
 use Rattle.std.proofs.lemmas.Bool.{eqb-true, ne_eqb}
-use Rattle.recode.specs.Owed.{owes}
+use Rattle.recode.specs.TraceToWrite.{trace_to_write}
 use Rattle.recode.specs.declared.counts.Counts.{Counts}
-use Rattle.recode.proofs.Stepping.{stops_unread, stops_refused, stops_under, is_writing}
-use Rattle.recode.proofs.Latencies.{settles}
+use Rattle.recode.proofs.StepLemmas.{stops_unread, stops_refused, stops_under, is_writing}
+use Rattle.recode.proofs.LatencyLemmas.{settles}
 use Rattle.recode.proofs.engine.Engine.step.Goals as goal
 
 pub returns-in_default-clause-fault : goal.returns-in_default-clause-fault
@@ -15,7 +15,7 @@ returns-then-read-limit-clause-fault g c = stops_refused _ _ _ _ _ _ _ _ c.in-Ok
 
 pub returns-in-Err-clause-fault : goal.returns-in-Err-clause-fault
 returns-in-Err-clause-fault g c = stops_under _ _ _ _ _ _ c.args.self.now.counts c.args.limit _ _
-    (owes (g.D.StreamDecoder.view c.args.self.now.decoder).state (g.E.RawEncoder.coding c.args.self.now.encoder) (g.E.RawEncoder.set c.args.self.now.encoder) c.args.self.now.counts) _
+    (trace_to_write (g.D.StreamDecoder.view c.args.self.now.decoder).state (g.E.RawEncoder.coding c.args.self.now.encoder) (g.E.RawEncoder.set c.args.self.now.encoder) c.args.self.now.counts) _
     c.in-Ok.ensures.bytes.0
     (λ h. c.in-Ok.ensures.bytes.1 (eqb-true c.in-Ok.read 0 h) (omega (arith, c.read.auto.buf)))
     (is_writing Counts _ c.in-Err.ensures.only_writers)

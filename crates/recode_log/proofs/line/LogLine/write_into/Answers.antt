@@ -1,5 +1,5 @@
 use Rattle.std.proofs.Common.{arith, codes}
-use Rattle.recode_log.proofs.Rows.{length-row_bytes-le}
+use Rattle.recode_log.proofs.LineLemmas.{length-row_bytes-le}
 use Rattle.recode_log.proofs.line.LogLine.write_into.Goals as goal
 
 pub write_row-requires : goal.write_row-requires

@@ -1,0 +1,79 @@
+-- Text that a call wrote, over a text or behind one. What a call wrote into the spare capacity of a vector.
+use Rattle.std.proofs.Common.{◌≡◌, ℕ, ◌+◌, Bool, true, List, [], ◌∷◌, ◌++◌, take, drop, refl, sym, ◌∙◌, ap, subst, arith, encode_utf8_all, ◌-◌, ◌≤◌, length, length-drop}
+use Rattle.std.proofs.lemmas.Bool.{and_parts}
+use Rattle.std.proofs.lemmas.List.{take_at, drop_at, take-append-drop, length-take-le, take-append-le, take-take}
+use Rattle.std.proofs.lemmas.Str.{IsUtf8-append}
+use Rattle.std.proofs.Math.Utf8.{scalar}
+use Rattle.std.specs.Str.{all_scalars, IsUtf8}
+use Rattle.encoding_mem.specs.Piece.{Piece, well_formed, malformed, text, scalars, ArePieces}
+use Rattle.encoding_mem.specs.Decoding.{DecoderState, Takes}
+use Rattle.encoding_mem.specs.TextDestination.{cleared, Overwrites}
+use Rattle.encoding_mem.specs.Writing.{Adds}
+use Rattle.encoding_front.specs.DecodedText.{TakesText}
+use borrow.Rule.Slice.PartMut.{put_mid}
+use Rattle.encoding_front.proofs.ReferenceLemmas.{length_turn, take_into}
+
+scalars-join : (a b : List ℕ) → all_scalars a ≡ true → all_scalars b ≡ true → all_scalars (a ++ b) ≡ true
+scalars-join [] b h k = k
+scalars-join (c ∷ a) b h k = let p = and_parts (scalar c) (all_scalars a) h in rw (p.0, scalars-join a b p.1 k) refl
+
+are_text : (ps : List Piece) → ArePieces ps → all_scalars (text ps) ≡ true
+are_text [] h = refl
+are_text (well_formed n cs ∷ ps) h = scalars-join cs (text ps) h.0.are_scalars (are_text ps h.1)
+are_text (malformed n ∷ ps) h = are_text ps h.1
+
+are_scalars : (ps : List Piece) → ArePieces ps → all_scalars (scalars ps) ≡ true
+are_scalars [] h = refl
+are_scalars (well_formed n cs ∷ ps) h = scalars-join cs (scalars ps) h.0.are_scalars (are_scalars ps h.1)
+are_scalars (malformed n ∷ ps) h = are_scalars ps h.1
+
+prefix_pieces : (a b : List Piece) → ArePieces (a ++ b) → ArePieces a
+prefix_pieces [] b h = tt
+prefix_pieces (p ∷ a) b h = (h.0, prefix_pieces a b h.1)
+
+-- what was written is text
+pub text_is : (s : DecoderState) (A : List ℕ → List Piece) (src : List ℕ) (last : Bool) (p q n : ℕ) (W : List ℕ → Type 0) (had : Bool) → (h : TakesText s.pieces A src last p q n W had) → all_scalars (text h.taken) ≡ true
+text_is s A src last p q n W had h = are_text h.taken (prefix_pieces h.taken _ (subst ArePieces (h.rest [] (λ _. refl)) (s.are_pieces (src ++ []))))
+
+pub scalars_are : (WellFormed : List Piece → Type 0) (s : DecoderState) (A : List ℕ → List Piece) (src : List ℕ) (last : Bool) (p q n : ℕ) (W : List ℕ → Type 0) → (h : Takes WellFormed s.pieces A src last p q n W) → all_scalars (scalars h.taken) ≡ true
+scalars_are WellFormed s A src last p q n W h = are_scalars h.taken (prefix_pieces h.taken _ (subst ArePieces (h.rest [] (λ _. refl)) (s.are_pieces (src ++ []))))
+
+-- another destination
+pub text_into : (B A : List ℕ → List Piece) (src : List ℕ) (last : Bool) (p q n : ℕ) (V Z : List ℕ → Type 0) (had : Bool) → ((t : List ℕ) → V t → Z t) → TakesText B A src last p q n V had → TakesText B A src last p q n Z had
+text_into B A src last p q n V Z had f h = record { taken = h.taken; had = h.had; within = h.within; counted = h.counted; writes = f (text h.taken) h.writes; rest = h.rest }
+
+pub scalars_into : (WellFormed : List Piece → Type 0) (B A : List ℕ → List Piece) (src : List ℕ) (last : Bool) (p q n : ℕ) (V Z : List ℕ → Type 0) → ((t : List ℕ) → V t → Z t) → Takes WellFormed B A src last p q n V → Takes WellFormed B A src last p q n Z
+scalars_into WellFormed B A src last p q n V Z f h = record { taken = h.taken; well_formed = h.well_formed; within = h.within; counted = h.counted; writes = f (scalars h.taken) h.writes; rest = h.rest }
+
+-- text that was added to nothing
+pub added : (old text_ new : List ℕ) (w : ℕ) → Adds old 0 text_ new w → take w new ≡ text_
+added old text_ new w h = ap (take w) h.list ∙ take_at text_ (drop w old) w (omega (arith, h.counted))
+
+pub kept : (old text_ new : List ℕ) (w : ℕ) → Adds old 0 text_ new w → drop w new ≡ drop w old
+kept old text_ new w h = ap (drop w) h.list ∙ drop_at text_ (drop w old) w (omega (arith, h.counted))
+
+pub overwrites : (old text_ mid new : List ℕ) (w : ℕ) → take w new ≡ take w mid → drop w new ≡ cleared (drop w mid) → Adds old 0 text_ mid w → Overwrites old text_ new w
+overwrites old text_ mid new w prefix behind h = record {
+  counted = omega (arith, h.counted);
+  within = h.within;
+  list = sym (take-append-drop w new) ∙ ap (λ x. x ++ drop w new) (prefix ∙ added old text_ mid w h) ∙ ap (λ x. text_ ++ x) (behind ∙ ap cleared (kept old text_ mid w h));
+}
+
+-- behind a text there is a text
+pub utf8_behind : (old all ts : List ℕ) → IsUtf8 old → all_scalars ts ≡ true → all ≡ old ++ encode_utf8_all ts → IsUtf8 all
+utf8_behind old all ts was are is = subst IsUtf8 (sym is) (IsUtf8-append old (encode_utf8_all ts) was (ts, (are, refl)))
+
+-- What a call wrote into the spare capacity of a vector.
+
+-- behind what it held
+pub vec_written : (old xs ys tail : List ℕ) (a w size : ℕ) → a ≤ length xs → w ≤ length ys → length ys ≡ length (take (length xs - a) (drop a xs)) → size ≡ length xs → take a xs ≡ old
+    → take (a + w) (take size (put_mid a (length xs - a) xs ys ++ tail)) ≡ old ++ take w ys
+vec_written old xs ys tail a w size within fits same all held =
+    let rest = length-take-le (length xs - a) (drop a xs) (omega (arith, length-drop a xs)) in
+    let room : a + w ≤ length (put_mid a (length xs - a) xs ys) = omega (arith, length_turn xs ys a within same, length-drop a xs, rest) in
+    take-take (a + w) size (put_mid a (length xs - a) xs ys ++ tail) (omega (arith, length_turn xs ys a within same)) ∙ take-append-le (a + w) (put_mid a (length xs - a) xs ys) tail room
+    ∙ take_into a (length xs - a) w xs ys within fits ∙ ap (λ l. l ++ take w ys) held
+
+-- the room that there was
+pub spare : (xs ys : List ℕ) (a capacity : ℕ) → a ≤ length xs → length ys ≡ length (take (length xs - a) (drop a xs)) → length xs ≡ capacity → length ys ≡ capacity - a
+spare xs ys a capacity within same all = omega (arith, length-take-le (length xs - a) (drop a xs) (omega (arith, length-drop a xs)), length-drop a xs)

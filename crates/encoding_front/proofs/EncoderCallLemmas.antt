@@ -1,0 +1,72 @@
+-- Calls of an encoder without replacement.
+use Rattle.std.proofs.Common.{◌≡◌, ℕ, ◌+◌, ◌-◌, ◌≤◌, Bool, List, [], ◌++◌, length, take, drop, refl, sym, ◌∙◌, ap, subst, arith}
+use Rattle.std.proofs.lemmas.List.{drop-append-le, drop-drop, take-append-drop}
+use Rattle.encoding_mem.specs.Coding.{Coding}
+use Rattle.encoding_mem.specs.Encoding.{EncodeEndsWith, Encodes}
+use Rattle.encoding_mem.specs.laws.Encoding.{encoded_bytes}
+use Rattle.encoding_mem.specs.EncoderRule.{Moves}
+use Rattle.encoding_mem.specs.declared.encoder_result.EncoderResult.{EncoderResult}
+use Rattle.encoding_mem.specs.declared.encoder_result.EncoderResult.TheVariants.{InputEmpty, OutputFull, Unmappable}
+use Rattle.encoding_mem.specs.declared.form.Form.TheVariants.{Unmapped}
+use Rattle.encoding_mem.specs.declared.form.EscapeState.{EscapeState}
+use Rattle.encoding_mem.specs.declared.room.EncodedLength.{EncodedLength}
+use Rattle.encoding_tables.specs.IndexLists.{IndexLists}
+use Rattle.encoding_front.specs.Encoder.{Encoded, EncoderState, IsEncoderOf, Turned, kept_back, kept_by_codec_kind, referred}
+use Rattle.encoding_front.specs.EncodingTable.{codec_kind_of}
+use Rattle.encoding_front.specs.Encodings.{coding_of, coding_of_codec_kind, output_encoding_of}
+use Rattle.encoding_front.specs.declared.encoding.Encoding.{Encoding}
+use Rattle.encoding_front.specs.declared.codec_kind.CodecKind.{CodecKind}
+
+-- what its parts do, said of its state
+pub encoded : (t : IndexLists) (enc : Encoding) (s s' : EscapeState) (coding : Coding) (need : ℕ) (limits : EncodedLength) → IsEncoderOf t enc coding need limits
+    → (last : Bool) (answer : EncoderResult) (text written rest : List ℕ) (room : ℕ) → Encodes coding last answer s text written s' rest → EncodeEndsWith need last answer s' rest room → Moves coding s s'
+    → Encoded (record { tables = t; encoding = enc; set = s }) last answer text written (record { tables = t; encoding = enc; set = s' }) rest room
+encoded t enc s s' coding need limits parts last answer text written rest room law answers moves =
+    let of_coding : Encodes (coding_of t enc) last answer s text written s' rest = subst (λ (e : Coding). Encodes e last answer s text written s' rest) parts.codes law in
+    record {
+      same = refl;
+      law = of_coding;
+      bytes = encoded_bytes (coding_of t enc) last answer s text written s' rest of_coding;
+      answers = subst (λ (n : ℕ). EncodeEndsWith n last answer s' rest room) parts.needs answers;
+      moves = subst (λ (e : Coding). Moves e s s') parts.codes moves;
+    }
+
+-- what a call wrote into the part of a slice before an offset
+pub behind_part : (w end : ℕ) (xs ys : List ℕ) → end ≤ length xs → w ≤ length ys → length ys ≡ length (take end xs) → drop w ys ≡ drop w (take end xs) → drop w (ys ++ drop end xs) ≡ drop w xs
+behind_part w end xs ys within fits size behind =
+    drop-append-le w ys (drop end xs) fits ∙ ap (λ l. l ++ drop end xs) behind
+    ∙ sym (drop-append-le w (take end xs) (drop end xs) (omega (arith, size))) ∙ ap (drop w) (take-append-drop end xs)
+
+-- where a character has no bytes, bytes are kept back
+keeps : (t : IndexLists) (s : CodecKind) (d u : ℕ) → (coding_of_codec_kind t s).form d ≡ Unmapped u → kept_by_codec_kind s ≡ 10
+keeps t CodecKind.Utf8 d u h = absurd (cc)
+keeps t _ d u h = refl
+
+pub unmappable_keeps : (x : EncoderState) (last : Bool) (answer : EncoderResult) (u : ℕ) (text written : List ℕ) (x' : EncoderState) (rest : List ℕ) (room : ℕ)
+    → Encoded x last answer text written x' rest room → answer ≡ Unmappable u → kept_back x.encoding ≡ 10
+unmappable_keeps x last answer u text written x' rest room call is =
+    let reads = rw is at call.law.reads in
+    keeps x.tables (codec_kind_of (output_encoding_of x.encoding)) reads.1 u reads.4
+
+-- nothing is asked for where no character lacks bytes
+pub nothing_referred : (answer : EncoderResult) → ((u : ℕ) → answer ≡ Unmappable u → ⊥) → referred answer ≡ []
+nothing_referred InputEmpty h = refl
+nothing_referred OutputFull h = refl
+nothing_referred (Unmappable u) h = absurd (h u refl)
+
+-- a call and the reference that it asks for
+pub turned : (x : EncoderState) (last : Bool) (answer : EncoderResult) (text called written : List ℕ) (x' : EncoderState) (rest : List ℕ) (n room end : ℕ)
+    → Encoded x last answer text called x' rest room → length called ≡ n → n ≤ end → room ≡ end - n → written ≡ called ++ referred answer
+    → Turned x last answer text written x' rest end
+turned x last answer text called written x' rest n room end call size fits free is = record {
+  called = called;
+  all = is;
+  fits = omega (arith, size);
+  call = subst (λ (k : ℕ). Encoded x last answer text called x' rest k) (free ∙ ap (λ (k : ℕ). end - k) (sym size)) call;
+}
+
+-- what is written behind an offset leaves the rest
+pub behind_put : (old mid new : List ℕ) (a n b : ℕ) → b ≡ a + n → drop a mid ≡ drop a old → drop b new ≡ drop b mid → drop b new ≡ drop b old
+behind_put old mid new a n b end before now =
+    let at = λ (xs : List ℕ). ap (λ k. drop k xs) end ∙ sym (drop-drop n a xs) in
+    now ∙ at mid ∙ ap (drop n) before ∙ sym (at old)

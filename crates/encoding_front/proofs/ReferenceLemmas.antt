@@ -1,0 +1,557 @@
+-- How long a reference can be. Calls with replacement: what the calls without replacement and the references
+-- between them make together. How a call with replacement ends. A turn of a call with replacement: one call
+-- without, and the reference that it asks for. A whole text through last calls with replacement, one after another.
+use Rattle.std.proofs.Common.{ℕ, ◌≡◌, ◌≤◌, ◌<◌, List, length, ap, arith, ◌↔◌, ◌+◌, Bool, true, false, IsTrue, [], ◌∷◌, ◌++◌, map, refl, sym, ◌∙◌, append_assoc, length-append, add_assoc, add-zero, zero-add, ◌-◌, ◌⊎◌, inl, inr, subst, take, drop, length-drop, ◌||◌, zero, suc}
+use Rattle.std.proofs.lemmas.Fmt.{length-decimal-le}
+use Rattle.std.specs.Fmt.{decimal}
+use Rattle.std.proofs.lemmas.List.{append-nil, append_cancel_left, map-append, drop-drop, drop_all, drop-append-le, length-take-le, take-append-le, take_rest}
+use Rattle.encoding_mem.specs.Coding.{AllMapped, Coding, IsMapped, last_set, lost_count, open_from, reference, spelled, unmapped_count, whole_from, output}
+use Rattle.encoding_mem.specs.Encoding.{Continues, Encodes}
+use Rattle.encoding_mem.specs.laws.Encoding.{encoded_bytes}
+use Rattle.encoding_mem.specs.Items.{Byte, Item, LostAt, form_items, open_items, whole_items}
+use Rattle.encoding_mem.specs.declared.encoder_result.EncoderResult.TheVariants.{Unmappable, InputEmpty, OutputFull}
+use Rattle.encoding_mem.specs.declared.form.Form.{Form}
+use Rattle.encoding_mem.specs.declared.form.Form.TheVariants.{Mapped, Unmapped}
+use Rattle.encoding_mem.specs.declared.form.EscapeState.{EscapeState}
+use Rattle.std.specs.Bool.{MatchBool}
+use Rattle.encoding_mem.specs.EncoderRule.{Moves}
+use Rattle.encoding_mem.specs.declared.form.EscapeState.TheVariants.{Ascii}
+use Rattle.encoding_front.specs.Encoder.{EncoderState, ReplacingEndsWith, Replaces, coding_in, kept_back, Encoded, Turned, referred, new_state}
+use Rattle.encoding_front.specs.laws.Encoder.{need_positive, coding_laws, output_twice}
+use Rattle.encoding_front.specs.Encodings.{need_of, coding_of, coding_of_codec_kind}
+use Rattle.encoding_front.specs.declared.coder_result.CoderResult.{CoderResult}
+use Rattle.std.proofs.Math.Seq.{take-append-add, drop-append-add}
+use borrow.Rule.Slice.PartMut.{put_mid, post_of}
+use Rattle.encoding_mem.specs.declared.encoder_result.EncoderResult.{EncoderResult}
+use Rattle.encoding_front.specs.EncodingTable.{codec_kind_of}
+use Rattle.encoding_front.specs.declared.encoding.Encoding.{Encoding}
+use Rattle.encoding_tables.specs.IndexLists.{IndexLists}
+
+-- the digits of a character's number
+pub digits_fit : (c : ℕ) (digits : List ℕ) → c < 0x110000 → digits ≡ decimal c → length digits ≤ 7
+digits_fit c digits small is =
+    omega (arith, ap length is, length-decimal-le 7 c (omega arith) (omega arith) (omega arith))
+
+-- Calls with replacement: what the calls without replacement and the references between them make together.
+
+-- Two texts, one after another.
+pub count-append : (e : Coding) (a b : List ℕ) → lost_count e (a ++ b) ≡ lost_count e a + lost_count e b
+count-append e [] b = sym (zero-add (lost_count e b))
+count-append e (c ∷ a) b = ap (λ n. unmapped_count (e.form c) + n) (count-append e a b) ∙ sym (add_assoc (unmapped_count (e.form c)) (lost_count e a) (lost_count e b))
+
+last_set-append : (e : Coding) (s : EscapeState) (a b : List ℕ) → last_set e s (a ++ b) ≡ last_set e (last_set e s a) b
+last_set-append e s [] b = refl
+last_set-append e s (c ∷ a) b = last_set-append e (e.set s c) a b
+
+open_from-append : (e : Coding) (s : EscapeState) (a b : List ℕ) → open_from e s (a ++ b) ≡ open_from e s a ++ open_from e (last_set e s a) b
+open_from-append e s [] b = refl
+open_from-append e s (c ∷ a) b =
+    rw (open_from-append e (e.set s c) a b, append_assoc (e.escape s (e.set s c)) _ _, append_assoc (spelled (e.form c)) _ _) refl
+
+open_items-append : (e : Coding) (s : EscapeState) (i : ℕ) (a b : List ℕ) → open_items e s i (a ++ b) ≡ open_items e s i a ++ open_items e (last_set e s a) (i + length a) b
+open_items-append e s i [] b = ap (λ n. open_items e s n b) (sym (add-zero i))
+open_items-append e s i (c ∷ a) b =
+    let more = open_items-append e (e.set s c) (i + 1) a b in
+    let at : i + 1 + length a ≡ i + length (c ∷ a) = omega arith in
+    rw (more, at, append_assoc (map Byte (e.escape s (e.set s c))) _ _, append_assoc (form_items i (e.form c)) _ _) refl
+
+whole_items-append : (e : Coding) (last : Bool) (s : EscapeState) (i : ℕ) (a b : List ℕ) → whole_items e last s i (a ++ b) ≡ open_items e s i a ++ whole_items e last (last_set e s a) (i + length a) b
+whole_items-append e last s i a b =
+    rw (open_items-append e s i a b, last_set-append e s a b) (append_assoc (open_items e s i a) (open_items e (last_set e s a) (i + length a) b) _)
+
+-- A text in which each character has bytes.
+mapped_form : (e : Coding) (i : ℕ) (f : Form) → IsMapped f → form_items i f ≡ map Byte (spelled f)
+mapped_form e i (Mapped bs) h = refl
+mapped_form e i (Unmapped c) h = absurd h
+
+mapped_count : (f : Form) → IsMapped f → unmapped_count f ≡ 0
+mapped_count (Mapped bs) h = refl
+mapped_count (Unmapped c) h = absurd h
+
+open_mapped : (e : Coding) (s : EscapeState) (i : ℕ) (t : List ℕ) → AllMapped e t → open_items e s i t ≡ map Byte (open_from e s t)
+open_mapped e s i [] h = refl
+open_mapped e s i (c ∷ t) h =
+    rw (mapped_form e i (e.form c) h.0, open_mapped e (e.set s c) (i + 1) t h.1)
+    (ap (λ l. map Byte (e.escape s (e.set s c)) ++ l) (sym (map-append Byte (spelled (e.form c)) _)) ∙ sym (map-append Byte (e.escape s (e.set s c)) _))
+
+pub count_mapped : (e : Coding) (t : List ℕ) → AllMapped e t → lost_count e t ≡ 0
+count_mapped e [] h = refl
+count_mapped e (c ∷ t) h = rw (mapped_count (e.form c) h.0, count_mapped e t h.1) refl
+
+-- bytes before the first note
+first_note : (a b : List ℕ) (k k' c c' : ℕ) (x y : List Item) → map Byte a ++ LostAt k c ∷ x ≡ map Byte b ++ LostAt k' c' ∷ y → (a ≡ b) × (x ≡ y)
+first_note [] [] k k' c c' x y h = (refl, cc)
+first_note [] (n ∷ b) k k' c c' x y h = absurd (cc)
+first_note (n ∷ a) [] k k' c c' x y h = absurd (cc)
+first_note (n ∷ a) (m ∷ b) k k' c c' x y h =
+    let same : n ≡ m = cc in
+    let rest = first_note a b k k' c c' x y (cc) in
+    (ap (λ l. n ∷ l) rest.0 ∙ ap (λ v. v ∷ b) same, rest.1)
+
+-- A text that ends with a character without bytes.
+abbrev pub before_reference : Coding → EscapeState → List ℕ → ℕ → List ℕ
+before_reference e s t d = open_from e s t ++ e.escape (last_set e s t) (e.set (last_set e s t) d)
+
+unmapped_items : (e : Coding) (s : EscapeState) (k : ℕ) (t : List ℕ) (d u : ℕ) → AllMapped e t → e.form d ≡ Unmapped u
+    → open_items e s k (t ++ d ∷ []) ≡ map Byte (before_reference e s t d) ++ LostAt (k + length t) u ∷ map Byte (reference u)
+unmapped_items e s k t d u mapped lost =
+    let q = last_set e s t in
+    open_items-append e s k t (d ∷ []) ∙ rw (open_mapped e s k t mapped, lost, append-nil (map Byte (reference u)))
+    (sym (append_assoc (map Byte (open_from e s t)) (map Byte (e.escape q (e.set q d))) _)
+    ∙ ap (λ l. l ++ LostAt (k + length t) u ∷ map Byte (reference u)) (sym (map-append Byte (open_from e s t) (e.escape q (e.set q d)))))
+
+unmapped_bytes : (e : Coding) (s : EscapeState) (t : List ℕ) (d u : ℕ) → e.form d ≡ Unmapped u → open_from e s (t ++ d ∷ []) ≡ before_reference e s t d ++ reference u
+unmapped_bytes e s t d u lost =
+    let q = last_set e s t in
+    open_from-append e s t (d ∷ []) ∙ rw (lost, append-nil (reference u)) (sym (append_assoc (open_from e s t) (e.escape q (e.set q d)) (reference u)))
+
+-- Where a call stands behind a reference: what was read and written, and what it still has still to write.
+pub record Gone (e : Coding) (last : Bool) (s : EscapeState) (text written : List ℕ) (s' : EscapeState) (rest : List ℕ) (lost : Bool) (prefix : List ℕ) : Type 0 where
+  pub split : text ≡ prefix ++ rest
+  pub opened : written ≡ open_from e s prefix
+  pub items : (i : ℕ) → whole_items e last s i text ≡ open_items e s i prefix ++ whole_items e last s' (i + length prefix) rest
+  pub continues : Continues e s text written s' rest
+  pub sets : last_set e s text ≡ last_set e s' rest
+  pub told : IsTrue lost ↔ (0 < lost_count e prefix)
+
+pub gone_none : (e : Coding) (last : Bool) (s : EscapeState) (text : List ℕ) → Gone e last s text [] s text false []
+gone_none e last s text = record {
+  split = refl;
+  opened = refl;
+  items = λ i. ap (λ n. whole_items e last s n text) (sym (add-zero i));
+  continues = λ r. refl;
+  sets = refl;
+  told = (λ h. absurd (cc), λ h. absurd (omega arith));
+}
+
+-- the sets may differ, what is still to be written does not
+owed : (e : Coding) (last : Bool) (s : EscapeState) (text written : List ℕ) (s' : EscapeState) (rest : List ℕ) (lost : Bool) (prefix : List ℕ) (g : Gone e last s text written s' rest lost prefix)
+    (i : ℕ) → whole_items e last s' (i + length prefix) rest ≡ whole_items e last (last_set e s prefix) (i + length prefix) rest
+owed e last s text written s' rest lost prefix g i =
+    append_cancel_left (open_items e s i prefix) _ _
+    (sym (g.items i) ∙ ap (λ t. whole_items e last s i t) g.split ∙ whole_items-append e last s i prefix rest)
+
+-- one more call that reports a character: what it wrote, with the reference, is what the text that it read is written as
+cut : (e : Coding) (last : Bool) (s q : EscapeState) (text w : List ℕ) (u : ℕ) (s' : EscapeState) (rest : List ℕ) (k : ℕ) (p : Encodes e last (Unmappable u) s text w s' rest)
+    → whole_items e last s k text ≡ whole_items e last q k text
+    → (w ++ reference u ≡ open_from e q p.prefix) × (whole_items e last q k text ≡ open_items e q k p.prefix ++ whole_items e last s' (k + length p.prefix) rest)
+cut e last s q text w u s' rest k p same =
+    let t = p.reads.0 in
+    let d = p.reads.1 in
+    let ends : p.prefix ≡ t ++ d ∷ [] = p.reads.2 in
+    let items = unmapped_items e q k t d u p.reads.3 p.reads.4 in
+    let whole = ap (λ l. whole_items e last q k l) p.split ∙ whole_items-append e last q k p.prefix rest in
+    let after = whole_items e last (last_set e q p.prefix) (k + length p.prefix) rest in
+    let both = first_note (before_reference e q t d) w _ _ u u _ _
+    (sym (append_assoc (map Byte (before_reference e q t d)) (LostAt (k + length t) u ∷ map Byte (reference u)) after)
+    ∙ ap (λ l. l ++ after) (sym (ap (λ l. open_items e q k l) ends ∙ items)) ∙ sym whole ∙ sym same ∙ p.items k) in (
+      ap (λ l. l ++ reference u) (sym both.0) ∙ sym (unmapped_bytes e q t d u p.reads.4) ∙ ap (open_from e q) (sym ends),
+      whole ∙ ap (λ l. open_items e q k p.prefix ++ l) (append_cancel_left (map Byte (reference u)) _ _ both.1),
+    )
+
+counted_lost : (e : Coding) (t : List ℕ) (d u : ℕ) → AllMapped e t → e.form d ≡ Unmapped u → lost_count e (t ++ d ∷ []) ≡ 1
+counted_lost e t d u mapped lost = count-append e t (d ∷ []) ∙ rw (count_mapped e t mapped, lost) refl
+
+pub gone_on : (e : Coding) (last : Bool) (s : EscapeState) (text written : List ℕ) (s' : EscapeState) (rest : List ℕ) (lost : Bool) (prefix : List ℕ) (w : List ℕ) (u : ℕ) (s'' : EscapeState) (rest' : List ℕ)
+    → Gone e last s text written s' rest lost prefix → (p : Encodes e last (Unmappable u) s' rest w s'' rest')
+    → Gone e last s text (written ++ (w ++ reference u)) s'' rest' true (prefix ++ p.prefix)
+gone_on e last s text written s' rest lost prefix w u s'' rest' g p =
+    let q = last_set e s prefix in
+    let bytes = (cut e last s' q rest w u s'' rest' (0 + length prefix) p (owed e last s text written s' rest lost prefix g 0)).0 in
+    record {
+      split = g.split ∙ ap (λ l. prefix ++ l) p.split ∙ sym (append_assoc prefix p.prefix rest');
+      opened = ap (λ l. l ++ (w ++ reference u)) g.opened ∙ ap (λ l. open_from e s prefix ++ l) bytes ∙ sym (open_from-append e s prefix p.prefix);
+      items = λ i.
+          let same = owed e last s text written s' rest lost prefix g i in
+          let more = (cut e last s' q rest w u s'' rest' (i + length prefix) p same).1 in
+          let at : i + length prefix + length p.prefix ≡ i + length (prefix ++ p.prefix) = omega (arith, length-append prefix p.prefix) in
+          g.items i ∙ ap (λ l. open_items e s i prefix ++ l) (same ∙ more) ∙ sym (append_assoc (open_items e s i prefix) (open_items e q (i + length prefix) p.prefix) _)
+          ∙ ap (λ l. l ++ whole_items e last s'' (i + length prefix + length p.prefix) rest') (sym (open_items-append e s i prefix p.prefix))
+          ∙ ap (λ n. open_items e s i (prefix ++ p.prefix) ++ whole_items e last s'' n rest') at;
+      continues = λ r. g.continues r ∙ ap (λ l. written ++ l) (encoded_bytes e last (Unmappable u) s' rest w s'' rest' p r) ∙ sym (append_assoc written (w ++ reference u) _);
+      sets = g.sets ∙ p.sets tt;
+      told =
+          let one : lost_count e p.prefix ≡ 1 = ap (lost_count e) p.reads.2 ∙ counted_lost e p.reads.0 p.reads.1 u p.reads.3 p.reads.4 in
+          (λ h. omega (arith, count-append e prefix p.prefix), λ h. refl);
+    }
+
+-- How a call with replacement ends.
+
+-- each reference of a text from a set ends before an offset
+pub record EndBefore (e : Coding) (s : EscapeState) (end : ℕ) (t : List ℕ) : Type 0 where
+  pub each : (before : List ℕ) (c : ℕ) (after : List ℕ) → t ≡ before ++ c ∷ after → ¬ (IsMapped (e.form c)) → length (open_from e s (before ++ c ∷ [])) < end
+
+not_nil : (before : List ℕ) (c : ℕ) (after : List ℕ) → [] ≡ before ++ c ∷ after → ⊥
+not_nil [] c after h = cc
+not_nil (x ∷ before) c after h = cc
+
+-- a character without bytes of two texts, in the second of which each has some, is in the first
+in_prefix : (e : Coding) (a b before : List ℕ) (c : ℕ) (after : List ℕ) → AllMapped e b → a ++ b ≡ before ++ c ∷ after → ¬ (IsMapped (e.form c)) → (more : List ℕ) × (a ≡ before ++ c ∷ more)
+in_prefix e [] [] before c after mapped is lost = absurd (not_nil before c after is)
+in_prefix e [] (x ∷ b) [] c after mapped is lost =
+    let same : x ≡ c = cc in
+    absurd (lost (subst (λ (d : ℕ). IsMapped (e.form d)) same mapped.0))
+in_prefix e [] (x ∷ b) (y ∷ before) c after mapped is lost =
+    let tail : b ≡ before ++ c ∷ after = cc in
+    let found = in_prefix e [] b before c after mapped.1 tail lost in
+    absurd (not_nil before c found.0 found.1)
+in_prefix e (x ∷ a) b [] c after mapped is lost = let same : x ≡ c = cc in (a, ap (λ (d : ℕ). d ∷ a) same)
+in_prefix e (x ∷ a) b (y ∷ before) c after mapped is lost =
+    let tail : a ++ b ≡ before ++ c ∷ after = cc in
+    let same : x ≡ y = cc in
+    let found = in_prefix e a b before c after mapped tail lost in
+    (found.0, ap (λ (d : ℕ). d ∷ a) same ∙ ap (λ l. y ∷ l) found.1)
+
+-- the same where the second text ends with one more
+in_prefix_or_last : (e : Coding) (a b : List ℕ) (d : ℕ) (before : List ℕ) (c : ℕ) (after : List ℕ) → AllMapped e b → a ++ (b ++ d ∷ []) ≡ before ++ c ∷ after → ¬ (IsMapped (e.form c))
+    → ((more : List ℕ) × (a ≡ before ++ c ∷ more)) ⊎ ((after ≡ []) × (before ++ c ∷ [] ≡ a ++ (b ++ d ∷ [])))
+in_prefix_or_last e [] [] d [] c after mapped is lost =
+    let same : d ≡ c = cc in
+    let none : after ≡ [] = cc in
+    inr (none, ap (λ (x : ℕ). x ∷ []) (sym same))
+in_prefix_or_last e [] [] d (y ∷ before) c after mapped is lost =
+    let tail : [] ≡ before ++ c ∷ after = cc in
+    absurd (not_nil before c after tail)
+in_prefix_or_last e [] (x ∷ b) d [] c after mapped is lost =
+    let same : x ≡ c = cc in
+    absurd (lost (subst (λ (n : ℕ). IsMapped (e.form n)) same mapped.0))
+in_prefix_or_last e [] (x ∷ b) d (y ∷ before) c after mapped is lost =
+    let tail : b ++ d ∷ [] ≡ before ++ c ∷ after = cc in
+    let same : y ≡ x = cc in
+    elim (in_prefix_or_last e [] b d before c after mapped.1 tail lost) [
+      | inl found ↦ absurd (not_nil before c found.0 found.1)
+      | inr last ↦ inr (last.0, ap (λ (n : ℕ). n ∷ before ++ c ∷ []) same ∙ ap (λ l. x ∷ l) last.1)
+    ]
+in_prefix_or_last e (x ∷ a) b d [] c after mapped is lost = let same : x ≡ c = cc in inl (a, ap (λ (n : ℕ). n ∷ a) same)
+in_prefix_or_last e (x ∷ a) b d (y ∷ before) c after mapped is lost =
+    let tail : a ++ (b ++ d ∷ []) ≡ before ++ c ∷ after = cc in
+    let same : x ≡ y = cc in
+    elim (in_prefix_or_last e a b d before c after mapped tail lost) [
+      | inl found ↦ inl (found.0, ap (λ (n : ℕ). n ∷ a) same ∙ ap (λ l. y ∷ l) found.1)
+      | inr last ↦ inr (last.0, ap (λ (n : ℕ). n ∷ before ++ c ∷ []) (sym same) ∙ ap (λ l. x ∷ l) last.1)
+    ]
+
+-- two moves are one
+moves_on : (e : Coding) (s s' s'' : EscapeState) → Moves e s s' → Moves e s' s'' → Moves e s s''
+moves_on e s s' s'' h (inl same) = subst (λ (q : EscapeState). Moves e s q) (sym same) h
+moves_on e s s' s'' h (inr moved) = inr moved
+
+-- Behind a reference.
+pub record Going (e : Coding) (last : Bool) (s : EscapeState) (text written : List ℕ) (s' : EscapeState) (rest : List ℕ) (lost : Bool) (end : ℕ) : Type 0 where
+  pub prefix : List ℕ
+  pub gone : Gone e last s text written s' rest lost prefix
+  pub moves : Moves e s s'
+  pub before : EndBefore e s end prefix
+
+pub going_none : (e : Coding) (last : Bool) (s : EscapeState) (text : List ℕ) (end : ℕ) → Going e last s text [] s text false end
+going_none e last s text end = record {
+  prefix = [];
+  gone = gone_none e last s text;
+  moves = inl refl;
+  before = record { each = λ before c after is lost. absurd (not_nil before c after is) };
+}
+
+pub going_on : (e : Coding) (last : Bool) (s : EscapeState) (text written : List ℕ) (s' : EscapeState) (rest : List ℕ) (lost : Bool) (end : ℕ) (w : List ℕ) (u : ℕ) (s'' : EscapeState) (rest' : List ℕ)
+    → Going e last s text written s' rest lost end → Encodes e last (Unmappable u) s' rest w s'' rest' → Moves e s' s'' → length (written ++ (w ++ reference u)) < end
+    → Going e last s text (written ++ (w ++ reference u)) s'' rest' true end
+going_on e last s text written s' rest lost end w u s'' rest' g p moves more =
+    let on = gone_on e last s text written s' rest lost g.prefix w u s'' rest' g.gone p in
+    record {
+      prefix = g.prefix ++ p.prefix;
+      gone = on;
+      moves = moves_on e s s' s'' g.moves moves;
+      before = record {
+        each = λ before c after is unmapped.
+            let at = ap (λ l. g.prefix ++ l) (sym p.reads.2) ∙ is in
+            elim (in_prefix_or_last e g.prefix p.reads.0 p.reads.1 before c after p.reads.3 at unmapped) [
+              | inl found ↦ g.before.each before c found.0 found.1 unmapped
+              | inr last_one ↦
+                  let whole = last_one.1 ∙ ap (λ l. g.prefix ++ l) (sym p.reads.2) in
+                  omega (arith, ap length (ap (open_from e s) whole), ap length on.opened)
+            ];
+      };
+    }
+
+-- what is still to be written at the end of a call
+owed_open : (e : Coding) (last : Bool) (s : EscapeState) (text written : List ℕ) (s' : EscapeState) (rest : List ℕ) (lost : Bool) (prefix : List ℕ) → Gone e last s text written s' rest lost prefix
+    → whole_from e s text ≡ written ++ whole_from e s' rest
+owed_open e last s text written s' rest lost prefix g =
+    let open_is = sym (ap (open_from e s) (append-nil text)) ∙ g.continues [] ∙ ap (λ t. written ++ open_from e s' t) (append-nil rest) in
+    ap (λ l. l ++ e.escape (last_set e s text) Ascii) open_is ∙ ap (λ (q : EscapeState). (written ++ open_from e s' rest) ++ e.escape q Ascii) g.sets
+    ∙ append_assoc written (open_from e s' rest) (e.escape (last_set e s' rest) Ascii)
+
+abbrev pub Bytes : Coding → Bool → EscapeState → List ℕ → List ℕ → EscapeState → List ℕ → Type 0
+Bytes e last s t w s' rest = MatchBool last (whole_from e s t ≡ w ++ whole_from e s' rest) (Continues e s t w s' rest)
+
+gone_bytes : (e : Coding) (last : Bool) (s : EscapeState) (text written : List ℕ) (s' : EscapeState) (rest : List ℕ) (lost : Bool) (prefix : List ℕ) → Gone e last s text written s' rest lost prefix → Bytes e last s text written s' rest
+gone_bytes e true s text written s' rest lost prefix g = owed_open e true s text written s' rest lost prefix g
+gone_bytes e false s text written s' rest lost prefix g = g.continues
+
+joined : (e : Coding) (last : Bool) (s : EscapeState) (text written : List ℕ) (s' : EscapeState) (rest : List ℕ) (lost : Bool) (prefix w : List ℕ) (s'' : EscapeState) (rest' : List ℕ)
+    → Gone e last s text written s' rest lost prefix → Bytes e last s' rest w s'' rest' → Bytes e last s text (written ++ w) s'' rest'
+joined e true s text written s' rest lost prefix w s'' rest' g is =
+    owed_open e true s text written s' rest lost prefix g ∙ ap (λ l. written ++ l) is ∙ sym (append_assoc written w (whole_from e s'' rest'))
+joined e false s text written s' rest lost prefix w s'' rest' g is = λ r. g.continues r ∙ ap (λ l. written ++ l) (is r) ∙ sym (append_assoc written w (open_from e s'' (rest' ++ r)))
+
+-- a last call without a character to report
+pub ended : (x x' : EncoderState) (last : Bool) (outcome : CoderResult) (text written : List ℕ) (s : EscapeState) (rest : List ℕ) (lost : Bool) (w rest' prefix : List ℕ) (size end : ℕ)
+    → end ≡ size - kept_back x.encoding → kept_back x.encoding ≤ size → Going (coding_in x) last x.set text written s rest lost end
+    → x' ≡ record x { set = x'.set } → rest ≡ prefix ++ rest' → AllMapped (coding_in x) prefix → Bytes (coding_in x) last s rest w x'.set rest'
+    → (last ≡ false → last_set (coding_in x) s rest ≡ last_set (coding_in x) x'.set rest') → Moves (coding_in x) s x'.set → ReplacingEndsWith last outcome x'.set rest'
+    → (outcome ≡ CoderResult.OutputFull → end - length (written ++ w) < need_of x.encoding) → length (written ++ w) ≤ end
+    → Replaces x last outcome text (written ++ w) x' rest' lost size
+ended x x' last outcome text written s rest lost w rest' prefix size end at enough g same split mapped bytes sets moves ends full fits =
+    let e = coding_in x in
+    record {
+      same = same;
+      prefix = g.prefix ++ prefix;
+      split = g.gone.split ∙ ap (λ l. g.prefix ++ l) split ∙ sym (append_assoc g.prefix prefix rest');
+      bytes = joined e last x.set text written s rest lost g.prefix w x'.set rest' g.gone bytes;
+      sets = λ h. g.gone.sets ∙ sets h;
+      moves = moves_on e x.set s x'.set g.moves moves;
+      told =
+          let count : lost_count e (g.prefix ++ prefix) ≡ lost_count e g.prefix = count-append e g.prefix prefix ∙ omega (arith, count_mapped e prefix mapped) in
+          (λ h. omega (arith, g.gone.told.0 h), λ h. g.gone.told.1 (omega arith));
+      ends = ends;
+      full = λ h. omega (arith, full h);
+      kept = λ more. absurd (omega arith);
+      few = λ less. absurd (omega arith);
+      stops = λ before c after is unmapped reach.
+          let found = in_prefix e g.prefix prefix before c after mapped is unmapped in
+          absurd (omega (arith, g.before.each before c found.0 found.1 unmapped));
+    }
+
+-- a reference that reaches the end
+pub reached : (x x' : EncoderState) (last : Bool) (outcome : CoderResult) (text written : List ℕ) (s : EscapeState) (rest : List ℕ) (lost : Bool) (w : List ℕ) (u : ℕ) (rest' : List ℕ) (size end : ℕ)
+    → end ≡ size - kept_back x.encoding → kept_back x.encoding ≤ size → Going (coding_in x) last x.set text written s rest lost end
+    → x' ≡ record x { set = x'.set } → Encodes (coding_in x) last (Unmappable u) s rest w x'.set rest' → Moves (coding_in x) s x'.set → ReplacingEndsWith last outcome x'.set rest'
+    → end ≤ length (written ++ (w ++ reference u)) → length (written ++ w) ≤ end
+    → Replaces x last outcome text (written ++ (w ++ reference u)) x' rest' true size
+reached x x' last outcome text written s rest lost w u rest' size end at enough g same p moves ends reach fits =
+    let e = coding_in x in
+    let on = gone_on e last x.set text written s rest lost g.prefix w u x'.set rest' g.gone p in
+    record {
+      same = same;
+      prefix = g.prefix ++ p.prefix;
+      split = on.split;
+      bytes = gone_bytes e last x.set text (written ++ (w ++ reference u)) x'.set rest' true (g.prefix ++ p.prefix) on;
+      sets = λ h. on.sets;
+      moves = moves_on e x.set s x'.set g.moves moves;
+      told = on.told;
+      ends = ends;
+      full = λ h. omega (arith, need_positive x.encoding);
+      kept = λ more. record {
+        before = g.prefix ++ p.reads.0;
+        lost = p.reads.1;
+        is = ap (λ l. g.prefix ++ l) p.reads.2 ∙ sym (append_assoc g.prefix p.reads.0 (p.reads.1 ∷ []));
+        unmapped = λ mapped. subst IsMapped p.reads.4 mapped;
+        whole = on.opened;
+        begins =
+            let spelled_is : length (spelled (e.form p.reads.1)) ≡ length (reference u) = ap (λ f. length (spelled f)) p.reads.4 in
+            omega (arith, at, fits, spelled_is, length-append written (w ++ reference u), length-append w (reference u), length-append written w);
+      };
+      few = λ less. absurd (omega arith);
+      stops = λ before c after is unmapped past.
+          let parts = ap (λ l. g.prefix ++ l) (sym p.reads.2) ∙ is in
+          elim (in_prefix_or_last e g.prefix p.reads.0 p.reads.1 before c after p.reads.3 parts unmapped) [
+            | inl found ↦ absurd (omega (arith, g.before.each before c found.0 found.1 unmapped))
+            | inr last_one ↦ (last_one.0, on.opened)
+          ];
+    }
+
+-- a call into fewer bytes than are kept back
+pub too_few : (x : EncoderState) (last : Bool) (outcome : CoderResult) (text : List ℕ) (size : ℕ) → size < kept_back x.encoding → ReplacingEndsWith last outcome x.set text
+    → Replaces x last outcome text [] x text false size
+too_few x last outcome text size less ends =
+    let none = gone_none (coding_in x) last x.set text in
+    record {
+      same = refl;
+      prefix = [];
+      split = refl;
+      bytes = gone_bytes (coding_in x) last x.set text [] x.set text false [] none;
+      sets = λ h. refl;
+      moves = inl refl;
+      told = none.told;
+      ends = ends;
+      full = λ h. omega (arith, need_positive x.encoding);
+      kept = λ more. absurd (omega arith);
+      few = λ h. (refl, refl);
+      stops = λ before c after is unmapped reach. absurd (not_nil before c after is);
+    }
+
+-- A turn of a call with replacement: one call without, and the reference that it asks for.
+
+-- What a turn wrote into the part of a slice from an offset on.
+pub take_into : (a k n : ℕ) (xs ys : List ℕ) → a ≤ length xs → n ≤ length ys → take (a + n) (put_mid a k xs ys) ≡ take a xs ++ take n ys
+take_into a k n xs ys within fits =
+    ap (λ m. take (m + n) (put_mid a k xs ys)) (sym (length-take-le a xs within)) ∙ take-append-add (take a xs) (ys ++ post_of a k xs) n
+    ∙ ap (λ l. take a xs ++ l) (take-append-le n ys (post_of a k xs) fits)
+
+pub length_new : (a k n : ℕ) (xs ys : List ℕ) → a ≤ length xs → n ≤ length ys → length (take (a + n) (put_mid a k xs ys)) ≡ a + n
+length_new a k n xs ys within fits =
+    omega (arith, ap length (take_into a k n xs ys within fits), length-append (take a xs) (take n ys), length-take-le a xs within, length-take-le n ys fits)
+
+none_after : (a k : ℕ) (xs : List ℕ) → length xs ≤ a + k → post_of a k xs ≡ []
+none_after a k xs past = drop-drop k a xs ∙ drop_all (a + k) xs past
+
+drop_into : (a k n : ℕ) (xs ys : List ℕ) → a ≤ length xs → k ≡ length xs - a → n ≤ length ys → drop n ys ≡ drop n (take k (drop a xs)) → drop (a + n) (put_mid a k xs ys) ≡ drop (a + n) xs
+drop_into a k n xs ys within size fits behind =
+    ap (λ m. drop (m + n) (put_mid a k xs ys)) (sym (length-take-le a xs within)) ∙ drop-append-add (take a xs) (ys ++ post_of a k xs) n
+    ∙ drop-append-le n ys (post_of a k xs) fits ∙ ap (λ l. drop n ys ++ l) (none_after a k xs (omega (arith, size))) ∙ append-nil (drop n ys)
+    ∙ behind ∙ ap (λ m. drop n (take m (drop a xs))) size ∙ ap (drop n) (take_rest xs a) ∙ drop-drop n a xs
+
+-- what is behind it stays as it was, and so does the length
+pub behind_turn : (old dst ys : List ℕ) (a n : ℕ) → a ≤ length dst → n ≤ length ys → drop a dst ≡ drop a old → drop n ys ≡ drop n (take (length dst - a) (drop a dst))
+    → drop (a + n) (put_mid a (length dst - a) dst ys) ≡ drop (a + n) old
+behind_turn old dst ys a n within fits before behind =
+    drop_into a (length dst - a) n dst ys within refl fits behind ∙ sym (drop-drop n a dst) ∙ ap (drop n) before ∙ drop-drop n a old
+
+pub length_turn : (dst ys : List ℕ) (a : ℕ) → a ≤ length dst → length ys ≡ length (take (length dst - a) (drop a dst)) → length (put_mid a (length dst - a) dst ys) ≡ length dst
+length_turn dst ys a within size =
+    let none = ap length (none_after a (length dst - a) dst (omega arith)) in
+    let whole = length-take-le (length dst - a) (drop a dst) (omega (arith, length-drop a dst)) in
+    omega (arith, size, whole, none, length-append (take a dst) (ys ++ post_of a (length dst - a) dst), length-append ys (post_of a (length dst - a) dst), length-take-le a dst within)
+
+-- a turn on what follows an offset of a list
+pub at_rest : (text : List ℕ → List ℕ) (x : EncoderState) (last : Bool) (answer : EncoderResult) (more : List ℕ) (x' : EncoderState) (end : ℕ) (all rest : List ℕ) (i n : ℕ)
+    → rest ≡ drop i all → Turned x last answer (text rest) more x' (text (drop n rest)) end → Turned x last answer (text (drop i all)) more x' (text (drop (i + n) all)) end
+at_rest text x last answer more x' end all rest i n here t =
+    subst (λ (l : List ℕ). Turned x last answer (text (drop i all)) more x' (text l) end) (drop-drop n i all)
+    (subst (λ (l : List ℕ). Turned x last answer (text l) more x' (text (drop n l)) end) here t)
+
+-- a character that is reported was read
+pub shorter : (x : EncoderState) (last : Bool) (answer : EncoderResult) (u : ℕ) (text more : List ℕ) (x' : EncoderState) (rest : List ℕ) (end : ℕ) → Turned x last answer text more x' rest end → answer ≡ Unmappable u
+    → length rest < length text
+shorter x last answer u text more x' rest end t is =
+    let law = t.call.law in
+    let reads = rw is at law.reads in
+    omega (arith, ap length law.split, length-append law.prefix rest, ap length reads.2, length-append reads.0 (reads.1 ∷ []))
+
+-- the same encoder as at first, with another set
+as_first : (x x1 : EncoderState) (last : Bool) (answer : EncoderResult) (text written : List ℕ) (x' : EncoderState) (rest : List ℕ) (room : ℕ) → x1 ≡ record x { set = x1.set }
+    → Encoded x1 last answer text written x' rest room → Encoded (record x { set = x1.set }) last answer text written x' rest room
+as_first x x1 last answer text written x' rest room same call = subst (λ (y : EncoderState). Encoded y last answer text written x' rest room) same call
+
+-- of a turn that ends the call
+pub input_empty : (x x1 x' : EncoderState) (last : Bool) (answer : EncoderResult) (text old rest : List ℕ) (lost : Bool) (more rest' new : List ℕ) (size end n : ℕ)
+    → end ≡ size - kept_back x.encoding → kept_back x.encoding ≤ size → x1 ≡ record x { set = x1.set } → Going (coding_in x) last x.set text old x1.set rest lost end
+    → Turned x1 last answer rest more x' rest' n → answer ≡ InputEmpty → new ≡ old ++ more → n ≡ end - length old → length old ≤ end
+    → Replaces x last CoderResult.InputEmpty text new x' rest' lost size
+input_empty x x1 x' last answer text old rest lost more rest' new size end n at enough same going t is new_is left within =
+    let call = as_first x x1 last InputEmpty rest t.called x' rest' (n - length t.called) same (rw is at t.call) in
+    let bytes : more ≡ t.called = t.all ∙ ap (λ (a : EncoderResult). t.called ++ referred a) is ∙ append-nil t.called in
+    subst (λ (l : List ℕ). Replaces x last CoderResult.InputEmpty text l x' rest' lost size) (sym (new_is ∙ ap (λ l. old ++ l) bytes))
+    (ended x x' last CoderResult.InputEmpty text old x1.set rest lost t.called rest' call.law.prefix size end at enough going
+    call.same call.law.split call.law.reads call.bytes call.law.sets call.moves call.answers (λ h. absurd (cc)) (omega (arith, t.fits, left, length-append old t.called)))
+
+pub output_full : (x x1 x' : EncoderState) (last : Bool) (answer : EncoderResult) (text old rest : List ℕ) (lost : Bool) (more rest' new : List ℕ) (size end n : ℕ)
+    → end ≡ size - kept_back x.encoding → kept_back x.encoding ≤ size → x1 ≡ record x { set = x1.set } → Going (coding_in x) last x.set text old x1.set rest lost end
+    → Turned x1 last answer rest more x' rest' n → answer ≡ OutputFull → new ≡ old ++ more → n ≡ end - length old → length old ≤ end
+    → Replaces x last CoderResult.OutputFull text new x' rest' lost size
+output_full x x1 x' last answer text old rest lost more rest' new size end n at enough same going t is new_is left within =
+    let call = as_first x x1 last OutputFull rest t.called x' rest' (n - length t.called) same (rw is at t.call) in
+    let bytes : more ≡ t.called = t.all ∙ ap (λ (a : EncoderResult). t.called ++ referred a) is ∙ append-nil t.called in
+    subst (λ (l : List ℕ). Replaces x last CoderResult.OutputFull text l x' rest' lost size) (sym (new_is ∙ ap (λ l. old ++ l) bytes))
+    (ended x x' last CoderResult.OutputFull text old x1.set rest lost t.called rest' call.law.prefix size end at enough going
+    call.same call.law.split call.law.reads call.bytes call.law.sets call.moves call.answers.1 (λ h. omega (arith, call.answers.0, length-append old t.called)) (omega (arith, t.fits, left, length-append old t.called)))
+
+-- of a turn that writes a reference
+pub reference_reached : (x x1 x' : EncoderState) (last : Bool) (answer : EncoderResult) (u : ℕ) (outcome : CoderResult) (text old rest : List ℕ) (lost : Bool) (more rest' new : List ℕ) (size end n : ℕ)
+    → end ≡ size - kept_back x.encoding → kept_back x.encoding ≤ size → x1 ≡ record x { set = x1.set } → Going (coding_in x) last x.set text old x1.set rest lost end
+    → Turned x1 last answer rest more x' rest' n → answer ≡ Unmappable u → new ≡ old ++ more → ReplacingEndsWith last outcome x'.set rest' → end ≤ length new → n ≡ end - length old → length old ≤ end
+    → Replaces x last outcome text new x' rest' true size
+reference_reached x x1 x' last answer u outcome text old rest lost more rest' new size end n at enough same going t is new_is ends reach left within =
+    let call = as_first x x1 last (Unmappable u) rest t.called x' rest' (n - length t.called) same (rw is at t.call) in
+    let bytes : new ≡ old ++ (t.called ++ reference u) = new_is ∙ ap (λ l. old ++ l) (t.all ∙ ap (λ (a : EncoderResult). t.called ++ referred a) is) in
+    subst (λ (l : List ℕ). Replaces x last outcome text l x' rest' true size) (sym bytes)
+    (reached x x' last outcome text old x1.set rest lost t.called u rest' size end at enough going call.same call.law call.moves ends (omega (arith, reach, ap length bytes)) (omega (arith, t.fits, left, length-append old t.called)))
+
+pub turn_on : (x x1 x' : EncoderState) (last : Bool) (answer : EncoderResult) (u : ℕ) (text old rest : List ℕ) (lost : Bool) (more rest' new : List ℕ) (end n : ℕ)
+    → x1 ≡ record x { set = x1.set } → Going (coding_in x) last x.set text old x1.set rest lost end
+    → Turned x1 last answer rest more x' rest' n → answer ≡ Unmappable u → new ≡ old ++ more → length new < end
+    → Going (coding_in x) last x.set text new x'.set rest' true end
+turn_on x x1 x' last answer u text old rest lost more rest' new end n same going t is new_is short =
+    let call = as_first x x1 last (Unmappable u) rest t.called x' rest' (n - length t.called) same (rw is at t.call) in
+    let bytes : new ≡ old ++ (t.called ++ reference u) = new_is ∙ ap (λ l. old ++ l) (t.all ∙ ap (λ (a : EncoderResult). t.called ++ referred a) is) in
+    subst (λ (l : List ℕ). Going (coding_in x) last x.set text l x'.set rest' true end) (sym bytes)
+    (going_on (coding_in x) last x.set text old x1.set rest lost end t.called u x'.set rest' going call.law call.moves (omega (arith, short, ap length bytes)))
+
+-- the encoder afterwards
+pub still_same : (x x1 x' : EncoderState) (last : Bool) (answer : EncoderResult) (text more : List ℕ) (rest : List ℕ) (n : ℕ) → x1 ≡ record x { set = x1.set } → Turned x1 last answer text more x' rest n
+    → x' ≡ record x { set = x'.set }
+still_same x x1 x' last answer text more rest n same t = t.call.same ∙ ap (λ (y : EncoderState). record y { set = x'.set }) same
+
+-- A whole text through last calls with replacement, one after another.
+
+-- what was read and written of a text, and what is still to be written
+pub record Passed (x : EncoderState) (text written : List ℕ) (x' : EncoderState) (rest : List ℕ) (lost : Bool) : Type 0 where
+  pub same : x' ≡ record x { set = x'.set }
+  pub prefix : List ℕ
+  pub split : text ≡ prefix ++ rest
+  pub owed : whole_from (coding_in x) x.set text ≡ written ++ whole_from (coding_in x) x'.set rest
+  pub told : IsTrue lost ↔ (0 < lost_count (coding_in x) prefix)
+
+pub passed_none : (x : EncoderState) (text : List ℕ) → Passed x text [] x text false
+passed_none x text = record {
+  same = refl;
+  prefix = [];
+  split = refl;
+  owed = refl;
+  told = (λ h. absurd (cc), λ h. absurd (omega arith));
+}
+
+either : (a b : Bool) (m n : ℕ) → IsTrue a ↔ (0 < m) → IsTrue b ↔ (0 < n) → IsTrue (a || b) ↔ (0 < m + n)
+either true b m n h k = (λ _. omega (arith, h.0 refl), λ _. refl)
+either false true m n h k = (λ _. omega (arith, k.0 refl), λ _. refl)
+either false false m n h k = (λ e. absurd (cc), λ some. none m h k some)
+  where
+    none : (m : ℕ) → IsTrue false ↔ (0 < m) → IsTrue false ↔ (0 < n) → 0 < m + n → IsTrue false
+    none zero h k some = k.1 (omega arith)
+    none (suc m) h k some = h.1 (omega arith)
+
+pub passed_on : (x x1 x2 : EncoderState) (outcome : CoderResult) (text written rest more rest' : List ℕ) (lost lost' : Bool) (size : ℕ)
+    → Passed x text written x1 rest lost → Replaces x1 true outcome rest more x2 rest' lost' size → Passed x text (written ++ more) x2 rest' (lost || lost')
+passed_on x x1 x2 outcome text written rest more rest' lost lost' size p r0 =
+    let r = subst (λ (y : EncoderState). Replaces y true outcome rest more x2 rest' lost' size) p.same r0 in
+    record {
+      same = r.same;
+      prefix = p.prefix ++ r.prefix;
+      split = p.split ∙ ap (λ l. p.prefix ++ l) r.split ∙ sym (append_assoc p.prefix r.prefix rest');
+      owed = p.owed ∙ ap (λ l. written ++ l) r.bytes ∙ sym (append_assoc written more (whole_from (coding_in x) x2.set rest'));
+      told =
+          let both = either lost lost' (lost_count (coding_in x) p.prefix) (lost_count (coding_in x) r.prefix) p.told r.told in
+          let sum = count-append (coding_in x) p.prefix r.prefix in
+          (λ h. omega (arith, sum, both.0 h), λ h. both.1 (omega (arith, sum)));
+    }
+
+-- at the end nothing is still to be written
+pub passed_all : (x x' : EncoderState) (text written rest : List ℕ) (lost : Bool) → Passed x text written x' rest lost → rest ≡ [] → x'.set ≡ Ascii → written ≡ whole_from (coding_in x) x.set text
+passed_all x x' text written rest lost p none ascii =
+    let e = coding_in x in
+    let nothing : whole_from e x'.set rest ≡ [] = ap (whole_from e x'.set) none ∙ ap (λ s. e.escape s Ascii) ascii ∙ (coding_laws x.tables x.encoding).same Ascii in
+    sym (p.owed ∙ ap (λ l. written ++ l) nothing ∙ append-nil written)
+
+pub passed_told : (x x' : EncoderState) (text written rest : List ℕ) (lost : Bool) → Passed x text written x' rest lost → rest ≡ [] → IsTrue lost ↔ (0 < lost_count (coding_in x) text)
+passed_told x x' text written rest lost p none =
+    let whole : text ≡ p.prefix = p.split ∙ ap (λ l. p.prefix ++ l) none ∙ append-nil p.prefix in
+    subst (λ (l : List ℕ). IsTrue lost ↔ (0 < lost_count (coding_in x) l)) (sym whole) p.told
+
+-- one more call, into a vector that holds what was written
+pub one_more : (x x1 x2 : EncoderState) (outcome : CoderResult) (text old held rest more new rest' : List ℕ) (lost lost' : Bool) (size : ℕ)
+    → Passed x text old x1 rest lost → held ≡ old → new ≡ held ++ more → Replaces x1 true outcome rest more x2 rest' lost' size → Passed x text new x2 rest' (lost || lost')
+one_more x x1 x2 outcome text old held rest more new rest' lost lost' size p kept is r =
+    subst (λ (l : List ℕ). Passed x text l x2 rest' (lost || lost')) (sym (is ∙ ap (λ l. l ++ more) kept)) (passed_on x x1 x2 outcome text old rest more rest' lost lost' size p r)
+
+-- of a new encoder
+pub all_bytes : (t : IndexLists) (e : Encoding) (x x' : EncoderState) (text written rest : List ℕ) (lost : Bool) → x ≡ new_state t e → Passed x text written x' rest lost → rest ≡ [] → x'.set ≡ Ascii
+    → written ≡ output (coding_of t e) text
+all_bytes t e x x' text written rest lost new p none ascii =
+    passed_all x x' text written rest lost p none ascii ∙ ap (λ (y : EncoderState). whole_from (coding_in y) y.set text) new
+    ∙ ap (λ (d : Encoding). whole_from (coding_of_codec_kind t (codec_kind_of d)) Ascii text) (output_twice e)
+
+pub all_told : (t : IndexLists) (e : Encoding) (x x' : EncoderState) (text written rest : List ℕ) (lost : Bool) → x ≡ new_state t e → Passed x text written x' rest lost → rest ≡ []
+    → IsTrue lost ↔ (0 < lost_count (coding_of t e) text)
+all_told t e x x' text written rest lost new p none =
+    let count : lost_count (coding_in x) text ≡ lost_count (coding_of t e) text =
+    ap (λ (y : EncoderState). lost_count (coding_in y) text) new ∙ ap (λ (d : Encoding). lost_count (coding_of_codec_kind t (codec_kind_of d)) text) (output_twice e) in
+    subst (λ (n : ℕ). IsTrue lost ↔ (0 < n)) count (passed_told x x' text written rest lost p none)

@@ -1,0 +1,82 @@
+-- What a `?` returns. What a load returns.
+use Rattle.std.proofs.Common.{◌≡◌, Result, Ok, Err, sym, ap, subst, ◌⊎◌, inl, inr, ℕ, false, List, Option, None, Some, refl, ◌∙◌}
+use Rattle.std.specs.Result.{IfErr, IsErrAnd}
+use Rattle.std.specs.Prelude.{if◌then◌else◌}
+use Rattle.std.specs.Option.{MatchOption, option_map, option_or}
+use Rattle.encoding_tables.specs.Kinds.{index_size, is_ranges}
+use Rattle.encoding_tables.specs.IndexLists.{IndexLists, has}
+use Rattle.encoding_tables.specs.PackedRows.{flat_list}
+use Rattle.encoding_tables.specs.TableFaults.{flat_fault}
+use Rattle.encoding_tables.specs.declared.index_kind.IndexKind.{IndexKind}
+use Rattle.encoding_tables.specs.declared.table_fault.TableFault.{TableFault}
+use Rattle.encoding_tables.specs.declared.table_fault.TableFault.TheVariants.{Memory}
+use Rattle.encoding_index.specs.IndexText.{first_fault, text_rows, out_of_memory}
+use Rattle.encoding_index.specs.Loads.{table_fault, load_fault, WantsMemory}
+use Rattle.encoding_index.specs.declared.fault.IndexFault.{IndexFault}
+use Rattle.encoding_index.specs.declared.fault.LoadFault.{LoadFault}
+use Rattle.encoding_index.specs.declared.fault.LoadFault.TheVariants.{Text, Table}
+use Rattle.encoding_index.specs.declared.reading.TheConstants.{RANGE_POINTERS}
+
+pub IfErr-from_residual : {T E : Type 0} (r : Result T E) (e : E) (P : E → Type 0) → IsErrAnd r (λ x. x ≡ e) → P e → IfErr r P
+IfErr-from_residual (Ok x) e P same p = absurd same
+IfErr-from_residual (Err x) e P same p = subst P (sym same) p
+
+pub err_is : {T E : Type 0} (r : Result T E) (e : E) → IsErrAnd r (λ x. x ≡ e) → r ≡ Err e
+err_is (Ok x) e same = absurd same
+err_is (Err x) e same = ap Err same
+
+-- What a load returns.
+
+abbrev Done : Type 0
+Done = Unit {0}
+
+-- the clause of `load`
+abbrev pub Answers : Option LoadFault → Result Done LoadFault → Type 0
+Answers fault result = MatchOption fault ((result ≡ Ok tt) ⊎ WantsMemory result) (λ f. (result ≡ Err f) ⊎ (result ≡ Err (Text out_of_memory)))
+
+answers_memory : (fault : Option LoadFault) (result : Result Done LoadFault) → result ≡ Err (Text out_of_memory) → Answers fault result
+answers_memory None result refused = inr (inl refused)
+answers_memory (Some f) result refused = inr refused
+
+load_fault-text : (tables : IndexLists) (kind : IndexKind) (text : List ℕ) (fault : Option IndexFault) → is_ranges kind ≡ false → first_fault (index_size kind) text ≡ fault
+    → load_fault tables kind text ≡ option_or (option_map Text fault) (option_map Table (table_fault tables kind text))
+load_fault-text tables kind text fault listed found =
+    ap (λ o. option_or (option_map Text o) (option_map Table (table_fault tables kind text)))
+    (ap (λ b. first_fault (if b then RANGE_POINTERS else index_size kind) text) listed ∙ found)
+
+-- the text of a list was not read
+pub answers_text : (tables : IndexLists) (kind : IndexKind) (text : List ℕ) (fault : IndexFault) (result : Result Done LoadFault) → is_ranges kind ≡ false
+    → (first_fault (index_size kind) text ≡ Some fault) ⊎ (fault ≡ out_of_memory) → IsErrAnd result (λ x. x ≡ Text fault) → Answers (load_fault tables kind text) result
+answers_text tables kind text fault result listed (inl found) told =
+    subst (λ o. Answers o result) (sym (load_fault-text tables kind text (Some fault) listed found)) (inl (err_is result (Text fault) told))
+answers_text tables kind text fault result listed (inr refused) told =
+    answers_memory (load_fault tables kind text) result (err_is result (Text fault) told ∙ ap (λ f. Err (Text f)) refused)
+
+-- what `load` returns to what the tables returned
+abbrev pub Follows : Result Done TableFault → Result Done LoadFault → Type 0
+Follows (Ok done) result = result ≡ Ok tt
+Follows (Err fault) result = result ≡ Err (Table fault)
+
+answers_insert : (fault : Option TableFault) (inserted : Result Done TableFault) (result : Result Done LoadFault)
+    → MatchOption fault ((inserted ≡ Ok tt) ⊎ (inserted ≡ Err Memory)) (λ f. inserted ≡ Err f) → Follows inserted result → Answers (option_map Table fault) result
+answers_insert None (Ok done) result told follows = inl follows
+answers_insert None (Err fault) result (inl done) follows = absurd cc
+answers_insert None (Err fault) result (inr refused) follows =
+    let same : fault ≡ Memory = cc in
+    inr (inr (follows ∙ ap (λ f. Err (Table f)) same))
+answers_insert (Some f) (Ok done) result told follows = absurd cc
+answers_insert (Some f) (Err fault) result told follows =
+    let same : fault ≡ f = cc in
+    inl (follows ∙ ap (λ f. Err (Table f)) same)
+
+-- the text of a list was read
+pub answers_rows : (tables : IndexLists) (kind : IndexKind) (text : List ℕ) (rows : List (ℕ × ℕ)) (inserted : Result Done TableFault) (result : Result Done LoadFault) → is_ranges kind ≡ false
+    → first_fault (index_size kind) text ≡ None → rows ≡ text_rows text
+    → MatchOption (flat_fault (has tables kind) kind (flat_list (index_size kind) rows)) ((inserted ≡ Ok tt) ⊎ (inserted ≡ Err Memory)) (λ f. inserted ≡ Err f)
+    → Follows inserted result
+    → Answers (load_fault tables kind text) result
+answers_rows tables kind text rows inserted result listed none same told follows =
+    let list = flat_list (index_size kind) rows in
+    let flat : table_fault tables kind text ≡ flat_fault (has tables kind) kind list = rw (listed, ← same) refl in
+    let fault = load_fault-text tables kind text None listed none ∙ ap (option_map Table) flat in
+    subst (λ o. Answers o result) (sym fault) (answers_insert (flat_fault (has tables kind) kind list) inserted result told follows)

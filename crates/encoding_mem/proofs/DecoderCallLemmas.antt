@@ -1,0 +1,294 @@
+-- Why a call ended, as a caller sees it. Room that is enough. How far a call has come.
+use Rattle.std.proofs.Common.{◌≡◌, ◌≢◌, ℕ, ◌+◌, ◌<◌, ◌≤◌, inl, inr, Bool, List, [], ◌++◌, length, refl, subst, sym, ◌∙◌, ap, arith, ◌-◌, true, false, IsTrue, Option, None, Some, ◌∷◌, take, drop, get_or, append_assoc, length-append, length-drop, length-take, encode_utf8_all}
+use Rattle.std.proofs.lemmas.List.{append-nil, drop-drop, drop_all, drop_more, take-append-drop, take-take}
+use Rattle.encoding_mem.specs.Piece.{Piece, first, sizes, ArePieces, malformed, piece_len, scalars_of, scalars, AreWellFormed}
+use Rattle.encoding_mem.specs.Decoding.{DecoderState, EndsWith, IsUndecided, Takes, Reports}
+use Rattle.encoding_mem.specs.DecodedLength.{is_units, goes_on, replacement_len, left_after, decoded_length}
+use Rattle.encoding_mem.specs.declared.room.OutputUnit.{OutputUnit}
+use Rattle.encoding_mem.specs.declared.room.DecodedLength.{DecodedLength}
+use Rattle.encoding_mem.specs.Driver.{DriverEndsWith, Suffices, Remains, buffered, IsNear, PartReports, PartSuffices}
+use Rattle.encoding_mem.specs.declared.decoder_result.DecoderResult.{DecoderResult}
+use Rattle.encoding_mem.specs.declared.decoder_result.DecoderResult.TheVariants.{InputEmpty, OutputFull, Malformed}
+use Rattle.std.proofs.lemmas.Str.{encodes-chars, length-encode}
+use Rattle.std.specs.Char.{encode_utf8}
+use Rattle.std.specs.Str.{chars, IsUtf8}
+use Rattle.encoding_mem.specs.laws.Piece.{sizes-append, scalars-append, AreWellFormed-append}
+use Rattle.encoding_mem.specs.Text.{text_pieces}
+use Rattle.encoding_mem.specs.DecoderRule.{IsFirstPiece, IsSoon}
+
+pub ends_with : (P : List ℕ → List Piece) (pending unread : List ℕ) (last : Bool) (free room mark : ℕ) (whole : (x : List ℕ) → sizes (P x) ≡ length x) (are_pieces : (x : List ℕ) → ArePieces (P x)) (needs : OutputUnit → ℕ → ℕ) (limits : DecodedLength) (covers : (k : OutputUnit) (n : ℕ) → needs k n ≤ decoded_length limits k n) (outcome : DecoderResult) → P [] ≡ [] → DriverEndsWith P pending unread last free room mark outcome
+    → EndsWith (buffered P whole are_pieces needs limits covers pending) unread last free room mark outcome
+ends_with P pending unread last free room mark whole are_pieces needs limits covers InputEmpty e h = (
+  h.0,
+  elim h.1 [
+    | inl none ↦ inl (ap length none, ap (λ x. P (x ++ [])) none ∙ e)
+    | inr waits ↦ inr (
+      waits.0,
+      record {
+        short = waits.1;
+        undecided = record {
+          more = waits.2.more;
+          short = waits.2.short;
+          differs = λ same. waits.2.differs (ap (λ x. first (P x)) (sym (append-nil pending)) ∙ same);
+        };
+        soon = waits.3;
+      },
+    )
+  ],
+)
+ends_with P pending unread last free room mark whole are_pieces needs limits covers OutputFull e h = h
+ends_with P pending unread last free room mark whole are_pieces needs limits covers (Malformed a b) e h = h
+
+-- enough room is not refused
+pub never_full : (before after : DecoderState) (k : OutputUnit) (last : Bool) (size unread old new : ℕ) (outcome : DecoderResult) → Suffices before.needs after.needs (is_units k) last size unread old new outcome → decoded_length before.room k (before.pending + size) ≤ old → outcome ≢ OutputFull
+never_full before after k last size unread old new InputEmpty s h = λ e. cc
+never_full before after k last size unread old new OutputFull s h = absurd (s k 0 refl (λ _. refl) (let same : size + 0 ≡ size = omega arith in omega (arith, before.covers k size, ap (before.needs k) same, h)))
+never_full before after k last size unread old new (Malformed a b) s h = λ e. cc
+
+-- where any bytes decide their first piece, nothing is left pending
+pub nothing_remains : (P : List ℕ → List Piece) (pending : List ℕ) → ((x : List ℕ) → 0 < length x → IsUndecided P x → ⊥) → Remains P pending → pending ≡ []
+nothing_remains P pending decided h = elim h [
+  | inl none ↦ none
+  | inr waits ↦ absurd (decided pending waits.0 waits.1)
+]
+
+pub suffices_now : (before need : OutputUnit → ℕ → ℕ) (t last : Bool) (size unread old new : ℕ) (pending : List ℕ) (outcome : DecoderResult) → pending ≡ [] → Suffices before (λ k n. need k (length pending + n)) t last size unread old new outcome → Suffices before need t last size unread old new outcome
+suffices_now before need t last size unread old new pending InputEmpty none h = λ k m is stops fits. (let same : length pending + m ≡ m = omega (arith, ap length none) in subst (λ (n : ℕ). need k n ≤ new) same (h k m is stops fits))
+suffices_now before need t last size unread old new pending OutputFull none h = h
+suffices_now before need t last size unread old new pending (Malformed a b) none h = λ k m is stops fits. (let same : length pending + (unread + m) ≡ unread + m = omega (arith, ap length none) in subst (λ (n : ℕ). left_after (goes_on k) (replacement_len t) (need k n) ≤ new) same (h k m is stops fits))
+
+-- Room that is enough.
+
+-- what a piece of n of m bytes wants, it has
+pub has_room : (before : OutputUnit → ℕ → ℕ) (want : Bool → ℕ) (n len m free : ℕ) (last t : Bool) (k : OutputUnit) → is_units k ≡ t → n ≤ len → len ≤ m → (IsTrue last → m ≡ len) → ((j : ℕ) → (IsTrue last → n + j ≡ len) → want (is_units k) ≤ before k (n + j)) → before k m ≤ free → want t ≤ free
+has_room before want n len m free last t k is fits window whole wants h =
+    let same : n + (m - n) ≡ m = omega (arith, fits, window) in
+    let there : want (is_units k) ≤ before k m = subst (λ (x : ℕ). want (is_units k) ≤ before k x) same (wants (m - n) (λ e. omega (arith, same, whole e))) in
+    subst (λ (b : Bool). want b ≤ free) is (omega (arith, there, h))
+
+pub enough_left : (n k m old new : ℕ) → n + k ≤ m → m ≤ old → new + n ≡ old → k ≤ new
+enough_left n k m old new h j e = omega arith
+
+pub mark_first : (t : Bool) (mark more room : ℕ) → left_after t mark more ≤ room → mark ≤ room
+mark_first true mark more room h = omega (arith, h)
+mark_first false mark more room h = h
+
+-- How far a call has come.
+
+-- a piece more
+wrote : (W W' : List ℕ → Type 0) (taken : List Piece) (p : Piece) → ((t : List ℕ) → W t → W' (t ++ scalars_of p)) → W (scalars taken) → W' (scalars (taken ++ p ∷ []))
+wrote W W' taken p step w =
+    let e : scalars (taken ++ p ∷ []) ≡ scalars taken ++ scalars_of p = scalars-append taken (p ∷ []) ∙ ap (λ x. scalars taken ++ x) (append-nil (scalars_of p)) in
+    rw e (step (scalars taken) w)
+
+-- from the source, where nothing is pending
+pub took_source : (WellFormed : List Piece → Type 0) (before P P' : List ℕ → List Piece) (src window : List ℕ) (last : Bool) (held read : ℕ) (W W' : List ℕ → Type 0) (p : Piece) (n : ℕ)
+    → piece_len p ≡ n
+    → window ≡ drop read src
+    → Takes AreWellFormed before P src last held 0 read W
+    → IsFirstPiece P P' window last p
+    → ((ps : List Piece) → AreWellFormed ps → WellFormed (ps ++ p ∷ []))
+    → ((t : List ℕ) → W t → W' (t ++ scalars_of p))
+    → Takes WellFormed before P' src last held 0 (read + n) W'
+took_source WellFormed before P P' src window last held read W W' p n e is h given fine step =
+    let here : IsFirstPiece P P' (drop read src) last p = subst (λ (x : List ℕ). IsFirstPiece P P' x last p) is given in
+    record {
+      taken = h.taken ++ p ∷ [];
+      well_formed = fine h.taken h.well_formed;
+      within = omega (arith, h.within, here.within, length-drop read src, e);
+      counted = omega (arith, h.counted, sizes-append h.taken (p ∷ []), e);
+      writes = wrote W W' h.taken p step h.writes;
+      rest = λ r f. h.rest r f ∙ ap (λ x. h.taken ++ x) (here.rest r f ∙ ap (λ k. p ∷ P' (drop k (drop read src) ++ r)) e ∙ ap (λ x. p ∷ P' (x ++ r)) (drop-drop n read src)) ∙ sym (append_assoc h.taken (p ∷ []) (P' (drop (read + n) src ++ r)));
+    }
+
+-- all that is left is pending
+pub held_all : (before P : List ℕ → List Piece) (src window : List ℕ) (last : Bool) (held : ℕ) (pending : List ℕ) (read : ℕ) (W : List ℕ → Type 0)
+    → window ≡ drop read src
+    → pending ≡ window
+    → Takes AreWellFormed before P src last held 0 read W
+    → Takes AreWellFormed before (λ x. P (pending ++ x)) src last held (length pending) (length src) W
+held_all before P src window last held pending read W is all h =
+    let whole : pending ≡ drop read src = all ∙ is in
+    record {
+      taken = h.taken;
+      well_formed = h.well_formed;
+      within = omega arith;
+      counted = omega (arith, h.counted, h.within, length-drop read src, ap length whole);
+      writes = h.writes;
+      rest = λ r e. h.rest r e ∙ ap (λ x. h.taken ++ P (x ++ r)) (sym whole) ∙ ap (λ x. h.taken ++ P (pending ++ (x ++ r))) (sym (drop_all (length src) src (omega arith)));
+    }
+
+-- nothing is pending
+pub none_pending : (WellFormed : ℕ → List Piece → Type 0) (before P : List ℕ → List Piece) (src : List ℕ) (last : Bool) (held : ℕ) (pending : List ℕ) (read : ℕ) (W : List ℕ → Type 0)
+    → pending ≡ []
+    → Takes (WellFormed 0) before P src last held 0 read W
+    → Takes (WellFormed (length pending)) before (λ x. P (pending ++ x)) src last held (length pending) read W
+none_pending WellFormed before P src last held pending read W none h = subst (λ (y : List ℕ). Takes (WellFormed (length y)) before (λ x. P (y ++ x)) src last held (length y) read W) (sym none) h
+
+-- a run of text
+text_well_formed : (cs : List ℕ) → AreWellFormed (text_pieces cs)
+text_well_formed [] = tt
+text_well_formed (c ∷ cs) = (tt, text_well_formed cs)
+
+text_size : (cs : List ℕ) → sizes (text_pieces cs) ≡ length (encode_utf8_all cs)
+text_size [] = refl
+text_size (c ∷ cs) = omega (arith, text_size cs, length-encode c, length-append (encode_utf8 c) (encode_utf8_all cs))
+
+text_scalars : (cs : List ℕ) → scalars (text_pieces cs) ≡ cs
+text_scalars [] = refl
+text_scalars (c ∷ cs) = ap (λ y. c ∷ y) (text_scalars cs)
+
+text_within : (src rest window text : List ℕ) (read k : ℕ) → rest ≡ drop read src → window ≡ take k rest → text ≡ take (length text) window → (length text ≤ k) × (length text ≤ length src - read)
+text_within src rest window text read k is part prefix =
+    let below : length text ≤ length window = omega (arith, ap length prefix, length-take (length text) window) in
+    let part_len : length window ≤ k = omega (arith, ap length part, length-take k rest) in
+    let rest_len : length window ≤ length src - read = omega (arith, ap length part, length-take k rest, ap length is, length-drop read src) in
+    (omega arith, omega arith)
+
+pub text_fits : (src rest window text : List ℕ) (read k : ℕ) → rest ≡ drop read src → window ≡ take k rest → text ≡ take (length text) window → length text ≤ length src - read
+text_fits src rest window text read k is part prefix = (text_within src rest window text read k is part prefix).1
+
+pub took_text : (before P : List ℕ → List Piece) (src rest window text : List ℕ) (last : Bool) (held read k : ℕ) (W W' : List ℕ → Type 0)
+    → rest ≡ drop read src
+    → window ≡ take k rest
+    → text ≡ take (length text) window
+    → IsUtf8 text
+    → ((r : List ℕ) → P (text ++ r) ≡ text_pieces (chars text) ++ P r)
+    → ((t : List ℕ) → W t → W' (t ++ chars text))
+    → Takes AreWellFormed before P src last held 0 read W
+    → Takes AreWellFormed before P src last held 0 (read + length text) W'
+took_text before P src rest window text last held read k W W' is part prefix utf8 gives step h =
+    let n : ℕ = length text in
+    let ps : List Piece = text_pieces (chars text) in
+    let fits = text_within src rest window text read k is part prefix in
+    let size : sizes ps ≡ n = text_size (chars text) ∙ ap length (encodes-chars text utf8) in
+    let prefix_of : text ≡ take n rest = prefix ∙ ap (take n) part ∙ take-take n k rest fits.0 in
+    let cut : drop read src ≡ text ++ drop (read + n) src = sym is ∙ sym (take-append-drop n rest) ∙ ap (λ y. y ++ drop n rest) (sym prefix_of) ∙ ap (λ y. text ++ y) (ap (drop n) is ∙ drop-drop n read src) in
+    let all : scalars (h.taken ++ ps) ≡ scalars h.taken ++ chars text = scalars-append h.taken ps ∙ ap (λ y. scalars h.taken ++ y) (text_scalars (chars text)) in
+    record {
+      taken = h.taken ++ ps;
+      well_formed = AreWellFormed-append h.taken ps h.well_formed (text_well_formed (chars text));
+      within = omega (arith, h.within, fits.1);
+      counted = omega (arith, h.counted, sizes-append h.taken ps, size);
+      writes = rw all (step (scalars h.taken) h.writes);
+      rest = λ r e.
+          let tail : List ℕ = drop (read + n) src ++ r in
+          let seam : drop read src ++ r ≡ text ++ tail = ap (λ y. y ++ r) cut ∙ append_assoc text (drop (read + n) src) r in
+          h.rest r e ∙ ap (λ y. h.taken ++ P y) seam ∙ ap (λ y. h.taken ++ y) (gives tail) ∙ sym (append_assoc h.taken ps (P tail));
+    }
+
+-- a part of a call, and then another
+reports_after : (outcome : DecoderResult) (pending : ℕ) (a b : List Piece) → AreWellFormed a → Reports outcome pending b → Reports outcome pending (a ++ b)
+reports_after InputEmpty pending a b h k = AreWellFormed-append a b h k
+reports_after OutputFull pending a b h k = AreWellFormed-append a b h k
+reports_after (Malformed m n) pending a b h k = (k.0, k.1, k.2, k.3, (a ++ k.4.0, AreWellFormed-append a k.4.0 h k.4.1, ap (λ y. a ++ y) k.4.2 ∙ sym (append_assoc a k.4.0 (malformed m ∷ []))))
+
+pub takes_then : (outcome : DecoderResult) (before middle after : List ℕ → List Piece) (src : List ℕ) (last : Bool) (held now read more : ℕ) (W W' W'' : List ℕ → Type 0)
+    → ((t u : List ℕ) → W t → W' u → W'' (t ++ u))
+    → Takes AreWellFormed before middle src last held 0 read W
+    → Takes (Reports outcome now) middle after (drop read src) last 0 now more W'
+    → Takes (Reports outcome now) before after src last held now (read + more) W''
+takes_then outcome before middle after src last held now read more W W' W'' join h k = record {
+  taken = h.taken ++ k.taken;
+  well_formed = reports_after outcome now h.taken k.taken h.well_formed k.well_formed;
+  within = omega (arith, h.within, k.within, length-drop read src);
+  counted = omega (arith, h.counted, k.counted, sizes-append h.taken k.taken);
+  writes = rw (scalars-append h.taken k.taken) (join (scalars h.taken) (scalars k.taken) h.writes k.writes);
+  rest = λ r e. h.rest r e ∙ ap (λ y. h.taken ++ y) (k.rest r e) ∙ sym (append_assoc h.taken k.taken (after (drop more (drop read src) ++ r))) ∙ ap (λ y. (h.taken ++ k.taken) ++ after (y ++ r)) (drop-drop more read src);
+}
+
+-- a part of a call that has not ended it
+pub part_well_formed : (ended : Option DecoderResult) (before P : List ℕ → List Piece) (src : List ℕ) (last : Bool) (held : ℕ) (pending : List ℕ) (read : ℕ) (W : List ℕ → Type 0)
+    → ended ≡ None
+    → pending ≡ []
+    → Takes (PartReports ended (length pending)) before (λ x. P (pending ++ x)) src last held (length pending) read W
+    → Takes AreWellFormed before P src last held 0 read W
+part_well_formed ended before P src last held pending read W is none h =
+    let well_formed : Takes AreWellFormed before (λ x. P (pending ++ x)) src last held (length pending) read W = subst (λ (o : Option DecoderResult). Takes (PartReports o (length pending)) before (λ x. P (pending ++ x)) src last held (length pending) read W) is h in
+    subst (λ (y : List ℕ). Takes AreWellFormed before (λ x. P (y ++ x)) src last held (length y) read W) none well_formed
+
+pub suffices_then : (outcome : DecoderResult) (before middle after : OutputUnit → ℕ → ℕ) (t last : Bool) (size left unread old mid new : ℕ)
+    → ((k : OutputUnit) (m : ℕ) → is_units k ≡ t → (IsTrue last → m ≡ 0) → before k (size + m) ≤ old → middle k (left + m) ≤ mid)
+    → Suffices middle after t last left unread mid new outcome
+    → Suffices before after t last size unread old new outcome
+suffices_then InputEmpty before middle after t last size left unread old mid new h s = λ k m is none fits. s k m is none (h k m is none fits)
+suffices_then OutputFull before middle after t last size left unread old mid new h s = λ k m is none fits. s k m is none (h k m is none fits)
+suffices_then (Malformed a b) before middle after t last size left unread old mid new h s = λ k m is none fits. s k m is none (h k m is none fits)
+
+pub part_suffices : (ended : Option DecoderResult) (before need : OutputUnit → ℕ → ℕ) (t last : Bool) (size unread left old mid : ℕ) (pending : List ℕ)
+    → ended ≡ None
+    → pending ≡ []
+    → left ≡ unread
+    → PartSuffices before (λ k n. need k (length pending + n)) t last size unread old mid ended
+    → (k : OutputUnit) (m : ℕ) → is_units k ≡ t → (IsTrue last → m ≡ 0) → before k (size + m) ≤ old → need k (left + m) ≤ mid
+part_suffices ended before need t last size unread left old mid pending is none same h k m units stops fits =
+    let enough = subst (λ (o : Option DecoderResult). PartSuffices before (λ k n. need k (length pending + n)) t last size unread old mid o) is h in
+    let at : length pending + (unread + m) ≡ left + m = omega (arith, ap length none, same) in
+    subst (λ (x : ℕ). need k x ≤ mid) at (enough k m units stops fits)
+
+-- from what is pending; here says that nothing comes after it
+pub took_pending : (WellFormed : List Piece → Type 0) (before P P' : List ℕ → List Piece) (src : List ℕ) (last here : Bool) (held : ℕ) (pending : List ℕ) (read : ℕ) (W W' : List ℕ → Type 0) (p : Piece)
+    → (IsTrue here → IsTrue last × (length src ≤ read))
+    → Takes AreWellFormed before (λ x. P (pending ++ x)) src last held (length pending) read W
+    → IsFirstPiece P P' pending here p
+    → ((ps : List Piece) → AreWellFormed ps → WellFormed (ps ++ p ∷ []))
+    → ((t : List ℕ) → W t → W' (t ++ scalars_of p))
+    → Takes WellFormed before (λ x. P' (drop (piece_len p) pending ++ x)) src last held (length (drop (piece_len p) pending)) read W'
+took_pending WellFormed before P P' src last here held pending read W W' p ends h first fine step = record {
+  taken = h.taken ++ p ∷ [];
+  well_formed = fine h.taken h.well_formed;
+  within = h.within;
+  counted = omega (arith, h.counted, sizes-append h.taken (p ∷ []), length-drop (piece_len p) pending, first.within);
+  writes = wrote W W' h.taken p step h.writes;
+  rest = λ r e.
+      let none : IsTrue here → drop read src ++ r ≡ [] = λ t. rw (drop_all read src (ends t).1) (e (ends t).0) in
+      h.rest r e ∙ ap (λ x. h.taken ++ x) (first.rest (drop read src ++ r) none) ∙ sym (append_assoc h.taken (p ∷ []) (P' (drop (piece_len p) pending ++ (drop read src ++ r))));
+}
+
+-- one more byte is pending
+pub held_byte : (before P : List ℕ → List Piece) (src : List ℕ) (last : Bool) (held : ℕ) (pending : List ℕ) (read : ℕ) (W : List ℕ → Type 0)
+    → read < length src
+    → Takes AreWellFormed before (λ x. P (pending ++ x)) src last held (length pending) read W
+    → Takes AreWellFormed before (λ x. P ((pending ++ get_or src read 0 ∷ []) ++ x)) src last held (length (pending ++ get_or src read 0 ∷ [])) (read + 1) W
+held_byte before P src last held pending read W lt h = record {
+  taken = h.taken;
+  well_formed = h.well_formed;
+  within = omega arith;
+  counted = omega (arith, h.counted, length-append pending (get_or src read 0 ∷ []));
+  writes = h.writes;
+  rest = λ r e. h.rest r e ∙ ap (λ x. h.taken ++ P x) (ap (λ x. pending ++ (x ++ r)) (drop_more src read 0 lt) ∙ sym (append_assoc pending (get_or src read 0 ∷ []) (drop (read + 1) src ++ r)));
+}
+
+pub took_pending_of : (WellFormed : List ℕ → List Piece → Type 0) (before P P' : List ℕ → List Piece) (src window : List ℕ) (last here : Bool) (held : ℕ) (pending now : List ℕ) (read : ℕ) (W W' : List ℕ → Type 0) (p : Piece) (n : ℕ)
+    → piece_len p ≡ n
+    → window ≡ pending
+    → now ≡ drop n pending
+    → (IsTrue here → IsTrue last × (length src ≤ read))
+    → Takes AreWellFormed before (λ x. P (pending ++ x)) src last held (length pending) read W
+    → IsFirstPiece P P' window here p
+    → ((ps : List Piece) → AreWellFormed ps → WellFormed now (ps ++ p ∷ []))
+    → ((t : List ℕ) → W t → W' (t ++ scalars_of p))
+    → Takes (WellFormed now) before (λ x. P' (now ++ x)) src last held (length now) read W'
+took_pending_of WellFormed before P P' src window last here held pending now read W W' p n e whole is ends h first fine step =
+    let same : drop (piece_len p) pending ≡ now = ap (λ k. drop k pending) e ∙ sym is in
+    let first' : IsFirstPiece P P' pending here p = subst (λ (x : List ℕ). IsFirstPiece P P' x here p) whole first in
+    let fine' : (ps : List Piece) → AreWellFormed ps → WellFormed (drop (piece_len p) pending) (ps ++ p ∷ []) = λ ps a. subst (λ (x : List ℕ). WellFormed x (ps ++ p ∷ [])) (sym same) (fine ps a) in
+    subst (λ (y : List ℕ). Takes (WellFormed y) before (λ x. P' (y ++ x)) src last held (length y) read W') same
+    (took_pending (WellFormed (drop (piece_len p) pending)) before P P' src last here held pending read W W' p ends h first' fine' step)
+
+-- what is pending ends soon after its first piece
+pub near_few : (P : List ℕ → List Piece) (x : List ℕ) → length x ≤ 3 → IsNear P x
+near_few P x h r p e = omega (arith, h)
+
+pub near_soon : (P : List ℕ → List Piece) (x y : List ℕ) → y ≡ x → IsSoon P x → IsNear P y
+near_soon P x y e h r p f = let same : length y ≡ length x = ap length e in let there : first (P (x ++ r)) ≡ Some p = ap (λ z. first (P (z ++ r))) (sym e) ∙ f in omega (arith, h r p there, same)
+
+pub near_push : (P : List ℕ → List Piece) (x y z : List ℕ) (b : ℕ) → y ≡ x → z ≡ x ++ b ∷ [] → IsSoon P y → IsNear P z
+near_push P x y z b e f h r p k =
+    let there : first (P (y ++ (b ∷ r))) ≡ Some p = ap (λ s. first (P s)) (ap (λ s. s ++ (b ∷ r)) e ∙ sym (append_assoc x (b ∷ []) r) ∙ ap (λ s. s ++ r) (sym f)) ∙ k in
+    omega (arith, h (b ∷ r) p there, ap length e, ap length f, length-append x (b ∷ []))
+
+pub left_few : (P P' : List ℕ → List Piece) (window pending now : List ℕ) (here : Bool) (p : Piece) (n : ℕ) → piece_len p ≡ n → window ≡ pending → now ≡ drop n pending → IsNear P pending → IsFirstPiece P P' window here p → length now ≤ 3
+left_few P P' window pending now here p n s e f near first_is =
+    let there : first (P (pending ++ [])) ≡ Some p = ap (λ x. first (P (x ++ []))) (sym e) ∙ ap first (first_is.rest [] (λ _. refl)) in
+    omega (arith, near [] p there, ap length f, length-drop n pending, s)

@@ -1,0 +1,15 @@
+use Rattle.std.proofs.Common.{◌∙◌, length, take, sym, ap, arith}
+use Rattle.std.proofs.lemmas.List.{take_all}
+use Rattle.std.proofs.lemmas.Str.{utf8_valid_len-IsUtf8}
+use Rattle.encoding_mem.proofs.utf8_conversions.prefix_text.Goals as goal
+
+pub returns-in-Ok-clause-prefix : goal.returns-in-Ok-clause-prefix
+returns-in-Ok-clause-prefix c =
+    let bytes = c.args.bytes.now in
+    c.in-Ok.ensures.cases.0 ∙ sym (ap (λ n. take n bytes) (utf8_valid_len-IsUtf8 bytes c.in-Ok.ensures.cases.1) ∙ take_all (length bytes) bytes (omega arith))
+
+pub returns-in-Ok-clause-longest : goal.returns-in-Ok-clause-longest
+returns-in-Ok-clause-longest c = λ i more le utf8. absurd (omega (arith, more, le, utf8_valid_len-IsUtf8 c.args.bytes.now c.in-Ok.ensures.cases.1))
+
+pub returns-in-Err-clause-longest : goal.returns-in-Err-clause-longest
+returns-in-Err-clause-longest c = λ i more le utf8. c.in-Err.ensures.cases.1.longest i (omega (arith, more, c.in-Err.ensures.valid_len)) utf8

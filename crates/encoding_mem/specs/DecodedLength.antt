@@ -1,0 +1,82 @@
+-- Room that is enough for the text of so many bytes.
+use Rattle.std.specs.Prelude.{◌≡◌, ℕ, ◌+◌, ◌*◌, ◌/◌, ◌^◌, nat_lt, Bool, true, false, if◌then◌else◌, Option, Some, None, refl}
+use Rattle.std.specs.Char.{len_utf8}
+use Rattle.encoding_mem.specs.Writing.{len_utf16}
+use Rattle.encoding_mem.specs.declared.room.OutputUnit.{OutputUnit}
+use Rattle.encoding_mem.specs.declared.room.OutputUnit.TheVariants.{Units, Bytes, Replaced}
+use Rattle.encoding_mem.specs.declared.room.Bound.{Bound}
+use Rattle.encoding_mem.specs.declared.room.DecodedLength.{DecodedLength}
+
+-- Of the three counts: whether it is of 16 bits, and whether a malformed sequence takes room in it for good, and does
+-- not end the count.
+abbrev pub is_units : OutputUnit → Bool
+is_units Units = true
+is_units Bytes = false
+is_units Replaced = false
+
+abbrev pub goes_on : OutputUnit → Bool
+goes_on Units = true
+goes_on Bytes = false
+goes_on Replaced = true
+
+-- what needs one room or another
+abbrev pub cost_in : (is_units : Bool) → ℕ → ℕ
+cost_in is_units c = if is_units then len_utf16 c else len_utf8 c
+
+abbrev pub replacement_len : (is_units : Bool) → ℕ
+replacement_len is_units = if is_units then 1 else 3
+
+abbrev pub two_in : (is_units : Bool) → ℕ
+two_in is_units = if is_units then 2 else 4
+
+-- what a malformed sequence takes, and what is wanted behind it
+abbrev pub left_after : (goes_on : Bool) (mark more : ℕ) → ℕ
+left_after goes_on mark more = if goes_on then mark + more else mark
+
+abbrev pub bound_of : DecodedLength → OutputUnit → Bound
+bound_of room Units = room.units
+bound_of room Bytes = room.bytes
+bound_of room Replaced = room.replaced
+
+-- what m bytes count as
+abbrev pub counted : (in_pairs : Bool) → ℕ → ℕ
+counted in_pairs m = if in_pairs then (m + 1) / 2 else m
+
+abbrev pub bound_at : Bound → ℕ → ℕ
+bound_at l n = l.factor * n + l.extra
+
+-- the room for m bytes
+abbrev pub decoded_length : DecodedLength → OutputUnit → ℕ → ℕ
+decoded_length room count m = bound_at (bound_of room count) (counted room.in_pairs m)
+
+-- a number, where a usize has it
+abbrev pub checked : ℕ → Option ℕ
+checked n = if nat_lt n (2 ^ 64) then Some n else None
+
+-- what is returned for m bytes: none where a sum or the product passes a usize
+abbrev pub queried : DecodedLength → OutputUnit → ℕ → Option ℕ
+queried room count m = if nat_lt (if room.in_pairs then m + 1 else m) (2 ^ 64) then checked (decoded_length room count m) else None
+
+abbrev pub line : (factor extra : ℕ) → Bound
+line factor extra = record { factor = factor; extra = extra }
+
+-- where each byte counts
+abbrev pub of_bytes : (units bytes replaced : Bound) → DecodedLength
+of_bytes units bytes replaced = record { in_pairs = false; units = units; bytes = bytes; replaced = replaced }
+
+-- Of UTF-8; of the encodings with one byte a character; of those with two and more but UTF-16; of UTF-16, where two
+-- bytes count as one; and of "replacement", whose text is one U+FFFD.
+abbrev pub decoded_length_utf8 : DecodedLength
+decoded_length_utf8 = of_bytes (line 1 1) (line 1 3) (line 3 3)
+
+abbrev pub decoded_length_single_byte : DecodedLength
+decoded_length_single_byte = of_bytes (line 1 0) (line 3 0) (line 3 0)
+
+abbrev pub decoded_length_multibyte : DecodedLength
+decoded_length_multibyte = of_bytes (line 1 1) (line 3 1) (line 3 1)
+
+abbrev pub decoded_length_utf16 : DecodedLength
+decoded_length_utf16 = record { in_pairs = true; units = line 1 1; bytes = line 3 1; replaced = line 3 1 }
+
+abbrev pub decoded_length_replacement : DecodedLength
+decoded_length_replacement = of_bytes (line 0 1) (line 0 3) (line 0 3)

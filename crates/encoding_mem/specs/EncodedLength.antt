@@ -1,0 +1,36 @@
+-- Room that is enough for what a text is encoded to.
+use Rattle.std.specs.Prelude.{ℕ, ◌+◌, ◌*◌, ◌≤◌, Bool, if◌then◌else◌, length}
+use Rattle.encoding_mem.specs.Coding.{Coding, bytes}
+use Rattle.encoding_mem.specs.DecodedLength.{cost_in, line}
+use Rattle.encoding_mem.specs.declared.form.EscapeState.{EscapeState}
+use Rattle.encoding_mem.specs.declared.form.EscapeState.TheVariants.{Ascii}
+use Rattle.encoding_mem.specs.declared.room.Bound.{Bound}
+use Rattle.encoding_mem.specs.declared.room.EncodedLength.{EncodedLength}
+
+abbrev pub bound_for : EncodedLength → (is_units : Bool) → Bound
+bound_for room is_units = if is_units then room.units else room.bytes
+
+-- No character, with the escape before it, has more bytes than the factor for each of its units or bytes, and the last
+-- escape no more than what is added.
+pub record IsBoundFor (e : Coding) (is_units : Bool) (l : Bound) : Type 0 where
+  pub each : (s : EscapeState) (c : ℕ) → length (e.escape s (e.set s c)) + length (bytes (e.form c)) ≤ l.factor * cost_in is_units c
+  pub last : (s : EscapeState) → length (e.escape s Ascii) ≤ l.extra
+
+abbrev pub IsRoomFor : Coding → EncodedLength → Type 0
+IsRoomFor e room = (is_units : Bool) → IsBoundFor e is_units (bound_for room is_units)
+
+-- Of UTF-8; of the targets with one byte a character; of those with two; and of gb18030 and ISO-2022-JP.
+abbrev pub encoded_length_utf8 : EncodedLength
+encoded_length_utf8 = record { units = line 3 0; bytes = line 1 0 }
+
+abbrev pub encoded_length_single_byte : EncodedLength
+encoded_length_single_byte = record { units = line 1 0; bytes = line 1 0 }
+
+abbrev pub encoded_length_two_byte : EncodedLength
+encoded_length_two_byte = record { units = line 2 0; bytes = line 1 1 }
+
+abbrev pub encoded_length_gb18030 : EncodedLength
+encoded_length_gb18030 = record { units = line 4 0; bytes = line 2 2 }
+
+abbrev pub encoded_length_iso_2022_jp : EncodedLength
+encoded_length_iso_2022_jp = record { units = line 5 3; bytes = line 4 3 }

@@ -1,0 +1,35 @@
+-- What a call of the encoding driver leaves, beside the law of a call.
+use Rattle.std.specs.Prelude.{◌≡◌, ℕ, ◌<◌, List, [], ◌∷◌, ◌++◌, length, drop, ◌⊎◌}
+use Rattle.std.specs.Str.{IsAscii}
+use Rattle.encoding_mem.specs.Coding.{Coding, bytes}
+use Rattle.encoding_mem.specs.declared.form.Form.TheVariants.{Mapped}
+use Rattle.encoding_mem.specs.declared.form.EscapeState.{EscapeState}
+use Rattle.encoding_mem.specs.declared.form.EscapeState.TheVariants.{Ascii}
+use Rattle.encoding_mem.specs.declared.encoder_result.EncoderResult.{EncoderResult}
+use Rattle.encoding_mem.specs.declared.encoder_result.EncoderResult.TheVariants.{InputEmpty, OutputFull, Unmappable}
+
+-- the text from an offset of a list on
+abbrev pub left : (List ℕ → List ℕ) → List ℕ → ℕ → List ℕ
+left text all offset = text (drop offset all)
+
+-- in this set each ASCII character is its own byte, and the set stays
+abbrev pub CopiesAscii : Coding → EscapeState → Type 0
+CopiesAscii e s = (c : ℕ) → c < 0x80 → (e.set s c ≡ s) × (e.form c ≡ Mapped (c ∷ []))
+
+-- a run of ASCII was taken from the text and put behind what was written
+pub record IsRun (text rest written written' : List ℕ) : Type 0 where
+  pub run : List ℕ
+  pub ascii : IsAscii run
+  pub taken : text ≡ run ++ rest
+  pub put : written' ≡ written ++ run
+
+-- A call leaves the set as it was, as some scalar chose it, or ASCII.
+abbrev pub Moves : Coding → EscapeState → EscapeState → Type 0
+Moves e s s' = (s' ≡ s) ⊎ (((q : EscapeState) × (c : ℕ) × (s' ≡ e.set q c)) ⊎ (s' ≡ Ascii))
+
+-- At OutputFull what comes next does not fit: the escape, or the bytes where the set of the next scalar is in force.
+abbrev pub Tight : Coding → EncoderResult → EscapeState → List ℕ → ℕ → Type 0
+Tight e InputEmpty s rest room = Unit {0}
+Tight e (Unmappable c) s rest room = Unit {0}
+Tight e OutputFull s [] room = room < length (e.escape s Ascii)
+Tight e OutputFull s (c ∷ rest) room = (room < length (e.escape s (e.set s c))) ⊎ ((e.set s c ≡ s) × (room < length (bytes (e.form c))))

@@ -1,0 +1,75 @@
+ghost use Rattle.std.specs.Prelude.{◌≡◌, ℕ, ◌<◌, ◌≤◌, ◌+◌, ◌++◌, List, [], length, take};
+ghost use Rattle.std.specs.Str.{chars};
+ghost use Rattle.encoding_mem.specs.Piece.{Piece, sizes, ArePieces};
+ghost use Rattle.encoding_mem.specs.DecoderRule.{TellsFirstPiece, HasRoomFor};
+ghost use Rattle.encoding_mem.specs.DecodedLength.{is_units, decoded_length};
+ghost use Rattle.encoding_mem.specs.Text.{text_len, text_pieces};
+ghost use Rattle.encoding_mem.specs.declared.room.OutputUnit.{OutputUnit};
+ghost use Rattle.encoding_mem.specs.declared.room.DecodedLength.{DecodedLength};
+
+use crate::room::DecodedLength;
+
+/// What stands at the start of some bytes, each with its length in bytes.
+#[derive(Clone, Copy)]
+pub enum FirstPiece {
+    /// The bytes that are here do not decide it: more bytes are wanted.
+    More,
+    /// Bytes that give one character.
+    One(char, usize),
+    /// Bytes that give two characters, each below U+0800.
+    Two(char, char, usize),
+    /// Bytes that give no character, as an escape does.
+    Ignored(usize),
+    /// Bytes that are malformed, at most 4.
+    Malformed(usize),
+}
+
+/// The rule of a codec: what the first piece of some bytes is. How a call cuts, waits, writes and stops
+/// is the driver's.
+pub trait DecoderRule {
+    /// The pieces of bytes from a state, where the list's end is the end of the input.
+    ghost pieces: { Self → List ℕ → List Piece };
+
+    ghost whole: { (s : Self) (x : List ℕ) → sizes (pieces s x) ≡ length x };
+
+    ghost are_pieces: { (s : Self) (x : List ℕ) → ArePieces (pieces s x) };
+
+    ghost ends: { (s : Self) → pieces s [] ≡ [] };
+
+    /// The most room that a call wants free for so many bytes, in each count.
+    ghost needs: { Self → OutputUnit → ℕ → ℕ };
+
+    /// What the length queries return.
+    ghost limits: { Self → DecodedLength };
+
+    ghost covers: { (s : Self) (k : OutputUnit) (n : ℕ) → needs s k n ≤ decoded_length (limits s) k n };
+
+    /// The state after the first piece of bytes.
+    ghost after: { Self → List ℕ → Self };
+
+    ghost steady: { (s : Self) (x : List ℕ) → limits (after s x) ≡ limits s };
+
+    /// The first piece of these bytes, which go on unless they are the last.
+    fn first_piece(&self, bytes: &[u8], last: bool) -> FirstPiece
+        requires { 0 < length bytes.now }
+        ensures piece { TellsFirstPiece (pieces self.now) (pieces (after self.now bytes.now)) bytes.now last result }
+        ensures room { HasRoomFor (needs self.now) (needs (after self.now bytes.now)) (length bytes.now) last result };
+
+    /// Goes past the first piece of these bytes.
+    fn pass(&mut self, bytes: &[u8])
+        requires { 0 < length bytes.now }
+        ensures { self.new ≡ after self.old bytes.now };
+
+    /// The text at the start of these bytes that can be copied as it is, whatever follows, and
+    /// leaves the state as it is. It may be empty: then `first_piece` says what is there.
+    fn text_at<'b>(&self, bytes: &'b [u8]) -> &'b str
+        ensures prefix { result.now ≡ take (length result.now) bytes.now }
+        ensures pieces { (r : List ℕ) → pieces self.now (result.now ++ r)
+            ≡ text_pieces (chars result.now) ++ pieces self.now r }
+        ensures room { (k : OutputUnit) (m : ℕ) → text_len (is_units k) result.now + needs self.now k m
+            ≤ needs self.now k (length result.now + m) };
+
+    /// The room that is enough.
+    fn room(&self) -> DecodedLength
+        ensures { result ≡ limits self.now };
+}

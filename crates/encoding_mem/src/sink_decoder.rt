@@ -1,0 +1,145 @@
+ghost use Rattle.std.specs.Prelude.{◌≡◌, ℕ, ◌<◌, ◌≤◌, ◌+◌, ◌-◌, [], length, drop, encode_utf8_all};
+ghost use Rattle.encoding_mem.specs.Decoding.{DecoderState, StateLaw, EndsWith};
+ghost use Rattle.encoding_mem.specs.Driver.{IsNear, Suffices, buffered};
+ghost use Rattle.encoding_mem.specs.DecodedLength.{queried};
+
+use crate::decoder_result::DecoderResult;
+use crate::driver::decode;
+use crate::first_piece::DecoderRule;
+use crate::pending::Pending;
+use crate::raw_decoder::RawDecoder;
+use crate::room::{DecodedLength, OutputUnit};
+use crate::sink::Sink;
+use crate::utf8_sink::Utf8Sink;
+use crate::utf16_sink::Utf16Sink;
+
+/// A decoder that writes into any destination. Each is a `RawDecoder`.
+pub trait SinkDecoder {
+    ghost state: { Self → DecoderState };
+
+    /// Decodes bytes, and returns how the call ended and the bytes read.
+    fn decode_into<S: Sink>(
+        &mut self,
+        src: &[u8],
+        sink: &mut S,
+        last: bool,
+    ) -> (DecoderResult, usize)
+        ensures law { StateLaw (state self.old) (state self.new) src.now last result.1
+            (λ text. S.writes sink.old text sink.new) result.0 }
+        ensures ends { EndsWith (state self.new) (drop result.1 src.now) last
+            (S.free sink.new) S.room (S.cost 0xFFFD) result.0 }
+        ensures enough { Suffices (state self.old).needs (state self.new).needs S.is_units last
+            (length src.now) (length src.now - result.1) (S.free sink.old) (S.free sink.new) result.0 }
+        ensures limits { (state self.new).room ≡ (state self.old).room };
+
+    /// How many bytes are read whose piece is not decided.
+    fn held_len(&self) -> usize
+        ensures { result ≡ (state self.now).pending };
+
+    /// The room that is enough.
+    fn room(&self) -> DecodedLength
+        ensures { result ≡ (state self.now).room };
+}
+
+// The room that is enough for the text of what is pending and of `n` more bytes.
+fn room_for<D: SinkDecoder>(decoder: &D, count: OutputUnit, n: usize) -> Option<usize>
+    ensures { result ≡ queried (D.state decoder.now).room count ((D.state decoder.now).pending + n) }
+{
+    decoder.room().query(count, decoder.held_len(), n)
+}
+
+impl<D: SinkDecoder> RawDecoder for D {
+    ghost state = { D.state };
+
+    fn decode_to_utf8_raw(
+        &mut self,
+        src: &[u8],
+        dst: &mut [u8],
+        last: bool,
+    ) -> (DecoderResult, usize, usize) {
+        let mut sink = Utf8Sink::new(dst);
+        let (outcome, read) = self.decode_into(src, &mut sink, last);
+        let written = sink.written();
+        (outcome, read, written)
+    }
+
+    fn decode_to_utf16_raw(
+        &mut self,
+        src: &[u8],
+        dst: &mut [u16],
+        last: bool,
+    ) -> (DecoderResult, usize, usize) {
+        let mut sink = Utf16Sink::new(dst);
+        let (outcome, read) = self.decode_into(src, &mut sink, last);
+        let written = sink.written();
+        (outcome, read, written)
+    }
+
+    fn max_utf16_buffer_length(&self, n: usize) -> Option<usize> {
+        room_for(self, OutputUnit::Units, n)
+    }
+
+    fn max_utf8_buffer_length_without_replacement(&self, n: usize) -> Option<usize> {
+        room_for(self, OutputUnit::Bytes, n)
+    }
+
+    fn max_utf8_buffer_length(&self, n: usize) -> Option<usize> {
+        room_for(self, OutputUnit::Replaced, n)
+    }
+
+    fn pending_len(&self) -> usize {
+        self.held_len()
+    }
+}
+
+/// A rule, with what is pending: the decoder that a rule makes.
+#[derive(Drop)]
+pub struct Buffered<F: DecoderRule> {
+    rule: F,
+    pending: Pending,
+    ghost short: { length pending < 7 },
+    ghost near: { IsNear (F.pieces rule) pending },
+}
+
+impl<F: DecoderRule> Buffered<F> {
+    /// Nothing is pending.
+    pub fn new(rule: F) -> Self
+        ensures rule { result.rule ≡ rule }
+        ensures pending { result.pending ≡ [] }
+    {
+        Buffered {
+            rule,
+            pending: Pending::new(),
+        }
+    }
+
+    /// The rule, as it is now.
+    pub fn rule(&self) -> &F
+        ensures { result.now ≡ self.now.rule }
+    {
+        &self.rule
+    }
+}
+
+impl<F: DecoderRule> SinkDecoder for Buffered<F> {
+    ghost state = { λ d. buffered (F.pieces d.rule) (F.whole d.rule) (F.are_pieces d.rule)
+        (F.needs d.rule) (F.limits d.rule) (F.covers d.rule) d.pending };
+
+    #[inline(always)]
+    fn decode_into<S: Sink>(
+        &mut self,
+        src: &[u8],
+        sink: &mut S,
+        last: bool,
+    ) -> (DecoderResult, usize) {
+        decode(&mut self.rule, &mut self.pending, src, sink, last)
+    }
+
+    fn held_len(&self) -> usize {
+        self.pending.len()
+    }
+
+    fn room(&self) -> DecodedLength {
+        self.rule.room()
+    }
+}

@@ -1,0 +1,339 @@
+-- What the pieces that a call took stand for. What a call of a decoder took, in words of the text that it wrote. W
+-- says which text was written.
+use Rattle.std.proofs.Common.{◌≡◌, ℕ, suc, ◌+◌, ◌≤◌, Bool, true, false, ◌&&◌, List, [], ◌∷◌, ◌++◌, map, length, refl, sym, ◌∙◌, ap, arith, append_assoc, append-nil, length-append, add-zero, ◌-◌, ◌<◌, drop, subst, ◌⊎◌, inl, inr}
+use lib.Utf8.{scalar}
+use Rattle.std.proofs.lemmas.Bool.{false≢true}
+use Rattle.std.specs.Str.{chars, all_scalars}
+use Rattle.encoding_mem.specs.Piece.{Piece, well_formed, malformed, scalars_of, sizes, scalars, AreWellFormed, ArePieces, piece_len}
+use Rattle.encoding_mem.specs.Coding.{Coding, last_set, IsCoding}
+use Rattle.encoding_mem.specs.Items.{Item, Byte, MalformedAt, open_items, whole_items, closing, trace_from}
+use Rattle.encoding_mem.specs.declared.form.EscapeState.{EscapeState}
+use Rattle.encoding_mem.specs.Decoding.{DecoderState, Takes, StateLaw}
+use Rattle.encoding_mem.specs.declared.form.EscapeState.TheVariants.{Ascii}
+use Rattle.encoding_mem.specs.declared.decoder_result.DecoderResult.{DecoderResult}
+use Rattle.encoding_mem.specs.declared.decoder_result.DecoderResult.TheVariants.{InputEmpty, OutputFull, Malformed}
+use Rattle.recode.specs.TraceToWrite.{trace_to_write, AreSound}
+use Rattle.recode.specs.declared.counts.Counts.{Counts}
+
+-- of texts in a row
+pub open_items-append : (e : Coding) (s : EscapeState) (i : ℕ) (a b : List ℕ) → open_items e s i (a ++ b) ≡ open_items e s i a ++ open_items e (last_set e s a) (i + length a) b
+open_items-append e s i [] b = ap (λ (n : ℕ). open_items e s n b) (sym (add-zero i))
+open_items-append e s i (c ∷ a) b =
+    let same : i + 1 + length a ≡ i + suc (length a) = omega arith in
+    let rest = open_items e (last_set e (e.set s c) a) (i + suc (length a)) b in
+    ap (λ x. map Byte (e.escape s (e.set s c)) ++ (Rattle.encoding_mem.specs.Items.form_items i (e.form c) ++ x))
+    (open_items-append e (e.set s c) (i + 1) a b ∙ ap (λ (n : ℕ). open_items e (e.set s c) (i + 1) a ++ open_items e (last_set e (e.set s c) a) n b) same)
+    ∙ ap (λ x. map Byte (e.escape s (e.set s c)) ++ x) (sym (append_assoc (Rattle.encoding_mem.specs.Items.form_items i (e.form c)) (open_items e (e.set s c) (i + 1) a) rest))
+    ∙ sym (append_assoc (map Byte (e.escape s (e.set s c))) (Rattle.encoding_mem.specs.Items.form_items i (e.form c) ++ open_items e (e.set s c) (i + 1) a) rest)
+
+pub last_set-append : (e : Coding) (s : EscapeState) (a b : List ℕ) → last_set e s (a ++ b) ≡ last_set e (last_set e s a) b
+last_set-append e s [] b = refl
+last_set-append e s (c ∷ a) b = last_set-append e (e.set s c) a b
+
+-- of well-formed pieces, and then others
+pub trace_well_formed : (e : Coding) (s : EscapeState) (offset i : ℕ) (ps qs : List Piece) → AreWellFormed ps
+    → trace_from e s offset i (ps ++ qs) ≡ open_items e s i (scalars ps) ++ trace_from e (last_set e s (scalars ps)) (offset + sizes ps) (i + length (scalars ps)) qs
+trace_well_formed e s offset i [] qs h = ap (λ (n : ℕ). trace_from e s n i qs) (sym (add-zero offset)) ∙ ap (λ (n : ℕ). trace_from e s (offset + 0) n qs) (sym (add-zero i))
+trace_well_formed e s offset i (well_formed n cs ∷ ps) qs h =
+    let t = scalars ps in
+    let at : offset + n + sizes ps ≡ offset + (n + sizes ps) = omega arith in
+    let index : i + length cs + length t ≡ i + length (cs ++ t) = omega (arith, length-append cs t) in
+    let rest = trace_from e (last_set e s (cs ++ t)) (offset + (n + sizes ps)) (i + length (cs ++ t)) qs in
+    ap (λ x. open_items e s i cs ++ x)
+    (trace_well_formed e (last_set e s cs) (offset + n) (i + length cs) ps qs h.1
+    ∙ ap (λ (q : EscapeState). open_items e (last_set e s cs) (i + length cs) t ++ trace_from e q (offset + n + sizes ps) (i + length cs + length t) qs) (sym (last_set-append e s cs t))
+    ∙ ap (λ (k : ℕ). open_items e (last_set e s cs) (i + length cs) t ++ trace_from e (last_set e s (cs ++ t)) k (i + length cs + length t) qs) at
+    ∙ ap (λ (k : ℕ). open_items e (last_set e s cs) (i + length cs) t ++ trace_from e (last_set e s (cs ++ t)) (offset + (n + sizes ps)) k qs) index)
+    ∙ sym (append_assoc (open_items e s i cs) (open_items e (last_set e s cs) (i + length cs) t) rest)
+    ∙ ap (λ x. x ++ rest) (sym (open_items-append e s i cs t))
+trace_well_formed e s offset i (malformed n ∷ ps) qs h = absurd h.0
+
+-- What pieces keep.
+pub prefix_pieces : (ps qs : List Piece) → ArePieces (ps ++ qs) → ArePieces ps
+prefix_pieces [] qs h = tt
+prefix_pieces (p ∷ ps) qs h = (h.0, prefix_pieces ps qs h.1)
+
+pub few_scalars : (ps : List Piece) → ArePieces ps → AreWellFormed ps → length (scalars ps) ≤ sizes ps
+few_scalars [] h k = omega arith
+few_scalars (well_formed n cs ∷ ps) h k = omega (arith, h.0.few, few_scalars ps h.1 k.1, length-append cs (scalars ps))
+few_scalars (malformed n ∷ ps) h k = absurd k.0
+
+both_true : (x y : Bool) → (x && y) ≡ true → (x ≡ true) × (y ≡ true)
+both_true true y h = (refl, h)
+both_true false y h = (h, absurd (false≢true h))
+
+all_scalars-append : (a b : List ℕ) → all_scalars a ≡ true → all_scalars b ≡ true → all_scalars (a ++ b) ≡ true
+all_scalars-append [] b h k = k
+all_scalars-append (c ∷ a) b h k =
+    let parts = both_true (scalar c) (all_scalars a) h in
+    ap (λ y. y && all_scalars (a ++ b)) parts.0 ∙ all_scalars-append a b parts.1 k
+
+pub scalars_are : (ps : List Piece) → ArePieces ps → all_scalars (scalars ps) ≡ true
+scalars_are [] h = refl
+scalars_are (p ∷ ps) h = all_scalars-append (scalars_of p) (scalars ps) h.0.are_scalars (scalars_are ps h.1)
+
+pub sizes-append : (a b : List Piece) → sizes (a ++ b) ≡ sizes a + sizes b
+sizes-append [] b = omega arith
+sizes-append (p ∷ a) b = omega (arith, sizes-append a b)
+
+pub scalars-append : (a b : List Piece) → scalars (a ++ b) ≡ scalars a ++ scalars b
+scalars-append [] b = refl
+scalars-append (p ∷ a) b = ap (λ x. scalars_of p ++ x) (scalars-append a b) ∙ sym (append_assoc (scalars_of p) (scalars a) (scalars b))
+
+-- U+FFFD
+pub replacement_text : chars (239 ∷ 191 ∷ 189 ∷ []) ≡ 0xFFFD ∷ []
+unfolding chars
+replacement_text = refl
+
+pub open_replacement : (e : Coding) (s : EscapeState) (i : ℕ) → open_items e s i (0xFFFD ∷ []) ≡ whole_items e false s i (chars (239 ∷ 191 ∷ 189 ∷ []))
+open_replacement e s i = rw replacement_text (sym (append-nil (open_items e s i (0xFFFD ∷ []))))
+
+-- What a call of a decoder took, in words of the text that it wrote. W says which text was written.
+
+-- a call that met no malformed sequence
+pub record WellFormedCall (before after : DecoderState) (src : List ℕ) (last : Bool) (read : ℕ) (t : List ℕ) : Type 0 where
+  pub taken : List Piece
+  pub fine : AreWellFormed taken
+  pub text_is : t ≡ scalars taken
+  pub within : read ≤ length src
+  pub fits : length t ≤ sizes taken
+  pub counted : before.pending + read ≡ sizes taken + after.pending
+  pub rest : (r : List ℕ) → (last ≡ true → r ≡ []) → before.pieces (src ++ r) ≡ taken ++ after.pieces (drop read src ++ r)
+
+-- a call that met one, of a bytes
+pub record MalformedCall (before after : DecoderState) (src : List ℕ) (last : Bool) (read a b : ℕ) (t : List ℕ) : Type 0 where
+  pub prefix : List Piece
+  pub fine : AreWellFormed prefix
+  pub text_is : t ≡ scalars prefix
+  pub within : read ≤ length src
+  pub fits : length t ≤ sizes prefix
+  pub some : 1 ≤ a
+  pub few : a ≤ 4
+  pub counted : before.pending + read ≡ sizes prefix + a + b
+  pub pending : after.pending ≡ b
+  pub rest : (r : List ℕ) → (last ≡ true → r ≡ []) → before.pieces (src ++ r) ≡ prefix ++ (malformed a ∷ after.pieces (drop read src ++ r))
+
+are_taken : {WellFormed : List Piece → Type 0} (before after : DecoderState) (src : List ℕ) (last : Bool) (read : ℕ) {W : List ℕ → Type 0} (k : Takes WellFormed before.pieces after.pieces src last before.pending after.pending read W) → ArePieces k.taken
+are_taken before after src last read k = prefix_pieces k.taken (after.pieces (drop read src ++ [])) (subst ArePieces (k.rest [] (λ _. refl)) (before.are_pieces (src ++ [])))
+
+-- whatever text was written is this one
+abbrev pub IsText : (List ℕ → Type 0) → List ℕ → Type 0
+IsText W text = (t : List ℕ) → all_scalars t ≡ true → W t → text ≡ t
+
+-- some text was written
+pub some_written : (before after : DecoderState) (src : List ℕ) (last : Bool) (read : ℕ) (W : List ℕ → Type 0) (outcome : DecoderResult)
+    → StateLaw before after src last read W outcome → (t : List ℕ) × (all_scalars t ≡ true) × W t
+some_written before after src last read W outcome k = (scalars k.taken, scalars_are k.taken (are_taken before after src last read k), k.writes)
+
+well_formed_call : (before after : DecoderState) (src : List ℕ) (last : Bool) (read : ℕ) (W : List ℕ → Type 0) (text : List ℕ)
+    → Takes AreWellFormed before.pieces after.pieces src last before.pending after.pending read W → IsText W text → WellFormedCall before after src last read text
+well_formed_call before after src last read W text k e =
+    let are = are_taken before after src last read k in
+    let is : text ≡ scalars k.taken = e (scalars k.taken) (scalars_are k.taken are) k.writes in
+    record {
+      taken = k.taken;
+      fine = k.well_formed;
+      text_is = is;
+      within = k.within;
+      fits = omega (arith, ap length is, few_scalars k.taken are k.well_formed);
+      counted = k.counted;
+      rest = k.rest;
+    }
+
+pub empty_call : (before after : DecoderState) (src : List ℕ) (last : Bool) (read : ℕ) (W : List ℕ → Type 0) (text : List ℕ)
+    → StateLaw before after src last read W InputEmpty → IsText W text → WellFormedCall before after src last read text
+empty_call before after src last read W text k e =
+    well_formed_call before after src last read W text (record { taken = k.taken; well_formed = k.well_formed; within = k.within; counted = k.counted; writes = k.writes; rest = k.rest }) e
+
+-- the end of the input leaves no piece
+pub end_none : {A P B : Type 0} (last : Bool) → (A × P) ⊎ ((last ≡ false) × B) → last ≡ true → P
+end_none last (inl h) e = h.1
+end_none last (inr h) e = absurd (false≢true (sym h.0 ∙ e))
+
+pub full_some : (before after : DecoderState) (src : List ℕ) (last : Bool) (read : ℕ) (W : List ℕ → Type 0) (text : List ℕ) (outcome : DecoderResult)
+    → StateLaw before after src last read W outcome → IsText W text → ((t : List ℕ) → W t → 0 < length t) → 0 < length text
+full_some before after src last read W text outcome k e some =
+    omega (arith, ap length (e (scalars k.taken) (scalars_are k.taken (are_taken before after src last read k)) k.writes), some (scalars k.taken) k.writes)
+
+pub full_call : (before after : DecoderState) (src : List ℕ) (last : Bool) (read : ℕ) (W : List ℕ → Type 0) (text : List ℕ)
+    → StateLaw before after src last read W OutputFull → IsText W text → WellFormedCall before after src last read text
+full_call before after src last read W text k e =
+    well_formed_call before after src last read W text (record { taken = k.taken; well_formed = k.well_formed; within = k.within; counted = k.counted; writes = k.writes; rest = k.rest }) e
+
+-- the last of some pieces
+last_piece : (ps : List Piece) (p : Piece) → ArePieces (ps ++ p ∷ []) → Rattle.encoding_mem.specs.Piece.IsPiece p
+last_piece [] p h = h.0
+last_piece (q ∷ ps) p h = last_piece ps p h.1
+
+pub malformed_call : (before after : DecoderState) (src : List ℕ) (last : Bool) (read a b : ℕ) (W : List ℕ → Type 0) (text : List ℕ)
+    → StateLaw before after src last read W (Malformed a b) → IsText W text → MalformedCall before after src last read a b text
+malformed_call before after src last read a b W text k e =
+    let are = are_taken before after src last read k in
+    let prefix : List Piece = k.well_formed.4.0 in
+    let fine : AreWellFormed prefix = k.well_formed.4.1 in
+    let cut : k.taken ≡ prefix ++ (malformed a ∷ []) = k.well_formed.4.2 in
+    let are_cut : ArePieces (prefix ++ (malformed a ∷ [])) = subst ArePieces cut are in
+    let is : text ≡ scalars prefix =
+    e (scalars k.taken) (scalars_are k.taken are) k.writes ∙ ap scalars cut ∙ scalars-append prefix (malformed a ∷ []) ∙ append-nil (scalars prefix) in
+    record {
+      prefix = prefix;
+      fine = fine;
+      text_is = is;
+      within = k.within;
+      fits = omega (arith, ap length is, few_scalars prefix (prefix_pieces prefix (malformed a ∷ []) are_cut) fine);
+      some = (last_piece prefix (malformed a) are_cut).some;
+      few = k.well_formed.1;
+      counted = omega (arith, k.counted, ap sizes cut, sizes-append prefix (malformed a ∷ []), k.well_formed.0);
+      pending = k.well_formed.0;
+      rest = λ r h. k.rest r h ∙ ap (λ ps. ps ++ after.pieces (drop read src ++ r)) cut ∙ append_assoc prefix (malformed a ∷ []) (after.pieces (drop read src ++ r));
+    }
+
+module _ (before after : DecoderState) (src : List ℕ) (last : Bool) (read : ℕ) (t : List ℕ) (k : WellFormedCall before after src last read t) where
+  -- not more characters than bytes
+  pub well_formed_fits : (c : Counts) → AreSound before.pending c → c.index + length t + after.pending ≤ c.read + read
+  well_formed_fits c h = omega (arith, h.index, k.counted, k.fits)
+
+  pub well_formed_sound : (c c' : Counts) → AreSound before.pending c → c'.index ≡ c.index + length t → c'.read ≡ c.read + read → c'.bad ≤ c'.index → c'.lost ≤ c'.index → AreSound after.pending c'
+  well_formed_sound c c' h i r b l = record { index = omega (arith, well_formed_fits c h, i, r); bad = b; lost = l }
+
+  -- what was still to be written is the text, and what is still to be written now
+  well_formed_owed : (e : Coding) (s s' : EscapeState) (c c' : Counts) → before.pending ≤ c.read → s' ≡ last_set e s t → c'.index ≡ c.index + length t → c'.read ≡ c.read + read
+      → (r : List ℕ) → (last ≡ true → r ≡ []) → trace_to_write before e s c (src ++ r) ≡ whole_items e false s c.index t ++ trace_to_write after e s' c' (drop read src ++ r)
+  well_formed_owed e s s' c c' fits set_is index_is read_is r h =
+      let rest = after.pieces (drop read src ++ r) in
+      let at = c.read - before.pending in
+      let offset_equals : at + sizes k.taken ≡ c'.read - after.pending = omega (arith, k.counted, fits, read_is) in
+      ap (trace_from e s at c.index) (k.rest r h)
+      ∙ trace_well_formed e s at c.index k.taken rest k.fine
+      ∙ ap (λ (x : List ℕ). open_items e s c.index x ++ trace_from e (last_set e s x) (at + sizes k.taken) (c.index + length x) rest) (sym k.text_is)
+      ∙ ap (λ (q : EscapeState). open_items e s c.index t ++ trace_from e q (at + sizes k.taken) (c.index + length t) rest) (sym set_is)
+      ∙ ap (λ (n : ℕ). open_items e s c.index t ++ trace_from e s' n (c.index + length t) rest) offset_equals
+      ∙ ap (λ (n : ℕ). open_items e s c.index t ++ trace_from e s' (c'.read - after.pending) n rest) (sym index_is)
+      ∙ ap (λ x. x ++ trace_to_write after e s' c' (drop read src ++ r)) (sym (append-nil (open_items e s c.index t)))
+
+  -- how many pieces are left
+  well_formed_left : 0 < length k.taken → length (after.pieces (drop read src)) < length (before.pieces src)
+  well_formed_left some =
+      let e : before.pieces src ≡ k.taken ++ after.pieces (drop read src) =
+      ap before.pieces (sym (append-nil src)) ∙ k.rest [] (λ _. refl) ∙ ap (λ x. k.taken ++ after.pieces x) (append-nil (drop read src)) in
+      omega (arith, ap length e, length-append k.taken (after.pieces (drop read src)), some)
+
+-- at the end nothing is still to be written
+pub none_owed : {need : ℕ} (after : DecoderState) (e : Coding) (s : EscapeState) (c : Counts) → IsCoding need e → s ≡ Ascii → after.pieces [] ≡ [] → trace_to_write after e s c [] ≡ []
+none_owed after e s c law set_is none =
+    ap (trace_from e s (c.read - after.pending) c.index) none ∙ ap (closing e) set_is ∙ ap (map Byte) (law.same Ascii)
+
+at_end : {need : ℕ} (before after : DecoderState) (src : List ℕ) (read : ℕ) (t : List ℕ) (k : WellFormedCall before after src true read t)
+    (e : Coding) (s s' : EscapeState) (c c' : Counts) → IsCoding need e → drop read src ≡ [] → after.pieces [] ≡ [] → s' ≡ Ascii
+    → trace_to_write before e s c (src ++ []) ≡ whole_items e true s c.index t ++ trace_to_write after e s' c' []
+at_end before after src read t k e s s' c c' law all none set_is =
+    let at = c.read - before.pending in
+    ap (trace_from e s at c.index) (k.rest [] (λ _. refl))
+    ∙ ap (λ x. trace_from e s at c.index (k.taken ++ x)) (ap (λ x. after.pieces (x ++ [])) all ∙ none)
+    ∙ trace_well_formed e s at c.index k.taken [] k.fine
+    ∙ ap (λ (x : List ℕ). open_items e s c.index x ++ closing e (last_set e s x)) (sym k.text_is)
+    ∙ sym (append-nil (whole_items e true s c.index t))
+    ∙ ap (λ x. whole_items e true s c.index t ++ x) (sym (none_owed after e s' c' law set_is none))
+
+-- what a call still to be written that read all
+pub ended_owed : {need : ℕ} (before after : DecoderState) (src : List ℕ) (last : Bool) (read : ℕ) (t : List ℕ) (k : WellFormedCall before after src last read t)
+    (e : Coding) (s s' : EscapeState) (c c' : Counts) → IsCoding need e → before.pending ≤ c.read → drop read src ≡ [] → (last ≡ true → after.pieces [] ≡ [])
+    → (last ≡ false → s' ≡ last_set e s t) → (last ≡ true → s' ≡ Ascii)
+    → c'.index ≡ c.index + length t → c'.read ≡ c.read + read
+    → (r : List ℕ) → (last ≡ true → r ≡ []) → trace_to_write before e s c (src ++ r) ≡ whole_items e last s c.index t ++ trace_to_write after e s' c' (drop read src ++ r)
+ended_owed before after src false read t k e s s' c c' law fits all none set_is ascii index_is read_is r h =
+    well_formed_owed before after src false read t k e s s' c c' fits (set_is refl) index_is read_is r h
+ended_owed before after src true read t k e s s' c c' law fits all none set_is ascii index_is read_is r h =
+    ap (λ x. trace_to_write before e s c (src ++ x)) (h refl)
+    ∙ at_end before after src read t k e s s' c c' law all (none refl) (ascii refl)
+    ∙ ap (λ x. whole_items e true s c.index t ++ trace_to_write after e s' c' x) (sym (ap (λ x. x ++ r) all ∙ h refl))
+
+-- the first part of what a call still to be written that failed while it wrote
+pub ended_prefix : (before after : DecoderState) (src : List ℕ) (last : Bool) (read : ℕ) (t : List ℕ) (k : WellFormedCall before after src last read t)
+    (e : Coding) (s : EscapeState) (c : Counts) → before.pending ≤ c.read → drop read src ≡ [] → (last ≡ true → after.pieces [] ≡ [])
+    → (r : List ℕ) → (last ≡ true → r ≡ []) → (rest : List Item) × (trace_to_write before e s c (src ++ r) ≡ whole_items e last s c.index t ++ rest)
+ended_prefix before after src false read t k e s c fits all none r h = (
+  trace_to_write after e (last_set e s t) (record c { read = c.read + read; index = c.index + length t }) (drop read src ++ r),
+  well_formed_owed before after src false read t k e s (last_set e s t) c (record c { read = c.read + read; index = c.index + length t }) fits refl refl refl r h,
+)
+ended_prefix before after src true read t k e s c fits all none r h =
+    let at = c.read - before.pending in (
+      [],
+      ap (λ x. trace_to_write before e s c (src ++ x)) (h refl)
+          ∙ ap (trace_from e s at c.index) (k.rest [] (λ _. refl))
+          ∙ ap (λ x. trace_from e s at c.index (k.taken ++ x)) (ap (λ x. after.pieces (x ++ [])) all ∙ none refl)
+          ∙ trace_well_formed e s at c.index k.taken [] k.fine
+          ∙ ap (λ (x : List ℕ). open_items e s c.index x ++ closing e (last_set e s x)) (sym k.text_is)
+          ∙ sym (append-nil (whole_items e true s c.index t)),
+    )
+
+pub full_owed : (before after : DecoderState) (src : List ℕ) (last : Bool) (read : ℕ) (t : List ℕ) (k : WellFormedCall before after src last read t)
+    (e : Coding) (s s' : EscapeState) (c c' : Counts) → before.pending ≤ c.read → s' ≡ last_set e s t → c'.index ≡ c.index + length t → c'.read ≡ c.read + read
+    → (r : List ℕ) → (last ≡ true → r ≡ []) → trace_to_write before e s c (src ++ r) ≡ whole_items e false s c.index t ++ trace_to_write after e s' c' (drop read src ++ r)
+full_owed before after src last read t k = well_formed_owed before after src last read t k
+
+some_taken : (ps : List Piece) → 0 < length (scalars ps) → 0 < length ps
+some_taken [] h = h
+some_taken (p ∷ ps) h = omega arith
+
+-- some text was written
+pub full_left : (before after : DecoderState) (src : List ℕ) (last : Bool) (read : ℕ) (t : List ℕ) → WellFormedCall before after src last read t → 0 < length t → length (after.pieces (drop read src)) < length (before.pieces src)
+full_left before after src last read t k some = well_formed_left before after src last read t k (some_taken k.taken (omega (arith, some, ap length k.text_is)))
+
+module _ (before after : DecoderState) (src : List ℕ) (last : Bool) (read a b : ℕ) (t : List ℕ) (k : MalformedCall before after src last read a b t) where
+  pub malformed_fits : (c : Counts) → AreSound before.pending c → c.index + length t + 1 + after.pending ≤ c.read + read
+  malformed_fits c h = omega (arith, h.index, k.counted, k.fits, k.some, k.pending)
+
+  pub malformed_sound : (c c' : Counts) → AreSound before.pending c → c'.index ≡ c.index + length t + 1 → c'.read ≡ c.read + read → c'.bad ≤ c'.index → c'.lost ≤ c'.index → AreSound after.pending c'
+  malformed_sound c c' h i r x l = record { index = omega (arith, malformed_fits c h, i, r); bad = x; lost = l }
+
+  -- the bytes before the piece that was met
+  pub malformed_offset : (c : Counts) → AreSound before.pending c → a + b ≤ c.read + read
+  malformed_offset c h = omega (arith, h.index, k.counted)
+
+  malformed_is_first : (e : Coding) (s : EscapeState) (c : Counts) (offset : ℕ) → before.pending ≤ c.read → offset ≡ c.read + read - b - a
+      → (r : List ℕ) → (last ≡ true → r ≡ []) → trace_to_write before e s c (src ++ r) ≡ whole_items e false s c.index t ++ ((MalformedAt offset a ∷ open_items e (last_set e s t) (c.index + length t) (0xFFFD ∷ []))
+      ++ trace_from e (e.set (last_set e s t) 0xFFFD) (offset + a) (c.index + length t + 1) (after.pieces (drop read src ++ r)))
+  malformed_is_first e s c offset fits offset_is r h =
+      let rest = after.pieces (drop read src ++ r) in
+      let at = c.read - before.pending in
+      let offset_equals : at + sizes k.prefix ≡ offset = omega (arith, k.counted, fits, offset_is) in
+      ap (trace_from e s at c.index) (k.rest r h)
+      ∙ trace_well_formed e s at c.index k.prefix (malformed a ∷ rest) k.fine
+      ∙ ap (λ (x : List ℕ). open_items e s c.index x ++ trace_from e (last_set e s x) (at + sizes k.prefix) (c.index + length x) (malformed a ∷ rest)) (sym k.text_is)
+      ∙ ap (λ (n : ℕ). open_items e s c.index t ++ trace_from e (last_set e s t) n (c.index + length t) (malformed a ∷ rest)) offset_equals
+      ∙ ap (λ x. x ++ trace_from e (last_set e s t) offset (c.index + length t) (malformed a ∷ rest)) (sym (append-nil (open_items e s c.index t)))
+
+  -- what was still to be written is the text, the malformed sequence and what is still to be written now
+  pub malformed_owed : (e : Coding) (s s1 s' : EscapeState) (c c1 c' : Counts) (offset : ℕ) → before.pending ≤ c.read → offset ≡ c.read + read - b - a
+      → s1 ≡ last_set e s t → c1.index ≡ c.index + length t → s' ≡ e.set s1 0xFFFD → c'.index ≡ c1.index + 1 → c'.read ≡ c.read + read
+      → (r : List ℕ) → (last ≡ true → r ≡ []) → trace_to_write before e s c (src ++ r)
+      ≡ (whole_items e false s c.index t ++ (MalformedAt offset a ∷ open_items e s1 c1.index (0xFFFD ∷ []))) ++ trace_to_write after e s' c' (drop read src ++ r)
+  malformed_owed e s s1 s' c c1 c' offset fits offset_is set1_is index1_is set_is index_is read_is r h =
+      let rest = after.pieces (drop read src ++ r) in
+      let w = whole_items e false s c.index t in
+      let offset_equals : offset + a ≡ c'.read - after.pending = omega (arith, k.counted, k.pending, fits, offset_is, read_is) in
+      malformed_is_first e s c offset fits offset_is r h
+      ∙ ap (λ (q : EscapeState). w ++ ((MalformedAt offset a ∷ open_items e q (c.index + length t) (0xFFFD ∷ [])) ++ trace_from e (e.set q 0xFFFD) (offset + a) (c.index + length t + 1) rest)) (sym set1_is)
+      ∙ ap (λ (n : ℕ). w ++ ((MalformedAt offset a ∷ open_items e s1 n (0xFFFD ∷ [])) ++ trace_from e (e.set s1 0xFFFD) (offset + a) (n + 1) rest)) (sym index1_is)
+      ∙ ap (λ (q : EscapeState). w ++ ((MalformedAt offset a ∷ open_items e s1 c1.index (0xFFFD ∷ [])) ++ trace_from e q (offset + a) (c1.index + 1) rest)) (sym set_is)
+      ∙ ap (λ (n : ℕ). w ++ ((MalformedAt offset a ∷ open_items e s1 c1.index (0xFFFD ∷ [])) ++ trace_from e s' n (c1.index + 1) rest)) offset_equals
+      ∙ ap (λ (n : ℕ). w ++ ((MalformedAt offset a ∷ open_items e s1 c1.index (0xFFFD ∷ [])) ++ trace_from e s' (c'.read - after.pending) n rest)) (sym index_is)
+      ∙ sym (append_assoc w (MalformedAt offset a ∷ open_items e s1 c1.index (0xFFFD ∷ [])) (trace_to_write after e s' c' (drop read src ++ r)))
+
+  -- the parts of it, where a device failed
+  pub malformed_text_prefix : (e : Coding) (s : EscapeState) (c : Counts) → before.pending ≤ c.read → (r : List ℕ) → (last ≡ true → r ≡ []) → (rest : List Item) × (trace_to_write before e s c (src ++ r) ≡ whole_items e false s c.index t ++ rest)
+  malformed_text_prefix e s c fits r h = (_, malformed_is_first e s c (c.read + read - b - a) fits refl r h)
+
+  pub malformed_first_piece : (e : Coding) (s s1 : EscapeState) (c c1 : Counts) (offset : ℕ) → before.pending ≤ c.read → offset ≡ c.read + read - b - a → s1 ≡ last_set e s t → c1.index ≡ c.index + length t
+      → (r : List ℕ) → (last ≡ true → r ≡ []) → (rest : List Item) × (trace_to_write before e s c (src ++ r) ≡ (whole_items e false s c.index t ++ (MalformedAt offset a ∷ open_items e s1 c1.index (0xFFFD ∷ []))) ++ rest)
+  malformed_first_piece e s s1 c c1 offset fits offset_is set1_is index1_is r h = (
+    trace_to_write after e (e.set s1 0xFFFD) (record c { read = c.read + read; index = c1.index + 1 }) (drop read src ++ r),
+    malformed_owed e s s1 (e.set s1 0xFFFD) c c1 (record c { read = c.read + read; index = c1.index + 1 }) offset fits offset_is set1_is index1_is refl refl refl r h,
+  )
+
+  pub malformed_left : length (after.pieces (drop read src)) < length (before.pieces src)
+  malformed_left =
+      let e : before.pieces src ≡ k.prefix ++ (malformed a ∷ after.pieces (drop read src)) =
+      ap before.pieces (sym (append-nil src)) ∙ k.rest [] (λ _. refl) ∙ ap (λ x. k.prefix ++ (malformed a ∷ after.pieces x)) (append-nil (drop read src)) in
+      omega (arith, ap length e, length-append k.prefix (malformed a ∷ after.pieces (drop read src)))

@@ -1,0 +1,26 @@
+-- What a call of an encoder says of items, by the index that its caller has counted.
+use Rattle.std.proofs.Common.{◌≡◌, ℕ, ◌+◌, ◌≤◌, ◌<◌, Bool, List, ◌∷◌, ◌++◌, map, length, take, ap, subst, arith, length-append}
+use Rattle.std.proofs.lemmas.List.{length-map, length-take-le}
+use Rattle.encoding_mem.specs.Coding.{Coding}
+use Rattle.encoding_mem.specs.Items.{Item, Byte, whole_items}
+use Rattle.encoding_mem.specs.Encoding.{Encodes, reported_item}
+use Rattle.encoding_mem.specs.declared.form.EscapeState.{EscapeState}
+use Rattle.encoding_mem.specs.declared.encoder_result.EncoderResult.{EncoderResult}
+
+pub turn_items : (e : Coding) (last : Bool) (outcome : EncoderResult) (s : EscapeState) (text written : List ℕ) (s' : EscapeState) (rest : List ℕ) (i i' : ℕ)
+    → Encodes e last outcome s text written s' rest → i' + length rest ≡ i + length text
+    → whole_items e last s i text ≡ map Byte written ++ (reported_item i' outcome ++ whole_items e last s' i' rest)
+turn_items e last outcome s text written s' rest i i' k passed =
+    let at : i + length k.prefix ≡ i' = omega (arith, ap length k.split, length-append k.prefix rest) in
+    let P : ℕ → Type 0 = λ n. whole_items e last s i text ≡ map Byte written ++ (reported_item n outcome ++ whole_items e last s' n rest) in
+    subst P at (k.items i)
+
+-- some bytes less are still to be written
+pub less_bytes : (a b : List Item) (bytes : List ℕ) (n : ℕ) → a ≡ map Byte (take n bytes) ++ b → n ≤ length bytes → 0 < n → length b < length a
+less_bytes a b bytes n e fits some =
+    omega (arith, ap length e, length-append (map Byte (take n bytes)) b, length-map (take n bytes) Byte, length-take-le n bytes fits)
+
+-- a note less
+pub less_note : (a b : List Item) (bytes : List ℕ) (note : Item) (more : List Item) → a ≡ map Byte bytes ++ ((note ∷ more) ++ b) → length b < length a
+less_note a b bytes note more e =
+    omega (arith, ap length e, length-append (map Byte bytes) ((note ∷ more) ++ b), length-append (note ∷ more) b)

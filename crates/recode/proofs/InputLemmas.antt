@@ -1,0 +1,69 @@
+-- Laws over whole inputs.
+use Rattle.std.proofs.Common.{◌≡◌, ℕ, ◌<◌, ◌↔◌, List, [], ◌++◌, length, sym, ◌∙◌, ap, subst, arith, append_assoc, append-nil, encode_utf8_all, Option, None, Some, length-append}
+use Rattle.std.specs.List.{flat_map}
+use Rattle.std.specs.Str.{chars, IsUtf8}
+use Rattle.std.proofs.lemmas.Str.{encodes-chars}
+use Rattle.encoding_mem.specs.Piece.{text, AreWellFormed}
+use Rattle.encoding_mem.specs.Coding.{AllMapped, output}
+use Rattle.encoding_mem.specs.laws.Encoding.{utf8_output}
+use Rattle.encoding_mem.specs.laws.ReadBack.{all_in_utf8, text_pieces-well_formed, text_pieces-text}
+use Rattle.encoding_front.specs.Encodings.{IsUtf8Encoding, KeepsCharacters}
+use Rattle.encoding_front.specs.Marks.{marked_pieces}
+use Rattle.encoding_front.specs.declared.mark.Mark.TheVariants.{Keep}
+use Rattle.encoding_front.specs.laws.Encodings.{pieces_of_utf8, coding_of_utf8}
+use Rattle.encoding_mem.specs.Text.{text_pieces}
+use Rattle.encoding_mem.specs.Utf8.{first_piece_utf8, pieces_utf8}
+use Rattle.encoding_mem.specs.laws.Utf8.{pieces_utf8-text}
+use Rattle.encoding_mem.specs.laws.Pieces.{pieces_by-nil}
+use Rattle.recode_log.specs.Line.{line_bytes}
+use Rattle.recode.specs.TaggedByte.{tagged}
+use Rattle.recode.specs.Job.{IsValidJob, Faithful, input_pieces, input_text, target_of, output_of, log_of, trace}
+use Rattle.recode.specs.Session.{Completes, Fails, IsConverted}
+use Rattle.recode.specs.Step.{WrotePrefix}
+use Rattle.recode.specs.declared.fault.Fault.{Fault}
+use Rattle.recode.specs.declared.job.Job.{Job}
+use Rattle.recode.specs.declared.report.Report.{Report}
+use Rattle.recode.proofs.TraceLemmas.{no_lines}
+use Rattle.recode.proofs.RunLemmas.{faithful_where_kept, kept_where_faithful, quiet_where_kept, kept_where_quiet}
+
+pub faithful_quiet : (j : Job) (x : List ℕ) → IsValidJob j → KeepsCharacters j.to → Faithful j x ↔ (log_of j x ≡ [])
+faithful_quiet j x v k = (
+  λ f. quiet_where_kept j x f.source (kept_where_faithful j x v k f),
+  λ h. let kept = kept_where_quiet j x h in faithful_where_kept j x v k kept.0 kept.1,
+)
+
+utf8_pieces : (x : List ℕ) → IsUtf8 x → pieces_utf8 x ≡ text_pieces (chars x)
+utf8_pieces x u = ap pieces_utf8 (sym (append-nil x)) ∙ pieces_utf8-text x [] u ∙ ap (λ ps. text_pieces (chars x) ++ ps) (pieces_by-nil first_piece_utf8) ∙ append-nil (text_pieces (chars x))
+
+-- From UTF-8 to UTF-8.
+text_is : (j : Job) (x : List ℕ) → j.mark ≡ Keep → IsUtf8Encoding j.from → IsUtf8 x → input_pieces j x ≡ text_pieces (chars x)
+text_is j x kept from u = ap (λ m. marked_pieces j.tables.now m j.from x) kept ∙ ap (λ f. f x) (pieces_of_utf8 j.tables.now j.from from) ∙ utf8_pieces x u
+
+pub kept_output : (j : Job) (x : List ℕ) → j.mark ≡ Keep → IsUtf8Encoding j.from → IsUtf8Encoding j.to → IsUtf8 x → output_of j x ≡ x
+kept_output j x kept from to u =
+    ap (λ e. output e (input_text j x)) (coding_of_utf8 j.tables.now j.to to) ∙ utf8_output (input_text j x)
+    ∙ ap encode_utf8_all (ap text (text_is j x kept from u) ∙ text_pieces-text (chars x)) ∙ encodes-chars x u
+
+pub kept_log : (j : Job) (x : List ℕ) → j.mark ≡ Keep → IsUtf8Encoding j.from → IsUtf8Encoding j.to → IsUtf8 x → log_of j x ≡ []
+kept_log j x kept from to u =
+    let well_formed_text : AreWellFormed (input_pieces j x) = subst AreWellFormed (sym (text_is j x kept from u)) (text_pieces-well_formed (chars x)) in
+    let mapped : AllMapped (target_of j) (input_text j x) = subst (λ e. AllMapped e (input_text j x)) (sym (coding_of_utf8 j.tables.now j.to to)) (all_in_utf8 (input_text j x)) in
+    ap (flat_map line_bytes) (no_lines (target_of j) 0 0 (input_pieces j x) well_formed_text mapped)
+
+-- A reader that tells its bytes.
+pub known_completes : (x : List ℕ) (r w w' l l' : Option (List ℕ)) (j : Job) (p : Report) → Completes (Some x) r w w' l l' j p → IsConverted w w' l l' j x p
+known_completes x None w w' l l' j p k = absurd k.consumed
+known_completes x (Some y) w w' l l' j p k =
+    let whole : k.input ≡ x = sym (k.consumed ∙ ap (λ t. k.input ++ t) k.end ∙ append-nil k.input) in
+    subst (λ t. IsConverted w w' l l' j t p) whole (record { within = k.within; wrote = k.wrote; output = k.output; logged = k.logged; report = k.report })
+
+pub known_fails : (x : List ℕ) (r w w' l l' : Option (List ℕ)) (j : Job) (f : Fault) → Fails (Some x) r w w' l l' j f → WrotePrefix w w' l l' (trace j x)
+known_fails x None w w' l l' j f k = absurd k.consumed
+known_fails x (Some y) w w' l l' j f k =
+    let whole : x ≡ k.input ++ (k.refused ++ y) = k.consumed ∙ append_assoc k.input k.refused y in
+    let prefix = k.prefix (k.refused ++ y) (λ h. ap (λ t. t ++ y) (k.none h) ∙ k.end h) in
+    record { taken = k.taken; wrote = k.wrote; prefix = (prefix.0, ap (λ t. tagged (trace j t)) whole ∙ prefix.1) }
+
+pub known_too_long : (x : List ℕ) (r w w' l l' : Option (List ℕ)) (j : Job) → Fails (Some x) r w w' l l' j Fault.TooLong → j.limit < length x
+known_too_long x None w w' l l' j k = absurd k.consumed
+known_too_long x (Some y) w w' l l' j k = omega (arith, ap length k.consumed, length-append (k.input ++ k.refused) y, k.limited)

@@ -1,0 +1,86 @@
+-- What is written, beside what another job writes.
+use Rattle.std.proofs.Common.{◌≡◌, ℕ, ◌<◌, ◌↔◌, inl, inr, Bool, true, false, IsTrue, IsFalse, List, [], Option, Some, refl, sym, ◌∙◌, ap, subst, arith, encode_utf8_all, true≢false}
+use Rattle.std.specs.Str.{chars}
+use Rattle.std.specs.Io.KnownBytes.{Appends}
+use Rattle.std.proofs.lemmas.Bool.{cases_lt, false≢true}
+use Rattle.std.proofs.lemmas.Str.{chars-encodes}
+use Rattle.encoding_mem.specs.Piece.{text, AreWellFormed, malformed_count}
+use Rattle.encoding_mem.specs.Coding.{output, lost_count}
+use Rattle.encoding_mem.specs.laws.Encoding.{utf8_lost_count}
+use Rattle.encoding_mem.specs.laws.ReadBack.{all_in_utf8, none_lost, all_mapped}
+use Rattle.encoding_mem.specs.Utf8Coding.{utf8_coding}
+use Rattle.encoding_mem.specs.declared.form.EscapeState.TheVariants.{Ascii}
+use Rattle.encoding_front.specs.Encodings.{IsUtf8Encoding, KeepsCharacters, coding_of, coding_of_codec_kind, output_encoding_of}
+use Rattle.encoding_front.specs.laws.Input.{marked_scalars, recoded_at_once}
+use Rattle.encoding_front.specs.Marks.{marked_pieces, marked_text}
+use Rattle.recode.specs.Job.{IsValidJob, Faithful, input_pieces, input_text, output_pieces, target_of, output_of, log_of, trace}
+use Rattle.recode.specs.WrittenItems.{lost_lines}
+use Rattle.recode.specs.ReadBack.{back, in_utf8}
+use Rattle.recode.specs.Session.{IsReport, IsConverted}
+use Rattle.recode.specs.declared.job.Job.{Job}
+use Rattle.recode.specs.declared.report.Report.{Report}
+use Rattle.recode.proofs.TraceLemmas.{lost_lines-trace}
+use Rattle.recode.proofs.RunLemmas.{kept_where_quiet, kept_where_faithful, quiet_where_kept, well_formed_count, none_malformed}
+
+-- The output, read back.
+pub valid_back : (j : Job) → IsValidJob j → IsValidJob (back j) × IsValidJob (in_utf8 j)
+valid_back j v = (record { tables = v.tables; from = v.to; to = tt; limit = v.limit }, record { tables = v.tables; from = v.from; to = tt; limit = v.limit })
+
+pub reads_back : (j : Job) (x : List ℕ) → Faithful j x → output_of (back j) (output_of j x) ≡ output_of (in_utf8 j) x
+reads_back j x f = ap (output utf8_coding) f.same
+
+-- nothing is lost of either
+quiet_in_utf8 : (j : Job) (x : List ℕ) → AreWellFormed (input_pieces j x) → log_of (in_utf8 j) x ≡ []
+quiet_in_utf8 j x h = quiet_where_kept (in_utf8 j) x h (all_in_utf8 (input_text j x))
+
+pub quiet_back : (j : Job) (x : List ℕ) → Faithful j x → (log_of (back j) (output_of j x) ≡ []) × (log_of (in_utf8 j) x ≡ [])
+quiet_back j x f = (quiet_where_kept (back j) (output_of j x) f.target (all_in_utf8 (text (output_pieces j (output_of j x)))), quiet_in_utf8 j x f.source)
+
+-- in runs whose writers begin with nothing
+pub runs_read_back : (j : Job) (x bytes again direct : List ℕ) (l l' m m' n n' : Option (List ℕ)) (p q r : Report) → KeepsCharacters j.to → IsTrue p.faithful → IsConverted (Some []) (Some bytes) l l' j x p
+    → IsConverted (Some []) (Some again) m m' (back j) bytes q → IsConverted (Some []) (Some direct) n n' (in_utf8 j) x r → again ≡ direct
+runs_read_back j x bytes again direct l l' m m' n n' p q r keeps told a b c =
+    b.output ∙ ap (output_of (back j)) a.output ∙ reads_back j x ((a.report.faithful keeps).0 told) ∙ sym c.output
+
+-- UTF-8 loses no character.
+pub none_lost_in_utf8 : (j : Job) (x : List ℕ) → IsUtf8Encoding (output_encoding_of j.to) → lost_count (target_of j) (input_text j x) ≡ 0
+none_lost_in_utf8 j x h = ap (λ e. lost_count e (input_text j x)) (ap (coding_of_codec_kind j.tables.now) h) ∙ utf8_lost_count (input_text j x)
+
+pub no_lost_lines : (j : Job) (x : List ℕ) → IsUtf8Encoding (output_encoding_of j.to) → lost_lines (trace j x) ≡ 0
+no_lost_lines j x h = lost_lines-trace (target_of j) Ascii 0 0 (input_pieces j x) ∙ none_lost_in_utf8 j x h
+
+-- Where a character is lost, something is.
+pub lost_is_told : (j : Job) (x : List ℕ) (p : Report) → IsReport j x p → 0 < p.lost → IsTrue p.faithful → ⊥
+lost_is_told j x p r some faithful =
+    omega (arith, some, r.lost, none_lost (target_of j) (input_text j x) (kept_where_quiet j x (r.quiet.0 faithful)).1)
+
+pub lost_is_unfaithful : (j : Job) (x : List ℕ) → IsValidJob j → KeepsCharacters j.to → 0 < lost_count (target_of j) (input_text j x) → Faithful j x → ⊥
+lost_is_unfaithful j x v k some f = omega (arith, some, none_lost (target_of j) (input_text j x) (kept_where_faithful j x v k f))
+
+-- Decoded at once, and then encoded at once.
+pub same_whole : (j : Job) (x decoded bytes : List ℕ) → IsValidJob j → decoded ≡ encode_utf8_all (marked_text j.tables.now j.mark j.from x) → bytes ≡ output (coding_of j.tables.now j.to) (chars decoded) → bytes ≡ output_of j x
+same_whole j x decoded bytes v is written = written ∙ recoded_at_once j.tables.now j.mark j.from j.to x decoded v.tables is
+
+pub same_run : (j : Job) (x decoded bytes : List ℕ) (w w' l l' : Option (List ℕ)) (p : Report) → IsValidJob j → decoded ≡ encode_utf8_all (marked_text j.tables.now j.mark j.from x) → bytes ≡ output (coding_of j.tables.now j.to) (chars decoded)
+    → IsConverted w w' l l' j x p → Appends w w' bytes
+same_run j x decoded bytes w w' l l' p v is written k = subst (Appends w w') (sym (same_whole j x decoded bytes v is written)) k.output
+
+-- a count of which a flag tells whether it is none
+none_where_false : (b : Bool) (n : ℕ) → IsTrue b ↔ (0 < n) → IsFalse b → n ≡ 0
+none_where_false true n h f = absurd (true≢false f)
+none_where_false false n h f = elim (cases_lt 0 n) [ inl some ↦ absurd (false≢true (h.1 some)) | inr none ↦ omega (arith, none) ]
+
+false_where_none : (b : Bool) (n : ℕ) → IsTrue b ↔ (0 < n) → n ≡ 0 → IsFalse b
+false_where_none true n h e = absurd (omega (arith, h.0 refl, e))
+false_where_none false n h e = refl
+
+pub quiet_whole : (j : Job) (x decoded : List ℕ) (malformed lost : Bool) → IsValidJob j → decoded ≡ encode_utf8_all (marked_text j.tables.now j.mark j.from x)
+    → IsTrue malformed ↔ (0 < malformed_count (marked_pieces j.tables.now j.mark j.from x)) → IsTrue lost ↔ (0 < lost_count (coding_of j.tables.now j.to) (chars decoded)) → (log_of j x ≡ []) ↔ (IsFalse malformed × IsFalse lost)
+quiet_whole j x decoded malformed lost v is had left =
+    let text_is : chars decoded ≡ input_text j x = ap chars is ∙ chars-encodes (input_text j x) (marked_scalars j.tables.now j.mark j.from x v.tables) in
+    let left_is : IsTrue lost ↔ (0 < lost_count (target_of j) (input_text j x)) = subst (λ (t : List ℕ). IsTrue lost ↔ (0 < lost_count (target_of j) t)) text_is left in (
+      λ h.
+          let kept = kept_where_quiet j x h in
+          (false_where_none malformed _ had (well_formed_count (input_pieces j x) kept.0), false_where_none lost _ left_is (none_lost (target_of j) (input_text j x) kept.1)),
+      λ h. quiet_where_kept j x (none_malformed (input_pieces j x) (none_where_false malformed _ had h.0)) (all_mapped (target_of j) (input_text j x) (none_where_false lost _ left_is h.1)),
+    )

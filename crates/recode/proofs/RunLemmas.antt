@@ -1,0 +1,168 @@
+-- From steps to runs.
+use Rattle.std.proofs.Common.{◌≡◌, ℕ, zero, suc, drop, ◌+◌, ◌==◌, ◌&&◌, ◌↔◌, Bool, true, false, IsTrue, List, [], ◌∷◌, ◌++◌, length, refl, sym, ◌∙◌, ap, subst, arith, append-nil, Option}
+use Rattle.std.specs.Io.KnownBytes.{Appends}
+use Rattle.std.specs.List.{flat_map}
+use Rattle.std.specs.Str.{all_scalars}
+use Rattle.std.proofs.lemmas.Bool.{false≢true, eqb-true}
+use Rattle.encoding_mem.specs.Piece.{Piece, well_formed, malformed, text, text_of, AreWellFormed, IsPiece, ArePieces, malformed_count}
+use Rattle.encoding_mem.specs.Coding.{AllMapped, lost_count}
+use Rattle.encoding_mem.specs.laws.ReadBack.{all_mapped, none_lost}
+use Rattle.encoding_mem.specs.declared.form.EscapeState.TheVariants.{Ascii}
+use Rattle.encoding_front.specs.Encodings.{KeepsCharacters}
+use Rattle.encoding_front.specs.laws.Encodings.{are_pieces_of, reads_back_exactly}
+use Rattle.encoding_front.specs.Marks.{pieces_from, source_of}
+use Rattle.encoding_tables.specs.IndexLists.{IndexLists, AreAcceptedTables}
+use Rattle.encoding_front.specs.declared.encoding.Encoding.{Encoding}
+use Rattle.recode_log.specs.Line.{line_bytes}
+use Rattle.recode.specs.TaggedByte.{TaggedByte, Wrote, IsPrefix, tagged, outputs, lines}
+use Rattle.recode.specs.WrittenItems.{bad_lines, lost_lines}
+use Rattle.recode.specs.Job.{IsValidJob, Faithful, input_pieces, input_text, target_of, log_of, trace}
+use Rattle.recode.specs.Session.{View, to_write, IsNewSession, Tells, IsReport, Completes, Fails}
+use Rattle.recode.specs.Step.{Finishes, Stops, PassesLimit}
+use Rattle.recode.specs.declared.fault.Fault.{Fault}
+use Rattle.recode.specs.declared.job.Job.{Job}
+use Rattle.recode.specs.declared.report.Report.{Report}
+use Rattle.recode.proofs.TraceLemmas.{outputs-append, lines-append, no_lines, kept_where_no_lines, no_lines_without_bytes, outputs-trace, lines-trace, bad_lines-trace, lost_lines-trace}
+
+-- No malformed sequence.
+pub none_malformed : (ps : List Piece) → malformed_count ps ≡ 0 → AreWellFormed ps
+none_malformed [] h = tt
+none_malformed (well_formed n cs ∷ ps) h = (tt, none_malformed ps h)
+none_malformed (malformed n ∷ ps) h = absurd (omega arith)
+
+pub well_formed_count : (ps : List Piece) → AreWellFormed ps → malformed_count ps ≡ 0
+well_formed_count [] h = refl
+well_formed_count (well_formed n cs ∷ ps) h = well_formed_count ps h.1
+well_formed_count (malformed n ∷ ps) h = absurd h.0
+
+both_true : (x y : Bool) → (x && y) ≡ true → (x ≡ true) × (y ≡ true)
+both_true true y h = (refl, h)
+both_true false y h = (h, absurd (false≢true h))
+
+all_scalars-cons : (a b : List ℕ) → all_scalars a ≡ true → all_scalars b ≡ true → all_scalars (a ++ b) ≡ true
+all_scalars-cons [] b h k = k
+all_scalars-cons (c ∷ a) b h k =
+    let parts = both_true _ (all_scalars a) h in
+    ap (λ y. y && all_scalars (a ++ b)) parts.0 ∙ all_scalars-cons a b parts.1 k
+
+piece_text : (p : Piece) → IsPiece p → all_scalars (text_of p) ≡ true
+piece_text (well_formed n cs) h = h.are_scalars
+piece_text (malformed n) h = refl
+
+text_scalars : (ps : List Piece) → ArePieces ps → all_scalars (text ps) ≡ true
+text_scalars [] h = refl
+text_scalars (p ∷ ps) h = all_scalars-cons (text_of p) (text ps) (piece_text p h.0) (text_scalars ps h.1)
+
+-- a mark is a piece, and so are those behind it
+are_pieces_from : (t : IndexLists) (e : Encoding) (n : ℕ) (x : List ℕ) → AreAcceptedTables t → ArePieces (pieces_from t (e, n) x)
+are_pieces_from t e zero x taken = are_pieces_of t e taken x
+are_pieces_from t e (suc n) x taken = (record { some = omega arith; few = omega arith; at_most_two = omega arith; are_scalars = refl }, are_pieces_of t e taken (drop (suc n) x))
+
+-- the text of an input is scalars
+text_are_scalars : (j : Job) (x : List ℕ) → IsValidJob j → all_scalars (input_text j x) ≡ true
+text_are_scalars j x v = text_scalars (input_pieces j x) (are_pieces_from j.tables.now (source_of j.mark j.from x).0 (source_of j.mark j.from x).1 x v.tables)
+
+-- nothing was lost where each piece is well-formed and each character has bytes, and only there
+pub faithful_where_kept : (j : Job) (x : List ℕ) → IsValidJob j → KeepsCharacters j.to → AreWellFormed (input_pieces j x) → AllMapped (target_of j) (input_text j x) → Faithful j x
+faithful_where_kept j x v keeps h k =
+    let back = (reads_back_exactly j.tables.now j.to keeps v.tables (input_text j x) (text_are_scalars j x v)).1 k in
+    record { source = h; target = back.well_formed; same = back.same }
+
+pub kept_where_faithful : (j : Job) (x : List ℕ) → IsValidJob j → KeepsCharacters j.to → Faithful j x → AllMapped (target_of j) (input_text j x)
+kept_where_faithful j x v keeps f = (reads_back_exactly j.tables.now j.to keeps v.tables (input_text j x) (text_are_scalars j x v)).0 (record { well_formed = f.target; same = f.same })
+
+-- the log is empty exactly where each piece is well-formed and each character has bytes
+pub quiet_where_kept : (j : Job) (x : List ℕ) → AreWellFormed (input_pieces j x) → AllMapped (target_of j) (input_text j x) → log_of j x ≡ []
+quiet_where_kept j x h k = ap (flat_map line_bytes) (no_lines (target_of j) 0 0 (input_pieces j x) h k)
+
+pub kept_where_quiet : (j : Job) (x : List ℕ) → log_of j x ≡ [] → AreWellFormed (input_pieces j x) × AllMapped (target_of j) (input_text j x)
+kept_where_quiet j x h = kept_where_no_lines (target_of j) 0 0 (input_pieces j x) (no_lines_without_bytes _ h)
+
+-- The verdict: nothing was counted.
+module _ (j : Job) (x : List ℕ) (b l : ℕ) (f : Bool) (malformed_is : b ≡ malformed_count (input_pieces j x)) (lost_is : l ≡ lost_count (target_of j) (input_text j x)) (is : f ≡ (b == 0 && l == 0)) where
+  kept_where_true : IsTrue f → AreWellFormed (input_pieces j x) × AllMapped (target_of j) (input_text j x)
+  kept_where_true t =
+      let both = both_true (b == 0) (l == 0) (sym is ∙ t) in
+      (none_malformed (input_pieces j x) (sym malformed_is ∙ eqb-true b 0 both.0), all_mapped (target_of j) (input_text j x) (sym lost_is ∙ eqb-true l 0 both.1))
+
+  true_where_kept : AreWellFormed (input_pieces j x) → AllMapped (target_of j) (input_text j x) → IsTrue f
+  true_where_kept h k =
+      let none : b ≡ 0 = malformed_is ∙ well_formed_count (input_pieces j x) h in
+      let kept : l ≡ 0 = lost_is ∙ none_lost (target_of j) (input_text j x) k in
+      is ∙ ap (λ (n : ℕ). n == 0 && l == 0) none ∙ ap (λ (n : ℕ). 0 == 0 && n == 0) kept
+
+  quiet_verdict : IsTrue f ↔ (log_of j x ≡ [])
+  quiet_verdict = (
+    λ t. let kept = kept_where_true t in quiet_where_kept j x kept.0 kept.1,
+    λ h. let kept = kept_where_quiet j x h in true_where_kept kept.0 kept.1,
+  )
+
+  verdict : IsValidJob j → KeepsCharacters j.to → IsTrue f ↔ Faithful j x
+  verdict v keeps = (
+    λ t. let kept = kept_where_true t in faithful_where_kept j x v keeps kept.0 kept.1,
+    λ h. true_where_kept h.source (kept_where_faithful j x v keeps h),
+  )
+
+-- The report.
+is_report : (j : Job) (x : List ℕ) (v w : View) (p : Report) → IsValidJob j → IsNewSession v j → Tells w p → v.source x ≡ w.source [] → w.counts.read ≡ v.counts.read + length x
+    → w.counts.bad ≡ v.counts.bad + bad_lines (trace j x) → w.counts.lost ≡ v.counts.lost + lost_lines (trace j x) → IsReport j x p
+is_report j x v w p valid b t same read_is malformed_is lost_is =
+    let e = target_of j in
+    let bads : p.bad ≡ malformed_count (input_pieces j x) = omega (arith, t.bad, malformed_is, b.bad, bad_lines-trace e Ascii 0 0 (input_pieces j x)) in
+    let losts : p.lost ≡ lost_count e (input_text j x) = omega (arith, t.lost, lost_is, b.lost, lost_lines-trace e Ascii 0 0 (input_pieces j x)) in
+    let told : p.faithful ≡ (p.bad == 0 && p.lost == 0) = t.verdict ∙ ap (λ (n : ℕ). n == 0 && w.counts.lost == 0) (sym t.bad) ∙ ap (λ (n : ℕ). p.bad == 0 && n == 0) (sym t.lost) in
+    record {
+      read = omega (arith, t.read, read_is, b.read);
+      bad = bads;
+      lost = losts;
+      encoding = t.encoding ∙ sym same ∙ b.source x;
+      quiet = quiet_verdict j x p.bad p.lost p.faithful bads losts told;
+      faithful = verdict j x p.bad p.lost p.faithful bads losts told valid;
+    }
+
+pub completes : (a a' w w' l l' : Option (List ℕ)) (j : Job) (v u : View) (p : Report) → IsValidJob j → IsNewSession v j → Finishes a a' w w' l l' v.counts u.counts j.limit (to_write v) v.source u.source → Tells u p → Completes a a' w w' l l' j p
+completes a a' w w' l l' j v u p valid b f t =
+    let x : List ℕ = f.chunk in
+    let written_items : f.pays.written_items ≡ trace j x = sym (append-nil f.pays.written_items) ∙ sym f.pays.equals ∙ b.owes_trace x in
+    let wrote : Wrote w w' l l' (tagged (trace j x)) = subst (λ t. Wrote w w' l l' (tagged t)) written_items f.pays.wrote in
+    record {
+      input = x;
+      consumed = f.consumed;
+      end = f.end;
+      within = omega (arith, f.within, f.counted, b.read);
+      wrote = wrote;
+      output = subst (Appends w w') (outputs-trace (target_of j) Ascii 0 0 (input_pieces j x)) wrote.output;
+      logged = subst (Appends l l') (lines-trace (target_of j) Ascii 0 0 (input_pieces j x)) wrote.lined;
+      report = is_report j x v u p valid b t f.source f.counted
+          (f.pays.counted.bad ∙ ap (λ t. v.counts.bad + bad_lines t) written_items) (f.pays.counted.lost ∙ ap (λ t. v.counts.lost + lost_lines t) written_items);
+    }
+
+prefix_outputs : (t u : List TaggedByte) → IsPrefix t u → IsPrefix (outputs t) (outputs u)
+prefix_outputs t u f = (outputs f.0, ap outputs f.1 ∙ outputs-append t f.0)
+
+prefix_lines : (t u : List TaggedByte) → IsPrefix t u → IsPrefix (lines t) (lines u)
+prefix_lines t u f = (lines f.0, ap lines f.1 ∙ lines-append t f.0)
+
+pub fails : (a a' w w' l l' : Option (List ℕ)) (j : Job) (v : View) (f : Fault) → IsNewSession v j → Stops a a' w w' l l' v.counts j.limit (to_write v) f → Fails a a' w w' l l' j f
+fails a a' w w' l l' j v f b s =
+    let prefix : (r : List ℕ) → (s.ended ≡ true → r ≡ []) → IsPrefix s.pays.taken (tagged (trace j (s.chunk ++ r))) =
+    λ r h. subst (λ t. IsPrefix s.pays.taken (tagged t)) (b.owes_trace (s.chunk ++ r)) (s.pays.prefix r h) in
+    record {
+      input = s.chunk;
+      refused = s.refused;
+      ended = s.ended;
+      consumed = s.consumed;
+      end = s.end;
+      none = s.none;
+      spared = s.spared;
+      within = omega (arith, s.within, b.read);
+      limited = subst (λ (n : ℕ). PassesLimit n j.limit f) (ap (λ (n : ℕ). n + length (s.chunk ++ s.refused)) b.read ∙ zero_plus (length (s.chunk ++ s.refused))) s.limited;
+      taken = s.pays.taken;
+      wrote = s.pays.wrote;
+      prefix = prefix;
+      output = λ r h. subst (IsPrefix (outputs s.pays.taken)) (outputs-trace (target_of j) Ascii 0 0 (input_pieces j (s.chunk ++ r))) (prefix_outputs _ _ (prefix r h));
+      logged = λ r h. subst (IsPrefix (lines s.pays.taken)) (lines-trace (target_of j) Ascii 0 0 (input_pieces j (s.chunk ++ r))) (prefix_lines _ _ (prefix r h));
+    }
+  where
+    zero_plus : (n : ℕ) → 0 + n ≡ n
+    zero_plus n = omega arith

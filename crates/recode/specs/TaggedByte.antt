@@ -1,0 +1,41 @@
+-- What the two writers take, in one order: each byte is one of the output or one of the log.
+use Rattle.std.specs.Prelude.{◌≡◌, ℕ, List, [], ◌∷◌, ◌++◌, map, Option}
+use Rattle.std.specs.List.{flat_map}
+use Rattle.std.specs.Io.KnownBytes.{Appends}
+use Rattle.encoding_mem.specs.Items.{Item, Byte, MalformedAt, LostAt}
+use Rattle.recode_log.specs.Line.{line_bytes}
+use Rattle.recode_log.specs.declared.line.LogLine.TheVariants.{Bad, Lost}
+
+pub data TaggedByte : Type 0 where
+  Out : ℕ → TaggedByte
+  Line : ℕ → TaggedByte
+
+-- its output bytes
+abbrev pub outputs : List TaggedByte → List ℕ
+outputs [] = []
+outputs (Out b ∷ t) = b ∷ outputs t
+outputs (Line b ∷ t) = outputs t
+
+-- its log bytes
+abbrev pub lines : List TaggedByte → List ℕ
+lines [] = []
+lines (Out b ∷ t) = lines t
+lines (Line b ∷ t) = b ∷ lines t
+
+-- a note is its line
+abbrev pub tagged_item : Item → List TaggedByte
+tagged_item (Byte b) = Out b ∷ []
+tagged_item (MalformedAt offset size) = map Line (line_bytes (Bad offset size))
+tagged_item (LostAt index scalar) = map Line (line_bytes (Lost index scalar))
+
+abbrev pub tagged : List Item → List TaggedByte
+tagged items = flat_map tagged_item items
+
+-- t is a prefix of u
+abbrev pub IsPrefix : {X : Type 0} → List X → List X → Type 0
+IsPrefix {X} t u = (rest : List X) × (u ≡ t ++ rest)
+
+-- the writer's known bytes grew by the output bytes of t, and the log's by its log bytes
+pub record Wrote (writer writer' log log' : Option (List ℕ)) (t : List TaggedByte) : Type 0 where
+  pub output : Appends writer writer' (outputs t)
+  pub lined : Appends log log' (lines t)

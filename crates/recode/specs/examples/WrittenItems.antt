@@ -1,0 +1,31 @@
+-- Worked rows of `specs/WrittenItems.antt` and `specs/TaggedByte.antt`.
+use Rattle.std.specs.Prelude.{◌≡◌, ℕ, List, [], ◌∷◌, ◌++◌, map, codes, refl}
+use Rattle.std.specs.Fmt.{digits}
+use Rattle.encoding_mem.specs.Items.{Item, Byte, MalformedAt, LostAt}
+use Rattle.recode.specs.TaggedByte.{Line, Out, lines, tagged, outputs}
+use Rattle.recode.specs.WrittenItems.{bad_lines, lost_lines}
+
+-- `A`, a malformed sequence of two bytes, an unmappable character of which one byte is written, and another
+unfoldable items : List Item
+items = Byte 0x41 ∷ MalformedAt 1 2 ∷ LostAt 1 65533 ∷ Byte 0x26 ∷ LostAt 2 232 ∷ []
+
+one_malformed : bad_lines items ≡ 1
+unfolding items
+one_malformed = refl
+
+two_lost : lost_lines items ≡ 2
+unfolding items
+two_lost = refl
+
+in_order : tagged items
+    ≡ Out 0x41 ∷ (map Line (codes "bad 1 2\n") ++ (map Line (codes "lost 1 65533\n") ++ (Out 0x26 ∷ map Line (codes "lost 2 232\n"))))
+unfolding items digits
+in_order = refl
+
+what_is_written : outputs (tagged items) ≡ 0x41 ∷ 0x26 ∷ []
+unfolding items digits
+what_is_written = refl
+
+what_is_logged : lines (tagged items) ≡ codes "bad 1 2\nlost 1 65533\nlost 2 232\n"
+unfolding items digits
+what_is_logged = refl
