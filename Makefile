@@ -19,7 +19,7 @@ lint:
 	@diff -r indexes crates/encoding_index_files/data
 	@diff indexes/index-jis0208.txt crates/recode_sample/data/index-jis0208.txt
 
-# The edits that the gate leaves out, each of which the prover must refuse: for a release, some 30 seconds each.
+# The edits that the gate leaves out, each of which the prover must refuse: for a release, some 25 seconds of processor time each.
 edits:
 	@python3 tools/edits.py
 
