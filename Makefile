@@ -28,7 +28,7 @@ run:
 	@cd crates/recode_cli && rt run -- --from $(FROM) --to $(TO) --indexes $(CURDIR)/indexes
 
 # The program, and calls of the libraries, with each request for memory refused in turn by an allocator that is loaded
-# before them: `recode` must end with status 3 and say so, and a call must answer it, and succeed when it is made again.
+# before them: `recode` must end with status 3 and say so; a call must return that fault, and succeed when made again.
 # This needs Python and a C compiler.
 refused: build
 	@cd crates/encoding_refusals && rt run > /dev/null

@@ -107,7 +107,7 @@ malformed_1B jis0208 Roman x = refl
 malformed_1B jis0208 Katakana x = refl
 malformed_1B jis0208 Jis x = refl
 
--- the prefix of an escape
+-- a prefix of an escape
 awaits_1B : (jis0208 : List ℕ) (m : Mode) → Awaits (first_piece_iso_2022_jp jis0208 m) 0 (0x1B ∷ []) false
 awaits_1B jis0208 m = record {
   goes_on = refl;
@@ -274,7 +274,7 @@ iso_2022_jp_modest jis0208 scalars m (b ∷ x) last h =
 
 -- Runs of ASCII in ISO-2022-JP, and the mode in which they are read.
 
--- the prefix of such a run
+-- a prefix of such a run
 pub plain_prefix : (k : ℕ) (x : List ℕ) → IsIso2022JpAscii x → IsIso2022JpAscii (take k x)
 plain_prefix zero x h i = (lit< tt, λ e. absurd (omega arith), λ e. absurd (omega arith), λ e. absurd (omega arith))
 plain_prefix (suc k) [] h i = (lit< tt, λ e. absurd (omega arith), λ e. absurd (omega arith), λ e. absurd (omega arith))

@@ -15,8 +15,8 @@ use Rattle.encoding_tables.specs.Ranges.{range_pointer}
 use Rattle.encoding_codecs.specs.Gb18030.{sample_flat, sample_rows}
 use Rattle.encoding_codecs.specs.Pointers.{form_of_bytes}
 
--- The standard's table of private-use characters and their bytes: those of the edition of 2005, which the decoder gives
--- the characters that took their offset.
+-- The standard's table of private-use characters and their bytes: those of the edition of 2005. The decoder reads
+-- these bytes as the characters that took their place.
 abbrev pub fixed_rows : List (ℕ × (ℕ × ℕ))
 fixed_rows = (0xE78D, (0xA6, 0xD9)) ∷ (0xE78E, (0xA6, 0xDA)) ∷ (0xE78F, (0xA6, 0xDB)) ∷ (0xE790, (0xA6, 0xDC))
     ∷ (0xE791, (0xA6, 0xDD)) ∷ (0xE792, (0xA6, 0xDE)) ∷ (0xE793, (0xA6, 0xDF)) ∷ (0xE794, (0xA6, 0xEC)) ∷ (0xE795, (0xA6, 0xED))

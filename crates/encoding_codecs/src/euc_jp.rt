@@ -119,9 +119,9 @@ fn after_8f(jis0212: &Flat<'_>, rest: &[u8], last: bool) -> FirstPiece
 
 /// Decodes EUC-JP: 00 to 7F give themselves. 8E and a byte from A1 to DF give halfwidth katakana,
 /// two bytes from A1 to FE the entry of jis0208 at their pointer, and 8F and two such bytes that of
-/// jis0212. A lead is bad alone at the end and before ASCII; with another byte with which it gives
-/// nothing both are malformed. The same holds of 8F and a byte from A1 to FE before a third: two
-/// bytes are malformed, or all three.
+/// jis0212. A lead is malformed alone at the end and before ASCII; with another byte with which it
+/// gives nothing both are malformed. The same holds of 8F and a byte from A1 to FE before a third:
+/// two bytes are malformed, or all three.
 #[derive(Drop)]
 pub struct EucJpDecoder<'a> {
     inner: Buffered<LeadByteDecoderRule<EucJpLeads<'a>>>,

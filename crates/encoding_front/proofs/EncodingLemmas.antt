@@ -1,4 +1,4 @@
--- Encodings by their offset, and by their label. What an encoding gives to be hashed.
+-- Encodings by their number, and by their label. What an encoding gives to be hashed.
 use Rattle.std.proofs.Common.{◌≡◌, ℕ, ◌<◌, ◌&&◌, ◌↔◌, Bool, true, false, IsTrue, Option, None, Some, List, [], ◌∷◌, refl, sym, ◌∙◌, ap, true≢false, zero-add, cond, arith}
 use Rattle.std.specs.Prelude.{Contains}
 use Rattle.std.specs.List.{list_all, slice_index_or}
@@ -19,7 +19,7 @@ use Rattle.std.specs.Hash.{le_bytes}
 use denote.Enum.Declared.{tag_of}
 use Rattle.encoding_front.specs.contracts.encoding.Encoding.{the_type}
 
--- at the offset of an encoding stands that encoding
+-- at the number of an encoding stands that encoding
 pub at_number : (e : Encoding) → slice_index_or encodings (number_of e) Big5 ≡ e
 at_number Big5 = refl
 at_number _ = refl
@@ -27,7 +27,7 @@ at_number _ = refl
 pub same_number : (d e : Encoding) → number_of d ≡ number_of e → d ≡ e
 same_number d e h = sym (at_number d) ∙ ap (λ (n : ℕ). slice_index_or encodings n Big5) h ∙ at_number e
 
--- each offset has the encoding of that number
+-- the encoding at each position has that number
 pub number_at : (offset : ℕ) (d : Encoding) → offset < 40 → number_of (slice_index_or encodings offset d) ≡ offset
 number_at offset d lt =
     sym (get_or-map number_of encodings offset d (number_of d) lt)
@@ -35,7 +35,7 @@ number_at offset d lt =
     ∙ get_or-range_with_len 0 40 offset (number_of d) lt
     ∙ zero-add offset
 
--- from the offset of a label to its encoding
+-- from the number of a label to its encoding
 pub label_some : (label : List ℕ) (offset : ℕ) (d : Encoding) → number_of d ≡ offset
     → ((n : ℕ) → (Some offset ≡ Some n) ↔ IsLabelOf n label) → (e : Encoding) → (Some d ≡ Some e) ↔ HasLabel e label
 label_some label offset d is found e = (

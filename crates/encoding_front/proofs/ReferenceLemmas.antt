@@ -105,7 +105,7 @@ unmapped_bytes e s t d u lost =
     let q = last_set e s t in
     open_from-append e s t (d ∷ []) ∙ rw (lost, append-nil (reference u)) (sym (append_assoc (open_from e s t) (e.escape q (e.set q d)) (reference u)))
 
--- Where a call stands behind a reference: what was read and written, and what it still has still to write.
+-- Where a call stands behind a reference: what was read and written, and what it has still to write.
 pub record Gone (e : Coding) (last : Bool) (s : EscapeState) (text written : List ℕ) (s' : EscapeState) (rest : List ℕ) (lost : Bool) (prefix : List ℕ) : Type 0 where
   pub split : text ≡ prefix ++ rest
   pub opened : written ≡ open_from e s prefix
@@ -524,7 +524,7 @@ passed_on x x1 x2 outcome text written rest more rest' lost lost' size p r0 =
           (λ h. omega (arith, sum, both.0 h), λ h. both.1 (omega (arith, sum)));
     }
 
--- at the end nothing is still to be written
+-- at the end nothing is left to write
 pub passed_all : (x x' : EncoderState) (text written rest : List ℕ) (lost : Bool) → Passed x text written x' rest lost → rest ≡ [] → x'.set ≡ Ascii → written ≡ whole_from (coding_in x) x.set text
 passed_all x x' text written rest lost p none ascii =
     let e = coding_in x in

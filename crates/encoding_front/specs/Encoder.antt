@@ -69,7 +69,7 @@ abbrev pub ReplacingEndsWith : Bool → CoderResult → EscapeState → List ℕ
 ReplacingEndsWith last CoderResult.InputEmpty s rest = (rest ≡ []) × (last ≡ true → s ≡ Ascii)
 ReplacingEndsWith last CoderResult.OutputFull s rest = (0 < length rest) ⊎ ((last ≡ true) × (s ≢ Ascii))
 
--- What is written for a text ends with a reference that begins at an offset or before it.
+-- What is written for a text ends with a reference that begins at `end` or before it.
 pub record EndsWithReference (e : Coding) (s : EscapeState) (prefix written : List ℕ) (end : ℕ) : Type 0 where
   pub before : List ℕ
   pub lost : ℕ

@@ -58,7 +58,7 @@ encoding_name e = (row_of e).1
 abbrev pub codec_kind_of : Encoding → CodecKind
 codec_kind_of e = (row_of e).2
 
--- all of them, in the order of their numbers_rise
+-- all of them, in the order of their numbers
 abbrev pub encodings : List Encoding
 encodings = Big5 ∷ EucJp ∷ EucKr ∷ Gb18030 ∷ Gbk ∷ Ibm866 ∷ Iso2022Jp ∷ Iso8859_2 ∷ Iso8859_3 ∷ Iso8859_4 ∷ Iso8859_5 ∷ Iso8859_6 ∷ Iso8859_7 ∷ Iso8859_8 ∷ Iso8859_8I ∷ Iso8859_10 ∷ Iso8859_13 ∷ Iso8859_14 ∷ Iso8859_15 ∷ Iso8859_16 ∷ Koi8R ∷ Koi8U ∷ Macintosh ∷ Replacement ∷ ShiftJis ∷ Utf8 ∷ Utf16Be ∷ Utf16Le ∷ Windows874 ∷ Windows1250 ∷ Windows1251 ∷ Windows1252 ∷ Windows1253 ∷ Windows1254 ∷ Windows1255 ∷ Windows1256 ∷ Windows1257 ∷ Windows1258 ∷ XMacCyrillic ∷ XUserDefined ∷ []
 

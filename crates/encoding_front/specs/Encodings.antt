@@ -74,7 +74,7 @@ is_single_byte_codec_kind _ = false
 abbrev pub is_single_byte_of : Encoding → Bool
 is_single_byte_of e = is_single_byte_codec_kind (codec_kind_of e)
 
--- the index of a single-byte scheme is that of a single-byte encoding
+-- the index of a single-byte codec is that of a single-byte encoding
 abbrev pub IsProper : CodecKind → Type 0
 IsProper (CodecKind.SingleByte kind) = is_single_byte kind ≡ true
 IsProper _ = Unit {0}

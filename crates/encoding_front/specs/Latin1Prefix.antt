@@ -42,7 +42,7 @@ IsLatin1Prefix by_mode pieces bytes n = IsLongestPrefix IsIso2022JpAscii bytes n
 IsLatin1Prefix by_ascii pieces bytes n = IsLongestPrefix IsAscii bytes n
 IsLatin1Prefix untold pieces bytes n = ⊥
 
--- what a decoder of an encoding returns that is asked
+-- what a decoder of an encoding returns for these bytes
 abbrev pub TellsLatin1 : Latin1Rule → DecoderState → List ℕ → Option ℕ → Type 0
 TellsLatin1 rule s bytes None = ¬ (IsAtRest rule s)
 TellsLatin1 rule s bytes (Some n) = IsAtRest rule s × IsLatin1Prefix rule s.pieces bytes n

@@ -10,7 +10,7 @@ use Rattle.encoding_front.specs.declared.seeking.BomSet.{BomSet}
 abbrev pub Leaves : (before after : OutputUnit → ℕ → ℕ) → ℕ → Type 0
 Leaves before after n = (k : OutputUnit) (m : ℕ) → after k m ≤ before k (n + m)
 
--- No result is that all is held, and that more bytes decide. Else so many bytes were read, and nothing is sought.
+-- `None` says that all is held, and that more bytes decide. Else so many bytes were read, and nothing is sought.
 abbrev pub TakesMark : (before after : DecoderState) (src : List ℕ) (last : Bool) → BomSet → Option ℕ → Type 0
 TakesMark before after src last sought None = (last ≡ false) × Waits after.pieces after.pending × Takes AreWellFormed before.pieces after.pieces src last before.pending after.pending (length src) (λ t. t ≡ []) × Leaves before.needs after.needs (length src)
 TakesMark before after src last sought (Some n) = (sought ≡ nothing_sought) × Takes AreWellFormed before.pieces after.pieces src last before.pending after.pending n (λ t. t ≡ []) × Leaves before.needs after.needs n

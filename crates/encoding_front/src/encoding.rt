@@ -254,7 +254,7 @@ fn are_there(kinds: &[IndexKind], tables: &Tables) -> bool
     kinds.iter().all(|kind| tables.has(*kind))
 }
 
-// The encoding at this number.
+// The encoding with this number.
 fn at_number(number: usize) -> Encoding
     requires { number < 40 }
     ensures { number_of result ≡ number }

@@ -1,4 +1,4 @@
-// Bytes that were read, and that may be the prefix of a byte order mark.
+// Bytes that were read, and that may be a prefix of a byte order mark.
 
 ghost use Rattle.std.specs.Prelude.{◌≡◌, ℕ, ◌≤◌, ◌+◌, ◌++◌, List, [], length, drop, take};
 

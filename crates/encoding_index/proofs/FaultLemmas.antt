@@ -1,4 +1,4 @@
--- The first fault, by offsets. What is read of a text's lines, against its rows and its first fault.
+-- The first fault, by positions. What is read of a text's lines, against its rows and its first fault.
 use Rattle.std.proofs.Common.{◌≡◌, ◌≢◌, ℕ, ◌+◌, List, [], ◌∷◌, ◌++◌, length, get_or, Option, None, Some, inl, inr, refl, sym, ap, subst, ◌∙◌, length-append, append_assoc, arith, ◌<◌, ◌≤◌, Bool, true, false, Result, Ok, Err}
 use Rattle.std.specs.Option.{MatchOption}
 use Rattle.std.proofs.lemmas.Bool.{cases_lt}

@@ -52,7 +52,7 @@ answers_text tables kind text fault result listed (inl found) told =
 answers_text tables kind text fault result listed (inr refused) told =
     answers_memory (load_fault tables kind text) result (err_is result (Text fault) told ∙ ap (λ f. Err (Text f)) refused)
 
--- what `load` returns to what the tables returned
+-- what `load` returns for what the tables returned
 abbrev pub Follows : Result Done TableFault → Result Done LoadFault → Type 0
 Follows (Ok done) result = result ≡ Ok tt
 Follows (Err fault) result = result ≡ Err (Table fault)

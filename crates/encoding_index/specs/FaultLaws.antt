@@ -1,4 +1,4 @@
--- Which fault is the first, said of the lines by their offsets.
+-- Which fault is the first, said of the lines by their positions.
 use Rattle.std.specs.Prelude.{◌≡◌, ℕ, ◌+◌, ◌<◌, List, [], length, take, Option, None, Some, MatchOption, slice_index_or}
 use Rattle.encoding_index.specs.IndexText.{lines_in, rows_in, least_above, line_fault, first_fault}
 use Rattle.encoding_index.specs.declared.fault.IndexFault.{IndexFault}
@@ -9,7 +9,7 @@ use Rattle.encoding_index.specs.declared.fault.IndexFaultKind.{IndexFaultKind}
 abbrev pub fault_at : ℕ → List (List ℕ) → ℕ → Option IndexFaultKind
 fault_at size lines offset = line_fault size (least_above (rows_in (take offset lines))) (slice_index_or lines offset [])
 
--- no line before that offset is faulty
+-- no line before that position is faulty
 abbrev pub NoneFaultyBefore : ℕ → List (List ℕ) → ℕ → Type 0
 NoneFaultyBefore size lines offset = (k : ℕ) → k < offset → fault_at size lines k ≡ None
 

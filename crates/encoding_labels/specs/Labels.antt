@@ -86,7 +86,7 @@ label_text label = map to_ascii_lowercase (trimmed label)
 abbrev pub IsLabelOf : ℕ → List ℕ → Type 0
 IsLabelOf number label = Contains labels (number, label_text label)
 
--- the number at the first entry with this text
+-- the number in the first entry with this text
 abbrev pub label_number_in : List (ℕ × List ℕ) → List ℕ → Option ℕ
 label_number_in [] text = None
 label_number_in (entry ∷ entries) text = cond (bytes_eq entry.1 text) (Some entry.0) (label_number_in entries text)
@@ -105,7 +105,7 @@ pub record IsLabelText (text : List ℕ) : Type 0 where
   pub longest : length text ≤ 19
   pub bytes : AllPass is_label_byte text
 
--- the encodings in the order of their places_rise
+-- the encodings in the order of their numbers
 pub label_numbers_rise : (BIG5 ∷ EUC_JP ∷ EUC_KR ∷ GB18030 ∷ GBK ∷ IBM866 ∷ ISO_2022_JP ∷ ISO_8859_2 ∷ ISO_8859_3 ∷ ISO_8859_4 ∷ ISO_8859_5 ∷ ISO_8859_6 ∷ ISO_8859_7 ∷ ISO_8859_8 ∷ ISO_8859_8_I ∷ ISO_8859_10 ∷ ISO_8859_13 ∷ ISO_8859_14 ∷ ISO_8859_15 ∷ ISO_8859_16 ∷ KOI8_R ∷ KOI8_U ∷ MACINTOSH ∷ REPLACEMENT ∷ SHIFT_JIS ∷ UTF_8 ∷ UTF_16BE ∷ UTF_16LE ∷ WINDOWS_874 ∷ WINDOWS_1250 ∷ WINDOWS_1251 ∷ WINDOWS_1252 ∷ WINDOWS_1253 ∷ WINDOWS_1254 ∷ WINDOWS_1255 ∷ WINDOWS_1256 ∷ WINDOWS_1257 ∷ WINDOWS_1258 ∷ X_MAC_CYRILLIC ∷ X_USER_DEFINED ∷ []) ≡ range_with_len 0 ENCODING_COUNT
 label_numbers_rise = refl
 

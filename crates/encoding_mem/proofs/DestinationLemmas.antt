@@ -1,5 +1,5 @@
--- Text whose prefix was overwritten, and the bytes behind it cleared, is text. What a call wrote into the part of a
--- slice from an offset on. Bytes that move to the prefix.
+-- Text whose start was overwritten, and the bytes behind it cleared, is text. What a call wrote into the part of a
+-- slice from an offset on. Bytes that move to the start.
 use Rattle.std.proofs.Common.{◌≡◌, ℕ, zero, suc, ◌+◌, ◌-◌, ◌/◌, ◌%◌, ◌<◌, ◌≤◌, ◌⊎◌, inl, inr, true, false, cond, List, [], ◌∷◌, ◌++◌, length, take, drop, get_or, refl, sym, ◌∙◌, ap, subst, arith, append_assoc, encode_utf8_all, length-append, length-drop}
 use Rattle.std.specs.Int.{is_in_range}
 use Rattle.std.specs.Char.{encode_utf8}
@@ -217,7 +217,7 @@ drop_into a k n xs ys within size fits behind =
 pub length_into : (a k n : ℕ) (xs ys : List ℕ) → a ≤ length xs → n ≤ length ys → a + n ≤ length (put_mid a k xs ys)
 length_into a k n xs ys within fits = omega (arith, length-append (take a xs) (ys ++ post_of a k xs), length-append ys (post_of a k xs), length-take-le a xs within)
 
--- Bytes that move to the prefix.
+-- Bytes that move to the start.
 
 pub shifted : (xs : List ℕ) (n len : ℕ) → n ≤ len → len ≤ length xs → take (len - n) (copy_within xs n len 0) ≡ drop n (take len xs)
 shifted xs n len h k =

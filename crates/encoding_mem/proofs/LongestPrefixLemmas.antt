@@ -15,7 +15,7 @@ use Rattle.encoding_mem.specs.Writing.{Adds, len_utf16, encode_utf16_all}
 use Rattle.encoding_mem.specs.laws.Writing.{encode_utf16_all-append, length-encode_utf16}
 use Rattle.encoding_mem.proofs.AsciiRunLemmas.{run_is}
 
--- What was written from the prefix on.
+-- What was written from the start on.
 pub adds_prefix : (old text new : List ℕ) (k : ℕ) → Adds old 0 text new k → take k new ≡ text
 adds_prefix old text new k h = ap (take k) h.list ∙ take_at text (drop k old) k (omega (arith, h.counted))
 

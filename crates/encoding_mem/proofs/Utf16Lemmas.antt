@@ -54,7 +54,7 @@ high_here us i high = elim (cases_lt i (length us)) [ inl inside ↦ inside | in
 low_here : (us : List ℕ) (i : ℕ) → IsLowSurrogate (get_or us i 0) → i < length us
 low_here us i low = elim (cases_lt i (length us)) [ inl inside ↦ inside | inr past ↦ let z = get_or_past us i 0 past in absurd (omega arith) ]
 
--- a first surrogate with its partner at the start's end would make that one no lone one
+-- a first surrogate at the end of the prefix would be the partner of the next one, which is then no lone one
 prefix_ends : (us : List ℕ) (n : ℕ) → n ≤ length us → ((i : ℕ) → i < n → ¬ IsLoneSurrogate us i) → (n < length us → IsLoneSurrogate us n)
     → (i : ℕ) → i + 1 ≡ n → ¬ IsHighSurrogate (get_or us i 0)
 prefix_ends us n within none ends i last high = elim (cases_lt n (length us)) [

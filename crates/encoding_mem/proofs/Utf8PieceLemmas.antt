@@ -1,4 +1,4 @@
--- The first piece of UTF-8. The first piece of UTF-8 is a form or a maximal subpart.
+-- The first piece of UTF-8: it is a form or a maximal subpart.
 use Rattle.std.proofs.Common.{◌≡◌, ℕ, ◌≤◌, ◌<◌, Bool, true, false, cond, List, [], ◌∷◌, length, nat_lt, refl, ◌∙◌, ap, arith, suc, zero, ◌+◌, ◌/◌, ◌%◌, ◌⊎◌, inl, inr, ◌++◌, take, drop, sym, subst, append_assoc}
 use Rattle.std.specs.Int.{is_in_range, IsInRange}
 use Rattle.std.proofs.lemmas.Bool.Decides.{nat_tests}
@@ -221,7 +221,7 @@ record Opens (f : List ℕ → Piece) (k : ℕ) : Type 0 where
   more : List ℕ
   long : IsLong k (f more)
 
--- the byte behind the n bytes makes it bad, whatever follows
+-- the byte behind the n bytes makes it malformed, whatever follows
 record Shut (f : List ℕ → Piece) (k : ℕ) (x : List ℕ) (n : ℕ) : Type 0 where
   offset : ℕ
   behind : k + offset ≡ suc n
@@ -240,7 +240,7 @@ broken_cond : (t : Bool) (f g : List ℕ → Piece) (k : ℕ) (x : List ℕ) (p 
 broken_cond true f g k x p q h j = h
 broken_cond false f g k x p q h j = j
 
--- the byte just read makes it bad
+-- the byte just read makes it malformed
 broken_here : (k : ℕ) (x : List ℕ) → Broken (λ y. malformed k) (suc k) x k
 broken_here k x = record {
   opens = λ j e more. absurd (omega arith);

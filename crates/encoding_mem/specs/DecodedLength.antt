@@ -19,7 +19,7 @@ goes_on Units = true
 goes_on Bytes = false
 goes_on Replaced = true
 
--- what needs one room or another
+-- the room that a character takes, in units or in bytes
 abbrev pub cost_in : (is_units : Bool) → ℕ → ℕ
 cost_in is_units c = if is_units then len_utf16 c else len_utf8 c
 

@@ -1,4 +1,4 @@
--- What a rule says of the prefix of some bytes.
+-- What a rule says of the start of some bytes.
 use Rattle.std.specs.Prelude.{◌≡◌, ℕ, ◌+◌, ◌*◌, ◌≤◌, ◌<◌, Bool, false, IsTrue, Some, List, [], ◌∷◌, ◌++◌, length, drop}
 use Rattle.std.specs.Char.{len_utf8}
 use Rattle.encoding_mem.specs.Piece.{Piece, well_formed, malformed, first, piece_len}

@@ -48,7 +48,7 @@ Reports InputEmpty pending taken = AreWellFormed taken
 Reports OutputFull pending taken = AreWellFormed taken
 Reports (Malformed a b) pending taken = (pending ≡ b) × (a ≤ 4) × (b ≤ 3) × (a + b ≤ 6) × ((prefix : List Piece) × AreWellFormed prefix × (taken ≡ prefix ++ (malformed a ∷ [])))
 
--- What a call took: pieces that are Good as a whole. before and after are the pieces that the bytes to come give,
+-- What a call took: pieces that are WellFormed as a whole. before and after are the pieces that the bytes to come give,
 -- from the decoder as it was and as it is; Writes says that the scalars were written.
 pub record Takes (WellFormed : List Piece → Type 0) (before after : List ℕ → List Piece) (src : List ℕ) (last : Bool) (pending_before pending_after read : ℕ) (Writes : List ℕ → Type 0) : Type 0 where
   pub taken : List Piece
@@ -77,7 +77,7 @@ reported_event OutputFull offset = []
 reported_event (Malformed a b) offset = malformed_at a offset ∷ []
 
 -- The state law over events, whose offsets count from the first pending byte: the events of every continuation are the
--- scalars that were written, what was reported_event, and the events of what is left.
+-- scalars that were written, what was reported, and the events of what is left.
 abbrev pub EventLaw : (before after : DecoderState) (src : List ℕ) (last : Bool) (read : ℕ) (Writes : List ℕ → Type 0) → DecoderResult → Type 0
 EventLaw before after src last read Writes outcome =
     let offset : ℕ = before.pending + read - after.pending in

@@ -15,7 +15,7 @@ reported_item n InputEmpty = []
 reported_item n OutputFull = []
 reported_item n (Unmappable c) = LostAt (n - 1) c ∷ map Byte (reference c)
 
--- what was read has no unmappable but the reported_item last
+-- what was read has no unmappable character, but for a last one that is reported
 abbrev pub Reads : Coding → EncoderResult → List ℕ → Type 0
 Reads e InputEmpty prefix = AllMapped e prefix
 Reads e OutputFull prefix = AllMapped e prefix

@@ -19,7 +19,7 @@ pub record Follows (before after : List ℕ → List Piece) (bytes t : List ℕ)
   pub whole : sizes taken ≡ length bytes
   pub rest : (r : List ℕ) → before (bytes ++ r) ≡ taken ++ after r
 
--- two texts differ at an offset that both have
+-- two texts differ at a position that both have
 pub record AreApart (a b : List ℕ) : Type 0 where
   pub offset : ℕ
   pub in_one : offset < length a

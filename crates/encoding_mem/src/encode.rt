@@ -75,8 +75,8 @@ fn put(dst: &mut [u8], at: usize, bytes: &[u8]) -> usize
     }
 }
 
-// Copies the run of ASCII that is next to an offset, as much of it as fits, and returns the offset
-// behind it.
+// Copies the next run of ASCII to an offset, as much of it as fits, and returns the offset behind
+// it.
 #[inline(always)]
 fn copy_run<S: Source>(source: &mut S, dst: &mut [u8], at: usize) -> usize
     requires { at ≤ length dst.old }

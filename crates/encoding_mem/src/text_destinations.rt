@@ -20,8 +20,8 @@ fn clear_prefix(bytes: &mut [u8])
 }
 
 /// Clears what is behind the first `written` bytes of a destination that was a text before they
-/// were overwritten: the continuation bytes there, of a character whose prefix is gone, become 00.
-/// So it is a text again where what was written is one. Nothing else changes.
+/// were overwritten: the continuation bytes there, of a character whose first bytes are gone,
+/// become 00. So it is a text again where what was written is one. Nothing else changes.
 pub fn clear_behind(dst: &mut [u8], written: usize)
     requires { written ≤ length dst.old }
     ensures prefix { take written dst.new ≡ take written dst.old }

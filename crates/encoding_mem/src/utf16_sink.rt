@@ -76,7 +76,7 @@ impl<'a> Utf16Sink<'a> {
     }
 }
 
-// Writes each character of a text to the prefix of units, and returns the units written. The sink
+// Writes each character of a text to the start of units, and returns the units written. The sink
 // is its own, so that the offset stays in a register.
 fn write_chars(text: &str, dst: &mut [u16]) -> usize
     requires { length text.now ≤ length dst.old }

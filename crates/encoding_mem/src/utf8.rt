@@ -134,7 +134,7 @@ fn decide(bytes: &[u8], last: bool) -> FirstPiece
     }
 }
 
-// The bytes that are here may be the prefix of a longer sequence.
+// The bytes that are here may be a prefix of a longer sequence.
 fn cut_short(size: usize, last: bool) -> FirstPiece
     ensures { result ≡ cut_short size last }
 {

@@ -1,7 +1,7 @@
 use encoding_labels::label_number;
 use std::test::Fail;
 
-// Each encoding by its own name, in the order of the offsets.
+// Each encoding by its own name, in the order of the numbers.
 const NAMES: [&str; 40] = [
     "big5",
     "euc-jp",

@@ -313,7 +313,7 @@ impl Call {
     }
 }
 
-// Makes the calls of a round, those that are refused a second time, and prints their returns. After
+// Makes the calls of a round, those that are refused a second time, and prints their results. After
 // each call the first index has to be there as it was inserted.
 fn make(rt: HostRuntime, round: Round) -> anyhow::Result<()> {
     let mut tables = Tables::new(rt.alloc());

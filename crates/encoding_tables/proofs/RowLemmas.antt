@@ -107,7 +107,7 @@ value_nowhere size rows p n index rank other = elim (cases_eq (slice_index (flat
       ])
 ]
 
--- what a look at an offset gives
+-- what a look at a position gives
 pub row_got : (got rows : List (ℕ × ℕ)) (k : ℕ) (row : ℕ × ℕ) → got ≡ rows → k < length got → row ≡ get_or got k row → (k < length rows) × (row_at rows k ≡ row)
 row_got got rows k row same within is = (rw (← same) within, rw (← same) (get_or_default got k (0, 0) row within ∙ sym is))
 

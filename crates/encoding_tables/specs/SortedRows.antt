@@ -2,7 +2,7 @@
 use Rattle.std.proofs.Common.{refl}
 use Rattle.std.specs.Prelude.{◌≡◌, ℕ, ◌+◌, ◌^◌, ◌<◌, ◌≤◌, Bool, true, List, length, nat_lt, ◌==◌, ◌&&◌, ◌||◌, slice_index_or, slice_index}
 
--- the row at an offset
+-- the row at a position
 abbrev pub row_at : List (ℕ × ℕ) → ℕ → ℕ × ℕ
 row_at rows k = slice_index_or rows k (0, 0)
 
@@ -20,7 +20,7 @@ AreRising rows = (k : ℕ) → k + 1 < length rows → IsBelow (row_at rows k) (
 abbrev pub AreSorted : List (ℕ × ℕ) → Type 0
 AreSorted rows = (k : ℕ) → k + 1 < length rows → ¬ (IsBelow (row_at rows (k + 1)) (row_at rows k))
 
--- `rank` rows are below the key: those before this offset, and no others
+-- `rank` rows are below the key: those before this position, and no others
 pub record IsRank (rows : List (ℕ × ℕ)) (key : ℕ × ℕ) (rank : ℕ) : Type 0 where
   pub within : rank ≤ length rows
   pub below : (k : ℕ) → k < rank → IsBelow (row_at rows k) key
@@ -35,7 +35,7 @@ pub record IsDirectory (rows : List (ℕ × ℕ)) (begins : List ℕ) : Type 0 w
   pub ranks : (first : ℕ) → first < length begins → IsRank rows (first, 0) (slice_index begins first)
   pub last : (k : ℕ) → k < length rows → (row_at rows k).0 + 1 < length begins
 
--- the rows with a first number stand from one offset to before another
+-- the rows with a first number stand from one position to before another
 pub record IsSpan (rows : List (ℕ × ℕ)) (first from to : ℕ) : Type 0 where
   pub begins : IsRank rows (first, 0) from
   pub ends : IsRank rows (first + 1, 0) to

@@ -120,7 +120,7 @@ impl IndexKind {
         }
     }
 
-    // The offset of this kind among all.
+    // The number of this kind among all.
     pub(crate) fn slot(self) -> usize
         ensures value { result ≡ number self }
         ensures small { result < 34 }

@@ -131,7 +131,7 @@ fn value_by_rows(rows: &[(u32, u32)], pointer: u32) -> Option<char>
     }
 }
 
-// The pointer to which rows give a character: the offset that it would have in the last run that
+// The pointer to which rows give a character: the one that it would have in the last run that
 // begins with it or below, where the rows do give it that character.
 fn pointer_by_runs(rows: &[(u32, u32)], by_value: &[(u32, u32)], c: char) -> Option<u32>
     requires { ArePacked rows.now by_value.now }

@@ -11,7 +11,7 @@ fn is_below(row: (u32, u32), key: (u32, u32)) -> bool
     row.0 < key.0 || row.0 == key.0 && row.1 < key.1
 }
 
-/// How many of some rows are below `key`, which is the offset of the first row that is not, where
+/// How many of some rows are below `key`, which is the position of the first row that is not, where
 /// there is one; and how many rows were compared with it: at most the number of binary digits of
 /// how many rows there are.
 ///

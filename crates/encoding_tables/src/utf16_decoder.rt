@@ -109,7 +109,7 @@ fn decide_pair(big_endian: bool, high: u16, rest: &[u8], last: bool) -> FirstPie
     }
 }
 
-// The bytes that are here may be the prefix of a longer piece.
+// The bytes that are here may be a prefix of a longer piece.
 #[inline(always)]
 fn cut_short(size: usize, last: bool) -> FirstPiece
     ensures { result ≡ cut_short size last }

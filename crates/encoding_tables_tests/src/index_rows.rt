@@ -5,7 +5,7 @@ use encoding_tables::{IndexKind, TableFault, Tables};
 use std::alloc::Global;
 use std::test::Fail;
 
-// What tables result to rows of a kind; nothing where the rows are none that may be handed in.
+// What tables return for rows of a kind; nothing where the rows are none that may be handed in.
 fn insert(
     tables: &mut Tables,
     kind: IndexKind,
@@ -23,7 +23,7 @@ fn insert(
     Some(tables.insert_rows(kind, rows))
 }
 
-// What new tables result.
+// What new tables return for rows of a kind.
 fn answer(alloc: Global, kind: IndexKind, rows: &[(u32, u32)]) -> Option<Result<(), TableFault>> {
     let mut tables = Tables::new(alloc);
     insert(&mut tables, kind, rows)

@@ -196,7 +196,7 @@ module _ (before after : DecoderState) (src : List ℕ) (last : Bool) (read : �
   pub well_formed_sound : (c c' : Counts) → AreSound before.pending c → c'.index ≡ c.index + length t → c'.read ≡ c.read + read → c'.bad ≤ c'.index → c'.lost ≤ c'.index → AreSound after.pending c'
   well_formed_sound c c' h i r b l = record { index = omega (arith, well_formed_fits c h, i, r); bad = b; lost = l }
 
-  -- what was still to be written is the text, and what is still to be written now
+  -- what was still to be written is the text, then what is still to be written now
   well_formed_owed : (e : Coding) (s s' : EscapeState) (c c' : Counts) → before.pending ≤ c.read → s' ≡ last_set e s t → c'.index ≡ c.index + length t → c'.read ≡ c.read + read
       → (r : List ℕ) → (last ≡ true → r ≡ []) → trace_to_write before e s c (src ++ r) ≡ whole_items e false s c.index t ++ trace_to_write after e s' c' (drop read src ++ r)
   well_formed_owed e s s' c c' fits set_is index_is read_is r h =
@@ -218,7 +218,7 @@ module _ (before after : DecoderState) (src : List ℕ) (last : Bool) (read : �
       ap before.pieces (sym (append-nil src)) ∙ k.rest [] (λ _. refl) ∙ ap (λ x. k.taken ++ after.pieces x) (append-nil (drop read src)) in
       omega (arith, ap length e, length-append k.taken (after.pieces (drop read src)), some)
 
--- at the end nothing is still to be written
+-- at the end nothing is left to write
 pub none_owed : {need : ℕ} (after : DecoderState) (e : Coding) (s : EscapeState) (c : Counts) → IsCoding need e → s ≡ Ascii → after.pieces [] ≡ [] → trace_to_write after e s c [] ≡ []
 none_owed after e s c law set_is none =
     ap (trace_from e s (c.read - after.pending) c.index) none ∙ ap (closing e) set_is ∙ ap (map Byte) (law.same Ascii)
@@ -235,7 +235,7 @@ at_end before after src read t k e s s' c c' law all none set_is =
     ∙ sym (append-nil (whole_items e true s c.index t))
     ∙ ap (λ x. whole_items e true s c.index t ++ x) (sym (none_owed after e s' c' law set_is none))
 
--- what a call still to be written that read all
+-- what was still to be written before a call that read all
 pub ended_owed : {need : ℕ} (before after : DecoderState) (src : List ℕ) (last : Bool) (read : ℕ) (t : List ℕ) (k : WellFormedCall before after src last read t)
     (e : Coding) (s s' : EscapeState) (c c' : Counts) → IsCoding need e → before.pending ≤ c.read → drop read src ≡ [] → (last ≡ true → after.pieces [] ≡ [])
     → (last ≡ false → s' ≡ last_set e s t) → (last ≡ true → s' ≡ Ascii)
@@ -248,7 +248,7 @@ ended_owed before after src true read t k e s s' c c' law fits all none set_is a
     ∙ at_end before after src read t k e s s' c c' law all (none refl) (ascii refl)
     ∙ ap (λ x. whole_items e true s c.index t ++ trace_to_write after e s' c' x) (sym (ap (λ x. x ++ r) all ∙ h refl))
 
--- the first part of what a call still to be written that failed while it wrote
+-- the first part of what was still to be written before a call that failed while it wrote
 pub ended_prefix : (before after : DecoderState) (src : List ℕ) (last : Bool) (read : ℕ) (t : List ℕ) (k : WellFormedCall before after src last read t)
     (e : Coding) (s : EscapeState) (c : Counts) → before.pending ≤ c.read → drop read src ≡ [] → (last ≡ true → after.pieces [] ≡ [])
     → (r : List ℕ) → (last ≡ true → r ≡ []) → (rest : List Item) × (trace_to_write before e s c (src ++ r) ≡ whole_items e last s c.index t ++ rest)
@@ -304,7 +304,7 @@ module _ (before after : DecoderState) (src : List ℕ) (last : Bool) (read a b 
       ∙ ap (λ (n : ℕ). open_items e s c.index t ++ trace_from e (last_set e s t) n (c.index + length t) (malformed a ∷ rest)) offset_equals
       ∙ ap (λ x. x ++ trace_from e (last_set e s t) offset (c.index + length t) (malformed a ∷ rest)) (sym (append-nil (open_items e s c.index t)))
 
-  -- what was still to be written is the text, the malformed sequence and what is still to be written now
+  -- what was still to be written is the text, the malformed sequence, then what is still to be written now
   pub malformed_owed : (e : Coding) (s s1 s' : EscapeState) (c c1 c' : Counts) (offset : ℕ) → before.pending ≤ c.read → offset ≡ c.read + read - b - a
       → s1 ≡ last_set e s t → c1.index ≡ c.index + length t → s' ≡ e.set s1 0xFFFD → c'.index ≡ c1.index + 1 → c'.read ≡ c.read + read
       → (r : List ℕ) → (last ≡ true → r ≡ []) → trace_to_write before e s c (src ++ r)

@@ -15,7 +15,7 @@ turn_items e last outcome s text written s' rest i i' k passed =
     let P : ℕ → Type 0 = λ n. whole_items e last s i text ≡ map Byte written ++ (reported_item n outcome ++ whole_items e last s' n rest) in
     subst P at (k.items i)
 
--- some bytes less are still to be written
+-- fewer items are still to be written
 pub less_bytes : (a b : List Item) (bytes : List ℕ) (n : ℕ) → a ≡ map Byte (take n bytes) ++ b → n ≤ length bytes → 0 < n → length b < length a
 less_bytes a b bytes n e fits some =
     omega (arith, ap length e, length-append (map Byte (take n bytes)) b, length-map (take n bytes) Byte, length-take-le n bytes fits)

@@ -107,7 +107,7 @@ log_bytes-append e offset i offset1 i1 a b at index =
     ∙ ap (λ (k : ℕ). flat_map line_bytes (log_lines e offset i a) ++ flat_map line_bytes (log_lines e k (i + length (text a)) b)) (sym at)
     ∙ ap (λ (k : ℕ). flat_map line_bytes (log_lines e offset i a) ++ flat_map line_bytes (log_lines e offset1 k b)) (sym index)
 
--- What was written for pieces, where what is still to be written for the others stays still to be written.
+-- What was written for pieces, where what the others stand for is still to be written.
 module _ (e : Coding) (s s1 : EscapeState) (offset i offset1 i1 : ℕ) (taken qs : List Piece) (written_items : List Item)
     (set_is : s1 ≡ last_set e s (text taken)) (offset_is : offset1 ≡ offset + sizes taken) (index_is : i1 ≡ i + length (text taken))
     (is : trace_from e s offset i (taken ++ qs) ≡ written_items ++ trace_from e s1 offset1 i1 qs) where
@@ -260,7 +260,7 @@ soon r r1 w w1 l l1 j v x y ps qs more k settled is early =
           ]
     ]
 
--- A call that read all leaves what is pending settled.
+-- A call that read all leaves what is pending nearly decided.
 pub settled_of : (d : DecoderState) (last : Bool) → ((d.pending ≡ 0) × (d.pieces [] ≡ [])) ⊎ ((last ≡ false) × Waits d.pieces d.pending) → IsNearlyDecided d
 settled_of d last (inl h) = inl h
 settled_of d last (inr h) = inr h.1

@@ -22,7 +22,7 @@ use Rattle.recode.specs.PivotText.{Holds}
 use Rattle.recode.specs.declared.buffers.Pivot.{Pivot}
 use Rattle.recode.specs.declared.buffers.Pivot.TheVariants.{Utf8, Utf16}
 
--- what a call wrote to the prefix
+-- what a call wrote to the start
 pub written_prefix : (old new added : List ℕ) (n : ℕ) → Adds old 0 added new n → take n new ≡ added
 written_prefix old new added n a = ap (take n) a.list ∙ take_at added (drop n old) n (omega (arith, a.counted))
 

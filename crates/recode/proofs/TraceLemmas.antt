@@ -183,7 +183,7 @@ pub on_err_each : {T E X : Type 0} {Q : X → Type 0} (r : Result T E) → ((x :
 on_err_each (Ok x) p = tt
 on_err_each (Err e) p = p
 
--- after the last escape nothing is still to be written for no text
+-- after the last escape nothing is left to write for an empty text
 closed_nil : (need : ℕ) (e : Coding) (last : Bool) (s : EscapeState) (i : ℕ) → IsCoding need e → (last ≡ true → s ≡ Ascii) → whole_items e last s i [] ≡ []
 closed_nil need e true s i k h = ap (closing e) (h refl) ∙ ap (map Byte) (k.same Ascii)
 closed_nil need e false s i k h = refl

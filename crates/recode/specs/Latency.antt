@@ -26,7 +26,7 @@ pub record Advances (before after : List ℕ → List Piece) (e : Coding) (s s' 
   pub index : c'.index ≡ c.index + length (text taken)
 
 -- A chunk was read. The pieces that it decides were taken, however the input goes on: what was written is their text
--- and what was logged their lines, no more and no less, and what is pending is settled.
+-- and what was logged their lines, no more and no less, and what is pending is nearly decided.
 pub record ConvertsDecided (reader reader' writer writer' log log' : Option (List ℕ)) (d d' : DecoderState) (e : Coding) (s s' : EscapeState) (c c' : Counts) : Type 0 where
   pub chunk : List ℕ
   pub consumed : Consumes reader reader' chunk

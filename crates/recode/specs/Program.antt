@@ -1,4 +1,4 @@
--- What the program returns to its words.
+-- What the program does and returns for its words.
 use Rattle.std.specs.Prelude.{◌≡◌, ◌≢◌, ◌⊎◌, ℕ, List, Option, true}
 use Rattle.encoding_front.specs.Encodings.{HasLabel}
 use Rattle.encoding_front.specs.declared.encoding.Encoding.{Encoding}
@@ -70,7 +70,7 @@ pub record IsLeftAlone {R W : Type 0} (reader reader' : Counted R) (writer write
   pub unread : reader' ≡ reader
   pub unwritten : writer' ≡ writer
 
--- What is returned to words that clap takes: a label is unknown, or an index or memory is missing, or their job is
+-- What is returned for words that clap takes: a label is unknown, or an index or memory is missing, or their job is
 -- converted.
 abbrev pub AnswersWords : {R W L : Type 0} (left : R → Option (List ℕ)) (written : W → Option (List ℕ)) (logged : L → Option (List ℕ)) (reader reader' : Counted R) (writer writer' : Counted W) (log log' : Counted L) → Words → ℕ → Type 0
 AnswersWords left written logged reader reader' writer writer' log log' w status =
@@ -78,7 +78,7 @@ AnswersWords left written logged reader reader' writer writer' log log' w status
     ⊎ (((status ≡ 3) × IsLeftAlone reader reader' writer writer')
     ⊎ ((j : Job) × IsJobOf w j × IsConversion left written logged reader reader' writer writer' log log' j status))
 
--- What is returned to the program's words: they are refused, or the start fails, with nothing read and nothing written
+-- What is returned for the program's words: they are refused, or the start fails, with nothing read and nothing written
 -- but a message; or they ask for a text, with nothing read and no message; or the job that they mean is converted.
 pub record RefusesWords {R W : Type 0} (reader reader' : Counted R) (writer writer' : Counted W) (words : List (List ℕ)) (status : ℕ) : Type 0 where
   pub answered : status ≡ 2

@@ -19,7 +19,7 @@ pub record StepGoesOn (reader reader' writer writer' log log' : Option (List ℕ
   pub pays : WritesItemsFor writer writer' log log' c c' false (λ r. to_write (chunk ++ r)) to_write'
   pub source : (r : List ℕ) → encoding (chunk ++ r) ≡ encoding' r
 
--- The end was read, and all that was still to be written for it was written.
+-- The end was read, and all the rest of the trace was written.
 pub record Finishes (reader reader' writer writer' log log' : Option (List ℕ)) (c c' : Counts) (limit : ℕ) (to_write : List ℕ → List Item) (encoding encoding' : List ℕ → Encoding) : Type 0 where
   pub chunk : List ℕ
   pub consumed : Consumes reader reader' chunk

@@ -1,5 +1,4 @@
--- How what is still to be written is written: what a conversion has still to write for the input to come is a list of
--- items.
+-- How the writers take what a conversion has still to write for the input to come, which is a list of items.
 use Rattle.std.specs.Prelude.{◌≡◌, ℕ, ◌+◌, List, [], ◌∷◌, ◌++◌, Option, Bool, true}
 use Rattle.encoding_mem.specs.Items.{Item, Byte, MalformedAt, LostAt}
 use Rattle.recode.specs.TaggedByte.{TaggedByte, Wrote, IsPrefix, tagged}
@@ -23,8 +22,8 @@ pub record AreCounted (c c' : Counts) (written_items : List Item) : Type 0 where
   pub bad : c'.bad ≡ c.bad + bad_lines written_items
   pub lost : c'.lost ≡ c.lost + lost_lines written_items
 
--- The writers took these items, which are counted, and what was still to be written is these and what is still to be
--- written now.
+-- The writers took these items, which are counted, and what was still to be written is these, then what is still to
+-- be written now.
 pub record WritesItems (writer writer' log log' : Option (List ℕ)) (c c' : Counts) (to_write to_write' : List Item) : Type 0 where
   pub written_items : List Item
   pub wrote : Wrote writer writer' log log' (tagged written_items)

@@ -11,7 +11,7 @@ use recode_log::deliver::deliver;
 use recode_log::line::LogLine;
 use std::io::Write;
 
-/// Writes a line to the log, whole or to a prefix of it.
+/// Writes a line to the log, all of it or a prefix.
 pub fn log_line<L: Write>(log: &mut Counted<L>, line: LogLine) -> Result<(), Fault>
     requires valid { IsValid line }
     requires log { failures_of log.old < 2 ^ 64 - 1 }
@@ -26,7 +26,7 @@ pub fn log_line<L: Write>(log: &mut Counted<L>, line: LogLine) -> Result<(), Fau
     deliver(log, &bytes[..len], Fault::Log)
 }
 
-/// Writes the reference of a character that has no bytes, whole or to a prefix of it.
+/// Writes the reference of a character that has no bytes, all of it or a prefix.
 pub fn put_reference<W: Write>(writer: &mut Counted<W>, c: char) -> Result<(), Fault>
     requires { failures_of writer.old < 2 ^ 64 - 1 }
     ensures ok { OnOk result (Appends (W.contents (inner_of writer.old)) (W.contents (inner_of writer.new)) (reference c)

@@ -85,7 +85,7 @@ impl<T: Write> Counted<T> {
     ghost use Rattle.recode_log.specs.Counted.{inner_of, failures_of};
 
     /// Calls `Write::write` of the wrapped writer once, and returns what it returned: how many
-    /// bytes it took from the prefix of `buf`, or its error. An error is counted, and so is a 0
+    /// bytes it took from the start of `buf`, or its error. An error is counted, and so is a 0
     /// unless `buf` is empty.
     pub fn write(&mut self, buf: &[u8]) -> io::Result<usize>
         requires { failures_of self.old < 2 ^ 64 - 1 }

@@ -41,8 +41,7 @@ impl Env for Line {
     }
 }
 
-// Returns to the words with the bytes `ab` as input, and asserts the status, the output and the
-// log.
+// Runs the words with the bytes `ab` as input, and asserts the status, the output and the log.
 fn check(
     rt: &(impl Abort + Files + AllocGlobal),
     words: &'static [&'static [u8]],

@@ -1,5 +1,5 @@
-// Readers and writers whose failed calls are counted, and bytes that are written whole or to a
-// prefix of them.
+// Readers and writers whose failed calls are counted, and bytes that are written, all of them
+// or a prefix.
 
 ghost use Rattle.std.specs.Prelude.{◌≤◌, IfOk};
 
@@ -15,7 +15,7 @@ enum Answer {
     Fails(ErrorKind),
 }
 
-// Returns each call by the next of its returns, and moves no bytes once they are used up.
+// Gives each call the next of its answers, and moves no bytes once they are used up.
 #[derive(Drop)]
 struct Scripted<'a> {
     answers: &'a [Answer],

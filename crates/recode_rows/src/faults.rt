@@ -164,7 +164,7 @@ const ESCAPED: &[u8] = b"\x1B(J\\&#128169;\x1B(B";
 
 const ESCAPED_LINE: &[u8] = b"lost 1 128169\n";
 
-// What stands before the line's offset is written before the line, and the rest behind it.
+// The escape and the character before the lost one are written before the line, the rest after it.
 #[test]
 fn a_failed_escape_ends_it(rt: HostRuntime) -> Result<(), AllocError> {
     for way in WAYS {

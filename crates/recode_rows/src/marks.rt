@@ -123,7 +123,7 @@ fn marks_at_every_cut(rt: HostRuntime) -> Result<(), AllocError> {
     Ok(())
 }
 
-// The third read fails: what may be the prefix of a mark is held until more is known.
+// The third read fails: what may be a prefix of a mark is held until more is known.
 #[test]
 fn the_prefix_of_a_mark_is_held(rt: HostRuntime) -> Result<(), AllocError> {
     let rows: [(Mark, &[u8]); 2] = [(Mark::Sniff, b""), (Mark::Keep, b"\xC3\xAF\xC2\xBB")];

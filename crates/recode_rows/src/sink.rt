@@ -38,7 +38,7 @@ pub const WILLING: Manners = Manners {
 pub struct Flushes {
     /// How often.
     pub calls: usize,
-    /// The offset of the last one among the flushes of all writers, from 1.
+    /// The number of the last one among the flushes of all writers, from 1.
     pub turn: usize,
     /// How many bytes it had taken then.
     pub taken: usize,

@@ -85,8 +85,8 @@ fn answer_words<F: Files, R: Read, W: Write, L: Write>(
 }
 
 /// Does what the words of the command line ask for, as `recode::program` says, with the index files
-/// among these, and returns the exit status. Where there are no words, not even a name, the program
-/// has its own.
+/// among `files`, and returns the exit status. Where there are no words, not even a name, the
+/// program has its own.
 ///
 /// It is 2 (`REFUSED`) with the message `recode: a word is not UTF-8` where one is not, and 3
 /// (`NOT_STARTED`) with `recode: out of memory` where memory for the words was refused.

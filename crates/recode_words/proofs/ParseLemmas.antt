@@ -55,7 +55,7 @@ has_entry (x ∷ xs) id (suc i) lt h = go (bytes_eq x.0.now id) (has_entry xs id
 
 -- ---- one id
 
--- the rule at place k alone has this id
+-- the rule at index k alone has this id
 abbrev pub is_only : ℕ → Text → List Rule → Bool
 is_only k id [] = true
 is_only zero id (r ∷ rs) = list_all (λ x. not (bytes_eq x.id id)) rs
@@ -168,7 +168,7 @@ entry_has_value old m p plain parsed k d lt set delim least unique named own som
               ]
         ]
 
--- what has to hold of the rule at place k of the command, for its value to be there
+-- what has to hold of the rule at index k of the command, for its value to be there
 pub record IsValued (k : ℕ) (r : Rule) : Type 0 where
   pub below : k < 7
   pub at : (d : Rule) → slice_index_or recode_app.top.rules k d ≡ r

@@ -21,7 +21,7 @@ abbrev pub list_rule : Rule
 list_rule =
     record (new_rule (codes "list")) { long = Some (codes "list"); action = Some Version }
 
--- the command with a version, and before its options
+-- the command with a version, before it has its options
 abbrev pub named_app : App
 named_app =
     record (new_app (codes "recode")) { top = record (new_app (codes "recode")).top { has_version = true } }

@@ -103,7 +103,7 @@ fn refusal(
 
 /// What the words ask for, the program's name first: `recode --from LABEL --to LABEL [--indexes
 /// DIR] [--mark sniff|remove|keep] [--pivot utf8|utf16] [--limit N]`, or `--help`, `--version` or
-/// `--list`, which is the result wherever the words before it are well-formed. With `--version` and
+/// `--list`, which is the result wherever no word before it is refused. With `--version` and
 /// `--list` it is the list.
 ///
 /// The defaults are `.`, `sniff`, `utf8` and 2^48, which is also the greatest N; N is decimal digits with

@@ -34,7 +34,7 @@ three_escapes : pieces_iso_2022_jp jis0208 (0x1B ∷ 0x24 ∷ 0x42 ∷ 0x1B ∷ 
 unfolding pieces_in_mode pieces_in
 three_escapes = refl
 
--- what follows the prefix of an escape is read in the mode of the escape before it
+-- what follows a prefix of an escape is read in the mode of the escape before it
 malformed_escape_in_katakana : pieces_iso_2022_jp jis0208 (0x1B ∷ 0x28 ∷ 0x49 ∷ 0x1B ∷ 0x28 ∷ 0x21 ∷ []) ≡ well_formed 3 [] ∷ malformed 1 ∷ well_formed 1 (0xFF68 ∷ []) ∷ well_formed 1 (0xFF61 ∷ []) ∷ []
 unfolding pieces_in_mode pieces_in
 malformed_escape_in_katakana = refl

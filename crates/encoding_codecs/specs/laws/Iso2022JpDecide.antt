@@ -37,7 +37,7 @@ mode_after m x = unwrap_or (escape_at x) m
 
 -- ---- whether more bytes may change it
 
--- less than an escape, and all of it may be the prefix of one
+-- less than an escape, and a prefix of one
 abbrev pub may_be_escape : List ℕ → Bool
 may_be_escape [] = true
 may_be_escape (a ∷ []) = a == 0x1B

@@ -50,7 +50,7 @@ yen_and_reference = refl
 owes_escape : ReplacingEndsWith true CoderResult.OutputFull Roman []
 owes_escape = inr (refl, λ h. cc)
 
--- a call that is not the last has still to write nothing
+-- a call that is not the last has nothing more to write
 owes_nothing : ReplacingEndsWith false CoderResult.InputEmpty Roman []
 owes_nothing = (refl, λ h. absurd (cc))
 
@@ -117,7 +117,7 @@ unfolding no_tables digits
 reaches_into_the_kept = record { before = 0xA5 ∷ []; lost = 0x1F4A9; is = refl; unmapped = λ h. h; whole = refl; begins = lit≤ tt }
 
 -- U+00A5 U+1F4A9 into 18 bytes, of which 10 are kept back: the reference reaches into those, and ends the call. The
--- last call still has still to write the escape to ASCII, another has still to write nothing.
+-- last call has still to write the escape to ASCII, another has nothing more to write.
 state : EscapeState → EncoderState
 state s = record { tables = no_tables; encoding = Iso2022Jp; set = s }
 

@@ -18,7 +18,7 @@ use Rattle.encoding_front.specs.declared.encoding.Encoding.{Encoding}
 use Rattle.encoding_front.specs.declared.encoding.Encoding.TheVariants.{Big5}
 use Rattle.encoding_front.specs.declared.codec_kind.CodecKind.{CodecKind}
 
--- an offset in what follows i is an offset in the list
+-- an offset in what follows the offset i is an offset in the list
 pub within_from_rest : (xs : List ℕ) (i j : ℕ) → i ≤ length xs → j ≤ length (drop i xs) → i + j ≤ length xs
 within_from_rest xs i j within more = omega (arith, length-drop i xs)
 

@@ -61,7 +61,7 @@ marked_list = refl
 nothing : text_list 3 [] ≡ 0 ∷ 0 ∷ 0 ∷ []
 nothing = refl
 
--- another mark, and the prefix of this one, are no mark
+-- another mark, or a prefix of this one, is no mark
 other_marks : map (λ (m : List ℕ). first_fault 128 (m ++ codes "#")) ([] ∷ (0xEF ∷ 0xBB ∷ 0xBF ∷ []) ∷ (0xEF ∷ 0xBB ∷ []) ∷ (0xEF ∷ 0xBB ∷ 0xBE ∷ []) ∷ (0xEF ∷ 0xBA ∷ 0xBF ∷ []) ∷ (0xFE ∷ 0xFF ∷ []) ∷ [])
     ≡ None ∷ None ∷ fault_at 1 Row ∷ fault_at 1 Row ∷ fault_at 1 Row ∷ fault_at 1 Row ∷ []
 unfolding is_skipped row_in row_fault
@@ -92,7 +92,7 @@ last_pointer : first_fault 128 (codes "127\t0x0080") ≡ None
 unfolding is_skipped row_in row_fault
 last_pointer = refl
 
--- a line that breaks off, behind a well-formed one
+-- a line that breaks off, behind a whole one
 no_tab : first_fault 128 (codes "0\t0x0080\n1 0x0081") ≡ fault_at 2 Row
 unfolding is_skipped row_in row_fault
 no_tab = refl

@@ -129,6 +129,6 @@ multibyte_fits = refl
 greatest : queried decoded_length_single_byte Units 0xFFFFFFFFFFFFFFFF ≡ Some 0xFFFFFFFFFFFFFFFF
 greatest = refl
 
--- the most bytes of UTF-16 that are returned
+-- the most bytes of UTF-16 for which a number is returned
 most_pairs : queried decoded_length_utf16 Units 0xFFFFFFFFFFFFFFFE ≡ Some 0x8000000000000000
 most_pairs = refl

@@ -32,7 +32,7 @@ not_four_behind reports = absurd (omega (arith, reports.2))
 not_untold : ¬ (Reports InputEmpty 0 (malformed 1 ∷ []))
 not_untold reports = reports.0
 
--- E2 82 may be the prefix of a character, and what AC behind it makes of it is another piece
+-- E2 82 may be the start of a character, and what AC behind it makes of it is another piece
 prefix_is_undecided : IsUndecided pieces_utf8 (0xE2 ∷ 0x82 ∷ [])
 unfolding pieces_in
 prefix_is_undecided = record { more = 0xAC ∷ []; short = omega arith; differs = λ e. cc }

@@ -63,7 +63,7 @@ continues : (e : Coding) (s : EscapeState) (t w : List ℕ) (s' : EscapeState) (
 continues e s t w s' rest is sets r =
     open_from-append e s t r ∙ rw (is, sets, open_from-append e s' rest r) (append_assoc w _ _)
 
--- what is written and reported_item is what the text stands for, the closings aside
+-- what is written and reported is what the text stands for, the closings aside
 opened : (e : Coding) (last : Bool) (s : EscapeState) (t w : List ℕ) (s' : EscapeState) (rest : List ℕ) → last_set e s t ≡ last_set e s' rest
     → open_from e s t ++ cond last (e.escape (last_set e s t) Ascii) [] ≡ w ++ (open_from e s' rest ++ cond last (e.escape (last_set e s' rest) Ascii) [])
     → open_from e s t ≡ w ++ open_from e s' rest

@@ -51,6 +51,6 @@ with_rows = refl
 of_single_byte_encodings : map is_single_byte (single_byte_kinds ++ other_kinds) ≡ replicate 27 true ++ replicate 7 false
 of_single_byte_encodings = refl
 
--- each kind has its offset in this order
+-- each kind has its number in this order
 places : map number (single_byte_kinds ++ other_kinds) ≡ range_with_len 0 34
 places = refl

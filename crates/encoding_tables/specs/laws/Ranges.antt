@@ -105,7 +105,7 @@ taken row from least r rows order values =
     let tests = or_false (nat_lt r.0 from) (nat_lt 1237575 r.0) a.0 in
     (b.0, record { start = ltb-false r.0 from tests.0; last = ltb-false 1237575 r.0 tests.1; values = b.1; order = a.1; rest = b.2 })
 
--- the last row of a list with a row before them
+-- the last row of a list that a row is put before
 pub row_in_prefix : (q : ℕ) (r : ℕ × ℕ) (rows : List (ℕ × ℕ)) (s : ℕ × ℕ) → last_row q (r ∷ rows) ≡ Some s
     → (last_row q rows ≡ Some s) ⊎ ((last_row q rows ≡ None) × (r.0 ≤ q) × (r ≡ s))
 row_in_prefix q r rows s e = elim (option_or_some (last_row q rows) (cond (nat_lt q r.0) None (Some r)) s e) [
