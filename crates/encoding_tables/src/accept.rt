@@ -33,7 +33,7 @@ fn first_bad_entry(kind: IndexKind, flat: &[u32]) -> Option<usize>
     flat.iter().position(|entry| !is_entry(kind, *entry))
 }
 
-// The pointer of the first entry that is mapped.
+// The position of the first entry that is mapped.
 fn first_mapped(flat: &[u32]) -> Option<usize>
     ensures offset { result ≡ position (λ v. not (v == 0)) flat.now }
     ensures within { IfSome result (λ k. k < length flat.now) }
