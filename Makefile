@@ -2,7 +2,7 @@ PREFIX = /usr/local
 FROM = utf-8
 TO = utf-8
 
-.PHONY: build test lint edits run refused characters install
+.PHONY: build test lint edits status run refused characters install
 
 # Proves the program and all that it stands on, and builds it: crates/recode_cli/out/recode_cli.
 build:
@@ -22,6 +22,10 @@ lint:
 # The edits that the gate leaves out, each of which the prover must refuse: for a release, some 25 seconds of processor time each.
 edits:
 	@python3 tools/edits.py
+
+# The merge gate on a clean clone of HEAD, and what it said as docs/STATUS.md: an hour or more.
+status:
+	@python3 tools/status.py
 
 # The program on standard input, from FROM to TO, proved and built before where something has changed.
 run:
