@@ -5,10 +5,11 @@
 
 The prover has to refuse each. In a copy of the repository, with what checks have kept in `out/`, the edits of a crate
 are made in rounds: of each function at most one edit in a round. A check then says of each function whether it is
-proved, and an edit is refused where its own function is not; a function that only calls one that is not proved does
-not count. An edit of no function, as of a constant, and one that a round does not show refused, is tried alone: then
-the crate must not be proved. With `--gate` the edits of `must-fail/` are tried in this way. The status is 0 where all
-are refused. It takes some 25 seconds of processor time an edit, where the crates are proved.
+proved, and an edit is refused where its own function is not. A function that calls one that is not proved is not
+looked at: its edit comes into a later round. An edit of no function, as of a constant, and one that no round shows
+refused, is tried alone: then the crate must not be proved. With `--gate` the edits of `must-fail/` are tried in this
+way. The status is 0 where all are refused. It takes some 25 seconds of processor time an edit, where the crates are
+proved.
 """
 
 import os
@@ -111,14 +112,20 @@ def alone(crate, folder, edit):
 
 def try_crate(crate, folder, kind):
     edits = [Edit(os.path.join(folder, kind, name), folder) for name in sorted(os.listdir(os.path.join(folder, kind)))]
-    failed, single = 0, [edit for edit in edits if not edit.is_of_function]
-    for together, texts in rounds_of([edit for edit in edits if edit.is_of_function], folder):
-        said, _ = check(folder, texts)
-        for edit in together:
-            if edit.is_shown(said):
-                print("%s/%s: refused" % (crate, edit.name), flush=True)
-            else:
-                single.append(edit)
+    single, left, is_shown = [edit for edit in edits if not edit.is_of_function], [], True
+    open_ones = [edit for edit in edits if edit.is_of_function]
+    while open_ones and is_shown:
+        is_shown = False
+        for together, texts in rounds_of(open_ones, folder):
+            said, _ = check(folder, texts)
+            for edit in together:
+                if edit.is_shown(said):
+                    print("%s/%s: refused" % (crate, edit.name), flush=True)
+                    is_shown = True
+                else:
+                    left.append(edit)
+        open_ones, left = left, []
+    failed, single = 0, single + open_ones
     for edit in single:
         failed += not alone(crate, folder, edit)
     return len(edits), failed
