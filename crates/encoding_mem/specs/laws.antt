@@ -12,5 +12,6 @@ pub mod Stateless
 pub mod Utf8Coding
 pub mod EncodedLength
 pub mod Encoding
+pub mod SampleCoding
 pub mod ReadBack
 pub mod Steps

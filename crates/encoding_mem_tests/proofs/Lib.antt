@@ -1,1 +1,1 @@
-pub mod SmallTexts
+pub mod Latin1Lemmas

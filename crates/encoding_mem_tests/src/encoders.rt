@@ -2,7 +2,7 @@
 
 ghost use Rattle.std.specs.Prelude.{◌≤◌, length};
 ghost use Rattle.encoding_mem.specs.examples.SampleCoding.{sample_coding, sample_room};
-ghost use Rattle.encoding_mem_tests.specs.SampleCoding.{sample_coding_laws, sample_fits};
+ghost use Rattle.encoding_mem.specs.laws.SampleCoding.{sample_coding_laws, sample_fits};
 
 use encoding_mem::encode::{EncoderRule, encode};
 use encoding_mem::form::{Bytes, EscapeState, Form};
