@@ -4,6 +4,8 @@ use Rattle.std.specs.Prelude.{◌||◌}
 use Rattle.std.specs.Int.{is_in_range}
 use Rattle.std.proofs.lemmas.Bool.{cases_lt, cases_eq, cases_Bool, lt-ltb, le-ltb, le-leb, ne_eqb, eqb-false, or_parts, and_from}
 use Rattle.std.proofs.lemmas.Bool.Decides.{nat_tests}
+use Rattle.encoding_mem.specs.laws.Steps.{reference_behind}
+use Rattle.encoding_mem.specs.declared.reference.Reference.{Reference}
 use Rattle.encoding_mem.specs.Coding.{spelled, reference}
 use Rattle.encoding_mem.specs.Piece.{Piece, well_formed, piece_len, sizes, text, AreWellFormed}
 use Rattle.encoding_mem.specs.laws.Pieces.{pieces_in-cons}
@@ -196,9 +198,9 @@ mark jis0208 scalars Ascii y one = byte jis0208 scalars ascii_mode 0x26 0x26 y (
 mark jis0208 scalars Roman y one = byte jis0208 scalars roman_mode 0x26 0x26 y (λ e. absurd (omega (arith, e))) refl
 mark jis0208 scalars Jis y one = absurd one
 
-gives_reference : (jis0208 : List ℕ) → AreEntries jis0208 → (q : EscapeState) (d c : ℕ) → IsOneByte q → c ≢ 0x26 → Gives jis0208 q (spelled (Unmapped d)) c
-gives_reference jis0208 scalars q d c one other =
-    gives_other jis0208 q 0x26 (drop 1 (reference d)) 0x26 c (λ e. absurd (omega (arith, e))) (λ e. other (sym e)) (λ y. mark jis0208 scalars q y one)
+gives_reference : (ref : Reference) (jis0208 : List ℕ) → AreEntries jis0208 → (q : EscapeState) (d c : ℕ) → IsOneByte q → c ≢ 0x26 → Gives jis0208 q (spelled ref (Unmapped d)) c
+gives_reference ref jis0208 scalars q d c one other =
+    rw (reference_behind ref d) (gives_other jis0208 q 0x26 (drop 1 (reference ref d)) 0x26 c (λ e. absurd (omega (arith, e))) (λ e. other (sym e)) (λ y. mark jis0208 scalars q y one))
 
 -- ASCII where it is itself
 plain : (c : ℕ) → c < 0x80 → (c == 0x0E || c == 0x0F || c == 0x1B) ≡ false → ascii_piece c ≡ well_formed 1 (c ∷ [])
@@ -237,21 +239,21 @@ gives_pair jis0208 scalars d p c e =
     let entry : value_of jis0208 (jis_pair_pointer (0x21 + p / 94) (0x21 + p % 94)) ≡ Some d = ap (value_of jis0208) back ∙ at.entry in
     gives_piece jis0208 Jis (0x21 + p / 94) ((0x21 + p % 94) ∷ []) d c (λ k. absurd (omega (arith, k))) (λ r. pair jis0208 scalars (p / 94) (p % 94) d r high low entry)
 
-gives_pointer : (jis0208 : List ℕ) → AreEntries jis0208 → (o : Option ℕ) (s : EscapeState) (c : ℕ) → 0x80 ≤ c
-    → Gives jis0208 (set_after (sets_of_pointer (pointer_of jis0208 o)) s) (spelled (jis_form_of_pointer c (pointer_of jis0208 o))) c
-gives_pointer jis0208 scalars None s c high = gives_reference jis0208 scalars (set_after ascii_or_roman s) c c (one_byte s) (λ e. absurd (omega (arith, e, high)))
-gives_pointer jis0208 scalars (Some d) s c high = by (first_pointer jis0208 d 0 8836) refl
+gives_pointer : (ref : Reference) (jis0208 : List ℕ) → AreEntries jis0208 → (o : Option ℕ) (s : EscapeState) (c : ℕ) → 0x80 ≤ c
+    → Gives jis0208 (set_after (sets_of_pointer (pointer_of jis0208 o)) s) (spelled ref (jis_form_of_pointer c (pointer_of jis0208 o))) c
+gives_pointer ref jis0208 scalars None s c high = gives_reference ref jis0208 scalars (set_after ascii_or_roman s) c c (one_byte s) (λ e. absurd (omega (arith, e, high)))
+gives_pointer ref jis0208 scalars (Some d) s c high = by (first_pointer jis0208 d 0 8836) refl
   where
-    by : (p : Option ℕ) → first_pointer jis0208 d 0 8836 ≡ p → Gives jis0208 (set_after (sets_of_pointer (first_pointer jis0208 d 0 8836)) s) (spelled (jis_form_of_pointer c (first_pointer jis0208 d 0 8836))) c
-    by None e = rw e (gives_reference jis0208 scalars (set_after ascii_or_roman s) c c (one_byte s) (λ k. absurd (omega (arith, k, high))))
+    by : (p : Option ℕ) → first_pointer jis0208 d 0 8836 ≡ p → Gives jis0208 (set_after (sets_of_pointer (first_pointer jis0208 d 0 8836)) s) (spelled ref (jis_form_of_pointer c (first_pointer jis0208 d 0 8836))) c
+    by None e = rw e (gives_reference ref jis0208 scalars (set_after ascii_or_roman s) c c (one_byte s) (λ k. absurd (omega (arith, k, high))))
     by (Some p) e = rw (e, set_after-only Jis s) (gives_pair jis0208 scalars d p c e)
 
 -- ---- each character
 
-ascii_step : (jis0208 : List ℕ) → AreEntries jis0208 → (s : EscapeState) (c : ℕ) → c < 0x80
-    → Gives jis0208 (set_after (cond (c == 0x5C || c == 0x7E) (only Ascii) ascii_or_roman) s) (spelled (ascii_form c)) c
-ascii_step jis0208 scalars s c low = elim (cases_Bool (c == 0x0E || c == 0x0F || c == 0x1B)) [
-  | inl control ↦ rw control (gives_reference jis0208 scalars _ 0xFFFD c (chosen (c == 0x5C || c == 0x7E) s) (other c control))
+ascii_step : (ref : Reference) (jis0208 : List ℕ) → AreEntries jis0208 → (s : EscapeState) (c : ℕ) → c < 0x80
+    → Gives jis0208 (set_after (cond (c == 0x5C || c == 0x7E) (only Ascii) ascii_or_roman) s) (spelled ref (ascii_form c)) c
+ascii_step ref jis0208 scalars s c low = elim (cases_Bool (c == 0x0E || c == 0x0F || c == 0x1B)) [
+  | inl control ↦ rw control (gives_reference ref jis0208 scalars _ 0xFFFD c (chosen (c == 0x5C || c == 0x7E) s) (other c control))
   | inr free ↦ rw free (gives_ascii jis0208 scalars _ c (chosen (c == 0x5C || c == 0x7E) s) low free (either (c == 0x5C || c == 0x7E) s))
 ]
   where
@@ -271,23 +273,23 @@ ascii_step jis0208 scalars s c low = elim (cases_Bool (c == 0x0E || c == 0x0F ||
         clash : false ≡ true → ⊥
         clash k = cc
 
-high_step : (jis0208 katakana : List ℕ) → AreEntries jis0208 → (s : EscapeState) (c : ℕ) → 0x80 ≤ c
+high_step : (ref : Reference) (jis0208 katakana : List ℕ) → AreEntries jis0208 → (s : EscapeState) (c : ℕ) → 0x80 ≤ c
     → Gives jis0208 (set_after (cond (c == 0xA5 || c == 0x203E) (only Roman) (sets_of_pointer (pointer_of_char jis0208 katakana c))) s)
-    (spelled (cond (c == 0xA5) (Mapped (0x5C ∷ [])) (cond (c == 0x203E) (Mapped (0x7E ∷ [])) (jis_form_of_pointer c (pointer_of_char jis0208 katakana c))))) c
-high_step jis0208 katakana scalars s c high = elim (cases_eq c 0xA5) [
+    (spelled ref (cond (c == 0xA5) (Mapped (0x5C ∷ [])) (cond (c == 0x203E) (Mapped (0x7E ∷ [])) (jis_form_of_pointer c (pointer_of_char jis0208 katakana c))))) c
+high_step ref jis0208 katakana scalars s c high = elim (cases_eq c 0xA5) [
   | inl yen ↦ rw (yen, set_after-only Roman s) (gives_piece jis0208 Roman 0x5C [] 0xA5 0xA5 (λ e. absurd (omega (arith, e))) (λ r. byte jis0208 scalars roman_mode 0x5C 0xA5 r (λ e. absurd (omega (arith, e))) refl))
   | inr free ↦ elim (cases_eq c 0x203E) [
     | inl line ↦ rw (line, set_after-only Roman s) (gives_piece jis0208 Roman 0x7E [] 0x203E 0x203E (λ e. absurd (omega (arith, e))) (λ r. byte jis0208 scalars roman_mode 0x7E 0x203E r (λ e. absurd (omega (arith, e))) refl))
-    | inr frees ↦ rw (ne_eqb c 0xA5 free, ne_eqb c 0x203E frees) (gives_pointer jis0208 scalars (looked_up katakana c) s c high)
+    | inr frees ↦ rw (ne_eqb c 0xA5 free, ne_eqb c 0x203E frees) (gives_pointer ref jis0208 scalars (looked_up katakana c) s c high)
   ]
 ]
 
-gives : (jis0208 katakana : List ℕ) → AreEntries jis0208 → (s : EscapeState) (c : ℕ) → Gives jis0208 (set_after (iso_2022_jp_sets jis0208 katakana c) s) (spelled (iso_2022_jp_form jis0208 katakana c)) c
-gives jis0208 katakana scalars s c = elim (cases_lt c 0x80) [
-  | inl low ↦ rw (lt-ltb c 0x80 low) (ascii_step jis0208 scalars s c low)
-  | inr high ↦ rw (le-ltb c 0x80 high) (high_step jis0208 katakana scalars s c high)
+gives : (ref : Reference) (jis0208 katakana : List ℕ) → AreEntries jis0208 → (s : EscapeState) (c : ℕ) → Gives jis0208 (set_after (iso_2022_jp_sets jis0208 katakana c) s) (spelled ref (iso_2022_jp_form jis0208 katakana c)) c
+gives ref jis0208 katakana scalars s c = elim (cases_lt c 0x80) [
+  | inl low ↦ rw (lt-ltb c 0x80 low) (ascii_step ref jis0208 scalars s c low)
+  | inr high ↦ rw (le-ltb c 0x80 high) (high_step ref jis0208 katakana scalars s c high)
 ]
 
 pub iso_2022_jp_steps : (jis0208 katakana : List ℕ) → AreEntries jis0208 → StepLaw (iso_2022_jp_coding jis0208 katakana) (pieces_from_set jis0208)
-iso_2022_jp_steps jis0208 katakana scalars s c is =
-    behind_escape jis0208 scalars s (set_after (iso_2022_jp_sets jis0208 katakana c) s) (spelled (iso_2022_jp_form jis0208 katakana c)) c (gives jis0208 katakana scalars s c)
+iso_2022_jp_steps jis0208 katakana scalars ref s c is =
+    behind_escape jis0208 scalars s (set_after (iso_2022_jp_sets jis0208 katakana c) s) (spelled ref (iso_2022_jp_form jis0208 katakana c)) c (gives ref jis0208 katakana scalars s c)

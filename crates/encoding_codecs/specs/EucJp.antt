@@ -1,15 +1,13 @@
 -- EUC-JP, by the lists of the indexes jis0208 and jis0212 (the Encoding Standard, section 12.1, "EUC-JP").
-use Rattle.std.specs.Prelude.{◌≡◌, ℕ, ◌+◌, ◌-◌, ◌*◌, ◌/◌, ◌%◌, ◌==◌, ◌||◌, Bool, List, [], ◌∷◌, ◌++◌, nat_lt, if◌then◌else◌, Option, None, Some, replicate}
-use Rattle.std.proofs.Common.{refl}
+use Rattle.std.specs.Prelude.{ℕ, ◌+◌, ◌-◌, ◌*◌, ◌/◌, ◌%◌, ◌==◌, ◌||◌, Bool, List, [], ◌∷◌, nat_lt, if◌then◌else◌, Option, None, Some}
 use Rattle.std.specs.Int.{is_in_range}
 use Rattle.std.specs.Option.{option_map, option_or}
 use Rattle.encoding_mem.specs.Coding.{Coding}
-use Rattle.encoding_mem.specs.Piece.{Piece, well_formed, malformed}
-use Rattle.encoding_mem.specs.Pieces.{pieces_in, pieces_by}
+use Rattle.encoding_mem.specs.Piece.{Piece, malformed}
+use Rattle.encoding_mem.specs.Pieces.{pieces_by}
 use Rattle.encoding_mem.specs.Stateless.{stateless}
 use Rattle.encoding_tables.specs.Lookups.{value_of, first_pointer}
 use Rattle.encoding_mem.specs.declared.form.Form.{Form}
-use Rattle.encoding_mem.specs.declared.form.Form.TheVariants.{Unmapped}
 use Rattle.encoding_codecs.specs.JisForms.{is_katakana_byte, katakana_of_byte, is_katakana, byte_of_katakana, folded}
 use Rattle.encoding_codecs.specs.Pointers.{value_of_entry, form_of_bytes}
 use Rattle.encoding_codecs.specs.TwoByte.{first_piece_by_lead, after_bytes, piece_of_trail}

@@ -1,7 +1,7 @@
 -- What gb18030 and GBK make of a character (the Encoding Standard, section 10.2.2, "gb18030 encoder", and section
 -- 10.1.2, "GBK encoder"), by the list of the index and by the rows of the ranges. GBK has no extended range: no forms of
 -- four bytes.
-use Rattle.std.specs.Prelude.{◌≡◌, ℕ, ◌+◌, ◌/◌, ◌%◌, ◌==◌, ◌&&◌, not, Bool, true, false, List, [], ◌∷◌, nat_lt, if◌then◌else◌, Option, None, Some, refl}
+use Rattle.std.specs.Prelude.{ℕ, ◌+◌, ◌/◌, ◌%◌, ◌==◌, ◌&&◌, not, Bool, List, [], ◌∷◌, nat_lt, if◌then◌else◌, Option, None, Some}
 use Rattle.std.specs.List.{find}
 use Rattle.std.specs.Option.{option_map, option_or}
 use Rattle.encoding_mem.specs.EncodedLength.{encoded_length_gb18030, encoded_length_two_byte}
@@ -9,10 +9,8 @@ use Rattle.encoding_mem.specs.declared.room.EncodedLength.{EncodedLength}
 use Rattle.encoding_mem.specs.Coding.{Coding}
 use Rattle.encoding_mem.specs.Stateless.{stateless}
 use Rattle.encoding_mem.specs.declared.form.Form.{Form}
-use Rattle.encoding_mem.specs.declared.form.Form.TheVariants.{Mapped, Unmapped}
 use Rattle.encoding_tables.specs.Lookups.{first_pointer}
 use Rattle.encoding_tables.specs.Ranges.{range_pointer}
-use Rattle.encoding_codecs.specs.Gb18030.{sample_flat, sample_rows}
 use Rattle.encoding_codecs.specs.Pointers.{form_of_bytes}
 
 -- The standard's table of private-use characters and their bytes: those of the edition of 2005. The decoder reads

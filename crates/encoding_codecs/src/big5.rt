@@ -6,18 +6,22 @@ ghost use Rattle.encoding_mem.specs.EncodedLength.{encoded_length_two_byte};
 ghost use Rattle.encoding_tables.specs.IndexLists.{has, entries_of};
 ghost use Rattle.encoding_tables.specs.Lookups.{AreEntries};
 ghost use Rattle.encoding_codecs.specs.Big5.{big5_rule, big5_value, pieces_big5, takes_last, big5_find, big5_trail, big5_bytes, big5_form, big5_coding};
+ghost use Rattle.encoding_codecs.specs.laws.TwoByte.{two_byte_rule};
+ghost use Rattle.encoding_codecs.specs.laws.TwoByteDecide.{lead_rule_of};
 ghost use Rattle.encoding_codecs.specs.laws.Big5.{big5_is_two_byte, big5_laws};
 ghost use Rattle.encoding_codecs.specs.laws.Pointers.{ascii_by_pointer};
+ghost use Rattle.encoding_codecs.specs.laws.EncodedLengths.{two_byte_fits};
 ghost use Rattle.encoding_mem.specs.declared.form.EscapeState.TheVariants.{Ascii};
 
-use crate::lead_byte_rule::{FirstByte, LeadByteDecoderRule};
-use crate::stateless::{Forms, Stateless};
-use crate::two_byte::{PairValue, Pairs, TwoByte, value_of_entry};
+use crate::lead_byte_rule::{FirstByte, LeadByteDecoderRule, LeadByteRule};
+use crate::two_byte::{PairValue, decide_trail, value_of_entry};
+use encoding_mem::encode::StatelessRule;
+use encoding_mem::first_piece::{FirstPiece, cut_short};
 use encoding_mem::form::{Bytes, Form};
 use encoding_mem::room::{DecodedLength, EncodedLength};
 use encoding_mem::sink::Sink;
 use encoding_mem::sink_decoder::{Buffered, SinkDecoder};
-use encoding_mem::{DecoderResult, EncoderResult, RawDecoder, RawEncoder};
+use encoding_mem::{DecoderResult, RawDecoder, RawEncoder};
 use encoding_tables::{Flat, IndexKind, Tables};
 
 // The pointers that are written: below them stand Hong Kong's extensions.
@@ -33,6 +37,22 @@ struct Big5<'a> {
 }
 
 impl<'a> Big5<'a> {
+    // What a lead and a second byte give.
+    #[inline(always)]
+    fn pair(&self, lead: u8, second: u8) -> PairValue
+        requires { (big5_rule self.now.flat).first lead ≡ FirstByte.Lead }
+        ensures { result ≡ (big5_rule self.now.flat).pair lead second }
+    {
+        let row = (lead as u32 - 0x81) * 157;
+        if second >= 0x40 && second <= 0x7E {
+            self.value(row + (second as u32 - 0x40))
+        } else if second >= 0xA1 && second <= 0xFE {
+            self.value(row + (second as u32 - 0x62))
+        } else {
+            PairValue::NoChar
+        }
+    }
+
     // What a pointer gives: four give a letter and a combining mark, whatever the index holds.
     #[inline(always)]
     fn value(&self, pointer: u32) -> PairValue
@@ -44,19 +64,6 @@ impl<'a> Big5<'a> {
             1164 => PairValue::TwoChars('\u{EA}', '\u{304}'),
             1166 => PairValue::TwoChars('\u{EA}', '\u{30C}'),
             _ => value_of_entry(self.flat.value(pointer)),
-        }
-    }
-
-    // The pointer that is written for a character.
-    #[inline(always)]
-    fn pointer_of(&self, c: char) -> Option<u32>
-        ensures pointer { result ≡ big5_find self.now.flat c }
-        ensures before { IfSome result (λ p. p < 19782) }
-    {
-        if takes_last(c) {
-            self.flat.last_pointer(c, WRITTEN_START, WRITTEN_END)
-        } else {
-            self.flat.first_pointer(c, WRITTEN_START, WRITTEN_END)
         }
     }
 }
@@ -83,10 +90,10 @@ fn trail_of(rest: u8) -> u8
     if rest < 63 { 0x40 + rest } else { 0x62 + rest }
 }
 
-impl<'a> TwoByte for Big5<'a> {
-    ghost rule = { λ s. big5_rule s.flat };
+impl<'a> LeadByteRule for Big5<'a> {
+    ghost rule = { λ s. lead_rule_of (big5_rule s.flat) };
 
-    ghost laws = { λ s. big5_is_two_byte s.flat s.scalars };
+    ghost laws = { λ s. two_byte_rule (big5_rule s.flat) (big5_is_two_byte s.flat s.scalars) };
 
     #[inline(always)]
     fn first(&self, byte: u8) -> FirstByte {
@@ -98,47 +105,11 @@ impl<'a> TwoByte for Big5<'a> {
     }
 
     #[inline(always)]
-    fn pair(&self, lead: u8, second: u8) -> PairValue {
-        let row = (lead as u32 - 0x81) * 157;
-        if second >= 0x40 && second <= 0x7E {
-            self.value(row + (second as u32 - 0x40))
-        } else if second >= 0xA1 && second <= 0xFE {
-            self.value(row + (second as u32 - 0x62))
-        } else {
-            PairValue::NoChar
+    fn after_lead(&self, lead: u8, rest: &[u8], last: bool) -> FirstPiece {
+        match rest {
+            [] => cut_short(1, last),
+            [second, ..] => decide_trail(1, self.pair(lead, *second), *second),
         }
-    }
-}
-
-impl<'a> Forms for Big5<'a> {
-    ghost form = { λ s. big5_form s.flat };
-
-    ghost coding = { λ s. big5_laws s.flat };
-
-    ghost ascii = { λ s. ascii_by_pointer big5_bytes (big5_find s.flat) };
-
-    #[inline(always)]
-    fn form_of(&self, c: char) -> Form {
-        if c < '\u{80}' {
-            return Form::Mapped(Bytes::one(c as u8));
-        }
-        match self.pointer_of(c) {
-            Some(pointer) => Form::Mapped(Bytes::two(
-                0x81 + (pointer / 157) as u8,
-                trail_of((pointer % 157) as u8),
-            )),
-            None => Form::Unmapped(c),
-        }
-    }
-}
-
-// The index of tables in which it is there.
-fn index_of(tables: &Tables) -> Big5<'_>
-    requires { has tables.now IndexKind.Big5 ≡ true }
-    ensures { result.flat ≡ entries_of tables.now IndexKind.Big5 }
-{
-    Big5 {
-        flat: tables.flat(IndexKind::Big5),
     }
 }
 
@@ -147,7 +118,7 @@ fn index_of(tables: &Tables) -> Big5<'_>
 /// or 62. Four pointers give a letter and a combining mark.
 #[derive(Drop)]
 pub struct Big5Decoder<'a> {
-    inner: Buffered<LeadByteDecoderRule<Pairs<Big5<'a>>>>,
+    inner: Buffered<LeadByteDecoderRule<Big5<'a>>>,
 }
 
 impl<'a> Big5Decoder<'a> {
@@ -159,7 +130,9 @@ impl<'a> Big5Decoder<'a> {
         ensures room { (⟦<Big5Decoder<'a> as RawDecoder>⟧.state result).room ≡ decoded_length_multibyte }
     {
         Big5Decoder {
-            inner: Buffered::new(LeadByteDecoderRule::new(Pairs::new(index_of(tables)))),
+            inner: Buffered::new(LeadByteDecoderRule::new(Big5 {
+                flat: tables.flat(IndexKind::Big5),
+            })),
         }
     }
 
@@ -172,7 +145,7 @@ impl<'a> Big5Decoder<'a> {
 }
 
 impl<'a> SinkDecoder for Big5Decoder<'a> {
-    ghost state = { λ d. ⟦<Buffered<LeadByteDecoderRule<Pairs<Big5<'a>>>> as SinkDecoder>⟧.state d.inner };
+    ghost state = { λ d. ⟦<Buffered<LeadByteDecoderRule<Big5<'a>>> as SinkDecoder>⟧.state d.inner };
 
     #[inline(always)]
     fn decode_into<S: Sink>(
@@ -198,7 +171,7 @@ impl<'a> SinkDecoder for Big5Decoder<'a> {
 /// a pointer is unmappable. There is no state.
 #[derive(Drop)]
 pub struct Big5Encoder<'a> {
-    inner: Stateless<Big5<'a>>,
+    flat: Flat<'a>,
 }
 
 impl<'a> Big5Encoder<'a> {
@@ -211,45 +184,52 @@ impl<'a> Big5Encoder<'a> {
         ensures limits { ⟦<Big5Encoder<'a> as RawEncoder>⟧.limits result ≡ encoded_length_two_byte }
     {
         Big5Encoder {
-            inner: Stateless::new(index_of(tables)),
+            flat: tables.flat(IndexKind::Big5),
+        }
+    }
+
+    // The pointer that is written for a character.
+    #[inline(always)]
+    fn pointer_of(&self, c: char) -> Option<u32>
+        ensures pointer { result ≡ big5_find self.now.flat c }
+        ensures before { IfSome result (λ p. p < 19782) }
+    {
+        if takes_last(c) {
+            self.flat.last_pointer(c, WRITTEN_START, WRITTEN_END)
+        } else {
+            self.flat.first_pointer(c, WRITTEN_START, WRITTEN_END)
         }
     }
 }
 
-impl<'a> RawEncoder for Big5Encoder<'a> {
-    ghost need = { λ e. ⟦<Stateless<Big5<'a>> as RawEncoder>⟧.need e.inner };
+impl<'a> StatelessRule for Big5Encoder<'a> {
+    ghost need = { λ _. 2 };
 
-    ghost coding = { λ e. ⟦<Stateless<Big5<'a>> as RawEncoder>⟧.coding e.inner };
+    ghost form = { λ e. big5_form e.flat };
 
-    ghost set = { λ e. ⟦<Stateless<Big5<'a>> as RawEncoder>⟧.set e.inner };
+    ghost limits = { λ _. encoded_length_two_byte };
 
-    ghost limits = { λ e. ⟦<Stateless<Big5<'a>> as RawEncoder>⟧.limits e.inner };
+    ghost laws = { λ e. big5_laws e.flat };
 
-    ghost laws = { λ e. big5_laws e.inner.forms.flat };
+    ghost fits = { λ e. two_byte_fits (big5_form e.flat) (big5_laws e.flat) (ascii_by_pointer big5_bytes (big5_find e.flat)) };
 
-    fn encode_from_utf8_raw(
-        &mut self,
-        src: &str,
-        dst: &mut [u8],
-        last: bool,
-    ) -> (EncoderResult, usize, usize) {
-        self.inner.encode_from_utf8_raw(src, dst, last)
+    ghost ascii = { λ e. ascii_by_pointer big5_bytes (big5_find e.flat) };
+
+    #[inline(always)]
+    fn form_of(&self, c: char) -> Form {
+        if c < '\u{80}' {
+            return Form::Mapped(Bytes::one(c as u8));
+        }
+        match self.pointer_of(c) {
+            Some(pointer) => Form::Mapped(Bytes::two(
+                0x81 + (pointer / 157) as u8,
+                trail_of((pointer % 157) as u8),
+            )),
+            None => Form::Unmapped(c),
+        }
     }
 
-    fn encode_from_utf16_raw(
-        &mut self,
-        src: &[u16],
-        dst: &mut [u8],
-        last: bool,
-    ) -> (EncoderResult, usize, usize) {
-        self.inner.encode_from_utf16_raw(src, dst, last)
-    }
-
-    fn room(&self) -> EncodedLength {
-        self.inner.room()
-    }
-
-    fn has_pending_state(&self) -> bool {
-        self.inner.has_pending_state()
+    fn encoded_length(&self) -> EncodedLength {
+        EncodedLength::two_byte()
     }
 }

@@ -8,18 +8,19 @@ ghost use Rattle.encoding_tables.specs.Lookups.{AreEntries};
 ghost use Rattle.encoding_codecs.specs.EucJp.{is_pointer_byte, euc_jp_first, euc_pair, euc_jp_pair, euc_jp_after, pieces_euc_jp, own_bytes, euc_jp_pair_bytes, euc_jp_char_bytes, euc_jp_form, euc_jp_coding};
 ghost use Rattle.encoding_codecs.specs.laws.EucJpDecide.{decide_8f, decide_euc_jp};
 ghost use Rattle.encoding_codecs.specs.laws.EucJp.{euc_jp_is_lead_rule, euc_jp_ascii, euc_jp_laws};
+ghost use Rattle.encoding_codecs.specs.laws.EncodedLengths.{two_byte_fits};
 ghost use Rattle.encoding_mem.specs.declared.form.EscapeState.TheVariants.{Ascii};
 
 use crate::jis::{byte_of_katakana, folded, is_katakana, is_katakana_byte, katakana_of_byte};
 use crate::lead_byte_rule::{FirstByte, LeadByteDecoderRule, LeadByteRule};
-use crate::stateless::{Forms, Stateless, form_of_bytes};
-use crate::two_byte::{PairValue, cut_short, decide_trail, value_of_entry};
-use encoding_mem::first_piece::FirstPiece;
+use crate::two_byte::{PairValue, decide_trail, form_of_bytes, value_of_entry};
+use encoding_mem::encode::StatelessRule;
+use encoding_mem::first_piece::{FirstPiece, cut_short};
 use encoding_mem::form::{Bytes, Form};
 use encoding_mem::room::{DecodedLength, EncodedLength};
 use encoding_mem::sink::Sink;
 use encoding_mem::sink_decoder::{Buffered, SinkDecoder};
-use encoding_mem::{DecoderResult, EncoderResult, RawDecoder, RawEncoder};
+use encoding_mem::{DecoderResult, RawDecoder, RawEncoder};
 use encoding_tables::{Flat, IndexKind, Tables};
 
 // The indexes that are read.
@@ -32,11 +33,11 @@ struct EucJpLeads<'a> {
 }
 
 impl<'a> LeadByteRule for EucJpLeads<'a> {
-    ghost first_byte = { λ _. euc_jp_first };
-
-    ghost after = { λ s. euc_jp_after s.jis0208 s.jis0212 };
-
-    ghost decided = { λ s. decide_euc_jp s.jis0208 s.jis0212 };
+    ghost rule = { λ s. record {
+      first = euc_jp_first;
+      after = euc_jp_after s.jis0208 s.jis0212;
+      decide = decide_euc_jp s.jis0208 s.jis0212;
+    } };
 
     ghost laws = { λ s. euc_jp_is_lead_rule s.jis0208 s.jis0212 s.scalars s.scalars_behind_8f };
 
@@ -175,25 +176,6 @@ impl<'a> SinkDecoder for EucJpDecoder<'a> {
     }
 }
 
-// The index that is written.
-#[derive(Drop)]
-struct EucJpForms<'a> {
-    jis0208: Flat<'a>,
-}
-
-impl<'a> Forms for EucJpForms<'a> {
-    ghost form = { λ s. euc_jp_form s.jis0208 };
-
-    ghost coding = { λ s. euc_jp_laws s.jis0208 };
-
-    ghost ascii = { λ s. euc_jp_ascii s.jis0208 };
-
-    #[inline(always)]
-    fn form_of(&self, c: char) -> Form {
-        form_of_bytes(c, bytes_of_char(&self.jis0208, c))
-    }
-}
-
 // The bytes of a character.
 #[inline(always)]
 fn bytes_of_char(jis0208: &Flat<'_>, c: char) -> Option<Bytes>
@@ -240,7 +222,7 @@ fn bytes_of_pointer(pointer: u32) -> Bytes
 /// U+FF0D. One without a pointer is unmappable: jis0212 is never written. There is no state.
 #[derive(Drop)]
 pub struct EucJpEncoder<'a> {
-    inner: Stateless<EucJpForms<'a>>,
+    jis0208: Flat<'a>,
 }
 
 impl<'a> EucJpEncoder<'a> {
@@ -253,47 +235,30 @@ impl<'a> EucJpEncoder<'a> {
         ensures limits { ⟦<EucJpEncoder<'a> as RawEncoder>⟧.limits result ≡ encoded_length_two_byte }
     {
         EucJpEncoder {
-            inner: Stateless::new(EucJpForms {
-                jis0208: tables.flat(IndexKind::Jis0208),
-            }),
+            jis0208: tables.flat(IndexKind::Jis0208),
         }
     }
 }
 
-impl<'a> RawEncoder for EucJpEncoder<'a> {
-    ghost need = { λ e. ⟦<Stateless<EucJpForms<'a>> as RawEncoder>⟧.need e.inner };
+impl<'a> StatelessRule for EucJpEncoder<'a> {
+    ghost need = { λ _. 2 };
 
-    ghost coding = { λ e. ⟦<Stateless<EucJpForms<'a>> as RawEncoder>⟧.coding e.inner };
+    ghost form = { λ e. euc_jp_form e.jis0208 };
 
-    ghost set = { λ e. ⟦<Stateless<EucJpForms<'a>> as RawEncoder>⟧.set e.inner };
+    ghost limits = { λ _. encoded_length_two_byte };
 
-    ghost limits = { λ e. ⟦<Stateless<EucJpForms<'a>> as RawEncoder>⟧.limits e.inner };
+    ghost laws = { λ e. euc_jp_laws e.jis0208 };
 
-    ghost laws = { λ e. euc_jp_laws e.inner.forms.jis0208 };
+    ghost fits = { λ e. two_byte_fits (euc_jp_form e.jis0208) (euc_jp_laws e.jis0208) (euc_jp_ascii e.jis0208) };
 
-    fn encode_from_utf8_raw(
-        &mut self,
-        src: &str,
-        dst: &mut [u8],
-        last: bool,
-    ) -> (EncoderResult, usize, usize) {
-        self.inner.encode_from_utf8_raw(src, dst, last)
+    ghost ascii = { λ e. euc_jp_ascii e.jis0208 };
+
+    #[inline(always)]
+    fn form_of(&self, c: char) -> Form {
+        form_of_bytes(c, bytes_of_char(&self.jis0208, c))
     }
 
-    fn encode_from_utf16_raw(
-        &mut self,
-        src: &[u16],
-        dst: &mut [u8],
-        last: bool,
-    ) -> (EncoderResult, usize, usize) {
-        self.inner.encode_from_utf16_raw(src, dst, last)
-    }
-
-    fn room(&self) -> EncodedLength {
-        self.inner.room()
-    }
-
-    fn has_pending_state(&self) -> bool {
-        self.inner.has_pending_state()
+    fn encoded_length(&self) -> EncodedLength {
+        EncodedLength::two_byte()
     }
 }

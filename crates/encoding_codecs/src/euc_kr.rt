@@ -6,18 +6,22 @@ ghost use Rattle.encoding_mem.specs.EncodedLength.{encoded_length_two_byte};
 ghost use Rattle.encoding_tables.specs.IndexLists.{has, entries_of};
 ghost use Rattle.encoding_tables.specs.Lookups.{AreEntries, first_pointer};
 ghost use Rattle.encoding_codecs.specs.EucKr.{euc_kr_rule, pieces_euc_kr, euc_kr_bytes, euc_kr_form, euc_kr_coding};
+ghost use Rattle.encoding_codecs.specs.laws.TwoByte.{two_byte_rule};
+ghost use Rattle.encoding_codecs.specs.laws.TwoByteDecide.{lead_rule_of};
 ghost use Rattle.encoding_codecs.specs.laws.EucKr.{euc_kr_is_two_byte, euc_kr_laws};
 ghost use Rattle.encoding_codecs.specs.laws.Pointers.{ascii_by_pointer};
+ghost use Rattle.encoding_codecs.specs.laws.EncodedLengths.{two_byte_fits};
 ghost use Rattle.encoding_mem.specs.declared.form.EscapeState.TheVariants.{Ascii};
 
-use crate::lead_byte_rule::{FirstByte, LeadByteDecoderRule};
-use crate::stateless::{Forms, Stateless};
-use crate::two_byte::{PairValue, Pairs, TwoByte, value_of_entry};
+use crate::lead_byte_rule::{FirstByte, LeadByteDecoderRule, LeadByteRule};
+use crate::two_byte::{PairValue, decide_trail, value_of_entry};
+use encoding_mem::encode::StatelessRule;
+use encoding_mem::first_piece::{FirstPiece, cut_short};
 use encoding_mem::form::{Bytes, Form};
 use encoding_mem::room::{DecodedLength, EncodedLength};
 use encoding_mem::sink::Sink;
 use encoding_mem::sink_decoder::{Buffered, SinkDecoder};
-use encoding_mem::{DecoderResult, EncoderResult, RawDecoder, RawEncoder};
+use encoding_mem::{DecoderResult, RawDecoder, RawEncoder};
 use encoding_tables::{Flat, IndexKind, Tables};
 
 // Its index.
@@ -27,10 +31,10 @@ struct EucKr<'a> {
     ghost scalars: { AreEntries flat },
 }
 
-impl<'a> TwoByte for EucKr<'a> {
-    ghost rule = { λ s. euc_kr_rule s.flat };
+impl<'a> LeadByteRule for EucKr<'a> {
+    ghost rule = { λ s. lead_rule_of (euc_kr_rule s.flat) };
 
-    ghost laws = { λ s. euc_kr_is_two_byte s.flat s.scalars };
+    ghost laws = { λ s. two_byte_rule (euc_kr_rule s.flat) (euc_kr_is_two_byte s.flat s.scalars) };
 
     #[inline(always)]
     fn first(&self, byte: u8) -> FirstByte {
@@ -42,7 +46,21 @@ impl<'a> TwoByte for EucKr<'a> {
     }
 
     #[inline(always)]
-    fn pair(&self, lead: u8, second: u8) -> PairValue {
+    fn after_lead(&self, lead: u8, rest: &[u8], last: bool) -> FirstPiece {
+        match rest {
+            [] => cut_short(1, last),
+            [second, ..] => decide_trail(1, self.pair(lead, *second), *second),
+        }
+    }
+}
+
+impl<'a> EucKr<'a> {
+    // What a lead and a second byte give.
+    #[inline(always)]
+    fn pair(&self, lead: u8, second: u8) -> PairValue
+        requires { (euc_kr_rule self.now.flat).first lead ≡ FirstByte.Lead }
+        ensures { result ≡ (euc_kr_rule self.now.flat).pair lead second }
+    {
         if second < 0x41 || second > 0xFE {
             return PairValue::NoChar;
         }
@@ -51,43 +69,11 @@ impl<'a> TwoByte for EucKr<'a> {
     }
 }
 
-impl<'a> Forms for EucKr<'a> {
-    ghost form = { λ s. euc_kr_form s.flat };
-
-    ghost coding = { λ s. euc_kr_laws s.flat };
-
-    ghost ascii = { λ s. ascii_by_pointer euc_kr_bytes (λ c. first_pointer s.flat c 0 23940) };
-
-    #[inline(always)]
-    fn form_of(&self, c: char) -> Form {
-        if c < '\u{80}' {
-            return Form::Mapped(Bytes::one(c as u8));
-        }
-        match self.flat.first_pointer(c, 0, 23940) {
-            Some(pointer) => Form::Mapped(Bytes::two(
-                0x81 + (pointer / 190) as u8,
-                0x41 + (pointer % 190) as u8,
-            )),
-            None => Form::Unmapped(c),
-        }
-    }
-}
-
-// The index of tables in which it is there.
-fn index_of(tables: &Tables) -> EucKr<'_>
-    requires { has tables.now IndexKind.EucKr ≡ true }
-    ensures { result.flat ≡ entries_of tables.now IndexKind.EucKr }
-{
-    EucKr {
-        flat: tables.flat(IndexKind::EucKr),
-    }
-}
-
 /// Decodes EUC-KR: 00 to 7F give themselves, a lead from 81 and a trail from 41, each to FE, the entry at
 /// `(lead - 81) * 190 + trail - 41`, where the bytes are hexadecimal.
 #[derive(Drop)]
 pub struct EucKrDecoder<'a> {
-    inner: Buffered<LeadByteDecoderRule<Pairs<EucKr<'a>>>>,
+    inner: Buffered<LeadByteDecoderRule<EucKr<'a>>>,
 }
 
 impl<'a> EucKrDecoder<'a> {
@@ -99,7 +85,9 @@ impl<'a> EucKrDecoder<'a> {
         ensures room { (⟦<EucKrDecoder<'a> as RawDecoder>⟧.state result).room ≡ decoded_length_multibyte }
     {
         EucKrDecoder {
-            inner: Buffered::new(LeadByteDecoderRule::new(Pairs::new(index_of(tables)))),
+            inner: Buffered::new(LeadByteDecoderRule::new(EucKr {
+                flat: tables.flat(IndexKind::EucKr),
+            })),
         }
     }
 
@@ -112,7 +100,7 @@ impl<'a> EucKrDecoder<'a> {
 }
 
 impl<'a> SinkDecoder for EucKrDecoder<'a> {
-    ghost state = { λ d. ⟦<Buffered<LeadByteDecoderRule<Pairs<EucKr<'a>>>> as SinkDecoder>⟧.state d.inner };
+    ghost state = { λ d. ⟦<Buffered<LeadByteDecoderRule<EucKr<'a>>> as SinkDecoder>⟧.state d.inner };
 
     #[inline(always)]
     fn decode_into<S: Sink>(
@@ -137,7 +125,7 @@ impl<'a> SinkDecoder for EucKrDecoder<'a> {
 /// with it. One without a pointer is unmappable. There is no state.
 #[derive(Drop)]
 pub struct EucKrEncoder<'a> {
-    inner: Stateless<EucKr<'a>>,
+    flat: Flat<'a>,
 }
 
 impl<'a> EucKrEncoder<'a> {
@@ -150,45 +138,39 @@ impl<'a> EucKrEncoder<'a> {
         ensures limits { ⟦<EucKrEncoder<'a> as RawEncoder>⟧.limits result ≡ encoded_length_two_byte }
     {
         EucKrEncoder {
-            inner: Stateless::new(index_of(tables)),
+            flat: tables.flat(IndexKind::EucKr),
         }
     }
 }
 
-impl<'a> RawEncoder for EucKrEncoder<'a> {
-    ghost need = { λ e. ⟦<Stateless<EucKr<'a>> as RawEncoder>⟧.need e.inner };
+impl<'a> StatelessRule for EucKrEncoder<'a> {
+    ghost need = { λ _. 2 };
 
-    ghost coding = { λ e. ⟦<Stateless<EucKr<'a>> as RawEncoder>⟧.coding e.inner };
+    ghost form = { λ e. euc_kr_form e.flat };
 
-    ghost set = { λ e. ⟦<Stateless<EucKr<'a>> as RawEncoder>⟧.set e.inner };
+    ghost limits = { λ _. encoded_length_two_byte };
 
-    ghost limits = { λ e. ⟦<Stateless<EucKr<'a>> as RawEncoder>⟧.limits e.inner };
+    ghost laws = { λ e. euc_kr_laws e.flat };
 
-    ghost laws = { λ e. euc_kr_laws e.inner.forms.flat };
+    ghost fits = { λ e. two_byte_fits (euc_kr_form e.flat) (euc_kr_laws e.flat) (ascii_by_pointer euc_kr_bytes (λ c. first_pointer e.flat c 0 23940)) };
 
-    fn encode_from_utf8_raw(
-        &mut self,
-        src: &str,
-        dst: &mut [u8],
-        last: bool,
-    ) -> (EncoderResult, usize, usize) {
-        self.inner.encode_from_utf8_raw(src, dst, last)
+    ghost ascii = { λ e. ascii_by_pointer euc_kr_bytes (λ c. first_pointer e.flat c 0 23940) };
+
+    #[inline(always)]
+    fn form_of(&self, c: char) -> Form {
+        if c < '\u{80}' {
+            return Form::Mapped(Bytes::one(c as u8));
+        }
+        match self.flat.first_pointer(c, 0, 23940) {
+            Some(pointer) => Form::Mapped(Bytes::two(
+                0x81 + (pointer / 190) as u8,
+                0x41 + (pointer % 190) as u8,
+            )),
+            None => Form::Unmapped(c),
+        }
     }
 
-    fn encode_from_utf16_raw(
-        &mut self,
-        src: &[u16],
-        dst: &mut [u8],
-        last: bool,
-    ) -> (EncoderResult, usize, usize) {
-        self.inner.encode_from_utf16_raw(src, dst, last)
-    }
-
-    fn room(&self) -> EncodedLength {
-        self.inner.room()
-    }
-
-    fn has_pending_state(&self) -> bool {
-        self.inner.has_pending_state()
+    fn encoded_length(&self) -> EncodedLength {
+        EncodedLength::two_byte()
     }
 }

@@ -10,8 +10,8 @@ ghost use Rattle.encoding_codecs.specs.laws.Gb18030Decide.{gb18030_decide_lead, 
 ghost use Rattle.encoding_codecs.specs.laws.Gb18030.{AreGbTables, gb18030_rule};
 
 use crate::lead_byte_rule::{FirstByte, LeadByteDecoderRule, LeadByteRule};
-use crate::two_byte::{PairValue, cut_short, decide_trail, value_of_entry};
-use encoding_mem::first_piece::FirstPiece;
+use crate::two_byte::{PairValue, decide_trail, value_of_entry};
+use encoding_mem::first_piece::{FirstPiece, cut_short};
 use encoding_mem::room::DecodedLength;
 use encoding_mem::sink::Sink;
 use encoding_mem::sink_decoder::{Buffered, SinkDecoder};
@@ -27,11 +27,11 @@ struct Gb18030Rule<'a> {
 }
 
 impl<'a> LeadByteRule for Gb18030Rule<'a> {
-    ghost first_byte = { λ _. gb18030_first };
-
-    ghost after = { λ s. gb18030_after_lead s.index s.ranges };
-
-    ghost decided = { λ s. gb18030_decide_lead s.index s.ranges };
+    ghost rule = { λ s. record {
+      first = gb18030_first;
+      after = gb18030_after_lead s.index s.ranges;
+      decide = gb18030_decide_lead s.index s.ranges;
+    } };
 
     ghost laws = { λ s. gb18030_rule s.index s.ranges s.scalars };
 

@@ -3,54 +3,45 @@
 
 ghost use Rattle.std.specs.Prelude.{◌≡◌, ◌+◌, ◌/◌, ◌%◌, ◌<◌, true};
 ghost use Rattle.encoding_tables.specs.IndexLists.{has, entries_of, rows_of};
-ghost use Rattle.encoding_codecs.specs.Gb18030Coding.{fixed_pair, gb18030_pair_bytes, four_bytes, gb18030_bytes, gb18030_coding, gb18030_need, gb18030_encoded_length};
-ghost use Rattle.encoding_codecs.specs.laws.Gb18030Coding.{gb18030_laws, gb18030_fits};
+ghost use Rattle.encoding_codecs.specs.Gb18030Coding.{fixed_pair, gb18030_pair_bytes, four_bytes, gb18030_bytes, gb18030_form, gb18030_coding, gb18030_need, gb18030_encoded_length};
+ghost use Rattle.encoding_codecs.specs.laws.Gb18030Coding.{gb18030_ascii, gb18030_fits, gb18030_laws};
 ghost use Rattle.encoding_mem.specs.declared.form.EscapeState.TheVariants.{Ascii};
 
-use crate::stateless::form_of_bytes;
-use encoding_mem::encode::{EncoderRule, encode};
-use encoding_mem::form::{Bytes, EscapeState, Form};
+use crate::two_byte::form_of_bytes;
+use encoding_mem::RawEncoder;
+use encoding_mem::encode::StatelessRule;
+use encoding_mem::form::{Bytes, Form};
 use encoding_mem::room::EncodedLength;
-use encoding_mem::source::{Source, Utf8Source, Utf16Source};
-use encoding_mem::{EncoderResult, RawEncoder};
 use encoding_tables::{Flat, IndexKind, Ranges, Tables};
 
-// What gb18030 makes of a character, with its extended range, and GBK, without.
+/// Encodes to gb18030 or GBK. ASCII gives itself, another character the two bytes of the least pointer
+/// with it; one that the index lacks is four bytes in gb18030, and unmappable in GBK. There is no state.
 #[derive(Drop)]
-struct Gb18030EncoderRule<'a> {
+pub struct Gb18030Encoder<'a> {
     index: Flat<'a>,
     ranges: Ranges<'a>,
     extended_range: bool,
 }
 
-impl<'a> EncoderRule for Gb18030EncoderRule<'a> {
-    ghost need = { λ s. gb18030_need s.extended_range };
-
-    ghost coding = { λ s. gb18030_coding s.index s.ranges s.extended_range };
-
-    ghost limits = { λ s. gb18030_encoded_length s.extended_range };
-
-    ghost laws = { λ s. gb18030_laws s.index s.ranges s.extended_range };
-
-    ghost fits = { λ s. gb18030_fits s.index s.ranges s.extended_range };
-
-    #[inline(always)]
-    fn step(&self, _set: EscapeState, c: char) -> (EscapeState, Form) {
-        (EscapeState::Ascii, form_of_bytes(c, self.bytes_of(c)))
+impl<'a> Gb18030Encoder<'a> {
+    /// The encoder of tables that have the index and the ranges of gb18030: of gb18030 with the
+    /// `extended_range`, of GBK without.
+    pub fn new(tables: &'a Tables, extended_range: bool) -> Self
+        requires index { has tables.now IndexKind.Gb18030 ≡ true }
+        requires ranges { has tables.now IndexKind.Gb18030Ranges ≡ true }
+        ensures coding { ⟦<Gb18030Encoder<'a> as RawEncoder>⟧.coding result
+            ≡ gb18030_coding (entries_of tables.now IndexKind.Gb18030) (rows_of tables.now) extended_range }
+        ensures set { ⟦<Gb18030Encoder<'a> as RawEncoder>⟧.set result ≡ Ascii }
+        ensures need { ⟦<Gb18030Encoder<'a> as RawEncoder>⟧.need result ≡ gb18030_need extended_range }
+        ensures limits { ⟦<Gb18030Encoder<'a> as RawEncoder>⟧.limits result ≡ gb18030_encoded_length extended_range }
+    {
+        Gb18030Encoder {
+            index: tables.flat(IndexKind::Gb18030),
+            ranges: tables.ranges(),
+            extended_range,
+        }
     }
 
-    #[inline(always)]
-    fn copies_ascii(&self, set: EscapeState) -> bool {
-        matches!(set, EscapeState::Ascii)
-    }
-
-    #[inline(always)]
-    fn escape(&self, _from: EscapeState, _to: EscapeState) -> Bytes {
-        Bytes::none()
-    }
-}
-
-impl<'a> Gb18030EncoderRule<'a> {
     // The bytes of a character, if it has any.
     #[inline(always)]
     fn bytes_of(&self, c: char) -> Option<Bytes>
@@ -77,6 +68,33 @@ impl<'a> Gb18030EncoderRule<'a> {
         match self.ranges.pointer(c) {
             Some(pointer) => Some(four_bytes(pointer)),
             None => None,
+        }
+    }
+}
+
+impl<'a> StatelessRule for Gb18030Encoder<'a> {
+    ghost need = { λ e. gb18030_need e.extended_range };
+
+    ghost form = { λ e. gb18030_form e.index e.ranges e.extended_range };
+
+    ghost limits = { λ e. gb18030_encoded_length e.extended_range };
+
+    ghost laws = { λ e. gb18030_laws e.index e.ranges e.extended_range };
+
+    ghost fits = { λ e. gb18030_fits e.index e.ranges e.extended_range };
+
+    ghost ascii = { λ e. gb18030_ascii e.index e.ranges e.extended_range };
+
+    #[inline(always)]
+    fn form_of(&self, c: char) -> Form {
+        form_of_bytes(c, self.bytes_of(c))
+    }
+
+    fn encoded_length(&self) -> EncodedLength {
+        if self.extended_range {
+            EncodedLength::gb18030()
+        } else {
+            EncodedLength::two_byte()
         }
     }
 }
@@ -132,81 +150,4 @@ fn four_bytes(pointer: u32) -> Bytes
         (0x81 + pointer / 10 % 126) as u8,
         (0x30 + pointer % 10) as u8,
     )
-}
-
-/// Encodes to gb18030 or GBK. ASCII gives itself, another character the two bytes of the least pointer
-/// with it; one that the index lacks is four bytes in gb18030, and unmappable in GBK. There is no state.
-#[derive(Drop)]
-pub struct Gb18030Encoder<'a> {
-    target: Gb18030EncoderRule<'a>,
-}
-
-impl<'a> Gb18030Encoder<'a> {
-    /// The encoder of tables that have the index and the ranges of gb18030: of gb18030 with the
-    /// `extended_range`, of GBK without.
-    pub fn new(tables: &'a Tables, extended_range: bool) -> Self
-        requires index { has tables.now IndexKind.Gb18030 ≡ true }
-        requires ranges { has tables.now IndexKind.Gb18030Ranges ≡ true }
-        ensures coding { ⟦<Gb18030Encoder<'a> as RawEncoder>⟧.coding result
-            ≡ gb18030_coding (entries_of tables.now IndexKind.Gb18030) (rows_of tables.now) extended_range }
-        ensures set { ⟦<Gb18030Encoder<'a> as RawEncoder>⟧.set result ≡ Ascii }
-        ensures need { ⟦<Gb18030Encoder<'a> as RawEncoder>⟧.need result ≡ gb18030_need extended_range }
-        ensures limits { ⟦<Gb18030Encoder<'a> as RawEncoder>⟧.limits result ≡ gb18030_encoded_length extended_range }
-    {
-        Gb18030Encoder {
-            target: Gb18030EncoderRule {
-                index: tables.flat(IndexKind::Gb18030),
-                ranges: tables.ranges(),
-                extended_range,
-            },
-        }
-    }
-}
-
-impl<'a> RawEncoder for Gb18030Encoder<'a> {
-    ghost need = { λ e. gb18030_need e.target.extended_range };
-
-    ghost coding = { λ e. gb18030_coding e.target.index e.target.ranges e.target.extended_range };
-
-    ghost set = { λ _. Ascii };
-
-    ghost limits = { λ e. gb18030_encoded_length e.target.extended_range };
-
-    ghost laws = { λ e. gb18030_laws e.target.index e.target.ranges e.target.extended_range };
-
-    fn encode_from_utf8_raw(
-        &mut self,
-        src: &str,
-        dst: &mut [u8],
-        last: bool,
-    ) -> (EncoderResult, usize, usize) {
-        let mut source = Utf8Source::new(src);
-        let mut set = EscapeState::Ascii;
-        let (result, written) = encode(&self.target, &mut set, &mut source, dst, last);
-        (result, source.read(), written)
-    }
-
-    fn encode_from_utf16_raw(
-        &mut self,
-        src: &[u16],
-        dst: &mut [u8],
-        last: bool,
-    ) -> (EncoderResult, usize, usize) {
-        let mut source = Utf16Source::new(src);
-        let mut set = EscapeState::Ascii;
-        let (result, written) = encode(&self.target, &mut set, &mut source, dst, last);
-        (result, source.read(), written)
-    }
-
-    fn room(&self) -> EncodedLength {
-        if self.target.extended_range {
-            EncodedLength::gb18030()
-        } else {
-            EncodedLength::two_byte()
-        }
-    }
-
-    fn has_pending_state(&self) -> bool {
-        false
-    }
 }

@@ -9,21 +9,37 @@ ghost use Rattle.encoding_codecs.specs.Iso2022JpForms.{looked_up, pointer_of_cha
 ghost use Rattle.encoding_codecs.specs.laws.Iso2022JpForms.{iso_2022_jp_laws, iso_2022_jp_fits};
 
 use crate::jis::{folded, is_katakana};
-use encoding_mem::encode::{EncoderRule, encode};
+use encoding_mem::RawEncoder;
+use encoding_mem::encode::EncoderRule;
 use encoding_mem::form::{Bytes, EscapeState, Form};
 use encoding_mem::room::EncodedLength;
-use encoding_mem::source::{Source, Utf8Source, Utf16Source};
-use encoding_mem::{EncoderResult, RawEncoder};
 use encoding_tables::{Flat, IndexKind, Tables};
 
-// What ISO-2022-JP makes of a character.
+/// Encodes to ISO-2022-JP. It begins in ASCII, and after the end of a text it is in ASCII again.
 #[derive(Drop)]
-struct Iso2022Jp<'a> {
+pub struct Iso2022JpEncoder<'a> {
     jis0208: Flat<'a>,
     katakana: Flat<'a>,
+    set: EscapeState,
 }
 
-impl<'a> Iso2022Jp<'a> {
+impl<'a> Iso2022JpEncoder<'a> {
+    /// The encoder over tables that have the indexes jis0208 and iso-2022-jp-katakana.
+    pub fn new(tables: &'a Tables) -> Self
+        requires jis0208 { has tables.now IndexKind.Jis0208 ≡ true }
+        requires katakana { has tables.now IndexKind.Iso2022JpKatakana ≡ true }
+        ensures coding { ⟦<Iso2022JpEncoder<'a> as RawEncoder>⟧.coding result ≡ iso_2022_jp_coding (entries_of tables.now IndexKind.Jis0208) (entries_of tables.now IndexKind.Iso2022JpKatakana) }
+        ensures set { ⟦<Iso2022JpEncoder<'a> as RawEncoder>⟧.set result ≡ Ascii }
+        ensures need { ⟦<Iso2022JpEncoder<'a> as RawEncoder>⟧.need result ≡ 3 }
+        ensures limits { ⟦<Iso2022JpEncoder<'a> as RawEncoder>⟧.limits result ≡ encoded_length_iso_2022_jp }
+    {
+        Iso2022JpEncoder {
+            jis0208: tables.flat(IndexKind::Jis0208),
+            katakana: tables.flat(IndexKind::Iso2022JpKatakana),
+            set: EscapeState::Ascii,
+        }
+    }
+
     // What is looked up for a character: a half-width katakana as its full-width one, and the minus sign as
     // the full-width hyphen.
     #[inline(always)]
@@ -50,24 +66,26 @@ impl<'a> Iso2022Jp<'a> {
     }
 }
 
-impl<'a> EncoderRule for Iso2022Jp<'a> {
+impl<'a> EncoderRule for Iso2022JpEncoder<'a> {
     ghost need = { λ _. 3 };
 
-    ghost coding = { λ s. iso_2022_jp_coding s.jis0208 s.katakana };
+    ghost coding = { λ e. iso_2022_jp_coding e.jis0208 e.katakana };
+
+    ghost set = { λ e. e.set };
 
     ghost limits = { λ _. encoded_length_iso_2022_jp };
 
-    ghost laws = { λ s. iso_2022_jp_laws s.jis0208 s.katakana };
+    ghost laws = { λ e. iso_2022_jp_laws e.jis0208 e.katakana };
 
-    ghost fits = { λ s. iso_2022_jp_fits s.jis0208 s.katakana };
+    ghost fits = { λ e. iso_2022_jp_fits e.jis0208 e.katakana };
 
     #[inline(always)]
-    fn step(&self, set: EscapeState, c: char) -> (EscapeState, Form) {
+    fn step(&self, from: EscapeState, c: char) -> (EscapeState, Form) {
         if c < '\u{80}' {
             let next = if c == '\\' || c == '~' {
                 EscapeState::Ascii
             } else {
-                ascii_or_roman(set)
+                ascii_or_roman(from)
             };
             return (next, ascii_form(c as u8));
         }
@@ -79,13 +97,30 @@ impl<'a> EncoderRule for Iso2022Jp<'a> {
         }
         match self.pointer(c) {
             Some(pointer) => (EscapeState::Jis, Form::Mapped(pair(pointer))),
-            None => (ascii_or_roman(set), Form::Unmapped(c)),
+            None => (ascii_or_roman(from), Form::Unmapped(c)),
         }
     }
 
     #[inline(always)]
-    fn copies_ascii(&self, _set: EscapeState) -> bool {
+    fn copies_ascii(&self, _from: EscapeState) -> bool {
         false
+    }
+
+    #[inline(always)]
+    fn copies_utf8(&self, _from: EscapeState) -> bool {
+        false
+    }
+
+    fn current_set(&self) -> EscapeState {
+        self.set
+    }
+
+    fn enter(&mut self, next: EscapeState) {
+        self.set = next;
+    }
+
+    fn encoded_length(&self) -> EncodedLength {
+        EncodedLength::iso_2022_jp()
     }
 
     #[inline(always)]
@@ -142,73 +177,4 @@ fn pair(pointer: u32) -> Bytes
     ensures { result ≡ (0x21 + pointer / 94) ∷ (0x21 + pointer % 94) ∷ [] }
 {
     Bytes::two(0x21 + (pointer / 94) as u8, 0x21 + (pointer % 94) as u8)
-}
-
-/// Encodes to ISO-2022-JP. It begins in ASCII, and after the end of a text it is in ASCII again.
-#[derive(Drop)]
-pub struct Iso2022JpEncoder<'a> {
-    target: Iso2022Jp<'a>,
-    set: EscapeState,
-}
-
-impl<'a> Iso2022JpEncoder<'a> {
-    /// The encoder over tables that have the indexes jis0208 and iso-2022-jp-katakana.
-    pub fn new(tables: &'a Tables) -> Self
-        requires jis0208 { has tables.now IndexKind.Jis0208 ≡ true }
-        requires katakana { has tables.now IndexKind.Iso2022JpKatakana ≡ true }
-        ensures coding { ⟦<Iso2022JpEncoder<'a> as RawEncoder>⟧.coding result ≡ iso_2022_jp_coding (entries_of tables.now IndexKind.Jis0208) (entries_of tables.now IndexKind.Iso2022JpKatakana) }
-        ensures set { ⟦<Iso2022JpEncoder<'a> as RawEncoder>⟧.set result ≡ Ascii }
-        ensures need { ⟦<Iso2022JpEncoder<'a> as RawEncoder>⟧.need result ≡ 3 }
-        ensures limits { ⟦<Iso2022JpEncoder<'a> as RawEncoder>⟧.limits result ≡ encoded_length_iso_2022_jp }
-    {
-        Iso2022JpEncoder {
-            target: Iso2022Jp {
-                jis0208: tables.flat(IndexKind::Jis0208),
-                katakana: tables.flat(IndexKind::Iso2022JpKatakana),
-            },
-            set: EscapeState::Ascii,
-        }
-    }
-}
-
-impl<'a> RawEncoder for Iso2022JpEncoder<'a> {
-    ghost need = { λ _. 3 };
-
-    ghost coding = { λ e. iso_2022_jp_coding e.target.jis0208 e.target.katakana };
-
-    ghost set = { λ e. e.set };
-
-    ghost limits = { λ _. encoded_length_iso_2022_jp };
-
-    ghost laws = { λ e. iso_2022_jp_laws e.target.jis0208 e.target.katakana };
-
-    fn encode_from_utf8_raw(
-        &mut self,
-        src: &str,
-        dst: &mut [u8],
-        last: bool,
-    ) -> (EncoderResult, usize, usize) {
-        let mut source = Utf8Source::new(src);
-        let (result, written) = encode(&self.target, &mut self.set, &mut source, dst, last);
-        (result, source.read(), written)
-    }
-
-    fn encode_from_utf16_raw(
-        &mut self,
-        src: &[u16],
-        dst: &mut [u8],
-        last: bool,
-    ) -> (EncoderResult, usize, usize) {
-        let mut source = Utf16Source::new(src);
-        let (result, written) = encode(&self.target, &mut self.set, &mut source, dst, last);
-        (result, source.read(), written)
-    }
-
-    fn room(&self) -> EncodedLength {
-        EncodedLength::iso_2022_jp()
-    }
-
-    fn has_pending_state(&self) -> bool {
-        !matches!(self.set, EscapeState::Ascii)
-    }
 }

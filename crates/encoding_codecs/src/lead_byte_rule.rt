@@ -2,16 +2,13 @@
 // encodings of more than one byte a character share, but ISO-2022-JP.
 
 ghost use Rattle.std.proofs.Common.{refl, arith};
-ghost use Rattle.std.specs.Prelude.{◌≡◌, ℕ, ◌≤◌, ◌<◌, Bool, List};
-ghost use Rattle.encoding_mem.specs.Piece.{Piece};
+ghost use Rattle.std.specs.Prelude.{◌≡◌, ◌≤◌};
 ghost use Rattle.encoding_mem.specs.Pieces.{pieces_by};
 ghost use Rattle.encoding_mem.specs.laws.Pieces.{pieces_by-nil, pieces_by-whole, pieces_by-are_pieces};
 ghost use Rattle.encoding_mem.specs.DecodedLength.{decoded_length, decoded_length_multibyte};
-ghost use Rattle.encoding_mem.specs.declared.first_piece.FirstPiece.{FirstPiece};
 ghost use Rattle.encoding_codecs.specs.TwoByte.{first_piece_by_lead};
-ghost use Rattle.encoding_codecs.specs.laws.TwoByteDecide.{decide_by_lead};
 ghost use Rattle.encoding_codecs.specs.laws.TwoByte.{IsLeadByteRule, cuts_rule};
-ghost use Rattle.encoding_codecs.specs.declared.lead_byte_rule.FirstByte.{FirstByte};
+ghost use Rattle.encoding_codecs.specs.laws.TwoByteDecide.{LeadRule};
 
 use encoding_mem::ascii::longer_ascii_prefix;
 use encoding_mem::first_piece::{DecoderRule, FirstPiece};
@@ -30,25 +27,19 @@ pub enum FirstByte {
 
 /// What an encoding makes of first bytes from 80 on, and of what follows its leads.
 pub trait LeadByteRule {
-    ghost first_byte: { Self → ℕ → FirstByte };
+    ghost rule: { Self → LeadRule };
 
-    /// The piece that a lead begins with the bytes behind it.
-    ghost after: { Self → ℕ → List ℕ → Piece };
-
-    /// What is known of it where more bytes may come.
-    ghost decided: { Self → ℕ → List ℕ → Bool → FirstPiece };
-
-    ghost laws: { (s : Self) → IsLeadByteRule (first_byte s) (after s) (decided s) };
+    ghost laws: { (s : Self) → IsLeadByteRule (rule s).first (rule s).after (rule s).decide };
 
     /// What a first byte is.
     fn first(&self, byte: u8) -> FirstByte
         requires { 0x80 ≤ byte }
-        ensures { result ≡ first_byte self.now byte };
+        ensures { result ≡ (rule self.now).first byte };
 
     /// The piece of a lead and the bytes behind it, which go on unless they are the last.
     fn after_lead(&self, lead: u8, rest: &[u8], last: bool) -> FirstPiece
-        requires { first_byte self.now lead ≡ FirstByte.Lead }
-        ensures { result ≡ decided self.now lead rest.now last };
+        requires { (rule self.now).first lead ≡ FirstByte.Lead }
+        ensures { result ≡ (rule self.now).decide lead rest.now last };
 }
 
 /// The rule of such an encoding, for a decoder.
@@ -66,15 +57,15 @@ impl<T: LeadByteRule> LeadByteDecoderRule<T> {
 }
 
 impl<T: LeadByteRule> DecoderRule for LeadByteDecoderRule<T> {
-    ghost pieces = { λ s. pieces_by (first_piece_by_lead (T.first_byte s.encoding) (T.after s.encoding)) };
+    ghost pieces = { λ s. pieces_by (first_piece_by_lead (T.rule s.encoding).first (T.rule s.encoding).after) };
 
-    ghost whole = { λ s. pieces_by-whole (first_piece_by_lead (T.first_byte s.encoding) (T.after s.encoding))
-        (cuts_rule (T.first_byte s.encoding) (T.after s.encoding) (T.decided s.encoding) (T.laws s.encoding)) };
+    ghost whole = { λ s. pieces_by-whole (first_piece_by_lead (T.rule s.encoding).first (T.rule s.encoding).after)
+        (cuts_rule (T.rule s.encoding).first (T.rule s.encoding).after (T.rule s.encoding).decide (T.laws s.encoding)) };
 
-    ghost are_pieces = { λ s. pieces_by-are_pieces (first_piece_by_lead (T.first_byte s.encoding) (T.after s.encoding))
-        (cuts_rule (T.first_byte s.encoding) (T.after s.encoding) (T.decided s.encoding) (T.laws s.encoding)) };
+    ghost are_pieces = { λ s. pieces_by-are_pieces (first_piece_by_lead (T.rule s.encoding).first (T.rule s.encoding).after)
+        (cuts_rule (T.rule s.encoding).first (T.rule s.encoding).after (T.rule s.encoding).decide (T.laws s.encoding)) };
 
-    ghost ends = { λ s. pieces_by-nil (first_piece_by_lead (T.first_byte s.encoding) (T.after s.encoding)) };
+    ghost ends = { λ s. pieces_by-nil (first_piece_by_lead (T.rule s.encoding).first (T.rule s.encoding).after) };
 
     ghost needs = { λ _. decoded_length decoded_length_multibyte };
 
@@ -88,13 +79,19 @@ impl<T: LeadByteRule> DecoderRule for LeadByteDecoderRule<T> {
 
     #[inline(always)]
     fn first_piece(&self, bytes: &[u8], last: bool) -> FirstPiece {
-        decide(&self.encoding, bytes, last)
+        match bytes {
+            [] => FirstPiece::More,
+            [byte, ..] if *byte < 0x80 => FirstPiece::One(*byte as char, 1),
+            [byte, rest @ ..] => match self.encoding.first(*byte) {
+                FirstByte::Alone(c) => FirstPiece::One(c, 1),
+                FirstByte::Lead => self.encoding.after_lead(*byte, rest, last),
+                FirstByte::Unused => FirstPiece::Malformed(1),
+            },
+        }
     }
 
     #[inline(always)]
-    fn pass(&mut self, bytes: &[u8]) {
-        let _ = bytes;
-    }
+    fn pass(&mut self, _bytes: &[u8]) {}
 
     #[inline(always)]
     fn text_at<'b>(&self, bytes: &'b [u8]) -> &'b str {
@@ -103,25 +100,5 @@ impl<T: LeadByteRule> DecoderRule for LeadByteDecoderRule<T> {
 
     fn room(&self) -> DecodedLength {
         DecodedLength::multibyte()
-    }
-}
-
-#[inline(always)]
-fn decide<T: LeadByteRule>(encoding: &T, bytes: &[u8], last: bool) -> FirstPiece
-    ensures { result ≡ decide_by_lead (T.first_byte encoding.now) (T.decided encoding.now) bytes.now last }
-{
-    match bytes {
-        [] => FirstPiece::More,
-        [a, rest @ ..] => {
-            let a = *a;
-            if a < 0x80 {
-                return FirstPiece::One(a as char, 1);
-            }
-            match encoding.first(a) {
-                FirstByte::Alone(c) => FirstPiece::One(c, 1),
-                FirstByte::Lead => encoding.after_lead(a, rest, last),
-                FirstByte::Unused => FirstPiece::Malformed(1),
-            }
-        }
     }
 }

@@ -12,7 +12,6 @@ mod jis;
 pub mod laws;
 pub mod lead_byte_rule;
 pub mod shift_jis;
-pub mod stateless;
 pub mod two_byte;
 
 pub use big5::{Big5Decoder, Big5Encoder};

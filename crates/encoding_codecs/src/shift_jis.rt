@@ -6,18 +6,23 @@ ghost use Rattle.encoding_mem.specs.EncodedLength.{encoded_length_two_byte};
 ghost use Rattle.encoding_tables.specs.IndexLists.{has, entries_of};
 ghost use Rattle.encoding_tables.specs.Lookups.{AreEntries};
 ghost use Rattle.encoding_codecs.specs.ShiftJis.{is_shift_jis_lead, is_trail, shift_jis_pair_pointer, value_of_pointer, shift_jis_rule, pieces_shift_jis, shift_jis_single_byte, shift_jis_pointer, shift_jis_pair_bytes, shift_jis_char_bytes, shift_jis_form, shift_jis_coding};
+ghost use Rattle.encoding_codecs.specs.laws.TwoByte.{two_byte_rule};
+ghost use Rattle.encoding_codecs.specs.laws.TwoByteDecide.{lead_rule_of};
 ghost use Rattle.encoding_codecs.specs.laws.ShiftJis.{shift_jis_is_two_byte, shift_jis_ascii, shift_jis_laws};
+ghost use Rattle.encoding_codecs.specs.laws.EncodedLengths.{two_byte_fits};
 ghost use Rattle.encoding_mem.specs.declared.form.EscapeState.TheVariants.{Ascii};
 
 use crate::jis::{byte_of_katakana, folded, is_katakana, katakana_of_byte};
-use crate::lead_byte_rule::{FirstByte, LeadByteDecoderRule};
-use crate::stateless::{Forms, Stateless, form_of_bytes};
-use crate::two_byte::{PairValue, Pairs, TwoByte, value_of_entry};
+use crate::lead_byte_rule::{FirstByte, LeadByteDecoderRule, LeadByteRule};
+use crate::two_byte::{PairValue, decide_trail, form_of_bytes, value_of_entry};
+use encoding_mem::encode::StatelessRule;
+use encoding_mem::first_piece::{FirstPiece, cut_short};
 use encoding_mem::form::{Bytes, Form};
 use encoding_mem::room::{DecodedLength, EncodedLength};
+use encoding_mem::scalar::scalar_of;
 use encoding_mem::sink::Sink;
 use encoding_mem::sink_decoder::{Buffered, SinkDecoder};
-use encoding_mem::{DecoderResult, EncoderResult, RawDecoder, RawEncoder};
+use encoding_mem::{DecoderResult, RawDecoder, RawEncoder};
 use encoding_tables::{Flat, IndexKind, Tables};
 
 // Its index.
@@ -27,19 +32,10 @@ struct ShiftJis<'a> {
     ghost scalars: { AreEntries jis0208 },
 }
 
-fn index_of(tables: &Tables) -> ShiftJis<'_>
-    requires { has tables.now IndexKind.Jis0208 ≡ true }
-    ensures { result.jis0208 ≡ entries_of tables.now IndexKind.Jis0208 }
-{
-    ShiftJis {
-        jis0208: tables.flat(IndexKind::Jis0208),
-    }
-}
+impl<'a> LeadByteRule for ShiftJis<'a> {
+    ghost rule = { λ s. lead_rule_of (shift_jis_rule s.jis0208) };
 
-impl<'a> TwoByte for ShiftJis<'a> {
-    ghost rule = { λ s. shift_jis_rule s.jis0208 };
-
-    ghost laws = { λ s. shift_jis_is_two_byte s.jis0208 s.scalars };
+    ghost laws = { λ s. two_byte_rule (shift_jis_rule s.jis0208) (shift_jis_is_two_byte s.jis0208 s.scalars) };
 
     #[inline(always)]
     fn first(&self, byte: u8) -> FirstByte {
@@ -52,25 +48,26 @@ impl<'a> TwoByte for ShiftJis<'a> {
     }
 
     #[inline(always)]
-    fn pair(&self, lead: u8, second: u8) -> PairValue {
+    fn after_lead(&self, lead: u8, rest: &[u8], last: bool) -> FirstPiece {
+        match rest {
+            [] => cut_short(1, last),
+            [second, ..] => decide_trail(1, self.pair(lead, *second), *second),
+        }
+    }
+}
+
+impl<'a> ShiftJis<'a> {
+    // What a lead and a second byte give.
+    #[inline(always)]
+    fn pair(&self, lead: u8, second: u8) -> PairValue
+        requires { (shift_jis_rule self.now.jis0208).first lead ≡ FirstByte.Lead }
+        ensures { result ≡ (shift_jis_rule self.now.jis0208).pair lead second }
+    {
         if is_trail(second) {
             value_of_pointer(&self.jis0208, pointer_of_pair(lead, second))
         } else {
             PairValue::NoChar
         }
-    }
-}
-
-impl<'a> Forms for ShiftJis<'a> {
-    ghost form = { λ s. shift_jis_form s.jis0208 };
-
-    ghost coding = { λ s. shift_jis_laws s.jis0208 };
-
-    ghost ascii = { λ s. shift_jis_ascii s.jis0208 };
-
-    #[inline(always)]
-    fn form_of(&self, c: char) -> Form {
-        form_of_bytes(c, bytes_of_char(&self.jis0208, c))
     }
 }
 
@@ -100,19 +97,10 @@ fn value_of_pointer(jis0208: &Flat<'_>, pointer: u32) -> PairValue
     ensures { result ≡ value_of_pointer jis0208.now pointer }
 {
     if pointer >= 8836 && pointer <= 10715 {
-        PairValue::OneChar(private_use(pointer - 8836))
+        PairValue::OneChar(scalar_of(0xE000 + (pointer - 8836)))
     } else {
         value_of_entry(jis0208.value(pointer))
     }
-}
-
-// The characters for private use from U+E000 on.
-#[inline(always)]
-fn private_use(offset: u32) -> char
-    requires { offset < 6400 }
-    ensures { result ≡ 0xE000 + offset }
-{
-    char::from_u32(0xE000 + offset).unwrap()
 }
 
 // The bytes of a character.
@@ -180,7 +168,7 @@ fn bytes_of_pointer(pointer: u32) -> Bytes
 /// malformed.
 #[derive(Drop)]
 pub struct ShiftJisDecoder<'a> {
-    inner: Buffered<LeadByteDecoderRule<Pairs<ShiftJis<'a>>>>,
+    inner: Buffered<LeadByteDecoderRule<ShiftJis<'a>>>,
 }
 
 impl<'a> ShiftJisDecoder<'a> {
@@ -192,7 +180,9 @@ impl<'a> ShiftJisDecoder<'a> {
         ensures room { (⟦<ShiftJisDecoder<'a> as RawDecoder>⟧.state result).room ≡ decoded_length_multibyte }
     {
         ShiftJisDecoder {
-            inner: Buffered::new(LeadByteDecoderRule::new(Pairs::new(index_of(tables)))),
+            inner: Buffered::new(LeadByteDecoderRule::new(ShiftJis {
+                jis0208: tables.flat(IndexKind::Jis0208),
+            })),
         }
     }
 
@@ -205,7 +195,7 @@ impl<'a> ShiftJisDecoder<'a> {
 }
 
 impl<'a> SinkDecoder for ShiftJisDecoder<'a> {
-    ghost state = { λ d. ⟦<Buffered<LeadByteDecoderRule<Pairs<ShiftJis<'a>>>> as SinkDecoder>⟧.state d.inner };
+    ghost state = { λ d. ⟦<Buffered<LeadByteDecoderRule<ShiftJis<'a>>> as SinkDecoder>⟧.state d.inner };
 
     #[inline(always)]
     fn decode_into<S: Sink>(
@@ -231,7 +221,7 @@ impl<'a> SinkDecoder for ShiftJisDecoder<'a> {
 /// looked up as U+FF0D. One without a pointer is unmappable. There is no state.
 #[derive(Drop)]
 pub struct ShiftJisEncoder<'a> {
-    inner: Stateless<ShiftJis<'a>>,
+    jis0208: Flat<'a>,
 }
 
 impl<'a> ShiftJisEncoder<'a> {
@@ -244,45 +234,30 @@ impl<'a> ShiftJisEncoder<'a> {
         ensures limits { ⟦<ShiftJisEncoder<'a> as RawEncoder>⟧.limits result ≡ encoded_length_two_byte }
     {
         ShiftJisEncoder {
-            inner: Stateless::new(index_of(tables)),
+            jis0208: tables.flat(IndexKind::Jis0208),
         }
     }
 }
 
-impl<'a> RawEncoder for ShiftJisEncoder<'a> {
-    ghost need = { λ e. ⟦<Stateless<ShiftJis<'a>> as RawEncoder>⟧.need e.inner };
+impl<'a> StatelessRule for ShiftJisEncoder<'a> {
+    ghost need = { λ _. 2 };
 
-    ghost coding = { λ e. ⟦<Stateless<ShiftJis<'a>> as RawEncoder>⟧.coding e.inner };
+    ghost form = { λ e. shift_jis_form e.jis0208 };
 
-    ghost set = { λ e. ⟦<Stateless<ShiftJis<'a>> as RawEncoder>⟧.set e.inner };
+    ghost limits = { λ _. encoded_length_two_byte };
 
-    ghost limits = { λ e. ⟦<Stateless<ShiftJis<'a>> as RawEncoder>⟧.limits e.inner };
+    ghost laws = { λ e. shift_jis_laws e.jis0208 };
 
-    ghost laws = { λ e. shift_jis_laws e.inner.forms.jis0208 };
+    ghost fits = { λ e. two_byte_fits (shift_jis_form e.jis0208) (shift_jis_laws e.jis0208) (shift_jis_ascii e.jis0208) };
 
-    fn encode_from_utf8_raw(
-        &mut self,
-        src: &str,
-        dst: &mut [u8],
-        last: bool,
-    ) -> (EncoderResult, usize, usize) {
-        self.inner.encode_from_utf8_raw(src, dst, last)
+    ghost ascii = { λ e. shift_jis_ascii e.jis0208 };
+
+    #[inline(always)]
+    fn form_of(&self, c: char) -> Form {
+        form_of_bytes(c, bytes_of_char(&self.jis0208, c))
     }
 
-    fn encode_from_utf16_raw(
-        &mut self,
-        src: &[u16],
-        dst: &mut [u8],
-        last: bool,
-    ) -> (EncoderResult, usize, usize) {
-        self.inner.encode_from_utf16_raw(src, dst, last)
-    }
-
-    fn room(&self) -> EncodedLength {
-        self.inner.room()
-    }
-
-    fn has_pending_state(&self) -> bool {
-        self.inner.has_pending_state()
+    fn encoded_length(&self) -> EncodedLength {
+        EncodedLength::two_byte()
     }
 }

@@ -12,7 +12,7 @@ use Rattle.encoding_mem.specs.Piece.{Piece, well_formed, first, piece_len, sizes
 use Rattle.encoding_mem.specs.Decoding.{DecoderState, Takes, Waits, Reports, EndsWith}
 use Rattle.encoding_mem.specs.DecodedLength.{decoded_length, goes_on, replacement_len, left_after}
 use Rattle.encoding_mem.specs.declared.room.OutputUnit.{OutputUnit}
-use Rattle.encoding_front.specs.TakesMark.{Leaves}
+use Rattle.encoding_front.specs.TakesMark.{LeavesRoom}
 use Rattle.std.specs.Prelude.{eqb}
 use Rattle.std.specs.List.{starts_with}
 use Rattle.std.proofs.lemmas.Bool.{eqb-true}
@@ -273,7 +273,7 @@ in_max s own held k n Utf16Le = omega arith
 
 -- a mark is taken
 pub leaves_whole : (s : BomSet) (own : OutputUnit → ℕ → ℕ) (after : DecoderState) (held src window none : List ℕ) (m : ByteOrderMark) (read : ℕ) → length held ≤ 2 → window ≡ take 3 (held ++ src) → find_mark s window ≡ Whole m → after.pending ≡ 0 → after.room ≡ room_after m → none ≡ [] → read ≡ len_of m - length held
-    → Leaves (sought_needs s own held) (sought_needs nothing_sought after.needs none) read
+    → LeavesRoom (sought_needs s own held) (sought_needs nothing_sought after.needs none) read
 leaves_whole s own after held src window none m read few cut_is f fresh is none_is read_is k n =
     let possible : can_be s held m ≡ true = could_be s m held src window cut_is (whole_can_be s m window f) in
     let size : (length held + (read + n)) - len_of m ≡ n = omega (arith, read_is, few, (len_some m).0) in
@@ -289,7 +289,7 @@ need_by true q a b h e = rw (h refl) (omega (arith, e))
 need_falls : (s : BomSet) (m : ByteOrderMark) (held window : List ℕ) (k : OutputUnit) (i j : ℕ) → (can_be s window m ≡ true → can_be s held m ≡ true) → length window + j ≡ length held + i → mark_needs s window k j m ≤ mark_needs s held k i m
 need_falls s m held window k i j could same = need_by (can_be s window m) (can_be s held m) (decoded_length (room_after m) k ((length window + j) - len_of m)) (decoded_length (room_after m) k ((length held + i) - len_of m)) could (ap (λ n. decoded_length (room_after m) k (n - len_of m)) same)
 
-pub leaves_all : (s : BomSet) (own : OutputUnit → ℕ → ℕ) (held src window : List ℕ) → window ≡ take 3 (held ++ src) → length window < 3 → Leaves (sought_needs s own held) (sought_needs s own window) (length src)
+pub leaves_all : (s : BomSet) (own : OutputUnit → ℕ → ℕ) (held src window : List ℕ) → window ≡ take 3 (held ++ src) → length window < 3 → LeavesRoom (sought_needs s own held) (sought_needs s own window) (length src)
 leaves_all s own held src window e h k n =
     let all : length window ≡ length held + length src = ap length (all_of held src window e h) ∙ length-append held src in
     let same : length window + n ≡ length held + (length src + n) = omega (arith, all) in
@@ -317,7 +317,7 @@ nothing_needs (b ∷ held) k n Utf16Le = never (b == 0xFF) _
 pub needs_own : (own : OutputUnit → ℕ → ℕ) (held : List ℕ) (k : OutputUnit) (n : ℕ) → sought_needs nothing_sought own held k n ≡ own k (length held + n)
 needs_own own held k n = omega (arith, nothing_needs held k n Utf8, nothing_needs held k n Utf16Be, nothing_needs held k n Utf16Le)
 
-pub leaves_none : (s : BomSet) (own : OutputUnit → ℕ → ℕ) (held : List ℕ) → Leaves (sought_needs s own held) (sought_needs nothing_sought own held) 0
+pub leaves_none : (s : BomSet) (own : OutputUnit → ℕ → ℕ) (held : List ℕ) → LeavesRoom (sought_needs s own held) (sought_needs nothing_sought own held) 0
 leaves_none s own held k n = let same : 0 + n ≡ n = omega arith in omega (arith, needs_own own held k n, ap (λ i. own k (length held + i)) same)
 
 -- the three first bytes of two lists

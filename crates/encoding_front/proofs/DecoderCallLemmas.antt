@@ -13,7 +13,7 @@ use Rattle.encoding_mem.specs.declared.room.OutputUnit.{OutputUnit}
 use Rattle.encoding_mem.specs.declared.decoder_result.DecoderResult.{DecoderResult}
 use Rattle.encoding_mem.specs.declared.decoder_result.DecoderResult.TheVariants.{OutputFull, Malformed, InputEmpty}
 use Rattle.encoding_front.specs.DecodedText.{TakesText, SufficesText, raw_result}
-use Rattle.encoding_front.specs.TakesMark.{Leaves}
+use Rattle.encoding_front.specs.TakesMark.{LeavesRoom}
 use Rattle.encoding_front.proofs.BomLemmas.{reports_join}
 use Rattle.std.specs.Str.{IsUtf8}
 use Rattle.encoding_tables.specs.IndexLists.{IndexLists}
@@ -185,7 +185,7 @@ ends_settled s t left unread last free room mark (Malformed a b) same e is h = h
 
 -- W is what is wanted before the mark is looked for, and X and B are N and A by another name
 pub suffices_settled : (W X N A B : OutputUnit → ℕ → ℕ) (t last : Bool) (size left n read old new : ℕ) (outcome : DecoderResult) → ((k : OutputUnit) (m : ℕ) → X k m ≡ N k m) → ((k : OutputUnit) (m : ℕ) → B k m ≡ A k m)
-    → n ≤ size → left ≡ size - n → read ≤ left → Leaves W X n → Suffices N A t last left (left - read) old new outcome → Suffices W B t last size (size - (n + read)) old new outcome
+    → n ≤ size → left ≡ size - n → read ≤ left → LeavesRoom W X n → Suffices N A t last left (left - read) old new outcome → Suffices W B t last size (size - (n + read)) old new outcome
 suffices_settled W X N A B t last size left n read old new InputEmpty x b within is few leaves h = λ k m units stops fits.
     let same : n + (left + m) ≡ size + m = omega (arith, within, is) in
     omega (arith, b k m, h k m units stops (omega (arith, x k (left + m), leaves k (left + m), ap (W k) same, fits)))

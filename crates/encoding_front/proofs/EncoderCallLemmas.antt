@@ -1,17 +1,19 @@
 -- Calls of an encoder without replacement.
 use Rattle.std.proofs.Common.{◌≡◌, ℕ, ◌+◌, ◌-◌, ◌≤◌, Bool, List, [], ◌++◌, length, take, drop, refl, sym, ◌∙◌, ap, subst, arith}
 use Rattle.std.proofs.lemmas.List.{drop-append-le, drop-drop, take-append-drop}
+use Rattle.encoding_mem.specs.declared.reference.Reference.TheVariants.{Decimal}
 use Rattle.encoding_mem.specs.Coding.{Coding}
-use Rattle.encoding_mem.specs.Encoding.{EncodeEndsWith, Encodes}
-use Rattle.encoding_mem.specs.laws.Encoding.{encoded_bytes}
-use Rattle.encoding_mem.specs.EncoderRule.{Moves}
+use Rattle.encoding_mem.specs.Encoding.{EncodeEndsWith, Encodes, EncodesItems}
+use Rattle.encoding_mem.specs.laws.Encoding.{encoded_bytes, encoded_items, encoded_moves}
+use Rattle.encoding_mem.specs.EncoderRule.{Tight}
 use Rattle.encoding_mem.specs.declared.encoder_result.EncoderResult.{EncoderResult}
 use Rattle.encoding_mem.specs.declared.encoder_result.EncoderResult.TheVariants.{InputEmpty, OutputFull, Unmappable}
 use Rattle.encoding_mem.specs.declared.form.Form.TheVariants.{Unmapped}
 use Rattle.encoding_mem.specs.declared.form.EscapeState.{EscapeState}
 use Rattle.encoding_mem.specs.declared.room.EncodedLength.{EncodedLength}
 use Rattle.encoding_tables.specs.IndexLists.{IndexLists}
-use Rattle.encoding_front.specs.Encoder.{Encoded, EncoderState, IsEncoderOf, Turned, kept_back, kept_by_codec_kind, referred}
+use Rattle.encoding_front.specs.Encoder.{Encoded, EncoderState, IsEncoderOf, Turned, coding_in, kept_back, kept_by_codec_kind, referred}
+use Rattle.encoding_front.specs.laws.Encoder.{coding_laws}
 use Rattle.encoding_front.specs.EncodingTable.{codec_kind_of}
 use Rattle.encoding_front.specs.Encodings.{coding_of, coding_of_codec_kind, output_encoding_of}
 use Rattle.encoding_front.specs.declared.encoding.Encoding.{Encoding}
@@ -19,17 +21,25 @@ use Rattle.encoding_front.specs.declared.codec_kind.CodecKind.{CodecKind}
 
 -- what its parts do, said of its state
 pub encoded : (t : IndexLists) (enc : Encoding) (s s' : EscapeState) (coding : Coding) (need : ℕ) (limits : EncodedLength) → IsEncoderOf t enc coding need limits
-    → (last : Bool) (answer : EncoderResult) (text written rest : List ℕ) (room : ℕ) → Encodes coding last answer s text written s' rest → EncodeEndsWith need last answer s' rest room → Moves coding s s'
+    → (last : Bool) (answer : EncoderResult) (text written rest : List ℕ) (room : ℕ) → Encodes coding last answer s text written s' rest → EncodeEndsWith need last answer s' rest room
+    → Tight coding answer s' rest room
     → Encoded (record { tables = t; encoding = enc; set = s }) last answer text written (record { tables = t; encoding = enc; set = s' }) rest room
-encoded t enc s s' coding need limits parts last answer text written rest room law answers moves =
+encoded t enc s s' coding need limits parts last answer text written rest room law ends tight =
     let of_coding : Encodes (coding_of t enc) last answer s text written s' rest = subst (λ (e : Coding). Encodes e last answer s text written s' rest) parts.codes law in
     record {
       same = refl;
       law = of_coding;
-      bytes = encoded_bytes (coding_of t enc) last answer s text written s' rest of_coding;
-      answers = subst (λ (n : ℕ). EncodeEndsWith n last answer s' rest room) parts.needs answers;
-      moves = subst (λ (e : Coding). Moves e s s') parts.codes moves;
+      bytes = encoded_bytes Decimal (coding_of t enc) last answer s text written s' rest (coding_laws t enc) of_coding;
+      ends = subst (λ (n : ℕ). EncodeEndsWith n last answer s' rest room) parts.needs ends;
+      tight = subst (λ (e : Coding). Tight e answer s' rest room) parts.codes tight;
+      moves = encoded_moves (coding_of t enc) last answer s text written s' rest of_coding;
     }
+
+-- what it says of items
+pub told_items : (x : EncoderState) (last : Bool) (answer : EncoderResult) (text written : List ℕ) (x' : EncoderState) (rest : List ℕ) (room : ℕ)
+    → Encoded x last answer text written x' rest room → EncodesItems Decimal (coding_in x) last answer x.set text written x'.set rest
+told_items x last answer text written x' rest room call =
+    encoded_items Decimal (coding_in x) last answer x.set text written x'.set rest (coding_laws x.tables x.encoding) call.law
 
 -- what a call wrote into the part of a slice before an offset
 pub behind_part : (w end : ℕ) (xs ys : List ℕ) → end ≤ length xs → w ≤ length ys → length ys ≡ length (take end xs) → drop w ys ≡ drop w (take end xs) → drop w (ys ++ drop end xs) ≡ drop w xs
@@ -45,7 +55,7 @@ keeps t _ d u h = refl
 pub unmappable_keeps : (x : EncoderState) (last : Bool) (answer : EncoderResult) (u : ℕ) (text written : List ℕ) (x' : EncoderState) (rest : List ℕ) (room : ℕ)
     → Encoded x last answer text written x' rest room → answer ≡ Unmappable u → kept_back x.encoding ≡ 10
 unmappable_keeps x last answer u text written x' rest room call is =
-    let reads = rw is at call.law.reads in
+    let reads = (told_items x last (Unmappable u) text written x' rest room (rw is at call)).reads in
     keeps x.tables (codec_kind_of (output_encoding_of x.encoding)) reads.1 u reads.4
 
 -- nothing is asked for where no character lacks bytes

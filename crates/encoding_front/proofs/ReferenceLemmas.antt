@@ -5,9 +5,10 @@ use Rattle.std.proofs.Common.{ℕ, ◌≡◌, ◌≤◌, ◌<◌, List, length, 
 use Rattle.std.proofs.lemmas.Fmt.{length-decimal-le}
 use Rattle.std.specs.Fmt.{decimal}
 use Rattle.std.proofs.lemmas.List.{append-nil, append_cancel_left, map-append, drop-drop, drop_all, drop-append-le, length-take-le, take-append-le, take_rest}
+use Rattle.encoding_mem.specs.declared.reference.Reference.TheVariants.{Decimal}
 use Rattle.encoding_mem.specs.Coding.{AllMapped, Coding, IsMapped, last_set, lost_count, open_from, reference, spelled, unmapped_count, whole_from, output}
-use Rattle.encoding_mem.specs.Encoding.{Continues, Encodes}
-use Rattle.encoding_mem.specs.laws.Encoding.{encoded_bytes}
+use Rattle.encoding_mem.specs.Encoding.{Continues, EncodesItems}
+use Rattle.encoding_mem.specs.laws.Encoding.{items_in_bytes, last_set-append, open_from-append}
 use Rattle.encoding_mem.specs.Items.{Byte, Item, LostAt, form_items, open_items, whole_items}
 use Rattle.encoding_mem.specs.declared.encoder_result.EncoderResult.TheVariants.{Unmappable, InputEmpty, OutputFull}
 use Rattle.encoding_mem.specs.declared.form.Form.{Form}
@@ -16,6 +17,7 @@ use Rattle.encoding_mem.specs.declared.form.EscapeState.{EscapeState}
 use Rattle.std.specs.Bool.{MatchBool}
 use Rattle.encoding_mem.specs.EncoderRule.{Moves}
 use Rattle.encoding_mem.specs.declared.form.EscapeState.TheVariants.{Ascii}
+use Rattle.encoding_front.proofs.EncoderCallLemmas.{told_items}
 use Rattle.encoding_front.specs.Encoder.{EncoderState, ReplacingEndsWith, Replaces, coding_in, kept_back, Encoded, Turned, referred, new_state}
 use Rattle.encoding_front.specs.laws.Encoder.{need_positive, coding_laws, output_twice}
 use Rattle.encoding_front.specs.Encodings.{need_of, coding_of, coding_of_codec_kind}
@@ -39,28 +41,19 @@ pub count-append : (e : Coding) (a b : List ℕ) → lost_count e (a ++ b) ≡ l
 count-append e [] b = sym (zero-add (lost_count e b))
 count-append e (c ∷ a) b = ap (λ n. unmapped_count (e.form c) + n) (count-append e a b) ∙ sym (add_assoc (unmapped_count (e.form c)) (lost_count e a) (lost_count e b))
 
-last_set-append : (e : Coding) (s : EscapeState) (a b : List ℕ) → last_set e s (a ++ b) ≡ last_set e (last_set e s a) b
-last_set-append e s [] b = refl
-last_set-append e s (c ∷ a) b = last_set-append e (e.set s c) a b
-
-open_from-append : (e : Coding) (s : EscapeState) (a b : List ℕ) → open_from e s (a ++ b) ≡ open_from e s a ++ open_from e (last_set e s a) b
-open_from-append e s [] b = refl
-open_from-append e s (c ∷ a) b =
-    rw (open_from-append e (e.set s c) a b, append_assoc (e.escape s (e.set s c)) _ _, append_assoc (spelled (e.form c)) _ _) refl
-
-open_items-append : (e : Coding) (s : EscapeState) (i : ℕ) (a b : List ℕ) → open_items e s i (a ++ b) ≡ open_items e s i a ++ open_items e (last_set e s a) (i + length a) b
-open_items-append e s i [] b = ap (λ n. open_items e s n b) (sym (add-zero i))
+open_items-append : (e : Coding) (s : EscapeState) (i : ℕ) (a b : List ℕ) → open_items Decimal e s i (a ++ b) ≡ open_items Decimal e s i a ++ open_items Decimal e (last_set e s a) (i + length a) b
+open_items-append e s i [] b = ap (λ n. open_items Decimal e s n b) (sym (add-zero i))
 open_items-append e s i (c ∷ a) b =
     let more = open_items-append e (e.set s c) (i + 1) a b in
     let at : i + 1 + length a ≡ i + length (c ∷ a) = omega arith in
-    rw (more, at, append_assoc (map Byte (e.escape s (e.set s c))) _ _, append_assoc (form_items i (e.form c)) _ _) refl
+    rw (more, at, append_assoc (map Byte (e.escape s (e.set s c))) _ _, append_assoc (form_items Decimal i (e.form c)) _ _) refl
 
-whole_items-append : (e : Coding) (last : Bool) (s : EscapeState) (i : ℕ) (a b : List ℕ) → whole_items e last s i (a ++ b) ≡ open_items e s i a ++ whole_items e last (last_set e s a) (i + length a) b
+whole_items-append : (e : Coding) (last : Bool) (s : EscapeState) (i : ℕ) (a b : List ℕ) → whole_items Decimal e last s i (a ++ b) ≡ open_items Decimal e s i a ++ whole_items Decimal e last (last_set e s a) (i + length a) b
 whole_items-append e last s i a b =
-    rw (open_items-append e s i a b, last_set-append e s a b) (append_assoc (open_items e s i a) (open_items e (last_set e s a) (i + length a) b) _)
+    rw (open_items-append e s i a b, last_set-append e s a b) (append_assoc (open_items Decimal e s i a) (open_items Decimal e (last_set e s a) (i + length a) b) _)
 
 -- A text in which each character has bytes.
-mapped_form : (e : Coding) (i : ℕ) (f : Form) → IsMapped f → form_items i f ≡ map Byte (spelled f)
+mapped_form : (e : Coding) (i : ℕ) (f : Form) → IsMapped f → form_items Decimal i f ≡ map Byte (spelled Decimal f)
 mapped_form e i (Mapped bs) h = refl
 mapped_form e i (Unmapped c) h = absurd h
 
@@ -68,11 +61,11 @@ mapped_count : (f : Form) → IsMapped f → unmapped_count f ≡ 0
 mapped_count (Mapped bs) h = refl
 mapped_count (Unmapped c) h = absurd h
 
-open_mapped : (e : Coding) (s : EscapeState) (i : ℕ) (t : List ℕ) → AllMapped e t → open_items e s i t ≡ map Byte (open_from e s t)
+open_mapped : (e : Coding) (s : EscapeState) (i : ℕ) (t : List ℕ) → AllMapped e t → open_items Decimal e s i t ≡ map Byte (open_from Decimal e s t)
 open_mapped e s i [] h = refl
 open_mapped e s i (c ∷ t) h =
     rw (mapped_form e i (e.form c) h.0, open_mapped e (e.set s c) (i + 1) t h.1)
-    (ap (λ l. map Byte (e.escape s (e.set s c)) ++ l) (sym (map-append Byte (spelled (e.form c)) _)) ∙ sym (map-append Byte (e.escape s (e.set s c)) _))
+    (ap (λ l. map Byte (e.escape s (e.set s c)) ++ l) (sym (map-append Byte (spelled Decimal (e.form c)) _)) ∙ sym (map-append Byte (e.escape s (e.set s c)) _))
 
 pub count_mapped : (e : Coding) (t : List ℕ) → AllMapped e t → lost_count e t ≡ 0
 count_mapped e [] h = refl
@@ -90,27 +83,27 @@ first_note (n ∷ a) (m ∷ b) k k' c c' x y h =
 
 -- A text that ends with a character without bytes.
 abbrev pub before_reference : Coding → EscapeState → List ℕ → ℕ → List ℕ
-before_reference e s t d = open_from e s t ++ e.escape (last_set e s t) (e.set (last_set e s t) d)
+before_reference e s t d = open_from Decimal e s t ++ e.escape (last_set e s t) (e.set (last_set e s t) d)
 
 unmapped_items : (e : Coding) (s : EscapeState) (k : ℕ) (t : List ℕ) (d u : ℕ) → AllMapped e t → e.form d ≡ Unmapped u
-    → open_items e s k (t ++ d ∷ []) ≡ map Byte (before_reference e s t d) ++ LostAt (k + length t) u ∷ map Byte (reference u)
+    → open_items Decimal e s k (t ++ d ∷ []) ≡ map Byte (before_reference e s t d) ++ LostAt (k + length t) u ∷ map Byte (reference Decimal u)
 unmapped_items e s k t d u mapped lost =
     let q = last_set e s t in
-    open_items-append e s k t (d ∷ []) ∙ rw (open_mapped e s k t mapped, lost, append-nil (map Byte (reference u)))
-    (sym (append_assoc (map Byte (open_from e s t)) (map Byte (e.escape q (e.set q d))) _)
-    ∙ ap (λ l. l ++ LostAt (k + length t) u ∷ map Byte (reference u)) (sym (map-append Byte (open_from e s t) (e.escape q (e.set q d)))))
+    open_items-append e s k t (d ∷ []) ∙ rw (open_mapped e s k t mapped, lost, append-nil (map Byte (reference Decimal u)))
+    (sym (append_assoc (map Byte (open_from Decimal e s t)) (map Byte (e.escape q (e.set q d))) _)
+    ∙ ap (λ l. l ++ LostAt (k + length t) u ∷ map Byte (reference Decimal u)) (sym (map-append Byte (open_from Decimal e s t) (e.escape q (e.set q d)))))
 
-unmapped_bytes : (e : Coding) (s : EscapeState) (t : List ℕ) (d u : ℕ) → e.form d ≡ Unmapped u → open_from e s (t ++ d ∷ []) ≡ before_reference e s t d ++ reference u
+unmapped_bytes : (e : Coding) (s : EscapeState) (t : List ℕ) (d u : ℕ) → e.form d ≡ Unmapped u → open_from Decimal e s (t ++ d ∷ []) ≡ before_reference e s t d ++ reference Decimal u
 unmapped_bytes e s t d u lost =
     let q = last_set e s t in
-    open_from-append e s t (d ∷ []) ∙ rw (lost, append-nil (reference u)) (sym (append_assoc (open_from e s t) (e.escape q (e.set q d)) (reference u)))
+    open_from-append Decimal e s t (d ∷ []) ∙ rw (lost, append-nil (reference Decimal u)) (sym (append_assoc (open_from Decimal e s t) (e.escape q (e.set q d)) (reference Decimal u)))
 
 -- Where a call stands behind a reference: what was read and written, and what it has still to write.
 pub record Gone (e : Coding) (last : Bool) (s : EscapeState) (text written : List ℕ) (s' : EscapeState) (rest : List ℕ) (lost : Bool) (prefix : List ℕ) : Type 0 where
   pub split : text ≡ prefix ++ rest
-  pub opened : written ≡ open_from e s prefix
-  pub items : (i : ℕ) → whole_items e last s i text ≡ open_items e s i prefix ++ whole_items e last s' (i + length prefix) rest
-  pub continues : Continues e s text written s' rest
+  pub opened : written ≡ open_from Decimal e s prefix
+  pub items : (i : ℕ) → whole_items Decimal e last s i text ≡ open_items Decimal e s i prefix ++ whole_items Decimal e last s' (i + length prefix) rest
+  pub continues : Continues Decimal e s text written s' rest
   pub sets : last_set e s text ≡ last_set e s' rest
   pub told : IsTrue lost ↔ (0 < lost_count e prefix)
 
@@ -118,7 +111,7 @@ pub gone_none : (e : Coding) (last : Bool) (s : EscapeState) (text : List ℕ) �
 gone_none e last s text = record {
   split = refl;
   opened = refl;
-  items = λ i. ap (λ n. whole_items e last s n text) (sym (add-zero i));
+  items = λ i. ap (λ n. whole_items Decimal e last s n text) (sym (add-zero i));
   continues = λ r. refl;
   sets = refl;
   told = (λ h. absurd (cc), λ h. absurd (omega arith));
@@ -126,49 +119,49 @@ gone_none e last s text = record {
 
 -- the sets may differ, what is still to be written does not
 owed : (e : Coding) (last : Bool) (s : EscapeState) (text written : List ℕ) (s' : EscapeState) (rest : List ℕ) (lost : Bool) (prefix : List ℕ) (g : Gone e last s text written s' rest lost prefix)
-    (i : ℕ) → whole_items e last s' (i + length prefix) rest ≡ whole_items e last (last_set e s prefix) (i + length prefix) rest
+    (i : ℕ) → whole_items Decimal e last s' (i + length prefix) rest ≡ whole_items Decimal e last (last_set e s prefix) (i + length prefix) rest
 owed e last s text written s' rest lost prefix g i =
-    append_cancel_left (open_items e s i prefix) _ _
-    (sym (g.items i) ∙ ap (λ t. whole_items e last s i t) g.split ∙ whole_items-append e last s i prefix rest)
+    append_cancel_left (open_items Decimal e s i prefix) _ _
+    (sym (g.items i) ∙ ap (λ t. whole_items Decimal e last s i t) g.split ∙ whole_items-append e last s i prefix rest)
 
 -- one more call that reports a character: what it wrote, with the reference, is what the text that it read is written as
-cut : (e : Coding) (last : Bool) (s q : EscapeState) (text w : List ℕ) (u : ℕ) (s' : EscapeState) (rest : List ℕ) (k : ℕ) (p : Encodes e last (Unmappable u) s text w s' rest)
-    → whole_items e last s k text ≡ whole_items e last q k text
-    → (w ++ reference u ≡ open_from e q p.prefix) × (whole_items e last q k text ≡ open_items e q k p.prefix ++ whole_items e last s' (k + length p.prefix) rest)
+cut : (e : Coding) (last : Bool) (s q : EscapeState) (text w : List ℕ) (u : ℕ) (s' : EscapeState) (rest : List ℕ) (k : ℕ) (p : EncodesItems Decimal e last (Unmappable u) s text w s' rest)
+    → whole_items Decimal e last s k text ≡ whole_items Decimal e last q k text
+    → (w ++ reference Decimal u ≡ open_from Decimal e q p.prefix) × (whole_items Decimal e last q k text ≡ open_items Decimal e q k p.prefix ++ whole_items Decimal e last s' (k + length p.prefix) rest)
 cut e last s q text w u s' rest k p same =
     let t = p.reads.0 in
     let d = p.reads.1 in
     let ends : p.prefix ≡ t ++ d ∷ [] = p.reads.2 in
     let items = unmapped_items e q k t d u p.reads.3 p.reads.4 in
-    let whole = ap (λ l. whole_items e last q k l) p.split ∙ whole_items-append e last q k p.prefix rest in
-    let after = whole_items e last (last_set e q p.prefix) (k + length p.prefix) rest in
+    let whole = ap (λ l. whole_items Decimal e last q k l) p.split ∙ whole_items-append e last q k p.prefix rest in
+    let after = whole_items Decimal e last (last_set e q p.prefix) (k + length p.prefix) rest in
     let both = first_note (before_reference e q t d) w _ _ u u _ _
-    (sym (append_assoc (map Byte (before_reference e q t d)) (LostAt (k + length t) u ∷ map Byte (reference u)) after)
-    ∙ ap (λ l. l ++ after) (sym (ap (λ l. open_items e q k l) ends ∙ items)) ∙ sym whole ∙ sym same ∙ p.items k) in (
-      ap (λ l. l ++ reference u) (sym both.0) ∙ sym (unmapped_bytes e q t d u p.reads.4) ∙ ap (open_from e q) (sym ends),
-      whole ∙ ap (λ l. open_items e q k p.prefix ++ l) (append_cancel_left (map Byte (reference u)) _ _ both.1),
+    (sym (append_assoc (map Byte (before_reference e q t d)) (LostAt (k + length t) u ∷ map Byte (reference Decimal u)) after)
+    ∙ ap (λ l. l ++ after) (sym (ap (λ l. open_items Decimal e q k l) ends ∙ items)) ∙ sym whole ∙ sym same ∙ p.items k) in (
+      ap (λ l. l ++ reference Decimal u) (sym both.0) ∙ sym (unmapped_bytes e q t d u p.reads.4) ∙ ap (open_from Decimal e q) (sym ends),
+      whole ∙ ap (λ l. open_items Decimal e q k p.prefix ++ l) (append_cancel_left (map Byte (reference Decimal u)) _ _ both.1),
     )
 
 counted_lost : (e : Coding) (t : List ℕ) (d u : ℕ) → AllMapped e t → e.form d ≡ Unmapped u → lost_count e (t ++ d ∷ []) ≡ 1
 counted_lost e t d u mapped lost = count-append e t (d ∷ []) ∙ rw (count_mapped e t mapped, lost) refl
 
 pub gone_on : (e : Coding) (last : Bool) (s : EscapeState) (text written : List ℕ) (s' : EscapeState) (rest : List ℕ) (lost : Bool) (prefix : List ℕ) (w : List ℕ) (u : ℕ) (s'' : EscapeState) (rest' : List ℕ)
-    → Gone e last s text written s' rest lost prefix → (p : Encodes e last (Unmappable u) s' rest w s'' rest')
-    → Gone e last s text (written ++ (w ++ reference u)) s'' rest' true (prefix ++ p.prefix)
+    → Gone e last s text written s' rest lost prefix → (p : EncodesItems Decimal e last (Unmappable u) s' rest w s'' rest')
+    → Gone e last s text (written ++ (w ++ reference Decimal u)) s'' rest' true (prefix ++ p.prefix)
 gone_on e last s text written s' rest lost prefix w u s'' rest' g p =
     let q = last_set e s prefix in
     let bytes = (cut e last s' q rest w u s'' rest' (0 + length prefix) p (owed e last s text written s' rest lost prefix g 0)).0 in
     record {
       split = g.split ∙ ap (λ l. prefix ++ l) p.split ∙ sym (append_assoc prefix p.prefix rest');
-      opened = ap (λ l. l ++ (w ++ reference u)) g.opened ∙ ap (λ l. open_from e s prefix ++ l) bytes ∙ sym (open_from-append e s prefix p.prefix);
+      opened = ap (λ l. l ++ (w ++ reference Decimal u)) g.opened ∙ ap (λ l. open_from Decimal e s prefix ++ l) bytes ∙ sym (open_from-append Decimal e s prefix p.prefix);
       items = λ i.
           let same = owed e last s text written s' rest lost prefix g i in
           let more = (cut e last s' q rest w u s'' rest' (i + length prefix) p same).1 in
           let at : i + length prefix + length p.prefix ≡ i + length (prefix ++ p.prefix) = omega (arith, length-append prefix p.prefix) in
-          g.items i ∙ ap (λ l. open_items e s i prefix ++ l) (same ∙ more) ∙ sym (append_assoc (open_items e s i prefix) (open_items e q (i + length prefix) p.prefix) _)
-          ∙ ap (λ l. l ++ whole_items e last s'' (i + length prefix + length p.prefix) rest') (sym (open_items-append e s i prefix p.prefix))
-          ∙ ap (λ n. open_items e s i (prefix ++ p.prefix) ++ whole_items e last s'' n rest') at;
-      continues = λ r. g.continues r ∙ ap (λ l. written ++ l) (encoded_bytes e last (Unmappable u) s' rest w s'' rest' p r) ∙ sym (append_assoc written (w ++ reference u) _);
+          g.items i ∙ ap (λ l. open_items Decimal e s i prefix ++ l) (same ∙ more) ∙ sym (append_assoc (open_items Decimal e s i prefix) (open_items Decimal e q (i + length prefix) p.prefix) _)
+          ∙ ap (λ l. l ++ whole_items Decimal e last s'' (i + length prefix + length p.prefix) rest') (sym (open_items-append e s i prefix p.prefix))
+          ∙ ap (λ n. open_items Decimal e s i (prefix ++ p.prefix) ++ whole_items Decimal e last s'' n rest') at;
+      continues = λ r. g.continues r ∙ ap (λ l. written ++ l) (items_in_bytes Decimal e last (Unmappable u) s' rest w s'' rest' p r) ∙ sym (append_assoc written (w ++ reference Decimal u) _);
       sets = g.sets ∙ p.sets tt;
       told =
           let one : lost_count e p.prefix ≡ 1 = ap (lost_count e) p.reads.2 ∙ counted_lost e p.reads.0 p.reads.1 u p.reads.3 p.reads.4 in
@@ -179,7 +172,7 @@ gone_on e last s text written s' rest lost prefix w u s'' rest' g p =
 
 -- each reference of a text from a set ends before an offset
 pub record EndBefore (e : Coding) (s : EscapeState) (end : ℕ) (t : List ℕ) : Type 0 where
-  pub each : (before : List ℕ) (c : ℕ) (after : List ℕ) → t ≡ before ++ c ∷ after → ¬ (IsMapped (e.form c)) → length (open_from e s (before ++ c ∷ [])) < end
+  pub each : (before : List ℕ) (c : ℕ) (after : List ℕ) → t ≡ before ++ c ∷ after → ¬ (IsMapped (e.form c)) → length (open_from Decimal e s (before ++ c ∷ [])) < end
 
 not_nil : (before : List ℕ) (c : ℕ) (after : List ℕ) → [] ≡ before ++ c ∷ after → ⊥
 not_nil [] c after h = cc
@@ -252,8 +245,8 @@ going_none e last s text end = record {
 }
 
 pub going_on : (e : Coding) (last : Bool) (s : EscapeState) (text written : List ℕ) (s' : EscapeState) (rest : List ℕ) (lost : Bool) (end : ℕ) (w : List ℕ) (u : ℕ) (s'' : EscapeState) (rest' : List ℕ)
-    → Going e last s text written s' rest lost end → Encodes e last (Unmappable u) s' rest w s'' rest' → Moves e s' s'' → length (written ++ (w ++ reference u)) < end
-    → Going e last s text (written ++ (w ++ reference u)) s'' rest' true end
+    → Going e last s text written s' rest lost end → EncodesItems Decimal e last (Unmappable u) s' rest w s'' rest' → Moves e s' s'' → length (written ++ (w ++ reference Decimal u)) < end
+    → Going e last s text (written ++ (w ++ reference Decimal u)) s'' rest' true end
 going_on e last s text written s' rest lost end w u s'' rest' g p moves more =
     let on = gone_on e last s text written s' rest lost g.prefix w u s'' rest' g.gone p in
     record {
@@ -267,21 +260,21 @@ going_on e last s text written s' rest lost end w u s'' rest' g p moves more =
               | inl found ↦ g.before.each before c found.0 found.1 unmapped
               | inr last_one ↦
                   let whole = last_one.1 ∙ ap (λ l. g.prefix ++ l) (sym p.reads.2) in
-                  omega (arith, ap length (ap (open_from e s) whole), ap length on.opened)
+                  omega (arith, ap length (ap (open_from Decimal e s) whole), ap length on.opened)
             ];
       };
     }
 
 -- what is still to be written at the end of a call
 owed_open : (e : Coding) (last : Bool) (s : EscapeState) (text written : List ℕ) (s' : EscapeState) (rest : List ℕ) (lost : Bool) (prefix : List ℕ) → Gone e last s text written s' rest lost prefix
-    → whole_from e s text ≡ written ++ whole_from e s' rest
+    → whole_from Decimal e s text ≡ written ++ whole_from Decimal e s' rest
 owed_open e last s text written s' rest lost prefix g =
-    let open_is = sym (ap (open_from e s) (append-nil text)) ∙ g.continues [] ∙ ap (λ t. written ++ open_from e s' t) (append-nil rest) in
-    ap (λ l. l ++ e.escape (last_set e s text) Ascii) open_is ∙ ap (λ (q : EscapeState). (written ++ open_from e s' rest) ++ e.escape q Ascii) g.sets
-    ∙ append_assoc written (open_from e s' rest) (e.escape (last_set e s' rest) Ascii)
+    let open_is = sym (ap (open_from Decimal e s) (append-nil text)) ∙ g.continues [] ∙ ap (λ t. written ++ open_from Decimal e s' t) (append-nil rest) in
+    ap (λ l. l ++ e.escape (last_set e s text) Ascii) open_is ∙ ap (λ (q : EscapeState). (written ++ open_from Decimal e s' rest) ++ e.escape q Ascii) g.sets
+    ∙ append_assoc written (open_from Decimal e s' rest) (e.escape (last_set e s' rest) Ascii)
 
 abbrev pub Bytes : Coding → Bool → EscapeState → List ℕ → List ℕ → EscapeState → List ℕ → Type 0
-Bytes e last s t w s' rest = MatchBool last (whole_from e s t ≡ w ++ whole_from e s' rest) (Continues e s t w s' rest)
+Bytes e last s t w s' rest = MatchBool last (whole_from Decimal e s t ≡ w ++ whole_from Decimal e s' rest) (Continues Decimal e s t w s' rest)
 
 gone_bytes : (e : Coding) (last : Bool) (s : EscapeState) (text written : List ℕ) (s' : EscapeState) (rest : List ℕ) (lost : Bool) (prefix : List ℕ) → Gone e last s text written s' rest lost prefix → Bytes e last s text written s' rest
 gone_bytes e true s text written s' rest lost prefix g = owed_open e true s text written s' rest lost prefix g
@@ -290,8 +283,8 @@ gone_bytes e false s text written s' rest lost prefix g = g.continues
 joined : (e : Coding) (last : Bool) (s : EscapeState) (text written : List ℕ) (s' : EscapeState) (rest : List ℕ) (lost : Bool) (prefix w : List ℕ) (s'' : EscapeState) (rest' : List ℕ)
     → Gone e last s text written s' rest lost prefix → Bytes e last s' rest w s'' rest' → Bytes e last s text (written ++ w) s'' rest'
 joined e true s text written s' rest lost prefix w s'' rest' g is =
-    owed_open e true s text written s' rest lost prefix g ∙ ap (λ l. written ++ l) is ∙ sym (append_assoc written w (whole_from e s'' rest'))
-joined e false s text written s' rest lost prefix w s'' rest' g is = λ r. g.continues r ∙ ap (λ l. written ++ l) (is r) ∙ sym (append_assoc written w (open_from e s'' (rest' ++ r)))
+    owed_open e true s text written s' rest lost prefix g ∙ ap (λ l. written ++ l) is ∙ sym (append_assoc written w (whole_from Decimal e s'' rest'))
+joined e false s text written s' rest lost prefix w s'' rest' g is = λ r. g.continues r ∙ ap (λ l. written ++ l) (is r) ∙ sym (append_assoc written w (open_from Decimal e s'' (rest' ++ r)))
 
 -- a last call without a character to report
 pub ended : (x x' : EncoderState) (last : Bool) (outcome : CoderResult) (text written : List ℕ) (s : EscapeState) (rest : List ℕ) (lost : Bool) (w rest' prefix : List ℕ) (size end : ℕ)
@@ -324,9 +317,9 @@ ended x x' last outcome text written s rest lost w rest' prefix size end at enou
 -- a reference that reaches the end
 pub reached : (x x' : EncoderState) (last : Bool) (outcome : CoderResult) (text written : List ℕ) (s : EscapeState) (rest : List ℕ) (lost : Bool) (w : List ℕ) (u : ℕ) (rest' : List ℕ) (size end : ℕ)
     → end ≡ size - kept_back x.encoding → kept_back x.encoding ≤ size → Going (coding_in x) last x.set text written s rest lost end
-    → x' ≡ record x { set = x'.set } → Encodes (coding_in x) last (Unmappable u) s rest w x'.set rest' → Moves (coding_in x) s x'.set → ReplacingEndsWith last outcome x'.set rest'
-    → end ≤ length (written ++ (w ++ reference u)) → length (written ++ w) ≤ end
-    → Replaces x last outcome text (written ++ (w ++ reference u)) x' rest' true size
+    → x' ≡ record x { set = x'.set } → EncodesItems Decimal (coding_in x) last (Unmappable u) s rest w x'.set rest' → Moves (coding_in x) s x'.set → ReplacingEndsWith last outcome x'.set rest'
+    → end ≤ length (written ++ (w ++ reference Decimal u)) → length (written ++ w) ≤ end
+    → Replaces x last outcome text (written ++ (w ++ reference Decimal u)) x' rest' true size
 reached x x' last outcome text written s rest lost w u rest' size end at enough g same p moves ends reach fits =
     let e = coding_in x in
     let on = gone_on e last x.set text written s rest lost g.prefix w u x'.set rest' g.gone p in
@@ -334,7 +327,7 @@ reached x x' last outcome text written s rest lost w u rest' size end at enough 
       same = same;
       prefix = g.prefix ++ p.prefix;
       split = on.split;
-      bytes = gone_bytes e last x.set text (written ++ (w ++ reference u)) x'.set rest' true (g.prefix ++ p.prefix) on;
+      bytes = gone_bytes e last x.set text (written ++ (w ++ reference Decimal u)) x'.set rest' true (g.prefix ++ p.prefix) on;
       sets = λ h. on.sets;
       moves = moves_on e x.set s x'.set g.moves moves;
       told = on.told;
@@ -347,8 +340,8 @@ reached x x' last outcome text written s rest lost w u rest' size end at enough 
         unmapped = λ mapped. subst IsMapped p.reads.4 mapped;
         whole = on.opened;
         begins =
-            let spelled_is : length (spelled (e.form p.reads.1)) ≡ length (reference u) = ap (λ f. length (spelled f)) p.reads.4 in
-            omega (arith, at, fits, spelled_is, length-append written (w ++ reference u), length-append w (reference u), length-append written w);
+            let spelled_is : length (spelled Decimal (e.form p.reads.1)) ≡ length (reference Decimal u) = ap (λ f. length (spelled Decimal f)) p.reads.4 in
+            omega (arith, at, fits, spelled_is, length-append written (w ++ reference Decimal u), length-append w (reference Decimal u), length-append written w);
       };
       few = λ less. absurd (omega arith);
       stops = λ before c after is unmapped past.
@@ -412,19 +405,12 @@ length_turn dst ys a within size =
     let whole = length-take-le (length dst - a) (drop a dst) (omega (arith, length-drop a dst)) in
     omega (arith, size, whole, none, length-append (take a dst) (ys ++ post_of a (length dst - a) dst), length-append ys (post_of a (length dst - a) dst), length-take-le a dst within)
 
--- a turn on what follows an offset of a list
-pub at_rest : (text : List ℕ → List ℕ) (x : EncoderState) (last : Bool) (answer : EncoderResult) (more : List ℕ) (x' : EncoderState) (end : ℕ) (all rest : List ℕ) (i n : ℕ)
-    → rest ≡ drop i all → Turned x last answer (text rest) more x' (text (drop n rest)) end → Turned x last answer (text (drop i all)) more x' (text (drop (i + n) all)) end
-at_rest text x last answer more x' end all rest i n here t =
-    subst (λ (l : List ℕ). Turned x last answer (text (drop i all)) more x' (text l) end) (drop-drop n i all)
-    (subst (λ (l : List ℕ). Turned x last answer (text l) more x' (text (drop n l)) end) here t)
-
 -- a character that is reported was read
 pub shorter : (x : EncoderState) (last : Bool) (answer : EncoderResult) (u : ℕ) (text more : List ℕ) (x' : EncoderState) (rest : List ℕ) (end : ℕ) → Turned x last answer text more x' rest end → answer ≡ Unmappable u
     → length rest < length text
 shorter x last answer u text more x' rest end t is =
-    let law = t.call.law in
-    let reads = rw is at law.reads in
+    let law = told_items x last (Unmappable u) text t.called x' rest (end - length t.called) (rw is at t.call) in
+    let reads = law.reads in
     omega (arith, ap length law.split, length-append law.prefix rest, ap length reads.2, length-append reads.0 (reads.1 ∷ []))
 
 -- the same encoder as at first, with another set
@@ -439,10 +425,11 @@ pub input_empty : (x x1 x' : EncoderState) (last : Bool) (answer : EncoderResult
     → Replaces x last CoderResult.InputEmpty text new x' rest' lost size
 input_empty x x1 x' last answer text old rest lost more rest' new size end n at enough same going t is new_is left within =
     let call = as_first x x1 last InputEmpty rest t.called x' rest' (n - length t.called) same (rw is at t.call) in
+    let law = told_items (record x { set = x1.set }) last InputEmpty rest t.called x' rest' (n - length t.called) call in
     let bytes : more ≡ t.called = t.all ∙ ap (λ (a : EncoderResult). t.called ++ referred a) is ∙ append-nil t.called in
     subst (λ (l : List ℕ). Replaces x last CoderResult.InputEmpty text l x' rest' lost size) (sym (new_is ∙ ap (λ l. old ++ l) bytes))
-    (ended x x' last CoderResult.InputEmpty text old x1.set rest lost t.called rest' call.law.prefix size end at enough going
-    call.same call.law.split call.law.reads call.bytes call.law.sets call.moves call.answers (λ h. absurd (cc)) (omega (arith, t.fits, left, length-append old t.called)))
+    (ended x x' last CoderResult.InputEmpty text old x1.set rest lost t.called rest' law.prefix size end at enough going
+    call.same law.split law.reads call.bytes law.sets call.moves call.ends (λ h. absurd (cc)) (omega (arith, t.fits, left, length-append old t.called)))
 
 pub output_full : (x x1 x' : EncoderState) (last : Bool) (answer : EncoderResult) (text old rest : List ℕ) (lost : Bool) (more rest' new : List ℕ) (size end n : ℕ)
     → end ≡ size - kept_back x.encoding → kept_back x.encoding ≤ size → x1 ≡ record x { set = x1.set } → Going (coding_in x) last x.set text old x1.set rest lost end
@@ -450,10 +437,11 @@ pub output_full : (x x1 x' : EncoderState) (last : Bool) (answer : EncoderResult
     → Replaces x last CoderResult.OutputFull text new x' rest' lost size
 output_full x x1 x' last answer text old rest lost more rest' new size end n at enough same going t is new_is left within =
     let call = as_first x x1 last OutputFull rest t.called x' rest' (n - length t.called) same (rw is at t.call) in
+    let law = told_items (record x { set = x1.set }) last OutputFull rest t.called x' rest' (n - length t.called) call in
     let bytes : more ≡ t.called = t.all ∙ ap (λ (a : EncoderResult). t.called ++ referred a) is ∙ append-nil t.called in
     subst (λ (l : List ℕ). Replaces x last CoderResult.OutputFull text l x' rest' lost size) (sym (new_is ∙ ap (λ l. old ++ l) bytes))
-    (ended x x' last CoderResult.OutputFull text old x1.set rest lost t.called rest' call.law.prefix size end at enough going
-    call.same call.law.split call.law.reads call.bytes call.law.sets call.moves call.answers.1 (λ h. omega (arith, call.answers.0, length-append old t.called)) (omega (arith, t.fits, left, length-append old t.called)))
+    (ended x x' last CoderResult.OutputFull text old x1.set rest lost t.called rest' law.prefix size end at enough going
+    call.same law.split law.reads call.bytes law.sets call.moves call.ends.1 (λ h. omega (arith, call.ends.0, length-append old t.called)) (omega (arith, t.fits, left, length-append old t.called)))
 
 -- of a turn that writes a reference
 pub reference_reached : (x x1 x' : EncoderState) (last : Bool) (answer : EncoderResult) (u : ℕ) (outcome : CoderResult) (text old rest : List ℕ) (lost : Bool) (more rest' new : List ℕ) (size end n : ℕ)
@@ -462,9 +450,10 @@ pub reference_reached : (x x1 x' : EncoderState) (last : Bool) (answer : Encoder
     → Replaces x last outcome text new x' rest' true size
 reference_reached x x1 x' last answer u outcome text old rest lost more rest' new size end n at enough same going t is new_is ends reach left within =
     let call = as_first x x1 last (Unmappable u) rest t.called x' rest' (n - length t.called) same (rw is at t.call) in
-    let bytes : new ≡ old ++ (t.called ++ reference u) = new_is ∙ ap (λ l. old ++ l) (t.all ∙ ap (λ (a : EncoderResult). t.called ++ referred a) is) in
+    let law = told_items (record x { set = x1.set }) last (Unmappable u) rest t.called x' rest' (n - length t.called) call in
+    let bytes : new ≡ old ++ (t.called ++ reference Decimal u) = new_is ∙ ap (λ l. old ++ l) (t.all ∙ ap (λ (a : EncoderResult). t.called ++ referred a) is) in
     subst (λ (l : List ℕ). Replaces x last outcome text l x' rest' true size) (sym bytes)
-    (reached x x' last outcome text old x1.set rest lost t.called u rest' size end at enough going call.same call.law call.moves ends (omega (arith, reach, ap length bytes)) (omega (arith, t.fits, left, length-append old t.called)))
+    (reached x x' last outcome text old x1.set rest lost t.called u rest' size end at enough going call.same law call.moves ends (omega (arith, reach, ap length bytes)) (omega (arith, t.fits, left, length-append old t.called)))
 
 pub turn_on : (x x1 x' : EncoderState) (last : Bool) (answer : EncoderResult) (u : ℕ) (text old rest : List ℕ) (lost : Bool) (more rest' new : List ℕ) (end n : ℕ)
     → x1 ≡ record x { set = x1.set } → Going (coding_in x) last x.set text old x1.set rest lost end
@@ -472,9 +461,10 @@ pub turn_on : (x x1 x' : EncoderState) (last : Bool) (answer : EncoderResult) (u
     → Going (coding_in x) last x.set text new x'.set rest' true end
 turn_on x x1 x' last answer u text old rest lost more rest' new end n same going t is new_is short =
     let call = as_first x x1 last (Unmappable u) rest t.called x' rest' (n - length t.called) same (rw is at t.call) in
-    let bytes : new ≡ old ++ (t.called ++ reference u) = new_is ∙ ap (λ l. old ++ l) (t.all ∙ ap (λ (a : EncoderResult). t.called ++ referred a) is) in
+    let law = told_items (record x { set = x1.set }) last (Unmappable u) rest t.called x' rest' (n - length t.called) call in
+    let bytes : new ≡ old ++ (t.called ++ reference Decimal u) = new_is ∙ ap (λ l. old ++ l) (t.all ∙ ap (λ (a : EncoderResult). t.called ++ referred a) is) in
     subst (λ (l : List ℕ). Going (coding_in x) last x.set text l x'.set rest' true end) (sym bytes)
-    (going_on (coding_in x) last x.set text old x1.set rest lost end t.called u x'.set rest' going call.law call.moves (omega (arith, short, ap length bytes)))
+    (going_on (coding_in x) last x.set text old x1.set rest lost end t.called u x'.set rest' going law call.moves (omega (arith, short, ap length bytes)))
 
 -- the encoder afterwards
 pub still_same : (x x1 x' : EncoderState) (last : Bool) (answer : EncoderResult) (text more : List ℕ) (rest : List ℕ) (n : ℕ) → x1 ≡ record x { set = x1.set } → Turned x1 last answer text more x' rest n
@@ -488,7 +478,7 @@ pub record Passed (x : EncoderState) (text written : List ℕ) (x' : EncoderStat
   pub same : x' ≡ record x { set = x'.set }
   pub prefix : List ℕ
   pub split : text ≡ prefix ++ rest
-  pub owed : whole_from (coding_in x) x.set text ≡ written ++ whole_from (coding_in x) x'.set rest
+  pub owed : whole_from Decimal (coding_in x) x.set text ≡ written ++ whole_from Decimal (coding_in x) x'.set rest
   pub told : IsTrue lost ↔ (0 < lost_count (coding_in x) prefix)
 
 pub passed_none : (x : EncoderState) (text : List ℕ) → Passed x text [] x text false
@@ -517,7 +507,7 @@ passed_on x x1 x2 outcome text written rest more rest' lost lost' size p r0 =
       same = r.same;
       prefix = p.prefix ++ r.prefix;
       split = p.split ∙ ap (λ l. p.prefix ++ l) r.split ∙ sym (append_assoc p.prefix r.prefix rest');
-      owed = p.owed ∙ ap (λ l. written ++ l) r.bytes ∙ sym (append_assoc written more (whole_from (coding_in x) x2.set rest'));
+      owed = p.owed ∙ ap (λ l. written ++ l) r.bytes ∙ sym (append_assoc written more (whole_from Decimal (coding_in x) x2.set rest'));
       told =
           let both = either lost lost' (lost_count (coding_in x) p.prefix) (lost_count (coding_in x) r.prefix) p.told r.told in
           let sum = count-append (coding_in x) p.prefix r.prefix in
@@ -525,10 +515,10 @@ passed_on x x1 x2 outcome text written rest more rest' lost lost' size p r0 =
     }
 
 -- at the end nothing is left to write
-pub passed_all : (x x' : EncoderState) (text written rest : List ℕ) (lost : Bool) → Passed x text written x' rest lost → rest ≡ [] → x'.set ≡ Ascii → written ≡ whole_from (coding_in x) x.set text
+pub passed_all : (x x' : EncoderState) (text written rest : List ℕ) (lost : Bool) → Passed x text written x' rest lost → rest ≡ [] → x'.set ≡ Ascii → written ≡ whole_from Decimal (coding_in x) x.set text
 passed_all x x' text written rest lost p none ascii =
     let e = coding_in x in
-    let nothing : whole_from e x'.set rest ≡ [] = ap (whole_from e x'.set) none ∙ ap (λ s. e.escape s Ascii) ascii ∙ (coding_laws x.tables x.encoding).same Ascii in
+    let nothing : whole_from Decimal e x'.set rest ≡ [] = ap (whole_from Decimal e x'.set) none ∙ ap (λ s. e.escape s Ascii) ascii ∙ (coding_laws x.tables x.encoding).same Ascii in
     sym (p.owed ∙ ap (λ l. written ++ l) nothing ∙ append-nil written)
 
 pub passed_told : (x x' : EncoderState) (text written rest : List ℕ) (lost : Bool) → Passed x text written x' rest lost → rest ≡ [] → IsTrue lost ↔ (0 < lost_count (coding_in x) text)
@@ -544,10 +534,10 @@ one_more x x1 x2 outcome text old held rest more new rest' lost lost' size p kep
 
 -- of a new encoder
 pub all_bytes : (t : IndexLists) (e : Encoding) (x x' : EncoderState) (text written rest : List ℕ) (lost : Bool) → x ≡ new_state t e → Passed x text written x' rest lost → rest ≡ [] → x'.set ≡ Ascii
-    → written ≡ output (coding_of t e) text
+    → written ≡ output Decimal (coding_of t e) text
 all_bytes t e x x' text written rest lost new p none ascii =
-    passed_all x x' text written rest lost p none ascii ∙ ap (λ (y : EncoderState). whole_from (coding_in y) y.set text) new
-    ∙ ap (λ (d : Encoding). whole_from (coding_of_codec_kind t (codec_kind_of d)) Ascii text) (output_twice e)
+    passed_all x x' text written rest lost p none ascii ∙ ap (λ (y : EncoderState). whole_from Decimal (coding_in y) y.set text) new
+    ∙ ap (λ (d : Encoding). whole_from Decimal (coding_of_codec_kind t (codec_kind_of d)) Ascii text) (output_twice e)
 
 pub all_told : (t : IndexLists) (e : Encoding) (x x' : EncoderState) (text written rest : List ℕ) (lost : Bool) → x ≡ new_state t e → Passed x text written x' rest lost → rest ≡ []
     → IsTrue lost ↔ (0 < lost_count (coding_of t e) text)

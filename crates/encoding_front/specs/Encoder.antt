@@ -1,10 +1,11 @@
 -- What an encoder is to its callers, and what its calls do (the Encoding Standard, sections 4.1 and 6).
 use Rattle.std.specs.Prelude.{◌≡◌, ℕ, ◌+◌, ◌-◌, ◌<◌, ◌≤◌, Bool, true, false, List, [], ◌∷◌, ◌++◌, length, IsTrue, ◌↔◌, ◌⊎◌, ◌≢◌, Option}
 use Rattle.std.specs.Bool.{MatchBool}
+use Rattle.encoding_mem.specs.declared.reference.Reference.TheVariants.{Decimal}
 use Rattle.encoding_mem.specs.Coding.{Coding, IsMapped, last_set, lost_count, open_from, reference, spelled, whole_from}
 use Rattle.encoding_mem.specs.Encoding.{EncodeEndsWith, Continues, Encodes, Writes}
 use Rattle.encoding_mem.specs.DecodedLength.{checked, bound_at}
-use Rattle.encoding_mem.specs.EncoderRule.{Moves}
+use Rattle.encoding_mem.specs.EncoderRule.{Moves, Tight}
 use Rattle.encoding_mem.specs.EncodedLength.{bound_for}
 use Rattle.encoding_mem.specs.declared.encoder_result.EncoderResult.{EncoderResult}
 use Rattle.encoding_mem.specs.declared.form.EscapeState.{EscapeState}
@@ -41,8 +42,9 @@ pub record IsEncoderOf (t : IndexLists) (e : Encoding) (coding : Coding) (need :
 pub record Encoded (x : EncoderState) (last : Bool) (answer : EncoderResult) (text written : List ℕ) (x' : EncoderState) (rest : List ℕ) (room : ℕ) : Type 0 where
   pub same : x' ≡ record x { set = x'.set }
   pub law : Encodes (coding_in x) last answer x.set text written x'.set rest
-  pub bytes : Writes (coding_in x) last answer x.set text written x'.set rest
-  pub answers : EncodeEndsWith (need_of x.encoding) last answer x'.set rest room
+  pub bytes : Writes Decimal (coding_in x) last answer x.set text written x'.set rest
+  pub ends : EncodeEndsWith (need_of x.encoding) last answer x'.set rest room
+  pub tight : Tight (coding_in x) answer x'.set rest room
   pub moves : Moves (coding_in x) x.set x'.set
 
 -- The bytes that are kept back for a reference, of which the longest is `&#1114111;`: none where each character has
@@ -75,8 +77,8 @@ pub record EndsWithReference (e : Coding) (s : EscapeState) (prefix written : Li
   pub lost : ℕ
   pub is : prefix ≡ before ++ lost ∷ []
   pub unmapped : ¬ (IsMapped (e.form lost))
-  pub whole : written ≡ open_from e s prefix
-  pub begins : length written ≤ end + length (spelled (e.form lost))
+  pub whole : written ≡ open_from Decimal e s prefix
+  pub begins : length written ≤ end + length (spelled Decimal (e.form lost))
 
 -- A call with replacement on a text, into size bytes, the last of which are kept back: what is written has the
 -- references, and lost tells whether there is one. Only a reference reaches into the kept bytes, and where one ends there,
@@ -85,8 +87,8 @@ pub record Replaces (x : EncoderState) (last : Bool) (outcome : CoderResult) (te
   pub same : x' ≡ record x { set = x'.set }
   pub prefix : List ℕ
   pub split : text ≡ prefix ++ rest
-  pub bytes : MatchBool last (whole_from (coding_in x) x.set text ≡ written ++ whole_from (coding_in x) x'.set rest)
-      (Continues (coding_in x) x.set text written x'.set rest)
+  pub bytes : MatchBool last (whole_from Decimal (coding_in x) x.set text ≡ written ++ whole_from Decimal (coding_in x) x'.set rest)
+      (Continues Decimal (coding_in x) x.set text written x'.set rest)
   pub sets : last ≡ false → last_set (coding_in x) x.set text ≡ last_set (coding_in x) x'.set rest
   pub moves : Moves (coding_in x) x.set x'.set
   pub told : IsTrue lost ↔ (0 < lost_count (coding_in x) prefix)
@@ -95,13 +97,13 @@ pub record Replaces (x : EncoderState) (last : Bool) (outcome : CoderResult) (te
   pub kept : size - kept_back x.encoding < length written → EndsWithReference (coding_in x) x.set prefix written (size - kept_back x.encoding)
   pub few : size < kept_back x.encoding → (prefix ≡ []) × (written ≡ [])
   pub stops : (before : List ℕ) (c : ℕ) (after : List ℕ) → prefix ≡ before ++ c ∷ after → ¬ (IsMapped ((coding_in x).form c))
-      → size - kept_back x.encoding ≤ length (open_from (coding_in x) x.set (before ++ c ∷ [])) → (after ≡ []) × (written ≡ open_from (coding_in x) x.set prefix)
+      → size - kept_back x.encoding ≤ length (open_from Decimal (coding_in x) x.set (before ++ c ∷ [])) → (after ≡ []) × (written ≡ open_from Decimal (coding_in x) x.set prefix)
 
 -- what a call without replacement asks its caller to write
 abbrev pub referred : EncoderResult → List ℕ
 referred EncoderResult.InputEmpty = []
 referred EncoderResult.OutputFull = []
-referred (EncoderResult.Unmappable c) = reference c
+referred (EncoderResult.Unmappable c) = reference Decimal c
 
 -- such a call into end bytes, and that reference
 pub record Turned (x : EncoderState) (last : Bool) (answer : EncoderResult) (text written : List ℕ) (x' : EncoderState) (rest : List ℕ) (end : ℕ) : Type 0 where

@@ -1,5 +1,5 @@
 -- How far bytes that follow are their characters in Latin1: their scalars are their own numbers.
-use Rattle.std.specs.Prelude.{◌≡◌, ℕ, Option, None, Some, List, refl}
+use Rattle.std.specs.Prelude.{◌≡◌, ℕ, Option, None, Some, List}
 use Rattle.std.specs.Str.{IsAscii}
 use Rattle.encoding_mem.specs.Piece.{Piece}
 use Rattle.encoding_mem.specs.Decoding.{DecoderState}

@@ -1,13 +1,11 @@
 -- A whole input at once: the room that is asked for it, and why it is refused.
-use Rattle.std.specs.Prelude.{◌≡◌, ℕ, ◌<◌, Option, None, Some, [], refl}
+use Rattle.std.specs.Prelude.{◌≡◌, ℕ, ◌<◌, Option, None, Some, []}
 use Rattle.encoding_mem.specs.declared.room.OutputUnit.{OutputUnit}
-use Rattle.encoding_mem.specs.declared.room.OutputUnit.TheVariants.{Bytes, Replaced}
 use Rattle.encoding_front.specs.Encodings.{decoded_length_of}
 use Rattle.encoding_front.specs.Seeking.{sought_by}
 use Rattle.encoding_front.specs.Stream.{room_asked}
 use Rattle.encoding_front.specs.declared.encoding.Encoding.{Encoding}
 use Rattle.encoding_front.specs.declared.mark.Mark.{Mark}
-use Rattle.encoding_front.specs.declared.mark.Mark.TheVariants.{Sniff, Keep}
 use Rattle.encoding_front.specs.declared.one_shot_fault.OneShotFault.{OneShotFault}
 use Rattle.encoding_front.specs.declared.one_shot_fault.OneShotFault.TheVariants.{Overflow, Memory}
 

@@ -1,20 +1,18 @@
 -- A decoder of a stream, as its callers know it.
-use Rattle.std.specs.Prelude.{◌≡◌, ℕ, ◌+◌, ◌||◌, ◌&&◌, nat_lt, Bool, true, false, if◌then◌else◌, IsTrue, Option, None, Some, List, [], ◌∷◌, ◌++◌, length, refl}
+use Rattle.std.specs.Prelude.{◌≡◌, ℕ, ◌+◌, ◌||◌, ◌&&◌, nat_lt, Bool, true, false, if◌then◌else◌, IsTrue, Option, None, Some, List, [], ◌∷◌, ◌++◌, length}
 use Rattle.encoding_mem.specs.Decoding.{DecoderState}
-use Rattle.encoding_mem.specs.DecodedLength.{queried, decoded_length_utf8, decoded_length_utf16, decoded_length_single_byte, decoded_length_replacement}
+use Rattle.encoding_mem.specs.DecodedLength.{queried, decoded_length_utf8, decoded_length_utf16}
 use Rattle.encoding_mem.specs.declared.decoder_result.DecoderResult.{DecoderResult}
 use Rattle.encoding_mem.specs.declared.decoder_result.DecoderResult.TheVariants.{InputEmpty, OutputFull, Malformed}
 use Rattle.encoding_mem.specs.declared.room.OutputUnit.{OutputUnit}
-use Rattle.encoding_mem.specs.declared.room.OutputUnit.TheVariants.{Units, Bytes, Replaced}
 use Rattle.encoding_mem.specs.declared.room.DecodedLength.{DecodedLength}
 use Rattle.encoding_tables.specs.IndexLists.{IndexLists}
 use Rattle.encoding_front.specs.Encodings.{pieces_of, decoded_length_of}
 use Rattle.encoding_front.specs.Latin1Prefix.{latin1_rule, IsAtRest, IsLatin1Prefix}
 use Rattle.encoding_front.specs.Marks.{marked_pieces, source_of}
-use Rattle.encoding_front.specs.Seeking.{can_be, encoding_of_mark, find_mark, is_sought, mark_taken, nothing_sought, sought_by, sought_pieces}
+use Rattle.encoding_front.specs.Seeking.{can_be, encoding_of_mark, find_mark, is_sought, mark_taken, sought_by, sought_pieces}
 use Rattle.encoding_front.specs.declared.encoding.Encoding.{Encoding}
 use Rattle.encoding_front.specs.declared.mark.Mark.{Mark}
-use Rattle.encoding_front.specs.declared.mark.Mark.TheVariants.{Sniff}
 use Rattle.encoding_front.specs.declared.seeking.ByteOrderMark.{ByteOrderMark}
 use Rattle.encoding_front.specs.declared.seeking.ByteOrderMark.TheVariants.{Utf8, Utf16Be, Utf16Le}
 use Rattle.encoding_front.specs.declared.seeking.BomMatch.{BomMatch}

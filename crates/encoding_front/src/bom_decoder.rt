@@ -12,11 +12,11 @@ ghost use Rattle.encoding_front.specs.Stream.{ahead, encoding_after, greater_if,
 ghost use Rattle.encoding_front.specs.declared.encoding.Encoding.{Encoding};
 ghost use Rattle.encoding_front.specs.TakesMark.{TakesMark};
 
-use crate::held::BomPrefix;
 use crate::replay::decode_held;
 use crate::seeking::{BomMatch, BomSet, ByteOrderMark, find_mark};
 use encoding_mem::DecoderResult;
-use encoding_mem::room::{Bound, DecodedLength, OutputUnit};
+use encoding_mem::pending::Pending;
+use encoding_mem::room::{DecodedLength, OutputUnit};
 use encoding_mem::sink::Sink;
 use encoding_mem::sink_decoder::SinkDecoder;
 
@@ -49,7 +49,7 @@ pub(crate) trait Switches: SinkDecoder + Drop {
 pub(crate) struct BomDecoder<D: Switches> {
     inner: D,
     sought: BomSet,
-    held: BomPrefix,
+    held: Pending,
     taken: Option<ByteOrderMark>,
     ghost few: { 0 < length held → (D.state inner).pending + length held ≤ 2 },
     ghost fresh: { IsTrue (is_sought sought) → (D.state inner).pending ≡ 0 },
@@ -70,7 +70,7 @@ impl<D: Switches> BomDecoder<D> {
         BomDecoder {
             inner,
             sought,
-            held: BomPrefix::new(),
+            held: Pending::new(),
             taken: None,
         }
     }
@@ -91,7 +91,7 @@ impl<D: Switches> BomDecoder<D> {
         if !self.sought.is_any() {
             return Some(0);
         }
-        let window = BomPrefix::prefix_of(&self.held, src);
+        let window = Pending::prefix_of(&self.held, src, 3);
         match find_mark(self.sought, window.as_slice()) {
             BomMatch::Prefix if !last => {
                 self.held = window;
@@ -99,7 +99,7 @@ impl<D: Switches> BomDecoder<D> {
             }
             BomMatch::Whole(mark) => {
                 let read = mark.len() - self.held.len();
-                self.held = BomPrefix::new();
+                self.held = Pending::new();
                 self.sought = BomSet::nothing();
                 self.taken = Some(mark);
                 self.inner = D::after_mark(mark);
@@ -203,30 +203,4 @@ fn greater_if(is_asked: bool, other: Option<usize>, number: usize) -> Option<usi
         return Some(number);
     }
     Some(number.max(other?))
-}
-
-impl<D: Switches> SinkDecoder for BomDecoder<D> {
-    ghost state = { λ d. bom_decoder_state d.sought (D.state d.inner) d.held d.fresh d.bounded };
-
-    fn decode_into<S: Sink>(
-        &mut self,
-        src: &[u8],
-        sink: &mut S,
-        last: bool,
-    ) -> (DecoderResult, usize) {
-        self.decode_behind_bom(src, sink, last)
-    }
-
-    fn held_len(&self) -> usize {
-        self.inner.held_len() + self.held.len()
-    }
-
-    fn room(&self) -> DecodedLength {
-        DecodedLength {
-            in_pairs: false,
-            units: Bound::new(1, 1),
-            bytes: Bound::new(3, 3),
-            replaced: Bound::new(3, 3),
-        }
-    }
 }

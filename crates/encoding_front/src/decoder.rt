@@ -5,6 +5,7 @@ ghost use Rattle.encoding_mem.specs.Driver.{Suffices};
 ghost use Rattle.encoding_mem.specs.TextDestination.{Overwrites};
 ghost use Rattle.encoding_mem.specs.Writing.{Adds, encode_utf16_all};
 ghost use Rattle.encoding_mem.specs.declared.room.OutputUnit.TheVariants.{Units, Bytes, Replaced};
+ghost use Rattle.encoding_front.specs.BomDecoderState.{bom_decoder_state};
 ghost use Rattle.encoding_front.specs.DecodedText.{NeverFull, TakesText, raw_result};
 ghost use Rattle.encoding_front.specs.Encodings.{IsReady, decoded_length_of};
 ghost use Rattle.encoding_front.specs.Latin1Prefix.{latin1_rule};
@@ -29,42 +30,33 @@ use encoding_mem::{DecoderResult, clear_behind};
 use encoding_tables::Tables;
 use std::{fmt, mem};
 
-/// A decoder of a stream that may begin with a byte order mark.
+/// A decoder of a stream that may begin with a byte order mark, for code that takes any.
 pub trait StreamDecoder {
     ghost view: { Self → DecoderView };
 
     /// What its parts have to do with each other.
     ghost opened: { (d : Self) → IsOpenedBy (view d) };
 
-    /// Decodes bytes to UTF-8 up to the first malformed sequence. Returns how the call ended, the
-    /// bytes read and the bytes written. A character is never split; nothing behind what is written
-    /// changes.
-    fn decode_to_utf8_without_replacement(
+    /// Decodes bytes into any destination up to the first malformed sequence. Returns how the call ended and the
+    /// bytes read. What is not read is handed in again, first, with the next call.
+    fn decode_into<S: Sink>(
         &mut self,
         src: &[u8],
-        dst: &mut [u8],
+        sink: &mut S,
         last: bool,
-    ) -> (DecoderResult, usize, usize)
+    ) -> (DecoderResult, usize)
         requires { (view self.old).finished ≡ false }
-        ensures law { StateLaw (view self.old).state (view self.new).state src.now last result.1 (λ text. Adds dst.old 0 (encode_utf8_all text) dst.new result.2) result.0 }
-        ensures ends { EndsWith (view self.new).state (drop result.1 src.now) last (length (drop result.2 dst.new)) 4 3 result.0 }
-        ensures enough { (n : ℕ) → room_asked (view self.old).opening Bytes (length src.now) ≡ Some n → n ≤ length dst.old → result.0 ≢ DecoderResult.OutputFull }
+        ensures law { StateLaw (view self.old).state (view self.new).state src.now last result.1 (λ text. S.writes sink.old text sink.new) result.0 }
+        ensures ends { EndsWith (view self.new).state (drop result.1 src.now) last (S.free sink.new) S.room (S.cost 0xFFFD) result.0 }
+        ensures enough { Suffices (view self.old).state.needs (view self.new).state.needs S.is_units last
+            (length src.now) (length src.now - result.1) (S.free sink.old) (S.free sink.new) result.0 }
         ensures source { (r : List ℕ) → (IsTrue last → r ≡ []) → (view self.old).source (src.now ++ r) ≡ (view self.new).source (drop result.1 src.now ++ r) }
         ensures finished { (view self.new).finished ≡ finishes last result.0 };
 
-    /// The same to UTF-16. Returns the units written.
-    fn decode_to_utf16_without_replacement(
-        &mut self,
-        src: &[u8],
-        dst: &mut [u16],
-        last: bool,
-    ) -> (DecoderResult, usize, usize)
-        requires { (view self.old).finished ≡ false }
-        ensures law { StateLaw (view self.old).state (view self.new).state src.now last result.1 (λ text. Adds dst.old 0 (encode_utf16_all text) dst.new result.2) result.0 }
-        ensures ends { EndsWith (view self.new).state (drop result.1 src.now) last (length (drop result.2 dst.new)) 2 1 result.0 }
-        ensures enough { (n : ℕ) → room_asked (view self.old).opening Units (length src.now) ≡ Some n → n ≤ length dst.old → result.0 ≢ DecoderResult.OutputFull }
-        ensures source { (r : List ℕ) → (IsTrue last → r ≡ []) → (view self.old).source (src.now ++ r) ≡ (view self.new).source (drop result.1 src.now ++ r) }
-        ensures finished { (view self.new).finished ≡ finishes last result.0 };
+    /// Whether a last call has returned that all is read. Then no other call may follow but this
+    /// one and `encoding`.
+    fn is_finished(&self) -> bool
+        ensures { result ≡ (view self.now).finished };
 
     /// The encoding that the decoder was made for, until a whole mark was read of another.
     fn encoding(&self) -> Encoding
@@ -125,33 +117,9 @@ impl<'t> Decoder<'t> {
     }
 }
 
-impl<'t> Decoder<'t> {
-    // Decodes into any destination.
-    fn decode_into<S: Sink>(
-        &mut self,
-        src: &[u8],
-        sink: &mut S,
-        last: bool,
-    ) -> (DecoderResult, usize)
-        ensures law { StateLaw (⟦<Decoder<'t> as StreamDecoder>⟧.view self.old).state (⟦<Decoder<'t> as StreamDecoder>⟧.view self.new).state
-            src.now last result.1 (λ text. S.writes sink.old text sink.new) result.0 }
-        ensures ends { EndsWith (⟦<Decoder<'t> as StreamDecoder>⟧.view self.new).state (drop result.1 src.now) last
-            (S.free sink.new) S.room (S.cost 0xFFFD) result.0 }
-        ensures enough { Suffices (⟦<Decoder<'t> as StreamDecoder>⟧.view self.old).state.needs (⟦<Decoder<'t> as StreamDecoder>⟧.view self.new).state.needs
-            S.is_units last (length src.now) (length src.now - result.1) (S.free sink.old) (S.free sink.new) result.0 }
-        ensures source { (r : List ℕ) → (IsTrue last → r ≡ []) → (⟦<Decoder<'t> as StreamDecoder>⟧.view self.old).source (src.now ++ r)
-            ≡ (⟦<Decoder<'t> as StreamDecoder>⟧.view self.new).source (drop result.1 src.now ++ r) }
-        ensures finished { (⟦<Decoder<'t> as StreamDecoder>⟧.view self.new).finished ≡ finishes last result.0 }
-    {
-        let (outcome, read) = self.marked.decode_behind_bom(src, sink, last);
-        self.is_finished = last && matches!(outcome, DecoderResult::InputEmpty);
-        (outcome, read)
-    }
-}
-
 impl<'t> StreamDecoder for Decoder<'t> {
     ghost view = { λ d. record {
-      state = ⟦<BomDecoder<VariantDecoder<'t>> as SinkDecoder>⟧.state d.marked;
+      state = bom_decoder_state d.marked.sought (⟦<VariantDecoder<'t> as SinkDecoder>⟧.state d.marked.inner) d.marked.held d.marked.fresh d.marked.bounded;
       source = λ x. encoding_after d.encoding (mark_taken d.marked.sought d.marked.taken (d.marked.held ++ x));
       opening = record {
         sought = d.marked.sought;
@@ -174,28 +142,19 @@ impl<'t> StreamDecoder for Decoder<'t> {
       room = room_named d.encoding d.marked.sought d.marked.taken d.marked.held _ d.marked.prefix d.room;
     } };
 
-    fn decode_to_utf8_without_replacement(
+    fn decode_into<S: Sink>(
         &mut self,
         src: &[u8],
-        dst: &mut [u8],
+        sink: &mut S,
         last: bool,
-    ) -> (DecoderResult, usize, usize) {
-        let mut sink = Utf8Sink::new(dst);
-        let (outcome, read) = self.decode_into(src, &mut sink, last);
-        let written = sink.written();
-        (outcome, read, written)
+    ) -> (DecoderResult, usize) {
+        let (outcome, read) = self.marked.decode_behind_bom(src, sink, last);
+        self.is_finished = last && matches!(outcome, DecoderResult::InputEmpty);
+        (outcome, read)
     }
 
-    fn decode_to_utf16_without_replacement(
-        &mut self,
-        src: &[u8],
-        dst: &mut [u16],
-        last: bool,
-    ) -> (DecoderResult, usize, usize) {
-        let mut sink = Utf16Sink::new(dst);
-        let (outcome, read) = self.decode_into(src, &mut sink, last);
-        let written = sink.written();
-        (outcome, read, written)
+    fn is_finished(&self) -> bool {
+        self.is_finished
     }
 
     fn encoding(&self) -> Encoding {
@@ -207,6 +166,63 @@ impl<'t> StreamDecoder for Decoder<'t> {
 }
 
 impl<'t> Decoder<'t> {
+    /// The encoding that the decoder was made for, until a whole mark was read of another.
+    pub fn encoding(&self) -> Encoding
+        ensures { result ≡ (⟦<Decoder<'t> as StreamDecoder>⟧.view self.now).source [] }
+    {
+        StreamDecoder::encoding(self)
+    }
+
+    /// Decodes bytes to UTF-8 up to the first malformed sequence. Returns how the call ended, the
+    /// bytes read and the bytes written. A character is never split; nothing behind what is written
+    /// changes.
+    pub fn decode_to_utf8_without_replacement(
+        &mut self,
+        src: &[u8],
+        dst: &mut [u8],
+        last: bool,
+    ) -> (DecoderResult, usize, usize)
+        requires { (⟦<Decoder<'t> as StreamDecoder>⟧.view self.old).finished ≡ false }
+        ensures law { StateLaw (⟦<Decoder<'t> as StreamDecoder>⟧.view self.old).state (⟦<Decoder<'t> as StreamDecoder>⟧.view self.new).state src.now last result.1
+            (λ text. Adds dst.old 0 (encode_utf8_all text) dst.new result.2) result.0 }
+        ensures ends { EndsWith (⟦<Decoder<'t> as StreamDecoder>⟧.view self.new).state (drop result.1 src.now) last
+            (length (drop result.2 dst.new)) 4 3 result.0 }
+        ensures enough { (n : ℕ) → room_asked (⟦<Decoder<'t> as StreamDecoder>⟧.view self.old).opening Bytes (length src.now) ≡ Some n
+            → n ≤ length dst.old → result.0 ≢ DecoderResult.OutputFull }
+        ensures source { (r : List ℕ) → (IsTrue last → r ≡ []) → (⟦<Decoder<'t> as StreamDecoder>⟧.view self.old).source (src.now ++ r)
+            ≡ (⟦<Decoder<'t> as StreamDecoder>⟧.view self.new).source (drop result.1 src.now ++ r) }
+        ensures finished { (⟦<Decoder<'t> as StreamDecoder>⟧.view self.new).finished ≡ finishes last result.0 }
+    {
+        let mut sink = Utf8Sink::new(dst);
+        let (outcome, read) = self.decode_into(src, &mut sink, last);
+        let written = sink.written();
+        (outcome, read, written)
+    }
+
+    /// The same to UTF-16. Returns the units written.
+    pub fn decode_to_utf16_without_replacement(
+        &mut self,
+        src: &[u8],
+        dst: &mut [u16],
+        last: bool,
+    ) -> (DecoderResult, usize, usize)
+        requires { (⟦<Decoder<'t> as StreamDecoder>⟧.view self.old).finished ≡ false }
+        ensures law { StateLaw (⟦<Decoder<'t> as StreamDecoder>⟧.view self.old).state (⟦<Decoder<'t> as StreamDecoder>⟧.view self.new).state src.now last result.1
+            (λ text. Adds dst.old 0 (encode_utf16_all text) dst.new result.2) result.0 }
+        ensures ends { EndsWith (⟦<Decoder<'t> as StreamDecoder>⟧.view self.new).state (drop result.1 src.now) last
+            (length (drop result.2 dst.new)) 2 1 result.0 }
+        ensures enough { (n : ℕ) → room_asked (⟦<Decoder<'t> as StreamDecoder>⟧.view self.old).opening Units (length src.now) ≡ Some n
+            → n ≤ length dst.old → result.0 ≢ DecoderResult.OutputFull }
+        ensures source { (r : List ℕ) → (IsTrue last → r ≡ []) → (⟦<Decoder<'t> as StreamDecoder>⟧.view self.old).source (src.now ++ r)
+            ≡ (⟦<Decoder<'t> as StreamDecoder>⟧.view self.new).source (drop result.1 src.now ++ r) }
+        ensures finished { (⟦<Decoder<'t> as StreamDecoder>⟧.view self.new).finished ≡ finishes last result.0 }
+    {
+        let mut sink = Utf16Sink::new(dst);
+        let (outcome, read) = self.decode_into(src, &mut sink, last);
+        let written = sink.written();
+        (outcome, read, written)
+    }
+
     /// Whether a last call has returned that all is read. Then no other call may follow but this
     /// one and `encoding`.
     pub fn is_finished(&self) -> bool

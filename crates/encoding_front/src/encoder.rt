@@ -2,6 +2,7 @@ ghost use Rattle.std.specs.Prelude.{◌≡◌, ◌≢◌, ◌↔◌, ℕ, ◌+�
 ghost use Rattle.std.specs.Str.{chars, IsCharBoundary};
 ghost use Rattle.std.specs.Char.Utf16.{utf16_lossy_chars};
 ghost use Rattle.encoding_mem.specs.DecodedLength.{checked};
+ghost use Rattle.encoding_mem.specs.EncoderRule.{left};
 ghost use Rattle.encoding_mem.specs.declared.form.EscapeState.TheVariants.{Ascii};
 ghost use Rattle.encoding_front.specs.Encoder.{Encoded, EncoderState, IsEncoderOf, Replaces, coding_in, kept_back, new_state, queried_room, queried_with_kept, room_for};
 ghost use Rattle.encoding_front.specs.laws.Encoder.{coding_laws};
@@ -12,6 +13,8 @@ use crate::encoding::Encoding;
 use crate::replacing::encode_replacing;
 use crate::variant_encoder::VariantEncoder;
 use encoding_mem::room::EncodedLength;
+use encoding_mem::source::{Source, Utf8Source, Utf16Source};
+use encoding_mem::source_encoder::SourceEncoder;
 use encoding_mem::{EncoderResult, RawEncoder};
 use encoding_tables::Tables;
 use std::fmt;
@@ -117,6 +120,25 @@ impl<'t> Encoder<'t> {
         }
     }
 
+    // Encodes what is left of a source, and stops behind a character without bytes. Returns how the call ended and
+    // the bytes written.
+    pub(crate) fn encode_source<S: Source>(
+        &mut self,
+        source: &mut S,
+        dst: &mut [u8],
+        last: bool,
+    ) -> (EncoderResult, usize)
+        ensures room { result.1 ≤ length dst.new }
+        ensures behind { drop result.1 dst.new ≡ drop result.1 dst.old }
+        ensures source { S.all source.new ≡ S.all source.old }
+        ensures call { Encoded self.old last result.0 (left S.text (S.all source.old) (S.offset source.old)) (take result.1 dst.new)
+            self.new (left S.text (S.all source.new) (S.offset source.new)) (length dst.new - result.1) }
+        ensures enough { room_for self.old.encoding S.is_units (length (S.all source.old) - S.offset source.old) ≤ length dst.old
+            → result.0 ≢ EncoderResult.OutputFull }
+    {
+        self.variant.encode_from(source, dst, last)
+    }
+
     /// Encodes a text, and stops behind a character without bytes. Returns how the call ended, the
     /// bytes of text read and the bytes written. What was read ends between characters; nothing
     /// behind what is written changes.
@@ -133,7 +155,9 @@ impl<'t> Encoder<'t> {
         ensures call { Encoded self.old last result.0 (chars src.now) (take result.2 dst.new) self.new (chars (drop result.1 src.now)) (length dst.new - result.2) }
         ensures enough { room_for self.old.encoding false (length src.now) ≤ length dst.old → result.0 ≢ EncoderResult.OutputFull }
     {
-        self.variant.encode_from_utf8_raw(src, dst, last)
+        let mut source = Utf8Source::new(src);
+        let (result, written) = self.encode_source(&mut source, dst, last);
+        (result, source.read(), written)
     }
 
     /// The same for units of UTF-16, in which a surrogate outside a pair is U+FFFD. The slice is read by
@@ -150,7 +174,9 @@ impl<'t> Encoder<'t> {
         ensures call { Encoded self.old last result.0 (utf16_lossy_chars src.now) (take result.2 dst.new) self.new (utf16_lossy_chars (drop result.1 src.now)) (length dst.new - result.2) }
         ensures enough { room_for self.old.encoding true (length src.now) ≤ length dst.old → result.0 ≢ EncoderResult.OutputFull }
     {
-        self.variant.encode_from_utf16_raw(src, dst, last)
+        let mut source = Utf16Source::new(src);
+        let (result, written) = self.encode_source(&mut source, dst, last);
+        (result, source.read(), written)
     }
 
     /// Encodes a text, and writes a numeric character reference for each character without bytes.
@@ -173,7 +199,9 @@ impl<'t> Encoder<'t> {
         ensures call { Replaces self.old last result.0 (chars src.now) (take result.2 dst.new) self.new (chars (drop result.1 src.now)) result.3 (length dst.new) }
         ensures enough { room_for self.old.encoding false (length src.now) + kept_back self.old.encoding ≤ length dst.old → result.3 ≡ false → result.0 ≢ CoderResult.OutputFull }
     {
-        encode_replacing(self, src, dst, last)
+        let mut source = Utf8Source::new(src);
+        let (result, written, had_unmappables) = encode_replacing(self, &mut source, dst, last);
+        (result, source.read(), written, had_unmappables)
     }
 
     /// The same for units of UTF-16, in which a surrogate outside a pair is U+FFFD. The slice is read by
@@ -190,7 +218,9 @@ impl<'t> Encoder<'t> {
         ensures call { Replaces self.old last result.0 (utf16_lossy_chars src.now) (take result.2 dst.new) self.new (utf16_lossy_chars (drop result.1 src.now)) result.3 (length dst.new) }
         ensures enough { room_for self.old.encoding true (length src.now) + kept_back self.old.encoding ≤ length dst.old → result.3 ≡ false → result.0 ≢ CoderResult.OutputFull }
     {
-        encode_replacing(self, src, dst, last)
+        let mut source = Utf16Source::new(src);
+        let (result, written, had_unmappables) = encode_replacing(self, &mut source, dst, last);
+        (result, source.read(), written, had_unmappables)
     }
 
     /// Encodes a text into the spare capacity of a vector, behind what it holds; its capacity stays
@@ -243,41 +273,31 @@ impl<'t> Encoder<'t> {
     }
 }
 
-impl<'t> RawEncoder for Encoder<'t> {
-    ghost need = { λ x. need_of x.encoding };
-
-    ghost coding = { coding_in };
-
-    ghost set = { λ x. x.set };
-
-    ghost limits = { λ x. encoded_length_of x.encoding };
+impl<'t> SourceEncoder for Encoder<'t> {
+    ghost parts = { λ x. record {
+      need = need_of x.encoding;
+      coding = coding_in x;
+      set = x.set;
+      limits = encoded_length_of x.encoding;
+    } };
 
     ghost laws = { λ x. coding_laws x.tables x.encoding };
 
-    fn encode_from_utf8_raw(
+    fn encode_from<S: Source>(
         &mut self,
-        src: &str,
+        source: &mut S,
         dst: &mut [u8],
         last: bool,
-    ) -> (EncoderResult, usize, usize) {
-        self.encode_from_utf8_without_replacement(src, dst, last)
+    ) -> (EncoderResult, usize) {
+        self.encode_source(source, dst, last)
     }
 
-    fn encode_from_utf16_raw(
-        &mut self,
-        src: &[u16],
-        dst: &mut [u8],
-        last: bool,
-    ) -> (EncoderResult, usize, usize) {
-        self.encode_from_utf16_without_replacement(src, dst, last)
+    fn encoded_length(&self) -> EncodedLength {
+        self.variant.encoded_length()
     }
 
-    fn room(&self) -> EncodedLength {
-        self.variant.room()
-    }
-
-    fn has_pending_state(&self) -> bool {
-        RawEncoder::has_pending_state(&self.variant)
+    fn is_in_other_set(&self) -> bool {
+        self.variant.is_in_other_set()
     }
 }
 

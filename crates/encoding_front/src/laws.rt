@@ -2,6 +2,7 @@
 
 ghost use Rattle.std.specs.Prelude.{◌≡◌, ◌↔◌, ◌<◌, ◌≤◌, ◌+◌, ◌*◌, ℕ, true, IsTrue, List, length, encode_utf8_all};
 ghost use Rattle.std.specs.Str.{all_scalars, chars};
+ghost use Rattle.encoding_mem.specs.declared.reference.Reference.TheVariants.{Decimal};
 ghost use Rattle.encoding_mem.specs.Coding.{bytes, open_from, output, reference};
 ghost use Rattle.encoding_mem.specs.Piece.{ArePieces, sizes};
 ghost use Rattle.encoding_mem.specs.ReadBack.{ReadsBackExactly};
@@ -50,9 +51,9 @@ pub fn written_is_short()
     ensures form { (t : IndexLists) (e : Encoding) (c : ℕ) → length (bytes ((coding_of t e).form c)) ≤ 4 }
     ensures escape { (t : IndexLists) (e : Encoding) (s s' : EscapeState) → length ((coding_of t e).escape s s') ≤ 3 }
     ensures reported { (t : IndexLists) (e : Encoding) (c : ℕ) → ReportsItself c ((coding_of t e).form c) }
-    ensures reference { (c : ℕ) → c < 0x110000 → length (reference c) ≤ 10 }
-    ensures part { (t : IndexLists) (e : Encoding) (s : EscapeState) (text : List ℕ) → all_scalars text ≡ true → length (open_from (coding_of t e) s text) ≤ 13 * length text }
-    ensures whole { (t : IndexLists) (e : Encoding) (text : List ℕ) → all_scalars text ≡ true → length (output (coding_of t e) text) ≤ 13 * length text + 3 }
+    ensures reference { (c : ℕ) → c < 0x110000 → length (reference Decimal c) ≤ 10 }
+    ensures part { (t : IndexLists) (e : Encoding) (s : EscapeState) (text : List ℕ) → all_scalars text ≡ true → length (open_from Decimal (coding_of t e) s text) ≤ 13 * length text }
+    ensures whole { (t : IndexLists) (e : Encoding) (text : List ℕ) → all_scalars text ≡ true → length (output Decimal (coding_of t e) text) ≤ 13 * length text + 3 }
 {}
 
 /// An input is its pieces, and what it is recoded to is bounded by its length: it has no more characters than
@@ -63,11 +64,11 @@ pub fn input_is_its_pieces()
     ensures few { (t : IndexLists) (mark : Mark) (e : Encoding) (x : List ℕ) → AreAcceptedTables t → length (marked_text t mark e x) ≤ length x }
     ensures scalars { (t : IndexLists) (mark : Mark) (e : Encoding) (x : List ℕ) → AreAcceptedTables t → all_scalars (marked_text t mark e x) ≡ true }
     ensures recoded { (t : IndexLists) (mark : Mark) (from to : Encoding) (x : List ℕ) → AreAcceptedTables t
-        → length (output (coding_of t to) (marked_text t mark from x)) ≤ 13 * length x + 3 }
+        → length (output Decimal (coding_of t to) (marked_text t mark from x)) ≤ 13 * length x + 3 }
 {}
 
 /// An input that is decoded at once, and its text encoded at once, gives the output for its text.
 pub fn both_at_once()
     ensures { (t : IndexLists) (mark : Mark) (from to : Encoding) (x decoded : List ℕ) → AreAcceptedTables t → decoded ≡ encode_utf8_all (marked_text t mark from x)
-        → output (coding_of t to) (chars decoded) ≡ output (coding_of t to) (marked_text t mark from x) }
+        → output Decimal (coding_of t to) (chars decoded) ≡ output Decimal (coding_of t to) (marked_text t mark from x) }
 {}

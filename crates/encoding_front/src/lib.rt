@@ -9,7 +9,6 @@ mod decode_replacing;
 pub mod decoder;
 pub mod encoder;
 pub mod encoding;
-mod held;
 pub mod laws;
 pub mod mark;
 mod one_shot_decoding;
@@ -19,7 +18,6 @@ pub mod reference;
 mod replacing;
 mod replay;
 pub mod seeking;
-mod source_text;
 pub mod variant_decoder;
 pub mod variant_encoder;
 

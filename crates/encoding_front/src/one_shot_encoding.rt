@@ -2,6 +2,7 @@
 
 ghost use Rattle.std.specs.Prelude.{◌≡◌, ◌↔◌, ℕ, ◌+◌, ◌-◌, ◌<◌, ◌≤◌, false, IsTrue, None, length, IfOk, IfErr, vec_capacity, vec_len};
 ghost use Rattle.std.specs.Str.{chars};
+ghost use Rattle.encoding_mem.specs.declared.reference.Reference.TheVariants.{Decimal};
 ghost use Rattle.encoding_mem.specs.Coding.{lost_count, output};
 ghost use Rattle.encoding_front.specs.Encoder.{kept_back, queried_with_kept, room_for};
 ghost use Rattle.encoding_front.specs.Encodings.{IsReady, coding_of, output_encoding_of};
@@ -28,7 +29,7 @@ impl Encoding {
         text: &str,
     ) -> Result<(Vec<u8>, Encoding, bool), OneShotFault>
         requires { IsReady tables.now (output_encoding_of self) }
-        ensures bytes { IfOk result (λ r. r.0.items ≡ output (coding_of tables.now self) (chars text.now)) }
+        ensures bytes { IfOk result (λ r. r.0.items ≡ output Decimal (coding_of tables.now self) (chars text.now)) }
         ensures encoding { IfOk result (λ r. r.1 ≡ output_encoding_of self) }
         ensures lost { IfOk result (λ r. IsTrue r.2 ↔ (0 < lost_count (coding_of tables.now self) (chars text.now))) }
         ensures fault { IfErr result (IsRefused (queried_with_kept (output_encoding_of self) false (length text.now))) }

@@ -4,14 +4,14 @@ ghost use Rattle.encoding_mem.specs.Driver.{Suffices};
 ghost use Rattle.encoding_front.specs.BomDecoderState.{held_state};
 
 use crate::bom_decoder::Switches;
-use crate::held::BomPrefix;
 use encoding_mem::DecoderResult;
+use encoding_mem::pending::Pending;
 use encoding_mem::sink::Sink;
 
 /// Decodes what is held, and then the source.
 pub(crate) fn decode_held<D: Switches, S: Sink>(
     inner: &mut D,
-    held: &mut BomPrefix,
+    held: &mut Pending,
     src: &[u8],
     sink: &mut S,
     last: bool,

@@ -88,6 +88,25 @@ impl<'t> VariantDecoder<'t> {
     }
 }
 
+// The call of the decoder that there is.
+macro_rules! dispatch {
+    ($variant:expr, $decoder:ident => $call:expr) => {
+        match $variant {
+            VariantDecoder::Utf8($decoder) => $call,
+            VariantDecoder::SingleByte($decoder) => $call,
+            VariantDecoder::Big5($decoder) => $call,
+            VariantDecoder::EucKr($decoder) => $call,
+            VariantDecoder::EucJp($decoder) => $call,
+            VariantDecoder::ShiftJis($decoder) => $call,
+            VariantDecoder::Gb18030($decoder) => $call,
+            VariantDecoder::Iso2022Jp($decoder) => $call,
+            VariantDecoder::UserDefined($decoder) => $call,
+            VariantDecoder::Utf16($decoder) => $call,
+            VariantDecoder::Replacement($decoder) => $call,
+        }
+    };
+}
+
 impl<'t> SinkDecoder for VariantDecoder<'t> {
     ghost state = { elim [
       | Utf8 d ↦ ⟦<Utf8Decoder as SinkDecoder>⟧.state d
@@ -113,35 +132,11 @@ impl<'t> SinkDecoder for VariantDecoder<'t> {
     }
 
     fn held_len(&self) -> usize {
-        match self {
-            VariantDecoder::Utf8(decoder) => decoder.held_len(),
-            VariantDecoder::SingleByte(decoder) => decoder.held_len(),
-            VariantDecoder::Big5(decoder) => decoder.held_len(),
-            VariantDecoder::EucKr(decoder) => decoder.held_len(),
-            VariantDecoder::EucJp(decoder) => decoder.held_len(),
-            VariantDecoder::ShiftJis(decoder) => decoder.held_len(),
-            VariantDecoder::Gb18030(decoder) => decoder.held_len(),
-            VariantDecoder::Iso2022Jp(decoder) => decoder.held_len(),
-            VariantDecoder::UserDefined(decoder) => decoder.held_len(),
-            VariantDecoder::Utf16(decoder) => decoder.held_len(),
-            VariantDecoder::Replacement(decoder) => decoder.held_len(),
-        }
+        dispatch!(self, decoder => decoder.held_len())
     }
 
     fn room(&self) -> DecodedLength {
-        match self {
-            VariantDecoder::Utf8(decoder) => decoder.room(),
-            VariantDecoder::SingleByte(decoder) => decoder.room(),
-            VariantDecoder::Big5(decoder) => decoder.room(),
-            VariantDecoder::EucKr(decoder) => decoder.room(),
-            VariantDecoder::EucJp(decoder) => decoder.room(),
-            VariantDecoder::ShiftJis(decoder) => decoder.room(),
-            VariantDecoder::Gb18030(decoder) => decoder.room(),
-            VariantDecoder::Iso2022Jp(decoder) => decoder.room(),
-            VariantDecoder::UserDefined(decoder) => decoder.room(),
-            VariantDecoder::Utf16(decoder) => decoder.room(),
-            VariantDecoder::Replacement(decoder) => decoder.room(),
-        }
+        dispatch!(self, decoder => decoder.room())
     }
 }
 
@@ -174,18 +169,6 @@ impl<'t> Switches for VariantDecoder<'t> {
         sink: &mut S,
         last: bool,
     ) -> (DecoderResult, usize) {
-        match self {
-            VariantDecoder::Utf8(decoder) => decoder.decode_into(src, sink, last),
-            VariantDecoder::SingleByte(decoder) => decoder.decode_into(src, sink, last),
-            VariantDecoder::Big5(decoder) => decoder.decode_into(src, sink, last),
-            VariantDecoder::EucKr(decoder) => decoder.decode_into(src, sink, last),
-            VariantDecoder::EucJp(decoder) => decoder.decode_into(src, sink, last),
-            VariantDecoder::ShiftJis(decoder) => decoder.decode_into(src, sink, last),
-            VariantDecoder::Gb18030(decoder) => decoder.decode_into(src, sink, last),
-            VariantDecoder::Iso2022Jp(decoder) => decoder.decode_into(src, sink, last),
-            VariantDecoder::UserDefined(decoder) => decoder.decode_into(src, sink, last),
-            VariantDecoder::Utf16(decoder) => decoder.decode_into(src, sink, last),
-            VariantDecoder::Replacement(decoder) => decoder.decode_into(src, sink, last),
-        }
+        dispatch!(self, decoder => decoder.decode_into(src, sink, last))
     }
 }

@@ -1,6 +1,4 @@
-ghost use Rattle.std.specs.Prelude.{◌≡◌, ◌≢◌, ◌↔◌, ℕ, ◌-◌, ◌≤◌, IsTrue, length, take, drop};
-ghost use Rattle.std.specs.Str.{chars, IsCharBoundary};
-ghost use Rattle.std.specs.Char.Utf16.{utf16_lossy_chars};
+ghost use Rattle.std.specs.Prelude.{◌≡◌};
 ghost use Rattle.encoding_mem.specs.declared.form.EscapeState.TheVariants.{Ascii};
 ghost use Rattle.encoding_mem.specs.laws.Utf8Coding.{utf8_coding_laws};
 ghost use Rattle.encoding_tables.specs.laws.SingleByte.{single_byte_laws};
@@ -20,6 +18,8 @@ use encoding_codecs::{
     Big5Encoder, EucJpEncoder, EucKrEncoder, Gb18030Encoder, Iso2022JpEncoder, ShiftJisEncoder,
 };
 use encoding_mem::room::EncodedLength;
+use encoding_mem::source::Source;
+use encoding_mem::source_encoder::SourceEncoder;
 use encoding_mem::{EncoderResult, RawEncoder, Utf8Encoder};
 use encoding_tables::{SingleByteEncoder, Tables, UserDefinedEncoder};
 
@@ -67,130 +67,62 @@ impl<'t> VariantEncoder<'t> {
     }
 }
 
-impl<'t> RawEncoder for VariantEncoder<'t> {
-    ghost need = { elim [
-      | Utf8 e ↦ ⟦<Utf8Encoder as RawEncoder>⟧.need e
-      | SingleByte e ↦ ⟦<SingleByteEncoder<'t> as RawEncoder>⟧.need e
-      | Big5 e ↦ ⟦<Big5Encoder<'t> as RawEncoder>⟧.need e
-      | EucKr e ↦ ⟦<EucKrEncoder<'t> as RawEncoder>⟧.need e
-      | EucJp e ↦ ⟦<EucJpEncoder<'t> as RawEncoder>⟧.need e
-      | ShiftJis e ↦ ⟦<ShiftJisEncoder<'t> as RawEncoder>⟧.need e
-      | Gb18030 e ↦ ⟦<Gb18030Encoder<'t> as RawEncoder>⟧.need e
-      | Iso2022Jp e ↦ ⟦<Iso2022JpEncoder<'t> as RawEncoder>⟧.need e
-      | UserDefined e ↦ ⟦<UserDefinedEncoder as RawEncoder>⟧.need e
-    ] };
+// The call of the encoder that there is.
+macro_rules! dispatch {
+    ($variant:expr, $encoder:ident => $call:expr) => {
+        match $variant {
+            VariantEncoder::Utf8($encoder) => $call,
+            VariantEncoder::SingleByte($encoder) => $call,
+            VariantEncoder::Big5($encoder) => $call,
+            VariantEncoder::EucKr($encoder) => $call,
+            VariantEncoder::EucJp($encoder) => $call,
+            VariantEncoder::ShiftJis($encoder) => $call,
+            VariantEncoder::Gb18030($encoder) => $call,
+            VariantEncoder::Iso2022Jp($encoder) => $call,
+            VariantEncoder::UserDefined($encoder) => $call,
+        }
+    };
+}
 
-    ghost coding = { elim [
-      | Utf8 e ↦ ⟦<Utf8Encoder as RawEncoder>⟧.coding e
-      | SingleByte e ↦ ⟦<SingleByteEncoder<'t> as RawEncoder>⟧.coding e
-      | Big5 e ↦ ⟦<Big5Encoder<'t> as RawEncoder>⟧.coding e
-      | EucKr e ↦ ⟦<EucKrEncoder<'t> as RawEncoder>⟧.coding e
-      | EucJp e ↦ ⟦<EucJpEncoder<'t> as RawEncoder>⟧.coding e
-      | ShiftJis e ↦ ⟦<ShiftJisEncoder<'t> as RawEncoder>⟧.coding e
-      | Gb18030 e ↦ ⟦<Gb18030Encoder<'t> as RawEncoder>⟧.coding e
-      | Iso2022Jp e ↦ ⟦<Iso2022JpEncoder<'t> as RawEncoder>⟧.coding e
-      | UserDefined e ↦ ⟦<UserDefinedEncoder as RawEncoder>⟧.coding e
-    ] };
-
-    ghost set = { elim [
-      | Utf8 e ↦ ⟦<Utf8Encoder as RawEncoder>⟧.set e
-      | SingleByte e ↦ ⟦<SingleByteEncoder<'t> as RawEncoder>⟧.set e
-      | Big5 e ↦ ⟦<Big5Encoder<'t> as RawEncoder>⟧.set e
-      | EucKr e ↦ ⟦<EucKrEncoder<'t> as RawEncoder>⟧.set e
-      | EucJp e ↦ ⟦<EucJpEncoder<'t> as RawEncoder>⟧.set e
-      | ShiftJis e ↦ ⟦<ShiftJisEncoder<'t> as RawEncoder>⟧.set e
-      | Gb18030 e ↦ ⟦<Gb18030Encoder<'t> as RawEncoder>⟧.set e
-      | Iso2022Jp e ↦ ⟦<Iso2022JpEncoder<'t> as RawEncoder>⟧.set e
-      | UserDefined e ↦ ⟦<UserDefinedEncoder as RawEncoder>⟧.set e
-    ] };
-
-    ghost limits = { elim [
-      | Utf8 e ↦ ⟦<Utf8Encoder as RawEncoder>⟧.limits e
-      | SingleByte e ↦ ⟦<SingleByteEncoder<'t> as RawEncoder>⟧.limits e
-      | Big5 e ↦ ⟦<Big5Encoder<'t> as RawEncoder>⟧.limits e
-      | EucKr e ↦ ⟦<EucKrEncoder<'t> as RawEncoder>⟧.limits e
-      | EucJp e ↦ ⟦<EucJpEncoder<'t> as RawEncoder>⟧.limits e
-      | ShiftJis e ↦ ⟦<ShiftJisEncoder<'t> as RawEncoder>⟧.limits e
-      | Gb18030 e ↦ ⟦<Gb18030Encoder<'t> as RawEncoder>⟧.limits e
-      | Iso2022Jp e ↦ ⟦<Iso2022JpEncoder<'t> as RawEncoder>⟧.limits e
-      | UserDefined e ↦ ⟦<UserDefinedEncoder as RawEncoder>⟧.limits e
+impl<'t> SourceEncoder for VariantEncoder<'t> {
+    ghost parts = { elim [
+      | Utf8 e ↦ ⟦<Utf8Encoder as SourceEncoder>⟧.parts e
+      | SingleByte e ↦ ⟦<SingleByteEncoder<'t> as SourceEncoder>⟧.parts e
+      | Big5 e ↦ ⟦<Big5Encoder<'t> as SourceEncoder>⟧.parts e
+      | EucKr e ↦ ⟦<EucKrEncoder<'t> as SourceEncoder>⟧.parts e
+      | EucJp e ↦ ⟦<EucJpEncoder<'t> as SourceEncoder>⟧.parts e
+      | ShiftJis e ↦ ⟦<ShiftJisEncoder<'t> as SourceEncoder>⟧.parts e
+      | Gb18030 e ↦ ⟦<Gb18030Encoder<'t> as SourceEncoder>⟧.parts e
+      | Iso2022Jp e ↦ ⟦<Iso2022JpEncoder<'t> as SourceEncoder>⟧.parts e
+      | UserDefined e ↦ ⟦<UserDefinedEncoder as SourceEncoder>⟧.parts e
     ] };
 
     ghost laws = { elim [
       | Utf8 e ↦ utf8_coding_laws
-      | SingleByte e ↦ single_byte_laws e.target.flat
-      | Big5 e ↦ big5_laws e.inner.forms.flat
-      | EucKr e ↦ euc_kr_laws e.inner.forms.flat
-      | EucJp e ↦ euc_jp_laws e.inner.forms.jis0208
-      | ShiftJis e ↦ shift_jis_laws e.inner.forms.jis0208
-      | Gb18030 e ↦ gb18030_laws e.target.index e.target.ranges e.target.extended_range
-      | Iso2022Jp e ↦ iso_2022_jp_laws e.target.jis0208 e.target.katakana
+      | SingleByte e ↦ single_byte_laws e.flat
+      | Big5 e ↦ big5_laws e.flat
+      | EucKr e ↦ euc_kr_laws e.flat
+      | EucJp e ↦ euc_jp_laws e.jis0208
+      | ShiftJis e ↦ shift_jis_laws e.jis0208
+      | Gb18030 e ↦ gb18030_laws e.index e.ranges e.extended_range
+      | Iso2022Jp e ↦ iso_2022_jp_laws e.jis0208 e.katakana
       | UserDefined e ↦ user_defined_laws
     ] };
 
-    fn encode_from_utf8_raw(
+    fn encode_from<S: Source>(
         &mut self,
-        src: &str,
+        source: &mut S,
         dst: &mut [u8],
         last: bool,
-    ) -> (EncoderResult, usize, usize) {
-        match self {
-            VariantEncoder::Utf8(encoder) => encoder.encode_from_utf8_raw(src, dst, last),
-            VariantEncoder::SingleByte(encoder) => encoder.encode_from_utf8_raw(src, dst, last),
-            VariantEncoder::Big5(encoder) => encoder.encode_from_utf8_raw(src, dst, last),
-            VariantEncoder::EucKr(encoder) => encoder.encode_from_utf8_raw(src, dst, last),
-            VariantEncoder::EucJp(encoder) => encoder.encode_from_utf8_raw(src, dst, last),
-            VariantEncoder::ShiftJis(encoder) => encoder.encode_from_utf8_raw(src, dst, last),
-            VariantEncoder::Gb18030(encoder) => encoder.encode_from_utf8_raw(src, dst, last),
-            VariantEncoder::Iso2022Jp(encoder) => encoder.encode_from_utf8_raw(src, dst, last),
-            VariantEncoder::UserDefined(encoder) => encoder.encode_from_utf8_raw(src, dst, last),
-        }
+    ) -> (EncoderResult, usize) {
+        dispatch!(self, encoder => encoder.encode_from(source, dst, last))
     }
 
-    fn encode_from_utf16_raw(
-        &mut self,
-        src: &[u16],
-        dst: &mut [u8],
-        last: bool,
-    ) -> (EncoderResult, usize, usize) {
-        match self {
-            VariantEncoder::Utf8(encoder) => encoder.encode_from_utf16_raw(src, dst, last),
-            VariantEncoder::SingleByte(encoder) => encoder.encode_from_utf16_raw(src, dst, last),
-            VariantEncoder::Big5(encoder) => encoder.encode_from_utf16_raw(src, dst, last),
-            VariantEncoder::EucKr(encoder) => encoder.encode_from_utf16_raw(src, dst, last),
-            VariantEncoder::EucJp(encoder) => encoder.encode_from_utf16_raw(src, dst, last),
-            VariantEncoder::ShiftJis(encoder) => encoder.encode_from_utf16_raw(src, dst, last),
-            VariantEncoder::Gb18030(encoder) => encoder.encode_from_utf16_raw(src, dst, last),
-            VariantEncoder::Iso2022Jp(encoder) => encoder.encode_from_utf16_raw(src, dst, last),
-            VariantEncoder::UserDefined(encoder) => encoder.encode_from_utf16_raw(src, dst, last),
-        }
+    fn encoded_length(&self) -> EncodedLength {
+        dispatch!(self, encoder => SourceEncoder::encoded_length(encoder))
     }
 
-    fn room(&self) -> EncodedLength {
-        match self {
-            VariantEncoder::Utf8(encoder) => encoder.room(),
-            VariantEncoder::SingleByte(encoder) => encoder.room(),
-            VariantEncoder::Big5(encoder) => encoder.room(),
-            VariantEncoder::EucKr(encoder) => encoder.room(),
-            VariantEncoder::EucJp(encoder) => encoder.room(),
-            VariantEncoder::ShiftJis(encoder) => encoder.room(),
-            VariantEncoder::Gb18030(encoder) => encoder.room(),
-            VariantEncoder::Iso2022Jp(encoder) => encoder.room(),
-            VariantEncoder::UserDefined(encoder) => encoder.room(),
-        }
-    }
-
-    fn has_pending_state(&self) -> bool {
-        match self {
-            VariantEncoder::Utf8(encoder) => encoder.has_pending_state(),
-            VariantEncoder::SingleByte(encoder) => encoder.has_pending_state(),
-            VariantEncoder::Big5(encoder) => encoder.has_pending_state(),
-            VariantEncoder::EucKr(encoder) => encoder.has_pending_state(),
-            VariantEncoder::EucJp(encoder) => encoder.has_pending_state(),
-            VariantEncoder::ShiftJis(encoder) => encoder.has_pending_state(),
-            VariantEncoder::Gb18030(encoder) => encoder.has_pending_state(),
-            VariantEncoder::Iso2022Jp(encoder) => encoder.has_pending_state(),
-            VariantEncoder::UserDefined(encoder) => encoder.has_pending_state(),
-        }
+    fn is_in_other_set(&self) -> bool {
+        dispatch!(self, encoder => encoder.is_in_other_set())
     }
 }

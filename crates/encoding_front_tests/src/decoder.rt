@@ -1,6 +1,6 @@
 use encoding_front::{
     BIG5, CoderResult, Decoder, EUC_JP, EUC_KR, Encoding, GB18030, GBK, IBM866, ISO_2022_JP, Mark,
-    REPLACEMENT, SHIFT_JIS, StreamDecoder, UTF_8, UTF_16BE, UTF_16LE, WINDOWS_1252, X_USER_DEFINED,
+    REPLACEMENT, SHIFT_JIS, UTF_8, UTF_16BE, UTF_16LE, WINDOWS_1252, X_USER_DEFINED,
 };
 use encoding_mem::DecoderResult;
 use encoding_tables::{IndexKind, TableFault, Tables};

@@ -1,6 +1,6 @@
 // A stream through each of the decoding calls, at each cut, and into little room and the room that is asked for.
 
-use encoding_front::{CoderResult, Decoder, StreamDecoder, UTF_8};
+use encoding_front::{CoderResult, Decoder, UTF_8};
 use encoding_mem::{DecoderResult, convert_utf16_to_utf8_partial, utf8_valid_up_to};
 use encoding_tables::Tables;
 use std::alloc::{AllocError, Global};

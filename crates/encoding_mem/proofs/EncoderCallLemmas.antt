@@ -1,144 +1,194 @@
 -- The steps of the encoding driver, over texts. A step of a source over one character. What was written for what
 -- was read, and what is next.
-use Rattle.std.proofs.Common.{◌≡◌, ◌≢◌, ℕ, suc, ◌+◌, ◌-◌, ◌<◌, inr, List, [], ◌∷◌, ◌++◌, length, map, sym, ◌∙◌, ap, subst, refl, arith, Bool, true, false, append_assoc, drop, add-zero, length-append, ◌≤◌, ◌*◌, lit<}
-use Rattle.std.proofs.lemmas.List.{append-nil, drop-drop, map-append}
-use Rattle.encoding_mem.specs.Coding.{Coding, IsCoding, last_set, reference, bytes, AllMapped, IsMapped}
-use Rattle.encoding_mem.specs.Items.{Byte, LostAt, open_items, whole_items}
+use Rattle.std.proofs.Common.{◌≡◌, ◌≢◌, ℕ, suc, ◌+◌, ◌-◌, ◌<◌, inl, inr, List, [], ◌∷◌, ◌++◌, length, sym, ◌∙◌, ap, subst, refl, arith, Bool, true, false, append_assoc, drop, ◌≤◌, ◌*◌, lit<}
+use Rattle.std.proofs.lemmas.List.{append-nil, drop-drop}
+use Rattle.encoding_mem.specs.Coding.{Coding, IsCoding, last_set, bytes, bytes_from, AllMapped, IsMapped}
+use Rattle.encoding_mem.specs.laws.Encoding.{all_mapped-append, bytes_from-append, last_set-append}
 use Rattle.encoding_mem.specs.Encoding.{Encodes}
-use Rattle.std.specs.Str.{IsAscii, IsCharBoundary}
-use Rattle.encoding_mem.specs.EncoderRule.{CopiesAscii, IsRun, Tight}
+use Rattle.std.specs.Str.{IsAscii, IsCharBoundary, encode_utf8_all}
+use Rattle.encoding_mem.specs.EncoderRule.{CopiesAscii, CopiesUtf8, IsCopied, IsRun, Tight}
 use Rattle.encoding_mem.specs.declared.form.Form.TheVariants.{Mapped, Unmapped}
+use Rattle.encoding_mem.specs.declared.encoder_result.EncoderResult.{EncoderResult as Outcome}
 use Rattle.encoding_mem.specs.declared.encoder_result.EncoderResult.TheVariants as EncoderResult
 use Rattle.encoding_mem.specs.declared.form.EscapeState.{EscapeState}
 use Rattle.encoding_mem.specs.declared.form.EscapeState.TheVariants.{Ascii}
 use Rattle.std.specs.Char.{encode_utf8, len_utf8}
 use Rattle.std.proofs.lemmas.Str.{drop_past_char, IsCharBoundary-from_rest}
+use Rattle.std.proofs.lemmas.Bool.{lt-ltb}
 use native.Mathlib.Nat.{mul-add, mul_comm}
 use Rattle.encoding_mem.specs.DecodedLength.{cost_in}
 use Rattle.encoding_mem.specs.EncodedLength.{IsBoundFor}
 use Rattle.encoding_mem.specs.declared.room.Bound.{Bound}
 use Rattle.std.proofs.Math.Nat.{mul-le-mul_left}
 
--- Of the text t from s the bytes w are written, and rest from s' is left; what was read has no unmappable.
+-- Of the text t from s the bytes w are written, from s' on the rest is left; what was read has no unmappable.
 pub record Steps (e : Coding) (s : EscapeState) (t w : List ℕ) (s' : EscapeState) (rest : List ℕ) : Type 0 where
   pub prefix : List ℕ
   pub split : t ≡ prefix ++ rest
   pub mapped : AllMapped e prefix
-  pub opens : (i : ℕ) → open_items e s i t ≡ map Byte w ++ open_items e s' (i + length prefix) rest
-  pub sets : last_set e s t ≡ last_set e s' rest
+  pub opens : w ≡ bytes_from e s prefix
+  pub set : s' ≡ last_set e s prefix
 
 pub start : (e : Coding) (s : EscapeState) (t : List ℕ) → Steps e s t [] s t
-start e s t = record { prefix = []; split = refl; mapped = tt; opens = λ i. rw add-zero refl; sets = refl }
+start e s t = record { prefix = []; split = refl; mapped = tt; opens = refl; set = refl }
 
--- The escape to the set of the next scalar is written.
-pub escaped : (need : ℕ) (e : Coding) (s : EscapeState) (t w : List ℕ) (s1 : EscapeState) (c : ℕ) (rest : List ℕ) → IsCoding need e
-    → Steps e s t w s1 (c ∷ rest) → Steps e s t (w ++ e.escape s1 (e.set s1 c)) (e.set s1 c) (c ∷ rest)
-escaped need e s t w s1 c rest k p = record {
-  prefix = p.prefix;
-  split = p.split;
-  mapped = p.mapped;
-  opens = λ i. p.opens i ∙ rw (map-append, k.stays s1 c, k.same (e.set s1 c)) (sym (append_assoc (map Byte w) _ _));
-  sets = p.sets ∙ ap (λ q. last_set e q rest) (sym (k.stays s1 c));
-}
-
-all_mapped-push : (e : Coding) (read : List ℕ) (c : ℕ) → AllMapped e read → IsMapped (e.form c) → AllMapped e (read ++ c ∷ [])
-all_mapped-push e [] c m h = (h, tt)
-all_mapped-push e (d ∷ read) c m h = (m.0, all_mapped-push e read c m.1 h)
-
-next_index : (i c : ℕ) (read : List ℕ) → i + length (read ++ c ∷ []) ≡ i + length read + 1
-next_index i c read = let l = length-append read (c ∷ []) in omega arith
-
--- The bytes of the next scalar are written in its set.
-pub formed : (need : ℕ) (e : Coding) (s : EscapeState) (t w : List ℕ) (s1 : EscapeState) (c : ℕ) (rest bs : List ℕ) → IsCoding need e
-    → e.set s1 c ≡ s1 → e.form c ≡ Mapped bs → Steps e s t w s1 (c ∷ rest) → Steps e s t (w ++ bs) s1 rest
-formed need e s t w s1 c rest bs k here is p = record {
-  prefix = p.prefix ++ c ∷ [];
-  split = p.split ∙ sym (append_assoc p.prefix (c ∷ []) rest);
-  mapped = all_mapped-push e p.prefix c p.mapped (subst IsMapped (sym is) tt);
-  opens = λ i. p.opens i ∙ rw (map-append, next_index i c p.prefix, here, k.same s1, is) (sym (append_assoc (map Byte w) _ _));
-  sets = p.sets ∙ ap (λ q. last_set e q rest) here;
+-- A part further, each of whose scalars has bytes.
+further : (e : Coding) (s : EscapeState) (t w : List ℕ) (s1 : EscapeState) (part rest : List ℕ) → AllMapped e part
+    → Steps e s t w s1 (part ++ rest) → Steps e s t (w ++ bytes_from e s1 part) (last_set e s1 part) rest
+further e s t w s1 part rest m p = record {
+  prefix = p.prefix ++ part;
+  split = p.split ∙ sym (append_assoc p.prefix part rest);
+  mapped = all_mapped-append e p.prefix part p.mapped m;
+  opens = rw (bytes_from-append e s p.prefix part, ← p.opens, ← p.set) refl;
+  set = rw (last_set-append e s p.prefix part, ← p.set) refl;
 }
 
 -- Of a turn of the loop, which writes the escape and then the bytes.
-pub turned : (need : ℕ) (e : Coding) (s : EscapeState) (t w : List ℕ) (s1 : EscapeState) (c d : ℕ) (here more rest w1 w2 bs : List ℕ) → IsCoding need e
+pub turned : (e : Coding) (s : EscapeState) (t w : List ℕ) (s1 : EscapeState) (c d : ℕ) (here more rest w1 w2 bs : List ℕ)
     → Steps e s t w s1 here → here ≡ c ∷ more → here ≡ d ∷ rest → w1 ≡ w ++ e.escape s1 (e.set s1 c)
     → w2 ≡ w1 ++ bs → e.form c ≡ Mapped bs → Steps e s t w2 (e.set s1 c) rest
-turned need e s t w s1 c d here more rest w1 w2 bs k p at next one two is =
-    let same : d ∷ rest ≡ c ∷ more = sym next ∙ at in
-    let same_rest : rest ≡ more = cc in
-    let q = rw at at p in
-    rw (two, one, same_rest) (formed need e s t _ (e.set s1 c) c more bs k (k.stays s1 c) is (escaped need e s t w s1 c more k q))
-
--- Of a turn that copies a run of ASCII.
-pub copied : (need : ℕ) (e : Coding) (s : EscapeState) (t w : List ℕ) (s1 : EscapeState) (run rest : List ℕ) → IsCoding need e → CopiesAscii e s1 → IsAscii run
-    → Steps e s t w s1 (run ++ rest) → Steps e s t (w ++ run) s1 rest
-copied need e s t w s1 [] rest k plain low p = subst (λ l. Steps e s t l s1 rest) (sym (append-nil w)) p
-copied need e s t w s1 (c ∷ run) rest k plain low p =
-    let one = plain c (low 0) in
-    subst (λ l. Steps e s t l s1 rest) (append_assoc w (c ∷ []) run)
-    (copied need e s t (w ++ c ∷ []) s1 run rest k plain (λ i. low (suc i)) (formed need e s t w s1 c (run ++ rest) (c ∷ []) k one.0 one.1 p))
-
-pub copied_run : (need : ℕ) (e : Coding) (s : EscapeState) (t w w2 : List ℕ) (s1 : EscapeState) (here rest : List ℕ) → IsCoding need e → CopiesAscii e s1
-    → Steps e s t w s1 here → IsRun here rest w w2 → Steps e s t w2 s1 rest
-copied_run need e s t w w2 s1 here rest k plain p r =
-    subst (λ l. Steps e s t l s1 rest) (sym r.put) (copied need e s t w s1 r.run rest k plain r.ascii (subst (Steps e s t w s1) r.taken p))
-
--- The escape of a turn alone.
-pub escape_put : (need : ℕ) (e : Coding) (s : EscapeState) (t w : List ℕ) (s1 : EscapeState) (c : ℕ) (here more w1 : List ℕ) → IsCoding need e
-    → Steps e s t w s1 here → here ≡ c ∷ more → w1 ≡ w ++ e.escape s1 (e.set s1 c) → Steps e s t w1 (e.set s1 c) here
-escape_put need e s t w s1 c here more w1 k p at one =
-    let q = rw at at p in
-    rw (one, at) (escaped need e s t w s1 c more k q)
-
--- what the text stands for, where it may be the last
-whole : (e : Coding) (last : Bool) (s : EscapeState) (t w : List ℕ) (s1 : EscapeState) (rest : List ℕ) (p : Steps e s t w s1 rest) (i : ℕ)
-    → whole_items e last s i t ≡ map Byte w ++ whole_items e last s1 (i + length p.prefix) rest
-whole e last s t w s1 rest p i = rw (p.opens i, p.sets) (append_assoc (map Byte w) _ _)
-
--- At a result that the text may go on after, what is written and left is what a call may stop at.
-pub full : (e : Coding) (last : Bool) (s : EscapeState) (t w : List ℕ) (s1 : EscapeState) (rest : List ℕ)
-    → Steps e s t w s1 rest → Encodes e last EncoderResult.OutputFull s t w s1 rest
-full e last s t w s1 rest p = record { prefix = p.prefix; split = p.split; reads = p.mapped; items = whole e last s t w s1 rest p; sets = λ _. p.sets }
-
-pub finished : (e : Coding) (s : EscapeState) (t w : List ℕ) (s1 : EscapeState) (rest : List ℕ)
-    → Steps e s t w s1 rest → Encodes e false EncoderResult.InputEmpty s t w s1 rest
-finished e s t w s1 rest p = record { prefix = p.prefix; split = p.split; reads = p.mapped; items = whole e false s t w s1 rest p; sets = λ _. p.sets }
-
--- After the last escape all is written.
-pub ended : (need : ℕ) (e : Coding) (last : Bool) (s : EscapeState) (t w : List ℕ) (s1 : EscapeState) (rest w1 : List ℕ) → IsCoding need e → last ≡ true
-    → Steps e s t w s1 rest → rest ≡ [] → w1 ≡ w ++ e.escape s1 Ascii → Encodes e last EncoderResult.InputEmpty s t w1 Ascii rest
-ended need e false s t w s1 rest w1 k h p empty one = cc
-ended need e true s t w s1 rest w1 k h p empty one = record {
-  prefix = p.prefix;
-  split = p.split;
-  reads = p.mapped;
-  items = λ i. whole e true s t w s1 rest p i ∙ rw (one, empty, map-append, k.same Ascii) (sym (append-nil _));
-  sets = λ h. cc;
-}
-
--- A turn that meets an unmappable.
-pub unmapped : (need : ℕ) (e : Coding) (last : Bool) (s : EscapeState) (t w : List ℕ) (s1 : EscapeState) (c d m : ℕ) (here more rest w1 : List ℕ) → IsCoding need e
-    → Steps e s t w s1 here → here ≡ c ∷ more → here ≡ d ∷ rest → w1 ≡ w ++ e.escape s1 (e.set s1 c)
-    → e.form c ≡ Unmapped m → Encodes e last (EncoderResult.Unmappable m) s t w1 (e.set s1 c) rest
-unmapped need e last s t w s1 c d m here more rest w1 k p at next one is =
+turned e s t w s1 c d here more rest w1 w2 bs p at next one two is =
     let same : d ∷ rest ≡ c ∷ more = sym next ∙ at in
     let same_rest : more ≡ rest = cc in
-    let q = escape_put need e s t w s1 c here more w1 k p at one in
-    reported_one need e last s t w1 (e.set s1 c) c m rest k (k.stays s1 c) is (subst (λ l. Steps e s t w1 (e.set s1 c) l) (at ∙ ap (λ l. c ∷ l) same_rest) q)
-  where
-    last_index : (i c : ℕ) (read : List ℕ) → i + length (read ++ c ∷ []) - 1 ≡ i + length read
-    last_index i c read = let l = length-append read (c ∷ []) in omega arith
+    let q = subst (Steps e s t w s1) (at ∙ ap (λ l. c ∷ l) same_rest) p in
+    let wrote : w2 ≡ w ++ bytes_from e s1 (c ∷ []) = rw (two, one, is, append-nil bs) (append_assoc w (e.escape s1 (e.set s1 c)) bs) in
+    subst (λ l. Steps e s t l (e.set s1 c) rest) (sym wrote) (further e s t w s1 (c ∷ []) rest (subst IsMapped (sym is) tt, tt) q)
 
-    reported_one : (need : ℕ) (e : Coding) (last : Bool) (s : EscapeState) (t w : List ℕ) (s1 : EscapeState) (c m : ℕ) (rest : List ℕ) → IsCoding need e
-        → e.set s1 c ≡ s1 → e.form c ≡ Unmapped m → Steps e s t w s1 (c ∷ rest) → Encodes e last (EncoderResult.Unmappable m) s t w s1 rest
-    reported_one need e last s t w s1 c m rest k here is p = record {
-      prefix = p.prefix ++ c ∷ [];
-      split = p.split ∙ sym (append_assoc p.prefix (c ∷ []) rest);
-      reads = (p.prefix, c, refl, p.mapped, is);
-      items = λ i. whole e last s t w s1 (c ∷ rest) p i
-          ∙ rw (last_index i c p.prefix, next_index i c p.prefix, here, k.same s1, is) (ap (λ l. map Byte w ++ l) (ap (λ l. LostAt (i + length p.prefix) m ∷ l) (append_assoc (map Byte (reference m)) _ _)));
-      sets = λ _. p.sets ∙ ap (λ q. last_set e q rest) here;
+-- Of a turn that copies a run of ASCII, and of text that is copied in UTF-8.
+ascii_run : (e : Coding) (s : EscapeState) (run : List ℕ) → ((q : EscapeState) → e.escape q q ≡ []) → CopiesAscii e s → IsAscii run
+    → AllMapped e run × (bytes_from e s run ≡ run) × (last_set e s run ≡ s)
+ascii_run e s [] same plain low = (tt, refl, refl)
+ascii_run e s (c ∷ run) same plain low =
+    let one = plain c (low 0) in
+    let more = ascii_run e s run same plain (λ i. low (suc i)) in
+    ((subst IsMapped (sym one.1) tt, more.0), rw (one.0, same s, one.1, more.1) refl, rw one.0 more.2)
+
+pub copied_run : {need : ℕ} (e : Coding) (s : EscapeState) (t w w2 : List ℕ) (s1 : EscapeState) (here rest : List ℕ) → IsCoding need e → CopiesAscii e s1
+    → Steps e s t w s1 here → IsRun here rest w w2 → Steps e s t w2 s1 rest
+copied_run e s t w w2 s1 here rest k plain p r =
+    let run = ascii_run e s1 r.run k.same plain r.ascii in
+    let all = further e s t w s1 r.run rest run.0 (subst (Steps e s t w s1) r.taken p) in
+    subst (λ l. Steps e s t l s1 rest) (sym r.put) (rw (run.1, run.2) at all)
+
+utf8_text : (e : Coding) (s : EscapeState) (part : List ℕ) → ((q : EscapeState) → e.escape q q ≡ []) → CopiesUtf8 e s
+    → AllMapped e part × (bytes_from e s part ≡ encode_utf8_all part) × (last_set e s part ≡ s)
+utf8_text e s [] same plain = (tt, refl, refl)
+utf8_text e s (c ∷ part) same plain =
+    let one = plain c in
+    let more = utf8_text e s part same plain in
+    ((subst IsMapped (sym one.1) tt, more.0), rw (one.0, same s, one.1, more.1) refl, rw one.0 more.2)
+
+-- What a call leaves: before an escape that does not fit, behind one, at the end, behind the last escape, and at an
+-- unmappable.
+pub full : {need : ℕ} (e : Coding) (last : Bool) (s : EscapeState) (t w : List ℕ) (s1 : EscapeState) (rest : List ℕ) → IsCoding need e
+    → Steps e s t w s1 rest → Encodes e last EncoderResult.OutputFull s t w s1 rest
+full e last s t w s1 rest k p = record {
+  before = p.prefix;
+  next = rest;
+  split = p.split;
+  mapped = p.mapped;
+  bytes = rw (← p.set, k.same s1, append-nil (bytes_from e s p.prefix)) p.opens;
+  leaves = (refl, inl p.set);
+}
+
+pub escaped : (e : Coding) (last : Bool) (s : EscapeState) (t w : List ℕ) (s1 : EscapeState) (c : ℕ) (here more w1 : List ℕ)
+    → Steps e s t w s1 here → here ≡ c ∷ more → w1 ≡ w ++ e.escape s1 (e.set s1 c) → Encodes e last EncoderResult.OutputFull s t w1 (e.set s1 c) here
+escaped e last s t w s1 c here more w1 p at one = record {
+  before = p.prefix;
+  next = here;
+  split = p.split;
+  mapped = p.mapped;
+  bytes = rw (← p.opens, ← p.set) one;
+  leaves = (refl, inr (rw (at, ← p.set) refl));
+}
+
+pub finished : {need : ℕ} (e : Coding) (last : Bool) (s : EscapeState) (t w : List ℕ) (s1 : EscapeState) (rest : List ℕ) → IsCoding need e → last ≡ false
+    → Steps e s t w s1 rest → rest ≡ [] → Encodes e last EncoderResult.InputEmpty s t w s1 rest
+finished e true s t w s1 rest k h p empty = cc
+finished e false s t w s1 rest k h p empty = record {
+  before = p.prefix;
+  next = rest;
+  split = p.split;
+  mapped = p.mapped;
+  bytes = rw (← p.set, k.same s1, append-nil (bytes_from e s p.prefix)) p.opens;
+  leaves = (empty, empty, p.set);
+}
+
+pub ended : (e : Coding) (last : Bool) (s : EscapeState) (t w : List ℕ) (s1 : EscapeState) (rest w1 : List ℕ) → last ≡ true
+    → Steps e s t w s1 rest → rest ≡ [] → w1 ≡ w ++ e.escape s1 Ascii → Encodes e last EncoderResult.InputEmpty s t w1 Ascii rest
+ended e false s t w s1 rest w1 h p empty one = cc
+ended e true s t w s1 rest w1 h p empty one = record {
+  before = p.prefix;
+  next = rest;
+  split = p.split;
+  mapped = p.mapped;
+  bytes = rw (← p.opens, ← p.set) one;
+  leaves = (empty, empty, refl);
+}
+
+pub unmapped : (e : Coding) (last : Bool) (s : EscapeState) (t w : List ℕ) (s1 : EscapeState) (c d m : ℕ) (here more rest w1 : List ℕ)
+    → Steps e s t w s1 here → here ≡ c ∷ more → here ≡ d ∷ rest → w1 ≡ w ++ e.escape s1 (e.set s1 c)
+    → e.form c ≡ Unmapped m → Encodes e last (EncoderResult.Unmappable m) s t w1 (e.set s1 c) rest
+unmapped e last s t w s1 c d m here more rest w1 p at next one is =
+    let same : d ∷ rest ≡ c ∷ more = sym next ∙ at in
+    let same_rest : more ≡ rest = cc in
+    record {
+      before = p.prefix;
+      next = here;
+      split = p.split;
+      mapped = p.mapped;
+      bytes = rw (← p.opens, ← p.set) one;
+      leaves = (c, at ∙ ap (λ l. c ∷ l) same_rest, is, rw (← p.set) refl);
     }
+
+-- A call behind text that was copied.
+pub copied_first : {need : ℕ} (e : Coding) (last : Bool) (outcome : Outcome) (s : EscapeState) (t w rest w2 : List ℕ) (s' : EscapeState) (rest' : List ℕ)
+    → IsCoding need e → CopiesUtf8 e s → IsCopied t w rest → Encodes e last outcome s rest w2 s' rest' → Encodes e last outcome s t (w ++ w2) s' rest'
+copied_first e last outcome s t w rest w2 s' rest' k plain r p =
+    let part = utf8_text e s r.prefix k.same plain in
+    let set : last_set e s (r.prefix ++ p.before) ≡ last_set e s p.before = rw (last_set-append e s r.prefix p.before, part.2) refl in
+    record {
+      before = r.prefix ++ p.before;
+      next = p.next;
+      split = r.taken ∙ ap (λ l. r.prefix ++ l) p.split ∙ sym (append_assoc r.prefix p.before p.next);
+      mapped = all_mapped-append e r.prefix p.before part.0 p.mapped;
+      bytes = rw (r.put, p.bytes, bytes_from-append e s r.prefix p.before, part.1, part.2, set) (sym (append_assoc (encode_utf8_all r.prefix) _ _));
+      leaves = rw set p.leaves;
+    }
+
+cost_zero : (t : Bool) → cost_in t 0 ≡ 1
+cost_zero true = refl
+cost_zero false = refl
+
+pub le_times : (f n : ℕ) → 1 ≤ f → n ≤ f * n
+le_times f n some = let less : n * 1 ≤ n * f = mul-le-mul_left n some in let turn : n * f ≡ f * n = mul_comm n f in omega (arith, less, turn)
+
+-- where ASCII is copied, a byte is written for each character
+pub ascii_costs : {need : ℕ} (e : Coding) (t : Bool) (l : Bound) (s : EscapeState) → IsCoding need e → IsBoundFor e t l → CopiesAscii e s → 1 ≤ l.factor
+ascii_costs e t l s laws fits copies =
+    let here = copies 0 (lit< tt) in
+    let one : length (bytes (e.form 0)) ≡ 1 = ap (λ f. length (bytes f)) here.1 in
+    let each = fits.each s 0 in
+    let cost : cost_in t 0 ≡ 1 = cost_zero t in
+    let paid : 1 ≤ l.factor * cost_in t 0 = omega (arith, each, one) in
+    let times : l.factor * cost_in t 0 ≡ l.factor * 1 = ap (λ n. l.factor * n) cost in
+    omega (arith, paid, times)
+
+-- What is enough for a text is enough for what is left of it behind a copy.
+pub less_asked : (f extra from offset size copied room : ℕ) → 1 ≤ f → from ≤ offset → offset ≤ size → copied ≤ offset - from → copied ≤ room
+    → f * (size - from) + extra ≤ room → f * (size - offset) + extra ≤ room - copied
+less_asked f extra from offset size copied room some after within few fits enough =
+    let sum : size - from ≡ (size - offset) + (offset - from) = omega (arith, after, within) in
+    let parts : f * (size - from) ≡ f * (size - offset) + f * (offset - from) = rw sum (mul-add f (size - offset) (offset - from)) in
+    let most : offset - from ≤ f * (offset - from) = le_times f (offset - from) some in
+    omega (arith, enough, parts, most, few, fits)
+
+one_byte : (c : ℕ) → c < 0x80 → encode_utf8 c ≡ c ∷ []
+unfolding encode_utf8
+one_byte c low = rw (lt-ltb c 0x80 low) refl
+
+pub utf8_costs : {need : ℕ} (e : Coding) (t : Bool) (l : Bound) (s : EscapeState) → IsCoding need e → IsBoundFor e t l → CopiesUtf8 e s → 1 ≤ l.factor
+utf8_costs e t l s laws fits copies = ascii_costs e t l s laws fits (λ c low. ((copies c).0, (copies c).1 ∙ ap Mapped (one_byte c low)))
 
 pub behind_put : (old mid new : List ℕ) (a n b : ℕ) → b ≡ a + n → drop a mid ≡ drop a old → drop b new ≡ drop b mid → drop b new ≡ drop b old
 behind_put old mid new a n b end before now = now ∙ rw (end, ← drop-drop, before, drop-drop) refl
@@ -191,10 +241,6 @@ boundary_past text rest i c n within at len b = subst (λ k. IsCharBoundary text
 
 -- What was written for what was read, and what is next.
 
-cost_zero : (t : Bool) → cost_in t 0 ≡ 1
-cost_zero true = refl
-cost_zero false = refl
-
 -- more bytes are written, for n more of the source
 pub spent_more : (f from offset n written more : ℕ) → from ≤ offset → written ≤ f * (offset - from) → more ≤ f * n → written + more ≤ f * ((offset + n) - from)
 spent_more f from offset n written more after spent h =
@@ -207,19 +253,5 @@ fits_all f extra from offset size written more room after within enough spent h 
     let less : f * (offset - from) ≤ f * (size - from) = mul-le-mul_left f (omega (arith, after, within)) in
     omega (arith, less, enough, spent, h)
 
-pub le_times : (f n : ℕ) → 1 ≤ f → n ≤ f * n
-le_times f n some = let less : n * 1 ≤ n * f = mul-le-mul_left n some in let turn : n * f ≡ f * n = mul_comm n f in omega (arith, less, turn)
-
 pub first_same : {c d : ℕ} {x y : List ℕ} → c ∷ x ≡ d ∷ y → c ≡ d
 first_same e = cc
-
--- where ASCII is copied, a byte is written for each character
-pub ascii_costs : {need : ℕ} (e : Coding) (t : Bool) (l : Bound) (s : EscapeState) → IsCoding need e → IsBoundFor e t l → CopiesAscii e s → 1 ≤ l.factor
-ascii_costs e t l s laws fits copies =
-    let here = copies 0 (lit< tt) in
-    let one : length (bytes (e.form 0)) ≡ 1 = ap (λ f. length (bytes f)) here.1 in
-    let each = fits.each s 0 in
-    let cost : cost_in t 0 ≡ 1 = cost_zero t in
-    let paid : 1 ≤ l.factor * cost_in t 0 = omega (arith, each, one) in
-    let times : l.factor * cost_in t 0 ≡ l.factor * 1 = ap (λ n. l.factor * n) cost in
-    omega (arith, paid, times)

@@ -1,20 +1,14 @@
 -- Prefixes of units of UTF-16 that split no character.
-use Rattle.std.proofs.Common.{◌≡◌, ℕ, zero, suc, ◌+◌, ◌*◌, ◌-◌, ◌<◌, ◌≤◌, ◌⊎◌, inl, inr, List, [], ◌∷◌, ◌++◌, length, map, take, drop, get_or, refl, sym, ◌∙◌, ap, subst, arith, true, append_assoc, length-append, length-drop, encode_utf8_all}
+use Rattle.std.proofs.Common.{◌≡◌, ℕ, zero, suc, ◌+◌, ◌*◌, ◌-◌, ◌<◌, ◌≤◌, ◌⊎◌, inl, inr, List, [], ◌∷◌, ◌++◌, length, map, take, drop, get_or, refl, sym, ◌∙◌, ap, subst, arith, append_assoc, length-append, length-drop, encode_utf8_all}
 use Rattle.std.specs.Option.{unwrap_or}
 use Rattle.std.specs.Char.{encode_utf8, len_utf8}
 use Rattle.std.specs.Char.Utf16.{utf16_lossy_chars, lone_unit_char, surrogate_pair_char}
 use Rattle.std.proofs.lemmas.Bool.Decides.{nat_tests}
 use Rattle.std.proofs.lemmas.List.{append_cancel_left, append_cancel_right, drop-drop, drop_at, take-take, take_all, get_or-drop, get_or-take, length-take-le}
-use Rattle.std.proofs.lemmas.Str.{utf16_chars_lone, utf16_chars_pair, encodes-append, length-encode, len_utf8_bounds}
+use Rattle.std.proofs.lemmas.Str.{utf16_chars_lone, utf16_chars_pair, length-encode, len_utf8_bounds}
 use Rattle.encoding_mem.specs.Conversions.{IsLongest, IsUnitBoundary, units_in_utf8}
 use Rattle.encoding_mem.specs.Surrogates.{IsSurrogatePair}
-use Rattle.encoding_mem.specs.Coding.{output}
-use Rattle.encoding_mem.specs.Encoding.{Encodes}
-use Rattle.encoding_mem.specs.laws.Encoding.{encoded_bytes, utf8_output}
-use Rattle.encoding_mem.specs.Utf8Coding.{utf8_coding, NextIsTooLong}
-use Rattle.encoding_mem.specs.declared.encoder_result.EncoderResult.{EncoderResult}
-use Rattle.encoding_mem.specs.declared.encoder_result.EncoderResult.TheVariants.{InputEmpty, OutputFull, Unmappable}
-use Rattle.encoding_mem.specs.declared.form.EscapeState.TheVariants.{Ascii}
+use Rattle.encoding_mem.specs.Utf8Coding.{NextIsTooLong, ReadsLongest}
 use Rattle.encoding_mem.proofs.LongestPrefixLemmas.{over, reads_whole}
 use Rattle.encoding_mem.proofs.Utf16Lemmas.{cases_high, cases_low, no_units, lone_unit, pair_of_units}
 
@@ -142,32 +136,19 @@ units_over us n room b fits next i more le d =
     subst (λ l. room < length (encode_utf8_all l)) (sym r.3) (over (utf16_lossy_chars (take n us)) r.1 r.0 room (omega arith))
 
 -- What a call of the encoder wrote.
-spelled_prefix : (t prefix w rest : List ℕ) → t ≡ prefix ++ rest → output utf8_coding t ≡ w ++ output utf8_coding rest → w ≡ encode_utf8_all prefix
-spelled_prefix t prefix w rest split is =
-    append_cancel_right w (encode_utf8_all prefix) (encode_utf8_all rest)
-    (ap (λ l. w ++ l) (sym (utf8_output rest)) ∙ sym is ∙ utf8_output t ∙ ap encode_utf8_all split ∙ encodes-append prefix rest)
+pub written_text : (us out : List ℕ) (n free : ℕ) → ReadsLongest (utf16_lossy_chars us) out (utf16_lossy_chars (drop n us)) free → out ≡ units_in_utf8 (take n us)
+written_text us out n free r = r.bytes ∙ ap encode_utf8_all (reads_text us r.prefix n r.split)
 
-pub written_is : (outcome : EncoderResult) (us out : List ℕ) (n : ℕ) → Encodes utf8_coding true outcome Ascii (utf16_lossy_chars us) out Ascii (utf16_lossy_chars (drop n us))
-    → (prefix : List ℕ) × (utf16_lossy_chars us ≡ prefix ++ utf16_lossy_chars (drop n us)) × (out ≡ encode_utf8_all prefix)
-written_is InputEmpty us out n law = (law.prefix, law.split, spelled_prefix (utf16_lossy_chars us) law.prefix out (utf16_lossy_chars (drop n us)) law.split (encoded_bytes utf8_coding true InputEmpty Ascii (utf16_lossy_chars us) out Ascii (utf16_lossy_chars (drop n us)) law))
-written_is OutputFull us out n law = (law.prefix, law.split, spelled_prefix (utf16_lossy_chars us) law.prefix out (utf16_lossy_chars (drop n us)) law.split (encoded_bytes utf8_coding true OutputFull Ascii (utf16_lossy_chars us) out Ascii (utf16_lossy_chars (drop n us)) law))
-written_is (Unmappable m) us out n law = let e = law.reads.4 in absurd (cc)
-
-pub written_text : (outcome : EncoderResult) (us out : List ℕ) (n : ℕ) → Encodes utf8_coding true outcome Ascii (utf16_lossy_chars us) out Ascii (utf16_lossy_chars (drop n us)) → out ≡ units_in_utf8 (take n us)
-written_text outcome us out n law = let w = written_is outcome us out n law in w.2 ∙ ap encode_utf8_all (reads_text us w.0 n w.1)
-
-pub written_longest : (outcome : EncoderResult) (us out : List ℕ) (n room k : ℕ) → n ≤ length us → Encodes utf8_coding true outcome Ascii (utf16_lossy_chars us) out Ascii (utf16_lossy_chars (drop n us))
-    → length out ≡ k → k ≤ room → NextIsTooLong (utf16_lossy_chars (drop n us)) (room - k)
-    → IsLongest (IsUnitBoundary us) (λ i. length (units_in_utf8 (take i us))) (length us) room n
-written_longest outcome us out n room k within law len fits next =
-    let w = written_is outcome us out n law in
-    let b = reads_boundary us w.0 n w.1 in
-    let size : length (units_in_utf8 (take n us)) ≡ k = ap length (sym (written_text outcome us out n law)) ∙ len in
+pub written_longest : (us out : List ℕ) (n room k : ℕ) → n ≤ length us → ReadsLongest (utf16_lossy_chars us) out (utf16_lossy_chars (drop n us)) (room - k)
+    → length out ≡ k → k ≤ room → IsLongest (IsUnitBoundary us) (λ i. length (units_in_utf8 (take i us))) (length us) room n
+written_longest us out n room k within r len fits =
+    let b = reads_boundary us r.prefix n r.split in
+    let size : length (units_in_utf8 (take n us)) ≡ k = ap length (sym (written_text us out n (room - k) r)) ∙ len in
     record {
       within = within;
       whole = b;
       fits = omega arith;
-      longest = units_over us n room b (omega arith) (subst (λ m. NextIsTooLong (utf16_lossy_chars (drop n us)) (room - m)) (sym size) next);
+      longest = units_over us n room b (omega arith) (subst (λ m. NextIsTooLong (utf16_lossy_chars (drop n us)) (room - m)) (sym size) r.longest);
     }
 
 -- No unit gives more than three bytes.

@@ -1,8 +1,10 @@
 -- What an encoder has to write for a text (the Encoding Standard, section 4.1, "encoder").
-use Rattle.std.specs.Prelude.{◌≡◌, ℕ, ◌+◌, ◌≤◌, List, [], ◌∷◌, ◌++◌, length, codes}
-use Rattle.std.specs.Fmt.{decimal}
+use Rattle.std.specs.Prelude.{◌≡◌, ℕ, ◌+◌, ◌≤◌, List, [], ◌∷◌, ◌++◌, length, codes, true}
+use Rattle.std.specs.Fmt.{decimal, digits}
 use Rattle.encoding_mem.specs.declared.form.Form.{Form}
 use Rattle.encoding_mem.specs.declared.form.Form.TheVariants.{Mapped, Unmapped}
+use Rattle.encoding_mem.specs.declared.reference.Reference.{Reference}
+use Rattle.encoding_mem.specs.declared.reference.Reference.TheVariants.{Decimal, Hexadecimal}
 use Rattle.encoding_mem.specs.declared.form.EscapeState.{EscapeState}
 use Rattle.encoding_mem.specs.declared.form.EscapeState.TheVariants.{Ascii}
 
@@ -13,23 +15,24 @@ pub record Coding : Type 0 where
   pub set : EscapeState → ℕ → EscapeState
   pub escape : EscapeState → EscapeState → List ℕ
 
--- the numeric character reference: `&#`, the decimal digits, `;`
-abbrev pub reference : ℕ → List ℕ
-reference c = codes "&#" ++ (decimal c ++ codes ";")
+-- the numeric character reference: `&#` and the decimal digits, or `&#x` and the hexadecimal ones, and `;`
+abbrev pub reference : Reference → ℕ → List ℕ
+reference Decimal c = codes "&#" ++ (decimal c ++ codes ";")
+reference Hexadecimal c = codes "&#x" ++ (digits 16 true c ++ codes ";")
 
 -- the bytes that a form has, and what is written for it: the bytes of a character, or its reference
 abbrev pub bytes : Form → List ℕ
 bytes (Mapped bs) = bs
 bytes (Unmapped c) = []
 
-abbrev pub spelled : Form → List ℕ
-spelled (Mapped bs) = bs
-spelled (Unmapped c) = reference c
+abbrev pub spelled : Reference → Form → List ℕ
+spelled ref (Mapped bs) = bs
+spelled ref (Unmapped c) = reference ref c
 
 -- a text from a set: each scalar's escape, then its bytes or its reference
-abbrev pub open_from : Coding → EscapeState → List ℕ → List ℕ
-open_from e s [] = []
-open_from e s (c ∷ t) = e.escape s (e.set s c) ++ (spelled (e.form c) ++ open_from e (e.set s c) t)
+abbrev pub open_from : Reference → Coding → EscapeState → List ℕ → List ℕ
+open_from ref e s [] = []
+open_from ref e s (c ∷ t) = e.escape s (e.set s c) ++ (spelled ref (e.form c) ++ open_from ref e (e.set s c) t)
 
 -- the set after a text
 abbrev pub last_set : Coding → EscapeState → List ℕ → EscapeState
@@ -37,12 +40,17 @@ last_set e s [] = s
 last_set e s (c ∷ t) = last_set e (e.set s c) t
 
 -- that text, and the escape to ASCII
-abbrev pub whole_from : Coding → EscapeState → List ℕ → List ℕ
-whole_from e s t = open_from e s t ++ e.escape (last_set e s t) Ascii
+abbrev pub whole_from : Reference → Coding → EscapeState → List ℕ → List ℕ
+whole_from ref e s t = open_from ref e s t ++ e.escape (last_set e s t) Ascii
 
 -- the output for a text
-abbrev pub output : Coding → List ℕ → List ℕ
-output e t = whole_from e Ascii t
+abbrev pub output : Reference → Coding → List ℕ → List ℕ
+output ref e t = whole_from ref e Ascii t
+
+-- the same without references: each scalar's escape and its bytes, which is the text's where each has some
+abbrev pub bytes_from : Coding → EscapeState → List ℕ → List ℕ
+bytes_from e s [] = []
+bytes_from e s (c ∷ t) = e.escape s (e.set s c) ++ (bytes (e.form c) ++ bytes_from e (e.set s c) t)
 
 abbrev pub IsMapped : Form → Type 0
 IsMapped (Mapped bs) = Unit {0}

@@ -1,12 +1,22 @@
 -- What a call of the encoding driver leaves, beside the law of a call.
 use Rattle.std.specs.Prelude.{◌≡◌, ℕ, ◌<◌, List, [], ◌∷◌, ◌++◌, length, drop, ◌⊎◌}
-use Rattle.std.specs.Str.{IsAscii}
+use Rattle.std.specs.Char.{encode_utf8}
+use Rattle.std.specs.Str.{IsAscii, encode_utf8_all}
 use Rattle.encoding_mem.specs.Coding.{Coding, bytes}
 use Rattle.encoding_mem.specs.declared.form.Form.TheVariants.{Mapped}
 use Rattle.encoding_mem.specs.declared.form.EscapeState.{EscapeState}
 use Rattle.encoding_mem.specs.declared.form.EscapeState.TheVariants.{Ascii}
 use Rattle.encoding_mem.specs.declared.encoder_result.EncoderResult.{EncoderResult}
 use Rattle.encoding_mem.specs.declared.encoder_result.EncoderResult.TheVariants.{InputEmpty, OutputFull, Unmappable}
+use Rattle.encoding_mem.specs.declared.room.EncodedLength.{EncodedLength}
+
+-- What an encoder is to its callers: the most bytes that one step writes, what it makes of each character, the set that
+-- is in force, and the room that is enough, as the length queries return it.
+pub record EncoderParts : Type 0 where
+  pub need : ℕ
+  pub coding : Coding
+  pub set : EscapeState
+  pub limits : EncodedLength
 
 -- the text from an offset of a list on
 abbrev pub left : (List ℕ → List ℕ) → List ℕ → ℕ → List ℕ
@@ -15,6 +25,16 @@ left text all offset = text (drop offset all)
 -- in this set each ASCII character is its own byte, and the set stays
 abbrev pub CopiesAscii : Coding → EscapeState → Type 0
 CopiesAscii e s = (c : ℕ) → c < 0x80 → (e.set s c ≡ s) × (e.form c ≡ Mapped (c ∷ []))
+
+-- in this set each scalar is its UTF-8, and the set stays
+abbrev pub CopiesUtf8 : Coding → EscapeState → Type 0
+CopiesUtf8 e s = (c : ℕ) → (e.set s c ≡ s) × (e.form c ≡ Mapped (encode_utf8 c))
+
+-- a prefix of the text was written in UTF-8, and this is what is left of it
+pub record IsCopied (text written rest : List ℕ) : Type 0 where
+  pub prefix : List ℕ
+  pub taken : text ≡ prefix ++ rest
+  pub put : written ≡ encode_utf8_all prefix
 
 -- a run of ASCII was taken from the text and put behind what was written
 pub record IsRun (text rest written written' : List ℕ) : Type 0 where

@@ -1,41 +1,36 @@
 -- What a call of an encoder does.
-use Rattle.std.specs.Prelude.{◌≡◌, ℕ, ◌+◌, ◌-◌, ◌<◌, Bool, true, false, List, [], ◌∷◌, ◌++◌, length, map, ◌⊎◌, ◌≢◌}
+use Rattle.std.specs.Prelude.{◌≡◌, ℕ, ◌+◌, ◌-◌, ◌<◌, Bool, true, false, List, [], ◌∷◌, ◌++◌, length, map, ◌⊎◌, ◌≢◌, if◌then◌else◌}
 use Rattle.std.specs.Bool.{MatchBool}
-use Rattle.encoding_mem.specs.Coding.{Coding, open_from, whole_from, last_set, reference, AllMapped}
+use Rattle.encoding_mem.specs.Coding.{Coding, open_from, whole_from, bytes_from, last_set, reference, AllMapped}
 use Rattle.encoding_mem.specs.Items.{Item, Byte, LostAt, whole_items}
+use Rattle.encoding_mem.specs.declared.reference.Reference.{Reference}
 use Rattle.encoding_mem.specs.declared.form.Form.TheVariants.{Unmapped}
 use Rattle.encoding_mem.specs.declared.form.EscapeState.{EscapeState}
 use Rattle.encoding_mem.specs.declared.form.EscapeState.TheVariants.{Ascii}
 use Rattle.encoding_mem.specs.declared.encoder_result.EncoderResult.{EncoderResult}
 use Rattle.encoding_mem.specs.declared.encoder_result.EncoderResult.TheVariants.{InputEmpty, OutputFull, Unmappable}
 
--- what a result asks its caller to add, where the characters with indexes below n were read
-abbrev pub reported_item : ℕ → EncoderResult → List Item
-reported_item n InputEmpty = []
-reported_item n OutputFull = []
-reported_item n (Unmappable c) = LostAt (n - 1) c ∷ map Byte (reference c)
+-- the set in which the next character of a text is written after the set q
+abbrev pub IsSetOfNext : Coding → EscapeState → (next : List ℕ) → EscapeState → Type 0
+IsSetOfNext e q [] s' = ⊥
+IsSetOfNext e q (c ∷ t) s' = s' ≡ e.set q c
 
--- what was read has no unmappable character, but for a last one that is reported
-abbrev pub Reads : Coding → EncoderResult → List ℕ → Type 0
-Reads e InputEmpty prefix = AllMapped e prefix
-Reads e OutputFull prefix = AllMapped e prefix
-Reads e (Unmappable c) prefix = (before : List ℕ) × (d : ℕ) × (prefix ≡ before ++ d ∷ []) × AllMapped e before × (e.form d ≡ Unmapped c)
+-- What a call leaves, by how it ended, where it has written all before `next` and the set is then q: the rest and the
+-- set. It may have gone to the set of the next character, and reads one without bytes.
+abbrev pub Leaves : Coding → Bool → EncoderResult → EscapeState → (next rest : List ℕ) → EscapeState → Type 0
+Leaves e last InputEmpty q next rest s' = (next ≡ []) × (rest ≡ []) × (s' ≡ (if last then Ascii else q))
+Leaves e last OutputFull q next rest s' = (next ≡ rest) × ((s' ≡ q) ⊎ IsSetOfNext e q next s')
+Leaves e last (Unmappable m) q next rest s' = (c : ℕ) × (next ≡ c ∷ rest) × (e.form c ≡ Unmapped m) × (s' ≡ e.set q c)
 
--- the text goes on after this result
-abbrev pub TextGoesOn : Bool → EncoderResult → Type 0
-TextGoesOn last InputEmpty = last ≡ false
-TextGoesOn last OutputFull = last ≡ false
-TextGoesOn last (Unmappable c) = Unit {0}
-
--- The law of a call on a text from the set s, which leaves the rest and the set s': whatever index the text
--- begins at, what it stands for is what was written, what the result reports, and what the rest stands for.
+-- The law of a call on a text from the set s, which leaves the rest and the set s'. What was written is what the
+-- characters before `next` stand for, each of which has bytes, and behind it no more than the escape to s'.
 pub record Encodes (e : Coding) (last : Bool) (outcome : EncoderResult) (s : EscapeState) (text written : List ℕ) (s' : EscapeState) (rest : List ℕ) : Type 0 where
-  pub prefix : List ℕ
-  pub split : text ≡ prefix ++ rest
-  pub reads : Reads e outcome prefix
-  pub items : (i : ℕ) → whole_items e last s i text
-      ≡ map Byte written ++ (reported_item (i + length prefix) outcome ++ whole_items e last s' (i + length prefix) rest)
-  pub sets : TextGoesOn last outcome → last_set e s text ≡ last_set e s' rest
+  pub before : List ℕ
+  pub next : List ℕ
+  pub split : text ≡ before ++ next
+  pub mapped : AllMapped e before
+  pub bytes : written ≡ bytes_from e s before ++ e.escape (last_set e s before) s'
+  pub leaves : Leaves e last outcome (last_set e s before) next rest s'
 
 -- When each result comes: room is what is free behind what is written.
 abbrev pub EncodeEndsWith : ℕ → Bool → EncoderResult → EscapeState → List ℕ → ℕ → Type 0
@@ -43,12 +38,41 @@ EncodeEndsWith need last InputEmpty s' rest room = (rest ≡ []) × (last ≡ tr
 EncodeEndsWith need last OutputFull s' rest room = (room < need) × ((0 < length rest) ⊎ ((last ≡ true) × (s' ≢ Ascii)))
 EncodeEndsWith need last (Unmappable c) s' rest room = Unit {0}
 
--- The same law in bytes. Of the text t from s the bytes w are written, and rest from s' is still to be written,
--- whatever follows.
-abbrev pub Continues : Coding → EscapeState → List ℕ → List ℕ → EscapeState → List ℕ → Type 0
-Continues e s t w s' rest = (r : List ℕ) → open_from e s (t ++ r) ≡ w ++ open_from e s' (rest ++ r)
+-- What follows from that law for the items of a text: what a result asks its caller to add, where the characters with
+-- indexes below n were read;
+abbrev pub reported_item : Reference → ℕ → EncoderResult → List Item
+reported_item ref n InputEmpty = []
+reported_item ref n OutputFull = []
+reported_item ref n (Unmappable c) = LostAt (n - 1) c ∷ map Byte (reference ref c)
 
-abbrev pub Writes : Coding → Bool → EncoderResult → EscapeState → List ℕ → List ℕ → EscapeState → List ℕ → Type 0
-Writes e last (Unmappable c) s t w s' rest = Continues e s t (w ++ reference c) s' rest
-Writes e last InputEmpty s t w s' rest = MatchBool last (whole_from e s t ≡ w ++ whole_from e s' rest) (Continues e s t w s' rest)
-Writes e last OutputFull s t w s' rest = MatchBool last (whole_from e s t ≡ w ++ whole_from e s' rest) (Continues e s t w s' rest)
+-- that what was read has no unmappable character, but for a last one that is reported;
+abbrev pub Reads : Coding → EncoderResult → List ℕ → Type 0
+Reads e InputEmpty prefix = AllMapped e prefix
+Reads e OutputFull prefix = AllMapped e prefix
+Reads e (Unmappable c) prefix = (before : List ℕ) × (d : ℕ) × (prefix ≡ before ++ d ∷ []) × AllMapped e before × (e.form d ≡ Unmapped c)
+
+-- that the text goes on after a result;
+abbrev pub TextGoesOn : Bool → EncoderResult → Type 0
+TextGoesOn last InputEmpty = last ≡ false
+TextGoesOn last OutputFull = last ≡ false
+TextGoesOn last (Unmappable c) = Unit {0}
+
+-- and that, whatever index the text begins at, it stands for what was written, what the result reports, and what the
+-- rest stands for.
+pub record EncodesItems (ref : Reference) (e : Coding) (last : Bool) (outcome : EncoderResult) (s : EscapeState) (text written : List ℕ) (s' : EscapeState) (rest : List ℕ) : Type 0 where
+  pub prefix : List ℕ
+  pub split : text ≡ prefix ++ rest
+  pub reads : Reads e outcome prefix
+  pub items : (i : ℕ) → whole_items ref e last s i text
+      ≡ map Byte written ++ (reported_item ref (i + length prefix) outcome ++ whole_items ref e last s' (i + length prefix) rest)
+  pub sets : TextGoesOn last outcome → last_set e s text ≡ last_set e s' rest
+
+-- What follows from it for bytes. Of the text t from s the bytes w are written, and rest from s' is still to be written,
+-- whatever follows.
+abbrev pub Continues : Reference → Coding → EscapeState → List ℕ → List ℕ → EscapeState → List ℕ → Type 0
+Continues ref e s t w s' rest = (r : List ℕ) → open_from ref e s (t ++ r) ≡ w ++ open_from ref e s' (rest ++ r)
+
+abbrev pub Writes : Reference → Coding → Bool → EncoderResult → EscapeState → List ℕ → List ℕ → EscapeState → List ℕ → Type 0
+Writes ref e last (Unmappable c) s t w s' rest = Continues ref e s t (w ++ reference ref c) s' rest
+Writes ref e last InputEmpty s t w s' rest = MatchBool last (whole_from ref e s t ≡ w ++ whole_from ref e s' rest) (Continues ref e s t w s' rest)
+Writes ref e last OutputFull s t w s' rest = MatchBool last (whole_from ref e s t ≡ w ++ whole_from ref e s' rest) (Continues ref e s t w s' rest)

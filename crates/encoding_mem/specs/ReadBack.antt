@@ -3,6 +3,7 @@ use Rattle.std.specs.Prelude.{◌≡◌, ℕ, ◌↔◌, true, List}
 use Rattle.std.specs.Str.{all_scalars}
 use Rattle.encoding_mem.specs.Piece.{Piece, text, AreWellFormed}
 use Rattle.encoding_mem.specs.Coding.{Coding, AllMapped, output}
+use Rattle.encoding_mem.specs.declared.reference.Reference.{Reference}
 
 -- Decoded into these pieces, bytes have no malformed sequence and are the text.
 pub record ReadsAs (pieces : List ℕ → List Piece) (bytes t : List ℕ) : Type 0 where
@@ -11,4 +12,4 @@ pub record ReadsAs (pieces : List ℕ → List Piece) (bytes t : List ℕ) : Typ
 
 -- The output for a text reads as the text exactly where each scalar of it has bytes.
 abbrev pub ReadsBackExactly : (List ℕ → List Piece) → Coding → Type 0
-ReadsBackExactly pieces e = (t : List ℕ) → all_scalars t ≡ true → ReadsAs pieces (output e t) t ↔ AllMapped e t
+ReadsBackExactly pieces e = (ref : Reference) (t : List ℕ) → all_scalars t ≡ true → ReadsAs pieces (output ref e t) t ↔ AllMapped e t

@@ -4,12 +4,13 @@ use Rattle.std.specs.Char.{IsScalar}
 use Rattle.encoding_mem.specs.Coding.{Coding, spelled}
 use Rattle.encoding_mem.specs.Decoding.{IsDecided}
 use Rattle.encoding_mem.specs.Piece.{Piece, piece_len, scalars_of, text, sizes, IsWellFormed, AreWellFormed, well_formed}
+use Rattle.encoding_mem.specs.declared.reference.Reference.{Reference}
 use Rattle.encoding_mem.specs.declared.form.Form.{Form}
 use Rattle.encoding_mem.specs.declared.form.EscapeState.{EscapeState}
 
 -- what is written for a character from a set: its escape, and its bytes or its reference
-abbrev pub one_from : Coding → EscapeState → ℕ → List ℕ
-one_from e s c = e.escape s (e.set s c) ++ spelled (e.form c)
+abbrev pub one_from : Reference → Coding → EscapeState → ℕ → List ℕ
+one_from ref e s c = e.escape s (e.set s c) ++ spelled ref (e.form c)
 
 -- Bytes are whole pieces with this text, and what follows them is read from another state.
 pub record Follows (before after : List ℕ → List Piece) (bytes t : List ℕ) : Type 0 where
@@ -34,8 +35,8 @@ pub record IsBroken (before : List ℕ → List Piece) (bytes t : List ℕ) : Ty
 
 -- A target reads back step by step: read from the set in force, what is written for a character is it, or is broken.
 abbrev pub StepLaw : Coding → (EscapeState → List ℕ → List Piece) → Type 0
-StepLaw e pieces_from = (s : EscapeState) (c : ℕ) → IsScalar c
-    → Follows (pieces_from s) (pieces_from (e.set s c)) (one_from e s c) (c ∷ []) ⊎ IsBroken (pieces_from s) (one_from e s c) (c ∷ [])
+StepLaw e pieces_from = (ref : Reference) (s : EscapeState) (c : ℕ) → IsScalar c
+    → Follows (pieces_from s) (pieces_from (e.set s c)) (one_from ref e s c) (c ∷ []) ⊎ IsBroken (pieces_from s) (one_from ref e s c) (c ∷ [])
 
 -- the pieces of a decoder that has one mode
 abbrev pub in_any_set : (List ℕ → List Piece) → EscapeState → List ℕ → List Piece
@@ -56,4 +57,4 @@ pub record Strays (first_piece : List ℕ → Piece) (bytes : List ℕ) (c : ℕ
 
 -- what is written for each scalar, its bytes or its reference, does the one or the other
 abbrev pub StepsReadBack : (List ℕ → Piece) → (ℕ → Form) → Type 0
-StepsReadBack prefix form = (c : ℕ) → IsScalar c → Returns prefix (spelled (form c)) c ⊎ Strays prefix (spelled (form c)) c
+StepsReadBack prefix form = (ref : Reference) (c : ℕ) → IsScalar c → Returns prefix (spelled ref (form c)) c ⊎ Strays prefix (spelled ref (form c)) c

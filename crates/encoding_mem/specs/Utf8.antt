@@ -1,10 +1,10 @@
 -- The pieces of UTF-8 (RFC 3629, section 4; Unicode, table 3-7; the Encoding Standard, section 8.1.1, "UTF-8 decoder").
 -- A well-formed sequence is one scalar. A malformed sequence is the longest prefix of some well-formed sequence, and
 -- one byte at least.
-use Rattle.std.specs.Prelude.{◌≡◌, ℕ, ◌+◌, ◌-◌, ◌*◌, ◌==◌, List, [], ◌∷◌, nat_lt, if◌then◌else◌, refl}
+use Rattle.std.specs.Prelude.{ℕ, ◌+◌, ◌-◌, ◌*◌, ◌==◌, List, [], ◌∷◌, nat_lt, if◌then◌else◌}
 use Rattle.std.specs.Int.{is_in_range}
 use Rattle.encoding_mem.specs.Piece.{Piece, well_formed, malformed}
-use Rattle.encoding_mem.specs.Pieces.{pieces_in, pieces_by}
+use Rattle.encoding_mem.specs.Pieces.{pieces_by}
 
 -- The least and the greatest byte that may follow the first byte b: no form that is too long (E0, F0), no
 -- surrogate (ED), nothing above 10FFFF (F4).

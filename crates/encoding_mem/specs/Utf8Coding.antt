@@ -1,6 +1,7 @@
 -- UTF-8 as a target: each scalar has bytes, and there is one set.
-use Rattle.std.specs.Prelude.{ℕ, ◌<◌, List, [], ◌∷◌}
+use Rattle.std.specs.Prelude.{◌≡◌, ℕ, ◌<◌, List, [], ◌∷◌, ◌++◌}
 use Rattle.std.specs.Char.{encode_utf8, len_utf8}
+use Rattle.std.specs.Str.{encode_utf8_all}
 use Rattle.encoding_mem.specs.Coding.{Coding}
 use Rattle.encoding_mem.specs.Stateless.{stateless}
 use Rattle.encoding_mem.specs.declared.form.Form.TheVariants.{Mapped}
@@ -12,3 +13,10 @@ utf8_coding = stateless (λ c. Mapped (encode_utf8 c))
 abbrev pub NextIsTooLong : List ℕ → ℕ → Type 0
 NextIsTooLong [] free = Unit {0}
 NextIsTooLong (c ∷ t) free = free < len_utf8 c
+
+-- A call reads the longest prefix of a text whose bytes fit: the character behind it has more bytes than are free.
+pub record ReadsLongest (text written rest : List ℕ) (free : ℕ) : Type 0 where
+  pub prefix : List ℕ
+  pub split : text ≡ prefix ++ rest
+  pub bytes : written ≡ encode_utf8_all prefix
+  pub longest : NextIsTooLong rest free

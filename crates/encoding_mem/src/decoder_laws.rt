@@ -1,44 +1,15 @@
 // Laws of the decoders' definitions.
 
-ghost use Rattle.std.specs.Prelude.{◌≢◌, ◌≡◌, ◌+◌, ◌-◌, ◌≤◌, Bool, true, false, List, [], ℕ, length, drop, encode_utf8_all};
+ghost use Rattle.std.specs.Prelude.{◌≡◌, ◌≤◌, Bool, true, List, [], ℕ, length, encode_utf8_all};
 ghost use Rattle.std.specs.List.{All};
 ghost use Rattle.std.specs.Str.{all_scalars};
 ghost use Rattle.encoding_mem.specs.Piece.{Piece, scalars_of};
-ghost use Rattle.encoding_mem.specs.Decoding.{DecoderState, EventLaw, StateLaw, EndsWith, IsUndecided, IsDecided};
-ghost use Rattle.encoding_mem.specs.Driver.{Suffices};
-ghost use Rattle.encoding_mem.specs.DecodedLength.{decoded_length};
+ghost use Rattle.encoding_mem.specs.Decoding.{DecoderState, EventLaw, StateLaw, IsUndecided, IsDecided};
 ghost use Rattle.encoding_mem.specs.Writing.{Adds};
 ghost use Rattle.encoding_mem.specs.Text.{text_pieces};
 ghost use Rattle.encoding_mem.specs.Utf8.{pieces_utf8};
 ghost use Rattle.encoding_mem.specs.MaximalSubparts.{Utf8PiecesAreMaximal};
 ghost use Rattle.encoding_mem.specs.declared.decoder_result.DecoderResult.{DecoderResult};
-ghost use Rattle.encoding_mem.specs.declared.room.OutputUnit.TheVariants.{Bytes};
-
-use crate::decoder_result::DecoderResult;
-use crate::raw_decoder::RawDecoder;
-
-/// The call `decode_to_utf8_raw`, and its law over events besides: those of the call, and then those of
-/// what is left.
-pub fn decode_with_events<D: RawDecoder>(
-    decoder: &mut D,
-    src: &[u8],
-    dst: &mut [u8],
-    last: bool,
-) -> (DecoderResult, usize, usize)
-    ensures events { EventLaw (D.state decoder.old) (D.state decoder.new) src.now last result.1
-        (λ text. Adds dst.old 0 (encode_utf8_all text) dst.new result.2) result.0 }
-    ensures law { StateLaw (D.state decoder.old) (D.state decoder.new) src.now last result.1
-        (λ text. Adds dst.old 0 (encode_utf8_all text) dst.new result.2) result.0 }
-    ensures ends { EndsWith (D.state decoder.new) (drop result.1 src.now) last
-        (length (drop result.2 dst.new)) 4 3 result.0 }
-    ensures enough { decoded_length (D.state decoder.old).room Bytes ((D.state decoder.old).pending + length src.now) ≤ length dst.old
-        → result.0 ≢ DecoderResult.OutputFull }
-    ensures leaves { Suffices (D.state decoder.old).needs (D.state decoder.new).needs false last (length src.now)
-        (length src.now - result.1) (length dst.old) (length (drop result.2 dst.new)) result.0 }
-    ensures limits { (D.state decoder.new).room ≡ (D.state decoder.old).room }
-{
-    decoder.decode_to_utf8_raw(src, dst, last)
-}
 
 /// The law over events, of every call that meets the state law and adds its text to a slice: in bytes or
 /// units, raw or with byte order marks.

@@ -1,4 +1,4 @@
-// One driver for all encoders.
+// What an encoder makes of each character, and one driver for all encoders.
 
 ghost use Rattle.std.specs.Prelude.{◌≡◌, ◌≢◌, true, ℕ, ◌+◌, ◌-◌, ◌<◌, ◌≤◌, List, [], ◌∷◌, ◌++◌, length, take, drop};
 ghost use Rattle.encoding_mem.specs.Coding.{Coding, IsCoding};
@@ -6,46 +6,146 @@ ghost use Rattle.encoding_mem.specs.Encoding.{Encodes, EncodeEndsWith};
 ghost use Rattle.encoding_mem.specs.DecodedLength.{bound_at};
 ghost use Rattle.encoding_mem.specs.EncodedLength.{IsRoomFor, bound_for};
 ghost use Rattle.encoding_mem.specs.declared.room.EncodedLength.{EncodedLength};
-ghost use Rattle.encoding_mem.specs.EncoderRule.{CopiesAscii, IsRun, Moves, Tight, left};
+ghost use Rattle.encoding_mem.specs.EncoderRule.{CopiesAscii, CopiesUtf8, IsRun, Moves, Tight, left};
+ghost use Rattle.encoding_mem.specs.Stateless.{stateless};
+ghost use Rattle.encoding_mem.specs.declared.form.Form.{Form};
+ghost use Rattle.encoding_mem.specs.declared.form.Form.TheVariants.{Mapped};
+ghost use Rattle.encoding_mem.specs.declared.form.EscapeState.{EscapeState};
+ghost use Rattle.encoding_mem.specs.declared.form.EscapeState.TheVariants.{Ascii};
 
 use crate::encoder_result::EncoderResult;
 use crate::form::{Bytes, EscapeState, Form};
+use crate::room::EncodedLength;
 use crate::source::Source;
 
-/// A target: what it makes of each character, and its sets.
+/// The rule of an encoder: what it makes of each character, its sets, and which of them is in force. How a call
+/// reads, writes and stops is the driver's. A type that has one is a `SourceEncoder`, and a `RawEncoder`.
 pub trait EncoderRule {
     /// The most bytes that an escape or a character has.
     ghost need: { Self → ℕ };
 
     ghost coding: { Self → Coding };
 
+    /// The set that is in force.
+    ghost set: { Self → EscapeState };
+
     /// The room that is enough.
     ghost limits: { Self → EncodedLength };
 
     /// The set in which a character is written after a set, and its bytes.
-    fn step(&self, set: EscapeState, c: char) -> (EscapeState, Form)
-        ensures set { result.0 ≡ (coding self.now).set set c }
+    fn step(&self, from: EscapeState, c: char) -> (EscapeState, Form)
+        ensures set { result.0 ≡ (coding self.now).set from c }
         ensures form { result.1 ≡ (coding self.now).form c };
-
-    /// Whether in this set each ASCII character is its own byte and leaves the set as it is, so that a run
-    /// of them can be copied.
-    fn copies_ascii(&self, set: EscapeState) -> bool
-        ensures { result ≡ true → CopiesAscii (coding self.now) set };
 
     /// The escape from one set to another.
     fn escape(&self, from: EscapeState, to: EscapeState) -> Bytes
         ensures { result ≡ (coding self.now).escape from to };
+
+    /// Whether in this set each ASCII character is its own byte and leaves the set as it is, so that a run
+    /// of them can be copied.
+    fn copies_ascii(&self, from: EscapeState) -> bool
+        ensures { result ≡ true → CopiesAscii (coding self.now) from };
+
+    /// Whether in this set each character is its UTF-8 and leaves the set as it is, so that text that is there in
+    /// UTF-8 can be copied.
+    fn copies_utf8(&self, from: EscapeState) -> bool
+        ensures { result ≡ true → CopiesUtf8 (coding self.now) from };
+
+    /// The set that is in force.
+    fn current_set(&self) -> EscapeState
+        ensures { result ≡ set self.now };
+
+    /// Takes a set, to which some characters lead, for the one in force.
+    fn enter(&mut self, next: EscapeState)
+        requires { Moves (coding self.old) (set self.old) next }
+        ensures set { set self.new ≡ next }
+        ensures coding { coding self.new ≡ coding self.old }
+        ensures need { need self.new ≡ need self.old }
+        ensures limits { limits self.new ≡ limits self.old };
+
+    /// The room that is enough for what a text is encoded to.
+    fn encoded_length(&self) -> EncodedLength
+        ensures { result ≡ limits self.now };
 
     ghost laws: { (x : Self) → IsCoding (need x) (coding x) };
 
     ghost fits: { (x : Self) → IsRoomFor (coding x) (limits x) };
 }
 
+/// The rule of an encoder with one set, in which ASCII gives itself: the bytes of each character.
+pub trait StatelessRule {
+    /// The most bytes that a character has.
+    ghost need: { Self → ℕ };
+
+    ghost form: { Self → ℕ → Form };
+
+    /// The room that is enough.
+    ghost limits: { Self → EncodedLength };
+
+    /// The bytes of a character.
+    fn form_of(&self, c: char) -> Form
+        ensures { result ≡ form self.now c };
+
+    /// The room that is enough for what a text is encoded to.
+    fn encoded_length(&self) -> EncodedLength
+        ensures { result ≡ limits self.now };
+
+    ghost laws: { (x : Self) → IsCoding (need x) (stateless (form x)) };
+
+    ghost fits: { (x : Self) → IsRoomFor (stateless (form x)) (limits x) };
+
+    ghost ascii: { (x : Self) (c : ℕ) → c < 0x80 → form x c ≡ Mapped (c ∷ []) };
+}
+
+impl<R: StatelessRule> EncoderRule for R {
+    ghost need = { R.need };
+
+    ghost coding = { λ x. stateless (R.form x) };
+
+    ghost set = { λ _. Ascii };
+
+    ghost limits = { R.limits };
+
+    ghost laws = { R.laws };
+
+    ghost fits = { R.fits };
+
+    #[inline(always)]
+    fn step(&self, _from: EscapeState, c: char) -> (EscapeState, Form) {
+        (EscapeState::Ascii, self.form_of(c))
+    }
+
+    #[inline(always)]
+    fn escape(&self, _from: EscapeState, _to: EscapeState) -> Bytes {
+        Bytes::none()
+    }
+
+    #[inline(always)]
+    fn copies_ascii(&self, from: EscapeState) -> bool {
+        matches!(from, EscapeState::Ascii)
+    }
+
+    #[inline(always)]
+    fn copies_utf8(&self, _from: EscapeState) -> bool {
+        false
+    }
+
+    fn current_set(&self) -> EscapeState {
+        EscapeState::Ascii
+    }
+
+    fn enter(&mut self, _next: EscapeState) {}
+
+    fn encoded_length(&self) -> EncodedLength {
+        StatelessRule::encoded_length(self)
+    }
+}
+
 // `#[inline(always)]` at targets and sources is for the loop below, as in `driver.rt`.
 
-// Puts the bytes at an offset, where there is room for them, and returns the offset behind them.
+/// Puts the bytes at an offset, where there is room for them, and returns the offset behind them.
 #[inline(always)]
-fn put_all(dst: &mut [u8], at: usize, bytes: &[u8]) -> usize
+pub fn put_all(dst: &mut [u8], at: usize, bytes: &[u8]) -> usize
     requires { at + length bytes.now ≤ length dst.old }
     ensures end { result ≡ at + length bytes.now }
     ensures prefix { take result dst.new ≡ take at dst.old ++ bytes.now }
@@ -94,11 +194,8 @@ fn copy_run<S: Source>(source: &mut S, dst: &mut [u8], at: usize) -> usize
     at + source.copy_ascii(&mut dst[at..])
 }
 
-/// Encodes what is left of a source, from a set. Returns how it ended and how many bytes are
-/// written. It stops at the end, at the first character without bytes, whose escape is written, and
-/// where the next escape or the next character does not fit. After the end of a last call the set
-/// is ASCII.
-pub fn encode<T: EncoderRule, S: Source>(
+// The call below, without a look at text that is there in UTF-8.
+fn encode_each<T: EncoderRule, S: Source>(
     target: &T,
     set: &mut EscapeState,
     source: &mut S,
@@ -108,13 +205,16 @@ pub fn encode<T: EncoderRule, S: Source>(
     ensures room { result.1 ≤ length dst.new }
     ensures behind { drop result.1 dst.new ≡ drop result.1 dst.old }
     ensures source { S.all source.new ≡ S.all source.old }
-    ensures law { Encodes (T.coding target.now) last result.0 set.old (left S.text (S.all source.old) (S.offset source.old))
-        (take result.1 dst.new) set.new (left S.text (S.all source.old) (S.offset source.new)) }
-    ensures moves { Moves (T.coding target.now) set.old set.new }
-    ensures tight { Tight (T.coding target.now) result.0 set.new (left S.text (S.all source.old) (S.offset source.new)) (length dst.new - result.1) }
-    ensures enough { bound_at (bound_for (T.limits target.now) S.is_units) (length (S.all source.old) - S.offset source.old) ≤ length dst.old
+    ensures law { Encodes (T.coding target.now) last result.0 set.old
+        (left S.text (S.all source.old) (S.offset source.old)) (take result.1 dst.new)
+        set.new (left S.text (S.all source.old) (S.offset source.new)) }
+    ensures tight { Tight (T.coding target.now) result.0 set.new
+        (left S.text (S.all source.old) (S.offset source.new)) (length dst.new - result.1) }
+    ensures enough { bound_at (bound_for (T.limits target.now) S.is_units)
+        (length (S.all source.old) - S.offset source.old) ≤ length dst.old
         → result.0 ≢ EncoderResult.OutputFull }
-    ensures answers { EncodeEndsWith (T.need target.now) last result.0 set.new (left S.text (S.all source.old) (S.offset source.new)) (length dst.new - result.1) }
+    ensures ends { EncodeEndsWith (T.need target.now) last result.0 set.new
+        (left S.text (S.all source.old) (S.offset source.new)) (length dst.new - result.1) }
 {
     let mut written = 0;
     while let Some((c, _)) = source.peek() {
@@ -156,4 +256,37 @@ pub fn encode<T: EncoderRule, S: Source>(
         *set = EscapeState::Ascii;
     }
     (EncoderResult::InputEmpty, written)
+}
+
+/// Encodes what is left of a source, from a set. Returns how it ended and how many bytes are
+/// written. It stops at the end, at the first character without bytes, whose escape is written, and
+/// where the next escape or the next character does not fit. After the end of a last call the set
+/// is ASCII.
+pub fn encode<T: EncoderRule, S: Source>(
+    target: &T,
+    set: &mut EscapeState,
+    source: &mut S,
+    dst: &mut [u8],
+    last: bool,
+) -> (EncoderResult, usize)
+    ensures room { result.1 ≤ length dst.new }
+    ensures behind { drop result.1 dst.new ≡ drop result.1 dst.old }
+    ensures source { S.all source.new ≡ S.all source.old }
+    ensures law { Encodes (T.coding target.now) last result.0 set.old
+        (left S.text (S.all source.old) (S.offset source.old)) (take result.1 dst.new)
+        set.new (left S.text (S.all source.old) (S.offset source.new)) }
+    ensures tight { Tight (T.coding target.now) result.0 set.new
+        (left S.text (S.all source.old) (S.offset source.new)) (length dst.new - result.1) }
+    ensures enough { bound_at (bound_for (T.limits target.now) S.is_units)
+        (length (S.all source.old) - S.offset source.old) ≤ length dst.old
+        → result.0 ≢ EncoderResult.OutputFull }
+    ensures ends { EncodeEndsWith (T.need target.now) last result.0 set.new
+        (left S.text (S.all source.old) (S.offset source.new)) (length dst.new - result.1) }
+{
+    if !target.copies_utf8(*set) {
+        return encode_each(target, set, source, dst, last);
+    }
+    let copied = source.copy_text(dst);
+    let (result, written) = encode_each(target, set, source, &mut dst[copied..], last);
+    (result, copied + written)
 }

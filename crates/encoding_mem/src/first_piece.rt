@@ -4,6 +4,7 @@ ghost use Rattle.encoding_mem.specs.Piece.{Piece, sizes, ArePieces};
 ghost use Rattle.encoding_mem.specs.DecoderRule.{TellsFirstPiece, HasRoomFor};
 ghost use Rattle.encoding_mem.specs.DecodedLength.{is_units, decoded_length};
 ghost use Rattle.encoding_mem.specs.Text.{text_len, text_pieces};
+ghost use Rattle.encoding_mem.specs.laws.Utf8Decide.{cut_short};
 ghost use Rattle.encoding_mem.specs.declared.room.OutputUnit.{OutputUnit};
 ghost use Rattle.encoding_mem.specs.declared.room.DecodedLength.{DecodedLength};
 
@@ -72,4 +73,16 @@ pub trait DecoderRule {
     /// The room that is enough.
     fn room(&self) -> DecodedLength
         ensures { result ≡ limits self.now };
+}
+
+/// What so many bytes show that want more: they are malformed where no more come.
+#[inline(always)]
+pub fn cut_short(size: usize, last: bool) -> FirstPiece
+    ensures { result ≡ cut_short size last }
+{
+    if last {
+        FirstPiece::Malformed(size)
+    } else {
+        FirstPiece::More
+    }
 }

@@ -22,13 +22,16 @@ pub mod latin1;
 pub mod latin1_conversions;
 pub mod latin1_texts;
 pub mod mem_laws;
-mod pending;
+pub mod pending;
 pub mod raw_decoder;
 pub mod raw_encoder;
+pub mod reference;
 pub mod room;
+pub mod scalar;
 pub mod sink;
 pub mod sink_decoder;
 pub mod source;
+pub mod source_encoder;
 pub mod text_destinations;
 pub mod utf16_conversions;
 pub mod utf16_sink;
@@ -57,6 +60,7 @@ pub use latin1_conversions::{
 pub use latin1_texts::{Latin1Bytes, decode_latin1, encode_latin1_lossy};
 pub use raw_decoder::RawDecoder;
 pub use raw_encoder::RawEncoder;
+pub use reference::Reference;
 pub use text_destinations::{
     clear_behind, convert_latin1_to_str, convert_latin1_to_str_partial, convert_utf16_to_str,
     convert_utf16_to_str_partial,

@@ -27,6 +27,21 @@ impl Pending {
         }
     }
 
+    /// The first `len` of the bytes that are held and those of the source, or all that there are.
+    pub fn prefix_of(held: &Pending, src: &[u8], len: usize) -> Self
+        requires held { length held.now ≤ len }
+        requires room { len ≤ 8 }
+        ensures { result ≡ take len (held.now ++ src.now) }
+    {
+        let more = (len - held.len).min(src.len());
+        let mut bytes = held.bytes;
+        bytes[held.len..held.len + more].copy_from_slice(&src[..more]);
+        Pending {
+            bytes,
+            len: held.len + more,
+        }
+    }
+
     pub fn len(&self) -> usize
         ensures exact { result ≡ length self.now }
         ensures small { result ≤ 8 }

@@ -4,13 +4,12 @@ ghost use Rattle.std.specs.Char.Utf16.{utf16_lossy_chars};
 ghost use Rattle.encoding_mem.specs.Coding.{Coding, IsCoding};
 ghost use Rattle.encoding_mem.specs.Encoding.{Encodes, EncodeEndsWith};
 ghost use Rattle.encoding_mem.specs.DecodedLength.{checked, bound_at};
-ghost use Rattle.encoding_mem.specs.EncoderRule.{Moves};
+ghost use Rattle.encoding_mem.specs.EncoderRule.{Tight};
 ghost use Rattle.encoding_mem.specs.declared.form.EscapeState.{EscapeState};
 ghost use Rattle.encoding_mem.specs.declared.form.EscapeState.TheVariants.{Ascii};
 ghost use Rattle.encoding_mem.specs.declared.room.EncodedLength.{EncodedLength};
 
 use crate::encoder_result::EncoderResult;
-use crate::room::EncodedLength;
 
 /// An encoder that is fed text in cuts of any size, and writes bytes into room of any size. It reports
 /// each character without bytes, and does not write its reference.
@@ -39,12 +38,16 @@ pub trait RawEncoder {
         ensures room { result.2 ≤ length dst.new }
         ensures behind { drop result.2 dst.new ≡ drop result.2 dst.old }
         ensures target { coding self.new ≡ coding self.old }
-        ensures law { Encodes (coding self.old) last result.0 (set self.old) (chars src.now) (take result.2 dst.new) (set self.new) (chars (drop result.1 src.now)) }
-        ensures answers { EncodeEndsWith (need self.old) last result.0 (set self.new) (chars (drop result.1 src.now)) (length dst.new - result.2) }
-        ensures enough { bound_at (limits self.old).bytes (length src.now) ≤ length dst.old → result.0 ≢ EncoderResult.OutputFull }
+        ensures law { Encodes (coding self.old) last result.0 (set self.old) (chars src.now)
+            (take result.2 dst.new) (set self.new) (chars (drop result.1 src.now)) }
+        ensures ends { EncodeEndsWith (need self.old) last result.0 (set self.new)
+            (chars (drop result.1 src.now)) (length dst.new - result.2) }
+        ensures tight { Tight (coding self.old) result.0 (set self.new)
+            (chars (drop result.1 src.now)) (length dst.new - result.2) }
+        ensures enough { bound_at (limits self.old).bytes (length src.now) ≤ length dst.old
+            → result.0 ≢ EncoderResult.OutputFull }
         ensures limits { limits self.new ≡ limits self.old }
-        ensures need { need self.new ≡ need self.old }
-        ensures moves { Moves (coding self.old) (set self.old) (set self.new) };
+        ensures need { need self.new ≡ need self.old };
 
     /// Encodes units of UTF-16, in which a surrogate outside a pair is U+FFFD. The slice is read by
     /// itself, and no pair that it holds is parted. Returns as above, with the units read.
@@ -58,32 +61,26 @@ pub trait RawEncoder {
         ensures room { result.2 ≤ length dst.new }
         ensures behind { drop result.2 dst.new ≡ drop result.2 dst.old }
         ensures target { coding self.new ≡ coding self.old }
-        ensures law { Encodes (coding self.old) last result.0 (set self.old) (utf16_lossy_chars src.now) (take result.2 dst.new) (set self.new) (utf16_lossy_chars (drop result.1 src.now)) }
-        ensures answers { EncodeEndsWith (need self.old) last result.0 (set self.new) (utf16_lossy_chars (drop result.1 src.now)) (length dst.new - result.2) }
-        ensures enough { bound_at (limits self.old).units (length src.now) ≤ length dst.old → result.0 ≢ EncoderResult.OutputFull }
+        ensures law { Encodes (coding self.old) last result.0 (set self.old) (utf16_lossy_chars src.now)
+            (take result.2 dst.new) (set self.new) (utf16_lossy_chars (drop result.1 src.now)) }
+        ensures ends { EncodeEndsWith (need self.old) last result.0 (set self.new)
+            (utf16_lossy_chars (drop result.1 src.now)) (length dst.new - result.2) }
+        ensures tight { Tight (coding self.old) result.0 (set self.new)
+            (utf16_lossy_chars (drop result.1 src.now)) (length dst.new - result.2) }
+        ensures enough { bound_at (limits self.old).units (length src.now) ≤ length dst.old
+            → result.0 ≢ EncoderResult.OutputFull }
         ensures limits { limits self.new ≡ limits self.old }
-        ensures need { need self.new ≡ need self.old }
-        ensures moves { Moves (coding self.old) (set self.old) (set self.new) };
-
-    /// The room that is enough.
-    fn room(&self) -> EncodedLength
-        ensures { result ≡ limits self.now };
+        ensures need { need self.new ≡ need self.old };
 
     /// How many bytes are room enough for what `n` units of UTF-16 are encoded to, and for the last escape;
     /// none where that passes a `usize`. References are not counted.
     fn max_buffer_length_from_utf16_without_replacement(&self, n: usize) -> Option<usize>
-        ensures { result ≡ checked (bound_at (limits self.now).units n) }
-    {
-        self.room().units.at(n)
-    }
+        ensures { result ≡ checked (bound_at (limits self.now).units n) };
 
     /// How many bytes are room enough for what `n` bytes of UTF-8 are encoded to, and for the last escape;
     /// none where that passes a `usize`. References are not counted.
     fn max_buffer_length_from_utf8_without_replacement(&self, n: usize) -> Option<usize>
-        ensures { result ≡ checked (bound_at (limits self.now).bytes n) }
-    {
-        self.room().bytes.at(n)
-    }
+        ensures { result ≡ checked (bound_at (limits self.now).bytes n) };
 
     /// Whether an escape to ASCII is still to be written at the end.
     fn has_pending_state(&self) -> bool

@@ -1,16 +1,18 @@
 // A text that is read from its start.
 
-ghost use Rattle.std.specs.Prelude.{◌≡◌, ◌↔◌, IsTrue, ℕ, ◌+◌, ◌<◌, ◌≤◌, Bool, true, false, List, [], ◌∷◌, ◌++◌, length, take, drop, slice_index, MatchOption, IfSome};
+ghost use Rattle.std.specs.Prelude.{◌≡◌, ◌↔◌, IsTrue, ℕ, ◌+◌, ◌-◌, ◌<◌, ◌≤◌, Bool, true, false, List, [], ◌∷◌, ◌++◌, length, take, drop, slice_index, MatchOption, IfSome};
 ghost use Rattle.std.specs.Str.{chars, IsAscii, IsCharBoundary};
-ghost use Rattle.std.specs.Char.{len_utf8, encode_utf8, IsScalar};
+ghost use Rattle.std.specs.Char.{len_utf8, encode_utf8};
 ghost use Rattle.std.specs.Char.Utf16.{utf16_lossy_chars};
 ghost use Rattle.encoding_mem.specs.DecodedLength.{cost_in};
+ghost use Rattle.encoding_mem.specs.EncoderRule.{IsCopied};
 ghost use Rattle.encoding_mem.specs.Text.{IsSecondAscii};
 ghost use Rattle.encoding_mem.specs.Writing.{len_utf16};
 ghost use Rattle.encoding_mem.specs.laws.EncodedLength.{sum_within};
 
 use crate::ascii::ascii_prefix;
 use crate::ascii_copies::copy_basic_latin_to_ascii;
+use crate::scalar::scalar_of;
 
 /// A source of characters: a list of bytes or units, which stays as it is, and an offset in it.
 pub trait Source {
@@ -63,6 +65,17 @@ pub trait Source {
         ensures longest { result < length dst.old
             → (c : ℕ) (rest : List ℕ) → text (drop (offset self.new) (all self.new)) ≡ c ∷ rest → 0x80 ≤ c };
 
+    /// Copies text that is there in UTF-8, whole characters of it, and goes past it. Returns its
+    /// length in bytes. Units of UTF-16 are no such text: of them it copies none.
+    fn copy_text(&mut self, dst: &mut [u8]) -> usize
+        ensures same { all self.new ≡ all self.old }
+        ensures fits { result ≤ length dst.new }
+        ensures behind { drop result dst.new ≡ drop result dst.old }
+        ensures after { offset self.old ≤ offset self.new }
+        ensures bytes { result ≤ offset self.new - offset self.old }
+        ensures text { IsCopied (text (drop (offset self.old) (all self.old))) (take result dst.new)
+            (text (drop (offset self.new) (all self.new))) };
+
     /// How many bytes or units were read. They end between characters.
     fn read(&self) -> usize
         ensures offset { result ≡ offset self.now }
@@ -99,6 +112,17 @@ fn ascii_run(text: &str, most: usize) -> (&str, &str)
 {
     let run = ascii_prefix(&text.as_bytes()[..text.len().min(most)]);
     text.split_at(run.len())
+}
+
+// The longest prefix of whole characters that has at most so many bytes, and what follows.
+#[inline(always)]
+fn whole_characters(text: &str, most: usize) -> (&str, &str)
+    ensures bytes { text.now ≡ result.0.now ++ result.1.now }
+    ensures chars { IsCopied (chars text.now) result.0.now (chars result.1.now) }
+    ensures few { length result.0.now ≤ most }
+    ensures boundary { IsCharBoundary text.now (length result.0.now) }
+{
+    text.split_at(text.floor_char_boundary(most))
 }
 
 /// The characters of a text, read from its start.
@@ -167,21 +191,21 @@ impl<'a> Source for Utf8Source<'a> {
         count
     }
 
+    fn copy_text(&mut self, dst: &mut [u8]) -> usize {
+        let (text, rest) = whole_characters(self.rest, dst.len());
+        let copied = text.len();
+        dst[..copied].copy_from_slice(text.as_bytes());
+        self.rest = rest;
+        self.read += copied;
+        copied
+    }
+
     #[inline(always)]
     fn read(&self) -> usize {
         self.read
     }
 
     ghost within = { λ s. sum_within s.read (length s.rest.now) (length s.text.now) s.sum };
-}
-
-// The character of a code.
-#[inline(always)]
-fn scalar_of(code: u32) -> char
-    requires { IsScalar code }
-    ensures { result ≡ code }
-{
-    unsafe { char::from_u32_unchecked(code) }
 }
 
 // The first character of units, and how many units it has. A surrogate in no pair gives U+FFFD.
@@ -272,6 +296,11 @@ impl<'a> Source for Utf16Source<'a> {
         let count = narrow_ascii(&self.units[self.offset..], dst);
         self.offset += count;
         count
+    }
+
+    #[inline(always)]
+    fn copy_text(&mut self, _dst: &mut [u8]) -> usize {
+        0
     }
 
     #[inline(always)]

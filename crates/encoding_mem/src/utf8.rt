@@ -1,20 +1,20 @@
 ghost use Rattle.std.proofs.Common.{refl, arith};
 ghost use Rattle.std.specs.Prelude.{◌+◌, ◌*◌, ◌≡◌, ℕ, ◌<◌, ◌≤◌, ◌==◌, ◌↔◌, IsTrue, List, [], length, take, min, if◌then◌else◌};
 ghost use Rattle.std.specs.Int.{IsInRange, is_in_range};
-ghost use Rattle.std.specs.Char.{InScalarRange};
 ghost use Rattle.std.specs.Str.{IsUtf8};
 ghost use Rattle.std.specs.Str.Lossy.{utf8_valid_len};
 ghost use Rattle.encoding_mem.specs.DecoderRule.{IsNotLonger};
 ghost use Rattle.encoding_mem.specs.DecodedLength.{decoded_length, decoded_length_utf8};
 ghost use Rattle.encoding_mem.specs.laws.Pieces.{pieces_by-nil, pieces_by-whole, pieces_by-are_pieces};
 ghost use Rattle.encoding_mem.specs.Utf8.{first_piece_utf8, pieces_utf8, scalar_of_two, scalar_of_three, scalar_of_four, second_min, second_max};
-ghost use Rattle.encoding_mem.specs.laws.Utf8Decide.{decide_utf8, utf8_decide_lead, utf8_decide_two, utf8_decide_three, cut_short};
+ghost use Rattle.encoding_mem.specs.laws.Utf8Decide.{decide_utf8, utf8_decide_lead, utf8_decide_two, utf8_decide_three};
 ghost use Rattle.encoding_mem.specs.laws.Utf8.{cuts_utf8};
 
 use crate::decoder_result::DecoderResult;
-use crate::first_piece::{DecoderRule, FirstPiece};
+use crate::first_piece::{DecoderRule, FirstPiece, cut_short};
 use crate::raw_decoder::RawDecoder;
 use crate::room::DecodedLength;
+use crate::scalar::scalar_of;
 use crate::sink::Sink;
 use crate::sink_decoder::{Buffered, SinkDecoder};
 
@@ -134,17 +134,6 @@ fn decide(bytes: &[u8], last: bool) -> FirstPiece
     }
 }
 
-// The bytes that are here may be a prefix of a longer sequence.
-fn cut_short(size: usize, last: bool) -> FirstPiece
-    ensures { result ≡ cut_short size last }
-{
-    if last {
-        FirstPiece::Malformed(size)
-    } else {
-        FirstPiece::More
-    }
-}
-
 fn second_min(b: u8) -> u8
     ensures { result ≡ second_min b }
 {
@@ -193,7 +182,7 @@ fn decide_lead(b: u8, rest: &[u8], last: bool) -> FirstPiece
             if !is_second(b, c) {
                 FirstPiece::Malformed(1)
             } else if b < 0xE0 {
-                FirstPiece::One(char_of((b as u32 - 0xC0) * 64 + (c as u32 - 0x80)), 2)
+                FirstPiece::One(scalar_of((b as u32 - 0xC0) * 64 + (c as u32 - 0x80)), 2)
             } else {
                 decide_two(b, c, rest, last)
             }
@@ -215,7 +204,9 @@ fn decide_two(b: u8, c: u8, rest: &[u8], last: bool) -> FirstPiece
                 FirstPiece::Malformed(2)
             } else if b < 0xF0 {
                 FirstPiece::One(
-                    char_of((b as u32 - 0xE0) * 4096 + (c as u32 - 0x80) * 64 + (d as u32 - 0x80)),
+                    scalar_of(
+                        (b as u32 - 0xE0) * 4096 + (c as u32 - 0x80) * 64 + (d as u32 - 0x80),
+                    ),
                     3,
                 )
             } else {
@@ -240,7 +231,7 @@ fn decide_three(b: u8, c: u8, d: u8, rest: &[u8], last: bool) -> FirstPiece
                 FirstPiece::Malformed(3)
             } else {
                 FirstPiece::One(
-                    char_of(
+                    scalar_of(
                         (b as u32 - 0xF0) * 262144
                             + (c as u32 - 0x80) * 4096
                             + (d as u32 - 0x80) * 64
@@ -251,14 +242,6 @@ fn decide_three(b: u8, c: u8, d: u8, rest: &[u8], last: bool) -> FirstPiece
             }
         }
     }
-}
-
-#[inline(always)]
-fn char_of(code: u32) -> char
-    requires { InScalarRange code }
-    ensures { result ≡ code }
-{
-    unsafe { char::from_u32_unchecked(code) }
 }
 
 /// Decodes UTF-8.

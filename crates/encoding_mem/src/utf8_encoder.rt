@@ -1,24 +1,17 @@
 // The encoder of UTF-8.
 
-ghost use Rattle.std.specs.Prelude.{true, ◌≡◌, ◌≢◌, ℕ, ◌+◌, ◌-◌, ◌<◌, ◌≤◌, length, take, drop};
-ghost use Rattle.std.specs.Str.{chars, IsCharBoundary};
+ghost use Rattle.std.specs.Prelude.{◌≡◌};
 ghost use Rattle.std.specs.Char.{encode_utf8};
-ghost use Rattle.std.specs.Char.Utf16.{utf16_lossy_chars};
-ghost use Rattle.encoding_mem.specs.Encoding.{Encodes, EncodeEndsWith};
-ghost use Rattle.encoding_mem.specs.DecodedLength.{bound_at};
-ghost use Rattle.encoding_mem.specs.EncoderRule.{CopiesAscii};
 ghost use Rattle.encoding_mem.specs.EncodedLength.{encoded_length_utf8};
 ghost use Rattle.encoding_mem.specs.laws.EncodedLength.{utf8_room};
-ghost use Rattle.encoding_mem.specs.Utf8Coding.{utf8_coding, NextIsTooLong};
+ghost use Rattle.encoding_mem.specs.Utf8Coding.{utf8_coding};
 ghost use Rattle.encoding_mem.specs.laws.Utf8Coding.{utf8_coding_laws};
 ghost use Rattle.encoding_mem.specs.declared.form.EscapeState.TheVariants.{Ascii};
 
-use crate::encode::{EncoderRule, encode};
-use crate::encoder_result::EncoderResult;
+use crate::encode::EncoderRule;
 use crate::form::{Bytes, EscapeState, Form};
 use crate::raw_encoder::RawEncoder;
 use crate::room::EncodedLength;
-use crate::source::{Source, Utf16Source};
 
 // The bytes of a character.
 fn bytes_of_char(c: char) -> Bytes
@@ -45,38 +38,8 @@ fn bytes_of_char(c: char) -> Bytes
     }
 }
 
-// What UTF-8 makes of a character.
-#[derive(Clone, Copy, Drop)]
-struct Utf8;
-
-impl EncoderRule for Utf8 {
-    ghost need = { λ _. 4 };
-
-    ghost coding = { λ _. utf8_coding };
-
-    ghost laws = { λ _. utf8_coding_laws };
-
-    ghost limits = { λ _. encoded_length_utf8 };
-
-    ghost fits = { λ _. utf8_room };
-
-    fn step(&self, _set: EscapeState, c: char) -> (EscapeState, Form) {
-        (EscapeState::Ascii, Form::Mapped(bytes_of_char(c)))
-    }
-
-    fn copies_ascii(&self, set: EscapeState) -> bool
-        ensures copies { result ≡ true → CopiesAscii utf8_coding set }
-        ensures ascii { set ≡ Ascii → result ≡ true }
-    {
-        matches!(set, EscapeState::Ascii)
-    }
-
-    fn escape(&self, _from: EscapeState, _to: EscapeState) -> Bytes {
-        Bytes::none()
-    }
-}
-
-/// The encoder of UTF-8. It never returns `Unmappable`, and has no state.
+/// The encoder of UTF-8. It never returns `Unmappable`, and has no state: a call reads the longest prefix of
+/// whole characters whose bytes fit.
 #[derive(Drop)]
 pub struct Utf8Encoder {}
 
@@ -91,7 +54,7 @@ impl Utf8Encoder {
     }
 }
 
-impl RawEncoder for Utf8Encoder {
+impl EncoderRule for Utf8Encoder {
     ghost need = { λ _. 4 };
 
     ghost coding = { λ _. utf8_coding };
@@ -102,58 +65,31 @@ impl RawEncoder for Utf8Encoder {
 
     ghost laws = { λ _. utf8_coding_laws };
 
-    /// Copies the longest prefix of whole characters that fits, at once.
-    fn encode_from_utf8_raw(
-        &mut self,
-        src: &str,
-        dst: &mut [u8],
-        last: bool,
-    ) -> (EncoderResult, usize, usize)
-        ensures read { result.1 ≤ length src.now }
-        ensures boundary { IsCharBoundary src.now result.1 }
-        ensures room { result.2 ≤ length dst.new }
-        ensures behind { drop result.2 dst.new ≡ drop result.2 dst.old }
-        ensures law { Encodes utf8_coding last result.0 Ascii (chars src.now) (take result.2 dst.new) Ascii (chars (drop result.1 src.now)) }
-        ensures enough { bound_at encoded_length_utf8.bytes (length src.now) ≤ length dst.old → result.0 ≢ EncoderResult.OutputFull }
-        ensures answers { EncodeEndsWith 4 last result.0 Ascii (chars (drop result.1 src.now)) (length dst.new - result.2) }
-        ensures copies { take result.2 dst.new ≡ take result.1 src.now }
-        ensures longest { (i : ℕ) → result.1 < i → i ≤ length src.now → i ≤ length dst.new → ¬ (IsCharBoundary src.now i) }
-    {
-        let read = src.floor_char_boundary(dst.len());
-        dst[..read].copy_from_slice(&src.as_bytes()[..read]);
-        if read == src.len() {
-            (EncoderResult::InputEmpty, read, read)
-        } else {
-            (EncoderResult::OutputFull, read, read)
-        }
+    ghost fits = { λ _. utf8_room };
+
+    fn step(&self, _from: EscapeState, c: char) -> (EscapeState, Form) {
+        (EscapeState::Ascii, Form::Mapped(bytes_of_char(c)))
     }
 
-    /// Writes the longest prefix of whole characters that fits.
-    fn encode_from_utf16_raw(
-        &mut self,
-        src: &[u16],
-        dst: &mut [u8],
-        last: bool,
-    ) -> (EncoderResult, usize, usize)
-        ensures read { result.1 ≤ length src.now }
-        ensures room { result.2 ≤ length dst.new }
-        ensures behind { drop result.2 dst.new ≡ drop result.2 dst.old }
-        ensures law { Encodes utf8_coding last result.0 Ascii (utf16_lossy_chars src.now) (take result.2 dst.new) Ascii (utf16_lossy_chars (drop result.1 src.now)) }
-        ensures enough { bound_at encoded_length_utf8.units (length src.now) ≤ length dst.old → result.0 ≢ EncoderResult.OutputFull }
-        ensures answers { EncodeEndsWith 4 last result.0 Ascii (utf16_lossy_chars (drop result.1 src.now)) (length dst.new - result.2) }
-        ensures longest { NextIsTooLong (utf16_lossy_chars (drop result.1 src.now)) (length dst.new - result.2) }
-    {
-        let mut source = Utf16Source::new(src);
-        let mut set = EscapeState::Ascii;
-        let (result, written) = encode(&Utf8, &mut set, &mut source, dst, last);
-        (result, source.read(), written)
+    fn escape(&self, _from: EscapeState, _to: EscapeState) -> Bytes {
+        Bytes::none()
     }
 
-    fn room(&self) -> EncodedLength {
+    fn copies_ascii(&self, from: EscapeState) -> bool {
+        matches!(from, EscapeState::Ascii)
+    }
+
+    fn copies_utf8(&self, from: EscapeState) -> bool {
+        matches!(from, EscapeState::Ascii)
+    }
+
+    fn current_set(&self) -> EscapeState {
+        EscapeState::Ascii
+    }
+
+    fn enter(&mut self, _next: EscapeState) {}
+
+    fn encoded_length(&self) -> EncodedLength {
         EncodedLength::utf8()
-    }
-
-    fn has_pending_state(&self) -> bool {
-        false
     }
 }

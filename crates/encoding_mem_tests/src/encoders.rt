@@ -4,19 +4,31 @@ ghost use Rattle.std.specs.Prelude.{◌≤◌, length};
 ghost use Rattle.encoding_mem.specs.examples.SampleCoding.{sample_coding, sample_room};
 ghost use Rattle.encoding_mem.specs.laws.SampleCoding.{sample_coding_laws, sample_fits};
 
-use encoding_mem::encode::{EncoderRule, encode};
+use encoding_mem::encode::EncoderRule;
 use encoding_mem::form::{Bytes, EscapeState, Form};
-use encoding_mem::source::{Source, Utf8Source, Utf16Source};
+use encoding_mem::room::{Bound, EncodedLength};
+use encoding_mem::source::{Source, Utf8Source};
+use encoding_mem::source_encoder::SourceEncoder;
 use encoding_mem::{EncoderResult, RawEncoder, Utf8Encoder};
 
 // The small target with three sets.
-#[derive(Clone, Copy, Drop)]
-struct Sample;
+#[derive(Drop)]
+struct Sample {
+    set: EscapeState,
+}
+
+fn new_sample() -> Sample {
+    Sample {
+        set: EscapeState::Ascii,
+    }
+}
 
 impl EncoderRule for Sample {
     ghost need = { λ _. 3 };
 
     ghost coding = { λ _. sample_coding };
+
+    ghost set = { λ s. s.set };
 
     ghost limits = { λ _. sample_room };
 
@@ -24,8 +36,8 @@ impl EncoderRule for Sample {
 
     ghost fits = { λ _. sample_fits };
 
-    fn step(&self, set: EscapeState, c: char) -> (EscapeState, Form) {
-        let stays = match set {
+    fn step(&self, from: EscapeState, c: char) -> (EscapeState, Form) {
+        let stays = match from {
             EscapeState::Ascii => EscapeState::Ascii,
             EscapeState::Roman => EscapeState::Roman,
             EscapeState::Jis => EscapeState::Ascii,
@@ -42,8 +54,27 @@ impl EncoderRule for Sample {
         }
     }
 
-    fn copies_ascii(&self, set: EscapeState) -> bool {
-        matches!(set, EscapeState::Ascii | EscapeState::Roman)
+    fn copies_ascii(&self, from: EscapeState) -> bool {
+        matches!(from, EscapeState::Ascii | EscapeState::Roman)
+    }
+
+    fn copies_utf8(&self, _from: EscapeState) -> bool {
+        false
+    }
+
+    fn current_set(&self) -> EscapeState {
+        self.set
+    }
+
+    fn enter(&mut self, next: EscapeState) {
+        self.set = next;
+    }
+
+    fn encoded_length(&self) -> EncodedLength {
+        EncodedLength {
+            units: Bound::new(6, 3),
+            bytes: Bound::new(6, 3),
+        }
     }
 
     fn escape(&self, from: EscapeState, to: EscapeState) -> Bytes {
@@ -126,54 +157,53 @@ fn surrogates_outside_a_pair(rt: HostRuntime) {
 
 #[test]
 fn escapes_into_tiny_rooms(rt: HostRuntime) {
-    let mut set = EscapeState::Ascii;
+    let mut encoder = new_sample();
     let mut source = Utf8Source::new("あé¥a");
     let mut dst = [0xff; 4];
     // between the escape and its character
-    let ended = encode(&Sample, &mut set, &mut source, &mut dst[..3], true);
+    let ended = encoder.encode_from(&mut source, &mut dst[..3], true);
     assert_eq!(rt; ended, (EncoderResult::OutputFull, 3));
-    assert_eq!(rt; (source.read(), set), (0, EscapeState::Jis));
+    assert_eq!(rt; (source.read(), encoder.set), (0, EscapeState::Jis));
     assert_eq!(rt; dst, [0x1b, 0x24, 0x42, 0xff]);
     // before the escape of a character without bytes
-    let ended = encode(&Sample, &mut set, &mut source, &mut dst, true);
+    let ended = encoder.encode_from(&mut source, &mut dst, true);
     assert_eq!(rt; ended, (EncoderResult::OutputFull, 2));
-    assert_eq!(rt; (source.read(), set), (3, EscapeState::Jis));
+    assert_eq!(rt; (source.read(), encoder.set), (3, EscapeState::Jis));
     assert_eq!(rt; dst, [0x24, 0x22, 0x42, 0xff]);
     // the escape before the reference, and no reference
-    let ended = encode(&Sample, &mut set, &mut source, &mut dst[..3], true);
+    let ended = encoder.encode_from(&mut source, &mut dst[..3], true);
     assert_eq!(rt; ended, (EncoderResult::Unmappable('é'), 3));
-    assert_eq!(rt; (source.read(), set), (5, EscapeState::Ascii));
+    assert_eq!(rt; (source.read(), encoder.set), (5, EscapeState::Ascii));
     assert_eq!(rt; dst, [0x1b, 0x28, 0x42, 0xff]);
     // an escape and its character
-    let ended = encode(&Sample, &mut set, &mut source, &mut dst, true);
+    let ended = encoder.encode_from(&mut source, &mut dst, true);
     assert_eq!(rt; ended, (EncoderResult::OutputFull, 4));
-    assert_eq!(rt; (source.read(), set), (7, EscapeState::Roman));
+    assert_eq!(rt; (source.read(), encoder.set), (7, EscapeState::Roman));
     assert_eq!(rt; dst, [0x1b, 0x28, 0x4a, 0x5c]);
     // ASCII in Roman, and no room for the final escape
-    let ended = encode(&Sample, &mut set, &mut source, &mut dst[..3], true);
+    let ended = encoder.encode_from(&mut source, &mut dst[..3], true);
     assert_eq!(rt; ended, (EncoderResult::OutputFull, 1));
-    assert_eq!(rt; (source.read(), set), (8, EscapeState::Roman));
+    assert_eq!(rt; (source.read(), encoder.set), (8, EscapeState::Roman));
     // the final escape
-    let ended = encode(&Sample, &mut set, &mut source, &mut dst[..3], true);
+    let ended = encoder.encode_from(&mut source, &mut dst[..3], true);
     assert_eq!(rt; ended, (EncoderResult::InputEmpty, 3));
-    assert_eq!(rt; (source.read(), set), (8, EscapeState::Ascii));
+    assert_eq!(rt; (source.read(), encoder.set), (8, EscapeState::Ascii));
     assert_eq!(rt; dst, [0x1b, 0x28, 0x42, 0x5c]);
 }
 
 #[test]
 fn escapes_of_units(rt: HostRuntime) {
-    let mut set = EscapeState::Ascii;
+    let mut encoder = new_sample();
     let units = [0x3042, 0xd83d, 0xdca9, 0x61];
-    let mut source = Utf16Source::new(&units);
     let mut dst = [0xff; 16];
-    let ended = encode(&Sample, &mut set, &mut source, &mut dst, true);
-    assert_eq!(rt; ended, (EncoderResult::Unmappable('💩'), 8));
-    assert_eq!(rt; (source.read(), set), (3, EscapeState::Ascii));
+    let ended = encoder.encode_from_utf16_raw(&units, &mut dst, true);
+    assert_eq!(rt; ended, (EncoderResult::Unmappable('💩'), 3, 8));
+    assert!(rt; !encoder.has_pending_state());
     // a call that is not the last leaves the set
-    let mut source = Utf16Source::new(&units[..1]);
-    let ended = encode(&Sample, &mut set, &mut source, &mut dst, false);
-    assert_eq!(rt; ended, (EncoderResult::InputEmpty, 5));
-    assert_eq!(rt; (source.read(), set), (1, EscapeState::Jis));
+    let ended = encoder.encode_from_utf16_raw(&units[..1], &mut dst, false);
+    assert_eq!(rt; ended, (EncoderResult::InputEmpty, 1, 5));
+    assert!(rt; encoder.has_pending_state());
+    assert_eq!(rt; encoder.set, EscapeState::Jis);
 }
 
 #[test]

@@ -1,4 +1,3 @@
-use encoding_mem::decoder_laws::decode_with_events;
 use encoding_mem::{DecoderResult, RawDecoder, Utf8Decoder};
 use std::alloc::AllocError;
 use std::test::Fail;
@@ -78,7 +77,7 @@ fn a_byte_behind_a_malformed_piece_is_pending(rt: HostRuntime) {
     let mut room = [0; 8];
     let answer = decoder.decode_to_utf8_raw(&[0xED], &mut room, false);
     assert_eq!(rt; answer, (DecoderResult::InputEmpty, 1, 0));
-    let answer = decode_with_events(&mut decoder, &[0xA0, 0x61], &mut room, true);
+    let answer = decoder.decode_to_utf8_raw(&[0xA0, 0x61], &mut room, true);
     assert_eq!(rt; answer, (DecoderResult::Malformed(1, 1), 1, 0));
     let answer = decoder.decode_to_utf8_raw(&[0x61], &mut room, true);
     assert_eq!(rt; answer, (DecoderResult::Malformed(1, 0), 0, 0));

@@ -27,5 +27,8 @@ form_of_byte c None = Unmapped c
 form_of_byte c (Some b) = Mapped (b ∷ [])
 
 -- the target in which characters have these bytes
+abbrev pub form_by_byte : (ℕ → Option ℕ) → ℕ → Form
+form_by_byte byte_of c = form_of_byte c (byte_of c)
+
 abbrev pub coding_by_byte : (ℕ → Option ℕ) → Coding
-coding_by_byte byte_of = stateless (λ c. form_of_byte c (byte_of c))
+coding_by_byte byte_of = stateless (form_by_byte byte_of)

@@ -1,6 +1,5 @@
 -- Rows of a pointer and an entry, and the list that they stand for (the Encoding Standard, section 5, "Indexes").
-use Rattle.std.proofs.Common.{refl}
-use Rattle.std.specs.Prelude.{◌≡◌, ℕ, ◌+◌, ◌<◌, List, [], ◌∷◌, length, map, ◌==◌, not, if◌then◌else◌}
+use Rattle.std.specs.Prelude.{ℕ, ◌+◌, ◌<◌, List, [], ◌∷◌, length, map, ◌==◌, not, if◌then◌else◌}
 use Rattle.std.specs.List.{filter, range_with_len}
 use Rattle.encoding_tables.specs.SortedRows.{row_at}
 

@@ -1,6 +1,5 @@
 -- Which rows are taken as ranges, and which row is named in the others.
-use Rattle.std.proofs.Common.{refl}
-use Rattle.std.specs.Prelude.{◌≡◌, ℕ, ◌+◌, ◌-◌, Bool, List, [], ◌∷◌, nat_lt, not, ◌||◌, ◌&&◌, if◌then◌else◌, min, max, Option, None, Some}
+use Rattle.std.specs.Prelude.{ℕ, ◌+◌, ◌-◌, Bool, List, [], ◌∷◌, nat_lt, not, ◌||◌, ◌&&◌, if◌then◌else◌, min, max, Option, None, Some}
 use Rattle.std.specs.Option.{option_or, option_and_then}
 use Rattle.encoding_tables.specs.Ranges.{end_by}
 

@@ -1,6 +1,6 @@
 -- The replacement encoding (the Encoding Standard, section 14.1.1, "replacement decoder"): a stream that is not empty
 -- is one error, and no text.
-use Rattle.std.specs.Prelude.{◌≡◌, ℕ, Bool, true, false, IsTrue, List, [], ◌∷◌, ◌++◌, refl}
+use Rattle.std.specs.Prelude.{◌≡◌, ℕ, Bool, true, false, IsTrue, List, [], ◌∷◌, ◌++◌}
 use Rattle.encoding_mem.specs.Piece.{Piece, well_formed, malformed, malformed_count, text}
 use Rattle.encoding_mem.specs.Decoding.{DecoderState, EndsWith}
 use Rattle.encoding_mem.specs.Pieces.{pieces_in}

@@ -1,11 +1,10 @@
 -- The single-byte encodings, by the list of an index (the Encoding Standard, section 9.1, "single-byte decoder", and
 -- section 9.2, "single-byte encoder").
-use Rattle.std.proofs.Common.{refl}
-use Rattle.std.specs.Prelude.{◌≡◌, ◌≢◌, ℕ, ◌+◌, ◌-◌, ◌<◌, ◌≤◌, ◌==◌, Bool, false, List, [], ◌∷◌, length, nat_lt, if◌then◌else◌, Option, None, Some, replicate, slice_index}
+use Rattle.std.specs.Prelude.{◌≡◌, ◌≢◌, ℕ, ◌+◌, ◌-◌, ◌<◌, ◌≤◌, ◌==◌, Bool, false, List, [], ◌∷◌, length, nat_lt, if◌then◌else◌, Option, None, Some, slice_index}
 use Rattle.std.specs.Option.{option_map}
 use Rattle.encoding_mem.specs.Coding.{Coding}
-use Rattle.encoding_mem.specs.Piece.{Piece, well_formed, malformed}
-use Rattle.encoding_mem.specs.Pieces.{pieces_in, pieces_by}
+use Rattle.encoding_mem.specs.Piece.{Piece, well_formed}
+use Rattle.encoding_mem.specs.Pieces.{pieces_by}
 use Rattle.encoding_tables.specs.EachByte.{first_piece_by_byte, coding_by_byte}
 use Rattle.encoding_tables.specs.Lookups.{value_of, first_pointer}
 

@@ -1,5 +1,4 @@
 -- Rows of two numbers in order: by the first number, and by the second where the first are equal.
-use Rattle.std.proofs.Common.{refl}
 use Rattle.std.specs.Prelude.{◌≡◌, ℕ, ◌+◌, ◌^◌, ◌<◌, ◌≤◌, Bool, true, List, length, nat_lt, ◌==◌, ◌&&◌, ◌||◌, slice_index_or, slice_index}
 
 -- the row at a position

@@ -1,10 +1,10 @@
 -- x-user-defined (the Encoding Standard, section 14.5.1, "x-user-defined decoder", and section 14.5.2, "x-user-defined
 -- encoder").
-use Rattle.std.specs.Prelude.{◌≡◌, ℕ, ◌+◌, ◌-◌, List, [], ◌∷◌, nat_lt, if◌then◌else◌, Option, None, Some, refl}
+use Rattle.std.specs.Prelude.{ℕ, ◌+◌, ◌-◌, List, nat_lt, if◌then◌else◌, Option, None, Some}
 use Rattle.std.specs.Int.{is_in_range}
-use Rattle.encoding_mem.specs.Coding.{Coding, output}
-use Rattle.encoding_mem.specs.Piece.{Piece, well_formed}
-use Rattle.encoding_mem.specs.Pieces.{pieces_in, pieces_by}
+use Rattle.encoding_mem.specs.Coding.{Coding}
+use Rattle.encoding_mem.specs.Piece.{Piece}
+use Rattle.encoding_mem.specs.Pieces.{pieces_by}
 use Rattle.encoding_tables.specs.EachByte.{first_piece_by_byte, coding_by_byte}
 
 -- the character of a byte: ASCII gives itself, and what is above FF is no byte

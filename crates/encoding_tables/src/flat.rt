@@ -1,10 +1,10 @@
 // Look-ups in the list of an index.
 
 ghost use Rattle.std.specs.Prelude.{◌≡◌, ℕ, ◌<◌, List, IfSome};
-ghost use Rattle.std.specs.Char.{InScalarRange};
 ghost use Rattle.encoding_tables.specs.Lookups.{value_of, first_pointer, last_pointer, AreEntries};
 
 use crate::packed_index::PackedIndex;
+use encoding_mem::scalar::scalar_of;
 use std::marker::Model;
 
 /// The list of an index, lent by tables: the scalar at each pointer, and 0 where there is none.
@@ -59,13 +59,4 @@ impl<'a> Flat<'a> {
     {
         self.index.last_pointer(c as u32, from, to)
     }
-}
-
-// The character with a code.
-#[inline(always)]
-pub(crate) fn scalar_of(code: u32) -> char
-    requires { InScalarRange code }
-    ensures { result ≡ code }
-{
-    unsafe { char::from_u32_unchecked(code) }
 }

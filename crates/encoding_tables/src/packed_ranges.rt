@@ -8,8 +8,8 @@ ghost use Rattle.encoding_tables.specs.Ranges.{last_row, range_value, range_poin
 ghost use Rattle.encoding_tables.specs.SortedRows.{AreRising};
 
 use crate::accept_ranges::{BASIC_END, OTHER_END, OTHER_START, end_by};
-use crate::flat::scalar_of;
 use crate::search::search;
+use encoding_mem::scalar::scalar_of;
 use std::alloc::{AllocError, Global};
 use std::marker::Model;
 

@@ -40,9 +40,7 @@ impl DecoderRule for ReplacementRule {
 
     ghost steady = { λ _ _. refl };
 
-    fn first_piece(&self, bytes: &[u8], last: bool) -> FirstPiece {
-        let _ = bytes;
-        let _ = last;
+    fn first_piece(&self, _bytes: &[u8], _last: bool) -> FirstPiece {
         if self.error_returned {
             FirstPiece::Ignored(1)
         } else {
@@ -50,13 +48,11 @@ impl DecoderRule for ReplacementRule {
         }
     }
 
-    fn pass(&mut self, bytes: &[u8]) {
-        let _ = bytes;
+    fn pass(&mut self, _bytes: &[u8]) {
         self.error_returned = true;
     }
 
-    fn text_at<'b>(&self, bytes: &'b [u8]) -> &'b str {
-        let _ = bytes;
+    fn text_at<'b>(&self, _bytes: &'b [u8]) -> &'b str {
         ""
     }
 

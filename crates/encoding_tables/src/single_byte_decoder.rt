@@ -93,15 +93,12 @@ impl<'a> DecoderRule for SingleByteRule<'a> {
     ghost steady = { λ _ _. refl };
 
     #[inline(always)]
-    fn first_piece(&self, bytes: &[u8], last: bool) -> FirstPiece {
-        let _ = last;
+    fn first_piece(&self, bytes: &[u8], _last: bool) -> FirstPiece {
         prefix_of(self.char_of(bytes[0]))
     }
 
     #[inline(always)]
-    fn pass(&mut self, bytes: &[u8]) {
-        let _ = bytes;
-    }
+    fn pass(&mut self, _bytes: &[u8]) {}
 
     #[inline(always)]
     fn text_at<'b>(&self, bytes: &'b [u8]) -> &'b str {

@@ -39,14 +39,11 @@ impl DecoderRule for UserDefinedRule {
 
     ghost steady = { λ _ _. refl };
 
-    fn first_piece(&self, bytes: &[u8], last: bool) -> FirstPiece {
-        let _ = last;
+    fn first_piece(&self, bytes: &[u8], _last: bool) -> FirstPiece {
         FirstPiece::One(char_of(bytes[0]), 1)
     }
 
-    fn pass(&mut self, bytes: &[u8]) {
-        let _ = bytes;
-    }
+    fn pass(&mut self, _bytes: &[u8]) {}
 
     fn text_at<'b>(&self, bytes: &'b [u8]) -> &'b str {
         longer_ascii_prefix(bytes)

@@ -3,17 +3,16 @@
 
 ghost use Rattle.std.proofs.Common.{refl, arith};
 ghost use Rattle.std.specs.Prelude.{◌≡◌, ◌+◌, IsTrue};
-ghost use Rattle.std.specs.Char.{IsScalar};
 ghost use Rattle.std.specs.Char.Utf16.{is_high_surrogate, is_low_surrogate, surrogate_pair_char};
 ghost use Rattle.encoding_mem.specs.laws.Pieces.{pieces_by-nil, pieces_by-whole, pieces_by-are_pieces};
 ghost use Rattle.encoding_mem.specs.DecodedLength.{decoded_length, decoded_length_utf16};
-ghost use Rattle.encoding_mem.specs.laws.Utf8Decide.{cut_short};
 ghost use Rattle.encoding_tables.specs.Utf16.{unit_of, first_piece_utf16, pieces_utf16};
 ghost use Rattle.encoding_tables.specs.laws.Utf16Decide.{decide_utf16, decide_unit, decide_pair};
 ghost use Rattle.encoding_tables.specs.laws.Utf16.{cuts_utf16};
 
-use encoding_mem::first_piece::{DecoderRule, FirstPiece};
+use encoding_mem::first_piece::{DecoderRule, FirstPiece, cut_short};
 use encoding_mem::room::DecodedLength;
+use encoding_mem::scalar::scalar_of;
 use encoding_mem::sink::Sink;
 use encoding_mem::sink_decoder::{Buffered, SinkDecoder};
 use encoding_mem::{DecoderResult, RawDecoder};
@@ -49,13 +48,10 @@ impl DecoderRule for Utf16Rule {
     }
 
     #[inline(always)]
-    fn pass(&mut self, bytes: &[u8]) {
-        let _ = bytes;
-    }
+    fn pass(&mut self, _bytes: &[u8]) {}
 
     #[inline(always)]
-    fn text_at<'b>(&self, bytes: &'b [u8]) -> &'b str {
-        let _ = bytes;
+    fn text_at<'b>(&self, _bytes: &'b [u8]) -> &'b str {
         ""
     }
 
@@ -85,7 +81,7 @@ fn decide_unit(big_endian: bool, unit: u16, rest: &[u8], last: bool) -> FirstPie
     } else if is_low_surrogate(unit) {
         FirstPiece::Malformed(2)
     } else {
-        FirstPiece::One(char_of(u32::from(unit)), 2)
+        FirstPiece::One(scalar_of(u32::from(unit)), 2)
     }
 }
 
@@ -106,18 +102,6 @@ fn decide_pair(big_endian: bool, high: u16, rest: &[u8], last: bool) -> FirstPie
                 FirstPiece::Malformed(2)
             }
         }
-    }
-}
-
-// The bytes that are here may be a prefix of a longer piece.
-#[inline(always)]
-fn cut_short(size: usize, last: bool) -> FirstPiece
-    ensures { result ≡ cut_short size last }
-{
-    if last {
-        FirstPiece::Malformed(size)
-    } else {
-        FirstPiece::More
     }
 }
 
@@ -153,15 +137,7 @@ fn char_of_pair(high: u16, low: u16) -> char
     requires low { IsTrue (is_low_surrogate low) }
     ensures { result ≡ surrogate_pair_char high low }
 {
-    char_of(0x10000 + (high as u32 - 0xD800) * 0x400 + (low as u32 - 0xDC00))
-}
-
-#[inline(always)]
-fn char_of(code: u32) -> char
-    requires { IsScalar code }
-    ensures { result ≡ code }
-{
-    unsafe { char::from_u32_unchecked(code) }
+    scalar_of(0x10000 + (high as u32 - 0xD800) * 0x400 + (low as u32 - 0xDC00))
 }
 
 /// Decodes UTF-16, in either byte order. A surrogate in no pair is malformed, and so are the bytes

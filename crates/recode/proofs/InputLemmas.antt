@@ -3,6 +3,7 @@ use Rattle.std.proofs.Common.{◌≡◌, ℕ, ◌<◌, ◌↔◌, List, [], ◌+
 use Rattle.std.specs.List.{flat_map}
 use Rattle.std.specs.Str.{chars, IsUtf8}
 use Rattle.std.proofs.lemmas.Str.{encodes-chars}
+use Rattle.encoding_mem.specs.declared.reference.Reference.TheVariants.{Decimal}
 use Rattle.encoding_mem.specs.Piece.{text, AreWellFormed}
 use Rattle.encoding_mem.specs.Coding.{AllMapped, output}
 use Rattle.encoding_mem.specs.laws.Encoding.{utf8_output}
@@ -41,7 +42,7 @@ text_is j x kept from u = ap (λ m. marked_pieces j.tables.now m j.from x) kept 
 
 pub kept_output : (j : Job) (x : List ℕ) → j.mark ≡ Keep → IsUtf8Encoding j.from → IsUtf8Encoding j.to → IsUtf8 x → output_of j x ≡ x
 kept_output j x kept from to u =
-    ap (λ e. output e (input_text j x)) (coding_of_utf8 j.tables.now j.to to) ∙ utf8_output (input_text j x)
+    ap (λ e. output Decimal e (input_text j x)) (coding_of_utf8 j.tables.now j.to to) ∙ utf8_output Decimal (input_text j x)
     ∙ ap encode_utf8_all (ap text (text_is j x kept from u) ∙ text_pieces-text (chars x)) ∙ encodes-chars x u
 
 pub kept_log : (j : Job) (x : List ℕ) → j.mark ≡ Keep → IsUtf8Encoding j.from → IsUtf8Encoding j.to → IsUtf8 x → log_of j x ≡ []

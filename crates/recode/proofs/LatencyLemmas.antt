@@ -6,6 +6,7 @@ use Rattle.std.proofs.KnownBytes.{Appends-nil, Appends-trans, Consumes-nil, Cons
 use Rattle.std.proofs.lemmas.Bool.{false≢true}
 use Rattle.std.proofs.lemmas.Grind.{flat_map-append}
 use Rattle.std.proofs.lemmas.List.{append_cancel_right}
+use Rattle.encoding_mem.specs.declared.reference.Reference.TheVariants.{Decimal}
 use Rattle.encoding_mem.specs.Piece.{Piece, well_formed, malformed, sizes, scalars, text, text_of, first, AreWellFormed}
 use Rattle.encoding_mem.specs.Decoding.{DecoderState, IsDecided, Waits}
 use Rattle.encoding_mem.specs.Coding.{Coding, last_set, open_from, whole_from}
@@ -110,16 +111,16 @@ log_bytes-append e offset i offset1 i1 a b at index =
 -- What was written for pieces, where what the others stand for is still to be written.
 module _ (e : Coding) (s s1 : EscapeState) (offset i offset1 i1 : ℕ) (taken qs : List Piece) (written_items : List Item)
     (set_is : s1 ≡ last_set e s (text taken)) (offset_is : offset1 ≡ offset + sizes taken) (index_is : i1 ≡ i + length (text taken))
-    (is : trace_from e s offset i (taken ++ qs) ≡ written_items ++ trace_from e s1 offset1 i1 qs) where
-  paid_output : outputs (tagged written_items) ≡ open_from e s (text taken)
+    (is : trace_from Decimal e s offset i (taken ++ qs) ≡ written_items ++ trace_from Decimal e s1 offset1 i1 qs) where
+  paid_output : outputs (tagged written_items) ≡ open_from Decimal e s (text taken)
   paid_output =
-      let all : open_from e s (text taken) ++ whole_from e s1 (text qs) ≡ outputs (tagged written_items) ++ whole_from e s1 (text qs) =
-      ap (λ (q : EscapeState). open_from e s (text taken) ++ whole_from e q (text qs)) set_is
-      ∙ sym (whole_from-append e s (text taken) (text qs)) ∙ ap (whole_from e s) (sym (text-append taken qs))
+      let all : open_from Decimal e s (text taken) ++ whole_from Decimal e s1 (text qs) ≡ outputs (tagged written_items) ++ whole_from Decimal e s1 (text qs) =
+      ap (λ (q : EscapeState). open_from Decimal e s (text taken) ++ whole_from Decimal e q (text qs)) set_is
+      ∙ sym (whole_from-append e s (text taken) (text qs)) ∙ ap (whole_from Decimal e s) (sym (text-append taken qs))
       ∙ sym (outputs-trace e s offset i (taken ++ qs)) ∙ ap (λ k. outputs (tagged k)) is
-      ∙ ap outputs (tagged-append written_items (trace_from e s1 offset1 i1 qs)) ∙ outputs-append (tagged written_items) (tagged (trace_from e s1 offset1 i1 qs))
+      ∙ ap outputs (tagged-append written_items (trace_from Decimal e s1 offset1 i1 qs)) ∙ outputs-append (tagged written_items) (tagged (trace_from Decimal e s1 offset1 i1 qs))
       ∙ ap (λ x. outputs (tagged written_items) ++ x) (outputs-trace e s1 offset1 i1 qs) in
-      sym (append_cancel_right (open_from e s (text taken)) (outputs (tagged written_items)) (whole_from e s1 (text qs)) all)
+      sym (append_cancel_right (open_from Decimal e s (text taken)) (outputs (tagged written_items)) (whole_from Decimal e s1 (text qs)) all)
 
   paid_lines : lines (tagged written_items) ≡ flat_map line_bytes (log_lines e offset i taken)
   paid_lines =
@@ -127,7 +128,7 @@ module _ (e : Coding) (s s1 : EscapeState) (offset i offset1 i1 : ℕ) (taken qs
       let rest : List ℕ = flat_map line_bytes (log_lines e offset1 i1 qs) in
       let all : own ++ rest ≡ lines (tagged written_items) ++ rest =
       sym (log_bytes-append e offset i offset1 i1 taken qs offset_is index_is) ∙ sym (lines-trace e s offset i (taken ++ qs)) ∙ ap (λ k. lines (tagged k)) is
-      ∙ ap lines (tagged-append written_items (trace_from e s1 offset1 i1 qs)) ∙ lines-append (tagged written_items) (tagged (trace_from e s1 offset1 i1 qs))
+      ∙ ap lines (tagged-append written_items (trace_from Decimal e s1 offset1 i1 qs)) ∙ lines-append (tagged written_items) (tagged (trace_from Decimal e s1 offset1 i1 qs))
       ∙ ap (λ x. lines (tagged written_items) ++ x) (lines-trace e s1 offset1 i1 qs) in
       sym (append_cancel_right own (lines (tagged written_items)) rest all)
 
@@ -144,8 +145,8 @@ settles a b w w1 l l1 d d1 e s s1 c c1 chunk last read_in counted sound pays p s
     let offset1 = c1.read - d1.pending in
     let qs = d1.pieces [] in
     let offset_is : offset1 ≡ offset + sizes p.taken = omega (arith, taken_sizes d d1 chunk p.taken (p.rest []), counted, sound.index) in
-    let is : trace_from e s offset c.index (p.taken ++ qs) ≡ pays.written_items ++ trace_from e s1 offset1 c1.index qs =
-    ap (trace_from e s offset c.index) (sym (p.rest [])) ∙ pays.equals [] (λ _. refl) in
+    let is : trace_from Decimal e s offset c.index (p.taken ++ qs) ≡ pays.written_items ++ trace_from Decimal e s1 offset1 c1.index qs =
+    ap (trace_from Decimal e s offset c.index) (sym (p.rest [])) ∙ pays.equals [] (λ _. refl) in
     record {
       chunk = chunk;
       consumed = read_in;
@@ -180,8 +181,8 @@ stands_on r r1 r2 w w1 w2 l l1 l2 j v v1 x ps k p =
     let coded : v.coding ≡ e = k.coding in
     let offset : v.counts.read - v.decoder.pending ≡ 0 + sizes ps = omega (arith, k.read, k.passed) in
     let index : v.counts.index ≡ 0 + length (text ps) = omega (arith, k.index) in
-    let more : Appends w1 w2 (open_from e (last_set e Ascii (text ps)) (text taken)) =
-    subst (λ (q : EscapeState). Appends w1 w2 (open_from e q (text taken))) k.set (subst (λ (q : Coding). Appends w1 w2 (open_from q v.set (text taken))) coded p.settles.output) in
+    let more : Appends w1 w2 (open_from Decimal e (last_set e Ascii (text ps)) (text taken)) =
+    subst (λ (q : EscapeState). Appends w1 w2 (open_from Decimal e q (text taken))) k.set (subst (λ (q : Coding). Appends w1 w2 (open_from Decimal q v.set (text taken))) coded p.settles.output) in
     let lined : Appends l1 l2 (flat_map line_bytes (log_lines e (v.counts.read - v.decoder.pending) v.counts.index taken)) =
     subst (λ (q : Coding). Appends l1 l2 (flat_map line_bytes (log_lines q (v.counts.read - v.decoder.pending) v.counts.index taken))) coded p.settles.logged in
     record {
@@ -193,7 +194,7 @@ stands_on r r1 r2 w w1 w2 l l1 l2 j v v1 x ps k p =
       set = p.settles.advances.set ∙ ap (λ (q : Coding). last_set q v.set (text taken)) coded ∙ ap (λ (q : EscapeState). last_set e q (text taken)) k.set
           ∙ sym (last_set-append e Ascii (text ps) (text taken)) ∙ ap (last_set e Ascii) (sym joined);
       index = omega (arith, k.index, p.settles.advances.index, ap length joined, length-append (text ps) (text taken));
-      output = subst (Appends w w2) (sym (open_from-append e Ascii (text ps) (text taken)) ∙ ap (open_from e Ascii) (sym joined)) (Appends-trans w w1 w2 _ _ k.output more);
+      output = subst (Appends w w2) (sym (open_from-append e Ascii (text ps) (text taken)) ∙ ap (open_from Decimal e Ascii) (sym joined)) (Appends-trans w w1 w2 _ _ k.output more);
       logged = subst (Appends l l2) (sym (log_bytes-append e 0 0 (v.counts.read - v.decoder.pending) v.counts.index ps taken offset index)) (Appends-trans l l1 l2 _ _ k.logged lined);
     }
 

@@ -4,6 +4,7 @@ use Rattle.std.specs.Str.{chars}
 use Rattle.std.specs.Io.KnownBytes.{Appends}
 use Rattle.std.proofs.lemmas.Bool.{cases_lt, false≢true}
 use Rattle.std.proofs.lemmas.Str.{chars-encodes}
+use Rattle.encoding_mem.specs.declared.reference.Reference.TheVariants.{Decimal}
 use Rattle.encoding_mem.specs.Piece.{text, AreWellFormed, malformed_count}
 use Rattle.encoding_mem.specs.Coding.{output, lost_count}
 use Rattle.encoding_mem.specs.laws.Encoding.{utf8_lost_count}
@@ -27,7 +28,7 @@ pub valid_back : (j : Job) → IsValidJob j → IsValidJob (back j) × IsValidJo
 valid_back j v = (record { tables = v.tables; from = v.to; to = tt; limit = v.limit }, record { tables = v.tables; from = v.from; to = tt; limit = v.limit })
 
 pub reads_back : (j : Job) (x : List ℕ) → Faithful j x → output_of (back j) (output_of j x) ≡ output_of (in_utf8 j) x
-reads_back j x f = ap (output utf8_coding) f.same
+reads_back j x f = ap (output Decimal utf8_coding) f.same
 
 -- nothing is lost of either
 quiet_in_utf8 : (j : Job) (x : List ℕ) → AreWellFormed (input_pieces j x) → log_of (in_utf8 j) x ≡ []
@@ -58,10 +59,10 @@ pub lost_is_unfaithful : (j : Job) (x : List ℕ) → IsValidJob j → KeepsChar
 lost_is_unfaithful j x v k some f = omega (arith, some, none_lost (target_of j) (input_text j x) (kept_where_faithful j x v k f))
 
 -- Decoded at once, and then encoded at once.
-pub same_whole : (j : Job) (x decoded bytes : List ℕ) → IsValidJob j → decoded ≡ encode_utf8_all (marked_text j.tables.now j.mark j.from x) → bytes ≡ output (coding_of j.tables.now j.to) (chars decoded) → bytes ≡ output_of j x
+pub same_whole : (j : Job) (x decoded bytes : List ℕ) → IsValidJob j → decoded ≡ encode_utf8_all (marked_text j.tables.now j.mark j.from x) → bytes ≡ output Decimal (coding_of j.tables.now j.to) (chars decoded) → bytes ≡ output_of j x
 same_whole j x decoded bytes v is written = written ∙ recoded_at_once j.tables.now j.mark j.from j.to x decoded v.tables is
 
-pub same_run : (j : Job) (x decoded bytes : List ℕ) (w w' l l' : Option (List ℕ)) (p : Report) → IsValidJob j → decoded ≡ encode_utf8_all (marked_text j.tables.now j.mark j.from x) → bytes ≡ output (coding_of j.tables.now j.to) (chars decoded)
+pub same_run : (j : Job) (x decoded bytes : List ℕ) (w w' l l' : Option (List ℕ)) (p : Report) → IsValidJob j → decoded ≡ encode_utf8_all (marked_text j.tables.now j.mark j.from x) → bytes ≡ output Decimal (coding_of j.tables.now j.to) (chars decoded)
     → IsConverted w w' l l' j x p → Appends w w' bytes
 same_run j x decoded bytes w w' l l' p v is written k = subst (Appends w w') (sym (same_whole j x decoded bytes v is written)) k.output
 

@@ -4,6 +4,7 @@ use Rattle.std.specs.Io.KnownBytes.{Appends}
 use Rattle.std.specs.List.{flat_map}
 use Rattle.std.specs.Str.{all_scalars}
 use Rattle.std.proofs.lemmas.Bool.{false≢true, eqb-true}
+use Rattle.encoding_mem.specs.declared.reference.Reference.TheVariants.{Decimal}
 use Rattle.encoding_mem.specs.Piece.{Piece, well_formed, malformed, text, text_of, AreWellFormed, IsPiece, ArePieces, malformed_count}
 use Rattle.encoding_mem.specs.Coding.{AllMapped, lost_count}
 use Rattle.encoding_mem.specs.laws.ReadBack.{all_mapped, none_lost}
@@ -65,11 +66,11 @@ text_are_scalars j x v = text_scalars (input_pieces j x) (are_pieces_from j.tabl
 -- nothing was lost where each piece is well-formed and each character has bytes, and only there
 pub faithful_where_kept : (j : Job) (x : List ℕ) → IsValidJob j → KeepsCharacters j.to → AreWellFormed (input_pieces j x) → AllMapped (target_of j) (input_text j x) → Faithful j x
 faithful_where_kept j x v keeps h k =
-    let back = (reads_back_exactly j.tables.now j.to keeps v.tables (input_text j x) (text_are_scalars j x v)).1 k in
+    let back = (reads_back_exactly j.tables.now j.to keeps v.tables Decimal (input_text j x) (text_are_scalars j x v)).1 k in
     record { source = h; target = back.well_formed; same = back.same }
 
 pub kept_where_faithful : (j : Job) (x : List ℕ) → IsValidJob j → KeepsCharacters j.to → Faithful j x → AllMapped (target_of j) (input_text j x)
-kept_where_faithful j x v keeps f = (reads_back_exactly j.tables.now j.to keeps v.tables (input_text j x) (text_are_scalars j x v)).0 (record { well_formed = f.target; same = f.same })
+kept_where_faithful j x v keeps f = (reads_back_exactly j.tables.now j.to keeps v.tables Decimal (input_text j x) (text_are_scalars j x v)).0 (record { well_formed = f.target; same = f.same })
 
 -- the log is empty exactly where each piece is well-formed and each character has bytes
 pub quiet_where_kept : (j : Job) (x : List ℕ) → AreWellFormed (input_pieces j x) → AllMapped (target_of j) (input_text j x) → log_of j x ≡ []

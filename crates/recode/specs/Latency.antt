@@ -2,6 +2,7 @@
 use Rattle.std.specs.Prelude.{◌≡◌, ℕ, ◌+◌, ◌-◌, ◌⊎◌, List, [], ◌++◌, length, Option}
 use Rattle.std.specs.Io.KnownBytes.{Appends, Consumes}
 use Rattle.std.specs.List.{flat_map}
+use Rattle.encoding_mem.specs.declared.reference.Reference.TheVariants.{Decimal}
 use Rattle.encoding_mem.specs.Piece.{Piece, sizes, text}
 use Rattle.encoding_mem.specs.Decoding.{DecoderState, Waits}
 use Rattle.encoding_mem.specs.Coding.{Coding, last_set, open_from}
@@ -32,7 +33,7 @@ pub record ConvertsDecided (reader reader' writer writer' log log' : Option (Lis
   pub consumed : Consumes reader reader' chunk
   pub counted : c'.read ≡ c.read + length chunk
   pub advances : Advances (λ r. d.pieces (chunk ++ r)) d'.pieces e s s' c c'
-  pub output : Appends writer writer' (open_from e s (text advances.taken))
+  pub output : Appends writer writer' (open_from Decimal e s (text advances.taken))
   pub logged : Appends log log' (flat_map line_bytes (log_lines e (c.read - d.pending) c.index advances.taken))
   pub settled : IsNearlyDecided d'
 
@@ -46,7 +47,7 @@ pub record StandsAt (reader reader' writer writer' log log' : Option (List ℕ))
   pub passed : sizes ps + v.decoder.pending ≡ length x
   pub set : v.set ≡ last_set (target_of j) Ascii (text ps)
   pub index : v.counts.index ≡ length (text ps)
-  pub output : Appends writer writer' (open_from (target_of j) Ascii (text ps))
+  pub output : Appends writer writer' (open_from Decimal (target_of j) Ascii (text ps))
   pub logged : Appends log log' (flat_map line_bytes (log_lines (target_of j) 0 0 ps))
 
 -- a step of this session that goes on

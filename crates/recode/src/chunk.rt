@@ -1,5 +1,6 @@
 ghost use Rattle.std.specs.Prelude.{◌≡◌, ℕ, ◌+◌, ◌-◌, ◌^◌, ◌<◌, ◌≤◌, ◌++◌, ◌∷◌, List, [], true, false, take, drop, length, IfOk, OnOk, OnErr};
 ghost use Rattle.recode_log.specs.Counted.{inner_of, failures_of};
+ghost use Rattle.encoding_mem.specs.declared.reference.Reference.TheVariants.{Decimal};
 ghost use Rattle.encoding_mem.specs.Coding.{Coding};
 ghost use Rattle.encoding_mem.specs.Items.{Item, MalformedAt, open_items};
 ghost use Rattle.recode.specs.WrittenItems.{WritesItems, WritesPrefix, WritesItemsFor, WritesPrefixFor};
@@ -51,7 +52,7 @@ fn report_malformed<W: Write, L: Write, E: RawEncoder>(
     requires writer { failures_of writer.old < 2 ^ 64 - 1 }
     requires log { failures_of log.old < 2 ^ 64 - 1 }
     ensures pays { IfOk result (λ c. WritesItems (W.contents (inner_of writer.old)) (W.contents (inner_of writer.new)) (L.contents (inner_of log.old)) (L.contents (inner_of log.new)) counts c
-        (MalformedAt offset size ∷ open_items (E.coding encoder.old) (E.set encoder.old) counts.index (0xFFFD ∷ [])) []) }
+        (MalformedAt offset size ∷ open_items Decimal (E.coding encoder.old) (E.set encoder.old) counts.index (0xFFFD ∷ [])) []) }
     ensures index { IfOk result (λ c. c.index ≡ counts.index + 1) }
     ensures read { IfOk result (λ c. c.read ≡ counts.read) }
     ensures lost { IfOk result (λ c. c.lost ≤ c.index) }
@@ -59,7 +60,7 @@ fn report_malformed<W: Write, L: Write, E: RawEncoder>(
     ensures target { E.coding encoder.new ≡ E.coding encoder.old }
     ensures state { OnOk result (E.set encoder.new ≡ (E.coding encoder.old).set (E.set encoder.old) 0xFFFD) }
     ensures err { OnErr result (WritesPrefix (W.contents (inner_of writer.old)) (W.contents (inner_of writer.new)) (L.contents (inner_of log.old)) (L.contents (inner_of log.new))
-        (MalformedAt offset size ∷ open_items (E.coding encoder.old) (E.set encoder.old) counts.index (0xFFFD ∷ []))) }
+        (MalformedAt offset size ∷ open_items Decimal (E.coding encoder.old) (E.set encoder.old) counts.index (0xFFFD ∷ []))) }
     ensures writer_count { failures_of writer.new ≡ failures_of writer.old + of_writer result }
     ensures reader_count { of_reader result ≡ 0 }
     ensures only_writers { of_other result ≡ 0 }

@@ -1,8 +1,9 @@
 // The calls of codecs over text in a pivot. What form the text has is known here alone, and each call is
 // counted.
 
-ghost use Rattle.std.specs.Prelude.{◌≡◌, ℕ, ◌+◌, ◌-◌, ◌≤◌, ◌++◌, List, [], false, IsTrue, take, drop, length};
-ghost use Rattle.encoding_mem.specs.Decoding.{StateLaw};
+ghost use Rattle.std.specs.Prelude.{◌≡◌, ℕ, ◌+◌, ◌-◌, ◌≤◌, ◌++◌, List, [], false, IsTrue, take, drop, length, encode_utf8_all};
+ghost use Rattle.encoding_mem.specs.Decoding.{EndsWith, StateLaw};
+ghost use Rattle.encoding_mem.specs.Writing.{Adds, encode_utf16_all};
 ghost use Rattle.encoding_mem.specs.Encoding.{Encodes, EncodeEndsWith};
 ghost use Rattle.encoding_front.specs.Stream.{finishes};
 ghost use Rattle.recode.specs.Buffers.{HoldsAnyCharacter, is_wide};
@@ -13,6 +14,9 @@ use crate::buffers::Pivot;
 use crate::characters::count_characters;
 use crate::pivot_text::{PivotText, count_in_units};
 use encoding_front::StreamDecoder;
+use encoding_mem::sink::Sink;
+use encoding_mem::utf8_sink::Utf8Sink;
+use encoding_mem::utf16_sink::Utf16Sink;
 use encoding_mem::{DecoderResult, EncoderResult, RawEncoder};
 
 /// What a call of a decoder did.
@@ -27,26 +31,42 @@ pub struct DecodeCall {
     pub calls: u64,
 }
 
-// Decodes into a pivot. Returns how the call ended, the bytes read and the elements written.
-fn decode_into<D: StreamDecoder>(
+// Decodes to UTF-8. Returns how the call ended, the bytes read and the elements written.
+fn decode_to_bytes<D: StreamDecoder>(
     decoder: &mut D,
     src: &[u8],
-    pivot: &mut Pivot<'_>,
+    dst: &mut [u8],
     last: bool,
 ) -> (DecoderResult, usize, usize)
-    requires pivot { HoldsAnyCharacter pivot.old }
-    requires open_ { (D.view decoder.old).finished ≡ false }
-    ensures law { StateLaw (D.view decoder.old).state (D.view decoder.new).state src.now last result.1 (Holds pivot.new result.2) result.0 }
-    ensures ends { DecodeCallEndsWith (D.view decoder.new).state (drop result.1 src.now) last result.2 result.0 }
+    requires { (D.view decoder.old).finished ≡ false }
+    ensures law { StateLaw (D.view decoder.old).state (D.view decoder.new).state src.now last result.1
+        (λ text. Adds dst.old 0 (encode_utf8_all text) dst.new result.2) result.0 }
+    ensures ends { EndsWith (D.view decoder.new).state (drop result.1 src.now) last (length (drop result.2 dst.new)) 4 3 result.0 }
     ensures source { (r : List ℕ) → (IsTrue last → r ≡ []) → (D.view decoder.old).source (src.now ++ r) ≡ (D.view decoder.new).source (drop result.1 src.now ++ r) }
     ensures finished { (D.view decoder.new).finished ≡ finishes last result.0 }
-    ensures roomy { HoldsAnyCharacter pivot.new }
-    ensures kind { is_wide pivot.new ≡ is_wide pivot.old }
 {
-    match pivot {
-        Pivot::Utf8(bytes) => decoder.decode_to_utf8_without_replacement(src, bytes, last),
-        Pivot::Utf16(units) => decoder.decode_to_utf16_without_replacement(src, units, last),
-    }
+    let mut sink = Utf8Sink::new(dst);
+    let (answer, read) = decoder.decode_into(src, &mut sink, last);
+    (answer, read, sink.written())
+}
+
+// Decodes to UTF-16. Returns how the call ended, the bytes read and the elements written.
+fn decode_to_units<D: StreamDecoder>(
+    decoder: &mut D,
+    src: &[u8],
+    dst: &mut [u16],
+    last: bool,
+) -> (DecoderResult, usize, usize)
+    requires { (D.view decoder.old).finished ≡ false }
+    ensures law { StateLaw (D.view decoder.old).state (D.view decoder.new).state src.now last result.1
+        (λ text. Adds dst.old 0 (encode_utf16_all text) dst.new result.2) result.0 }
+    ensures ends { EndsWith (D.view decoder.new).state (drop result.1 src.now) last (length (drop result.2 dst.new)) 2 1 result.0 }
+    ensures source { (r : List ℕ) → (IsTrue last → r ≡ []) → (D.view decoder.old).source (src.now ++ r) ≡ (D.view decoder.new).source (drop result.1 src.now ++ r) }
+    ensures finished { (D.view decoder.new).finished ≡ finishes last result.0 }
+{
+    let mut sink = Utf16Sink::new(dst);
+    let (answer, read) = decoder.decode_into(src, &mut sink, last);
+    (answer, read, sink.written())
 }
 
 /// One call of a decoder, which writes text to the pivot.
@@ -66,12 +86,26 @@ pub fn decode_some<D: StreamDecoder>(
     ensures roomy { HoldsAnyCharacter pivot.new }
     ensures kind { is_wide pivot.new ≡ is_wide pivot.old }
 {
-    let (answer, read, written) = decode_into(decoder, src, pivot, last);
-    DecodeCall {
-        answer,
-        read,
-        written,
-        calls: calls.saturating_add(1),
+    let calls = calls.saturating_add(1);
+    match pivot {
+        Pivot::Utf8(bytes) => {
+            let (answer, read, written) = decode_to_bytes(decoder, src, bytes, last);
+            DecodeCall {
+                answer,
+                read,
+                written,
+                calls,
+            }
+        }
+        Pivot::Utf16(units) => {
+            let (answer, read, written) = decode_to_units(decoder, src, units, last);
+            DecodeCall {
+                answer,
+                read,
+                written,
+                calls,
+            }
+        }
     }
 }
 
@@ -89,38 +123,6 @@ pub struct EncodeCall<'p> {
     pub calls: u64,
 }
 
-// Encodes a text. Returns how the call ended, the characters read, the bytes written, and the rest.
-fn encode_from<'p, E: RawEncoder>(
-    encoder: &mut E,
-    text: PivotText<'p>,
-    out: &mut [u8],
-    last: bool,
-) -> (EncoderResult, usize, usize, PivotText<'p>)
-    ensures passed { result.1 + length (pivot_chars result.3) ≡ length (pivot_chars text.entry) }
-    ensures room { result.2 ≤ length out.new }
-    ensures target { E.coding encoder.new ≡ E.coding encoder.old }
-    ensures law { Encodes (E.coding encoder.old) last result.0 (E.set encoder.old) (pivot_chars text.entry) (take result.2 out.new) (E.set encoder.new) (pivot_chars result.3) }
-    ensures answers { EncodeEndsWith (E.need encoder.old) last result.0 (E.set encoder.new) (pivot_chars result.3) (length out.new - result.2) }
-{
-    match text {
-        PivotText::Utf8(text) => {
-            let (answer, read, written) = encoder.encode_from_utf8_raw(text, out, last);
-            let characters = count_characters(&text[..read]);
-            (answer, characters, written, PivotText::Utf8(&text[read..]))
-        }
-        PivotText::Utf16(units) => {
-            let (answer, read, written) = encoder.encode_from_utf16_raw(units, out, last);
-            let characters = count_in_units(&units[..read]);
-            (
-                answer,
-                characters,
-                written,
-                PivotText::Utf16(&units[read..]),
-            )
-        }
-    }
-}
-
 /// One call of an encoder, which reads text of a pivot.
 pub fn encode_some<'p, E: RawEncoder>(
     encoder: &mut E,
@@ -133,14 +135,29 @@ pub fn encode_some<'p, E: RawEncoder>(
     ensures room { result.written ≤ length out.new }
     ensures target { E.coding encoder.new ≡ E.coding encoder.old }
     ensures law { Encodes (E.coding encoder.old) last result.answer (E.set encoder.old) (pivot_chars text.entry) (take result.written out.new) (E.set encoder.new) (pivot_chars result.rest) }
-    ensures answers { EncodeEndsWith (E.need encoder.old) last result.answer (E.set encoder.new) (pivot_chars result.rest) (length out.new - result.written) }
+    ensures ends { EncodeEndsWith (E.need encoder.old) last result.answer (E.set encoder.new) (pivot_chars result.rest) (length out.new - result.written) }
 {
-    let (answer, characters, written, rest) = encode_from(encoder, text, out, last);
-    EncodeCall {
-        answer,
-        characters,
-        written,
-        rest,
-        calls: calls.saturating_add(1),
+    let calls = calls.saturating_add(1);
+    match text {
+        PivotText::Utf8(text) => {
+            let (answer, read, written) = encoder.encode_from_utf8_raw(text, out, last);
+            EncodeCall {
+                answer,
+                characters: count_characters(&text[..read]),
+                written,
+                rest: PivotText::Utf8(&text[read..]),
+                calls,
+            }
+        }
+        PivotText::Utf16(units) => {
+            let (answer, read, written) = encoder.encode_from_utf16_raw(units, out, last);
+            EncodeCall {
+                answer,
+                characters: count_in_units(&units[..read]),
+                written,
+                rest: PivotText::Utf16(&units[read..]),
+                calls,
+            }
+        }
     }
 }

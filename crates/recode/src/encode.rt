@@ -1,5 +1,6 @@
 ghost use Rattle.std.specs.Prelude.{◌≡◌, ℕ, ◌+◌, ◌-◌, ◌^◌, ◌<◌, ◌≤◌, ◌++◌, ◌∷◌, List, [], true, false, drop, length, map, IfOk, OnOk, OnErr};
 ghost use Rattle.recode_log.specs.Counted.{inner_of, failures_of};
+ghost use Rattle.encoding_mem.specs.declared.reference.Reference.TheVariants.{Decimal};
 ghost use Rattle.encoding_mem.specs.Coding.{last_set, reference};
 ghost use Rattle.encoding_mem.specs.Items.{Item, LostAt, Byte, whole_items};
 ghost use Rattle.encoding_mem.specs.declared.form.EscapeState.TheVariants.{Ascii};
@@ -40,10 +41,10 @@ fn report_lost<W: Write, L: Write>(
     requires writer { failures_of writer.old < 2 ^ 64 - 1 }
     requires log { failures_of log.old < 2 ^ 64 - 1 }
     ensures pays { IfOk result (λ c. (rest : List Item) → WritesItems (W.contents (inner_of writer.old)) (W.contents (inner_of writer.new)) (L.contents (inner_of log.old)) (L.contents (inner_of log.new)) counts c
-        (LostAt (counts.index - 1) scalar ∷ map Byte (reference scalar) ++ rest) rest) }
+        (LostAt (counts.index - 1) scalar ∷ map Byte (reference Decimal scalar) ++ rest) rest) }
     ensures counts { IfOk result (λ c. c ≡ record counts { lost = counts.lost + 1 }) }
     ensures err { OnErr result ((rest : List Item) → WritesPrefix (W.contents (inner_of writer.old)) (W.contents (inner_of writer.new)) (L.contents (inner_of log.old)) (L.contents (inner_of log.new))
-        (LostAt (counts.index - 1) scalar ∷ map Byte (reference scalar) ++ rest)) }
+        (LostAt (counts.index - 1) scalar ∷ map Byte (reference Decimal scalar) ++ rest)) }
     ensures writer_count { failures_of writer.new ≡ failures_of writer.old + of_writer result }
     ensures reader_count { of_reader result ≡ 0 }
     ensures only_writers { of_other result ≡ 0 }
@@ -75,8 +76,8 @@ pub fn encode_once<'p, W: Write, L: Write, E: RawEncoder>(
     requires log { failures_of log.old < 2 ^ 64 - 1 }
 
     ensures pays { IfOk result (λ p. WritesItems (W.contents (inner_of writer.old)) (W.contents (inner_of writer.new)) (L.contents (inner_of log.old)) (L.contents (inner_of log.new)) counts p.counts
-        (whole_items (E.coding encoder.old) last (E.set encoder.old) counts.index (pivot_chars text.entry))
-        (whole_items (E.coding encoder.old) last (E.set encoder.new) p.counts.index (pivot_chars p.rest))) }
+        (whole_items Decimal (E.coding encoder.old) last (E.set encoder.old) counts.index (pivot_chars text.entry))
+        (whole_items Decimal (E.coding encoder.old) last (E.set encoder.new) p.counts.index (pivot_chars p.rest))) }
     ensures passed { IfOk result (λ p. p.counts.index + length (pivot_chars p.rest) ≡ counts.index + length (pivot_chars text.entry)) }
     ensures lost { IfOk result (λ p. p.counts.lost ≤ p.counts.index) }
     ensures bad { IfOk result (λ p. p.counts.bad ≡ counts.bad) }
@@ -84,10 +85,10 @@ pub fn encode_once<'p, W: Write, L: Write, E: RawEncoder>(
     ensures target { E.coding encoder.new ≡ E.coding encoder.old }
     ensures state { IfOk result (λ p. last ≡ false → last_set (E.coding encoder.old) (E.set encoder.old) (pivot_chars text.entry) ≡ last_set (E.coding encoder.old) (E.set encoder.new) (pivot_chars p.rest)) }
     ensures done { IfOk result (λ p. p.is_done ≡ true → (pivot_chars p.rest ≡ []) × (last ≡ true → E.set encoder.new ≡ Ascii)) }
-    ensures more { IfOk result (λ p. p.is_done ≡ false → length (whole_items (E.coding encoder.old) last (E.set encoder.new) p.counts.index (pivot_chars p.rest))
-        < length (whole_items (E.coding encoder.old) last (E.set encoder.old) counts.index (pivot_chars text.entry))) }
+    ensures more { IfOk result (λ p. p.is_done ≡ false → length (whole_items Decimal (E.coding encoder.old) last (E.set encoder.new) p.counts.index (pivot_chars p.rest))
+        < length (whole_items Decimal (E.coding encoder.old) last (E.set encoder.old) counts.index (pivot_chars text.entry))) }
     ensures err { OnErr result (WritesPrefix (W.contents (inner_of writer.old)) (W.contents (inner_of writer.new)) (L.contents (inner_of log.old)) (L.contents (inner_of log.new))
-        (whole_items (E.coding encoder.old) last (E.set encoder.old) counts.index (pivot_chars text.entry))) }
+        (whole_items Decimal (E.coding encoder.old) last (E.set encoder.old) counts.index (pivot_chars text.entry))) }
     ensures writer_count { failures_of writer.new ≡ failures_of writer.old + of_writer result }
     ensures reader_count { of_reader result ≡ 0 }
     ensures only_writers { of_other result ≡ 0 }
@@ -139,7 +140,7 @@ pub fn encode_all<W: Write, L: Write, E: RawEncoder>(
     requires log { failures_of log.old < 2 ^ 64 - 1 }
 
     ensures pays { IfOk result (λ c. WritesItems (W.contents (inner_of writer.old)) (W.contents (inner_of writer.new)) (L.contents (inner_of log.old)) (L.contents (inner_of log.new)) counts c
-        (whole_items (E.coding encoder.old) last (E.set encoder.old) counts.index (pivot_chars text.entry)) []) }
+        (whole_items Decimal (E.coding encoder.old) last (E.set encoder.old) counts.index (pivot_chars text.entry)) []) }
     ensures passed { IfOk result (λ c. c.index ≡ counts.index + length (pivot_chars text.entry)) }
     ensures lost { IfOk result (λ c. c.lost ≤ c.index) }
     ensures bad { IfOk result (λ c. c.bad ≡ counts.bad) }
@@ -148,7 +149,7 @@ pub fn encode_all<W: Write, L: Write, E: RawEncoder>(
     ensures state { OnOk result (last ≡ false → E.set encoder.new ≡ last_set (E.coding encoder.old) (E.set encoder.old) (pivot_chars text.entry)) }
     ensures closed { OnOk result (last ≡ true → E.set encoder.new ≡ Ascii) }
     ensures err { OnErr result (WritesPrefix (W.contents (inner_of writer.old)) (W.contents (inner_of writer.new)) (L.contents (inner_of log.old)) (L.contents (inner_of log.new))
-        (whole_items (E.coding encoder.old) last (E.set encoder.old) counts.index (pivot_chars text.entry))) }
+        (whole_items Decimal (E.coding encoder.old) last (E.set encoder.old) counts.index (pivot_chars text.entry))) }
     ensures writer_count { failures_of writer.new ≡ failures_of writer.old + of_writer result }
     ensures reader_count { of_reader result ≡ 0 }
     ensures only_writers { of_other result ≡ 0 }

@@ -4,6 +4,7 @@ ghost use Rattle.std.specs.Prelude.{◌≡◌, ◌↔◌, ◌<◌, ◌≤◌, �
 ghost use Rattle.std.specs.List.{concat};
 ghost use Rattle.std.specs.Str.{chars, IsUtf8};
 ghost use Rattle.std.specs.Io.KnownBytes.{Appends};
+ghost use Rattle.encoding_mem.specs.declared.reference.Reference.TheVariants.{Decimal};
 ghost use Rattle.encoding_mem.specs.Piece.{AreWellFormed, ArePieces, malformed_count, piece_len, sizes};
 ghost use Rattle.encoding_mem.specs.Coding.{AllMapped, lost_count, output};
 ghost use Rattle.encoding_front.specs.Encodings.{IsUtf8Encoding, KeepsCharacters, coding_of, output_encoding_of};
@@ -92,7 +93,7 @@ pub fn lost_is_unfaithful()
 /// What is decoded at once and then encoded at once is what a run writes that ends well, with the same handling of
 /// marks: `decode` and `encode` give the output. Its log is empty exactly where neither told a loss.
 pub fn whole_texts_are_the_same()
-    ensures bytes { (j : Job) (x decoded bytes : List ℕ) → IsValidJob j → decoded ≡ encode_utf8_all (marked_text j.tables.now j.mark j.from x) → bytes ≡ output (coding_of j.tables.now j.to) (chars decoded) → bytes ≡ output_of j x }
-    ensures run { (j : Job) (x decoded bytes : List ℕ) (w w' l l' : Option (List ℕ)) (p : Report) → IsValidJob j → decoded ≡ encode_utf8_all (marked_text j.tables.now j.mark j.from x) → bytes ≡ output (coding_of j.tables.now j.to) (chars decoded) → IsConverted w w' l l' j x p → Appends w w' bytes }
+    ensures bytes { (j : Job) (x decoded bytes : List ℕ) → IsValidJob j → decoded ≡ encode_utf8_all (marked_text j.tables.now j.mark j.from x) → bytes ≡ output Decimal (coding_of j.tables.now j.to) (chars decoded) → bytes ≡ output_of j x }
+    ensures run { (j : Job) (x decoded bytes : List ℕ) (w w' l l' : Option (List ℕ)) (p : Report) → IsValidJob j → decoded ≡ encode_utf8_all (marked_text j.tables.now j.mark j.from x) → bytes ≡ output Decimal (coding_of j.tables.now j.to) (chars decoded) → IsConverted w w' l l' j x p → Appends w w' bytes }
     ensures log { (j : Job) (x decoded : List ℕ) (malformed lost : Bool) → IsValidJob j → decoded ≡ encode_utf8_all (marked_text j.tables.now j.mark j.from x) → IsTrue malformed ↔ (0 < malformed_count (marked_pieces j.tables.now j.mark j.from x)) → IsTrue lost ↔ (0 < lost_count (coding_of j.tables.now j.to) (chars decoded)) → (log_of j x ≡ []) ↔ (IsFalse malformed × IsFalse lost) }
 {}

@@ -1,5 +1,6 @@
 ghost use Rattle.std.specs.Prelude.{◌≡◌, ℕ, ◌+◌, ◌-◌, ◌^◌, ◌<◌, ◌≤◌, length, take, OnOk, OnErr, IfErr};
 ghost use Rattle.std.specs.Io.KnownBytes.{Appends};
+ghost use Rattle.encoding_mem.specs.declared.reference.Reference.TheVariants.{Decimal};
 ghost use Rattle.encoding_mem.specs.Coding.{reference};
 ghost use Rattle.recode_log.specs.Counted.{inner_of, failures_of};
 ghost use Rattle.recode_log.specs.Line.{IsValid, line_bytes};
@@ -29,9 +30,9 @@ pub fn log_line<L: Write>(log: &mut Counted<L>, line: LogLine) -> Result<(), Fau
 /// Writes the reference of a character that has no bytes, all of it or a prefix.
 pub fn put_reference<W: Write>(writer: &mut Counted<W>, c: char) -> Result<(), Fault>
     requires { failures_of writer.old < 2 ^ 64 - 1 }
-    ensures ok { OnOk result (Appends (W.contents (inner_of writer.old)) (W.contents (inner_of writer.new)) (reference c)
+    ensures ok { OnOk result (Appends (W.contents (inner_of writer.old)) (W.contents (inner_of writer.new)) (reference Decimal c)
         × (failures_of writer.new ≡ failures_of writer.old)) }
-    ensures err { OnErr result ((n : ℕ) × Appends (W.contents (inner_of writer.old)) (W.contents (inner_of writer.new)) (take n (reference c))
+    ensures err { OnErr result ((n : ℕ) × Appends (W.contents (inner_of writer.old)) (W.contents (inner_of writer.new)) (take n (reference Decimal c))
         × (failures_of writer.new ≡ failures_of writer.old + 1)) }
     ensures fault { IfErr result (λ f. f ≡ Fault.Write) }
 {

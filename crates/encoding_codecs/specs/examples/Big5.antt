@@ -1,19 +1,8 @@
 -- Worked rows of `specs/Big5.antt`.
-use Rattle.std.specs.Prelude.{◌≡◌, ℕ, ◌+◌, ◌-◌, ◌*◌, ◌/◌, ◌%◌, ◌==◌, ◌||◌, Bool, List, [], ◌∷◌, ◌++◌, nat_lt, if◌then◌else◌, refl, replicate, Option, map}
-use Rattle.std.specs.Int.{is_in_range}
-use Rattle.encoding_mem.specs.Coding.{Coding}
-use Rattle.encoding_mem.specs.Piece.{Piece, well_formed, malformed}
-use Rattle.encoding_mem.specs.Pieces.{pieces_in, pieces_by}
-use Rattle.encoding_mem.specs.Stateless.{stateless}
-use Rattle.encoding_mem.specs.declared.form.Form.{Form}
+use Rattle.std.specs.Prelude.{◌≡◌, ℕ, List, [], ◌∷◌, ◌++◌, refl, replicate, map}
+use Rattle.encoding_mem.specs.Piece.{well_formed, malformed}
+use Rattle.encoding_mem.specs.Pieces.{pieces_in}
 use Rattle.encoding_mem.specs.declared.form.Form.TheVariants.{Mapped, Unmapped}
-use Rattle.encoding_tables.specs.Lookups.{value_of, first_pointer, last_pointer}
-use Rattle.encoding_codecs.specs.TwoByte.{TwoByteRule, first_piece_two_byte}
-use Rattle.encoding_codecs.specs.Pointers.{value_of_entry, form_by_pointer}
-use Rattle.encoding_codecs.specs.declared.lead_byte_rule.FirstByte.{FirstByte}
-use Rattle.encoding_codecs.specs.declared.lead_byte_rule.FirstByte.TheVariants.{Lead, Unused}
-use Rattle.encoding_codecs.specs.declared.two_byte.PairValue.{PairValue}
-use Rattle.encoding_codecs.specs.declared.two_byte.PairValue.TheVariants.{NoChar, TwoChars}
 use Rattle.encoding_codecs.specs.Big5.{big5_pointer, pieces_big5, big5_bytes, big5_form}
 
 -- 88 62, 88 64, 88 A3 and 88 A5 are the four pointers, also where an index maps nothing

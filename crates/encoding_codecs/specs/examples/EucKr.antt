@@ -1,19 +1,8 @@
 -- Worked rows of `specs/EucKr.antt`.
-use Rattle.std.specs.Prelude.{◌≡◌, ℕ, ◌+◌, ◌-◌, ◌*◌, ◌/◌, ◌%◌, List, [], ◌∷◌, if◌then◌else◌, refl, map, replicate, ◌++◌}
-use Rattle.std.specs.Int.{is_in_range}
-use Rattle.encoding_mem.specs.Coding.{Coding}
-use Rattle.encoding_mem.specs.Piece.{Piece, well_formed, malformed}
-use Rattle.encoding_mem.specs.Pieces.{pieces_in, pieces_by}
-use Rattle.encoding_mem.specs.Stateless.{stateless}
-use Rattle.encoding_mem.specs.declared.form.Form.{Form}
+use Rattle.std.specs.Prelude.{◌≡◌, ℕ, List, [], ◌∷◌, refl, map, replicate, ◌++◌}
+use Rattle.encoding_mem.specs.Piece.{well_formed, malformed}
+use Rattle.encoding_mem.specs.Pieces.{pieces_in}
 use Rattle.encoding_mem.specs.declared.form.Form.TheVariants.{Mapped, Unmapped}
-use Rattle.encoding_tables.specs.Lookups.{value_of, first_pointer}
-use Rattle.encoding_codecs.specs.TwoByte.{TwoByteRule, first_piece_two_byte}
-use Rattle.encoding_codecs.specs.Pointers.{value_of_entry, form_by_pointer}
-use Rattle.encoding_codecs.specs.declared.lead_byte_rule.FirstByte.{FirstByte}
-use Rattle.encoding_codecs.specs.declared.lead_byte_rule.FirstByte.TheVariants.{Lead, Unused}
-use Rattle.encoding_codecs.specs.declared.two_byte.PairValue.{PairValue}
-use Rattle.encoding_codecs.specs.declared.two_byte.PairValue.TheVariants.{NoChar}
 use Rattle.encoding_codecs.specs.EucKr.{euc_kr_pointer, pieces_euc_kr, euc_kr_bytes, euc_kr_form}
 
 -- a list for examples, of the first trails of the lead 81: U+AC02 at 41 and 43, nothing at 42

@@ -1,16 +1,7 @@
 -- Worked rows of `specs/Gb18030.antt`.
-use Rattle.std.specs.Prelude.{◌≡◌, ℕ, ◌+◌, ◌-◌, ◌*◌, ◌==◌, ◌||◌, List, [], ◌∷◌, nat_lt, if◌then◌else◌, Option, None, Some, refl, replicate, ◌++◌}
-use Rattle.std.specs.Int.{is_in_range}
-use Rattle.encoding_mem.specs.Piece.{Piece, well_formed, malformed}
-use Rattle.encoding_mem.specs.Pieces.{pieces_in, pieces_by}
-use Rattle.encoding_tables.specs.Lookups.{value_of}
-use Rattle.encoding_tables.specs.Ranges.{range_value}
-use Rattle.encoding_codecs.specs.Pointers.{value_of_entry}
-use Rattle.encoding_codecs.specs.TwoByte.{first_piece_by_lead, piece_of_trail}
-use Rattle.encoding_codecs.specs.declared.lead_byte_rule.FirstByte.{FirstByte}
-use Rattle.encoding_codecs.specs.declared.lead_byte_rule.FirstByte.TheVariants.{Alone, Lead, Unused}
-use Rattle.encoding_codecs.specs.declared.two_byte.PairValue.{PairValue}
-use Rattle.encoding_codecs.specs.declared.two_byte.PairValue.TheVariants.{NoChar}
+use Rattle.std.specs.Prelude.{◌≡◌, ℕ, List, [], ◌∷◌, refl, replicate, ◌++◌}
+use Rattle.encoding_mem.specs.Piece.{well_formed, malformed}
+use Rattle.encoding_mem.specs.Pieces.{pieces_in}
 use Rattle.encoding_codecs.specs.Gb18030.{pieces_gb18030, sample_flat, sample_rows}
 
 alone : pieces_gb18030 sample_flat sample_rows (0x41 ∷ 0x80 ∷ 0xFF ∷ []) ≡ well_formed 1 (0x41 ∷ []) ∷ well_formed 1 (0x20AC ∷ []) ∷ malformed 1 ∷ []

@@ -1,17 +1,9 @@
 -- Worked rows of `specs/Gb18030Coding.antt`.
-use Rattle.std.specs.Prelude.{◌≡◌, ℕ, ◌+◌, ◌/◌, ◌%◌, ◌==◌, ◌&&◌, not, Bool, true, false, List, [], ◌∷◌, nat_lt, if◌then◌else◌, Option, None, Some, refl, map, replicate, ◌++◌}
-use Rattle.std.specs.List.{find}
-use Rattle.std.specs.Option.{option_map, option_or}
-use Rattle.encoding_mem.specs.EncodedLength.{encoded_length_gb18030, encoded_length_two_byte, bound_for}
-use Rattle.encoding_mem.specs.declared.room.EncodedLength.{EncodedLength}
-use Rattle.encoding_mem.specs.Coding.{Coding}
-use Rattle.encoding_mem.specs.Stateless.{stateless}
+use Rattle.std.specs.Prelude.{◌≡◌, ℕ, Bool, true, false, List, [], ◌∷◌, refl, map, replicate, ◌++◌}
+use Rattle.encoding_mem.specs.EncodedLength.{bound_for}
 use Rattle.encoding_mem.specs.declared.form.Form.{Form}
 use Rattle.encoding_mem.specs.declared.form.Form.TheVariants.{Mapped, Unmapped}
-use Rattle.encoding_tables.specs.Lookups.{first_pointer}
-use Rattle.encoding_tables.specs.Ranges.{range_pointer}
 use Rattle.encoding_codecs.specs.Gb18030.{sample_flat, sample_rows}
-use Rattle.encoding_codecs.specs.Pointers.{form_of_bytes}
 use Rattle.encoding_codecs.specs.Gb18030Coding.{gb18030_pair_bytes, gb18030_form, four_bytes, gb18030_need, gb18030_encoded_length}
 use Rattle.encoding_mem.specs.DecodedLength.{bound_at}
 

@@ -1,5 +1,6 @@
 -- Examples of ISO-2022-JP, worked by hand.
 use Rattle.std.specs.Prelude.{◌≡◌, ℕ, List, [], ◌∷◌, ◌++◌, replicate, refl, map}
+use Rattle.encoding_mem.specs.declared.reference.Reference.TheVariants.{Decimal}
 use Rattle.encoding_mem.specs.Coding.{output, open_from}
 use Rattle.encoding_mem.specs.Piece.{well_formed, malformed}
 use Rattle.encoding_mem.specs.Pieces.{pieces_in}
@@ -60,10 +61,10 @@ shift_out = refl
 
 -- ---- forms
 
-yen_sign : output (iso_2022_jp_coding jis0208 katakana) (0xA5 ∷ []) ≡ 0x1B ∷ 0x28 ∷ 0x4A ∷ 0x5C ∷ 0x1B ∷ 0x28 ∷ 0x42 ∷ []
+yen_sign : output Decimal (iso_2022_jp_coding jis0208 katakana) (0xA5 ∷ []) ≡ 0x1B ∷ 0x28 ∷ 0x4A ∷ 0x5C ∷ 0x1B ∷ 0x28 ∷ 0x42 ∷ []
 yen_sign = refl
 
-half_width_katakana : output (iso_2022_jp_coding jis0208 katakana) (0xFF61 ∷ []) ≡ 0x1B ∷ 0x24 ∷ 0x42 ∷ 0x21 ∷ 0x23 ∷ 0x1B ∷ 0x28 ∷ 0x42 ∷ []
+half_width_katakana : output Decimal (iso_2022_jp_coding jis0208 katakana) (0xFF61 ∷ []) ≡ 0x1B ∷ 0x24 ∷ 0x42 ∷ 0x21 ∷ 0x23 ∷ 0x1B ∷ 0x28 ∷ 0x42 ∷ []
 unfolding jis0208 katakana
 half_width_katakana = refl
 
@@ -79,7 +80,7 @@ shift_out_is_lost : iso_2022_jp_form jis0208 katakana 0x0E ≡ Unmapped 0xFFFD
 shift_out_is_lost = refl
 
 -- Roman stays where it may: at 5C it has another character
-roman_stays : open_from (iso_2022_jp_coding jis0208 katakana) Roman (0x41 ∷ 0x5C ∷ []) ≡ 0x41 ∷ 0x1B ∷ 0x28 ∷ 0x42 ∷ 0x5C ∷ []
+roman_stays : open_from Decimal (iso_2022_jp_coding jis0208 katakana) Roman (0x41 ∷ 0x5C ∷ []) ≡ 0x41 ∷ 0x1B ∷ 0x28 ∷ 0x42 ∷ 0x5C ∷ []
 roman_stays = refl
 
 -- what is lost is reported in ASCII or in Roman
@@ -153,7 +154,7 @@ other_escapes = refl
 
 -- ---- what is written
 
-overline : output (iso_2022_jp_coding [] []) (0x203E ∷ []) ≡ 0x1B ∷ 0x28 ∷ 0x4A ∷ 0x7E ∷ 0x1B ∷ 0x28 ∷ 0x42 ∷ []
+overline : output Decimal (iso_2022_jp_coding [] []) (0x203E ∷ []) ≡ 0x1B ∷ 0x28 ∷ 0x4A ∷ 0x7E ∷ 0x1B ∷ 0x28 ∷ 0x42 ∷ []
 overline = refl
 
 -- U+000E, U+000F and U+001B are unmappable, and reported as U+FFFD
@@ -166,24 +167,24 @@ no_form : map (iso_2022_jp_form [] []) (0x80 ∷ 0xA4 ∷ 0xA6 ∷ 0x203D ∷ 0x
 no_form = refl
 
 -- from Roman only U+005C and U+007E go to ASCII; from JIS each does
-from_roman : map (λ c. open_from (iso_2022_jp_coding [] []) Roman (c ∷ [])) (0x5B ∷ 0x5C ∷ 0x5D ∷ 0x7D ∷ 0x7E ∷ 0x7F ∷ [])
+from_roman : map (λ c. open_from Decimal (iso_2022_jp_coding [] []) Roman (c ∷ [])) (0x5B ∷ 0x5C ∷ 0x5D ∷ 0x7D ∷ 0x7E ∷ 0x7F ∷ [])
     ≡ (0x5B ∷ []) ∷ (0x1B ∷ 0x28 ∷ 0x42 ∷ 0x5C ∷ []) ∷ (0x5D ∷ []) ∷ (0x7D ∷ []) ∷ (0x1B ∷ 0x28 ∷ 0x42 ∷ 0x7E ∷ []) ∷ (0x7F ∷ []) ∷ []
 from_roman = refl
 
-from_jis : map (λ c. open_from (iso_2022_jp_coding [] []) Jis (c ∷ [])) (0x5B ∷ 0x5C ∷ 0x7E ∷ 0xA5 ∷ 0x203E ∷ [])
+from_jis : map (λ c. open_from Decimal (iso_2022_jp_coding [] []) Jis (c ∷ [])) (0x5B ∷ 0x5C ∷ 0x7E ∷ 0xA5 ∷ 0x203E ∷ [])
     ≡ (0x1B ∷ 0x28 ∷ 0x42 ∷ 0x5B ∷ []) ∷ (0x1B ∷ 0x28 ∷ 0x42 ∷ 0x5C ∷ []) ∷ (0x1B ∷ 0x28 ∷ 0x42 ∷ 0x7E ∷ []) ∷ (0x1B ∷ 0x28 ∷ 0x4A ∷ 0x5C ∷ []) ∷ (0x1B ∷ 0x28 ∷ 0x4A ∷ 0x7E ∷ []) ∷ []
 from_jis = refl
 
 -- U+00A5 and U+203E stay in Roman, a pair stays in JIS; ASCII needs no escape in ASCII
-no_escapes : (open_from (iso_2022_jp_coding [] []) Roman (0xA5 ∷ 0x203E ∷ []) ≡ 0x5C ∷ 0x7E ∷ [])
-    × (open_from (iso_2022_jp_coding corners []) Jis (0x3000 ∷ 0x25C7 ∷ []) ≡ 0x21 ∷ 0x21 ∷ 0x21 ∷ 0x7E ∷ [])
-    × (output (iso_2022_jp_coding [] []) (0x5C ∷ 0x7E ∷ []) ≡ 0x5C ∷ 0x7E ∷ [])
+no_escapes : (open_from Decimal (iso_2022_jp_coding [] []) Roman (0xA5 ∷ 0x203E ∷ []) ≡ 0x5C ∷ 0x7E ∷ [])
+    × (open_from Decimal (iso_2022_jp_coding corners []) Jis (0x3000 ∷ 0x25C7 ∷ []) ≡ 0x21 ∷ 0x21 ∷ 0x21 ∷ 0x7E ∷ [])
+    × (output Decimal (iso_2022_jp_coding [] []) (0x5C ∷ 0x7E ∷ []) ≡ 0x5C ∷ 0x7E ∷ [])
 unfolding corners
 no_escapes = (refl, refl, refl)
 
 -- pairs from ASCII and from Roman
-to_pairs : (open_from (iso_2022_jp_coding corners []) Ascii (0x3000 ∷ []) ≡ 0x1B ∷ 0x24 ∷ 0x42 ∷ 0x21 ∷ 0x21 ∷ [])
-    × (open_from (iso_2022_jp_coding corners []) Roman (0x3000 ∷ []) ≡ 0x1B ∷ 0x24 ∷ 0x42 ∷ 0x21 ∷ 0x21 ∷ [])
+to_pairs : (open_from Decimal (iso_2022_jp_coding corners []) Ascii (0x3000 ∷ []) ≡ 0x1B ∷ 0x24 ∷ 0x42 ∷ 0x21 ∷ 0x21 ∷ [])
+    × (open_from Decimal (iso_2022_jp_coding corners []) Roman (0x3000 ∷ []) ≡ 0x1B ∷ 0x24 ∷ 0x42 ∷ 0x21 ∷ 0x21 ∷ [])
 unfolding corners
 to_pairs = (refl, refl)
 

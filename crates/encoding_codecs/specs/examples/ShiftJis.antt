@@ -1,22 +1,9 @@
 -- Worked rows of `specs/ShiftJis.antt`.
-use Rattle.std.specs.Prelude.{◌≡◌, ℕ, ◌+◌, ◌-◌, ◌*◌, ◌/◌, ◌%◌, ◌==◌, ◌||◌, Bool, List, [], ◌∷◌, ◌++◌, nat_lt, if◌then◌else◌, Option, None, Some, replicate, map}
+use Rattle.std.specs.Prelude.{◌≡◌, ℕ, List, [], ◌∷◌, ◌++◌, Some, replicate, map}
 use Rattle.std.proofs.Common.{refl}
-use Rattle.std.specs.Int.{is_in_range}
-use Rattle.std.specs.Option.{option_map, option_or}
-use Rattle.encoding_mem.specs.Coding.{Coding}
-use Rattle.encoding_mem.specs.Piece.{Piece, well_formed, malformed}
-use Rattle.encoding_mem.specs.Pieces.{pieces_in, pieces_by}
-use Rattle.encoding_mem.specs.Stateless.{stateless}
-use Rattle.encoding_tables.specs.Lookups.{value_of, first_pointer}
-use Rattle.encoding_mem.specs.declared.form.Form.{Form}
+use Rattle.encoding_mem.specs.Piece.{well_formed, malformed}
+use Rattle.encoding_mem.specs.Pieces.{pieces_in}
 use Rattle.encoding_mem.specs.declared.form.Form.TheVariants.{Mapped, Unmapped}
-use Rattle.encoding_codecs.specs.JisForms.{is_katakana_byte, katakana_of_byte, is_katakana, byte_of_katakana, folded}
-use Rattle.encoding_codecs.specs.Pointers.{value_of_entry, form_of_bytes}
-use Rattle.encoding_codecs.specs.TwoByte.{TwoByteRule, first_piece_two_byte}
-use Rattle.encoding_codecs.specs.declared.lead_byte_rule.FirstByte.{FirstByte}
-use Rattle.encoding_codecs.specs.declared.lead_byte_rule.FirstByte.TheVariants.{Alone, Lead, Unused}
-use Rattle.encoding_codecs.specs.declared.two_byte.PairValue.{PairValue}
-use Rattle.encoding_codecs.specs.declared.two_byte.PairValue.TheVariants.{NoChar, OneChar}
 use Rattle.encoding_codecs.specs.ShiftJis.{shift_jis_pair_pointer, pieces_shift_jis, shift_jis_pair_bytes, shift_jis_char_bytes, shift_jis_form}
 
 -- a list for examples: U+30FB at 5, U+4E00 at 7 and 9, U+FF0D at 60

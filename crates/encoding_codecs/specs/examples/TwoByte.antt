@@ -1,8 +1,7 @@
 -- Worked rows of `specs/TwoByte.antt`.
-use Rattle.std.specs.Prelude.{◌≡◌, ℕ, ◌+◌, ◌<◌, List, [], ◌∷◌, nat_lt, if◌then◌else◌, refl}
-use Rattle.std.specs.Char.{IsScalar}
-use Rattle.encoding_mem.specs.Piece.{Piece, well_formed, malformed}
-use Rattle.encoding_mem.specs.Pieces.{pieces_in, pieces_by}
+use Rattle.std.specs.Prelude.{◌≡◌, ℕ, [], ◌∷◌, nat_lt, if◌then◌else◌, refl}
+use Rattle.encoding_mem.specs.Piece.{well_formed, malformed}
+use Rattle.encoding_mem.specs.Pieces.{pieces_in}
 use Rattle.encoding_codecs.specs.declared.lead_byte_rule.FirstByte.{FirstByte}
 use Rattle.encoding_codecs.specs.declared.lead_byte_rule.FirstByte.TheVariants.{Alone, Lead, Unused}
 use Rattle.encoding_codecs.specs.declared.two_byte.PairValue.{PairValue}

@@ -4,6 +4,7 @@ use Rattle.std.specs.Prelude.{◌==◌, ◌||◌}
 use Rattle.std.specs.Option.{option_map, option_or}
 use Rattle.std.proofs.lemmas.Bool.{le-ltb, ltb-true, ltb-false}
 use Rattle.std.proofs.lemmas.Bool.Decides.{nat_tests}
+use Rattle.encoding_mem.specs.declared.reference.Reference.{Reference}
 use Rattle.encoding_mem.specs.Coding.{spelled}
 use Rattle.encoding_mem.specs.Piece.{well_formed}
 use Rattle.encoding_mem.specs.Steps.{Returns, Strays, StepsReadBack}
@@ -52,10 +53,10 @@ pointer_lead a from to =
     let is : (a == 0x8E || a == 0x8F || is_pointer_byte a) ≡ true = grind (arith, nat_tests) in
     (other, rw is refl)
 
-pointer_steps : (jis0208 jis0212 : List ℕ) (c : ℕ) (o : Option ℕ) → 0x80 ≤ c → ((p : ℕ) → o ≡ Some p → p < 8836)
-    → Steps jis0208 jis0212 c (spelled (form_of_bytes c (option_map euc_jp_pair_bytes o)))
-pointer_steps jis0208 jis0212 c None high before = inr (reference_strays (first_piece_euc_jp jis0208 jis0212) (itself jis0208 jis0212) c c high)
-pointer_steps jis0208 jis0212 c (Some p) high before =
+pointer_steps : (ref : Reference) (jis0208 jis0212 : List ℕ) (c : ℕ) (o : Option ℕ) → 0x80 ≤ c → ((p : ℕ) → o ≡ Some p → p < 8836)
+    → Steps jis0208 jis0212 c (spelled ref (form_of_bytes c (option_map euc_jp_pair_bytes o)))
+pointer_steps ref jis0208 jis0212 c None high before = inr (reference_strays ref (first_piece_euc_jp jis0208 jis0212) (itself jis0208 jis0212) c c high)
+pointer_steps ref jis0208 jis0212 c (Some p) high before =
     let below : p < 8836 = before p refl in
     let lead = pointer_lead (0xA1 + p / 94) (omega arith) (omega arith) in
     pair_steps jis0208 jis0212 c (0xA1 + p / 94) (0xA1 + p % 94) (omega arith) lead.0 lead.1
@@ -63,18 +64,18 @@ pointer_steps jis0208 jis0212 c (Some p) high before =
 -- ---- any scalar
 
 -- by its own bytes, if it has some
-abbrev ByBytes : (jis0208 jis0212 : List ℕ) → ℕ → Option (List ℕ) → Type 0
-ByBytes jis0208 jis0212 c own = Steps jis0208 jis0212 c (spelled (form_of_bytes c (option_or own (option_map euc_jp_pair_bytes (first_pointer jis0208 (folded c) 0 8836)))))
+abbrev ByBytes : Reference → (jis0208 jis0212 : List ℕ) → ℕ → Option (List ℕ) → Type 0
+ByBytes ref jis0208 jis0212 c own = Steps jis0208 jis0212 c (spelled ref (form_of_bytes c (option_or own (option_map euc_jp_pair_bytes (first_pointer jis0208 (folded c) 0 8836)))))
 
 pub euc_jp_steps : (jis0208 jis0212 : List ℕ) → StepsReadBack (first_piece_euc_jp jis0208 jis0212) (euc_jp_form jis0208)
-euc_jp_steps jis0208 jis0212 c scalar =
-    choose (ByBytes jis0208 jis0212 c) (nat_lt c 0x80) (Some (c ∷ [])) _
+euc_jp_steps jis0208 jis0212 ref c scalar =
+    choose (ByBytes ref jis0208 jis0212 c) (nat_lt c 0x80) (Some (c ∷ [])) _
     (λ low. ascii_steps jis0208 jis0212 c c (ltb-true c 0x80 low))
     (λ high. let above : 0x80 ≤ c = ltb-false c 0x80 high in
-    choose (ByBytes jis0208 jis0212 c) (c == 0xA5) (Some (0x5C ∷ [])) _
+    choose (ByBytes ref jis0208 jis0212 c) (c == 0xA5) (Some (0x5C ∷ [])) _
     (λ _. ascii_steps jis0208 jis0212 c 0x5C (lit< tt))
-    (λ _. choose (ByBytes jis0208 jis0212 c) (c == 0x203E) (Some (0x7E ∷ [])) _
+    (λ _. choose (ByBytes ref jis0208 jis0212 c) (c == 0x203E) (Some (0x7E ∷ [])) _
     (λ _. ascii_steps jis0208 jis0212 c 0x7E (lit< tt))
-    (λ _. choose (ByBytes jis0208 jis0212 c) (is_katakana c) (Some (0x8E ∷ byte_of_katakana c ∷ [])) None
+    (λ _. choose (ByBytes ref jis0208 jis0212 c) (is_katakana c) (Some (0x8E ∷ byte_of_katakana c ∷ [])) None
     (λ _. pair_steps jis0208 jis0212 c 0x8E (byte_of_katakana c) (lit≤ tt) refl refl)
-    (λ _. pointer_steps jis0208 jis0212 c (first_pointer jis0208 (folded c) 0 8836) above (pointer_before jis0208 (folded c) 0 8836)))))
+    (λ _. pointer_steps ref jis0208 jis0212 c (first_pointer jis0208 (folded c) 0 8836) above (pointer_before jis0208 (folded c) 0 8836)))))

@@ -1,8 +1,9 @@
 -- Laws of the forms of gb18030 and GBK.
-use Rattle.std.proofs.Common.{ℕ, ◌<◌, ◌≤◌, Bool, true, false, cond, nat_lt, List, [], ◌∷◌, length, arith, Option, None, Some}
+use Rattle.std.proofs.Common.{◌≡◌, refl, ℕ, ◌<◌, ◌≤◌, Bool, true, false, cond, nat_lt, List, [], ◌∷◌, length, arith, Option, None, Some}
 use Rattle.std.specs.Prelude.{◌==◌, ◌&&◌, not, IfSome}
 use Rattle.std.specs.Option.{option_map, option_or}
 use Rattle.encoding_mem.specs.Coding.{IsCoding, FitsNeed}
+use Rattle.encoding_mem.specs.declared.form.Form.TheVariants.{Mapped}
 use Rattle.encoding_mem.specs.laws.Stateless.{stateless_laws, short_one, short_none}
 use Rattle.encoding_mem.specs.EncodedLength.{IsRoomFor}
 use Rattle.encoding_mem.specs.laws.EncodedLength.{two_byte_room, four_byte_room}
@@ -62,7 +63,10 @@ pub gb18030_laws : (flat : List ℕ) (rows : List (ℕ × ℕ)) (extended : Bool
 gb18030_laws flat rows extended = stateless_laws (gb18030_need extended) (gb18030_form flat rows extended) (four_at_most extended)
     (λ c. short_form (gb18030_need extended) c (gb18030_bytes flat rows extended c) (few_bytes flat rows extended c))
 
--- ASCII has one byte, so this room is enough
+-- ASCII is itself, so this room is enough
+pub gb18030_ascii : (flat : List ℕ) (rows : List (ℕ × ℕ)) (extended : Bool) (c : ℕ) → c < 0x80 → gb18030_form flat rows extended c ≡ Mapped (c ∷ [])
+gb18030_ascii flat rows extended c low = rw (lt-ltb c 0x80 low) refl
+
 one_byte : (flat : List ℕ) (rows : List (ℕ × ℕ)) (extended : Bool) (c : ℕ) → c < 0x80 → FitsNeed 1 (gb18030_form flat rows extended c)
 one_byte flat rows extended c low = rw (lt-ltb c 0x80 low) short_one
 

@@ -6,6 +6,7 @@ use Rattle.std.specs.List.{find}
 use Rattle.std.specs.Option.{option_map, option_or}
 use Rattle.std.proofs.lemmas.Bool.{cases_lt, lt-ltb, le-ltb, leb-true, and_parts}
 use Rattle.std.proofs.lemmas.Bool.Decides.{nat_tests}
+use Rattle.encoding_mem.specs.declared.reference.Reference.{Reference}
 use Rattle.encoding_mem.specs.Coding.{spelled}
 use Rattle.encoding_mem.specs.Piece.{well_formed, malformed}
 use Rattle.encoding_mem.specs.Steps.{Returns, Strays, StepsReadBack}
@@ -137,40 +138,40 @@ range_steps flat rows true c bs e =
 
 -- ---- any character
 
-abbrev StepsOf : List ℕ → List (ℕ × ℕ) → ℕ → Option (List ℕ) → Type 0
-StepsOf flat rows c o = Steps flat rows c (spelled (form_of_bytes c o))
+abbrev StepsOf : Reference → List ℕ → List (ℕ × ℕ) → ℕ → Option (List ℕ) → Type 0
+StepsOf ref flat rows c o = Steps flat rows c (spelled ref (form_of_bytes c o))
 
-steps_if : (flat : List ℕ) (rows : List (ℕ × ℕ)) (c : ℕ) (t : Bool) (o p : Option (List ℕ)) → StepsOf flat rows c o → StepsOf flat rows c p → StepsOf flat rows c (cond t o p)
-steps_if flat rows c true o p h k = h
-steps_if flat rows c false o p h k = k
+steps_if : (ref : Reference) (flat : List ℕ) (rows : List (ℕ × ℕ)) (c : ℕ) (t : Bool) (o p : Option (List ℕ)) → StepsOf ref flat rows c o → StepsOf ref flat rows c p → StepsOf ref flat rows c (cond t o p)
+steps_if ref flat rows c true o p h k = h
+steps_if ref flat rows c false o p h k = k
 
-steps_or : (flat : List ℕ) (rows : List (ℕ × ℕ)) (c : ℕ) (o p : Option (List ℕ)) → ((bs : List ℕ) → o ≡ Some bs → Steps flat rows c bs) → StepsOf flat rows c p
-    → StepsOf flat rows c (option_or o p)
-steps_or flat rows c None p h k = k
-steps_or flat rows c (Some bs) p h k = h bs refl
+steps_or : (ref : Reference) (flat : List ℕ) (rows : List (ℕ × ℕ)) (c : ℕ) (o p : Option (List ℕ)) → ((bs : List ℕ) → o ≡ Some bs → Steps flat rows c bs) → StepsOf ref flat rows c p
+    → StepsOf ref flat rows c (option_or o p)
+steps_or ref flat rows c None p h k = k
+steps_or ref flat rows c (Some bs) p h k = h bs refl
 
 ascii_prefix : (flat : List ℕ) (rows : List (ℕ × ℕ)) (b : ℕ) (x : List ℕ) → b < 0x80 → first_piece_gb18030 flat rows (b ∷ x) ≡ well_formed 1 (b ∷ [])
 ascii_prefix flat rows = lead_ascii gb18030_first (gb18030_after_lead flat rows)
 
-none_steps : (flat : List ℕ) (rows : List (ℕ × ℕ)) (c : ℕ) → 0x80 ≤ c → StepsOf flat rows c None
-none_steps flat rows c high = inr (reference_strays (first_piece_gb18030 flat rows) (ascii_prefix flat rows) c c high)
+none_steps : (ref : Reference) (flat : List ℕ) (rows : List (ℕ × ℕ)) (c : ℕ) → 0x80 ≤ c → StepsOf ref flat rows c None
+none_steps ref flat rows c high = inr (reference_strays ref (first_piece_gb18030 flat rows) (ascii_prefix flat rows) c c high)
 
-high_steps : (flat : List ℕ) (rows : List (ℕ × ℕ)) (extended : Bool) (c : ℕ) → 0x80 ≤ c
-    → StepsOf flat rows c (option_or (option_map two_of (fixed_pair c)) (option_or (index_bytes flat c) (range_bytes rows extended c)))
-high_steps flat rows extended c high =
-    steps_or flat rows c (option_map two_of (fixed_pair c)) (option_or (index_bytes flat c) (range_bytes rows extended c)) (fixed_steps flat rows c)
-    (steps_or flat rows c (index_bytes flat c) (range_bytes rows extended c) (index_steps flat rows c) (last (range_bytes rows extended c) refl))
+high_steps : (ref : Reference) (flat : List ℕ) (rows : List (ℕ × ℕ)) (extended : Bool) (c : ℕ) → 0x80 ≤ c
+    → StepsOf ref flat rows c (option_or (option_map two_of (fixed_pair c)) (option_or (index_bytes flat c) (range_bytes rows extended c)))
+high_steps ref flat rows extended c high =
+    steps_or ref flat rows c (option_map two_of (fixed_pair c)) (option_or (index_bytes flat c) (range_bytes rows extended c)) (fixed_steps flat rows c)
+    (steps_or ref flat rows c (index_bytes flat c) (range_bytes rows extended c) (index_steps flat rows c) (last (range_bytes rows extended c) refl))
   where
-    last : (o : Option (List ℕ)) → range_bytes rows extended c ≡ o → StepsOf flat rows c o
-    last None e = none_steps flat rows c high
+    last : (o : Option (List ℕ)) → range_bytes rows extended c ≡ o → StepsOf ref flat rows c o
+    last None e = none_steps ref flat rows c high
     last (Some bs) e = range_steps flat rows extended c bs e
 
 pub gb18030_steps : (flat : List ℕ) (rows : List (ℕ × ℕ)) (extended : Bool) → StepsReadBack (first_piece_gb18030 flat rows) (gb18030_form flat rows extended)
-gb18030_steps flat rows extended c scalar = elim (cases_lt c 0x80) [
+gb18030_steps flat rows extended ref c scalar = elim (cases_lt c 0x80) [
   | inl low ↦ rw (lt-ltb c 0x80 low) (inl (record { piece = λ y. ascii_prefix flat rows c y low }))
   | inr high ↦ rw (le-ltb c 0x80 high)
-      (steps_if flat rows c (c == 0xE5E5) None _ (none_steps flat rows c high)
-      (steps_if flat rows c (c == 0x20AC && not extended) (Some (0x80 ∷ [])) _
+      (steps_if ref flat rows c (c == 0xE5E5) None _ (none_steps ref flat rows c high)
+      (steps_if ref flat rows c (c == 0x20AC && not extended) (Some (0x80 ∷ [])) _
       (by_piece (first_piece_gb18030 flat rows) (0x80 ∷ []) c (well_formed 1 (0x20AC ∷ [])) (λ y. refl) (one_either 1 c 0x20AC))
-      (high_steps flat rows extended c high)))
+      (high_steps ref flat rows extended c high)))
 ]

@@ -5,6 +5,7 @@ use Rattle.std.specs.Int.{is_in_range}
 use Rattle.std.specs.Option.{option_map, option_or}
 use Rattle.std.proofs.lemmas.Bool.{cases_lt, lt-ltb, le-ltb, ltb-true, ltb-false}
 use Rattle.std.proofs.lemmas.Bool.Decides.{nat_tests}
+use Rattle.encoding_mem.specs.declared.reference.Reference.{Reference}
 use Rattle.encoding_mem.specs.Coding.{spelled}
 use Rattle.encoding_mem.specs.Piece.{well_formed}
 use Rattle.encoding_mem.specs.laws.Utf8.{range_from}
@@ -103,26 +104,26 @@ used jis0208 c p e = elim (option_or_some (first_pointer jis0208 c 0 8272) (firs
   | inr later ↦ pointer_before jis0208 c 8836 11280 p later.1
 ]
 
-pointer_steps : (jis0208 : List ℕ) (c : ℕ) (o : Option ℕ) → 0x80 ≤ c → ((p : ℕ) → o ≡ Some p → p < 11280)
-    → Steps jis0208 c (spelled (form_of_bytes c (option_map shift_jis_pair_bytes o)))
-pointer_steps jis0208 c None high before = inr (reference_strays (first_piece_shift_jis jis0208) (itself jis0208) c c high)
-pointer_steps jis0208 c (Some p) high before = pair_steps jis0208 c p (before p refl)
+pointer_steps : (ref : Reference) (jis0208 : List ℕ) (c : ℕ) (o : Option ℕ) → 0x80 ≤ c → ((p : ℕ) → o ≡ Some p → p < 11280)
+    → Steps jis0208 c (spelled ref (form_of_bytes c (option_map shift_jis_pair_bytes o)))
+pointer_steps ref jis0208 c None high before = inr (reference_strays ref (first_piece_shift_jis jis0208) (itself jis0208) c c high)
+pointer_steps ref jis0208 c (Some p) high before = pair_steps jis0208 c p (before p refl)
 
 -- ---- any scalar
 
 -- by its byte, if it has one
-abbrev ByByte : List ℕ → ℕ → Option ℕ → Type 0
-ByByte jis0208 c byte = Steps jis0208 c (spelled (form_of_bytes c (option_or (option_map (λ b. b ∷ []) byte) (option_map shift_jis_pair_bytes (shift_jis_pointer jis0208 (folded c))))))
+abbrev ByByte : Reference → List ℕ → ℕ → Option ℕ → Type 0
+ByByte ref jis0208 c byte = Steps jis0208 c (spelled ref (form_of_bytes c (option_or (option_map (λ b. b ∷ []) byte) (option_map shift_jis_pair_bytes (shift_jis_pointer jis0208 (folded c))))))
 
 pub shift_jis_steps : (jis0208 : List ℕ) → StepsReadBack (first_piece_shift_jis jis0208) (shift_jis_form jis0208)
-shift_jis_steps jis0208 c scalar =
-    choose (ByByte jis0208 c) (nat_lt c 0x81) (Some c) _
+shift_jis_steps jis0208 ref c scalar =
+    choose (ByByte ref jis0208 c) (nat_lt c 0x81) (Some c) _
     (λ low. low_steps jis0208 c (ltb-true c 0x81 low))
     (λ high. let above : 0x81 ≤ c = ltb-false c 0x81 high in
-    choose (ByByte jis0208 c) (c == 0xA5) (Some 0x5C) _
+    choose (ByByte ref jis0208 c) (c == 0xA5) (Some 0x5C) _
     (λ _. ascii_steps jis0208 c 0x5C (lit< tt))
-    (λ _. choose (ByByte jis0208 c) (c == 0x203E) (Some 0x7E) _
+    (λ _. choose (ByByte ref jis0208 c) (c == 0x203E) (Some 0x7E) _
     (λ _. ascii_steps jis0208 c 0x7E (lit< tt))
-    (λ _. choose (ByByte jis0208 c) (is_katakana c) (Some (byte_of_katakana c)) None
+    (λ _. choose (ByByte ref jis0208 c) (is_katakana c) (Some (byte_of_katakana c)) None
     (katakana_steps jis0208 c)
-    (λ _. pointer_steps jis0208 c (shift_jis_pointer jis0208 (folded c)) (omega arith) (used jis0208 (folded c))))))
+    (λ _. pointer_steps ref jis0208 c (shift_jis_pointer jis0208 (folded c)) (omega arith) (used jis0208 (folded c))))))

@@ -1,6 +1,7 @@
 -- Laws of what is read back of a scalar, by the first piece of its bytes.
 use Rattle.std.proofs.Common.{◌≡◌, ◌≢◌, ℕ, ◌<◌, ◌≤◌, ◌⊎◌, Bool, true, false, cond, List, [], ◌∷◌, ◌++◌, length, refl, ◌∙◌, ap, arith, inl, inr}
 use Rattle.std.proofs.lemmas.Bool.{cases_eq}
+use Rattle.encoding_mem.specs.declared.reference.Reference.{Reference}
 use Rattle.encoding_mem.specs.Coding.{reference}
 use Rattle.encoding_mem.specs.Piece.{Piece, well_formed, malformed, piece_len, scalars_of, IsWellFormed}
 use Rattle.encoding_mem.specs.Steps.{Returns, Strays}
@@ -34,6 +35,6 @@ by_piece first_piece bytes c p is (inl same) = inl (record { piece = λ y. is y 
 by_piece first_piece bytes c p is (inr wrong) = inr (record { piece = p; first = is; within = wrong.within; wrong = wrong.wrong })
 
 -- a reference stands for no character from 80 on
-pub reference_strays : (first_piece : List ℕ → Piece) → ((b : ℕ) (x : List ℕ) → b < 0x80 → first_piece (b ∷ x) ≡ well_formed 1 (b ∷ [])) → (c d : ℕ) → 0x80 ≤ c
-    → Strays first_piece (reference d) c
-reference_strays first_piece ascii c d high = strays_at_reference first_piece c d (λ x. ascii 0x26 x (omega arith)) (λ same. omega (arith, same, high))
+pub reference_strays : (ref : Reference) (first_piece : List ℕ → Piece) → ((b : ℕ) (x : List ℕ) → b < 0x80 → first_piece (b ∷ x) ≡ well_formed 1 (b ∷ [])) → (c d : ℕ) → 0x80 ≤ c
+    → Strays first_piece (reference ref d) c
+reference_strays ref first_piece ascii c d high = strays_at_reference ref first_piece c d (λ x. ascii 0x26 x (omega arith)) (λ same. omega (arith, same, high))

@@ -1,9 +1,11 @@
 -- What is known of the first piece where more bytes may come: each definition follows the one of specs/TwoByte.antt for
 -- the piece.
 use Rattle.std.specs.Prelude.{ℕ, ◌+◌, Bool, List, [], ◌∷◌, nat_lt, if◌then◌else◌}
+use Rattle.encoding_mem.specs.Piece.{Piece}
 use Rattle.encoding_mem.specs.laws.Utf8Decide.{cut_short}
 use Rattle.encoding_mem.specs.declared.first_piece.FirstPiece.{FirstPiece}
 use Rattle.encoding_mem.specs.declared.first_piece.FirstPiece.TheVariants.{More, One, Two, Malformed}
+use Rattle.encoding_codecs.specs.TwoByte.{TwoByteRule, after_bytes}
 use Rattle.encoding_codecs.specs.declared.lead_byte_rule.FirstByte.{FirstByte}
 use Rattle.encoding_codecs.specs.declared.lead_byte_rule.FirstByte.TheVariants.{Alone, Lead, Unused}
 use Rattle.encoding_codecs.specs.declared.two_byte.PairValue.{PairValue}
@@ -26,3 +28,13 @@ decide_trail n (TwoChars c d) b = Two c d (n + 1)
 abbrev pub decide_after : ℕ → (ℕ → PairValue) → List ℕ → Bool → FirstPiece
 decide_after n value [] last = cut_short n last
 decide_after n value (b ∷ x) last = decide_trail n (value b) b
+
+-- The pieces of an encoding with leads: what a first byte from 80 on is, the piece that a lead begins with the bytes
+-- behind it, and what is known of that where more bytes may come.
+pub record LeadRule : Type 0 where
+  pub first : ℕ → FirstByte
+  pub after : ℕ → List ℕ → Piece
+  pub decide : ℕ → List ℕ → Bool → FirstPiece
+
+abbrev pub lead_rule_of : TwoByteRule → LeadRule
+lead_rule_of e = record { first = e.first; after = λ a. after_bytes 1 (e.pair a); decide = λ a. decide_after 1 (e.pair a) }

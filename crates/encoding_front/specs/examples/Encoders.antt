@@ -2,6 +2,7 @@
 use Rattle.std.specs.Prelude.{◌≡◌, true, false, None, Some, [], ◌∷◌, ◌++◌, codes, refl, ℕ, List, Option, map, replicate}
 use Rattle.std.specs.Fmt.{digits}
 use Rattle.std.proofs.Common.{inr, lit≤, lit<, inl, arith, subst}
+use Rattle.encoding_mem.specs.declared.reference.Reference.TheVariants.{Decimal}
 use Rattle.encoding_mem.specs.Coding.{lost_count, open_from, whole_from, last_set, IsMapped}
 use Rattle.encoding_mem.specs.examples.SampleCoding.{sample_coding}
 use Rattle.encoding_mem.specs.declared.form.EscapeState.TheVariants.{Ascii, Roman}
@@ -42,8 +43,8 @@ room_does_not_fit : queried_with_kept Windows1252 false 0xFFFFFFFFFFFFFFFF ≡ N
 room_does_not_fit = refl
 
 -- a last call that ends behind the reference has still to write the escape to ASCII
-yen_and_reference : whole_from sample_coding Ascii (0xA5 ∷ 0x1F4A9 ∷ [])
-    ≡ (0x1B ∷ 0x28 ∷ 0x4A ∷ 0x5C ∷ codes "&#128169;") ++ whole_from sample_coding Roman []
+yen_and_reference : whole_from Decimal sample_coding Ascii (0xA5 ∷ 0x1F4A9 ∷ [])
+    ≡ (0x1B ∷ 0x28 ∷ 0x4A ∷ 0x5C ∷ codes "&#128169;") ++ whole_from Decimal sample_coding Roman []
 unfolding digits
 yen_and_reference = refl
 
@@ -55,7 +56,7 @@ owes_nothing : ReplacingEndsWith false CoderResult.InputEmpty Roman []
 owes_nothing = (refl, λ h. absurd (cc))
 
 -- the offset that is compared with the end of the part before the kept bytes
-reference_ends : open_from sample_coding Ascii (0xA5 ∷ 0x1F4A9 ∷ []) ≡ 0x1B ∷ 0x28 ∷ 0x4A ∷ 0x5C ∷ codes "&#128169;"
+reference_ends : open_from Decimal sample_coding Ascii (0xA5 ∷ 0x1F4A9 ∷ []) ≡ 0x1B ∷ 0x28 ∷ 0x4A ∷ 0x5C ∷ codes "&#128169;"
 unfolding digits
 reference_ends = refl
 
@@ -106,7 +107,7 @@ yen_and_pile = 0xA5 ∷ 0x1F4A9 ∷ []
 abbrev yen_and_its_reference : List ℕ
 yen_and_its_reference = 0x1B ∷ 0x28 ∷ 0x4A ∷ 0x5C ∷ 0x26 ∷ 0x23 ∷ 0x31 ∷ 0x32 ∷ 0x38 ∷ 0x31 ∷ 0x36 ∷ 0x39 ∷ 0x3B ∷ []
 
-written_in_roman : (open_from (coding_of no_tables Iso2022Jp) Ascii yen_and_pile ≡ yen_and_its_reference)
+written_in_roman : (open_from Decimal (coding_of no_tables Iso2022Jp) Ascii yen_and_pile ≡ yen_and_its_reference)
     × (last_set (coding_of no_tables Iso2022Jp) Ascii yen_and_pile ≡ Roman)
 unfolding no_tables digits
 written_in_roman = (refl, refl)

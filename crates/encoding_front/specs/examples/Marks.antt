@@ -1,11 +1,8 @@
 -- Worked rows of `specs/Marks.antt`.
-use Rattle.std.specs.Prelude.{◌≡◌, ℕ, zero, suc, ◌==◌, Bool, true, false, Option, None, Some, List, [], ◌∷◌, ◌++◌, drop, filter, refl, replicate}
-use Rattle.encoding_mem.specs.Piece.{Piece, well_formed, text, malformed}
+use Rattle.std.specs.Prelude.{◌≡◌, None, Some, [], ◌∷◌, ◌++◌, refl, replicate}
+use Rattle.encoding_mem.specs.Piece.{well_formed, malformed}
 use Rattle.encoding_tables.specs.IndexLists.{IndexLists}
-use Rattle.encoding_front.specs.EncodingTable.{number_of}
-use Rattle.encoding_front.specs.Encodings.{byte_order_marks, first_mark, pieces_of}
 use Rattle.encoding_front.specs.declared.encoding.Encoding.{Encoding}
-use Rattle.encoding_front.specs.declared.mark.Mark.{Mark}
 use Rattle.encoding_front.specs.declared.mark.Mark.TheVariants.{Sniff, Remove, Keep}
 use Rattle.encoding_front.specs.Marks.{source_of, marked_pieces, marked_text}
 use Rattle.encoding_mem.specs.Pieces.{pieces_in}

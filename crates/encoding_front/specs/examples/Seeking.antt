@@ -1,13 +1,12 @@
 -- Worked rows of `specs/Seeking.antt`.
-use Rattle.std.specs.Prelude.{◌≡◌, ℕ, Bool, true, false, List, [], ◌∷◌, map, replicate, None, Some, refl}
-use Rattle.encoding_mem.specs.Piece.{Piece, well_formed}
+use Rattle.std.specs.Prelude.{◌≡◌, true, false, [], ◌∷◌, map, replicate, None, Some, refl}
+use Rattle.encoding_mem.specs.Piece.{well_formed}
 use Rattle.encoding_mem.specs.Pieces.{pieces_in}
-use Rattle.encoding_mem.specs.declared.room.OutputUnit.TheVariants.{Units, Bytes, Replaced}
+use Rattle.encoding_mem.specs.declared.room.OutputUnit.TheVariants.{Units, Bytes}
 use Rattle.encoding_front.specs.Seeking.{find_mark, mark_needs, mark_taken, can_be, nothing_sought, sought_by, sought_pieces}
 use Rattle.encoding_front.specs.declared.encoding.Encoding.{Encoding}
 use Rattle.encoding_front.specs.declared.mark.Mark.TheVariants.{Sniff, Remove, Keep}
 use Rattle.encoding_front.specs.declared.seeking.ByteOrderMark.TheVariants.{Utf8, Utf16Be, Utf16Le}
-use Rattle.encoding_front.specs.declared.seeking.BomMatch.{BomMatch}
 use Rattle.encoding_front.specs.declared.seeking.BomMatch.TheVariants.{Prefix, Whole, Other}
 use Rattle.encoding_front.specs.declared.seeking.BomSet.{BomSet}
 

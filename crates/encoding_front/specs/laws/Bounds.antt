@@ -5,6 +5,7 @@ use lib.Utf8.{scalar, scalar_cases}
 use Rattle.std.specs.Fmt.{decimal}
 use Rattle.std.specs.Str.{all_scalars}
 use Rattle.std.proofs.lemmas.Fmt.{length-decimal-le}
+use Rattle.encoding_mem.specs.declared.reference.Reference.TheVariants.{Decimal}
 use Rattle.encoding_mem.specs.Coding.{Coding, bytes, last_set, open_from, output, reference, spelled}
 use Rattle.std.proofs.lemmas.Bool.{and_parts}
 use Rattle.encoding_mem.specs.declared.form.Form.{Form}
@@ -84,10 +85,10 @@ pub short_escape : (t : IndexLists) (e : Encoding) (s s' : EscapeState) → leng
 short_escape t e s s' = escape_in t (codec_kind_of (output_encoding_of e)) s s'
 
 -- the longest reference is `&#1114111;`
-pub short_reference : (c : ℕ) → c < 0x110000 → length (reference c) ≤ 10
+pub short_reference : (c : ℕ) → c < 0x110000 → length (reference Decimal c) ≤ 10
 short_reference c small = omega (arith, length-append (decimal c) (codes ";"), length-decimal-le 7 c (omega arith) (omega arith) (omega arith))
 
-short_spelled : (c : ℕ) (f : Form) → c < 0x110000 → length (bytes f) ≤ 4 → ReportsItself c f → length (spelled f) ≤ 10
+short_spelled : (c : ℕ) (f : Form) → c < 0x110000 → length (bytes f) ≤ 4 → ReportsItself c f → length (spelled Decimal f) ≤ 10
 short_spelled c (Mapped bs) small few itself = omega (arith, few)
 short_spelled c (Unmapped d) small few (inl same) = short_reference d (omega (arith, same))
 short_spelled c (Unmapped d) small few (inr same) = short_reference d (omega (arith, same))
@@ -96,8 +97,8 @@ below_all : (c : ℕ) → scalar c ≡ true → c < 0x110000
 below_all c h = elim (scalar_cases c h) [ inl low ↦ omega (arith, low) | inr high ↦ omega (arith, high.1) ]
 
 -- a text of n characters is written in at most 13 * n + 3 bytes
-short_text : (e : Coding) (s : EscapeState) (t : List ℕ) → ((a b : EscapeState) → length (e.escape a b) ≤ 3) → ((c : ℕ) → c < 0x110000 → length (spelled (e.form c)) ≤ 10) → all_scalars t ≡ true
-    → length (open_from e s t) ≤ 13 * length t
+short_text : (e : Coding) (s : EscapeState) (t : List ℕ) → ((a b : EscapeState) → length (e.escape a b) ≤ 3) → ((c : ℕ) → c < 0x110000 → length (spelled Decimal (e.form c)) ≤ 10) → all_scalars t ≡ true
+    → length (open_from Decimal e s t) ≤ 13 * length t
 short_text e s [] escapes forms are = omega arith
 short_text e s (c ∷ t) escapes forms are =
     let parts = and_parts (scalar c) (all_scalars t) are in
@@ -106,14 +107,14 @@ short_text e s (c ∷ t) escapes forms are =
       escapes s (e.set s c),
       forms c (below_all c parts.0),
       short_text e (e.set s c) t escapes forms parts.1,
-      length-append (e.escape s (e.set s c)) (spelled (e.form c) ++ open_from e (e.set s c) t),
-      length-append (spelled (e.form c)) (open_from e (e.set s c) t),
+      length-append (e.escape s (e.set s c)) (spelled Decimal (e.form c) ++ open_from Decimal e (e.set s c) t),
+      length-append (spelled Decimal (e.form c)) (open_from Decimal e (e.set s c) t),
     )
 
-pub short_open : (t : IndexLists) (e : Encoding) (s : EscapeState) (text : List ℕ) → all_scalars text ≡ true → length (open_from (coding_of t e) s text) ≤ 13 * length text
+pub short_open : (t : IndexLists) (e : Encoding) (s : EscapeState) (text : List ℕ) → all_scalars text ≡ true → length (open_from Decimal (coding_of t e) s text) ≤ 13 * length text
 short_open t e s text are = short_text (coding_of t e) s text (short_escape t e) (λ c small. short_spelled c ((coding_of t e).form c) small (short_form t e c) (reports_itself t e c)) are
 
-pub short_output : (t : IndexLists) (e : Encoding) (text : List ℕ) → all_scalars text ≡ true → length (output (coding_of t e) text) ≤ 13 * length text + 3
+pub short_output : (t : IndexLists) (e : Encoding) (text : List ℕ) → all_scalars text ≡ true → length (output Decimal (coding_of t e) text) ≤ 13 * length text + 3
 short_output t e text are =
     let last = last_set (coding_of t e) Ascii text in
-    omega (arith, short_open t e Ascii text are, short_escape t e last Ascii, length-append (open_from (coding_of t e) Ascii text) ((coding_of t e).escape last Ascii))
+    omega (arith, short_open t e Ascii text are, short_escape t e last Ascii, length-append (open_from Decimal (coding_of t e) Ascii text) ((coding_of t e).escape last Ascii))

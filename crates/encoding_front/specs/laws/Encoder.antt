@@ -1,5 +1,5 @@
 -- What holds of every encoder.
-use Rattle.std.proofs.Common.{◌≡◌, ℕ, ◌+◌, ◌≤◌, ◌<◌, List, length, drop, refl, arith, true, false, length-drop, lit<}
+use Rattle.std.proofs.Common.{◌≡◌, ◌<◌, refl, true, false, lit<}
 use Rattle.encoding_mem.specs.Coding.{IsCoding}
 use Rattle.encoding_mem.specs.laws.Utf8Coding.{utf8_coding_laws}
 use Rattle.encoding_tables.specs.IndexLists.{IndexLists, entries_of, rows_of}
@@ -17,10 +17,6 @@ use Rattle.encoding_front.specs.EncodingTable.{codec_kind_of}
 use Rattle.encoding_front.specs.declared.encoding.Encoding.{Encoding}
 use Rattle.encoding_front.specs.declared.encoding.Encoding.TheVariants.{Big5}
 use Rattle.encoding_front.specs.declared.codec_kind.CodecKind.{CodecKind}
-
--- an offset in what follows the offset i is an offset in the list
-pub within_from_rest : (xs : List ℕ) (i j : ℕ) → i ≤ length xs → j ≤ length (drop i xs) → i + j ≤ length xs
-within_from_rest xs i j within more = omega (arith, length-drop i xs)
 
 -- an output encoding is its own
 pub output_twice : (e : Encoding) → output_encoding_of (output_encoding_of e) ≡ output_encoding_of e

@@ -2,6 +2,7 @@
 use Rattle.std.specs.Prelude.{◌≡◌, [], ◌∷◌, codes, refl}
 use Rattle.std.proofs.Common.{arith}
 use Rattle.std.specs.Fmt.{digits}
+use Rattle.encoding_mem.specs.declared.reference.Reference.TheVariants.{Decimal}
 use Rattle.encoding_mem.specs.Coding.{Coding, IsCoding, open_from, last_set, lost_count}
 use Rattle.encoding_mem.specs.examples.SampleCoding.{sample_coding}
 use Rattle.encoding_mem.specs.declared.form.EscapeState.TheVariants.{Ascii, Roman, Jis}
@@ -18,7 +19,7 @@ jis_is_last : last_set sample_coding Roman (0x41 ∷ 0x3042 ∷ []) ≡ Jis
 jis_is_last = refl
 
 -- the escape to Roman, the yen sign, and the reference of é in Roman
-reference_in_roman : open_from sample_coding Ascii (0xA5 ∷ 0xE9 ∷ []) ≡ 0x1B ∷ 0x28 ∷ 0x4A ∷ 0x5C ∷ codes "&#233;"
+reference_in_roman : open_from Decimal sample_coding Ascii (0xA5 ∷ 0xE9 ∷ []) ≡ 0x1B ∷ 0x28 ∷ 0x4A ∷ 0x5C ∷ codes "&#233;"
 unfolding digits
 reference_in_roman = refl
 

@@ -9,6 +9,7 @@ use Rattle.encoding_mem.specs.ReadBack.{ReadsBackExactly}
 use Rattle.encoding_mem.specs.Utf8.{pieces_utf8}
 use Rattle.encoding_mem.specs.Utf8Coding.{utf8_coding}
 use Rattle.encoding_mem.specs.laws.Utf8.{utf8_reads_back}
+use Rattle.encoding_mem.specs.declared.reference.Reference.{Reference}
 use Rattle.encoding_mem.specs.declared.form.Form.{Form}
 use Rattle.encoding_mem.specs.declared.form.Form.TheVariants.{Mapped, Unmapped}
 
@@ -43,14 +44,14 @@ pub all_in_utf8 : (t : List ℕ) → AllMapped utf8_coding t
 all_in_utf8 [] = tt
 all_in_utf8 (c ∷ t) = (tt, all_in_utf8 t)
 
-read_back : (t : List ℕ) → all_scalars t ≡ true → pieces_utf8 (output utf8_coding t) ≡ text_pieces t
-read_back t h = ap pieces_utf8 (utf8_output t) ∙ utf8_reads_back t h
+read_back : (ref : Reference) (t : List ℕ) → all_scalars t ≡ true → pieces_utf8 (output ref utf8_coding t) ≡ text_pieces t
+read_back ref t h = ap pieces_utf8 (utf8_output ref t) ∙ utf8_reads_back t h
 
 pub utf8_exact : ReadsBackExactly pieces_utf8 utf8_coding
-utf8_exact t h = (
+utf8_exact ref t h = (
   λ _. all_in_utf8 t,
   λ _. record {
-    well_formed = subst AreWellFormed (sym (read_back t h)) (text_pieces-well_formed t);
-    same = ap text (read_back t h) ∙ text_pieces-text t;
+    well_formed = subst AreWellFormed (sym (read_back ref t h)) (text_pieces-well_formed t);
+    same = ap text (read_back ref t h) ∙ text_pieces-text t;
   },
 )

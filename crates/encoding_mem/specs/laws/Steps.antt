@@ -7,6 +7,8 @@ use Rattle.encoding_mem.specs.Pieces.{pieces_by}
 use Rattle.encoding_mem.specs.laws.Pieces.{CutsEach, pieces_by-first}
 use Rattle.encoding_mem.specs.Stateless.{stateless}
 use Rattle.encoding_mem.specs.Steps.{Follows, AreApart, IsBroken, StepLaw, in_any_set, Returns, Strays, StepsReadBack}
+use Rattle.encoding_mem.specs.declared.reference.Reference.{Reference}
+use Rattle.encoding_mem.specs.declared.reference.Reference.TheVariants.{Decimal, Hexadecimal}
 use Rattle.encoding_mem.specs.declared.form.Form.{Form}
 
 -- some bytes are written, since a piece is some bytes
@@ -72,16 +74,21 @@ broken first_piece cuts bytes c h = record {
 
 pub step_law : (first_piece : List ℕ → Piece) (form : ℕ → Form) → CutsEach first_piece → StepsReadBack first_piece form
     → StepLaw (stateless form) (in_any_set (pieces_by first_piece))
-step_law first_piece form cuts steps s c scalar = elim (steps c scalar) [
-  | inl h ↦ inl (follows first_piece cuts (spelled (form c)) c h)
-  | inr h ↦ inr (broken first_piece cuts (spelled (form c)) c h)
+step_law first_piece form cuts steps ref s c scalar = elim (steps ref c scalar) [
+  | inl h ↦ inl (follows first_piece cuts (spelled ref (form c)) c h)
+  | inr h ↦ inr (broken first_piece cuts (spelled ref (form c)) c h)
 ]
 
 -- a reference begins with `&`, and stands for no other character
-pub strays_at_reference : (first_piece : List ℕ → Piece) (c d : ℕ) → ((x : List ℕ) → first_piece (0x26 ∷ x) ≡ well_formed 1 (0x26 ∷ [])) → c ≢ 0x26 → Strays first_piece (reference d) c
-strays_at_reference first_piece c d ascii apart = record {
+pub reference_behind : (ref : Reference) (d : ℕ) → reference ref d ≡ 0x26 ∷ drop 1 (reference ref d)
+reference_behind Decimal d = refl
+reference_behind Hexadecimal d = refl
+
+pub strays_at_reference : (ref : Reference) (first_piece : List ℕ → Piece) (c d : ℕ) → ((x : List ℕ) → first_piece (0x26 ∷ x) ≡ well_formed 1 (0x26 ∷ [])) → c ≢ 0x26
+    → Strays first_piece (reference ref d) c
+strays_at_reference ref first_piece c d ascii apart = rw (reference_behind ref d) (record {
   piece = well_formed 1 (0x26 ∷ []);
   first = λ y. ascii _;
   within = omega arith;
   wrong = inr (0x26, λ same. apart (sym same), refl);
-}
+})

@@ -1,5 +1,6 @@
 -- Worked rows of `specs/UserDefined.antt`.
 use Rattle.std.specs.Prelude.{◌≡◌, [], ◌∷◌, None, Some, refl}
+use Rattle.encoding_mem.specs.declared.reference.Reference.TheVariants.{Decimal}
 use Rattle.encoding_mem.specs.Coding.{output}
 use Rattle.encoding_mem.specs.Piece.{well_formed}
 use Rattle.encoding_mem.specs.Pieces.{pieces_in}
@@ -15,7 +16,7 @@ no_bytes : pieces_user_defined [] ≡ []
 unfolding pieces_in
 no_bytes = refl
 
-back : output user_defined_coding (0x7F ∷ 0xF780 ∷ 0xF7FF ∷ []) ≡ 0x7F ∷ 0x80 ∷ 0xFF ∷ []
+back : output Decimal user_defined_coding (0x7F ∷ 0xF780 ∷ 0xF7FF ∷ []) ≡ 0x7F ∷ 0x80 ∷ 0xFF ∷ []
 back = refl
 
 -- the characters beside them, and one that another encoding has at 80

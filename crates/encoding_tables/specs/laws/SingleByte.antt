@@ -10,6 +10,8 @@ use Rattle.encoding_mem.specs.Piece.{well_formed}
 use Rattle.encoding_mem.specs.laws.Pieces.{CutsEach}
 use Rattle.encoding_mem.specs.DecoderRule.{TellsFirstPiece, IsBasic}
 use Rattle.encoding_tables.specs.EachByte.{piece_of_byte}
+use Rattle.encoding_mem.specs.declared.form.Form.TheVariants.{Mapped}
+use Rattle.encoding_tables.specs.EachByte.{form_by_byte}
 use Rattle.encoding_tables.specs.laws.EachByte.{AreScalars, first_piece_of_byte, cuts_by_byte, first_piece_by_first, laws_by_byte, fits_by_byte, pieces_by_byte-cons}
 use Rattle.encoding_tables.specs.Lookups.{AreEntries, value_of}
 use Rattle.encoding_tables.specs.SingleByte.{char_of_byte, single_byte_of_char, first_piece_single_byte, pieces_single_byte, single_byte_coding}
@@ -61,6 +63,9 @@ basic_prefix (Some c) basic = (basic, lit< tt)
 -- a target of one byte a character
 pub single_byte_laws : (flat : List ℕ) → IsCoding 1 (single_byte_coding flat)
 single_byte_laws flat = laws_by_byte (single_byte_of_char flat)
+
+pub single_byte_ascii : (flat : List ℕ) (c : ℕ) → c < 0x80 → form_by_byte (single_byte_of_char flat) c ≡ Mapped (c ∷ [])
+single_byte_ascii flat c low = rw (lt-ltb c 0x80 low) refl
 
 pub single_byte_fits : (flat : List ℕ) → IsRoomFor (single_byte_coding flat) encoded_length_single_byte
 single_byte_fits flat = fits_by_byte (single_byte_of_char flat)

@@ -10,6 +10,8 @@ use Rattle.encoding_mem.specs.Piece.{well_formed}
 use Rattle.encoding_mem.specs.laws.Pieces.{CutsEach}
 use Rattle.encoding_mem.specs.ReadBack.{ReadsBackExactly}
 use Rattle.encoding_mem.specs.laws.Utf8.{range_from, scalar_from}
+use Rattle.encoding_mem.specs.declared.form.Form.TheVariants.{Mapped}
+use Rattle.encoding_tables.specs.EachByte.{form_by_byte}
 use Rattle.encoding_tables.specs.laws.EachByte.{AreScalars, cuts_by_byte, laws_by_byte}
 use Rattle.encoding_mem.specs.Steps.{StepLaw, in_any_set}
 use Rattle.encoding_tables.specs.laws.EachByteReadBack.{ReadsBack, exact_by_byte, steps_by_byte}
@@ -32,6 +34,9 @@ cuts_user_defined = cuts_by_byte user_char_of_byte scalars_user_defined
 
 pub user_defined_laws : IsCoding 1 user_defined_coding
 user_defined_laws = laws_by_byte byte_of_user_char
+
+pub user_defined_ascii : (c : ℕ) → c < 0x80 → form_by_byte byte_of_user_char c ≡ Mapped (c ∷ [])
+user_defined_ascii c low = rw (lt-ltb c 0x80 low) refl
 
 -- ASCII is itself, whatever follows
 pub ascii_user_defined : (b : ℕ) (x : List ℕ) → b < 0x80 → first_piece_user_defined (b ∷ x) ≡ well_formed 1 (b ∷ [])

@@ -2,6 +2,7 @@
 use Rattle.std.specs.Prelude.{◌≡◌, ℕ, List, [], ◌∷◌, ◌++◌, replicate, codes, refl, map, None, Some, Bool, true, false, slice_index, ◌==◌}
 use Rattle.std.specs.Char.{encode_utf8}
 use Rattle.std.specs.Fmt.{digits}
+use Rattle.encoding_mem.specs.declared.reference.Reference.TheVariants.{Decimal}
 use Rattle.encoding_mem.specs.Coding.{output}
 use Rattle.encoding_mem.specs.Piece.{text, well_formed, malformed}
 use Rattle.encoding_mem.specs.Pieces.{pieces_in}
@@ -23,7 +24,7 @@ use Rattle.recode.specs.declared.job.Job.{Job}
 two : List ℕ
 two = 0x20AC ∷ (replicate 104 0 ++ (0xE9 ∷ replicate 22 0))
 
-kept : output (single_byte_coding two) (text (pieces_utf8 (0x41 ∷ 0xE2 ∷ 0x82 ∷ 0xAC ∷ 0xC3 ∷ 0xA9 ∷ []))) ≡ 0x41 ∷ 0x80 ∷ 0xE9 ∷ []
+kept : output Decimal (single_byte_coding two) (text (pieces_utf8 (0x41 ∷ 0xE2 ∷ 0x82 ∷ 0xAC ∷ 0xC3 ∷ 0xA9 ∷ []))) ≡ 0x41 ∷ 0x80 ∷ 0xE9 ∷ []
 unfolding pieces_in two
 kept = refl
 
@@ -31,7 +32,7 @@ nothing_lost : log_lines (single_byte_coding two) 0 0 (pieces_utf8 (0x41 ∷ 0xE
 unfolding pieces_in two
 nothing_lost = refl
 
-references : output (single_byte_coding two) (text (pieces_utf8 (0xC3 ∷ 0xA8 ∷ 0xFF ∷ []))) ≡ codes "&#232;&#65533;"
+references : output Decimal (single_byte_coding two) (text (pieces_utf8 (0xC3 ∷ 0xA8 ∷ 0xFF ∷ []))) ≡ codes "&#232;&#65533;"
 unfolding pieces_in two digits
 references = refl
 
@@ -39,7 +40,7 @@ lost_and_malformed : log_lines (single_byte_coding two) 0 0 (pieces_utf8 (0xC3 �
 unfolding pieces_in two
 lost_and_malformed = refl
 
-from_single_byte : output utf8_coding (text (pieces_single_byte two (0x80 ∷ 0x81 ∷ 0xE9 ∷ []))) ≡ 0xE2 ∷ 0x82 ∷ 0xAC ∷ 0xEF ∷ 0xBF ∷ 0xBD ∷ 0xC3 ∷ 0xA9 ∷ []
+from_single_byte : output Decimal utf8_coding (text (pieces_single_byte two (0x80 ∷ 0x81 ∷ 0xE9 ∷ []))) ≡ 0xE2 ∷ 0x82 ∷ 0xAC ∷ 0xEF ∷ 0xBF ∷ 0xBD ∷ 0xC3 ∷ 0xA9 ∷ []
 unfolding pieces_in two encode_utf8
 from_single_byte = refl
 
@@ -48,7 +49,7 @@ unfolding pieces_in two
 byte_without_character = refl
 
 -- a fold: U+00A5 is written as 5C, which reads back as U+005C, and has no line
-folded : (t : IndexLists) → output (coding_of t Encoding.ShiftJis) (text (pieces_utf8 (0xC2 ∷ 0xA5 ∷ []))) ≡ 0x5C ∷ []
+folded : (t : IndexLists) → output Decimal (coding_of t Encoding.ShiftJis) (text (pieces_utf8 (0xC2 ∷ 0xA5 ∷ []))) ≡ 0x5C ∷ []
 unfolding pieces_in
 folded t = refl
 

@@ -1,6 +1,5 @@
 -- Worked rows of `specs/Slices.antt`.
-use Rattle.std.specs.Prelude.{◌≡◌, ℕ, List, [], ◌∷◌, take, drop, refl}
-use Rattle.encoding_mem.specs.Piece.{Piece, piece_len}
+use Rattle.std.specs.Prelude.{◌≡◌, [], ◌∷◌, refl}
 use Rattle.encoding_mem.specs.Pieces.{pieces_in}
 use Rattle.encoding_mem.specs.Utf8.{pieces_utf8}
 use Rattle.recode.specs.Slices.{slices}

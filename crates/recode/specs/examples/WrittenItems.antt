@@ -1,5 +1,5 @@
 -- Worked rows of `specs/WrittenItems.antt` and `specs/TaggedByte.antt`.
-use Rattle.std.specs.Prelude.{◌≡◌, ℕ, List, [], ◌∷◌, ◌++◌, map, codes, refl}
+use Rattle.std.specs.Prelude.{◌≡◌, List, [], ◌∷◌, ◌++◌, map, codes, refl}
 use Rattle.std.specs.Fmt.{digits}
 use Rattle.encoding_mem.specs.Items.{Item, Byte, MalformedAt, LostAt}
 use Rattle.recode.specs.TaggedByte.{Line, Out, lines, tagged, outputs}

@@ -1,6 +1,6 @@
-use Rattle.std.proofs.Common.{◌-◌, ◌≤◌, length, refl, sym, ◌∙◌, ap, arith, length-drop}
+use Rattle.std.proofs.Common.{◌-◌, ◌≤◌, length, refl, sym, ◌∙◌, ap, arith}
 use Rattle.std.proofs.lemmas.List.{length-take-le}
-use Rattle.encoding_front.proofs.ReferenceLemmas.{going_none, too_few, at_rest, behind_turn, input_empty, length_new, length_turn, output_full, reference_reached, still_same, take_into, turn_on}
+use Rattle.encoding_front.proofs.ReferenceLemmas.{going_none, too_few, behind_turn, input_empty, length_new, length_turn, output_full, reference_reached, still_same, take_into, turn_on}
 use Rattle.encoding_front.proofs.replacing.encode_replacing.Goals as goal
 
 pub returns-then-dst-kept-clause-call : goal.returns-then-dst-kept-clause-call
@@ -12,86 +12,76 @@ turns-init g c = record {
   part = omega (arith, c.kept_back-kept.ensures);
   size = refl;
   behind = refl;
-  read = omega arith;
-  boundary = c.requires;
+  source = refl;
   same = refl;
   going = going_none _ _ _ _ _;
   fresh = λ h. (refl, refl, refl);
 }
 
-pub overflow_add-read : goal.overflow_add-read
-overflow_add-read g c =
-    let e = c.encode_turn-answer.ensures in
-    let all = g.T.SourceText.list c.args.src in
-    omega (arith, e.read, ap length c.rest.ensures, length-drop c.turns.read all, c.turns.invariant.read)
-
 pub returns-in-InputEmpty-clause-behind : goal.returns-in-InputEmpty-clause-behind
 returns-in-InputEmpty-clause-behind g c =
-    let e = c.encode_turn-answer.ensures in
+    let e = c.encode_turn-result.ensures in
     let i = c.turns.invariant in
     behind_turn _ _ _ _ _ (omega (arith, i.within, i.part)) e.room i.behind e.behind
 
 pub returns-in-OutputFull-clause-behind : goal.returns-in-OutputFull-clause-behind
 returns-in-OutputFull-clause-behind g c =
-    let e = c.encode_turn-answer.ensures in
+    let e = c.encode_turn-result.ensures in
     let i = c.turns.invariant in
     behind_turn _ _ _ _ _ (omega (arith, i.within, i.part)) e.room i.behind e.behind
 
 pub returns-then-end-written-clause-behind : goal.returns-then-end-written-clause-behind
 returns-then-end-written-clause-behind g c =
-    let e = c.encode_turn-answer.ensures in
+    let e = c.encode_turn-result.ensures in
     let i = c.turns.invariant in
     behind_turn _ _ _ _ _ (omega (arith, i.within, i.part)) e.room i.behind e.behind
 
 pub returns-in-InputEmpty-clause-call : goal.returns-in-InputEmpty-clause-call
 returns-in-InputEmpty-clause-call g c =
-    let e = c.encode_turn-answer.ensures in
+    let e = c.encode_turn-result.ensures in
     let i = c.turns.invariant in
     let within : c.turns.written ≤ length c.turns.dst = omega (arith, i.within, i.part) in
-    let size = length_turn c.turns.dst c.encode_turn-answer.new.dst c.turns.written within c.encode_turn-answer.auto.dst in
-    input_empty c.args.encoder.now c.turns.encoder c.encode_turn-answer.new.encoder _ _ _ _ _ _ _ _ _ _ _ _ (omega (arith, size, c.kept_back-kept.ensures, i.size)) (omega (arith, size, c.kept_back-kept.ensures, i.size, c.if-dst-kept.false)) i.same i.going
-    (at_rest g.T.SourceText.text _ _ _ _ _ _ _ _ _ _ c.rest.ensures e.turn) c.in-InputEmpty.is (take_into _ _ _ _ _ within e.room)
+    let size = length_turn c.turns.dst c.encode_turn-result.new.dst c.turns.written within c.encode_turn-result.auto.dst in
+    input_empty c.args.encoder.now c.turns.encoder c.encode_turn-result.new.encoder _ _ _ _ _ _ _ _ _ _ _ _ (omega (arith, size, c.kept_back-kept.ensures, i.size)) (omega (arith, size, c.kept_back-kept.ensures, i.size, c.if-dst-kept.false)) i.same i.going
+    e.turn c.in-InputEmpty.is (take_into _ _ _ _ _ within e.room)
     (ap (λ n. length c.args.dst.now - c.kept_back-kept.result - n) (sym (length-take-le c.turns.written c.turns.dst within))) (omega (arith, length-take-le c.turns.written c.turns.dst within, i.within))
 
 pub returns-in-OutputFull-clause-call : goal.returns-in-OutputFull-clause-call
 returns-in-OutputFull-clause-call g c =
-    let e = c.encode_turn-answer.ensures in
+    let e = c.encode_turn-result.ensures in
     let i = c.turns.invariant in
     let within : c.turns.written ≤ length c.turns.dst = omega (arith, i.within, i.part) in
-    let size = length_turn c.turns.dst c.encode_turn-answer.new.dst c.turns.written within c.encode_turn-answer.auto.dst in
-    output_full c.args.encoder.now c.turns.encoder c.encode_turn-answer.new.encoder _ _ _ _ _ _ _ _ _ _ _ _ (omega (arith, size, c.kept_back-kept.ensures, i.size)) (omega (arith, size, c.kept_back-kept.ensures, i.size, c.if-dst-kept.false)) i.same i.going
-    (at_rest g.T.SourceText.text _ _ _ _ _ _ _ _ _ _ c.rest.ensures e.turn) c.in-OutputFull.is (take_into _ _ _ _ _ within e.room)
+    let size = length_turn c.turns.dst c.encode_turn-result.new.dst c.turns.written within c.encode_turn-result.auto.dst in
+    output_full c.args.encoder.now c.turns.encoder c.encode_turn-result.new.encoder _ _ _ _ _ _ _ _ _ _ _ _ (omega (arith, size, c.kept_back-kept.ensures, i.size)) (omega (arith, size, c.kept_back-kept.ensures, i.size, c.if-dst-kept.false)) i.same i.going
+    e.turn c.in-OutputFull.is (take_into _ _ _ _ _ within e.room)
     (ap (λ n. length c.args.dst.now - c.kept_back-kept.result - n) (sym (length-take-le c.turns.written c.turns.dst within))) (omega (arith, length-take-le c.turns.written c.turns.dst within, i.within))
 
 pub returns-then-end-written-clause-call : goal.returns-then-end-written-clause-call
 returns-then-end-written-clause-call g c =
-    let e = c.encode_turn-answer.ensures in
+    let e = c.encode_turn-result.ensures in
     let i = c.turns.invariant in
     let within : c.turns.written ≤ length c.turns.dst = omega (arith, i.within, i.part) in
-    let size = length_turn c.turns.dst c.encode_turn-answer.new.dst c.turns.written within c.encode_turn-answer.auto.dst in
-    let length_is = length_new c.turns.written (length c.turns.dst - c.turns.written) c.encode_turn-answer.result.2 c.turns.dst c.encode_turn-answer.new.dst within e.room in
-    reference_reached c.args.encoder.now c.turns.encoder c.encode_turn-answer.new.encoder _ _ _ _ _ _ _ _ _ _ _ _ _ _ (omega (arith, size, c.kept_back-kept.ensures, i.size)) (omega (arith, size, c.kept_back-kept.ensures, i.size, c.if-dst-kept.false)) i.same i.going
-    (at_rest g.T.SourceText.text _ _ _ _ _ _ _ _ _ _ c.rest.ensures e.turn) c.in-Unmappable.is (take_into _ _ _ _ _ within e.room)
-    (rw c.rest-then-end-written.ensures at c.outcome-then-end-written.ensures) (omega (arith, length_is, c.if-end-written.true))
+    let size = length_turn c.turns.dst c.encode_turn-result.new.dst c.turns.written within c.encode_turn-result.auto.dst in
+    let length_is = length_new c.turns.written (length c.turns.dst - c.turns.written) c.encode_turn-result.result.1 c.turns.dst c.encode_turn-result.new.dst within e.room in
+    reference_reached c.args.encoder.now c.turns.encoder c.encode_turn-result.new.encoder _ _ _ _ _ _ _ _ _ _ _ _ _ _ (omega (arith, size, c.kept_back-kept.ensures, i.size)) (omega (arith, size, c.kept_back-kept.ensures, i.size, c.if-dst-kept.false)) i.same i.going
+    e.turn c.in-Unmappable.is (take_into _ _ _ _ _ within e.room)
+    c.outcome-then-end-written.ensures (omega (arith, length_is, c.if-end-written.true))
     (ap (λ n. length c.args.dst.now - c.kept_back-kept.result - n) (sym (length-take-le c.turns.written c.turns.dst within))) (omega (arith, length-take-le c.turns.written c.turns.dst within, i.within))
 
 pub turns-preserved : goal.turns-preserved
 turns-preserved g c =
-    let e = c.encode_turn-answer.ensures in
+    let e = c.encode_turn-result.ensures in
     let i = c.turns.invariant in
-    let all = g.T.SourceText.list c.args.src in
     let within : c.turns.written ≤ length c.turns.dst = omega (arith, i.within, i.part) in
-    let size = length_turn c.turns.dst c.encode_turn-answer.new.dst c.turns.written within c.encode_turn-answer.auto.dst in
-    let length_is = length_new c.turns.written (length c.turns.dst - c.turns.written) c.encode_turn-answer.result.2 c.turns.dst c.encode_turn-answer.new.dst within e.room in
-    let turn = at_rest g.T.SourceText.text _ _ _ _ _ _ _ _ _ _ c.rest.ensures e.turn in
+    let size = length_turn c.turns.dst c.encode_turn-result.new.dst c.turns.written within c.encode_turn-result.auto.dst in
+    let length_is = length_new c.turns.written (length c.turns.dst - c.turns.written) c.encode_turn-result.result.1 c.turns.dst c.encode_turn-result.new.dst within e.room in
     record {
       within = omega (arith, c.if-end-written.false);
       part = omega (arith, size, i.part);
       size = size ∙ i.size;
       behind = behind_turn _ _ _ _ _ within e.room i.behind e.behind;
-      read = omega (arith, e.read, ap length c.rest.ensures, length-drop c.turns.read all, i.read);
-      boundary = g.met.T.SourceText.further all _ _ i.read (rw c.rest.ensures at e.boundary);
-      same = still_same c.args.encoder.now c.turns.encoder c.encode_turn-answer.new.encoder _ _ _ _ _ _ i.same turn;
-      going = turn_on c.args.encoder.now c.turns.encoder c.encode_turn-answer.new.encoder _ _ _ _ _ _ _ _ _ _ _ _ i.same i.going turn c.in-Unmappable.is (take_into _ _ _ _ _ within e.room) (omega (arith, length_is, c.if-end-written.false));
+      source = e.source ∙ i.source;
+      same = still_same c.args.encoder.now c.turns.encoder c.encode_turn-result.new.encoder _ _ _ _ _ _ i.same e.turn;
+      going = turn_on c.args.encoder.now c.turns.encoder c.encode_turn-result.new.encoder _ _ _ _ _ _ _ _ _ _ _ _ i.same i.going e.turn c.in-Unmappable.is (take_into _ _ _ _ _ within e.room) (omega (arith, length_is, c.if-end-written.false));
       fresh = λ h. absurd (cc);
     }

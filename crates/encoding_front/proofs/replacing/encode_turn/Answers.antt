@@ -7,31 +7,31 @@ use Rattle.encoding_front.proofs.replacing.encode_turn.Goals as goal
 
 pub put_reference-requires : goal.put_reference-requires
 put_reference-requires g c =
-    let e = c.encode-answer.ensures in
+    let e = c.encode_source-result.ensures in
     let kept : kept_back c.args.encoder.now.encoding ≡ 10 = unmappable_keeps _ _ _ _ _ _ _ _ _ e.call c.in-Unmappable.is in
-    let size : length c.encode-answer.new.dst ≡ length (take c.args.end c.args.dst.now) = c.encode-answer.auto.dst in
-    omega (arith, e.room, length-append c.encode-answer.new.dst (drop c.args.end c.args.dst.now), length-drop c.args.end c.args.dst.now, length-take-le c.args.end c.args.dst.now (omega arith))
+    let size : length c.encode_source-result.new.dst ≡ length (take c.args.end c.args.dst.now) = c.encode_source-result.auto.dst in
+    omega (arith, e.room, length-append c.encode_source-result.new.dst (drop c.args.end c.args.dst.now), length-drop c.args.end c.args.dst.now, length-take-le c.args.end c.args.dst.now (omega arith))
 
 pub returns-in_default-clause-behind : goal.returns-in_default-clause-behind
 returns-in_default-clause-behind g c =
-    let e = c.encode-answer.ensures in
-    behind_part _ _ _ _ (omega (arith, c.requires)) e.room c.encode-answer.auto.dst e.behind
+    let e = c.encode_source-result.ensures in
+    behind_part _ _ _ _ (omega (arith, c.requires)) e.room c.encode_source-result.auto.dst e.behind
 
 pub returns-in-Unmappable-clause-behind : goal.returns-in-Unmappable-clause-behind
 returns-in-Unmappable-clause-behind g c =
-    let e = c.encode-answer.ensures in
-    behind_put _ _ _ _ _ _ c.put_reference.ensures.end (behind_part _ _ _ _ (omega (arith, c.requires)) e.room c.encode-answer.auto.dst e.behind) c.put_reference.ensures.behind
+    let e = c.encode_source-result.ensures in
+    behind_put _ _ _ _ _ _ c.put_reference.ensures.end (behind_part _ _ _ _ (omega (arith, c.requires)) e.room c.encode_source-result.auto.dst e.behind) c.put_reference.ensures.behind
 
 pub returns-in_default-clause-turn : goal.returns-in_default-clause-turn
 returns-in_default-clause-turn g c =
-    let e = c.encode-answer.ensures in
-    let size : length c.encode-answer.new.dst ≡ c.args.end = c.encode-answer.auto.dst ∙ length-take-le c.args.end c.args.dst.now (omega (arith, c.requires)) in
-    turned _ _ _ _ _ _ _ _ c.encode-answer.result.2 _ _ e.call (length-take-le _ _ e.room) (omega (arith, e.room)) (ap (λ n. n - c.encode-answer.result.2) size)
-    (take-append-le _ _ _ e.room ∙ sym (append-nil _) ∙ ap (λ l. take c.encode-answer.result.2 c.encode-answer.new.dst ++ l) (sym (nothing_referred _ c.in_default.not-Unmappable)))
+    let e = c.encode_source-result.ensures in
+    let size : length c.encode_source-result.new.dst ≡ c.args.end = c.encode_source-result.auto.dst ∙ length-take-le c.args.end c.args.dst.now (omega (arith, c.requires)) in
+    turned _ _ _ _ _ _ _ _ c.encode_source-result.result.1 _ _ e.call (length-take-le _ _ e.room) (omega (arith, e.room)) (ap (λ n. n - c.encode_source-result.result.1) size)
+    (take-append-le _ _ _ e.room ∙ sym (append-nil _) ∙ ap (λ l. take c.encode_source-result.result.1 c.encode_source-result.new.dst ++ l) (sym (nothing_referred _ c.in_default.not-Unmappable)))
 
 pub returns-in-Unmappable-clause-turn : goal.returns-in-Unmappable-clause-turn
 returns-in-Unmappable-clause-turn g c =
-    let e = c.encode-answer.ensures in
-    let size : length c.encode-answer.new.dst ≡ c.args.end = c.encode-answer.auto.dst ∙ length-take-le c.args.end c.args.dst.now (omega (arith, c.requires)) in
-    turned _ _ _ _ _ _ _ _ c.encode-answer.result.2 _ _ (rw c.in-Unmappable.is at e.call) (length-take-le _ _ e.room) (omega (arith, e.room)) (ap (λ n. n - c.encode-answer.result.2) size)
+    let e = c.encode_source-result.ensures in
+    let size : length c.encode_source-result.new.dst ≡ c.args.end = c.encode_source-result.auto.dst ∙ length-take-le c.args.end c.args.dst.now (omega (arith, c.requires)) in
+    turned _ _ _ _ _ _ _ _ c.encode_source-result.result.1 _ _ (rw c.in-Unmappable.is at e.call) (length-take-le _ _ e.room) (omega (arith, e.room)) (ap (λ n. n - c.encode_source-result.result.1) size)
     (c.put_reference.ensures.prefix ∙ ap (λ l. l ++ referred (Unmappable c.in-Unmappable.c)) (take-append-le _ _ _ e.room))

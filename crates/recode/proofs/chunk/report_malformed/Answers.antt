@@ -1,4 +1,5 @@
 use Rattle.std.proofs.Common.{◌+◌, arith, refl, ap, length, false, [], ◌∷◌}
+use Rattle.encoding_mem.specs.declared.reference.Reference.TheVariants.{Decimal}
 use Rattle.encoding_mem.specs.Items.{open_items, whole_items}
 use Rattle.std.specs.Str.{chars}
 use Rattle.recode.proofs.TraceLemmas.{under_line, writes_malformed, WritesItems-trans, WritesItems-under, WritesItems-of, WritesPrefix-of, on_err}
@@ -30,6 +31,6 @@ returns-in_err-counts-clause-err g c =
     let e = g.E.RawEncoder.coding c.args.encoder.now in
     let s = g.E.RawEncoder.set c.args.encoder.now in
     let i = c.args.counts.index in
-    on_err _ (WritesItems-under _ _ _ _ _ _ c.args.counts (record c.args.counts { bad = c.args.counts.bad + 1 }) _ (open_items e s i (0xFFFD ∷ []))
+    on_err _ (WritesItems-under _ _ _ _ _ _ c.args.counts (record c.args.counts { bad = c.args.counts.bad + 1 }) _ (open_items Decimal e s i (0xFFFD ∷ []))
     (writes_malformed _ _ _ _ _ _ _ _ c.in_ok-log_line.ensures.ok.0 refl refl)
-    (WritesPrefix-of _ _ _ _ (whole_items e false s i (chars (239 ∷ 191 ∷ 189 ∷ []))) _ (open_replacement e s i) c.in_err-counts.ensures.err))
+    (WritesPrefix-of _ _ _ _ (whole_items Decimal e false s i (chars (239 ∷ 191 ∷ 189 ∷ []))) _ (open_replacement e s i) c.in_err-counts.ensures.err))

@@ -1,4 +1,5 @@
 use Rattle.std.proofs.Common.{◌≡◌, ◌≤◌, ◌+◌, length, false}
+use Rattle.encoding_mem.specs.declared.reference.Reference.TheVariants.{Decimal}
 use Rattle.encoding_mem.specs.Coding.{last_set}
 use Rattle.encoding_mem.specs.Items.{whole_items}
 use Rattle.recode.specs.WrittenItems.{WritesItems}
@@ -9,8 +10,8 @@ use Rattle.recode.proofs.encode.encode_all.Given as goal
 abbrev pub invariant-text : goal.invariant-text
 invariant-text g l = record {
   pays : WritesItems (g.W.Write.contents (inner_of l.initial.writer)) (g.W.Write.contents (inner_of l.writer)) (g.L.Write.contents (inner_of l.initial.log)) (g.L.Write.contents (inner_of l.log)) l.initial.counts l.counts
-      (whole_items (g.E.RawEncoder.coding l.initial.encoder) l.last (g.E.RawEncoder.set l.initial.encoder) l.initial.counts.index (pivot_chars l.initial.rest))
-      (whole_items (g.E.RawEncoder.coding l.initial.encoder) l.last (g.E.RawEncoder.set l.encoder) l.counts.index (pivot_chars l.rest));
+      (whole_items Decimal (g.E.RawEncoder.coding l.initial.encoder) l.last (g.E.RawEncoder.set l.initial.encoder) l.initial.counts.index (pivot_chars l.initial.rest))
+      (whole_items Decimal (g.E.RawEncoder.coding l.initial.encoder) l.last (g.E.RawEncoder.set l.encoder) l.counts.index (pivot_chars l.rest));
   passed : l.counts.index + length (pivot_chars l.rest) ≡ l.initial.counts.index + length (pivot_chars l.initial.rest);
   lost : l.counts.lost ≤ l.counts.index;
   bad : l.counts.bad ≡ l.initial.counts.bad;
@@ -22,4 +23,4 @@ invariant-text g l = record {
 }
 
 abbrev pub decreases-text : goal.decreases-text
-decreases-text g l = length (whole_items (g.E.RawEncoder.coding l.encoder) l.last (g.E.RawEncoder.set l.encoder) l.counts.index (pivot_chars l.rest))
+decreases-text g l = length (whole_items Decimal (g.E.RawEncoder.coding l.encoder) l.last (g.E.RawEncoder.set l.encoder) l.counts.index (pivot_chars l.rest))

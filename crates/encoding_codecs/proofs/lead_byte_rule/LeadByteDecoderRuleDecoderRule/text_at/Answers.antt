@@ -7,9 +7,9 @@ use Rattle.encoding_codecs.proofs.lead_byte_rule.LeadByteDecoderRuleDecoderRule.
 pub returns-clause-pieces : goal.returns-clause-pieces
 returns-clause-pieces g c r =
     let s = c.args.self.now.encoding in
-    let first = g.T.LeadByteRule.first_byte s in
-    let after = g.T.LeadByteRule.after s in
-    pieces_by-ascii (first_piece_by_lead first after) (cuts_rule first after (g.T.LeadByteRule.decided s) (g.T.LeadByteRule.laws s)) (lead_ascii first after)
+    let first = (g.T.LeadByteRule.rule s).first in
+    let after = (g.T.LeadByteRule.rule s).after in
+    pieces_by-ascii (first_piece_by_lead first after) (cuts_rule first after (g.T.LeadByteRule.rule s).decide (g.T.LeadByteRule.laws s)) (lead_ascii first after)
     c.longer_ascii_prefix.result.now r c.longer_ascii_prefix.ensures.ascii
 
 pub returns-clause-room : goal.returns-clause-room

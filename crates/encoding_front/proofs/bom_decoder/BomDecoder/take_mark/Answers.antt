@@ -1,7 +1,7 @@
 use Rattle.std.proofs.Common.{rules, arith, ◌≡◌, ℕ, ◌-◌, ◌++◌, List, length, true, false, sym, ◌∙◌, ap, subst, [], Some}
 use Rattle.encoding_front.specs.Seeking.{len_of, is_sought, find_mark, sought_pieces, sought_needs}
 use Rattle.encoding_front.specs.laws.Stream.{room_after_is}
-use Rattle.encoding_front.specs.TakesMark.{Leaves}
+use Rattle.encoding_front.specs.TakesMark.{LeavesRoom}
 use Rattle.encoding_front.specs.declared.seeking.BomSet.{BomSet}
 use Rattle.encoding_front.specs.declared.seeking.BomMatch.TheVariants.{Prefix, Whole}
 use Rattle.encoding_front.proofs.BomLemmas.{waits_mark, takes_all, takes_none, takes_whole, other_is, ended_is, prefix_short, few_of, unmarked, untaken, taken_whole, taken_other, taken_ended, leaves_whole, leaves_all, leaves_none}
@@ -34,7 +34,7 @@ returns-in-Whole-clause-takes g c =
     let few = few_of (length d.held) own.pending d.few in (
       c.nothing-self.ensures,
       takes_whole d.sought own after (λ x. sought_pieces c.nothing-self.result after.pieces x) d.held c.args.src.now window c.new-self.result c.args.last c.in-Whole.mark _ e (d.fresh e) few c.prefix_of-window.ensures f (λ x. unmarked c.nothing-self.result after.pieces x (ap is_sought c.nothing-self.ensures)) c.after_mark.ensures.pieces c.after_mark.ensures.pending c.new-self.ensures size,
-      subst (λ (s : BomSet). Leaves (sought_needs d.sought own.needs d.held) (sought_needs s after.needs c.new-self.result) (c.len.result - c.len-in-Whole.result)) (sym c.nothing-self.ensures) (leaves_whole d.sought own.needs after d.held c.args.src.now window c.new-self.result c.in-Whole.mark _ few c.prefix_of-window.ensures f c.after_mark.ensures.pending c.after_mark.ensures.room c.new-self.ensures size),
+      subst (λ (s : BomSet). LeavesRoom (sought_needs d.sought own.needs d.held) (sought_needs s after.needs c.new-self.result) (c.len.result - c.len-in-Whole.result)) (sym c.nothing-self.ensures) (leaves_whole d.sought own.needs after d.held c.args.src.now window c.new-self.result c.in-Whole.mark _ few c.prefix_of-window.ensures f c.after_mark.ensures.pending c.after_mark.ensures.room c.new-self.ensures size),
     )
 
 pub returns-in-Whole-clause-taken : goal.returns-in-Whole-clause-taken
@@ -63,7 +63,7 @@ returns-in_default-clause-takes g c =
     ] in (
       c.nothing-self-in_default.ensures,
       takes_none (λ x. sought_pieces d.sought own.pieces x) (λ x. sought_pieces now own.pieces x) d.held c.args.src.now c.args.last own.pending left,
-      subst (λ (s : BomSet). Leaves (sought_needs d.sought own.needs d.held) (sought_needs s own.needs d.held) 0) (sym c.nothing-self-in_default.ensures) (leaves_none d.sought own.needs d.held),
+      subst (λ (s : BomSet). LeavesRoom (sought_needs d.sought own.needs d.held) (sought_needs s own.needs d.held) 0) (sym c.nothing-self-in_default.ensures) (leaves_none d.sought own.needs d.held),
     )
 
 pub returns-in_default-clause-taken : goal.returns-in_default-clause-taken

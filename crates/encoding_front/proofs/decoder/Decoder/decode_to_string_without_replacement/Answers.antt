@@ -1,4 +1,4 @@
-use Rattle.std.proofs.Common.{◌≤◌, ◌+◌, ◌-◌, ap, sym, subst, length, take, drop, ◌++◌, ◌∙◌, arith, length-drop, encode_utf8_all}
+use Rattle.std.proofs.Common.{◌≤◌, ap, sym, subst, length, take, drop, ◌++◌, ◌∙◌, arith, length-drop, encode_utf8_all}
 use Rattle.encoding_mem.specs.Piece.{scalars}
 use Rattle.encoding_mem.specs.Decoding.{EndsWith}
 use Rattle.encoding_front.specs.BomDecoderState.{bom_decoder_state}

@@ -7,19 +7,19 @@ use Rattle.encoding_tables.proofs.replacement_decoder.ReplacementRuleDecoderRule
 pub returns-then-self-clause-piece : goal.returns-then-self-clause-piece
 returns-then-self-clause-piece c =
     let e = c.args.self.now.error_returned in
-    subst (λ t. TellsFirstPiece (pieces_replacement e) (pieces_replacement true) c.args.bytes.now c.args.last (decide_replacement t)) c.if-self.true (replacement_first_piece e c.args.bytes.now c.args.last c.requires)
+    subst (λ t. TellsFirstPiece (pieces_replacement e) (pieces_replacement true) c.args._bytes.now c.args._last (decide_replacement t)) c.if-self.true (replacement_first_piece e c.args._bytes.now c.args._last c.requires)
 
 pub returns-else-self-clause-piece : goal.returns-else-self-clause-piece
 returns-else-self-clause-piece c =
     let e = c.args.self.now.error_returned in
-    subst (λ t. TellsFirstPiece (pieces_replacement e) (pieces_replacement true) c.args.bytes.now c.args.last (decide_replacement t)) c.if-self.false (replacement_first_piece e c.args.bytes.now c.args.last c.requires)
+    subst (λ t. TellsFirstPiece (pieces_replacement e) (pieces_replacement true) c.args._bytes.now c.args._last (decide_replacement t)) c.if-self.false (replacement_first_piece e c.args._bytes.now c.args._last c.requires)
 
 pub returns-then-self-clause-room : goal.returns-then-self-clause-room
 returns-then-self-clause-room c =
     let e = c.args.self.now.error_returned in
-    subst (λ t. HasRoomFor (replacement_needs e) (replacement_needs true) (length c.args.bytes.now) c.args.last (decide_replacement t)) c.if-self.true (replacement_roomy e (length c.args.bytes.now) c.args.last)
+    subst (λ t. HasRoomFor (replacement_needs e) (replacement_needs true) (length c.args._bytes.now) c.args._last (decide_replacement t)) c.if-self.true (replacement_roomy e (length c.args._bytes.now) c.args._last)
 
 pub returns-else-self-clause-room : goal.returns-else-self-clause-room
 returns-else-self-clause-room c =
     let e = c.args.self.now.error_returned in
-    subst (λ t. HasRoomFor (replacement_needs e) (replacement_needs true) (length c.args.bytes.now) c.args.last (decide_replacement t)) c.if-self.false (replacement_roomy e (length c.args.bytes.now) c.args.last)
+    subst (λ t. HasRoomFor (replacement_needs e) (replacement_needs true) (length c.args._bytes.now) c.args._last (decide_replacement t)) c.if-self.false (replacement_roomy e (length c.args._bytes.now) c.args._last)

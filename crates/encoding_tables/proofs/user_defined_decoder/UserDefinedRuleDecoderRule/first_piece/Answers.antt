@@ -9,8 +9,8 @@ use Rattle.encoding_tables.proofs.user_defined_decoder.UserDefinedRuleDecoderRul
 
 pub returns-clause-piece : goal.returns-clause-piece
 returns-clause-piece c =
-    subst (λ o. TellsFirstPiece pieces_user_defined pieces_user_defined c.args.bytes.now c.args.last (first_piece_of_byte o)) c.char_of.ensures.value
-    (first_piece_by_first user_char_of_byte scalars_user_defined c.args.bytes.now c.args.last c.requires)
+    subst (λ o. TellsFirstPiece pieces_user_defined pieces_user_defined c.args.bytes.now c.args._last (first_piece_of_byte o)) c.char_of.ensures.value
+    (first_piece_by_first user_char_of_byte scalars_user_defined c.args.bytes.now c.args._last c.requires)
 
 pub returns-clause-room : goal.returns-clause-room
-returns-clause-room c = roomy_basic (length c.args.bytes.now) c.args.last (One c.char_of.result 1) (c.char_of.ensures.basic, lit< tt)
+returns-clause-room c = roomy_basic (length c.args.bytes.now) c.args._last (One c.char_of.result 1) (c.char_of.ensures.basic, lit< tt)

@@ -1,6 +1,6 @@
 use Rattle.std.proofs.Common.{Ok, ◌∙◌, ap, sym}
 use Rattle.encoding_front.specs.contracts.decoder.DecoderStreamDecoder.TheImpl as decoder
-use Rattle.encoding_front.specs.contracts.variant_encoder.VariantEncoderRawEncoder.TheImpl as encoder
+use Rattle.encoding_front.specs.contracts.variant_encoder.VariantEncoderSourceEncoder.TheImpl as encoder
 use Rattle.recode.specs.TraceToWrite.{trace_to_write}
 use Rattle.recode.proofs.TraceLemmas.{WritesItemsFor-to}
 use Rattle.recode.proofs.session.Session.step.Goals as goal
@@ -13,7 +13,7 @@ returns-in-Ok-More-clause-more g c e =
       consumed = m.consumed;
       counted = m.counted;
       within = m.within;
-      pays = WritesItemsFor-to _ _ _ _ _ _ _ _ _ _ m.pays (λ r. ap (λ k. trace_to_write (decoder.ghosts.view c.step-answer.new.self.decoder).state k (encoder.ghosts.set c.step-answer.new.self.encoder) c.step-answer.new.self.counts r) (sym c.step-answer.ensures.target));
+      pays = WritesItemsFor-to _ _ _ _ _ _ _ _ _ _ m.pays (λ r. ap (λ k. trace_to_write (decoder.ghosts.view c.step-answer.new.self.decoder).state k (encoder.ghosts.parts c.step-answer.new.self.encoder).set c.step-answer.new.self.counts r) (sym c.step-answer.ensures.target));
       source = m.source;
     }
 

@@ -1,0 +1,9 @@
+use Rattle.std.proofs.Common.{subst}
+use Rattle.encoding_mem.specs.EncoderRule.{Moves}
+use Rattle.encoding_mem.specs.laws.Encoding.{encoded_moves}
+use Rattle.encoding_mem.proofs.source_encoder.AnySourceEncoder.encode_from.Goals as goal
+
+pub enter-requires : goal.enter-requires
+enter-requires g c =
+    subst (λ s. Moves (g.R.EncoderRule.coding c.args.self.now) s c.encode-result.new.set) c.current_set-set.ensures
+    (encoded_moves _ _ _ _ _ _ _ _ c.encode-result.ensures.law)

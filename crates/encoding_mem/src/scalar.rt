@@ -1,0 +1,11 @@
+ghost use Rattle.std.specs.Prelude.{◌≡◌};
+ghost use Rattle.std.specs.Char.{InScalarRange};
+
+/// The character of a number that is a scalar value.
+#[inline(always)]
+pub fn scalar_of(number: u32) -> char
+    requires { InScalarRange number }
+    ensures { result ≡ number }
+{
+    unsafe { char::from_u32_unchecked(number) }
+}

@@ -1,0 +1,133 @@
+// An encoder of any source, and the two sources that a raw encoder is handed.
+
+ghost use Rattle.std.specs.Prelude.{◌≡◌, ◌≢◌, ◌↔◌, ℕ, ◌-◌, ◌≤◌, IsTrue, length, take, drop};
+ghost use Rattle.encoding_mem.specs.Coding.{IsCoding};
+ghost use Rattle.encoding_mem.specs.DecodedLength.{bound_at};
+ghost use Rattle.encoding_mem.specs.EncodedLength.{bound_for};
+ghost use Rattle.encoding_mem.specs.Encoding.{Encodes, EncodeEndsWith};
+ghost use Rattle.encoding_mem.specs.EncoderRule.{EncoderParts, Tight, left};
+ghost use Rattle.encoding_mem.specs.declared.form.EscapeState.TheVariants.{Ascii};
+
+use crate::encode::{EncoderRule, encode};
+use crate::encoder_result::EncoderResult;
+use crate::form::EscapeState;
+use crate::raw_encoder::RawEncoder;
+use crate::room::EncodedLength;
+use crate::source::{Source, Utf8Source, Utf16Source};
+
+/// An encoder that reads any source. Each is a `RawEncoder`.
+pub trait SourceEncoder {
+    ghost parts: { Self → EncoderParts };
+
+    /// Encodes what is left of a source. Returns how the call ended and the bytes written.
+    fn encode_from<S: Source>(
+        &mut self,
+        source: &mut S,
+        dst: &mut [u8],
+        last: bool,
+    ) -> (EncoderResult, usize)
+        ensures room { result.1 ≤ length dst.new }
+        ensures behind { drop result.1 dst.new ≡ drop result.1 dst.old }
+        ensures source { S.all source.new ≡ S.all source.old }
+        ensures coding { (parts self.new).coding ≡ (parts self.old).coding }
+        ensures law { Encodes (parts self.old).coding last result.0 (parts self.old).set
+            (left S.text (S.all source.old) (S.offset source.old)) (take result.1 dst.new)
+            (parts self.new).set (left S.text (S.all source.new) (S.offset source.new)) }
+        ensures ends { EncodeEndsWith (parts self.old).need last result.0 (parts self.new).set
+            (left S.text (S.all source.new) (S.offset source.new)) (length dst.new - result.1) }
+        ensures tight { Tight (parts self.old).coding result.0 (parts self.new).set
+            (left S.text (S.all source.new) (S.offset source.new)) (length dst.new - result.1) }
+        ensures enough { bound_at (bound_for (parts self.old).limits S.is_units)
+            (length (S.all source.old) - S.offset source.old) ≤ length dst.old
+            → result.0 ≢ EncoderResult.OutputFull }
+        ensures limits { (parts self.new).limits ≡ (parts self.old).limits }
+        ensures need { (parts self.new).need ≡ (parts self.old).need };
+
+    /// The room that is enough for what a text is encoded to.
+    fn encoded_length(&self) -> EncodedLength
+        ensures { result ≡ (parts self.now).limits };
+
+    /// Whether another set than ASCII is in force.
+    fn is_in_other_set(&self) -> bool
+        ensures { IsTrue result ↔ ((parts self.now).set ≢ Ascii) };
+
+    ghost laws: { (x : Self) → IsCoding (parts x).need (parts x).coding };
+}
+
+impl<R: EncoderRule> SourceEncoder for R {
+    ghost parts = { λ x. record {
+      need = R.need x;
+      coding = R.coding x;
+      set = R.set x;
+      limits = R.limits x;
+    } };
+
+    ghost laws = { R.laws };
+
+    #[inline(always)]
+    fn encode_from<S: Source>(
+        &mut self,
+        source: &mut S,
+        dst: &mut [u8],
+        last: bool,
+    ) -> (EncoderResult, usize) {
+        let mut set = self.current_set();
+        let (result, written) = encode(self, &mut set, source, dst, last);
+        self.enter(set);
+        (result, written)
+    }
+
+    fn encoded_length(&self) -> EncodedLength {
+        EncoderRule::encoded_length(self)
+    }
+
+    fn is_in_other_set(&self) -> bool {
+        !matches!(self.current_set(), EscapeState::Ascii)
+    }
+}
+
+impl<E: SourceEncoder> RawEncoder for E {
+    ghost need = { λ x. (E.parts x).need };
+
+    ghost coding = { λ x. (E.parts x).coding };
+
+    ghost set = { λ x. (E.parts x).set };
+
+    ghost limits = { λ x. (E.parts x).limits };
+
+    ghost laws = { E.laws };
+
+    fn encode_from_utf8_raw(
+        &mut self,
+        src: &str,
+        dst: &mut [u8],
+        last: bool,
+    ) -> (EncoderResult, usize, usize) {
+        let mut source = Utf8Source::new(src);
+        let (result, written) = self.encode_from(&mut source, dst, last);
+        (result, source.read(), written)
+    }
+
+    fn encode_from_utf16_raw(
+        &mut self,
+        src: &[u16],
+        dst: &mut [u8],
+        last: bool,
+    ) -> (EncoderResult, usize, usize) {
+        let mut source = Utf16Source::new(src);
+        let (result, written) = self.encode_from(&mut source, dst, last);
+        (result, source.read(), written)
+    }
+
+    fn max_buffer_length_from_utf16_without_replacement(&self, n: usize) -> Option<usize> {
+        self.encoded_length().units.at(n)
+    }
+
+    fn max_buffer_length_from_utf8_without_replacement(&self, n: usize) -> Option<usize> {
+        self.encoded_length().bytes.at(n)
+    }
+
+    fn has_pending_state(&self) -> bool {
+        self.is_in_other_set()
+    }
+}

@@ -1,0 +1,19 @@
+use Rattle.std.proofs.Common.{◌∙◌, sym, ap, length}
+use Rattle.std.proofs.lemmas.Slice.{between_from_start}
+use Rattle.encoding_mem.specs.declared.reference.Reference.TheVariants.{Decimal}
+use Rattle.encoding_mem.specs.laws.Encoding.{encoded_items}
+use Rattle.recode.specs.PivotText.{pivot_chars}
+use Rattle.recode.proofs.PivotLemmas.{bytes_passed, units_passed}
+use Rattle.recode.proofs.codec_calls.encode_some.Goals as goal
+
+pub returns-in-Utf8-clause-passed : goal.returns-in-Utf8-clause-passed
+returns-in-Utf8-clause-passed g c =
+    bytes_passed c.in-Utf8.text.now c.range.result.now c.range_from.result.now c.encode_from_utf8_raw-answer.result.1 _ c.range.utf8 c.count_characters.ensures
+    (c.range.ensures.value ∙ between_from_start _ _) c.range_from.ensures.value
+    ∙ ap (λ t. length (pivot_chars t)) (sym c.in-Utf8.is)
+
+pub returns-in-Utf16-clause-passed : goal.returns-in-Utf16-clause-passed
+returns-in-Utf16-clause-passed g c =
+    let k = encoded_items Decimal _ _ _ _ _ _ _ _ (g.met.E.RawEncoder.laws c.args.encoder.now) c.encode_from_utf16_raw-answer.ensures.law in
+    units_passed c.in-Utf16.units.now k.prefix c.encode_from_utf16_raw-answer.result.1 _ k.split c.count_in_units.ensures
+    ∙ ap (λ t. length (pivot_chars t)) (sym c.in-Utf16.is)
