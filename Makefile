@@ -2,7 +2,7 @@ PREFIX = /usr/local
 FROM = utf-8
 TO = utf-8
 
-.PHONY: build test lint edits status run refused characters install
+.PHONY: build test lint edits example status run refused characters install
 
 # Proves the program and all that it stands on, and builds it: crates/recode_cli/out/recode_cli.
 build:
@@ -22,6 +22,10 @@ lint:
 # The edits that the gate leaves out, each of which the prover must refuse: for a release, some 25 seconds of processor time each.
 edits:
 	@python3 tools/edits.py
+
+# An encoding more, as docs/examples has it, added to a copy of the last commit and proved there.
+example:
+	@python3 tools/example.py
 
 # The merge gate on a clean clone of HEAD, and what it said as docs/STATUS.md: an hour or more.
 status:
