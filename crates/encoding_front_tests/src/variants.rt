@@ -19,16 +19,15 @@ fn a_single_byte_target_fills_its_room(rt: HostRuntime) -> Result<(), TableFault
     let mut tables = Tables::new(rt.alloc());
     tables.insert(IndexKind::Windows1252, &[0xE9; 128])?;
     assert!(rt; WINDOWS_1252.is_ready(&tables));
-    for (room, answer) in [
-        (2, (EncoderResult::OutputFull, 3, 2)),
-        (3, (EncoderResult::InputEmpty, 4, 3)),
-    ] {
-        let mut encoder = VariantEncoder::new(WINDOWS_1252, &tables);
-        let mut dst = [0u8; 3];
-        let told = encoder.encode_from_utf8_raw("aéb", &mut dst[..room], true);
-        assert_eq!(rt; told, answer);
-        assert_eq!(rt; &dst[..2], b"a\x80".as_slice());
-    }
+    let mut encoder = VariantEncoder::new(WINDOWS_1252, &tables);
+    let mut two = [0; 2];
+    let told = encoder.encode_from_utf8_raw("aéb", &mut two, true);
+    assert_eq!(rt; told, (EncoderResult::OutputFull, 3, 2));
+    assert_eq!(rt; two, [0x61, 0x80]);
+    let mut three = [0; 3];
+    let told = encoder.encode_from_utf8_raw("aéb", &mut three, true);
+    assert_eq!(rt; told, (EncoderResult::InputEmpty, 4, 3));
+    assert_eq!(rt; three, [0x61, 0x80, 0x62]);
     Ok(())
 }
 
