@@ -1,7 +1,9 @@
 // Big5 (the Encoding Standard, section 11.1).
 
-ghost use Rattle.std.specs.Prelude.{◌≡◌, ◌↔◌, ℕ, ◌+◌, ◌-◌, ◌*◌, ◌/◌, ◌%◌, ◌<◌, ◌≤◌, [], ◌∷◌, true, IsTrue, IfSome};
+ghost use Rattle.std.specs.Prelude.{◌≡◌, ℕ, ◌+◌, ◌-◌, ◌*◌, ◌/◌, ◌%◌, ◌<◌, ◌≤◌, [], ◌∷◌, true, IfSome};
+ghost use Rattle.encoding_mem.specs.Decoding.{IsFreshDecoder};
 ghost use Rattle.encoding_mem.specs.DecodedLength.{decoded_length_multibyte};
+ghost use Rattle.encoding_mem.specs.EncoderRule.{IsFreshEncoder};
 ghost use Rattle.encoding_mem.specs.EncodedLength.{encoded_length_two_byte};
 ghost use Rattle.encoding_tables.specs.IndexLists.{has, entries_of};
 ghost use Rattle.encoding_tables.specs.Lookups.{AreEntries};
@@ -11,17 +13,16 @@ ghost use Rattle.encoding_codecs.specs.laws.TwoByteDecide.{lead_rule_of};
 ghost use Rattle.encoding_codecs.specs.laws.Big5.{big5_is_two_byte, big5_laws};
 ghost use Rattle.encoding_codecs.specs.laws.Pointers.{ascii_by_pointer};
 ghost use Rattle.encoding_codecs.specs.laws.EncodedLengths.{two_byte_fits};
-ghost use Rattle.encoding_mem.specs.declared.form.EscapeState.TheVariants.{Ascii};
 
+use crate::codec_decoder::CodecDecoder;
 use crate::lead_byte_rule::{FirstByte, LeadByteDecoderRule, LeadByteRule};
 use crate::two_byte::{PairValue, decide_trail, value_of_entry};
+use encoding_mem::RawDecoder;
 use encoding_mem::encode::StatelessRule;
 use encoding_mem::first_piece::{FirstPiece, cut_short};
 use encoding_mem::form::{Bytes, Form};
-use encoding_mem::room::{DecodedLength, EncodedLength};
-use encoding_mem::sink::Sink;
-use encoding_mem::sink_decoder::{Buffered, SinkDecoder};
-use encoding_mem::{DecoderResult, RawDecoder, RawEncoder};
+use encoding_mem::room::EncodedLength;
+use encoding_mem::source_encoder::SourceEncoder;
 use encoding_tables::{Flat, IndexKind, Tables};
 
 // The pointers that are written: below them stand Hong Kong's extensions.
@@ -31,7 +32,7 @@ const WRITTEN_END: u32 = 19782;
 
 // Its index.
 #[derive(Drop)]
-struct Big5<'a> {
+pub struct Big5<'a> {
     flat: Flat<'a>,
     ghost scalars: { AreEntries flat },
 }
@@ -116,53 +117,18 @@ impl<'a> LeadByteRule for Big5<'a> {
 /// Decodes Big5: 00 to 7F give themselves, a lead from 81 to FE and a trail from 40 to 7E or from A1 to FE
 /// the entry at `(lead - 81) * 157 + trail - offset`, where the bytes are hexadecimal and the offset is 40
 /// or 62. Four pointers give a letter and a combining mark.
-#[derive(Drop)]
-pub struct Big5Decoder<'a> {
-    inner: Buffered<LeadByteDecoderRule<Big5<'a>>>,
-}
+pub type Big5Decoder<'a> = CodecDecoder<LeadByteDecoderRule<Big5<'a>>>;
 
-impl<'a> Big5Decoder<'a> {
+impl<'a> CodecDecoder<LeadByteDecoderRule<Big5<'a>>> {
     /// The decoder of tables in which the index is there. Nothing is pending.
     pub fn new(tables: &'a Tables) -> Self
         requires { has tables.now IndexKind.Big5 ≡ true }
-        ensures pending { (⟦<Big5Decoder<'a> as RawDecoder>⟧.state result).pending ≡ 0 }
-        ensures pieces { (⟦<Big5Decoder<'a> as RawDecoder>⟧.state result).pieces ≡ pieces_big5 (entries_of tables.now IndexKind.Big5) }
-        ensures room { (⟦<Big5Decoder<'a> as RawDecoder>⟧.state result).room ≡ decoded_length_multibyte }
+        ensures { IsFreshDecoder (⟦<Big5Decoder<'a> as RawDecoder>⟧.state result)
+            (pieces_big5 (entries_of tables.now IndexKind.Big5)) decoded_length_multibyte }
     {
-        Big5Decoder {
-            inner: Buffered::new(LeadByteDecoderRule::new(Big5 {
-                flat: tables.flat(IndexKind::Big5),
-            })),
-        }
-    }
-
-    /// Whether nothing is pending.
-    pub fn in_neutral_state(&self) -> bool
-        ensures { IsTrue result ↔ ((⟦<Big5Decoder<'a> as RawDecoder>⟧.state self.now).pending ≡ 0) }
-    {
-        self.pending_len() == 0
-    }
-}
-
-impl<'a> SinkDecoder for Big5Decoder<'a> {
-    ghost state = { λ d. ⟦<Buffered<LeadByteDecoderRule<Big5<'a>>> as SinkDecoder>⟧.state d.inner };
-
-    #[inline(always)]
-    fn decode_into<S: Sink>(
-        &mut self,
-        src: &[u8],
-        sink: &mut S,
-        last: bool,
-    ) -> (DecoderResult, usize) {
-        self.inner.decode_into(src, sink, last)
-    }
-
-    fn held_len(&self) -> usize {
-        self.inner.held_len()
-    }
-
-    fn room(&self) -> DecodedLength {
-        self.inner.room()
+        CodecDecoder::of_rule(LeadByteDecoderRule::new(Big5 {
+            flat: tables.flat(IndexKind::Big5),
+        }))
     }
 }
 
@@ -178,10 +144,8 @@ impl<'a> Big5Encoder<'a> {
     /// The encoder of tables in which the index is there.
     pub fn new(tables: &'a Tables) -> Self
         requires { has tables.now IndexKind.Big5 ≡ true }
-        ensures coding { ⟦<Big5Encoder<'a> as RawEncoder>⟧.coding result ≡ big5_coding (entries_of tables.now IndexKind.Big5) }
-        ensures set { ⟦<Big5Encoder<'a> as RawEncoder>⟧.set result ≡ Ascii }
-        ensures need { ⟦<Big5Encoder<'a> as RawEncoder>⟧.need result ≡ 2 }
-        ensures limits { ⟦<Big5Encoder<'a> as RawEncoder>⟧.limits result ≡ encoded_length_two_byte }
+        ensures { IsFreshEncoder (⟦<Big5Encoder<'a> as SourceEncoder>⟧.parts result) 2
+            (big5_coding (entries_of tables.now IndexKind.Big5)) encoded_length_two_byte }
     {
         Big5Encoder {
             flat: tables.flat(IndexKind::Big5),

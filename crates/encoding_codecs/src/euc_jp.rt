@@ -1,7 +1,9 @@
 // EUC-JP (the Encoding Standard, section 12.1).
 
-ghost use Rattle.std.specs.Prelude.{◌≡◌, ◌≢◌, ◌↔◌, ◌<◌, true, IsTrue};
+ghost use Rattle.std.specs.Prelude.{◌≡◌, ◌≢◌, ◌<◌, true};
+ghost use Rattle.encoding_mem.specs.Decoding.{IsFreshDecoder};
 ghost use Rattle.encoding_mem.specs.DecodedLength.{decoded_length_multibyte};
+ghost use Rattle.encoding_mem.specs.EncoderRule.{IsFreshEncoder};
 ghost use Rattle.encoding_mem.specs.EncodedLength.{encoded_length_two_byte};
 ghost use Rattle.encoding_tables.specs.IndexLists.{has, entries_of};
 ghost use Rattle.encoding_tables.specs.Lookups.{AreEntries};
@@ -9,23 +11,22 @@ ghost use Rattle.encoding_codecs.specs.EucJp.{is_pointer_byte, euc_jp_first, euc
 ghost use Rattle.encoding_codecs.specs.laws.EucJpDecide.{decide_8f, decide_euc_jp};
 ghost use Rattle.encoding_codecs.specs.laws.EucJp.{euc_jp_is_lead_rule, euc_jp_ascii, euc_jp_laws};
 ghost use Rattle.encoding_codecs.specs.laws.EncodedLengths.{two_byte_fits};
-ghost use Rattle.encoding_mem.specs.declared.form.EscapeState.TheVariants.{Ascii};
 
+use crate::codec_decoder::CodecDecoder;
 use crate::jis::{byte_of_katakana, folded, is_katakana, is_katakana_byte, katakana_of_byte};
 use crate::lead_byte_rule::{FirstByte, LeadByteDecoderRule, LeadByteRule};
 use crate::two_byte::{PairValue, decide_trail, form_of_bytes, value_of_entry};
+use encoding_mem::RawDecoder;
 use encoding_mem::encode::StatelessRule;
 use encoding_mem::first_piece::{FirstPiece, cut_short};
 use encoding_mem::form::{Bytes, Form};
-use encoding_mem::room::{DecodedLength, EncodedLength};
-use encoding_mem::sink::Sink;
-use encoding_mem::sink_decoder::{Buffered, SinkDecoder};
-use encoding_mem::{DecoderResult, RawDecoder, RawEncoder};
+use encoding_mem::room::EncodedLength;
+use encoding_mem::source_encoder::SourceEncoder;
 use encoding_tables::{Flat, IndexKind, Tables};
 
 // The indexes that are read.
 #[derive(Drop)]
-struct EucJpLeads<'a> {
+pub struct EucJpLeads<'a> {
     jis0208: Flat<'a>,
     jis0212: Flat<'a>,
     ghost scalars: { AreEntries jis0208 },
@@ -123,56 +124,21 @@ fn after_8f(jis0212: &Flat<'_>, rest: &[u8], last: bool) -> FirstPiece
 /// jis0212. A lead is malformed alone at the end and before ASCII; with another byte with which it
 /// gives nothing both are malformed. The same holds of 8F and a byte from A1 to FE before a third:
 /// two bytes are malformed, or all three.
-#[derive(Drop)]
-pub struct EucJpDecoder<'a> {
-    inner: Buffered<LeadByteDecoderRule<EucJpLeads<'a>>>,
-}
+pub type EucJpDecoder<'a> = CodecDecoder<LeadByteDecoderRule<EucJpLeads<'a>>>;
 
-impl<'a> EucJpDecoder<'a> {
+impl<'a> CodecDecoder<LeadByteDecoderRule<EucJpLeads<'a>>> {
     /// The decoder over tables with jis0208 and jis0212. Nothing is pending.
     pub fn new(tables: &'a Tables) -> Self
         requires jis0208 { has tables.now IndexKind.Jis0208 ≡ true }
         requires jis0212 { has tables.now IndexKind.Jis0212 ≡ true }
-        ensures pending { (⟦<EucJpDecoder<'a> as RawDecoder>⟧.state result).pending ≡ 0 }
-        ensures pieces { (⟦<EucJpDecoder<'a> as RawDecoder>⟧.state result).pieces
-            ≡ pieces_euc_jp (entries_of tables.now IndexKind.Jis0208) (entries_of tables.now IndexKind.Jis0212) }
-        ensures room { (⟦<EucJpDecoder<'a> as RawDecoder>⟧.state result).room ≡ decoded_length_multibyte }
+        ensures { IsFreshDecoder (⟦<EucJpDecoder<'a> as RawDecoder>⟧.state result)
+            (pieces_euc_jp (entries_of tables.now IndexKind.Jis0208) (entries_of tables.now IndexKind.Jis0212))
+            decoded_length_multibyte }
     {
-        EucJpDecoder {
-            inner: Buffered::new(LeadByteDecoderRule::new(EucJpLeads {
-                jis0208: tables.flat(IndexKind::Jis0208),
-                jis0212: tables.flat(IndexKind::Jis0212),
-            })),
-        }
-    }
-
-    /// Whether nothing is pending.
-    pub fn in_neutral_state(&self) -> bool
-        ensures { IsTrue result ↔ ((⟦<EucJpDecoder<'a> as RawDecoder>⟧.state self.now).pending ≡ 0) }
-    {
-        self.pending_len() == 0
-    }
-}
-
-impl<'a> SinkDecoder for EucJpDecoder<'a> {
-    ghost state = { λ d. ⟦<Buffered<LeadByteDecoderRule<EucJpLeads<'a>>> as SinkDecoder>⟧.state d.inner };
-
-    #[inline(always)]
-    fn decode_into<S: Sink>(
-        &mut self,
-        src: &[u8],
-        sink: &mut S,
-        last: bool,
-    ) -> (DecoderResult, usize) {
-        self.inner.decode_into(src, sink, last)
-    }
-
-    fn held_len(&self) -> usize {
-        self.inner.held_len()
-    }
-
-    fn room(&self) -> DecodedLength {
-        self.inner.room()
+        CodecDecoder::of_rule(LeadByteDecoderRule::new(EucJpLeads {
+            jis0208: tables.flat(IndexKind::Jis0208),
+            jis0212: tables.flat(IndexKind::Jis0212),
+        }))
     }
 }
 
@@ -229,10 +195,8 @@ impl<'a> EucJpEncoder<'a> {
     /// The encoder over tables with jis0208.
     pub fn new(tables: &'a Tables) -> Self
         requires { has tables.now IndexKind.Jis0208 ≡ true }
-        ensures coding { ⟦<EucJpEncoder<'a> as RawEncoder>⟧.coding result ≡ euc_jp_coding (entries_of tables.now IndexKind.Jis0208) }
-        ensures set { ⟦<EucJpEncoder<'a> as RawEncoder>⟧.set result ≡ Ascii }
-        ensures need { ⟦<EucJpEncoder<'a> as RawEncoder>⟧.need result ≡ 2 }
-        ensures limits { ⟦<EucJpEncoder<'a> as RawEncoder>⟧.limits result ≡ encoded_length_two_byte }
+        ensures { IsFreshEncoder (⟦<EucJpEncoder<'a> as SourceEncoder>⟧.parts result) 2
+            (euc_jp_coding (entries_of tables.now IndexKind.Jis0208)) encoded_length_two_byte }
     {
         EucJpEncoder {
             jis0208: tables.flat(IndexKind::Jis0208),

@@ -1,7 +1,9 @@
 // EUC-KR (the Encoding Standard, section 13.1).
 
-ghost use Rattle.std.specs.Prelude.{◌≡◌, ◌↔◌, ℕ, ◌+◌, ◌-◌, ◌*◌, ◌/◌, ◌%◌, ◌<◌, ◌≤◌, [], ◌∷◌, true, IsTrue};
+ghost use Rattle.std.specs.Prelude.{◌≡◌, ℕ, ◌+◌, ◌-◌, ◌*◌, ◌/◌, ◌%◌, ◌<◌, ◌≤◌, [], ◌∷◌, true};
+ghost use Rattle.encoding_mem.specs.Decoding.{IsFreshDecoder};
 ghost use Rattle.encoding_mem.specs.DecodedLength.{decoded_length_multibyte};
+ghost use Rattle.encoding_mem.specs.EncoderRule.{IsFreshEncoder};
 ghost use Rattle.encoding_mem.specs.EncodedLength.{encoded_length_two_byte};
 ghost use Rattle.encoding_tables.specs.IndexLists.{has, entries_of};
 ghost use Rattle.encoding_tables.specs.Lookups.{AreEntries, first_pointer};
@@ -11,22 +13,21 @@ ghost use Rattle.encoding_codecs.specs.laws.TwoByteDecide.{lead_rule_of};
 ghost use Rattle.encoding_codecs.specs.laws.EucKr.{euc_kr_is_two_byte, euc_kr_laws};
 ghost use Rattle.encoding_codecs.specs.laws.Pointers.{ascii_by_pointer};
 ghost use Rattle.encoding_codecs.specs.laws.EncodedLengths.{two_byte_fits};
-ghost use Rattle.encoding_mem.specs.declared.form.EscapeState.TheVariants.{Ascii};
 
+use crate::codec_decoder::CodecDecoder;
 use crate::lead_byte_rule::{FirstByte, LeadByteDecoderRule, LeadByteRule};
 use crate::two_byte::{PairValue, decide_trail, value_of_entry};
+use encoding_mem::RawDecoder;
 use encoding_mem::encode::StatelessRule;
 use encoding_mem::first_piece::{FirstPiece, cut_short};
 use encoding_mem::form::{Bytes, Form};
-use encoding_mem::room::{DecodedLength, EncodedLength};
-use encoding_mem::sink::Sink;
-use encoding_mem::sink_decoder::{Buffered, SinkDecoder};
-use encoding_mem::{DecoderResult, RawDecoder, RawEncoder};
+use encoding_mem::room::EncodedLength;
+use encoding_mem::source_encoder::SourceEncoder;
 use encoding_tables::{Flat, IndexKind, Tables};
 
 // Its index.
 #[derive(Drop)]
-struct EucKr<'a> {
+pub struct EucKr<'a> {
     flat: Flat<'a>,
     ghost scalars: { AreEntries flat },
 }
@@ -71,53 +72,18 @@ impl<'a> EucKr<'a> {
 
 /// Decodes EUC-KR: 00 to 7F give themselves, a lead from 81 and a trail from 41, each to FE, the entry at
 /// `(lead - 81) * 190 + trail - 41`, where the bytes are hexadecimal.
-#[derive(Drop)]
-pub struct EucKrDecoder<'a> {
-    inner: Buffered<LeadByteDecoderRule<EucKr<'a>>>,
-}
+pub type EucKrDecoder<'a> = CodecDecoder<LeadByteDecoderRule<EucKr<'a>>>;
 
-impl<'a> EucKrDecoder<'a> {
+impl<'a> CodecDecoder<LeadByteDecoderRule<EucKr<'a>>> {
     /// The decoder of tables in which the index is there. Nothing is pending.
     pub fn new(tables: &'a Tables) -> Self
         requires { has tables.now IndexKind.EucKr ≡ true }
-        ensures pending { (⟦<EucKrDecoder<'a> as RawDecoder>⟧.state result).pending ≡ 0 }
-        ensures pieces { (⟦<EucKrDecoder<'a> as RawDecoder>⟧.state result).pieces ≡ pieces_euc_kr (entries_of tables.now IndexKind.EucKr) }
-        ensures room { (⟦<EucKrDecoder<'a> as RawDecoder>⟧.state result).room ≡ decoded_length_multibyte }
+        ensures { IsFreshDecoder (⟦<EucKrDecoder<'a> as RawDecoder>⟧.state result)
+            (pieces_euc_kr (entries_of tables.now IndexKind.EucKr)) decoded_length_multibyte }
     {
-        EucKrDecoder {
-            inner: Buffered::new(LeadByteDecoderRule::new(EucKr {
-                flat: tables.flat(IndexKind::EucKr),
-            })),
-        }
-    }
-
-    /// Whether nothing is pending.
-    pub fn in_neutral_state(&self) -> bool
-        ensures { IsTrue result ↔ ((⟦<EucKrDecoder<'a> as RawDecoder>⟧.state self.now).pending ≡ 0) }
-    {
-        self.pending_len() == 0
-    }
-}
-
-impl<'a> SinkDecoder for EucKrDecoder<'a> {
-    ghost state = { λ d. ⟦<Buffered<LeadByteDecoderRule<EucKr<'a>>> as SinkDecoder>⟧.state d.inner };
-
-    #[inline(always)]
-    fn decode_into<S: Sink>(
-        &mut self,
-        src: &[u8],
-        sink: &mut S,
-        last: bool,
-    ) -> (DecoderResult, usize) {
-        self.inner.decode_into(src, sink, last)
-    }
-
-    fn held_len(&self) -> usize {
-        self.inner.held_len()
-    }
-
-    fn room(&self) -> DecodedLength {
-        self.inner.room()
+        CodecDecoder::of_rule(LeadByteDecoderRule::new(EucKr {
+            flat: tables.flat(IndexKind::EucKr),
+        }))
     }
 }
 
@@ -132,10 +98,8 @@ impl<'a> EucKrEncoder<'a> {
     /// The encoder of tables in which the index is there.
     pub fn new(tables: &'a Tables) -> Self
         requires { has tables.now IndexKind.EucKr ≡ true }
-        ensures coding { ⟦<EucKrEncoder<'a> as RawEncoder>⟧.coding result ≡ euc_kr_coding (entries_of tables.now IndexKind.EucKr) }
-        ensures set { ⟦<EucKrEncoder<'a> as RawEncoder>⟧.set result ≡ Ascii }
-        ensures need { ⟦<EucKrEncoder<'a> as RawEncoder>⟧.need result ≡ 2 }
-        ensures limits { ⟦<EucKrEncoder<'a> as RawEncoder>⟧.limits result ≡ encoded_length_two_byte }
+        ensures { IsFreshEncoder (⟦<EucKrEncoder<'a> as SourceEncoder>⟧.parts result) 2
+            (euc_kr_coding (entries_of tables.now IndexKind.EucKr)) encoded_length_two_byte }
     {
         EucKrEncoder {
             flat: tables.flat(IndexKind::EucKr),

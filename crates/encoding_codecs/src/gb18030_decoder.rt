@@ -1,26 +1,25 @@
 // The decoder of gb18030 (the Encoding Standard, section 10.2.1, "gb18030 decoder"), which is that of GBK
 // too (section 10.1.1).
 
-ghost use Rattle.std.specs.Prelude.{◌≡◌, ◌↔◌, ◌||◌, true, IsTrue};
+ghost use Rattle.std.specs.Prelude.{◌≡◌, ◌||◌, true};
 ghost use Rattle.std.specs.Int.{IsInRange, is_in_range};
+ghost use Rattle.encoding_mem.specs.Decoding.{IsFreshDecoder};
 ghost use Rattle.encoding_mem.specs.DecodedLength.{decoded_length_multibyte};
 ghost use Rattle.encoding_tables.specs.IndexLists.{has, entries_of, rows_of};
 ghost use Rattle.encoding_codecs.specs.Gb18030.{gb18030_first, gb18030_pair, pair_pointer, four_pointer, gb18030_after_lead, pieces_gb18030};
 ghost use Rattle.encoding_codecs.specs.laws.Gb18030Decide.{gb18030_decide_lead, gb18030_decide_two, gb18030_decide_three, decide_four};
 ghost use Rattle.encoding_codecs.specs.laws.Gb18030.{AreGbTables, gb18030_rule};
 
+use crate::codec_decoder::CodecDecoder;
 use crate::lead_byte_rule::{FirstByte, LeadByteDecoderRule, LeadByteRule};
 use crate::two_byte::{PairValue, decide_trail, value_of_entry};
+use encoding_mem::RawDecoder;
 use encoding_mem::first_piece::{FirstPiece, cut_short};
-use encoding_mem::room::DecodedLength;
-use encoding_mem::sink::Sink;
-use encoding_mem::sink_decoder::{Buffered, SinkDecoder};
-use encoding_mem::{DecoderResult, RawDecoder};
 use encoding_tables::{Flat, IndexKind, Ranges, Tables};
 
 // The leads of gb18030, and what its tables make of the bytes behind them.
 #[derive(Drop)]
-struct Gb18030Rule<'a> {
+pub struct Gb18030Rule<'a> {
     index: Flat<'a>,
     ranges: Ranges<'a>,
     ghost scalars: { AreGbTables index ranges },
@@ -176,55 +175,20 @@ fn first_piece_of_four(c: Option<char>) -> FirstPiece
 
 /// Decodes gb18030 and GBK. 00 to 7F give themselves, 80 gives U+20AC; a lead and a trail give the entry
 /// of the index at their pointer, four bytes the value of the ranges at theirs.
-#[derive(Drop)]
-pub struct Gb18030Decoder<'a> {
-    inner: Buffered<LeadByteDecoderRule<Gb18030Rule<'a>>>,
-}
+pub type Gb18030Decoder<'a> = CodecDecoder<LeadByteDecoderRule<Gb18030Rule<'a>>>;
 
-impl<'a> Gb18030Decoder<'a> {
+impl<'a> CodecDecoder<LeadByteDecoderRule<Gb18030Rule<'a>>> {
     /// The decoder of tables that have the index and the ranges of gb18030. Nothing is pending.
     pub fn new(tables: &'a Tables) -> Self
         requires index { has tables.now IndexKind.Gb18030 ≡ true }
         requires ranges { has tables.now IndexKind.Gb18030Ranges ≡ true }
-        ensures pending { (⟦<Gb18030Decoder<'a> as RawDecoder>⟧.state result).pending ≡ 0 }
-        ensures pieces { (⟦<Gb18030Decoder<'a> as RawDecoder>⟧.state result).pieces
-            ≡ pieces_gb18030 (entries_of tables.now IndexKind.Gb18030) (rows_of tables.now) }
-        ensures room { (⟦<Gb18030Decoder<'a> as RawDecoder>⟧.state result).room ≡ decoded_length_multibyte }
+        ensures { IsFreshDecoder (⟦<Gb18030Decoder<'a> as RawDecoder>⟧.state result)
+            (pieces_gb18030 (entries_of tables.now IndexKind.Gb18030) (rows_of tables.now))
+            decoded_length_multibyte }
     {
-        Gb18030Decoder {
-            inner: Buffered::new(LeadByteDecoderRule::new(Gb18030Rule {
-                index: tables.flat(IndexKind::Gb18030),
-                ranges: tables.ranges(),
-            })),
-        }
-    }
-
-    /// Whether nothing is pending.
-    pub fn in_neutral_state(&self) -> bool
-        ensures { IsTrue result ↔ ((⟦<Gb18030Decoder<'a> as RawDecoder>⟧.state self.now).pending ≡ 0) }
-    {
-        self.pending_len() == 0
-    }
-}
-
-impl<'a> SinkDecoder for Gb18030Decoder<'a> {
-    ghost state = { λ d. ⟦<Buffered<LeadByteDecoderRule<Gb18030Rule<'a>>> as SinkDecoder>⟧.state d.inner };
-
-    #[inline(always)]
-    fn decode_into<S: Sink>(
-        &mut self,
-        src: &[u8],
-        sink: &mut S,
-        last: bool,
-    ) -> (DecoderResult, usize) {
-        self.inner.decode_into(src, sink, last)
-    }
-
-    fn held_len(&self) -> usize {
-        self.inner.held_len()
-    }
-
-    fn room(&self) -> DecodedLength {
-        self.inner.room()
+        CodecDecoder::of_rule(LeadByteDecoderRule::new(Gb18030Rule {
+            index: tables.flat(IndexKind::Gb18030),
+            ranges: tables.ranges(),
+        }))
     }
 }

@@ -2,16 +2,16 @@
 // 10.1.2), which has no forms of four bytes.
 
 ghost use Rattle.std.specs.Prelude.{◌≡◌, ◌+◌, ◌/◌, ◌%◌, ◌<◌, true};
+ghost use Rattle.encoding_mem.specs.EncoderRule.{IsFreshEncoder};
 ghost use Rattle.encoding_tables.specs.IndexLists.{has, entries_of, rows_of};
 ghost use Rattle.encoding_codecs.specs.Gb18030Coding.{fixed_pair, gb18030_pair_bytes, four_bytes, gb18030_bytes, gb18030_form, gb18030_coding, gb18030_need, gb18030_encoded_length};
 ghost use Rattle.encoding_codecs.specs.laws.Gb18030Coding.{gb18030_ascii, gb18030_fits, gb18030_laws};
-ghost use Rattle.encoding_mem.specs.declared.form.EscapeState.TheVariants.{Ascii};
 
 use crate::two_byte::form_of_bytes;
-use encoding_mem::RawEncoder;
 use encoding_mem::encode::StatelessRule;
 use encoding_mem::form::{Bytes, Form};
 use encoding_mem::room::EncodedLength;
+use encoding_mem::source_encoder::SourceEncoder;
 use encoding_tables::{Flat, IndexKind, Ranges, Tables};
 
 /// Encodes to gb18030 or GBK. ASCII gives itself, another character the two bytes of the least pointer
@@ -29,11 +29,9 @@ impl<'a> Gb18030Encoder<'a> {
     pub fn new(tables: &'a Tables, extended_range: bool) -> Self
         requires index { has tables.now IndexKind.Gb18030 ≡ true }
         requires ranges { has tables.now IndexKind.Gb18030Ranges ≡ true }
-        ensures coding { ⟦<Gb18030Encoder<'a> as RawEncoder>⟧.coding result
-            ≡ gb18030_coding (entries_of tables.now IndexKind.Gb18030) (rows_of tables.now) extended_range }
-        ensures set { ⟦<Gb18030Encoder<'a> as RawEncoder>⟧.set result ≡ Ascii }
-        ensures need { ⟦<Gb18030Encoder<'a> as RawEncoder>⟧.need result ≡ gb18030_need extended_range }
-        ensures limits { ⟦<Gb18030Encoder<'a> as RawEncoder>⟧.limits result ≡ gb18030_encoded_length extended_range }
+        ensures { IsFreshEncoder (⟦<Gb18030Encoder<'a> as SourceEncoder>⟧.parts result) (gb18030_need extended_range)
+            (gb18030_coding (entries_of tables.now IndexKind.Gb18030) (rows_of tables.now) extended_range)
+            (gb18030_encoded_length extended_range) }
     {
         Gb18030Encoder {
             index: tables.flat(IndexKind::Gb18030),

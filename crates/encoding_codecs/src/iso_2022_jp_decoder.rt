@@ -4,6 +4,7 @@ ghost use Rattle.std.proofs.Common.{refl, arith};
 ghost use Rattle.std.specs.Prelude.{◌≡◌, ◌↔◌, IsTrue, true, length, take};
 ghost use Rattle.std.specs.Int.{IsInRange};
 ghost use Rattle.encoding_mem.specs.Iso2022JpAscii.{IsIso2022JpAscii};
+ghost use Rattle.encoding_mem.specs.Decoding.{IsFreshDecoder};
 ghost use Rattle.encoding_mem.specs.DecodedLength.{decoded_length, decoded_length_multibyte};
 ghost use Rattle.encoding_tables.specs.IndexLists.{has, entries_of};
 ghost use Rattle.encoding_tables.specs.Lookups.{AreEntries};
@@ -12,12 +13,11 @@ ghost use Rattle.encoding_codecs.specs.Iso2022Jp.{escape_of, escape_at, ascii_pi
 ghost use Rattle.encoding_codecs.specs.laws.Iso2022JpDecide.{escape_first_piece, char_first_piece, jis_pair_first_piece, first_piece_iso_2022_jp, mode_after, may_be_escape, is_jis_lead, is_open, shown, decide_iso_2022_jp};
 ghost use Rattle.encoding_codecs.specs.laws.Iso2022Jp.{iso_2022_jp_whole, iso_2022_jp_are_pieces, iso_2022_jp_ends};
 
+use crate::codec_decoder::CodecDecoder;
 use encoding_mem::ascii::ascii_prefix;
 use encoding_mem::first_piece::{DecoderRule, FirstPiece};
 use encoding_mem::room::DecodedLength;
-use encoding_mem::sink::Sink;
-use encoding_mem::sink_decoder::{Buffered, SinkDecoder};
-use encoding_mem::{DecoderResult, RawDecoder, iso_2022_jp_ascii_valid_up_to};
+use encoding_mem::{RawDecoder, iso_2022_jp_ascii_valid_up_to};
 use encoding_tables::{Flat, IndexKind, Tables};
 
 /// What an escape switches to.
@@ -39,7 +39,7 @@ struct Jis0208<'a> {
 
 // The rule of ISO-2022-JP, in a mode.
 #[derive(Drop)]
-struct Iso2022JpRule<'a> {
+pub struct Iso2022JpRule<'a> {
     jis0208: Jis0208<'a>,
     mode: Mode,
 }
@@ -260,54 +260,28 @@ fn entry_first_piece(entry: Option<char>) -> FirstPiece
 }
 
 /// Decodes ISO-2022-JP. It begins in ASCII.
-#[derive(Drop)]
-pub struct Iso2022JpDecoder<'a> {
-    inner: Buffered<Iso2022JpRule<'a>>,
-}
+pub type Iso2022JpDecoder<'a> = CodecDecoder<Iso2022JpRule<'a>>;
 
-impl<'a> Iso2022JpDecoder<'a> {
+impl<'a> CodecDecoder<Iso2022JpRule<'a>> {
     /// The decoder over tables that have index jis0208. Nothing is pending.
     pub fn new(tables: &'a Tables) -> Self
         requires { has tables.now IndexKind.Jis0208 ≡ true }
-        ensures pending { (⟦<Iso2022JpDecoder<'a> as RawDecoder>⟧.state result).pending ≡ 0 }
-        ensures pieces { (⟦<Iso2022JpDecoder<'a> as RawDecoder>⟧.state result).pieces ≡ pieces_iso_2022_jp (entries_of tables.now IndexKind.Jis0208) }
-        ensures room { (⟦<Iso2022JpDecoder<'a> as RawDecoder>⟧.state result).room ≡ decoded_length_multibyte }
+        ensures { IsFreshDecoder (⟦<Iso2022JpDecoder<'a> as RawDecoder>⟧.state result)
+            (pieces_iso_2022_jp (entries_of tables.now IndexKind.Jis0208))
+            decoded_length_multibyte }
     {
-        Iso2022JpDecoder {
-            inner: Buffered::new(Iso2022JpRule {
-                jis0208: Jis0208 {
-                    flat: tables.flat(IndexKind::Jis0208),
-                },
-                mode: Mode::Ascii,
-            }),
-        }
+        CodecDecoder::of_rule(Iso2022JpRule {
+            jis0208: Jis0208 {
+                flat: tables.flat(IndexKind::Jis0208),
+            },
+            mode: Mode::Ascii,
+        })
     }
 
     /// Whether no byte is pending and the mode is ASCII. A whole escape that nothing follows is pending.
     pub fn in_neutral_state(&self) -> bool
         ensures { IsTrue result ↔ IsNeutral (⟦<Iso2022JpDecoder<'a> as RawDecoder>⟧.state self.now) }
     {
-        self.pending_len() == 0 && matches!(self.inner.rule().mode, Mode::Ascii)
-    }
-}
-
-impl<'a> SinkDecoder for Iso2022JpDecoder<'a> {
-    ghost state = { λ d. ⟦<Buffered<Iso2022JpRule<'a>> as SinkDecoder>⟧.state d.inner };
-
-    fn decode_into<S: Sink>(
-        &mut self,
-        src: &[u8],
-        sink: &mut S,
-        last: bool,
-    ) -> (DecoderResult, usize) {
-        self.inner.decode_into(src, sink, last)
-    }
-
-    fn held_len(&self) -> usize {
-        self.inner.held_len()
-    }
-
-    fn room(&self) -> DecodedLength {
-        self.inner.room()
+        self.pending_len() == 0 && matches!(self.rule().mode, Mode::Ascii)
     }
 }

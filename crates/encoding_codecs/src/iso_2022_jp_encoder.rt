@@ -1,18 +1,18 @@
 // The encoder of ISO-2022-JP (the Encoding Standard, section 12.2.2, "ISO-2022-JP encoder").
 
 ghost use Rattle.std.specs.Prelude.{◌≡◌, ◌+◌, ◌/◌, ◌%◌, ◌<◌, IfSome, true, [], ◌∷◌};
+ghost use Rattle.encoding_mem.specs.EncoderRule.{IsFreshEncoder};
 ghost use Rattle.encoding_mem.specs.EncodedLength.{encoded_length_iso_2022_jp};
-ghost use Rattle.encoding_mem.specs.declared.form.EscapeState.TheVariants.{Ascii};
 ghost use Rattle.encoding_tables.specs.IndexLists.{has, entries_of};
 ghost use Rattle.encoding_tables.specs.declared.index_kind.IndexKind.{IndexKind};
 ghost use Rattle.encoding_codecs.specs.Iso2022JpForms.{looked_up, pointer_of_char, ascii_form, is_set, ascii_or_roman, set_after, iso_2022_jp_coding};
 ghost use Rattle.encoding_codecs.specs.laws.Iso2022JpForms.{iso_2022_jp_laws, iso_2022_jp_fits};
 
 use crate::jis::{folded, is_katakana};
-use encoding_mem::RawEncoder;
 use encoding_mem::encode::EncoderRule;
 use encoding_mem::form::{Bytes, EscapeState, Form};
 use encoding_mem::room::EncodedLength;
+use encoding_mem::source_encoder::SourceEncoder;
 use encoding_tables::{Flat, IndexKind, Tables};
 
 /// Encodes to ISO-2022-JP. It begins in ASCII, and after the end of a text it is in ASCII again.
@@ -28,10 +28,9 @@ impl<'a> Iso2022JpEncoder<'a> {
     pub fn new(tables: &'a Tables) -> Self
         requires jis0208 { has tables.now IndexKind.Jis0208 ≡ true }
         requires katakana { has tables.now IndexKind.Iso2022JpKatakana ≡ true }
-        ensures coding { ⟦<Iso2022JpEncoder<'a> as RawEncoder>⟧.coding result ≡ iso_2022_jp_coding (entries_of tables.now IndexKind.Jis0208) (entries_of tables.now IndexKind.Iso2022JpKatakana) }
-        ensures set { ⟦<Iso2022JpEncoder<'a> as RawEncoder>⟧.set result ≡ Ascii }
-        ensures need { ⟦<Iso2022JpEncoder<'a> as RawEncoder>⟧.need result ≡ 3 }
-        ensures limits { ⟦<Iso2022JpEncoder<'a> as RawEncoder>⟧.limits result ≡ encoded_length_iso_2022_jp }
+        ensures { IsFreshEncoder (⟦<Iso2022JpEncoder<'a> as SourceEncoder>⟧.parts result) 3
+            (iso_2022_jp_coding (entries_of tables.now IndexKind.Jis0208) (entries_of tables.now IndexKind.Iso2022JpKatakana))
+            encoded_length_iso_2022_jp }
     {
         Iso2022JpEncoder {
             jis0208: tables.flat(IndexKind::Jis0208),

@@ -2,7 +2,7 @@
 // encodings of more than one byte a character share, but ISO-2022-JP.
 
 ghost use Rattle.std.proofs.Common.{refl, arith};
-ghost use Rattle.std.specs.Prelude.{◌≡◌, ◌≤◌};
+ghost use Rattle.std.specs.Prelude.{◌≡◌, ◌↔◌, ◌≤◌, IsTrue};
 ghost use Rattle.encoding_mem.specs.Pieces.{pieces_by};
 ghost use Rattle.encoding_mem.specs.laws.Pieces.{pieces_by-nil, pieces_by-whole, pieces_by-are_pieces};
 ghost use Rattle.encoding_mem.specs.DecodedLength.{decoded_length, decoded_length_multibyte};
@@ -10,9 +10,11 @@ ghost use Rattle.encoding_codecs.specs.TwoByte.{first_piece_by_lead};
 ghost use Rattle.encoding_codecs.specs.laws.TwoByte.{IsLeadByteRule, cuts_rule};
 ghost use Rattle.encoding_codecs.specs.laws.TwoByteDecide.{LeadRule};
 
+use crate::codec_decoder::CodecDecoder;
 use encoding_mem::ascii::longer_ascii_prefix;
 use encoding_mem::first_piece::{DecoderRule, FirstPiece};
 use encoding_mem::room::DecodedLength;
+use encoding_mem::sink_decoder::SinkDecoder;
 
 /// What a first byte from 80 on is.
 #[derive(Clone, Copy)]
@@ -49,7 +51,7 @@ pub struct LeadByteDecoderRule<T: LeadByteRule> {
 }
 
 impl<T: LeadByteRule> LeadByteDecoderRule<T> {
-    pub fn new(encoding: T) -> Self
+    pub(crate) fn new(encoding: T) -> Self
         ensures { result.encoding ≡ encoding }
     {
         LeadByteDecoderRule { encoding }
@@ -100,5 +102,15 @@ impl<T: LeadByteRule> DecoderRule for LeadByteDecoderRule<T> {
 
     fn room(&self) -> DecodedLength {
         DecodedLength::multibyte()
+    }
+}
+
+impl<T: LeadByteRule> CodecDecoder<LeadByteDecoderRule<T>> {
+    /// Whether nothing is pending.
+    pub fn in_neutral_state(&self) -> bool
+        ensures { IsTrue result
+            ↔ ((⟦<CodecDecoder<LeadByteDecoderRule<T>> as SinkDecoder>⟧.state self.now).pending ≡ 0) }
+    {
+        self.held_len() == 0
     }
 }

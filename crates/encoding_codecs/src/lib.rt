@@ -2,6 +2,7 @@
 #![tactic(auto)]
 
 pub mod big5;
+pub mod codec_decoder;
 pub mod euc_jp;
 pub mod euc_kr;
 pub mod gb18030_decoder;

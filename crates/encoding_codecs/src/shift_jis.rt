@@ -1,7 +1,9 @@
 // Shift_JIS (the Encoding Standard, section 12.3).
 
-ghost use Rattle.std.specs.Prelude.{◌≡◌, ◌↔◌, ◌+◌, ◌<◌, true, IsTrue, IfSome};
+ghost use Rattle.std.specs.Prelude.{◌≡◌, ◌+◌, ◌<◌, true, IfSome};
+ghost use Rattle.encoding_mem.specs.Decoding.{IsFreshDecoder};
 ghost use Rattle.encoding_mem.specs.DecodedLength.{decoded_length_multibyte};
+ghost use Rattle.encoding_mem.specs.EncoderRule.{IsFreshEncoder};
 ghost use Rattle.encoding_mem.specs.EncodedLength.{encoded_length_two_byte};
 ghost use Rattle.encoding_tables.specs.IndexLists.{has, entries_of};
 ghost use Rattle.encoding_tables.specs.Lookups.{AreEntries};
@@ -10,24 +12,23 @@ ghost use Rattle.encoding_codecs.specs.laws.TwoByte.{two_byte_rule};
 ghost use Rattle.encoding_codecs.specs.laws.TwoByteDecide.{lead_rule_of};
 ghost use Rattle.encoding_codecs.specs.laws.ShiftJis.{shift_jis_is_two_byte, shift_jis_ascii, shift_jis_laws};
 ghost use Rattle.encoding_codecs.specs.laws.EncodedLengths.{two_byte_fits};
-ghost use Rattle.encoding_mem.specs.declared.form.EscapeState.TheVariants.{Ascii};
 
+use crate::codec_decoder::CodecDecoder;
 use crate::jis::{byte_of_katakana, folded, is_katakana, katakana_of_byte};
 use crate::lead_byte_rule::{FirstByte, LeadByteDecoderRule, LeadByteRule};
 use crate::two_byte::{PairValue, decide_trail, form_of_bytes, value_of_entry};
+use encoding_mem::RawDecoder;
 use encoding_mem::encode::StatelessRule;
 use encoding_mem::first_piece::{FirstPiece, cut_short};
 use encoding_mem::form::{Bytes, Form};
-use encoding_mem::room::{DecodedLength, EncodedLength};
+use encoding_mem::room::EncodedLength;
 use encoding_mem::scalar::scalar_of;
-use encoding_mem::sink::Sink;
-use encoding_mem::sink_decoder::{Buffered, SinkDecoder};
-use encoding_mem::{DecoderResult, RawDecoder, RawEncoder};
+use encoding_mem::source_encoder::SourceEncoder;
 use encoding_tables::{Flat, IndexKind, Tables};
 
 // Its index.
 #[derive(Drop)]
-struct ShiftJis<'a> {
+pub struct ShiftJis<'a> {
     jis0208: Flat<'a>,
     ghost scalars: { AreEntries jis0208 },
 }
@@ -166,53 +167,18 @@ fn bytes_of_pointer(pointer: u32) -> Bytes
 /// pointer, or, for the pointers 8836 to 10715, a character for private use. A lead is malformed
 /// alone at the end and before ASCII with which it gives nothing; with another byte both are
 /// malformed.
-#[derive(Drop)]
-pub struct ShiftJisDecoder<'a> {
-    inner: Buffered<LeadByteDecoderRule<ShiftJis<'a>>>,
-}
+pub type ShiftJisDecoder<'a> = CodecDecoder<LeadByteDecoderRule<ShiftJis<'a>>>;
 
-impl<'a> ShiftJisDecoder<'a> {
+impl<'a> CodecDecoder<LeadByteDecoderRule<ShiftJis<'a>>> {
     /// The decoder over tables with jis0208. Nothing is pending.
     pub fn new(tables: &'a Tables) -> Self
         requires { has tables.now IndexKind.Jis0208 ≡ true }
-        ensures pending { (⟦<ShiftJisDecoder<'a> as RawDecoder>⟧.state result).pending ≡ 0 }
-        ensures pieces { (⟦<ShiftJisDecoder<'a> as RawDecoder>⟧.state result).pieces ≡ pieces_shift_jis (entries_of tables.now IndexKind.Jis0208) }
-        ensures room { (⟦<ShiftJisDecoder<'a> as RawDecoder>⟧.state result).room ≡ decoded_length_multibyte }
+        ensures { IsFreshDecoder (⟦<ShiftJisDecoder<'a> as RawDecoder>⟧.state result)
+            (pieces_shift_jis (entries_of tables.now IndexKind.Jis0208)) decoded_length_multibyte }
     {
-        ShiftJisDecoder {
-            inner: Buffered::new(LeadByteDecoderRule::new(ShiftJis {
-                jis0208: tables.flat(IndexKind::Jis0208),
-            })),
-        }
-    }
-
-    /// Whether nothing is pending.
-    pub fn in_neutral_state(&self) -> bool
-        ensures { IsTrue result ↔ ((⟦<ShiftJisDecoder<'a> as RawDecoder>⟧.state self.now).pending ≡ 0) }
-    {
-        self.pending_len() == 0
-    }
-}
-
-impl<'a> SinkDecoder for ShiftJisDecoder<'a> {
-    ghost state = { λ d. ⟦<Buffered<LeadByteDecoderRule<ShiftJis<'a>>> as SinkDecoder>⟧.state d.inner };
-
-    #[inline(always)]
-    fn decode_into<S: Sink>(
-        &mut self,
-        src: &[u8],
-        sink: &mut S,
-        last: bool,
-    ) -> (DecoderResult, usize) {
-        self.inner.decode_into(src, sink, last)
-    }
-
-    fn held_len(&self) -> usize {
-        self.inner.held_len()
-    }
-
-    fn room(&self) -> DecodedLength {
-        self.inner.room()
+        CodecDecoder::of_rule(LeadByteDecoderRule::new(ShiftJis {
+            jis0208: tables.flat(IndexKind::Jis0208),
+        }))
     }
 }
 
@@ -228,10 +194,8 @@ impl<'a> ShiftJisEncoder<'a> {
     /// The encoder over tables with jis0208.
     pub fn new(tables: &'a Tables) -> Self
         requires { has tables.now IndexKind.Jis0208 ≡ true }
-        ensures coding { ⟦<ShiftJisEncoder<'a> as RawEncoder>⟧.coding result ≡ shift_jis_coding (entries_of tables.now IndexKind.Jis0208) }
-        ensures set { ⟦<ShiftJisEncoder<'a> as RawEncoder>⟧.set result ≡ Ascii }
-        ensures need { ⟦<ShiftJisEncoder<'a> as RawEncoder>⟧.need result ≡ 2 }
-        ensures limits { ⟦<ShiftJisEncoder<'a> as RawEncoder>⟧.limits result ≡ encoded_length_two_byte }
+        ensures { IsFreshEncoder (⟦<ShiftJisEncoder<'a> as SourceEncoder>⟧.parts result) 2
+            (shift_jis_coding (entries_of tables.now IndexKind.Jis0208)) encoded_length_two_byte }
     {
         ShiftJisEncoder {
             jis0208: tables.flat(IndexKind::Jis0208),

@@ -21,6 +21,12 @@ pub record DecoderState : Type 0 where
   pub room : DecodedLength
   pub covers : (k : OutputUnit) (n : ℕ) → needs k n ≤ decoded_length room k (pending + n)
 
+-- a decoder that has read nothing: what it makes of bytes, and the room that is enough
+pub record IsFreshDecoder (d : DecoderState) (pieces_of : List ℕ → List Piece) (enough : DecodedLength) : Type 0 where
+  pub pending : d.pending ≡ 0
+  pub pieces : d.pieces ≡ pieces_of
+  pub room : d.room ≡ enough
+
 -- a list of pieces that the pieces of every continuation begin with
 abbrev pub IsDecided : (List ℕ → List Piece) → List ℕ → List Piece → Type 0
 IsDecided pieces x ps = (r : List ℕ) → (rest : List Piece) × (pieces (x ++ r) ≡ ps ++ rest)

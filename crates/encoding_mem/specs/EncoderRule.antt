@@ -18,6 +18,13 @@ pub record EncoderParts : Type 0 where
   pub set : EscapeState
   pub limits : EncodedLength
 
+-- an encoder that has written nothing, in ASCII: the most bytes of a step, what it writes, and the room that is enough
+pub record IsFreshEncoder (e : EncoderParts) (most : ℕ) (target : Coding) (enough : EncodedLength) : Type 0 where
+  pub coding : e.coding ≡ target
+  pub set : e.set ≡ Ascii
+  pub need : e.need ≡ most
+  pub limits : e.limits ≡ enough
+
 -- the text from an offset of a list on
 abbrev pub left : (List ℕ → List ℕ) → List ℕ → ℕ → List ℕ
 left text all offset = text (drop offset all)

@@ -4,6 +4,7 @@ ghost use Rattle.std.specs.Int.{IsInRange, is_in_range};
 ghost use Rattle.std.specs.Str.{IsUtf8};
 ghost use Rattle.std.specs.Str.Lossy.{utf8_valid_len};
 ghost use Rattle.encoding_mem.specs.DecoderRule.{IsNotLonger};
+ghost use Rattle.encoding_mem.specs.Decoding.{IsFreshDecoder};
 ghost use Rattle.encoding_mem.specs.DecodedLength.{decoded_length, decoded_length_utf8};
 ghost use Rattle.encoding_mem.specs.laws.Pieces.{pieces_by-nil, pieces_by-whole, pieces_by-are_pieces};
 ghost use Rattle.encoding_mem.specs.Utf8.{first_piece_utf8, pieces_utf8, scalar_of_two, scalar_of_three, scalar_of_four, second_min, second_max};
@@ -253,9 +254,8 @@ pub struct Utf8Decoder {
 impl Utf8Decoder {
     /// Nothing is pending.
     pub fn new() -> Self
-        ensures pending { (⟦<Utf8Decoder as RawDecoder>⟧.state result).pending ≡ 0 }
-        ensures pieces { (⟦<Utf8Decoder as RawDecoder>⟧.state result).pieces ≡ pieces_utf8 }
-        ensures room { (⟦<Utf8Decoder as RawDecoder>⟧.state result).room ≡ decoded_length_utf8 }
+        ensures { IsFreshDecoder (⟦<Utf8Decoder as RawDecoder>⟧.state result)
+            pieces_utf8 decoded_length_utf8 }
     {
         Utf8Decoder {
             inner: Buffered::new(Utf8Rule {}),

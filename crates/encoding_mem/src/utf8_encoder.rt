@@ -2,6 +2,7 @@
 
 ghost use Rattle.std.specs.Prelude.{◌≡◌};
 ghost use Rattle.std.specs.Char.{encode_utf8};
+ghost use Rattle.encoding_mem.specs.EncoderRule.{IsFreshEncoder};
 ghost use Rattle.encoding_mem.specs.EncodedLength.{encoded_length_utf8};
 ghost use Rattle.encoding_mem.specs.laws.EncodedLength.{utf8_room};
 ghost use Rattle.encoding_mem.specs.Utf8Coding.{utf8_coding};
@@ -10,8 +11,8 @@ ghost use Rattle.encoding_mem.specs.declared.form.EscapeState.TheVariants.{Ascii
 
 use crate::encode::EncoderRule;
 use crate::form::{Bytes, EscapeState, Form};
-use crate::raw_encoder::RawEncoder;
 use crate::room::EncodedLength;
+use crate::source_encoder::SourceEncoder;
 
 // The bytes of a character.
 fn bytes_of_char(c: char) -> Bytes
@@ -45,10 +46,8 @@ pub struct Utf8Encoder {}
 
 impl Utf8Encoder {
     pub fn new() -> Self
-        ensures coding { ⟦<Utf8Encoder as RawEncoder>⟧.coding result ≡ utf8_coding }
-        ensures set { ⟦<Utf8Encoder as RawEncoder>⟧.set result ≡ Ascii }
-        ensures need { ⟦<Utf8Encoder as RawEncoder>⟧.need result ≡ 4 }
-        ensures limits { ⟦<Utf8Encoder as RawEncoder>⟧.limits result ≡ encoded_length_utf8 }
+        ensures { IsFreshEncoder (⟦<Utf8Encoder as SourceEncoder>⟧.parts result) 4
+            utf8_coding encoded_length_utf8 }
     {
         Utf8Encoder {}
     }

@@ -4,6 +4,7 @@
 
 mod accept;
 mod accept_ranges;
+pub mod each_byte_decoder;
 pub mod flat;
 pub mod index_kind;
 pub mod laws;

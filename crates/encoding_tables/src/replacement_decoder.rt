@@ -3,21 +3,21 @@
 ghost use Rattle.std.proofs.Common.{refl};
 ghost use Rattle.std.specs.Prelude.{◌≡◌, false};
 ghost use Rattle.encoding_mem.specs.laws.Pieces.{pieces_in-nil, pieces_in-whole, pieces_in-are_pieces};
+ghost use Rattle.encoding_mem.specs.Decoding.{IsFreshDecoder};
 ghost use Rattle.encoding_mem.specs.DecodedLength.{decoded_length_replacement};
 ghost use Rattle.encoding_mem.specs.laws.Shows.{decided_in};
 ghost use Rattle.encoding_tables.specs.Replacement.{first_piece_replacement, after_replacement, pieces_replacement};
 ghost use Rattle.encoding_tables.specs.laws.Replacement.{cuts_replacement, replacement_needs, replacement_covers, decided_by_one};
 
-use encoding_mem::bytewise::{Bytewise, DecidedPiece};
+use crate::each_byte_decoder::EachByteDecoder;
+use encoding_mem::RawDecoder;
+use encoding_mem::bytewise::DecidedPiece;
 use encoding_mem::first_piece::{DecoderRule, FirstPiece};
 use encoding_mem::room::DecodedLength;
-use encoding_mem::sink::Sink;
-use encoding_mem::sink_decoder::SinkDecoder;
-use encoding_mem::{DecoderResult, RawDecoder};
 
 // The rule of the replacement encoding: one error, and no text.
 #[derive(Clone, Copy)]
-struct ReplacementRule {
+pub struct ReplacementRule {
     error_returned: bool,
 }
 
@@ -67,43 +67,16 @@ impl DecidedPiece for ReplacementRule {
 
 /// Decodes the replacement encoding: the first byte is malformed, and all bytes after it give
 /// nothing. It stands for encodings that must not be decoded.
-#[derive(Drop)]
-pub struct ReplacementDecoder {
-    inner: Bytewise<ReplacementRule>,
-}
+pub type ReplacementDecoder = EachByteDecoder<ReplacementRule>;
 
-impl ReplacementDecoder {
+impl EachByteDecoder<ReplacementRule> {
     /// The error is still to be returned. Nothing is ever pending.
     pub fn new() -> Self
-        ensures pending { (⟦<ReplacementDecoder as RawDecoder>⟧.state result).pending ≡ 0 }
-        ensures pieces { (⟦<ReplacementDecoder as RawDecoder>⟧.state result).pieces ≡ pieces_replacement false }
-        ensures room { (⟦<ReplacementDecoder as RawDecoder>⟧.state result).room ≡ decoded_length_replacement }
+        ensures { IsFreshDecoder (⟦<ReplacementDecoder as RawDecoder>⟧.state result)
+            (pieces_replacement false) decoded_length_replacement }
     {
-        ReplacementDecoder {
-            inner: Bytewise::new(ReplacementRule {
-                error_returned: false,
-            }),
-        }
-    }
-}
-
-impl SinkDecoder for ReplacementDecoder {
-    ghost state = { λ d. ⟦<Bytewise<ReplacementRule> as SinkDecoder>⟧.state d.inner };
-
-    fn decode_into<S: Sink>(
-        &mut self,
-        src: &[u8],
-        sink: &mut S,
-        last: bool,
-    ) -> (DecoderResult, usize) {
-        self.inner.decode_into(src, sink, last)
-    }
-
-    fn held_len(&self) -> usize {
-        self.inner.held_len()
-    }
-
-    fn room(&self) -> DecodedLength {
-        self.inner.room()
+        EachByteDecoder::of_rule(ReplacementRule {
+            error_returned: false,
+        })
     }
 }

@@ -4,6 +4,7 @@ ghost use Rattle.std.proofs.Common.{refl, arith};
 ghost use Rattle.std.specs.Prelude.{◌≡◌, ℕ, ◌<◌, not, true};
 ghost use Rattle.std.specs.List.{position};
 ghost use Rattle.encoding_mem.specs.laws.Pieces.{pieces_by-nil, pieces_by-whole, pieces_by-are_pieces};
+ghost use Rattle.encoding_mem.specs.Decoding.{IsFreshDecoder};
 ghost use Rattle.encoding_mem.specs.DecodedLength.{decoded_length, decoded_length_single_byte};
 ghost use Rattle.encoding_mem.specs.laws.Shows.{decided_by};
 ghost use Rattle.encoding_tables.specs.laws.EachByte.{first_piece_of_byte};
@@ -13,20 +14,19 @@ ghost use Rattle.encoding_tables.specs.Lookups.{AreEntries};
 ghost use Rattle.encoding_tables.specs.SingleByte.{char_of_byte, has_number, first_piece_single_byte, pieces_single_byte, IsLatin1UpTo};
 ghost use Rattle.encoding_tables.specs.laws.SingleByte.{AreBasic, cuts_single_byte};
 
+use crate::each_byte_decoder::EachByteDecoder;
 use crate::flat::Flat;
 use crate::index_kind::IndexKind;
 use crate::tables::Tables;
+use encoding_mem::RawDecoder;
 use encoding_mem::ascii::longer_ascii_prefix;
-use encoding_mem::bytewise::{Bytewise, DecidedPiece};
+use encoding_mem::bytewise::DecidedPiece;
 use encoding_mem::first_piece::{DecoderRule, FirstPiece};
 use encoding_mem::room::DecodedLength;
-use encoding_mem::sink::Sink;
-use encoding_mem::sink_decoder::SinkDecoder;
-use encoding_mem::{DecoderResult, RawDecoder};
 
 // The rule of a single-byte encoding: each byte is a piece.
 #[derive(Drop)]
-struct SingleByteRule<'a> {
+pub struct SingleByteRule<'a> {
     flat: Flat<'a>,
     ghost scalars: { AreEntries flat },
     ghost basic: { AreBasic flat },
@@ -127,25 +127,19 @@ fn prefix_of(c: Option<char>) -> FirstPiece
 
 /// Decodes a single-byte encoding: 00 to 7F give themselves, a byte from 80 gives the entry at the
 /// pointer that is the byte less 80, and one without an entry is malformed.
-#[derive(Drop)]
-pub struct SingleByteDecoder<'a> {
-    inner: Bytewise<SingleByteRule<'a>>,
-}
+pub type SingleByteDecoder<'a> = EachByteDecoder<SingleByteRule<'a>>;
 
-impl<'a> SingleByteDecoder<'a> {
+impl<'a> EachByteDecoder<SingleByteRule<'a>> {
     /// The decoder of a kind that is there and is a single-byte one. Nothing is ever pending.
     pub fn new(tables: &'a Tables, kind: IndexKind) -> Self
         requires there { has tables.now kind ≡ true }
         requires single { is_single_byte kind ≡ true }
-        ensures pending { (⟦<SingleByteDecoder<'a> as RawDecoder>⟧.state result).pending ≡ 0 }
-        ensures pieces { (⟦<SingleByteDecoder<'a> as RawDecoder>⟧.state result).pieces ≡ pieces_single_byte (entries_of tables.now kind) }
-        ensures room { (⟦<SingleByteDecoder<'a> as RawDecoder>⟧.state result).room ≡ decoded_length_single_byte }
+        ensures { IsFreshDecoder (⟦<SingleByteDecoder<'a> as RawDecoder>⟧.state result)
+            (pieces_single_byte (entries_of tables.now kind)) decoded_length_single_byte }
     {
-        SingleByteDecoder {
-            inner: Bytewise::new(SingleByteRule {
-                flat: tables.single_byte(kind),
-            }),
-        }
+        EachByteDecoder::of_rule(SingleByteRule {
+            flat: tables.single_byte(kind),
+        })
     }
 
     /// The offset of the first byte whose character has another number than the byte, or that is
@@ -154,28 +148,6 @@ impl<'a> SingleByteDecoder<'a> {
     pub fn latin1_byte_compatible_up_to(&self, bytes: &[u8]) -> usize
         ensures { IsLatin1UpTo (⟦<SingleByteDecoder<'a> as RawDecoder>⟧.state self.now).pieces bytes.now result }
     {
-        self.inner.rule().latin1_len(bytes)
-    }
-}
-
-impl<'a> SinkDecoder for SingleByteDecoder<'a> {
-    ghost state = { λ d. ⟦<Bytewise<SingleByteRule<'a>> as SinkDecoder>⟧.state d.inner };
-
-    #[inline(always)]
-    fn decode_into<S: Sink>(
-        &mut self,
-        src: &[u8],
-        sink: &mut S,
-        last: bool,
-    ) -> (DecoderResult, usize) {
-        self.inner.decode_into(src, sink, last)
-    }
-
-    fn held_len(&self) -> usize {
-        self.inner.held_len()
-    }
-
-    fn room(&self) -> DecodedLength {
-        self.inner.room()
+        self.rule().latin1_len(bytes)
     }
 }

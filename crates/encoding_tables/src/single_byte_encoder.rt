@@ -1,21 +1,21 @@
 // The encoder of the single-byte encodings (the Encoding Standard, section 9.2, "single-byte encoder").
 
 ghost use Rattle.std.specs.Prelude.{◌≡◌, ◌+◌, true};
+ghost use Rattle.encoding_mem.specs.EncoderRule.{IsFreshEncoder};
 ghost use Rattle.encoding_mem.specs.EncodedLength.{encoded_length_single_byte};
 ghost use Rattle.encoding_tables.specs.EachByte.{form_of_byte, form_by_byte};
 ghost use Rattle.encoding_tables.specs.IndexLists.{has, entries_of};
 ghost use Rattle.encoding_tables.specs.Kinds.{is_single_byte};
 ghost use Rattle.encoding_tables.specs.SingleByte.{single_byte_of_char, single_byte_coding};
 ghost use Rattle.encoding_tables.specs.laws.SingleByte.{single_byte_ascii, single_byte_fits, single_byte_laws};
-ghost use Rattle.encoding_mem.specs.declared.form.EscapeState.TheVariants.{Ascii};
 
 use crate::flat::Flat;
 use crate::index_kind::IndexKind;
 use crate::tables::Tables;
-use encoding_mem::RawEncoder;
 use encoding_mem::encode::StatelessRule;
 use encoding_mem::form::{Bytes, Form};
 use encoding_mem::room::EncodedLength;
+use encoding_mem::source_encoder::SourceEncoder;
 
 /// Encodes to a single-byte encoding: ASCII gives itself, another character the byte that is 80 more than
 /// the least pointer with it. One without a pointer is unmappable. There is no state.
@@ -29,10 +29,8 @@ impl<'a> SingleByteEncoder<'a> {
     pub fn new(tables: &'a Tables, kind: IndexKind) -> Self
         requires there { has tables.now kind ≡ true }
         requires single { is_single_byte kind ≡ true }
-        ensures coding { ⟦<SingleByteEncoder<'a> as RawEncoder>⟧.coding result ≡ single_byte_coding (entries_of tables.now kind) }
-        ensures set { ⟦<SingleByteEncoder<'a> as RawEncoder>⟧.set result ≡ Ascii }
-        ensures need { ⟦<SingleByteEncoder<'a> as RawEncoder>⟧.need result ≡ 1 }
-        ensures limits { ⟦<SingleByteEncoder<'a> as RawEncoder>⟧.limits result ≡ encoded_length_single_byte }
+        ensures { IsFreshEncoder (⟦<SingleByteEncoder<'a> as SourceEncoder>⟧.parts result) 1
+            (single_byte_coding (entries_of tables.now kind)) encoded_length_single_byte }
     {
         SingleByteEncoder {
             flat: tables.single_byte(kind),

@@ -3,22 +3,22 @@
 ghost use Rattle.std.proofs.Common.{refl, arith};
 ghost use Rattle.std.specs.Prelude.{◌≡◌, ◌<◌, Some};
 ghost use Rattle.encoding_mem.specs.laws.Pieces.{pieces_by-nil, pieces_by-whole, pieces_by-are_pieces};
+ghost use Rattle.encoding_mem.specs.Decoding.{IsFreshDecoder};
 ghost use Rattle.encoding_mem.specs.DecodedLength.{decoded_length, decoded_length_single_byte};
 ghost use Rattle.encoding_mem.specs.laws.Shows.{decided_by};
 ghost use Rattle.encoding_tables.specs.UserDefined.{user_char_of_byte, first_piece_user_defined, pieces_user_defined};
 ghost use Rattle.encoding_tables.specs.laws.UserDefined.{cuts_user_defined};
 
+use crate::each_byte_decoder::EachByteDecoder;
+use encoding_mem::RawDecoder;
 use encoding_mem::ascii::longer_ascii_prefix;
-use encoding_mem::bytewise::{Bytewise, DecidedPiece};
+use encoding_mem::bytewise::DecidedPiece;
 use encoding_mem::first_piece::{DecoderRule, FirstPiece};
 use encoding_mem::room::DecodedLength;
-use encoding_mem::sink::Sink;
-use encoding_mem::sink_decoder::SinkDecoder;
-use encoding_mem::{DecoderResult, RawDecoder};
 
 // The rule of x-user-defined: each byte is a character.
 #[derive(Clone, Copy)]
-struct UserDefinedRule {}
+pub struct UserDefinedRule {}
 
 impl DecoderRule for UserDefinedRule {
     ghost pieces = { λ _ x. pieces_user_defined x };
@@ -72,41 +72,14 @@ fn char_of(byte: u8) -> char
 
 /// Decodes x-user-defined: 00 to 7F give themselves, and the bytes from 80 give U+F780 to U+F7FF.
 /// No byte is malformed.
-#[derive(Drop)]
-pub struct UserDefinedDecoder {
-    inner: Bytewise<UserDefinedRule>,
-}
+pub type UserDefinedDecoder = EachByteDecoder<UserDefinedRule>;
 
-impl UserDefinedDecoder {
+impl EachByteDecoder<UserDefinedRule> {
     /// Nothing is ever pending.
     pub fn new() -> Self
-        ensures pending { (⟦<UserDefinedDecoder as RawDecoder>⟧.state result).pending ≡ 0 }
-        ensures pieces { (⟦<UserDefinedDecoder as RawDecoder>⟧.state result).pieces ≡ pieces_user_defined }
-        ensures room { (⟦<UserDefinedDecoder as RawDecoder>⟧.state result).room ≡ decoded_length_single_byte }
+        ensures { IsFreshDecoder (⟦<UserDefinedDecoder as RawDecoder>⟧.state result)
+            pieces_user_defined decoded_length_single_byte }
     {
-        UserDefinedDecoder {
-            inner: Bytewise::new(UserDefinedRule {}),
-        }
-    }
-}
-
-impl SinkDecoder for UserDefinedDecoder {
-    ghost state = { λ d. ⟦<Bytewise<UserDefinedRule> as SinkDecoder>⟧.state d.inner };
-
-    fn decode_into<S: Sink>(
-        &mut self,
-        src: &[u8],
-        sink: &mut S,
-        last: bool,
-    ) -> (DecoderResult, usize) {
-        self.inner.decode_into(src, sink, last)
-    }
-
-    fn held_len(&self) -> usize {
-        self.inner.held_len()
-    }
-
-    fn room(&self) -> DecodedLength {
-        self.inner.room()
+        EachByteDecoder::of_rule(UserDefinedRule {})
     }
 }

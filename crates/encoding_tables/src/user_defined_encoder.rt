@@ -1,18 +1,18 @@
 // The encoder of x-user-defined (the Encoding Standard, section 14.5.2, "x-user-defined encoder").
 
 ghost use Rattle.std.specs.Prelude.{◌≡◌};
+ghost use Rattle.encoding_mem.specs.EncoderRule.{IsFreshEncoder};
 ghost use Rattle.encoding_mem.specs.EncodedLength.{encoded_length_single_byte};
-ghost use Rattle.encoding_mem.specs.declared.form.EscapeState.TheVariants.{Ascii};
 ghost use Rattle.encoding_tables.specs.EachByte.{form_by_byte};
 ghost use Rattle.encoding_tables.specs.laws.EachByte.{fits_by_byte};
 ghost use Rattle.encoding_tables.specs.UserDefined.{byte_of_user_char, user_defined_coding};
 ghost use Rattle.encoding_tables.specs.laws.UserDefined.{user_defined_ascii, user_defined_laws};
 
 use crate::single_byte_encoder::form_of_byte;
-use encoding_mem::RawEncoder;
 use encoding_mem::encode::StatelessRule;
 use encoding_mem::form::Form;
 use encoding_mem::room::EncodedLength;
+use encoding_mem::source_encoder::SourceEncoder;
 
 /// Encodes to x-user-defined: ASCII gives itself, and U+F780 to U+F7FF give the bytes from 80. Any other
 /// character is unmappable. There is no state.
@@ -21,10 +21,8 @@ pub struct UserDefinedEncoder {}
 
 impl UserDefinedEncoder {
     pub fn new() -> Self
-        ensures coding { ⟦<UserDefinedEncoder as RawEncoder>⟧.coding result ≡ user_defined_coding }
-        ensures set { ⟦<UserDefinedEncoder as RawEncoder>⟧.set result ≡ Ascii }
-        ensures need { ⟦<UserDefinedEncoder as RawEncoder>⟧.need result ≡ 1 }
-        ensures limits { ⟦<UserDefinedEncoder as RawEncoder>⟧.limits result ≡ encoded_length_single_byte }
+        ensures { IsFreshEncoder (⟦<UserDefinedEncoder as SourceEncoder>⟧.parts result) 1
+            user_defined_coding encoded_length_single_byte }
     {
         UserDefinedEncoder {}
     }

@@ -5,6 +5,7 @@ ghost use Rattle.std.proofs.Common.{refl, arith};
 ghost use Rattle.std.specs.Prelude.{◌≡◌, ◌+◌, IsTrue};
 ghost use Rattle.std.specs.Char.Utf16.{is_high_surrogate, is_low_surrogate, surrogate_pair_char};
 ghost use Rattle.encoding_mem.specs.laws.Pieces.{pieces_by-nil, pieces_by-whole, pieces_by-are_pieces};
+ghost use Rattle.encoding_mem.specs.Decoding.{IsFreshDecoder};
 ghost use Rattle.encoding_mem.specs.DecodedLength.{decoded_length, decoded_length_utf16};
 ghost use Rattle.encoding_tables.specs.Utf16.{unit_of, first_piece_utf16, pieces_utf16};
 ghost use Rattle.encoding_tables.specs.laws.Utf16Decide.{decide_utf16, decide_unit, decide_pair};
@@ -150,9 +151,8 @@ pub struct Utf16Decoder {
 impl Utf16Decoder {
     /// The decoder of UTF-16BE, or of UTF-16LE. Nothing is pending.
     pub fn new(big_endian: bool) -> Self
-        ensures pending { (⟦<Utf16Decoder as RawDecoder>⟧.state result).pending ≡ 0 }
-        ensures pieces { (⟦<Utf16Decoder as RawDecoder>⟧.state result).pieces ≡ pieces_utf16 big_endian }
-        ensures room { (⟦<Utf16Decoder as RawDecoder>⟧.state result).room ≡ decoded_length_utf16 }
+        ensures { IsFreshDecoder (⟦<Utf16Decoder as RawDecoder>⟧.state result)
+            (pieces_utf16 big_endian) decoded_length_utf16 }
     {
         Utf16Decoder {
             inner: Buffered::new(Utf16Rule { big_endian }),

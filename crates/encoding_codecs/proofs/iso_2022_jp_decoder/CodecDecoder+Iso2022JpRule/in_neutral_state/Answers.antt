@@ -1,6 +1,6 @@
 use Rattle.std.proofs.Common.{ap, refl, ◌∙◌}
 use Rattle.encoding_codecs.proofs.Iso2022JpPieceLemmas.{neutral_is}
-use Rattle.encoding_codecs.proofs.iso_2022_jp_decoder.Iso2022JpDecoder.in_neutral_state.Goals as goal
+use Rattle.encoding_codecs.proofs.iso_2022_jp_decoder.CodecDecoder+Iso2022JpRule.in_neutral_state.Goals as goal
 
 pub returns-in_default : goal.returns-in_default
 returns-in_default c =

@@ -1,0 +1,54 @@
+ghost use Rattle.std.specs.Prelude.{◌≡◌, []};
+
+use encoding_mem::DecoderResult;
+use encoding_mem::first_piece::DecoderRule;
+use encoding_mem::room::DecodedLength;
+use encoding_mem::sink::Sink;
+use encoding_mem::sink_decoder::{Buffered, SinkDecoder};
+
+/// The decoder of an encoding, by its rule. Each is a `RawDecoder`.
+#[derive(Drop)]
+pub struct CodecDecoder<R: DecoderRule> {
+    inner: Buffered<R>,
+}
+
+impl<R: DecoderRule> CodecDecoder<R> {
+    // Nothing is pending.
+    pub(crate) fn of_rule(rule: R) -> Self
+        ensures rule { result.inner.rule ≡ rule }
+        ensures pending { result.inner.pending ≡ [] }
+    {
+        CodecDecoder {
+            inner: Buffered::new(rule),
+        }
+    }
+
+    // The rule, as it is now.
+    pub(crate) fn rule(&self) -> &R
+        ensures { result.now ≡ self.now.inner.rule }
+    {
+        self.inner.rule()
+    }
+}
+
+impl<R: DecoderRule> SinkDecoder for CodecDecoder<R> {
+    ghost state = { λ d. ⟦<Buffered<R> as SinkDecoder>⟧.state d.inner };
+
+    #[inline(always)]
+    fn decode_into<S: Sink>(
+        &mut self,
+        src: &[u8],
+        sink: &mut S,
+        last: bool,
+    ) -> (DecoderResult, usize) {
+        self.inner.decode_into(src, sink, last)
+    }
+
+    fn held_len(&self) -> usize {
+        self.inner.held_len()
+    }
+
+    fn room(&self) -> DecodedLength {
+        self.inner.room()
+    }
+}

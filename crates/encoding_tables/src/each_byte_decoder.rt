@@ -1,0 +1,52 @@
+ghost use Rattle.std.specs.Prelude.{◌≡◌};
+
+use encoding_mem::DecoderResult;
+use encoding_mem::bytewise::{Bytewise, DecidedPiece};
+use encoding_mem::room::DecodedLength;
+use encoding_mem::sink::Sink;
+use encoding_mem::sink_decoder::SinkDecoder;
+
+/// The decoder of an encoding each of whose bytes is a piece, by its rule. Each is a `RawDecoder`.
+#[derive(Drop)]
+pub struct EachByteDecoder<R: DecidedPiece> {
+    inner: Bytewise<R>,
+}
+
+impl<R: DecidedPiece> EachByteDecoder<R> {
+    pub(crate) fn of_rule(rule: R) -> Self
+        ensures { result.inner.rule ≡ rule }
+    {
+        EachByteDecoder {
+            inner: Bytewise::new(rule),
+        }
+    }
+
+    // The rule, as it is now.
+    pub(crate) fn rule(&self) -> &R
+        ensures { result.now ≡ self.now.inner.rule }
+    {
+        self.inner.rule()
+    }
+}
+
+impl<R: DecidedPiece> SinkDecoder for EachByteDecoder<R> {
+    ghost state = { λ d. ⟦<Bytewise<R> as SinkDecoder>⟧.state d.inner };
+
+    #[inline(always)]
+    fn decode_into<S: Sink>(
+        &mut self,
+        src: &[u8],
+        sink: &mut S,
+        last: bool,
+    ) -> (DecoderResult, usize) {
+        self.inner.decode_into(src, sink, last)
+    }
+
+    fn held_len(&self) -> usize {
+        self.inner.held_len()
+    }
+
+    fn room(&self) -> DecodedLength {
+        self.inner.room()
+    }
+}
