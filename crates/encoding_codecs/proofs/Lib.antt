@@ -1,3 +1,2 @@
 mod Iso2022JpPieceLemmas
-mod Iso2022JpStepLemmas
 pub mod JisPointerLemmas

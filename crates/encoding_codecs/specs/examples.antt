@@ -8,3 +8,4 @@ pub mod Gb18030
 pub mod Gb18030Coding
 pub mod ShiftJis
 pub mod TwoByte
+pub mod Iso2022JpAgreement

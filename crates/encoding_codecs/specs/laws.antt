@@ -15,6 +15,7 @@ pub mod Gb18030Tables
 pub mod Iso2022JpDecide
 pub mod Iso2022JpForms
 pub mod Iso2022Jp
+pub mod Iso2022JpSteps
 pub mod JisForms
 pub mod JisSteps
 pub mod Pointers

@@ -30,7 +30,7 @@ const WRITTEN_START: u32 = 5024;
 
 const WRITTEN_END: u32 = 19782;
 
-// Its index.
+/// The rule by which `Big5Decoder` decodes, over its index.
 #[derive(Drop)]
 pub struct Big5<'a> {
     flat: Flat<'a>,

@@ -24,7 +24,7 @@ use encoding_mem::room::EncodedLength;
 use encoding_mem::source_encoder::SourceEncoder;
 use encoding_tables::{Flat, IndexKind, Tables};
 
-// The indexes that are read.
+/// The rule by which `EucJpDecoder` decodes, over its two indexes.
 #[derive(Drop)]
 pub struct EucJpLeads<'a> {
     jis0208: Flat<'a>,

@@ -25,7 +25,7 @@ use encoding_mem::room::EncodedLength;
 use encoding_mem::source_encoder::SourceEncoder;
 use encoding_tables::{Flat, IndexKind, Tables};
 
-// Its index.
+/// The rule by which `EucKrDecoder` decodes, over its index.
 #[derive(Drop)]
 pub struct EucKr<'a> {
     flat: Flat<'a>,

@@ -37,7 +37,7 @@ struct Jis0208<'a> {
     ghost scalars: { AreEntries flat },
 }
 
-// The rule of ISO-2022-JP, in a mode.
+/// The rule by which `Iso2022JpDecoder` decodes, in a mode.
 #[derive(Drop)]
 pub struct Iso2022JpRule<'a> {
     jis0208: Jis0208<'a>,

@@ -26,7 +26,7 @@ use encoding_mem::scalar::scalar_of;
 use encoding_mem::source_encoder::SourceEncoder;
 use encoding_tables::{Flat, IndexKind, Tables};
 
-// Its index.
+/// The rule by which `ShiftJisDecoder` decodes, over its index.
 #[derive(Drop)]
 pub struct ShiftJis<'a> {
     jis0208: Flat<'a>,

@@ -18,6 +18,8 @@ pub mod Utf8Coding
 pub mod EncodedLength
 pub mod ReadBack
 pub mod Steps
+pub mod Agreement
+pub mod ReadCalls
 pub mod Latin1
 pub mod Bidi
 pub mod LongestPrefix

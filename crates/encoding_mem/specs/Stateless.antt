@@ -1,8 +1,14 @@
 -- A target with one set.
-use Rattle.std.specs.Prelude.{ℕ, []}
+use Rattle.std.specs.Prelude.{◌≡◌, ℕ, []}
 use Rattle.encoding_mem.specs.Coding.{Coding}
 use Rattle.encoding_mem.specs.declared.form.Form.{Form}
+use Rattle.encoding_mem.specs.declared.form.EscapeState.{EscapeState}
 use Rattle.encoding_mem.specs.declared.form.EscapeState.TheVariants.{Ascii}
 
 abbrev pub stateless : (ℕ → Form) → Coding
 stateless form = record { form = form; set = λ _ _. Ascii; escape = λ _ _. [] }
+
+-- such a target, by what it does: one set, and no escapes
+pub record HasOneSet (e : Coding) : Type 0 where
+  pub set : (s : EscapeState) (c : ℕ) → e.set s c ≡ Ascii
+  pub escape : (s s' : EscapeState) → e.escape s s' ≡ []

@@ -12,6 +12,8 @@ pub mod Coding
 pub mod Items
 pub mod Decoding
 pub mod ReadBack
+pub mod Agreement
+pub mod ReadCalls
 pub mod Text
 pub mod Latin1
 pub mod Bidi

@@ -15,3 +15,7 @@ pub mod Encoding
 pub mod SampleCoding
 pub mod ReadBack
 pub mod Steps
+pub mod Agreement
+pub mod OneSet
+pub mod Verdict
+pub mod ReadCalls

@@ -15,7 +15,7 @@ use encoding_mem::bytewise::DecidedPiece;
 use encoding_mem::first_piece::{DecoderRule, FirstPiece};
 use encoding_mem::room::DecodedLength;
 
-// The rule of the replacement encoding: one error, and no text.
+/// The rule by which `ReplacementDecoder` decodes: one error, and no text.
 #[derive(Clone, Copy)]
 pub struct ReplacementRule {
     error_returned: bool,

@@ -24,7 +24,7 @@ use encoding_mem::bytewise::DecidedPiece;
 use encoding_mem::first_piece::{DecoderRule, FirstPiece};
 use encoding_mem::room::DecodedLength;
 
-// The rule of a single-byte encoding: each byte is a piece.
+/// The rule by which `SingleByteDecoder` decodes: each byte is a piece.
 #[derive(Drop)]
 pub struct SingleByteRule<'a> {
     flat: Flat<'a>,

@@ -16,7 +16,7 @@ use encoding_mem::bytewise::DecidedPiece;
 use encoding_mem::first_piece::{DecoderRule, FirstPiece};
 use encoding_mem::room::DecodedLength;
 
-// The rule of x-user-defined: each byte is a character.
+/// The rule by which `UserDefinedDecoder` decodes: each byte is a character.
 #[derive(Clone, Copy)]
 pub struct UserDefinedRule {}
 

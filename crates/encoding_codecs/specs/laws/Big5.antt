@@ -3,6 +3,7 @@ use Rattle.std.proofs.Common.{◌≡◌, ◌≢◌, ℕ, ◌+◌, ◌/◌, ◌%�
 use Rattle.std.specs.Prelude.{◌==◌, ◌||◌}
 use Rattle.std.specs.Int.{is_in_range}
 use Rattle.std.proofs.lemmas.Bool.{le-ltb, lt-ltb, ne_eqb, cases_lt}
+use Rattle.encoding_mem.specs.Agreement.{ReadsByStep}
 use Rattle.encoding_mem.specs.Coding.{IsCoding}
 use Rattle.encoding_mem.specs.ReadBack.{ReadsBackExactly}
 use Rattle.encoding_tables.specs.Lookups.{AreEntries, value_of, first_pointer, last_pointer}
@@ -12,7 +13,7 @@ use Rattle.encoding_codecs.specs.TwoByte.{IsTwoByte, IsPairValue}
 use Rattle.encoding_codecs.specs.Pointers.{value_of_entry}
 use Rattle.encoding_codecs.specs.laws.Pointers.{is_value_of_entry, is_value_if, is_first_if, in_range, coding_by_pointer, IsPairOf, reads_by_pointer}
 use Rattle.encoding_mem.specs.Steps.{StepLaw, in_any_set}
-use Rattle.encoding_codecs.specs.laws.ExactReadBack.{ReadsEach, each_reads_back_exactly, reads_back_by_steps}
+use Rattle.encoding_codecs.specs.laws.ExactReadBack.{ReadsEach, each_reads_back_exactly, reads_back_by_steps, each_by_step}
 use Rattle.encoding_codecs.specs.Big5.{big5_is_trail, big5_pointer, big5_value, big5_pair, big5_rule, first_piece_big5, pieces_big5, takes_last, big5_find, big5_trail, big5_bytes, big5_form, big5_coding}
 use Rattle.encoding_codecs.specs.declared.lead_byte_rule.FirstByte.TheVariants.{Lead, Unused}
 use Rattle.encoding_codecs.specs.declared.two_byte.PairValue.TheVariants.{NoChar, OneChar, TwoChars}
@@ -105,3 +106,6 @@ big5_exact flat scalars = each_reads_back_exactly (first_piece_big5 flat) (big5_
 
 pub big5_steps : (flat : List ℕ) → AreEntries flat → StepLaw (big5_coding flat) (in_any_set (pieces_big5 flat))
 big5_steps flat scalars = reads_back_by_steps (first_piece_big5 flat) (big5_form flat) (reads_each flat scalars)
+
+pub big5_by_step : (flat : List ℕ) → AreEntries flat → ReadsByStep (big5_coding flat) (in_any_set (pieces_big5 flat))
+big5_by_step flat scalars = each_by_step (first_piece_big5 flat) (big5_form flat) (reads_each flat scalars) tt

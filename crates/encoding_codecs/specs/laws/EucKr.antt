@@ -1,6 +1,7 @@
 -- Laws of EUC-KR.
 use Rattle.std.proofs.Common.{◌≡◌, ℕ, ◌+◌, ◌/◌, ◌%◌, ◌<◌, List, refl, arith, Some}
 use Rattle.std.specs.Int.{is_in_range}
+use Rattle.encoding_mem.specs.Agreement.{ReadsByStep}
 use Rattle.encoding_mem.specs.Coding.{IsCoding}
 use Rattle.encoding_mem.specs.ReadBack.{ReadsBackExactly}
 use Rattle.encoding_tables.specs.Lookups.{AreEntries, value_of, first_pointer}
@@ -10,7 +11,7 @@ use Rattle.encoding_codecs.specs.TwoByte.{IsTwoByte}
 use Rattle.encoding_codecs.specs.Pointers.{value_of_entry}
 use Rattle.encoding_codecs.specs.laws.Pointers.{is_value_of_entry, is_value_if, is_first_if, coding_by_pointer, IsPairOf, in_range, reads_by_pointer}
 use Rattle.encoding_mem.specs.Steps.{StepLaw, in_any_set}
-use Rattle.encoding_codecs.specs.laws.ExactReadBack.{ReadsEach, each_reads_back_exactly, reads_back_by_steps}
+use Rattle.encoding_codecs.specs.laws.ExactReadBack.{ReadsEach, each_reads_back_exactly, reads_back_by_steps, each_by_step}
 use Rattle.encoding_codecs.specs.EucKr.{euc_kr_pointer, euc_kr_rule, first_piece_euc_kr, pieces_euc_kr, euc_kr_bytes, euc_kr_form, euc_kr_coding}
 use Rattle.encoding_codecs.specs.declared.lead_byte_rule.FirstByte.TheVariants.{Lead, Unused}
 use Rattle.encoding_codecs.specs.declared.two_byte.PairValue.TheVariants.{NoChar}
@@ -51,3 +52,6 @@ euc_kr_exact flat scalars = each_reads_back_exactly (first_piece_euc_kr flat) (e
 
 pub euc_kr_steps : (flat : List ℕ) → AreEntries flat → StepLaw (euc_kr_coding flat) (in_any_set (pieces_euc_kr flat))
 euc_kr_steps flat scalars = reads_back_by_steps (first_piece_euc_kr flat) (euc_kr_form flat) (reads_each flat scalars)
+
+pub euc_kr_by_step : (flat : List ℕ) → AreEntries flat → ReadsByStep (euc_kr_coding flat) (in_any_set (pieces_euc_kr flat))
+euc_kr_by_step flat scalars = each_by_step (first_piece_euc_kr flat) (euc_kr_form flat) (reads_each flat scalars) tt

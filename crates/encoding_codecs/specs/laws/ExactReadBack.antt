@@ -11,10 +11,12 @@ use Rattle.encoding_mem.specs.declared.reference.Reference.{Reference}
 use Rattle.encoding_mem.specs.Piece.{Piece, well_formed, piece_len, text, AreWellFormed}
 use Rattle.encoding_mem.specs.Pieces.{pieces_by}
 use Rattle.encoding_mem.specs.laws.Pieces.{CutsEach, pieces_by-nil, pieces_by-first}
+use Rattle.encoding_mem.specs.Agreement.{ReadsByStep}
 use Rattle.encoding_mem.specs.Coding.{AllMapped, IsMapped, open_from, output, spelled, reference}
 use Rattle.encoding_mem.specs.ReadBack.{ReadsAs, ReadsBackExactly}
 use Rattle.encoding_mem.specs.Stateless.{stateless}
 use Rattle.encoding_mem.specs.Steps.{StepLaw, in_any_set, Returns, Strays}
+use Rattle.encoding_mem.specs.laws.OneSet.{one_set_by_step}
 use Rattle.encoding_mem.specs.laws.Steps.{step_law}
 use Rattle.encoding_mem.specs.declared.form.Form.{Form}
 use Rattle.encoding_mem.specs.declared.form.Form.TheVariants.{Mapped, Unmapped}
@@ -114,3 +116,7 @@ one_step ref first_piece form is c (Unmapped d) h = inr (reference_strays ref fi
 
 pub reads_back_by_steps : (first_piece : List ℕ → Piece) (form : ℕ → Form) → ReadsEach first_piece form → StepLaw (stateless form) (in_any_set (pieces_by first_piece))
 reads_back_by_steps first_piece form is = step_law first_piece form is.cuts (λ ref c scalar. one_step ref first_piece form is c (form c) (is.scalar c scalar))
+
+-- with what is referred to, where `&` has bytes
+pub each_by_step : (first_piece : List ℕ → Piece) (form : ℕ → Form) → ReadsEach first_piece form → IsMapped (form 0x26) → ReadsByStep (stateless form) (in_any_set (pieces_by first_piece))
+each_by_step first_piece form is has = one_set_by_step first_piece form is.cuts (reads_back_by_steps first_piece form is) (λ x. is.ascii 0x26 x (omega arith)) has

@@ -59,8 +59,8 @@ apart p c d differs is = rw (other_text p d is) (record {
   apart = differs;
 })
 
-broken : (first_piece : List ℕ → Piece) → CutsEach first_piece → (bytes : List ℕ) (c : ℕ) → Strays first_piece bytes c → IsBroken (pieces_by first_piece) bytes (c ∷ [])
-broken first_piece cuts bytes c h = record {
+pub broken_at_first : (first_piece : List ℕ → Piece) → CutsEach first_piece → (bytes : List ℕ) (c : ℕ) → Strays first_piece bytes c → IsBroken (pieces_by first_piece) bytes (c ∷ [])
+broken_at_first first_piece cuts bytes c h = record {
   taken = h.piece ∷ [];
   decided = λ r. (
     pieces_by first_piece (drop (piece_len h.piece) (bytes ++ r)),
@@ -76,7 +76,7 @@ pub step_law : (first_piece : List ℕ → Piece) (form : ℕ → Form) → Cuts
     → StepLaw (stateless form) (in_any_set (pieces_by first_piece))
 step_law first_piece form cuts steps ref s c scalar = elim (steps ref c scalar) [
   | inl h ↦ inl (follows first_piece cuts (spelled ref (form c)) c h)
-  | inr h ↦ inr (broken first_piece cuts (spelled ref (form c)) c h)
+  | inr h ↦ inr (broken_at_first first_piece cuts (spelled ref (form c)) c h)
 ]
 
 -- a reference begins with `&`, and stands for no other character

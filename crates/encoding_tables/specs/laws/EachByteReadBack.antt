@@ -8,12 +8,14 @@ use Rattle.encoding_mem.specs.Piece.{text, text_of, AreWellFormed}
 use Rattle.encoding_mem.specs.laws.Pieces.{pieces_by-nil}
 use Rattle.encoding_mem.specs.Coding.{AllMapped, IsMapped, open_from, output, spelled, lost_count, unmapped_count}
 use Rattle.encoding_mem.specs.Steps.{StepLaw, in_any_set, Returns, Strays}
+use Rattle.encoding_mem.specs.Agreement.{ReadsByStep}
+use Rattle.encoding_mem.specs.laws.OneSet.{one_set_by_step}
 use Rattle.encoding_mem.specs.laws.Steps.{step_law, strays_at_reference}
 use Rattle.encoding_mem.specs.ReadBack.{ReadsAs, ReadsBackExactly}
 use Rattle.encoding_mem.specs.laws.ReadBack.{all_mapped}
 use Rattle.encoding_mem.specs.declared.form.EscapeState.{EscapeState}
 use Rattle.encoding_mem.specs.declared.form.EscapeState.TheVariants.{Ascii}
-use Rattle.encoding_tables.specs.EachByte.{piece_of_byte, first_piece_by_byte, pieces_by_byte, form_of_byte, coding_by_byte}
+use Rattle.encoding_tables.specs.EachByte.{piece_of_byte, first_piece_by_byte, pieces_by_byte, form_of_byte, form_by_byte, coding_by_byte}
 use Rattle.encoding_tables.specs.laws.EachByte.{AreScalars, cuts_by_byte, pieces_by_byte-cons}
 
 -- the byte of a character reads as that character
@@ -89,3 +91,9 @@ pub steps_by_byte : (char_of byte_of : ℕ → Option ℕ) → AreScalars char_o
 steps_by_byte char_of byte_of scalars back ampersand =
     step_law (first_piece_by_byte char_of) (λ c. form_of_byte c (byte_of c)) (cuts_by_byte char_of scalars)
     (λ ref c scalar. one_step ref char_of byte_of back ampersand c (byte_of c) refl)
+
+pub by_step_by_byte : (char_of byte_of : ℕ → Option ℕ) → AreScalars char_of → ReadsBack char_of byte_of → byte_of 0x26 ≡ Some 0x26
+    → ReadsByStep (coding_by_byte byte_of) (in_any_set (pieces_by_byte char_of))
+by_step_by_byte char_of byte_of scalars back ampersand =
+    one_set_by_step (first_piece_by_byte char_of) (form_by_byte byte_of) (cuts_by_byte char_of scalars) (steps_by_byte char_of byte_of scalars back ampersand)
+    (λ x. ap piece_of_byte (back 0x26 0x26 ampersand)) (subst (λ o. IsMapped (form_of_byte 0x26 o)) (sym ampersand) tt)

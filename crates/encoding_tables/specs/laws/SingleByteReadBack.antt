@@ -1,11 +1,12 @@
 -- What a single-byte encoding writes reads back exactly where each character has a byte, and character by character.
 use Rattle.std.proofs.Common.{◌≡◌, ℕ, ◌+◌, ◌-◌, List, refl, arith, inl, inr, Some}
 use Rattle.std.proofs.lemmas.Bool.{cases_lt, lt-ltb, le-ltb}
+use Rattle.encoding_mem.specs.Agreement.{ReadsByStep}
 use Rattle.encoding_mem.specs.Piece.{ArePieces}
 use Rattle.encoding_mem.specs.laws.Pieces.{pieces_by-are_pieces}
 use Rattle.encoding_mem.specs.ReadBack.{ReadsBackExactly}
 use Rattle.encoding_mem.specs.Steps.{StepLaw, in_any_set}
-use Rattle.encoding_tables.specs.laws.EachByteReadBack.{ReadsBack, exact_by_byte, steps_by_byte}
+use Rattle.encoding_tables.specs.laws.EachByteReadBack.{ReadsBack, exact_by_byte, steps_by_byte, by_step_by_byte}
 use Rattle.encoding_tables.specs.Lookups.{AreEntries, first_pointer}
 use Rattle.encoding_tables.specs.SingleByte.{char_of_byte, single_byte_of_char, first_piece_single_byte, pieces_single_byte, single_byte_coding}
 use Rattle.encoding_tables.specs.LookupLaws.{IsPointer}
@@ -34,6 +35,9 @@ single_byte_exact flat scalars = exact_by_byte (char_of_byte flat) (single_byte_
 
 pub single_byte_steps : (flat : List ℕ) → AreEntries flat → StepLaw (single_byte_coding flat) (in_any_set (pieces_single_byte flat))
 single_byte_steps flat scalars = steps_by_byte (char_of_byte flat) (single_byte_of_char flat) (scalar_of_byte flat scalars) (byte_reads_back flat) refl
+
+pub single_byte_by_step : (flat : List ℕ) → AreEntries flat → ReadsByStep (single_byte_coding flat) (in_any_set (pieces_single_byte flat))
+single_byte_by_step flat scalars = by_step_by_byte (char_of_byte flat) (single_byte_of_char flat) (scalar_of_byte flat scalars) (byte_reads_back flat) refl
 
 -- and bytes are cut into pieces
 pub single_byte_are_pieces : (flat : List ℕ) → AreEntries flat → (x : List ℕ) → ArePieces (pieces_single_byte flat x)

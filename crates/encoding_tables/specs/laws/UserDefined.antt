@@ -5,6 +5,7 @@ use Rattle.std.specs.Int.{is_in_range}
 use Rattle.std.specs.Char.{IsScalar}
 use Rattle.std.proofs.lemmas.Bool.{cases_lt, lt-ltb, le-ltb}
 use Rattle.std.proofs.lemmas.Bool.Decides.{nat_tests}
+use Rattle.encoding_mem.specs.Agreement.{ReadsByStep}
 use Rattle.encoding_mem.specs.Coding.{IsCoding}
 use Rattle.encoding_mem.specs.Piece.{well_formed}
 use Rattle.encoding_mem.specs.laws.Pieces.{CutsEach}
@@ -14,7 +15,7 @@ use Rattle.encoding_mem.specs.declared.form.Form.TheVariants.{Mapped}
 use Rattle.encoding_tables.specs.EachByte.{form_by_byte}
 use Rattle.encoding_tables.specs.laws.EachByte.{AreScalars, cuts_by_byte, laws_by_byte}
 use Rattle.encoding_mem.specs.Steps.{StepLaw, in_any_set}
-use Rattle.encoding_tables.specs.laws.EachByteReadBack.{ReadsBack, exact_by_byte, steps_by_byte}
+use Rattle.encoding_tables.specs.laws.EachByteReadBack.{ReadsBack, exact_by_byte, steps_by_byte, by_step_by_byte}
 use Rattle.encoding_tables.specs.laws.OptionCases.{if_some_some}
 use Rattle.encoding_tables.specs.UserDefined.{user_char_of_byte, byte_of_user_char, first_piece_user_defined, pieces_user_defined, user_defined_coding}
 
@@ -65,3 +66,6 @@ user_defined_exact = exact_by_byte user_char_of_byte byte_of_user_char scalars_u
 -- and character by character
 pub user_defined_steps : StepLaw user_defined_coding (in_any_set pieces_user_defined)
 user_defined_steps = steps_by_byte user_char_of_byte byte_of_user_char scalars_user_defined reads_back refl
+
+pub user_defined_by_step : ReadsByStep user_defined_coding (in_any_set pieces_user_defined)
+user_defined_by_step = by_step_by_byte user_char_of_byte byte_of_user_char scalars_user_defined reads_back refl

@@ -1,15 +1,19 @@
 -- What ISO-2022-JP writes for a character is read back as it, or is broken.
-use Rattle.std.proofs.Common.{◌≡◌, ◌≢◌, ℕ, ◌+◌, ◌/◌, ◌%◌, ◌<◌, ◌≤◌, ◌==◌, ◌⊎◌, inl, inr, Bool, true, false, cond, nat_le, List, [], ◌∷◌, ◌++◌, length, drop, refl, sym, ◌∙◌, ap, arith, lit<, Option, Some, None, append_assoc}
+use Rattle.std.proofs.Common.{◌≡◌, ◌≢◌, ℕ, ◌+◌, ◌/◌, ◌%◌, ◌<◌, ◌≤◌, ◌==◌, ◌⊎◌, inl, inr, Bool, true, false, cond, nat_le, nat_lt, List, [], ◌∷◌, ◌++◌, length, drop, refl, sym, ◌∙◌, ap, subst, arith, lit<, lit≤, Option, Some, None, append_assoc}
 use Rattle.std.specs.Prelude.{◌||◌}
 use Rattle.std.specs.Int.{is_in_range}
 use Rattle.std.proofs.lemmas.Bool.{cases_lt, cases_eq, cases_Bool, lt-ltb, le-ltb, le-leb, ne_eqb, eqb-false, or_parts, and_from}
 use Rattle.std.proofs.lemmas.Bool.Decides.{nat_tests}
 use Rattle.encoding_mem.specs.laws.Steps.{reference_behind}
 use Rattle.encoding_mem.specs.declared.reference.Reference.{Reference}
-use Rattle.encoding_mem.specs.Coding.{spelled, reference}
-use Rattle.encoding_mem.specs.Piece.{Piece, well_formed, piece_len, sizes, text, AreWellFormed}
+use Rattle.encoding_mem.specs.Agreement.{ReadsByStep}
+use Rattle.encoding_mem.specs.Coding.{IsMapped, spelled, reference}
+use Rattle.encoding_mem.specs.Decoding.{IsUndecided}
+use Rattle.encoding_mem.specs.Piece.{Piece, well_formed, malformed, first, piece_len, sizes, text, AreWellFormed}
+use Rattle.encoding_mem.specs.ReadBack.{ReadsAs}
 use Rattle.encoding_mem.specs.laws.Pieces.{pieces_in-cons}
-use Rattle.encoding_mem.specs.Steps.{Follows, IsBroken, StepLaw}
+use Rattle.encoding_mem.specs.Steps.{Follows, IsBroken, StepLaw, one_from}
+use Rattle.encoding_mem.specs.declared.form.Form.{Form}
 use Rattle.encoding_mem.specs.declared.form.Form.TheVariants.{Mapped, Unmapped}
 use Rattle.encoding_mem.specs.declared.form.EscapeState.{EscapeState}
 use Rattle.encoding_mem.specs.declared.form.EscapeState.TheVariants.{Ascii, Roman, Jis}
@@ -20,7 +24,7 @@ use Rattle.encoding_codecs.specs.Iso2022Jp.{ascii_mode, roman_mode, jis_mode, as
 use Rattle.encoding_codecs.specs.laws.Iso2022JpDecide.{first_piece_iso_2022_jp, char_first_piece, mode_after}
 use Rattle.encoding_codecs.specs.Iso2022JpForms.{looked_up, pointer_of, pointer_of_char, jis_form_of_pointer, ascii_form, iso_2022_jp_form, is_set, only, ascii_or_roman, set_after, sets_of_pointer, iso_2022_jp_sets, iso_2022_jp_escape_to, iso_2022_jp_escape, iso_2022_jp_coding}
 use Rattle.encoding_codecs.specs.laws.Iso2022JpForms.{set_after-only}
-use Rattle.encoding_codecs.specs.laws.Iso2022Jp.{cuts_iso_2022_jp, agrees, no_escape_at}
+use Rattle.encoding_codecs.specs.laws.Iso2022Jp.{cuts_iso_2022_jp, agrees, no_escape_at, iso_2022_jp_ends}
 use Rattle.encoding_codecs.specs.Iso2022JpSets.{mode_of, pieces_from_set}
 use Rattle.encoding_codecs.specs.declared.iso_2022_jp_decoder.Mode.{Mode}
 
@@ -293,3 +297,90 @@ gives ref jis0208 katakana scalars s c = elim (cases_lt c 0x80) [
 pub iso_2022_jp_steps : (jis0208 katakana : List ℕ) → AreEntries jis0208 → StepLaw (iso_2022_jp_coding jis0208 katakana) (pieces_from_set jis0208)
 iso_2022_jp_steps jis0208 katakana scalars ref s c is =
     behind_escape jis0208 scalars s (set_after (iso_2022_jp_sets jis0208 katakana c) s) (spelled ref (iso_2022_jp_form jis0208 katakana c)) c (gives ref jis0208 katakana scalars s c)
+
+-- ---- a character without bytes
+
+-- it is referred to in a set of one byte a character
+lost_in_one_byte : (low single yen line : Bool) (f : Form) (o : Option ℕ) (c : ℕ) (s : EscapeState) → ¬ (IsMapped (cond low f (cond yen (Mapped (0x5C ∷ [])) (cond line (Mapped (0x7E ∷ [])) (jis_form_of_pointer c o)))))
+    → IsOneByte (set_after (cond low (cond single (only Ascii) ascii_or_roman) (cond (yen || line) (only Roman) (sets_of_pointer o))) s)
+lost_in_one_byte true true yen line f o c s lost = subst IsOneByte (sym (set_after-only Ascii s)) tt
+lost_in_one_byte true false yen line f o c s lost = one_byte s
+lost_in_one_byte false single true line f o c s lost = absurd (lost tt)
+lost_in_one_byte false single false true f o c s lost = absurd (lost tt)
+lost_in_one_byte false single false false f None c s lost = one_byte s
+lost_in_one_byte false single false false f (Some p) c s lost = absurd (lost tt)
+
+-- and its reference is never read as it
+lost_is_broken : (ref : Reference) (jis0208 : List ℕ) → AreEntries jis0208 → (s q : EscapeState) (d c : ℕ) → IsOneByte q → c ≢ 0x26
+    → IsBroken (pieces_from_set jis0208 s) (iso_2022_jp_escape s q ++ reference ref d) (c ∷ [])
+lost_is_broken ref jis0208 scalars s q d c one other = rw (reference_behind ref d) (record {
+  taken = escapes s q ++ well_formed 1 (0x26 ∷ []) ∷ [];
+  decided = λ r. (
+    pieces_from_set jis0208 q (drop 1 (reference ref d) ++ r),
+    ap (pieces_from_set jis0208 s) (append_assoc (iso_2022_jp_escape s q) (0x26 ∷ drop 1 (reference ref d)) r)
+        ∙ through jis0208 scalars s q 0x26 (drop 1 (reference ref d) ++ r) (λ e. absurd (omega (arith, e)))
+        ∙ ap (λ ps. escapes s q ++ ps) (mark jis0208 scalars q (drop 1 (reference ref d) ++ r) one)
+        ∙ sym (append_assoc (escapes s q) (well_formed 1 (0x26 ∷ []) ∷ []) (pieces_from_set jis0208 q (drop 1 (reference ref d) ++ r))),
+  );
+  wrong = inr (rw (escapes_text s q (well_formed 1 (0x26 ∷ []) ∷ [])) (record { offset = 0; in_one = lit< tt; in_other = lit< tt; apart = λ e. other (sym e) }));
+})
+
+lost_step : (ref : Reference) (jis0208 katakana : List ℕ) → AreEntries jis0208 → (s : EscapeState) (c : ℕ) → ¬ (IsMapped (iso_2022_jp_form jis0208 katakana c))
+    → IsBroken (pieces_from_set jis0208 s) (one_from ref (iso_2022_jp_coding jis0208 katakana) s c) (c ∷ [])
+lost_step ref jis0208 katakana scalars s c lost = by (iso_2022_jp_form jis0208 katakana c) refl
+  where
+    q : EscapeState
+    q = set_after (iso_2022_jp_sets jis0208 katakana c) s
+
+    one : IsOneByte q
+    one = lost_in_one_byte (nat_lt c 0x80) (c == 0x5C || c == 0x7E) (c == 0xA5) (c == 0x203E) (ascii_form c) (pointer_of_char jis0208 katakana c) c s lost
+
+    by : (f : Form) → iso_2022_jp_form jis0208 katakana c ≡ f → IsBroken (pieces_from_set jis0208 s) (iso_2022_jp_escape s q ++ spelled ref f) (c ∷ [])
+    by (Mapped bs) is = absurd (lost (subst IsMapped (sym is) tt))
+    by (Unmapped d) is = lost_is_broken ref jis0208 scalars s q d c one (λ same. lost (subst (λ a. IsMapped (iso_2022_jp_form jis0208 katakana a)) (sym same) tt))
+
+-- ---- an escape that ends the bytes
+
+-- it is ignored
+last_escape : (jis0208 : List ℕ) → AreEntries jis0208 → (m : Mode) (q : EscapeState) → pieces_in_mode jis0208 m (iso_2022_jp_escape_to q) ≡ well_formed 3 [] ∷ []
+last_escape jis0208 scalars m Ascii = cons jis0208 scalars m 0x1B (0x28 ∷ 0x42 ∷ []) ∙ ap (λ ps. well_formed 3 [] ∷ ps) (iso_2022_jp_ends jis0208 ascii_mode)
+last_escape jis0208 scalars m Roman = cons jis0208 scalars m 0x1B (0x28 ∷ 0x4A ∷ []) ∙ ap (λ ps. well_formed 3 [] ∷ ps) (iso_2022_jp_ends jis0208 roman_mode)
+last_escape jis0208 scalars m Jis = cons jis0208 scalars m 0x1B (0x24 ∷ 0x42 ∷ []) ∙ ap (λ ps. well_formed 3 [] ∷ ps) (iso_2022_jp_ends jis0208 jis_mode)
+
+ends_with_escape : (jis0208 : List ℕ) → AreEntries jis0208 → (s q : EscapeState) → ReadsAs (pieces_from_set jis0208 s) (iso_2022_jp_escape s q) []
+ends_with_escape jis0208 scalars s q = either (is_set s q)
+  where
+    either : (t : Bool) → ReadsAs (pieces_from_set jis0208 s) (cond t [] (iso_2022_jp_escape_to q)) []
+    either true = let is = iso_2022_jp_ends jis0208 (mode_of s) in record { well_formed = subst AreWellFormed (sym is) tt; same = ap text is }
+    either false = let is = last_escape jis0208 scalars (mode_of s) q in record { well_formed = subst AreWellFormed (sym is) (tt, tt); same = ap text is }
+
+-- but behind it another makes it malformed
+escape_before_another : (jis0208 : List ℕ) → AreEntries jis0208 → (m : Mode) (q : EscapeState) → first (pieces_in_mode jis0208 m (iso_2022_jp_escape_to q ++ iso_2022_jp_escape_to Ascii)) ≡ Some (malformed 3)
+escape_before_another jis0208 scalars m Ascii = ap first (cons jis0208 scalars m 0x1B (0x28 ∷ 0x42 ∷ iso_2022_jp_escape_to Ascii))
+escape_before_another jis0208 scalars m Roman = ap first (cons jis0208 scalars m 0x1B (0x28 ∷ 0x4A ∷ iso_2022_jp_escape_to Ascii))
+escape_before_another jis0208 scalars m Jis = ap first (cons jis0208 scalars m 0x1B (0x24 ∷ 0x42 ∷ iso_2022_jp_escape_to Ascii))
+
+escape_is_undecided : (jis0208 : List ℕ) → AreEntries jis0208 → (m : Mode) (q : EscapeState) → IsUndecided (pieces_in_mode jis0208 m) (iso_2022_jp_escape_to q)
+escape_is_undecided jis0208 scalars m q = record {
+  more = iso_2022_jp_escape_to Ascii;
+  short = lit≤ tt;
+  differs = λ same. clash (sym (ap first (last_escape jis0208 scalars m q)) ∙ same ∙ escape_before_another jis0208 scalars m q);
+}
+  where
+    clash : Some (well_formed 3 []) ≡ Some (malformed 3) → ⊥
+    clash e = cc
+
+-- ---- step by step
+
+pub iso_2022_jp_by_step : (jis0208 katakana : List ℕ) → AreEntries jis0208 → ReadsByStep (iso_2022_jp_coding jis0208 katakana) (pieces_from_set jis0208)
+iso_2022_jp_by_step jis0208 katakana scalars = record {
+  steps = iso_2022_jp_steps jis0208 katakana scalars;
+  lost = λ ref s c is lost. lost_step ref jis0208 katakana scalars s c lost;
+  nothing = λ s. iso_2022_jp_ends jis0208 (mode_of s);
+  ignored = ends_with_escape jis0208 scalars;
+  undecided = λ s s'. either (is_set s s') s s';
+}
+  where
+    either : (t : Bool) (s s' : EscapeState) → (cond t [] (iso_2022_jp_escape_to s') ≡ []) ⊎ IsUndecided (pieces_from_set jis0208 s) (cond t [] (iso_2022_jp_escape_to s'))
+    either true s s' = inl refl
+    either false s s' = inr (escape_is_undecided jis0208 scalars (mode_of s) s')
