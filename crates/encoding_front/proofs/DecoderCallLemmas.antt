@@ -13,13 +13,15 @@ use Rattle.encoding_mem.specs.declared.room.OutputUnit.{OutputUnit}
 use Rattle.encoding_mem.specs.declared.decoder_result.DecoderResult.{DecoderResult}
 use Rattle.encoding_mem.specs.declared.decoder_result.DecoderResult.TheVariants.{OutputFull, Malformed, InputEmpty}
 use Rattle.encoding_front.specs.DecodedText.{TakesText, SufficesText, raw_result}
+use Rattle.encoding_front.specs.DecoderCall.{DecoderCall, TextCall}
 use Rattle.encoding_front.specs.TakesMark.{LeavesRoom}
 use Rattle.encoding_front.proofs.BomLemmas.{reports_join}
 use Rattle.std.specs.Str.{IsUtf8}
 use Rattle.encoding_tables.specs.IndexLists.{IndexLists}
 use Rattle.encoding_front.specs.laws.Input.{text_scalars}
 use Rattle.encoding_front.specs.Marks.{marked_pieces, marked_text}
-use Rattle.encoding_front.specs.Stream.{IsNewDecoder, DecoderView}
+use Rattle.encoding_front.specs.OneShot.{IsDecoded}
+use Rattle.encoding_front.specs.Stream.{IsNewDecoder, DecoderView, finishes}
 use Rattle.encoding_front.specs.declared.coder_result.CoderResult.{CoderResult}
 use Rattle.encoding_front.specs.declared.encoding.Encoding.{Encoding}
 use Rattle.encoding_front.specs.declared.mark.Mark.{Mark}
@@ -90,6 +92,30 @@ then_ends P M A outcome src left last p q s n read b had V W Z is left_is writes
     (λ t. inl t, λ e. elim e [ inl t ↦ t | inr some ↦ absurd (omega (arith, some, well_formed_none k.taken well_formed_)) ])
     (λ t v. subst (λ (u : List ℕ). Z (t ++ u)) (sym (well_formed_text k.taken well_formed_)) (writes t (scalars k.taken) v k.writes))
     h k.within k.counted k.rest
+
+-- and so the call with U+FFFD
+reports_raw : (result : CoderResult) (b : ℕ) → Reports (raw_result result) b ≡ AreWellFormed
+reports_raw CoderResult.InputEmpty b = refl
+reports_raw CoderResult.OutputFull b = refl
+
+pub text_ends : (was mid now : DecoderView) (outcome : DecoderResult) (result : CoderResult) (src left : List ℕ) (last : Bool) (n read free room mark : ℕ) (had : Bool) (V W Z : List ℕ → Type 0)
+    → outcome ≡ raw_result result → left ≡ drop n src → ((t u : List ℕ) → V t → W u → Z (t ++ u))
+    → TakesText was.state.pieces mid.state.pieces src last was.state.pending mid.state.pending n V had
+    → ((r : List ℕ) → (IsTrue last → r ≡ []) → was.source (src ++ r) ≡ mid.source (drop n src ++ r))
+    → DecoderCall mid now left last read W free room mark outcome → TextCall was now src last (n + read) Z free room mark result had
+text_ends was mid now outcome result src left last n read free room mark had V W Z is left_is writes taken source h =
+    let unread : drop read left ≡ drop (n + read) src = ap (λ x. drop read x) left_is ∙ drop-drop read n src in
+    record {
+      law = then_ends was.state.pieces mid.state.pieces now.state.pieces outcome src left last was.state.pending mid.state.pending now.state.pending n read now.state.pending had V W Z
+          (ap (λ (o : DecoderResult). Reports o now.state.pending) is ∙ reports_raw result now.state.pending) left_is writes taken h.law;
+      ends = subst (λ (o : DecoderResult). EndsWith now.state (drop (n + read) src) last free room mark o) is (subst (λ (x : List ℕ). EndsWith now.state x last free room mark outcome) unread h.ends);
+      source = λ r e. source r e ∙ ap (λ x. mid.source (x ++ r)) (sym left_is) ∙ h.source r e ∙ ap (λ x. now.source (x ++ r)) unread;
+      finished = h.finished ∙ ap (finishes last) is;
+    }
+
+pub finishes_never : (last : Bool) (a b : ℕ) → finishes last (Malformed a b) ≡ false
+finishes_never true a b = refl
+finishes_never false a b = refl
 
 -- which ended with one, for which U+FFFD was written
 pub then_malformed : (P M A : List ℕ → List Piece) (outcome : DecoderResult) (a b : ℕ) (src left : List ℕ) (last : Bool) (p q s n read c : ℕ) (had : Bool) (V W Z : List ℕ → Type 0)
@@ -201,9 +227,8 @@ suffices_settled W X N A B t last size left n read old new (Malformed i j) x b w
 
 -- what was written is the text of the input
 pub record IsWhole (t : IndexLists) (mark : Mark) (e : Encoding) (x new : List ℕ) (written : ℕ) (had : Bool) : Type 0 where
-  pub text_is : take written new ≡ encode_utf8_all (marked_text t mark e x)
+  pub decoded : IsDecoded t mark e x (take written new) had
   pub utf8 : IsUtf8 (take written new)
-  pub malformed_ : IsTrue had ↔ (0 < malformed_count (marked_pieces t mark e x))
 
 ended : {A P B : Type 0} → (A × P) ⊎ ((true ≡ false) × B) → P
 ended (inl h) = h.1
@@ -227,9 +252,8 @@ whole_of v v' t mark e x old new ps written had begins is adds told =
     let wrote : take written new ≡ encode_utf8_all (marked_text t mark e x) =
     ap (take written) adds.list ∙ take_at (encode_utf8_all (text ps)) (drop written old) written (omega (arith, adds.counted)) ∙ ap (λ (l : List Piece). encode_utf8_all (text l)) is in
     record {
-      text_is = wrote;
+      decoded = record { bytes = wrote; malformed_ = subst (λ (l : List Piece). IsTrue had ↔ (0 < malformed_count l)) is told };
       utf8 = (marked_text t mark e x, (text_scalars (marked_pieces t mark e x) are, sym wrote));
-      malformed_ = subst (λ (l : List Piece). IsTrue had ↔ (0 < malformed_count l)) is told;
     }
 
 -- with U+FFFD for each malformed sequence

@@ -6,10 +6,14 @@ use Rattle.std.proofs.lemmas.Str.{IsUtf8-append}
 use Rattle.std.proofs.Math.Utf8.{scalar}
 use Rattle.std.specs.Str.{all_scalars, IsUtf8}
 use Rattle.encoding_mem.specs.Piece.{Piece, well_formed, malformed, text, scalars, ArePieces}
-use Rattle.encoding_mem.specs.Decoding.{DecoderState, Takes}
+use Rattle.encoding_mem.specs.Decoding.{DecoderState, EndsWith, Takes}
+use Rattle.encoding_mem.specs.declared.decoder_result.DecoderResult.{DecoderResult}
 use Rattle.encoding_mem.specs.TextDestination.{cleared, Overwrites}
 use Rattle.encoding_mem.specs.Writing.{Adds}
-use Rattle.encoding_front.specs.DecodedText.{TakesText}
+use Rattle.encoding_front.specs.DecodedText.{TakesText, raw_result}
+use Rattle.encoding_front.specs.DecoderCall.{DecoderCall, TextCall}
+use Rattle.encoding_front.specs.Stream.{DecoderView}
+use Rattle.encoding_front.specs.declared.coder_result.CoderResult.{CoderResult}
 use borrow.Rule.Slice.PartMut.{put_mid}
 use Rattle.encoding_front.proofs.ReferenceLemmas.{length_turn, take_into}
 
@@ -38,12 +42,24 @@ text_is s A src last p q n W had h = are_text h.taken (prefix_pieces h.taken _ (
 pub scalars_are : (WellFormed : List Piece → Type 0) (s : DecoderState) (A : List ℕ → List Piece) (src : List ℕ) (last : Bool) (p q n : ℕ) (W : List ℕ → Type 0) → (h : Takes WellFormed s.pieces A src last p q n W) → all_scalars (scalars h.taken) ≡ true
 scalars_are WellFormed s A src last p q n W h = are_scalars h.taken (prefix_pieces h.taken _ (subst ArePieces (h.rest [] (λ _. refl)) (s.are_pieces (src ++ []))))
 
--- another destination
-pub text_into : (B A : List ℕ → List Piece) (src : List ℕ) (last : Bool) (p q n : ℕ) (V Z : List ℕ → Type 0) (had : Bool) → ((t : List ℕ) → V t → Z t) → TakesText B A src last p q n V had → TakesText B A src last p q n Z had
-text_into B A src last p q n V Z had f h = record { taken = h.taken; had = h.had; within = h.within; counted = h.counted; writes = f (text h.taken) h.writes; rest = h.rest }
+-- another destination, of which as much is free
+pub text_into : (v v' : DecoderView) (src : List ℕ) (last : Bool) (n : ℕ) (V Z : List ℕ → Type 0) (free free' room mark : ℕ) (outcome : CoderResult) (had : Bool)
+    → ((t : List ℕ) → V t → Z t) → free ≡ free' → TextCall v v' src last n V free room mark outcome had → TextCall v v' src last n Z free' room mark outcome had
+text_into v v' src last n V Z free free' room mark outcome had f e h = record {
+  law = record { taken = h.law.taken; had = h.law.had; within = h.law.within; counted = h.law.counted; writes = f (text h.law.taken) h.law.writes; rest = h.law.rest };
+  ends = subst (λ (k : ℕ). EndsWith v'.state (drop n src) last k room mark (raw_result outcome)) e h.ends;
+  source = h.source;
+  finished = h.finished;
+}
 
-pub scalars_into : (WellFormed : List Piece → Type 0) (B A : List ℕ → List Piece) (src : List ℕ) (last : Bool) (p q n : ℕ) (V Z : List ℕ → Type 0) → ((t : List ℕ) → V t → Z t) → Takes WellFormed B A src last p q n V → Takes WellFormed B A src last p q n Z
-scalars_into WellFormed B A src last p q n V Z f h = record { taken = h.taken; well_formed = h.well_formed; within = h.within; counted = h.counted; writes = f (scalars h.taken) h.writes; rest = h.rest }
+pub scalars_into : (v v' : DecoderView) (src : List ℕ) (last : Bool) (n : ℕ) (V Z : List ℕ → Type 0) (free free' room mark : ℕ) (outcome : DecoderResult)
+    → ((t : List ℕ) → V t → Z t) → free ≡ free' → DecoderCall v v' src last n V free room mark outcome → DecoderCall v v' src last n Z free' room mark outcome
+scalars_into v v' src last n V Z free free' room mark outcome f e h = record {
+  law = record { taken = h.law.taken; well_formed = h.law.well_formed; within = h.law.within; counted = h.law.counted; writes = f (scalars h.law.taken) h.law.writes; rest = h.law.rest };
+  ends = subst (λ (k : ℕ). EndsWith v'.state (drop n src) last k room mark outcome) e h.ends;
+  source = h.source;
+  finished = h.finished;
+}
 
 -- text that was added to nothing
 pub added : (old text_ new : List ℕ) (w : ℕ) → Adds old 0 text_ new w → take w new ≡ text_

@@ -1,6 +1,7 @@
 -- What an encoder is to its callers, and what its calls do (the Encoding Standard, sections 4.1 and 6).
-use Rattle.std.specs.Prelude.{◌≡◌, ℕ, ◌+◌, ◌-◌, ◌<◌, ◌≤◌, Bool, true, false, List, [], ◌∷◌, ◌++◌, length, IsTrue, ◌↔◌, ◌⊎◌, ◌≢◌, Option}
+use Rattle.std.specs.Prelude.{◌≡◌, ℕ, ◌+◌, ◌-◌, ◌<◌, ◌≤◌, Bool, true, false, List, [], ◌∷◌, ◌++◌, length, drop, IsTrue, ◌↔◌, ◌⊎◌, ◌≢◌, Option}
 use Rattle.std.specs.Bool.{MatchBool}
+use Rattle.std.specs.Str.{IsCharBoundary}
 use Rattle.encoding_mem.specs.declared.reference.Reference.TheVariants.{Decimal}
 use Rattle.encoding_mem.specs.Coding.{Coding, IsMapped, last_set, lost_count, open_from, reference, spelled, whole_from}
 use Rattle.encoding_mem.specs.Encoding.{EncodeEndsWith, Continues, Encodes, Writes}
@@ -47,6 +48,16 @@ pub record Encoded (x : EncoderState) (last : Bool) (answer : EncoderResult) (te
   pub tight : Tight (coding_in x) answer x'.set rest room
   pub moves : Moves (coding_in x) x.set x'.set
 
+-- so much of a text was read, which ends between characters
+pub record ReadsText (text : List ℕ) (read : ℕ) : Type 0 where
+  pub within : read ≤ length text
+  pub boundary : IsCharBoundary text read
+
+-- so many bytes were written, and those behind them stay
+pub record WritesBytes (old new : List ℕ) (written : ℕ) : Type 0 where
+  pub room : written ≤ length new
+  pub behind : drop written new ≡ drop written old
+
 -- The bytes that are kept back for a reference, of which the longest is `&#1114111;`: none where each character has
 -- bytes.
 abbrev pub kept_by_codec_kind : CodecKind → ℕ
@@ -60,11 +71,14 @@ kept_back e = kept_by_codec_kind (codec_kind_of (output_encoding_of e))
 abbrev pub room_for : Encoding → (is_units : Bool) → ℕ → ℕ
 room_for e is_units n = bound_at (bound_for (encoded_length_of e) is_units) n
 
+abbrev pub room_with_kept : Encoding → (is_units : Bool) → ℕ → ℕ
+room_with_kept e is_units n = room_for e is_units n + kept_back e
+
 abbrev pub queried_room : Encoding → (is_units : Bool) → ℕ → Option ℕ
 queried_room e is_units n = checked (room_for e is_units n)
 
 abbrev pub queried_with_kept : Encoding → (is_units : Bool) → ℕ → Option ℕ
-queried_with_kept e is_units n = checked (room_for e is_units n + kept_back e)
+queried_with_kept e is_units n = checked (room_with_kept e is_units n)
 
 -- How a call with replacement ends: whether something is left to do.
 abbrev pub ReplacingEndsWith : Bool → CoderResult → EscapeState → List ℕ → Type 0

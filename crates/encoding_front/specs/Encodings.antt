@@ -5,10 +5,12 @@ use Rattle.std.specs.List.{starts_with}
 use Rattle.encoding_labels.specs.Labels.{IsLabelOf}
 use Rattle.encoding_mem.specs.Piece.{Piece}
 use Rattle.encoding_mem.specs.Coding.{Coding}
+use Rattle.encoding_mem.specs.Steps.{in_any_set}
 use Rattle.encoding_mem.specs.Utf8.{pieces_utf8}
 use Rattle.encoding_mem.specs.Utf8Coding.{utf8_coding}
 use Rattle.encoding_mem.specs.DecodedLength.{decoded_length_utf8, decoded_length_single_byte, decoded_length_multibyte, decoded_length_utf16, decoded_length_replacement}
 use Rattle.encoding_mem.specs.EncodedLength.{encoded_length_utf8, encoded_length_single_byte, encoded_length_two_byte, encoded_length_iso_2022_jp}
+use Rattle.encoding_mem.specs.declared.form.EscapeState.{EscapeState}
 use Rattle.encoding_mem.specs.declared.room.DecodedLength.{DecodedLength}
 use Rattle.encoding_mem.specs.declared.room.EncodedLength.{EncodedLength}
 use Rattle.encoding_tables.specs.IndexLists.{IndexLists, has, entries_of, rows_of}
@@ -25,6 +27,7 @@ use Rattle.encoding_codecs.specs.Gb18030.{pieces_gb18030}
 use Rattle.encoding_codecs.specs.Gb18030Coding.{gb18030_coding, gb18030_need, gb18030_encoded_length}
 use Rattle.encoding_codecs.specs.Iso2022Jp.{pieces_iso_2022_jp}
 use Rattle.encoding_codecs.specs.Iso2022JpForms.{iso_2022_jp_coding}
+use Rattle.encoding_codecs.specs.Iso2022JpSets.{pieces_from_set}
 use Rattle.encoding_tables.specs.declared.index_kind.IndexKind.{IndexKind}
 use Rattle.encoding_front.specs.declared.encoding.Encoding.{Encoding}
 use Rattle.encoding_front.specs.declared.codec_kind.CodecKind.{CodecKind}
@@ -149,6 +152,16 @@ coding_of_codec_kind t _ = utf8_coding
 
 abbrev pub coding_of : IndexLists → Encoding → Coding
 coding_of t e = coding_of_codec_kind t (codec_kind_of (output_encoding_of e))
+
+-- The pieces of what is written in the output encoding, from where a set is in force: in ISO-2022-JP from its mode.
+abbrev pub set_pieces_of_codec_kind : IndexLists → CodecKind → EscapeState → List ℕ → List Piece
+set_pieces_of_codec_kind t CodecKind.Iso2022Jp = pieces_from_set (entries_of t IndexKind.Jis0208)
+set_pieces_of_codec_kind t (CodecKind.Utf16 big_endian) = in_any_set pieces_utf8
+set_pieces_of_codec_kind t CodecKind.Replacement = in_any_set pieces_utf8
+set_pieces_of_codec_kind t kind = in_any_set (pieces_of_codec_kind t kind)
+
+abbrev pub set_pieces_of : IndexLists → Encoding → EscapeState → List ℕ → List Piece
+set_pieces_of t e = set_pieces_of_codec_kind t (codec_kind_of (output_encoding_of e))
 
 -- the most bytes that one step of the encoder writes
 abbrev pub need_of_codec_kind : CodecKind → ℕ

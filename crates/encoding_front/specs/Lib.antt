@@ -7,7 +7,10 @@ pub mod BomDecoderState
 pub mod TakesMark
 pub mod Latin1Prefix
 pub mod Stream
+pub mod VariantDecoders
 pub mod DecodedText
+pub mod DecoderCall
+pub mod DecoderViews
 pub mod OneShot
 pub mod Bounds
 pub mod laws

@@ -50,7 +50,8 @@ impl Row {
     // That of a single-byte encoding, with its index.
     fn single_byte(name: &'static str, index: &'static [IndexKind; 1]) -> Row
         ensures name { result.name.now ≡ name.now }
-        ensures codec_kind { result.codec_kind ≡ CodecKind.SingleByte (slice_index_or index.now 0 IndexKind.Big5) }
+        ensures codec_kind { result.codec_kind
+            ≡ CodecKind.SingleByte (slice_index_or index.now 0 IndexKind.Big5) }
         ensures needs { result.needs.now ≡ index.now }
     {
         Row::new(name, CodecKind::SingleByte(index[0]), index)

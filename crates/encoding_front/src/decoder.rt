@@ -1,27 +1,30 @@
-ghost use Rattle.std.specs.Prelude.{◌≡◌, ◌≢◌, ℕ, ◌≤◌, ◌-◌, ◌++◌, Bool, true, false, IsTrue, List, [], Some, length, take, drop, encode_utf8_all, refl, string_bytes, string_capacity, string_len, vec_capacity, vec_len};
+ghost use Rattle.std.specs.Prelude.{◌≡◌, ◌≢◌, ℕ, ◌<◌, ◌≤◌, ◌+◌, ◌-◌, ◌++◌, Bool, true, false, IsTrue, List, [], Some, length, take, drop, encode_utf8_all, refl, string_bytes, string_capacity, string_len, vec_capacity, vec_len};
 ghost use Rattle.std.specs.Str.{IsUtf8};
-ghost use Rattle.encoding_mem.specs.Decoding.{StateLaw, EndsWith};
 ghost use Rattle.encoding_mem.specs.Driver.{Suffices};
 ghost use Rattle.encoding_mem.specs.TextDestination.{Overwrites};
 ghost use Rattle.encoding_mem.specs.Writing.{Adds, encode_utf16_all};
 ghost use Rattle.encoding_mem.specs.declared.room.OutputUnit.TheVariants.{Units, Bytes, Replaced};
 ghost use Rattle.encoding_front.specs.BomDecoderState.{bom_decoder_state};
-ghost use Rattle.encoding_front.specs.DecodedText.{NeverFull, TakesText, raw_result};
+ghost use Rattle.encoding_front.specs.DecodedText.{NeverFull};
+ghost use Rattle.encoding_front.specs.DecoderCall.{DecoderCall, IfRoomAsked, TextCall};
 ghost use Rattle.encoding_front.specs.Encodings.{IsReady, decoded_length_of};
 ghost use Rattle.encoding_front.specs.Latin1Prefix.{latin1_rule};
-ghost use Rattle.encoding_front.specs.Seeking.{mark_taken};
-ghost use Rattle.encoding_front.specs.Stream.{IsNewDecoder, DecoderView, IsOpenedBy, TellsLatin1Prefix, encoding_after, finishes, room_asked};
-ghost use Rattle.encoding_front.specs.laws.Stream.{named_by, room_named};
+ghost use Rattle.encoding_front.specs.Seeking.{find_mark, is_sought, mark_taken};
+ghost use Rattle.encoding_front.specs.Stream.{IsNewDecoder, DecoderView, IsOpenedBy, TellsLatin1Prefix, ahead, encoding_after, finishes, greater_if, room_asked};
+ghost use Rattle.encoding_front.specs.TakesMark.{TakesMark};
+ghost use Rattle.encoding_front.specs.VariantDecoders.{rule_of, state_of};
+ghost use Rattle.encoding_front.specs.laws.Stream.{named_by, room_named, widest_by};
 ghost use Rattle.encoding_front.specs.declared.mark.Mark.{Mark};
+ghost use Rattle.encoding_front.specs.declared.seeking.BomMatch.{BomMatch};
 
-use crate::bom_decoder::{BomDecoder, Switches};
 use crate::coder_result::CoderResult;
 use crate::encoder::fill_spare;
 use crate::encoding::Encoding;
 use crate::mark::Mark;
-use crate::seeking::BomSet;
+use crate::seeking::{BomMatch, BomSet, ByteOrderMark, find_mark};
 use crate::variant_decoder::VariantDecoder;
-use encoding_mem::room::OutputUnit;
+use encoding_mem::pending::Pending;
+use encoding_mem::room::{DecodedLength, OutputUnit};
 use encoding_mem::sink::Sink;
 use encoding_mem::sink_decoder::SinkDecoder;
 use encoding_mem::utf8_sink::Utf8Sink;
@@ -46,12 +49,12 @@ pub trait StreamDecoder {
         last: bool,
     ) -> (DecoderResult, usize)
         requires { (view self.old).finished ≡ false }
-        ensures law { StateLaw (view self.old).state (view self.new).state src.now last result.1 (λ text. S.writes sink.old text sink.new) result.0 }
-        ensures ends { EndsWith (view self.new).state (drop result.1 src.now) last (S.free sink.new) S.room (S.cost 0xFFFD) result.0 }
-        ensures enough { Suffices (view self.old).state.needs (view self.new).state.needs S.is_units last
-            (length src.now) (length src.now - result.1) (S.free sink.old) (S.free sink.new) result.0 }
-        ensures source { (r : List ℕ) → (IsTrue last → r ≡ []) → (view self.old).source (src.now ++ r) ≡ (view self.new).source (drop result.1 src.now ++ r) }
-        ensures finished { (view self.new).finished ≡ finishes last result.0 };
+        ensures call { DecoderCall (view self.old) (view self.new) src.now last result.1
+            (λ text. S.writes sink.old text sink.new)
+            (S.free sink.new) S.room (S.cost 0xFFFD) result.0 }
+        ensures enough { Suffices (view self.old).state.needs (view self.new).state.needs
+            S.is_units last (length src.now) (length src.now - result.1)
+            (S.free sink.old) (S.free sink.new) result.0 };
 
     /// Whether a last call has returned that all is read. Then no other call may follow but this
     /// one and `encoding`.
@@ -66,19 +69,27 @@ pub trait StreamDecoder {
 /// The decoder of a stream in some encoding. Held bytes of a mark count as read and pending.
 #[derive(Drop)]
 pub struct Decoder<'t> {
-    marked: BomDecoder<VariantDecoder<'t>>,
+    inner: VariantDecoder<'t>,
     encoding: Encoding,
+    sought: BomSet,
+    held: Pending,
+    taken: Option<ByteOrderMark>,
     is_finished: bool,
-    ghost rule: { ⟦<VariantDecoder<'static> as Switches>⟧.rule marked.inner ≡ latin1_rule (encoding_after encoding marked.taken) },
-    ghost room: { (⟦<VariantDecoder<'static> as SinkDecoder>⟧.state marked.inner).room ≡ decoded_length_of (encoding_after encoding marked.taken) },
+    ghost few: { 0 < length held → (state_of inner).pending + length held ≤ 2 },
+    ghost fresh: { IsTrue (is_sought sought) → (state_of inner).pending ≡ 0 },
+    ghost prefix: { IsTrue (is_sought sought) → find_mark sought held ≡ BomMatch.Prefix },
+    ghost room: { (state_of inner).room ≡ decoded_length_of (encoding_after encoding taken) },
+    ghost rule: { rule_of inner ≡ latin1_rule (encoding_after encoding taken) },
 }
 
 impl Encoding {
+    ghost use Rattle.encoding_front.specs.DecoderViews.{decoder_view};
+
     /// A decoder that takes any of the three byte order marks, and then decodes what it is the mark of (the
     /// Encoding Standard, section 6, "decode").
     pub fn new_decoder<'t>(self, tables: &'t Tables) -> Decoder<'t>
         requires { IsReady tables.now self }
-        ensures begins { IsNewDecoder (⟦<Decoder<'t> as StreamDecoder>⟧.view result) tables.now Mark.Sniff self }
+        ensures begins { IsNewDecoder (decoder_view result) tables.now Mark.Sniff self }
     {
         Decoder::new(self, Mark::Sniff, tables)
     }
@@ -86,7 +97,7 @@ impl Encoding {
     /// A decoder that takes the encoding's own byte order mark, if there is one (as in "UTF-8 decode").
     pub fn new_decoder_with_bom_removal<'t>(self, tables: &'t Tables) -> Decoder<'t>
         requires { IsReady tables.now self }
-        ensures begins { IsNewDecoder (⟦<Decoder<'t> as StreamDecoder>⟧.view result) tables.now Mark.Remove self }
+        ensures begins { IsNewDecoder (decoder_view result) tables.now Mark.Remove self }
     {
         Decoder::new(self, Mark::Remove, tables)
     }
@@ -94,40 +105,23 @@ impl Encoding {
     /// A decoder to which a byte order mark is text (as in "UTF-8 decode without BOM").
     pub fn new_decoder_without_bom_handling<'t>(self, tables: &'t Tables) -> Decoder<'t>
         requires { IsReady tables.now self }
-        ensures begins { IsNewDecoder (⟦<Decoder<'t> as StreamDecoder>⟧.view result) tables.now Mark.Keep self }
+        ensures begins { IsNewDecoder (decoder_view result) tables.now Mark.Keep self }
     {
         Decoder::new(self, Mark::Keep, tables)
     }
 }
 
-impl<'t> Decoder<'t> {
-    /// A decoder of a new stream.
-    pub fn new(encoding: Encoding, mark: Mark, tables: &'t Tables) -> Self
-        requires { IsReady tables.now encoding }
-        ensures begins { IsNewDecoder (⟦<Decoder<'t> as StreamDecoder>⟧.view result) tables.now mark encoding }
-    {
-        Decoder {
-            marked: BomDecoder::new(
-                VariantDecoder::new(encoding, tables),
-                BomSet::new(mark, encoding),
-            ),
-            encoding,
-            is_finished: false,
-        }
-    }
-}
-
 impl<'t> StreamDecoder for Decoder<'t> {
     ghost view = { λ d. record {
-      state = bom_decoder_state d.marked.sought (⟦<VariantDecoder<'t> as SinkDecoder>⟧.state d.marked.inner) d.marked.held d.marked.fresh d.marked.bounded;
-      source = λ x. encoding_after d.encoding (mark_taken d.marked.sought d.marked.taken (d.marked.held ++ x));
+      state = bom_decoder_state d.sought (state_of d.inner) d.held d.fresh (widest_by _ _ d.room);
+      source = λ x. encoding_after d.encoding (mark_taken d.sought d.taken (d.held ++ x));
       opening = record {
-        sought = d.marked.sought;
-        held = d.marked.held;
-        room = (⟦<VariantDecoder<'t> as SinkDecoder>⟧.state d.marked.inner).room;
-        pending = (⟦<VariantDecoder<'t> as SinkDecoder>⟧.state d.marked.inner).pending;
+        sought = d.sought;
+        held = d.held;
+        room = (state_of d.inner).room;
+        pending = (state_of d.inner).pending;
       };
-      own = ⟦<VariantDecoder<'t> as SinkDecoder>⟧.state d.marked.inner;
+      own = state_of d.inner;
       finished = d.is_finished;
     } };
 
@@ -136,10 +130,10 @@ impl<'t> StreamDecoder for Decoder<'t> {
       pending = refl;
       own_pending = refl;
       own_room = refl;
-      prefix = d.marked.prefix;
-      fresh = d.marked.fresh;
-      named = named_by d.encoding d.marked.sought d.marked.taken d.marked.held d.marked.prefix;
-      room = room_named d.encoding d.marked.sought d.marked.taken d.marked.held _ d.marked.prefix d.room;
+      prefix = d.prefix;
+      fresh = d.fresh;
+      named = named_by d.encoding d.sought d.taken d.held d.prefix;
+      room = room_named d.encoding d.sought d.taken d.held _ d.prefix d.room;
     } };
 
     fn decode_into<S: Sink>(
@@ -148,9 +142,15 @@ impl<'t> StreamDecoder for Decoder<'t> {
         sink: &mut S,
         last: bool,
     ) -> (DecoderResult, usize) {
-        let (outcome, read) = self.marked.decode_behind_bom(src, sink, last);
-        self.is_finished = last && matches!(outcome, DecoderResult::InputEmpty);
-        (outcome, read)
+        match self.take_mark(src, last) {
+            None => (DecoderResult::InputEmpty, src.len()),
+            Some(taken) => {
+                let rest = &src[taken..];
+                let (outcome, read) = self.inner.decode_held(&mut self.held, rest, sink, last);
+                self.is_finished = finishes(last, outcome);
+                (outcome, taken + read)
+            }
+        }
     }
 
     fn is_finished(&self) -> bool {
@@ -158,7 +158,7 @@ impl<'t> StreamDecoder for Decoder<'t> {
     }
 
     fn encoding(&self) -> Encoding {
-        match self.marked.taken() {
+        match self.taken {
             Some(mark) => mark.encoding(),
             None => self.encoding,
         }
@@ -166,9 +166,59 @@ impl<'t> StreamDecoder for Decoder<'t> {
 }
 
 impl<'t> Decoder<'t> {
+    ghost use Rattle.encoding_front.specs.DecoderViews.{decoder_view};
+
+    /// A decoder of a new stream.
+    pub fn new(encoding: Encoding, mark: Mark, tables: &'t Tables) -> Self
+        requires { IsReady tables.now encoding }
+        ensures begins { IsNewDecoder (decoder_view result) tables.now mark encoding }
+    {
+        Decoder {
+            inner: VariantDecoder::new(encoding, tables),
+            encoding,
+            sought: BomSet::new(mark, encoding),
+            held: Pending::new(),
+            taken: None,
+            is_finished: false,
+        }
+    }
+
+    // Looks for a mark, and returns how many bytes were read with it: none where what is there may
+    // still become one, and all is held.
+    fn take_mark(&mut self, src: &[u8], last: bool) -> Option<usize>
+        ensures takes { TakesMark (decoder_view self.old).state (decoder_view self.new).state
+            src.now last (decoder_view self.new).opening.sought result }
+        ensures source { (r : List ℕ) → (IsTrue last → r ≡ [])
+            → (decoder_view self.old).source (src.now ++ r) ≡ (decoder_view self.new).source r }
+        ensures finished { (decoder_view self.new).finished ≡ (decoder_view self.old).finished }
+    {
+        if !self.sought.is_any() {
+            return Some(0);
+        }
+        let window = Pending::prefix_of(&self.held, src, 3);
+        match find_mark(self.sought, window.as_slice()) {
+            BomMatch::Prefix if !last => {
+                self.held = window;
+                return None;
+            }
+            BomMatch::Whole(mark) => {
+                let read = mark.len() - self.held.len();
+                self.held = Pending::new();
+                self.sought = BomSet::nothing();
+                self.taken = Some(mark);
+                self.inner = VariantDecoder::after_mark(mark);
+                Some(read)
+            }
+            _ => {
+                self.sought = BomSet::nothing();
+                Some(0)
+            }
+        }
+    }
+
     /// The encoding that the decoder was made for, until a whole mark was read of another.
     pub fn encoding(&self) -> Encoding
-        ensures { result ≡ (⟦<Decoder<'t> as StreamDecoder>⟧.view self.now).source [] }
+        ensures { result ≡ (decoder_view self.now).source [] }
     {
         StreamDecoder::encoding(self)
     }
@@ -182,16 +232,12 @@ impl<'t> Decoder<'t> {
         dst: &mut [u8],
         last: bool,
     ) -> (DecoderResult, usize, usize)
-        requires { (⟦<Decoder<'t> as StreamDecoder>⟧.view self.old).finished ≡ false }
-        ensures law { StateLaw (⟦<Decoder<'t> as StreamDecoder>⟧.view self.old).state (⟦<Decoder<'t> as StreamDecoder>⟧.view self.new).state src.now last result.1
-            (λ text. Adds dst.old 0 (encode_utf8_all text) dst.new result.2) result.0 }
-        ensures ends { EndsWith (⟦<Decoder<'t> as StreamDecoder>⟧.view self.new).state (drop result.1 src.now) last
+        requires { (decoder_view self.old).finished ≡ false }
+        ensures call { DecoderCall (decoder_view self.old) (decoder_view self.new) src.now last
+            result.1 (λ text. Adds dst.old 0 (encode_utf8_all text) dst.new result.2)
             (length (drop result.2 dst.new)) 4 3 result.0 }
-        ensures enough { (n : ℕ) → room_asked (⟦<Decoder<'t> as StreamDecoder>⟧.view self.old).opening Bytes (length src.now) ≡ Some n
-            → n ≤ length dst.old → result.0 ≢ DecoderResult.OutputFull }
-        ensures source { (r : List ℕ) → (IsTrue last → r ≡ []) → (⟦<Decoder<'t> as StreamDecoder>⟧.view self.old).source (src.now ++ r)
-            ≡ (⟦<Decoder<'t> as StreamDecoder>⟧.view self.new).source (drop result.1 src.now ++ r) }
-        ensures finished { (⟦<Decoder<'t> as StreamDecoder>⟧.view self.new).finished ≡ finishes last result.0 }
+        ensures enough { IfRoomAsked (decoder_view self.old) Bytes (length src.now)
+            (length dst.old) (result.0 ≢ DecoderResult.OutputFull) }
     {
         let mut sink = Utf8Sink::new(dst);
         let (outcome, read) = self.decode_into(src, &mut sink, last);
@@ -206,16 +252,12 @@ impl<'t> Decoder<'t> {
         dst: &mut [u16],
         last: bool,
     ) -> (DecoderResult, usize, usize)
-        requires { (⟦<Decoder<'t> as StreamDecoder>⟧.view self.old).finished ≡ false }
-        ensures law { StateLaw (⟦<Decoder<'t> as StreamDecoder>⟧.view self.old).state (⟦<Decoder<'t> as StreamDecoder>⟧.view self.new).state src.now last result.1
-            (λ text. Adds dst.old 0 (encode_utf16_all text) dst.new result.2) result.0 }
-        ensures ends { EndsWith (⟦<Decoder<'t> as StreamDecoder>⟧.view self.new).state (drop result.1 src.now) last
+        requires { (decoder_view self.old).finished ≡ false }
+        ensures call { DecoderCall (decoder_view self.old) (decoder_view self.new) src.now last
+            result.1 (λ text. Adds dst.old 0 (encode_utf16_all text) dst.new result.2)
             (length (drop result.2 dst.new)) 2 1 result.0 }
-        ensures enough { (n : ℕ) → room_asked (⟦<Decoder<'t> as StreamDecoder>⟧.view self.old).opening Units (length src.now) ≡ Some n
-            → n ≤ length dst.old → result.0 ≢ DecoderResult.OutputFull }
-        ensures source { (r : List ℕ) → (IsTrue last → r ≡ []) → (⟦<Decoder<'t> as StreamDecoder>⟧.view self.old).source (src.now ++ r)
-            ≡ (⟦<Decoder<'t> as StreamDecoder>⟧.view self.new).source (drop result.1 src.now ++ r) }
-        ensures finished { (⟦<Decoder<'t> as StreamDecoder>⟧.view self.new).finished ≡ finishes last result.0 }
+        ensures enough { IfRoomAsked (decoder_view self.old) Units (length src.now)
+            (length dst.old) (result.0 ≢ DecoderResult.OutputFull) }
     {
         let mut sink = Utf16Sink::new(dst);
         let (outcome, read) = self.decode_into(src, &mut sink, last);
@@ -226,7 +268,7 @@ impl<'t> Decoder<'t> {
     /// Whether a last call has returned that all is read. Then no other call may follow but this
     /// one and `encoding`.
     pub fn is_finished(&self) -> bool
-        ensures { result ≡ (⟦<Decoder<'t> as StreamDecoder>⟧.view self.now).finished }
+        ensures { result ≡ (decoder_view self.now).finished }
     {
         self.is_finished
     }
@@ -236,40 +278,53 @@ impl<'t> Decoder<'t> {
     /// and in UTF-16 and replacement. Those of a single-byte encoding are told by its index, and all others
     /// only up to the first byte that is not ASCII (in ISO-2022-JP also before 0E, 0F and 1B).
     pub fn latin1_byte_compatible_up_to(&self, bytes: &[u8]) -> Option<usize>
-        requires { (⟦<Decoder<'t> as StreamDecoder>⟧.view self.now).finished ≡ false }
-        ensures { TellsLatin1Prefix (⟦<Decoder<'t> as StreamDecoder>⟧.view self.now) bytes.now result }
+        requires { (decoder_view self.now).finished ≡ false }
+        ensures { TellsLatin1Prefix (decoder_view self.now) bytes.now result }
     {
-        if !self.marked.is_settled() {
+        if self.sought.is_any() || self.held.len() > 0 {
             return None;
         }
-        self.marked.inner().latin1_byte_compatible_up_to(bytes)
+        self.inner.latin1_byte_compatible_up_to(bytes)
     }
 
     /// How many units are room enough for the text of `n` more bytes; none where that passes a
     /// `usize`. So much room is also enough where each malformed sequence is written as U+FFFD.
     pub fn max_utf16_buffer_length(&self, n: usize) -> Option<usize>
-        requires { (⟦<Decoder<'t> as StreamDecoder>⟧.view self.now).finished ≡ false }
-        ensures { result ≡ room_asked (⟦<Decoder<'t> as StreamDecoder>⟧.view self.now).opening Units n }
+        requires { (decoder_view self.now).finished ≡ false }
+        ensures { result ≡ room_asked (decoder_view self.now).opening Units n }
     {
-        self.marked.query(OutputUnit::Units, n)
+        self.query(OutputUnit::Units, n)
     }
 
     /// How many bytes are room enough for the text of `n` more bytes up to the first malformed
     /// sequence, and for a U+FFFD; none where that passes a `usize`.
     pub fn max_utf8_buffer_length_without_replacement(&self, n: usize) -> Option<usize>
-        requires { (⟦<Decoder<'t> as StreamDecoder>⟧.view self.now).finished ≡ false }
-        ensures { result ≡ room_asked (⟦<Decoder<'t> as StreamDecoder>⟧.view self.now).opening Bytes n }
+        requires { (decoder_view self.now).finished ≡ false }
+        ensures { result ≡ room_asked (decoder_view self.now).opening Bytes n }
     {
-        self.marked.query(OutputUnit::Bytes, n)
+        self.query(OutputUnit::Bytes, n)
     }
 
     /// How many bytes are room enough for the text of `n` more bytes, with U+FFFD for each
     /// malformed sequence; none where that passes a `usize`.
     pub fn max_utf8_buffer_length(&self, n: usize) -> Option<usize>
-        requires { (⟦<Decoder<'t> as StreamDecoder>⟧.view self.now).finished ≡ false }
-        ensures { result ≡ room_asked (⟦<Decoder<'t> as StreamDecoder>⟧.view self.now).opening Replaced n }
+        requires { (decoder_view self.now).finished ≡ false }
+        ensures { result ≡ room_asked (decoder_view self.now).opening Replaced n }
     {
-        self.marked.query(OutputUnit::Replaced, n)
+        self.query(OutputUnit::Replaced, n)
+    }
+
+    // The room that is enough for the text of `n` more bytes; none where it passes a `usize`.
+    fn query(&self, count: OutputUnit, n: usize) -> Option<usize>
+        ensures { result ≡ room_asked (decoder_view self.now).opening count n }
+    {
+        let held = self.held.as_slice();
+        let n = n.checked_add(ahead(held))?;
+        let own = self.inner.room().query(count, self.inner.held_len(), n)?;
+        let is_utf8 = self.sought.can_be(held, ByteOrderMark::Utf8);
+        let is_utf16 = self.sought.can_be_utf16(held);
+        let own = greater_if(is_utf8, DecodedLength::utf8().query(count, 0, n), own)?;
+        greater_if(is_utf16, DecodedLength::utf16().query(count, 0, n), own)
     }
 
     // Decodes into any destination, with U+FFFD for each malformed sequence.
@@ -279,18 +334,27 @@ impl<'t> Decoder<'t> {
         sink: &mut S,
         last: bool,
     ) -> (CoderResult, usize, bool)
-        ensures law { TakesText (⟦<Decoder<'t> as StreamDecoder>⟧.view self.old).state.pieces (⟦<Decoder<'t> as StreamDecoder>⟧.view self.new).state.pieces src.now last
-            (⟦<Decoder<'t> as StreamDecoder>⟧.view self.old).state.pending (⟦<Decoder<'t> as StreamDecoder>⟧.view self.new).state.pending result.1 (λ text. S.writes sink.old text sink.new) result.2 }
-        ensures ends { EndsWith (⟦<Decoder<'t> as StreamDecoder>⟧.view self.new).state (drop result.1 src.now) last
-            (S.free sink.new) S.room (S.cost 0xFFFD) (raw_result result.0) }
-        ensures enough { NeverFull (⟦<Decoder<'t> as StreamDecoder>⟧.view self.old).state.needs S.is_units last (length src.now) (S.free sink.old) result.0 }
-        ensures source { (r : List ℕ) → (IsTrue last → r ≡ []) → (⟦<Decoder<'t> as StreamDecoder>⟧.view self.old).source (src.now ++ r)
-            ≡ (⟦<Decoder<'t> as StreamDecoder>⟧.view self.new).source (drop result.1 src.now ++ r) }
-        ensures finished { (⟦<Decoder<'t> as StreamDecoder>⟧.view self.new).finished ≡ finishes last (raw_result result.0) }
+        requires { (decoder_view self.old).finished ≡ false }
+        ensures call { TextCall (decoder_view self.old) (decoder_view self.new) src.now last
+            result.1 (λ text. S.writes sink.old text sink.new)
+            (S.free sink.new) S.room (S.cost 0xFFFD) result.0 result.2 }
+        ensures enough { NeverFull (decoder_view self.old).state.needs S.is_units last
+            (length src.now) (S.free sink.old) result.0 }
     {
-        let (outcome, read, had_errors) = self.marked.decode_replacing(src, sink, last);
-        self.is_finished = last && matches!(outcome, CoderResult::InputEmpty);
-        (outcome, read, had_errors)
+        let mut read = 0;
+        let mut had_errors = false;
+        'pieces: loop {
+            let (outcome, more) = self.decode_into(&src[read..], sink, last);
+            read += more;
+            match outcome {
+                DecoderResult::InputEmpty => return (CoderResult::InputEmpty, read, had_errors),
+                DecoderResult::OutputFull => return (CoderResult::OutputFull, read, had_errors),
+                DecoderResult::Malformed(..) => {
+                    sink.put('\u{FFFD}');
+                    had_errors = true;
+                }
+            }
+        }
     }
 
     /// Decodes bytes to UTF-8, with U+FFFD for each malformed sequence. Returns how the call ended,
@@ -302,17 +366,12 @@ impl<'t> Decoder<'t> {
         dst: &mut [u8],
         last: bool,
     ) -> (CoderResult, usize, usize, bool)
-        requires { (⟦<Decoder<'t> as StreamDecoder>⟧.view self.old).finished ≡ false }
-        ensures law { TakesText (⟦<Decoder<'t> as StreamDecoder>⟧.view self.old).state.pieces (⟦<Decoder<'t> as StreamDecoder>⟧.view self.new).state.pieces src.now last
-            (⟦<Decoder<'t> as StreamDecoder>⟧.view self.old).state.pending (⟦<Decoder<'t> as StreamDecoder>⟧.view self.new).state.pending result.1
-            (λ text. Adds dst.old 0 (encode_utf8_all text) dst.new result.2) result.3 }
-        ensures ends { EndsWith (⟦<Decoder<'t> as StreamDecoder>⟧.view self.new).state (drop result.1 src.now) last
-            (length (drop result.2 dst.new)) 4 3 (raw_result result.0) }
-        ensures enough { (n : ℕ) → room_asked (⟦<Decoder<'t> as StreamDecoder>⟧.view self.old).opening Replaced (length src.now) ≡ Some n
-            → n ≤ length dst.old → result.0 ≢ CoderResult.OutputFull }
-        ensures source { (r : List ℕ) → (IsTrue last → r ≡ []) → (⟦<Decoder<'t> as StreamDecoder>⟧.view self.old).source (src.now ++ r)
-            ≡ (⟦<Decoder<'t> as StreamDecoder>⟧.view self.new).source (drop result.1 src.now ++ r) }
-        ensures finished { (⟦<Decoder<'t> as StreamDecoder>⟧.view self.new).finished ≡ finishes last (raw_result result.0) }
+        requires { (decoder_view self.old).finished ≡ false }
+        ensures call { TextCall (decoder_view self.old) (decoder_view self.new) src.now last
+            result.1 (λ text. Adds dst.old 0 (encode_utf8_all text) dst.new result.2)
+            (length (drop result.2 dst.new)) 4 3 result.0 result.3 }
+        ensures enough { IfRoomAsked (decoder_view self.old) Replaced (length src.now)
+            (length dst.old) (result.0 ≢ CoderResult.OutputFull) }
     {
         let mut sink = Utf8Sink::new(dst);
         let (outcome, read, had_errors) = self.decode_text_into(src, &mut sink, last);
@@ -327,26 +386,19 @@ impl<'t> Decoder<'t> {
         dst: &mut [u16],
         last: bool,
     ) -> (CoderResult, usize, usize, bool)
-        requires { (⟦<Decoder<'t> as StreamDecoder>⟧.view self.old).finished ≡ false }
-        ensures law { TakesText (⟦<Decoder<'t> as StreamDecoder>⟧.view self.old).state.pieces (⟦<Decoder<'t> as StreamDecoder>⟧.view self.new).state.pieces src.now last
-            (⟦<Decoder<'t> as StreamDecoder>⟧.view self.old).state.pending (⟦<Decoder<'t> as StreamDecoder>⟧.view self.new).state.pending result.1
-            (λ text. Adds dst.old 0 (encode_utf16_all text) dst.new result.2) result.3 }
-        ensures ends { EndsWith (⟦<Decoder<'t> as StreamDecoder>⟧.view self.new).state (drop result.1 src.now) last
-            (length (drop result.2 dst.new)) 2 1 (raw_result result.0) }
-        ensures enough { (n : ℕ) → room_asked (⟦<Decoder<'t> as StreamDecoder>⟧.view self.old).opening Units (length src.now) ≡ Some n
-            → n ≤ length dst.old → result.0 ≢ CoderResult.OutputFull }
-        ensures source { (r : List ℕ) → (IsTrue last → r ≡ []) → (⟦<Decoder<'t> as StreamDecoder>⟧.view self.old).source (src.now ++ r)
-            ≡ (⟦<Decoder<'t> as StreamDecoder>⟧.view self.new).source (drop result.1 src.now ++ r) }
-        ensures finished { (⟦<Decoder<'t> as StreamDecoder>⟧.view self.new).finished ≡ finishes last (raw_result result.0) }
+        requires { (decoder_view self.old).finished ≡ false }
+        ensures call { TextCall (decoder_view self.old) (decoder_view self.new) src.now last
+            result.1 (λ text. Adds dst.old 0 (encode_utf16_all text) dst.new result.2)
+            (length (drop result.2 dst.new)) 2 1 result.0 result.3 }
+        ensures enough { IfRoomAsked (decoder_view self.old) Units (length src.now)
+            (length dst.old) (result.0 ≢ CoderResult.OutputFull) }
     {
         let mut sink = Utf16Sink::new(dst);
         let (outcome, read, had_errors) = self.decode_text_into(src, &mut sink, last);
         let written = sink.written();
         (outcome, read, written, had_errors)
     }
-}
 
-impl<'t> Decoder<'t> {
     /// Decodes into a text, as `decode_to_utf8` into bytes. Of a character whose first bytes are
     /// overwritten the other bytes become 00, so that it stays a text; nothing else behind what is
     /// written changes.
@@ -356,18 +408,13 @@ impl<'t> Decoder<'t> {
         dst: &mut [u8],
         last: bool,
     ) -> (CoderResult, usize, usize, bool)
-        requires finished { (⟦<Decoder<'t> as StreamDecoder>⟧.view self.old).finished ≡ false }
+        requires finished { (decoder_view self.old).finished ≡ false }
         requires utf8 { IsUtf8 dst.old }
-        ensures law { TakesText (⟦<Decoder<'t> as StreamDecoder>⟧.view self.old).state.pieces (⟦<Decoder<'t> as StreamDecoder>⟧.view self.new).state.pieces src.now last
-            (⟦<Decoder<'t> as StreamDecoder>⟧.view self.old).state.pending (⟦<Decoder<'t> as StreamDecoder>⟧.view self.new).state.pending result.1
-            (λ text. Overwrites dst.old (encode_utf8_all text) dst.new result.2) result.3 }
-        ensures ends { EndsWith (⟦<Decoder<'t> as StreamDecoder>⟧.view self.new).state (drop result.1 src.now) last
-            (length (drop result.2 dst.new)) 4 3 (raw_result result.0) }
-        ensures enough { (n : ℕ) → room_asked (⟦<Decoder<'t> as StreamDecoder>⟧.view self.old).opening Replaced (length src.now) ≡ Some n
-            → n ≤ length dst.old → result.0 ≢ CoderResult.OutputFull }
-        ensures source { (r : List ℕ) → (IsTrue last → r ≡ []) → (⟦<Decoder<'t> as StreamDecoder>⟧.view self.old).source (src.now ++ r)
-            ≡ (⟦<Decoder<'t> as StreamDecoder>⟧.view self.new).source (drop result.1 src.now ++ r) }
-        ensures finished { (⟦<Decoder<'t> as StreamDecoder>⟧.view self.new).finished ≡ finishes last (raw_result result.0) }
+        ensures call { TextCall (decoder_view self.old) (decoder_view self.new) src.now last
+            result.1 (λ text. Overwrites dst.old (encode_utf8_all text) dst.new result.2)
+            (length (drop result.2 dst.new)) 4 3 result.0 result.3 }
+        ensures enough { IfRoomAsked (decoder_view self.old) Replaced (length src.now)
+            (length dst.old) (result.0 ≢ CoderResult.OutputFull) }
         ensures utf8 { IsUtf8 dst.new }
     {
         let (outcome, read, written, had_errors) = self.decode_to_utf8(src, dst, last);
@@ -382,17 +429,13 @@ impl<'t> Decoder<'t> {
         dst: &mut [u8],
         last: bool,
     ) -> (DecoderResult, usize, usize)
-        requires finished { (⟦<Decoder<'t> as StreamDecoder>⟧.view self.old).finished ≡ false }
+        requires finished { (decoder_view self.old).finished ≡ false }
         requires utf8 { IsUtf8 dst.old }
-        ensures law { StateLaw (⟦<Decoder<'t> as StreamDecoder>⟧.view self.old).state (⟦<Decoder<'t> as StreamDecoder>⟧.view self.new).state src.now last result.1
-            (λ text. Overwrites dst.old (encode_utf8_all text) dst.new result.2) result.0 }
-        ensures ends { EndsWith (⟦<Decoder<'t> as StreamDecoder>⟧.view self.new).state (drop result.1 src.now) last
+        ensures call { DecoderCall (decoder_view self.old) (decoder_view self.new) src.now last
+            result.1 (λ text. Overwrites dst.old (encode_utf8_all text) dst.new result.2)
             (length (drop result.2 dst.new)) 4 3 result.0 }
-        ensures enough { (n : ℕ) → room_asked (⟦<Decoder<'t> as StreamDecoder>⟧.view self.old).opening Bytes (length src.now) ≡ Some n
-            → n ≤ length dst.old → result.0 ≢ DecoderResult.OutputFull }
-        ensures source { (r : List ℕ) → (IsTrue last → r ≡ []) → (⟦<Decoder<'t> as StreamDecoder>⟧.view self.old).source (src.now ++ r)
-            ≡ (⟦<Decoder<'t> as StreamDecoder>⟧.view self.new).source (drop result.1 src.now ++ r) }
-        ensures finished { (⟦<Decoder<'t> as StreamDecoder>⟧.view self.new).finished ≡ finishes last result.0 }
+        ensures enough { IfRoomAsked (decoder_view self.old) Bytes (length src.now)
+            (length dst.old) (result.0 ≢ DecoderResult.OutputFull) }
         ensures utf8 { IsUtf8 dst.new }
     {
         let (outcome, read, written) = self.decode_to_utf8_without_replacement(src, dst, last);
@@ -409,26 +452,18 @@ impl<'t> Decoder<'t> {
         dst: &mut String,
         last: bool,
     ) -> (CoderResult, usize, bool)
-        requires { (⟦<Decoder<'t> as StreamDecoder>⟧.view self.old).finished ≡ false }
+        requires { (decoder_view self.old).finished ≡ false }
         ensures capacity { string_capacity dst.new ≡ string_capacity dst.old }
-        ensures law { TakesText (⟦<Decoder<'t> as StreamDecoder>⟧.view self.old).state.pieces (⟦<Decoder<'t> as StreamDecoder>⟧.view self.new).state.pieces src.now last
-            (⟦<Decoder<'t> as StreamDecoder>⟧.view self.old).state.pending (⟦<Decoder<'t> as StreamDecoder>⟧.view self.new).state.pending result.1
-            (λ text. string_bytes dst.new ≡ string_bytes dst.old ++ encode_utf8_all text) result.2 }
-        ensures ends { EndsWith (⟦<Decoder<'t> as StreamDecoder>⟧.view self.new).state (drop result.1 src.now) last
-            (string_capacity dst.new - string_len dst.new) 4 3 (raw_result result.0) }
-        ensures enough { (n : ℕ) → room_asked (⟦<Decoder<'t> as StreamDecoder>⟧.view self.old).opening Replaced (length src.now) ≡ Some n
-            → n ≤ string_capacity dst.old - string_len dst.old → result.0 ≢ CoderResult.OutputFull }
-        ensures source { (r : List ℕ) → (IsTrue last → r ≡ []) → (⟦<Decoder<'t> as StreamDecoder>⟧.view self.old).source (src.now ++ r)
-            ≡ (⟦<Decoder<'t> as StreamDecoder>⟧.view self.new).source (drop result.1 src.now ++ r) }
-        ensures finished { (⟦<Decoder<'t> as StreamDecoder>⟧.view self.new).finished ≡ finishes last (raw_result result.0) }
+        ensures call { TextCall (decoder_view self.old) (decoder_view self.new) src.now last
+            result.1 (λ text. string_bytes dst.new ≡ string_bytes dst.old ++ encode_utf8_all text)
+            (string_capacity dst.new - string_len dst.new) 4 3 result.0 result.2 }
+        ensures enough { IfRoomAsked (decoder_view self.old) Replaced (length src.now)
+            (string_capacity dst.old - string_len dst.old) (result.0 ≢ CoderResult.OutputFull) }
     {
         let mut bytes = take_bytes(dst);
         let len = fill_spare(&mut bytes);
-        let (outcome, read, written, had_errors) = self.decode_to_utf8(
-            src,
-            &mut bytes[len..],
-            last,
-        );
+        let spare = &mut bytes[len..];
+        let (outcome, read, written, had_errors) = self.decode_to_utf8(src, spare, last);
         put_bytes(dst, bytes, len + written);
         (outcome, read, had_errors)
     }
@@ -440,28 +475,48 @@ impl<'t> Decoder<'t> {
         dst: &mut String,
         last: bool,
     ) -> (DecoderResult, usize)
-        requires { (⟦<Decoder<'t> as StreamDecoder>⟧.view self.old).finished ≡ false }
+        requires { (decoder_view self.old).finished ≡ false }
         ensures capacity { string_capacity dst.new ≡ string_capacity dst.old }
-        ensures law { StateLaw (⟦<Decoder<'t> as StreamDecoder>⟧.view self.old).state (⟦<Decoder<'t> as StreamDecoder>⟧.view self.new).state src.now last result.1
-            (λ text. string_bytes dst.new ≡ string_bytes dst.old ++ encode_utf8_all text) result.0 }
-        ensures ends { EndsWith (⟦<Decoder<'t> as StreamDecoder>⟧.view self.new).state (drop result.1 src.now) last
+        ensures call { DecoderCall (decoder_view self.old) (decoder_view self.new) src.now last
+            result.1 (λ text. string_bytes dst.new ≡ string_bytes dst.old ++ encode_utf8_all text)
             (string_capacity dst.new - string_len dst.new) 4 3 result.0 }
-        ensures enough { (n : ℕ) → room_asked (⟦<Decoder<'t> as StreamDecoder>⟧.view self.old).opening Bytes (length src.now) ≡ Some n
-            → n ≤ string_capacity dst.old - string_len dst.old → result.0 ≢ DecoderResult.OutputFull }
-        ensures source { (r : List ℕ) → (IsTrue last → r ≡ []) → (⟦<Decoder<'t> as StreamDecoder>⟧.view self.old).source (src.now ++ r)
-            ≡ (⟦<Decoder<'t> as StreamDecoder>⟧.view self.new).source (drop result.1 src.now ++ r) }
-        ensures finished { (⟦<Decoder<'t> as StreamDecoder>⟧.view self.new).finished ≡ finishes last result.0 }
+        ensures enough { IfRoomAsked (decoder_view self.old) Bytes (length src.now)
+            (string_capacity dst.old - string_len dst.old) (result.0 ≢ DecoderResult.OutputFull) }
     {
         let mut bytes = take_bytes(dst);
         let len = fill_spare(&mut bytes);
-        let (outcome, read, added) = self.decode_to_utf8_without_replacement(
-            src,
-            &mut bytes[len..],
-            last,
-        );
+        let spare = &mut bytes[len..];
+        let (outcome, read, added) = self.decode_to_utf8_without_replacement(src, spare, last);
         put_bytes(dst, bytes, len + added);
         (outcome, read)
     }
+}
+
+// Whether nothing may follow a call that ended so.
+fn finishes(last: bool, outcome: DecoderResult) -> bool
+    ensures { result ≡ finishes last outcome }
+{
+    last && matches!(outcome, DecoderResult::InputEmpty)
+}
+
+// What is counted for bytes that are held.
+fn ahead(held: &[u8]) -> usize
+    ensures { result ≡ ahead held.now }
+{
+    match held {
+        [] => 0,
+        _ => 2,
+    }
+}
+
+// The greater of two numbers where the second is asked for, and there.
+fn greater_if(is_asked: bool, other: Option<usize>, number: usize) -> Option<usize>
+    ensures { result ≡ greater_if is_asked other (Some number) }
+{
+    if !is_asked {
+        return Some(number);
+    }
+    Some(number.max(other?))
 }
 
 // Takes the bytes of a text, and leaves none.

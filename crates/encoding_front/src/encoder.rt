@@ -1,10 +1,9 @@
 ghost use Rattle.std.specs.Prelude.{◌≡◌, ◌≢◌, ◌↔◌, ℕ, ◌+◌, ◌-◌, ◌≤◌, ◌++◌, true, false, IsTrue, List, length, take, drop, vec_capacity, vec_len};
-ghost use Rattle.std.specs.Str.{chars, IsCharBoundary};
+ghost use Rattle.std.specs.Str.{chars};
 ghost use Rattle.std.specs.Char.Utf16.{utf16_lossy_chars};
-ghost use Rattle.encoding_mem.specs.DecodedLength.{checked};
 ghost use Rattle.encoding_mem.specs.EncoderRule.{left};
 ghost use Rattle.encoding_mem.specs.declared.form.EscapeState.TheVariants.{Ascii};
-ghost use Rattle.encoding_front.specs.Encoder.{Encoded, EncoderState, IsEncoderOf, Replaces, coding_in, kept_back, new_state, queried_room, queried_with_kept, room_for};
+ghost use Rattle.encoding_front.specs.Encoder.{Encoded, EncoderState, IsEncoderOf, ReadsText, Replaces, WritesBytes, coding_in, kept_back, new_state, queried_room, queried_with_kept, room_for, room_with_kept};
 ghost use Rattle.encoding_front.specs.laws.Encoder.{coding_laws};
 ghost use Rattle.encoding_front.specs.Encodings.{IsReady, coding_of, need_of, output_encoding_of, encoded_length_of};
 
@@ -32,10 +31,16 @@ pub struct Encoder<'t> {
 impl<'t> Model for Encoder<'t> {
     ghost Value = { EncoderState };
 
-    ghost view = { λ s. record { tables = s.tables.now; encoding = s.encoding; set = ⟦<VariantEncoder<'static> as RawEncoder>⟧.set s.variant } };
+    ghost view = { λ s. record {
+      tables = s.tables.now;
+      encoding = s.encoding;
+      set = ⟦<VariantEncoder<'static> as RawEncoder>⟧.set s.variant;
+    } };
 
-    ghost invariant = { λ s. IsEncoderOf s.tables.now s.encoding (⟦<VariantEncoder<'static> as RawEncoder>⟧.coding s.variant)
-        (⟦<VariantEncoder<'static> as RawEncoder>⟧.need s.variant) (⟦<VariantEncoder<'static> as RawEncoder>⟧.limits s.variant) };
+    ghost invariant = { λ s. IsEncoderOf s.tables.now s.encoding
+        (⟦<VariantEncoder<'static> as RawEncoder>⟧.coding s.variant)
+        (⟦<VariantEncoder<'static> as RawEncoder>⟧.need s.variant)
+        (⟦<VariantEncoder<'static> as RawEncoder>⟧.limits s.variant) };
 }
 
 impl Encoding {
@@ -43,7 +48,8 @@ impl Encoding {
     pub fn new_encoder(self, tables: &Tables) -> Encoder<'_>
         requires { IsReady tables.now (output_encoding_of self) }
         ensures state { result ≡ new_state tables.now self }
-        ensures coding { ⟦<Encoder<'static> as RawEncoder>⟧.coding result ≡ coding_of tables.now self }
+        ensures coding { ⟦<Encoder<'static> as RawEncoder>⟧.coding result
+            ≡ coding_of tables.now self }
     {
         let encoding = self.output_encoding();
         Encoder {
@@ -92,21 +98,16 @@ impl<'t> Encoder<'t> {
     pub fn max_buffer_length_from_utf8_if_no_unmappables(&self, n: usize) -> Option<usize>
         ensures { result ≡ queried_with_kept self.now.encoding false n }
     {
-        self.with_kept(self.max_buffer_length_from_utf8_without_replacement(n)?)
+        let room = self.max_buffer_length_from_utf8_without_replacement(n)?;
+        room.checked_add(self.kept_back())
     }
 
     /// The same for `n` units of UTF-16.
     pub fn max_buffer_length_from_utf16_if_no_unmappables(&self, n: usize) -> Option<usize>
         ensures { result ≡ queried_with_kept self.now.encoding true n }
     {
-        self.with_kept(self.max_buffer_length_from_utf16_without_replacement(n)?)
-    }
-
-    // So many bytes, and those that are kept back.
-    fn with_kept(&self, n: usize) -> Option<usize>
-        ensures { result ≡ checked (n + kept_back self.now.encoding) }
-    {
-        n.checked_add(self.kept_back())
+        let room = self.max_buffer_length_from_utf16_without_replacement(n)?;
+        room.checked_add(self.kept_back())
     }
 
     /// The bytes that a call with replacement keeps back for a reference: none in UTF-8.
@@ -120,8 +121,8 @@ impl<'t> Encoder<'t> {
         }
     }
 
-    // Encodes what is left of a source, and stops behind a character without bytes. Returns how the call ended and
-    // the bytes written.
+    // Encodes what is left of a source, and stops behind a character without bytes. Returns how
+    // the call ended and the bytes written.
     pub(crate) fn encode_source<S: Source>(
         &mut self,
         source: &mut S,
@@ -131,9 +132,12 @@ impl<'t> Encoder<'t> {
         ensures room { result.1 ≤ length dst.new }
         ensures behind { drop result.1 dst.new ≡ drop result.1 dst.old }
         ensures source { S.all source.new ≡ S.all source.old }
-        ensures call { Encoded self.old last result.0 (left S.text (S.all source.old) (S.offset source.old)) (take result.1 dst.new)
-            self.new (left S.text (S.all source.new) (S.offset source.new)) (length dst.new - result.1) }
-        ensures enough { room_for self.old.encoding S.is_units (length (S.all source.old) - S.offset source.old) ≤ length dst.old
+        ensures call { Encoded self.old last result.0
+            (left S.text (S.all source.old) (S.offset source.old)) (take result.1 dst.new)
+            self.new (left S.text (S.all source.new) (S.offset source.new))
+            (length dst.new - result.1) }
+        ensures enough { room_for self.old.encoding S.is_units
+            (length (S.all source.old) - S.offset source.old) ≤ length dst.old
             → result.0 ≢ EncoderResult.OutputFull }
     {
         self.variant.encode_from(source, dst, last)
@@ -148,12 +152,12 @@ impl<'t> Encoder<'t> {
         dst: &mut [u8],
         last: bool,
     ) -> (EncoderResult, usize, usize)
-        ensures read { result.1 ≤ length src.now }
-        ensures boundary { IsCharBoundary src.now result.1 }
-        ensures room { result.2 ≤ length dst.new }
-        ensures behind { drop result.2 dst.new ≡ drop result.2 dst.old }
-        ensures call { Encoded self.old last result.0 (chars src.now) (take result.2 dst.new) self.new (chars (drop result.1 src.now)) (length dst.new - result.2) }
-        ensures enough { room_for self.old.encoding false (length src.now) ≤ length dst.old → result.0 ≢ EncoderResult.OutputFull }
+        ensures read { ReadsText src.now result.1 }
+        ensures wrote { WritesBytes dst.old dst.new result.2 }
+        ensures call { Encoded self.old last result.0 (chars src.now) (take result.2 dst.new)
+            self.new (chars (drop result.1 src.now)) (length dst.new - result.2) }
+        ensures enough { room_for self.old.encoding false (length src.now) ≤ length dst.old
+            → result.0 ≢ EncoderResult.OutputFull }
     {
         let mut source = Utf8Source::new(src);
         let (result, written) = self.encode_source(&mut source, dst, last);
@@ -169,10 +173,12 @@ impl<'t> Encoder<'t> {
         last: bool,
     ) -> (EncoderResult, usize, usize)
         ensures read { result.1 ≤ length src.now }
-        ensures room { result.2 ≤ length dst.new }
-        ensures behind { drop result.2 dst.new ≡ drop result.2 dst.old }
-        ensures call { Encoded self.old last result.0 (utf16_lossy_chars src.now) (take result.2 dst.new) self.new (utf16_lossy_chars (drop result.1 src.now)) (length dst.new - result.2) }
-        ensures enough { room_for self.old.encoding true (length src.now) ≤ length dst.old → result.0 ≢ EncoderResult.OutputFull }
+        ensures wrote { WritesBytes dst.old dst.new result.2 }
+        ensures call { Encoded self.old last result.0 (utf16_lossy_chars src.now)
+            (take result.2 dst.new) self.new (utf16_lossy_chars (drop result.1 src.now))
+            (length dst.new - result.2) }
+        ensures enough { room_for self.old.encoding true (length src.now) ≤ length dst.old
+            → result.0 ≢ EncoderResult.OutputFull }
     {
         let mut source = Utf16Source::new(src);
         let (result, written) = self.encode_source(&mut source, dst, last);
@@ -192,12 +198,12 @@ impl<'t> Encoder<'t> {
         dst: &mut [u8],
         last: bool,
     ) -> (CoderResult, usize, usize, bool)
-        ensures read { result.1 ≤ length src.now }
-        ensures boundary { IsCharBoundary src.now result.1 }
-        ensures room { result.2 ≤ length dst.new }
-        ensures behind { drop result.2 dst.new ≡ drop result.2 dst.old }
-        ensures call { Replaces self.old last result.0 (chars src.now) (take result.2 dst.new) self.new (chars (drop result.1 src.now)) result.3 (length dst.new) }
-        ensures enough { room_for self.old.encoding false (length src.now) + kept_back self.old.encoding ≤ length dst.old → result.3 ≡ false → result.0 ≢ CoderResult.OutputFull }
+        ensures read { ReadsText src.now result.1 }
+        ensures wrote { WritesBytes dst.old dst.new result.2 }
+        ensures call { Replaces self.old last result.0 (chars src.now) (take result.2 dst.new)
+            self.new (chars (drop result.1 src.now)) result.3 (length dst.new) }
+        ensures enough { room_with_kept self.old.encoding false (length src.now) ≤ length dst.old
+            → result.3 ≡ false → result.0 ≢ CoderResult.OutputFull }
     {
         let mut source = Utf8Source::new(src);
         let (result, written, had_unmappables) = encode_replacing(self, &mut source, dst, last);
@@ -213,10 +219,12 @@ impl<'t> Encoder<'t> {
         last: bool,
     ) -> (CoderResult, usize, usize, bool)
         ensures read { result.1 ≤ length src.now }
-        ensures room { result.2 ≤ length dst.new }
-        ensures behind { drop result.2 dst.new ≡ drop result.2 dst.old }
-        ensures call { Replaces self.old last result.0 (utf16_lossy_chars src.now) (take result.2 dst.new) self.new (utf16_lossy_chars (drop result.1 src.now)) result.3 (length dst.new) }
-        ensures enough { room_for self.old.encoding true (length src.now) + kept_back self.old.encoding ≤ length dst.old → result.3 ≡ false → result.0 ≢ CoderResult.OutputFull }
+        ensures wrote { WritesBytes dst.old dst.new result.2 }
+        ensures call { Replaces self.old last result.0 (utf16_lossy_chars src.now)
+            (take result.2 dst.new) self.new (utf16_lossy_chars (drop result.1 src.now))
+            result.3 (length dst.new) }
+        ensures enough { room_with_kept self.old.encoding true (length src.now) ≤ length dst.old
+            → result.3 ≡ false → result.0 ≢ CoderResult.OutputFull }
     {
         let mut source = Utf16Source::new(src);
         let (result, written, had_unmappables) = encode_replacing(self, &mut source, dst, last);
@@ -231,19 +239,18 @@ impl<'t> Encoder<'t> {
         dst: &mut Vec<u8>,
         last: bool,
     ) -> (CoderResult, usize, bool)
-        ensures read { result.1 ≤ length src.now }
-        ensures boundary { IsCharBoundary src.now result.1 }
+        ensures read { ReadsText src.now result.1 }
         ensures capacity { vec_capacity dst.new ≡ vec_capacity dst.old }
         ensures call { (written : List ℕ) × (dst.new.items ≡ dst.old.items ++ written)
-            × Replaces self.old last result.0 (chars src.now) written self.new (chars (drop result.1 src.now)) result.2 (vec_capacity dst.old - vec_len dst.old) }
-        ensures enough { room_for self.old.encoding false (length src.now) + kept_back self.old.encoding ≤ vec_capacity dst.old - vec_len dst.old → result.2 ≡ false → result.0 ≢ CoderResult.OutputFull }
+            × Replaces self.old last result.0 (chars src.now) written self.new
+            (chars (drop result.1 src.now)) result.2 (vec_capacity dst.old - vec_len dst.old) }
+        ensures enough { room_with_kept self.old.encoding false (length src.now)
+            ≤ vec_capacity dst.old - vec_len dst.old → result.2 ≡ false
+            → result.0 ≢ CoderResult.OutputFull }
     {
         let len = fill_spare(dst);
-        let (result, read, written, had_unmappables) = self.encode_from_utf8(
-            src,
-            &mut dst[len..],
-            last,
-        );
+        let spare = &mut dst[len..];
+        let (result, read, written, had_unmappables) = self.encode_from_utf8(src, spare, last);
         dst.truncate(len + written);
         (result, read, had_unmappables)
     }
@@ -255,19 +262,18 @@ impl<'t> Encoder<'t> {
         dst: &mut Vec<u8>,
         last: bool,
     ) -> (EncoderResult, usize)
-        ensures read { result.1 ≤ length src.now }
-        ensures boundary { IsCharBoundary src.now result.1 }
+        ensures read { ReadsText src.now result.1 }
         ensures capacity { vec_capacity dst.new ≡ vec_capacity dst.old }
         ensures call { (written : List ℕ) × (dst.new.items ≡ dst.old.items ++ written)
-            × Encoded self.old last result.0 (chars src.now) written self.new (chars (drop result.1 src.now)) (vec_capacity dst.old - vec_len dst.old - length written) }
-        ensures enough { room_for self.old.encoding false (length src.now) ≤ vec_capacity dst.old - vec_len dst.old → result.0 ≢ EncoderResult.OutputFull }
+            × Encoded self.old last result.0 (chars src.now) written self.new
+            (chars (drop result.1 src.now))
+            (vec_capacity dst.old - vec_len dst.old - length written) }
+        ensures enough { room_for self.old.encoding false (length src.now)
+            ≤ vec_capacity dst.old - vec_len dst.old → result.0 ≢ EncoderResult.OutputFull }
     {
         let len = fill_spare(dst);
-        let (result, read, written) = self.encode_from_utf8_without_replacement(
-            src,
-            &mut dst[len..],
-            last,
-        );
+        let spare = &mut dst[len..];
+        let (result, read, written) = self.encode_from_utf8_without_replacement(src, spare, last);
         dst.truncate(len + written);
         (result, read)
     }

@@ -115,7 +115,8 @@ impl Encoding {
     /// The same, but `None` for a label of replacement: for a caller to whom such a label is an error, as
     /// one that is unknown.
     pub fn for_label_no_replacement(label: &[u8]) -> Option<Encoding>
-        ensures { (e : Encoding) → (result ≡ Some e) ↔ (HasLabel e label.now × ¬ (e ≡ Encoding.Replacement)) }
+        ensures { (e : Encoding) → (result ≡ Some e)
+            ↔ (HasLabel e label.now × ¬ (e ≡ Encoding.Replacement)) }
     {
         let encoding = Encoding::for_label(label)?;
         if encoding == Encoding::Replacement {

@@ -1,16 +1,24 @@
 //! Laws of encodings. The functions do nothing: each contract is a law.
 
-ghost use Rattle.std.specs.Prelude.{◌≡◌, ◌↔◌, ◌<◌, ◌≤◌, ◌+◌, ◌*◌, ℕ, true, IsTrue, List, length, encode_utf8_all};
+ghost use Rattle.std.specs.Prelude.{◌≡◌, ◌↔◌, ◌<◌, ◌≤◌, ◌+◌, ◌*◌, ◌++◌, ℕ, true, IsTrue, List};
+ghost use Rattle.std.specs.Prelude.{Bool, length, encode_utf8_all};
 ghost use Rattle.std.specs.Str.{all_scalars, chars};
 ghost use Rattle.encoding_mem.specs.declared.reference.Reference.TheVariants.{Decimal};
+ghost use Rattle.encoding_mem.specs.Agreement.{ReadsBackOrBreaks, ReadsByStep};
 ghost use Rattle.encoding_mem.specs.Coding.{bytes, open_from, output, reference};
+ghost use Rattle.encoding_mem.specs.Encoding.{Encodes};
 ghost use Rattle.encoding_mem.specs.Piece.{ArePieces, sizes};
-ghost use Rattle.encoding_mem.specs.ReadBack.{ReadsBackExactly};
+ghost use Rattle.encoding_mem.specs.ReadCalls.{KeepsVerdict, NothingIsLost};
+ghost use Rattle.encoding_mem.specs.declared.encoder_result.EncoderResult.{EncoderResult};
+ghost use Rattle.encoding_mem.specs.ReadBack.{ReadsAs, ReadsBackExactly};
+ghost use Rattle.encoding_mem.specs.Steps.{IsBroken};
 ghost use Rattle.encoding_mem.specs.declared.form.EscapeState.{EscapeState};
+ghost use Rattle.encoding_mem.specs.declared.form.EscapeState.TheVariants.{Ascii};
 ghost use Rattle.encoding_tables.specs.IndexLists.{AreAcceptedTables, IndexLists};
 ghost use Rattle.encoding_front.specs.Bounds.{ReportsItself};
 ghost use Rattle.encoding_front.specs.EncodingTable.{encoding_name};
 ghost use Rattle.encoding_front.specs.Encodings.{HasLabel, KeepsCharacters, coding_of, output_encoding_of, pieces_of};
+ghost use Rattle.encoding_front.specs.Encodings.{set_pieces_of};
 ghost use Rattle.encoding_front.specs.Marks.{marked_pieces, marked_text};
 ghost use Rattle.encoding_front.specs.declared.mark.Mark.{Mark};
 ghost use Rattle.encoding_front.specs.declared.encoding.Encoding.{Encoding};
@@ -23,12 +31,14 @@ use std::hash::Hash;
 /// hashed.
 pub fn equality()
     ensures equal { (d e : Encoding) → IsTrue (⟦<Encoding as PartialEq>⟧.eq d e) ↔ (d ≡ e) }
-    ensures hash { (d e : Encoding) → (⟦<Encoding as Hash>⟧.hash_input d ≡ ⟦<Encoding as Hash>⟧.hash_input e) ↔ (d ≡ e) }
+    ensures hash { (d e : Encoding)
+        → (⟦<Encoding as Hash>⟧.hash_input d ≡ ⟦<Encoding as Hash>⟧.hash_input e) ↔ (d ≡ e) }
 {}
 
 /// An output encoding is its own, and it is none of UTF-16BE, UTF-16LE and replacement, which have no encoder.
 pub fn output_encodings()
-    ensures twice { (e : Encoding) → output_encoding_of (output_encoding_of e) ≡ output_encoding_of e }
+    ensures twice { (e : Encoding)
+        → output_encoding_of (output_encoding_of e) ≡ output_encoding_of e }
     ensures utf_16be { (e : Encoding) → ¬ (output_encoding_of e ≡ Utf16Be) }
     ensures utf_16le { (e : Encoding) → ¬ (output_encoding_of e ≡ Utf16Le) }
     ensures replacement { (e : Encoding) → ¬ (output_encoding_of e ≡ Replacement) }
@@ -42,33 +52,82 @@ pub fn names_are_labels()
 /// What is written for a text reads back as that text exactly where each character of it has bytes, by any
 /// indexes that were accepted, where the output encoding has no folds.
 pub fn texts_read_back()
-    ensures { (t : IndexLists) (e : Encoding) → KeepsCharacters e → AreAcceptedTables t → ReadsBackExactly (pieces_of t (output_encoding_of e)) (coding_of t e) }
+    ensures { (t : IndexLists) (e : Encoding) → KeepsCharacters e → AreAcceptedTables t
+        → ReadsBackExactly (pieces_of t (output_encoding_of e)) (coding_of t e) }
+{}
+
+/// What is written for a text in an output encoding, by any indexes that were accepted, read back
+/// in that encoding. What was written for the text so far agrees with it or is broken, also with an
+/// escape behind it; and the whole output reads as the text, or what stands before its last escape
+/// is broken. What is broken stays so, whatever follows, and never reads as the text.
+pub fn read_back()
+    ensures texts { (t : IndexLists) (e : Encoding) → AreAcceptedTables t
+        → ReadsBackOrBreaks (pieces_of t (output_encoding_of e)) (coding_of t e) }
+    ensures stays { (t : IndexLists) (e : Encoding) (bytes text more following : List ℕ)
+        → IsBroken (pieces_of t e) bytes text
+        → IsBroken (pieces_of t e) (bytes ++ more) (text ++ following) }
+    ensures never { (t : IndexLists) (e : Encoding) (bytes text : List ℕ)
+        → IsBroken (pieces_of t e) bytes text → ¬ (ReadsAs (pieces_of t e) bytes text) }
+{}
+
+/// So it does character by character, from the set that is in force; from the start it is read as
+/// any bytes of the output encoding are.
+pub fn characters_read_back()
+    ensures steps { (t : IndexLists) (e : Encoding) → AreAcceptedTables t
+        → ReadsByStep (coding_of t e) (set_pieces_of t e) }
+    ensures start { (t : IndexLists) (e : Encoding)
+        → set_pieces_of t e Ascii ≡ pieces_of t (output_encoding_of e) }
+{}
+
+/// Where an output encoding has no folds, a call of its encoder that reports no character keeps a
+/// true verdict: nothing has to be read back, and the log alone tells whether the text reads back.
+pub fn kept_characters_keep_verdicts()
+    ensures { (t : IndexLists) (e : Encoding) → KeepsCharacters e → AreAcceptedTables t
+        → (last : Bool) (outcome : EncoderResult) (before : EscapeState) (text written : List ℕ)
+        → (after : EscapeState) (rest : List ℕ) → all_scalars text ≡ true
+        → Encodes (coding_of t e) last outcome before text written after rest
+        → NothingIsLost outcome
+        → KeepsVerdict (coding_of t e) last true (pieces_of t (output_encoding_of e)) before text
+        true (pieces_of t (output_encoding_of e)) after rest }
 {}
 
 /// How long what is written can be. A character without bytes is reported as it is or as U+FFFD; a text of n
 /// characters is written in at most 13 n + 3 bytes.
 pub fn written_is_short()
-    ensures form { (t : IndexLists) (e : Encoding) (c : ℕ) → length (bytes ((coding_of t e).form c)) ≤ 4 }
-    ensures escape { (t : IndexLists) (e : Encoding) (s s' : EscapeState) → length ((coding_of t e).escape s s') ≤ 3 }
-    ensures reported { (t : IndexLists) (e : Encoding) (c : ℕ) → ReportsItself c ((coding_of t e).form c) }
+    ensures form { (t : IndexLists) (e : Encoding) (c : ℕ)
+        → length (bytes ((coding_of t e).form c)) ≤ 4 }
+    ensures escape { (t : IndexLists) (e : Encoding) (s s' : EscapeState)
+        → length ((coding_of t e).escape s s') ≤ 3 }
+    ensures reported { (t : IndexLists) (e : Encoding) (c : ℕ)
+        → ReportsItself c ((coding_of t e).form c) }
     ensures reference { (c : ℕ) → c < 0x110000 → length (reference Decimal c) ≤ 10 }
-    ensures part { (t : IndexLists) (e : Encoding) (s : EscapeState) (text : List ℕ) → all_scalars text ≡ true → length (open_from Decimal (coding_of t e) s text) ≤ 13 * length text }
-    ensures whole { (t : IndexLists) (e : Encoding) (text : List ℕ) → all_scalars text ≡ true → length (output Decimal (coding_of t e) text) ≤ 13 * length text + 3 }
+    ensures part { (t : IndexLists) (e : Encoding) (s : EscapeState) (text : List ℕ)
+        → all_scalars text ≡ true
+        → length (open_from Decimal (coding_of t e) s text) ≤ 13 * length text }
+    ensures whole { (t : IndexLists) (e : Encoding) (text : List ℕ) → all_scalars text ≡ true
+        → length (output Decimal (coding_of t e) text) ≤ 13 * length text + 3 }
 {}
 
 /// An input is its pieces, and what it is recoded to is bounded by its length: it has no more characters than
 /// bytes. Each character of its text is a scalar.
 pub fn input_is_its_pieces()
-    ensures pieces { (t : IndexLists) (mark : Mark) (e : Encoding) (x : List ℕ) → AreAcceptedTables t → ArePieces (marked_pieces t mark e x) }
-    ensures whole { (t : IndexLists) (mark : Mark) (e : Encoding) (x : List ℕ) → AreAcceptedTables t → sizes (marked_pieces t mark e x) ≡ length x }
-    ensures few { (t : IndexLists) (mark : Mark) (e : Encoding) (x : List ℕ) → AreAcceptedTables t → length (marked_text t mark e x) ≤ length x }
-    ensures scalars { (t : IndexLists) (mark : Mark) (e : Encoding) (x : List ℕ) → AreAcceptedTables t → all_scalars (marked_text t mark e x) ≡ true }
-    ensures recoded { (t : IndexLists) (mark : Mark) (from to : Encoding) (x : List ℕ) → AreAcceptedTables t
+    ensures pieces { (t : IndexLists) (mark : Mark) (e : Encoding) (x : List ℕ)
+        → AreAcceptedTables t → ArePieces (marked_pieces t mark e x) }
+    ensures whole { (t : IndexLists) (mark : Mark) (e : Encoding) (x : List ℕ)
+        → AreAcceptedTables t → sizes (marked_pieces t mark e x) ≡ length x }
+    ensures few { (t : IndexLists) (mark : Mark) (e : Encoding) (x : List ℕ)
+        → AreAcceptedTables t → length (marked_text t mark e x) ≤ length x }
+    ensures scalars { (t : IndexLists) (mark : Mark) (e : Encoding) (x : List ℕ)
+        → AreAcceptedTables t → all_scalars (marked_text t mark e x) ≡ true }
+    ensures recoded { (t : IndexLists) (mark : Mark) (from to : Encoding) (x : List ℕ)
+        → AreAcceptedTables t
         → length (output Decimal (coding_of t to) (marked_text t mark from x)) ≤ 13 * length x + 3 }
 {}
 
 /// An input that is decoded at once, and its text encoded at once, gives the output for its text.
 pub fn both_at_once()
-    ensures { (t : IndexLists) (mark : Mark) (from to : Encoding) (x decoded : List ℕ) → AreAcceptedTables t → decoded ≡ encode_utf8_all (marked_text t mark from x)
-        → output Decimal (coding_of t to) (chars decoded) ≡ output Decimal (coding_of t to) (marked_text t mark from x) }
+    ensures { (t : IndexLists) (mark : Mark) (from to : Encoding) (x decoded : List ℕ)
+        → AreAcceptedTables t → decoded ≡ encode_utf8_all (marked_text t mark from x)
+        → output Decimal (coding_of t to) (chars decoded)
+        ≡ output Decimal (coding_of t to) (marked_text t mark from x) }
 {}

@@ -1,11 +1,9 @@
 //! Encodings by name.
 #![tactic(auto)]
 
-mod bom_decoder;
 mod codec_kind;
 pub mod coder_result;
 pub mod constants;
-mod decode_replacing;
 pub mod decoder;
 pub mod encoder;
 pub mod encoding;
@@ -16,7 +14,6 @@ mod one_shot_encoding;
 pub mod one_shot_fault;
 pub mod reference;
 mod replacing;
-mod replay;
 pub mod seeking;
 pub mod variant_decoder;
 pub mod variant_encoder;

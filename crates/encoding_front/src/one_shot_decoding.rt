@@ -1,12 +1,11 @@
 // A whole input at once.
 
-ghost use Rattle.std.specs.Prelude.{◌≡◌, ◌↔◌, ℕ, ◌<◌, IsTrue, Option, None, Some, length, IfOk, IfErr, IfSome, encode_utf8_all};
-ghost use Rattle.std.specs.String.{string_bytes};
+ghost use Rattle.std.specs.Prelude.{◌≡◌, ◌↔◌, ◌<◌, None, Some, length, IfOk, IfSome, encode_utf8_all, string_bytes};
 ghost use Rattle.encoding_mem.specs.Piece.{malformed_count};
 ghost use Rattle.encoding_mem.specs.declared.room.OutputUnit.TheVariants.{Bytes, Replaced};
 ghost use Rattle.encoding_front.specs.Encodings.{IsReady};
 ghost use Rattle.encoding_front.specs.Marks.{marked_pieces, marked_text, source_of};
-ghost use Rattle.encoding_front.specs.OneShot.{IsRefused, room_at_start};
+ghost use Rattle.encoding_front.specs.OneShot.{FailsFor, IsDecoded, room_at_start};
 
 use crate::decoder::{Decoder, StreamDecoder};
 use crate::encoding::Encoding;
@@ -31,11 +30,11 @@ impl Encoding {
         bytes: &[u8],
     ) -> Result<(String, Encoding, bool), OneShotFault>
         requires { IsReady tables.now self }
-        ensures text { IfOk result (λ r. string_bytes r.0 ≡ encode_utf8_all (marked_text tables.now Mark.Sniff self bytes.now)) }
+        ensures text { IfOk result (λ r. IsDecoded tables.now Mark.Sniff self bytes.now
+            (string_bytes r.0) r.2) }
         ensures encoding { IfOk result (λ r. r.1 ≡ (source_of Mark.Sniff self bytes.now).0) }
-        ensures malformed { IfOk result (λ r. IsTrue r.2 ↔ (0 < malformed_count (marked_pieces tables.now Mark.Sniff self bytes.now))) }
-        ensures fault { IfErr result (IsRefused (room_at_start Mark.Sniff self Replaced (length bytes.now))) }
-        ensures asked { room_at_start Mark.Sniff self Replaced (length bytes.now) ≡ None → result ≡ Err OneShotFault.Overflow }
+        ensures fault { FailsFor
+            (room_at_start Mark.Sniff self Replaced (length bytes.now)) result }
     {
         self.decode_behind_bom(Mark::Sniff, alloc, tables, bytes)
     }
@@ -50,10 +49,10 @@ impl Encoding {
         bytes: &[u8],
     ) -> Result<(String, bool), OneShotFault>
         requires { IsReady tables.now self }
-        ensures text { IfOk result (λ r. string_bytes r.0 ≡ encode_utf8_all (marked_text tables.now Mark.Remove self bytes.now)) }
-        ensures malformed { IfOk result (λ r. IsTrue r.1 ↔ (0 < malformed_count (marked_pieces tables.now Mark.Remove self bytes.now))) }
-        ensures fault { IfErr result (IsRefused (room_at_start Mark.Remove self Replaced (length bytes.now))) }
-        ensures asked { room_at_start Mark.Remove self Replaced (length bytes.now) ≡ None → result ≡ Err OneShotFault.Overflow }
+        ensures text { IfOk result (λ r. IsDecoded tables.now Mark.Remove self bytes.now
+            (string_bytes r.0) r.1) }
+        ensures fault { FailsFor
+            (room_at_start Mark.Remove self Replaced (length bytes.now)) result }
     {
         let (text, _, had_errors) = self.decode_behind_bom(Mark::Remove, alloc, tables, bytes)?;
         Ok((text, had_errors))
@@ -69,10 +68,9 @@ impl Encoding {
         bytes: &[u8],
     ) -> Result<(String, bool), OneShotFault>
         requires { IsReady tables.now self }
-        ensures text { IfOk result (λ r. string_bytes r.0 ≡ encode_utf8_all (marked_text tables.now Mark.Keep self bytes.now)) }
-        ensures malformed { IfOk result (λ r. IsTrue r.1 ↔ (0 < malformed_count (marked_pieces tables.now Mark.Keep self bytes.now))) }
-        ensures fault { IfErr result (IsRefused (room_at_start Mark.Keep self Replaced (length bytes.now))) }
-        ensures asked { room_at_start Mark.Keep self Replaced (length bytes.now) ≡ None → result ≡ Err OneShotFault.Overflow }
+        ensures text { IfOk result (λ r. IsDecoded tables.now Mark.Keep self bytes.now
+            (string_bytes r.0) r.1) }
+        ensures fault { FailsFor (room_at_start Mark.Keep self Replaced (length bytes.now)) result }
     {
         let (text, _, had_errors) = self.decode_behind_bom(Mark::Keep, alloc, tables, bytes)?;
         Ok((text, had_errors))
@@ -87,10 +85,11 @@ impl Encoding {
         bytes: &[u8],
     ) -> Result<Option<String>, OneShotFault>
         requires { IsReady tables.now self }
-        ensures text { IfOk result (λ r. IfSome r (λ text. string_bytes text ≡ encode_utf8_all (marked_text tables.now Mark.Keep self bytes.now))) }
-        ensures malformed { IfOk result (λ r. (r ≡ None) ↔ (0 < malformed_count (marked_pieces tables.now Mark.Keep self bytes.now))) }
-        ensures fault { IfErr result (IsRefused (room_at_start Mark.Keep self Bytes (length bytes.now))) }
-        ensures asked { room_at_start Mark.Keep self Bytes (length bytes.now) ≡ None → result ≡ Err OneShotFault.Overflow }
+        ensures text { IfOk result (λ r. IfSome r (λ text. string_bytes text
+            ≡ encode_utf8_all (marked_text tables.now Mark.Keep self bytes.now))) }
+        ensures malformed { IfOk result (λ r. (r ≡ None)
+            ↔ (0 < malformed_count (marked_pieces tables.now Mark.Keep self bytes.now))) }
+        ensures fault { FailsFor (room_at_start Mark.Keep self Bytes (length bytes.now)) result }
     {
         let mut decoder = self.new_decoder_without_bom_handling(tables);
         let room = decoder.max_utf8_buffer_length_without_replacement(bytes.len());
@@ -114,11 +113,10 @@ impl Encoding {
         bytes: &[u8],
     ) -> Result<(String, Encoding, bool), OneShotFault>
         requires { IsReady tables.now self }
-        ensures text { IfOk result (λ r. string_bytes r.0 ≡ encode_utf8_all (marked_text tables.now mark self bytes.now)) }
+        ensures text { IfOk result (λ r. IsDecoded tables.now mark self bytes.now
+            (string_bytes r.0) r.2) }
         ensures encoding { IfOk result (λ r. r.1 ≡ (source_of mark self bytes.now).0) }
-        ensures malformed { IfOk result (λ r. IsTrue r.2 ↔ (0 < malformed_count (marked_pieces tables.now mark self bytes.now))) }
-        ensures fault { IfErr result (IsRefused (room_at_start mark self Replaced (length bytes.now))) }
-        ensures asked { room_at_start mark self Replaced (length bytes.now) ≡ None → result ≡ Err OneShotFault.Overflow }
+        ensures fault { FailsFor (room_at_start mark self Replaced (length bytes.now)) result }
     {
         let mut decoder = Decoder::new(self, mark, tables);
         let room = decoder.max_utf8_buffer_length(bytes.len());
@@ -133,8 +131,7 @@ impl Encoding {
 // So many zeros.
 fn filled(alloc: Global, room: Option<usize>) -> Result<Vec<u8>, OneShotFault>
     ensures len { IfOk result (λ v. room ≡ Some (length v.items)) }
-    ensures fault { IfErr result (IsRefused room) }
-    ensures asked { room ≡ None → result ≡ Err OneShotFault.Overflow }
+    ensures fault { FailsFor room result }
 {
     let Some(room) = room else {
         return Err(OneShotFault::Overflow);

@@ -1,12 +1,12 @@
 // A whole text at once.
 
-ghost use Rattle.std.specs.Prelude.{◌≡◌, ◌↔◌, ℕ, ◌+◌, ◌-◌, ◌<◌, ◌≤◌, false, IsTrue, None, length, IfOk, IfErr, vec_capacity, vec_len};
+ghost use Rattle.std.specs.Prelude.{◌≡◌, ◌↔◌, ℕ, ◌+◌, ◌-◌, ◌<◌, ◌≤◌, false, IsTrue, length, IfOk, vec_capacity, vec_len};
 ghost use Rattle.std.specs.Str.{chars};
 ghost use Rattle.encoding_mem.specs.declared.reference.Reference.TheVariants.{Decimal};
 ghost use Rattle.encoding_mem.specs.Coding.{lost_count, output};
-ghost use Rattle.encoding_front.specs.Encoder.{kept_back, queried_with_kept, room_for};
+ghost use Rattle.encoding_front.specs.Encoder.{queried_with_kept, room_with_kept};
 ghost use Rattle.encoding_front.specs.Encodings.{IsReady, coding_of, output_encoding_of};
-ghost use Rattle.encoding_front.specs.OneShot.{IsRefused};
+ghost use Rattle.encoding_front.specs.OneShot.{FailsFor};
 
 use crate::coder_result::CoderResult;
 use crate::encoder::Encoder;
@@ -29,11 +29,13 @@ impl Encoding {
         text: &str,
     ) -> Result<(Vec<u8>, Encoding, bool), OneShotFault>
         requires { IsReady tables.now (output_encoding_of self) }
-        ensures bytes { IfOk result (λ r. r.0.items ≡ output Decimal (coding_of tables.now self) (chars text.now)) }
+        ensures bytes { IfOk result (λ r. r.0.items
+            ≡ output Decimal (coding_of tables.now self) (chars text.now)) }
         ensures encoding { IfOk result (λ r. r.1 ≡ output_encoding_of self) }
-        ensures lost { IfOk result (λ r. IsTrue r.2 ↔ (0 < lost_count (coding_of tables.now self) (chars text.now))) }
-        ensures fault { IfErr result (IsRefused (queried_with_kept (output_encoding_of self) false (length text.now))) }
-        ensures asked { queried_with_kept (output_encoding_of self) false (length text.now) ≡ None → result ≡ Err OneShotFault.Overflow }
+        ensures lost { IfOk result (λ r. IsTrue r.2
+            ↔ (0 < lost_count (coding_of tables.now self) (chars text.now))) }
+        ensures fault { FailsFor
+            (queried_with_kept (output_encoding_of self) false (length text.now)) result }
     {
         let mut encoder = self.new_encoder(tables);
         let mut bytes = Vec::new(alloc);
@@ -54,9 +56,9 @@ impl Encoding {
 // Makes room behind the bytes for so many bytes of text, if each character of it has bytes.
 fn reserve_for(encoder: &Encoder<'_>, len: usize, bytes: &mut Vec<u8>) -> Result<(), OneShotFault>
     ensures items { bytes.new.items ≡ bytes.old.items }
-    ensures room { IfOk result (λ _. room_for encoder.now.encoding false len + kept_back encoder.now.encoding ≤ vec_capacity bytes.new - vec_len bytes.new) }
-    ensures fault { IfErr result (IsRefused (queried_with_kept encoder.now.encoding false len)) }
-    ensures asked { queried_with_kept encoder.now.encoding false len ≡ None → result ≡ Err OneShotFault.Overflow }
+    ensures room { IfOk result (λ _. room_with_kept encoder.now.encoding false len
+        ≤ vec_capacity bytes.new - vec_len bytes.new) }
+    ensures fault { FailsFor (queried_with_kept encoder.now.encoding false len) result }
 {
     match encoder.max_buffer_length_from_utf8_if_no_unmappables(len) {
         Some(room) => Ok(bytes.reserve_exact(room)?),

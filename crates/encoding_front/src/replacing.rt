@@ -1,10 +1,8 @@
 // Encoding with references for characters without bytes, once for both kinds of source.
 
-ghost use Rattle.std.specs.Prelude.{◌≡◌, ◌≢◌, false, ℕ, ◌+◌, ◌-◌, ◌≤◌, ◌++◌, length, take, drop};
-ghost use Rattle.encoding_mem.specs.declared.reference.Reference.TheVariants.{Decimal};
-ghost use Rattle.encoding_mem.specs.Coding.{reference};
+ghost use Rattle.std.specs.Prelude.{◌≡◌, ◌≢◌, false, ◌+◌, ◌-◌, ◌≤◌, length, take, drop};
 ghost use Rattle.encoding_mem.specs.EncoderRule.{left};
-ghost use Rattle.encoding_front.specs.Encoder.{ReplacingEndsWith, Replaces, Turned, kept_back, room_for};
+ghost use Rattle.encoding_front.specs.Encoder.{ReplacingEndsWith, Replaces, Turned, kept_back, room_for, room_with_kept};
 
 use crate::coder_result::CoderResult;
 use crate::encoder::Encoder;
@@ -12,20 +10,6 @@ use crate::reference::write_reference;
 use encoding_mem::EncoderResult;
 use encoding_mem::encode::put_all;
 use encoding_mem::source::Source;
-
-// Puts the reference of a character at an offset, behind which there is room for the longest, and
-// returns the offset behind it.
-fn put_reference(dst: &mut [u8], at: usize, c: char) -> usize
-    requires { at + 10 ≤ length dst.old }
-    ensures end { result ≡ at + length (reference Decimal c) }
-    ensures fits { result ≤ length dst.new }
-    ensures prefix { take result dst.new ≡ take at dst.old ++ reference Decimal c }
-    ensures behind { drop result dst.new ≡ drop result dst.old }
-{
-    let mut bytes = [0; 10];
-    let len = write_reference(c, &mut bytes);
-    put_all(dst, at, &bytes[..len])
-}
 
 // One call without replacement into the part of `dst` before `end`, and the reference that it asks
 // for, which may reach behind that part. Returns as the call does, and counts the reference as
@@ -41,21 +25,28 @@ fn encode_turn<S: Source>(
     ensures source { S.all source.new ≡ S.all source.old }
     ensures room { result.1 ≤ length dst.new }
     ensures behind { drop result.1 dst.new ≡ drop result.1 dst.old }
-    ensures enough { room_for encoder.old.encoding S.is_units (length (S.all source.old) - S.offset source.old) ≤ end
+    ensures enough { room_for encoder.old.encoding S.is_units
+        (length (S.all source.old) - S.offset source.old) ≤ end
         → result.0 ≢ EncoderResult.OutputFull }
-    ensures turn { Turned encoder.old last result.0 (left S.text (S.all source.old) (S.offset source.old)) (take result.1 dst.new)
+    ensures turn { Turned encoder.old last result.0
+        (left S.text (S.all source.old) (S.offset source.old)) (take result.1 dst.new)
         encoder.new (left S.text (S.all source.new) (S.offset source.new)) end }
 {
     let (result, written) = encoder.encode_source(source, &mut dst[..end], last);
     match result {
-        EncoderResult::Unmappable(c) => (result, put_reference(dst, written, c)),
+        EncoderResult::Unmappable(c) => {
+            let mut bytes = [0; 10];
+            let len = write_reference(c, &mut bytes);
+            (result, put_all(dst, written, &bytes[..len]))
+        }
         _ => (result, written),
     }
 }
 
 // How a call ends that has done what it could: whether something is left to do.
 fn outcome<S: Source>(encoder: &Encoder<'_>, source: &S, last: bool) -> CoderResult
-    ensures { ReplacingEndsWith last result encoder.now.set (left S.text (S.all source.now) (S.offset source.now)) }
+    ensures { ReplacingEndsWith last result encoder.now.set
+        (left S.text (S.all source.now) (S.offset source.now)) }
 {
     if source.peek().is_none() && !(last && encoder.has_pending_state()) {
         CoderResult::InputEmpty
@@ -75,9 +66,12 @@ pub(crate) fn encode_replacing<S: Source>(
     ensures source { S.all source.new ≡ S.all source.old }
     ensures room { result.1 ≤ length dst.new }
     ensures behind { drop result.1 dst.new ≡ drop result.1 dst.old }
-    ensures call { Replaces encoder.old last result.0 (left S.text (S.all source.old) (S.offset source.old)) (take result.1 dst.new)
-        encoder.new (left S.text (S.all source.new) (S.offset source.new)) result.2 (length dst.new) }
-    ensures enough { room_for encoder.old.encoding S.is_units (length (S.all source.old) - S.offset source.old) + kept_back encoder.old.encoding ≤ length dst.old
+    ensures call { Replaces encoder.old last result.0
+        (left S.text (S.all source.old) (S.offset source.old)) (take result.1 dst.new)
+        encoder.new (left S.text (S.all source.new) (S.offset source.new))
+        result.2 (length dst.new) }
+    ensures enough { room_with_kept encoder.old.encoding S.is_units
+        (length (S.all source.old) - S.offset source.old) ≤ length dst.old
         → result.2 ≡ false → result.0 ≢ CoderResult.OutputFull }
 {
     let kept = encoder.kept_back();

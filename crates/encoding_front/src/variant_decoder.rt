@@ -1,15 +1,19 @@
-ghost use Rattle.std.specs.Prelude.{◌≡◌};
+ghost use Rattle.std.specs.Prelude.{◌≡◌, ◌+◌, ◌-◌, ◌<◌, ◌≤◌, drop, length};
+ghost use Rattle.encoding_mem.specs.Decoding.{EndsWith, StateLaw};
+ghost use Rattle.encoding_mem.specs.Driver.{Suffices};
+ghost use Rattle.encoding_front.specs.BomDecoderState.{held_state};
 ghost use Rattle.encoding_front.specs.Encodings.{IsReady, pieces_of, decoded_length_of};
-ghost use Rattle.encoding_front.specs.Latin1Prefix.{TellsLatin1, by_ascii, by_index, by_mode, latin1_rule, untold};
+ghost use Rattle.encoding_front.specs.Latin1Prefix.{TellsLatin1, latin1_rule};
+ghost use Rattle.encoding_front.specs.Seeking.{encoding_of_mark, pieces_after};
 ghost use Rattle.encoding_front.specs.declared.variant_decoder.VariantDecoder.TheVariants.{Utf8, SingleByte, Big5, EucKr, EucJp, ShiftJis, Gb18030, Iso2022Jp, UserDefined, Utf16, Replacement};
 
-use crate::bom_decoder::Switches;
 use crate::codec_kind::CodecKind;
 use crate::encoding::Encoding;
 use crate::seeking::ByteOrderMark;
 use encoding_codecs::{
     Big5Decoder, EucJpDecoder, EucKrDecoder, Gb18030Decoder, Iso2022JpDecoder, ShiftJisDecoder,
 };
+use encoding_mem::pending::Pending;
 use encoding_mem::room::DecodedLength;
 use encoding_mem::sink::Sink;
 use encoding_mem::sink_decoder::SinkDecoder;
@@ -36,14 +40,35 @@ pub enum VariantDecoder<'t> {
     Replacement(ReplacementDecoder),
 }
 
+// The call of the decoder that there is.
+macro_rules! dispatch {
+    ($variant:expr, $decoder:ident => $call:expr) => {
+        match $variant {
+            VariantDecoder::Utf8($decoder) => $call,
+            VariantDecoder::SingleByte($decoder) => $call,
+            VariantDecoder::Big5($decoder) => $call,
+            VariantDecoder::EucKr($decoder) => $call,
+            VariantDecoder::EucJp($decoder) => $call,
+            VariantDecoder::ShiftJis($decoder) => $call,
+            VariantDecoder::Gb18030($decoder) => $call,
+            VariantDecoder::Iso2022Jp($decoder) => $call,
+            VariantDecoder::UserDefined($decoder) => $call,
+            VariantDecoder::Utf16($decoder) => $call,
+            VariantDecoder::Replacement($decoder) => $call,
+        }
+    };
+}
+
 impl<'t> VariantDecoder<'t> {
+    ghost use Rattle.encoding_front.specs.VariantDecoders.{rule_of, state_of};
+
     /// Nothing is pending.
     pub fn new(encoding: Encoding, tables: &'t Tables) -> Self
         requires { IsReady tables.now encoding }
-        ensures pending { (⟦<VariantDecoder<'t> as RawDecoder>⟧.state result).pending ≡ 0 }
-        ensures pieces { (⟦<VariantDecoder<'t> as RawDecoder>⟧.state result).pieces ≡ pieces_of tables.now encoding }
-        ensures room { (⟦<VariantDecoder<'t> as RawDecoder>⟧.state result).room ≡ decoded_length_of encoding }
-        ensures rule { ⟦<VariantDecoder<'t> as Switches>⟧.rule result ≡ latin1_rule encoding }
+        ensures pending { (state_of result).pending ≡ 0 }
+        ensures pieces { (state_of result).pieces ≡ pieces_of tables.now encoding }
+        ensures room { (state_of result).room ≡ decoded_length_of encoding }
+        ensures rule { rule_of result ≡ latin1_rule encoding }
     {
         match encoding.codec_kind() {
             CodecKind::Utf8 => VariantDecoder::Utf8(Utf8Decoder::new()),
@@ -62,10 +87,74 @@ impl<'t> VariantDecoder<'t> {
         }
     }
 
+    /// The decoder of what follows a byte order mark. Nothing is pending.
+    pub(crate) fn after_mark(mark: ByteOrderMark) -> Self
+        ensures pending { (state_of result).pending ≡ 0 }
+        ensures pieces { (state_of result).pieces ≡ pieces_after mark }
+        ensures room { (state_of result).room ≡ decoded_length_of (encoding_of_mark mark) }
+        ensures rule { rule_of result ≡ latin1_rule (encoding_of_mark mark) }
+    {
+        match mark {
+            ByteOrderMark::Utf8 => VariantDecoder::Utf8(Utf8Decoder::new()),
+            ByteOrderMark::Utf16Be => VariantDecoder::Utf16(Utf16Decoder::new(true)),
+            ByteOrderMark::Utf16Le => VariantDecoder::Utf16(Utf16Decoder::new(false)),
+        }
+    }
+
+    // The call `decode_into`. The rule stays as it is.
+    fn decode_on<S: Sink>(&mut self, src: &[u8], sink: &mut S, last: bool) -> (DecoderResult, usize)
+        ensures law { StateLaw (state_of self.old) (state_of self.new) src.now last result.1
+            (λ text. S.writes sink.old text sink.new) result.0 }
+        ensures ends { EndsWith (state_of self.new) (drop result.1 src.now) last
+            (S.free sink.new) S.room (S.cost 0xFFFD) result.0 }
+        ensures enough { Suffices (state_of self.old).needs (state_of self.new).needs S.is_units
+            last (length src.now) (length src.now - result.1)
+            (S.free sink.old) (S.free sink.new) result.0 }
+        ensures limits { (state_of self.new).room ≡ (state_of self.old).room }
+        ensures rule { rule_of self.new ≡ rule_of self.old }
+    {
+        dispatch!(self, decoder => decoder.decode_into(src, sink, last))
+    }
+
+    /// Decodes what is held, and then the source.
+    pub(crate) fn decode_held<S: Sink>(
+        &mut self,
+        held: &mut Pending,
+        src: &[u8],
+        sink: &mut S,
+        last: bool,
+    ) -> (DecoderResult, usize)
+        requires { 0 < length held.old → (state_of self.old).pending + length held.old ≤ 2 }
+        ensures law { StateLaw (held_state (state_of self.old) held.old)
+            (held_state (state_of self.new) held.new) src.now last result.1
+            (λ text. S.writes sink.old text sink.new) result.0 }
+        ensures ends { EndsWith (held_state (state_of self.new) held.new) (drop result.1 src.now)
+            last (S.free sink.new) S.room (S.cost 0xFFFD) result.0 }
+        ensures enough { Suffices (held_state (state_of self.old) held.old).needs
+            (held_state (state_of self.new) held.new).needs S.is_units last (length src.now)
+            (length src.now - result.1) (S.free sink.old) (S.free sink.new) result.0 }
+        ensures limits { (state_of self.new).room ≡ (state_of self.old).room }
+        ensures rule { rule_of self.new ≡ rule_of self.old }
+        ensures few { 0 < length held.new → (state_of self.new).pending + length held.new ≤ 2 }
+    {
+        if held.len() == 0 {
+            return self.decode_on(src, sink, last);
+        }
+        let (outcome, taken) = self.decode_on(held.as_slice(), sink, false);
+        held.remove_prefix(taken);
+        match outcome {
+            DecoderResult::InputEmpty => self.decode_on(src, sink, last),
+            DecoderResult::OutputFull => (DecoderResult::OutputFull, 0),
+            DecoderResult::Malformed(a, b) => {
+                (DecoderResult::Malformed(a, b + held.len() as u8), 0)
+            }
+        }
+    }
+
     /// How far bytes that follow are their characters in Latin1; none where something is pending or a mode is
     /// in force, and in UTF-16 and replacement.
     pub(crate) fn latin1_byte_compatible_up_to(&self, bytes: &[u8]) -> Option<usize>
-        ensures { TellsLatin1 (⟦<VariantDecoder<'t> as Switches>⟧.rule self.now) (⟦<VariantDecoder<'t> as RawDecoder>⟧.state self.now) bytes.now result }
+        ensures { TellsLatin1 (rule_of self.now) (state_of self.now) bytes.now result }
     {
         match self {
             VariantDecoder::SingleByte(decoder) => {
@@ -86,25 +175,6 @@ impl<'t> VariantDecoder<'t> {
             }
         }
     }
-}
-
-// The call of the decoder that there is.
-macro_rules! dispatch {
-    ($variant:expr, $decoder:ident => $call:expr) => {
-        match $variant {
-            VariantDecoder::Utf8($decoder) => $call,
-            VariantDecoder::SingleByte($decoder) => $call,
-            VariantDecoder::Big5($decoder) => $call,
-            VariantDecoder::EucKr($decoder) => $call,
-            VariantDecoder::EucJp($decoder) => $call,
-            VariantDecoder::ShiftJis($decoder) => $call,
-            VariantDecoder::Gb18030($decoder) => $call,
-            VariantDecoder::Iso2022Jp($decoder) => $call,
-            VariantDecoder::UserDefined($decoder) => $call,
-            VariantDecoder::Utf16($decoder) => $call,
-            VariantDecoder::Replacement($decoder) => $call,
-        }
-    };
 }
 
 impl<'t> SinkDecoder for VariantDecoder<'t> {
@@ -137,38 +207,5 @@ impl<'t> SinkDecoder for VariantDecoder<'t> {
 
     fn room(&self) -> DecodedLength {
         dispatch!(self, decoder => decoder.room())
-    }
-}
-
-impl<'t> Switches for VariantDecoder<'t> {
-    ghost rule = { elim [
-      | Utf8 d ↦ by_ascii
-      | SingleByte d ↦ by_index
-      | Big5 d ↦ by_ascii
-      | EucKr d ↦ by_ascii
-      | EucJp d ↦ by_ascii
-      | ShiftJis d ↦ by_ascii
-      | Gb18030 d ↦ by_ascii
-      | Iso2022Jp d ↦ by_mode
-      | UserDefined d ↦ by_ascii
-      | Utf16 d ↦ untold
-      | Replacement d ↦ untold
-    ] };
-
-    fn after_mark(mark: ByteOrderMark) -> Self {
-        match mark {
-            ByteOrderMark::Utf8 => VariantDecoder::Utf8(Utf8Decoder::new()),
-            ByteOrderMark::Utf16Be => VariantDecoder::Utf16(Utf16Decoder::new(true)),
-            ByteOrderMark::Utf16Le => VariantDecoder::Utf16(Utf16Decoder::new(false)),
-        }
-    }
-
-    fn decode_on<S: Sink>(
-        &mut self,
-        src: &[u8],
-        sink: &mut S,
-        last: bool,
-    ) -> (DecoderResult, usize) {
-        dispatch!(self, decoder => decoder.decode_into(src, sink, last))
     }
 }

@@ -41,10 +41,12 @@ impl<'t> VariantEncoder<'t> {
     /// The encoder of what is written where this encoding is asked for, in ASCII.
     pub fn new(encoding: Encoding, tables: &'t Tables) -> Self
         requires { IsReady tables.now (output_encoding_of encoding) }
-        ensures coding { ⟦<VariantEncoder<'t> as RawEncoder>⟧.coding result ≡ coding_of tables.now encoding }
+        ensures coding { ⟦<VariantEncoder<'t> as RawEncoder>⟧.coding result
+            ≡ coding_of tables.now encoding }
         ensures set { ⟦<VariantEncoder<'t> as RawEncoder>⟧.set result ≡ Ascii }
         ensures need { ⟦<VariantEncoder<'t> as RawEncoder>⟧.need result ≡ need_of encoding }
-        ensures limits { ⟦<VariantEncoder<'t> as RawEncoder>⟧.limits result ≡ encoded_length_of encoding }
+        ensures limits { ⟦<VariantEncoder<'t> as RawEncoder>⟧.limits result
+            ≡ encoded_length_of encoding }
     {
         match encoding.output_encoding().codec_kind() {
             CodecKind::SingleByte(kind) => {

@@ -2,8 +2,8 @@
 use Rattle.std.specs.Prelude.{◌≡◌, not, None, Some, [], ◌∷◌, codes, filter, refl, ℕ, ◌+◌, ◌==◌, if◌then◌else◌, List, Option, map, replicate}
 use Rattle.encoding_tables.specs.declared.index_kind.IndexKind.{IndexKind}
 use Rattle.encoding_front.specs.EncodingTable.{encodings, encoding_name}
-use Rattle.encoding_front.specs.Encodings.{is_ascii_compatible_of, is_single_byte_of, mark_at_start, needs_of, output_encoding_of, byte_order_marks, need_of, decoded_length_of, pieces_of, coding_of}
-use Rattle.encoding_front.specs.declared.constants.TheConstants.{SHIFT_JIS_INIT, UTF_8, UTF_8_INIT, WINDOWS_1252_INIT}
+use Rattle.encoding_front.specs.Encodings.{is_ascii_compatible_of, is_single_byte_of, mark_at_start, needs_of, output_encoding_of, byte_order_marks, need_of, decoded_length_of, pieces_of, coding_of, set_pieces_of}
+use Rattle.encoding_front.specs.declared.constants.TheConstants.{SHIFT_JIS, UTF_8, WINDOWS_1252}
 use Rattle.encoding_front.specs.declared.encoding.Encoding.{Encoding}
 use Rattle.encoding_front.specs.declared.encoding.Encoding.TheVariants.{Big5, EucJp, EucKr, Gb18030, Gbk, Iso2022Jp, Replacement, ShiftJis, Utf8, Utf16Be, Utf16Le, Iso8859_8I, Windows1252, XUserDefined, Ibm866, Iso8859_10, Iso8859_13, Iso8859_14, Iso8859_15, Iso8859_16, Iso8859_2, Iso8859_3, Iso8859_4, Iso8859_5, Iso8859_6, Iso8859_7, Iso8859_8, Koi8R, Koi8U, Macintosh, Windows1250, Windows1251, Windows1253, Windows1254, Windows1255, Windows1256, Windows1257, Windows1258, Windows874, XMacCyrillic}
 use Rattle.std.specs.List.{range_with_len}
@@ -12,6 +12,7 @@ use Rattle.encoding_mem.specs.Piece.{well_formed, malformed}
 use Rattle.encoding_mem.specs.Pieces.{pieces_in}
 use Rattle.encoding_mem.specs.DecodedLength.{queried}
 use Rattle.encoding_mem.specs.declared.form.Form.TheVariants.{Mapped, Unmapped}
+use Rattle.encoding_mem.specs.declared.form.EscapeState.TheVariants.{Ascii, Roman, Jis}
 use Rattle.encoding_mem.specs.declared.room.OutputUnit.TheVariants.{Units, Bytes, Replaced}
 use Rattle.encoding_tables.specs.IndexLists.{IndexLists}
 use Rattle.encoding_codecs.specs.Iso2022Jp.{pieces_in_mode}
@@ -19,13 +20,10 @@ use Rattle.encoding_codecs.specs.Iso2022Jp.{pieces_in_mode}
 utf_8 : UTF_8 ≡ Utf8
 utf_8 = refl
 
-utf_8_init : UTF_8_INIT ≡ UTF_8
-utf_8_init = refl
-
-windows_1252 : encoding_name WINDOWS_1252_INIT ≡ codes "windows-1252"
+windows_1252 : encoding_name WINDOWS_1252 ≡ codes "windows-1252"
 windows_1252 = refl
 
-shift_jis : encoding_name SHIFT_JIS_INIT ≡ codes "Shift_JIS"
+shift_jis : encoding_name SHIFT_JIS ≡ codes "Shift_JIS"
 shift_jis = refl
 
 not_single_byte : filter (λ (e : Encoding). not (is_single_byte_of e)) encodings ≡ Big5 ∷ EucJp ∷ EucKr ∷ Gb18030 ∷ Gbk ∷ Iso2022Jp ∷ Replacement ∷ ShiftJis ∷ Utf8 ∷ Utf16Be ∷ Utf16Le ∷ []
@@ -217,3 +215,22 @@ writes_utf_8 = refl
 writes_user_defined : map (coding_of tables XUserDefined).form (0x7F ∷ 0x80 ∷ 0xF77F ∷ 0xF780 ∷ 0xF7FF ∷ 0xF800 ∷ [])
     ≡ Mapped (0x7F ∷ []) ∷ Unmapped 0x80 ∷ Unmapped 0xF77F ∷ Mapped (0x80 ∷ []) ∷ Mapped (0xFF ∷ []) ∷ Unmapped 0xF800 ∷ []
 writes_user_defined = refl
+
+-- What is written is read from the set in force: 5C in ASCII, in Roman and in JIS, where it is half a character. The
+-- other encodings have one set, and UTF-16 is read as the UTF-8 that is written for it.
+reads_from_sets : map (λ s. set_pieces_of tables Iso2022Jp s (0x5C ∷ [])) (Ascii ∷ Roman ∷ Jis ∷ [])
+    ≡ (well_formed 1 (0x5C ∷ []) ∷ []) ∷ (well_formed 1 (0xA5 ∷ []) ∷ []) ∷ (malformed 1 ∷ []) ∷ []
+unfolding pieces_in_mode pieces_in
+reads_from_sets = refl
+
+reads_pair_from_jis : set_pieces_of tables Iso2022Jp Jis (0x21 ∷ 0x21 ∷ []) ≡ well_formed 2 (0x11F ∷ []) ∷ []
+unfolding pieces_in_mode pieces_in tables list_of
+reads_pair_from_jis = refl
+
+reads_from_one_set : map (λ e. set_pieces_of tables e Jis (0xC3 ∷ 0xA9 ∷ [])) (Utf8 ∷ Utf16Be ∷ Utf16Le ∷ Replacement ∷ []) ≡ replicate 4 (well_formed 2 (0xE9 ∷ []) ∷ [])
+unfolding pieces_in
+reads_from_one_set = refl
+
+reads_user_defined_from_set : set_pieces_of tables XUserDefined Roman (0x80 ∷ []) ≡ well_formed 1 (0xF780 ∷ []) ∷ []
+unfolding pieces_in
+reads_user_defined_from_set = refl

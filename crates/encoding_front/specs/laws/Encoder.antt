@@ -1,8 +1,15 @@
 -- What holds of every encoder.
-use Rattle.std.proofs.Common.{◌≡◌, ◌<◌, refl, true, false, lit<}
+use Rattle.std.proofs.Common.{◌≡◌, ◌<◌, ℕ, Bool, List, refl, true, false, lit<}
+use Rattle.std.specs.Str.{all_scalars}
+use Rattle.encoding_mem.specs.Encoding.{Encodes}
+use Rattle.encoding_mem.specs.ReadCalls.{KeepsVerdict, NothingIsLost}
+use Rattle.encoding_mem.specs.laws.Verdict.{keeps_exact}
+use Rattle.encoding_mem.specs.declared.form.EscapeState.{EscapeState}
+use Rattle.encoding_mem.specs.declared.encoder_result.EncoderResult.{EncoderResult}
+use Rattle.encoding_front.specs.laws.Encodings.{one_set_of, reads_back_exactly, step_law_of}
 use Rattle.encoding_mem.specs.Coding.{IsCoding}
 use Rattle.encoding_mem.specs.laws.Utf8Coding.{utf8_coding_laws}
-use Rattle.encoding_tables.specs.IndexLists.{IndexLists, entries_of, rows_of}
+use Rattle.encoding_tables.specs.IndexLists.{AreAcceptedTables, IndexLists, entries_of, rows_of}
 use Rattle.encoding_tables.specs.laws.SingleByte.{single_byte_laws}
 use Rattle.encoding_tables.specs.laws.UserDefined.{user_defined_laws}
 use Rattle.encoding_tables.specs.declared.index_kind.IndexKind.{IndexKind}
@@ -12,7 +19,7 @@ use Rattle.encoding_codecs.specs.laws.EucJp.{euc_jp_laws}
 use Rattle.encoding_codecs.specs.laws.ShiftJis.{shift_jis_laws}
 use Rattle.encoding_codecs.specs.laws.Gb18030Coding.{gb18030_laws}
 use Rattle.encoding_codecs.specs.laws.Iso2022JpForms.{iso_2022_jp_laws}
-use Rattle.encoding_front.specs.Encodings.{coding_of, coding_of_codec_kind, need_of, need_of_codec_kind, output_encoding_of}
+use Rattle.encoding_front.specs.Encodings.{KeepsCharacters, coding_of, coding_of_codec_kind, need_of, need_of_codec_kind, output_encoding_of, pieces_of}
 use Rattle.encoding_front.specs.EncodingTable.{codec_kind_of}
 use Rattle.encoding_front.specs.declared.encoding.Encoding.{Encoding}
 use Rattle.encoding_front.specs.declared.encoding.Encoding.TheVariants.{Big5}
@@ -48,3 +55,10 @@ coding_of_codec_kind-laws t CodecKind.Replacement = utf8_coding_laws
 
 pub coding_laws : (t : IndexLists) (e : Encoding) → IsCoding (need_of e) (coding_of t e)
 coding_laws t e = coding_of_codec_kind-laws t (codec_kind_of (output_encoding_of e))
+
+-- where no two characters have the same bytes, a call that reports nothing keeps a true verdict
+pub kept_verdict : (t : IndexLists) (e : Encoding) → KeepsCharacters e → AreAcceptedTables t → (last : Bool) (outcome : EncoderResult) (s : EscapeState) (text w : List ℕ) (s' : EscapeState) (rest : List ℕ)
+    → all_scalars text ≡ true → Encodes (coding_of t e) last outcome s text w s' rest → NothingIsLost outcome
+    → KeepsVerdict (coding_of t e) last true (pieces_of t (output_encoding_of e)) s text true (pieces_of t (output_encoding_of e)) s' rest
+kept_verdict t e kept taken =
+    keeps_exact (coding_of t e) (pieces_of t (output_encoding_of e)) (coding_laws t e) (one_set_of t e kept) (reads_back_exactly t e kept taken) (step_law_of t e kept taken)

@@ -1,10 +1,13 @@
 -- What holds of a decoder that may still look for a mark.
-use Rattle.std.proofs.Common.{◌≡◌, ℕ, Bool, true, false, cond, IsTrue, Option, None, List, [], ◌++◌, refl, sym, ◌∙◌, ap}
+use Rattle.std.proofs.Common.{◌≡◌, ℕ, ◌≤◌, Bool, true, false, cond, IsTrue, Option, None, List, [], ◌++◌, refl, sym, subst, ◌∙◌, ap}
 use Rattle.std.proofs.lemmas.List.{append-nil}
+use Rattle.encoding_mem.specs.DecodedLength.{decoded_length}
 use Rattle.encoding_mem.specs.declared.room.DecodedLength.{DecodedLength}
+use Rattle.encoding_mem.specs.declared.room.OutputUnit.{OutputUnit}
 use Rattle.encoding_front.specs.Encodings.{decoded_length_of}
-use Rattle.encoding_front.specs.Seeking.{encoding_of_mark, find_mark, is_sought, mark_seen, mark_taken, room_after}
+use Rattle.encoding_front.specs.Seeking.{encoding_of_mark, find_mark, is_sought, mark_seen, mark_taken, room_after, room_widest}
 use Rattle.encoding_front.specs.Stream.{encoding_after}
+use Rattle.encoding_front.specs.laws.Seeking.{widest_encoding}
 use Rattle.encoding_front.specs.declared.encoding.Encoding.{Encoding}
 use Rattle.encoding_front.specs.declared.seeking.ByteOrderMark.{ByteOrderMark}
 use Rattle.encoding_front.specs.declared.seeking.ByteOrderMark.TheVariants.{Utf8, Utf16Be, Utf16Le}
@@ -42,3 +45,7 @@ room_after_is Utf16Le = refl
 pub room_named : (e : Encoding) (s : BomSet) (taken : Option ByteOrderMark) (held : List ℕ) (room : DecodedLength) → (IsTrue (is_sought s) → find_mark s held ≡ Prefix)
     → room ≡ decoded_length_of (encoding_after e taken) → room ≡ decoded_length_of (encoding_after e (mark_taken s taken (held ++ [])))
 room_named e s taken held room prefix is = is ∙ ap (λ (m : Option ByteOrderMark). decoded_length_of (encoding_after e m)) (sym (held_taken s taken held prefix))
+
+-- which is at most the widest
+pub widest_by : (room : DecodedLength) (e : Encoding) → room ≡ decoded_length_of e → (k : OutputUnit) (n : ℕ) → decoded_length room k n ≤ decoded_length room_widest k n
+widest_by room e is k n = subst (λ (r : DecodedLength). decoded_length r k n ≤ decoded_length room_widest k n) (sym is) (widest_encoding e k n)

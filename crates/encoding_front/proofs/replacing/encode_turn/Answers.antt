@@ -5,12 +5,14 @@ use Rattle.encoding_front.specs.Encoder.{kept_back, referred}
 use Rattle.encoding_front.proofs.EncoderCallLemmas.{behind_part, behind_put, nothing_referred, turned, unmappable_keeps}
 use Rattle.encoding_front.proofs.replacing.encode_turn.Goals as goal
 
-pub put_reference-requires : goal.put_reference-requires
-put_reference-requires g c =
+pub put_all-requires : goal.put_all-requires
+put_all-requires g c =
     let e = c.encode_source-result.ensures in
     let kept : kept_back c.args.encoder.now.encoding ≡ 10 = unmappable_keeps _ _ _ _ _ _ _ _ _ e.call c.in-Unmappable.is in
     let size : length c.encode_source-result.new.dst ≡ length (take c.args.end c.args.dst.now) = c.encode_source-result.auto.dst in
-    omega (arith, e.room, length-append c.encode_source-result.new.dst (drop c.args.end c.args.dst.now), length-drop c.args.end c.args.dst.now, length-take-le c.args.end c.args.dst.now (omega arith))
+    let put = c.write_reference-len in
+    let short = length-take-le put.result put.new.dst (omega (arith, put.ensures.fits, put.array_long)) in
+    omega (arith, short, put.ensures.fits, e.room, length-append c.encode_source-result.new.dst (drop c.args.end c.args.dst.now), length-drop c.args.end c.args.dst.now, length-take-le c.args.end c.args.dst.now (omega arith))
 
 pub returns-in_default-clause-behind : goal.returns-in_default-clause-behind
 returns-in_default-clause-behind g c =
@@ -20,7 +22,7 @@ returns-in_default-clause-behind g c =
 pub returns-in-Unmappable-clause-behind : goal.returns-in-Unmappable-clause-behind
 returns-in-Unmappable-clause-behind g c =
     let e = c.encode_source-result.ensures in
-    behind_put _ _ _ _ _ _ c.put_reference.ensures.end (behind_part _ _ _ _ (omega (arith, c.requires)) e.room c.encode_source-result.auto.dst e.behind) c.put_reference.ensures.behind
+    behind_put _ _ _ _ _ _ c.put_all.ensures.end (behind_part _ _ _ _ (omega (arith, c.requires)) e.room c.encode_source-result.auto.dst e.behind) c.put_all.ensures.back
 
 pub returns-in_default-clause-turn : goal.returns-in_default-clause-turn
 returns-in_default-clause-turn g c =
@@ -34,4 +36,4 @@ returns-in-Unmappable-clause-turn g c =
     let e = c.encode_source-result.ensures in
     let size : length c.encode_source-result.new.dst ≡ c.args.end = c.encode_source-result.auto.dst ∙ length-take-le c.args.end c.args.dst.now (omega (arith, c.requires)) in
     turned _ _ _ _ _ _ _ _ c.encode_source-result.result.1 _ _ (rw c.in-Unmappable.is at e.call) (length-take-le _ _ e.room) (omega (arith, e.room)) (ap (λ n. n - c.encode_source-result.result.1) size)
-    (c.put_reference.ensures.prefix ∙ ap (λ l. l ++ referred (Unmappable c.in-Unmappable.c)) (take-append-le _ _ _ e.room))
+    (c.put_all.ensures.prefix ∙ ap (λ l. take c.encode_source-result.result.1 (c.encode_source-result.new.dst ++ drop c.args.end c.args.dst.now) ++ l) c.write_reference-len.ensures.reference ∙ ap (λ l. l ++ referred (Unmappable c.in-Unmappable.c)) (take-append-le _ _ _ e.room))

@@ -1,16 +1,16 @@
 use Rattle.std.proofs.Common.{◌-◌, length, ap, refl, arith}
 use Rattle.encoding_mem.specs.declared.room.OutputUnit.TheVariants.{Units}
 use Rattle.encoding_front.specs.Seeking.{sought_needs}
-use Rattle.encoding_front.specs.contracts.variant_decoder.VariantDecoderSinkDecoder.TheImpl.{state-value}
+use Rattle.encoding_front.specs.VariantDecoders.{state_of}
 use Rattle.encoding_front.proofs.DecodedLengthLemmas.{asked_covers, asked_never_full_text}
 use Rattle.encoding_front.proofs.BomLemmas.{few_of}
 use Rattle.encoding_front.proofs.decoder.Decoder.decode_to_utf16.Goals as goal
 
 pub returns-clause-enough : goal.returns-clause-enough
 returns-clause-enough c =
-    let marked = c.args.self.now.marked in
-    let own = (state-value).it marked.inner in
+    let d = c.args.self.now in
+    let own = state_of d.inner in
     let call = c.decode_text_into-outcome in
-    λ n asked fits. asked_never_full_text (sought_needs marked.sought own.needs marked.held) Units c.args.last (length c.args.src.now) (length c.new-sink.result.units.now - c.new-sink.result.written) call.result.0 refl call.ensures.enough n
-    (asked_covers marked.sought own marked.held Units (length c.args.src.now) n (few_of (length marked.held) own.pending marked.few) asked)
+    λ n asked fits. asked_never_full_text (sought_needs d.sought own.needs d.held) Units c.args.last (length c.args.src.now) (length c.new-sink.result.units.now - c.new-sink.result.written) call.result.0 refl call.ensures.enough n
+    (asked_covers d.sought own d.held Units (length c.args.src.now) n (few_of (length d.held) own.pending d.few) asked)
     (omega (arith, ap length c.new-sink.ensures.units, c.new-sink.ensures.written, fits))

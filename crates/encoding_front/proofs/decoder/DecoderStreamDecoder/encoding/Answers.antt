@@ -5,10 +5,10 @@ use Rattle.encoding_front.proofs.decoder.DecoderStreamDecoder.encoding.Goals as 
 
 pub returns-in-Some : goal.returns-in-Some
 returns-in-Some c =
-    let marked = c.args.self.now.marked in
-    c.encoding.ensures ∙ ap (encoding_after c.args.self.now.encoding) (sym c.in-Some.is ∙ c.taken.ensures ∙ sym (held_taken marked.sought marked.taken marked.held marked.prefix))
+    let d = c.args.self.now in
+    c.encoding.ensures ∙ ap (encoding_after d.encoding) (sym c.in-Some.is ∙ sym (held_taken d.sought d.taken d.held d.prefix))
 
 pub returns-in-None : goal.returns-in-None
 returns-in-None c =
-    let marked = c.args.self.now.marked in
-    ap (encoding_after c.args.self.now.encoding) (sym c.in-None.is ∙ c.taken.ensures ∙ sym (held_taken marked.sought marked.taken marked.held marked.prefix))
+    let d = c.args.self.now in
+    ap (encoding_after d.encoding) (sym c.in-None.is ∙ sym (held_taken d.sought d.taken d.held d.prefix))

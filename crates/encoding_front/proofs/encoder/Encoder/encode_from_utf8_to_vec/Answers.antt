@@ -14,7 +14,7 @@ returns-clause-call c =
     let within : c.fill_spare-len.result ≤ length c.deref_mut.result.now = omega (arith, f.within, ap length c.deref_mut.ensures.value) in
     let room = spare _ ys _ _ within size (ap length c.deref_mut.ensures.value ∙ f.full) ∙ ap (λ n. vec_capacity c.args.dst.now - n) f.len in (
       take w ys,
-      c.truncate.ensures.items ∙ vec_written c.args.dst.now.items c.deref_mut.result.now ys _ c.fill_spare-len.result w _ within e.room size (sym c.deref_mut.ensures.len)
+      c.truncate.ensures.items ∙ vec_written c.args.dst.now.items c.deref_mut.result.now ys _ c.fill_spare-len.result w _ within e.wrote.room size (sym c.deref_mut.ensures.len)
           (ap (take c.fill_spare-len.result) c.deref_mut.ensures.value ∙ f.items),
       subst (λ n. Replaces c.args.self.now c.args.last c.encode_from_utf8-result.result.0 (chars c.args.src.now) (take w ys) c.encode_from_utf8-result.new.self (chars (drop c.encode_from_utf8-result.result.1 c.args.src.now)) c.encode_from_utf8-result.result.3 n) room e.call,
     )

@@ -15,7 +15,7 @@ returns-clause-call c =
     let within : c.fill_spare-len.result ≤ length c.deref_mut.result.now = omega (arith, f.within, ap length c.deref_mut.ensures.value) in
     let room = spare _ ys _ _ within size (ap length c.deref_mut.ensures.value ∙ f.full) ∙ ap (λ n. vec_capacity c.args.dst.now - n) f.len in (
       take w ys,
-      c.truncate.ensures.items ∙ vec_written c.args.dst.now.items c.deref_mut.result.now ys _ c.fill_spare-len.result w _ within e.room size (sym c.deref_mut.ensures.len)
+      c.truncate.ensures.items ∙ vec_written c.args.dst.now.items c.deref_mut.result.now ys _ c.fill_spare-len.result w _ within e.wrote.room size (sym c.deref_mut.ensures.len)
           (ap (take c.fill_spare-len.result) c.deref_mut.ensures.value ∙ f.items),
-      subst (λ n. Encoded c.args.self.now c.args.last c.encode_from_utf8_without_replacement-result.result.0 (chars c.args.src.now) (take w ys) c.encode_from_utf8_without_replacement-result.new.self (chars (drop c.encode_from_utf8_without_replacement-result.result.1 c.args.src.now)) n) (ap (λ n. n - w) room ∙ ap (λ n. vec_capacity c.args.dst.now - vec_len c.args.dst.now - n) (sym (length-take-le w ys e.room))) e.call,
+      subst (λ n. Encoded c.args.self.now c.args.last c.encode_from_utf8_without_replacement-result.result.0 (chars c.args.src.now) (take w ys) c.encode_from_utf8_without_replacement-result.new.self (chars (drop c.encode_from_utf8_without_replacement-result.result.1 c.args.src.now)) n) (ap (λ n. n - w) room ∙ ap (λ n. vec_capacity c.args.dst.now - vec_len c.args.dst.now - n) (sym (length-take-le w ys e.wrote.room))) e.call,
     )

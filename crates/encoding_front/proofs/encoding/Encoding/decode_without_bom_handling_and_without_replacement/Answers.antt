@@ -8,7 +8,7 @@ use Rattle.encoding_front.proofs.encoding.Encoding.decode_without_bom_handling_a
 pub returns-in-Malformed-clause-malformed : goal.returns-in-Malformed-clause-malformed
 returns-in-Malformed-clause-malformed c =
     let some = malformed_call (decoder.ghosts.view c.new_decoder_without_bom_handling-decoder.result) (decoder.ghosts.view c.decode_to_utf8_without_replacement-outcome.new.self) c.args.tables.now Keep c.args.self c.args.bytes.now
-    c.decode_to_utf8_without_replacement-outcome.result.0 _ _ c.decode_to_utf8_without_replacement-outcome.result.1 _ c.new_decoder_without_bom_handling-decoder.ensures.begins c.in-Malformed.is c.decode_to_utf8_without_replacement-outcome.ensures.law in
+    c.decode_to_utf8_without_replacement-outcome.result.0 _ _ c.decode_to_utf8_without_replacement-outcome.result.1 _ c.new_decoder_without_bom_handling-decoder.ensures.begins c.in-Malformed.is c.decode_to_utf8_without_replacement-outcome.ensures.call.law in
     (λ _. some, λ _. refl)
 
 pub from_utf8_unchecked-requires : goal.from_utf8_unchecked-requires
@@ -18,8 +18,8 @@ from_utf8_unchecked-requires c =
     let fits : length c.in_ok-text.text.items ≤ length c.deref_mut.result.now = omega (arith, ap length c.deref_mut.ensures.value) in
     let asked = sym c.max_utf8_buffer_length_without_replacement-room.ensures ∙ c.in_ok-text.ensures.len in
     let k = well_formed_call (decoder.ghosts.view c.new_decoder_without_bom_handling-decoder.result) (decoder.ghosts.view c.decode_to_utf8_without_replacement-outcome.new.self) c.args.tables.now Keep c.args.self c.args.bytes.now
-    c.deref_mut.result.now new c.decode_to_utf8_without_replacement-outcome.result.0 c.decode_to_utf8_without_replacement-outcome.result.1 c.decode_to_utf8_without_replacement-outcome.result.2 _ c.new_decoder_without_bom_handling-decoder.ensures.begins (e.enough _ asked fits) c.in_default.not-Malformed e.ends e.law in
-    let within : c.decode_to_utf8_without_replacement-outcome.result.2 ≤ length new = omega (arith, e.law.writes.within, c.decode_to_utf8_without_replacement-outcome.auto.dst) in
+    c.deref_mut.result.now new c.decode_to_utf8_without_replacement-outcome.result.0 c.decode_to_utf8_without_replacement-outcome.result.1 c.decode_to_utf8_without_replacement-outcome.result.2 _ c.new_decoder_without_bom_handling-decoder.ensures.begins (e.enough _ asked fits) c.in_default.not-Malformed e.call.ends e.call.law in
+    let within : c.decode_to_utf8_without_replacement-outcome.result.2 ≤ length new = omega (arith, e.call.law.writes.within, c.decode_to_utf8_without_replacement-outcome.auto.dst) in
     let wrote = c.truncate.ensures.items ∙ kept new _ c.in_ok-text.text.len c.decode_to_utf8_without_replacement-outcome.result.2 within (c.decode_to_utf8_without_replacement-outcome.auto.dst ∙ c.deref_mut.ensures.len) in
     subst IsUtf8 (sym wrote) k.utf8
 
@@ -30,10 +30,10 @@ returns-clause-text c =
     let fits : length c.in_ok-text.text.items ≤ length c.deref_mut.result.now = omega (arith, ap length c.deref_mut.ensures.value) in
     let asked = sym c.max_utf8_buffer_length_without_replacement-room.ensures ∙ c.in_ok-text.ensures.len in
     let k = well_formed_call (decoder.ghosts.view c.new_decoder_without_bom_handling-decoder.result) (decoder.ghosts.view c.decode_to_utf8_without_replacement-outcome.new.self) c.args.tables.now Keep c.args.self c.args.bytes.now
-    c.deref_mut.result.now new c.decode_to_utf8_without_replacement-outcome.result.0 c.decode_to_utf8_without_replacement-outcome.result.1 c.decode_to_utf8_without_replacement-outcome.result.2 _ c.new_decoder_without_bom_handling-decoder.ensures.begins (e.enough _ asked fits) c.in_default.not-Malformed e.ends e.law in
-    let within : c.decode_to_utf8_without_replacement-outcome.result.2 ≤ length new = omega (arith, e.law.writes.within, c.decode_to_utf8_without_replacement-outcome.auto.dst) in
+    c.deref_mut.result.now new c.decode_to_utf8_without_replacement-outcome.result.0 c.decode_to_utf8_without_replacement-outcome.result.1 c.decode_to_utf8_without_replacement-outcome.result.2 _ c.new_decoder_without_bom_handling-decoder.ensures.begins (e.enough _ asked fits) c.in_default.not-Malformed e.call.ends e.call.law in
+    let within : c.decode_to_utf8_without_replacement-outcome.result.2 ≤ length new = omega (arith, e.call.law.writes.within, c.decode_to_utf8_without_replacement-outcome.auto.dst) in
     let wrote = c.truncate.ensures.items ∙ kept new _ c.in_ok-text.text.len c.decode_to_utf8_without_replacement-outcome.result.2 within (c.decode_to_utf8_without_replacement-outcome.auto.dst ∙ c.deref_mut.ensures.len) in
-    ap (λ (v : Vec ℕ Global). v.items) c.from_utf8_unchecked.ensures.value ∙ wrote ∙ k.text_is
+    ap (λ (v : Vec ℕ Global). v.items) c.from_utf8_unchecked.ensures.value ∙ wrote ∙ k.decoded.bytes
 
 pub returns-clause-malformed : goal.returns-clause-malformed
 returns-clause-malformed c =
@@ -42,5 +42,5 @@ returns-clause-malformed c =
     let fits : length c.in_ok-text.text.items ≤ length c.deref_mut.result.now = omega (arith, ap length c.deref_mut.ensures.value) in
     let asked = sym c.max_utf8_buffer_length_without_replacement-room.ensures ∙ c.in_ok-text.ensures.len in
     let k = well_formed_call (decoder.ghosts.view c.new_decoder_without_bom_handling-decoder.result) (decoder.ghosts.view c.decode_to_utf8_without_replacement-outcome.new.self) c.args.tables.now Keep c.args.self c.args.bytes.now
-    c.deref_mut.result.now new c.decode_to_utf8_without_replacement-outcome.result.0 c.decode_to_utf8_without_replacement-outcome.result.1 c.decode_to_utf8_without_replacement-outcome.result.2 _ c.new_decoder_without_bom_handling-decoder.ensures.begins (e.enough _ asked fits) c.in_default.not-Malformed e.ends e.law in
-    (λ h. absurd (cc), λ some. absurd (cc (k.malformed_.1 some)))
+    c.deref_mut.result.now new c.decode_to_utf8_without_replacement-outcome.result.0 c.decode_to_utf8_without_replacement-outcome.result.1 c.decode_to_utf8_without_replacement-outcome.result.2 _ c.new_decoder_without_bom_handling-decoder.ensures.begins (e.enough _ asked fits) c.in_default.not-Malformed e.call.ends e.call.law in
+    (λ h. absurd (cc), λ some. absurd (cc (k.decoded.malformed_.1 some)))

@@ -30,7 +30,5 @@ text-preserved c =
           let asked =
           ap (λ (x : EncoderState). queried_with_kept x.encoding false (length c.text.rest.now)) c.text.invariant.passed.same
           ∙ ap (λ l. queried_with_kept c.new_encoder-encoder.result.encoding false (length l)) same ∙ none in
-          let refused = c.reserve_for.ensures.asked asked in
-          let taken = c.in_ok-reserve_for.was in
-          absurd (cc);
+          absurd (c.in_ok-reserve_for.ensures.fault asked);
     }

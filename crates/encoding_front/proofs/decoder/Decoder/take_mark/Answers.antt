@@ -1,17 +1,19 @@
 use Rattle.std.proofs.Common.{rules, arith, ◌≡◌, ℕ, ◌-◌, ◌++◌, List, length, true, false, sym, ◌∙◌, ap, subst, [], Some}
 use Rattle.encoding_front.specs.Seeking.{len_of, is_sought, find_mark, sought_pieces, sought_needs}
 use Rattle.encoding_front.specs.laws.Stream.{room_after_is}
+use Rattle.encoding_front.specs.Stream.{encoding_after}
 use Rattle.encoding_front.specs.TakesMark.{LeavesRoom}
+use Rattle.encoding_front.specs.VariantDecoders.{state_of}
 use Rattle.encoding_front.specs.declared.seeking.BomSet.{BomSet}
 use Rattle.encoding_front.specs.declared.seeking.BomMatch.TheVariants.{Prefix, Whole}
-use Rattle.encoding_front.proofs.BomLemmas.{waits_mark, takes_all, takes_none, takes_whole, other_is, ended_is, prefix_short, few_of, unmarked, untaken, taken_whole, taken_other, taken_ended, leaves_whole, leaves_all, leaves_none}
-use Rattle.encoding_front.proofs.bom_decoder.BomDecoder.take_mark.Goals as goal
-use Rattle.encoding_front.proofs.bom_decoder.BomDecoder.take_mark.Goals.{in_default-via-in-Prefix+else-not-last, in_default-via-in_default}
+use Rattle.encoding_front.proofs.BomLemmas.{waits_mark, takes_all, takes_none, takes_whole, other_is, ended_is, prefix_short, few_of, unmarked, untaken, taken_whole, taken_other, taken_ended, taken_prefix, leaves_whole, leaves_all, leaves_none}
+use Rattle.encoding_front.proofs.decoder.Decoder.take_mark.Goals as goal
+use Rattle.encoding_front.proofs.decoder.Decoder.take_mark.Goals.{in_default-via-in-Prefix+else-not-last, in_default-via-in_default}
 
 pub returns-in-Prefix-clause-takes : goal.returns-in-Prefix-clause-takes
-returns-in-Prefix-clause-takes g c =
+returns-in-Prefix-clause-takes c =
     let d = c.args.self.now in
-    let own = g.D.SinkDecoder.state d.inner in
+    let own = state_of d.inner in
     let window = c.prefix_of-window.result in
     let e : is_sought d.sought ≡ true = search rules in
     let more : c.args.last ≡ false = search rules in
@@ -22,36 +24,41 @@ returns-in-Prefix-clause-takes g c =
       leaves_all d.sought own.needs d.held c.args.src.now window c.prefix_of-window.ensures (prefix_short d.sought window e f),
     )
 
-pub returns-in-Whole-clause-takes : goal.returns-in-Whole-clause-takes
-returns-in-Whole-clause-takes g c =
+pub returns-in-Prefix-clause-source : goal.returns-in-Prefix-clause-source
+returns-in-Prefix-clause-source c =
     let d = c.args.self.now in
-    let own = g.D.SinkDecoder.state d.inner in
-    let after = g.D.SinkDecoder.state c.after_mark.result in
+    let window = c.prefix_of-window.result in
+    let e : is_sought d.sought ≡ true = search rules in
+    let f : find_mark d.sought window ≡ Prefix = ap (find_mark d.sought) (sym c.as_slice.ensures) ∙ sym c.find_mark.ensures ∙ c.in-Prefix.is in
+    λ r h. ap (encoding_after d.encoding) (taken_prefix d.sought d.taken d.held c.args.src.now window r e c.prefix_of-window.ensures f)
+
+pub returns-in-Whole-clause-takes : goal.returns-in-Whole-clause-takes
+returns-in-Whole-clause-takes c =
+    let d = c.args.self.now in
+    let own = state_of d.inner in
+    let after = state_of c.after_mark-self.result in
     let window = c.prefix_of-window.result in
     let e : is_sought d.sought ≡ true = search rules in
     let f : find_mark d.sought window ≡ Whole c.in-Whole.mark = ap (find_mark d.sought) (sym c.as_slice.ensures) ∙ sym c.find_mark.ensures ∙ c.in-Whole.is in
     let size : c.len.result - c.len-in-Whole.result ≡ len_of c.in-Whole.mark - length d.held = omega (arith, c.len.ensures, c.len-in-Whole.ensures.exact) in
     let few = few_of (length d.held) own.pending d.few in (
       c.nothing-self.ensures,
-      takes_whole d.sought own after (λ x. sought_pieces c.nothing-self.result after.pieces x) d.held c.args.src.now window c.new-self.result c.args.last c.in-Whole.mark _ e (d.fresh e) few c.prefix_of-window.ensures f (λ x. unmarked c.nothing-self.result after.pieces x (ap is_sought c.nothing-self.ensures)) c.after_mark.ensures.pieces c.after_mark.ensures.pending c.new-self.ensures size,
-      subst (λ (s : BomSet). LeavesRoom (sought_needs d.sought own.needs d.held) (sought_needs s after.needs c.new-self.result) (c.len.result - c.len-in-Whole.result)) (sym c.nothing-self.ensures) (leaves_whole d.sought own.needs after d.held c.args.src.now window c.new-self.result c.in-Whole.mark _ few c.prefix_of-window.ensures f c.after_mark.ensures.pending c.after_mark.ensures.room c.new-self.ensures size),
+      takes_whole d.sought own after (λ x. sought_pieces c.nothing-self.result after.pieces x) d.held c.args.src.now window c.new-self.result c.args.last c.in-Whole.mark _ e (d.fresh e) few c.prefix_of-window.ensures f (λ x. unmarked c.nothing-self.result after.pieces x (ap is_sought c.nothing-self.ensures)) c.after_mark-self.ensures.pieces c.after_mark-self.ensures.pending c.new-self.ensures size,
+      subst (λ (s : BomSet). LeavesRoom (sought_needs d.sought own.needs d.held) (sought_needs s after.needs c.new-self.result) (c.len.result - c.len-in-Whole.result)) (sym c.nothing-self.ensures) (leaves_whole d.sought own.needs after d.held c.args.src.now window c.new-self.result c.in-Whole.mark _ few c.prefix_of-window.ensures f c.after_mark-self.ensures.pending (c.after_mark-self.ensures.room ∙ sym (room_after_is c.in-Whole.mark)) c.new-self.ensures size),
     )
 
-pub returns-in-Whole-clause-taken : goal.returns-in-Whole-clause-taken
-returns-in-Whole-clause-taken g c =
+pub returns-in-Whole-clause-source : goal.returns-in-Whole-clause-source
+returns-in-Whole-clause-source c =
     let d = c.args.self.now in
     let window = c.prefix_of-window.result in
     let e : is_sought d.sought ≡ true = search rules in
     let f : find_mark d.sought window ≡ Whole c.in-Whole.mark = ap (find_mark d.sought) (sym c.as_slice.ensures) ∙ sym c.find_mark.ensures ∙ c.in-Whole.is in
-    λ r h. taken_whole d.sought d.taken d.held c.args.src.now window r c.in-Whole.mark e c.prefix_of-window.ensures f ∙ sym (untaken c.nothing-self.result (Some c.in-Whole.mark) (c.new-self.result ++ r) (ap is_sought c.nothing-self.ensures))
-
-pub returns-in-Whole-clause-room : goal.returns-in-Whole-clause-room
-returns-in-Whole-clause-room g c = λ e was. c.after_mark.ensures.room ∙ room_after_is c.in-Whole.mark
+    λ r h. ap (encoding_after d.encoding) (taken_whole d.sought d.taken d.held c.args.src.now window r c.in-Whole.mark e c.prefix_of-window.ensures f ∙ sym (untaken c.nothing-self.result (Some c.in-Whole.mark) (c.new-self.result ++ r) (ap is_sought c.nothing-self.ensures)))
 
 pub returns-in_default-clause-takes : goal.returns-in_default-clause-takes
-returns-in_default-clause-takes g c =
+returns-in_default-clause-takes c =
     let d = c.args.self.now in
-    let own = g.D.SinkDecoder.state d.inner in
+    let own = state_of d.inner in
     let window = c.prefix_of-window.result in
     let e : is_sought d.sought ≡ true = search rules in
     let shown = ap (find_mark d.sought) (sym c.as_slice.ensures) ∙ sym c.find_mark.ensures in
@@ -66,8 +73,8 @@ returns-in_default-clause-takes g c =
       subst (λ (s : BomSet). LeavesRoom (sought_needs d.sought own.needs d.held) (sought_needs s own.needs d.held) 0) (sym c.nothing-self-in_default.ensures) (leaves_none d.sought own.needs d.held),
     )
 
-pub returns-in_default-clause-taken : goal.returns-in_default-clause-taken
-returns-in_default-clause-taken g c =
+pub returns-in_default-clause-source : goal.returns-in_default-clause-source
+returns-in_default-clause-source c =
     let d = c.args.self.now in
     let window = c.prefix_of-window.result in
     let e : is_sought d.sought ≡ true = search rules in
@@ -75,6 +82,6 @@ returns-in_default-clause-taken g c =
     let now = c.nothing-self-in_default.result in
     let settled : is_sought now ≡ false = ap is_sought c.nothing-self-in_default.ensures in
     elim c.in_default.branch [
-      | in_default-via-in-Prefix+else-not-last w ↦ (let ended : c.args.last ≡ true = search rules in λ r h. taken_ended d.sought d.taken d.held c.args.src.now window r e c.prefix_of-window.ensures (shown ∙ w.in-Prefix.is) (h ended) ∙ sym (untaken now d.taken (d.held ++ r) settled))
-      | in_default-via-in_default w ↦ λ r h. taken_other d.sought d.taken d.held c.args.src.now window r e c.prefix_of-window.ensures (shown ∙ w.in_default.is) ∙ sym (untaken now d.taken (d.held ++ r) settled)
+      | in_default-via-in-Prefix+else-not-last w ↦ (let ended : c.args.last ≡ true = search rules in λ r h. ap (encoding_after d.encoding) (taken_ended d.sought d.taken d.held c.args.src.now window r e c.prefix_of-window.ensures (shown ∙ w.in-Prefix.is) (h ended) ∙ sym (untaken now d.taken (d.held ++ r) settled)))
+      | in_default-via-in_default w ↦ λ r h. ap (encoding_after d.encoding) (taken_other d.sought d.taken d.held c.args.src.now window r e c.prefix_of-window.ensures (shown ∙ w.in_default.is) ∙ sym (untaken now d.taken (d.held ++ r) settled))
     ]
