@@ -1,5 +1,6 @@
 -- Laws over whole inputs.
-use Rattle.std.proofs.Common.{◌≡◌, ℕ, ◌<◌, ◌↔◌, List, [], ◌++◌, length, sym, ◌∙◌, ap, subst, arith, append_assoc, append-nil, encode_utf8_all, Option, None, Some, length-append}
+use Rattle.std.proofs.Common.{◌≡◌, ℕ, ◌<◌, ◌↔◌, List, [], ◌++◌, length, sym, ◌∙◌, ap, subst, arith, append_assoc, append-nil, encode_utf8_all, Bool, true, Option, None, Some, length-append}
+use Rattle.std.specs.Io.KnownBytes.{Consumes, IsAtEnd}
 use Rattle.std.specs.List.{flat_map}
 use Rattle.std.specs.Str.{chars, IsUtf8}
 use Rattle.std.proofs.lemmas.Str.{encodes-chars}
@@ -17,10 +18,11 @@ use Rattle.encoding_mem.specs.Utf8.{first_piece_utf8, pieces_utf8}
 use Rattle.encoding_mem.specs.laws.Utf8.{pieces_utf8-text}
 use Rattle.encoding_mem.specs.laws.Pieces.{pieces_by-nil}
 use Rattle.recode_log.specs.Line.{line_bytes}
-use Rattle.recode.specs.TaggedByte.{tagged}
+use Rattle.recode.specs.TaggedByte.{IsPrefix, tagged}
 use Rattle.recode.specs.Job.{IsValidJob, Faithful, input_pieces, input_text, target_of, output_of, log_of, trace}
 use Rattle.recode.specs.Session.{Completes, Fails, IsConverted}
 use Rattle.recode.specs.Step.{WrotePrefix}
+use Rattle.recode.specs.Streams.{Streams}
 use Rattle.recode.specs.declared.fault.Fault.{Fault}
 use Rattle.recode.specs.declared.job.Job.{Job}
 use Rattle.recode.specs.declared.report.Report.{Report}
@@ -52,19 +54,29 @@ kept_log j x kept from to u =
     ap (flat_map line_bytes) (no_lines (target_of j) 0 0 (input_pieces j x) well_formed_text mapped)
 
 -- A reader that tells its bytes.
-pub known_completes : (x : List ℕ) (r w w' l l' : Option (List ℕ)) (j : Job) (p : Report) → Completes (Some x) r w w' l l' j p → IsConverted w w' l l' j x p
-known_completes x None w w' l l' j p k = absurd k.consumed
-known_completes x (Some y) w w' l l' j p k =
-    let whole : k.input ≡ x = sym (k.consumed ∙ ap (λ t. k.input ++ t) k.end ∙ append-nil k.input) in
-    subst (λ t. IsConverted w w' l l' j t p) whole (record { within = k.within; wrote = k.wrote; output = k.output; logged = k.logged; report = k.report })
+pub known_completes : (x : List ℕ) (s t : Streams) (j : Job) (p : Report) → s.input ≡ Some x → Completes s t j p → IsConverted s.written t.written j x p
+known_completes x s t j p is k =
+    subst (λ y. IsConverted s.written t.written j y p) (whole_input x t.input k.input (subst (λ y. Consumes y t.input k.input) is k.consumed) k.end)
+    (record { within = k.within; wrote = k.wrote; output = k.output; logged = k.logged; report = k.report })
+  where
+    whole_input : (x : List ℕ) (after : Option (List ℕ)) (input : List ℕ) → Consumes (Some x) after input → IsAtEnd after → input ≡ x
+    whole_input x None input consumed end = absurd consumed
+    whole_input x (Some y) input consumed end = sym (consumed ∙ ap (λ t. input ++ t) end ∙ append-nil input)
 
-pub known_fails : (x : List ℕ) (r w w' l l' : Option (List ℕ)) (j : Job) (f : Fault) → Fails (Some x) r w w' l l' j f → WrotePrefix w w' l l' (trace j x)
-known_fails x None w w' l l' j f k = absurd k.consumed
-known_fails x (Some y) w w' l l' j f k =
-    let whole : x ≡ k.input ++ (k.refused ++ y) = k.consumed ∙ append_assoc k.input k.refused y in
-    let prefix = k.prefix (k.refused ++ y) (λ h. ap (λ t. t ++ y) (k.none h) ∙ k.end h) in
-    record { taken = k.taken; wrote = k.wrote; prefix = (prefix.0, ap (λ t. tagged (trace j t)) whole ∙ prefix.1) }
+pub known_fails : (x : List ℕ) (s t : Streams) (j : Job) (f : Fault) → s.input ≡ Some x → Fails s t j f → WrotePrefix s.written t.written (trace j x)
+known_fails x s t j f is k = prefix_of x t.input k.input k.refused k.ended (subst (λ y. Consumes y t.input (k.input ++ k.refused)) is k.consumed) k.end k.none (λ r h. k.prefix r h)
+  where
+    prefix_of : (x : List ℕ) (after : Option (List ℕ)) (input refused : List ℕ) (ended : Bool) → Consumes (Some x) after (input ++ refused) → (ended ≡ true → IsAtEnd after) → (ended ≡ true → refused ≡ [])
+        → ((r : List ℕ) → (ended ≡ true → r ≡ []) → IsPrefix k.taken (tagged (trace j (input ++ r)))) → WrotePrefix s.written t.written (trace j x)
+    prefix_of x None input refused ended consumed end none prefixes = absurd consumed
+    prefix_of x (Some y) input refused ended consumed end none prefixes =
+        let whole : x ≡ input ++ (refused ++ y) = consumed ∙ append_assoc input refused y in
+        let prefix = prefixes (refused ++ y) (λ h. ap (λ t. t ++ y) (none h) ∙ end h) in
+        record { taken = k.taken; wrote = k.wrote; prefix = (prefix.0, ap (λ t. tagged (trace j t)) whole ∙ prefix.1) }
 
-pub known_too_long : (x : List ℕ) (r w w' l l' : Option (List ℕ)) (j : Job) → Fails (Some x) r w w' l l' j Fault.TooLong → j.limit < length x
-known_too_long x None w w' l l' j k = absurd k.consumed
-known_too_long x (Some y) w w' l l' j k = omega (arith, ap length k.consumed, length-append (k.input ++ k.refused) y, k.limited)
+pub known_too_long : (x : List ℕ) (s t : Streams) (j : Job) → s.input ≡ Some x → Fails s t j Fault.TooLong → j.limit < length x
+known_too_long x s t j is k = past x t.input (k.input ++ k.refused) (subst (λ y. Consumes y t.input (k.input ++ k.refused)) is k.consumed) k.limited
+  where
+    past : (x : List ℕ) (after : Option (List ℕ)) (bytes : List ℕ) → Consumes (Some x) after bytes → j.limit < length bytes → j.limit < length x
+    past x None bytes consumed limited = absurd consumed
+    past x (Some y) bytes consumed limited = omega (arith, ap length consumed, length-append bytes y, limited)

@@ -1,5 +1,5 @@
 -- What was taken while the input goes on, and what that says of the output and the log.
-use Rattle.std.proofs.Common.{◌≡◌, ◌⊎◌, ℕ, suc, ◌+◌, ◌-◌, ◌≤◌, Bool, false, List, [], ◌∷◌, ◌++◌, length, drop, Option, Some, refl, sym, ◌∙◌, ap, subst, arith, append_assoc, length-append, add-zero, inl, inr}
+use Rattle.std.proofs.Common.{◌≡◌, ◌⊎◌, ℕ, suc, ◌+◌, ◌-◌, ◌≤◌, ◌<◌, Bool, true, false, List, [], ◌∷◌, ◌++◌, length, drop, Some, refl, sym, ◌∙◌, ap, subst, arith, append_assoc, length-append, add-zero, inl, inr}
 use Rattle.std.specs.Io.KnownBytes.{Appends, Consumes}
 use Rattle.std.specs.List.{flat_map}
 use Rattle.std.proofs.KnownBytes.{Appends-nil, Appends-trans, Consumes-nil, Consumes-trans}
@@ -17,7 +17,10 @@ use Rattle.recode_log.specs.Line.{line_bytes}
 use Rattle.recode_log.specs.declared.line.LogLine.{LogLine}
 use Rattle.recode_log.specs.declared.line.LogLine.TheVariants.{Bad}
 use Rattle.recode.specs.Job.{input_pieces, log_lines, lost_in, target_of}
-use Rattle.recode.specs.Latency.{Advances, IsNearlyDecided, ConvertsDecided, StandsAt, StepsOn}
+use Rattle.recode.specs.Latency.{StandsAt}
+use Rattle.recode.specs.State.{State, to_write}
+use Rattle.recode.specs.Step.{Advances, IsNearlyDecided, StepsOn}
+use Rattle.recode.specs.Streams.{Streams}
 use Rattle.recode.specs.TaggedByte.{IsPrefix, lines, tagged, outputs}
 use Rattle.recode.specs.TraceToWrite.{AreSound, trace_to_write}
 use Rattle.recode.specs.WrittenItems.{WritesItemsFor}
@@ -136,66 +139,85 @@ module _ (e : Coding) (s s1 : EscapeState) (offset i offset1 i1 : ℕ) (taken qs
 taken_sizes : (d d1 : DecoderState) (chunk : List ℕ) (taken : List Piece) → d.pieces (chunk ++ []) ≡ taken ++ d1.pieces [] → sizes taken + d1.pending ≡ d.pending + length chunk
 taken_sizes d d1 chunk taken is = omega (arith, d.whole (chunk ++ []), d1.whole [], ap sizes is, sizes-append taken (d1.pieces []), length-append {A = ℕ} chunk [])
 
-pub settles : (a b w w1 l l1 : Option (List ℕ)) (d d1 : DecoderState) (e : Coding) (s s1 : EscapeState) (c c1 : Counts) (chunk : List ℕ) (last : Bool)
-    → Consumes a b chunk → c1.read ≡ c.read + length chunk → AreSound d.pending c
-    → WritesItemsFor w w1 l l1 c c1 last (λ r. trace_to_write d e s c (chunk ++ r)) (λ r. trace_to_write d1 e s1 c1 r)
-    → Advances (λ r. d.pieces (chunk ++ r)) d1.pieces e s s1 c c1 → IsNearlyDecided d1 → ConvertsDecided a b w w1 l l1 d d1 e s s1 c c1
-settles a b w w1 l l1 d d1 e s s1 c c1 chunk last read_in counted sound pays p settled =
-    let offset = c.read - d.pending in
-    let offset1 = c1.read - d1.pending in
-    let qs = d1.pieces [] in
-    let offset_is : offset1 ≡ offset + sizes p.taken = omega (arith, taken_sizes d d1 chunk p.taken (p.rest []), counted, sound.index) in
-    let is : trace_from Decimal e s offset c.index (p.taken ++ qs) ≡ pays.written_items ++ trace_from Decimal e s1 offset1 c1.index qs =
-    ap (trace_from Decimal e s offset c.index) (sym (p.rest [])) ∙ pays.equals [] (λ _. refl) in
+-- the clause of a step that goes on
+pub steps_on : (before after : Streams) (limit : ℕ) (s s1 : State) (chunk : List ℕ) (last : Bool)
+    → Consumes before.input after.input chunk → s1.counts.read ≡ s.counts.read + length chunk → 0 < length chunk → s1.counts.read ≤ limit → s1.coding ≡ s.coding → AreSound s.decoder.pending s.counts
+    → last ≡ false → ((r : List ℕ) → (last ≡ true → r ≡ []) → s.source (chunk ++ r) ≡ s1.source r)
+    → WritesItemsFor before.written after.written s.counts s1.counts last (λ r. to_write s (chunk ++ r)) (λ r. trace_to_write s1.decoder s.coding s1.set s1.counts r)
+    → Advances (λ r. s.decoder.pieces (chunk ++ r)) s1.decoder.pieces s.coding s.set s1.set s.counts s1.counts → IsNearlyDecided s1.decoder → StepsOn before after limit s s1
+steps_on before after limit s s1 chunk last read_in counted some within target sound goes_on same pays p settled =
+    let e = s.coding in
+    let offset = s.counts.read - s.decoder.pending in
+    let offset1 = s1.counts.read - s1.decoder.pending in
+    let i = s.counts.index in
+    let i1 = s1.counts.index in
+    let qs = s1.decoder.pieces [] in
+    let offset_is : offset1 ≡ offset + sizes p.taken = omega (arith, taken_sizes s.decoder s1.decoder chunk p.taken (p.rest []), counted, sound.index) in
+    let is : trace_from Decimal e s.set offset i (p.taken ++ qs) ≡ pays.written_items ++ trace_from Decimal e s1.set offset1 i1 qs =
+    ap (trace_from Decimal e s.set offset i) (sym (p.rest [])) ∙ pays.equals [] (λ _. refl) in
+    let none : (r : List ℕ) → last ≡ true → r ≡ [] = λ r h. absurd (false≢true (sym goes_on ∙ h)) in
     record {
       chunk = chunk;
       consumed = read_in;
       counted = counted;
+      grows = omega (arith, counted, some);
+      within = within;
+      target = target;
+      source = λ r. same r (none r);
+      pays = record {
+        written_items = pays.written_items;
+        wrote = pays.wrote;
+        counted = pays.counted;
+        equals = λ r h. pays.equals r (none r) ∙ ap (λ (q : Coding). pays.written_items ++ trace_to_write s1.decoder q s1.set s1.counts r) (sym target);
+      };
       advances = p;
-      output = subst (Appends w w1) (paid_output e s s1 offset c.index offset1 c1.index p.taken qs pays.written_items p.set offset_is p.index is) pays.wrote.output;
-      logged = subst (Appends l l1) (paid_lines e s s1 offset c.index offset1 c1.index p.taken qs pays.written_items p.set offset_is p.index is) pays.wrote.lined;
+      output = subst (Appends before.written.output after.written.output) (paid_output e s.set s1.set offset i offset1 i1 p.taken qs pays.written_items p.set offset_is p.index is) pays.wrote.output;
+      logged = subst (Appends before.written.log after.written.log) (paid_lines e s.set s1.set offset i offset1 i1 p.taken qs pays.written_items p.set offset_is p.index is) pays.wrote.lined;
       settled = settled;
     }
 
 -- A session that has read nothing, and one that steps on.
-pub stands_first : (r w l : Option (List ℕ)) (j : Job) (v : View) → IsNewSession v j → StandsAt r r w w l l j v [] []
-stands_first r w l j v b = record {
+pub stands_first : (t : Streams) (j : Job) (v : View) → IsNewSession v j → StandsAt t t j v.state [] []
+stands_first t j v b = record {
   coding = b.coding;
   read = b.read;
-  consumed = Consumes-nil r;
+  consumed = Consumes-nil t.input;
   pieces = λ y. sym (b.pieces y);
   passed = omega (arith, b.pending);
   set = b.set;
   index = b.index;
-  output = Appends-nil w;
-  logged = Appends-nil l;
+  output = Appends-nil t.written.output;
+  logged = Appends-nil t.written.log;
 }
 
-pub stands_on : (r r1 r2 w w1 w2 l l1 l2 : Option (List ℕ)) (j : Job) (v v1 : View) (x : List ℕ) (ps : List Piece)
-    → StandsAt r r1 w w1 l l1 j v x ps → (p : StepsOn r1 r2 w1 w2 l1 l2 v v1) → StandsAt r r2 w w2 l l2 j v1 (x ++ p.settles.chunk) (ps ++ p.settles.advances.taken)
-stands_on r r1 r2 w w1 w2 l l1 l2 j v v1 x ps k p =
+pub stands_on : (t t1 t2 : Streams) (j : Job) (limit : ℕ) (s s1 : State) (x : List ℕ) (ps : List Piece)
+    → StandsAt t t1 j s x ps → (p : StepsOn t1 t2 limit s s1) → StandsAt t t2 j s1 (x ++ p.chunk) (ps ++ p.advances.taken)
+stands_on t t1 t2 j limit s s1 x ps k p =
     let e = target_of j in
-    let chunk : List ℕ = p.settles.chunk in
-    let taken : List Piece = p.settles.advances.taken in
+    let chunk : List ℕ = p.chunk in
+    let taken : List Piece = p.advances.taken in
     let joined : text (ps ++ taken) ≡ text ps ++ text taken = text-append ps taken in
-    let coded : v.coding ≡ e = k.coding in
-    let offset : v.counts.read - v.decoder.pending ≡ 0 + sizes ps = omega (arith, k.read, k.passed) in
-    let index : v.counts.index ≡ 0 + length (text ps) = omega (arith, k.index) in
-    let more : Appends w1 w2 (open_from Decimal e (last_set e Ascii (text ps)) (text taken)) =
-    subst (λ (q : EscapeState). Appends w1 w2 (open_from Decimal e q (text taken))) k.set (subst (λ (q : Coding). Appends w1 w2 (open_from Decimal q v.set (text taken))) coded p.settles.output) in
-    let lined : Appends l1 l2 (flat_map line_bytes (log_lines e (v.counts.read - v.decoder.pending) v.counts.index taken)) =
-    subst (λ (q : Coding). Appends l1 l2 (flat_map line_bytes (log_lines q (v.counts.read - v.decoder.pending) v.counts.index taken))) coded p.settles.logged in
+    let coded : s.coding ≡ e = k.coding in
+    let offset : s.counts.read - s.decoder.pending ≡ 0 + sizes ps = omega (arith, k.read, k.passed) in
+    let index : s.counts.index ≡ 0 + length (text ps) = omega (arith, k.index) in
+    let more : Appends t1.written.output t2.written.output (open_from Decimal e (last_set e Ascii (text ps)) (text taken)) =
+    subst (λ (q : EscapeState). Appends t1.written.output t2.written.output (open_from Decimal e q (text taken))) k.set
+    (subst (λ (q : Coding). Appends t1.written.output t2.written.output (open_from Decimal q s.set (text taken))) coded p.output) in
+    let lined : Appends t1.written.log t2.written.log (flat_map line_bytes (log_lines e (s.counts.read - s.decoder.pending) s.counts.index taken)) =
+    subst (λ (q : Coding). Appends t1.written.log t2.written.log (flat_map line_bytes (log_lines q (s.counts.read - s.decoder.pending) s.counts.index taken))) coded p.logged in
     record {
-      coding = p.coding ∙ coded;
-      read = omega (arith, k.read, p.settles.counted, length-append x chunk);
-      consumed = Consumes-trans r r1 r2 x chunk k.consumed p.settles.consumed;
-      pieces = λ y. ap (input_pieces j) (append_assoc x chunk y) ∙ k.pieces (chunk ++ y) ∙ ap (λ q. ps ++ q) (p.settles.advances.rest y) ∙ sym (append_assoc ps taken (v1.decoder.pieces y));
-      passed = omega (arith, k.passed, taken_sizes v.decoder v1.decoder chunk taken (p.settles.advances.rest []), sizes-append ps taken, length-append x chunk);
-      set = p.settles.advances.set ∙ ap (λ (q : Coding). last_set q v.set (text taken)) coded ∙ ap (λ (q : EscapeState). last_set e q (text taken)) k.set
+      coding = p.target ∙ coded;
+      read = omega (arith, k.read, p.counted, length-append x chunk);
+      consumed = Consumes-trans t.input t1.input t2.input x chunk k.consumed p.consumed;
+      pieces = λ y. ap (input_pieces j) (append_assoc x chunk y) ∙ k.pieces (chunk ++ y) ∙ ap (λ q. ps ++ q) (p.advances.rest y) ∙ sym (append_assoc ps taken (s1.decoder.pieces y));
+      passed = omega (arith, k.passed, taken_sizes s.decoder s1.decoder chunk taken (p.advances.rest []), sizes-append ps taken, length-append x chunk);
+      set = p.advances.set ∙ ap (λ (q : Coding). last_set q s.set (text taken)) coded ∙ ap (λ (q : EscapeState). last_set e q (text taken)) k.set
           ∙ sym (last_set-append e Ascii (text ps) (text taken)) ∙ ap (last_set e Ascii) (sym joined);
-      index = omega (arith, k.index, p.settles.advances.index, ap length joined, length-append (text ps) (text taken));
-      output = subst (Appends w w2) (sym (open_from-append e Ascii (text ps) (text taken)) ∙ ap (open_from Decimal e Ascii) (sym joined)) (Appends-trans w w1 w2 _ _ k.output more);
-      logged = subst (Appends l l2) (sym (log_bytes-append e 0 0 (v.counts.read - v.decoder.pending) v.counts.index ps taken offset index)) (Appends-trans l l1 l2 _ _ k.logged lined);
+      index = omega (arith, k.index, p.advances.index, ap length joined, length-append (text ps) (text taken));
+      output = subst (Appends t.written.output t2.written.output) (sym (open_from-append e Ascii (text ps) (text taken)) ∙ ap (open_from Decimal e Ascii) (sym joined))
+          (Appends-trans t.written.output t1.written.output t2.written.output _ _ k.output more);
+      logged = subst (Appends t.written.log t2.written.log) (sym (log_bytes-append e 0 0 (s.counts.read - s.decoder.pending) s.counts.index ps taken offset index))
+          (Appends-trans t.written.log t1.written.log t2.written.log _ _ k.logged lined);
     }
 
 -- Of two prefixes of one list one is a prefix of the other.
@@ -212,8 +234,8 @@ prefixes (q ∷ a) b (p ∷ c) d e =
       | inr m ↦ inr (m.0, m.1, ap (λ l. p ∷ l) m.2 ∙ ap (λ x. x ∷ (a ++ (m.0 ∷ m.1))) (sym same), m.3)
     ]
 
-pub decided : (r r1 w w1 l l1 : Option (List ℕ)) (j : Job) (v : View) (x : List ℕ) (ps : List Piece) → StandsAt r r1 w w1 l l1 j v x ps → IsDecided (input_pieces j) x ps
-decided r r1 w w1 l l1 j v x ps k y = (v.decoder.pieces y, k.pieces y)
+pub decided : (t t1 : Streams) (j : Job) (s : State) (x : List ℕ) (ps : List Piece) → StandsAt t t1 j s x ps → IsDecided (input_pieces j) x ps
+decided t t1 j s x ps k y = (s.decoder.pieces y, k.pieces y)
 
 begins_with : (d : List Piece) (p : Piece) (more : List Piece) → d ≡ p ∷ more → first d ≡ Some p
 begins_with d p more e = ap first e
@@ -244,20 +266,20 @@ none_more d a qs settled h =
       ]
     ]
 
-pub longest : (r r1 w w1 l l1 : Option (List ℕ)) (j : Job) (v : View) (x : List ℕ) (ps qs : List Piece)
-    → StandsAt r r1 w w1 l l1 j v x ps → IsNearlyDecided v.decoder → IsDecided (input_pieces j) x qs → IsPrefix qs ps
-longest r r1 w w1 l l1 j v x ps qs k settled h = none_more v.decoder ps qs settled (λ y. let f = h y in (f.0, sym (k.pieces y) ∙ f.1))
+pub longest : (t t1 : Streams) (j : Job) (s : State) (x : List ℕ) (ps qs : List Piece)
+    → StandsAt t t1 j s x ps → IsNearlyDecided s.decoder → IsDecided (input_pieces j) x qs → IsPrefix qs ps
+longest t t1 j s x ps qs k settled h = none_more s.decoder ps qs settled (λ y. let f = h y in (f.0, sym (k.pieces y) ∙ f.1))
 
-pub soon : (r r1 w w1 l l1 : Option (List ℕ)) (j : Job) (v : View) (x y : List ℕ) (ps qs more : List Piece)
-    → StandsAt r r1 w w1 l l1 j v x ps → IsNearlyDecided v.decoder → input_pieces j (x ++ y) ≡ qs ++ more → sizes qs + 3 ≤ length x → IsPrefix qs ps
-soon r r1 w w1 l l1 j v x y ps qs more k settled is early =
-    elim (prefixes ps (v.decoder.pieces y) qs more (sym (k.pieces y) ∙ is)) [
+pub soon : (t t1 : Streams) (j : Job) (s : State) (x y : List ℕ) (ps qs more : List Piece)
+    → StandsAt t t1 j s x ps → IsNearlyDecided s.decoder → input_pieces j (x ++ y) ≡ qs ++ more → sizes qs + 3 ≤ length x → IsPrefix qs ps
+soon t t1 j s x y ps qs more k settled is early =
+    elim (prefixes ps (s.decoder.pieces y) qs more (sym (k.pieces y) ∙ is)) [
       | inl f ↦ f
       | inr m ↦
           let over : sizes qs ≡ sizes ps + sizes (m.0 ∷ m.1) = ap sizes m.2 ∙ sizes-append ps (m.0 ∷ m.1) in
           elim settled [
             | inl none ↦ absurd (omega (arith, none.0, k.passed, over, early))
-            | inr waits ↦ absurd (omega (arith, waits.soon y m.0 (begins_with (v.decoder.pieces y) m.0 (m.1 ++ more) m.3), k.passed, over, early))
+            | inr waits ↦ absurd (omega (arith, waits.soon y m.0 (begins_with (s.decoder.pieces y) m.0 (m.1 ++ more) m.3), k.passed, over, early))
           ]
     ]
 

@@ -17,6 +17,8 @@ use Rattle.encoding_front.specs.Marks.{marked_pieces, marked_text}
 use Rattle.recode.specs.Job.{IsValidJob, Faithful, input_pieces, input_text, output_pieces, target_of, output_of, log_of, trace}
 use Rattle.recode.specs.WrittenItems.{lost_lines}
 use Rattle.recode.specs.ReadBack.{back, in_utf8}
+use Rattle.recode.specs.Runs.{IsWholeOutput}
+use Rattle.recode.specs.Streams.{Written}
 use Rattle.recode.specs.Session.{IsReport, IsConverted}
 use Rattle.recode.specs.declared.job.Job.{Job}
 use Rattle.recode.specs.declared.report.Report.{Report}
@@ -38,10 +40,16 @@ pub quiet_back : (j : Job) (x : List ℕ) → Faithful j x → (log_of (back j) 
 quiet_back j x f = (quiet_where_kept (back j) (output_of j x) f.target (all_in_utf8 (text (output_pieces j (output_of j x)))), quiet_in_utf8 j x f.source)
 
 -- in runs whose writers begin with nothing
-pub runs_read_back : (j : Job) (x bytes again direct : List ℕ) (l l' m m' n n' : Option (List ℕ)) (p q r : Report) → KeepsCharacters j.to → IsTrue p.faithful → IsConverted (Some []) (Some bytes) l l' j x p
-    → IsConverted (Some []) (Some again) m m' (back j) bytes q → IsConverted (Some []) (Some direct) n n' (in_utf8 j) x r → again ≡ direct
-runs_read_back j x bytes again direct l l' m m' n n' p q r keeps told a b c =
-    b.output ∙ ap (output_of (back j)) a.output ∙ reads_back j x ((a.report.faithful keeps).0 told) ∙ sym c.output
+pub runs_read_back : (j : Job) (x bytes again direct : List ℕ) (w w' v v' u u' : Written) (p q r : Report) → KeepsCharacters j.to → IsTrue p.faithful → IsWholeOutput w w' bytes → IsConverted w w' j x p
+    → IsWholeOutput v v' again → IsConverted v v' (back j) bytes q → IsWholeOutput u u' direct → IsConverted u u' (in_utf8 j) x r → again ≡ direct
+runs_read_back j x bytes again direct w w' v v' u u' p q r keeps told k a l b m c =
+    bytes_are v.output v'.output again (output_of (back j) bytes) l.begun l.all b.output
+    ∙ ap (output_of (back j)) (bytes_are w.output w'.output bytes (output_of j x) k.begun k.all a.output)
+    ∙ reads_back j x ((a.report.faithful keeps).0 told)
+    ∙ sym (bytes_are u.output u'.output direct (output_of (in_utf8 j) x) m.begun m.all c.output)
+  where
+    bytes_are : (before after : Option (List ℕ)) (bytes added : List ℕ) → before ≡ Some [] → after ≡ Some bytes → Appends before after added → bytes ≡ added
+    bytes_are before after bytes added none all grew = let grown : Appends (Some []) (Some bytes) added = rw (none, all) at grew in grown
 
 -- UTF-8 loses no character.
 pub none_lost_in_utf8 : (j : Job) (x : List ℕ) → IsUtf8Encoding (output_encoding_of j.to) → lost_count (target_of j) (input_text j x) ≡ 0
@@ -62,9 +70,9 @@ lost_is_unfaithful j x v k some f = omega (arith, some, none_lost (target_of j) 
 pub same_whole : (j : Job) (x decoded bytes : List ℕ) → IsValidJob j → decoded ≡ encode_utf8_all (marked_text j.tables.now j.mark j.from x) → bytes ≡ output Decimal (coding_of j.tables.now j.to) (chars decoded) → bytes ≡ output_of j x
 same_whole j x decoded bytes v is written = written ∙ recoded_at_once j.tables.now j.mark j.from j.to x decoded v.tables is
 
-pub same_run : (j : Job) (x decoded bytes : List ℕ) (w w' l l' : Option (List ℕ)) (p : Report) → IsValidJob j → decoded ≡ encode_utf8_all (marked_text j.tables.now j.mark j.from x) → bytes ≡ output Decimal (coding_of j.tables.now j.to) (chars decoded)
-    → IsConverted w w' l l' j x p → Appends w w' bytes
-same_run j x decoded bytes w w' l l' p v is written k = subst (Appends w w') (sym (same_whole j x decoded bytes v is written)) k.output
+pub same_run : (j : Job) (x decoded bytes : List ℕ) (w w' : Written) (p : Report) → IsValidJob j → decoded ≡ encode_utf8_all (marked_text j.tables.now j.mark j.from x) → bytes ≡ output Decimal (coding_of j.tables.now j.to) (chars decoded)
+    → IsConverted w w' j x p → Appends w.output w'.output bytes
+same_run j x decoded bytes w w' p v is written k = subst (Appends w.output w'.output) (sym (same_whole j x decoded bytes v is written)) k.output
 
 -- a count of which a flag tells whether it is none
 none_where_false : (b : Bool) (n : ℕ) → IsTrue b ↔ (0 < n) → IsFalse b → n ≡ 0

@@ -1,5 +1,5 @@
 -- From steps to runs.
-use Rattle.std.proofs.Common.{◌≡◌, ℕ, zero, suc, drop, ◌+◌, ◌==◌, ◌&&◌, ◌↔◌, Bool, true, false, IsTrue, List, [], ◌∷◌, ◌++◌, length, refl, sym, ◌∙◌, ap, subst, arith, append-nil, Option}
+use Rattle.std.proofs.Common.{◌≡◌, ℕ, zero, suc, drop, ◌+◌, ◌==◌, ◌&&◌, ◌↔◌, Bool, true, false, IsTrue, List, [], ◌∷◌, ◌++◌, length, refl, sym, ◌∙◌, ap, subst, arith, append-nil}
 use Rattle.std.specs.Io.KnownBytes.{Appends}
 use Rattle.std.specs.List.{flat_map}
 use Rattle.std.specs.Str.{all_scalars}
@@ -18,11 +18,13 @@ use Rattle.recode_log.specs.Line.{line_bytes}
 use Rattle.recode.specs.TaggedByte.{TaggedByte, Wrote, IsPrefix, tagged, outputs, lines}
 use Rattle.recode.specs.WrittenItems.{bad_lines, lost_lines}
 use Rattle.recode.specs.Job.{IsValidJob, Faithful, input_pieces, input_text, target_of, log_of, trace}
-use Rattle.recode.specs.Session.{View, to_write, IsNewSession, Tells, IsReport, Completes, Fails}
-use Rattle.recode.specs.Step.{Finishes, Stops, PassesLimit}
+use Rattle.recode.specs.Session.{View, IsNewSession, Tells, IsReport, Completes, Fails}
+use Rattle.recode.specs.Step.{Finishes, PassesLimit}
+use Rattle.recode.specs.Streams.{Streams}
 use Rattle.recode.specs.declared.fault.Fault.{Fault}
 use Rattle.recode.specs.declared.job.Job.{Job}
 use Rattle.recode.specs.declared.report.Report.{Report}
+use Rattle.recode.proofs.StepLemmas.{HasStopped}
 use Rattle.recode.proofs.TraceLemmas.{outputs-append, lines-append, no_lines, kept_where_no_lines, no_lines_without_bytes, outputs-trace, lines-trace, bad_lines-trace, lost_lines-trace}
 
 -- No malformed sequence.
@@ -105,13 +107,13 @@ module _ (j : Job) (x : List ℕ) (b l : ℕ) (f : Bool) (malformed_is : b ≡ m
   )
 
 -- The report.
-is_report : (j : Job) (x : List ℕ) (v w : View) (p : Report) → IsValidJob j → IsNewSession v j → Tells w p → v.source x ≡ w.source [] → w.counts.read ≡ v.counts.read + length x
-    → w.counts.bad ≡ v.counts.bad + bad_lines (trace j x) → w.counts.lost ≡ v.counts.lost + lost_lines (trace j x) → IsReport j x p
+is_report : (j : Job) (x : List ℕ) (v w : View) (p : Report) → IsValidJob j → IsNewSession v j → Tells w p → v.state.source x ≡ w.state.source [] → w.state.counts.read ≡ v.state.counts.read + length x
+    → w.state.counts.bad ≡ v.state.counts.bad + bad_lines (trace j x) → w.state.counts.lost ≡ v.state.counts.lost + lost_lines (trace j x) → IsReport j x p
 is_report j x v w p valid b t same read_is malformed_is lost_is =
     let e = target_of j in
     let bads : p.bad ≡ malformed_count (input_pieces j x) = omega (arith, t.bad, malformed_is, b.bad, bad_lines-trace e Ascii 0 0 (input_pieces j x)) in
     let losts : p.lost ≡ lost_count e (input_text j x) = omega (arith, t.lost, lost_is, b.lost, lost_lines-trace e Ascii 0 0 (input_pieces j x)) in
-    let told : p.faithful ≡ (p.bad == 0 && p.lost == 0) = t.verdict ∙ ap (λ (n : ℕ). n == 0 && w.counts.lost == 0) (sym t.bad) ∙ ap (λ (n : ℕ). p.bad == 0 && n == 0) (sym t.lost) in
+    let told : p.faithful ≡ (p.bad == 0 && p.lost == 0) = t.verdict ∙ ap (λ (n : ℕ). n == 0 && w.state.counts.lost == 0) (sym t.bad) ∙ ap (λ (n : ℕ). p.bad == 0 && n == 0) (sym t.lost) in
     record {
       read = omega (arith, t.read, read_is, b.read);
       bad = bads;
@@ -121,21 +123,21 @@ is_report j x v w p valid b t same read_is malformed_is lost_is =
       faithful = verdict j x p.bad p.lost p.faithful bads losts told valid;
     }
 
-pub completes : (a a' w w' l l' : Option (List ℕ)) (j : Job) (v u : View) (p : Report) → IsValidJob j → IsNewSession v j → Finishes a a' w w' l l' v.counts u.counts j.limit (to_write v) v.source u.source → Tells u p → Completes a a' w w' l l' j p
-completes a a' w w' l l' j v u p valid b f t =
+pub completes : (before after : Streams) (j : Job) (v u : View) (p : Report) → IsValidJob j → IsNewSession v j → Finishes before after j.limit v.state u.state → Tells u p → Completes before after j p
+completes before after j v u p valid b f t =
     let x : List ℕ = f.chunk in
     let written_items : f.pays.written_items ≡ trace j x = sym (append-nil f.pays.written_items) ∙ sym f.pays.equals ∙ b.owes_trace x in
-    let wrote : Wrote w w' l l' (tagged (trace j x)) = subst (λ t. Wrote w w' l l' (tagged t)) written_items f.pays.wrote in
+    let wrote : Wrote before.written after.written (tagged (trace j x)) = subst (λ t. Wrote before.written after.written (tagged t)) written_items f.pays.wrote in
     record {
       input = x;
       consumed = f.consumed;
       end = f.end;
       within = omega (arith, f.within, f.counted, b.read);
       wrote = wrote;
-      output = subst (Appends w w') (outputs-trace (target_of j) Ascii 0 0 (input_pieces j x)) wrote.output;
-      logged = subst (Appends l l') (lines-trace (target_of j) Ascii 0 0 (input_pieces j x)) wrote.lined;
+      output = subst (Appends before.written.output after.written.output) (outputs-trace (target_of j) Ascii 0 0 (input_pieces j x)) wrote.output;
+      logged = subst (Appends before.written.log after.written.log) (lines-trace (target_of j) Ascii 0 0 (input_pieces j x)) wrote.lined;
       report = is_report j x v u p valid b t f.source f.counted
-          (f.pays.counted.bad ∙ ap (λ t. v.counts.bad + bad_lines t) written_items) (f.pays.counted.lost ∙ ap (λ t. v.counts.lost + lost_lines t) written_items);
+          (f.pays.counted.bad ∙ ap (λ t. v.state.counts.bad + bad_lines t) written_items) (f.pays.counted.lost ∙ ap (λ t. v.state.counts.lost + lost_lines t) written_items);
     }
 
 prefix_outputs : (t u : List TaggedByte) → IsPrefix t u → IsPrefix (outputs t) (outputs u)
@@ -144,8 +146,8 @@ prefix_outputs t u f = (outputs f.0, ap outputs f.1 ∙ outputs-append t f.0)
 prefix_lines : (t u : List TaggedByte) → IsPrefix t u → IsPrefix (lines t) (lines u)
 prefix_lines t u f = (lines f.0, ap lines f.1 ∙ lines-append t f.0)
 
-pub fails : (a a' w w' l l' : Option (List ℕ)) (j : Job) (v : View) (f : Fault) → IsNewSession v j → Stops a a' w w' l l' v.counts j.limit (to_write v) f → Fails a a' w w' l l' j f
-fails a a' w w' l l' j v f b s =
+pub fails : (before after : Streams) (j : Job) (v : View) (f : Fault) → IsNewSession v j → HasStopped before after j.limit v.state f → Fails before after j f
+fails before after j v f b s =
     let prefix : (r : List ℕ) → (s.ended ≡ true → r ≡ []) → IsPrefix s.pays.taken (tagged (trace j (s.chunk ++ r))) =
     λ r h. subst (λ t. IsPrefix s.pays.taken (tagged t)) (b.owes_trace (s.chunk ++ r)) (s.pays.prefix r h) in
     record {

@@ -8,6 +8,7 @@ use Rattle.std.specs.Io.KnownBytes.{Appends}
 use Rattle.encoding_mem.specs.declared.reference.Reference.TheVariants.{Decimal}
 use Rattle.encoding_mem.specs.Items.{Item, Byte, MalformedAt, LostAt, whole_items, closing, bytes_of, open_items, form_items, trace_from}
 use Rattle.recode_log.specs.Line.{line_bytes}
+use Rattle.recode.specs.Streams.{Written}
 use Rattle.recode.specs.TaggedByte.{TaggedByte, Out, Line, outputs, lines, Wrote, tagged, tagged_item}
 use Rattle.recode.specs.WrittenItems.{WritesItems, WritesPrefix, WritesItemsFor, WritesPrefixFor, AreCounted, bad_lines, lost_lines}
 use Rattle.encoding_mem.specs.Coding.{Coding, IsCoding, open_from, whole_from, last_set, output, lost_count, unmapped_count, reference, AllMapped, IsMapped}
@@ -53,22 +54,22 @@ lines-lines (b ∷ bs) = ap (λ l. b ∷ l) (lines-lines bs)
 pub tagged-append : (s t : List Item) → tagged (s ++ t) ≡ tagged s ++ tagged t
 tagged-append s t = flat_map-append tagged_item s t
 
-pub Wrote-nil : (w l : Option (List ℕ)) → Wrote w w l l []
-Wrote-nil w l = record { output = Appends-nil w; lined = Appends-nil l }
+pub Wrote-nil : (w : Written) → Wrote w w []
+Wrote-nil w = record { output = Appends-nil w.output; lined = Appends-nil w.log }
 
-pub Wrote-trans : (w w' w'' l l' l'' : Option (List ℕ)) (s t : List TaggedByte) → Wrote w w' l l' s → Wrote w' w'' l' l'' t → Wrote w w'' l l'' (s ++ t)
-Wrote-trans w w' w'' l l' l'' s t p q = record {
-  output = subst (Appends w w'') (sym (outputs-append s t)) (Appends-trans w w' w'' _ _ p.output q.output);
-  lined = subst (Appends l l'') (sym (lines-append s t)) (Appends-trans l l' l'' _ _ p.lined q.lined);
+pub Wrote-trans : (w w' w'' : Written) (s t : List TaggedByte) → Wrote w w' s → Wrote w' w'' t → Wrote w w'' (s ++ t)
+Wrote-trans w w' w'' s t p q = record {
+  output = subst (Appends w.output w''.output) (sym (outputs-append s t)) (Appends-trans w.output w'.output w''.output _ _ p.output q.output);
+  lined = subst (Appends w.log w''.log) (sym (lines-append s t)) (Appends-trans w.log w'.log w''.log _ _ p.lined q.lined);
 }
 
-pub wrote_bytes : (w w' l : Option (List ℕ)) (bs : List ℕ) → Appends w w' bs → Wrote w w' l l (tagged (map Byte bs))
+pub wrote_bytes : (w w' l : Option (List ℕ)) (bs : List ℕ) → Appends w w' bs → Wrote (record { output = w; log = l }) (record { output = w'; log = l }) (tagged (map Byte bs))
 wrote_bytes w w' l bs p = record {
   output = subst (Appends w w') (sym (outputs-bytes bs)) p;
   lined = subst (Appends l l) (sym (lines-bytes bs)) (Appends-nil l);
 }
 
-pub wrote_line : (w l l' : Option (List ℕ)) (bs : List ℕ) → Appends l l' bs → Wrote w w l l' (map Line bs)
+pub wrote_line : (w l l' : Option (List ℕ)) (bs : List ℕ) → Appends l l' bs → Wrote (record { output = w; log = l }) (record { output = w; log = l' }) (map Line bs)
 wrote_line w l l' bs p = record {
   output = subst (Appends w w) (sym (outputs-lines bs)) (Appends-nil w);
   lined = subst (Appends l l') (sym (lines-lines bs)) p;
@@ -100,29 +101,29 @@ AreCounted-trans a b c s t p q = record {
   lost = omega (arith, p.lost, q.lost, lost_lines-append s t);
 }
 
-pub WritesItems-nil : (w l : Option (List ℕ)) (x : Counts) (to_write : List Item) → WritesItems w w l l x x to_write to_write
-WritesItems-nil w l x to_write = record { written_items = []; wrote = Wrote-nil w l; counted = record { bad = omega arith; lost = omega arith }; equals = refl }
+pub WritesItems-nil : (w : Written) (x : Counts) (to_write : List Item) → WritesItems w w x x to_write to_write
+WritesItems-nil w x to_write = record { written_items = []; wrote = Wrote-nil w; counted = record { bad = omega arith; lost = omega arith }; equals = refl }
 
-pub WritesItems-trans : (w w' w'' l l' l'' : Option (List ℕ)) (x y z : Counts) (a b c : List Item) → WritesItems w w' l l' x y a b → WritesItems w' w'' l' l'' y z b c → WritesItems w w'' l l'' x z a c
-WritesItems-trans w w' w'' l l' l'' x y z a b c p q = record {
+pub WritesItems-trans : (w w' w'' : Written) (x y z : Counts) (a b c : List Item) → WritesItems w w' x y a b → WritesItems w' w'' y z b c → WritesItems w w'' x z a c
+WritesItems-trans w w' w'' x y z a b c p q = record {
   written_items = p.written_items ++ q.written_items;
-  wrote = subst (Wrote w w'' l l'') (sym (tagged-append p.written_items q.written_items)) (Wrote-trans w w' w'' l l' l'' _ _ p.wrote q.wrote);
+  wrote = subst (Wrote w w'') (sym (tagged-append p.written_items q.written_items)) (Wrote-trans w w' w'' _ _ p.wrote q.wrote);
   counted = AreCounted-trans x y z p.written_items q.written_items p.counted q.counted;
   equals = p.equals ∙ ap (λ k. p.written_items ++ k) q.equals ∙ sym (append_assoc p.written_items q.written_items c);
 }
 
-pub WritesItems-to : (w w' l l' : Option (List ℕ)) (x y : Counts) (a b c : List Item) → WritesItems w w' l l' x y a b → b ≡ c → WritesItems w w' l l' x y a c
-WritesItems-to w w' l l' x y a b c p e = record { written_items = p.written_items; wrote = p.wrote; counted = p.counted; equals = p.equals ∙ ap (λ k. p.written_items ++ k) e }
+pub WritesItems-to : (w w' : Written) (x y : Counts) (a b c : List Item) → WritesItems w w' x y a b → b ≡ c → WritesItems w w' x y a c
+WritesItems-to w w' x y a b c p e = record { written_items = p.written_items; wrote = p.wrote; counted = p.counted; equals = p.equals ∙ ap (λ k. p.written_items ++ k) e }
 
 -- what is written in part after something was written whole
-pub WritesItems-under : (w w' w'' l l' l'' : Option (List ℕ)) (x y : Counts) (a b : List Item) → WritesItems w w' l l' x y a b → WritesPrefix w' w'' l' l'' b → WritesPrefix w w'' l l'' a
-WritesItems-under w w' w'' l l' l'' x y a b p q = record {
+pub WritesItems-under : (w w' w'' : Written) (x y : Counts) (a b : List Item) → WritesItems w w' x y a b → WritesPrefix w' w'' b → WritesPrefix w w'' a
+WritesItems-under w w' w'' x y a b p q = record {
   taken = tagged p.written_items ++ q.taken;
-  wrote = Wrote-trans w w' w'' l l' l'' _ _ p.wrote q.wrote;
+  wrote = Wrote-trans w w' w'' _ _ p.wrote q.wrote;
   prefix = (q.prefix.0, ap tagged p.equals ∙ tagged-append p.written_items b ∙ ap (λ k. tagged p.written_items ++ k) q.prefix.1 ∙ sym (append_assoc (tagged p.written_items) q.taken q.prefix.0));
 }
 
-pub writes_bytes : (w w' l : Option (List ℕ)) (x y : Counts) (bs : List ℕ) (a b : List Item) → Appends w w' bs → y.bad ≡ x.bad → y.lost ≡ x.lost → a ≡ map Byte bs ++ b → WritesItems w w' l l x y a b
+pub writes_bytes : (w w' l : Option (List ℕ)) (x y : Counts) (bs : List ℕ) (a b : List Item) → Appends w w' bs → y.bad ≡ x.bad → y.lost ≡ x.lost → a ≡ map Byte bs ++ b → WritesItems (record { output = w; log = l }) (record { output = w'; log = l }) x y a b
 writes_bytes w w' l x y bs a b p same same' e = record {
   written_items = map Byte bs;
   wrote = wrote_bytes w w' l bs p;
@@ -130,29 +131,29 @@ writes_bytes w w' l x y bs a b p same same' e = record {
   equals = e;
 }
 
-pub writes_lost : (w l l' : Option (List ℕ)) (x y : Counts) (i c : ℕ) (b : List Item) → Appends l l' (line_bytes (LogLine.Lost i c)) → y.bad ≡ x.bad → y.lost ≡ x.lost + 1 → WritesItems w w l l' x y (LostAt i c ∷ b) b
+pub writes_lost : (w l l' : Option (List ℕ)) (x y : Counts) (i c : ℕ) (b : List Item) → Appends l l' (line_bytes (LogLine.Lost i c)) → y.bad ≡ x.bad → y.lost ≡ x.lost + 1 → WritesItems (record { output = w; log = l }) (record { output = w; log = l' }) x y (LostAt i c ∷ b) b
 writes_lost w l l' x y i c b p same one = record {
   written_items = LostAt i c ∷ [];
-  wrote = subst (Wrote w w l l') (sym (append-nil (map Line (line_bytes (LogLine.Lost i c))))) (wrote_line w l l' (line_bytes (LogLine.Lost i c)) p);
+  wrote = subst (Wrote (record { output = w; log = l }) (record { output = w; log = l' })) (sym (append-nil (map Line (line_bytes (LogLine.Lost i c))))) (wrote_line w l l' (line_bytes (LogLine.Lost i c)) p);
   counted = record { bad = omega (arith, same); lost = omega (arith, one) };
   equals = refl;
 }
 
-pub writes_malformed : (w l l' : Option (List ℕ)) (x y : Counts) (offset size : ℕ) (b : List Item) → Appends l l' (line_bytes (LogLine.Bad offset size)) → y.bad ≡ x.bad + 1 → y.lost ≡ x.lost → WritesItems w w l l' x y (MalformedAt offset size ∷ b) b
+pub writes_malformed : (w l l' : Option (List ℕ)) (x y : Counts) (offset size : ℕ) (b : List Item) → Appends l l' (line_bytes (LogLine.Bad offset size)) → y.bad ≡ x.bad + 1 → y.lost ≡ x.lost → WritesItems (record { output = w; log = l }) (record { output = w; log = l' }) x y (MalformedAt offset size ∷ b) b
 writes_malformed w l l' x y offset size b p one same = record {
   written_items = MalformedAt offset size ∷ [];
-  wrote = subst (Wrote w w l l') (sym (append-nil (map Line (line_bytes (LogLine.Bad offset size))))) (wrote_line w l l' (line_bytes (LogLine.Bad offset size)) p);
+  wrote = subst (Wrote (record { output = w; log = l }) (record { output = w; log = l' })) (sym (append-nil (map Line (line_bytes (LogLine.Bad offset size))))) (wrote_line w l l' (line_bytes (LogLine.Bad offset size)) p);
   counted = record { bad = omega (arith, one); lost = omega (arith, same) };
   equals = refl;
 }
 
-pub WritesItems-of : (w w' l l' : Option (List ℕ)) (x y : Counts) (a a' b : List Item) → a' ≡ a → WritesItems w w' l l' x y a b → WritesItems w w' l l' x y a' b
-WritesItems-of w w' l l' x y a a' b e p = record { written_items = p.written_items; wrote = p.wrote; counted = p.counted; equals = e ∙ p.equals }
+pub WritesItems-of : (w w' : Written) (x y : Counts) (a a' b : List Item) → a' ≡ a → WritesItems w w' x y a b → WritesItems w w' x y a' b
+WritesItems-of w w' x y a a' b e p = record { written_items = p.written_items; wrote = p.wrote; counted = p.counted; equals = e ∙ p.equals }
 
-pub WritesPrefix-of : (w w' l l' : Option (List ℕ)) (a a' : List Item) → a' ≡ a → WritesPrefix w w' l l' a → WritesPrefix w w' l l' a'
-WritesPrefix-of w w' l l' a a' e p = record { taken = p.taken; wrote = p.wrote; prefix = (p.prefix.0, ap tagged e ∙ p.prefix.1) }
+pub WritesPrefix-of : (w w' : Written) (a a' : List Item) → a' ≡ a → WritesPrefix w w' a → WritesPrefix w w' a'
+WritesPrefix-of w w' a a' e p = record { taken = p.taken; wrote = p.wrote; prefix = (p.prefix.0, ap tagged e ∙ p.prefix.1) }
 
-pub under_bytes : (w w' l : Option (List ℕ)) (bs : List ℕ) (n : ℕ) (a b : List Item) → Appends w w' (take n bs) → a ≡ map Byte bs ++ b → WritesPrefix w w' l l a
+pub under_bytes : (w w' l : Option (List ℕ)) (bs : List ℕ) (n : ℕ) (a b : List Item) → Appends w w' (take n bs) → a ≡ map Byte bs ++ b → WritesPrefix (record { output = w; log = l }) (record { output = w'; log = l }) a
 under_bytes w w' l bs n a b p e = record {
   taken = tagged (map Byte (take n bs));
   wrote = wrote_bytes w w' l (take n bs) p;
@@ -164,7 +165,7 @@ under_bytes w w' l bs n a b p e = record {
 }
 
 -- a line of which n bytes were taken, whatever item it is
-pub under_line : (w l l' : Option (List ℕ)) (line : List ℕ) (n : ℕ) (item : Item) (b : List Item) → tagged_item item ≡ map Line line → Appends l l' (take n line) → WritesPrefix w w l l' (item ∷ b)
+pub under_line : (w l l' : Option (List ℕ)) (line : List ℕ) (n : ℕ) (item : Item) (b : List Item) → tagged_item item ≡ map Line line → Appends l l' (take n line) → WritesPrefix (record { output = w; log = l }) (record { output = w; log = l' }) (item ∷ b)
 under_line w l l' line n item b e p = record {
   taken = map Line (take n line);
   wrote = wrote_line w l l' (take n line) p;
@@ -192,56 +193,56 @@ pub whole_end : {need : ℕ} (e : Coding) (last : Bool) (s : EscapeState) (i : �
 whole_end {need} e last s i t k none h = ap (whole_items Decimal e last s i) none ∙ closed_nil need e last s i k h
 
 -- For every continuation.
-pub WritesItemsFor-of : (w w' l l' : Option (List ℕ)) (x x' y : Counts) (last : Bool) (total : List Item) (a b : List ℕ → List Item) → x.bad ≡ x'.bad → x.lost ≡ x'.lost → WritesItems w w' l l' x y total []
-    → ((r : List ℕ) → (last ≡ true → r ≡ []) → a r ≡ total ++ b r) → WritesItemsFor w w' l l' x' y last a b
-WritesItemsFor-of w w' l l' x x' y last total a b same same' p e = record {
+pub WritesItemsFor-of : (w w' : Written) (x x' y : Counts) (last : Bool) (total : List Item) (a b : List ℕ → List Item) → x.bad ≡ x'.bad → x.lost ≡ x'.lost → WritesItems w w' x y total []
+    → ((r : List ℕ) → (last ≡ true → r ≡ []) → a r ≡ total ++ b r) → WritesItemsFor w w' x' y last a b
+WritesItemsFor-of w w' x x' y last total a b same same' p e = record {
   written_items = p.written_items;
   wrote = p.wrote;
   counted = record { bad = omega (arith, same, p.counted.bad); lost = omega (arith, same', p.counted.lost) };
   equals = λ r h. e r h ∙ ap (λ k. k ++ b r) (p.equals ∙ append-nil p.written_items);
 }
 
-pub WritesPrefixFor-of : (w w' l l' : Option (List ℕ)) (last : Bool) (total : List Item) (a : List ℕ → List Item) → WritesPrefix w w' l l' total
-    → ((r : List ℕ) → (last ≡ true → r ≡ []) → (rest : List Item) × (a r ≡ total ++ rest)) → WritesPrefixFor w w' l l' last a
-WritesPrefixFor-of w w' l l' last total a p e = record {
+pub WritesPrefixFor-of : (w w' : Written) (last : Bool) (total : List Item) (a : List ℕ → List Item) → WritesPrefix w w' total
+    → ((r : List ℕ) → (last ≡ true → r ≡ []) → (rest : List Item) × (a r ≡ total ++ rest)) → WritesPrefixFor w w' last a
+WritesPrefixFor-of w w' last total a p e = record {
   taken = p.taken;
   wrote = p.wrote;
   prefix = λ r h. let f = e r h in (p.prefix.0 ++ tagged f.0, ap tagged f.1 ∙ tagged-append total f.0 ∙ ap (λ k. k ++ tagged f.0) p.prefix.1 ∙ append_assoc p.taken p.prefix.0 (tagged f.0));
 }
 
-pub WritesItems-join : (w w' w'' l l' l'' : Option (List ℕ)) (x y z : Counts) (a b : List Item) → WritesItems w w' l l' x y a [] → WritesItems w' w'' l' l'' y z b [] → WritesItems w w'' l l'' x z (a ++ b) []
-WritesItems-join w w' w'' l l' l'' x y z a b p q = record {
+pub WritesItems-join : (w w' w'' : Written) (x y z : Counts) (a b : List Item) → WritesItems w w' x y a [] → WritesItems w' w'' y z b [] → WritesItems w w'' x z (a ++ b) []
+WritesItems-join w w' w'' x y z a b p q = record {
   written_items = p.written_items ++ q.written_items;
-  wrote = subst (Wrote w w'' l l'') (sym (tagged-append p.written_items q.written_items)) (Wrote-trans w w' w'' l l' l'' _ _ p.wrote q.wrote);
+  wrote = subst (Wrote w w'') (sym (tagged-append p.written_items q.written_items)) (Wrote-trans w w' w'' _ _ p.wrote q.wrote);
   counted = AreCounted-trans x y z p.written_items q.written_items p.counted q.counted;
   equals = ap (λ k. k ++ b) (p.equals ∙ append-nil p.written_items) ∙ ap (λ k. p.written_items ++ k) (q.equals ∙ append-nil q.written_items) ∙ sym (append-nil (p.written_items ++ q.written_items));
 }
 
-pub WritesItems-join-under : (w w' w'' l l' l'' : Option (List ℕ)) (x y : Counts) (a b : List Item) → WritesItems w w' l l' x y a [] → WritesPrefix w' w'' l' l'' b → WritesPrefix w w'' l l'' (a ++ b)
-WritesItems-join-under w w' w'' l l' l'' x y a b p q = record {
+pub WritesItems-join-under : (w w' w'' : Written) (x y : Counts) (a b : List Item) → WritesItems w w' x y a [] → WritesPrefix w' w'' b → WritesPrefix w w'' (a ++ b)
+WritesItems-join-under w w' w'' x y a b p q = record {
   taken = tagged p.written_items ++ q.taken;
-  wrote = Wrote-trans w w' w'' l l' l'' _ _ p.wrote q.wrote;
+  wrote = Wrote-trans w w' w'' _ _ p.wrote q.wrote;
   prefix = (q.prefix.0, ap tagged (ap (λ k. k ++ b) (p.equals ∙ append-nil p.written_items)) ∙ tagged-append p.written_items b ∙ ap (λ k. tagged p.written_items ++ k) q.prefix.1 ∙ sym (append_assoc (tagged p.written_items) q.taken q.prefix.0));
 }
 
-pub WritesItemsFor-start : (w l : Option (List ℕ)) (x : Counts) (last : Bool) (a : List ℕ → List Item) → WritesItemsFor w w l l x x last a a
-WritesItemsFor-start w l x last a = record { written_items = []; wrote = Wrote-nil w l; counted = record { bad = omega arith; lost = omega arith }; equals = λ r h. refl }
+pub WritesItemsFor-start : (w : Written) (x : Counts) (last : Bool) (a : List ℕ → List Item) → WritesItemsFor w w x x last a a
+WritesItemsFor-start w x last a = record { written_items = []; wrote = Wrote-nil w; counted = record { bad = omega arith; lost = omega arith }; equals = λ r h. refl }
 
-pub WritesItemsFor-trans : (w w' w'' l l' l'' : Option (List ℕ)) (x y z : Counts) (last : Bool) (a b c : List ℕ → List Item) → WritesItemsFor w w' l l' x y last a b → WritesItemsFor w' w'' l' l'' y z last b c → WritesItemsFor w w'' l l'' x z last a c
-WritesItemsFor-trans w w' w'' l l' l'' x y z last a b c p q = record {
+pub WritesItemsFor-trans : (w w' w'' : Written) (x y z : Counts) (last : Bool) (a b c : List ℕ → List Item) → WritesItemsFor w w' x y last a b → WritesItemsFor w' w'' y z last b c → WritesItemsFor w w'' x z last a c
+WritesItemsFor-trans w w' w'' x y z last a b c p q = record {
   written_items = p.written_items ++ q.written_items;
-  wrote = subst (Wrote w w'' l l'') (sym (tagged-append p.written_items q.written_items)) (Wrote-trans w w' w'' l l' l'' _ _ p.wrote q.wrote);
+  wrote = subst (Wrote w w'') (sym (tagged-append p.written_items q.written_items)) (Wrote-trans w w' w'' _ _ p.wrote q.wrote);
   counted = AreCounted-trans x y z p.written_items q.written_items p.counted q.counted;
   equals = λ r h. p.equals r h ∙ ap (λ k. p.written_items ++ k) (q.equals r h) ∙ sym (append_assoc p.written_items q.written_items (c r));
 }
 
-pub WritesItemsFor-to : (w w' l l' : Option (List ℕ)) (x y : Counts) (last : Bool) (a b c : List ℕ → List Item) → WritesItemsFor w w' l l' x y last a b → ((r : List ℕ) → b r ≡ c r) → WritesItemsFor w w' l l' x y last a c
-WritesItemsFor-to w w' l l' x y last a b c p e = record { written_items = p.written_items; wrote = p.wrote; counted = p.counted; equals = λ r h. p.equals r h ∙ ap (λ k. p.written_items ++ k) (e r) }
+pub WritesItemsFor-to : (w w' : Written) (x y : Counts) (last : Bool) (a b c : List ℕ → List Item) → WritesItemsFor w w' x y last a b → ((r : List ℕ) → b r ≡ c r) → WritesItemsFor w w' x y last a c
+WritesItemsFor-to w w' x y last a b c p e = record { written_items = p.written_items; wrote = p.wrote; counted = p.counted; equals = λ r h. p.equals r h ∙ ap (λ k. p.written_items ++ k) (e r) }
 
-pub WritesItemsFor-under : (w w' w'' l l' l'' : Option (List ℕ)) (x y : Counts) (last : Bool) (a b : List ℕ → List Item) → WritesItemsFor w w' l l' x y last a b → WritesPrefixFor w' w'' l' l'' last b → WritesPrefixFor w w'' l l'' last a
-WritesItemsFor-under w w' w'' l l' l'' x y last a b p q = record {
+pub WritesItemsFor-under : (w w' w'' : Written) (x y : Counts) (last : Bool) (a b : List ℕ → List Item) → WritesItemsFor w w' x y last a b → WritesPrefixFor w' w'' last b → WritesPrefixFor w w'' last a
+WritesItemsFor-under w w' w'' x y last a b p q = record {
   taken = tagged p.written_items ++ q.taken;
-  wrote = Wrote-trans w w' w'' l l' l'' _ _ p.wrote q.wrote;
+  wrote = Wrote-trans w w' w'' _ _ p.wrote q.wrote;
   prefix = λ r h. let f = q.prefix r h in (f.0, ap tagged (p.equals r h) ∙ tagged-append p.written_items (b r) ∙ ap (λ k. tagged p.written_items ++ k) f.1 ∙ sym (append_assoc (tagged p.written_items) q.taken f.0));
 }
 

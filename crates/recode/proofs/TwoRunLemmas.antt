@@ -1,8 +1,10 @@
 -- What two runs on one input have in common, and where a run ends well.
-use Rattle.std.proofs.Common.{◌≡◌, ℕ, ◌<◌, ◌≤◌, ◌↔◌, ◌⊎◌, inl, inr, Bool, true, false, IsTrue, IsOk, List, length, Option, Some, Result, Ok, Err, refl, sym, ◌∙◌, arith}
+use Rattle.std.proofs.Common.{◌≡◌, ℕ, ◌<◌, ◌≤◌, ◌↔◌, ◌⊎◌, inl, inr, Bool, true, false, IsTrue, IsOk, List, length, Some, Result, Ok, Err, refl, sym, ◌∙◌, arith}
 use Rattle.std.proofs.lemmas.Bool.{false≢true}
 use Rattle.encoding_front.specs.declared.encoding.Encoding.{Encoding}
 use Rattle.recode.specs.Job.{trace}
+use Rattle.recode.specs.Failures.{Failures}
+use Rattle.recode.specs.Streams.{Streams, Written, known}
 use Rattle.recode.specs.TaggedByte.{tagged}
 use Rattle.recode.specs.Runs.{WroteTheSame, AgreeButForCalls, RunReturns}
 use Rattle.recode.specs.Session.{IsReport, IsConverted, Completes}
@@ -13,8 +15,8 @@ use Rattle.recode.specs.declared.report.Report.{Report}
 use Rattle.recode.proofs.InputLemmas.{known_completes, known_too_long}
 
 -- Two runs that came to their end.
-pub same_written : (j : Job) (x : List ℕ) (w w' l l' v v' m m' : Option (List ℕ)) (p q : Report) → IsConverted w w' l l' j x p → IsConverted v v' m m' j x q → WroteTheSame w w' l l' v v' m m'
-same_written j x w w' l l' v v' m m' p q a b = record { taken = tagged (trace j x); one = a.wrote; another = b.wrote }
+pub same_written : (j : Job) (x : List ℕ) (w w' v v' : Written) (p q : Report) → IsConverted w w' j x p → IsConverted v v' j x q → WroteTheSame w w' v v'
+same_written j x w w' v v' p q a b = record { taken = tagged (trace j x); one = a.wrote; another = b.wrote }
 
 same_truth : (a b : Bool) (P : Type 0) → IsTrue a ↔ P → IsTrue b ↔ P → a ≡ b
 same_truth true true P h k = refl
@@ -31,56 +33,57 @@ same_report j x p q a b =
     same_fields p.read q.read p.bad q.bad p.lost q.lost q.calls p.encoding q.encoding p.faithful q.faithful
     (b.read ∙ sym a.read) (b.bad ∙ sym a.bad) (b.lost ∙ sym a.lost) (b.encoding ∙ sym a.encoding) (same_truth q.faithful p.faithful _ b.quiet a.quiet)
 
-pub same_reports : (j : Job) (x : List ℕ) (w w' l l' v v' m m' : Option (List ℕ)) (p q : Report) → IsConverted w w' l l' j x p → IsConverted v v' m m' j x q → AgreeButForCalls p q
-same_reports j x w w' l l' v v' m m' p q a b = same_report j x p q a.report b.report
+pub same_reports : (j : Job) (x : List ℕ) (w w' v v' : Written) (p q : Report) → IsConverted w w' j x p → IsConverted v v' j x q → AgreeButForCalls p q
+same_reports j x w w' v v' p q a b = same_report j x p q a.report b.report
 
 -- with readers that tell their bytes
-pub same_runs : (j : Job) (x : List ℕ) (r s w w' l l' v v' m m' : Option (List ℕ)) (p q : Report) → Completes (Some x) r w w' l l' j p → Completes (Some x) s v v' m m' j q → WroteTheSame w w' l l' v v' m m' × AgreeButForCalls p q
-same_runs j x r s w w' l l' v v' m m' p q a b =
-    let one = known_completes x r w w' l l' j p a in
-    let another = known_completes x s v v' m m' j q b in
-    (same_written j x w w' l l' v v' m m' p q one another, same_reports j x w w' l l' v v' m m' p q one another)
+pub same_runs : (j : Job) (x : List ℕ) (s s' t t' : Streams) (p q : Report) → s.input ≡ Some x → t.input ≡ Some x → Completes s s' j p → Completes t t' j q
+    → WroteTheSame s.written s'.written t.written t'.written × AgreeButForCalls p q
+same_runs j x s s' t t' p q is are a b =
+    let one = known_completes x s s' j p is a in
+    let another = known_completes x t t' j q are b in
+    (same_written j x s.written s'.written t.written t'.written p q one another, same_reports j x s.written s'.written t.written t'.written p q one another)
 
 -- with writers that tell theirs
-pub same_bytes : (j : Job) (x w w' v' l l' m' : List ℕ) (p q : Report) → IsConverted (Some w) (Some w') (Some l) (Some l') j x p → IsConverted (Some w) (Some v') (Some l) (Some m') j x q → (w' ≡ v') × (l' ≡ m')
+pub same_bytes : (j : Job) (x w w' v' l l' m' : List ℕ) (p q : Report) → IsConverted (known w l) (known w' l') j x p → IsConverted (known w l) (known v' m') j x q → (w' ≡ v') × (l' ≡ m')
 same_bytes j x w w' v' l l' m' p q a b = (a.output ∙ sym b.output, a.logged ∙ sym b.logged)
 
 -- A run in which no call failed.
-module _ (j : Job) (r r' w w' l l' : Option (List ℕ)) (n m k : ℕ) where
-  pub well_or_long : (answer : Result Report Fault) → RunReturns r r' w w' l l' n n m m k k j answer → IsOk answer ⊎ (answer ≡ Err TooLong)
+module _ (j : Job) (s s' : Streams) (n : Failures) where
+  pub well_or_long : (answer : Result Report Fault) → RunReturns s s' n n j answer → IsOk answer ⊎ (answer ≡ Err TooLong)
   well_or_long (Ok p) a = inl refl
-  well_or_long (Err Read) a = absurd (omega (arith, a.reader_count))
-  well_or_long (Err Write) a = absurd (omega (arith, a.writer_count))
-  well_or_long (Err Log) a = absurd (omega (arith, a.log_count))
+  well_or_long (Err Read) a = absurd (omega (arith, a.counts.reader))
+  well_or_long (Err Write) a = absurd (omega (arith, a.counts.writer))
+  well_or_long (Err Log) a = absurd (omega (arith, a.counts.log))
   well_or_long (Err TooLong) a = inr refl
 
 -- and whose reader tells its bytes
-module _ (j : Job) (x : List ℕ) (r w w' l l' : Option (List ℕ)) (n m k : ℕ) where
-  fits_where_well : (answer : Result Report Fault) → RunReturns (Some x) r w w' l l' n n m m k k j answer → IsOk answer → length x ≤ j.limit
-  fits_where_well (Ok p) a h = (known_completes x r w w' l l' j p a.completes).within
-  fits_where_well (Err f) a h = absurd (false≢true h)
+module _ (j : Job) (x : List ℕ) (s s' : Streams) (n : Failures) where
+  fits_where_well : (answer : Result Report Fault) → s.input ≡ Some x → RunReturns s s' n n j answer → IsOk answer → length x ≤ j.limit
+  fits_where_well (Ok p) is a h = (known_completes x s s' j p is a.completes).within
+  fits_where_well (Err f) is a h = absurd (false≢true h)
 
-  too_long_where_told : (answer : Result Report Fault) → RunReturns (Some x) r w w' l l' n n m m k k j answer → answer ≡ Err TooLong → j.limit < length x
-  too_long_where_told (Ok p) a h = absurd (cc)
-  too_long_where_told (Err Read) a h = absurd (omega (arith, a.reader_count))
-  too_long_where_told (Err Write) a h = absurd (omega (arith, a.writer_count))
-  too_long_where_told (Err Log) a h = absurd (omega (arith, a.log_count))
-  too_long_where_told (Err TooLong) a h = known_too_long x r w w' l l' j a.fails
+  too_long_where_told : (answer : Result Report Fault) → s.input ≡ Some x → RunReturns s s' n n j answer → answer ≡ Err TooLong → j.limit < length x
+  too_long_where_told (Ok p) is a h = absurd (cc)
+  too_long_where_told (Err Read) is a h = absurd (omega (arith, a.counts.reader))
+  too_long_where_told (Err Write) is a h = absurd (omega (arith, a.counts.writer))
+  too_long_where_told (Err Log) is a h = absurd (omega (arith, a.counts.log))
+  too_long_where_told (Err TooLong) is a h = known_too_long x s s' j is a.fails
 
-  pub well_where_it_fits : (answer : Result Report Fault) → RunReturns (Some x) r w w' l l' n n m m k k j answer → IsOk answer ↔ (length x ≤ j.limit)
-  well_where_it_fits answer a = (
-    fits_where_well answer a,
-    λ h. elim (well_or_long j (Some x) r w w' l l' n m k answer a) [
+  pub well_where_it_fits : (answer : Result Report Fault) → s.input ≡ Some x → RunReturns s s' n n j answer → IsOk answer ↔ (length x ≤ j.limit)
+  well_where_it_fits answer is a = (
+    fits_where_well answer is a,
+    λ h. elim (well_or_long j s s' n answer a) [
       | inl well ↦ well
-      | inr long ↦ absurd (omega (arith, too_long_where_told answer a long, h))
+      | inr long ↦ absurd (omega (arith, too_long_where_told answer is a long, h))
     ],
   )
 
-  pub told_where_too_long : (answer : Result Report Fault) → RunReturns (Some x) r w w' l l' n n m m k k j answer → (answer ≡ Err TooLong) ↔ (j.limit < length x)
-  told_where_too_long answer a = (
-    too_long_where_told answer a,
-    λ h. elim (well_or_long j (Some x) r w w' l l' n m k answer a) [
-      | inl well ↦ absurd (omega (arith, fits_where_well answer a well, h))
+  pub told_where_too_long : (answer : Result Report Fault) → s.input ≡ Some x → RunReturns s s' n n j answer → (answer ≡ Err TooLong) ↔ (j.limit < length x)
+  told_where_too_long answer is a = (
+    too_long_where_told answer is a,
+    λ h. elim (well_or_long j s s' n answer a) [
+      | inl well ↦ absurd (omega (arith, fits_where_well answer is a well, h))
       | inr long ↦ long
     ],
   )

@@ -3,6 +3,8 @@ use Rattle.std.specs.Prelude.{◌≡◌, ◌≢◌, ℕ, ◌+◌, ◌<◌, ◌�
 use Rattle.std.specs.Io.KnownBytes.{Appends, Consumes, IsAtEnd}
 use Rattle.encoding_front.specs.Encodings.{KeepsCharacters}
 use Rattle.recode.specs.Job.{trace, output_of, log_of, Faithful}
+use Rattle.recode.specs.Failures.{Failures}
+use Rattle.recode.specs.Streams.{Streams}
 use Rattle.recode.specs.TaggedByte.{TaggedByte, Wrote, IsPrefix, tagged, outputs, lines}
 use Rattle.recode.specs.declared.fault.Fault.{Fault}
 use Rattle.recode.specs.declared.fault.Fault.TheVariants.{Read, Write, Log, TooLong}
@@ -10,14 +12,14 @@ use Rattle.recode.specs.declared.job.Job.{Job}
 
 -- The input was read whole and is within the limit, output and log are whole, and the status tells whether the log
 -- has a line: where the target has no folds, whether anything was lost.
-pub record Converts (reader reader' writer writer' log log' : Option (List ℕ)) (j : Job) (status : ℕ) : Type 0 where
+pub record Converts (before after : Streams) (j : Job) (status : ℕ) : Type 0 where
   pub input : List ℕ
-  pub consumed : Consumes reader reader' input
-  pub end : IsAtEnd reader'
+  pub consumed : Consumes before.input after.input input
+  pub end : IsAtEnd after.input
   pub within : length input ≤ j.limit
-  pub wrote : Wrote writer writer' log log' (tagged (trace j input))
-  pub output : Appends writer writer' (output_of j input)
-  pub logged : Appends log log' (log_of j input)
+  pub wrote : Wrote before.written after.written (tagged (trace j input))
+  pub output : Appends before.written.output after.written.output (output_of j input)
+  pub logged : Appends before.written.log after.written.log (log_of j input)
   pub known : (status ≡ 0) ⊎ (status ≡ 1)
   pub quiet : status ≡ 0 → log_of j input ≡ []
   pub told : status ≡ 1 → log_of j input ≡ [] → ⊥
@@ -25,17 +27,17 @@ pub record Converts (reader reader' writer writer' log log' : Option (List ℕ))
   pub lossy : KeepsCharacters j.to → status ≡ 1 → Faithful j input → ⊥
 
 -- more bytes were read than the limit
-pub record PassedLimit (reader reader' : Option (List ℕ)) (limit : ℕ) : Type 0 where
+pub record PassedLimit (before after : Option (List ℕ)) (limit : ℕ) : Type 0 where
   pub input : List ℕ
-  pub consumed : Consumes reader reader' input
+  pub consumed : Consumes before after input
   pub past : limit < length input
 
 -- a call of the device failed that the fault is of, or the input is too long
-abbrev pub IsCause : (reads reads' writes writes' logs logs' : ℕ) (reader reader' : Option (List ℕ)) (limit : ℕ) → Fault → Type 0
-IsCause reads reads' writes writes' logs logs' reader reader' limit Read = reads < reads'
-IsCause reads reads' writes writes' logs logs' reader reader' limit Write = writes < writes'
-IsCause reads reads' writes writes' logs logs' reader reader' limit Log = logs < logs'
-IsCause reads reads' writes writes' logs logs' reader reader' limit TooLong = PassedLimit reader reader' limit
+abbrev pub IsCause : (failures failures' : Failures) (before after : Option (List ℕ)) (limit : ℕ) → Fault → Type 0
+IsCause failures failures' before after limit Read = failures.reader < failures'.reader
+IsCause failures failures' before after limit Write = failures.writer < failures'.writer
+IsCause failures failures' before after limit Log = failures.log < failures'.log
+IsCause failures failures' before after limit TooLong = PassedLimit before after limit
 
 -- a flush failed of the writer that the fault is of
 abbrev pub IsFlushCause : (writes writes' logs logs' : ℕ) → Fault → Type 0
@@ -57,23 +59,23 @@ IsTold before after message told = ((after ≡ before) × (take told message ≡
 
 -- What a conversion leaves that failed: output and log are a prefix of what any continuation of the bytes read gives,
 -- none where the end was read, in their one order; behind it the log has a prefix of the message of a fault that came,
--- all of it where no call of the log failed while it was written. `before` is the log's count when it was begun.
-pub record Breaks (reader reader' writer writer' log log' : Option (List ℕ)) (reads reads' writes writes' logs logs' : ℕ) (j : Job) : Type 0 where
+-- all of it where no call of the log failed while it was written. `untold` is the log's count when it was begun.
+pub record Breaks (before after : Streams) (failures failures' : Failures) (j : Job) : Type 0 where
   pub input : List ℕ
   pub refused : List ℕ
   pub ended : Bool
-  pub consumed : Consumes reader reader' (input ++ refused)
-  pub end : ended ≡ true → IsAtEnd reader'
+  pub consumed : Consumes before.input after.input (input ++ refused)
+  pub end : ended ≡ true → IsAtEnd after.input
   pub none : ended ≡ true → refused ≡ []
   pub within : length input ≤ j.limit
   pub taken : List TaggedByte
   pub fault : Fault
   pub spared : fault ≢ TooLong → refused ≡ []
-  pub before : ℕ
-  pub since : logs ≤ before
-  pub cause : IsCause reads reads' writes writes' logs before reader reader' j.limit fault
+  pub untold : ℕ
+  pub since : failures.log ≤ untold
+  pub cause : IsCause failures (record failures' { log = untold }) before.input after.input j.limit fault
   pub told : ℕ
-  pub whole : IsTold before logs' (message_of fault) told
-  pub output : Appends writer writer' (outputs taken)
-  pub logged : Appends log log' (lines taken ++ take told (message_of fault))
+  pub whole : IsTold untold failures'.log (message_of fault) told
+  pub output : Appends before.written.output after.written.output (outputs taken)
+  pub logged : Appends before.written.log after.written.log (lines taken ++ take told (message_of fault))
   pub prefix : (r : List ℕ) → (ended ≡ true → r ≡ []) → IsPrefix taken (tagged (trace j (input ++ r)))

@@ -2,9 +2,12 @@ pub mod Character
 pub mod TaggedByte
 pub mod WrittenItems
 pub mod Fault
+pub mod Failures
+pub mod Streams
 pub mod TraceToWrite
-pub mod Step
+pub mod State
 pub mod Job
+pub mod Step
 pub mod Buffers
 pub mod PivotText
 pub mod CodecCalls
@@ -15,4 +18,6 @@ pub mod Runs
 pub mod Latency
 pub mod Conversion
 pub mod Program
+pub mod EngineState
+pub mod SessionView
 pub mod examples

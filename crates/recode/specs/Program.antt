@@ -5,7 +5,6 @@ use Rattle.encoding_front.specs.declared.encoding.Encoding.{Encoding}
 use Rattle.encoding_front.specs.declared.mark.Mark.{Mark}
 use Rattle.encoding_tables.specs.IndexLists.{IndexLists, has}
 use Rattle.encoding_tables.specs.declared.index_kind.IndexKind.{IndexKind}
-use Rattle.recode_log.specs.Counted.{inner_of, failures_of}
 use Rattle.recode_log.specs.declared.counted.Counted.{Counted}
 use Rattle.recode_words.specs.Request.{AsksFor, HasMeaninglessValue, IsRefusedByClap}
 use Rattle.recode_words.specs.declared.request.Request.{Request}
@@ -13,7 +12,9 @@ use Rattle.recode_words.specs.declared.request.Request.TheVariants.{Run, Help, V
 use Rattle.recode_words.specs.declared.words.MarkWord.{MarkWord}
 use Rattle.recode_words.specs.declared.words.Words.{Words}
 use Rattle.recode.specs.Conversion.{Breaks, Converts}
+use Rattle.recode.specs.Failures.{Failures, failures_in}
 use Rattle.recode.specs.Job.{IsValidJob}
+use Rattle.recode.specs.Streams.{Streams, streams_in}
 use Rattle.recode.specs.declared.job.Job.{Job}
 
 -- what the word for a mark mode says
@@ -59,52 +60,67 @@ pub record AskForText (words : List (List ℕ)) : Type 0 where
 abbrev pub AreKept : IndexLists → IndexLists → Type 0
 AreKept old new = (kind : IndexKind) → has old kind ≡ true → has new kind ≡ true
 
+-- a reader, a writer and a log, as they are at one moment
+pub record Devices (R W L : Type 0) : Type 0 where
+  pub reader : Counted R
+  pub writer : Counted W
+  pub log : Counted L
+
+abbrev pub devices : {R W L : Type 0} → Counted R → Counted W → Counted L → Devices R W L
+devices reader writer log = record { reader = reader; writer = writer; log = log }
+
 -- What `convert` promises: the conversion is whole, and no call of a device failed, or it broke off.
-pub record IsConversion {R W L : Type 0} (left : R → Option (List ℕ)) (written : W → Option (List ℕ)) (logged : L → Option (List ℕ)) (reader reader' : Counted R) (writer writer' : Counted W) (log log' : Counted L) (j : Job) (status : ℕ) : Type 0 where
-  pub converts : status ≢ 4 → Converts (left (inner_of reader)) (left (inner_of reader')) (written (inner_of writer)) (written (inner_of writer')) (logged (inner_of log)) (logged (inner_of log')) j status
-  pub quiet : status ≢ 4 → (failures_of reader' ≡ failures_of reader) × (failures_of writer' ≡ failures_of writer) × (failures_of log' ≡ failures_of log)
-  pub broken : status ≡ 4 → Breaks (left (inner_of reader)) (left (inner_of reader')) (written (inner_of writer)) (written (inner_of writer')) (logged (inner_of log)) (logged (inner_of log')) (failures_of reader) (failures_of reader') (failures_of writer) (failures_of writer') (failures_of log) (failures_of log') j
+pub record IsConversion (before after : Streams) (failures failures' : Failures) (j : Job) (status : ℕ) : Type 0 where
+  pub converts : status ≢ 4 → Converts before after j status
+  pub quiet : status ≢ 4 → failures' ≡ failures
+  pub broken : status ≡ 4 → Breaks before after failures failures' j
+
+-- the same of devices
+abbrev pub IsConversionOn : {R W L : Type 0} → (R → Option (List ℕ)) → (W → Option (List ℕ)) → (L → Option (List ℕ)) → Devices R W L → Devices R W L → Job → ℕ → Type 0
+IsConversionOn remaining contents logged before after j status =
+    IsConversion (streams_in remaining contents logged before.reader before.writer before.log) (streams_in remaining contents logged after.reader after.writer after.log)
+    (failures_in before.reader before.writer before.log) (failures_in after.reader after.writer after.log) j status
 
 -- Nothing is read, and nothing written but to the log.
-pub record IsLeftAlone {R W : Type 0} (reader reader' : Counted R) (writer writer' : Counted W) : Type 0 where
-  pub unread : reader' ≡ reader
-  pub unwritten : writer' ≡ writer
+pub record IsLeftAlone {R W L : Type 0} (before after : Devices R W L) : Type 0 where
+  pub unread : after.reader ≡ before.reader
+  pub unwritten : after.writer ≡ before.writer
 
 -- What is returned for words that clap takes: a label is unknown, or an index or memory is missing, or their job is
 -- converted.
-abbrev pub AnswersWords : {R W L : Type 0} (left : R → Option (List ℕ)) (written : W → Option (List ℕ)) (logged : L → Option (List ℕ)) (reader reader' : Counted R) (writer writer' : Counted W) (log log' : Counted L) → Words → ℕ → Type 0
-AnswersWords left written logged reader reader' writer writer' log log' w status =
-    ((status ≡ 2) × HasUnknownLabel w × IsLeftAlone reader reader' writer writer')
-    ⊎ (((status ≡ 3) × IsLeftAlone reader reader' writer writer')
-    ⊎ ((j : Job) × IsJobOf w j × IsConversion left written logged reader reader' writer writer' log log' j status))
+abbrev pub AnswersWords : {R W L : Type 0} → (R → Option (List ℕ)) → (W → Option (List ℕ)) → (L → Option (List ℕ)) → Devices R W L → Devices R W L → Words → ℕ → Type 0
+AnswersWords remaining contents logged before after w status =
+    ((status ≡ 2) × HasUnknownLabel w × IsLeftAlone before after)
+    ⊎ (((status ≡ 3) × IsLeftAlone before after)
+    ⊎ ((j : Job) × IsJobOf w j × IsConversionOn remaining contents logged before after j status))
 
 -- What is returned for the program's words: they are refused, or the start fails, with nothing read and nothing written
 -- but a message; or they ask for a text, with nothing read and no message; or the job that they mean is converted.
-pub record RefusesWords {R W : Type 0} (reader reader' : Counted R) (writer writer' : Counted W) (words : List (List ℕ)) (status : ℕ) : Type 0 where
+pub record RefusesWords {R W L : Type 0} (before after : Devices R W L) (words : List (List ℕ)) (status : ℕ) : Type 0 where
   pub answered : status ≡ 2
   pub refused : IsRefusedByClap words ⊎ (HasMeaninglessValue words ⊎ NamesUnknown words)
-  pub alone : IsLeftAlone reader reader' writer writer'
+  pub alone : IsLeftAlone before after
 
-pub record FailsToStart {R W : Type 0} (reader reader' : Counted R) (writer writer' : Counted W) (status : ℕ) : Type 0 where
+pub record FailsToStart {R W L : Type 0} (before after : Devices R W L) (status : ℕ) : Type 0 where
   pub answered : status ≡ 3
-  pub alone : IsLeftAlone reader reader' writer writer'
+  pub alone : IsLeftAlone before after
 
-pub record TellsText {R L : Type 0} (reader reader' : Counted R) (log log' : Counted L) (words : List (List ℕ)) (status : ℕ) : Type 0 where
+pub record TellsText {R W L : Type 0} (before after : Devices R W L) (words : List (List ℕ)) (status : ℕ) : Type 0 where
   pub answered : status ≡ 0
   pub asked : AskForText words
-  pub unread : reader' ≡ reader
-  pub unlogged : log' ≡ log
+  pub unread : after.reader ≡ before.reader
+  pub unlogged : after.log ≡ before.log
 
-pub record RunsJob {R W L : Type 0} (left : R → Option (List ℕ)) (written : W → Option (List ℕ)) (logged : L → Option (List ℕ)) (reader reader' : Counted R) (writer writer' : Counted W) (log log' : Counted L) (words : List (List ℕ)) (status : ℕ) : Type 0 where
+pub record RunsJob {R W L : Type 0} (remaining : R → Option (List ℕ)) (contents : W → Option (List ℕ)) (logged : L → Option (List ℕ)) (before after : Devices R W L) (words : List (List ℕ)) (status : ℕ) : Type 0 where
   pub w : Words
   pub meant : AsksFor words (Run w)
   pub j : Job
   pub job : IsJobOf w j
-  pub converted : IsConversion left written logged reader reader' writer writer' log log' j status
+  pub converted : IsConversionOn remaining contents logged before after j status
 
-abbrev pub AnswersProgram : {R W L : Type 0} (left : R → Option (List ℕ)) (written : W → Option (List ℕ)) (logged : L → Option (List ℕ)) (reader reader' : Counted R) (writer writer' : Counted W) (log log' : Counted L) → List (List ℕ) → ℕ → Type 0
-AnswersProgram left written logged reader reader' writer writer' log log' words status =
-    RefusesWords reader reader' writer writer' words status
-    ⊎ (FailsToStart reader reader' writer writer' status
-    ⊎ (TellsText reader reader' log log' words status
-    ⊎ RunsJob left written logged reader reader' writer writer' log log' words status))
+abbrev pub AnswersProgram : {R W L : Type 0} → (R → Option (List ℕ)) → (W → Option (List ℕ)) → (L → Option (List ℕ)) → Devices R W L → Devices R W L → List (List ℕ) → ℕ → Type 0
+AnswersProgram remaining contents logged before after words status =
+    RefusesWords before after words status
+    ⊎ (FailsToStart before after status
+    ⊎ (TellsText before after words status
+    ⊎ RunsJob remaining contents logged before after words status))

@@ -1,19 +1,15 @@
 -- A session as its callers know it, and what a run of it says.
-use Rattle.std.specs.Prelude.{◌≡◌, ◌≢◌, ℕ, ◌≤◌, ◌↔◌, IsTrue, List, [], ◌++◌, length, Option, Bool, true, Result, Ok, Err, ◌==◌, ◌&&◌}
+use Rattle.std.specs.Prelude.{◌≡◌, ◌≢◌, ℕ, ◌≤◌, ◌↔◌, IsTrue, List, [], ◌++◌, length, Bool, true, Result, Ok, Err, ◌==◌, ◌&&◌}
 use Rattle.std.specs.Io.KnownBytes.{Appends, Consumes, IsAtEnd}
 use Rattle.encoding_mem.specs.Piece.{malformed_count}
-use Rattle.encoding_mem.specs.Decoding.{DecoderState}
-use Rattle.encoding_mem.specs.Coding.{Coding, lost_count}
-use Rattle.encoding_mem.specs.Items.{Item}
-use Rattle.encoding_mem.specs.declared.form.EscapeState.{EscapeState}
+use Rattle.encoding_mem.specs.Coding.{lost_count}
 use Rattle.encoding_mem.specs.declared.form.EscapeState.TheVariants.{Ascii}
 use Rattle.encoding_front.specs.Encodings.{KeepsCharacters}
-use Rattle.encoding_front.specs.declared.encoding.Encoding.{Encoding}
 use Rattle.recode.specs.Job.{trace, target_of, output_of, log_of, source_in, input_pieces, input_text, Faithful}
+use Rattle.recode.specs.State.{State, to_write}
+use Rattle.recode.specs.Streams.{Streams, Written}
 use Rattle.recode.specs.TaggedByte.{TaggedByte, Wrote, IsPrefix, tagged, outputs, lines}
-use Rattle.recode.specs.TraceToWrite.{trace_to_write}
 use Rattle.recode.specs.Step.{PassesLimit}
-use Rattle.recode.specs.declared.counts.Counts.{Counts}
 use Rattle.recode.specs.declared.fault.Fault.{Fault}
 use Rattle.recode.specs.declared.fault.Fault.TheVariants.{TooLong}
 use Rattle.recode.specs.declared.job.Job.{Job}
@@ -24,16 +20,8 @@ use Rattle.recode.specs.declared.phase.Phase.TheVariants.{Open, Done, Stopped}
 
 pub record View : Type 0 where
   pub job : Job
-  pub decoder : DecoderState
-  pub source : List ℕ → Encoding
-  pub coding : Coding
-  pub set : EscapeState
-  pub counts : Counts
+  pub state : State
   pub phase : Phase
-
--- what a session has still to write for the bytes to come
-abbrev pub to_write : View → List ℕ → List Item
-to_write v r = trace_to_write v.decoder v.coding v.set v.counts r
 
 abbrev pub IsOver : Phase → Type 0
 IsOver Open = ⊥
@@ -45,28 +33,34 @@ phase_after (Ok Progress.More) = Open
 phase_after (Ok Progress.Done) = Done
 phase_after (Err f) = Stopped
 
+-- what holds of each step: the job stays, and the phase says how it ended
+pub record IsStepped (v v' : View) (answer : Result Progress Fault) : Type 0 where
+  pub job : v'.job ≡ v.job
+  pub target : v'.state.coding ≡ v.state.coding
+  pub phase : v'.phase ≡ phase_after answer
+
 -- a session that has read nothing
 pub record IsNewSession (v : View) (j : Job) : Type 0 where
   pub job : v.job ≡ j
   pub open_ : v.phase ≡ Open
-  pub source : (x : List ℕ) → v.source x ≡ source_in j x
-  pub coding : v.coding ≡ target_of j
-  pub read : v.counts.read ≡ 0
-  pub bad : v.counts.bad ≡ 0
-  pub lost : v.counts.lost ≡ 0
-  pub index : v.counts.index ≡ 0
-  pub set : v.set ≡ Ascii
-  pub pending : v.decoder.pending ≡ 0
-  pub pieces : (x : List ℕ) → v.decoder.pieces x ≡ input_pieces j x
-  pub owes_trace : (x : List ℕ) → to_write v x ≡ trace j x
+  pub source : (x : List ℕ) → v.state.source x ≡ source_in j x
+  pub coding : v.state.coding ≡ target_of j
+  pub read : v.state.counts.read ≡ 0
+  pub bad : v.state.counts.bad ≡ 0
+  pub lost : v.state.counts.lost ≡ 0
+  pub index : v.state.counts.index ≡ 0
+  pub set : v.state.set ≡ Ascii
+  pub pending : v.state.decoder.pending ≡ 0
+  pub pieces : (x : List ℕ) → v.state.decoder.pieces x ≡ input_pieces j x
+  pub owes_trace : (x : List ℕ) → to_write v.state x ≡ trace j x
 
 -- what a session tells that has read all
 pub record Tells (v : View) (p : Report) : Type 0 where
-  pub read : p.read ≡ v.counts.read
-  pub bad : p.bad ≡ v.counts.bad
-  pub lost : p.lost ≡ v.counts.lost
-  pub encoding : p.encoding ≡ v.source []
-  pub verdict : p.faithful ≡ (v.counts.bad == 0 && v.counts.lost == 0)
+  pub read : p.read ≡ v.state.counts.read
+  pub bad : p.bad ≡ v.state.counts.bad
+  pub lost : p.lost ≡ v.state.counts.lost
+  pub encoding : p.encoding ≡ v.state.source []
+  pub verdict : p.faithful ≡ (v.state.counts.bad == 0 && v.state.counts.lost == 0)
 
 -- The report on an input. Where the target has no folds, that the log is empty means that nothing was lost.
 pub record IsReport (j : Job) (x : List ℕ) (p : Report) : Type 0 where
@@ -79,38 +73,38 @@ pub record IsReport (j : Job) (x : List ℕ) (p : Report) : Type 0 where
 
 -- A run that came to its end: the input was read whole and is within the limit, output and log are whole, and the
 -- report is of this input.
-pub record Completes (reader reader' writer writer' log log' : Option (List ℕ)) (j : Job) (p : Report) : Type 0 where
+pub record Completes (before after : Streams) (j : Job) (p : Report) : Type 0 where
   pub input : List ℕ
-  pub consumed : Consumes reader reader' input
-  pub end : IsAtEnd reader'
+  pub consumed : Consumes before.input after.input input
+  pub end : IsAtEnd after.input
   pub within : length input ≤ j.limit
-  pub wrote : Wrote writer writer' log log' (tagged (trace j input))
-  pub output : Appends writer writer' (output_of j input)
-  pub logged : Appends log log' (log_of j input)
+  pub wrote : Wrote before.written after.written (tagged (trace j input))
+  pub output : Appends before.written.output after.written.output (output_of j input)
+  pub logged : Appends before.written.log after.written.log (log_of j input)
   pub report : IsReport j input p
 
 -- A run that a fault ended: what was written is a prefix of what any continuation of the bytes read gives, none where
 -- the end was read, output and log in their one order. Bytes are refused by `TooLong` alone, and pass the limit.
-pub record Fails (reader reader' writer writer' log log' : Option (List ℕ)) (j : Job) (f : Fault) : Type 0 where
+pub record Fails (before after : Streams) (j : Job) (f : Fault) : Type 0 where
   pub input : List ℕ
   pub refused : List ℕ
   pub ended : Bool
-  pub consumed : Consumes reader reader' (input ++ refused)
-  pub end : ended ≡ true → IsAtEnd reader'
+  pub consumed : Consumes before.input after.input (input ++ refused)
+  pub end : ended ≡ true → IsAtEnd after.input
   pub none : ended ≡ true → refused ≡ []
   pub spared : f ≢ TooLong → refused ≡ []
   pub within : length input ≤ j.limit
   pub limited : PassesLimit (length (input ++ refused)) j.limit f
   pub taken : List TaggedByte
-  pub wrote : Wrote writer writer' log log' taken
+  pub wrote : Wrote before.written after.written taken
   pub prefix : (r : List ℕ) → (ended ≡ true → r ≡ []) → IsPrefix taken (tagged (trace j (input ++ r)))
   pub output : (r : List ℕ) → (ended ≡ true → r ≡ []) → IsPrefix (outputs taken) (output_of j (input ++ r))
   pub logged : (r : List ℕ) → (ended ≡ true → r ≡ []) → IsPrefix (lines taken) (log_of j (input ++ r))
 
 -- The whole input x was converted and reported.
-pub record IsConverted (writer writer' log log' : Option (List ℕ)) (j : Job) (x : List ℕ) (p : Report) : Type 0 where
+pub record IsConverted (before after : Written) (j : Job) (x : List ℕ) (p : Report) : Type 0 where
   pub within : length x ≤ j.limit
-  pub wrote : Wrote writer writer' log log' (tagged (trace j x))
-  pub output : Appends writer writer' (output_of j x)
-  pub logged : Appends log log' (log_of j x)
+  pub wrote : Wrote before after (tagged (trace j x))
+  pub output : Appends before.output after.output (output_of j x)
+  pub logged : Appends before.log after.log (log_of j x)
   pub report : IsReport j x p

@@ -1,33 +1,62 @@
 -- What one step does, for every continuation of the bytes read.
-use Rattle.std.specs.Prelude.{◌≡◌, ◌≢◌, ℕ, ◌+◌, ◌<◌, ◌≤◌, List, [], ◌++◌, length, Option, Bool, true, false}
-use Rattle.std.specs.Io.KnownBytes.{Consumes, IsAtEnd}
+use Rattle.std.specs.Prelude.{◌≡◌, ◌≢◌, ℕ, ◌+◌, ◌-◌, ◌<◌, ◌≤◌, ◌⊎◌, List, [], ◌++◌, length, Bool, true, false}
+use Rattle.std.specs.Io.KnownBytes.{Appends, Consumes, IsAtEnd}
+use Rattle.std.specs.List.{flat_map}
+use Rattle.encoding_mem.specs.declared.reference.Reference.TheVariants.{Decimal}
+use Rattle.encoding_mem.specs.Coding.{Coding, last_set, open_from}
+use Rattle.encoding_mem.specs.Decoding.{DecoderState, Waits}
 use Rattle.encoding_mem.specs.Items.{Item}
-use Rattle.encoding_front.specs.declared.encoding.Encoding.{Encoding}
+use Rattle.encoding_mem.specs.Piece.{Piece, text}
+use Rattle.encoding_mem.specs.declared.form.EscapeState.{EscapeState}
+use Rattle.recode_log.specs.Line.{line_bytes}
+use Rattle.recode.specs.Job.{log_lines}
+use Rattle.recode.specs.State.{State, to_write}
+use Rattle.recode.specs.Streams.{KeepsWritten, Streams, Written}
 use Rattle.recode.specs.TaggedByte.{TaggedByte, Wrote, IsPrefix, tagged}
 use Rattle.recode.specs.WrittenItems.{WritesItems, WritesItemsFor, WritesPrefixFor}
 use Rattle.recode.specs.declared.counts.Counts.{Counts}
 use Rattle.recode.specs.declared.fault.Fault.{Fault}
 use Rattle.recode.specs.declared.fault.Fault.TheVariants.{Read, Write, Log, TooLong}
 
--- Some bytes were read, and what was still to be written for them and any bytes to come is what was written, then what
--- is still to be written now; the encoding that the input turns out to be in stays the same.
-pub record StepGoesOn (reader reader' writer writer' log log' : Option (List ℕ)) (c c' : Counts) (limit : ℕ) (to_write to_write' : List ℕ → List Item) (encoding encoding' : List ℕ → Encoding) : Type 0 where
+-- Nothing is pending, or bytes whose first piece changes with at most three more, and ends at most two bytes before
+-- their end.
+abbrev pub IsNearlyDecided : DecoderState → Type 0
+IsNearlyDecided d = ((d.pending ≡ 0) × (d.pieces [] ≡ [])) ⊎ Waits d.pieces d.pending
+
+-- These pieces were taken from the start of those to come, however the input goes on, and their text was encoded.
+pub record Advances (before after : List ℕ → List Piece) (e : Coding) (s s' : EscapeState) (c c' : Counts) : Type 0 where
+  pub taken : List Piece
+  pub rest : (r : List ℕ) → before r ≡ taken ++ after r
+  pub set : s' ≡ last_set e s (text taken)
+  pub index : c'.index ≡ c.index + length (text taken)
+
+-- Some bytes were read. What was still to be written for them and any bytes to come is what was written, then what is
+-- still to be written now; the encoding that the input turns out to be in stays the same. What is decided was
+-- converted, however the input goes on: what was written is its text and what was logged its lines, no more and no
+-- less, and what is pending is nearly decided.
+pub record StepsOn (before after : Streams) (limit : ℕ) (s s' : State) : Type 0 where
   pub chunk : List ℕ
-  pub consumed : Consumes reader reader' chunk
-  pub counted : c'.read ≡ c.read + length chunk
-  pub within : c'.read ≤ limit
-  pub pays : WritesItemsFor writer writer' log log' c c' false (λ r. to_write (chunk ++ r)) to_write'
-  pub source : (r : List ℕ) → encoding (chunk ++ r) ≡ encoding' r
+  pub consumed : Consumes before.input after.input chunk
+  pub counted : s'.counts.read ≡ s.counts.read + length chunk
+  pub grows : s.counts.read < s'.counts.read
+  pub within : s'.counts.read ≤ limit
+  pub target : s'.coding ≡ s.coding
+  pub source : (r : List ℕ) → s.source (chunk ++ r) ≡ s'.source r
+  pub pays : WritesItemsFor before.written after.written s.counts s'.counts false (λ r. to_write s (chunk ++ r)) (to_write s')
+  pub advances : Advances (λ r. s.decoder.pieces (chunk ++ r)) s'.decoder.pieces s.coding s.set s'.set s.counts s'.counts
+  pub output : Appends before.written.output after.written.output (open_from Decimal s.coding s.set (text advances.taken))
+  pub logged : Appends before.written.log after.written.log (flat_map line_bytes (log_lines s.coding (s.counts.read - s.decoder.pending) s.counts.index advances.taken))
+  pub settled : IsNearlyDecided s'.decoder
 
 -- The end was read, and all the rest of the trace was written.
-pub record Finishes (reader reader' writer writer' log log' : Option (List ℕ)) (c c' : Counts) (limit : ℕ) (to_write : List ℕ → List Item) (encoding encoding' : List ℕ → Encoding) : Type 0 where
+pub record Finishes (before after : Streams) (limit : ℕ) (s s' : State) : Type 0 where
   pub chunk : List ℕ
-  pub consumed : Consumes reader reader' chunk
-  pub end : IsAtEnd reader'
-  pub counted : c'.read ≡ c.read + length chunk
-  pub within : c'.read ≤ limit
-  pub pays : WritesItems writer writer' log log' c c' (to_write chunk) []
-  pub source : encoding chunk ≡ encoding' []
+  pub consumed : Consumes before.input after.input chunk
+  pub end : IsAtEnd after.input
+  pub counted : s'.counts.read ≡ s.counts.read + length chunk
+  pub within : s'.counts.read ≤ limit
+  pub pays : WritesItems before.written after.written s.counts s'.counts (to_write s chunk) []
+  pub source : s.source chunk ≡ s'.source []
 
 -- where the bytes that were read pass the limit, or not
 abbrev pub PassesLimit : (read limit : ℕ) → Fault → Type 0
@@ -37,21 +66,23 @@ PassesLimit read limit Write = read ≤ limit
 PassesLimit read limit Log = read ≤ limit
 
 -- What was written is a prefix of what was still to be written for the bytes that were read and counted, and any bytes
--- to come, none where the end was read. Bytes are refused by `TooLong` alone, and pass the limit.
-pub record Stops (reader reader' writer writer' log log' : Option (List ℕ)) (c : Counts) (limit : ℕ) (to_write : List ℕ → List Item) (fault : Fault) : Type 0 where
+-- to come, none where the end was read; it is nothing where the fault is no writer's. Bytes are refused by `TooLong`
+-- alone, and pass the limit.
+pub record Stops (before after : Streams) (limit : ℕ) (s : State) (fault : Fault) : Type 0 where
   pub chunk : List ℕ
   pub refused : List ℕ
   pub ended : Bool
-  pub consumed : Consumes reader reader' (chunk ++ refused)
-  pub end : ended ≡ true → IsAtEnd reader'
+  pub consumed : Consumes before.input after.input (chunk ++ refused)
+  pub end : ended ≡ true → IsAtEnd after.input
   pub none : ended ≡ true → refused ≡ []
   pub spared : fault ≢ TooLong → refused ≡ []
-  pub within : c.read + length chunk ≤ limit
-  pub limited : PassesLimit (c.read + length (chunk ++ refused)) limit fault
-  pub pays : WritesPrefixFor writer writer' log log' ended (λ r. to_write (chunk ++ r))
+  pub within : s.counts.read + length chunk ≤ limit
+  pub limited : PassesLimit (s.counts.read + length (chunk ++ refused)) limit fault
+  pub pays : WritesPrefixFor before.written after.written ended (λ r. to_write s (chunk ++ r))
+  pub untouched : (fault ≡ Read) ⊎ (fault ≡ TooLong) → KeepsWritten before.written after.written
 
 -- a prefix of what this input gives was written
-pub record WrotePrefix (writer writer' log log' : Option (List ℕ)) (to_write : List Item) : Type 0 where
+pub record WrotePrefix (before after : Written) (to_write : List Item) : Type 0 where
   pub taken : List TaggedByte
-  pub wrote : Wrote writer writer' log log' taken
+  pub wrote : Wrote before after taken
   pub prefix : IsPrefix taken (tagged to_write)

@@ -1,8 +1,9 @@
 -- What the two writers take, in one order: each byte is one of the output or one of the log.
-use Rattle.std.specs.Prelude.{◌≡◌, ℕ, List, [], ◌∷◌, ◌++◌, map, Option}
+use Rattle.std.specs.Prelude.{◌≡◌, ℕ, List, [], ◌∷◌, ◌++◌, map}
 use Rattle.std.specs.List.{flat_map}
 use Rattle.std.specs.Io.KnownBytes.{Appends}
 use Rattle.encoding_mem.specs.Items.{Item, Byte, MalformedAt, LostAt}
+use Rattle.recode.specs.Streams.{Written}
 use Rattle.recode_log.specs.Line.{line_bytes}
 use Rattle.recode_log.specs.declared.line.LogLine.TheVariants.{Bad, Lost}
 
@@ -35,7 +36,7 @@ tagged items = flat_map tagged_item items
 abbrev pub IsPrefix : {X : Type 0} → List X → List X → Type 0
 IsPrefix {X} t u = (rest : List X) × (u ≡ t ++ rest)
 
--- the writer's known bytes grew by the output bytes of t, and the log's by its log bytes
-pub record Wrote (writer writer' log log' : Option (List ℕ)) (t : List TaggedByte) : Type 0 where
-  pub output : Appends writer writer' (outputs t)
-  pub lined : Appends log log' (lines t)
+-- the output grew by the output bytes of t, and the log by its log bytes
+pub record Wrote (before after : Written) (t : List TaggedByte) : Type 0 where
+  pub output : Appends before.output after.output (outputs t)
+  pub lined : Appends before.log after.log (lines t)

@@ -1,6 +1,7 @@
 -- How the writers take what a conversion has still to write for the input to come, which is a list of items.
-use Rattle.std.specs.Prelude.{◌≡◌, ℕ, ◌+◌, List, [], ◌∷◌, ◌++◌, Option, Bool, true}
+use Rattle.std.specs.Prelude.{◌≡◌, ℕ, ◌+◌, List, [], ◌∷◌, ◌++◌, Bool, true}
 use Rattle.encoding_mem.specs.Items.{Item, Byte, MalformedAt, LostAt}
+use Rattle.recode.specs.Streams.{Written}
 use Rattle.recode.specs.TaggedByte.{TaggedByte, Wrote, IsPrefix, tagged}
 use Rattle.recode.specs.declared.counts.Counts.{Counts}
 
@@ -24,26 +25,26 @@ pub record AreCounted (c c' : Counts) (written_items : List Item) : Type 0 where
 
 -- The writers took these items, which are counted, and what was still to be written is these, then what is still to
 -- be written now.
-pub record WritesItems (writer writer' log log' : Option (List ℕ)) (c c' : Counts) (to_write to_write' : List Item) : Type 0 where
+pub record WritesItems (before after : Written) (c c' : Counts) (to_write to_write' : List Item) : Type 0 where
   pub written_items : List Item
-  pub wrote : Wrote writer writer' log log' (tagged written_items)
+  pub wrote : Wrote before after (tagged written_items)
   pub counted : AreCounted c c' written_items
   pub equals : to_write ≡ written_items ++ to_write'
 
 -- the writers took a prefix of what was still to be written
-pub record WritesPrefix (writer writer' log log' : Option (List ℕ)) (to_write : List Item) : Type 0 where
+pub record WritesPrefix (before after : Written) (to_write : List Item) : Type 0 where
   pub taken : List TaggedByte
-  pub wrote : Wrote writer writer' log log' taken
+  pub wrote : Wrote before after taken
   pub prefix : IsPrefix taken (tagged to_write)
 
 -- The same for every continuation of the bytes that were handed in, which is the empty one after the last.
-pub record WritesItemsFor (writer writer' log log' : Option (List ℕ)) (c c' : Counts) (last : Bool) (to_write to_write' : List ℕ → List Item) : Type 0 where
+pub record WritesItemsFor (before after : Written) (c c' : Counts) (last : Bool) (to_write to_write' : List ℕ → List Item) : Type 0 where
   pub written_items : List Item
-  pub wrote : Wrote writer writer' log log' (tagged written_items)
+  pub wrote : Wrote before after (tagged written_items)
   pub counted : AreCounted c c' written_items
   pub equals : (r : List ℕ) → (last ≡ true → r ≡ []) → to_write r ≡ written_items ++ to_write' r
 
-pub record WritesPrefixFor (writer writer' log log' : Option (List ℕ)) (last : Bool) (to_write : List ℕ → List Item) : Type 0 where
+pub record WritesPrefixFor (before after : Written) (last : Bool) (to_write : List ℕ → List Item) : Type 0 where
   pub taken : List TaggedByte
-  pub wrote : Wrote writer writer' log log' taken
+  pub wrote : Wrote before after taken
   pub prefix : (r : List ℕ) → (last ≡ true → r ≡ []) → IsPrefix taken (tagged (to_write r))

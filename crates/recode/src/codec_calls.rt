@@ -1,10 +1,10 @@
-// The calls of codecs over text in a pivot. What form the text has is known here alone, and each call is
-// counted.
+// The calls of codecs over text in a pivot. What form the text has is known here alone.
 
 ghost use Rattle.std.specs.Prelude.{◌≡◌, ℕ, ◌+◌, ◌-◌, ◌≤◌, ◌++◌, List, [], false, IsTrue, take, drop, length, encode_utf8_all};
-ghost use Rattle.encoding_mem.specs.Decoding.{EndsWith, StateLaw};
+ghost use Rattle.encoding_mem.specs.Decoding.{StateLaw};
 ghost use Rattle.encoding_mem.specs.Writing.{Adds, encode_utf16_all};
 ghost use Rattle.encoding_mem.specs.Encoding.{Encodes, EncodeEndsWith};
+ghost use Rattle.encoding_front.specs.DecoderCall.{DecoderCall};
 ghost use Rattle.encoding_front.specs.Stream.{finishes};
 ghost use Rattle.recode.specs.Buffers.{HoldsAnyCharacter, is_wide};
 ghost use Rattle.recode.specs.CodecCalls.{DecodeCallEndsWith};
@@ -27,8 +27,6 @@ pub struct DecodeCall {
     pub read: usize,
     /// The elements of the pivot that were written.
     pub written: usize,
-    /// The calls so far.
-    pub calls: u64,
 }
 
 // Decodes to UTF-8. Returns how the call ended, the bytes read and the elements written.
@@ -39,11 +37,9 @@ fn decode_to_bytes<D: StreamDecoder>(
     last: bool,
 ) -> (DecoderResult, usize, usize)
     requires { (D.view decoder.old).finished ≡ false }
-    ensures law { StateLaw (D.view decoder.old).state (D.view decoder.new).state src.now last result.1
-        (λ text. Adds dst.old 0 (encode_utf8_all text) dst.new result.2) result.0 }
-    ensures ends { EndsWith (D.view decoder.new).state (drop result.1 src.now) last (length (drop result.2 dst.new)) 4 3 result.0 }
-    ensures source { (r : List ℕ) → (IsTrue last → r ≡ []) → (D.view decoder.old).source (src.now ++ r) ≡ (D.view decoder.new).source (drop result.1 src.now ++ r) }
-    ensures finished { (D.view decoder.new).finished ≡ finishes last result.0 }
+    ensures call { DecoderCall (D.view decoder.old) (D.view decoder.new) src.now last result.1
+        (λ text. Adds dst.old 0 (encode_utf8_all text) dst.new result.2)
+        (length (drop result.2 dst.new)) 4 3 result.0 }
 {
     let mut sink = Utf8Sink::new(dst);
     let (answer, read) = decoder.decode_into(src, &mut sink, last);
@@ -58,11 +54,9 @@ fn decode_to_units<D: StreamDecoder>(
     last: bool,
 ) -> (DecoderResult, usize, usize)
     requires { (D.view decoder.old).finished ≡ false }
-    ensures law { StateLaw (D.view decoder.old).state (D.view decoder.new).state src.now last result.1
-        (λ text. Adds dst.old 0 (encode_utf16_all text) dst.new result.2) result.0 }
-    ensures ends { EndsWith (D.view decoder.new).state (drop result.1 src.now) last (length (drop result.2 dst.new)) 2 1 result.0 }
-    ensures source { (r : List ℕ) → (IsTrue last → r ≡ []) → (D.view decoder.old).source (src.now ++ r) ≡ (D.view decoder.new).source (drop result.1 src.now ++ r) }
-    ensures finished { (D.view decoder.new).finished ≡ finishes last result.0 }
+    ensures call { DecoderCall (D.view decoder.old) (D.view decoder.new) src.now last result.1
+        (λ text. Adds dst.old 0 (encode_utf16_all text) dst.new result.2)
+        (length (drop result.2 dst.new)) 2 1 result.0 }
 {
     let mut sink = Utf16Sink::new(dst);
     let (answer, read) = decoder.decode_into(src, &mut sink, last);
@@ -70,23 +64,25 @@ fn decode_to_units<D: StreamDecoder>(
 }
 
 /// One call of a decoder, which writes text to the pivot.
-pub fn decode_some<D: StreamDecoder>(
+pub fn decode_to_pivot<D: StreamDecoder>(
     decoder: &mut D,
-    calls: u64,
     src: &[u8],
     pivot: &mut Pivot<'_>,
     last: bool,
 ) -> DecodeCall
     requires pivot { HoldsAnyCharacter pivot.old }
     requires open_ { (D.view decoder.old).finished ≡ false }
-    ensures law { StateLaw (D.view decoder.old).state (D.view decoder.new).state src.now last result.read (Holds pivot.new result.written) result.answer }
-    ensures ends { DecodeCallEndsWith (D.view decoder.new).state (drop result.read src.now) last result.written result.answer }
-    ensures source { (r : List ℕ) → (IsTrue last → r ≡ []) → (D.view decoder.old).source (src.now ++ r) ≡ (D.view decoder.new).source (drop result.read src.now ++ r) }
+    ensures law { StateLaw (D.view decoder.old).state (D.view decoder.new).state src.now last
+        result.read (Holds pivot.new result.written) result.answer }
+    ensures ends { DecodeCallEndsWith (D.view decoder.new).state (drop result.read src.now) last
+        result.written result.answer }
+    ensures source { (r : List ℕ) → (IsTrue last → r ≡ [])
+        → (D.view decoder.old).source (src.now ++ r)
+        ≡ (D.view decoder.new).source (drop result.read src.now ++ r) }
     ensures finished { (D.view decoder.new).finished ≡ finishes last result.answer }
     ensures roomy { HoldsAnyCharacter pivot.new }
     ensures kind { is_wide pivot.new ≡ is_wide pivot.old }
 {
-    let calls = calls.saturating_add(1);
     match pivot {
         Pivot::Utf8(bytes) => {
             let (answer, read, written) = decode_to_bytes(decoder, src, bytes, last);
@@ -94,7 +90,6 @@ pub fn decode_some<D: StreamDecoder>(
                 answer,
                 read,
                 written,
-                calls,
             }
         }
         Pivot::Utf16(units) => {
@@ -103,7 +98,6 @@ pub fn decode_some<D: StreamDecoder>(
                 answer,
                 read,
                 written,
-                calls,
             }
         }
     }
@@ -119,25 +113,25 @@ pub struct EncodeCall<'p> {
     pub written: usize,
     /// The text that was not read.
     pub rest: PivotText<'p>,
-    /// The calls so far.
-    pub calls: u64,
 }
 
 /// One call of an encoder, which reads text of a pivot.
-pub fn encode_some<'p, E: RawEncoder>(
+pub fn encode_from_pivot<'p, E: RawEncoder>(
     encoder: &mut E,
-    calls: u64,
     text: PivotText<'p>,
     out: &mut [u8],
     last: bool,
 ) -> EncodeCall<'p>
-    ensures passed { result.characters + length (pivot_chars result.rest) ≡ length (pivot_chars text.entry) }
+    ensures passed { result.characters + length (pivot_chars result.rest)
+        ≡ length (pivot_chars text.entry) }
     ensures room { result.written ≤ length out.new }
     ensures target { E.coding encoder.new ≡ E.coding encoder.old }
-    ensures law { Encodes (E.coding encoder.old) last result.answer (E.set encoder.old) (pivot_chars text.entry) (take result.written out.new) (E.set encoder.new) (pivot_chars result.rest) }
-    ensures ends { EncodeEndsWith (E.need encoder.old) last result.answer (E.set encoder.new) (pivot_chars result.rest) (length out.new - result.written) }
+    ensures law { Encodes (E.coding encoder.old) last result.answer (E.set encoder.old)
+        (pivot_chars text.entry) (take result.written out.new) (E.set encoder.new)
+        (pivot_chars result.rest) }
+    ensures ends { EncodeEndsWith (E.need encoder.old) last result.answer (E.set encoder.new)
+        (pivot_chars result.rest) (length out.new - result.written) }
 {
-    let calls = calls.saturating_add(1);
     match text {
         PivotText::Utf8(text) => {
             let (answer, read, written) = encoder.encode_from_utf8_raw(text, out, last);
@@ -146,7 +140,6 @@ pub fn encode_some<'p, E: RawEncoder>(
                 characters: count_characters(&text[..read]),
                 written,
                 rest: PivotText::Utf8(&text[read..]),
-                calls,
             }
         }
         PivotText::Utf16(units) => {
@@ -156,7 +149,6 @@ pub fn encode_some<'p, E: RawEncoder>(
                 characters: count_in_units(&units[..read]),
                 written,
                 rest: PivotText::Utf16(&units[read..]),
-                calls,
             }
         }
     }

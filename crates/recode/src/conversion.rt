@@ -1,8 +1,10 @@
 ghost use Rattle.std.specs.Prelude.{◌≡◌, ◌≢◌, ◌≤◌, ◌<◌, ◌^◌, ◌+◌, ◌-◌, ℕ, take, length, OnOk, IfErr};
-ghost use Rattle.std.specs.Io.KnownBytes.{Appends, Keeps};
+ghost use Rattle.std.specs.Io.KnownBytes.{Appends};
 ghost use Rattle.recode_log.specs.Counted.{inner_of, failures_of};
 ghost use Rattle.recode.specs.Job.{IsValidJob};
 ghost use Rattle.recode.specs.Buffers.{AreEnough};
+ghost use Rattle.recode.specs.Failures.{failures_in};
+ghost use Rattle.recode.specs.Streams.{KeepsWritten, streams_in, written_in};
 ghost use Rattle.recode.specs.Conversion.{Breaks, Converts, IsFlushCause, IsTold, message_of};
 
 use crate::buffers::Buffers;
@@ -30,10 +32,13 @@ fn flush_both<W: Write, L: Write>(
 ) -> Result<(), Fault>
     requires writer { failures_of writer.old < 2 ^ 64 - 1 }
     requires log { failures_of log.old < 2 ^ 64 - 1 }
-    ensures output { Keeps (W.contents (inner_of writer.old)) (W.contents (inner_of writer.new)) }
-    ensures logged { Keeps (L.contents (inner_of log.old)) (L.contents (inner_of log.new)) }
-    ensures ok { OnOk result ((failures_of writer.new ≡ failures_of writer.old) × (failures_of log.new ≡ failures_of log.old)) }
-    ensures err { IfErr result (IsFlushCause (failures_of writer.old) (failures_of writer.new) (failures_of log.old) (failures_of log.new)) }
+    ensures kept { KeepsWritten
+        (written_in W.contents L.contents writer.old log.old)
+        (written_in W.contents L.contents writer.new log.new) }
+    ensures ok { OnOk result ((failures_of writer.new ≡ failures_of writer.old)
+        × (failures_of log.new ≡ failures_of log.old)) }
+    ensures err { IfErr result (IsFlushCause (failures_of writer.old) (failures_of writer.new)
+        (failures_of log.old) (failures_of log.new)) }
     ensures writer_count { failures_of writer.old ≤ failures_of writer.new }
     ensures log_count { failures_of log.old ≤ failures_of log.new }
     ensures log_bound { failures_of log.new ≤ failures_of log.old + 1 }
@@ -64,7 +69,10 @@ fn message_of(fault: Fault) -> &'static [u8]
 // Writes the message of a fault to the log; where that fails, the rest of it is dropped.
 fn tell<L: Write>(log: &mut Counted<L>, fault: Fault)
     requires { failures_of log.old < 2 ^ 64 - 1 }
-    ensures message { (n : ℕ) × IsTold (failures_of log.old) (failures_of log.new) (message_of fault) n × Appends (L.contents (inner_of log.old)) (L.contents (inner_of log.new)) (take n (message_of fault)) }
+    ensures message { (n : ℕ) × IsTold (failures_of log.old) (failures_of log.new)
+        (message_of fault) n
+        × Appends (L.contents (inner_of log.old)) (L.contents (inner_of log.new))
+        (take n (message_of fault)) }
     ensures count { failures_of log.old ≤ failures_of log.new }
 {
     match deliver(log, message_of(fault), fault) {
@@ -73,9 +81,18 @@ fn tell<L: Write>(log: &mut Counted<L>, fault: Fault)
     }
 }
 
-/// Runs the job, flushes the writer, then the log, and returns the status: `FAITHFUL`,
-/// `NOT_FAITHFUL` or `FAULT`. Where it returns `FAULT`, the message of the first fault is written
-/// to the log last, as `recode: write fault`; what can't be written of it is dropped.
+/// Runs the job, flushes the writer, then the log, and returns the status.
+///
+/// - 0 (`FAITHFUL`): all was converted and no call failed. Output and log are whole, and the log is
+///   empty. Where the target has no folds (`Encoding::keeps_characters`), nothing was lost.
+/// - 1 (`NOT_FAITHFUL`): the same, but the log has lines: one for each loss.
+/// - 4 (`FAULT`): a call of a device failed, or the input has more bytes than the job's limit.
+///   Output and log have a prefix of what is right for the bytes read, however they go on. Behind
+///   it the log has the message of the first fault, as `recode: write fault` and a line feed; what
+///   can't be written of that is dropped.
+///
+/// Conditions: the job is valid (`Job::is_valid`), the buffers are enough (`Buffers::is_enough`),
+/// and at most 2^64 - 5 calls of each device have failed (`Counted::failures`).
 pub fn convert<R: Read, W: Write, L: Write>(
     reader: &mut Counted<R>,
     writer: &mut Counted<W>,
@@ -90,9 +107,17 @@ pub fn convert<R: Read, W: Write, L: Write>(
     requires log { failures_of log.old ≤ 2 ^ 64 - 5 }
 
     ensures buffers { AreEnough buffers.new }
-    ensures converts { result ≢ 4 → Converts (R.remaining (inner_of reader.old)) (R.remaining (inner_of reader.new)) (W.contents (inner_of writer.old)) (W.contents (inner_of writer.new)) (L.contents (inner_of log.old)) (L.contents (inner_of log.new)) job.entry result }
-    ensures quiet { result ≢ 4 → (failures_of reader.new ≡ failures_of reader.old) × (failures_of writer.new ≡ failures_of writer.old) × (failures_of log.new ≡ failures_of log.old) }
-    ensures broken { result ≡ 4 → Breaks (R.remaining (inner_of reader.old)) (R.remaining (inner_of reader.new)) (W.contents (inner_of writer.old)) (W.contents (inner_of writer.new)) (L.contents (inner_of log.old)) (L.contents (inner_of log.new)) (failures_of reader.old) (failures_of reader.new) (failures_of writer.old) (failures_of writer.new) (failures_of log.old) (failures_of log.new) job.entry }
+    ensures converts { result ≢ 4 → Converts
+        (streams_in R.remaining W.contents L.contents reader.old writer.old log.old)
+        (streams_in R.remaining W.contents L.contents reader.new writer.new log.new) job.entry
+        result }
+    ensures quiet { result ≢ 4 →
+        failures_in reader.new writer.new log.new ≡ failures_in reader.old writer.old log.old }
+    ensures broken { result ≡ 4 → Breaks
+        (streams_in R.remaining W.contents L.contents reader.old writer.old log.old)
+        (streams_in R.remaining W.contents L.contents reader.new writer.new log.new)
+        (failures_in reader.old writer.old log.old) (failures_in reader.new writer.new log.new)
+        job.entry }
 {
     let result = run(reader, writer, log, job, buffers);
     let flushed = flush_both(writer, log);

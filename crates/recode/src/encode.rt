@@ -1,14 +1,7 @@
-ghost use Rattle.std.specs.Prelude.{◌≡◌, ℕ, ◌+◌, ◌-◌, ◌^◌, ◌<◌, ◌≤◌, ◌++◌, ◌∷◌, List, [], true, false, drop, length, map, IfOk, OnOk, OnErr};
-ghost use Rattle.recode_log.specs.Counted.{inner_of, failures_of};
-ghost use Rattle.encoding_mem.specs.declared.reference.Reference.TheVariants.{Decimal};
-ghost use Rattle.encoding_mem.specs.Coding.{last_set, reference};
-ghost use Rattle.encoding_mem.specs.Items.{Item, LostAt, Byte, whole_items};
-ghost use Rattle.encoding_mem.specs.declared.form.EscapeState.TheVariants.{Ascii};
-ghost use Rattle.recode.specs.WrittenItems.{WritesItems, WritesPrefix};
-ghost use Rattle.recode.specs.PivotText.{pivot_chars};
-ghost use Rattle.recode.specs.Fault.{of_reader, of_writer, of_log, of_other};
+//! The part of an engine that writes text: what its encoder writes is delivered, and what is lost is
+//! logged.
 
-use crate::codec_calls::encode_some;
+use crate::codec_calls::encode_from_pivot;
 use crate::counts::Counts;
 use crate::fault::Fault;
 use crate::lines::{log_line, put_reference};
@@ -19,150 +12,232 @@ use recode_log::deliver::deliver;
 use recode_log::line::LogLine;
 use std::io::Write;
 
-/// What one call of an encoder did.
+/// What one call of an encoder left.
 #[derive(Clone, Copy)]
 pub struct EncodeTurn<'p> {
     /// The text that was not read.
     pub rest: PivotText<'p>,
     /// Whether all is written.
     pub is_done: bool,
+}
+
+/// What writes the text of a conversion: the encoder, and what was counted.
+#[derive(Drop)]
+pub struct Target<E> {
+    pub encoder: E,
     pub counts: Counts,
 }
 
-// Logs the character that was read last, and writes its reference.
-fn report_lost<W: Write, L: Write>(
-    writer: &mut Counted<W>,
-    log: &mut Counted<L>,
-    counts: Counts,
-    scalar: char,
-) -> Result<Counts, Fault>
-    requires index { counts.lost < counts.index }
-    requires small { counts.index ≤ 2 ^ 48 }
-    requires writer { failures_of writer.old < 2 ^ 64 - 1 }
-    requires log { failures_of log.old < 2 ^ 64 - 1 }
-    ensures pays { IfOk result (λ c. (rest : List Item) → WritesItems (W.contents (inner_of writer.old)) (W.contents (inner_of writer.new)) (L.contents (inner_of log.old)) (L.contents (inner_of log.new)) counts c
-        (LostAt (counts.index - 1) scalar ∷ map Byte (reference Decimal scalar) ++ rest) rest) }
-    ensures counts { IfOk result (λ c. c ≡ record counts { lost = counts.lost + 1 }) }
-    ensures err { OnErr result ((rest : List Item) → WritesPrefix (W.contents (inner_of writer.old)) (W.contents (inner_of writer.new)) (L.contents (inner_of log.old)) (L.contents (inner_of log.new))
-        (LostAt (counts.index - 1) scalar ∷ map Byte (reference Decimal scalar) ++ rest)) }
-    ensures writer_count { failures_of writer.new ≡ failures_of writer.old + of_writer result }
-    ensures reader_count { of_reader result ≡ 0 }
-    ensures only_writers { of_other result ≡ 0 }
-    ensures log_count { failures_of log.new ≡ failures_of log.old + of_log result }
-{
-    let index = counts.index - 1;
-    log_line(log, LogLine::Lost { index, scalar })?;
-    put_reference(writer, scalar)?;
-    Ok(Counts {
-        lost: counts.lost + 1,
-        ..counts
-    })
-}
+impl<E: RawEncoder> Target<E> {
+    ghost use Rattle.std.specs.Prelude.{◌≡◌, ℕ, ◌+◌, ◌-◌, ◌^◌, ◌<◌, ◌≤◌, ◌++◌, ◌∷◌, List, [], true, false, length, map, IfOk, OnOk, OnErr};
+    ghost use Rattle.recode_log.specs.Counted.{failures_of};
+    ghost use Rattle.encoding_mem.specs.declared.reference.Reference.TheVariants.{Decimal};
+    ghost use Rattle.encoding_mem.specs.Coding.{last_set, reference};
+    ghost use Rattle.encoding_mem.specs.Items.{Item, LostAt, MalformedAt, Byte, open_items, whole_items};
+    ghost use Rattle.encoding_mem.specs.declared.form.EscapeState.TheVariants.{Ascii};
+    ghost use Rattle.recode.specs.WrittenItems.{WritesItems, WritesPrefix};
+    ghost use Rattle.recode.specs.PivotText.{pivot_chars};
+    ghost use Rattle.recode.specs.Failures.{CountsWriterFault};
+    ghost use Rattle.recode.specs.Streams.{written_in};
 
-/// One call of the encoder, and all that follows from it.
-pub fn encode_once<'p, W: Write, L: Write, E: RawEncoder>(
-    writer: &mut Counted<W>,
-    log: &mut Counted<L>,
-    encoder: &mut E,
-    counts: Counts,
-    text: PivotText<'p>,
-    out: &mut [u8],
-    last: bool,
-) -> Result<EncodeTurn<'p>, Fault>
-    requires room { 4 ≤ length out.old }
-    requires index { counts.index + length (pivot_chars text) ≤ 2 ^ 48 }
-    requires lost { counts.lost ≤ counts.index }
-    requires writer { failures_of writer.old < 2 ^ 64 - 1 }
-    requires log { failures_of log.old < 2 ^ 64 - 1 }
+    // Logs the character that was read last, and writes its reference.
+    fn log_lost<W: Write, L: Write>(
+        &mut self,
+        writer: &mut Counted<W>,
+        log: &mut Counted<L>,
+        scalar: char,
+    ) -> Result<(), Fault>
+        requires index { self.old.counts.lost < self.old.counts.index }
+        requires small { self.old.counts.index ≤ 2 ^ 48 }
+        requires writer { failures_of writer.old < 2 ^ 64 - 1 }
+        requires log { failures_of log.old < 2 ^ 64 - 1 }
+        ensures pays { OnOk result ((rest : List Item) → WritesItems
+            (written_in W.contents L.contents writer.old log.old)
+            (written_in W.contents L.contents writer.new log.new)
+            self.old.counts self.new.counts
+            (LostAt (self.old.counts.index - 1) scalar ∷ map Byte (reference Decimal scalar)
+            ++ rest) rest) }
+        ensures counts { OnOk result
+            (self.new.counts ≡ record self.old.counts { lost = self.old.counts.lost + 1 }) }
+        ensures encoder { self.new.encoder ≡ self.old.encoder }
+        ensures err { OnErr result ((rest : List Item) → WritesPrefix
+            (written_in W.contents L.contents writer.old log.old)
+            (written_in W.contents L.contents writer.new log.new)
+            (LostAt (self.old.counts.index - 1) scalar ∷ map Byte (reference Decimal scalar)
+            ++ rest)) }
+        ensures failures { CountsWriterFault writer.old writer.new log.old log.new result }
+    {
+        let index = self.counts.index - 1;
+        log_line(log, LogLine::Lost { index, scalar })?;
+        put_reference(writer, scalar)?;
+        self.counts.lost += 1;
+        Ok(())
+    }
 
-    ensures pays { IfOk result (λ p. WritesItems (W.contents (inner_of writer.old)) (W.contents (inner_of writer.new)) (L.contents (inner_of log.old)) (L.contents (inner_of log.new)) counts p.counts
-        (whole_items Decimal (E.coding encoder.old) last (E.set encoder.old) counts.index (pivot_chars text.entry))
-        (whole_items Decimal (E.coding encoder.old) last (E.set encoder.new) p.counts.index (pivot_chars p.rest))) }
-    ensures passed { IfOk result (λ p. p.counts.index + length (pivot_chars p.rest) ≡ counts.index + length (pivot_chars text.entry)) }
-    ensures lost { IfOk result (λ p. p.counts.lost ≤ p.counts.index) }
-    ensures bad { IfOk result (λ p. p.counts.bad ≡ counts.bad) }
-    ensures read { IfOk result (λ p. p.counts.read ≡ counts.read) }
-    ensures target { E.coding encoder.new ≡ E.coding encoder.old }
-    ensures state { IfOk result (λ p. last ≡ false → last_set (E.coding encoder.old) (E.set encoder.old) (pivot_chars text.entry) ≡ last_set (E.coding encoder.old) (E.set encoder.new) (pivot_chars p.rest)) }
-    ensures done { IfOk result (λ p. p.is_done ≡ true → (pivot_chars p.rest ≡ []) × (last ≡ true → E.set encoder.new ≡ Ascii)) }
-    ensures more { IfOk result (λ p. p.is_done ≡ false → length (whole_items Decimal (E.coding encoder.old) last (E.set encoder.new) p.counts.index (pivot_chars p.rest))
-        < length (whole_items Decimal (E.coding encoder.old) last (E.set encoder.old) counts.index (pivot_chars text.entry))) }
-    ensures err { OnErr result (WritesPrefix (W.contents (inner_of writer.old)) (W.contents (inner_of writer.new)) (L.contents (inner_of log.old)) (L.contents (inner_of log.new))
-        (whole_items Decimal (E.coding encoder.old) last (E.set encoder.old) counts.index (pivot_chars text.entry))) }
-    ensures writer_count { failures_of writer.new ≡ failures_of writer.old + of_writer result }
-    ensures reader_count { of_reader result ≡ 0 }
-    ensures only_writers { of_other result ≡ 0 }
-    ensures log_count { failures_of log.new ≡ failures_of log.old + of_log result }
-{
-    let call = encode_some(encoder, counts.calls, text, out, last);
-    deliver(writer, &out[..call.written], Fault::Write)?;
-    let counts = Counts {
-        index: counts.index + call.characters as u64,
-        calls: call.calls,
-        ..counts
-    };
-    match call.answer {
-        EncoderResult::InputEmpty => Ok(EncodeTurn {
-            rest: call.rest,
-            is_done: true,
-            counts,
-        }),
-        EncoderResult::OutputFull => Ok(EncodeTurn {
-            rest: call.rest,
-            is_done: false,
-            counts,
-        }),
-        EncoderResult::Unmappable(scalar) => {
-            let counts = report_lost(writer, log, counts, scalar)?;
-            Ok(EncodeTurn {
+    // One call of the encoder, and all that follows from it.
+    fn encode_part<'p, W: Write, L: Write>(
+        &mut self,
+        writer: &mut Counted<W>,
+        log: &mut Counted<L>,
+        text: PivotText<'p>,
+        output: &mut [u8],
+        last: bool,
+    ) -> Result<EncodeTurn<'p>, Fault>
+        requires room { 4 ≤ length output.old }
+        requires index { self.old.counts.index + length (pivot_chars text) ≤ 2 ^ 48 }
+        requires lost { self.old.counts.lost ≤ self.old.counts.index }
+        requires writer { failures_of writer.old < 2 ^ 64 - 1 }
+        requires log { failures_of log.old < 2 ^ 64 - 1 }
+        ensures pays { IfOk result (λ p. WritesItems
+            (written_in W.contents L.contents writer.old log.old)
+            (written_in W.contents L.contents writer.new log.new)
+            self.old.counts self.new.counts
+            (whole_items Decimal (E.coding self.old.encoder) last (E.set self.old.encoder)
+            self.old.counts.index (pivot_chars text.entry))
+            (whole_items Decimal (E.coding self.old.encoder) last (E.set self.new.encoder)
+            self.new.counts.index (pivot_chars p.rest))) }
+        ensures passed { IfOk result (λ p. self.new.counts.index + length (pivot_chars p.rest)
+            ≡ self.old.counts.index + length (pivot_chars text.entry)) }
+        ensures lost { OnOk result (self.new.counts.lost ≤ self.new.counts.index) }
+        ensures bad { OnOk result (self.new.counts.bad ≡ self.old.counts.bad) }
+        ensures read { OnOk result (self.new.counts.read ≡ self.old.counts.read) }
+        ensures target { E.coding self.new.encoder ≡ E.coding self.old.encoder }
+        ensures state { IfOk result (λ p. last ≡ false
+            → last_set (E.coding self.old.encoder) (E.set self.old.encoder) (pivot_chars text.entry)
+            ≡ last_set (E.coding self.old.encoder) (E.set self.new.encoder) (pivot_chars p.rest)) }
+        ensures done { IfOk result (λ p. p.is_done ≡ true
+            → (pivot_chars p.rest ≡ []) × (last ≡ true → E.set self.new.encoder ≡ Ascii)) }
+        ensures more { IfOk result (λ p. p.is_done ≡ false → length
+            (whole_items Decimal (E.coding self.old.encoder) last (E.set self.new.encoder)
+            self.new.counts.index (pivot_chars p.rest))
+            < length
+            (whole_items Decimal (E.coding self.old.encoder) last (E.set self.old.encoder)
+            self.old.counts.index (pivot_chars text.entry))) }
+        ensures err { OnErr result (WritesPrefix
+            (written_in W.contents L.contents writer.old log.old)
+            (written_in W.contents L.contents writer.new log.new)
+            (whole_items Decimal (E.coding self.old.encoder) last (E.set self.old.encoder)
+            self.old.counts.index (pivot_chars text.entry))) }
+        ensures failures { CountsWriterFault writer.old writer.new log.old log.new result }
+    {
+        let call = encode_from_pivot(&mut self.encoder, text, output, last);
+        self.counts.calls = self.counts.calls.saturating_add(1);
+        deliver(writer, &output[..call.written], Fault::Write)?;
+        self.counts.index += call.characters as u64;
+        match call.answer {
+            EncoderResult::InputEmpty => Ok(EncodeTurn {
+                rest: call.rest,
+                is_done: true,
+            }),
+            EncoderResult::OutputFull => Ok(EncodeTurn {
                 rest: call.rest,
                 is_done: false,
-                counts,
-            })
+            }),
+            EncoderResult::Unmappable(scalar) => {
+                self.log_lost(writer, log, scalar)?;
+                Ok(EncodeTurn {
+                    rest: call.rest,
+                    is_done: false,
+                })
+            }
         }
     }
-}
 
-/// Encodes all of the text, and logs each character that has no bytes. Returns the counts then.
-pub fn encode_all<W: Write, L: Write, E: RawEncoder>(
-    writer: &mut Counted<W>,
-    log: &mut Counted<L>,
-    encoder: &mut E,
-    counts: Counts,
-    text: PivotText<'_>,
-    out: &mut [u8],
-    last: bool,
-) -> Result<Counts, Fault>
-    requires room { 4 ≤ length out.old }
-    requires index { counts.index + length (pivot_chars text) ≤ 2 ^ 48 }
-    requires lost { counts.lost ≤ counts.index }
-    requires writer { failures_of writer.old < 2 ^ 64 - 1 }
-    requires log { failures_of log.old < 2 ^ 64 - 1 }
-
-    ensures pays { IfOk result (λ c. WritesItems (W.contents (inner_of writer.old)) (W.contents (inner_of writer.new)) (L.contents (inner_of log.old)) (L.contents (inner_of log.new)) counts c
-        (whole_items Decimal (E.coding encoder.old) last (E.set encoder.old) counts.index (pivot_chars text.entry)) []) }
-    ensures passed { IfOk result (λ c. c.index ≡ counts.index + length (pivot_chars text.entry)) }
-    ensures lost { IfOk result (λ c. c.lost ≤ c.index) }
-    ensures bad { IfOk result (λ c. c.bad ≡ counts.bad) }
-    ensures read { IfOk result (λ c. c.read ≡ counts.read) }
-    ensures target { E.coding encoder.new ≡ E.coding encoder.old }
-    ensures state { OnOk result (last ≡ false → E.set encoder.new ≡ last_set (E.coding encoder.old) (E.set encoder.old) (pivot_chars text.entry)) }
-    ensures closed { OnOk result (last ≡ true → E.set encoder.new ≡ Ascii) }
-    ensures err { OnErr result (WritesPrefix (W.contents (inner_of writer.old)) (W.contents (inner_of writer.new)) (L.contents (inner_of log.old)) (L.contents (inner_of log.new))
-        (whole_items Decimal (E.coding encoder.old) last (E.set encoder.old) counts.index (pivot_chars text.entry))) }
-    ensures writer_count { failures_of writer.new ≡ failures_of writer.old + of_writer result }
-    ensures reader_count { of_reader result ≡ 0 }
-    ensures only_writers { of_other result ≡ 0 }
-    ensures log_count { failures_of log.new ≡ failures_of log.old + of_log result }
-{
-    let mut counts = counts;
-    let mut rest = text;
-    'text: loop {
-        let turn = encode_once(writer, log, encoder, counts, rest, out, last)?;
-        counts = turn.counts;
-        if turn.is_done {
-            return Ok(counts);
+    /// Encodes all of the text, and logs each character that has no bytes.
+    pub fn encode_text<W: Write, L: Write>(
+        &mut self,
+        writer: &mut Counted<W>,
+        log: &mut Counted<L>,
+        text: PivotText<'_>,
+        output: &mut [u8],
+        last: bool,
+    ) -> Result<(), Fault>
+        requires room { 4 ≤ length output.old }
+        requires index { self.old.counts.index + length (pivot_chars text) ≤ 2 ^ 48 }
+        requires lost { self.old.counts.lost ≤ self.old.counts.index }
+        requires writer { failures_of writer.old < 2 ^ 64 - 1 }
+        requires log { failures_of log.old < 2 ^ 64 - 1 }
+        ensures pays { OnOk result (WritesItems
+            (written_in W.contents L.contents writer.old log.old)
+            (written_in W.contents L.contents writer.new log.new)
+            self.old.counts self.new.counts
+            (whole_items Decimal (E.coding self.old.encoder) last (E.set self.old.encoder)
+            self.old.counts.index (pivot_chars text.entry)) []) }
+        ensures passed { OnOk result (self.new.counts.index
+            ≡ self.old.counts.index + length (pivot_chars text.entry)) }
+        ensures lost { OnOk result (self.new.counts.lost ≤ self.new.counts.index) }
+        ensures bad { OnOk result (self.new.counts.bad ≡ self.old.counts.bad) }
+        ensures read { OnOk result (self.new.counts.read ≡ self.old.counts.read) }
+        ensures target { E.coding self.new.encoder ≡ E.coding self.old.encoder }
+        ensures state { OnOk result (last ≡ false → E.set self.new.encoder
+            ≡ last_set (E.coding self.old.encoder) (E.set self.old.encoder)
+            (pivot_chars text.entry)) }
+        ensures closed { OnOk result (last ≡ true → E.set self.new.encoder ≡ Ascii) }
+        ensures err { OnErr result (WritesPrefix
+            (written_in W.contents L.contents writer.old log.old)
+            (written_in W.contents L.contents writer.new log.new)
+            (whole_items Decimal (E.coding self.old.encoder) last (E.set self.old.encoder)
+            self.old.counts.index (pivot_chars text.entry))) }
+        ensures failures { CountsWriterFault writer.old writer.new log.old log.new result }
+    {
+        let mut rest = text;
+        'text: loop {
+            let turn = self.encode_part(writer, log, rest, output, last)?;
+            if turn.is_done {
+                return Ok(());
+            }
+            rest = turn.rest;
         }
-        rest = turn.rest;
+    }
+
+    /// Logs a malformed sequence, and encodes U+FFFD in its place.
+    pub fn log_malformed<W: Write, L: Write>(
+        &mut self,
+        writer: &mut Counted<W>,
+        log: &mut Counted<L>,
+        offset: u64,
+        size: u8,
+        output: &mut [u8],
+    ) -> Result<(), Fault>
+        requires room { 4 ≤ length output.old }
+        requires offset { offset ≤ 2 ^ 48 }
+        requires some { 1 ≤ size }
+        requires few { size ≤ 4 }
+        requires index { self.old.counts.index < 2 ^ 48 }
+        requires lost { self.old.counts.lost ≤ self.old.counts.index }
+        requires bad { self.old.counts.bad ≤ self.old.counts.index }
+        requires writer { failures_of writer.old < 2 ^ 64 - 1 }
+        requires log { failures_of log.old < 2 ^ 64 - 1 }
+        ensures pays { OnOk result (WritesItems
+            (written_in W.contents L.contents writer.old log.old)
+            (written_in W.contents L.contents writer.new log.new)
+            self.old.counts self.new.counts
+            (MalformedAt offset size ∷ open_items Decimal (E.coding self.old.encoder)
+            (E.set self.old.encoder) self.old.counts.index (0xFFFD ∷ [])) []) }
+        ensures index { OnOk result (self.new.counts.index ≡ self.old.counts.index + 1) }
+        ensures read { OnOk result (self.new.counts.read ≡ self.old.counts.read) }
+        ensures lost { OnOk result (self.new.counts.lost ≤ self.new.counts.index) }
+        ensures bad { OnOk result (self.new.counts.bad ≤ self.new.counts.index) }
+        ensures target { E.coding self.new.encoder ≡ E.coding self.old.encoder }
+        ensures state { OnOk result (E.set self.new.encoder
+            ≡ (E.coding self.old.encoder).set (E.set self.old.encoder) 0xFFFD) }
+        ensures err { OnErr result (WritesPrefix
+            (written_in W.contents L.contents writer.old log.old)
+            (written_in W.contents L.contents writer.new log.new)
+            (MalformedAt offset size ∷ open_items Decimal (E.coding self.old.encoder)
+            (E.set self.old.encoder) self.old.counts.index (0xFFFD ∷ []))) }
+        ensures failures { CountsWriterFault writer.old writer.new log.old log.new result }
+    {
+        log_line(
+            log,
+            LogLine::Bad {
+                offset,
+                length: size,
+            },
+        )?;
+        self.counts.bad += 1;
+        let text = PivotText::Utf8("\u{FFFD}");
+        self.encode_text(writer, log, text, output, false)?;
+        Ok(())
     }
 }

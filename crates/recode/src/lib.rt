@@ -3,10 +3,10 @@
 
 pub mod buffers;
 mod characters;
-mod chunk;
 mod codec_calls;
 pub mod conversion;
 mod counts;
+mod decode;
 mod encode;
 mod engine;
 pub mod fault;

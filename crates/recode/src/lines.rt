@@ -16,9 +16,12 @@ use std::io::Write;
 pub fn log_line<L: Write>(log: &mut Counted<L>, line: LogLine) -> Result<(), Fault>
     requires valid { IsValid line }
     requires log { failures_of log.old < 2 ^ 64 - 1 }
-    ensures ok { OnOk result (Appends (L.contents (inner_of log.old)) (L.contents (inner_of log.new)) (line_bytes line)
+    ensures ok { OnOk result (Appends (L.contents (inner_of log.old))
+        (L.contents (inner_of log.new)) (line_bytes line)
         × (failures_of log.new ≡ failures_of log.old)) }
-    ensures err { OnErr result ((n : ℕ) × Appends (L.contents (inner_of log.old)) (L.contents (inner_of log.new)) (take n (line_bytes line))
+    ensures err { OnErr result ((n : ℕ)
+        × Appends (L.contents (inner_of log.old)) (L.contents (inner_of log.new))
+        (take n (line_bytes line))
         × (failures_of log.new ≡ failures_of log.old + 1)) }
     ensures fault { IfErr result (λ f. f ≡ Fault.Log) }
 {
@@ -30,9 +33,12 @@ pub fn log_line<L: Write>(log: &mut Counted<L>, line: LogLine) -> Result<(), Fau
 /// Writes the reference of a character that has no bytes, all of it or a prefix.
 pub fn put_reference<W: Write>(writer: &mut Counted<W>, c: char) -> Result<(), Fault>
     requires { failures_of writer.old < 2 ^ 64 - 1 }
-    ensures ok { OnOk result (Appends (W.contents (inner_of writer.old)) (W.contents (inner_of writer.new)) (reference Decimal c)
+    ensures ok { OnOk result (Appends (W.contents (inner_of writer.old))
+        (W.contents (inner_of writer.new)) (reference Decimal c)
         × (failures_of writer.new ≡ failures_of writer.old)) }
-    ensures err { OnErr result ((n : ℕ) × Appends (W.contents (inner_of writer.old)) (W.contents (inner_of writer.new)) (take n (reference Decimal c))
+    ensures err { OnErr result ((n : ℕ)
+        × Appends (W.contents (inner_of writer.old)) (W.contents (inner_of writer.new))
+        (take n (reference Decimal c))
         × (failures_of writer.new ≡ failures_of writer.old + 1)) }
     ensures fault { IfErr result (λ f. f ≡ Fault.Write) }
 {

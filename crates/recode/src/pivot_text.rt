@@ -16,7 +16,8 @@ pub enum PivotText<'p> {
 /// The text at the start of a pivot, of so many bytes or units.
 pub fn text_in<'p>(pivot: &'p Pivot<'_>, len: usize) -> PivotText<'p>
     requires { HoldsText pivot.now len }
-    ensures { (text : List ℕ) → all_scalars text ≡ true → Holds pivot.now len text → pivot_chars result ≡ text }
+    ensures { (text : List ℕ) → all_scalars text ≡ true → Holds pivot.now len text
+        → pivot_chars result ≡ text }
 {
     match pivot {
         // The decoder wrote text: no second check.

@@ -2,7 +2,7 @@ ghost use Rattle.std.specs.Prelude.{◌≡◌, ◌⊎◌, ◌≤◌, ◌<◌, �
 ghost use Rattle.encoding_front.specs.Encodings.{IsReady, output_encoding_of};
 ghost use Rattle.recode_log.specs.Counted.{failures_of};
 ghost use Rattle.recode.specs.Job.{IsValidJob};
-ghost use Rattle.recode.specs.Program.{AnswersProgram, AnswersWords, IsConversion, mark_of_word};
+ghost use Rattle.recode.specs.Program.{AnswersProgram, AnswersWords, IsConversionOn, devices, mark_of_word};
 
 use crate::buffers::{Buffers, Pivot};
 use crate::conversion::{FAITHFUL, convert};
@@ -114,7 +114,9 @@ fn convert_in_buffers<R: Read, W: Write, L: Write>(
     requires reader { failures_of reader.old ≤ 2 ^ 64 - 5 }
     requires writer { failures_of writer.old ≤ 2 ^ 64 - 5 }
     requires log { failures_of log.old ≤ 2 ^ 64 - 5 }
-    ensures { IsConversion (λ r. R.remaining r) (λ w. W.contents w) (λ l. L.contents l) reader.old reader.new writer.old writer.new log.old log.new job.entry result }
+    ensures { IsConversionOn R.remaining W.contents L.contents
+        (devices reader.old writer.old log.old) (devices reader.new writer.new log.new) job.entry
+        result }
 {
     match form {
         PivotWord::Utf8 => convert_in_utf8(reader, writer, log, job),
@@ -132,7 +134,9 @@ fn convert_in_utf8<R: Read, W: Write, L: Write>(
     requires reader { failures_of reader.old ≤ 2 ^ 64 - 5 }
     requires writer { failures_of writer.old ≤ 2 ^ 64 - 5 }
     requires log { failures_of log.old ≤ 2 ^ 64 - 5 }
-    ensures { IsConversion (λ r. R.remaining r) (λ w. W.contents w) (λ l. L.contents l) reader.old reader.new writer.old writer.new log.old log.new job.entry result }
+    ensures { IsConversionOn R.remaining W.contents L.contents
+        (devices reader.old writer.old log.old) (devices reader.new writer.new log.new) job.entry
+        result }
 {
     let mut input = [0u8; 4096];
     let mut text = [0u8; 4096];
@@ -159,7 +163,9 @@ fn convert_in_utf16<R: Read, W: Write, L: Write>(
     requires reader { failures_of reader.old ≤ 2 ^ 64 - 5 }
     requires writer { failures_of writer.old ≤ 2 ^ 64 - 5 }
     requires log { failures_of log.old ≤ 2 ^ 64 - 5 }
-    ensures { IsConversion (λ r. R.remaining r) (λ w. W.contents w) (λ l. L.contents l) reader.old reader.new writer.old writer.new log.old log.new job.entry result }
+    ensures { IsConversionOn R.remaining W.contents L.contents
+        (devices reader.old writer.old log.old) (devices reader.new writer.new log.new) job.entry
+        result }
 {
     let mut input = [0u8; 4096];
     let mut text = [0u16; 4096];
@@ -189,7 +195,9 @@ fn run_words<S: IndexSource, R: Read, W: Write, L: Write>(
     requires reader { failures_of reader.old ≤ 2 ^ 64 - 5 }
     requires writer { failures_of writer.old ≤ 2 ^ 64 - 5 }
     requires log { failures_of log.old ≤ 2 ^ 64 - 5 }
-    ensures { AnswersWords (λ r. R.remaining r) (λ w. W.contents w) (λ l. L.contents l) reader.old reader.new writer.old writer.new log.old log.new words.entry result }
+    ensures { AnswersWords R.remaining W.contents L.contents
+        (devices reader.old writer.old log.old) (devices reader.new writer.new log.new) words.entry
+        result }
 {
     let Some(from) = Encoding::for_label(words.from.as_bytes()) else {
         return refuse_label(alloc, log, words.from);
@@ -229,6 +237,9 @@ fn run_words<S: IndexSource, R: Read, W: Write, L: Write>(
 ///
 /// Messages go to the log. What can't be written of a message or a text is dropped, and neither is
 /// flushed.
+///
+/// Conditions: there is a word at least, the program's name (`is_empty`), and at most 2^64 - 5
+/// calls of each device have failed (`Counted::failures`).
 pub fn program<S: IndexSource, R: Read, W: Write, L: Write>(
     alloc: Global,
     words: &[&str],
@@ -241,7 +252,9 @@ pub fn program<S: IndexSource, R: Read, W: Write, L: Write>(
     requires reader { failures_of reader.old ≤ 2 ^ 64 - 5 }
     requires writer { failures_of writer.old ≤ 2 ^ 64 - 5 }
     requires log { failures_of log.old ≤ 2 ^ 64 - 5 }
-    ensures { AnswersProgram (λ r. R.remaining r) (λ w. W.contents w) (λ l. L.contents l) reader.old reader.new writer.old writer.new log.old log.new (map (λ s. s.now) words.now) result }
+    ensures { AnswersProgram R.remaining W.contents L.contents
+        (devices reader.old writer.old log.old) (devices reader.new writer.new log.new)
+        (map (λ s. s.now) words.now) result }
 {
     match parse_words(alloc, words) {
         Ok(Request::Run(words)) => run_words(alloc, words, source, reader, writer, log),

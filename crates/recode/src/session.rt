@@ -1,19 +1,19 @@
 ghost use Rattle.std.specs.Prelude.{◌≡◌, ◌≤◌, ◌<◌, ◌^◌, ◌+◌, ◌-◌, ◌↔◌, ◌==◌, IsTrue, IsSome, OnOk, IfOk, IfErr, IfSome, true, false};
 ghost use Rattle.encoding_mem.specs.Decoding.{DecoderState};
-ghost use Rattle.recode_log.specs.Counted.{inner_of, failures_of};
+ghost use Rattle.recode_log.specs.Counted.{failures_of};
 ghost use Rattle.recode.specs.Job.{IsValidJob};
-ghost use Rattle.recode.specs.Buffers.{AreEnough, HoldsAnyCharacter};
-ghost use Rattle.recode.specs.Latency.{StepsOn};
+ghost use Rattle.recode.specs.Buffers.{AreEnough};
 ghost use Rattle.recode.specs.TraceToWrite.{AreSound};
-ghost use Rattle.recode.specs.Runs.{RunReturns};
-ghost use Rattle.recode.specs.Session.{View, to_write, IsOver, IsNewSession, Tells, Completes, Fails, phase_after};
+ghost use Rattle.recode.specs.EngineState.{engine_state};
+ghost use Rattle.recode.specs.Session.{View, IsOver, IsNewSession, IsStepped, Tells, Completes, Fails};
 ghost use Rattle.recode.specs.declared.phase.Phase.TheVariants.{Open};
-ghost use Rattle.recode.specs.Step.{StepGoesOn, Finishes, Stops};
-ghost use Rattle.recode.specs.Fault.{of_reader, of_writer, of_log, of_other};
-ghost use Rattle.std.specs.Io.KnownBytes.{Keeps};
+ghost use Rattle.recode.specs.Step.{Finishes, Stops, StepsOn};
+ghost use Rattle.recode.specs.Failures.{CountsFault, failures_in};
+ghost use Rattle.recode.specs.Streams.{streams_in};
 
 use crate::buffers::{Buffers, Pivot};
 use crate::counts::Counts;
+use crate::encode::Target;
 use crate::engine::Engine;
 use crate::fault::Fault;
 use crate::job::Job;
@@ -26,7 +26,7 @@ use recode_log::counted::Counted;
 use std::io::{Read, Write};
 
 /// What a value is to its callers.
-pub trait Viewed {
+trait Viewed {
     ghost view: { Self → View };
 }
 
@@ -37,39 +37,44 @@ pub struct Session<'t> {
     job: Job<'t>,
     phase: Phase,
     ghost small: { job.limit ≤ 2 ^ 48 },
-    ghost sound: { phase ≡ Open → AreSound (⟦<Decoder<'static> as StreamDecoder>⟧.view engine.decoder).state.pending engine.counts },
-    ghost open_: { phase ≡ Open → (⟦<Decoder<'static> as StreamDecoder>⟧.view engine.decoder).finished ≡ false },
-    ghost within: { phase ≡ Open → engine.counts.read ≤ job.limit },
+    ghost sound: { phase ≡ Open → AreSound
+        (⟦<Decoder<'static> as StreamDecoder>⟧.view engine.decoder).state.pending
+        engine.target.counts },
+    ghost open_: { phase ≡ Open → (⟦<Decoder<'static> as StreamDecoder>⟧.view
+        engine.decoder).finished ≡ false },
+    ghost within: { phase ≡ Open → engine.target.counts.read ≤ job.limit },
 }
 
 impl<'t> Viewed for Session<'t> {
     ghost view = { λ s. record {
       job = s.job;
-      decoder = (⟦<Decoder<'t> as StreamDecoder>⟧.view s.engine.decoder).state;
-      source = (⟦<Decoder<'t> as StreamDecoder>⟧.view s.engine.decoder).source;
-      coding = ⟦<VariantEncoder<'t> as RawEncoder>⟧.coding s.engine.encoder;
-      set = ⟦<VariantEncoder<'t> as RawEncoder>⟧.set s.engine.encoder;
-      counts = s.engine.counts;
+      state = engine_state ⟦<Decoder<'t> as StreamDecoder>⟧.view
+          ⟦<VariantEncoder<'t> as RawEncoder>⟧.coding ⟦<VariantEncoder<'t> as RawEncoder>⟧.set
+          s.engine;
       phase = s.phase;
     } };
 }
 
 impl<'t> Session<'t> {
+    ghost use Rattle.recode.specs.SessionView.{view_of};
+
     /// A session that has read nothing.
     pub fn new(job: Job<'t>) -> Self
         requires { IsValidJob job }
-        ensures { IsNewSession (⟦<Session<'t> as Viewed>⟧.view result) job.entry }
+        ensures { IsNewSession (view_of result) job.entry }
     {
         Session {
             engine: Engine {
                 decoder: Decoder::new(job.from, job.mark, job.tables),
-                encoder: VariantEncoder::new(job.to, job.tables),
-                counts: Counts {
-                    read: 0,
-                    index: 0,
-                    bad: 0,
-                    lost: 0,
-                    calls: 0,
+                target: Target {
+                    encoder: VariantEncoder::new(job.to, job.tables),
+                    counts: Counts {
+                        read: 0,
+                        index: 0,
+                        bad: 0,
+                        lost: 0,
+                        calls: 0,
+                    },
                 },
             },
             job,
@@ -79,7 +84,7 @@ impl<'t> Session<'t> {
 
     /// Whether nothing more can be done: all was read and written, or a fault ended it.
     pub fn is_over(&self) -> bool
-        ensures { IsTrue result ↔ IsOver (⟦<Session<'t> as Viewed>⟧.view self.now).phase }
+        ensures { IsTrue result ↔ IsOver (view_of self.now).phase }
     {
         match self.phase {
             Phase::Open => false,
@@ -89,8 +94,8 @@ impl<'t> Session<'t> {
 
     /// What the run tells, once all was read and written.
     pub fn report(&self) -> Option<Report>
-        ensures done { IsSome result ↔ ((⟦<Session<'t> as Viewed>⟧.view self.now).phase ≡ Phase.Done) }
-        ensures tells { IfSome result (Tells (⟦<Session<'t> as Viewed>⟧.view self.now)) }
+        ensures done { IsSome result ↔ ((view_of self.now).phase ≡ Phase.Done) }
+        ensures tells { IfSome result (Tells (view_of self.now)) }
     {
         match self.phase {
             Phase::Done => Some(self.totals()),
@@ -99,9 +104,9 @@ impl<'t> Session<'t> {
     }
 
     fn totals(&self) -> Report
-        ensures { Tells (⟦<Session<'t> as Viewed>⟧.view self.now) result }
+        ensures { Tells (view_of self.now) result }
     {
-        let counts = self.engine.counts;
+        let counts = self.engine.target.counts;
         Report {
             read: counts.read,
             bad: counts.bad,
@@ -112,9 +117,22 @@ impl<'t> Session<'t> {
         }
     }
 
-    /// One read, and all that follows from it: what it gives is decoded, encoded and written, and what is
-    /// lost is logged. A fault is that of the first call that failed, or that the input is too long; it
-    /// ends the session, and the writers have what they took.
+    /// One read, and all that follows from it: what it gives is decoded, encoded and written, and
+    /// what is lost is logged.
+    ///
+    /// - `Ok(More)`: at least one byte was read. All that the bytes read so far decide, however the
+    ///   input goes on, is written and logged, with each piece that ends three or more bytes before
+    ///   their end.
+    /// - `Ok(Done)`: the end of the input was read. Output and log are whole; `report` tells the
+    ///   rest.
+    /// - `Err`: a call of the reader (`Read`), the writer (`Write`) or the log (`Log`) failed, or
+    ///   the input has more bytes than the job's limit (`TooLong`). Output and log have a prefix of
+    ///   what was still to be written; at `Read` and `TooLong` the step wrote nothing. The session
+    ///   is over.
+    ///
+    /// Conditions: the session is not over (`is_over`), the buffers are enough
+    /// (`Buffers::is_enough`), and fewer than 2^64 - 1 calls of each device have failed
+    /// (`Counted::failures`). Nothing stays in the buffers: each step may be lent others.
     pub fn step<R: Read, W: Write, L: Write>(
         &mut self,
         reader: &mut Counted<R>,
@@ -122,25 +140,28 @@ impl<'t> Session<'t> {
         log: &mut Counted<L>,
         buffers: &mut Buffers<'_>,
     ) -> Result<Progress, Fault>
-        requires over { ¬ (IsOver (⟦<Session<'t> as Viewed>⟧.view self.old).phase) }
+        requires over { ¬ (IsOver (view_of self.old).phase) }
         requires buffers { AreEnough buffers.old }
         requires reader { failures_of reader.old < 2 ^ 64 - 1 }
         requires writer { failures_of writer.old < 2 ^ 64 - 1 }
         requires log { failures_of log.old < 2 ^ 64 - 1 }
 
-        ensures more { result ≡ Ok Progress.More → StepGoesOn (R.remaining (inner_of reader.old)) (R.remaining (inner_of reader.new)) (W.contents (inner_of writer.old)) (W.contents (inner_of writer.new)) (L.contents (inner_of log.old)) (L.contents (inner_of log.new)) (⟦<Session<'t> as Viewed>⟧.view self.old).counts (⟦<Session<'t> as Viewed>⟧.view self.new).counts (⟦<Session<'t> as Viewed>⟧.view self.old).job.limit (to_write (⟦<Session<'t> as Viewed>⟧.view self.old)) (to_write (⟦<Session<'t> as Viewed>⟧.view self.new)) (⟦<Session<'t> as Viewed>⟧.view self.old).source (⟦<Session<'t> as Viewed>⟧.view self.new).source }
-        ensures steps_on { result ≡ Ok Progress.More → StepsOn (R.remaining (inner_of reader.old)) (R.remaining (inner_of reader.new)) (W.contents (inner_of writer.old)) (W.contents (inner_of writer.new)) (L.contents (inner_of log.old)) (L.contents (inner_of log.new)) (⟦<Session<'t> as Viewed>⟧.view self.old) (⟦<Session<'t> as Viewed>⟧.view self.new) }
-        ensures grows { result ≡ Ok Progress.More → (⟦<Session<'t> as Viewed>⟧.view self.old).counts.read < (⟦<Session<'t> as Viewed>⟧.view self.new).counts.read }
-        ensures done { result ≡ Ok Progress.Done → Finishes (R.remaining (inner_of reader.old)) (R.remaining (inner_of reader.new)) (W.contents (inner_of writer.old)) (W.contents (inner_of writer.new)) (L.contents (inner_of log.old)) (L.contents (inner_of log.new)) (⟦<Session<'t> as Viewed>⟧.view self.old).counts (⟦<Session<'t> as Viewed>⟧.view self.new).counts (⟦<Session<'t> as Viewed>⟧.view self.old).job.limit (to_write (⟦<Session<'t> as Viewed>⟧.view self.old)) (⟦<Session<'t> as Viewed>⟧.view self.old).source (⟦<Session<'t> as Viewed>⟧.view self.new).source }
-        ensures fault { IfErr result (λ f. Stops (R.remaining (inner_of reader.old)) (R.remaining (inner_of reader.new)) (W.contents (inner_of writer.old)) (W.contents (inner_of writer.new)) (L.contents (inner_of log.old)) (L.contents (inner_of log.new)) (⟦<Session<'t> as Viewed>⟧.view self.old).counts (⟦<Session<'t> as Viewed>⟧.view self.old).job.limit (to_write (⟦<Session<'t> as Viewed>⟧.view self.old)) f) }
-        ensures untouched { of_other result ≡ 1 → Keeps (W.contents (inner_of writer.old)) (W.contents (inner_of writer.new)) × Keeps (L.contents (inner_of log.old)) (L.contents (inner_of log.new)) }
-        ensures phase { (⟦<Session<'t> as Viewed>⟧.view self.new).phase ≡ phase_after result }
-        ensures job { (⟦<Session<'t> as Viewed>⟧.view self.new).job ≡ (⟦<Session<'t> as Viewed>⟧.view self.old).job }
-        ensures coding { (⟦<Session<'t> as Viewed>⟧.view self.new).coding ≡ (⟦<Session<'t> as Viewed>⟧.view self.old).coding }
+        ensures more { result ≡ Ok Progress.More → StepsOn
+            (streams_in R.remaining W.contents L.contents reader.old writer.old log.old)
+            (streams_in R.remaining W.contents L.contents reader.new writer.new log.new)
+            (view_of self.old).job.limit (view_of self.old).state (view_of self.new).state }
+        ensures done { result ≡ Ok Progress.Done → Finishes
+            (streams_in R.remaining W.contents L.contents reader.old writer.old log.old)
+            (streams_in R.remaining W.contents L.contents reader.new writer.new log.new)
+            (view_of self.old).job.limit (view_of self.old).state (view_of self.new).state }
+        ensures fault { IfErr result (Stops
+            (streams_in R.remaining W.contents L.contents reader.old writer.old log.old)
+            (streams_in R.remaining W.contents L.contents reader.new writer.new log.new)
+            (view_of self.old).job.limit (view_of self.old).state) }
+        ensures session { IsStepped (view_of self.old) (view_of self.new) result }
         ensures buffers { AreEnough buffers.new }
-        ensures reader_count { failures_of reader.new ≡ failures_of reader.old + of_reader result }
-        ensures writer_count { failures_of writer.new ≡ failures_of writer.old + of_writer result }
-        ensures log_count { failures_of log.new ≡ failures_of log.old + of_log result }
+        ensures failures { CountsFault (failures_in reader.old writer.old log.old)
+            (failures_in reader.new writer.new log.new) result }
     {
         let limit = self.job.limit;
         self.phase = Phase::Stopped;
@@ -167,8 +188,18 @@ impl<'t> Session<'t> {
     }
 }
 
-/// Steps until all was read and written, or a fault ends it. Takes at most as many steps as the limit has
-/// bytes, and one more.
+/// Converts the whole input of a job, step by step, and returns the report on it. It takes at most
+/// as many steps as the limit has bytes, and one more.
+///
+/// - `Ok`: the input was read to its end, and is within the limit. Exactly its output and its log
+///   were written, in one order. They depend on the input and the job alone: not on how reads are
+///   cut, on the sizes of the buffers or on the kind of the pivot.
+/// - `Err`: a call of the reader (`Read`), the writer (`Write`) or the log (`Log`) failed, and no
+///   other; or the input has more bytes than the job's limit (`TooLong`). Output and log have a
+///   prefix of what is right for the bytes read, however they go on.
+///
+/// Conditions: the job is valid (`Job::is_valid`), the buffers are enough (`Buffers::is_enough`),
+/// and fewer than 2^64 - 1 calls of each device have failed (`Counted::failures`).
 pub fn run<R: Read, W: Write, L: Write>(
     reader: &mut Counted<R>,
     writer: &mut Counted<W>,
@@ -182,13 +213,17 @@ pub fn run<R: Read, W: Write, L: Write>(
     requires writer { failures_of writer.old < 2 ^ 64 - 1 }
     requires log { failures_of log.old < 2 ^ 64 - 1 }
 
-    ensures completes { IfOk result (λ p. Completes (R.remaining (inner_of reader.old)) (R.remaining (inner_of reader.new)) (W.contents (inner_of writer.old)) (W.contents (inner_of writer.new)) (L.contents (inner_of log.old)) (L.contents (inner_of log.new)) job.entry p) }
-    ensures fails { IfErr result (λ f. Fails (R.remaining (inner_of reader.old)) (R.remaining (inner_of reader.new)) (W.contents (inner_of writer.old)) (W.contents (inner_of writer.new)) (L.contents (inner_of log.old)) (L.contents (inner_of log.new)) job.entry f) }
+    ensures completes { IfOk result (λ p. Completes
+        (streams_in R.remaining W.contents L.contents reader.old writer.old log.old)
+        (streams_in R.remaining W.contents L.contents reader.new writer.new log.new) job.entry
+        p) }
+    ensures fails { IfErr result (λ f. Fails
+        (streams_in R.remaining W.contents L.contents reader.old writer.old log.old)
+        (streams_in R.remaining W.contents L.contents reader.new writer.new log.new) job.entry
+        f) }
     ensures buffers { AreEnough buffers.new }
-    ensures reader_count { failures_of reader.new ≡ failures_of reader.old + of_reader result }
-    ensures writer_count { failures_of writer.new ≡ failures_of writer.old + of_writer result }
-    ensures log_count { failures_of log.new ≡ failures_of log.old + of_log result }
-    ensures answers { RunReturns (R.remaining (inner_of reader.old)) (R.remaining (inner_of reader.new)) (W.contents (inner_of writer.old)) (W.contents (inner_of writer.new)) (L.contents (inner_of log.old)) (L.contents (inner_of log.new)) (failures_of reader.old) (failures_of reader.new) (failures_of writer.old) (failures_of writer.new) (failures_of log.old) (failures_of log.new) job.entry result }
+    ensures failures { CountsFault (failures_in reader.old writer.old log.old)
+        (failures_in reader.new writer.new log.new) result }
 {
     let mut session = Session::new(job);
     'run: loop {

@@ -1,5 +1,6 @@
 ghost use Rattle.std.specs.Prelude.{◌≡◌, ◌≤◌, ◌<◌, ◌^◌, ◌-◌};
 ghost use Rattle.recode_log.specs.Counted.{failures_of};
+ghost use Rattle.recode.specs.Program.{devices};
 ghost use Rattle.recode_system.specs.CommandLine.{AnswersSystem};
 
 use crate::system_files::SystemFiles;
@@ -71,7 +72,8 @@ fn answer_words<F: Files, R: Read, W: Write, L: Write>(
     requires reader { failures_of reader.old ≤ 2 ^ 64 - 5 }
     requires writer { failures_of writer.old ≤ 2 ^ 64 - 5 }
     requires log { failures_of log.old ≤ 2 ^ 64 - 5 }
-    ensures { AnswersSystem (λ r. R.remaining r) (λ w. W.contents w) (λ l. L.contents l) reader.old reader.new writer.old writer.new log.old log.new result }
+    ensures { AnswersSystem R.remaining W.contents L.contents
+        (devices reader.old writer.old log.old) (devices reader.new writer.new log.new) result }
 {
     let words = if words.is_empty() { &["recode"] } else { words };
     program(
@@ -100,7 +102,8 @@ pub fn answer<E: Env + AllocGlobal, F: Files, R: Read, W: Write, L: Write>(
     requires reader { failures_of reader.old ≤ 2 ^ 64 - 5 }
     requires writer { failures_of writer.old ≤ 2 ^ 64 - 5 }
     requires log { failures_of log.old ≤ 2 ^ 64 - 5 }
-    ensures { AnswersSystem (λ r. R.remaining r) (λ w. W.contents w) (λ l. L.contents l) reader.old reader.new writer.old writer.new log.old log.new result }
+    ensures { AnswersSystem R.remaining W.contents L.contents
+        (devices reader.old writer.old log.old) (devices reader.new writer.new log.new) result }
 {
     let owned = match words_of(env) {
         Ok(owned) => owned,

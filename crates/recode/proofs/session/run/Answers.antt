@@ -1,13 +1,13 @@
 use Rattle.std.proofs.Common.{◌∙◌, Ok, refl, ap, subst, arith}
 use Rattle.recode.specs.Session.{IsOver, phase_after}
-use Rattle.recode.specs.contracts.session.SessionViewed.TheImpl.{ghosts}
+use Rattle.recode.specs.SessionView.{view_of}
 use Rattle.recode.proofs.StepLemmas.{goes_on_start, goes_on_more, goes_on_finish, goes_on_stop}
 use Rattle.recode.proofs.RunLemmas.{completes, fails}
 use Rattle.recode.proofs.session.run.Goals as goal
 
 pub run-init : goal.run-init
 run-init g c = record {
-  ran = goes_on_start _ _ _ _ _ _ _ (omega (arith, c.new-session.ensures.read));
+  ran = goes_on_start _ _ _ (omega (arith, c.new-session.ensures.read));
   open_ = c.new-session.ensures.open_;
   job = c.new-session.ensures.job;
   enough = c.requires.buffers;
@@ -35,45 +35,23 @@ pub run-preserved : goal.run-preserved
 run-preserved g c =
     let e = c.in-Ok-More.ensures in
     record {
-      ran = goes_on_more _ _ _ _ _ _ _ _ _ _ _ _ _ _ _ _ _ _ _ c.run.invariant.ran (rw c.run.invariant.job at (e.more (ap Ok c.in-Ok-More.field-0-is)));
-      open_ = e.phase ∙ ap (λ p. phase_after (Ok p)) c.in-Ok-More.field-0-is;
-      job = e.job ∙ c.run.invariant.job;
+      ran = goes_on_more _ _ _ _ _ _ _ c.run.invariant.ran (rw c.run.invariant.job at (e.more (ap Ok c.in-Ok-More.field-0-is)));
+      open_ = e.session.phase ∙ ap (λ p. phase_after (Ok p)) c.in-Ok-More.field-0-is;
+      job = e.session.job ∙ c.run.invariant.job;
       enough = e.buffers;
-      reader_count = omega (arith, e.reader_count, c.run.invariant.reader_count);
-      writer_count = omega (arith, e.writer_count, c.run.invariant.writer_count);
-      log_count = omega (arith, e.log_count, c.run.invariant.log_count);
+      reader_count = omega (arith, e.failures.reader, c.run.invariant.reader_count);
+      writer_count = omega (arith, e.failures.writer, c.run.invariant.writer_count);
+      log_count = omega (arith, e.failures.log, c.run.invariant.log_count);
     }
 
 pub returns-in-Ok-Done-clause-completes : goal.returns-in-Ok-Done-clause-completes
 returns-in-Ok-Done-clause-completes g c =
     let e = c.in-Ok-Done.ensures in
-    completes _ _ _ _ _ _ c.args.job (ghosts.view c.new-session.result) (ghosts.view c.step.new.self) _ c.requires.job c.new-session.ensures
-    (goes_on_finish _ _ _ _ _ _ _ _ _ _ _ _ _ _ _ _ _ _ c.run.invariant.ran (rw c.run.invariant.job at (e.done (ap Ok c.in-Ok-Done.field-0-is))))
+    completes _ _ c.args.job (view_of c.new-session.result) (view_of c.step.new.self) _ c.requires.job c.new-session.ensures
+    (goes_on_finish _ _ _ _ _ _ _ c.run.invariant.ran (rw c.run.invariant.job at (e.done (ap Ok c.in-Ok-Done.field-0-is))))
     c.totals.ensures
 
 pub returns-in-Err-clause-fails : goal.returns-in-Err-clause-fails
 returns-in-Err-clause-fails g c =
-    fails _ _ _ _ _ _ c.args.job (ghosts.view c.new-session.result) _ c.new-session.ensures
-    (goes_on_stop _ _ _ _ _ _ _ _ _ _ _ _ _ _ _ _ _ c.run.invariant.ran (rw c.run.invariant.job at c.in-Err.ensures.fault))
-
-pub returns-in-Ok-Done-clause-answers : goal.returns-in-Ok-Done-clause-answers
-returns-in-Ok-Done-clause-answers g c =
-    let e = c.in-Ok-Done.ensures in
-    record {
-      completes = returns-in-Ok-Done-clause-completes g c;
-      fails = tt;
-      reader_count = omega (arith, e.reader_count, c.run.invariant.reader_count);
-      writer_count = omega (arith, e.writer_count, c.run.invariant.writer_count);
-      log_count = omega (arith, e.log_count, c.run.invariant.log_count);
-    }
-
-pub returns-in-Err-clause-answers : goal.returns-in-Err-clause-answers
-returns-in-Err-clause-answers g c =
-    let e = c.in-Err.ensures in
-    record {
-      completes = tt;
-      fails = returns-in-Err-clause-fails g c;
-      reader_count = omega (arith, e.reader_count, c.run.invariant.reader_count);
-      writer_count = omega (arith, e.writer_count, c.run.invariant.writer_count);
-      log_count = omega (arith, e.log_count, c.run.invariant.log_count);
-    }
+    fails _ _ c.args.job (view_of c.new-session.result) _ c.new-session.ensures
+    (goes_on_stop _ _ _ _ _ _ _ c.run.invariant.ran (rw c.run.invariant.job at c.in-Err.ensures.fault))

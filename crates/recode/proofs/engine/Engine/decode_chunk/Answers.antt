@@ -3,11 +3,11 @@ use Rattle.std.proofs.lemmas.List.{take_rest}
 use Rattle.recode.specs.TraceToWrite.{trace_to_write}
 use Rattle.recode.proofs.LatencyLemmas.{advances_start, advances_more, advances_to}
 use Rattle.recode.proofs.TraceLemmas.{WritesItemsFor-start, WritesItemsFor-trans, WritesItemsFor-to, WritesItemsFor-under, on_err}
-use Rattle.recode.proofs.chunk.convert_chunk.Goals as goal
+use Rattle.recode.proofs.engine.Engine.decode_chunk.Goals as goal
 
 pub chunk-init : goal.chunk-init
 chunk-init g c = record {
-  pays = WritesItemsFor-start _ _ _ _ _;
+  pays = WritesItemsFor-start _ _ _ _;
   source = λ r h. refl;
   open_ = c.requires.open_;
   passed = refl;
@@ -24,36 +24,36 @@ pub chunk-preserved : goal.chunk-preserved
 chunk-preserved g c =
     let rest_is = take_rest c.chunk.rest.now c.in_ok-turn.turn.read in
     record {
-      pays = rw rest_is (WritesItemsFor-trans _ _ _ _ _ _ _ _ _ _ _ _ _ c.chunk.invariant.pays (rw c.chunk.invariant.target at c.in_ok-turn.ensures.pays));
-      source = λ r h. c.chunk.invariant.source r h ∙ c.in_ok-turn.ensures.source r h ∙ ap (λ x. (g.D.StreamDecoder.view c.decode_once.new.decoder).source (x ++ r)) (sym rest_is);
+      pays = rw rest_is (WritesItemsFor-trans _ _ _ _ _ _ _ _ _ _ c.chunk.invariant.pays (rw c.chunk.invariant.target at c.in_ok-turn.ensures.pays));
+      source = λ r h. c.chunk.invariant.source r h ∙ c.in_ok-turn.ensures.source r h ∙ ap (λ x. (g.D.StreamDecoder.view c.decode_part.new.self.decoder).source (x ++ r)) (sym rest_is);
       open_ = c.in_ok-turn.ensures.more_open c.if-turn.false;
       passed = omega (arith, c.in_ok-turn.ensures.counted, c.chunk.invariant.passed, ap length rest_is, length-drop c.in_ok-turn.turn.read c.chunk.rest.now, c.in_ok-turn.ensures.within);
       sound = c.in_ok-turn.ensures.sound;
-      target = c.decode_once.ensures.target ∙ c.chunk.invariant.target;
-      writer_count = omega (arith, c.in_ok-turn.ensures.writer_count);
+      target = c.decode_part.ensures.target ∙ c.chunk.invariant.target;
+      writer_count = omega (arith, c.in_ok-turn.ensures.failures.writer);
       advances = λ h. rw rest_is (advances_more _ _ _ _ _ _ _ _ _ _ (c.chunk.invariant.advances h) (rw c.chunk.invariant.target at (c.in_ok-turn.ensures.advances h)));
-      roomy = c.decode_once.ensures.roomy;
-      kind = c.decode_once.ensures.kind ∙ c.chunk.invariant.kind;
-      log_count = omega (arith, c.in_ok-turn.ensures.log_count);
+      roomy = c.decode_part.ensures.roomy;
+      kind = c.decode_part.ensures.kind ∙ c.chunk.invariant.kind;
+      log_count = omega (arith, c.in_ok-turn.ensures.failures.log);
     }
 
 pub chunk-smaller : goal.chunk-smaller
 chunk-smaller g c = rw (take_rest c.chunk.rest.now c.in_ok-turn.turn.read) (c.in_ok-turn.ensures.more c.if-turn.false)
 
 pub returns-in_err-turn-clause-err : goal.returns-in_err-turn-clause-err
-returns-in_err-turn-clause-err g c = on_err _ (WritesItemsFor-under _ _ _ _ _ _ _ _ _ _ _ c.chunk.invariant.pays (rw c.chunk.invariant.target at c.in_err-turn.ensures.err))
+returns-in_err-turn-clause-err g c = on_err _ (WritesItemsFor-under _ _ _ _ _ _ _ _ c.chunk.invariant.pays (rw c.chunk.invariant.target at c.in_err-turn.ensures.err))
 
 pub returns-then-turn-clause-pays : goal.returns-then-turn-clause-pays
 returns-then-turn-clause-pays g c =
     let all = drop_of_length-le c.chunk.rest.now {i = c.in_ok-turn.turn.read} (omega (arith, c.in_ok-turn.ensures.done c.if-turn.true)) in
-    WritesItemsFor-to _ _ _ _ _ _ _ _ _ _
-    (WritesItemsFor-trans _ _ _ _ _ _ _ _ _ _ _ _ _ c.chunk.invariant.pays (rw c.chunk.invariant.target at c.in_ok-turn.ensures.pays))
-    (λ r. ap (λ x. trace_to_write (g.D.StreamDecoder.view c.decode_once.new.decoder).state (g.E.RawEncoder.coding c.args.encoder.now) (g.E.RawEncoder.set c.decode_once.new.encoder) c.in_ok-turn.turn.counts (x ++ r)) all)
+    WritesItemsFor-to _ _ _ _ _ _ _ _
+    (WritesItemsFor-trans _ _ _ _ _ _ _ _ _ _ c.chunk.invariant.pays (rw c.chunk.invariant.target at c.in_ok-turn.ensures.pays))
+    (λ r. ap (λ x. trace_to_write (g.D.StreamDecoder.view c.decode_part.new.self.decoder).state (g.E.RawEncoder.coding c.args.self.now.target.encoder) (g.E.RawEncoder.set c.decode_part.new.self.target.encoder) c.decode_part.new.self.target.counts (x ++ r)) all)
 
 pub returns-then-turn-clause-source : goal.returns-then-turn-clause-source
 returns-then-turn-clause-source g c r h =
     let all = drop_of_length-le c.chunk.rest.now {i = c.in_ok-turn.turn.read} (omega (arith, c.in_ok-turn.ensures.done c.if-turn.true)) in
-    c.chunk.invariant.source r h ∙ c.in_ok-turn.ensures.source r h ∙ ap (λ x. (g.D.StreamDecoder.view c.decode_once.new.decoder).source (x ++ r)) all
+    c.chunk.invariant.source r h ∙ c.in_ok-turn.ensures.source r h ∙ ap (λ x. (g.D.StreamDecoder.view c.decode_part.new.self.decoder).source (x ++ r)) all
 
 pub returns-then-turn-clause-end : goal.returns-then-turn-clause-end
 returns-then-turn-clause-end g c = rw c.chunk.invariant.target at (c.in_ok-turn.ensures.end c.if-turn.true)
@@ -63,7 +63,7 @@ returns-then-turn-clause-advances g c h =
     let all = drop_of_length-le c.chunk.rest.now {i = c.in_ok-turn.turn.read} (omega (arith, c.in_ok-turn.ensures.done c.if-turn.true)) in
     advances_to _ _ _ _ _ _ _ _
     (advances_more _ _ _ _ _ _ _ _ _ _ (c.chunk.invariant.advances h) (rw c.chunk.invariant.target at (c.in_ok-turn.ensures.advances h)))
-    (λ r. ap (λ x. (g.D.StreamDecoder.view c.decode_once.new.decoder).state.pieces (x ++ r)) all)
+    (λ r. ap (λ x. (g.D.StreamDecoder.view c.decode_part.new.self.decoder).state.pieces (x ++ r)) all)
 
 pub returns-then-turn-clause-settled : goal.returns-then-turn-clause-settled
 returns-then-turn-clause-settled g c = c.in_ok-turn.ensures.settled c.if-turn.true

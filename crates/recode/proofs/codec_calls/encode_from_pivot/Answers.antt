@@ -4,7 +4,7 @@ use Rattle.encoding_mem.specs.declared.reference.Reference.TheVariants.{Decimal}
 use Rattle.encoding_mem.specs.laws.Encoding.{encoded_items}
 use Rattle.recode.specs.PivotText.{pivot_chars}
 use Rattle.recode.proofs.PivotLemmas.{bytes_passed, units_passed}
-use Rattle.recode.proofs.codec_calls.encode_some.Goals as goal
+use Rattle.recode.proofs.codec_calls.encode_from_pivot.Goals as goal
 
 pub returns-in-Utf8-clause-passed : goal.returns-in-Utf8-clause-passed
 returns-in-Utf8-clause-passed g c =

@@ -1,10 +1,10 @@
 use Rattle.std.proofs.Common.{◌∙◌, arith, refl}
 use Rattle.recode.proofs.TraceLemmas.{WritesItems-nil, WritesItems-trans, WritesItems-under, WritesItems-to, whole_end, on_err}
-use Rattle.recode.proofs.encode.encode_all.Goals as goal
+use Rattle.recode.proofs.encode.Target.encode_text.Goals as goal
 
 pub text-init : goal.text-init
 text-init g c = record {
-  pays = WritesItems-nil _ _ _ _;
+  pays = WritesItems-nil _ _ _;
   passed = refl;
   lost = c.requires.lost;
   bad = refl;
@@ -17,25 +17,25 @@ text-init g c = record {
 
 pub text-preserved : goal.text-preserved
 text-preserved g c = record {
-  pays = WritesItems-trans _ _ _ _ _ _ _ _ _ _ _ _ c.text.invariant.pays
+  pays = WritesItems-trans _ _ _ _ _ _ _ _ _ c.text.invariant.pays
       (rw c.text.invariant.target at c.in_ok-turn.ensures.pays);
   passed = c.in_ok-turn.ensures.passed ∙ c.text.invariant.passed;
   lost = c.in_ok-turn.ensures.lost;
   bad = c.in_ok-turn.ensures.bad ∙ c.text.invariant.bad;
   read = c.in_ok-turn.ensures.read ∙ c.text.invariant.read;
-  target = c.encode_once.ensures.target ∙ c.text.invariant.target;
+  target = c.encode_part.ensures.target ∙ c.text.invariant.target;
   state = λ h. c.text.invariant.state h ∙ (rw c.text.invariant.target at (c.in_ok-turn.ensures.state h));
-  writer_count = omega (arith, c.in_ok-turn.ensures.writer_count);
-  log_count = omega (arith, c.in_ok-turn.ensures.log_count);
+  writer_count = omega (arith, c.in_ok-turn.ensures.failures.writer);
+  log_count = omega (arith, c.in_ok-turn.ensures.failures.log);
 }
 
 pub returns-in_err-turn-clause-err : goal.returns-in_err-turn-clause-err
-returns-in_err-turn-clause-err g c = on_err _ (WritesItems-under _ _ _ _ _ _ _ _ _ _ c.text.invariant.pays
+returns-in_err-turn-clause-err g c = on_err _ (WritesItems-under _ _ _ _ _ _ _ c.text.invariant.pays
     (rw c.text.invariant.target at c.in_err-turn.ensures.err))
 
 pub returns-then-turn-clause-pays : goal.returns-then-turn-clause-pays
 returns-then-turn-clause-pays g c =
     let done = c.in_ok-turn.ensures.done c.if-turn.true in
-    WritesItems-to _ _ _ _ _ _ _ _ _
-    (WritesItems-trans _ _ _ _ _ _ _ _ _ _ _ _ c.text.invariant.pays (rw c.text.invariant.target at c.in_ok-turn.ensures.pays))
-    (whole_end _ _ _ _ _ (g.met.E.RawEncoder.laws c.args.encoder.now) done.0 done.1)
+    WritesItems-to _ _ _ _ _ _ _
+    (WritesItems-trans _ _ _ _ _ _ _ _ _ c.text.invariant.pays (rw c.text.invariant.target at c.in_ok-turn.ensures.pays))
+    (whole_end _ _ _ _ _ (g.met.E.RawEncoder.laws c.args.self.now.encoder) done.0 done.1)

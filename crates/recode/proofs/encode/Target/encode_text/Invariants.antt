@@ -1,0 +1,27 @@
+use Rattle.std.proofs.Common.{◌≡◌, ◌≤◌, ◌+◌, length, false}
+use Rattle.encoding_mem.specs.declared.reference.Reference.TheVariants.{Decimal}
+use Rattle.encoding_mem.specs.Coding.{last_set}
+use Rattle.encoding_mem.specs.Items.{whole_items}
+use Rattle.recode.specs.Streams.{written_in}
+use Rattle.recode.specs.WrittenItems.{WritesItems}
+use Rattle.recode.specs.PivotText.{pivot_chars}
+use Rattle.recode_log.specs.Counted.{failures_of}
+use Rattle.recode.proofs.encode.Target.encode_text.Given as goal
+
+abbrev pub invariant-text : goal.invariant-text
+invariant-text g l = record {
+  pays : WritesItems (written_in g.W.Write.contents g.L.Write.contents l.initial.writer l.initial.log) (written_in g.W.Write.contents g.L.Write.contents l.writer l.log) l.initial.self.counts l.self.counts
+      (whole_items Decimal (g.E.RawEncoder.coding l.initial.self.encoder) l.last (g.E.RawEncoder.set l.initial.self.encoder) l.initial.self.counts.index (pivot_chars l.initial.rest))
+      (whole_items Decimal (g.E.RawEncoder.coding l.initial.self.encoder) l.last (g.E.RawEncoder.set l.self.encoder) l.self.counts.index (pivot_chars l.rest));
+  passed : l.self.counts.index + length (pivot_chars l.rest) ≡ l.initial.self.counts.index + length (pivot_chars l.initial.rest);
+  lost : l.self.counts.lost ≤ l.self.counts.index;
+  bad : l.self.counts.bad ≡ l.initial.self.counts.bad;
+  read : l.self.counts.read ≡ l.initial.self.counts.read;
+  target : g.E.RawEncoder.coding l.self.encoder ≡ g.E.RawEncoder.coding l.initial.self.encoder;
+  state : l.last ≡ false → last_set (g.E.RawEncoder.coding l.initial.self.encoder) (g.E.RawEncoder.set l.initial.self.encoder) (pivot_chars l.initial.rest) ≡ last_set (g.E.RawEncoder.coding l.initial.self.encoder) (g.E.RawEncoder.set l.self.encoder) (pivot_chars l.rest);
+  writer_count : failures_of l.writer ≡ failures_of l.initial.writer;
+  log_count : failures_of l.log ≡ failures_of l.initial.log;
+}
+
+abbrev pub decreases-text : goal.decreases-text
+decreases-text g l = length (whole_items Decimal (g.E.RawEncoder.coding l.self.encoder) l.last (g.E.RawEncoder.set l.self.encoder) l.self.counts.index (pivot_chars l.rest))

@@ -1,0 +1,29 @@
+use Rattle.std.proofs.Common.{◌≡◌, ℕ, List, [], true, false, ◌+◌, ◌++◌, length}
+use Rattle.recode.specs.Buffers.{HoldsAnyCharacter, is_wide}
+use Rattle.recode.specs.Step.{Advances}
+use Rattle.recode.specs.Streams.{written_in}
+use Rattle.recode.specs.WrittenItems.{WritesItemsFor}
+use Rattle.recode.specs.TraceToWrite.{trace_to_write, AreSound}
+use Rattle.recode_log.specs.Counted.{failures_of}
+use Rattle.recode.proofs.engine.Engine.decode_chunk.Given as goal
+
+abbrev pub invariant-chunk : goal.invariant-chunk
+invariant-chunk g l = record {
+  pays : WritesItemsFor (written_in g.W.Write.contents g.L.Write.contents l.initial.writer l.initial.log) (written_in g.W.Write.contents g.L.Write.contents l.writer l.log) l.initial.self.target.counts l.self.target.counts l.chunk.last
+      (λ r. trace_to_write (g.D.StreamDecoder.view l.initial.self.decoder).state (g.E.RawEncoder.coding l.initial.self.target.encoder) (g.E.RawEncoder.set l.initial.self.target.encoder) l.initial.self.target.counts (l.initial.rest ++ r))
+      (λ r. trace_to_write (g.D.StreamDecoder.view l.self.decoder).state (g.E.RawEncoder.coding l.initial.self.target.encoder) (g.E.RawEncoder.set l.self.target.encoder) l.self.target.counts (l.rest ++ r));
+  source : (r : List ℕ) → (l.chunk.last ≡ true → r ≡ []) → (g.D.StreamDecoder.view l.initial.self.decoder).source (l.initial.rest ++ r) ≡ (g.D.StreamDecoder.view l.self.decoder).source (l.rest ++ r);
+  open_ : (g.D.StreamDecoder.view l.self.decoder).finished ≡ false;
+  passed : l.self.target.counts.read + length l.rest ≡ l.initial.self.target.counts.read + length l.initial.rest;
+  sound : AreSound (g.D.StreamDecoder.view l.self.decoder).state.pending l.self.target.counts;
+  target : g.E.RawEncoder.coding l.self.target.encoder ≡ g.E.RawEncoder.coding l.initial.self.target.encoder;
+  writer_count : failures_of l.writer ≡ failures_of l.initial.writer;
+  advances : l.chunk.last ≡ false → Advances (λ r. (g.D.StreamDecoder.view l.initial.self.decoder).state.pieces (l.initial.rest ++ r)) (λ r. (g.D.StreamDecoder.view l.self.decoder).state.pieces (l.rest ++ r))
+      (g.E.RawEncoder.coding l.initial.self.target.encoder) (g.E.RawEncoder.set l.initial.self.target.encoder) (g.E.RawEncoder.set l.self.target.encoder) l.initial.self.target.counts l.self.target.counts;
+  roomy : HoldsAnyCharacter l.pivot;
+  kind : is_wide l.pivot ≡ is_wide l.initial.pivot;
+  log_count : failures_of l.log ≡ failures_of l.initial.log;
+}
+
+abbrev pub decreases-chunk : goal.decreases-chunk
+decreases-chunk g l = length ((g.D.StreamDecoder.view l.self.decoder).state.pieces l.rest)

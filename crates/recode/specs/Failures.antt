@@ -1,0 +1,28 @@
+-- How many calls of each device have failed, and how a result is counted.
+use Rattle.std.specs.Prelude.{◌≡◌, ℕ, ◌+◌, Result}
+use Rattle.recode_log.specs.Counted.{failures_of}
+use Rattle.recode_log.specs.declared.counted.Counted.{Counted}
+use Rattle.recode.specs.Fault.{of_reader, of_writer, of_log, of_other}
+use Rattle.recode.specs.declared.fault.Fault.{Fault}
+
+-- the counts of failed calls of a reader, a writer and a log
+pub record Failures : Type 0 where
+  pub reader : ℕ
+  pub writer : ℕ
+  pub log : ℕ
+
+abbrev pub failures_in : {R W L : Type 0} → Counted R → Counted W → Counted L → Failures
+failures_in reader writer log = record { reader = failures_of reader; writer = failures_of writer; log = failures_of log }
+
+-- The count of the device that a fault is of rose by one; the others stayed.
+pub record CountsFault {T : Type 0} (before after : Failures) (result : Result T Fault) : Type 0 where
+  pub reader : after.reader ≡ before.reader + of_reader result
+  pub writer : after.writer ≡ before.writer + of_writer result
+  pub log : after.log ≡ before.log + of_log result
+
+-- The same of a call that has no reader: each fault is of the writer or of the log.
+pub record CountsWriterFault {W L T : Type 0} (old new : Counted W) (old_log new_log : Counted L) (result : Result T Fault) : Type 0 where
+  pub writer : failures_of new ≡ failures_of old + of_writer result
+  pub log : failures_of new_log ≡ failures_of old_log + of_log result
+  pub not_reader : of_reader result ≡ 0
+  pub not_other : of_other result ≡ 0
