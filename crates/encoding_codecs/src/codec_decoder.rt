@@ -6,8 +6,8 @@ use encoding_mem::room::DecodedLength;
 use encoding_mem::sink::Sink;
 use encoding_mem::sink_decoder::{Buffered, SinkDecoder};
 
-/// The decoder of an encoding, by its rule `R`: the decoders of this crate are names for it, each with
-/// its own `new`. It is a `RawDecoder`.
+/// The decoder of an encoding, by its rule `R`. The decoders of this crate are names for it, each
+/// with its own `new`. It is a `RawDecoder`.
 #[derive(Drop)]
 pub struct CodecDecoder<R: DecoderRule> {
     inner: Buffered<R>,

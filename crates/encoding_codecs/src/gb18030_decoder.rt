@@ -17,8 +17,8 @@ use encoding_mem::RawDecoder;
 use encoding_mem::first_piece::{FirstPiece, cut_short};
 use encoding_tables::{Flat, IndexKind, Ranges, Tables};
 
-/// The rule by which `Gb18030Decoder` decodes: the leads of gb18030, and what its tables make of the
-/// bytes behind them.
+/// The rule by which `Gb18030Decoder` decodes: the leads of gb18030, and what its tables make of
+/// the bytes behind them.
 #[derive(Drop)]
 pub struct Gb18030Rule<'a> {
     index: Flat<'a>,

@@ -6,7 +6,7 @@ use encoding_mem::room::DecodedLength;
 use encoding_mem::sink::Sink;
 use encoding_mem::sink_decoder::SinkDecoder;
 
-/// The decoder of an encoding each of whose bytes is a piece, by its rule `R`: `SingleByteDecoder`,
+/// The decoder of an encoding each of whose bytes is a piece, by its rule `R`. `SingleByteDecoder`,
 /// `UserDefinedDecoder` and `ReplacementDecoder` are names for it, each with its own `new`. It is a
 /// `RawDecoder`.
 #[derive(Drop)]
