@@ -1,5 +1,5 @@
 -- What was taken while the input goes on, and what that says of the output and the log.
-use Rattle.std.proofs.Common.{◌≡◌, ◌⊎◌, ℕ, suc, ◌+◌, ◌-◌, ◌≤◌, ◌<◌, Bool, true, false, List, [], ◌∷◌, ◌++◌, length, drop, Some, refl, sym, ◌∙◌, ap, subst, arith, append_assoc, length-append, add-zero, inl, inr}
+use Rattle.std.proofs.Common.{◌≡◌, ◌⊎◌, ◌↔◌, ℕ, suc, ◌+◌, ◌-◌, ◌≤◌, ◌<◌, Bool, true, false, List, [], ◌∷◌, ◌++◌, length, drop, Some, refl, sym, ◌∙◌, ap, subst, arith, append_assoc, length-append, add-zero, inl, inr}
 use Rattle.std.specs.Io.KnownBytes.{Appends, Consumes}
 use Rattle.std.specs.List.{flat_map}
 use Rattle.std.proofs.KnownBytes.{Appends-nil, Appends-trans, Consumes-nil, Consumes-trans}
@@ -18,7 +18,8 @@ use Rattle.recode_log.specs.declared.line.LogLine.{LogLine}
 use Rattle.recode_log.specs.declared.line.LogLine.TheVariants.{Bad}
 use Rattle.recode.specs.Job.{input_pieces, log_lines, lost_in, target_of}
 use Rattle.recode.specs.Latency.{StandsAt}
-use Rattle.recode.specs.State.{State, to_write}
+use Rattle.recode.specs.State.{State, WillBeFaithful, to_write}
+use Rattle.recode.specs.Verdict.{IsFaithfulFor}
 use Rattle.recode.specs.Step.{Advances, IsNearlyDecided, StepsOn}
 use Rattle.recode.specs.Streams.{Streams}
 use Rattle.recode.specs.TaggedByte.{IsPrefix, lines, tagged, outputs}
@@ -144,8 +145,9 @@ pub steps_on : (before after : Streams) (limit : ℕ) (s s1 : State) (chunk : Li
     → Consumes before.input after.input chunk → s1.counts.read ≡ s.counts.read + length chunk → 0 < length chunk → s1.counts.read ≤ limit → s1.coding ≡ s.coding → AreSound s.decoder.pending s.counts
     → last ≡ false → ((r : List ℕ) → (last ≡ true → r ≡ []) → s.source (chunk ++ r) ≡ s1.source r)
     → WritesItemsFor before.written after.written s.counts s1.counts last (λ r. to_write s (chunk ++ r)) (λ r. trace_to_write s1.decoder s.coding s1.set s1.counts r)
-    → Advances (λ r. s.decoder.pieces (chunk ++ r)) s1.decoder.pieces s.coding s.set s1.set s.counts s1.counts → IsNearlyDecided s1.decoder → StepsOn before after limit s s1
-steps_on before after limit s s1 chunk last read_in counted some within target sound goes_on same pays p settled =
+    → Advances (λ r. s.decoder.pieces (chunk ++ r)) s1.decoder.pieces s.coding s.set s1.set s.counts s1.counts → IsNearlyDecided s1.decoder
+    → ((r : List ℕ) → (last ≡ true → r ≡ []) → WillBeFaithful s (chunk ++ r) ↔ IsFaithfulFor s1.verdict s.coding s1.set (s1.decoder.pieces r)) → StepsOn before after limit s s1
+steps_on before after limit s s1 chunk last read_in counted some within target sound goes_on same pays p settled verdict =
     let e = s.coding in
     let offset = s.counts.read - s.decoder.pending in
     let offset1 = s1.counts.read - s1.decoder.pending in
@@ -174,6 +176,7 @@ steps_on before after limit s s1 chunk last read_in counted some within target s
       output = subst (Appends before.written.output after.written.output) (paid_output e s.set s1.set offset i offset1 i1 p.taken qs pays.written_items p.set offset_is p.index is) pays.wrote.output;
       logged = subst (Appends before.written.log after.written.log) (paid_lines e s.set s1.set offset i offset1 i1 p.taken qs pays.written_items p.set offset_is p.index is) pays.wrote.lined;
       settled = settled;
+      verdict = λ r. subst (λ (q : Coding). WillBeFaithful s (chunk ++ r) ↔ IsFaithfulFor s1.verdict q s1.set (s1.decoder.pieces r)) (sym target) (verdict r (none r));
     }
 
 -- A session that has read nothing, and one that steps on.

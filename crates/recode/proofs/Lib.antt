@@ -1,4 +1,7 @@
 pub mod TraceLemmas
+pub mod CompareLemmas
+pub mod VerdictLemmas
+pub mod NewVerdictLemmas
 pub mod EncoderCallLemmas
 pub mod DecoderCallLemmas
 pub mod StepLemmas

@@ -11,7 +11,7 @@ use Rattle.encoding_mem.specs.laws.Encoding.{utf8_lost_count}
 use Rattle.encoding_mem.specs.laws.ReadBack.{all_in_utf8, none_lost, all_mapped}
 use Rattle.encoding_mem.specs.Utf8Coding.{utf8_coding}
 use Rattle.encoding_mem.specs.declared.form.EscapeState.TheVariants.{Ascii}
-use Rattle.encoding_front.specs.Encodings.{IsUtf8Encoding, KeepsCharacters, coding_of, coding_of_codec_kind, output_encoding_of}
+use Rattle.encoding_front.specs.Encodings.{IsUtf8Encoding, coding_of, coding_of_codec_kind, output_encoding_of}
 use Rattle.encoding_front.specs.laws.Input.{marked_scalars, recoded_at_once}
 use Rattle.encoding_front.specs.Marks.{marked_pieces, marked_text}
 use Rattle.recode.specs.Job.{IsValidJob, Faithful, input_pieces, input_text, output_pieces, target_of, output_of, log_of, trace}
@@ -23,7 +23,7 @@ use Rattle.recode.specs.Session.{IsReport, IsConverted}
 use Rattle.recode.specs.declared.job.Job.{Job}
 use Rattle.recode.specs.declared.report.Report.{Report}
 use Rattle.recode.proofs.TraceLemmas.{lost_lines-trace}
-use Rattle.recode.proofs.RunLemmas.{kept_where_quiet, kept_where_faithful, quiet_where_kept, well_formed_count, none_malformed}
+use Rattle.recode.proofs.RunLemmas.{kept_where_quiet, mapped_where_faithful, quiet_where_kept, well_formed_count, none_malformed}
 
 -- The output, read back.
 pub valid_back : (j : Job) → IsValidJob j → IsValidJob (back j) × IsValidJob (in_utf8 j)
@@ -40,12 +40,12 @@ pub quiet_back : (j : Job) (x : List ℕ) → Faithful j x → (log_of (back j) 
 quiet_back j x f = (quiet_where_kept (back j) (output_of j x) f.target (all_in_utf8 (text (output_pieces j (output_of j x)))), quiet_in_utf8 j x f.source)
 
 -- in runs whose writers begin with nothing
-pub runs_read_back : (j : Job) (x bytes again direct : List ℕ) (w w' v v' u u' : Written) (p q r : Report) → KeepsCharacters j.to → IsTrue p.faithful → IsWholeOutput w w' bytes → IsConverted w w' j x p
+pub runs_read_back : (j : Job) (x bytes again direct : List ℕ) (w w' v v' u u' : Written) (p q r : Report) → IsTrue p.faithful → IsWholeOutput w w' bytes → IsConverted w w' j x p
     → IsWholeOutput v v' again → IsConverted v v' (back j) bytes q → IsWholeOutput u u' direct → IsConverted u u' (in_utf8 j) x r → again ≡ direct
-runs_read_back j x bytes again direct w w' v v' u u' p q r keeps told k a l b m c =
+runs_read_back j x bytes again direct w w' v v' u u' p q r told k a l b m c =
     bytes_are v.output v'.output again (output_of (back j) bytes) l.begun l.all b.output
     ∙ ap (output_of (back j)) (bytes_are w.output w'.output bytes (output_of j x) k.begun k.all a.output)
-    ∙ reads_back j x ((a.report.faithful keeps).0 told)
+    ∙ reads_back j x (a.report.faithful.0 told)
     ∙ sym (bytes_are u.output u'.output direct (output_of (in_utf8 j) x) m.begun m.all c.output)
   where
     bytes_are : (before after : Option (List ℕ)) (bytes added : List ℕ) → before ≡ Some [] → after ≡ Some bytes → Appends before after added → bytes ≡ added
@@ -59,12 +59,11 @@ pub no_lost_lines : (j : Job) (x : List ℕ) → IsUtf8Encoding (output_encoding
 no_lost_lines j x h = lost_lines-trace (target_of j) Ascii 0 0 (input_pieces j x) ∙ none_lost_in_utf8 j x h
 
 -- Where a character is lost, something is.
-pub lost_is_told : (j : Job) (x : List ℕ) (p : Report) → IsReport j x p → 0 < p.lost → IsTrue p.faithful → ⊥
-lost_is_told j x p r some faithful =
-    omega (arith, some, r.lost, none_lost (target_of j) (input_text j x) (kept_where_quiet j x (r.quiet.0 faithful)).1)
+pub lost_is_unfaithful : (j : Job) (x : List ℕ) → IsValidJob j → 0 < lost_count (target_of j) (input_text j x) → Faithful j x → ⊥
+lost_is_unfaithful j x v some f = omega (arith, some, none_lost (target_of j) (input_text j x) (mapped_where_faithful j x v f))
 
-pub lost_is_unfaithful : (j : Job) (x : List ℕ) → IsValidJob j → KeepsCharacters j.to → 0 < lost_count (target_of j) (input_text j x) → Faithful j x → ⊥
-lost_is_unfaithful j x v k some f = omega (arith, some, none_lost (target_of j) (input_text j x) (kept_where_faithful j x v k f))
+pub lost_is_told : (j : Job) (x : List ℕ) (p : Report) → IsValidJob j → IsReport j x p → 0 < p.lost → IsTrue p.faithful → ⊥
+lost_is_told j x p v r some faithful = lost_is_unfaithful j x v (omega (arith, some, r.lost)) (r.faithful.0 faithful)
 
 -- Decoded at once, and then encoded at once.
 pub same_whole : (j : Job) (x decoded bytes : List ℕ) → IsValidJob j → decoded ≡ encode_utf8_all (marked_text j.tables.now j.mark j.from x) → bytes ≡ output Decimal (coding_of j.tables.now j.to) (chars decoded) → bytes ≡ output_of j x

@@ -1,21 +1,26 @@
 -- The text that a pivot holds.
-use Rattle.std.proofs.Common.{◌≡◌, ℕ, ◌+◌, ◌-◌, ◌<◌, ◌≤◌, Bool, List, [], ◌∷◌, ◌++◌, true, length, take, drop, refl, sym, ◌∙◌, ap, arith, length-append, length-drop, inl, inr}
+use Rattle.std.proofs.Common.{◌≡◌, ℕ, ◌+◌, ◌-◌, ◌<◌, ◌≤◌, Bool, List, [], ◌∷◌, ◌++◌, true, length, take, drop, refl, sym, ◌∙◌, ap, arith, length-append, length-drop, inl, inr, subst, false, ◌==◌, ◌↔◌, IsTrue, true≢false}
+use lib.Dec.{eqb}
 use lib.Utf8.{scalar}
 use Rattle.std.specs.Char.Escape.{encode_utf16}
-use Rattle.std.specs.Char.Utf16.{utf16_lossy_chars}
+use Rattle.std.specs.Char.Utf16.{surrogate_pair_char, utf16_lossy_chars}
 use Rattle.std.specs.Option.{unwrap_or}
 use Rattle.std.specs.Str.{chars, IsUtf8, all_scalars, encode_utf8_all}
 use Rattle.std.proofs.Math.Utf8.{scalar_cases}
 use Rattle.std.proofs.str.Utf16.{lone_unit_char_low, lone_unit_char_high}
-use Rattle.std.proofs.lemmas.Bool.{cases_lt, lt-ltb, le-ltb, and_parts}
-use Rattle.std.proofs.lemmas.List.{take_at, take_rest, take-append-drop, length-take-le}
-use Rattle.std.proofs.lemmas.Str.{chars-append, chars-encodes}
+use Rattle.std.specs.Cmp.Lexicographic.{pointwise}
+use Rattle.std.proofs.lemmas.Bool.{cases_lt, lt-ltb, le-ltb, and_parts, eqb-true, eq-eqb}
+use Rattle.std.proofs.lemmas.Slice.Eq.{bytes_eq-Decides}
+use Rattle.std.proofs.lemmas.List.{append_cancel_left, take_at, take_rest, take-append-drop, length-take-le, append_assoc}
+use Rattle.std.proofs.lemmas.Str.{chars-append, chars-encodes, chars-nil, encodes-append, encodes-chars}
 use Rattle.encoding_mem.specs.Piece.{scalars}
 use Rattle.encoding_mem.specs.Decoding.{DecoderState, StateLaw, EndsWith}
 use Rattle.encoding_mem.specs.Writing.{Adds, encode_utf16_all}
 use Rattle.encoding_mem.specs.declared.decoder_result.DecoderResult.{DecoderResult}
 use Rattle.encoding_mem.specs.declared.decoder_result.DecoderResult.TheVariants.{InputEmpty, OutputFull, Malformed}
-use Rattle.encoding_mem.proofs.UnitPrefixLemmas.{char_of, one, two, reads_text}
+use Rattle.encoding_mem.proofs.UnitPrefixLemmas.{char_of, one, pair_or_not, reads_text, two}
+use Rattle.encoding_mem.specs.laws.ReadCalls.{scalars_parts}
+use Rattle.encoding_mem.specs.laws.Writing.{encode_utf16_all-append}
 use Rattle.encoding_mem.proofs.Utf16Lemmas.{no_units}
 use Rattle.recode.specs.CodecCalls.{DecodeCallEndsWith}
 use Rattle.recode.specs.PivotText.{Holds}
@@ -87,3 +92,134 @@ pub units_passed : (units prefix : List ℕ) (n m : ℕ) → utf16_lossy_chars u
     → m + length (utf16_lossy_chars (take (length units - n) (drop n units))) ≡ length (utf16_lossy_chars units)
 units_passed units prefix n m is e =
     omega (arith, e, ap length is, length-append prefix (utf16_lossy_chars (drop n units)), ap length (reads_text units prefix n is), ap (λ x. length (utf16_lossy_chars x)) (take_rest units n))
+
+-- ---- a text that is cut
+
+left_spelled : (enc : List ℕ → List ℕ) (x p r t cp d : List ℕ) → ((a b : List ℕ) → enc (a ++ b) ≡ enc a ++ enc b) → x ≡ enc t → p ≡ enc cp → x ≡ p ++ r → t ≡ cp ++ d → r ≡ enc d
+left_spelled enc x p r t cp d both whole start cut parts =
+    append_cancel_left (enc cp) r (enc d) (ap (λ l. l ++ r) (sym start) ∙ sym cut ∙ whole ∙ ap enc parts ∙ both cp d)
+
+before_units : (cs units : List ℕ) → all_scalars cs ≡ true → utf16_lossy_chars (encode_utf16_all cs ++ units) ≡ cs ++ utf16_lossy_chars units
+before_units [] units h = refl
+before_units (c ∷ cs) units h =
+    let parts = and_parts (scalar c) (all_scalars cs) h in
+    ap utf16_lossy_chars (append_assoc (encode_utf16 c) (encode_utf16_all cs) units) ∙ scalar_back c (encode_utf16_all cs ++ units) parts.0 ∙ ap (λ l. c ∷ l) (before_units cs units parts.1)
+
+-- What is left behind a text with which another begins: how both are spelled says how it is.
+pub bytes_left : (x p r : List ℕ) → all_scalars (chars x) ≡ true → x ≡ encode_utf8_all (chars x) → all_scalars (chars p) ≡ true → p ≡ encode_utf8_all (chars p) → IsUtf8 p → x ≡ p ++ r
+    → (chars x ≡ chars p ++ chars r) × (all_scalars (chars r) ≡ true) × (r ≡ encode_utf8_all (chars r))
+bytes_left x p r are whole starts start text cut =
+    let parts : chars x ≡ chars p ++ chars r = ap chars cut ∙ chars-append p r text in (
+      parts,
+      (scalars_parts (chars p) (chars r) (subst (λ l. all_scalars l ≡ true) parts are)).1,
+      left_spelled encode_utf8_all x p r (chars x) (chars p) (chars r) encodes-append whole start cut parts,
+    )
+
+pub units_left : (x p r : List ℕ) → all_scalars (utf16_lossy_chars x) ≡ true → x ≡ encode_utf16_all (utf16_lossy_chars x) → all_scalars (utf16_lossy_chars p) ≡ true → p ≡ encode_utf16_all (utf16_lossy_chars p) → x ≡ p ++ r
+    → (utf16_lossy_chars x ≡ utf16_lossy_chars p ++ utf16_lossy_chars r) × (all_scalars (utf16_lossy_chars r) ≡ true) × (r ≡ encode_utf16_all (utf16_lossy_chars r))
+units_left x p r are whole starts start cut =
+    let parts : utf16_lossy_chars x ≡ utf16_lossy_chars p ++ utf16_lossy_chars r =
+    ap utf16_lossy_chars (cut ∙ ap (λ l. l ++ r) start) ∙ before_units (utf16_lossy_chars p) r starts in (
+      parts,
+      (scalars_parts (utf16_lossy_chars p) (utf16_lossy_chars r) (subst (λ l. all_scalars l ≡ true) parts are)).1,
+      left_spelled encode_utf16_all x p r (utf16_lossy_chars x) (utf16_lossy_chars p) (utf16_lossy_chars r) encode_utf16_all-append whole start cut parts,
+    )
+
+-- Where its characters begin with another's, so does what it is spelled with.
+pub begins_spelled : (enc : List ℕ → List ℕ) (x p t cp more : List ℕ) → ((a b : List ℕ) → enc (a ++ b) ≡ enc a ++ enc b) → x ≡ enc t → p ≡ enc cp → t ≡ cp ++ more → x ≡ p ++ enc more
+begins_spelled enc x p t cp more both whole start is = whole ∙ ap enc is ∙ both cp more ∙ ap (λ l. l ++ enc more) (sym start)
+
+-- units are no more than what their characters are spelled with, so a text that is cut between characters is cut into two
+encode_some : (c : ℕ) → 1 ≤ length (encode_utf16 c)
+encode_some c = elim (cases_lt c 0x1_0000) [ inl small ↦ rw (lt-ltb c 0x1_0000 small) (omega arith) | inr great ↦ rw (le-ltb c 0x1_0000 great) (omega arith) ]
+
+encode_pair : (c : ℕ) → 0x1_0000 ≤ c → 2 ≤ length (encode_utf16 c)
+encode_pair c great = rw (le-ltb c 0x1_0000 great) (omega arith)
+
+units_long : (us : List ℕ) → length us ≤ length (encode_utf16_all (utf16_lossy_chars us))
+units_long [] = omega arith
+units_long (u ∷ []) = elim (pair_or_not u 0) [
+  | inl pair ↦ absurd (omega (arith, pair.1))
+  | inr apart ↦ rw (one u [] apart) (omega (arith, encode_some (char_of u), length-append (encode_utf16 (char_of u)) (encode_utf16_all (utf16_lossy_chars []))))
+]
+units_long (u ∷ v ∷ us) = elim (pair_or_not u v) [
+  | inl pair ↦
+      let c : ℕ = surrogate_pair_char u v in
+      rw (two u v us pair) (omega (arith, units_long us, encode_pair c (omega (arith, pair.0, pair.1)), length-append (encode_utf16 c) (encode_utf16_all (utf16_lossy_chars us))))
+  | inr apart ↦ rw (one u (v ∷ us) apart) (omega (arith, units_long (v ∷ us), encode_some (char_of u), length-append (encode_utf16 (char_of u)) (encode_utf16_all (utf16_lossy_chars (v ∷ us)))))
+]
+
+cut_at : (a b c d : List ℕ) → a ++ b ≡ c ++ d → length a ≡ length c → a ≡ c
+cut_at a b c d same long = sym (take_at a b (length c) (omega (arith, long))) ∙ ap (take (length c)) same ∙ take_at c d (length c) (omega arith)
+
+pub units_cut : (x a b : List ℕ) → all_scalars (utf16_lossy_chars x) ≡ true → x ≡ encode_utf16_all (utf16_lossy_chars x) → x ≡ a ++ b → utf16_lossy_chars x ≡ utf16_lossy_chars a ++ utf16_lossy_chars b
+    → (a ≡ encode_utf16_all (utf16_lossy_chars a)) × (b ≡ encode_utf16_all (utf16_lossy_chars b))
+units_cut x a b are whole cut parts =
+    let ea = encode_utf16_all (utf16_lossy_chars a) in
+    let eb = encode_utf16_all (utf16_lossy_chars b) in
+    let both : a ++ b ≡ ea ++ eb = sym cut ∙ whole ∙ ap encode_utf16_all parts ∙ encode_utf16_all-append (utf16_lossy_chars a) (utf16_lossy_chars b) in
+    let long : length a ≡ length ea = omega (arith, units_long a, units_long b, ap length both, length-append a b, length-append ea eb) in
+    let first : a ≡ ea = cut_at a b ea eb both long in
+    (first, append_cancel_left a b eb (both ∙ ap (λ l. l ++ eb) (sym first)))
+
+-- the same of bytes, where both parts are texts
+pub bytes_cut : (x a b : List ℕ) → IsUtf8 a → x ≡ encode_utf8_all (chars x) → x ≡ a ++ b → a ≡ encode_utf8_all (chars a) → (chars x ≡ chars a ++ chars b) × (b ≡ encode_utf8_all (chars b))
+bytes_cut x a b text whole cut start =
+    let parts : chars x ≡ chars a ++ chars b = ap chars cut ∙ chars-append a b text in
+    (parts, left_spelled encode_utf8_all x a b (chars x) (chars a) (chars b) encodes-append whole start cut parts)
+
+-- what a pivot holds is a text
+pub text_of_bytes : (t part : List ℕ) → all_scalars t ≡ true → part ≡ encode_utf8_all t → (all_scalars (chars part) ≡ true) × (part ≡ encode_utf8_all (chars part))
+text_of_bytes t part h e =
+    let is = bytes_text t part h e in
+    (subst (λ l. all_scalars l ≡ true) (sym is) h, e ∙ ap encode_utf8_all (sym is))
+
+pub text_of_units : (t part : List ℕ) → all_scalars t ≡ true → part ≡ encode_utf16_all t → (all_scalars (utf16_lossy_chars part) ≡ true) × (part ≡ encode_utf16_all (utf16_lossy_chars part))
+text_of_units t part h e =
+    let is = units_text t part h e in
+    (subst (λ l. all_scalars l ≡ true) (sym is) h, e ∙ ap encode_utf16_all (sym is))
+
+-- it has no characters where it has no elements
+bytes_none : (x : List ℕ) → length x ≡ 0 → chars x ≡ []
+bytes_none [] h = chars-nil
+bytes_none (b ∷ x) h = absurd (omega (arith, h))
+
+pub bytes_empty : (x : List ℕ) (b : Bool) → b ≡ (length x == 0) → x ≡ encode_utf8_all (chars x) → IsTrue b ↔ (chars x ≡ [])
+bytes_empty x b is whole =
+    (λ h. bytes_none x (eqb-true (length x) 0 (sym is ∙ h)), λ h. is ∙ eq-eqb (length x) 0 (ap length (whole ∙ ap encode_utf8_all h)))
+
+pub units_empty : (x : List ℕ) (b : Bool) → b ≡ (length x == 0) → x ≡ encode_utf16_all (utf16_lossy_chars x) → IsTrue b ↔ (utf16_lossy_chars x ≡ [])
+units_empty x b is whole =
+    (λ h. no_units x (eqb-true (length x) 0 (sym is ∙ h)), λ h. is ∙ eq-eqb (length x) 0 (ap length (whole ∙ ap encode_utf16_all h)))
+
+-- what `strip_prefix` of a slice tells
+pub no_start : (x p : List ℕ) → pointwise eqb (take (length p) x) p ≡ false → (rest : List ℕ) → x ≡ p ++ rest → ⊥
+no_start x p differs rest is =
+    let same : take (length p) x ≡ p = ap (take (length p)) is ∙ take_at p rest (length p) (omega arith) in
+    absurd (true≢false (sym ((bytes_eq-Decides (take (length p) x) p).1 same) ∙ differs))
+
+pub starts : (x p r : List ℕ) → pointwise eqb (take (length p) x) p ≡ true → r ≡ drop (length p) x → x ≡ p ++ r
+starts x p r equal behind =
+    let same : take (length p) x ≡ p = (bytes_eq-Decides (take (length p) x) p).0 equal in
+    sym (take-append-drop (length p) x) ∙ ap (λ l. l ++ drop (length p) x) same ∙ ap (λ l. p ++ l) (sym behind)
+
+-- how a text is spelled that is cut into two
+pub bytes_parts : (text prefix back : List ℕ) (n : ℕ) → IsUtf8 prefix → all_scalars (chars text) ≡ true → text ≡ encode_utf8_all (chars text) → prefix ≡ take n text → back ≡ drop n text
+    → (chars text ≡ chars prefix ++ chars back) × ((all_scalars (chars prefix) ≡ true) × (prefix ≡ encode_utf8_all (chars prefix))) × ((all_scalars (chars back) ≡ true) × (back ≡ encode_utf8_all (chars back)))
+bytes_parts text prefix back n u are whole f g =
+    let cut : text ≡ prefix ++ back = sym (take-append-drop n text) ∙ ap (λ x. x ++ drop n text) (sym f) ∙ ap (λ x. prefix ++ x) (sym g) in
+    let start : prefix ≡ encode_utf8_all (chars prefix) = sym (encodes-chars prefix u) in
+    let k = bytes_cut text prefix back u whole cut start in
+    let both = scalars_parts (chars prefix) (chars back) (subst (λ l. all_scalars l ≡ true) k.0 are) in
+    (k.0, (both.0, start), (both.1, k.1))
+
+pub units_parts : (units prefix back : List ℕ) (n : ℕ) → all_scalars (utf16_lossy_chars units) ≡ true → units ≡ encode_utf16_all (utf16_lossy_chars units) → utf16_lossy_chars units ≡ prefix ++ utf16_lossy_chars (drop n units) → back ≡ drop n units
+    → (utf16_lossy_chars units ≡ utf16_lossy_chars (take n units) ++ utf16_lossy_chars back) × ((all_scalars (utf16_lossy_chars (take n units)) ≡ true) × (take n units ≡ encode_utf16_all (utf16_lossy_chars (take n units))))
+    × ((all_scalars (utf16_lossy_chars back) ≡ true) × (back ≡ encode_utf16_all (utf16_lossy_chars back)))
+units_parts units prefix back n are whole is g =
+    let parts : utf16_lossy_chars units ≡ utf16_lossy_chars (take n units) ++ utf16_lossy_chars back =
+    is ∙ ap (λ l. l ++ utf16_lossy_chars (drop n units)) (reads_text units prefix n is) ∙ ap (λ l. utf16_lossy_chars (take n units) ++ utf16_lossy_chars l) (sym g) in
+    let cut : units ≡ take n units ++ back = sym (take-append-drop n units) ∙ ap (λ l. take n units ++ l) (sym g) in
+    let k = units_cut units (take n units) back are whole cut parts in
+    let both = scalars_parts (utf16_lossy_chars (take n units)) (utf16_lossy_chars back) (subst (λ l. all_scalars l ≡ true) parts are) in
+    (parts, (both.0, k.0), (both.1, k.1))

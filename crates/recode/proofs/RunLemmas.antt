@@ -1,23 +1,27 @@
 -- From steps to runs.
-use Rattle.std.proofs.Common.{◌≡◌, ℕ, zero, suc, drop, ◌+◌, ◌==◌, ◌&&◌, ◌↔◌, Bool, true, false, IsTrue, List, [], ◌∷◌, ◌++◌, length, refl, sym, ◌∙◌, ap, subst, arith, append-nil}
+use Rattle.std.proofs.Common.{◌≡◌, ◌⊎◌, ℕ, zero, suc, drop, ◌+◌, ◌&&◌, ◌↔◌, inl, inr, Bool, true, false, IsTrue, List, [], ◌∷◌, ◌++◌, length, refl, sym, ◌∙◌, ap, subst, arith, append-nil}
 use Rattle.std.specs.Io.KnownBytes.{Appends}
 use Rattle.std.specs.List.{flat_map}
 use Rattle.std.specs.Str.{all_scalars}
-use Rattle.std.proofs.lemmas.Bool.{false≢true, eqb-true}
+use Rattle.std.proofs.lemmas.Bool.{false≢true}
 use Rattle.encoding_mem.specs.declared.reference.Reference.TheVariants.{Decimal}
 use Rattle.encoding_mem.specs.Piece.{Piece, well_formed, malformed, text, text_of, AreWellFormed, IsPiece, ArePieces, malformed_count}
-use Rattle.encoding_mem.specs.Coding.{AllMapped, lost_count}
-use Rattle.encoding_mem.specs.laws.ReadBack.{all_mapped, none_lost}
+use Rattle.encoding_mem.specs.Coding.{AllMapped, Coding, IsMapped, bytes_from, last_set, lost_count}
+use Rattle.encoding_mem.specs.declared.form.Form.{Form}
+use Rattle.encoding_mem.specs.declared.form.Form.TheVariants.{Mapped, Unmapped}
+use Rattle.encoding_mem.specs.laws.ReadCalls.{begins_along, lost_never_reads}
 use Rattle.encoding_mem.specs.declared.form.EscapeState.TheVariants.{Ascii}
-use Rattle.encoding_front.specs.Encodings.{KeepsCharacters}
-use Rattle.encoding_front.specs.laws.Encodings.{are_pieces_of, reads_back_exactly}
+use Rattle.encoding_front.specs.Encodings.{KeepsCharacters, need_of, set_pieces_of}
+use Rattle.encoding_front.specs.laws.Encoder.{coding_laws}
+use Rattle.encoding_front.specs.laws.Encodings.{are_pieces_of, reads_back_exactly, reads_by_step, set_pieces_at_start}
 use Rattle.encoding_front.specs.Marks.{pieces_from, source_of}
 use Rattle.encoding_tables.specs.IndexLists.{IndexLists, AreAcceptedTables}
 use Rattle.encoding_front.specs.declared.encoding.Encoding.{Encoding}
 use Rattle.recode_log.specs.Line.{line_bytes}
 use Rattle.recode.specs.TaggedByte.{TaggedByte, Wrote, IsPrefix, tagged, outputs, lines}
 use Rattle.recode.specs.WrittenItems.{bad_lines, lost_lines}
-use Rattle.recode.specs.Job.{IsValidJob, Faithful, input_pieces, input_text, target_of, log_of, trace}
+use Rattle.recode.specs.State.{WillBeFaithful}
+use Rattle.recode.specs.Job.{IsValidJob, Faithful, input_pieces, output_pieces, input_text, target_of, log_of, trace}
 use Rattle.recode.specs.Session.{View, IsNewSession, Tells, IsReport, Completes, Fails}
 use Rattle.recode.specs.Step.{Finishes, PassesLimit}
 use Rattle.recode.specs.Streams.{Streams}
@@ -81,50 +85,56 @@ quiet_where_kept j x h k = ap (flat_map line_bytes) (no_lines (target_of j) 0 0 
 pub kept_where_quiet : (j : Job) (x : List ℕ) → log_of j x ≡ [] → AreWellFormed (input_pieces j x) × AllMapped (target_of j) (input_text j x)
 kept_where_quiet j x h = kept_where_no_lines (target_of j) 0 0 (input_pieces j x) (no_lines_without_bytes _ h)
 
--- The verdict: nothing was counted.
-module _ (j : Job) (x : List ℕ) (b l : ℕ) (f : Bool) (malformed_is : b ≡ malformed_count (input_pieces j x)) (lost_is : l ≡ lost_count (target_of j) (input_text j x)) (is : f ≡ (b == 0 && l == 0)) where
-  kept_where_true : IsTrue f → AreWellFormed (input_pieces j x) × AllMapped (target_of j) (input_text j x)
-  kept_where_true t =
-      let both = both_true (b == 0) (l == 0) (sym is ∙ t) in
-      (none_malformed (input_pieces j x) (sym malformed_is ∙ eqb-true b 0 both.0), all_mapped (target_of j) (input_text j x) (sym lost_is ∙ eqb-true l 0 both.1))
+-- Where something is lost, the text is not read back, in any target.
+first_unmapped : (e : Coding) (t : List ℕ) → AllMapped e t ⊎ ((before : List ℕ) × (c : ℕ) × (m : ℕ) × (rest : List ℕ) × (t ≡ before ++ c ∷ rest) × AllMapped e before × (e.form c ≡ Unmapped m))
+first_unmapped e [] = inl tt
+first_unmapped e (c ∷ t) = first_form e c t (e.form c) refl (first_unmapped e t)
+  where
+    first_form : (e : Coding) (c : ℕ) (t : List ℕ) (f : Form) → e.form c ≡ f → AllMapped e t ⊎ ((before : List ℕ) × (d : ℕ) × (m : ℕ) × (rest : List ℕ) × (t ≡ before ++ d ∷ rest) × AllMapped e before × (e.form d ≡ Unmapped m))
+        → AllMapped e (c ∷ t) ⊎ ((before : List ℕ) × (d : ℕ) × (m : ℕ) × (rest : List ℕ) × (c ∷ t ≡ before ++ d ∷ rest) × AllMapped e before × (e.form d ≡ Unmapped m))
+    first_form e c t (Unmapped m) is more = inr ([], c, m, t, refl, tt, is)
+    first_form e c t (Mapped bs) is (inl all) = inl (subst IsMapped (sym is) tt, all)
+    first_form e c t (Mapped bs) is (inr k) = inr (c ∷ k.0, k.1, k.2, k.3, ap (λ l. c ∷ l) k.4, (subst IsMapped (sym is) tt, k.5), k.6)
 
-  true_where_kept : AreWellFormed (input_pieces j x) → AllMapped (target_of j) (input_text j x) → IsTrue f
-  true_where_kept h k =
-      let none : b ≡ 0 = malformed_is ∙ well_formed_count (input_pieces j x) h in
-      let kept : l ≡ 0 = lost_is ∙ none_lost (target_of j) (input_text j x) k in
-      is ∙ ap (λ (n : ℕ). n == 0 && l == 0) none ∙ ap (λ (n : ℕ). 0 == 0 && n == 0) kept
+pub mapped_where_faithful : (j : Job) (x : List ℕ) → IsValidJob j → Faithful j x → AllMapped (target_of j) (input_text j x)
+mapped_where_faithful j x v f = elim (first_unmapped (target_of j) (input_text j x)) [
+  | inl all ↦ all
+  | inr k ↦
+      let e = target_of j in
+      let s = e.set (last_set e Ascii k.0) k.1 in
+      let w = bytes_from e Ascii k.0 ++ e.escape (last_set e Ascii k.0) s in
+      let coding = coding_laws j.tables.now j.to in
+      let start : (y : List ℕ) → output_pieces j y ≡ set_pieces_of j.tables.now j.to Ascii y = λ y. ap (λ P. P y) (sym (set_pieces_at_start j.tables.now j.to)) in
+      absurd (lost_never_reads e (set_pieces_of j.tables.now j.to) (output_pieces j) false k.2 Ascii (input_text j x) w s k.3 (record {
+        need = need_of j.to;
+        coding = coding;
+        steps = reads_by_step j.tables.now j.to v.tables;
+        scalars = text_are_scalars j x v;
+        encodes = record { before = k.0; next = k.1 ∷ k.3; split = k.4; mapped = k.5; bytes = refl; leaves = (k.1, refl, k.6, refl) };
+        along = begins_along e (set_pieces_of j.tables.now j.to) coding (output_pieces j) Ascii (input_text j x) start;
+      }) Decimal [] (λ no. refl) (rw (append-nil (input_text j x)) (record { well_formed = f.target; same = f.same })))
+]
 
-  quiet_verdict : IsTrue f ↔ (log_of j x ≡ [])
-  quiet_verdict = (
-    λ t. let kept = kept_where_true t in quiet_where_kept j x kept.0 kept.1,
-    λ h. let kept = kept_where_quiet j x h in true_where_kept kept.0 kept.1,
-  )
-
-  verdict : IsValidJob j → KeepsCharacters j.to → IsTrue f ↔ Faithful j x
-  verdict v keeps = (
-    λ t. let kept = kept_where_true t in faithful_where_kept j x v keeps kept.0 kept.1,
-    λ h. true_where_kept h.source (kept_where_faithful j x v keeps h),
-  )
+pub quiet_where_faithful : (j : Job) (x : List ℕ) → IsValidJob j → Faithful j x → log_of j x ≡ []
+quiet_where_faithful j x v f = quiet_where_kept j x f.source (mapped_where_faithful j x v f)
 
 -- The report.
-is_report : (j : Job) (x : List ℕ) (v w : View) (p : Report) → IsValidJob j → IsNewSession v j → Tells w p → v.state.source x ≡ w.state.source [] → w.state.counts.read ≡ v.state.counts.read + length x
-    → w.state.counts.bad ≡ v.state.counts.bad + bad_lines (trace j x) → w.state.counts.lost ≡ v.state.counts.lost + lost_lines (trace j x) → IsReport j x p
-is_report j x v w p valid b t same read_is malformed_is lost_is =
+is_report : (j : Job) (x : List ℕ) (v w : View) (p : Report) → IsNewSession v j → Tells w p → v.state.source x ≡ w.state.source [] → w.state.counts.read ≡ v.state.counts.read + length x
+    → w.state.counts.bad ≡ v.state.counts.bad + bad_lines (trace j x) → w.state.counts.lost ≡ v.state.counts.lost + lost_lines (trace j x) → WillBeFaithful v.state x ↔ IsTrue w.state.verdict.faithful → IsReport j x p
+is_report j x v w p b t same read_is malformed_is lost_is told =
     let e = target_of j in
     let bads : p.bad ≡ malformed_count (input_pieces j x) = omega (arith, t.bad, malformed_is, b.bad, bad_lines-trace e Ascii 0 0 (input_pieces j x)) in
     let losts : p.lost ≡ lost_count e (input_text j x) = omega (arith, t.lost, lost_is, b.lost, lost_lines-trace e Ascii 0 0 (input_pieces j x)) in
-    let told : p.faithful ≡ (p.bad == 0 && p.lost == 0) = t.verdict ∙ ap (λ (n : ℕ). n == 0 && w.state.counts.lost == 0) (sym t.bad) ∙ ap (λ (n : ℕ). p.bad == 0 && n == 0) (sym t.lost) in
     record {
       read = omega (arith, t.read, read_is, b.read);
       bad = bads;
       lost = losts;
       encoding = t.encoding ∙ sym same ∙ b.source x;
-      quiet = quiet_verdict j x p.bad p.lost p.faithful bads losts told;
-      faithful = verdict j x p.bad p.lost p.faithful bads losts told valid;
+      faithful = (λ h. (b.verdict x).0 (told.1 (sym t.verdict ∙ h)), λ h. t.verdict ∙ told.0 ((b.verdict x).1 h));
     }
 
-pub completes : (before after : Streams) (j : Job) (v u : View) (p : Report) → IsValidJob j → IsNewSession v j → Finishes before after j.limit v.state u.state → Tells u p → Completes before after j p
-completes before after j v u p valid b f t =
+pub completes : (before after : Streams) (j : Job) (v u : View) (p : Report) → IsNewSession v j → Finishes before after j.limit v.state u.state → Tells u p → Completes before after j p
+completes before after j v u p b f t =
     let x : List ℕ = f.chunk in
     let written_items : f.pays.written_items ≡ trace j x = sym (append-nil f.pays.written_items) ∙ sym f.pays.equals ∙ b.owes_trace x in
     let wrote : Wrote before.written after.written (tagged (trace j x)) = subst (λ t. Wrote before.written after.written (tagged t)) written_items f.pays.wrote in
@@ -136,8 +146,8 @@ completes before after j v u p valid b f t =
       wrote = wrote;
       output = subst (Appends before.written.output after.written.output) (outputs-trace (target_of j) Ascii 0 0 (input_pieces j x)) wrote.output;
       logged = subst (Appends before.written.log after.written.log) (lines-trace (target_of j) Ascii 0 0 (input_pieces j x)) wrote.lined;
-      report = is_report j x v u p valid b t f.source f.counted
-          (f.pays.counted.bad ∙ ap (λ t. v.state.counts.bad + bad_lines t) written_items) (f.pays.counted.lost ∙ ap (λ t. v.state.counts.lost + lost_lines t) written_items);
+      report = is_report j x v u p b t f.source f.counted
+          (f.pays.counted.bad ∙ ap (λ t. v.state.counts.bad + bad_lines t) written_items) (f.pays.counted.lost ∙ ap (λ t. v.state.counts.lost + lost_lines t) written_items) f.verdict;
     }
 
 prefix_outputs : (t u : List TaggedByte) → IsPrefix t u → IsPrefix (outputs t) (outputs u)

@@ -1,9 +1,9 @@
 -- How a step's parts make its clauses. What is left where a conversion failed.
-use Rattle.std.proofs.Common.{Err, ◌≡◌, ℕ, ◌+◌, ◌≤◌, ◌<◌, add-zero, arith, length-append, append_assoc, List, [], ◌++◌, length, Option, Bool, true, false, refl, sym, ap, ◌∙◌, subst, append-nil, take, inl, inr, ◌≢◌}
+use Rattle.std.proofs.Common.{Err, ◌≡◌, ◌↔◌, ℕ, ◌+◌, ◌≤◌, ◌<◌, add-zero, arith, length-append, append_assoc, List, [], ◌++◌, length, Option, Bool, true, false, refl, sym, ap, ◌∙◌, subst, append-nil, take, inl, inr, ◌≢◌}
 use Rattle.std.specs.Io.KnownBytes.{Consumes, Keeps, IsAtEnd, Appends}
 use Rattle.std.proofs.KnownBytes.{Consumes-nil, Consumes-kept, Consumes-trans, Appends-kept, Appends-trans, Keeps-refl}
 use Rattle.encoding_mem.specs.Items.{Item}
-use Rattle.recode.specs.State.{State, to_write}
+use Rattle.recode.specs.State.{State, WillBeFaithful, to_write}
 use Rattle.recode.specs.Streams.{KeepsWritten, Streams, Written}
 use Rattle.recode.specs.TaggedByte.{Wrote, tagged, TaggedByte, outputs, lines}
 use Rattle.recode.specs.WrittenItems.{WritesItemsFor, WritesPrefixFor}
@@ -12,6 +12,7 @@ use Rattle.recode.specs.Failures.{CountsFault, Failures}
 use Rattle.recode.specs.Fault.{of_other}
 use Rattle.recode.specs.declared.fault.Fault.{Fault}
 use Rattle.recode.specs.declared.fault.Fault.TheVariants.{Read, Write, Log, TooLong}
+use Rattle.recode.proofs.VerdictLemmas.{both_ways}
 use Rattle.recode.proofs.TraceLemmas.{Wrote-nil, Wrote-trans, tagged-append, AreCounted-trans, WritesItemsFor-start}
 use Rattle.recode.specs.Conversion.{Breaks, IsCause, IsFlushCause, IsTold, message_of}
 use Rattle.recode.specs.Job.{trace}
@@ -103,6 +104,7 @@ pub record HasRun (before after : Streams) (limit : ℕ) (s s' : State) : Type 0
   pub within : s'.counts.read ≤ limit
   pub pays : WritesItemsFor before.written after.written s.counts s'.counts false (λ r. to_write s (chunk ++ r)) (to_write s')
   pub source : (r : List ℕ) → s.source (chunk ++ r) ≡ s'.source r
+  pub verdict : (r : List ℕ) → WillBeFaithful s (chunk ++ r) ↔ WillBeFaithful s' r
 
 -- What a run has done that a fault ended.
 pub record HasStopped (before after : Streams) (limit : ℕ) (s : State) (fault : Fault) : Type 0 where
@@ -125,6 +127,7 @@ goes_on_start a limit s within = record {
   within = within;
   pays = WritesItemsFor-start a.written s.counts false (to_write s);
   source = λ r. refl;
+  verdict = λ r. (λ h. h, λ h. h);
 }
 
 pub goes_on_more : (a b c : Streams) (limit : ℕ) (s s1 s2 : State) → HasRun a b limit s s1 → StepsOn b c limit s1 s2 → HasRun a c limit s s2
@@ -141,6 +144,7 @@ goes_on_more a b c limit s s1 s2 p q = record {
         ∙ sym (append_assoc p.pays.written_items q.pays.written_items (to_write s2 r));
   };
   source = λ r. ap s.source (append_assoc p.chunk q.chunk r) ∙ p.source (q.chunk ++ r) ∙ q.source r;
+  verdict = λ r. rw (append_assoc p.chunk q.chunk r) (both_ways (p.verdict (q.chunk ++ r)) (q.verdict r));
 }
 
 pub goes_on_finish : (a b c : Streams) (limit : ℕ) (s s1 s2 : State) → HasRun a b limit s s1 → Finishes b c limit s1 s2 → Finishes a c limit s s2
@@ -157,6 +161,7 @@ goes_on_finish a b c limit s s1 s2 p q = record {
     equals = p.pays.equals q.chunk (λ k. cc) ∙ ap (λ t. p.pays.written_items ++ t) q.pays.equals ∙ sym (append_assoc p.pays.written_items q.pays.written_items []);
   };
   source = p.source q.chunk ∙ q.source;
+  verdict = both_ways (p.verdict q.chunk) q.verdict;
 }
 
 limit_on : (n m limit : ℕ) (f : Fault) → n ≡ m → PassesLimit n limit f → PassesLimit m limit f

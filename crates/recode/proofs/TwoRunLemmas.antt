@@ -31,7 +31,7 @@ same_fields a a' b b' c c' n e e' f f' h i k l m = rw (h, i, k, l, m) refl
 same_report : (j : Job) (x : List ℕ) (p q : Report) → IsReport j x p → IsReport j x q → AgreeButForCalls p q
 same_report j x p q a b =
     same_fields p.read q.read p.bad q.bad p.lost q.lost q.calls p.encoding q.encoding p.faithful q.faithful
-    (b.read ∙ sym a.read) (b.bad ∙ sym a.bad) (b.lost ∙ sym a.lost) (b.encoding ∙ sym a.encoding) (same_truth q.faithful p.faithful _ b.quiet a.quiet)
+    (b.read ∙ sym a.read) (b.bad ∙ sym a.bad) (b.lost ∙ sym a.lost) (b.encoding ∙ sym a.encoding) (same_truth q.faithful p.faithful _ b.faithful a.faithful)
 
 pub same_reports : (j : Job) (x : List ℕ) (w w' v v' : Written) (p q : Report) → IsConverted w w' j x p → IsConverted v v' j x q → AgreeButForCalls p q
 same_reports j x w w' v v' p q a b = same_report j x p q a.report b.report

@@ -1,7 +1,6 @@
 -- What a whole conversion says by its status.
 use Rattle.std.specs.Prelude.{◌≡◌, ◌≢◌, ℕ, ◌+◌, ◌<◌, ◌≤◌, ◌⊎◌, List, [], ◌++◌, length, take, Option, Bool, true, codes}
 use Rattle.std.specs.Io.KnownBytes.{Appends, Consumes, IsAtEnd}
-use Rattle.encoding_front.specs.Encodings.{KeepsCharacters}
 use Rattle.recode.specs.Job.{trace, output_of, log_of, Faithful}
 use Rattle.recode.specs.Failures.{Failures}
 use Rattle.recode.specs.Streams.{Streams}
@@ -10,8 +9,8 @@ use Rattle.recode.specs.declared.fault.Fault.{Fault}
 use Rattle.recode.specs.declared.fault.Fault.TheVariants.{Read, Write, Log, TooLong}
 use Rattle.recode.specs.declared.job.Job.{Job}
 
--- The input was read whole and is within the limit, output and log are whole, and the status tells whether the log
--- has a line: where the target has no folds, whether anything was lost.
+-- The input was read whole and is within the limit, output and log are whole, and the status tells whether anything was
+-- lost.
 pub record Converts (before after : Streams) (j : Job) (status : ℕ) : Type 0 where
   pub input : List ℕ
   pub consumed : Consumes before.input after.input input
@@ -21,10 +20,8 @@ pub record Converts (before after : Streams) (j : Job) (status : ℕ) : Type 0 w
   pub output : Appends before.written.output after.written.output (output_of j input)
   pub logged : Appends before.written.log after.written.log (log_of j input)
   pub known : (status ≡ 0) ⊎ (status ≡ 1)
-  pub quiet : status ≡ 0 → log_of j input ≡ []
-  pub told : status ≡ 1 → log_of j input ≡ [] → ⊥
-  pub faithful : KeepsCharacters j.to → status ≡ 0 → Faithful j input
-  pub lossy : KeepsCharacters j.to → status ≡ 1 → Faithful j input → ⊥
+  pub faithful : status ≡ 0 → Faithful j input
+  pub lossy : status ≡ 1 → ¬ (Faithful j input)
 
 -- more bytes were read than the limit
 pub record PassedLimit (before after : Option (List ℕ)) (limit : ℕ) : Type 0 where

@@ -5,6 +5,7 @@ pub mod Fault
 pub mod Failures
 pub mod Streams
 pub mod TraceToWrite
+pub mod Verdict
 pub mod State
 pub mod Job
 pub mod Step
@@ -18,6 +19,7 @@ pub mod Runs
 pub mod Latency
 pub mod Conversion
 pub mod Program
+pub mod VerdictView
 pub mod EngineState
 pub mod SessionView
 pub mod examples

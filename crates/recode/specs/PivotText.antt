@@ -1,5 +1,5 @@
 -- The text that a pivot holds, whichever its form.
-use Rattle.std.specs.Prelude.{◌≡◌, ℕ, ◌≤◌, List, true, length, take}
+use Rattle.std.specs.Prelude.{◌≡◌, ℕ, ◌≤◌, ◌++◌, List, Bool, true, false, length, take}
 use Rattle.std.specs.Str.{chars, all_scalars, encode_utf8_all}
 use Rattle.std.specs.Char.Utf16.{utf16_lossy_chars}
 use Rattle.encoding_mem.specs.Writing.{encode_utf16_all}
@@ -12,6 +12,39 @@ use Rattle.recode.specs.declared.pivot_text.PivotText.TheVariants.{Utf8, Utf16}
 abbrev pub pivot_chars : PivotText → List ℕ
 pivot_chars (Utf8 text) = chars text.now
 pivot_chars (Utf16 units) = utf16_lossy_chars units.now
+
+-- it is of UTF-16
+abbrev pub is_in_units : PivotText → Bool
+is_in_units (Utf8 text) = false
+is_in_units (Utf16 units) = true
+
+-- its elements are what these characters are written as: no surrogate stands alone
+abbrev pub Spells : PivotText → List ℕ → Type 0
+Spells (Utf8 text) t = text.now ≡ encode_utf8_all t
+Spells (Utf16 units) t = units.now ≡ encode_utf16_all t
+
+-- it is nothing but its characters
+pub record IsText (p : PivotText) : Type 0 where
+  pub scalars : all_scalars (pivot_chars p) ≡ true
+  pub whole : Spells p (pivot_chars p)
+
+-- its characters begin with another's
+abbrev pub BeginsWith : PivotText → PivotText → Type 0
+BeginsWith p prefix = (more : List ℕ) × (pivot_chars p ≡ pivot_chars prefix ++ more)
+
+-- a text of the same form is left behind another
+pub record IsLeftBehind (p prefix rest : PivotText) : Type 0 where
+  pub parts : pivot_chars p ≡ pivot_chars prefix ++ pivot_chars rest
+  pub text : IsText rest
+  pub form : is_in_units rest ≡ is_in_units p
+
+-- a text is cut into two, of its form
+pub record IsCutInto (p read rest : PivotText) : Type 0 where
+  pub parts : pivot_chars p ≡ pivot_chars read ++ pivot_chars rest
+  pub read_text : IsText read
+  pub rest_text : IsText rest
+  pub read_form : is_in_units read ≡ is_in_units p
+  pub rest_form : is_in_units rest ≡ is_in_units p
 
 -- the first n elements of a pivot are a text in the pivot's form
 abbrev pub Holds : Pivot → ℕ → List ℕ → Type 0

@@ -1,12 +1,11 @@
 -- A session as its callers know it, and what a run of it says.
-use Rattle.std.specs.Prelude.{◌≡◌, ◌≢◌, ℕ, ◌≤◌, ◌↔◌, IsTrue, List, [], ◌++◌, length, Bool, true, Result, Ok, Err, ◌==◌, ◌&&◌}
+use Rattle.std.specs.Prelude.{◌≡◌, ◌≢◌, ℕ, ◌≤◌, ◌↔◌, IsTrue, List, [], ◌++◌, length, Bool, true, Result, Ok, Err}
 use Rattle.std.specs.Io.KnownBytes.{Appends, Consumes, IsAtEnd}
 use Rattle.encoding_mem.specs.Piece.{malformed_count}
 use Rattle.encoding_mem.specs.Coding.{lost_count}
 use Rattle.encoding_mem.specs.declared.form.EscapeState.TheVariants.{Ascii}
-use Rattle.encoding_front.specs.Encodings.{KeepsCharacters}
 use Rattle.recode.specs.Job.{trace, target_of, output_of, log_of, source_in, input_pieces, input_text, Faithful}
-use Rattle.recode.specs.State.{State, to_write}
+use Rattle.recode.specs.State.{State, WillBeFaithful, to_write}
 use Rattle.recode.specs.Streams.{Streams, Written}
 use Rattle.recode.specs.TaggedByte.{TaggedByte, Wrote, IsPrefix, tagged, outputs, lines}
 use Rattle.recode.specs.Step.{PassesLimit}
@@ -53,6 +52,7 @@ pub record IsNewSession (v : View) (j : Job) : Type 0 where
   pub pending : v.state.decoder.pending ≡ 0
   pub pieces : (x : List ℕ) → v.state.decoder.pieces x ≡ input_pieces j x
   pub owes_trace : (x : List ℕ) → to_write v.state x ≡ trace j x
+  pub verdict : (x : List ℕ) → WillBeFaithful v.state x ↔ Faithful j x
 
 -- what a session tells that has read all
 pub record Tells (v : View) (p : Report) : Type 0 where
@@ -60,16 +60,15 @@ pub record Tells (v : View) (p : Report) : Type 0 where
   pub bad : p.bad ≡ v.state.counts.bad
   pub lost : p.lost ≡ v.state.counts.lost
   pub encoding : p.encoding ≡ v.state.source []
-  pub verdict : p.faithful ≡ (v.state.counts.bad == 0 && v.state.counts.lost == 0)
+  pub verdict : p.faithful ≡ v.state.verdict.faithful
 
--- The report on an input. Where the target has no folds, that the log is empty means that nothing was lost.
+-- The report on an input.
 pub record IsReport (j : Job) (x : List ℕ) (p : Report) : Type 0 where
   pub read : p.read ≡ length x
   pub bad : p.bad ≡ malformed_count (input_pieces j x)
   pub lost : p.lost ≡ lost_count (target_of j) (input_text j x)
   pub encoding : p.encoding ≡ source_in j x
-  pub quiet : IsTrue p.faithful ↔ (log_of j x ≡ [])
-  pub faithful : KeepsCharacters j.to → IsTrue p.faithful ↔ Faithful j x
+  pub faithful : IsTrue p.faithful ↔ Faithful j x
 
 -- A run that came to its end: the input was read whole and is within the limit, output and log are whole, and the
 -- report is of this input.

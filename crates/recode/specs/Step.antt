@@ -1,5 +1,5 @@
 -- What one step does, for every continuation of the bytes read.
-use Rattle.std.specs.Prelude.{◌≡◌, ◌≢◌, ℕ, ◌+◌, ◌-◌, ◌<◌, ◌≤◌, ◌⊎◌, List, [], ◌++◌, length, Bool, true, false}
+use Rattle.std.specs.Prelude.{◌≡◌, ◌≢◌, ◌↔◌, IsTrue, ℕ, ◌+◌, ◌-◌, ◌<◌, ◌≤◌, ◌⊎◌, List, [], ◌++◌, length, Bool, true, false}
 use Rattle.std.specs.Io.KnownBytes.{Appends, Consumes, IsAtEnd}
 use Rattle.std.specs.List.{flat_map}
 use Rattle.encoding_mem.specs.declared.reference.Reference.TheVariants.{Decimal}
@@ -10,7 +10,7 @@ use Rattle.encoding_mem.specs.Piece.{Piece, text}
 use Rattle.encoding_mem.specs.declared.form.EscapeState.{EscapeState}
 use Rattle.recode_log.specs.Line.{line_bytes}
 use Rattle.recode.specs.Job.{log_lines}
-use Rattle.recode.specs.State.{State, to_write}
+use Rattle.recode.specs.State.{State, WillBeFaithful, to_write}
 use Rattle.recode.specs.Streams.{KeepsWritten, Streams, Written}
 use Rattle.recode.specs.TaggedByte.{TaggedByte, Wrote, IsPrefix, tagged}
 use Rattle.recode.specs.WrittenItems.{WritesItems, WritesItemsFor, WritesPrefixFor}
@@ -47,6 +47,7 @@ pub record StepsOn (before after : Streams) (limit : ℕ) (s s' : State) : Type 
   pub output : Appends before.written.output after.written.output (open_from Decimal s.coding s.set (text advances.taken))
   pub logged : Appends before.written.log after.written.log (flat_map line_bytes (log_lines s.coding (s.counts.read - s.decoder.pending) s.counts.index advances.taken))
   pub settled : IsNearlyDecided s'.decoder
+  pub verdict : (r : List ℕ) → WillBeFaithful s (chunk ++ r) ↔ WillBeFaithful s' r
 
 -- The end was read, and all the rest of the trace was written.
 pub record Finishes (before after : Streams) (limit : ℕ) (s s' : State) : Type 0 where
@@ -57,6 +58,7 @@ pub record Finishes (before after : Streams) (limit : ℕ) (s s' : State) : Type
   pub within : s'.counts.read ≤ limit
   pub pays : WritesItems before.written after.written s.counts s'.counts (to_write s chunk) []
   pub source : s.source chunk ≡ s'.source []
+  pub verdict : WillBeFaithful s chunk ↔ IsTrue s'.verdict.faithful
 
 -- where the bytes that were read pass the limit, or not
 abbrev pub PassesLimit : (read limit : ℕ) → Fault → Type 0

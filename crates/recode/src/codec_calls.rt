@@ -8,7 +8,7 @@ ghost use Rattle.encoding_front.specs.DecoderCall.{DecoderCall};
 ghost use Rattle.encoding_front.specs.Stream.{finishes};
 ghost use Rattle.recode.specs.Buffers.{HoldsAnyCharacter, is_wide};
 ghost use Rattle.recode.specs.CodecCalls.{DecodeCallEndsWith};
-ghost use Rattle.recode.specs.PivotText.{Holds, pivot_chars};
+ghost use Rattle.recode.specs.PivotText.{Holds, IsCutInto, IsText, pivot_chars};
 
 use crate::buffers::Pivot;
 use crate::characters::count_characters;
@@ -111,6 +111,8 @@ pub struct EncodeCall<'p> {
     pub characters: usize,
     /// The bytes that were written.
     pub written: usize,
+    /// The text that was read.
+    pub read: PivotText<'p>,
     /// The text that was not read.
     pub rest: PivotText<'p>,
 }
@@ -124,6 +126,7 @@ pub fn encode_from_pivot<'p, E: RawEncoder>(
 ) -> EncodeCall<'p>
     ensures passed { result.characters + length (pivot_chars result.rest)
         ≡ length (pivot_chars text.entry) }
+    ensures parts { IsText text.entry → IsCutInto text.entry result.read result.rest }
     ensures room { result.written ≤ length out.new }
     ensures target { E.coding encoder.new ≡ E.coding encoder.old }
     ensures law { Encodes (E.coding encoder.old) last result.answer (E.set encoder.old)
@@ -135,19 +138,23 @@ pub fn encode_from_pivot<'p, E: RawEncoder>(
     match text {
         PivotText::Utf8(text) => {
             let (answer, read, written) = encoder.encode_from_utf8_raw(text, out, last);
+            let front = &text[..read];
             EncodeCall {
                 answer,
-                characters: count_characters(&text[..read]),
+                characters: count_characters(front),
                 written,
+                read: PivotText::Utf8(front),
                 rest: PivotText::Utf8(&text[read..]),
             }
         }
         PivotText::Utf16(units) => {
             let (answer, read, written) = encoder.encode_from_utf16_raw(units, out, last);
+            let front = &units[..read];
             EncodeCall {
                 answer,
-                characters: count_in_units(&units[..read]),
+                characters: count_in_units(front),
                 written,
+                read: PivotText::Utf16(front),
                 rest: PivotText::Utf16(&units[read..]),
             }
         }

@@ -15,11 +15,11 @@ use recode_log::counted::Counted;
 use recode_log::deliver::deliver;
 use std::io::{Read, Write};
 
-/// The status where all was converted, and the log is empty. Where what is written has no folds, nothing was
-/// lost.
+/// The status where all was converted, and nothing was lost: the output reads back as the input's text.
 pub const FAITHFUL: u8 = 0;
 
-/// The status where all was converted, and the log tells what was lost.
+/// The status where all was converted, and something was lost. The log tells what has no bytes; what was written
+/// as another character has no line.
 pub const NOT_FAITHFUL: u8 = 1;
 
 /// The status where a call of a device failed, or the input was too long.

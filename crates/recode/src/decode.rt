@@ -28,7 +28,7 @@ pub struct DecodeTurn {
 }
 
 impl<D: StreamDecoder, E: RawEncoder> Engine<D, E> {
-    ghost use Rattle.std.specs.Prelude.{◌≡◌, ℕ, ◌+◌, ◌-◌, ◌^◌, ◌<◌, ◌≤◌, ◌++◌, List, [], true, false, drop, length, IfOk, OnOk, OnErr};
+    ghost use Rattle.std.specs.Prelude.{◌≡◌, ◌↔◌, ℕ, ◌+◌, ◌-◌, ◌^◌, ◌<◌, ◌≤◌, ◌++◌, ◌⊎◌, List, [], true, false, drop, length, IsTrue, IfOk, OnOk, OnErr};
     ghost use Rattle.recode_log.specs.Counted.{failures_of};
     ghost use Rattle.recode.specs.WrittenItems.{WritesItemsFor, WritesPrefixFor};
     ghost use Rattle.recode.specs.Buffers.{HoldsAnyCharacter, is_wide};
@@ -36,6 +36,8 @@ impl<D: StreamDecoder, E: RawEncoder> Engine<D, E> {
     ghost use Rattle.recode.specs.TraceToWrite.{trace_to_write, AreSound};
     ghost use Rattle.recode.specs.Failures.{CountsWriterFault};
     ghost use Rattle.recode.specs.Streams.{written_in};
+    ghost use Rattle.recode.specs.Verdict.{CanTell, IsFaithfulFor};
+    ghost use Rattle.recode.specs.VerdictView.{verdict_view};
 
     // One call of the decoder, and all that follows from it.
     fn decode_part<W: Write, L: Write>(
@@ -45,12 +47,17 @@ impl<D: StreamDecoder, E: RawEncoder> Engine<D, E> {
         chunk: Chunk<'_>,
         pivot: &mut Pivot<'_>,
         output: &mut [u8],
+        check: &mut Pivot<'_>,
     ) -> Result<DecodeTurn, Fault>
         requires pivot { HoldsAnyCharacter pivot.old }
         requires output { 4 ≤ length output.old }
         requires open_ { (D.view self.old.decoder).finished ≡ false }
         requires sound { AreSound (D.view self.old.decoder).state.pending self.old.target.counts }
         requires limit { self.old.target.counts.read + length chunk.bytes.now ≤ 2 ^ 48 }
+        requires check { HoldsAnyCharacter check.old }
+        requires form { is_wide check.old ≡ is_wide pivot.old }
+        requires tells { CanTell (verdict_view D.view self.old.target.verdict)
+            (E.coding self.old.target.encoder) (E.set self.old.target.encoder) [] }
         requires writer { failures_of writer.old < 2 ^ 64 - 1 }
         requires log { failures_of log.old < 2 ^ 64 - 1 }
         ensures within { IfOk result (λ p. p.read ≤ length chunk.entry.bytes.now) }
@@ -97,6 +104,24 @@ impl<D: StreamDecoder, E: RawEncoder> Engine<D, E> {
             (E.set self.old.target.encoder) self.old.target.counts
             (chunk.entry.bytes.now ++ r))) }
         ensures failures { CountsWriterFault writer.old writer.new log.old log.new result }
+        ensures verdict { IfOk result (λ p. (r : List ℕ) → (chunk.entry.last ≡ true → r ≡ [])
+            → IsFaithfulFor (verdict_view D.view self.old.target.verdict)
+            (E.coding self.old.target.encoder) (E.set self.old.target.encoder)
+            ((D.view self.old.decoder).state.pieces (chunk.entry.bytes.now ++ r))
+            ↔ IsFaithfulFor (verdict_view D.view self.new.target.verdict)
+            (E.coding self.old.target.encoder) (E.set self.new.target.encoder)
+            ((D.view self.new.decoder).state.pieces
+            (drop p.read chunk.entry.bytes.now ++ r))) }
+        ensures tells { IfOk result (λ p. (p.is_done ≡ false) ⊎ (chunk.entry.last ≡ false)
+            → CanTell (verdict_view D.view self.new.target.verdict)
+            (E.coding self.old.target.encoder) (E.set self.new.target.encoder) []) }
+        ensures told { IfOk result (λ p. p.is_done ≡ true → chunk.entry.last ≡ true
+            → IsFaithfulFor (verdict_view D.view self.new.target.verdict)
+            (E.coding self.old.target.encoder) (E.set self.new.target.encoder)
+            ((D.view self.new.decoder).state.pieces [])
+            ↔ IsTrue self.new.target.verdict.faithful) }
+        ensures check { HoldsAnyCharacter check.new }
+        ensures check_kind { is_wide check.new ≡ is_wide check.old }
         ensures roomy { HoldsAnyCharacter pivot.new }
         ensures kind { is_wide pivot.new ≡ is_wide pivot.old }
     {
@@ -107,24 +132,26 @@ impl<D: StreamDecoder, E: RawEncoder> Engine<D, E> {
         match call.answer {
             DecoderResult::InputEmpty => {
                 self.target
-                    .encode_text(writer, log, text, output, chunk.last)?;
+                    .encode_text(writer, log, text, output, check, chunk.last)?;
                 Ok(DecodeTurn {
                     read: call.read,
                     is_done: true,
                 })
             }
             DecoderResult::OutputFull => {
-                self.target.encode_text(writer, log, text, output, false)?;
+                self.target
+                    .encode_text(writer, log, text, output, check, false)?;
                 Ok(DecodeTurn {
                     read: call.read,
                     is_done: false,
                 })
             }
             DecoderResult::Malformed(size, after) => {
-                self.target.encode_text(writer, log, text, output, false)?;
+                self.target
+                    .encode_text(writer, log, text, output, check, false)?;
                 let offset = self.target.counts.read - u64::from(after) - u64::from(size);
                 self.target
-                    .log_malformed(writer, log, offset, size, output)?;
+                    .log_malformed(writer, log, offset, size, output, check)?;
                 Ok(DecodeTurn {
                     read: call.read,
                     is_done: false,
@@ -141,12 +168,17 @@ impl<D: StreamDecoder, E: RawEncoder> Engine<D, E> {
         chunk: Chunk<'_>,
         pivot: &mut Pivot<'_>,
         output: &mut [u8],
+        check: &mut Pivot<'_>,
     ) -> Result<(), Fault>
         requires pivot { HoldsAnyCharacter pivot.old }
         requires output { 4 ≤ length output.old }
         requires open_ { (D.view self.old.decoder).finished ≡ false }
         requires sound { AreSound (D.view self.old.decoder).state.pending self.old.target.counts }
         requires limit { self.old.target.counts.read + length chunk.bytes.now ≤ 2 ^ 48 }
+        requires check { HoldsAnyCharacter check.old }
+        requires form { is_wide check.old ≡ is_wide pivot.old }
+        requires tells { CanTell (verdict_view D.view self.old.target.verdict)
+            (E.coding self.old.target.encoder) (E.set self.old.target.encoder) [] }
         requires writer { failures_of writer.old < 2 ^ 64 - 1 }
         requires log { failures_of log.old < 2 ^ 64 - 1 }
         ensures pays { OnOk result (WritesItemsFor
@@ -184,6 +216,23 @@ impl<D: StreamDecoder, E: RawEncoder> Engine<D, E> {
             (E.set self.old.target.encoder) self.old.target.counts
             (chunk.entry.bytes.now ++ r))) }
         ensures failures { CountsWriterFault writer.old writer.new log.old log.new result }
+        ensures verdict { OnOk result ((r : List ℕ) → (chunk.entry.last ≡ true → r ≡ [])
+            → IsFaithfulFor (verdict_view D.view self.old.target.verdict)
+            (E.coding self.old.target.encoder) (E.set self.old.target.encoder)
+            ((D.view self.old.decoder).state.pieces (chunk.entry.bytes.now ++ r))
+            ↔ IsFaithfulFor (verdict_view D.view self.new.target.verdict)
+            (E.coding self.old.target.encoder) (E.set self.new.target.encoder)
+            ((D.view self.new.decoder).state.pieces r)) }
+        ensures tells { OnOk result (chunk.entry.last ≡ false
+            → CanTell (verdict_view D.view self.new.target.verdict)
+            (E.coding self.old.target.encoder) (E.set self.new.target.encoder) []) }
+        ensures told { OnOk result (chunk.entry.last ≡ true
+            → IsFaithfulFor (verdict_view D.view self.new.target.verdict)
+            (E.coding self.old.target.encoder) (E.set self.new.target.encoder)
+            ((D.view self.new.decoder).state.pieces [])
+            ↔ IsTrue self.new.target.verdict.faithful) }
+        ensures check { HoldsAnyCharacter check.new }
+        ensures check_kind { is_wide check.new ≡ is_wide check.old }
         ensures roomy { HoldsAnyCharacter pivot.new }
         ensures kind { is_wide pivot.new ≡ is_wide pivot.old }
     {
@@ -193,7 +242,7 @@ impl<D: StreamDecoder, E: RawEncoder> Engine<D, E> {
                 bytes: rest,
                 last: chunk.last,
             };
-            let turn = self.decode_part(writer, log, part, pivot, output)?;
+            let turn = self.decode_part(writer, log, part, pivot, output, check)?;
             if turn.is_done {
                 return Ok(());
             }

@@ -1,11 +1,14 @@
 //! The part of an engine that writes text: what its encoder writes is delivered, and what is lost is
 //! logged.
 
+use crate::buffers::Pivot;
 use crate::codec_calls::encode_from_pivot;
 use crate::counts::Counts;
 use crate::fault::Fault;
 use crate::lines::{log_line, put_reference};
 use crate::pivot_text::PivotText;
+use crate::verdict::Verdict;
+use encoding_front::StreamDecoder;
 use encoding_mem::{EncoderResult, RawEncoder};
 use recode_log::counted::Counted;
 use recode_log::deliver::deliver;
@@ -21,22 +24,26 @@ pub struct EncodeTurn<'p> {
     pub is_done: bool,
 }
 
-/// What writes the text of a conversion: the encoder, and what was counted.
+/// What writes the text of a conversion: the encoder, what was counted, and whether something was lost.
 #[derive(Drop)]
-pub struct Target<E> {
+pub struct Target<D, E> {
     pub encoder: E,
+    pub verdict: Verdict<D>,
     pub counts: Counts,
 }
 
-impl<E: RawEncoder> Target<E> {
-    ghost use Rattle.std.specs.Prelude.{◌≡◌, ℕ, ◌+◌, ◌-◌, ◌^◌, ◌<◌, ◌≤◌, ◌++◌, ◌∷◌, List, [], true, false, length, map, IfOk, OnOk, OnErr};
+impl<D: StreamDecoder, E: RawEncoder> Target<D, E> {
+    ghost use Rattle.std.specs.Prelude.{◌≡◌, ℕ, ◌+◌, ◌-◌, ◌^◌, ◌<◌, ◌≤◌, ◌++◌, ◌∷◌, ◌⊎◌, List, [], true, false, length, map, IfOk, OnOk, OnErr};
     ghost use Rattle.recode_log.specs.Counted.{failures_of};
     ghost use Rattle.encoding_mem.specs.declared.reference.Reference.TheVariants.{Decimal};
     ghost use Rattle.encoding_mem.specs.Coding.{last_set, reference};
     ghost use Rattle.encoding_mem.specs.Items.{Item, LostAt, MalformedAt, Byte, open_items, whole_items};
     ghost use Rattle.encoding_mem.specs.declared.form.EscapeState.TheVariants.{Ascii};
     ghost use Rattle.recode.specs.WrittenItems.{WritesItems, WritesPrefix};
-    ghost use Rattle.recode.specs.PivotText.{pivot_chars};
+    ghost use Rattle.recode.specs.Buffers.{HoldsAnyCharacter, is_wide};
+    ghost use Rattle.recode.specs.PivotText.{is_in_units, pivot_chars, IsText};
+    ghost use Rattle.recode.specs.Verdict.{CanTell, IsToldAtEnd, Keeps, NeedsForm};
+    ghost use Rattle.recode.specs.VerdictView.{verdict_view};
     ghost use Rattle.recode.specs.Failures.{CountsWriterFault};
     ghost use Rattle.recode.specs.Streams.{written_in};
 
@@ -60,6 +67,7 @@ impl<E: RawEncoder> Target<E> {
         ensures counts { OnOk result
             (self.new.counts ≡ record self.old.counts { lost = self.old.counts.lost + 1 }) }
         ensures encoder { self.new.encoder ≡ self.old.encoder }
+        ensures verdict { verdict_view D.view self.new.verdict ≡ verdict_view D.view self.old.verdict }
         ensures err { OnErr result ((rest : List Item) → WritesPrefix
             (written_in W.contents L.contents writer.old log.old)
             (written_in W.contents L.contents writer.new log.new)
@@ -81,11 +89,17 @@ impl<E: RawEncoder> Target<E> {
         log: &mut Counted<L>,
         text: PivotText<'p>,
         output: &mut [u8],
+        check: &mut Pivot<'_>,
         last: bool,
     ) -> Result<EncodeTurn<'p>, Fault>
         requires room { 4 ≤ length output.old }
         requires index { self.old.counts.index + length (pivot_chars text) ≤ 2 ^ 48 }
         requires lost { self.old.counts.lost ≤ self.old.counts.index }
+        requires check { HoldsAnyCharacter check.old }
+        requires form { NeedsForm (verdict_view D.view self.old.verdict) check.old text }
+        requires text { IsText text }
+        requires tells { CanTell (verdict_view D.view self.old.verdict) (E.coding self.old.encoder)
+            (E.set self.old.encoder) (pivot_chars text) }
         requires writer { failures_of writer.old < 2 ^ 64 - 1 }
         requires log { failures_of log.old < 2 ^ 64 - 1 }
         ensures pays { IfOk result (λ p. WritesItems
@@ -119,21 +133,47 @@ impl<E: RawEncoder> Target<E> {
             (whole_items Decimal (E.coding self.old.encoder) last (E.set self.old.encoder)
             self.old.counts.index (pivot_chars text.entry))) }
         ensures failures { CountsWriterFault writer.old writer.new log.old log.new result }
+        ensures verdict { IfOk result (λ p. Keeps (E.coding self.old.encoder) last
+            (verdict_view D.view self.old.verdict) (E.set self.old.encoder) (pivot_chars text.entry)
+            (verdict_view D.view self.new.verdict) (E.set self.new.encoder) (pivot_chars p.rest)) }
+        ensures tells { IfOk result (λ p. (p.is_done ≡ false) ⊎ (last ≡ false)
+            → CanTell (verdict_view D.view self.new.verdict) (E.coding self.old.encoder)
+            (E.set self.new.encoder) (pivot_chars p.rest)) }
+        ensures told { IfOk result (λ p. p.is_done ≡ true → last ≡ true
+            → IsToldAtEnd (verdict_view D.view self.new.verdict)) }
+        ensures rest { IfOk result (λ p. IsText p.rest
+            × (is_in_units p.rest ≡ is_in_units text.entry)) }
+        ensures stays { OnOk result (self.old.verdict.faithful ≡ false
+            → self.new.verdict.faithful ≡ false) }
+        ensures by_log { self.new.verdict.by_log ≡ self.old.verdict.by_log }
+        ensures roomy { HoldsAnyCharacter check.new }
+        ensures kind { is_wide check.new ≡ is_wide check.old }
     {
         let call = encode_from_pivot(&mut self.encoder, text, output, last);
         self.counts.calls = self.counts.calls.saturating_add(1);
         deliver(writer, &output[..call.written], Fault::Write)?;
         self.counts.index += call.characters as u64;
         match call.answer {
-            EncoderResult::InputEmpty => Ok(EncodeTurn {
-                rest: call.rest,
-                is_done: true,
-            }),
-            EncoderResult::OutputFull => Ok(EncodeTurn {
-                rest: call.rest,
-                is_done: false,
-            }),
+            EncoderResult::InputEmpty => {
+                let written = &output[..call.written];
+                let calls = self.verdict.read_back(written, call.read, check);
+                self.counts.calls = self.counts.calls.saturating_add(calls);
+                Ok(EncodeTurn {
+                    rest: call.rest,
+                    is_done: true,
+                })
+            }
+            EncoderResult::OutputFull => {
+                let written = &output[..call.written];
+                let calls = self.verdict.read_back(written, call.read, check);
+                self.counts.calls = self.counts.calls.saturating_add(calls);
+                Ok(EncodeTurn {
+                    rest: call.rest,
+                    is_done: false,
+                })
+            }
             EncoderResult::Unmappable(scalar) => {
+                self.verdict.faithful = false;
                 self.log_lost(writer, log, scalar)?;
                 Ok(EncodeTurn {
                     rest: call.rest,
@@ -150,11 +190,17 @@ impl<E: RawEncoder> Target<E> {
         log: &mut Counted<L>,
         text: PivotText<'_>,
         output: &mut [u8],
+        check: &mut Pivot<'_>,
         last: bool,
     ) -> Result<(), Fault>
         requires room { 4 ≤ length output.old }
         requires index { self.old.counts.index + length (pivot_chars text) ≤ 2 ^ 48 }
         requires lost { self.old.counts.lost ≤ self.old.counts.index }
+        requires check { HoldsAnyCharacter check.old }
+        requires form { NeedsForm (verdict_view D.view self.old.verdict) check.old text }
+        requires text { IsText text }
+        requires tells { CanTell (verdict_view D.view self.old.verdict) (E.coding self.old.encoder)
+            (E.set self.old.encoder) (pivot_chars text) }
         requires writer { failures_of writer.old < 2 ^ 64 - 1 }
         requires log { failures_of log.old < 2 ^ 64 - 1 }
         ensures pays { OnOk result (WritesItems
@@ -179,10 +225,23 @@ impl<E: RawEncoder> Target<E> {
             (whole_items Decimal (E.coding self.old.encoder) last (E.set self.old.encoder)
             self.old.counts.index (pivot_chars text.entry))) }
         ensures failures { CountsWriterFault writer.old writer.new log.old log.new result }
+        ensures verdict { OnOk result (Keeps (E.coding self.old.encoder) last
+            (verdict_view D.view self.old.verdict) (E.set self.old.encoder) (pivot_chars text.entry)
+            (verdict_view D.view self.new.verdict) (E.set self.new.encoder) []) }
+        ensures tells { OnOk result (last ≡ false
+            → CanTell (verdict_view D.view self.new.verdict) (E.coding self.old.encoder)
+            (E.set self.new.encoder) []) }
+        ensures told { OnOk result (last ≡ true
+            → IsToldAtEnd (verdict_view D.view self.new.verdict)) }
+        ensures stays { OnOk result (self.old.verdict.faithful ≡ false
+            → self.new.verdict.faithful ≡ false) }
+        ensures by_log { self.new.verdict.by_log ≡ self.old.verdict.by_log }
+        ensures roomy { HoldsAnyCharacter check.new }
+        ensures kind { is_wide check.new ≡ is_wide check.old }
     {
         let mut rest = text;
         'text: loop {
-            let turn = self.encode_part(writer, log, rest, output, last)?;
+            let turn = self.encode_part(writer, log, rest, output, check, last)?;
             if turn.is_done {
                 return Ok(());
             }
@@ -198,6 +257,7 @@ impl<E: RawEncoder> Target<E> {
         offset: u64,
         size: u8,
         output: &mut [u8],
+        check: &mut Pivot<'_>,
     ) -> Result<(), Fault>
         requires room { 4 ≤ length output.old }
         requires offset { offset ≤ 2 ^ 48 }
@@ -206,6 +266,9 @@ impl<E: RawEncoder> Target<E> {
         requires index { self.old.counts.index < 2 ^ 48 }
         requires lost { self.old.counts.lost ≤ self.old.counts.index }
         requires bad { self.old.counts.bad ≤ self.old.counts.index }
+        requires check { HoldsAnyCharacter check.old }
+        requires tells { CanTell (verdict_view D.view self.old.verdict) (E.coding self.old.encoder)
+            (E.set self.old.encoder) [] }
         requires writer { failures_of writer.old < 2 ^ 64 - 1 }
         requires log { failures_of log.old < 2 ^ 64 - 1 }
         ensures pays { OnOk result (WritesItems
@@ -227,6 +290,12 @@ impl<E: RawEncoder> Target<E> {
             (MalformedAt offset size ∷ open_items Decimal (E.coding self.old.encoder)
             (E.set self.old.encoder) self.old.counts.index (0xFFFD ∷ []))) }
         ensures failures { CountsWriterFault writer.old writer.new log.old log.new result }
+        ensures verdict { OnOk result (self.new.verdict.faithful ≡ false) }
+        ensures tells { OnOk result (CanTell (verdict_view D.view self.new.verdict)
+            (E.coding self.old.encoder) (E.set self.new.encoder) []) }
+        ensures by_log { self.new.verdict.by_log ≡ self.old.verdict.by_log }
+        ensures roomy { HoldsAnyCharacter check.new }
+        ensures kind { is_wide check.new ≡ is_wide check.old }
     {
         log_line(
             log,
@@ -236,8 +305,9 @@ impl<E: RawEncoder> Target<E> {
             },
         )?;
         self.counts.bad += 1;
+        self.verdict.faithful = false;
         let text = PivotText::Utf8("\u{FFFD}");
-        self.encode_text(writer, log, text, output, false)?;
+        self.encode_text(writer, log, text, output, check, false)?;
         Ok(())
     }
 }

@@ -12,11 +12,11 @@ use std::io::{Read, Write};
 #[derive(Drop)]
 pub struct Engine<D, E> {
     pub decoder: D,
-    pub target: Target<E>,
+    pub target: Target<D, E>,
 }
 
 impl<D: StreamDecoder, E: RawEncoder> Engine<D, E> {
-    ghost use Rattle.std.specs.Prelude.{◌≡◌, ℕ, ◌+◌, ◌-◌, ◌^◌, ◌<◌, ◌≤◌, List, length, false, OnOk, IfErr};
+    ghost use Rattle.std.specs.Prelude.{◌≡◌, ℕ, ◌+◌, ◌-◌, ◌^◌, ◌<◌, ◌≤◌, List, [], length, false, OnOk, IfErr};
     ghost use Rattle.recode_log.specs.Counted.{failures_of};
     ghost use Rattle.recode.specs.Buffers.{HoldsAnyCharacter, is_wide};
     ghost use Rattle.recode.specs.EngineState.{engine_state};
@@ -24,6 +24,8 @@ impl<D: StreamDecoder, E: RawEncoder> Engine<D, E> {
     ghost use Rattle.recode.specs.Step.{Finishes, Stops, StepsOn};
     ghost use Rattle.recode.specs.Failures.{CountsFault, failures_in};
     ghost use Rattle.recode.specs.Streams.{streams_in};
+    ghost use Rattle.recode.specs.Verdict.{CanTell};
+    ghost use Rattle.recode.specs.VerdictView.{verdict_view};
 
     /// One read, and all that follows from it. After a fault the engine is of no use.
     pub fn step<R: Read, W: Write, L: Write>(
@@ -35,6 +37,7 @@ impl<D: StreamDecoder, E: RawEncoder> Engine<D, E> {
         input: &mut [u8],
         pivot: &mut Pivot<'_>,
         output: &mut [u8],
+        check: &mut Pivot<'_>,
     ) -> Result<Progress, Fault>
         requires limit { limit ≤ 2 ^ 48 }
         requires read { self.old.target.counts.read ≤ limit }
@@ -43,6 +46,10 @@ impl<D: StreamDecoder, E: RawEncoder> Engine<D, E> {
         requires input { 0 < length input.old }
         requires pivot { HoldsAnyCharacter pivot.old }
         requires output { 4 ≤ length output.old }
+        requires check { HoldsAnyCharacter check.old }
+        requires form { is_wide check.old ≡ is_wide pivot.old }
+        requires tells { CanTell (verdict_view D.view self.old.target.verdict)
+            (E.coding self.old.target.encoder) (E.set self.old.target.encoder) [] }
         requires reader { failures_of reader.old < 2 ^ 64 - 1 }
         requires writer { failures_of writer.old < 2 ^ 64 - 1 }
         requires log { failures_of log.old < 2 ^ 64 - 1 }
@@ -70,6 +77,11 @@ impl<D: StreamDecoder, E: RawEncoder> Engine<D, E> {
             (failures_in reader.new writer.new log.new) result }
         ensures roomy { HoldsAnyCharacter pivot.new }
         ensures kind { is_wide pivot.new ≡ is_wide pivot.old }
+        ensures tells { result ≡ Ok Progress.More → CanTell
+            (verdict_view D.view self.new.target.verdict)
+            (E.coding self.old.target.encoder) (E.set self.new.target.encoder) [] }
+        ensures check { HoldsAnyCharacter check.new }
+        ensures check_kind { is_wide check.new ≡ is_wide check.old }
     {
         let Ok(read) = reader.read(input) else {
             return Err(Fault::Read);
@@ -82,7 +94,7 @@ impl<D: StreamDecoder, E: RawEncoder> Engine<D, E> {
             bytes: &input[..read],
             last: ended,
         };
-        let converted = self.decode_chunk(writer, log, chunk, pivot, output);
+        let converted = self.decode_chunk(writer, log, chunk, pivot, output, check);
         match converted {
             Ok(()) => {
                 if ended {

@@ -46,6 +46,11 @@ pub fn faithful_where_log_is_empty()
         → Faithful j x ↔ (log_of j x ≡ []) }
 {}
 
+/// Where nothing was lost, the log is empty.
+pub fn faithful_leaves_log_empty()
+    ensures { (j : Job) (x : List ℕ) → IsValidJob j → Faithful j x → log_of j x ≡ [] }
+{}
+
 /// The log is empty exactly where no piece of the input is malformed, and each character of its
 /// text has bytes.
 pub fn log_is_empty()
@@ -103,9 +108,9 @@ pub fn utf8_loses_nothing()
         → lost_count (target_of j) (input_text j x) ≡ 0 }
 {}
 
-/// Where a character is lost and what is written has no folds, the output does not read back.
+/// Where a character is lost, the output does not read back, in any target.
 pub fn lost_is_unfaithful()
-    ensures { (j : Job) (x : List ℕ) → IsValidJob j → KeepsCharacters j.to
+    ensures { (j : Job) (x : List ℕ) → IsValidJob j
         → 0 < lost_count (target_of j) (input_text j x) → ¬ (Faithful j x) }
 {}
 

@@ -24,6 +24,7 @@ pub mod progress;
 pub mod report;
 pub mod run_laws;
 pub mod session;
+mod verdict;
 
 pub use buffers::{Buffers, Pivot};
 pub use conversion::{FAITHFUL, FAULT, NOT_FAITHFUL, convert};

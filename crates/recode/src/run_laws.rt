@@ -1,7 +1,7 @@
 //! Laws of runs, as the contract of `run` tells them. The functions do nothing: each contract is a law.
 
 ghost use Rattle.std.specs.Prelude.{◌≡◌, ◌↔◌, ◌⊎◌, ◌<◌, ◌≤◌, ℕ, IsOk, IsTrue, List, [], length, Result, Some, Err};
-ghost use Rattle.encoding_front.specs.Encodings.{KeepsCharacters};
+ghost use Rattle.recode.specs.Job.{IsValidJob};
 ghost use Rattle.recode.specs.ReadBack.{back, in_utf8};
 ghost use Rattle.recode.specs.Failures.{Failures};
 ghost use Rattle.recode.specs.Runs.{AgreeButForCalls, IsWholeOutput, RunReturns, WroteTheSame};
@@ -44,16 +44,15 @@ pub fn answers_without_faults()
 
 /// A report that tells a lost character does not say that nothing was lost.
 pub fn lost_is_told()
-    ensures { (j : Job) (x : List ℕ) (p : Report) → IsReport j x p → 0 < p.lost
+    ensures { (j : Job) (x : List ℕ) (p : Report) → IsValidJob j → IsReport j x p → 0 < p.lost
         → ¬ (IsTrue p.faithful) }
 {}
 
-/// Where a run says that nothing was lost, and its target has no folds, a run that recodes its output to UTF-8, with
-/// marks kept, writes what one writes that recodes its input to UTF-8.
+/// Where a run says that nothing was lost, a run that recodes its output to UTF-8, with marks kept, writes what one
+/// writes that recodes its input to UTF-8.
 pub fn faithful_output_reads_back()
     ensures { (j : Job) (x bytes again direct : List ℕ) (w w' v v' u u' : Written) (p q r : Report)
-        → KeepsCharacters j.to → IsTrue p.faithful
-        → IsWholeOutput w w' bytes → IsConverted w w' j x p
+        → IsTrue p.faithful → IsWholeOutput w w' bytes → IsConverted w w' j x p
         → IsWholeOutput v v' again → IsConverted v v' (back j) bytes q
         → IsWholeOutput u u' direct → IsConverted u u' (in_utf8 j) x r → again ≡ direct }
 {}

@@ -1,4 +1,4 @@
-ghost use Rattle.std.specs.Prelude.{◌≡◌, ◌≤◌, ◌<◌, ◌^◌, ◌+◌, ◌-◌, ◌↔◌, ◌==◌, IsTrue, IsSome, OnOk, IfOk, IfErr, IfSome, true, false};
+ghost use Rattle.std.specs.Prelude.{◌≡◌, ◌≤◌, ◌<◌, ◌^◌, ◌+◌, ◌-◌, ◌↔◌, ◌==◌, IsTrue, IsSome, OnOk, IfOk, IfErr, IfSome, [], true, false};
 ghost use Rattle.encoding_mem.specs.Decoding.{DecoderState};
 ghost use Rattle.recode_log.specs.Counted.{failures_of};
 ghost use Rattle.recode.specs.Job.{IsValidJob};
@@ -10,6 +10,8 @@ ghost use Rattle.recode.specs.declared.phase.Phase.TheVariants.{Open};
 ghost use Rattle.recode.specs.Step.{Finishes, Stops, StepsOn};
 ghost use Rattle.recode.specs.Failures.{CountsFault, failures_in};
 ghost use Rattle.recode.specs.Streams.{streams_in};
+ghost use Rattle.recode.specs.Verdict.{CanTell};
+ghost use Rattle.recode.specs.VerdictView.{verdict_view};
 
 use crate::buffers::{Buffers, Pivot};
 use crate::counts::Counts;
@@ -20,7 +22,8 @@ use crate::job::Job;
 use crate::phase::Phase;
 use crate::progress::Progress;
 use crate::report::Report;
-use encoding_front::{Decoder, StreamDecoder, VariantEncoder};
+use crate::verdict::Verdict;
+use encoding_front::{Decoder, Mark, StreamDecoder, VariantEncoder};
 use encoding_mem::RawEncoder;
 use recode_log::counted::Counted;
 use std::io::{Read, Write};
@@ -43,6 +46,10 @@ pub struct Session<'t> {
     ghost open_: { phase ≡ Open → (⟦<Decoder<'static> as StreamDecoder>⟧.view
         engine.decoder).finished ≡ false },
     ghost within: { phase ≡ Open → engine.target.counts.read ≤ job.limit },
+    ghost tells: { phase ≡ Open → CanTell
+        (verdict_view ⟦<Decoder<'static> as StreamDecoder>⟧.view engine.target.verdict)
+        (⟦<VariantEncoder<'static> as RawEncoder>⟧.coding engine.target.encoder)
+        (⟦<VariantEncoder<'static> as RawEncoder>⟧.set engine.target.encoder) [] },
 }
 
 impl<'t> Viewed for Session<'t> {
@@ -68,6 +75,11 @@ impl<'t> Session<'t> {
                 decoder: Decoder::new(job.from, job.mark, job.tables),
                 target: Target {
                     encoder: VariantEncoder::new(job.to, job.tables),
+                    verdict: Verdict {
+                        reader: Decoder::new(job.to.output_encoding(), Mark::Keep, job.tables),
+                        by_log: job.to.keeps_characters(),
+                        faithful: true,
+                    },
                     counts: Counts {
                         read: 0,
                         index: 0,
@@ -113,7 +125,7 @@ impl<'t> Session<'t> {
             lost: counts.lost,
             calls: counts.calls,
             encoding: self.engine.decoder.encoding(),
-            faithful: counts.bad == 0 && counts.lost == 0,
+            faithful: self.engine.target.verdict.faithful,
         }
     }
 
@@ -173,6 +185,7 @@ impl<'t> Session<'t> {
             buffers.input,
             &mut buffers.pivot,
             buffers.output,
+            &mut buffers.check,
         );
         match answer {
             Ok(Progress::More) => {

@@ -9,6 +9,7 @@ use Rattle.encoding_mem.specs.Steps.{StepLaw, in_any_set}
 use Rattle.encoding_mem.specs.laws.Agreement.{reads_back_or_breaks}
 use Rattle.encoding_mem.specs.laws.OneSet.{utf8_by_step}
 use Rattle.encoding_mem.specs.laws.ReadBack.{utf8_exact}
+use Rattle.encoding_mem.specs.declared.form.EscapeState.{EscapeState}
 use Rattle.encoding_mem.specs.declared.form.EscapeState.TheVariants.{Ascii}
 use Rattle.encoding_mem.specs.Utf8.{first_piece_utf8, pieces_utf8}
 use Rattle.encoding_mem.specs.Utf8Coding.{utf8_coding}
@@ -98,6 +99,23 @@ reads_by_step t e taken = by_step_in t (codec_kind_of (output_encoding_of e)) ta
 pub set_pieces_at_start : (t : IndexLists) (e : Encoding) → set_pieces_of t e Ascii ≡ pieces_of t (output_encoding_of e)
 set_pieces_at_start t Encoding.Big5 = refl
 set_pieces_at_start t _ = refl
+
+-- and where no two characters have the same bytes, also from any other set
+set_pieces_in : (t : IndexLists) (s : CodecKind) → KeepsCharactersCodecKind s → (set : EscapeState) → set_pieces_of_codec_kind t s set ≡ pieces_of_codec_kind t s
+set_pieces_in t CodecKind.Utf8 kept set = refl
+set_pieces_in t (CodecKind.SingleByte kind) kept set = refl
+set_pieces_in t CodecKind.UserDefined kept set = refl
+set_pieces_in t CodecKind.Big5 kept set = refl
+set_pieces_in t CodecKind.EucKr kept set = refl
+set_pieces_in t CodecKind.EucJp kept set = absurd kept
+set_pieces_in t CodecKind.ShiftJis kept set = absurd kept
+set_pieces_in t (CodecKind.Gb18030 extended) kept set = absurd kept
+set_pieces_in t CodecKind.Iso2022Jp kept set = absurd kept
+set_pieces_in t (CodecKind.Utf16 big_endian) kept set = absurd kept
+set_pieces_in t CodecKind.Replacement kept set = absurd kept
+
+pub set_pieces_anywhere : (t : IndexLists) (e : Encoding) → KeepsCharacters e → (set : EscapeState) → set_pieces_of t e set ≡ pieces_of t (output_encoding_of e)
+set_pieces_anywhere t e kept set = set_pieces_in t (codec_kind_of (output_encoding_of e)) kept set
 
 -- so it agrees with its text or is broken
 pub agrees_or_breaks : (t : IndexLists) (e : Encoding) → AreAcceptedTables t → ReadsBackOrBreaks (pieces_of t (output_encoding_of e)) (coding_of t e)

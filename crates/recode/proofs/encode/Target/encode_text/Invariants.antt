@@ -4,7 +4,10 @@ use Rattle.encoding_mem.specs.Coding.{last_set}
 use Rattle.encoding_mem.specs.Items.{whole_items}
 use Rattle.recode.specs.Streams.{written_in}
 use Rattle.recode.specs.WrittenItems.{WritesItems}
-use Rattle.recode.specs.PivotText.{pivot_chars}
+use Rattle.recode.specs.Buffers.{HoldsAnyCharacter, is_wide}
+use Rattle.recode.specs.PivotText.{is_in_units, pivot_chars, IsText}
+use Rattle.recode.specs.Verdict.{CanTell, Keeps, NeedsForm}
+use Rattle.recode.specs.VerdictView.{verdict_view}
 use Rattle.recode_log.specs.Counted.{failures_of}
 use Rattle.recode.proofs.encode.Target.encode_text.Given as goal
 
@@ -21,6 +24,16 @@ invariant-text g l = record {
   state : l.last ≡ false → last_set (g.E.RawEncoder.coding l.initial.self.encoder) (g.E.RawEncoder.set l.initial.self.encoder) (pivot_chars l.initial.rest) ≡ last_set (g.E.RawEncoder.coding l.initial.self.encoder) (g.E.RawEncoder.set l.self.encoder) (pivot_chars l.rest);
   writer_count : failures_of l.writer ≡ failures_of l.initial.writer;
   log_count : failures_of l.log ≡ failures_of l.initial.log;
+  verdict : Keeps (g.E.RawEncoder.coding l.initial.self.encoder) l.last (verdict_view g.D.StreamDecoder.view l.initial.self.verdict) (g.E.RawEncoder.set l.initial.self.encoder) (pivot_chars l.initial.rest)
+      (verdict_view g.D.StreamDecoder.view l.self.verdict) (g.E.RawEncoder.set l.self.encoder) (pivot_chars l.rest);
+  tells : CanTell (verdict_view g.D.StreamDecoder.view l.self.verdict) (g.E.RawEncoder.coding l.initial.self.encoder) (g.E.RawEncoder.set l.self.encoder) (pivot_chars l.rest);
+  text : IsText l.rest;
+  form : is_in_units l.rest ≡ is_in_units l.initial.rest;
+  stays : l.initial.self.verdict.faithful ≡ false → l.self.verdict.faithful ≡ false;
+  needs : NeedsForm (verdict_view g.D.StreamDecoder.view l.self.verdict) l.check l.rest;
+  by_log : l.self.verdict.by_log ≡ l.initial.self.verdict.by_log;
+  roomy : HoldsAnyCharacter l.check;
+  kind : is_wide l.check ≡ is_wide l.initial.check;
 }
 
 abbrev pub decreases-text : goal.decreases-text

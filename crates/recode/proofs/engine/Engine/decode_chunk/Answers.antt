@@ -1,8 +1,9 @@
-use Rattle.std.proofs.Common.{◌∙◌, ◌++◌, arith, refl, sym, ap, length, length-drop, drop_of_length-le}
+use Rattle.std.proofs.Common.{◌∙◌, ◌++◌, arith, inl, inr, refl, sym, ap, length, length-drop, drop_of_length-le}
 use Rattle.std.proofs.lemmas.List.{take_rest}
 use Rattle.recode.specs.TraceToWrite.{trace_to_write}
 use Rattle.recode.proofs.LatencyLemmas.{advances_start, advances_more, advances_to}
 use Rattle.recode.proofs.TraceLemmas.{WritesItemsFor-start, WritesItemsFor-trans, WritesItemsFor-to, WritesItemsFor-under, on_err}
+use Rattle.recode.proofs.VerdictLemmas.{both_ways}
 use Rattle.recode.proofs.engine.Engine.decode_chunk.Goals as goal
 
 pub chunk-init : goal.chunk-init
@@ -18,7 +19,21 @@ chunk-init g c = record {
   roomy = c.requires.pivot;
   kind = refl;
   log_count = refl;
+  verdict = λ r h. (λ x. x, λ x. x);
+  tells = c.requires.tells;
+  check = c.requires.check;
+  check_kind = refl;
+  form = c.requires.form;
 }
+
+pub decode_part-requires-clause-tells : goal.decode_part-requires-clause-tells
+decode_part-requires-clause-tells g c = rw c.chunk.invariant.target c.chunk.invariant.tells
+
+pub decode_part-requires-clause-check : goal.decode_part-requires-clause-check
+decode_part-requires-clause-check g c = c.chunk.invariant.check
+
+pub decode_part-requires-clause-form : goal.decode_part-requires-clause-form
+decode_part-requires-clause-form g c = c.chunk.invariant.form
 
 pub chunk-preserved : goal.chunk-preserved
 chunk-preserved g c =
@@ -35,6 +50,11 @@ chunk-preserved g c =
       roomy = c.decode_part.ensures.roomy;
       kind = c.decode_part.ensures.kind ∙ c.chunk.invariant.kind;
       log_count = omega (arith, c.in_ok-turn.ensures.failures.log);
+      verdict = λ r h. rw rest_is (both_ways (c.chunk.invariant.verdict r h) (rw c.chunk.invariant.target at (c.in_ok-turn.ensures.verdict r h)));
+      tells = rw c.chunk.invariant.target at (c.in_ok-turn.ensures.tells (inl c.if-turn.false));
+      check = c.decode_part.ensures.check;
+      check_kind = c.decode_part.ensures.check_kind ∙ c.chunk.invariant.check_kind;
+      form = c.decode_part.ensures.check_kind ∙ c.chunk.invariant.form ∙ sym c.decode_part.ensures.kind;
     }
 
 pub chunk-smaller : goal.chunk-smaller
@@ -67,3 +87,14 @@ returns-then-turn-clause-advances g c h =
 
 pub returns-then-turn-clause-settled : goal.returns-then-turn-clause-settled
 returns-then-turn-clause-settled g c = c.in_ok-turn.ensures.settled c.if-turn.true
+
+pub returns-then-turn-clause-verdict : goal.returns-then-turn-clause-verdict
+returns-then-turn-clause-verdict g c r h =
+    let all = drop_of_length-le c.chunk.rest.now {i = c.in_ok-turn.turn.read} (omega (arith, c.in_ok-turn.ensures.done c.if-turn.true)) in
+    both_ways (c.chunk.invariant.verdict r h) (rw (c.chunk.invariant.target, all) at (c.in_ok-turn.ensures.verdict r h))
+
+pub returns-then-turn-clause-tells : goal.returns-then-turn-clause-tells
+returns-then-turn-clause-tells g c on = rw c.chunk.invariant.target at (c.in_ok-turn.ensures.tells (inr on))
+
+pub returns-then-turn-clause-told : goal.returns-then-turn-clause-told
+returns-then-turn-clause-told g c end = rw c.chunk.invariant.target at (c.in_ok-turn.ensures.told c.if-turn.true end)

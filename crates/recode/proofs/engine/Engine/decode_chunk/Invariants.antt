@@ -1,7 +1,9 @@
-use Rattle.std.proofs.Common.{◌≡◌, ℕ, List, [], true, false, ◌+◌, ◌++◌, length}
+use Rattle.std.proofs.Common.{◌≡◌, ◌↔◌, ℕ, List, [], true, false, ◌+◌, ◌++◌, length}
 use Rattle.recode.specs.Buffers.{HoldsAnyCharacter, is_wide}
 use Rattle.recode.specs.Step.{Advances}
 use Rattle.recode.specs.Streams.{written_in}
+use Rattle.recode.specs.Verdict.{CanTell, IsFaithfulFor}
+use Rattle.recode.specs.VerdictView.{verdict_view}
 use Rattle.recode.specs.WrittenItems.{WritesItemsFor}
 use Rattle.recode.specs.TraceToWrite.{trace_to_write, AreSound}
 use Rattle.recode_log.specs.Counted.{failures_of}
@@ -23,6 +25,13 @@ invariant-chunk g l = record {
   roomy : HoldsAnyCharacter l.pivot;
   kind : is_wide l.pivot ≡ is_wide l.initial.pivot;
   log_count : failures_of l.log ≡ failures_of l.initial.log;
+  verdict : (r : List ℕ) → (l.chunk.last ≡ true → r ≡ [])
+      → IsFaithfulFor (verdict_view g.D.StreamDecoder.view l.initial.self.target.verdict) (g.E.RawEncoder.coding l.initial.self.target.encoder) (g.E.RawEncoder.set l.initial.self.target.encoder) ((g.D.StreamDecoder.view l.initial.self.decoder).state.pieces (l.initial.rest ++ r))
+      ↔ IsFaithfulFor (verdict_view g.D.StreamDecoder.view l.self.target.verdict) (g.E.RawEncoder.coding l.initial.self.target.encoder) (g.E.RawEncoder.set l.self.target.encoder) ((g.D.StreamDecoder.view l.self.decoder).state.pieces (l.rest ++ r));
+  tells : CanTell (verdict_view g.D.StreamDecoder.view l.self.target.verdict) (g.E.RawEncoder.coding l.initial.self.target.encoder) (g.E.RawEncoder.set l.self.target.encoder) [];
+  check : HoldsAnyCharacter l.check;
+  check_kind : is_wide l.check ≡ is_wide l.initial.check;
+  form : is_wide l.check ≡ is_wide l.pivot;
 }
 
 abbrev pub decreases-chunk : goal.decreases-chunk

@@ -1,0 +1,5 @@
+use Rattle.recode.proofs.RunLemmas.{quiet_where_faithful}
+use Rattle.recode.proofs.laws.faithful_leaves_log_empty.Goals as goal
+
+pub returns : goal.returns
+returns c = quiet_where_faithful
