@@ -24,7 +24,7 @@ Spells (Utf8 text) t = text.now ≡ encode_utf8_all t
 Spells (Utf16 units) t = units.now ≡ encode_utf16_all t
 
 -- it is nothing but its characters
-pub record IsText (p : PivotText) : Type 0 where
+pub record IsWholeText (p : PivotText) : Type 0 where
   pub scalars : all_scalars (pivot_chars p) ≡ true
   pub whole : Spells p (pivot_chars p)
 
@@ -35,14 +35,14 @@ BeginsWith p prefix = (more : List ℕ) × (pivot_chars p ≡ pivot_chars prefix
 -- a text of the same form is left behind another
 pub record IsLeftBehind (p prefix rest : PivotText) : Type 0 where
   pub parts : pivot_chars p ≡ pivot_chars prefix ++ pivot_chars rest
-  pub text : IsText rest
+  pub text : IsWholeText rest
   pub form : is_in_units rest ≡ is_in_units p
 
 -- a text is cut into two, of its form
 pub record IsCutInto (p read rest : PivotText) : Type 0 where
   pub parts : pivot_chars p ≡ pivot_chars read ++ pivot_chars rest
-  pub read_text : IsText read
-  pub rest_text : IsText rest
+  pub read_text : IsWholeText read
+  pub rest_text : IsWholeText rest
   pub read_form : is_in_units read ≡ is_in_units p
   pub rest_form : is_in_units rest ≡ is_in_units p
 

@@ -8,7 +8,7 @@ ghost use Rattle.encoding_front.specs.DecoderCall.{DecoderCall};
 ghost use Rattle.encoding_front.specs.Stream.{finishes};
 ghost use Rattle.recode.specs.Buffers.{HoldsAnyCharacter, is_wide};
 ghost use Rattle.recode.specs.CodecCalls.{DecodeCallEndsWith};
-ghost use Rattle.recode.specs.PivotText.{Holds, IsCutInto, IsText, pivot_chars};
+ghost use Rattle.recode.specs.PivotText.{Holds, IsCutInto, IsWholeText, pivot_chars};
 
 use crate::buffers::Pivot;
 use crate::characters::count_characters;
@@ -126,7 +126,7 @@ pub fn encode_from_pivot<'p, E: RawEncoder>(
 ) -> EncodeCall<'p>
     ensures passed { result.characters + length (pivot_chars result.rest)
         ≡ length (pivot_chars text.entry) }
-    ensures parts { IsText text.entry → IsCutInto text.entry result.read result.rest }
+    ensures parts { IsWholeText text.entry → IsCutInto text.entry result.read result.rest }
     ensures room { result.written ≤ length out.new }
     ensures target { E.coding encoder.new ≡ E.coding encoder.old }
     ensures law { Encodes (E.coding encoder.old) last result.answer (E.set encoder.old)

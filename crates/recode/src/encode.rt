@@ -24,7 +24,8 @@ pub struct EncodeTurn<'p> {
     pub is_done: bool,
 }
 
-/// What writes the text of a conversion: the encoder, what was counted, and whether something was lost.
+/// What writes the text of a conversion: the encoder, what was counted, and whether something was
+/// lost.
 #[derive(Drop)]
 pub struct Target<D, E> {
     pub encoder: E,
@@ -41,7 +42,7 @@ impl<D: StreamDecoder, E: RawEncoder> Target<D, E> {
     ghost use Rattle.encoding_mem.specs.declared.form.EscapeState.TheVariants.{Ascii};
     ghost use Rattle.recode.specs.WrittenItems.{WritesItems, WritesPrefix};
     ghost use Rattle.recode.specs.Buffers.{HoldsAnyCharacter, is_wide};
-    ghost use Rattle.recode.specs.PivotText.{is_in_units, pivot_chars, IsText};
+    ghost use Rattle.recode.specs.PivotText.{is_in_units, pivot_chars, IsWholeText};
     ghost use Rattle.recode.specs.Verdict.{CanTell, IsToldAtEnd, Keeps, NeedsForm};
     ghost use Rattle.recode.specs.VerdictView.{verdict_view};
     ghost use Rattle.recode.specs.Failures.{CountsWriterFault};
@@ -67,7 +68,8 @@ impl<D: StreamDecoder, E: RawEncoder> Target<D, E> {
         ensures counts { OnOk result
             (self.new.counts ≡ record self.old.counts { lost = self.old.counts.lost + 1 }) }
         ensures encoder { self.new.encoder ≡ self.old.encoder }
-        ensures verdict { verdict_view D.view self.new.verdict ≡ verdict_view D.view self.old.verdict }
+        ensures verdict { verdict_view D.view self.new.verdict
+            ≡ verdict_view D.view self.old.verdict }
         ensures err { OnErr result ((rest : List Item) → WritesPrefix
             (written_in W.contents L.contents writer.old log.old)
             (written_in W.contents L.contents writer.new log.new)
@@ -97,7 +99,7 @@ impl<D: StreamDecoder, E: RawEncoder> Target<D, E> {
         requires lost { self.old.counts.lost ≤ self.old.counts.index }
         requires check { HoldsAnyCharacter check.old }
         requires form { NeedsForm (verdict_view D.view self.old.verdict) check.old text }
-        requires text { IsText text }
+        requires text { IsWholeText text }
         requires tells { CanTell (verdict_view D.view self.old.verdict) (E.coding self.old.encoder)
             (E.set self.old.encoder) (pivot_chars text) }
         requires writer { failures_of writer.old < 2 ^ 64 - 1 }
@@ -141,7 +143,7 @@ impl<D: StreamDecoder, E: RawEncoder> Target<D, E> {
             (E.set self.new.encoder) (pivot_chars p.rest)) }
         ensures told { IfOk result (λ p. p.is_done ≡ true → last ≡ true
             → IsToldAtEnd (verdict_view D.view self.new.verdict)) }
-        ensures rest { IfOk result (λ p. IsText p.rest
+        ensures rest { IfOk result (λ p. IsWholeText p.rest
             × (is_in_units p.rest ≡ is_in_units text.entry)) }
         ensures stays { OnOk result (self.old.verdict.faithful ≡ false
             → self.new.verdict.faithful ≡ false) }
@@ -198,7 +200,7 @@ impl<D: StreamDecoder, E: RawEncoder> Target<D, E> {
         requires lost { self.old.counts.lost ≤ self.old.counts.index }
         requires check { HoldsAnyCharacter check.old }
         requires form { NeedsForm (verdict_view D.view self.old.verdict) check.old text }
-        requires text { IsText text }
+        requires text { IsWholeText text }
         requires tells { CanTell (verdict_view D.view self.old.verdict) (E.coding self.old.encoder)
             (E.set self.old.encoder) (pivot_chars text) }
         requires writer { failures_of writer.old < 2 ^ 64 - 1 }

@@ -2,7 +2,7 @@ ghost use Rattle.std.specs.Prelude.{◌≡◌, ◌↔◌, ℕ, ◌++◌, List, [
 ghost use Rattle.std.specs.Str.{all_scalars};
 ghost use Rattle.std.specs.Char.Utf16.{utf16_lossy_chars};
 ghost use Rattle.recode.specs.Buffers.{is_wide};
-ghost use Rattle.recode.specs.PivotText.{pivot_chars, is_in_units, BeginsWith, Holds, HoldsText, IsLeftBehind, IsText};
+ghost use Rattle.recode.specs.PivotText.{pivot_chars, is_in_units, BeginsWith, Holds, HoldsText, IsLeftBehind, IsWholeText};
 
 use crate::buffers::Pivot;
 use encoding_mem::source::{Source, Utf16Source};
@@ -17,7 +17,7 @@ pub enum PivotText<'p> {
 impl<'p> PivotText<'p> {
     /// Whether it has no characters.
     pub fn is_empty(self) -> bool
-        requires { IsText self }
+        requires { IsWholeText self }
         ensures { IsTrue result ↔ (pivot_chars self.entry ≡ []) }
     {
         match self {
@@ -29,8 +29,8 @@ impl<'p> PivotText<'p> {
     /// What is left behind another text of the same form, where it begins with that.
     pub fn strip_prefix(self, prefix: PivotText<'_>) -> Option<PivotText<'p>>
         requires form { is_in_units self ≡ is_in_units prefix }
-        requires text { IsText self }
-        requires prefix { IsText prefix }
+        requires text { IsWholeText self }
+        requires prefix { IsWholeText prefix }
         ensures { MatchOption result (¬ (BeginsWith self.entry prefix.entry))
             (IsLeftBehind self.entry prefix.entry) }
     {
@@ -54,7 +54,7 @@ pub fn text_in<'p>(pivot: &'p Pivot<'_>, len: usize) -> PivotText<'p>
     requires { HoldsText pivot.now len }
     ensures chars { (text : List ℕ) → all_scalars text ≡ true → Holds pivot.now len text
         → pivot_chars result ≡ text }
-    ensures text { IsText result }
+    ensures text { IsWholeText result }
     ensures form { is_in_units result ≡ is_wide pivot.now }
 {
     match pivot {

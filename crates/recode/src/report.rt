@@ -13,8 +13,8 @@ pub struct Report {
     pub calls: u64,
     /// The encoding of the input, as its byte order mark says where one of another encoding is taken.
     pub encoding: Encoding,
-    /// Whether nothing was lost: no piece of the input is malformed, and the output, decoded without
-    /// mark handling, is the input's text. It can be false where the log is empty: some encodings
-    /// write a character as the bytes of another.
+    /// Whether nothing was lost: no piece of the input is malformed, and the output, decoded
+    /// without mark handling, is the input's text. It can be false where the log is empty: some
+    /// encodings write a character as the bytes of another.
     pub faithful: bool,
 }

@@ -48,8 +48,8 @@ pub fn lost_is_told()
         → ¬ (IsTrue p.faithful) }
 {}
 
-/// Where a run says that nothing was lost, a run that recodes its output to UTF-8, with marks kept, writes what one
-/// writes that recodes its input to UTF-8.
+/// Where a run says that nothing was lost, a run that recodes its output to UTF-8, with marks kept,
+/// writes what one writes that recodes its input to UTF-8.
 pub fn faithful_output_reads_back()
     ensures { (j : Job) (x bytes again direct : List ℕ) (w w' v v' u u' : Written) (p q r : Report)
         → IsTrue p.faithful → IsWholeOutput w w' bytes → IsConverted w w' j x p

@@ -1,5 +1,5 @@
-//! Whether what is written reads back as the text that it is written for: it is read back beside that text, as it is
-//! written, and nothing is kept.
+//! Whether what is written reads back as the text that it is written for: it is read back beside
+//! that text, as it is written, and nothing is kept.
 
 use crate::buffers::Pivot;
 use crate::codec_calls::decode_to_pivot;
@@ -12,8 +12,8 @@ use encoding_mem::DecoderResult;
 pub struct Verdict<D> {
     /// What reads the output back: a decoder of its encoding, without mark handling.
     pub reader: D,
-    /// Whether the log alone tells what is lost: each character that has bytes reads back as itself, so
-    /// nothing is read back.
+    /// Whether the log alone tells what is lost: each character that has bytes reads back as
+    /// itself, so nothing is read back.
     pub by_log: bool,
     /// Whether nothing was lost so far. What is lost stays lost.
     pub faithful: bool,
@@ -23,24 +23,24 @@ impl<D: StreamDecoder> Verdict<D> {
     ghost use Rattle.std.specs.Prelude.{◌≡◌, ℕ, false};
     ghost use Rattle.std.specs.Bool.{MatchBool};
     ghost use Rattle.recode.specs.Buffers.{HoldsAnyCharacter, is_wide};
-    ghost use Rattle.recode.specs.PivotText.{is_in_units, pivot_chars, IsText};
+    ghost use Rattle.recode.specs.PivotText.{is_in_units, pivot_chars, IsWholeText};
     ghost use Rattle.recode.specs.Verdict.{IsReadBack, NeedsForm, ReadsAsOther, ReadsAsText};
     ghost use Rattle.recode.specs.VerdictView.{verdict_view};
 
-    // Reads back what was written for a text, and compares it with that, part by part. Returns how many calls of
-    // the reader it took.
+    // Reads back what was written for a text, and compares it with that, part by part. Returns how
+    // many calls of the reader it took.
     fn compare(&mut self, written: &[u8], text: PivotText<'_>, check: &mut Pivot<'_>) -> u64
         requires open_ { (D.view self.old.reader).finished ≡ false }
         requires check { HoldsAnyCharacter check.old }
         requires form { is_wide check.old ≡ is_in_units text }
-        requires text { IsText text }
+        requires text { IsWholeText text }
         ensures open_ { (D.view self.new.reader).finished ≡ false }
         ensures by_log { self.new.by_log ≡ self.old.by_log }
         ensures verdict { MatchBool self.new.faithful
-            (ReadsAsText (D.view self.old.reader).state.pieces (D.view self.new.reader).state.pieces
-            written.now (pivot_chars text.entry))
-            (ReadsAsOther (D.view self.old.reader).state.pieces (D.view self.new.reader).state.pieces
-            written.now (pivot_chars text.entry)) }
+            (ReadsAsText (D.view self.old.reader).state.pieces
+            (D.view self.new.reader).state.pieces written.now (pivot_chars text.entry))
+            (ReadsAsOther (D.view self.old.reader).state.pieces
+            (D.view self.new.reader).state.pieces written.now (pivot_chars text.entry)) }
         ensures roomy { HoldsAnyCharacter check.new }
         ensures kind { is_wide check.new ≡ is_wide check.old }
     {
@@ -71,13 +71,14 @@ impl<D: StreamDecoder> Verdict<D> {
         }
     }
 
-    /// Reads back what a call of an encoder wrote for the text that it read, where that has to be: not where the
-    /// log alone tells, and not once something is lost. Returns how many calls of the reader it took.
+    /// Reads back what a call of an encoder wrote for the text that it read, where that has to be:
+    /// not where the log alone tells, and not once something is lost. Returns how many calls of the
+    /// reader it took.
     pub fn read_back(&mut self, written: &[u8], text: PivotText<'_>, check: &mut Pivot<'_>) -> u64
         requires open_ { (D.view self.old.reader).finished ≡ false }
         requires check { HoldsAnyCharacter check.old }
         requires form { NeedsForm (verdict_view D.view self.old) check.old text }
-        requires text { IsText text }
+        requires text { IsWholeText text }
         ensures verdict { IsReadBack (verdict_view D.view self.old) (verdict_view D.view self.new)
             written.now (pivot_chars text.entry) }
         ensures roomy { HoldsAnyCharacter check.new }

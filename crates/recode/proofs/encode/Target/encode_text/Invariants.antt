@@ -5,7 +5,7 @@ use Rattle.encoding_mem.specs.Items.{whole_items}
 use Rattle.recode.specs.Streams.{written_in}
 use Rattle.recode.specs.WrittenItems.{WritesItems}
 use Rattle.recode.specs.Buffers.{HoldsAnyCharacter, is_wide}
-use Rattle.recode.specs.PivotText.{is_in_units, pivot_chars, IsText}
+use Rattle.recode.specs.PivotText.{is_in_units, pivot_chars, IsWholeText}
 use Rattle.recode.specs.Verdict.{CanTell, Keeps, NeedsForm}
 use Rattle.recode.specs.VerdictView.{verdict_view}
 use Rattle.recode_log.specs.Counted.{failures_of}
@@ -27,7 +27,7 @@ invariant-text g l = record {
   verdict : Keeps (g.E.RawEncoder.coding l.initial.self.encoder) l.last (verdict_view g.D.StreamDecoder.view l.initial.self.verdict) (g.E.RawEncoder.set l.initial.self.encoder) (pivot_chars l.initial.rest)
       (verdict_view g.D.StreamDecoder.view l.self.verdict) (g.E.RawEncoder.set l.self.encoder) (pivot_chars l.rest);
   tells : CanTell (verdict_view g.D.StreamDecoder.view l.self.verdict) (g.E.RawEncoder.coding l.initial.self.encoder) (g.E.RawEncoder.set l.self.encoder) (pivot_chars l.rest);
-  text : IsText l.rest;
+  text : IsWholeText l.rest;
   form : is_in_units l.rest ≡ is_in_units l.initial.rest;
   stays : l.initial.self.verdict.faithful ≡ false → l.self.verdict.faithful ≡ false;
   needs : NeedsForm (verdict_view g.D.StreamDecoder.view l.self.verdict) l.check l.rest;

@@ -1,6 +1,6 @@
 use Rattle.std.proofs.Common.{◌≡◌, false, length}
 use Rattle.recode.specs.Buffers.{HoldsAnyCharacter, is_wide}
-use Rattle.recode.specs.PivotText.{is_in_units, pivot_chars, IsText}
+use Rattle.recode.specs.PivotText.{is_in_units, pivot_chars, IsWholeText}
 use Rattle.recode.proofs.CompareLemmas.{HasCompared}
 use Rattle.recode.proofs.verdict.Verdict.compare.Given as goal
 
@@ -9,7 +9,7 @@ invariant-parts g l = record {
   compared : HasCompared (g.D.StreamDecoder.view l.initial.self.reader).state.pieces (g.D.StreamDecoder.view l.self.reader).state.pieces l.written l.left (pivot_chars l.text) (pivot_chars l.expected);
   open_ : (g.D.StreamDecoder.view l.self.reader).finished ≡ false;
   by_log : l.self.by_log ≡ l.initial.self.by_log;
-  expected : IsText l.expected;
+  expected : IsWholeText l.expected;
   form : is_wide l.check ≡ is_in_units l.expected;
   roomy : HoldsAnyCharacter l.check;
   kind : is_wide l.check ≡ is_wide l.initial.check;
