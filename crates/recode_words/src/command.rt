@@ -34,9 +34,10 @@ Log, on standard error, a line for each loss:
 Numbers are decimal. OFFSET and INDEX count bytes and characters from 0.
 
 Exit status:
-  0  all was converted, and the log is empty: nothing was lost, but that Shift_JIS, EUC-JP,
-     ISO-2022-JP, gb18030 and GBK write some characters as others, as U+00A5 as the byte 5C
-  1  all was converted, and something was lost: the log says what
+  0  all was converted, and nothing was lost: no byte sequence was malformed, and the output reads
+     back as the text of the input
+  1  all was converted, and something was lost. The log says what, but for a character that was
+     written as another, as Shift_JIS writes U+00A5 as the byte 5C: of that there is no line
   2  the words were refused
   3  an index file is missing or faulty, or memory was refused at the start
   4  a read, a write or a write of the log failed, or the input is longer than the limit
