@@ -1,4 +1,5 @@
-// What is written in ISO-2022-JP has escapes, and a read, a step or a buffer may end behind any byte of them.
+// What is written in ISO-2022-JP has escapes, and a read, a step or a buffer may end behind any
+// byte of them.
 
 use crate::row::{EMPTY, Row, check_cuts, check_writes};
 use encoding_front::{ISO_2022_JP, SHIFT_JIS};

@@ -43,7 +43,8 @@ const FOLDS: [Row; 4] = [
         faithful: false,
         ..EMPTY
     },
-    // U+E81E, which the standard writes so with every index: one without these bytes reads a bad piece, and Y.
+    // U+E81E, which the standard writes so with every index. One that lacks these bytes reads a
+    // malformed piece, and Y.
     Row {
         to: GB18030,
         input: b"\xEE\xA0\x9E",
@@ -53,7 +54,8 @@ const FOLDS: [Row; 4] = [
     },
 ];
 
-// U+E7C7, which has a place of its own among the ranges, and U+E81E with an index that reads it back.
+// U+E7C7, which has a place of its own among the ranges, and U+E81E with an index that reads it
+// back.
 const KEPT: [Row; 2] = [
     Row {
         to: GB18030,

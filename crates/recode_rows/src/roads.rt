@@ -1,6 +1,6 @@
-// Two roads from one encoding to another: the calls on a whole input and on the whole text of it, and a run
-// that sniffs marks. Both give the same bytes, and the log tells a loss where the calls do. What is written as
-// another character neither tells: the report does.
+// Two roads from one encoding to another: the calls on a whole input and on the whole text of it,
+// and a run that sniffs marks. Both give the same bytes, and the log tells a loss where the calls
+// do. A character that is written as another is told by the report alone.
 
 use crate::row::{EMPTY, Row};
 use crate::source::Reads;
@@ -82,7 +82,8 @@ const TO_JAPANESE: [Row; 3] = [
     },
 ];
 
-// What the calls on a whole input give: the bytes, the encoding in force, and whether neither told a loss.
+// What the calls on a whole input give: the bytes, the encoding in force, and whether neither told
+// a loss.
 #[derive(Drop)]
 struct Whole {
     bytes: Vec<u8>,

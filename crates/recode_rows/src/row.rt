@@ -135,6 +135,15 @@ pub fn check_cuts(rt: &(impl Abort + AllocGlobal), row: Row) -> Result<(), Alloc
     check_cuts_over(rt, row, &row.trial().tables(rt))
 }
 
+/// Converts the row with a read of all of it, where the buffers have the room.
+pub fn check_at_once(rt: &(impl Abort + AllocGlobal), row: Row) -> Result<(), AllocError> {
+    let tables = row.trial().tables(rt);
+    for sizes in [LEAST_WIDE, ROOMY] {
+        check(rt, row, Reads::CutAt(0), sizes, &tables)?;
+    }
+    Ok(())
+}
+
 /// Converts the row so with marks sniffed, removed and kept.
 pub fn check_marks(rt: &(impl Abort + AllocGlobal), row: Row) -> Result<(), AllocError> {
     let tables = row.trial().tables(rt);
@@ -144,7 +153,8 @@ pub fn check_marks(rt: &(impl Abort + AllocGlobal), row: Row) -> Result<(), Allo
     Ok(())
 }
 
-/// Converts the row at every cut with room for 4 to 9 bytes of output, so that these are cut at each place, too.
+/// Converts the row at every cut with room for 4 to 9 bytes of output, so that these are cut at
+/// each place, too.
 pub fn check_writes(rt: &(impl Abort + AllocGlobal), row: Row) -> Result<(), AllocError> {
     let tables = row.trial().tables(rt);
     for output in 4..=9 {

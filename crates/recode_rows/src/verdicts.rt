@@ -1,13 +1,14 @@
-// What is written in the five encodings with folds: in each the text that is kept and the one that is folded have
-// the same bytes, or as many. The characters and their bytes are those of the index files.
+// What is written in the five encodings with folds: in each the text that is kept and the one that
+// is folded have the same bytes. The characters and their bytes are those of the index files.
 
-use crate::row::{EMPTY, Row, check_cuts, check_writes};
+use crate::row::{EMPTY, Row, check_at_once, check_cuts, check_writes};
 use encoding_front::{EUC_JP, GB18030, GBK, ISO_2022_JP, SHIFT_JIS};
 use encoding_tables::IndexKind;
 use std::alloc::AllocError;
 use std::process::Abort;
 
-// 。, the fullwidth hyphen-minus, あ, ア and ハ, with the halfwidth forms of the first, the fourth and the last.
+// 。, the fullwidth hyphen-minus, あ, ア and ハ, with the halfwidth forms of the first, the fourth
+// and the last.
 const JAPANESE: &[(IndexKind, &[u8])] = &[
     (
         IndexKind::Jis0208,
@@ -293,7 +294,8 @@ fn the_index_decides(rt: HostRuntime) -> Result<(), AllocError> {
     Ok(())
 }
 
-// A character with two pointers is read at the second and written with the first, as which it is read.
+// A character with two pointers is read at the second and written with the first, which is read as
+// it, too.
 #[test]
 fn other_bytes_of_a_character_are_no_loss(rt: HostRuntime) -> Result<(), AllocError> {
     for from in [GB18030, GBK] {
@@ -303,6 +305,47 @@ fn other_bytes_of_a_character_are_no_loss(rt: HostRuntime) -> Result<(), AllocEr
             row,
             &[(b"\xA3\xA0\xA1\xA1", b"\xA1\xA1\xA1\xA1", true)],
         )?;
+    }
+    Ok(())
+}
+
+// The text of a reference is written as a character without bytes is.
+#[test]
+fn a_reference_that_is_text_is_kept(rt: HostRuntime) -> Result<(), AllocError> {
+    for to in [TO_SHIFT_JIS, TO_EUC_JP, TO_ISO_2022_JP, TO_GB18030, TO_GBK] {
+        check(&rt, to, &[(b"&#128169;", b"&#128169;", true)])?;
+    }
+    Ok(())
+}
+
+// The yen sign, or the backslash as which it is written, among letters.
+const LONG: &[u8] =
+    b"aaaaaaaaaaaaaaaaaaaaaaaaaaaaaaaaaaaaaaaaaaaaaaaaaaaaaaaaaaaaaaaaaaaaaaaaaaaaaaaa\
+    \xC2\xA5aaaaaaaaaaaaaaaaaaaaaaaaaaaaaaaaaaaaaaaaaaaaaaaaaaaaaaaaaaaaaaaaaaaaaaaaaaaaaaaa";
+
+const LONG_BACKSLASH: &[u8] =
+    b"aaaaaaaaaaaaaaaaaaaaaaaaaaaaaaaaaaaaaaaaaaaaaaaaaaaaaaaaaaaaaaaaaaaaaaaaaaaaaaaa\
+    \\aaaaaaaaaaaaaaaaaaaaaaaaaaaaaaaaaaaaaaaaaaaaaaaaaaaaaaaaaaaaaaaaaaaaaaaaaaaaaaaa";
+
+// The lengths before and behind it are those up to and behind a vector of 64 bytes.
+#[test]
+fn a_fold_among_many_letters(rt: HostRuntime) -> Result<(), AllocError> {
+    for start in 0..=80 {
+        for end in [81, 97, 161] {
+            let output = LONG_BACKSLASH.get(start..end).unwrap_or(&[]);
+            let folded = LONG.get(start..end.saturating_add(1)).unwrap_or(&[]);
+            for (input, faithful) in [(folded, false), (output, true)] {
+                for to in [TO_SHIFT_JIS, TO_EUC_JP] {
+                    let row = Row {
+                        input,
+                        output,
+                        faithful,
+                        ..to
+                    };
+                    check_at_once(&rt, row)?;
+                }
+            }
+        }
     }
     Ok(())
 }
@@ -378,7 +421,16 @@ const LOST: [Row; 8] = [
 ];
 
 // A malformed piece, of which gb18030 alone has what stands for it.
-const MALFORMED: [Row; 6] = [
+const MALFORMED: [Row; 7] = [
+    Row {
+        input: b"a\xE3\x81",
+        output: b"a&#65533;",
+        log: "bad 1 2\nlost 1 65533\n",
+        bad: 1,
+        lost: 1,
+        faithful: false,
+        ..TO_SHIFT_JIS
+    },
     Row {
         input: b"a\xFFb",
         output: b"a&#65533;b",
