@@ -100,11 +100,12 @@ const READ_SHIFT_JIS: [Line; 3] = [
 ];
 
 fn check(rt: &(impl Abort + AllocGlobal), from: Row, lines: &[Line]) -> Result<(), AllocError> {
-    for (input, output, faithful) in lines {
+    for line in lines {
+        let (input, output, faithful) = *line;
         let row = Row {
             input,
             output,
-            faithful: *faithful,
+            faithful,
             ..from
         };
         check_cuts(rt, row)?;

@@ -135,10 +135,11 @@ pub fn check_cuts(rt: &(impl Abort + AllocGlobal), row: Row) -> Result<(), Alloc
     check_cuts_over(rt, row, &row.trial().tables(rt))
 }
 
-/// Converts the row with a read of all of it, where the buffers have the room.
+/// Converts the row with one read, and large buffers of either kind of pivot.
 pub fn check_at_once(rt: &(impl Abort + AllocGlobal), row: Row) -> Result<(), AllocError> {
     let tables = row.trial().tables(rt);
-    for sizes in [LEAST_WIDE, ROOMY] {
+    for is_wide in [false, true] {
+        let sizes = Sizes { is_wide, ..ROOMY };
         check(rt, row, Reads::CutAt(0), sizes, &tables)?;
     }
     Ok(())
