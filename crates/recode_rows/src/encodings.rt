@@ -19,6 +19,7 @@ const ROWS: [Row; 18] = [
         output: b"\xEF\xBF\xBD\x00\xE4\xB8\x80",
         log: "bad 0 2\n",
         bad: 1,
+        faithful: false,
         ..EMPTY
     },
     Row {
@@ -27,12 +28,14 @@ const ROWS: [Row; 18] = [
         output: b"\xEF\xBF\xBD",
         log: "bad 0 3\n",
         bad: 1,
+        faithful: false,
         ..EMPTY
     },
     Row {
         from: UTF_16BE,
         input: b"\xD8\x3D\xDC\xA9",
         output: b"\xF0\x9F\x92\xA9",
+        faithful: true,
         ..EMPTY
     },
     Row {
@@ -40,6 +43,7 @@ const ROWS: [Row; 18] = [
         index: GB,
         input: b"\xE3\x32\x9A\x35",
         output: b"\xF4\x8F\xBF\xBF",
+        faithful: true,
         ..EMPTY
     },
     Row {
@@ -49,12 +53,14 @@ const ROWS: [Row; 18] = [
         output: b"\xEF\xBF\xBD0\xE4\xB8\x84",
         log: "bad 0 1\n",
         bad: 1,
+        faithful: false,
         ..EMPTY
     },
     Row {
         from: BIG5,
         input: b"\x88\x62",
         output: b"\xC3\x8A\xCC\x84",
+        faithful: true,
         ..EMPTY
     },
     Row {
@@ -62,6 +68,7 @@ const ROWS: [Row; 18] = [
         index: &[(IndexKind::Big5, b"5287\t0x5341\n5512\t0x5341")],
         input: b"\xE5\x8D\x81",
         output: b"\xA4\x51",
+        faithful: true,
         ..EMPTY
     },
     Row {
@@ -69,6 +76,7 @@ const ROWS: [Row; 18] = [
         index: &[(IndexKind::Jis0208, b"422\t0x30CF")],
         input: b"A\x83\x6EB",
         output: b"A\xE3\x83\x8FB",
+        faithful: true,
         ..EMPTY
     },
     Row {
@@ -77,6 +85,7 @@ const ROWS: [Row; 18] = [
         output: b"\xEF\xBF\xBD",
         log: "bad 0 3\n",
         bad: 1,
+        faithful: false,
         ..EMPTY
     },
     Row {
@@ -85,6 +94,7 @@ const ROWS: [Row; 18] = [
         output: b"\xEF\xBF\xBD$A",
         log: "bad 0 1\n",
         bad: 1,
+        faithful: false,
         ..EMPTY
     },
     Row {
@@ -93,6 +103,7 @@ const ROWS: [Row; 18] = [
         output: b"\xEF\xBF\xBD\xEF\xBF\xBD\xC2\xA5",
         log: "bad 0 3\nbad 3 3\n",
         bad: 2,
+        faithful: false,
         ..EMPTY
     },
     Row {
@@ -101,6 +112,7 @@ const ROWS: [Row; 18] = [
         output: b"\xEF\xBF\xBD",
         log: "bad 0 1\n",
         bad: 1,
+        faithful: false,
         ..EMPTY
     },
     Row {
@@ -109,6 +121,7 @@ const ROWS: [Row; 18] = [
         output: b"\xEF\xBF\xBDA\xEF\xBD\xB1",
         log: "bad 0 2\n",
         bad: 1,
+        faithful: false,
         ..EMPTY
     },
     Row {
@@ -118,6 +131,7 @@ const ROWS: [Row; 18] = [
         output: b"\xEA\xB0\x80\xEF\xBF\xBDA",
         log: "bad 2 1\n",
         bad: 1,
+        faithful: false,
         ..EMPTY
     },
     Row {
@@ -127,12 +141,14 @@ const ROWS: [Row; 18] = [
         output: b"\xB0\xA1&#232;",
         log: "lost 1 232\n",
         lost: 1,
+        faithful: false,
         ..EMPTY
     },
     Row {
         from: X_USER_DEFINED,
         input: b"\x80",
         output: b"\xEF\x9E\x80",
+        faithful: true,
         ..EMPTY
     },
     Row {
@@ -142,6 +158,7 @@ const ROWS: [Row; 18] = [
         output: b"\x80&#163;",
         log: "lost 1 163\n",
         lost: 1,
+        faithful: false,
         ..EMPTY
     },
     Row {
@@ -150,6 +167,7 @@ const ROWS: [Row; 18] = [
         output: b"&#128169;",
         log: "lost 0 128169\n",
         lost: 1,
+        faithful: false,
         ..EMPTY
     },
 ];

@@ -4,6 +4,8 @@
 #![tactic(auto)]
 
 #[cfg(test)]
+mod calls;
+#[cfg(test)]
 mod command_line;
 #[cfg(test)]
 mod counts;
@@ -15,6 +17,8 @@ mod edges;
 mod empty;
 #[cfg(test)]
 mod encodings;
+#[cfg(test)]
+mod escapes;
 #[cfg(test)]
 mod faults;
 #[cfg(test)]
@@ -46,6 +50,10 @@ mod statuses;
 #[cfg(test)]
 mod trial;
 #[cfg(test)]
+mod verdicts;
+#[cfg(test)]
 mod words;
 #[cfg(test)]
 mod worked;
+#[cfg(test)]
+mod written_marks;

@@ -32,16 +32,19 @@ const ROWS: [Row; 13] = [
     Row {
         input: b"\xEF\xBB\xBFA",
         output: b"A",
+        faithful: true,
         ..SNIFFED
     },
     Row {
         input: b"\xEF\xBB\xBFA",
         output: b"A",
+        faithful: true,
         ..REMOVED
     },
     Row {
         input: b"\xEF\xBB\xBFA",
         output: b"\xEF\xBB\xBFA",
+        faithful: true,
         ..EMPTY
     },
     // An offset counts the bytes of the mark.
@@ -51,11 +54,13 @@ const ROWS: [Row; 13] = [
         log: "bad 6 1\n",
         bad: 1,
         found: Some(UTF_8),
+        faithful: false,
         ..FROM_WESTERN
     },
     Row {
         input: b"\xEF\xBB",
         output: b"\xC3\xAF\xC2\xBB",
+        faithful: true,
         ..FROM_WESTERN
     },
     // The mark of another encoding is text where only the own one is taken.
@@ -64,6 +69,7 @@ const ROWS: [Row; 13] = [
         index: WESTERN,
         input: b"\xEF\xBB\x80",
         output: b"\xC3\xAF\xC2\xBB\xE2\x82\xAC",
+        faithful: true,
         ..REMOVED
     },
     Row {
@@ -72,12 +78,14 @@ const ROWS: [Row; 13] = [
         output: b"\xEF\xBF\xBD",
         log: "bad 0 1\n",
         bad: 1,
+        faithful: false,
         ..REMOVED
     },
     Row {
         from: UTF_16LE,
         input: b"\xFF\xFEA\x00",
         output: b"A",
+        faithful: true,
         ..REMOVED
     },
     Row {
@@ -85,6 +93,7 @@ const ROWS: [Row; 13] = [
         output: b"\xEF\xBF\xBDA",
         log: "bad 0 2\n",
         bad: 1,
+        faithful: false,
         ..SNIFFED
     },
     // я and ╗.
@@ -93,17 +102,20 @@ const ROWS: [Row; 13] = [
         index: &[(IndexKind::Ibm866, b"59\t0x2557\n111\t0x044F")],
         input: b"\xEF\xBBab",
         output: b"\xD1\x8F\xE2\x95\x97ab",
+        faithful: true,
         ..SNIFFED
     },
     Row {
         input: b"\xFF\xFE",
         found: Some(UTF_16LE),
+        faithful: true,
         ..SNIFFED
     },
     Row {
         from: UTF_16LE,
         input: b"\xFF\xFE",
         output: b"\xEF\xBB\xBF",
+        faithful: true,
         ..EMPTY
     },
     Row {
@@ -111,6 +123,7 @@ const ROWS: [Row; 13] = [
         input: b"\xEF\xBB\xBFA",
         output: b"A",
         found: Some(UTF_8),
+        faithful: true,
         ..SNIFFED
     },
 ];

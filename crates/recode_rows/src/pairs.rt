@@ -14,6 +14,7 @@ const FROM_UTF_8: Row = Row {
     index: TWO,
     input: b"A\xE2\x82\xAC\xC3\xA9",
     output: b"A\x80\xE9",
+    faithful: true,
     ..EMPTY
 };
 
@@ -22,6 +23,7 @@ const TO_UTF_8: Row = Row {
     index: TWO,
     input: b"A\x80\xE9",
     output: b"A\xE2\x82\xAC\xC3\xA9",
+    faithful: true,
     ..EMPTY
 };
 
@@ -33,6 +35,7 @@ const ROWS: [Row; 9] = [
         output: b"\xE2\x82\xAC\xEF\xBF\xBD\xC3\xA9",
         log: "bad 1 1\n",
         bad: 1,
+        faithful: false,
         ..TO_UTF_8
     },
     Row {
@@ -41,6 +44,7 @@ const ROWS: [Row; 9] = [
         log: "lost 0 232\nbad 2 1\nlost 1 65533\n",
         bad: 1,
         lost: 2,
+        faithful: false,
         ..FROM_UTF_8
     },
     Row {
@@ -48,11 +52,13 @@ const ROWS: [Row; 9] = [
         output: b"&#128169;a",
         log: "lost 0 128169\n",
         lost: 1,
+        faithful: false,
         ..FROM_UTF_8
     },
     Row {
         to: WINDOWS_1252,
         output: b"A\x80\xE9",
+        faithful: true,
         ..TO_UTF_8
     },
     Row {
@@ -62,6 +68,7 @@ const ROWS: [Row; 9] = [
         log: "bad 1 1\nlost 1 65533\n",
         bad: 1,
         lost: 1,
+        faithful: false,
         ..TO_UTF_8
     },
     // The first of two pointers is written, and both are read.
@@ -69,12 +76,14 @@ const ROWS: [Row; 9] = [
         index: TWICE,
         input: b"\xE2\x82\xAC\xE2\x82\xAC",
         output: b"\x80\x80",
+        faithful: true,
         ..FROM_UTF_8
     },
     Row {
         index: TWICE,
         input: b"\x80\x81",
         output: b"\xE2\x82\xAC\xE2\x82\xAC",
+        faithful: true,
         ..TO_UTF_8
     },
 ];

@@ -177,20 +177,33 @@ fn a_surrogate_pair_stays_as_it_is(rt: HostRuntime) -> Result<(), Fail> {
     )
 }
 
-// ¥ is written as a backslash, and the log is empty.
+// ¥ is written as a backslash, as which a backslash is written, too: the log is empty.
 #[test]
-fn a_fold_is_not_told(rt: HostRuntime) -> Result<(), Fail> {
-    check(
-        &rt,
-        &Call {
-            line: "--from utf-8 --to shift_jis",
+fn a_fold_is_told_by_the_status_alone(rt: HostRuntime) -> Result<(), Fail> {
+    for line in [
+        "--from utf-8 --to shift_jis",
+        "--from utf-8 --to shift_jis --pivot utf16",
+    ] {
+        let folded = Call {
+            line,
             files: &[("index-jis0208.txt", b"")],
             input: b"\xC2\xA5",
+            status: 1,
             output: b"\\",
             asked: 1,
             ..EMPTY
-        },
-    )
+        };
+        check(&rt, &folded)?;
+        check(
+            &rt,
+            &Call {
+                input: b"\\",
+                status: 0,
+                ..folded
+            },
+        )?;
+    }
+    Ok(())
 }
 
 #[test]

@@ -1,5 +1,6 @@
-// Two roads from one encoding to another: the calls on a whole input and on the whole text of it, and a run
-// that sniffs marks. Both give the same bytes, and one tells a loss where the other does.
+// Two roads from one encoding to another: the calls on a whole input and on the whole text of it,
+// and a run that sniffs marks. Both give the same bytes, and the log tells a loss where the calls
+// do. A character that is written as another is told by the report alone.
 
 use crate::row::{EMPTY, Row};
 use crate::source::Reads;
@@ -28,6 +29,7 @@ const TO_UTF_8: [Row; 3] = [
         input: b"a\xED\xA0\x80Z",
         output: b"a\xEF\xBF\xBD\xEF\xBF\xBD\xEF\xBF\xBDZ",
         bad: 3,
+        faithful: false,
         ..SNIFFED
     },
     Row {
@@ -36,6 +38,7 @@ const TO_UTF_8: [Row; 3] = [
         input: b"\xEF\xBB\xBF\xE2\x82\xAC\x80",
         output: b"\xE2\x82\xAC\xEF\xBF\xBD",
         bad: 1,
+        faithful: false,
         ..SNIFFED
     },
     Row {
@@ -44,17 +47,19 @@ const TO_UTF_8: [Row; 3] = [
         input: b"\x81\x30\x81\x41",
         output: b"\xEF\xBF\xBD0\xE4\xB8\x84",
         bad: 1,
+        faithful: false,
         ..SNIFFED
     },
 ];
 
-const TO_JAPANESE: [Row; 2] = [
+const TO_JAPANESE: [Row; 3] = [
     Row {
         to: SHIFT_JIS,
         input: b"\xFF",
         output: b"&#65533;",
         bad: 1,
         lost: 1,
+        faithful: false,
         ..SNIFFED
     },
     // ハ.
@@ -64,16 +69,26 @@ const TO_JAPANESE: [Row; 2] = [
         index: &[(IndexKind::Jis0208, b"422\t0x30CF")],
         input: b"A\x83\x6EB",
         output: b"A\x1B$B\x25\x4F\x1B(BB",
+        faithful: true,
+        ..SNIFFED
+    },
+    // ¥ is written as a backslash.
+    Row {
+        to: SHIFT_JIS,
+        input: b"A\xC2\xA5",
+        output: b"A\\",
+        faithful: false,
         ..SNIFFED
     },
 ];
 
-// What the calls on a whole input give: the bytes, the encoding in force, and whether neither told a loss.
+// What the calls on a whole input give: the bytes, the encoding in force, and whether neither told
+// a loss.
 #[derive(Drop)]
 struct Whole {
     bytes: Vec<u8>,
     encoding: Encoding,
-    is_faithful: bool,
+    tells_no_loss: bool,
 }
 
 fn at_once(
@@ -88,7 +103,7 @@ fn at_once(
     Ok(Whole {
         bytes,
         encoding,
-        is_faithful: !is_malformed && !is_lost,
+        tells_no_loss: !is_malformed && !is_lost,
     })
 }
 
@@ -114,7 +129,8 @@ fn check_runs(
                 "{trial:?}"
             );
             assert_eq!(rt; report.encoding, whole.encoding, "{trial:?}");
-            assert_eq!(rt; outcome.log.is_empty(), whole.is_faithful, "{trial:?}");
+            assert_eq!(rt; outcome.log.is_empty(), whole.tells_no_loss, "{trial:?}");
+            assert_eq!(rt; report.faithful, row.faithful, "{trial:?}");
         }
     }
     Ok(())
@@ -125,7 +141,7 @@ fn check_roads(rt: &(impl Abort + AllocGlobal), row: Row) -> Result<(), OneShotF
     let whole = at_once(rt, row, &tables)?;
     assert_eq!(rt; whole.bytes.as_slice(), row.output);
     assert_eq!(rt; whole.encoding, row.found.unwrap_or(row.from));
-    assert_eq!(rt; whole.is_faithful, row.bad == 0 && row.lost == 0);
+    assert_eq!(rt; whole.tells_no_loss, row.bad == 0 && row.lost == 0);
     check_runs(rt, row, &tables, &whole)
 }
 

@@ -1,5 +1,5 @@
 use crate::source::Reads;
-use crate::trial::{LEAST, LEAST_WIDE, ROOMY, Trial, WAYS, recode_over};
+use crate::trial::{LEAST, LEAST_WIDE, ROOMY, SIZES, Sizes, Trial, WAYS, recode_over};
 use encoding_front::{Encoding, UTF_8};
 use encoding_tables::{IndexKind, Tables};
 use recode::{Mark, Report};
@@ -21,6 +21,8 @@ pub struct Row {
     pub log: &'static str,
     pub bad: u64,
     pub lost: u64,
+    /// Whether no piece of the input is malformed, and the output reads back as the input's text.
+    pub faithful: bool,
 }
 
 /// Nothing, from UTF-8 to UTF-8 with marks kept.
@@ -35,7 +37,29 @@ pub const EMPTY: Row = Row {
     log: "",
     bad: 0,
     lost: 0,
+    faithful: true,
 };
+
+// Room for all of a row, but little to read back.
+const SHORT_OF_CHECK: Sizes = Sizes {
+    input: 64,
+    pivot: 64,
+    output: 64,
+    check: 4,
+    is_wide: false,
+};
+
+// Pivots with the least room, and with room for all of a row.
+const PIVOTS: [Sizes; 4] = [
+    LEAST,
+    LEAST_WIDE,
+    SHORT_OF_CHECK,
+    Sizes {
+        check: 2,
+        is_wide: true,
+        ..SHORT_OF_CHECK
+    },
+];
 
 impl Row {
     /// The conversion of the row: the input in one read, large buffers, and no fault.
@@ -50,33 +74,47 @@ impl Row {
     }
 }
 
-// Converts the row in both ways, with the least buffers, of either kind of pivot, and with large ones.
+// Converts the row in both ways, and compares all that comes of it.
 fn check(
+    rt: &(impl Abort + AllocGlobal),
+    row: Row,
+    reads: Reads,
+    sizes: Sizes,
+    tables: &Tables,
+) -> Result<(), AllocError> {
+    for way in WAYS {
+        let trial = Trial {
+            reads,
+            sizes,
+            ..row.trial()
+        };
+        let outcome = recode_over(rt, way, &trial, tables)?;
+        outcome.check(rt, &trial, row.output, row.log.as_bytes(), [0, 0, 0]);
+        let report = outcome.answer.expect(rt, "a report");
+        let want = Report {
+            read: row.input.len() as u64,
+            bad: row.bad,
+            lost: row.lost,
+            calls: report.calls,
+            encoding: row.found.unwrap_or(row.from),
+            faithful: row.faithful,
+        };
+        assert_eq!(rt; report, want, "{trial:?}");
+        let most = want.read.saturating_mul(64).saturating_add(64);
+        assert!(rt; report.calls <= most, "{report:?} {trial:?}");
+    }
+    Ok(())
+}
+
+// With the least buffers, of either kind of pivot, and with large ones.
+fn check_reads(
     rt: &(impl Abort + AllocGlobal),
     row: Row,
     reads: Reads,
     tables: &Tables,
 ) -> Result<(), AllocError> {
-    for way in WAYS {
-        for sizes in [LEAST, LEAST_WIDE, ROOMY] {
-            let trial = Trial {
-                reads,
-                sizes,
-                ..row.trial()
-            };
-            let outcome = recode_over(rt, way, &trial, tables)?;
-            outcome.check(rt, &trial, row.output, row.log.as_bytes(), [0, 0, 0]);
-            let report = outcome.answer.expect(rt, "a report");
-            let want = Report {
-                read: row.input.len() as u64,
-                bad: row.bad,
-                lost: row.lost,
-                calls: report.calls,
-                encoding: row.found.unwrap_or(row.from),
-                faithful: row.log.is_empty(),
-            };
-            assert_eq!(rt; report, want, "{trial:?}");
-        }
+    for sizes in SIZES {
+        check(rt, row, reads, sizes, tables)?;
     }
     Ok(())
 }
@@ -87,9 +125,9 @@ fn check_cuts_over(
     tables: &Tables,
 ) -> Result<(), AllocError> {
     for offset in 0..=row.input.len() {
-        check(rt, row, Reads::CutAt(offset), tables)?;
+        check_reads(rt, row, Reads::CutAt(offset), tables)?;
     }
-    check(rt, row, Reads::OneByOne, tables)
+    check_reads(rt, row, Reads::OneByOne, tables)
 }
 
 /// Converts the row at every cut, and byte by byte.
@@ -97,11 +135,40 @@ pub fn check_cuts(rt: &(impl Abort + AllocGlobal), row: Row) -> Result<(), Alloc
     check_cuts_over(rt, row, &row.trial().tables(rt))
 }
 
+/// Converts the row with one read, and large buffers of either kind of pivot.
+pub fn check_at_once(rt: &(impl Abort + AllocGlobal), row: Row) -> Result<(), AllocError> {
+    let tables = row.trial().tables(rt);
+    for is_wide in [false, true] {
+        let sizes = Sizes { is_wide, ..ROOMY };
+        check(rt, row, Reads::CutAt(0), sizes, &tables)?;
+    }
+    Ok(())
+}
+
 /// Converts the row so with marks sniffed, removed and kept.
 pub fn check_marks(rt: &(impl Abort + AllocGlobal), row: Row) -> Result<(), AllocError> {
     let tables = row.trial().tables(rt);
     for mark in [Mark::Sniff, Mark::Remove, Mark::Keep] {
         check_cuts_over(rt, Row { mark, ..row }, &tables)?;
+    }
+    Ok(())
+}
+
+/// Converts the row at every cut with room for 4 to 9 bytes of output, so that these are cut at
+/// each place, too.
+pub fn check_writes(rt: &(impl Abort + AllocGlobal), row: Row) -> Result<(), AllocError> {
+    let tables = row.trial().tables(rt);
+    for output in 4..=9 {
+        for pivots in PIVOTS {
+            let sizes = Sizes {
+                input: SHORT_OF_CHECK.input,
+                output,
+                ..pivots
+            };
+            for offset in 0..=row.input.len() {
+                check(rt, row, Reads::CutAt(offset), sizes, &tables)?;
+            }
+        }
     }
     Ok(())
 }

@@ -95,19 +95,29 @@ fn a_whole_conversion_tells_whether_it_is_faithful(rt: HostRuntime) -> Result<()
 
 // ¥ is written as a backslash, and the log is empty.
 #[test]
-fn a_fold_is_not_told(rt: HostRuntime) -> Result<(), AllocError> {
-    let trial = Trial {
-        to: SHIFT_JIS,
-        ..Trial::new(b"\xC2\xA5")
-    };
-    let want = Want {
-        status: 0,
+fn a_fold_is_told_by_the_status_alone(rt: HostRuntime) -> Result<(), AllocError> {
+    let folded = Want {
+        status: 1,
         output: b"\\",
         lines: "",
         log: "",
         failures: [0, 0, 0],
     };
-    check(&rt, &trial, want)
+    let kept = Want {
+        status: 0,
+        ..folded
+    };
+    for sizes in SIZES {
+        for (trial, want) in [(Trial::new(b"\xC2\xA5"), folded), (Trial::new(b"\\"), kept)] {
+            let trial = Trial {
+                to: SHIFT_JIS,
+                sizes,
+                ..trial
+            };
+            check(&rt, &trial, want)?;
+        }
+    }
+    Ok(())
 }
 
 #[test]

@@ -5,17 +5,20 @@ const GOOD: [Row; 4] = [
     Row {
         input: b"A\xC3\xA9",
         output: b"A\xC3\xA9",
+        faithful: true,
         ..EMPTY
     },
     EMPTY,
     Row {
         input: b"\xEF\xBB\xBFA",
         output: b"\xEF\xBB\xBFA",
+        faithful: true,
         ..EMPTY
     },
     Row {
         input: b"\xF0\x9F\x92\xA9",
         output: b"\xF0\x9F\x92\xA9",
+        faithful: true,
         ..EMPTY
     },
 ];
@@ -26,6 +29,7 @@ const BAD: [Row; 4] = [
         output: b"a\xEF\xBF\xBD\xEF\xBF\xBD\xEF\xBF\xBDZ",
         log: "bad 1 1\nbad 2 1\nbad 3 1\n",
         bad: 3,
+        faithful: false,
         ..EMPTY
     },
     Row {
@@ -33,6 +37,7 @@ const BAD: [Row; 4] = [
         output: b"\xEF\xBF\xBD",
         log: "bad 0 2\n",
         bad: 1,
+        faithful: false,
         ..EMPTY
     },
     Row {
@@ -40,6 +45,7 @@ const BAD: [Row; 4] = [
         output: b"\xEF\xBF\xBDA",
         log: "bad 0 2\n",
         bad: 1,
+        faithful: false,
         ..EMPTY
     },
     Row {
@@ -47,6 +53,7 @@ const BAD: [Row; 4] = [
         output: b"\xEF\xBF\xBD(",
         log: "bad 0 1\n",
         bad: 1,
+        faithful: false,
         ..EMPTY
     },
 ];
