@@ -1,16 +1,19 @@
 //! Laws of what a run writes. The functions do nothing: each contract is a law over the definitions.
 
-ghost use Rattle.std.specs.Prelude.{◌≡◌, ◌↔◌, ◌<◌, ◌≤◌, ◌+◌, ◌*◌, ℕ, Bool, IsTrue, IsFalse, List, [], length, map, Some, encode_utf8_all};
+ghost use Rattle.std.specs.Prelude.{◌≡◌, ◌↔◌, ◌<◌, ◌≤◌, ◌+◌, ◌*◌, ◌++◌, ℕ, Bool, IsTrue, IsFalse, List, [], length, map, Some, encode_utf8_all};
 ghost use Rattle.std.specs.List.{concat};
 ghost use Rattle.std.specs.Str.{chars, IsUtf8};
 ghost use Rattle.std.specs.Io.KnownBytes.{Appends};
+ghost use Rattle.encoding_mem.specs.Agreement.{ReadsBackOrBreaks};
+ghost use Rattle.encoding_mem.specs.ReadBack.{ReadsAs};
+ghost use Rattle.encoding_mem.specs.Steps.{IsBroken};
 ghost use Rattle.encoding_mem.specs.declared.reference.Reference.TheVariants.{Decimal};
 ghost use Rattle.encoding_mem.specs.Piece.{AreWellFormed, ArePieces, malformed_count, piece_len, sizes};
 ghost use Rattle.encoding_mem.specs.Coding.{AllMapped, lost_count, output};
 ghost use Rattle.encoding_front.specs.Encodings.{IsUtf8Encoding, KeepsCharacters, coding_of, output_encoding_of};
 ghost use Rattle.encoding_front.specs.Marks.{marked_pieces, marked_text};
 ghost use Rattle.encoding_front.specs.declared.mark.Mark.{Mark};
-ghost use Rattle.recode.specs.Job.{Faithful, IsValidJob, input_pieces, input_text, log_of, output_of, target_of, trace};
+ghost use Rattle.recode.specs.Job.{Faithful, IsValidJob, input_pieces, input_text, log_of, output_of, output_pieces, target_of, trace};
 ghost use Rattle.recode.specs.Streams.{Streams, Written};
 ghost use Rattle.recode.specs.TaggedByte.{lines, tagged, outputs};
 ghost use Rattle.recode.specs.WrittenItems.{bad_lines, lost_lines};
@@ -98,6 +101,19 @@ pub fn output_reads_back()
         → output_of (back j) (output_of j x) ≡ output_of (in_utf8 j) x }
     ensures log { (j : Job) (x : List ℕ) → Faithful j x
         → (log_of (back j) (output_of j x) ≡ []) × (log_of (in_utf8 j) x ≡ []) }
+{}
+
+/// What a job writes, read back in its output encoding without mark handling. What was written for
+/// any text so far agrees with it or is broken, also with an escape behind it; and the whole output
+/// reads as the text, or what stands before its last escape is broken. What is broken stays so,
+/// whatever follows, and never reads as the text.
+pub fn read_back()
+    ensures texts { (j : Job) → IsValidJob j → ReadsBackOrBreaks (output_pieces j) (target_of j) }
+    ensures stays { (j : Job) (bytes text more following : List ℕ)
+        → IsBroken (output_pieces j) bytes text
+        → IsBroken (output_pieces j) (bytes ++ more) (text ++ following) }
+    ensures never { (j : Job) (bytes text : List ℕ) → IsBroken (output_pieces j) bytes text
+        → ¬ (ReadsAs (output_pieces j) bytes text) }
 {}
 
 /// Where the output is UTF-8, no character is lost, and no line tells one.
