@@ -14,7 +14,7 @@ use Rattle.encoding_mem.specs.declared.form.EscapeState.TheVariants.{Ascii}
 use Rattle.encoding_mem.specs.declared.decoder_result.DecoderResult.{DecoderResult}
 use Rattle.encoding_mem.specs.declared.decoder_result.DecoderResult.TheVariants.{InputEmpty, OutputFull, Malformed}
 use Rattle.recode.specs.TraceToWrite.{trace_to_write, AreSound}
-use Rattle.recode.specs.declared.counts.Counts.{Counts}
+use Rattle.recode.specs.declared.target.Counts.{Counts}
 
 -- of texts in a row
 pub open_items-append : (e : Coding) (s : EscapeState) (i : ℕ) (a b : List ℕ) → open_items Decimal e s i (a ++ b) ≡ open_items Decimal e s i a ++ open_items Decimal e (last_set e s a) (i + length a) b

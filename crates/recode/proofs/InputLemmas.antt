@@ -23,9 +23,9 @@ use Rattle.recode.specs.Job.{IsValidJob, Faithful, input_pieces, input_text, tar
 use Rattle.recode.specs.Session.{Completes, Fails, IsConverted}
 use Rattle.recode.specs.Step.{WrotePrefix}
 use Rattle.recode.specs.Streams.{Streams}
-use Rattle.recode.specs.declared.fault.Fault.{Fault}
+use Rattle.recode.specs.declared.job.Fault.{Fault}
 use Rattle.recode.specs.declared.job.Job.{Job}
-use Rattle.recode.specs.declared.report.Report.{Report}
+use Rattle.recode.specs.declared.job.Report.{Report}
 use Rattle.recode.proofs.TraceLemmas.{no_lines}
 use Rattle.recode.proofs.RunLemmas.{faithful_where_kept, kept_where_faithful, quiet_where_kept, kept_where_quiet}
 

@@ -26,7 +26,7 @@ use Rattle.recode.specs.TaggedByte.{IsPrefix, lines, tagged, outputs}
 use Rattle.recode.specs.TraceToWrite.{AreSound, trace_to_write}
 use Rattle.recode.specs.WrittenItems.{WritesItemsFor}
 use Rattle.recode.specs.Session.{IsNewSession, View}
-use Rattle.recode.specs.declared.counts.Counts.{Counts}
+use Rattle.recode.specs.declared.target.Counts.{Counts}
 use Rattle.recode.specs.declared.job.Job.{Job}
 use Rattle.recode.proofs.DecoderCallLemmas.{MalformedCall, WellFormedCall, last_set-append, sizes-append}
 use Rattle.recode.proofs.TraceLemmas.{lines-append, tagged-append, outputs-append, lines-trace, outputs-trace, whole_from-append, open_from-append}

@@ -21,7 +21,7 @@ use Rattle.recode.specs.Runs.{IsWholeOutput}
 use Rattle.recode.specs.Streams.{Written}
 use Rattle.recode.specs.Session.{IsReport, IsConverted}
 use Rattle.recode.specs.declared.job.Job.{Job}
-use Rattle.recode.specs.declared.report.Report.{Report}
+use Rattle.recode.specs.declared.job.Report.{Report}
 use Rattle.recode.proofs.TraceLemmas.{lost_lines-trace}
 use Rattle.recode.proofs.RunLemmas.{kept_where_quiet, mapped_where_faithful, quiet_where_kept, well_formed_count, none_malformed}
 

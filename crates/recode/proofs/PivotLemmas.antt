@@ -24,8 +24,8 @@ use Rattle.encoding_mem.specs.laws.Writing.{encode_utf16_all-append}
 use Rattle.encoding_mem.proofs.Utf16Lemmas.{no_units}
 use Rattle.recode.specs.CodecCalls.{DecodeCallEndsWith}
 use Rattle.recode.specs.PivotText.{Holds}
-use Rattle.recode.specs.declared.buffers.Pivot.{Pivot}
-use Rattle.recode.specs.declared.buffers.Pivot.TheVariants.{Utf8, Utf16}
+use Rattle.recode.specs.declared.job.Pivot.{Pivot}
+use Rattle.recode.specs.declared.job.Pivot.TheVariants.{Utf8, Utf16}
 
 -- what a call wrote to the start
 pub written_prefix : (old new added : List ℕ) (n : ℕ) → Adds old 0 added new n → take n new ≡ added

@@ -25,9 +25,9 @@ use Rattle.recode.specs.Job.{IsValidJob, Faithful, input_pieces, output_pieces, 
 use Rattle.recode.specs.Session.{View, IsNewSession, Tells, IsReport, Completes, Fails}
 use Rattle.recode.specs.Step.{Finishes, PassesLimit}
 use Rattle.recode.specs.Streams.{Streams}
-use Rattle.recode.specs.declared.fault.Fault.{Fault}
+use Rattle.recode.specs.declared.job.Fault.{Fault}
 use Rattle.recode.specs.declared.job.Job.{Job}
-use Rattle.recode.specs.declared.report.Report.{Report}
+use Rattle.recode.specs.declared.job.Report.{Report}
 use Rattle.recode.proofs.StepLemmas.{HasStopped}
 use Rattle.recode.proofs.TraceLemmas.{outputs-append, lines-append, no_lines, kept_where_no_lines, no_lines_without_bytes, outputs-trace, lines-trace, bad_lines-trace, lost_lines-trace}
 

@@ -10,15 +10,15 @@ use Rattle.recode.specs.WrittenItems.{WritesItemsFor, WritesPrefixFor}
 use Rattle.recode.specs.Step.{Finishes, PassesLimit, StepsOn, Stops}
 use Rattle.recode.specs.Failures.{CountsFault, Failures}
 use Rattle.recode.specs.Fault.{of_other}
-use Rattle.recode.specs.declared.fault.Fault.{Fault}
-use Rattle.recode.specs.declared.fault.Fault.TheVariants.{Read, Write, Log, TooLong}
+use Rattle.recode.specs.declared.job.Fault.{Fault}
+use Rattle.recode.specs.declared.job.Fault.TheVariants.{Read, Write, Log, TooLong}
 use Rattle.recode.proofs.VerdictLemmas.{both_ways}
 use Rattle.recode.proofs.TraceLemmas.{Wrote-nil, Wrote-trans, tagged-append, AreCounted-trans, WritesItemsFor-start}
 use Rattle.recode.specs.Conversion.{Breaks, IsCause, IsFlushCause, IsTold, message_of}
 use Rattle.recode.specs.Job.{trace}
 use Rattle.recode.specs.Session.{Completes, Fails}
 use Rattle.recode.specs.declared.job.Job.{Job}
-use Rattle.recode.specs.declared.report.Report.{Report}
+use Rattle.recode.specs.declared.job.Report.{Report}
 
 nothing_under : (w : Written) (last : Bool) (to_write : List ℕ → List Item) → WritesPrefixFor w w last to_write
 nothing_under w last to_write = record { taken = []; wrote = Wrote-nil w; prefix = λ r h. (tagged (to_write r), refl) }

@@ -14,7 +14,7 @@ use Rattle.recode.specs.WrittenItems.{WritesItems, WritesPrefix, WritesItemsFor,
 use Rattle.encoding_mem.specs.Coding.{Coding, IsCoding, open_from, whole_from, last_set, output, lost_count, unmapped_count, reference, AllMapped, IsMapped}
 use Rattle.encoding_mem.specs.declared.form.EscapeState.{EscapeState}
 use Rattle.encoding_mem.specs.declared.form.EscapeState.TheVariants.{Ascii}
-use Rattle.recode.specs.declared.counts.Counts.{Counts}
+use Rattle.recode.specs.declared.target.Counts.{Counts}
 use Rattle.std.specs.List.{flat_map}
 use Rattle.encoding_mem.specs.Piece.{Piece, well_formed, malformed, text, malformed_count, AreWellFormed}
 use Rattle.encoding_mem.specs.laws.Encoding.{bytes_of-append, bytes_of-bytes, bytes_of-open_items}

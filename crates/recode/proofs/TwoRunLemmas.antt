@@ -8,10 +8,10 @@ use Rattle.recode.specs.Streams.{Streams, Written, known}
 use Rattle.recode.specs.TaggedByte.{tagged}
 use Rattle.recode.specs.Runs.{WroteTheSame, AgreeButForCalls, RunReturns}
 use Rattle.recode.specs.Session.{IsReport, IsConverted, Completes}
-use Rattle.recode.specs.declared.fault.Fault.{Fault}
-use Rattle.recode.specs.declared.fault.Fault.TheVariants.{Read, Write, Log, TooLong}
+use Rattle.recode.specs.declared.job.Fault.{Fault}
+use Rattle.recode.specs.declared.job.Fault.TheVariants.{Read, Write, Log, TooLong}
 use Rattle.recode.specs.declared.job.Job.{Job}
-use Rattle.recode.specs.declared.report.Report.{Report}
+use Rattle.recode.specs.declared.job.Report.{Report}
 use Rattle.recode.proofs.InputLemmas.{known_completes, known_too_long}
 
 -- Two runs that came to their end.

@@ -1,8 +1,8 @@
 -- Which buffers are enough.
 use Rattle.std.specs.Prelude.{◌≡◌, ◌<◌, ◌≤◌, Bool, true, false, length}
-use Rattle.recode.specs.declared.buffers.Buffers.{Buffers}
-use Rattle.recode.specs.declared.buffers.Pivot.{Pivot}
-use Rattle.recode.specs.declared.buffers.Pivot.TheVariants.{Utf8, Utf16}
+use Rattle.recode.specs.declared.job.Buffers.{Buffers}
+use Rattle.recode.specs.declared.job.Pivot.{Pivot}
+use Rattle.recode.specs.declared.job.Pivot.TheVariants.{Utf8, Utf16}
 
 -- it holds any character: 4 bytes of UTF-8, or 2 units of UTF-16
 abbrev pub HoldsAnyCharacter : Pivot → Type 0

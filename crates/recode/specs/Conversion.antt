@@ -5,8 +5,8 @@ use Rattle.recode.specs.Job.{trace, output_of, log_of, Faithful}
 use Rattle.recode.specs.Failures.{Failures}
 use Rattle.recode.specs.Streams.{Streams}
 use Rattle.recode.specs.TaggedByte.{TaggedByte, Wrote, IsPrefix, tagged, outputs, lines}
-use Rattle.recode.specs.declared.fault.Fault.{Fault}
-use Rattle.recode.specs.declared.fault.Fault.TheVariants.{Read, Write, Log, TooLong}
+use Rattle.recode.specs.declared.job.Fault.{Fault}
+use Rattle.recode.specs.declared.job.Fault.TheVariants.{Read, Write, Log, TooLong}
 use Rattle.recode.specs.declared.job.Job.{Job}
 
 -- The input was read whole and is within the limit, output and log are whole, and the status tells whether anything was

@@ -3,7 +3,7 @@ use Rattle.std.specs.Prelude.{◌≡◌, ℕ, ◌+◌, Result}
 use Rattle.recode_log.specs.Counted.{failures_of}
 use Rattle.recode_log.specs.declared.counted.Counted.{Counted}
 use Rattle.recode.specs.Fault.{of_reader, of_writer, of_log, of_other}
-use Rattle.recode.specs.declared.fault.Fault.{Fault}
+use Rattle.recode.specs.declared.job.Fault.{Fault}
 
 -- the counts of failed calls of a reader, a writer and a log
 pub record Failures : Type 0 where

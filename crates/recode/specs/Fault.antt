@@ -1,7 +1,7 @@
 -- Which device a fault is of, as what its count rises by.
 use Rattle.std.specs.Prelude.{ℕ, Result, Err}
-use Rattle.recode.specs.declared.fault.Fault.{Fault}
-use Rattle.recode.specs.declared.fault.Fault.TheVariants.{Read, Write, Log, TooLong}
+use Rattle.recode.specs.declared.job.Fault.{Fault}
+use Rattle.recode.specs.declared.job.Fault.TheVariants.{Read, Write, Log, TooLong}
 
 abbrev pub of_reader : {T : Type 0} → Result T Fault → ℕ
 of_reader (Err Read) = 1

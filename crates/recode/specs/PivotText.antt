@@ -3,10 +3,10 @@ use Rattle.std.specs.Prelude.{◌≡◌, ℕ, ◌≤◌, ◌++◌, List, Bool, t
 use Rattle.std.specs.Str.{chars, all_scalars, encode_utf8_all}
 use Rattle.std.specs.Char.Utf16.{utf16_lossy_chars}
 use Rattle.encoding_mem.specs.Writing.{encode_utf16_all}
-use Rattle.recode.specs.declared.buffers.Pivot.{Pivot}
-use Rattle.recode.specs.declared.buffers.Pivot.TheVariants as DecodedLength
-use Rattle.recode.specs.declared.pivot_text.PivotText.{PivotText}
-use Rattle.recode.specs.declared.pivot_text.PivotText.TheVariants.{Utf8, Utf16}
+use Rattle.recode.specs.declared.job.Pivot.{Pivot}
+use Rattle.recode.specs.declared.job.Pivot.TheVariants as DecodedLength
+use Rattle.recode.specs.declared.codec_calls.PivotText.{PivotText}
+use Rattle.recode.specs.declared.codec_calls.PivotText.TheVariants.{Utf8, Utf16}
 
 -- its characters
 abbrev pub pivot_chars : PivotText → List ℕ

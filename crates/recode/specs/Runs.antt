@@ -4,9 +4,9 @@ use Rattle.recode.specs.Failures.{Failures, CountsFault}
 use Rattle.recode.specs.Streams.{Streams, Written}
 use Rattle.recode.specs.TaggedByte.{TaggedByte, Wrote}
 use Rattle.recode.specs.Session.{Completes, Fails}
-use Rattle.recode.specs.declared.fault.Fault.{Fault}
+use Rattle.recode.specs.declared.job.Fault.{Fault}
 use Rattle.recode.specs.declared.job.Job.{Job}
-use Rattle.recode.specs.declared.report.Report.{Report}
+use Rattle.recode.specs.declared.job.Report.{Report}
 
 -- each writer took the same bytes of the output and of the log, in the same order
 pub record WroteTheSame (before after other other' : Written) : Type 0 where

@@ -9,13 +9,13 @@ use Rattle.recode.specs.State.{State, WillBeFaithful, to_write}
 use Rattle.recode.specs.Streams.{Streams, Written}
 use Rattle.recode.specs.TaggedByte.{TaggedByte, Wrote, IsPrefix, tagged, outputs, lines}
 use Rattle.recode.specs.Step.{PassesLimit}
-use Rattle.recode.specs.declared.fault.Fault.{Fault}
-use Rattle.recode.specs.declared.fault.Fault.TheVariants.{TooLong}
+use Rattle.recode.specs.declared.job.Fault.{Fault}
+use Rattle.recode.specs.declared.job.Fault.TheVariants.{TooLong}
 use Rattle.recode.specs.declared.job.Job.{Job}
-use Rattle.recode.specs.declared.progress.Progress.{Progress}
-use Rattle.recode.specs.declared.report.Report.{Report}
-use Rattle.recode.specs.declared.phase.Phase.{Phase}
-use Rattle.recode.specs.declared.phase.Phase.TheVariants.{Open, Done, Stopped}
+use Rattle.recode.specs.declared.job.Progress.{Progress}
+use Rattle.recode.specs.declared.job.Report.{Report}
+use Rattle.recode.specs.declared.session.Phase.{Phase}
+use Rattle.recode.specs.declared.session.Phase.TheVariants.{Open, Done, Stopped}
 
 pub record View : Type 0 where
   pub job : Job

@@ -7,7 +7,7 @@ use Rattle.encoding_mem.specs.declared.form.EscapeState.{EscapeState}
 use Rattle.encoding_front.specs.declared.encoding.Encoding.{Encoding}
 use Rattle.recode.specs.TraceToWrite.{trace_to_write}
 use Rattle.recode.specs.Verdict.{IsFaithfulFor, VerdictView}
-use Rattle.recode.specs.declared.counts.Counts.{Counts}
+use Rattle.recode.specs.declared.target.Counts.{Counts}
 
 -- The pieces of the bytes to come, and the encoding that the input turns out to be in with them; the target's rule and
 -- the set in force; whether something was lost, and what was counted so far.

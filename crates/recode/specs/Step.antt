@@ -14,9 +14,9 @@ use Rattle.recode.specs.State.{State, WillBeFaithful, to_write}
 use Rattle.recode.specs.Streams.{KeepsWritten, Streams, Written}
 use Rattle.recode.specs.TaggedByte.{TaggedByte, Wrote, IsPrefix, tagged}
 use Rattle.recode.specs.WrittenItems.{WritesItems, WritesItemsFor, WritesPrefixFor}
-use Rattle.recode.specs.declared.counts.Counts.{Counts}
-use Rattle.recode.specs.declared.fault.Fault.{Fault}
-use Rattle.recode.specs.declared.fault.Fault.TheVariants.{Read, Write, Log, TooLong}
+use Rattle.recode.specs.declared.target.Counts.{Counts}
+use Rattle.recode.specs.declared.job.Fault.{Fault}
+use Rattle.recode.specs.declared.job.Fault.TheVariants.{Read, Write, Log, TooLong}
 
 -- Nothing is pending, or bytes whose first piece changes with at most three more, and ends at most two bytes before
 -- their end.

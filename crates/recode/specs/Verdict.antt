@@ -15,8 +15,8 @@ use Rattle.encoding_mem.specs.declared.encoder_result.EncoderResult.{EncoderResu
 use Rattle.encoding_front.specs.Stream.{DecoderView}
 use Rattle.recode.specs.Buffers.{is_wide}
 use Rattle.recode.specs.PivotText.{is_in_units}
-use Rattle.recode.specs.declared.buffers.Pivot.{Pivot}
-use Rattle.recode.specs.declared.pivot_text.PivotText.{PivotText}
+use Rattle.recode.specs.declared.job.Pivot.{Pivot}
+use Rattle.recode.specs.declared.codec_calls.PivotText.{PivotText}
 
 -- What reads the output back, whether the log alone tells what is lost, and whether nothing was lost so far.
 pub record VerdictView : Type 0 where

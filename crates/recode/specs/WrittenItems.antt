@@ -3,7 +3,7 @@ use Rattle.std.specs.Prelude.{◌≡◌, ℕ, ◌+◌, List, [], ◌∷◌, ◌+
 use Rattle.encoding_mem.specs.Items.{Item, Byte, MalformedAt, LostAt}
 use Rattle.recode.specs.Streams.{Written}
 use Rattle.recode.specs.TaggedByte.{TaggedByte, Wrote, IsPrefix, tagged}
-use Rattle.recode.specs.declared.counts.Counts.{Counts}
+use Rattle.recode.specs.declared.target.Counts.{Counts}
 
 -- how many lines of each kind the items have
 abbrev pub bad_lines : List Item → ℕ

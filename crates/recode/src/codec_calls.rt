@@ -1,23 +1,98 @@
-// The calls of codecs over text in a pivot. What form the text has is known here alone.
+//! The calls of codecs over text in a pivot, and that text: what form it has is known here alone.
 
-ghost use Rattle.std.specs.Prelude.{◌≡◌, ℕ, ◌+◌, ◌-◌, ◌≤◌, ◌++◌, List, [], false, IsTrue, take, drop, length, encode_utf8_all};
+ghost use Rattle.std.specs.Prelude.{◌≡◌, ◌↔◌, ℕ, ◌++◌, ◌+◌, ◌-◌, ◌≤◌, IsTrue, List, MatchOption, [], count_by, drop, encode_utf8_all, false, length, take, true};
+ghost use Rattle.std.specs.Char.Utf16.{utf16_lossy_chars};
+ghost use Rattle.std.specs.Str.{all_scalars, chars};
 ghost use Rattle.encoding_mem.specs.Decoding.{StateLaw};
+ghost use Rattle.encoding_mem.specs.Encoding.{EncodeEndsWith, Encodes};
 ghost use Rattle.encoding_mem.specs.Writing.{Adds, encode_utf16_all};
-ghost use Rattle.encoding_mem.specs.Encoding.{Encodes, EncodeEndsWith};
 ghost use Rattle.encoding_front.specs.DecoderCall.{DecoderCall};
 ghost use Rattle.encoding_front.specs.Stream.{finishes};
 ghost use Rattle.recode.specs.Buffers.{HoldsAnyCharacter, is_wide};
+ghost use Rattle.recode.specs.Character.{begins_character};
 ghost use Rattle.recode.specs.CodecCalls.{DecodeCallEndsWith};
-ghost use Rattle.recode.specs.PivotText.{Holds, IsCutInto, IsWholeText, pivot_chars};
+ghost use Rattle.recode.specs.PivotText.{BeginsWith, Holds, HoldsText, IsCutInto, IsLeftBehind, IsWholeText, is_in_units, pivot_chars};
 
-use crate::buffers::Pivot;
-use crate::characters::count_characters;
-use crate::pivot_text::{PivotText, count_in_units};
+use crate::job::Pivot;
 use encoding_front::StreamDecoder;
 use encoding_mem::sink::Sink;
+use encoding_mem::source::{Source, Utf16Source};
 use encoding_mem::utf8_sink::Utf8Sink;
 use encoding_mem::utf16_sink::Utf16Sink;
 use encoding_mem::{DecoderResult, EncoderResult, RawEncoder};
+use std::simd::prelude::*;
+
+/// Text that stands in a pivot, in either form.
+#[derive(Clone, Copy)]
+pub enum PivotText<'p> {
+    Utf8(&'p str),
+    Utf16(&'p [u16]),
+}
+
+impl<'p> PivotText<'p> {
+    /// Whether it has no characters.
+    pub fn is_empty(self) -> bool
+        requires { IsWholeText self }
+        ensures { IsTrue result ↔ (pivot_chars self.entry ≡ []) }
+    {
+        match self {
+            PivotText::Utf8(text) => text.is_empty(),
+            PivotText::Utf16(units) => units.is_empty(),
+        }
+    }
+
+    /// What is left behind another text of the same form, where it begins with that.
+    pub fn strip_prefix(self, prefix: PivotText<'_>) -> Option<PivotText<'p>>
+        requires form { is_in_units self ≡ is_in_units prefix }
+        requires text { IsWholeText self }
+        requires prefix { IsWholeText prefix }
+        ensures { MatchOption result (¬ (BeginsWith self.entry prefix.entry))
+            (IsLeftBehind self.entry prefix.entry) }
+    {
+        match (self, prefix) {
+            (PivotText::Utf8(text), PivotText::Utf8(start)) => {
+                let rest = text.strip_prefix(start)?;
+                Some(PivotText::Utf8(rest))
+            }
+            (PivotText::Utf16(units), PivotText::Utf16(start)) => {
+                let rest = units.strip_prefix(start)?;
+                Some(PivotText::Utf16(rest))
+            }
+            (PivotText::Utf8(_), PivotText::Utf16(_)) => None,
+            (PivotText::Utf16(_), PivotText::Utf8(_)) => None,
+        }
+    }
+}
+
+/// The text at the start of a pivot, of so many bytes or units.
+pub fn text_in<'p>(pivot: &'p Pivot<'_>, len: usize) -> PivotText<'p>
+    requires { HoldsText pivot.now len }
+    ensures chars { (text : List ℕ) → all_scalars text ≡ true → Holds pivot.now len text
+        → pivot_chars result ≡ text }
+    ensures text { IsWholeText result }
+    ensures form { is_in_units result ≡ is_wide pivot.now }
+{
+    match pivot {
+        // The decoder wrote text: no second check.
+        Pivot::Utf8(bytes) => {
+            PivotText::Utf8(unsafe { std::str::from_utf8_unchecked(&bytes[..len]) })
+        }
+        Pivot::Utf16(units) => PivotText::Utf16(&units[..len]),
+    }
+}
+
+/// How many characters units of UTF-16 have. A surrogate in no pair is one.
+pub fn count_in_units(units: &[u16]) -> usize
+    ensures { result ≡ length (utf16_lossy_chars units.now) }
+{
+    let mut source = Utf16Source::new(units);
+    let mut count = 0;
+    while source.peek().is_some() {
+        source.advance();
+        count += 1;
+    }
+    count
+}
 
 /// What a call of a decoder did.
 #[derive(Clone, Copy)]
@@ -159,4 +234,44 @@ pub fn encode_from_pivot<'p, E: RawEncoder>(
             }
         }
     }
+}
+
+/// How many characters a text has.
+pub fn count_characters(text: &str) -> usize
+    ensures { result ≡ length (chars text.now) }
+{
+    count_beginnings(text.as_bytes())
+}
+
+// How many bytes are looked at together.
+const LANES: usize = 64;
+
+// How many bytes of a vector begin a character.
+#[inline(always)]
+fn beginnings_in(block: u8x64) -> usize
+    ensures { result ≡ count_by begins_character block }
+{
+    let alone = block.simd_lt(u8x64::splat(0x80)).to_bitmask().count_ones();
+    let leads = block.simd_ge(u8x64::splat(0xC0)).to_bitmask().count_ones();
+    alone as usize + leads as usize
+}
+
+// How many bytes begin a character, one by one.
+fn count_singly(bytes: &[u8]) -> usize
+    ensures { result ≡ count_by begins_character bytes.now }
+{
+    bytes.iter().filter(|b| **b < 0x80 || **b >= 0xC0).count()
+}
+
+// How many bytes begin a character, by vectors and then one by one.
+fn count_beginnings(bytes: &[u8]) -> usize
+    ensures { result ≡ count_by begins_character bytes.now }
+{
+    let mut at = 0;
+    let mut count = 0;
+    'vectors: while bytes.len() - at >= LANES {
+        count += beginnings_in(u8x64::from_slice(&bytes[at..]));
+        at += LANES;
+    }
+    count + count_singly(&bytes[at..])
 }

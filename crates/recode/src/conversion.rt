@@ -7,9 +7,7 @@ ghost use Rattle.recode.specs.Failures.{failures_in};
 ghost use Rattle.recode.specs.Streams.{KeepsWritten, streams_in, written_in};
 ghost use Rattle.recode.specs.Conversion.{Breaks, Converts, IsFlushCause, IsTold, message_of};
 
-use crate::buffers::Buffers;
-use crate::fault::Fault;
-use crate::job::Job;
+use crate::job::{Buffers, Fault, Job};
 use crate::session::run;
 use recode_log::counted::Counted;
 use recode_log::deliver::deliver;

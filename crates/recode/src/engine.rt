@@ -1,12 +1,29 @@
-use crate::buffers::Pivot;
-use crate::decode::Chunk;
-use crate::encode::Target;
-use crate::fault::Fault;
-use crate::progress::Progress;
+//! What converts: a step reads once and decodes what was read; its text is encoded, and malformed
+//! sequences are logged.
+
+use crate::codec_calls::{decode_to_pivot, text_in};
+use crate::job::{Fault, Pivot, Progress};
+use crate::target::Target;
 use encoding_front::StreamDecoder;
-use encoding_mem::RawEncoder;
+use encoding_mem::{DecoderResult, RawEncoder};
 use recode_log::counted::Counted;
 use std::io::{Read, Write};
+
+/// Bytes that were read, and whether the input ends with them.
+#[derive(Clone, Copy)]
+pub struct Chunk<'c> {
+    pub bytes: &'c [u8],
+    pub last: bool,
+}
+
+/// What one call of a decoder left.
+#[derive(Clone, Copy, PartialEq, Eq, Debug)]
+pub struct DecodeTurn {
+    /// The bytes of the chunk that were read.
+    pub read: usize,
+    /// Whether all of the chunk is read, and all that it gives is written.
+    pub is_done: bool,
+}
 
 /// A conversion under way: the decoder, and what writes the text.
 #[derive(Drop)]
@@ -16,16 +33,228 @@ pub struct Engine<D, E> {
 }
 
 impl<D: StreamDecoder, E: RawEncoder> Engine<D, E> {
-    ghost use Rattle.std.specs.Prelude.{◌≡◌, ℕ, ◌+◌, ◌-◌, ◌^◌, ◌<◌, ◌≤◌, List, [], length, false, OnOk, IfErr};
+    ghost use Rattle.std.specs.Prelude.{◌≡◌, ◌↔◌, ℕ, ◌+◌, ◌-◌, ◌^◌, ◌<◌, ◌≤◌, ◌++◌, ◌⊎◌, IfErr, IfOk, IsTrue, List, OnErr, OnOk, [], drop, false, length, true};
     ghost use Rattle.recode_log.specs.Counted.{failures_of};
     ghost use Rattle.recode.specs.Buffers.{HoldsAnyCharacter, is_wide};
     ghost use Rattle.recode.specs.EngineState.{engine_state};
-    ghost use Rattle.recode.specs.TraceToWrite.{AreSound};
-    ghost use Rattle.recode.specs.Step.{Finishes, Stops, StepsOn};
-    ghost use Rattle.recode.specs.Failures.{CountsFault, failures_in};
-    ghost use Rattle.recode.specs.Streams.{streams_in};
-    ghost use Rattle.recode.specs.Verdict.{CanTell};
+    ghost use Rattle.recode.specs.Failures.{CountsFault, CountsWriterFault, failures_in};
+    ghost use Rattle.recode.specs.Step.{Advances, Finishes, IsNearlyDecided, StepsOn, Stops};
+    ghost use Rattle.recode.specs.Streams.{streams_in, written_in};
+    ghost use Rattle.recode.specs.TraceToWrite.{AreSound, trace_to_write};
+    ghost use Rattle.recode.specs.Verdict.{CanTell, IsFaithfulFor};
     ghost use Rattle.recode.specs.VerdictView.{verdict_view};
+    ghost use Rattle.recode.specs.WrittenItems.{WritesItemsFor, WritesPrefixFor};
+
+    // One call of the decoder, and all that follows from it.
+    fn decode_part<W: Write, L: Write>(
+        &mut self,
+        writer: &mut Counted<W>,
+        log: &mut Counted<L>,
+        chunk: Chunk<'_>,
+        pivot: &mut Pivot<'_>,
+        output: &mut [u8],
+        check: &mut Pivot<'_>,
+    ) -> Result<DecodeTurn, Fault>
+        requires pivot { HoldsAnyCharacter pivot.old }
+        requires output { 4 ≤ length output.old }
+        requires open_ { (D.view self.old.decoder).finished ≡ false }
+        requires sound { AreSound (D.view self.old.decoder).state.pending self.old.target.counts }
+        requires limit { self.old.target.counts.read + length chunk.bytes.now ≤ 2 ^ 48 }
+        requires check { HoldsAnyCharacter check.old }
+        requires form { is_wide check.old ≡ is_wide pivot.old }
+        requires tells { CanTell (verdict_view D.view self.old.target.verdict)
+            (E.coding self.old.target.encoder) (E.set self.old.target.encoder) [] }
+        requires writer { failures_of writer.old < 2 ^ 64 - 1 }
+        requires log { failures_of log.old < 2 ^ 64 - 1 }
+        ensures within { IfOk result (λ p. p.read ≤ length chunk.entry.bytes.now) }
+        ensures pays { IfOk result (λ p. WritesItemsFor
+            (written_in W.contents L.contents writer.old log.old)
+            (written_in W.contents L.contents writer.new log.new)
+            self.old.target.counts self.new.target.counts chunk.entry.last
+            (λ r. trace_to_write (D.view self.old.decoder).state (E.coding self.old.target.encoder)
+            (E.set self.old.target.encoder) self.old.target.counts (chunk.entry.bytes.now ++ r))
+            (λ r. trace_to_write (D.view self.new.decoder).state (E.coding self.old.target.encoder)
+            (E.set self.new.target.encoder) self.new.target.counts
+            (drop p.read chunk.entry.bytes.now ++ r))) }
+        ensures source { IfOk result (λ p. (r : List ℕ) → (chunk.entry.last ≡ true → r ≡ [])
+            → (D.view self.old.decoder).source (chunk.entry.bytes.now ++ r)
+            ≡ (D.view self.new.decoder).source (drop p.read chunk.entry.bytes.now ++ r)) }
+        ensures more_open { IfOk result (λ p. p.is_done ≡ false
+            → (D.view self.new.decoder).finished ≡ false) }
+        ensures open_ { OnOk result (chunk.entry.last ≡ false
+            → (D.view self.new.decoder).finished ≡ false) }
+        ensures counted { IfOk result (λ p. self.new.target.counts.read
+            ≡ self.old.target.counts.read + p.read) }
+        ensures sound { OnOk result (AreSound (D.view self.new.decoder).state.pending
+            self.new.target.counts) }
+        ensures target { E.coding self.new.target.encoder ≡ E.coding self.old.target.encoder }
+        ensures done { IfOk result (λ p. p.is_done ≡ true → p.read ≡ length chunk.entry.bytes.now) }
+        ensures end { IfOk result (λ p. p.is_done ≡ true → chunk.entry.last ≡ true
+            → trace_to_write (D.view self.new.decoder).state (E.coding self.old.target.encoder)
+            (E.set self.new.target.encoder) self.new.target.counts [] ≡ []) }
+        ensures advances { IfOk result (λ p. chunk.entry.last ≡ false → Advances
+            (λ r. (D.view self.old.decoder).state.pieces (chunk.entry.bytes.now ++ r))
+            (λ r. (D.view self.new.decoder).state.pieces (drop p.read chunk.entry.bytes.now ++ r))
+            (E.coding self.old.target.encoder) (E.set self.old.target.encoder)
+            (E.set self.new.target.encoder)
+            self.old.target.counts self.new.target.counts) }
+        ensures settled { IfOk result (λ p. p.is_done ≡ true
+            → IsNearlyDecided (D.view self.new.decoder).state) }
+        ensures more { IfOk result (λ p. p.is_done ≡ false
+            → length ((D.view self.new.decoder).state.pieces (drop p.read chunk.entry.bytes.now))
+            < length ((D.view self.old.decoder).state.pieces chunk.entry.bytes.now)) }
+        ensures err { OnErr result (WritesPrefixFor
+            (written_in W.contents L.contents writer.old log.old)
+            (written_in W.contents L.contents writer.new log.new) chunk.entry.last
+            (λ r. trace_to_write (D.view self.old.decoder).state (E.coding self.old.target.encoder)
+            (E.set self.old.target.encoder) self.old.target.counts
+            (chunk.entry.bytes.now ++ r))) }
+        ensures failures { CountsWriterFault writer.old writer.new log.old log.new result }
+        ensures verdict { IfOk result (λ p. (r : List ℕ) → (chunk.entry.last ≡ true → r ≡ [])
+            → IsFaithfulFor (verdict_view D.view self.old.target.verdict)
+            (E.coding self.old.target.encoder) (E.set self.old.target.encoder)
+            ((D.view self.old.decoder).state.pieces (chunk.entry.bytes.now ++ r))
+            ↔ IsFaithfulFor (verdict_view D.view self.new.target.verdict)
+            (E.coding self.old.target.encoder) (E.set self.new.target.encoder)
+            ((D.view self.new.decoder).state.pieces
+            (drop p.read chunk.entry.bytes.now ++ r))) }
+        ensures tells { IfOk result (λ p. (p.is_done ≡ false) ⊎ (chunk.entry.last ≡ false)
+            → CanTell (verdict_view D.view self.new.target.verdict)
+            (E.coding self.old.target.encoder) (E.set self.new.target.encoder) []) }
+        ensures told { IfOk result (λ p. p.is_done ≡ true → chunk.entry.last ≡ true
+            → IsFaithfulFor (verdict_view D.view self.new.target.verdict)
+            (E.coding self.old.target.encoder) (E.set self.new.target.encoder)
+            ((D.view self.new.decoder).state.pieces [])
+            ↔ IsTrue self.new.target.verdict.faithful) }
+        ensures check { HoldsAnyCharacter check.new }
+        ensures check_kind { is_wide check.new ≡ is_wide check.old }
+        ensures roomy { HoldsAnyCharacter pivot.new }
+        ensures kind { is_wide pivot.new ≡ is_wide pivot.old }
+    {
+        let call = decode_to_pivot(&mut self.decoder, chunk.bytes, pivot, chunk.last);
+        self.target.counts.calls = self.target.counts.calls.saturating_add(1);
+        self.target.counts.read += call.read as u64;
+        let text = text_in(pivot, call.written);
+        match call.answer {
+            DecoderResult::InputEmpty => {
+                self.target
+                    .encode_text(writer, log, text, output, check, chunk.last)?;
+                Ok(DecodeTurn {
+                    read: call.read,
+                    is_done: true,
+                })
+            }
+            DecoderResult::OutputFull => {
+                self.target
+                    .encode_text(writer, log, text, output, check, false)?;
+                Ok(DecodeTurn {
+                    read: call.read,
+                    is_done: false,
+                })
+            }
+            DecoderResult::Malformed(size, after) => {
+                self.target
+                    .encode_text(writer, log, text, output, check, false)?;
+                let offset = self.target.counts.read - u64::from(after) - u64::from(size);
+                self.target
+                    .log_malformed(writer, log, offset, size, output, check)?;
+                Ok(DecodeTurn {
+                    read: call.read,
+                    is_done: false,
+                })
+            }
+        }
+    }
+
+    /// Converts all of a chunk, and logs what is lost.
+    pub fn decode_chunk<W: Write, L: Write>(
+        &mut self,
+        writer: &mut Counted<W>,
+        log: &mut Counted<L>,
+        chunk: Chunk<'_>,
+        pivot: &mut Pivot<'_>,
+        output: &mut [u8],
+        check: &mut Pivot<'_>,
+    ) -> Result<(), Fault>
+        requires pivot { HoldsAnyCharacter pivot.old }
+        requires output { 4 ≤ length output.old }
+        requires open_ { (D.view self.old.decoder).finished ≡ false }
+        requires sound { AreSound (D.view self.old.decoder).state.pending self.old.target.counts }
+        requires limit { self.old.target.counts.read + length chunk.bytes.now ≤ 2 ^ 48 }
+        requires check { HoldsAnyCharacter check.old }
+        requires form { is_wide check.old ≡ is_wide pivot.old }
+        requires tells { CanTell (verdict_view D.view self.old.target.verdict)
+            (E.coding self.old.target.encoder) (E.set self.old.target.encoder) [] }
+        requires writer { failures_of writer.old < 2 ^ 64 - 1 }
+        requires log { failures_of log.old < 2 ^ 64 - 1 }
+        ensures pays { OnOk result (WritesItemsFor
+            (written_in W.contents L.contents writer.old log.old)
+            (written_in W.contents L.contents writer.new log.new)
+            self.old.target.counts self.new.target.counts chunk.entry.last
+            (λ r. trace_to_write (D.view self.old.decoder).state (E.coding self.old.target.encoder)
+            (E.set self.old.target.encoder) self.old.target.counts (chunk.entry.bytes.now ++ r))
+            (λ r. trace_to_write (D.view self.new.decoder).state (E.coding self.old.target.encoder)
+            (E.set self.new.target.encoder) self.new.target.counts r)) }
+        ensures source { OnOk result ((r : List ℕ) → (chunk.entry.last ≡ true → r ≡ [])
+            → (D.view self.old.decoder).source (chunk.entry.bytes.now ++ r)
+            ≡ (D.view self.new.decoder).source r) }
+        ensures open_ { OnOk result (chunk.entry.last ≡ false
+            → (D.view self.new.decoder).finished ≡ false) }
+        ensures read { OnOk result (self.new.target.counts.read
+            ≡ self.old.target.counts.read + length chunk.entry.bytes.now) }
+        ensures sound { OnOk result (AreSound (D.view self.new.decoder).state.pending
+            self.new.target.counts) }
+        ensures target { E.coding self.new.target.encoder ≡ E.coding self.old.target.encoder }
+        ensures end { OnOk result (chunk.entry.last ≡ true
+            → trace_to_write (D.view self.new.decoder).state (E.coding self.old.target.encoder)
+            (E.set self.new.target.encoder) self.new.target.counts [] ≡ []) }
+        ensures advances { OnOk result (chunk.entry.last ≡ false → Advances
+            (λ r. (D.view self.old.decoder).state.pieces (chunk.entry.bytes.now ++ r))
+            (D.view self.new.decoder).state.pieces
+            (E.coding self.old.target.encoder) (E.set self.old.target.encoder)
+            (E.set self.new.target.encoder)
+            self.old.target.counts self.new.target.counts) }
+        ensures settled { OnOk result (IsNearlyDecided (D.view self.new.decoder).state) }
+        ensures err { OnErr result (WritesPrefixFor
+            (written_in W.contents L.contents writer.old log.old)
+            (written_in W.contents L.contents writer.new log.new) chunk.entry.last
+            (λ r. trace_to_write (D.view self.old.decoder).state (E.coding self.old.target.encoder)
+            (E.set self.old.target.encoder) self.old.target.counts
+            (chunk.entry.bytes.now ++ r))) }
+        ensures failures { CountsWriterFault writer.old writer.new log.old log.new result }
+        ensures verdict { OnOk result ((r : List ℕ) → (chunk.entry.last ≡ true → r ≡ [])
+            → IsFaithfulFor (verdict_view D.view self.old.target.verdict)
+            (E.coding self.old.target.encoder) (E.set self.old.target.encoder)
+            ((D.view self.old.decoder).state.pieces (chunk.entry.bytes.now ++ r))
+            ↔ IsFaithfulFor (verdict_view D.view self.new.target.verdict)
+            (E.coding self.old.target.encoder) (E.set self.new.target.encoder)
+            ((D.view self.new.decoder).state.pieces r)) }
+        ensures tells { OnOk result (chunk.entry.last ≡ false
+            → CanTell (verdict_view D.view self.new.target.verdict)
+            (E.coding self.old.target.encoder) (E.set self.new.target.encoder) []) }
+        ensures told { OnOk result (chunk.entry.last ≡ true
+            → IsFaithfulFor (verdict_view D.view self.new.target.verdict)
+            (E.coding self.old.target.encoder) (E.set self.new.target.encoder)
+            ((D.view self.new.decoder).state.pieces [])
+            ↔ IsTrue self.new.target.verdict.faithful) }
+        ensures check { HoldsAnyCharacter check.new }
+        ensures check_kind { is_wide check.new ≡ is_wide check.old }
+        ensures roomy { HoldsAnyCharacter pivot.new }
+        ensures kind { is_wide pivot.new ≡ is_wide pivot.old }
+    {
+        let mut rest = chunk.bytes;
+        'chunk: loop {
+            let part = Chunk {
+                bytes: rest,
+                last: chunk.last,
+            };
+            let turn = self.decode_part(writer, log, part, pivot, output, check)?;
+            if turn.is_done {
+                return Ok(());
+            }
+            rest = &rest[turn.read..];
+        }
+    }
 
     /// One read, and all that follows from it. After a fault the engine is of no use.
     pub fn step<R: Read, W: Write, L: Write>(

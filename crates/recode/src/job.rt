@@ -1,5 +1,8 @@
+//! What to recode and how, the room that it is lent, and how steps and runs end.
+
 use encoding_front::{Encoding, Mark};
 use encoding_tables::Tables;
+use thiserror::Error;
 
 /// The greatest limit of a job, in bytes.
 pub const GREATEST_LIMIT: u64 = 1 << 48;
@@ -32,4 +35,111 @@ impl<'t> Job<'t> {
             && self.from.is_ready(self.tables)
             && self.to.output_encoding().is_ready(self.tables)
     }
+}
+
+/// Room for text in between, as UTF-8 or as UTF-16.
+#[derive(Drop)]
+pub enum Pivot<'b> {
+    Utf8(&'b mut [u8]),
+    Utf16(&'b mut [u16]),
+}
+
+/// What a session is lent. Their sizes change nothing but speed.
+#[derive(Drop)]
+pub struct Buffers<'b> {
+    /// What is read from the input, in bytes.
+    pub input: &'b mut [u8],
+    /// The text on its way from the decoder to the encoder.
+    pub pivot: Pivot<'b>,
+    /// What is written to the output, in bytes.
+    pub output: &'b mut [u8],
+    /// Room to read the output back, of the pivot's kind.
+    pub check: Pivot<'b>,
+}
+
+impl<'b> Pivot<'b> {
+    ghost use Rattle.std.specs.Prelude.{IsTrue, ◌≡◌, ◌↔◌};
+    ghost use Rattle.recode.specs.Buffers.{HoldsAnyCharacter, is_wide};
+
+    // Whether it can hold any character.
+    fn is_roomy(&self) -> bool
+        ensures { IsTrue result ↔ HoldsAnyCharacter self.now }
+    {
+        match self {
+            Pivot::Utf8(bytes) => bytes.len() >= 4,
+            Pivot::Utf16(units) => units.len() >= 2,
+        }
+    }
+
+    // Whether it is of UTF-16.
+    fn is_wide(&self) -> bool
+        ensures { result ≡ is_wide self.now }
+    {
+        match self {
+            Pivot::Utf8(_) => false,
+            Pivot::Utf16(_) => true,
+        }
+    }
+}
+
+impl<'b> Buffers<'b> {
+    ghost use Rattle.std.specs.Prelude.{IsTrue, ◌↔◌};
+    ghost use Rattle.recode.specs.Buffers.{AreEnough};
+
+    /// Whether a step can be lent these: input of at least 1 byte, pivot and check of one kind, with at least
+    /// 4 bytes or 2 units each, output of at least 4 bytes.
+    pub fn is_enough(&self) -> bool
+        ensures { IsTrue result ↔ AreEnough self.now }
+    {
+        !self.input.is_empty()
+            && self.pivot.is_roomy()
+            && self.output.len() >= 4
+            && self.check.is_roomy()
+            && self.pivot.is_wide() == self.check.is_wide()
+    }
+}
+
+/// How a step ended that met no fault.
+#[derive(Clone, Copy, PartialEq, Eq, Debug)]
+pub enum Progress {
+    /// Some bytes were read; more may come.
+    More,
+    /// The end of the input was read, and all is written.
+    Done,
+}
+
+/// What a run that came to its end tells.
+#[derive(Clone, Copy, PartialEq, Eq, Debug)]
+pub struct Report {
+    /// The bytes of the input.
+    pub read: u64,
+    /// The lines of the log that tell a malformed sequence.
+    pub bad: u64,
+    /// The lines of the log that tell a lost character.
+    pub lost: u64,
+    /// The calls of codecs.
+    pub calls: u64,
+    /// The encoding of the input, as its byte order mark says where one of another encoding is taken.
+    pub encoding: Encoding,
+    /// Whether nothing was lost: no piece of the input is malformed, and the output, decoded
+    /// without mark handling, is the input's text. It can be false where the log is empty: some
+    /// encodings write a character as the bytes of another.
+    pub faithful: bool,
+}
+
+/// What ended a run before its time.
+#[derive(Clone, Copy, PartialEq, Eq, Debug, Error)]
+pub enum Fault {
+    /// A call of the reader failed.
+    #[error("read fault")]
+    Read,
+    /// A call of the writer failed.
+    #[error("write fault")]
+    Write,
+    /// A call of the log failed.
+    #[error("log fault")]
+    Log,
+    /// The input has more bytes than the job's limit.
+    #[error("input too long")]
+    TooLong,
 }

@@ -1,29 +1,35 @@
-//! Laws of what a run writes. The functions do nothing: each contract is a law over the definitions.
+//! Laws of what a run writes, of what its contract tells and of how soon input is converted. The
+//! functions do nothing: each contract is a law.
 
-ghost use Rattle.std.specs.Prelude.{◌≡◌, ◌↔◌, ◌<◌, ◌≤◌, ◌+◌, ◌*◌, ◌++◌, ℕ, Bool, IsTrue, IsFalse, List, [], length, map, Some, encode_utf8_all};
-ghost use Rattle.std.specs.List.{concat};
-ghost use Rattle.std.specs.Str.{chars, IsUtf8};
+ghost use Rattle.std.specs.Prelude.{◌≡◌, ◌↔◌, ◌<◌, ◌≤◌, ◌+◌, ◌*◌, ◌++◌, ℕ, ◌⊎◌, Bool, Err, IsFalse, IsOk, IsTrue, List, Result, Some, [], encode_utf8_all, length, map};
 ghost use Rattle.std.specs.Io.KnownBytes.{Appends};
+ghost use Rattle.std.specs.List.{concat};
+ghost use Rattle.std.specs.Str.{IsUtf8, chars};
 ghost use Rattle.encoding_mem.specs.Agreement.{ReadsBackOrBreaks};
+ghost use Rattle.encoding_mem.specs.Coding.{AllMapped, lost_count, output};
+ghost use Rattle.encoding_mem.specs.Decoding.{IsDecided};
+ghost use Rattle.encoding_mem.specs.Piece.{ArePieces, AreWellFormed, Piece, malformed_count, piece_len, sizes};
 ghost use Rattle.encoding_mem.specs.ReadBack.{ReadsAs};
 ghost use Rattle.encoding_mem.specs.Steps.{IsBroken};
 ghost use Rattle.encoding_mem.specs.declared.reference.Reference.TheVariants.{Decimal};
-ghost use Rattle.encoding_mem.specs.Piece.{AreWellFormed, ArePieces, malformed_count, piece_len, sizes};
-ghost use Rattle.encoding_mem.specs.Coding.{AllMapped, lost_count, output};
 ghost use Rattle.encoding_front.specs.Encodings.{IsUtf8Encoding, KeepsCharacters, coding_of, output_encoding_of};
 ghost use Rattle.encoding_front.specs.Marks.{marked_pieces, marked_text};
 ghost use Rattle.encoding_front.specs.declared.mark.Mark.{Mark};
+ghost use Rattle.recode.specs.Failures.{Failures};
 ghost use Rattle.recode.specs.Job.{Faithful, IsValidJob, input_pieces, input_text, log_of, output_of, output_pieces, target_of, trace};
-ghost use Rattle.recode.specs.Streams.{Streams, Written};
-ghost use Rattle.recode.specs.TaggedByte.{lines, tagged, outputs};
-ghost use Rattle.recode.specs.WrittenItems.{bad_lines, lost_lines};
+ghost use Rattle.recode.specs.Latency.{StandsAt};
 ghost use Rattle.recode.specs.ReadBack.{back, in_utf8};
+ghost use Rattle.recode.specs.Runs.{AgreeButForCalls, IsWholeOutput, RunReturns, WroteTheSame};
+ghost use Rattle.recode.specs.Session.{Completes, Fails, IsConverted, IsNewSession, IsReport, View};
 ghost use Rattle.recode.specs.Slices.{slices};
-ghost use Rattle.recode.specs.Session.{Completes, Fails, IsConverted};
-ghost use Rattle.recode.specs.Step.{WrotePrefix};
-ghost use Rattle.recode.specs.declared.fault.Fault.{Fault};
+ghost use Rattle.recode.specs.State.{State};
+ghost use Rattle.recode.specs.Step.{IsNearlyDecided, StepsOn, WrotePrefix};
+ghost use Rattle.recode.specs.Streams.{Streams, Written, known};
+ghost use Rattle.recode.specs.TaggedByte.{IsPrefix, lines, outputs, tagged};
+ghost use Rattle.recode.specs.WrittenItems.{bad_lines, lost_lines};
+ghost use Rattle.recode.specs.declared.job.Fault.{Fault};
 ghost use Rattle.recode.specs.declared.job.Job.{Job};
-ghost use Rattle.recode.specs.declared.report.Report.{Report};
+ghost use Rattle.recode.specs.declared.job.Report.{Report};
 
 /// The trace of an input is its output and its log: their bytes, and how many lines of each kind.
 pub fn trace_of_input()
@@ -146,4 +152,74 @@ pub fn whole_texts_are_the_same()
         → IsTrue malformed ↔ (0 < malformed_count (marked_pieces j.tables.now j.mark j.from x))
         → IsTrue lost ↔ (0 < lost_count (coding_of j.tables.now j.to) (chars decoded))
         → (log_of j x ≡ []) ↔ (IsFalse malformed × IsFalse lost) }
+{}
+
+/// Two runs on one job and one input that came to their end wrote the same bytes to output and log, in the same
+/// order, and their reports differ in `calls` alone: the cuts of the reader, the sizes of the buffers and the kind of
+/// the pivot change nothing. `known` says it of readers that tell their bytes, `bytes` of writers that do.
+pub fn runs_agree()
+    ensures written { (j : Job) (x : List ℕ) (w w' v v' : Written) (p q : Report)
+        → IsConverted w w' j x p → IsConverted v v' j x q → WroteTheSame w w' v v' }
+    ensures report { (j : Job) (x : List ℕ) (w w' v v' : Written) (p q : Report)
+        → IsConverted w w' j x p → IsConverted v v' j x q → AgreeButForCalls p q }
+    ensures known { (j : Job) (x : List ℕ) (s s' t t' : Streams) (p q : Report)
+        → s.input ≡ Some x → t.input ≡ Some x → Completes s s' j p → Completes t t' j q
+        → WroteTheSame s.written s'.written t.written t'.written × AgreeButForCalls p q }
+    ensures bytes { (j : Job) (x w w' v' l l' m' : List ℕ) (p q : Report)
+        → IsConverted (known w l) (known w' l') j x p → IsConverted (known w l) (known v' m') j x q
+        → (w' ≡ v') × (l' ≡ m') }
+{}
+
+/// Where no call of a device fails, a run returns `Ok` exactly where the input is within the limit,
+/// and else `TooLong`. The reader tells its bytes; where it does not, the result is still one of
+/// the two.
+pub fn answers_without_faults()
+    ensures ok { (j : Job) (x : List ℕ) (s s' : Streams) (n : Failures)
+        (answer : Result Report Fault)
+        → s.input ≡ Some x → RunReturns s s' n n j answer → IsOk answer ↔ (length x ≤ j.limit) }
+    ensures too_long { (j : Job) (x : List ℕ) (s s' : Streams) (n : Failures)
+        (answer : Result Report Fault)
+        → s.input ≡ Some x → RunReturns s s' n n j answer
+        → (answer ≡ Err Fault.TooLong) ↔ (j.limit < length x) }
+    ensures either { (j : Job) (s s' : Streams) (n : Failures) (answer : Result Report Fault)
+        → RunReturns s s' n n j answer → IsOk answer ⊎ (answer ≡ Err Fault.TooLong) }
+{}
+
+/// A report that tells a lost character does not say that nothing was lost.
+pub fn lost_is_told()
+    ensures { (j : Job) (x : List ℕ) (p : Report) → IsValidJob j → IsReport j x p → 0 < p.lost
+        → ¬ (IsTrue p.faithful) }
+{}
+
+/// Where a run says that nothing was lost, a run that recodes its output to UTF-8, with marks kept,
+/// writes what one writes that recodes its input to UTF-8.
+pub fn faithful_output_reads_back()
+    ensures { (j : Job) (x bytes again direct : List ℕ) (w w' v v' u u' : Written) (p q r : Report)
+        → IsTrue p.faithful → IsWholeOutput w w' bytes → IsConverted w w' j x p
+        → IsWholeOutput v v' again → IsConverted v v' (back j) bytes q
+        → IsWholeOutput u u' direct → IsConverted u u' (in_utf8 j) x r → again ≡ direct }
+{}
+
+/// A new session has converted nothing. One that steps on has converted the pieces that the step took too.
+pub fn steps_add_up()
+    ensures first { (t : Streams) (j : Job) (v : View) → IsNewSession v j
+        → StandsAt t t j v.state [] [] }
+    ensures next { (t t1 t2 : Streams) (j : Job) (limit : ℕ) (s s1 : State) (x : List ℕ)
+        (ps : List Piece)
+        → StandsAt t t1 j s x ps → (p : StepsOn t1 t2 limit s s1)
+        → StandsAt t t2 j s1 (x ++ p.chunk) (ps ++ p.advances.taken) }
+{}
+
+/// Where a conversion stands after a step, it has converted the longest list of pieces that the input so far
+/// decides, and each piece that ends three or more bytes before the end of what was read, however the input
+/// goes on.
+pub fn decided_pieces_are_converted()
+    ensures decided { (t t1 : Streams) (j : Job) (s : State) (x : List ℕ) (ps : List Piece)
+        → StandsAt t t1 j s x ps → IsDecided (input_pieces j) x ps }
+    ensures longest { (t t1 : Streams) (j : Job) (s : State) (x : List ℕ) (ps qs : List Piece)
+        → StandsAt t t1 j s x ps → IsNearlyDecided s.decoder → IsDecided (input_pieces j) x qs
+        → IsPrefix qs ps }
+    ensures soon { (t t1 : Streams) (j : Job) (s : State) (x y : List ℕ) (ps qs more : List Piece)
+        → StandsAt t t1 j s x ps → IsNearlyDecided s.decoder → input_pieces j (x ++ y) ≡ qs ++ more
+        → sizes qs + 3 ≤ length x → IsPrefix qs ps }
 {}

@@ -6,27 +6,32 @@ ghost use Rattle.recode.specs.Buffers.{AreEnough};
 ghost use Rattle.recode.specs.TraceToWrite.{AreSound};
 ghost use Rattle.recode.specs.EngineState.{engine_state};
 ghost use Rattle.recode.specs.Session.{View, IsOver, IsNewSession, IsStepped, Tells, Completes, Fails};
-ghost use Rattle.recode.specs.declared.phase.Phase.TheVariants.{Open};
+ghost use Rattle.recode.specs.declared.session.Phase.TheVariants.{Open};
 ghost use Rattle.recode.specs.Step.{Finishes, Stops, StepsOn};
 ghost use Rattle.recode.specs.Failures.{CountsFault, failures_in};
 ghost use Rattle.recode.specs.Streams.{streams_in};
 ghost use Rattle.recode.specs.Verdict.{CanTell};
 ghost use Rattle.recode.specs.VerdictView.{verdict_view};
 
-use crate::buffers::{Buffers, Pivot};
-use crate::counts::Counts;
-use crate::encode::Target;
 use crate::engine::Engine;
-use crate::fault::Fault;
-use crate::job::Job;
-use crate::phase::Phase;
-use crate::progress::Progress;
-use crate::report::Report;
+use crate::job::{Buffers, Fault, Job, Pivot, Progress, Report};
+use crate::target::{Counts, Target};
 use crate::verdict::Verdict;
 use encoding_front::{Decoder, Mark, StreamDecoder, VariantEncoder};
 use encoding_mem::RawEncoder;
 use recode_log::counted::Counted;
 use std::io::{Read, Write};
+
+// How far a session is.
+#[derive(Clone, Copy, PartialEq, Eq, Debug)]
+enum Phase {
+    // More may be read.
+    Open,
+    // The end was read, and all is written.
+    Done,
+    // A fault ended it.
+    Stopped,
+}
 
 /// What a value is to its callers.
 trait Viewed {

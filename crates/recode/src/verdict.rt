@@ -1,9 +1,8 @@
 //! Whether what is written reads back as the text that it is written for: it is read back beside
 //! that text, as it is written, and nothing is kept.
 
-use crate::buffers::Pivot;
-use crate::codec_calls::decode_to_pivot;
-use crate::pivot_text::{PivotText, text_in};
+use crate::codec_calls::{PivotText, decode_to_pivot, text_in};
+use crate::job::Pivot;
 use encoding_front::StreamDecoder;
 use encoding_mem::DecoderResult;
 

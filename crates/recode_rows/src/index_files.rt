@@ -1,4 +1,4 @@
-use recode::index_source::{SourceFault, read_index_file};
+use recode::{SourceFault, read_index_file};
 use std::test::Fail;
 
 #[test]

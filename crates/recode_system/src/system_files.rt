@@ -1,4 +1,4 @@
-use recode::index_source::{IndexSource, SourceFault, read_index_file};
+use recode::{IndexSource, SourceFault, read_index_file};
 use std::alloc::Global;
 use std::fs;
 use std::io::ErrorKind;

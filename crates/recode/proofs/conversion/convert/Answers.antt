@@ -1,6 +1,6 @@
 use Rattle.std.proofs.Common.{arith, refl}
 use Rattle.recode.proofs.StepLemmas.{run_broke, run_counted, flush_broke, flush_cause}
-use Rattle.recode.specs.declared.report.Report.{Report}
+use Rattle.recode.specs.declared.job.Report.{Report}
 use Rattle.recode.proofs.conversion.convert.Goals as goal
 
 pub returns-in-Err-flushed-clause-broken : goal.returns-in-Err-flushed-clause-broken

@@ -3,7 +3,7 @@ use Rattle.recode_log.specs.Counted.{failures_of}
 use Rattle.recode.specs.Buffers.{AreEnough}
 use Rattle.recode.specs.SessionView.{view_of}
 use Rattle.recode.specs.Streams.{streams_in}
-use Rattle.recode.specs.declared.phase.Phase.TheVariants.{Open}
+use Rattle.recode.specs.declared.session.Phase.TheVariants.{Open}
 use Rattle.recode.proofs.StepLemmas.{HasRun}
 use Rattle.recode.proofs.session.run.Given as goal
 

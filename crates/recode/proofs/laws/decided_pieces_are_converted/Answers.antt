@@ -1,0 +1,11 @@
+use Rattle.recode.proofs.LatencyLemmas.{decided, longest, soon}
+use Rattle.recode.proofs.laws.decided_pieces_are_converted.Goals as goal
+
+pub returns-clause-decided : goal.returns-clause-decided
+returns-clause-decided c = decided
+
+pub returns-clause-longest : goal.returns-clause-longest
+returns-clause-longest c = longest
+
+pub returns-clause-soon : goal.returns-clause-soon
+returns-clause-soon c = soon

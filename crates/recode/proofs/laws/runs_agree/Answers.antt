@@ -1,0 +1,5 @@
+use Rattle.recode.proofs.TwoRunLemmas.{same_written, same_reports, same_runs, same_bytes}
+use Rattle.recode.proofs.laws.runs_agree.Goals as goal
+
+pub returns : goal.returns
+returns c = record { written = same_written; report = same_reports; known = same_runs; bytes = same_bytes }

@@ -1,5 +1,0 @@
-use Rattle.recode.proofs.OutputLemmas.{runs_read_back}
-use Rattle.recode.proofs.run_laws.faithful_output_reads_back.Goals as goal
-
-pub returns : goal.returns
-returns c = runs_read_back

@@ -1,5 +1,0 @@
-use Rattle.recode.proofs.OutputLemmas.{lost_is_told}
-use Rattle.recode.proofs.run_laws.lost_is_told.Goals as goal
-
-pub returns : goal.returns
-returns c = lost_is_told

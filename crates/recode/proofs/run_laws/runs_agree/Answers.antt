@@ -1,5 +1,0 @@
-use Rattle.recode.proofs.TwoRunLemmas.{same_written, same_reports, same_runs, same_bytes}
-use Rattle.recode.proofs.run_laws.runs_agree.Goals as goal
-
-pub returns : goal.returns
-returns c = record { written = same_written; report = same_reports; known = same_runs; bytes = same_bytes }

@@ -1,0 +1,46 @@
+use Rattle.std.proofs.Common.{◌+◌, arith, refl, ap, length, false, [], ◌∷◌}
+use Rattle.encoding_mem.specs.declared.reference.Reference.TheVariants.{Decimal}
+use Rattle.encoding_mem.specs.Items.{open_items, whole_items}
+use lib.Utf8.{encode}
+use Rattle.std.specs.Str.{chars}
+use Rattle.recode.proofs.TraceLemmas.{under_line, writes_malformed, WritesItems-trans, WritesItems-under, WritesItems-of, WritesPrefix-of, on_err}
+use Rattle.recode.proofs.DecoderCallLemmas.{replacement_text, open_replacement}
+use Rattle.recode.specs.VerdictView.{verdict_view}
+use Rattle.recode.proofs.VerdictLemmas.{lost_tells}
+use Rattle.recode.proofs.target.Target.log_malformed.Goals as goal
+
+pub returns-in_err-log_line-clause-err : goal.returns-in_err-log_line-clause-err
+returns-in_err-log_line-clause-err g c = on_err _ (under_line _ _ _ _ _ _ _ refl c.in_err-log_line.ensures.err.1)
+
+pub encode_text-requires-clause-index : goal.encode_text-requires-clause-index
+encode_text-requires-clause-index g c = omega (arith, ap length replacement_text, c.requires.index)
+
+pub returns-clause-pays : goal.returns-clause-pays
+returns-clause-pays g c = WritesItems-trans _ _ _ _ _ _ _ _ _
+    (writes_malformed _ _ _ _ (record c.args.self.now.counts { bad = c.args.self.now.counts.bad + 1 }) _ _ _ c.in_ok-log_line.ensures.ok.0 refl refl)
+    (WritesItems-of _ _ _ _ _ _ _ (open_replacement (g.E.RawEncoder.coding c.args.self.now.encoder) (g.E.RawEncoder.set c.args.self.now.encoder) c.args.self.now.counts.index) c.in_ok-encode_text.ensures.pays)
+
+pub returns-clause-index : goal.returns-clause-index
+returns-clause-index g c = omega (arith, ap length replacement_text, c.in_ok-encode_text.ensures.passed)
+
+pub returns-clause-bad : goal.returns-clause-bad
+returns-clause-bad g c = omega (arith, ap length replacement_text, c.in_ok-encode_text.ensures.passed, c.in_ok-encode_text.ensures.bad, c.requires.bad)
+
+pub returns-clause-state : goal.returns-clause-state
+returns-clause-state g c = rw replacement_text at (c.in_ok-encode_text.ensures.state refl)
+
+pub returns-in_err-encode_text-clause-err : goal.returns-in_err-encode_text-clause-err
+returns-in_err-encode_text-clause-err g c =
+    let e = g.E.RawEncoder.coding c.args.self.now.encoder in
+    let s = g.E.RawEncoder.set c.args.self.now.encoder in
+    let i = c.args.self.now.counts.index in
+    on_err _ (WritesItems-under _ _ _ c.args.self.now.counts (record c.args.self.now.counts { bad = c.args.self.now.counts.bad + 1 }) _ (open_items Decimal e s i (0xFFFD ∷ []))
+    (writes_malformed _ _ _ _ _ _ _ _ c.in_ok-log_line.ensures.ok.0 refl refl)
+    (WritesPrefix-of _ _ (whole_items Decimal e false s i (chars (239 ∷ 191 ∷ 189 ∷ []))) _ (open_replacement e s i) c.in_err-encode_text.ensures.err))
+
+pub encode_text-requires-clause-text : goal.encode_text-requires-clause-text
+unfolding encode
+encode_text-requires-clause-text g c = record { scalars = rw replacement_text refl; whole = rw replacement_text refl }
+
+pub encode_text-requires-clause-tells : goal.encode_text-requires-clause-tells
+encode_text-requires-clause-tells g c = lost_tells (g.E.RawEncoder.coding c.args.self.now.encoder) (verdict_view g.D.StreamDecoder.view c.args.self.now.verdict) (g.E.RawEncoder.set c.args.self.now.encoder) [] (g.E.RawEncoder.set c.args.self.now.encoder) _ c.requires.tells
