@@ -17,8 +17,8 @@ use std::io::{Read, Write};
 /// text.
 pub const FAITHFUL: u8 = 0;
 
-/// The status where all was converted, and something was lost. The log tells what has no bytes;
-/// what was written as another character has no line.
+/// The status where all was converted, and something was lost. The log tells what is malformed and
+/// what has no bytes; what was written as bytes that read back otherwise has no line.
 pub const NOT_FAITHFUL: u8 = 1;
 
 /// The status where a call of a device failed, or the input was too long.
@@ -82,11 +82,12 @@ fn tell<L: Write>(log: &mut Counted<L>, fault: Fault)
 
 /// Runs the job, flushes the writer, then the log, and returns the status.
 ///
-/// - 0 (`FAITHFUL`): all was converted and no call failed, output and log are whole, and nothing was
-///   lost: no piece of the input is malformed, and the output reads back as its text.
+/// - 0 (`FAITHFUL`): all was converted and no call failed, output and log are whole, and nothing
+///   was lost: no piece of the input is malformed, and the output reads back as the input's text.
 /// - 1 (`NOT_FAITHFUL`): the same, but something was lost. The log has a line for each malformed
-///   sequence and each character without bytes; it can be empty, where a character was written that
-///   reads back as another (`Encoding::keeps_characters` tells of which targets).
+///   sequence and each character without bytes; it can be empty, where a character was written as
+///   bytes that do not read back as it. None is where `encoding_front::Encoding::keeps_characters`
+///   holds of the target.
 /// - 4 (`FAULT`): a call of a device failed, or the input has more bytes than the job's limit.
 ///   Output and log have a prefix of what is right for the bytes read, however they go on. Behind
 ///   it the log has the message of the first fault, as `recode: write fault` and a line feed; what

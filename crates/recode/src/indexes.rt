@@ -12,8 +12,8 @@ use std::alloc::{AllocError, Global};
 use std::io::{ErrorKind, Read};
 use thiserror::Error;
 
-/// The most bytes that an index file may have: 2^24. The longest of the standard has about a twentieth
-/// of them.
+/// The most bytes that an index file may have: 2^24. The longest of the standard has about a
+/// twentieth of them.
 pub const GREATEST_INDEX_FILE: usize = 16777216;
 
 /// Why a source does not give an index file.
@@ -27,13 +27,13 @@ pub enum SourceFault {
 
 /// Where index files come from, as the folders of a file system.
 pub trait IndexSource {
-    /// The bytes of the file of this name in the folder `dir`, all of them. `Missing` if there is no
-    /// such file that can be read, `Memory` if memory was refused.
+    /// The bytes of the file of this name in the folder `dir`, all of them. `Missing` if there is
+    /// no such file that can be read, `Memory` if memory was refused.
     fn read_file(&mut self, alloc: Global, dir: &str, file: &str) -> Result<Vec<u8>, SourceFault>;
 }
 
-/// All bytes that the reader gives. The reader of an index file that is too long is read one byte past
-/// `GREATEST_INDEX_FILE` and no further.
+/// All bytes that the reader gives. The reader of an index file that is too long is read one byte
+/// past `GREATEST_INDEX_FILE` and no further.
 pub fn read_index_file<R: Read + Drop>(alloc: Global, reader: R) -> Result<Vec<u8>, SourceFault>
     ensures whole { IfOk result (λ bytes. IfSome (R.remaining reader) (λ all. bytes.items ≡ all)) }
     ensures size { IfOk result (λ bytes. vec_len bytes ≤ 2 ^ 24) }
@@ -135,8 +135,8 @@ fn load_index<S: IndexSource>(
     }
 }
 
-// Puts the indexes that the encoding needs into the tables, each once, in the order of `needs`, up to
-// the first that is missing or faulty.
+// Puts the indexes that the encoding needs into the tables, each once, in the order of `needs`, up
+// to the first that is missing or faulty.
 pub(crate) fn load_indexes<S: IndexSource>(
     alloc: Global,
     source: &mut S,

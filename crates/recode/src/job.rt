@@ -26,8 +26,8 @@ impl<'t> Job<'t> {
     ghost use Rattle.std.specs.Prelude.{IsTrue, ◌↔◌};
     ghost use Rattle.recode.specs.Job.{IsValidJob};
 
-    /// Whether the job can be run: the indexes that the two encodings need are there, and its limit is at
-    /// most `GREATEST_LIMIT`.
+    /// Whether the job can be run: the indexes that the two encodings need are there, and its limit
+    /// is at most `GREATEST_LIMIT`.
     pub fn is_valid(&self) -> bool
         ensures { IsTrue result ↔ IsValidJob self.now }
     {
@@ -44,7 +44,8 @@ pub enum Pivot<'b> {
     Utf16(&'b mut [u16]),
 }
 
-/// What a session is lent. Their sizes change nothing but speed.
+/// What a session is lent. Their sizes change nothing but speed and the count of calls
+/// (`Report::calls`).
 #[derive(Drop)]
 pub struct Buffers<'b> {
     /// What is read from the input, in bytes.
@@ -86,8 +87,8 @@ impl<'b> Buffers<'b> {
     ghost use Rattle.std.specs.Prelude.{IsTrue, ◌↔◌};
     ghost use Rattle.recode.specs.Buffers.{AreEnough};
 
-    /// Whether a step can be lent these: input of at least 1 byte, pivot and check of one kind, with at least
-    /// 4 bytes or 2 units each, output of at least 4 bytes.
+    /// Whether a step can be lent these: input of at least 1 byte, pivot and check of one kind,
+    /// with at least 4 bytes or 2 units each, output of at least 4 bytes.
     pub fn is_enough(&self) -> bool
         ensures { IsTrue result ↔ AreEnough self.now }
     {
@@ -117,13 +118,16 @@ pub struct Report {
     pub bad: u64,
     /// The lines of the log that tell a lost character.
     pub lost: u64,
-    /// The calls of codecs.
+    /// The calls of codecs, those that read the output back among them. It stops at the greatest
+    /// number.
     pub calls: u64,
-    /// The encoding of the input, as its byte order mark says where one of another encoding is taken.
+    /// The encoding of the input, as its byte order mark says where one of another encoding is
+    /// taken.
     pub encoding: Encoding,
-    /// Whether nothing was lost: no piece of the input is malformed, and the output, decoded
-    /// without mark handling, is the input's text. It can be false where the log is empty: some
-    /// encodings write a character as the bytes of another.
+    /// Whether nothing was lost: no piece of the input is malformed, and the output, decoded in its
+    /// encoding without mark handling, has no malformed sequence and is the input's text. It can be
+    /// false where the log is empty: some encodings write a character as bytes that do not read
+    /// back as it.
     pub faithful: bool,
 }
 

@@ -49,7 +49,8 @@ pub fn utf8_text_is_kept()
         → IsUtf8Encoding j.to → IsUtf8 x → log_of j x ≡ [] }
 {}
 
-/// Where what is written has no folds, nothing was lost exactly where the log is empty.
+/// Where `Encoding::keeps_characters` holds of the target, nothing was lost exactly where the log
+/// is empty.
 pub fn faithful_where_log_is_empty()
     ensures { (j : Job) (x : List ℕ) → IsValidJob j → KeepsCharacters j.to
         → Faithful j x ↔ (log_of j x ≡ []) }
@@ -80,8 +81,8 @@ pub fn known_input()
         → s.input ≡ Some x → Fails s s' j Fault.TooLong → j.limit < length x }
 {}
 
-/// The pieces of an input, the mark that is taken among them, stand for some bytes each, and for no more characters
-/// than bytes. Joined, they are the input.
+/// The pieces of an input, the mark that is taken among them, stand for some bytes each, and for no
+/// more characters than bytes. Joined, they are the input.
 pub fn pieces_are_the_input()
     ensures pieces { (j : Job) (x : List ℕ) → IsValidJob j → ArePieces (input_pieces j x) }
     ensures sizes { (j : Job) (x : List ℕ) → IsValidJob j → sizes (input_pieces j x) ≡ length x }
@@ -91,16 +92,17 @@ pub fn pieces_are_the_input()
         → concat (slices (input_pieces j x) x) ≡ x }
 {}
 
-/// The text has at most as many characters as the input has bytes. The output has at most 13 bytes for each byte of
-/// the input, as many as an escape of ISO-2022-JP and the longest reference have, and three more.
+/// The text has at most as many characters as the input has bytes. The output has at most 13 bytes
+/// for each byte of the input, as many as an escape of ISO-2022-JP and the longest reference have,
+/// and three more.
 pub fn lengths_are_bounded()
     ensures text { (j : Job) (x : List ℕ) → IsValidJob j → length (input_text j x) ≤ length x }
     ensures output { (j : Job) (x : List ℕ) → IsValidJob j
         → length (output_of j x) ≤ 13 * length x + 3 }
 {}
 
-/// Where nothing was lost, the output, recoded from its encoding to UTF-8 with marks kept, gives what the input gives
-/// that is recoded to UTF-8; and neither loses anything.
+/// Where nothing was lost, the output, recoded from its encoding to UTF-8 with marks kept, gives
+/// what the input gives that is recoded to UTF-8; and neither loses anything.
 pub fn output_reads_back()
     ensures jobs { (j : Job) → IsValidJob j → IsValidJob (back j) × IsValidJob (in_utf8 j) }
     ensures output { (j : Job) (x : List ℕ) → Faithful j x
@@ -109,10 +111,12 @@ pub fn output_reads_back()
         → (log_of (back j) (output_of j x) ≡ []) × (log_of (in_utf8 j) x ≡ []) }
 {}
 
-/// What a job writes, read back in its output encoding without mark handling. What was written for
-/// any text so far agrees with it or is broken, also with an escape behind it; and the whole output
-/// reads as the text, or what stands before its last escape is broken. What is broken stays so,
-/// whatever follows, and never reads as the text.
+/// What a job writes, read back in its output encoding without mark handling. Bytes agree with a
+/// text where the pieces that they decide are it, and at most one escape is left; they are broken
+/// where such a piece is malformed, or another character than the text has there. What was written
+/// for any text so far agrees with it or is broken, also with an escape behind it; and the whole
+/// output reads as the text, or what stands before its last escape is broken. What is broken stays
+/// so, whatever follows, and never reads as the text.
 pub fn read_back()
     ensures texts { (j : Job) → IsValidJob j → ReadsBackOrBreaks (output_pieces j) (target_of j) }
     ensures stays { (j : Job) (bytes text more following : List ℕ)
@@ -136,8 +140,9 @@ pub fn lost_is_unfaithful()
         → 0 < lost_count (target_of j) (input_text j x) → ¬ (Faithful j x) }
 {}
 
-/// What is decoded at once and then encoded at once is what a run writes that ends well, with the same handling of
-/// marks: `decode` and `encode` give the output. Its log is empty exactly where neither told a loss.
+/// What is decoded at once and then encoded at once is what a run writes that ends well, with the
+/// same handling of marks: `decode` and `encode` give the output. Its log is empty exactly where
+/// neither told a loss.
 pub fn whole_texts_are_the_same()
     ensures bytes { (j : Job) (x decoded bytes : List ℕ) → IsValidJob j
         → decoded ≡ encode_utf8_all (marked_text j.tables.now j.mark j.from x)
@@ -154,9 +159,10 @@ pub fn whole_texts_are_the_same()
         → (log_of j x ≡ []) ↔ (IsFalse malformed × IsFalse lost) }
 {}
 
-/// Two runs on one job and one input that came to their end wrote the same bytes to output and log, in the same
-/// order, and their reports differ in `calls` alone: the cuts of the reader, the sizes of the buffers and the kind of
-/// the pivot change nothing. `known` says it of readers that tell their bytes, `bytes` of writers that do.
+/// Two runs on one job and one input that came to their end wrote the same bytes to output and log,
+/// in the same order, and their reports differ in `calls` alone: the cuts of the reader, the sizes
+/// of the buffers and the kind of the pivot change nothing. `known` says it of readers that tell
+/// their bytes, `bytes` of writers that do.
 pub fn runs_agree()
     ensures written { (j : Job) (x : List ℕ) (w w' v v' : Written) (p q : Report)
         → IsConverted w w' j x p → IsConverted v v' j x q → WroteTheSame w w' v v' }
@@ -200,7 +206,8 @@ pub fn faithful_output_reads_back()
         → IsWholeOutput u u' direct → IsConverted u u' (in_utf8 j) x r → again ≡ direct }
 {}
 
-/// A new session has converted nothing. One that steps on has converted the pieces that the step took too.
+/// A new session has converted nothing. One that steps on has converted the pieces that the step
+/// took too.
 pub fn steps_add_up()
     ensures first { (t : Streams) (j : Job) (v : View) → IsNewSession v j
         → StandsAt t t j v.state [] [] }
@@ -210,9 +217,9 @@ pub fn steps_add_up()
         → StandsAt t t2 j s1 (x ++ p.chunk) (ps ++ p.advances.taken) }
 {}
 
-/// Where a conversion stands after a step, it has converted the longest list of pieces that the input so far
-/// decides, and each piece that ends three or more bytes before the end of what was read, however the input
-/// goes on.
+/// Where a conversion stands after a step, it has converted the longest list of pieces that the
+/// input so far decides, and each piece that ends three or more bytes before the end of what was
+/// read, however the input goes on.
 pub fn decided_pieces_are_converted()
     ensures decided { (t t1 : Streams) (j : Job) (s : State) (x : List ℕ) (ps : List Piece)
         → StandsAt t t1 j s x ps → IsDecided (input_pieces j) x ps }

@@ -1,4 +1,5 @@
-//! Recodes a stream from one encoding to another, and knows exactly what was lost.
+//! Recodes a stream from one encoding to another, logs what has no characters or no bytes, and
+//! knows whether anything was lost.
 #![tactic(auto)]
 
 mod codec_calls;

@@ -18,7 +18,8 @@ use std::io::{Read, Write};
 /// The status where the words are refused, or a label in them is unknown.
 pub const REFUSED: u8 = 2;
 
-/// The status where an index file is missing or faulty, or memory was refused before anything was read.
+/// The status where an index file is missing or faulty, or memory was refused before anything was
+/// read.
 pub const NOT_STARTED: u8 = 3;
 
 // Writes a text; where that fails, the rest of it is dropped.
@@ -223,14 +224,15 @@ fn run_words<S: IndexSource, R: Read, W: Write, L: Write>(
 /// writer, with status 0.
 ///
 /// A run looks up the label of `--from`, then that of `--to`, reads the index files that the source
-/// and then the target's output encoding need, each once, and converts with buffers of 4096 elements.
-/// With `--pivot utf16` the text in between is UTF-16, else UTF-8: what is written is the same.
+/// and then the target's output encoding need, each once, and converts with buffers of 4096
+/// elements. With `--pivot utf16` the text in between is UTF-16, else UTF-8: what is written is the
+/// same.
 ///
 /// The statuses 0, 1 and 4 are those of `convert`. Otherwise a message says why nothing was read:
 /// - 2 (`REFUSED`): that of `clap`, or `recode: unknown label WORD`;
 /// - 3 (`NOT_STARTED`): `recode: FILE: missing`, `recode: FILE: line N: KIND` with a kind of
-///   `IndexFaultKind`, `recode: FILE: table: KIND` with one of `TableFault`, and `recode: out of memory`
-///   wherever memory was refused.
+///   `IndexFaultKind`, `recode: FILE: table: KIND` with one of `TableFault`, and
+///   `recode: out of memory` wherever memory was refused.
 ///
 /// Messages go to the log. What can't be written of a message or a text is dropped, and neither is
 /// flushed.
@@ -262,8 +264,8 @@ pub fn program<S: IndexSource, R: Read, W: Write, L: Write>(
     }
 }
 
-// The forty encodings, in the order of `Encoding`, a line each: the name, and behind it the labels, as
-// the Encoding Standard has them (section 4.2, "Names and labels").
+// The forty encodings, in the order of `Encoding`, a line each: the name, and behind it the labels,
+// as the Encoding Standard has them (section 4.2, "Names and labels").
 const LISTING: &str = "\
 Big5: big5 big5-hkscs cn-big5 csbig5 x-x-big5
 EUC-JP: cseucpkdfmtjapanese euc-jp x-euc-jp

@@ -70,7 +70,7 @@ impl<'t> Viewed for Session<'t> {
 impl<'t> Session<'t> {
     ghost use Rattle.recode.specs.SessionView.{view_of};
 
-    /// A session that has read nothing.
+    /// A session that has read nothing. Condition: the job is valid (`Job::is_valid`).
     pub fn new(job: Job<'t>) -> Self
         requires { IsValidJob job }
         ensures { IsNewSession (view_of result) job.entry }
@@ -109,7 +109,7 @@ impl<'t> Session<'t> {
         }
     }
 
-    /// What the run tells, once all was read and written.
+    /// What the run tells, once all was read and written; `None` before that, and after a fault.
     pub fn report(&self) -> Option<Report>
         ensures done { IsSome result ↔ ((view_of self.now).phase ≡ Phase.Done) }
         ensures tells { IfSome result (Tells (view_of self.now)) }

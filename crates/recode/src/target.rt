@@ -1,5 +1,5 @@
-//! The part of an engine that writes text: what its encoder writes is delivered, and what is lost is
-//! logged.
+//! The part of an engine that writes text: what its encoder writes is delivered and read back, and
+//! what has no bytes is logged.
 
 ghost use Rattle.std.specs.Prelude.{◌≡◌, ℕ, ◌+◌, ◌-◌, ◌^◌, ◌<◌, ◌≤◌, length, take, OnOk, OnErr, IfErr};
 ghost use Rattle.std.specs.Io.KnownBytes.{Appends};

@@ -17,8 +17,8 @@ const LETTER: Held = Held {
     log: "",
 };
 
-// Reads byte by byte with the least buffers: a step for each byte, and one that meets the end and writes
-// no more.
+// Reads byte by byte with the least buffers: a step for each byte, and one that meets the end and
+// writes no more.
 fn check(
     rt: &(impl Abort + AllocGlobal),
     from: Encoding,
@@ -41,8 +41,8 @@ fn check(
     Ok(())
 }
 
-// After `81 30 81` a fourth byte of a digit would make one character of all four. `41` makes one of the
-// last two.
+// After `81 30 81` a fourth byte of a digit would make one character of all four. `41` makes one of
+// the last two.
 #[test]
 fn a_range_of_four_bytes_is_undecided_before_the_last(rt: HostRuntime) -> Result<(), AllocError> {
     let last = Held {

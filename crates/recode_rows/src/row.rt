@@ -6,7 +6,8 @@ use recode::{Mark, Report};
 use std::alloc::AllocError;
 use std::process::Abort;
 
-/// An input with its encoding and the one that is asked for, and what must come of it, however it is read.
+/// An input with its encoding and the one that is asked for, and what must come of it, however it
+/// is read.
 #[derive(Clone, Copy)]
 pub struct Row {
     pub from: Encoding,

@@ -35,8 +35,8 @@ fn slow(fails_at: usize) -> Manners {
     }
 }
 
-// Converts, and asserts that both were flushed once, the writer first, with all of their bytes but the
-// message.
+// Converts, and asserts that both were flushed once, the writer first, with all of their bytes but
+// the message.
 fn check(rt: &(impl Abort + AllocGlobal), trial: &Trial, want: Want) -> Result<(), AllocError> {
     let outcome = status(rt, trial)?;
     outcome.check(rt, trial, want.output, want.log.as_bytes(), want.failures);

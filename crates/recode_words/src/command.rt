@@ -26,7 +26,7 @@ Byte order mark at the start of the input:
   remove  that of the encoding of --from is left out
   keep    it is text: U+FEFF
 
-Log, on standard error, a line for each loss:
+Log, on standard error, a line for each malformed sequence and each character without bytes:
   bad OFFSET LENGTH  these bytes of the input stand for no character; the output has U+FFFD in
                      their place
   lost INDEX SCALAR  the character with this index in the text, and with this number, has no bytes
