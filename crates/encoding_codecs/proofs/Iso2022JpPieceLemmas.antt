@@ -1,10 +1,10 @@
 -- What a look at the start of bytes shows of their first piece in ISO-2022-JP. Runs of ASCII in ISO-2022-JP, and
 -- the mode in which they are read.
-use Rattle.std.proofs.Common.{◌≡◌, ℕ, ◌+◌, ◌≤◌, ◌<◌, ◌==◌, ◌&&◌, ◌||◌, Bool, true, false, cond, IsTrue, List, [], ◌∷◌, ◌++◌, length, drop, refl, sym, ◌∙◌, ap, arith, lit≤, inl, inr, Option, Some, None, zero, suc, take, lit<, nat_le}
+use Rattle.std.proofs.Common.{◌≡◌, ◌≢◌, ℕ, ◌-◌, slice_index, ◌+◌, ◌≤◌, ◌<◌, ◌==◌, ◌&&◌, ◌||◌, Bool, true, false, cond, IsTrue, List, [], ◌∷◌, ◌++◌, length, drop, refl, sym, ◌∙◌, ap, arith, lit≤, inl, inr, Option, Some, None, zero, suc, take, lit<, nat_le}
 use Rattle.std.specs.Prelude.{is_some, not}
 use Rattle.std.specs.Option.{unwrap_or}
-use Rattle.std.proofs.lemmas.Bool.{eqb-true, and_parts, or_cases, or_parts}
-use Rattle.std.proofs.lemmas.List.{append-nil}
+use Rattle.std.proofs.lemmas.Bool.{eqb-true, ne_eqb, and_parts, or_cases, or_parts}
+use Rattle.std.proofs.lemmas.List.{append-nil, take_all}
 use Rattle.encoding_mem.specs.Piece.{Piece, well_formed, malformed, piece_len}
 use Rattle.encoding_mem.specs.DecoderRule.{TellsFirstPiece, IsModest}
 use Rattle.encoding_mem.specs.Pieces.{pieces_in}
@@ -254,6 +254,37 @@ agree jis0208 scalars m = λ i x. agrees jis0208 scalars m x i
 pub iso_2022_jp_first_piece : (jis0208 : List ℕ) → AreEntries jis0208 → (m : Mode) (x : List ℕ) (last : Bool) → 0 < length x
     → TellsFirstPiece (pieces_in_mode jis0208 m) (pieces_in_mode jis0208 (mode_after m x)) x last (decide_iso_2022_jp jis0208 m x last)
 iso_2022_jp_first_piece jis0208 scalars m x last h = rw (← agree jis0208 scalars m, ← agree jis0208 scalars (mode_after m x)) (first_piece_by_rule jis0208 scalars m x last h)
+
+-- ---- a character, whose first byte is not 1B
+
+not_open : (m : Mode) (b c : ℕ) (x : List ℕ) → (b == 0x1B) ≡ false → is_some (escape_at (b ∷ c ∷ x)) ≡ false → is_open m (b ∷ c ∷ x) ≡ false
+not_open Ascii b c [] e none = rw (e, none) refl
+not_open Roman b c [] e none = rw (e, none) refl
+not_open Katakana b c [] e none = rw (e, none) refl
+not_open Jis b c [] e none = rw (e, none) refl
+not_open Ascii b c (d ∷ x) e none = rw none refl
+not_open Roman b c (d ∷ x) e none = rw none refl
+not_open Katakana b c (d ∷ x) e none = rw none refl
+not_open Jis b c (d ∷ x) e none = rw none refl
+
+decides_by : (P Q : Piece) (escape last open_ : Bool) → escape ≡ false → open_ ≡ false → shown P ≡ cond (not last && open_) More (shown (cond escape Q P))
+decides_by P Q escape true open_ none e = rw none refl
+decides_by P Q escape false open_ none e = rw (none, e) refl
+
+decides_char : (jis0208 : List ℕ) (m : Mode) (b : ℕ) (x : List ℕ) (last : Bool) → (b == 0x1B) ≡ false → is_some (escape_at (b ∷ x)) ≡ false
+    → (not last && is_jis_lead m (b ∷ x)) ≡ false → shown (char_first_piece jis0208 m b x) ≡ decide_iso_2022_jp jis0208 m (b ∷ x) last
+decides_char jis0208 m b [] last e none goes = rw (e, goes) refl
+decides_char jis0208 m b (c ∷ x) last e none goes =
+    decides_by (char_first_piece jis0208 m b (c ∷ x)) _ (is_some (escape_at (b ∷ c ∷ x))) last (is_open m (b ∷ c ∷ x)) none (not_open m b c x e none)
+
+-- it is decided unless it wants its second byte
+pub char_decides : (jis0208 : List ℕ) (m : Mode) (x : List ℕ) (last : Bool) → 0 < length x → slice_index x 0 ≢ 0x1B
+    → (not last && is_jis_lead m x) ≡ false
+    → shown (char_first_piece jis0208 m (slice_index x 0) (take (length x - 1) (drop 1 x))) ≡ decide_iso_2022_jp jis0208 m x last
+char_decides jis0208 m [] last some e goes = absurd (omega (arith, some))
+char_decides jis0208 m (b ∷ x) last some e goes =
+    ap (λ y. shown (char_first_piece jis0208 m b y)) (take_all (length (b ∷ x) - 1) x (omega arith))
+    ∙ decides_char jis0208 m b x last (ne_eqb b 0x1B e) (ap is_some (no_escape_at b x e)) goes
 
 -- ---- room
 

@@ -63,16 +63,19 @@ impl<'a> DecoderRule for Iso2022JpRule<'a> {
 
     ghost steady = { λ _ _. refl };
 
+    #[inline(always)]
     fn first_piece(&self, bytes: &[u8], last: bool) -> FirstPiece {
         decide(&self.jis0208.flat, self.mode, bytes, last)
     }
 
+    #[inline(always)]
     fn pass(&mut self, bytes: &[u8]) {
         if let Some(mode) = escape_at(bytes) {
             self.mode = mode;
         }
     }
 
+    #[inline(always)]
     fn text_at<'b>(&self, bytes: &'b [u8]) -> &'b str {
         match self.mode {
             Mode::Ascii => plain_text(bytes),
@@ -94,6 +97,7 @@ fn plain_text(bytes: &[u8]) -> &str
 }
 
 // The mode that three bytes switch to, if they are an escape.
+#[inline(always)]
 fn escape_of(a: u8, b: u8, c: u8) -> Option<Mode>
     ensures { result ≡ escape_of a b c }
 {
@@ -107,6 +111,7 @@ fn escape_of(a: u8, b: u8, c: u8) -> Option<Mode>
 }
 
 // That of the whole escape at the start.
+#[inline(always)]
 fn escape_at(bytes: &[u8]) -> Option<Mode>
     ensures { result ≡ escape_at bytes.now }
 {
@@ -143,6 +148,7 @@ fn is_open(mode: Mode, bytes: &[u8]) -> bool
 }
 
 // Whether this is the first byte of two, alone.
+#[inline(always)]
 fn is_lead(mode: Mode, bytes: &[u8]) -> bool
     ensures { result ≡ is_jis_lead mode bytes.now }
 {
@@ -152,8 +158,25 @@ fn is_lead(mode: Mode, bytes: &[u8]) -> bool
     }
 }
 
-// What these bytes show of their first piece.
+// What these bytes show of their first piece. Most are characters, which are decided at once.
+#[inline(always)]
 fn decide(jis0208: &Flat<'_>, mode: Mode, bytes: &[u8], last: bool) -> FirstPiece
+    ensures { result ≡ decide_iso_2022_jp jis0208.now mode bytes.now last }
+{
+    match bytes {
+        [b, rest @ ..] if *b != 0x1B => {
+            if !last && is_lead(mode, bytes) {
+                FirstPiece::More
+            } else {
+                char_first_piece(jis0208, mode, *b, rest)
+            }
+        }
+        _ => decide_at_escape(jis0208, mode, bytes, last),
+    }
+}
+
+// The same where they may begin with an escape.
+fn decide_at_escape(jis0208: &Flat<'_>, mode: Mode, bytes: &[u8], last: bool) -> FirstPiece
     ensures { result ≡ decide_iso_2022_jp jis0208.now mode bytes.now last }
 {
     if !last && is_open(mode, bytes) {
@@ -191,6 +214,7 @@ fn escape_first_piece(rest: &[u8]) -> FirstPiece
 }
 
 // A character in a mode, by its first byte and the bytes behind it.
+#[inline(always)]
 fn char_first_piece(jis0208: &Flat<'_>, mode: Mode, b: u8, rest: &[u8]) -> FirstPiece
     ensures { result ≡ shown (char_first_piece jis0208.now mode b rest.now) }
 {
@@ -212,6 +236,7 @@ fn char_first_piece(jis0208: &Flat<'_>, mode: Mode, b: u8, rest: &[u8]) -> First
     }
 }
 
+#[inline(always)]
 fn ascii_prefix_of(b: u8) -> FirstPiece
     ensures { result ≡ shown (ascii_piece b) }
 {
@@ -234,6 +259,7 @@ fn katakana_first_piece(b: u8) -> FirstPiece
 }
 
 // A first byte and what follows it: 1B is left, any other second byte is taken.
+#[inline(always)]
 fn pair_first_piece(jis0208: &Flat<'_>, b: u8, rest: &[u8]) -> FirstPiece
     requires { IsInRange 0x21 0x7E b }
     ensures { result ≡ shown (jis_pair_first_piece jis0208.now b rest.now) }
@@ -250,6 +276,7 @@ fn pair_first_piece(jis0208: &Flat<'_>, b: u8, rest: &[u8]) -> FirstPiece
     }
 }
 
+#[inline(always)]
 fn entry_first_piece(entry: Option<char>) -> FirstPiece
     ensures { result ≡ shown (piece_of_entry entry) }
 {
