@@ -21,6 +21,7 @@ use Rattle.recode.specs.Latency.{StandsAt}
 use Rattle.recode.specs.State.{State, WillBeFaithful, to_write}
 use Rattle.recode.specs.Verdict.{IsFaithfulFor}
 use Rattle.recode.specs.Step.{Advances, IsNearlyDecided, StepsOn}
+use Rattle.recode.specs.Work.{TakesCalls}
 use Rattle.recode.specs.Streams.{Streams}
 use Rattle.recode.specs.TaggedByte.{IsPrefix, lines, tagged, outputs}
 use Rattle.recode.specs.TraceToWrite.{AreSound, trace_to_write}
@@ -146,8 +147,9 @@ pub steps_on : (before after : Streams) (limit : ℕ) (s s1 : State) (chunk : Li
     → last ≡ false → ((r : List ℕ) → (last ≡ true → r ≡ []) → s.source (chunk ++ r) ≡ s1.source r)
     → WritesItemsFor before.written after.written s.counts s1.counts last (λ r. to_write s (chunk ++ r)) (λ r. trace_to_write s1.decoder s.coding s1.set s1.counts r)
     → Advances (λ r. s.decoder.pieces (chunk ++ r)) s1.decoder.pieces s.coding s.set s1.set s.counts s1.counts → IsNearlyDecided s1.decoder
-    → ((r : List ℕ) → (last ≡ true → r ≡ []) → WillBeFaithful s (chunk ++ r) ↔ IsFaithfulFor s1.verdict s.coding s1.set (s1.decoder.pieces r)) → StepsOn before after limit s s1
-steps_on before after limit s s1 chunk last read_in counted some within target sound goes_on same pays p settled verdict =
+    → ((r : List ℕ) → (last ≡ true → r ≡ []) → WillBeFaithful s (chunk ++ r) ↔ IsFaithfulFor s1.verdict s.coding s1.set (s1.decoder.pieces r))
+    → ((r : List ℕ) → (last ≡ true → r ≡ []) → TakesCalls 3 s.counts s1.counts (to_write s (chunk ++ r)) (trace_to_write s1.decoder s.coding s1.set s1.counts r)) → StepsOn before after limit s s1
+steps_on before after limit s s1 chunk last read_in counted some within target sound goes_on same pays p settled verdict calls =
     let e = s.coding in
     let offset = s.counts.read - s.decoder.pending in
     let offset1 = s1.counts.read - s1.decoder.pending in
@@ -177,6 +179,7 @@ steps_on before after limit s s1 chunk last read_in counted some within target s
       logged = subst (Appends before.written.log after.written.log) (paid_lines e s.set s1.set offset i offset1 i1 p.taken qs pays.written_items p.set offset_is p.index is) pays.wrote.lined;
       settled = settled;
       verdict = λ r. subst (λ (q : Coding). WillBeFaithful s (chunk ++ r) ↔ IsFaithfulFor s1.verdict q s1.set (s1.decoder.pieces r)) (sym target) (verdict r (none r));
+      calls = λ r. subst (λ (q : Coding). TakesCalls 3 s.counts s1.counts (to_write s (chunk ++ r)) (trace_to_write s1.decoder q s1.set s1.counts r)) (sym target) (calls r (none r));
     }
 
 -- A session that has read nothing, and one that steps on.

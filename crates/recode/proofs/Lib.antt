@@ -4,6 +4,7 @@ pub mod VerdictLemmas
 pub mod NewVerdictLemmas
 pub mod EncoderCallLemmas
 pub mod DecoderCallLemmas
+pub mod WorkLemmas
 pub mod StepLemmas
 pub mod RunLemmas
 pub mod InputLemmas

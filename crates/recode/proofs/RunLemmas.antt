@@ -1,5 +1,5 @@
 -- From steps to runs.
-use Rattle.std.proofs.Common.{◌≡◌, ◌⊎◌, ℕ, zero, suc, drop, ◌+◌, ◌&&◌, ◌↔◌, inl, inr, Bool, true, false, IsTrue, List, [], ◌∷◌, ◌++◌, length, refl, sym, ◌∙◌, ap, subst, arith, append-nil}
+use Rattle.std.proofs.Common.{◌≡◌, ◌⊎◌, ℕ, zero, suc, drop, ◌+◌, ◌*◌, ◌&&◌, ◌↔◌, inl, inr, Bool, true, false, IsTrue, List, [], ◌∷◌, ◌++◌, length, refl, sym, ◌∙◌, ap, subst, arith, append-nil}
 use Rattle.std.specs.Io.KnownBytes.{Appends}
 use Rattle.std.specs.List.{flat_map}
 use Rattle.std.specs.Str.{all_scalars}
@@ -20,7 +20,9 @@ use Rattle.encoding_front.specs.declared.encoding.Encoding.{Encoding}
 use Rattle.recode_log.specs.Line.{line_bytes}
 use Rattle.recode.specs.TaggedByte.{TaggedByte, Wrote, IsPrefix, tagged, outputs, lines}
 use Rattle.recode.specs.WrittenItems.{bad_lines, lost_lines}
-use Rattle.recode.specs.State.{WillBeFaithful}
+use Rattle.recode.specs.State.{WillBeFaithful, to_write}
+use Rattle.recode.specs.TraceToWrite.{AreSound}
+use Rattle.recode.specs.Work.{TakesCalls}
 use Rattle.recode.specs.Job.{IsValidJob, Faithful, input_pieces, output_pieces, input_text, target_of, log_of, trace}
 use Rattle.recode.specs.Session.{View, IsNewSession, Tells, IsReport, Completes, Fails}
 use Rattle.recode.specs.Step.{Finishes, PassesLimit}
@@ -28,7 +30,9 @@ use Rattle.recode.specs.Streams.{Streams}
 use Rattle.recode.specs.declared.job.Fault.{Fault}
 use Rattle.recode.specs.declared.job.Job.{Job}
 use Rattle.recode.specs.declared.job.Report.{Report}
+use Rattle.recode.proofs.PieceLemmas.{output_within}
 use Rattle.recode.proofs.StepLemmas.{HasStopped}
+use Rattle.recode.proofs.WorkLemmas.{items_split}
 use Rattle.recode.proofs.TraceLemmas.{outputs-append, lines-append, no_lines, kept_where_no_lines, no_lines_without_bytes, outputs-trace, lines-trace, bad_lines-trace, lost_lines-trace}
 
 -- No malformed sequence.
@@ -120,8 +124,9 @@ quiet_where_faithful j x v f = quiet_where_kept j x f.source (mapped_where_faith
 
 -- The report.
 is_report : (j : Job) (x : List ℕ) (v w : View) (p : Report) → IsNewSession v j → Tells w p → v.state.source x ≡ w.state.source [] → w.state.counts.read ≡ v.state.counts.read + length x
-    → w.state.counts.bad ≡ v.state.counts.bad + bad_lines (trace j x) → w.state.counts.lost ≡ v.state.counts.lost + lost_lines (trace j x) → WillBeFaithful v.state x ↔ IsTrue w.state.verdict.faithful → IsReport j x p
-is_report j x v w p b t same read_is malformed_is lost_is told =
+    → w.state.counts.bad ≡ v.state.counts.bad + bad_lines (trace j x) → w.state.counts.lost ≡ v.state.counts.lost + lost_lines (trace j x) → WillBeFaithful v.state x ↔ IsTrue w.state.verdict.faithful
+    → IsValidJob j → TakesCalls (3 * length x + 3) v.state.counts w.state.counts (to_write v.state x) [] → AreSound w.state.decoder.pending w.state.counts → IsReport j x p
+is_report j x v w p b t same read_is malformed_is lost_is told valid calls sound =
     let e = target_of j in
     let bads : p.bad ≡ malformed_count (input_pieces j x) = omega (arith, t.bad, malformed_is, b.bad, bad_lines-trace e Ascii 0 0 (input_pieces j x)) in
     let losts : p.lost ≡ lost_count e (input_text j x) = omega (arith, t.lost, lost_is, b.lost, lost_lines-trace e Ascii 0 0 (input_pieces j x)) in
@@ -129,12 +134,33 @@ is_report j x v w p b t same read_is malformed_is lost_is told =
       read = omega (arith, t.read, read_is, b.read);
       bad = bads;
       lost = losts;
+      calls = omega (
+        arith,
+        t.calls,
+        t.read,
+        calls,
+        b.calls,
+        b.index,
+        b.read,
+        b.bad,
+        b.lost,
+        read_is,
+        malformed_is,
+        lost_is,
+        sound.index,
+        sound.bad,
+        sound.lost,
+        ap length (b.owes_trace x),
+        items_split (trace j x),
+        ap length (outputs-trace e Ascii 0 0 (input_pieces j x)),
+        output_within j x valid,
+      );
       encoding = t.encoding ∙ sym same ∙ b.source x;
       faithful = (λ h. (b.verdict x).0 (told.1 (sym t.verdict ∙ h)), λ h. t.verdict ∙ told.0 ((b.verdict x).1 h));
     }
 
-pub completes : (before after : Streams) (j : Job) (v u : View) (p : Report) → IsNewSession v j → Finishes before after j.limit v.state u.state → Tells u p → Completes before after j p
-completes before after j v u p b f t =
+pub completes : (before after : Streams) (j : Job) (v u : View) (p : Report) → IsValidJob j → IsNewSession v j → Finishes before after j.limit v.state u.state → Tells u p → Completes before after j p
+completes before after j v u p valid b f t =
     let x : List ℕ = f.chunk in
     let written_items : f.pays.written_items ≡ trace j x = sym (append-nil f.pays.written_items) ∙ sym f.pays.equals ∙ b.owes_trace x in
     let wrote : Wrote before.written after.written (tagged (trace j x)) = subst (λ t. Wrote before.written after.written (tagged t)) written_items f.pays.wrote in
@@ -147,7 +173,7 @@ completes before after j v u p b f t =
       output = subst (Appends before.written.output after.written.output) (outputs-trace (target_of j) Ascii 0 0 (input_pieces j x)) wrote.output;
       logged = subst (Appends before.written.log after.written.log) (lines-trace (target_of j) Ascii 0 0 (input_pieces j x)) wrote.lined;
       report = is_report j x v u p b t f.source f.counted
-          (f.pays.counted.bad ∙ ap (λ t. v.state.counts.bad + bad_lines t) written_items) (f.pays.counted.lost ∙ ap (λ t. v.state.counts.lost + lost_lines t) written_items) f.verdict;
+          (f.pays.counted.bad ∙ ap (λ t. v.state.counts.bad + bad_lines t) written_items) (f.pays.counted.lost ∙ ap (λ t. v.state.counts.lost + lost_lines t) written_items) f.verdict valid f.calls f.sound;
     }
 
 prefix_outputs : (t u : List TaggedByte) → IsPrefix t u → IsPrefix (outputs t) (outputs u)

@@ -1,5 +1,5 @@
 -- How a step's parts make its clauses. What is left where a conversion failed.
-use Rattle.std.proofs.Common.{Err, ◌≡◌, ◌↔◌, ℕ, ◌+◌, ◌≤◌, ◌<◌, add-zero, arith, length-append, append_assoc, List, [], ◌++◌, length, Option, Bool, true, false, refl, sym, ap, ◌∙◌, subst, append-nil, take, inl, inr, ◌≢◌}
+use Rattle.std.proofs.Common.{Err, ◌≡◌, ◌↔◌, ℕ, ◌+◌, ◌*◌, ◌≤◌, ◌<◌, add-zero, arith, length-append, append_assoc, List, [], ◌++◌, length, Option, Bool, true, false, refl, sym, ap, ◌∙◌, subst, append-nil, take, inl, inr, ◌≢◌}
 use Rattle.std.specs.Io.KnownBytes.{Consumes, Keeps, IsAtEnd, Appends}
 use Rattle.std.proofs.KnownBytes.{Consumes-nil, Consumes-kept, Consumes-trans, Appends-kept, Appends-trans, Keeps-refl}
 use Rattle.encoding_mem.specs.Items.{Item}
@@ -9,6 +9,7 @@ use Rattle.recode.specs.TaggedByte.{Wrote, tagged, TaggedByte, outputs, lines}
 use Rattle.recode.specs.WrittenItems.{WritesItemsFor, WritesPrefixFor}
 use Rattle.recode.specs.Step.{Finishes, PassesLimit, StepsOn, Stops}
 use Rattle.recode.specs.Failures.{CountsFault, Failures}
+use Rattle.recode.specs.Work.{TakesCalls}
 use Rattle.recode.specs.Fault.{of_other}
 use Rattle.recode.specs.declared.job.Fault.{Fault}
 use Rattle.recode.specs.declared.job.Fault.TheVariants.{Read, Write, Log, TooLong}
@@ -105,6 +106,7 @@ pub record HasRun (before after : Streams) (limit : ℕ) (s s' : State) : Type 0
   pub pays : WritesItemsFor before.written after.written s.counts s'.counts false (λ r. to_write s (chunk ++ r)) (to_write s')
   pub source : (r : List ℕ) → s.source (chunk ++ r) ≡ s'.source r
   pub verdict : (r : List ℕ) → WillBeFaithful s (chunk ++ r) ↔ WillBeFaithful s' r
+  pub calls : (r : List ℕ) → TakesCalls (3 * length chunk) s.counts s'.counts (to_write s (chunk ++ r)) (to_write s' r)
 
 -- What a run has done that a fault ended.
 pub record HasStopped (before after : Streams) (limit : ℕ) (s : State) (fault : Fault) : Type 0 where
@@ -128,6 +130,7 @@ goes_on_start a limit s within = record {
   pays = WritesItemsFor-start a.written s.counts false (to_write s);
   source = λ r. refl;
   verdict = λ r. (λ h. h, λ h. h);
+  calls = λ r. omega arith;
 }
 
 pub goes_on_more : (a b c : Streams) (limit : ℕ) (s s1 s2 : State) → HasRun a b limit s s1 → StepsOn b c limit s1 s2 → HasRun a c limit s s2
@@ -145,6 +148,7 @@ goes_on_more a b c limit s s1 s2 p q = record {
   };
   source = λ r. ap s.source (append_assoc p.chunk q.chunk r) ∙ p.source (q.chunk ++ r) ∙ q.source r;
   verdict = λ r. rw (append_assoc p.chunk q.chunk r) (both_ways (p.verdict (q.chunk ++ r)) (q.verdict r));
+  calls = λ r. rw (append_assoc p.chunk q.chunk r) (omega (arith, p.calls (q.chunk ++ r), q.calls r, q.grows, q.counted, length-append p.chunk q.chunk));
 }
 
 pub goes_on_finish : (a b c : Streams) (limit : ℕ) (s s1 s2 : State) → HasRun a b limit s s1 → Finishes b c limit s1 s2 → Finishes a c limit s s2
@@ -162,6 +166,8 @@ goes_on_finish a b c limit s s1 s2 p q = record {
   };
   source = p.source q.chunk ∙ q.source;
   verdict = both_ways (p.verdict q.chunk) q.verdict;
+  calls = omega (arith, p.calls q.chunk, q.calls, length-append p.chunk q.chunk);
+  sound = q.sound;
 }
 
 limit_on : (n m limit : ℕ) (f : Fault) → n ≡ m → PassesLimit n limit f → PassesLimit m limit f

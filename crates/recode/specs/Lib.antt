@@ -1,6 +1,7 @@
 pub mod Character
 pub mod TaggedByte
 pub mod WrittenItems
+pub mod Work
 pub mod Fault
 pub mod Failures
 pub mod Streams

@@ -4,7 +4,7 @@ use Rattle.std.specs.Str.{chars, all_scalars, encode_utf8_all}
 use Rattle.std.specs.Char.Utf16.{utf16_lossy_chars}
 use Rattle.encoding_mem.specs.Writing.{encode_utf16_all}
 use Rattle.recode.specs.declared.job.Pivot.{Pivot}
-use Rattle.recode.specs.declared.job.Pivot.TheVariants as DecodedLength
+use Rattle.recode.specs.declared.job.Pivot.TheVariants as InPivot
 use Rattle.recode.specs.declared.codec_calls.PivotText.{PivotText}
 use Rattle.recode.specs.declared.codec_calls.PivotText.TheVariants.{Utf8, Utf16}
 
@@ -48,8 +48,8 @@ pub record IsCutInto (p read rest : PivotText) : Type 0 where
 
 -- the first n elements of a pivot are a text in the pivot's form
 abbrev pub Holds : Pivot → ℕ → List ℕ → Type 0
-Holds (DecodedLength.Utf8 bytes) n text = (n ≤ length bytes.now) × (take n bytes.now ≡ encode_utf8_all text)
-Holds (DecodedLength.Utf16 units) n text = (n ≤ length units.now) × (take n units.now ≡ encode_utf16_all text)
+Holds (InPivot.Utf8 bytes) n text = (n ≤ length bytes.now) × (take n bytes.now ≡ encode_utf8_all text)
+Holds (InPivot.Utf16 units) n text = (n ≤ length units.now) × (take n units.now ≡ encode_utf16_all text)
 
 abbrev pub HoldsText : Pivot → ℕ → Type 0
 HoldsText pivot n = (text : List ℕ) × (all_scalars text ≡ true) × Holds pivot n text

@@ -1,5 +1,5 @@
 -- A session as its callers know it, and what a run of it says.
-use Rattle.std.specs.Prelude.{◌≡◌, ◌≢◌, ℕ, ◌≤◌, ◌↔◌, IsTrue, List, [], ◌++◌, length, Bool, true, Result, Ok, Err}
+use Rattle.std.specs.Prelude.{◌≡◌, ◌≢◌, ℕ, ◌+◌, ◌*◌, ◌≤◌, ◌↔◌, IsTrue, List, [], ◌++◌, length, Bool, true, Result, Ok, Err}
 use Rattle.std.specs.Io.KnownBytes.{Appends, Consumes, IsAtEnd}
 use Rattle.encoding_mem.specs.Piece.{malformed_count}
 use Rattle.encoding_mem.specs.Coding.{lost_count}
@@ -48,6 +48,7 @@ pub record IsNewSession (v : View) (j : Job) : Type 0 where
   pub bad : v.state.counts.bad ≡ 0
   pub lost : v.state.counts.lost ≡ 0
   pub index : v.state.counts.index ≡ 0
+  pub calls : v.state.counts.calls ≡ 0
   pub set : v.state.set ≡ Ascii
   pub pending : v.state.decoder.pending ≡ 0
   pub pieces : (x : List ℕ) → v.state.decoder.pieces x ≡ input_pieces j x
@@ -59,6 +60,7 @@ pub record Tells (v : View) (p : Report) : Type 0 where
   pub read : p.read ≡ v.state.counts.read
   pub bad : p.bad ≡ v.state.counts.bad
   pub lost : p.lost ≡ v.state.counts.lost
+  pub calls : p.calls ≡ v.state.counts.calls
   pub encoding : p.encoding ≡ v.state.source []
   pub verdict : p.faithful ≡ v.state.verdict.faithful
 
@@ -67,6 +69,7 @@ pub record IsReport (j : Job) (x : List ℕ) (p : Report) : Type 0 where
   pub read : p.read ≡ length x
   pub bad : p.bad ≡ malformed_count (input_pieces j x)
   pub lost : p.lost ≡ lost_count (target_of j) (input_text j x)
+  pub calls : p.calls ≤ 37 * p.read + 9
   pub encoding : p.encoding ≡ source_in j x
   pub faithful : IsTrue p.faithful ↔ Faithful j x
 

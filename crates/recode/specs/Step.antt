@@ -1,5 +1,5 @@
 -- What one step does, for every continuation of the bytes read.
-use Rattle.std.specs.Prelude.{◌≡◌, ◌≢◌, ◌↔◌, IsTrue, ℕ, ◌+◌, ◌-◌, ◌<◌, ◌≤◌, ◌⊎◌, List, [], ◌++◌, length, Bool, true, false}
+use Rattle.std.specs.Prelude.{◌≡◌, ◌≢◌, ◌↔◌, IsTrue, ℕ, ◌+◌, ◌-◌, ◌*◌, ◌<◌, ◌≤◌, ◌⊎◌, List, [], ◌++◌, length, Bool, true, false}
 use Rattle.std.specs.Io.KnownBytes.{Appends, Consumes, IsAtEnd}
 use Rattle.std.specs.List.{flat_map}
 use Rattle.encoding_mem.specs.declared.reference.Reference.TheVariants.{Decimal}
@@ -13,6 +13,8 @@ use Rattle.recode.specs.Job.{log_lines}
 use Rattle.recode.specs.State.{State, WillBeFaithful, to_write}
 use Rattle.recode.specs.Streams.{KeepsWritten, Streams, Written}
 use Rattle.recode.specs.TaggedByte.{TaggedByte, Wrote, IsPrefix, tagged}
+use Rattle.recode.specs.TraceToWrite.{AreSound}
+use Rattle.recode.specs.Work.{TakesCalls}
 use Rattle.recode.specs.WrittenItems.{WritesItems, WritesItemsFor, WritesPrefixFor}
 use Rattle.recode.specs.declared.target.Counts.{Counts}
 use Rattle.recode.specs.declared.job.Fault.{Fault}
@@ -33,7 +35,7 @@ pub record Advances (before after : List ℕ → List Piece) (e : Coding) (s s' 
 -- Some bytes were read. What was still to be written for them and any bytes to come is what was written, then what is
 -- still to be written now; the encoding that the input turns out to be in stays the same. What is decided was
 -- converted, however the input goes on: what was written is its text and what was logged its lines, no more and no
--- less, and what is pending is nearly decided.
+-- less, and what is pending is nearly decided. Of codecs it took few calls.
 pub record StepsOn (before after : Streams) (limit : ℕ) (s s' : State) : Type 0 where
   pub chunk : List ℕ
   pub consumed : Consumes before.input after.input chunk
@@ -48,8 +50,9 @@ pub record StepsOn (before after : Streams) (limit : ℕ) (s s' : State) : Type 
   pub logged : Appends before.written.log after.written.log (flat_map line_bytes (log_lines s.coding (s.counts.read - s.decoder.pending) s.counts.index advances.taken))
   pub settled : IsNearlyDecided s'.decoder
   pub verdict : (r : List ℕ) → WillBeFaithful s (chunk ++ r) ↔ WillBeFaithful s' r
+  pub calls : (r : List ℕ) → TakesCalls 3 s.counts s'.counts (to_write s (chunk ++ r)) (to_write s' r)
 
--- The end was read, and all the rest of the trace was written.
+-- The end was read, and all the rest of the trace was written. It may stand for some steps and the one that ended.
 pub record Finishes (before after : Streams) (limit : ℕ) (s s' : State) : Type 0 where
   pub chunk : List ℕ
   pub consumed : Consumes before.input after.input chunk
@@ -59,6 +62,8 @@ pub record Finishes (before after : Streams) (limit : ℕ) (s s' : State) : Type
   pub pays : WritesItems before.written after.written s.counts s'.counts (to_write s chunk) []
   pub source : s.source chunk ≡ s'.source []
   pub verdict : WillBeFaithful s chunk ↔ IsTrue s'.verdict.faithful
+  pub calls : TakesCalls (3 * length chunk + 3) s.counts s'.counts (to_write s chunk) []
+  pub sound : AreSound s'.decoder.pending s'.counts
 
 -- where the bytes that were read pass the limit, or not
 abbrev pub PassesLimit : (read limit : ℕ) → Fault → Type 0

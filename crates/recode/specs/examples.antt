@@ -2,3 +2,4 @@
 pub mod Jobs
 pub mod WrittenItems
 pub mod Slices
+pub mod Work

@@ -11,6 +11,7 @@ ghost use Rattle.encoding_front.specs.Stream.{finishes};
 ghost use Rattle.recode.specs.Buffers.{HoldsAnyCharacter, is_wide};
 ghost use Rattle.recode.specs.Character.{begins_character};
 ghost use Rattle.recode.specs.CodecCalls.{DecodeCallEndsWith};
+ghost use Rattle.recode.specs.Work.{IsCounted};
 ghost use Rattle.recode.specs.PivotText.{BeginsWith, Holds, HoldsText, IsCutInto, IsLeftBehind, IsWholeText, is_in_units, pivot_chars};
 
 use crate::job::Pivot;
@@ -94,6 +95,13 @@ pub fn count_in_units(units: &[u16]) -> usize
     count
 }
 
+// Counts a call of a codec. The count stops at the greatest number.
+fn count_call(calls: &mut u64)
+    ensures { IsCounted calls.old calls.new }
+{
+    *calls = calls.saturating_add(1);
+}
+
 /// What a call of a decoder did.
 #[derive(Clone, Copy)]
 pub struct DecodeCall {
@@ -138,12 +146,14 @@ fn decode_to_units<D: StreamDecoder>(
     (answer, read, sink.written())
 }
 
-/// One call of a decoder, which writes text to the pivot.
+/// One call of a decoder, which writes text to the pivot. It is counted: no decoder is called but
+/// here.
 pub fn decode_to_pivot<D: StreamDecoder>(
     decoder: &mut D,
     src: &[u8],
     pivot: &mut Pivot<'_>,
     last: bool,
+    calls: &mut u64,
 ) -> DecodeCall
     requires pivot { HoldsAnyCharacter pivot.old }
     requires open_ { (D.view decoder.old).finished ≡ false }
@@ -157,7 +167,9 @@ pub fn decode_to_pivot<D: StreamDecoder>(
     ensures finished { (D.view decoder.new).finished ≡ finishes last result.answer }
     ensures roomy { HoldsAnyCharacter pivot.new }
     ensures kind { is_wide pivot.new ≡ is_wide pivot.old }
+    ensures calls { IsCounted calls.old calls.new }
 {
+    count_call(calls);
     match pivot {
         Pivot::Utf8(bytes) => {
             let (answer, read, written) = decode_to_bytes(decoder, src, bytes, last);
@@ -192,12 +204,14 @@ pub struct EncodeCall<'p> {
     pub rest: PivotText<'p>,
 }
 
-/// One call of an encoder, which reads text of a pivot.
+/// One call of an encoder, which reads text of a pivot. It is counted: no encoder is called but
+/// here.
 pub fn encode_from_pivot<'p, E: RawEncoder>(
     encoder: &mut E,
     text: PivotText<'p>,
     out: &mut [u8],
     last: bool,
+    calls: &mut u64,
 ) -> EncodeCall<'p>
     ensures passed { result.characters + length (pivot_chars result.rest)
         ≡ length (pivot_chars text.entry) }
@@ -209,7 +223,9 @@ pub fn encode_from_pivot<'p, E: RawEncoder>(
         (pivot_chars result.rest) }
     ensures ends { EncodeEndsWith (E.need encoder.old) last result.answer (E.set encoder.new)
         (pivot_chars result.rest) (length out.new - result.written) }
+    ensures calls { IsCounted calls.old calls.new }
 {
+    count_call(calls);
     match text {
         PivotText::Utf8(text) => {
             let (answer, read, written) = encoder.encode_from_utf8_raw(text, out, last);

@@ -43,6 +43,7 @@ impl<D: StreamDecoder, E: RawEncoder> Engine<D, E> {
     ghost use Rattle.recode.specs.TraceToWrite.{AreSound, trace_to_write};
     ghost use Rattle.recode.specs.Verdict.{CanTell, IsFaithfulFor};
     ghost use Rattle.recode.specs.VerdictView.{verdict_view};
+    ghost use Rattle.recode.specs.Work.{TakesCalls, calls_at_end};
     ghost use Rattle.recode.specs.WrittenItems.{WritesItemsFor, WritesPrefixFor};
 
     // One call of the decoder, and all that follows from it.
@@ -126,13 +127,20 @@ impl<D: StreamDecoder, E: RawEncoder> Engine<D, E> {
             (E.coding self.old.target.encoder) (E.set self.new.target.encoder)
             ((D.view self.new.decoder).state.pieces [])
             ↔ IsTrue self.new.target.verdict.faithful) }
+        ensures calls { IfOk result (λ p. (r : List ℕ) → (chunk.entry.last ≡ true → r ≡ [])
+            → TakesCalls (calls_at_end p.is_done) self.old.target.counts self.new.target.counts
+            (trace_to_write (D.view self.old.decoder).state (E.coding self.old.target.encoder)
+            (E.set self.old.target.encoder) self.old.target.counts (chunk.entry.bytes.now ++ r))
+            (trace_to_write (D.view self.new.decoder).state (E.coding self.old.target.encoder)
+            (E.set self.new.target.encoder) self.new.target.counts
+            (drop p.read chunk.entry.bytes.now ++ r))) }
         ensures check { HoldsAnyCharacter check.new }
         ensures check_kind { is_wide check.new ≡ is_wide check.old }
         ensures roomy { HoldsAnyCharacter pivot.new }
         ensures kind { is_wide pivot.new ≡ is_wide pivot.old }
     {
-        let call = decode_to_pivot(&mut self.decoder, chunk.bytes, pivot, chunk.last);
-        self.target.counts.calls = self.target.counts.calls.saturating_add(1);
+        let calls = &mut self.target.counts.calls;
+        let call = decode_to_pivot(&mut self.decoder, chunk.bytes, pivot, chunk.last, calls);
         self.target.counts.read += call.read as u64;
         let text = text_in(pivot, call.written);
         match call.answer {
@@ -237,6 +245,12 @@ impl<D: StreamDecoder, E: RawEncoder> Engine<D, E> {
             (E.coding self.old.target.encoder) (E.set self.new.target.encoder)
             ((D.view self.new.decoder).state.pieces [])
             ↔ IsTrue self.new.target.verdict.faithful) }
+        ensures calls { OnOk result ((r : List ℕ) → (chunk.entry.last ≡ true → r ≡ [])
+            → TakesCalls 3 self.old.target.counts self.new.target.counts
+            (trace_to_write (D.view self.old.decoder).state (E.coding self.old.target.encoder)
+            (E.set self.old.target.encoder) self.old.target.counts (chunk.entry.bytes.now ++ r))
+            (trace_to_write (D.view self.new.decoder).state (E.coding self.old.target.encoder)
+            (E.set self.new.target.encoder) self.new.target.counts r)) }
         ensures check { HoldsAnyCharacter check.new }
         ensures check_kind { is_wide check.new ≡ is_wide check.old }
         ensures roomy { HoldsAnyCharacter pivot.new }

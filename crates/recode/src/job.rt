@@ -118,8 +118,8 @@ pub struct Report {
     pub bad: u64,
     /// The lines of the log that tell a lost character.
     pub lost: u64,
-    /// The calls of codecs, those that read the output back among them. It stops at the greatest
-    /// number.
+    /// The calls of codecs, those that read the output back among them: at most `37 * read + 9`,
+    /// whatever the sizes of the buffers.
     pub calls: u64,
     /// The encoding of the input, as its byte order mark says where one of another encoding is
     /// taken.

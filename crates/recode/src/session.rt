@@ -22,14 +22,15 @@ use encoding_mem::RawEncoder;
 use recode_log::counted::Counted;
 use std::io::{Read, Write};
 
-// How far a session is.
+/// How far a session is, in the words of its contracts: `Session::is_over` tells whether it is
+/// still open, `Session::report` whether it is done.
 #[derive(Clone, Copy, PartialEq, Eq, Debug)]
-enum Phase {
-    // More may be read.
+pub enum Phase {
+    /// More may be read.
     Open,
-    // The end was read, and all is written.
+    /// The end was read, and all is written.
     Done,
-    // A fault ended it.
+    /// A fault ended it.
     Stopped,
 }
 
@@ -211,7 +212,8 @@ impl<'t> Session<'t> {
 ///
 /// - `Ok`: the input was read to its end, and is within the limit. Exactly its output and its log
 ///   were written, in one order. They depend on the input and the job alone: not on how reads are
-///   cut, on the sizes of the buffers or on the kind of the pivot.
+///   cut, on the sizes of the buffers or on the kind of the pivot. The codecs were called at most
+///   37 times for each byte of the input, and 9 times more.
 /// - `Err`: a call of the reader (`Read`), the writer (`Write`) or the log (`Log`) failed, and no
 ///   other; or the input has more bytes than the job's limit (`TooLong`). Output and log have a
 ///   prefix of what is right for the bytes read, however they go on.

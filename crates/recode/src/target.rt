@@ -18,7 +18,7 @@ use recode_log::deliver::deliver;
 use recode_log::line::LogLine;
 use std::io::Write;
 
-/// What a conversion has counted so far.
+/// What a conversion has counted so far, in the words of the contracts of a session.
 #[derive(Clone, Copy, PartialEq, Eq, Debug)]
 pub struct Counts {
     /// The bytes of the input that were read.
@@ -52,7 +52,7 @@ pub struct Target<D, E> {
 }
 
 impl<D: StreamDecoder, E: RawEncoder> Target<D, E> {
-    ghost use Rattle.std.specs.Prelude.{◌≡◌, ℕ, ◌+◌, ◌-◌, ◌^◌, ◌<◌, ◌≤◌, ◌++◌, ◌∷◌, ◌⊎◌, List, [], true, false, length, map, IfOk, OnOk, OnErr};
+    ghost use Rattle.std.specs.Prelude.{◌≡◌, ℕ, ◌+◌, ◌-◌, ◌*◌, ◌^◌, ◌<◌, ◌≤◌, ◌++◌, ◌∷◌, ◌⊎◌, List, [], true, false, length, map, IfOk, OnOk, OnErr};
     ghost use Rattle.recode_log.specs.Counted.{failures_of};
     ghost use Rattle.encoding_mem.specs.declared.reference.Reference.TheVariants.{Decimal};
     ghost use Rattle.encoding_mem.specs.Coding.{last_set, reference};
@@ -163,21 +163,23 @@ impl<D: StreamDecoder, E: RawEncoder> Target<D, E> {
             → IsToldAtEnd (verdict_view D.view self.new.verdict)) }
         ensures rest { IfOk result (λ p. IsWholeText p.rest
             × (is_in_units p.rest ≡ is_in_units text.entry)) }
+        ensures calls { OnOk result (self.new.counts.calls + self.old.counts.index
+            ≤ self.old.counts.calls + self.new.counts.index + 2) }
         ensures stays { OnOk result (self.old.verdict.faithful ≡ false
             → self.new.verdict.faithful ≡ false) }
         ensures by_log { self.new.verdict.by_log ≡ self.old.verdict.by_log }
         ensures roomy { HoldsAnyCharacter check.new }
         ensures kind { is_wide check.new ≡ is_wide check.old }
     {
-        let call = encode_from_pivot(&mut self.encoder, text, output, last);
-        self.counts.calls = self.counts.calls.saturating_add(1);
+        let calls = &mut self.counts.calls;
+        let call = encode_from_pivot(&mut self.encoder, text, output, last, calls);
         deliver(writer, &output[..call.written], Fault::Write)?;
         self.counts.index += call.characters as u64;
         match call.answer {
             EncoderResult::InputEmpty => {
                 let written = &output[..call.written];
-                let calls = self.verdict.read_back(written, call.read, check);
-                self.counts.calls = self.counts.calls.saturating_add(calls);
+                let calls = &mut self.counts.calls;
+                self.verdict.read_back(written, call.read, check, calls);
                 Ok(EncodeTurn {
                     rest: call.rest,
                     is_done: true,
@@ -185,8 +187,8 @@ impl<D: StreamDecoder, E: RawEncoder> Target<D, E> {
             }
             EncoderResult::OutputFull => {
                 let written = &output[..call.written];
-                let calls = self.verdict.read_back(written, call.read, check);
-                self.counts.calls = self.counts.calls.saturating_add(calls);
+                let calls = &mut self.counts.calls;
+                self.verdict.read_back(written, call.read, check, calls);
                 Ok(EncodeTurn {
                     rest: call.rest,
                     is_done: false,
@@ -253,6 +255,10 @@ impl<D: StreamDecoder, E: RawEncoder> Target<D, E> {
             (E.set self.new.encoder) []) }
         ensures told { OnOk result (last ≡ true
             → IsToldAtEnd (verdict_view D.view self.new.verdict)) }
+        ensures calls { OnOk result (self.new.counts.calls + self.old.counts.index
+            ≤ self.old.counts.calls + self.new.counts.index + 2 * length
+            (whole_items Decimal (E.coding self.old.encoder) last (E.set self.old.encoder)
+            self.old.counts.index (pivot_chars text.entry)) + 2) }
         ensures stays { OnOk result (self.old.verdict.faithful ≡ false
             → self.new.verdict.faithful ≡ false) }
         ensures by_log { self.new.verdict.by_log ≡ self.old.verdict.by_log }
@@ -310,6 +316,10 @@ impl<D: StreamDecoder, E: RawEncoder> Target<D, E> {
             (MalformedAt offset size ∷ open_items Decimal (E.coding self.old.encoder)
             (E.set self.old.encoder) self.old.counts.index (0xFFFD ∷ []))) }
         ensures failures { CountsWriterFault writer.old writer.new log.old log.new result }
+        ensures calls { OnOk result (self.new.counts.calls + self.old.counts.index
+            ≤ self.old.counts.calls + self.new.counts.index + 2 * length
+            (open_items Decimal (E.coding self.old.encoder) (E.set self.old.encoder)
+            self.old.counts.index (0xFFFD ∷ [])) + 2) }
         ensures verdict { OnOk result (self.new.verdict.faithful ≡ false) }
         ensures tells { OnOk result (CanTell (verdict_view D.view self.new.verdict)
             (E.coding self.old.encoder) (E.set self.new.encoder) []) }

@@ -19,16 +19,22 @@ pub struct Verdict<D> {
 }
 
 impl<D: StreamDecoder> Verdict<D> {
-    ghost use Rattle.std.specs.Prelude.{◌≡◌, ℕ, false};
+    ghost use Rattle.std.specs.Prelude.{◌≡◌, ◌≤◌, ◌+◌, ℕ, false, length};
     ghost use Rattle.std.specs.Bool.{MatchBool};
     ghost use Rattle.recode.specs.Buffers.{HoldsAnyCharacter, is_wide};
     ghost use Rattle.recode.specs.PivotText.{is_in_units, pivot_chars, IsWholeText};
     ghost use Rattle.recode.specs.Verdict.{IsReadBack, NeedsForm, ReadsAsOther, ReadsAsText};
     ghost use Rattle.recode.specs.VerdictView.{verdict_view};
 
-    // Reads back what was written for a text, and compares it with that, part by part. Returns how
-    // many calls of the reader it took.
-    fn compare(&mut self, written: &[u8], text: PivotText<'_>, check: &mut Pivot<'_>) -> u64
+    // Reads back what was written for a text, and compares it with that, part by part: at most a
+    // call for each character, and one more.
+    fn compare(
+        &mut self,
+        written: &[u8],
+        text: PivotText<'_>,
+        check: &mut Pivot<'_>,
+        calls: &mut u64,
+    )
         requires open_ { (D.view self.old.reader).finished ≡ false }
         requires check { HoldsAnyCharacter check.old }
         requires form { is_wide check.old ≡ is_in_units text }
@@ -40,29 +46,28 @@ impl<D: StreamDecoder> Verdict<D> {
             (D.view self.new.reader).state.pieces written.now (pivot_chars text.entry))
             (ReadsAsOther (D.view self.old.reader).state.pieces
             (D.view self.new.reader).state.pieces written.now (pivot_chars text.entry)) }
+        ensures calls { calls.new ≤ calls.old + length (pivot_chars text.entry) + 1 }
         ensures roomy { HoldsAnyCharacter check.new }
         ensures kind { is_wide check.new ≡ is_wide check.old }
     {
         let mut left = written;
         let mut expected = text;
-        let mut calls: u64 = 0;
         'parts: loop {
-            let call = decode_to_pivot(&mut self.reader, left, check, false);
-            calls = calls.saturating_add(1);
+            let call = decode_to_pivot(&mut self.reader, left, check, false, calls);
             let part = text_in(check, call.written);
             let Some(rest) = expected.strip_prefix(part) else {
                 self.faithful = false;
-                return calls;
+                return;
             };
             match call.answer {
                 DecoderResult::InputEmpty => {
                     self.faithful = rest.is_empty();
-                    return calls;
+                    return;
                 }
                 DecoderResult::OutputFull => {}
                 DecoderResult::Malformed(_, _) => {
                     self.faithful = false;
-                    return calls;
+                    return;
                 }
             }
             left = &left[call.read..];
@@ -71,21 +76,26 @@ impl<D: StreamDecoder> Verdict<D> {
     }
 
     /// Reads back what a call of an encoder wrote for the text that it read, where that has to be:
-    /// not where the log alone tells, and not once something is lost. Returns how many calls of the
-    /// reader it took.
-    pub fn read_back(&mut self, written: &[u8], text: PivotText<'_>, check: &mut Pivot<'_>) -> u64
+    /// not where the log alone tells, and not once something is lost.
+    pub fn read_back(
+        &mut self,
+        written: &[u8],
+        text: PivotText<'_>,
+        check: &mut Pivot<'_>,
+        calls: &mut u64,
+    )
         requires open_ { (D.view self.old.reader).finished ≡ false }
         requires check { HoldsAnyCharacter check.old }
         requires form { NeedsForm (verdict_view D.view self.old) check.old text }
         requires text { IsWholeText text }
         ensures verdict { IsReadBack (verdict_view D.view self.old) (verdict_view D.view self.new)
             written.now (pivot_chars text.entry) }
+        ensures calls { calls.new ≤ calls.old + length (pivot_chars text.entry) + 1 }
         ensures roomy { HoldsAnyCharacter check.new }
         ensures kind { is_wide check.new ≡ is_wide check.old }
     {
-        if self.by_log || !self.faithful {
-            return 0;
+        if !self.by_log && self.faithful {
+            self.compare(written, text, check, calls);
         }
-        self.compare(written, text, check)
     }
 }

@@ -101,7 +101,7 @@ fn check(
             faithful: row.faithful,
         };
         assert_eq!(rt; report, want, "{trial:?}");
-        let most = want.read.saturating_mul(64).saturating_add(64);
+        let most = want.read.saturating_mul(37).saturating_add(9);
         assert!(rt; report.calls <= most, "{report:?} {trial:?}");
     }
     Ok(())

@@ -47,7 +47,7 @@ run-preserved g c =
 pub returns-in-Ok-Done-clause-completes : goal.returns-in-Ok-Done-clause-completes
 returns-in-Ok-Done-clause-completes g c =
     let e = c.in-Ok-Done.ensures in
-    completes _ _ c.args.job (view_of c.new-session.result) (view_of c.step.new.self) _ c.new-session.ensures
+    completes _ _ c.args.job (view_of c.new-session.result) (view_of c.step.new.self) _ c.requires.job c.new-session.ensures
     (goes_on_finish _ _ _ _ _ _ _ c.run.invariant.ran (rw c.run.invariant.job at (e.done (ap Ok c.in-Ok-Done.field-0-is))))
     c.totals.ensures
 

@@ -4,6 +4,7 @@ use Rattle.recode.specs.TraceToWrite.{trace_to_write}
 use Rattle.recode.proofs.LatencyLemmas.{advances_start, advances_more, advances_to}
 use Rattle.recode.proofs.TraceLemmas.{WritesItemsFor-start, WritesItemsFor-trans, WritesItemsFor-to, WritesItemsFor-under, on_err}
 use Rattle.recode.proofs.VerdictLemmas.{both_ways}
+use Rattle.recode.proofs.WorkLemmas.{more_calls}
 use Rattle.recode.proofs.engine.Engine.decode_chunk.Goals as goal
 
 pub chunk-init : goal.chunk-init
@@ -24,6 +25,7 @@ chunk-init g c = record {
   check = c.requires.check;
   check_kind = refl;
   form = c.requires.form;
+  calls = λ r h. omega arith;
 }
 
 pub decode_part-requires-clause-tells : goal.decode_part-requires-clause-tells
@@ -55,6 +57,7 @@ chunk-preserved g c =
       check = c.decode_part.ensures.check;
       check_kind = c.decode_part.ensures.check_kind ∙ c.chunk.invariant.check_kind;
       form = c.decode_part.ensures.check_kind ∙ c.chunk.invariant.form ∙ sym c.decode_part.ensures.kind;
+      calls = λ r h. rw rest_is (more_calls 0 0 c.args.self.now.target.counts c.chunk.self.target.counts c.decode_part.new.self.target.counts _ _ _ (c.chunk.invariant.calls r h) (rw (c.chunk.invariant.target, c.if-turn.false) at (c.in_ok-turn.ensures.calls r h)));
     }
 
 pub chunk-smaller : goal.chunk-smaller
@@ -98,3 +101,8 @@ returns-then-turn-clause-tells g c on = rw c.chunk.invariant.target at (c.in_ok-
 
 pub returns-then-turn-clause-told : goal.returns-then-turn-clause-told
 returns-then-turn-clause-told g c end = rw c.chunk.invariant.target at (c.in_ok-turn.ensures.told c.if-turn.true end)
+
+pub returns-then-turn-clause-calls : goal.returns-then-turn-clause-calls
+returns-then-turn-clause-calls g c r h =
+    let all = drop_of_length-le c.chunk.rest.now {i = c.in_ok-turn.turn.read} (omega (arith, c.in_ok-turn.ensures.done c.if-turn.true)) in
+    more_calls 0 3 c.args.self.now.target.counts c.chunk.self.target.counts c.decode_part.new.self.target.counts _ _ _ (c.chunk.invariant.calls r h) (rw (c.chunk.invariant.target, c.if-turn.true, all) at (c.in_ok-turn.ensures.calls r h))

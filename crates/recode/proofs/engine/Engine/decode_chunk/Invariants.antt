@@ -4,6 +4,7 @@ use Rattle.recode.specs.Step.{Advances}
 use Rattle.recode.specs.Streams.{written_in}
 use Rattle.recode.specs.Verdict.{CanTell, IsFaithfulFor}
 use Rattle.recode.specs.VerdictView.{verdict_view}
+use Rattle.recode.specs.Work.{TakesCalls}
 use Rattle.recode.specs.WrittenItems.{WritesItemsFor}
 use Rattle.recode.specs.TraceToWrite.{trace_to_write, AreSound}
 use Rattle.recode_log.specs.Counted.{failures_of}
@@ -32,6 +33,9 @@ invariant-chunk g l = record {
   check : HoldsAnyCharacter l.check;
   check_kind : is_wide l.check ≡ is_wide l.initial.check;
   form : is_wide l.check ≡ is_wide l.pivot;
+  calls : (r : List ℕ) → (l.chunk.last ≡ true → r ≡ []) → TakesCalls 0 l.initial.self.target.counts l.self.target.counts
+      (trace_to_write (g.D.StreamDecoder.view l.initial.self.decoder).state (g.E.RawEncoder.coding l.initial.self.target.encoder) (g.E.RawEncoder.set l.initial.self.target.encoder) l.initial.self.target.counts (l.initial.rest ++ r))
+      (trace_to_write (g.D.StreamDecoder.view l.self.decoder).state (g.E.RawEncoder.coding l.initial.self.target.encoder) (g.E.RawEncoder.set l.self.target.encoder) l.self.target.counts (l.rest ++ r));
 }
 
 abbrev pub decreases-chunk : goal.decreases-chunk

@@ -1,4 +1,4 @@
-use Rattle.std.proofs.Common.{◌∙◌, ◌+◌, arith, refl, sym, ap, length, length-drop, false, inl, inr, true≢false}
+use Rattle.std.proofs.Common.{◌∙◌, ◌+◌, ◌-◌, arith, refl, sym, ap, length, length-drop, false, inl, inr, true≢false}
 use Rattle.recode.proofs.TraceLemmas.{WritesItemsFor-of, WritesPrefixFor-of, WritesItems-join, WritesItems-join-under, on_err}
 use Rattle.recode.proofs.DecoderCallLemmas.{some_written, empty_call, full_call, malformed_call, end_none, full_some, well_formed_fits, well_formed_sound, ended_owed, ended_prefix, none_owed, full_owed, full_left, malformed_fits, malformed_sound, malformed_offset, malformed_owed, malformed_text_prefix, malformed_first_piece, malformed_left}
 use Rattle.encoding_mem.specs.Coding.{last_set}
@@ -6,6 +6,7 @@ use Rattle.recode.specs.PivotText.{pivot_chars}
 use Rattle.recode.proofs.LatencyLemmas.{well_formed_advances, malformed_advances, settled_of}
 use Rattle.recode.proofs.PivotLemmas.{holds_some}
 use Rattle.recode.specs.VerdictView.{verdict_view}
+use Rattle.recode.proofs.WorkLemmas.{end_calls, full_calls, malformed_calls}
 use Rattle.recode.proofs.VerdictLemmas.{malformed_verdict, next_tells, verdict_told, well_formed_verdict}
 use Rattle.recode.proofs.engine.Engine.decode_part.Goals as goal
 
@@ -215,3 +216,32 @@ returns-in_ok-log_malformed-in-Malformed-clause-verdict g c =
 
 pub returns-in_ok-log_malformed-in-Malformed-clause-tells : goal.returns-in_ok-log_malformed-in-Malformed-clause-tells
 returns-in_ok-log_malformed-in-Malformed-clause-tells g c more = rw c.encode_text-in-Malformed.ensures.target at c.in_ok-log_malformed-in-Malformed.ensures.tells
+
+pub returns-in_ok-encode_text-in-InputEmpty-clause-calls : goal.returns-in_ok-encode_text-in-InputEmpty-clause-calls
+returns-in_ok-encode_text-in-InputEmpty-clause-calls g c =
+    let k = empty_call (g.D.StreamDecoder.view c.args.self.now.decoder).state (g.D.StreamDecoder.view c.decode_to_pivot-call.new.decoder).state _ _ _ _ _ (rw c.in-InputEmpty.is at c.decode_to_pivot-call.ensures.law) c.text_in-text.ensures.chars in
+    let ends = rw c.in-InputEmpty.is at c.decode_to_pivot-call.ensures.ends in
+    let e = c.in_ok-encode_text-in-InputEmpty.ensures in
+    end_calls c.args.self.now.target.counts c.encode_text.new.self.counts c.decode_to_pivot-call.new.calls _ _ _ _
+    (ended_owed _ _ _ _ _ _ k (g.E.RawEncoder.coding c.args.self.now.target.encoder) (g.E.RawEncoder.set c.args.self.now.target.encoder) (g.E.RawEncoder.set c.encode_text.new.self.encoder) c.args.self.now.target.counts c.encode_text.new.self.counts (g.met.E.RawEncoder.laws c.args.self.now.target.encoder) (omega (arith, c.requires.sound.index)) ends.0 (end_none _ ends.1) e.state e.closed e.passed e.read)
+    c.decode_to_pivot-call.ensures.calls.at_most e.calls (omega (arith, e.passed))
+
+pub returns-in_ok-encode_text-in-OutputFull-clause-calls : goal.returns-in_ok-encode_text-in-OutputFull-clause-calls
+returns-in_ok-encode_text-in-OutputFull-clause-calls g c =
+    let k = full_call (g.D.StreamDecoder.view c.args.self.now.decoder).state (g.D.StreamDecoder.view c.decode_to_pivot-call.new.decoder).state _ _ _ _ _ (rw c.in-OutputFull.is at c.decode_to_pivot-call.ensures.law) c.text_in-text.ensures.chars in
+    let e = c.in_ok-encode_text-in-OutputFull.ensures in
+    let ends = rw c.in-OutputFull.is at c.decode_to_pivot-call.ensures.ends in
+    let some = full_some (g.D.StreamDecoder.view c.args.self.now.decoder).state (g.D.StreamDecoder.view c.decode_to_pivot-call.new.decoder).state _ _ _ _ _ _ c.decode_to_pivot-call.ensures.law c.text_in-text.ensures.chars
+    (λ t w. holds_some c.decode_to_pivot-call.new.pivot c.decode_to_pivot-call.result.written t w ends) in
+    full_calls c.args.self.now.target.counts c.encode_text-in-OutputFull.new.self.counts c.decode_to_pivot-call.new.calls _ _ _ _
+    (full_owed _ _ _ _ _ _ k (g.E.RawEncoder.coding c.args.self.now.target.encoder) (g.E.RawEncoder.set c.args.self.now.target.encoder) (g.E.RawEncoder.set c.encode_text-in-OutputFull.new.self.encoder) c.args.self.now.target.counts c.encode_text-in-OutputFull.new.self.counts (omega (arith, c.requires.sound.index)) (e.state refl) e.passed e.read)
+    c.decode_to_pivot-call.ensures.calls.at_most e.calls (omega (arith, e.passed, some))
+
+pub returns-in_ok-log_malformed-in-Malformed-clause-calls : goal.returns-in_ok-log_malformed-in-Malformed-clause-calls
+returns-in_ok-log_malformed-in-Malformed-clause-calls g c =
+    let k = malformed_call (g.D.StreamDecoder.view c.args.self.now.decoder).state (g.D.StreamDecoder.view c.decode_to_pivot-call.new.decoder).state _ _ _ _ _ _ _ (rw c.in-Malformed.is at c.decode_to_pivot-call.ensures.law) c.text_in-text.ensures.chars in
+    let e = c.in_ok-encode_text-in-Malformed.ensures in
+    let f = c.in_ok-log_malformed-in-Malformed.ensures in
+    malformed_calls c.args.self.now.target.counts c.encode_text-in-Malformed.new.self.counts c.log_malformed.new.self.counts c.decode_to_pivot-call.new.calls _ _ _ _ _ _
+    (malformed_owed _ _ _ _ _ _ _ _ k (g.E.RawEncoder.coding c.args.self.now.target.encoder) (g.E.RawEncoder.set c.args.self.now.target.encoder) (g.E.RawEncoder.set c.encode_text-in-Malformed.new.self.encoder) (g.E.RawEncoder.set c.log_malformed.new.self.encoder) c.args.self.now.target.counts c.encode_text-in-Malformed.new.self.counts c.log_malformed.new.self.counts (c.encode_text-in-Malformed.new.self.counts.read - c.from.result - c.from-in-Malformed.result) (omega (arith, c.requires.sound.index)) (omega (arith, c.from.ensures, c.from-in-Malformed.ensures, e.read)) (e.state refl) e.passed (rw c.encode_text-in-Malformed.ensures.target at f.state) f.index (f.read ∙ e.read))
+    c.decode_to_pivot-call.ensures.calls.at_most e.calls (omega (arith, e.passed)) (rw c.encode_text-in-Malformed.ensures.target at f.calls) f.index

@@ -25,4 +25,4 @@ returns-else-ended-clause-more g c e =
     let on = ne_eqb _ _ c.if-ended.false in
     steps_on _ _ _ _ _ _ _ c.in-Ok.ensures.bytes.0 k.read (omega (arith, c.in-Ok.ensures.bound.1, c.if-ended.false))
     (omega (arith, k.read, c.in-Ok.ensures.bound.1, c.if-read-limit.false, c.requires.read)) c.decode_chunk-converted.ensures.target
-    c.requires.sound on k.source k.pays (k.advances on) k.settled k.verdict
+    c.requires.sound on k.source k.pays (k.advances on) k.settled k.verdict k.calls

@@ -20,7 +20,7 @@ returns-in_err-deliver-clause-err g c = on_err _
 pub returns-in_err-log_lost-in-Unmappable-clause-err : goal.returns-in_err-log_lost-in-Unmappable-clause-err
 returns-in_err-log_lost-in-Unmappable-clause-err g c =
     let law = turn_items _ _ _ _ _ _ _ _ c.args.self.now.counts.index (c.args.self.now.counts.index + c.encode_from_pivot-call.result.characters) (g.met.E.RawEncoder.laws c.args.self.now.encoder) c.encode_from_pivot-call.ensures.law (omega (arith, c.encode_from_pivot-call.ensures.passed)) in
-    on_err _ (WritesItems-under _ _ _ c.args.self.now.counts (record c.args.self.now.counts { index = c.args.self.now.counts.index + c.encode_from_pivot-call.result.characters; calls = c.saturating_add-self.result }) _ _
+    on_err _ (WritesItems-under _ _ _ c.args.self.now.counts (record c.args.self.now.counts { index = c.args.self.now.counts.index + c.encode_from_pivot-call.result.characters; calls = c.encode_from_pivot-call.new.calls }) _ _
     (writes_bytes _ _ _ _ _ _ _ _ c.in_ok-deliver.ensures.ok.0 refl refl (rw c.in-Unmappable.is at law))
     (c.in_err-log_lost-in-Unmappable.ensures.err _))
 
@@ -45,7 +45,7 @@ pub returns-in_ok-log_lost-in-Unmappable-clause-pays : goal.returns-in_ok-log_lo
 returns-in_ok-log_lost-in-Unmappable-clause-pays g c =
     let law = turn_items _ _ _ _ _ _ _ _ c.args.self.now.counts.index (c.args.self.now.counts.index + c.encode_from_pivot-call.result.characters) (g.met.E.RawEncoder.laws c.args.self.now.encoder) c.encode_from_pivot-call.ensures.law (omega (arith, c.encode_from_pivot-call.ensures.passed)) in
     WritesItems-to _ _ _ _ _ _ _
-    (WritesItems-trans _ _ _ c.args.self.now.counts (record c.args.self.now.counts { index = c.args.self.now.counts.index + c.encode_from_pivot-call.result.characters; calls = c.saturating_add-self.result }) c.log_lost.new.self.counts _ _ _
+    (WritesItems-trans _ _ _ c.args.self.now.counts (record c.args.self.now.counts { index = c.args.self.now.counts.index + c.encode_from_pivot-call.result.characters; calls = c.encode_from_pivot-call.new.calls }) c.log_lost.new.self.counts _ _ _
     (writes_bytes _ _ _ _ _ _ _ _ c.in_ok-deliver.ensures.ok.0 refl refl (rw c.in-Unmappable.is at law))
     (c.in_ok-log_lost-in-Unmappable.ensures.pays _))
     (ap (λ (k : Counts). whole_items Decimal (g.E.RawEncoder.coding c.args.self.now.encoder) c.args.last (g.E.RawEncoder.set c.encode_from_pivot-call.new.encoder) k.index (pivot_chars c.encode_from_pivot-call.result.rest)) (sym c.in_ok-log_lost-in-Unmappable.ensures.counts)
@@ -67,38 +67,38 @@ returns-in_ok-log_lost-in-Unmappable-clause-state g c on =
 pub returns-in-InputEmpty-clause-verdict : goal.returns-in-InputEmpty-clause-verdict
 returns-in-InputEmpty-clause-verdict g c =
     let call = c.encode_from_pivot-call in
-    read_keeps (g.E.RawEncoder.coding c.args.self.now.encoder) _ (g.met.E.RawEncoder.laws c.args.self.now.encoder) c.args.last InputEmpty (verdict_view g.D.StreamDecoder.view c.args.self.now.verdict) (verdict_view g.D.StreamDecoder.view c.read_back-calls.new.self)
+    read_keeps (g.E.RawEncoder.coding c.args.self.now.encoder) _ (g.met.E.RawEncoder.laws c.args.self.now.encoder) c.args.last InputEmpty (verdict_view g.D.StreamDecoder.view c.args.self.now.verdict) (verdict_view g.D.StreamDecoder.view c.read_back.new.self)
     (g.E.RawEncoder.set c.args.self.now.encoder) (pivot_chars c.args.text) _ (g.E.RawEncoder.set call.new.encoder) (pivot_chars call.result.rest) (pivot_chars call.result.read)
-    c.requires.text.scalars (rw c.in-InputEmpty.is at call.ensures.law) (λ m h. cc) (call.ensures.parts c.requires.text).parts c.read_back-calls.ensures.verdict c.requires.tells
+    c.requires.text.scalars (rw c.in-InputEmpty.is at call.ensures.law) (λ m h. cc) (call.ensures.parts c.requires.text).parts c.read_back.ensures.verdict c.requires.tells
 
 pub returns-in-InputEmpty-clause-tells : goal.returns-in-InputEmpty-clause-tells
 returns-in-InputEmpty-clause-tells g c (inl on) = absurd (true≢false on)
 returns-in-InputEmpty-clause-tells g c (inr on) =
     let call = c.encode_from_pivot-call in
-    read_tells (g.E.RawEncoder.coding c.args.self.now.encoder) _ (g.met.E.RawEncoder.laws c.args.self.now.encoder) (verdict_view g.D.StreamDecoder.view c.args.self.now.verdict) (verdict_view g.D.StreamDecoder.view c.read_back-calls.new.self)
+    read_tells (g.E.RawEncoder.coding c.args.self.now.encoder) _ (g.met.E.RawEncoder.laws c.args.self.now.encoder) (verdict_view g.D.StreamDecoder.view c.args.self.now.verdict) (verdict_view g.D.StreamDecoder.view c.read_back.new.self)
     (g.E.RawEncoder.set c.args.self.now.encoder) (pivot_chars c.args.text) _ (g.E.RawEncoder.set call.new.encoder) (pivot_chars call.result.rest) (pivot_chars call.result.read)
-    c.requires.text.scalars (rw (c.in-InputEmpty.is, on) at call.ensures.law) (call.ensures.parts c.requires.text).parts c.read_back-calls.ensures.verdict c.requires.tells
+    c.requires.text.scalars (rw (c.in-InputEmpty.is, on) at call.ensures.law) (call.ensures.parts c.requires.text).parts c.read_back.ensures.verdict c.requires.tells
 
 pub returns-in-InputEmpty-clause-told : goal.returns-in-InputEmpty-clause-told
 returns-in-InputEmpty-clause-told g c done end =
     let call = c.encode_from_pivot-call in
-    end_tells (g.E.RawEncoder.coding c.args.self.now.encoder) _ (g.met.E.RawEncoder.laws c.args.self.now.encoder) (verdict_view g.D.StreamDecoder.view c.args.self.now.verdict) (verdict_view g.D.StreamDecoder.view c.read_back-calls.new.self)
+    end_tells (g.E.RawEncoder.coding c.args.self.now.encoder) _ (g.met.E.RawEncoder.laws c.args.self.now.encoder) (verdict_view g.D.StreamDecoder.view c.args.self.now.verdict) (verdict_view g.D.StreamDecoder.view c.read_back.new.self)
     (g.E.RawEncoder.set c.args.self.now.encoder) (pivot_chars c.args.text) _ (g.E.RawEncoder.set call.new.encoder) (pivot_chars call.result.rest) (pivot_chars call.result.read)
-    c.requires.text.scalars (rw (c.in-InputEmpty.is, end) at call.ensures.law) (call.ensures.parts c.requires.text).parts c.read_back-calls.ensures.verdict c.requires.tells
+    c.requires.text.scalars (rw (c.in-InputEmpty.is, end) at call.ensures.law) (call.ensures.parts c.requires.text).parts c.read_back.ensures.verdict c.requires.tells
 
 pub returns-in-OutputFull-clause-verdict : goal.returns-in-OutputFull-clause-verdict
 returns-in-OutputFull-clause-verdict g c =
     let call = c.encode_from_pivot-call in
-    read_keeps (g.E.RawEncoder.coding c.args.self.now.encoder) _ (g.met.E.RawEncoder.laws c.args.self.now.encoder) c.args.last OutputFull (verdict_view g.D.StreamDecoder.view c.args.self.now.verdict) (verdict_view g.D.StreamDecoder.view c.read_back-calls-in-OutputFull.new.self)
+    read_keeps (g.E.RawEncoder.coding c.args.self.now.encoder) _ (g.met.E.RawEncoder.laws c.args.self.now.encoder) c.args.last OutputFull (verdict_view g.D.StreamDecoder.view c.args.self.now.verdict) (verdict_view g.D.StreamDecoder.view c.read_back-in-OutputFull.new.self)
     (g.E.RawEncoder.set c.args.self.now.encoder) (pivot_chars c.args.text) _ (g.E.RawEncoder.set call.new.encoder) (pivot_chars call.result.rest) (pivot_chars call.result.read)
-    c.requires.text.scalars (rw c.in-OutputFull.is at call.ensures.law) (λ m h. cc) (call.ensures.parts c.requires.text).parts c.read_back-calls-in-OutputFull.ensures.verdict c.requires.tells
+    c.requires.text.scalars (rw c.in-OutputFull.is at call.ensures.law) (λ m h. cc) (call.ensures.parts c.requires.text).parts c.read_back-in-OutputFull.ensures.verdict c.requires.tells
 
 pub returns-in-OutputFull-clause-tells : goal.returns-in-OutputFull-clause-tells
 returns-in-OutputFull-clause-tells g c on =
     let call = c.encode_from_pivot-call in
-    full_tells (g.E.RawEncoder.coding c.args.self.now.encoder) _ (g.met.E.RawEncoder.laws c.args.self.now.encoder) c.args.last (verdict_view g.D.StreamDecoder.view c.args.self.now.verdict) (verdict_view g.D.StreamDecoder.view c.read_back-calls-in-OutputFull.new.self)
+    full_tells (g.E.RawEncoder.coding c.args.self.now.encoder) _ (g.met.E.RawEncoder.laws c.args.self.now.encoder) c.args.last (verdict_view g.D.StreamDecoder.view c.args.self.now.verdict) (verdict_view g.D.StreamDecoder.view c.read_back-in-OutputFull.new.self)
     (g.E.RawEncoder.set c.args.self.now.encoder) (pivot_chars c.args.text) _ (g.E.RawEncoder.set call.new.encoder) (pivot_chars call.result.rest) (pivot_chars call.result.read)
-    c.requires.text.scalars (rw c.in-OutputFull.is at call.ensures.law) (call.ensures.parts c.requires.text).parts c.read_back-calls-in-OutputFull.ensures.verdict c.requires.tells
+    c.requires.text.scalars (rw c.in-OutputFull.is at call.ensures.law) (call.ensures.parts c.requires.text).parts c.read_back-in-OutputFull.ensures.verdict c.requires.tells
 
 pub returns-in_ok-log_lost-in-Unmappable-clause-verdict : goal.returns-in_ok-log_lost-in-Unmappable-clause-verdict
 returns-in_ok-log_lost-in-Unmappable-clause-verdict g c =

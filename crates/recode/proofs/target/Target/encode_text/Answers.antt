@@ -26,6 +26,7 @@ text-init g c = record {
   by_log = refl;
   roomy = c.requires.check;
   kind = refl;
+  calls = omega arith;
 }
 
 pub encode_part-requires-clause-check : goal.encode_part-requires-clause-check
@@ -81,6 +82,7 @@ text-preserved g c = record {
   by_log = c.encode_part.ensures.by_log ∙ c.text.invariant.by_log;
   roomy = c.encode_part.ensures.roomy;
   kind = c.encode_part.ensures.kind ∙ c.text.invariant.kind;
+  calls = omega (arith, c.text.invariant.calls, c.in_ok-turn.ensures.calls, rw c.text.invariant.target at (c.in_ok-turn.ensures.more c.if-turn.false));
 }
 
 pub returns-in_err-turn-clause-err : goal.returns-in_err-turn-clause-err
@@ -93,3 +95,6 @@ returns-then-turn-clause-pays g c =
     WritesItems-to _ _ _ _ _ _ _
     (WritesItems-trans _ _ _ _ _ _ _ _ _ c.text.invariant.pays (rw c.text.invariant.target at c.in_ok-turn.ensures.pays))
     (whole_end _ _ _ _ _ (g.met.E.RawEncoder.laws c.args.self.now.encoder) done.0 done.1)
+
+pub returns-then-turn-clause-calls : goal.returns-then-turn-clause-calls
+returns-then-turn-clause-calls g c = omega (arith, c.text.invariant.calls, c.in_ok-turn.ensures.calls)

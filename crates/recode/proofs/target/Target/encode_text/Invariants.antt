@@ -1,4 +1,4 @@
-use Rattle.std.proofs.Common.{◌≡◌, ◌≤◌, ◌+◌, length, false}
+use Rattle.std.proofs.Common.{◌≡◌, ◌≤◌, ◌+◌, ◌*◌, length, false}
 use Rattle.encoding_mem.specs.declared.reference.Reference.TheVariants.{Decimal}
 use Rattle.encoding_mem.specs.Coding.{last_set}
 use Rattle.encoding_mem.specs.Items.{whole_items}
@@ -34,6 +34,8 @@ invariant-text g l = record {
   by_log : l.self.verdict.by_log ≡ l.initial.self.verdict.by_log;
   roomy : HoldsAnyCharacter l.check;
   kind : is_wide l.check ≡ is_wide l.initial.check;
+  calls : l.self.counts.calls + l.initial.self.counts.index + 2 * length (whole_items Decimal (g.E.RawEncoder.coding l.initial.self.encoder) l.last (g.E.RawEncoder.set l.self.encoder) l.self.counts.index (pivot_chars l.rest))
+      ≤ l.initial.self.counts.calls + l.self.counts.index + 2 * length (whole_items Decimal (g.E.RawEncoder.coding l.initial.self.encoder) l.last (g.E.RawEncoder.set l.initial.self.encoder) l.initial.self.counts.index (pivot_chars l.initial.rest));
 }
 
 abbrev pub decreases-text : goal.decreases-text

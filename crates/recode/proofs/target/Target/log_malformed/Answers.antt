@@ -44,3 +44,6 @@ encode_text-requires-clause-text g c = record { scalars = rw replacement_text re
 
 pub encode_text-requires-clause-tells : goal.encode_text-requires-clause-tells
 encode_text-requires-clause-tells g c = lost_tells (g.E.RawEncoder.coding c.args.self.now.encoder) (verdict_view g.D.StreamDecoder.view c.args.self.now.verdict) (g.E.RawEncoder.set c.args.self.now.encoder) [] (g.E.RawEncoder.set c.args.self.now.encoder) _ c.requires.tells
+
+pub returns-clause-calls : goal.returns-clause-calls
+returns-clause-calls g c = omega (arith, c.in_ok-encode_text.ensures.calls, ap length (open_replacement (g.E.RawEncoder.coding c.args.self.now.encoder) (g.E.RawEncoder.set c.args.self.now.encoder) c.args.self.now.counts.index))

@@ -1,8 +1,9 @@
-use Rattle.std.proofs.Common.{◌∙◌, refl, sym}
+use Rattle.std.proofs.Common.{◌∙◌, ap, arith, length, length-append, refl, sym}
 use Rattle.recode.proofs.DecoderCallLemmas.{empty_call, full_call, full_left, full_some, malformed_call, some_written}
 use Rattle.std.proofs.lemmas.List.{take_rest}
 use Rattle.recode.proofs.CompareLemmas.{compares_differing, compares_end, compares_malformed, compares_more, compares_start}
 use Rattle.recode.proofs.PivotLemmas.{holds_some}
+use Rattle.recode.specs.PivotText.{pivot_chars}
 use Rattle.recode.proofs.verdict.Verdict.compare.Goals as goal
 
 pub parts-init : goal.parts-init
@@ -14,6 +15,7 @@ parts-init g c = record {
   form = c.requires.form;
   roomy = c.requires.check;
   kind = refl;
+  calls = omega arith;
 }
 
 pub decode_to_pivot-call-requires-clause-pivot : goal.decode_to_pivot-call-requires-clause-pivot
@@ -75,6 +77,7 @@ parts-smaller g c =
 pub parts-preserved : goal.parts-preserved
 parts-preserved g c =
     let k = full_call (g.D.StreamDecoder.view c.parts.self.reader).state (g.D.StreamDecoder.view c.decode_to_pivot-call.new.decoder).state _ _ _ _ _ (rw c.in-OutputFull.is at c.decode_to_pivot-call.ensures.law) c.text_in-part.ensures.chars in
+    let ends = rw c.in-OutputFull.is at c.decode_to_pivot-call.ensures.ends in
     rw (take_rest c.parts.left.now c.decode_to_pivot-call.result.read) (record {
       compared = compares_more _ (g.D.StreamDecoder.view c.parts.self.reader).state (g.D.StreamDecoder.view c.decode_to_pivot-call.new.decoder).state _ _ _ _ _ _ c.parts.invariant.compared k _ c.in-Some.ensures.parts;
       open_ = c.decode_to_pivot-call.ensures.finished;
@@ -83,4 +86,22 @@ parts-preserved g c =
       form = c.decode_to_pivot-call.ensures.kind ∙ c.parts.invariant.form ∙ sym c.in-Some.ensures.form;
       roomy = c.decode_to_pivot-call.ensures.roomy;
       kind = c.decode_to_pivot-call.ensures.kind ∙ c.parts.invariant.kind;
+      calls = omega (
+        arith,
+        c.parts.invariant.calls,
+        c.decode_to_pivot-call.ensures.calls.at_most,
+        ap length c.in-Some.ensures.parts,
+        length-append (pivot_chars c.text_in-part.result) (pivot_chars c.in-Some.rest),
+        full_some (g.D.StreamDecoder.view c.parts.self.reader).state (g.D.StreamDecoder.view c.decode_to_pivot-call.new.decoder).state _ _ _ _ _ _ c.decode_to_pivot-call.ensures.law c.text_in-part.ensures.chars
+            (λ t w. holds_some c.decode_to_pivot-call.new.pivot c.decode_to_pivot-call.result.written t w ends),
+      );
     })
+
+pub returns-in_default-clause-calls : goal.returns-in_default-clause-calls
+returns-in_default-clause-calls g c = omega (arith, c.parts.invariant.calls, c.decode_to_pivot-call.ensures.calls.at_most)
+
+pub returns-in-InputEmpty-clause-calls : goal.returns-in-InputEmpty-clause-calls
+returns-in-InputEmpty-clause-calls g c = omega (arith, c.parts.invariant.calls, c.decode_to_pivot-call.ensures.calls.at_most)
+
+pub returns-in-Malformed-clause-calls : goal.returns-in-Malformed-clause-calls
+returns-in-Malformed-clause-calls g c = omega (arith, c.parts.invariant.calls, c.decode_to_pivot-call.ensures.calls.at_most)
