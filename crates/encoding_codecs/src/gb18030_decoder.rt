@@ -77,6 +77,7 @@ impl<'a> Gb18030Rule<'a> {
 
     // A lead and a digit begin a form of four bytes. Where the third or the fourth byte does not
     // continue it, the lead is malformed alone, and what is behind it is read again.
+    #[inline(always)]
     fn after_two(&self, a: u8, b: u8, rest: &[u8], last: bool) -> FirstPiece
         requires lead { IsInRange 0x81 0xFE a }
         requires second { IsInRange 0x30 0x39 b }
@@ -95,6 +96,7 @@ impl<'a> Gb18030Rule<'a> {
         }
     }
 
+    #[inline(always)]
     fn after_three(&self, a: u8, b: u8, c: u8, rest: &[u8], last: bool) -> FirstPiece
         requires lead { IsInRange 0x81 0xFE a }
         requires second { IsInRange 0x30 0x39 b }
@@ -136,7 +138,7 @@ fn is_digit(byte: u8) -> bool
 fn is_trail(byte: u8) -> bool
     ensures { result ≡ (is_in_range 0x40 0x7E byte || is_in_range 0x80 0xFE byte) }
 {
-    byte >= 0x40 && byte <= 0x7E || byte >= 0x80 && byte <= 0xFE
+    byte >= 0x40 && byte != 0x7F && byte != 0xFF
 }
 
 // The pointer of a lead and a trail: a lead has 190, and the trails leave out 7F.
@@ -165,6 +167,7 @@ fn four_pointer(a: u8, b: u8, c: u8, d: u8) -> u32
 }
 
 // The piece of four bytes, by the character at their pointer.
+#[inline(always)]
 fn first_piece_of_four(c: Option<char>) -> FirstPiece
     ensures { result ≡ decide_four c }
 {
