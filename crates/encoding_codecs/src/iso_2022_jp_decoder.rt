@@ -176,6 +176,7 @@ fn decide(jis0208: &Flat<'_>, mode: Mode, bytes: &[u8], last: bool) -> FirstPiec
 }
 
 // The same where they may begin with an escape.
+#[inline(always)]
 fn decide_at_escape(jis0208: &Flat<'_>, mode: Mode, bytes: &[u8], last: bool) -> FirstPiece
     ensures { result ≡ decide_iso_2022_jp jis0208.now mode bytes.now last }
 {
@@ -187,6 +188,7 @@ fn decide_at_escape(jis0208: &Flat<'_>, mode: Mode, bytes: &[u8], last: bool) ->
 }
 
 // The first piece, if the bytes end here or more of them do not matter.
+#[inline(always)]
 fn first_piece_in_mode(jis0208: &Flat<'_>, mode: Mode, bytes: &[u8]) -> FirstPiece
     ensures { result ≡ shown (first_piece_iso_2022_jp jis0208.now mode bytes.now) }
 {
@@ -203,6 +205,7 @@ fn first_piece_in_mode(jis0208: &Flat<'_>, mode: Mode, bytes: &[u8]) -> FirstPie
 }
 
 // An escape, by the bytes behind it: it is malformed before another.
+#[inline(always)]
 fn escape_first_piece(rest: &[u8]) -> FirstPiece
     ensures { result ≡ shown (escape_first_piece rest.now) }
 {
@@ -247,6 +250,7 @@ fn ascii_prefix_of(b: u8) -> FirstPiece
     }
 }
 
+#[inline(always)]
 fn katakana_first_piece(b: u8) -> FirstPiece
     ensures { result ≡ shown (katakana_piece b) }
 {

@@ -5,6 +5,7 @@ pub mod NewVerdictLemmas
 pub mod EncoderCallLemmas
 pub mod DecoderCallLemmas
 pub mod WorkLemmas
+pub mod BufferLemmas
 pub mod StepLemmas
 pub mod RunLemmas
 pub mod InputLemmas

@@ -1,5 +1,5 @@
 -- How the calls of codecs add up.
-use Rattle.std.proofs.Common.{◌≡◌, ℕ, ◌+◌, ◌*◌, ◌≤◌, ◌<◌, List, [], ◌∷◌, ◌++◌, length, length-append, Bool, true, arith, refl, sym, ap, ◌∙◌, map}
+use Rattle.std.proofs.Common.{◌≡◌, ℕ, ◌+◌, ◌*◌, ◌≤◌, ◌<◌, List, [], ◌∷◌, ◌++◌, length, length-append, Bool, true, arith, refl, ap, ◌∙◌, map}
 use Rattle.encoding_mem.specs.Items.{Item, Byte, MalformedAt, LostAt}
 use Rattle.recode_log.specs.Line.{line_bytes}
 use Rattle.recode_log.specs.declared.line.LogLine.TheVariants.{Bad, Lost}

@@ -1,5 +1,5 @@
--- Which buffers are enough.
-use Rattle.std.specs.Prelude.{◌≡◌, ◌<◌, ◌≤◌, Bool, true, false, length}
+-- Which buffers are enough, and which are kept as they were.
+use Rattle.std.specs.Prelude.{◌≡◌, ℕ, ◌<◌, ◌≤◌, Bool, true, false, length}
 use Rattle.recode.specs.declared.job.Buffers.{Buffers}
 use Rattle.recode.specs.declared.job.Pivot.{Pivot}
 use Rattle.recode.specs.declared.job.Pivot.TheVariants.{Utf8, Utf16}
@@ -13,9 +13,23 @@ abbrev pub is_wide : Pivot → Bool
 is_wide (Utf8 bytes) = false
 is_wide (Utf16 units) = true
 
+-- how many bytes or units it has
+abbrev pub capacity : Pivot → ℕ
+capacity (Utf8 bytes) = length bytes.now
+capacity (Utf16 units) = length units.now
+
 pub record AreEnough (b : Buffers) : Type 0 where
   pub input : 0 < length b.input.now
   pub pivot : HoldsAnyCharacter b.pivot
   pub output : 4 ≤ length b.output.now
   pub check : HoldsAnyCharacter b.check
   pub one_kind : is_wide b.pivot ≡ is_wide b.check
+
+-- they are of the kinds and sizes that they were of
+pub record AreKept (before after : Buffers) : Type 0 where
+  pub input : length after.input.now ≡ length before.input.now
+  pub pivot : capacity after.pivot ≡ capacity before.pivot
+  pub pivot_kind : is_wide after.pivot ≡ is_wide before.pivot
+  pub output : length after.output.now ≡ length before.output.now
+  pub check : capacity after.check ≡ capacity before.check
+  pub check_kind : is_wide after.check ≡ is_wide before.check

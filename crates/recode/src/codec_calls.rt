@@ -8,7 +8,7 @@ ghost use Rattle.encoding_mem.specs.Encoding.{EncodeEndsWith, Encodes};
 ghost use Rattle.encoding_mem.specs.Writing.{Adds, encode_utf16_all};
 ghost use Rattle.encoding_front.specs.DecoderCall.{DecoderCall};
 ghost use Rattle.encoding_front.specs.Stream.{finishes};
-ghost use Rattle.recode.specs.Buffers.{HoldsAnyCharacter, is_wide};
+ghost use Rattle.recode.specs.Buffers.{HoldsAnyCharacter, capacity, is_wide};
 ghost use Rattle.recode.specs.Character.{begins_character};
 ghost use Rattle.recode.specs.CodecCalls.{DecodeCallEndsWith};
 ghost use Rattle.recode.specs.Work.{IsCounted};
@@ -167,6 +167,7 @@ pub fn decode_to_pivot<D: StreamDecoder>(
     ensures finished { (D.view decoder.new).finished ≡ finishes last result.answer }
     ensures roomy { HoldsAnyCharacter pivot.new }
     ensures kind { is_wide pivot.new ≡ is_wide pivot.old }
+    ensures size { capacity pivot.new ≡ capacity pivot.old }
     ensures calls { IsCounted calls.old calls.new }
 {
     count_call(calls);

@@ -35,7 +35,7 @@ pub struct Engine<D, E> {
 impl<D: StreamDecoder, E: RawEncoder> Engine<D, E> {
     ghost use Rattle.std.specs.Prelude.{◌≡◌, ◌↔◌, ℕ, ◌+◌, ◌-◌, ◌^◌, ◌<◌, ◌≤◌, ◌++◌, ◌⊎◌, IfErr, IfOk, IsTrue, List, OnErr, OnOk, [], drop, false, length, true};
     ghost use Rattle.recode_log.specs.Counted.{failures_of};
-    ghost use Rattle.recode.specs.Buffers.{HoldsAnyCharacter, is_wide};
+    ghost use Rattle.recode.specs.Buffers.{HoldsAnyCharacter, capacity, is_wide};
     ghost use Rattle.recode.specs.EngineState.{engine_state};
     ghost use Rattle.recode.specs.Failures.{CountsFault, CountsWriterFault, failures_in};
     ghost use Rattle.recode.specs.Step.{Advances, Finishes, IsNearlyDecided, StepsOn, Stops};
@@ -136,8 +136,10 @@ impl<D: StreamDecoder, E: RawEncoder> Engine<D, E> {
             (drop p.read chunk.entry.bytes.now ++ r))) }
         ensures check { HoldsAnyCharacter check.new }
         ensures check_kind { is_wide check.new ≡ is_wide check.old }
+        ensures check_size { capacity check.new ≡ capacity check.old }
         ensures roomy { HoldsAnyCharacter pivot.new }
         ensures kind { is_wide pivot.new ≡ is_wide pivot.old }
+        ensures size { capacity pivot.new ≡ capacity pivot.old }
     {
         let calls = &mut self.target.counts.calls;
         let call = decode_to_pivot(&mut self.decoder, chunk.bytes, pivot, chunk.last, calls);
@@ -253,8 +255,10 @@ impl<D: StreamDecoder, E: RawEncoder> Engine<D, E> {
             (E.set self.new.target.encoder) self.new.target.counts r)) }
         ensures check { HoldsAnyCharacter check.new }
         ensures check_kind { is_wide check.new ≡ is_wide check.old }
+        ensures check_size { capacity check.new ≡ capacity check.old }
         ensures roomy { HoldsAnyCharacter pivot.new }
         ensures kind { is_wide pivot.new ≡ is_wide pivot.old }
+        ensures size { capacity pivot.new ≡ capacity pivot.old }
     {
         let mut rest = chunk.bytes;
         'chunk: loop {
@@ -320,11 +324,13 @@ impl<D: StreamDecoder, E: RawEncoder> Engine<D, E> {
             (failures_in reader.new writer.new log.new) result }
         ensures roomy { HoldsAnyCharacter pivot.new }
         ensures kind { is_wide pivot.new ≡ is_wide pivot.old }
+        ensures size { capacity pivot.new ≡ capacity pivot.old }
         ensures tells { result ≡ Ok Progress.More → CanTell
             (verdict_view D.view self.new.target.verdict)
             (E.coding self.old.target.encoder) (E.set self.new.target.encoder) [] }
         ensures check { HoldsAnyCharacter check.new }
         ensures check_kind { is_wide check.new ≡ is_wide check.old }
+        ensures check_size { capacity check.new ≡ capacity check.old }
     {
         let Ok(read) = reader.read(input) else {
             return Err(Fault::Read);

@@ -59,7 +59,7 @@ impl<D: StreamDecoder, E: RawEncoder> Target<D, E> {
     ghost use Rattle.encoding_mem.specs.Items.{Item, LostAt, MalformedAt, Byte, open_items, whole_items};
     ghost use Rattle.encoding_mem.specs.declared.form.EscapeState.TheVariants.{Ascii};
     ghost use Rattle.recode.specs.WrittenItems.{WritesItems, WritesPrefix};
-    ghost use Rattle.recode.specs.Buffers.{HoldsAnyCharacter, is_wide};
+    ghost use Rattle.recode.specs.Buffers.{HoldsAnyCharacter, capacity, is_wide};
     ghost use Rattle.recode.specs.PivotText.{is_in_units, pivot_chars, IsWholeText};
     ghost use Rattle.recode.specs.Verdict.{CanTell, IsToldAtEnd, Keeps, NeedsForm};
     ghost use Rattle.recode.specs.VerdictView.{verdict_view};
@@ -170,6 +170,7 @@ impl<D: StreamDecoder, E: RawEncoder> Target<D, E> {
         ensures by_log { self.new.verdict.by_log ≡ self.old.verdict.by_log }
         ensures roomy { HoldsAnyCharacter check.new }
         ensures kind { is_wide check.new ≡ is_wide check.old }
+        ensures size { capacity check.new ≡ capacity check.old }
     {
         let calls = &mut self.counts.calls;
         let call = encode_from_pivot(&mut self.encoder, text, output, last, calls);
@@ -264,6 +265,7 @@ impl<D: StreamDecoder, E: RawEncoder> Target<D, E> {
         ensures by_log { self.new.verdict.by_log ≡ self.old.verdict.by_log }
         ensures roomy { HoldsAnyCharacter check.new }
         ensures kind { is_wide check.new ≡ is_wide check.old }
+        ensures size { capacity check.new ≡ capacity check.old }
     {
         let mut rest = text;
         'text: loop {
@@ -326,6 +328,7 @@ impl<D: StreamDecoder, E: RawEncoder> Target<D, E> {
         ensures by_log { self.new.verdict.by_log ≡ self.old.verdict.by_log }
         ensures roomy { HoldsAnyCharacter check.new }
         ensures kind { is_wide check.new ≡ is_wide check.old }
+        ensures size { capacity check.new ≡ capacity check.old }
     {
         log_line(
             log,

@@ -21,7 +21,7 @@ pub struct Verdict<D> {
 impl<D: StreamDecoder> Verdict<D> {
     ghost use Rattle.std.specs.Prelude.{◌≡◌, ◌≤◌, ◌+◌, ℕ, false, length};
     ghost use Rattle.std.specs.Bool.{MatchBool};
-    ghost use Rattle.recode.specs.Buffers.{HoldsAnyCharacter, is_wide};
+    ghost use Rattle.recode.specs.Buffers.{HoldsAnyCharacter, capacity, is_wide};
     ghost use Rattle.recode.specs.PivotText.{is_in_units, pivot_chars, IsWholeText};
     ghost use Rattle.recode.specs.Verdict.{IsReadBack, NeedsForm, ReadsAsOther, ReadsAsText};
     ghost use Rattle.recode.specs.VerdictView.{verdict_view};
@@ -49,6 +49,7 @@ impl<D: StreamDecoder> Verdict<D> {
         ensures calls { calls.new ≤ calls.old + length (pivot_chars text.entry) + 1 }
         ensures roomy { HoldsAnyCharacter check.new }
         ensures kind { is_wide check.new ≡ is_wide check.old }
+        ensures size { capacity check.new ≡ capacity check.old }
     {
         let mut left = written;
         let mut expected = text;
@@ -93,6 +94,7 @@ impl<D: StreamDecoder> Verdict<D> {
         ensures calls { calls.new ≤ calls.old + length (pivot_chars text.entry) + 1 }
         ensures roomy { HoldsAnyCharacter check.new }
         ensures kind { is_wide check.new ≡ is_wide check.old }
+        ensures size { capacity check.new ≡ capacity check.old }
     {
         if !self.by_log && self.faithful {
             self.compare(written, text, check, calls);

@@ -1,7 +1,7 @@
 -- Worked rows of `specs/Work.antt`.
-use Rattle.std.specs.Prelude.{◌≡◌, ℕ, List, [], ◌∷◌, refl}
+use Rattle.std.specs.Prelude.{◌≡◌, ℕ, [], ◌∷◌, refl}
 use Rattle.std.proofs.Common.{arith}
-use Rattle.encoding_mem.specs.Items.{Item, Byte, LostAt}
+use Rattle.encoding_mem.specs.Items.{Byte, LostAt}
 use Rattle.recode.specs.Work.{IsCounted, TakesCalls, calls_at_end}
 use Rattle.recode.specs.declared.target.Counts.{Counts}
 use Rattle.std.specs.Prelude.{true, false}

@@ -1,6 +1,7 @@
 use Rattle.std.proofs.Common.{◌∙◌, Ok, refl, ap, subst, arith}
 use Rattle.recode.specs.Session.{IsOver, phase_after}
 use Rattle.recode.specs.SessionView.{view_of}
+use Rattle.recode.proofs.BufferLemmas.{kept_enough, kept_on, kept_start}
 use Rattle.recode.proofs.StepLemmas.{goes_on_start, goes_on_more, goes_on_finish, goes_on_stop}
 use Rattle.recode.proofs.RunLemmas.{completes, fails}
 use Rattle.recode.proofs.session.run.Goals as goal
@@ -11,6 +12,7 @@ run-init g c = record {
   open_ = c.new-session.ensures.open_;
   job = c.new-session.ensures.job;
   enough = c.requires.buffers;
+  kept = kept_start c.args.buffers.now;
   reader_count = refl;
   writer_count = refl;
   log_count = refl;
@@ -38,7 +40,8 @@ run-preserved g c =
       ran = goes_on_more _ _ _ _ _ _ _ c.run.invariant.ran (rw c.run.invariant.job at (e.more (ap Ok c.in-Ok-More.field-0-is)));
       open_ = e.session.phase ∙ ap (λ p. phase_after (Ok p)) c.in-Ok-More.field-0-is;
       job = e.session.job ∙ c.run.invariant.job;
-      enough = e.buffers;
+      enough = kept_enough _ _ c.run.invariant.enough e.buffers;
+      kept = kept_on _ _ _ c.run.invariant.kept e.buffers;
       reader_count = omega (arith, e.failures.reader, c.run.invariant.reader_count);
       writer_count = omega (arith, e.failures.writer, c.run.invariant.writer_count);
       log_count = omega (arith, e.failures.log, c.run.invariant.log_count);
@@ -55,3 +58,9 @@ pub returns-in-Err-clause-fails : goal.returns-in-Err-clause-fails
 returns-in-Err-clause-fails g c =
     fails _ _ c.args.job (view_of c.new-session.result) _ c.new-session.ensures
     (goes_on_stop _ _ _ _ _ _ _ c.run.invariant.ran (rw c.run.invariant.job at c.in-Err.ensures.fault))
+
+pub returns-in-Ok-Done-clause-buffers : goal.returns-in-Ok-Done-clause-buffers
+returns-in-Ok-Done-clause-buffers g c = kept_on _ _ _ c.run.invariant.kept c.in-Ok-Done.ensures.buffers
+
+pub returns-in-Err-clause-buffers : goal.returns-in-Err-clause-buffers
+returns-in-Err-clause-buffers g c = kept_on _ _ _ c.run.invariant.kept c.in-Err.ensures.buffers

@@ -25,6 +25,8 @@ chunk-init g c = record {
   check = c.requires.check;
   check_kind = refl;
   form = c.requires.form;
+  size = refl;
+  check_size = refl;
   calls = λ r h. omega arith;
 }
 
@@ -57,6 +59,8 @@ chunk-preserved g c =
       check = c.decode_part.ensures.check;
       check_kind = c.decode_part.ensures.check_kind ∙ c.chunk.invariant.check_kind;
       form = c.decode_part.ensures.check_kind ∙ c.chunk.invariant.form ∙ sym c.decode_part.ensures.kind;
+      size = c.decode_part.ensures.size ∙ c.chunk.invariant.size;
+      check_size = c.decode_part.ensures.check_size ∙ c.chunk.invariant.check_size;
       calls = λ r h. rw rest_is (more_calls 0 0 c.args.self.now.target.counts c.chunk.self.target.counts c.decode_part.new.self.target.counts _ _ _ (c.chunk.invariant.calls r h) (rw (c.chunk.invariant.target, c.if-turn.false) at (c.in_ok-turn.ensures.calls r h)));
     }
 
@@ -106,3 +110,15 @@ pub returns-then-turn-clause-calls : goal.returns-then-turn-clause-calls
 returns-then-turn-clause-calls g c r h =
     let all = drop_of_length-le c.chunk.rest.now {i = c.in_ok-turn.turn.read} (omega (arith, c.in_ok-turn.ensures.done c.if-turn.true)) in
     more_calls 0 3 c.args.self.now.target.counts c.chunk.self.target.counts c.decode_part.new.self.target.counts _ _ _ (c.chunk.invariant.calls r h) (rw (c.chunk.invariant.target, c.if-turn.true, all) at (c.in_ok-turn.ensures.calls r h))
+
+pub returns-in_err-turn-clause-size : goal.returns-in_err-turn-clause-size
+returns-in_err-turn-clause-size g c = c.decode_part.ensures.size ∙ c.chunk.invariant.size
+
+pub returns-in_err-turn-clause-check_size : goal.returns-in_err-turn-clause-check_size
+returns-in_err-turn-clause-check_size g c = c.decode_part.ensures.check_size ∙ c.chunk.invariant.check_size
+
+pub returns-then-turn-clause-size : goal.returns-then-turn-clause-size
+returns-then-turn-clause-size g c = c.decode_part.ensures.size ∙ c.chunk.invariant.size
+
+pub returns-then-turn-clause-check_size : goal.returns-then-turn-clause-check_size
+returns-then-turn-clause-check_size g c = c.decode_part.ensures.check_size ∙ c.chunk.invariant.check_size

@@ -1,5 +1,5 @@
 use Rattle.std.proofs.Common.{◌≡◌, ◌↔◌, ℕ, List, [], true, false, ◌+◌, ◌++◌, length}
-use Rattle.recode.specs.Buffers.{HoldsAnyCharacter, is_wide}
+use Rattle.recode.specs.Buffers.{HoldsAnyCharacter, capacity, is_wide}
 use Rattle.recode.specs.Step.{Advances}
 use Rattle.recode.specs.Streams.{written_in}
 use Rattle.recode.specs.Verdict.{CanTell, IsFaithfulFor}
@@ -33,6 +33,8 @@ invariant-chunk g l = record {
   check : HoldsAnyCharacter l.check;
   check_kind : is_wide l.check ≡ is_wide l.initial.check;
   form : is_wide l.check ≡ is_wide l.pivot;
+  size : capacity l.pivot ≡ capacity l.initial.pivot;
+  check_size : capacity l.check ≡ capacity l.initial.check;
   calls : (r : List ℕ) → (l.chunk.last ≡ true → r ≡ []) → TakesCalls 0 l.initial.self.target.counts l.self.target.counts
       (trace_to_write (g.D.StreamDecoder.view l.initial.self.decoder).state (g.E.RawEncoder.coding l.initial.self.target.encoder) (g.E.RawEncoder.set l.initial.self.target.encoder) l.initial.self.target.counts (l.initial.rest ++ r))
       (trace_to_write (g.D.StreamDecoder.view l.self.decoder).state (g.E.RawEncoder.coding l.initial.self.target.encoder) (g.E.RawEncoder.set l.self.target.encoder) l.self.target.counts (l.rest ++ r));

@@ -26,6 +26,7 @@ text-init g c = record {
   by_log = refl;
   roomy = c.requires.check;
   kind = refl;
+  size = refl;
   calls = omega arith;
 }
 
@@ -82,6 +83,7 @@ text-preserved g c = record {
   by_log = c.encode_part.ensures.by_log ∙ c.text.invariant.by_log;
   roomy = c.encode_part.ensures.roomy;
   kind = c.encode_part.ensures.kind ∙ c.text.invariant.kind;
+  size = c.encode_part.ensures.size ∙ c.text.invariant.size;
   calls = omega (arith, c.text.invariant.calls, c.in_ok-turn.ensures.calls, rw c.text.invariant.target at (c.in_ok-turn.ensures.more c.if-turn.false));
 }
 
@@ -98,3 +100,9 @@ returns-then-turn-clause-pays g c =
 
 pub returns-then-turn-clause-calls : goal.returns-then-turn-clause-calls
 returns-then-turn-clause-calls g c = omega (arith, c.text.invariant.calls, c.in_ok-turn.ensures.calls)
+
+pub returns-in_err-turn-clause-size : goal.returns-in_err-turn-clause-size
+returns-in_err-turn-clause-size g c = c.encode_part.ensures.size ∙ c.text.invariant.size
+
+pub returns-then-turn-clause-size : goal.returns-then-turn-clause-size
+returns-then-turn-clause-size g c = c.encode_part.ensures.size ∙ c.text.invariant.size

@@ -4,7 +4,7 @@ use Rattle.encoding_mem.specs.Coding.{last_set}
 use Rattle.encoding_mem.specs.Items.{whole_items}
 use Rattle.recode.specs.Streams.{written_in}
 use Rattle.recode.specs.WrittenItems.{WritesItems}
-use Rattle.recode.specs.Buffers.{HoldsAnyCharacter, is_wide}
+use Rattle.recode.specs.Buffers.{HoldsAnyCharacter, capacity, is_wide}
 use Rattle.recode.specs.PivotText.{is_in_units, pivot_chars, IsWholeText}
 use Rattle.recode.specs.Verdict.{CanTell, Keeps, NeedsForm}
 use Rattle.recode.specs.VerdictView.{verdict_view}
@@ -34,6 +34,7 @@ invariant-text g l = record {
   by_log : l.self.verdict.by_log ≡ l.initial.self.verdict.by_log;
   roomy : HoldsAnyCharacter l.check;
   kind : is_wide l.check ≡ is_wide l.initial.check;
+  size : capacity l.check ≡ capacity l.initial.check;
   calls : l.self.counts.calls + l.initial.self.counts.index + 2 * length (whole_items Decimal (g.E.RawEncoder.coding l.initial.self.encoder) l.last (g.E.RawEncoder.set l.self.encoder) l.self.counts.index (pivot_chars l.rest))
       ≤ l.initial.self.counts.calls + l.self.counts.index + 2 * length (whole_items Decimal (g.E.RawEncoder.coding l.initial.self.encoder) l.last (g.E.RawEncoder.set l.initial.self.encoder) l.initial.self.counts.index (pivot_chars l.initial.rest));
 }

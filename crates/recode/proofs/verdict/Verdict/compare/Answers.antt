@@ -15,6 +15,7 @@ parts-init g c = record {
   form = c.requires.form;
   roomy = c.requires.check;
   kind = refl;
+  size = refl;
   calls = omega arith;
 }
 
@@ -86,6 +87,7 @@ parts-preserved g c =
       form = c.decode_to_pivot-call.ensures.kind ∙ c.parts.invariant.form ∙ sym c.in-Some.ensures.form;
       roomy = c.decode_to_pivot-call.ensures.roomy;
       kind = c.decode_to_pivot-call.ensures.kind ∙ c.parts.invariant.kind;
+      size = c.decode_to_pivot-call.ensures.size ∙ c.parts.invariant.size;
       calls = omega (
         arith,
         c.parts.invariant.calls,
@@ -105,3 +107,12 @@ returns-in-InputEmpty-clause-calls g c = omega (arith, c.parts.invariant.calls, 
 
 pub returns-in-Malformed-clause-calls : goal.returns-in-Malformed-clause-calls
 returns-in-Malformed-clause-calls g c = omega (arith, c.parts.invariant.calls, c.decode_to_pivot-call.ensures.calls.at_most)
+
+pub returns-in_default-clause-size : goal.returns-in_default-clause-size
+returns-in_default-clause-size g c = c.decode_to_pivot-call.ensures.size ∙ c.parts.invariant.size
+
+pub returns-in-InputEmpty-clause-size : goal.returns-in-InputEmpty-clause-size
+returns-in-InputEmpty-clause-size g c = c.decode_to_pivot-call.ensures.size ∙ c.parts.invariant.size
+
+pub returns-in-Malformed-clause-size : goal.returns-in-Malformed-clause-size
+returns-in-Malformed-clause-size g c = c.decode_to_pivot-call.ensures.size ∙ c.parts.invariant.size

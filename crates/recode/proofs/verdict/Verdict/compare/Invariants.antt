@@ -1,5 +1,5 @@
 use Rattle.std.proofs.Common.{◌≡◌, ◌≤◌, ◌+◌, false, length}
-use Rattle.recode.specs.Buffers.{HoldsAnyCharacter, is_wide}
+use Rattle.recode.specs.Buffers.{HoldsAnyCharacter, capacity, is_wide}
 use Rattle.recode.specs.PivotText.{is_in_units, pivot_chars, IsWholeText}
 use Rattle.recode.proofs.CompareLemmas.{HasCompared}
 use Rattle.recode.proofs.verdict.Verdict.compare.Given as goal
@@ -13,6 +13,7 @@ invariant-parts g l = record {
   form : is_wide l.check ≡ is_in_units l.expected;
   roomy : HoldsAnyCharacter l.check;
   kind : is_wide l.check ≡ is_wide l.initial.check;
+  size : capacity l.check ≡ capacity l.initial.check;
   calls : l.calls + length (pivot_chars l.expected) ≤ l.initial.calls + length (pivot_chars l.text);
 }
 
