@@ -27,13 +27,23 @@ pub record IsFreshDecoder (d : DecoderState) (pieces_of : List ℕ → List Piec
   pub pieces : d.pieces ≡ pieces_of
   pub room : d.room ≡ enough
 
--- a list of pieces that the pieces of every continuation begin with
+-- each of these numbers is a byte
+abbrev pub AreBytes : List ℕ → Type 0
+AreBytes [] = Unit {0}
+AreBytes (b ∷ x) = (b < 256) × AreBytes x
+
+-- a list of pieces that the pieces begin with, whatever bytes follow
 abbrev pub IsDecided : (List ℕ → List Piece) → List ℕ → List Piece → Type 0
-IsDecided pieces x ps = (r : List ℕ) → (rest : List Piece) × (pieces (x ++ r) ≡ ps ++ rest)
+IsDecided pieces x ps = (r : List ℕ) → AreBytes r → (rest : List Piece) × (pieces (x ++ r) ≡ ps ++ rest)
+
+-- the same, whatever numbers follow: so it is decided
+abbrev pub IsFixed : (List ℕ → List Piece) → List ℕ → List Piece → Type 0
+IsFixed pieces x ps = (r : List ℕ) → (rest : List Piece) × (pieces (x ++ r) ≡ ps ++ rest)
 
 -- the first piece changes with at most three more bytes
 pub record IsUndecided (pieces : List ℕ → List Piece) (x : List ℕ) : Type 0 where
   pub more : List ℕ
+  pub bytes : AreBytes more
   pub short : length more ≤ 3
   pub differs : first (pieces x) ≢ first (pieces (x ++ more))
 
