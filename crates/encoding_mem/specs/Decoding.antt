@@ -86,6 +86,12 @@ EndsWith after unread last free room mark InputEmpty =
 EndsWith after unread last free room mark OutputFull = (free < room) × IsKnown after.pieces unread last
 EndsWith after unread last free room mark (Malformed a b) = mark ≤ free
 
+-- However the input goes on behind src, the pieces that end three or more of its bytes before its end are taken: size
+-- counts the bytes up to there, src and what was pending before it.
+abbrev pub TakesSoon : (pieces : List ℕ → List Piece) (src : List ℕ) (last : Bool) (size : ℕ) (taken : List Piece) → Type 0
+TakesSoon pieces src last size taken = (r : List ℕ) (ps more : List Piece) → (IsTrue last → r ≡ [])
+    → pieces (src ++ r) ≡ ps ++ more → sizes ps + 3 ≤ size → (rest : List Piece) × (taken ≡ ps ++ rest)
+
 -- what a result tells beside the scalars that were written: a malformed sequence that ends at this offset
 abbrev pub reported_event : DecoderResult → ℕ → List Event
 reported_event InputEmpty offset = []

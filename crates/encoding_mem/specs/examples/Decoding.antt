@@ -4,7 +4,7 @@ use Rattle.std.proofs.lemmas.Bool.{lt-ltb}
 use Rattle.encoding_mem.specs.Piece.{Piece, well_formed, malformed, first, piece_len, text_of}
 use Rattle.encoding_mem.specs.Pieces.{pieces_in}
 use Rattle.encoding_mem.specs.Event.{malformed_at}
-use Rattle.encoding_mem.specs.Decoding.{AreBytes, IsDecided, IsUndecided, Waits, IsKnown, Reports, reported_event}
+use Rattle.encoding_mem.specs.Decoding.{AreBytes, IsDecided, IsUndecided, Waits, IsKnown, Reports, TakesSoon, reported_event}
 use Rattle.encoding_mem.specs.Utf8.{pieces_utf8}
 use Rattle.encoding_mem.specs.declared.decoder_result.DecoderResult.TheVariants.{InputEmpty, Malformed}
 
@@ -122,6 +122,20 @@ six_do_not_wait pieces waits = absurd (omega (arith, waits.short))
 
 three_behind_do_not_wait : ¬ (Waits (λ x. well_formed 2 [] ∷ []) 5)
 three_behind_do_not_wait waits = absurd (omega (arith, waits.soon [] (well_formed 2 []) refl))
+
+-- `A` and a malformed sequence of two bytes: `A` is taken where it ends three bytes before the end, and not before
+abbrev letter_and_two : List ℕ → List Piece
+letter_and_two x = well_formed 1 (0x41 ∷ []) ∷ malformed 2 ∷ []
+
+may_wait : TakesSoon letter_and_two [] false 3 []
+may_wait r [] more stops is early = ([], refl)
+may_wait r (p ∷ ps) more stops is early = absurd (let letter : well_formed 1 (0x41 ∷ []) ≡ p = cc in omega (arith, ap piece_len letter, early))
+
+may_not_wait : ¬ (TakesSoon letter_and_two [] false 4 [])
+may_not_wait soon = nothing_first (soon [] (well_formed 1 (0x41 ∷ []) ∷ []) (malformed 2 ∷ []) (λ last. refl) refl (omega arith))
+  where
+    nothing_first : (rest : List Piece) × ([] ≡ well_formed 1 (0x41 ∷ []) ∷ rest) → ⊥
+    nothing_first taken = (let none : [] ≡ well_formed 1 (0x41 ∷ []) ∷ taken.0 = taken.1 in cc)
 
 -- `A` is known whatever follows; bytes that stand for nothing need no room, and do not count as known
 letter_is_known : IsKnown pieces_utf8 (0x41 ∷ []) false

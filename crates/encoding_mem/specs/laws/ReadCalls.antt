@@ -195,7 +195,7 @@ reads_call e p pieces last outcome s t w s' rest c =
 
 -- ---- what a decoder that has read the bytes has taken
 
-apart_parts : {X : Type 0} (a b x y : List X) → a ++ x ≡ b ++ y → ((m : List X) × (a ≡ b ++ m)) ⊎ ((m : List X) × (b ≡ a ++ m))
+pub apart_parts : {X : Type 0} (a b x y : List X) → a ++ x ≡ b ++ y → ((m : List X) × (a ≡ b ++ m)) ⊎ ((m : List X) × (b ≡ a ++ m))
 apart_parts [] b x y h = inr (b, refl)
 apart_parts (p ∷ a) [] x y h = inl (p ∷ a, refl)
 apart_parts (p ∷ a) (q ∷ b) x y h =
