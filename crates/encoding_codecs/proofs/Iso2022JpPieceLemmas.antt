@@ -21,7 +21,7 @@ use Rattle.std.specs.Char.{len_utf8}
 use Rattle.std.specs.Str.{chars, IsAscii}
 use Rattle.std.proofs.lemmas.Bool.Decides.{nat_tests}
 use Rattle.std.proofs.lemmas.Str.{chars-IsAscii, len_utf8_ascii}
-use Rattle.encoding_mem.specs.Decoding.{DecoderState}
+use Rattle.encoding_mem.specs.Decoding.{AreBytes, DecoderState}
 use Rattle.encoding_mem.specs.Iso2022JpAscii.{IsIso2022JpAscii, IsIso2022JpAsciiByte}
 use Rattle.encoding_mem.specs.laws.Pieces.{pieces_in-cons}
 use Rattle.encoding_mem.specs.DecodedLength.{is_units, decoded_length, decoded_length_multibyte}
@@ -50,6 +50,7 @@ escape_fixed (a ∷ b ∷ c ∷ x) r e = refl
 -- what may become an escape does, with the right bytes
 record Completes (x : List ℕ) : Type 0 where
   more : List ℕ
+  bytes : AreBytes more
   few : length more ≤ 3
   whole : is_some (escape_at (x ++ more)) ≡ true
   short : length x < 3
@@ -62,9 +63,9 @@ an_escape true false true e = refl
 an_escape true false false e = cc
 
 completes : (x : List ℕ) → may_be_escape x ≡ true → Completes x
-completes [] e = record { more = 0x1B ∷ 0x28 ∷ 0x42 ∷ []; few = omega arith; whole = refl; short = omega arith; none = refl }
-completes (a ∷ []) e = record { more = 0x28 ∷ 0x42 ∷ []; few = omega arith; whole = rw e refl; short = omega arith; none = refl }
-completes (a ∷ b ∷ []) e = record { more = 0x42 ∷ []; few = omega arith; whole = an_escape (a == 0x1B) (b == 0x28) (b == 0x24) e; short = omega arith; none = refl }
+completes [] e = record { more = 0x1B ∷ 0x28 ∷ 0x42 ∷ []; bytes = (omega arith, (omega arith, (omega arith, tt))); few = omega arith; whole = refl; short = omega arith; none = refl }
+completes (a ∷ []) e = record { more = 0x28 ∷ 0x42 ∷ []; bytes = (omega arith, (omega arith, tt)); few = omega arith; whole = rw e refl; short = omega arith; none = refl }
+completes (a ∷ b ∷ []) e = record { more = 0x42 ∷ []; bytes = (omega arith, tt); few = omega arith; whole = an_escape (a == 0x1B) (b == 0x28) (b == 0x24) e; short = omega arith; none = refl }
 completes (a ∷ b ∷ c ∷ x) e = absurd (clash e)
   where
     clash : false ≡ true → ⊥
@@ -113,6 +114,7 @@ awaits_1B jis0208 m = record {
   goes_on = refl;
   short = omega arith;
   more = 0x28 ∷ 0x42 ∷ [];
+  bytes = (omega arith, (omega arith, tt));
   few = omega arith;
   differs = broken_then_well_formed (first_piece_iso_2022_jp jis0208 m (0x1B ∷ [])) (first_piece_iso_2022_jp jis0208 m (0x1B ∷ 0x28 ∷ 0x42 ∷ [])) 1 3 [] (malformed_1B jis0208 m []) refl;
   soon = λ r. omega arith;
@@ -123,6 +125,7 @@ awaits_1B_28 jis0208 m = record {
   goes_on = refl;
   short = omega arith;
   more = 0x42 ∷ [];
+  bytes = (omega arith, tt);
   few = omega arith;
   differs = broken_then_well_formed (first_piece_iso_2022_jp jis0208 m (0x1B ∷ 0x28 ∷ [])) (first_piece_iso_2022_jp jis0208 m (0x1B ∷ 0x28 ∷ 0x42 ∷ [])) 1 3 [] (malformed_1B jis0208 m (0x28 ∷ [])) refl;
   soon = λ r. omega arith;
@@ -133,6 +136,7 @@ awaits_1B_24 jis0208 m = record {
   goes_on = refl;
   short = omega arith;
   more = 0x42 ∷ [];
+  bytes = (omega arith, tt);
   few = omega arith;
   differs = broken_then_well_formed (first_piece_iso_2022_jp jis0208 m (0x1B ∷ 0x24 ∷ [])) (first_piece_iso_2022_jp jis0208 m (0x1B ∷ 0x24 ∷ 0x42 ∷ [])) 1 3 [] (malformed_1B jis0208 m (0x24 ∷ [])) refl;
   soon = λ r. omega arith;
@@ -175,6 +179,7 @@ awaits_another jis0208 m (a ∷ b ∷ c ∷ x) e f =
       goes_on = refl;
       short = omega (arith, k.short);
       more = k.more;
+      bytes = k.bytes;
       few = k.few;
       differs = well_formed_then_broken (first_piece_iso_2022_jp jis0208 m (a ∷ b ∷ c ∷ x)) (first_piece_iso_2022_jp jis0208 m (a ∷ b ∷ c ∷ (x ++ k.more))) 3 3 [] now then;
       soon = λ r. omega (arith, k.short, size_escape (x ++ r), ap piece_len (first_piece_escape jis0208 m a b c (x ++ r) e));
@@ -193,6 +198,7 @@ awaits_second jis0208 Jis (b ∷ []) e =
       goes_on = refl;
       short = omega arith;
       more = 0x20 ∷ [];
+      bytes = (omega arith, tt);
       few = omega arith;
       differs = λ same. let clash : malformed 1 ≡ malformed 2 = sym now ∙ same ∙ then in cc;
       soon = λ r. omega arith;

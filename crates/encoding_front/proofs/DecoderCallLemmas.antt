@@ -198,6 +198,7 @@ ends_settled s t left unread last free room mark InputEmpty same e is h = (
         short = omega (arith, e, waits.1.short);
         undecided = record {
           more = waits.1.undecided.more;
+          bytes = waits.1.undecided.bytes;
           short = waits.1.undecided.short;
           differs = λ d. waits.1.undecided.differs (ap first (sym (same [])) ∙ d ∙ ap first (same ([] ++ waits.1.undecided.more)));
         };

@@ -6,20 +6,26 @@ ghost use Rattle.std.specs.Str.{all_scalars, chars};
 ghost use Rattle.encoding_mem.specs.declared.reference.Reference.TheVariants.{Decimal};
 ghost use Rattle.encoding_mem.specs.Agreement.{ReadsBackOrBreaks, ReadsByStep};
 ghost use Rattle.encoding_mem.specs.Coding.{bytes, open_from, output, reference};
+ghost use Rattle.encoding_mem.specs.Decoding.{TakesSoon};
 ghost use Rattle.encoding_mem.specs.Encoding.{Encodes};
 ghost use Rattle.encoding_mem.specs.Piece.{ArePieces, sizes};
 ghost use Rattle.encoding_mem.specs.ReadCalls.{KeepsVerdict, NothingIsLost};
 ghost use Rattle.encoding_mem.specs.declared.encoder_result.EncoderResult.{EncoderResult};
 ghost use Rattle.encoding_mem.specs.ReadBack.{ReadsAs, ReadsBackExactly};
 ghost use Rattle.encoding_mem.specs.Steps.{IsBroken};
+ghost use Rattle.encoding_mem.specs.Writing.{Adds};
+ghost use Rattle.encoding_mem.specs.declared.decoder_result.DecoderResult.{DecoderResult};
 ghost use Rattle.encoding_mem.specs.declared.form.EscapeState.{EscapeState};
 ghost use Rattle.encoding_mem.specs.declared.form.EscapeState.TheVariants.{Ascii};
 ghost use Rattle.encoding_tables.specs.IndexLists.{AreAcceptedTables, IndexLists};
 ghost use Rattle.encoding_front.specs.Bounds.{ReportsItself};
+ghost use Rattle.encoding_front.specs.DecoderCall.{DecoderCall, TextCall};
 ghost use Rattle.encoding_front.specs.EncodingTable.{encoding_name};
 ghost use Rattle.encoding_front.specs.Encodings.{HasLabel, KeepsCharacters, coding_of, output_encoding_of, pieces_of};
 ghost use Rattle.encoding_front.specs.Encodings.{set_pieces_of};
 ghost use Rattle.encoding_front.specs.Marks.{marked_pieces, marked_text};
+ghost use Rattle.encoding_front.specs.Stream.{DecoderView};
+ghost use Rattle.encoding_front.specs.declared.coder_result.CoderResult.{CoderResult};
 ghost use Rattle.encoding_front.specs.declared.mark.Mark.{Mark};
 ghost use Rattle.encoding_front.specs.declared.encoding.Encoding.{Encoding};
 ghost use Rattle.encoding_front.specs.declared.encoding.Encoding.TheVariants.{Replacement, Utf16Be, Utf16Le};
@@ -122,6 +128,23 @@ pub fn input_is_its_pieces()
     ensures recoded { (t : IndexLists) (mark : Mark) (from to : Encoding) (x : List ℕ)
         → AreAcceptedTables t
         → length (output Decimal (coding_of t to) (marked_text t mark from x)) ≤ 13 * length x + 3 }
+{}
+
+/// A call of a decoder, with any handling of marks, that read all has passed or reported each piece
+/// that ends three or more bytes before the end of what was read, whatever follows: one that stops
+/// at a malformed sequence, and one that writes U+FFFD for it.
+pub fn pieces_are_passed_soon()
+    ensures reported { (v v' : DecoderView) (src : List ℕ) (last : Bool) (read : ℕ)
+        → (encode : List ℕ → List ℕ) (old new : List ℕ) (written free room mark : ℕ)
+        → (call : DecoderCall v v' src last read (λ text. Adds old 0 (encode text) new written)
+        free room mark DecoderResult.InputEmpty)
+        → TakesSoon v.state.pieces src last (v.state.pending + length src) call.law.taken }
+    ensures replaced { (v v' : DecoderView) (src : List ℕ) (last : Bool) (read : ℕ)
+        → (encode : List ℕ → List ℕ) (old new : List ℕ) (written free room mark : ℕ)
+        → (had_errors : Bool)
+        → (call : TextCall v v' src last read (λ text. Adds old 0 (encode text) new written)
+        free room mark CoderResult.InputEmpty had_errors)
+        → TakesSoon v.state.pieces src last (v.state.pending + length src) call.law.taken }
 {}
 
 /// An input that is decoded at once, and its text encoded at once, gives the output for its text.

@@ -28,6 +28,7 @@ ends_with P pending unread last free room mark whole are_pieces needs limits cov
         short = waits.1;
         undecided = record {
           more = waits.2.more;
+          bytes = waits.2.bytes;
           short = waits.2.short;
           differs = λ same. waits.2.differs (ap (λ x. first (P x)) (sym (append-nil pending)) ∙ same);
         };

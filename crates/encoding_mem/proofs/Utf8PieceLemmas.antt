@@ -5,6 +5,7 @@ use Rattle.std.proofs.lemmas.Bool.Decides.{nat_tests}
 use Rattle.encoding_mem.specs.Piece.{Piece, well_formed, malformed, piece_len, scalars_of}
 use Rattle.encoding_mem.specs.Utf8.{first_piece_utf8, utf8_after_lead, utf8_after_two, utf8_after_three, second_min, second_max, scalar_of_two, scalar_of_three, scalar_of_four, pieces_utf8}
 use Rattle.encoding_mem.specs.laws.Utf8Decide.{decide_utf8, utf8_decide_lead, utf8_decide_two, utf8_decide_three, cut_short}
+use Rattle.encoding_mem.specs.Decoding.{AreBytes}
 use Rattle.encoding_mem.specs.laws.Shows.{Shows, shows_cond, shows_cons, shows_const, broken_then_well_formed}
 use Rattle.std.specs.Char.{IsScalar, encode_utf8}
 use Rattle.std.specs.Str.{all_scalars}
@@ -34,12 +35,12 @@ some_lead b [] = omega arith
 some_lead b (c ∷ x) = some_cond (is_in_range (second_min b) (second_max b) c) (cond (nat_lt b 0xE0) (well_formed 2 (scalar_of_two b c ∷ [])) (utf8_after_two b c x)) (malformed 1) (some_cond (nat_lt b 0xE0) (well_formed 2 (scalar_of_two b c ∷ [])) (utf8_after_two b c x) (omega arith) (some_two b c x)) (omega arith)
 
 -- the bytes end here
-shows_cut : (f : List ℕ → Piece) (n : ℕ) (last : Bool) (more : List ℕ) (size : ℕ) (text : List ℕ) → 0 < n → n ≤ 3 → ((x : List ℕ) → 0 < piece_len (f x)) → f [] ≡ malformed n → length more ≤ 3 → f more ≡ well_formed size text → Shows f n [] last (cut_short n last)
-shows_cut f n true more size text some few each now short then = ((some, omega arith, λ r e. ap f (e refl) ∙ now), omega arith)
-shows_cut f n false more size text some few each now short then = record { goes_on = refl; short = omega arith; more = more; few = short; differs = broken_then_well_formed (f []) (f more) n size text now then; soon = λ r. omega (arith, each r, few) }
+shows_cut : (f : List ℕ → Piece) (n : ℕ) (last : Bool) (more : List ℕ) (size : ℕ) (text : List ℕ) → 0 < n → n ≤ 3 → ((x : List ℕ) → 0 < piece_len (f x)) → f [] ≡ malformed n → AreBytes more → length more ≤ 3 → f more ≡ well_formed size text → Shows f n [] last (cut_short n last)
+shows_cut f n true more size text some few each now bytes short then = ((some, omega arith, λ r e. ap f (e refl) ∙ now), omega arith)
+shows_cut f n false more size text some few each now bytes short then = record { goes_on = refl; short = omega arith; more = more; bytes = bytes; few = short; differs = broken_then_well_formed (f []) (f more) n size text now then; soon = λ r. omega (arith, each r, few) }
 
 shows_three : (b c d : ℕ) (x : List ℕ) (last : Bool) → Shows (utf8_after_three b c d) 3 x last (utf8_decide_three b c d x last)
-shows_three b c d [] last = shows_cut (utf8_after_three b c d) 3 last (0x80 ∷ []) 4 (scalar_of_four b c d 0x80 ∷ []) (omega arith) (omega arith) (some_three b c d) refl (omega arith) refl
+shows_three b c d [] last = shows_cut (utf8_after_three b c d) 3 last (0x80 ∷ []) 4 (scalar_of_four b c d 0x80 ∷ []) (omega arith) (omega arith) (some_three b c d) refl (omega arith, tt) (omega arith) refl
 shows_three b c d (e ∷ x) last = shows_cons (utf8_after_three b c d) 3 e x last _ (shows_cond (is_in_range 0x80 0xBF e) (λ _. well_formed 4 (scalar_of_four b c d e ∷ [])) (λ _. malformed 3) 4 x last _ _ (shows_const (well_formed 4 (scalar_of_four b c d e ∷ [])) 4 x last (omega arith) (omega arith)) (shows_const (malformed 3) 4 x last (omega arith) (omega arith), omega arith))
 
 -- a character comes either way
@@ -53,7 +54,7 @@ text_cond false p q h k = k
 shows_two : (b c : ℕ) (x : List ℕ) (last : Bool) → Shows (utf8_after_two b c) 2 x last (utf8_decide_two b c x last)
 shows_two b c [] last =
     let t : Text (utf8_after_two b c (0x80 ∷ 0x80 ∷ [])) = text_cond (nat_lt b 0xF0) (well_formed 3 (scalar_of_three b c 0x80 ∷ [])) (well_formed 4 (scalar_of_four b c 0x80 0x80 ∷ [])) (_, _, refl) (_, _, refl) in
-    shows_cut (utf8_after_two b c) 2 last (0x80 ∷ 0x80 ∷ []) t.0 t.1 (omega arith) (omega arith) (some_two b c) refl (omega arith) t.2
+    shows_cut (utf8_after_two b c) 2 last (0x80 ∷ 0x80 ∷ []) t.0 t.1 (omega arith) (omega arith) (some_two b c) refl (omega arith, (omega arith, tt)) (omega arith) t.2
 shows_two b c (d ∷ x) last = shows_cons (utf8_after_two b c) 2 d x last _
     (shows_cond (is_in_range 0x80 0xBF d) (λ y. cond (nat_lt b 0xF0) (well_formed 3 (scalar_of_three b c d ∷ [])) (utf8_after_three b c d y)) (λ _. malformed 2) 3 x last _ _
     (shows_cond (nat_lt b 0xF0) (λ _. well_formed 3 (scalar_of_three b c d ∷ [])) (utf8_after_three b c d) 3 x last _ _ (shows_const (well_formed 3 (scalar_of_three b c d ∷ [])) 3 x last (omega arith) (omega arith)) (shows_three b c d x last))
@@ -62,12 +63,15 @@ shows_two b c (d ∷ x) last = shows_cons (utf8_after_two b c) 2 d x last _
 second_fits : (b : ℕ) → is_in_range (second_min b) (second_max b) (second_min b) ≡ true
 second_fits b = grind (arith, nat_tests)
 
+second_is_byte : (b : ℕ) → second_min b < 256
+second_is_byte b = grind (arith, nat_tests)
+
 shows_lead : (b : ℕ) (x : List ℕ) (last : Bool) → Shows (utf8_after_lead b) 1 x last (utf8_decide_lead b x last)
 shows_lead b [] last =
     let c : ℕ = second_min b in
     let p : Piece = cond (nat_lt b 0xE0) (well_formed 2 (scalar_of_two b c ∷ [])) (utf8_after_two b c (0x80 ∷ 0x80 ∷ [])) in
     let text : Text p = text_cond (nat_lt b 0xE0) (well_formed 2 (scalar_of_two b c ∷ [])) (utf8_after_two b c (0x80 ∷ 0x80 ∷ [])) (_, _, refl) (text_cond (nat_lt b 0xF0) (well_formed 3 (scalar_of_three b c 0x80 ∷ [])) (well_formed 4 (scalar_of_four b c 0x80 0x80 ∷ [])) (_, _, refl) (_, _, refl)) in
-    shows_cut (utf8_after_lead b) 1 last (c ∷ 0x80 ∷ 0x80 ∷ []) text.0 text.1 (omega arith) (omega arith) (some_lead b) refl (omega arith) (ap (λ t. cond t p (malformed 1)) (second_fits b) ∙ text.2)
+    shows_cut (utf8_after_lead b) 1 last (c ∷ 0x80 ∷ 0x80 ∷ []) text.0 text.1 (omega arith) (omega arith) (some_lead b) refl (second_is_byte b, (omega arith, (omega arith, tt))) (omega arith) (ap (λ t. cond t p (malformed 1)) (second_fits b) ∙ text.2)
 shows_lead b (c ∷ x) last = shows_cons (utf8_after_lead b) 1 c x last _
     (shows_cond (is_in_range (second_min b) (second_max b) c) (λ y. cond (nat_lt b 0xE0) (well_formed 2 (scalar_of_two b c ∷ [])) (utf8_after_two b c y)) (λ _. malformed 1) 2 x last _ _
     (shows_cond (nat_lt b 0xE0) (λ _. well_formed 2 (scalar_of_two b c ∷ [])) (utf8_after_two b c) 2 x last _ _ (shows_const (well_formed 2 (scalar_of_two b c ∷ [])) 2 x last (omega arith) (omega arith)) (shows_two b c x last))

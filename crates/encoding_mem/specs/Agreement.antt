@@ -4,7 +4,7 @@ use Rattle.std.specs.Prelude.{◌≡◌, ℕ, ◌⊎◌, true, List, [], ◌∷�
 use Rattle.std.specs.Char.{IsScalar}
 use Rattle.std.specs.Str.{all_scalars}
 use Rattle.encoding_mem.specs.Piece.{Piece, text, sizes, AreWellFormed}
-use Rattle.encoding_mem.specs.Decoding.{IsDecided, IsUndecided}
+use Rattle.encoding_mem.specs.Decoding.{IsFixed, IsUndecided}
 use Rattle.encoding_mem.specs.Coding.{Coding, IsMapped, open_from, last_set, output}
 use Rattle.encoding_mem.specs.ReadBack.{ReadsAs}
 use Rattle.encoding_mem.specs.Steps.{IsBroken, StepLaw, one_from}
@@ -16,11 +16,11 @@ use Rattle.encoding_mem.specs.declared.form.EscapeState.TheVariants.{Ascii}
 abbrev pub IsEscape : Coding → List ℕ → Type 0
 IsEscape e bytes = (s : EscapeState) × (s' : EscapeState) × (bytes ≡ e.escape s s')
 
--- Bytes agree with a text: pieces that they decide are well-formed and are the text, and what is left of the bytes is
--- empty or one whole escape.
+-- Bytes agree with a text: pieces that they decide, whatever numbers follow, are well-formed and are the text, and what
+-- is left of the bytes is empty or one whole escape.
 pub record Agrees (e : Coding) (pieces : List ℕ → List Piece) (bytes t : List ℕ) : Type 0 where
   pub taken : List Piece
-  pub decided : IsDecided pieces bytes taken
+  pub decided : IsFixed pieces bytes taken
   pub well_formed : AreWellFormed taken
   pub same : text taken ≡ t
   pub left : (drop (sizes taken) bytes ≡ []) ⊎ IsEscape e (drop (sizes taken) bytes)

@@ -27,13 +27,23 @@ pub record IsFreshDecoder (d : DecoderState) (pieces_of : List ℕ → List Piec
   pub pieces : d.pieces ≡ pieces_of
   pub room : d.room ≡ enough
 
--- a list of pieces that the pieces of every continuation begin with
+-- each of these numbers is a byte
+abbrev pub AreBytes : List ℕ → Type 0
+AreBytes [] = Unit {0}
+AreBytes (b ∷ x) = (b < 256) × AreBytes x
+
+-- a list of pieces that the pieces begin with, whatever bytes follow
 abbrev pub IsDecided : (List ℕ → List Piece) → List ℕ → List Piece → Type 0
-IsDecided pieces x ps = (r : List ℕ) → (rest : List Piece) × (pieces (x ++ r) ≡ ps ++ rest)
+IsDecided pieces x ps = (r : List ℕ) → AreBytes r → (rest : List Piece) × (pieces (x ++ r) ≡ ps ++ rest)
+
+-- the same, whatever numbers follow: so it is decided
+abbrev pub IsFixed : (List ℕ → List Piece) → List ℕ → List Piece → Type 0
+IsFixed pieces x ps = (r : List ℕ) → (rest : List Piece) × (pieces (x ++ r) ≡ ps ++ rest)
 
 -- the first piece changes with at most three more bytes
 pub record IsUndecided (pieces : List ℕ → List Piece) (x : List ℕ) : Type 0 where
   pub more : List ℕ
+  pub bytes : AreBytes more
   pub short : length more ≤ 3
   pub differs : first (pieces x) ≢ first (pieces (x ++ more))
 
@@ -75,6 +85,12 @@ EndsWith after unread last free room mark InputEmpty =
     (unread ≡ []) × (((after.pending ≡ 0) × (after.pieces [] ≡ [])) ⊎ ((last ≡ false) × Waits after.pieces after.pending))
 EndsWith after unread last free room mark OutputFull = (free < room) × IsKnown after.pieces unread last
 EndsWith after unread last free room mark (Malformed a b) = mark ≤ free
+
+-- However the input goes on behind src, the pieces that end three or more of its bytes before its end are taken: size
+-- counts the bytes up to there, src and what was pending before it.
+abbrev pub TakesSoon : (pieces : List ℕ → List Piece) (src : List ℕ) (last : Bool) (size : ℕ) (taken : List Piece) → Type 0
+TakesSoon pieces src last size taken = (r : List ℕ) (ps more : List Piece) → (IsTrue last → r ≡ [])
+    → pieces (src ++ r) ≡ ps ++ more → sizes ps + 3 ≤ size → (rest : List Piece) × (taken ≡ ps ++ rest)
 
 -- what a result tells beside the scalars that were written: a malformed sequence that ends at this offset
 abbrev pub reported_event : DecoderResult → ℕ → List Event

@@ -2,7 +2,7 @@
 use Rattle.std.specs.Prelude.{◌≡◌, ◌≢◌, ℕ, ◌<◌, ◌≤◌, ◌⊎◌, List, [], ◌∷◌, ◌++◌, length, slice_index}
 use Rattle.std.specs.Char.{IsScalar}
 use Rattle.encoding_mem.specs.Coding.{Coding, spelled}
-use Rattle.encoding_mem.specs.Decoding.{IsDecided}
+use Rattle.encoding_mem.specs.Decoding.{IsFixed}
 use Rattle.encoding_mem.specs.Piece.{Piece, piece_len, scalars_of, text, sizes, IsWellFormed, AreWellFormed, well_formed}
 use Rattle.encoding_mem.specs.declared.reference.Reference.{Reference}
 use Rattle.encoding_mem.specs.declared.form.Form.{Form}
@@ -27,10 +27,11 @@ pub record AreApart (a b : List ℕ) : Type 0 where
   pub in_other : offset < length b
   pub apart : slice_index a offset ≢ slice_index b offset
 
--- Bytes never read as this text: of the pieces that they decide one is malformed, or the text is another.
+-- Bytes never read as this text: of the pieces that they decide, whatever numbers follow, one is malformed, or the text
+-- is another.
 pub record IsBroken (before : List ℕ → List Piece) (bytes t : List ℕ) : Type 0 where
   pub taken : List Piece
-  pub decided : IsDecided before bytes taken
+  pub decided : IsFixed before bytes taken
   pub wrong : (AreWellFormed taken → ⊥) ⊎ AreApart (text taken) t
 
 -- A target reads back step by step: read from the set in force, what is written for a character is it, or is broken.

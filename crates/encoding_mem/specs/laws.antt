@@ -18,4 +18,5 @@ pub mod Steps
 pub mod Agreement
 pub mod OneSet
 pub mod Verdict
+pub mod Latency
 pub mod ReadCalls

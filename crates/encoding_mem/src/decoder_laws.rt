@@ -1,10 +1,13 @@
 // Laws of the decoders' definitions.
 
-ghost use Rattle.std.specs.Prelude.{◌≡◌, ◌≤◌, Bool, true, List, [], ℕ, length, encode_utf8_all};
+ghost use Rattle.std.specs.Prelude.{◌≡◌, ◌≤◌, ◌+◌, Bool, true, List, [], ℕ};
+ghost use Rattle.std.specs.Prelude.{drop, encode_utf8_all, length};
 ghost use Rattle.std.specs.List.{All};
 ghost use Rattle.std.specs.Str.{all_scalars};
 ghost use Rattle.encoding_mem.specs.Piece.{Piece, scalars_of};
 ghost use Rattle.encoding_mem.specs.Decoding.{DecoderState, EventLaw, StateLaw, IsUndecided, IsDecided};
+ghost use Rattle.encoding_mem.specs.Decoding.{EndsWith, TakesSoon};
+ghost use Rattle.encoding_mem.specs.declared.decoder_result.DecoderResult.TheVariants.{InputEmpty};
 ghost use Rattle.encoding_mem.specs.Writing.{Adds};
 ghost use Rattle.encoding_mem.specs.Text.{text_pieces};
 ghost use Rattle.encoding_mem.specs.Utf8.{pieces_utf8};
@@ -23,6 +26,18 @@ pub fn calls_have_events()
 pub fn undecided_decides_nothing()
     ensures { (pieces : List ℕ → List Piece) (x : List ℕ) (ps : List Piece)
         → IsUndecided pieces x → IsDecided pieces x ps → ps ≡ [] }
+{}
+
+/// A call that read all has passed each piece that ends three or more bytes before the end of what
+/// was read, whatever follows: of every call that adds its text to a slice and meets the law and
+/// the clause on why it ended, as those of every raw decoder do.
+pub fn pieces_are_taken_soon()
+    ensures { (before after : DecoderState) (src : List ℕ) (last : Bool) (read : ℕ)
+        → (encode : List ℕ → List ℕ) (old new : List ℕ) (written free room mark : ℕ)
+        → (law : StateLaw before after src last read
+        (λ text. Adds old 0 (encode text) new written) InputEmpty)
+        → EndsWith after (drop read src) last free room mark InputEmpty
+        → TakesSoon before.pieces src last (before.pending + length src) law.taken }
 {}
 
 /// No piece gives more than two scalar values: of any decoder, in whatever state it is, and

@@ -1,14 +1,14 @@
 -- Buffers that are lent and given back.
 use Rattle.std.proofs.Common.{◌≡◌, ◌∙◌, arith, refl, sym, true≢false}
-use Rattle.recode.specs.Buffers.{AreEnough, AreKept, HoldsAnyCharacter, capacity, is_wide}
+use Rattle.recode.specs.Buffers.{AreEnough, KeepSizes, HoldsAnyCharacter, capacity, is_wide}
 use Rattle.recode.specs.declared.job.Buffers.{Buffers}
 use Rattle.recode.specs.declared.job.Pivot.{Pivot}
 use Rattle.recode.specs.declared.job.Pivot.TheVariants.{Utf8, Utf16}
 
-pub kept_start : (b : Buffers) → AreKept b b
+pub kept_start : (b : Buffers) → KeepSizes b b
 kept_start b = record { input = refl; pivot = refl; pivot_kind = refl; output = refl; check = refl; check_kind = refl }
 
-pub kept_on : (a b c : Buffers) → AreKept a b → AreKept b c → AreKept a c
+pub kept_on : (a b c : Buffers) → KeepSizes a b → KeepSizes b c → KeepSizes a c
 kept_on a b c p q = record {
   input = q.input ∙ p.input;
   pivot = q.pivot ∙ p.pivot;
@@ -24,7 +24,7 @@ holds_still (Utf16 a) (Utf16 b) h size kind = omega (arith, h, size)
 holds_still (Utf8 a) (Utf16 b) h size kind = absurd (true≢false kind)
 holds_still (Utf16 a) (Utf8 b) h size kind = absurd (true≢false (sym kind))
 
-pub kept_enough : (b c : Buffers) → AreEnough b → AreKept b c → AreEnough c
+pub kept_enough : (b c : Buffers) → AreEnough b → KeepSizes b c → AreEnough c
 kept_enough b c e k = record {
   input = omega (arith, e.input, k.input);
   pivot = holds_still b.pivot c.pivot e.pivot k.pivot k.pivot_kind;

@@ -8,7 +8,7 @@ use Rattle.std.proofs.lemmas.Grind.{flat_map-append}
 use Rattle.std.proofs.lemmas.List.{append_cancel_right}
 use Rattle.encoding_mem.specs.declared.reference.Reference.TheVariants.{Decimal}
 use Rattle.encoding_mem.specs.Piece.{Piece, well_formed, malformed, sizes, scalars, text, text_of, first, AreWellFormed}
-use Rattle.encoding_mem.specs.Decoding.{DecoderState, IsDecided, Waits}
+use Rattle.encoding_mem.specs.Decoding.{AreBytes, DecoderState, IsDecided, IsFixed, Waits}
 use Rattle.encoding_mem.specs.Coding.{Coding, last_set, open_from, whole_from}
 use Rattle.encoding_mem.specs.Items.{Item, trace_from}
 use Rattle.encoding_mem.specs.declared.form.EscapeState.{EscapeState}
@@ -240,8 +240,11 @@ prefixes (q ∷ a) b (p ∷ c) d e =
       | inr m ↦ inr (m.0, m.1, ap (λ l. p ∷ l) m.2 ∙ ap (λ x. x ∷ (a ++ (m.0 ∷ m.1))) (sym same), m.3)
     ]
 
+pub fixed : (t t1 : Streams) (j : Job) (s : State) (x : List ℕ) (ps : List Piece) → StandsAt t t1 j s x ps → IsFixed (input_pieces j) x ps
+fixed t t1 j s x ps k y = (s.decoder.pieces y, k.pieces y)
+
 pub decided : (t t1 : Streams) (j : Job) (s : State) (x : List ℕ) (ps : List Piece) → StandsAt t t1 j s x ps → IsDecided (input_pieces j) x ps
-decided t t1 j s x ps k y = (s.decoder.pieces y, k.pieces y)
+decided t t1 j s x ps k y bytes = fixed t t1 j s x ps k y
 
 begins_with : (d : List Piece) (p : Piece) (more : List Piece) → d ≡ p ∷ more → first d ≡ Some p
 begins_with d p more e = ap first e
@@ -253,16 +256,16 @@ same_start (o ∷ a) p q c d e =
     let tails : a ++ (p ∷ c) ≡ a ++ (q ∷ d) = cc in
     same_start a p q c d tails
 
-none_more : (d : DecoderState) (a qs : List Piece) → IsNearlyDecided d → ((y : List ℕ) → (rest : List Piece) × (a ++ d.pieces y ≡ qs ++ rest)) → IsPrefix qs a
+none_more : (d : DecoderState) (a qs : List Piece) → IsNearlyDecided d → ((y : List ℕ) → AreBytes y → (rest : List Piece) × (a ++ d.pieces y ≡ qs ++ rest)) → IsPrefix qs a
 none_more d a qs settled h =
-    let h0 = h [] in
+    let h0 = h [] tt in
     elim (prefixes a (d.pieces []) qs h0.0 h0.1) [
       | inl f ↦ f
       | inr m ↦ elim settled [
         | inl none ↦ absurd (let z : [] ≡ m.0 ∷ (m.1 ++ h0.0) = sym none.1 ∙ m.3 in cc)
         | inr waits ↦
             let y : List ℕ = waits.undecided.more in
-            let h1 = h y in
+            let h1 = h y waits.undecided.bytes in
             elim (prefixes a (d.pieces y) qs h1.0 h1.1) [
               | inl f ↦ f
               | inr n ↦
@@ -274,7 +277,7 @@ none_more d a qs settled h =
 
 pub longest : (t t1 : Streams) (j : Job) (s : State) (x : List ℕ) (ps qs : List Piece)
     → StandsAt t t1 j s x ps → IsNearlyDecided s.decoder → IsDecided (input_pieces j) x qs → IsPrefix qs ps
-longest t t1 j s x ps qs k settled h = none_more s.decoder ps qs settled (λ y. let f = h y in (f.0, sym (k.pieces y) ∙ f.1))
+longest t t1 j s x ps qs k settled h = none_more s.decoder ps qs settled (λ y bytes. let f = h y bytes in (f.0, sym (k.pieces y) ∙ f.1))
 
 pub soon : (t t1 : Streams) (j : Job) (s : State) (x y : List ℕ) (ps qs more : List Piece)
     → StandsAt t t1 j s x ps → IsNearlyDecided s.decoder → input_pieces j (x ++ y) ≡ qs ++ more → sizes qs + 3 ≤ length x → IsPrefix qs ps

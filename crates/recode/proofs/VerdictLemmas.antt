@@ -46,7 +46,7 @@ module _ (e : Coding) (need : ℕ) (coding : IsCoding need e) (last : Bool) (out
   other_keeps k faithful (inl part) is =
       subst (λ b. KeepsVerdict e last v.faithful (to_read v) s t b (to_read v') s' rest) (sym is)
       (keeps_lost e last v.faithful (to_read v) (to_read v') s t s' rest
-      (differing_part_never_reads e k.pieces_from (to_read v) last outcome s t w s' rest (calls_along k faithful) kept read split part.0 part.1 part.2))
+      (differing_part_never_reads e k.pieces_from (to_read v) last outcome s t w s' rest (calls_along k faithful) kept read split part.0 (λ r bytes. part.1 r) part.2))
   other_keeps k faithful (inr whole) is =
       subst (λ b. KeepsVerdict e last v.faithful (to_read v) s t b (to_read v') s' rest) (sym is)
       (keeps_lost e last v.faithful (to_read v) (to_read v') s t s' rest

@@ -26,7 +26,7 @@ pub record AreEnough (b : Buffers) : Type 0 where
   pub one_kind : is_wide b.pivot ≡ is_wide b.check
 
 -- they are of the kinds and sizes that they were of
-pub record AreKept (before after : Buffers) : Type 0 where
+pub record KeepSizes (before after : Buffers) : Type 0 where
   pub input : length after.input.now ≡ length before.input.now
   pub pivot : capacity after.pivot ≡ capacity before.pivot
   pub pivot_kind : is_wide after.pivot ≡ is_wide before.pivot

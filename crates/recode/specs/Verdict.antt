@@ -5,7 +5,7 @@ use Rattle.std.specs.Str.{all_scalars}
 use Rattle.encoding_mem.specs.declared.reference.Reference.TheVariants.{Decimal}
 use Rattle.encoding_mem.specs.Agreement.{ReadsByStep}
 use Rattle.encoding_mem.specs.Coding.{Coding}
-use Rattle.encoding_mem.specs.Decoding.{IsDecided}
+use Rattle.encoding_mem.specs.Decoding.{IsFixed}
 use Rattle.encoding_mem.specs.Encoding.{Encodes}
 use Rattle.encoding_mem.specs.Piece.{Piece, text, AreWellFormed}
 use Rattle.encoding_mem.specs.ReadBack.{ReadsAs}
@@ -46,10 +46,11 @@ pub record ReadsAsText (before after : List ℕ → List Piece) (bytes t : List 
   pub well_formed : AreWellFormed taken
   pub same : text taken ≡ t
 
--- pieces that bytes decide are not at the start of this text, or all that they decide are not the whole of it
+-- pieces that bytes decide, whatever numbers follow, are not at the start of this text, or all that they decide are not
+-- the whole of it
 abbrev pub ReadsAsOther : (before after : List ℕ → List Piece) (bytes t : List ℕ) → Type 0
 ReadsAsOther before after bytes t =
-    ((part : List Piece) × IsDecided before bytes part × (¬ (AreRead part t)))
+    ((part : List Piece) × IsFixed before bytes part × (¬ (AreRead part t)))
     ⊎ ((taken : List Piece) × HasTaken before after bytes taken × (¬ (AreWellFormed taken × (text taken ≡ t))))
 
 -- What was written for a text was read back, or nothing was, where the log alone tells or something was lost before.

@@ -2,7 +2,7 @@ ghost use Rattle.std.specs.Prelude.{◌≡◌, ◌≢◌, ◌≤◌, ◌<◌, �
 ghost use Rattle.std.specs.Io.KnownBytes.{Appends};
 ghost use Rattle.recode_log.specs.Counted.{inner_of, failures_of};
 ghost use Rattle.recode.specs.Job.{IsValidJob};
-ghost use Rattle.recode.specs.Buffers.{AreEnough, AreKept};
+ghost use Rattle.recode.specs.Buffers.{AreEnough, KeepSizes};
 ghost use Rattle.recode.specs.Failures.{failures_in};
 ghost use Rattle.recode.specs.Streams.{KeepsWritten, streams_in, written_in};
 ghost use Rattle.recode.specs.Conversion.{Breaks, Converts, IsFlushCause, IsTold, message_of};
@@ -108,7 +108,7 @@ pub fn convert<R: Read, W: Write, L: Write>(
     requires writer { failures_of writer.old ≤ 2 ^ 64 - 5 }
     requires log { failures_of log.old ≤ 2 ^ 64 - 5 }
 
-    ensures buffers { AreKept buffers.old buffers.new }
+    ensures buffers { KeepSizes buffers.old buffers.new }
     ensures converts { result ≢ 4 → Converts
         (streams_in R.remaining W.contents L.contents reader.old writer.old log.old)
         (streams_in R.remaining W.contents L.contents reader.new writer.new log.new) job.entry

@@ -7,7 +7,7 @@ ghost use Rattle.std.specs.List.{concat};
 ghost use Rattle.std.specs.Str.{IsUtf8, chars};
 ghost use Rattle.encoding_mem.specs.Agreement.{ReadsBackOrBreaks};
 ghost use Rattle.encoding_mem.specs.Coding.{AllMapped, lost_count, output};
-ghost use Rattle.encoding_mem.specs.Decoding.{IsDecided};
+ghost use Rattle.encoding_mem.specs.Decoding.{IsDecided, IsFixed};
 ghost use Rattle.encoding_mem.specs.Piece.{ArePieces, AreWellFormed, Piece, malformed_count, piece_len, sizes};
 ghost use Rattle.encoding_mem.specs.ReadBack.{ReadsAs};
 ghost use Rattle.encoding_mem.specs.Steps.{IsBroken};
@@ -219,10 +219,12 @@ pub fn steps_add_up()
 
 /// Where a conversion stands after a step, it has converted the longest list of pieces that the
 /// input so far decides, and each piece that ends three or more bytes before the end of what was
-/// read, however the input goes on.
+/// read, whatever bytes follow. What it has converted stands whatever numbers follow.
 pub fn decided_pieces_are_converted()
     ensures decided { (t t1 : Streams) (j : Job) (s : State) (x : List ℕ) (ps : List Piece)
         → StandsAt t t1 j s x ps → IsDecided (input_pieces j) x ps }
+    ensures fixed { (t t1 : Streams) (j : Job) (s : State) (x : List ℕ) (ps : List Piece)
+        → StandsAt t t1 j s x ps → IsFixed (input_pieces j) x ps }
     ensures longest { (t t1 : Streams) (j : Job) (s : State) (x : List ℕ) (ps qs : List Piece)
         → StandsAt t t1 j s x ps → IsNearlyDecided s.decoder → IsDecided (input_pieces j) x qs
         → IsPrefix qs ps }

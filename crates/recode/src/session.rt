@@ -2,7 +2,7 @@ ghost use Rattle.std.specs.Prelude.{◌≡◌, ◌≤◌, ◌<◌, ◌^◌, ◌+
 ghost use Rattle.encoding_mem.specs.Decoding.{DecoderState};
 ghost use Rattle.recode_log.specs.Counted.{failures_of};
 ghost use Rattle.recode.specs.Job.{IsValidJob};
-ghost use Rattle.recode.specs.Buffers.{AreEnough, AreKept};
+ghost use Rattle.recode.specs.Buffers.{AreEnough, KeepSizes};
 ghost use Rattle.recode.specs.TraceToWrite.{AreSound};
 ghost use Rattle.recode.specs.EngineState.{engine_state};
 ghost use Rattle.recode.specs.Session.{View, IsOver, IsNewSession, IsStepped, Tells, Completes, Fails};
@@ -177,7 +177,7 @@ impl<'t> Session<'t> {
             (streams_in R.remaining W.contents L.contents reader.new writer.new log.new)
             (view_of self.old).job.limit (view_of self.old).state) }
         ensures session { IsStepped (view_of self.old) (view_of self.new) result }
-        ensures buffers { AreKept buffers.old buffers.new }
+        ensures buffers { KeepSizes buffers.old buffers.new }
         ensures failures { CountsFault (failures_in reader.old writer.old log.old)
             (failures_in reader.new writer.new log.new) result }
     {
@@ -241,7 +241,7 @@ pub fn run<R: Read, W: Write, L: Write>(
         (streams_in R.remaining W.contents L.contents reader.old writer.old log.old)
         (streams_in R.remaining W.contents L.contents reader.new writer.new log.new) job.entry
         f) }
-    ensures buffers { AreKept buffers.old buffers.new }
+    ensures buffers { KeepSizes buffers.old buffers.new }
     ensures failures { CountsFault (failures_in reader.old writer.old log.old)
         (failures_in reader.new writer.new log.new) result }
 {

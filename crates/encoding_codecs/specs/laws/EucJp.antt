@@ -62,7 +62,7 @@ some_8f jis0212 (b ∷ x) = either (is_pointer_byte b)
 
 shows_8f : (jis0212 : List ℕ) → AreEntries jis0212 → (x : List ℕ) (last : Bool) → Shows (after_8f jis0212) 1 x last (decide_8f jis0212 x last)
 shows_8f jis0212 scalars [] last =
-    shows_end (after_8f jis0212) 1 last (0xFF ∷ []) (omega arith) (omega arith) refl (omega arith) (λ e. absurd (omega (arith, e))) (some_8f jis0212)
+    shows_end (after_8f jis0212) 1 last (0xFF ∷ []) (omega arith) (omega arith) refl (omega arith, tt) (omega arith) (λ e. absurd (omega (arith, e))) (some_8f jis0212)
 shows_8f jis0212 scalars (b ∷ x) last =
     shows_cons (after_8f jis0212) 1 b x last _
     (shows_cond (is_pointer_byte b) (after_bytes 2 (euc_pair jis0212 b)) (λ _. piece_of_trail 1 NoChar b) 2 x last _ _

@@ -77,14 +77,14 @@ shows_four (Some c) x last = shows_const (well_formed 4 (c ∷ [])) 4 x last (om
 -- 00 breaks a form off
 shows_three : (rows : List (ℕ × ℕ)) → HaveScalars rows → (a b c : ℕ) (x : List ℕ) (last : Bool) → Shows (gb18030_after_three rows a b c) 3 x last (gb18030_decide_three rows a b c x last)
 shows_three rows values a b c [] last =
-    shows_end (gb18030_after_three rows a b c) 3 last (0 ∷ []) (omega arith) (omega arith) refl (omega arith) (λ e. omega (arith, e)) (λ x. (cuts_three rows values a b c x (3 + length x) (omega arith)).piece.some)
+    shows_end (gb18030_after_three rows a b c) 3 last (0 ∷ []) (omega arith) (omega arith) refl (omega arith, tt) (omega arith) (λ e. omega (arith, e)) (λ x. (cuts_three rows values a b c x (3 + length x) (omega arith)).piece.some)
 shows_three rows values a b c (d ∷ x) last = shows_cons (gb18030_after_three rows a b c) 3 d x last _
     (shows_cond (is_in_range 0x30 0x39 d) (λ _. piece_of_four (range_value rows (four_pointer a b c d))) (λ _. malformed 1) 4 x last _ _
     (shows_four (range_value rows (four_pointer a b c d)) x last) (shows_const (malformed 1) 4 x last (omega arith) (omega arith), omega arith))
 
 shows_two : (rows : List (ℕ × ℕ)) → HaveScalars rows → (a b : ℕ) (x : List ℕ) (last : Bool) → Shows (gb18030_after_two rows a b) 2 x last (gb18030_decide_two rows a b x last)
 shows_two rows values a b [] last =
-    shows_end (gb18030_after_two rows a b) 2 last (0 ∷ []) (omega arith) (omega arith) refl (omega arith) (λ e. omega (arith, e)) (λ x. (cuts_two rows values a b x (2 + length x) (omega arith)).piece.some)
+    shows_end (gb18030_after_two rows a b) 2 last (0 ∷ []) (omega arith) (omega arith) refl (omega arith, tt) (omega arith) (λ e. omega (arith, e)) (λ x. (cuts_two rows values a b x (2 + length x) (omega arith)).piece.some)
 shows_two rows values a b (c ∷ x) last = shows_cons (gb18030_after_two rows a b) 2 c x last _
     (shows_cond (is_in_range 0x81 0xFE c) (gb18030_after_three rows a b c) (λ _. malformed 1) 3 x last _ _
     (shows_three rows values a b c x last) (shows_const (malformed 1) 3 x last (omega arith) (omega arith), omega arith))
@@ -92,7 +92,7 @@ shows_two rows values a b (c ∷ x) last = shows_cons (gb18030_after_two rows a 
 -- FF is no trail
 shows_lead : (flat : List ℕ) (rows : List (ℕ × ℕ)) → AreGbTables flat rows → (a : ℕ) (x : List ℕ) (last : Bool) → Shows (gb18030_after_lead flat rows a) 1 x last (gb18030_decide_lead flat rows a x last)
 shows_lead flat rows tables a [] last =
-    shows_end (gb18030_after_lead flat rows a) 1 last (0xFF ∷ []) (omega arith) (omega arith) refl (omega arith) (λ e. omega (arith, e)) (λ x. (cuts_lead flat rows tables a x).piece.some)
+    shows_end (gb18030_after_lead flat rows a) 1 last (0xFF ∷ []) (omega arith) (omega arith) refl (omega arith, tt) (omega arith) (λ e. omega (arith, e)) (λ x. (cuts_lead flat rows tables a x).piece.some)
 shows_lead flat rows tables a (b ∷ x) last = shows_cons (gb18030_after_lead flat rows a) 1 b x last _
     (shows_cond (is_in_range 0x30 0x39 b) (gb18030_after_two rows a b) (λ _. piece_of_trail 1 (gb18030_pair flat a b) b) 2 x last _ _
     (shows_two rows tables.values a b x last) (shows_trail 1 (gb18030_pair flat a b) b x last (omega arith) (omega arith) (gb18030_pairs flat tables.entries a b)))

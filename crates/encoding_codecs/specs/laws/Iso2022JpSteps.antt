@@ -363,6 +363,7 @@ escape_before_another jis0208 scalars m Jis = ap first (cons jis0208 scalars m 0
 escape_is_undecided : (jis0208 : List ℕ) → AreEntries jis0208 → (m : Mode) (q : EscapeState) → IsUndecided (pieces_in_mode jis0208 m) (iso_2022_jp_escape_to q)
 escape_is_undecided jis0208 scalars m q = record {
   more = iso_2022_jp_escape_to Ascii;
+  bytes = (lit< tt, (lit< tt, (lit< tt, tt)));
   short = lit≤ tt;
   differs = λ same. clash (sym (ap first (last_escape jis0208 scalars m q)) ∙ same ∙ escape_before_another jis0208 scalars m q);
 }

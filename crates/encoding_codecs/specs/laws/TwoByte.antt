@@ -8,6 +8,7 @@ use Rattle.std.proofs.Math.Utf8.{scalar}
 use Rattle.encoding_mem.specs.Piece.{Piece, well_formed, malformed, piece_len, Cuts}
 use Rattle.encoding_mem.specs.Pieces.{pieces_by}
 use Rattle.encoding_mem.specs.laws.Pieces.{CutsEach}
+use Rattle.encoding_mem.specs.Decoding.{AreBytes}
 use Rattle.encoding_mem.specs.laws.Shows.{Shows, shows_cond, shows_cons, shows_const, shows_first_piece}
 use Rattle.encoding_mem.specs.DecoderRule.{TellsFirstPiece, IsModest}
 use Rattle.encoding_mem.specs.laws.Utf8Decide.{cut_short}
@@ -26,13 +27,14 @@ use Rattle.encoding_codecs.specs.declared.two_byte.PairValue.TheVariants.{NoChar
 -- ---- what is shown of the first piece
 
 -- The n bytes before end here. If more bytes come, the piece may have another size, as with FF for a lead.
-pub shows_end : (f : List ℕ → Piece) (n : ℕ) (last : Bool) (more : List ℕ) → 0 < n → n ≤ 3 → f [] ≡ malformed n → length more ≤ 3
+pub shows_end : (f : List ℕ → Piece) (n : ℕ) (last : Bool) (more : List ℕ) → 0 < n → n ≤ 3 → f [] ≡ malformed n → AreBytes more → length more ≤ 3
     → (piece_len (f more) ≡ n → ⊥) → ((x : List ℕ) → 0 < piece_len (f x)) → Shows f n [] last (cut_short n last)
-shows_end f n true more some few now short then each = ((some, omega arith, λ r e. ap f (e refl) ∙ now), omega arith)
-shows_end f n false more some few now short then each = record {
+shows_end f n true more some few now bytes short then each = ((some, omega arith, λ r e. ap f (e refl) ∙ now), omega arith)
+shows_end f n false more some few now bytes short then each = record {
   goes_on = refl;
   short = omega arith;
   more = more;
+  bytes = bytes;
   few = short;
   differs = λ e. then (omega (arith, ap piece_len e, ap piece_len now));
   soon = λ r. omega (arith, each r, few);
@@ -70,7 +72,7 @@ shows_trail n (TwoChars c d) b x last some few is = (shows_const (well_formed (n
 pub shows_after : (n : ℕ) (value : ℕ → PairValue) (x : List ℕ) (last : Bool) → 0 < n → n ≤ 3 → ((b : ℕ) → IsPairValue (value b))
     → Shows (after_bytes n value) n x last (decide_after n value x last)
 shows_after n value [] last some few is =
-    shows_end (after_bytes n value) n last (0xFF ∷ []) some few refl (omega arith)
+    shows_end (after_bytes n value) n last (0xFF ∷ []) some few refl (omega arith, tt) (omega arith)
     (λ e. omega (arith, e, size_of-last_trail n (value 0xFF))) (λ x. some_after n value x some)
 shows_after n value (b ∷ x) last some few is =
     shows_cons (after_bytes n value) n b x last (decide_trail n (value b) b) (shows_trail n (value b) b x last some few (is b))

@@ -1,9 +1,10 @@
 -- Worked rows of `specs/Decoding.antt`.
-use Rattle.std.proofs.Common.{◌≡◌, ◌≢◌, ℕ, nat_eq, Bool, true, false, if◌then◌else◌, Some, ◌+◌, ◌≤◌, List, [], ◌∷◌, length, refl, arith}
+use Rattle.std.proofs.Common.{◌≡◌, ◌≢◌, ℕ, nat_eq, nat_lt, Bool, true, false, if◌then◌else◌, Some, ◌+◌, ◌≤◌, List, [], ◌∷◌, length, refl, sym, ap, arith}
+use Rattle.std.proofs.lemmas.Bool.{lt-ltb}
 use Rattle.encoding_mem.specs.Piece.{Piece, well_formed, malformed, first, piece_len, text_of}
 use Rattle.encoding_mem.specs.Pieces.{pieces_in}
 use Rattle.encoding_mem.specs.Event.{malformed_at}
-use Rattle.encoding_mem.specs.Decoding.{IsDecided, IsUndecided, Waits, IsKnown, Reports, reported_event}
+use Rattle.encoding_mem.specs.Decoding.{AreBytes, IsDecided, IsUndecided, Waits, IsKnown, Reports, TakesSoon, reported_event}
 use Rattle.encoding_mem.specs.Utf8.{pieces_utf8}
 use Rattle.encoding_mem.specs.declared.decoder_result.DecoderResult.TheVariants.{InputEmpty, Malformed}
 
@@ -35,17 +36,17 @@ not_untold reports = reports.0
 -- E2 82 may be the start of a character, and what AC behind it makes of it is another piece
 prefix_is_undecided : IsUndecided pieces_utf8 (0xE2 ∷ 0x82 ∷ [])
 unfolding pieces_in
-prefix_is_undecided = record { more = 0xAC ∷ []; short = omega arith; differs = λ e. cc }
+prefix_is_undecided = record { more = 0xAC ∷ []; bytes = (omega arith, tt); short = omega arith; differs = λ e. cc }
 
 -- with `A` behind them they are a malformed sequence, whatever follows
 malformed_is_decided : IsDecided pieces_utf8 (0xE2 ∷ 0x82 ∷ 0x41 ∷ []) (malformed 2 ∷ well_formed 1 (0x41 ∷ []) ∷ [])
 unfolding pieces_in
-malformed_is_decided = λ r. (_, refl)
+malformed_is_decided = λ r bytes. (_, refl)
 
 -- of F0 three more bytes may make a character
 lead_is_undecided : IsUndecided pieces_utf8 (0xF0 ∷ [])
 unfolding pieces_in
-lead_is_undecided = record { more = 0x9F ∷ 0x92 ∷ 0xA9 ∷ []; short = omega arith; differs = λ e. cc }
+lead_is_undecided = record { more = 0x9F ∷ 0x92 ∷ 0xA9 ∷ []; bytes = (omega arith, (omega arith, (omega arith, tt))); short = omega arith; differs = λ e. cc }
 
 -- pieces for examples that four more bytes change, and no fewer
 abbrev late_pieces : List ℕ → List Piece
@@ -64,6 +65,32 @@ none_of_three (a ∷ b ∷ c ∷ d ∷ x) short differs = absurd (omega (arith, 
 
 late_is_decided : ¬ (IsUndecided late_pieces [])
 late_is_decided undecided = none_of_three undecided.more undecided.short undecided.differs
+
+-- 255 is a byte, 256 is none
+greatest_byte : AreBytes (0xFF ∷ [])
+greatest_byte = (omega arith, tt)
+
+not_a_byte : ¬ (AreBytes (0x100 ∷ []))
+not_a_byte bytes = absurd (omega (arith, bytes.0))
+
+-- pieces for examples that no byte changes, but greater numbers do: they are decided
+abbrev wide_pieces : List ℕ → List Piece
+wide_pieces [] = malformed 1 ∷ []
+wide_pieces (b ∷ x) = if nat_lt b 256 then malformed 1 ∷ [] else well_formed 1 [] ∷ []
+
+no_byte_changes : (b : ℕ) (x : List ℕ) → AreBytes (b ∷ x) → wide_pieces (b ∷ x) ≡ malformed 1 ∷ []
+no_byte_changes b x bytes = rw (lt-ltb b 256 bytes.0) refl
+
+wide_is_decided : IsDecided wide_pieces [] (malformed 1 ∷ [])
+wide_is_decided [] bytes = ([], refl)
+wide_is_decided (b ∷ x) bytes = ([], no_byte_changes b x bytes)
+
+wide_is_not_undecided : ¬ (IsUndecided wide_pieces [])
+wide_is_not_undecided undecided = by undecided.more undecided.bytes undecided.differs
+  where
+    by : (more : List ℕ) → AreBytes more → first (wide_pieces []) ≢ first (wide_pieces more) → ⊥
+    by [] bytes differs = differs refl
+    by (b ∷ x) bytes differs = differs (ap first (sym (no_byte_changes b x bytes)))
 
 -- The pieces behind 1B 28 42 1B 28, which are pending in ISO-2022-JP: with 42 the first escape is a malformed sequence of
 -- three bytes, else it stands for nothing.
@@ -86,7 +113,7 @@ escape_is_near (b ∷ x) p e = escape_or_malformed (nat_eq b 0x42) p e
 five_wait : Waits behind_escape 5
 five_wait = record {
   short = omega arith;
-  undecided = record { more = 0x42 ∷ []; short = omega arith; differs = λ e. cc };
+  undecided = record { more = 0x42 ∷ []; bytes = (omega arith, tt); short = omega arith; differs = λ e. cc };
   soon = escape_is_near;
 }
 
@@ -95,6 +122,20 @@ six_do_not_wait pieces waits = absurd (omega (arith, waits.short))
 
 three_behind_do_not_wait : ¬ (Waits (λ x. well_formed 2 [] ∷ []) 5)
 three_behind_do_not_wait waits = absurd (omega (arith, waits.soon [] (well_formed 2 []) refl))
+
+-- `A` and a malformed sequence of two bytes: `A` is taken where it ends three bytes before the end, and not before
+abbrev letter_and_two : List ℕ → List Piece
+letter_and_two x = well_formed 1 (0x41 ∷ []) ∷ malformed 2 ∷ []
+
+may_wait : TakesSoon letter_and_two [] false 3 []
+may_wait r [] more stops is early = ([], refl)
+may_wait r (p ∷ ps) more stops is early = absurd (let letter : well_formed 1 (0x41 ∷ []) ≡ p = cc in omega (arith, ap piece_len letter, early))
+
+may_not_wait : ¬ (TakesSoon letter_and_two [] false 4 [])
+may_not_wait soon = nothing_first (soon [] (well_formed 1 (0x41 ∷ []) ∷ []) (malformed 2 ∷ []) (λ last. refl) refl (omega arith))
+  where
+    nothing_first : (rest : List Piece) × ([] ≡ well_formed 1 (0x41 ∷ []) ∷ rest) → ⊥
+    nothing_first taken = (let none : [] ≡ well_formed 1 (0x41 ∷ []) ∷ taken.0 = taken.1 in cc)
 
 -- `A` is known whatever follows; bytes that stand for nothing need no room, and do not count as known
 letter_is_known : IsKnown pieces_utf8 (0x41 ∷ []) false

@@ -1,5 +1,5 @@
 -- Worked rows of `specs/ReadCalls.antt`, in UTF-8.
-use Rattle.std.proofs.Common.{◌≡◌, ℕ, inl, inr, true, false, IsTrue, List, [], ◌∷◌, refl, sym, ◌∙◌, arith, lit≤}
+use Rattle.std.proofs.Common.{◌≡◌, ℕ, inl, inr, true, false, IsTrue, List, [], ◌∷◌, refl, sym, ◌∙◌, arith, lit<, lit≤}
 use Rattle.std.specs.Char.{encode_utf8}
 use Rattle.encoding_mem.specs.Piece.{Piece, well_formed, malformed}
 use Rattle.encoding_mem.specs.Pieces.{pieces_in}
@@ -25,7 +25,7 @@ letter_first x = pieces_by-cons first_piece_utf8 cuts_utf8 0x41 x
 -- C3 decides nothing, `A` does
 c3_decides_nothing : DecidesNothing behind_c3
 unfolding pieces_in
-c3_decides_nothing = inr (record { more = 0xA9 ∷ []; short = lit≤ tt; differs = λ same. cc })
+c3_decides_nothing = inr (record { more = 0xA9 ∷ []; bytes = (lit< tt, tt); short = lit≤ tt; differs = λ same. cc })
 
 letter_decides : ¬ (DecidesNothing behind_letter)
 unfolding pieces_in

@@ -59,5 +59,7 @@ heads p ps rest a b ar br e f = ap first e ∙ sym (ap first f)
 pub decides_nothing : (pieces : List ℕ → List Piece) (x : List ℕ) (ps : List Piece) → IsUndecided pieces x → IsDecided pieces x ps → ps ≡ []
 decides_nothing pieces x [] h k = refl
 decides_nothing pieces x (p ∷ ps) h k =
-    let now : pieces x ≡ (p ∷ ps) ++ (k []).0 = ap pieces (sym (append-nil x)) ∙ (k []).1 in
-    absurd (h.differs (heads p ps [] (pieces x) (pieces (x ++ h.more)) (k []).0 (k h.more).0 now (k h.more).1))
+    let here = k [] tt in
+    let then = k h.more h.bytes in
+    let now : pieces x ≡ (p ∷ ps) ++ here.0 = ap pieces (sym (append-nil x)) ∙ here.1 in
+    absurd (h.differs (heads p ps [] (pieces x) (pieces (x ++ h.more)) here.0 then.0 now then.1))

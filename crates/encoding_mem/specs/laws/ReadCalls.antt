@@ -8,7 +8,7 @@ use Rattle.std.proofs.lemmas.Bool.{and_parts, and_from}
 use Rattle.std.proofs.lemmas.List.{append-nil, append_cancel_left, append_cancel_right}
 use Rattle.encoding_mem.specs.Agreement.{ReadsByStep}
 use Rattle.encoding_mem.specs.Coding.{Coding, IsCoding, IsMapped, AllMapped, open_from, whole_from, last_set, bytes_from, reference}
-use Rattle.encoding_mem.specs.Decoding.{IsDecided}
+use Rattle.encoding_mem.specs.Decoding.{AreBytes, IsDecided}
 use Rattle.encoding_mem.specs.Encoding.{Encodes, EncodesItems, Leaves, IsSetOfNext, Writes, Continues}
 use Rattle.encoding_mem.specs.Piece.{Piece, first, text, AreWellFormed}
 use Rattle.encoding_mem.specs.ReadBack.{ReadsAs}
@@ -93,6 +93,7 @@ escape_waits e p k l s = elim (k.undecided l s) [
   | inl none ↦ inl (ap (λ x. p l (x ++ [])) none ∙ k.nothing l)
   | inr waits ↦ inr (record {
     more = waits.more;
+    bytes = waits.bytes;
     short = waits.short;
     differs = λ same. waits.differs (ap (λ x. first (p l x)) (sym (append-nil (e.escape l s))) ∙ same);
   })
@@ -194,7 +195,7 @@ reads_call e p pieces last outcome s t w s' rest c =
 
 -- ---- what a decoder that has read the bytes has taken
 
-apart_parts : {X : Type 0} (a b x y : List X) → a ++ x ≡ b ++ y → ((m : List X) × (a ≡ b ++ m)) ⊎ ((m : List X) × (b ≡ a ++ m))
+pub apart_parts : {X : Type 0} (a b x y : List X) → a ++ x ≡ b ++ y → ((m : List X) × (a ≡ b ++ m)) ⊎ ((m : List X) × (b ≡ a ++ m))
 apart_parts [] b x y h = inr (b, refl)
 apart_parts (p ∷ a) [] x y h = inl (p ∷ a, refl)
 apart_parts (p ∷ a) (q ∷ b) x y h =
@@ -208,7 +209,7 @@ apart_parts (p ∷ a) (q ∷ b) x y h =
 nothing_more : (pieces after : List ℕ → List Piece) (m : List Piece) → DecidesNothing pieces → ((r : List ℕ) → pieces r ≡ m ++ after r) → m ≡ []
 nothing_more pieces after [] h is = refl
 nothing_more pieces after (p ∷ m) (inl none) is = let never : [] ≡ p ∷ (m ++ after []) = sym none ∙ is [] in absurd (cc)
-nothing_more pieces after (p ∷ m) (inr waits) is = decides_nothing pieces [] (p ∷ m) waits (λ r. (after r, is r))
+nothing_more pieces after (p ∷ m) (inr waits) is = decides_nothing pieces [] (p ∷ m) waits (λ r bytes. (after r, is r))
 
 -- of two lists of pieces behind which nothing is decided, whatever follows
 same_taken : (a b : List Piece) (F G : List ℕ → List Piece) → DecidesNothing F → DecidesNothing G → ((r : List ℕ) → a ++ F r ≡ b ++ G r) → a ≡ b
@@ -224,25 +225,28 @@ same_taken a b F G none nothing is = elim (apart_parts a b (F []) (G []) (is [])
 -- A list that the bytes decide is well-formed, and its text comes first in theirs.
 pub decided_of_read : (pieces : List ℕ → List Piece) (w t : List ℕ) (Holds : (List ℕ → List Piece) → Type 0) → IsReadUpTo pieces w t Holds → (d : List Piece) → IsDecided pieces w d
     → AreWellFormed d × ((more : List ℕ) × (t ≡ text d ++ more))
-decided_of_read pieces w t Holds h d is = elim (apart_parts h.taken d (h.behind []) (is []).0 (sym (h.rest []) ∙ (is []).1)) [
-  | inl m ↦ (
-    (well_formed_parts d m.0 (subst AreWellFormed m.1 h.well_formed)).0,
-    (text m.0, sym h.same ∙ ap text m.1 ∙ text-append d m.0),
-  )
-  | inr m ↦
-      let more : m.0 ≡ [] = nothing_decided pieces w h.taken m.0 h.behind h.nothing h.rest (λ r. ((is r).0, (is r).1 ∙ ap (λ l. l ++ (is r).0) m.1 ∙ append_assoc h.taken m.0 (is r).0)) in
-      let same : d ≡ h.taken = m.1 ∙ ap (λ l. h.taken ++ l) more ∙ append-nil h.taken in
-      (subst AreWellFormed (sym same) h.well_formed, ([], sym h.same ∙ ap text (sym same) ∙ sym (append-nil (text d))))
-]
+decided_of_read pieces w t Holds h d is =
+    let now = is [] tt in
+    elim (apart_parts h.taken d (h.behind []) now.0 (sym (h.rest []) ∙ now.1)) [
+      | inl m ↦ (
+        (well_formed_parts d m.0 (subst AreWellFormed m.1 h.well_formed)).0,
+        (text m.0, sym h.same ∙ ap text m.1 ∙ text-append d m.0),
+      )
+      | inr m ↦
+          let more : m.0 ≡ [] = nothing_decided pieces w h.taken m.0 h.behind h.nothing h.rest (λ r bytes. let then = is r bytes in (then.0, then.1 ∙ ap (λ l. l ++ then.0) m.1 ∙ append_assoc h.taken m.0 then.0)) in
+          let same : d ≡ h.taken = m.1 ∙ ap (λ l. h.taken ++ l) more ∙ append-nil h.taken in
+          (subst AreWellFormed (sym same) h.well_formed, ([], sym h.same ∙ ap text (sym same) ∙ sym (append-nil (text d))))
+    ]
   where
     nothing_decided : (pieces : List ℕ → List Piece) (w : List ℕ) (taken m : List Piece) (behind : List ℕ → List Piece) → DecidesNothing behind → ((r : List ℕ) → pieces (w ++ r) ≡ taken ++ behind r)
-        → ((r : List ℕ) → (rest : List Piece) × (pieces (w ++ r) ≡ taken ++ (m ++ rest))) → m ≡ []
+        → ((r : List ℕ) → AreBytes r → (rest : List Piece) × (pieces (w ++ r) ≡ taken ++ (m ++ rest))) → m ≡ []
     nothing_decided pieces w taken [] behind none rest is = refl
     nothing_decided pieces w taken (p ∷ m) behind (inl none) rest is =
-        let never : [] ≡ p ∷ (m ++ (is []).0) = sym none ∙ append_cancel_left taken (behind []) ((p ∷ m) ++ (is []).0) (sym (rest []) ∙ (is []).1) in
+        let now = is [] tt in
+        let never : [] ≡ p ∷ (m ++ now.0) = sym none ∙ append_cancel_left taken (behind []) ((p ∷ m) ++ now.0) (sym (rest []) ∙ now.1) in
         absurd (cc)
     nothing_decided pieces w taken (p ∷ m) behind (inr waits) rest is =
-        decides_nothing behind [] (p ∷ m) waits (λ r. ((is r).0, append_cancel_left taken (behind r) ((p ∷ m) ++ (is r).0) (sym (rest r) ∙ (is r).1)))
+        decides_nothing behind [] (p ∷ m) waits (λ r bytes. let then = is r bytes in (then.0, append_cancel_left taken (behind r) ((p ∷ m) ++ then.0) (sym (rest r) ∙ then.1)))
 
 -- What a decoder has taken of the bytes, where it has decided what can be, is their text, and the decoder is behind it.
 pub taken_of_read : (pieces : List ℕ → List Piece) (w t : List ℕ) (Holds : (List ℕ → List Piece) → Type 0) → (h : IsReadUpTo pieces w t Holds) → (d : List Piece) (after : List ℕ → List Piece)
@@ -259,7 +263,7 @@ pub taken_is_not_broken : (pieces : List ℕ → List Piece) (w t : List ℕ) (d
     → AreWellFormed d → text d ≡ t → ¬ (IsBroken pieces w t)
 taken_is_not_broken pieces w t d after is nothing good same broken =
     let read : IsReadUpTo pieces w t (λ P. Unit {0}) = record { taken = d; behind = after; well_formed = good; same = same; rest = is; nothing = nothing; holds = tt } in
-    let part = decided_of_read pieces w t (λ P. Unit {0}) read broken.taken broken.decided in
+    let part = decided_of_read pieces w t (λ P. Unit {0}) read broken.taken (λ r bytes. broken.decided r) in
     elim broken.wrong [
       | inl none ↦ none part.0
       | inr apart ↦ never_apart t (subst (λ l. AreApart l t) (sym part.1.1) (apart_wider (text broken.taken) t part.1.0 apart))

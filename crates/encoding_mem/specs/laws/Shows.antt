@@ -4,7 +4,7 @@ use Rattle.std.proofs.lemmas.List.{drop-append-le}
 use Rattle.encoding_mem.specs.Piece.{Piece, well_formed, malformed, piece_len, first}
 use Rattle.encoding_mem.specs.Pieces.{pieces_in, pieces_by}
 use Rattle.encoding_mem.specs.laws.Pieces.{AllCut, CutsEach, pieces_in-nil, pieces_in-cons}
-use Rattle.encoding_mem.specs.Decoding.{IsUndecided}
+use Rattle.encoding_mem.specs.Decoding.{AreBytes, IsUndecided}
 use Rattle.encoding_mem.specs.DecoderRule.{IsFirstPiece, TellsFirstPiece, IsSoon}
 use Rattle.encoding_mem.specs.declared.first_piece.FirstPiece.{FirstPiece}
 use Rattle.encoding_mem.specs.declared.first_piece.FirstPiece.TheVariants.{More, One, Two, Ignored, Malformed}
@@ -18,6 +18,7 @@ pub record Awaits (first_piece : List ℕ → Piece) (k : ℕ) (x : List ℕ) (l
   pub goes_on : last ≡ false
   pub short : k + length x < 6
   pub more : List ℕ
+  pub bytes : AreBytes more
   pub few : length more ≤ 3
   pub differs : first_piece x ≡ first_piece (x ++ more) → ⊥
   pub soon : (r : List ℕ) → k + length x ≤ piece_len (first_piece (x ++ r)) + 2
@@ -37,7 +38,7 @@ piece_cons : (f : List ℕ → Piece) (k e : ℕ) (x : List ℕ) (last : Bool) (
 piece_cons f k e x last p h = (h.0, omega (arith, h.1), h.2)
 
 pub shows_cons : (f : List ℕ → Piece) (k e : ℕ) (x : List ℕ) (last : Bool) (F : FirstPiece) → Shows (λ y. f (e ∷ y)) (suc k) x last F → Shows f k (e ∷ x) last F
-shows_cons f k e x last More h = record { goes_on = h.goes_on; short = omega (arith, h.short); more = h.more; few = h.few; differs = h.differs; soon = λ r. omega (arith, h.soon r) }
+shows_cons f k e x last More h = record { goes_on = h.goes_on; short = omega (arith, h.short); more = h.more; bytes = h.bytes; few = h.few; differs = h.differs; soon = λ r. omega (arith, h.soon r) }
 shows_cons f k e x last (One c n) h = piece_cons f k e x last (well_formed n (c ∷ [])) h
 shows_cons f k e x last (Two c d n) h = (piece_cons f k e x last (well_formed n (c ∷ d ∷ [])) h.0, h.1, h.2)
 shows_cons f k e x last (Ignored n) h = piece_cons f k e x last (well_formed n []) h
@@ -57,7 +58,7 @@ same_piece : (f g : List ℕ → Piece) (k : ℕ) (x : List ℕ) (last : Bool) (
 same_piece f g k x last p same h = (h.0, h.1, λ r e. same r ∙ h.2 r e)
 
 pub shows_same : (f g : List ℕ → Piece) (k : ℕ) (x : List ℕ) (last : Bool) (F : FirstPiece) → f x ≡ g x → ((r : List ℕ) → f (x ++ r) ≡ g (x ++ r)) → Shows g k x last F → Shows f k x last F
-shows_same f g k x last More now same h = record { goes_on = h.goes_on; short = h.short; more = h.more; few = h.few; differs = λ e. h.differs (sym now ∙ e ∙ same h.more); soon = λ r. rw (same r) (h.soon r) }
+shows_same f g k x last More now same h = record { goes_on = h.goes_on; short = h.short; more = h.more; bytes = h.bytes; few = h.few; differs = λ e. h.differs (sym now ∙ e ∙ same h.more); soon = λ r. rw (same r) (h.soon r) }
 shows_same f g k x last (One c n) now same h = same_piece f g k x last (well_formed n (c ∷ [])) same h
 shows_same f g k x last (Two c d n) now same h = (same_piece f g k x last (well_formed n (c ∷ d ∷ [])) same h.0, h.1, h.2)
 shows_same f g k x last (Ignored n) now same h = same_piece f g k x last (well_formed n []) same h
@@ -67,7 +68,7 @@ piece_uncons : (f : List ℕ → Piece) (k e : ℕ) (x : List ℕ) (last : Bool)
 piece_uncons f k e x last p h = (h.0, omega (arith, h.1), h.2)
 
 pub shows_uncons : (f : List ℕ → Piece) (k e : ℕ) (x : List ℕ) (last : Bool) (F : FirstPiece) → Shows f k (e ∷ x) last F → Shows (λ y. f (e ∷ y)) (suc k) x last F
-shows_uncons f k e x last More h = record { goes_on = h.goes_on; short = omega (arith, h.short); more = h.more; few = h.few; differs = h.differs; soon = λ r. omega (arith, h.soon r) }
+shows_uncons f k e x last More h = record { goes_on = h.goes_on; short = omega (arith, h.short); more = h.more; bytes = h.bytes; few = h.few; differs = h.differs; soon = λ r. omega (arith, h.soon r) }
 shows_uncons f k e x last (One c n) h = piece_uncons f k e x last (well_formed n (c ∷ [])) h
 shows_uncons f k e x last (Two c d n) h = (piece_uncons f k e x last (well_formed n (c ∷ d ∷ [])) h.0, h.1, h.2)
 shows_uncons f k e x last (Ignored n) h = piece_uncons f k e x last (well_formed n []) h
@@ -111,6 +112,7 @@ shows_first_piece_in first_piece after cuts m m' x last More h t s = (
   omega (arith, s.short),
   record {
     more = s.more;
+    bytes = s.bytes;
     short = s.few;
     differs = differ (first_piece m x) (first_piece m (x ++ s.more)) _ _ (first_of_pieces first_piece after cuts m x h) (first_of_pieces first_piece after cuts m (x ++ s.more) (omega (arith, h, length-append x s.more))) s.differs;
   },

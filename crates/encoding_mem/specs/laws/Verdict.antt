@@ -4,7 +4,7 @@ use Rattle.std.specs.Prelude.{◌↔◌}
 use Rattle.std.specs.Str.{all_scalars}
 use Rattle.std.proofs.lemmas.List.{append-nil}
 use Rattle.encoding_mem.specs.Coding.{Coding, IsCoding, AllMapped, open_from, last_set, output, bytes_from}
-use Rattle.encoding_mem.specs.Decoding.{DecoderState, IsDecided, EndsWith, Takes}
+use Rattle.encoding_mem.specs.Decoding.{DecoderState, IsFixed, EndsWith, Takes}
 use Rattle.encoding_mem.specs.Encoding.{Encodes, Leaves}
 use Rattle.encoding_mem.specs.Piece.{Piece, malformed}
 use Rattle.encoding_mem.specs.ReadBack.{ReadsAs, ReadsBackExactly}
@@ -116,7 +116,7 @@ part_goes_on WellFormed pieces before after bytes left taken held now read Write
     untrue : IsTrue false → ⊥
     untrue h = cc
 
-pub part_is_decided : (pieces now : List ℕ → List Piece) (bytes left : List ℕ) (taken : List Piece) → HasTakenPart pieces now bytes left taken → IsDecided pieces bytes taken
+pub part_is_decided : (pieces now : List ℕ → List Piece) (bytes left : List ℕ) (taken : List Piece) → HasTakenPart pieces now bytes left taken → IsFixed pieces bytes taken
 part_is_decided pieces now bytes left taken p = λ r. (now (left ++ r), p.rest r)
 
 -- where a call returns InputEmpty, all that can be is decided

@@ -1,6 +1,6 @@
 use Rattle.std.proofs.Common.{◌≡◌, ◌-◌}
 use Rattle.recode_log.specs.Counted.{failures_of}
-use Rattle.recode.specs.Buffers.{AreEnough, AreKept}
+use Rattle.recode.specs.Buffers.{AreEnough, KeepSizes}
 use Rattle.recode.specs.SessionView.{view_of}
 use Rattle.recode.specs.Streams.{streams_in}
 use Rattle.recode.specs.declared.session.Phase.TheVariants.{Open}
@@ -14,7 +14,7 @@ invariant-run g l = record {
   open_ : (view_of l.session).phase ≡ Open;
   job : (view_of l.session).job ≡ l.job;
   enough : AreEnough l.buffers;
-  kept : AreKept l.initial.buffers l.buffers;
+  kept : KeepSizes l.initial.buffers l.buffers;
   reader_count : failures_of l.reader ≡ failures_of l.initial.reader;
   writer_count : failures_of l.writer ≡ failures_of l.initial.writer;
   log_count : failures_of l.log ≡ failures_of l.initial.log;
