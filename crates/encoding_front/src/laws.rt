@@ -27,10 +27,14 @@ ghost use Rattle.encoding_front.specs.Marks.{marked_pieces, marked_text};
 ghost use Rattle.encoding_front.specs.Stream.{DecoderView};
 ghost use Rattle.encoding_front.specs.declared.coder_result.CoderResult.{CoderResult};
 ghost use Rattle.encoding_front.specs.declared.mark.Mark.{Mark};
+ghost use Rattle.encoding_front.specs.declared.one_shot_fault.OneShotFault.{OneShotFault};
 ghost use Rattle.encoding_front.specs.declared.encoding.Encoding.{Encoding};
 ghost use Rattle.encoding_front.specs.declared.encoding.Encoding.TheVariants.{Replacement, Utf16Be, Utf16Le};
 
+use crate::coder_result::CoderResult;
 use crate::encoding::Encoding;
+use crate::mark::Mark;
+use crate::one_shot_fault::OneShotFault;
 use std::hash::Hash;
 
 /// Encodings are equal exactly where they are the same of the forty, and so are the bytes by which they are
@@ -39,6 +43,13 @@ pub fn equality()
     ensures equal { (d e : Encoding) → IsTrue (⟦<Encoding as PartialEq>⟧.eq d e) ↔ (d ≡ e) }
     ensures hash { (d e : Encoding)
         → (⟦<Encoding as Hash>⟧.hash_input d ≡ ⟦<Encoding as Hash>⟧.hash_input e) ↔ (d ≡ e) }
+{}
+
+/// Results of calls, marks and faults are equal exactly where they are the same.
+pub fn outcomes_are_compared()
+    ensures result { (a b : CoderResult) → IsTrue (⟦<CoderResult as PartialEq>⟧.eq a b) ↔ (a ≡ b) }
+    ensures mark { (a b : Mark) → IsTrue (⟦<Mark as PartialEq>⟧.eq a b) ↔ (a ≡ b) }
+    ensures fault { (a b : OneShotFault) → IsTrue (⟦<OneShotFault as PartialEq>⟧.eq a b) ↔ (a ≡ b) }
 {}
 
 /// An output encoding is its own, and it is none of UTF-16BE, UTF-16LE and replacement, which have no encoder.

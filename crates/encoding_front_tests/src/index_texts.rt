@@ -274,3 +274,19 @@ fn a_refused_load_changes_no_index(rt: HostRuntime) -> Result<(), Fail> {
     }
     Ok(())
 }
+
+#[test]
+fn large_texts_are_read(rt: HostRuntime) -> Result<(), Fail> {
+    let text = full_text(rt.alloc(), 23940)?;
+    assert!(rt; text.len() > 300_000);
+    let list = read_index(rt.alloc(), IndexKind::EucKr, text.as_bytes())?;
+    assert_eq!(rt; list.len(), 23940);
+    assert_eq!(rt; list.first(), Some(&0x4E00));
+    assert_eq!(rt; list.last(), Some(&0xAB83));
+    let text = full_text(rt.alloc(), 100_000)?;
+    let rows = read_ranges(rt.alloc(), text.as_bytes())?;
+    assert_eq!(rt; rows.len(), 100_000);
+    assert_eq!(rt; rows.first(), Some(&(0, 0x4E00)));
+    assert_eq!(rt; rows.last(), Some(&(99_999, 0x1_D49F)));
+    Ok(())
+}

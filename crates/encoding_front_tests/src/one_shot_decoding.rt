@@ -2,7 +2,7 @@
 
 use encoding_front::{Encoding, OneShotFault, SHIFT_JIS, UTF_8, WINDOWS_1257};
 use encoding_tables::{IndexKind, Tables};
-use std::alloc::Global;
+use std::alloc::{AllocError, Global};
 use std::test::Fail;
 
 // Tables with some entries of windows-1257.
@@ -234,5 +234,31 @@ fn japanese_at_once(rt: HostRuntime) -> Result<(), Fail> {
             ("ハロー・ワールド", SHIFT_JIS, false)
         )?
     );
+    Ok(())
+}
+
+// The euro sign so many times.
+fn euros(alloc: Global, count: usize) -> Result<String, AllocError> {
+    let mut text = String::new(alloc);
+    for _ in 0..count {
+        text.push('\u{20AC}')?;
+    }
+    Ok(text)
+}
+
+#[test]
+fn large_inputs_and_their_text(rt: HostRuntime) -> Result<(), Fail> {
+    let alloc = rt.alloc();
+    let tables = baltic(alloc, EURO);
+    let bytes = std::vec![in alloc; 0x80; 100_000]?;
+    let text = euros(alloc, 100_000)?;
+    let want = (text.as_str(), WINDOWS_1257, false);
+    assert!(rt; is_sniffed(alloc, &tables, WINDOWS_1257, &bytes, want)?);
+    assert!(rt; is_removed(alloc, &tables, WINDOWS_1257, &bytes, (text.as_str(), false))?);
+    assert!(rt; is_kept(alloc, &tables, WINDOWS_1257, &bytes, (text.as_str(), false))?);
+    assert!(rt; WINDOWS_1257.output_encoding().is_ready(&tables));
+    let (written, output, lost) = WINDOWS_1257.encode(alloc, &tables, text.as_str())?;
+    assert!(rt; written.as_slice() == bytes.as_slice());
+    assert!(rt; output == WINDOWS_1257 && !lost);
     Ok(())
 }

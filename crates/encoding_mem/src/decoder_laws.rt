@@ -13,6 +13,7 @@ ghost use Rattle.encoding_mem.specs.Text.{text_pieces};
 ghost use Rattle.encoding_mem.specs.Utf8.{pieces_utf8};
 ghost use Rattle.encoding_mem.specs.MaximalSubparts.{Utf8PiecesAreMaximal};
 ghost use Rattle.encoding_mem.specs.declared.decoder_result.DecoderResult.{DecoderResult};
+ghost use Rattle.encoding_mem.specs.declared.decoder_result.DecoderResult.TheVariants.{Malformed};
 
 /// The law over events, of every call that meets the state law and adds its text to a slice: in bytes or
 /// units, raw or with byte order marks.
@@ -20,6 +21,16 @@ pub fn calls_have_events()
     ensures { (before after : DecoderState) (src : List ℕ) (last : Bool) (read : ℕ) (encode : List ℕ → List ℕ) (old new : List ℕ) (written : ℕ) (outcome : DecoderResult)
         → StateLaw before after src last read (λ text. Adds old 0 (encode text) new written) outcome
         → EventLaw before after src last read (λ text. Adds old 0 (encode text) new written) outcome }
+{}
+
+/// The numbers of `Malformed`, of every such call: the malformed sequence has 1 to 4 bytes, and at
+/// most 3 bytes were read after it.
+pub fn malformed_sequences_have_bytes()
+    ensures { (before after : DecoderState) (src : List ℕ) (last : Bool) (read : ℕ)
+        → (encode : List ℕ → List ℕ) (old new : List ℕ) (written a b : ℕ)
+        → StateLaw before after src last read (λ text. Adds old 0 (encode text) new written)
+        (Malformed a b)
+        → (1 ≤ a) × (a ≤ 4) × (b ≤ 3) }
 {}
 
 /// What waits for more decides nothing.

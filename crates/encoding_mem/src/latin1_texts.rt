@@ -1,6 +1,6 @@
 // Latin1 to text and back, borrowed where nothing changes.
 
-ghost use Rattle.std.specs.Prelude.{◌≡◌, ◌↔◌, IfOk, encode_utf8_all};
+ghost use Rattle.std.specs.Prelude.{◌≡◌, ◌↔◌, IfOk, IsOk, encode_utf8_all};
 ghost use Rattle.std.specs.Cow.{cow_str_bytes, IsBorrowedStr};
 ghost use Rattle.std.specs.Str.{chars, IsAscii};
 ghost use Rattle.encoding_mem.specs.Latin1.{AllLatin1};
@@ -18,10 +18,12 @@ pub enum Latin1Bytes<'a> {
     Owned(Vec<u8>),
 }
 
-/// Decodes Latin1. What is ASCII is borrowed; anything else is a new text, for which memory may be wanting.
+/// Decodes Latin1. What is ASCII is borrowed, and asks for no memory; anything else is a new text,
+/// for which memory may be wanting.
 pub fn decode_latin1(alloc: Global, bytes: &[u8]) -> Result<CowStr<'_>, AllocError>
     ensures text { IfOk result (λ t. cow_str_bytes t ≡ encode_utf8_all bytes.now) }
     ensures borrowed { IfOk result (λ t. IsBorrowedStr t ↔ IsAscii bytes.now) }
+    ensures free { IsAscii bytes.now → IsOk result }
 {
     let run = ascii_prefix(bytes);
     if run.len() == bytes.len() {
@@ -34,12 +36,13 @@ pub fn decode_latin1(alloc: Global, bytes: &[u8]) -> Result<CowStr<'_>, AllocErr
     Ok(CowStr::Owned(text))
 }
 
-/// Encodes a text, which has no scalar above U+00FF, as Latin1. What is ASCII is borrowed; anything else is
-/// new, and memory may be wanting for it.
+/// Encodes a text, which has no scalar above U+00FF, as Latin1. What is ASCII is borrowed, and asks
+/// for no memory; anything else is new, and memory may be wanting for it.
 pub fn encode_latin1_lossy(alloc: Global, text: &str) -> Result<Latin1Bytes<'_>, AllocError>
     requires { AllLatin1 (chars text.now) }
     ensures bytes { IfOk result (λ b. latin1_bytes b ≡ chars text.now) }
     ensures borrowed { IfOk result (λ b. AreBorrowed b ↔ IsAscii text.now) }
+    ensures free { IsAscii text.now → IsOk result }
 {
     let run = ascii_prefix(text.as_bytes());
     if run.len() == text.len() {

@@ -15,6 +15,7 @@ mod driver;
 pub mod encode;
 pub mod encoder_laws;
 pub mod encoder_result;
+pub mod equality_laws;
 mod first;
 pub mod first_piece;
 pub mod form;

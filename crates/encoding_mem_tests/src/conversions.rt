@@ -4,6 +4,7 @@ use encoding_mem::{
     convert_utf8_to_utf16_up_to_invalid, convert_utf8_to_utf16_without_replacement,
     convert_utf16_to_latin1_lossy, convert_utf16_to_utf8_partial, copy_ascii_to_ascii,
     copy_ascii_to_basic_latin, copy_basic_latin_to_ascii, decode_latin1, encode_latin1_lossy,
+    is_str_latin1,
 };
 use std::borrow::CowStr;
 use std::test::Fail;
@@ -98,6 +99,21 @@ fn latin1_becomes_text_and_back(rt: HostRuntime) -> Result<(), Fail> {
     match encode_latin1_lossy(rt.alloc(), "A")? {
         Latin1Bytes::Borrowed(bytes) => assert_eq!(rt; bytes, &[0x41][..]),
         Latin1Bytes::Owned(_) => panic!(rt; "owned"),
+    }
+    Ok(())
+}
+
+#[test]
+fn a_large_text_becomes_latin1_and_back(rt: HostRuntime) -> Result<(), Fail> {
+    let bytes = std::vec![in rt.alloc(); 0xE9; 100_000]?;
+    let text = decode_latin1(rt.alloc(), &bytes)?;
+    let text = text.as_str();
+    assert_eq!(rt; text.len(), 200_000);
+    assert!(rt; text.chars().all(|c| c == 'é'));
+    assert!(rt; is_str_latin1(text));
+    match encode_latin1_lossy(rt.alloc(), text)? {
+        Latin1Bytes::Owned(again) => assert!(rt; again.as_slice() == bytes.as_slice()),
+        Latin1Bytes::Borrowed(_) => panic!(rt; "borrowed"),
     }
     Ok(())
 }

@@ -1,7 +1,7 @@
 // Laws of the definitions: the functions do nothing, and each contract is a law. Beside them stands the search
 // that every look-up makes, whose contract bounds its comparisons.
 
-ghost use Rattle.std.specs.Prelude.{ℕ, List};
+ghost use Rattle.std.specs.Prelude.{◌≡◌, ◌↔◌, ℕ, IsTrue, List};
 ghost use Rattle.encoding_mem.specs.ReadBack.{ReadsBackExactly};
 ghost use Rattle.encoding_mem.specs.Steps.{StepLaw, in_any_set};
 ghost use Rattle.encoding_tables.specs.FileNames.{FileNamesDiffer};
@@ -14,8 +14,18 @@ ghost use Rattle.encoding_tables.specs.Replacement.{IsOneError, NeedsRoomOnce};
 ghost use Rattle.encoding_tables.specs.UserDefined.{pieces_user_defined, user_defined_coding};
 ghost use Rattle.encoding_tables.specs.Utf16.{ReadsUnits};
 ghost use Rattle.encoding_tables.specs.RangeLaws.{ValuesAreScalars, ValuesRise, PointersAreExact, PointersReadBack};
+ghost use Rattle.encoding_tables.specs.declared.index_kind.IndexKind.{IndexKind};
+ghost use Rattle.encoding_tables.specs.declared.table_fault.TableFault.{TableFault};
 
+use crate::index_kind::IndexKind;
 pub use crate::search::search;
+use crate::table_fault::TableFault;
+
+/// Kinds are equal exactly where they are the same, and so are faults, with their number.
+pub fn kinds_and_faults_are_compared()
+    ensures kind { (a b : IndexKind) → IsTrue (⟦<IndexKind as PartialEq>⟧.eq a b) ↔ (a ≡ b) }
+    ensures fault { (a b : TableFault) → IsTrue (⟦<TableFault as PartialEq>⟧.eq a b) ↔ (a ≡ b) }
+{}
 
 /// Two kinds whose files have the same name are the same kind.
 pub fn file_names()

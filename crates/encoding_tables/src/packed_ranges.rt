@@ -1,7 +1,8 @@
 // The rows of the GB18030 ranges, packed for look-ups in either direction (the Encoding Standard,
 // section 5: "index gb18030 ranges code point" and "index gb18030 ranges pointer").
 
-ghost use Rattle.std.specs.Prelude.{◌≡◌, ℕ, ◌<◌, ◌^◌, ◌++◌, List, max, None, IfOk, OnOk, IfSome};
+ghost use Rattle.std.specs.Prelude.{◌≡◌, ℕ, ◌<◌, ◌^◌, ◌++◌, List, [], max, None, IfOk, IfSome};
+ghost use Rattle.std.specs.Prelude.{IsOk, OnOk};
 ghost use Rattle.encoding_tables.specs.RangeFaults.{bad_row};
 ghost use Rattle.encoding_tables.specs.laws.RangeRuns.{runs_of, with_low, with_high, ArePacked};
 ghost use Rattle.encoding_tables.specs.Ranges.{last_row, range_value, range_pointer, value_in, is_valid_pointer};
@@ -33,11 +34,16 @@ impl PackedRanges {
     // A copy of rows that are taken. Asks for no memory where there are no rows.
     pub(crate) fn from_rows(alloc: Global, rows: &[(u32, u32)]) -> Result<Self, AllocError>
         requires { bad_row rows.now ≡ None }
-        ensures { IfOk result (λ p. p ≡ rows.now) }
+        ensures rows { IfOk result (λ p. p ≡ rows.now) }
+        ensures grows { rows.now ≡ [] → IsOk result }
     {
         let by_value = runs_of(alloc, rows)?;
-        let rows = Vec::from_slice(alloc, rows)?;
-        Ok(PackedRanges { rows, by_value })
+        let mut copied = Vec::with_capacity(alloc, rows.len())?;
+        copied.extend_from_slice(rows)?;
+        Ok(PackedRanges {
+            rows: copied,
+            by_value,
+        })
     }
 
     // The character at a pointer.
@@ -90,7 +96,8 @@ fn push_runs(runs: &mut Vec<(u32, u32)>, row: (u32, u32), end: u32) -> Result<()
 // The runs of rows that are taken.
 fn runs_of(alloc: Global, rows: &[(u32, u32)]) -> Result<Vec<(u32, u32)>, AllocError>
     requires { bad_row rows.now ≡ None }
-    ensures { IfOk result (λ runs. runs.items ≡ runs_of rows.now) }
+    ensures runs { IfOk result (λ runs. runs.items ≡ runs_of rows.now) }
+    ensures grows { rows.now ≡ [] → IsOk result }
 {
     // No row has two runs: a basic one that went on at 189000 would run out of scalars before 1237576.
     let mut runs = Vec::with_capacity(alloc, rows.len())?;

@@ -1,4 +1,5 @@
-ghost use Rattle.std.specs.Prelude.{◌≡◌, ◌≢◌, false, true, MatchOption, OnOk, OnErr, is_some, ◌⊎◌};
+ghost use Rattle.std.specs.Prelude.{◌≡◌, ◌≢◌, ◌⊎◌, [], false, true, MatchOption, OnOk, OnErr};
+ghost use Rattle.std.specs.Prelude.{is_some};
 ghost use Rattle.encoding_tables.specs.Kinds.{is_ranges, is_single_byte, index_size};
 ghost use Rattle.encoding_tables.specs.IndexLists.{IndexLists, flat_of, has, entries_of, rows_of, AreAcceptedTables, AreTaken};
 ghost use Rattle.encoding_tables.specs.Accepted.{IsIndex};
@@ -133,10 +134,11 @@ impl Tables {
     }
 
     /// Takes a copy of the rows of the GB18030 ranges, each a pointer and a code point. Otherwise
-    /// nothing changes, and the result says why.
+    /// nothing changes, and the result says why. No rows ask for no memory.
     pub fn insert_ranges(&mut self, rows: &[(u32, u32)]) -> Result<(), TableFault>
         ensures fault { MatchOption (range_fault (is_some self.old.rows) rows.now)
             ((result ≡ Ok tt) ⊎ (result ≡ Err TableFault.Memory)) (λ f. result ≡ Err f) }
+        ensures grows { rows.now ≡ [] → result ≢ Err TableFault.Memory }
         ensures taken { OnOk result (self.new.rows ≡ Some rows.now) }
         ensures flats { self.new.flats ≡ self.old.flats }
         ensures unchanged { OnErr result (self.new ≡ self.old) }

@@ -339,3 +339,37 @@ fn files_have_the_names_of_the_standard(rt: HostRuntime) {
         assert_eq!(rt; kind.file_name(), name);
     }
 }
+
+#[test]
+fn a_large_list_is_taken(rt: HostRuntime) -> Result<(), Fail> {
+    let kind = IndexKind::EucKr;
+    let mut list = Vec::new(rt.alloc());
+    for pointer in 0..23940 {
+        list.push(0x4E00 + pointer)?;
+    }
+    let mut tables = Tables::new(rt.alloc());
+    assert!(rt; !kind.is_ranges());
+    assert_eq!(rt; tables.insert(kind, list.as_slice()), Ok(()));
+    assert!(rt; tables.has(kind));
+    assert_eq!(rt; tables.value(kind, 0), Some('\u{4E00}'));
+    assert_eq!(rt; tables.value(kind, 23939), Some('\u{AB83}'));
+    Ok(())
+}
+
+#[test]
+fn many_rows_of_ranges_are_taken(rt: HostRuntime) -> Result<(), Fail> {
+    // the rows from 39420 on have no valid pointer, but for the last
+    let mut rows = Vec::new(rt.alloc());
+    for pointer in 0..99_999 {
+        rows.push((pointer, if pointer < 39420 { 0x80 + pointer } else { 0 }))?;
+    }
+    rows.push((189000, 0x1_0000))?;
+    let mut tables = Tables::new(rt.alloc());
+    assert_eq!(rt; rows.len(), 100_000);
+    assert_eq!(rt; tables.insert_ranges(&rows), Ok(()));
+    assert!(rt; tables.has(IndexKind::Gb18030Ranges));
+    assert_eq!(rt; tables.range_value(0), Some('\u{80}'));
+    assert_eq!(rt; tables.range_value(39419), Some('\u{9A7B}'));
+    assert_eq!(rt; tables.range_value(1237575), Some('\u{10_FFFF}'));
+    Ok(())
+}

@@ -5,3 +5,4 @@
 pub mod counted;
 pub mod deliver;
 pub mod line;
+pub mod line_laws;
