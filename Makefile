@@ -2,7 +2,7 @@ PREFIX = /usr/local
 FROM = utf-8
 TO = utf-8
 
-.PHONY: build test lint edits example status run refused characters install
+.PHONY: build test lint edits example status run refused characters verdicts install
 
 # Proves the program and all that it stands on, and builds it: crates/recode_cli/out/recode_cli.
 build:
@@ -49,6 +49,16 @@ characters:
 	@cd indexes && rt run encoding_index_files > /dev/null
 	@cd indexes && diff <(python3 ../tools/encodings.py . all) \
 		<(../crates/encoding_index_files/out/encoding_index_files all | sed -n '/ reads: /,$$p')
+
+# Whether each character is kept as a text of its own, in every encoding, as a run tells it, against what
+# `tools/encodings.py` makes of it. This needs Python and bash, and takes minutes.
+verdicts: SHELL = bash
+verdicts:
+	@cd indexes && rt run recode_verdicts > /dev/null
+	@cd indexes && for name in $$(python3 ../tools/encodings.py . names); do \
+		diff <(python3 ../tools/encodings.py . verdicts 1 $$name) \
+			<(../crates/recode_verdicts/out/recode_verdicts 1 $$name) || exit 1; \
+	done
 
 # The program, its man page and the index texts.
 install: build

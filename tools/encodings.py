@@ -7,6 +7,10 @@
 With the word `all` behind the folder, it is what the program must print with this word, by which it writes every
 character in every encoding (`make characters`).
 
+With the word `names` it prints the names. With `verdicts`, a number and names it prints what the program
+`recode_verdicts` must print with these (`make verdicts`): of the characters, in the planes from 1 on of those that
+the number divides, whether each is kept, folded or lost as a text of its own.
+
 Of each encoding: what it reads in short streams of bytes, among which are the bytes of every character of its
 indexes; and what it writes for each character, and how that is read again. Like `sequences.py`, whose codecs it
 uses, this is a plain program over the index texts, which follows the steps of the Encoding Standard.
@@ -293,22 +297,58 @@ def writes(name, decoder, encoder, tables, is_all):
     return f"{name} writes: {lost} lost, {folded} folded, {written.hash:08x}, read again {again.hash:08x}"
 
 
+def tables_of(folder, name):
+    if name in SINGLE_BYTE:
+        return sequences.Index(sequences.index(folder, SINGLE_BYTE[name]))
+    if name.startswith("UTF-16"):
+        return name == "UTF-16BE"
+    return sequences.Tables(folder)
+
+
+def verdict(decoder, encoder, tables, point):
+    """What is told of a text of one character. Lost: it has no bytes. Folded: what is written for it has a bad
+    piece, or is read as another text."""
+    items = sequences.encode(encoder(tables), [point])
+    if any(item >= UNMAPPABLE for item in items):
+        return "lost"
+    texts = sequences.decode(decoder(tables), bytes(items))
+    return "kept" if texts == [([point], None)] else "folded"
+
+
+def verdicts(folder, step, name):
+    """A line for each span of characters of which the same is told. What has no encoder is written as UTF-8."""
+    decoder, encoder = next(row[1:3] for row in ENCODINGS if row[0] == name)
+    if encoder is None:
+        decoder, encoder = Utf8Decoder, Utf8Encoder
+    tables = tables_of(folder, name)
+    points = (*range(0xD800), *range(0xE000, 0x10000), *range(0x10000, 0x110000, step))
+    for word, span in itertools.groupby(points, lambda point: verdict(decoder, encoder, tables, point)):
+        first = last = next(span)
+        for last in span:
+            pass
+        yield f"{name} {first:04X} {last:04X} {word}"
+
+
 def lines(task):
     folder, is_all, (name, decoder, encoder, streams) = task
-    if name in SINGLE_BYTE:
-        tables = sequences.Index(sequences.index(folder, SINGLE_BYTE[name]))
-    elif name.startswith("UTF-16"):
-        tables = name == "UTF-16BE"
-    else:
-        tables = sequences.Tables(folder)
+    tables = tables_of(folder, name)
     first = reads(name, decoder, tables, streams)
     if encoder is None:
         decoder, encoder = Utf8Decoder, Utf8Encoder
     return [first, writes(name, decoder, encoder, tables, is_all)]
 
 
+def main(folder, words):
+    if words == ["names"]:
+        print(*(row[0] for row in ENCODINGS), sep="\n")
+    elif words[:1] == ["verdicts"]:
+        for name in words[2:]:
+            print(*verdicts(folder, int(words[1]), name), sep="\n", flush=True)
+    else:
+        with multiprocessing.Pool() as pool:
+            for pair in pool.imap(lines, [(folder, words == ["all"], row) for row in ENCODINGS], 1):
+                print(*pair, sep="\n", flush=True)
+
+
 if __name__ == "__main__":
-    folder, is_all = sys.argv[1], sys.argv[2:] == ["all"]
-    with multiprocessing.Pool() as pool:
-        for pair in pool.imap(lines, [(folder, is_all, row) for row in ENCODINGS], 1):
-            print(*pair, sep="\n", flush=True)
+    main(sys.argv[1], sys.argv[2:])

@@ -7,7 +7,7 @@ use Rattle.recode.specs.State.{State, WillBeFaithful, to_write}
 use Rattle.recode.specs.Streams.{KeepsWritten, Streams, Written}
 use Rattle.recode.specs.TaggedByte.{Wrote, tagged, TaggedByte, outputs, lines}
 use Rattle.recode.specs.WrittenItems.{WritesItemsFor, WritesPrefixFor}
-use Rattle.recode.specs.Step.{Finishes, PassesLimit, StepsOn, Stops}
+use Rattle.recode.specs.Step.{Finishes, HasRun, PassesLimit, StepsOn, Stops}
 use Rattle.recode.specs.Failures.{CountsFault, Failures}
 use Rattle.recode.specs.Work.{TakesCalls}
 use Rattle.recode.specs.Fault.{of_other}
@@ -96,17 +96,6 @@ stops_under before after limit last s chunk f p e writing within q = record {
     | inr refuses ↦ absurd (subst IsWriting refuses writing)
   ];
 }
-
--- What a run has done that goes on. It may have read nothing.
-pub record HasRun (before after : Streams) (limit : ℕ) (s s' : State) : Type 0 where
-  pub chunk : List ℕ
-  pub consumed : Consumes before.input after.input chunk
-  pub counted : s'.counts.read ≡ s.counts.read + length chunk
-  pub within : s'.counts.read ≤ limit
-  pub pays : WritesItemsFor before.written after.written s.counts s'.counts false (λ r. to_write s (chunk ++ r)) (to_write s')
-  pub source : (r : List ℕ) → s.source (chunk ++ r) ≡ s'.source r
-  pub verdict : (r : List ℕ) → WillBeFaithful s (chunk ++ r) ↔ WillBeFaithful s' r
-  pub calls : (r : List ℕ) → TakesCalls (3 * length chunk) s.counts s'.counts (to_write s (chunk ++ r)) (to_write s' r)
 
 -- What a run has done that a fault ended.
 pub record HasStopped (before after : Streams) (limit : ℕ) (s : State) (fault : Fault) : Type 0 where
@@ -218,6 +207,13 @@ run_counted T n k m Write c r w l = omega (arith, c.writer, w)
 run_counted T n k m Log c r w l = omega (arith, c.log, l)
 run_counted T n k m TooLong c r w l = tt
 
+-- a failed read is the run's fault
+pub run_unread : (T : Type 0) (n k m : Failures) (f : Fault) → CountsFault {T = T} n k (Err f) → k.reader ≡ m.reader → n.reader < m.reader → f ≡ Read
+run_unread T n k m Read c r h = refl
+run_unread T n k m Write c r h = absurd (omega (arith, c.reader, r, h))
+run_unread T n k m Log c r h = absurd (omega (arith, c.reader, r, h))
+run_unread T n k m TooLong c r h = absurd (omega (arith, c.reader, r, h))
+
 -- a flush's fault is counted
 pub flush_cause : (n m : Failures) (writes logs limit : ℕ) (a b : Option (List ℕ)) (f : Fault) → n.writer ≤ writes → n.log ≤ logs → IsFlushCause writes m.writer logs m.log f → IsCause n m a b limit f
 flush_cause n m writes logs limit a b Read w l h = absurd h
@@ -233,8 +229,8 @@ module _ (before after : Streams) (flushed : Written) (log : Option (List ℕ)) 
 
   -- by a run that failed
   pub run_broke : (f : Fault) → Fails before after j f → (k : ℕ) × IsTold untold m.log (message_of f) k × Appends flushed.log log (take k (message_of f)) → IsCounted n (record m { log = untold }) f
-      → Breaks before (record { input = after.input; written = record { output = flushed.output; log = log } }) n m j
-  run_broke f k told counted = record {
+      → (n.reader < m.reader → f ≡ Read) → Breaks before (record { input = after.input; written = record { output = flushed.output; log = log } }) n m j
+  run_broke f k told counted unread = record {
     input = k.input;
     refused = k.refused;
     ended = k.ended;
@@ -242,6 +238,7 @@ module _ (before after : Streams) (flushed : Written) (log : Option (List ℕ)) 
     end = k.end;
     none = k.none;
     spared = k.spared;
+    unread = unread;
     within = k.within;
     taken = k.taken;
     fault = f;
@@ -257,8 +254,9 @@ module _ (before after : Streams) (flushed : Written) (log : Option (List ℕ)) 
 
   -- by a flush that failed
   pub flush_broke : (p : Report) (g : Fault) → Completes before after j p → (k : ℕ) × IsTold untold m.log (message_of g) k × Appends flushed.log log (take k (message_of g))
-      → IsCause n (record m { log = untold }) before.input after.input j.limit g → Breaks before (record { input = after.input; written = record { output = flushed.output; log = log } }) n m j
-  flush_broke p g k told cause =
+      → IsCause n (record m { log = untold }) before.input after.input j.limit g → m.reader ≡ n.reader
+      → Breaks before (record { input = after.input; written = record { output = flushed.output; log = log } }) n m j
+  flush_broke p g k told cause same =
       let all : List TaggedByte = tagged (trace j k.input) in
       record {
         input = k.input;
@@ -268,6 +266,7 @@ module _ (before after : Streams) (flushed : Written) (log : Option (List ℕ)) 
         end = λ h. k.end;
         none = λ h. refl;
         spared = λ h. refl;
+        unread = λ h. absurd (omega (arith, h, same));
         within = k.within;
         taken = all;
         fault = g;

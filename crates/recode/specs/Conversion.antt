@@ -68,6 +68,7 @@ pub record Breaks (before after : Streams) (failures failures' : Failures) (j : 
   pub taken : List TaggedByte
   pub fault : Fault
   pub spared : fault ≢ TooLong → refused ≡ []
+  pub unread : failures.reader < failures'.reader → fault ≡ Read
   pub untold : ℕ
   pub since : failures.log ≤ untold
   pub cause : IsCause failures (record failures' { log = untold }) before.input after.input j.limit fault

@@ -52,6 +52,17 @@ pub record StepsOn (before after : Streams) (limit : ℕ) (s s' : State) : Type 
   pub verdict : (r : List ℕ) → WillBeFaithful s (chunk ++ r) ↔ WillBeFaithful s' r
   pub calls : (r : List ℕ) → TakesCalls 3 s.counts s'.counts (to_write s (chunk ++ r)) (to_write s' r)
 
+-- Some steps that went on, from a state to a later one. They may be none.
+pub record HasRun (before after : Streams) (limit : ℕ) (s s' : State) : Type 0 where
+  pub chunk : List ℕ
+  pub consumed : Consumes before.input after.input chunk
+  pub counted : s'.counts.read ≡ s.counts.read + length chunk
+  pub within : s'.counts.read ≤ limit
+  pub pays : WritesItemsFor before.written after.written s.counts s'.counts false (λ r. to_write s (chunk ++ r)) (to_write s')
+  pub source : (r : List ℕ) → s.source (chunk ++ r) ≡ s'.source r
+  pub verdict : (r : List ℕ) → WillBeFaithful s (chunk ++ r) ↔ WillBeFaithful s' r
+  pub calls : (r : List ℕ) → TakesCalls (3 * length chunk) s.counts s'.counts (to_write s (chunk ++ r)) (to_write s' r)
+
 -- The end was read, and all the rest of the trace was written. It may stand for some steps and the one that ended.
 pub record Finishes (before after : Streams) (limit : ℕ) (s s' : State) : Type 0 where
   pub chunk : List ℕ

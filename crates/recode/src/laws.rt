@@ -20,10 +20,12 @@ ghost use Rattle.recode.specs.Job.{Faithful, IsValidJob, input_pieces, input_tex
 ghost use Rattle.recode.specs.Latency.{StandsAt};
 ghost use Rattle.recode.specs.ReadBack.{back, in_utf8};
 ghost use Rattle.recode.specs.Runs.{AgreeButForCalls, IsWholeOutput, RunReturns, WroteTheSame};
-ghost use Rattle.recode.specs.Session.{Completes, Fails, IsConverted, IsNewSession, IsReport, View};
+ghost use Rattle.recode.specs.Session.{Completes, Fails, IsConverted, IsNewSession, IsReport};
+ghost use Rattle.recode.specs.Session.{Tells, View};
 ghost use Rattle.recode.specs.Slices.{slices};
 ghost use Rattle.recode.specs.State.{State};
-ghost use Rattle.recode.specs.Step.{IsNearlyDecided, StepsOn, WrotePrefix};
+ghost use Rattle.recode.specs.Step.{Finishes, HasRun, IsNearlyDecided, StepsOn, Stops};
+ghost use Rattle.recode.specs.Step.{WrotePrefix};
 ghost use Rattle.recode.specs.Streams.{Streams, Written, known};
 ghost use Rattle.recode.specs.TaggedByte.{IsPrefix, lines, outputs, tagged};
 ghost use Rattle.recode.specs.WrittenItems.{bad_lines, lost_lines};
@@ -215,6 +217,23 @@ pub fn steps_add_up()
         (ps : List Piece)
         → StandsAt t t1 j s x ps → (p : StepsOn t1 t2 limit s s1)
         → StandsAt t t2 j s1 (x ++ p.chunk) (ps ++ p.advances.taken) }
+{}
+
+/// Steps that went on, and the one that ended them, are a run: so a session stepped by hand keeps
+/// the promise of `run`, its output and its log in one order. At the start there are none, and
+/// each that answers `More` is added. With one that answers `Done`, and with the session's report,
+/// they are a run that came to its end; with one that answers a fault, a run that it ended.
+pub fn steps_are_a_run()
+    ensures begins { (t : Streams) (j : Job) (v : View) → IsNewSession v j
+        → HasRun t t j.limit v.state v.state }
+    ensures goes_on { (t t1 t2 : Streams) (limit : ℕ) (s s1 s2 : State)
+        → HasRun t t1 limit s s1 → StepsOn t1 t2 limit s1 s2 → HasRun t t2 limit s s2 }
+    ensures completes { (t t1 t2 : Streams) (j : Job) (v w : View) (s : State) (p : Report)
+        → IsValidJob j → IsNewSession v j → HasRun t t1 j.limit v.state s
+        → Finishes t1 t2 j.limit s w.state → Tells w p → Completes t t2 j p }
+    ensures fails { (t t1 t2 : Streams) (j : Job) (v : View) (s : State) (f : Fault)
+        → IsNewSession v j → HasRun t t1 j.limit v.state s
+        → Stops t1 t2 j.limit s f → Fails t t2 j f }
 {}
 
 /// Where a conversion stands after a step, it has converted the longest list of pieces that the

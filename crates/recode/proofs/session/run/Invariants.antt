@@ -4,7 +4,7 @@ use Rattle.recode.specs.Buffers.{AreEnough, KeepSizes}
 use Rattle.recode.specs.SessionView.{view_of}
 use Rattle.recode.specs.Streams.{streams_in}
 use Rattle.recode.specs.declared.session.Phase.TheVariants.{Open}
-use Rattle.recode.proofs.StepLemmas.{HasRun}
+use Rattle.recode.specs.Step.{HasRun}
 use Rattle.recode.proofs.session.run.Given as goal
 
 abbrev pub invariant-run : goal.invariant-run
