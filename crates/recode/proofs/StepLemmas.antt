@@ -208,11 +208,11 @@ run_counted T n k m Log c r w l = omega (arith, c.log, l)
 run_counted T n k m TooLong c r w l = tt
 
 -- a failed read is the run's fault
-pub run_unread : (T : Type 0) (n k m : Failures) (f : Fault) → CountsFault {T = T} n k (Err f) → k.reader ≡ m.reader → n.reader < m.reader → f ≡ Read
-run_unread T n k m Read c r h = refl
-run_unread T n k m Write c r h = absurd (omega (arith, c.reader, r, h))
-run_unread T n k m Log c r h = absurd (omega (arith, c.reader, r, h))
-run_unread T n k m TooLong c r h = absurd (omega (arith, c.reader, r, h))
+pub run_unread : (T : Type 0) (n k : Failures) (f : Fault) → CountsFault {T = T} n k (Err f) → n.reader < k.reader → f ≡ Read
+run_unread T n k Read c h = refl
+run_unread T n k Write c h = absurd (omega (arith, c.reader, h))
+run_unread T n k Log c h = absurd (omega (arith, c.reader, h))
+run_unread T n k TooLong c h = absurd (omega (arith, c.reader, h))
 
 -- a flush's fault is counted
 pub flush_cause : (n m : Failures) (writes logs limit : ℕ) (a b : Option (List ℕ)) (f : Fault) → n.writer ≤ writes → n.log ≤ logs → IsFlushCause writes m.writer logs m.log f → IsCause n m a b limit f

@@ -31,7 +31,21 @@ ghost use Rattle.recode.specs.TaggedByte.{IsPrefix, lines, outputs, tagged};
 ghost use Rattle.recode.specs.WrittenItems.{bad_lines, lost_lines};
 ghost use Rattle.recode.specs.declared.job.Fault.{Fault};
 ghost use Rattle.recode.specs.declared.job.Job.{Job};
+ghost use Rattle.recode.specs.declared.indexes.SourceFault.{SourceFault};
+ghost use Rattle.recode.specs.declared.job.Progress.{Progress};
 ghost use Rattle.recode.specs.declared.job.Report.{Report};
+
+use crate::indexes::SourceFault;
+use crate::job::{Fault, Progress, Report};
+
+/// How a step ended, reports and faults are equal exactly where they are the same.
+pub fn reports_are_compared()
+    ensures progress { (a b : Progress) → IsTrue (⟦<Progress as PartialEq>⟧.eq a b) ↔ (a ≡ b) }
+    ensures report { (a b : Report) → IsTrue (⟦<Report as PartialEq>⟧.eq a b) ↔ (a ≡ b) }
+    ensures fault { (a b : Fault) → IsTrue (⟦<Fault as PartialEq>⟧.eq a b) ↔ (a ≡ b) }
+    ensures source { (a b : SourceFault)
+        → IsTrue (⟦<SourceFault as PartialEq>⟧.eq a b) ↔ (a ≡ b) }
+{}
 
 /// The trace of an input is its output and its log: their bytes, and how many lines of each kind.
 pub fn trace_of_input()

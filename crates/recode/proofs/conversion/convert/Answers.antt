@@ -13,4 +13,4 @@ pub returns-in-Err-clause-broken : goal.returns-in-Err-clause-broken
 returns-in-Err-clause-broken g c is =
     run_broke _ _ _ _ _ _ _ c.args.job c.flush_both-flushed.ensures.kept (omega (arith, c.in-Err.ensures.failures.log, c.flush_both-flushed.ensures.log_count)) _ c.in-Err.ensures.fails c.tell-in-Err.ensures.message
     (run_counted Report _ _ _ _ c.in-Err.ensures.failures refl c.flush_both-flushed.ensures.writer_count c.flush_both-flushed.ensures.log_count)
-    (run_unread Report _ _ _ _ c.in-Err.ensures.failures refl)
+    (run_unread Report _ _ _ c.in-Err.ensures.failures)
