@@ -120,6 +120,38 @@ fn check_reads(
     Ok(())
 }
 
+// The kinds of pivot and check, each with the least room, with room for a byte or unit more, and
+// with room for all of a row.
+const ROOMS: [(bool, [usize; 3]); 2] = [(false, [4, 5, 64]), (true, [2, 3, 64])];
+
+// With buffers of all sizes beside one another: an input that is longer than the pivot or the
+// output, a character that the pivot holds once and not twice, a check that is longer or shorter.
+fn check_sizes(
+    rt: &(impl Abort + AllocGlobal),
+    row: Row,
+    tables: &Tables,
+) -> Result<(), AllocError> {
+    for input in [1, 2, 3, 64] {
+        for output in [4, 5, 64] {
+            for (is_wide, rooms) in ROOMS {
+                for pivot in rooms {
+                    for check_room in rooms {
+                        let sizes = Sizes {
+                            input,
+                            pivot,
+                            output,
+                            check: check_room,
+                            is_wide,
+                        };
+                        check(rt, row, Reads::CutAt(0), sizes, tables)?;
+                    }
+                }
+            }
+        }
+    }
+    Ok(())
+}
+
 fn check_cuts_over(
     rt: &(impl Abort + AllocGlobal),
     row: Row,
@@ -128,10 +160,11 @@ fn check_cuts_over(
     for offset in 0..=row.input.len() {
         check_reads(rt, row, Reads::CutAt(offset), tables)?;
     }
-    check_reads(rt, row, Reads::OneByOne, tables)
+    check_reads(rt, row, Reads::OneByOne, tables)?;
+    check_sizes(rt, row, tables)
 }
 
-/// Converts the row at every cut, and byte by byte.
+/// Converts the row at every cut, byte by byte, and with buffers of all sizes.
 pub fn check_cuts(rt: &(impl Abort + AllocGlobal), row: Row) -> Result<(), AllocError> {
     check_cuts_over(rt, row, &row.trial().tables(rt))
 }
