@@ -1,9 +1,11 @@
--- Buffers that are lent and given back.
+-- Buffers and writers that are lent and given back.
 use Rattle.std.proofs.Common.{◌≡◌, ◌∙◌, arith, refl, sym, true≢false}
 use Rattle.recode.specs.Buffers.{AreEnough, KeepSizes, HoldsAnyCharacter, capacity, is_wide}
+use Rattle.recode.specs.Writers.{AreTheSame}
 use Rattle.recode.specs.declared.job.Buffers.{Buffers}
 use Rattle.recode.specs.declared.job.Pivot.{Pivot}
 use Rattle.recode.specs.declared.job.Pivot.TheVariants.{Utf8, Utf16}
+use Rattle.recode.specs.declared.writers.Writers.{Writers}
 
 pub kept_start : (b : Buffers) → KeepSizes b b
 kept_start b = record { input = refl; pivot = refl; pivot_kind = refl; output = refl; check = refl; check_kind = refl }
@@ -32,3 +34,9 @@ kept_enough b c e k = record {
   check = holds_still b.check c.check e.check k.check k.check_kind;
   one_kind = k.pivot_kind ∙ e.one_kind ∙ sym k.check_kind;
 }
+
+pub same_start : {W L : Type 0} (a : Writers W L) → AreTheSame a a
+same_start a = record { output = refl; log = refl }
+
+pub same_on : {W L : Type 0} {a b c : Writers W L} → AreTheSame a b → AreTheSame b c → AreTheSame a c
+same_on p q = record { output = q.output ∙ p.output; log = q.log ∙ p.log }

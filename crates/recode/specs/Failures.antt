@@ -2,7 +2,7 @@
 use Rattle.std.specs.Prelude.{◌≡◌, ℕ, ◌+◌, Result}
 use Rattle.recode_log.specs.Counted.{failures_of}
 use Rattle.recode_log.specs.declared.counted.Counted.{Counted}
-use Rattle.recode.specs.Fault.{of_reader, of_writer, of_log, of_other}
+use Rattle.recode.specs.Fault.{of_reader, of_writer, of_log}
 use Rattle.recode.specs.declared.job.Fault.{Fault}
 
 -- the counts of failed calls of a reader, a writer and a log
@@ -19,10 +19,3 @@ pub record CountsFault {T : Type 0} (before after : Failures) (result : Result T
   pub reader : after.reader ≡ before.reader + of_reader result
   pub writer : after.writer ≡ before.writer + of_writer result
   pub log : after.log ≡ before.log + of_log result
-
--- The same of a call that has no reader: each fault is of the writer or of the log.
-pub record CountsWriterFault {W L T : Type 0} (old new : Counted W) (old_log new_log : Counted L) (result : Result T Fault) : Type 0 where
-  pub writer : failures_of new ≡ failures_of old + of_writer result
-  pub log : failures_of new_log ≡ failures_of old_log + of_log result
-  pub not_reader : of_reader result ≡ 0
-  pub not_other : of_other result ≡ 0

@@ -22,5 +22,6 @@ pub mod Conversion
 pub mod Program
 pub mod VerdictView
 pub mod EngineState
+pub mod Writers
 pub mod SessionView
 pub mod examples

@@ -2,8 +2,9 @@
 //! sequences are logged.
 
 use crate::codec_calls::{decode_to_pivot, text_in};
-use crate::job::{Fault, Pivot, Progress};
+use crate::job::{Buffers, Fault, Pivot, Progress};
 use crate::target::Target;
+use crate::writers::Writers;
 use encoding_front::StreamDecoder;
 use encoding_mem::{DecoderResult, RawEncoder};
 use recode_log::counted::Counted;
@@ -35,22 +36,23 @@ pub struct Engine<D, E> {
 impl<D: StreamDecoder, E: RawEncoder> Engine<D, E> {
     ghost use Rattle.std.specs.Prelude.{◌≡◌, ◌↔◌, ℕ, ◌+◌, ◌-◌, ◌^◌, ◌<◌, ◌≤◌, ◌++◌, ◌⊎◌, IfErr, IfOk, IsTrue, List, OnErr, OnOk, [], drop, false, length, true};
     ghost use Rattle.recode_log.specs.Counted.{failures_of};
+    ghost use Rattle.recode.specs.Buffers.{AreEnough, KeepSizes};
     ghost use Rattle.recode.specs.Buffers.{HoldsAnyCharacter, capacity, is_wide};
     ghost use Rattle.recode.specs.EngineState.{engine_state};
-    ghost use Rattle.recode.specs.Failures.{CountsFault, CountsWriterFault, failures_in};
+    ghost use Rattle.recode.specs.Failures.{CountsFault};
     ghost use Rattle.recode.specs.Step.{Advances, Finishes, IsNearlyDecided, StepsOn, Stops};
-    ghost use Rattle.recode.specs.Streams.{streams_in, written_in};
     ghost use Rattle.recode.specs.TraceToWrite.{AreSound, trace_to_write};
     ghost use Rattle.recode.specs.Verdict.{CanTell, IsFaithfulFor};
     ghost use Rattle.recode.specs.VerdictView.{verdict_view};
     ghost use Rattle.recode.specs.Work.{TakesCalls, calls_at_end};
+    ghost use Rattle.recode.specs.Writers.{AreTheSame, CountsWriterFault, MayFail};
+    ghost use Rattle.recode.specs.Writers.{failures_to, is_end, streams_of, written_by};
     ghost use Rattle.recode.specs.WrittenItems.{WritesItemsFor, WritesPrefixFor};
 
     // One call of the decoder, and all that follows from it.
     fn decode_part<W: Write, L: Write>(
         &mut self,
-        writer: &mut Counted<W>,
-        log: &mut Counted<L>,
+        writers: &mut Writers<'_, W, L>,
         chunk: Chunk<'_>,
         pivot: &mut Pivot<'_>,
         output: &mut [u8],
@@ -65,12 +67,11 @@ impl<D: StreamDecoder, E: RawEncoder> Engine<D, E> {
         requires form { is_wide check.old ≡ is_wide pivot.old }
         requires tells { CanTell (verdict_view D.view self.old.target.verdict)
             (E.coding self.old.target.encoder) (E.set self.old.target.encoder) [] }
-        requires writer { failures_of writer.old < 2 ^ 64 - 1 }
-        requires log { failures_of log.old < 2 ^ 64 - 1 }
+        requires writers { MayFail writers.old }
         ensures within { IfOk result (λ p. p.read ≤ length chunk.entry.bytes.now) }
         ensures pays { IfOk result (λ p. WritesItemsFor
-            (written_in W.contents L.contents writer.old log.old)
-            (written_in W.contents L.contents writer.new log.new)
+            (written_by W.contents L.contents writers.old)
+            (written_by W.contents L.contents writers.new)
             self.old.target.counts self.new.target.counts chunk.entry.last
             (λ r. trace_to_write (D.view self.old.decoder).state (E.coding self.old.target.encoder)
             (E.set self.old.target.encoder) self.old.target.counts (chunk.entry.bytes.now ++ r))
@@ -105,12 +106,12 @@ impl<D: StreamDecoder, E: RawEncoder> Engine<D, E> {
             → length ((D.view self.new.decoder).state.pieces (drop p.read chunk.entry.bytes.now))
             < length ((D.view self.old.decoder).state.pieces chunk.entry.bytes.now)) }
         ensures err { OnErr result (WritesPrefixFor
-            (written_in W.contents L.contents writer.old log.old)
-            (written_in W.contents L.contents writer.new log.new) chunk.entry.last
+            (written_by W.contents L.contents writers.old)
+            (written_by W.contents L.contents writers.new) chunk.entry.last
             (λ r. trace_to_write (D.view self.old.decoder).state (E.coding self.old.target.encoder)
             (E.set self.old.target.encoder) self.old.target.counts
             (chunk.entry.bytes.now ++ r))) }
-        ensures failures { CountsWriterFault writer.old writer.new log.old log.new result }
+        ensures failures { CountsWriterFault writers.old writers.new result }
         ensures verdict { IfOk result (λ p. (r : List ℕ) → (chunk.entry.last ≡ true → r ≡ [])
             → IsFaithfulFor (verdict_view D.view self.old.target.verdict)
             (E.coding self.old.target.encoder) (E.set self.old.target.encoder)
@@ -148,7 +149,7 @@ impl<D: StreamDecoder, E: RawEncoder> Engine<D, E> {
         match call.answer {
             DecoderResult::InputEmpty => {
                 self.target
-                    .encode_text(writer, log, text, output, check, chunk.last)?;
+                    .encode_text(writers, text, output, check, chunk.last)?;
                 Ok(DecodeTurn {
                     read: call.read,
                     is_done: true,
@@ -156,7 +157,7 @@ impl<D: StreamDecoder, E: RawEncoder> Engine<D, E> {
             }
             DecoderResult::OutputFull => {
                 self.target
-                    .encode_text(writer, log, text, output, check, false)?;
+                    .encode_text(writers, text, output, check, false)?;
                 Ok(DecodeTurn {
                     read: call.read,
                     is_done: false,
@@ -164,10 +165,10 @@ impl<D: StreamDecoder, E: RawEncoder> Engine<D, E> {
             }
             DecoderResult::Malformed(size, after) => {
                 self.target
-                    .encode_text(writer, log, text, output, check, false)?;
+                    .encode_text(writers, text, output, check, false)?;
                 let offset = self.target.counts.read - u64::from(after) - u64::from(size);
                 self.target
-                    .log_malformed(writer, log, offset, size, output, check)?;
+                    .log_malformed(writers, offset, size, output, check)?;
                 Ok(DecodeTurn {
                     read: call.read,
                     is_done: false,
@@ -176,12 +177,11 @@ impl<D: StreamDecoder, E: RawEncoder> Engine<D, E> {
         }
     }
 
-    /// Converts all of a chunk, and logs what is lost.
+    /// Converts all that was read, and logs what is lost. No bytes are the end of the input.
     pub fn decode_chunk<W: Write, L: Write>(
         &mut self,
-        writer: &mut Counted<W>,
-        log: &mut Counted<L>,
-        chunk: Chunk<'_>,
+        writers: &mut Writers<'_, W, L>,
+        chunk: &[u8],
         pivot: &mut Pivot<'_>,
         output: &mut [u8],
         check: &mut Pivot<'_>,
@@ -190,67 +190,66 @@ impl<D: StreamDecoder, E: RawEncoder> Engine<D, E> {
         requires output { 4 ≤ length output.old }
         requires open_ { (D.view self.old.decoder).finished ≡ false }
         requires sound { AreSound (D.view self.old.decoder).state.pending self.old.target.counts }
-        requires limit { self.old.target.counts.read + length chunk.bytes.now ≤ 2 ^ 48 }
+        requires limit { self.old.target.counts.read + length chunk.now ≤ 2 ^ 48 }
         requires check { HoldsAnyCharacter check.old }
         requires form { is_wide check.old ≡ is_wide pivot.old }
         requires tells { CanTell (verdict_view D.view self.old.target.verdict)
             (E.coding self.old.target.encoder) (E.set self.old.target.encoder) [] }
-        requires writer { failures_of writer.old < 2 ^ 64 - 1 }
-        requires log { failures_of log.old < 2 ^ 64 - 1 }
+        requires writers { MayFail writers.old }
         ensures pays { OnOk result (WritesItemsFor
-            (written_in W.contents L.contents writer.old log.old)
-            (written_in W.contents L.contents writer.new log.new)
-            self.old.target.counts self.new.target.counts chunk.entry.last
+            (written_by W.contents L.contents writers.old)
+            (written_by W.contents L.contents writers.new)
+            self.old.target.counts self.new.target.counts (is_end chunk.now)
             (λ r. trace_to_write (D.view self.old.decoder).state (E.coding self.old.target.encoder)
-            (E.set self.old.target.encoder) self.old.target.counts (chunk.entry.bytes.now ++ r))
+            (E.set self.old.target.encoder) self.old.target.counts (chunk.now ++ r))
             (λ r. trace_to_write (D.view self.new.decoder).state (E.coding self.old.target.encoder)
             (E.set self.new.target.encoder) self.new.target.counts r)) }
-        ensures source { OnOk result ((r : List ℕ) → (chunk.entry.last ≡ true → r ≡ [])
-            → (D.view self.old.decoder).source (chunk.entry.bytes.now ++ r)
+        ensures source { OnOk result ((r : List ℕ) → (is_end chunk.now ≡ true → r ≡ [])
+            → (D.view self.old.decoder).source (chunk.now ++ r)
             ≡ (D.view self.new.decoder).source r) }
-        ensures open_ { OnOk result (chunk.entry.last ≡ false
+        ensures open_ { OnOk result (is_end chunk.now ≡ false
             → (D.view self.new.decoder).finished ≡ false) }
         ensures read { OnOk result (self.new.target.counts.read
-            ≡ self.old.target.counts.read + length chunk.entry.bytes.now) }
+            ≡ self.old.target.counts.read + length chunk.now) }
         ensures sound { OnOk result (AreSound (D.view self.new.decoder).state.pending
             self.new.target.counts) }
         ensures target { E.coding self.new.target.encoder ≡ E.coding self.old.target.encoder }
-        ensures end { OnOk result (chunk.entry.last ≡ true
+        ensures end { OnOk result (is_end chunk.now ≡ true
             → trace_to_write (D.view self.new.decoder).state (E.coding self.old.target.encoder)
             (E.set self.new.target.encoder) self.new.target.counts [] ≡ []) }
-        ensures advances { OnOk result (chunk.entry.last ≡ false → Advances
-            (λ r. (D.view self.old.decoder).state.pieces (chunk.entry.bytes.now ++ r))
+        ensures advances { OnOk result (is_end chunk.now ≡ false → Advances
+            (λ r. (D.view self.old.decoder).state.pieces (chunk.now ++ r))
             (D.view self.new.decoder).state.pieces
             (E.coding self.old.target.encoder) (E.set self.old.target.encoder)
             (E.set self.new.target.encoder)
             self.old.target.counts self.new.target.counts) }
         ensures settled { OnOk result (IsNearlyDecided (D.view self.new.decoder).state) }
         ensures err { OnErr result (WritesPrefixFor
-            (written_in W.contents L.contents writer.old log.old)
-            (written_in W.contents L.contents writer.new log.new) chunk.entry.last
+            (written_by W.contents L.contents writers.old)
+            (written_by W.contents L.contents writers.new) (is_end chunk.now)
             (λ r. trace_to_write (D.view self.old.decoder).state (E.coding self.old.target.encoder)
             (E.set self.old.target.encoder) self.old.target.counts
-            (chunk.entry.bytes.now ++ r))) }
-        ensures failures { CountsWriterFault writer.old writer.new log.old log.new result }
-        ensures verdict { OnOk result ((r : List ℕ) → (chunk.entry.last ≡ true → r ≡ [])
+            (chunk.now ++ r))) }
+        ensures failures { CountsWriterFault writers.old writers.new result }
+        ensures verdict { OnOk result ((r : List ℕ) → (is_end chunk.now ≡ true → r ≡ [])
             → IsFaithfulFor (verdict_view D.view self.old.target.verdict)
             (E.coding self.old.target.encoder) (E.set self.old.target.encoder)
-            ((D.view self.old.decoder).state.pieces (chunk.entry.bytes.now ++ r))
+            ((D.view self.old.decoder).state.pieces (chunk.now ++ r))
             ↔ IsFaithfulFor (verdict_view D.view self.new.target.verdict)
             (E.coding self.old.target.encoder) (E.set self.new.target.encoder)
             ((D.view self.new.decoder).state.pieces r)) }
-        ensures tells { OnOk result (chunk.entry.last ≡ false
+        ensures tells { OnOk result (is_end chunk.now ≡ false
             → CanTell (verdict_view D.view self.new.target.verdict)
             (E.coding self.old.target.encoder) (E.set self.new.target.encoder) []) }
-        ensures told { OnOk result (chunk.entry.last ≡ true
+        ensures told { OnOk result (is_end chunk.now ≡ true
             → IsFaithfulFor (verdict_view D.view self.new.target.verdict)
             (E.coding self.old.target.encoder) (E.set self.new.target.encoder)
             ((D.view self.new.decoder).state.pieces [])
             ↔ IsTrue self.new.target.verdict.faithful) }
-        ensures calls { OnOk result ((r : List ℕ) → (chunk.entry.last ≡ true → r ≡ [])
+        ensures calls { OnOk result ((r : List ℕ) → (is_end chunk.now ≡ true → r ≡ [])
             → TakesCalls 3 self.old.target.counts self.new.target.counts
             (trace_to_write (D.view self.old.decoder).state (E.coding self.old.target.encoder)
-            (E.set self.old.target.encoder) self.old.target.counts (chunk.entry.bytes.now ++ r))
+            (E.set self.old.target.encoder) self.old.target.counts (chunk.now ++ r))
             (trace_to_write (D.view self.new.decoder).state (E.coding self.old.target.encoder)
             (E.set self.new.target.encoder) self.new.target.counts r)) }
         ensures check { HoldsAnyCharacter check.new }
@@ -260,13 +259,11 @@ impl<D: StreamDecoder, E: RawEncoder> Engine<D, E> {
         ensures kind { is_wide pivot.new ≡ is_wide pivot.old }
         ensures size { capacity pivot.new ≡ capacity pivot.old }
     {
-        let mut rest = chunk.bytes;
+        let last = chunk.is_empty();
+        let mut rest = chunk;
         'chunk: loop {
-            let part = Chunk {
-                bytes: rest,
-                last: chunk.last,
-            };
-            let turn = self.decode_part(writer, log, part, pivot, output, check)?;
+            let part = Chunk { bytes: rest, last };
+            let turn = self.decode_part(writers, part, pivot, output, check)?;
             if turn.is_done {
                 return Ok(());
             }
@@ -278,75 +275,63 @@ impl<D: StreamDecoder, E: RawEncoder> Engine<D, E> {
     pub fn step<R: Read, W: Write, L: Write>(
         &mut self,
         reader: &mut Counted<R>,
-        writer: &mut Counted<W>,
-        log: &mut Counted<L>,
+        writers: &mut Writers<'_, W, L>,
         limit: u64,
-        input: &mut [u8],
-        pivot: &mut Pivot<'_>,
-        output: &mut [u8],
-        check: &mut Pivot<'_>,
+        buffers: &mut Buffers<'_>,
     ) -> Result<Progress, Fault>
         requires limit { limit ≤ 2 ^ 48 }
         requires read { self.old.target.counts.read ≤ limit }
         requires open_ { (D.view self.old.decoder).finished ≡ false }
         requires sound { AreSound (D.view self.old.decoder).state.pending self.old.target.counts }
-        requires input { 0 < length input.old }
-        requires pivot { HoldsAnyCharacter pivot.old }
-        requires output { 4 ≤ length output.old }
-        requires check { HoldsAnyCharacter check.old }
-        requires form { is_wide check.old ≡ is_wide pivot.old }
+        requires buffers { AreEnough buffers.old }
         requires tells { CanTell (verdict_view D.view self.old.target.verdict)
             (E.coding self.old.target.encoder) (E.set self.old.target.encoder) [] }
         requires reader { failures_of reader.old < 2 ^ 64 - 1 }
-        requires writer { failures_of writer.old < 2 ^ 64 - 1 }
-        requires log { failures_of log.old < 2 ^ 64 - 1 }
+        requires writers { MayFail writers.old }
 
         ensures more { result ≡ Ok Progress.More → StepsOn
-            (streams_in R.remaining W.contents L.contents reader.old writer.old log.old)
-            (streams_in R.remaining W.contents L.contents reader.new writer.new log.new) limit
+            (streams_of R.remaining W.contents L.contents reader.old writers.old)
+            (streams_of R.remaining W.contents L.contents reader.new writers.new) limit
             (engine_state D.view E.coding E.set self.old)
             (engine_state D.view E.coding E.set self.new) }
         ensures done { result ≡ Ok Progress.Done → Finishes
-            (streams_in R.remaining W.contents L.contents reader.old writer.old log.old)
-            (streams_in R.remaining W.contents L.contents reader.new writer.new log.new) limit
+            (streams_of R.remaining W.contents L.contents reader.old writers.old)
+            (streams_of R.remaining W.contents L.contents reader.new writers.new) limit
             (engine_state D.view E.coding E.set self.old)
             (engine_state D.view E.coding E.set self.new) }
         ensures fault { IfErr result (Stops
-            (streams_in R.remaining W.contents L.contents reader.old writer.old log.old)
-            (streams_in R.remaining W.contents L.contents reader.new writer.new log.new) limit
+            (streams_of R.remaining W.contents L.contents reader.old writers.old)
+            (streams_of R.remaining W.contents L.contents reader.new writers.new) limit
             (engine_state D.view E.coding E.set self.old)) }
         ensures sound { OnOk result (AreSound (D.view self.new.decoder).state.pending
             self.new.target.counts) }
         ensures open_ { result ≡ Ok Progress.More → (D.view self.new.decoder).finished ≡ false }
         ensures within { OnOk result (self.new.target.counts.read ≤ limit) }
         ensures target { E.coding self.new.target.encoder ≡ E.coding self.old.target.encoder }
-        ensures failures { CountsFault (failures_in reader.old writer.old log.old)
-            (failures_in reader.new writer.new log.new) result }
-        ensures roomy { HoldsAnyCharacter pivot.new }
-        ensures kind { is_wide pivot.new ≡ is_wide pivot.old }
-        ensures size { capacity pivot.new ≡ capacity pivot.old }
         ensures tells { result ≡ Ok Progress.More → CanTell
             (verdict_view D.view self.new.target.verdict)
             (E.coding self.old.target.encoder) (E.set self.new.target.encoder) [] }
-        ensures check { HoldsAnyCharacter check.new }
-        ensures check_kind { is_wide check.new ≡ is_wide check.old }
-        ensures check_size { capacity check.new ≡ capacity check.old }
+        ensures failures { CountsFault (failures_to reader.old writers.old)
+            (failures_to reader.new writers.new) result }
+        ensures writers { AreTheSame writers.old writers.new }
+        ensures buffers { KeepSizes buffers.old buffers.new }
     {
-        let Ok(read) = reader.read(input) else {
+        let Ok(read) = reader.read(buffers.input) else {
             return Err(Fault::Read);
         };
         if read as u64 > limit - self.target.counts.read {
             return Err(Fault::TooLong);
         }
-        let ended = read == 0;
-        let chunk = Chunk {
-            bytes: &input[..read],
-            last: ended,
-        };
-        let converted = self.decode_chunk(writer, log, chunk, pivot, output, check);
+        let converted = self.decode_chunk(
+            writers,
+            &mut buffers.input[..read],
+            &mut buffers.pivot,
+            buffers.output,
+            &mut buffers.check,
+        );
         match converted {
             Ok(()) => {
-                if ended {
+                if read == 0 {
                     Ok(Progress::Done)
                 } else {
                     Ok(Progress::More)

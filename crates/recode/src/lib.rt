@@ -12,6 +12,7 @@ pub mod program;
 pub mod session;
 mod target;
 mod verdict;
+mod writers;
 
 pub use conversion::{FAITHFUL, FAULT, NOT_FAITHFUL, convert};
 pub use encoding_front::Mark;

@@ -100,7 +100,10 @@ fn load_both<S: IndexSource>(
     load_indexes(alloc, source, dir, to.output_encoding(), tables)
 }
 
-// Converts with buffers of 4096 elements each, and text of this form in between.
+// How many elements each buffer of a conversion has.
+const BUFFER_SIZE: usize = 4096;
+
+// Converts with text of this form in between.
 fn convert_in_buffers<R: Read, W: Write, L: Write>(
     reader: &mut Counted<R>,
     writer: &mut Counted<W>,
@@ -116,68 +119,36 @@ fn convert_in_buffers<R: Read, W: Write, L: Write>(
         (devices reader.old writer.old log.old) (devices reader.new writer.new log.new) job.entry
         result }
 {
+    let mut input = [0; BUFFER_SIZE];
+    let mut output = [0; BUFFER_SIZE];
     match form {
-        PivotWord::Utf8 => convert_in_utf8(reader, writer, log, job),
-        PivotWord::Utf16 => convert_in_utf16(reader, writer, log, job),
+        PivotWord::Utf8 => {
+            let mut text = [0u8; BUFFER_SIZE];
+            let mut again = [0u8; BUFFER_SIZE];
+            let pivot = Pivot::Utf8(&mut text);
+            let check = Pivot::Utf8(&mut again);
+            let mut buffers = Buffers {
+                input: &mut input,
+                pivot,
+                output: &mut output,
+                check,
+            };
+            convert(reader, writer, log, job, &mut buffers)
+        }
+        PivotWord::Utf16 => {
+            let mut text = [0u16; BUFFER_SIZE];
+            let mut again = [0u16; BUFFER_SIZE];
+            let pivot = Pivot::Utf16(&mut text);
+            let check = Pivot::Utf16(&mut again);
+            let mut buffers = Buffers {
+                input: &mut input,
+                pivot,
+                output: &mut output,
+                check,
+            };
+            convert(reader, writer, log, job, &mut buffers)
+        }
     }
-}
-
-fn convert_in_utf8<R: Read, W: Write, L: Write>(
-    reader: &mut Counted<R>,
-    writer: &mut Counted<W>,
-    log: &mut Counted<L>,
-    job: Job<'_>,
-) -> u8
-    requires job { IsValidJob job }
-    requires reader { failures_of reader.old ≤ 2 ^ 64 - 5 }
-    requires writer { failures_of writer.old ≤ 2 ^ 64 - 5 }
-    requires log { failures_of log.old ≤ 2 ^ 64 - 5 }
-    ensures { IsConversionOn R.remaining W.contents L.contents
-        (devices reader.old writer.old log.old) (devices reader.new writer.new log.new) job.entry
-        result }
-{
-    let mut input = [0u8; 4096];
-    let mut text = [0u8; 4096];
-    let mut output = [0u8; 4096];
-    let mut again = [0u8; 4096];
-    let pivot = Pivot::Utf8(&mut text);
-    let check = Pivot::Utf8(&mut again);
-    let mut buffers = Buffers {
-        input: &mut input,
-        pivot,
-        output: &mut output,
-        check,
-    };
-    convert(reader, writer, log, job, &mut buffers)
-}
-
-fn convert_in_utf16<R: Read, W: Write, L: Write>(
-    reader: &mut Counted<R>,
-    writer: &mut Counted<W>,
-    log: &mut Counted<L>,
-    job: Job<'_>,
-) -> u8
-    requires job { IsValidJob job }
-    requires reader { failures_of reader.old ≤ 2 ^ 64 - 5 }
-    requires writer { failures_of writer.old ≤ 2 ^ 64 - 5 }
-    requires log { failures_of log.old ≤ 2 ^ 64 - 5 }
-    ensures { IsConversionOn R.remaining W.contents L.contents
-        (devices reader.old writer.old log.old) (devices reader.new writer.new log.new) job.entry
-        result }
-{
-    let mut input = [0u8; 4096];
-    let mut text = [0u16; 4096];
-    let mut output = [0u8; 4096];
-    let mut again = [0u16; 4096];
-    let pivot = Pivot::Utf16(&mut text);
-    let check = Pivot::Utf16(&mut again);
-    let mut buffers = Buffers {
-        input: &mut input,
-        pivot,
-        output: &mut output,
-        check,
-    };
-    convert(reader, writer, log, job, &mut buffers)
 }
 
 // Converts what the words say, if their labels are known and the indexes can be loaded.

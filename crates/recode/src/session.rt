@@ -17,6 +17,7 @@ use crate::engine::Engine;
 use crate::job::{Buffers, Fault, Job, Pivot, Progress, Report};
 use crate::target::{Counts, Target};
 use crate::verdict::Verdict;
+use crate::writers::Writers;
 use encoding_front::{Decoder, Mark, StreamDecoder, VariantEncoder};
 use encoding_mem::RawEncoder;
 use recode_log::counted::Counted;
@@ -182,18 +183,12 @@ impl<'t> Session<'t> {
             (failures_in reader.new writer.new log.new) result }
     {
         let limit = self.job.limit;
-        self.phase = Phase::Stopped;
-        let answer = self.engine.step(
-            reader,
-            writer,
+        let mut writers = Writers {
+            output: writer,
             log,
-            limit,
-            buffers.input,
-            &mut buffers.pivot,
-            buffers.output,
-            &mut buffers.check,
-        );
-        match answer {
+        };
+        self.phase = Phase::Stopped;
+        match self.engine.step(reader, &mut writers, limit, buffers) {
             Ok(Progress::More) => {
                 self.phase = Phase::Open;
                 Ok(Progress::More)

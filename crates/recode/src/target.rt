@@ -1,19 +1,12 @@
 //! The part of an engine that writes text: what its encoder writes is delivered and read back, and
 //! what has no bytes is logged.
 
-ghost use Rattle.std.specs.Prelude.{◌≡◌, ℕ, ◌+◌, ◌-◌, ◌^◌, ◌<◌, ◌≤◌, length, take, OnOk, OnErr, IfErr};
-ghost use Rattle.std.specs.Io.KnownBytes.{Appends};
-ghost use Rattle.encoding_mem.specs.declared.reference.Reference.TheVariants.{Decimal};
-ghost use Rattle.encoding_mem.specs.Coding.{reference};
-ghost use Rattle.recode_log.specs.Counted.{inner_of, failures_of};
-ghost use Rattle.recode_log.specs.Line.{IsValid, line_bytes};
-
 use crate::codec_calls::{PivotText, encode_from_pivot};
 use crate::job::{Fault, Pivot};
 use crate::verdict::Verdict;
-use encoding_front::{StreamDecoder, write_reference};
+use crate::writers::{Writers, log_line, put_reference};
+use encoding_front::StreamDecoder;
 use encoding_mem::{EncoderResult, RawEncoder};
-use recode_log::counted::Counted;
 use recode_log::deliver::deliver;
 use recode_log::line::LogLine;
 use std::io::Write;
@@ -63,23 +56,20 @@ impl<D: StreamDecoder, E: RawEncoder> Target<D, E> {
     ghost use Rattle.recode.specs.PivotText.{is_in_units, pivot_chars, IsWholeText};
     ghost use Rattle.recode.specs.Verdict.{CanTell, IsToldAtEnd, Keeps, NeedsForm};
     ghost use Rattle.recode.specs.VerdictView.{verdict_view};
-    ghost use Rattle.recode.specs.Failures.{CountsWriterFault};
-    ghost use Rattle.recode.specs.Streams.{written_in};
+    ghost use Rattle.recode.specs.Writers.{CountsWriterFault, MayFail, written_by};
 
     // Logs the character that was read last, and writes its reference.
     fn log_lost<W: Write, L: Write>(
         &mut self,
-        writer: &mut Counted<W>,
-        log: &mut Counted<L>,
+        writers: &mut Writers<'_, W, L>,
         scalar: char,
     ) -> Result<(), Fault>
         requires index { self.old.counts.lost < self.old.counts.index }
         requires small { self.old.counts.index ≤ 2 ^ 48 }
-        requires writer { failures_of writer.old < 2 ^ 64 - 1 }
-        requires log { failures_of log.old < 2 ^ 64 - 1 }
+        requires writers { MayFail writers.old }
         ensures pays { OnOk result ((rest : List Item) → WritesItems
-            (written_in W.contents L.contents writer.old log.old)
-            (written_in W.contents L.contents writer.new log.new)
+            (written_by W.contents L.contents writers.old)
+            (written_by W.contents L.contents writers.new)
             self.old.counts self.new.counts
             (LostAt (self.old.counts.index - 1) scalar ∷ map Byte (reference Decimal scalar)
             ++ rest) rest) }
@@ -89,15 +79,15 @@ impl<D: StreamDecoder, E: RawEncoder> Target<D, E> {
         ensures verdict { verdict_view D.view self.new.verdict
             ≡ verdict_view D.view self.old.verdict }
         ensures err { OnErr result ((rest : List Item) → WritesPrefix
-            (written_in W.contents L.contents writer.old log.old)
-            (written_in W.contents L.contents writer.new log.new)
+            (written_by W.contents L.contents writers.old)
+            (written_by W.contents L.contents writers.new)
             (LostAt (self.old.counts.index - 1) scalar ∷ map Byte (reference Decimal scalar)
             ++ rest)) }
-        ensures failures { CountsWriterFault writer.old writer.new log.old log.new result }
+        ensures failures { CountsWriterFault writers.old writers.new result }
     {
         let index = self.counts.index - 1;
-        log_line(log, LogLine::Lost { index, scalar })?;
-        put_reference(writer, scalar)?;
+        log_line(writers.log, LogLine::Lost { index, scalar })?;
+        put_reference(writers.output, scalar)?;
         self.counts.lost += 1;
         Ok(())
     }
@@ -105,8 +95,7 @@ impl<D: StreamDecoder, E: RawEncoder> Target<D, E> {
     // One call of the encoder, and all that follows from it.
     fn encode_part<'p, W: Write, L: Write>(
         &mut self,
-        writer: &mut Counted<W>,
-        log: &mut Counted<L>,
+        writers: &mut Writers<'_, W, L>,
         text: PivotText<'p>,
         output: &mut [u8],
         check: &mut Pivot<'_>,
@@ -120,11 +109,10 @@ impl<D: StreamDecoder, E: RawEncoder> Target<D, E> {
         requires text { IsWholeText text }
         requires tells { CanTell (verdict_view D.view self.old.verdict) (E.coding self.old.encoder)
             (E.set self.old.encoder) (pivot_chars text) }
-        requires writer { failures_of writer.old < 2 ^ 64 - 1 }
-        requires log { failures_of log.old < 2 ^ 64 - 1 }
+        requires writers { MayFail writers.old }
         ensures pays { IfOk result (λ p. WritesItems
-            (written_in W.contents L.contents writer.old log.old)
-            (written_in W.contents L.contents writer.new log.new)
+            (written_by W.contents L.contents writers.old)
+            (written_by W.contents L.contents writers.new)
             self.old.counts self.new.counts
             (whole_items Decimal (E.coding self.old.encoder) last (E.set self.old.encoder)
             self.old.counts.index (pivot_chars text.entry))
@@ -148,11 +136,11 @@ impl<D: StreamDecoder, E: RawEncoder> Target<D, E> {
             (whole_items Decimal (E.coding self.old.encoder) last (E.set self.old.encoder)
             self.old.counts.index (pivot_chars text.entry))) }
         ensures err { OnErr result (WritesPrefix
-            (written_in W.contents L.contents writer.old log.old)
-            (written_in W.contents L.contents writer.new log.new)
+            (written_by W.contents L.contents writers.old)
+            (written_by W.contents L.contents writers.new)
             (whole_items Decimal (E.coding self.old.encoder) last (E.set self.old.encoder)
             self.old.counts.index (pivot_chars text.entry))) }
-        ensures failures { CountsWriterFault writer.old writer.new log.old log.new result }
+        ensures failures { CountsWriterFault writers.old writers.new result }
         ensures verdict { IfOk result (λ p. Keeps (E.coding self.old.encoder) last
             (verdict_view D.view self.old.verdict) (E.set self.old.encoder) (pivot_chars text.entry)
             (verdict_view D.view self.new.verdict) (E.set self.new.encoder) (pivot_chars p.rest)) }
@@ -174,7 +162,7 @@ impl<D: StreamDecoder, E: RawEncoder> Target<D, E> {
     {
         let calls = &mut self.counts.calls;
         let call = encode_from_pivot(&mut self.encoder, text, output, last, calls);
-        deliver(writer, &output[..call.written], Fault::Write)?;
+        deliver(writers.output, &output[..call.written], Fault::Write)?;
         self.counts.index += call.characters as u64;
         match call.answer {
             EncoderResult::InputEmpty => {
@@ -197,7 +185,7 @@ impl<D: StreamDecoder, E: RawEncoder> Target<D, E> {
             }
             EncoderResult::Unmappable(scalar) => {
                 self.verdict.faithful = false;
-                self.log_lost(writer, log, scalar)?;
+                self.log_lost(writers, scalar)?;
                 Ok(EncodeTurn {
                     rest: call.rest,
                     is_done: false,
@@ -209,8 +197,7 @@ impl<D: StreamDecoder, E: RawEncoder> Target<D, E> {
     /// Encodes all of the text, and logs each character that has no bytes.
     pub fn encode_text<W: Write, L: Write>(
         &mut self,
-        writer: &mut Counted<W>,
-        log: &mut Counted<L>,
+        writers: &mut Writers<'_, W, L>,
         text: PivotText<'_>,
         output: &mut [u8],
         check: &mut Pivot<'_>,
@@ -224,11 +211,10 @@ impl<D: StreamDecoder, E: RawEncoder> Target<D, E> {
         requires text { IsWholeText text }
         requires tells { CanTell (verdict_view D.view self.old.verdict) (E.coding self.old.encoder)
             (E.set self.old.encoder) (pivot_chars text) }
-        requires writer { failures_of writer.old < 2 ^ 64 - 1 }
-        requires log { failures_of log.old < 2 ^ 64 - 1 }
+        requires writers { MayFail writers.old }
         ensures pays { OnOk result (WritesItems
-            (written_in W.contents L.contents writer.old log.old)
-            (written_in W.contents L.contents writer.new log.new)
+            (written_by W.contents L.contents writers.old)
+            (written_by W.contents L.contents writers.new)
             self.old.counts self.new.counts
             (whole_items Decimal (E.coding self.old.encoder) last (E.set self.old.encoder)
             self.old.counts.index (pivot_chars text.entry)) []) }
@@ -243,11 +229,11 @@ impl<D: StreamDecoder, E: RawEncoder> Target<D, E> {
             (pivot_chars text.entry)) }
         ensures closed { OnOk result (last ≡ true → E.set self.new.encoder ≡ Ascii) }
         ensures err { OnErr result (WritesPrefix
-            (written_in W.contents L.contents writer.old log.old)
-            (written_in W.contents L.contents writer.new log.new)
+            (written_by W.contents L.contents writers.old)
+            (written_by W.contents L.contents writers.new)
             (whole_items Decimal (E.coding self.old.encoder) last (E.set self.old.encoder)
             self.old.counts.index (pivot_chars text.entry))) }
-        ensures failures { CountsWriterFault writer.old writer.new log.old log.new result }
+        ensures failures { CountsWriterFault writers.old writers.new result }
         ensures verdict { OnOk result (Keeps (E.coding self.old.encoder) last
             (verdict_view D.view self.old.verdict) (E.set self.old.encoder) (pivot_chars text.entry)
             (verdict_view D.view self.new.verdict) (E.set self.new.encoder) []) }
@@ -269,7 +255,7 @@ impl<D: StreamDecoder, E: RawEncoder> Target<D, E> {
     {
         let mut rest = text;
         'text: loop {
-            let turn = self.encode_part(writer, log, rest, output, check, last)?;
+            let turn = self.encode_part(writers, rest, output, check, last)?;
             if turn.is_done {
                 return Ok(());
             }
@@ -280,8 +266,7 @@ impl<D: StreamDecoder, E: RawEncoder> Target<D, E> {
     /// Logs a malformed sequence, and encodes U+FFFD in its place.
     pub fn log_malformed<W: Write, L: Write>(
         &mut self,
-        writer: &mut Counted<W>,
-        log: &mut Counted<L>,
+        writers: &mut Writers<'_, W, L>,
         offset: u64,
         size: u8,
         output: &mut [u8],
@@ -297,11 +282,10 @@ impl<D: StreamDecoder, E: RawEncoder> Target<D, E> {
         requires check { HoldsAnyCharacter check.old }
         requires tells { CanTell (verdict_view D.view self.old.verdict) (E.coding self.old.encoder)
             (E.set self.old.encoder) [] }
-        requires writer { failures_of writer.old < 2 ^ 64 - 1 }
-        requires log { failures_of log.old < 2 ^ 64 - 1 }
+        requires writers { MayFail writers.old }
         ensures pays { OnOk result (WritesItems
-            (written_in W.contents L.contents writer.old log.old)
-            (written_in W.contents L.contents writer.new log.new)
+            (written_by W.contents L.contents writers.old)
+            (written_by W.contents L.contents writers.new)
             self.old.counts self.new.counts
             (MalformedAt offset size ∷ open_items Decimal (E.coding self.old.encoder)
             (E.set self.old.encoder) self.old.counts.index (0xFFFD ∷ [])) []) }
@@ -313,11 +297,11 @@ impl<D: StreamDecoder, E: RawEncoder> Target<D, E> {
         ensures state { OnOk result (E.set self.new.encoder
             ≡ (E.coding self.old.encoder).set (E.set self.old.encoder) 0xFFFD) }
         ensures err { OnErr result (WritesPrefix
-            (written_in W.contents L.contents writer.old log.old)
-            (written_in W.contents L.contents writer.new log.new)
+            (written_by W.contents L.contents writers.old)
+            (written_by W.contents L.contents writers.new)
             (MalformedAt offset size ∷ open_items Decimal (E.coding self.old.encoder)
             (E.set self.old.encoder) self.old.counts.index (0xFFFD ∷ []))) }
-        ensures failures { CountsWriterFault writer.old writer.new log.old log.new result }
+        ensures failures { CountsWriterFault writers.old writers.new result }
         ensures calls { OnOk result (self.new.counts.calls + self.old.counts.index
             ≤ self.old.counts.calls + self.new.counts.index + 2 * length
             (open_items Decimal (E.coding self.old.encoder) (E.set self.old.encoder)
@@ -331,7 +315,7 @@ impl<D: StreamDecoder, E: RawEncoder> Target<D, E> {
         ensures size { capacity check.new ≡ capacity check.old }
     {
         log_line(
-            log,
+            writers.log,
             LogLine::Bad {
                 offset,
                 length: size,
@@ -340,42 +324,7 @@ impl<D: StreamDecoder, E: RawEncoder> Target<D, E> {
         self.counts.bad += 1;
         self.verdict.faithful = false;
         let text = PivotText::Utf8("\u{FFFD}");
-        self.encode_text(writer, log, text, output, check, false)?;
+        self.encode_text(writers, text, output, check, false)?;
         Ok(())
     }
-}
-
-/// Writes a line to the log, all of it or a prefix.
-pub fn log_line<L: Write>(log: &mut Counted<L>, line: LogLine) -> Result<(), Fault>
-    requires valid { IsValid line }
-    requires log { failures_of log.old < 2 ^ 64 - 1 }
-    ensures ok { OnOk result (Appends (L.contents (inner_of log.old))
-        (L.contents (inner_of log.new)) (line_bytes line)
-        × (failures_of log.new ≡ failures_of log.old)) }
-    ensures err { OnErr result ((n : ℕ)
-        × Appends (L.contents (inner_of log.old)) (L.contents (inner_of log.new))
-        (take n (line_bytes line))
-        × (failures_of log.new ≡ failures_of log.old + 1)) }
-    ensures fault { IfErr result (λ f. f ≡ Fault.Log) }
-{
-    let mut bytes = [0; 32];
-    let len = line.write_into(&mut bytes);
-    deliver(log, &bytes[..len], Fault::Log)
-}
-
-/// Writes the reference of a character that has no bytes, all of it or a prefix.
-pub fn put_reference<W: Write>(writer: &mut Counted<W>, c: char) -> Result<(), Fault>
-    requires { failures_of writer.old < 2 ^ 64 - 1 }
-    ensures ok { OnOk result (Appends (W.contents (inner_of writer.old))
-        (W.contents (inner_of writer.new)) (reference Decimal c)
-        × (failures_of writer.new ≡ failures_of writer.old)) }
-    ensures err { OnErr result ((n : ℕ)
-        × Appends (W.contents (inner_of writer.old)) (W.contents (inner_of writer.new))
-        (take n (reference Decimal c))
-        × (failures_of writer.new ≡ failures_of writer.old + 1)) }
-    ensures fault { IfErr result (λ f. f ≡ Fault.Write) }
-{
-    let mut bytes = [0; 10];
-    let len = write_reference(c, &mut bytes);
-    deliver(writer, &bytes[..len], Fault::Write)
 }

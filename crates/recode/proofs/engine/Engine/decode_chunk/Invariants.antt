@@ -1,7 +1,7 @@
 use Rattle.std.proofs.Common.{◌≡◌, ◌↔◌, ℕ, List, [], true, false, ◌+◌, ◌++◌, length}
 use Rattle.recode.specs.Buffers.{HoldsAnyCharacter, capacity, is_wide}
 use Rattle.recode.specs.Step.{Advances}
-use Rattle.recode.specs.Streams.{written_in}
+use Rattle.recode.specs.Writers.{AreTheSame, written_by}
 use Rattle.recode.specs.Verdict.{CanTell, IsFaithfulFor}
 use Rattle.recode.specs.VerdictView.{verdict_view}
 use Rattle.recode.specs.Work.{TakesCalls}
@@ -12,21 +12,22 @@ use Rattle.recode.proofs.engine.Engine.decode_chunk.Given as goal
 
 abbrev pub invariant-chunk : goal.invariant-chunk
 invariant-chunk g l = record {
-  pays : WritesItemsFor (written_in g.W.Write.contents g.L.Write.contents l.initial.writer l.initial.log) (written_in g.W.Write.contents g.L.Write.contents l.writer l.log) l.initial.self.target.counts l.self.target.counts l.chunk.last
+  pays : WritesItemsFor (written_by g.W.Write.contents g.L.Write.contents l.initial.writers) (written_by g.W.Write.contents g.L.Write.contents l.writers) l.initial.self.target.counts l.self.target.counts l.last
       (λ r. trace_to_write (g.D.StreamDecoder.view l.initial.self.decoder).state (g.E.RawEncoder.coding l.initial.self.target.encoder) (g.E.RawEncoder.set l.initial.self.target.encoder) l.initial.self.target.counts (l.initial.rest ++ r))
       (λ r. trace_to_write (g.D.StreamDecoder.view l.self.decoder).state (g.E.RawEncoder.coding l.initial.self.target.encoder) (g.E.RawEncoder.set l.self.target.encoder) l.self.target.counts (l.rest ++ r));
-  source : (r : List ℕ) → (l.chunk.last ≡ true → r ≡ []) → (g.D.StreamDecoder.view l.initial.self.decoder).source (l.initial.rest ++ r) ≡ (g.D.StreamDecoder.view l.self.decoder).source (l.rest ++ r);
+  source : (r : List ℕ) → (l.last ≡ true → r ≡ []) → (g.D.StreamDecoder.view l.initial.self.decoder).source (l.initial.rest ++ r) ≡ (g.D.StreamDecoder.view l.self.decoder).source (l.rest ++ r);
   open_ : (g.D.StreamDecoder.view l.self.decoder).finished ≡ false;
   passed : l.self.target.counts.read + length l.rest ≡ l.initial.self.target.counts.read + length l.initial.rest;
   sound : AreSound (g.D.StreamDecoder.view l.self.decoder).state.pending l.self.target.counts;
   target : g.E.RawEncoder.coding l.self.target.encoder ≡ g.E.RawEncoder.coding l.initial.self.target.encoder;
-  writer_count : failures_of l.writer ≡ failures_of l.initial.writer;
-  advances : l.chunk.last ≡ false → Advances (λ r. (g.D.StreamDecoder.view l.initial.self.decoder).state.pieces (l.initial.rest ++ r)) (λ r. (g.D.StreamDecoder.view l.self.decoder).state.pieces (l.rest ++ r))
+  writer_count : failures_of l.writers.output.now ≡ failures_of l.initial.writers.output.now;
+  same : AreTheSame l.initial.writers l.writers;
+  advances : l.last ≡ false → Advances (λ r. (g.D.StreamDecoder.view l.initial.self.decoder).state.pieces (l.initial.rest ++ r)) (λ r. (g.D.StreamDecoder.view l.self.decoder).state.pieces (l.rest ++ r))
       (g.E.RawEncoder.coding l.initial.self.target.encoder) (g.E.RawEncoder.set l.initial.self.target.encoder) (g.E.RawEncoder.set l.self.target.encoder) l.initial.self.target.counts l.self.target.counts;
   roomy : HoldsAnyCharacter l.pivot;
   kind : is_wide l.pivot ≡ is_wide l.initial.pivot;
-  log_count : failures_of l.log ≡ failures_of l.initial.log;
-  verdict : (r : List ℕ) → (l.chunk.last ≡ true → r ≡ [])
+  log_count : failures_of l.writers.log.now ≡ failures_of l.initial.writers.log.now;
+  verdict : (r : List ℕ) → (l.last ≡ true → r ≡ [])
       → IsFaithfulFor (verdict_view g.D.StreamDecoder.view l.initial.self.target.verdict) (g.E.RawEncoder.coding l.initial.self.target.encoder) (g.E.RawEncoder.set l.initial.self.target.encoder) ((g.D.StreamDecoder.view l.initial.self.decoder).state.pieces (l.initial.rest ++ r))
       ↔ IsFaithfulFor (verdict_view g.D.StreamDecoder.view l.self.target.verdict) (g.E.RawEncoder.coding l.initial.self.target.encoder) (g.E.RawEncoder.set l.self.target.encoder) ((g.D.StreamDecoder.view l.self.decoder).state.pieces (l.rest ++ r));
   tells : CanTell (verdict_view g.D.StreamDecoder.view l.self.target.verdict) (g.E.RawEncoder.coding l.initial.self.target.encoder) (g.E.RawEncoder.set l.self.target.encoder) [];
@@ -35,7 +36,7 @@ invariant-chunk g l = record {
   form : is_wide l.check ≡ is_wide l.pivot;
   size : capacity l.pivot ≡ capacity l.initial.pivot;
   check_size : capacity l.check ≡ capacity l.initial.check;
-  calls : (r : List ℕ) → (l.chunk.last ≡ true → r ≡ []) → TakesCalls 0 l.initial.self.target.counts l.self.target.counts
+  calls : (r : List ℕ) → (l.last ≡ true → r ≡ []) → TakesCalls 0 l.initial.self.target.counts l.self.target.counts
       (trace_to_write (g.D.StreamDecoder.view l.initial.self.decoder).state (g.E.RawEncoder.coding l.initial.self.target.encoder) (g.E.RawEncoder.set l.initial.self.target.encoder) l.initial.self.target.counts (l.initial.rest ++ r))
       (trace_to_write (g.D.StreamDecoder.view l.self.decoder).state (g.E.RawEncoder.coding l.initial.self.target.encoder) (g.E.RawEncoder.set l.self.target.encoder) l.self.target.counts (l.rest ++ r));
 }

@@ -1,4 +1,4 @@
-use Rattle.std.proofs.Common.{arith}
+use Rattle.std.proofs.Common.{◌∙◌, arith, length, take}
 use Rattle.std.proofs.lemmas.Bool.{eqb-true, ne_eqb}
 use Rattle.recode.proofs.StepLemmas.{stops_unread, stops_refused, stops_under, is_writing}
 use Rattle.recode.proofs.LatencyLemmas.{steps_on}
@@ -14,15 +14,15 @@ returns-then-read-limit-clause-fault g c = stops_refused _ _ _ _ _ _ c.in-Ok.ens
 pub returns-in-Err-clause-fault : goal.returns-in-Err-clause-fault
 returns-in-Err-clause-fault g c = stops_under _ _ _ _ _ _ _
     c.in-Ok.ensures.bytes.0
-    (λ h. c.in-Ok.ensures.bytes.1 (eqb-true c.in-Ok.read 0 h) (omega (arith, c.read.auto.buf)))
+    (λ h. c.in-Ok.ensures.bytes.1 (c.in-Ok.ensures.bound.1 ∙ eqb-true _ 0 h) (omega (arith, c.read.auto.buf, c.requires.buffers.input)))
     (is_writing (Unit {0}) _ c.in-Err.ensures.failures.not_other)
     (omega (arith, c.in-Ok.ensures.bound.1, c.if-read-limit.false, c.requires.read))
     c.in-Err.ensures.err
 
-pub returns-else-ended-clause-more : goal.returns-else-ended-clause-more
-returns-else-ended-clause-more g c e =
+pub returns-else-read-eq0-clause-more : goal.returns-else-read-eq0-clause-more
+returns-else-read-eq0-clause-more g c e =
     let k = c.in-Ok-converted.ensures in
-    let on = ne_eqb _ _ c.if-ended.false in
-    steps_on _ _ _ _ _ _ _ c.in-Ok.ensures.bytes.0 k.read (omega (arith, c.in-Ok.ensures.bound.1, c.if-ended.false))
+    let on = ne_eqb (length (take c.in-Ok.read c.read.new.buf)) 0 (omega (arith, c.in-Ok.ensures.bound.1, c.if-read-eq0.false)) in
+    steps_on _ _ _ _ _ _ _ c.in-Ok.ensures.bytes.0 k.read (omega (arith, c.in-Ok.ensures.bound.1, c.if-read-eq0.false))
     (omega (arith, k.read, c.in-Ok.ensures.bound.1, c.if-read-limit.false, c.requires.read)) c.decode_chunk-converted.ensures.target
     c.requires.sound on k.source k.pays (k.advances on) k.settled k.verdict k.calls

@@ -2,6 +2,7 @@ use Rattle.std.proofs.Common.{◌∙◌, arith, inl, refl, sym}
 use Rattle.encoding_mem.specs.laws.Verdict.{keeps_then}
 use Rattle.recode.specs.PivotText.{pivot_chars}
 use Rattle.recode.specs.VerdictView.{verdict_view}
+use Rattle.recode.proofs.BufferLemmas.{same_on, same_start}
 use Rattle.recode.proofs.VerdictLemmas.{begins_keeps, was_true}
 use Rattle.recode.proofs.TraceLemmas.{WritesItems-nil, WritesItems-trans, WritesItems-under, WritesItems-to, whole_end, on_err}
 use Rattle.recode.proofs.target.Target.encode_text.Goals as goal
@@ -17,6 +18,7 @@ text-init g c = record {
   state = λ h. refl;
   writer_count = refl;
   log_count = refl;
+  same = same_start _;
   verdict = begins_keeps (g.E.RawEncoder.coding c.args.self.now.encoder) c.args.last (verdict_view g.D.StreamDecoder.view c.args.self.now.verdict) (g.E.RawEncoder.set c.args.self.now.encoder) (pivot_chars c.args.text);
   tells = c.requires.tells;
   text = c.requires.text;
@@ -74,6 +76,7 @@ text-preserved g c = record {
   state = λ h. c.text.invariant.state h ∙ (rw c.text.invariant.target at (c.in_ok-turn.ensures.state h));
   writer_count = omega (arith, c.in_ok-turn.ensures.failures.writer);
   log_count = omega (arith, c.in_ok-turn.ensures.failures.log);
+  same = same_on c.text.invariant.same c.in_ok-turn.ensures.failures.same;
   verdict = keeps_then (g.E.RawEncoder.coding c.args.self.now.encoder) c.args.last _ _ _ _ _ _ _ _ _ _ _ _ c.text.invariant.verdict (rw c.text.invariant.target at c.in_ok-turn.ensures.verdict);
   tells = rw c.text.invariant.target at (c.in_ok-turn.ensures.tells (inl c.if-turn.false));
   text = c.in_ok-turn.ensures.rest.0;

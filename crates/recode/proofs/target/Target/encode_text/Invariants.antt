@@ -2,7 +2,7 @@ use Rattle.std.proofs.Common.{◌≡◌, ◌≤◌, ◌+◌, ◌*◌, length, fa
 use Rattle.encoding_mem.specs.declared.reference.Reference.TheVariants.{Decimal}
 use Rattle.encoding_mem.specs.Coding.{last_set}
 use Rattle.encoding_mem.specs.Items.{whole_items}
-use Rattle.recode.specs.Streams.{written_in}
+use Rattle.recode.specs.Writers.{AreTheSame, written_by}
 use Rattle.recode.specs.WrittenItems.{WritesItems}
 use Rattle.recode.specs.Buffers.{HoldsAnyCharacter, capacity, is_wide}
 use Rattle.recode.specs.PivotText.{is_in_units, pivot_chars, IsWholeText}
@@ -13,7 +13,7 @@ use Rattle.recode.proofs.target.Target.encode_text.Given as goal
 
 abbrev pub invariant-text : goal.invariant-text
 invariant-text g l = record {
-  pays : WritesItems (written_in g.W.Write.contents g.L.Write.contents l.initial.writer l.initial.log) (written_in g.W.Write.contents g.L.Write.contents l.writer l.log) l.initial.self.counts l.self.counts
+  pays : WritesItems (written_by g.W.Write.contents g.L.Write.contents l.initial.writers) (written_by g.W.Write.contents g.L.Write.contents l.writers) l.initial.self.counts l.self.counts
       (whole_items Decimal (g.E.RawEncoder.coding l.initial.self.encoder) l.last (g.E.RawEncoder.set l.initial.self.encoder) l.initial.self.counts.index (pivot_chars l.initial.rest))
       (whole_items Decimal (g.E.RawEncoder.coding l.initial.self.encoder) l.last (g.E.RawEncoder.set l.self.encoder) l.self.counts.index (pivot_chars l.rest));
   passed : l.self.counts.index + length (pivot_chars l.rest) ≡ l.initial.self.counts.index + length (pivot_chars l.initial.rest);
@@ -22,8 +22,9 @@ invariant-text g l = record {
   read : l.self.counts.read ≡ l.initial.self.counts.read;
   target : g.E.RawEncoder.coding l.self.encoder ≡ g.E.RawEncoder.coding l.initial.self.encoder;
   state : l.last ≡ false → last_set (g.E.RawEncoder.coding l.initial.self.encoder) (g.E.RawEncoder.set l.initial.self.encoder) (pivot_chars l.initial.rest) ≡ last_set (g.E.RawEncoder.coding l.initial.self.encoder) (g.E.RawEncoder.set l.self.encoder) (pivot_chars l.rest);
-  writer_count : failures_of l.writer ≡ failures_of l.initial.writer;
-  log_count : failures_of l.log ≡ failures_of l.initial.log;
+  writer_count : failures_of l.writers.output.now ≡ failures_of l.initial.writers.output.now;
+  log_count : failures_of l.writers.log.now ≡ failures_of l.initial.writers.log.now;
+  same : AreTheSame l.initial.writers l.writers;
   verdict : Keeps (g.E.RawEncoder.coding l.initial.self.encoder) l.last (verdict_view g.D.StreamDecoder.view l.initial.self.verdict) (g.E.RawEncoder.set l.initial.self.encoder) (pivot_chars l.initial.rest)
       (verdict_view g.D.StreamDecoder.view l.self.verdict) (g.E.RawEncoder.set l.self.encoder) (pivot_chars l.rest);
   tells : CanTell (verdict_view g.D.StreamDecoder.view l.self.verdict) (g.E.RawEncoder.coding l.initial.self.encoder) (g.E.RawEncoder.set l.self.encoder) (pivot_chars l.rest);
