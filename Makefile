@@ -2,15 +2,16 @@ PREFIX = /usr/local
 FROM = utf-8
 TO = utf-8
 
-.PHONY: build test lint edits example status run refused characters verdicts install
+.PHONY: build test lint edits example status run refused hostile characters verdicts install
 
 # Proves the program and all that it stands on, and builds it: crates/recode_cli/out/recode_cli.
 build:
 	@cd crates/recode_cli && rt run -- --version > /dev/null
 
-# The merge gate, behind what it does not look at.
+# The merge gate: `rt ci`, behind what it does not look at; and then, as `make refused` and `make hostile` have it, the
+# programs that it has built. One line at the end counts all.
 test: lint
-	@rt ci
+	@python3 tools/gate.py
 
 # In seconds: one definition for each name, no more long lines than before, edits that fit their files, and the index
 # texts of the program are those that the tests load.
@@ -35,12 +36,16 @@ status:
 run:
 	@cd crates/recode_cli && rt run -- --from $(FROM) --to $(TO) --indexes $(CURDIR)/indexes
 
-# The program, and calls of the libraries, with each request for memory refused in turn by an allocator that is loaded
-# before them: `recode` must end with status 3 and say so; a call must return that fault, and succeed when made again.
-# This needs Python and a C compiler.
+# The program, and calls of the libraries, with each request for memory refused in turn, and then with all refused:
+# `recode` must end with status 3 and say so; a call must return that fault, leave tables as they were, and succeed when
+# made again.
 refused: build
 	@cd crates/encoding_refusals && rt run > /dev/null
-	@python3 tools/refused_memory.py crates/recode_cli/out/recode_cli indexes crates/encoding_refusals/out/encoding_refusals
+	@python3 tools/refused_memory.py
+
+# The program with index texts that no one publishes: each must be refused or taken as it should be, in less than a second.
+hostile: build
+	@python3 tools/hostile_indexes.py
 
 # Every character in every encoding, written and read again, against `tools/encodings.py`, a plain program over the
 # same index texts: the gate runs a sample. This needs Python and bash, and takes minutes.

@@ -1,56 +1,75 @@
 #!/usr/bin/env python3
-"""Runs two programs with each of their requests for memory refused in turn.
+"""Runs two programs with memory refused: each of their requests in turn, and then all of them.
 
-    python3 tools/refused_memory.py crates/recode_cli/out/recode_cli indexes crates/encoding_refusals/out/encoding_refusals
+    python3 tools/refused_memory.py
 
-An allocator is compiled and loaded before the program. It refuses the Nth request (malloc, calloc, realloc,
-posix_memalign, aligned_alloc), for N = 1, 2, 3, .. until there is none left to refuse. Each time `recode` must
-end with status 3, write `recode: out of memory` to standard error, and write nothing to standard output, or end
-as it does with ample memory. `encoding_refusals` must print its lines, one of them with `refused, then` in it,
-and each of its calls must have been refused, but for those that take no memory. Else the status is 1.
+They are `recode` and `encoding_refusals`, which makes each call of the libraries that takes memory, as `rt ci` or
+`rt run` has left them in their `out/`. An allocator is compiled, by the kit's own clang, and loaded before the program.
+It refuses the Nth request (malloc, calloc, realloc, posix_memalign, aligned_alloc), for N = 1, 2, 3, .. until there is
+none left to refuse, or every one.
+
+`recode` must end with status 3, write `recode: out of memory` to standard error, and write nothing to standard output.
+Only for two requests may it end as it does with memory: std, before it collects the words of the command line and their
+slices, asks for the room of all of them, and where that is refused it asks word by word.
+
+`encoding_refusals` must print its stored output, with `refused, then` in one line, that of the call whose request was
+refused; it compares the tables itself, before and after. Each call must have been refused, but for those that take no
+memory. Where every request is refused these have their result, and no other call has.
 """
 
 import os
+import shutil
 import subprocess
 import sys
 import tempfile
 
-# Refuses request N of the process, N from the environment, and says at the end whether there was one.
-ALLOCATOR = r"""
-#include <errno.h>
-#include <stddef.h>
-#include <stdlib.h>
-#include <unistd.h>
+TOP = os.path.abspath(os.path.join(os.path.dirname(os.path.abspath(__file__)), ".."))
+INDEXES = os.path.join(TOP, "indexes")
+PROGRAM = os.path.join(TOP, "crates/recode_cli/out/recode_cli")
+CALLS = os.path.join(TOP, "crates/encoding_refusals/out/encoding_refusals")
 
-extern void *__libc_malloc(size_t);
-extern void *__libc_calloc(size_t, size_t);
-extern void *__libc_realloc(void *, size_t);
-extern void *__libc_memalign(size_t, size_t);
+# Refuses request N of the process, or all from it on, by the environment, and says where it does.
+ALLOCATOR = r"""
+typedef unsigned long size;
+
+extern void *__libc_malloc(size);
+extern void *__libc_calloc(size, size);
+extern void *__libc_realloc(void *, size);
+extern void *__libc_memalign(size, size);
+extern int *__errno_location(void);
+extern char *getenv(const char *);
+extern long atol(const char *);
+extern long write(int, const void *, size);
+
+enum { OUT_OF_MEMORY = 12 };
 
 static long refused = -1, requests;
+static int is_all;
 
 static int is_refused(void) {
     if (refused < 0) {
         const char *word = getenv("REFUSED_REQUEST");
         refused = word ? atol(word) : 0;
+        is_all = getenv("REFUSED_ALL") != 0;
     }
-    if (++requests != refused)
+    requests++;
+    if (refused == 0 || requests < refused || (requests > refused && !is_all))
         return 0;
     const char *file = getenv("REFUSED_FD");
     if (file)
-        (void)!write(atoi(file), "x", 1);
-    errno = ENOMEM;
+        (void)!write(atol(file), "x", 1);
+    *__errno_location() = OUT_OF_MEMORY;
     return 1;
 }
 
-void *malloc(size_t size) { return is_refused() ? NULL : __libc_malloc(size); }
-void *calloc(size_t count, size_t size) { return is_refused() ? NULL : __libc_calloc(count, size); }
-void *realloc(void *old, size_t size) { return is_refused() ? NULL : __libc_realloc(old, size); }
-void *aligned_alloc(size_t align, size_t size) { return is_refused() ? NULL : __libc_memalign(align, size); }
-int posix_memalign(void **out, size_t align, size_t size) {
-    void *room = is_refused() ? NULL : __libc_memalign(align, size);
-    if (room == NULL)
-        return ENOMEM;
+void *malloc(size bytes) { return is_refused() ? 0 : __libc_malloc(bytes); }
+void *calloc(size count, size bytes) { return is_refused() ? 0 : __libc_calloc(count, bytes); }
+void *realloc(void *old, size bytes) { return is_refused() ? 0 : __libc_realloc(old, bytes); }
+void *aligned_alloc(size align, size bytes) { return is_refused() ? 0 : __libc_memalign(align, bytes); }
+int posix_memalign(void **out, size align, size bytes) {
+    void *room = is_refused() ? 0 : __libc_memalign(align, bytes);
+    if (room == 0)
+        return OUT_OF_MEMORY;
     *out = room;
     return 0;
 }
@@ -58,28 +77,52 @@ int posix_memalign(void **out, size_t align, size_t size) {
 
 OUT_OF_MEMORY = (3, b"", b"recode: out of memory\n")
 
-# The words, with INDEXES for the folder of indexes, and the input.
+# Requests whose refusal changes nothing, for each command line.
+SPARED = 2
+
+# The words, with INDEXES for the folder of indexes and FAULTY for one with a faulty text in it, the input, and status,
+# output and log; or none for a text of clap's or the program's own, which other tests compare.
 LINES = [
-    (["--from", "utf-8", "--to", "utf-8"], b"a\xffb"),
-    (["--from", "shift_jis", "--to", "iso-2022-jp", "--indexes", "INDEXES"], b"\x83\x6e\xff"),
-    (["--from", "gb18030", "--to", "windows-1252", "--indexes", "INDEXES"], b"\x81\x30\x81\x30"),
-    (["--from", "windows-1252", "--to", "big5", "--indexes", "INDEXES", "--mark", "keep", "--limit", "9"], b"\xe9"),
-    (["--from", "shift_jis", "--to", "utf-8", "--indexes", "/dev/null"], b"a"),
-    (["--from", "foo", "--to", "utf-8"], b"a"),
-    (["--from", "utf-8"], b"a"),
-    (["--from", "utf-8", "--to", "utf-8", "--limit", "+5"], b"a"),
-    (["--help"], b"a"),
-    (["--version"], b"a"),
-    (["--list"], b"a"),
+    ("--from utf-8 --to utf-8", b"a\xffb", (1, b"a\xef\xbf\xbdb", b"bad 1 1\n")),
+    (
+        "--from shift_jis --to iso-2022-jp --indexes INDEXES",
+        b"\x83\x6e\xff",
+        (1, b"\x1b$B%O\x1b(B&#65533;", b"bad 2 1\nlost 1 65533\n"),
+    ),
+    ("--from gb18030 --to windows-1252 --indexes INDEXES", b"\x81\x30\x81\x30", (1, b"&#128;", b"lost 0 128\n")),
+    (
+        "--from windows-1252 --to big5 --indexes INDEXES --mark keep --limit 9",
+        b"\xe9",
+        (1, b"&#233;", b"lost 0 233\n"),
+    ),
+    ("--from shift_jis --to utf-8 --indexes /dev/null", b"a", (3, b"", b"recode: index-jis0208.txt: missing\n")),
+    ("--from shift_jis --to utf-8 --indexes FAULTY", b"a", (3, b"", b"recode: index-jis0208.txt: line 2: Order\n")),
+    ("--from big5 --to utf-8 --indexes FAULTY", b"a", (3, b"", b"recode: index-big5.txt: table: Entry\n")),
+    ("--from foo --to utf-8", b"a", (2, b"", b"recode: unknown label foo\n")),
+    ("--from utf-8", b"a", None),
+    ("--from utf-8 --to utf-8 --limit +5", b"a", None),
+    ("--help", b"a", None),
+    ("--version", b"a", (0, b"recode 0.1.0\n", b"")),
+    ("--list", b"a", None),
 ]
 
+FAULTY = {"index-jis0208.txt": b"1\t0x3000\n0\t0x3001\n", "index-big5.txt": b"0\t0x3000\n1\t0x0041\n"}
 
-def run(program, words, given, allocator=None, request=0):
+# The calls of `encoding_refusals` that take no memory.
+FREE = {"read_ranges of no rows", "decode_latin1 of ASCII", "encode_latin1_lossy of ASCII"}
+
+# Those that need an index: where every request is refused there is none.
+NEEDING = {"encode", "decode of windows-1252", "encode by what was loaded"}
+
+
+def run(program, words, given, allocator=None, request=0, are_all=False):
     """Status, standard output and standard error, and whether a request was refused."""
     read, write = os.pipe()
     env = {"PATH": "/usr/bin:/bin"}
     if allocator:
         env |= {"LD_PRELOAD": allocator, "REFUSED_REQUEST": str(request), "REFUSED_FD": str(write)}
+    if are_all:
+        env["REFUSED_ALL"] = "1"
     ran = subprocess.run([program, *words], input=given, capture_output=True, env=env, pass_fds=[write], timeout=60)
     os.close(write)
     with os.fdopen(read, "rb") as told:
@@ -87,74 +130,119 @@ def run(program, words, given, allocator=None, request=0):
     return (ran.returncode, ran.stdout, ran.stderr), was_refused
 
 
-def sweep(program, words, given, allocator):
-    """How many requests were refused, in how many the program ended as it does else, and what it did wrong."""
-    wanted, _ = run(program, words, given)
-    request, spared, wrong = 0, 0, []
+def shown(place, ended):
+    status, out, error = ended
+    return "%s: status %d, %r, %r" % (place, status, out[:200], error[:200])
+
+
+def sweep(words, given, wanted, allocator):
+    """How many requests were refused, and what the program did wrong."""
+    free, _ = run(PROGRAM, words, given)
+    wanted = wanted or free
+    wrong = [] if free == wanted else [shown("with memory", free)]
+    request, spared = 0, 0
     while True:
-        ended, was_refused = run(program, words, given, allocator, request + 1)
+        ended, was_refused = run(PROGRAM, words, given, allocator, request + 1)
         if not was_refused:
-            if ended != wanted:
-                wrong.append(("none", ended))
-            return request, spared, wrong
+            break
         request += 1
         if ended == wanted:
             spared += 1
         elif ended != OUT_OF_MEMORY:
-            wrong.append((request, ended))
+            wrong.append(shown("at request %d" % request, ended))
+    if spared > SPARED or request <= SPARED:
+        wrong.append("%d of %d refusals are without effect" % (spared, request))
+    ended, _ = run(PROGRAM, words, given, allocator, 1, True)
+    if ended != OUT_OF_MEMORY:
+        wrong.append(shown("with every request refused", ended))
+    return request, wrong
 
 
-# The calls of `encoding_refusals` that take no memory.
-FREE = {"decode_latin1 of ASCII"}
-
-
-def sweep_calls(program, allocator):
-    """Refuses each request of the calls, and says what was wrong."""
-    (status, wanted, _), _ = run(program, [], b"")
-    lines = wanted.decode().splitlines()
-    told = [line.replace(": ", ": refused, then ") for line in lines]
-    counts = [0] * len(lines)
-    wrong = [] if status == 0 else [f"ends with status {status}"]
-    request = 0
-    while True:
-        (status, out, error), was_refused = run(program, [], b"", allocator, request + 1)
-        if not was_refused:
-            break
-        request += 1
-        given = out.decode().splitlines()
-        places = [place for place in range(len(lines)) if given == lines[:place] + [told[place]] + lines[place + 1 :]]
-        if status != 0 or len(places) != 1:
-            wrong.append(f"at request {request}: status {status}, {out!r}, {error!r}")
-        else:
-            counts[places[0]] += 1
-    for line, count in zip(lines, counts):
-        name = line.split(": ")[0]
-        print(f"{count} refused: {name}")
-        if (count == 0) != (name in FREE):
-            wrong.append(f"{name}: {count} refused")
+def sweep_program(allocator):
+    """Refuses the requests of `recode`, and says what was wrong."""
+    wrong = []
+    with tempfile.TemporaryDirectory() as faulty:
+        for name, text in FAULTY.items():
+            with open(os.path.join(faulty, name), "wb") as file:
+                file.write(text)
+        folders = {"INDEXES": INDEXES, "FAULTY": faulty}
+        for line, given, wanted in LINES:
+            words = [folders.get(word, word) for word in line.split()]
+            requests, faults = sweep(words, given, wanted, allocator)
+            print("%d refused: recode %s" % (requests, line))
+            wrong += ["recode %s: %s" % (line, fault) for fault in faults]
     return wrong
 
 
-def main(program, indexes, calls):
-    is_wrong = False
+def sweep_calls(allocator):
+    """Refuses the requests of the calls, and says what was wrong."""
+    with open(os.path.join(TOP, "crates/encoding_refusals/stdout"), encoding="utf-8") as file:
+        lines = file.read().splitlines()
+    names = [line.split(": ")[0] for line in lines]
+    told = [line.replace(": ", ": refused, then ", 1) for line in lines]
+    counts = [0] * len(lines)
+    wrong = []
+
+    def look(place, ended, allowed):
+        status, out, error = ended
+        given = out.decode(errors="replace").splitlines()
+        if status != 0 or error or given not in allowed:
+            wrong.append(shown(place, ended))
+            return None
+        return allowed.index(given)
+
+    look("calls with memory", run(CALLS, [], b"")[0], [lines])
+    # what is printed where the request of one call is refused
+    ways = [lines[:place] + [told[place]] + lines[place + 1 :] for place in range(len(lines))]
+    request = 0
+    while True:
+        ended, was_refused = run(CALLS, [], b"", allocator, request + 1)
+        if not was_refused:
+            break
+        request += 1
+        place = look("calls at request %d" % request, ended, ways)
+        if place is not None:
+            counts[place] += 1
+    for name, count in zip(names, counts):
+        print("%d refused: %s" % (count, name))
+        if (count == 0) != (name in FREE):
+            wrong.append("%s: %d refused" % (name, count))
+    none = [
+        line if name in FREE else name + (": no index" if name in NEEDING else ": refused, then refused")
+        for name, line in zip(names, lines)
+    ]
+    look("calls with every request refused", run(CALLS, [], b"", allocator, 1, True)[0], [none])
+    return wrong
+
+
+def compiled(folder):
+    """The allocator, made by the clang of the kit, which has no headers; or by `cc`, where a kit has no clang."""
+    source, allocator = os.path.join(folder, "refusing.c"), os.path.join(folder, "refusing.so")
+    with open(source, "w", encoding="ascii") as file:
+        file.write(ALLOCATOR)
+    kit = os.path.dirname(os.path.dirname(os.path.realpath(shutil.which("rt"))))
+    clang = os.path.join(kit, "toolchain", "bin", "clang")
+    compiler = [clang, "-fuse-ld=lld"] if os.path.isfile(clang) else ["cc"]
+    subprocess.run([*compiler, "-O1", "-shared", "-fPIC", "-nostdlib", "-o", allocator, source], check=True)
+    return allocator
+
+
+def faults():
+    """What both programs did wrong."""
+    missing = [program for program in (PROGRAM, CALLS) if not os.path.isfile(program)]
+    if missing:
+        return ["%s was not built" % os.path.relpath(program, TOP) for program in missing]
     with tempfile.TemporaryDirectory() as folder:
-        source, allocator = f"{folder}/refusing.c", f"{folder}/refusing.so"
-        with open(source, "w", encoding="ascii") as file:
-            file.write(ALLOCATOR)
-        subprocess.run([os.environ.get("CC", "cc"), "-O1", "-shared", "-fPIC", "-o", allocator, source], check=True)
-        for line, given in LINES:
-            words = [indexes if word == "INDEXES" else word for word in line]
-            requests, spared, wrong = sweep(os.path.abspath(program), words, given, allocator)
-            print(f"{requests} refused, {requests - spared - len(wrong)} told, {spared} without effect: {' '.join(line)}")
-            for request, (status, out, error) in wrong:
-                print(f"    WRONG at request {request}: status {status}, {out[:60]!r}, {error[:120]!r}")
-            is_wrong |= bool(wrong)
-        wrong = sweep_calls(os.path.abspath(calls), allocator)
-        for line in wrong:
-            print("    WRONG", line)
-        is_wrong |= bool(wrong)
-    return 1 if is_wrong else 0
+        allocator = compiled(folder)
+        return sweep_program(allocator) + sweep_calls(allocator)
+
+
+def main():
+    wrong = faults()
+    for line in wrong:
+        print("WRONG", line)
+    return 1 if wrong else 0
 
 
 if __name__ == "__main__":
-    sys.exit(main(*sys.argv[1:]))
+    sys.exit(main())

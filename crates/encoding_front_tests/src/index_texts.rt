@@ -1,6 +1,7 @@
 use encoding_index::{IndexFault, IndexFaultKind, LoadFault, load, read_index, read_ranges};
 use encoding_tables::{IndexKind, TableFault, Tables};
 use std::alloc::{AllocError, Global};
+use std::process::Abort;
 use std::test::Fail;
 
 // What is wrong with the text of a single-byte index.
@@ -17,7 +18,7 @@ fn range_fault(alloc: Global, text: &[u8]) -> Option<(usize, IndexFaultKind)> {
 
 #[test]
 fn the_first_fault_of_a_list_is_answered(rt: HostRuntime) {
-    let cases: [(&[u8], Option<(usize, IndexFaultKind)>); 21] = [
+    let cases: [(&[u8], Option<(usize, IndexFaultKind)>); 30] = [
         (b"0\t0x0080\n0\t0x0081", Some((2, IndexFaultKind::Order))),
         (b"3\t0x0080\n3\t0x0081", Some((2, IndexFaultKind::Order))),
         (b"0\t0x80", Some((1, IndexFaultKind::Row))),
@@ -45,6 +46,28 @@ fn the_first_fault_of_a_list_is_answered(rt: HostRuntime) {
             Some((2, IndexFaultKind::Row)),
         ),
         (b"\xEF\xBB\xBF\xEF\xBB\xBF", Some((1, IndexFaultKind::Row))),
+        // two faults in one line, and in two
+        (b"128\t0x80", Some((1, IndexFaultKind::Row))),
+        (b"0\tx\n128\t0x0080", Some((1, IndexFaultKind::Row))),
+        (
+            b"3\t0x0080\n3\t0x0081\n0\tx",
+            Some((2, IndexFaultKind::Order)),
+        ),
+        // lines in reverse order
+        (
+            b"2\t0x0080\n1\t0x0081\n0\t0x0082",
+            Some((2, IndexFaultKind::Order)),
+        ),
+        // a mark behind the first line, and in it
+        (
+            b"0\t0x0080\n\xEF\xBB\xBF1\t0x0081",
+            Some((2, IndexFaultKind::Row)),
+        ),
+        (b"0\xEF\xBB\xBF\t0x0080", Some((1, IndexFaultKind::Row))),
+        // bytes 0
+        (b"0\t0x0080\n\0", Some((2, IndexFaultKind::Row))),
+        (b"0\t0x0080\0", Some((1, IndexFaultKind::Row))),
+        (b"#\0\n0\t0x0080\t\0", None),
     ];
     for (text, fault) in cases {
         assert_eq!(rt; list_fault(rt.alloc(), text), fault);
@@ -106,10 +129,9 @@ fn a_load_reads_then_inserts(rt: HostRuntime) {
         load(rt.alloc(), &mut tables, kind, b"\nx"),
         Err(LoadFault::Text(row))
     );
-    if tables.has(kind) {
-        assert_eq!(rt; tables.value(kind, 0), Some('\u{20AC}'));
-        assert_eq!(rt; tables.value(kind, 1), None);
-    }
+    assert!(rt; tables.has(kind));
+    assert_eq!(rt; tables.value(kind, 0), Some('\u{20AC}'));
+    assert_eq!(rt; tables.value(kind, 1), None);
 }
 
 // What new tables return for the text of a kind.
@@ -150,9 +172,8 @@ fn a_load_takes_ranges(rt: HostRuntime) {
         load(rt.alloc(), &mut tables, kind, b""),
         Err(LoadFault::Table(TableFault::Present))
     );
-    if tables.has(kind) {
-        assert_eq!(rt; tables.range_value(1237575), Some('\u{10FFFF}'));
-    }
+    assert!(rt; tables.has(IndexKind::Gb18030Ranges));
+    assert_eq!(rt; tables.range_value(1237575), Some('\u{10FFFF}'));
 }
 
 // The result for a text with this fault.
@@ -211,14 +232,20 @@ fn a_load_maps_the_pointers_of_rows_alone(rt: HostRuntime) {
     assert_eq!(rt; tables.last_pointer(kind, c, 0, 19781), Some(7000));
 }
 
-// The characters of an index, or none where it is not there.
+// The characters of an index, of the ranges those of the basic plane; none where it is not there.
 fn characters(
     alloc: Global,
     tables: &Tables,
     kind: IndexKind,
 ) -> Result<Vec<Option<char>>, AllocError> {
     let mut characters = Vec::new(alloc);
-    if !kind.is_ranges() && tables.has(kind) {
+    if kind.is_ranges() {
+        if tables.has(IndexKind::Gb18030Ranges) {
+            for pointer in 0..39420 {
+                characters.push(tables.range_value(pointer))?;
+            }
+        }
+    } else if tables.has(kind) {
         for pointer in 0..kind.size() as u32 {
             characters.push(tables.value(kind, pointer))?;
         }
@@ -243,16 +270,42 @@ fn a_text_without_rows_maps_nothing(rt: HostRuntime) -> Result<(), Fail> {
     Ok(())
 }
 
+// A text that is refused, its kind and the fault.
+type Refusal = (IndexKind, &'static [u8], LoadFault);
+
+// Loads texts that are refused, and asks after each whether the indexes are as they were: those that
+// were absent still are, and the others have the entries that they had.
+fn refuse_all(
+    rt: &(impl Abort + AllocGlobal),
+    tables: &mut Tables,
+    refusals: &[Refusal],
+) -> Result<(), Fail> {
+    for (kind, text, fault) in refusals {
+        let kinds = [IndexKind::Koi8R, IndexKind::EucKr, IndexKind::Gb18030Ranges];
+        let mut before = Vec::new(rt.alloc());
+        for other in kinds {
+            before.push(characters(rt.alloc(), tables, other)?)?;
+        }
+        let answer = load(rt.alloc(), tables, *kind, text);
+        assert_eq!(rt; answer.err().as_ref(), Some(fault));
+        for (other, entries) in kinds.iter().zip(before.iter()) {
+            let after = characters(rt.alloc(), tables, *other)?;
+            assert_eq!(rt; tables.has(*other), !entries.is_empty());
+            assert_eq!(rt; after.as_slice(), entries.as_slice());
+        }
+    }
+    Ok(())
+}
+
 #[test]
 fn a_refused_load_changes_no_index(rt: HostRuntime) -> Result<(), Fail> {
     let mut tables = Tables::new(rt.alloc());
-    let (there, absent) = (IndexKind::Koi8R, IndexKind::EucKr);
+    let there = IndexKind::Koi8R;
+    let absent = IndexKind::EucKr;
+    let ranges = IndexKind::Gb18030Ranges;
     let text = b"0\t0x2500\n127\t0x042A";
     assert_eq!(rt; load(rt.alloc(), &mut tables, there, text), Ok(()));
-    let before = characters(rt.alloc(), &tables, there)?;
-    assert_eq!(rt; before.first(), Some(&Some('\u{2500}')));
-    assert_eq!(rt; before.last(), Some(&Some('\u{42A}')));
-    let cases: [(IndexKind, &[u8], LoadFault); 4] = [
+    let refusals: [Refusal; 7] = [
         (there, b"0\t0x2502\nx", text_fault(2, IndexFaultKind::Row)),
         (there, b"0\t0x2502", LoadFault::Table(TableFault::Present)),
         (
@@ -260,18 +313,47 @@ fn a_refused_load_changes_no_index(rt: HostRuntime) -> Result<(), Fail> {
             b"0\t0xAC00\n0\t0xAC01",
             text_fault(2, IndexFaultKind::Order),
         ),
+        // a faulty entry, before a faulty line and alone
+        (
+            absent,
+            b"0\t0xAC00\n1\t0x0041\nx",
+            text_fault(3, IndexFaultKind::Row),
+        ),
         (
             absent,
             b"0\t0xAC00\n1\t0x0041",
             LoadFault::Table(TableFault::Entry(1)),
         ),
+        (
+            ranges,
+            b"0\t0x0080\n1237576\t0x10000",
+            text_fault(2, IndexFaultKind::Pointer),
+        ),
+        (
+            ranges,
+            b"0\t0x0080",
+            LoadFault::Table(TableFault::Ranges(0)),
+        ),
     ];
-    for (kind, text, fault) in cases {
-        assert_eq!(rt; load(rt.alloc(), &mut tables, kind, text), Err(fault));
-        assert!(rt; !tables.has(absent));
-        let after = characters(rt.alloc(), &tables, there)?;
-        assert_eq!(rt; after.as_slice(), before.as_slice());
-    }
+    refuse_all(&rt, &mut tables, &refusals)?;
+    let text = b"0\t0x0080\n36\t0x00A5\n189000\t0x10000";
+    assert_eq!(rt; load(rt.alloc(), &mut tables, ranges, text), Ok(()));
+    let refusals: [Refusal; 3] = [
+        (
+            ranges,
+            b"0\t0x0081\n0\t0x0082",
+            text_fault(2, IndexFaultKind::Order),
+        ),
+        (ranges, b"0\t0x0041", LoadFault::Table(TableFault::Present)),
+        (absent, b"x", text_fault(1, IndexFaultKind::Row)),
+    ];
+    refuse_all(&rt, &mut tables, &refusals)?;
+    assert!(rt; !tables.has(absent));
+    assert!(rt; tables.has(there));
+    assert_eq!(rt; tables.value(there, 0), Some('\u{2500}'));
+    assert_eq!(rt; tables.value(there, 127), Some('\u{42A}'));
+    assert!(rt; tables.has(ranges));
+    assert_eq!(rt; tables.range_value(36), Some('\u{A5}'));
     Ok(())
 }
 

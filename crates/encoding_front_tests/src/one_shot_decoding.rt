@@ -1,6 +1,8 @@
 // Whole inputs at once, with results worked by hand.
 
-use encoding_front::{Encoding, OneShotFault, SHIFT_JIS, UTF_8, WINDOWS_1257};
+use encoding_front::{
+    Encoding, OneShotFault, SHIFT_JIS, UTF_8, UTF_16LE, WINDOWS_1257, X_USER_DEFINED,
+};
 use encoding_tables::{IndexKind, Tables};
 use std::alloc::{AllocError, Global};
 use std::test::Fail;
@@ -261,4 +263,35 @@ fn large_inputs_and_their_text(rt: HostRuntime) -> Result<(), Fail> {
     assert!(rt; written.as_slice() == bytes.as_slice());
     assert!(rt; output == WINDOWS_1257 && !lost);
     Ok(())
+}
+
+// `Overflow` is returned where these queries return none. No input is as long as that, so the calls
+// themselves can't be made with one.
+#[test]
+fn overflow_begins_where_the_room_passes_a_usize(rt: HostRuntime) {
+    let tables = Tables::new(rt.alloc());
+    // The greatest length for which there is room, and that room.
+    let cases = [
+        (UTF_8, 6148914691236517204, usize::MAX),
+        (X_USER_DEFINED, 6148914691236517205, usize::MAX),
+        (UTF_16LE, 12297829382473034408, usize::MAX - 2),
+    ];
+    for (encoding, most, room) in cases {
+        assert!(rt; encoding.is_ready(&tables));
+        let decoder = encoding.new_decoder_without_bom_handling(&tables);
+        assert_eq!(rt; decoder.max_utf8_buffer_length(most), Some(room));
+        assert_eq!(rt; decoder.max_utf8_buffer_length(most + 1), None);
+    }
+    let most = usize::MAX - 3;
+    let decoder = UTF_8.new_decoder_without_bom_handling(&tables);
+    let room = decoder.max_utf8_buffer_length_without_replacement(most);
+    assert_eq!(rt; room, Some(usize::MAX));
+    let room = decoder.max_utf8_buffer_length_without_replacement(most + 1);
+    assert_eq!(rt; room, None);
+    let most = usize::MAX - 10;
+    let encoder = X_USER_DEFINED.new_encoder(&tables);
+    let room = encoder.max_buffer_length_from_utf8_if_no_unmappables(most);
+    assert_eq!(rt; room, Some(usize::MAX));
+    let room = encoder.max_buffer_length_from_utf8_if_no_unmappables(most + 1);
+    assert_eq!(rt; room, None);
 }

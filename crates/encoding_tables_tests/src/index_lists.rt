@@ -41,17 +41,21 @@ const LISTED: [IndexKind; 33] = [
     IndexKind::Iso2022JpKatakana,
 ];
 
-// What new tables return for so many entries, all 0 but one.
-fn fault_of_one(
+// A pointer and its entry.
+type Row = (usize, u32);
+
+// What new tables return for so many entries, all 0 but these.
+fn fault_of_list(
     alloc: Global,
     kind: IndexKind,
     size: usize,
-    pointer: usize,
-    entry: u32,
+    rows: &[Row],
 ) -> Result<Result<(), TableFault>, AllocError> {
     let mut flat = std::vec![in alloc; 0; size]?;
-    if let Some(offset) = flat.get_mut(pointer) {
-        *offset = entry;
+    for (pointer, entry) in rows {
+        if let Some(place) = flat.get_mut(*pointer) {
+            *place = *entry;
+        }
     }
     let mut tables = Tables::new(alloc);
     if kind.is_ranges() {
@@ -86,64 +90,101 @@ fn every_list_of_zeros_is_taken_once(rt: HostRuntime) -> Result<(), Fail> {
 
 #[test]
 fn lists_are_refused_by_the_first_fault(rt: HostRuntime) -> Result<(), Fail> {
-    let alloc = rt.alloc();
     let single = IndexKind::Windows1252;
-    assert_eq!(rt;
-        fault_of_one(alloc, single, 127, 0, 0x41)?,
-        Err(TableFault::Size)
-    );
-    assert_eq!(rt;
-        fault_of_one(alloc, single, 129, 0, 0)?,
-        Err(TableFault::Size)
-    );
-    assert_eq!(rt;
-        fault_of_one(alloc, single, 128, 0, 0x41)?,
-        Err(TableFault::Entry(0))
-    );
-    assert_eq!(rt;
-        fault_of_one(alloc, single, 128, 127, 0x7F)?,
-        Err(TableFault::Entry(127))
-    );
-    assert_eq!(rt;
-        fault_of_one(alloc, single, 128, 5, 0xD800)?,
-        Err(TableFault::Entry(5))
-    );
-    assert_eq!(rt;
-        fault_of_one(alloc, single, 128, 5, 0xDFFF)?,
-        Err(TableFault::Entry(5))
-    );
-    assert_eq!(rt;
-        fault_of_one(alloc, single, 128, 5, 0x1_0000)?,
-        Err(TableFault::Entry(5))
-    );
-    assert_eq!(rt; fault_of_one(alloc, single, 128, 5, 0x80)?, Ok(()));
-    assert_eq!(rt; fault_of_one(alloc, single, 128, 5, 0xFFFF)?, Ok(()));
-    let big5 = IndexKind::Big5;
-    assert_eq!(rt; fault_of_one(alloc, big5, 19782, 942, 0x2_008A)?, Ok(()));
-    assert_eq!(rt;
-        fault_of_one(alloc, big5, 19782, 942, 0x1_F600)?,
-        Err(TableFault::Entry(942))
-    );
-    assert_eq!(rt;
-        fault_of_one(alloc, big5, 19782, 942, 0x3_0000)?,
-        Err(TableFault::Entry(942))
-    );
-    let euc_kr = IndexKind::EucKr;
-    assert_eq!(rt;
-        fault_of_one(alloc, euc_kr, 23940, 9, 0x2_008A)?,
-        Err(TableFault::Entry(9))
-    );
     let jis = IndexKind::Jis0208;
-    assert_eq!(rt; fault_of_one(alloc, jis, 11280, 8835, 0x4E00)?, Ok(()));
-    assert_eq!(rt;
-        fault_of_one(alloc, jis, 11280, 8836, 0x4E00)?,
-        Err(TableFault::Reserved(8836))
-    );
-    assert_eq!(rt;
-        fault_of_one(alloc, jis, 11280, 10715, 0x4E00)?,
-        Err(TableFault::Reserved(10715))
-    );
-    assert_eq!(rt; fault_of_one(alloc, jis, 11280, 10716, 0x4E00)?, Ok(()));
+    let cases: [(IndexKind, usize, &[Row], Result<(), TableFault>); 21] = [
+        (single, 127, &[], Err(TableFault::Size)),
+        (single, 129, &[], Err(TableFault::Size)),
+        (single, 128, &[(0, 0x41)], Err(TableFault::Entry(0))),
+        (single, 128, &[(127, 0x7F)], Err(TableFault::Entry(127))),
+        (single, 128, &[(5, 0xD800)], Err(TableFault::Entry(5))),
+        (single, 128, &[(5, 0xDFFF)], Err(TableFault::Entry(5))),
+        (single, 128, &[(5, 0x1_0000)], Err(TableFault::Entry(5))),
+        (single, 128, &[(5, 0x80)], Ok(())),
+        (single, 128, &[(5, 0xFFFF)], Ok(())),
+        (IndexKind::Big5, 19782, &[(942, 0x2_008A)], Ok(())),
+        (
+            IndexKind::Big5,
+            19782,
+            &[(942, 0x1_F600)],
+            Err(TableFault::Entry(942)),
+        ),
+        (
+            IndexKind::Big5,
+            19782,
+            &[(942, 0x3_0000)],
+            Err(TableFault::Entry(942)),
+        ),
+        (
+            IndexKind::EucKr,
+            23940,
+            &[(9, 0x2_008A)],
+            Err(TableFault::Entry(9)),
+        ),
+        (jis, 11280, &[(8835, 0x4E00)], Ok(())),
+        (
+            jis,
+            11280,
+            &[(8836, 0x4E00)],
+            Err(TableFault::Reserved(8836)),
+        ),
+        (
+            jis,
+            11280,
+            &[(10715, 0x4E00)],
+            Err(TableFault::Reserved(10715)),
+        ),
+        (jis, 11280, &[(10716, 0x4E00)], Ok(())),
+        // two faults in one list
+        (
+            jis,
+            11279,
+            &[(0, 0x41), (8836, 0x4E00)],
+            Err(TableFault::Size),
+        ),
+        (
+            jis,
+            11280,
+            &[(8836, 0x4E00), (10716, 0x41)],
+            Err(TableFault::Entry(10716)),
+        ),
+        (
+            jis,
+            11280,
+            &[(8840, 0x4E00), (8838, 0x4E00)],
+            Err(TableFault::Reserved(8838)),
+        ),
+        (
+            single,
+            128,
+            &[(7, 0x41), (3, 0xD800)],
+            Err(TableFault::Entry(3)),
+        ),
+    ];
+    for (kind, size, rows, answer) in cases {
+        assert_eq!(rt; fault_of_list(rt.alloc(), kind, size, rows)?, answer);
+    }
+    Ok(())
+}
+
+#[test]
+fn what_is_there_is_named_before_other_faults(rt: HostRuntime) -> Result<(), Fail> {
+    let mut tables = Tables::new(rt.alloc());
+    let kind = IndexKind::Jis0208;
+    let mut flat = std::vec![in rt.alloc(); 0; 11280]?;
+    assert_eq!(rt; tables.insert(kind, flat.as_slice()), Ok(()));
+    assert_eq!(rt; tables.insert_ranges(&[]), Ok(()));
+    let present = || Err(TableFault::Present);
+    assert_eq!(rt; tables.insert(kind, &[0x41]), present());
+    for (pointer, entry) in [(8836, 0x4E00), (0, 0x41)] {
+        if let Some(place) = flat.get_mut(pointer) {
+            *place = entry;
+        }
+        assert_eq!(rt; tables.insert(kind, flat.as_slice()), present());
+    }
+    assert_eq!(rt; tables.insert_ranges(&[(5, 0x80), (5, 0x90)]), present());
+    assert!(rt; tables.has(kind));
+    assert_eq!(rt; tables.value(kind, 8836), None);
     Ok(())
 }
 
@@ -154,39 +195,29 @@ fn fault_of_rows(alloc: Global, rows: &[(u32, u32)]) -> Result<(), TableFault> {
 
 #[test]
 fn rows_are_refused_by_the_first_bad_one(rt: HostRuntime) {
-    let alloc = rt.alloc();
-    assert_eq!(rt; fault_of_rows(alloc, &[]), Ok(()));
-    assert_eq!(rt;
-        fault_of_rows(alloc, &[(39420, 0x80), (189000, 0x1_0000)]),
-        Ok(())
-    );
-    // values that run into those of the next row
-    assert_eq!(rt;
-        fault_of_rows(alloc, &[(0, 0x80), (36, 0x80)]),
-        Err(TableFault::Ranges(1))
-    );
-    // values below U+0080, surrogates, and numbers above U+10FFFF
-    assert_eq!(rt;
-        fault_of_rows(alloc, &[(0, 0x7F)]),
-        Err(TableFault::Ranges(0))
-    );
-    assert_eq!(rt;
-        fault_of_rows(alloc, &[(0, 0xD7FF), (2, 0xE000)]),
-        Err(TableFault::Ranges(0))
-    );
-    assert_eq!(rt;
-        fault_of_rows(alloc, &[(189000, 0x1_0001)]),
-        Err(TableFault::Ranges(0))
-    );
-    // order comes first
-    assert_eq!(rt;
-        fault_of_rows(alloc, &[(5, 0x80), (5, 0x90)]),
-        Err(TableFault::Ranges(1))
-    );
-    assert_eq!(rt;
-        fault_of_rows(alloc, &[(0, 0x7F), (1237576, 0x80)]),
-        Err(TableFault::Ranges(1))
-    );
+    let bad = |row| Err(TableFault::Ranges(row));
+    let cases: [(&[(u32, u32)], Result<(), TableFault>); 13] = [
+        (&[], Ok(())),
+        (&[(39420, 0x80), (189000, 0x1_0000)], Ok(())),
+        // alone a row goes on to the last pointer, and so to surrogates
+        (&[(0, 0x80)], bad(0)),
+        // values that run into those of the next row
+        (&[(0, 0x80), (36, 0x80)], bad(1)),
+        // values below U+0080, surrogates, and numbers above U+10FFFF
+        (&[(0, 0x7F)], bad(0)),
+        (&[(0, 0xD7FF), (2, 0xE000)], bad(0)),
+        (&[(189000, 0x1_0001)], bad(0)),
+        (&[(0, 0x7F), (1, 0x7F)], bad(0)),
+        // order comes first
+        (&[(5, 0x80), (5, 0x90)], bad(1)),
+        (&[(5, 0x80), (5, 0x90), (4, 0xA0)], bad(1)),
+        (&[(0, 0x7F), (1237576, 0x80)], bad(1)),
+        (&[(0, 0x41), (1, 0x80), (1, 0x81)], bad(2)),
+        (&[(1237576, 0x80), (0, 0x41)], bad(0)),
+    ];
+    for (rows, answer) in cases {
+        assert_eq!(rt; fault_of_rows(rt.alloc(), rows), answer);
+    }
 }
 
 #[test]

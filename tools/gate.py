@@ -1,0 +1,55 @@
+#!/usr/bin/env python3
+"""The merge gate: `rt ci`, and then what it can't do with the programs that it has proved and built.
+
+    python3 tools/gate.py
+
+The programs run with memory refused (`refused_memory.py`) and with hostile index texts (`hostile_indexes.py`), each of
+which counts as one more in the last line. The status is 0 where nothing failed.
+"""
+
+import os
+import re
+import subprocess
+import sys
+
+import hostile_indexes
+import refused_memory
+
+TOP = os.path.abspath(os.path.join(os.path.dirname(os.path.abspath(__file__)), ".."))
+
+STEPS = [("refused memory", refused_memory.faults), ("hostile index texts", hostile_indexes.faults)]
+
+
+def ci():
+    """Runs `rt ci`, whose last line is kept back: its status, and that line."""
+    last = ""
+    ran = subprocess.Popen(["rt", "ci"], cwd=TOP, stdout=subprocess.PIPE, text=True, errors="replace")
+    for line in ran.stdout:
+        print(last, end="", flush=True)
+        last = line
+    return ran.wait(), last
+
+
+def main():
+    status, last = ci()
+    counts = re.fullmatch(r"(\d+) passed, (\d+) failed\n", last)
+    if not counts:
+        print(last, end="")
+        return status or 1
+    passed, failed = int(counts[1]), int(counts[2])
+    for name, faults in STEPS:
+        print("== " + name, flush=True)
+        wrong = faults()
+        for line in wrong:
+            print("WRONG", line)
+        if wrong:
+            print("FAILED: " + name)
+            failed += 1
+        else:
+            passed += 1
+    print("%d passed, %d failed" % (passed, failed), flush=True)
+    return status or (1 if failed else 0)
+
+
+if __name__ == "__main__":
+    sys.exit(main())
