@@ -2,7 +2,7 @@ PREFIX = /usr/local
 FROM = utf-8
 TO = utf-8
 
-.PHONY: build test lint edits example status run refused characters verdicts install
+.PHONY: build test lint edits example status run refused hostile characters verdicts install
 
 # Proves the program and all that it stands on, and builds it: crates/recode_cli/out/recode_cli.
 build:
@@ -41,6 +41,11 @@ run:
 refused: build
 	@cd crates/encoding_refusals && rt run > /dev/null
 	@python3 tools/refused_memory.py crates/recode_cli/out/recode_cli indexes crates/encoding_refusals/out/encoding_refusals
+
+# The program on streams that are closed, full, slow, abandoned or 4 GiB long: status, output and log as README.md says.
+# This needs Python and bash, and takes a minute.
+hostile: build
+	@python3 tools/hostile.py crates/recode_cli/out/recode_cli indexes
 
 # Every character in every encoding, written and read again, against `tools/encodings.py`, a plain program over the
 # same index texts: the gate runs a sample. This needs Python and bash, and takes minutes.
