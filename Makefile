@@ -43,9 +43,11 @@ refused: build
 	@cd crates/encoding_refusals && rt run > /dev/null
 	@python3 tools/refused_memory.py
 
-# The program with index texts that no one publishes: each must be refused or taken as it should be, in less than a second.
+# The program with index texts that no one publishes, and on streams that are closed, full, slow, abandoned or 4 GiB long:
+# status, output and log as README.md says. The gate does this but for the 4 GiB.
 hostile: build
 	@python3 tools/hostile_indexes.py
+	@python3 tools/hostile_streams.py
 
 # Every character in every encoding, written and read again, against `tools/encodings.py`, a plain program over the
 # same index texts: the gate runs a sample. This needs Python and bash, and takes minutes.

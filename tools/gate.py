@@ -3,8 +3,9 @@
 
     python3 tools/gate.py
 
-The programs run with memory refused (`refused_memory.py`) and with hostile index texts (`hostile_indexes.py`), each of
-which counts as one more in the last line. The status is 0 where nothing failed.
+The programs run with memory refused (`refused_memory.py`), with hostile index texts (`hostile_indexes.py`) and on
+hostile streams (`hostile_streams.py`), each of which counts as one more in the last line. The status is 0 where nothing
+failed.
 """
 
 import os
@@ -13,11 +14,16 @@ import subprocess
 import sys
 
 import hostile_indexes
+import hostile_streams
 import refused_memory
 
 TOP = os.path.abspath(os.path.join(os.path.dirname(os.path.abspath(__file__)), ".."))
 
-STEPS = [("refused memory", refused_memory.faults), ("hostile index texts", hostile_indexes.faults)]
+STEPS = [
+    ("refused memory", refused_memory.faults),
+    ("hostile index texts", hostile_indexes.faults),
+    ("hostile streams", hostile_streams.faults),
+]
 
 
 def ci():

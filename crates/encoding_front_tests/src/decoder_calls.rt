@@ -1,9 +1,14 @@
-// A stream through each of the decoding calls, at each cut, and into little room and the room that is asked for.
+// Streams through each of the decoding calls, at each cut, and into little room and the room that is
+// asked for.
 
-use encoding_front::{CoderResult, Decoder, UTF_8};
+use encoding_front::{
+    CoderResult, Decoder, Encoding, IBM866, ISO_2022_JP, Mark, UTF_8, UTF_16LE, WINDOWS_1252,
+};
+use encoding_index::load;
 use encoding_mem::{DecoderResult, convert_utf16_to_utf8_partial, utf8_valid_up_to};
-use encoding_tables::Tables;
+use encoding_tables::{IndexKind, Tables};
 use std::alloc::{AllocError, Global};
+use std::process::Abort;
 
 #[derive(Clone, Copy, PartialEq, Eq, Debug)]
 enum Destination {
@@ -26,6 +31,8 @@ struct Answer {
     outcome: DecoderResult,
     read: usize,
     written: usize,
+    // Whether a call that replaces says that there was a malformed sequence.
+    had_errors: bool,
 }
 
 fn outcome_of(outcome: CoderResult) -> DecoderResult {
@@ -56,16 +63,18 @@ fn call_bytes(
     if decoder.is_finished() {
         return None;
     }
-    let (outcome, read, written) = if replaces {
-        let (outcome, read, written, _) = decoder.decode_to_utf8(src, dst, last);
-        (outcome_of(outcome), read, written)
+    let (outcome, read, written, had_errors) = if replaces {
+        let (outcome, read, written, bad) = decoder.decode_to_utf8(src, dst, last);
+        (outcome_of(outcome), read, written, bad)
     } else {
-        decoder.decode_to_utf8_without_replacement(src, dst, last)
+        let (outcome, read, written) = decoder.decode_to_utf8_without_replacement(src, dst, last);
+        (outcome, read, written, false)
     };
     Some(Answer {
         outcome,
         read,
         written,
+        had_errors,
     })
 }
 
@@ -79,16 +88,18 @@ fn call_text(
     if decoder.is_finished() || utf8_valid_up_to(dst) != dst.len() {
         return None;
     }
-    let (outcome, read, written) = if replaces {
-        let (outcome, read, written, _) = decoder.decode_to_str(src, dst, last);
-        (outcome_of(outcome), read, written)
+    let (outcome, read, written, had_errors) = if replaces {
+        let (outcome, read, written, bad) = decoder.decode_to_str(src, dst, last);
+        (outcome_of(outcome), read, written, bad)
     } else {
-        decoder.decode_to_str_without_replacement(src, dst, last)
+        let (outcome, read, written) = decoder.decode_to_str_without_replacement(src, dst, last);
+        (outcome, read, written, false)
     };
     Some(Answer {
         outcome,
         read,
         written,
+        had_errors,
     })
 }
 
@@ -105,17 +116,21 @@ fn call_units(
     if decoder.is_finished() {
         return None;
     }
-    let (outcome, read, written) = if replaces {
-        let (outcome, read, written, _) = decoder.decode_to_utf16(src, units, last);
-        (outcome_of(outcome), read, written)
+    let (outcome, read, written, had_errors) = if replaces {
+        let (outcome, read, written, bad) = decoder.decode_to_utf16(src, units, last);
+        (outcome_of(outcome), read, written, bad)
     } else {
-        decoder.decode_to_utf16_without_replacement(src, units, last)
+        let (outcome, read, written) = decoder.decode_to_utf16_without_replacement(
+            src, units, last,
+        );
+        (outcome, read, written, false)
     };
     let (_, len) = convert_utf16_to_utf8_partial(units.get(..written)?, dst);
     Some(Answer {
         outcome,
         read,
         written: len,
+        had_errors,
     })
 }
 
@@ -129,28 +144,56 @@ fn call_spare(
     if decoder.is_finished() {
         return None;
     }
-    let (outcome, read) = if replaces {
-        let (outcome, read, _) = decoder.decode_to_string(src, text, last);
-        (outcome_of(outcome), read)
+    let (outcome, read, had_errors) = if replaces {
+        let (outcome, read, bad) = decoder.decode_to_string(src, text, last);
+        (outcome_of(outcome), read, bad)
     } else {
-        decoder.decode_to_string_without_replacement(src, text, last)
+        let (outcome, read) = decoder.decode_to_string_without_replacement(src, text, last);
+        (outcome, read, false)
     };
     Some(Answer {
         outcome,
         read,
         written: text.len(),
+        had_errors,
     })
 }
 
-fn add(text: &mut String, bytes: &[u8]) -> Result<(), AllocError> {
-    if let Ok(more) = std::str::from_utf8(bytes) {
-        text.push_str(more)?;
-    }
-    Ok(())
+// What calls told of a stream so far.
+#[derive(Drop)]
+struct Told {
+    // What they wrote, with U+FFFD for each malformed sequence that they reported.
+    text: String,
+    read: usize,
+    // Where each malformed sequence begins that they reported, and its length.
+    malformed: Vec<(usize, u8)>,
+    // Whether each call said that it wrote U+FFFD where it did, and nowhere else.
+    is_frank: bool,
 }
 
-// One call into so much room, or into the room that is asked for. Adds what it wrote to the text,
-// and U+FFFD for a malformed sequence that it reports. Returns whether all was read, and how much.
+impl Told {
+    // Notes a call, and the bytes that it wrote. Returns whether they are text.
+    fn note(&mut self, kind: Kind, answer: Answer, written: &[u8]) -> Result<bool, AllocError> {
+        let Ok(part) = std::str::from_utf8(written) else {
+            return Ok(false);
+        };
+        self.text.push_str(part)?;
+        self.read = self.read.saturating_add(answer.read);
+        if kind.replaces && answer.had_errors != part.contains('\u{FFFD}') {
+            self.is_frank = false;
+        }
+        if let DecoderResult::Malformed(len, after) = answer.outcome {
+            let behind = usize::from(len).saturating_add(usize::from(after));
+            self.malformed
+                .push((self.read.saturating_sub(behind), len))?;
+            self.text.push('\u{FFFD}')?;
+        }
+        Ok(true)
+    }
+}
+
+// One call into so much room, or into the room that is asked for. Returns how it ended, and how
+// much it read.
 fn call(
     alloc: Global,
     decoder: &mut Decoder<'_>,
@@ -158,7 +201,7 @@ fn call(
     room: Option<usize>,
     src: &[u8],
     last: bool,
-    text: &mut String,
+    told: &mut Told,
 ) -> Result<Option<(DecoderResult, usize)>, AllocError> {
     let Some(size) = room.or(asked(decoder, kind, src.len())) else {
         return Ok(None);
@@ -179,16 +222,16 @@ fn call(
     let Some(answer) = answer else {
         return Ok(None);
     };
-    add(text, spare.as_bytes())?;
-    if kind.destination != Destination::Spare {
-        if let Some(written) = bytes.get(..answer.written) {
-            add(text, written)?;
-        }
+    let is_text = if kind.destination == Destination::Spare {
+        told.note(kind, answer, spare.as_bytes())?
+    } else {
+        told.note(kind, answer, bytes.get(..answer.written).unwrap_or(&[]))?
+    };
+    if is_text {
+        Ok(Some((answer.outcome, answer.read)))
+    } else {
+        Ok(None)
     }
-    if let DecoderResult::Malformed(..) = answer.outcome {
-        text.push('\u{FFFD}')?;
-    }
-    Ok(Some((answer.outcome, answer.read)))
 }
 
 // Calls until all is read. Returns whether no call into the room that was asked for was told that
@@ -200,16 +243,19 @@ fn feed(
     room: Option<usize>,
     src: &[u8],
     last: bool,
-    text: &mut String,
+    told: &mut Told,
 ) -> Result<bool, AllocError> {
     let mut left = src;
     for _ in 0..40 {
-        let Some((outcome, read)) = call(alloc, decoder, kind, room, left, last, text)? else {
+        let Some((outcome, read)) = call(alloc, decoder, kind, room, left, last, told)? else {
             return Ok(false);
         };
-        left = left.get(read..).unwrap_or(&[]);
+        let Some(rest) = left.get(read..) else {
+            return Ok(false);
+        };
+        left = rest;
         match outcome {
-            DecoderResult::InputEmpty => return Ok(true),
+            DecoderResult::InputEmpty => return Ok(left.is_empty()),
             DecoderResult::OutputFull if room.is_none() => return Ok(false),
             _ => {}
         }
@@ -217,43 +263,153 @@ fn feed(
     Ok(false)
 }
 
-#[test]
-fn each_call_decodes_the_stream(rt: HostRuntime) -> Result<(), AllocError> {
-    let tables = Tables::new(rt.alloc());
-    let bytes = b"\xEF\xBB\xBFa\xFF\xC3\xA9\xE2\x82\xAC\xED\xA0\x80\xF0\x9F\xA6\x80Z\xE2\x82";
-    let expected = "a\u{FFFD}é€\u{FFFD}\u{FFFD}\u{FFFD}🦀Z\u{FFFD}";
-    let destinations = [
-        (Destination::Bytes, 4),
-        (Destination::Units, 2),
-        (Destination::Text, 4),
-        (Destination::Spare, 4),
+// A stream, its text, and its malformed sequences: where each begins, and its length.
+#[derive(Clone, Copy)]
+struct Stream {
+    encoding: Encoding,
+    mark: Mark,
+    bytes: &'static [u8],
+    text: &'static str,
+    malformed: &'static [(usize, u8)],
+}
+
+const ROWS: [Stream; 8] = [
+    Stream {
+        encoding: UTF_8,
+        mark: Mark::Sniff,
+        bytes: b"\xEF\xBB\xBFa\xFF\xC3\xA9\xE2\x82\xAC\xED\xA0\x80\xF0\x9F\xA6\x80Z\xE2\x82",
+        text: "a\u{FFFD}é€\u{FFFD}\u{FFFD}\u{FFFD}🦀Z\u{FFFD}",
+        malformed: &[(4, 1), (10, 1), (11, 1), (12, 1), (18, 2)],
+    },
+    Stream {
+        encoding: UTF_8,
+        mark: Mark::Keep,
+        bytes: b"A\xC3\xA9",
+        text: "Aé",
+        malformed: &[],
+    },
+    Stream {
+        encoding: UTF_8,
+        mark: Mark::Keep,
+        bytes: b"\xC2\xA5\xF0\x9F\x92\xA9",
+        text: "¥💩",
+        malformed: &[],
+    },
+    Stream {
+        encoding: UTF_8,
+        mark: Mark::Sniff,
+        bytes: b"\xEF\xBBA",
+        text: "\u{FFFD}A",
+        malformed: &[(0, 2)],
+    },
+    Stream {
+        encoding: UTF_16LE,
+        mark: Mark::Remove,
+        bytes: b"\xFF",
+        text: "\u{FFFD}",
+        malformed: &[(0, 1)],
+    },
+    Stream {
+        encoding: WINDOWS_1252,
+        mark: Mark::Sniff,
+        bytes: b"\xEF\xBB",
+        text: "ï»",
+        malformed: &[],
+    },
+    Stream {
+        encoding: IBM866,
+        mark: Mark::Sniff,
+        bytes: b"\xEF\xBBab",
+        text: "я╗ab",
+        malformed: &[],
+    },
+    Stream {
+        encoding: ISO_2022_JP,
+        mark: Mark::Sniff,
+        bytes: b"\x1B$B\x1B(B\x1B(J\\",
+        text: "\u{FFFD}\u{FFFD}¥",
+        malformed: &[(0, 3), (3, 3)],
+    },
+];
+
+// The indexes of the rows.
+fn tables_of_rows(rt: &(impl Abort + AllocGlobal)) -> Tables {
+    let texts: [(IndexKind, &[u8]); 4] = [
+        (IndexKind::Windows1252, b"59\t0x00BB\n111\t0x00EF"),
+        (IndexKind::Ibm866, b"59\t0x2557\n111\t0x044F"),
+        (IndexKind::Jis0208, b""),
+        (IndexKind::Iso2022JpKatakana, b""),
     ];
-    for (destination, least) in destinations {
-        for replaces in [false, true] {
-            for room in [Some(least), None] {
-                for cut in 0..=bytes.len() {
-                    let kind = Kind {
-                        destination,
-                        replaces,
-                    };
-                    let mut decoder = UTF_8.new_decoder(&tables);
-                    let mut text = String::new(rt.alloc());
-                    if let Some((prefix, rest)) = bytes.split_at_checked(cut) {
-                        let well = feed(
-                            rt.alloc(),
-                            &mut decoder,
-                            kind,
-                            room,
-                            prefix,
-                            false,
-                            &mut text,
-                        )? && feed(rt.alloc(), &mut decoder, kind, room, rest, true, &mut text)?;
-                        assert!(rt; well && decoder.is_finished(), "{kind:?} {room:?} {cut}");
-                    }
-                    assert_eq!(rt; text.as_str(), expected, "{kind:?} {room:?} {cut}");
-                }
+    let mut tables = Tables::new(rt.alloc());
+    for (kind, text) in texts {
+        assert_eq!(rt; load(rt.alloc(), &mut tables, kind, text), Ok(()));
+    }
+    tables
+}
+
+// Reads a stream in two slices by one kind of call, and compares all that is told of it.
+fn check(
+    rt: &(impl Abort + AllocGlobal),
+    tables: &Tables,
+    row: &Stream,
+    kind: Kind,
+    room: Option<usize>,
+    cut: usize,
+) -> Result<(), AllocError> {
+    let alloc = rt.alloc();
+    assert!(rt; row.encoding.is_ready(tables));
+    let mut decoder = Decoder::new(row.encoding, row.mark, tables);
+    let mut told = Told {
+        text: String::new(alloc),
+        read: 0,
+        malformed: Vec::new(alloc),
+        is_frank: true,
+    };
+    let (prefix, rest) = row.bytes.split_at_checked(cut).expect(rt, "a cut");
+    let well = feed(alloc, &mut decoder, kind, room, prefix, false, &mut told)?
+        && feed(alloc, &mut decoder, kind, room, rest, true, &mut told)?;
+    assert!(rt;
+        well && decoder.is_finished() && told.is_frank,
+        "{kind:?} {room:?} {cut}"
+    );
+    assert_eq!(rt; told.text.as_str(), row.text, "{kind:?} {room:?} {cut}");
+    assert_eq!(rt; told.read, row.bytes.len(), "{kind:?} {room:?} {cut}");
+    let malformed = if kind.replaces { &[] } else { row.malformed };
+    assert_eq!(rt;
+        told.malformed.as_slice(),
+        malformed,
+        "{kind:?} {room:?} {cut}"
+    );
+    Ok(())
+}
+
+// By all kinds of calls to one destination, into the least room and into that which is asked for.
+fn check_destination(
+    rt: &(impl Abort + AllocGlobal),
+    tables: &Tables,
+    destination: Destination,
+    least: usize,
+) -> Result<(), AllocError> {
+    for replaces in [false, true] {
+        let kind = Kind {
+            destination,
+            replaces,
+        };
+        for row in &ROWS {
+            for cut in 0..=row.bytes.len() {
+                check(rt, tables, row, kind, Some(least), cut)?;
+                check(rt, tables, row, kind, None, cut)?;
             }
         }
     }
     Ok(())
+}
+
+#[test]
+fn each_call_decodes_the_stream(rt: HostRuntime) -> Result<(), AllocError> {
+    let tables = tables_of_rows(&rt);
+    check_destination(&rt, &tables, Destination::Bytes, 4)?;
+    check_destination(&rt, &tables, Destination::Units, 2)?;
+    check_destination(&rt, &tables, Destination::Text, 4)?;
+    check_destination(&rt, &tables, Destination::Spare, 4)
 }

@@ -48,6 +48,10 @@ mod source;
 #[cfg(test)]
 mod statuses;
 #[cfg(test)]
+mod stops;
+#[cfg(test)]
+mod tape;
+#[cfg(test)]
 mod trial;
 #[cfg(test)]
 mod verdicts;

@@ -3,12 +3,12 @@ ghost use Rattle.recode_log.specs.Counted.{failures_of};
 
 use crate::sink::{Failure, Manners, Sink, WILLING};
 use crate::source::{Reads, Source};
+use crate::tape::{Device, Tape};
 use encoding_front::Encoding;
 use recode::program::program;
 use recode::{IndexSource, SourceFault};
 use recode_log::counted::Counted;
 use std::alloc::Global;
-use std::cell::Cell;
 use std::io::ErrorKind;
 use std::process::Abort;
 use std::test::Fail;
@@ -100,11 +100,11 @@ fn call_program(rt: &(impl Abort + AllocGlobal), call: &Call) -> Result<Outcome,
         is_full: call.is_full,
         calls: 0,
     };
-    let turns = Cell::new(0);
-    let input = Source::new(call.input, Reads::CutAt(0), 0, ErrorKind::BrokenPipe);
+    let tape = Tape::new(rt.alloc());
+    let input = Source::new(call.input, Reads::CutAt(0), 0, ErrorKind::BrokenPipe, &tape);
     let mut reader = Counted::new(input);
-    let mut writer = Counted::new(Sink::new(rt.alloc(), call.writer, &turns));
-    let mut log = Counted::new(Sink::new(rt.alloc(), call.log_manners, &turns));
+    let mut writer = Counted::new(Sink::new(rt.alloc(), call.writer, Device::Writer, &tape));
+    let mut log = Counted::new(Sink::new(rt.alloc(), call.log_manners, Device::Log, &tape));
     assert!(rt; !words.is_empty());
     let status = program(
         rt.alloc(),
