@@ -389,3 +389,12 @@ pub neutral_is : (s : DecoderState) (jis0208 : List ℕ) (m : Mode) (pending : L
 neutral_is s jis0208 m pending pieces none h =
     let here : pieces_in_mode jis0208 m (pending ++ (0x5C ∷ [])) ≡ pieces_in_mode h.jis0208 Ascii (0x5C ∷ []) = ap (λ f. f (0x5C ∷ [])) (sym pieces ∙ h.start) in
     reads_ascii m jis0208 h.jis0208 (ap (λ l. pieces_in_mode jis0208 m (l ++ (0x5C ∷ []))) (sym (empty pending none)) ∙ here)
+
+-- and one in ASCII does
+pub reads_from_start : (s : DecoderState) (jis0208 : List ℕ) (m : Mode) (pending : List ℕ) → s.pieces ≡ (λ x. pieces_in_mode jis0208 m (pending ++ x))
+    → length pending ≡ s.pending → s.pending ≡ 0 → m ≡ Ascii → IsNeutral s
+reads_from_start s jis0208 m pending pieces size none is = record {
+  none = none;
+  jis0208 = jis0208;
+  start = pieces ∙ ap (λ (p : List ℕ). λ (x : List ℕ). pieces_in_mode jis0208 m (p ++ x)) (empty pending (size ∙ none)) ∙ ap (λ (n : Mode). λ (x : List ℕ). pieces_in_mode jis0208 n x) is;
+}

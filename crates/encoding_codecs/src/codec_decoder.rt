@@ -1,4 +1,4 @@
-ghost use Rattle.std.specs.Prelude.{◌≡◌, []};
+ghost use Rattle.encoding_mem.specs.Decoding.{IsFreshDecoder, ReadsByRule};
 
 use encoding_mem::DecoderResult;
 use encoding_mem::first_piece::DecoderRule;
@@ -16,17 +16,18 @@ pub struct CodecDecoder<R: DecoderRule> {
 impl<R: DecoderRule> CodecDecoder<R> {
     // Nothing is pending.
     pub(crate) fn of_rule(rule: R) -> Self
-        ensures rule { result.inner.rule ≡ rule }
-        ensures pending { result.inner.pending ≡ [] }
+        ensures { IsFreshDecoder (⟦<CodecDecoder<R> as SinkDecoder>⟧.state result)
+            (R.pieces rule) (R.limits rule) }
     {
         CodecDecoder {
             inner: Buffered::new(rule),
         }
     }
 
-    // The rule, as it is now.
+    // The rule, as it is now: by it are read what is pending and what follows.
     pub(crate) fn rule(&self) -> &R
-        ensures { result.now ≡ self.now.inner.rule }
+        ensures { ReadsByRule (⟦<CodecDecoder<R> as SinkDecoder>⟧.state self.now)
+            (R.pieces result.now) }
     {
         self.inner.rule()
     }

@@ -210,6 +210,43 @@ fn an_escape_is_malformed_after_its_second_is_whole(rt: HostRuntime) {
     assert_eq!(rt; room, [0x41, 0, 0, 0, 0, 0, 0, 0]);
 }
 
+// Bytes up to the end of a malformed sequence; how many of them are malformed; whether the mode is
+// ASCII there. A whole escape follows, which is not read yet: so the pieces to come tell no mode.
+const BEFORE_AN_ESCAPE: [(&[u8], u8, bool); 11] = [
+    (&[0x80], 1, true),
+    (&[0x1B], 1, true),
+    (&[0x1B, 0x28, 0x42, 0x80], 1, true),
+    (&[0x1B, 0x28, 0x4A, 0x80], 1, false),
+    (&[0x1B, 0x28, 0x49, 0x60], 1, false),
+    (&[0x1B, 0x24, 0x42, 0x80], 1, false),
+    (&[0x1B, 0x24, 0x42, 0x25], 1, false),
+    (&[0x1B, 0x24, 0x42, 0x25, 0x80], 2, false),
+    (&[0x1B, 0x24, 0x40, 0x1B], 1, false),
+    // an escape before another is malformed, and its mode holds up to the other
+    (&[0x1B, 0x28, 0x4A], 3, false),
+    (&[0x1B, 0x28, 0x42], 3, true),
+];
+
+#[test]
+fn the_mode_holds_up_to_an_escape_that_is_not_read(rt: HostRuntime) -> Result<(), Fail> {
+    let tables = tables(rt.alloc());
+    assert!(rt; tables.has(IndexKind::Jis0208));
+    for (src, size, is_ascii) in BEFORE_AN_ESCAPE {
+        for escape in [[0x1B, 0x28, 0x42], [0x1B, 0x28, 0x4A], [0x1B, 0x24, 0x42]] {
+            let mut bytes = Vec::new(rt.alloc());
+            bytes.extend_from_slice(src)?;
+            bytes.extend_from_slice(&escape)?;
+            let mut decoder = Iso2022JpDecoder::new(&tables);
+            let mut room = [0; 8];
+            let answer = decoder.decode_to_utf8_raw(&bytes, &mut room, true);
+            let expected = (DecoderResult::Malformed(size, 0), src.len(), 0);
+            assert_eq!(rt; answer, expected, "{src:?} {escape:?}");
+            assert_eq!(rt; decoder.in_neutral_state(), is_ascii, "{src:?} {escape:?}");
+        }
+    }
+    Ok(())
+}
+
 #[test]
 fn an_escape_that_fills_the_room(rt: HostRuntime) {
     let tables = tables(rt.alloc());

@@ -2,26 +2,6 @@
 
 use crate::encoding::Encoding;
 
-// The second names.
-pub use self::{
-    BIG5 as BIG5_INIT, EUC_JP as EUC_JP_INIT, EUC_KR as EUC_KR_INIT, GB18030 as GB18030_INIT,
-    GBK as GBK_INIT, IBM866 as IBM866_INIT, ISO_2022_JP as ISO_2022_JP_INIT,
-    ISO_8859_2 as ISO_8859_2_INIT, ISO_8859_3 as ISO_8859_3_INIT, ISO_8859_4 as ISO_8859_4_INIT,
-    ISO_8859_5 as ISO_8859_5_INIT, ISO_8859_6 as ISO_8859_6_INIT, ISO_8859_7 as ISO_8859_7_INIT,
-    ISO_8859_8 as ISO_8859_8_INIT, ISO_8859_8_I as ISO_8859_8_I_INIT,
-    ISO_8859_10 as ISO_8859_10_INIT, ISO_8859_13 as ISO_8859_13_INIT,
-    ISO_8859_14 as ISO_8859_14_INIT, ISO_8859_15 as ISO_8859_15_INIT,
-    ISO_8859_16 as ISO_8859_16_INIT, KOI8_R as KOI8_R_INIT, KOI8_U as KOI8_U_INIT,
-    MACINTOSH as MACINTOSH_INIT, REPLACEMENT as REPLACEMENT_INIT, SHIFT_JIS as SHIFT_JIS_INIT,
-    UTF_8 as UTF_8_INIT, UTF_16BE as UTF_16BE_INIT, UTF_16LE as UTF_16LE_INIT,
-    WINDOWS_874 as WINDOWS_874_INIT, WINDOWS_1250 as WINDOWS_1250_INIT,
-    WINDOWS_1251 as WINDOWS_1251_INIT, WINDOWS_1252 as WINDOWS_1252_INIT,
-    WINDOWS_1253 as WINDOWS_1253_INIT, WINDOWS_1254 as WINDOWS_1254_INIT,
-    WINDOWS_1255 as WINDOWS_1255_INIT, WINDOWS_1256 as WINDOWS_1256_INIT,
-    WINDOWS_1257 as WINDOWS_1257_INIT, WINDOWS_1258 as WINDOWS_1258_INIT,
-    X_MAC_CYRILLIC as X_MAC_CYRILLIC_INIT, X_USER_DEFINED as X_USER_DEFINED_INIT,
-};
-
 /// Big5 (section 11.1).
 pub const BIG5: Encoding = Encoding::Big5;
 /// EUC-JP (section 12.1).
@@ -102,3 +82,84 @@ pub const WINDOWS_1258: Encoding = Encoding::Windows1258;
 pub const X_MAC_CYRILLIC: Encoding = Encoding::XMacCyrillic;
 /// x-user-defined (section 14.5).
 pub const X_USER_DEFINED: Encoding = Encoding::XUserDefined;
+
+/// `BIG5`.
+pub const BIG5_INIT: Encoding = BIG5;
+/// `EUC_JP`.
+pub const EUC_JP_INIT: Encoding = EUC_JP;
+/// `EUC_KR`.
+pub const EUC_KR_INIT: Encoding = EUC_KR;
+/// `GB18030`.
+pub const GB18030_INIT: Encoding = GB18030;
+/// `GBK`.
+pub const GBK_INIT: Encoding = GBK;
+/// `IBM866`.
+pub const IBM866_INIT: Encoding = IBM866;
+/// `ISO_2022_JP`.
+pub const ISO_2022_JP_INIT: Encoding = ISO_2022_JP;
+/// `ISO_8859_2`.
+pub const ISO_8859_2_INIT: Encoding = ISO_8859_2;
+/// `ISO_8859_3`.
+pub const ISO_8859_3_INIT: Encoding = ISO_8859_3;
+/// `ISO_8859_4`.
+pub const ISO_8859_4_INIT: Encoding = ISO_8859_4;
+/// `ISO_8859_5`.
+pub const ISO_8859_5_INIT: Encoding = ISO_8859_5;
+/// `ISO_8859_6`.
+pub const ISO_8859_6_INIT: Encoding = ISO_8859_6;
+/// `ISO_8859_7`.
+pub const ISO_8859_7_INIT: Encoding = ISO_8859_7;
+/// `ISO_8859_8`.
+pub const ISO_8859_8_INIT: Encoding = ISO_8859_8;
+/// `ISO_8859_8_I`.
+pub const ISO_8859_8_I_INIT: Encoding = ISO_8859_8_I;
+/// `ISO_8859_10`.
+pub const ISO_8859_10_INIT: Encoding = ISO_8859_10;
+/// `ISO_8859_13`.
+pub const ISO_8859_13_INIT: Encoding = ISO_8859_13;
+/// `ISO_8859_14`.
+pub const ISO_8859_14_INIT: Encoding = ISO_8859_14;
+/// `ISO_8859_15`.
+pub const ISO_8859_15_INIT: Encoding = ISO_8859_15;
+/// `ISO_8859_16`.
+pub const ISO_8859_16_INIT: Encoding = ISO_8859_16;
+/// `KOI8_R`.
+pub const KOI8_R_INIT: Encoding = KOI8_R;
+/// `KOI8_U`.
+pub const KOI8_U_INIT: Encoding = KOI8_U;
+/// `MACINTOSH`.
+pub const MACINTOSH_INIT: Encoding = MACINTOSH;
+/// `REPLACEMENT`.
+pub const REPLACEMENT_INIT: Encoding = REPLACEMENT;
+/// `SHIFT_JIS`.
+pub const SHIFT_JIS_INIT: Encoding = SHIFT_JIS;
+/// `UTF_8`.
+pub const UTF_8_INIT: Encoding = UTF_8;
+/// `UTF_16BE`.
+pub const UTF_16BE_INIT: Encoding = UTF_16BE;
+/// `UTF_16LE`.
+pub const UTF_16LE_INIT: Encoding = UTF_16LE;
+/// `WINDOWS_874`.
+pub const WINDOWS_874_INIT: Encoding = WINDOWS_874;
+/// `WINDOWS_1250`.
+pub const WINDOWS_1250_INIT: Encoding = WINDOWS_1250;
+/// `WINDOWS_1251`.
+pub const WINDOWS_1251_INIT: Encoding = WINDOWS_1251;
+/// `WINDOWS_1252`.
+pub const WINDOWS_1252_INIT: Encoding = WINDOWS_1252;
+/// `WINDOWS_1253`.
+pub const WINDOWS_1253_INIT: Encoding = WINDOWS_1253;
+/// `WINDOWS_1254`.
+pub const WINDOWS_1254_INIT: Encoding = WINDOWS_1254;
+/// `WINDOWS_1255`.
+pub const WINDOWS_1255_INIT: Encoding = WINDOWS_1255;
+/// `WINDOWS_1256`.
+pub const WINDOWS_1256_INIT: Encoding = WINDOWS_1256;
+/// `WINDOWS_1257`.
+pub const WINDOWS_1257_INIT: Encoding = WINDOWS_1257;
+/// `WINDOWS_1258`.
+pub const WINDOWS_1258_INIT: Encoding = WINDOWS_1258;
+/// `X_MAC_CYRILLIC`.
+pub const X_MAC_CYRILLIC_INIT: Encoding = X_MAC_CYRILLIC;
+/// `X_USER_DEFINED`.
+pub const X_USER_DEFINED_INIT: Encoding = X_USER_DEFINED;

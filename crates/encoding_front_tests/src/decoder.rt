@@ -314,6 +314,48 @@ fn room_that_is_asked_for(rt: HostRuntime) -> Result<(), TableFault> {
     Ok(())
 }
 
+// How many units and bytes are asked for one more byte, the bytes without replacement and with it.
+fn rooms_for_one(decoder: &Decoder<'_>) -> Option<[Option<usize>; 3]> {
+    if decoder.is_finished() {
+        return None;
+    }
+    Some([
+        decoder.max_utf16_buffer_length(1),
+        decoder.max_utf8_buffer_length_without_replacement(1),
+        decoder.max_utf8_buffer_length(1),
+    ])
+}
+
+// EF BB is held and no mark: EF is malformed by itself, and BB is still to be handed to the codec.
+// It counts as two bytes that come, and not as one that is pending in the codec.
+#[test]
+fn room_while_a_byte_is_still_to_be_handed_on(rt: HostRuntime) -> Result<(), TableFault> {
+    let mut tables = empty_tables(rt.alloc())?;
+    tables.insert(IndexKind::Windows1252, &[0; 128])?;
+    let rows = [
+        (ISO_2022_JP, [4, 10, 10], [2, 4, 4]),
+        (WINDOWS_1252, [3, 9, 9], [1, 3, 3]),
+    ];
+    for (encoding, to_be_handed_on, settled) in rows {
+        if !encoding.is_ready(&tables) {
+            return Ok(());
+        }
+        let mut decoder = encoding.new_decoder(&tables);
+        let mut dst = [0; 4];
+        let held = decoder.decode_to_utf8_without_replacement(b"\xEF\xBB", &mut dst, false);
+        assert_eq!(rt; held, (DecoderResult::InputEmpty, 2, 0), "{encoding:?}");
+        let bad = decoder.decode_to_utf8_without_replacement(b"a", &mut dst, false);
+        assert_eq!(rt; bad, (DecoderResult::Malformed(1, 1), 0, 0), "{encoding:?}");
+        let rooms = rooms_for_one(&decoder);
+        assert_eq!(rt; rooms, Some(to_be_handed_on.map(Some)), "{encoding:?}");
+        let bad = decoder.decode_to_utf8_without_replacement(b"a", &mut dst, false);
+        assert_eq!(rt; bad, (DecoderResult::Malformed(1, 0), 0, 0), "{encoding:?}");
+        let rooms = rooms_for_one(&decoder);
+        assert_eq!(rt; rooms, Some(settled.map(Some)), "{encoding:?}");
+    }
+    Ok(())
+}
+
 // All indexes that are not of a single-byte encoding, without entries.
 fn empty_tables(alloc: Global) -> Result<Tables, TableFault> {
     let zeros = [0; 23940];
@@ -402,6 +444,44 @@ fn latin1_waits_for_the_mark(rt: HostRuntime) {
     let pending = decoder.decode_to_utf8(b"\xEF", &mut dst, false);
     assert_eq!(rt; pending, (CoderResult::InputEmpty, 1, 0, false));
     assert_eq!(rt; decoder.latin1_byte_compatible_up_to(bytes), None);
+}
+
+// Bytes of ISO-2022-JP up to the end of a malformed sequence, how many of them are malformed, and
+// whether the mode is ASCII there. A whole escape follows, which is not read yet.
+#[test]
+fn latin1_before_an_escape_that_is_not_read(rt: HostRuntime) -> Result<(), Fail> {
+    let tables = empty_tables(rt.alloc())?;
+    let rows: [(&[u8], u8, bool); 8] = [
+        (b"\x80\x1B(J", 1, true),
+        (b"\x1B\x1B$B", 1, true),
+        (b"\x1B(J\x80\x1B(B", 1, false),
+        (b"\x1B(I\x60\x1B(B", 1, false),
+        (b"\x1B$B\x80\x1B(B", 1, false),
+        (b"\x1B$@%\x1B(B", 1, false),
+        (b"\x1B(J\x1B(B", 3, false),
+        (b"\x1B(B\x1B(J", 3, true),
+    ];
+    for (bytes, size, is_ascii) in rows {
+        if !ISO_2022_JP.is_ready(&tables) {
+            return Ok(());
+        }
+        let mut decoder = ISO_2022_JP.new_decoder_without_bom_handling(&tables);
+        let mut dst = [0; 4];
+        let answer = decoder.decode_to_utf8_without_replacement(bytes, &mut dst, false);
+        let read = bytes.len().saturating_sub(3);
+        assert_eq!(rt;
+            answer,
+            (DecoderResult::Malformed(size, 0), read, 0),
+            "{bytes:?}"
+        );
+        let expected = if is_ascii { Some(2) } else { None };
+        assert_eq!(rt;
+            decoder.latin1_byte_compatible_up_to(b"ab\x0E"),
+            expected,
+            "{bytes:?}"
+        );
+    }
+    Ok(())
 }
 
 // A call into the units that were asked for just before.

@@ -27,6 +27,10 @@ pub record IsFreshDecoder (d : DecoderState) (pieces_of : List ℕ → List Piec
   pub pieces : d.pieces ≡ pieces_of
   pub room : d.room ≡ enough
 
+-- the pieces of what is to come are those of some pending bytes and of what follows, as a rule gives them
+abbrev pub ReadsByRule : DecoderState → (List ℕ → List Piece) → Type 0
+ReadsByRule d pieces_of = (bytes : List ℕ) × (length bytes ≡ d.pending) × (d.pieces ≡ (λ x. pieces_of (bytes ++ x)))
+
 -- each of these numbers is a byte
 abbrev pub AreBytes : List ℕ → Type 0
 AreBytes [] = Unit {0}

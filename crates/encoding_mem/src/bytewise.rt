@@ -1,5 +1,5 @@
 ghost use Rattle.std.specs.Prelude.{◌≡◌, ◌<◌, ℕ, List, length};
-ghost use Rattle.encoding_mem.specs.Decoding.{IsUndecided};
+ghost use Rattle.encoding_mem.specs.Decoding.{IsFreshDecoder, IsUndecided};
 ghost use Rattle.encoding_mem.specs.Driver.{immediate};
 
 use crate::decoder_result::DecoderResult;
@@ -22,15 +22,17 @@ pub struct Bytewise<F: DecidedPiece> {
 }
 
 impl<F: DecidedPiece> Bytewise<F> {
+    /// Nothing is read yet.
     pub fn new(rule: F) -> Self
-        ensures { result.rule ≡ rule }
+        ensures { IsFreshDecoder (⟦<Bytewise<F> as SinkDecoder>⟧.state result)
+            (F.pieces rule) (F.limits rule) }
     {
         Bytewise { rule }
     }
 
-    /// The rule, as it is now.
+    /// The rule, as it is now: by it is read what follows.
     pub fn rule(&self) -> &F
-        ensures { result.now ≡ self.now.rule }
+        ensures { (⟦<Bytewise<F> as SinkDecoder>⟧.state self.now).pieces ≡ F.pieces result.now }
     {
         &self.rule
     }

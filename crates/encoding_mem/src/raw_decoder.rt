@@ -25,6 +25,9 @@ pub trait RawDecoder {
         ensures ends { EndsWith (state self.new) (drop result.1 src.now) last (length (drop result.2 dst.new)) 4 3 result.0 }
         ensures enough { decoded_length (state self.old).room Bytes ((state self.old).pending + length src.now) ≤ length dst.old
             → result.0 ≢ DecoderResult.OutputFull }
+        ensures replaced { decoded_length (state self.old).room Replaced
+            ((state self.old).pending + length src.now) ≤ length dst.old
+            → result.0 ≢ DecoderResult.OutputFull }
         ensures leaves { Suffices (state self.old).needs (state self.new).needs false last (length src.now)
             (length src.now - result.1) (length dst.old) (length (drop result.2 dst.new)) result.0 }
         ensures limits { (state self.new).room ≡ (state self.old).room };

@@ -1,5 +1,6 @@
 ghost use Rattle.std.specs.Prelude.{◌≡◌, ℕ, ◌<◌, ◌≤◌, ◌+◌, ◌-◌, [], length, drop, encode_utf8_all};
 ghost use Rattle.encoding_mem.specs.Decoding.{DecoderState, StateLaw, EndsWith};
+ghost use Rattle.encoding_mem.specs.Decoding.{IsFreshDecoder, ReadsByRule};
 ghost use Rattle.encoding_mem.specs.Driver.{IsNear, Suffices, buffered};
 ghost use Rattle.encoding_mem.specs.DecodedLength.{queried};
 
@@ -104,8 +105,8 @@ pub struct Buffered<F: DecoderRule> {
 impl<F: DecoderRule> Buffered<F> {
     /// Nothing is pending.
     pub fn new(rule: F) -> Self
-        ensures rule { result.rule ≡ rule }
-        ensures pending { result.pending ≡ [] }
+        ensures { IsFreshDecoder (⟦<Buffered<F> as SinkDecoder>⟧.state result)
+            (F.pieces rule) (F.limits rule) }
     {
         Buffered {
             rule,
@@ -113,9 +114,10 @@ impl<F: DecoderRule> Buffered<F> {
         }
     }
 
-    /// The rule, as it is now.
+    /// The rule, as it is now: by it are read what is pending and what follows.
     pub fn rule(&self) -> &F
-        ensures { result.now ≡ self.now.rule }
+        ensures { ReadsByRule (⟦<Buffered<F> as SinkDecoder>⟧.state self.now)
+            (F.pieces result.now) }
     {
         &self.rule
     }

@@ -139,8 +139,8 @@ pub struct Utf8Source<'a> {
 impl<'a> Utf8Source<'a> {
     /// Nothing of the text is read.
     pub fn new(text: &'a str) -> Self
-        ensures text { result.text.now ≡ text.now }
-        ensures read { result.read ≡ 0 }
+        ensures text { ⟦<Utf8Source<'a> as Source>⟧.all result ≡ text.now }
+        ensures read { ⟦<Utf8Source<'a> as Source>⟧.offset result ≡ 0 }
     {
         Utf8Source {
             text,
@@ -257,8 +257,8 @@ pub struct Utf16Source<'a> {
 impl<'a> Utf16Source<'a> {
     /// None of the units is read.
     pub fn new(units: &'a [u16]) -> Self
-        ensures units { result.units.now ≡ units.now }
-        ensures offset { result.offset ≡ 0 }
+        ensures units { ⟦<Utf16Source<'a> as Source>⟧.all result ≡ units.now }
+        ensures offset { ⟦<Utf16Source<'a> as Source>⟧.offset result ≡ 0 }
     {
         Utf16Source { units, offset: 0 }
     }

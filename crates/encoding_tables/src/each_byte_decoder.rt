@@ -1,4 +1,5 @@
 ghost use Rattle.std.specs.Prelude.{◌≡◌};
+ghost use Rattle.encoding_mem.specs.Decoding.{IsFreshDecoder};
 
 use encoding_mem::DecoderResult;
 use encoding_mem::bytewise::{Bytewise, DecidedPiece};
@@ -16,16 +17,18 @@ pub struct EachByteDecoder<R: DecidedPiece> {
 
 impl<R: DecidedPiece> EachByteDecoder<R> {
     pub(crate) fn of_rule(rule: R) -> Self
-        ensures { result.inner.rule ≡ rule }
+        ensures { IsFreshDecoder (⟦<EachByteDecoder<R> as SinkDecoder>⟧.state result)
+            (R.pieces rule) (R.limits rule) }
     {
         EachByteDecoder {
             inner: Bytewise::new(rule),
         }
     }
 
-    // The rule, as it is now.
+    // The rule, as it is now: by it is read what follows.
     pub(crate) fn rule(&self) -> &R
-        ensures { result.now ≡ self.now.inner.rule }
+        ensures { (⟦<EachByteDecoder<R> as SinkDecoder>⟧.state self.now).pieces
+            ≡ R.pieces result.now }
     {
         self.inner.rule()
     }

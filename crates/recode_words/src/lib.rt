@@ -4,6 +4,7 @@
 mod command;
 pub mod request;
 mod values;
+pub mod word_laws;
 pub mod words;
 
 pub use command::VERSION;

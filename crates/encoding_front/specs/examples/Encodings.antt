@@ -3,7 +3,6 @@ use Rattle.std.specs.Prelude.{◌≡◌, not, None, Some, [], ◌∷◌, codes, 
 use Rattle.encoding_tables.specs.declared.index_kind.IndexKind.{IndexKind}
 use Rattle.encoding_front.specs.EncodingTable.{encodings, encoding_name}
 use Rattle.encoding_front.specs.Encodings.{is_ascii_compatible_of, is_single_byte_of, mark_at_start, needs_of, output_encoding_of, byte_order_marks, need_of, decoded_length_of, pieces_of, coding_of, set_pieces_of}
-use Rattle.encoding_front.specs.declared.constants.TheConstants.{SHIFT_JIS, UTF_8, WINDOWS_1252}
 use Rattle.encoding_front.specs.declared.encoding.Encoding.{Encoding}
 use Rattle.encoding_front.specs.declared.encoding.Encoding.TheVariants.{Big5, EucJp, EucKr, Gb18030, Gbk, Iso2022Jp, Replacement, ShiftJis, Utf8, Utf16Be, Utf16Le, Iso8859_8I, Windows1252, XUserDefined, Ibm866, Iso8859_10, Iso8859_13, Iso8859_14, Iso8859_15, Iso8859_16, Iso8859_2, Iso8859_3, Iso8859_4, Iso8859_5, Iso8859_6, Iso8859_7, Iso8859_8, Koi8R, Koi8U, Macintosh, Windows1250, Windows1251, Windows1253, Windows1254, Windows1255, Windows1256, Windows1257, Windows1258, Windows874, XMacCyrillic}
 use Rattle.std.specs.List.{range_with_len}
@@ -17,13 +16,10 @@ use Rattle.encoding_mem.specs.declared.room.OutputUnit.TheVariants.{Units, Bytes
 use Rattle.encoding_tables.specs.IndexLists.{IndexLists}
 use Rattle.encoding_codecs.specs.Iso2022Jp.{pieces_in_mode}
 
-utf_8 : UTF_8 ≡ Utf8
-utf_8 = refl
-
-windows_1252 : encoding_name WINDOWS_1252 ≡ codes "windows-1252"
+windows_1252 : encoding_name Windows1252 ≡ codes "windows-1252"
 windows_1252 = refl
 
-shift_jis : encoding_name SHIFT_JIS ≡ codes "Shift_JIS"
+shift_jis : encoding_name ShiftJis ≡ codes "Shift_JIS"
 shift_jis = refl
 
 not_single_byte : filter (λ (e : Encoding). not (is_single_byte_of e)) encodings ≡ Big5 ∷ EucJp ∷ EucKr ∷ Gb18030 ∷ Gbk ∷ Iso2022Jp ∷ Replacement ∷ ShiftJis ∷ Utf8 ∷ Utf16Be ∷ Utf16Le ∷ []
