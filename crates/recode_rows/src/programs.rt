@@ -88,7 +88,8 @@ struct Outcome {
     reads: usize,
 }
 
-fn call_program(rt: &(impl Abort + AllocGlobal), call: &Call) -> Result<Outcome, Fail> {
+// Calls the program over devices of a tape.
+fn call_over(rt: &(impl Abort + AllocGlobal), call: &Call, tape: &Tape) -> Result<Outcome, Fail> {
     let mut words = Vec::new(rt.alloc());
     words.push("recode")?;
     for word in call.line.split(' ') {
@@ -100,11 +101,15 @@ fn call_program(rt: &(impl Abort + AllocGlobal), call: &Call) -> Result<Outcome,
         is_full: call.is_full,
         calls: 0,
     };
-    let tape = Tape::new(rt.alloc());
-    let input = Source::new(call.input, Reads::CutAt(0), 0, ErrorKind::BrokenPipe, &tape);
-    let mut reader = Counted::new(input);
-    let mut writer = Counted::new(Sink::new(rt.alloc(), call.writer, Device::Writer, &tape));
-    let mut log = Counted::new(Sink::new(rt.alloc(), call.log_manners, Device::Log, &tape));
+    let mut reader = Counted::new(Source::new(
+        call.input,
+        Reads::CutAt(0),
+        0,
+        ErrorKind::BrokenPipe,
+        tape,
+    ));
+    let mut writer = Counted::new(Sink::new(rt.alloc(), call.writer, Device::Writer, tape));
+    let mut log = Counted::new(Sink::new(rt.alloc(), call.log_manners, Device::Log, tape));
     assert!(rt; !words.is_empty());
     let status = program(
         rt.alloc(),
@@ -121,6 +126,11 @@ fn call_program(rt: &(impl Abort + AllocGlobal), call: &Call) -> Result<Outcome,
         asked: source.calls,
         reads: reader.get_ref().calls(),
     })
+}
+
+fn call_program(rt: &(impl Abort + AllocGlobal), call: &Call) -> Result<Outcome, Fail> {
+    let tape = Tape::new(rt.alloc());
+    call_over(rt, call, &tape)
 }
 
 fn check(rt: &(impl Abort + AllocGlobal), call: &Call) -> Result<(), Fail> {
