@@ -48,10 +48,6 @@ mod source;
 #[cfg(test)]
 mod statuses;
 #[cfg(test)]
-mod stops;
-#[cfg(test)]
-mod tape;
-#[cfg(test)]
 mod trial;
 #[cfg(test)]
 mod verdicts;

@@ -3,12 +3,12 @@ ghost use Rattle.recode_log.specs.Counted.{failures_of};
 
 use crate::sink::{Failure, Manners, Sink, WILLING};
 use crate::source::{Reads, Source};
-use crate::tape::{Device, Tape};
 use encoding_front::Encoding;
 use recode::program::program;
 use recode::{IndexSource, SourceFault};
 use recode_log::counted::Counted;
 use std::alloc::Global;
+use std::cell::Cell;
 use std::io::ErrorKind;
 use std::process::Abort;
 use std::test::Fail;
@@ -88,8 +88,7 @@ struct Outcome {
     reads: usize,
 }
 
-// Calls the program over devices of a tape.
-fn call_over(rt: &(impl Abort + AllocGlobal), call: &Call, tape: &Tape) -> Result<Outcome, Fail> {
+fn call_program(rt: &(impl Abort + AllocGlobal), call: &Call) -> Result<Outcome, Fail> {
     let mut words = Vec::new(rt.alloc());
     words.push("recode")?;
     for word in call.line.split(' ') {
@@ -101,15 +100,11 @@ fn call_over(rt: &(impl Abort + AllocGlobal), call: &Call, tape: &Tape) -> Resul
         is_full: call.is_full,
         calls: 0,
     };
-    let mut reader = Counted::new(Source::new(
-        call.input,
-        Reads::CutAt(0),
-        0,
-        ErrorKind::BrokenPipe,
-        tape,
-    ));
-    let mut writer = Counted::new(Sink::new(rt.alloc(), call.writer, Device::Writer, tape));
-    let mut log = Counted::new(Sink::new(rt.alloc(), call.log_manners, Device::Log, tape));
+    let turns = Cell::new(0);
+    let input = Source::new(call.input, Reads::CutAt(0), 0, ErrorKind::BrokenPipe);
+    let mut reader = Counted::new(input);
+    let mut writer = Counted::new(Sink::new(rt.alloc(), call.writer, &turns));
+    let mut log = Counted::new(Sink::new(rt.alloc(), call.log_manners, &turns));
     assert!(rt; !words.is_empty());
     let status = program(
         rt.alloc(),
@@ -126,11 +121,6 @@ fn call_over(rt: &(impl Abort + AllocGlobal), call: &Call, tape: &Tape) -> Resul
         asked: source.calls,
         reads: reader.get_ref().calls(),
     })
-}
-
-fn call_program(rt: &(impl Abort + AllocGlobal), call: &Call) -> Result<Outcome, Fail> {
-    let tape = Tape::new(rt.alloc());
-    call_over(rt, call, &tape)
 }
 
 fn check(rt: &(impl Abort + AllocGlobal), call: &Call) -> Result<(), Fail> {

@@ -1,4 +1,3 @@
-use crate::tape::{Device, Event, Tape};
 use std::io;
 use std::io::{ErrorKind, Read};
 
@@ -9,31 +8,22 @@ pub enum Reads {
     CutAt(usize),
     /// A read gives one byte.
     OneByOne,
-    /// A read is filled with the first byte of the input, and there is no end.
-    Endless,
 }
 
 /// A reader over memory.
 #[derive(Drop)]
-pub struct Source<'a> {
+pub struct Source {
     rest: &'static [u8],
     given: usize,
     reads: Reads,
     calls: usize,
     fails_at: usize,
     kind: ErrorKind,
-    tape: &'a Tape,
 }
 
-impl<'a> Source<'a> {
+impl Source {
     /// A reader of these bytes. The call `fails_at`, counted from 1, fails, and only that one.
-    pub fn new(
-        bytes: &'static [u8],
-        reads: Reads,
-        fails_at: usize,
-        kind: ErrorKind,
-        tape: &'a Tape,
-    ) -> Source<'a> {
+    pub fn new(bytes: &'static [u8], reads: Reads, fails_at: usize, kind: ErrorKind) -> Source {
         Source {
             rest: bytes,
             given: 0,
@@ -41,7 +31,6 @@ impl<'a> Source<'a> {
             calls: 0,
             fails_at,
             kind,
-            tape,
         }
     }
 
@@ -54,22 +43,17 @@ impl<'a> Source<'a> {
     fn most(&self) -> usize {
         match self.reads {
             Reads::CutAt(offset) if self.given < offset => offset - self.given,
-            Reads::CutAt(_) | Reads::Endless => usize::MAX,
+            Reads::CutAt(_) => usize::MAX,
             Reads::OneByOne => 1,
         }
     }
 }
 
-impl<'a> Read for Source<'a> {
+impl Read for Source {
     fn read(&mut self, buf: &mut [u8]) -> io::Result<usize> {
         self.calls = self.calls.saturating_add(1);
-        self.tape.add(Event::Call(Device::Reader))?;
         if self.calls == self.fails_at {
             return Err(io::Error::from(self.kind));
-        }
-        if let (Reads::Endless, Some(byte)) = (self.reads, self.rest.first()) {
-            buf.fill(*byte);
-            return Ok(buf.len());
         }
         let count = self.most().min(self.rest.len()).min(buf.len());
         let (prefix, rest) = self.rest.split_at(count);
