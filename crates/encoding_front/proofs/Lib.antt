@@ -5,3 +5,4 @@ pub mod DestinationLemmas
 pub mod BomLemmas
 pub mod DecoderCallLemmas
 pub mod DecodedLengthLemmas
+pub mod HexadecimalLemmas

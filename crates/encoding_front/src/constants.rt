@@ -83,83 +83,83 @@ pub const X_MAC_CYRILLIC: Encoding = Encoding::XMacCyrillic;
 /// x-user-defined (section 14.5).
 pub const X_USER_DEFINED: Encoding = Encoding::XUserDefined;
 
-/// `BIG5`.
+/// A second name of `BIG5`.
 pub const BIG5_INIT: Encoding = BIG5;
-/// `EUC_JP`.
+/// A second name of `EUC_JP`.
 pub const EUC_JP_INIT: Encoding = EUC_JP;
-/// `EUC_KR`.
+/// A second name of `EUC_KR`.
 pub const EUC_KR_INIT: Encoding = EUC_KR;
-/// `GB18030`.
+/// A second name of `GB18030`.
 pub const GB18030_INIT: Encoding = GB18030;
-/// `GBK`.
+/// A second name of `GBK`.
 pub const GBK_INIT: Encoding = GBK;
-/// `IBM866`.
+/// A second name of `IBM866`.
 pub const IBM866_INIT: Encoding = IBM866;
-/// `ISO_2022_JP`.
+/// A second name of `ISO_2022_JP`.
 pub const ISO_2022_JP_INIT: Encoding = ISO_2022_JP;
-/// `ISO_8859_2`.
+/// A second name of `ISO_8859_2`.
 pub const ISO_8859_2_INIT: Encoding = ISO_8859_2;
-/// `ISO_8859_3`.
+/// A second name of `ISO_8859_3`.
 pub const ISO_8859_3_INIT: Encoding = ISO_8859_3;
-/// `ISO_8859_4`.
+/// A second name of `ISO_8859_4`.
 pub const ISO_8859_4_INIT: Encoding = ISO_8859_4;
-/// `ISO_8859_5`.
+/// A second name of `ISO_8859_5`.
 pub const ISO_8859_5_INIT: Encoding = ISO_8859_5;
-/// `ISO_8859_6`.
+/// A second name of `ISO_8859_6`.
 pub const ISO_8859_6_INIT: Encoding = ISO_8859_6;
-/// `ISO_8859_7`.
+/// A second name of `ISO_8859_7`.
 pub const ISO_8859_7_INIT: Encoding = ISO_8859_7;
-/// `ISO_8859_8`.
+/// A second name of `ISO_8859_8`.
 pub const ISO_8859_8_INIT: Encoding = ISO_8859_8;
-/// `ISO_8859_8_I`.
+/// A second name of `ISO_8859_8_I`.
 pub const ISO_8859_8_I_INIT: Encoding = ISO_8859_8_I;
-/// `ISO_8859_10`.
+/// A second name of `ISO_8859_10`.
 pub const ISO_8859_10_INIT: Encoding = ISO_8859_10;
-/// `ISO_8859_13`.
+/// A second name of `ISO_8859_13`.
 pub const ISO_8859_13_INIT: Encoding = ISO_8859_13;
-/// `ISO_8859_14`.
+/// A second name of `ISO_8859_14`.
 pub const ISO_8859_14_INIT: Encoding = ISO_8859_14;
-/// `ISO_8859_15`.
+/// A second name of `ISO_8859_15`.
 pub const ISO_8859_15_INIT: Encoding = ISO_8859_15;
-/// `ISO_8859_16`.
+/// A second name of `ISO_8859_16`.
 pub const ISO_8859_16_INIT: Encoding = ISO_8859_16;
-/// `KOI8_R`.
+/// A second name of `KOI8_R`.
 pub const KOI8_R_INIT: Encoding = KOI8_R;
-/// `KOI8_U`.
+/// A second name of `KOI8_U`.
 pub const KOI8_U_INIT: Encoding = KOI8_U;
-/// `MACINTOSH`.
+/// A second name of `MACINTOSH`.
 pub const MACINTOSH_INIT: Encoding = MACINTOSH;
-/// `REPLACEMENT`.
+/// A second name of `REPLACEMENT`.
 pub const REPLACEMENT_INIT: Encoding = REPLACEMENT;
-/// `SHIFT_JIS`.
+/// A second name of `SHIFT_JIS`.
 pub const SHIFT_JIS_INIT: Encoding = SHIFT_JIS;
-/// `UTF_8`.
+/// A second name of `UTF_8`.
 pub const UTF_8_INIT: Encoding = UTF_8;
-/// `UTF_16BE`.
+/// A second name of `UTF_16BE`.
 pub const UTF_16BE_INIT: Encoding = UTF_16BE;
-/// `UTF_16LE`.
+/// A second name of `UTF_16LE`.
 pub const UTF_16LE_INIT: Encoding = UTF_16LE;
-/// `WINDOWS_874`.
+/// A second name of `WINDOWS_874`.
 pub const WINDOWS_874_INIT: Encoding = WINDOWS_874;
-/// `WINDOWS_1250`.
+/// A second name of `WINDOWS_1250`.
 pub const WINDOWS_1250_INIT: Encoding = WINDOWS_1250;
-/// `WINDOWS_1251`.
+/// A second name of `WINDOWS_1251`.
 pub const WINDOWS_1251_INIT: Encoding = WINDOWS_1251;
-/// `WINDOWS_1252`.
+/// A second name of `WINDOWS_1252`.
 pub const WINDOWS_1252_INIT: Encoding = WINDOWS_1252;
-/// `WINDOWS_1253`.
+/// A second name of `WINDOWS_1253`.
 pub const WINDOWS_1253_INIT: Encoding = WINDOWS_1253;
-/// `WINDOWS_1254`.
+/// A second name of `WINDOWS_1254`.
 pub const WINDOWS_1254_INIT: Encoding = WINDOWS_1254;
-/// `WINDOWS_1255`.
+/// A second name of `WINDOWS_1255`.
 pub const WINDOWS_1255_INIT: Encoding = WINDOWS_1255;
-/// `WINDOWS_1256`.
+/// A second name of `WINDOWS_1256`.
 pub const WINDOWS_1256_INIT: Encoding = WINDOWS_1256;
-/// `WINDOWS_1257`.
+/// A second name of `WINDOWS_1257`.
 pub const WINDOWS_1257_INIT: Encoding = WINDOWS_1257;
-/// `WINDOWS_1258`.
+/// A second name of `WINDOWS_1258`.
 pub const WINDOWS_1258_INIT: Encoding = WINDOWS_1258;
-/// `X_MAC_CYRILLIC`.
+/// A second name of `X_MAC_CYRILLIC`.
 pub const X_MAC_CYRILLIC_INIT: Encoding = X_MAC_CYRILLIC;
-/// `X_USER_DEFINED`.
+/// A second name of `X_USER_DEFINED`.
 pub const X_USER_DEFINED_INIT: Encoding = X_USER_DEFINED;

@@ -3,6 +3,7 @@
 ghost use Rattle.std.specs.Prelude.{◌≡◌, ◌↔◌, ◌<◌, ◌≤◌, ◌+◌, ◌*◌, ◌++◌, ℕ, true, IsTrue, List};
 ghost use Rattle.std.specs.Prelude.{Bool, length, encode_utf8_all};
 ghost use Rattle.std.specs.Str.{all_scalars, chars};
+ghost use Rattle.encoding_mem.specs.declared.reference.Reference.{Reference};
 ghost use Rattle.encoding_mem.specs.declared.reference.Reference.TheVariants.{Decimal};
 ghost use Rattle.encoding_mem.specs.Agreement.{ReadsBackOrBreaks, ReadsByStep};
 ghost use Rattle.encoding_mem.specs.Coding.{bytes, open_from, output, reference};
@@ -117,12 +118,14 @@ pub fn written_is_short()
         → length ((coding_of t e).escape s s') ≤ 3 }
     ensures reported { (t : IndexLists) (e : Encoding) (c : ℕ)
         → ReportsItself c ((coding_of t e).form c) }
-    ensures reference { (c : ℕ) → c < 0x110000 → length (reference Decimal c) ≤ 10 }
-    ensures part { (t : IndexLists) (e : Encoding) (s : EscapeState) (text : List ℕ)
+    ensures reference { (ref : Reference) (c : ℕ) → c < 0x110000
+        → length (reference ref c) ≤ 10 }
+    ensures part { (ref : Reference) (t : IndexLists) (e : Encoding) (s : EscapeState)
+        (text : List ℕ) → all_scalars text ≡ true
+        → length (open_from ref (coding_of t e) s text) ≤ 13 * length text }
+    ensures whole { (ref : Reference) (t : IndexLists) (e : Encoding) (text : List ℕ)
         → all_scalars text ≡ true
-        → length (open_from Decimal (coding_of t e) s text) ≤ 13 * length text }
-    ensures whole { (t : IndexLists) (e : Encoding) (text : List ℕ) → all_scalars text ≡ true
-        → length (output Decimal (coding_of t e) text) ≤ 13 * length text + 3 }
+        → length (output ref (coding_of t e) text) ≤ 13 * length text + 3 }
 {}
 
 /// An input is its pieces, and what it is recoded to is bounded by its length: it has no more characters than
@@ -136,9 +139,9 @@ pub fn input_is_its_pieces()
         → AreAcceptedTables t → length (marked_text t mark e x) ≤ length x }
     ensures scalars { (t : IndexLists) (mark : Mark) (e : Encoding) (x : List ℕ)
         → AreAcceptedTables t → all_scalars (marked_text t mark e x) ≡ true }
-    ensures recoded { (t : IndexLists) (mark : Mark) (from to : Encoding) (x : List ℕ)
-        → AreAcceptedTables t
-        → length (output Decimal (coding_of t to) (marked_text t mark from x)) ≤ 13 * length x + 3 }
+    ensures recoded { (ref : Reference) (t : IndexLists) (mark : Mark) (from to : Encoding)
+        (x : List ℕ) → AreAcceptedTables t
+        → length (output ref (coding_of t to) (marked_text t mark from x)) ≤ 13 * length x + 3 }
 {}
 
 /// A call of a decoder, with any handling of marks, that read all has passed or reported each piece

@@ -38,7 +38,7 @@ pub use constants::{
 pub use decoder::{Decoder, StreamDecoder};
 pub use encoder::Encoder;
 pub use encoding::Encoding;
-pub use encoding_mem::{DecoderResult, EncoderResult};
+pub use encoding_mem::{DecoderResult, EncoderResult, Reference};
 pub use mark::Mark;
 pub use one_shot_fault::OneShotFault;
 pub use reference::write_reference;

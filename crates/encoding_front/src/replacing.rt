@@ -7,9 +7,9 @@ ghost use Rattle.encoding_front.specs.Encoder.{ReplacingEndsWith, Replaces, Turn
 use crate::coder_result::CoderResult;
 use crate::encoder::Encoder;
 use crate::reference::write_reference;
-use encoding_mem::EncoderResult;
 use encoding_mem::encode::put_all;
 use encoding_mem::source::Source;
+use encoding_mem::{EncoderResult, Reference};
 
 // One call without replacement into the part of `dst` before `end`, and the reference that it asks
 // for, which may reach behind that part. Returns as the call does, and counts the reference as
@@ -36,7 +36,7 @@ fn encode_turn<S: Source>(
     match result {
         EncoderResult::Unmappable(c) => {
             let mut bytes = [0; 10];
-            let len = write_reference(c, &mut bytes);
+            let len = write_reference(c, Reference::Decimal, &mut bytes);
             (result, put_all(dst, written, &bytes[..len]))
         }
         _ => (result, written),

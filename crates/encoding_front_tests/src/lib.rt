@@ -5,8 +5,6 @@
 #[cfg(test)]
 mod decoder;
 #[cfg(test)]
-mod decoder_calls;
-#[cfg(test)]
 mod encoder;
 #[cfg(test)]
 mod encoding;
@@ -16,5 +14,7 @@ mod index_texts;
 mod one_shot_decoding;
 #[cfg(test)]
 mod one_shot_encoding;
+#[cfg(test)]
+mod reference;
 #[cfg(test)]
 mod variants;

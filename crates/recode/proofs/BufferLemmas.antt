@@ -36,7 +36,7 @@ kept_enough b c e k = record {
 }
 
 pub same_start : {W L : Type 0} (a : Writers W L) → AreTheSame a a
-same_start a = record { output = refl; log = refl }
+same_start a = record { output = refl; log = refl; policy = refl }
 
 pub same_on : {W L : Type 0} {a b c : Writers W L} → AreTheSame a b → AreTheSame b c → AreTheSame a c
-same_on p q = record { output = q.output ∙ p.output; log = q.log ∙ p.log }
+same_on p q = record { output = q.output ∙ p.output; log = q.log ∙ p.log; policy = q.policy ∙ p.policy }

@@ -4,7 +4,7 @@ use Rattle.std.proofs.Common.{◌≡◌, ℕ, suc, ◌+◌, ◌≤◌, Bool, tru
 use lib.Utf8.{scalar}
 use Rattle.std.proofs.lemmas.Bool.{false≢true}
 use Rattle.std.specs.Str.{chars, all_scalars}
-use Rattle.encoding_mem.specs.declared.reference.Reference.TheVariants.{Decimal}
+use Rattle.encoding_mem.specs.declared.reference.Reference.{Reference}
 use Rattle.encoding_mem.specs.Piece.{Piece, well_formed, malformed, scalars_of, sizes, scalars, AreWellFormed, ArePieces, piece_len}
 use Rattle.encoding_mem.specs.Coding.{Coding, last_set, IsCoding}
 use Rattle.encoding_mem.specs.Items.{Item, Byte, MalformedAt, open_items, whole_items, closing, trace_from}
@@ -17,37 +17,37 @@ use Rattle.recode.specs.TraceToWrite.{trace_to_write, AreSound}
 use Rattle.recode.specs.declared.target.Counts.{Counts}
 
 -- of texts in a row
-pub open_items-append : (e : Coding) (s : EscapeState) (i : ℕ) (a b : List ℕ) → open_items Decimal e s i (a ++ b) ≡ open_items Decimal e s i a ++ open_items Decimal e (last_set e s a) (i + length a) b
-open_items-append e s i [] b = ap (λ (n : ℕ). open_items Decimal e s n b) (sym (add-zero i))
-open_items-append e s i (c ∷ a) b =
+pub open_items-append : (ref : Reference) (e : Coding) (s : EscapeState) (i : ℕ) (a b : List ℕ) → open_items ref e s i (a ++ b) ≡ open_items ref e s i a ++ open_items ref e (last_set e s a) (i + length a) b
+open_items-append ref e s i [] b = ap (λ (n : ℕ). open_items ref e s n b) (sym (add-zero i))
+open_items-append ref e s i (c ∷ a) b =
     let same : i + 1 + length a ≡ i + suc (length a) = omega arith in
-    let rest = open_items Decimal e (last_set e (e.set s c) a) (i + suc (length a)) b in
-    ap (λ x. map Byte (e.escape s (e.set s c)) ++ (Rattle.encoding_mem.specs.Items.form_items Decimal i (e.form c) ++ x))
-    (open_items-append e (e.set s c) (i + 1) a b ∙ ap (λ (n : ℕ). open_items Decimal e (e.set s c) (i + 1) a ++ open_items Decimal e (last_set e (e.set s c) a) n b) same)
-    ∙ ap (λ x. map Byte (e.escape s (e.set s c)) ++ x) (sym (append_assoc (Rattle.encoding_mem.specs.Items.form_items Decimal i (e.form c)) (open_items Decimal e (e.set s c) (i + 1) a) rest))
-    ∙ sym (append_assoc (map Byte (e.escape s (e.set s c))) (Rattle.encoding_mem.specs.Items.form_items Decimal i (e.form c) ++ open_items Decimal e (e.set s c) (i + 1) a) rest)
+    let rest = open_items ref e (last_set e (e.set s c) a) (i + suc (length a)) b in
+    ap (λ x. map Byte (e.escape s (e.set s c)) ++ (Rattle.encoding_mem.specs.Items.form_items ref i (e.form c) ++ x))
+    (open_items-append ref e (e.set s c) (i + 1) a b ∙ ap (λ (n : ℕ). open_items ref e (e.set s c) (i + 1) a ++ open_items ref e (last_set e (e.set s c) a) n b) same)
+    ∙ ap (λ x. map Byte (e.escape s (e.set s c)) ++ x) (sym (append_assoc (Rattle.encoding_mem.specs.Items.form_items ref i (e.form c)) (open_items ref e (e.set s c) (i + 1) a) rest))
+    ∙ sym (append_assoc (map Byte (e.escape s (e.set s c))) (Rattle.encoding_mem.specs.Items.form_items ref i (e.form c) ++ open_items ref e (e.set s c) (i + 1) a) rest)
 
 pub last_set-append : (e : Coding) (s : EscapeState) (a b : List ℕ) → last_set e s (a ++ b) ≡ last_set e (last_set e s a) b
 last_set-append e s [] b = refl
 last_set-append e s (c ∷ a) b = last_set-append e (e.set s c) a b
 
 -- of well-formed pieces, and then others
-pub trace_well_formed : (e : Coding) (s : EscapeState) (offset i : ℕ) (ps qs : List Piece) → AreWellFormed ps
-    → trace_from Decimal e s offset i (ps ++ qs) ≡ open_items Decimal e s i (scalars ps) ++ trace_from Decimal e (last_set e s (scalars ps)) (offset + sizes ps) (i + length (scalars ps)) qs
-trace_well_formed e s offset i [] qs h = ap (λ (n : ℕ). trace_from Decimal e s n i qs) (sym (add-zero offset)) ∙ ap (λ (n : ℕ). trace_from Decimal e s (offset + 0) n qs) (sym (add-zero i))
-trace_well_formed e s offset i (well_formed n cs ∷ ps) qs h =
+pub trace_well_formed : (ref : Reference) (e : Coding) (s : EscapeState) (offset i : ℕ) (ps qs : List Piece) → AreWellFormed ps
+    → trace_from ref e s offset i (ps ++ qs) ≡ open_items ref e s i (scalars ps) ++ trace_from ref e (last_set e s (scalars ps)) (offset + sizes ps) (i + length (scalars ps)) qs
+trace_well_formed ref e s offset i [] qs h = ap (λ (n : ℕ). trace_from ref e s n i qs) (sym (add-zero offset)) ∙ ap (λ (n : ℕ). trace_from ref e s (offset + 0) n qs) (sym (add-zero i))
+trace_well_formed ref e s offset i (well_formed n cs ∷ ps) qs h =
     let t = scalars ps in
     let at : offset + n + sizes ps ≡ offset + (n + sizes ps) = omega arith in
     let index : i + length cs + length t ≡ i + length (cs ++ t) = omega (arith, length-append cs t) in
-    let rest = trace_from Decimal e (last_set e s (cs ++ t)) (offset + (n + sizes ps)) (i + length (cs ++ t)) qs in
-    ap (λ x. open_items Decimal e s i cs ++ x)
-    (trace_well_formed e (last_set e s cs) (offset + n) (i + length cs) ps qs h.1
-    ∙ ap (λ (q : EscapeState). open_items Decimal e (last_set e s cs) (i + length cs) t ++ trace_from Decimal e q (offset + n + sizes ps) (i + length cs + length t) qs) (sym (last_set-append e s cs t))
-    ∙ ap (λ (k : ℕ). open_items Decimal e (last_set e s cs) (i + length cs) t ++ trace_from Decimal e (last_set e s (cs ++ t)) k (i + length cs + length t) qs) at
-    ∙ ap (λ (k : ℕ). open_items Decimal e (last_set e s cs) (i + length cs) t ++ trace_from Decimal e (last_set e s (cs ++ t)) (offset + (n + sizes ps)) k qs) index)
-    ∙ sym (append_assoc (open_items Decimal e s i cs) (open_items Decimal e (last_set e s cs) (i + length cs) t) rest)
-    ∙ ap (λ x. x ++ rest) (sym (open_items-append e s i cs t))
-trace_well_formed e s offset i (malformed n ∷ ps) qs h = absurd h.0
+    let rest = trace_from ref e (last_set e s (cs ++ t)) (offset + (n + sizes ps)) (i + length (cs ++ t)) qs in
+    ap (λ x. open_items ref e s i cs ++ x)
+    (trace_well_formed ref e (last_set e s cs) (offset + n) (i + length cs) ps qs h.1
+    ∙ ap (λ (q : EscapeState). open_items ref e (last_set e s cs) (i + length cs) t ++ trace_from ref e q (offset + n + sizes ps) (i + length cs + length t) qs) (sym (last_set-append e s cs t))
+    ∙ ap (λ (k : ℕ). open_items ref e (last_set e s cs) (i + length cs) t ++ trace_from ref e (last_set e s (cs ++ t)) k (i + length cs + length t) qs) at
+    ∙ ap (λ (k : ℕ). open_items ref e (last_set e s cs) (i + length cs) t ++ trace_from ref e (last_set e s (cs ++ t)) (offset + (n + sizes ps)) k qs) index)
+    ∙ sym (append_assoc (open_items ref e s i cs) (open_items ref e (last_set e s cs) (i + length cs) t) rest)
+    ∙ ap (λ x. x ++ rest) (sym (open_items-append ref e s i cs t))
+trace_well_formed ref e s offset i (malformed n ∷ ps) qs h = absurd h.0
 
 -- What pieces keep.
 pub prefix_pieces : (ps qs : List Piece) → ArePieces (ps ++ qs) → ArePieces ps
@@ -86,8 +86,8 @@ pub replacement_text : chars (239 ∷ 191 ∷ 189 ∷ []) ≡ 0xFFFD ∷ []
 unfolding chars
 replacement_text = refl
 
-pub open_replacement : (e : Coding) (s : EscapeState) (i : ℕ) → open_items Decimal e s i (0xFFFD ∷ []) ≡ whole_items Decimal e false s i (chars (239 ∷ 191 ∷ 189 ∷ []))
-open_replacement e s i = rw replacement_text (sym (append-nil (open_items Decimal e s i (0xFFFD ∷ []))))
+pub open_replacement : (ref : Reference) (e : Coding) (s : EscapeState) (i : ℕ) → open_items ref e s i (0xFFFD ∷ []) ≡ whole_items ref e false s i (chars (239 ∷ 191 ∷ 189 ∷ []))
+open_replacement ref e s i = rw replacement_text (sym (append-nil (open_items ref e s i (0xFFFD ∷ []))))
 
 -- What a call of a decoder took, in words of the text that it wrote. W says which text was written.
 
@@ -198,19 +198,19 @@ module _ (before after : DecoderState) (src : List ℕ) (last : Bool) (read : �
   well_formed_sound c c' h i r b l = record { index = omega (arith, well_formed_fits c h, i, r); bad = b; lost = l }
 
   -- what was still to be written is the text, then what is still to be written now
-  well_formed_owed : (e : Coding) (s s' : EscapeState) (c c' : Counts) → before.pending ≤ c.read → s' ≡ last_set e s t → c'.index ≡ c.index + length t → c'.read ≡ c.read + read
-      → (r : List ℕ) → (last ≡ true → r ≡ []) → trace_to_write before e s c (src ++ r) ≡ whole_items Decimal e false s c.index t ++ trace_to_write after e s' c' (drop read src ++ r)
-  well_formed_owed e s s' c c' fits set_is index_is read_is r h =
+  well_formed_owed : (ref : Reference) (e : Coding) (s s' : EscapeState) (c c' : Counts) → before.pending ≤ c.read → s' ≡ last_set e s t → c'.index ≡ c.index + length t → c'.read ≡ c.read + read
+      → (r : List ℕ) → (last ≡ true → r ≡ []) → trace_to_write ref before e s c (src ++ r) ≡ whole_items ref e false s c.index t ++ trace_to_write ref after e s' c' (drop read src ++ r)
+  well_formed_owed ref e s s' c c' fits set_is index_is read_is r h =
       let rest = after.pieces (drop read src ++ r) in
       let at = c.read - before.pending in
       let offset_equals : at + sizes k.taken ≡ c'.read - after.pending = omega (arith, k.counted, fits, read_is) in
-      ap (trace_from Decimal e s at c.index) (k.rest r h)
-      ∙ trace_well_formed e s at c.index k.taken rest k.fine
-      ∙ ap (λ (x : List ℕ). open_items Decimal e s c.index x ++ trace_from Decimal e (last_set e s x) (at + sizes k.taken) (c.index + length x) rest) (sym k.text_is)
-      ∙ ap (λ (q : EscapeState). open_items Decimal e s c.index t ++ trace_from Decimal e q (at + sizes k.taken) (c.index + length t) rest) (sym set_is)
-      ∙ ap (λ (n : ℕ). open_items Decimal e s c.index t ++ trace_from Decimal e s' n (c.index + length t) rest) offset_equals
-      ∙ ap (λ (n : ℕ). open_items Decimal e s c.index t ++ trace_from Decimal e s' (c'.read - after.pending) n rest) (sym index_is)
-      ∙ ap (λ x. x ++ trace_to_write after e s' c' (drop read src ++ r)) (sym (append-nil (open_items Decimal e s c.index t)))
+      ap (trace_from ref e s at c.index) (k.rest r h)
+      ∙ trace_well_formed ref e s at c.index k.taken rest k.fine
+      ∙ ap (λ (x : List ℕ). open_items ref e s c.index x ++ trace_from ref e (last_set e s x) (at + sizes k.taken) (c.index + length x) rest) (sym k.text_is)
+      ∙ ap (λ (q : EscapeState). open_items ref e s c.index t ++ trace_from ref e q (at + sizes k.taken) (c.index + length t) rest) (sym set_is)
+      ∙ ap (λ (n : ℕ). open_items ref e s c.index t ++ trace_from ref e s' n (c.index + length t) rest) offset_equals
+      ∙ ap (λ (n : ℕ). open_items ref e s c.index t ++ trace_from ref e s' (c'.read - after.pending) n rest) (sym index_is)
+      ∙ ap (λ x. x ++ trace_to_write ref after e s' c' (drop read src ++ r)) (sym (append-nil (open_items ref e s c.index t)))
 
   -- how many pieces are left
   well_formed_left : 0 < length k.taken → length (after.pieces (drop read src)) < length (before.pieces src)
@@ -220,58 +220,58 @@ module _ (before after : DecoderState) (src : List ℕ) (last : Bool) (read : �
       omega (arith, ap length e, length-append k.taken (after.pieces (drop read src)), some)
 
 -- at the end nothing is left to write
-pub none_owed : {need : ℕ} (after : DecoderState) (e : Coding) (s : EscapeState) (c : Counts) → IsCoding need e → s ≡ Ascii → after.pieces [] ≡ [] → trace_to_write after e s c [] ≡ []
-none_owed after e s c law set_is none =
-    ap (trace_from Decimal e s (c.read - after.pending) c.index) none ∙ ap (closing e) set_is ∙ ap (map Byte) (law.same Ascii)
+pub none_owed : (ref : Reference) {need : ℕ} (after : DecoderState) (e : Coding) (s : EscapeState) (c : Counts) → IsCoding need e → s ≡ Ascii → after.pieces [] ≡ [] → trace_to_write ref after e s c [] ≡ []
+none_owed ref after e s c law set_is none =
+    ap (trace_from ref e s (c.read - after.pending) c.index) none ∙ ap (closing e) set_is ∙ ap (map Byte) (law.same Ascii)
 
-at_end : {need : ℕ} (before after : DecoderState) (src : List ℕ) (read : ℕ) (t : List ℕ) (k : WellFormedCall before after src true read t)
+at_end : (ref : Reference) {need : ℕ} (before after : DecoderState) (src : List ℕ) (read : ℕ) (t : List ℕ) (k : WellFormedCall before after src true read t)
     (e : Coding) (s s' : EscapeState) (c c' : Counts) → IsCoding need e → drop read src ≡ [] → after.pieces [] ≡ [] → s' ≡ Ascii
-    → trace_to_write before e s c (src ++ []) ≡ whole_items Decimal e true s c.index t ++ trace_to_write after e s' c' []
-at_end before after src read t k e s s' c c' law all none set_is =
+    → trace_to_write ref before e s c (src ++ []) ≡ whole_items ref e true s c.index t ++ trace_to_write ref after e s' c' []
+at_end ref before after src read t k e s s' c c' law all none set_is =
     let at = c.read - before.pending in
-    ap (trace_from Decimal e s at c.index) (k.rest [] (λ _. refl))
-    ∙ ap (λ x. trace_from Decimal e s at c.index (k.taken ++ x)) (ap (λ x. after.pieces (x ++ [])) all ∙ none)
-    ∙ trace_well_formed e s at c.index k.taken [] k.fine
-    ∙ ap (λ (x : List ℕ). open_items Decimal e s c.index x ++ closing e (last_set e s x)) (sym k.text_is)
-    ∙ sym (append-nil (whole_items Decimal e true s c.index t))
-    ∙ ap (λ x. whole_items Decimal e true s c.index t ++ x) (sym (none_owed after e s' c' law set_is none))
+    ap (trace_from ref e s at c.index) (k.rest [] (λ _. refl))
+    ∙ ap (λ x. trace_from ref e s at c.index (k.taken ++ x)) (ap (λ x. after.pieces (x ++ [])) all ∙ none)
+    ∙ trace_well_formed ref e s at c.index k.taken [] k.fine
+    ∙ ap (λ (x : List ℕ). open_items ref e s c.index x ++ closing e (last_set e s x)) (sym k.text_is)
+    ∙ sym (append-nil (whole_items ref e true s c.index t))
+    ∙ ap (λ x. whole_items ref e true s c.index t ++ x) (sym (none_owed ref after e s' c' law set_is none))
 
 -- what was still to be written before a call that read all
-pub ended_owed : {need : ℕ} (before after : DecoderState) (src : List ℕ) (last : Bool) (read : ℕ) (t : List ℕ) (k : WellFormedCall before after src last read t)
+pub ended_owed : (ref : Reference) {need : ℕ} (before after : DecoderState) (src : List ℕ) (last : Bool) (read : ℕ) (t : List ℕ) (k : WellFormedCall before after src last read t)
     (e : Coding) (s s' : EscapeState) (c c' : Counts) → IsCoding need e → before.pending ≤ c.read → drop read src ≡ [] → (last ≡ true → after.pieces [] ≡ [])
     → (last ≡ false → s' ≡ last_set e s t) → (last ≡ true → s' ≡ Ascii)
     → c'.index ≡ c.index + length t → c'.read ≡ c.read + read
-    → (r : List ℕ) → (last ≡ true → r ≡ []) → trace_to_write before e s c (src ++ r) ≡ whole_items Decimal e last s c.index t ++ trace_to_write after e s' c' (drop read src ++ r)
-ended_owed before after src false read t k e s s' c c' law fits all none set_is ascii index_is read_is r h =
-    well_formed_owed before after src false read t k e s s' c c' fits (set_is refl) index_is read_is r h
-ended_owed before after src true read t k e s s' c c' law fits all none set_is ascii index_is read_is r h =
-    ap (λ x. trace_to_write before e s c (src ++ x)) (h refl)
-    ∙ at_end before after src read t k e s s' c c' law all (none refl) (ascii refl)
-    ∙ ap (λ x. whole_items Decimal e true s c.index t ++ trace_to_write after e s' c' x) (sym (ap (λ x. x ++ r) all ∙ h refl))
+    → (r : List ℕ) → (last ≡ true → r ≡ []) → trace_to_write ref before e s c (src ++ r) ≡ whole_items ref e last s c.index t ++ trace_to_write ref after e s' c' (drop read src ++ r)
+ended_owed ref before after src false read t k e s s' c c' law fits all none set_is ascii index_is read_is r h =
+    well_formed_owed before after src false read t k ref e s s' c c' fits (set_is refl) index_is read_is r h
+ended_owed ref before after src true read t k e s s' c c' law fits all none set_is ascii index_is read_is r h =
+    ap (λ x. trace_to_write ref before e s c (src ++ x)) (h refl)
+    ∙ at_end ref before after src read t k e s s' c c' law all (none refl) (ascii refl)
+    ∙ ap (λ x. whole_items ref e true s c.index t ++ trace_to_write ref after e s' c' x) (sym (ap (λ x. x ++ r) all ∙ h refl))
 
 -- the first part of what was still to be written before a call that failed while it wrote
-pub ended_prefix : (before after : DecoderState) (src : List ℕ) (last : Bool) (read : ℕ) (t : List ℕ) (k : WellFormedCall before after src last read t)
+pub ended_prefix : (ref : Reference) (before after : DecoderState) (src : List ℕ) (last : Bool) (read : ℕ) (t : List ℕ) (k : WellFormedCall before after src last read t)
     (e : Coding) (s : EscapeState) (c : Counts) → before.pending ≤ c.read → drop read src ≡ [] → (last ≡ true → after.pieces [] ≡ [])
-    → (r : List ℕ) → (last ≡ true → r ≡ []) → (rest : List Item) × (trace_to_write before e s c (src ++ r) ≡ whole_items Decimal e last s c.index t ++ rest)
-ended_prefix before after src false read t k e s c fits all none r h = (
-  trace_to_write after e (last_set e s t) (record c { read = c.read + read; index = c.index + length t }) (drop read src ++ r),
-  well_formed_owed before after src false read t k e s (last_set e s t) c (record c { read = c.read + read; index = c.index + length t }) fits refl refl refl r h,
+    → (r : List ℕ) → (last ≡ true → r ≡ []) → (rest : List Item) × (trace_to_write ref before e s c (src ++ r) ≡ whole_items ref e last s c.index t ++ rest)
+ended_prefix ref before after src false read t k e s c fits all none r h = (
+  trace_to_write ref after e (last_set e s t) (record c { read = c.read + read; index = c.index + length t }) (drop read src ++ r),
+  well_formed_owed before after src false read t k ref e s (last_set e s t) c (record c { read = c.read + read; index = c.index + length t }) fits refl refl refl r h,
 )
-ended_prefix before after src true read t k e s c fits all none r h =
+ended_prefix ref before after src true read t k e s c fits all none r h =
     let at = c.read - before.pending in (
       [],
-      ap (λ x. trace_to_write before e s c (src ++ x)) (h refl)
-          ∙ ap (trace_from Decimal e s at c.index) (k.rest [] (λ _. refl))
-          ∙ ap (λ x. trace_from Decimal e s at c.index (k.taken ++ x)) (ap (λ x. after.pieces (x ++ [])) all ∙ none refl)
-          ∙ trace_well_formed e s at c.index k.taken [] k.fine
-          ∙ ap (λ (x : List ℕ). open_items Decimal e s c.index x ++ closing e (last_set e s x)) (sym k.text_is)
-          ∙ sym (append-nil (whole_items Decimal e true s c.index t)),
+      ap (λ x. trace_to_write ref before e s c (src ++ x)) (h refl)
+          ∙ ap (trace_from ref e s at c.index) (k.rest [] (λ _. refl))
+          ∙ ap (λ x. trace_from ref e s at c.index (k.taken ++ x)) (ap (λ x. after.pieces (x ++ [])) all ∙ none refl)
+          ∙ trace_well_formed ref e s at c.index k.taken [] k.fine
+          ∙ ap (λ (x : List ℕ). open_items ref e s c.index x ++ closing e (last_set e s x)) (sym k.text_is)
+          ∙ sym (append-nil (whole_items ref e true s c.index t)),
     )
 
-pub full_owed : (before after : DecoderState) (src : List ℕ) (last : Bool) (read : ℕ) (t : List ℕ) (k : WellFormedCall before after src last read t)
+pub full_owed : (ref : Reference) (before after : DecoderState) (src : List ℕ) (last : Bool) (read : ℕ) (t : List ℕ) (k : WellFormedCall before after src last read t)
     (e : Coding) (s s' : EscapeState) (c c' : Counts) → before.pending ≤ c.read → s' ≡ last_set e s t → c'.index ≡ c.index + length t → c'.read ≡ c.read + read
-    → (r : List ℕ) → (last ≡ true → r ≡ []) → trace_to_write before e s c (src ++ r) ≡ whole_items Decimal e false s c.index t ++ trace_to_write after e s' c' (drop read src ++ r)
-full_owed before after src last read t k = well_formed_owed before after src last read t k
+    → (r : List ℕ) → (last ≡ true → r ≡ []) → trace_to_write ref before e s c (src ++ r) ≡ whole_items ref e false s c.index t ++ trace_to_write ref after e s' c' (drop read src ++ r)
+full_owed ref before after src last read t k = well_formed_owed before after src last read t k ref
 
 some_taken : (ps : List Piece) → 0 < length (scalars ps) → 0 < length ps
 some_taken [] h = h
@@ -292,45 +292,45 @@ module _ (before after : DecoderState) (src : List ℕ) (last : Bool) (read a b 
   pub malformed_offset : (c : Counts) → AreSound before.pending c → a + b ≤ c.read + read
   malformed_offset c h = omega (arith, h.index, k.counted)
 
-  malformed_is_first : (e : Coding) (s : EscapeState) (c : Counts) (offset : ℕ) → before.pending ≤ c.read → offset ≡ c.read + read - b - a
-      → (r : List ℕ) → (last ≡ true → r ≡ []) → trace_to_write before e s c (src ++ r) ≡ whole_items Decimal e false s c.index t ++ ((MalformedAt offset a ∷ open_items Decimal e (last_set e s t) (c.index + length t) (0xFFFD ∷ []))
-      ++ trace_from Decimal e (e.set (last_set e s t) 0xFFFD) (offset + a) (c.index + length t + 1) (after.pieces (drop read src ++ r)))
-  malformed_is_first e s c offset fits offset_is r h =
+  malformed_is_first : (ref : Reference) (e : Coding) (s : EscapeState) (c : Counts) (offset : ℕ) → before.pending ≤ c.read → offset ≡ c.read + read - b - a
+      → (r : List ℕ) → (last ≡ true → r ≡ []) → trace_to_write ref before e s c (src ++ r) ≡ whole_items ref e false s c.index t ++ ((MalformedAt offset a ∷ open_items ref e (last_set e s t) (c.index + length t) (0xFFFD ∷ []))
+      ++ trace_from ref e (e.set (last_set e s t) 0xFFFD) (offset + a) (c.index + length t + 1) (after.pieces (drop read src ++ r)))
+  malformed_is_first ref e s c offset fits offset_is r h =
       let rest = after.pieces (drop read src ++ r) in
       let at = c.read - before.pending in
       let offset_equals : at + sizes k.prefix ≡ offset = omega (arith, k.counted, fits, offset_is) in
-      ap (trace_from Decimal e s at c.index) (k.rest r h)
-      ∙ trace_well_formed e s at c.index k.prefix (malformed a ∷ rest) k.fine
-      ∙ ap (λ (x : List ℕ). open_items Decimal e s c.index x ++ trace_from Decimal e (last_set e s x) (at + sizes k.prefix) (c.index + length x) (malformed a ∷ rest)) (sym k.text_is)
-      ∙ ap (λ (n : ℕ). open_items Decimal e s c.index t ++ trace_from Decimal e (last_set e s t) n (c.index + length t) (malformed a ∷ rest)) offset_equals
-      ∙ ap (λ x. x ++ trace_from Decimal e (last_set e s t) offset (c.index + length t) (malformed a ∷ rest)) (sym (append-nil (open_items Decimal e s c.index t)))
+      ap (trace_from ref e s at c.index) (k.rest r h)
+      ∙ trace_well_formed ref e s at c.index k.prefix (malformed a ∷ rest) k.fine
+      ∙ ap (λ (x : List ℕ). open_items ref e s c.index x ++ trace_from ref e (last_set e s x) (at + sizes k.prefix) (c.index + length x) (malformed a ∷ rest)) (sym k.text_is)
+      ∙ ap (λ (n : ℕ). open_items ref e s c.index t ++ trace_from ref e (last_set e s t) n (c.index + length t) (malformed a ∷ rest)) offset_equals
+      ∙ ap (λ x. x ++ trace_from ref e (last_set e s t) offset (c.index + length t) (malformed a ∷ rest)) (sym (append-nil (open_items ref e s c.index t)))
 
   -- what was still to be written is the text, the malformed sequence, then what is still to be written now
-  pub malformed_owed : (e : Coding) (s s1 s' : EscapeState) (c c1 c' : Counts) (offset : ℕ) → before.pending ≤ c.read → offset ≡ c.read + read - b - a
+  pub malformed_owed : (ref : Reference) (e : Coding) (s s1 s' : EscapeState) (c c1 c' : Counts) (offset : ℕ) → before.pending ≤ c.read → offset ≡ c.read + read - b - a
       → s1 ≡ last_set e s t → c1.index ≡ c.index + length t → s' ≡ e.set s1 0xFFFD → c'.index ≡ c1.index + 1 → c'.read ≡ c.read + read
-      → (r : List ℕ) → (last ≡ true → r ≡ []) → trace_to_write before e s c (src ++ r)
-      ≡ (whole_items Decimal e false s c.index t ++ (MalformedAt offset a ∷ open_items Decimal e s1 c1.index (0xFFFD ∷ []))) ++ trace_to_write after e s' c' (drop read src ++ r)
-  malformed_owed e s s1 s' c c1 c' offset fits offset_is set1_is index1_is set_is index_is read_is r h =
+      → (r : List ℕ) → (last ≡ true → r ≡ []) → trace_to_write ref before e s c (src ++ r)
+      ≡ (whole_items ref e false s c.index t ++ (MalformedAt offset a ∷ open_items ref e s1 c1.index (0xFFFD ∷ []))) ++ trace_to_write ref after e s' c' (drop read src ++ r)
+  malformed_owed ref e s s1 s' c c1 c' offset fits offset_is set1_is index1_is set_is index_is read_is r h =
       let rest = after.pieces (drop read src ++ r) in
-      let w = whole_items Decimal e false s c.index t in
+      let w = whole_items ref e false s c.index t in
       let offset_equals : offset + a ≡ c'.read - after.pending = omega (arith, k.counted, k.pending, fits, offset_is, read_is) in
-      malformed_is_first e s c offset fits offset_is r h
-      ∙ ap (λ (q : EscapeState). w ++ ((MalformedAt offset a ∷ open_items Decimal e q (c.index + length t) (0xFFFD ∷ [])) ++ trace_from Decimal e (e.set q 0xFFFD) (offset + a) (c.index + length t + 1) rest)) (sym set1_is)
-      ∙ ap (λ (n : ℕ). w ++ ((MalformedAt offset a ∷ open_items Decimal e s1 n (0xFFFD ∷ [])) ++ trace_from Decimal e (e.set s1 0xFFFD) (offset + a) (n + 1) rest)) (sym index1_is)
-      ∙ ap (λ (q : EscapeState). w ++ ((MalformedAt offset a ∷ open_items Decimal e s1 c1.index (0xFFFD ∷ [])) ++ trace_from Decimal e q (offset + a) (c1.index + 1) rest)) (sym set_is)
-      ∙ ap (λ (n : ℕ). w ++ ((MalformedAt offset a ∷ open_items Decimal e s1 c1.index (0xFFFD ∷ [])) ++ trace_from Decimal e s' n (c1.index + 1) rest)) offset_equals
-      ∙ ap (λ (n : ℕ). w ++ ((MalformedAt offset a ∷ open_items Decimal e s1 c1.index (0xFFFD ∷ [])) ++ trace_from Decimal e s' (c'.read - after.pending) n rest)) (sym index_is)
-      ∙ sym (append_assoc w (MalformedAt offset a ∷ open_items Decimal e s1 c1.index (0xFFFD ∷ [])) (trace_to_write after e s' c' (drop read src ++ r)))
+      malformed_is_first ref e s c offset fits offset_is r h
+      ∙ ap (λ (q : EscapeState). w ++ ((MalformedAt offset a ∷ open_items ref e q (c.index + length t) (0xFFFD ∷ [])) ++ trace_from ref e (e.set q 0xFFFD) (offset + a) (c.index + length t + 1) rest)) (sym set1_is)
+      ∙ ap (λ (n : ℕ). w ++ ((MalformedAt offset a ∷ open_items ref e s1 n (0xFFFD ∷ [])) ++ trace_from ref e (e.set s1 0xFFFD) (offset + a) (n + 1) rest)) (sym index1_is)
+      ∙ ap (λ (q : EscapeState). w ++ ((MalformedAt offset a ∷ open_items ref e s1 c1.index (0xFFFD ∷ [])) ++ trace_from ref e q (offset + a) (c1.index + 1) rest)) (sym set_is)
+      ∙ ap (λ (n : ℕ). w ++ ((MalformedAt offset a ∷ open_items ref e s1 c1.index (0xFFFD ∷ [])) ++ trace_from ref e s' n (c1.index + 1) rest)) offset_equals
+      ∙ ap (λ (n : ℕ). w ++ ((MalformedAt offset a ∷ open_items ref e s1 c1.index (0xFFFD ∷ [])) ++ trace_from ref e s' (c'.read - after.pending) n rest)) (sym index_is)
+      ∙ sym (append_assoc w (MalformedAt offset a ∷ open_items ref e s1 c1.index (0xFFFD ∷ [])) (trace_to_write ref after e s' c' (drop read src ++ r)))
 
   -- the parts of it, where a device failed
-  pub malformed_text_prefix : (e : Coding) (s : EscapeState) (c : Counts) → before.pending ≤ c.read → (r : List ℕ) → (last ≡ true → r ≡ []) → (rest : List Item) × (trace_to_write before e s c (src ++ r) ≡ whole_items Decimal e false s c.index t ++ rest)
-  malformed_text_prefix e s c fits r h = (_, malformed_is_first e s c (c.read + read - b - a) fits refl r h)
+  pub malformed_text_prefix : (ref : Reference) (e : Coding) (s : EscapeState) (c : Counts) → before.pending ≤ c.read → (r : List ℕ) → (last ≡ true → r ≡ []) → (rest : List Item) × (trace_to_write ref before e s c (src ++ r) ≡ whole_items ref e false s c.index t ++ rest)
+  malformed_text_prefix ref e s c fits r h = (_, malformed_is_first ref e s c (c.read + read - b - a) fits refl r h)
 
-  pub malformed_first_piece : (e : Coding) (s s1 : EscapeState) (c c1 : Counts) (offset : ℕ) → before.pending ≤ c.read → offset ≡ c.read + read - b - a → s1 ≡ last_set e s t → c1.index ≡ c.index + length t
-      → (r : List ℕ) → (last ≡ true → r ≡ []) → (rest : List Item) × (trace_to_write before e s c (src ++ r) ≡ (whole_items Decimal e false s c.index t ++ (MalformedAt offset a ∷ open_items Decimal e s1 c1.index (0xFFFD ∷ []))) ++ rest)
-  malformed_first_piece e s s1 c c1 offset fits offset_is set1_is index1_is r h = (
-    trace_to_write after e (e.set s1 0xFFFD) (record c { read = c.read + read; index = c1.index + 1 }) (drop read src ++ r),
-    malformed_owed e s s1 (e.set s1 0xFFFD) c c1 (record c { read = c.read + read; index = c1.index + 1 }) offset fits offset_is set1_is index1_is refl refl refl r h,
+  pub malformed_first_piece : (ref : Reference) (e : Coding) (s s1 : EscapeState) (c c1 : Counts) (offset : ℕ) → before.pending ≤ c.read → offset ≡ c.read + read - b - a → s1 ≡ last_set e s t → c1.index ≡ c.index + length t
+      → (r : List ℕ) → (last ≡ true → r ≡ []) → (rest : List Item) × (trace_to_write ref before e s c (src ++ r) ≡ (whole_items ref e false s c.index t ++ (MalformedAt offset a ∷ open_items ref e s1 c1.index (0xFFFD ∷ []))) ++ rest)
+  malformed_first_piece ref e s s1 c c1 offset fits offset_is set1_is index1_is r h = (
+    trace_to_write ref after e (e.set s1 0xFFFD) (record c { read = c.read + read; index = c1.index + 1 }) (drop read src ++ r),
+    malformed_owed ref e s s1 (e.set s1 0xFFFD) c c1 (record c { read = c.read + read; index = c1.index + 1 }) offset fits offset_is set1_is index1_is refl refl refl r h,
   )
 
   pub malformed_left : length (after.pieces (drop read src)) < length (before.pieces src)

@@ -1,7 +1,7 @@
 -- What a call of an encoder says of items, by the index that its caller has counted.
 use Rattle.std.proofs.Common.{◌≡◌, ℕ, ◌+◌, ◌≤◌, ◌<◌, Bool, List, ◌∷◌, ◌++◌, map, length, take, ap, subst, arith, length-append}
 use Rattle.std.proofs.lemmas.List.{length-map, length-take-le}
-use Rattle.encoding_mem.specs.declared.reference.Reference.TheVariants.{Decimal}
+use Rattle.encoding_mem.specs.declared.reference.Reference.{Reference}
 use Rattle.encoding_mem.specs.Coding.{Coding, IsCoding}
 use Rattle.encoding_mem.specs.Items.{Item, Byte, whole_items}
 use Rattle.encoding_mem.specs.Encoding.{Encodes, reported_item}
@@ -9,13 +9,13 @@ use Rattle.encoding_mem.specs.laws.Encoding.{encoded_items}
 use Rattle.encoding_mem.specs.declared.form.EscapeState.{EscapeState}
 use Rattle.encoding_mem.specs.declared.encoder_result.EncoderResult.{EncoderResult}
 
-pub turn_items : {need : ℕ} (e : Coding) (last : Bool) (outcome : EncoderResult) (s : EscapeState) (text written : List ℕ) (s' : EscapeState) (rest : List ℕ) (i i' : ℕ) → IsCoding need e
+pub turn_items : (ref : Reference) {need : ℕ} (e : Coding) (last : Bool) (outcome : EncoderResult) (s : EscapeState) (text written : List ℕ) (s' : EscapeState) (rest : List ℕ) (i i' : ℕ) → IsCoding need e
     → Encodes e last outcome s text written s' rest → i' + length rest ≡ i + length text
-    → whole_items Decimal e last s i text ≡ map Byte written ++ (reported_item Decimal i' outcome ++ whole_items Decimal e last s' i' rest)
-turn_items e last outcome s text written s' rest i i' laws call passed =
-    let k = encoded_items Decimal e last outcome s text written s' rest laws call in
+    → whole_items ref e last s i text ≡ map Byte written ++ (reported_item ref i' outcome ++ whole_items ref e last s' i' rest)
+turn_items ref e last outcome s text written s' rest i i' laws call passed =
+    let k = encoded_items ref e last outcome s text written s' rest laws call in
     let at : i + length k.prefix ≡ i' = omega (arith, ap length k.split, length-append k.prefix rest) in
-    let P : ℕ → Type 0 = λ n. whole_items Decimal e last s i text ≡ map Byte written ++ (reported_item Decimal n outcome ++ whole_items Decimal e last s' n rest) in
+    let P : ℕ → Type 0 = λ n. whole_items ref e last s i text ≡ map Byte written ++ (reported_item ref n outcome ++ whole_items ref e last s' n rest) in
     subst P at (k.items i)
 
 -- fewer items are still to be written

@@ -4,7 +4,6 @@ use Rattle.std.specs.Io.KnownBytes.{Consumes, IsAtEnd}
 use Rattle.std.specs.List.{flat_map}
 use Rattle.std.specs.Str.{chars, IsUtf8}
 use Rattle.std.proofs.lemmas.Str.{encodes-chars}
-use Rattle.encoding_mem.specs.declared.reference.Reference.TheVariants.{Decimal}
 use Rattle.encoding_mem.specs.Piece.{text, AreWellFormed}
 use Rattle.encoding_mem.specs.Coding.{AllMapped, output}
 use Rattle.encoding_mem.specs.laws.Encoding.{utf8_output}
@@ -18,6 +17,7 @@ use Rattle.encoding_mem.specs.Utf8.{first_piece_utf8, pieces_utf8}
 use Rattle.encoding_mem.specs.laws.Utf8.{pieces_utf8-text}
 use Rattle.encoding_mem.specs.laws.Pieces.{pieces_by-nil}
 use Rattle.recode_log.specs.Line.{line_bytes}
+use Rattle.recode.specs.Policy.{form_of}
 use Rattle.recode.specs.TaggedByte.{IsPrefix, tagged}
 use Rattle.recode.specs.Job.{IsValidJob, Faithful, input_pieces, input_text, target_of, output_of, log_of, trace}
 use Rattle.recode.specs.Session.{Completes, Fails, IsConverted}
@@ -44,7 +44,7 @@ text_is j x kept from u = ap (λ m. marked_pieces j.tables.now m j.from x) kept 
 
 pub kept_output : (j : Job) (x : List ℕ) → j.mark ≡ Keep → IsUtf8Encoding j.from → IsUtf8Encoding j.to → IsUtf8 x → output_of j x ≡ x
 kept_output j x kept from to u =
-    ap (λ e. output Decimal e (input_text j x)) (coding_of_utf8 j.tables.now j.to to) ∙ utf8_output Decimal (input_text j x)
+    ap (λ e. output (form_of j.policy) e (input_text j x)) (coding_of_utf8 j.tables.now j.to to) ∙ utf8_output (form_of j.policy) (input_text j x)
     ∙ ap encode_utf8_all (ap text (text_is j x kept from u) ∙ text_pieces-text (chars x)) ∙ encodes-chars x u
 
 pub kept_log : (j : Job) (x : List ℕ) → j.mark ≡ Keep → IsUtf8Encoding j.from → IsUtf8Encoding j.to → IsUtf8 x → log_of j x ≡ []

@@ -2,12 +2,12 @@
 use Rattle.std.proofs.Common.{◌≡◌, ◌⊎◌, ◌↔◌, ℕ, suc, ◌+◌, ◌-◌, ◌≤◌, ◌<◌, Bool, true, false, List, [], ◌∷◌, ◌++◌, length, drop, Some, refl, sym, ◌∙◌, ap, subst, arith, append_assoc, length-append, add-zero, inl, inr}
 use Rattle.std.specs.Io.KnownBytes.{Appends, Consumes}
 use Rattle.std.specs.List.{flat_map}
-use Rattle.std.proofs.KnownBytes.{Appends-nil, Appends-trans, Consumes-nil, Consumes-trans}
+use Rattle.std.proofs.KnownBytes.{Appends-kept, Appends-nil, Appends-trans, Consumes-nil, Consumes-trans}
 use Rattle.std.proofs.lemmas.Bool.{false≢true}
 use Rattle.std.proofs.lemmas.Grind.{flat_map-append}
 use Rattle.std.proofs.lemmas.List.{append_cancel_right}
-use Rattle.encoding_mem.specs.declared.reference.Reference.TheVariants.{Decimal}
-use Rattle.encoding_mem.specs.Piece.{Piece, well_formed, malformed, sizes, scalars, text, text_of, first, AreWellFormed}
+use Rattle.encoding_mem.specs.declared.reference.Reference.{Reference}
+use Rattle.encoding_mem.specs.Piece.{ArePieces, Piece, well_formed, malformed, sizes, scalars, text, text_of, first, AreWellFormed}
 use Rattle.encoding_mem.specs.Decoding.{AreBytes, DecoderState, IsDecided, IsFixed, Waits}
 use Rattle.encoding_mem.specs.Coding.{Coding, last_set, open_from, whole_from}
 use Rattle.encoding_mem.specs.Items.{Item, trace_from}
@@ -17,18 +17,20 @@ use Rattle.recode_log.specs.Line.{line_bytes}
 use Rattle.recode_log.specs.declared.line.LogLine.{LogLine}
 use Rattle.recode_log.specs.declared.line.LogLine.TheVariants.{Bad}
 use Rattle.recode.specs.Job.{input_pieces, log_lines, lost_in, target_of}
-use Rattle.recode.specs.Latency.{StandsAt}
+use Rattle.recode.specs.Latency.{StandsAt, WroteDecided}
+use Rattle.recode.specs.Policy.{form_of}
 use Rattle.recode.specs.State.{State, WillBeFaithful, to_write}
 use Rattle.recode.specs.Verdict.{IsFaithfulFor}
-use Rattle.recode.specs.Step.{Advances, IsNearlyDecided, StepsOn}
+use Rattle.recode.specs.Step.{Advances, HasRun, IsNearlyDecided, StepsOn}
 use Rattle.recode.specs.Work.{TakesCalls}
-use Rattle.recode.specs.Streams.{Streams}
+use Rattle.recode.specs.Streams.{KeepsWritten, Streams, Written}
 use Rattle.recode.specs.TaggedByte.{IsPrefix, lines, tagged, outputs}
 use Rattle.recode.specs.TraceToWrite.{AreSound, trace_to_write}
 use Rattle.recode.specs.WrittenItems.{WritesItemsFor}
 use Rattle.recode.specs.Session.{IsNewSession, View}
 use Rattle.recode.specs.declared.target.Counts.{Counts}
 use Rattle.recode.specs.declared.job.Job.{Job}
+use Rattle.recode.specs.declared.job.Policy.{Policy}
 use Rattle.recode.proofs.DecoderCallLemmas.{MalformedCall, WellFormedCall, last_set-append, sizes-append}
 use Rattle.recode.proofs.TraceLemmas.{lines-append, tagged-append, outputs-append, lines-trace, outputs-trace, whole_from-append, open_from-append}
 
@@ -114,27 +116,27 @@ log_bytes-append e offset i offset1 i1 a b at index =
     ∙ ap (λ (k : ℕ). flat_map line_bytes (log_lines e offset i a) ++ flat_map line_bytes (log_lines e offset1 k b)) (sym index)
 
 -- What was written for pieces, where what the others stand for is still to be written.
-module _ (e : Coding) (s s1 : EscapeState) (offset i offset1 i1 : ℕ) (taken qs : List Piece) (written_items : List Item)
+module _ (ref : Reference) (e : Coding) (s s1 : EscapeState) (offset i offset1 i1 : ℕ) (taken qs : List Piece) (written_items : List Item)
     (set_is : s1 ≡ last_set e s (text taken)) (offset_is : offset1 ≡ offset + sizes taken) (index_is : i1 ≡ i + length (text taken))
-    (is : trace_from Decimal e s offset i (taken ++ qs) ≡ written_items ++ trace_from Decimal e s1 offset1 i1 qs) where
-  paid_output : outputs (tagged written_items) ≡ open_from Decimal e s (text taken)
+    (is : trace_from ref e s offset i (taken ++ qs) ≡ written_items ++ trace_from ref e s1 offset1 i1 qs) where
+  paid_output : outputs (tagged written_items) ≡ open_from ref e s (text taken)
   paid_output =
-      let all : open_from Decimal e s (text taken) ++ whole_from Decimal e s1 (text qs) ≡ outputs (tagged written_items) ++ whole_from Decimal e s1 (text qs) =
-      ap (λ (q : EscapeState). open_from Decimal e s (text taken) ++ whole_from Decimal e q (text qs)) set_is
-      ∙ sym (whole_from-append e s (text taken) (text qs)) ∙ ap (whole_from Decimal e s) (sym (text-append taken qs))
-      ∙ sym (outputs-trace e s offset i (taken ++ qs)) ∙ ap (λ k. outputs (tagged k)) is
-      ∙ ap outputs (tagged-append written_items (trace_from Decimal e s1 offset1 i1 qs)) ∙ outputs-append (tagged written_items) (tagged (trace_from Decimal e s1 offset1 i1 qs))
-      ∙ ap (λ x. outputs (tagged written_items) ++ x) (outputs-trace e s1 offset1 i1 qs) in
-      sym (append_cancel_right (open_from Decimal e s (text taken)) (outputs (tagged written_items)) (whole_from Decimal e s1 (text qs)) all)
+      let all : open_from ref e s (text taken) ++ whole_from ref e s1 (text qs) ≡ outputs (tagged written_items) ++ whole_from ref e s1 (text qs) =
+      ap (λ (q : EscapeState). open_from ref e s (text taken) ++ whole_from ref e q (text qs)) set_is
+      ∙ sym (whole_from-append _ e s (text taken) (text qs)) ∙ ap (whole_from ref e s) (sym (text-append taken qs))
+      ∙ sym (outputs-trace _ e s offset i (taken ++ qs)) ∙ ap (λ k. outputs (tagged k)) is
+      ∙ ap outputs (tagged-append written_items (trace_from ref e s1 offset1 i1 qs)) ∙ outputs-append (tagged written_items) (tagged (trace_from ref e s1 offset1 i1 qs))
+      ∙ ap (λ x. outputs (tagged written_items) ++ x) (outputs-trace _ e s1 offset1 i1 qs) in
+      sym (append_cancel_right (open_from ref e s (text taken)) (outputs (tagged written_items)) (whole_from ref e s1 (text qs)) all)
 
   paid_lines : lines (tagged written_items) ≡ flat_map line_bytes (log_lines e offset i taken)
   paid_lines =
       let own : List ℕ = flat_map line_bytes (log_lines e offset i taken) in
       let rest : List ℕ = flat_map line_bytes (log_lines e offset1 i1 qs) in
       let all : own ++ rest ≡ lines (tagged written_items) ++ rest =
-      sym (log_bytes-append e offset i offset1 i1 taken qs offset_is index_is) ∙ sym (lines-trace e s offset i (taken ++ qs)) ∙ ap (λ k. lines (tagged k)) is
-      ∙ ap lines (tagged-append written_items (trace_from Decimal e s1 offset1 i1 qs)) ∙ lines-append (tagged written_items) (tagged (trace_from Decimal e s1 offset1 i1 qs))
-      ∙ ap (λ x. lines (tagged written_items) ++ x) (lines-trace e s1 offset1 i1 qs) in
+      sym (log_bytes-append e offset i offset1 i1 taken qs offset_is index_is) ∙ sym (lines-trace _ e s offset i (taken ++ qs)) ∙ ap (λ k. lines (tagged k)) is
+      ∙ ap lines (tagged-append written_items (trace_from ref e s1 offset1 i1 qs)) ∙ lines-append (tagged written_items) (tagged (trace_from ref e s1 offset1 i1 qs))
+      ∙ ap (λ x. lines (tagged written_items) ++ x) (lines-trace _ e s1 offset1 i1 qs) in
       sym (append_cancel_right own (lines (tagged written_items)) rest all)
 
 -- how many bytes were taken
@@ -143,13 +145,13 @@ taken_sizes d d1 chunk taken is = omega (arith, d.whole (chunk ++ []), d1.whole 
 
 -- the clause of a step that goes on
 pub steps_on : (before after : Streams) (limit : ℕ) (s s1 : State) (chunk : List ℕ) (last : Bool)
-    → Consumes before.input after.input chunk → s1.counts.read ≡ s.counts.read + length chunk → 0 < length chunk → s1.counts.read ≤ limit → s1.coding ≡ s.coding → AreSound s.decoder.pending s.counts
+    → Consumes before.input after.input chunk → s1.counts.read ≡ s.counts.read + length chunk → 0 < length chunk → s1.counts.read ≤ limit → s1.coding ≡ s.coding → s1.policy ≡ s.policy → AreSound s.decoder.pending s.counts
     → last ≡ false → ((r : List ℕ) → (last ≡ true → r ≡ []) → s.source (chunk ++ r) ≡ s1.source r)
-    → WritesItemsFor before.written after.written s.counts s1.counts last (λ r. to_write s (chunk ++ r)) (λ r. trace_to_write s1.decoder s.coding s1.set s1.counts r)
+    → WritesItemsFor before.written after.written s.counts s1.counts last (λ r. to_write s (chunk ++ r)) (λ r. trace_to_write (form_of s.policy) s1.decoder s.coding s1.set s1.counts r)
     → Advances (λ r. s.decoder.pieces (chunk ++ r)) s1.decoder.pieces s.coding s.set s1.set s.counts s1.counts → IsNearlyDecided s1.decoder
-    → ((r : List ℕ) → (last ≡ true → r ≡ []) → WillBeFaithful s (chunk ++ r) ↔ IsFaithfulFor s1.verdict s.coding s1.set (s1.decoder.pieces r))
-    → ((r : List ℕ) → (last ≡ true → r ≡ []) → TakesCalls 3 s.counts s1.counts (to_write s (chunk ++ r)) (trace_to_write s1.decoder s.coding s1.set s1.counts r)) → StepsOn before after limit s s1
-steps_on before after limit s s1 chunk last read_in counted some within target sound goes_on same pays p settled verdict calls =
+    → ((r : List ℕ) → (last ≡ true → r ≡ []) → WillBeFaithful s (chunk ++ r) ↔ IsFaithfulFor (form_of s.policy) s1.verdict s.coding s1.set (s1.decoder.pieces r))
+    → ((r : List ℕ) → (last ≡ true → r ≡ []) → TakesCalls 3 s.counts s1.counts (to_write s (chunk ++ r)) (trace_to_write (form_of s.policy) s1.decoder s.coding s1.set s1.counts r)) → StepsOn before after limit s s1
+steps_on before after limit s s1 chunk last read_in counted some within target policy sound goes_on same pays p settled verdict calls =
     let e = s.coding in
     let offset = s.counts.read - s.decoder.pending in
     let offset1 = s1.counts.read - s1.decoder.pending in
@@ -157,8 +159,8 @@ steps_on before after limit s s1 chunk last read_in counted some within target s
     let i1 = s1.counts.index in
     let qs = s1.decoder.pieces [] in
     let offset_is : offset1 ≡ offset + sizes p.taken = omega (arith, taken_sizes s.decoder s1.decoder chunk p.taken (p.rest []), counted, sound.index) in
-    let is : trace_from Decimal e s.set offset i (p.taken ++ qs) ≡ pays.written_items ++ trace_from Decimal e s1.set offset1 i1 qs =
-    ap (trace_from Decimal e s.set offset i) (sym (p.rest [])) ∙ pays.equals [] (λ _. refl) in
+    let is : trace_from (form_of s.policy) e s.set offset i (p.taken ++ qs) ≡ pays.written_items ++ trace_from (form_of s.policy) e s1.set offset1 i1 qs =
+    ap (trace_from (form_of s.policy) e s.set offset i) (sym (p.rest [])) ∙ pays.equals [] (λ _. refl) in
     let none : (r : List ℕ) → last ≡ true → r ≡ [] = λ r h. absurd (false≢true (sym goes_on ∙ h)) in
     record {
       chunk = chunk;
@@ -167,25 +169,30 @@ steps_on before after limit s s1 chunk last read_in counted some within target s
       grows = omega (arith, counted, some);
       within = within;
       target = target;
+      policy = policy;
       source = λ r. same r (none r);
       pays = record {
         written_items = pays.written_items;
         wrote = pays.wrote;
         counted = pays.counted;
-        equals = λ r h. pays.equals r (none r) ∙ ap (λ (q : Coding). pays.written_items ++ trace_to_write s1.decoder q s1.set s1.counts r) (sym target);
+        equals = λ r h. pays.equals r (none r) ∙ ap (λ (q : Coding). pays.written_items ++ trace_to_write (form_of s.policy) s1.decoder q s1.set s1.counts r) (sym target)
+            ∙ ap (λ (q : Policy). pays.written_items ++ trace_to_write (form_of q) s1.decoder s1.coding s1.set s1.counts r) (sym policy);
       };
       advances = p;
-      output = subst (Appends before.written.output after.written.output) (paid_output e s.set s1.set offset i offset1 i1 p.taken qs pays.written_items p.set offset_is p.index is) pays.wrote.output;
-      logged = subst (Appends before.written.log after.written.log) (paid_lines e s.set s1.set offset i offset1 i1 p.taken qs pays.written_items p.set offset_is p.index is) pays.wrote.lined;
+      output = subst (Appends before.written.output after.written.output) (paid_output (form_of s.policy) e s.set s1.set offset i offset1 i1 p.taken qs pays.written_items p.set offset_is p.index is) pays.wrote.output;
+      logged = subst (Appends before.written.log after.written.log) (paid_lines (form_of s.policy) e s.set s1.set offset i offset1 i1 p.taken qs pays.written_items p.set offset_is p.index is) pays.wrote.lined;
       settled = settled;
-      verdict = λ r. subst (λ (q : Coding). WillBeFaithful s (chunk ++ r) ↔ IsFaithfulFor s1.verdict q s1.set (s1.decoder.pieces r)) (sym target) (verdict r (none r));
-      calls = λ r. subst (λ (q : Coding). TakesCalls 3 s.counts s1.counts (to_write s (chunk ++ r)) (trace_to_write s1.decoder q s1.set s1.counts r)) (sym target) (calls r (none r));
+      verdict = λ r. subst (λ (f : Policy). WillBeFaithful s (chunk ++ r) ↔ IsFaithfulFor (form_of f) s1.verdict s1.coding s1.set (s1.decoder.pieces r)) (sym policy)
+          (subst (λ (q : Coding). WillBeFaithful s (chunk ++ r) ↔ IsFaithfulFor (form_of s.policy) s1.verdict q s1.set (s1.decoder.pieces r)) (sym target) (verdict r (none r)));
+      calls = λ r. subst (λ (f : Policy). TakesCalls 3 s.counts s1.counts (to_write s (chunk ++ r)) (trace_to_write (form_of f) s1.decoder s1.coding s1.set s1.counts r)) (sym policy)
+          (subst (λ (q : Coding). TakesCalls 3 s.counts s1.counts (to_write s (chunk ++ r)) (trace_to_write (form_of s.policy) s1.decoder q s1.set s1.counts r)) (sym target) (calls r (none r)));
     }
 
 -- A session that has read nothing, and one that steps on.
 pub stands_first : (t : Streams) (j : Job) (v : View) → IsNewSession v j → StandsAt t t j v.state [] []
 stands_first t j v b = record {
   coding = b.coding;
+  policy = b.policy;
   read = b.read;
   consumed = Consumes-nil t.input;
   pieces = λ y. sym (b.pieces y);
@@ -206,13 +213,15 @@ stands_on t t1 t2 j limit s s1 x ps k p =
     let coded : s.coding ≡ e = k.coding in
     let offset : s.counts.read - s.decoder.pending ≡ 0 + sizes ps = omega (arith, k.read, k.passed) in
     let index : s.counts.index ≡ 0 + length (text ps) = omega (arith, k.index) in
-    let more : Appends t1.written.output t2.written.output (open_from Decimal e (last_set e Ascii (text ps)) (text taken)) =
-    subst (λ (q : EscapeState). Appends t1.written.output t2.written.output (open_from Decimal e q (text taken))) k.set
-    (subst (λ (q : Coding). Appends t1.written.output t2.written.output (open_from Decimal q s.set (text taken))) coded p.output) in
+    let more : Appends t1.written.output t2.written.output (open_from (form_of j.policy) e (last_set e Ascii (text ps)) (text taken)) =
+    subst (λ (q : EscapeState). Appends t1.written.output t2.written.output (open_from (form_of j.policy) e q (text taken))) k.set
+    (subst (λ (q : Coding). Appends t1.written.output t2.written.output (open_from (form_of j.policy) q s.set (text taken))) coded
+    (subst (λ (f : Policy). Appends t1.written.output t2.written.output (open_from (form_of f) s.coding s.set (text taken))) k.policy p.output)) in
     let lined : Appends t1.written.log t2.written.log (flat_map line_bytes (log_lines e (s.counts.read - s.decoder.pending) s.counts.index taken)) =
     subst (λ (q : Coding). Appends t1.written.log t2.written.log (flat_map line_bytes (log_lines q (s.counts.read - s.decoder.pending) s.counts.index taken))) coded p.logged in
     record {
       coding = p.target ∙ coded;
+      policy = p.policy ∙ k.policy;
       read = omega (arith, k.read, p.counted, length-append x chunk);
       consumed = Consumes-trans t.input t1.input t2.input x chunk k.consumed p.consumed;
       pieces = λ y. ap (input_pieces j) (append_assoc x chunk y) ∙ k.pieces (chunk ++ y) ∙ ap (λ q. ps ++ q) (p.advances.rest y) ∙ sym (append_assoc ps taken (s1.decoder.pieces y));
@@ -220,7 +229,7 @@ stands_on t t1 t2 j limit s s1 x ps k p =
       set = p.advances.set ∙ ap (λ (q : Coding). last_set q s.set (text taken)) coded ∙ ap (λ (q : EscapeState). last_set e q (text taken)) k.set
           ∙ sym (last_set-append e Ascii (text ps) (text taken)) ∙ ap (last_set e Ascii) (sym joined);
       index = omega (arith, k.index, p.advances.index, ap length joined, length-append (text ps) (text taken));
-      output = subst (Appends t.written.output t2.written.output) (sym (open_from-append e Ascii (text ps) (text taken)) ∙ ap (open_from Decimal e Ascii) (sym joined))
+      output = subst (Appends t.written.output t2.written.output) (sym (open_from-append _ e Ascii (text ps) (text taken)) ∙ ap (open_from (form_of j.policy) e Ascii) (sym joined))
           (Appends-trans t.written.output t1.written.output t2.written.output _ _ k.output more);
       logged = subst (Appends t.written.log t2.written.log) (sym (log_bytes-append e 0 0 (s.counts.read - s.decoder.pending) s.counts.index ps taken offset index))
           (Appends-trans t.written.log t1.written.log t2.written.log _ _ k.logged lined);
@@ -296,3 +305,52 @@ soon t t1 j s x y ps qs more k settled is early =
 pub settled_of : (d : DecoderState) (last : Bool) → ((d.pending ≡ 0) × (d.pieces [] ≡ [])) ⊎ ((last ≡ false) × Waits d.pieces d.pending) → IsNearlyDecided d
 settled_of d last (inl h) = inl h
 settled_of d last (inr h) = inr h.1
+
+-- A session that has read nothing has nothing pending.
+no_pieces : (ps : List Piece) → ArePieces ps → sizes ps ≡ 0 → ps ≡ []
+no_pieces [] h is = refl
+no_pieces (p ∷ ps) h is = absurd (omega (arith, h.0.some, is))
+
+pub new_settled : (v : View) (j : Job) → IsNewSession v j → IsNearlyDecided v.state.decoder
+new_settled v j b = inl (b.pending, no_pieces (v.state.decoder.pieces []) (v.state.decoder.are_pieces []) (omega (arith, v.state.decoder.whole [], b.pending)))
+
+-- Where a new session stands that has run.
+pub stands_run : (a b : Streams) (j : Job) (v : View) (s : State) → IsNewSession v j → (p : HasRun a b j.limit v.state s) → StandsAt a b j s p.chunk p.advances.taken
+stands_run a b j v s n p =
+    let e = target_of j in
+    let taken : List Piece = p.advances.taken in
+    let qs : List Piece = s.decoder.pieces [] in
+    let offset : ℕ = s.counts.read - s.decoder.pending in
+    let passed : sizes taken + s.decoder.pending ≡ length p.chunk = omega (arith, n.pending, taken_sizes v.state.decoder s.decoder p.chunk taken (p.advances.rest [])) in
+    let read : s.counts.read ≡ length p.chunk = omega (arith, n.read, p.counted) in
+    let set_is : s.set ≡ last_set e Ascii (text taken) = p.advances.set ∙ ap (λ (q : Coding). last_set q v.state.set (text taken)) n.coding ∙ ap (λ (q : EscapeState). last_set e q (text taken)) n.set in
+    let index_is : s.counts.index ≡ 0 + length (text taken) = omega (arith, n.index, p.advances.index) in
+    let offset_is : offset ≡ 0 + sizes taken = omega (arith, read, passed) in
+    let is : trace_from (form_of j.policy) e Ascii 0 0 (taken ++ qs) ≡ p.pays.written_items ++ trace_from (form_of j.policy) e s.set offset s.counts.index qs =
+    ap (trace_from (form_of j.policy) e Ascii 0 0) (sym (p.advances.rest []) ∙ n.pieces (p.chunk ++ []))
+    ∙ sym (n.owes_trace (p.chunk ++ [])) ∙ p.pays.equals [] (λ _. refl)
+    ∙ ap (λ (q : Coding). p.pays.written_items ++ trace_to_write (form_of s.policy) s.decoder q s.set s.counts []) (p.target ∙ n.coding)
+    ∙ ap (λ (f : Policy). p.pays.written_items ++ trace_to_write (form_of f) s.decoder e s.set s.counts []) (p.policy ∙ n.policy) in
+    record {
+      coding = p.target ∙ n.coding;
+      policy = p.policy ∙ n.policy;
+      read = read;
+      consumed = p.consumed;
+      pieces = λ r. sym (n.pieces (p.chunk ++ r)) ∙ p.advances.rest r;
+      passed = passed;
+      set = set_is;
+      index = omega (arith, index_is);
+      output = subst (Appends a.written.output b.written.output) (paid_output (form_of j.policy) e Ascii s.set 0 0 offset s.counts.index taken qs p.pays.written_items set_is offset_is index_is is) p.pays.wrote.output;
+      logged = subst (Appends a.written.log b.written.log) (paid_lines (form_of j.policy) e Ascii s.set 0 0 offset s.counts.index taken qs p.pays.written_items set_is offset_is index_is is) p.pays.wrote.lined;
+    }
+
+-- All that the bytes read decide was written, and stays so where nothing is written after.
+pub wrote_decided : (a b : Streams) (after : Written) (j : Job) (s : State) (x : List ℕ) (ps : List Piece)
+    → StandsAt a b j s x ps → IsNearlyDecided s.decoder → KeepsWritten b.written after → WroteDecided a.written after j x ps
+wrote_decided a b after j s x ps k settled kept = record {
+  decided = decided a b j s x ps k;
+  longest = λ qs h. longest a b j s x ps qs k settled h;
+  soon = λ y qs more is early. soon a b j s x y ps qs more k settled is early;
+  output = Appends-kept a.written.output b.written.output after.output _ k.output kept.output;
+  logged = Appends-kept a.written.log b.written.log after.log _ k.logged kept.log;
+}

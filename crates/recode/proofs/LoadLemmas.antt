@@ -1,16 +1,23 @@
 -- What is there after an index is loaded.
-use Rattle.std.proofs.Common.{◌≡◌, ℕ, List, [], ◌∷◌, ap, refl, Option, Some, Bool, true, false, inl, inr, is_some, ◌++◌}
-use Rattle.std.specs.Prelude.{if◌then◌else◌}
+use Rattle.std.proofs.Common.{◌≡◌, ◌≢◌, ◌⊎◌, ◌∙◌, ℕ, List, [], ◌∷◌, ap, refl, sym, Option, None, Some, Bool, true, false, inl, inr, is_some, ◌++◌}
+use Rattle.std.specs.Prelude.{if◌then◌else◌, IfSome, MatchOption, Result, Ok, Err, option_map}
+use Rattle.std.specs.Option.{option_or}
 use Rattle.std.specs.Bool.{MatchBool}
-use Rattle.std.proofs.lemmas.Bool.{cases_eq}
+use Rattle.std.proofs.lemmas.Bool.{cases_eq, false_from_ne_true}
 use Rattle.encoding_tables.specs.IndexLists.{IndexLists, flat_of, has}
 use Rattle.encoding_tables.specs.Kinds.{is_ranges, number, index_size}
 use Rattle.encoding_tables.specs.laws.Kinds.{number-same}
+use Rattle.encoding_tables.specs.FileNames.{file_name_of}
+use Rattle.encoding_tables.specs.declared.table_fault.TableFault.{TableFault}
 use Rattle.encoding_tables.specs.declared.index_kind.IndexKind.{IndexKind}
+use Rattle.encoding_tables.specs.declared.index_kind.IndexKind.TheVariants.{Gb18030Ranges}
 use Rattle.encoding_front.specs.Encodings.{AreThere}
-use Rattle.encoding_index.specs.IndexText.{text_list, text_rows}
-use Rattle.encoding_index.specs.Loads.{KeepsOthers, Loads}
-use Rattle.recode.specs.Program.{AreKept}
+use Rattle.encoding_index.specs.IndexText.{out_of_memory, text_list, text_rows}
+use Rattle.encoding_index.specs.declared.fault.IndexFault.{IndexFault}
+use Rattle.encoding_index.specs.declared.fault.LoadFault.{LoadFault}
+use Rattle.encoding_index.specs.declared.fault.LoadFault.TheVariants.{Text, Table}
+use Rattle.encoding_index.specs.Loads.{KeepsOthers, Loads, load_fault, table_fault, text_fault}
+use Rattle.recode.specs.Program.{AddsFromFiles, AreKept, AreOfFiles, FileTexts, IsOfText}
 
 some_there : (b : Bool) (rows : Option (List (ℕ × ℕ))) (flat : Option (List ℕ)) (r : List (ℕ × ℕ)) (f : List ℕ)
     → MatchBool b (rows ≡ Some r) (flat ≡ Some f) → (if b then is_some rows else is_some flat) ≡ true
@@ -48,3 +55,86 @@ there_kept old new (k ∷ ks) kept there = (kept k there.0, there_kept old new k
 pub there_more : (t : IndexLists) (kinds : List IndexKind) (kind : IndexKind) → AreThere t kinds → has t kind ≡ true → AreThere t (kinds ++ kind ∷ [])
 there_more t [] kind there this = (this, tt)
 there_more t (k ∷ ks) kind there this = (there.0, there_more t ks kind there.1 this)
+
+-- a load that came to its end met no fault of the text
+no_fault : (text : Option IndexFault) (table : Option TableFault) → option_or (option_map Text text) (option_map Table table) ≡ None → text ≡ None
+no_fault None table h = refl
+no_fault (Some fault) table h = cc
+
+ended : {T : Type 0} (fault : Option LoadFault) (result : Result T LoadFault) (value : T) (Y : Type 0) → result ≡ Ok value
+    → MatchOption fault Y (λ f. (result ≡ Err f) ⊎ (result ≡ Err (Text out_of_memory))) → fault ≡ None
+ended None result value Y ok h = refl
+ended (Some f) result value Y ok (inl h) = cc
+ended (Some f) result value Y ok (inr h) = cc
+
+pub load_met_no_fault : {T : Type 0} (old : IndexLists) (kind : IndexKind) (text : List ℕ) (result : Result T LoadFault) (value : T) (Y : Type 0) → result ≡ Ok value
+    → MatchOption (load_fault old kind text) Y (λ f. (result ≡ Err f) ⊎ (result ≡ Err (Text out_of_memory))) → text_fault kind text ≡ None
+load_met_no_fault old kind text result value Y ok h =
+    no_fault (text_fault kind text) (table_fault old kind text) (ended (load_fault old kind text) result value Y ok h)
+
+-- the ranges are of one kind
+ranges_number : (k : IndexKind) → is_ranges k ≡ true → number k ≡ 30
+ranges_number Gb18030Ranges h = refl
+ranges_number _ h = cc
+
+-- the index of another kind stays as it is
+was_there : (b c : Bool) (old_rows new_rows : Option (List (ℕ × ℕ))) (old_flat new_flat : Option (List ℕ))
+    → (b ≡ true → c ≡ false) → (c ≡ false → new_rows ≡ old_rows) → new_flat ≡ old_flat
+    → (if b then is_some new_rows else is_some new_flat) ≡ true → (if b then is_some old_rows else is_some old_flat) ≡ true
+was_there false c old_rows new_rows old_flat new_flat one same flat now = rw (← flat) now
+was_there true c old_rows new_rows old_flat new_flat one same flat now = rw (← same (one refl)) now
+
+loaded_still : (b c : Bool) (old_rows new_rows : Option (List (ℕ × ℕ))) (old_flat new_flat : Option (List ℕ)) (r : List (ℕ × ℕ)) (f : List ℕ)
+    → (b ≡ true → c ≡ false) → (c ≡ false → new_rows ≡ old_rows) → new_flat ≡ old_flat
+    → MatchBool b (old_rows ≡ Some r) (old_flat ≡ Some f) → MatchBool b (new_rows ≡ Some r) (new_flat ≡ Some f)
+loaded_still false c old_rows new_rows old_flat new_flat r f one same flat was = flat ∙ was
+loaded_still true c old_rows new_rows old_flat new_flat r f one same flat was = same (one refl) ∙ was
+
+not_ranges : (k kind : IndexKind) → number k ≢ number kind → is_ranges k ≡ true → is_ranges kind ≡ false
+not_ranges k kind apart is = false_from_ne_true (is_ranges kind) (λ yes. apart (ranges_number k is ∙ sym (ranges_number kind yes)))
+
+map_told : (told : Option (List ℕ)) (P Q : List ℕ → Type 0) → ((text : List ℕ) → P text → Q text) → IfSome told P → IfSome told Q
+map_told None P Q f h = tt
+map_told (Some text) P Q f h = f text h
+
+other_of_file : (old new : IndexLists) (kind k : IndexKind) (told : Option (List ℕ)) → number k ≢ number kind → KeepsOthers old new kind
+    → (has old k ≡ true → IfSome told (IsOfText old k)) → has new k ≡ true → IfSome told (IsOfText new k)
+other_of_file old new kind k told apart keeps was now =
+    let flat : flat_of new k ≡ flat_of old k = keeps.0 k (λ e. apart (ap number e)) in
+    let one : is_ranges k ≡ true → is_ranges kind ≡ false = not_ranges k kind apart in
+    map_told told (IsOfText old k) (IsOfText new k)
+    (λ text of_old. record {
+      faultless = of_old.faultless;
+      loads = loaded_still (is_ranges k) (is_ranges kind) old.rows new.rows (flat_of old k) (flat_of new k) (text_rows text) (text_list (index_size k) text) one keeps.1 flat of_old.loads;
+    })
+    (was (was_there (is_ranges k) (is_ranges kind) old.rows new.rows (flat_of old k) (flat_of new k) one keeps.1 flat now))
+
+pub load_adds : (holds holds' : FileTexts) (dir : List ℕ) (old new : IndexLists) (kind : IndexKind) (text : List ℕ)
+    → ((d f : List ℕ) → holds' d f ≡ holds d f) → IfSome (holds dir (file_name_of kind)) (λ t. text ≡ t) → text_fault kind text ≡ None → Loads new kind text
+    → KeepsOthers old new kind → AddsFromFiles holds holds' dir old new
+load_adds holds holds' dir old new kind text same told faultless loads keeps = record {
+  same = same;
+  added = λ was k now. elim (cases_eq (number k) (number kind)) [
+    | inl this ↦ rw (number-same k kind this)
+        (map_told (holds dir (file_name_of kind)) (λ t. text ≡ t) (IsOfText new kind) (λ t is. rw (← is) record { faultless = faultless; loads = loads }) told)
+    | inr apart ↦ other_of_file old new kind k (holds dir (file_name_of k)) apart keeps (was k) now
+  ];
+}
+
+pub adds_none : (holds holds' : FileTexts) (dir : List ℕ) (tables : IndexLists) → ((d f : List ℕ) → holds' d f ≡ holds d f) → AddsFromFiles holds holds' dir tables tables
+adds_none holds holds' dir tables same = record { same = same; added = λ was. was }
+
+pub adds_more : (a b c : FileTexts) (dir : List ℕ) (old mid new : IndexLists) → AddsFromFiles a b dir old mid → AddsFromFiles b c dir mid new → AddsFromFiles a c dir old new
+adds_more a b c dir old mid new first then_ = record {
+  same = λ d f. then_.same d f ∙ first.same d f;
+  added = λ was k now. rw (← first.same dir (file_name_of k))
+      (then_.added (λ k now. rw (first.same dir (file_name_of k)) (first.added was k now)) k now);
+}
+
+-- there is no index yet
+none_there : (b : Bool) (rows : Option (List (ℕ × ℕ))) (flat : Option (List ℕ)) → rows ≡ None → flat ≡ None → (if b then is_some rows else is_some flat) ≡ true → ⊥
+none_there true rows flat no_rows no_flat now = cc
+none_there false rows flat no_rows no_flat now = cc
+
+pub adds_to_none : (holds : FileTexts) (dir : List ℕ) (tables : IndexLists) → ((kind : IndexKind) → flat_of tables kind ≡ None) → tables.rows ≡ None → AreOfFiles holds dir tables
+adds_to_none holds dir tables flats rows kind now = absurd (none_there (is_ranges kind) tables.rows (flat_of tables kind) rows (flats kind) now)

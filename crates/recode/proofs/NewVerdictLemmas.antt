@@ -10,6 +10,7 @@ use Rattle.encoding_front.specs.laws.Encoder.{coding_laws, kept_verdict}
 use Rattle.encoding_front.specs.laws.Encodings.{reads_by_step, set_pieces_anywhere, set_pieces_at_start}
 use Rattle.encoding_front.specs.declared.mark.Mark.TheVariants.{Keep}
 use Rattle.recode.specs.Job.{Faithful, IsValidJob, input_pieces, target_of}
+use Rattle.recode.specs.Policy.{form_of}
 use Rattle.recode.specs.Verdict.{CanTell, IsFaithfulFor, IsReadAlong, VerdictView}
 use Rattle.recode.specs.declared.job.Job.{Job}
 
@@ -41,7 +42,7 @@ module _ (j : Job) (valid : IsValidJob j) (reader : DecoderView) (new : IsNewDec
   new_can_tell = record { open_ = new.open_; along = ∣ reads_along ∣₁ }
 
   -- what it will be is what the definition says
-  pub new_verdict : (x : List ℕ) (ps : List Piece) → ps ≡ input_pieces j x → IsFaithfulFor (new_of reader by_log) (target_of j) Ascii ps ↔ Faithful j x
+  pub new_verdict : (x : List ℕ) (ps : List Piece) → ps ≡ input_pieces j x → IsFaithfulFor (form_of j.policy) (new_of reader by_log) (target_of j) Ascii ps ↔ Faithful j x
   new_verdict x ps are = rw (are, reads_output) (
     λ h. record { source = h.1; target = h.2.well_formed; same = h.2.same },
     λ f. (refl, f.source, record { well_formed = f.target; same = f.same }),

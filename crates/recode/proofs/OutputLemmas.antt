@@ -14,6 +14,8 @@ use Rattle.encoding_mem.specs.declared.form.EscapeState.TheVariants.{Ascii}
 use Rattle.encoding_front.specs.Encodings.{IsUtf8Encoding, coding_of, coding_of_codec_kind, output_encoding_of}
 use Rattle.encoding_front.specs.laws.Input.{marked_scalars, recoded_at_once}
 use Rattle.encoding_front.specs.Marks.{marked_pieces, marked_text}
+use Rattle.recode.specs.Policy.{form_of}
+use Rattle.recode.specs.declared.job.Policy.{Policy}
 use Rattle.recode.specs.Job.{IsValidJob, Faithful, input_pieces, input_text, output_pieces, target_of, output_of, log_of, trace}
 use Rattle.recode.specs.WrittenItems.{lost_lines}
 use Rattle.recode.specs.ReadBack.{back, in_utf8}
@@ -30,7 +32,7 @@ pub valid_back : (j : Job) → IsValidJob j → IsValidJob (back j) × IsValidJo
 valid_back j v = (record { tables = v.tables; from = v.to; to = tt; limit = v.limit }, record { tables = v.tables; from = v.from; to = tt; limit = v.limit })
 
 pub reads_back : (j : Job) (x : List ℕ) → Faithful j x → output_of (back j) (output_of j x) ≡ output_of (in_utf8 j) x
-reads_back j x f = ap (output Decimal utf8_coding) f.same
+reads_back j x f = ap (output (form_of j.policy) utf8_coding) f.same
 
 -- nothing is lost of either
 quiet_in_utf8 : (j : Job) (x : List ℕ) → AreWellFormed (input_pieces j x) → log_of (in_utf8 j) x ≡ []
@@ -56,7 +58,7 @@ pub none_lost_in_utf8 : (j : Job) (x : List ℕ) → IsUtf8Encoding (output_enco
 none_lost_in_utf8 j x h = ap (λ e. lost_count e (input_text j x)) (ap (coding_of_codec_kind j.tables.now) h) ∙ utf8_lost_count (input_text j x)
 
 pub no_lost_lines : (j : Job) (x : List ℕ) → IsUtf8Encoding (output_encoding_of j.to) → lost_lines (trace j x) ≡ 0
-no_lost_lines j x h = lost_lines-trace (target_of j) Ascii 0 0 (input_pieces j x) ∙ none_lost_in_utf8 j x h
+no_lost_lines j x h = lost_lines-trace (form_of j.policy) (target_of j) Ascii 0 0 (input_pieces j x) ∙ none_lost_in_utf8 j x h
 
 -- Where a character is lost, something is.
 pub lost_is_unfaithful : (j : Job) (x : List ℕ) → IsValidJob j → 0 < lost_count (target_of j) (input_text j x) → Faithful j x → ⊥
@@ -66,12 +68,13 @@ pub lost_is_told : (j : Job) (x : List ℕ) (p : Report) → IsValidJob j → Is
 lost_is_told j x p v r some faithful = lost_is_unfaithful j x v (omega (arith, some, r.lost)) (r.faithful.0 faithful)
 
 -- Decoded at once, and then encoded at once.
-pub same_whole : (j : Job) (x decoded bytes : List ℕ) → IsValidJob j → decoded ≡ encode_utf8_all (marked_text j.tables.now j.mark j.from x) → bytes ≡ output Decimal (coding_of j.tables.now j.to) (chars decoded) → bytes ≡ output_of j x
-same_whole j x decoded bytes v is written = written ∙ recoded_at_once j.tables.now j.mark j.from j.to x decoded v.tables is
+pub same_whole : (j : Job) (x decoded bytes : List ℕ) → IsValidJob j → j.policy ≡ Policy.Decimal → decoded ≡ encode_utf8_all (marked_text j.tables.now j.mark j.from x) → bytes ≡ output Decimal (coding_of j.tables.now j.to) (chars decoded) → bytes ≡ output_of j x
+same_whole j x decoded bytes v decimal is written =
+    written ∙ recoded_at_once j.tables.now j.mark j.from j.to x decoded v.tables is ∙ ap (λ (p : Policy). output (form_of p) (target_of j) (input_text j x)) (sym decimal)
 
-pub same_run : (j : Job) (x decoded bytes : List ℕ) (w w' : Written) (p : Report) → IsValidJob j → decoded ≡ encode_utf8_all (marked_text j.tables.now j.mark j.from x) → bytes ≡ output Decimal (coding_of j.tables.now j.to) (chars decoded)
+pub same_run : (j : Job) (x decoded bytes : List ℕ) (w w' : Written) (p : Report) → IsValidJob j → j.policy ≡ Policy.Decimal → decoded ≡ encode_utf8_all (marked_text j.tables.now j.mark j.from x) → bytes ≡ output Decimal (coding_of j.tables.now j.to) (chars decoded)
     → IsConverted w w' j x p → Appends w.output w'.output bytes
-same_run j x decoded bytes w w' p v is written k = subst (Appends w.output w'.output) (sym (same_whole j x decoded bytes v is written)) k.output
+same_run j x decoded bytes w w' p v decimal is written k = subst (Appends w.output w'.output) (sym (same_whole j x decoded bytes v decimal is written)) k.output
 
 -- a count of which a flag tells whether it is none
 none_where_false : (b : Bool) (n : ℕ) → IsTrue b ↔ (0 < n) → IsFalse b → n ≡ 0

@@ -3,6 +3,7 @@ use Rattle.std.proofs.Common.{◌≡◌, ℕ, ◌+◌, ◌*◌, ◌≤◌, List,
 use Rattle.std.specs.List.{concat}
 use Rattle.encoding_mem.specs.Piece.{Piece, piece_len, sizes, ArePieces}
 use Rattle.encoding_front.specs.laws.Input.{marked_are_pieces, marked_few, marked_whole, short_recoded}
+use Rattle.recode.specs.Policy.{form_of}
 use Rattle.recode.specs.Job.{IsValidJob, input_pieces, input_text, output_of}
 use Rattle.recode.specs.Slices.{slices}
 use Rattle.recode.specs.declared.job.Job.{Job}
@@ -43,4 +44,4 @@ pub text_within : (j : Job) (x : List ℕ) → IsValidJob j → length (input_te
 text_within j x v = marked_few j.tables.now j.mark j.from x v.tables
 
 pub output_within : (j : Job) (x : List ℕ) → IsValidJob j → length (output_of j x) ≤ 13 * length x + 3
-output_within j x v = short_recoded j.tables.now j.mark j.from j.to x v.tables
+output_within j x v = short_recoded (form_of j.policy) j.tables.now j.mark j.from j.to x v.tables

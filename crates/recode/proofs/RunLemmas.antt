@@ -4,7 +4,6 @@ use Rattle.std.specs.Io.KnownBytes.{Appends}
 use Rattle.std.specs.List.{flat_map}
 use Rattle.std.specs.Str.{all_scalars}
 use Rattle.std.proofs.lemmas.Bool.{false≢true}
-use Rattle.encoding_mem.specs.declared.reference.Reference.TheVariants.{Decimal}
 use Rattle.encoding_mem.specs.Piece.{Piece, well_formed, malformed, text, text_of, AreWellFormed, IsPiece, ArePieces, malformed_count}
 use Rattle.encoding_mem.specs.Coding.{AllMapped, Coding, IsMapped, bytes_from, last_set, lost_count}
 use Rattle.encoding_mem.specs.declared.form.Form.{Form}
@@ -24,12 +23,15 @@ use Rattle.recode.specs.State.{WillBeFaithful, to_write}
 use Rattle.recode.specs.TraceToWrite.{AreSound}
 use Rattle.recode.specs.Work.{TakesCalls}
 use Rattle.recode.specs.Job.{IsValidJob, Faithful, input_pieces, output_pieces, input_text, target_of, log_of, trace}
+use Rattle.recode.specs.Latency.{WroteDecided}
+use Rattle.recode.specs.Policy.{form_of}
 use Rattle.recode.specs.Session.{View, IsNewSession, Tells, IsReport, Completes, Fails}
 use Rattle.recode.specs.Step.{Finishes, PassesLimit}
 use Rattle.recode.specs.Streams.{Streams}
 use Rattle.recode.specs.declared.job.Fault.{Fault}
 use Rattle.recode.specs.declared.job.Job.{Job}
 use Rattle.recode.specs.declared.job.Report.{Report}
+use Rattle.recode.proofs.LatencyLemmas.{stands_run, wrote_decided}
 use Rattle.recode.proofs.PieceLemmas.{output_within}
 use Rattle.recode.proofs.StepLemmas.{HasStopped}
 use Rattle.recode.proofs.WorkLemmas.{items_split}
@@ -76,11 +78,11 @@ text_are_scalars j x v = text_scalars (input_pieces j x) (are_pieces_from j.tabl
 -- nothing was lost where each piece is well-formed and each character has bytes, and only there
 pub faithful_where_kept : (j : Job) (x : List ℕ) → IsValidJob j → KeepsCharacters j.to → AreWellFormed (input_pieces j x) → AllMapped (target_of j) (input_text j x) → Faithful j x
 faithful_where_kept j x v keeps h k =
-    let back = (reads_back_exactly j.tables.now j.to keeps v.tables Decimal (input_text j x) (text_are_scalars j x v)).1 k in
+    let back = (reads_back_exactly j.tables.now j.to keeps v.tables (form_of j.policy) (input_text j x) (text_are_scalars j x v)).1 k in
     record { source = h; target = back.well_formed; same = back.same }
 
 pub kept_where_faithful : (j : Job) (x : List ℕ) → IsValidJob j → KeepsCharacters j.to → Faithful j x → AllMapped (target_of j) (input_text j x)
-kept_where_faithful j x v keeps f = (reads_back_exactly j.tables.now j.to keeps v.tables Decimal (input_text j x) (text_are_scalars j x v)).0 (record { well_formed = f.target; same = f.same })
+kept_where_faithful j x v keeps f = (reads_back_exactly j.tables.now j.to keeps v.tables (form_of j.policy) (input_text j x) (text_are_scalars j x v)).0 (record { well_formed = f.target; same = f.same })
 
 -- the log is empty exactly where each piece is well-formed and each character has bytes
 pub quiet_where_kept : (j : Job) (x : List ℕ) → AreWellFormed (input_pieces j x) → AllMapped (target_of j) (input_text j x) → log_of j x ≡ []
@@ -116,7 +118,7 @@ mapped_where_faithful j x v f = elim (first_unmapped (target_of j) (input_text j
         scalars = text_are_scalars j x v;
         encodes = record { before = k.0; next = k.1 ∷ k.3; split = k.4; mapped = k.5; bytes = refl; leaves = (k.1, refl, k.6, refl) };
         along = begins_along e (set_pieces_of j.tables.now j.to) coding (output_pieces j) Ascii (input_text j x) start;
-      }) Decimal [] (λ no. refl) (rw (append-nil (input_text j x)) (record { well_formed = f.target; same = f.same })))
+      }) (form_of j.policy) [] (λ no. refl) (rw (append-nil (input_text j x)) (record { well_formed = f.target; same = f.same })))
 ]
 
 pub quiet_where_faithful : (j : Job) (x : List ℕ) → IsValidJob j → Faithful j x → log_of j x ≡ []
@@ -128,8 +130,8 @@ is_report : (j : Job) (x : List ℕ) (v w : View) (p : Report) → IsNewSession 
     → IsValidJob j → TakesCalls (3 * length x + 3) v.state.counts w.state.counts (to_write v.state x) [] → AreSound w.state.decoder.pending w.state.counts → IsReport j x p
 is_report j x v w p b t same read_is malformed_is lost_is told valid calls sound =
     let e = target_of j in
-    let bads : p.bad ≡ malformed_count (input_pieces j x) = omega (arith, t.bad, malformed_is, b.bad, bad_lines-trace e Ascii 0 0 (input_pieces j x)) in
-    let losts : p.lost ≡ lost_count e (input_text j x) = omega (arith, t.lost, lost_is, b.lost, lost_lines-trace e Ascii 0 0 (input_pieces j x)) in
+    let bads : p.bad ≡ malformed_count (input_pieces j x) = omega (arith, t.bad, malformed_is, b.bad, bad_lines-trace (form_of j.policy) e Ascii 0 0 (input_pieces j x)) in
+    let losts : p.lost ≡ lost_count e (input_text j x) = omega (arith, t.lost, lost_is, b.lost, lost_lines-trace (form_of j.policy) e Ascii 0 0 (input_pieces j x)) in
     record {
       read = omega (arith, t.read, read_is, b.read);
       bad = bads;
@@ -152,7 +154,7 @@ is_report j x v w p b t same read_is malformed_is lost_is told valid calls sound
         sound.lost,
         ap length (b.owes_trace x),
         items_split (trace j x),
-        ap length (outputs-trace e Ascii 0 0 (input_pieces j x)),
+        ap length (outputs-trace (form_of j.policy) e Ascii 0 0 (input_pieces j x)),
         output_within j x valid,
       );
       encoding = t.encoding ∙ sym same ∙ b.source x;
@@ -170,8 +172,8 @@ completes before after j v u p valid b f t =
       end = f.end;
       within = omega (arith, f.within, f.counted, b.read);
       wrote = wrote;
-      output = subst (Appends before.written.output after.written.output) (outputs-trace (target_of j) Ascii 0 0 (input_pieces j x)) wrote.output;
-      logged = subst (Appends before.written.log after.written.log) (lines-trace (target_of j) Ascii 0 0 (input_pieces j x)) wrote.lined;
+      output = subst (Appends before.written.output after.written.output) (outputs-trace (form_of j.policy) (target_of j) Ascii 0 0 (input_pieces j x)) wrote.output;
+      logged = subst (Appends before.written.log after.written.log) (lines-trace (form_of j.policy) (target_of j) Ascii 0 0 (input_pieces j x)) wrote.lined;
       report = is_report j x v u p b t f.source f.counted
           (f.pays.counted.bad ∙ ap (λ t. v.state.counts.bad + bad_lines t) written_items) (f.pays.counted.lost ∙ ap (λ t. v.state.counts.lost + lost_lines t) written_items) f.verdict valid f.calls f.sound;
     }
@@ -199,8 +201,15 @@ fails before after j v f b s =
       taken = s.pays.taken;
       wrote = s.pays.wrote;
       prefix = prefix;
-      output = λ r h. subst (IsPrefix (outputs s.pays.taken)) (outputs-trace (target_of j) Ascii 0 0 (input_pieces j (s.chunk ++ r))) (prefix_outputs _ _ (prefix r h));
-      logged = λ r h. subst (IsPrefix (lines s.pays.taken)) (lines-trace (target_of j) Ascii 0 0 (input_pieces j (s.chunk ++ r))) (prefix_lines _ _ (prefix r h));
+      output = λ r h. subst (IsPrefix (outputs s.pays.taken)) (outputs-trace (form_of j.policy) (target_of j) Ascii 0 0 (input_pieces j (s.chunk ++ r))) (prefix_outputs _ _ (prefix r h));
+      logged = λ r h. subst (IsPrefix (lines s.pays.taken)) (lines-trace (form_of j.policy) (target_of j) Ascii 0 0 (input_pieces j (s.chunk ++ r))) (prefix_lines _ _ (prefix r h));
+      latest = λ h.
+          let k = s.latest h in
+          let ran = k.2 in (
+            ran.advances.taken,
+            subst (λ x. WroteDecided before.written after.written j x ran.advances.taken) k.3
+                (wrote_decided before k.0 after.written j k.1 ran.chunk ran.advances.taken (stands_run before k.0 j v k.1 b ran) ran.settled k.4),
+          );
     }
   where
     zero_plus : (n : ℕ) → 0 + n ≡ n

@@ -1,5 +1,5 @@
 -- How a step's parts make its clauses. What is left where a conversion failed.
-use Rattle.std.proofs.Common.{Err, ◌≡◌, ℕ, ◌+◌, ◌≤◌, ◌<◌, add-zero, arith, length-append, append_assoc, List, [], ◌++◌, length, Option, Bool, true, false, refl, sym, ap, ◌∙◌, subst, append-nil, take, inl, inr, ◌≢◌}
+use Rattle.std.proofs.Common.{Err, ◌⊎◌, ◌≡◌, ℕ, ◌+◌, ◌≤◌, ◌<◌, add-zero, arith, length-append, append_assoc, List, [], ◌++◌, length, Option, Bool, true, false, refl, sym, ap, ◌∙◌, subst, append-nil, take, inl, inr, ◌≢◌}
 use Rattle.std.specs.Io.KnownBytes.{Consumes, Keeps, IsAtEnd, Appends}
 use Rattle.std.proofs.KnownBytes.{Consumes-nil, Consumes-kept, Consumes-trans, Appends-kept, Appends-trans, Keeps-refl}
 use Rattle.encoding_mem.specs.Items.{Item}
@@ -7,11 +7,12 @@ use Rattle.recode.specs.State.{State, to_write}
 use Rattle.recode.specs.Streams.{KeepsWritten, Streams, Written}
 use Rattle.recode.specs.TaggedByte.{Wrote, tagged, TaggedByte, outputs, lines}
 use Rattle.recode.specs.WrittenItems.{WritesPrefixFor}
-use Rattle.recode.specs.Step.{Finishes, HasRun, PassesLimit, StepsOn, Stops}
+use Rattle.recode.specs.Step.{Advances, Finishes, HasRun, IsNearlyDecided, PassesLimit, StepsOn, Stops}
 use Rattle.recode.specs.Failures.{CountsFault, Failures}
 use Rattle.recode.specs.Fault.{of_other}
 use Rattle.recode.specs.declared.job.Fault.{Fault}
 use Rattle.recode.specs.declared.job.Fault.TheVariants.{Read, Write, Log, TooLong}
+use Rattle.recode.proofs.LatencyLemmas.{advances_more, advances_start}
 use Rattle.recode.proofs.VerdictLemmas.{both_ways}
 use Rattle.recode.proofs.TraceLemmas.{Wrote-nil, Wrote-trans, tagged-append, AreCounted-trans, WritesItemsFor-start}
 use Rattle.recode.specs.Conversion.{Breaks, IsCause, IsFlushCause, IsTold, message_of}
@@ -39,7 +40,7 @@ stops_unread a b w limit s p within = record {
   within = omega (arith, within);
   limited = omega (arith, within);
   pays = nothing_under w false (to_write s);
-  untouched = λ h. keeps_all w;
+  untouched = λ h. (refl, keeps_all w);
 }
 
 pub stops_refused : (a b : Option (List ℕ)) (w : Written) (limit : ℕ) (s : State) (chunk : List ℕ) → Consumes a b chunk → s.counts.read ≤ limit → limit < s.counts.read + length chunk
@@ -55,7 +56,7 @@ stops_refused a b w limit s chunk p within past = record {
   within = omega (arith, within);
   limited = past;
   pays = nothing_under w false (to_write s);
-  untouched = λ h. keeps_all w;
+  untouched = λ h. (refl, keeps_all w);
 }
 
 -- a fault of a writer
@@ -108,18 +109,29 @@ pub record HasStopped (before after : Streams) (limit : ℕ) (s : State) (fault 
   pub within : s.counts.read + length chunk ≤ limit
   pub limited : PassesLimit (s.counts.read + length (chunk ++ refused)) limit fault
   pub pays : WritesPrefixFor before.written after.written ended (λ r. to_write s (chunk ++ r))
+  -- where no writer failed, what was written is what the steps before wrote
+  pub latest : (fault ≡ Read) ⊎ (fault ≡ TooLong) → (t : Streams) × (s' : State) × (ran : HasRun before t limit s s') × (ran.chunk ≡ chunk) × KeepsWritten t.written after.written
 
-pub goes_on_start : (a : Streams) (limit : ℕ) (s : State) → s.counts.read ≤ limit → HasRun a a limit s s
-goes_on_start a limit s within = record {
+pub goes_on_start : (a : Streams) (limit : ℕ) (s : State) → s.counts.read ≤ limit → IsNearlyDecided s.decoder → HasRun a a limit s s
+goes_on_start a limit s within settled = record {
   chunk = [];
   consumed = Consumes-nil a.input;
   counted = sym (add-zero s.counts.read);
   within = within;
+  target = refl;
+  policy = refl;
+  advances = advances_start s.decoder.pieces s.coding s.set s.counts;
+  settled = settled;
   pays = WritesItemsFor-start a.written s.counts false (to_write s);
   source = λ r. refl;
   verdict = λ r. (λ h. h, λ h. h);
   calls = λ r. omega arith;
 }
+
+-- the same bytes in two parts
+in_parts : (s s1 : State) (chunk more : List ℕ) → Advances (λ r. s.decoder.pieces (chunk ++ r)) s1.decoder.pieces s.coding s.set s1.set s.counts s1.counts
+    → Advances (λ r. s.decoder.pieces ((chunk ++ more) ++ r)) (λ r. s1.decoder.pieces (more ++ r)) s.coding s.set s1.set s.counts s1.counts
+in_parts s s1 chunk more p = record { taken = p.taken; rest = λ r. ap s.decoder.pieces (append_assoc chunk more r) ∙ p.rest (more ++ r); set = p.set; index = p.index }
 
 pub goes_on_more : (a b c : Streams) (limit : ℕ) (s s1 s2 : State) → HasRun a b limit s s1 → StepsOn b c limit s1 s2 → HasRun a c limit s s2
 goes_on_more a b c limit s s1 s2 p q = record {
@@ -127,6 +139,11 @@ goes_on_more a b c limit s s1 s2 p q = record {
   consumed = Consumes-trans a.input b.input c.input p.chunk q.chunk p.consumed q.consumed;
   counted = omega (arith, p.counted, q.counted, length-append p.chunk q.chunk);
   within = q.within;
+  target = q.target ∙ p.target;
+  policy = q.policy ∙ p.policy;
+  advances = advances_more _ (λ r. s1.decoder.pieces (q.chunk ++ r)) _ _ _ _ _ _ _ _ (in_parts s s1 p.chunk q.chunk p.advances)
+      (subst (λ e. Advances (λ r. s1.decoder.pieces (q.chunk ++ r)) s2.decoder.pieces e s1.set s2.set s1.counts s2.counts) p.target q.advances);
+  settled = q.settled;
   pays = record {
     written_items = p.pays.written_items ++ q.pays.written_items;
     wrote = subst (Wrote a.written c.written) (sym (tagged-append p.pays.written_items q.pays.written_items)) (Wrote-trans a.written b.written c.written _ _ p.pays.wrote q.pays.wrote);
@@ -181,7 +198,18 @@ goes_on_stop a b c limit s s1 f p q = record {
           ∙ ap (λ t. tagged p.pays.written_items ++ t) g.1 ∙ sym (append_assoc (tagged p.pays.written_items) q.pays.taken g.0),
     );
   };
+  latest = λ h. let kept = q.untouched h in (b, s1, p, sym (append-nil p.chunk) ∙ ap (λ x. p.chunk ++ x) (sym kept.0), kept.1);
 }
+
+-- with a limit that is the same
+pub steps_within : {before after : Streams} {s s1 : State} (n m : ℕ) → n ≡ m → StepsOn before after n s s1 → StepsOn before after m s s1
+steps_within {before} {after} {s} {s1} n m same h = subst (λ (k : ℕ). StepsOn before after k s s1) same h
+
+pub finishes_within : {before after : Streams} {s s1 : State} (n m : ℕ) → n ≡ m → Finishes before after n s s1 → Finishes before after m s s1
+finishes_within {before} {after} {s} {s1} n m same h = subst (λ (k : ℕ). Finishes before after k s s1) same h
+
+pub stops_within : {before after : Streams} {s : State} {f : Fault} (n m : ℕ) → n ≡ m → Stops before after n s f → Stops before after m s f
+stops_within {before} {after} {s} {f} n m same h = subst (λ (k : ℕ). Stops before after k s f) same h
 
 -- What is left where a conversion failed.
 

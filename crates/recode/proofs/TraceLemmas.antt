@@ -5,7 +5,7 @@ use Rattle.std.proofs.lemmas.Grind.{flat_map-append}
 use Rattle.std.proofs.lemmas.List.{map-append}
 use Rattle.std.proofs.KnownBytes.{Appends-nil, Appends-trans}
 use Rattle.std.specs.Io.KnownBytes.{Appends}
-use Rattle.encoding_mem.specs.declared.reference.Reference.TheVariants.{Decimal}
+use Rattle.encoding_mem.specs.declared.reference.Reference.{Reference}
 use Rattle.encoding_mem.specs.Items.{Item, Byte, MalformedAt, LostAt, whole_items, closing, bytes_of, open_items, form_items, trace_from}
 use Rattle.recode_log.specs.Line.{line_bytes}
 use Rattle.recode.specs.Streams.{Written}
@@ -185,12 +185,12 @@ on_err_each (Ok x) p = tt
 on_err_each (Err e) p = p
 
 -- after the last escape nothing is left to write for an empty text
-closed_nil : (need : ℕ) (e : Coding) (last : Bool) (s : EscapeState) (i : ℕ) → IsCoding need e → (last ≡ true → s ≡ Ascii) → whole_items Decimal e last s i [] ≡ []
-closed_nil need e true s i k h = ap (closing e) (h refl) ∙ ap (map Byte) (k.same Ascii)
-closed_nil need e false s i k h = refl
+closed_nil : (ref : Reference) (need : ℕ) (e : Coding) (last : Bool) (s : EscapeState) (i : ℕ) → IsCoding need e → (last ≡ true → s ≡ Ascii) → whole_items ref e last s i [] ≡ []
+closed_nil _ need e true s i k h = ap (closing e) (h refl) ∙ ap (map Byte) (k.same Ascii)
+closed_nil _ need e false s i k h = refl
 
-pub whole_end : {need : ℕ} (e : Coding) (last : Bool) (s : EscapeState) (i : ℕ) (t : List ℕ) → IsCoding need e → t ≡ [] → (last ≡ true → s ≡ Ascii) → whole_items Decimal e last s i t ≡ []
-whole_end {need} e last s i t k none h = ap (whole_items Decimal e last s i) none ∙ closed_nil need e last s i k h
+pub whole_end : (ref : Reference) {need : ℕ} (e : Coding) (last : Bool) (s : EscapeState) (i : ℕ) (t : List ℕ) → IsCoding need e → t ≡ [] → (last ≡ true → s ≡ Ascii) → whole_items ref e last s i t ≡ []
+whole_end ref {need} e last s i t k none h = ap (whole_items ref e last s i) none ∙ closed_nil ref need e last s i k h
 
 -- For every continuation.
 pub WritesItemsFor-of : (w w' : Written) (x x' y : Counts) (last : Bool) (total : List Item) (a b : List ℕ → List Item) → x.bad ≡ x'.bad → x.lost ≡ x'.lost → WritesItems w w' x y total []
@@ -257,114 +257,114 @@ outputs-tagged (MalformedAt offset size ∷ t) =
 outputs-tagged (LostAt index scalar ∷ t) =
     outputs-append (map Line (line_bytes (LogLine.Lost index scalar))) (tagged t) ∙ ap (λ x. x ++ outputs (tagged t)) (outputs-lines (line_bytes (LogLine.Lost index scalar))) ∙ outputs-tagged t
 
-pub open_from-append : (e : Coding) (s : EscapeState) (a b : List ℕ) → open_from Decimal e s (a ++ b) ≡ open_from Decimal e s a ++ open_from Decimal e (last_set e s a) b
-open_from-append e s [] b = refl
-open_from-append e s (c ∷ a) b =
+pub open_from-append : (ref : Reference) (e : Coding) (s : EscapeState) (a b : List ℕ) → open_from ref e s (a ++ b) ≡ open_from ref e s a ++ open_from ref e (last_set e s a) b
+open_from-append ref e s [] b = refl
+open_from-append ref e s (c ∷ a) b =
     let escape : List ℕ = e.escape s (e.set s c) in
-    let form : List ℕ = Rattle.encoding_mem.specs.Coding.spelled Decimal (e.form c) in
-    ap (λ x. escape ++ (form ++ x)) (open_from-append e (e.set s c) a b)
-    ∙ ap (λ x. escape ++ x) (sym (append_assoc form (open_from Decimal e (e.set s c) a) (open_from Decimal e (last_set e (e.set s c) a) b)))
-    ∙ sym (append_assoc escape (form ++ open_from Decimal e (e.set s c) a) (open_from Decimal e (last_set e (e.set s c) a) b))
+    let form : List ℕ = Rattle.encoding_mem.specs.Coding.spelled ref (e.form c) in
+    ap (λ x. escape ++ (form ++ x)) (open_from-append ref e (e.set s c) a b)
+    ∙ ap (λ x. escape ++ x) (sym (append_assoc form (open_from ref e (e.set s c) a) (open_from ref e (last_set e (e.set s c) a) b)))
+    ∙ sym (append_assoc escape (form ++ open_from ref e (e.set s c) a) (open_from ref e (last_set e (e.set s c) a) b))
 
-pub whole_from-append : (e : Coding) (s : EscapeState) (a b : List ℕ) → whole_from Decimal e s (a ++ b) ≡ open_from Decimal e s a ++ whole_from Decimal e (last_set e s a) b
-whole_from-append e s a b =
-    ap (λ x. x ++ e.escape (last_set e s (a ++ b)) Ascii) (open_from-append e s a b)
-    ∙ ap (λ q. (open_from Decimal e s a ++ open_from Decimal e (last_set e s a) b) ++ e.escape q Ascii) (last_set-append e s a b)
-    ∙ append_assoc (open_from Decimal e s a) (open_from Decimal e (last_set e s a) b) (e.escape (last_set e (last_set e s a) b) Ascii)
+pub whole_from-append : (ref : Reference) (e : Coding) (s : EscapeState) (a b : List ℕ) → whole_from ref e s (a ++ b) ≡ open_from ref e s a ++ whole_from ref e (last_set e s a) b
+whole_from-append ref e s a b =
+    ap (λ x. x ++ e.escape (last_set e s (a ++ b)) Ascii) (open_from-append ref e s a b)
+    ∙ ap (λ q. (open_from ref e s a ++ open_from ref e (last_set e s a) b) ++ e.escape q Ascii) (last_set-append e s a b)
+    ∙ append_assoc (open_from ref e s a) (open_from ref e (last_set e s a) b) (e.escape (last_set e (last_set e s a) b) Ascii)
 
-bytes_of-trace : (e : Coding) (s : EscapeState) (offset i : ℕ) (ps : List Piece) → bytes_of (trace_from Decimal e s offset i ps) ≡ whole_from Decimal e s (text ps)
-bytes_of-trace e s offset i [] = bytes_of-bytes (e.escape s Ascii)
-bytes_of-trace e s offset i (well_formed n cs ∷ ps) =
-    bytes_of-append (open_items Decimal e s i cs) (trace_from Decimal e (last_set e s cs) (offset + n) (i + length cs) ps)
-    ∙ ap (λ x. x ++ bytes_of (trace_from Decimal e (last_set e s cs) (offset + n) (i + length cs) ps)) (bytes_of-open_items Decimal e s i cs)
-    ∙ ap (λ x. open_from Decimal e s cs ++ x) (bytes_of-trace e (last_set e s cs) (offset + n) (i + length cs) ps)
-    ∙ sym (whole_from-append e s cs (text ps))
-bytes_of-trace e s offset i (malformed n ∷ ps) =
-    bytes_of-append (open_items Decimal e s i (0xFFFD ∷ [])) (trace_from Decimal e (e.set s 0xFFFD) (offset + n) (i + 1) ps)
-    ∙ ap (λ x. x ++ bytes_of (trace_from Decimal e (e.set s 0xFFFD) (offset + n) (i + 1) ps)) (bytes_of-open_items Decimal e s i (0xFFFD ∷ []))
-    ∙ ap (λ x. open_from Decimal e s (0xFFFD ∷ []) ++ x) (bytes_of-trace e (e.set s 0xFFFD) (offset + n) (i + 1) ps)
-    ∙ sym (whole_from-append e s (0xFFFD ∷ []) (text ps))
+bytes_of-trace : (ref : Reference) (e : Coding) (s : EscapeState) (offset i : ℕ) (ps : List Piece) → bytes_of (trace_from ref e s offset i ps) ≡ whole_from ref e s (text ps)
+bytes_of-trace ref e s offset i [] = bytes_of-bytes (e.escape s Ascii)
+bytes_of-trace ref e s offset i (well_formed n cs ∷ ps) =
+    bytes_of-append (open_items ref e s i cs) (trace_from ref e (last_set e s cs) (offset + n) (i + length cs) ps)
+    ∙ ap (λ x. x ++ bytes_of (trace_from ref e (last_set e s cs) (offset + n) (i + length cs) ps)) (bytes_of-open_items ref e s i cs)
+    ∙ ap (λ x. open_from ref e s cs ++ x) (bytes_of-trace ref e (last_set e s cs) (offset + n) (i + length cs) ps)
+    ∙ sym (whole_from-append ref e s cs (text ps))
+bytes_of-trace ref e s offset i (malformed n ∷ ps) =
+    bytes_of-append (open_items ref e s i (0xFFFD ∷ [])) (trace_from ref e (e.set s 0xFFFD) (offset + n) (i + 1) ps)
+    ∙ ap (λ x. x ++ bytes_of (trace_from ref e (e.set s 0xFFFD) (offset + n) (i + 1) ps)) (bytes_of-open_items ref e s i (0xFFFD ∷ []))
+    ∙ ap (λ x. open_from ref e s (0xFFFD ∷ []) ++ x) (bytes_of-trace ref e (e.set s 0xFFFD) (offset + n) (i + 1) ps)
+    ∙ sym (whole_from-append ref e s (0xFFFD ∷ []) (text ps))
 
-pub outputs-trace : (e : Coding) (s : EscapeState) (offset i : ℕ) (ps : List Piece) → outputs (tagged (trace_from Decimal e s offset i ps)) ≡ whole_from Decimal e s (text ps)
-outputs-trace e s offset i ps = outputs-tagged (trace_from Decimal e s offset i ps) ∙ bytes_of-trace e s offset i ps
+pub outputs-trace : (ref : Reference) (e : Coding) (s : EscapeState) (offset i : ℕ) (ps : List Piece) → outputs (tagged (trace_from ref e s offset i ps)) ≡ whole_from ref e s (text ps)
+outputs-trace ref e s offset i ps = outputs-tagged (trace_from ref e s offset i ps) ∙ bytes_of-trace ref e s offset i ps
 
 -- The log.
-lines-form : (i : ℕ) (f : Form) → lines (tagged (form_items Decimal i f)) ≡ flat_map line_bytes (form_lines i f)
-lines-form i (Mapped bs) = lines-bytes bs
-lines-form i (Unmapped c) =
-    lines-append (map Line (line_bytes (LogLine.Lost i c))) (tagged (map Byte (reference Decimal c)))
-    ∙ ap (λ x. x ++ lines (tagged (map Byte (reference Decimal c)))) (lines-lines (line_bytes (LogLine.Lost i c)))
-    ∙ ap (λ x. line_bytes (LogLine.Lost i c) ++ x) (lines-bytes (reference Decimal c))
+lines-form : (ref : Reference) (i : ℕ) (f : Form) → lines (tagged (form_items ref i f)) ≡ flat_map line_bytes (form_lines i f)
+lines-form ref i (Mapped bs) = lines-bytes bs
+lines-form ref i (Unmapped c) =
+    lines-append (map Line (line_bytes (LogLine.Lost i c))) (tagged (map Byte (reference ref c)))
+    ∙ ap (λ x. x ++ lines (tagged (map Byte (reference ref c)))) (lines-lines (line_bytes (LogLine.Lost i c)))
+    ∙ ap (λ x. line_bytes (LogLine.Lost i c) ++ x) (lines-bytes (reference ref c))
 
 lines-both : (s t : List Item) → lines (tagged (s ++ t)) ≡ lines (tagged s) ++ lines (tagged t)
 lines-both s t = ap lines (tagged-append s t) ∙ lines-append (tagged s) (tagged t)
 
-lines-open : (e : Coding) (s : EscapeState) (i : ℕ) (t : List ℕ) → lines (tagged (open_items Decimal e s i t)) ≡ flat_map line_bytes (lost_in e i t)
-lines-open e s i [] = refl
-lines-open e s i (c ∷ t) =
-    let rest : List Item = open_items Decimal e (e.set s c) (i + 1) t in
-    lines-both (map Byte (e.escape s (e.set s c))) (form_items Decimal i (e.form c) ++ rest)
-    ∙ ap (λ x. x ++ lines (tagged (form_items Decimal i (e.form c) ++ rest))) (lines-bytes (e.escape s (e.set s c)))
-    ∙ lines-both (form_items Decimal i (e.form c)) rest
-    ∙ ap (λ x. x ++ lines (tagged rest)) (lines-form i (e.form c))
-    ∙ ap (λ x. flat_map line_bytes (form_lines i (e.form c)) ++ x) (lines-open e (e.set s c) (i + 1) t)
+lines-open : (ref : Reference) (e : Coding) (s : EscapeState) (i : ℕ) (t : List ℕ) → lines (tagged (open_items ref e s i t)) ≡ flat_map line_bytes (lost_in e i t)
+lines-open ref e s i [] = refl
+lines-open ref e s i (c ∷ t) =
+    let rest : List Item = open_items ref e (e.set s c) (i + 1) t in
+    lines-both (map Byte (e.escape s (e.set s c))) (form_items ref i (e.form c) ++ rest)
+    ∙ ap (λ x. x ++ lines (tagged (form_items ref i (e.form c) ++ rest))) (lines-bytes (e.escape s (e.set s c)))
+    ∙ lines-both (form_items ref i (e.form c)) rest
+    ∙ ap (λ x. x ++ lines (tagged rest)) (lines-form ref i (e.form c))
+    ∙ ap (λ x. flat_map line_bytes (form_lines i (e.form c)) ++ x) (lines-open ref e (e.set s c) (i + 1) t)
     ∙ sym (flat_map-append line_bytes (form_lines i (e.form c)) (lost_in e (i + 1) t))
 
-pub lines-trace : (e : Coding) (s : EscapeState) (offset i : ℕ) (ps : List Piece) → lines (tagged (trace_from Decimal e s offset i ps)) ≡ flat_map line_bytes (log_lines e offset i ps)
-lines-trace e s offset i [] = lines-bytes (e.escape s Ascii)
-lines-trace e s offset i (well_formed n cs ∷ ps) =
-    lines-both (open_items Decimal e s i cs) (trace_from Decimal e (last_set e s cs) (offset + n) (i + length cs) ps)
-    ∙ ap (λ x. x ++ lines (tagged (trace_from Decimal e (last_set e s cs) (offset + n) (i + length cs) ps))) (lines-open e s i cs)
-    ∙ ap (λ x. flat_map line_bytes (lost_in e i cs) ++ x) (lines-trace e (last_set e s cs) (offset + n) (i + length cs) ps)
+pub lines-trace : (ref : Reference) (e : Coding) (s : EscapeState) (offset i : ℕ) (ps : List Piece) → lines (tagged (trace_from ref e s offset i ps)) ≡ flat_map line_bytes (log_lines e offset i ps)
+lines-trace ref e s offset i [] = lines-bytes (e.escape s Ascii)
+lines-trace ref e s offset i (well_formed n cs ∷ ps) =
+    lines-both (open_items ref e s i cs) (trace_from ref e (last_set e s cs) (offset + n) (i + length cs) ps)
+    ∙ ap (λ x. x ++ lines (tagged (trace_from ref e (last_set e s cs) (offset + n) (i + length cs) ps))) (lines-open ref e s i cs)
+    ∙ ap (λ x. flat_map line_bytes (lost_in e i cs) ++ x) (lines-trace ref e (last_set e s cs) (offset + n) (i + length cs) ps)
     ∙ sym (flat_map-append line_bytes (lost_in e i cs) (log_lines e (offset + n) (i + length cs) ps))
-lines-trace e s offset i (malformed n ∷ ps) =
-    let rest : List Item = trace_from Decimal e (e.set s 0xFFFD) (offset + n) (i + 1) ps in
-    lines-append (map Line (line_bytes (LogLine.Bad offset n))) (tagged (open_items Decimal e s i (0xFFFD ∷ []) ++ rest))
-    ∙ ap (λ x. x ++ lines (tagged (open_items Decimal e s i (0xFFFD ∷ []) ++ rest))) (lines-lines (line_bytes (LogLine.Bad offset n)))
+lines-trace ref e s offset i (malformed n ∷ ps) =
+    let rest : List Item = trace_from ref e (e.set s 0xFFFD) (offset + n) (i + 1) ps in
+    lines-append (map Line (line_bytes (LogLine.Bad offset n))) (tagged (open_items ref e s i (0xFFFD ∷ []) ++ rest))
+    ∙ ap (λ x. x ++ lines (tagged (open_items ref e s i (0xFFFD ∷ []) ++ rest))) (lines-lines (line_bytes (LogLine.Bad offset n)))
     ∙ ap (λ x. line_bytes (LogLine.Bad offset n) ++ x)
-    (lines-both (open_items Decimal e s i (0xFFFD ∷ [])) rest
-    ∙ ap (λ x. x ++ lines (tagged rest)) (lines-open e s i (0xFFFD ∷ []))
-    ∙ ap (λ x. flat_map line_bytes (lost_in e i (0xFFFD ∷ [])) ++ x) (lines-trace e (e.set s 0xFFFD) (offset + n) (i + 1) ps)
+    (lines-both (open_items ref e s i (0xFFFD ∷ [])) rest
+    ∙ ap (λ x. x ++ lines (tagged rest)) (lines-open ref e s i (0xFFFD ∷ []))
+    ∙ ap (λ x. flat_map line_bytes (lost_in e i (0xFFFD ∷ [])) ++ x) (lines-trace ref e (e.set s 0xFFFD) (offset + n) (i + 1) ps)
     ∙ sym (flat_map-append line_bytes (lost_in e i (0xFFFD ∷ [])) (log_lines e (offset + n) (i + 1) ps)))
 
 -- The numbers of its lines.
-bad_lines-form : (i : ℕ) (f : Form) → bad_lines (form_items Decimal i f) ≡ 0
-bad_lines-form i (Mapped bs) = bad_lines-bytes bs
-bad_lines-form i (Unmapped c) = bad_lines-bytes (reference Decimal c)
+bad_lines-form : (ref : Reference) (i : ℕ) (f : Form) → bad_lines (form_items ref i f) ≡ 0
+bad_lines-form ref i (Mapped bs) = bad_lines-bytes bs
+bad_lines-form ref i (Unmapped c) = bad_lines-bytes (reference ref c)
 
-bad_lines-open : (e : Coding) (s : EscapeState) (i : ℕ) (t : List ℕ) → bad_lines (open_items Decimal e s i t) ≡ 0
-bad_lines-open e s i [] = refl
-bad_lines-open e s i (c ∷ t) =
-    let rest : List Item = open_items Decimal e (e.set s c) (i + 1) t in
-    omega (arith, bad_lines-append (map Byte (e.escape s (e.set s c))) (form_items Decimal i (e.form c) ++ rest), bad_lines-bytes (e.escape s (e.set s c)), bad_lines-append (form_items Decimal i (e.form c)) rest, bad_lines-form i (e.form c), bad_lines-open e (e.set s c) (i + 1) t)
+bad_lines-open : (ref : Reference) (e : Coding) (s : EscapeState) (i : ℕ) (t : List ℕ) → bad_lines (open_items ref e s i t) ≡ 0
+bad_lines-open ref e s i [] = refl
+bad_lines-open ref e s i (c ∷ t) =
+    let rest : List Item = open_items ref e (e.set s c) (i + 1) t in
+    omega (arith, bad_lines-append (map Byte (e.escape s (e.set s c))) (form_items ref i (e.form c) ++ rest), bad_lines-bytes (e.escape s (e.set s c)), bad_lines-append (form_items ref i (e.form c)) rest, bad_lines-form ref i (e.form c), bad_lines-open ref e (e.set s c) (i + 1) t)
 
-pub bad_lines-trace : (e : Coding) (s : EscapeState) (offset i : ℕ) (ps : List Piece) → bad_lines (trace_from Decimal e s offset i ps) ≡ malformed_count ps
-bad_lines-trace e s offset i [] = bad_lines-bytes (e.escape s Ascii)
-bad_lines-trace e s offset i (well_formed n cs ∷ ps) =
-    omega (arith, bad_lines-append (open_items Decimal e s i cs) (trace_from Decimal e (last_set e s cs) (offset + n) (i + length cs) ps), bad_lines-open e s i cs, bad_lines-trace e (last_set e s cs) (offset + n) (i + length cs) ps)
-bad_lines-trace e s offset i (malformed n ∷ ps) =
-    omega (arith, bad_lines-append (open_items Decimal e s i (0xFFFD ∷ [])) (trace_from Decimal e (e.set s 0xFFFD) (offset + n) (i + 1) ps), bad_lines-open e s i (0xFFFD ∷ []), bad_lines-trace e (e.set s 0xFFFD) (offset + n) (i + 1) ps)
+pub bad_lines-trace : (ref : Reference) (e : Coding) (s : EscapeState) (offset i : ℕ) (ps : List Piece) → bad_lines (trace_from ref e s offset i ps) ≡ malformed_count ps
+bad_lines-trace ref e s offset i [] = bad_lines-bytes (e.escape s Ascii)
+bad_lines-trace ref e s offset i (well_formed n cs ∷ ps) =
+    omega (arith, bad_lines-append (open_items ref e s i cs) (trace_from ref e (last_set e s cs) (offset + n) (i + length cs) ps), bad_lines-open ref e s i cs, bad_lines-trace ref e (last_set e s cs) (offset + n) (i + length cs) ps)
+bad_lines-trace ref e s offset i (malformed n ∷ ps) =
+    omega (arith, bad_lines-append (open_items ref e s i (0xFFFD ∷ [])) (trace_from ref e (e.set s 0xFFFD) (offset + n) (i + 1) ps), bad_lines-open ref e s i (0xFFFD ∷ []), bad_lines-trace ref e (e.set s 0xFFFD) (offset + n) (i + 1) ps)
 
-lost_lines-form : (i : ℕ) (f : Form) → lost_lines (form_items Decimal i f) ≡ unmapped_count f
-lost_lines-form i (Mapped bs) = lost_lines-bytes bs
-lost_lines-form i (Unmapped c) = omega (arith, lost_lines-bytes (reference Decimal c))
+lost_lines-form : (ref : Reference) (i : ℕ) (f : Form) → lost_lines (form_items ref i f) ≡ unmapped_count f
+lost_lines-form ref i (Mapped bs) = lost_lines-bytes bs
+lost_lines-form ref i (Unmapped c) = omega (arith, lost_lines-bytes (reference ref c))
 
-lost_lines-open : (e : Coding) (s : EscapeState) (i : ℕ) (t : List ℕ) → lost_lines (open_items Decimal e s i t) ≡ lost_count e t
-lost_lines-open e s i [] = refl
-lost_lines-open e s i (c ∷ t) =
-    let rest : List Item = open_items Decimal e (e.set s c) (i + 1) t in
-    omega (arith, lost_lines-append (map Byte (e.escape s (e.set s c))) (form_items Decimal i (e.form c) ++ rest), lost_lines-bytes (e.escape s (e.set s c)), lost_lines-append (form_items Decimal i (e.form c)) rest, lost_lines-form i (e.form c), lost_lines-open e (e.set s c) (i + 1) t)
+lost_lines-open : (ref : Reference) (e : Coding) (s : EscapeState) (i : ℕ) (t : List ℕ) → lost_lines (open_items ref e s i t) ≡ lost_count e t
+lost_lines-open ref e s i [] = refl
+lost_lines-open ref e s i (c ∷ t) =
+    let rest : List Item = open_items ref e (e.set s c) (i + 1) t in
+    omega (arith, lost_lines-append (map Byte (e.escape s (e.set s c))) (form_items ref i (e.form c) ++ rest), lost_lines-bytes (e.escape s (e.set s c)), lost_lines-append (form_items ref i (e.form c)) rest, lost_lines-form ref i (e.form c), lost_lines-open ref e (e.set s c) (i + 1) t)
 
 lost_count-append : (e : Coding) (a b : List ℕ) → lost_count e (a ++ b) ≡ lost_count e a + lost_count e b
 lost_count-append e [] b = omega arith
 lost_count-append e (c ∷ a) b = omega (arith, lost_count-append e a b)
 
-pub lost_lines-trace : (e : Coding) (s : EscapeState) (offset i : ℕ) (ps : List Piece) → lost_lines (trace_from Decimal e s offset i ps) ≡ lost_count e (text ps)
-lost_lines-trace e s offset i [] = lost_lines-bytes (e.escape s Ascii)
-lost_lines-trace e s offset i (well_formed n cs ∷ ps) =
-    omega (arith, lost_lines-append (open_items Decimal e s i cs) (trace_from Decimal e (last_set e s cs) (offset + n) (i + length cs) ps), lost_lines-open e s i cs, lost_lines-trace e (last_set e s cs) (offset + n) (i + length cs) ps, lost_count-append e cs (text ps))
-lost_lines-trace e s offset i (malformed n ∷ ps) =
-    omega (arith, lost_lines-append (open_items Decimal e s i (0xFFFD ∷ [])) (trace_from Decimal e (e.set s 0xFFFD) (offset + n) (i + 1) ps), lost_lines-open e s i (0xFFFD ∷ []), lost_lines-trace e (e.set s 0xFFFD) (offset + n) (i + 1) ps, lost_count-append e (0xFFFD ∷ []) (text ps))
+pub lost_lines-trace : (ref : Reference) (e : Coding) (s : EscapeState) (offset i : ℕ) (ps : List Piece) → lost_lines (trace_from ref e s offset i ps) ≡ lost_count e (text ps)
+lost_lines-trace ref e s offset i [] = lost_lines-bytes (e.escape s Ascii)
+lost_lines-trace ref e s offset i (well_formed n cs ∷ ps) =
+    omega (arith, lost_lines-append (open_items ref e s i cs) (trace_from ref e (last_set e s cs) (offset + n) (i + length cs) ps), lost_lines-open ref e s i cs, lost_lines-trace ref e (last_set e s cs) (offset + n) (i + length cs) ps, lost_count-append e cs (text ps))
+lost_lines-trace ref e s offset i (malformed n ∷ ps) =
+    omega (arith, lost_lines-append (open_items ref e s i (0xFFFD ∷ [])) (trace_from ref e (e.set s 0xFFFD) (offset + n) (i + 1) ps), lost_lines-open ref e s i (0xFFFD ∷ []), lost_lines-trace ref e (e.set s 0xFFFD) (offset + n) (i + 1) ps, lost_count-append e (0xFFFD ∷ []) (text ps))
 
 -- Where the log is empty.
 

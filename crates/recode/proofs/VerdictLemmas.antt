@@ -16,7 +16,7 @@ use Rattle.encoding_mem.specs.laws.ReadCalls.{begins_along, differing_part_never
 use Rattle.encoding_mem.specs.laws.Verdict.{keeps_agreed, keeps_false, keeps_lost}
 use Rattle.encoding_mem.specs.declared.form.EscapeState.{EscapeState}
 use Rattle.encoding_mem.specs.declared.form.EscapeState.TheVariants.{Ascii}
-use Rattle.encoding_mem.specs.declared.reference.Reference.TheVariants.{Decimal}
+use Rattle.encoding_mem.specs.declared.reference.Reference.{Reference}
 use Rattle.encoding_mem.specs.declared.encoder_result.EncoderResult.{EncoderResult}
 use Rattle.encoding_mem.specs.declared.encoder_result.EncoderResult.TheVariants.{InputEmpty, OutputFull, Unmappable}
 use Rattle.recode.specs.Verdict.{CanTell, IsFaithfulFor, IsReadAlong, IsReadBack, IsToldAtEnd, IsToldByLog, Keeps, ReadsAsOther, ReadsAsText, VerdictView, to_read}
@@ -201,32 +201,32 @@ pub both_ways : {A B C : Type 0} → A ↔ B → B ↔ C → A ↔ C
 both_ways h k = (λ a. k.0 (h.0 a), λ c. h.1 (k.1 c))
 
 -- pieces whose text was encoded, and those behind them
-pub faithful_on : (e : Coding) (last : Bool) (v v' : VerdictView) (s s' : EscapeState) (taken behind all : List Piece) (t : List ℕ) → Keeps e last v s t v' s' [] → (IsTrue last → text behind ≡ []) → AreWellFormed taken → text taken ≡ t
-    → all ≡ taken ++ behind → IsFaithfulFor v e s all ↔ IsFaithfulFor v' e s' behind
-faithful_on e last v v' s s' taken behind all t keeps ends good same is =
-    let both = keeps Decimal (text behind) ends in
+pub faithful_on : (ref : Reference) (e : Coding) (last : Bool) (v v' : VerdictView) (s s' : EscapeState) (taken behind all : List Piece) (t : List ℕ) → Keeps e last v s t v' s' [] → (IsTrue last → text behind ≡ []) → AreWellFormed taken → text taken ≡ t
+    → all ≡ taken ++ behind → IsFaithfulFor ref v e s all ↔ IsFaithfulFor ref v' e s' behind
+faithful_on ref e last v v' s s' taken behind all t keeps ends good same is =
+    let both = keeps ref (text behind) ends in
     let whole : text all ≡ t ++ text behind = ap text is ∙ text-append taken behind ∙ ap (λ l. l ++ text behind) same in (
       λ h.
-          let on = both.0 (h.0, subst (ReadsWhole Decimal e (to_read v) s) whole h.2) in
+          let on = both.0 (h.0, subst (ReadsWhole ref e (to_read v) s) whole h.2) in
           (on.0, (well_formed_parts taken behind (subst AreWellFormed is h.1)).1, on.1),
       λ h.
           let on = both.1 (h.0, h.2) in
-          (on.0, subst AreWellFormed (sym is) (AreWellFormed-append taken behind good h.1), subst (ReadsWhole Decimal e (to_read v) s) (sym whole) on.1),
+          (on.0, subst AreWellFormed (sym is) (AreWellFormed-append taken behind good h.1), subst (ReadsWhole ref e (to_read v) s) (sym whole) on.1),
     )
 
-module _ (before after : DecoderState) (src : List ℕ) (last : Bool) (read : ℕ) (t : List ℕ) (e : Coding) (v v' : VerdictView) (s s' : EscapeState) where
+module _ (ref : Reference) (before after : DecoderState) (src : List ℕ) (last : Bool) (read : ℕ) (t : List ℕ) (e : Coding) (v v' : VerdictView) (s s' : EscapeState) where
   pub well_formed_verdict : (k : WellFormedCall before after src last read t) (ended : Bool) → Keeps e ended v s t v' s' [] → (IsTrue ended → (r : List ℕ) → (last ≡ true → r ≡ []) → after.pieces (drop read src ++ r) ≡ [])
-      → (r : List ℕ) → (last ≡ true → r ≡ []) → IsFaithfulFor v e s (before.pieces (src ++ r)) ↔ IsFaithfulFor v' e s' (after.pieces (drop read src ++ r))
+      → (r : List ℕ) → (last ≡ true → r ≡ []) → IsFaithfulFor ref v e s (before.pieces (src ++ r)) ↔ IsFaithfulFor ref v' e s' (after.pieces (drop read src ++ r))
   well_formed_verdict k ended keeps none r h =
-      faithful_on e ended v v' s s' k.taken (after.pieces (drop read src ++ r)) (before.pieces (src ++ r)) t keeps (λ end. ap text (none end r h)) k.fine (text_of_scalars k.taken k.fine ∙ sym k.text_is) (k.rest r h)
+      faithful_on ref e ended v v' s s' k.taken (after.pieces (drop read src ++ r)) (before.pieces (src ++ r)) t keeps (λ end. ap text (none end r h)) k.fine (text_of_scalars k.taken k.fine ∙ sym k.text_is) (k.rest r h)
 
   pub malformed_verdict : (a b : ℕ) (k : MalformedCall before after src last read a b t) → v'.faithful ≡ false
-      → (r : List ℕ) → (last ≡ true → r ≡ []) → IsFaithfulFor v e s (before.pieces (src ++ r)) ↔ IsFaithfulFor v' e s' (after.pieces (drop read src ++ r))
+      → (r : List ℕ) → (last ≡ true → r ≡ []) → IsFaithfulFor ref v e s (before.pieces (src ++ r)) ↔ IsFaithfulFor ref v' e s' (after.pieces (drop read src ++ r))
   malformed_verdict a b k lost r h = (
     λ x. absurd ((well_formed_parts k.prefix (malformed a ∷ after.pieces (drop read src ++ r)) (subst AreWellFormed (k.rest r h) x.1)).1.0),
     λ x. absurd (false≢true (sym lost ∙ x.0)),
   )
 
 -- where all is written, the verdict is told
-pub verdict_told : (e : Coding) (need : ℕ) → IsCoding need e → (v : VerdictView) (s : EscapeState) (ps : List Piece) → ps ≡ [] → s ≡ Ascii → IsToldAtEnd v → IsFaithfulFor v e s ps ↔ IsTrue v.faithful
-verdict_told e need coding v s ps none closed told = rw (none, closed) (λ h. h.0, λ h. (h, tt, ends_along Decimal e coding (to_read v) (told h)))
+pub verdict_told : (ref : Reference) (e : Coding) (need : ℕ) → IsCoding need e → (v : VerdictView) (s : EscapeState) (ps : List Piece) → ps ≡ [] → s ≡ Ascii → IsToldAtEnd v → IsFaithfulFor ref v e s ps ↔ IsTrue v.faithful
+verdict_told ref e need coding v s ps none closed told = rw (none, closed) (λ h. h.0, λ h. (h, tt, ends_along ref e coding (to_read v) (told h)))

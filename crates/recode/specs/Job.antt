@@ -1,7 +1,6 @@
 -- What a job makes of a whole input.
 use Rattle.std.specs.Prelude.{◌≡◌, ℕ, ◌+◌, ◌^◌, ◌≤◌, List, [], ◌∷◌, ◌++◌, length}
 use Rattle.std.specs.List.{flat_map}
-use Rattle.encoding_mem.specs.declared.reference.Reference.TheVariants.{Decimal}
 use Rattle.encoding_mem.specs.Piece.{Piece, well_formed, malformed, text, AreWellFormed}
 use Rattle.encoding_mem.specs.Coding.{Coding, output}
 use Rattle.encoding_mem.specs.Items.{Item, trace_from}
@@ -15,6 +14,7 @@ use Rattle.encoding_tables.specs.IndexLists.{AreAcceptedTables}
 use Rattle.recode_log.specs.Line.{line_bytes}
 use Rattle.recode_log.specs.declared.line.LogLine.{LogLine}
 use Rattle.recode_log.specs.declared.line.LogLine.TheVariants.{Bad, Lost}
+use Rattle.recode.specs.Policy.{form_of}
 use Rattle.recode.specs.declared.job.Job.{Job}
 
 -- the indexes of both encodings are there, as they were accepted; the limit is that of the log's offsets
@@ -45,7 +45,7 @@ output_pieces j y = pieces_of j.tables.now (output_encoding_of j.to) y
 
 -- what is written to the output
 abbrev pub output_of : Job → List ℕ → List ℕ
-output_of j x = output Decimal (target_of j) (input_text j x)
+output_of j x = output (form_of j.policy) (target_of j) (input_text j x)
 
 -- the lines of characters without bytes, the first with the index i
 abbrev pub form_lines : ℕ → Form → List LogLine
@@ -69,7 +69,7 @@ log_of j x = flat_map line_bytes (log_lines (target_of j) 0 0 (input_pieces j x)
 
 -- both, in their one order
 abbrev pub trace : Job → List ℕ → List Item
-trace j x = trace_from Decimal (target_of j) Ascii 0 0 (input_pieces j x)
+trace j x = trace_from (form_of j.policy) (target_of j) Ascii 0 0 (input_pieces j x)
 
 -- Nothing was lost: no piece of the input is malformed, and the output, decoded without mark handling, has no malformed
 -- sequence and is the input's text.

@@ -2,6 +2,7 @@ pub mod Character
 pub mod TaggedByte
 pub mod WrittenItems
 pub mod Work
+pub mod Policy
 pub mod Fault
 pub mod Failures
 pub mod Streams

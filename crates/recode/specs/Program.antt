@@ -1,8 +1,10 @@
 -- What the program does and returns for its words.
-use Rattle.std.specs.Prelude.{◌≡◌, ◌≢◌, ◌⊎◌, ℕ, List, Option, true}
+use Rattle.std.specs.Prelude.{◌≡◌, ◌≢◌, ◌⊎◌, ℕ, List, Option, None, IfSome, true}
 use Rattle.encoding_front.specs.Encodings.{HasLabel}
 use Rattle.encoding_front.specs.declared.encoding.Encoding.{Encoding}
 use Rattle.encoding_front.specs.declared.mark.Mark.{Mark}
+use Rattle.encoding_index.specs.Loads.{Loads, text_fault}
+use Rattle.encoding_tables.specs.FileNames.{file_name_of}
 use Rattle.encoding_tables.specs.IndexLists.{IndexLists, has}
 use Rattle.encoding_tables.specs.declared.index_kind.IndexKind.{IndexKind}
 use Rattle.recode_log.specs.declared.counted.Counted.{Counted}
@@ -10,12 +12,14 @@ use Rattle.recode_words.specs.Request.{AsksFor, HasMeaninglessValue, IsRefusedBy
 use Rattle.recode_words.specs.declared.request.Request.{Request}
 use Rattle.recode_words.specs.declared.request.Request.TheVariants.{Run, Help, Version, List as Listing}
 use Rattle.recode_words.specs.declared.words.MarkWord.{MarkWord}
+use Rattle.recode_words.specs.declared.words.PolicyWord.{PolicyWord}
 use Rattle.recode_words.specs.declared.words.Words.{Words}
 use Rattle.recode.specs.Conversion.{Breaks, Converts}
 use Rattle.recode.specs.Failures.{Failures, failures_in}
 use Rattle.recode.specs.Job.{IsValidJob}
 use Rattle.recode.specs.Streams.{Streams, streams_in}
 use Rattle.recode.specs.declared.job.Job.{Job}
+use Rattle.recode.specs.declared.job.Policy.{Policy}
 
 -- what the word for a mark mode says
 abbrev pub mark_of_word : MarkWord → Mark
@@ -23,11 +27,17 @@ mark_of_word MarkWord.Sniff = Mark.Sniff
 mark_of_word MarkWord.Remove = Mark.Remove
 mark_of_word MarkWord.Keep = Mark.Keep
 
+-- and the word for what is written for a character without bytes
+abbrev pub policy_of_word : PolicyWord → Policy
+policy_of_word PolicyWord.Decimal = Policy.Decimal
+policy_of_word PolicyWord.Hexadecimal = Policy.Hexadecimal
+
 -- the job of the words: its encodings have their labels, and it can be run
 pub record IsJobOf (w : Words) (j : Job) : Type 0 where
   pub from : HasLabel j.from w.from.now
   pub to : HasLabel j.to w.to.now
   pub mark : j.mark ≡ mark_of_word w.mark
+  pub policy : j.policy ≡ policy_of_word w.unmappable
   pub limit : j.limit ≡ w.limit
   pub valid : IsValidJob j
 
@@ -55,6 +65,24 @@ pub record AskForText (words : List (List ℕ)) : Type 0 where
   pub request : Request
   pub asked : AsksFor words request
   pub text : IsText request
+
+-- the index of the kind is what this text stands for, which has no fault
+pub record IsOfText (tables : IndexLists) (kind : IndexKind) (text : List ℕ) : Type 0 where
+  pub faultless : text_fault kind text ≡ None
+  pub loads : Loads tables kind text
+
+-- what files hold, by their folders and their names, as far as it is told
+abbrev pub FileTexts : Type 0
+FileTexts = (dir file : List ℕ) → Option (List ℕ)
+
+-- each index that is there is what its file in the folder holds, where that is told
+abbrev pub AreOfFiles : FileTexts → List ℕ → IndexLists → Type 0
+AreOfFiles holds dir tables = (kind : IndexKind) → has tables kind ≡ true → IfSome (holds dir (file_name_of kind)) (IsOfText tables kind)
+
+-- what is put into the tables is what files hold, and these stay as they are
+pub record AddsFromFiles (holds holds' : FileTexts) (dir : List ℕ) (old new : IndexLists) : Type 0 where
+  pub same : (d f : List ℕ) → holds' d f ≡ holds d f
+  pub added : AreOfFiles holds dir old → AreOfFiles holds dir new
 
 -- each index that was there is there
 abbrev pub AreKept : IndexLists → IndexLists → Type 0
@@ -87,15 +115,16 @@ pub record IsLeftAlone {R W L : Type 0} (before after : Devices R W L) : Type 0 
   pub unwritten : after.writer ≡ before.writer
 
 -- What is returned for words that clap takes: a label is unknown, or an index or memory is missing, or their job is
--- converted.
-abbrev pub AnswersWords : {R W L : Type 0} → (R → Option (List ℕ)) → (W → Option (List ℕ)) → (L → Option (List ℕ)) → Devices R W L → Devices R W L → Words → ℕ → Type 0
-AnswersWords remaining contents logged before after w status =
+-- converted, with the indexes of the folder's files.
+abbrev pub AnswersWords : {R W L : Type 0} → FileTexts → (R → Option (List ℕ)) → (W → Option (List ℕ)) → (L → Option (List ℕ)) → Devices R W L → Devices R W L → Words → ℕ → Type 0
+AnswersWords holds remaining contents logged before after w status =
     ((status ≡ 2) × HasUnknownLabel w × IsLeftAlone before after)
     ⊎ (((status ≡ 3) × IsLeftAlone before after)
-    ⊎ ((j : Job) × IsJobOf w j × IsConversionOn remaining contents logged before after j status))
+    ⊎ ((j : Job) × IsJobOf w j × AreOfFiles holds w.indexes.now j.tables.now × IsConversionOn remaining contents logged before after j status))
 
 -- What is returned for the program's words: they are refused, or the start fails, with nothing read and nothing written
--- but a message; or they ask for a text, with nothing read and no message; or the job that they mean is converted.
+-- but a message; or they ask for a text, with nothing read and no message; or the job that they mean is converted, with
+-- the indexes of the folder's files.
 pub record RefusesWords {R W L : Type 0} (before after : Devices R W L) (words : List (List ℕ)) (status : ℕ) : Type 0 where
   pub answered : status ≡ 2
   pub refused : IsRefusedByClap words ⊎ (HasMeaninglessValue words ⊎ NamesUnknown words)
@@ -111,16 +140,17 @@ pub record TellsText {R W L : Type 0} (before after : Devices R W L) (words : Li
   pub unread : after.reader ≡ before.reader
   pub unlogged : after.log ≡ before.log
 
-pub record RunsJob {R W L : Type 0} (remaining : R → Option (List ℕ)) (contents : W → Option (List ℕ)) (logged : L → Option (List ℕ)) (before after : Devices R W L) (words : List (List ℕ)) (status : ℕ) : Type 0 where
+pub record RunsJob {R W L : Type 0} (holds : FileTexts) (remaining : R → Option (List ℕ)) (contents : W → Option (List ℕ)) (logged : L → Option (List ℕ)) (before after : Devices R W L) (words : List (List ℕ)) (status : ℕ) : Type 0 where
   pub w : Words
   pub meant : AsksFor words (Run w)
   pub j : Job
   pub job : IsJobOf w j
+  pub files : AreOfFiles holds w.indexes.now j.tables.now
   pub converted : IsConversionOn remaining contents logged before after j status
 
-abbrev pub AnswersProgram : {R W L : Type 0} → (R → Option (List ℕ)) → (W → Option (List ℕ)) → (L → Option (List ℕ)) → Devices R W L → Devices R W L → List (List ℕ) → ℕ → Type 0
-AnswersProgram remaining contents logged before after words status =
+abbrev pub AnswersProgram : {R W L : Type 0} → FileTexts → (R → Option (List ℕ)) → (W → Option (List ℕ)) → (L → Option (List ℕ)) → Devices R W L → Devices R W L → List (List ℕ) → ℕ → Type 0
+AnswersProgram holds remaining contents logged before after words status =
     RefusesWords before after words status
     ⊎ (FailsToStart before after status
     ⊎ (TellsText before after words status
-    ⊎ RunsJob remaining contents logged before after words status))
+    ⊎ RunsJob holds remaining contents logged before after words status))

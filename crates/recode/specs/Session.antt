@@ -1,16 +1,17 @@
 -- A session as its callers know it, and what a run of it says.
-use Rattle.std.specs.Prelude.{◌≡◌, ◌≢◌, ℕ, ◌+◌, ◌*◌, ◌≤◌, ◌↔◌, IsTrue, List, [], ◌++◌, length, Bool, true, Result, Ok, Err}
+use Rattle.std.specs.Prelude.{◌≡◌, ◌≢◌, ℕ, ◌+◌, ◌*◌, ◌≤◌, ◌⊎◌, ◌↔◌, IsTrue, List, [], ◌++◌, length, Bool, true, Result, Ok, Err}
 use Rattle.std.specs.Io.KnownBytes.{Appends, Consumes, IsAtEnd}
-use Rattle.encoding_mem.specs.Piece.{malformed_count}
+use Rattle.encoding_mem.specs.Piece.{Piece, malformed_count}
 use Rattle.encoding_mem.specs.Coding.{lost_count}
 use Rattle.encoding_mem.specs.declared.form.EscapeState.TheVariants.{Ascii}
 use Rattle.recode.specs.Job.{trace, target_of, output_of, log_of, source_in, input_pieces, input_text, Faithful}
+use Rattle.recode.specs.Latency.{WroteDecided}
 use Rattle.recode.specs.State.{State, WillBeFaithful, to_write}
 use Rattle.recode.specs.Streams.{Streams, Written}
 use Rattle.recode.specs.TaggedByte.{TaggedByte, Wrote, IsPrefix, tagged, outputs, lines}
 use Rattle.recode.specs.Step.{PassesLimit}
 use Rattle.recode.specs.declared.job.Fault.{Fault}
-use Rattle.recode.specs.declared.job.Fault.TheVariants.{TooLong}
+use Rattle.recode.specs.declared.job.Fault.TheVariants.{Read, TooLong}
 use Rattle.recode.specs.declared.job.Job.{Job}
 use Rattle.recode.specs.declared.job.Progress.{Progress}
 use Rattle.recode.specs.declared.job.Report.{Report}
@@ -44,6 +45,7 @@ pub record IsNewSession (v : View) (j : Job) : Type 0 where
   pub open_ : v.phase ≡ Open
   pub source : (x : List ℕ) → v.state.source x ≡ source_in j x
   pub coding : v.state.coding ≡ target_of j
+  pub policy : v.state.policy ≡ j.policy
   pub read : v.state.counts.read ≡ 0
   pub bad : v.state.counts.bad ≡ 0
   pub lost : v.state.counts.lost ≡ 0
@@ -86,7 +88,8 @@ pub record Completes (before after : Streams) (j : Job) (p : Report) : Type 0 wh
   pub report : IsReport j input p
 
 -- A run that a fault ended: what was written is a prefix of what any continuation of the bytes read gives, none where
--- the end was read, output and log in their one order. Bytes are refused by `TooLong` alone, and pass the limit.
+-- the end was read, output and log in their one order. Bytes are refused by `TooLong` alone, and pass the limit. Where
+-- the fault is no writer's, all that the bytes read decide was written.
 pub record Fails (before after : Streams) (j : Job) (f : Fault) : Type 0 where
   pub input : List ℕ
   pub refused : List ℕ
@@ -102,6 +105,7 @@ pub record Fails (before after : Streams) (j : Job) (f : Fault) : Type 0 where
   pub prefix : (r : List ℕ) → (ended ≡ true → r ≡ []) → IsPrefix taken (tagged (trace j (input ++ r)))
   pub output : (r : List ℕ) → (ended ≡ true → r ≡ []) → IsPrefix (outputs taken) (output_of j (input ++ r))
   pub logged : (r : List ℕ) → (ended ≡ true → r ≡ []) → IsPrefix (lines taken) (log_of j (input ++ r))
+  pub latest : (f ≡ Read) ⊎ (f ≡ TooLong) → (ps : List Piece) × WroteDecided before.written after.written j input ps
 
 -- The whole input x was converted and reported.
 pub record IsConverted (before after : Written) (j : Job) (x : List ℕ) (p : Report) : Type 0 where

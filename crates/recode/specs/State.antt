@@ -5,24 +5,28 @@ use Rattle.encoding_mem.specs.Decoding.{DecoderState}
 use Rattle.encoding_mem.specs.Items.{Item}
 use Rattle.encoding_mem.specs.declared.form.EscapeState.{EscapeState}
 use Rattle.encoding_front.specs.declared.encoding.Encoding.{Encoding}
+use Rattle.recode.specs.Policy.{form_of}
 use Rattle.recode.specs.TraceToWrite.{trace_to_write}
 use Rattle.recode.specs.Verdict.{IsFaithfulFor, VerdictView}
+use Rattle.recode.specs.declared.job.Policy.{Policy}
 use Rattle.recode.specs.declared.target.Counts.{Counts}
 
 -- The pieces of the bytes to come, and the encoding that the input turns out to be in with them; the target's rule and
--- the set in force; whether something was lost, and what was counted so far.
+-- the set in force, and what is written for characters without bytes; whether something was lost, and what was counted
+-- so far.
 pub record State : Type 0 where
   pub decoder : DecoderState
   pub source : List ℕ → Encoding
   pub coding : Coding
   pub set : EscapeState
+  pub policy : Policy
   pub verdict : VerdictView
   pub counts : Counts
 
 -- what is still to be written for the bytes to come
 abbrev pub to_write : State → List ℕ → List Item
-to_write s r = trace_to_write s.decoder s.coding s.set s.counts r
+to_write s r = trace_to_write (form_of s.policy) s.decoder s.coding s.set s.counts r
 
 -- nothing was lost so far, and nothing will be of these bytes
 abbrev pub WillBeFaithful : State → List ℕ → Type 0
-WillBeFaithful s r = IsFaithfulFor s.verdict s.coding s.set (s.decoder.pieces r)
+WillBeFaithful s r = IsFaithfulFor (form_of s.policy) s.verdict s.coding s.set (s.decoder.pieces r)

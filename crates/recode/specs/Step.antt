@@ -2,7 +2,6 @@
 use Rattle.std.specs.Prelude.{◌≡◌, ◌≢◌, ◌↔◌, IsTrue, ℕ, ◌+◌, ◌-◌, ◌*◌, ◌<◌, ◌≤◌, ◌⊎◌, List, [], ◌++◌, length, Bool, true, false}
 use Rattle.std.specs.Io.KnownBytes.{Appends, Consumes, IsAtEnd}
 use Rattle.std.specs.List.{flat_map}
-use Rattle.encoding_mem.specs.declared.reference.Reference.TheVariants.{Decimal}
 use Rattle.encoding_mem.specs.Coding.{Coding, last_set, open_from}
 use Rattle.encoding_mem.specs.Decoding.{DecoderState, Waits}
 use Rattle.encoding_mem.specs.Items.{Item}
@@ -10,6 +9,7 @@ use Rattle.encoding_mem.specs.Piece.{Piece, text}
 use Rattle.encoding_mem.specs.declared.form.EscapeState.{EscapeState}
 use Rattle.recode_log.specs.Line.{line_bytes}
 use Rattle.recode.specs.Job.{log_lines}
+use Rattle.recode.specs.Policy.{form_of}
 use Rattle.recode.specs.State.{State, WillBeFaithful, to_write}
 use Rattle.recode.specs.Streams.{KeepsWritten, Streams, Written}
 use Rattle.recode.specs.TaggedByte.{TaggedByte, Wrote, IsPrefix, tagged}
@@ -43,10 +43,11 @@ pub record StepsOn (before after : Streams) (limit : ℕ) (s s' : State) : Type 
   pub grows : s.counts.read < s'.counts.read
   pub within : s'.counts.read ≤ limit
   pub target : s'.coding ≡ s.coding
+  pub policy : s'.policy ≡ s.policy
   pub source : (r : List ℕ) → s.source (chunk ++ r) ≡ s'.source r
   pub pays : WritesItemsFor before.written after.written s.counts s'.counts false (λ r. to_write s (chunk ++ r)) (to_write s')
   pub advances : Advances (λ r. s.decoder.pieces (chunk ++ r)) s'.decoder.pieces s.coding s.set s'.set s.counts s'.counts
-  pub output : Appends before.written.output after.written.output (open_from Decimal s.coding s.set (text advances.taken))
+  pub output : Appends before.written.output after.written.output (open_from (form_of s.policy) s.coding s.set (text advances.taken))
   pub logged : Appends before.written.log after.written.log (flat_map line_bytes (log_lines s.coding (s.counts.read - s.decoder.pending) s.counts.index advances.taken))
   pub settled : IsNearlyDecided s'.decoder
   pub verdict : (r : List ℕ) → WillBeFaithful s (chunk ++ r) ↔ WillBeFaithful s' r
@@ -58,6 +59,10 @@ pub record HasRun (before after : Streams) (limit : ℕ) (s s' : State) : Type 0
   pub consumed : Consumes before.input after.input chunk
   pub counted : s'.counts.read ≡ s.counts.read + length chunk
   pub within : s'.counts.read ≤ limit
+  pub target : s'.coding ≡ s.coding
+  pub policy : s'.policy ≡ s.policy
+  pub advances : Advances (λ r. s.decoder.pieces (chunk ++ r)) s'.decoder.pieces s.coding s.set s'.set s.counts s'.counts
+  pub settled : IsNearlyDecided s'.decoder
   pub pays : WritesItemsFor before.written after.written s.counts s'.counts false (λ r. to_write s (chunk ++ r)) (to_write s')
   pub source : (r : List ℕ) → s.source (chunk ++ r) ≡ s'.source r
   pub verdict : (r : List ℕ) → WillBeFaithful s (chunk ++ r) ↔ WillBeFaithful s' r
@@ -84,8 +89,8 @@ PassesLimit read limit Write = read ≤ limit
 PassesLimit read limit Log = read ≤ limit
 
 -- What was written is a prefix of what was still to be written for the bytes that were read and counted, and any bytes
--- to come, none where the end was read; it is nothing where the fault is no writer's. Bytes are refused by `TooLong`
--- alone, and pass the limit.
+-- to come, none where the end was read; where the fault is no writer's, none were counted, and nothing was written.
+-- Bytes are refused by `TooLong` alone, and pass the limit.
 pub record Stops (before after : Streams) (limit : ℕ) (s : State) (fault : Fault) : Type 0 where
   pub chunk : List ℕ
   pub refused : List ℕ
@@ -97,7 +102,7 @@ pub record Stops (before after : Streams) (limit : ℕ) (s : State) (fault : Fau
   pub within : s.counts.read + length chunk ≤ limit
   pub limited : PassesLimit (s.counts.read + length (chunk ++ refused)) limit fault
   pub pays : WritesPrefixFor before.written after.written ended (λ r. to_write s (chunk ++ r))
-  pub untouched : (fault ≡ Read) ⊎ (fault ≡ TooLong) → KeepsWritten before.written after.written
+  pub untouched : (fault ≡ Read) ⊎ (fault ≡ TooLong) → (chunk ≡ []) × KeepsWritten before.written after.written
 
 -- a prefix of what this input gives was written
 pub record WrotePrefix (before after : Written) (to_write : List Item) : Type 0 where

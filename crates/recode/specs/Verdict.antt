@@ -2,7 +2,7 @@
 use Rattle.std.specs.Prelude.{◌≡◌, ◌⊎◌, ℕ, Bool, true, false, IsTrue, IsFalse, List, []}
 use Rattle.std.specs.Bool.{MatchBool}
 use Rattle.std.specs.Str.{all_scalars}
-use Rattle.encoding_mem.specs.declared.reference.Reference.TheVariants.{Decimal}
+use Rattle.encoding_mem.specs.declared.reference.Reference.{Reference}
 use Rattle.encoding_mem.specs.Agreement.{ReadsByStep}
 use Rattle.encoding_mem.specs.Coding.{Coding}
 use Rattle.encoding_mem.specs.Decoding.{IsFixed}
@@ -30,8 +30,8 @@ to_read v = v.reader.state.pieces
 
 -- Nothing was lost so far, and nothing will be where these pieces are still to be converted: none is malformed, and
 -- what is written for their text reads back as it.
-abbrev pub IsFaithfulFor : VerdictView → Coding → EscapeState → List Piece → Type 0
-IsFaithfulFor v e s ps = IsTrue v.faithful × AreWellFormed ps × ReadsWhole Decimal e (to_read v) s (text ps)
+abbrev pub IsFaithfulFor : Reference → VerdictView → Coding → EscapeState → List Piece → Type 0
+IsFaithfulFor ref v e s ps = IsTrue v.faithful × AreWellFormed ps × ReadsWhole ref e (to_read v) s (text ps)
 
 -- what leaves the rest of a text keeps the verdict on it
 abbrev pub Keeps : Coding → Bool → VerdictView → EscapeState → List ℕ → VerdictView → EscapeState → List ℕ → Type 0

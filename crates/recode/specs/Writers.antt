@@ -23,10 +23,11 @@ pub record MayFail {W L : Type 0} (writers : Writers W L) : Type 0 where
   pub output : failures_of writers.output.now < 2 ^ 64 - 1
   pub log : failures_of writers.log.now < 2 ^ 64 - 1
 
--- They are the two that they were, whatever was written to them.
+-- They are the two that they were, whatever was written to them, and references are written as before.
 pub record AreTheSame {W L : Type 0} (before after : Writers W L) : Type 0 where
   pub output : after.output.ghost_name ≡ before.output.ghost_name
   pub log : after.log.ghost_name ≡ before.log.ghost_name
+  pub policy : after.policy ≡ before.policy
 
 -- The count of the writer that a fault is of rose by one, and the other stayed. No fault is of another device.
 pub record CountsWriterFault {W L T : Type 0} (before after : Writers W L) (result : Result T Fault) : Type 0 where

@@ -40,6 +40,7 @@ impl<D: StreamDecoder, E: RawEncoder> Engine<D, E> {
     ghost use Rattle.recode.specs.Buffers.{HoldsAnyCharacter, capacity, is_wide};
     ghost use Rattle.recode.specs.EngineState.{engine_state};
     ghost use Rattle.recode.specs.Failures.{CountsFault};
+    ghost use Rattle.recode.specs.Policy.{form_of};
     ghost use Rattle.recode.specs.Step.{Advances, Finishes, IsNearlyDecided, StepsOn, Stops};
     ghost use Rattle.recode.specs.TraceToWrite.{AreSound, trace_to_write};
     ghost use Rattle.recode.specs.Verdict.{CanTell, IsFaithfulFor};
@@ -73,9 +74,11 @@ impl<D: StreamDecoder, E: RawEncoder> Engine<D, E> {
             (written_by W.contents L.contents writers.old)
             (written_by W.contents L.contents writers.new)
             self.old.target.counts self.new.target.counts chunk.entry.last
-            (λ r. trace_to_write (D.view self.old.decoder).state (E.coding self.old.target.encoder)
+            (λ r. trace_to_write (form_of writers.old.policy) (D.view self.old.decoder).state
+            (E.coding self.old.target.encoder)
             (E.set self.old.target.encoder) self.old.target.counts (chunk.entry.bytes.now ++ r))
-            (λ r. trace_to_write (D.view self.new.decoder).state (E.coding self.old.target.encoder)
+            (λ r. trace_to_write (form_of writers.old.policy) (D.view self.new.decoder).state
+            (E.coding self.old.target.encoder)
             (E.set self.new.target.encoder) self.new.target.counts
             (drop p.read chunk.entry.bytes.now ++ r))) }
         ensures source { IfOk result (λ p. (r : List ℕ) → (chunk.entry.last ≡ true → r ≡ [])
@@ -92,7 +95,8 @@ impl<D: StreamDecoder, E: RawEncoder> Engine<D, E> {
         ensures target { E.coding self.new.target.encoder ≡ E.coding self.old.target.encoder }
         ensures done { IfOk result (λ p. p.is_done ≡ true → p.read ≡ length chunk.entry.bytes.now) }
         ensures end { IfOk result (λ p. p.is_done ≡ true → chunk.entry.last ≡ true
-            → trace_to_write (D.view self.new.decoder).state (E.coding self.old.target.encoder)
+            → trace_to_write (form_of writers.old.policy) (D.view self.new.decoder).state
+            (E.coding self.old.target.encoder)
             (E.set self.new.target.encoder) self.new.target.counts [] ≡ []) }
         ensures advances { IfOk result (λ p. chunk.entry.last ≡ false → Advances
             (λ r. (D.view self.old.decoder).state.pieces (chunk.entry.bytes.now ++ r))
@@ -108,15 +112,18 @@ impl<D: StreamDecoder, E: RawEncoder> Engine<D, E> {
         ensures err { OnErr result (WritesPrefixFor
             (written_by W.contents L.contents writers.old)
             (written_by W.contents L.contents writers.new) chunk.entry.last
-            (λ r. trace_to_write (D.view self.old.decoder).state (E.coding self.old.target.encoder)
+            (λ r. trace_to_write (form_of writers.old.policy) (D.view self.old.decoder).state
+            (E.coding self.old.target.encoder)
             (E.set self.old.target.encoder) self.old.target.counts
             (chunk.entry.bytes.now ++ r))) }
         ensures failures { CountsWriterFault writers.old writers.new result }
         ensures verdict { IfOk result (λ p. (r : List ℕ) → (chunk.entry.last ≡ true → r ≡ [])
-            → IsFaithfulFor (verdict_view D.view self.old.target.verdict)
+            → IsFaithfulFor (form_of writers.old.policy)
+            (verdict_view D.view self.old.target.verdict)
             (E.coding self.old.target.encoder) (E.set self.old.target.encoder)
             ((D.view self.old.decoder).state.pieces (chunk.entry.bytes.now ++ r))
-            ↔ IsFaithfulFor (verdict_view D.view self.new.target.verdict)
+            ↔ IsFaithfulFor (form_of writers.old.policy)
+            (verdict_view D.view self.new.target.verdict)
             (E.coding self.old.target.encoder) (E.set self.new.target.encoder)
             ((D.view self.new.decoder).state.pieces
             (drop p.read chunk.entry.bytes.now ++ r))) }
@@ -124,15 +131,18 @@ impl<D: StreamDecoder, E: RawEncoder> Engine<D, E> {
             → CanTell (verdict_view D.view self.new.target.verdict)
             (E.coding self.old.target.encoder) (E.set self.new.target.encoder) []) }
         ensures told { IfOk result (λ p. p.is_done ≡ true → chunk.entry.last ≡ true
-            → IsFaithfulFor (verdict_view D.view self.new.target.verdict)
+            → IsFaithfulFor (form_of writers.old.policy)
+            (verdict_view D.view self.new.target.verdict)
             (E.coding self.old.target.encoder) (E.set self.new.target.encoder)
             ((D.view self.new.decoder).state.pieces [])
             ↔ IsTrue self.new.target.verdict.faithful) }
         ensures calls { IfOk result (λ p. (r : List ℕ) → (chunk.entry.last ≡ true → r ≡ [])
             → TakesCalls (calls_at_end p.is_done) self.old.target.counts self.new.target.counts
-            (trace_to_write (D.view self.old.decoder).state (E.coding self.old.target.encoder)
+            (trace_to_write (form_of writers.old.policy) (D.view self.old.decoder).state
+            (E.coding self.old.target.encoder)
             (E.set self.old.target.encoder) self.old.target.counts (chunk.entry.bytes.now ++ r))
-            (trace_to_write (D.view self.new.decoder).state (E.coding self.old.target.encoder)
+            (trace_to_write (form_of writers.old.policy) (D.view self.new.decoder).state
+            (E.coding self.old.target.encoder)
             (E.set self.new.target.encoder) self.new.target.counts
             (drop p.read chunk.entry.bytes.now ++ r))) }
         ensures check { HoldsAnyCharacter check.new }
@@ -200,9 +210,11 @@ impl<D: StreamDecoder, E: RawEncoder> Engine<D, E> {
             (written_by W.contents L.contents writers.old)
             (written_by W.contents L.contents writers.new)
             self.old.target.counts self.new.target.counts (is_end chunk.now)
-            (λ r. trace_to_write (D.view self.old.decoder).state (E.coding self.old.target.encoder)
+            (λ r. trace_to_write (form_of writers.old.policy) (D.view self.old.decoder).state
+            (E.coding self.old.target.encoder)
             (E.set self.old.target.encoder) self.old.target.counts (chunk.now ++ r))
-            (λ r. trace_to_write (D.view self.new.decoder).state (E.coding self.old.target.encoder)
+            (λ r. trace_to_write (form_of writers.old.policy) (D.view self.new.decoder).state
+            (E.coding self.old.target.encoder)
             (E.set self.new.target.encoder) self.new.target.counts r)) }
         ensures source { OnOk result ((r : List ℕ) → (is_end chunk.now ≡ true → r ≡ [])
             → (D.view self.old.decoder).source (chunk.now ++ r)
@@ -215,7 +227,8 @@ impl<D: StreamDecoder, E: RawEncoder> Engine<D, E> {
             self.new.target.counts) }
         ensures target { E.coding self.new.target.encoder ≡ E.coding self.old.target.encoder }
         ensures end { OnOk result (is_end chunk.now ≡ true
-            → trace_to_write (D.view self.new.decoder).state (E.coding self.old.target.encoder)
+            → trace_to_write (form_of writers.old.policy) (D.view self.new.decoder).state
+            (E.coding self.old.target.encoder)
             (E.set self.new.target.encoder) self.new.target.counts [] ≡ []) }
         ensures advances { OnOk result (is_end chunk.now ≡ false → Advances
             (λ r. (D.view self.old.decoder).state.pieces (chunk.now ++ r))
@@ -227,30 +240,36 @@ impl<D: StreamDecoder, E: RawEncoder> Engine<D, E> {
         ensures err { OnErr result (WritesPrefixFor
             (written_by W.contents L.contents writers.old)
             (written_by W.contents L.contents writers.new) (is_end chunk.now)
-            (λ r. trace_to_write (D.view self.old.decoder).state (E.coding self.old.target.encoder)
+            (λ r. trace_to_write (form_of writers.old.policy) (D.view self.old.decoder).state
+            (E.coding self.old.target.encoder)
             (E.set self.old.target.encoder) self.old.target.counts
             (chunk.now ++ r))) }
         ensures failures { CountsWriterFault writers.old writers.new result }
         ensures verdict { OnOk result ((r : List ℕ) → (is_end chunk.now ≡ true → r ≡ [])
-            → IsFaithfulFor (verdict_view D.view self.old.target.verdict)
+            → IsFaithfulFor (form_of writers.old.policy)
+            (verdict_view D.view self.old.target.verdict)
             (E.coding self.old.target.encoder) (E.set self.old.target.encoder)
             ((D.view self.old.decoder).state.pieces (chunk.now ++ r))
-            ↔ IsFaithfulFor (verdict_view D.view self.new.target.verdict)
+            ↔ IsFaithfulFor (form_of writers.old.policy)
+            (verdict_view D.view self.new.target.verdict)
             (E.coding self.old.target.encoder) (E.set self.new.target.encoder)
             ((D.view self.new.decoder).state.pieces r)) }
         ensures tells { OnOk result (is_end chunk.now ≡ false
             → CanTell (verdict_view D.view self.new.target.verdict)
             (E.coding self.old.target.encoder) (E.set self.new.target.encoder) []) }
         ensures told { OnOk result (is_end chunk.now ≡ true
-            → IsFaithfulFor (verdict_view D.view self.new.target.verdict)
+            → IsFaithfulFor (form_of writers.old.policy)
+            (verdict_view D.view self.new.target.verdict)
             (E.coding self.old.target.encoder) (E.set self.new.target.encoder)
             ((D.view self.new.decoder).state.pieces [])
             ↔ IsTrue self.new.target.verdict.faithful) }
         ensures calls { OnOk result ((r : List ℕ) → (is_end chunk.now ≡ true → r ≡ [])
             → TakesCalls 3 self.old.target.counts self.new.target.counts
-            (trace_to_write (D.view self.old.decoder).state (E.coding self.old.target.encoder)
+            (trace_to_write (form_of writers.old.policy) (D.view self.old.decoder).state
+            (E.coding self.old.target.encoder)
             (E.set self.old.target.encoder) self.old.target.counts (chunk.now ++ r))
-            (trace_to_write (D.view self.new.decoder).state (E.coding self.old.target.encoder)
+            (trace_to_write (form_of writers.old.policy) (D.view self.new.decoder).state
+            (E.coding self.old.target.encoder)
             (E.set self.new.target.encoder) self.new.target.counts r)) }
         ensures check { HoldsAnyCharacter check.new }
         ensures check_kind { is_wide check.new ≡ is_wide check.old }
@@ -292,17 +311,17 @@ impl<D: StreamDecoder, E: RawEncoder> Engine<D, E> {
         ensures more { result ≡ Ok Progress.More → StepsOn
             (streams_of R.remaining W.contents L.contents reader.old writers.old)
             (streams_of R.remaining W.contents L.contents reader.new writers.new) limit
-            (engine_state D.view E.coding E.set self.old)
-            (engine_state D.view E.coding E.set self.new) }
+            (engine_state D.view E.coding E.set writers.old.policy self.old)
+            (engine_state D.view E.coding E.set writers.old.policy self.new) }
         ensures done { result ≡ Ok Progress.Done → Finishes
             (streams_of R.remaining W.contents L.contents reader.old writers.old)
             (streams_of R.remaining W.contents L.contents reader.new writers.new) limit
-            (engine_state D.view E.coding E.set self.old)
-            (engine_state D.view E.coding E.set self.new) }
+            (engine_state D.view E.coding E.set writers.old.policy self.old)
+            (engine_state D.view E.coding E.set writers.old.policy self.new) }
         ensures fault { IfErr result (Stops
             (streams_of R.remaining W.contents L.contents reader.old writers.old)
             (streams_of R.remaining W.contents L.contents reader.new writers.new) limit
-            (engine_state D.view E.coding E.set self.old)) }
+            (engine_state D.view E.coding E.set writers.old.policy self.old)) }
         ensures sound { OnOk result (AreSound (D.view self.new.decoder).state.pending
             self.new.target.counts) }
         ensures open_ { result ≡ Ok Progress.More → (D.view self.new.decoder).finished ≡ false }

@@ -1,9 +1,10 @@
 //! Where index files come from, and the indexes that an encoding needs, each loaded once.
 
 ghost use Rattle.std.specs.Prelude.{◌≡◌, ◌≤◌, ◌^◌, IfOk, IfSome, OnOk, true, vec_len};
+ghost use Rattle.std.specs.Prelude.{List, Option, ℕ};
 ghost use Rattle.encoding_tables.specs.IndexLists.{has};
 ghost use Rattle.encoding_front.specs.Encodings.{IsReady};
-ghost use Rattle.recode.specs.Program.{AreKept};
+ghost use Rattle.recode.specs.Program.{AddsFromFiles, AreKept};
 
 use encoding_front::Encoding;
 use encoding_index::{IndexFaultKind, LoadFault, load};
@@ -27,9 +28,15 @@ pub enum SourceFault {
 
 /// Where index files come from, as the folders of a file system.
 pub trait IndexSource {
+    /// The bytes of the file of a name in a folder, where the source tells them.
+    ghost holds: { Self → (dir file : List ℕ) → Option (List ℕ) };
+
     /// The bytes of the file of this name in the folder `dir`, all of them. `Missing` if there is
     /// no such file that can be read, `Memory` if memory was refused.
-    fn read_file(&mut self, alloc: Global, dir: &str, file: &str) -> Result<Vec<u8>, SourceFault>;
+    fn read_file(&mut self, alloc: Global, dir: &str, file: &str) -> Result<Vec<u8>, SourceFault>
+        ensures text { IfOk result (λ bytes. IfSome (holds self.old dir.now file.now)
+            (λ text. bytes.items ≡ text)) }
+        ensures files { (d f : List ℕ) → holds self.new d f ≡ holds self.old d f };
 }
 
 /// All bytes that the reader gives. The reader of an index file that is too long is read one byte
@@ -119,6 +126,8 @@ fn load_index<S: IndexSource>(
     ensures there { OnOk result (has tables.new kind ≡ true) }
     ensures once { has tables.old kind ≡ true → source.new ≡ source.old }
     ensures kept { AreKept tables.old tables.new }
+    ensures files { AddsFromFiles (S.holds source.old) (S.holds source.new) dir.now tables.old
+        tables.new }
 {
     if tables.has(kind) {
         return Ok(());
@@ -146,6 +155,8 @@ pub(crate) fn load_indexes<S: IndexSource>(
 ) -> Result<(), StartFault>
     ensures there { OnOk result (IsReady tables.new encoding) }
     ensures kept { AreKept tables.old tables.new }
+    ensures files { AddsFromFiles (S.holds source.old) (S.holds source.new) dir.now tables.old
+        tables.new }
 {
     let kinds = encoding.needs();
     for kind in kinds {

@@ -1,6 +1,6 @@
 //! What to recode and how, the room that it is lent, and how steps and runs end.
 
-use encoding_front::{Encoding, Mark};
+use encoding_front::{Encoding, Mark, Reference};
 use encoding_tables::Tables;
 use thiserror::Error;
 
@@ -16,10 +16,37 @@ pub struct Job<'t> {
     pub to: Encoding,
     /// What is done with a byte order mark at the start of the input.
     pub mark: Mark,
+    /// What is written for a character that has no bytes in the output's encoding.
+    pub policy: Policy,
     /// How many bytes the input may have.
     pub limit: u64,
     /// The indexes that the two encodings need.
     pub tables: &'t Tables,
+}
+
+/// What is written for a character that has no bytes in the output's encoding. Its line in the log
+/// is written with each of these.
+#[derive(Clone, Copy, PartialEq, Eq, Debug)]
+pub enum Policy {
+    /// Its reference in decimal: `&#`, its number, `;`.
+    Decimal,
+    /// Its reference in hexadecimal: `&#x`, its number in upper case, `;`.
+    Hexadecimal,
+}
+
+impl Policy {
+    ghost use Rattle.std.specs.Prelude.{◌≡◌};
+    ghost use Rattle.recode.specs.Policy.{form_of};
+
+    /// The form of the references that it writes.
+    pub fn reference(self) -> Reference
+        ensures { result ≡ form_of self }
+    {
+        match self {
+            Policy::Decimal => Reference::Decimal,
+            Policy::Hexadecimal => Reference::Hexadecimal,
+        }
+    }
 }
 
 impl<'t> Job<'t> {

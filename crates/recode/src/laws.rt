@@ -32,19 +32,28 @@ ghost use Rattle.recode.specs.WrittenItems.{bad_lines, lost_lines};
 ghost use Rattle.recode.specs.declared.job.Fault.{Fault};
 ghost use Rattle.recode.specs.declared.job.Job.{Job};
 ghost use Rattle.recode.specs.declared.indexes.SourceFault.{SourceFault};
+ghost use Rattle.recode.specs.declared.job.Policy.{Policy};
 ghost use Rattle.recode.specs.declared.job.Progress.{Progress};
 ghost use Rattle.recode.specs.declared.job.Report.{Report};
+ghost use Rattle.recode.specs.declared.session.Phase.{Phase};
+ghost use Rattle.recode.specs.declared.target.Counts.{Counts};
 
 use crate::indexes::SourceFault;
-use crate::job::{Fault, Progress, Report};
+use crate::job::{Fault, Policy, Progress, Report};
+use crate::session::Phase;
+use crate::target::Counts;
 
-/// How a step ended, reports and faults are equal exactly where they are the same.
+/// How a step ended, how far a session is, counts, policies, reports and faults are equal exactly
+/// where they are the same.
 pub fn reports_are_compared()
     ensures progress { (a b : Progress) → IsTrue (⟦<Progress as PartialEq>⟧.eq a b) ↔ (a ≡ b) }
     ensures report { (a b : Report) → IsTrue (⟦<Report as PartialEq>⟧.eq a b) ↔ (a ≡ b) }
     ensures fault { (a b : Fault) → IsTrue (⟦<Fault as PartialEq>⟧.eq a b) ↔ (a ≡ b) }
+    ensures policy { (a b : Policy) → IsTrue (⟦<Policy as PartialEq>⟧.eq a b) ↔ (a ≡ b) }
     ensures source { (a b : SourceFault)
         → IsTrue (⟦<SourceFault as PartialEq>⟧.eq a b) ↔ (a ≡ b) }
+    ensures phase { (a b : Phase) → IsTrue (⟦<Phase as PartialEq>⟧.eq a b) ↔ (a ≡ b) }
+    ensures counts { (a b : Counts) → IsTrue (⟦<Counts as PartialEq>⟧.eq a b) ↔ (a ≡ b) }
 {}
 
 /// The trace of an input is its output and its log: their bytes, and how many lines of each kind.
@@ -157,14 +166,16 @@ pub fn lost_is_unfaithful()
 {}
 
 /// What is decoded at once and then encoded at once is what a run writes that ends well, with the
-/// same handling of marks: `decode` and `encode` give the output. Its log is empty exactly where
-/// neither told a loss.
+/// same handling of marks and decimal references: `decode` and `encode` give the output. Its log is
+/// empty exactly where neither told a loss.
 pub fn whole_texts_are_the_same()
     ensures bytes { (j : Job) (x decoded bytes : List ℕ) → IsValidJob j
+        → j.policy ≡ Policy.Decimal
         → decoded ≡ encode_utf8_all (marked_text j.tables.now j.mark j.from x)
         → bytes ≡ output Decimal (coding_of j.tables.now j.to) (chars decoded)
         → bytes ≡ output_of j x }
     ensures run { (j : Job) (x decoded bytes : List ℕ) (w w' : Written) (p : Report) → IsValidJob j
+        → j.policy ≡ Policy.Decimal
         → decoded ≡ encode_utf8_all (marked_text j.tables.now j.mark j.from x)
         → bytes ≡ output Decimal (coding_of j.tables.now j.to) (chars decoded)
         → IsConverted w w' j x p → Appends w.output w'.output bytes }

@@ -15,8 +15,8 @@ mod verdict;
 mod writers;
 
 pub use conversion::{FAITHFUL, FAULT, NOT_FAITHFUL, convert};
-pub use encoding_front::Mark;
+pub use encoding_front::{Mark, Reference};
 pub use indexes::{GREATEST_INDEX_FILE, IndexSource, SourceFault, read_index_file};
-pub use job::{Buffers, Fault, GREATEST_LIMIT, Job, Pivot, Progress, Report};
+pub use job::{Buffers, Fault, GREATEST_LIMIT, Job, Pivot, Policy, Progress, Report};
 pub use session::{Phase, Session, run};
 pub use target::Counts;

@@ -2,16 +2,17 @@ ghost use Rattle.std.specs.Prelude.{◌≡◌, ◌⊎◌, ◌≤◌, ◌<◌, �
 ghost use Rattle.encoding_front.specs.Encodings.{IsReady, output_encoding_of};
 ghost use Rattle.recode_log.specs.Counted.{failures_of};
 ghost use Rattle.recode.specs.Job.{IsValidJob};
-ghost use Rattle.recode.specs.Program.{AnswersProgram, AnswersWords, IsConversionOn, devices, mark_of_word};
+ghost use Rattle.recode.specs.Program.{AddsFromFiles, AnswersProgram, AnswersWords};
+ghost use Rattle.recode.specs.Program.{IsConversionOn, devices, mark_of_word, policy_of_word};
 
 use crate::conversion::{FAITHFUL, convert};
 use crate::indexes::{IndexSource, StartFault, load_indexes};
-use crate::job::{Buffers, Job, Pivot};
+use crate::job::{Buffers, Job, Pivot, Policy};
 use encoding_front::{Encoding, Mark};
 use encoding_tables::Tables;
 use recode_log::counted::Counted;
 use recode_log::deliver::deliver;
-use recode_words::{MarkWord, PivotWord, Request, Words, WordsFault, parse_words};
+use recode_words::{MarkWord, PivotWord, PolicyWord, Request, Words, WordsFault, parse_words};
 use std::alloc::Global;
 use std::io::{Read, Write};
 
@@ -84,6 +85,16 @@ fn mark_of(word: MarkWord) -> Mark
     }
 }
 
+// What the word for a policy says.
+fn policy_of(word: PolicyWord) -> Policy
+    ensures { result ≡ policy_of_word word }
+{
+    match word {
+        PolicyWord::Decimal => Policy::Decimal,
+        PolicyWord::Hexadecimal => Policy::Hexadecimal,
+    }
+}
+
 // The indexes that both encodings need.
 fn load_both<S: IndexSource>(
     alloc: Global,
@@ -95,6 +106,8 @@ fn load_both<S: IndexSource>(
 ) -> Result<(), StartFault>
     ensures from { OnOk result (IsReady tables.new from) }
     ensures to { OnOk result (IsReady tables.new (output_encoding_of to)) }
+    ensures files { AddsFromFiles (S.holds source.old) (S.holds source.new) dir.now tables.old
+        tables.new }
 {
     load_indexes(alloc, source, dir, from, tables)?;
     load_indexes(alloc, source, dir, to.output_encoding(), tables)
@@ -164,7 +177,7 @@ fn run_words<S: IndexSource, R: Read, W: Write, L: Write>(
     requires reader { failures_of reader.old ≤ 2 ^ 64 - 5 }
     requires writer { failures_of writer.old ≤ 2 ^ 64 - 5 }
     requires log { failures_of log.old ≤ 2 ^ 64 - 5 }
-    ensures { AnswersWords R.remaining W.contents L.contents
+    ensures { AnswersWords (S.holds source.old) R.remaining W.contents L.contents
         (devices reader.old writer.old log.old) (devices reader.new writer.new log.new) words.entry
         result }
 {
@@ -184,6 +197,7 @@ fn run_words<S: IndexSource, R: Read, W: Write, L: Write>(
         from,
         to,
         mark: mark_of(words.mark),
+        policy: policy_of(words.unmappable),
         limit: words.limit,
         tables: &tables,
     };
@@ -194,10 +208,11 @@ fn run_words<S: IndexSource, R: Read, W: Write, L: Write>(
 /// them, and returns the exit status. The help, the version and the list of encodings go to the
 /// writer, with status 0.
 ///
-/// A run looks up the label of `--from`, then that of `--to`, reads the index files that the source
-/// and then the target's output encoding need, each once, and converts with buffers of 4096
-/// elements. With `--pivot utf16` the text in between is UTF-16, else UTF-8: what is written is the
-/// same.
+/// A run looks up the label of `--from`, then that of `--to`, reads the index files that the
+/// source and then the target's output encoding need, each once, and converts with buffers of 4096
+/// elements. Each index is what its file in the folder of `--indexes` stands for, where the source
+/// tells what the file holds (`IndexSource`). With `--pivot utf16` the text in between is UTF-16,
+/// else UTF-8: what is written is the same.
 ///
 /// The statuses 0, 1 and 4 are those of `convert`. Otherwise a message says why nothing was read:
 /// - 2 (`REFUSED`): that of `clap`, or `recode: unknown label WORD`;
@@ -222,7 +237,7 @@ pub fn program<S: IndexSource, R: Read, W: Write, L: Write>(
     requires reader { failures_of reader.old ≤ 2 ^ 64 - 5 }
     requires writer { failures_of writer.old ≤ 2 ^ 64 - 5 }
     requires log { failures_of log.old ≤ 2 ^ 64 - 5 }
-    ensures { AnswersProgram R.remaining W.contents L.contents
+    ensures { AnswersProgram (S.holds source.old) R.remaining W.contents L.contents
         (devices reader.old writer.old log.old) (devices reader.new writer.new log.new)
         (map (λ s. s.now) words.now) result }
 {

@@ -64,7 +64,7 @@ impl<'t> Viewed for Session<'t> {
       job = s.job;
       state = engine_state ⟦<Decoder<'t> as StreamDecoder>⟧.view
           ⟦<VariantEncoder<'t> as RawEncoder>⟧.coding ⟦<VariantEncoder<'t> as RawEncoder>⟧.set
-          s.engine;
+          s.job.policy s.engine;
       phase = s.phase;
     } };
 }
@@ -186,6 +186,7 @@ impl<'t> Session<'t> {
         let mut writers = Writers {
             output: writer,
             log,
+            policy: self.job.policy,
         };
         self.phase = Phase::Stopped;
         match self.engine.step(reader, &mut writers, limit, buffers) {
@@ -211,7 +212,8 @@ impl<'t> Session<'t> {
 ///   37 times for each byte of the input, and 9 times more.
 /// - `Err`: a call of the reader (`Read`), the writer (`Write`) or the log (`Log`) failed, and no
 ///   other; or the input has more bytes than the job's limit (`TooLong`). Output and log have a
-///   prefix of what is right for the bytes read, however they go on.
+///   prefix of what is right for the bytes read, however they go on; at `Read` and `TooLong` it is
+///   all that these bytes decide, with each piece that ends three or more bytes before their end.
 ///
 /// Conditions: the job is valid (`Job::is_valid`), the buffers are enough (`Buffers::is_enough`),
 /// and fewer than 2^64 - 1 calls of each device have failed (`Counted::failures`).

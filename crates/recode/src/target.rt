@@ -46,13 +46,12 @@ pub struct Target<D, E> {
 
 impl<D: StreamDecoder, E: RawEncoder> Target<D, E> {
     ghost use Rattle.std.specs.Prelude.{◌≡◌, ℕ, ◌+◌, ◌-◌, ◌*◌, ◌^◌, ◌<◌, ◌≤◌, ◌++◌, ◌∷◌, ◌⊎◌, List, [], true, false, length, map, IfOk, OnOk, OnErr};
-    ghost use Rattle.recode_log.specs.Counted.{failures_of};
-    ghost use Rattle.encoding_mem.specs.declared.reference.Reference.TheVariants.{Decimal};
     ghost use Rattle.encoding_mem.specs.Coding.{last_set, reference};
     ghost use Rattle.encoding_mem.specs.Items.{Item, LostAt, MalformedAt, Byte, open_items, whole_items};
     ghost use Rattle.encoding_mem.specs.declared.form.EscapeState.TheVariants.{Ascii};
     ghost use Rattle.recode.specs.WrittenItems.{WritesItems, WritesPrefix};
     ghost use Rattle.recode.specs.Buffers.{HoldsAnyCharacter, capacity, is_wide};
+    ghost use Rattle.recode.specs.Policy.{form_of};
     ghost use Rattle.recode.specs.PivotText.{is_in_units, pivot_chars, IsWholeText};
     ghost use Rattle.recode.specs.Verdict.{CanTell, IsToldAtEnd, Keeps, NeedsForm};
     ghost use Rattle.recode.specs.VerdictView.{verdict_view};
@@ -71,7 +70,8 @@ impl<D: StreamDecoder, E: RawEncoder> Target<D, E> {
             (written_by W.contents L.contents writers.old)
             (written_by W.contents L.contents writers.new)
             self.old.counts self.new.counts
-            (LostAt (self.old.counts.index - 1) scalar ∷ map Byte (reference Decimal scalar)
+            (LostAt (self.old.counts.index - 1) scalar ∷ map Byte
+            (reference (form_of writers.old.policy) scalar)
             ++ rest) rest) }
         ensures counts { OnOk result
             (self.new.counts ≡ record self.old.counts { lost = self.old.counts.lost + 1 }) }
@@ -81,13 +81,14 @@ impl<D: StreamDecoder, E: RawEncoder> Target<D, E> {
         ensures err { OnErr result ((rest : List Item) → WritesPrefix
             (written_by W.contents L.contents writers.old)
             (written_by W.contents L.contents writers.new)
-            (LostAt (self.old.counts.index - 1) scalar ∷ map Byte (reference Decimal scalar)
+            (LostAt (self.old.counts.index - 1) scalar ∷ map Byte
+            (reference (form_of writers.old.policy) scalar)
             ++ rest)) }
         ensures failures { CountsWriterFault writers.old writers.new result }
     {
         let index = self.counts.index - 1;
         log_line(writers.log, LogLine::Lost { index, scalar })?;
-        put_reference(writers.output, scalar)?;
+        put_reference(writers.output, scalar, writers.policy.reference())?;
         self.counts.lost += 1;
         Ok(())
     }
@@ -114,9 +115,11 @@ impl<D: StreamDecoder, E: RawEncoder> Target<D, E> {
             (written_by W.contents L.contents writers.old)
             (written_by W.contents L.contents writers.new)
             self.old.counts self.new.counts
-            (whole_items Decimal (E.coding self.old.encoder) last (E.set self.old.encoder)
+            (whole_items (form_of writers.old.policy) (E.coding self.old.encoder) last
+            (E.set self.old.encoder)
             self.old.counts.index (pivot_chars text.entry))
-            (whole_items Decimal (E.coding self.old.encoder) last (E.set self.new.encoder)
+            (whole_items (form_of writers.old.policy) (E.coding self.old.encoder) last
+            (E.set self.new.encoder)
             self.new.counts.index (pivot_chars p.rest))) }
         ensures passed { IfOk result (λ p. self.new.counts.index + length (pivot_chars p.rest)
             ≡ self.old.counts.index + length (pivot_chars text.entry)) }
@@ -130,15 +133,18 @@ impl<D: StreamDecoder, E: RawEncoder> Target<D, E> {
         ensures done { IfOk result (λ p. p.is_done ≡ true
             → (pivot_chars p.rest ≡ []) × (last ≡ true → E.set self.new.encoder ≡ Ascii)) }
         ensures more { IfOk result (λ p. p.is_done ≡ false → length
-            (whole_items Decimal (E.coding self.old.encoder) last (E.set self.new.encoder)
+            (whole_items (form_of writers.old.policy) (E.coding self.old.encoder) last
+            (E.set self.new.encoder)
             self.new.counts.index (pivot_chars p.rest))
             < length
-            (whole_items Decimal (E.coding self.old.encoder) last (E.set self.old.encoder)
+            (whole_items (form_of writers.old.policy) (E.coding self.old.encoder) last
+            (E.set self.old.encoder)
             self.old.counts.index (pivot_chars text.entry))) }
         ensures err { OnErr result (WritesPrefix
             (written_by W.contents L.contents writers.old)
             (written_by W.contents L.contents writers.new)
-            (whole_items Decimal (E.coding self.old.encoder) last (E.set self.old.encoder)
+            (whole_items (form_of writers.old.policy) (E.coding self.old.encoder) last
+            (E.set self.old.encoder)
             self.old.counts.index (pivot_chars text.entry))) }
         ensures failures { CountsWriterFault writers.old writers.new result }
         ensures verdict { IfOk result (λ p. Keeps (E.coding self.old.encoder) last
@@ -216,7 +222,8 @@ impl<D: StreamDecoder, E: RawEncoder> Target<D, E> {
             (written_by W.contents L.contents writers.old)
             (written_by W.contents L.contents writers.new)
             self.old.counts self.new.counts
-            (whole_items Decimal (E.coding self.old.encoder) last (E.set self.old.encoder)
+            (whole_items (form_of writers.old.policy) (E.coding self.old.encoder) last
+            (E.set self.old.encoder)
             self.old.counts.index (pivot_chars text.entry)) []) }
         ensures passed { OnOk result (self.new.counts.index
             ≡ self.old.counts.index + length (pivot_chars text.entry)) }
@@ -231,7 +238,8 @@ impl<D: StreamDecoder, E: RawEncoder> Target<D, E> {
         ensures err { OnErr result (WritesPrefix
             (written_by W.contents L.contents writers.old)
             (written_by W.contents L.contents writers.new)
-            (whole_items Decimal (E.coding self.old.encoder) last (E.set self.old.encoder)
+            (whole_items (form_of writers.old.policy) (E.coding self.old.encoder) last
+            (E.set self.old.encoder)
             self.old.counts.index (pivot_chars text.entry))) }
         ensures failures { CountsWriterFault writers.old writers.new result }
         ensures verdict { OnOk result (Keeps (E.coding self.old.encoder) last
@@ -244,7 +252,8 @@ impl<D: StreamDecoder, E: RawEncoder> Target<D, E> {
             → IsToldAtEnd (verdict_view D.view self.new.verdict)) }
         ensures calls { OnOk result (self.new.counts.calls + self.old.counts.index
             ≤ self.old.counts.calls + self.new.counts.index + 2 * length
-            (whole_items Decimal (E.coding self.old.encoder) last (E.set self.old.encoder)
+            (whole_items (form_of writers.old.policy) (E.coding self.old.encoder) last
+            (E.set self.old.encoder)
             self.old.counts.index (pivot_chars text.entry)) + 2) }
         ensures stays { OnOk result (self.old.verdict.faithful ≡ false
             → self.new.verdict.faithful ≡ false) }
@@ -287,7 +296,8 @@ impl<D: StreamDecoder, E: RawEncoder> Target<D, E> {
             (written_by W.contents L.contents writers.old)
             (written_by W.contents L.contents writers.new)
             self.old.counts self.new.counts
-            (MalformedAt offset size ∷ open_items Decimal (E.coding self.old.encoder)
+            (MalformedAt offset size ∷ open_items (form_of writers.old.policy)
+            (E.coding self.old.encoder)
             (E.set self.old.encoder) self.old.counts.index (0xFFFD ∷ [])) []) }
         ensures index { OnOk result (self.new.counts.index ≡ self.old.counts.index + 1) }
         ensures read { OnOk result (self.new.counts.read ≡ self.old.counts.read) }
@@ -299,12 +309,14 @@ impl<D: StreamDecoder, E: RawEncoder> Target<D, E> {
         ensures err { OnErr result (WritesPrefix
             (written_by W.contents L.contents writers.old)
             (written_by W.contents L.contents writers.new)
-            (MalformedAt offset size ∷ open_items Decimal (E.coding self.old.encoder)
+            (MalformedAt offset size ∷ open_items (form_of writers.old.policy)
+            (E.coding self.old.encoder)
             (E.set self.old.encoder) self.old.counts.index (0xFFFD ∷ []))) }
         ensures failures { CountsWriterFault writers.old writers.new result }
         ensures calls { OnOk result (self.new.counts.calls + self.old.counts.index
             ≤ self.old.counts.calls + self.new.counts.index + 2 * length
-            (open_items Decimal (E.coding self.old.encoder) (E.set self.old.encoder)
+            (open_items (form_of writers.old.policy) (E.coding self.old.encoder)
+            (E.set self.old.encoder)
             self.old.counts.index (0xFFFD ∷ [])) + 2) }
         ensures verdict { OnOk result (self.new.verdict.faithful ≡ false) }
         ensures tells { OnOk result (CanTell (verdict_view D.view self.new.verdict)

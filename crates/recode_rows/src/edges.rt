@@ -1,6 +1,6 @@
 use encoding_front::{GB18030, REPLACEMENT, SHIFT_JIS, UTF_8, UTF_16LE, X_USER_DEFINED};
 use encoding_tables::Tables;
-use recode::{Buffers, GREATEST_LIMIT, Job, Mark, Pivot};
+use recode::{Buffers, GREATEST_LIMIT, Job, Mark, Pivot, Policy};
 
 #[test]
 fn a_job_is_valid_up_to_its_edges(rt: HostRuntime) {
@@ -19,6 +19,7 @@ fn a_job_is_valid_up_to_its_edges(rt: HostRuntime) {
             from: UTF_8,
             to: UTF_8,
             mark,
+            policy: Policy::Decimal,
             limit,
             tables: &tables,
         };
@@ -43,6 +44,7 @@ fn a_job_needs_the_indexes_of_both_encodings(rt: HostRuntime) {
             from,
             to,
             mark: Mark::Sniff,
+            policy: Policy::Decimal,
             limit: 0,
             tables: &tables,
         };

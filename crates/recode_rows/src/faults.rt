@@ -1,16 +1,10 @@
-use crate::sink::{Failure, Manners, WILLING};
+use crate::sink::{FAILURES, Failure, Manners, WILLING};
 use crate::source::Reads;
 use crate::trial::{SIZES, Trial, WAYS, recode};
 use encoding_front::{ISO_2022_JP, WINDOWS_1252};
 use recode::Fault;
 use std::alloc::AllocError;
 use std::io::ErrorKind;
-
-const FAILURES: [Failure; 3] = [
-    Failure::Nothing,
-    Failure::Error(ErrorKind::BrokenPipe),
-    Failure::Error(ErrorKind::Interrupted),
-];
 
 // A writer of one byte per call, whose call `fails_at` fails.
 fn slow(fails_at: usize, failure: Failure) -> Manners {

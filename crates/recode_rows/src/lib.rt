@@ -36,6 +36,8 @@ mod marks;
 #[cfg(test)]
 mod pairs;
 #[cfg(test)]
+mod policies;
+#[cfg(test)]
 mod programs;
 #[cfg(test)]
 mod roads;
@@ -47,6 +49,10 @@ mod sink;
 mod source;
 #[cfg(test)]
 mod statuses;
+#[cfg(test)]
+mod stops;
+#[cfg(test)]
+mod tape;
 #[cfg(test)]
 mod trial;
 #[cfg(test)]

@@ -69,22 +69,27 @@ fn half_a_character_below_the_limit_is_not_written(rt: HostRuntime) -> Result<()
     Ok(())
 }
 
-// More than the limit lets through.
-const LONG: [u8; 1000] = [0x61; 1000];
+// What the limit lets through.
+const LETTERS: [u8; 100] = [0x61; 100];
 
+// An input with no end. The read that passes the limit is refused whole.
 #[test]
-fn a_long_input_is_read_to_the_limit(rt: HostRuntime) -> Result<(), AllocError> {
+fn an_endless_input_is_read_to_the_limit(rt: HostRuntime) -> Result<(), AllocError> {
     for way in WAYS {
-        for sizes in [LEAST, LEAST_WIDE] {
-            let trial = Trial {
-                limit: 100,
-                sizes,
-                ..Trial::new(&LONG)
-            };
-            let outcome = recode(&rt, way, &trial)?;
-            outcome.check(&rt, &trial, &LONG[..100], b"", [0, 0, 0]);
-            assert_eq!(rt; outcome.answer, Err(Fault::TooLong), "{trial:?}");
-            assert_eq!(rt; outcome.reads, 101, "{trial:?}");
+        for pivots in [LEAST, LEAST_WIDE] {
+            // The room of a read, how many are made, and how many bytes are written.
+            for (input, reads, written) in [(1, 101, 100), (7, 15, 98), (64, 2, 64)] {
+                let trial = Trial {
+                    limit: 100,
+                    sizes: Sizes { input, ..pivots },
+                    reads: Reads::Endless,
+                    ..Trial::new(b"a")
+                };
+                let outcome = recode(&rt, way, &trial)?;
+                outcome.check(&rt, &trial, &LETTERS[..written], b"", [0, 0, 0]);
+                assert_eq!(rt; outcome.answer, Err(Fault::TooLong), "{trial:?}");
+                assert_eq!(rt; outcome.reads, reads, "{trial:?}");
+            }
         }
     }
     Ok(())

@@ -1,14 +1,15 @@
-ghost use Rattle.std.specs.Prelude.{◌≡◌};
+ghost use Rattle.std.specs.Prelude.{◌≡◌, ◌&&◌, None, Some, if◌then◌else◌, nat_eq};
+ghost use Rattle.std.specs.Cmp.Lexicographic.{pointwise};
 ghost use Rattle.recode_log.specs.Counted.{failures_of};
 
 use crate::sink::{Failure, Manners, Sink, WILLING};
 use crate::source::{Reads, Source};
+use crate::tape::{Device, Tape};
 use encoding_front::Encoding;
 use recode::program::program;
 use recode::{IndexSource, SourceFault};
 use recode_log::counted::Counted;
 use std::alloc::Global;
-use std::cell::Cell;
 use std::io::ErrorKind;
 use std::process::Abort;
 use std::test::Fail;
@@ -25,6 +26,8 @@ struct Files {
 }
 
 impl IndexSource for Files {
+    ghost holds = { λ _ _ _. None };
+
     fn read_file(&mut self, alloc: Global, dir: &str, file: &str) -> Result<Vec<u8>, SourceFault> {
         self.calls = self.calls.saturating_add(1);
         if self.is_full {
@@ -39,6 +42,30 @@ impl IndexSource for Files {
             }
         }
         Err(SourceFault::Missing)
+    }
+}
+
+// The one file of a folder, in memory. It tells what it holds.
+#[derive(Drop)]
+struct ToldFile {
+    dir: &'static str,
+    name: &'static str,
+    text: &'static [u8],
+}
+
+impl IndexSource for ToldFile {
+    ghost holds = { λ s dir file.
+        if pointwise nat_eq dir s.dir.now && pointwise nat_eq file s.name.now then Some s.text.now
+        else None };
+
+    fn read_file(&mut self, alloc: Global, dir: &str, file: &str) -> Result<Vec<u8>, SourceFault> {
+        if dir != self.dir || file != self.name {
+            return Err(SourceFault::Missing);
+        }
+        match Vec::from_slice(alloc, self.text) {
+            Ok(text) => Ok(text),
+            Err(_) => Err(SourceFault::Memory),
+        }
     }
 }
 
@@ -88,7 +115,8 @@ struct Outcome {
     reads: usize,
 }
 
-fn call_program(rt: &(impl Abort + AllocGlobal), call: &Call) -> Result<Outcome, Fail> {
+// Calls the program over devices of a tape.
+fn call_over(rt: &(impl Abort + AllocGlobal), call: &Call, tape: &Tape) -> Result<Outcome, Fail> {
     let mut words = Vec::new(rt.alloc());
     words.push("recode")?;
     for word in call.line.split(' ') {
@@ -100,11 +128,15 @@ fn call_program(rt: &(impl Abort + AllocGlobal), call: &Call) -> Result<Outcome,
         is_full: call.is_full,
         calls: 0,
     };
-    let turns = Cell::new(0);
-    let input = Source::new(call.input, Reads::CutAt(0), 0, ErrorKind::BrokenPipe);
-    let mut reader = Counted::new(input);
-    let mut writer = Counted::new(Sink::new(rt.alloc(), call.writer, &turns));
-    let mut log = Counted::new(Sink::new(rt.alloc(), call.log_manners, &turns));
+    let mut reader = Counted::new(Source::new(
+        call.input,
+        Reads::CutAt(0),
+        0,
+        ErrorKind::BrokenPipe,
+        tape,
+    ));
+    let mut writer = Counted::new(Sink::new(rt.alloc(), call.writer, Device::Writer, tape));
+    let mut log = Counted::new(Sink::new(rt.alloc(), call.log_manners, Device::Log, tape));
     assert!(rt; !words.is_empty());
     let status = program(
         rt.alloc(),
@@ -121,6 +153,11 @@ fn call_program(rt: &(impl Abort + AllocGlobal), call: &Call) -> Result<Outcome,
         asked: source.calls,
         reads: reader.get_ref().calls(),
     })
+}
+
+fn call_program(rt: &(impl Abort + AllocGlobal), call: &Call) -> Result<Outcome, Fail> {
+    let tape = Tape::new(rt.alloc());
+    call_over(rt, call, &tape)
 }
 
 fn check(rt: &(impl Abort + AllocGlobal), call: &Call) -> Result<(), Fail> {
@@ -156,6 +193,35 @@ fn a_run_tells_what_it_lost(rt: HostRuntime) -> Result<(), Fail> {
                 status: 1,
                 output: b"a\xEF\xBF\xBD\xEF\xBF\xBD\xEF\xBF\xBDZ",
                 log: "bad 1 1\nbad 2 1\nbad 3 1\n",
+                ..EMPTY
+            },
+        )?;
+    }
+    Ok(())
+}
+
+// U+00E8 has no byte in x-user-defined.
+#[test]
+fn references_are_in_the_form_that_is_asked_for(rt: HostRuntime) -> Result<(), Fail> {
+    for (line, output) in [
+        ("--from utf-8 --to x-user-defined", b"&#232;".as_slice()),
+        (
+            "--from utf-8 --to x-user-defined --unmappable decimal",
+            b"&#232;".as_slice(),
+        ),
+        (
+            "--from utf-8 --to x-user-defined --unmappable hexadecimal",
+            b"&#xE8;".as_slice(),
+        ),
+    ] {
+        check(
+            &rt,
+            &Call {
+                line,
+                input: b"\xC3\xA8",
+                status: 1,
+                output,
+                log: "lost 0 232\n",
                 ..EMPTY
             },
         )?;
@@ -293,6 +359,39 @@ fn each_file_is_read_once(rt: HostRuntime) -> Result<(), Fail> {
             ..EMPTY
         },
     )
+}
+
+#[test]
+fn a_told_file_is_read(rt: HostRuntime) -> Result<(), Fail> {
+    let mut source = ToldFile {
+        dir: "tables",
+        name: "index-jis0208.txt",
+        text: b"422\t0x30CF",
+    };
+    let words = [
+        "recode",
+        "--from",
+        "shift_jis",
+        "--to",
+        "utf-8",
+        "--indexes",
+        "tables",
+    ];
+    let mut reader = Counted::new(b"\x83n".as_slice());
+    let mut writer = Counted::new(Vec::new(rt.alloc()));
+    let mut log = Counted::new(Vec::new(rt.alloc()));
+    let status = program(
+        rt.alloc(),
+        &words,
+        &mut source,
+        &mut reader,
+        &mut writer,
+        &mut log,
+    );
+    assert!(rt; log.get_ref().is_empty());
+    assert_eq!(rt; writer.get_ref().as_slice(), b"\xE3\x83\x8F".as_slice());
+    assert_eq!(rt; status, 0);
+    Ok(())
 }
 
 #[test]

@@ -1,8 +1,10 @@
+use crate::sink::{Manners, WILLING};
 use crate::source::Reads;
-use crate::trial::{LEAST, LEAST_WIDE, ROOMY, SIZES, Sizes, Trial, WAYS, recode_over};
+use crate::stops::{check_flushes, check_stops};
+use crate::trial::{LEAST, LEAST_WIDE, ROOMY, SIZES, Sizes, Trial, WAYS, Way, recode_over};
 use encoding_front::{Encoding, UTF_8};
 use encoding_tables::{IndexKind, Tables};
-use recode::{Mark, Report};
+use recode::{Mark, Policy, Report};
 use std::alloc::AllocError;
 use std::process::Abort;
 
@@ -13,6 +15,7 @@ pub struct Row {
     pub from: Encoding,
     pub to: Encoding,
     pub mark: Mark,
+    pub policy: Policy,
     /// What the input turns out to be in, where a mark of another encoding is taken.
     pub found: Option<Encoding>,
     /// The texts of indexes. Those that are needed beside them are empty.
@@ -31,6 +34,7 @@ pub const EMPTY: Row = Row {
     from: UTF_8,
     to: UTF_8,
     mark: Mark::Keep,
+    policy: Policy::Decimal,
     found: None,
     index: &[],
     input: b"",
@@ -69,6 +73,7 @@ impl Row {
             from: self.from,
             to: self.to,
             mark: self.mark,
+            policy: self.policy,
             index: self.index,
             ..Trial::new(self.input)
         }
@@ -124,6 +129,29 @@ fn check_reads(
 // with room for all of a row.
 const ROOMS: [(bool, [usize; 3]); 2] = [(false, [4, 5, 64]), (true, [2, 3, 64])];
 
+// How many calls of codecs are made where the input ends behind each of its bytes.
+fn check_calls(
+    rt: &(impl Abort + AllocGlobal),
+    row: Row,
+    tables: &Tables,
+) -> Result<(), AllocError> {
+    for sizes in SIZES {
+        for len in 0..=row.input.len() {
+            let trial = Trial {
+                input: row.input.get(..len).unwrap_or(row.input),
+                sizes,
+                ..row.trial()
+            };
+            let outcome = recode_over(rt, Way::Run, &trial, tables)?;
+            let report = outcome.answer.expect(rt, "a report");
+            let most = report.read.saturating_mul(37).saturating_add(9);
+            assert_eq!(rt; report.read, len as u64, "{trial:?}");
+            assert!(rt; report.calls <= most, "{report:?} {trial:?}");
+        }
+    }
+    Ok(())
+}
+
 // With buffers of all sizes beside one another: an input that is longer than the pivot or the
 // output, a character that the pivot holds once and not twice, a check that is longer or shorter.
 fn check_sizes(
@@ -152,6 +180,32 @@ fn check_sizes(
     Ok(())
 }
 
+// With each call of a device failing, by writers that take all and by ones that take a byte.
+fn check_faults(
+    rt: &(impl Abort + AllocGlobal),
+    row: Row,
+    tables: &Tables,
+) -> Result<(), AllocError> {
+    for sizes in [LEAST, LEAST_WIDE, SHORT_OF_CHECK] {
+        for most in [1, usize::MAX] {
+            let manners = Manners { most, ..WILLING };
+            let trial = Trial {
+                sizes,
+                writer: manners,
+                log: manners,
+                ..row.trial()
+            };
+            check_stops(rt, &trial, tables)?;
+        }
+    }
+    let trial = Trial {
+        sizes: LEAST,
+        ..row.trial()
+    };
+    check_flushes(rt, &trial, tables)?;
+    check_calls(rt, row, tables)
+}
+
 fn check_cuts_over(
     rt: &(impl Abort + AllocGlobal),
     row: Row,
@@ -164,9 +218,12 @@ fn check_cuts_over(
     check_sizes(rt, row, tables)
 }
 
-/// Converts the row at every cut, byte by byte, and with buffers of all sizes.
+/// Converts the row at every cut, byte by byte, with buffers of all sizes, and with each call of a
+/// device failing.
 pub fn check_cuts(rt: &(impl Abort + AllocGlobal), row: Row) -> Result<(), AllocError> {
-    check_cuts_over(rt, row, &row.trial().tables(rt))
+    let tables = row.trial().tables(rt);
+    check_faults(rt, row, &tables)?;
+    check_cuts_over(rt, row, &tables)
 }
 
 /// Converts the row with one read, and large buffers of either kind of pivot.
@@ -179,9 +236,10 @@ pub fn check_at_once(rt: &(impl Abort + AllocGlobal), row: Row) -> Result<(), Al
     Ok(())
 }
 
-/// Converts the row so with marks sniffed, removed and kept.
+/// Converts the row so, with marks sniffed, removed and kept.
 pub fn check_marks(rt: &(impl Abort + AllocGlobal), row: Row) -> Result<(), AllocError> {
     let tables = row.trial().tables(rt);
+    check_faults(rt, row, &tables)?;
     for mark in [Mark::Sniff, Mark::Remove, Mark::Keep] {
         check_cuts_over(rt, Row { mark, ..row }, &tables)?;
     }

@@ -1,5 +1,5 @@
+use crate::tape::{Device, Event, Tape};
 use std::alloc::Global;
-use std::cell::Cell;
 use std::io;
 use std::io::{ErrorKind, Write};
 
@@ -11,6 +11,13 @@ pub enum Failure {
     /// It returns an error.
     Error(ErrorKind),
 }
+
+/// The ways in which a call of a writer fails.
+pub const FAILURES: [Failure; 3] = [
+    Failure::Nothing,
+    Failure::Error(ErrorKind::BrokenPipe),
+    Failure::Error(ErrorKind::Interrupted),
+];
 
 /// What a writer does.
 #[derive(Clone, Copy, Debug)]
@@ -51,12 +58,13 @@ pub struct Sink<'a> {
     pub flushes: Flushes,
     manners: Manners,
     calls: usize,
-    turns: &'a Cell<usize>,
+    device: Device,
+    tape: &'a Tape,
 }
 
 impl<'a> Sink<'a> {
-    /// A writer that has taken nothing. `turns` counts the flushes of all writers.
-    pub fn new(alloc: Global, manners: Manners, turns: &'a Cell<usize>) -> Sink<'a> {
+    /// A writer that has taken nothing, as one of the devices that share a tape.
+    pub fn new(alloc: Global, manners: Manners, device: Device, tape: &'a Tape) -> Sink<'a> {
         Sink {
             taken: Vec::new(alloc),
             flushes: Flushes {
@@ -66,7 +74,8 @@ impl<'a> Sink<'a> {
             },
             manners,
             calls: 0,
-            turns,
+            device,
+            tape,
         }
     }
 }
@@ -74,6 +83,7 @@ impl<'a> Sink<'a> {
 impl<'a> Write for Sink<'a> {
     fn write(&mut self, buf: &[u8]) -> io::Result<usize> {
         self.calls = self.calls.saturating_add(1);
+        self.tape.add(Event::Call(self.device))?;
         if self.calls == self.manners.fails_at {
             return match self.manners.failure {
                 Failure::Nothing => Ok(0),
@@ -82,15 +92,17 @@ impl<'a> Write for Sink<'a> {
         }
         let count = self.manners.most.min(buf.len());
         self.taken.extend_from_slice(&buf[..count])?;
+        for byte in &buf[..count] {
+            self.tape.add(Event::Byte(self.device, *byte))?;
+        }
         Ok(count)
     }
 
     fn flush(&mut self) -> io::Result<()> {
-        let turn = self.turns.get().saturating_add(1);
-        self.turns.set(turn);
+        self.tape.add(Event::Flush(self.device))?;
         self.flushes = Flushes {
             calls: self.flushes.calls.saturating_add(1),
-            turn,
+            turn: self.tape.flush_turn(),
             taken: self.taken.len(),
         };
         if self.manners.flush_fails {

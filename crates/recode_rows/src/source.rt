@@ -1,3 +1,4 @@
+use crate::tape::{Device, Event, Tape};
 use std::io;
 use std::io::{ErrorKind, Read};
 
@@ -8,22 +9,31 @@ pub enum Reads {
     CutAt(usize),
     /// A read gives one byte.
     OneByOne,
+    /// A read is filled with the first byte of the input, and there is no end.
+    Endless,
 }
 
 /// A reader over memory.
 #[derive(Drop)]
-pub struct Source {
+pub struct Source<'a> {
     rest: &'static [u8],
     given: usize,
     reads: Reads,
     calls: usize,
     fails_at: usize,
     kind: ErrorKind,
+    tape: &'a Tape,
 }
 
-impl Source {
+impl<'a> Source<'a> {
     /// A reader of these bytes. The call `fails_at`, counted from 1, fails, and only that one.
-    pub fn new(bytes: &'static [u8], reads: Reads, fails_at: usize, kind: ErrorKind) -> Source {
+    pub fn new(
+        bytes: &'static [u8],
+        reads: Reads,
+        fails_at: usize,
+        kind: ErrorKind,
+        tape: &'a Tape,
+    ) -> Source<'a> {
         Source {
             rest: bytes,
             given: 0,
@@ -31,6 +41,7 @@ impl Source {
             calls: 0,
             fails_at,
             kind,
+            tape,
         }
     }
 
@@ -43,17 +54,22 @@ impl Source {
     fn most(&self) -> usize {
         match self.reads {
             Reads::CutAt(offset) if self.given < offset => offset - self.given,
-            Reads::CutAt(_) => usize::MAX,
+            Reads::CutAt(_) | Reads::Endless => usize::MAX,
             Reads::OneByOne => 1,
         }
     }
 }
 
-impl Read for Source {
+impl<'a> Read for Source<'a> {
     fn read(&mut self, buf: &mut [u8]) -> io::Result<usize> {
         self.calls = self.calls.saturating_add(1);
+        self.tape.add(Event::Call(Device::Reader))?;
         if self.calls == self.fails_at {
             return Err(io::Error::from(self.kind));
+        }
+        if let (Reads::Endless, Some(byte)) = (self.reads, self.rest.first()) {
+            buf.fill(*byte);
+            return Ok(buf.len());
         }
         let count = self.most().min(self.rest.len()).min(buf.len());
         let (prefix, rest) = self.rest.split_at(count);

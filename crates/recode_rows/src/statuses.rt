@@ -239,6 +239,34 @@ fn a_failed_flush_is_told(rt: HostRuntime) -> Result<(), AllocError> {
     Ok(())
 }
 
+// Of a call that fails before the flushes `stops` has each.
+#[test]
+fn an_input_too_long_is_told_before_a_failed_flush(rt: HostRuntime) -> Result<(), AllocError> {
+    let rows = [
+        (STUCK, WILLING, [0, 1, 0]),
+        (WILLING, STUCK, [0, 0, 1]),
+        (STUCK, STUCK, [0, 1, 1]),
+    ];
+    for (writer, log, failures) in rows {
+        let trial = Trial {
+            sizes: LEAST,
+            limit: 1,
+            writer,
+            log,
+            ..Trial::new(b"ab")
+        };
+        let want = Want {
+            status: 4,
+            output: b"a",
+            lines: "",
+            log: "recode: input too long\n",
+            failures,
+        };
+        check(&rt, &trial, want)?;
+    }
+    Ok(())
+}
+
 #[test]
 fn what_cannot_be_written_of_the_message_is_dropped(rt: HostRuntime) -> Result<(), AllocError> {
     let trial = Trial {

@@ -3,15 +3,16 @@ ghost use Rattle.recode_log.specs.Counted.{failures_of};
 
 use crate::sink::{Flushes, Manners, Sink, WILLING};
 use crate::source::{Reads, Source};
+use crate::tape::{Device, Event, Tape};
 use encoding_front::{Encoding, UTF_8};
 use encoding_index::load;
 use encoding_tables::{IndexKind, Tables};
 use recode::{
-    Buffers, Fault, GREATEST_LIMIT, Job, Mark, Pivot, Progress, Report, Session, convert, run,
+    Buffers, Fault, GREATEST_LIMIT, Job, Mark, Pivot, Policy, Progress, Report, Session, convert,
+    run,
 };
 use recode_log::counted::Counted;
 use std::alloc::{AllocError, Global};
-use std::cell::Cell;
 use std::io::ErrorKind;
 use std::process::Abort;
 
@@ -71,6 +72,7 @@ pub struct Trial {
     pub from: Encoding,
     pub to: Encoding,
     pub mark: Mark,
+    pub policy: Policy,
     /// The texts of indexes. Those that are needed beside them are empty.
     pub index: &'static [(IndexKind, &'static [u8])],
     pub input: &'static [u8],
@@ -91,6 +93,7 @@ impl Trial {
             from: UTF_8,
             to: UTF_8,
             mark: Mark::Keep,
+            policy: Policy::Decimal,
             index: &[],
             input,
             limit: GREATEST_LIMIT,
@@ -108,6 +111,7 @@ impl Trial {
             from: self.from,
             to: self.to,
             mark: self.mark,
+            policy: self.policy,
             limit: self.limit,
             tables,
         }
@@ -131,12 +135,19 @@ impl Trial {
         tables
     }
 
-    fn devices<'a>(&self, alloc: Global, turns: &'a Cell<usize>) -> Devices<'a> {
-        let source = Source::new(self.input, self.reads, self.read_fails_at, self.read_kind);
+    fn devices<'a>(&self, alloc: Global, tape: &'a Tape) -> Devices<'a> {
+        let source = Source::new(
+            self.input,
+            self.reads,
+            self.read_fails_at,
+            self.read_kind,
+            tape,
+        );
         Devices {
             reader: Counted::new(source),
-            writer: Counted::new(Sink::new(alloc, self.writer, turns)),
-            log: Counted::new(Sink::new(alloc, self.log, turns)),
+            writer: Counted::new(Sink::new(alloc, self.writer, Device::Writer, tape)),
+            log: Counted::new(Sink::new(alloc, self.log, Device::Log, tape)),
+            tape,
         }
     }
 }
@@ -153,6 +164,8 @@ pub struct Outcome<A> {
     pub failures: [u64; 3],
     pub writer_flushes: Flushes,
     pub log_flushes: Flushes,
+    /// What happened to all three.
+    pub events: Vec<Event>,
 }
 
 impl<A: Drop> Outcome<A> {
@@ -173,13 +186,14 @@ impl<A: Drop> Outcome<A> {
 
 #[derive(Drop)]
 struct Devices<'a> {
-    reader: Counted<Source>,
+    reader: Counted<Source<'a>>,
     writer: Counted<Sink<'a>>,
     log: Counted<Sink<'a>>,
+    tape: &'a Tape,
 }
 
 impl<'a> Devices<'a> {
-    fn outcome<A>(self, answer: A) -> Outcome<A> {
+    fn outcome<A>(self, alloc: Global, answer: A) -> Outcome<A> {
         let failures = [
             self.reader.failures(),
             self.writer.failures(),
@@ -196,6 +210,7 @@ impl<'a> Devices<'a> {
             failures,
             writer_flushes: writer.flushes,
             log_flushes: log.flushes,
+            events: self.tape.take(alloc),
         }
     }
 }
@@ -328,8 +343,8 @@ pub fn watch(
     wants: &[Held],
 ) -> Result<Outcome<Result<Progress, Fault>>, AllocError> {
     let tables = trial.tables(rt);
-    let turns = Cell::new(0);
-    let mut devices = trial.devices(rt.alloc(), &turns);
+    let tape = Tape::new(rt.alloc());
+    let mut devices = trial.devices(rt.alloc(), &tape);
     let mut rooms = Rooms::new(rt.alloc(), trial.sizes)?;
     let mut buffers = rooms.lend();
     let job = trial.job(&tables);
@@ -337,7 +352,7 @@ pub fn watch(
     let mut session = Session::new(job);
     watch_steps(rt, &mut session, &mut devices, &mut buffers, wants);
     let answer = step(rt, &mut session, &mut devices, &mut buffers);
-    Ok(devices.outcome(answer))
+    Ok(devices.outcome(rt.alloc(), answer))
 }
 
 // Steps with one call of the reader each.
@@ -384,8 +399,8 @@ pub fn recode_over(
     trial: &Trial,
     tables: &Tables,
 ) -> Result<Outcome<Result<Report, Fault>>, AllocError> {
-    let turns = Cell::new(0);
-    let mut devices = trial.devices(rt.alloc(), &turns);
+    let tape = Tape::new(rt.alloc());
+    let mut devices = trial.devices(rt.alloc(), &tape);
     let mut rooms = Rooms::new(rt.alloc(), trial.sizes)?;
     let mut buffers = rooms.lend();
     let job = trial.job(tables);
@@ -393,7 +408,7 @@ pub fn recode_over(
         Way::Run => by_run(rt, &mut devices, job, &mut buffers),
         Way::Steps => by_steps(rt, &mut devices, job, &mut buffers),
     };
-    Ok(devices.outcome(answer))
+    Ok(devices.outcome(rt.alloc(), answer))
 }
 
 fn by_convert(
@@ -415,12 +430,20 @@ fn by_convert(
 
 /// Converts by `convert`, and returns its status.
 pub fn status(rt: &(impl Abort + AllocGlobal), trial: &Trial) -> Result<Outcome<u8>, AllocError> {
-    let tables = trial.tables(rt);
-    let turns = Cell::new(0);
-    let mut devices = trial.devices(rt.alloc(), &turns);
+    status_over(rt, trial, &trial.tables(rt))
+}
+
+/// The same with tables that are there.
+pub fn status_over(
+    rt: &(impl Abort + AllocGlobal),
+    trial: &Trial,
+    tables: &Tables,
+) -> Result<Outcome<u8>, AllocError> {
+    let tape = Tape::new(rt.alloc());
+    let mut devices = trial.devices(rt.alloc(), &tape);
     let mut rooms = Rooms::new(rt.alloc(), trial.sizes)?;
     let mut buffers = rooms.lend();
-    let job = trial.job(&tables);
+    let job = trial.job(tables);
     let answer = by_convert(rt, &mut devices, job, &mut buffers);
-    Ok(devices.outcome(answer))
+    Ok(devices.outcome(rt.alloc(), answer))
 }

@@ -30,23 +30,33 @@ fn runs(rt: HostRuntime) -> Result<(), Fail> {
     for (line, want) in [
         (
             "--from utf-8 --to gbk",
-            r#"{ from: "utf-8", to: "gbk", indexes: ".", mark: Sniff, pivot: Utf8, limit: 281474976710656 }"#,
+            "{ from: \"utf-8\", to: \"gbk\", indexes: \".\", \
+             mark: Sniff, unmappable: Decimal, pivot: Utf8, limit: 281474976710656 }",
         ),
         (
             "--from utf-8 --to utf-8 --mark keep",
-            r#"{ from: "utf-8", to: "utf-8", indexes: ".", mark: Keep, pivot: Utf8, limit: 281474976710656 }"#,
+            "{ from: \"utf-8\", to: \"utf-8\", indexes: \".\", \
+             mark: Keep, unmappable: Decimal, pivot: Utf8, limit: 281474976710656 }",
+        ),
+        (
+            "--from a --to b --unmappable hexadecimal",
+            "{ from: \"a\", to: \"b\", indexes: \".\", \
+             mark: Sniff, unmappable: Hexadecimal, pivot: Utf8, limit: 281474976710656 }",
         ),
         (
             "--limit=0 --to=Latin1 --pivot=utf16 --indexes=/a=b --mark=remove --from=big5",
-            r#"{ from: "big5", to: "Latin1", indexes: "/a=b", mark: Remove, pivot: Utf16, limit: 0 }"#,
+            "{ from: \"big5\", to: \"Latin1\", indexes: \"/a=b\", \
+             mark: Remove, unmappable: Decimal, pivot: Utf16, limit: 0 }",
         ),
         (
             "--from a --to b --mark sniff --pivot utf8 --limit 281474976710656 --",
-            r#"{ from: "a", to: "b", indexes: ".", mark: Sniff, pivot: Utf8, limit: 281474976710656 }"#,
+            "{ from: \"a\", to: \"b\", indexes: \".\", \
+             mark: Sniff, unmappable: Decimal, pivot: Utf8, limit: 281474976710656 }",
         ),
         (
             "--from  --to b --indexes= --limit 0007",
-            r#"{ from: "", to: "b", indexes: "", mark: Sniff, pivot: Utf8, limit: 7 }"#,
+            "{ from: \"\", to: \"b\", indexes: \"\", \
+             mark: Sniff, unmappable: Decimal, pivot: Utf8, limit: 7 }",
         ),
     ] {
         let given = answer(&rt, rt.alloc(), line)?;
@@ -84,15 +94,17 @@ fn help_tells_all(rt: HostRuntime) -> Result<(), Fail> {
         for part in [
             "help Converts standard input ",
             "\nUsage: recode [OPTIONS] --from <LABEL> --to <LABEL>\n",
-            "\n      --from <LABEL>   Encoding of the input\n",
-            "\n      --to <LABEL>     Encoding of the output\n",
-            "\n      --indexes <DIR>  Folder of the index files [default: .]\n",
+            "\n      --from <LABEL>       Encoding of the input\n",
+            "\n      --to <LABEL>         Encoding of the output\n",
+            "\n      --indexes <DIR>      Folder of the index files [default: .]\n",
+            "\n      --unmappable <FORM>  References to lost characters: decimal or hexadecimal ",
+            ": decimal or hexadecimal [default: decimal]\n",
             ": sniff, remove or keep [default: sniff]\n",
             ": utf8 or utf16, with the same output [default: utf8]\n",
             ", 0 to the default, in digits [default: 281474976710656]\n",
-            "\n      --list           Print the encodings and their labels\n",
-            "\n  -h, --help           Print help\n",
-            "\n  -V, --version        Print version\n",
+            "\n      --list               Print the encodings and their labels\n",
+            "\n  -h, --help               Print help\n",
+            "\n  -V, --version            Print version\n",
             " folder \"indexes\", ",
             "\nPREFIX/share/recode/indexes; ",
             "\nwindows-1252. UTF-16 and replacement are written as UTF-8.\n",
@@ -183,6 +195,11 @@ fn refusals(rt: HostRuntime) -> Result<(), Fail> {
         (
             "--from a --to b --mark=",
             "invalid value '' for '--mark <MODE>'\n  [possible values: sniff, remove, keep]",
+            USAGE,
+        ),
+        (
+            "--from a --to b --unmappable hex",
+            "invalid value 'hex' for '--unmappable <FORM>'\n  [possible values: decimal, hexadecimal]",
             USAGE,
         ),
         (

@@ -1,3 +1,5 @@
+ghost use Rattle.std.specs.Prelude.{None};
+
 use recode::{IndexSource, SourceFault, read_index_file};
 use std::alloc::Global;
 use std::fs;
@@ -17,6 +19,9 @@ impl<'r, R> SystemFiles<'r, R> {
 }
 
 impl<'r, R: Files> IndexSource for SystemFiles<'r, R> {
+    // What a file of the system holds is told by no contract of std.
+    ghost holds = { λ _ _ _. None };
+
     // Reads `DIR/FILE`.
     fn read_file(&mut self, alloc: Global, dir: &str, file: &str) -> Result<Vec<u8>, SourceFault> {
         let Ok(path) = format!(in alloc; "{dir}/{file}") else {

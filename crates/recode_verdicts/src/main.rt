@@ -10,7 +10,7 @@ use anyhow::{Context, bail, ensure};
 use encoding_front::{Encoding, Mark, UTF_8};
 use encoding_index::load;
 use encoding_tables::Tables;
-use recode::{Buffers, GREATEST_LIMIT, Job, Pivot, run};
+use recode::{Buffers, GREATEST_LIMIT, Job, Pivot, Policy, run};
 use recode_log::counted::Counted;
 use std::rt::Files;
 use std::{env, fs};
@@ -171,6 +171,7 @@ fn main(rt: HostRuntime) -> anyhow::Result<()> {
             from: UTF_8,
             to,
             mark: Mark::Keep,
+            policy: Policy::Decimal,
             limit: GREATEST_LIMIT,
             tables: &tables,
         };

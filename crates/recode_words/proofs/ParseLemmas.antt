@@ -170,7 +170,7 @@ entry_has_value old m p plain parsed k d lt set delim least unique named own som
 
 -- what has to hold of the rule at index k of the command, for its value to be there
 pub record IsValued (k : ℕ) (r : Rule) : Type 0 where
-  pub below : k < 7
+  pub below : k < 8
   pub at : (d : Rule) → slice_index_or recode_app.top.rules k d ≡ r
   pub set : r.action ≡ Some Set
   pub range : r.range ≡ None
@@ -202,9 +202,9 @@ pub has_value : (c : Command) (m : ArgMatches) (k : ℕ) (r : Rule) → app_of c
     → is_some (first_value (found_of m) r.id) ≡ true
 has_value c m k r e p v =
     let rules : map rule_of (args_of c) ≡ recode_app.top.rules = ap (λ a. a.top.rules) e in
-    let seven : length (args_of c) ≡ 7 = sym (length-map (args_of c) rule_of) ∙ ap length rules in
-    let lt : k < length (args_of c) = let b = v.below in rw seven b in
-    let d = some_arg (args_of c) (rw seven (omega arith)) in
+    let eight : length (args_of c) ≡ 8 = sym (length-map (args_of c) rule_of) ∙ ap length rules in
+    let lt : k < length (args_of c) = let b = v.below in rw eight b in
+    let d = some_arg (args_of c) (rw eight (omega arith)) in
     let a = slice_index_or (args_of c) k d in
     let is : rule_of a ≡ r = at_map rule_of (args_of c) k d ∙ (ap (λ rs. slice_index_or rs k (rule_of d)) rules ∙ v.at (rule_of d)) in
     let id : a.id.now ≡ r.id = ap (λ (x : Rule). x.id) is in
@@ -218,7 +218,7 @@ has_value c m k r e p v =
     λ j x low same.
     let at_j : (slice_index_or (args_of c) j x).id.now ≡ (slice_index_or recode_app.top.rules j (rule_of x)).id =
     ap (λ (y : Rule). y.id) (at_map rule_of (args_of c) j x ∙ ap (λ rs. slice_index_or rs j (rule_of x)) rules) in
-    only_place k j r.id recode_app.top.rules (rule_of x) v.only (subst (λ n. j < n) seven low) (rw (← at_j, ← id) same) in
+    only_place k j r.id recode_app.top.rules (rule_of x) v.only (subst (λ n. j < n) eight low) (rw (← at_j, ← id) same) in
     let negates : (out-Command c).subcommand_negates_reqs ≡ false = ap (λ x. x.top.subcommand_negates_reqs) e in
     let some : is_some (matched_of (found_of m) a.id.now) ≡ true = elim v.there [
       | inl required ↦ present_has_entry (found_of m) a.id.now
@@ -302,7 +302,7 @@ match_is c m words app p h none = record {
     there = inr refl;
     simple = refl;
   });
-  pivot = has_value c m 4 (default_rule (codes "pivot") (codes "utf8")) app p (record {
+  unmappable = has_value c m 4 (default_rule (codes "unmappable") (codes "decimal")) app p (record {
     below = lit< tt;
     at = λ d. refl;
     set = refl;
@@ -314,7 +314,19 @@ match_is c m words app p h none = record {
     there = inr refl;
     simple = refl;
   });
-  limit = has_value c m 5 (default_rule (codes "limit") (codes "281474976710656")) app p (record {
+  pivot = has_value c m 5 (default_rule (codes "pivot") (codes "utf8")) app p (record {
+    below = lit< tt;
+    at = λ d. refl;
+    set = refl;
+    range = refl;
+    only = refl;
+    named = refl;
+    help = refl;
+    version = refl;
+    there = inr refl;
+    simple = refl;
+  });
+  limit = has_value c m 6 (default_rule (codes "limit") (codes "281474976710656")) app p (record {
     below = lit< tt;
     at = λ d. refl;
     set = refl;

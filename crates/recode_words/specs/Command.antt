@@ -28,12 +28,13 @@ named_app =
 
 -- the command line of `recode`; clap adds `-h`, `--help`, `-V` and `--version`
 abbrev pub recode_app : App
-recode_app = with_rule (with_rule (with_rule (with_rule (with_rule (with_rule (with_rule
+recode_app = with_rule (with_rule (with_rule (with_rule (with_rule (with_rule (with_rule (with_rule
     named_app
     (required_rule (codes "from")))
     (required_rule (codes "to")))
     (default_rule (codes "indexes") (codes ".")))
     (default_rule (codes "mark") (codes "sniff")))
+    (default_rule (codes "unmappable") (codes "decimal")))
     (default_rule (codes "pivot") (codes "utf8")))
     (default_rule (codes "limit") (codes "281474976710656")))
     list_rule

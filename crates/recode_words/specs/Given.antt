@@ -6,7 +6,7 @@ use Rattle.clap.specs.declared.error.kind.ErrorKind.{ErrorKind}
 use Rattle.clap.specs.declared.error.kind.ErrorKind.TheVariants.{OutOfMemory}
 use Rattle.clap.specs.declared.parser.matches.ArgMatches.{ArgMatches}
 use Rattle.recode_words.specs.Command.{recode_app}
-use Rattle.recode_words.specs.Meaning.{limit_of, mark_named, pivot_of}
+use Rattle.recode_words.specs.Meaning.{limit_of, mark_named, pivot_of, policy_named}
 use Rattle.recode_words.specs.declared.values.Values.{Values}
 use Rattle.recode_words.specs.declared.words.Words.{Words}
 
@@ -30,6 +30,7 @@ pub record IsMatch (words : List Text) (m : ArgMatches) : Type 0 where
   pub to : is_some (first_value (found_of m) (codes "to")) ≡ true
   pub indexes : is_some (first_value (found_of m) (codes "indexes")) ≡ true
   pub mark : is_some (first_value (found_of m) (codes "mark")) ≡ true
+  pub unmappable : is_some (first_value (found_of m) (codes "unmappable")) ≡ true
   pub pivot : is_some (first_value (found_of m) (codes "pivot")) ≡ true
   pub limit : is_some (first_value (found_of m) (codes "limit")) ≡ true
 
@@ -40,6 +41,7 @@ pub record HasValues (words : List Text) (v : Values) : Type 0 where
   pub to : given (codes "to") words ≡ Some v.to.now
   pub indexes : given (codes "indexes") words ≡ Some v.indexes.now
   pub mark : given (codes "mark") words ≡ Some v.mark.now
+  pub unmappable : given (codes "unmappable") words ≡ Some v.unmappable.now
   pub pivot : given (codes "pivot") words ≡ Some v.pivot.now
   pub limit : given (codes "limit") words ≡ Some v.limit.now
 
@@ -49,10 +51,12 @@ pub record IsReading (v : Values) (w : Words) : Type 0 where
   pub to : w.to.now ≡ v.to.now
   pub indexes : w.indexes.now ≡ v.indexes.now
   pub mark : mark_named v.mark.now ≡ Some w.mark
+  pub unmappable : policy_named v.unmappable.now ≡ Some w.unmappable
   pub pivot : pivot_of v.pivot.now ≡ Some w.pivot
   pub limit : limit_of v.limit.now ≡ Some w.limit
 
 -- one of the values stands for nothing
 abbrev pub HasWrongValue : Values → Type 0
 HasWrongValue v = (mark_named v.mark.now ≡ None)
-    ⊎ ((pivot_of v.pivot.now ≡ None) ⊎ (limit_of v.limit.now ≡ None))
+    ⊎ ((policy_named v.unmappable.now ≡ None)
+    ⊎ ((pivot_of v.pivot.now ≡ None) ⊎ (limit_of v.limit.now ≡ None)))

@@ -8,7 +8,7 @@ use Rattle.clap.specs.declared.error.kind.ErrorKind.{ErrorKind}
 use Rattle.clap.specs.declared.error.kind.ErrorKind.TheVariants.{DisplayHelp, DisplayVersion}
 use Rattle.recode_words.specs.Command.{recode_app}
 use Rattle.recode_words.specs.Given.{EndsIn, given}
-use Rattle.recode_words.specs.Meaning.{limit_of, mark_named, pivot_of}
+use Rattle.recode_words.specs.Meaning.{limit_of, mark_named, pivot_of, policy_named}
 use Rattle.recode_words.specs.declared.request.Request.{Request}
 use Rattle.recode_words.specs.declared.request.Request.TheVariants.{Run, Help, Version, List as Listing}
 use Rattle.recode_words.specs.declared.request.WordsFault.{WordsFault}
@@ -34,6 +34,7 @@ pub record IsMeantBy (words : List Text) (w : Words) : Type 0 where
   pub to : given (codes "to") words ≡ Some w.to.now
   pub indexes : given (codes "indexes") words ≡ Some w.indexes.now
   pub mark : meant mark_named (codes "mark") words ≡ Some w.mark
+  pub unmappable : meant policy_named (codes "unmappable") words ≡ Some w.unmappable
   pub pivot : meant pivot_of (codes "pivot") words ≡ Some w.pivot
   pub limit : meant limit_of (codes "limit") words ≡ Some w.limit
 
@@ -53,8 +54,9 @@ IsRefusedByClap words = (kind : ErrorKind) × EndsIn kind words × (kind ≢ Dis
 abbrev pub HasMeaninglessValue : List Text → Type 0
 HasMeaninglessValue words = (fault_of recode_app words ≡ [])
     × ((meant mark_named (codes "mark") words ≡ None)
+    ⊎ ((meant policy_named (codes "unmappable") words ≡ None)
     ⊎ ((meant pivot_of (codes "pivot") words ≡ None)
-    ⊎ (meant limit_of (codes "limit") words ≡ None)))
+    ⊎ (meant limit_of (codes "limit") words ≡ None))))
 
 -- when each fault comes; memory may be refused at any words
 abbrev pub IsFaultOf : List Text → WordsFault → Type 0

@@ -30,7 +30,8 @@ Log, on standard error, a line for each malformed sequence and each character wi
   bad OFFSET LENGTH  these bytes of the input stand for no character; the output has U+FFFD in
                      their place
   lost INDEX SCALAR  the character with this index in the text, and with this number, has no bytes
-                     in the output's encoding; the output has &#SCALAR; in its place
+                     in the output's encoding; the output has &#SCALAR; in its place, or with
+                     --unmappable hexadecimal &#xHEX;
 Numbers are decimal. OFFSET and INDEX count bytes and characters from 0.
 
 Exit status:
@@ -114,6 +115,13 @@ pub(crate) fn command<'a>(alloc: Global) -> Result<Command<'a>, AllocError>
         ))?
         .arg(default_option(
             alloc,
+            "unmappable",
+            "decimal",
+            "FORM",
+            "References to lost characters: decimal or hexadecimal",
+        ))?
+        .arg(default_option(
+            alloc,
             "pivot",
             "utf8",
             "FORM",
@@ -124,7 +132,7 @@ pub(crate) fn command<'a>(alloc: Global) -> Result<Command<'a>, AllocError>
             "limit",
             "281474976710656",
             "N",
-            "Most bytes of input, 0 to the default, in digits",
+            "Most input bytes, 0 to the default, in digits",
         ))?
         .arg(list_flag(alloc))
 }

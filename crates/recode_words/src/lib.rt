@@ -9,4 +9,4 @@ pub mod words;
 
 pub use command::VERSION;
 pub use request::{Request, WordsFault, parse_words};
-pub use words::{GREATEST_LIMIT, MarkWord, PivotWord, Words};
+pub use words::{GREATEST_LIMIT, MarkWord, PivotWord, PolicyWord, Words};

@@ -3,7 +3,7 @@ ghost use Rattle.clap.specs.Words.{app_of, first_value, found_of};
 ghost use Rattle.recode_words.specs.Command.{recode_app};
 ghost use Rattle.recode_words.specs.Given.{HasValues, HasWrongValue, IsEndOf, IsMatch, IsReading};
 
-use crate::words::{MarkWord, PivotWord, Words, limit_from};
+use crate::words::{MarkWord, PivotWord, PolicyWord, Words, limit_from};
 use clap::{ArgMatches, Command, Error};
 
 // The values of the options, as clap's parse gives them.
@@ -13,6 +13,7 @@ pub(crate) struct Values<'a> {
     to: &'a str,
     indexes: &'a str,
     mark: &'a str,
+    unmappable: &'a str,
     pivot: &'a str,
     limit: &'a str,
 }
@@ -60,6 +61,7 @@ impl<'a> Values<'a> {
             to: value(&matches, "to"),
             indexes: value(&matches, "indexes"),
             mark: value(&matches, "mark"),
+            unmappable: value(&matches, "unmappable"),
             pivot: value(&matches, "pivot"),
             limit: value(&matches, "limit"),
         })
@@ -75,6 +77,13 @@ impl<'a> Values<'a> {
                 option: "--mark <MODE>",
                 value: self.mark,
                 possible: "sniff, remove, keep",
+            });
+        };
+        let Some(unmappable) = PolicyWord::from_name(self.unmappable) else {
+            return Err(WrongValue {
+                option: "--unmappable <FORM>",
+                value: self.unmappable,
+                possible: "decimal, hexadecimal",
             });
         };
         let Some(pivot) = PivotWord::from_name(self.pivot) else {
@@ -96,6 +105,7 @@ impl<'a> Values<'a> {
             to: self.to,
             indexes: self.indexes,
             mark,
+            unmappable,
             pivot,
             limit,
         })

@@ -3,11 +3,13 @@
 ghost use Rattle.std.specs.Prelude.{◌≡◌, ◌↔◌, IsTrue};
 ghost use Rattle.recode_words.specs.declared.words.MarkWord.{MarkWord};
 ghost use Rattle.recode_words.specs.declared.words.PivotWord.{PivotWord};
+ghost use Rattle.recode_words.specs.declared.words.PolicyWord.{PolicyWord};
 
-use crate::words::{MarkWord, PivotWord};
+use crate::words::{MarkWord, PivotWord, PolicyWord};
 
 /// What is done with a mark, and forms of text, are equal exactly where they are the same.
 pub fn words_are_compared()
     ensures mark { (a b : MarkWord) → IsTrue (⟦<MarkWord as PartialEq>⟧.eq a b) ↔ (a ≡ b) }
+    ensures policy { (a b : PolicyWord) → IsTrue (⟦<PolicyWord as PartialEq>⟧.eq a b) ↔ (a ≡ b) }
     ensures pivot { (a b : PivotWord) → IsTrue (⟦<PivotWord as PartialEq>⟧.eq a b) ↔ (a ≡ b) }
 {}

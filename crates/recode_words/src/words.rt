@@ -1,5 +1,5 @@
 ghost use Rattle.std.specs.Prelude.{◌≡◌};
-ghost use Rattle.recode_words.specs.Meaning.{limit_of, mark_named, pivot_of};
+ghost use Rattle.recode_words.specs.Meaning.{limit_of, mark_named, pivot_of, policy_named};
 
 /// The greatest limit, in bytes of input: 2^48.
 pub const GREATEST_LIMIT: u64 = 281474976710656;
@@ -24,6 +24,28 @@ impl MarkWord {
             "sniff" => Some(MarkWord::Sniff),
             "remove" => Some(MarkWord::Remove),
             "keep" => Some(MarkWord::Keep),
+            _ => None,
+        }
+    }
+}
+
+/// What is written for a character that has no bytes in the output's encoding.
+#[derive(Clone, Copy, Debug, PartialEq, Eq)]
+pub enum PolicyWord {
+    /// `decimal`: its reference in decimal, as `&#128169;`.
+    Decimal,
+    /// `hexadecimal`: its reference in hexadecimal, as `&#x1F4A9;`.
+    Hexadecimal,
+}
+
+impl PolicyWord {
+    /// The variant with this name, or `None` if there is none.
+    pub fn from_name(name: &str) -> Option<PolicyWord>
+        ensures { result ≡ policy_named name.now }
+    {
+        match name {
+            "decimal" => Some(PolicyWord::Decimal),
+            "hexadecimal" => Some(PolicyWord::Hexadecimal),
             _ => None,
         }
     }
@@ -63,6 +85,8 @@ pub struct Words<'a> {
     pub indexes: &'a str,
     /// What is done with a byte order mark.
     pub mark: MarkWord,
+    /// What is written for a character without bytes.
+    pub unmappable: PolicyWord,
     /// The form of the text between the decoder and the encoder.
     pub pivot: PivotWord,
     /// The most bytes of input, at most `GREATEST_LIMIT`.

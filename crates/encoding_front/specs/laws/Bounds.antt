@@ -1,13 +1,14 @@
 -- How long what is written for a text can be.
-use Rattle.std.proofs.Common.{◌≡◌, ℕ, ◌+◌, ◌*◌, ◌<◌, ◌≤◌, ◌==◌, inl, inr, nat_lt, Bool, true, false, cond, Option, None, Some, List, [], ◌∷◌, ◌++◌, length, refl, arith, length-append, codes}
+use Rattle.std.proofs.Common.{◌≡◌, ℕ, zero, suc, ◌+◌, ◌*◌, ◌/◌, ◌%◌, ◌^◌, ◌<◌, ◌≤◌, ◌==◌, inl, inr, nat_lt, pow-suc, Bool, true, false, cond, Option, None, Some, List, [], ◌∷◌, ◌++◌, length, refl, arith, length-append, codes}
 use Rattle.std.specs.Prelude.{◌||◌}
 use lib.Utf8.{scalar, scalar_cases}
-use Rattle.std.specs.Fmt.{decimal}
+use Rattle.std.specs.Fmt.{decimal, digit_glyph, digits, digits_onto}
 use Rattle.std.specs.Str.{all_scalars}
 use Rattle.std.proofs.lemmas.Fmt.{length-decimal-le}
-use Rattle.encoding_mem.specs.declared.reference.Reference.TheVariants.{Decimal}
+use Rattle.encoding_mem.specs.declared.reference.Reference.{Reference}
+use Rattle.encoding_mem.specs.declared.reference.Reference.TheVariants.{Decimal, Hexadecimal}
 use Rattle.encoding_mem.specs.Coding.{Coding, bytes, last_set, open_from, output, reference, spelled}
-use Rattle.std.proofs.lemmas.Bool.{and_parts}
+use Rattle.std.proofs.lemmas.Bool.{and_parts, cases_lt, eq-eqb, ne_eqb}
 use Rattle.encoding_mem.specs.declared.form.Form.{Form}
 use Rattle.encoding_mem.specs.declared.form.Form.TheVariants.{Mapped, Unmapped}
 use Rattle.encoding_mem.specs.declared.form.EscapeState.{EscapeState}
@@ -84,37 +85,55 @@ escape_in t _ s s' = omega arith
 pub short_escape : (t : IndexLists) (e : Encoding) (s s' : EscapeState) → length ((coding_of t e).escape s s') ≤ 3
 short_escape t e s s' = escape_in t (codec_kind_of (output_encoding_of e)) s s'
 
--- the longest reference is `&#1114111;`
-pub short_reference : (c : ℕ) → c < 0x110000 → length (reference Decimal c) ≤ 10
-short_reference c small = omega (arith, length-append (decimal c) (codes ";"), length-decimal-le 7 c (omega arith) (omega arith) (omega arith))
+-- a number below 16 ^ (k + 1) has at most k + 1 hexadecimal digits
+few_digits : (k more n : ℕ) (written : List ℕ) → n < 16 ^ suc k → length (digits_onto (suc (k + more)) 16 true n written) ≤ suc k + length written
+few_digits zero more n written small = rw (eq-eqb (n / 16) 0 (omega (arith, small))) (omega arith)
+few_digits (suc k) more n written small =
+    let power : 16 ^ suc (suc k) ≡ 16 ^ suc k * 16 = pow-suc 16 (suc k) in
+    let fuel : suc k + more ≡ suc (k + more) = omega arith in
+    let further : length (digits_onto (suc (k + more)) 16 true (n / 16) (digit_glyph true (n % 16) ∷ written)) ≤ suc k + suc (length written) =
+    few_digits k more (n / 16) (digit_glyph true (n % 16) ∷ written) (omega (arith, power, small)) in
+    elim (cases_lt 0 (n / 16)) [
+      | inl some ↦ rw (ne_eqb (n / 16) 0 (λ is. absurd (omega (arith, is, some))), fuel) (omega (arith, further))
+      | inr none ↦ rw (eq-eqb (n / 16) 0 (omega (arith, none))) (omega arith)
+    ]
 
-short_spelled : (c : ℕ) (f : Form) → c < 0x110000 → length (bytes f) ≤ 4 → ReportsItself c f → length (spelled Decimal f) ≤ 10
-short_spelled c (Mapped bs) small few itself = omega (arith, few)
-short_spelled c (Unmapped d) small few (inl same) = short_reference d (omega (arith, same))
-short_spelled c (Unmapped d) small few (inr same) = short_reference d (omega (arith, same))
+few_hexadecimal : (c : ℕ) → c < 0x110000 → length (digits 16 true c) ≤ 6
+unfolding digits
+few_hexadecimal c small = omega (arith, few_digits 5 58 c [] (omega (arith, small)))
+
+-- the longest references are `&#1114111;` and `&#x10FFFF;`
+pub short_reference : (ref : Reference) (c : ℕ) → c < 0x110000 → length (reference ref c) ≤ 10
+short_reference Decimal c small = omega (arith, length-append (decimal c) (codes ";"), length-decimal-le 7 c (omega arith) (omega arith) (omega arith))
+short_reference Hexadecimal c small = omega (arith, length-append (digits 16 true c) (codes ";"), few_hexadecimal c small)
+
+short_spelled : (ref : Reference) (c : ℕ) (f : Form) → c < 0x110000 → length (bytes f) ≤ 4 → ReportsItself c f → length (spelled ref f) ≤ 10
+short_spelled ref c (Mapped bs) small few itself = omega (arith, few)
+short_spelled ref c (Unmapped d) small few (inl same) = short_reference ref d (omega (arith, same))
+short_spelled ref c (Unmapped d) small few (inr same) = short_reference ref d (omega (arith, same))
 
 below_all : (c : ℕ) → scalar c ≡ true → c < 0x110000
 below_all c h = elim (scalar_cases c h) [ inl low ↦ omega (arith, low) | inr high ↦ omega (arith, high.1) ]
 
 -- a text of n characters is written in at most 13 * n + 3 bytes
-short_text : (e : Coding) (s : EscapeState) (t : List ℕ) → ((a b : EscapeState) → length (e.escape a b) ≤ 3) → ((c : ℕ) → c < 0x110000 → length (spelled Decimal (e.form c)) ≤ 10) → all_scalars t ≡ true
-    → length (open_from Decimal e s t) ≤ 13 * length t
-short_text e s [] escapes forms are = omega arith
-short_text e s (c ∷ t) escapes forms are =
+short_text : (ref : Reference) (e : Coding) (s : EscapeState) (t : List ℕ) → ((a b : EscapeState) → length (e.escape a b) ≤ 3) → ((c : ℕ) → c < 0x110000 → length (spelled ref (e.form c)) ≤ 10) → all_scalars t ≡ true
+    → length (open_from ref e s t) ≤ 13 * length t
+short_text ref e s [] escapes forms are = omega arith
+short_text ref e s (c ∷ t) escapes forms are =
     let parts = and_parts (scalar c) (all_scalars t) are in
     omega (
       arith,
       escapes s (e.set s c),
       forms c (below_all c parts.0),
-      short_text e (e.set s c) t escapes forms parts.1,
-      length-append (e.escape s (e.set s c)) (spelled Decimal (e.form c) ++ open_from Decimal e (e.set s c) t),
-      length-append (spelled Decimal (e.form c)) (open_from Decimal e (e.set s c) t),
+      short_text ref e (e.set s c) t escapes forms parts.1,
+      length-append (e.escape s (e.set s c)) (spelled ref (e.form c) ++ open_from ref e (e.set s c) t),
+      length-append (spelled ref (e.form c)) (open_from ref e (e.set s c) t),
     )
 
-pub short_open : (t : IndexLists) (e : Encoding) (s : EscapeState) (text : List ℕ) → all_scalars text ≡ true → length (open_from Decimal (coding_of t e) s text) ≤ 13 * length text
-short_open t e s text are = short_text (coding_of t e) s text (short_escape t e) (λ c small. short_spelled c ((coding_of t e).form c) small (short_form t e c) (reports_itself t e c)) are
+pub short_open : (ref : Reference) (t : IndexLists) (e : Encoding) (s : EscapeState) (text : List ℕ) → all_scalars text ≡ true → length (open_from ref (coding_of t e) s text) ≤ 13 * length text
+short_open ref t e s text are = short_text ref (coding_of t e) s text (short_escape t e) (λ c small. short_spelled ref c ((coding_of t e).form c) small (short_form t e c) (reports_itself t e c)) are
 
-pub short_output : (t : IndexLists) (e : Encoding) (text : List ℕ) → all_scalars text ≡ true → length (output Decimal (coding_of t e) text) ≤ 13 * length text + 3
-short_output t e text are =
+pub short_output : (ref : Reference) (t : IndexLists) (e : Encoding) (text : List ℕ) → all_scalars text ≡ true → length (output ref (coding_of t e) text) ≤ 13 * length text + 3
+short_output ref t e text are =
     let last = last_set (coding_of t e) Ascii text in
-    omega (arith, short_open t e Ascii text are, short_escape t e last Ascii, length-append (open_from Decimal (coding_of t e) Ascii text) ((coding_of t e).escape last Ascii))
+    omega (arith, short_open ref t e Ascii text are, short_escape t e last Ascii, length-append (open_from ref (coding_of t e) Ascii text) ((coding_of t e).escape last Ascii))

@@ -7,6 +7,7 @@ use Rattle.std.proofs.lemmas.Str.{chars-encodes}
 use Rattle.std.proofs.lemmas.List.{length-take}
 use lib.Pointwise.{pointwise_long}
 use lib.Utf8.{scalar}
+use Rattle.encoding_mem.specs.declared.reference.Reference.{Reference}
 use Rattle.encoding_mem.specs.declared.reference.Reference.TheVariants.{Decimal}
 use Rattle.encoding_mem.specs.Coding.{output}
 use Rattle.encoding_mem.specs.Piece.{Piece, well_formed, malformed, text, text_of, sizes, ArePieces}
@@ -136,8 +137,8 @@ pub marked_scalars : (t : IndexLists) (mark : Mark) (e : Encoding) (x : List ℕ
 marked_scalars t mark e x taken = text_scalars (marked_pieces t mark e x) (marked_are_pieces t mark e x taken)
 
 -- what an input is recoded to
-pub short_recoded : (t : IndexLists) (mark : Mark) (from to : Encoding) (x : List ℕ) → AreAcceptedTables t → length (output Decimal (coding_of t to) (marked_text t mark from x)) ≤ 13 * length x + 3
-short_recoded t mark from to x taken = omega (arith, short_output t to (marked_text t mark from x) (marked_scalars t mark from x taken), marked_few t mark from x taken)
+pub short_recoded : (ref : Reference) (t : IndexLists) (mark : Mark) (from to : Encoding) (x : List ℕ) → AreAcceptedTables t → length (output ref (coding_of t to) (marked_text t mark from x)) ≤ 13 * length x + 3
+short_recoded ref t mark from to x taken = omega (arith, short_output ref t to (marked_text t mark from x) (marked_scalars t mark from x taken), marked_few t mark from x taken)
 
 -- both at once
 pub recoded_at_once : (t : IndexLists) (mark : Mark) (from to : Encoding) (x decoded : List ℕ) → AreAcceptedTables t → decoded ≡ encode_utf8_all (marked_text t mark from x)

@@ -19,6 +19,7 @@ use Rattle.encoding_mem.specs.Items.{Byte, MalformedAt, LostAt}
 use Rattle.encoding_front.specs.declared.mark.Mark.{Mark}
 use Rattle.encoding_front.specs.declared.mark.Mark.TheVariants.{Sniff, Remove, Keep}
 use Rattle.recode.specs.declared.job.Job.{Job}
+use Rattle.recode.specs.declared.job.Policy.{Policy}
 
 -- U+20AC at pointer 0, U+00E9 at 105
 two : List ℕ
@@ -61,7 +62,7 @@ a_fold_is_not_told t = refl
 
 -- A job with these tables and encodings; any job says where the tables stand, and its limit.
 abbrev job : Job → IndexLists → (from to : Encoding) → Mark → Job
-job j t from to mark = record j { from = from; to = to; mark = mark; tables = record j.tables { now = t } }
+job j t from to mark = record j { from = from; to = to; mark = mark; policy = Policy.Decimal; tables = record j.tables { now = t } }
 
 -- for this input these bytes are written, and these lines
 abbrev Gives : Job → (input written lines : List ℕ) → Type 0
@@ -301,6 +302,23 @@ with_private_use = record { flats = replicate 29 None ++ (Some (replicate 23775 
 faithful_private_use : (j : Job) → Faithful (job j with_private_use Encoding.Utf8 Encoding.Gb18030 Sniff) (0xEE ∷ 0xA0 ∷ 0x9E ∷ [])
 unfolding pieces_in with_private_use
 faithful_private_use j = record { source = (tt, tt); target = (tt, tt); same = refl }
+
+-- references in hexadecimal: the greatest number has six digits, and the line of the log is in decimal
+abbrev in_hexadecimal : Job → Job
+in_hexadecimal j = record j { policy = Policy.Hexadecimal }
+
+hexadecimal_pile_of_poo : (j : Job) → Gives (in_hexadecimal (job j no_tables Encoding.Utf8 Encoding.Windows1253 Sniff)) (0xF0 ∷ 0x9F ∷ 0x92 ∷ 0xA9 ∷ []) (codes "&#x1F4A9;") (codes "lost 0 128169\n")
+unfolding pieces_in no_tables digits
+hexadecimal_pile_of_poo j = (refl, refl)
+
+hexadecimal_greatest : (j : Job) → Gives (in_hexadecimal (job j no_tables Encoding.Utf8 Encoding.Windows1253 Sniff)) (0xF4 ∷ 0x8F ∷ 0xBF ∷ 0xBF ∷ []) (codes "&#x10FFFF;") (codes "lost 0 1114111\n")
+unfolding pieces_in no_tables digits
+hexadecimal_greatest j = (refl, refl)
+
+hexadecimal_behind_a_pair : (j : Job) → Gives (in_hexadecimal (job j ha Encoding.Utf8 Encoding.Iso2022Jp Sniff)) (0xE3 ∷ 0x83 ∷ 0x8F ∷ 0x0E ∷ 0x41 ∷ []) (0x1B ∷ 0x24 ∷ 0x42 ∷ 0x25 ∷ 0x4F ∷ 0x1B ∷ 0x28 ∷ 0x42 ∷ (codes "&#xFFFD;" ++ (0x41 ∷ [])))
+    (codes "lost 1 65533\n")
+unfolding pieces_in ha digits
+hexadecimal_behind_a_pair j = (refl, refl)
 
 -- a reference reads back as its ASCII
 unfaithful_reference : (j : Job) → ¬ (Faithful (job j no_tables Encoding.Utf8 Encoding.Windows1253 Sniff) (0xF0 ∷ 0x9F ∷ 0x92 ∷ 0xA9 ∷ []))

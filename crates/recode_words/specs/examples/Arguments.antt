@@ -5,10 +5,11 @@ use Rattle.clap.specs.declared.error.kind.ErrorKind.TheVariants.{ArgumentConflic
 use Rattle.clap.proofs.OnLiterals.{clap_on_literals}
 use Rattle.recode_words.specs.Command.{recode_app}
 use Rattle.recode_words.specs.Given.{given}
-use Rattle.recode_words.specs.Meaning.{limit_of, mark_named, pivot_of}
+use Rattle.recode_words.specs.Meaning.{limit_of, mark_named, pivot_of, policy_named}
 use Rattle.recode_words.specs.Request.{asks_list, meant}
 use Rattle.recode_words.specs.declared.words.MarkWord.TheVariants.{Sniff, Keep}
 use Rattle.recode_words.specs.declared.words.PivotWord.TheVariants.{Utf8, Utf16}
+use Rattle.recode_words.specs.declared.words.PolicyWord.TheVariants.{Decimal, Hexadecimal}
 
 -- recode --from utf-8 --to gbk --mark keep
 abbrev kept : List Text
@@ -34,6 +35,10 @@ kept-mark : meant mark_named (codes "mark") kept ≡ Some Keep
 unfolding clap_on_literals
 kept-mark = refl
 
+kept-unmappable : meant policy_named (codes "unmappable") kept ≡ Some Decimal
+unfolding clap_on_literals
+kept-unmappable = refl
+
 kept-pivot : meant pivot_of (codes "pivot") kept ≡ Some Utf8
 unfolding clap_on_literals
 kept-pivot = refl
@@ -41,6 +46,14 @@ kept-pivot = refl
 kept-limit : meant limit_of (codes "limit") kept ≡ Some 281474976710656
 unfolding clap_on_literals
 kept-limit = refl
+
+-- recode --from a --to b --unmappable hexadecimal
+abbrev in_hexadecimal : List Text
+in_hexadecimal = codes "recode" ∷ codes "--from" ∷ codes "a" ∷ codes "--to" ∷ codes "b" ∷ codes "--unmappable" ∷ codes "hexadecimal" ∷ []
+
+hexadecimal-unmappable : meant policy_named (codes "unmappable") in_hexadecimal ≡ Some Hexadecimal
+unfolding clap_on_literals
+hexadecimal-unmappable = refl
 
 -- recode --limit=0 --to= --pivot=utf16 --from=big5
 abbrev attached : List Text

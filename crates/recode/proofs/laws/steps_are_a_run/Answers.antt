@@ -1,10 +1,11 @@
 use Rattle.std.proofs.Common.{arith}
+use Rattle.recode.proofs.LatencyLemmas.{new_settled}
 use Rattle.recode.proofs.RunLemmas.{completes, fails}
 use Rattle.recode.proofs.StepLemmas.{goes_on_start, goes_on_more, goes_on_finish, goes_on_stop}
 use Rattle.recode.proofs.laws.steps_are_a_run.Goals as goal
 
 pub returns-clause-begins : goal.returns-clause-begins
-returns-clause-begins c t j v b = goes_on_start t j.limit v.state (omega (arith, b.read))
+returns-clause-begins c t j v b = goes_on_start t j.limit v.state (omega (arith, b.read)) (new_settled v j b)
 
 pub returns-clause-goes_on : goal.returns-clause-goes_on
 returns-clause-goes_on c = goes_on_more

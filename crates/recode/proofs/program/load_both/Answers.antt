@@ -1,6 +1,6 @@
 use Rattle.std.proofs.Common.{Result, Ok, Err, OnOk}
 use Rattle.encoding_front.specs.Encodings.{needs_of}
-use Rattle.recode.proofs.LoadLemmas.{there_kept}
+use Rattle.recode.proofs.LoadLemmas.{adds_more, there_kept}
 use Rattle.recode.proofs.program.load_both.Goals as goal
 
 on_ok : {T E : Type 0} (r : Result T E) (P : Type 0) → P → OnOk r P
@@ -10,3 +10,8 @@ on_ok (Err e) P p = tt
 pub returns-clause-from : goal.returns-clause-from
 returns-clause-from g c =
     on_ok c.load_indexes-2.result _ (there_kept c.load_indexes.new.tables c.load_indexes-2.new.tables (needs_of c.args.from) c.load_indexes-2.ensures.kept c.in_ok-load_indexes.ensures.there)
+
+pub returns-clause-files : goal.returns-clause-files
+returns-clause-files g c =
+    adds_more (g.S.IndexSource.holds c.args.source.now) (g.S.IndexSource.holds c.load_indexes.new.source) (g.S.IndexSource.holds c.load_indexes-2.new.source) c.args.dir.now c.args.tables.now
+    c.load_indexes.new.tables c.load_indexes-2.new.tables c.load_indexes.ensures.files c.load_indexes-2.ensures.files

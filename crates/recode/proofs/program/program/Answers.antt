@@ -2,20 +2,20 @@ use Rattle.std.proofs.Common.{ℕ, List, Option, inl, inr, map}
 use Rattle.recode_words.specs.Request.{AsksFor}
 use Rattle.recode_words.specs.declared.request.Request.TheVariants.{Run}
 use Rattle.recode_words.specs.declared.words.Words.{Words}
-use Rattle.recode.specs.Program.{AnswersProgram, AnswersWords, Devices, devices}
+use Rattle.recode.specs.Program.{AnswersProgram, AnswersWords, Devices, FileTexts, devices}
 use Rattle.recode.proofs.program.program.Goals as goal
 
-answers : {R W L : Type 0} (remaining : R → Option (List ℕ)) (contents : W → Option (List ℕ)) (logged : L → Option (List ℕ)) (before after : Devices R W L)
-    (words : List (List ℕ)) (w : Words) (status : ℕ) → AsksFor words (Run w) → AnswersWords remaining contents logged before after w status
-    → AnswersProgram remaining contents logged before after words status
-answers remaining contents logged before after words w status meant (inl (two, unknown, alone)) =
+answers : {R W L : Type 0} (holds : FileTexts) (remaining : R → Option (List ℕ)) (contents : W → Option (List ℕ)) (logged : L → Option (List ℕ)) (before after : Devices R W L)
+    (words : List (List ℕ)) (w : Words) (status : ℕ) → AsksFor words (Run w) → AnswersWords holds remaining contents logged before after w status
+    → AnswersProgram holds remaining contents logged before after words status
+answers holds remaining contents logged before after words w status meant (inl (two, unknown, alone)) =
     inl record { answered = two; refused = inr (inr record { w = w; meant = meant; unknown = unknown }); alone = alone }
-answers remaining contents logged before after words w status meant (inr (inl (three, alone))) =
+answers holds remaining contents logged before after words w status meant (inr (inl (three, alone))) =
     inr (inl record { answered = three; alone = alone })
-answers remaining contents logged before after words w status meant (inr (inr (j, job, converted))) =
-    inr (inr (inr record { w = w; meant = meant; j = j; job = job; converted = converted }))
+answers holds remaining contents logged before after words w status meant (inr (inr (j, job, files, converted))) =
+    inr (inr (inr record { w = w; meant = meant; j = j; job = job; files = files; converted = converted }))
 
 pub returns-in-Ok-Run : goal.returns-in-Ok-Run
 returns-in-Ok-Run g c =
-    answers g.R.Read.remaining g.W.Write.contents g.L.Write.contents (devices c.args.reader.now c.args.writer.now c.args.log.now) (devices c.run_words.new.reader c.run_words.new.writer c.run_words.new.log)
+    answers (g.S.IndexSource.holds c.args.source.now) g.R.Read.remaining g.W.Write.contents g.L.Write.contents (devices c.args.reader.now c.args.writer.now c.args.log.now) (devices c.run_words.new.reader c.run_words.new.writer c.run_words.new.log)
     (map (λ s. s.now) c.args.words.now) c.in-Ok-Run.words c.run_words.result (rw c.in-Ok-Run.field-0-is at c.in-Ok-Run.ensures.ok) (rw c.in-Ok-Run.words-is at c.run_words.ensures)

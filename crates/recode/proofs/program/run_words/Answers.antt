@@ -2,6 +2,7 @@ use Rattle.std.proofs.Common.{◌≡◌, ◌⊎◌, ◌↔◌, ℕ, List, Option
 use Rattle.encoding_front.specs.Encodings.{HasLabel}
 use Rattle.encoding_front.specs.declared.encoding.Encoding.{Encoding}
 use Rattle.recode.specs.Program.{IsUnknown}
+use Rattle.recode.proofs.LoadLemmas.{adds_to_none}
 use Rattle.recode.proofs.program.run_words.Goals as goal
 
 unknown_of : (r : Option Encoding) (label bytes : List ℕ) → bytes ≡ label → r ≡ None → ((e : Encoding) → (r ≡ Some e) ↔ HasLabel e bytes) → IsUnknown label
@@ -35,8 +36,11 @@ returns g c = inr (inr (
     from = known_of c.for_label.result c.args.words.from.now c.as_bytes.result.now c.in-Some.from c.as_bytes.ensures.value c.in-Some.is c.for_label.ensures;
     to = known_of c.for_label-2.result c.args.words.to.now c.as_bytes-2.result.now c.in-Some-for_label.to c.as_bytes-2.ensures.value c.in-Some-for_label.is c.for_label-2.ensures;
     mark = c.mark_of.ensures;
+    policy = c.policy_of.ensures;
     limit = refl;
     valid = record { tables = c.accepted.ensures; from = c.in-Ok.ensures.from; to = c.in-Ok.ensures.to; limit = c.requires.limit };
   },
+  c.in-Ok.ensures.files.added
+      (adds_to_none (g.S.IndexSource.holds c.args.source.now) c.args.words.indexes.now c.new-tables.result c.new-tables.ensures.flats c.new-tables.ensures.rows),
   c.convert_in_buffers.ensures,
 ))

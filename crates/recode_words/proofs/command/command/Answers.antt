@@ -5,7 +5,8 @@ use Rattle.recode_words.proofs.command.command.Goals as goal
 
 pub returns : goal.returns
 returns c =
-    IfOk-weaker c.arg-7.result _ _ (λ r h. h.shape c.list_flag.ensures.local
+    IfOk-weaker c.arg-8.result _ _ (λ r h. h.shape c.list_flag.ensures.local
+    ∙ ap₂ with_rule (c.in_ok-arg-7.ensures.shape c.default_option-5.ensures.local
     ∙ ap₂ with_rule (c.in_ok-arg-6.ensures.shape c.default_option-4.ensures.local
     ∙ ap₂ with_rule (c.in_ok-arg-5.ensures.shape c.default_option-3.ensures.local
     ∙ ap₂ with_rule (c.in_ok-arg-4.ensures.shape c.default_option-2.ensures.local
@@ -15,4 +16,4 @@ returns c =
     ∙ ap₂ with_rule c.named_command.ensures c.required_option.ensures.rule)
     c.required_option-2.ensures.rule) c.default_option.ensures.rule)
     c.default_option-2.ensures.rule) c.default_option-3.ensures.rule)
-    c.default_option-4.ensures.rule) c.list_flag.ensures.rule) c.arg-7.ensures
+    c.default_option-4.ensures.rule) c.default_option-5.ensures.rule) c.list_flag.ensures.rule) c.arg-8.ensures

@@ -1,4 +1,4 @@
-use Rattle.std.proofs.Common.{◌∙◌, arith, length, take}
+use Rattle.std.proofs.Common.{◌∙◌, arith, length, refl, take}
 use Rattle.std.proofs.lemmas.Bool.{eqb-true, ne_eqb}
 use Rattle.recode.proofs.StepLemmas.{stops_unread, stops_refused, stops_under, is_writing}
 use Rattle.recode.proofs.LatencyLemmas.{steps_on}
@@ -24,5 +24,5 @@ returns-else-read-eq0-clause-more g c e =
     let k = c.in-Ok-converted.ensures in
     let on = ne_eqb (length (take c.in-Ok.read c.read.new.buf)) 0 (omega (arith, c.in-Ok.ensures.bound.1, c.if-read-eq0.false)) in
     steps_on _ _ _ _ _ _ _ c.in-Ok.ensures.bytes.0 k.read (omega (arith, c.in-Ok.ensures.bound.1, c.if-read-eq0.false))
-    (omega (arith, k.read, c.in-Ok.ensures.bound.1, c.if-read-limit.false, c.requires.read)) c.decode_chunk-converted.ensures.target
+    (omega (arith, k.read, c.in-Ok.ensures.bound.1, c.if-read-limit.false, c.requires.read)) c.decode_chunk-converted.ensures.target refl
     c.requires.sound on k.source k.pays (k.advances on) k.settled k.verdict k.calls

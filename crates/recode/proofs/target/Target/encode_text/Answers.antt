@@ -1,5 +1,6 @@
 use Rattle.std.proofs.Common.{◌∙◌, arith, inl, refl, sym}
 use Rattle.encoding_mem.specs.laws.Verdict.{keeps_then}
+use Rattle.recode.specs.Policy.{form_of}
 use Rattle.recode.specs.PivotText.{pivot_chars}
 use Rattle.recode.specs.VerdictView.{verdict_view}
 use Rattle.recode.proofs.BufferLemmas.{same_on, same_start}
@@ -67,7 +68,7 @@ returns-then-turn-clause-verdict g c =
 pub text-preserved : goal.text-preserved
 text-preserved g c = record {
   pays = WritesItems-trans _ _ _ _ _ _ _ _ _ c.text.invariant.pays
-      (rw c.text.invariant.target at c.in_ok-turn.ensures.pays);
+      (rw (c.text.invariant.target, c.text.invariant.same.policy) at c.in_ok-turn.ensures.pays);
   passed = c.in_ok-turn.ensures.passed ∙ c.text.invariant.passed;
   lost = c.in_ok-turn.ensures.lost;
   bad = c.in_ok-turn.ensures.bad ∙ c.text.invariant.bad;
@@ -87,19 +88,19 @@ text-preserved g c = record {
   roomy = c.encode_part.ensures.roomy;
   kind = c.encode_part.ensures.kind ∙ c.text.invariant.kind;
   size = c.encode_part.ensures.size ∙ c.text.invariant.size;
-  calls = omega (arith, c.text.invariant.calls, c.in_ok-turn.ensures.calls, rw c.text.invariant.target at (c.in_ok-turn.ensures.more c.if-turn.false));
+  calls = omega (arith, c.text.invariant.calls, c.in_ok-turn.ensures.calls, rw (c.text.invariant.target, c.text.invariant.same.policy) at (c.in_ok-turn.ensures.more c.if-turn.false));
 }
 
 pub returns-in_err-turn-clause-err : goal.returns-in_err-turn-clause-err
 returns-in_err-turn-clause-err g c = on_err _ (WritesItems-under _ _ _ _ _ _ _ c.text.invariant.pays
-    (rw c.text.invariant.target at c.in_err-turn.ensures.err))
+    (rw (c.text.invariant.target, c.text.invariant.same.policy) at c.in_err-turn.ensures.err))
 
 pub returns-then-turn-clause-pays : goal.returns-then-turn-clause-pays
 returns-then-turn-clause-pays g c =
     let done = c.in_ok-turn.ensures.done c.if-turn.true in
     WritesItems-to _ _ _ _ _ _ _
-    (WritesItems-trans _ _ _ _ _ _ _ _ _ c.text.invariant.pays (rw c.text.invariant.target at c.in_ok-turn.ensures.pays))
-    (whole_end _ _ _ _ _ (g.met.E.RawEncoder.laws c.args.self.now.encoder) done.0 done.1)
+    (WritesItems-trans _ _ _ _ _ _ _ _ _ c.text.invariant.pays (rw (c.text.invariant.target, c.text.invariant.same.policy) at c.in_ok-turn.ensures.pays))
+    (whole_end (form_of c.args.writers.now.policy) _ _ _ _ _ (g.met.E.RawEncoder.laws c.args.self.now.encoder) done.0 done.1)
 
 pub returns-then-turn-clause-calls : goal.returns-then-turn-clause-calls
 returns-then-turn-clause-calls g c = omega (arith, c.text.invariant.calls, c.in_ok-turn.ensures.calls)

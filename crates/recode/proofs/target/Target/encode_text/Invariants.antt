@@ -1,5 +1,5 @@
 use Rattle.std.proofs.Common.{◌≡◌, ◌≤◌, ◌+◌, ◌*◌, length, false}
-use Rattle.encoding_mem.specs.declared.reference.Reference.TheVariants.{Decimal}
+use Rattle.recode.specs.Policy.{form_of}
 use Rattle.encoding_mem.specs.Coding.{last_set}
 use Rattle.encoding_mem.specs.Items.{whole_items}
 use Rattle.recode.specs.Writers.{AreTheSame, written_by}
@@ -14,8 +14,8 @@ use Rattle.recode.proofs.target.Target.encode_text.Given as goal
 abbrev pub invariant-text : goal.invariant-text
 invariant-text g l = record {
   pays : WritesItems (written_by g.W.Write.contents g.L.Write.contents l.initial.writers) (written_by g.W.Write.contents g.L.Write.contents l.writers) l.initial.self.counts l.self.counts
-      (whole_items Decimal (g.E.RawEncoder.coding l.initial.self.encoder) l.last (g.E.RawEncoder.set l.initial.self.encoder) l.initial.self.counts.index (pivot_chars l.initial.rest))
-      (whole_items Decimal (g.E.RawEncoder.coding l.initial.self.encoder) l.last (g.E.RawEncoder.set l.self.encoder) l.self.counts.index (pivot_chars l.rest));
+      (whole_items (form_of l.initial.writers.policy) (g.E.RawEncoder.coding l.initial.self.encoder) l.last (g.E.RawEncoder.set l.initial.self.encoder) l.initial.self.counts.index (pivot_chars l.initial.rest))
+      (whole_items (form_of l.initial.writers.policy) (g.E.RawEncoder.coding l.initial.self.encoder) l.last (g.E.RawEncoder.set l.self.encoder) l.self.counts.index (pivot_chars l.rest));
   passed : l.self.counts.index + length (pivot_chars l.rest) ≡ l.initial.self.counts.index + length (pivot_chars l.initial.rest);
   lost : l.self.counts.lost ≤ l.self.counts.index;
   bad : l.self.counts.bad ≡ l.initial.self.counts.bad;
@@ -36,9 +36,9 @@ invariant-text g l = record {
   roomy : HoldsAnyCharacter l.check;
   kind : is_wide l.check ≡ is_wide l.initial.check;
   size : capacity l.check ≡ capacity l.initial.check;
-  calls : l.self.counts.calls + l.initial.self.counts.index + 2 * length (whole_items Decimal (g.E.RawEncoder.coding l.initial.self.encoder) l.last (g.E.RawEncoder.set l.self.encoder) l.self.counts.index (pivot_chars l.rest))
-      ≤ l.initial.self.counts.calls + l.self.counts.index + 2 * length (whole_items Decimal (g.E.RawEncoder.coding l.initial.self.encoder) l.last (g.E.RawEncoder.set l.initial.self.encoder) l.initial.self.counts.index (pivot_chars l.initial.rest));
+  calls : l.self.counts.calls + l.initial.self.counts.index + 2 * length (whole_items (form_of l.initial.writers.policy) (g.E.RawEncoder.coding l.initial.self.encoder) l.last (g.E.RawEncoder.set l.self.encoder) l.self.counts.index (pivot_chars l.rest))
+      ≤ l.initial.self.counts.calls + l.self.counts.index + 2 * length (whole_items (form_of l.initial.writers.policy) (g.E.RawEncoder.coding l.initial.self.encoder) l.last (g.E.RawEncoder.set l.initial.self.encoder) l.initial.self.counts.index (pivot_chars l.initial.rest));
 }
 
 abbrev pub decreases-text : goal.decreases-text
-decreases-text g l = length (whole_items Decimal (g.E.RawEncoder.coding l.self.encoder) l.last (g.E.RawEncoder.set l.self.encoder) l.self.counts.index (pivot_chars l.rest))
+decreases-text g l = length (whole_items (form_of l.initial.writers.policy) (g.E.RawEncoder.coding l.self.encoder) l.last (g.E.RawEncoder.set l.self.encoder) l.self.counts.index (pivot_chars l.rest))

@@ -1,5 +1,5 @@
 use Rattle.std.proofs.Common.{◌+◌, arith, refl, ap, length, false, [], ◌∷◌}
-use Rattle.encoding_mem.specs.declared.reference.Reference.TheVariants.{Decimal}
+use Rattle.recode.specs.Policy.{form_of}
 use Rattle.encoding_mem.specs.Items.{open_items, whole_items}
 use lib.Utf8.{encode}
 use Rattle.std.specs.Str.{chars}
@@ -18,7 +18,7 @@ encode_text-requires-clause-index g c = omega (arith, ap length replacement_text
 pub returns-clause-pays : goal.returns-clause-pays
 returns-clause-pays g c = WritesItems-trans _ _ _ _ _ _ _ _ _
     (writes_malformed _ _ _ _ (record c.args.self.now.counts { bad = c.args.self.now.counts.bad + 1 }) _ _ _ c.in_ok-log_line.ensures.ok.0 refl refl)
-    (WritesItems-of _ _ _ _ _ _ _ (open_replacement (g.E.RawEncoder.coding c.args.self.now.encoder) (g.E.RawEncoder.set c.args.self.now.encoder) c.args.self.now.counts.index) c.in_ok-encode_text.ensures.pays)
+    (WritesItems-of _ _ _ _ _ _ _ (open_replacement (form_of c.args.writers.now.policy) (g.E.RawEncoder.coding c.args.self.now.encoder) (g.E.RawEncoder.set c.args.self.now.encoder) c.args.self.now.counts.index) c.in_ok-encode_text.ensures.pays)
 
 pub returns-clause-index : goal.returns-clause-index
 returns-clause-index g c = omega (arith, ap length replacement_text, c.in_ok-encode_text.ensures.passed)
@@ -34,9 +34,9 @@ returns-in_err-encode_text-clause-err g c =
     let e = g.E.RawEncoder.coding c.args.self.now.encoder in
     let s = g.E.RawEncoder.set c.args.self.now.encoder in
     let i = c.args.self.now.counts.index in
-    on_err _ (WritesItems-under _ _ _ c.args.self.now.counts (record c.args.self.now.counts { bad = c.args.self.now.counts.bad + 1 }) _ (open_items Decimal e s i (0xFFFD ∷ []))
+    on_err _ (WritesItems-under _ _ _ c.args.self.now.counts (record c.args.self.now.counts { bad = c.args.self.now.counts.bad + 1 }) _ (open_items (form_of c.args.writers.now.policy) e s i (0xFFFD ∷ []))
     (writes_malformed _ _ _ _ _ _ _ _ c.in_ok-log_line.ensures.ok.0 refl refl)
-    (WritesPrefix-of _ _ (whole_items Decimal e false s i (chars (239 ∷ 191 ∷ 189 ∷ []))) _ (open_replacement e s i) c.in_err-encode_text.ensures.err))
+    (WritesPrefix-of _ _ (whole_items (form_of c.args.writers.now.policy) e false s i (chars (239 ∷ 191 ∷ 189 ∷ []))) _ (open_replacement (form_of c.args.writers.now.policy) e s i) c.in_err-encode_text.ensures.err))
 
 pub encode_text-requires-clause-text : goal.encode_text-requires-clause-text
 unfolding encode
@@ -46,4 +46,4 @@ pub encode_text-requires-clause-tells : goal.encode_text-requires-clause-tells
 encode_text-requires-clause-tells g c = lost_tells (g.E.RawEncoder.coding c.args.self.now.encoder) (verdict_view g.D.StreamDecoder.view c.args.self.now.verdict) (g.E.RawEncoder.set c.args.self.now.encoder) [] (g.E.RawEncoder.set c.args.self.now.encoder) _ c.requires.tells
 
 pub returns-clause-calls : goal.returns-clause-calls
-returns-clause-calls g c = omega (arith, c.in_ok-encode_text.ensures.calls, ap length (open_replacement (g.E.RawEncoder.coding c.args.self.now.encoder) (g.E.RawEncoder.set c.args.self.now.encoder) c.args.self.now.counts.index))
+returns-clause-calls g c = omega (arith, c.in_ok-encode_text.ensures.calls, ap length (open_replacement (form_of c.args.writers.now.policy) (g.E.RawEncoder.coding c.args.self.now.encoder) (g.E.RawEncoder.set c.args.self.now.encoder) c.args.self.now.counts.index))

@@ -1,0 +1,178 @@
+// One call of a decoder or an encoder, and all that it tells.
+
+use crate::kinds::{Form, Outcome, widened};
+use encoding_codecs::Iso2022JpDecoder;
+use encoding_codecs::codec_decoder::CodecDecoder;
+use encoding_codecs::lead_byte_rule::{LeadByteDecoderRule, LeadByteRule};
+use encoding_front::VariantDecoder;
+use encoding_mem::{RawDecoder, RawEncoder};
+use std::alloc::{AllocError, Global};
+
+// Stands in a room where nothing is written.
+pub(crate) const UNWRITTEN: u8 = 0xEE;
+
+pub(crate) const UNWRITTEN_UNIT: u16 = 0xEEEE;
+
+// What a call tells.
+#[derive(Drop)]
+pub(crate) struct Answer {
+    pub(crate) outcome: Outcome,
+    pub(crate) read: usize,
+    // The bytes or units that it wrote.
+    pub(crate) output: Vec<u32>,
+    // Whether what stands behind them is as it was.
+    pub(crate) keeps_rest: bool,
+}
+
+// A decoder that may tell whether it is as at the start of a stream.
+pub(crate) trait Neutral: RawDecoder {
+    fn is_neutral(&self) -> Option<bool>;
+
+    // Whether that agrees with what is pending.
+    fn is_at_one(&self) -> bool;
+}
+
+impl<T: LeadByteRule> Neutral for CodecDecoder<LeadByteDecoderRule<T>> {
+    fn is_neutral(&self) -> Option<bool> {
+        Some(self.in_neutral_state())
+    }
+
+    fn is_at_one(&self) -> bool {
+        self.in_neutral_state() == (self.pending_len() == 0)
+    }
+}
+
+impl<'t> Neutral for Iso2022JpDecoder<'t> {
+    fn is_neutral(&self) -> Option<bool> {
+        Some(self.in_neutral_state())
+    }
+
+    fn is_at_one(&self) -> bool {
+        !self.in_neutral_state() || self.pending_len() == 0
+    }
+}
+
+impl<'t> Neutral for VariantDecoder<'t> {
+    fn is_neutral(&self) -> Option<bool> {
+        None
+    }
+
+    fn is_at_one(&self) -> bool {
+        true
+    }
+}
+
+// One call of a decoder into so much room.
+pub(crate) fn decode<D: RawDecoder>(
+    alloc: Global,
+    decoder: &mut D,
+    form: Form,
+    src: &[u8],
+    room: usize,
+    last: bool,
+) -> Result<Answer, AllocError> {
+    match form {
+        Form::Utf8 => {
+            let mut dst = std::vec![in alloc; UNWRITTEN; room]?;
+            let (outcome, read, written) = decoder.decode_to_utf8_raw(src, &mut dst, last);
+            let (output, rest) = dst.split_at(written);
+            Ok(Answer {
+                outcome: Outcome::of_decoder(outcome),
+                read,
+                output: widened(alloc, output)?,
+                keeps_rest: rest.iter().all(|byte| *byte == UNWRITTEN),
+            })
+        }
+        Form::Utf16 => {
+            let mut dst = std::vec![in alloc; UNWRITTEN_UNIT; room]?;
+            let (outcome, read, written) = decoder.decode_to_utf16_raw(src, &mut dst, last);
+            let (output, rest) = dst.split_at(written);
+            Ok(Answer {
+                outcome: Outcome::of_decoder(outcome),
+                read,
+                output: widened(alloc, output)?,
+                keeps_rest: rest.iter().all(|unit| *unit == UNWRITTEN_UNIT),
+            })
+        }
+    }
+}
+
+// The room that a decoder asks for: for its text, and with U+FFFD for each malformed sequence.
+pub(crate) fn decoded_room<D: RawDecoder>(
+    decoder: &D,
+    form: Form,
+    n: usize,
+) -> (Option<usize>, Option<usize>) {
+    match form {
+        Form::Utf8 => (
+            decoder.max_utf8_buffer_length_without_replacement(n),
+            decoder.max_utf8_buffer_length(n),
+        ),
+        Form::Utf16 => {
+            let room = decoder.max_utf16_buffer_length(n);
+            (room, room)
+        }
+    }
+}
+
+// A text that is handed to an encoder.
+#[derive(Clone, Copy)]
+pub(crate) enum Text<'a> {
+    Utf8(&'a str),
+    Utf16(&'a [u16]),
+}
+
+impl<'a> Text<'a> {
+    pub(crate) fn len(self) -> usize {
+        match self {
+            Text::Utf8(text) => text.len(),
+            Text::Utf16(units) => units.len(),
+        }
+    }
+
+    // What is left behind so many bytes or units.
+    pub(crate) fn behind(self, read: usize) -> Option<Text<'a>> {
+        match self {
+            Text::Utf8(text) => Some(Text::Utf8(text.split_at_checked(read)?.1)),
+            Text::Utf16(units) => Some(Text::Utf16(units.split_at_checked(read)?.1)),
+        }
+    }
+
+    // What stands before so many bytes or units.
+    pub(crate) fn before(self, cut: usize) -> Option<Text<'a>> {
+        match self {
+            Text::Utf8(text) => Some(Text::Utf8(text.split_at_checked(cut)?.0)),
+            Text::Utf16(units) => Some(Text::Utf16(units.split_at_checked(cut)?.0)),
+        }
+    }
+}
+
+// One call of an encoder into so much room.
+pub(crate) fn encode<E: RawEncoder>(
+    alloc: Global,
+    encoder: &mut E,
+    text: Text<'_>,
+    room: usize,
+    last: bool,
+) -> Result<Answer, AllocError> {
+    let mut dst = std::vec![in alloc; UNWRITTEN; room]?;
+    let (outcome, read, written) = match text {
+        Text::Utf8(text) => encoder.encode_from_utf8_raw(text, &mut dst, last),
+        Text::Utf16(units) => encoder.encode_from_utf16_raw(units, &mut dst, last),
+    };
+    let (output, rest) = dst.split_at(written);
+    Ok(Answer {
+        outcome: Outcome::of_encoder(outcome),
+        read,
+        output: widened(alloc, output)?,
+        keeps_rest: rest.iter().all(|byte| *byte == UNWRITTEN),
+    })
+}
+
+// The room that an encoder asks for.
+pub(crate) fn encoded_room<E: RawEncoder>(encoder: &E, form: Form, n: usize) -> Option<usize> {
+    match form {
+        Form::Utf8 => encoder.max_buffer_length_from_utf8_without_replacement(n),
+        Form::Utf16 => encoder.max_buffer_length_from_utf16_without_replacement(n),
+    }
+}

@@ -1,0 +1,208 @@
+// Cases of calls: a new decoder or encoder, and the exact result of each call.
+
+use crate::answer::{Answer, Neutral, Text, decode, encode};
+use crate::call_lines::{CallLine, Source, State};
+use crate::codecs::{DecoderTask, EncoderTask, with_decoder, with_encoder};
+use crate::front_encoding::check_front_calls;
+use crate::kinds::{Form, Outcome};
+use crate::report::Report;
+use crate::rooms::Side;
+use encoding_front::Encoding;
+use encoding_mem::RawEncoder;
+use encoding_tables::Tables;
+use std::alloc::{AllocError, Global};
+
+// Calls of one decoder, or of one encoder.
+#[derive(Drop)]
+pub(crate) struct Calls {
+    pub(crate) side: Side,
+    pub(crate) encoding: Encoding,
+    pub(crate) lines: Vec<CallLine>,
+}
+
+// The numbers of a text in a form.
+fn in_form(alloc: Global, form: Form, scalars: &[u32]) -> Result<Vec<u32>, AllocError> {
+    let mut output = Vec::new(alloc);
+    for number in scalars {
+        match char::from_u32(*number) {
+            Some(c) => form.add(c, &mut output)?,
+            // a surrogate by itself
+            None => output.push(*number)?,
+        }
+    }
+    Ok(output)
+}
+
+fn narrowed_bytes(alloc: Global, numbers: &[u32]) -> Result<Vec<u8>, AllocError> {
+    let mut bytes = Vec::new(alloc);
+    for number in numbers {
+        bytes.push((*number % 0x100) as u8)?;
+    }
+    Ok(bytes)
+}
+
+fn narrowed_units(alloc: Global, numbers: &[u32]) -> Result<Vec<u16>, AllocError> {
+    let mut units = Vec::new(alloc);
+    for number in numbers {
+        units.push((*number % 0x1_0000) as u16)?;
+    }
+    Ok(units)
+}
+
+// A text that a call of an encoder is given, in one of its forms.
+#[derive(Drop)]
+pub(crate) struct TextOfCall {
+    bytes: Vec<u8>,
+    units: Vec<u16>,
+}
+
+impl TextOfCall {
+    pub(crate) fn of(alloc: Global, form: Form, numbers: &[u32]) -> Result<Self, AllocError> {
+        let source = in_form(alloc, form, numbers)?;
+        Ok(TextOfCall {
+            bytes: narrowed_bytes(alloc, source.as_slice())?,
+            units: narrowed_units(alloc, source.as_slice())?,
+        })
+    }
+
+    pub(crate) fn text(&self, form: Form) -> Text<'_> {
+        match form {
+            Form::Utf8 => Text::Utf8(std::str::from_utf8(self.bytes.as_slice()).unwrap_or("")),
+            Form::Utf16 => Text::Utf16(self.units.as_slice()),
+        }
+    }
+}
+
+// Compares what a call tells with its line.
+pub(crate) fn check_answer(
+    rt: &(impl Print + AllocGlobal),
+    line: &CallLine,
+    answer: &Answer,
+    output: &[u32],
+    report: &mut Report,
+) -> anyhow::Result<()> {
+    report.count_conversion();
+    if !line.ending.takes(answer.outcome) {
+        let what = format!(in rt.alloc(); "{:?} and not {:?}", answer.outcome, line.ending)?;
+        report.differs(rt, what.as_str())?;
+    }
+    if line.read.is_some() && line.read != Some(answer.read) {
+        let what = format!(in rt.alloc(); "{} read and not {:?}", answer.read, line.read)?;
+        report.differs(rt, what.as_str())?;
+    }
+    if answer.output.as_slice() != output {
+        let written = answer.output.as_slice();
+        let what = format!(in rt.alloc(); "{written:?} written and not {output:?}")?;
+        report.differs(rt, what.as_str())?;
+    }
+    if !answer.keeps_rest {
+        report.differs(rt, "what stands behind the output changes")?;
+    }
+    Ok(())
+}
+
+// Compares a state with those that a line names, of the same kind.
+pub(crate) fn check_state(
+    rt: &(impl Print + AllocGlobal),
+    line: &CallLine,
+    state: State,
+    report: &mut Report,
+) -> anyhow::Result<()> {
+    for expected in line.states.iter() {
+        let is_other = match (*expected, state) {
+            (State::Pending(a), State::Pending(b)) => a != b,
+            (State::Neutral(a), State::Neutral(b)) => a != b,
+            (State::Escape(a), State::Escape(b)) => a != b,
+            (State::Lost(a), State::Lost(b)) => a != b,
+            _ => false,
+        };
+        if is_other {
+            let what = format!(in rt.alloc(); "{state:?} and not {expected:?}")?;
+            report.differs(rt, what.as_str())?;
+        }
+    }
+    Ok(())
+}
+
+// The calls of a case, as they are made of a decoder or of an encoder.
+#[derive(Drop)]
+struct Making<'a, P> {
+    rt: &'a P,
+    calls: &'a Calls,
+    report: &'a mut Report,
+}
+
+impl<'a, P: Print + AllocGlobal> DecoderTask for Making<'a, P> {
+    fn run<D: Neutral + Drop>(&mut self, mut decoder: D) -> anyhow::Result<()> {
+        let alloc = self.rt.alloc();
+        let mut bytes = Vec::new(alloc);
+        let mut offset = 0;
+        for line in self.calls.lines.iter() {
+            self.report.at(line.number);
+            if let Source::Numbers(numbers) = &line.source {
+                bytes = narrowed_bytes(alloc, numbers)?;
+                offset = 0;
+            }
+            let rest = bytes.get(offset..).unwrap_or(&[]);
+            let answer = decode(alloc, &mut decoder, line.form, rest, line.room, line.last)?;
+            offset = answer.read.saturating_add(offset);
+            let output = in_form(alloc, line.form, line.output.as_slice())?;
+            check_answer(self.rt, line, &answer, output.as_slice(), self.report)?;
+            let pending = decoder.pending_len();
+            check_state(self.rt, line, State::Pending(pending), self.report)?;
+            if let Some(is_neutral) = decoder.is_neutral() {
+                check_state(self.rt, line, State::Neutral(is_neutral), self.report)?;
+            }
+            let is_counted = match answer.outcome {
+                Outcome::Malformed(_, behind) => behind == pending,
+                _ => true,
+            };
+            if !is_counted || !decoder.is_at_one() {
+                self.report
+                    .differs(self.rt, "what is pending does not agree")?;
+            }
+        }
+        Ok(())
+    }
+}
+
+impl<'a, P: Print + AllocGlobal> EncoderTask for Making<'a, P> {
+    fn run<E: RawEncoder + Drop>(&mut self, mut encoder: E) -> anyhow::Result<()> {
+        let alloc = self.rt.alloc();
+        for line in self.calls.lines.iter() {
+            self.report.at(line.number);
+            let Source::Numbers(numbers) = &line.source else {
+                self.report.differs(self.rt, "an encoder is given no text")?;
+                return Ok(());
+            };
+            let source = TextOfCall::of(alloc, line.form, numbers.as_slice())?;
+            let text = source.text(line.form);
+            let answer = encode(alloc, &mut encoder, text, line.room, line.last)?;
+            check_answer(self.rt, line, &answer, line.output.as_slice(), self.report)?;
+            let state = State::Escape(encoder.has_pending_state());
+            check_state(self.rt, line, state, self.report)?;
+        }
+        Ok(())
+    }
+}
+
+// Makes the calls of a case.
+pub(crate) fn check_calls(
+    rt: &(impl Print + AllocGlobal),
+    tables: &Tables,
+    calls: &Calls,
+    report: &mut Report,
+) -> anyhow::Result<()> {
+    if calls.side == Side::FrontEncoder {
+        return check_front_calls(rt, tables, calls, report);
+    }
+    let mut making = Making { rt, calls, report };
+    let is_ready = match calls.side {
+        Side::Decoder => with_decoder(tables, calls.encoding, &mut making)?,
+        _ => with_encoder(tables, calls.encoding, &mut making)?,
+    };
+    if !is_ready {
+        making.report.differs(rt, "an index is not there")?;
+    }
+    Ok(())
+}

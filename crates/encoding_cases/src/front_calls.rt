@@ -1,0 +1,209 @@
+// One call of a `Decoder`, of each kind, and all that it tells.
+
+use crate::answer::{Answer, UNWRITTEN, UNWRITTEN_UNIT};
+use crate::kinds::{Form, Outcome, widened};
+use encoding_front::{CoderResult, Decoder};
+use encoding_mem::utf8_valid_up_to;
+use std::alloc::{AllocError, Global};
+
+// Where the text of a call goes.
+#[derive(Clone, Copy, PartialEq, Eq, Debug)]
+pub(crate) enum Destination {
+    Bytes,
+    Units,
+    // Over the bytes of a text.
+    Text,
+    // Behind a text, into its spare capacity.
+    Spare,
+}
+
+// A kind of call: where the text goes, and whether U+FFFD is written for malformed sequences.
+#[derive(Clone, Copy, PartialEq, Eq, Debug)]
+pub(crate) struct Kind {
+    pub(crate) destination: Destination,
+    pub(crate) replaces: bool,
+}
+
+// What a call tells, and whether it says that there was a malformed sequence.
+#[derive(Drop)]
+pub(crate) struct KindAnswer {
+    pub(crate) answer: Answer,
+    pub(crate) had_errors: bool,
+}
+
+impl Kind {
+    pub(crate) fn form(self) -> Form {
+        match self.destination {
+            Destination::Units => Form::Utf16,
+            _ => Form::Utf8,
+        }
+    }
+
+    // The room that a decoder asks for, before calls of this kind.
+    pub(crate) fn room(self, decoder: &Decoder<'_>, n: usize) -> Option<usize> {
+        if decoder.is_finished() {
+            return None;
+        }
+        match self.destination {
+            Destination::Units => decoder.max_utf16_buffer_length(n),
+            _ if self.replaces => decoder.max_utf8_buffer_length(n),
+            _ => decoder.max_utf8_buffer_length_without_replacement(n),
+        }
+    }
+
+    // One call into so much room. None where the decoder is finished.
+    pub(crate) fn call(
+        self,
+        alloc: Global,
+        decoder: &mut Decoder<'_>,
+        src: &[u8],
+        room: usize,
+        last: bool,
+    ) -> Result<Option<KindAnswer>, AllocError> {
+        match self.destination {
+            Destination::Bytes => into_bytes(alloc, decoder, self.replaces, src, room, last),
+            Destination::Units => into_units(alloc, decoder, self.replaces, src, room, last),
+            Destination::Text => over_text(alloc, decoder, self.replaces, src, room, last),
+            Destination::Spare => into_spare(alloc, decoder, self.replaces, src, room, last),
+        }
+    }
+}
+
+fn outcome_of(outcome: CoderResult) -> Outcome {
+    match outcome {
+        CoderResult::InputEmpty => Outcome::InputEmpty,
+        CoderResult::OutputFull => Outcome::OutputFull,
+    }
+}
+
+fn into_bytes(
+    alloc: Global,
+    decoder: &mut Decoder<'_>,
+    replaces: bool,
+    src: &[u8],
+    room: usize,
+    last: bool,
+) -> Result<Option<KindAnswer>, AllocError> {
+    let mut dst = std::vec![in alloc; UNWRITTEN; room]?;
+    if decoder.is_finished() {
+        return Ok(None);
+    }
+    let (outcome, read, written, had_errors) = if replaces {
+        let (outcome, read, written, bad) = decoder.decode_to_utf8(src, &mut dst, last);
+        (outcome_of(outcome), read, written, bad)
+    } else {
+        let (outcome, read, written) = decoder.decode_to_utf8_without_replacement(
+            src, &mut dst, last,
+        );
+        (Outcome::of_decoder(outcome), read, written, false)
+    };
+    let output = dst.get(..written).unwrap_or(&[]);
+    let rest = dst.get(written..).unwrap_or(&[]);
+    Ok(Some(KindAnswer {
+        answer: Answer {
+            outcome,
+            read,
+            output: widened(alloc, output)?,
+            keeps_rest: rest.iter().all(|byte| *byte == UNWRITTEN),
+        },
+        had_errors,
+    }))
+}
+
+fn into_units(
+    alloc: Global,
+    decoder: &mut Decoder<'_>,
+    replaces: bool,
+    src: &[u8],
+    room: usize,
+    last: bool,
+) -> Result<Option<KindAnswer>, AllocError> {
+    let mut dst = std::vec![in alloc; UNWRITTEN_UNIT; room]?;
+    if decoder.is_finished() {
+        return Ok(None);
+    }
+    let (outcome, read, written, had_errors) = if replaces {
+        let (outcome, read, written, bad) = decoder.decode_to_utf16(src, &mut dst, last);
+        (outcome_of(outcome), read, written, bad)
+    } else {
+        let (outcome, read, written) = decoder.decode_to_utf16_without_replacement(
+            src, &mut dst, last,
+        );
+        (Outcome::of_decoder(outcome), read, written, false)
+    };
+    let output = dst.get(..written).unwrap_or(&[]);
+    let rest = dst.get(written..).unwrap_or(&[]);
+    Ok(Some(KindAnswer {
+        answer: Answer {
+            outcome,
+            read,
+            output: widened(alloc, output)?,
+            keeps_rest: rest.iter().all(|unit| *unit == UNWRITTEN_UNIT),
+        },
+        had_errors,
+    }))
+}
+
+// The rest of a text must stay one, and is not compared.
+fn over_text(
+    alloc: Global,
+    decoder: &mut Decoder<'_>,
+    replaces: bool,
+    src: &[u8],
+    room: usize,
+    last: bool,
+) -> Result<Option<KindAnswer>, AllocError> {
+    let mut dst = std::vec![in alloc; 0; room]?;
+    if decoder.is_finished() || utf8_valid_up_to(&dst) != dst.len() {
+        return Ok(None);
+    }
+    let (outcome, read, written, had_errors) = if replaces {
+        let (outcome, read, written, bad) = decoder.decode_to_str(src, &mut dst, last);
+        (outcome_of(outcome), read, written, bad)
+    } else {
+        let (outcome, read, written) = decoder.decode_to_str_without_replacement(
+            src, &mut dst, last,
+        );
+        (Outcome::of_decoder(outcome), read, written, false)
+    };
+    let output = dst.get(..written).unwrap_or(&[]);
+    Ok(Some(KindAnswer {
+        answer: Answer {
+            outcome,
+            read,
+            output: widened(alloc, output)?,
+            keeps_rest: utf8_valid_up_to(&dst) == dst.len(),
+        },
+        had_errors,
+    }))
+}
+
+fn into_spare(
+    alloc: Global,
+    decoder: &mut Decoder<'_>,
+    replaces: bool,
+    src: &[u8],
+    room: usize,
+    last: bool,
+) -> Result<Option<KindAnswer>, AllocError> {
+    let mut text = String::with_capacity(alloc, room)?;
+    if decoder.is_finished() {
+        return Ok(None);
+    }
+    let (outcome, read, had_errors) = if replaces {
+        let (outcome, read, bad) = decoder.decode_to_string(src, &mut text, last);
+        (outcome_of(outcome), read, bad)
+    } else {
+        let (outcome, read) = decoder.decode_to_string_without_replacement(src, &mut text, last);
+        (Outcome::of_decoder(outcome), read, false)
+    };
+    Ok(Some(KindAnswer {
+        answer: Answer {
+            outcome,
+            read,
+            output: widened(alloc, text.as_bytes())?,
+            keeps_rest: text.capacity() == room,
+        },
+        had_errors,
+    }))
+}

@@ -1,0 +1,100 @@
+// What cases speak of: the form of a text, and how a call ended.
+
+use encoding_mem::{DecoderResult, EncoderResult};
+use std::alloc::{AllocError, Global};
+
+#[derive(Clone, Copy, PartialEq, Eq, Debug)]
+pub(crate) enum Form {
+    Utf8,
+    Utf16,
+}
+
+impl Form {
+    // The form that a word names.
+    pub(crate) fn of(word: &str) -> Option<Form> {
+        match word {
+            "utf-8" => Some(Form::Utf8),
+            "utf-16" => Some(Form::Utf16),
+            _ => None,
+        }
+    }
+
+    // The least room that a decoder is given.
+    pub(crate) fn least_room(self) -> usize {
+        match self {
+            Form::Utf8 => 4,
+            Form::Utf16 => 2,
+        }
+    }
+
+    // Adds the bytes or units of a character to an output.
+    pub(crate) fn add(self, c: char, output: &mut Vec<u32>) -> Result<(), AllocError> {
+        match self {
+            Form::Utf8 => {
+                let mut bytes = [0; 4];
+                for byte in c.encode_utf8(&mut bytes).as_bytes() {
+                    output.push(u32::from(*byte))?;
+                }
+            }
+            Form::Utf16 => {
+                let mut units = [0; 2];
+                for unit in c.encode_utf16(&mut units).iter() {
+                    output.push(u32::from(*unit))?;
+                }
+            }
+        }
+        Ok(())
+    }
+}
+
+// How a call of a decoder or an encoder ended.
+#[derive(Clone, Copy, PartialEq, Eq, Debug)]
+pub(crate) enum Outcome {
+    InputEmpty,
+    OutputFull,
+    // The length, and how many bytes were read behind it.
+    Malformed(usize, usize),
+    Unmappable(char),
+}
+
+impl Outcome {
+    pub(crate) fn of_decoder(outcome: DecoderResult) -> Outcome {
+        match outcome {
+            DecoderResult::InputEmpty => Outcome::InputEmpty,
+            DecoderResult::OutputFull => Outcome::OutputFull,
+            DecoderResult::Malformed(len, behind) => {
+                Outcome::Malformed(usize::from(len), usize::from(behind))
+            }
+        }
+    }
+
+    pub(crate) fn of_encoder(outcome: EncoderResult) -> Outcome {
+        match outcome {
+            EncoderResult::InputEmpty => Outcome::InputEmpty,
+            EncoderResult::OutputFull => Outcome::OutputFull,
+            EncoderResult::Unmappable(c) => Outcome::Unmappable(c),
+        }
+    }
+}
+
+// A part of what a stream becomes.
+#[derive(Clone, Copy, PartialEq, Eq, Debug)]
+pub(crate) enum Item {
+    // A byte or a unit.
+    Output(u32),
+    // Where a malformed sequence begins, and its length.
+    Malformed(usize, usize),
+    Unmappable(char),
+}
+
+// Bytes or units as numbers.
+pub(crate) fn widened<T: Copy>(alloc: Global, output: &[T]) -> Result<Vec<u32>, AllocError>
+where
+    u32: From<T>,
+{
+    let mut wide = Vec::new(alloc);
+    for item in output {
+        wide.push(u32::from(*item))?;
+    }
+    Ok(wide)
+}

@@ -1,0 +1,142 @@
+// A file of cases, line by line.
+
+use crate::call_lines::CallLine;
+use crate::calls::{Calls, check_calls};
+use crate::decoding::check_decoded;
+use crate::encoding::check_encoded;
+use crate::indexes::{insert_list, insert_ranges, insert_rows};
+use crate::pieces::{DecodedStream, EncodedStream};
+use crate::report::Report;
+use crate::rooms::{Asked, Side};
+use crate::streams::{MarkedStream, check_marked};
+use anyhow::{Context, ensure};
+use encoding_front::Encoding;
+use encoding_tables::Tables;
+
+// What the lines so far have put in place.
+#[derive(Drop)]
+struct Session {
+    tables: Tables,
+    asked: Vec<Asked>,
+    // The calls that are read, and not made yet.
+    calls: Option<Calls>,
+    report: Report,
+}
+
+// The encoding of a line, and the words behind it.
+fn encoding_in(words: &str) -> anyhow::Result<(Encoding, &str)> {
+    let (name, rest) = words.split_once(' ').unwrap_or((words, ""));
+    let encoding = Encoding::for_label(name.as_bytes()).context("no encoding has this name")?;
+    Ok((encoding, rest))
+}
+
+impl Session {
+    // Makes the calls that are read.
+    fn end_calls(&mut self, rt: &(impl Print + AllocGlobal)) -> anyhow::Result<()> {
+        match self.calls.take() {
+            None => Ok(()),
+            Some(calls) => {
+                self.report.count_case();
+                check_calls(rt, &self.tables, &calls, &mut self.report)
+            }
+        }
+    }
+
+    // A line that begins with a word that is no form.
+    fn line_of(
+        &mut self,
+        rt: &(impl Print + AllocGlobal),
+        word: &str,
+        words: &str,
+    ) -> anyhow::Result<bool> {
+        let alloc = rt.alloc();
+        match word {
+            "tables" => self.tables = Tables::new(alloc),
+            "index" => insert_list(alloc, &mut self.tables, words)?,
+            "rows" => insert_rows(alloc, &mut self.tables, words)?,
+            "ranges" => insert_ranges(alloc, &mut self.tables, words)?,
+            "asks" => self.asked.push(Asked::of(words)?)?,
+            "decode" => {
+                let (encoding, pieces) = encoding_in(words)?;
+                let stream = DecodedStream::of(alloc, pieces)?;
+                self.report.count_case();
+                let asked = self.asked.as_slice();
+                check_decoded(rt, &self.tables, encoding, asked, &stream, &mut self.report)?;
+            }
+            "encode" => {
+                let (encoding, pieces) = encoding_in(words)?;
+                let stream = EncodedStream::of(alloc, pieces)?;
+                self.report.count_case();
+                let asked = self.asked.as_slice();
+                check_encoded(rt, &self.tables, encoding, asked, &stream, &mut self.report)?;
+            }
+            "stream" => {
+                let marked = MarkedStream::of(alloc, words)?;
+                self.report.count_case();
+                check_marked(rt, &self.tables, &marked, &mut self.report)?;
+            }
+            "decoder" | "encoder" | "Encoder" => {
+                let (encoding, rest) = encoding_in(words)?;
+                ensure!(rest.is_empty(), "a word behind the encoding");
+                self.calls = Some(Calls {
+                    side: match word {
+                        "decoder" => Side::Decoder,
+                        "encoder" => Side::Encoder,
+                        _ => Side::FrontEncoder,
+                    },
+                    encoding,
+                    lines: Vec::new(alloc),
+                });
+            }
+            _ => return Ok(false),
+        }
+        Ok(true)
+    }
+
+    // The next line.
+    fn line(&mut self, rt: &(impl Print + AllocGlobal), line: &str) -> anyhow::Result<()> {
+        let line = line.trim();
+        if line.is_empty() || line.starts_with('#') {
+            return Ok(());
+        }
+        let (word, words) = line.split_once(' ').unwrap_or((line, ""));
+        if word == "utf-8" || word == "utf-16" {
+            let call = CallLine::of(rt.alloc(), self.report.line(), line)?;
+            let calls = self
+                .calls
+                .as_mut()
+                .context("a call of no decoder or encoder")?;
+            calls.lines.push(call)?;
+            return Ok(());
+        }
+        self.end_calls(rt)?;
+        let is_known = self.line_of(rt, word, words.trim())?;
+        ensure!(is_known, "a line is not understood");
+        Ok(())
+    }
+}
+
+// Converts the cases of a file, and prints the differences and the counts. A line that can't be
+// read is a difference.
+pub(crate) fn run_file(
+    rt: &(impl Print + AllocGlobal),
+    name: &'static str,
+    text: &str,
+) -> anyhow::Result<()> {
+    let mut session = Session {
+        tables: Tables::new(rt.alloc()),
+        asked: Vec::new(rt.alloc()),
+        calls: None,
+        report: Report::new(name),
+    };
+    for (number, line) in text.lines().enumerate() {
+        session.report.at(number.wrapping_add(1));
+        if let Err(fault) = session.line(rt, line) {
+            let what = format!(in rt.alloc(); "{fault}")?;
+            session.report.at(number.wrapping_add(1));
+            session.report.differs(rt, what.as_str())?;
+        }
+    }
+    session.end_calls(rt)?;
+    session.report.end(rt)
+}
