@@ -1,7 +1,6 @@
 -- Laws over whole inputs.
 use Rattle.std.proofs.Common.{◌≡◌, ℕ, ◌<◌, ◌↔◌, List, [], ◌++◌, length, sym, ◌∙◌, ap, subst, arith, append_assoc, append-nil, encode_utf8_all, Bool, true, Option, None, Some, length-append}
 use Rattle.std.specs.Io.KnownBytes.{Consumes, IsAtEnd}
-use Rattle.std.specs.List.{flat_map}
 use Rattle.std.specs.Str.{chars, IsUtf8}
 use Rattle.std.proofs.lemmas.Str.{encodes-chars}
 use Rattle.encoding_mem.specs.Piece.{text, AreWellFormed}
@@ -16,7 +15,6 @@ use Rattle.encoding_mem.specs.Text.{text_pieces}
 use Rattle.encoding_mem.specs.Utf8.{first_piece_utf8, pieces_utf8}
 use Rattle.encoding_mem.specs.laws.Utf8.{pieces_utf8-text}
 use Rattle.encoding_mem.specs.laws.Pieces.{pieces_by-nil}
-use Rattle.recode_log.specs.Line.{line_bytes}
 use Rattle.recode.specs.Policy.{form_of}
 use Rattle.recode.specs.TaggedByte.{IsPrefix, tagged}
 use Rattle.recode.specs.Job.{IsValidJob, Faithful, input_pieces, input_text, target_of, output_of, log_of, trace}
@@ -26,12 +24,13 @@ use Rattle.recode.specs.Streams.{Streams}
 use Rattle.recode.specs.declared.job.Fault.{Fault}
 use Rattle.recode.specs.declared.job.Job.{Job}
 use Rattle.recode.specs.declared.job.Report.{Report}
-use Rattle.recode.proofs.TraceLemmas.{no_lines}
-use Rattle.recode.proofs.RunLemmas.{faithful_where_kept, kept_where_faithful, quiet_where_kept, kept_where_quiet}
+use Rattle.recode.specs.WrittenItems.{IsStop}
+use Rattle.recode.proofs.RunLemmas.{faithful_where_kept, quiet_where_faithful}
+use Rattle.recode.proofs.StopLemmas.{kept_where_quiet, mapped_through, output_where_spared, quiet_where_kept}
 
 pub faithful_quiet : (j : Job) (x : List ℕ) → IsValidJob j → KeepsCharacters j.to → Faithful j x ↔ (log_of j x ≡ [])
 faithful_quiet j x v k = (
-  λ f. quiet_where_kept j x f.source (kept_where_faithful j x v k f),
+  quiet_where_faithful j x v,
   λ h. let kept = kept_where_quiet j x h in faithful_where_kept j x v k kept.0 kept.1,
 )
 
@@ -42,37 +41,39 @@ utf8_pieces x u = ap pieces_utf8 (sym (append-nil x)) ∙ pieces_utf8-text x [] 
 text_is : (j : Job) (x : List ℕ) → j.mark ≡ Keep → IsUtf8Encoding j.from → IsUtf8 x → input_pieces j x ≡ text_pieces (chars x)
 text_is j x kept from u = ap (λ m. marked_pieces j.tables.now m j.from x) kept ∙ ap (λ f. f x) (pieces_of_utf8 j.tables.now j.from from) ∙ utf8_pieces x u
 
+in_utf8 : (j : Job) (x : List ℕ) → IsUtf8Encoding j.to → AllMapped (target_of j) (input_text j x)
+in_utf8 j x to = subst (λ e. AllMapped e (input_text j x)) (sym (coding_of_utf8 j.tables.now j.to to)) (all_in_utf8 (input_text j x))
+
 pub kept_output : (j : Job) (x : List ℕ) → j.mark ≡ Keep → IsUtf8Encoding j.from → IsUtf8Encoding j.to → IsUtf8 x → output_of j x ≡ x
 kept_output j x kept from to u =
-    ap (λ e. output (form_of j.policy) e (input_text j x)) (coding_of_utf8 j.tables.now j.to to) ∙ utf8_output (form_of j.policy) (input_text j x)
+    output_where_spared j x (mapped_through j x (in_utf8 j x to)) ∙ ap (λ e. output (form_of j.policy) e (input_text j x)) (coding_of_utf8 j.tables.now j.to to) ∙ utf8_output (form_of j.policy) (input_text j x)
     ∙ ap encode_utf8_all (ap text (text_is j x kept from u) ∙ text_pieces-text (chars x)) ∙ encodes-chars x u
 
 pub kept_log : (j : Job) (x : List ℕ) → j.mark ≡ Keep → IsUtf8Encoding j.from → IsUtf8Encoding j.to → IsUtf8 x → log_of j x ≡ []
 kept_log j x kept from to u =
     let well_formed_text : AreWellFormed (input_pieces j x) = subst AreWellFormed (sym (text_is j x kept from u)) (text_pieces-well_formed (chars x)) in
-    let mapped : AllMapped (target_of j) (input_text j x) = subst (λ e. AllMapped e (input_text j x)) (sym (coding_of_utf8 j.tables.now j.to to)) (all_in_utf8 (input_text j x)) in
-    ap (flat_map line_bytes) (no_lines (target_of j) 0 0 (input_pieces j x) well_formed_text mapped)
+    quiet_where_kept j x well_formed_text (in_utf8 j x to)
 
 -- A reader that tells its bytes.
 pub known_completes : (x : List ℕ) (s t : Streams) (j : Job) (p : Report) → s.input ≡ Some x → Completes s t j p → IsConverted s.written t.written j x p
 known_completes x s t j p is k =
     subst (λ y. IsConverted s.written t.written j y p) (whole_input x t.input k.input (subst (λ y. Consumes y t.input k.input) is k.consumed) k.end)
-    (record { within = k.within; wrote = k.wrote; output = k.output; logged = k.logged; report = k.report })
+    (record { within = k.within; wrote = k.wrote; output = k.output; logged = k.logged; report = k.report; unstopped = k.unstopped })
   where
     whole_input : (x : List ℕ) (after : Option (List ℕ)) (input : List ℕ) → Consumes (Some x) after input → IsAtEnd after → input ≡ x
     whole_input x None input consumed end = absurd consumed
     whole_input x (Some y) input consumed end = sym (consumed ∙ ap (λ t. input ++ t) end ∙ append-nil input)
 
-pub known_fails : (x : List ℕ) (s t : Streams) (j : Job) (f : Fault) → s.input ≡ Some x → Fails s t j f → WrotePrefix s.written t.written (trace j x)
-known_fails x s t j f is k = prefix_of x t.input k.input k.refused k.ended (subst (λ y. Consumes y t.input (k.input ++ k.refused)) is k.consumed) k.end k.none (λ r h. k.prefix r h)
+pub known_fails : (x : List ℕ) (s t : Streams) (j : Job) (f : Fault) → s.input ≡ Some x → Fails s t j f → WrotePrefix s.written t.written j.policy f (trace j x)
+known_fails x s t j f is k = prefix_of x t.input k.input k.refused k.ended (subst (λ y. Consumes y t.input (k.input ++ k.refused)) is k.consumed) k.end k.none (λ r h. (k.prefix r h, k.stopped r h))
   where
     prefix_of : (x : List ℕ) (after : Option (List ℕ)) (input refused : List ℕ) (ended : Bool) → Consumes (Some x) after (input ++ refused) → (ended ≡ true → IsAtEnd after) → (ended ≡ true → refused ≡ [])
-        → ((r : List ℕ) → (ended ≡ true → r ≡ []) → IsPrefix k.taken (tagged (trace j (input ++ r)))) → WrotePrefix s.written t.written (trace j x)
+        → ((r : List ℕ) → (ended ≡ true → r ≡ []) → IsPrefix k.taken (tagged (trace j (input ++ r))) × IsStop j.policy f k.taken (trace j (input ++ r))) → WrotePrefix s.written t.written j.policy f (trace j x)
     prefix_of x None input refused ended consumed end none prefixes = absurd consumed
     prefix_of x (Some y) input refused ended consumed end none prefixes =
         let whole : x ≡ input ++ (refused ++ y) = consumed ∙ append_assoc input refused y in
-        let prefix = prefixes (refused ++ y) (λ h. ap (λ t. t ++ y) (none h) ∙ end h) in
-        record { taken = k.taken; wrote = k.wrote; prefix = (prefix.0, ap (λ t. tagged (trace j t)) whole ∙ prefix.1) }
+        let left = prefixes (refused ++ y) (λ h. ap (λ t. t ++ y) (none h) ∙ end h) in
+        record { taken = k.taken; wrote = k.wrote; prefix = (left.0.0, ap (λ t. tagged (trace j t)) whole ∙ left.0.1); stopped = subst (λ t. IsStop j.policy f k.taken (trace j t)) (sym whole) left.1 }
 
 pub known_too_long : (x : List ℕ) (s t : Streams) (j : Job) → s.input ≡ Some x → Fails s t j Fault.TooLong → j.limit < length x
 known_too_long x s t j is k = past x t.input (k.input ++ k.refused) (subst (λ y. Consumes y t.input (k.input ++ k.refused)) is k.consumed) k.limited

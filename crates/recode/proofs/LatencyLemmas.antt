@@ -147,7 +147,7 @@ taken_sizes d d1 chunk taken is = omega (arith, d.whole (chunk ++ []), d1.whole 
 pub steps_on : (before after : Streams) (limit : ℕ) (s s1 : State) (chunk : List ℕ) (last : Bool)
     → Consumes before.input after.input chunk → s1.counts.read ≡ s.counts.read + length chunk → 0 < length chunk → s1.counts.read ≤ limit → s1.coding ≡ s.coding → s1.policy ≡ s.policy → AreSound s.decoder.pending s.counts
     → last ≡ false → ((r : List ℕ) → (last ≡ true → r ≡ []) → s.source (chunk ++ r) ≡ s1.source r)
-    → WritesItemsFor before.written after.written s.counts s1.counts last (λ r. to_write s (chunk ++ r)) (λ r. trace_to_write (form_of s.policy) s1.decoder s.coding s1.set s1.counts r)
+    → WritesItemsFor before.written after.written s.counts s1.counts s.policy last (λ r. to_write s (chunk ++ r)) (λ r. trace_to_write (form_of s.policy) s1.decoder s.coding s1.set s1.counts r)
     → Advances (λ r. s.decoder.pieces (chunk ++ r)) s1.decoder.pieces s.coding s.set s1.set s.counts s1.counts → IsNearlyDecided s1.decoder
     → ((r : List ℕ) → (last ≡ true → r ≡ []) → WillBeFaithful s (chunk ++ r) ↔ IsFaithfulFor (form_of s.policy) s1.verdict s.coding s1.set (s1.decoder.pieces r))
     → ((r : List ℕ) → (last ≡ true → r ≡ []) → TakesCalls 3 s.counts s1.counts (to_write s (chunk ++ r)) (trace_to_write (form_of s.policy) s1.decoder s.coding s1.set s1.counts r)) → StepsOn before after limit s s1
@@ -175,6 +175,7 @@ steps_on before after limit s s1 chunk last read_in counted some within target p
         written_items = pays.written_items;
         wrote = pays.wrote;
         counted = pays.counted;
+        spared = pays.spared;
         equals = λ r h. pays.equals r (none r) ∙ ap (λ (q : Coding). pays.written_items ++ trace_to_write (form_of s.policy) s1.decoder q s1.set s1.counts r) (sym target)
             ∙ ap (λ (q : Policy). pays.written_items ++ trace_to_write (form_of q) s1.decoder s1.coding s1.set s1.counts r) (sym policy);
       };

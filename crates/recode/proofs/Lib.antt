@@ -1,3 +1,4 @@
+pub mod PolicyLemmas
 pub mod TraceLemmas
 pub mod CompareLemmas
 pub mod VerdictLemmas
@@ -6,6 +7,7 @@ pub mod EncoderCallLemmas
 pub mod DecoderCallLemmas
 pub mod WorkLemmas
 pub mod BufferLemmas
+pub mod StopLemmas
 pub mod StepLemmas
 pub mod RunLemmas
 pub mod InputLemmas

@@ -1,6 +1,7 @@
 -- What a verdict can tell where nothing was written.
 use Rattle.std.proofs.Common.{◌≡◌, ◌↔◌, ℕ, Bool, true, IsTrue, List, [], refl, sym, ◌∙◌, ap, subst}
 use Rattle.encoding_mem.specs.Piece.{Piece}
+use Rattle.encoding_mem.specs.ReadBack.{ReadsAs}
 use Rattle.encoding_mem.specs.ReadCalls.{KeepsVerdict}
 use Rattle.encoding_mem.specs.laws.ReadCalls.{begins_along}
 use Rattle.encoding_mem.specs.declared.form.EscapeState.TheVariants.{Ascii}
@@ -9,10 +10,11 @@ use Rattle.encoding_front.specs.Stream.{DecoderView, IsNewDecoder}
 use Rattle.encoding_front.specs.laws.Encoder.{coding_laws, kept_verdict}
 use Rattle.encoding_front.specs.laws.Encodings.{reads_by_step, set_pieces_anywhere, set_pieces_at_start}
 use Rattle.encoding_front.specs.declared.mark.Mark.TheVariants.{Keep}
-use Rattle.recode.specs.Job.{Faithful, IsValidJob, input_pieces, target_of}
+use Rattle.recode.specs.Job.{Faithful, IsValidJob, input_pieces, input_text, output_pieces, target_of}
 use Rattle.recode.specs.Policy.{form_of}
 use Rattle.recode.specs.Verdict.{CanTell, IsFaithfulFor, IsReadAlong, VerdictView}
 use Rattle.recode.specs.declared.job.Job.{Job}
+use Rattle.recode.proofs.StopLemmas.{mapped_where_faithful, mapped_where_read, output_where_mapped}
 
 -- a verdict of which this reads back
 abbrev pub new_of : DecoderView → Bool → VerdictView
@@ -44,6 +46,11 @@ module _ (j : Job) (valid : IsValidJob j) (reader : DecoderView) (new : IsNewDec
   -- what it will be is what the definition says
   pub new_verdict : (x : List ℕ) (ps : List Piece) → ps ≡ input_pieces j x → IsFaithfulFor (form_of j.policy) (new_of reader by_log) (target_of j) Ascii ps ↔ Faithful j x
   new_verdict x ps are = rw (are, reads_output) (
-    λ h. record { source = h.1; target = h.2.well_formed; same = h.2.same },
-    λ f. (refl, f.source, record { well_formed = f.target; same = f.same }),
+    λ h. let read = subst (λ y. ReadsAs (output_pieces j) y (input_text j x)) (sym (output_where_mapped j x valid (mapped_where_read j x valid h.2))) h.2 in
+        record { source = h.1; target = read.well_formed; same = read.same },
+    λ f. (
+      refl,
+      f.source,
+      subst (λ y. ReadsAs (output_pieces j) y (input_text j x)) (output_where_mapped j x valid (mapped_where_faithful j x valid f)) (record { well_formed = f.target; same = f.same }),
+    ),
   )

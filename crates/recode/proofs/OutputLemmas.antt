@@ -25,14 +25,18 @@ use Rattle.recode.specs.Session.{IsReport, IsConverted}
 use Rattle.recode.specs.declared.job.Job.{Job}
 use Rattle.recode.specs.declared.job.Report.{Report}
 use Rattle.recode.proofs.TraceLemmas.{lost_lines-trace}
-use Rattle.recode.proofs.RunLemmas.{kept_where_quiet, mapped_where_faithful, quiet_where_kept, well_formed_count, none_malformed}
+use Rattle.recode.proofs.RunLemmas.{well_formed_count, none_malformed}
+use Rattle.recode.proofs.StopLemmas.{kept_where_quiet, mapped_through, mapped_where_faithful, output_where_spared, quiet_where_kept, runs_through, trace_where_spared}
 
 -- The output, read back.
 pub valid_back : (j : Job) → IsValidJob j → IsValidJob (back j) × IsValidJob (in_utf8 j)
 valid_back j v = (record { tables = v.tables; from = v.to; to = tt; limit = v.limit }, record { tables = v.tables; from = v.from; to = tt; limit = v.limit })
 
 pub reads_back : (j : Job) (x : List ℕ) → Faithful j x → output_of (back j) (output_of j x) ≡ output_of (in_utf8 j) x
-reads_back j x f = ap (output (form_of j.policy) utf8_coding) f.same
+reads_back j x f =
+    output_where_spared (back j) (output_of j x) (mapped_through (back j) (output_of j x) (all_in_utf8 (text (output_pieces j (output_of j x)))))
+    ∙ ap (output (form_of j.policy) utf8_coding) f.same
+    ∙ sym (output_where_spared (in_utf8 j) x (mapped_through (in_utf8 j) x (all_in_utf8 (input_text j x))))
 
 -- nothing is lost of either
 quiet_in_utf8 : (j : Job) (x : List ℕ) → AreWellFormed (input_pieces j x) → log_of (in_utf8 j) x ≡ []
@@ -58,7 +62,8 @@ pub none_lost_in_utf8 : (j : Job) (x : List ℕ) → IsUtf8Encoding (output_enco
 none_lost_in_utf8 j x h = ap (λ e. lost_count e (input_text j x)) (ap (coding_of_codec_kind j.tables.now) h) ∙ utf8_lost_count (input_text j x)
 
 pub no_lost_lines : (j : Job) (x : List ℕ) → IsUtf8Encoding (output_encoding_of j.to) → lost_lines (trace j x) ≡ 0
-no_lost_lines j x h = lost_lines-trace (form_of j.policy) (target_of j) Ascii 0 0 (input_pieces j x) ∙ none_lost_in_utf8 j x h
+no_lost_lines j x h =
+    ap lost_lines (trace_where_spared j x (runs_through j x (λ stops. none_lost_in_utf8 j x h))) ∙ lost_lines-trace (form_of j.policy) (target_of j) Ascii 0 0 (input_pieces j x) ∙ none_lost_in_utf8 j x h
 
 -- Where a character is lost, something is.
 pub lost_is_unfaithful : (j : Job) (x : List ℕ) → IsValidJob j → 0 < lost_count (target_of j) (input_text j x) → Faithful j x → ⊥
@@ -71,6 +76,7 @@ lost_is_told j x p v r some faithful = lost_is_unfaithful j x v (omega (arith, s
 pub same_whole : (j : Job) (x decoded bytes : List ℕ) → IsValidJob j → j.policy ≡ Policy.Decimal → decoded ≡ encode_utf8_all (marked_text j.tables.now j.mark j.from x) → bytes ≡ output Decimal (coding_of j.tables.now j.to) (chars decoded) → bytes ≡ output_of j x
 same_whole j x decoded bytes v decimal is written =
     written ∙ recoded_at_once j.tables.now j.mark j.from j.to x decoded v.tables is ∙ ap (λ (p : Policy). output (form_of p) (target_of j) (input_text j x)) (sym decimal)
+    ∙ sym (output_where_spared j x (λ stops. absurd (cc (sym decimal ∙ stops))))
 
 pub same_run : (j : Job) (x decoded bytes : List ℕ) (w w' : Written) (p : Report) → IsValidJob j → j.policy ≡ Policy.Decimal → decoded ≡ encode_utf8_all (marked_text j.tables.now j.mark j.from x) → bytes ≡ output Decimal (coding_of j.tables.now j.to) (chars decoded)
     → IsConverted w w' j x p → Appends w.output w'.output bytes

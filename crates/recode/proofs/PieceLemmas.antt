@@ -1,10 +1,9 @@
 -- The pieces of an input, joined, are the input.
-use Rattle.std.proofs.Common.{◌≡◌, ℕ, ◌+◌, ◌*◌, ◌≤◌, List, [], ◌∷◌, ◌++◌, map, length, take, drop, refl, ◌∙◌, ap, arith, length-drop, length-take, take-append-drop}
+use Rattle.std.proofs.Common.{◌≡◌, ℕ, ◌≤◌, List, [], ◌∷◌, ◌++◌, map, length, take, drop, refl, ◌∙◌, ap, arith, length-drop, length-take, take-append-drop}
 use Rattle.std.specs.List.{concat}
 use Rattle.encoding_mem.specs.Piece.{Piece, piece_len, sizes, ArePieces}
-use Rattle.encoding_front.specs.laws.Input.{marked_are_pieces, marked_few, marked_whole, short_recoded}
-use Rattle.recode.specs.Policy.{form_of}
-use Rattle.recode.specs.Job.{IsValidJob, input_pieces, input_text, output_of}
+use Rattle.encoding_front.specs.laws.Input.{marked_are_pieces, marked_few, marked_whole}
+use Rattle.recode.specs.Job.{IsValidJob, input_pieces, input_text}
 use Rattle.recode.specs.Slices.{slices}
 use Rattle.recode.specs.declared.job.Job.{Job}
 
@@ -39,9 +38,6 @@ covers (p ∷ ps) x h =
 pub input_covers : (j : Job) (x : List ℕ) → IsValidJob j → map length (slices (input_pieces j x) x) ≡ map piece_len (input_pieces j x)
 input_covers j x v = covers (input_pieces j x) x (omega (arith, input_whole j x v))
 
--- the lengths of the text and of the output
+-- the length of the text
 pub text_within : (j : Job) (x : List ℕ) → IsValidJob j → length (input_text j x) ≤ length x
 text_within j x v = marked_few j.tables.now j.mark j.from x v.tables
-
-pub output_within : (j : Job) (x : List ℕ) → IsValidJob j → length (output_of j x) ≤ 13 * length x + 3
-output_within j x v = short_recoded (form_of j.policy) j.tables.now j.mark j.from j.to x v.tables

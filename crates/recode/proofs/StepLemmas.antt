@@ -6,23 +6,25 @@ use Rattle.encoding_mem.specs.Items.{Item}
 use Rattle.recode.specs.State.{State, to_write}
 use Rattle.recode.specs.Streams.{KeepsWritten, Streams, Written}
 use Rattle.recode.specs.TaggedByte.{Wrote, tagged, TaggedByte, outputs, lines}
-use Rattle.recode.specs.WrittenItems.{WritesPrefixFor}
+use Rattle.recode.specs.Policy.{written_under}
+use Rattle.recode.specs.WrittenItems.{IsLeft, IsSpared, IsStop, WritesPrefixFor}
 use Rattle.recode.specs.Step.{Advances, Finishes, HasRun, IsNearlyDecided, PassesLimit, StepsOn, Stops}
 use Rattle.recode.specs.Failures.{CountsFault, Failures}
 use Rattle.recode.specs.Fault.{of_other}
 use Rattle.recode.specs.declared.job.Fault.{Fault}
-use Rattle.recode.specs.declared.job.Fault.TheVariants.{Read, Write, Log, TooLong}
+use Rattle.recode.specs.declared.job.Fault.TheVariants.{Read, Write, Log, TooLong, Unmappable}
 use Rattle.recode.proofs.LatencyLemmas.{advances_more, advances_start}
 use Rattle.recode.proofs.VerdictLemmas.{both_ways}
-use Rattle.recode.proofs.TraceLemmas.{Wrote-nil, Wrote-trans, tagged-append, AreCounted-trans, WritesItemsFor-start}
+use Rattle.recode.proofs.TraceLemmas.{Wrote-nil, Wrote-trans, tagged-append, AreCounted-trans, WritesItemsFor-start, left_behind, spared_append}
 use Rattle.recode.specs.Conversion.{Breaks, IsCause, IsFlushCause, IsTold, message_of}
 use Rattle.recode.specs.Job.{trace}
 use Rattle.recode.specs.Session.{Completes, Fails}
 use Rattle.recode.specs.declared.job.Job.{Job}
+use Rattle.recode.specs.declared.job.Policy.{Policy}
 use Rattle.recode.specs.declared.job.Report.{Report}
 
-nothing_under : (w : Written) (last : Bool) (to_write : List ℕ → List Item) → WritesPrefixFor w w last to_write
-nothing_under w last to_write = record { taken = []; wrote = Wrote-nil w; prefix = λ r h. (tagged (to_write r), refl) }
+nothing_under : (w : Written) (p : Policy) (f : Fault) (last : Bool) (to_write : List ℕ → List Item) → ((written : List Item) → IsStop p f [] written) → WritesPrefixFor w w p f last to_write
+nothing_under w p f last to_write stop = record { taken = []; wrote = Wrote-nil w; left = λ r h. record { prefix = (tagged (written_under p (to_write r)), refl); stopped = stop (written_under p (to_write r)) } }
 
 keeps_all : (w : Written) → KeepsWritten w w
 keeps_all w = record { output = Keeps-refl w.output; log = Keeps-refl w.log }
@@ -39,7 +41,7 @@ stops_unread a b w limit s p within = record {
   none = λ h. cc;
   within = omega (arith, within);
   limited = omega (arith, within);
-  pays = nothing_under w false (to_write s);
+  pays = nothing_under w s.policy Read false (to_write s) (λ t. tt);
   untouched = λ h. (refl, keeps_all w);
 }
 
@@ -55,31 +57,34 @@ stops_refused a b w limit s chunk p within past = record {
   none = λ h. cc;
   within = omega (arith, within);
   limited = past;
-  pays = nothing_under w false (to_write s);
+  pays = nothing_under w s.policy TooLong false (to_write s) (λ t. tt);
   untouched = λ h. (refl, keeps_all w);
 }
 
--- a fault of a writer
+-- a fault of a writer, or of the policy
 abbrev pub IsWriting : Fault → Type 0
 IsWriting Read = ⊥
 IsWriting Write = Unit {0}
 IsWriting Log = Unit {0}
 IsWriting TooLong = ⊥
+IsWriting (Unmappable i c) = Unit {0}
 
 within_limit : (n limit : ℕ) (f : Fault) → IsWriting f → n ≤ limit → PassesLimit n limit f
 within_limit n limit Read w h = absurd w
 within_limit n limit Write w h = h
 within_limit n limit Log w h = h
 within_limit n limit TooLong w h = absurd w
+within_limit n limit (Unmappable i c) w h = h
 
 pub is_writing : (T : Type 0) (f : Fault) → of_other {T = T} (Err f) ≡ 0 → IsWriting f
 is_writing T Read h = absurd (omega arith)
 is_writing T Write h = tt
 is_writing T Log h = tt
 is_writing T TooLong h = absurd (omega arith)
+is_writing T (Unmappable i c) h = tt
 
 pub stops_under : (before after : Streams) (limit : ℕ) (last : Bool) (s : State) (chunk : List ℕ) (f : Fault) → Consumes before.input after.input chunk → (last ≡ true → IsAtEnd after.input)
-    → IsWriting f → s.counts.read + length chunk ≤ limit → WritesPrefixFor before.written after.written last (λ r. to_write s (chunk ++ r)) → Stops before after limit s f
+    → IsWriting f → s.counts.read + length chunk ≤ limit → WritesPrefixFor before.written after.written s.policy f last (λ r. to_write s (chunk ++ r)) → Stops before after limit s f
 stops_under before after limit last s chunk f p e writing within q = record {
   chunk = chunk;
   refused = [];
@@ -108,9 +113,16 @@ pub record HasStopped (before after : Streams) (limit : ℕ) (s : State) (fault 
   pub spared : fault ≢ TooLong → refused ≡ []
   pub within : s.counts.read + length chunk ≤ limit
   pub limited : PassesLimit (s.counts.read + length (chunk ++ refused)) limit fault
-  pub pays : WritesPrefixFor before.written after.written ended (λ r. to_write s (chunk ++ r))
+  pub pays : WritesPrefixFor before.written after.written s.policy fault ended (λ r. to_write s (chunk ++ r))
   -- where no writer failed, what was written is what the steps before wrote
   pub latest : (fault ≡ Read) ⊎ (fault ≡ TooLong) → (t : Streams) × (s' : State) × (ran : HasRun before t limit s s') × (ran.chunk ≡ chunk) × KeepsWritten t.written after.written
+
+-- under the same policy
+spared_as : (p q : Policy) (items : List Item) → p ≡ q → IsSpared p items → IsSpared q items
+spared_as p q items e h = subst (λ (k : Policy). IsSpared k items) e h
+
+pub left_as : (p q : Policy) (f : Fault) (taken : List TaggedByte) (to_write : List Item) → p ≡ q → IsLeft p f taken to_write → IsLeft q f taken to_write
+left_as p q f taken to_write e h = subst (λ (k : Policy). IsLeft k f taken to_write) e h
 
 pub goes_on_start : (a : Streams) (limit : ℕ) (s : State) → s.counts.read ≤ limit → IsNearlyDecided s.decoder → HasRun a a limit s s
 goes_on_start a limit s within settled = record {
@@ -122,7 +134,7 @@ goes_on_start a limit s within settled = record {
   policy = refl;
   advances = advances_start s.decoder.pieces s.coding s.set s.counts;
   settled = settled;
-  pays = WritesItemsFor-start a.written s.counts false (to_write s);
+  pays = WritesItemsFor-start a.written s.counts s.policy false (to_write s);
   source = λ r. refl;
   verdict = λ r. (λ h. h, λ h. h);
   calls = λ r. omega arith;
@@ -148,6 +160,7 @@ goes_on_more a b c limit s s1 s2 p q = record {
     written_items = p.pays.written_items ++ q.pays.written_items;
     wrote = subst (Wrote a.written c.written) (sym (tagged-append p.pays.written_items q.pays.written_items)) (Wrote-trans a.written b.written c.written _ _ p.pays.wrote q.pays.wrote);
     counted = AreCounted-trans s.counts s1.counts s2.counts p.pays.written_items q.pays.written_items p.pays.counted q.pays.counted;
+    spared = spared_append s.policy p.pays.written_items q.pays.written_items p.pays.spared (spared_as s1.policy s.policy q.pays.written_items p.policy q.pays.spared);
     equals = λ r h. ap (to_write s) (append_assoc p.chunk q.chunk r) ∙ p.pays.equals (q.chunk ++ r) (λ k. cc) ∙ ap (λ t. p.pays.written_items ++ t) (q.pays.equals r h)
         ∙ sym (append_assoc p.pays.written_items q.pays.written_items (to_write s2 r));
   };
@@ -167,6 +180,7 @@ goes_on_finish a b c limit s s1 s2 p q = record {
     written_items = p.pays.written_items ++ q.pays.written_items;
     wrote = subst (Wrote a.written c.written) (sym (tagged-append p.pays.written_items q.pays.written_items)) (Wrote-trans a.written b.written c.written _ _ p.pays.wrote q.pays.wrote);
     counted = AreCounted-trans s.counts s1.counts s2.counts p.pays.written_items q.pays.written_items p.pays.counted q.pays.counted;
+    spared = spared_append s.policy p.pays.written_items q.pays.written_items p.pays.spared (spared_as s1.policy s.policy q.pays.written_items p.policy q.pays.spared);
     equals = p.pays.equals q.chunk (λ k. cc) ∙ ap (λ t. p.pays.written_items ++ t) q.pays.equals ∙ sym (append_assoc p.pays.written_items q.pays.written_items []);
   };
   source = p.source q.chunk ∙ q.source;
@@ -192,11 +206,8 @@ goes_on_stop a b c limit s s1 f p q = record {
   pays = record {
     taken = tagged p.pays.written_items ++ q.pays.taken;
     wrote = Wrote-trans a.written b.written c.written _ _ p.pays.wrote q.pays.wrote;
-    prefix = λ r h. let g = q.pays.prefix r h in (
-      g.0,
-      ap tagged (ap (to_write s) (append_assoc p.chunk q.chunk r) ∙ p.pays.equals (q.chunk ++ r) (λ k. cc)) ∙ tagged-append p.pays.written_items (to_write s1 (q.chunk ++ r))
-          ∙ ap (λ t. tagged p.pays.written_items ++ t) g.1 ∙ sym (append_assoc (tagged p.pays.written_items) q.pays.taken g.0),
-    );
+    left = λ r h. left_behind s.policy f p.pays.written_items q.pays.taken _ (to_write s1 (q.chunk ++ r)) p.pays.spared
+        (ap (to_write s) (append_assoc p.chunk q.chunk r) ∙ p.pays.equals (q.chunk ++ r) (λ k. cc)) (left_as s1.policy s.policy f _ _ p.policy (q.pays.left r h));
   };
   latest = λ h. let kept = q.untouched h in (b, s1, p, sym (append-nil p.chunk) ∙ ap (λ x. p.chunk ++ x) (sym kept.0), kept.1);
 }
@@ -219,6 +230,7 @@ IsCounted failures failures' Read = failures.reader < failures'.reader
 IsCounted failures failures' Write = failures.writer < failures'.writer
 IsCounted failures failures' Log = failures.log < failures'.log
 IsCounted failures failures' TooLong = Unit {0}
+IsCounted failures failures' (Unmappable i c) = Unit {0}
 
 run_cause : (a b : Option (List ℕ)) (n m : Failures) (limit : ℕ) (bytes : List ℕ) (f : Fault) → Consumes a b bytes → PassesLimit (length bytes) limit f
     → IsCounted n m f → IsCause n m a b limit f
@@ -226,6 +238,7 @@ run_cause a b n m limit bytes Read p q h = h
 run_cause a b n m limit bytes Write p q h = h
 run_cause a b n m limit bytes Log p q h = h
 run_cause a b n m limit bytes TooLong p q h = record { input = bytes; consumed = p; past = q }
+run_cause a b n m limit bytes (Unmappable i c) p q h = tt
 
 -- a run's fault is counted, and counts do not fall
 pub run_counted : (T : Type 0) (n k m : Failures) (f : Fault) → CountsFault {T = T} n k (Err f) → k.reader ≡ m.reader → k.writer ≤ m.writer → k.log ≤ m.log → IsCounted n m f
@@ -233,6 +246,7 @@ run_counted T n k m Read c r w l = omega (arith, c.reader, r)
 run_counted T n k m Write c r w l = omega (arith, c.writer, w)
 run_counted T n k m Log c r w l = omega (arith, c.log, l)
 run_counted T n k m TooLong c r w l = tt
+run_counted T n k m (Unmappable i d) c r w l = tt
 
 -- a failed read is the run's fault
 pub run_unread : (T : Type 0) (n k : Failures) (f : Fault) → CountsFault {T = T} n k (Err f) → n.reader < k.reader → f ≡ Read
@@ -240,6 +254,7 @@ run_unread T n k Read c h = refl
 run_unread T n k Write c h = absurd (omega (arith, c.reader, h))
 run_unread T n k Log c h = absurd (omega (arith, c.reader, h))
 run_unread T n k TooLong c h = absurd (omega (arith, c.reader, h))
+run_unread T n k (Unmappable i d) c h = absurd (omega (arith, c.reader, h))
 
 -- a flush's fault is counted
 pub flush_cause : (n m : Failures) (writes logs limit : ℕ) (a b : Option (List ℕ)) (f : Fault) → n.writer ≤ writes → n.log ≤ logs → IsFlushCause writes m.writer logs m.log f → IsCause n m a b limit f
@@ -247,6 +262,15 @@ flush_cause n m writes logs limit a b Read w l h = absurd h
 flush_cause n m writes logs limit a b Write w l h = omega (arith, w, h)
 flush_cause n m writes logs limit a b Log w l h = omega (arith, l, h)
 flush_cause n m writes logs limit a b TooLong w l h = absurd h
+flush_cause n m writes logs limit a b (Unmappable i c) w l h = absurd h
+
+-- and stops nothing
+pub flush_stop : (writes writes' logs logs' : ℕ) (p : Policy) (taken : List TaggedByte) (written : List Item) (f : Fault) → IsFlushCause writes writes' logs logs' f → IsStop p f taken written
+flush_stop writes writes' logs logs' p taken written Read h = tt
+flush_stop writes writes' logs logs' p taken written Write h = tt
+flush_stop writes writes' logs logs' p taken written Log h = tt
+flush_stop writes writes' logs logs' p taken written TooLong h = tt
+flush_stop writes writes' logs logs' p taken written (Unmappable i c) h = absurd h
 
 -- the log with its message, behind what was written and flushed
 module _ (before after : Streams) (flushed : Written) (log : Option (List ℕ)) (n m : Failures) (untold : ℕ) (j : Job) (kept : KeepsWritten after.written flushed) (since : n.log ≤ untold) where
@@ -277,13 +301,14 @@ module _ (before after : Streams) (flushed : Written) (log : Option (List ℕ)) 
     output = Appends-kept before.written.output after.written.output flushed.output (outputs k.taken) k.wrote.output kept.output;
     logged = told_log k.taken (take told.0 (message_of f)) k.wrote told.2;
     prefix = k.prefix;
+    stopped = k.stopped;
   }
 
   -- by a flush that failed
   pub flush_broke : (p : Report) (g : Fault) → Completes before after j p → (k : ℕ) × IsTold untold m.log (message_of g) k × Appends flushed.log log (take k (message_of g))
-      → IsCause n (record m { log = untold }) before.input after.input j.limit g → m.reader ≡ n.reader
+      → IsCause n (record m { log = untold }) before.input after.input j.limit g → ((taken : List TaggedByte) (written : List Item) → IsStop j.policy g taken written) → m.reader ≡ n.reader
       → Breaks before (record { input = after.input; written = record { output = flushed.output; log = log } }) n m j
-  flush_broke p g k told cause same =
+  flush_broke p g k told cause stop same =
       let all : List TaggedByte = tagged (trace j k.input) in
       record {
         input = k.input;
@@ -305,4 +330,5 @@ module _ (before after : Streams) (flushed : Written) (log : Option (List ℕ)) 
         output = Appends-kept before.written.output after.written.output flushed.output (outputs all) k.wrote.output kept.output;
         logged = told_log all (take told.0 (message_of g)) k.wrote told.2;
         prefix = λ r h. ([], ap (λ t. tagged (trace j t)) (ap (λ t. k.input ++ t) (h refl) ∙ append-nil k.input) ∙ sym (append-nil all));
+        stopped = λ r h. stop all (trace j (k.input ++ r));
       }

@@ -1,6 +1,6 @@
 -- How what was written and what is still to be written compose. What the trace of a whole input is made of. Where
 -- the log is empty.
-use Rattle.std.proofs.Common.{arith, ◌+◌, Result, Ok, Err, OnErr, Bool, true, false, ◌≡◌, ℕ, List, [], ◌∷◌, ◌++◌, map, take, drop, Option, refl, ap, sym, ◌∙◌, subst, append_assoc, append-nil, take-append-drop, length}
+use Rattle.std.proofs.Common.{arith, inl, inr, ◌⊎◌, ◌<◌, ◌+◌, Result, Ok, Err, IfErr, IsErrAnd, Bool, true, false, ◌≡◌, ℕ, List, [], ◌∷◌, ◌++◌, map, take, drop, Option, refl, ap, sym, ◌∙◌, subst, append_assoc, append-nil, take-append-drop, length}
 use Rattle.std.proofs.lemmas.Grind.{flat_map-append}
 use Rattle.std.proofs.lemmas.List.{map-append}
 use Rattle.std.proofs.KnownBytes.{Appends-nil, Appends-trans}
@@ -10,7 +10,11 @@ use Rattle.encoding_mem.specs.Items.{Item, Byte, MalformedAt, LostAt, whole_item
 use Rattle.recode_log.specs.Line.{line_bytes}
 use Rattle.recode.specs.Streams.{Written}
 use Rattle.recode.specs.TaggedByte.{TaggedByte, Out, Line, outputs, lines, Wrote, tagged, tagged_item}
-use Rattle.recode.specs.WrittenItems.{WritesItems, WritesPrefix, WritesItemsFor, WritesPrefixFor, AreCounted, bad_lines, lost_lines}
+use Rattle.recode.specs.Policy.{up_to_loss, written_under}
+use Rattle.recode.specs.WrittenItems.{WritesItems, WritesPrefix, WritesItemsFor, WritesPrefixFor, AreCounted, IsLeft, IsSpared, IsStop, bad_lines, lost_lines}
+use Rattle.recode.specs.declared.job.Fault.{Fault}
+use Rattle.recode.specs.declared.job.Fault.TheVariants.{Read, Write, Log, TooLong, Unmappable}
+use Rattle.recode.specs.declared.job.Policy.{Policy}
 use Rattle.encoding_mem.specs.Coding.{Coding, IsCoding, open_from, whole_from, last_set, output, lost_count, unmapped_count, reference, AllMapped, IsMapped}
 use Rattle.encoding_mem.specs.declared.form.EscapeState.{EscapeState}
 use Rattle.encoding_mem.specs.declared.form.EscapeState.TheVariants.{Ascii}
@@ -101,88 +105,256 @@ AreCounted-trans a b c s t p q = record {
   lost = omega (arith, p.lost, q.lost, lost_lines-append s t);
 }
 
-pub WritesItems-nil : (w : Written) (x : Counts) (to_write : List Item) → WritesItems w w x x to_write to_write
-WritesItems-nil w x to_write = record { written_items = []; wrote = Wrote-nil w; counted = record { bad = omega arith; lost = omega arith }; equals = refl }
+-- What a policy lets be written.
+pub spared_nil : (p : Policy) → IsSpared p []
+spared_nil p h = refl
 
-pub WritesItems-trans : (w w' w'' : Written) (x y z : Counts) (a b c : List Item) → WritesItems w w' x y a b → WritesItems w' w'' y z b c → WritesItems w w'' x z a c
-WritesItems-trans w w' w'' x y z a b c p q = record {
-  written_items = p.written_items ++ q.written_items;
-  wrote = subst (Wrote w w'') (sym (tagged-append p.written_items q.written_items)) (Wrote-trans w w' w'' _ _ p.wrote q.wrote);
-  counted = AreCounted-trans x y z p.written_items q.written_items p.counted q.counted;
-  equals = p.equals ∙ ap (λ k. p.written_items ++ k) q.equals ∙ sym (append_assoc p.written_items q.written_items c);
+pub spared_append : (p : Policy) (s t : List Item) → IsSpared p s → IsSpared p t → IsSpared p (s ++ t)
+spared_append p s t h k is = omega (arith, lost_lines-append s t, h is, k is)
+
+spared_bytes : (p : Policy) (bs : List ℕ) → IsSpared p (map Byte bs)
+spared_bytes p bs h = lost_lines-bytes bs
+
+pub cut_spared : (s t : List Item) → lost_lines s ≡ 0 → up_to_loss (s ++ t) ≡ s ++ up_to_loss t
+cut_spared [] t h = refl
+cut_spared (Byte b ∷ s) t h = ap (λ l. Byte b ∷ l) (cut_spared s t h)
+cut_spared (MalformedAt o n ∷ s) t h = ap (λ l. MalformedAt o n ∷ l) (cut_spared s t h)
+cut_spared (LostAt i c ∷ s) t h = absurd (omega (arith, h))
+
+pub written_spared : (p : Policy) (s t : List Item) → IsSpared p s → written_under p (s ++ t) ≡ s ++ written_under p t
+written_spared Policy.Decimal s t h = refl
+written_spared Policy.Hexadecimal s t h = refl
+written_spared Policy.Stop s t h = cut_spared s t (h refl)
+
+-- all of it, where nothing stops it
+pub written_whole : (p : Policy) (s : List Item) → IsSpared p s → written_under p s ≡ s
+written_whole p s h = ap (written_under p) (sym (append-nil s)) ∙ written_spared p s [] h ∙ ap (λ l. s ++ l) (none_written p) ∙ append-nil s
+  where
+    none_written : (p : Policy) → written_under p [] ≡ []
+    none_written Policy.Decimal = refl
+    none_written Policy.Hexadecimal = refl
+    none_written Policy.Stop = refl
+
+-- what is written of a front is a prefix of what is written of the whole, and is that where it stops
+cut_front : (s t : List Item) → (rest : List Item) × (up_to_loss (s ++ t) ≡ up_to_loss s ++ rest)
+cut_front [] t = (up_to_loss t, refl)
+cut_front (Byte b ∷ s) t = let k = cut_front s t in (k.0, ap (λ l. Byte b ∷ l) k.1)
+cut_front (MalformedAt o n ∷ s) t = let k = cut_front s t in (k.0, ap (λ l. MalformedAt o n ∷ l) k.1)
+cut_front (LostAt i c ∷ s) t = ([], refl)
+
+written_front : (p : Policy) (s t : List Item) → (rest : List Item) × (written_under p (s ++ t) ≡ written_under p s ++ rest)
+written_front Policy.Decimal s t = (t, refl)
+written_front Policy.Hexadecimal s t = (t, refl)
+written_front Policy.Stop s t = cut_front s t
+
+cut_once : (s t : List Item) → 0 < lost_lines (up_to_loss s) → up_to_loss (s ++ t) ≡ up_to_loss s
+cut_once [] t h = absurd (omega (arith, h))
+cut_once (Byte b ∷ s) t h = ap (λ l. Byte b ∷ l) (cut_once s t h)
+cut_once (MalformedAt o n ∷ s) t h = ap (λ l. MalformedAt o n ∷ l) (cut_once s t h)
+cut_once (LostAt i c ∷ s) t h = refl
+
+written_once : (p : Policy) (s t : List Item) → p ≡ Policy.Stop → 0 < lost_lines (written_under p s) → written_under p (s ++ t) ≡ written_under p s
+written_once Policy.Decimal s t is h = absurd (cc)
+written_once Policy.Hexadecimal s t is h = absurd (cc)
+written_once Policy.Stop s t is h = cut_once s t h
+
+-- What a fault leaves, behind what was written, and of more.
+stop_behind : (p : Policy) (f : Fault) (s : List Item) (taken : List TaggedByte) (written : List Item) → IsSpared p s → IsStop p f taken written → IsStop p f (tagged s ++ taken) (s ++ written)
+stop_behind p Read s taken written h k = tt
+stop_behind p Write s taken written h k = tt
+stop_behind p Log s taken written h k = tt
+stop_behind p TooLong s taken written h k = tt
+stop_behind p (Unmappable i c) s taken written h k = record {
+  policy = k.policy;
+  items = s ++ k.items;
+  first = omega (arith, lost_lines-append s k.items, h k.policy, k.first);
+  last = ap (λ l. s ++ l) k.last ∙ sym (append_assoc s k.items (LostAt i c ∷ []));
+  whole = ap (λ l. tagged s ++ l) k.whole ∙ sym (tagged-append s written);
 }
 
-pub WritesItems-to : (w w' : Written) (x y : Counts) (a b c : List Item) → WritesItems w w' x y a b → b ≡ c → WritesItems w w' x y a c
-WritesItems-to w w' x y a b c p e = record { written_items = p.written_items; wrote = p.wrote; counted = p.counted; equals = p.equals ∙ ap (λ k. p.written_items ++ k) e }
+stop_is : (p : Policy) (f : Fault) (taken : List TaggedByte) (written written' : List Item) → written ≡ written' → IsStop p f taken written → IsStop p f taken written'
+stop_is p f taken written written' e k = subst (IsStop p f taken) e k
+
+stop_front : (p : Policy) (f : Fault) (taken : List TaggedByte) (total rest : List Item) → IsStop p f taken (written_under p total) → IsStop p f taken (written_under p (total ++ rest))
+stop_front p Read taken total rest k = tt
+stop_front p Write taken total rest k = tt
+stop_front p Log taken total rest k = tt
+stop_front p TooLong taken total rest k = tt
+stop_front p (Unmappable i c) taken total rest k =
+    stop_is p (Unmappable i c) taken _ _
+    (sym (written_once p total rest k.policy (omega (arith, ap lost_lines k.last, lost_lines-append k.items (LostAt i c ∷ []))))) k
+
+pub left_behind : (p : Policy) (f : Fault) (s : List Item) (taken : List TaggedByte) (a b : List Item) → IsSpared p s → a ≡ s ++ b → IsLeft p f taken b → IsLeft p f (tagged s ++ taken) a
+left_behind p f s taken a b h e k =
+    let is : written_under p a ≡ s ++ written_under p b = ap (written_under p) e ∙ written_spared p s b h in
+    record {
+      prefix = (k.prefix.0, ap tagged is ∙ tagged-append s (written_under p b) ∙ ap (λ l. tagged s ++ l) k.prefix.1 ∙ sym (append_assoc (tagged s) taken k.prefix.0));
+      stopped = stop_is p f (tagged s ++ taken) _ _ (sym is) (stop_behind p f s taken (written_under p b) h k.stopped);
+    }
+
+left_front : (p : Policy) (f : Fault) (taken : List TaggedByte) (total rest a : List Item) → a ≡ total ++ rest → IsLeft p f taken total → IsLeft p f taken a
+left_front p f taken total rest a e k =
+    let more = written_front p total rest in
+    let is : written_under p a ≡ written_under p (total ++ rest) = ap (written_under p) e in
+    record {
+      prefix = (k.prefix.0 ++ tagged more.0, ap tagged (is ∙ more.1) ∙ tagged-append (written_under p total) more.0 ∙ ap (λ l. l ++ tagged more.0) k.prefix.1 ∙ append_assoc taken k.prefix.0 (tagged more.0));
+      stopped = stop_is p f taken _ _ (sym is) (stop_front p f taken total rest k.stopped);
+    }
+
+pub left_is : (p : Policy) (f : Fault) (taken : List TaggedByte) (a a' : List Item) → a' ≡ a → IsLeft p f taken a → IsLeft p f taken a'
+left_is p f taken a a' e k = subst (IsLeft p f taken) (sym e) k
+
+-- where the fault is a writer's
+none_stopped : (p : Policy) (f : Fault) (taken : List TaggedByte) (written : List Item) → (f ≡ Write) ⊎ (f ≡ Log) → IsStop p f taken written
+none_stopped p f taken written (inl is) = subst (λ (g : Fault). IsStop p g taken written) (sym is) tt
+none_stopped p f taken written (inr is) = subst (λ (g : Fault). IsStop p g taken written) (sym is) tt
+
+pub WritesItems-nil : (w : Written) (x : Counts) (p : Policy) (to_write : List Item) → WritesItems w w x x p to_write to_write
+WritesItems-nil w x p to_write = record { written_items = []; wrote = Wrote-nil w; counted = record { bad = omega arith; lost = omega arith }; spared = spared_nil p; equals = refl }
+
+pub WritesItems-trans : (w w' w'' : Written) (x y z : Counts) (p : Policy) (a b c : List Item) → WritesItems w w' x y p a b → WritesItems w' w'' y z p b c → WritesItems w w'' x z p a c
+WritesItems-trans w w' w'' x y z p a b c h k = record {
+  written_items = h.written_items ++ k.written_items;
+  wrote = subst (Wrote w w'') (sym (tagged-append h.written_items k.written_items)) (Wrote-trans w w' w'' _ _ h.wrote k.wrote);
+  counted = AreCounted-trans x y z h.written_items k.written_items h.counted k.counted;
+  spared = spared_append p h.written_items k.written_items h.spared k.spared;
+  equals = h.equals ∙ ap (λ l. h.written_items ++ l) k.equals ∙ sym (append_assoc h.written_items k.written_items c);
+}
+
+pub WritesItems-to : (w w' : Written) (x y : Counts) (p : Policy) (a b c : List Item) → WritesItems w w' x y p a b → b ≡ c → WritesItems w w' x y p a c
+WritesItems-to w w' x y p a b c h e = record { written_items = h.written_items; wrote = h.wrote; counted = h.counted; spared = h.spared; equals = h.equals ∙ ap (λ k. h.written_items ++ k) e }
 
 -- what is written in part after something was written whole
-pub WritesItems-under : (w w' w'' : Written) (x y : Counts) (a b : List Item) → WritesItems w w' x y a b → WritesPrefix w' w'' b → WritesPrefix w w'' a
-WritesItems-under w w' w'' x y a b p q = record {
-  taken = tagged p.written_items ++ q.taken;
-  wrote = Wrote-trans w w' w'' _ _ p.wrote q.wrote;
-  prefix = (q.prefix.0, ap tagged p.equals ∙ tagged-append p.written_items b ∙ ap (λ k. tagged p.written_items ++ k) q.prefix.1 ∙ sym (append_assoc (tagged p.written_items) q.taken q.prefix.0));
+pub WritesItems-under : (w w' w'' : Written) (x y : Counts) (p : Policy) (f : Fault) (a b : List Item) → WritesItems w w' x y p a b → WritesPrefix w' w'' p f b → WritesPrefix w w'' p f a
+WritesItems-under w w' w'' x y p f a b h k = record {
+  taken = tagged h.written_items ++ k.taken;
+  wrote = Wrote-trans w w' w'' _ _ h.wrote k.wrote;
+  left = left_behind p f h.written_items k.taken a b h.spared h.equals k.left;
 }
 
-pub writes_bytes : (w w' l : Option (List ℕ)) (x y : Counts) (bs : List ℕ) (a b : List Item) → Appends w w' bs → y.bad ≡ x.bad → y.lost ≡ x.lost → a ≡ map Byte bs ++ b → WritesItems (record { output = w; log = l }) (record { output = w'; log = l }) x y a b
-writes_bytes w w' l x y bs a b p same same' e = record {
+pub writes_bytes : (w w' l : Option (List ℕ)) (x y : Counts) (p : Policy) (bs : List ℕ) (a b : List Item) → Appends w w' bs → y.bad ≡ x.bad → y.lost ≡ x.lost → a ≡ map Byte bs ++ b → WritesItems (record { output = w; log = l }) (record { output = w'; log = l }) x y p a b
+writes_bytes w w' l x y p bs a b h same same' e = record {
   written_items = map Byte bs;
-  wrote = wrote_bytes w w' l bs p;
+  wrote = wrote_bytes w w' l bs h;
   counted = record { bad = omega (arith, same, bad_lines-bytes bs); lost = omega (arith, same', lost_lines-bytes bs) };
+  spared = spared_bytes p bs;
   equals = e;
 }
 
-pub writes_lost : (w l l' : Option (List ℕ)) (x y : Counts) (i c : ℕ) (b : List Item) → Appends l l' (line_bytes (LogLine.Lost i c)) → y.bad ≡ x.bad → y.lost ≡ x.lost + 1 → WritesItems (record { output = w; log = l }) (record { output = w; log = l' }) x y (LostAt i c ∷ b) b
-writes_lost w l l' x y i c b p same one = record {
+-- the line of a lost character, whose policy does not stop
+pub writes_lost : (w l l' : Option (List ℕ)) (x y : Counts) (p : Policy) (i c : ℕ) (b : List Item) → Appends l l' (line_bytes (LogLine.Lost i c)) → y.bad ≡ x.bad → y.lost ≡ x.lost + 1 → ¬ (p ≡ Policy.Stop)
+    → WritesItems (record { output = w; log = l }) (record { output = w; log = l' }) x y p (LostAt i c ∷ b) b
+writes_lost w l l' x y p i c b h same one goes_on = record {
   written_items = LostAt i c ∷ [];
-  wrote = subst (Wrote (record { output = w; log = l }) (record { output = w; log = l' })) (sym (append-nil (map Line (line_bytes (LogLine.Lost i c))))) (wrote_line w l l' (line_bytes (LogLine.Lost i c)) p);
+  wrote = subst (Wrote (record { output = w; log = l }) (record { output = w; log = l' })) (sym (append-nil (map Line (line_bytes (LogLine.Lost i c))))) (wrote_line w l l' (line_bytes (LogLine.Lost i c)) h);
   counted = record { bad = omega (arith, same); lost = omega (arith, one) };
+  spared = λ stops. absurd (goes_on stops);
   equals = refl;
 }
 
-pub writes_malformed : (w l l' : Option (List ℕ)) (x y : Counts) (offset size : ℕ) (b : List Item) → Appends l l' (line_bytes (LogLine.Bad offset size)) → y.bad ≡ x.bad + 1 → y.lost ≡ x.lost → WritesItems (record { output = w; log = l }) (record { output = w; log = l' }) x y (MalformedAt offset size ∷ b) b
-writes_malformed w l l' x y offset size b p one same = record {
+pub writes_malformed : (w l l' : Option (List ℕ)) (x y : Counts) (p : Policy) (offset size : ℕ) (b : List Item) → Appends l l' (line_bytes (LogLine.Bad offset size)) → y.bad ≡ x.bad + 1 → y.lost ≡ x.lost
+    → WritesItems (record { output = w; log = l }) (record { output = w; log = l' }) x y p (MalformedAt offset size ∷ b) b
+writes_malformed w l l' x y p offset size b h one same = record {
   written_items = MalformedAt offset size ∷ [];
-  wrote = subst (Wrote (record { output = w; log = l }) (record { output = w; log = l' })) (sym (append-nil (map Line (line_bytes (LogLine.Bad offset size))))) (wrote_line w l l' (line_bytes (LogLine.Bad offset size)) p);
+  wrote = subst (Wrote (record { output = w; log = l }) (record { output = w; log = l' })) (sym (append-nil (map Line (line_bytes (LogLine.Bad offset size))))) (wrote_line w l l' (line_bytes (LogLine.Bad offset size)) h);
   counted = record { bad = omega (arith, one); lost = omega (arith, same) };
+  spared = λ stops. refl;
   equals = refl;
 }
 
-pub WritesItems-of : (w w' : Written) (x y : Counts) (a a' b : List Item) → a' ≡ a → WritesItems w w' x y a b → WritesItems w w' x y a' b
-WritesItems-of w w' x y a a' b e p = record { written_items = p.written_items; wrote = p.wrote; counted = p.counted; equals = e ∙ p.equals }
+pub WritesItems-of : (w w' : Written) (x y : Counts) (p : Policy) (a a' b : List Item) → a' ≡ a → WritesItems w w' x y p a b → WritesItems w w' x y p a' b
+WritesItems-of w w' x y p a a' b e h = record { written_items = h.written_items; wrote = h.wrote; counted = h.counted; spared = h.spared; equals = e ∙ h.equals }
 
-pub WritesPrefix-of : (w w' : Written) (a a' : List Item) → a' ≡ a → WritesPrefix w w' a → WritesPrefix w w' a'
-WritesPrefix-of w w' a a' e p = record { taken = p.taken; wrote = p.wrote; prefix = (p.prefix.0, ap tagged e ∙ p.prefix.1) }
+pub WritesPrefix-of : (w w' : Written) (p : Policy) (f : Fault) (a a' : List Item) → a' ≡ a → WritesPrefix w w' p f a → WritesPrefix w w' p f a'
+WritesPrefix-of w w' p f a a' e h = record { taken = h.taken; wrote = h.wrote; left = left_is p f h.taken a a' e h.left }
 
-pub under_bytes : (w w' l : Option (List ℕ)) (bs : List ℕ) (n : ℕ) (a b : List Item) → Appends w w' (take n bs) → a ≡ map Byte bs ++ b → WritesPrefix (record { output = w; log = l }) (record { output = w'; log = l }) a
-under_bytes w w' l bs n a b p e = record {
-  taken = tagged (map Byte (take n bs));
-  wrote = wrote_bytes w w' l (take n bs) p;
-  prefix = (
-    tagged (map Byte (drop n bs) ++ b),
-    ap tagged (e ∙ ap (λ x. map Byte x ++ b) (sym (take-append-drop n bs)) ∙ ap (λ x. x ++ b) (map-append Byte (take n bs) (drop n bs)) ∙ append_assoc (map Byte (take n bs)) (map Byte (drop n bs)) b)
-        ∙ tagged-append (map Byte (take n bs)) (map Byte (drop n bs) ++ b),
-  );
-}
+-- n of the bytes
+pub under_bytes : (w w' l : Option (List ℕ)) (p : Policy) (f : Fault) (bs : List ℕ) (n : ℕ) (a b : List Item) → f ≡ Write → Appends w w' (take n bs) → a ≡ map Byte bs ++ b → WritesPrefix (record { output = w; log = l }) (record { output = w'; log = l }) p f a
+under_bytes w w' l p f bs n a b writer h e =
+    let more : List Item = map Byte (drop n bs) ++ b in
+    let is : a ≡ map Byte (take n bs) ++ more =
+    e ∙ ap (λ x. map Byte x ++ b) (sym (take-append-drop n bs)) ∙ ap (λ x. x ++ b) (map-append Byte (take n bs) (drop n bs)) ∙ append_assoc (map Byte (take n bs)) (map Byte (drop n bs)) b in
+    record {
+      taken = tagged (map Byte (take n bs));
+      wrote = wrote_bytes w w' l (take n bs) h;
+      left = record {
+        prefix = (tagged (written_under p more), ap tagged (ap (written_under p) is ∙ written_spared p (map Byte (take n bs)) more (spared_bytes p (take n bs))) ∙ tagged-append (map Byte (take n bs)) (written_under p more));
+        stopped = none_stopped p f _ _ (inl writer);
+      };
+    }
+
+-- the first is written under each policy
+written_first : (p : Policy) (item : Item) (b : List Item) → (rest : List Item) × (written_under p (item ∷ b) ≡ item ∷ rest)
+written_first Policy.Decimal item b = (b, refl)
+written_first Policy.Hexadecimal item b = (b, refl)
+written_first Policy.Stop (Byte x) b = (up_to_loss b, refl)
+written_first Policy.Stop (MalformedAt o n) b = (up_to_loss b, refl)
+written_first Policy.Stop (LostAt i c) b = ([], refl)
 
 -- a line of which n bytes were taken, whatever item it is
-pub under_line : (w l l' : Option (List ℕ)) (line : List ℕ) (n : ℕ) (item : Item) (b : List Item) → tagged_item item ≡ map Line line → Appends l l' (take n line) → WritesPrefix (record { output = w; log = l }) (record { output = w; log = l' }) (item ∷ b)
-under_line w l l' line n item b e p = record {
-  taken = map Line (take n line);
-  wrote = wrote_line w l l' (take n line) p;
-  prefix = (
-    map Line (drop n line) ++ tagged b,
-    ap (λ x. x ++ tagged b) (e ∙ ap (map Line) (sym (take-append-drop n line)) ∙ map-append Line (take n line) (drop n line)) ∙ append_assoc (map Line (take n line)) (map Line (drop n line)) (tagged b),
-  );
-}
+pub under_line : (w l l' : Option (List ℕ)) (p : Policy) (f : Fault) (line : List ℕ) (n : ℕ) (item : Item) (b : List Item) → f ≡ Log → tagged_item item ≡ map Line line → Appends l l' (take n line)
+    → WritesPrefix (record { output = w; log = l }) (record { output = w; log = l' }) p f (item ∷ b)
+under_line w l l' p f line n item b log e h =
+    let more = written_first p item b in
+    record {
+      taken = map Line (take n line);
+      wrote = wrote_line w l l' (take n line) h;
+      left = record {
+        prefix = (
+          map Line (drop n line) ++ tagged more.0,
+          ap tagged more.1 ∙ ap (λ x. x ++ tagged more.0) (e ∙ ap (map Line) (sym (take-append-drop n line)) ∙ map-append Line (take n line) (drop n line)) ∙ append_assoc (map Line (take n line)) (map Line (drop n line)) (tagged more.0),
+        );
+        stopped = none_stopped p f _ _ (inr log);
+      };
+    }
 
--- what holds anyway holds at an error
-pub on_err : {T E P : Type 0} (r : Result T E) → P → OnErr r P
-on_err (Ok x) p = tt
-on_err (Err e) p = p
+-- a policy that stops, behind the line of the character
+pub stops_lost : (w l l' : Option (List ℕ)) (p : Policy) (i c : ℕ) (b : List Item) → p ≡ Policy.Stop → Appends l l' (line_bytes (LogLine.Lost i c))
+    → WritesPrefix (record { output = w; log = l }) (record { output = w; log = l' }) p (Unmappable i c) (LostAt i c ∷ b)
+stops_lost w l l' p i c b stops h =
+    let cut : written_under p (LostAt i c ∷ b) ≡ LostAt i c ∷ [] = ap (λ (q : Policy). written_under q (LostAt i c ∷ b)) stops in
+    let own : tagged (LostAt i c ∷ []) ≡ map Line (line_bytes (LogLine.Lost i c)) = append-nil (map Line (line_bytes (LogLine.Lost i c))) in
+    record {
+      taken = tagged (LostAt i c ∷ []);
+      wrote = subst (Wrote (record { output = w; log = l }) (record { output = w; log = l' })) (sym own) (wrote_line w l l' (line_bytes (LogLine.Lost i c)) h);
+      left = record {
+        prefix = ([], ap tagged cut ∙ sym (append-nil (tagged (LostAt i c ∷ []))));
+        stopped = record { policy = stops; items = []; first = refl; last = cut; whole = ap tagged (sym cut) };
+      };
+    }
 
-pub on_err_each : {T E X : Type 0} {Q : X → Type 0} (r : Result T E) → ((x : X) → Q x) → OnErr r ((x : X) → Q x)
-on_err_each (Ok x) p = tt
-on_err_each (Err e) p = p
+-- What a fault leaves is left where a result hands it on.
+pub fails_as : {T : Type 0} (r : Result T Fault) (e f : Fault) → IsErrAnd r (λ (x : Fault). x ≡ e) → e ≡ f → IfErr r (λ (g : Fault). g ≡ f)
+fails_as (Ok x) e f same is = tt
+fails_as (Err x) e f same is = same ∙ is
+
+pub hands_on : {T : Type 0} (r : Result T Fault) (e : Fault) (w w' : Written) (p : Policy) (a : List Item) → IsErrAnd r (λ (x : Fault). x ≡ e) → WritesPrefix w w' p e a → IfErr r (λ (g : Fault). WritesPrefix w w' p g a)
+hands_on (Ok x) e w w' p a same h = tt
+hands_on (Err x) e w w' p a same h = subst (λ (q : Fault). WritesPrefix w w' p q a) (sym same) h
+
+pub hands_on_for : {T : Type 0} (r : Result T Fault) (e : Fault) (w w' : Written) (p : Policy) (last : Bool) (a : List ℕ → List Item) → IsErrAnd r (λ (x : Fault). x ≡ e) → WritesPrefixFor w w' p e last a → IfErr r (λ (g : Fault). WritesPrefixFor w w' p g last a)
+hands_on_for (Ok x) e w w' p last a same h = tt
+hands_on_for (Err x) e w w' p last a same h = subst (λ (q : Fault). WritesPrefixFor w w' p q last a) (sym same) h
+
+pub fails_in_line : {T : Type 0} (r : Result T Fault) (w l l' : Option (List ℕ)) (p : Policy) (line : List ℕ) (n : ℕ) (item : Item) (more : List Item) → IfErr r (λ (g : Fault). g ≡ Log) → tagged_item item ≡ map Line line → Appends l l' (take n line)
+    → IfErr r (λ (g : Fault). (rest : List Item) → WritesPrefix (record { output = w; log = l }) (record { output = w; log = l' }) p g (item ∷ (more ++ rest)))
+fails_in_line (Ok x) w l l' p line n item more is e h = tt
+fails_in_line (Err g) w l l' p line n item more is e h = λ rest. under_line w l l' p g line n item (more ++ rest) is e h
+
+pub stops_behind_line : {T : Type 0} (r : Result T Fault) (w l l' : Option (List ℕ)) (p : Policy) (i c : ℕ) (more : List Item) → IfErr r (λ (g : Fault). g ≡ Unmappable i c) → p ≡ Policy.Stop → Appends l l' (line_bytes (LogLine.Lost i c))
+    → IfErr r (λ (g : Fault). (rest : List Item) → WritesPrefix (record { output = w; log = l }) (record { output = w; log = l' }) p g (LostAt i c ∷ (more ++ rest)))
+stops_behind_line (Ok x) w l l' p i c more is stops h = tt
+stops_behind_line (Err g) w l l' p i c more is stops h = λ rest. subst (λ (q : Fault). WritesPrefix (record { output = w; log = l }) (record { output = w; log = l' }) p q (LostAt i c ∷ (more ++ rest))) (sym is) (stops_lost w l l' p i c (more ++ rest) stops h)
+
+pub fails_in_reference : {T : Type 0} (r : Result T Fault) (w w' l l' : Option (List ℕ)) (p : Policy) (i c : ℕ) (bs : List ℕ) (n : ℕ) → IfErr r (λ (g : Fault). g ≡ Write) → ¬ (p ≡ Policy.Stop) → Appends l l' (line_bytes (LogLine.Lost i c)) → Appends w w' (take n bs)
+    → IfErr r (λ (g : Fault). (rest : List Item) → WritesPrefix (record { output = w; log = l }) (record { output = w'; log = l' }) p g (LostAt i c ∷ (map Byte bs ++ rest)))
+fails_in_reference (Ok x) w w' l l' p i c bs n is goes_on h k = tt
+fails_in_reference (Err g) w w' l l' p i c bs n is goes_on h k = λ rest.
+    let none : Counts = record { read = 0; index = 0; bad = 0; lost = 0; calls = 0 } in
+    let one : Counts = record { read = 0; index = 0; bad = 0; lost = 1; calls = 0 } in
+    WritesItems-under _ _ _ none one p g _ _
+    (writes_lost w l l' none one p i c (map Byte bs ++ rest) h refl refl goes_on)
+    (under_bytes w w' l' p g bs n (map Byte bs ++ rest) rest is k refl)
 
 -- after the last escape nothing is left to write for an empty text
 closed_nil : (ref : Reference) (need : ℕ) (e : Coding) (last : Bool) (s : EscapeState) (i : ℕ) → IsCoding need e → (last ≡ true → s ≡ Ascii) → whole_items ref e last s i [] ≡ []
@@ -193,57 +365,60 @@ pub whole_end : (ref : Reference) {need : ℕ} (e : Coding) (last : Bool) (s : E
 whole_end ref {need} e last s i t k none h = ap (whole_items ref e last s i) none ∙ closed_nil ref need e last s i k h
 
 -- For every continuation.
-pub WritesItemsFor-of : (w w' : Written) (x x' y : Counts) (last : Bool) (total : List Item) (a b : List ℕ → List Item) → x.bad ≡ x'.bad → x.lost ≡ x'.lost → WritesItems w w' x y total []
-    → ((r : List ℕ) → (last ≡ true → r ≡ []) → a r ≡ total ++ b r) → WritesItemsFor w w' x' y last a b
-WritesItemsFor-of w w' x x' y last total a b same same' p e = record {
-  written_items = p.written_items;
-  wrote = p.wrote;
-  counted = record { bad = omega (arith, same, p.counted.bad); lost = omega (arith, same', p.counted.lost) };
-  equals = λ r h. e r h ∙ ap (λ k. k ++ b r) (p.equals ∙ append-nil p.written_items);
+pub WritesItemsFor-of : (w w' : Written) (x x' y : Counts) (p : Policy) (last : Bool) (total : List Item) (a b : List ℕ → List Item) → x.bad ≡ x'.bad → x.lost ≡ x'.lost → WritesItems w w' x y p total []
+    → ((r : List ℕ) → (last ≡ true → r ≡ []) → a r ≡ total ++ b r) → WritesItemsFor w w' x' y p last a b
+WritesItemsFor-of w w' x x' y p last total a b same same' h e = record {
+  written_items = h.written_items;
+  wrote = h.wrote;
+  counted = record { bad = omega (arith, same, h.counted.bad); lost = omega (arith, same', h.counted.lost) };
+  spared = h.spared;
+  equals = λ r none. e r none ∙ ap (λ k. k ++ b r) (h.equals ∙ append-nil h.written_items);
 }
 
-pub WritesPrefixFor-of : (w w' : Written) (last : Bool) (total : List Item) (a : List ℕ → List Item) → WritesPrefix w w' total
-    → ((r : List ℕ) → (last ≡ true → r ≡ []) → (rest : List Item) × (a r ≡ total ++ rest)) → WritesPrefixFor w w' last a
-WritesPrefixFor-of w w' last total a p e = record {
-  taken = p.taken;
-  wrote = p.wrote;
-  prefix = λ r h. let f = e r h in (p.prefix.0 ++ tagged f.0, ap tagged f.1 ∙ tagged-append total f.0 ∙ ap (λ k. k ++ tagged f.0) p.prefix.1 ∙ append_assoc p.taken p.prefix.0 (tagged f.0));
+pub WritesPrefixFor-of : (w w' : Written) (p : Policy) (f : Fault) (last : Bool) (total : List Item) (a : List ℕ → List Item) → WritesPrefix w w' p f total
+    → ((r : List ℕ) → (last ≡ true → r ≡ []) → (rest : List Item) × (a r ≡ total ++ rest)) → WritesPrefixFor w w' p f last a
+WritesPrefixFor-of w w' p f last total a h e = record {
+  taken = h.taken;
+  wrote = h.wrote;
+  left = λ r none. let more = e r none in left_front p f h.taken total more.0 (a r) more.1 h.left;
 }
 
-pub WritesItems-join : (w w' w'' : Written) (x y z : Counts) (a b : List Item) → WritesItems w w' x y a [] → WritesItems w' w'' y z b [] → WritesItems w w'' x z (a ++ b) []
-WritesItems-join w w' w'' x y z a b p q = record {
-  written_items = p.written_items ++ q.written_items;
-  wrote = subst (Wrote w w'') (sym (tagged-append p.written_items q.written_items)) (Wrote-trans w w' w'' _ _ p.wrote q.wrote);
-  counted = AreCounted-trans x y z p.written_items q.written_items p.counted q.counted;
-  equals = ap (λ k. k ++ b) (p.equals ∙ append-nil p.written_items) ∙ ap (λ k. p.written_items ++ k) (q.equals ∙ append-nil q.written_items) ∙ sym (append-nil (p.written_items ++ q.written_items));
+pub WritesItems-join : (w w' w'' : Written) (x y z : Counts) (p : Policy) (a b : List Item) → WritesItems w w' x y p a [] → WritesItems w' w'' y z p b [] → WritesItems w w'' x z p (a ++ b) []
+WritesItems-join w w' w'' x y z p a b h k = record {
+  written_items = h.written_items ++ k.written_items;
+  wrote = subst (Wrote w w'') (sym (tagged-append h.written_items k.written_items)) (Wrote-trans w w' w'' _ _ h.wrote k.wrote);
+  counted = AreCounted-trans x y z h.written_items k.written_items h.counted k.counted;
+  spared = spared_append p h.written_items k.written_items h.spared k.spared;
+  equals = ap (λ l. l ++ b) (h.equals ∙ append-nil h.written_items) ∙ ap (λ l. h.written_items ++ l) (k.equals ∙ append-nil k.written_items) ∙ sym (append-nil (h.written_items ++ k.written_items));
 }
 
-pub WritesItems-join-under : (w w' w'' : Written) (x y : Counts) (a b : List Item) → WritesItems w w' x y a [] → WritesPrefix w' w'' b → WritesPrefix w w'' (a ++ b)
-WritesItems-join-under w w' w'' x y a b p q = record {
-  taken = tagged p.written_items ++ q.taken;
-  wrote = Wrote-trans w w' w'' _ _ p.wrote q.wrote;
-  prefix = (q.prefix.0, ap tagged (ap (λ k. k ++ b) (p.equals ∙ append-nil p.written_items)) ∙ tagged-append p.written_items b ∙ ap (λ k. tagged p.written_items ++ k) q.prefix.1 ∙ sym (append_assoc (tagged p.written_items) q.taken q.prefix.0));
+pub WritesItems-join-under : (w w' w'' : Written) (x y : Counts) (p : Policy) (f : Fault) (a b : List Item) → WritesItems w w' x y p a [] → WritesPrefix w' w'' p f b → WritesPrefix w w'' p f (a ++ b)
+WritesItems-join-under w w' w'' x y p f a b h k = record {
+  taken = tagged h.written_items ++ k.taken;
+  wrote = Wrote-trans w w' w'' _ _ h.wrote k.wrote;
+  left = left_behind p f h.written_items k.taken (a ++ b) b h.spared (ap (λ l. l ++ b) (h.equals ∙ append-nil h.written_items)) k.left;
 }
 
-pub WritesItemsFor-start : (w : Written) (x : Counts) (last : Bool) (a : List ℕ → List Item) → WritesItemsFor w w x x last a a
-WritesItemsFor-start w x last a = record { written_items = []; wrote = Wrote-nil w; counted = record { bad = omega arith; lost = omega arith }; equals = λ r h. refl }
+pub WritesItemsFor-start : (w : Written) (x : Counts) (p : Policy) (last : Bool) (a : List ℕ → List Item) → WritesItemsFor w w x x p last a a
+WritesItemsFor-start w x p last a = record { written_items = []; wrote = Wrote-nil w; counted = record { bad = omega arith; lost = omega arith }; spared = spared_nil p; equals = λ r h. refl }
 
-pub WritesItemsFor-trans : (w w' w'' : Written) (x y z : Counts) (last : Bool) (a b c : List ℕ → List Item) → WritesItemsFor w w' x y last a b → WritesItemsFor w' w'' y z last b c → WritesItemsFor w w'' x z last a c
-WritesItemsFor-trans w w' w'' x y z last a b c p q = record {
-  written_items = p.written_items ++ q.written_items;
-  wrote = subst (Wrote w w'') (sym (tagged-append p.written_items q.written_items)) (Wrote-trans w w' w'' _ _ p.wrote q.wrote);
-  counted = AreCounted-trans x y z p.written_items q.written_items p.counted q.counted;
-  equals = λ r h. p.equals r h ∙ ap (λ k. p.written_items ++ k) (q.equals r h) ∙ sym (append_assoc p.written_items q.written_items (c r));
+pub WritesItemsFor-trans : (w w' w'' : Written) (x y z : Counts) (p : Policy) (last : Bool) (a b c : List ℕ → List Item) → WritesItemsFor w w' x y p last a b → WritesItemsFor w' w'' y z p last b c → WritesItemsFor w w'' x z p last a c
+WritesItemsFor-trans w w' w'' x y z p last a b c h k = record {
+  written_items = h.written_items ++ k.written_items;
+  wrote = subst (Wrote w w'') (sym (tagged-append h.written_items k.written_items)) (Wrote-trans w w' w'' _ _ h.wrote k.wrote);
+  counted = AreCounted-trans x y z h.written_items k.written_items h.counted k.counted;
+  spared = spared_append p h.written_items k.written_items h.spared k.spared;
+  equals = λ r none. h.equals r none ∙ ap (λ l. h.written_items ++ l) (k.equals r none) ∙ sym (append_assoc h.written_items k.written_items (c r));
 }
 
-pub WritesItemsFor-to : (w w' : Written) (x y : Counts) (last : Bool) (a b c : List ℕ → List Item) → WritesItemsFor w w' x y last a b → ((r : List ℕ) → b r ≡ c r) → WritesItemsFor w w' x y last a c
-WritesItemsFor-to w w' x y last a b c p e = record { written_items = p.written_items; wrote = p.wrote; counted = p.counted; equals = λ r h. p.equals r h ∙ ap (λ k. p.written_items ++ k) (e r) }
+pub WritesItemsFor-to : (w w' : Written) (x y : Counts) (p : Policy) (last : Bool) (a b c : List ℕ → List Item) → WritesItemsFor w w' x y p last a b → ((r : List ℕ) → b r ≡ c r) → WritesItemsFor w w' x y p last a c
+WritesItemsFor-to w w' x y p last a b c h e = record { written_items = h.written_items; wrote = h.wrote; counted = h.counted; spared = h.spared; equals = λ r none. h.equals r none ∙ ap (λ l. h.written_items ++ l) (e r) }
 
-pub WritesItemsFor-under : (w w' w'' : Written) (x y : Counts) (last : Bool) (a b : List ℕ → List Item) → WritesItemsFor w w' x y last a b → WritesPrefixFor w' w'' last b → WritesPrefixFor w w'' last a
-WritesItemsFor-under w w' w'' x y last a b p q = record {
-  taken = tagged p.written_items ++ q.taken;
-  wrote = Wrote-trans w w' w'' _ _ p.wrote q.wrote;
-  prefix = λ r h. let f = q.prefix r h in (f.0, ap tagged (p.equals r h) ∙ tagged-append p.written_items (b r) ∙ ap (λ k. tagged p.written_items ++ k) f.1 ∙ sym (append_assoc (tagged p.written_items) q.taken f.0));
+pub WritesItemsFor-under : (w w' w'' : Written) (x y : Counts) (p : Policy) (f : Fault) (last : Bool) (a b : List ℕ → List Item) → WritesItemsFor w w' x y p last a b → WritesPrefixFor w' w'' p f last b → WritesPrefixFor w w'' p f last a
+WritesItemsFor-under w w' w'' x y p f last a b h k = record {
+  taken = tagged h.written_items ++ k.taken;
+  wrote = Wrote-trans w w' w'' _ _ h.wrote k.wrote;
+  left = λ r none. left_behind p f h.written_items k.taken (a r) (b r) h.spared (h.equals r none) (k.left r none);
 }
 
 -- What the trace of a whole input is made of.

@@ -1,18 +1,22 @@
 -- What two runs on one input have in common, and where a run ends well.
-use Rattle.std.proofs.Common.{◌≡◌, ℕ, ◌<◌, ◌≤◌, ◌↔◌, ◌⊎◌, inl, inr, Bool, true, false, IsTrue, IsOk, List, length, Some, Result, Ok, Err, refl, sym, ◌∙◌, arith}
+use Rattle.std.proofs.Common.{◌≡◌, ℕ, ◌<◌, ◌≤◌, ◌↔◌, ◌⊎◌, inl, inr, Bool, true, false, IsTrue, IsOk, List, [], ◌∷◌, ap, length, Some, Result, Ok, Err, refl, sym, ◌∙◌, arith}
 use Rattle.std.proofs.lemmas.Bool.{false≢true}
 use Rattle.encoding_front.specs.declared.encoding.Encoding.{Encoding}
 use Rattle.recode.specs.Job.{trace}
 use Rattle.recode.specs.Failures.{Failures}
 use Rattle.recode.specs.Streams.{Streams, Written, known}
 use Rattle.recode.specs.TaggedByte.{tagged}
-use Rattle.recode.specs.Runs.{WroteTheSame, AgreeButForCalls, RunReturns}
+use Rattle.recode.specs.Runs.{AgreeButForCalls, IsStopped, RunReturns, RunsThrough, WroteTheSame}
 use Rattle.recode.specs.Session.{IsReport, IsConverted, Completes}
 use Rattle.recode.specs.declared.job.Fault.{Fault}
-use Rattle.recode.specs.declared.job.Fault.TheVariants.{Read, Write, Log, TooLong}
+use Rattle.recode.specs.declared.job.Fault.TheVariants.{Read, Write, Log, TooLong, Unmappable}
 use Rattle.recode.specs.declared.job.Job.{Job}
 use Rattle.recode.specs.declared.job.Report.{Report}
-use Rattle.recode.proofs.InputLemmas.{known_completes, known_too_long}
+use Rattle.encoding_mem.specs.Items.{LostAt}
+use Rattle.recode.specs.WrittenItems.{lost_lines}
+use Rattle.recode.proofs.InputLemmas.{known_completes, known_fails, known_too_long}
+use Rattle.recode.proofs.StopLemmas.{runs_through, trace_where_spared}
+use Rattle.recode.proofs.TraceLemmas.{lost_lines-append}
 
 -- Two runs that came to their end.
 pub same_written : (j : Job) (x : List ℕ) (w w' v v' : Written) (p q : Report) → IsConverted w w' j x p → IsConverted v v' j x q → WroteTheSame w w' v v'
@@ -50,18 +54,21 @@ same_bytes j x w w' v' l l' m' p q a b = (a.output ∙ sym b.output, a.logged �
 
 -- A run in which no call failed.
 module _ (j : Job) (s s' : Streams) (n : Failures) where
-  pub well_or_long : (answer : Result Report Fault) → RunReturns s s' n n j answer → IsOk answer ⊎ (answer ≡ Err TooLong)
-  well_or_long (Ok p) a = inl refl
-  well_or_long (Err Read) a = absurd (omega (arith, a.counts.reader))
-  well_or_long (Err Write) a = absurd (omega (arith, a.counts.writer))
-  well_or_long (Err Log) a = absurd (omega (arith, a.counts.log))
-  well_or_long (Err TooLong) a = inr refl
+  pub well_or_ended : (answer : Result Report Fault) → RunReturns s s' n n j answer → IsOk answer ⊎ ((answer ≡ Err TooLong) ⊎ IsStopped answer)
+  well_or_ended (Ok p) a = inl refl
+  well_or_ended (Err Read) a = absurd (omega (arith, a.counts.reader))
+  well_or_ended (Err Write) a = absurd (omega (arith, a.counts.writer))
+  well_or_ended (Err Log) a = absurd (omega (arith, a.counts.log))
+  well_or_ended (Err TooLong) a = inr (inl refl)
+  well_or_ended (Err (Unmappable i c)) a = inr (inr tt)
 
 -- and whose reader tells its bytes
 module _ (j : Job) (x : List ℕ) (s s' : Streams) (n : Failures) where
-  fits_where_well : (answer : Result Report Fault) → s.input ≡ Some x → RunReturns s s' n n j answer → IsOk answer → length x ≤ j.limit
-  fits_where_well (Ok p) is a h = (known_completes x s s' j p is a.completes).within
-  fits_where_well (Err f) is a h = absurd (false≢true h)
+  through_where_well : (answer : Result Report Fault) → s.input ≡ Some x → RunReturns s s' n n j answer → IsOk answer → (length x ≤ j.limit) × RunsThrough j x
+  through_where_well (Ok p) is a h =
+      let k = known_completes x s s' j p is a.completes in
+      (k.within, λ stops. sym k.report.lost ∙ k.unstopped stops)
+  through_where_well (Err f) is a h = absurd (false≢true h)
 
   too_long_where_told : (answer : Result Report Fault) → s.input ≡ Some x → RunReturns s s' n n j answer → answer ≡ Err TooLong → j.limit < length x
   too_long_where_told (Ok p) is a h = absurd (cc)
@@ -69,21 +76,36 @@ module _ (j : Job) (x : List ℕ) (s s' : Streams) (n : Failures) where
   too_long_where_told (Err Write) is a h = absurd (omega (arith, a.counts.writer))
   too_long_where_told (Err Log) is a h = absurd (omega (arith, a.counts.log))
   too_long_where_told (Err TooLong) is a h = known_too_long x s s' j is a.fails
+  too_long_where_told (Err (Unmappable i c)) is a h = absurd (cc)
 
-  pub well_where_it_fits : (answer : Result Report Fault) → s.input ≡ Some x → RunReturns s s' n n j answer → IsOk answer ↔ (length x ≤ j.limit)
-  well_where_it_fits answer is a = (
-    fits_where_well answer is a,
-    λ h. elim (well_or_long j s s' n answer a) [
+  -- where the policy stopped it a character was lost
+  lost_where_stopped : (answer : Result Report Fault) → s.input ≡ Some x → RunReturns s s' n n j answer → IsStopped answer → ¬ (RunsThrough j x)
+  lost_where_stopped (Ok p) is a h through = absurd h
+  lost_where_stopped (Err Read) is a h through = absurd h
+  lost_where_stopped (Err Write) is a h through = absurd h
+  lost_where_stopped (Err Log) is a h through = absurd h
+  lost_where_stopped (Err TooLong) is a h through = absurd h
+  lost_where_stopped (Err (Unmappable i c)) is a h through =
+      let k = (known_fails x s s' j (Unmappable i c) is a.fails).stopped in
+      let spared = runs_through j x through in
+      omega (arith, spared k.policy, ap lost_lines (sym (trace_where_spared j x spared)), ap lost_lines k.last, lost_lines-append k.items (LostAt i c ∷ []))
+
+  pub well_where_through : (answer : Result Report Fault) → s.input ≡ Some x → RunReturns s s' n n j answer → IsOk answer ↔ ((length x ≤ j.limit) × RunsThrough j x)
+  well_where_through answer is a = (
+    through_where_well answer is a,
+    λ h. elim (well_or_ended j s s' n answer a) [
       | inl well ↦ well
-      | inr long ↦ absurd (omega (arith, too_long_where_told answer is a long, h))
+      | inr (inl long) ↦ absurd (omega (arith, too_long_where_told answer is a long, h.0))
+      | inr (inr stopped) ↦ absurd (lost_where_stopped answer is a stopped h.1)
     ],
   )
 
-  pub told_where_too_long : (answer : Result Report Fault) → s.input ≡ Some x → RunReturns s s' n n j answer → (answer ≡ Err TooLong) ↔ (j.limit < length x)
-  told_where_too_long answer is a = (
+  pub told_where_too_long : (answer : Result Report Fault) → s.input ≡ Some x → RunReturns s s' n n j answer → RunsThrough j x → (answer ≡ Err TooLong) ↔ (j.limit < length x)
+  told_where_too_long answer is a through = (
     too_long_where_told answer is a,
-    λ h. elim (well_or_long j s s' n answer a) [
-      | inl well ↦ absurd (omega (arith, fits_where_well answer is a well, h))
-      | inr long ↦ long
+    λ h. elim (well_or_ended j s s' n answer a) [
+      | inl well ↦ absurd (omega (arith, (through_where_well answer is a well).0, h))
+      | inr (inl long) ↦ long
+      | inr (inr stopped) ↦ absurd (lost_where_stopped answer is a stopped through)
     ],
   )

@@ -1,12 +1,14 @@
 -- What a whole conversion says by its status.
 use Rattle.std.specs.Prelude.{◌≡◌, ◌≢◌, ℕ, ◌+◌, ◌<◌, ◌≤◌, ◌⊎◌, List, [], ◌++◌, length, take, Option, Bool, true, codes}
 use Rattle.std.specs.Io.KnownBytes.{Appends, Consumes, IsAtEnd}
+use Rattle.recode_log.specs.Line.{row_bytes}
 use Rattle.recode.specs.Job.{trace, output_of, log_of, Faithful}
 use Rattle.recode.specs.Failures.{Failures}
 use Rattle.recode.specs.Streams.{Streams}
 use Rattle.recode.specs.TaggedByte.{TaggedByte, Wrote, IsPrefix, tagged, outputs, lines}
+use Rattle.recode.specs.WrittenItems.{IsStop}
 use Rattle.recode.specs.declared.job.Fault.{Fault}
-use Rattle.recode.specs.declared.job.Fault.TheVariants.{Read, Write, Log, TooLong}
+use Rattle.recode.specs.declared.job.Fault.TheVariants.{Read, Write, Log, TooLong, Unmappable}
 use Rattle.recode.specs.declared.job.Job.{Job}
 
 -- The input was read whole and is within the limit, output and log are whole, and the status tells whether anything was
@@ -29,12 +31,13 @@ pub record PassedLimit (before after : Option (List ℕ)) (limit : ℕ) : Type 0
   pub consumed : Consumes before after input
   pub past : limit < length input
 
--- a call of the device failed that the fault is of, or the input is too long
+-- a call of the device failed that the fault is of, or the input is too long, or the policy stopped the run
 abbrev pub IsCause : (failures failures' : Failures) (before after : Option (List ℕ)) (limit : ℕ) → Fault → Type 0
 IsCause failures failures' before after limit Read = failures.reader < failures'.reader
 IsCause failures failures' before after limit Write = failures.writer < failures'.writer
 IsCause failures failures' before after limit Log = failures.log < failures'.log
 IsCause failures failures' before after limit TooLong = PassedLimit before after limit
+IsCause failures failures' before after limit (Unmappable index scalar) = Unit {0}
 
 -- a flush failed of the writer that the fault is of
 abbrev pub IsFlushCause : (writes writes' logs logs' : ℕ) → Fault → Type 0
@@ -42,6 +45,7 @@ IsFlushCause writes writes' logs logs' Read = ⊥
 IsFlushCause writes writes' logs logs' Write = writes < writes'
 IsFlushCause writes writes' logs logs' Log = logs < logs'
 IsFlushCause writes writes' logs logs' TooLong = ⊥
+IsFlushCause writes writes' logs logs' (Unmappable index scalar) = ⊥
 
 -- what is told of a fault
 abbrev pub message_of : Fault → List ℕ
@@ -49,6 +53,7 @@ message_of Read = codes "recode: read fault\n"
 message_of Write = codes "recode: write fault\n"
 message_of Log = codes "recode: log fault\n"
 message_of TooLong = codes "recode: input too long\n"
+message_of (Unmappable index scalar) = row_bytes (codes "recode: unmappable ") index scalar
 
 -- the message is whole, or a call of the log failed and its end is missing
 abbrev pub IsTold : (before after : ℕ) (message : List ℕ) (told : ℕ) → Type 0
@@ -56,7 +61,8 @@ IsTold before after message told = ((after ≡ before) × (take told message ≡
 
 -- What a conversion leaves that failed: output and log are a prefix of what any continuation of the bytes read gives,
 -- none where the end was read, in their one order; behind it the log has a prefix of the message of a fault that came,
--- all of it where no call of the log failed while it was written. `untold` is the log's count when it was begun.
+-- all of it where no call of the log failed while it was written. `untold` is the log's count when it was begun. Where
+-- the policy stopped the run, `stopped` says at which character.
 pub record Breaks (before after : Streams) (failures failures' : Failures) (j : Job) : Type 0 where
   pub input : List ℕ
   pub refused : List ℕ
@@ -77,3 +83,4 @@ pub record Breaks (before after : Streams) (failures failures' : Failures) (j : 
   pub output : Appends before.written.output after.written.output (outputs taken)
   pub logged : Appends before.written.log after.written.log (lines taken ++ take told (message_of fault))
   pub prefix : (r : List ℕ) → (ended ≡ true → r ≡ []) → IsPrefix taken (tagged (trace j (input ++ r)))
+  pub stopped : (r : List ℕ) → (ended ≡ true → r ≡ []) → IsStop j.policy fault taken (trace j (input ++ r))

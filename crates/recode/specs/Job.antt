@@ -1,8 +1,7 @@
 -- What a job makes of a whole input.
 use Rattle.std.specs.Prelude.{◌≡◌, ℕ, ◌+◌, ◌^◌, ◌≤◌, List, [], ◌∷◌, ◌++◌, length}
-use Rattle.std.specs.List.{flat_map}
 use Rattle.encoding_mem.specs.Piece.{Piece, well_formed, malformed, text, AreWellFormed}
-use Rattle.encoding_mem.specs.Coding.{Coding, output}
+use Rattle.encoding_mem.specs.Coding.{Coding}
 use Rattle.encoding_mem.specs.Items.{Item, trace_from}
 use Rattle.encoding_mem.specs.declared.form.Form.{Form}
 use Rattle.encoding_mem.specs.declared.form.Form.TheVariants.{Mapped, Unmapped}
@@ -11,10 +10,10 @@ use Rattle.encoding_front.specs.Encodings.{IsReady, pieces_of, coding_of, output
 use Rattle.encoding_front.specs.Marks.{marked_pieces, source_of}
 use Rattle.encoding_front.specs.declared.encoding.Encoding.{Encoding}
 use Rattle.encoding_tables.specs.IndexLists.{AreAcceptedTables}
-use Rattle.recode_log.specs.Line.{line_bytes}
 use Rattle.recode_log.specs.declared.line.LogLine.{LogLine}
 use Rattle.recode_log.specs.declared.line.LogLine.TheVariants.{Bad, Lost}
-use Rattle.recode.specs.Policy.{form_of}
+use Rattle.recode.specs.Policy.{form_of, written_under}
+use Rattle.recode.specs.TaggedByte.{lines, outputs, tagged}
 use Rattle.recode.specs.declared.job.Job.{Job}
 
 -- the indexes of both encodings are there, as they were accepted; the limit is that of the log's offsets
@@ -43,9 +42,19 @@ target_of j = coding_of j.tables.now j.to
 abbrev pub output_pieces : Job → List ℕ → List Piece
 output_pieces j y = pieces_of j.tables.now (output_encoding_of j.to) y
 
--- what is written to the output
+-- What is written to the output and to the log, in their one order, where no policy stops it; and what is written under
+-- the job's.
+abbrev pub whole_trace : Job → List ℕ → List Item
+whole_trace j x = trace_from (form_of j.policy) (target_of j) Ascii 0 0 (input_pieces j x)
+
+abbrev pub trace : Job → List ℕ → List Item
+trace j x = written_under j.policy (whole_trace j x)
+
 abbrev pub output_of : Job → List ℕ → List ℕ
-output_of j x = output (form_of j.policy) (target_of j) (input_text j x)
+output_of j x = outputs (tagged (trace j x))
+
+abbrev pub log_of : Job → List ℕ → List ℕ
+log_of j x = lines (tagged (trace j x))
 
 -- the lines of characters without bytes, the first with the index i
 abbrev pub form_lines : ℕ → Form → List LogLine
@@ -62,14 +71,6 @@ abbrev pub log_lines : Coding → (offset i : ℕ) → List Piece → List LogLi
 log_lines e offset i [] = []
 log_lines e offset i (well_formed n cs ∷ ps) = lost_in e i cs ++ log_lines e (offset + n) (i + length cs) ps
 log_lines e offset i (malformed n ∷ ps) = Bad offset n ∷ (lost_in e i (0xFFFD ∷ []) ++ log_lines e (offset + n) (i + 1) ps)
-
--- what is written to the log
-abbrev pub log_of : Job → List ℕ → List ℕ
-log_of j x = flat_map line_bytes (log_lines (target_of j) 0 0 (input_pieces j x))
-
--- both, in their one order
-abbrev pub trace : Job → List ℕ → List Item
-trace j x = trace_from (form_of j.policy) (target_of j) Ascii 0 0 (input_pieces j x)
 
 -- Nothing was lost: no piece of the input is malformed, and the output, decoded without mark handling, has no malformed
 -- sequence and is the input's text.

@@ -1,7 +1,30 @@
--- How the numeric character reference of a character without bytes is written.
+-- What a policy writes for a character without bytes, and where it ends a conversion.
+use Rattle.std.specs.Prelude.{List, [], ◌∷◌, Option, Some, None}
+use Rattle.encoding_mem.specs.Items.{Item, Byte, MalformedAt, LostAt}
 use Rattle.encoding_mem.specs.declared.reference.Reference.{Reference}
 use Rattle.recode.specs.declared.job.Policy.{Policy}
 
+-- the form of the reference that is written, or none is
+abbrev pub reference_of : Policy → Option Reference
+reference_of Policy.Decimal = Some Reference.Decimal
+reference_of Policy.Hexadecimal = Some Reference.Hexadecimal
+reference_of Policy.Stop = None
+
+-- the same where one is asked for: under `Stop` none is written, and its form is of no account
 abbrev pub form_of : Policy → Reference
 form_of Policy.Decimal = Reference.Decimal
 form_of Policy.Hexadecimal = Reference.Hexadecimal
+form_of Policy.Stop = Reference.Decimal
+
+-- up to the first line of a lost character, with it
+abbrev pub up_to_loss : List Item → List Item
+up_to_loss [] = []
+up_to_loss (Byte b ∷ t) = Byte b ∷ up_to_loss t
+up_to_loss (MalformedAt offset size ∷ t) = MalformedAt offset size ∷ up_to_loss t
+up_to_loss (LostAt index scalar ∷ t) = LostAt index scalar ∷ []
+
+-- what is written of these items: all, or what a stop leaves
+abbrev pub written_under : Policy → List Item → List Item
+written_under Policy.Decimal items = items
+written_under Policy.Hexadecimal items = items
+written_under Policy.Stop items = up_to_loss items

@@ -27,10 +27,11 @@ mark_of_word MarkWord.Sniff = Mark.Sniff
 mark_of_word MarkWord.Remove = Mark.Remove
 mark_of_word MarkWord.Keep = Mark.Keep
 
--- and the word for what is written for a character without bytes
+-- what the word for a policy says
 abbrev pub policy_of_word : PolicyWord → Policy
 policy_of_word PolicyWord.Decimal = Policy.Decimal
 policy_of_word PolicyWord.Hexadecimal = Policy.Hexadecimal
+policy_of_word PolicyWord.Stop = Policy.Stop
 
 -- the job of the words: its encodings have their labels, and it can be run
 pub record IsJobOf (w : Words) (j : Job) : Type 0 where

@@ -4,15 +4,17 @@ use Rattle.std.specs.Io.KnownBytes.{Appends, Consumes, IsAtEnd}
 use Rattle.encoding_mem.specs.Piece.{Piece, malformed_count}
 use Rattle.encoding_mem.specs.Coding.{lost_count}
 use Rattle.encoding_mem.specs.declared.form.EscapeState.TheVariants.{Ascii}
-use Rattle.recode.specs.Job.{trace, target_of, output_of, log_of, source_in, input_pieces, input_text, Faithful}
+use Rattle.recode.specs.Job.{trace, whole_trace, target_of, output_of, log_of, source_in, input_pieces, input_text, Faithful}
 use Rattle.recode.specs.Latency.{WroteDecided}
 use Rattle.recode.specs.State.{State, WillBeFaithful, to_write}
 use Rattle.recode.specs.Streams.{Streams, Written}
 use Rattle.recode.specs.TaggedByte.{TaggedByte, Wrote, IsPrefix, tagged, outputs, lines}
 use Rattle.recode.specs.Step.{PassesLimit}
+use Rattle.recode.specs.WrittenItems.{IsStop}
 use Rattle.recode.specs.declared.job.Fault.{Fault}
 use Rattle.recode.specs.declared.job.Fault.TheVariants.{Read, TooLong}
 use Rattle.recode.specs.declared.job.Job.{Job}
+use Rattle.recode.specs.declared.job.Policy.{Policy}
 use Rattle.recode.specs.declared.job.Progress.{Progress}
 use Rattle.recode.specs.declared.job.Report.{Report}
 use Rattle.recode.specs.declared.session.Phase.{Phase}
@@ -54,7 +56,7 @@ pub record IsNewSession (v : View) (j : Job) : Type 0 where
   pub set : v.state.set ≡ Ascii
   pub pending : v.state.decoder.pending ≡ 0
   pub pieces : (x : List ℕ) → v.state.decoder.pieces x ≡ input_pieces j x
-  pub owes_trace : (x : List ℕ) → to_write v.state x ≡ trace j x
+  pub owes_trace : (x : List ℕ) → to_write v.state x ≡ whole_trace j x
   pub verdict : (x : List ℕ) → WillBeFaithful v.state x ↔ Faithful j x
 
 -- what a session tells that has read all
@@ -76,7 +78,7 @@ pub record IsReport (j : Job) (x : List ℕ) (p : Report) : Type 0 where
   pub faithful : IsTrue p.faithful ↔ Faithful j x
 
 -- A run that came to its end: the input was read whole and is within the limit, output and log are whole, and the
--- report is of this input.
+-- report is of this input. Where the policy stops at a lost character, there was none.
 pub record Completes (before after : Streams) (j : Job) (p : Report) : Type 0 where
   pub input : List ℕ
   pub consumed : Consumes before.input after.input input
@@ -86,10 +88,12 @@ pub record Completes (before after : Streams) (j : Job) (p : Report) : Type 0 wh
   pub output : Appends before.written.output after.written.output (output_of j input)
   pub logged : Appends before.written.log after.written.log (log_of j input)
   pub report : IsReport j input p
+  pub unstopped : j.policy ≡ Policy.Stop → p.lost ≡ 0
 
 -- A run that a fault ended: what was written is a prefix of what any continuation of the bytes read gives, none where
--- the end was read, output and log in their one order. Bytes are refused by `TooLong` alone, and pass the limit. Where
--- the fault is no writer's, all that the bytes read decide was written.
+-- the end was read, output and log in their one order; where the policy stopped it, it is all that any continuation
+-- gives, and ends with the line of the lost character. Bytes are refused by `TooLong` alone, and pass the limit. Where
+-- the fault is `Read` or `TooLong`, all that the bytes decide that were counted was written.
 pub record Fails (before after : Streams) (j : Job) (f : Fault) : Type 0 where
   pub input : List ℕ
   pub refused : List ℕ
@@ -105,6 +109,7 @@ pub record Fails (before after : Streams) (j : Job) (f : Fault) : Type 0 where
   pub prefix : (r : List ℕ) → (ended ≡ true → r ≡ []) → IsPrefix taken (tagged (trace j (input ++ r)))
   pub output : (r : List ℕ) → (ended ≡ true → r ≡ []) → IsPrefix (outputs taken) (output_of j (input ++ r))
   pub logged : (r : List ℕ) → (ended ≡ true → r ≡ []) → IsPrefix (lines taken) (log_of j (input ++ r))
+  pub stopped : (r : List ℕ) → (ended ≡ true → r ≡ []) → IsStop j.policy f taken (trace j (input ++ r))
   pub latest : (f ≡ Read) ⊎ (f ≡ TooLong) → (ps : List Piece) × WroteDecided before.written after.written j input ps
 
 -- The whole input x was converted and reported.
@@ -114,3 +119,4 @@ pub record IsConverted (before after : Written) (j : Job) (x : List ℕ) (p : Re
   pub output : Appends before.output after.output (output_of j x)
   pub logged : Appends before.log after.log (log_of j x)
   pub report : IsReport j x p
+  pub unstopped : j.policy ≡ Policy.Stop → p.lost ≡ 0

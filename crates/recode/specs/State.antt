@@ -12,7 +12,7 @@ use Rattle.recode.specs.declared.job.Policy.{Policy}
 use Rattle.recode.specs.declared.target.Counts.{Counts}
 
 -- The pieces of the bytes to come, and the encoding that the input turns out to be in with them; the target's rule and
--- the set in force, and what is written for characters without bytes; whether something was lost, and what was counted
+-- the set in force, and what is done about characters without bytes; whether something was lost, and what was counted
 -- so far.
 pub record State : Type 0 where
   pub decoder : DecoderState
@@ -23,7 +23,7 @@ pub record State : Type 0 where
   pub verdict : VerdictView
   pub counts : Counts
 
--- what is still to be written for the bytes to come
+-- what is still to be written for the bytes to come, where no policy stops it
 abbrev pub to_write : State → List ℕ → List Item
 to_write s r = trace_to_write (form_of s.policy) s.decoder s.coding s.set s.counts r
 

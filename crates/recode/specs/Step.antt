@@ -15,10 +15,11 @@ use Rattle.recode.specs.Streams.{KeepsWritten, Streams, Written}
 use Rattle.recode.specs.TaggedByte.{TaggedByte, Wrote, IsPrefix, tagged}
 use Rattle.recode.specs.TraceToWrite.{AreSound}
 use Rattle.recode.specs.Work.{TakesCalls}
-use Rattle.recode.specs.WrittenItems.{WritesItems, WritesItemsFor, WritesPrefixFor}
+use Rattle.recode.specs.WrittenItems.{IsStop, WritesItems, WritesItemsFor, WritesPrefixFor}
 use Rattle.recode.specs.declared.target.Counts.{Counts}
 use Rattle.recode.specs.declared.job.Fault.{Fault}
-use Rattle.recode.specs.declared.job.Fault.TheVariants.{Read, Write, Log, TooLong}
+use Rattle.recode.specs.declared.job.Policy.{Policy}
+use Rattle.recode.specs.declared.job.Fault.TheVariants.{Read, Write, Log, TooLong, Unmappable}
 
 -- Nothing is pending, or bytes whose first piece changes with at most three more, and ends at most two bytes before
 -- their end.
@@ -45,7 +46,7 @@ pub record StepsOn (before after : Streams) (limit : ℕ) (s s' : State) : Type 
   pub target : s'.coding ≡ s.coding
   pub policy : s'.policy ≡ s.policy
   pub source : (r : List ℕ) → s.source (chunk ++ r) ≡ s'.source r
-  pub pays : WritesItemsFor before.written after.written s.counts s'.counts false (λ r. to_write s (chunk ++ r)) (to_write s')
+  pub pays : WritesItemsFor before.written after.written s.counts s'.counts s.policy false (λ r. to_write s (chunk ++ r)) (to_write s')
   pub advances : Advances (λ r. s.decoder.pieces (chunk ++ r)) s'.decoder.pieces s.coding s.set s'.set s.counts s'.counts
   pub output : Appends before.written.output after.written.output (open_from (form_of s.policy) s.coding s.set (text advances.taken))
   pub logged : Appends before.written.log after.written.log (flat_map line_bytes (log_lines s.coding (s.counts.read - s.decoder.pending) s.counts.index advances.taken))
@@ -63,19 +64,19 @@ pub record HasRun (before after : Streams) (limit : ℕ) (s s' : State) : Type 0
   pub policy : s'.policy ≡ s.policy
   pub advances : Advances (λ r. s.decoder.pieces (chunk ++ r)) s'.decoder.pieces s.coding s.set s'.set s.counts s'.counts
   pub settled : IsNearlyDecided s'.decoder
-  pub pays : WritesItemsFor before.written after.written s.counts s'.counts false (λ r. to_write s (chunk ++ r)) (to_write s')
+  pub pays : WritesItemsFor before.written after.written s.counts s'.counts s.policy false (λ r. to_write s (chunk ++ r)) (to_write s')
   pub source : (r : List ℕ) → s.source (chunk ++ r) ≡ s'.source r
   pub verdict : (r : List ℕ) → WillBeFaithful s (chunk ++ r) ↔ WillBeFaithful s' r
   pub calls : (r : List ℕ) → TakesCalls (3 * length chunk) s.counts s'.counts (to_write s (chunk ++ r)) (to_write s' r)
 
--- The end was read, and all the rest of the trace was written. It may stand for some steps and the one that ended.
+-- The end was read, and all the rest of the trace was written: under a policy that stops, none of it a lost character. It may stand for some steps and the one that ended.
 pub record Finishes (before after : Streams) (limit : ℕ) (s s' : State) : Type 0 where
   pub chunk : List ℕ
   pub consumed : Consumes before.input after.input chunk
   pub end : IsAtEnd after.input
   pub counted : s'.counts.read ≡ s.counts.read + length chunk
   pub within : s'.counts.read ≤ limit
-  pub pays : WritesItems before.written after.written s.counts s'.counts (to_write s chunk) []
+  pub pays : WritesItems before.written after.written s.counts s'.counts s.policy (to_write s chunk) []
   pub source : s.source chunk ≡ s'.source []
   pub verdict : WillBeFaithful s chunk ↔ IsTrue s'.verdict.faithful
   pub calls : TakesCalls (3 * length chunk + 3) s.counts s'.counts (to_write s chunk) []
@@ -87,10 +88,12 @@ PassesLimit read limit TooLong = limit < read
 PassesLimit read limit Read = read ≤ limit
 PassesLimit read limit Write = read ≤ limit
 PassesLimit read limit Log = read ≤ limit
+PassesLimit read limit (Unmappable index scalar) = read ≤ limit
 
 -- What was written is a prefix of what was still to be written for the bytes that were read and counted, and any bytes
--- to come, none where the end was read; where the fault is no writer's, none were counted, and nothing was written.
--- Bytes are refused by `TooLong` alone, and pass the limit.
+-- to come, none where the end was read; all of it, up to the line of the first lost character, where the policy stopped
+-- it. Where the fault is `Read` or `TooLong`, none were counted, and nothing was written. Bytes are refused by `TooLong`
+-- alone, and pass the limit.
 pub record Stops (before after : Streams) (limit : ℕ) (s : State) (fault : Fault) : Type 0 where
   pub chunk : List ℕ
   pub refused : List ℕ
@@ -101,11 +104,12 @@ pub record Stops (before after : Streams) (limit : ℕ) (s : State) (fault : Fau
   pub spared : fault ≢ TooLong → refused ≡ []
   pub within : s.counts.read + length chunk ≤ limit
   pub limited : PassesLimit (s.counts.read + length (chunk ++ refused)) limit fault
-  pub pays : WritesPrefixFor before.written after.written ended (λ r. to_write s (chunk ++ r))
+  pub pays : WritesPrefixFor before.written after.written s.policy fault ended (λ r. to_write s (chunk ++ r))
   pub untouched : (fault ≡ Read) ⊎ (fault ≡ TooLong) → (chunk ≡ []) × KeepsWritten before.written after.written
 
--- a prefix of what this input gives was written
-pub record WrotePrefix (before after : Written) (to_write : List Item) : Type 0 where
+-- A prefix of what this input gives was written, and all of it where the policy stopped the run.
+pub record WrotePrefix (before after : Written) (p : Policy) (f : Fault) (given : List Item) : Type 0 where
   pub taken : List TaggedByte
   pub wrote : Wrote before after taken
-  pub prefix : IsPrefix taken (tagged to_write)
+  pub prefix : IsPrefix taken (tagged given)
+  pub stopped : IsStop p f taken given

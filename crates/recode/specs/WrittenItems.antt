@@ -1,8 +1,12 @@
 -- How the writers take what a conversion has still to write for the input to come, which is a list of items.
 use Rattle.std.specs.Prelude.{◌≡◌, ℕ, ◌+◌, List, [], ◌∷◌, ◌++◌, Bool, true}
 use Rattle.encoding_mem.specs.Items.{Item, Byte, MalformedAt, LostAt}
+use Rattle.recode.specs.Policy.{written_under}
 use Rattle.recode.specs.Streams.{Written}
 use Rattle.recode.specs.TaggedByte.{TaggedByte, Wrote, IsPrefix, tagged}
+use Rattle.recode.specs.declared.job.Fault.{Fault}
+use Rattle.recode.specs.declared.job.Fault.TheVariants.{Read, Write, Log, TooLong, Unmappable}
+use Rattle.recode.specs.declared.job.Policy.{Policy}
 use Rattle.recode.specs.declared.target.Counts.{Counts}
 
 -- how many lines of each kind the items have
@@ -23,28 +27,57 @@ pub record AreCounted (c c' : Counts) (written_items : List Item) : Type 0 where
   pub bad : c'.bad ≡ c.bad + bad_lines written_items
   pub lost : c'.lost ≡ c.lost + lost_lines written_items
 
--- The writers took these items, which are counted, and what was still to be written is these, then what is still to
--- be written now.
-pub record WritesItems (before after : Written) (c c' : Counts) (to_write to_write' : List Item) : Type 0 where
+-- where the policy stops at a lost character, there is none among these
+abbrev pub IsSpared : Policy → List Item → Type 0
+IsSpared p items = p ≡ Policy.Stop → lost_lines items ≡ 0
+
+-- The writers took these items, which are counted and of which none stops the conversion, and what was still to be
+-- written is these, then what is still to be written now.
+pub record WritesItems (before after : Written) (c c' : Counts) (p : Policy) (to_write to_write' : List Item) : Type 0 where
   pub written_items : List Item
   pub wrote : Wrote before after (tagged written_items)
   pub counted : AreCounted c c' written_items
+  pub spared : IsSpared p written_items
   pub equals : to_write ≡ written_items ++ to_write'
 
--- the writers took a prefix of what was still to be written
-pub record WritesPrefix (before after : Written) (to_write : List Item) : Type 0 where
+-- The policy stopped the conversion at this lost character: the bytes that were taken are all that is written under the
+-- policy, and the last is the line feed of this character's line.
+pub record StopsAt (p : Policy) (index scalar : ℕ) (taken : List TaggedByte) (written : List Item) : Type 0 where
+  pub policy : p ≡ Policy.Stop
+  pub items : List Item
+  pub first : lost_lines items ≡ 0
+  pub last : written ≡ items ++ (LostAt index scalar ∷ [])
+  pub whole : taken ≡ tagged written
+
+-- where the fault is that the policy stopped it
+abbrev pub IsStop : Policy → Fault → List TaggedByte → List Item → Type 0
+IsStop p Read taken written = Unit {0}
+IsStop p Write taken written = Unit {0}
+IsStop p Log taken written = Unit {0}
+IsStop p TooLong taken written = Unit {0}
+IsStop p (Unmappable index scalar) taken written = StopsAt p index scalar taken written
+
+-- what a fault leaves: these bytes are a prefix of what was still to be written under the policy, and all of it where
+-- that stopped the conversion
+pub record IsLeft (p : Policy) (f : Fault) (taken : List TaggedByte) (to_write : List Item) : Type 0 where
+  pub prefix : IsPrefix taken (tagged (written_under p to_write))
+  pub stopped : IsStop p f taken (written_under p to_write)
+
+-- the writers took so much of what was still to be written
+pub record WritesPrefix (before after : Written) (p : Policy) (f : Fault) (to_write : List Item) : Type 0 where
   pub taken : List TaggedByte
   pub wrote : Wrote before after taken
-  pub prefix : IsPrefix taken (tagged to_write)
+  pub left : IsLeft p f taken to_write
 
 -- The same for every continuation of the bytes that were handed in, which is the empty one after the last.
-pub record WritesItemsFor (before after : Written) (c c' : Counts) (last : Bool) (to_write to_write' : List ℕ → List Item) : Type 0 where
+pub record WritesItemsFor (before after : Written) (c c' : Counts) (p : Policy) (last : Bool) (to_write to_write' : List ℕ → List Item) : Type 0 where
   pub written_items : List Item
   pub wrote : Wrote before after (tagged written_items)
   pub counted : AreCounted c c' written_items
+  pub spared : IsSpared p written_items
   pub equals : (r : List ℕ) → (last ≡ true → r ≡ []) → to_write r ≡ written_items ++ to_write' r
 
-pub record WritesPrefixFor (before after : Written) (last : Bool) (to_write : List ℕ → List Item) : Type 0 where
+pub record WritesPrefixFor (before after : Written) (p : Policy) (f : Fault) (last : Bool) (to_write : List ℕ → List Item) : Type 0 where
   pub taken : List TaggedByte
   pub wrote : Wrote before after taken
-  pub prefix : (r : List ℕ) → (last ≡ true → r ≡ []) → IsPrefix taken (tagged (to_write r))
+  pub left : (r : List ℕ) → (last ≡ true → r ≡ []) → IsLeft p f taken (to_write r)

@@ -11,6 +11,7 @@ use crate::job::{Buffers, Fault, Job};
 use crate::session::run;
 use recode_log::counted::Counted;
 use recode_log::deliver::deliver;
+use recode_log::line::write_message;
 use std::io::{Read, Write};
 
 /// The status where all was converted, and nothing was lost: the output reads back as the input's
@@ -21,7 +22,8 @@ pub const FAITHFUL: u8 = 0;
 /// what has no bytes; what was written as bytes that read back otherwise has no line.
 pub const NOT_FAITHFUL: u8 = 1;
 
-/// The status where a call of a device failed, or the input was too long.
+/// The status where a call of a device failed, the input was too long, or the policy stopped the
+/// conversion.
 pub const FAULT: u8 = 4;
 
 // Flushes both, and returns the first fault.
@@ -53,8 +55,8 @@ fn flush_both<W: Write, L: Write>(
     }
 }
 
-// What is told of a fault.
-fn message_of(fault: Fault) -> &'static [u8]
+// What is told of a fault. Where that has numbers, it is written into this room.
+fn message_of(fault: Fault, numbers: &mut [u8; 64]) -> &[u8]
     ensures { result.now ≡ message_of fault }
 {
     match fault {
@@ -62,6 +64,10 @@ fn message_of(fault: Fault) -> &'static [u8]
         Fault::Write => b"recode: write fault\n",
         Fault::Log => b"recode: log fault\n",
         Fault::TooLong => b"recode: input too long\n",
+        Fault::Unmappable { index, scalar } => {
+            let len = write_message(numbers, b"recode: unmappable ", index, u32::from(scalar));
+            &numbers[..len]
+        }
     }
 }
 
@@ -74,7 +80,8 @@ fn tell<L: Write>(log: &mut Counted<L>, fault: Fault)
         (take n (message_of fault)) }
     ensures count { failures_of log.old ≤ failures_of log.new }
 {
-    match deliver(log, message_of(fault), fault) {
+    let mut numbers = [0; 64];
+    match deliver(log, message_of(fault, &mut numbers), fault) {
         Ok(()) => {}
         Err(_) => {}
     }
@@ -88,10 +95,12 @@ fn tell<L: Write>(log: &mut Counted<L>, fault: Fault)
 ///   sequence and each character without bytes; it can be empty, where a character was written as
 ///   bytes that do not read back as it. None is where `encoding_front::Encoding::keeps_characters`
 ///   holds of the target.
-/// - 4 (`FAULT`): a call of a device failed, or the input has more bytes than the job's limit.
-///   Output and log have a prefix of what is right for the bytes read, however they go on. Behind
-///   it the log has the message of the first fault, as `recode: write fault` and a line feed; what
-///   can't be written of that is dropped.
+/// - 4 (`FAULT`): a call of a device failed, the input has more bytes than the job's limit, or the
+///   policy is `Policy::Stop` and a character has no bytes. Output and log have a prefix of what is
+///   right for the bytes read, however they go on; where the policy stopped, all that comes before
+///   the character, and its line. Behind it the log has the message of the first fault, as
+///   `recode: write fault` or `recode: unmappable INDEX SCALAR`, and a line feed; what can't be
+///   written of that is dropped.
 ///
 /// Conditions: the job is valid (`Job::is_valid`), the buffers are enough (`Buffers::is_enough`),
 /// and at most 2^64 - 5 calls of each device have failed (`Counted::failures`).

@@ -34,7 +34,7 @@ pub struct Engine<D, E> {
 }
 
 impl<D: StreamDecoder, E: RawEncoder> Engine<D, E> {
-    ghost use Rattle.std.specs.Prelude.{◌≡◌, ◌↔◌, ℕ, ◌+◌, ◌-◌, ◌^◌, ◌<◌, ◌≤◌, ◌++◌, ◌⊎◌, IfErr, IfOk, IsTrue, List, OnErr, OnOk, [], drop, false, length, true};
+    ghost use Rattle.std.specs.Prelude.{◌≡◌, ◌↔◌, ℕ, ◌+◌, ◌-◌, ◌^◌, ◌<◌, ◌≤◌, ◌++◌, ◌⊎◌, IfErr, IfOk, IsTrue, List, OnOk, [], drop, false, length, true};
     ghost use Rattle.recode_log.specs.Counted.{failures_of};
     ghost use Rattle.recode.specs.Buffers.{AreEnough, KeepSizes};
     ghost use Rattle.recode.specs.Buffers.{HoldsAnyCharacter, capacity, is_wide};
@@ -73,7 +73,8 @@ impl<D: StreamDecoder, E: RawEncoder> Engine<D, E> {
         ensures pays { IfOk result (λ p. WritesItemsFor
             (written_by W.contents L.contents writers.old)
             (written_by W.contents L.contents writers.new)
-            self.old.target.counts self.new.target.counts chunk.entry.last
+            self.old.target.counts self.new.target.counts writers.old.policy
+            chunk.entry.last
             (λ r. trace_to_write (form_of writers.old.policy) (D.view self.old.decoder).state
             (E.coding self.old.target.encoder)
             (E.set self.old.target.encoder) self.old.target.counts (chunk.entry.bytes.now ++ r))
@@ -109,9 +110,10 @@ impl<D: StreamDecoder, E: RawEncoder> Engine<D, E> {
         ensures more { IfOk result (λ p. p.is_done ≡ false
             → length ((D.view self.new.decoder).state.pieces (drop p.read chunk.entry.bytes.now))
             < length ((D.view self.old.decoder).state.pieces chunk.entry.bytes.now)) }
-        ensures err { OnErr result (WritesPrefixFor
+        ensures err { IfErr result (λ f. WritesPrefixFor
             (written_by W.contents L.contents writers.old)
-            (written_by W.contents L.contents writers.new) chunk.entry.last
+            (written_by W.contents L.contents writers.new) writers.old.policy f
+            chunk.entry.last
             (λ r. trace_to_write (form_of writers.old.policy) (D.view self.old.decoder).state
             (E.coding self.old.target.encoder)
             (E.set self.old.target.encoder) self.old.target.counts
@@ -209,7 +211,8 @@ impl<D: StreamDecoder, E: RawEncoder> Engine<D, E> {
         ensures pays { OnOk result (WritesItemsFor
             (written_by W.contents L.contents writers.old)
             (written_by W.contents L.contents writers.new)
-            self.old.target.counts self.new.target.counts (is_end chunk.now)
+            self.old.target.counts self.new.target.counts writers.old.policy
+            (is_end chunk.now)
             (λ r. trace_to_write (form_of writers.old.policy) (D.view self.old.decoder).state
             (E.coding self.old.target.encoder)
             (E.set self.old.target.encoder) self.old.target.counts (chunk.now ++ r))
@@ -237,9 +240,10 @@ impl<D: StreamDecoder, E: RawEncoder> Engine<D, E> {
             (E.set self.new.target.encoder)
             self.old.target.counts self.new.target.counts) }
         ensures settled { OnOk result (IsNearlyDecided (D.view self.new.decoder).state) }
-        ensures err { OnErr result (WritesPrefixFor
+        ensures err { IfErr result (λ f. WritesPrefixFor
             (written_by W.contents L.contents writers.old)
-            (written_by W.contents L.contents writers.new) (is_end chunk.now)
+            (written_by W.contents L.contents writers.new) writers.old.policy f
+            (is_end chunk.now)
             (λ r. trace_to_write (form_of writers.old.policy) (D.view self.old.decoder).state
             (E.coding self.old.target.encoder)
             (E.set self.old.target.encoder) self.old.target.counts

@@ -16,7 +16,7 @@ pub struct Job<'t> {
     pub to: Encoding,
     /// What is done with a byte order mark at the start of the input.
     pub mark: Mark,
-    /// What is written for a character that has no bytes in the output's encoding.
+    /// What is done about a character that has no bytes in the output's encoding.
     pub policy: Policy,
     /// How many bytes the input may have.
     pub limit: u64,
@@ -24,27 +24,42 @@ pub struct Job<'t> {
     pub tables: &'t Tables,
 }
 
-/// What is written for a character that has no bytes in the output's encoding. Its line in the log
+/// What is done about a character that has no bytes in the output's encoding. Its line in the log
 /// is written with each of these.
 #[derive(Clone, Copy, PartialEq, Eq, Debug)]
 pub enum Policy {
-    /// Its reference in decimal: `&#`, its number, `;`.
+    /// Its reference is written in decimal: `&#`, its number, `;`.
     Decimal,
-    /// Its reference in hexadecimal: `&#x`, its number in upper case, `;`.
+    /// Its reference is written in hexadecimal: `&#x`, the digits of its number in upper case, `;`.
     Hexadecimal,
+    /// The run ends at the first, behind its line (`Fault::Unmappable`): nothing is written for it.
+    Stop,
 }
 
 impl Policy {
-    ghost use Rattle.std.specs.Prelude.{◌≡◌};
-    ghost use Rattle.recode.specs.Policy.{form_of};
+    ghost use Rattle.std.specs.Prelude.{◌≡◌, IfErr, IfOk, None, Some};
+    ghost use Rattle.recode.specs.Policy.{reference_of};
 
-    /// The form of the references that it writes.
-    pub fn reference(self) -> Reference
-        ensures { result ≡ form_of self }
+    /// The form of the references that it writes, or `None` where it writes none.
+    pub fn reference(self) -> Option<Reference>
+        ensures { result ≡ reference_of self }
     {
         match self {
-            Policy::Decimal => Reference::Decimal,
-            Policy::Hexadecimal => Reference::Hexadecimal,
+            Policy::Decimal => Some(Reference::Decimal),
+            Policy::Hexadecimal => Some(Reference::Hexadecimal),
+            Policy::Stop => None,
+        }
+    }
+
+    // The form of the reference of this character, or the fault that stops the run at it.
+    pub(crate) fn reference_at(self, index: u64, scalar: char) -> Result<Reference, Fault>
+        ensures ok { IfOk result (λ form. reference_of self ≡ Some form) }
+        ensures err { IfErr result (λ f. (reference_of self ≡ None)
+            × (f ≡ Fault.Unmappable index scalar)) }
+    {
+        match self.reference() {
+            Some(form) => Ok(form),
+            None => Err(Fault::Unmappable { index, scalar }),
         }
     }
 }
@@ -173,4 +188,9 @@ pub enum Fault {
     /// The input has more bytes than the job's limit.
     #[error("input too long")]
     TooLong,
+    /// The policy is `Policy::Stop`, and a character has no bytes in the output's encoding. `index`
+    /// is how many characters of the text stand before it, and `scalar` is what its line tells:
+    /// the character, or U+FFFD where ISO-2022-JP refuses a control.
+    #[error("unmappable {index} {}", u32::from(*scalar))]
+    Unmappable { index: u64, scalar: char },
 }

@@ -1,25 +1,31 @@
 //! Laws of what a run writes, of what its contract tells and of how soon input is converted. The
 //! functions do nothing: each contract is a law.
 
-ghost use Rattle.std.specs.Prelude.{◌≡◌, ◌↔◌, ◌<◌, ◌≤◌, ◌+◌, ◌*◌, ◌++◌, ℕ, ◌⊎◌, Bool, Err, IsFalse, IsOk, IsTrue, List, Result, Some, [], encode_utf8_all, length, map};
+ghost use Rattle.std.specs.Prelude.{◌≡◌, ◌↔◌, ◌<◌, ◌≤◌, ◌+◌, ◌*◌, ◌++◌, ◌∷◌, ℕ, ◌⊎◌, Bool, Err, IsFalse, IsOk, IsTrue, List, Result, Some, [], encode_utf8_all, length, map};
 ghost use Rattle.std.specs.Io.KnownBytes.{Appends};
-ghost use Rattle.std.specs.List.{concat};
+ghost use Rattle.std.specs.List.{concat, flat_map};
 ghost use Rattle.std.specs.Str.{IsUtf8, chars};
 ghost use Rattle.encoding_mem.specs.Agreement.{ReadsBackOrBreaks};
-ghost use Rattle.encoding_mem.specs.Coding.{AllMapped, lost_count, output};
+ghost use Rattle.encoding_mem.specs.Coding.{AllMapped, last_set, lost_count, open_from, output};
 ghost use Rattle.encoding_mem.specs.Decoding.{IsDecided, IsFixed};
 ghost use Rattle.encoding_mem.specs.Piece.{ArePieces, AreWellFormed, Piece, malformed_count, piece_len, sizes};
 ghost use Rattle.encoding_mem.specs.ReadBack.{ReadsAs};
 ghost use Rattle.encoding_mem.specs.Steps.{IsBroken};
+ghost use Rattle.encoding_mem.specs.declared.form.EscapeState.TheVariants.{Ascii};
+ghost use Rattle.encoding_mem.specs.declared.form.Form.TheVariants.{Unmapped};
 ghost use Rattle.encoding_mem.specs.declared.reference.Reference.TheVariants.{Decimal};
 ghost use Rattle.encoding_front.specs.Encodings.{IsUtf8Encoding, KeepsCharacters, coding_of, output_encoding_of};
 ghost use Rattle.encoding_front.specs.Marks.{marked_pieces, marked_text};
 ghost use Rattle.encoding_front.specs.declared.mark.Mark.{Mark};
 ghost use Rattle.recode.specs.Failures.{Failures};
-ghost use Rattle.recode.specs.Job.{Faithful, IsValidJob, input_pieces, input_text, log_of, output_of, output_pieces, target_of, trace};
+ghost use Rattle.recode_log.specs.Line.{line_bytes};
+ghost use Rattle.recode.specs.Job.{Faithful, IsValidJob, input_pieces, input_text, log_lines};
+ghost use Rattle.recode.specs.Job.{log_of, output_of, output_pieces, target_of, trace};
+ghost use Rattle.recode.specs.Policy.{form_of};
 ghost use Rattle.recode.specs.Latency.{StandsAt};
 ghost use Rattle.recode.specs.ReadBack.{back, in_utf8};
-ghost use Rattle.recode.specs.Runs.{AgreeButForCalls, IsWholeOutput, RunReturns, WroteTheSame};
+ghost use Rattle.recode.specs.Runs.{AgreeButForCalls, IsStopped, IsWholeOutput, RunReturns};
+ghost use Rattle.recode.specs.Runs.{RunsThrough, WroteTheSame};
 ghost use Rattle.recode.specs.Session.{Completes, Fails, IsConverted, IsNewSession, IsReport};
 ghost use Rattle.recode.specs.Session.{Tells, View};
 ghost use Rattle.recode.specs.Slices.{slices};
@@ -27,7 +33,7 @@ ghost use Rattle.recode.specs.State.{State};
 ghost use Rattle.recode.specs.Step.{Finishes, HasRun, IsNearlyDecided, StepsOn, Stops};
 ghost use Rattle.recode.specs.Step.{WrotePrefix};
 ghost use Rattle.recode.specs.Streams.{Streams, Written, known};
-ghost use Rattle.recode.specs.TaggedByte.{IsPrefix, lines, outputs, tagged};
+ghost use Rattle.recode.specs.TaggedByte.{IsPrefix};
 ghost use Rattle.recode.specs.WrittenItems.{bad_lines, lost_lines};
 ghost use Rattle.recode.specs.declared.job.Fault.{Fault};
 ghost use Rattle.recode.specs.declared.job.Job.{Job};
@@ -56,14 +62,28 @@ pub fn reports_are_compared()
     ensures counts { (a b : Counts) → IsTrue (⟦<Counts as PartialEq>⟧.eq a b) ↔ (a ≡ b) }
 {}
 
-/// The trace of an input is its output and its log: their bytes, and how many lines of each kind.
+/// What is written for an input where the policy does not stop: its text in the target, and a line
+/// for each malformed sequence and each character without bytes, as many as there are.
 pub fn trace_of_input()
-    ensures output { (j : Job) (x : List ℕ) → outputs (tagged (trace j x)) ≡ output_of j x }
-    ensures log { (j : Job) (x : List ℕ) → lines (tagged (trace j x)) ≡ log_of j x }
-    ensures bad { (j : Job) (x : List ℕ)
+    ensures output { (j : Job) (x : List ℕ) → RunsThrough j x
+        → output_of j x ≡ output (form_of j.policy) (target_of j) (input_text j x) }
+    ensures log { (j : Job) (x : List ℕ) → RunsThrough j x
+        → log_of j x ≡ flat_map line_bytes (log_lines (target_of j) 0 0 (input_pieces j x)) }
+    ensures bad { (j : Job) (x : List ℕ) → RunsThrough j x
         → bad_lines (trace j x) ≡ malformed_count (input_pieces j x) }
-    ensures lost { (j : Job) (x : List ℕ)
+    ensures lost { (j : Job) (x : List ℕ) → RunsThrough j x
         → lost_lines (trace j x) ≡ lost_count (target_of j) (input_text j x) }
+{}
+
+/// Where the policy stops at a character of the text that is the first without bytes, what is
+/// written is the text before it, and the escape that its reference would stand behind.
+pub fn stops_at_first_loss()
+    ensures { (j : Job) (x before rest : List ℕ) (c scalar : ℕ) → j.policy ≡ Policy.Stop
+        → input_text j x ≡ before ++ (c ∷ rest) → AllMapped (target_of j) before
+        → (target_of j).form c ≡ Unmapped scalar
+        → output_of j x ≡ open_from Decimal (target_of j) Ascii before
+        ++ (target_of j).escape (last_set (target_of j) Ascii before)
+        ((target_of j).set (last_set (target_of j) Ascii before) c) }
 {}
 
 /// From UTF-8 to UTF-8, where marks are kept, text gives its own bytes, and an empty log.
@@ -96,12 +116,14 @@ pub fn log_is_empty()
 
 /// Of a reader that tells its bytes, a run that came to its end read them all: cuts and sizes of
 /// buffers change nothing of the output, the log or the report. A run that a fault ended wrote
-/// prefixes of them, and said that the input is too long only where it is.
+/// prefixes of them, and said that the input is too long only where it is. One that the policy
+/// stopped wrote all of them.
 pub fn known_input()
     ensures completes { (x : List ℕ) (s s' : Streams) (j : Job) (p : Report)
         → s.input ≡ Some x → Completes s s' j p → IsConverted s.written s'.written j x p }
     ensures fails { (x : List ℕ) (s s' : Streams) (j : Job) (f : Fault)
-        → s.input ≡ Some x → Fails s s' j f → WrotePrefix s.written s'.written (trace j x) }
+        → s.input ≡ Some x → Fails s s' j f
+        → WrotePrefix s.written s'.written j.policy f (trace j x) }
     ensures too_long { (x : List ℕ) (s s' : Streams) (j : Job)
         → s.input ≡ Some x → Fails s s' j Fault.TooLong → j.limit < length x }
 {}
@@ -203,19 +225,21 @@ pub fn runs_agree()
         → (w' ≡ v') × (l' ≡ m') }
 {}
 
-/// Where no call of a device fails, a run returns `Ok` exactly where the input is within the limit,
-/// and else `TooLong`. The reader tells its bytes; where it does not, the result is still one of
-/// the two.
+/// Where no call of a device fails, a run returns `Ok` exactly where the input is within the limit
+/// and the policy does not stop at a character of it, and else `TooLong` or `Unmappable`. The reader
+/// tells its bytes; where it does not, the result is still one of these.
 pub fn answers_without_faults()
     ensures ok { (j : Job) (x : List ℕ) (s s' : Streams) (n : Failures)
         (answer : Result Report Fault)
-        → s.input ≡ Some x → RunReturns s s' n n j answer → IsOk answer ↔ (length x ≤ j.limit) }
+        → s.input ≡ Some x → RunReturns s s' n n j answer
+        → IsOk answer ↔ ((length x ≤ j.limit) × RunsThrough j x) }
     ensures too_long { (j : Job) (x : List ℕ) (s s' : Streams) (n : Failures)
         (answer : Result Report Fault)
-        → s.input ≡ Some x → RunReturns s s' n n j answer
+        → s.input ≡ Some x → RunReturns s s' n n j answer → RunsThrough j x
         → (answer ≡ Err Fault.TooLong) ↔ (j.limit < length x) }
     ensures either { (j : Job) (s s' : Streams) (n : Failures) (answer : Result Report Fault)
-        → RunReturns s s' n n j answer → IsOk answer ⊎ (answer ≡ Err Fault.TooLong) }
+        → RunReturns s s' n n j answer
+        → IsOk answer ⊎ ((answer ≡ Err Fault.TooLong) ⊎ IsStopped answer) }
 {}
 
 /// A report that tells a lost character does not say that nothing was lost.

@@ -92,6 +92,7 @@ fn policy_of(word: PolicyWord) -> Policy
     match word {
         PolicyWord::Decimal => Policy::Decimal,
         PolicyWord::Hexadecimal => Policy::Hexadecimal,
+        PolicyWord::Stop => Policy::Stop,
     }
 }
 

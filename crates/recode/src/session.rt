@@ -144,10 +144,11 @@ impl<'t> Session<'t> {
     ///   their end.
     /// - `Ok(Done)`: the end of the input was read. Output and log are whole; `report` tells the
     ///   rest.
-    /// - `Err`: a call of the reader (`Read`), the writer (`Write`) or the log (`Log`) failed, or
-    ///   the input has more bytes than the job's limit (`TooLong`). Output and log have a prefix of
-    ///   what was still to be written; at `Read` and `TooLong` the step wrote nothing. The session
-    ///   is over.
+    /// - `Err`: a call of the reader (`Read`), the writer (`Write`) or the log (`Log`) failed, the
+    ///   input has more bytes than the job's limit (`TooLong`), or the policy stopped at a character
+    ///   (`Unmappable`). Output and log have a prefix of what was still to be written; at `Read` and
+    ///   `TooLong` the step wrote nothing, and at `Unmappable` all that comes before the character,
+    ///   the escape that its reference would stand behind, and its line. The session is over.
     ///
     /// Conditions: the session is not over (`is_over`), the buffers are enough
     /// (`Buffers::is_enough`), and fewer than 2^64 - 1 calls of each device have failed
@@ -211,9 +212,11 @@ impl<'t> Session<'t> {
 ///   cut, on the sizes of the buffers or on the kind of the pivot. The codecs were called at most
 ///   37 times for each byte of the input, and 9 times more.
 /// - `Err`: a call of the reader (`Read`), the writer (`Write`) or the log (`Log`) failed, and no
-///   other; or the input has more bytes than the job's limit (`TooLong`). Output and log have a
+///   other; or none failed, and the input has more bytes than the job's limit (`TooLong`), or the
+///   policy is `Policy::Stop` and a character has no bytes (`Unmappable`). Output and log have a
 ///   prefix of what is right for the bytes read, however they go on; at `Read` and `TooLong` it is
-///   all that these bytes decide, with each piece that ends three or more bytes before their end.
+///   all that the bytes before the last read decide, with each piece that ends three or more bytes
+///   before their end; at `Unmappable` it is all that is written under the policy.
 ///
 /// Conditions: the job is valid (`Job::is_valid`), the buffers are enough (`Buffers::is_enough`),
 /// and fewer than 2^64 - 1 calls of each device have failed (`Counted::failures`).

@@ -45,7 +45,7 @@ pub struct Target<D, E> {
 }
 
 impl<D: StreamDecoder, E: RawEncoder> Target<D, E> {
-    ghost use Rattle.std.specs.Prelude.{◌≡◌, ℕ, ◌+◌, ◌-◌, ◌*◌, ◌^◌, ◌<◌, ◌≤◌, ◌++◌, ◌∷◌, ◌⊎◌, List, [], true, false, length, map, IfOk, OnOk, OnErr};
+    ghost use Rattle.std.specs.Prelude.{◌≡◌, ℕ, ◌+◌, ◌-◌, ◌*◌, ◌^◌, ◌<◌, ◌≤◌, ◌++◌, ◌∷◌, ◌⊎◌, List, [], true, false, length, map, IfErr, IfOk, OnOk};
     ghost use Rattle.encoding_mem.specs.Coding.{last_set, reference};
     ghost use Rattle.encoding_mem.specs.Items.{Item, LostAt, MalformedAt, Byte, open_items, whole_items};
     ghost use Rattle.encoding_mem.specs.declared.form.EscapeState.TheVariants.{Ascii};
@@ -57,7 +57,7 @@ impl<D: StreamDecoder, E: RawEncoder> Target<D, E> {
     ghost use Rattle.recode.specs.VerdictView.{verdict_view};
     ghost use Rattle.recode.specs.Writers.{CountsWriterFault, MayFail, written_by};
 
-    // Logs the character that was read last, and writes its reference.
+    // Logs the character that was read last, and writes its reference, or stops.
     fn log_lost<W: Write, L: Write>(
         &mut self,
         writers: &mut Writers<'_, W, L>,
@@ -69,7 +69,7 @@ impl<D: StreamDecoder, E: RawEncoder> Target<D, E> {
         ensures pays { OnOk result ((rest : List Item) → WritesItems
             (written_by W.contents L.contents writers.old)
             (written_by W.contents L.contents writers.new)
-            self.old.counts self.new.counts
+            self.old.counts self.new.counts writers.old.policy
             (LostAt (self.old.counts.index - 1) scalar ∷ map Byte
             (reference (form_of writers.old.policy) scalar)
             ++ rest) rest) }
@@ -78,9 +78,9 @@ impl<D: StreamDecoder, E: RawEncoder> Target<D, E> {
         ensures encoder { self.new.encoder ≡ self.old.encoder }
         ensures verdict { verdict_view D.view self.new.verdict
             ≡ verdict_view D.view self.old.verdict }
-        ensures err { OnErr result ((rest : List Item) → WritesPrefix
+        ensures err { IfErr result (λ f. (rest : List Item) → WritesPrefix
             (written_by W.contents L.contents writers.old)
-            (written_by W.contents L.contents writers.new)
+            (written_by W.contents L.contents writers.new) writers.old.policy f
             (LostAt (self.old.counts.index - 1) scalar ∷ map Byte
             (reference (form_of writers.old.policy) scalar)
             ++ rest)) }
@@ -88,7 +88,8 @@ impl<D: StreamDecoder, E: RawEncoder> Target<D, E> {
     {
         let index = self.counts.index - 1;
         log_line(writers.log, LogLine::Lost { index, scalar })?;
-        put_reference(writers.output, scalar, writers.policy.reference())?;
+        let form = writers.policy.reference_at(index, scalar)?;
+        put_reference(writers.output, scalar, form)?;
         self.counts.lost += 1;
         Ok(())
     }
@@ -114,7 +115,7 @@ impl<D: StreamDecoder, E: RawEncoder> Target<D, E> {
         ensures pays { IfOk result (λ p. WritesItems
             (written_by W.contents L.contents writers.old)
             (written_by W.contents L.contents writers.new)
-            self.old.counts self.new.counts
+            self.old.counts self.new.counts writers.old.policy
             (whole_items (form_of writers.old.policy) (E.coding self.old.encoder) last
             (E.set self.old.encoder)
             self.old.counts.index (pivot_chars text.entry))
@@ -140,9 +141,9 @@ impl<D: StreamDecoder, E: RawEncoder> Target<D, E> {
             (whole_items (form_of writers.old.policy) (E.coding self.old.encoder) last
             (E.set self.old.encoder)
             self.old.counts.index (pivot_chars text.entry))) }
-        ensures err { OnErr result (WritesPrefix
+        ensures err { IfErr result (λ f. WritesPrefix
             (written_by W.contents L.contents writers.old)
-            (written_by W.contents L.contents writers.new)
+            (written_by W.contents L.contents writers.new) writers.old.policy f
             (whole_items (form_of writers.old.policy) (E.coding self.old.encoder) last
             (E.set self.old.encoder)
             self.old.counts.index (pivot_chars text.entry))) }
@@ -221,7 +222,7 @@ impl<D: StreamDecoder, E: RawEncoder> Target<D, E> {
         ensures pays { OnOk result (WritesItems
             (written_by W.contents L.contents writers.old)
             (written_by W.contents L.contents writers.new)
-            self.old.counts self.new.counts
+            self.old.counts self.new.counts writers.old.policy
             (whole_items (form_of writers.old.policy) (E.coding self.old.encoder) last
             (E.set self.old.encoder)
             self.old.counts.index (pivot_chars text.entry)) []) }
@@ -235,9 +236,9 @@ impl<D: StreamDecoder, E: RawEncoder> Target<D, E> {
             ≡ last_set (E.coding self.old.encoder) (E.set self.old.encoder)
             (pivot_chars text.entry)) }
         ensures closed { OnOk result (last ≡ true → E.set self.new.encoder ≡ Ascii) }
-        ensures err { OnErr result (WritesPrefix
+        ensures err { IfErr result (λ f. WritesPrefix
             (written_by W.contents L.contents writers.old)
-            (written_by W.contents L.contents writers.new)
+            (written_by W.contents L.contents writers.new) writers.old.policy f
             (whole_items (form_of writers.old.policy) (E.coding self.old.encoder) last
             (E.set self.old.encoder)
             self.old.counts.index (pivot_chars text.entry))) }
@@ -295,7 +296,7 @@ impl<D: StreamDecoder, E: RawEncoder> Target<D, E> {
         ensures pays { OnOk result (WritesItems
             (written_by W.contents L.contents writers.old)
             (written_by W.contents L.contents writers.new)
-            self.old.counts self.new.counts
+            self.old.counts self.new.counts writers.old.policy
             (MalformedAt offset size ∷ open_items (form_of writers.old.policy)
             (E.coding self.old.encoder)
             (E.set self.old.encoder) self.old.counts.index (0xFFFD ∷ [])) []) }
@@ -306,9 +307,9 @@ impl<D: StreamDecoder, E: RawEncoder> Target<D, E> {
         ensures target { E.coding self.new.encoder ≡ E.coding self.old.encoder }
         ensures state { OnOk result (E.set self.new.encoder
             ≡ (E.coding self.old.encoder).set (E.set self.old.encoder) 0xFFFD) }
-        ensures err { OnErr result (WritesPrefix
+        ensures err { IfErr result (λ f. WritesPrefix
             (written_by W.contents L.contents writers.old)
-            (written_by W.contents L.contents writers.new)
+            (written_by W.contents L.contents writers.new) writers.old.policy f
             (MalformedAt offset size ∷ open_items (form_of writers.old.policy)
             (E.coding self.old.encoder)
             (E.set self.old.encoder) self.old.counts.index (0xFFFD ∷ []))) }

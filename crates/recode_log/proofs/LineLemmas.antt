@@ -53,6 +53,13 @@ length-row_bytes-le word offset value short low small =
     let second : length (decimal value) ≤ 10 = length-decimal-le 10 value (omega arith) (omega arith) (omega arith) in
     omega (arith, length-row_bytes word offset value)
 
+-- after a word of 32 bytes, twenty digits and ten fit in 64
+pub length-message-le : (word : List ℕ) (first second : ℕ) → length word ≤ 32 → first < 2 ^ 64 → second < 2 ^ 32 → length (row_bytes word first second) ≤ 64
+length-message-le word first second short low small =
+    let one : length (decimal first) ≤ 20 = length-decimal-le 20 first (omega arith) (omega arith) (omega arith) in
+    let two : length (decimal second) ≤ 10 = length-decimal-le 10 second (omega arith) (omega arith) (omega arith) in
+    omega (arith, length-row_bytes word first second)
+
 -- What is read of a row that has been written: its two numbers, on either side of the first space.
 
 -- the digits that `decimal` writes, and their value

@@ -75,12 +75,26 @@ impl LogLine {
     }
 }
 
+/// Writes a row of a message at the start of `dst`, as a line of the log has it behind another
+/// word: the word, which is at most 32 bytes, two decimal numbers with a space between, and a line
+/// feed. Returns its length in bytes, line feed included. The bytes behind it stay as they were.
+pub fn write_message(dst: &mut [u8; 64], word: &[u8], first: u64, second: u32) -> usize
+    requires { length word.now ≤ 32 }
+    ensures size { result ≡ length (row_bytes word.now first second) }
+    ensures line { take result dst.new ≡ row_bytes word.now first second }
+    ensures behind { drop result dst.new ≡ drop result dst.old }
+    ensures fits { result ≤ 64 }
+{
+    write_row(dst, word, first, second)
+}
+
 // Writes a line at the start, and returns where it ends.
-fn write_row(dst: &mut [u8; 32], word: &[u8], offset: u64, value: u32) -> usize
-    requires { length (row_bytes word.now offset value) ≤ 32 }
+fn write_row(dst: &mut [u8], word: &[u8], offset: u64, value: u32) -> usize
+    requires { length (row_bytes word.now offset value) ≤ length dst.old }
     ensures size { result ≡ length (row_bytes word.now offset value) }
     ensures line { take result dst.new ≡ row_bytes word.now offset value }
     ensures behind { drop result dst.new ≡ drop result dst.old }
+    ensures room { length dst.new ≡ length dst.old }
 {
     let mut digits = Buffer::new();
     let offset_at = put(dst, 0, word);
@@ -91,11 +105,12 @@ fn write_row(dst: &mut [u8; 32], word: &[u8], offset: u64, value: u32) -> usize
 }
 
 // Copies the bytes to `at`, and returns where they end.
-fn put(dst: &mut [u8; 32], at: usize, bytes: &[u8]) -> usize
-    requires { at + length bytes.now ≤ 32 }
+fn put(dst: &mut [u8], at: usize, bytes: &[u8]) -> usize
+    requires { at + length bytes.now ≤ length dst.old }
     ensures size { result ≡ at + length bytes.now }
     ensures prefix { take result dst.new ≡ take at dst.old ++ bytes.now }
     ensures behind { drop result dst.new ≡ drop result dst.old }
+    ensures room { length dst.new ≡ length dst.old }
 {
     let end = at + bytes.len();
     dst[at..end].copy_from_slice(bytes);

@@ -229,6 +229,37 @@ fn references_are_in_the_form_that_is_asked_for(rt: HostRuntime) -> Result<(), F
     Ok(())
 }
 
+// Strict conversions: all of the text, or what stands before the first character without bytes.
+#[test]
+fn a_stop_is_told_with_its_character(rt: HostRuntime) -> Result<(), Fail> {
+    for line in [
+        "--from utf-8 --to x-user-defined --unmappable stop",
+        "--from utf-8 --to x-user-defined --unmappable=stop --pivot utf16",
+    ] {
+        check(
+            &rt,
+            &Call {
+                line,
+                input: b"AB",
+                output: b"AB",
+                ..EMPTY
+            },
+        )?;
+        check(
+            &rt,
+            &Call {
+                line,
+                input: b"A\xC3\xA8B\xF0\x9F\x92\xA9",
+                status: 4,
+                output: b"A",
+                log: "lost 1 232\nrecode: unmappable 1 232\n",
+                ..EMPTY
+            },
+        )?;
+    }
+    Ok(())
+}
+
 // Two units of UTF-16.
 #[test]
 fn a_surrogate_pair_stays_as_it_is(rt: HostRuntime) -> Result<(), Fail> {

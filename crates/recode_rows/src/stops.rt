@@ -126,12 +126,15 @@ pub fn check_stops(
 const FULL: Failure = Failure::Error(ErrorKind::StorageFull);
 
 // The message of a fault.
-fn message(fault: Fault) -> &'static [u8] {
+fn message(alloc: Global, fault: Fault) -> Result<String, AllocError> {
     match fault {
-        Fault::Read => b"recode: read fault\n",
-        Fault::Write => b"recode: write fault\n",
-        Fault::Log => b"recode: log fault\n",
-        Fault::TooLong => b"recode: input too long\n",
+        Fault::Read => format!(in alloc; "recode: read fault\n"),
+        Fault::Write => format!(in alloc; "recode: write fault\n"),
+        Fault::Log => format!(in alloc; "recode: log fault\n"),
+        Fault::TooLong => format!(in alloc; "recode: input too long\n"),
+        Fault::Unmappable { index, scalar } => {
+            format!(in alloc; "recode: unmappable {index} {}\n", u32::from(scalar))
+        }
     }
 }
 
@@ -155,8 +158,9 @@ fn check_message(
     assert_eq!(rt; outcome.failures, failures, "{trial:?}");
     let events = outcome.events.as_slice();
     let told = behind_flushes(events, front).expect(rt, "the events, and the flushes");
+    let message = message(rt.alloc(), fault)?;
     assert!(rt;
-        takes(told, Device::Log, message(fault)),
+        takes(told, Device::Log, message.as_str().as_bytes()),
         "{told:?} {trial:?}"
     );
     assert_eq!(rt; calls_of(told, Device::Reader), 0, "{trial:?}");
@@ -180,7 +184,8 @@ fn stuck(trial: Trial, writer: bool, log: bool) -> Trial {
 }
 
 /// Converts by `convert` with each call failing, one at a time, and with flushes that fail behind
-/// it: the message is that of the first fault, and each failure is counted.
+/// it: the message is that of the first fault, which is the policy's where it stops, and each
+/// failure is counted.
 pub fn check_flushes(
     rt: &(impl Abort + AllocGlobal),
     trial: &Trial,
@@ -191,8 +196,9 @@ pub fn check_flushes(
     for (writer, log) in [(false, false), (true, false), (false, true), (true, true)] {
         let trial = stuck(*trial, writer, log);
         let (written, logged) = (u64::from(writer), u64::from(log));
-        if writer || log {
-            let fault = if writer { Fault::Write } else { Fault::Log };
+        if writer || log || outcome.answer.is_err() {
+            let flush = if writer { Fault::Write } else { Fault::Log };
+            let fault = outcome.answer.err().unwrap_or(flush);
             check_message(rt, &trial, tables, events, fault, [0, written, logged])?;
         }
         for stop in &stops(rt.alloc(), events, &[FULL])? {

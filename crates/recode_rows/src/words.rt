@@ -44,6 +44,11 @@ fn runs(rt: HostRuntime) -> Result<(), Fail> {
              mark: Sniff, unmappable: Hexadecimal, pivot: Utf8, limit: 281474976710656 }",
         ),
         (
+            "--from a --to b --unmappable=stop",
+            "{ from: \"a\", to: \"b\", indexes: \".\", \
+             mark: Sniff, unmappable: Stop, pivot: Utf8, limit: 281474976710656 }",
+        ),
+        (
             "--limit=0 --to=Latin1 --pivot=utf16 --indexes=/a=b --mark=remove --from=big5",
             "{ from: \"big5\", to: \"Latin1\", indexes: \"/a=b\", \
              mark: Remove, unmappable: Decimal, pivot: Utf16, limit: 0 }",
@@ -94,17 +99,17 @@ fn help_tells_all(rt: HostRuntime) -> Result<(), Fail> {
         for part in [
             "help Converts standard input ",
             "\nUsage: recode [OPTIONS] --from <LABEL> --to <LABEL>\n",
-            "\n      --from <LABEL>       Encoding of the input\n",
-            "\n      --to <LABEL>         Encoding of the output\n",
-            "\n      --indexes <DIR>      Folder of the index files [default: .]\n",
-            "\n      --unmappable <FORM>  References to lost characters: decimal or hexadecimal ",
-            ": decimal or hexadecimal [default: decimal]\n",
+            "\n      --from <LABEL>         Encoding of the input\n",
+            "\n      --to <LABEL>           Encoding of the output\n",
+            "\n      --indexes <DIR>        Folder of the index files [default: .]\n",
+            "\n      --unmappable <POLICY>  Lost characters: decimal, hexadecimal or stop ",
+            ": decimal, hexadecimal or stop [default: decimal]\n",
             ": sniff, remove or keep [default: sniff]\n",
             ": utf8 or utf16, with the same output [default: utf8]\n",
-            ", 0 to the default, in digits [default: 281474976710656]\n",
-            "\n      --list               Print the encodings and their labels\n",
-            "\n  -h, --help               Print help\n",
-            "\n  -V, --version            Print version\n",
+            ", 0 to the default [default: 281474976710656]\n",
+            "\n      --list                 Print the encodings and their labels\n",
+            "\n  -h, --help                 Print help\n",
+            "\n  -V, --version              Print version\n",
             " folder \"indexes\", ",
             "\nPREFIX/share/recode/indexes; ",
             "\nwindows-1252. UTF-16 and replacement are written as UTF-8.\n",
@@ -118,7 +123,8 @@ fn help_tells_all(rt: HostRuntime) -> Result<(), Fail> {
             "\n  1  all was converted, and something was lost. The log says what, but for a character",
             "\n  2  the words were refused\n",
             "\n  3  an index file is missing or faulty, or memory was refused at the start\n",
-            "\n  4  a read, a write or a write of the log failed, or the input is longer than the limit\n",
+            "\n  4  a read, a write or a write of the log failed, the input is longer than the limit, or",
+            " or with\n     --unmappable stop a character has no bytes in the output's encoding\n",
         ] {
             assert!(rt; text.contains(part), "no {part:?} at {line}");
         }
@@ -199,7 +205,8 @@ fn refusals(rt: HostRuntime) -> Result<(), Fail> {
         ),
         (
             "--from a --to b --unmappable hex",
-            "invalid value 'hex' for '--unmappable <FORM>'\n  [possible values: decimal, hexadecimal]",
+            "invalid value 'hex' for '--unmappable <POLICY>'\n  \
+             [possible values: decimal, hexadecimal, stop]",
             USAGE,
         ),
         (

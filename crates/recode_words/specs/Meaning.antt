@@ -8,7 +8,7 @@ use Rattle.clap.specs.ValueTests.{is_numeral}
 use Rattle.recode_words.specs.declared.words.MarkWord.{MarkWord}
 use Rattle.recode_words.specs.declared.words.MarkWord.TheVariants.{Sniff, Remove, Keep}
 use Rattle.recode_words.specs.declared.words.PolicyWord.{PolicyWord}
-use Rattle.recode_words.specs.declared.words.PolicyWord.TheVariants.{Decimal, Hexadecimal}
+use Rattle.recode_words.specs.declared.words.PolicyWord.TheVariants.{Decimal, Hexadecimal, Stop}
 use Rattle.recode_words.specs.declared.words.PivotWord.{PivotWord}
 use Rattle.recode_words.specs.declared.words.PivotWord.TheVariants.{Utf8, Utf16}
 
@@ -18,10 +18,11 @@ mark_named text = if bytes_eq text (codes "sniff") then Some Sniff
     else (if bytes_eq text (codes "remove") then Some Remove
     else (if bytes_eq text (codes "keep") then Some Keep else None))
 
--- what is written for a character without bytes, by its name
+-- what is done about a character without bytes, by its name
 abbrev pub policy_named : Text → Option PolicyWord
 policy_named text = if bytes_eq text (codes "decimal") then Some Decimal
-    else (if bytes_eq text (codes "hexadecimal") then Some Hexadecimal else None)
+    else (if bytes_eq text (codes "hexadecimal") then Some Hexadecimal
+    else (if bytes_eq text (codes "stop") then Some Stop else None))
 
 -- the form of the text between the two codecs, by its name
 abbrev pub pivot_of : Text → Option PivotWord

@@ -31,7 +31,8 @@ Log, on standard error, a line for each malformed sequence and each character wi
                      their place
   lost INDEX SCALAR  the character with this index in the text, and with this number, has no bytes
                      in the output's encoding; the output has &#SCALAR; in its place, or with
-                     --unmappable hexadecimal &#xHEX;
+                     --unmappable hexadecimal &#xHEX; with --unmappable stop the first ends the
+                     conversion
 Numbers are decimal. OFFSET and INDEX count bytes and characters from 0.
 
 Exit status:
@@ -41,7 +42,8 @@ Exit status:
      written as another, as Shift_JIS writes U+00A5 as the byte 5C: of that there is no line
   2  the words were refused
   3  an index file is missing or faulty, or memory was refused at the start
-  4  a read, a write or a write of the log failed, or the input is longer than the limit
+  4  a read, a write or a write of the log failed, the input is longer than the limit, or with
+     --unmappable stop a character has no bytes in the output's encoding
 With 2, 3 and 4 a message on standard error says why.";
 
 // `--name VALUE`, which has to be there.
@@ -111,14 +113,14 @@ pub(crate) fn command<'a>(alloc: Global) -> Result<Command<'a>, AllocError>
             "mark",
             "sniff",
             "MODE",
-            "What to do with a byte order mark: sniff, remove or keep",
+            "Byte order mark: sniff, remove or keep",
         ))?
         .arg(default_option(
             alloc,
             "unmappable",
             "decimal",
-            "FORM",
-            "References to lost characters: decimal or hexadecimal",
+            "POLICY",
+            "Lost characters: decimal, hexadecimal or stop",
         ))?
         .arg(default_option(
             alloc,
@@ -132,7 +134,7 @@ pub(crate) fn command<'a>(alloc: Global) -> Result<Command<'a>, AllocError>
             "limit",
             "281474976710656",
             "N",
-            "Most input bytes, 0 to the default, in digits",
+            "Most input bytes, 0 to the default",
         ))?
         .arg(list_flag(alloc))
 }

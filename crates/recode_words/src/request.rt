@@ -102,13 +102,13 @@ fn refusal(
 }
 
 /// What the words ask for, the program's name first: `recode --from LABEL --to LABEL [--indexes
-/// DIR] [--mark sniff|remove|keep] [--unmappable decimal|hexadecimal] [--pivot utf8|utf16]
+/// DIR] [--mark sniff|remove|keep] [--unmappable decimal|hexadecimal|stop] [--pivot utf8|utf16]
 /// [--limit N]`, or `--help`, `--version` or `--list`, which is the result wherever no word before
 /// it is refused. With `--version` and `--list` it is the list.
 ///
-/// The defaults are `.`, `sniff`, `decimal`, `utf8` and 2^48, which is also the greatest N; N is decimal digits with
-/// no sign. An option that is given twice, one with no value, an unknown one and a word that is no
-/// option are refused. An empty label or folder is a value as any other.
+/// The defaults are `.`, `sniff`, `decimal`, `utf8` and 2^48, which is also the greatest N; N is
+/// decimal digits with no sign. An option that is given twice, one with no value, an unknown one
+/// and a word that is no option are refused. An empty label or folder is a value as any other.
 pub fn parse_words<'a>(alloc: Global, words: &'a [&'a str]) -> Result<Request<'a>, WordsFault>
     requires { 0 < length words.now }
     ensures ok { IfOk result (AsksFor (map (λ s. s.now) words.now)) }

@@ -81,9 +81,9 @@ impl<'a> Values<'a> {
         };
         let Some(unmappable) = PolicyWord::from_name(self.unmappable) else {
             return Err(WrongValue {
-                option: "--unmappable <FORM>",
+                option: "--unmappable <POLICY>",
                 value: self.unmappable,
-                possible: "decimal, hexadecimal",
+                possible: "decimal, hexadecimal, stop",
             });
         };
         let Some(pivot) = PivotWord::from_name(self.pivot) else {

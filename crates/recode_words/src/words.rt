@@ -29,13 +29,15 @@ impl MarkWord {
     }
 }
 
-/// What is written for a character that has no bytes in the output's encoding.
+/// What is done about a character that has no bytes in the output's encoding.
 #[derive(Clone, Copy, Debug, PartialEq, Eq)]
 pub enum PolicyWord {
-    /// `decimal`: its reference in decimal, as `&#128169;`.
+    /// `decimal`: its reference is written in decimal, as `&#128169;`.
     Decimal,
-    /// `hexadecimal`: its reference in hexadecimal, as `&#x1F4A9;`.
+    /// `hexadecimal`: its reference is written in hexadecimal, as `&#x1F4A9;`.
     Hexadecimal,
+    /// `stop`: the conversion ends there.
+    Stop,
 }
 
 impl PolicyWord {
@@ -46,6 +48,7 @@ impl PolicyWord {
         match name {
             "decimal" => Some(PolicyWord::Decimal),
             "hexadecimal" => Some(PolicyWord::Hexadecimal),
+            "stop" => Some(PolicyWord::Stop),
             _ => None,
         }
     }
@@ -85,7 +88,7 @@ pub struct Words<'a> {
     pub indexes: &'a str,
     /// What is done with a byte order mark.
     pub mark: MarkWord,
-    /// What is written for a character without bytes.
+    /// What is done about a character without bytes.
     pub unmappable: PolicyWord,
     /// The form of the text between the decoder and the encoder.
     pub pivot: PivotWord,

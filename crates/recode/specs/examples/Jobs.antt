@@ -320,6 +320,31 @@ hexadecimal_behind_a_pair : (j : Job) → Gives (in_hexadecimal (job j ha Encodi
 unfolding pieces_in ha digits
 hexadecimal_behind_a_pair j = (refl, refl)
 
+-- a stop: the text before the first character without bytes, the escape that its reference would stand behind, and its
+-- line; a malformed sequence does not stop, but U+FFFD in its place does; without such a character all is as ever
+abbrev stopping : Job → Job
+stopping j = record j { policy = Policy.Stop }
+
+stop_at_pile_of_poo : (j : Job) → Gives (stopping (job j no_tables Encoding.Utf8 Encoding.Windows1253 Sniff)) (0xF0 ∷ 0x9F ∷ 0x92 ∷ 0xA9 ∷ []) ([]) (codes "lost 0 128169\n")
+unfolding pieces_in no_tables digits
+stop_at_pile_of_poo j = (refl, refl)
+
+stop_behind_a_pair : (j : Job) → Gives (stopping (job j ha Encoding.Utf8 Encoding.Iso2022Jp Sniff)) (0xE3 ∷ 0x83 ∷ 0x8F ∷ 0x0E ∷ 0x41 ∷ []) (0x1B ∷ 0x24 ∷ 0x42 ∷ 0x25 ∷ 0x4F ∷ 0x1B ∷ 0x28 ∷ 0x42 ∷ []) (codes "lost 1 65533\n")
+unfolding pieces_in ha digits
+stop_behind_a_pair j = (refl, refl)
+
+stop_behind_roman : (j : Job) → Gives (stopping (job j ha Encoding.Utf8 Encoding.Iso2022Jp Sniff)) (0xC2 ∷ 0xA5 ∷ 0xF0 ∷ 0x9F ∷ 0x92 ∷ 0xA9 ∷ []) (0x1B ∷ 0x28 ∷ 0x4A ∷ 0x5C ∷ []) (codes "lost 1 128169\n")
+unfolding pieces_in ha digits
+stop_behind_roman j = (refl, refl)
+
+stop_at_a_malformed_sequence : (j : Job) → Gives (stopping (job j no_tables Encoding.Utf8 Encoding.ShiftJis Sniff)) (0xFF ∷ []) ([]) (codes "bad 0 1\nlost 0 65533\n")
+unfolding pieces_in no_tables digits
+stop_at_a_malformed_sequence j = (refl, refl)
+
+no_stop : (j : Job) → Gives (stopping (job j no_tables Encoding.Utf8 Encoding.Utf8 Keep)) (0x61 ∷ 0xED ∷ 0xA0 ∷ 0x80 ∷ 0x5A ∷ []) (0x61 ∷ 0xEF ∷ 0xBF ∷ 0xBD ∷ 0xEF ∷ 0xBF ∷ 0xBD ∷ 0xEF ∷ 0xBF ∷ 0xBD ∷ 0x5A ∷ []) (codes "bad 1 1\nbad 2 1\nbad 3 1\n")
+unfolding pieces_in encode_utf8 digits
+no_stop j = (refl, refl)
+
 -- a reference reads back as its ASCII
 unfaithful_reference : (j : Job) → ¬ (Faithful (job j no_tables Encoding.Utf8 Encoding.Windows1253 Sniff) (0xF0 ∷ 0x9F ∷ 0x92 ∷ 0xA9 ∷ []))
 unfolding pieces_in no_tables digits

@@ -1,9 +1,11 @@
--- Worked rows of `specs/WrittenItems.antt` and `specs/TaggedByte.antt`.
+-- Worked rows of `specs/WrittenItems.antt`, `specs/Policy.antt` and `specs/TaggedByte.antt`.
 use Rattle.std.specs.Prelude.{◌≡◌, List, [], ◌∷◌, ◌++◌, map, codes, refl}
 use Rattle.std.specs.Fmt.{digits}
 use Rattle.encoding_mem.specs.Items.{Item, Byte, MalformedAt, LostAt}
+use Rattle.recode.specs.Policy.{up_to_loss, written_under}
 use Rattle.recode.specs.TaggedByte.{Line, Out, lines, tagged, outputs}
 use Rattle.recode.specs.WrittenItems.{bad_lines, lost_lines}
+use Rattle.recode.specs.declared.job.Policy.{Policy}
 
 -- `A`, a malformed sequence of two bytes, an unmappable character of which one byte is written, and another
 unfoldable items : List Item
@@ -29,3 +31,14 @@ what_is_written = refl
 what_is_logged : lines (tagged items) ≡ codes "bad 1 2\nlost 1 65533\nlost 2 232\n"
 unfolding items digits
 what_is_logged = refl
+
+-- a stop leaves what comes before the first lost character, a malformed sequence among it, and its line
+up_to_the_first : written_under Policy.Stop items ≡ Byte 0x41 ∷ MalformedAt 1 2 ∷ LostAt 1 65533 ∷ []
+unfolding items
+up_to_the_first = refl
+
+none_is_lost : up_to_loss (Byte 0x41 ∷ MalformedAt 1 2 ∷ Byte 0x3F ∷ []) ≡ Byte 0x41 ∷ MalformedAt 1 2 ∷ Byte 0x3F ∷ []
+none_is_lost = refl
+
+all_under_a_reference : written_under Policy.Hexadecimal items ≡ items
+all_under_a_reference = refl

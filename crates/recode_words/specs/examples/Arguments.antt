@@ -9,7 +9,7 @@ use Rattle.recode_words.specs.Meaning.{limit_of, mark_named, pivot_of, policy_na
 use Rattle.recode_words.specs.Request.{asks_list, meant}
 use Rattle.recode_words.specs.declared.words.MarkWord.TheVariants.{Sniff, Keep}
 use Rattle.recode_words.specs.declared.words.PivotWord.TheVariants.{Utf8, Utf16}
-use Rattle.recode_words.specs.declared.words.PolicyWord.TheVariants.{Decimal, Hexadecimal}
+use Rattle.recode_words.specs.declared.words.PolicyWord.TheVariants.{Decimal, Hexadecimal, Stop}
 
 -- recode --from utf-8 --to gbk --mark keep
 abbrev kept : List Text
@@ -54,6 +54,17 @@ in_hexadecimal = codes "recode" ∷ codes "--from" ∷ codes "a" ∷ codes "--to
 hexadecimal-unmappable : meant policy_named (codes "unmappable") in_hexadecimal ≡ Some Hexadecimal
 unfolding clap_on_literals
 hexadecimal-unmappable = refl
+
+-- and with stop, and what is no policy
+abbrev to_stop : List Text
+to_stop = codes "recode" ∷ codes "--from" ∷ codes "a" ∷ codes "--to" ∷ codes "b" ∷ codes "--unmappable" ∷ codes "stop" ∷ []
+
+stop-unmappable : meant policy_named (codes "unmappable") to_stop ≡ Some Stop
+unfolding clap_on_literals
+stop-unmappable = refl
+
+no_policy : policy_named (codes "Stop") ≡ None
+no_policy = refl
 
 -- recode --limit=0 --to= --pivot=utf16 --from=big5
 abbrev attached : List Text

@@ -1,5 +1,5 @@
 use Rattle.std.proofs.Common.{arith, refl}
-use Rattle.recode.proofs.StepLemmas.{run_broke, run_counted, run_unread, flush_broke, flush_cause}
+use Rattle.recode.proofs.StepLemmas.{run_broke, run_counted, run_unread, flush_broke, flush_cause, flush_stop}
 use Rattle.recode.specs.declared.job.Report.{Report}
 use Rattle.recode.proofs.conversion.convert.Goals as goal
 
@@ -7,6 +7,7 @@ pub returns-in-Err-flushed-clause-broken : goal.returns-in-Err-flushed-clause-br
 returns-in-Err-flushed-clause-broken g c is =
     flush_broke _ _ _ _ _ _ _ c.args.job c.flush_both-flushed.ensures.kept (omega (arith, c.in-Ok.ensures.failures.log, c.flush_both-flushed.ensures.log_count)) _ _ c.in-Ok.ensures.completes c.tell.ensures.message
     (flush_cause _ _ _ _ _ _ _ _ (omega (arith, c.in-Ok.ensures.failures.writer)) (omega (arith, c.in-Ok.ensures.failures.log)) c.in-Err-flushed.ensures.err)
+    (λ taken written. flush_stop _ _ _ _ c.args.job.policy taken written _ c.in-Err-flushed.ensures.err)
     (omega (arith, c.in-Ok.ensures.failures.reader))
 
 pub returns-in-Err-clause-broken : goal.returns-in-Err-clause-broken

@@ -1,4 +1,5 @@
-use Rattle.recode.proofs.PieceLemmas.{text_within, output_within}
+use Rattle.recode.proofs.PieceLemmas.{text_within}
+use Rattle.recode.proofs.StopLemmas.{output_within}
 use Rattle.recode.proofs.laws.lengths_are_bounded.Goals as goal
 
 pub returns : goal.returns

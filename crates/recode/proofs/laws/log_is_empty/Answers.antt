@@ -1,4 +1,4 @@
-use Rattle.recode.proofs.RunLemmas.{quiet_where_kept, kept_where_quiet}
+use Rattle.recode.proofs.StopLemmas.{quiet_where_kept, kept_where_quiet}
 use Rattle.recode.proofs.laws.log_is_empty.Goals as goal
 
 pub returns : goal.returns

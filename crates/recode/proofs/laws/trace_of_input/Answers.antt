@@ -1,13 +1,16 @@
+use Rattle.std.proofs.Common.{◌∙◌, ap}
 use Rattle.encoding_mem.specs.declared.form.EscapeState.TheVariants.{Ascii}
-use Rattle.recode.specs.Policy.{form_of}
 use Rattle.recode.specs.Job.{input_pieces, target_of}
-use Rattle.recode.proofs.TraceLemmas.{outputs-trace, lines-trace, bad_lines-trace, lost_lines-trace}
+use Rattle.recode.specs.Policy.{form_of}
+use Rattle.recode.specs.WrittenItems.{bad_lines, lost_lines}
+use Rattle.recode.proofs.StopLemmas.{log_where_spared, output_where_spared, runs_through, trace_where_spared}
+use Rattle.recode.proofs.TraceLemmas.{bad_lines-trace, lost_lines-trace}
 use Rattle.recode.proofs.laws.trace_of_input.Goals as goal
 
 pub returns : goal.returns
 returns c = record {
-  output = λ j x. outputs-trace (form_of j.policy) (target_of j) Ascii 0 0 (input_pieces j x);
-  log = λ j x. lines-trace (form_of j.policy) (target_of j) Ascii 0 0 (input_pieces j x);
-  bad = λ j x. bad_lines-trace (form_of j.policy) (target_of j) Ascii 0 0 (input_pieces j x);
-  lost = λ j x. lost_lines-trace (form_of j.policy) (target_of j) Ascii 0 0 (input_pieces j x);
+  output = λ j x through. output_where_spared j x (runs_through j x through);
+  log = λ j x through. log_where_spared j x (runs_through j x through);
+  bad = λ j x through. ap bad_lines (trace_where_spared j x (runs_through j x through)) ∙ bad_lines-trace (form_of j.policy) (target_of j) Ascii 0 0 (input_pieces j x);
+  lost = λ j x through. ap lost_lines (trace_where_spared j x (runs_through j x through)) ∙ lost_lines-trace (form_of j.policy) (target_of j) Ascii 0 0 (input_pieces j x);
 }

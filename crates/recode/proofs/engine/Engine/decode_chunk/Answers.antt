@@ -3,7 +3,7 @@ use Rattle.std.proofs.lemmas.List.{take_rest}
 use Rattle.recode.specs.Policy.{form_of}
 use Rattle.recode.specs.TraceToWrite.{trace_to_write}
 use Rattle.recode.proofs.LatencyLemmas.{advances_start, advances_more, advances_to}
-use Rattle.recode.proofs.TraceLemmas.{WritesItemsFor-start, WritesItemsFor-trans, WritesItemsFor-to, WritesItemsFor-under, on_err}
+use Rattle.recode.proofs.TraceLemmas.{hands_on_for, WritesItemsFor-start, WritesItemsFor-trans, WritesItemsFor-to, WritesItemsFor-under}
 use Rattle.recode.proofs.BufferLemmas.{same_on, same_start}
 use Rattle.recode.proofs.VerdictLemmas.{both_ways}
 use Rattle.recode.proofs.WorkLemmas.{more_calls}
@@ -11,7 +11,7 @@ use Rattle.recode.proofs.engine.Engine.decode_chunk.Goals as goal
 
 pub chunk-init : goal.chunk-init
 chunk-init g c = record {
-  pays = WritesItemsFor-start _ _ _ _;
+  pays = WritesItemsFor-start _ _ _ _ _;
   source = λ r h. refl;
   open_ = c.requires.open_;
   passed = refl;
@@ -46,7 +46,7 @@ pub chunk-preserved : goal.chunk-preserved
 chunk-preserved g c =
     let rest_is = take_rest c.chunk.rest.now c.in_ok-turn.turn.read in
     record {
-      pays = rw rest_is (WritesItemsFor-trans _ _ _ _ _ _ _ _ _ _ c.chunk.invariant.pays (rw (c.chunk.invariant.target, c.chunk.invariant.same.policy) at c.in_ok-turn.ensures.pays));
+      pays = rw rest_is (WritesItemsFor-trans _ _ _ _ _ _ _ _ _ _ _ c.chunk.invariant.pays (rw (c.chunk.invariant.target, c.chunk.invariant.same.policy) at c.in_ok-turn.ensures.pays));
       source = λ r h. c.chunk.invariant.source r h ∙ c.in_ok-turn.ensures.source r h ∙ ap (λ x. (g.D.StreamDecoder.view c.decode_part.new.self.decoder).source (x ++ r)) (sym rest_is);
       open_ = c.in_ok-turn.ensures.more_open c.if-turn.false;
       passed = omega (arith, c.in_ok-turn.ensures.counted, c.chunk.invariant.passed, ap length rest_is, length-drop c.in_ok-turn.turn.read c.chunk.rest.now, c.in_ok-turn.ensures.within);
@@ -72,13 +72,13 @@ pub chunk-smaller : goal.chunk-smaller
 chunk-smaller g c = rw (take_rest c.chunk.rest.now c.in_ok-turn.turn.read) (c.in_ok-turn.ensures.more c.if-turn.false)
 
 pub returns-in_err-turn-clause-err : goal.returns-in_err-turn-clause-err
-returns-in_err-turn-clause-err g c = rw (sym c.is_empty-last.ensures) (on_err _ (WritesItemsFor-under _ _ _ _ _ _ _ _ c.chunk.invariant.pays (rw (c.chunk.invariant.target, c.chunk.invariant.same.policy) at c.in_err-turn.ensures.err)))
+returns-in_err-turn-clause-err g c = rw (sym c.is_empty-last.ensures) (hands_on_for _ _ _ _ _ _ _ c.from_residual.ensures.1 (WritesItemsFor-under _ _ _ _ _ _ _ _ _ _ c.chunk.invariant.pays (rw (c.chunk.invariant.target, c.chunk.invariant.same.policy) at c.in_err-turn.ensures.err)))
 
 pub returns-then-turn-clause-pays : goal.returns-then-turn-clause-pays
 returns-then-turn-clause-pays g c = rw (sym c.is_empty-last.ensures) (
     let all = drop_of_length-le c.chunk.rest.now {i = c.in_ok-turn.turn.read} (omega (arith, c.in_ok-turn.ensures.done c.if-turn.true)) in
-    WritesItemsFor-to _ _ _ _ _ _ _ _
-    (WritesItemsFor-trans _ _ _ _ _ _ _ _ _ _ c.chunk.invariant.pays (rw (c.chunk.invariant.target, c.chunk.invariant.same.policy) at c.in_ok-turn.ensures.pays))
+    WritesItemsFor-to _ _ _ _ _ _ _ _ _
+    (WritesItemsFor-trans _ _ _ _ _ _ _ _ _ _ _ c.chunk.invariant.pays (rw (c.chunk.invariant.target, c.chunk.invariant.same.policy) at c.in_ok-turn.ensures.pays))
     (λ r. ap (λ x. trace_to_write (form_of c.args.writers.now.policy) (g.D.StreamDecoder.view c.decode_part.new.self.decoder).state (g.E.RawEncoder.coding c.args.self.now.target.encoder) (g.E.RawEncoder.set c.decode_part.new.self.target.encoder) c.decode_part.new.self.target.counts (x ++ r)) all))
 
 pub returns-then-turn-clause-source : goal.returns-then-turn-clause-source

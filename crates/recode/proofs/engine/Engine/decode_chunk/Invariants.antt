@@ -13,7 +13,7 @@ use Rattle.recode.proofs.engine.Engine.decode_chunk.Given as goal
 
 abbrev pub invariant-chunk : goal.invariant-chunk
 invariant-chunk g l = record {
-  pays : WritesItemsFor (written_by g.W.Write.contents g.L.Write.contents l.initial.writers) (written_by g.W.Write.contents g.L.Write.contents l.writers) l.initial.self.target.counts l.self.target.counts l.last
+  pays : WritesItemsFor (written_by g.W.Write.contents g.L.Write.contents l.initial.writers) (written_by g.W.Write.contents g.L.Write.contents l.writers) l.initial.self.target.counts l.self.target.counts l.initial.writers.policy l.last
       (λ r. trace_to_write (form_of l.initial.writers.policy) (g.D.StreamDecoder.view l.initial.self.decoder).state (g.E.RawEncoder.coding l.initial.self.target.encoder) (g.E.RawEncoder.set l.initial.self.target.encoder) l.initial.self.target.counts (l.initial.rest ++ r))
       (λ r. trace_to_write (form_of l.initial.writers.policy) (g.D.StreamDecoder.view l.self.decoder).state (g.E.RawEncoder.coding l.initial.self.target.encoder) (g.E.RawEncoder.set l.self.target.encoder) l.self.target.counts (l.rest ++ r));
   source : (r : List ℕ) → (l.last ≡ true → r ≡ []) → (g.D.StreamDecoder.view l.initial.self.decoder).source (l.initial.rest ++ r) ≡ (g.D.StreamDecoder.view l.self.decoder).source (l.rest ++ r);

@@ -1,6 +1,6 @@
 use Rattle.std.proofs.Common.{◌∙◌, ◌+◌, ◌-◌, arith, refl, sym, ap, length, length-drop, false, inl, inr, true≢false}
 use Rattle.recode.specs.Policy.{form_of}
-use Rattle.recode.proofs.TraceLemmas.{WritesItemsFor-of, WritesPrefixFor-of, WritesItems-join, WritesItems-join-under, on_err}
+use Rattle.recode.proofs.TraceLemmas.{hands_on_for, WritesItemsFor-of, WritesPrefixFor-of, WritesItems-join, WritesItems-join-under}
 use Rattle.recode.proofs.DecoderCallLemmas.{some_written, empty_call, full_call, malformed_call, end_none, full_some, well_formed_fits, well_formed_sound, ended_owed, ended_prefix, none_owed, full_owed, full_left, malformed_fits, malformed_sound, malformed_offset, malformed_owed, malformed_text_prefix, malformed_first_piece, malformed_left}
 use Rattle.encoding_mem.specs.Coding.{last_set}
 use Rattle.recode.specs.PivotText.{pivot_chars}
@@ -23,7 +23,7 @@ pub returns-in_err-encode_text-in-InputEmpty-clause-err : goal.returns-in_err-en
 returns-in_err-encode_text-in-InputEmpty-clause-err g c =
     let k = empty_call (g.D.StreamDecoder.view c.args.self.now.decoder).state (g.D.StreamDecoder.view c.decode_to_pivot-call.new.decoder).state _ _ _ _ _ (rw c.in-InputEmpty.is at c.decode_to_pivot-call.ensures.law) c.text_in-text.ensures.chars in
     let ends = rw c.in-InputEmpty.is at c.decode_to_pivot-call.ensures.ends in
-    on_err _ (WritesPrefixFor-of _ _ _ _ _ c.in_err-encode_text-in-InputEmpty.ensures.err
+    hands_on_for _ _ _ _ _ _ _ c.from_residual.ensures.1 (WritesPrefixFor-of _ _ _ _ _ _ _ c.in_err-encode_text-in-InputEmpty.ensures.err
     (ended_prefix (form_of c.args.writers.now.policy) _ _ _ _ _ _ k (g.E.RawEncoder.coding c.args.self.now.target.encoder) (g.E.RawEncoder.set c.args.self.now.target.encoder) c.args.self.now.target.counts (omega (arith, c.requires.sound.index)) ends.0 (end_none _ ends.1)))
 
 pub encode_text-requires-in-OutputFull-clause-index : goal.encode_text-requires-in-OutputFull-clause-index
@@ -34,7 +34,7 @@ encode_text-requires-in-OutputFull-clause-index g c =
 pub returns-in_err-encode_text-in-OutputFull-clause-err : goal.returns-in_err-encode_text-in-OutputFull-clause-err
 returns-in_err-encode_text-in-OutputFull-clause-err g c =
     let k = full_call (g.D.StreamDecoder.view c.args.self.now.decoder).state (g.D.StreamDecoder.view c.decode_to_pivot-call.new.decoder).state _ _ _ _ _ (rw c.in-OutputFull.is at c.decode_to_pivot-call.ensures.law) c.text_in-text.ensures.chars in
-    on_err _ (WritesPrefixFor-of _ _ _ _ _ c.in_err-encode_text-in-OutputFull.ensures.err
+    hands_on_for _ _ _ _ _ _ _ c.from_residual-in_err-encode_text-in-OutputFull.ensures.1 (WritesPrefixFor-of _ _ _ _ _ _ _ c.in_err-encode_text-in-OutputFull.ensures.err
     (λ r h. (_, full_owed (form_of c.args.writers.now.policy) _ _ _ _ _ _ k (g.E.RawEncoder.coding c.args.self.now.target.encoder) (g.E.RawEncoder.set c.args.self.now.target.encoder) (last_set (g.E.RawEncoder.coding c.args.self.now.target.encoder) (g.E.RawEncoder.set c.args.self.now.target.encoder) (pivot_chars c.text_in-text.result)) c.args.self.now.target.counts (record c.args.self.now.target.counts { read = c.args.self.now.target.counts.read + c.decode_to_pivot-call.result.read; index = c.args.self.now.target.counts.index + length (pivot_chars c.text_in-text.result) }) (omega (arith, c.requires.sound.index)) refl refl refl r h)))
 
 pub encode_text-requires-in-Malformed-clause-index : goal.encode_text-requires-in-Malformed-clause-index
@@ -45,7 +45,7 @@ encode_text-requires-in-Malformed-clause-index g c =
 pub returns-in_err-encode_text-in-Malformed-clause-err : goal.returns-in_err-encode_text-in-Malformed-clause-err
 returns-in_err-encode_text-in-Malformed-clause-err g c =
     let k = malformed_call (g.D.StreamDecoder.view c.args.self.now.decoder).state (g.D.StreamDecoder.view c.decode_to_pivot-call.new.decoder).state _ _ _ _ _ _ _ (rw c.in-Malformed.is at c.decode_to_pivot-call.ensures.law) c.text_in-text.ensures.chars in
-    on_err _ (WritesPrefixFor-of _ _ _ _ _ c.in_err-encode_text-in-Malformed.ensures.err
+    hands_on_for _ _ _ _ _ _ _ c.from_residual-in_err-encode_text-in-Malformed.ensures.1 (WritesPrefixFor-of _ _ _ _ _ _ _ c.in_err-encode_text-in-Malformed.ensures.err
     (malformed_text_prefix _ _ _ _ _ _ _ _ k (form_of c.args.writers.now.policy) (g.E.RawEncoder.coding c.args.self.now.target.encoder) (g.E.RawEncoder.set c.args.self.now.target.encoder) c.args.self.now.target.counts (omega (arith, c.requires.sound.index))))
 
 pub overflow_sub-offset-in-Malformed : goal.overflow_sub-offset-in-Malformed
@@ -66,8 +66,8 @@ log_malformed-requires-clause-index g c =
 pub returns-in_err-log_malformed-in-Malformed-clause-err : goal.returns-in_err-log_malformed-in-Malformed-clause-err
 returns-in_err-log_malformed-in-Malformed-clause-err g c =
     let k = malformed_call (g.D.StreamDecoder.view c.args.self.now.decoder).state (g.D.StreamDecoder.view c.decode_to_pivot-call.new.decoder).state _ _ _ _ _ _ _ (rw c.in-Malformed.is at c.decode_to_pivot-call.ensures.law) c.text_in-text.ensures.chars in
-    on_err _ (WritesPrefixFor-of _ _ _ _ _
-    (WritesItems-join-under _ _ _ _ _ _ _ c.in_ok-encode_text-in-Malformed.ensures.pays (rw (c.encode_text-in-Malformed.ensures.target, c.in_ok-encode_text-in-Malformed.ensures.failures.same.policy) at c.in_err-log_malformed-in-Malformed.ensures.err))
+    hands_on_for _ _ _ _ _ _ _ c.from_residual-in_err-log_malformed-in-Malformed.ensures.1 (WritesPrefixFor-of _ _ _ _ _ _ _
+    (WritesItems-join-under _ _ _ _ _ _ _ _ _ c.in_ok-encode_text-in-Malformed.ensures.pays (rw (c.encode_text-in-Malformed.ensures.target, c.in_ok-encode_text-in-Malformed.ensures.failures.same.policy) at c.in_err-log_malformed-in-Malformed.ensures.err))
     (malformed_first_piece _ _ _ _ _ _ _ _ k (form_of c.args.writers.now.policy) (g.E.RawEncoder.coding c.args.self.now.target.encoder) (g.E.RawEncoder.set c.args.self.now.target.encoder) (g.E.RawEncoder.set c.encode_text-in-Malformed.new.self.encoder) c.args.self.now.target.counts c.encode_text-in-Malformed.new.self.counts _ (omega (arith, c.requires.sound.index)) (omega (arith, c.from.ensures, c.from-in-Malformed.ensures, c.in_ok-encode_text-in-Malformed.ensures.read)) (c.in_ok-encode_text-in-Malformed.ensures.state refl) c.in_ok-encode_text-in-Malformed.ensures.passed))
 
 pub returns-in_ok-encode_text-in-InputEmpty-clause-pays : goal.returns-in_ok-encode_text-in-InputEmpty-clause-pays
@@ -75,7 +75,7 @@ returns-in_ok-encode_text-in-InputEmpty-clause-pays g c =
     let k = empty_call (g.D.StreamDecoder.view c.args.self.now.decoder).state (g.D.StreamDecoder.view c.decode_to_pivot-call.new.decoder).state _ _ _ _ _ (rw c.in-InputEmpty.is at c.decode_to_pivot-call.ensures.law) c.text_in-text.ensures.chars in
     let ends = rw c.in-InputEmpty.is at c.decode_to_pivot-call.ensures.ends in
     let e = c.in_ok-encode_text-in-InputEmpty.ensures in
-    WritesItemsFor-of _ _ _ _ _ _ _ _ _ refl refl e.pays
+    WritesItemsFor-of _ _ _ _ _ _ _ _ _ _ refl refl e.pays
     (ended_owed (form_of c.args.writers.now.policy) _ _ _ _ _ _ k (g.E.RawEncoder.coding c.args.self.now.target.encoder) (g.E.RawEncoder.set c.args.self.now.target.encoder) (g.E.RawEncoder.set c.encode_text.new.self.encoder) c.args.self.now.target.counts c.encode_text.new.self.counts (g.met.E.RawEncoder.laws c.args.self.now.target.encoder) (omega (arith, c.requires.sound.index)) ends.0 (end_none _ ends.1) e.state e.closed e.passed e.read)
 
 pub returns-in_ok-encode_text-in-InputEmpty-clause-sound : goal.returns-in_ok-encode_text-in-InputEmpty-clause-sound
@@ -98,7 +98,7 @@ pub returns-in_ok-encode_text-in-OutputFull-clause-pays : goal.returns-in_ok-enc
 returns-in_ok-encode_text-in-OutputFull-clause-pays g c =
     let k = full_call (g.D.StreamDecoder.view c.args.self.now.decoder).state (g.D.StreamDecoder.view c.decode_to_pivot-call.new.decoder).state _ _ _ _ _ (rw c.in-OutputFull.is at c.decode_to_pivot-call.ensures.law) c.text_in-text.ensures.chars in
     let e = c.in_ok-encode_text-in-OutputFull.ensures in
-    WritesItemsFor-of _ _ _ _ _ _ _ _ _ refl refl e.pays
+    WritesItemsFor-of _ _ _ _ _ _ _ _ _ _ refl refl e.pays
     (full_owed (form_of c.args.writers.now.policy) _ _ _ _ _ _ k (g.E.RawEncoder.coding c.args.self.now.target.encoder) (g.E.RawEncoder.set c.args.self.now.target.encoder) (g.E.RawEncoder.set c.encode_text-in-OutputFull.new.self.encoder) c.args.self.now.target.counts c.encode_text-in-OutputFull.new.self.counts (omega (arith, c.requires.sound.index)) (e.state refl) e.passed e.read)
 
 pub returns-in_ok-encode_text-in-OutputFull-clause-sound : goal.returns-in_ok-encode_text-in-OutputFull-clause-sound
@@ -121,8 +121,8 @@ returns-in_ok-log_malformed-in-Malformed-clause-pays g c =
     let k = malformed_call (g.D.StreamDecoder.view c.args.self.now.decoder).state (g.D.StreamDecoder.view c.decode_to_pivot-call.new.decoder).state _ _ _ _ _ _ _ (rw c.in-Malformed.is at c.decode_to_pivot-call.ensures.law) c.text_in-text.ensures.chars in
     let e = c.in_ok-encode_text-in-Malformed.ensures in
     let f = c.in_ok-log_malformed-in-Malformed.ensures in
-    WritesItemsFor-of _ _ _ _ _ _ _ _ _ refl refl
-    (WritesItems-join _ _ _ _ _ _ _ _ e.pays (rw (c.encode_text-in-Malformed.ensures.target, c.in_ok-encode_text-in-Malformed.ensures.failures.same.policy) at f.pays))
+    WritesItemsFor-of _ _ _ _ _ _ _ _ _ _ refl refl
+    (WritesItems-join _ _ _ _ _ _ _ _ _ e.pays (rw (c.encode_text-in-Malformed.ensures.target, c.in_ok-encode_text-in-Malformed.ensures.failures.same.policy) at f.pays))
     (malformed_owed _ _ _ _ _ _ _ _ k (form_of c.args.writers.now.policy) (g.E.RawEncoder.coding c.args.self.now.target.encoder) (g.E.RawEncoder.set c.args.self.now.target.encoder) (g.E.RawEncoder.set c.encode_text-in-Malformed.new.self.encoder) (g.E.RawEncoder.set c.log_malformed.new.self.encoder) c.args.self.now.target.counts c.encode_text-in-Malformed.new.self.counts c.log_malformed.new.self.counts _ (omega (arith, c.requires.sound.index)) (omega (arith, c.from.ensures, c.from-in-Malformed.ensures, e.read)) (e.state refl) e.passed (rw c.encode_text-in-Malformed.ensures.target at f.state) f.index (f.read ∙ e.read))
 
 pub returns-in_ok-log_malformed-in-Malformed-clause-sound : goal.returns-in_ok-log_malformed-in-Malformed-clause-sound

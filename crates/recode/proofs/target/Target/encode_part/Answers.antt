@@ -1,5 +1,5 @@
 use Rattle.std.proofs.Common.{◌+◌, ◌-◌, ◌∙◌, arith, refl, sym, ap, map, inl, inr, subst, true≢false}
-use Rattle.recode.proofs.TraceLemmas.{writes_bytes, under_bytes, WritesItems-trans, WritesItems-under, WritesItems-to, on_err}
+use Rattle.recode.proofs.TraceLemmas.{writes_bytes, under_bytes, WritesItems-trans, WritesItems-under, WritesItems-to, hands_on}
 use Rattle.recode.proofs.EncoderCallLemmas.{turn_items, less_bytes, less_note}
 use Rattle.recode.specs.Policy.{form_of}
 use Rattle.encoding_mem.specs.Coding.{reference}
@@ -14,25 +14,24 @@ use Rattle.recode.proofs.VerdictLemmas.{end_tells, full_tells, lost_tells, read_
 use Rattle.recode.proofs.target.Target.encode_part.Goals as goal
 
 pub returns-in_err-deliver-clause-err : goal.returns-in_err-deliver-clause-err
-returns-in_err-deliver-clause-err g c = on_err _
-    (under_bytes _ _ _ _ _ _ _ c.in_err-deliver.ensures.err.2 ((encoded_items (form_of c.args.writers.now.policy) _ _ _ _ _ _ _ _ (g.met.E.RawEncoder.laws c.args.self.now.encoder) c.encode_from_pivot-call.ensures.law).items c.args.self.now.counts.index))
+returns-in_err-deliver-clause-err g c = hands_on _ _ _ _ _ _ c.from_residual.ensures.1 (under_bytes _ _ _ _ _ _ _ _ _ c.in_err-deliver.ensures.fault c.in_err-deliver.ensures.err.2 ((encoded_items (form_of c.args.writers.now.policy) _ _ _ _ _ _ _ _ (g.met.E.RawEncoder.laws c.args.self.now.encoder) c.encode_from_pivot-call.ensures.law).items c.args.self.now.counts.index))
 
 pub returns-in_err-log_lost-in-Unmappable-clause-err : goal.returns-in_err-log_lost-in-Unmappable-clause-err
 returns-in_err-log_lost-in-Unmappable-clause-err g c =
     let law = turn_items (form_of c.args.writers.now.policy) _ _ _ _ _ _ _ _ c.args.self.now.counts.index (c.args.self.now.counts.index + c.encode_from_pivot-call.result.characters) (g.met.E.RawEncoder.laws c.args.self.now.encoder) c.encode_from_pivot-call.ensures.law (omega (arith, c.encode_from_pivot-call.ensures.passed)) in
-    on_err _ (WritesItems-under _ _ _ c.args.self.now.counts (record c.args.self.now.counts { index = c.args.self.now.counts.index + c.encode_from_pivot-call.result.characters; calls = c.encode_from_pivot-call.new.calls }) _ _
-    (writes_bytes _ _ _ _ _ _ _ _ c.in_ok-deliver.ensures.ok.0 refl refl (rw c.in-Unmappable.is at law))
+    hands_on _ _ _ _ _ _ c.from_residual-in_err-log_lost-in-Unmappable.ensures.1 (WritesItems-under _ _ _ c.args.self.now.counts (record c.args.self.now.counts { index = c.args.self.now.counts.index + c.encode_from_pivot-call.result.characters; calls = c.encode_from_pivot-call.new.calls }) _ _ _ _
+    (writes_bytes _ _ _ _ _ _ _ _ _ c.in_ok-deliver.ensures.ok.0 refl refl (rw c.in-Unmappable.is at law))
     (c.in_err-log_lost-in-Unmappable.ensures.err _))
 
 pub returns-in-InputEmpty-clause-pays : goal.returns-in-InputEmpty-clause-pays
 returns-in-InputEmpty-clause-pays g c =
     let law = turn_items (form_of c.args.writers.now.policy) _ _ _ _ _ _ _ _ c.args.self.now.counts.index (c.args.self.now.counts.index + c.encode_from_pivot-call.result.characters) (g.met.E.RawEncoder.laws c.args.self.now.encoder) c.encode_from_pivot-call.ensures.law (omega (arith, c.encode_from_pivot-call.ensures.passed)) in
-    writes_bytes _ _ _ _ _ _ _ _ c.in_ok-deliver.ensures.ok.0 refl refl (rw c.in-InputEmpty.is at law)
+    writes_bytes _ _ _ _ _ _ _ _ _ c.in_ok-deliver.ensures.ok.0 refl refl (rw c.in-InputEmpty.is at law)
 
 pub returns-in-OutputFull-clause-pays : goal.returns-in-OutputFull-clause-pays
 returns-in-OutputFull-clause-pays g c =
     let law = turn_items (form_of c.args.writers.now.policy) _ _ _ _ _ _ _ _ c.args.self.now.counts.index (c.args.self.now.counts.index + c.encode_from_pivot-call.result.characters) (g.met.E.RawEncoder.laws c.args.self.now.encoder) c.encode_from_pivot-call.ensures.law (omega (arith, c.encode_from_pivot-call.ensures.passed)) in
-    writes_bytes _ _ _ _ _ _ _ _ c.in_ok-deliver.ensures.ok.0 refl refl (rw c.in-OutputFull.is at law)
+    writes_bytes _ _ _ _ _ _ _ _ _ c.in_ok-deliver.ensures.ok.0 refl refl (rw c.in-OutputFull.is at law)
 
 pub returns-in-OutputFull-clause-more : goal.returns-in-OutputFull-clause-more
 returns-in-OutputFull-clause-more g c same =
@@ -44,9 +43,9 @@ returns-in-OutputFull-clause-more g c same =
 pub returns-in_ok-log_lost-in-Unmappable-clause-pays : goal.returns-in_ok-log_lost-in-Unmappable-clause-pays
 returns-in_ok-log_lost-in-Unmappable-clause-pays g c =
     let law = turn_items (form_of c.args.writers.now.policy) _ _ _ _ _ _ _ _ c.args.self.now.counts.index (c.args.self.now.counts.index + c.encode_from_pivot-call.result.characters) (g.met.E.RawEncoder.laws c.args.self.now.encoder) c.encode_from_pivot-call.ensures.law (omega (arith, c.encode_from_pivot-call.ensures.passed)) in
-    WritesItems-to _ _ _ _ _ _ _
-    (WritesItems-trans _ _ _ c.args.self.now.counts (record c.args.self.now.counts { index = c.args.self.now.counts.index + c.encode_from_pivot-call.result.characters; calls = c.encode_from_pivot-call.new.calls }) c.log_lost.new.self.counts _ _ _
-    (writes_bytes _ _ _ _ _ _ _ _ c.in_ok-deliver.ensures.ok.0 refl refl (rw c.in-Unmappable.is at law))
+    WritesItems-to _ _ _ _ _ _ _ _
+    (WritesItems-trans _ _ _ c.args.self.now.counts (record c.args.self.now.counts { index = c.args.self.now.counts.index + c.encode_from_pivot-call.result.characters; calls = c.encode_from_pivot-call.new.calls }) c.log_lost.new.self.counts _ _ _ _
+    (writes_bytes _ _ _ _ _ _ _ _ _ c.in_ok-deliver.ensures.ok.0 refl refl (rw c.in-Unmappable.is at law))
     (c.in_ok-log_lost-in-Unmappable.ensures.pays _))
     (ap (λ (k : Counts). whole_items (form_of c.args.writers.now.policy) (g.E.RawEncoder.coding c.args.self.now.encoder) c.args.last (g.E.RawEncoder.set c.encode_from_pivot-call.new.encoder) k.index (pivot_chars c.encode_from_pivot-call.result.rest)) (sym c.in_ok-log_lost-in-Unmappable.ensures.counts)
     ∙ ap (λ e. whole_items (form_of c.args.writers.now.policy) (g.E.RawEncoder.coding c.args.self.now.encoder) c.args.last (g.E.RawEncoder.set e) c.log_lost.new.self.counts.index (pivot_chars c.encode_from_pivot-call.result.rest)) (sym c.in_ok-log_lost-in-Unmappable.ensures.encoder))

@@ -5,12 +5,12 @@ use Rattle.recode.specs.PivotText.{pivot_chars}
 use Rattle.recode.specs.VerdictView.{verdict_view}
 use Rattle.recode.proofs.BufferLemmas.{same_on, same_start}
 use Rattle.recode.proofs.VerdictLemmas.{begins_keeps, was_true}
-use Rattle.recode.proofs.TraceLemmas.{WritesItems-nil, WritesItems-trans, WritesItems-under, WritesItems-to, whole_end, on_err}
+use Rattle.recode.proofs.TraceLemmas.{hands_on, WritesItems-nil, WritesItems-trans, WritesItems-under, WritesItems-to, whole_end}
 use Rattle.recode.proofs.target.Target.encode_text.Goals as goal
 
 pub text-init : goal.text-init
 text-init g c = record {
-  pays = WritesItems-nil _ _ _;
+  pays = WritesItems-nil _ _ _ _;
   passed = refl;
   lost = c.requires.lost;
   bad = refl;
@@ -67,7 +67,7 @@ returns-then-turn-clause-verdict g c =
 
 pub text-preserved : goal.text-preserved
 text-preserved g c = record {
-  pays = WritesItems-trans _ _ _ _ _ _ _ _ _ c.text.invariant.pays
+  pays = WritesItems-trans _ _ _ _ _ _ _ _ _ _ c.text.invariant.pays
       (rw (c.text.invariant.target, c.text.invariant.same.policy) at c.in_ok-turn.ensures.pays);
   passed = c.in_ok-turn.ensures.passed ∙ c.text.invariant.passed;
   lost = c.in_ok-turn.ensures.lost;
@@ -92,14 +92,14 @@ text-preserved g c = record {
 }
 
 pub returns-in_err-turn-clause-err : goal.returns-in_err-turn-clause-err
-returns-in_err-turn-clause-err g c = on_err _ (WritesItems-under _ _ _ _ _ _ _ c.text.invariant.pays
+returns-in_err-turn-clause-err g c = hands_on _ _ _ _ _ _ c.from_residual.ensures.1 (WritesItems-under _ _ _ _ _ _ _ _ _ c.text.invariant.pays
     (rw (c.text.invariant.target, c.text.invariant.same.policy) at c.in_err-turn.ensures.err))
 
 pub returns-then-turn-clause-pays : goal.returns-then-turn-clause-pays
 returns-then-turn-clause-pays g c =
     let done = c.in_ok-turn.ensures.done c.if-turn.true in
-    WritesItems-to _ _ _ _ _ _ _
-    (WritesItems-trans _ _ _ _ _ _ _ _ _ c.text.invariant.pays (rw (c.text.invariant.target, c.text.invariant.same.policy) at c.in_ok-turn.ensures.pays))
+    WritesItems-to _ _ _ _ _ _ _ _
+    (WritesItems-trans _ _ _ _ _ _ _ _ _ _ c.text.invariant.pays (rw (c.text.invariant.target, c.text.invariant.same.policy) at c.in_ok-turn.ensures.pays))
     (whole_end (form_of c.args.writers.now.policy) _ _ _ _ _ (g.met.E.RawEncoder.laws c.args.self.now.encoder) done.0 done.1)
 
 pub returns-then-turn-clause-calls : goal.returns-then-turn-clause-calls

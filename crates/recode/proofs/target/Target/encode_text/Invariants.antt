@@ -13,7 +13,7 @@ use Rattle.recode.proofs.target.Target.encode_text.Given as goal
 
 abbrev pub invariant-text : goal.invariant-text
 invariant-text g l = record {
-  pays : WritesItems (written_by g.W.Write.contents g.L.Write.contents l.initial.writers) (written_by g.W.Write.contents g.L.Write.contents l.writers) l.initial.self.counts l.self.counts
+  pays : WritesItems (written_by g.W.Write.contents g.L.Write.contents l.initial.writers) (written_by g.W.Write.contents g.L.Write.contents l.writers) l.initial.self.counts l.self.counts l.initial.writers.policy
       (whole_items (form_of l.initial.writers.policy) (g.E.RawEncoder.coding l.initial.self.encoder) l.last (g.E.RawEncoder.set l.initial.self.encoder) l.initial.self.counts.index (pivot_chars l.initial.rest))
       (whole_items (form_of l.initial.writers.policy) (g.E.RawEncoder.coding l.initial.self.encoder) l.last (g.E.RawEncoder.set l.self.encoder) l.self.counts.index (pivot_chars l.rest));
   passed : l.self.counts.index + length (pivot_chars l.rest) ≡ l.initial.self.counts.index + length (pivot_chars l.initial.rest);

@@ -1,24 +1,24 @@
 use Rattle.std.proofs.Common.{◌+◌, arith, refl, ap, length, false, [], ◌∷◌}
 use Rattle.recode.specs.Policy.{form_of}
-use Rattle.encoding_mem.specs.Items.{open_items, whole_items}
+use Rattle.encoding_mem.specs.Items.{MalformedAt, open_items, whole_items}
 use lib.Utf8.{encode}
 use Rattle.std.specs.Str.{chars}
-use Rattle.recode.proofs.TraceLemmas.{under_line, writes_malformed, WritesItems-trans, WritesItems-under, WritesItems-of, WritesPrefix-of, on_err}
+use Rattle.recode.proofs.TraceLemmas.{under_line, writes_malformed, WritesItems-trans, WritesItems-under, WritesItems-of, WritesPrefix-of, hands_on}
 use Rattle.recode.proofs.DecoderCallLemmas.{replacement_text, open_replacement}
 use Rattle.recode.specs.VerdictView.{verdict_view}
 use Rattle.recode.proofs.VerdictLemmas.{lost_tells}
 use Rattle.recode.proofs.target.Target.log_malformed.Goals as goal
 
 pub returns-in_err-log_line-clause-err : goal.returns-in_err-log_line-clause-err
-returns-in_err-log_line-clause-err g c = on_err _ (under_line _ _ _ _ _ _ _ refl c.in_err-log_line.ensures.err.1)
+returns-in_err-log_line-clause-err g c = hands_on _ _ _ _ _ _ c.from_residual.ensures.1 (under_line _ _ _ _ _ _ _ (MalformedAt c.args.offset c.args.size) _ c.in_err-log_line.ensures.fault refl c.in_err-log_line.ensures.err.1)
 
 pub encode_text-requires-clause-index : goal.encode_text-requires-clause-index
 encode_text-requires-clause-index g c = omega (arith, ap length replacement_text, c.requires.index)
 
 pub returns-clause-pays : goal.returns-clause-pays
-returns-clause-pays g c = WritesItems-trans _ _ _ _ _ _ _ _ _
-    (writes_malformed _ _ _ _ (record c.args.self.now.counts { bad = c.args.self.now.counts.bad + 1 }) _ _ _ c.in_ok-log_line.ensures.ok.0 refl refl)
-    (WritesItems-of _ _ _ _ _ _ _ (open_replacement (form_of c.args.writers.now.policy) (g.E.RawEncoder.coding c.args.self.now.encoder) (g.E.RawEncoder.set c.args.self.now.encoder) c.args.self.now.counts.index) c.in_ok-encode_text.ensures.pays)
+returns-clause-pays g c = WritesItems-trans _ _ _ _ _ _ _ _ _ _
+    (writes_malformed _ _ _ _ (record c.args.self.now.counts { bad = c.args.self.now.counts.bad + 1 }) _ _ _ _ c.in_ok-log_line.ensures.ok.0 refl refl)
+    (WritesItems-of _ _ _ _ _ _ _ _ (open_replacement (form_of c.args.writers.now.policy) (g.E.RawEncoder.coding c.args.self.now.encoder) (g.E.RawEncoder.set c.args.self.now.encoder) c.args.self.now.counts.index) c.in_ok-encode_text.ensures.pays)
 
 pub returns-clause-index : goal.returns-clause-index
 returns-clause-index g c = omega (arith, ap length replacement_text, c.in_ok-encode_text.ensures.passed)
@@ -34,9 +34,9 @@ returns-in_err-encode_text-clause-err g c =
     let e = g.E.RawEncoder.coding c.args.self.now.encoder in
     let s = g.E.RawEncoder.set c.args.self.now.encoder in
     let i = c.args.self.now.counts.index in
-    on_err _ (WritesItems-under _ _ _ c.args.self.now.counts (record c.args.self.now.counts { bad = c.args.self.now.counts.bad + 1 }) _ (open_items (form_of c.args.writers.now.policy) e s i (0xFFFD ∷ []))
-    (writes_malformed _ _ _ _ _ _ _ _ c.in_ok-log_line.ensures.ok.0 refl refl)
-    (WritesPrefix-of _ _ (whole_items (form_of c.args.writers.now.policy) e false s i (chars (239 ∷ 191 ∷ 189 ∷ []))) _ (open_replacement (form_of c.args.writers.now.policy) e s i) c.in_err-encode_text.ensures.err))
+    hands_on _ _ _ _ _ _ c.from_residual-in_err-encode_text.ensures.1 (WritesItems-under _ _ _ c.args.self.now.counts (record c.args.self.now.counts { bad = c.args.self.now.counts.bad + 1 }) _ _ _ (open_items (form_of c.args.writers.now.policy) e s i (0xFFFD ∷ []))
+    (writes_malformed _ _ _ _ _ _ _ _ _ c.in_ok-log_line.ensures.ok.0 refl refl)
+    (WritesPrefix-of _ _ _ _ (whole_items (form_of c.args.writers.now.policy) e false s i (chars (239 ∷ 191 ∷ 189 ∷ []))) _ (open_replacement (form_of c.args.writers.now.policy) e s i) c.in_err-encode_text.ensures.err))
 
 pub encode_text-requires-clause-text : goal.encode_text-requires-clause-text
 unfolding encode
