@@ -8,6 +8,7 @@ pub mod DecoderCallLemmas
 pub mod WorkLemmas
 pub mod BufferLemmas
 pub mod StopLemmas
+pub mod LossLemmas
 pub mod StepLemmas
 pub mod RunLemmas
 pub mod InputLemmas

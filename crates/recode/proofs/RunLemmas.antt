@@ -103,7 +103,7 @@ completes before after j v u p valid b f t =
       output = wrote.output;
       logged = wrote.lined;
       report = report;
-      unstopped = λ stops. report.lost ∙ sym (lost_lines-trace (form_of j.policy) (target_of j) Ascii 0 0 (input_pieces j x)) ∙ spared stops;
+      unstopped = λ stops. sym (lost_lines-trace (form_of j.policy) (target_of j) Ascii 0 0 (input_pieces j x)) ∙ spared stops;
     }
 
 prefix_outputs : (t u : List TaggedByte) → IsPrefix t u → IsPrefix (outputs t) (outputs u)

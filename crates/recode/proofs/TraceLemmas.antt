@@ -463,44 +463,62 @@ bytes_of-trace ref e s offset i (malformed n ∷ ps) =
 pub outputs-trace : (ref : Reference) (e : Coding) (s : EscapeState) (offset i : ℕ) (ps : List Piece) → outputs (tagged (trace_from ref e s offset i ps)) ≡ whole_from ref e s (text ps)
 outputs-trace ref e s offset i ps = outputs-tagged (trace_from ref e s offset i ps) ∙ bytes_of-trace ref e s offset i ps
 
--- The log.
-lines-form : (ref : Reference) (i : ℕ) (f : Form) → lines (tagged (form_items ref i f)) ≡ flat_map line_bytes (form_lines i f)
-lines-form ref i (Mapped bs) = lines-bytes bs
-lines-form ref i (Unmapped c) =
-    lines-append (map Line (line_bytes (LogLine.Lost i c))) (tagged (map Byte (reference ref c)))
-    ∙ ap (λ x. x ++ lines (tagged (map Byte (reference ref c)))) (lines-lines (line_bytes (LogLine.Lost i c)))
-    ∙ ap (λ x. line_bytes (LogLine.Lost i c) ++ x) (lines-bytes (reference ref c))
+-- The log: the lines that items have.
+abbrev pub noted : List Item → List LogLine
+noted [] = []
+noted (Byte b ∷ s) = noted s
+noted (MalformedAt offset size ∷ s) = Bad offset size ∷ noted s
+noted (LostAt i c ∷ s) = Lost i c ∷ noted s
 
-lines-both : (s t : List Item) → lines (tagged (s ++ t)) ≡ lines (tagged s) ++ lines (tagged t)
-lines-both s t = ap lines (tagged-append s t) ∙ lines-append (tagged s) (tagged t)
+lines-line : (line : List ℕ) (s : List Item) → lines (map Line line ++ tagged s) ≡ line ++ lines (tagged s)
+lines-line line s = lines-append (map Line line) (tagged s) ∙ ap (λ x. x ++ lines (tagged s)) (lines-lines line)
 
-lines-open : (ref : Reference) (e : Coding) (s : EscapeState) (i : ℕ) (t : List ℕ) → lines (tagged (open_items ref e s i t)) ≡ flat_map line_bytes (lost_in e i t)
-lines-open ref e s i [] = refl
-lines-open ref e s i (c ∷ t) =
+pub lines-noted : (s : List Item) → lines (tagged s) ≡ flat_map line_bytes (noted s)
+lines-noted [] = refl
+lines-noted (Byte b ∷ s) = lines-noted s
+lines-noted (MalformedAt offset size ∷ s) = lines-line (line_bytes (Bad offset size)) s ∙ ap (λ x. line_bytes (Bad offset size) ++ x) (lines-noted s)
+lines-noted (LostAt i c ∷ s) = lines-line (line_bytes (Lost i c)) s ∙ ap (λ x. line_bytes (Lost i c) ++ x) (lines-noted s)
+
+noted-append : (s t : List Item) → noted (s ++ t) ≡ noted s ++ noted t
+noted-append [] t = refl
+noted-append (Byte b ∷ s) t = noted-append s t
+noted-append (MalformedAt offset size ∷ s) t = ap (λ x. Bad offset size ∷ x) (noted-append s t)
+noted-append (LostAt i c ∷ s) t = ap (λ x. Lost i c ∷ x) (noted-append s t)
+
+noted-bytes : (bs : List ℕ) → noted (map Byte bs) ≡ []
+noted-bytes [] = refl
+noted-bytes (b ∷ bs) = noted-bytes bs
+
+noted-form : (ref : Reference) (i : ℕ) (f : Form) → noted (form_items ref i f) ≡ form_lines i f
+noted-form ref i (Mapped bs) = noted-bytes bs
+noted-form ref i (Unmapped c) = ap (λ x. Lost i c ∷ x) (noted-bytes (reference ref c))
+
+noted-open : (ref : Reference) (e : Coding) (s : EscapeState) (i : ℕ) (t : List ℕ) → noted (open_items ref e s i t) ≡ lost_in e i t
+noted-open ref e s i [] = refl
+noted-open ref e s i (c ∷ t) =
     let rest : List Item = open_items ref e (e.set s c) (i + 1) t in
-    lines-both (map Byte (e.escape s (e.set s c))) (form_items ref i (e.form c) ++ rest)
-    ∙ ap (λ x. x ++ lines (tagged (form_items ref i (e.form c) ++ rest))) (lines-bytes (e.escape s (e.set s c)))
-    ∙ lines-both (form_items ref i (e.form c)) rest
-    ∙ ap (λ x. x ++ lines (tagged rest)) (lines-form ref i (e.form c))
-    ∙ ap (λ x. flat_map line_bytes (form_lines i (e.form c)) ++ x) (lines-open ref e (e.set s c) (i + 1) t)
-    ∙ sym (flat_map-append line_bytes (form_lines i (e.form c)) (lost_in e (i + 1) t))
+    noted-append (map Byte (e.escape s (e.set s c))) (form_items ref i (e.form c) ++ rest)
+    ∙ ap (λ x. x ++ noted (form_items ref i (e.form c) ++ rest)) (noted-bytes (e.escape s (e.set s c)))
+    ∙ noted-append (form_items ref i (e.form c)) rest
+    ∙ ap (λ x. x ++ noted rest) (noted-form ref i (e.form c))
+    ∙ ap (λ x. form_lines i (e.form c) ++ x) (noted-open ref e (e.set s c) (i + 1) t)
+
+pub noted-trace : (ref : Reference) (e : Coding) (s : EscapeState) (offset i : ℕ) (ps : List Piece) → noted (trace_from ref e s offset i ps) ≡ log_lines e offset i ps
+noted-trace ref e s offset i [] = noted-bytes (e.escape s Ascii)
+noted-trace ref e s offset i (well_formed n cs ∷ ps) =
+    let rest : List Item = trace_from ref e (last_set e s cs) (offset + n) (i + length cs) ps in
+    noted-append (open_items ref e s i cs) rest
+    ∙ ap (λ x. x ++ noted rest) (noted-open ref e s i cs)
+    ∙ ap (λ x. lost_in e i cs ++ x) (noted-trace ref e (last_set e s cs) (offset + n) (i + length cs) ps)
+noted-trace ref e s offset i (malformed n ∷ ps) =
+    let rest : List Item = trace_from ref e (e.set s 0xFFFD) (offset + n) (i + 1) ps in
+    ap (λ x. Bad offset n ∷ x)
+    (noted-append (open_items ref e s i (0xFFFD ∷ [])) rest
+    ∙ ap (λ x. x ++ noted rest) (noted-open ref e s i (0xFFFD ∷ []))
+    ∙ ap (λ x. lost_in e i (0xFFFD ∷ []) ++ x) (noted-trace ref e (e.set s 0xFFFD) (offset + n) (i + 1) ps))
 
 pub lines-trace : (ref : Reference) (e : Coding) (s : EscapeState) (offset i : ℕ) (ps : List Piece) → lines (tagged (trace_from ref e s offset i ps)) ≡ flat_map line_bytes (log_lines e offset i ps)
-lines-trace ref e s offset i [] = lines-bytes (e.escape s Ascii)
-lines-trace ref e s offset i (well_formed n cs ∷ ps) =
-    lines-both (open_items ref e s i cs) (trace_from ref e (last_set e s cs) (offset + n) (i + length cs) ps)
-    ∙ ap (λ x. x ++ lines (tagged (trace_from ref e (last_set e s cs) (offset + n) (i + length cs) ps))) (lines-open ref e s i cs)
-    ∙ ap (λ x. flat_map line_bytes (lost_in e i cs) ++ x) (lines-trace ref e (last_set e s cs) (offset + n) (i + length cs) ps)
-    ∙ sym (flat_map-append line_bytes (lost_in e i cs) (log_lines e (offset + n) (i + length cs) ps))
-lines-trace ref e s offset i (malformed n ∷ ps) =
-    let rest : List Item = trace_from ref e (e.set s 0xFFFD) (offset + n) (i + 1) ps in
-    lines-append (map Line (line_bytes (LogLine.Bad offset n))) (tagged (open_items ref e s i (0xFFFD ∷ []) ++ rest))
-    ∙ ap (λ x. x ++ lines (tagged (open_items ref e s i (0xFFFD ∷ []) ++ rest))) (lines-lines (line_bytes (LogLine.Bad offset n)))
-    ∙ ap (λ x. line_bytes (LogLine.Bad offset n) ++ x)
-    (lines-both (open_items ref e s i (0xFFFD ∷ [])) rest
-    ∙ ap (λ x. x ++ lines (tagged rest)) (lines-open ref e s i (0xFFFD ∷ []))
-    ∙ ap (λ x. flat_map line_bytes (lost_in e i (0xFFFD ∷ [])) ++ x) (lines-trace ref e (e.set s 0xFFFD) (offset + n) (i + 1) ps)
-    ∙ sym (flat_map-append line_bytes (lost_in e i (0xFFFD ∷ [])) (log_lines e (offset + n) (i + 1) ps)))
+lines-trace ref e s offset i ps = lines-noted (trace_from ref e s offset i ps) ∙ ap (flat_map line_bytes) (noted-trace ref e s offset i ps)
 
 -- The numbers of its lines.
 bad_lines-form : (ref : Reference) (i : ℕ) (f : Form) → bad_lines (form_items ref i f) ≡ 0

@@ -2,11 +2,11 @@
 use Rattle.std.proofs.Common.{◌≡◌, ℕ, ◌<◌, ◌≤◌, ◌↔◌, ◌⊎◌, inl, inr, Bool, true, false, IsTrue, IsOk, List, [], ◌∷◌, ap, length, Some, Result, Ok, Err, refl, sym, ◌∙◌, arith}
 use Rattle.std.proofs.lemmas.Bool.{false≢true}
 use Rattle.encoding_front.specs.declared.encoding.Encoding.{Encoding}
-use Rattle.recode.specs.Job.{trace}
+use Rattle.recode.specs.Job.{RunsThrough, trace}
 use Rattle.recode.specs.Failures.{Failures}
 use Rattle.recode.specs.Streams.{Streams, Written, known}
 use Rattle.recode.specs.TaggedByte.{tagged}
-use Rattle.recode.specs.Runs.{AgreeButForCalls, IsStopped, RunReturns, RunsThrough, WroteTheSame}
+use Rattle.recode.specs.Runs.{AgreeButForCalls, IsStopped, RunReturns, WroteTheSame}
 use Rattle.recode.specs.Session.{IsReport, IsConverted, Completes}
 use Rattle.recode.specs.declared.job.Fault.{Fault}
 use Rattle.recode.specs.declared.job.Fault.TheVariants.{Read, Write, Log, TooLong, Unmappable}
@@ -54,20 +54,20 @@ same_bytes j x w w' v' l l' m' p q a b = (a.output ∙ sym b.output, a.logged �
 
 -- A run in which no call failed.
 module _ (j : Job) (s s' : Streams) (n : Failures) where
-  pub well_or_ended : (answer : Result Report Fault) → RunReturns s s' n n j answer → IsOk answer ⊎ ((answer ≡ Err TooLong) ⊎ IsStopped answer)
+  pub well_or_ended : (answer : Result Report Fault) → RunReturns s s' n n j answer → IsOk answer ⊎ ((answer ≡ Err TooLong) ⊎ IsStopped j.policy answer)
   well_or_ended (Ok p) a = inl refl
   well_or_ended (Err Read) a = absurd (omega (arith, a.counts.reader))
   well_or_ended (Err Write) a = absurd (omega (arith, a.counts.writer))
   well_or_ended (Err Log) a = absurd (omega (arith, a.counts.log))
   well_or_ended (Err TooLong) a = inr (inl refl)
-  well_or_ended (Err (Unmappable i c)) a = inr (inr tt)
+  well_or_ended (Err (Unmappable i c)) a = inr (inr (a.fails.stopped [] (λ last. refl)).policy)
 
 -- and whose reader tells its bytes
 module _ (j : Job) (x : List ℕ) (s s' : Streams) (n : Failures) where
   through_where_well : (answer : Result Report Fault) → s.input ≡ Some x → RunReturns s s' n n j answer → IsOk answer → (length x ≤ j.limit) × RunsThrough j x
   through_where_well (Ok p) is a h =
       let k = known_completes x s s' j p is a.completes in
-      (k.within, λ stops. sym k.report.lost ∙ k.unstopped stops)
+      (k.within, k.unstopped)
   through_where_well (Err f) is a h = absurd (false≢true h)
 
   too_long_where_told : (answer : Result Report Fault) → s.input ≡ Some x → RunReturns s s' n n j answer → answer ≡ Err TooLong → j.limit < length x
@@ -79,7 +79,7 @@ module _ (j : Job) (x : List ℕ) (s s' : Streams) (n : Failures) where
   too_long_where_told (Err (Unmappable i c)) is a h = absurd (cc)
 
   -- where the policy stopped it a character was lost
-  lost_where_stopped : (answer : Result Report Fault) → s.input ≡ Some x → RunReturns s s' n n j answer → IsStopped answer → ¬ (RunsThrough j x)
+  lost_where_stopped : (answer : Result Report Fault) → s.input ≡ Some x → RunReturns s s' n n j answer → IsStopped j.policy answer → ¬ (RunsThrough j x)
   lost_where_stopped (Ok p) is a h through = absurd h
   lost_where_stopped (Err Read) is a h through = absurd h
   lost_where_stopped (Err Write) is a h through = absurd h

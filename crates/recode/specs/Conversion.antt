@@ -2,7 +2,7 @@
 use Rattle.std.specs.Prelude.{◌≡◌, ◌≢◌, ℕ, ◌+◌, ◌<◌, ◌≤◌, ◌⊎◌, List, [], ◌++◌, length, take, Option, Bool, true, codes}
 use Rattle.std.specs.Io.KnownBytes.{Appends, Consumes, IsAtEnd}
 use Rattle.recode_log.specs.Line.{row_bytes}
-use Rattle.recode.specs.Job.{trace, output_of, log_of, Faithful}
+use Rattle.recode.specs.Job.{trace, output_of, log_of, Faithful, RunsThrough}
 use Rattle.recode.specs.Failures.{Failures}
 use Rattle.recode.specs.Streams.{Streams}
 use Rattle.recode.specs.TaggedByte.{TaggedByte, Wrote, IsPrefix, tagged, outputs, lines}
@@ -11,13 +11,14 @@ use Rattle.recode.specs.declared.job.Fault.{Fault}
 use Rattle.recode.specs.declared.job.Fault.TheVariants.{Read, Write, Log, TooLong, Unmappable}
 use Rattle.recode.specs.declared.job.Job.{Job}
 
--- The input was read whole and is within the limit, output and log are whole, and the status tells whether anything was
--- lost.
+-- The input was read whole and is within the limit, the policy did not stop, output and log are whole, and the status
+-- tells whether anything was lost.
 pub record Converts (before after : Streams) (j : Job) (status : ℕ) : Type 0 where
   pub input : List ℕ
   pub consumed : Consumes before.input after.input input
   pub end : IsAtEnd after.input
   pub within : length input ≤ j.limit
+  pub unstopped : RunsThrough j input
   pub wrote : Wrote before.written after.written (tagged (trace j input))
   pub output : Appends before.written.output after.written.output (output_of j input)
   pub logged : Appends before.written.log after.written.log (log_of j input)

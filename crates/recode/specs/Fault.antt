@@ -15,7 +15,7 @@ abbrev pub of_log : {T : Type 0} → Result T Fault → ℕ
 of_log (Err Log) = 1
 of_log _ = 0
 
--- a fault that is not one of the two writers'
+-- a failed read, or an input that is too long
 abbrev pub of_other : {T : Type 0} → Result T Fault → ℕ
 of_other (Err Read) = 1
 of_other (Err TooLong) = 1

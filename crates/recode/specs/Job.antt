@@ -1,7 +1,7 @@
 -- What a job makes of a whole input.
 use Rattle.std.specs.Prelude.{◌≡◌, ℕ, ◌+◌, ◌^◌, ◌≤◌, List, [], ◌∷◌, ◌++◌, length}
 use Rattle.encoding_mem.specs.Piece.{Piece, well_formed, malformed, text, AreWellFormed}
-use Rattle.encoding_mem.specs.Coding.{Coding}
+use Rattle.encoding_mem.specs.Coding.{Coding, lost_count}
 use Rattle.encoding_mem.specs.Items.{Item, trace_from}
 use Rattle.encoding_mem.specs.declared.form.Form.{Form}
 use Rattle.encoding_mem.specs.declared.form.Form.TheVariants.{Mapped, Unmapped}
@@ -15,6 +15,7 @@ use Rattle.recode_log.specs.declared.line.LogLine.TheVariants.{Bad, Lost}
 use Rattle.recode.specs.Policy.{form_of, written_under}
 use Rattle.recode.specs.TaggedByte.{lines, outputs, tagged}
 use Rattle.recode.specs.declared.job.Job.{Job}
+use Rattle.recode.specs.declared.job.Policy.{Policy}
 
 -- the indexes of both encodings are there, as they were accepted; the limit is that of the log's offsets
 pub record IsValidJob (j : Job) : Type 0 where
@@ -50,6 +51,10 @@ whole_trace j x = trace_from (form_of j.policy) (target_of j) Ascii 0 0 (input_p
 abbrev pub trace : Job → List ℕ → List Item
 trace j x = written_under j.policy (whole_trace j x)
 
+-- the policy does not stop a run on this input: it asks for that at no character, or each has its bytes
+abbrev pub RunsThrough : Job → List ℕ → Type 0
+RunsThrough j x = j.policy ≡ Policy.Stop → lost_count (target_of j) (input_text j x) ≡ 0
+
 abbrev pub output_of : Job → List ℕ → List ℕ
 output_of j x = outputs (tagged (trace j x))
 
@@ -71,6 +76,12 @@ abbrev pub log_lines : Coding → (offset i : ℕ) → List Piece → List LogLi
 log_lines e offset i [] = []
 log_lines e offset i (well_formed n cs ∷ ps) = lost_in e i cs ++ log_lines e (offset + n) (i + length cs) ps
 log_lines e offset i (malformed n ∷ ps) = Bad offset n ∷ (lost_in e i (0xFFFD ∷ []) ++ log_lines e (offset + n) (i + 1) ps)
+
+-- up to the line of the first lost character, with it
+abbrev pub up_to_lost : List LogLine → List LogLine
+up_to_lost [] = []
+up_to_lost (Bad offset size ∷ t) = Bad offset size ∷ up_to_lost t
+up_to_lost (Lost index scalar ∷ t) = Lost index scalar ∷ []
 
 -- Nothing was lost: no piece of the input is malformed, and the output, decoded without mark handling, has no malformed
 -- sequence and is the input's text.

@@ -1,8 +1,6 @@
 -- What two runs have in common, and what a run returns.
 use Rattle.std.specs.Prelude.{◌≡◌, ℕ, List, [], Some, Result, Ok, Err, IfOk, IfErr}
-use Rattle.encoding_mem.specs.Coding.{lost_count}
 use Rattle.recode.specs.Failures.{Failures, CountsFault}
-use Rattle.recode.specs.Job.{input_text, target_of}
 use Rattle.recode.specs.Streams.{Streams, Written}
 use Rattle.recode.specs.TaggedByte.{TaggedByte, Wrote}
 use Rattle.recode.specs.Session.{Completes, Fails}
@@ -27,18 +25,14 @@ pub record IsWholeOutput (before after : Written) (bytes : List ℕ) : Type 0 wh
   pub begun : before.output ≡ Some []
   pub all : after.output ≡ Some bytes
 
--- the policy stops no run on this input
-abbrev pub RunsThrough : Job → List ℕ → Type 0
-RunsThrough j x = j.policy ≡ Policy.Stop → lost_count (target_of j) (input_text j x) ≡ 0
-
--- the policy stopped it
-abbrev pub IsStopped : Result Report Fault → Type 0
-IsStopped (Ok p) = ⊥
-IsStopped (Err Read) = ⊥
-IsStopped (Err Write) = ⊥
-IsStopped (Err Log) = ⊥
-IsStopped (Err TooLong) = ⊥
-IsStopped (Err (Unmappable index scalar)) = Unit {0}
+-- the policy is one that stops, and stopped the run
+abbrev pub IsStopped : Policy → Result Report Fault → Type 0
+IsStopped p (Ok report) = ⊥
+IsStopped p (Err Read) = ⊥
+IsStopped p (Err Write) = ⊥
+IsStopped p (Err Log) = ⊥
+IsStopped p (Err TooLong) = ⊥
+IsStopped p (Err (Unmappable index scalar)) = p ≡ Policy.Stop
 
 -- what `run` ensures of its result
 pub record RunReturns (before after : Streams) (failures failures' : Failures) (j : Job) (answer : Result Report Fault) : Type 0 where

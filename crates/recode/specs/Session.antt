@@ -4,7 +4,7 @@ use Rattle.std.specs.Io.KnownBytes.{Appends, Consumes, IsAtEnd}
 use Rattle.encoding_mem.specs.Piece.{Piece, malformed_count}
 use Rattle.encoding_mem.specs.Coding.{lost_count}
 use Rattle.encoding_mem.specs.declared.form.EscapeState.TheVariants.{Ascii}
-use Rattle.recode.specs.Job.{trace, whole_trace, target_of, output_of, log_of, source_in, input_pieces, input_text, Faithful}
+use Rattle.recode.specs.Job.{trace, whole_trace, target_of, output_of, log_of, source_in, input_pieces, input_text, Faithful, RunsThrough}
 use Rattle.recode.specs.Latency.{WroteDecided}
 use Rattle.recode.specs.State.{State, WillBeFaithful, to_write}
 use Rattle.recode.specs.Streams.{Streams, Written}
@@ -14,7 +14,6 @@ use Rattle.recode.specs.WrittenItems.{IsStop}
 use Rattle.recode.specs.declared.job.Fault.{Fault}
 use Rattle.recode.specs.declared.job.Fault.TheVariants.{Read, TooLong}
 use Rattle.recode.specs.declared.job.Job.{Job}
-use Rattle.recode.specs.declared.job.Policy.{Policy}
 use Rattle.recode.specs.declared.job.Progress.{Progress}
 use Rattle.recode.specs.declared.job.Report.{Report}
 use Rattle.recode.specs.declared.session.Phase.{Phase}
@@ -88,7 +87,7 @@ pub record Completes (before after : Streams) (j : Job) (p : Report) : Type 0 wh
   pub output : Appends before.written.output after.written.output (output_of j input)
   pub logged : Appends before.written.log after.written.log (log_of j input)
   pub report : IsReport j input p
-  pub unstopped : j.policy ≡ Policy.Stop → p.lost ≡ 0
+  pub unstopped : RunsThrough j input
 
 -- A run that a fault ended: what was written is a prefix of what any continuation of the bytes read gives, none where
 -- the end was read, output and log in their one order; where the policy stopped it, it is all that any continuation
@@ -119,4 +118,4 @@ pub record IsConverted (before after : Written) (j : Job) (x : List ℕ) (p : Re
   pub output : Appends before.output after.output (output_of j x)
   pub logged : Appends before.log after.log (log_of j x)
   pub report : IsReport j x p
-  pub unstopped : j.policy ≡ Policy.Stop → p.lost ≡ 0
+  pub unstopped : RunsThrough j x

@@ -69,7 +69,8 @@ pub record HasRun (before after : Streams) (limit : ℕ) (s s' : State) : Type 0
   pub verdict : (r : List ℕ) → WillBeFaithful s (chunk ++ r) ↔ WillBeFaithful s' r
   pub calls : (r : List ℕ) → TakesCalls (3 * length chunk) s.counts s'.counts (to_write s (chunk ++ r)) (to_write s' r)
 
--- The end was read, and all the rest of the trace was written: under a policy that stops, none of it a lost character. It may stand for some steps and the one that ended.
+-- The end was read, and all the rest of the trace was written: under a policy that stops, none of it a lost character.
+-- It may stand for some steps and the one that ended.
 pub record Finishes (before after : Streams) (limit : ℕ) (s s' : State) : Type 0 where
   pub chunk : List ℕ
   pub consumed : Consumes before.input after.input chunk

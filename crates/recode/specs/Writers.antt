@@ -23,7 +23,7 @@ pub record MayFail {W L : Type 0} (writers : Writers W L) : Type 0 where
   pub output : failures_of writers.output.now < 2 ^ 64 - 1
   pub log : failures_of writers.log.now < 2 ^ 64 - 1
 
--- They are the two that they were, whatever was written to them, and references are written as before.
+-- They are the two that they were, whatever was written to them, and the policy stays.
 pub record AreTheSame {W L : Type 0} (before after : Writers W L) : Type 0 where
   pub output : after.output.ghost_name ≡ before.output.ghost_name
   pub log : after.log.ghost_name ≡ before.log.ghost_name

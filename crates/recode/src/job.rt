@@ -32,7 +32,8 @@ pub enum Policy {
     Decimal,
     /// Its reference is written in hexadecimal: `&#x`, the digits of its number in upper case, `;`.
     Hexadecimal,
-    /// The run ends at the first, behind its line (`Fault::Unmappable`): nothing is written for it.
+    /// The run ends at the first one, with `Fault::Unmappable`: its line is the last that is
+    /// written. Neither a reference nor anything behind it is.
     Stop,
 }
 

@@ -1,7 +1,7 @@
 //! Laws of what a run writes, of what its contract tells and of how soon input is converted. The
 //! functions do nothing: each contract is a law.
 
-ghost use Rattle.std.specs.Prelude.{◌≡◌, ◌↔◌, ◌<◌, ◌≤◌, ◌+◌, ◌*◌, ◌++◌, ◌∷◌, ℕ, ◌⊎◌, Bool, Err, IsFalse, IsOk, IsTrue, List, Result, Some, [], encode_utf8_all, length, map};
+ghost use Rattle.std.specs.Prelude.{◌≡◌, ◌↔◌, ◌<◌, ◌≤◌, ◌+◌, ◌*◌, ◌++◌, ◌∷◌, ℕ, ◌⊎◌, Bool, Err, IsFalse, IsOk, IsTrue, List, Result, Some, [], encode_utf8_all, length, map, take};
 ghost use Rattle.std.specs.Io.KnownBytes.{Appends};
 ghost use Rattle.std.specs.List.{concat, flat_map};
 ghost use Rattle.std.specs.Str.{IsUtf8, chars};
@@ -19,13 +19,15 @@ ghost use Rattle.encoding_front.specs.Marks.{marked_pieces, marked_text};
 ghost use Rattle.encoding_front.specs.declared.mark.Mark.{Mark};
 ghost use Rattle.recode.specs.Failures.{Failures};
 ghost use Rattle.recode_log.specs.Line.{line_bytes};
-ghost use Rattle.recode.specs.Job.{Faithful, IsValidJob, input_pieces, input_text, log_lines};
-ghost use Rattle.recode.specs.Job.{log_of, output_of, output_pieces, target_of, trace};
+ghost use Rattle.recode_log.specs.declared.line.LogLine.TheVariants.{Lost};
+ghost use Rattle.recode.specs.Job.{Faithful, IsValidJob, RunsThrough, input_pieces, input_text, log_lines};
+ghost use Rattle.recode.specs.Job.{log_of, lost_in, output_of, output_pieces, target_of, trace};
+ghost use Rattle.recode.specs.Job.{up_to_lost};
 ghost use Rattle.recode.specs.Policy.{form_of};
 ghost use Rattle.recode.specs.Latency.{StandsAt};
 ghost use Rattle.recode.specs.ReadBack.{back, in_utf8};
 ghost use Rattle.recode.specs.Runs.{AgreeButForCalls, IsStopped, IsWholeOutput, RunReturns};
-ghost use Rattle.recode.specs.Runs.{RunsThrough, WroteTheSame};
+ghost use Rattle.recode.specs.Runs.{WroteTheSame};
 ghost use Rattle.recode.specs.Session.{Completes, Fails, IsConverted, IsNewSession, IsReport};
 ghost use Rattle.recode.specs.Session.{Tells, View};
 ghost use Rattle.recode.specs.Slices.{slices};
@@ -33,8 +35,8 @@ ghost use Rattle.recode.specs.State.{State};
 ghost use Rattle.recode.specs.Step.{Finishes, HasRun, IsNearlyDecided, StepsOn, Stops};
 ghost use Rattle.recode.specs.Step.{WrotePrefix};
 ghost use Rattle.recode.specs.Streams.{Streams, Written, known};
-ghost use Rattle.recode.specs.TaggedByte.{IsPrefix};
-ghost use Rattle.recode.specs.WrittenItems.{bad_lines, lost_lines};
+ghost use Rattle.recode.specs.TaggedByte.{IsPrefix, TaggedByte};
+ghost use Rattle.recode.specs.WrittenItems.{StopsAt, bad_lines, lost_lines};
 ghost use Rattle.recode.specs.declared.job.Fault.{Fault};
 ghost use Rattle.recode.specs.declared.job.Job.{Job};
 ghost use Rattle.recode.specs.declared.indexes.SourceFault.{SourceFault};
@@ -75,15 +77,22 @@ pub fn trace_of_input()
         → lost_lines (trace j x) ≡ lost_count (target_of j) (input_text j x) }
 {}
 
-/// Where the policy stops at a character of the text that is the first without bytes, what is
-/// written is the text before it, and the escape that its reference would stand behind.
+/// What a policy leaves that stops. Where a character of the text is the first without bytes, the
+/// output is the text before it, and the escape that its reference would stand behind. The log has
+/// all lines up to that of the first lost character, with it. The fault names the first lost
+/// character: its index in the text, and its scalar.
 pub fn stops_at_first_loss()
-    ensures { (j : Job) (x before rest : List ℕ) (c scalar : ℕ) → j.policy ≡ Policy.Stop
+    ensures output { (j : Job) (x before rest : List ℕ) (c scalar : ℕ) → j.policy ≡ Policy.Stop
         → input_text j x ≡ before ++ (c ∷ rest) → AllMapped (target_of j) before
         → (target_of j).form c ≡ Unmapped scalar
         → output_of j x ≡ open_from Decimal (target_of j) Ascii before
         ++ (target_of j).escape (last_set (target_of j) Ascii before)
         ((target_of j).set (last_set (target_of j) Ascii before) c) }
+    ensures log { (j : Job) (x : List ℕ) → j.policy ≡ Policy.Stop → log_of j x
+        ≡ flat_map line_bytes (up_to_lost (log_lines (target_of j) 0 0 (input_pieces j x))) }
+    ensures fault { (j : Job) (x : List ℕ) (index scalar : ℕ) (taken : List TaggedByte)
+        → StopsAt j.policy index scalar taken (trace j x)
+        → take 1 (lost_in (target_of j) 0 (input_text j x)) ≡ Lost index scalar ∷ [] }
 {}
 
 /// From UTF-8 to UTF-8, where marks are kept, text gives its own bytes, and an empty log.
@@ -227,7 +236,8 @@ pub fn runs_agree()
 
 /// Where no call of a device fails, a run returns `Ok` exactly where the input is within the limit
 /// and the policy does not stop at a character of it, and else `TooLong` or `Unmappable`. The reader
-/// tells its bytes; where it does not, the result is still one of these.
+/// tells its bytes; where it does not, the result is still one of these, and `Unmappable` under
+/// `Policy::Stop` alone.
 pub fn answers_without_faults()
     ensures ok { (j : Job) (x : List ℕ) (s s' : Streams) (n : Failures)
         (answer : Result Report Fault)
@@ -239,7 +249,7 @@ pub fn answers_without_faults()
         → (answer ≡ Err Fault.TooLong) ↔ (j.limit < length x) }
     ensures either { (j : Job) (s s' : Streams) (n : Failures) (answer : Result Report Fault)
         → RunReturns s s' n n j answer
-        → IsOk answer ⊎ ((answer ≡ Err Fault.TooLong) ⊎ IsStopped answer) }
+        → IsOk answer ⊎ ((answer ≡ Err Fault.TooLong) ⊎ IsStopped j.policy answer) }
 {}
 
 /// A report that tells a lost character does not say that nothing was lost.

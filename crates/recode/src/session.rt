@@ -216,7 +216,8 @@ impl<'t> Session<'t> {
 ///   policy is `Policy::Stop` and a character has no bytes (`Unmappable`). Output and log have a
 ///   prefix of what is right for the bytes read, however they go on; at `Read` and `TooLong` it is
 ///   all that the bytes before the last read decide, with each piece that ends three or more bytes
-///   before their end; at `Unmappable` it is all that is written under the policy.
+///   before their end; at `Unmappable` it is all that comes before the
+///   character, and its line.
 ///
 /// Conditions: the job is valid (`Job::is_valid`), the buffers are enough (`Buffers::is_enough`),
 /// and fewer than 2^64 - 1 calls of each device have failed (`Counted::failures`).

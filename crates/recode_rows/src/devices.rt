@@ -130,6 +130,7 @@ fn a_failing_flush_is_counted(rt: HostRuntime) -> Result<(), Fail> {
     assert_eq!(rt; writer.failures(), 0);
     assert_eq!(rt; kind_of(writer.flush()), Some(ErrorKind::StorageFull));
     assert_eq!(rt; writer.failures(), 1);
+    assert_eq!(rt; writer.get_ref().calls, 2);
     Ok(())
 }
 

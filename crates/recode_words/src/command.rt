@@ -30,9 +30,9 @@ Log, on standard error, a line for each malformed sequence and each character wi
   bad OFFSET LENGTH  these bytes of the input stand for no character; the output has U+FFFD in
                      their place
   lost INDEX SCALAR  the character with this index in the text, and with this number, has no bytes
-                     in the output's encoding; the output has &#SCALAR; in its place, or with
-                     --unmappable hexadecimal &#xHEX; with --unmappable stop the first ends the
-                     conversion
+                     in the output's encoding; the output has the reference &#SCALAR; in its
+                     place, with --unmappable hexadecimal one in hexadecimal digits, and with
+                     --unmappable stop it ends there
 Numbers are decimal. OFFSET and INDEX count bytes and characters from 0.
 
 Exit status:

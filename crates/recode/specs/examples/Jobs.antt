@@ -13,11 +13,13 @@ use Rattle.encoding_tables.specs.IndexLists.{IndexLists}
 use Rattle.encoding_front.specs.Encodings.{coding_of}
 use Rattle.encoding_front.specs.declared.encoding.Encoding.{Encoding}
 use Rattle.recode_log.specs.declared.line.LogLine.TheVariants.{Bad, Lost}
-use Rattle.recode.specs.Job.{log_lines, Faithful, input_pieces, log_of, output_of, source_in, trace}
+use Rattle.recode.specs.Conversion.{message_of}
+use Rattle.recode.specs.Job.{log_lines, Faithful, input_pieces, log_of, output_of, source_in, trace, up_to_lost}
 use Rattle.std.proofs.Common.{ap}
 use Rattle.encoding_mem.specs.Items.{Byte, MalformedAt, LostAt}
 use Rattle.encoding_front.specs.declared.mark.Mark.{Mark}
 use Rattle.encoding_front.specs.declared.mark.Mark.TheVariants.{Sniff, Remove, Keep}
+use Rattle.recode.specs.declared.job.Fault.TheVariants.{Unmappable}
 use Rattle.recode.specs.declared.job.Job.{Job}
 use Rattle.recode.specs.declared.job.Policy.{Policy}
 
@@ -344,6 +346,23 @@ stop_at_a_malformed_sequence j = (refl, refl)
 no_stop : (j : Job) → Gives (stopping (job j no_tables Encoding.Utf8 Encoding.Utf8 Keep)) (0x61 ∷ 0xED ∷ 0xA0 ∷ 0x80 ∷ 0x5A ∷ []) (0x61 ∷ 0xEF ∷ 0xBF ∷ 0xBD ∷ 0xEF ∷ 0xBF ∷ 0xBD ∷ 0xEF ∷ 0xBF ∷ 0xBD ∷ 0x5A ∷ []) (codes "bad 1 1\nbad 2 1\nbad 3 1\n")
 unfolding pieces_in encode_utf8 digits
 no_stop j = (refl, refl)
+
+stop_at_the_end : (j : Job) → Gives (stopping (job j no_tables Encoding.Utf8 Encoding.Windows1252 Keep)) (0x41 ∷ 0xE2 ∷ 0x82 ∷ []) (0x41 ∷ []) (codes "bad 1 2\nlost 1 65533\n")
+unfolding pieces_in no_tables digits
+stop_at_the_end j = (refl, refl)
+
+-- the escape comes before the line, and nothing behind it
+order_at_a_stop : (j : Job) → trace (stopping (job j ha Encoding.Utf8 Encoding.Iso2022Jp Sniff)) (0xE3 ∷ 0x83 ∷ 0x8F ∷ 0x0E ∷ 0x41 ∷ [])
+    ≡ map Byte (0x1B ∷ 0x24 ∷ 0x42 ∷ 0x25 ∷ 0x4F ∷ 0x1B ∷ 0x28 ∷ 0x42 ∷ []) ++ (LostAt 1 65533 ∷ [])
+unfolding pieces_in ha digits
+order_at_a_stop j = refl
+
+lines_up_to_a_stop : up_to_lost (Bad 0 1 ∷ Lost 1 232 ∷ Bad 3 1 ∷ Lost 2 65533 ∷ []) ≡ Bad 0 1 ∷ Lost 1 232 ∷ []
+lines_up_to_a_stop = refl
+
+message_of_a_stop : message_of (Unmappable 1 128169) ≡ codes "recode: unmappable 1 128169\n"
+unfolding digits
+message_of_a_stop = refl
 
 -- a reference reads back as its ASCII
 unfaithful_reference : (j : Job) → ¬ (Faithful (job j no_tables Encoding.Utf8 Encoding.Windows1253 Sniff) (0xF0 ∷ 0x9F ∷ 0x92 ∷ 0xA9 ∷ []))

@@ -4,11 +4,16 @@ use Rattle.encoding_mem.specs.declared.form.EscapeState.TheVariants.{Ascii}
 use Rattle.encoding_mem.specs.declared.reference.Reference.TheVariants.{Decimal}
 use Rattle.encoding_mem.specs.laws.Encoding.{mapped_open}
 use Rattle.recode.specs.Job.{target_of}
+use Rattle.recode.proofs.LossLemmas.{first_lost, log_at_loss}
 use Rattle.recode.proofs.StopLemmas.{output_at_loss}
 use Rattle.recode.proofs.laws.stops_at_first_loss.Goals as goal
 
 pub returns : goal.returns
-returns c = λ j x before rest k scalar stops is mapped none.
-    let l = last_set (target_of j) Ascii before in
-    output_at_loss j x before k scalar rest stops is mapped none
-    ∙ ap (λ w. w ++ (target_of j).escape l ((target_of j).set l k)) (sym (mapped_open Decimal (target_of j) Ascii before mapped))
+returns c = record {
+  output = λ j x before rest k scalar stops is mapped none.
+      let l = last_set (target_of j) Ascii before in
+      output_at_loss j x before k scalar rest stops is mapped none
+      ∙ ap (λ w. w ++ (target_of j).escape l ((target_of j).set l k)) (sym (mapped_open Decimal (target_of j) Ascii before mapped));
+  log = log_at_loss;
+  fault = first_lost;
+}
