@@ -1,8 +1,8 @@
 use crate::source::Reads;
 use crate::trial::{Held, LEAST, LEAST_WIDE, Trial, watch};
-use encoding_front::{Encoding, GB18030, ISO_2022_JP};
+use encoding_front::{Encoding, GB18030, ISO_2022_JP, WINDOWS_1252};
 use encoding_tables::IndexKind;
-use recode::Progress;
+use recode::{Fault, Policy, Progress};
 use std::alloc::AllocError;
 use std::process::Abort;
 
@@ -63,4 +63,27 @@ fn an_escape_is_undecided_before_the_next_is_whole(rt: HostRuntime) -> Result<()
     };
     let wants = [LETTER, LETTER, LETTER, LETTER, LETTER, LETTER, last];
     check(&rt, ISO_2022_JP, b"A\x1B(B\x1B(J", &wants, last)
+}
+
+// A character without bytes stops the conversion in the step that reads its last byte: all before
+// it is written by then.
+#[test]
+fn a_stop_comes_with_the_last_byte_of_its_character(rt: HostRuntime) -> Result<(), AllocError> {
+    for sizes in [LEAST, LEAST_WIDE] {
+        let trial = Trial {
+            to: WINDOWS_1252,
+            policy: Policy::Stop,
+            sizes,
+            reads: Reads::OneByOne,
+            ..Trial::new(b"A\xC3\xA8B")
+        };
+        let outcome = watch(&rt, &trial, &[LETTER, LETTER])?;
+        let stopped = Fault::Unmappable {
+            index: 1,
+            scalar: '\u{E8}',
+        };
+        assert_eq!(rt; outcome.answer, Err(stopped), "{trial:?}");
+        outcome.check(&rt, &trial, b"A", b"lost 1 232\n", [0, 0, 0]);
+    }
+    Ok(())
 }

@@ -61,7 +61,7 @@ const HA: &[(IndexKind, &[u8])] = &[(IndexKind::Jis0208, b"422\t0x30CF")];
 
 // What is written up to the first character without bytes: the text before it, the escape that its
 // reference would stand behind, and its line.
-const STOPPED: [Row; 8] = [
+const STOPPED: [Row; 11] = [
     Row {
         to: WINDOWS_1253,
         input: b"\xF0\x9F\x92\xA9",
@@ -131,6 +131,37 @@ const STOPPED: [Row; 8] = [
         output: b"A",
         log: "lost 1 202\n",
         stopped: Some((1, '\u{CA}')),
+        ..STRICT
+    },
+    // The second of them, behind the first, which has a byte.
+    Row {
+        from: BIG5,
+        to: WINDOWS_1252,
+        index: &[(IndexKind::Windows1252, b"74\t0x00CA")],
+        input: b"A\x88\x62",
+        output: b"A\xCA",
+        log: "lost 2 772\n",
+        stopped: Some((2, '\u{304}')),
+        ..STRICT
+    },
+    // Behind an escape, which is pending until the byte after it is read.
+    Row {
+        from: ISO_2022_JP,
+        to: WINDOWS_1252,
+        input: b"A\x1B(J\\",
+        output: b"A",
+        log: "lost 1 165\n",
+        stopped: Some((1, '\u{A5}')),
+        ..STRICT
+    },
+    // Half a byte order mark, held until the end where marks are sniffed.
+    Row {
+        from: WINDOWS_1252,
+        to: WINDOWS_1253,
+        index: &[(IndexKind::Windows1252, b"59\t0x00BB\n111\t0x00EF")],
+        input: b"\xEF\xBB",
+        log: "lost 0 239\n",
+        stopped: Some((0, '\u{EF}')),
         ..STRICT
     },
 ];

@@ -160,6 +160,11 @@ fn check_calls(
                 ..row.trial()
             };
             let outcome = recode_over(rt, Way::Run, &trial, tables)?;
+            // A part may end within a character, and the policy then stop at what stands for it.
+            if matches!(outcome.answer, Err(Fault::Unmappable { .. })) {
+                assert_eq!(rt; row.policy, Policy::Stop, "{trial:?}");
+                continue;
+            }
             let report = outcome.answer.expect(rt, "a report");
             let most = report.read.saturating_mul(37).saturating_add(9);
             assert_eq!(rt; report.read, len as u64, "{trial:?}");
@@ -220,10 +225,6 @@ fn check_faults(
         ..row.trial()
     };
     check_flushes(rt, &trial, tables)?;
-    // A front of the input may end within a character, and then there is no report.
-    if row.policy == Policy::Stop {
-        return Ok(());
-    }
     check_calls(rt, row, tables)
 }
 

@@ -6,7 +6,7 @@ use crate::tape::{Device, Event, bytes_of, calls_of, takes, up_to};
 use crate::trial::{Trial, WAYS, Way, recode_over, status_over};
 use encoding_front::{Encoding, ISO_2022_JP, UTF_8, WINDOWS_1252};
 use encoding_tables::Tables;
-use recode::{FAULT, Fault};
+use recode::{FAULT, Fault, Policy};
 use std::alloc::{AllocError, Global};
 use std::io::ErrorKind;
 use std::process::Abort;
@@ -218,10 +218,11 @@ pub fn check_flushes(
 // What a device takes at once.
 type Part = (Device, &'static [u8]);
 
-// A conversion to windows-1252 over an empty index, or to ISO-2022-JP, and what is taken in it.
-const ORDERS: [(Encoding, &[u8], &[Part]); 3] = [
+// A target over an empty index, a policy, an input in UTF-8, and what is taken in its conversion.
+const ORDERS: [(Encoding, Policy, &[u8], &[Part]); 5] = [
     (
         WINDOWS_1252,
+        Policy::Decimal,
         b"a\xC3\xA8b\xFFc",
         &[
             (Device::Writer, b"a"),
@@ -233,6 +234,7 @@ const ORDERS: [(Encoding, &[u8], &[Part]); 3] = [
     ),
     (
         UTF_8,
+        Policy::Decimal,
         b"a\xED\xA0\x80Z",
         &[
             (Device::Writer, b"a"),
@@ -246,6 +248,7 @@ const ORDERS: [(Encoding, &[u8], &[Part]); 3] = [
     ),
     (
         ISO_2022_JP,
+        Policy::Decimal,
         b"\xC2\xA5\xF0\x9F\x92\xA9",
         &[
             (Device::Writer, b"\x1B(J\\"),
@@ -253,11 +256,29 @@ const ORDERS: [(Encoding, &[u8], &[Part]); 3] = [
             (Device::Writer, b"&#128169;\x1B(B"),
         ],
     ),
+    (
+        ISO_2022_JP,
+        Policy::Stop,
+        b"\xC2\xA5\xF0\x9F\x92\xA9",
+        &[
+            (Device::Writer, b"\x1B(J\\"),
+            (Device::Log, b"lost 1 128169\n"),
+        ],
+    ),
+    (
+        WINDOWS_1252,
+        Policy::Stop,
+        b"a\xFFb\xC3\xA8",
+        &[
+            (Device::Writer, b"a"),
+            (Device::Log, b"bad 1 1\nlost 1 65533\n"),
+        ],
+    ),
 ];
 
 #[test]
 fn output_and_log_are_written_in_one_order(rt: HostRuntime) -> Result<(), AllocError> {
-    for (to, input, parts) in ORDERS {
+    for (to, policy, input, parts) in ORDERS {
         let mut wants = Vec::new(rt.alloc());
         for (device, bytes) in parts {
             for byte in *bytes {
@@ -266,6 +287,7 @@ fn output_and_log_are_written_in_one_order(rt: HostRuntime) -> Result<(), AllocE
         }
         let trial = Trial {
             to,
+            policy,
             ..Trial::new(input)
         };
         let outcome = recode_over(&rt, Way::Run, &trial, &trial.tables(&rt))?;
