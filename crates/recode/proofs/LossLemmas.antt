@@ -10,7 +10,7 @@ use Rattle.encoding_mem.specs.declared.form.EscapeState.TheVariants.{Ascii}
 use Rattle.recode_log.specs.Line.{line_bytes}
 use Rattle.recode_log.specs.declared.line.LogLine.{LogLine}
 use Rattle.recode_log.specs.declared.line.LogLine.TheVariants.{Bad, Lost}
-use Rattle.recode.specs.Job.{form_lines, input_pieces, input_text, log_lines, log_of, lost_in, target_of, trace, up_to_lost, whole_trace}
+use Rattle.recode.specs.Job.{form_lines, input_pieces, input_text, log_lines, log_of, lost_in, target_of, trace, lines_up_to_loss, whole_trace}
 use Rattle.recode.specs.Policy.{form_of, up_to_loss, written_under}
 use Rattle.recode.specs.TaggedByte.{TaggedByte, lines, tagged}
 use Rattle.recode.specs.WrittenItems.{StopsAt, lost_lines}
@@ -18,17 +18,17 @@ use Rattle.recode.specs.declared.job.Job.{Job}
 use Rattle.recode.specs.declared.job.Policy.{Policy}
 use Rattle.recode.proofs.TraceLemmas.{lines-noted, noted, noted-trace}
 
-noted-cut : (s : List Item) → noted (up_to_loss s) ≡ up_to_lost (noted s)
+noted-cut : (s : List Item) → noted (up_to_loss s) ≡ lines_up_to_loss (noted s)
 noted-cut [] = refl
 noted-cut (Byte b ∷ s) = noted-cut s
 noted-cut (MalformedAt offset size ∷ s) = ap (λ l. Bad offset size ∷ l) (noted-cut s)
 noted-cut (LostAt i c ∷ s) = refl
 
-pub log_at_loss : (j : Job) (x : List ℕ) → j.policy ≡ Policy.Stop → log_of j x ≡ flat_map line_bytes (up_to_lost (log_lines (target_of j) 0 0 (input_pieces j x)))
+pub log_at_loss : (j : Job) (x : List ℕ) → j.policy ≡ Policy.Stop → log_of j x ≡ flat_map line_bytes (lines_up_to_loss (log_lines (target_of j) 0 0 (input_pieces j x)))
 log_at_loss j x stops =
     ap (λ (p : Policy). lines (tagged (written_under p (whole_trace j x)))) stops
     ∙ lines-noted (up_to_loss (whole_trace j x))
-    ∙ ap (flat_map line_bytes) (noted-cut (whole_trace j x) ∙ ap up_to_lost (noted-trace (form_of j.policy) (target_of j) Ascii 0 0 (input_pieces j x)))
+    ∙ ap (flat_map line_bytes) (noted-cut (whole_trace j x) ∙ ap lines_up_to_loss (noted-trace (form_of j.policy) (target_of j) Ascii 0 0 (input_pieces j x)))
 
 -- the lines of lost characters
 abbrev losses : List LogLine → List LogLine

@@ -51,7 +51,7 @@ whole_trace j x = trace_from (form_of j.policy) (target_of j) Ascii 0 0 (input_p
 abbrev pub trace : Job → List ℕ → List Item
 trace j x = written_under j.policy (whole_trace j x)
 
--- the policy does not stop a run on this input: it asks for that at no character, or each has its bytes
+-- the policy stops no run on this input: it is one that never does, or each character of the text has its bytes
 abbrev pub RunsThrough : Job → List ℕ → Type 0
 RunsThrough j x = j.policy ≡ Policy.Stop → lost_count (target_of j) (input_text j x) ≡ 0
 
@@ -78,10 +78,10 @@ log_lines e offset i (well_formed n cs ∷ ps) = lost_in e i cs ++ log_lines e (
 log_lines e offset i (malformed n ∷ ps) = Bad offset n ∷ (lost_in e i (0xFFFD ∷ []) ++ log_lines e (offset + n) (i + 1) ps)
 
 -- up to the line of the first lost character, with it
-abbrev pub up_to_lost : List LogLine → List LogLine
-up_to_lost [] = []
-up_to_lost (Bad offset size ∷ t) = Bad offset size ∷ up_to_lost t
-up_to_lost (Lost index scalar ∷ t) = Lost index scalar ∷ []
+abbrev pub lines_up_to_loss : List LogLine → List LogLine
+lines_up_to_loss [] = []
+lines_up_to_loss (Bad offset size ∷ t) = Bad offset size ∷ lines_up_to_loss t
+lines_up_to_loss (Lost index scalar ∷ t) = Lost index scalar ∷ []
 
 -- Nothing was lost: no piece of the input is malformed, and the output, decoded without mark handling, has no malformed
 -- sequence and is the input's text.

@@ -22,7 +22,7 @@ ghost use Rattle.recode_log.specs.Line.{line_bytes};
 ghost use Rattle.recode_log.specs.declared.line.LogLine.TheVariants.{Lost};
 ghost use Rattle.recode.specs.Job.{Faithful, IsValidJob, input_pieces, input_text, log_lines};
 ghost use Rattle.recode.specs.Job.{log_of, lost_in, output_of, output_pieces, target_of, trace};
-ghost use Rattle.recode.specs.Job.{RunsThrough, up_to_lost};
+ghost use Rattle.recode.specs.Job.{RunsThrough, lines_up_to_loss};
 ghost use Rattle.recode.specs.Policy.{form_of};
 ghost use Rattle.recode.specs.Latency.{StandsAt};
 ghost use Rattle.recode.specs.ReadBack.{back, in_utf8};
@@ -89,7 +89,7 @@ pub fn stops_at_first_loss()
         ++ (target_of j).escape (last_set (target_of j) Ascii before)
         ((target_of j).set (last_set (target_of j) Ascii before) c) }
     ensures log { (j : Job) (x : List ℕ) → j.policy ≡ Policy.Stop → log_of j x
-        ≡ flat_map line_bytes (up_to_lost (log_lines (target_of j) 0 0 (input_pieces j x))) }
+        ≡ flat_map line_bytes (lines_up_to_loss (log_lines (target_of j) 0 0 (input_pieces j x))) }
     ensures fault { (j : Job) (x : List ℕ) (index scalar : ℕ) (taken : List TaggedByte)
         → StopsAt j.policy index scalar taken (trace j x)
         → take 1 (lost_in (target_of j) 0 (input_text j x)) ≡ Lost index scalar ∷ [] }

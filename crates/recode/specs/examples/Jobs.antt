@@ -14,7 +14,7 @@ use Rattle.encoding_front.specs.Encodings.{coding_of}
 use Rattle.encoding_front.specs.declared.encoding.Encoding.{Encoding}
 use Rattle.recode_log.specs.declared.line.LogLine.TheVariants.{Bad, Lost}
 use Rattle.recode.specs.Conversion.{message_of}
-use Rattle.recode.specs.Job.{log_lines, Faithful, input_pieces, log_of, output_of, source_in, trace, up_to_lost}
+use Rattle.recode.specs.Job.{log_lines, Faithful, input_pieces, log_of, output_of, source_in, trace, lines_up_to_loss}
 use Rattle.std.proofs.Common.{ap}
 use Rattle.encoding_mem.specs.Items.{Byte, MalformedAt, LostAt}
 use Rattle.encoding_front.specs.declared.mark.Mark.{Mark}
@@ -357,7 +357,7 @@ order_at_a_stop : (j : Job) → trace (stopping (job j ha Encoding.Utf8 Encoding
 unfolding pieces_in ha digits
 order_at_a_stop j = refl
 
-lines_up_to_a_stop : up_to_lost (Bad 0 1 ∷ Lost 1 232 ∷ Bad 3 1 ∷ Lost 2 65533 ∷ []) ≡ Bad 0 1 ∷ Lost 1 232 ∷ []
+lines_up_to_a_stop : lines_up_to_loss (Bad 0 1 ∷ Lost 1 232 ∷ Bad 3 1 ∷ Lost 2 65533 ∷ []) ≡ Bad 0 1 ∷ Lost 1 232 ∷ []
 lines_up_to_a_stop = refl
 
 message_of_a_stop : message_of (Unmappable 1 128169) ≡ codes "recode: unmappable 1 128169\n"
