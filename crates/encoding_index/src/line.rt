@@ -49,7 +49,23 @@ fn hex_digits_len(bytes: &[u8]) -> usize
     bytes.iter().take_while(|b| is_hex_digit(**b)).count()
 }
 
+// The value of a byte that is a digit.
+#[inline]
+fn digit_value(b: u8) -> u32
+    requires { digit_value b < 36 }
+    ensures { result ≡ digit_value b }
+{
+    if b <= b'9' {
+        (b - b'0') as u32
+    } else if b <= b'Z' {
+        (b - b'A') as u32 + 10
+    } else {
+        (b - b'a') as u32 + 10
+    }
+}
+
 // The number that digits write.
+#[inline]
 fn digits_value(digits: &[u8], radix: u32) -> u32
     requires low { 2 ≤ radix }
     requires high { radix ≤ 16 }
@@ -59,7 +75,7 @@ fn digits_value(digits: &[u8], radix: u32) -> u32
 {
     let mut value = 0;
     for b in digits {
-        value = value * radix + char::from(*b).to_digit(radix).unwrap();
+        value = value * radix + digit_value(*b);
     }
     value
 }

@@ -6,6 +6,7 @@ ghost use Rattle.encoding_index.specs.laws.Outcomes.{outcomes, outcome_of};
 
 use crate::fault::{IndexFault, IndexFaultKind};
 use crate::line::{is_skipped, row_of};
+use memchr::memchr;
 
 // A line that ends at LF, without the CR before that.
 fn without_carriage_return(line: &[u8]) -> &[u8]
@@ -21,7 +22,10 @@ fn without_carriage_return(line: &[u8]) -> &[u8]
 fn line_len(text: &[u8]) -> usize
     ensures { result ≡ position_or_len (λ b. b == 10) text.now }
 {
-    text.iter().take_while(|b| **b != b'\n').count()
+    match memchr(b'\n', text) {
+        Some(end) => end,
+        None => text.len(),
+    }
 }
 
 // The first line of a text with some bytes, without its end, and what stands behind that.

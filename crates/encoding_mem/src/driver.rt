@@ -116,9 +116,9 @@ fn finish_pending<F: DecoderRule, S: Sink>(
     (None, read)
 }
 
-/// Decodes a source where nothing is pending: runs of text as a whole, and what else there is by pieces.
+// The same, with a sink that is the caller's own.
 #[inline(always)]
-pub fn decode_source<F: DecoderRule, S: Sink>(
+fn decode_pieces<F: DecoderRule, S: Sink>(
     codec: &mut F,
     pending: &mut Pending,
     src: &[u8],
@@ -159,6 +159,35 @@ pub fn decode_source<F: DecoderRule, S: Sink>(
         }
     }
     (DecoderResult::InputEmpty, read)
+}
+
+/// Decodes a source where nothing is pending: runs of text as a whole, and what else there is by pieces.
+#[inline(always)]
+pub fn decode_source<F: DecoderRule, S: Sink>(
+    codec: &mut F,
+    pending: &mut Pending,
+    src: &[u8],
+    sink: &mut S,
+    last: bool,
+) -> (DecoderResult, usize)
+    requires { pending.old ≡ [] }
+    ensures law { Takes (Reports result.0 (length pending.new))
+        (F.pieces codec.old) (λ x. F.pieces codec.new (pending.new ++ x))
+        src.now last 0 (length pending.new) result.1 (λ text. S.writes sink.old text sink.new) }
+    ensures ends { DriverEndsWith (F.pieces codec.new) pending.new (drop result.1 src.now) last
+        (S.free sink.new) S.room (S.cost 0xFFFD) result.0 }
+    ensures enough { Suffices (F.needs codec.old)
+        (λ k n. F.needs codec.new k (length pending.new + n)) S.is_units last
+        (length src.now) (length src.now - result.1) (S.free sink.old) (S.free sink.new) result.0 }
+    ensures limits { F.limits codec.new ≡ F.limits codec.old }
+    ensures waits { Remains (F.pieces codec.new) pending.new }
+    ensures short { length pending.new < 7 }
+    ensures near { IsNear (F.pieces codec.new) pending.new }
+{
+    let mut own = sink.detach();
+    let ended = decode_pieces(codec, pending, src, &mut own, last);
+    *sink = own;
+    ended
 }
 
 /// Decodes until the input is read, there is no room or a piece is malformed. Returns which, and

@@ -5,7 +5,7 @@ ghost use Rattle.encoding_mem.specs.Writing.{len_utf16};
 ghost use Rattle.encoding_mem.specs.Text.{text_len};
 
 /// A destination of text, whose units are bytes of UTF-8 or units of UTF-16.
-pub trait Sink {
+pub trait Sink: Drop {
     /// The units that are free.
     ghost free: { Self → ℕ };
 
@@ -50,6 +50,11 @@ pub trait Sink {
     /// How many units are written.
     fn written(&self) -> usize
         ensures { result ≡ count self.now };
+
+    /// Hands out the sink, and leaves one without room in its place. A loop that owns its sink keeps
+    /// in registers what it would else load and store for each character.
+    fn detach(&mut self) -> Self
+        ensures { result ≡ self.old };
 
     ghost cost_is: { (c : ℕ) → cost c ≡ (if is_units then len_utf16 c else len_utf8 c) };
 

@@ -6,6 +6,7 @@ ghost use Rattle.encoding_mem.specs.laws.Writing.{adds_none, adds_encoded16, cos
 
 use crate::latin1_conversions::convert_latin1_to_utf16;
 use crate::sink::Sink;
+use std::mem;
 
 // How many bytes of a text are put at a time, as units where all of them are ASCII.
 const BLOCK: usize = 256;
@@ -140,6 +141,11 @@ impl<'a> Sink for Utf16Sink<'a> {
     #[inline(always)]
     fn written(&self) -> usize {
         self.written
+    }
+
+    #[inline(always)]
+    fn detach(&mut self) -> Self {
+        mem::replace(self, Utf16Sink::new(&mut []))
     }
 
     ghost cost_is = { λ _. refl };

@@ -5,6 +5,7 @@ ghost use Rattle.encoding_mem.specs.Writing.{Adds};
 ghost use Rattle.encoding_mem.specs.laws.Writing.{adds_none, adds_encoded, cost_fits, cost_two};
 
 use crate::sink::Sink;
+use std::mem;
 
 /// A destination in UTF-8, which is filled from its start.
 #[derive(Drop)]
@@ -108,6 +109,11 @@ impl<'a> Sink for Utf8Sink<'a> {
     #[inline(always)]
     fn written(&self) -> usize {
         self.written
+    }
+
+    #[inline(always)]
+    fn detach(&mut self) -> Self {
+        mem::replace(self, Utf8Sink::new(&mut []))
     }
 
     ghost cost_is = { λ _. refl };

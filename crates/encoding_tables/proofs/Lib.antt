@@ -8,3 +8,4 @@ pub mod ReplacementLengthLemmas
 mod KindLemmas
 pub mod RowLemmas
 mod RowFaultLemmas
+pub mod ChainLemmas

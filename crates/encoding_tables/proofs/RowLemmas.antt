@@ -293,7 +293,7 @@ distinct_swap rows a b in_a in_b distinct = record {
       sym (origin_back a b i) ∙ ap (origin a b) one ∙ origin_back a b j;
 }
 
-row_of_map : (rows : List (ℕ × ℕ)) (k : ℕ) → k < length rows → row_at (map swapped rows) k ≡ swapped (row_at rows k)
+pub row_of_map : (rows : List (ℕ × ℕ)) (k : ℕ) → k < length rows → row_at (map swapped rows) k ≡ swapped (row_at rows k)
 row_of_map rows k within = get_or-map swapped rows k (0, 0) (0, 0) within
 
 rising_are_distinct : (rows : List (ℕ × ℕ)) → PointersRise rows → AreDistinct (map swapped rows)

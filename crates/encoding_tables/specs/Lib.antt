@@ -16,6 +16,7 @@ pub mod Utf16
 pub mod SingleByte
 pub mod PackedRows
 pub mod PackedLists
+pub mod Chains
 pub mod LookupLaws
 pub mod laws
 pub mod examples

@@ -2,10 +2,9 @@
 
 ghost use Rattle.std.specs.Prelude.{◌≡◌, ℕ, ◌+◌, ◌^◌, ◌<◌, List, length, map, IfOk, IfSome};
 ghost use Rattle.encoding_tables.specs.Lookups.{value_of, first_pointer, last_pointer};
-ghost use Rattle.std.specs.List.Sorted.{IsPermutation};
-ghost use Rattle.encoding_tables.specs.SortedRows.{AreSorted};
 ghost use Rattle.encoding_tables.specs.PackedRows.{flat_list, mapped_rows, listed_rows, swapped, PointersRise, PointersAreBelow};
 ghost use Rattle.encoding_tables.specs.PackedLists.{AreIndexRows, IsPacked, IsReversed};
+ghost use Rattle.encoding_tables.specs.Chains.{AreChains, HaveEntriesBelow};
 
 use crate::search::search;
 use crate::sorted_rows::SortedRows;
@@ -62,11 +61,11 @@ impl PackedIndex {
         requires small { size < 2 ^ 16 }
         ensures { IfOk result (λ index. index ≡ flat_list size rows.items) }
     {
-        let pairs = reversed(alloc, &rows)?;
+        let by_entry = reversed(alloc, &rows)?;
         Ok(PackedIndex {
             size,
             by_pointer: SortedRows::new(alloc, rows)?,
-            by_entry: SortedRows::new(alloc, pairs)?,
+            by_entry,
         })
     }
 
@@ -135,7 +134,7 @@ fn rows_of_list(alloc: Global, list: &[u32]) -> Result<Vec<(u32, u32)>, AllocErr
 fn rows_with_entry(alloc: Global, rows: &[(u32, u32)]) -> Result<Vec<(u32, u32)>, AllocError>
     ensures { IfOk result (λ mapped. mapped.items ≡ mapped_rows rows.now) }
 {
-    let mut mapped = Vec::new(alloc);
+    let mut mapped = Vec::with_capacity(alloc, rows.len())?;
     for row in rows {
         if row.1 != 0 {
             mapped.push(*row)?;
@@ -144,23 +143,67 @@ fn rows_with_entry(alloc: Global, rows: &[(u32, u32)]) -> Result<Vec<(u32, u32)>
     Ok(mapped)
 }
 
-// Each row the other way round, in order.
-fn reversed(alloc: Global, rows: &[(u32, u32)]) -> Result<Vec<(u32, u32)>, AllocError>
-    requires { PointersRise rows.now }
-    ensures { IfOk result (λ pairs. IsReversed rows.now pairs.items) }
-{
-    let mut pairs = Vec::with_capacity(alloc, rows.len())?;
-    for (pointer, entry) in rows {
-        pairs.push((*entry, *pointer))?;
-    }
-    sort(&mut pairs);
-    Ok(pairs)
+// The position of no row: there are fewer rows.
+const NO_ROW: u16 = u16::MAX;
+
+// The rows of each entry, in their order, as a chain of positions: of each entry the first row with
+// it, and of each row the next one with its entry, or `NO_ROW`. Behind the greatest entry stands one
+// more that no row has.
+struct Chains {
+    first: Vec<u16>,
+    next: Vec<u16>,
 }
 
-// By entry, and by pointer where the entries are equal, so that the least pointer of an entry comes first.
-fn sort(pairs: &mut Vec<(u32, u32)>)
-    ensures moved { IsPermutation pairs.old.items pairs.new.items }
-    ensures sorted { AreSorted pairs.new.items }
+// The greatest entry of some rows, or 0.
+fn greatest_entry(rows: &[(u32, u32)]) -> u32
+    ensures { HaveEntriesBelow (result + 1) rows.now }
 {
-    pairs.sort_unstable();
+    let mut greatest = 0;
+    for (_, entry) in rows {
+        greatest = greatest.max(*entry);
+    }
+    greatest
+}
+
+impl Chains {
+    // The chains of some rows: each row is put before the chain of its entry, the last one first.
+    fn new(alloc: Global, rows: &[(u32, u32)]) -> Result<Chains, AllocError>
+        requires few { length rows.now < 2 ^ 16 }
+        ensures { IfOk result (λ chains. AreChains rows.now chains.first.items chains.next.items) }
+    {
+        let mut first = vec![in alloc; NO_ROW; greatest_entry(rows) as usize + 2]?;
+        let mut next = vec![in alloc; NO_ROW; rows.len()]?;
+        let mut at = rows.len();
+        'rows: while at > 0 {
+            at -= 1;
+            let entry = rows[at].1 as usize;
+            next[at] = first[entry];
+            first[entry] = at as u16;
+        }
+        Ok(Chains { first, next })
+    }
+}
+
+// Each row the other way round, in order: entry by entry, along its chain. Where an entry's chain
+// began, its directory then says how many pairs stand before it.
+fn reversed(alloc: Global, rows: &[(u32, u32)]) -> Result<SortedRows, AllocError>
+    requires rise { PointersRise rows.now }
+    requires few { length rows.now < 2 ^ 16 }
+    ensures { IfOk result (λ pairs. IsReversed rows.now pairs) }
+{
+    let Chains {
+        first: mut begins,
+        next,
+    } = Chains::new(alloc, rows)?;
+    let mut pairs = Vec::with_capacity(alloc, rows.len())?;
+    for entry in 0..begins.len() {
+        let mut at = begins[entry];
+        begins[entry] = pairs.len() as u16;
+        'chain: while at != NO_ROW {
+            let (pointer, entry) = rows[at as usize];
+            pairs.push((entry, pointer))?;
+            at = next[at as usize];
+        }
+    }
+    Ok(SortedRows::with_directory(pairs, begins))
 }

@@ -35,6 +35,15 @@ impl SortedRows {
         Ok(SortedRows { rows, begins })
     }
 
+    /// Rows in order, with a directory that was made with them.
+    pub(crate) fn with_directory(rows: Vec<(u32, u32)>, begins: Vec<u16>) -> Self
+        requires rising { AreRising rows.items }
+        requires directory { IsDirectory rows.items begins.items }
+        ensures { result ≡ rows.items }
+    {
+        SortedRows { rows, begins }
+    }
+
     /// The rows.
     #[inline(always)]
     pub(crate) fn rows(&self) -> &[(u32, u32)]

@@ -12,13 +12,11 @@ overflow_mul-value c =
     let so_far = ap (λ value. value * c.args.radix) c.loop-b.invariant in
     omega arith
 
-one_more : (c : goal.After-unwrap) → c.loop-b.value * c.args.radix + c.unwrap.result ≡ digits_value c.args.radix (take (c.loop-b.b-index + 1) c.args.digits.now)
+one_more : (c : goal.After-digit_value) → c.loop-b.value * c.args.radix + c.digit_value.result ≡ digits_value c.args.radix (take (c.loop-b.b-index + 1) c.args.digits.now)
 one_more c =
     let more = digits_value_more c.args.radix c.args.digits.now c.loop-b.b-index (search rules) in
     let so_far = ap (λ value. value * c.args.radix) c.loop-b.invariant in
-    let digit : c.unwrap.result ≡ digit_value c.from.result = search rules in
-    let at = ap digit_value c.from.ensures in
-    omega arith
+    omega (arith, c.digit_value.ensures)
 
 pub overflow_add-value : goal.overflow_add-value
 overflow_add-value c =

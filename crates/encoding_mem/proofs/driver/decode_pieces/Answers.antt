@@ -7,7 +7,7 @@ use Rattle.encoding_mem.specs.DecodedLength.{is_units}
 use Rattle.encoding_mem.specs.Text.{text_len}
 use Rattle.encoding_mem.specs.declared.decoder_result.DecoderResult.TheVariants.{Malformed}
 use Rattle.encoding_mem.proofs.DecoderCallLemmas.{enough_left, took_source, took_text, text_fits, none_pending}
-use Rattle.encoding_mem.proofs.driver.decode_source.Goals as goal
+use Rattle.encoding_mem.proofs.driver.decode_pieces.Goals as goal
 
 pub pieces-preserved-then-not-is_empty : goal.pieces-preserved-then-not-is_empty
 pieces-preserved-then-not-is_empty g c =

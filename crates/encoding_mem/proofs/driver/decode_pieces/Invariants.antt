@@ -3,7 +3,7 @@ use Rattle.encoding_mem.specs.Piece.{AreWellFormed}
 use Rattle.encoding_mem.specs.Decoding.{Takes}
 use Rattle.encoding_mem.specs.DecodedLength.{is_units}
 use Rattle.encoding_mem.specs.declared.room.OutputUnit.{OutputUnit}
-use Rattle.encoding_mem.proofs.driver.decode_source.Given as goal
+use Rattle.encoding_mem.proofs.driver.decode_pieces.Given as goal
 
 abbrev pub invariant-pieces : goal.invariant-pieces
 invariant-pieces g l = record {
