@@ -1,19 +1,22 @@
 #!/usr/bin/env python3
 """Measures `recode` beside iconv and a program over the crate encoding_rs: see docs/PERFORMANCE.md.
 
-    python3 bench/programs.py [--rounds N] [--megabytes N] [--program PATH].. [WORD..]
+    python3 bench/programs.py [--rounds N] [--megabytes N] [--program PATH] [--write] [WORD..]
 
 With words it measures the workloads that have one of them in their names. It wants `recode` built (`make build`);
 for the program over encoding_rs cargo and Debian's package librust-encoding-rs-dev. It makes its inputs, words of
-characters that the indexes map, the same in each run. What counts is the processor time of a whole run, the best
-of N, taken in turns; ratios of one run carry over to another machine, and that roughly. Each output of `recode` is
-compared with that of the program over encoding_rs.
+characters that the indexes map, the same in each run. What counts is the processor time of whole runs. In a round
+`recode` runs between two runs of each peer, and what it is compared with is their mean: so a machine that is slow
+for a moment is slow for both. A ratio is the median of all rounds, with its quartiles; one whose quartiles are more
+than a tenth apart has a `~`, and is no figure to quote. Each output of `recode` is compared with that of the program
+over encoding_rs. With --write the table goes into docs/PERFORMANCE.md, and docs/programs.svg shows it.
 """
 
 import argparse
 import os
 import random
 import shutil
+import statistics
 import subprocess
 import sys
 import tempfile
@@ -44,6 +47,9 @@ WORKLOADS = [
     ("EUC-KR to UTF-8", "korean", "euc-kr", "utf-8"),
     ("UTF-8 to EUC-KR", "korean", "utf-8", "euc-kr"),
 ]
+
+# The sources and targets of the shortest runs.
+STARTS = [("utf-8", "utf-8"), ("shift_jis", "utf-8"), ("gb18030", "utf-8"), ("big5", "euc-jp")]
 
 # The names that iconv has for the same tables, and those of Python's codecs, where they differ.
 ICONV = {"windows-1252": "CP1252", "shift_jis": "CP932", "euc-kr": "UHC"}
@@ -130,76 +136,184 @@ def peer(work):
     return os.path.join(folder, "target", "release", "programs") if built.returncode == 0 else None
 
 
-def tools_of(programs, other):
+def recode(program, source, target, *options):
+    return [program, "--from", source, "--to", target, "--mark", "keep", "--indexes", INDEXES, *options]
+
+
+def peers(work):
+    """What `recode` is compared with, by name: what to run for two encodings."""
     tools = {}
-    for place, program in enumerate(programs):
-        name = "recode" if place == 0 else os.path.basename(program)
-        tools[name] = lambda f, t, p=program: [p, "--from", f, "--to", t, "--mark", "keep", "--indexes", INDEXES]
+    other = peer(work)
     if other:
-        tools["encoding_rs"] = lambda f, t: [other, f, t]
+        tools["encoding_rs"] = lambda source, target: [other, source, target]
     if shutil.which("iconv"):
-        tools["iconv"] = lambda f, t: ["iconv", "-f", ICONV.get(f, f), "-t", ICONV.get(t, t)]
+        tools["iconv"] = lambda source, target: ["iconv", "-f", ICONV.get(source, source), "-t", ICONV.get(target, target)]
     return tools
 
 
-def measure(tools, source, labels, work, rounds):
-    """The best time of each tool, and whether the first and the peer wrote the same."""
-    best, outputs = {}, {}
-    for number in range(rounds):
-        for name, command in tools.items():
-            target = os.path.join(work, name) if number == 0 else os.devnull
-            spent, status = run(command(*labels), source, target)
-            outputs[name] = target if number == 0 else outputs[name]
-            if status not in (0, 1) or name == "iconv" and status != 0:
-                spent = float("inf")
-            best[name] = min(spent, best.get(name, float("inf")))
-    same = True
-    if "encoding_rs" in outputs:
-        with open(outputs["recode"], "rb") as ours, open(outputs["encoding_rs"], "rb") as theirs:
-            same = ours.read() == theirs.read()
-    return best, same
+class Ratio:
+    """How many times as fast the first of two commands is, by rounds in turns."""
+
+    def __init__(self, ratios):
+        self.median = statistics.median(ratios)
+        self.low, _, self.high = statistics.quantiles(ratios, n=4)
+
+    def __str__(self):
+        unsteady = "~" if self.high - self.low > self.median / 10 else ""
+        return "%s%.2f (%.2f to %.2f)" % (unsteady, self.median, self.low, self.high)
+
+
+def compared(ours, theirs, path, rounds):
+    """The ratio of two commands on an input, and the median time of each."""
+    ratios, own, other = [], [], []
+    before = run(theirs, path, os.devnull)[0]
+    for _ in range(rounds):
+        spent = run(ours, path, os.devnull)[0]
+        after = run(theirs, path, os.devnull)[0]
+        ratios.append((before + after) / 2 / spent)
+        own.append(spent)
+        other.append(after)
+        before = after
+    return Ratio(ratios), statistics.median(own), statistics.median(other)
+
+
+def same_output(ours, theirs, path, work):
+    """Whether two commands write the same."""
+    targets = [os.path.join(work, name) for name in ("ours", "theirs")]
+    for command, target in zip((ours, theirs), targets):
+        run(command, path, target)
+    with open(targets[0], "rb") as first, open(targets[1], "rb") as second:
+        return first.read() == second.read()
+
+
+def write_input(work, block, megabytes):
+    path = os.path.join(work, "input")
+    with open(path, "wb") as output:
+        output.write(block * max(1, megabytes * 1_000_000 // len(block)))
+    return path
+
+
+def workload(program, tools, title, labels, path, work, rounds):
+    """A row of the table: its cells, and the ratio to each peer by its name."""
+    ours = recode(program, *labels)
+    size = os.path.getsize(path) / 1e6
+    ratios, speeds, own = {}, [], []
+    for name, command in tools.items():
+        theirs = command(*labels)
+        if run(theirs, path, os.devnull)[1] not in ((0,) if name == "iconv" else (0, 1)):
+            speeds.append("fails")
+            continue
+        ratios[name], spent, other = compared(ours, theirs, path, rounds)
+        own.append(spent)
+        speeds.append("%.0f" % (size / other))
+    if "encoding_rs" in tools and not same_output(ours, tools["encoding_rs"](*labels), path, work):
+        title += " (differs)"
+    wide, _, _ = compared(recode(program, *labels, "--pivot", "utf16"), ours, path, rounds)
+    cells = [title, "%.0f" % (size / statistics.median(own))] + speeds
+    cells += [str(ratios[name]) if name in ratios else "-" for name in tools]
+    return cells + [str(wide), "%.1f" % resident(ours, path)], ratios
+
+
+def start_rows(program, tools, work, rounds):
+    """Rows of the processor time of a run of 100 bytes, in milliseconds: the indexes of both encodings are read."""
+    path = os.path.join(work, "input")
+    with open(path, "wb") as output:
+        output.write(b"x" * 100)
+    for labels in STARTS:
+        commands = [recode(program, *labels)] + [command(*labels) for command in tools.values()]
+        times = [[] for _ in commands]
+        for _ in range(8 * rounds):
+            for spent, command in zip(times, commands):
+                spent.append(run(command, path, os.devnull)[0])
+        yield ["%s to %s" % labels] + ["%.1f" % (1000 * statistics.median(spent)) for spent in times]
+
+
+def table(head, rows):
+    lines = ["| " + " | ".join(head) + " |", "|---|" + "---:|" * (len(head) - 1)]
+    return "\n".join(lines + ["| " + " | ".join(cells) + " |" for cells in rows])
+
+
+def plot(rows):
+    """An SVG of the ratios of each workload, on a scale of powers of two."""
+    import math
+
+    colours = {"encoding_rs": "#2b6cb0", "iconv": "#b7791f"}
+    left, unit, height = 210, 80, 34
+    place = lambda ratio: left + unit * (math.log2(max(ratio, 0.25)) + 2)
+    width, bottom = place(16) + 60, 30 + height * len(rows)
+    out = ['<svg xmlns="http://www.w3.org/2000/svg" width="%d" height="%d" font-family="sans-serif" font-size="12">' % (width, bottom + 30)]
+    out.append('<rect width="100%" height="100%" fill="white"/>')
+    for mark in (0.25, 0.5, 1, 2, 4, 8, 16):
+        stroke = "#444" if mark == 1 else "#ddd"
+        out.append('<line x1="%d" y1="24" x2="%d" y2="%d" stroke="%s"/>' % (place(mark), place(mark), bottom, stroke))
+        out.append('<text x="%d" y="16" text-anchor="middle">%g</text>' % (place(mark), mark))
+    for number, (title, ratios) in enumerate(rows):
+        top = 30 + height * number
+        out.append('<text x="%d" y="%d" text-anchor="end">%s</text>' % (left - 8, top + 18, title))
+        for offset, (name, ratio) in enumerate(ratios.items()):
+            start, end = sorted((place(1), place(ratio.median)))
+            y = top + 3 + 13 * offset
+            out.append('<rect x="%.1f" y="%d" width="%.1f" height="11" fill="%s"/>' % (start, y, max(end - start, 1), colours[name]))
+            out.append('<text x="%.1f" y="%d" font-size="10">%.2f</text>' % (max(end, place(1)) + 4, y + 10, ratio.median))
+    for number, (name, colour) in enumerate(colours.items()):
+        x = left + 220 * number
+        out.append('<rect x="%d" y="%d" width="11" height="11" fill="%s"/>' % (x, bottom + 10, colour))
+        out.append('<text x="%d" y="%d">recode to %s (above 1: faster)</text>' % (x + 16, bottom + 20, name))
+    return "\n".join(out + ["</svg>"]) + "\n"
+
+
+def machine(given):
+    """On what, when and how it was measured, in a sentence."""
+    with open("/proc/cpuinfo") as info:
+        model = next(line.split(":")[1].strip() for line in info if line.startswith("model name"))
+    kit = subprocess.run(["rt", "version"], capture_output=True, text=True).stdout.split("\n")[0]
+    return "Measured on %s: %s, %d processors, load %.1f at the start; %s; %d rounds of %d MB." % (
+        time.strftime("%Y-%m-%d", time.gmtime()), model, os.cpu_count(), os.getloadavg()[0], kit, given.rounds, given.megabytes)
+
+
+def write(path, name, text):
+    """Puts a text between the marks with its name in a document."""
+    with open(path, encoding="utf-8") as document:
+        whole = document.read()
+    begin, end = "<!-- %s -->\n" % name, "<!-- end of %s -->\n" % name
+    before, _, rest = whole.partition(begin)
+    _, _, behind = rest.partition(end)
+    with open(path, "w", encoding="utf-8") as document:
+        document.write(before + begin + text + "\n" + end + behind)
 
 
 def main():
     parser = argparse.ArgumentParser(description=__doc__, formatter_class=argparse.RawDescriptionHelpFormatter)
-    parser.add_argument("--rounds", type=int, default=5)
+    parser.add_argument("--rounds", type=int, default=15)
     parser.add_argument("--megabytes", type=int, default=8)
-    parser.add_argument("--program", action="append", help="recode, and further builds of it to compare")
+    parser.add_argument("--program", default=RECODE)
+    parser.add_argument("--write", action="store_true")
     parser.add_argument("words", nargs="*")
     given = parser.parse_args()
     with tempfile.TemporaryDirectory(dir="/dev/shm" if os.path.isdir("/dev/shm") else None) as work:
-        tools = tools_of(given.program or [RECODE], peer(work))
-        names = list(tools)
-        print("MB of input a second of processor time, best of %d; ratio: recode to it; resident set of recode" % given.rounds)
-        print("| Workload | " + " | ".join(names) + " | " + " | ".join("to " + n for n in names[1:]) + " | MB |")
-        print("|---|" + "---:|" * (2 * len(names)))
+        tools = peers(work)
+        head = ["Workload", "recode", *tools, *("to " + name for name in tools), "pivot of UTF-16 to that of UTF-8", "resident, MB"]
+        about = machine(given)
+        print(about, flush=True)
         made = dict(texts())
+        rows, ratios = [], []
         for title, text, source, target in WORKLOADS:
             if given.words and not any(word.lower() in title.lower() for word in given.words):
                 continue
-            block = made[text].encode(PYTHON.get(source, source))
-            path = os.path.join(work, "input")
-            with open(path, "wb") as output:
-                output.write(block * (given.megabytes * 1_000_000 // len(block)))
-            size = os.path.getsize(path) / 1e6
-            best, same = measure(tools, path, (source, target), work, given.rounds)
-            speeds = ["%.0f" % (size / best[n]) if best[n] < float("inf") else "fails" for n in names]
-            ratios = ["%.2f" % (best[n] / best["recode"]) if best[n] < float("inf") else "-" for n in names[1:]]
-            most = resident(tools["recode"](source, target), path)
-            cells = [title + ("" if same else " (differs)")] + speeds + ratios + ["%.1f" % most]
-            print("| " + " | ".join(cells) + " |", flush=True)
-        start(tools, work, given.rounds)
-
-
-def start(tools, work, rounds):
-    """The processor time of a run of 100 bytes, in milliseconds: the indexes of both encodings are read."""
-    path = os.path.join(work, "input")
-    with open(path, "wb") as output:
-        output.write(b"x" * 100)
-    for source, target in (("utf-8", "utf-8"), ("shift_jis", "utf-8"), ("gb18030", "utf-8"), ("big5", "euc-jp")):
-        times = {name: min(run(c(source, target), path, os.devnull)[0] for _ in range(4 * rounds)) for name, c in tools.items()}
-        spent = ", ".join("%s %.1f" % (name, 1000 * t) for name, t in times.items())
-        print("100 bytes, %s to %s, milliseconds: %s" % (source, target, spent))
+            path = write_input(work, made[text].encode(PYTHON.get(source, source)), given.megabytes)
+            cells, measured = workload(given.program, tools, title, (source, target), path, work, given.rounds)
+            rows.append(cells)
+            ratios.append((title, measured))
+            print(" | ".join(cells), flush=True)
+        starts = list(start_rows(given.program, tools, work, given.rounds))
+        start_head = ["100 bytes", "recode", *tools]
+        print(table(start_head, starts))
+    if given.write:
+        document = os.path.join(HERE, "..", "docs", "PERFORMANCE.md")
+        write(document, "programs", about + "\n\n" + table(head, rows))
+        write(document, "starts", table(start_head, starts))
+        with open(os.path.join(HERE, "..", "docs", "programs.svg"), "w", encoding="utf-8") as picture:
+            picture.write(plot(ratios))
 
 
 if __name__ == "__main__":

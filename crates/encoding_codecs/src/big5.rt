@@ -7,7 +7,7 @@ ghost use Rattle.encoding_mem.specs.EncoderRule.{IsFreshEncoder};
 ghost use Rattle.encoding_mem.specs.EncodedLength.{encoded_length_two_byte};
 ghost use Rattle.encoding_tables.specs.IndexLists.{has, entries_of};
 ghost use Rattle.encoding_tables.specs.Lookups.{AreEntries};
-ghost use Rattle.encoding_codecs.specs.Big5.{big5_rule, big5_value, pieces_big5, takes_last, big5_find, big5_trail, big5_bytes, big5_form, big5_coding};
+ghost use Rattle.encoding_codecs.specs.Big5.{big5_is_trail, big5_rule, big5_value, pieces_big5, takes_last, big5_find, big5_trail, big5_bytes, big5_form, big5_coding};
 ghost use Rattle.encoding_codecs.specs.laws.TwoByte.{two_byte_rule};
 ghost use Rattle.encoding_codecs.specs.laws.TwoByteDecide.{lead_rule_of};
 ghost use Rattle.encoding_codecs.specs.laws.Big5.{big5_is_two_byte, big5_laws};
@@ -44,14 +44,11 @@ impl<'a> Big5<'a> {
         requires { (big5_rule self.now.flat).first lead ≡ FirstByte.Lead }
         ensures { result ≡ (big5_rule self.now.flat).pair lead second }
     {
-        let row = (lead as u32 - 0x81) * 157;
-        if second >= 0x40 && second <= 0x7E {
-            self.value(row + (second as u32 - 0x40))
-        } else if second >= 0xA1 && second <= 0xFE {
-            self.value(row + (second as u32 - 0x62))
-        } else {
-            PairValue::NoChar
+        if !is_trail(second) {
+            return PairValue::NoChar;
         }
+        let offset = if second < 0x7F { 0x40 } else { 0x62 };
+        self.value((lead as u32 - 0x81) * 157 + (second as u32 - offset))
     }
 
     // What a pointer gives: four give a letter and a combining mark, whatever the index holds.
@@ -67,6 +64,15 @@ impl<'a> Big5<'a> {
             _ => value_of_entry(self.flat.value(pointer)),
         }
     }
+}
+
+// Whether a byte may follow a lead. Which of the two ranges a trail is in is not tested: a processor
+// can't foresee it.
+#[inline(always)]
+fn is_trail(byte: u8) -> bool
+    ensures { result ≡ big5_is_trail byte }
+{
+    byte >= 0x40 && byte <= 0xFE && (byte < 0x7F || byte > 0xA0)
 }
 
 // Whether a character that stands at two pointers is written by the last.

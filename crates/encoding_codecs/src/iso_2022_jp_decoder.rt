@@ -76,9 +76,9 @@ impl<'a> DecoderRule for Iso2022JpRule<'a> {
     }
 
     #[inline(always)]
-    fn text_at<'b>(&self, bytes: &'b [u8]) -> &'b str {
+    fn text_at<'b>(&self, bytes: &'b [u8], most: usize) -> &'b str {
         match self.mode {
-            Mode::Ascii => plain_text(bytes),
+            Mode::Ascii => plain_text(&bytes[..bytes.len().min(most)]),
             _ => "",
         }
     }

@@ -96,8 +96,8 @@ impl<T: LeadByteRule> DecoderRule for LeadByteDecoderRule<T> {
     fn pass(&mut self, _bytes: &[u8]) {}
 
     #[inline(always)]
-    fn text_at<'b>(&self, bytes: &'b [u8]) -> &'b str {
-        longer_ascii_prefix(bytes)
+    fn text_at<'b>(&self, bytes: &'b [u8], most: usize) -> &'b str {
+        longer_ascii_prefix(bytes, most)
     }
 
     fn room(&self) -> DecodedLength {

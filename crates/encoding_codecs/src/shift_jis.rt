@@ -72,12 +72,13 @@ impl<'a> ShiftJis<'a> {
     }
 }
 
-// Whether a byte may follow a lead.
+// Whether a byte may follow a lead. No test here tells the two ranges apart, which trails fall into
+// as they come: a processor can't foresee it.
 #[inline(always)]
 fn is_trail(byte: u8) -> bool
     ensures { result ≡ is_trail byte }
 {
-    matches!(byte, 0x40..=0x7E | 0x80..=0xFC)
+    byte >= 0x40 && byte <= 0xFC && byte != 0x7F
 }
 
 // The pointer of a lead and a trail.

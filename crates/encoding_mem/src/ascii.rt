@@ -13,20 +13,21 @@ pub fn ascii_prefix(bytes: &[u8]) -> &str
     unsafe { std::str::from_utf8_unchecked(&bytes[..end]) }
 }
 
-/// The run of ASCII at the start of these bytes if it has two bytes at least, and else nothing:
-/// what a rule in which each ASCII byte is itself returns as `text_at`. A run of one is cheaper as
-/// a character.
+/// The run of ASCII at the start of these bytes, at most so many of it, if two bytes at least are
+/// ASCII there, and else nothing: what a rule in which each ASCII byte is itself returns as
+/// `text_at`. A run of one is cheaper as a character.
 #[inline(always)]
-pub fn longer_ascii_prefix(bytes: &[u8]) -> &str
+pub fn longer_ascii_prefix(bytes: &[u8], most: usize) -> &str
     ensures prefix { result.now ≡ take (length result.now) bytes.now }
+    ensures few { length result.now ≤ most }
     ensures ascii { IsAscii result.now }
-    ensures some { 2 ≤ length bytes.now → slice_index bytes.now 0 < 0x80
+    ensures some { 2 ≤ length bytes.now → 2 ≤ most → slice_index bytes.now 0 < 0x80
         → slice_index bytes.now 1 < 0x80 → 2 ≤ length result.now }
     ensures longest { 0 < length result.now → length result.now < length bytes.now
-        → 0x80 ≤ slice_index bytes.now (length result.now) }
+        → length result.now < most → 0x80 ≤ slice_index bytes.now (length result.now) }
 {
     match bytes {
-        [a, b, ..] if *a < 0x80 && *b < 0x80 => ascii_prefix(bytes),
+        [a, b, ..] if *a < 0x80 && *b < 0x80 => ascii_prefix(&bytes[..bytes.len().min(most)]),
         _ => "",
     }
 }

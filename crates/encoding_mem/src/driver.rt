@@ -142,7 +142,7 @@ fn decode_pieces<F: DecoderRule, S: Sink>(
     let mut read = 0;
     'pieces: while read < src.len() {
         let rest = &src[read..];
-        let text = codec.text_at(&rest[..rest.len().min(sink.free_len())]);
+        let text = codec.text_at(rest, sink.free_len());
         if !text.is_empty() {
             sink.put_text(text);
             read += text.len();

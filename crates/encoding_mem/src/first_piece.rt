@@ -62,9 +62,11 @@ pub trait DecoderRule {
         ensures { self.new ≡ after self.old bytes.now };
 
     /// The text at the start of these bytes that can be copied as it is, whatever follows, and
-    /// leaves the state as it is. It may be empty: then `first_piece` says what is there.
-    fn text_at<'b>(&self, bytes: &'b [u8]) -> &'b str
+    /// leaves the state as it is: at most so many bytes of it. It may be empty: then `first_piece`
+    /// says what is there.
+    fn text_at<'b>(&self, bytes: &'b [u8], most: usize) -> &'b str
         ensures prefix { result.now ≡ take (length result.now) bytes.now }
+        ensures few { length result.now ≤ most }
         ensures pieces { (r : List ℕ) → pieces self.now (result.now ++ r)
             ≡ text_pieces (chars result.now) ++ pieces self.now r }
         ensures room { (k : OutputUnit) (m : ℕ) → text_len (is_units k) result.now + needs self.now k m

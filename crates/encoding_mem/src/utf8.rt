@@ -50,8 +50,8 @@ impl DecoderRule for Utf8Rule {
         let _ = bytes;
     }
 
-    fn text_at<'b>(&self, bytes: &'b [u8]) -> &'b str {
-        text_prefix(bytes)
+    fn text_at<'b>(&self, bytes: &'b [u8], most: usize) -> &'b str {
+        text_prefix(&bytes[..bytes.len().min(most)])
     }
 
     fn room(&self) -> DecodedLength {

@@ -148,8 +148,8 @@ fn first_high_byte_at_each_offset(rt: HostRuntime) {
 
 #[test]
 fn runs_of_two_are_copied(rt: HostRuntime) {
-    assert_eq!(rt; longer_ascii_prefix(&[0x61, 0x62, 0xC3]), "ab");
-    assert_eq!(rt; longer_ascii_prefix(&[0x61, 0x7F]), "a\u{7F}");
-    assert_eq!(rt; longer_ascii_prefix(&[0x61, 0xC3, 0x61]), "");
-    assert_eq!(rt; longer_ascii_prefix(&[0x61]), "");
+    assert_eq!(rt; longer_ascii_prefix(&[0x61, 0x62, 0xC3], 9), "ab");
+    assert_eq!(rt; longer_ascii_prefix(&[0x61, 0x7F], 9), "a\u{7F}");
+    assert_eq!(rt; longer_ascii_prefix(&[0x61, 0xC3, 0x61], 9), "");
+    assert_eq!(rt; longer_ascii_prefix(&[0x61], 9), "");
 }

@@ -52,7 +52,7 @@ impl DecoderRule for ReplacementRule {
         self.error_returned = true;
     }
 
-    fn text_at<'b>(&self, _bytes: &'b [u8]) -> &'b str {
+    fn text_at<'b>(&self, _bytes: &'b [u8], _most: usize) -> &'b str {
         ""
     }
 

@@ -101,8 +101,8 @@ impl<'a> DecoderRule for SingleByteRule<'a> {
     fn pass(&mut self, _bytes: &[u8]) {}
 
     #[inline(always)]
-    fn text_at<'b>(&self, bytes: &'b [u8]) -> &'b str {
-        longer_ascii_prefix(bytes)
+    fn text_at<'b>(&self, bytes: &'b [u8], most: usize) -> &'b str {
+        longer_ascii_prefix(bytes, most)
     }
 
     fn room(&self) -> DecodedLength {

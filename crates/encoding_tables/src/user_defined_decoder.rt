@@ -45,8 +45,8 @@ impl DecoderRule for UserDefinedRule {
 
     fn pass(&mut self, _bytes: &[u8]) {}
 
-    fn text_at<'b>(&self, bytes: &'b [u8]) -> &'b str {
-        longer_ascii_prefix(bytes)
+    fn text_at<'b>(&self, bytes: &'b [u8], most: usize) -> &'b str {
+        longer_ascii_prefix(bytes, most)
     }
 
     fn room(&self) -> DecodedLength {

@@ -52,7 +52,7 @@ impl DecoderRule for Utf16Rule {
     fn pass(&mut self, _bytes: &[u8]) {}
 
     #[inline(always)]
-    fn text_at<'b>(&self, _bytes: &'b [u8]) -> &'b str {
+    fn text_at<'b>(&self, _bytes: &'b [u8], _most: usize) -> &'b str {
         ""
     }
 
@@ -77,12 +77,12 @@ fn decide(big_endian: bool, bytes: &[u8], last: bool) -> FirstPiece
 fn decide_unit(big_endian: bool, unit: u16, rest: &[u8], last: bool) -> FirstPiece
     ensures { result ≡ decide_unit big_endian unit rest.now last }
 {
-    if is_high_surrogate(unit) {
-        decide_pair(big_endian, unit, rest, last)
-    } else if is_low_surrogate(unit) {
-        FirstPiece::Malformed(2)
-    } else {
+    if unit < 0xD800 || unit >= 0xE000 {
         FirstPiece::One(scalar_of(u32::from(unit)), 2)
+    } else if is_high_surrogate(unit) {
+        decide_pair(big_endian, unit, rest, last)
+    } else {
+        FirstPiece::Malformed(2)
     }
 }
 

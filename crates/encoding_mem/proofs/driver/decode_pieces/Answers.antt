@@ -14,7 +14,7 @@ pieces-preserved-then-not-is_empty g c =
     let i = c.pieces.invariant in
     let e = c.text_at-text.ensures in
     let text : List ℕ = c.text_at-text.result.now in
-    let fits : length text ≤ length c.args.src.now - c.pieces.read = text_fits c.args.src.now _ _ text c.pieces.read _ (take_rest c.args.src.now c.pieces.read) refl e.prefix in
+    let fits : length text ≤ length c.args.src.now - c.pieces.read = text_fits c.args.src.now (drop c.pieces.read c.args.src.now) _ text c.pieces.read _ refl refl e.prefix in
     record {
       none = i.none;
       limits = i.limits;
@@ -26,7 +26,7 @@ pieces-preserved-then-not-is_empty g c =
           let len_is : text_len (is_units k) text ≡ text_len g.S.Sink.is_units text = ap (λ t. text_len t text) units in
           let less : text_len (is_units k) text + need rest ≤ need all = subst (λ (x : ℕ). text_len (is_units k) text + need rest ≤ need x) sum_is (e.room k rest) in
           enough_left (text_len g.S.Sink.is_units text) (need rest) (need all) (g.S.Sink.free c.pieces.sink) (g.S.Sink.free c.put_text.new.self) (omega (arith, less, len_is)) (i.enough k extra units stops h) c.put_text.ensures.free);
-      takes = took_text _ (g.F.DecoderRule.pieces c.pieces.codec) c.args.src.now _ _ text c.args.last _ c.pieces.read _ (λ t. g.S.Sink.writes c.args.sink.now t c.pieces.sink) (λ t. g.S.Sink.writes c.args.sink.now t c.put_text.new.self) (take_rest c.args.src.now c.pieces.read) refl e.prefix c.text_at-text.utf8 e.pieces (λ t w. g.met.S.Sink.writes_more _ _ _ t _ w c.put_text.ensures.writes) i.takes;
+      takes = took_text _ (g.F.DecoderRule.pieces c.pieces.codec) c.args.src.now (drop c.pieces.read c.args.src.now) _ text c.args.last _ c.pieces.read _ (λ t. g.S.Sink.writes c.args.sink.now t c.pieces.sink) (λ t. g.S.Sink.writes c.args.sink.now t c.put_text.new.self) refl refl e.prefix c.text_at-text.utf8 e.pieces (λ t w. g.met.S.Sink.writes_more _ _ _ t _ w c.put_text.ensures.writes) i.takes;
     }
 
 pub pieces-preserved : goal.pieces-preserved

@@ -1,4 +1,4 @@
-use Rattle.std.proofs.Common.{refl}
+use Rattle.std.proofs.Common.{refl, arith}
 use Rattle.encoding_mem.specs.laws.DecodedLength.{text_needs_multibyte}
 use Rattle.encoding_codecs.proofs.Iso2022JpPieceLemmas.{plain_pieces, no_pieces, no_room}
 use Rattle.encoding_codecs.proofs.iso_2022_jp_decoder.Iso2022JpRuleDecoderRule.text_at.Goals as goal
@@ -14,4 +14,4 @@ returns-in-Ascii-clause-room c k m = text_needs_multibyte c.plain_text.result.no
 pub returns-in_default : goal.returns-in_default
 returns-in_default c =
     let s = c.args.self.now in
-    record { prefix = refl; pieces = λ r. no_pieces s.jis0208.flat s.mode r; room = no_room }
+    record { prefix = refl; few = omega arith; pieces = λ r. no_pieces s.jis0208.flat s.mode r; room = no_room }
