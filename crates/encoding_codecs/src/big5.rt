@@ -66,8 +66,8 @@ impl<'a> Big5<'a> {
     }
 }
 
-// Whether a byte may follow a lead. Which of the two ranges a trail is in is not tested: a processor
-// can't foresee it.
+// Whether a byte may follow a lead. Which of the two ranges a trail is in is not tested, since a
+// processor can't foresee it.
 #[inline(always)]
 fn is_trail(byte: u8) -> bool
     ensures { result ≡ big5_is_trail byte }

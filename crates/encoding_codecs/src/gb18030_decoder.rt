@@ -37,10 +37,10 @@ impl<'a> LeadByteRule for Gb18030Rule<'a> {
 
     #[inline(always)]
     fn first(&self, byte: u8) -> FirstByte {
-        if byte == 0x80 {
-            FirstByte::Alone('\u{20AC}')
-        } else if is_lead(byte) {
+        if is_lead(byte) {
             FirstByte::Lead
+        } else if byte == 0x80 {
+            FirstByte::Alone('\u{20AC}')
         } else {
             FirstByte::Unused
         }
@@ -52,10 +52,10 @@ impl<'a> LeadByteRule for Gb18030Rule<'a> {
             [] => cut_short(1, last),
             [second, rest @ ..] => {
                 let second = *second;
-                if is_digit(second) {
-                    self.after_two(lead, second, rest, last)
-                } else {
+                if second >= 0x40 || !is_digit(second) {
                     decide_trail(1, self.pair(lead, second), second)
+                } else {
+                    self.after_two(lead, second, rest, last)
                 }
             }
         }

@@ -72,8 +72,8 @@ impl<'a> ShiftJis<'a> {
     }
 }
 
-// Whether a byte may follow a lead. No test here tells the two ranges apart, which trails fall into
-// as they come: a processor can't foresee it.
+// Whether a byte may follow a lead. Which of the two ranges a trail is in is not tested, since a
+// processor can't foresee it.
 #[inline(always)]
 fn is_trail(byte: u8) -> bool
     ensures { result ≡ is_trail byte }

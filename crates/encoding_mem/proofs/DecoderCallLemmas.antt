@@ -1,6 +1,6 @@
 -- Why a call ended, as a caller sees it. Room that is enough. How far a call has come.
 use Rattle.std.proofs.Common.{◌≡◌, ◌≢◌, ℕ, ◌+◌, ◌<◌, ◌≤◌, inl, inr, Bool, List, [], ◌++◌, length, refl, subst, sym, ◌∙◌, ap, arith, ◌-◌, true, false, IsTrue, Option, None, Some, ◌∷◌, take, drop, get_or, append_assoc, length-append, length-drop, length-take, encode_utf8_all}
-use Rattle.std.proofs.lemmas.List.{append-nil, drop-drop, drop_all, drop_more, take-append-drop, take-take}
+use Rattle.std.proofs.lemmas.List.{append-nil, drop-drop, drop_all, drop_more, take-append-drop, take_rest}
 use Rattle.encoding_mem.specs.Piece.{Piece, first, sizes, ArePieces, malformed, piece_len, scalars_of, scalars, AreWellFormed}
 use Rattle.encoding_mem.specs.Decoding.{DecoderState, EndsWith, IsUndecided, Takes, Reports}
 use Rattle.encoding_mem.specs.DecodedLength.{is_units, goes_on, replacement_len, left_after, decoded_length}
@@ -139,37 +139,28 @@ text_scalars : (cs : List ℕ) → scalars (text_pieces cs) ≡ cs
 text_scalars [] = refl
 text_scalars (c ∷ cs) = ap (λ y. c ∷ y) (text_scalars cs)
 
-text_within : (src rest window text : List ℕ) (read k : ℕ) → rest ≡ drop read src → window ≡ take k rest → text ≡ take (length text) window → (length text ≤ k) × (length text ≤ length src - read)
-text_within src rest window text read k is part prefix =
-    let below : length text ≤ length window = omega (arith, ap length prefix, length-take (length text) window) in
-    let part_len : length window ≤ k = omega (arith, ap length part, length-take k rest) in
-    let rest_len : length window ≤ length src - read = omega (arith, ap length part, length-take k rest, ap length is, length-drop read src) in
-    (omega arith, omega arith)
+pub text_fits : (src rest text : List ℕ) (read : ℕ) → rest ≡ drop read src → text ≡ take (length text) rest → length text ≤ length src - read
+text_fits src rest text read is prefix = omega (arith, ap length prefix, length-take (length text) rest, ap length is, length-drop read src)
 
-pub text_fits : (src rest window text : List ℕ) (read k : ℕ) → rest ≡ drop read src → window ≡ take k rest → text ≡ take (length text) window → length text ≤ length src - read
-text_fits src rest window text read k is part prefix = (text_within src rest window text read k is part prefix).1
-
-pub took_text : (before P : List ℕ → List Piece) (src rest window text : List ℕ) (last : Bool) (held read k : ℕ) (W W' : List ℕ → Type 0)
+pub took_text : (before P : List ℕ → List Piece) (src rest text : List ℕ) (last : Bool) (held read : ℕ) (W W' : List ℕ → Type 0)
     → rest ≡ drop read src
-    → window ≡ take k rest
-    → text ≡ take (length text) window
+    → text ≡ take (length text) rest
     → IsUtf8 text
     → ((r : List ℕ) → P (text ++ r) ≡ text_pieces (chars text) ++ P r)
     → ((t : List ℕ) → W t → W' (t ++ chars text))
     → Takes AreWellFormed before P src last held 0 read W
     → Takes AreWellFormed before P src last held 0 (read + length text) W'
-took_text before P src rest window text last held read k W W' is part prefix utf8 gives step h =
+took_text before P src rest text last held read W W' is prefix utf8 gives step h =
     let n : ℕ = length text in
     let ps : List Piece = text_pieces (chars text) in
-    let fits = text_within src rest window text read k is part prefix in
+    let fits = text_fits src rest text read is prefix in
     let size : sizes ps ≡ n = text_size (chars text) ∙ ap length (encodes-chars text utf8) in
-    let prefix_of : text ≡ take n rest = prefix ∙ ap (take n) part ∙ take-take n k rest fits.0 in
-    let cut : drop read src ≡ text ++ drop (read + n) src = sym is ∙ sym (take-append-drop n rest) ∙ ap (λ y. y ++ drop n rest) (sym prefix_of) ∙ ap (λ y. text ++ y) (ap (drop n) is ∙ drop-drop n read src) in
+    let cut : drop read src ≡ text ++ drop (read + n) src = sym is ∙ sym (take-append-drop n rest) ∙ ap (λ y. y ++ drop n rest) (sym prefix) ∙ ap (λ y. text ++ y) (ap (drop n) is ∙ drop-drop n read src) in
     let all : scalars (h.taken ++ ps) ≡ scalars h.taken ++ chars text = scalars-append h.taken ps ∙ ap (λ y. scalars h.taken ++ y) (text_scalars (chars text)) in
     record {
       taken = h.taken ++ ps;
       well_formed = AreWellFormed-append h.taken ps h.well_formed (text_well_formed (chars text));
-      within = omega (arith, h.within, fits.1);
+      within = omega (arith, h.within, fits);
       counted = omega (arith, h.counted, sizes-append h.taken ps, size);
       writes = rw all (step (scalars h.taken) h.writes);
       rest = λ r e.
@@ -293,3 +284,24 @@ pub left_few : (P P' : List ℕ → List Piece) (window pending now : List ℕ) 
 left_few P P' window pending now here p n s e f near first_is =
     let there : first (P (pending ++ [])) ≡ Some p = ap (λ x. first (P (x ++ []))) (sym e) ∙ ap first (first_is.rest [] (λ _. refl)) in
     omega (arith, near [] p there, ap length f, length-drop n pending, s)
+
+-- What is left of the source behind n more bytes: how long it is, and where it begins.
+pub record LeftBehind (src rest new : List ℕ) (n : ℕ) : Type 0 where
+  pub within : length new ≤ length src
+  pub behind : new ≡ drop (length src - length new) src
+  pub read : length src - length new ≡ (length src - length rest) + n
+  pub size : length new ≡ length rest - n
+
+pub left_behind : (src rest : List ℕ) (n : ℕ) → length rest ≤ length src → rest ≡ drop (length src - length rest) src → n ≤ length rest → LeftBehind src rest (take (length rest - n) (drop n rest)) n
+left_behind src rest n within behind fits =
+    let read : ℕ = length src - length rest in
+    let new : List ℕ = take (length rest - n) (drop n rest) in
+    let is : new ≡ drop n rest = take_rest rest n in
+    let size : length new ≡ length rest - n = ap length is ∙ length-drop n rest in
+    let later : length src - length new ≡ read + n = omega (arith, size, within, fits) in
+    record {
+      within = omega (arith, size, within);
+      behind = is ∙ ap (drop n) behind ∙ drop-drop n read src ∙ ap (λ k. drop k src) (sym later);
+      read = later;
+      size = size;
+    }

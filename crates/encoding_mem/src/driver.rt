@@ -139,13 +139,12 @@ fn decode_pieces<F: DecoderRule, S: Sink>(
     ensures short { length pending.new < 7 }
     ensures near { IsNear (F.pieces codec.new) pending.new }
 {
-    let mut read = 0;
-    'pieces: while read < src.len() {
-        let rest = &src[read..];
+    let mut rest = src;
+    'pieces: while !rest.is_empty() {
         let text = codec.text_at(rest, sink.free_len());
         if !text.is_empty() {
             sink.put_text(text);
-            read += text.len();
+            rest = &rest[text.len()..];
             continue;
         }
         match take_piece(codec, rest, last, sink) {
@@ -153,12 +152,15 @@ fn decode_pieces<F: DecoderRule, S: Sink>(
                 pending.fill(rest);
                 return (DecoderResult::InputEmpty, src.len());
             }
-            Step::Full => return (DecoderResult::OutputFull, read),
-            Step::Took(n) => read += n,
-            Step::Broke(n) => return (DecoderResult::Malformed(n as u8, 0), read + n),
+            Step::Full => return (DecoderResult::OutputFull, src.len() - rest.len()),
+            Step::Took(n) => rest = &rest[n..],
+            Step::Broke(n) => {
+                let read = src.len() - rest.len() + n;
+                return (DecoderResult::Malformed(n as u8, 0), read);
+            }
         }
     }
-    (DecoderResult::InputEmpty, read)
+    (DecoderResult::InputEmpty, src.len())
 }
 
 /// Decodes a source where nothing is pending: runs of text as a whole, and what else there is by pieces.

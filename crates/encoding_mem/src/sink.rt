@@ -51,8 +51,8 @@ pub trait Sink: Drop {
     fn written(&self) -> usize
         ensures { result ≡ count self.now };
 
-    /// Hands out the sink, and leaves one without room in its place. A loop that owns its sink keeps
-    /// in registers what it would else load and store for each character.
+    /// Hands out the sink, and leaves one without room in its place, for a loop that puts it back.
+    /// One that owns its sink keeps in registers what it would load and store for each character.
     fn detach(&mut self) -> Self
         ensures { result ≡ self.old };
 

@@ -81,10 +81,12 @@ impl<'a> Sink for Utf8Sink<'a> {
     #[inline(always)]
     fn put(&mut self, c: char) {
         let code = c as u32;
-        if code < 0x80 {
-            self.put_byte(code as u8);
-        } else if code < 0x800 {
-            self.put_bytes(&[(0xC0 + code / 64) as u8, (0x80 + code % 64) as u8]);
+        if code < 0x800 {
+            if code < 0x80 {
+                self.put_byte(code as u8);
+            } else {
+                self.put_bytes(&[(0xC0 + code / 64) as u8, (0x80 + code % 64) as u8]);
+            }
         } else if code < 0x1_0000 {
             self.put_bytes(&[
                 (0xE0 + code / 4096) as u8,

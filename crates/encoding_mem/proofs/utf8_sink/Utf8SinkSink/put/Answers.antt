@@ -1,8 +1,8 @@
 use Rattle.encoding_mem.specs.laws.Utf8.{encode_two, encode_three, encode_four}
 use Rattle.encoding_mem.proofs.utf8_sink.Utf8SinkSink.put.Goals as goal
 
-pub returns-then-code-lt2048-clause-writes : goal.returns-then-code-lt2048-clause-writes
-returns-then-code-lt2048-clause-writes c =
+pub returns-else-code-lt128-clause-writes : goal.returns-else-code-lt128-clause-writes
+returns-else-code-lt128-clause-writes c =
     let a = c.put_bytes.ensures in
     (a.same_reference, rw (encode_two c.args.c c.if-code-lt128.false c.if-code-lt2048.true) a.adds)
 
