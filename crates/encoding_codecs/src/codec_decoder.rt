@@ -36,7 +36,8 @@ impl<R: DecoderRule> CodecDecoder<R> {
 impl<R: DecoderRule> SinkDecoder for CodecDecoder<R> {
     ghost state = { λ d. ⟦<Buffered<R> as SinkDecoder>⟧.state d.inner };
 
-    #[inline(always)]
+    // A function for each encoding: all loops in one would take registers from each other.
+    #[inline(never)]
     fn decode_into<S: Sink>(
         &mut self,
         src: &[u8],

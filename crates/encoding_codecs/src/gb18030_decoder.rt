@@ -37,10 +37,10 @@ impl<'a> LeadByteRule for Gb18030Rule<'a> {
 
     #[inline(always)]
     fn first(&self, byte: u8) -> FirstByte {
-        if is_lead(byte) {
-            FirstByte::Lead
-        } else if byte == 0x80 {
+        if byte == 0x80 {
             FirstByte::Alone('\u{20AC}')
+        } else if is_lead(byte) {
+            FirstByte::Lead
         } else {
             FirstByte::Unused
         }

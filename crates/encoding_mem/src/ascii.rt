@@ -26,10 +26,8 @@ pub fn longer_ascii_prefix(bytes: &[u8], most: usize) -> &str
     ensures longest { 0 < length result.now → length result.now < length bytes.now
         → length result.now < most → 0x80 ≤ slice_index bytes.now (length result.now) }
 {
-    // The first byte is looked at first: where it is not ASCII, there is one test.
     match bytes {
-        [a, ..] if *a >= 0x80 => "",
-        [_, b, ..] if *b < 0x80 => ascii_prefix(&bytes[..bytes.len().min(most)]),
+        [a, b, ..] if *a < 0x80 && *b < 0x80 => ascii_prefix(&bytes[..bytes.len().min(most)]),
         _ => "",
     }
 }

@@ -37,7 +37,7 @@ impl<R: DecidedPiece> EachByteDecoder<R> {
 impl<R: DecidedPiece> SinkDecoder for EachByteDecoder<R> {
     ghost state = { λ d. ⟦<Bytewise<R> as SinkDecoder>⟧.state d.inner };
 
-    #[inline(always)]
+    #[inline(never)]
     fn decode_into<S: Sink>(
         &mut self,
         src: &[u8],

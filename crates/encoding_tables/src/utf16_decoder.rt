@@ -2,7 +2,7 @@
 // decoder").
 
 ghost use Rattle.std.proofs.Common.{refl, arith};
-ghost use Rattle.std.specs.Prelude.{◌≡◌, ◌+◌, IsTrue};
+ghost use Rattle.std.specs.Prelude.{◌≡◌, ◌+◌, Bool, IsTrue, false, true};
 ghost use Rattle.std.specs.Char.Utf16.{is_high_surrogate, is_low_surrogate, surrogate_pair_char};
 ghost use Rattle.encoding_mem.specs.laws.Pieces.{pieces_by-nil, pieces_by-whole, pieces_by-are_pieces};
 ghost use Rattle.encoding_mem.specs.Decoding.{IsFreshDecoder};
@@ -18,20 +18,54 @@ use encoding_mem::sink::Sink;
 use encoding_mem::sink_decoder::{Buffered, SinkDecoder};
 use encoding_mem::{DecoderResult, RawDecoder};
 
-// The rule of UTF-16: a unit is a character, or two surrogates are.
-#[derive(Clone, Copy)]
-struct Utf16Rule {
-    big_endian: bool,
+// Which of its two bytes is a unit's high one. It is a type, so that the loop of neither order asks
+// for it with each unit.
+trait ByteOrder {
+    ghost big_endian: { Bool };
+
+    /// The unit that two bytes are.
+    fn unit_of(a: u8, b: u8) -> u16
+        ensures { result ≡ unit_of big_endian a b };
 }
 
-impl DecoderRule for Utf16Rule {
-    ghost pieces = { λ s x. pieces_utf16 s.big_endian x };
+#[derive(Clone, Copy)]
+struct BigEndian {}
 
-    ghost whole = { λ s. pieces_by-whole (first_piece_utf16 s.big_endian) (cuts_utf16 s.big_endian) };
+impl ByteOrder for BigEndian {
+    ghost big_endian = { true };
 
-    ghost are_pieces = { λ s. pieces_by-are_pieces (first_piece_utf16 s.big_endian) (cuts_utf16 s.big_endian) };
+    #[inline(always)]
+    fn unit_of(a: u8, b: u8) -> u16 {
+        u16::from_be_bytes([a, b])
+    }
+}
 
-    ghost ends = { λ s. pieces_by-nil (first_piece_utf16 s.big_endian) };
+#[derive(Clone, Copy)]
+struct LittleEndian {}
+
+impl ByteOrder for LittleEndian {
+    ghost big_endian = { false };
+
+    #[inline(always)]
+    fn unit_of(a: u8, b: u8) -> u16 {
+        u16::from_le_bytes([a, b])
+    }
+}
+
+// The rule of UTF-16 in a byte order: a unit is a character, or two surrogates are.
+#[derive(Drop)]
+struct Utf16Rule<E: ByteOrder> {
+    order: E,
+}
+
+impl<E: ByteOrder> DecoderRule for Utf16Rule<E> {
+    ghost pieces = { λ _ x. pieces_utf16 E.big_endian x };
+
+    ghost whole = { λ _. pieces_by-whole (first_piece_utf16 E.big_endian) (cuts_utf16 E.big_endian) };
+
+    ghost are_pieces = { λ _. pieces_by-are_pieces (first_piece_utf16 E.big_endian) (cuts_utf16 E.big_endian) };
+
+    ghost ends = { λ _. pieces_by-nil (first_piece_utf16 E.big_endian) };
 
     ghost needs = { λ _. decoded_length decoded_length_utf16 };
 
@@ -45,7 +79,7 @@ impl DecoderRule for Utf16Rule {
 
     #[inline(always)]
     fn first_piece(&self, bytes: &[u8], last: bool) -> FirstPiece {
-        decide(self.big_endian, bytes, last)
+        decide::<E>(bytes, last)
     }
 
     #[inline(always)]
@@ -62,25 +96,25 @@ impl DecoderRule for Utf16Rule {
 }
 
 #[inline(always)]
-fn decide(big_endian: bool, bytes: &[u8], last: bool) -> FirstPiece
-    ensures { result ≡ decide_utf16 big_endian bytes.now last }
+fn decide<E: ByteOrder>(bytes: &[u8], last: bool) -> FirstPiece
+    ensures { result ≡ decide_utf16 E.big_endian bytes.now last }
 {
     match bytes {
         [] => FirstPiece::More,
         [_] => cut_short(1, last),
-        [a, b, rest @ ..] => decide_unit(big_endian, unit_of(big_endian, *a, *b), rest, last),
+        [a, b, rest @ ..] => decide_unit::<E>(E::unit_of(*a, *b), rest, last),
     }
 }
 
 // By a unit, and the bytes behind it.
 #[inline(always)]
-fn decide_unit(big_endian: bool, unit: u16, rest: &[u8], last: bool) -> FirstPiece
-    ensures { result ≡ decide_unit big_endian unit rest.now last }
+fn decide_unit<E: ByteOrder>(unit: u16, rest: &[u8], last: bool) -> FirstPiece
+    ensures { result ≡ decide_unit E.big_endian unit rest.now last }
 {
     if unit < 0xD800 || unit >= 0xE000 {
         FirstPiece::One(scalar_of(u32::from(unit)), 2)
     } else if is_high_surrogate(unit) {
-        decide_pair(big_endian, unit, rest, last)
+        decide_pair::<E>(unit, rest, last)
     } else {
         FirstPiece::Malformed(2)
     }
@@ -88,33 +122,21 @@ fn decide_unit(big_endian: bool, unit: u16, rest: &[u8], last: bool) -> FirstPie
 
 // By a high surrogate, and the bytes behind it.
 #[inline(always)]
-fn decide_pair(big_endian: bool, high: u16, rest: &[u8], last: bool) -> FirstPiece
+fn decide_pair<E: ByteOrder>(high: u16, rest: &[u8], last: bool) -> FirstPiece
     requires { IsTrue (is_high_surrogate high) }
-    ensures { result ≡ decide_pair big_endian high rest.now last }
+    ensures { result ≡ decide_pair E.big_endian high rest.now last }
 {
     match rest {
         [] => cut_short(2, last),
         [_] => cut_short(3, last),
         [a, b, ..] => {
-            let low = unit_of(big_endian, *a, *b);
+            let low = E::unit_of(*a, *b);
             if is_low_surrogate(low) {
                 FirstPiece::One(char_of_pair(high, low), 4)
             } else {
                 FirstPiece::Malformed(2)
             }
         }
-    }
-}
-
-// The unit that two bytes are.
-#[inline(always)]
-fn unit_of(big_endian: bool, a: u8, b: u8) -> u16
-    ensures { result ≡ unit_of big_endian a b }
-{
-    if big_endian {
-        u16::from_be_bytes([a, b])
-    } else {
-        u16::from_le_bytes([a, b])
     }
 }
 
@@ -141,11 +163,54 @@ fn char_of_pair(high: u16, low: u16) -> char
     scalar_of(0x10000 + (high as u32 - 0xD800) * 0x400 + (low as u32 - 0xDC00))
 }
 
+// A decoder of UTF-16 for each byte order.
+#[derive(Drop)]
+enum Ordered {
+    Big(Buffered<Utf16Rule<BigEndian>>),
+    Little(Buffered<Utf16Rule<LittleEndian>>),
+}
+
+impl SinkDecoder for Ordered {
+    ghost use Rattle.encoding_tables.specs.declared.utf16_decoder.Ordered.TheVariants.{Big, Little};
+
+    ghost state = { elim [
+      | Big d ↦ ⟦<Buffered<Utf16Rule<BigEndian>> as SinkDecoder>⟧.state d
+      | Little d ↦ ⟦<Buffered<Utf16Rule<LittleEndian>> as SinkDecoder>⟧.state d
+    ] };
+
+    #[inline(always)]
+    fn decode_into<S: Sink>(
+        &mut self,
+        src: &[u8],
+        sink: &mut S,
+        last: bool,
+    ) -> (DecoderResult, usize) {
+        match self {
+            Ordered::Big(decoder) => decoder.decode_into(src, sink, last),
+            Ordered::Little(decoder) => decoder.decode_into(src, sink, last),
+        }
+    }
+
+    fn held_len(&self) -> usize {
+        match self {
+            Ordered::Big(decoder) => decoder.held_len(),
+            Ordered::Little(decoder) => decoder.held_len(),
+        }
+    }
+
+    fn room(&self) -> DecodedLength {
+        match self {
+            Ordered::Big(decoder) => decoder.room(),
+            Ordered::Little(decoder) => decoder.room(),
+        }
+    }
+}
+
 /// Decodes UTF-16, in either byte order. A surrogate in no pair is malformed, and so are the bytes
 /// that the end of the input cuts off.
 #[derive(Drop)]
 pub struct Utf16Decoder {
-    inner: Buffered<Utf16Rule>,
+    inner: Ordered,
 }
 
 impl Utf16Decoder {
@@ -154,9 +219,16 @@ impl Utf16Decoder {
         ensures { IsFreshDecoder (⟦<Utf16Decoder as RawDecoder>⟧.state result)
             (pieces_utf16 big_endian) decoded_length_utf16 }
     {
-        Utf16Decoder {
-            inner: Buffered::new(Utf16Rule { big_endian }),
-        }
+        let inner = if big_endian {
+            Ordered::Big(Buffered::new(Utf16Rule {
+                order: BigEndian {},
+            }))
+        } else {
+            Ordered::Little(Buffered::new(Utf16Rule {
+                order: LittleEndian {},
+            }))
+        };
+        Utf16Decoder { inner }
     }
 
     /// How many bytes a question for room has to count beside the new ones, before it halves them: those
@@ -169,9 +241,9 @@ impl Utf16Decoder {
 }
 
 impl SinkDecoder for Utf16Decoder {
-    ghost state = { λ d. ⟦<Buffered<Utf16Rule> as SinkDecoder>⟧.state d.inner };
+    ghost state = { λ d. ⟦<Ordered as SinkDecoder>⟧.state d.inner };
 
-    #[inline(always)]
+    #[inline(never)]
     fn decode_into<S: Sink>(
         &mut self,
         src: &[u8],
