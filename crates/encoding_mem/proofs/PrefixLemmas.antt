@@ -54,3 +54,8 @@ below_run xs at size run limit fits below counted k inside = elim (cases_lt k at
   | inl before ↦ below k before
   | inr from ↦ leb-false _ _ (run_in_chunk_fails (nat_le limit) xs at size run 0 fits counted k from inside)
 ]
+
+-- a vector whose start is known already, which ends where the list does
+pub below_last : (xs : List ℕ) (at from size run limit : ℕ) → from + size ≤ length xs → from ≤ at → ((k : ℕ) → k < at → get_or xs k 0 < limit)
+    → run ≡ prefix_len (λ b. not (nat_le limit b)) (chunk from size xs) → (k : ℕ) → k < from + run → get_or xs k 0 < limit
+below_last xs at from size run limit fits early below counted = below_run xs from size run limit fits (λ k before. below k (omega arith)) counted
