@@ -30,8 +30,15 @@ pub fn decode_latin1(alloc: Global, bytes: &[u8]) -> Result<CowStr<'_>, AllocErr
         return Ok(CowStr::Borrowed(run));
     }
     let mut text = String::with_capacity(alloc, bytes.len())?;
-    for b in bytes {
-        text.push(*b as char)?;
+    let mut read = 0;
+    'bytes: while read < bytes.len() {
+        let run = ascii_prefix(&bytes[read..]);
+        text.push_str(run)?;
+        read += run.len();
+        if read < bytes.len() {
+            text.push(bytes[read] as char)?;
+            read += 1;
+        }
     }
     Ok(CowStr::Owned(text))
 }
