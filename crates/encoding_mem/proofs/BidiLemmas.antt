@@ -4,7 +4,7 @@ use Rattle.std.proofs.Common.{◌≡◌, ℕ, zero, suc, ◌<◌, ◌≤◌, Lis
 use Rattle.std.specs.List.{list_any}
 use Rattle.std.specs.Str.{chars, IsAscii, IsUtf8, IsCharBoundary, all_scalars}
 use Rattle.std.proofs.lemmas.Bool.Decides.{nat_tests}
-use Rattle.std.proofs.lemmas.List.{take-append-drop, take_rest}
+use Rattle.std.proofs.lemmas.List.{take-append-drop, take-take, take_rest}
 use Rattle.std.proofs.lemmas.List.Folds.{list_any-append}
 use Rattle.std.proofs.Math.Bool.{or-true}
 use Rattle.encoding_mem.proofs.LongestPrefixLemmas.{take_sum}
@@ -61,6 +61,15 @@ none_in_block p xs at size within before here =
 pub any_in_rest : (p : ℕ → Bool) (xs : List ℕ) (at : ℕ) (r : Bool) → list_any p (take at xs) ≡ false → r ≡ list_any p (take (length xs - at) (drop at xs)) → r ≡ list_any p xs
 any_in_rest p xs at r before rest =
     rest ∙ ap (list_any p) (take_rest xs at) ∙ sym (any_split p xs at ∙ ap (λ b. b || list_any p (drop at xs)) before)
+
+or_false : (b c : Bool) → (b || c) ≡ false → b ≡ false
+or_false true c h = absurd (cc)
+or_false false c h = refl
+
+pub none_before : (p : ℕ → Bool) (xs : List ℕ) (a b : ℕ) → a ≤ b → list_any p (take b xs) ≡ false → list_any p (take a xs) ≡ false
+none_before p xs a b le none =
+    or_false (list_any p (take a xs)) (list_any p (drop a (take b xs)))
+    (ap (λ l. list_any p l || list_any p (drop a (take b xs))) (sym (take-take a b xs le)) ∙ sym (any_split p (take b xs) a) ∙ none)
 
 -- What is below the Hebrew block is none.
 pub low_char : (c : ℕ) → c < 0x590 → is_bidi_char c ≡ false

@@ -94,7 +94,7 @@ pub fn is_utf8_bidi(bytes: &[u8]) -> bool
 }
 
 // How many units are tested at a time, without a look at which of them is found.
-const BLOCK: usize = 32;
+const BLOCK: usize = 16;
 
 // `is_utf16_code_unit_bidi` without a branch, so that the compiler tests several units by one vector.
 #[inline(always)]
@@ -134,7 +134,11 @@ fn any_unit_bidi(units: &[u16]) -> bool
         }
         at += BLOCK;
     }
-    any_bidi_in(&units[at..])
+    // The last block may begin within what was tested.
+    if units.len() >= BLOCK {
+        return any_bidi_in(&units[units.len() - BLOCK..]);
+    }
+    any_bidi_in(units)
 }
 
 /// Whether `is_utf16_code_unit_bidi` holds of some unit.

@@ -29,7 +29,9 @@ pub fn decode_latin1(alloc: Global, bytes: &[u8]) -> Result<CowStr<'_>, AllocErr
     if run.len() == bytes.len() {
         return Ok(CowStr::Borrowed(run));
     }
-    let mut text = String::with_capacity(alloc, bytes.len())?;
+    // Each of the others has two bytes at most, so that the text never moves.
+    let most = bytes.len().saturating_add(bytes.len() - run.len());
+    let mut text = String::with_capacity(alloc, most)?;
     let mut read = 0;
     'bytes: while read < bytes.len() {
         let run = ascii_prefix(&bytes[read..]);

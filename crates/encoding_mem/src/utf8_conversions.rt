@@ -70,6 +70,10 @@ pub fn convert_utf8_to_utf16(src: &[u8], dst: &mut [u16]) -> usize
     ensures units { take result dst.new ≡ encode_utf16_all (text (pieces_utf8 src.now)) }
     ensures behind { drop result dst.new ≡ drop result dst.old }
 {
+    // Well-formed text wants no decoder.
+    if let Ok(text) = simdutf8::compat::from_utf8(src) {
+        return convert_str_to_utf16(text, dst);
+    }
     let mut sink = Utf16Sink::new(dst);
     put_replaced(src, &mut sink);
     sink.written()
