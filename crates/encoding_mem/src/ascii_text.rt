@@ -58,7 +58,8 @@ fn is_iso_2022_jp_ascii(byte: u8) -> bool
 // Whether each byte is one.
 #[inline(always)]
 fn are_iso_2022_jp_ascii(bytes: &[u8]) -> bool
-    ensures { IsTrue result → (k : ℕ) → k < length bytes.now → IsIso2022JpAsciiByte (slice_index bytes.now k) }
+    ensures { IsTrue result → (k : ℕ) → k < length bytes.now
+        → IsIso2022JpAsciiByte (slice_index bytes.now k) }
 {
     let mut all = true;
     for byte in bytes {

@@ -22,10 +22,10 @@ pub enum Latin1Bidi {
     Bidi,
 }
 
-/// Whether a character may be written from right to left, or is a control that begins such a run: those of
-/// the Unicode bidirectional classes R and AL and the controls RLM, RLE, RLO and RLI. Taken by blocks:
-/// U+0590 to U+08FF, U+200F, U+202B, U+202E, U+2067, U+FB1D to U+FDFF, U+FE70 to U+FEFE, U+10800 to
-/// U+10FFF and U+1E800 to U+1EFFF.
+/// Whether a character may be written from right to left, or is a control that begins such a run:
+/// those of the Unicode bidirectional classes R and AL and the controls RLM, RLE, RLO and RLI. Taken
+/// by blocks: U+0590 to U+08FF, U+200F, U+202B, U+202E, U+2067, U+FB1D to U+FDFF, U+FE70 to U+FEFE,
+/// U+10800 to U+10FFF and U+1E800 to U+1EFFF.
 pub fn is_char_bidi(c: char) -> bool
     ensures { IsTrue result ↔ IsTrue (is_bidi_char c) }
 {
@@ -37,8 +37,8 @@ pub fn is_char_bidi(c: char) -> bool
     }
 }
 
-// The same of a character below U+10000. Most are below the first of them, or between the controls and the
-// presentation forms: two tests are enough for these.
+// The same of a character below U+10000. Most are below the first of them, or between the controls
+// and the presentation forms: two tests are enough for these.
 #[inline(always)]
 fn is_code_bidi(code: u32) -> bool
     ensures { result ≡ is_bidi_bmp code }
@@ -96,7 +96,8 @@ pub fn is_utf8_bidi(bytes: &[u8]) -> bool
 // How many units are tested at a time, without a look at which of them is found.
 const BLOCK: usize = 16;
 
-// `is_utf16_code_unit_bidi` without a branch, so that the compiler tests several units by one vector.
+// `is_utf16_code_unit_bidi` without a branch, so that the compiler tests several units by one
+// vector.
 #[inline(always)]
 fn is_unit_bidi(unit: u16) -> bool
     ensures { result ≡ is_bidi_unit unit }

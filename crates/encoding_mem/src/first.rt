@@ -1,12 +1,13 @@
 // Where a run of small bytes or units ends.
 
-ghost use Rattle.std.specs.Prelude.{IsTrue, ℕ, ◌≡◌, ◌<◌, ◌≤◌, length, slice_index, not, nat_le};
+ghost use Rattle.std.specs.Prelude.{IsTrue, ℕ, ◌≡◌, ◌<◌, ◌≤◌, length, slice_index, not};
+ghost use Rattle.std.specs.Prelude.{nat_le};
 ghost use Rattle.std.specs.List.{prefix_len};
 
 use std::simd::prelude::*;
 
-// How many bytes or units are tested at a time, with one branch for all of them. Where one of them is too large, or
-// fewer are left, smaller vectors say where the run ends.
+// How many bytes or units are tested at a time, with one branch for all of them. Where one of them
+// is too large, or fewer are left, smaller vectors say where the run ends.
 const BYTE_BLOCK: usize = 64;
 
 const UNIT_BLOCK: usize = 32;
