@@ -2,14 +2,17 @@
 -- what is from right to left.
 use Rattle.std.proofs.Common.{◌≡◌, ℕ, zero, suc, ◌<◌, ◌≤◌, List, [], ◌∷◌, ◌++◌, ◌||◌, ◌↔◌, Bool, true, false, IsTrue, length, take, drop, get_or, sym, ◌∙◌, ap, refl, arith, ◌+◌, ◌-◌, ◌/◌, ◌%◌, ◌⊎◌, inl, inr, encode_utf8_all}
 use Rattle.std.specs.List.{list_any}
-use Rattle.std.specs.Str.{chars, IsUtf8, IsCharBoundary, all_scalars}
+use Rattle.std.specs.Str.{chars, IsAscii, IsUtf8, IsCharBoundary, all_scalars}
 use Rattle.std.proofs.lemmas.Bool.Decides.{nat_tests}
-use Rattle.std.proofs.lemmas.List.{take-append-drop}
+use Rattle.std.proofs.lemmas.List.{take-append-drop, take-take, take_rest}
+use Rattle.std.proofs.lemmas.List.Folds.{list_any-append}
+use Rattle.std.proofs.Math.Bool.{or-true}
+use Rattle.encoding_mem.proofs.LongestPrefixLemmas.{take_sum}
 use Rattle.std.proofs.lemmas.Str.{chars-append, IsUtf8-take, chars-encodes}
 use Rattle.encoding_mem.specs.Latin1.{AllLatin1}
 use Rattle.encoding_mem.specs.Bidi.{is_bidi_char, is_bidi_unit, HasBidi, HasBidiUnit, is_bidi_bmp, IsBidiBytes}
 use Rattle.encoding_mem.proofs.PrefixLemmas.{each_of_prefix}
-use Rattle.encoding_mem.proofs.Latin1Lemmas.{low_text}
+use Rattle.encoding_mem.proofs.Latin1Lemmas.{latin1_from_ascii, low_text}
 use Rattle.std.specs.Char.Escape.{encode_utf16}
 use Rattle.std.specs.Int.{is_in_range}
 use Rattle.std.proofs.Math.Utf8.{scalar, scalar_cases}
@@ -39,6 +42,35 @@ any_behind : (p : ℕ → Bool) (xs ys : List ℕ) → ((i : ℕ) → p (get_or 
 any_behind p [] ys none = refl
 any_behind p (x ∷ xs) ys none = rw (none 0) (any_behind p xs ys (λ i. none (suc i)))
 
+-- By blocks.
+any_split : (p : ℕ → Bool) (xs : List ℕ) (at : ℕ) → list_any p xs ≡ (list_any p (take at xs) || list_any p (drop at xs))
+any_split p xs at = ap (list_any p) (sym (take-append-drop at xs)) ∙ list_any-append p (take at xs) (drop at xs)
+
+pub any_in_block : (p : ℕ → Bool) (xs : List ℕ) (at k : ℕ) → true ≡ list_any p (take k (drop at xs)) → true ≡ list_any p xs
+any_in_block p xs at k found =
+    let rest : list_any p (drop at xs) ≡ true = any_split p (drop at xs) k ∙ ap (λ b. b || list_any p (drop k (drop at xs))) (sym found) in
+    sym (any_split p xs at ∙ ap (λ b. list_any p (take at xs) || b) rest ∙ or-true (list_any p (take at xs)))
+
+pub none_in_block : (p : ℕ → Bool) (xs : List ℕ) (at size : ℕ) → at ≤ length xs → list_any p (take at xs) ≡ false
+    → false ≡ list_any p (take ((at + size) - at) (drop at xs)) → list_any p (take (at + size) xs) ≡ false
+none_in_block p xs at size within before here =
+    let len : (at + size) - at ≡ size = omega arith in
+    ap (list_any p) (take_sum at size xs within) ∙ list_any-append p (take at xs) (take size (drop at xs))
+    ∙ ap (λ b. b || list_any p (take size (drop at xs))) before ∙ ap (λ n. list_any p (take n (drop at xs))) (sym len) ∙ sym here
+
+pub any_in_rest : (p : ℕ → Bool) (xs : List ℕ) (at : ℕ) (r : Bool) → list_any p (take at xs) ≡ false → r ≡ list_any p (take (length xs - at) (drop at xs)) → r ≡ list_any p xs
+any_in_rest p xs at r before rest =
+    rest ∙ ap (list_any p) (take_rest xs at) ∙ sym (any_split p xs at ∙ ap (λ b. b || list_any p (drop at xs)) before)
+
+or_false : (b c : Bool) → (b || c) ≡ false → b ≡ false
+or_false true c h = absurd (cc)
+or_false false c h = refl
+
+pub none_before : (p : ℕ → Bool) (xs : List ℕ) (a b : ℕ) → a ≤ b → list_any p (take b xs) ≡ false → list_any p (take a xs) ≡ false
+none_before p xs a b le none =
+    or_false (list_any p (take a xs)) (list_any p (drop a (take b xs)))
+    (ap (λ l. list_any p l || list_any p (drop a (take b xs))) (sym (take-take a b xs le)) ∙ sym (any_split p (take b xs) a) ∙ none)
+
 -- What is below the Hebrew block is none.
 pub low_char : (c : ℕ) → c < 0x590 → is_bidi_char c ≡ false
 low_char c low = grind (arith, nat_tests)
@@ -51,6 +83,11 @@ latin1_has_none cs low some = let none = low_char (get_or cs some.0 0) (let l = 
 
 pub latin1_units_none : (us : List ℕ) → AllLatin1 us → ¬ HasBidiUnit us
 latin1_units_none us low some = let none = low_unit (get_or us some.0 0) (let l = low some.0 in omega arith) in absurd (cc (none, some.1))
+
+pub ascii_has_none : (bs : List ℕ) → IsAscii bs → ¬ IsBidiBytes bs
+ascii_has_none bs low bidi =
+    let latin1 = latin1_from_ascii bs low in
+    elim bidi [ inl broken ↦ broken latin1.0 | inr some ↦ latin1_has_none (chars bs) latin1.1 some ]
 
 -- so a prefix of low bytes, or of low units, decides nothing
 chars_behind : (text : List ℕ) (at : ℕ) → IsUtf8 text → IsCharBoundary text at → ((k : ℕ) → k < at → get_or text k 0 < 0xD6)
@@ -117,7 +154,7 @@ surrogate_bmp u from below = rw (
   below_range 0xFE70 0xFEFE u (omega arith),
 ) refl
 
-supplementary_bmp : (c : ℕ) → 0x1_0000 ≤ c → is_bidi_bmp c ≡ false
+pub supplementary_bmp : (c : ℕ) → 0x1_0000 ≤ c → is_bidi_bmp c ≡ false
 supplementary_bmp c from = rw (
   above_range 0x590 0x8FF c (omega arith),
   above_range 0x200F 0x200F c (omega arith),

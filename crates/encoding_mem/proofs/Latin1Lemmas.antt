@@ -1,10 +1,10 @@
 -- Which bytes a text of low characters has in UTF-8.
 use Rattle.std.proofs.Common.{◌≡◌, ℕ, zero, suc, ◌+◌, ◌*◌, ◌/◌, ◌%◌, ◌<◌, ◌≤◌, inl, inr, List, [], ◌∷◌, ◌++◌, length, take, get_or, sym, ◌∙◌, ap, subst, arith, encode_utf8_all}
 use Rattle.std.specs.Char.{encode_utf8}
-use Rattle.std.specs.Str.{chars, IsUtf8}
+use Rattle.std.specs.Str.{chars, IsAscii, IsUtf8}
 use Rattle.std.proofs.lemmas.Bool.{cases_lt}
 use Rattle.std.proofs.lemmas.List.{get_or-take, take-take}
-use Rattle.std.proofs.lemmas.Str.{encode_ascii, encodes-chars, IsUtf8-take}
+use Rattle.std.proofs.lemmas.Str.{encode_ascii, encodes-chars, chars-IsAscii, IsUtf8-take, IsUtf8-from_ascii}
 use Rattle.encoding_mem.specs.Latin1.{AllLatin1, IsLatin1Text}
 use Rattle.encoding_mem.specs.LongestPrefix.{IsLongestPrefix}
 use Rattle.encoding_mem.proofs.Utf8TextLemmas.{of_two, of_three, of_four}
@@ -69,6 +69,10 @@ low_chars k some few (c ∷ cs) low (suc i) = low_chars k some few cs (each_back
 
 pub low_text : (k : ℕ) → 1 < k → k < 0x20 → (bs : List ℕ) → IsUtf8 bs → ((i : ℕ) → get_or bs i 0 < 0xC0 + k) → (i : ℕ) → get_or (chars bs) i 0 < k * 0x40
 low_text k some few bs utf8 low = low_chars k some few (chars bs) (rw (encodes-chars bs utf8) low)
+
+-- ASCII is Latin1
+pub latin1_from_ascii : (bs : List ℕ) → IsAscii bs → IsLatin1Text bs
+latin1_from_ascii bs low = (IsUtf8-from_ascii bs low, rw (chars-IsAscii bs low) (λ i. omega (arith, low i)))
 
 -- Latin1 text, by its bytes.
 pub latin1_from_bytes : (bs : List ℕ) → IsUtf8 bs → ((i : ℕ) → get_or bs i 0 < 0xC4) → AllLatin1 (chars bs)

@@ -55,7 +55,7 @@ first_alone rest more c n utf8 is len b =
     chars_past_char (take n rest) [] c (IsUtf8-take rest n utf8 b) prefix ∙ ap (λ l. c ∷ l) chars-nil
 
 -- a run of ASCII is its own units
-in_utf16 : (run : List ℕ) → IsAscii run → encode_utf16_all run ≡ run
+pub in_utf16 : (run : List ℕ) → IsAscii run → encode_utf16_all run ≡ run
 in_utf16 [] low = refl
 in_utf16 (b ∷ run) low = let small : b < 0x1_0000 = omega (arith, low 0) in rw (lt-ltb b 0x1_0000 small) (ap (λ l. b ∷ l) (in_utf16 run (λ k. low (suc k))))
 

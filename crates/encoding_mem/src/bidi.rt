@@ -7,6 +7,7 @@ ghost use Rattle.std.specs.Str.{chars};
 ghost use Rattle.encoding_mem.specs.Latin1.{AllLatin1, IsLatin1Text};
 ghost use Rattle.encoding_mem.specs.Bidi.{is_bidi_bmp, is_bidi_char, is_bidi_unit, HasBidi, HasBidiUnit, IsBidiBytes};
 
+use crate::ascii_text::is_ascii;
 use crate::first::{first_byte_from, first_unit_from};
 use crate::latin1::{is_str_latin1, is_utf16_latin1};
 
@@ -21,39 +22,44 @@ pub enum Latin1Bidi {
     Bidi,
 }
 
-/// Whether a character may be written from right to left, or is a control that begins such a run: those of
-/// the Unicode bidirectional classes R and AL and the controls RLM, RLE, RLO and RLI. Taken by blocks:
-/// U+0590 to U+08FF, U+200F, U+202B, U+202E, U+2067, U+FB1D to U+FDFF, U+FE70 to U+FEFE, U+10800 to
-/// U+10FFF and U+1E800 to U+1EFFF.
+/// Whether a character may be written from right to left, or is a control that begins such a run:
+/// those of the Unicode bidirectional classes R and AL and the controls RLM, RLE, RLO and RLI. Taken
+/// by blocks: U+0590 to U+08FF, U+200F, U+202B, U+202E, U+2067, U+FB1D to U+FDFF, U+FE70 to U+FEFE,
+/// U+10800 to U+10FFF and U+1E800 to U+1EFFF.
 pub fn is_char_bidi(c: char) -> bool
     ensures { IsTrue result ↔ IsTrue (is_bidi_char c) }
 {
     let code = c as u32;
-    is_code_bidi(code)
-        || code >= 0x1_0800 && code <= 0x1_0FFF
-        || code >= 0x1_E800 && code <= 0x1_EFFF
+    if code < 0x1_0000 {
+        is_code_bidi(code)
+    } else {
+        code >= 0x1_0800 && code <= 0x1_0FFF || code >= 0x1_E800 && code <= 0x1_EFFF
+    }
 }
 
-/// Whether a unit of UTF-16 is a character of `is_char_bidi`, or the high surrogate of one.
-pub fn is_utf16_code_unit_bidi(unit: u16) -> bool
-    ensures { IsTrue result ↔ IsTrue (is_bidi_unit unit) }
-{
-    is_code_bidi(unit as u32)
-        || unit >= 0xD802 && unit <= 0xD803
-        || unit >= 0xD83A && unit <= 0xD83B
-}
-
-// What characters and units have in common.
+// The same of a character below U+10000. Most are below the first of them, or between the controls
+// and the presentation forms: two tests are enough for these.
+#[inline(always)]
 fn is_code_bidi(code: u32) -> bool
     ensures { result ≡ is_bidi_bmp code }
 {
-    code >= 0x590 && code <= 0x8FF
+    if code < 0x590 || code > 0x2067 && code < 0xFB1D {
+        return false;
+    }
+    code <= 0x8FF
         || code == 0x200F
         || code == 0x202B
         || code == 0x202E
         || code == 0x2067
         || code >= 0xFB1D && code <= 0xFDFF
         || code >= 0xFE70 && code <= 0xFEFE
+}
+
+/// Whether a unit of UTF-16 is a character of `is_char_bidi`, or the high surrogate of one.
+pub fn is_utf16_code_unit_bidi(unit: u16) -> bool
+    ensures { IsTrue result ↔ IsTrue (is_bidi_unit unit) }
+{
+    is_unit_bidi(unit)
 }
 
 // In UTF-8 each character below U+0580 is written with bytes below this one.
@@ -77,16 +83,63 @@ pub fn is_str_bidi(text: &str) -> bool
 pub fn is_utf8_bidi(bytes: &[u8]) -> bool
     ensures { IsTrue result ↔ IsBidiBytes bytes.now }
 {
+    // ASCII is read once.
+    if is_ascii(bytes) {
+        return false;
+    }
     match simdutf8::compat::from_utf8(bytes) {
         Ok(text) => is_str_bidi(text),
         Err(_) => true,
     }
 }
 
+// How many units are tested at a time, without a look at which of them is found.
+const BLOCK: usize = 16;
+
+// `is_utf16_code_unit_bidi` without a branch, so that the compiler tests several units by one
+// vector.
+#[inline(always)]
+fn is_unit_bidi(unit: u16) -> bool
+    ensures { result ≡ is_bidi_unit unit }
+{
+    (unit >= 0x590) & (unit <= 0x8FF)
+        | (unit == 0x200F)
+        | (unit == 0x202B)
+        | (unit == 0x202E)
+        | (unit == 0x2067)
+        | (unit >= 0xFB1D) & (unit <= 0xFDFF)
+        | (unit >= 0xFE70) & (unit <= 0xFEFE)
+        | (unit >= 0xD802) & (unit <= 0xD803)
+        | (unit >= 0xD83A) & (unit <= 0xD83B)
+}
+
+// Whether some unit is, each of them tested.
+#[inline(always)]
+fn any_bidi_in(units: &[u16]) -> bool
+    ensures { result ≡ list_any is_bidi_unit units.now }
+{
+    let mut any = false;
+    for unit in units {
+        any |= is_unit_bidi(*unit);
+    }
+    any
+}
+
 fn any_unit_bidi(units: &[u16]) -> bool
     ensures { result ≡ list_any is_bidi_unit units.now }
 {
-    units.iter().copied().any(|u| is_utf16_code_unit_bidi(u))
+    let mut at = 0;
+    'wide: while units.len() - at >= BLOCK {
+        if any_bidi_in(&units[at..at + BLOCK]) {
+            return true;
+        }
+        at += BLOCK;
+    }
+    // The last block may begin within what was tested.
+    if units.len() >= BLOCK {
+        return any_bidi_in(&units[units.len() - BLOCK..]);
+    }
+    any_bidi_in(units)
 }
 
 /// Whether `is_utf16_code_unit_bidi` holds of some unit.
@@ -115,6 +168,10 @@ pub fn check_utf8_for_latin1_and_bidi(bytes: &[u8]) -> Latin1Bidi
     ensures latin1 { (result ≡ Latin1Bidi.Latin1) ↔ IsLatin1Text bytes.now }
     ensures bidi { (result ≡ Latin1Bidi.Bidi) ↔ IsBidiBytes bytes.now }
 {
+    // ASCII is read once.
+    if is_ascii(bytes) {
+        return Latin1Bidi::Latin1;
+    }
     match simdutf8::compat::from_utf8(bytes) {
         Ok(text) => check_str_for_latin1_and_bidi(text),
         Err(_) => Latin1Bidi::Bidi,

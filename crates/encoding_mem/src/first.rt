@@ -1,13 +1,35 @@
 // Where a run of small bytes or units ends.
 
-ghost use Rattle.std.specs.Prelude.{ℕ, ◌≡◌, ◌<◌, ◌≤◌, length, slice_index, not, nat_le};
-ghost use Rattle.std.specs.Bool.{OnTrue};
+ghost use Rattle.std.specs.Prelude.{IsTrue, ℕ, ◌≡◌, ◌<◌, ◌≤◌, length, slice_index, not};
+ghost use Rattle.std.specs.Prelude.{nat_le};
 ghost use Rattle.std.specs.List.{prefix_len};
 
 use std::simd::prelude::*;
 
-// How many bytes are tested at a time.
-const LANES: usize = 16;
+// How many bytes or units are tested at a time, with one branch for all of them. Where one of them
+// is too large, or fewer are left, smaller vectors say where the run ends.
+const BYTE_BLOCK: usize = 64;
+
+const UNIT_BLOCK: usize = 32;
+
+// How many are in a smaller vector.
+const BYTE_LANES: usize = 16;
+
+const UNIT_LANES: usize = 8;
+
+#[inline(always)]
+fn all_bytes_below(block: u8x64, limit: u8) -> bool
+    ensures { IsTrue result → prefix_len (λ b. not (nat_le limit b)) block ≡ 64 }
+{
+    block.simd_ge(u8x64::splat(limit)).to_bitmask() == 0
+}
+
+#[inline(always)]
+fn all_units_below(block: u16x32, limit: u16) -> bool
+    ensures { IsTrue result → prefix_len (λ u. not (nat_le limit u)) block ≡ 32 }
+{
+    block.simd_ge(u16x32::splat(limit)).to_bitmask() == 0
+}
 
 // How many bytes stand before the first that is not below the limit; all of them where there is none.
 #[inline(always)]
@@ -16,7 +38,20 @@ fn lanes_below(block: u8x16, limit: u8) -> usize
 {
     let marks = block.simd_ge(u8x16::splat(limit)).to_bitmask();
     if marks == 0 {
-        LANES
+        BYTE_LANES
+    } else {
+        marks.trailing_zeros() as usize
+    }
+}
+
+// The same of units.
+#[inline(always)]
+fn unit_lanes_below(block: u16x8, limit: u16) -> usize
+    ensures { result ≡ prefix_len (λ u. not (nat_le limit u)) block }
+{
+    let marks = block.simd_ge(u16x8::splat(limit)).to_bitmask();
+    if marks == 0 {
+        UNIT_LANES
     } else {
         marks.trailing_zeros() as usize
     }
@@ -29,31 +64,27 @@ pub(crate) fn first_byte_from(bytes: &[u8], limit: u8) -> usize
     ensures ends { result < length bytes.now → limit ≤ slice_index bytes.now result }
 {
     let mut at = 0;
-    'runs: while bytes.len() - at >= LANES {
+    'wide: while bytes.len() - at >= BYTE_BLOCK
+        && all_bytes_below(u8x64::from_slice(&bytes[at..]), limit)
+    {
+        at += BYTE_BLOCK;
+    }
+    'runs: while bytes.len() - at >= BYTE_LANES {
         let run = lanes_below(u8x16::from_slice(&bytes[at..]), limit);
         at += run;
-        if run < LANES {
+        if run < BYTE_LANES {
             return at;
         }
+    }
+    // The last vector may begin within what was tested.
+    if bytes.len() >= BYTE_LANES {
+        let last = bytes.len() - BYTE_LANES;
+        return last + lanes_below(u8x16::from_slice(&bytes[last..]), limit);
     }
     'bytes: while at < bytes.len() && bytes[at] < limit {
         at += 1;
     }
     at
-}
-
-// How many units are tested at a time, without a look at which of them is too large.
-const BLOCK: usize = 32;
-
-fn all_units_below(block: &[u16], limit: u16) -> bool
-    requires { 0 < limit }
-    ensures { OnTrue result ((k : ℕ) → k < length block.now → slice_index block.now k < limit) }
-{
-    let mut greatest = 0;
-    for unit in block {
-        greatest = greatest.max(*unit);
-    }
-    greatest < limit
 }
 
 // The first unit that is not below the limit, or the length.
@@ -64,11 +95,22 @@ pub(crate) fn first_unit_from(units: &[u16], limit: u16) -> usize
     ensures ends { result < length units.now → limit ≤ slice_index units.now result }
 {
     let mut at = 0;
-    'runs: while units.len() - at >= BLOCK && units[at] < limit {
-        if !all_units_below(&units[at..at + BLOCK], limit) {
-            break;
+    'wide: while units.len() - at >= UNIT_BLOCK
+        && all_units_below(u16x32::from_slice(&units[at..]), limit)
+    {
+        at += UNIT_BLOCK;
+    }
+    'runs: while units.len() - at >= UNIT_LANES {
+        let low = unit_lanes_below(u16x8::from_slice(&units[at..]), limit);
+        at += low;
+        if low < UNIT_LANES {
+            return at;
         }
-        at += BLOCK;
+    }
+    // The last vector may begin within what was tested.
+    if units.len() >= UNIT_LANES {
+        let last = units.len() - UNIT_LANES;
+        return last + unit_lanes_below(u16x8::from_slice(&units[last..]), limit);
     }
     'units: while at < units.len() && units[at] < limit {
         at += 1;

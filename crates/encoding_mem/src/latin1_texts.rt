@@ -29,9 +29,18 @@ pub fn decode_latin1(alloc: Global, bytes: &[u8]) -> Result<CowStr<'_>, AllocErr
     if run.len() == bytes.len() {
         return Ok(CowStr::Borrowed(run));
     }
-    let mut text = String::with_capacity(alloc, bytes.len())?;
-    for b in bytes {
-        text.push(*b as char)?;
+    // Each of the others has two bytes at most, so that the text never moves.
+    let most = bytes.len().saturating_add(bytes.len() - run.len());
+    let mut text = String::with_capacity(alloc, most)?;
+    let mut read = 0;
+    'bytes: while read < bytes.len() {
+        let run = ascii_prefix(&bytes[read..]);
+        text.push_str(run)?;
+        read += run.len();
+        if read < bytes.len() {
+            text.push(bytes[read] as char)?;
+            read += 1;
+        }
     }
     Ok(CowStr::Owned(text))
 }

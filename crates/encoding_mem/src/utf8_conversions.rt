@@ -1,6 +1,8 @@
 // Conversions from UTF-8 to UTF-16.
 
-ghost use Rattle.std.specs.Prelude.{◌≡◌, ℕ, ◌<◌, ◌≤◌, List, ◌∷◌, length, take, drop, MatchOption};
+ghost use Rattle.std.specs.Prelude.{◌≡◌, ℕ, ◌+◌, ◌<◌, ◌≤◌, List, ◌∷◌, ◌++◌, length, take, drop};
+ghost use Rattle.std.specs.Prelude.{MatchOption};
+ghost use Rattle.std.specs.Char.Escape.{encode_utf16};
 ghost use Rattle.std.specs.Str.{chars, IsUtf8, IsCharBoundary};
 ghost use Rattle.std.specs.Str.Lossy.{utf8_valid_len};
 ghost use Rattle.encoding_mem.specs.Conversions.{IsLongest, text_in_utf16, text_prefix};
@@ -9,9 +11,10 @@ ghost use Rattle.encoding_mem.specs.Utf8.{pieces_utf8};
 ghost use Rattle.encoding_mem.specs.Writing.{len_utf16, encode_utf16_all};
 
 use crate::decoder_result::DecoderResult;
+use crate::latin1_conversions::convert_latin1_to_utf16;
 use crate::sink::Sink;
 use crate::sink_decoder::SinkDecoder;
-use crate::source::first_char;
+use crate::source::{ascii_run, first_char};
 use crate::utf8::Utf8Decoder;
 use crate::utf16_sink::Utf16Sink;
 
@@ -23,9 +26,44 @@ pub fn convert_str_to_utf16(src: &str, dst: &mut [u16]) -> usize
     ensures units { take result dst.new ≡ text_in_utf16 src.now }
     ensures behind { drop result dst.new ≡ drop result dst.old }
 {
-    let mut sink = Utf16Sink::new(dst);
-    sink.put_text(src);
-    sink.written()
+    let mut rest = src;
+    let mut written = 0;
+    // A run of two characters of ASCII at least is copied at once; one alone is cheaper by itself.
+    'characters: while let Some((c, more)) = first_char(rest) {
+        let is_run = u32::from(c) < 0x80 && matches!(more.as_bytes(), [b, ..] if *b < 0x80);
+        if is_run {
+            let (run, behind) = ascii_run(rest, rest.len());
+            convert_latin1_to_utf16(run.as_bytes(), &mut dst[written..]);
+            written += run.len();
+            rest = behind;
+        } else {
+            written = put_units(dst, written, c);
+            rest = more;
+        }
+    }
+    written
+}
+
+// Puts the units of a character at an offset, where there is room for them, and returns the offset
+// behind them.
+#[inline(always)]
+fn put_units(dst: &mut [u16], at: usize, c: char) -> usize
+    requires { at + len_utf16 c ≤ length dst.old }
+    ensures end { result ≡ at + len_utf16 c }
+    ensures prefix { take result dst.new ≡ take at dst.old ++ encode_utf16 c }
+    ensures back { drop result dst.new ≡ drop result dst.old }
+    ensures size { length dst.new ≡ length dst.old }
+{
+    let code = u32::from(c);
+    if code < 0x1_0000 {
+        dst[at] = code as u16;
+        at + 1
+    } else {
+        let over = code - 0x1_0000;
+        dst[at] = (0xD800 + over / 0x400) as u16;
+        dst[at + 1] = (0xDC00 + over % 0x400) as u16;
+        at + 2
+    }
 }
 
 /// Converts UTF-8 to UTF-16, and returns the units written, or `None` where the source is not
@@ -70,6 +108,10 @@ pub fn convert_utf8_to_utf16(src: &[u8], dst: &mut [u16]) -> usize
     ensures units { take result dst.new ≡ encode_utf16_all (text (pieces_utf8 src.now)) }
     ensures behind { drop result dst.new ≡ drop result dst.old }
 {
+    // Well-formed text wants no decoder.
+    if let Ok(text) = simdutf8::compat::from_utf8(src) {
+        return convert_str_to_utf16(text, dst);
+    }
     let mut sink = Utf16Sink::new(dst);
     put_replaced(src, &mut sink);
     sink.written()

@@ -5,6 +5,7 @@ ghost use Rattle.std.specs.Str.{IsUtf8};
 ghost use Rattle.encoding_mem.specs.LongestPrefix.{IsLongestPrefix};
 ghost use Rattle.encoding_mem.specs.Surrogates.{IsHighSurrogate, IsLowSurrogate, IsLoneSurrogate, IsUtf16, IsMended};
 
+use crate::ascii_text::is_ascii;
 use crate::first::first_unit_from;
 
 /// The length of the longest prefix that is well-formed UTF-8: it ends before the first byte of the
@@ -12,6 +13,10 @@ use crate::first::first_unit_from;
 pub fn utf8_valid_up_to(bytes: &[u8]) -> usize
     ensures { IsLongestPrefix IsUtf8 bytes.now result }
 {
+    // ASCII wants none of the tables that the other test sets up.
+    if is_ascii(bytes) {
+        return bytes.len();
+    }
     match simdutf8::compat::from_utf8(bytes) {
         Ok(text) => text.len(),
         Err(e) => e.valid_up_to(),

@@ -1,7 +1,12 @@
-use Rattle.std.proofs.Common.{arith, sym, subst}
+use Rattle.std.proofs.Common.{arith, sym, subst, refl}
 use Rattle.std.specs.Str.{IsUtf8}
 use Rattle.encoding_mem.specs.LongestPrefix.{IsLongestPrefix}
+use Rattle.std.proofs.lemmas.Str.{IsUtf8-from_ascii}
+use Rattle.encoding_mem.proofs.PrefixLemmas.{whole_prefix}
 use Rattle.encoding_mem.proofs.validity.utf8_valid_up_to.Goals as goal
+
+pub returns-then-is_ascii : goal.returns-then-is_ascii
+returns-then-is_ascii c = whole_prefix IsUtf8 c.args.bytes.now (IsUtf8-from_ascii c.args.bytes.now (c.if-is_ascii.ensures.0 refl))
 
 pub returns-in-Err : goal.returns-in-Err
 returns-in-Err c =
