@@ -1,0 +1,76 @@
+// How many calls of codecs a conversion takes.
+
+use crate::case::Head;
+use crate::parts::{bytes_of, integer};
+use crate::trial::{AT_ONCE, LEAST, LEAST_WIDE, Plan, ROOMY, Sizes, WAYS, recode};
+use anyhow::{Context, bail, ensure};
+use case_lines::report::Report;
+use encoding_tables::Tables;
+use std::alloc::Global;
+
+// What is converted, and by how many calls.
+#[derive(Drop)]
+pub(crate) struct CodecCalls {
+    pub(crate) head: Head,
+    input: Vec<u8>,
+    // Of the decoder, of the encoder, and of the decoder that reads back.
+    calls: u64,
+    // Whether all is read at once, or byte by byte.
+    at_once: bool,
+}
+
+impl CodecCalls {
+    // Words as `utf-8 -> shift_jis: "abc" => 2 2 2`.
+    pub(crate) fn of(alloc: Global, words: &str, at_once: bool) -> anyhow::Result<Self> {
+        let (head, words) = words.split_once(": ").context("calls have no `: `")?;
+        let (input, numbers) = words.split_once("=>").context("calls have no `=>`")?;
+        let mut calls = 0_u64;
+        let mut kinds = 0_u32;
+        for number in numbers.split_whitespace() {
+            calls = calls.saturating_add(integer(number)?);
+            kinds = kinds.saturating_add(1);
+        }
+        ensure!(kinds == 3, "calls have not three numbers");
+        Ok(CodecCalls {
+            head: Head::of(head)?,
+            input: bytes_of(alloc, input)?,
+            calls,
+            at_once,
+        })
+    }
+
+    // Buffers of either kind of pivot.
+    fn sizes(&self) -> [Sizes; 2] {
+        if self.at_once {
+            let is_wide = true;
+            [ROOMY, Sizes { is_wide, ..ROOMY }]
+        } else {
+            [LEAST, LEAST_WIDE]
+        }
+    }
+}
+
+pub(crate) fn check_codec_calls(
+    rt: &impl AllocGlobal,
+    tables: &Tables,
+    case: &CodecCalls,
+    report: &mut Report,
+) -> anyhow::Result<()> {
+    let setting = case.head.setting(case.input.as_slice());
+    for sizes in case.sizes() {
+        let plan = Plan { sizes, ..AT_ONCE };
+        for way in WAYS {
+            report.count_conversion();
+            let outcome = recode(rt.alloc(), tables, setting, way, &plan)?;
+            let Ok(told) = outcome.answer else {
+                bail!("it ends by a fault");
+            };
+            let (calls, want) = (told.calls, case.calls);
+            ensure!(
+                calls == want,
+                "{calls} calls of codecs and not {want}, {way:?}"
+            );
+        }
+    }
+    Ok(())
+}

@@ -1,0 +1,91 @@
+use crate::tape::{Device, Event, Tape};
+use std::alloc::Global;
+use std::io;
+use std::io::{ErrorKind, Write};
+
+// How a call of a writer fails.
+#[derive(Clone, Copy, Debug)]
+pub(crate) enum Failure {
+    // It takes no byte.
+    Nothing,
+    // It returns an error.
+    Error(ErrorKind),
+}
+
+// The ways in which a call of a writer fails.
+pub(crate) const FAILURES: [Failure; 3] = [
+    Failure::Nothing,
+    Failure::Error(ErrorKind::BrokenPipe),
+    Failure::Error(ErrorKind::Interrupted),
+];
+
+// What a writer does.
+#[derive(Clone, Copy, Debug)]
+pub(crate) struct Manners {
+    // How many bytes a call takes at most.
+    pub(crate) most: usize,
+    // The write that fails, counted from 1, and only that one. 0: none.
+    pub(crate) fails_at: usize,
+    // How it fails.
+    pub(crate) failure: Failure,
+    // Whether flushes fail.
+    pub(crate) flush_fails: bool,
+}
+
+// A writer that takes all.
+pub(crate) const WILLING: Manners = Manners {
+    most: usize::MAX,
+    fails_at: 0,
+    failure: Failure::Nothing,
+    flush_fails: false,
+};
+
+// A writer to memory.
+#[derive(Drop)]
+pub(crate) struct Sink<'a> {
+    pub(crate) taken: Vec<u8>,
+    manners: Manners,
+    calls: usize,
+    device: Device,
+    tape: &'a Tape,
+}
+
+impl<'a> Sink<'a> {
+    // A writer that has taken nothing, as one of the devices that share a tape.
+    pub(crate) fn new(alloc: Global, manners: Manners, device: Device, tape: &'a Tape) -> Sink<'a> {
+        Sink {
+            taken: Vec::new(alloc),
+            manners,
+            calls: 0,
+            device,
+            tape,
+        }
+    }
+}
+
+impl<'a> Write for Sink<'a> {
+    fn write(&mut self, buf: &[u8]) -> io::Result<usize> {
+        self.calls = self.calls.saturating_add(1);
+        self.tape.add(Event::Call(self.device))?;
+        if self.calls == self.manners.fails_at {
+            return match self.manners.failure {
+                Failure::Nothing => Ok(0),
+                Failure::Error(kind) => Err(io::Error::from(kind)),
+            };
+        }
+        let count = self.manners.most.min(buf.len());
+        self.taken.extend_from_slice(&buf[..count])?;
+        for byte in &buf[..count] {
+            self.tape.add(Event::Byte(self.device, *byte))?;
+        }
+        Ok(count)
+    }
+
+    fn flush(&mut self) -> io::Result<()> {
+        self.tape.add(Event::Flush(self.device))?;
+        if self.manners.flush_fails {
+            return Err(io::Error::from(ErrorKind::StorageFull));
+        }
+        Ok(())
+    }
+}

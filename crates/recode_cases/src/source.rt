@@ -1,0 +1,75 @@
+use crate::tape::{Device, Event, Tape};
+use std::io;
+use std::io::{ErrorKind, Read};
+
+// How the input is cut into reads.
+#[derive(Clone, Copy, Debug)]
+pub(crate) enum Reads {
+    // No read passes this offset: where there is room, there are two.
+    CutAt(usize),
+    // A read gives one byte.
+    OneByOne,
+}
+
+// A reader over memory.
+#[derive(Drop)]
+pub(crate) struct Source<'a> {
+    rest: &'a [u8],
+    given: usize,
+    reads: Reads,
+    calls: usize,
+    fails_at: usize,
+    kind: ErrorKind,
+    tape: &'a Tape,
+}
+
+impl<'a> Source<'a> {
+    // A reader of these bytes. The call `fails_at`, counted from 1, fails, and only that one.
+    pub(crate) fn new(
+        bytes: &'a [u8],
+        reads: Reads,
+        fails_at: usize,
+        kind: ErrorKind,
+        tape: &'a Tape,
+    ) -> Source<'a> {
+        Source {
+            rest: bytes,
+            given: 0,
+            reads,
+            calls: 0,
+            fails_at,
+            kind,
+            tape,
+        }
+    }
+
+    // How often it was called.
+    pub(crate) fn calls(&self) -> usize {
+        self.calls
+    }
+
+    // How many bytes the next read may give.
+    fn most(&self) -> usize {
+        match self.reads {
+            Reads::CutAt(offset) if self.given < offset => offset - self.given,
+            Reads::CutAt(_) => usize::MAX,
+            Reads::OneByOne => 1,
+        }
+    }
+}
+
+impl<'a> Read for Source<'a> {
+    fn read(&mut self, buf: &mut [u8]) -> io::Result<usize> {
+        self.calls = self.calls.saturating_add(1);
+        self.tape.add(Event::Call(Device::Reader))?;
+        if self.calls == self.fails_at {
+            return Err(io::Error::from(self.kind));
+        }
+        let count = self.most().min(self.rest.len()).min(buf.len());
+        let (prefix, rest) = self.rest.split_at(count);
+        buf[..count].copy_from_slice(prefix);
+        self.rest = rest;
+        self.given = self.given.saturating_add(count);
+        Ok(count)
+    }
+}

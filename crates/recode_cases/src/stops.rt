@@ -1,0 +1,215 @@
+// Each call of a device that fails, alone: a conversion is over with it. Up to it all happens as
+// where no call fails, and nothing behind it, but for the flushes and the message of `convert`.
+
+use crate::compare::same_failures;
+use crate::sink::{FAILURES, Failure, Manners};
+use crate::tape::{Device, Event, calls_of, takes, up_to};
+use crate::trial::{Plan, Setting, Way, recode, status};
+use anyhow::{Context, ensure};
+use encoding_tables::Tables;
+use recode::{FAULT, Fault};
+use std::alloc::{AllocError, Global};
+use std::io::ErrorKind;
+
+// A call that fails, by its number from 1.
+#[derive(Clone, Copy)]
+pub(crate) enum Stop {
+    Read(usize, ErrorKind),
+    Write(usize, Failure),
+    Line(usize, Failure),
+}
+
+impl Stop {
+    // The plan with that call failing.
+    pub(crate) fn plan(self, plan: Plan) -> Plan {
+        match self {
+            Stop::Read(call, read_kind) => Plan {
+                read_fails_at: call,
+                read_kind,
+                ..plan
+            },
+            Stop::Write(call, failure) => Plan {
+                writer: Manners {
+                    fails_at: call,
+                    failure,
+                    ..plan.writer
+                },
+                ..plan
+            },
+            Stop::Line(call, failure) => Plan {
+                log: Manners {
+                    fails_at: call,
+                    failure,
+                    ..plan.log
+                },
+                ..plan
+            },
+        }
+    }
+
+    // What happens up to that call.
+    pub(crate) fn front(self, events: &[Event]) -> &[Event] {
+        match self {
+            Stop::Read(call, _) => up_to(events, Device::Reader, call),
+            Stop::Write(call, _) => up_to(events, Device::Writer, call),
+            Stop::Line(call, _) => up_to(events, Device::Log, call),
+        }
+    }
+
+    // The fault, and the failures of the reader, the writer and the log.
+    pub(crate) fn fault(self) -> (Fault, [u64; 3]) {
+        match self {
+            Stop::Read(..) => (Fault::Read, [1, 0, 0]),
+            Stop::Write(..) => (Fault::Write, [0, 1, 0]),
+            Stop::Line(..) => (Fault::Log, [0, 0, 1]),
+        }
+    }
+}
+
+// Each call, in each of these ways to fail that it has.
+pub(crate) fn stops_of(
+    alloc: Global,
+    events: &[Event],
+    failures: &[Failure],
+) -> Result<Vec<Stop>, AllocError> {
+    let mut stops = Vec::new(alloc);
+    for failure in failures {
+        if let Failure::Error(kind) = failure {
+            for call in 1..=calls_of(events, Device::Reader) {
+                stops.push(Stop::Read(call, *kind))?;
+            }
+        }
+        for call in 1..=calls_of(events, Device::Writer) {
+            stops.push(Stop::Write(call, *failure))?;
+        }
+        for call in 1..=calls_of(events, Device::Log) {
+            stops.push(Stop::Line(call, *failure))?;
+        }
+    }
+    Ok(stops)
+}
+
+// Converts with each call failing, one at a time, and compares with what happens where none does.
+// Returns how many conversions that takes.
+pub(crate) fn check_stops(
+    alloc: Global,
+    tables: &Tables,
+    setting: Setting<'_>,
+    way: Way,
+    plan: &Plan,
+) -> anyhow::Result<usize> {
+    let outcome = recode(alloc, tables, setting, way, plan)?;
+    let events = outcome.events.as_slice();
+    let stops = stops_of(alloc, events, &FAILURES)?;
+    for stop in stops.iter() {
+        let (fault, failures) = stop.fault();
+        let stopped = recode(alloc, tables, setting, way, &stop.plan(*plan))?;
+        let answer = stopped.answer;
+        ensure!(answer == Err(fault), "{answer:?} and not {fault:?}");
+        same_failures(stopped.failures, failures)?;
+        ensure!(
+            stopped.events.as_slice() == stop.front(events),
+            "not what happens up to a call, by {fault:?}"
+        );
+    }
+    Ok(stops.len())
+}
+
+// What a device returns at the call that fails, where its flush may fail, too.
+const FULL: Failure = Failure::Error(ErrorKind::StorageFull);
+
+// The message of a fault.
+fn message(alloc: Global, fault: Fault) -> Result<String, AllocError> {
+    match fault {
+        Fault::Read => format!(in alloc; "recode: read fault\n"),
+        Fault::Write => format!(in alloc; "recode: write fault\n"),
+        Fault::Log => format!(in alloc; "recode: log fault\n"),
+        Fault::TooLong => format!(in alloc; "recode: input too long\n"),
+        Fault::Unmappable { index, scalar } => {
+            format!(in alloc; "recode: unmappable {index} {}\n", u32::from(scalar))
+        }
+    }
+}
+
+// What happens behind these events and both flushes, the writer's first.
+fn behind_flushes<'e>(events: &'e [Event], front: &[Event]) -> Option<&'e [Event]> {
+    let flushes = [Event::Flush(Device::Writer), Event::Flush(Device::Log)];
+    events.strip_prefix(front)?.strip_prefix(&flushes)
+}
+
+// Converts by `convert`: these events, a flush of both, and the message of the fault.
+fn check_message(
+    alloc: Global,
+    tables: &Tables,
+    setting: Setting<'_>,
+    plan: &Plan,
+    front: &[Event],
+    wanted: (Fault, [u64; 3]),
+) -> anyhow::Result<()> {
+    let (fault, failures) = wanted;
+    let outcome = status(alloc, tables, setting, plan)?;
+    let given = outcome.answer;
+    ensure!(given == FAULT, "the status of {fault:?} is {given}");
+    same_failures(outcome.failures, failures)?;
+    let events = outcome.events.as_slice();
+    let told = behind_flushes(events, front).context("`convert` does not flush both")?;
+    let message = message(alloc, fault)?;
+    ensure!(
+        takes(told, Device::Log, message.as_str().as_bytes()),
+        "another message than that of {fault:?}"
+    );
+    let calls = calls_of(told, Device::Reader).saturating_add(calls_of(told, Device::Writer));
+    ensure!(calls == 0, "calls behind {fault:?}");
+    Ok(())
+}
+
+// The plan with flushes that fail.
+fn stuck(plan: Plan, writer: bool, log: bool) -> Plan {
+    Plan {
+        writer: Manners {
+            flush_fails: writer,
+            ..plan.writer
+        },
+        log: Manners {
+            flush_fails: log,
+            ..plan.log
+        },
+        ..plan
+    }
+}
+
+// Converts by `convert` with each call failing, one at a time, and with these flushes failing
+// behind it: the message is that of the first fault, which is the policy's where it stops, and
+// each failure is counted. Returns how many conversions that takes.
+pub(crate) fn check_flushes(
+    alloc: Global,
+    tables: &Tables,
+    setting: Setting<'_>,
+    plan: &Plan,
+    flushes: (bool, bool),
+) -> anyhow::Result<usize> {
+    let outcome = recode(alloc, tables, setting, Way::Run, plan)?;
+    let events = outcome.events.as_slice();
+    let (writer, log) = flushes;
+    let stuck_plan = stuck(*plan, writer, log);
+    let (written, logged) = (u64::from(writer), u64::from(log));
+    if writer || log || outcome.answer.is_err() {
+        let flush = if writer { Fault::Write } else { Fault::Log };
+        let fault = outcome.answer.err().unwrap_or(flush);
+        let wanted = (fault, [0, written, logged]);
+        check_message(alloc, tables, setting, &stuck_plan, events, wanted)?;
+    }
+    let stops = stops_of(alloc, events, &[FULL])?;
+    for stop in stops.iter() {
+        let (fault, [read, write, line]) = stop.fault();
+        let failures = [
+            read,
+            write.saturating_add(written),
+            line.saturating_add(logged),
+        ];
+        let front = stop.front(events);
+        let stopped = stop.plan(stuck_plan);
+        check_message(alloc, tables, setting, &stopped, front, (fault, failures))?;
+    }
+    Ok(stops.len())
+}

@@ -1,0 +1,101 @@
+use std::alloc::{AllocError, Global};
+use std::cell::RefCell;
+
+// What a conversion calls.
+#[derive(Clone, Copy, PartialEq, Eq, Debug)]
+pub(crate) enum Device {
+    Reader,
+    Writer,
+    Log,
+}
+
+// What happens to a device.
+#[derive(Clone, Copy, PartialEq, Eq, Debug)]
+pub(crate) enum Event {
+    // It is called, to read or to write.
+    Call(Device),
+    // It takes a byte.
+    Byte(Device, u8),
+    // It is flushed.
+    Flush(Device),
+}
+
+// What happens to all devices of a conversion, in one order.
+#[derive(Drop)]
+pub(crate) struct Tape {
+    events: RefCell<Vec<Event>>,
+}
+
+impl Tape {
+    pub(crate) fn new(alloc: Global) -> Tape {
+        Tape {
+            events: RefCell::new(Vec::new(alloc)),
+        }
+    }
+
+    // Notes what happens next.
+    pub(crate) fn add(&self, event: Event) -> Result<(), AllocError> {
+        if let Ok(mut events) = self.events.try_borrow_mut() {
+            events.push(event)?;
+        }
+        Ok(())
+    }
+
+    // Gives what is noted away.
+    pub(crate) fn take(&self, alloc: Global) -> Vec<Event> {
+        match self.events.try_replace(Vec::new(alloc)) {
+            Ok(events) => events,
+            Err(nothing) => nothing,
+        }
+    }
+}
+
+// How many of these are calls of a device.
+pub(crate) fn calls_of(events: &[Event], device: Device) -> usize {
+    let mut calls = 0usize;
+    for event in events {
+        if *event == Event::Call(device) {
+            calls = calls.saturating_add(1);
+        }
+    }
+    calls
+}
+
+// What happens up to a call of a device, counted from 1, and that call.
+pub(crate) fn up_to(events: &[Event], device: Device, call: usize) -> &[Event] {
+    let mut calls = 0usize;
+    for (place, event) in events.iter().enumerate() {
+        if calls == call {
+            return events.get(..place).unwrap_or(events);
+        }
+        if *event == Event::Call(device) {
+            calls = calls.saturating_add(1);
+        }
+    }
+    events
+}
+
+// The bytes among these events.
+pub(crate) fn only_bytes(alloc: Global, events: &[Event]) -> Result<Vec<Event>, AllocError> {
+    let mut bytes = Vec::new(alloc);
+    for event in events {
+        if let Event::Byte(..) = event {
+            bytes.push(*event)?;
+        }
+    }
+    Ok(bytes)
+}
+
+// Whether a device takes exactly these bytes.
+pub(crate) fn takes(events: &[Event], device: Device, bytes: &[u8]) -> bool {
+    let mut left = bytes;
+    for event in events {
+        match (event, left.split_first()) {
+            (Event::Byte(taker, _), _) if *taker != device => {}
+            (Event::Byte(_, byte), Some((first, rest))) if *byte == *first => left = rest,
+            (Event::Byte(_, _), _) => return false,
+            _ => {}
+        }
+    }
+    left.is_empty()
+}

@@ -1,0 +1,332 @@
+// A conversion in one of the two ways, and what came of it.
+
+use crate::sink::{Manners, Sink, WILLING};
+use crate::source::{Reads, Source};
+use crate::tape::{Device, Event, Tape};
+use anyhow::{Context, bail, ensure};
+use encoding_front::Encoding;
+use encoding_tables::Tables;
+use recode::{
+    Buffers, Fault, GREATEST_LIMIT, Job, Mark, Pivot, Policy, Progress, Report, Session, convert,
+    run,
+};
+use recode_log::counted::Counted;
+use std::alloc::{AllocError, Global};
+use std::io::ErrorKind;
+
+// How many elements the buffers have, and whether the pivots are of UTF-16.
+#[derive(Clone, Copy, Debug)]
+pub(crate) struct Sizes {
+    pub(crate) input: usize,
+    pub(crate) pivot: usize,
+    pub(crate) output: usize,
+    pub(crate) check: usize,
+    pub(crate) is_wide: bool,
+}
+
+// The least that is enough.
+pub(crate) const LEAST: Sizes = Sizes {
+    input: 1,
+    pivot: 4,
+    output: 4,
+    check: 4,
+    is_wide: false,
+};
+
+// The least that is enough with pivots of UTF-16.
+pub(crate) const LEAST_WIDE: Sizes = Sizes {
+    pivot: 2,
+    check: 2,
+    is_wide: true,
+    ..LEAST
+};
+
+// Room for all of a small input.
+pub(crate) const ROOMY: Sizes = Sizes {
+    input: 4096,
+    pivot: 4096,
+    output: 4096,
+    check: 4096,
+    is_wide: false,
+};
+
+// The least buffers, of either kind of pivot, and large ones.
+pub(crate) const SIZES: [Sizes; 3] = [LEAST, LEAST_WIDE, ROOMY];
+
+// What is called.
+#[derive(Clone, Copy, Debug)]
+pub(crate) enum Way {
+    // `run`, once.
+    Run,
+    // `Session::step`, until the session is over.
+    Steps,
+}
+
+pub(crate) const WAYS: [Way; 2] = [Way::Run, Way::Steps];
+
+// What is converted, and how.
+#[derive(Clone, Copy)]
+pub(crate) struct Setting<'a> {
+    pub(crate) from: Encoding,
+    pub(crate) to: Encoding,
+    pub(crate) mark: Mark,
+    pub(crate) policy: Policy,
+    pub(crate) input: &'a [u8],
+}
+
+impl<'a> Setting<'a> {
+    // The job, with all that any input may have.
+    pub(crate) fn job<'t>(&self, tables: &'t Tables) -> Job<'t> {
+        Job {
+            from: self.from,
+            to: self.to,
+            mark: self.mark,
+            policy: self.policy,
+            limit: GREATEST_LIMIT,
+            tables,
+        }
+    }
+}
+
+// The buffers of a conversion, and what its devices do.
+#[derive(Clone, Copy, Debug)]
+pub(crate) struct Plan {
+    pub(crate) reads: Reads,
+    pub(crate) sizes: Sizes,
+    // The read that fails, counted from 1. 0: none.
+    pub(crate) read_fails_at: usize,
+    pub(crate) read_kind: ErrorKind,
+    pub(crate) writer: Manners,
+    pub(crate) log: Manners,
+}
+
+// The input in one read, large buffers, and no fault.
+pub(crate) const AT_ONCE: Plan = Plan {
+    reads: Reads::CutAt(0),
+    sizes: ROOMY,
+    read_fails_at: 0,
+    read_kind: ErrorKind::BrokenPipe,
+    writer: WILLING,
+    log: WILLING,
+};
+
+// What came of a conversion.
+#[derive(Drop)]
+pub(crate) struct Outcome<A> {
+    pub(crate) answer: A,
+    pub(crate) output: Vec<u8>,
+    pub(crate) log: Vec<u8>,
+    // The failures of the reader, the writer and the log.
+    pub(crate) failures: [u64; 3],
+    // What happened to all three.
+    pub(crate) events: Vec<Event>,
+}
+
+#[derive(Drop)]
+pub(crate) struct Devices<'a> {
+    pub(crate) reader: Counted<Source<'a>>,
+    pub(crate) writer: Counted<Sink<'a>>,
+    pub(crate) log: Counted<Sink<'a>>,
+    tape: &'a Tape,
+}
+
+impl<'a> Devices<'a> {
+    pub(crate) fn new(alloc: Global, input: &'a [u8], plan: &Plan, tape: &'a Tape) -> Self {
+        let source = Source::new(input, plan.reads, plan.read_fails_at, plan.read_kind, tape);
+        Devices {
+            reader: Counted::new(source),
+            writer: Counted::new(Sink::new(alloc, plan.writer, Device::Writer, tape)),
+            log: Counted::new(Sink::new(alloc, plan.log, Device::Log, tape)),
+            tape,
+        }
+    }
+
+    pub(crate) fn outcome<A>(self, alloc: Global, answer: A) -> Outcome<A> {
+        let failures = [
+            self.reader.failures(),
+            self.writer.failures(),
+            self.log.failures(),
+        ];
+        let writer = self.writer.into_inner();
+        let log = self.log.into_inner();
+        Outcome {
+            answer,
+            output: writer.taken,
+            log: log.taken,
+            failures,
+            events: self.tape.take(alloc),
+        }
+    }
+}
+
+#[derive(Drop)]
+pub(crate) struct Rooms {
+    input: Vec<u8>,
+    output: Vec<u8>,
+    pivots: Pivots,
+}
+
+// The pivot and the room to read back.
+#[derive(Drop)]
+enum Pivots {
+    Narrow(Vec<u8>, Vec<u8>),
+    Wide(Vec<u16>, Vec<u16>),
+}
+
+impl Rooms {
+    pub(crate) fn new(alloc: Global, sizes: Sizes) -> Result<Rooms, AllocError> {
+        let pivots = if sizes.is_wide {
+            let pivot = std::vec![in alloc; 0; sizes.pivot]?;
+            Pivots::Wide(pivot, std::vec![in alloc; 0; sizes.check]?)
+        } else {
+            let pivot = std::vec![in alloc; 0; sizes.pivot]?;
+            Pivots::Narrow(pivot, std::vec![in alloc; 0; sizes.check]?)
+        };
+        Ok(Rooms {
+            input: std::vec![in alloc; 0; sizes.input]?,
+            output: std::vec![in alloc; 0; sizes.output]?,
+            pivots,
+        })
+    }
+
+    pub(crate) fn lend(&mut self) -> Buffers<'_> {
+        let (pivot, check) = match &mut self.pivots {
+            Pivots::Narrow(pivot, check) => (
+                Pivot::Utf8(pivot.as_mut_slice()),
+                Pivot::Utf8(check.as_mut_slice()),
+            ),
+            Pivots::Wide(pivot, check) => (
+                Pivot::Utf16(pivot.as_mut_slice()),
+                Pivot::Utf16(check.as_mut_slice()),
+            ),
+        };
+        Buffers {
+            input: self.input.as_mut_slice(),
+            pivot,
+            output: self.output.as_mut_slice(),
+            check,
+        }
+    }
+}
+
+fn by_run(
+    devices: &mut Devices<'_>,
+    job: Job<'_>,
+    buffers: &mut Buffers<'_>,
+) -> anyhow::Result<Result<Report, Fault>> {
+    ensure!(job.is_valid(), "an index is not there");
+    ensure!(buffers.is_enough(), "the buffers are too small");
+    ensure!(devices.reader.failures() == 0, "a new reader has failed");
+    ensure!(devices.writer.failures() == 0, "a new writer has failed");
+    ensure!(devices.log.failures() == 0, "a new log has failed");
+    Ok(run(
+        &mut devices.reader,
+        &mut devices.writer,
+        &mut devices.log,
+        job,
+        buffers,
+    ))
+}
+
+// One step of a session that is not over.
+pub(crate) fn step(
+    session: &mut Session<'_>,
+    devices: &mut Devices<'_>,
+    buffers: &mut Buffers<'_>,
+) -> anyhow::Result<Result<Progress, Fault>> {
+    ensure!(!session.is_over(), "a session is over too soon");
+    ensure!(session.report().is_none(), "a report before the end");
+    ensure!(buffers.is_enough(), "the buffers are too small");
+    ensure!(devices.reader.failures() == 0, "a read failed before");
+    ensure!(devices.writer.failures() == 0, "a write failed before");
+    ensure!(devices.log.failures() == 0, "a line failed before");
+    Ok(session.step(
+        &mut devices.reader,
+        &mut devices.writer,
+        &mut devices.log,
+        buffers,
+    ))
+}
+
+// Steps with one call of the reader each.
+fn by_steps(
+    devices: &mut Devices<'_>,
+    job: Job<'_>,
+    buffers: &mut Buffers<'_>,
+) -> anyhow::Result<Result<Report, Fault>> {
+    ensure!(job.is_valid(), "an index is not there");
+    let mut session = Session::new(job);
+    for steps in 1..200 {
+        let answer = step(&mut session, devices, buffers)?;
+        ensure!(
+            devices.reader.get_ref().calls() == steps,
+            "a step reads not once"
+        );
+        if let Ok(Progress::More) = answer {
+            continue;
+        }
+        ensure!(session.is_over(), "a session is not over at its end");
+        let report = session.report();
+        if let Err(fault) = answer {
+            ensure!(report.is_none(), "a report behind a fault");
+            return Ok(Err(fault));
+        }
+        return Ok(Ok(report.context("no report at the end")?));
+    }
+    bail!("a session does not end")
+}
+
+// Converts in one of the two ways.
+pub(crate) fn recode(
+    alloc: Global,
+    tables: &Tables,
+    setting: Setting<'_>,
+    way: Way,
+    plan: &Plan,
+) -> anyhow::Result<Outcome<Result<Report, Fault>>> {
+    let tape = Tape::new(alloc);
+    let mut devices = Devices::new(alloc, setting.input, plan, &tape);
+    let mut rooms = Rooms::new(alloc, plan.sizes)?;
+    let mut buffers = rooms.lend();
+    let job = setting.job(tables);
+    let answer = match way {
+        Way::Run => by_run(&mut devices, job, &mut buffers)?,
+        Way::Steps => by_steps(&mut devices, job, &mut buffers)?,
+    };
+    Ok(devices.outcome(alloc, answer))
+}
+
+fn by_convert(
+    devices: &mut Devices<'_>,
+    job: Job<'_>,
+    buffers: &mut Buffers<'_>,
+) -> anyhow::Result<u8> {
+    ensure!(job.is_valid(), "an index is not there");
+    ensure!(buffers.is_enough(), "the buffers are too small");
+    ensure!(devices.reader.failures() == 0, "a new reader has failed");
+    ensure!(devices.writer.failures() == 0, "a new writer has failed");
+    ensure!(devices.log.failures() == 0, "a new log has failed");
+    Ok(convert(
+        &mut devices.reader,
+        &mut devices.writer,
+        &mut devices.log,
+        job,
+        buffers,
+    ))
+}
+
+// Converts by `convert`, whose status is the answer.
+pub(crate) fn status(
+    alloc: Global,
+    tables: &Tables,
+    setting: Setting<'_>,
+    plan: &Plan,
+) -> anyhow::Result<Outcome<u8>> {
+    let tape = Tape::new(alloc);
+    let mut devices = Devices::new(alloc, setting.input, plan, &tape);
+    let mut rooms = Rooms::new(alloc, plan.sizes)?;
+    let mut buffers = rooms.lend();
+    let job = setting.job(tables);
+    let answer = by_convert(&mut devices, job, &mut buffers)?;
+    Ok(devices.outcome(alloc, answer))
+}
