@@ -1,8 +1,8 @@
 // The lines of single calls, each with all that the call must tell.
 
 use crate::kinds::{Form, Outcome};
-use crate::words::{decimal, numbers, scalar};
 use anyhow::{Context, bail};
+use case_lines::words::{decimal, numbers, scalar};
 use std::alloc::Global;
 
 // What a call is given.

@@ -6,7 +6,7 @@ use crate::answer::{Answer, Text, UNWRITTEN};
 use crate::call_lines::{Source, State};
 use crate::calls::{Calls, TextOfCall, check_answer, check_state};
 use crate::kinds::{Outcome, widened};
-use crate::report::Report;
+use case_lines::report::Report;
 use encoding_front::{CoderResult, Encoder};
 use encoding_tables::Tables;
 use std::alloc::{AllocError, Global};

@@ -1,31 +1,10 @@
 // The indexes of a file of cases.
 
-use crate::words::{decimal, hexadecimal};
 use anyhow::{Context, bail, ensure};
-use encoding_tables::{IndexKind, Tables};
+use case_lines::kinds::kind_of;
+use case_lines::words::{decimal, hexadecimal};
+use encoding_tables::Tables;
 use std::alloc::Global;
-
-const KINDS: [(&str, IndexKind); 10] = [
-    ("big5", IndexKind::Big5),
-    ("euc-kr", IndexKind::EucKr),
-    ("gb18030", IndexKind::Gb18030),
-    ("jis0208", IndexKind::Jis0208),
-    ("jis0212", IndexKind::Jis0212),
-    ("katakana", IndexKind::Iso2022JpKatakana),
-    ("ibm866", IndexKind::Ibm866),
-    ("windows-1252", IndexKind::Windows1252),
-    ("windows-1253", IndexKind::Windows1253),
-    ("windows-1257", IndexKind::Windows1257),
-];
-
-fn kind_of(name: &str) -> anyhow::Result<IndexKind> {
-    for (known, kind) in KINDS {
-        if name == known {
-            return Ok(kind);
-        }
-    }
-    bail!("no index has this name")
-}
 
 // The rows of words as `5287=5341`: a pointer in decimal digits, and a character.
 fn rows_of(alloc: Global, words: &str) -> anyhow::Result<Vec<(u32, u32)>> {

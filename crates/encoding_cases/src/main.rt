@@ -18,11 +18,9 @@ mod front_encoding;
 mod indexes;
 mod kinds;
 mod pieces;
-mod report;
 mod rooms;
 mod session;
 mod streams;
-mod words;
 
 use crate::session::run_file;
 use anyhow::Context;

@@ -1,8 +1,8 @@
 // Streams, each piece with what it becomes.
 
 use crate::kinds::{Form, Item};
-use crate::words::{add_bytes, scalar};
 use anyhow::Context;
+use case_lines::words::{add_bytes, scalar};
 use std::alloc::Global;
 
 // The bytes of a stream, and what they are decoded to.

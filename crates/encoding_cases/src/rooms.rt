@@ -1,8 +1,8 @@
 // The room that decoders and encoders must ask for.
 
 use crate::kinds::Form;
-use crate::words::decimal;
 use anyhow::{Context, bail};
+use case_lines::words::decimal;
 use encoding_front::Encoding;
 
 // A room as a multiple of a number, and so much more.

@@ -6,10 +6,10 @@ use crate::decoding::check_decoded;
 use crate::encoding::check_encoded;
 use crate::indexes::{insert_list, insert_ranges, insert_rows};
 use crate::pieces::{DecodedStream, EncodedStream};
-use crate::report::Report;
 use crate::rooms::{Asked, Side};
 use crate::streams::{MarkedStream, check_marked};
 use anyhow::{Context, ensure};
+use case_lines::report::Report;
 use encoding_front::Encoding;
 use encoding_tables::Tables;
 
