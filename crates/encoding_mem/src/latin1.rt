@@ -5,6 +5,7 @@ ghost use Rattle.std.specs.Str.{chars};
 ghost use Rattle.encoding_mem.specs.Latin1.{AllLatin1, IsLatin1Text};
 ghost use Rattle.encoding_mem.specs.LongestPrefix.{IsLongestPrefix};
 
+use crate::ascii_text::is_ascii;
 use crate::first::{first_byte_from, first_unit_from};
 use crate::validity::utf8_valid_up_to;
 
@@ -44,6 +45,10 @@ pub fn str_latin1_up_to(text: &str) -> usize
 pub fn utf8_latin1_up_to(bytes: &[u8]) -> usize
     ensures { IsLongestPrefix IsLatin1Text bytes.now result }
 {
+    // ASCII is read once.
+    if is_ascii(bytes) {
+        return bytes.len();
+    }
     let low = first_byte_from(bytes, ABOVE_LATIN1);
     utf8_valid_up_to(&bytes[..low])
 }
