@@ -1,6 +1,7 @@
 use crate::source::Reads;
 use crate::trial::{LEAST, LEAST_WIDE, ROOMY, SIZES, Sizes, Trial, WAYS, recode};
-use recode::Fault;
+use encoding_front::WINDOWS_1252;
+use recode::{Fault, Policy};
 use std::alloc::AllocError;
 use std::process::Abort;
 
@@ -110,6 +111,34 @@ fn an_input_of_the_limit_is_converted(rt: HostRuntime) -> Result<(), AllocError>
             let report = outcome.answer.expect(&rt, "a report");
             assert!(rt; report.faithful && report.read == 4, "{report:?}");
         }
+    }
+    Ok(())
+}
+
+// That the input is too long is found before what was read is converted.
+#[test]
+fn a_chunk_that_is_too_long_is_not_converted(rt: HostRuntime) -> Result<(), AllocError> {
+    let at_once = Trial {
+        to: WINDOWS_1252,
+        policy: Policy::Stop,
+        limit: 3,
+        ..Trial::new(b"a\xC3\xA8b")
+    };
+    let one_by_one = Trial {
+        reads: Reads::OneByOne,
+        ..at_once
+    };
+    let stopped = Fault::Unmappable {
+        index: 1,
+        scalar: '\u{E8}',
+    };
+    for way in WAYS {
+        let outcome = recode(&rt, way, &at_once)?;
+        assert_eq!(rt; outcome.answer, Err(Fault::TooLong));
+        outcome.check(&rt, &at_once, b"", b"", [0, 0, 0]);
+        let outcome = recode(&rt, way, &one_by_one)?;
+        assert_eq!(rt; outcome.answer, Err(stopped));
+        outcome.check(&rt, &one_by_one, b"a", b"lost 1 232\n", [0, 0, 0]);
     }
     Ok(())
 }

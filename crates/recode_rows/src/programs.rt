@@ -4,7 +4,7 @@ ghost use Rattle.recode_log.specs.Counted.{failures_of};
 
 use crate::sink::{Failure, Manners, Sink, WILLING};
 use crate::source::{Reads, Source};
-use crate::tape::{Device, Tape};
+use crate::turns::Turns;
 use encoding_front::Encoding;
 use recode::program::program;
 use recode::{IndexSource, SourceFault};
@@ -115,8 +115,8 @@ struct Outcome {
     reads: usize,
 }
 
-// Calls the program over devices of a tape.
-fn call_over(rt: &(impl Abort + AllocGlobal), call: &Call, tape: &Tape) -> Result<Outcome, Fail> {
+// Calls the program over devices whose flushes are counted.
+fn call_over(rt: &(impl Abort + AllocGlobal), call: &Call, turns: &Turns) -> Result<Outcome, Fail> {
     let mut words = Vec::new(rt.alloc());
     words.push("recode")?;
     for word in call.line.split(' ') {
@@ -133,10 +133,9 @@ fn call_over(rt: &(impl Abort + AllocGlobal), call: &Call, tape: &Tape) -> Resul
         Reads::CutAt(0),
         0,
         ErrorKind::BrokenPipe,
-        tape,
     ));
-    let mut writer = Counted::new(Sink::new(rt.alloc(), call.writer, Device::Writer, tape));
-    let mut log = Counted::new(Sink::new(rt.alloc(), call.log_manners, Device::Log, tape));
+    let mut writer = Counted::new(Sink::new(rt.alloc(), call.writer, turns));
+    let mut log = Counted::new(Sink::new(rt.alloc(), call.log_manners, turns));
     assert!(rt; !words.is_empty());
     let status = program(
         rt.alloc(),
@@ -156,8 +155,8 @@ fn call_over(rt: &(impl Abort + AllocGlobal), call: &Call, tape: &Tape) -> Resul
 }
 
 fn call_program(rt: &(impl Abort + AllocGlobal), call: &Call) -> Result<Outcome, Fail> {
-    let tape = Tape::new(rt.alloc());
-    call_over(rt, call, &tape)
+    let turns = Turns::new();
+    call_over(rt, call, &turns)
 }
 
 fn check(rt: &(impl Abort + AllocGlobal), call: &Call) -> Result<(), Fail> {

@@ -1,4 +1,4 @@
-use crate::tape::{Device, Event, Tape};
+use crate::turns::Turns;
 use std::alloc::Global;
 use std::io;
 use std::io::{ErrorKind, Write};
@@ -11,13 +11,6 @@ pub enum Failure {
     /// It returns an error.
     Error(ErrorKind),
 }
-
-/// The ways in which a call of a writer fails.
-pub const FAILURES: [Failure; 3] = [
-    Failure::Nothing,
-    Failure::Error(ErrorKind::BrokenPipe),
-    Failure::Error(ErrorKind::Interrupted),
-];
 
 /// What a writer does.
 #[derive(Clone, Copy, Debug)]
@@ -58,13 +51,12 @@ pub struct Sink<'a> {
     pub flushes: Flushes,
     manners: Manners,
     calls: usize,
-    device: Device,
-    tape: &'a Tape,
+    turns: &'a Turns,
 }
 
 impl<'a> Sink<'a> {
-    /// A writer that has taken nothing, as one of the devices that share a tape.
-    pub fn new(alloc: Global, manners: Manners, device: Device, tape: &'a Tape) -> Sink<'a> {
+    /// A writer that has taken nothing, as one of those whose flushes are counted together.
+    pub fn new(alloc: Global, manners: Manners, turns: &'a Turns) -> Sink<'a> {
         Sink {
             taken: Vec::new(alloc),
             flushes: Flushes {
@@ -74,8 +66,7 @@ impl<'a> Sink<'a> {
             },
             manners,
             calls: 0,
-            device,
-            tape,
+            turns,
         }
     }
 }
@@ -83,7 +74,6 @@ impl<'a> Sink<'a> {
 impl<'a> Write for Sink<'a> {
     fn write(&mut self, buf: &[u8]) -> io::Result<usize> {
         self.calls = self.calls.saturating_add(1);
-        self.tape.add(Event::Call(self.device))?;
         if self.calls == self.manners.fails_at {
             return match self.manners.failure {
                 Failure::Nothing => Ok(0),
@@ -92,17 +82,13 @@ impl<'a> Write for Sink<'a> {
         }
         let count = self.manners.most.min(buf.len());
         self.taken.extend_from_slice(&buf[..count])?;
-        for byte in &buf[..count] {
-            self.tape.add(Event::Byte(self.device, *byte))?;
-        }
         Ok(count)
     }
 
     fn flush(&mut self) -> io::Result<()> {
-        self.tape.add(Event::Flush(self.device))?;
         self.flushes = Flushes {
             calls: self.flushes.calls.saturating_add(1),
-            turn: self.tape.flush_turn(),
+            turn: self.turns.next(),
             taken: self.taken.len(),
         };
         if self.manners.flush_fails {

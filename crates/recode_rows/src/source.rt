@@ -1,4 +1,3 @@
-use crate::tape::{Device, Event, Tape};
 use std::io;
 use std::io::{ErrorKind, Read};
 
@@ -15,25 +14,18 @@ pub enum Reads {
 
 /// A reader over memory.
 #[derive(Drop)]
-pub struct Source<'a> {
+pub struct Source {
     rest: &'static [u8],
     given: usize,
     reads: Reads,
     calls: usize,
     fails_at: usize,
     kind: ErrorKind,
-    tape: &'a Tape,
 }
 
-impl<'a> Source<'a> {
+impl Source {
     /// A reader of these bytes. The call `fails_at`, counted from 1, fails, and only that one.
-    pub fn new(
-        bytes: &'static [u8],
-        reads: Reads,
-        fails_at: usize,
-        kind: ErrorKind,
-        tape: &'a Tape,
-    ) -> Source<'a> {
+    pub fn new(bytes: &'static [u8], reads: Reads, fails_at: usize, kind: ErrorKind) -> Source {
         Source {
             rest: bytes,
             given: 0,
@@ -41,7 +33,6 @@ impl<'a> Source<'a> {
             calls: 0,
             fails_at,
             kind,
-            tape,
         }
     }
 
@@ -60,10 +51,9 @@ impl<'a> Source<'a> {
     }
 }
 
-impl<'a> Read for Source<'a> {
+impl Read for Source {
     fn read(&mut self, buf: &mut [u8]) -> io::Result<usize> {
         self.calls = self.calls.saturating_add(1);
-        self.tape.add(Event::Call(Device::Reader))?;
         if self.calls == self.fails_at {
             return Err(io::Error::from(self.kind));
         }

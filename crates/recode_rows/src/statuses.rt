@@ -239,7 +239,7 @@ fn a_failed_flush_is_told(rt: HostRuntime) -> Result<(), AllocError> {
     Ok(())
 }
 
-// Of a call that fails before the flushes `stops` has each.
+// Of a call that fails before the flushes `recode_cases` has each.
 #[test]
 fn an_input_too_long_is_told_before_a_failed_flush(rt: HostRuntime) -> Result<(), AllocError> {
     let rows = [

@@ -3,10 +3,10 @@ ghost use Rattle.recode_log.specs.Counted.{failures_of};
 
 use crate::sink::{Flushes, Manners, Sink, WILLING};
 use crate::source::{Reads, Source};
-use crate::tape::{Device, Event, Tape};
+use crate::turns::Turns;
 use encoding_front::{Encoding, UTF_8};
 use encoding_index::load;
-use encoding_tables::{IndexKind, Tables};
+use encoding_tables::Tables;
 use recode::{
     Buffers, Fault, GREATEST_LIMIT, Job, Mark, Pivot, Policy, Progress, Report, Session, convert,
     run,
@@ -73,8 +73,6 @@ pub struct Trial {
     pub to: Encoding,
     pub mark: Mark,
     pub policy: Policy,
-    /// The texts of indexes. Those that are needed beside them are empty.
-    pub index: &'static [(IndexKind, &'static [u8])],
     pub input: &'static [u8],
     pub limit: u64,
     pub sizes: Sizes,
@@ -94,7 +92,6 @@ impl Trial {
             to: UTF_8,
             mark: Mark::Keep,
             policy: Policy::Decimal,
-            index: &[],
             input,
             limit: GREATEST_LIMIT,
             sizes: ROOMY,
@@ -117,13 +114,9 @@ impl Trial {
         }
     }
 
-    /// Tables with the indexes.
-    pub fn tables(&self, rt: &(impl Abort + AllocGlobal)) -> Tables {
+    // Tables with the indexes that are needed, of empty texts.
+    fn tables(&self, rt: &(impl Abort + AllocGlobal)) -> Tables {
         let mut tables = Tables::new(rt.alloc());
-        for (kind, text) in self.index {
-            let loaded = load(rt.alloc(), &mut tables, *kind, text);
-            assert_eq!(rt; loaded, Ok(()));
-        }
         for encoding in [self.from, self.to.output_encoding()] {
             for kind in encoding.needs() {
                 if !tables.has(*kind) {
@@ -135,19 +128,12 @@ impl Trial {
         tables
     }
 
-    fn devices<'a>(&self, alloc: Global, tape: &'a Tape) -> Devices<'a> {
-        let source = Source::new(
-            self.input,
-            self.reads,
-            self.read_fails_at,
-            self.read_kind,
-            tape,
-        );
+    fn devices<'a>(&self, alloc: Global, turns: &'a Turns) -> Devices<'a> {
+        let source = Source::new(self.input, self.reads, self.read_fails_at, self.read_kind);
         Devices {
             reader: Counted::new(source),
-            writer: Counted::new(Sink::new(alloc, self.writer, Device::Writer, tape)),
-            log: Counted::new(Sink::new(alloc, self.log, Device::Log, tape)),
-            tape,
+            writer: Counted::new(Sink::new(alloc, self.writer, turns)),
+            log: Counted::new(Sink::new(alloc, self.log, turns)),
         }
     }
 }
@@ -164,8 +150,6 @@ pub struct Outcome<A> {
     pub failures: [u64; 3],
     pub writer_flushes: Flushes,
     pub log_flushes: Flushes,
-    /// What happened to all three.
-    pub events: Vec<Event>,
 }
 
 impl<A: Drop> Outcome<A> {
@@ -186,14 +170,13 @@ impl<A: Drop> Outcome<A> {
 
 #[derive(Drop)]
 struct Devices<'a> {
-    reader: Counted<Source<'a>>,
+    reader: Counted<Source>,
     writer: Counted<Sink<'a>>,
     log: Counted<Sink<'a>>,
-    tape: &'a Tape,
 }
 
 impl<'a> Devices<'a> {
-    fn outcome<A>(self, alloc: Global, answer: A) -> Outcome<A> {
+    fn outcome<A>(self, answer: A) -> Outcome<A> {
         let failures = [
             self.reader.failures(),
             self.writer.failures(),
@@ -210,7 +193,6 @@ impl<'a> Devices<'a> {
             failures,
             writer_flushes: writer.flushes,
             log_flushes: log.flushes,
-            events: self.tape.take(alloc),
         }
     }
 }
@@ -311,50 +293,6 @@ fn step(
     )
 }
 
-/// What the writers must hold after a step that goes on.
-#[derive(Clone, Copy, Debug)]
-pub struct Held {
-    pub output: &'static [u8],
-    pub log: &'static str,
-}
-
-// Steps that go on, with what must be written after each.
-fn watch_steps(
-    rt: &impl Abort,
-    session: &mut Session<'_>,
-    devices: &mut Devices<'_>,
-    buffers: &mut Buffers<'_>,
-    wants: &[Held],
-) {
-    for want in wants {
-        let answer = step(rt, session, devices, buffers);
-        assert_eq!(rt; answer, Ok(Progress::More), "{want:?}");
-        let output = &devices.writer.get_ref().taken;
-        assert_eq!(rt; output.as_slice(), want.output, "{want:?}");
-        let log = &devices.log.get_ref().taken;
-        assert_eq!(rt; log.as_slice(), want.log.as_bytes(), "{want:?}");
-    }
-}
-
-/// Asserts what is written after each step but the last, and returns what came of that one.
-pub fn watch(
-    rt: &(impl Abort + AllocGlobal),
-    trial: &Trial,
-    wants: &[Held],
-) -> Result<Outcome<Result<Progress, Fault>>, AllocError> {
-    let tables = trial.tables(rt);
-    let tape = Tape::new(rt.alloc());
-    let mut devices = trial.devices(rt.alloc(), &tape);
-    let mut rooms = Rooms::new(rt.alloc(), trial.sizes)?;
-    let mut buffers = rooms.lend();
-    let job = trial.job(&tables);
-    assert!(rt; job.is_valid());
-    let mut session = Session::new(job);
-    watch_steps(rt, &mut session, &mut devices, &mut buffers, wants);
-    let answer = step(rt, &mut session, &mut devices, &mut buffers);
-    Ok(devices.outcome(rt.alloc(), answer))
-}
-
 // Steps with one call of the reader each.
 fn by_steps(
     rt: &impl Abort,
@@ -389,26 +327,17 @@ pub fn recode(
     way: Way,
     trial: &Trial,
 ) -> Result<Outcome<Result<Report, Fault>>, AllocError> {
-    recode_over(rt, way, trial, &trial.tables(rt))
-}
-
-/// The same with tables that are there.
-pub fn recode_over(
-    rt: &(impl Abort + AllocGlobal),
-    way: Way,
-    trial: &Trial,
-    tables: &Tables,
-) -> Result<Outcome<Result<Report, Fault>>, AllocError> {
-    let tape = Tape::new(rt.alloc());
-    let mut devices = trial.devices(rt.alloc(), &tape);
+    let tables = trial.tables(rt);
+    let turns = Turns::new();
+    let mut devices = trial.devices(rt.alloc(), &turns);
     let mut rooms = Rooms::new(rt.alloc(), trial.sizes)?;
     let mut buffers = rooms.lend();
-    let job = trial.job(tables);
+    let job = trial.job(&tables);
     let answer = match way {
         Way::Run => by_run(rt, &mut devices, job, &mut buffers),
         Way::Steps => by_steps(rt, &mut devices, job, &mut buffers),
     };
-    Ok(devices.outcome(rt.alloc(), answer))
+    Ok(devices.outcome(answer))
 }
 
 fn by_convert(
@@ -430,20 +359,12 @@ fn by_convert(
 
 /// Converts by `convert`, and returns its status.
 pub fn status(rt: &(impl Abort + AllocGlobal), trial: &Trial) -> Result<Outcome<u8>, AllocError> {
-    status_over(rt, trial, &trial.tables(rt))
-}
-
-/// The same with tables that are there.
-pub fn status_over(
-    rt: &(impl Abort + AllocGlobal),
-    trial: &Trial,
-    tables: &Tables,
-) -> Result<Outcome<u8>, AllocError> {
-    let tape = Tape::new(rt.alloc());
-    let mut devices = trial.devices(rt.alloc(), &tape);
+    let tables = trial.tables(rt);
+    let turns = Turns::new();
+    let mut devices = trial.devices(rt.alloc(), &turns);
     let mut rooms = Rooms::new(rt.alloc(), trial.sizes)?;
     let mut buffers = rooms.lend();
-    let job = trial.job(tables);
+    let job = trial.job(&tables);
     let answer = by_convert(rt, &mut devices, job, &mut buffers);
-    Ok(devices.outcome(rt.alloc(), answer))
+    Ok(devices.outcome(answer))
 }
