@@ -111,7 +111,14 @@ def run(command, source, target):
 
 
 def resident(command, source):
-    """The largest resident set of a run, in MB."""
+    """The largest resident set that is seen in some runs, in MB: a short run may end before it is looked at."""
+    most = 0
+    for _ in range(5):
+        most = max(most, resident_once(command, source))
+    return most
+
+
+def resident_once(command, source):
     most = 0
     with open(source, "rb") as stdin, open(os.devnull, "wb") as none:
         process = subprocess.Popen(command, stdin=stdin, stdout=none, stderr=none)
@@ -122,7 +129,7 @@ def resident(command, source):
                 most = max([most] + [int(line[1]) / 1024 for line in lines])
             except OSError:
                 pass
-            time.sleep(0.005)
+            time.sleep(0.001)
     return most
 
 
