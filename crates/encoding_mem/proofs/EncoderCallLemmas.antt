@@ -13,11 +13,11 @@ use Rattle.encoding_mem.specs.declared.encoder_result.EncoderResult.TheVariants 
 use Rattle.encoding_mem.specs.declared.form.EscapeState.{EscapeState}
 use Rattle.encoding_mem.specs.declared.form.EscapeState.TheVariants.{Ascii}
 use Rattle.std.specs.Char.{encode_utf8, len_utf8}
-use Rattle.std.proofs.lemmas.Str.{drop_past_char, IsCharBoundary-from_rest}
-use Rattle.std.proofs.lemmas.Bool.{lt-ltb}
+use Rattle.std.proofs.lemmas.Str.{drop_past_char, length-encode, IsCharBoundary-from_rest}
+
 use native.Mathlib.Nat.{mul-add, mul_comm}
 use Rattle.encoding_mem.specs.DecodedLength.{cost_in}
-use Rattle.encoding_mem.specs.EncodedLength.{IsBoundFor}
+use Rattle.encoding_mem.specs.EncodedLength.{IsBoundFor, bound_for, encoded_length_utf8}
 use Rattle.encoding_mem.specs.declared.room.Bound.{Bound}
 use Rattle.std.proofs.Math.Nat.{mul-le-mul_left}
 
@@ -175,20 +175,24 @@ ascii_costs e t l s laws fits copies =
     omega (arith, paid, times)
 
 -- What is enough for a text is enough for what is left of it behind a copy.
-pub less_asked : (f extra from offset size copied room : ℕ) → 1 ≤ f → from ≤ offset → offset ≤ size → copied ≤ offset - from → copied ≤ room
+-- what is left asks for no more room than there is behind what was copied, at most `u` bytes for a byte or unit
+pub less_asked : (f u extra from offset size copied room : ℕ) → u ≤ f → from ≤ offset → offset ≤ size → copied ≤ u * (offset - from) → copied ≤ room
     → f * (size - from) + extra ≤ room → f * (size - offset) + extra ≤ room - copied
-less_asked f extra from offset size copied room some after within few fits enough =
-    let sum : size - from ≡ (size - offset) + (offset - from) = omega (arith, after, within) in
-    let parts : f * (size - from) ≡ f * (size - offset) + f * (offset - from) = rw sum (mul-add f (size - offset) (offset - from)) in
-    let most : offset - from ≤ f * (offset - from) = le_times f (offset - from) some in
-    omega (arith, enough, parts, most, few, fits)
+less_asked f u extra from offset size copied room some after within few fits enough =
+    let n : ℕ = offset - from in
+    let sum : size - from ≡ (size - offset) + n = omega (arith, after, within) in
+    let parts : f * (size - from) ≡ f * (size - offset) + f * n = rw sum (mul-add f (size - offset) n) in
+    let most : n * u ≤ n * f = mul-le-mul_left n some in
+    omega (arith, enough, parts, most, mul_comm n u, mul_comm n f, few, fits)
 
-one_byte : (c : ℕ) → c < 0x80 → encode_utf8 c ≡ c ∷ []
-unfolding encode_utf8
-one_byte c low = rw (lt-ltb c 0x80 low) refl
+-- a target that writes a character as its UTF-8 has room for that
+utf8_cost : (e : Coding) (t : Bool) (l : Bound) (s : EscapeState) (c : ℕ) → IsBoundFor e t l → CopiesUtf8 e s → len_utf8 c ≤ l.factor * cost_in t c
+utf8_cost e t l s c fits copies = omega (arith, fits.each s c, ap length (ap bytes (copies c).1), length-encode c)
 
-pub utf8_costs : {need : ℕ} (e : Coding) (t : Bool) (l : Bound) (s : EscapeState) → IsCoding need e → IsBoundFor e t l → CopiesUtf8 e s → 1 ≤ l.factor
-utf8_costs e t l s laws fits copies = ascii_costs e t l s laws fits (λ c low. ((copies c).0, (copies c).1 ∙ ap Mapped (one_byte c low)))
+-- where characters are copied in UTF-8, there is room for UTF-8
+pub utf8_costs : (e : Coding) (t : Bool) (l : Bound) (s : EscapeState) → IsBoundFor e t l → CopiesUtf8 e s → (bound_for encoded_length_utf8 t).factor ≤ l.factor
+utf8_costs e true l s fits copies = let most : 3 ≤ l.factor * 1 = utf8_cost e true l s 0xFFFF fits copies in omega (arith, most)
+utf8_costs e false l s fits copies = let most : 1 ≤ l.factor * 1 = utf8_cost e false l s 0 fits copies in omega (arith, most)
 
 pub behind_put : (old mid new : List ℕ) (a n b : ℕ) → b ≡ a + n → drop a mid ≡ drop a old → drop b new ≡ drop b mid → drop b new ≡ drop b old
 behind_put old mid new a n b end before now = now ∙ rw (end, ← drop-drop, before, drop-drop) refl

@@ -3,6 +3,7 @@ pub mod DestinationLemmas
 pub mod Utf8PieceLemmas
 pub mod AsciiLemmas
 pub mod EncoderCallLemmas
+pub mod UnitsTextLemmas
 pub mod Utf16Lemmas
 pub mod Utf8TextLemmas
 pub mod AsciiRunLemmas

@@ -46,8 +46,8 @@ pub trait EncoderRule {
     fn copies_ascii(&self, from: EscapeState) -> bool
         ensures { result ≡ true → CopiesAscii (coding self.now) from };
 
-    /// Whether in this set each character is its UTF-8 and leaves the set as it is, so that text that is there in
-    /// UTF-8 can be copied.
+    /// Whether in this set each character is its UTF-8 and leaves the set as it is, so that a
+    /// source can copy its text, or write it in UTF-8, by itself.
     fn copies_utf8(&self, from: EscapeState) -> bool
         ensures { result ≡ true → CopiesUtf8 (coding self.now) from };
 
@@ -194,7 +194,7 @@ fn copy_run<S: Source>(source: &mut S, dst: &mut [u8], at: usize) -> usize
     at + source.copy_ascii(&mut dst[at..])
 }
 
-// The call below, without a look at text that is there in UTF-8.
+// The call below, character by character but for runs of ASCII.
 fn encode_each<T: EncoderRule, S: Source>(
     target: &T,
     set: &mut EscapeState,

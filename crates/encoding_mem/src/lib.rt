@@ -34,6 +34,7 @@ pub mod sink_decoder;
 pub mod source;
 pub mod source_encoder;
 pub mod text_destinations;
+pub mod units_text;
 pub mod utf16_conversions;
 pub mod utf16_sink;
 pub mod utf8;

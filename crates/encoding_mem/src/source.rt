@@ -1,10 +1,11 @@
 // A text that is read from its start.
 
-ghost use Rattle.std.specs.Prelude.{◌≡◌, ◌↔◌, IsTrue, ℕ, ◌+◌, ◌-◌, ◌<◌, ◌≤◌, Bool, true, false, List, [], ◌∷◌, ◌++◌, length, take, drop, slice_index, MatchOption, IfSome};
+ghost use Rattle.std.specs.Prelude.{◌≡◌, ◌↔◌, IsTrue, ℕ, ◌+◌, ◌-◌, ◌*◌, ◌<◌, ◌≤◌, Bool, true, false, List, [], ◌∷◌, ◌++◌, length, take, drop, slice_index, MatchOption, IfSome};
 ghost use Rattle.std.specs.Str.{chars, IsAscii, IsCharBoundary};
 ghost use Rattle.std.specs.Char.{len_utf8, encode_utf8};
 ghost use Rattle.std.specs.Char.Utf16.{utf16_lossy_chars};
 ghost use Rattle.encoding_mem.specs.DecodedLength.{cost_in};
+ghost use Rattle.encoding_mem.specs.EncodedLength.{bound_for, encoded_length_utf8};
 ghost use Rattle.encoding_mem.specs.EncoderRule.{IsCopied};
 ghost use Rattle.encoding_mem.specs.Text.{IsSecondAscii};
 ghost use Rattle.encoding_mem.specs.Writing.{len_utf16};
@@ -13,6 +14,7 @@ ghost use Rattle.encoding_mem.specs.laws.EncodedLength.{sum_within};
 use crate::ascii::ascii_prefix;
 use crate::ascii_copies::copy_basic_latin_to_ascii;
 use crate::scalar::scalar_of;
+use crate::units_text::write_units;
 
 /// A source of characters: a list of bytes or units, which stays as it is, and an offset in it.
 pub trait Source {
@@ -65,14 +67,15 @@ pub trait Source {
         ensures longest { result < length dst.old
             → (c : ℕ) (rest : List ℕ) → text (drop (offset self.new) (all self.new)) ≡ c ∷ rest → 0x80 ≤ c };
 
-    /// Copies text that is there in UTF-8, whole characters of it, and goes past it. Returns its
-    /// length in bytes. Units of UTF-16 are no such text: of them it copies none.
+    /// Writes characters that are next in UTF-8, as many as there is surely room for, and goes past
+    /// them. Returns how many bytes they have.
     fn copy_text(&mut self, dst: &mut [u8]) -> usize
         ensures same { all self.new ≡ all self.old }
         ensures fits { result ≤ length dst.new }
         ensures behind { drop result dst.new ≡ drop result dst.old }
         ensures after { offset self.old ≤ offset self.new }
-        ensures bytes { result ≤ offset self.new - offset self.old }
+        ensures bytes { result ≤ (bound_for encoded_length_utf8 is_units).factor
+            * (offset self.new - offset self.old) }
         ensures text { IsCopied (text (drop (offset self.old) (all self.old))) (take result dst.new)
             (text (drop (offset self.new) (all self.new))) };
 
@@ -210,7 +213,7 @@ impl<'a> Source for Utf8Source<'a> {
 
 // The first character of units, and how many units it has. A surrogate in no pair gives U+FFFD.
 #[inline(always)]
-fn first_of_units(units: &[u16]) -> Option<(char, usize)>
+pub(crate) fn first_of_units(units: &[u16]) -> Option<(char, usize)>
     ensures value { MatchOption result (utf16_lossy_chars units.now ≡ [])
         (λ p. utf16_lossy_chars units.now ≡ p.0 ∷ utf16_lossy_chars (drop p.1 units.now)) }
     ensures within { IfSome result (λ p. p.1 ≤ length units.now) }
@@ -233,7 +236,7 @@ fn first_of_units(units: &[u16]) -> Option<(char, usize)>
 }
 
 // Copies the run of ASCII at the start of units, as much of it as fits, and returns its length.
-fn narrow_ascii(units: &[u16], dst: &mut [u8]) -> usize
+pub(crate) fn narrow_ascii(units: &[u16], dst: &mut [u8]) -> usize
     ensures within { result ≤ length units.now }
     ensures size { length dst.new ≡ length dst.old }
     ensures fits { result ≤ length dst.old }
@@ -298,9 +301,10 @@ impl<'a> Source for Utf16Source<'a> {
         count
     }
 
-    #[inline(always)]
-    fn copy_text(&mut self, _dst: &mut [u8]) -> usize {
-        0
+    fn copy_text(&mut self, dst: &mut [u8]) -> usize {
+        let (read, written) = write_units(&self.units[self.offset..], dst);
+        self.offset += read;
+        written
     }
 
     #[inline(always)]

@@ -4,7 +4,7 @@
 use Rattle.std.proofs.Common.{◌≡◌, ℕ, ◌+◌, ◌-◌, ◌*◌, ◌/◌, ◌<◌, ◌≤◌, ◌^◌, ◌⊎◌, inl, inr, zero, suc, List, length, arith, refl, pow-suc, nat_lt, ◌==◌, ◌≢◌, [], ◌∷◌, ◌++◌, ◌∙◌, ap, drop, length-drop, length-take, length-append, None, Some}
 use Rattle.std.specs.Prelude.{◌&&◌, slice_range, slice_index, min}
 use Rattle.std.proofs.lemmas.Bool.{cases_eq, or_cases, and_parts, ltb-true, eqb-true, lt-ltb, le-ltb, eq-eqb, cases_lt}
-use Rattle.encoding_tables.specs.SortedRows.{row_at, IsBelow, AreRising, IsRank, IsDirectory, IsSpan}
+use Rattle.encoding_tables.specs.SortedRows.{row_at, IsBelow, AreNumbered, AreRising, IsRank, IsDirectory, IsSpan}
 use Rattle.std.proofs.lemmas.List.Edits.{get_or-between}
 use Rattle.std.proofs.lemmas.List.{get_or_append_left}
 use Rattle.std.proofs.Math.Seq.{get_or-append_right}
@@ -187,6 +187,22 @@ all_below rows begins first dir past = record {
 pub span_past : (rows : List (ℕ × ℕ)) (begins : List ℕ) (first : ℕ) → IsDirectory rows begins → length begins ≤ first + 1 → IsSpan rows first (length rows) (length rows)
 span_past rows begins first dir past =
     record { begins = all_below rows begins first dir past; ends = all_below rows begins (first + 1) dir (omega arith); ordered = omega arith; inside = omega arith }
+
+-- ---- rows whose first numbers are their positions
+
+rank_of_numbered : (rows : List (ℕ × ℕ)) (first n : ℕ) → AreNumbered rows → n ≡ min (length rows) first → IsRank rows (first, 0) n
+rank_of_numbered rows first n counted is = record {
+  within = omega (arith, is);
+  below = λ k less. let here = counted k (omega (arith, is)) in below_first (row_at rows k) (first, 0) (omega (arith, here, is));
+  others = λ k past within below.
+      let here = counted k within in
+      let low = below_start (row_at rows k) first below in
+      absurd (omega (arith, here, low, is));
+}
+
+pub numbered_span : (rows : List (ℕ × ℕ)) (first from to : ℕ) → AreNumbered rows → from ≡ min (length rows) first → to ≡ min (length rows) (first + 1) → IsSpan rows first from to
+numbered_span rows first from to counted begins ends =
+    record { begins = rank_of_numbered rows first from counted begins; ends = rank_of_numbered rows (first + 1) to counted ends; ordered = omega (arith, begins, ends); inside = omega (arith, ends) }
 
 pub rank_in_span : (rows : List (ℕ × ℕ)) (key : ℕ × ℕ) (from to n : ℕ) → IsSpan rows key.0 from to → IsRank (slice_range rows from to) key n → IsRank rows key (from + n)
 rank_in_span rows key from to n span rank =

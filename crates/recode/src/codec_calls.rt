@@ -17,7 +17,7 @@ ghost use Rattle.recode.specs.PivotText.{BeginsWith, Holds, HoldsText, IsCutInto
 use crate::job::Pivot;
 use encoding_front::StreamDecoder;
 use encoding_mem::sink::Sink;
-use encoding_mem::source::{Source, Utf16Source};
+use encoding_mem::units_text::count_in_units;
 use encoding_mem::utf8_sink::Utf8Sink;
 use encoding_mem::utf16_sink::Utf16Sink;
 use encoding_mem::{DecoderResult, EncoderResult, RawEncoder};
@@ -80,19 +80,6 @@ pub fn text_in<'p>(pivot: &'p Pivot<'_>, len: usize) -> PivotText<'p>
         }
         Pivot::Utf16(units) => PivotText::Utf16(&units[..len]),
     }
-}
-
-/// How many characters units of UTF-16 have. A surrogate in no pair is one.
-pub fn count_in_units(units: &[u16]) -> usize
-    ensures { result ≡ length (utf16_lossy_chars units.now) }
-{
-    let mut source = Utf16Source::new(units);
-    let mut count = 0;
-    while source.peek().is_some() {
-        source.advance();
-        count += 1;
-    }
-    count
 }
 
 // Counts a call of a codec. The count stops at the greatest number.
