@@ -1,7 +1,7 @@
 #!/usr/bin/env python3
 """Measures `recode` beside iconv and a program over the crate encoding_rs: see docs/PERFORMANCE.md.
 
-    python3 bench/programs.py [--rounds N] [--megabytes N] [--program PATH] [--write] [WORD..]
+    python3 bench/programs.py [--rounds N] [--megabytes N] [--program PATH] [--linear] [--write] [WORD..]
 
 With words it measures the workloads that have one of them in their names. It wants `recode` built (`make build`);
 for the program over encoding_rs cargo and Debian's package librust-encoding-rs-dev. It makes its inputs, words of
@@ -9,7 +9,9 @@ characters that the indexes map, the same in each run. What counts is the proces
 `recode` runs between two runs of each peer, and what it is compared with is their mean: so a machine that is slow
 for a moment is slow for both. A ratio is the median of all rounds, with its quartiles; one whose quartiles are more
 than a tenth apart has a `~`, and is no figure to quote. Each output of `recode` is compared with that of the program
-over encoding_rs. With --write the table goes into docs/PERFORMANCE.md, and docs/programs.svg shows it.
+over encoding_rs. With --linear it measures something else: whether ten times the input takes ten times the
+processor time and no more memory. With --write the table goes into docs/PERFORMANCE.md, and docs/programs.svg
+shows it.
 """
 
 import argparse
@@ -193,8 +195,8 @@ def same_output(ours, theirs, path, work):
         return first.read() == second.read()
 
 
-def write_input(work, block, megabytes):
-    path = os.path.join(work, "input")
+def write_input(work, block, megabytes, name="input"):
+    path = os.path.join(work, name)
     with open(path, "wb") as output:
         output.write(block * max(1, megabytes * 1_000_000 // len(block)))
     return path
@@ -233,6 +235,25 @@ def start_rows(program, tools, work, rounds):
             for spent, command in zip(times, commands):
                 spent.append(run(command, path, os.devnull)[0])
         yield ["%s to %s" % labels] + ["%.1f" % (1000 * statistics.median(spent)) for spent in times]
+
+
+# The sizes of input, in MB, that show how the cost of a run grows.
+SIZES = (10, 100)
+
+
+def growth(program, labels, block, work, rounds):
+    """Processor time for each MB of each size, in milliseconds, the ratio of the two, and the largest resident sets."""
+    ours = recode(program, *labels)
+    paths = [write_input(work, block, size, "%d MB" % size) for size in SIZES]
+    sizes = [os.path.getsize(path) / 1e6 for path in paths]
+    spent, ratios = [[], []], []
+    for _ in range(rounds):
+        costs = [run(ours, path, os.devnull)[0] / size * 1000 for path, size in zip(paths, sizes)]
+        ratios.append(costs[1] / costs[0])
+        for all_costs, cost in zip(spent, costs):
+            all_costs.append(cost)
+    cells = ["%.2f" % statistics.median(costs) for costs in spent]
+    return cells + [str(Ratio(ratios))] + ["%.1f" % resident_once(ours, path) for path in paths]
 
 
 def table(head, rows):
@@ -274,8 +295,9 @@ def machine(given):
     with open("/proc/cpuinfo") as info:
         model = next(line.split(":")[1].strip() for line in info if line.startswith("model name"))
     kit = subprocess.run(["rt", "version"], capture_output=True, text=True).stdout.split("\n")[0]
-    return "Measured on %s: %s, %d processors, load %.1f at the start; %s; %d rounds of %d MB." % (
-        time.strftime("%Y-%m-%d", time.gmtime()), model, os.cpu_count(), os.getloadavg()[0], kit, given.rounds, given.megabytes)
+    size = "%d and %d" % SIZES if given.linear else given.megabytes
+    return "Measured on %s: %s, %d processors, load %.1f at the start; %s; %d rounds of %s MB." % (
+        time.strftime("%Y-%m-%d", time.gmtime()), model, os.cpu_count(), os.getloadavg()[0], kit, given.rounds, size)
 
 
 def write(path, name, text):
@@ -289,24 +311,49 @@ def write(path, name, text):
         document.write(before + begin + text + "\n" + end + behind)
 
 
+def chosen(words):
+    """The workloads that have one of the words in their names, or all."""
+    for workload in WORKLOADS:
+        if not words or any(word.lower() in workload[0].lower() for word in words):
+            yield workload
+
+
+def measure_growth(given, work):
+    """The table of how the cost of each workload grows with its input."""
+    made = dict(texts())
+    rows = []
+    for title, text, source, target in chosen(given.words):
+        block = made[text].encode(PYTHON.get(source, source))
+        rows.append([title] + growth(given.program, (source, target), block, work, given.rounds))
+        print(" | ".join(rows[-1]), flush=True)
+    head = ["Workload", *("ms a MB, of %d MB" % size for size in SIZES), "second to first"]
+    return table(head + ["resident of %d MB, in MB" % size for size in SIZES], rows)
+
+
 def main():
     parser = argparse.ArgumentParser(description=__doc__, formatter_class=argparse.RawDescriptionHelpFormatter)
     parser.add_argument("--rounds", type=int, default=15)
     parser.add_argument("--megabytes", type=int, default=8)
     parser.add_argument("--program", default=RECODE)
+    parser.add_argument("--linear", action="store_true")
     parser.add_argument("--write", action="store_true")
     parser.add_argument("words", nargs="*")
     given = parser.parse_args()
+    document = os.path.join(HERE, "..", "docs", "PERFORMANCE.md")
     with tempfile.TemporaryDirectory(dir="/dev/shm" if os.path.isdir("/dev/shm") else None) as work:
+        if given.linear:
+            about, grown = machine(given), measure_growth(given, work)
+            print(about)
+            if given.write:
+                write(document, "growth", about + "\n\n" + grown)
+            return
         tools = peers(work)
         head = ["Workload", "recode", *tools, *("to " + name for name in tools), "pivot of UTF-16 to that of UTF-8", "resident, MB"]
         about = machine(given)
         print(about, flush=True)
         made = dict(texts())
         rows, ratios = [], []
-        for title, text, source, target in WORKLOADS:
-            if given.words and not any(word.lower() in title.lower() for word in given.words):
-                continue
+        for title, text, source, target in chosen(given.words):
             path = write_input(work, made[text].encode(PYTHON.get(source, source)), given.megabytes)
             cells, measured = workload(given.program, tools, title, (source, target), path, work, given.rounds)
             rows.append(cells)
@@ -316,7 +363,6 @@ def main():
         start_head = ["100 bytes", "recode", *tools]
         print(table(start_head, starts))
     if given.write:
-        document = os.path.join(HERE, "..", "docs", "PERFORMANCE.md")
         write(document, "programs", about + "\n\n" + table(head, rows))
         write(document, "starts", table(start_head, starts))
         with open(os.path.join(HERE, "..", "docs", "programs.svg"), "w", encoding="utf-8") as picture:
