@@ -1,12 +1,12 @@
 -- The order of rows, and the steps of a binary search among rows in order. A directory of rows in order: it narrows
 -- a search to the rows of one first number. Rows whose first numbers rise, and the last of them at or below a
 -- number.
-use Rattle.std.proofs.Common.{◌≡◌, ℕ, ◌+◌, ◌-◌, ◌*◌, ◌/◌, ◌<◌, ◌≤◌, ◌^◌, ◌⊎◌, inl, inr, zero, suc, List, length, arith, refl, pow-suc, nat_lt, ◌==◌, ◌≢◌, [], ◌∷◌, ◌++◌, ◌∙◌, ap, drop, length-drop, length-take, length-append, None, Some}
+use Rattle.std.proofs.Common.{get_or, subst, sym, ◌≡◌, ℕ, ◌+◌, ◌-◌, ◌*◌, ◌/◌, ◌<◌, ◌≤◌, ◌^◌, ◌⊎◌, inl, inr, zero, suc, List, length, arith, refl, pow-suc, nat_lt, ◌==◌, ◌≢◌, [], ◌∷◌, ◌++◌, ◌∙◌, ap, drop, length-drop, length-take, length-append, None, Some}
 use Rattle.std.specs.Prelude.{◌&&◌, slice_range, slice_index, min}
 use Rattle.std.proofs.lemmas.Bool.{cases_eq, or_cases, and_parts, ltb-true, eqb-true, lt-ltb, le-ltb, eq-eqb, cases_lt}
 use Rattle.encoding_tables.specs.SortedRows.{row_at, IsBelow, AreNumbered, AreRising, IsRank, IsDirectory, IsSpan}
 use Rattle.std.proofs.lemmas.List.Edits.{get_or-between}
-use Rattle.std.proofs.lemmas.List.{get_or_append_left}
+use Rattle.std.proofs.lemmas.List.{get_or_append_left, get_or_default}
 use Rattle.std.proofs.Math.Seq.{get_or-append_right}
 use Rattle.std.proofs.Math.Nat.{sub_self}
 use Rattle.encoding_tables.specs.Ranges.{last_row}
@@ -177,6 +177,14 @@ span_here rows begins first dir within =
     let next = dir.ranks (first + 1) within in
     record { begins = this; ends = next; ordered = span_ordered rows first (slice_index begins first) (slice_index begins (first + 1)) this next; inside = next.within }
 
+-- two numbers that were read from a directory
+pub read_span : (rows : List (ℕ × ℕ)) (begins : List ℕ) (first from to : ℕ) → IsDirectory rows begins → first + 1 < length begins
+    → from ≡ get_or begins first from → to ≡ get_or begins (first + 1) to → IsSpan rows first from to
+read_span rows begins first from to dir within read_from read_to =
+    let from_is : from ≡ slice_index begins first = read_from ∙ get_or_default begins first from 0 (omega arith) in
+    let to_is : to ≡ slice_index begins (first + 1) = read_to ∙ get_or_default begins (first + 1) to 0 within in
+    subst (λ n. IsSpan rows first n to) (sym from_is) (subst (λ n. IsSpan rows first (slice_index begins first) n) (sym to_is) (span_here rows begins first dir within))
+
 all_below : (rows : List (ℕ × ℕ)) (begins : List ℕ) (first : ℕ) → IsDirectory rows begins → length begins ≤ first + 1 → IsRank rows (first, 0) (length rows)
 all_below rows begins first dir past = record {
   within = omega arith;
@@ -214,15 +222,12 @@ rank_in_span rows key from to n span rank =
     absurd (omega (arith, high, low)))
     rank
 
--- the first row of a span is not below the pair of its number and 0
-pub rank_of_one : (rows got : List (ℕ × ℕ)) (first from to n : ℕ) → IsSpan rows first from to → from ≢ to → got ≡ rows → IsRank (slice_range got from (from + 1)) (first, 0) n → n ≡ 0
-rank_of_one rows got first from to n span some same rank = elim (cases_lt 0 n) [
+-- the first row of a span, searched for alone, is not below the pair of its number and 0
+pub rank_of_one : (rows : List (ℕ × ℕ)) (row : ℕ × ℕ) (first from to n : ℕ) → IsSpan rows first from to → from ≢ to → row ≡ row_at rows from → IsRank (row ∷ []) (first, 0) n → n ≡ 0
+rank_of_one rows row first from to n span some same rank = elim (cases_lt 0 n) [
   | inr none ↦ omega arith
   | inl more ↦
-      let len = part_length got from (from + 1) in
-      let one = row_of_part got from (from + 1) 0 (omega arith) in
-      let here : from + 0 ≡ from = omega arith in
-      let below : IsBelow (row_at rows from) (first, 0) = rw (← same, ← here, ← one) (rank.below 0 more) in
+      let below : IsBelow (row_at rows from) (first, 0) = rw (← same) (rank.below 0 more) in
       absurd (span.begins.others from (omega arith) (omega (arith, span.ordered, span.inside)) below)
 ]
 

@@ -2,6 +2,13 @@
 use Rattle.std.specs.Prelude.{◌≡◌, ◌≢◌, ℕ, ◌<◌, List, length}
 use Rattle.encoding_tables.specs.SortedRows.{row_at, AreRising}
 use Rattle.encoding_tables.specs.PackedRows.{PointersRise, PointersAreBelow, swapped}
+use Rattle.encoding_tables.specs.declared.pointer_rows.Rows.{Rows}
+use Rattle.encoding_tables.specs.declared.pointer_rows.Rows.TheVariants.{Small, Wide}
+
+-- the rows, whatever numbers they are kept in
+abbrev pub rows_in : Rows → List (ℕ × ℕ)
+rows_in (Small rows) = rows.items
+rows_in (Wide rows) = rows.items
 
 -- a row stands somewhere among these
 abbrev pub HasRow : List (ℕ × ℕ) → ℕ × ℕ → Type 0

@@ -10,6 +10,7 @@ pub mod index_kind;
 pub mod laws;
 mod packed_index;
 mod packed_ranges;
+mod pointer_rows;
 pub mod ranges;
 pub mod replacement_decoder;
 mod search;

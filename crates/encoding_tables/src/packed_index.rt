@@ -6,6 +6,7 @@ ghost use Rattle.encoding_tables.specs.PackedRows.{flat_list, mapped_rows, liste
 ghost use Rattle.encoding_tables.specs.PackedLists.{AreIndexRows, IsPacked, IsReversed};
 ghost use Rattle.encoding_tables.specs.Chains.{AreChains, HaveEntriesBelow};
 
+use crate::pointer_rows::PointerRows;
 use crate::search::search;
 use crate::sorted_rows::SortedRows;
 use std::alloc::{AllocError, Global};
@@ -17,7 +18,7 @@ pub(crate) struct PackedIndex {
     // How many entries the list has, mapped or not.
     size: usize,
     // A pointer and its entry.
-    by_pointer: SortedRows,
+    by_pointer: PointerRows,
     // An entry and its pointer.
     by_entry: SortedRows,
 }
@@ -64,7 +65,7 @@ impl PackedIndex {
         let by_entry = reversed(alloc, &rows)?;
         Ok(PackedIndex {
             size,
-            by_pointer: SortedRows::new(alloc, rows)?,
+            by_pointer: PointerRows::new(alloc, rows)?,
             by_entry,
         })
     }
@@ -79,9 +80,9 @@ impl PackedIndex {
         if begin == end {
             return None;
         }
-        let rows = self.by_pointer.rows();
-        let (below, _) = search(&rows[begin..begin + 1], (pointer, 0));
-        Some(rows[begin + below].1)
+        let row = self.by_pointer.row(begin);
+        let (below, _) = search(&[row], (pointer, 0));
+        if below == 0 { Some(row.1) } else { None }
     }
 
     /// The least pointer from `from` to below `to` with an entry, which is none where it is 0.

@@ -1,9 +1,8 @@
-// Rows in order, and where the rows of each first number begin, so that a search looks at the rows
-// of one first number alone.
+// Rows in order, with a directory that says where the rows of each first number begin, so that a
+// search looks at the rows of one first number alone.
 
-ghost use Rattle.std.specs.Prelude.{◌≡◌, ◌<◌, ◌^◌, List, ℕ, IsTrue, MatchOption, length, IfOk};
-ghost use Rattle.encoding_tables.specs.SortedRows.{AreNumbered, AreRising};
-ghost use Rattle.encoding_tables.specs.SortedRows.{IsDirectory, IsRank, IsSpan};
+ghost use Rattle.std.specs.Prelude.{◌≡◌, ◌<◌, ◌^◌, List, ℕ, length, IfOk};
+ghost use Rattle.encoding_tables.specs.SortedRows.{AreRising, IsRank, IsDirectory, IsSpan};
 
 use crate::search::search;
 use std::alloc::{AllocError, Global};
@@ -13,9 +12,8 @@ use std::marker::Model;
 #[derive(Drop)]
 pub(crate) struct SortedRows {
     rows: Vec<(u32, u32)>,
-    // How many rows stand before each first number, and at last how many there are. There is no
-    // such directory where each row's first number is its position, as in an index without gaps.
-    begins: Option<Vec<u16>>,
+    // How many rows stand before each first number, and at last how many there are.
+    begins: Vec<u16>,
 }
 
 impl Model for SortedRows {
@@ -23,35 +21,17 @@ impl Model for SortedRows {
 
     ghost view = { λ s. s.rows.items };
 
-    ghost invariant = { λ s. AreRising s.rows.items
-        × MatchOption s.begins (AreNumbered s.rows.items) (λ b. IsDirectory s.rows.items b.items) };
+    ghost invariant = { λ s. AreRising s.rows.items × IsDirectory s.rows.items s.begins.items };
 }
 
 impl SortedRows {
-    /// Rows in order.
-    pub(crate) fn new(alloc: Global, rows: Vec<(u32, u32)>) -> Result<Self, AllocError>
-        requires rising { AreRising rows.items }
-        requires few { length rows.items < 2 ^ 16 }
-        ensures { IfOk result (λ sorted. sorted ≡ rows.items) }
-    {
-        let begins = if are_numbered(&rows) {
-            None
-        } else {
-            Some(directory(alloc, &rows)?)
-        };
-        Ok(SortedRows { rows, begins })
-    }
-
     /// Rows in order, with a directory that was made with them.
     pub(crate) fn with_directory(rows: Vec<(u32, u32)>, begins: Vec<u16>) -> Self
         requires rising { AreRising rows.items }
         requires directory { IsDirectory rows.items begins.items }
         ensures { result ≡ rows.items }
     {
-        SortedRows {
-            rows,
-            begins: Some(begins),
-        }
+        SortedRows { rows, begins }
     }
 
     /// The rows.
@@ -62,47 +42,13 @@ impl SortedRows {
         self.rows.as_slice()
     }
 
-    /// Where the rows with a first number begin and end.
-    #[inline(always)]
-    pub(crate) fn span(&self, first: u32) -> (usize, usize)
-        ensures { IsSpan self.now first result.0 result.1 }
-    {
-        let rows = self.rows.as_slice();
-        match &self.begins {
-            Some(begins) => span_in(rows, begins.as_slice(), first),
-            None => span_of_numbered(rows, first),
-        }
-    }
-
     /// How many rows are below a key.
     #[inline(always)]
     pub(crate) fn rank(&self, key: (u32, u32)) -> usize
         ensures { IsRank self.now key result }
     {
-        rank_in(self.rows.as_slice(), self.span(key.0), key)
+        rank_in(self.rows.as_slice(), self.begins.as_slice(), key)
     }
-}
-
-// Whether each row's first number is its position.
-fn are_numbered(rows: &[(u32, u32)]) -> bool
-    ensures { IsTrue result → AreNumbered rows.now }
-{
-    for (position, (first, _)) in rows.iter().enumerate() {
-        if *first as usize != position {
-            return false;
-        }
-    }
-    true
-}
-
-// Where the rows with a first number begin and end, which is their position.
-#[inline(always)]
-fn span_of_numbered(rows: &[(u32, u32)], first: u32) -> (usize, usize)
-    requires { AreNumbered rows.now }
-    ensures { IsSpan rows.now first result.0 result.1 }
-{
-    let begin = rows.len().min(first as usize);
-    (begin, rows.len().min(first as usize + 1))
 }
 
 // Where the rows with a first number begin and end, by their directory.
@@ -119,20 +65,19 @@ fn span_in(rows: &[(u32, u32)], begins: &[u16], first: u32) -> (usize, usize)
     }
 }
 
-// How many rows are below a key, by a search of the rows with its first number, from where they
-// begin to where they end.
+// How many rows are below a key, by a search of the rows with its first number.
 #[inline(always)]
-fn rank_in(rows: &[(u32, u32)], span: (usize, usize), key: (u32, u32)) -> usize
+fn rank_in(rows: &[(u32, u32)], begins: &[u16], key: (u32, u32)) -> usize
     requires rising { AreRising rows.now }
-    requires span { IsSpan rows.now key.0 span.0 span.1 }
+    requires directory { IsDirectory rows.now begins.now }
     ensures { IsRank rows.now key result }
 {
-    let (begin, end) = span;
+    let (begin, end) = span_in(rows, begins, key.0);
     begin + search(&rows[begin..end], key).0
 }
 
-// How many rows stand before each first number, and at last how many there are.
-fn directory(alloc: Global, rows: &[(u32, u32)]) -> Result<Vec<u16>, AllocError>
+/// How many rows stand before each first number, and at last how many there are.
+pub(crate) fn directory(alloc: Global, rows: &[(u32, u32)]) -> Result<Vec<u16>, AllocError>
     requires rising { AreRising rows.now }
     requires few { length rows.now < 2 ^ 16 }
     ensures { IfOk result (λ begins. IsDirectory rows.now begins.items) }

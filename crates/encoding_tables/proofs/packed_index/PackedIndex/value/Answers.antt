@@ -12,18 +12,15 @@ returns-then-begin-end c =
     (span_empty rows c.args.pointer c.span-begin.result.0 c.span-begin.result.1 c.span-begin.ensures c.if-begin-end.true) in
     subst (λ list. None ≡ value_of list c.args.pointer) c.self.view_is (sym nowhere)
 
-pub bounds-rows-begin : goal.bounds-rows-begin
-bounds-rows-begin c =
-    let none = rank_of_one c.self.inside.by_pointer c.rows-rows.result.now c.args.pointer c.span-begin.result.0 c.span-begin.result.1 c.search-below.result.0 c.span-begin.ensures c.if-begin-end.false c.rows-rows.ensures c.search-below.ensures.rank in
-    omega (arith, none, c.span-begin.ensures.ordered, c.span-begin.ensures.inside, ap length c.rows-rows.ensures)
-
-pub returns : goal.returns
-returns c =
+pub returns-then-below-eq0 : goal.returns-then-below-eq0
+returns-then-below-eq0 c =
     let rows = c.self.inside.by_pointer in
     let begin = c.span-begin.result.0 in
-    let none = rank_of_one rows c.rows-rows.result.now c.args.pointer begin c.span-begin.result.1 c.search-below.result.0 c.span-begin.ensures c.if-begin-end.false c.rows-rows.ensures c.search-below.ensures.rank in
-    let offset : begin + c.search-below.result.0 ≡ begin = omega (arith, none) in
-    let row : row_at c.rows-rows.result.now (begin + c.search-below.result.0) ≡ row_at rows begin = ap (λ k. row_at c.rows-rows.result.now k) offset ∙ ap (λ l. row_at l begin) c.rows-rows.ensures in
     let here = value_here c.self.inside.size rows c.args.pointer begin c.self.invariant.index (omega (arith, c.span-begin.ensures.ordered, c.span-begin.ensures.inside, c.if-begin-end.false))
     (span_has rows c.args.pointer begin c.span-begin.result.1 c.span-begin.ensures c.if-begin-end.false) in
-    subst (λ list. Some (row_at c.rows-rows.result.now (begin + c.search-below.result.0)).1 ≡ value_of list c.args.pointer) c.self.view_is (ap (λ r. Some r.1) row ∙ sym here)
+    subst (λ list. Some c.row-row.result.1 ≡ value_of list c.args.pointer) c.self.view_is (ap (λ r. Some r.1) c.row-row.ensures ∙ sym here)
+
+pub returns-else-below-eq0 : goal.returns-else-below-eq0
+returns-else-below-eq0 c =
+    let none = rank_of_one c.self.inside.by_pointer c.row-row.result c.args.pointer c.span-begin.result.0 c.span-begin.result.1 c.search-below.result.0 c.span-begin.ensures c.if-begin-end.false c.row-row.ensures c.search-below.ensures.rank in
+    absurd (c.if-below-eq0.false none)
