@@ -6,9 +6,9 @@ use Rattle.encoding_tables.specs.declared.pointer_rows.Rows.{Rows}
 use Rattle.encoding_tables.specs.declared.pointer_rows.Rows.TheVariants.{Small, Wide}
 
 -- the rows, whatever numbers they are kept in
-abbrev pub rows_in : Rows → List (ℕ × ℕ)
-rows_in (Small rows) = rows.items
-rows_in (Wide rows) = rows.items
+abbrev pub kept_rows : Rows → List (ℕ × ℕ)
+kept_rows (Small rows) = rows.items
+kept_rows (Wide rows) = rows.items
 
 -- a row stands somewhere among these
 abbrev pub HasRow : List (ℕ × ℕ) → ℕ × ℕ → Type 0

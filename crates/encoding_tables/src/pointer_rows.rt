@@ -1,7 +1,8 @@
 //! Rows of an index in the order of their pointers.
 
-ghost use Rattle.std.specs.Prelude.{◌≡◌, ◌<◌, ◌^◌, List, ℕ, IsTrue, MatchOption, length, IfOk, IfSome};
-ghost use Rattle.encoding_tables.specs.PackedLists.{rows_in};
+ghost use Rattle.std.specs.Prelude.{◌≡◌, ◌<◌, ◌^◌, List, ℕ, IsTrue, length};
+ghost use Rattle.std.specs.Prelude.{IfOk, IfSome, MatchOption};
+ghost use Rattle.encoding_tables.specs.PackedLists.{kept_rows};
 ghost use Rattle.encoding_tables.specs.SortedRows.{row_at, AreNumbered, AreRising};
 ghost use Rattle.encoding_tables.specs.SortedRows.{IsDirectory, IsSpan};
 
@@ -29,10 +30,10 @@ pub(crate) struct PointerRows {
 impl Model for PointerRows {
     ghost Value = { List (ℕ × ℕ) };
 
-    ghost view = { λ s. rows_in s.rows };
+    ghost view = { λ s. kept_rows s.rows };
 
-    ghost invariant = { λ s. AreRising (rows_in s.rows)
-        × MatchOption s.begins (AreNumbered (rows_in s.rows)) (λ b. IsDirectory (rows_in s.rows) b.items) };
+    ghost invariant = { λ s. AreRising (kept_rows s.rows) × MatchOption s.begins
+        (AreNumbered (kept_rows s.rows)) (λ b. IsDirectory (kept_rows s.rows) b.items) };
 }
 
 impl PointerRows {
