@@ -13,18 +13,22 @@ build:
 test: lint
 	@python3 tools/gate.py
 
-# In seconds: one definition for each name, no more long lines than before, edits that fit their files, and the index
-# texts of the program are those that the tests load.
+# In seconds: one definition for each name, no more long lines than before, edits that fit their files, and each list that
+# `make generate` writes is as it would write it.
 lint:
 	@python3 tools/lint.py
-	@diff -r indexes crates/encoding_index_files/data
-	@diff indexes/index-jis0208.txt crates/recode_sample/data/index-jis0208.txt
+	@python3 tools/generate_encodings.py --check
+
+# The lists of the encodings and of the indexes, in the code and in tests, from `tools/encodings.toml`.
+.PHONY: generate
+generate:
+	@python3 tools/generate_encodings.py
 
 # The edits that the gate leaves out, each of which the prover must refuse: for a release, some 25 seconds of processor time each.
 edits:
 	@python3 tools/edits.py
 
-# An encoding more, as docs/examples has it, added to a copy of the last commit and proved there.
+# A codec more, and an encoding more, as docs/examples has them, each added to a copy of the last commit and proved there.
 example:
 	@python3 tools/example.py
 
@@ -54,17 +58,17 @@ hostile: build
 characters: SHELL = bash
 characters:
 	@cd indexes && rt run encoding_index_files > /dev/null
-	@cd indexes && diff <(python3 ../tools/encodings.py . all) \
-		<(../crates/encoding_index_files/out/encoding_index_files all | sed -n '/ reads: /,$$p')
+	@cd indexes && diff <(python3 $(CURDIR)/tools/encodings.py . all) \
+		<($(CURDIR)/crates/encoding_index_files/out/encoding_index_files all | sed -n '/ reads: /,$$p')
 
 # Whether each character is kept as a text of its own, in every encoding, as a run tells it, against what
 # `tools/encodings.py` makes of it. This needs Python and bash, and takes minutes.
 verdicts: SHELL = bash
 verdicts:
 	@cd indexes && rt run recode_verdicts > /dev/null
-	@cd indexes && for name in $$(python3 ../tools/encodings.py . names); do \
-		diff <(python3 ../tools/encodings.py . verdicts 1 $$name) \
-			<(../crates/recode_verdicts/out/recode_verdicts 1 $$name) || exit 1; \
+	@cd indexes && for name in $$(python3 $(CURDIR)/tools/encodings.py . names); do \
+		diff <(python3 $(CURDIR)/tools/encodings.py . verdicts 1 $$name) \
+			<($(CURDIR)/crates/recode_verdicts/out/recode_verdicts 1 $$name) || exit 1; \
 	done
 
 # The program, its man page and the index texts.

@@ -18,7 +18,9 @@ uses, this is a plain program over the index texts, which follows the steps of t
 
 import itertools
 import multiprocessing
+import os
 import sys
+import tomllib
 
 sys.dont_write_bytecode = True
 
@@ -26,36 +28,10 @@ import sequences
 from sequences import END_OF_QUEUE, UNMAPPABLE, Encoder
 
 # 4.2, "Name", with the index of each single-byte encoding (9).
-SINGLE_BYTE = {
-    "IBM866": "ibm866",
-    "ISO-8859-2": "iso-8859-2",
-    "ISO-8859-3": "iso-8859-3",
-    "ISO-8859-4": "iso-8859-4",
-    "ISO-8859-5": "iso-8859-5",
-    "ISO-8859-6": "iso-8859-6",
-    "ISO-8859-7": "iso-8859-7",
-    "ISO-8859-8": "iso-8859-8",
-    "ISO-8859-8-I": "iso-8859-8",
-    "ISO-8859-10": "iso-8859-10",
-    "ISO-8859-13": "iso-8859-13",
-    "ISO-8859-14": "iso-8859-14",
-    "ISO-8859-15": "iso-8859-15",
-    "ISO-8859-16": "iso-8859-16",
-    "KOI8-R": "koi8-r",
-    "KOI8-U": "koi8-u",
-    "macintosh": "macintosh",
-    "windows-874": "windows-874",
-    "windows-1250": "windows-1250",
-    "windows-1251": "windows-1251",
-    "windows-1252": "windows-1252",
-    "windows-1253": "windows-1253",
-    "windows-1254": "windows-1254",
-    "windows-1255": "windows-1255",
-    "windows-1256": "windows-1256",
-    "windows-1257": "windows-1257",
-    "windows-1258": "windows-1258",
-    "x-mac-cyrillic": "x-mac-cyrillic",
-}
+with open(os.path.join(os.path.dirname(os.path.abspath(__file__)), "encodings.toml"), "rb") as file:
+    SINGLE_BYTE = {
+        row["name"]: row["indexes"][0] for row in tomllib.load(file)["encodings"] if row["codec"] == "SingleByte"
+    }
 
 
 class SingleByteDecoder:  # 9.1

@@ -1,12 +1,15 @@
 #!/usr/bin/env python3
-"""Writes the files `stdin` and `stdout` of the program `recode_sample`, by the codec cp932 of Python.
+"""Writes the files `stdin` and `stdout` of the program `recode_sample`, by the codec cp932 of Python, and the index that
+it reads.
 
     python3 tools/sample.py crates/recode_sample
 
 The input is a text in Shift_JIS with half a character in it; what must come of it is the text in UTF-8 with
-U+FFFD in that place, and behind it the log.
+U+FFFD in that place, and behind it the log. The index has the rows of `indexes/index-jis0208.txt` with characters of the
+text.
 """
 
+import os
 import sys
 
 BEFORE = """毎朝歩く道に、古い本屋が一軒ある。店先の棚には『文字の歴史』という本が並び、値段は 500 円ではなく「五百円」
@@ -21,9 +24,23 @@ AFTER = """
 「ソースの表を十分に能く見よ」で、終わりの点は残っていた。
 """
 
+INDEX = "index-jis0208.txt"
+
+
+def is_needed(line):
+    """Whether a line of the index is a note, or a row with a character of the text."""
+    fields = line.split("\t")
+    return len(fields) < 2 or chr(int(fields[1], 16)) in BEFORE + AFTER
+
+
 folder = sys.argv[1]
 before = BEFORE.encode("cp932")
 with open(f"{folder}/stdin", "wb") as file:
     file.write(before + HALF + AFTER.encode("cp932"))
 with open(f"{folder}/stdout", "wb") as file:
     file.write((BEFORE + "\ufffd" + AFTER + f"bad {len(before)} {len(HALF)}\n").encode("utf-8"))
+indexes = os.path.join(os.path.dirname(os.path.abspath(__file__)), "..", "indexes")
+with open(os.path.join(indexes, INDEX), encoding="utf-8") as file:
+    rows = [line for line in file if is_needed(line)]
+with open(f"{folder}/data/{INDEX}", "w", encoding="utf-8") as file:
+    file.writelines(rows)

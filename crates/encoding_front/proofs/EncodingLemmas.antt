@@ -9,6 +9,7 @@ use Rattle.std.proofs.lemmas.List.Elements.{Contains-append_right}
 use Rattle.std.proofs.lemmas.Slice.Eq.{bytes_eq-Decides}
 use Rattle.std.specs.Str.{bytes_eq}
 use Rattle.encoding_labels.specs.Labels.{IsLabelOf, label_text, labels, label_number_in}
+use Rattle.encoding_labels.specs.declared.places.TheConstants.{ENCODING_COUNT}
 use Rattle.encoding_tables.specs.IndexLists.{IndexLists, has}
 use Rattle.encoding_tables.specs.declared.index_kind.IndexKind.{IndexKind}
 use Rattle.encoding_front.specs.EncodingTable.{encodings, number_of, encoding_name, numbers_rise}
@@ -28,11 +29,11 @@ pub same_number : (d e : Encoding) → number_of d ≡ number_of e → d ≡ e
 same_number d e h = sym (at_number d) ∙ ap (λ (n : ℕ). slice_index_or encodings n Big5) h ∙ at_number e
 
 -- the encoding at each position has that number
-pub number_at : (offset : ℕ) (d : Encoding) → offset < 40 → number_of (slice_index_or encodings offset d) ≡ offset
+pub number_at : (offset : ℕ) (d : Encoding) → offset < ENCODING_COUNT → number_of (slice_index_or encodings offset d) ≡ offset
 number_at offset d lt =
     sym (get_or-map number_of encodings offset d (number_of d) lt)
     ∙ ap (λ (l : List ℕ). slice_index_or l offset (number_of d)) numbers_rise
-    ∙ get_or-range_with_len 0 40 offset (number_of d) lt
+    ∙ get_or-range_with_len 0 ENCODING_COUNT offset (number_of d) lt
     ∙ zero-add offset
 
 -- from the number of a label to its encoding

@@ -5,33 +5,16 @@ use Rattle.std.specs.List.{starts_with}
 use Rattle.encoding_labels.specs.Labels.{IsLabelOf}
 use Rattle.encoding_mem.specs.Piece.{Piece}
 use Rattle.encoding_mem.specs.Coding.{Coding}
-use Rattle.encoding_mem.specs.Steps.{in_any_set}
-use Rattle.encoding_mem.specs.Utf8.{pieces_utf8}
-use Rattle.encoding_mem.specs.Utf8Coding.{utf8_coding}
-use Rattle.encoding_mem.specs.DecodedLength.{decoded_length_utf8, decoded_length_single_byte, decoded_length_multibyte, decoded_length_utf16, decoded_length_replacement}
-use Rattle.encoding_mem.specs.EncodedLength.{encoded_length_utf8, encoded_length_single_byte, encoded_length_two_byte, encoded_length_iso_2022_jp}
 use Rattle.encoding_mem.specs.declared.form.EscapeState.{EscapeState}
 use Rattle.encoding_mem.specs.declared.room.DecodedLength.{DecodedLength}
 use Rattle.encoding_mem.specs.declared.room.EncodedLength.{EncodedLength}
-use Rattle.encoding_tables.specs.IndexLists.{IndexLists, has, entries_of, rows_of}
+use Rattle.encoding_tables.specs.IndexLists.{IndexLists, has}
 use Rattle.encoding_tables.specs.Kinds.{is_single_byte}
-use Rattle.encoding_tables.specs.SingleByte.{pieces_single_byte, single_byte_coding}
-use Rattle.encoding_tables.specs.UserDefined.{pieces_user_defined, user_defined_coding}
-use Rattle.encoding_tables.specs.Utf16.{pieces_utf16}
-use Rattle.encoding_tables.specs.Replacement.{pieces_replacement}
-use Rattle.encoding_codecs.specs.Big5.{pieces_big5, big5_coding}
-use Rattle.encoding_codecs.specs.EucKr.{pieces_euc_kr, euc_kr_coding}
-use Rattle.encoding_codecs.specs.EucJp.{pieces_euc_jp, euc_jp_coding}
-use Rattle.encoding_codecs.specs.ShiftJis.{pieces_shift_jis, shift_jis_coding}
-use Rattle.encoding_codecs.specs.Gb18030.{pieces_gb18030}
-use Rattle.encoding_codecs.specs.Gb18030Coding.{gb18030_coding, gb18030_need, gb18030_encoded_length}
-use Rattle.encoding_codecs.specs.Iso2022Jp.{pieces_iso_2022_jp}
-use Rattle.encoding_codecs.specs.Iso2022JpForms.{iso_2022_jp_coding}
-use Rattle.encoding_codecs.specs.Iso2022JpSets.{pieces_from_set}
 use Rattle.encoding_tables.specs.declared.index_kind.IndexKind.{IndexKind}
 use Rattle.encoding_front.specs.declared.encoding.Encoding.{Encoding}
 use Rattle.encoding_front.specs.declared.codec_kind.CodecKind.{CodecKind}
 use Rattle.encoding_front.specs.EncodingTable.{number_of, codec_kind_of}
+use Rattle.encoding_front.specs.Codecs.{codec_of}
 
 -- the encoding has the label ("get an encoding", the Encoding Standard, section 4.2)
 abbrev pub HasLabel : Encoding → List ℕ → Type 0
@@ -86,18 +69,8 @@ abbrev pub IsUtf8Encoding : Encoding → Type 0
 IsUtf8Encoding e = codec_kind_of e ≡ CodecKind.Utf8
 
 -- the kinds of index that it needs
-abbrev pub needs_of_codec_kind : CodecKind → List IndexKind
-needs_of_codec_kind (CodecKind.SingleByte kind) = kind ∷ []
-needs_of_codec_kind CodecKind.Big5 = IndexKind.Big5 ∷ []
-needs_of_codec_kind CodecKind.EucKr = IndexKind.EucKr ∷ []
-needs_of_codec_kind CodecKind.EucJp = IndexKind.Jis0208 ∷ IndexKind.Jis0212 ∷ []
-needs_of_codec_kind CodecKind.ShiftJis = IndexKind.Jis0208 ∷ []
-needs_of_codec_kind (CodecKind.Gb18030 extended) = IndexKind.Gb18030 ∷ IndexKind.Gb18030Ranges ∷ []
-needs_of_codec_kind CodecKind.Iso2022Jp = IndexKind.Jis0208 ∷ IndexKind.Iso2022JpKatakana ∷ []
-needs_of_codec_kind _ = []
-
 abbrev pub needs_of : Encoding → List IndexKind
-needs_of e = needs_of_codec_kind (codec_kind_of e)
+needs_of e = (codec_of (codec_kind_of e)).needs
 
 abbrev pub AreThere : IndexLists → List IndexKind → Type 0
 AreThere t [] = Unit {0}
@@ -110,99 +83,46 @@ IsReady t e = AreThere t (needs_of e)
 -- What is written for a character reads back as it, or is reported: no two characters have the same bytes. The other
 -- encodings have folds, by which a character is written as another.
 abbrev pub KeepsCharactersCodecKind : CodecKind → Type 0
-KeepsCharactersCodecKind CodecKind.Utf8 = Unit {0}
-KeepsCharactersCodecKind (CodecKind.SingleByte kind) = Unit {0}
-KeepsCharactersCodecKind CodecKind.UserDefined = Unit {0}
-KeepsCharactersCodecKind CodecKind.Big5 = Unit {0}
-KeepsCharactersCodecKind CodecKind.EucKr = Unit {0}
-KeepsCharactersCodecKind _ = ⊥
+KeepsCharactersCodecKind kind = (codec_of kind).Keeps
 
 abbrev pub KeepsCharacters : Encoding → Type 0
 KeepsCharacters e = KeepsCharactersCodecKind (codec_kind_of (output_encoding_of e))
 
 -- the pieces of a whole input, without mark handling
 abbrev pub pieces_of_codec_kind : IndexLists → CodecKind → List ℕ → List Piece
-pieces_of_codec_kind t CodecKind.Utf8 = pieces_utf8
-pieces_of_codec_kind t (CodecKind.SingleByte kind) = pieces_single_byte (entries_of t kind)
-pieces_of_codec_kind t CodecKind.Big5 = pieces_big5 (entries_of t IndexKind.Big5)
-pieces_of_codec_kind t CodecKind.EucKr = pieces_euc_kr (entries_of t IndexKind.EucKr)
-pieces_of_codec_kind t CodecKind.EucJp = pieces_euc_jp (entries_of t IndexKind.Jis0208) (entries_of t IndexKind.Jis0212)
-pieces_of_codec_kind t CodecKind.ShiftJis = pieces_shift_jis (entries_of t IndexKind.Jis0208)
-pieces_of_codec_kind t (CodecKind.Gb18030 extended) = pieces_gb18030 (entries_of t IndexKind.Gb18030) (rows_of t)
-pieces_of_codec_kind t CodecKind.Iso2022Jp = pieces_iso_2022_jp (entries_of t IndexKind.Jis0208)
-pieces_of_codec_kind t CodecKind.UserDefined = pieces_user_defined
-pieces_of_codec_kind t (CodecKind.Utf16 big_endian) = pieces_utf16 big_endian
-pieces_of_codec_kind t CodecKind.Replacement = pieces_replacement false
+pieces_of_codec_kind t kind = (codec_of kind).pieces t
 
 abbrev pub pieces_of : IndexLists → Encoding → List ℕ → List Piece
 pieces_of t e = pieces_of_codec_kind t (codec_kind_of e)
 
 -- what is written in the output encoding, which is never UTF-16 or replacement
 abbrev pub coding_of_codec_kind : IndexLists → CodecKind → Coding
-coding_of_codec_kind t CodecKind.Utf8 = utf8_coding
-coding_of_codec_kind t (CodecKind.SingleByte kind) = single_byte_coding (entries_of t kind)
-coding_of_codec_kind t CodecKind.Big5 = big5_coding (entries_of t IndexKind.Big5)
-coding_of_codec_kind t CodecKind.EucKr = euc_kr_coding (entries_of t IndexKind.EucKr)
-coding_of_codec_kind t CodecKind.EucJp = euc_jp_coding (entries_of t IndexKind.Jis0208)
-coding_of_codec_kind t CodecKind.ShiftJis = shift_jis_coding (entries_of t IndexKind.Jis0208)
-coding_of_codec_kind t (CodecKind.Gb18030 extended) = gb18030_coding (entries_of t IndexKind.Gb18030) (rows_of t) extended
-coding_of_codec_kind t CodecKind.Iso2022Jp = iso_2022_jp_coding (entries_of t IndexKind.Jis0208) (entries_of t IndexKind.Iso2022JpKatakana)
-coding_of_codec_kind t CodecKind.UserDefined = user_defined_coding
-coding_of_codec_kind t _ = utf8_coding
+coding_of_codec_kind t kind = (codec_of kind).coding t
 
 abbrev pub coding_of : IndexLists → Encoding → Coding
 coding_of t e = coding_of_codec_kind t (codec_kind_of (output_encoding_of e))
 
 -- The pieces of what is written in the output encoding, from where a set is in force: in ISO-2022-JP from its mode.
 abbrev pub set_pieces_of_codec_kind : IndexLists → CodecKind → EscapeState → List ℕ → List Piece
-set_pieces_of_codec_kind t CodecKind.Iso2022Jp = pieces_from_set (entries_of t IndexKind.Jis0208)
-set_pieces_of_codec_kind t (CodecKind.Utf16 big_endian) = in_any_set pieces_utf8
-set_pieces_of_codec_kind t CodecKind.Replacement = in_any_set pieces_utf8
-set_pieces_of_codec_kind t kind = in_any_set (pieces_of_codec_kind t kind)
+set_pieces_of_codec_kind t kind = (codec_of kind).set_pieces t
 
 abbrev pub set_pieces_of : IndexLists → Encoding → EscapeState → List ℕ → List Piece
 set_pieces_of t e = set_pieces_of_codec_kind t (codec_kind_of (output_encoding_of e))
 
 -- the most bytes that one step of the encoder writes
 abbrev pub need_of_codec_kind : CodecKind → ℕ
-need_of_codec_kind CodecKind.Utf8 = 4
-need_of_codec_kind (CodecKind.SingleByte kind) = 1
-need_of_codec_kind CodecKind.UserDefined = 1
-need_of_codec_kind CodecKind.Big5 = 2
-need_of_codec_kind CodecKind.EucKr = 2
-need_of_codec_kind CodecKind.EucJp = 2
-need_of_codec_kind CodecKind.ShiftJis = 2
-need_of_codec_kind (CodecKind.Gb18030 extended) = gb18030_need extended
-need_of_codec_kind CodecKind.Iso2022Jp = 3
-need_of_codec_kind _ = 4
+need_of_codec_kind kind = (codec_of kind).need
 
 abbrev pub need_of : Encoding → ℕ
 need_of e = need_of_codec_kind (codec_kind_of (output_encoding_of e))
 
 -- the room that is enough for what a text is written as
-abbrev pub encoded_length_of_codec_kind : CodecKind → EncodedLength
-encoded_length_of_codec_kind CodecKind.Utf8 = encoded_length_utf8
-encoded_length_of_codec_kind (CodecKind.SingleByte kind) = encoded_length_single_byte
-encoded_length_of_codec_kind CodecKind.UserDefined = encoded_length_single_byte
-encoded_length_of_codec_kind CodecKind.Big5 = encoded_length_two_byte
-encoded_length_of_codec_kind CodecKind.EucKr = encoded_length_two_byte
-encoded_length_of_codec_kind CodecKind.EucJp = encoded_length_two_byte
-encoded_length_of_codec_kind CodecKind.ShiftJis = encoded_length_two_byte
-encoded_length_of_codec_kind (CodecKind.Gb18030 extended) = gb18030_encoded_length extended
-encoded_length_of_codec_kind CodecKind.Iso2022Jp = encoded_length_iso_2022_jp
-encoded_length_of_codec_kind _ = encoded_length_utf8
-
 abbrev pub encoded_length_of : Encoding → EncodedLength
-encoded_length_of e = encoded_length_of_codec_kind (codec_kind_of (output_encoding_of e))
+encoded_length_of e = (codec_of (codec_kind_of (output_encoding_of e))).encoded
 
 -- the room that is enough for the text of so many bytes
 abbrev pub room_of_codec_kind : CodecKind → DecodedLength
-room_of_codec_kind CodecKind.Utf8 = decoded_length_utf8
-room_of_codec_kind (CodecKind.SingleByte kind) = decoded_length_single_byte
-room_of_codec_kind CodecKind.UserDefined = decoded_length_single_byte
-room_of_codec_kind (CodecKind.Utf16 big_endian) = decoded_length_utf16
-room_of_codec_kind CodecKind.Replacement = decoded_length_replacement
-room_of_codec_kind _ = decoded_length_multibyte
+room_of_codec_kind kind = (codec_of kind).decoded
 
 abbrev pub decoded_length_of : Encoding → DecodedLength
 decoded_length_of e = room_of_codec_kind (codec_kind_of e)

@@ -1,5 +1,6 @@
 pub mod Encoder
 pub mod EncodingTable
+pub mod Codecs
 pub mod Encodings
 pub mod Marks
 pub mod Seeking

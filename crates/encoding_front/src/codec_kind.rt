@@ -65,6 +65,7 @@ pub(crate) fn row_of(encoding: Encoding) -> Row
     ensures needs { result.needs.now ≡ needs_of encoding }
 {
     match encoding {
+        // Written by tools/generate_encodings.py from tools/encodings.toml; do not edit.
         Encoding::Big5 => Row::new("Big5", CodecKind::Big5, &[IndexKind::Big5]),
         Encoding::EucJp => Row::new(
             "EUC-JP",
@@ -121,5 +122,6 @@ pub(crate) fn row_of(encoding: Encoding) -> Row
         Encoding::Windows1258 => Row::single_byte("windows-1258", &[IndexKind::Windows1258]),
         Encoding::XMacCyrillic => Row::single_byte("x-mac-cyrillic", &[IndexKind::XMacCyrillic]),
         Encoding::XUserDefined => Row::new("x-user-defined", CodecKind::UserDefined, &[]),
+        // end
     }
 }

@@ -1,5 +1,7 @@
 //! The forty encodings, each with a second name. The sections are those of the Encoding Standard.
 
+// Written by tools/generate_encodings.py from tools/encodings.toml; do not edit.
+
 use crate::encoding::Encoding;
 
 /// Big5 (section 11.1).

@@ -10,12 +10,14 @@ ghost use Rattle.encoding_front.specs.declared.encoding.Encoding.{Encoding};
 
 use crate::codec_kind::{CodecKind, row_of};
 use encoding_labels::label_number;
+use encoding_labels::places::ENCODING_COUNT;
 use encoding_tables::{IndexKind, Tables};
 
 /// An encoding of the Encoding Standard (section 4.2): a value to copy, compared and hashed by which of the
 /// forty it is. Each is also a constant of this crate, as `UTF_8`.
 #[derive(Clone, Copy, PartialEq, Eq, Hash, Debug)]
 pub enum Encoding {
+    // Written by tools/generate_encodings.py from tools/encodings.toml; do not edit.
     Big5,
     EucJp,
     EucKr,
@@ -56,8 +58,10 @@ pub enum Encoding {
     Windows1258,
     XMacCyrillic,
     XUserDefined,
+    // end
 }
 
+// Written by tools/generate_encodings.py from tools/encodings.toml; do not edit.
 // All encodings, in the order of `encoding_labels::places`.
 const ENCODINGS: [Encoding; 40] = [
     Encoding::Big5,
@@ -101,6 +105,7 @@ const ENCODINGS: [Encoding; 40] = [
     Encoding::XMacCyrillic,
     Encoding::XUserDefined,
 ];
+// end
 
 impl Encoding {
     /// The encoding that has this label: "get an encoding" of the Encoding Standard, section 4.2. White space
@@ -257,7 +262,7 @@ fn are_there(kinds: &[IndexKind], tables: &Tables) -> bool
 
 // The encoding with this number.
 fn at_number(number: usize) -> Encoding
-    requires { number < 40 }
+    requires { number < ENCODING_COUNT }
     ensures { number_of result ≡ number }
 {
     ENCODINGS[number]

@@ -19,6 +19,7 @@ pub mod variant_decoder;
 pub mod variant_encoder;
 
 pub use coder_result::CoderResult;
+// Written by tools/generate_encodings.py from tools/encodings.toml; do not edit.
 pub use constants::{
     BIG5, BIG5_INIT, EUC_JP, EUC_JP_INIT, EUC_KR, EUC_KR_INIT, GB18030, GB18030_INIT, GBK,
     GBK_INIT, IBM866, IBM866_INIT, ISO_2022_JP, ISO_2022_JP_INIT, ISO_8859_2, ISO_8859_2_INIT,
@@ -35,6 +36,7 @@ pub use constants::{
     WINDOWS_1258, WINDOWS_1258_INIT, X_MAC_CYRILLIC, X_MAC_CYRILLIC_INIT, X_USER_DEFINED,
     X_USER_DEFINED_INIT,
 };
+// end
 pub use decoder::{Decoder, StreamDecoder};
 pub use encoder::Encoder;
 pub use encoding::Encoding;

@@ -1,3 +1,4 @@
+// Written by tools/generate_encodings.py from tools/encodings.toml; do not edit.
 use encoding_front::{
     BIG5, BIG5_INIT, EUC_JP, EUC_JP_INIT, EUC_KR, EUC_KR_INIT, Encoding, GB18030, GB18030_INIT,
     GBK, GBK_INIT, IBM866, IBM866_INIT, ISO_2022_JP, ISO_2022_JP_INIT, ISO_8859_2, ISO_8859_2_INIT,
@@ -14,11 +15,13 @@ use encoding_front::{
     WINDOWS_1258, WINDOWS_1258_INIT, X_MAC_CYRILLIC, X_MAC_CYRILLIC_INIT, X_USER_DEFINED,
     X_USER_DEFINED_INIT,
 };
+// end
 use encoding_tables::{IndexKind, TableFault, Tables};
 use std::collections::HashSet;
 use std::test::Fail;
 
 // Each encoding with its second name, its name in the standard, and how many indexes it needs.
+// Written by tools/generate_encodings.py from tools/encodings.toml; do not edit.
 const ALL: [(Encoding, Encoding, &str, usize); 40] = [
     (BIG5, BIG5_INIT, "Big5", 1),
     (EUC_JP, EUC_JP_INIT, "EUC-JP", 2),
@@ -61,6 +64,7 @@ const ALL: [(Encoding, Encoding, &str, usize); 40] = [
     (X_MAC_CYRILLIC, X_MAC_CYRILLIC_INIT, "x-mac-cyrillic", 1),
     (X_USER_DEFINED, X_USER_DEFINED_INIT, "x-user-defined", 0),
 ];
+// end
 
 const OF_SEVERAL_BYTES: [Encoding; 11] = [
     BIG5,

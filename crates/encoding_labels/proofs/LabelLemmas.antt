@@ -17,6 +17,7 @@ use Rattle.std.specs.Str.{IsTrimAscii, bytes_eq}
 use Rattle.std.proofs.lemmas.Str.Ascii.{trim_ascii_is}
 use Rattle.std.specs.Char.{to_ascii_lowercase}
 use Rattle.encoding_labels.specs.laws.ByLength.{entries, labels_of_length}
+use Rattle.encoding_labels.specs.declared.places.TheConstants.{ENCODING_COUNT}
 
 -- a test that all rows pass holds of each
 pub at_label : (test : (ℕ × List ℕ) → Bool) (entry : ℕ × List ℕ) → list_all test labels ≡ true → Contains labels entry → test entry ≡ true
@@ -35,7 +36,7 @@ unfolding labels
 all_texts = refl
 
 -- each number is that of an encoding
-pub all_places : list_all (λ (entry : ℕ × List ℕ). nat_lt entry.0 40) labels ≡ true
+pub all_places : list_all (λ (entry : ℕ × List ℕ). nat_lt entry.0 ENCODING_COUNT) labels ≡ true
 unfolding labels
 all_places = refl
 
@@ -167,10 +168,10 @@ number_of_label-search label text rows trim same =
     ∙ label_number_in-labels_of_length lower
     ∙ ap (λ (l : List ℕ). label_number_in labels (map to_ascii_lowercase l)) trim
 
--- what is found is below 40, and its text is a label's
-pub number_of_label-below : (text : List ℕ) (number : ℕ) → label_number_in labels text ≡ Some number → number < 40
-number_of_label-below text number h = lt_from_test number 40
-    (at_label (λ (entry : ℕ × List ℕ). nat_lt entry.0 40) (number, text) all_places (label_number_in-row labels text number h))
+-- what is found is the number of an encoding, and its text is a label's
+pub number_of_label-below : (text : List ℕ) (number : ℕ) → label_number_in labels text ≡ Some number → number < ENCODING_COUNT
+number_of_label-below text number h = lt_from_test number ENCODING_COUNT
+    (at_label (λ (entry : ℕ × List ℕ). nat_lt entry.0 ENCODING_COUNT) (number, text) all_places (label_number_in-row labels text number h))
 
 pub number_of_label-text : (text : List ℕ) (number : ℕ) → label_number_in labels text ≡ Some number → IsLabelText text
 number_of_label-text text number h = text_from_test text

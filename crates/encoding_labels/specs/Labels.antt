@@ -4,7 +4,10 @@ use Rattle.std.specs.List.{prefix_len, suffix_len, range_with_len, AllPass}
 use Rattle.std.specs.Char.{is_ascii_whitespace, to_ascii_lowercase, is_ascii_lowercase, is_ascii_digit, char_set_contains}
 use Rattle.std.specs.Str.{bytes_eq}
 use Prim.Native.String.{String}
+-- Written by tools/generate_encodings.py from tools/encodings.toml; do not edit.
 use Rattle.encoding_labels.specs.declared.places.TheConstants.{ENCODING_COUNT, BIG5, EUC_JP, EUC_KR, GB18030, GBK, IBM866, ISO_2022_JP, ISO_8859_2, ISO_8859_3, ISO_8859_4, ISO_8859_5, ISO_8859_6, ISO_8859_7, ISO_8859_8, ISO_8859_8_I, ISO_8859_10, ISO_8859_13, ISO_8859_14, ISO_8859_15, ISO_8859_16, KOI8_R, KOI8_U, MACINTOSH, REPLACEMENT, SHIFT_JIS, UTF_8, UTF_16BE, UTF_16LE, WINDOWS_874, WINDOWS_1250, WINDOWS_1251, WINDOWS_1252, WINDOWS_1253, WINDOWS_1254, WINDOWS_1255, WINDOWS_1256, WINDOWS_1257, WINDOWS_1258, X_MAC_CYRILLIC, X_USER_DEFINED}
+
+-- end
 
 -- the words of a text, which has a space between each two
 abbrev pub add_byte : ℕ → List (List ℕ) → List (List ℕ)
@@ -106,8 +109,11 @@ pub record IsLabelText (text : List ℕ) : Type 0 where
   pub bytes : AllPass is_label_byte text
 
 -- the encodings in the order of their numbers
+-- Written by tools/generate_encodings.py from tools/encodings.toml; do not edit.
 pub label_numbers_rise : (BIG5 ∷ EUC_JP ∷ EUC_KR ∷ GB18030 ∷ GBK ∷ IBM866 ∷ ISO_2022_JP ∷ ISO_8859_2 ∷ ISO_8859_3 ∷ ISO_8859_4 ∷ ISO_8859_5 ∷ ISO_8859_6 ∷ ISO_8859_7 ∷ ISO_8859_8 ∷ ISO_8859_8_I ∷ ISO_8859_10 ∷ ISO_8859_13 ∷ ISO_8859_14 ∷ ISO_8859_15 ∷ ISO_8859_16 ∷ KOI8_R ∷ KOI8_U ∷ MACINTOSH ∷ REPLACEMENT ∷ SHIFT_JIS ∷ UTF_8 ∷ UTF_16BE ∷ UTF_16LE ∷ WINDOWS_874 ∷ WINDOWS_1250 ∷ WINDOWS_1251 ∷ WINDOWS_1252 ∷ WINDOWS_1253 ∷ WINDOWS_1254 ∷ WINDOWS_1255 ∷ WINDOWS_1256 ∷ WINDOWS_1257 ∷ WINDOWS_1258 ∷ X_MAC_CYRILLIC ∷ X_USER_DEFINED ∷ []) ≡ range_with_len 0 ENCODING_COUNT
 label_numbers_rise = refl
+
+-- end
 
 pub length-labels : length labels ≡ 228
 unfolding labels
@@ -135,15 +141,15 @@ label_text-tab = refl
 pub label_text-white : label_text (9 ∷ 10 ∷ 12 ∷ 13 ∷ 32 ∷ []) ≡ []
 label_text-white = refl
 
-pub number_of_label-latin2 : number_of_label (codes " Latin2") ≡ Some 7
+pub number_of_label-latin2 : number_of_label (codes " Latin2") ≡ Some ISO_8859_2
 unfolding labels
 number_of_label-latin2 = refl
 
-pub number_of_label-unicode11utf8 : number_of_label (codes "unicode11utf8") ≡ Some 25
+pub number_of_label-unicode11utf8 : number_of_label (codes "unicode11utf8") ≡ Some UTF_8
 unfolding labels
 number_of_label-unicode11utf8 = refl
 
-pub number_of_label-utf-16be : number_of_label (codes "UTF-16BE") ≡ Some 26
+pub number_of_label-utf-16be : number_of_label (codes "UTF-16BE") ≡ Some UTF_16BE
 unfolding labels
 number_of_label-utf-16be = refl
 

@@ -1,6 +1,8 @@
 //! The number of each encoding in the list of all of them, from 0. The list has the encodings of
 //! the Encoding Standard, in the order of the names below.
 
+// Written by tools/generate_encodings.py from tools/encodings.toml; do not edit.
+
 pub const BIG5: usize = 0;
 
 pub const EUC_JP: usize = 1;

@@ -2,6 +2,7 @@ use encoding_labels::label_number;
 use std::test::Fail;
 
 // Each encoding by its own name, in the order of the numbers.
+// Written by tools/generate_encodings.py from tools/encodings.toml; do not edit.
 const NAMES: [&str; 40] = [
     "big5",
     "euc-jp",
@@ -44,6 +45,7 @@ const NAMES: [&str; 40] = [
     "x-mac-cyrillic",
     "x-user-defined",
 ];
+// end
 
 #[test]
 fn each_name_has_its_number(rt: HostRuntime) {

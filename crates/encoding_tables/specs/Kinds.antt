@@ -1,10 +1,14 @@
 -- The kinds of index (the Encoding Standard, section 5).
 use Rattle.std.specs.Prelude.{ℕ, Bool, true, false, nat_eq}
 use Rattle.encoding_tables.specs.declared.index_kind.IndexKind.{IndexKind}
+-- Written by tools/generate_encodings.py from tools/encodings.toml; do not edit.
 use Rattle.encoding_tables.specs.declared.index_kind.IndexKind.TheVariants.{Ibm866, Iso8859_2, Iso8859_3, Iso8859_4, Iso8859_5, Iso8859_6, Iso8859_7, Iso8859_8, Iso8859_10, Iso8859_13, Iso8859_14, Iso8859_15, Iso8859_16, Koi8R, Koi8U, Macintosh, Windows874, Windows1250, Windows1251, Windows1252, Windows1253, Windows1254, Windows1255, Windows1256, Windows1257, Windows1258, XMacCyrillic, Big5, EucKr, Gb18030, Gb18030Ranges, Jis0208, Jis0212, Iso2022JpKatakana}
+
+-- end
 
 -- the number of a kind among the kinds
 abbrev pub number : IndexKind → ℕ
+-- Written by tools/generate_encodings.py from tools/encodings.toml; do not edit.
 number Ibm866 = 0
 number Iso8859_2 = 1
 number Iso8859_3 = 2
@@ -39,6 +43,8 @@ number Gb18030Ranges = 30
 number Jis0208 = 31
 number Jis0212 = 32
 number Iso2022JpKatakana = 33
+
+-- end
 
 -- how many entries the list of a kind has
 abbrev pub index_size : IndexKind → ℕ

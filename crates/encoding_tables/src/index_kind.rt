@@ -6,6 +6,7 @@ ghost use Rattle.encoding_tables.specs.FileNames.{file_name_of};
 /// those of the multi-byte ones. ISO-8859-8-I has that of ISO-8859-8.
 #[derive(Clone, Copy, Debug, PartialEq, Eq)]
 pub enum IndexKind {
+    // Written by tools/generate_encodings.py from tools/encodings.toml; do not edit.
     Ibm866,
     Iso8859_2,
     Iso8859_3,
@@ -41,6 +42,7 @@ pub enum IndexKind {
     Jis0208,
     Jis0212,
     Iso2022JpKatakana,
+    // end
 }
 
 impl IndexKind {
@@ -83,6 +85,7 @@ impl IndexKind {
         ensures { result.now ≡ file_name_of self }
     {
         match self {
+            // Written by tools/generate_encodings.py from tools/encodings.toml; do not edit.
             IndexKind::Ibm866 => "index-ibm866.txt",
             IndexKind::Iso8859_2 => "index-iso-8859-2.txt",
             IndexKind::Iso8859_3 => "index-iso-8859-3.txt",
@@ -117,9 +120,11 @@ impl IndexKind {
             IndexKind::Jis0208 => "index-jis0208.txt",
             IndexKind::Jis0212 => "index-jis0212.txt",
             IndexKind::Iso2022JpKatakana => "index-iso-2022-jp-katakana.txt",
+            // end
         }
     }
 
+    // Written by tools/generate_encodings.py from tools/encodings.toml; do not edit.
     // The number of this kind among all.
     pub(crate) fn slot(self) -> usize
         ensures value { result ≡ number self }
@@ -127,4 +132,5 @@ impl IndexKind {
     {
         self as usize
     }
+    // end
 }

@@ -27,7 +27,9 @@ use std::marker::Model;
 #[derive(Drop)]
 pub struct Tables {
     alloc: Global,
+    // Written by tools/generate_encodings.py from tools/encodings.toml; do not edit.
     flats: [Option<PackedIndex>; 34],
+    // end
     ranges: Option<PackedRanges>,
 }
 
@@ -50,11 +52,13 @@ impl Tables {
     {
         Tables {
             alloc,
+            // Written by tools/generate_encodings.py from tools/encodings.toml; do not edit.
             flats: [
                 None, None, None, None, None, None, None, None, None, None, None, None, None, None,
                 None, None, None, None, None, None, None, None, None, None, None, None, None, None,
                 None, None, None, None, None, None,
             ],
+            // end
             ranges: None,
         }
     }

@@ -8,6 +8,7 @@ mod engine;
 mod indexes;
 pub mod job;
 pub mod laws;
+mod listing;
 pub mod program;
 pub mod session;
 mod target;

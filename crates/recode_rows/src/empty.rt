@@ -1,4 +1,5 @@
 use crate::trial::{LEAST, LEAST_WIDE, Sizes, Trial, Way, recode};
+// Written by tools/generate_encodings.py from tools/encodings.toml; do not edit.
 use encoding_front::{
     BIG5, EUC_JP, EUC_KR, Encoding, GB18030, GBK, IBM866, ISO_2022_JP, ISO_8859_2, ISO_8859_3,
     ISO_8859_4, ISO_8859_5, ISO_8859_6, ISO_8859_7, ISO_8859_8, ISO_8859_8_I, ISO_8859_10,
@@ -7,10 +8,12 @@ use encoding_front::{
     WINDOWS_1253, WINDOWS_1254, WINDOWS_1255, WINDOWS_1256, WINDOWS_1257, WINDOWS_1258,
     X_MAC_CYRILLIC, X_USER_DEFINED,
 };
+// end
 use recode::{Mark, Report};
 use std::alloc::AllocError;
 use std::process::Abort;
 
+// Written by tools/generate_encodings.py from tools/encodings.toml; do not edit.
 const ENCODINGS: [Encoding; 40] = [
     BIG5,
     EUC_JP,
@@ -53,6 +56,7 @@ const ENCODINGS: [Encoding; 40] = [
     X_MAC_CYRILLIC,
     X_USER_DEFINED,
 ];
+// end
 
 // Converts no bytes.
 fn check(

@@ -8,51 +8,25 @@ use Rattle.encoding_tables.specs.TableFaults.{flat_fault}
 use Rattle.encoding_tables.specs.IndexLists.{flat_at, AreAccepted}
 use Rattle.encoding_tables.specs.declared.table_fault.TableFault.TheVariants.{Present}
 use Rattle.encoding_tables.specs.declared.index_kind.IndexKind.{IndexKind}
+-- Written by tools/generate_encodings.py from tools/encodings.toml; do not edit.
 use Rattle.encoding_tables.specs.declared.index_kind.IndexKind.TheVariants.{Ibm866, Iso8859_2, Iso8859_3, Iso8859_4, Iso8859_5, Iso8859_6, Iso8859_7, Iso8859_8, Iso8859_10, Iso8859_13, Iso8859_14, Iso8859_15, Iso8859_16, Koi8R, Koi8U, Macintosh, Windows874, Windows1250, Windows1251, Windows1252, Windows1253, Windows1254, Windows1255, Windows1256, Windows1257, Windows1258, XMacCyrillic, Big5, EucKr, Gb18030, Gb18030Ranges, Jis0208, Jis0212, Iso2022JpKatakana}
 
--- the kind with a number, among all
-kind_at : List IndexKind
-kind_at = Ibm866 ∷ Iso8859_2 ∷ Iso8859_3 ∷ Iso8859_4 ∷ Iso8859_5 ∷ Iso8859_6 ∷ Iso8859_7 ∷ Iso8859_8 ∷ Iso8859_10 ∷ Iso8859_13 ∷ Iso8859_14 ∷ Iso8859_15 ∷ Iso8859_16 ∷ Koi8R ∷ Koi8U ∷ Macintosh ∷ Windows874 ∷ Windows1250 ∷ Windows1251 ∷ Windows1252 ∷ Windows1253 ∷ Windows1254 ∷ Windows1255 ∷ Windows1256 ∷ Windows1257 ∷ Windows1258 ∷ XMacCyrillic ∷ Big5 ∷ EucKr ∷ Gb18030 ∷ Gb18030Ranges ∷ Jis0208 ∷ Jis0212 ∷ Iso2022JpKatakana ∷ []
+-- end
 
-again : (k : IndexKind) → get_or kind_at (number k) Ibm866 ≡ k
-unfolding kind_at
+-- all of them, in the order of their numbers
+-- Written by tools/generate_encodings.py from tools/encodings.toml; do not edit.
+unfoldable pub all_kinds : List IndexKind
+all_kinds = Ibm866 ∷ Iso8859_2 ∷ Iso8859_3 ∷ Iso8859_4 ∷ Iso8859_5 ∷ Iso8859_6 ∷ Iso8859_7 ∷ Iso8859_8 ∷ Iso8859_10 ∷ Iso8859_13 ∷ Iso8859_14 ∷ Iso8859_15 ∷ Iso8859_16 ∷ Koi8R ∷ Koi8U ∷ Macintosh ∷ Windows874 ∷ Windows1250 ∷ Windows1251 ∷ Windows1252 ∷ Windows1253 ∷ Windows1254 ∷ Windows1255 ∷ Windows1256 ∷ Windows1257 ∷ Windows1258 ∷ XMacCyrillic ∷ Big5 ∷ EucKr ∷ Gb18030 ∷ Gb18030Ranges ∷ Jis0208 ∷ Jis0212 ∷ Iso2022JpKatakana ∷ []
+
+-- end
+
+again : (k : IndexKind) → get_or all_kinds (number k) Ibm866 ≡ k
+unfolding all_kinds
 again Ibm866 = refl
-again Iso8859_2 = refl
-again Iso8859_3 = refl
-again Iso8859_4 = refl
-again Iso8859_5 = refl
-again Iso8859_6 = refl
-again Iso8859_7 = refl
-again Iso8859_8 = refl
-again Iso8859_10 = refl
-again Iso8859_13 = refl
-again Iso8859_14 = refl
-again Iso8859_15 = refl
-again Iso8859_16 = refl
-again Koi8R = refl
-again Koi8U = refl
-again Macintosh = refl
-again Windows874 = refl
-again Windows1250 = refl
-again Windows1251 = refl
-again Windows1252 = refl
-again Windows1253 = refl
-again Windows1254 = refl
-again Windows1255 = refl
-again Windows1256 = refl
-again Windows1257 = refl
-again Windows1258 = refl
-again XMacCyrillic = refl
-again Big5 = refl
-again EucKr = refl
-again Gb18030 = refl
-again Gb18030Ranges = refl
-again Jis0208 = refl
-again Jis0212 = refl
-again Iso2022JpKatakana = refl
+again _ = refl
 
 pub number-apart : (a b : IndexKind) → a ≢ b → number a ≢ number b
-number-apart a b h e = h (sym (again a) ∙ ap (λ n. get_or kind_at n Ibm866) e ∙ again b)
+number-apart a b h e = h (sym (again a) ∙ ap (λ n. get_or all_kinds n Ibm866) e ∙ again b)
 
 pub index-put : (slots : List (Option (List ℕ))) (n : ℕ) (x : Option (List ℕ)) (kind : IndexKind) → n ≡ number kind → n < length slots → flat_at (set slots n x) kind ≡ x
 index-put slots n x kind is within = rw (← is) (get_or-set_same slots n x None within)
@@ -61,7 +35,7 @@ pub index-others : (slots : List (Option (List ℕ))) (n : ℕ) (x : Option (Lis
 index-others slots n x kind k is apart = rw is (get_or-set_other slots (number kind) (number k) x None (number-apart k kind apart))
 
 pub number-same : (a b : IndexKind) → number a ≡ number b → a ≡ b
-number-same a b e = sym (again a) ∙ ap (λ n. get_or kind_at n Ibm866) e ∙ again b
+number-same a b e = sym (again a) ∙ ap (λ n. get_or all_kinds n Ibm866) e ∙ again b
 
 pub accepted-put : (slots : List (Option (List ℕ))) (n : ℕ) (kind : IndexKind) (flat : List ℕ) → n ≡ number kind → n < length slots
     → flat_fault false kind flat ≡ None → AreAccepted slots → AreAccepted (set slots n (Some flat))

@@ -1,0 +1,479 @@
+#!/usr/bin/env python3
+"""Writes each list of the encodings and of the indexes from `tools/encodings.toml`: `make generate`.
+
+    python3 tools/generate_encodings.py [--check]
+
+A file of such a list begins with a line that says so; where a list is a part of a file, it stands between such a line
+and a line `end`. With `--check` nothing is written: the files that differ are named, and the status is 1 where there are
+any (`make lint`).
+"""
+
+import os
+import re
+import sys
+import tomllib
+
+TOP = os.path.abspath(os.path.join(os.path.dirname(os.path.abspath(__file__)), ".."))
+WRITTEN = "Written by tools/generate_encodings.py from tools/encodings.toml; do not edit."
+COLUMNS = 100
+# The most columns of the elements of a call, a tuple or an array that `rt fmt` leaves on one line.
+SHORT = 60
+
+
+def words_of(name):
+    """The parts of a name: letters and numbers."""
+    return re.findall(r"[A-Za-z]+|[0-9]+", name)
+
+
+def variant(name):
+    """The name of a variant: Iso8859_8I of ISO-8859-8-I."""
+    parts, last = [], ""
+    for word in words_of(name):
+        parts.append("_" if word.isdigit() and last.isdigit() else "")
+        parts.append(word.capitalize())
+        last = word
+    return "".join(parts)
+
+
+def constant(name):
+    return name.upper().replace("-", "_")
+
+
+def natural(name):
+    """A key by which names stand as in a list of imports: numbers by their value, and _ before all else."""
+    parts = re.findall(r"_|[0-9]+|[^_0-9]", name)
+    return [(0, 0, "") if part == "_" else (1, int(part), "") if part.isdigit() else (2, 0, part) for part in parts]
+
+
+with open(os.path.join(TOP, "tools", "encodings.toml"), "rb") as file:
+    DATA = tomllib.load(file)
+# The encodings in the standard's order, and in that of their numbers; and the indexes.
+STANDARD = DATA["encodings"]
+ENCODINGS = sorted(STANDARD, key=lambda row: natural(constant(row["name"])))
+INDEXES = DATA["indexes"]
+SINGLE_BYTE = [row for row in ENCODINGS if row["codec"] == "SingleByte"]
+CONSTANTS = [constant(row["name"]) for row in ENCODINGS]
+VARIANTS = [variant(row["name"]) for row in ENCODINGS]
+KINDS = [variant(row["name"]) for row in INDEXES]
+LABELS = [(label, constant(row["name"])) for row in STANDARD for label in row["labels"].split(" ")]
+
+
+def packed(items, indent, end=","):
+    """Items with commas, as many on a line as fit."""
+    lines = []
+    for item in items:
+        if lines and len(lines[-1]) + 1 + len(item) + len(end) < COLUMNS:
+            lines[-1] += " " + item + end
+        else:
+            lines.append(indent + item + end)
+    return lines
+
+
+def imports(path, names, word="use"):
+    return ["%s %s::{" % (word, path), *packed(sorted(names, key=natural), "    "), "};"]
+
+
+def inner(before, items, after, indent=""):
+    """A call, a tuple or an array in one line, or with a line for each element."""
+    short = ", ".join(items)
+    if len(short) <= SHORT and len(indent + before + short + after) <= COLUMNS:
+        return [indent + before + short + after]
+    return [indent + before, *(indent + "    " + item + "," for item in items), indent + after]
+
+
+def listed(items):
+    """A list of the definitions."""
+    return " ∷ ".join([*items, "[]"])
+
+
+def kinds_of(row):
+    return ["IndexKind::" + variant(name) for name in row["indexes"]]
+
+
+# crates/encoding_labels
+
+
+def places():
+    lines = [
+        "//! The number of each encoding in the list of all of them, from 0. The list has the encodings of",
+        "//! the Encoding Standard, in the order of the names below.",
+        "",
+    ]
+    for number, name in enumerate(CONSTANTS):
+        lines += ["pub const %s: usize = %d;" % (name, number), ""]
+    return lines + ["/// How many encodings there are.", "pub const ENCODING_COUNT: usize = %d;" % len(CONSTANTS)]
+
+
+def table():
+    lengths = sorted({len(label) for label, _ in LABELS})
+    lines = [
+        "//! The labels for the search, by their length: that leaves few to compare with, and the lists need",
+        "//! no order and no index. In each list the labels stand in the order of the Encoding Standard, in",
+        "//! lower case, each with the number of its encoding.",
+        "",
+        "ghost use Rattle.std.specs.Prelude.{◌≡◌, ℕ};",
+        "ghost use Rattle.encoding_labels.specs.laws.ByLength.{entries, labels_of_length};",
+        "",
+        *imports("crate::places", CONSTANTS),
+        "",
+        "// The labels of this length, in bytes.",
+        "#[tactic(auto, using(crate::proofs::LabelLemmas::labels_of_length_other),"
+        " unfolding(crate::specs::Labels::labels))]",
+        "pub(crate) fn rows_of_length(length: usize) -> &'static [(&'static str, usize)]",
+        "    ensures { entries result.now ≡ labels_of_length length }",
+        "{",
+        "    match length {",
+        *("        %d => LABELS_OF_%d," % (length, length) for length in lengths),
+        "        _ => &[],",
+        "    }",
+        "}",
+    ]
+    for length in lengths:
+        rows = ['("%s", %s)' % row for row in LABELS if len(row[0]) == length]
+        lines += ["", *inner("const LABELS_OF_%d: &[(&str, usize)] = &[" % length, rows, "];")]
+    return lines
+
+
+def constants_of_places():
+    names = ", ".join(["ENCODING_COUNT", *CONSTANTS])
+    return ["use Rattle.encoding_labels.specs.declared.places.TheConstants.{%s}" % names]
+
+
+def places_rise():
+    return [
+        "pub label_numbers_rise : (%s) ≡ range_with_len 0 ENCODING_COUNT" % listed(CONSTANTS),
+        "label_numbers_rise = refl",
+    ]
+
+
+def label_names():
+    return array("NAMES", "&str", ['"%s"' % row["name"].lower() for row in ENCODINGS])
+
+
+# crates/encoding_tables
+
+
+def kind_variants():
+    note = {"gb18030-ranges": "    /// The only one with rows, each of which stands for a range of pointers."}
+    lines = []
+    for row in INDEXES:
+        lines += [note[row["name"]]] if row["name"] in note else []
+        lines.append("    %s," % variant(row["name"]))
+    return lines
+
+
+def kind_files():
+    return ['            IndexKind::%s => "index-%s.txt",' % (variant(row["name"]), row["name"]) for row in INDEXES]
+
+
+def kind_slot():
+    return [
+        "    // The number of this kind among all.",
+        "    pub(crate) fn slot(self) -> usize",
+        "        ensures value { result ≡ number self }",
+        "        ensures small { result < %d }" % len(KINDS),
+        "    {",
+        "        self as usize",
+        "    }",
+    ]
+
+
+def flats():
+    return ["    flats: [Option<PackedIndex>; %d]," % len(KINDS)]
+
+
+def no_flats():
+    return ["            flats: [", *packed(["None"] * len(KINDS), " " * 16), "            ],"]
+
+
+def variants_of_kinds():
+    path = "Rattle.encoding_tables.specs.declared.index_kind.IndexKind.TheVariants"
+    return ["use %s.{%s}" % (path, ", ".join(KINDS))]
+
+
+def kind_numbers():
+    return ["number %s = %d" % (kind, number) for number, kind in enumerate(KINDS)]
+
+
+def all_kinds():
+    return ["unfoldable pub all_kinds : List IndexKind", "all_kinds = %s" % listed(KINDS)]
+
+
+def kinds_of_examples():
+    of_one = {name for row in SINGLE_BYTE for name in row["indexes"]}
+    single = [variant(row["name"]) for row in INDEXES if row["name"] in of_one]
+    other = [variant(row["name"]) for row in INDEXES if row["name"] not in of_one]
+    return [
+        "abbrev single_byte_kinds : List IndexKind",
+        "single_byte_kinds = %s" % listed(single),
+        "",
+        "abbrev other_kinds : List IndexKind",
+        "other_kinds = %s" % listed(other),
+    ]
+
+
+# crates/encoding_front
+
+
+def encoding_variants():
+    return ["    %s," % name for name in VARIANTS]
+
+
+def encoding_at_number():
+    lines = ["// All encodings, in the order of `encoding_labels::places`."]
+    lines += array("ENCODINGS", "Encoding", ["Encoding::" + name for name in VARIANTS])
+    return lines
+
+
+def constants():
+    lines = [
+        "//! The %s encodings, each with a second name. The sections are those of the Encoding Standard." % count(),
+        "",
+        "use crate::encoding::Encoding;",
+        "",
+    ]
+    for row in ENCODINGS:
+        lines += [
+            "/// %s (section %s)." % (row["name"], row["section"]),
+            "pub const %s: Encoding = Encoding::%s;" % (constant(row["name"]), variant(row["name"])),
+        ]
+    lines.append("")
+    for name in CONSTANTS:
+        lines += ["/// A second name of `%s`." % name, "pub const %s_INIT: Encoding = %s;" % (name, name)]
+    return lines
+
+
+def count():
+    return "forty" if len(ENCODINGS) == 40 else str(len(ENCODINGS))
+
+
+def both_names():
+    return [name + end for name in CONSTANTS for end in ("", "_INIT")]
+
+
+def front_constants():
+    return imports("constants", both_names(), "pub use")
+
+
+def rows():
+    lines = []
+    for row in ENCODINGS:
+        before = "Encoding::%s => " % variant(row["name"])
+        kinds = "&[%s]" % ", ".join(kinds_of(row))
+        if row["codec"] == "SingleByte":
+            lines += inner(before + "Row::single_byte(", ['"%s"' % row["name"], kinds], "),", " " * 8)
+        else:
+            items = ['"%s"' % row["name"], "CodecKind::" + row["codec"], kinds]
+            lines += inner(before + "Row::new(", items, "),", " " * 8)
+    return lines
+
+
+def variants_alone():
+    return ["use Rattle.encoding_front.specs.declared.encoding.Encoding.TheVariants.{%s}" % ", ".join(VARIANTS)]
+
+
+def variants_of_encodings():
+    return variants_alone() + constants_of_places()
+
+
+def all_encodings():
+    return [
+        "abbrev pub encodings : List Encoding",
+        "encodings = %s" % listed(VARIANTS),
+    ]
+
+
+def worked_constants():
+    path = "Rattle.encoding_front.specs.declared"
+    lines = [
+        "-- The constants: each is named after its encoding, in upper case with _ for -, and its second name is the same"
+        " value.",
+        "use Rattle.std.specs.Prelude.{◌≡◌, refl}",
+        "use %s.constants.TheConstants.{%s}" % (path, ", ".join(both_names())),
+        "use %s.encoding.Encoding.TheVariants.{%s}" % (path, ", ".join(VARIANTS)),
+    ]
+    for name, value in zip(CONSTANTS, VARIANTS):
+        lines += [
+            "",
+            "%s : (%s ≡ %s) × (%s_INIT ≡ %s)" % (name.lower(), name, value, name, value),
+            "%s = (refl, refl)" % name.lower(),
+        ]
+    return lines
+
+
+def own_indexes():
+    names = [row["name"] for row in INDEXES]
+    pairs = ["(%s, 0x%X)" % (variant(row["name"]), 0x100 + names.index(row["indexes"][0])) for row in SINGLE_BYTE]
+    return [
+        "abbrev kind_count : ℕ",
+        "kind_count = %d" % len(KINDS),
+        "",
+        "unfoldable own_index : List (Encoding × ℕ)",
+        "own_index = %s" % listed(pairs),
+    ]
+
+
+def tested_imports():
+    return imports("encoding_front", ["Encoding", *both_names()])
+
+
+def tested_encodings():
+    elements = [
+        '(%s, %s_INIT, "%s", %d)' % (name, name, row["name"], len(row["indexes"]))
+        for name, row in zip(CONSTANTS, ENCODINGS)
+    ]
+    return array("ALL", "(Encoding, Encoding, &str, usize)", elements)
+
+
+# Other crates
+
+
+def array(name, element, elements, visible=""):
+    head = "%sconst %s: [%s; %d] = [" % (visible, name, element, len(elements))
+    return [head, *("    %s," % item for item in elements), "];"]
+
+
+def lists_of_files():
+    names = [constant(row["name"]) for row in STANDARD]
+    lines = [
+        "//! The indexes and the encodings, and what is printed of each index.",
+        "",
+        *imports("encoding_front", ["Encoding", *names]),
+        "use encoding_tables::IndexKind;",
+        "",
+        "// The pointers that are printed of each kind.",
+        "pub(crate) const POINTERS: [(IndexKind, &[u32]); %d] = [" % len(KINDS),
+    ]
+    for row in INDEXES:
+        items = ["IndexKind::" + variant(row["name"]), "&[%s]" % ", ".join(map(str, row["pointers"]))]
+        lines += inner("(", items, "),", "    ")
+    lines += ["];", "", "// In the order of the Encoding Standard, section 4.2."]
+    return lines + array("ENCODINGS", "Encoding", names, "pub(crate) ")
+
+
+def imported_encodings():
+    return imports("encoding_front", ["Encoding", *CONSTANTS])
+
+
+def encodings_by_number():
+    return array("ENCODINGS", "Encoding", CONSTANTS)
+
+
+def kinds_by_name():
+    lines = [
+        "/// Each kind of index by the name that cases have for it.",
+        "pub const KINDS: [(&str, IndexKind); %d] = [" % len(KINDS),
+    ]
+    for row in INDEXES:
+        word = row.get("word", row["name"])
+        lines += inner("(", ['"%s"' % word, "IndexKind::" + variant(row["name"])], "),", "    ")
+    return lines + ["];"]
+
+
+def listing():
+    return [
+        "//! What `--list` prints.",
+        "",
+        "// The %s encodings, in the order of `Encoding`, a line each: the name, and behind it the labels," % count(),
+        '// as the Encoding Standard has them (section 4.2, "Names and labels").',
+        'const LISTING: &str = "\\',
+        *("%s: %s" % (row["name"], row["labels"]) for row in ENCODINGS),
+        '";',
+        "",
+        "// What `--list` prints.",
+        "pub(crate) fn listing() -> &'static str {",
+        "    LISTING",
+        "}",
+    ]
+
+
+# Of each file what is written: the whole, or the parts between lines that say so, in their order.
+WHOLE = {
+    "encoding_labels/src/places.rt": places,
+    "encoding_labels/src/table.rt": table,
+    "encoding_front/src/constants.rt": constants,
+    "encoding_front/specs/examples/Constants.antt": worked_constants,
+    "encoding_index_files/src/lists.rt": lists_of_files,
+    "recode/src/listing.rt": listing,
+}
+PARTS = {
+    "encoding_labels/specs/Labels.antt": [constants_of_places, places_rise],
+    "encoding_tables/src/index_kind.rt": [kind_variants, kind_files, kind_slot],
+    "encoding_tables/src/tables.rt": [flats, no_flats],
+    "encoding_tables/specs/Kinds.antt": [variants_of_kinds, kind_numbers],
+    "encoding_tables/specs/FileNames.antt": [variants_of_kinds],
+    "encoding_tables/specs/laws/Kinds.antt": [variants_of_kinds, all_kinds],
+    "encoding_tables/specs/examples/Kinds.antt": [variants_of_kinds, kinds_of_examples],
+    "encoding_front/src/encoding.rt": [encoding_variants, encoding_at_number],
+    "encoding_front/src/lib.rt": [front_constants],
+    "encoding_front/src/codec_kind.rt": [rows],
+    "encoding_front/specs/EncodingTable.antt": [variants_of_encodings, all_encodings],
+    "encoding_front/specs/examples/Encodings.antt": [variants_alone, own_indexes],
+    "case_lines/src/kinds.rt": [kinds_by_name],
+    "encoding_mem_tests/src/labels.rt": [label_names],
+    "encoding_front_tests/src/encoding.rt": [tested_imports, tested_encodings],
+    "recode_rows/src/empty.rt": [imported_encodings, encodings_by_number],
+}
+
+
+def comment(path):
+    return "//" if path.endswith(".rt") else "--"
+
+
+def with_parts(path, text, parts):
+    """The text of a file with its generated parts as they should be. The line before and behind a part stay."""
+    lines, result, left = text.split("\n"), [], list(parts)
+    begin, end, is_inside = "%s %s" % (comment(path), WRITTEN), "%s end" % comment(path), False
+    for line in lines:
+        if line.strip() == begin:
+            if is_inside or not left:
+                sys.exit("%s: a part too many" % path)
+            is_inside = True
+            # `rt fmt` sets a note off from the definition above it.
+            result += [line, *left.pop(0)(), *([""] if path.endswith(".antt") else [])]
+        elif line.strip() == end:
+            is_inside = False
+        if not is_inside:
+            result.append(line)
+    if left or is_inside:
+        sys.exit("%s: a part too few" % path)
+    return "\n".join(result)
+
+
+def wanted(path):
+    if path in WHOLE:
+        lines = WHOLE[path]()
+        # What says what a module is stands at its head.
+        head = 0
+        while path.endswith(".rt") and lines[head].startswith("//!"):
+            head += 1
+        note = ["%s %s" % (comment(path), WRITTEN)]
+        return "\n".join(lines[:head] + [""] + note + lines[head:] if head else note + lines) + "\n"
+    return with_parts(path, read(path), PARTS[path])
+
+
+def read(path):
+    try:
+        with open(os.path.join(TOP, "crates", path), encoding="utf-8") as file:
+            return file.read()
+    except FileNotFoundError:
+        return ""
+
+
+def main(words):
+    status = 0
+    for path in sorted([*WHOLE, *PARTS]):
+        text = wanted(path)
+        if text == read(path):
+            continue
+        if words == ["--check"]:
+            print("crates/%s is not what `make generate` writes" % path)
+            status = 1
+        else:
+            with open(os.path.join(TOP, "crates", path), "w", encoding="utf-8") as file:
+                file.write(text)
+    return status
+
+
+if __name__ == "__main__":
+    sys.exit(main(sys.argv[1:]))
