@@ -2,6 +2,7 @@ ghost use Rattle.std.specs.Prelude.{◌≡◌, ◌≢◌, ◌↔◌, ℕ, ◌+�
 ghost use Rattle.std.specs.Str.{chars};
 ghost use Rattle.std.specs.Char.Utf16.{utf16_lossy_chars};
 ghost use Rattle.encoding_mem.specs.EncoderRule.{left};
+ghost use Rattle.encoding_mem.specs.Surrogates.{PartsNoPair};
 ghost use Rattle.encoding_mem.specs.declared.form.EscapeState.TheVariants.{Ascii};
 ghost use Rattle.encoding_front.specs.Encoder.{Encoded, EncoderState, IsEncoderOf, ReadsText, Replaces, WritesBytes, coding_in, kept_back, new_state, queried_room, queried_with_kept, room_for, room_with_kept};
 ghost use Rattle.encoding_front.specs.laws.Encoder.{coding_laws};
@@ -173,6 +174,7 @@ impl<'t> Encoder<'t> {
         last: bool,
     ) -> (EncoderResult, usize, usize)
         ensures read { result.1 ≤ length src.now }
+        ensures boundary { PartsNoPair src.now result.1 }
         ensures wrote { WritesBytes dst.old dst.new result.2 }
         ensures call { Encoded self.old last result.0 (utf16_lossy_chars src.now)
             (take result.2 dst.new) self.new (utf16_lossy_chars (drop result.1 src.now))
@@ -219,6 +221,7 @@ impl<'t> Encoder<'t> {
         last: bool,
     ) -> (CoderResult, usize, usize, bool)
         ensures read { result.1 ≤ length src.now }
+        ensures boundary { PartsNoPair src.now result.1 }
         ensures wrote { WritesBytes dst.old dst.new result.2 }
         ensures call { Replaces self.old last result.0 (utf16_lossy_chars src.now)
             (take result.2 dst.new) self.new (utf16_lossy_chars (drop result.1 src.now))

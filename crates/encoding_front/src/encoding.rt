@@ -11,10 +11,11 @@ ghost use Rattle.encoding_front.specs.declared.encoding.Encoding.{Encoding};
 use crate::codec_kind::{CodecKind, row_of};
 use encoding_labels::label_number;
 use encoding_tables::{IndexKind, Tables};
+use std::fmt;
 
 /// An encoding of the Encoding Standard (section 4.2): a value to copy, compared and hashed by which of the
 /// forty it is. Each is also a constant of this crate, as `UTF_8`.
-#[derive(Clone, Copy, PartialEq, Eq, Hash, Debug)]
+#[derive(Clone, Copy, PartialEq, Eq, Hash)]
 pub enum Encoding {
     Big5,
     EucJp,
@@ -245,6 +246,12 @@ impl Encoding {
         ensures proper { IsProper result }
     {
         row_of(self).codec_kind
+    }
+}
+
+impl fmt::Debug for Encoding {
+    fn fmt<W: fmt::Write>(&self, f: &mut fmt::Formatter<W>) -> fmt::Result {
+        f.write_str(self.name())
     }
 }
 

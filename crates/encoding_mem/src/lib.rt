@@ -8,21 +8,22 @@ pub mod ascii_copies;
 pub mod ascii_text;
 pub mod bidi;
 pub mod bytewise;
-pub mod conversion_laws;
-pub mod decoder_laws;
+mod conversion_laws;
+mod decoder_laws;
 pub mod decoder_result;
 mod driver;
 pub mod encode;
-pub mod encoder_laws;
+mod encoder_laws;
 pub mod encoder_result;
-pub mod equality_laws;
+mod equality_laws;
 mod first;
 pub mod first_piece;
 pub mod form;
 pub mod latin1;
 pub mod latin1_conversions;
 pub mod latin1_texts;
-pub mod mem_laws;
+pub mod laws;
+mod mem_laws;
 pub mod pending;
 pub mod raw_decoder;
 pub mod raw_encoder;
@@ -62,6 +63,8 @@ pub use latin1_texts::{Latin1Bytes, decode_latin1, encode_latin1_lossy};
 pub use raw_decoder::RawDecoder;
 pub use raw_encoder::RawEncoder;
 pub use reference::Reference;
+pub use sink::Sink;
+pub use source::{Source, Utf8Source, Utf16Source};
 pub use text_destinations::{
     clear_behind, convert_latin1_to_str, convert_latin1_to_str_partial, convert_utf16_to_str,
     convert_utf16_to_str_partial,
@@ -72,5 +75,7 @@ pub use utf8_conversions::{
     convert_utf8_to_utf16_without_replacement,
 };
 pub use utf8_encoder::Utf8Encoder;
+pub use utf8_sink::Utf8Sink;
+pub use utf16_sink::Utf16Sink;
 pub use utf16_conversions::{convert_utf16_to_utf8, convert_utf16_to_utf8_partial};
 pub use validity::{ensure_utf16_validity, utf8_valid_up_to, utf16_valid_up_to};

@@ -5,6 +5,7 @@ ghost use Rattle.encoding_mem.specs.Coding.{Coding, IsCoding};
 ghost use Rattle.encoding_mem.specs.Encoding.{Encodes, EncodeEndsWith};
 ghost use Rattle.encoding_mem.specs.DecodedLength.{checked, bound_at};
 ghost use Rattle.encoding_mem.specs.EncoderRule.{Tight};
+ghost use Rattle.encoding_mem.specs.Surrogates.{PartsNoPair};
 ghost use Rattle.encoding_mem.specs.declared.form.EscapeState.{EscapeState};
 ghost use Rattle.encoding_mem.specs.declared.form.EscapeState.TheVariants.{Ascii};
 ghost use Rattle.encoding_mem.specs.declared.room.EncodedLength.{EncodedLength};
@@ -58,6 +59,7 @@ pub trait RawEncoder {
         last: bool,
     ) -> (EncoderResult, usize, usize)
         ensures read { result.1 ≤ length src.now }
+        ensures boundary { PartsNoPair src.now result.1 }
         ensures room { result.2 ≤ length dst.new }
         ensures behind { drop result.2 dst.new ≡ drop result.2 dst.old }
         ensures target { coding self.new ≡ coding self.old }

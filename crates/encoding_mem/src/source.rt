@@ -6,6 +6,7 @@ ghost use Rattle.std.specs.Char.{len_utf8, encode_utf8};
 ghost use Rattle.std.specs.Char.Utf16.{utf16_lossy_chars};
 ghost use Rattle.encoding_mem.specs.DecodedLength.{cost_in};
 ghost use Rattle.encoding_mem.specs.EncoderRule.{IsCopied};
+ghost use Rattle.encoding_mem.specs.Surrogates.{PartsNoPair};
 ghost use Rattle.encoding_mem.specs.Text.{IsSecondAscii};
 ghost use Rattle.encoding_mem.specs.Writing.{len_utf16};
 ghost use Rattle.encoding_mem.specs.laws.EncodedLength.{sum_within};
@@ -215,6 +216,7 @@ fn first_of_units(units: &[u16]) -> Option<(char, usize)>
         (λ p. utf16_lossy_chars units.now ≡ p.0 ∷ utf16_lossy_chars (drop p.1 units.now)) }
     ensures within { IfSome result (λ p. p.1 ≤ length units.now) }
     ensures size { IfSome result (λ p. p.1 ≡ len_utf16 p.0) }
+    ensures boundary { IfSome result (λ p. PartsNoPair units.now p.1) }
 {
     if units.is_empty() {
         return None;
@@ -252,6 +254,7 @@ pub struct Utf16Source<'a> {
     units: &'a [u16],
     offset: usize,
     ghost within: { offset ≤ length units.now },
+    ghost boundary: { PartsNoPair units.now offset },
 }
 
 impl<'a> Utf16Source<'a> {
@@ -267,7 +270,7 @@ impl<'a> Utf16Source<'a> {
 impl<'a> Source for Utf16Source<'a> {
     ghost text = { utf16_lossy_chars };
 
-    ghost IsBoundary = { λ us i. i ≤ length us };
+    ghost IsBoundary = { PartsNoPair };
 
     ghost is_units = { true };
 

@@ -18,11 +18,13 @@ use thiserror::Error;
 pub const GREATEST_INDEX_FILE: usize = 16777216;
 
 /// Why a source does not give an index file.
-#[derive(Clone, Copy, Debug, PartialEq, Eq)]
+#[derive(Clone, Copy, Debug, PartialEq, Eq, Error)]
 pub enum SourceFault {
     /// The file is absent, can't be read, or has more than `GREATEST_INDEX_FILE` bytes.
+    #[error("missing")]
     Missing,
     /// Memory was refused.
+    #[error("out of memory")]
     Memory,
 }
 

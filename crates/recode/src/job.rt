@@ -2,10 +2,8 @@
 
 use encoding_front::{Encoding, Mark, Reference};
 use encoding_tables::Tables;
+use recode_words::GREATEST_LIMIT;
 use thiserror::Error;
-
-/// The greatest limit of a job, in bytes.
-pub const GREATEST_LIMIT: u64 = 1 << 48;
 
 /// What to recode, and how.
 #[derive(Clone, Copy)]

@@ -6,7 +6,7 @@ use crate::sink::{Failure, Manners, Sink, WILLING};
 use crate::source::{Reads, Source};
 use crate::turns::Turns;
 use encoding_front::Encoding;
-use recode::program::program;
+use recode::program;
 use recode::{IndexSource, SourceFault};
 use recode_log::counted::Counted;
 use std::alloc::Global;

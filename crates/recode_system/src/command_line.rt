@@ -4,7 +4,7 @@ ghost use Rattle.recode.specs.Program.{devices};
 ghost use Rattle.recode_system.specs.CommandLine.{AnswersSystem};
 
 use crate::system_files::SystemFiles;
-use recode::program::{NOT_STARTED, REFUSED, program};
+use recode::{NOT_STARTED, REFUSED, program};
 use recode_log::counted::Counted;
 use recode_log::deliver::deliver;
 use std::alloc::{AllocError, Global};

@@ -2,9 +2,9 @@
 #![tactic(auto)]
 
 mod command;
+pub mod laws;
 pub mod request;
 mod values;
-pub mod word_laws;
 pub mod words;
 
 pub use command::VERSION;

@@ -6,8 +6,9 @@ use crate::command::command;
 use crate::values::{Values, WrongValue};
 use crate::words::Words;
 use clap::error::ErrorKind;
-use clap::{Command, Error};
+use clap::Command;
 use std::alloc::{AllocError, Global};
+use thiserror::Error;
 
 /// What the words ask for.
 #[derive(Debug, Drop)]
@@ -23,11 +24,13 @@ pub enum Request<'a> {
 }
 
 /// Why the words ask for nothing.
-#[derive(Debug, Drop)]
+#[derive(Debug, Drop, Error)]
 pub enum WordsFault {
     /// The words are refused, for the reason that this text gives; it is clap's, and shows the usage.
+    #[error("{0}")]
     Refused(String),
     /// Memory was refused.
+    #[error("out of memory")]
     OutOfMemory,
 }
 
@@ -42,7 +45,7 @@ impl From<AllocError> for WordsFault {
 }
 
 // The text of a parse that ended early, with a line feed at its end.
-fn text_of(alloc: Global, error: &Error) -> Result<String, AllocError>
+fn text_of(alloc: Global, error: &clap::Error) -> Result<String, AllocError>
     ensures { IfOk result (λ text. IsLine (string_bytes text)) }
 {
     let mut text = format!(in alloc; "{error}")?;
@@ -64,7 +67,7 @@ fn has_list(words: &[&str]) -> bool
 // What a parse that ended early returns.
 fn early_answer<'a>(
     alloc: Global,
-    error: &Error,
+    error: &clap::Error,
     words: &'a [&'a str],
 ) -> Result<Request<'a>, WordsFault>
     requires named { 0 < length words.now }

@@ -1,8 +1,10 @@
 ghost use Rattle.std.specs.Prelude.{◌≡◌};
 ghost use Rattle.recode_words.specs.Meaning.{limit_of, mark_named, pivot_of, policy_named};
 
-/// The greatest limit, in bytes of input: 2^48.
-pub const GREATEST_LIMIT: u64 = 281474976710656;
+use recode_log::GREATEST_OFFSET;
+
+/// The greatest limit, in bytes of input: 2^48, the greatest offset of a line of the log.
+pub const GREATEST_LIMIT: u64 = GREATEST_OFFSET;
 
 /// What is done with a byte order mark at the start of the input.
 #[derive(Clone, Copy, Debug, PartialEq, Eq)]
