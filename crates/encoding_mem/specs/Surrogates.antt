@@ -13,10 +13,6 @@ IsLowSurrogate u = IsInRange 0xDC00 0xDFFF u
 abbrev pub IsSurrogatePair : ℕ → ℕ → Type 0
 IsSurrogatePair u v = IsHighSurrogate u × IsLowSurrogate v
 
--- an offset that parts no pair: the units beside it are not the two of one character
-abbrev pub PartsNoPair : List ℕ → ℕ → Type 0
-PartsNoPair units i = (k : ℕ) → k + 1 ≡ i → ¬ IsSurrogatePair (slice_index units k) (slice_index units i)
-
 -- the unit at i is a surrogate with no partner: a first one that no second one follows, or a second one
 -- that follows no first one
 abbrev pub IsLoneSurrogate : List ℕ → ℕ → Type 0

@@ -1,7 +1,7 @@
 -- Worked rows of `specs/Surrogates.antt`: the first and the last surrogates of both kinds, and the units beside them.
 -- What is done about those without a partner is in `Texts`.
 use Rattle.std.proofs.Common.{inl, inr, [], ◌∷◌, refl, arith}
-use Rattle.encoding_mem.specs.Surrogates.{IsHighSurrogate, IsLowSurrogate, IsLoneSurrogate, PartsNoPair}
+use Rattle.encoding_mem.specs.Surrogates.{IsHighSurrogate, IsLowSurrogate, IsLoneSurrogate}
 
 before_the_first_high : ¬ (IsHighSurrogate 0xD7FF)
 before_the_first_high high = absurd (omega (arith, high.0))
@@ -42,16 +42,3 @@ high_before_letter = inl ((omega arith, omega arith), λ low. absurd (omega (ari
 
 high_at_the_end : IsLoneSurrogate (0x41 ∷ 0xD83D ∷ []) 1
 high_at_the_end = inl ((omega arith, omega arith), λ low. absurd (omega (arith, low.0)))
-
--- between the two units of U+1F4A9 a pair is parted, and nowhere else in them; between a high one and a letter none is
-within_a_pair : ¬ (PartsNoPair (0xD83D ∷ 0xDCA9 ∷ []) 1)
-within_a_pair whole = whole 0 refl ((omega arith, omega arith), (omega arith, omega arith))
-
-before_a_pair : PartsNoPair (0xD83D ∷ 0xDCA9 ∷ []) 0
-before_a_pair k next pair = absurd (omega arith)
-
-behind_a_pair : PartsNoPair (0xD83D ∷ 0xDCA9 ∷ []) 2
-behind_a_pair k next pair = absurd (omega (arith, pair.1.0))
-
-before_a_letter : PartsNoPair (0xD83D ∷ 0x41 ∷ []) 1
-before_a_letter k next pair = absurd (omega (arith, pair.1.0))
