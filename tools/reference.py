@@ -131,7 +131,8 @@ def items(path):
             body, behind = block(lines, index + 1)
             trait = (implementation[1] or "").replace("fmt::", "")
             members = [] if trait else list(parts(body, place, False))
-            implementations.append((implementation[2], re.sub("<'.*?>", "", trait), members))
+            target = (implementation[2] + implementation[3]).strip()
+            implementations.append((implementation[2], target, re.sub("<'.*?>", "", trait), members))
             index = behind
         elif start:
             kind = re.search(r"\b(fn|struct|enum|trait|const|type)\b", line)[1]
@@ -177,8 +178,10 @@ def library(crate):
         item.path = path
         found.append(item)
     types = {item.name: item for item in found}
+    aliases = {item.code[0].split(" = ")[1].rstrip(";"): item.name for item in found if item.kind == "type"}
     for _, _, implementations in sources.values():
-        for name, trait, members in implementations:
+        for name, target, trait, members in implementations:
+            name = aliases.get(target, name)
             if name in types and trait:
                 types[name].implements.append(trait)
             elif name in types:

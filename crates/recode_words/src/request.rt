@@ -10,7 +10,7 @@ use clap::Command;
 use std::alloc::{AllocError, Global};
 use thiserror::Error;
 
-/// What the words ask for.
+/// What the words of the command line ask for.
 #[derive(Debug, Drop)]
 pub enum Request<'a> {
     /// To convert.
@@ -23,10 +23,11 @@ pub enum Request<'a> {
     List,
 }
 
-/// Why the words ask for nothing.
+/// Why the words of the command line ask for nothing. `Display` shows the text, or `out of memory`.
 #[derive(Debug, Drop, Error)]
 pub enum WordsFault {
-    /// The words are refused, for the reason that this text gives; it is clap's, and shows the usage.
+    /// The words are refused, for the reason that this text gives. The text is clap's, ends with a
+    /// line feed, and shows the usage.
     #[error("{0}")]
     Refused(String),
     /// Memory was refused.
@@ -104,14 +105,17 @@ fn refusal(
     text_of(alloc, &error)
 }
 
-/// What the words ask for, the program's name first: `recode --from LABEL --to LABEL [--indexes
-/// DIR] [--mark sniff|remove|keep] [--unmappable decimal|hexadecimal|stop] [--pivot utf8|utf16]
-/// [--limit N]`, or `--help`, `--version` or `--list`, which is the result wherever no word before
-/// it is refused. With `--version` and `--list` it is the list.
+/// What the words of the command line ask for, the program's name first: `recode --from LABEL --to
+/// LABEL [--indexes DIR] [--mark sniff|remove|keep] [--unmappable decimal|hexadecimal|stop]
+/// [--pivot utf8|utf16] [--limit N]`, or `--help`, `--version` or `--list`, which is the result
+/// wherever no word before it is refused. With `--version` and `--list` it is the list.
 ///
 /// The defaults are `.`, `sniff`, `decimal`, `utf8` and 2^48, which is also the greatest N; N is
 /// decimal digits with no sign. An option that is given twice, one with no value, an unknown one
 /// and a word that is no option are refused. An empty label or folder is a value as any other.
+///
+/// The error is `Refused` with a text for the log, or `OutOfMemory`. The condition, that there is a
+/// word at least, is tested by `is_empty`.
 pub fn parse_words<'a>(alloc: Global, words: &'a [&'a str]) -> Result<Request<'a>, WordsFault>
     requires { 0 < length words.now }
     ensures ok { IfOk result (AsksFor (map (λ s. s.now) words.now)) }

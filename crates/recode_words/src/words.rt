@@ -18,7 +18,7 @@ pub enum MarkWord {
 }
 
 impl MarkWord {
-    /// The variant with this name, or `None` if there is none.
+    /// The variant whose word this is, in lower case, or `None` where it is none of them.
     pub fn from_name(name: &str) -> Option<MarkWord>
         ensures { result ≡ mark_named name.now }
     {
@@ -43,7 +43,7 @@ pub enum PolicyWord {
 }
 
 impl PolicyWord {
-    /// The variant with this name, or `None` if there is none.
+    /// The variant whose word this is, in lower case, or `None` where it is none of them.
     pub fn from_name(name: &str) -> Option<PolicyWord>
         ensures { result ≡ policy_named name.now }
     {
@@ -66,7 +66,7 @@ pub enum PivotWord {
 }
 
 impl PivotWord {
-    /// The variant with this name, or `None` if there is none.
+    /// The variant whose word this is, in lower case, or `None` where it is none of them.
     pub fn from_name(name: &str) -> Option<PivotWord>
         ensures { result ≡ pivot_of name.now }
     {
@@ -78,8 +78,8 @@ impl PivotWord {
     }
 }
 
-/// What to convert, and how, as the words say it. Whether a label names an encoding, and whether the
-/// folder has the index files, is not asked yet.
+/// What to convert, and how, as the command line says it. Whether a label names an encoding, and
+/// whether the folder has the index files, is not asked yet.
 #[derive(Clone, Copy, Debug)]
 pub struct Words<'a> {
     /// The label of the input's encoding.
