@@ -21,6 +21,9 @@ LIBRARIES = [
     "recode_log", "recode_words", "recode", "recode_system",
 ]  # fmt: skip
 
+# The program that makes the examples of the libraries' pages.
+EXAMPLES = "library_examples"
+
 # Lists of names, of encodings and of their indexes: each name says what it is, and the list has the doc comment.
 NAME_LISTS = {"Encoding", "IndexKind", "encoding_labels::places"}
 
@@ -263,9 +266,28 @@ def undocumented():
                     yield "%s: %s has no doc comment" % (part.place, name)
 
 
+def example(crate):
+    """The lines between `// CRATE` and `// end` in the program that makes the examples."""
+    folder = os.path.join(TOP, "crates", EXAMPLES, "src")
+    for name in sorted(os.listdir(folder)):
+        found = re.search(r"^ *// %s\n(.*?)^ *// end$" % crate, read(os.path.join(folder, name)), re.M | re.S)
+        if found:
+            return dedent(found[1].rstrip("\n").split("\n"))
+    return []
+
+
+def unmade_examples():
+    for crate in LIBRARIES:
+        page = library(crate)[0]
+        shown = dedent([line for line in page if line.startswith("    ")])
+        if not shown or shown != [line for line in example(crate) if line]:
+            yield "crates/%s/src/lib.rt shows no lines of use, or others than %s makes" % (crate, EXAMPLES)
+
+
 def faults():
-    """What `make lint` tells: public items without a doc comment, and pages that are not of these sources."""
+    """What `make lint` tells: items without a doc comment, examples that are not made, pages that are not written."""
     yield from undocumented()
+    yield from unmade_examples()
     written = dict(pages())
     for name, text in written.items():
         path = os.path.join(PAGES, name)
