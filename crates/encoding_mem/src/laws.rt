@@ -3,7 +3,8 @@
 pub use crate::conversion_laws::{latin1_reads_back, utf16_reads_back};
 pub use crate::decoder_laws::{
     calls_have_events, malformed_sequences_have_bytes, malformed_utf8_is_maximal_subpart,
-    pieces_are_taken_soon, pieces_give_at_most_two, undecided_decides_nothing, utf8_text_reads_back,
+    pieces_are_taken_soon, pieces_give_at_most_two, undecided_decides_nothing,
+    utf8_text_reads_back,
 };
 pub use crate::encoder_laws::{
     broken_stays_broken, bytes_of_items, calls_have_verdicts, calls_read_back, encoded_bytes,

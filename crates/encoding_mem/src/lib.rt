@@ -99,6 +99,6 @@ pub use utf8_conversions::{
 };
 pub use utf8_encoder::Utf8Encoder;
 pub use utf8_sink::Utf8Sink;
-pub use utf16_sink::Utf16Sink;
 pub use utf16_conversions::{convert_utf16_to_utf8, convert_utf16_to_utf8_partial};
+pub use utf16_sink::Utf16Sink;
 pub use validity::{ensure_utf16_validity, utf8_valid_up_to, utf16_valid_up_to};

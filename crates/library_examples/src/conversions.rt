@@ -1,8 +1,6 @@
 //! Examples of the engine and of the program as a call.
 
-use recode::{
-    Buffers, Counted, Encoding, GREATEST_LIMIT, Job, Mark, Pivot, Policy, Tables, run,
-};
+use recode::{Buffers, Counted, Encoding, GREATEST_LIMIT, Job, Mark, Pivot, Policy, Tables, run};
 use recode_system::answer;
 use std::alloc::Global;
 

@@ -29,7 +29,10 @@ pub(crate) fn converts_streams(alloc: Global) -> anyhow::Result<bool> {
 
 pub(crate) fn writes_a_line(alloc: Global) -> anyhow::Result<bool> {
     // recode_log
-    let line = LogLine::Bad { offset: 6, length: 1 };
+    let line = LogLine::Bad {
+        offset: 6,
+        length: 1,
+    };
     let mut room = [0; 32];
     if !line.is_valid() {
         return Ok(false);

@@ -4,8 +4,8 @@ use encoding_codecs::EucKrEncoder;
 use encoding_index::load;
 use encoding_labels::{label_number, places};
 use encoding_mem::{
-    DecoderResult, EncoderResult, RawDecoder, RawEncoder, Utf8Decoder, convert_utf16_to_utf8_partial,
-    is_utf8_latin1, utf8_valid_up_to,
+    DecoderResult, EncoderResult, RawDecoder, RawEncoder, Utf8Decoder,
+    convert_utf16_to_utf8_partial, is_utf8_latin1, utf8_valid_up_to,
 };
 use encoding_tables::{IndexKind, SingleByteDecoder, Tables};
 use std::alloc::Global;

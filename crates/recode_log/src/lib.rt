@@ -4,7 +4,10 @@
 //!
 //! # Use
 //!
-//!     let line = LogLine::Bad { offset: 6, length: 1 };
+//!     let line = LogLine::Bad {
+//!         offset: 6,
+//!         length: 1,
+//!     };
 //!     let mut room = [0; 32];
 //!     if !line.is_valid() {
 //!         return Ok(false);

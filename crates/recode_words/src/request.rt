@@ -5,8 +5,8 @@ ghost use Rattle.recode_words.specs.Request.{AsksFor, HasGoodLimit, IsFaultOf, I
 use crate::command::command;
 use crate::values::{Values, WrongValue};
 use crate::words::Words;
-use clap::error::ErrorKind;
 use clap::Command;
+use clap::error::ErrorKind;
 use std::alloc::{AllocError, Global};
 use thiserror::Error;
 
