@@ -91,8 +91,8 @@ pub trait StreamDecoder {
 ///   bytes are handed in again, first, in the next call.
 /// - `InputEmpty`: all is read. After a call with `last` the decoder is finished: `is_finished`
 ///   returns true, and only it and `encoding` may be called.
-/// - `OutputFull`: make room, and call again with the unread bytes and the same `last`, also where
-///   none is unread. Room for 4 bytes or 2 units is always enough to go on.
+/// - `OutputFull`: make room, and call again with the unread bytes and `last` as it was, also where
+///   nothing is unread. Room for 4 bytes or 2 units is always enough to go on.
 /// - `Malformed`, in calls without replacement: write U+FFFD or not, and call again as after
 ///   `OutputFull`. Calls with replacement write U+FFFD themselves.
 /// - Room of the size that the length query returns for the next bytes is enough for them, whatever

@@ -31,8 +31,8 @@ use std::marker::Model;
 ///   text is handed in again, first, in the next call.
 /// - `InputEmpty`: all is read. After a call with `last` the set is ASCII again, and the encoder is
 ///   as a new one.
-/// - `OutputFull`: make room, and call again with the unread text and the same `last`, also where
-///   none is unread. Room for 4 bytes is always enough to go on without replacement, and for 14
+/// - `OutputFull`: make room, and call again with the unread text and `last` as it was, also where
+///   nothing is unread. Room for 4 bytes is always enough to go on without replacement, and for 14
 ///   with it.
 /// - `Unmappable`, in calls without replacement: the character that was read last has no bytes.
 ///   Write its reference (`write_reference`) or something else in ASCII, and call again as after

@@ -6,8 +6,8 @@ pub enum DecoderResult {
     /// is decoded.
     InputEmpty,
     /// Fewer than 4 bytes, or 2 units of UTF-16, are free behind what is written, and something is
-    /// left to do: make room, and call again with what is unread and the same `last`, also where
-    /// none is unread.
+    /// left to do: make room, and call again with what is unread and `last` as it was, also where
+    /// nothing is unread.
     OutputFull,
     /// A malformed sequence. The first number is its length in bytes, 1 to 4; the second is how
     /// many bytes, 0 to 3, were read behind it and are pending. Room for U+FFFD is free: the caller

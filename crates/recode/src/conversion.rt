@@ -91,7 +91,7 @@ fn tell<L: Write>(log: &mut Counted<L>, fault: Fault)
 ///
 /// - 0 (`FAITHFUL`): all was converted and no call failed, output and log are whole, and nothing
 ///   was lost: no piece of the input is malformed, and the output reads back as the input's text.
-/// - 1 (`NOT_FAITHFUL`): the same, but something was lost. The log has a line for each malformed
+/// - 1 (`NOT_FAITHFUL`): all was converted, and something was lost. The log has a line for each malformed
 ///   sequence and each character without bytes; it can be empty, where a character was written as
 ///   bytes that do not read back as it. None is where `encoding_front::Encoding::keeps_characters`
 ///   holds of the target.
