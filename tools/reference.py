@@ -163,12 +163,15 @@ def uses(text):
 def library(crate):
     """A library's page comment, its items by path, and its re-exports from other crates."""
     folder = os.path.join(TOP, "crates", crate, "src")
-    sources = {name[:-3]: items(os.path.join(folder, name)) for name in sorted(os.listdir(folder)) if name != "lib.rt"}
+    names = sorted(name[:-3] for name in os.listdir(folder) if name != "lib.rt")
+    texts = {name: read(os.path.join(folder, name + ".rt")) for name in names}
+    private = {trait for text in texts.values() for trait in re.findall(r"^(?:pub\(crate\) )?trait (\w+)", text, re.M)}
+    sources = {name: items(os.path.join(folder, name + ".rt")) for name in names}
     root = read(os.path.join(folder, "lib.rt"))
     page, paths, foreign = items(os.path.join(folder, "lib.rt"))[0], {}, []
     for module in re.findall(r"^pub mod (\w+);", root, re.M):
         reached = [(module, name) for name in sources[module][1]]
-        for origin, name in reached + list(uses(read(os.path.join(folder, module + ".rt")))):
+        for origin, name in reached + list(uses(texts[module])):
             paths[origin, name] = "%s::%s" % (module, name)
     for origin, name in uses(root):
         if origin in sources:
@@ -185,9 +188,9 @@ def library(crate):
     for _, _, implementations in sources.values():
         for name, target, trait, members in implementations:
             name = aliases.get(target, name)
-            if name in types and trait:
+            if name in types and trait and trait not in private:
                 types[name].implements.append(trait)
-            elif name in types:
+            elif name in types and not trait:
                 types[name].members += members
     return page, sorted(found, key=lambda item: (item.path.count("::"), item.path.lower())), sorted(foreign)
 
