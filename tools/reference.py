@@ -235,7 +235,7 @@ def pages():
     for crate in LIBRARIES:
         page, found, foreign = library(crate)
         lines = ["# %s" % crate, "", "<!-- Written by tools/reference.py from the sources; do not edit. -->", ""]
-        lines += page + [""]
+        lines += ["#" + line if line.startswith("# ") else line for line in page] + [""]
         if foreign:
             lines += ["Re-exported from lower crates: %s." % ", ".join("`%s`" % name for name in foreign), ""]
         for heading in dict.fromkeys(heading for _, heading in HEADINGS):
