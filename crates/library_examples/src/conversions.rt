@@ -29,8 +29,8 @@ pub(crate) fn converts_a_stream(alloc: Global) -> anyhow::Result<bool> {
     let mut log = Counted::new(Vec::new(alloc));
     let report = run(&mut reader, &mut writer, &mut log, job, &mut buffers)?;
     // end
-    let is_written = writer.get_ref().as_slice() == b"c\xC3\xA9\xEF\xBF\xBD";
-    Ok(is_written && log.get_ref().as_slice() == b"bad 4 2\n" && !report.faithful)
+    let is_written = writer.get_ref().as_slice() == b"c\xC3\xA9\xEF\xBF\xBD".as_slice();
+    Ok(is_written && log.get_ref().as_slice() == b"bad 4 2\n".as_slice() && !report.faithful)
 }
 
 pub(crate) fn answers_words(rt: HostRuntime) -> anyhow::Result<u8> {

@@ -41,7 +41,11 @@ pub(crate) fn writes_a_line(alloc: Global) -> anyhow::Result<bool> {
     let mut log = Counted::new(Vec::new(alloc));
     let delivered = deliver(&mut log, &room[..len], "log fault");
     // end
-    Ok(delivered.is_ok() && log.failures() == 0 && log.get_ref().as_slice() == b"bad 6 1\n")
+    Ok(
+        delivered.is_ok()
+            && log.failures() == 0
+            && log.get_ref().as_slice() == b"bad 6 1\n".as_slice(),
+    )
 }
 
 pub(crate) fn reads_words(alloc: Global) -> anyhow::Result<bool> {

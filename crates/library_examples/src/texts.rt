@@ -46,7 +46,11 @@ pub(crate) fn decodes_by_a_list(alloc: Global) -> anyhow::Result<bool> {
     let mut text = [0; 8];
     let (result, read, written) = decoder.decode_to_utf8_raw(b"a\x80", &mut text, true);
     // end
-    Ok(result == DecoderResult::InputEmpty && read == 2 && text[..written] == *b"a\xE2\x82\xAC")
+    Ok(
+        result == DecoderResult::InputEmpty
+            && read == 2
+            && &text[..written] == b"a\xE2\x82\xAC".as_slice(),
+    )
 }
 
 pub(crate) fn encodes_by_a_list(alloc: Global) -> anyhow::Result<bool> {
@@ -60,7 +64,11 @@ pub(crate) fn encodes_by_a_list(alloc: Global) -> anyhow::Result<bool> {
     let mut bytes = [0; 8];
     let (result, read, written) = encoder.encode_from_utf8_raw("a\u{AC02}", &mut bytes, true);
     // end
-    Ok(result == EncoderResult::InputEmpty && read == 4 && bytes[..written] == *b"a\x81\x41")
+    Ok(
+        result == EncoderResult::InputEmpty
+            && read == 4
+            && &bytes[..written] == b"a\x81\x41".as_slice(),
+    )
 }
 
 pub(crate) fn loads_a_text(alloc: Global) -> anyhow::Result<bool> {
