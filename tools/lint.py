@@ -8,12 +8,15 @@
 - `docs/DEFINITIONS.md` names each file of definitions, and no other.
 - Each edit of `must-fail/` and `edits/` names a file, and each text that it replaces stands in it once.
 - Each root file begins its code with the tactic that proofs are found by, and no handle is allowed.
+- Each public item of a library has a doc comment, and `docs/reference` is what `make doc` writes (`tools/reference.py`).
 """
 
 import collections
 import os
 import re
 import sys
+
+import reference
 
 TOP = os.path.join(os.path.dirname(os.path.abspath(__file__)), "..")
 CRATES = os.path.join(TOP, "crates")
@@ -116,7 +119,8 @@ def roots():
 
 
 def main():
-    faults = [fault for check in (double_names, long_lines, unnamed_definitions, edits, roots) for fault in check()]
+    checks = (double_names, long_lines, unnamed_definitions, edits, roots, reference.faults)
+    faults = [fault for check in checks for fault in check()]
     for fault in faults:
         print(fault)
     return 1 if faults else 0

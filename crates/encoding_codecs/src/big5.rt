@@ -120,13 +120,19 @@ impl<'a> LeadByteRule for Big5<'a> {
     }
 }
 
-/// Decodes Big5: 00 to 7F give themselves, a lead from 81 to FE and a trail from 40 to 7E or from A1 to FE
-/// the entry at `(lead - 81) * 157 + trail - offset`, where the bytes are hexadecimal and the offset is 40
-/// or 62. Four pointers give a letter and a combining mark.
+/// The decoder of Big5, by its index (the Encoding Standard, section 11.1.1). Bytes are
+/// hexadecimal: 00 to 7F are ASCII; a lead from 81 to FE and a trail from 40 to 7E or A1 to FE are
+/// the entry at the pointer `(lead - 81) * 157 + (trail - offset)`, where the offset is 40 below 7F
+/// and else 62. Four pointers give a letter and a combining mark.
+///
+/// 80 and FF are malformed, and so is a lead at the end. A lead with a trail with which it gives
+/// nothing is malformed: both bytes, but the lead alone where the other is ASCII. One byte may be
+/// pending.
 pub type Big5Decoder<'a> = CodecDecoder<LeadByteDecoderRule<Big5<'a>>>;
 
 impl<'a> CodecDecoder<LeadByteDecoderRule<Big5<'a>>> {
-    /// The decoder of tables in which the index is there. Nothing is pending.
+    /// A decoder of a new stream. The condition, that the index is in `tables`, is tested by
+    /// `Tables::has`.
     pub fn new(tables: &'a Tables) -> Self
         requires { has tables.now IndexKind.Big5 ≡ true }
         ensures { IsFreshDecoder (⟦<Big5Decoder<'a> as RawDecoder>⟧.state result)
@@ -138,16 +144,18 @@ impl<'a> CodecDecoder<LeadByteDecoderRule<Big5<'a>>> {
     }
 }
 
-/// Encodes to Big5: ASCII gives itself, another character the lead and the trail of its least pointer
-/// from 5024 on, or of its greatest for U+2550, U+255E, U+2561, U+256A, U+5341 and U+5345. One without
-/// a pointer is unmappable. There is no state.
+/// The encoder of Big5, by its index (the Encoding Standard, section 11.1.2). ASCII is itself;
+/// another character is the lead and the trail of its least pointer from 5024 on, or of its
+/// greatest for U+2550, U+255E, U+2561, U+256A, U+5341 and U+5345; one without such a pointer is
+/// unmappable. It has no state.
 #[derive(Drop)]
 pub struct Big5Encoder<'a> {
     flat: Flat<'a>,
 }
 
 impl<'a> Big5Encoder<'a> {
-    /// The encoder of tables in which the index is there.
+    /// An encoder of a new stream. The condition, that the index is in `tables`, is tested by
+    /// `Tables::has`.
     pub fn new(tables: &'a Tables) -> Self
         requires { has tables.now IndexKind.Big5 ≡ true }
         ensures { IsFreshEncoder (⟦<Big5Encoder<'a> as SourceEncoder>⟧.parts result) 2

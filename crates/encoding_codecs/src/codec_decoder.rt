@@ -6,8 +6,8 @@ use encoding_mem::room::DecodedLength;
 use encoding_mem::sink::Sink;
 use encoding_mem::sink_decoder::{Buffered, SinkDecoder};
 
-/// The decoder of an encoding, by its rule `R`. The decoders of this crate are names for it, each
-/// with its own `new`. It is a `RawDecoder`.
+/// The decoder of an encoding of this crate, by its rule `R`. `Big5Decoder` and its like are names
+/// for it, each with its own `new`. It is a `RawDecoder`, whose rule of use it has.
 #[derive(Drop)]
 pub struct CodecDecoder<R: DecoderRule> {
     inner: Buffered<R>,

@@ -119,15 +119,19 @@ fn after_8f(jis0212: &Flat<'_>, rest: &[u8], last: bool) -> FirstPiece
     }
 }
 
-/// Decodes EUC-JP: 00 to 7F give themselves. 8E and a byte from A1 to DF give halfwidth katakana,
-/// two bytes from A1 to FE the entry of jis0208 at their pointer, and 8F and two such bytes that of
-/// jis0212. A lead is malformed alone at the end and before ASCII; with another byte with which it
-/// gives nothing both are malformed. The same holds of 8F and a byte from A1 to FE before a third:
-/// two bytes are malformed, or all three.
+/// The decoder of EUC-JP, by the indexes jis0208 and jis0212 (the Encoding Standard, section
+/// 12.1.1). Bytes are hexadecimal: 00 to 7F are ASCII; 8E and a byte from A1 to DF are halfwidth
+/// katakana; two bytes from A1 to FE are the entry of jis0208 at their pointer, and 8F and two such
+/// bytes that of jis0212.
+///
+/// Other first bytes are malformed, and so is a lead at the end. A lead with a byte with which it
+/// gives nothing is malformed: both bytes, but the lead alone where the other is ASCII. Behind 8F
+/// and a byte from A1 to FE it is those two bytes, or all three. Up to two bytes may be pending.
 pub type EucJpDecoder<'a> = CodecDecoder<LeadByteDecoderRule<EucJpLeads<'a>>>;
 
 impl<'a> CodecDecoder<LeadByteDecoderRule<EucJpLeads<'a>>> {
-    /// The decoder over tables with jis0208 and jis0212. Nothing is pending.
+    /// A decoder of a new stream. The conditions, that both indexes are in `tables`, are tested by
+    /// `Tables::has`.
     pub fn new(tables: &'a Tables) -> Self
         requires jis0208 { has tables.now IndexKind.Jis0208 ≡ true }
         requires jis0212 { has tables.now IndexKind.Jis0212 ≡ true }
@@ -183,16 +187,18 @@ fn bytes_of_pointer(pointer: u32) -> Bytes
     Bytes::two((0xA1 + pointer / 94) as u8, (0xA1 + pointer % 94) as u8)
 }
 
-/// Encodes to EUC-JP: ASCII, U+00A5 (5C) and U+203E (7E) are one byte, halfwidth katakana is 8E and a byte;
-/// another character is two bytes, by its least pointer of jis0208 below 8836. U+2212 is looked up as
-/// U+FF0D. One without a pointer is unmappable: jis0212 is never written. There is no state.
+/// The encoder of EUC-JP, by the index jis0208 (the Encoding Standard, section 12.1.2). ASCII,
+/// U+00A5 (5C) and U+203E (7E) are one byte, halfwidth katakana is 8E and a byte; another character
+/// is two bytes, by its least pointer below 8836, and U+2212 is looked up as U+FF0D. One without a
+/// pointer is unmappable: jis0212 is never written. It has no state.
 #[derive(Drop)]
 pub struct EucJpEncoder<'a> {
     jis0208: Flat<'a>,
 }
 
 impl<'a> EucJpEncoder<'a> {
-    /// The encoder over tables with jis0208.
+    /// An encoder of a new stream. The condition, that the index is in `tables`, is tested by
+    /// `Tables::has`.
     pub fn new(tables: &'a Tables) -> Self
         requires { has tables.now IndexKind.Jis0208 ≡ true }
         ensures { IsFreshEncoder (⟦<EucJpEncoder<'a> as SourceEncoder>⟧.parts result) 2

@@ -70,12 +70,18 @@ impl<'a> EucKr<'a> {
     }
 }
 
-/// Decodes EUC-KR: 00 to 7F give themselves, a lead from 81 and a trail from 41, each to FE, the entry at
-/// `(lead - 81) * 190 + trail - 41`, where the bytes are hexadecimal.
+/// The decoder of EUC-KR, by its index (the Encoding Standard, section 13.1.1). Bytes are
+/// hexadecimal: 00 to 7F are ASCII; a lead from 81 to FE and a trail from 41 to FE are the entry at
+/// the pointer `(lead - 81) * 190 + (trail - 41)`.
+///
+/// 80 and FF are malformed, and so is a lead at the end. A lead with a trail with which it gives
+/// nothing is malformed: both bytes, but the lead alone where the other is ASCII. One byte may be
+/// pending.
 pub type EucKrDecoder<'a> = CodecDecoder<LeadByteDecoderRule<EucKr<'a>>>;
 
 impl<'a> CodecDecoder<LeadByteDecoderRule<EucKr<'a>>> {
-    /// The decoder of tables in which the index is there. Nothing is pending.
+    /// A decoder of a new stream. The condition, that the index is in `tables`, is tested by
+    /// `Tables::has`.
     pub fn new(tables: &'a Tables) -> Self
         requires { has tables.now IndexKind.EucKr ≡ true }
         ensures { IsFreshDecoder (⟦<EucKrDecoder<'a> as RawDecoder>⟧.state result)
@@ -87,15 +93,17 @@ impl<'a> CodecDecoder<LeadByteDecoderRule<EucKr<'a>>> {
     }
 }
 
-/// Encodes to EUC-KR: ASCII gives itself, another character the lead and the trail of the least pointer
-/// with it. One without a pointer is unmappable. There is no state.
+/// The encoder of EUC-KR, by its index (the Encoding Standard, section 13.1.2). ASCII is itself;
+/// another character is the lead and the trail of its least pointer; one without a pointer is
+/// unmappable. It has no state.
 #[derive(Drop)]
 pub struct EucKrEncoder<'a> {
     flat: Flat<'a>,
 }
 
 impl<'a> EucKrEncoder<'a> {
-    /// The encoder of tables in which the index is there.
+    /// An encoder of a new stream. The condition, that the index is in `tables`, is tested by
+    /// `Tables::has`.
     pub fn new(tables: &'a Tables) -> Self
         requires { has tables.now IndexKind.EucKr ≡ true }
         ensures { IsFreshEncoder (⟦<EucKrEncoder<'a> as SourceEncoder>⟧.parts result) 2

@@ -177,12 +177,20 @@ fn first_piece_of_four(c: Option<char>) -> FirstPiece
     }
 }
 
-/// Decodes gb18030 and GBK. 00 to 7F give themselves, 80 gives U+20AC; a lead and a trail give the entry
-/// of the index at their pointer, four bytes the value of the ranges at theirs.
+/// The decoder of gb18030 and of GBK, by the index gb18030 and its ranges (the Encoding Standard,
+/// sections 10.1.1 and 10.2.1). Bytes are hexadecimal: 00 to 7F are ASCII, 80 is U+20AC; a lead (81
+/// to FE) and a trail (40 to 7E, 80 to FE) are the entry at their pointer; four bytes, of which the
+/// second and fourth are 30 to 39 and the third 81 to FE, are the value of the ranges at theirs.
+///
+/// FF is malformed, and so are a lead, or the beginning of four bytes, at the end. A lead with a
+/// byte with which it gives nothing is malformed: both bytes, but the lead alone where the other is
+/// ASCII. Where four bytes break off, the first is malformed, and the others are read again; four
+/// without a value are malformed. Up to three bytes may be pending.
 pub type Gb18030Decoder<'a> = CodecDecoder<LeadByteDecoderRule<Gb18030Rule<'a>>>;
 
 impl<'a> CodecDecoder<LeadByteDecoderRule<Gb18030Rule<'a>>> {
-    /// The decoder of tables that have the index and the ranges of gb18030. Nothing is pending.
+    /// A decoder of a new stream. The conditions, that the index and the ranges are in `tables`,
+    /// are tested by `Tables::has`.
     pub fn new(tables: &'a Tables) -> Self
         requires index { has tables.now IndexKind.Gb18030 ≡ true }
         requires ranges { has tables.now IndexKind.Gb18030Ranges ≡ true }

@@ -20,13 +20,16 @@ use encoding_mem::room::DecodedLength;
 use encoding_mem::{RawDecoder, iso_2022_jp_ascii_valid_up_to};
 use encoding_tables::{Flat, IndexKind, Tables};
 
-/// What an escape switches to.
+/// What an escape of ISO-2022-JP switches to.
 #[derive(Clone, Copy)]
 pub enum Mode {
+    /// ASCII, in which an input begins: 1B 28 42.
     Ascii,
+    /// The Roman set of JIS X 0201, in which 5C is U+00A5 and 7E is U+203E: 1B 28 4A.
     Roman,
+    /// Halfwidth katakana, the bytes 21 to 5F: 1B 28 49.
     Katakana,
-    /// JIS X 0208, two bytes a character.
+    /// JIS X 0208, two bytes from 21 to 7E a character: 1B 24 40 or 1B 24 42.
     Jis,
 }
 
@@ -290,11 +293,20 @@ fn entry_first_piece(entry: Option<char>) -> FirstPiece
     }
 }
 
-/// Decodes ISO-2022-JP. It begins in ASCII.
+/// The decoder of ISO-2022-JP, by the index jis0208 (the Encoding Standard, section 12.2.1). It
+/// begins in ASCII, and an escape switches to the set in which what follows is read: ASCII, Roman,
+/// halfwidth katakana, or the two-byte set of JIS X 0208.
+///
+/// Malformed are, one byte each: from 80 on any, 0E, 0F and 1B where no whole escape begins; in
+/// katakana all but 21 to 5F; in the two-byte set all but 21 to 7E, and a first byte that the end
+/// or an escape cuts off. Two bytes are malformed where the second is not 21 to 7E or their pointer
+/// has no entry. An escape gives nothing, but one with nothing between it and the next escape is
+/// malformed: 3 bytes. Up to five bytes may be pending.
 pub type Iso2022JpDecoder<'a> = CodecDecoder<Iso2022JpRule<'a>>;
 
 impl<'a> CodecDecoder<Iso2022JpRule<'a>> {
-    /// The decoder over tables that have index jis0208. Nothing is pending.
+    /// A decoder of a new stream, in ASCII. The condition, that the index is in `tables`, is tested
+    /// by `Tables::has`.
     pub fn new(tables: &'a Tables) -> Self
         requires { has tables.now IndexKind.Jis0208 ≡ true }
         ensures { IsFreshDecoder (⟦<Iso2022JpDecoder<'a> as RawDecoder>⟧.state result)
@@ -309,7 +321,8 @@ impl<'a> CodecDecoder<Iso2022JpRule<'a>> {
         })
     }
 
-    /// Whether no byte is pending and the mode is ASCII. A whole escape that nothing follows is pending.
+    /// Whether nothing is pending and the mode is ASCII, so that what follows is read as at the
+    /// start of an input. A whole escape behind which nothing was read yet is pending.
     pub fn in_neutral_state(&self) -> bool
         ensures { IsTrue result ↔ IsNeutral (⟦<Iso2022JpDecoder<'a> as RawDecoder>⟧.state self.now) }
     {

@@ -15,7 +15,15 @@ use encoding_mem::room::EncodedLength;
 use encoding_mem::source_encoder::SourceEncoder;
 use encoding_tables::{Flat, IndexKind, Tables};
 
-/// Encodes to ISO-2022-JP. It begins in ASCII, and after the end of a text it is in ASCII again.
+/// The encoder of ISO-2022-JP, by the indexes jis0208 and iso-2022-jp-katakana (the Encoding
+/// Standard, section 12.2.2). An output begins in ASCII, and a call with `last` ends it there.
+/// Before a character that the set in force lacks comes the escape to its set, 3 bytes.
+///
+/// ASCII is one byte, in ASCII or Roman (5C and 7E in ASCII alone); U+00A5 and U+203E are one byte
+/// in Roman; another character is two bytes in the set of JIS X 0208, by its least pointer below
+/// 8836, where U+2212 is looked up as U+FF0D, and halfwidth katakana as the index
+/// iso-2022-jp-katakana has it. U+000E, U+000F and U+001B are reported as U+FFFD; any other
+/// character without a pointer is unmappable.
 #[derive(Drop)]
 pub struct Iso2022JpEncoder<'a> {
     jis0208: Flat<'a>,
@@ -24,7 +32,8 @@ pub struct Iso2022JpEncoder<'a> {
 }
 
 impl<'a> Iso2022JpEncoder<'a> {
-    /// The encoder over tables that have the indexes jis0208 and iso-2022-jp-katakana.
+    /// An encoder of a new stream, in ASCII. The conditions, that both indexes are in `tables`, are
+    /// tested by `Tables::has`.
     pub fn new(tables: &'a Tables) -> Self
         requires jis0208 { has tables.now IndexKind.Jis0208 ≡ true }
         requires katakana { has tables.now IndexKind.Iso2022JpKatakana ≡ true }

@@ -57,24 +57,32 @@ pub fn shift_jis_steps()
         → StepLaw (shift_jis_coding jis0208) (in_any_set (pieces_shift_jis jis0208)) }
 {}
 
-/// The same of EUC-JP.
+/// What EUC-JP writes for a character, its bytes or its reference, reads back, by the decoder of
+/// the same index jis0208 and any jis0212, as that character, or begins with a piece that is
+/// malformed or another character, whatever follows it.
 pub fn euc_jp_steps()
     ensures { (jis0208 jis0212 : List ℕ) → AreEntries jis0208 → AreEntries jis0212
         → StepLaw (euc_jp_coding jis0208) (in_any_set (pieces_euc_jp jis0208 jis0212)) }
 {}
 
-/// The same of gb18030, and of GBK.
+/// What gb18030, or GBK, writes for a character, its bytes or its reference, reads back, by the
+/// decoder of the same index and ranges, as that character, or begins with a piece that is
+/// malformed or another character, whatever follows it.
 pub fn gb18030_steps()
     ensures { (flat : List ℕ) (rows : List (ℕ × ℕ)) (extended : Bool) → AreEntries flat → HaveScalars rows
         → StepLaw (gb18030_coding flat rows extended) (in_any_set (pieces_gb18030 flat rows)) }
 {}
 
-/// The same of EUC-KR.
+/// What EUC-KR writes for a character, its bytes or its reference, reads back, by the decoder of
+/// the same index, as that character, or begins with a piece that is malformed or another
+/// character, whatever follows it.
 pub fn euc_kr_steps()
     ensures { (flat : List ℕ) → AreEntries flat → StepLaw (euc_kr_coding flat) (in_any_set (pieces_euc_kr flat)) }
 {}
 
-/// The same of Big5.
+/// What Big5 writes for a character, its bytes or its reference, reads back, by the decoder of the
+/// same index, as that character, or begins with a piece that is malformed or another character,
+/// whatever follows it.
 pub fn big5_steps()
     ensures { (flat : List ℕ) → AreEntries flat → StepLaw (big5_coding flat) (in_any_set (pieces_big5 flat)) }
 {}

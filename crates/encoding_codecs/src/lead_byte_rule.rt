@@ -16,35 +16,40 @@ use encoding_mem::first_piece::{DecoderRule, FirstPiece};
 use encoding_mem::room::DecodedLength;
 use encoding_mem::sink_decoder::SinkDecoder;
 
-/// What a first byte from 80 on is.
+/// What a first byte from 80 hex on is, in an encoding whose characters begin with a lead.
 #[derive(Clone, Copy)]
 pub enum FirstByte {
-    /// It is a character alone.
+    /// A character of one byte.
     Alone(char),
-    /// It wants more bytes.
+    /// A lead: more bytes belong to it.
     Lead,
-    /// Nothing begins with it.
+    /// Nothing begins with it: it is malformed.
     Unused,
 }
 
-/// What an encoding makes of first bytes from 80 on, and of what follows its leads.
+/// What an encoding makes of first bytes from 80 hex on, and of the bytes behind a lead; ASCII is
+/// itself. `LeadByteDecoderRule` makes a decoding rule of it.
 pub trait LeadByteRule {
+    /// What first bytes are, the piece of a lead and all that follows it, and what of it is decided
+    /// by the bytes that are there.
     ghost rule: { Self → LeadRule };
 
+    /// That these three agree, and that each piece is one that a decoder may take.
     ghost laws: { (s : Self) → IsLeadByteRule (rule s).first (rule s).after (rule s).decide };
 
-    /// What a first byte is.
+    /// What a first byte is. The condition is that it is 80 hex or more.
     fn first(&self, byte: u8) -> FirstByte
         requires { 0x80 ≤ byte }
         ensures { result ≡ (rule self.now).first byte };
 
-    /// The piece of a lead and the bytes behind it, which go on unless they are the last.
+    /// The piece of a lead and of the bytes behind it, or `More` where what follows decides it;
+    /// `last` says that nothing follows. The condition is that `first` returns `Lead` for the lead.
     fn after_lead(&self, lead: u8, rest: &[u8], last: bool) -> FirstPiece
         requires { (rule self.now).first lead ≡ FirstByte.Lead }
         ensures { result ≡ (rule self.now).decide lead rest.now last };
 }
 
-/// The rule of such an encoding, for a decoder.
+/// The decoding rule of an encoding whose characters begin with a lead.
 #[derive(Drop)]
 pub struct LeadByteDecoderRule<T: LeadByteRule> {
     encoding: T,
@@ -106,7 +111,7 @@ impl<T: LeadByteRule> DecoderRule for LeadByteDecoderRule<T> {
 }
 
 impl<T: LeadByteRule> CodecDecoder<LeadByteDecoderRule<T>> {
-    /// Whether nothing is pending.
+    /// Whether nothing is pending, so that what follows is read as at the start of an input.
     pub fn in_neutral_state(&self) -> bool
         ensures { IsTrue result
             ↔ ((⟦<CodecDecoder<LeadByteDecoderRule<T>> as SinkDecoder>⟧.state self.now).pending ≡ 0) }

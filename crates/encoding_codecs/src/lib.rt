@@ -1,4 +1,23 @@
-//! The encodings of more than one byte a character, over the indexes of the Encoding Standard.
+//! The codecs of the encodings of more than one byte a character: Big5, EUC-JP, EUC-KR, gb18030
+//! with GBK, ISO-2022-JP and Shift_JIS (the Encoding Standard, sections 10 to 13), over the indexes
+//! in `encoding_tables::Tables`.
+//!
+//! A codec is made over tables that have its indexes, which `Tables::has` tests. How it is used
+//! stands with `encoding_mem::RawDecoder` and `RawEncoder`. `encoding_front::VariantDecoder` and
+//! `VariantEncoder` choose one by the encoding.
+//!
+//! # Use
+//!
+//!     let mut tables = Tables::new(alloc);
+//!     tables.insert_rows(IndexKind::EucKr, &[(0, 0xAC02)])?;
+//!     if !tables.has(IndexKind::EucKr) {
+//!         return Ok(false);
+//!     }
+//!     let mut encoder = EucKrEncoder::new(&tables);
+//!     let mut bytes = [0; 8];
+//!     let (result, read, written) = encoder.encode_from_utf8_raw("a\u{AC02}", &mut bytes, true);
+//!
+//! All of the text is read, and the bytes are 61 81 41.
 #![tactic(auto)]
 
 pub mod big5;
@@ -16,6 +35,7 @@ pub mod shift_jis;
 pub mod two_byte;
 
 pub use big5::{Big5Decoder, Big5Encoder};
+pub use encoding_mem::{DecoderResult, EncoderResult};
 pub use euc_jp::{EucJpDecoder, EucJpEncoder};
 pub use euc_kr::{EucKrDecoder, EucKrEncoder};
 pub use gb18030_decoder::Gb18030Decoder;

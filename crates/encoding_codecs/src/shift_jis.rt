@@ -163,15 +163,19 @@ fn bytes_of_pointer(pointer: u32) -> Bytes
     Bytes::two((row + lead_offset) as u8, (cell + trail_offset) as u8)
 }
 
-/// Decodes Shift_JIS: 00 to 7F give themselves, 80 gives U+0080, A1 to DF give halfwidth katakana.
-/// A lead (81 to 9F, E0 to FC) and a trail (40 to 7E, 80 to FC) give the entry of jis0208 at their
-/// pointer, or, for the pointers 8836 to 10715, a character for private use. A lead is malformed
-/// alone at the end and before ASCII with which it gives nothing; with another byte both are
-/// malformed.
+/// The decoder of Shift_JIS, by the index jis0208 (the Encoding Standard, section 12.3.1). Bytes
+/// are hexadecimal: 00 to 7F are ASCII, 80 is U+0080, A1 to DF are halfwidth katakana. A lead (81
+/// to 9F, E0 to FC) and a trail (40 to 7E, 80 to FC) are the entry at their pointer, or, for the
+/// pointers 8836 to 10715, a character for private use from U+E000 on.
+///
+/// Other first bytes are malformed, and so is a lead at the end. A lead with a byte with which it
+/// gives nothing is malformed: both bytes, but the lead alone where the other is ASCII. One byte
+/// may be pending.
 pub type ShiftJisDecoder<'a> = CodecDecoder<LeadByteDecoderRule<ShiftJis<'a>>>;
 
 impl<'a> CodecDecoder<LeadByteDecoderRule<ShiftJis<'a>>> {
-    /// The decoder over tables with jis0208. Nothing is pending.
+    /// A decoder of a new stream. The condition, that the index is in `tables`, is tested by
+    /// `Tables::has`.
     pub fn new(tables: &'a Tables) -> Self
         requires { has tables.now IndexKind.Jis0208 ≡ true }
         ensures { IsFreshDecoder (⟦<ShiftJisDecoder<'a> as RawDecoder>⟧.state result)
@@ -183,16 +187,18 @@ impl<'a> CodecDecoder<LeadByteDecoderRule<ShiftJis<'a>>> {
     }
 }
 
-/// Encodes to Shift_JIS: U+0000 to U+0080, U+00A5 (5C), U+203E (7E) and halfwidth katakana (A1 to DF) are
-/// one byte; another character is two, by its least pointer of jis0208 outside 8272 to 8835. U+2212 is
-/// looked up as U+FF0D. One without a pointer is unmappable. There is no state.
+/// The encoder of Shift_JIS, by the index jis0208 (the Encoding Standard, section 12.3.2). U+0000
+/// to U+0080, U+00A5 (5C), U+203E (7E) and halfwidth katakana (A1 to DF) are one byte; another
+/// character is two, by its least pointer outside 8272 to 8835, and U+2212 is looked up as U+FF0D.
+/// One without a pointer is unmappable. It has no state.
 #[derive(Drop)]
 pub struct ShiftJisEncoder<'a> {
     jis0208: Flat<'a>,
 }
 
 impl<'a> ShiftJisEncoder<'a> {
-    /// The encoder over tables with jis0208.
+    /// An encoder of a new stream. The condition, that the index is in `tables`, is tested by
+    /// `Tables::has`.
     pub fn new(tables: &'a Tables) -> Self
         requires { has tables.now IndexKind.Jis0208 ≡ true }
         ensures { IsFreshEncoder (⟦<ShiftJisEncoder<'a> as SourceEncoder>⟧.parts result) 2

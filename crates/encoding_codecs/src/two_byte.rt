@@ -7,11 +7,14 @@ ghost use Rattle.encoding_codecs.specs.Pointers.{form_of_bytes, value_of_entry};
 use encoding_mem::first_piece::FirstPiece;
 use encoding_mem::form::{Bytes, Form};
 
-/// What a lead and a trail give.
+/// What a lead and a trail stand for.
 #[derive(Clone, Copy)]
 pub enum PairValue {
+    /// Nothing: they are malformed.
     NoChar,
+    /// A character.
     OneChar(char),
+    /// Two characters, as four pairs of Big5 do: a letter and a combining mark.
     TwoChars(char, char),
 }
 

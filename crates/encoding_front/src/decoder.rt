@@ -33,15 +33,25 @@ use encoding_mem::{DecoderResult, clear_behind};
 use encoding_tables::Tables;
 use std::{fmt, mem};
 
-/// A decoder of a stream that may begin with a byte order mark, for code that takes any.
+/// A decoder of a stream that may begin with a byte order mark, for code that takes any such
+/// decoder and any destination. `Decoder` is one.
+///
+/// The rule of use is that of `Decoder`: bytes that a call left unread come first in the next call,
+/// and nothing follows a last call that returned `InputEmpty`.
 pub trait StreamDecoder {
+    /// What contracts say of a decoder: what the bytes to come will give, the encoding that they
+    /// turn out to be in, what the length queries depend on, and whether it is finished.
     ghost view: { Self → DecoderView };
 
-    /// What its parts have to do with each other.
+    /// How the parts of that view belong together: the pieces to come are those of the held bytes
+    /// and of what follows, in the encoding in force or behind a mark.
     ghost opened: { (d : Self) → IsOpenedBy (view d) };
 
-    /// Decodes bytes into any destination up to the first malformed sequence. Returns how the call ended and the
-    /// bytes read. What is not read is handed in again, first, with the next call.
+    /// Decodes bytes into a destination up to the first malformed sequence. Returns how the call
+    /// ended and how many bytes of `src` were read.
+    ///
+    /// `last` says that the stream ends with `src`. The condition, that the decoder is not
+    /// finished, is tested by `is_finished`. What each result asks for stands with `DecoderResult`.
     fn decode_into<S: Sink>(
         &mut self,
         src: &[u8],
@@ -56,17 +66,39 @@ pub trait StreamDecoder {
             S.is_units last (length src.now) (length src.now - result.1)
             (S.free sink.old) (S.free sink.new) result.0 };
 
-    /// Whether a last call has returned that all is read. Then no other call may follow but this
-    /// one and `encoding`.
+    /// Whether a call with `last` has returned `InputEmpty`. Only `is_finished` and `encoding` may
+    /// be called after that.
     fn is_finished(&self) -> bool
         ensures { result ≡ (view self.now).finished };
 
-    /// The encoding that the decoder was made for, until a whole mark was read of another.
+    /// The encoding in force: the one that the decoder was made for, or that of the byte order mark
+    /// once all of it was read.
     fn encoding(&self) -> Encoding
         ensures { result ≡ (view self.now).source [] };
 }
 
-/// The decoder of a stream in some encoding. Held bytes of a mark count as read and pending.
+/// A decoder of one stream, with or without byte order mark, into UTF-8 or UTF-16. It is made by
+/// `Encoding::new_decoder` and its two variants, or by `Decoder::new`.
+///
+/// It keeps all state between calls: the bytes of a sequence or of a mark that is not decided yet,
+/// the mode of ISO-2022-JP, and whether a mark is still looked for. The caller keeps the unread
+/// bytes. How it is used:
+///
+/// - A call is given the next bytes, room for text, and `last`, which is true where the stream ends
+///   with these bytes. A stream that ends is ended by one call with `last`, which may have no
+///   bytes.
+/// - A call returns how many bytes it read, and how many bytes or units of text it wrote. Unread
+///   bytes are handed in again, first, in the next call.
+/// - `InputEmpty`: all is read. After a call with `last` the decoder is finished: `is_finished`
+///   returns true, and only it and `encoding` may be called.
+/// - `OutputFull`: make room, and call again with the unread bytes and `last` as it was, also where
+///   nothing is unread. Room for 4 bytes or 2 units is always enough to go on.
+/// - `Malformed`, in calls without replacement: write U+FFFD or not, and call again as after
+///   `OutputFull`. Calls with replacement write U+FFFD themselves.
+/// - Room of the size that the length query returns for the next bytes is enough for them, whatever
+///   they are.
+///
+/// Calls with and without replacement, and into UTF-8 and UTF-16, may be mixed on one stream.
 #[derive(Drop)]
 pub struct Decoder<'t> {
     inner: VariantDecoder<'t>,
@@ -85,8 +117,11 @@ pub struct Decoder<'t> {
 impl Encoding {
     ghost use Rattle.encoding_front.specs.DecoderViews.{decoder_view};
 
-    /// A decoder that takes any of the three byte order marks, and then decodes what it is the mark of (the
-    /// Encoding Standard, section 6, "decode").
+    /// A decoder of a new stream that takes any of the three byte order marks, and then decodes by
+    /// the encoding of the mark; without one, by this encoding (the Encoding Standard, section 6,
+    /// "decode").
+    ///
+    /// The condition, that the indexes of this encoding are in `tables`, is tested by `is_ready`.
     pub fn new_decoder<'t>(self, tables: &'t Tables) -> Decoder<'t>
         requires { IsReady tables.now self }
         ensures begins { IsNewDecoder (decoder_view result) tables.now Mark.Sniff self }
@@ -94,7 +129,12 @@ impl Encoding {
         Decoder::new(self, Mark::Sniff, tables)
     }
 
-    /// A decoder that takes the encoding's own byte order mark, if there is one (as in "UTF-8 decode").
+    /// A decoder of a new stream that skips the byte order mark of this encoding, where the stream
+    /// begins with it, and decodes by this encoding (for UTF-8: the Encoding Standard, section 6,
+    /// "UTF-8 decode"). The marks of other encodings are bytes as any others. Only UTF-8, UTF-16BE
+    /// and UTF-16LE have a mark.
+    ///
+    /// The condition, that the indexes of this encoding are in `tables`, is tested by `is_ready`.
     pub fn new_decoder_with_bom_removal<'t>(self, tables: &'t Tables) -> Decoder<'t>
         requires { IsReady tables.now self }
         ensures begins { IsNewDecoder (decoder_view result) tables.now Mark.Remove self }
@@ -102,7 +142,10 @@ impl Encoding {
         Decoder::new(self, Mark::Remove, tables)
     }
 
-    /// A decoder to which a byte order mark is text (as in "UTF-8 decode without BOM").
+    /// A decoder of a new stream to which a byte order mark is text: U+FEFF in its own encoding
+    /// (for UTF-8: the Encoding Standard, section 6, "UTF-8 decode without BOM").
+    ///
+    /// The condition, that the indexes of this encoding are in `tables`, is tested by `is_ready`.
     pub fn new_decoder_without_bom_handling<'t>(self, tables: &'t Tables) -> Decoder<'t>
         requires { IsReady tables.now self }
         ensures begins { IsNewDecoder (decoder_view result) tables.now Mark.Keep self }
@@ -168,7 +211,10 @@ impl<'t> StreamDecoder for Decoder<'t> {
 impl<'t> Decoder<'t> {
     ghost use Rattle.encoding_front.specs.DecoderViews.{decoder_view};
 
-    /// A decoder of a new stream.
+    /// A decoder of a new stream in `encoding`, where `mark` says which byte order marks are taken.
+    ///
+    /// The condition, that the indexes of `encoding` are in `tables`, is tested by
+    /// `Encoding::is_ready`.
     pub fn new(encoding: Encoding, mark: Mark, tables: &'t Tables) -> Self
         requires { IsReady tables.now encoding }
         ensures begins { IsNewDecoder (decoder_view result) tables.now mark encoding }
@@ -216,16 +262,28 @@ impl<'t> Decoder<'t> {
         }
     }
 
-    /// The encoding that the decoder was made for, until a whole mark was read of another.
+    /// The encoding in force: the one that the decoder was made for, or that of the byte order mark
+    /// once all of it was read.
     pub fn encoding(&self) -> Encoding
         ensures { result ≡ (decoder_view self.now).source [] }
     {
         StreamDecoder::encoding(self)
     }
 
-    /// Decodes bytes to UTF-8 up to the first malformed sequence. Returns how the call ended, the
-    /// bytes read and the bytes written. A character is never split; nothing behind what is written
-    /// changes.
+    /// Decodes bytes to UTF-8 up to the first malformed sequence. Returns how the call ended, how
+    /// many bytes of `src` were read, and how many bytes of `dst` were written.
+    ///
+    /// - `InputEmpty`: all of `src` is read; with `last` the stream is decoded, and the decoder is
+    ///   finished.
+    /// - `OutputFull`: fewer than 4 bytes are free behind what is written, and something is left to
+    ///   do.
+    /// - `Malformed(length, behind)`: a malformed sequence of `length` bytes (1 to 4) ends `behind`
+    ///   bytes (0 to 3) before the end of what was read; at least 3 bytes are free, enough for
+    ///   U+FFFD.
+    ///
+    /// A character is never split, and nothing behind what is written changes. `OutputFull` does
+    /// not come where `dst` is as long as `max_utf8_buffer_length_without_replacement` returns. The
+    /// condition, that the decoder is not finished, is tested by `is_finished`.
     pub fn decode_to_utf8_without_replacement(
         &mut self,
         src: &[u8],
@@ -245,7 +303,20 @@ impl<'t> Decoder<'t> {
         (outcome, read, written)
     }
 
-    /// The same to UTF-16. Returns the units written.
+    /// Decodes bytes to UTF-16 up to the first malformed sequence. Returns how the call ended, how
+    /// many bytes of `src` were read, and how many units of `dst` were written.
+    ///
+    /// - `InputEmpty`: all of `src` is read; with `last` the stream is decoded, and the decoder is
+    ///   finished.
+    /// - `OutputFull`: fewer than 2 units are free behind what is written, and something is left to
+    ///   do.
+    /// - `Malformed(length, behind)`: a malformed sequence of `length` bytes (1 to 4) ends `behind`
+    ///   bytes (0 to 3) before the end of what was read; at least 1 unit is free, enough for
+    ///   U+FFFD.
+    ///
+    /// A surrogate pair is never split, and nothing behind what is written changes. `OutputFull`
+    /// does not come where `dst` is as long as `max_utf16_buffer_length` returns. The condition,
+    /// that the decoder is not finished, is tested by `is_finished`.
     pub fn decode_to_utf16_without_replacement(
         &mut self,
         src: &[u8],
@@ -265,18 +336,24 @@ impl<'t> Decoder<'t> {
         (outcome, read, written)
     }
 
-    /// Whether a last call has returned that all is read. Then no other call may follow but this
-    /// one and `encoding`.
+    /// Whether a call with `last` has returned `InputEmpty`. Only `is_finished` and `encoding` may
+    /// be called after that.
     pub fn is_finished(&self) -> bool
         ensures { result ≡ (decoder_view self.now).finished }
     {
         self.is_finished
     }
 
-    /// How many of these bytes, if they come next, are their characters in Latin1: each scalar is the byte's own
-    /// number. None before marks are settled, where something is pending or a mode other than ASCII is in force,
-    /// and in UTF-16 and replacement. Those of a single-byte encoding are told by its index, and all others
-    /// only up to the first byte that is not ASCII (in ISO-2022-JP also before 0E, 0F and 1B).
+    /// How many of `bytes`, if they come next, stand for the characters of their own numbers, as in
+    /// Latin1: a caller may copy these, and hand in the rest.
+    ///
+    /// - `Some(n)`: the first `n` bytes do. In a single-byte encoding the index tells, and `n` is
+    ///   the most that is true. In the others `n` ends before the first byte that is not ASCII, in
+    ///   ISO-2022-JP also before the first 0E, 0F or 1B.
+    /// - `None`: it is not told. A byte order mark may still come, bytes are pending, ISO-2022-JP
+    ///   is in another mode than ASCII, or the encoding is UTF-16BE, UTF-16LE or replacement.
+    ///
+    /// The condition, that the decoder is not finished, is tested by `is_finished`.
     pub fn latin1_byte_compatible_up_to(&self, bytes: &[u8]) -> Option<usize>
         requires { (decoder_view self.now).finished ≡ false }
         ensures { TellsLatin1Prefix (decoder_view self.now) bytes.now result }
@@ -287,8 +364,12 @@ impl<'t> Decoder<'t> {
         self.inner.latin1_byte_compatible_up_to(bytes)
     }
 
-    /// How many units are room enough for the text of `n` more bytes; none where that passes a
-    /// `usize`. So much room is also enough where each malformed sequence is written as U+FFFD.
+    /// How many units of UTF-16 are room enough for the text of `n` more bytes, whether malformed
+    /// sequences are reported or written as U+FFFD; `None` where the number passes a `usize`.
+    ///
+    /// What is pending counts too. While a byte order mark is looked for, the number is enough for
+    /// each encoding that may come. The condition, that the decoder is not finished, is tested by
+    /// `is_finished`.
     pub fn max_utf16_buffer_length(&self, n: usize) -> Option<usize>
         requires { (decoder_view self.now).finished ≡ false }
         ensures { result ≡ room_asked (decoder_view self.now).opening Units n }
@@ -296,8 +377,12 @@ impl<'t> Decoder<'t> {
         self.query(OutputUnit::Units, n)
     }
 
-    /// How many bytes are room enough for the text of `n` more bytes up to the first malformed
-    /// sequence, and for a U+FFFD; none where that passes a `usize`.
+    /// How many bytes of UTF-8 are room enough for the text of `n` more bytes up to the first
+    /// malformed sequence, and for one U+FFFD there; `None` where the number passes a `usize`.
+    ///
+    /// What is pending counts too. While a byte order mark is looked for, the number is enough for
+    /// each encoding that may come. The condition, that the decoder is not finished, is tested by
+    /// `is_finished`.
     pub fn max_utf8_buffer_length_without_replacement(&self, n: usize) -> Option<usize>
         requires { (decoder_view self.now).finished ≡ false }
         ensures { result ≡ room_asked (decoder_view self.now).opening Bytes n }
@@ -305,8 +390,12 @@ impl<'t> Decoder<'t> {
         self.query(OutputUnit::Bytes, n)
     }
 
-    /// How many bytes are room enough for the text of `n` more bytes, with U+FFFD for each
-    /// malformed sequence; none where that passes a `usize`.
+    /// How many bytes of UTF-8 are room enough for the text of `n` more bytes, with U+FFFD for each
+    /// malformed sequence; `None` where the number passes a `usize`.
+    ///
+    /// What is pending counts too. While a byte order mark is looked for, the number is enough for
+    /// each encoding that may come. The condition, that the decoder is not finished, is tested by
+    /// `is_finished`.
     pub fn max_utf8_buffer_length(&self, n: usize) -> Option<usize>
         requires { (decoder_view self.now).finished ≡ false }
         ensures { result ≡ room_asked (decoder_view self.now).opening Replaced n }
@@ -358,8 +447,17 @@ impl<'t> Decoder<'t> {
     }
 
     /// Decodes bytes to UTF-8, with U+FFFD for each malformed sequence. Returns how the call ended,
-    /// the bytes read, the bytes written, and whether there was a malformed sequence. A character
-    /// is never split; nothing behind what is written changes.
+    /// how many bytes of `src` were read, how many bytes of `dst` were written, and whether a
+    /// malformed sequence was replaced.
+    ///
+    /// - `InputEmpty`: all of `src` is read; with `last` the stream is decoded, and the decoder is
+    ///   finished.
+    /// - `OutputFull`: fewer than 4 bytes are free behind what is written, and something is left to
+    ///   do.
+    ///
+    /// A character is never split, and nothing behind what is written changes. `OutputFull` does
+    /// not come where `dst` is as long as `max_utf8_buffer_length` returns. The condition, that the
+    /// decoder is not finished, is tested by `is_finished`.
     pub fn decode_to_utf8(
         &mut self,
         src: &[u8],
@@ -379,7 +477,18 @@ impl<'t> Decoder<'t> {
         (outcome, read, written, had_errors)
     }
 
-    /// The same to UTF-16. Returns the units written.
+    /// Decodes bytes to UTF-16, with U+FFFD for each malformed sequence. Returns how the call
+    /// ended, how many bytes of `src` were read, how many units of `dst` were written, and whether
+    /// a malformed sequence was replaced.
+    ///
+    /// - `InputEmpty`: all of `src` is read; with `last` the stream is decoded, and the decoder is
+    ///   finished.
+    /// - `OutputFull`: fewer than 2 units are free behind what is written, and something is left to
+    ///   do.
+    ///
+    /// A surrogate pair is never split, and nothing behind what is written changes. `OutputFull`
+    /// does not come where `dst` is as long as `max_utf16_buffer_length` returns. The condition,
+    /// that the decoder is not finished, is tested by `is_finished`.
     pub fn decode_to_utf16(
         &mut self,
         src: &[u8],
@@ -399,9 +508,13 @@ impl<'t> Decoder<'t> {
         (outcome, read, written, had_errors)
     }
 
-    /// Decodes into a text, as `decode_to_utf8` into bytes. Of a character whose first bytes are
-    /// overwritten the other bytes become 00, so that it stays a text; nothing else behind what is
-    /// written changes.
+    /// Decodes bytes into the bytes of a text, with U+FFFD for each malformed sequence, so that the
+    /// destination is well-formed UTF-8 again. Results, and what they ask for, are those of
+    /// `decode_to_utf8`.
+    ///
+    /// Where a character of `dst` is overwritten in part, its other bytes become 00; nothing else
+    /// behind what is written changes. The conditions are that the decoder is not finished
+    /// (`is_finished`) and that `dst` is well-formed: `utf8_valid_up_to(dst)` is its length.
     pub fn decode_to_str(
         &mut self,
         src: &[u8],
@@ -422,7 +535,13 @@ impl<'t> Decoder<'t> {
         (outcome, read, written, had_errors)
     }
 
-    /// The same up to the first malformed sequence, as `decode_to_utf8_without_replacement`.
+    /// Decodes bytes into the bytes of a text up to the first malformed sequence, so that the
+    /// destination is well-formed UTF-8 again. Results, and what they ask for, are those of
+    /// `decode_to_utf8_without_replacement`.
+    ///
+    /// Where a character of `dst` is overwritten in part, its other bytes become 00; nothing else
+    /// behind what is written changes. The conditions are that the decoder is not finished
+    /// (`is_finished`) and that `dst` is well-formed: `utf8_valid_up_to(dst)` is its length.
     pub fn decode_to_str_without_replacement(
         &mut self,
         src: &[u8],
@@ -443,9 +562,13 @@ impl<'t> Decoder<'t> {
         (outcome, read, written)
     }
 
-    /// Decodes into the spare capacity of a text, behind what it has, as `decode_to_utf8` into
-    /// bytes; its capacity stays as it is. Returns as the call into bytes, without what was
-    /// written.
+    /// Decodes bytes into the spare capacity of a text, behind what it has, with U+FFFD for each
+    /// malformed sequence. Returns how the call ended, how many bytes of `src` were read, and
+    /// whether a malformed sequence was replaced.
+    ///
+    /// The capacity stays as it is: `OutputFull` comes where fewer than 4 bytes of it are spare and
+    /// something is left to do, and not where it has as many spare as `max_utf8_buffer_length`
+    /// returns. The condition, that the decoder is not finished, is tested by `is_finished`.
     pub fn decode_to_string(
         &mut self,
         src: &[u8],
@@ -468,7 +591,14 @@ impl<'t> Decoder<'t> {
         (outcome, read, had_errors)
     }
 
-    /// The same up to the first malformed sequence, as `decode_to_utf8_without_replacement`.
+    /// Decodes bytes into the spare capacity of a text, behind what it has, up to the first
+    /// malformed sequence. Returns how the call ended, as `decode_to_utf8_without_replacement`
+    /// does, and how many bytes of `src` were read.
+    ///
+    /// The capacity stays as it is: `OutputFull` comes where fewer than 4 bytes of it are spare and
+    /// something is left to do, and not where it has as many spare as
+    /// `max_utf8_buffer_length_without_replacement` returns. The condition, that the decoder is not
+    /// finished, is tested by `is_finished`.
     pub fn decode_to_string_without_replacement(
         &mut self,
         src: &[u8],

@@ -1,6 +1,7 @@
 ghost use Rattle.std.specs.Prelude.{◌≡◌, ◌≢◌, ◌↔◌, ℕ, ◌+◌, ◌-◌, ◌≤◌, ◌++◌, true, false, IsTrue, List, length, take, drop, vec_capacity, vec_len};
 ghost use Rattle.std.specs.Str.{chars};
 ghost use Rattle.std.specs.Char.Utf16.{utf16_lossy_chars};
+ghost use Rattle.encoding_mem.specs.Conversions.{IsUnitBoundary};
 ghost use Rattle.encoding_mem.specs.EncoderRule.{left};
 ghost use Rattle.encoding_mem.specs.declared.form.EscapeState.TheVariants.{Ascii};
 ghost use Rattle.encoding_front.specs.Encoder.{Encoded, EncoderState, IsEncoderOf, ReadsText, Replaces, WritesBytes, coding_in, kept_back, new_state, queried_room, queried_with_kept, room_for, room_with_kept};
@@ -19,8 +20,26 @@ use encoding_tables::Tables;
 use std::fmt;
 use std::marker::Model;
 
-/// An encoder of one stream into one output encoding. It is given the text in cuts of any size, and room of
-/// any size. Its state is the set in force, which only ISO-2022-JP has.
+/// An encoder of one stream of text into an output encoding. It is made by `Encoding::new_encoder`.
+///
+/// Between calls it keeps only the set in force, which ISO-2022-JP alone has; the caller keeps the
+/// unread text. How it is used:
+///
+/// - A call is given the next text, room for bytes, and `last`, which is true where the text ends
+///   with it. A stream that ends is ended by one call with `last`, which may have no text.
+/// - A call returns how many bytes or units of text it read, and how many bytes it wrote. Unread
+///   text is handed in again, first, in the next call.
+/// - `InputEmpty`: all is read. After a call with `last` the set is ASCII again, and the encoder is
+///   as a new one.
+/// - `OutputFull`: make room, and call again with the unread text and `last` as it was, also where
+///   nothing is unread. Room for 4 bytes is always enough to go on without replacement, and for 14
+///   with it.
+/// - `Unmappable`, in calls without replacement: the character that was read last has no bytes.
+///   Write its reference (`write_reference`) or something else in ASCII, and call again as after
+///   `OutputFull`. Calls with replacement write the reference themselves.
+///
+/// A surrogate in no pair, in UTF-16, is encoded as U+FFFD. A pair must not be cut between two
+/// calls: each slice is read by itself.
 #[derive(Drop)]
 pub struct Encoder<'t> {
     tables: &'t Tables,
@@ -44,7 +63,11 @@ impl<'t> Model for Encoder<'t> {
 }
 
 impl Encoding {
-    /// An encoder of a new stream into the output encoding of this one.
+    /// An encoder of a new stream into the output encoding of this one (`output_encoding`; the
+    /// Encoding Standard, section 4.3).
+    ///
+    /// The condition, that the indexes of the output encoding are in `tables`, is tested by
+    /// `is_ready` of the output encoding.
     pub fn new_encoder(self, tables: &Tables) -> Encoder<'_>
         requires { IsReady tables.now (output_encoding_of self) }
         ensures state { result ≡ new_state tables.now self }
@@ -61,22 +84,24 @@ impl Encoding {
 }
 
 impl<'t> Encoder<'t> {
-    /// The output encoding.
+    /// The output encoding, in which it writes.
     pub fn encoding(&self) -> Encoding
         ensures { result ≡ self.now.encoding }
     {
         self.encoding
     }
 
-    /// Whether an escape to ASCII is still to be written at the end of the stream.
+    /// Whether an escape to ASCII is still to be written at the end of the stream: so only in
+    /// ISO-2022-JP, where another set is in force.
     pub fn has_pending_state(&self) -> bool
         ensures { IsTrue result ↔ (self.now.set ≢ Ascii) }
     {
         self.variant.has_pending_state()
     }
 
-    /// How many bytes are room enough for what `n` bytes of UTF-8 are encoded to without replacement, and for
-    /// the last escape; none where that passes a `usize`. References are not counted.
+    /// How many bytes are room enough for what `n` bytes of UTF-8 are encoded to without
+    /// replacement, and for the last escape; `None` where the number passes a `usize`. References
+    /// are not counted.
     pub fn max_buffer_length_from_utf8_without_replacement(&self, n: usize) -> Option<usize>
         ensures { result ≡ queried_room self.now.encoding false n }
     {
@@ -84,7 +109,9 @@ impl<'t> Encoder<'t> {
             .max_buffer_length_from_utf8_without_replacement(n)
     }
 
-    /// The same for `n` units of UTF-16.
+    /// How many bytes are room enough for what `n` units of UTF-16 are encoded to without
+    /// replacement, and for the last escape; `None` where the number passes a `usize`. References
+    /// are not counted.
     pub fn max_buffer_length_from_utf16_without_replacement(&self, n: usize) -> Option<usize>
         ensures { result ≡ queried_room self.now.encoding true n }
     {
@@ -92,9 +119,9 @@ impl<'t> Encoder<'t> {
             .max_buffer_length_from_utf16_without_replacement(n)
     }
 
-    /// How many bytes are room enough for what `n` bytes of UTF-8 are encoded to with replacement, if each
-    /// character has bytes: those of the call without replacement, and those that are kept back for a
-    /// reference; none where that passes a `usize`.
+    /// How many bytes are room enough for what `n` bytes of UTF-8 are encoded to with replacement,
+    /// if each character has bytes; `None` where the number passes a `usize`. It is the number for
+    /// a call without replacement, and 10 more for a reference unless the output encoding is UTF-8.
     pub fn max_buffer_length_from_utf8_if_no_unmappables(&self, n: usize) -> Option<usize>
         ensures { result ≡ queried_with_kept self.now.encoding false n }
     {
@@ -102,7 +129,9 @@ impl<'t> Encoder<'t> {
         room.checked_add(self.kept_back())
     }
 
-    /// The same for `n` units of UTF-16.
+    /// How many bytes are room enough for what `n` units of UTF-16 are encoded to with replacement,
+    /// if each character has bytes; `None` where the number passes a `usize`. It is the number for
+    /// a call without replacement, and 10 more for a reference unless the output encoding is UTF-8.
     pub fn max_buffer_length_from_utf16_if_no_unmappables(&self, n: usize) -> Option<usize>
         ensures { result ≡ queried_with_kept self.now.encoding true n }
     {
@@ -143,9 +172,21 @@ impl<'t> Encoder<'t> {
         self.variant.encode_from(source, dst, last)
     }
 
-    /// Encodes a text, and stops behind a character without bytes. Returns how the call ended, the
-    /// bytes of text read and the bytes written. What was read ends between characters; nothing
-    /// behind what is written changes.
+    /// Encodes text up to the first character without bytes (an encoder of the Encoding Standard,
+    /// section 4.1, which ends at an error). Returns how the call ended, how many bytes of `src`
+    /// were read, and how many bytes of `dst` were written.
+    ///
+    /// - `InputEmpty`: all of `src` is read and written; with `last` the last escape is written
+    ///   too.
+    /// - `OutputFull`: the next escape or character does not fit into what is free, and something
+    ///   is left to do.
+    /// - `Unmappable(c)`: the character that was read last has no bytes. The escape to the set that
+    ///   its reference is written in is written; the reference is the caller's. `c` is the
+    ///   character, or U+FFFD for U+000E, U+000F and U+001B in ISO-2022-JP.
+    ///
+    /// What was read ends between characters, and nothing behind what is written changes.
+    /// `OutputFull` does not come where `dst` is as long as
+    /// `max_buffer_length_from_utf8_without_replacement` returns.
     pub fn encode_from_utf8_without_replacement(
         &mut self,
         src: &str,
@@ -164,8 +205,13 @@ impl<'t> Encoder<'t> {
         (result, source.read(), written)
     }
 
-    /// The same for units of UTF-16, in which a surrogate outside a pair is U+FFFD. The slice is read by
-    /// itself, and no pair that it holds is parted. The second number counts units.
+    /// Encodes units of UTF-16 up to the first character without bytes. Returns how the call ended,
+    /// how many units of `src` were read, and how many bytes of `dst` were written. Results are
+    /// those of `encode_from_utf8_without_replacement`.
+    ///
+    /// A surrogate in no pair of `src` is encoded as U+FFFD. What was read ends at no place between
+    /// the two units of a pair, and nothing behind what is written changes. `OutputFull` does not
+    /// come where `dst` is as long as `max_buffer_length_from_utf16_without_replacement` returns.
     pub fn encode_from_utf16_without_replacement(
         &mut self,
         src: &[u16],
@@ -173,6 +219,7 @@ impl<'t> Encoder<'t> {
         last: bool,
     ) -> (EncoderResult, usize, usize)
         ensures read { result.1 ≤ length src.now }
+        ensures boundary { IsUnitBoundary src.now result.1 }
         ensures wrote { WritesBytes dst.old dst.new result.2 }
         ensures call { Encoded self.old last result.0 (utf16_lossy_chars src.now)
             (take result.2 dst.new) self.new (utf16_lossy_chars (drop result.1 src.now))
@@ -185,13 +232,22 @@ impl<'t> Encoder<'t> {
         (result, source.read(), written)
     }
 
-    /// Encodes a text, and writes a numeric character reference for each character without bytes.
-    /// Returns how the call ended, the bytes of text read, the bytes written, and whether a
-    /// reference was written.
+    /// Encodes text, and writes the decimal numeric character reference (`&#8364;`) of each
+    /// character without bytes. Returns how the call ended, how many bytes of `src` were read, how
+    /// many bytes of `dst` were written, and whether a reference was written (the Encoding
+    /// Standard, section 6, "encode", in the mode "html").
     ///
-    /// Unless the output encoding is UTF-8, the last ten bytes of `dst` are kept back, so that a reference is
-    /// never cut: only one that begins before them reaches into them, and it ends the call. In the room that
-    /// is asked for with `max_buffer_length_from_utf8_if_no_unmappables` only a reference ends a call so.
+    /// - `InputEmpty`: all of `src` is read and written; with `last` the last escape is written
+    ///   too.
+    /// - `OutputFull`: something is left to do, and fewer bytes are free than the next step may
+    ///   need, at most 4, not counting those that are kept back.
+    ///
+    /// Unless the output encoding is UTF-8, the last ten bytes of `dst` are kept back, so that a
+    /// reference is never cut: only a reference that begins before them reaches into them, and it
+    /// ends the call. A `dst` of fewer than ten bytes then takes nothing. In the room that
+    /// `max_buffer_length_from_utf8_if_no_unmappables` returns only a reference ends a call before
+    /// the text ends. What was read ends between characters; nothing behind what is written
+    /// changes.
     pub fn encode_from_utf8(
         &mut self,
         src: &str,
@@ -210,8 +266,13 @@ impl<'t> Encoder<'t> {
         (result, source.read(), written, had_unmappables)
     }
 
-    /// The same for units of UTF-16, in which a surrogate outside a pair is U+FFFD. The slice is read by
-    /// itself, and no pair that it holds is parted. The second number counts units.
+    /// Encodes units of UTF-16, and writes the decimal numeric character reference of each
+    /// character without bytes. Returns how the call ended, how many units of `src` were read, how
+    /// many bytes of `dst` were written, and whether a reference was written. Results and room are
+    /// those of `encode_from_utf8`, with `max_buffer_length_from_utf16_if_no_unmappables`.
+    ///
+    /// A surrogate in no pair of `src` is encoded as U+FFFD. What was read ends at no place between
+    /// the two units of a pair.
     pub fn encode_from_utf16(
         &mut self,
         src: &[u16],
@@ -219,6 +280,7 @@ impl<'t> Encoder<'t> {
         last: bool,
     ) -> (CoderResult, usize, usize, bool)
         ensures read { result.1 ≤ length src.now }
+        ensures boundary { IsUnitBoundary src.now result.1 }
         ensures wrote { WritesBytes dst.old dst.new result.2 }
         ensures call { Replaces self.old last result.0 (utf16_lossy_chars src.now)
             (take result.2 dst.new) self.new (utf16_lossy_chars (drop result.1 src.now))
@@ -231,8 +293,11 @@ impl<'t> Encoder<'t> {
         (result, source.read(), written, had_unmappables)
     }
 
-    /// Encodes a text into the spare capacity of a vector, behind what it holds; its capacity stays
-    /// as it is. Returns as the call into a slice, without what was written.
+    /// Encodes text into the spare capacity of a vector, behind what it holds, with references as
+    /// `encode_from_utf8` writes them. Returns how the call ended, how many bytes of `src` were
+    /// read, and whether a reference was written.
+    ///
+    /// The capacity stays as it is. `OutputFull` comes as in a slice of the size of what is spare.
     pub fn encode_from_utf8_to_vec(
         &mut self,
         src: &str,
@@ -255,7 +320,11 @@ impl<'t> Encoder<'t> {
         (result, read, had_unmappables)
     }
 
-    /// The same without replacement.
+    /// Encodes text into the spare capacity of a vector, behind what it holds, up to the first
+    /// character without bytes. Returns how the call ended, as
+    /// `encode_from_utf8_without_replacement` does, and how many bytes of `src` were read.
+    ///
+    /// The capacity stays as it is. `OutputFull` comes as in a slice of the size of what is spare.
     pub fn encode_from_utf8_to_vec_without_replacement(
         &mut self,
         src: &str,

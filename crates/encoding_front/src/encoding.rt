@@ -12,10 +12,12 @@ use crate::codec_kind::{CodecKind, row_of};
 use encoding_labels::label_number;
 use encoding_labels::places::ENCODING_COUNT;
 use encoding_tables::{IndexKind, Tables};
+use std::fmt;
 
-/// An encoding of the Encoding Standard (section 4.2): a value to copy, compared and hashed by which of the
-/// forty it is. Each is also a constant of this crate, as `UTF_8`.
-#[derive(Clone, Copy, PartialEq, Eq, Hash, Debug)]
+/// One of the forty encodings of the Encoding Standard (section 4.2): a value to copy, compared and
+/// hashed by which of the forty it is. Each is also a constant of this crate, as `UTF_8`. `Debug`
+/// shows the name.
+#[derive(Clone, Copy, PartialEq, Eq, Hash)]
 pub enum Encoding {
     // Written by tools/generate_encodings.py from tools/encodings.toml; do not edit.
     Big5,
@@ -108,8 +110,9 @@ const ENCODINGS: [Encoding; 40] = [
 // end
 
 impl Encoding {
-    /// The encoding that has this label: "get an encoding" of the Encoding Standard, section 4.2. White space
-    /// at both ends (the bytes 09, 0A, 0C, 0D and 20) and the case of ASCII letters do not matter.
+    /// The encoding that has this label, or `None` where no encoding has it ("get an encoding" of
+    /// the Encoding Standard, section 4.2). White space at both ends (the bytes 09, 0A, 0C, 0D and
+    /// 20) and the case of ASCII letters do not matter.
     pub fn for_label(label: &[u8]) -> Option<Encoding>
         ensures { (e : Encoding) → (result ≡ Some e) ↔ HasLabel e label.now }
     {
@@ -117,8 +120,9 @@ impl Encoding {
         Some(at_number(number))
     }
 
-    /// The same, but `None` for a label of replacement: for a caller to whom such a label is an error, as
-    /// one that is unknown.
+    /// The encoding that has this label, or `None` where no encoding but replacement has it: for a
+    /// caller to whom a label of replacement is an error, as an unknown one is. White space at both
+    /// ends (the bytes 09, 0A, 0C, 0D and 20) and the case of ASCII letters do not matter.
     pub fn for_label_no_replacement(label: &[u8]) -> Option<Encoding>
         ensures { (e : Encoding) → (result ≡ Some e)
             ↔ (HasLabel e label.now × ¬ (e ≡ Encoding.Replacement)) }
@@ -130,8 +134,9 @@ impl Encoding {
         Some(encoding)
     }
 
-    /// The encoding whose byte order mark stands at the start of the bytes, and the length of the
-    /// mark in bytes: "BOM sniff" of the Encoding Standard, section 6.
+    /// The encoding whose byte order mark stands at the start of `bytes`, and the length of the
+    /// mark in bytes; `None` where there is none ("BOM sniff" of the Encoding Standard, section 6).
+    /// The marks are EF BB BF of UTF-8, FE FF of UTF-16BE and FF FE of UTF-16LE.
     pub fn for_bom(bytes: &[u8]) -> Option<(Encoding, usize)>
         ensures { result ≡ mark_at_start bytes.now }
     {
@@ -143,15 +148,16 @@ impl Encoding {
         }
     }
 
-    /// The name, as the Encoding Standard writes it (section 4.2).
+    /// The name, as the Encoding Standard writes it (section 4.2): `Shift_JIS`. It is also a label.
     pub fn name(self) -> &'static str
         ensures { result.now ≡ encoding_name self }
     {
         row_of(self).name
     }
 
-    /// The encoding in which is written what is asked for in this one (the Encoding Standard, section
-    /// 4.3, "get an output encoding"): UTF-8 for UTF-16BE, UTF-16LE and replacement.
+    /// The encoding in which text is written that is asked for in this one ("get an output
+    /// encoding" of the Encoding Standard, section 4.3): UTF-8 for UTF-16BE, UTF-16LE and
+    /// replacement, and the encoding itself for all others.
     pub fn output_encoding(self) -> Encoding
         ensures { result ≡ output_encoding_of self }
     {
@@ -161,17 +167,17 @@ impl Encoding {
         }
     }
 
-    /// Whether the output encoding has bytes for every character: it does where it is UTF-8. That of
-    /// gb18030 lacks some (the Encoding Standard, section 10.2.2).
+    /// Whether every character has bytes in the output encoding: it does where that is UTF-8. The
+    /// output of gb18030 lacks some characters (the Encoding Standard, section 10.2.2).
     pub fn can_encode_everything(self) -> bool
         ensures { IsTrue result ↔ IsUtf8Encoding (output_encoding_of self) }
     {
         self.output_encoding() == Encoding::Utf8
     }
 
-    /// Whether each byte below 80 stands for the character of its number, wherever a character begins,
-    /// and such a character is written as that byte: so in all but UTF-16BE, UTF-16LE, replacement and
-    /// ISO-2022-JP.
+    /// Whether each byte below 80 stands for the character of its number, wherever a character
+    /// begins, and such a character is written as that byte: true for all encodings but UTF-16BE,
+    /// UTF-16LE, replacement and ISO-2022-JP.
     pub fn is_ascii_compatible(self) -> bool
         ensures { result ≡ is_ascii_compatible_of self }
     {
@@ -181,8 +187,9 @@ impl Encoding {
         }
     }
 
-    /// Whether each byte stands for a character of its own: so in the 28 single-byte encodings (the
-    /// Encoding Standard, section 9) and in x-user-defined (section 14.5).
+    /// Whether each character is one byte: true for the 28 single-byte encodings (the Encoding
+    /// Standard, section 9), in which a byte that the index lacks is malformed, and for
+    /// x-user-defined (section 14.5).
     pub fn is_single_byte(self) -> bool
         ensures { result ≡ is_single_byte_of self }
     {
@@ -192,37 +199,42 @@ impl Encoding {
         }
     }
 
-    /// The length of the longest prefix that is well-formed UTF-8: it ends before the first byte of
-    /// the first malformed sequence.
+    /// The length in bytes of the longest prefix that is well-formed UTF-8 (RFC 3629): it ends
+    /// before the first byte of the first malformed sequence, and is the length of `bytes` where
+    /// there is none.
     pub fn utf8_valid_up_to(bytes: &[u8]) -> usize
         ensures { IsLongestPrefix IsUtf8 bytes.now result }
     {
         encoding_mem::utf8_valid_up_to(bytes)
     }
 
-    /// The length of the longest prefix that is ASCII.
+    /// The length in bytes of the longest prefix that is ASCII: it ends before the first byte from
+    /// 80 on.
     pub fn ascii_valid_up_to(bytes: &[u8]) -> usize
         ensures { IsLongestPrefix IsAscii bytes.now result }
     {
         encoding_mem::ascii_valid_up_to(bytes)
     }
 
-    /// The length of the longest prefix that ISO-2022-JP reads as ASCII, from its first state: before the
-    /// first 0E, 0F, 1B or byte from 80 on.
+    /// The length in bytes of the longest prefix that ISO-2022-JP, at the start of an input, reads
+    /// as ASCII: it ends before the first 0E, 0F, 1B or byte from 80 on (the Encoding Standard,
+    /// section 12.2.1).
     pub fn iso_2022_jp_ascii_valid_up_to(bytes: &[u8]) -> usize
         ensures { IsLongestPrefix IsIso2022JpAscii bytes.now result }
     {
         encoding_mem::iso_2022_jp_ascii_valid_up_to(bytes)
     }
 
-    /// The kinds of index that the encoding needs, to be decoded and to be written.
+    /// The kinds of index that the encoding needs, to be decoded and to be written; none for UTF-8,
+    /// UTF-16BE, UTF-16LE, replacement and x-user-defined.
     pub fn needs(self) -> &'static [IndexKind]
         ensures { result.now ≡ needs_of self }
     {
         row_of(self).needs
     }
 
-    /// Whether all of them are there. What is there was accepted.
+    /// Whether all indexes that the encoding needs are in `tables`: the test of the condition of
+    /// each call that makes a decoder or encoder, or converts a whole text.
     pub fn is_ready(self, tables: &Tables) -> bool
         ensures ready { IsTrue result ↔ IsReady tables.now self }
         ensures accepted { AreAcceptedTables tables.now }
@@ -231,9 +243,9 @@ impl Encoding {
         are_there(self.needs(), tables)
     }
 
-    /// Whether what is written for a character, where this encoding is asked for, reads back as it or is
-    /// reported. It is false for Shift_JIS, EUC-JP, ISO-2022-JP, gb18030 and GBK, which have folds: they
-    /// write some characters as others.
+    /// Whether each character that is written, where this encoding is asked for, reads back as it;
+    /// others are reported. It is false for Shift_JIS, EUC-JP, ISO-2022-JP, gb18030 and GBK, which
+    /// have folds: they write some characters as others.
     pub fn keeps_characters(self) -> bool
         ensures { IsTrue result ↔ KeepsCharacters self }
     {
@@ -250,6 +262,12 @@ impl Encoding {
         ensures proper { IsProper result }
     {
         row_of(self).codec_kind
+    }
+}
+
+impl fmt::Debug for Encoding {
+    fn fmt<W: fmt::Write>(&self, f: &mut fmt::Formatter<W>) -> fmt::Result {
+        f.write_str(self.name())
     }
 }
 

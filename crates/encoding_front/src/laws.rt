@@ -88,8 +88,9 @@ pub fn read_back()
         → IsBroken (pieces_of t e) bytes text → ¬ (ReadsAs (pieces_of t e) bytes text) }
 {}
 
-/// So it does character by character, from the set that is in force; from the start it is read as
-/// any bytes of the output encoding are.
+/// What is written for a text in an output encoding reads back character by character, from the set
+/// that is in force, by any indexes that were accepted; from the start it is read as any bytes of
+/// the output encoding are.
 pub fn characters_read_back()
     ensures steps { (t : IndexLists) (e : Encoding) → AreAcceptedTables t
         → ReadsByStep (coding_of t e) (set_pieces_of t e) }

@@ -1,4 +1,47 @@
-//! Encodings by name.
+//! The forty encodings of the Encoding Standard, by name and label; decoders and encoders of
+//! streams; and calls for whole inputs and texts.
+//!
+//! An `Encoding` is a value: a constant of this crate (`SHIFT_JIS`), what a label names
+//! (`Encoding::for_label`), or what a byte order mark says (`Encoding::for_bom`). All but UTF-8,
+//! UTF-16BE, UTF-16LE, replacement and x-user-defined need indexes, which are handed in as
+//! `encoding_tables::Tables`; `Encoding::is_ready` tells whether they are there, and is the test of
+//! the condition of each call that takes tables.
+//!
+//! A whole input is decoded by `Encoding::decode` and its variants, a whole text encoded by
+//! `Encoding::encode`. A stream is decoded by a `Decoder` and encoded by an `Encoder`, call by
+//! call:
+//!
+//! - The decoder or encoder keeps the state: bytes that are not decided, the mode or set of
+//!   ISO-2022-JP, the byte order mark. The caller keeps the unread bytes or text, and hands them in
+//!   again, first, in the next call.
+//! - Buffers may have any size. Room for 4 bytes or 2 units is enough to go on decoding, 4 bytes to
+//!   go on encoding, 14 with references; room of the size that the length query returns is enough
+//!   for all that is handed in.
+//! - `last` is true in the call whose source ends the stream. The stream is converted when that
+//!   call, or one that repeats it with what is unread, returns `InputEmpty`. After it a decoder
+//!   takes no bytes, and an encoder is as a new one.
+//! - Malformed sequences become U+FFFD, and characters without bytes decimal references, or each
+//!   ends the call and is the caller's (the calls `without_replacement`). Lone surrogates in UTF-16
+//!   sources are encoded as U+FFFD.
+//!
+//! # Use
+//!
+//!     let tables = Tables::new(alloc);
+//!     let Some(encoding) = Encoding::for_label(b"utf8") else {
+//!         return Ok(false);
+//!     };
+//!     if !encoding.is_ready(&tables) {
+//!         return Ok(false);
+//!     }
+//!     let mut decoder = encoding.new_decoder(&tables);
+//!     let mut text = [0; 16];
+//!     let (_, _, start, _) = decoder.decode_to_utf8(b"caf\xC3", &mut text, false);
+//!     let rest = &mut text[start..];
+//!     let (result, _, more, had_errors) = decoder.decode_to_utf8(b"\xA9", rest, true);
+//!     let (bytes, _, had_references) = UTF_8.encode(alloc, &tables, "caf\u{E9}")?;
+//!
+//! `start` is 3, since C3 waits for what follows; `more` is 2, and `text` begins with `café`, as
+//! `bytes` does.
 #![tactic(auto)]
 
 mod codec_kind;

@@ -6,11 +6,12 @@ use crate::encoding::Encoding;
 /// What is done with a byte order mark at the start of an input (the Encoding Standard, section 6).
 #[derive(Clone, Copy, PartialEq, Eq, Debug)]
 pub enum Mark {
-    /// A mark of UTF-8, UTF-16BE or UTF-16LE is taken, and says what the encoding is.
+    /// A mark of UTF-8, UTF-16BE or UTF-16LE is skipped, and the input is decoded by the encoding
+    /// of the mark.
     Sniff,
-    /// The encoding's own mark is taken.
+    /// The mark of the encoding itself is skipped.
     Remove,
-    /// No mark is taken: it is text.
+    /// No mark is skipped: in its own encoding it is the character U+FEFF.
     Keep,
 }
 

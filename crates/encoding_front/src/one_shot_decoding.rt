@@ -16,13 +16,14 @@ use encoding_tables::Tables;
 use std::alloc::Global;
 
 impl Encoding {
-    /// Decodes a whole input, in which any of the three byte order marks is taken (the Encoding
-    /// Standard, section 6, "decode"). Returns the text, with U+FFFD for each malformed sequence,
-    /// the encoding that the mark says or else this one, and whether there was a malformed
-    /// sequence.
+    /// Decodes a whole input, from which any of the three byte order marks is skipped, by the
+    /// encoding of the mark or else by this one (the Encoding Standard, section 6, "decode").
+    /// Returns the text, with U+FFFD for each malformed sequence, the encoding that it was decoded
+    /// by, and whether there was a malformed sequence.
     ///
-    /// `Overflow` is returned where the room that a new decoder asks for the input passes a
-    /// `usize`; `Memory` where it was refused.
+    /// `Overflow` is returned where the room that a new decoder asks for passes a `usize`, `Memory`
+    /// where that room was refused. The condition, that the indexes of this encoding are in
+    /// `tables`, is tested by `is_ready`.
     pub fn decode(
         self,
         alloc: Global,
@@ -39,9 +40,13 @@ impl Encoding {
         self.decode_behind_bom(Mark::Sniff, alloc, tables, bytes)
     }
 
-    /// Decodes a whole input, from which the encoding's own byte order mark is taken (as in "UTF-8
-    /// decode"). Returns the text and whether there was a malformed sequence. Faults are those of
-    /// `decode`.
+    /// Decodes a whole input by this encoding, and skips its own byte order mark where the input
+    /// begins with it (for UTF-8: the Encoding Standard, section 6, "UTF-8 decode"). Returns the
+    /// text, with U+FFFD for each malformed sequence, and whether there was one.
+    ///
+    /// `Overflow` is returned where the room that a new decoder asks for passes a `usize`, `Memory`
+    /// where that room was refused. The condition, that the indexes of this encoding are in
+    /// `tables`, is tested by `is_ready`.
     pub fn decode_with_bom_removal(
         self,
         alloc: Global,
@@ -58,9 +63,13 @@ impl Encoding {
         Ok((text, had_errors))
     }
 
-    /// Decodes a whole input, in which a byte order mark is text (as in "UTF-8 decode without
-    /// BOM"). Returns the text and whether there was a malformed sequence. Faults are those of
-    /// `decode`.
+    /// Decodes a whole input by this encoding, to which a byte order mark is text (for UTF-8: the
+    /// Encoding Standard, section 6, "UTF-8 decode without BOM"). Returns the text, with U+FFFD for
+    /// each malformed sequence, and whether there was one.
+    ///
+    /// `Overflow` is returned where the room that a new decoder asks for passes a `usize`, `Memory`
+    /// where that room was refused. The condition, that the indexes of this encoding are in
+    /// `tables`, is tested by `is_ready`.
     pub fn decode_without_bom_handling(
         self,
         alloc: Global,
@@ -76,8 +85,13 @@ impl Encoding {
         Ok((text, had_errors))
     }
 
-    /// Decodes a whole input, in which a byte order mark is text. Returns none where a piece is
-    /// malformed. Faults are those of `decode`, by the room that is asked for without replacement.
+    /// Decodes a whole input by this encoding, to which a byte order mark is text, unless a
+    /// sequence is malformed (for UTF-8: the Encoding Standard, section 6, "UTF-8 decode without
+    /// BOM or fail"). Returns the text, or `None` where there is a malformed sequence.
+    ///
+    /// `Overflow` is returned where the room that a new decoder asks for without replacement passes
+    /// a `usize`, `Memory` where that room was refused. The condition, that the indexes of this
+    /// encoding are in `tables`, is tested by `is_ready`.
     pub fn decode_without_bom_handling_and_without_replacement(
         self,
         alloc: Global,

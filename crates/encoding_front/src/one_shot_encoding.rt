@@ -16,12 +16,13 @@ use encoding_tables::Tables;
 use std::alloc::Global;
 
 impl Encoding {
-    /// Encodes a whole text into the output encoding, with a numeric character reference for each
-    /// character without bytes. Returns the bytes, the output encoding, and whether a reference was
-    /// written.
+    /// Encodes a whole text into the output encoding of this one, with a decimal numeric character
+    /// reference for each character without bytes (the Encoding Standard, section 6, "encode").
+    /// Returns the bytes, the output encoding, and whether a reference was written.
     ///
-    /// `Overflow` is returned where the room for the text, as asked for beforehand, passes a
-    /// `usize`; `Memory` where it was refused.
+    /// `Overflow` is returned where the room that a new encoder asks for with replacement passes a
+    /// `usize`; `Memory` where room was refused. The condition, that the indexes of the output
+    /// encoding are in `tables`, is tested by `is_ready` of `output_encoding`.
     pub fn encode(
         self,
         alloc: Global,

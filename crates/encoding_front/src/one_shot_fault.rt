@@ -1,13 +1,13 @@
 use std::alloc::AllocError;
 use thiserror::Error;
 
-/// Why a whole text or a whole input was not converted at once.
+/// Why a whole input was not decoded, or a whole text not encoded, at once.
 #[derive(Debug, Drop, PartialEq, Eq, Error)]
 pub enum OneShotFault {
     /// The room that is asked for passes a `usize`.
     #[error("the room needed passes a usize")]
     Overflow,
-    /// There was no memory for it.
+    /// Memory for the result was refused.
     #[error("out of memory")]
     Memory,
 }

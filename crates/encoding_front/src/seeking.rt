@@ -7,14 +7,15 @@ ghost use Rattle.encoding_front.specs.declared.seeking.ByteOrderMark.TheVariants
 use crate::encoding::Encoding;
 use crate::mark::Mark;
 
-/// A byte order mark (the Encoding Standard, section 6, "BOM sniff").
+/// A byte order mark (the Encoding Standard, section 6, "BOM sniff"). The contracts of decoders
+/// speak of it; no call takes or returns one.
 #[derive(Clone, Copy)]
 pub enum ByteOrderMark {
-    /// EF BB BF
+    /// EF BB BF.
     Utf8,
-    /// FE FF
+    /// FE FF.
     Utf16Be,
-    /// FF FE
+    /// FF FE.
     Utf16Le,
 }
 
@@ -52,11 +53,15 @@ impl ByteOrderMark {
     }
 }
 
-/// The marks that would be taken.
+/// The marks that a decoder still looks for. The contracts of decoders speak of it; no call takes
+/// or returns one.
 #[derive(Clone, Copy)]
 pub struct BomSet {
+    /// Whether that of UTF-8 is.
     pub utf8: bool,
+    /// Whether that of UTF-16BE is.
     pub utf16_be: bool,
+    /// Whether that of UTF-16LE is.
     pub utf16_le: bool,
 }
 
@@ -117,12 +122,15 @@ impl BomSet {
     }
 }
 
-/// What some bytes are to those who look for a mark.
+/// What the first bytes of an input are to a decoder that looks for a mark. The contracts of
+/// decoders speak of it; no call takes or returns one.
 #[derive(Clone, Copy)]
 pub enum BomMatch {
-    /// Some of a mark, and no more.
+    /// The first bytes of a mark, or none: more bytes decide.
     Prefix,
+    /// A whole mark, with any bytes behind it.
     Whole(ByteOrderMark),
+    /// No mark that is looked for.
     Other,
 }
 

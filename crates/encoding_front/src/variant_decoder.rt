@@ -24,19 +24,32 @@ use encoding_tables::{
     ReplacementDecoder, SingleByteDecoder, Tables, UserDefinedDecoder, Utf16Decoder,
 };
 
-/// The decoder of any encoding, without mark handling.
+/// The raw decoder of any encoding, to which a byte order mark is text: one of the codecs, chosen
+/// when the program runs. `Decoder` stands on it; calls are those of `RawDecoder` and
+/// `SinkDecoder`.
 #[derive(Drop)]
 pub enum VariantDecoder<'t> {
+    /// UTF-8.
     Utf8(Utf8Decoder),
+    /// A single-byte encoding, by its index.
     SingleByte(SingleByteDecoder<'t>),
+    /// Big5.
     Big5(Big5Decoder<'t>),
+    /// EUC-KR.
     EucKr(EucKrDecoder<'t>),
+    /// EUC-JP.
     EucJp(EucJpDecoder<'t>),
+    /// Shift_JIS.
     ShiftJis(ShiftJisDecoder<'t>),
+    /// gb18030 or GBK, which are decoded alike.
     Gb18030(Gb18030Decoder<'t>),
+    /// ISO-2022-JP.
     Iso2022Jp(Iso2022JpDecoder<'t>),
+    /// x-user-defined.
     UserDefined(UserDefinedDecoder),
+    /// UTF-16BE or UTF-16LE.
     Utf16(Utf16Decoder),
+    /// Replacement.
     Replacement(ReplacementDecoder),
 }
 
@@ -62,7 +75,10 @@ macro_rules! dispatch {
 impl<'t> VariantDecoder<'t> {
     ghost use Rattle.encoding_front.specs.VariantDecoders.{rule_of, state_of};
 
-    /// Nothing is pending.
+    /// A decoder of a new stream in `encoding`, with nothing pending.
+    ///
+    /// The condition, that the indexes of `encoding` are in `tables`, is tested by
+    /// `Encoding::is_ready`.
     pub fn new(encoding: Encoding, tables: &'t Tables) -> Self
         requires { IsReady tables.now encoding }
         ensures pending { (state_of result).pending ≡ 0 }

@@ -23,22 +23,36 @@ use encoding_mem::source_encoder::SourceEncoder;
 use encoding_mem::{EncoderResult, RawEncoder, Utf8Encoder};
 use encoding_tables::{SingleByteEncoder, Tables, UserDefinedEncoder};
 
-/// The encoder of any output encoding.
+/// The raw encoder of any output encoding: one of the codecs, chosen when the program runs.
+/// `Encoder` stands on it; calls are those of `RawEncoder` and `SourceEncoder`.
 #[derive(Drop)]
 pub enum VariantEncoder<'t> {
+    /// UTF-8.
     Utf8(Utf8Encoder),
+    /// A single-byte encoding, by its index.
     SingleByte(SingleByteEncoder<'t>),
+    /// Big5.
     Big5(Big5Encoder<'t>),
+    /// EUC-KR.
     EucKr(EucKrEncoder<'t>),
+    /// EUC-JP.
     EucJp(EucJpEncoder<'t>),
+    /// Shift_JIS.
     ShiftJis(ShiftJisEncoder<'t>),
+    /// gb18030 or GBK.
     Gb18030(Gb18030Encoder<'t>),
+    /// ISO-2022-JP.
     Iso2022Jp(Iso2022JpEncoder<'t>),
+    /// x-user-defined.
     UserDefined(UserDefinedEncoder),
 }
 
 impl<'t> VariantEncoder<'t> {
-    /// The encoder of what is written where this encoding is asked for, in ASCII.
+    /// An encoder of a new stream into the output encoding of `encoding`, with ASCII as the set in
+    /// force.
+    ///
+    /// The condition, that the indexes of the output encoding are in `tables`, is tested by
+    /// `Encoding::is_ready` of `output_encoding`.
     pub fn new(encoding: Encoding, tables: &'t Tables) -> Self
         requires { IsReady tables.now (output_encoding_of encoding) }
         ensures coding { ⟦<VariantEncoder<'t> as RawEncoder>⟧.coding result

@@ -340,5 +340,7 @@ fn the_debug_text_names_the_encoding(rt: HostRuntime) -> Result<(), AllocError> 
     let tables = Tables::new(rt.alloc());
     let text = format!(in rt.alloc(); "{:?}", UTF_8.new_decoder(&tables))?;
     assert!(rt; text.contains("UTF-8"));
+    let text = format!(in rt.alloc(); "{:?}", SHIFT_JIS)?;
+    assert_eq!(rt; text.as_str(), "Shift_JIS");
     Ok(())
 }

@@ -5,8 +5,8 @@ use encoding_tables::TableFault;
 use std::alloc::{AllocError, AllocFailed};
 use thiserror::Error;
 
-/// What is wrong with a line of an index text, or that there was no memory. Of several faults in one
-/// line the first counts.
+/// What is wrong with a line of an index text, or that memory was refused. Of several faults in one
+/// line the first is named, in the order of the variants.
 #[derive(Clone, Copy, Debug, PartialEq, Eq, Error)]
 pub enum IndexFaultKind {
     /// The line is neither a row nor one that is skipped.
@@ -24,11 +24,11 @@ pub enum IndexFaultKind {
     Memory,
 }
 
-/// Why an index text was not read: the first line with a fault, and its first fault.
+/// Why an index text was not read: the first line with a fault, and its fault.
 #[derive(Debug, Drop, PartialEq, Eq, Error)]
 #[error("line {line}: {kind}")]
 pub struct IndexFault {
-    /// The line, counted from 1, with skipped lines. 0 where there was no memory.
+    /// The line, counted from 1, skipped lines too; 0 where memory was refused.
     pub line: usize,
     /// What is wrong.
     pub kind: IndexFaultKind,

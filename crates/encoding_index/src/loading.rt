@@ -7,11 +7,13 @@ use crate::reading::{read_ranges, rows_below};
 use encoding_tables::{IndexKind, Tables};
 use std::alloc::Global;
 
-/// Reads the text of an index and puts what it stands for into the tables.
+/// Reads the text of an index, of any kind, and puts what it stands for into the tables. After an
+/// error the tables are as they were.
 ///
-/// The text is read whole before the tables are asked, so a faulty text is named also where the index is
-/// there already. After a fault the tables are as they were. While it reads, it asks for memory row by
-/// row: want of that is `Text` with line 0, want of the tables' own memory is `Table`.
+/// The text is read whole before the tables are asked, so a faulty text is named also where the
+/// index is there already: the error is `Text`. Where the tables do not take the list or the rows,
+/// it is `Table`. Where memory was refused it is `Text` with line 0 while the text was read, and
+/// else `Table`.
 pub fn load(
     alloc: Global,
     tables: &mut Tables,

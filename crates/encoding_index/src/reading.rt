@@ -11,11 +11,12 @@ use std::alloc::Global;
 /// 5, "index gb18030 ranges code point").
 pub const RANGE_POINTERS: u32 = 1_237_576;
 
-/// Reads the text of an index with a list: the code point at each row's pointer, and 0 at the pointers
-/// of no row. The kind is one for which [`IndexKind::is_ranges`] is false. Asks for the memory of the
-/// whole list before it reads a line, and for no more.
+/// Reads the text of an index that has a list: returns the code point at each row's pointer, and 0
+/// at the pointers of no row. It asks for the memory of the whole list before it reads a line, and
+/// for no more.
 ///
-/// The fault is the first of the first faulty line, or want of memory.
+/// The error is the fault of the first faulty line, or, with line 0, that memory was refused. The
+/// condition, that the kind has a list, is tested by `IndexKind::is_ranges`, which is false for it.
 pub fn read_index(alloc: Global, kind: IndexKind, text: &[u8]) -> Result<Vec<u32>, IndexFault>
     requires { is_ranges kind ≡ false }
     ensures list { IfOk result (λ list. (first_fault (index_size kind) text.now ≡ None)
@@ -31,10 +32,10 @@ pub fn read_index(alloc: Global, kind: IndexKind, text: &[u8]) -> Result<Vec<u32
     Ok(list)
 }
 
-/// Reads the text of the GB18030 ranges: its rows, each a pointer and a code point. Asks for memory row
-/// by row, so a text without rows asks for none.
+/// Reads the text of the GB18030 ranges: returns its rows, each a pointer and a code point. It asks
+/// for memory row by row, so a text without rows asks for none.
 ///
-/// The fault is the first of the first faulty line, or want of memory.
+/// The error is the fault of the first faulty line, or, with line 0, that memory was refused.
 pub fn read_ranges(alloc: Global, text: &[u8]) -> Result<Vec<(u32, u32)>, IndexFault>
     ensures rows { IfOk result (λ rows. (first_fault range_pointers text.now ≡ None)
         × (rows.items ≡ text_rows text.now)) }

@@ -9,6 +9,8 @@ use Rattle.std.proofs.lemmas.Str.{encodes-IsAscii, encodes-append}
 use Rattle.encoding_mem.specs.EncoderRule.{IsCopied}
 use Rattle.encoding_mem.specs.Writing.{len_utf16}
 use Rattle.encoding_mem.proofs.AsciiRunLemmas.{run_units}
+use Rattle.encoding_mem.specs.Conversions.{IsUnitBoundary}
+use Rattle.encoding_mem.proofs.UnitPrefixLemmas.{reads_boundary, split_at}
 use Rattle.encoding_mem.proofs.Utf16Lemmas.{plain_unit}
 
 pub none_copied : (text : List ℕ) → IsCopied text [] text
@@ -64,3 +66,14 @@ counted units here behind read c size run at after first within low =
     let left : drop run behind ≡ drop (read + size + run) units = ap (drop run) after ∙ drop-drop run (read + size) units in
     let one = ap length first in
     omega (arith, ap (λ l. length (utf16_lossy_chars l)) at, one, ap (λ l. length (utf16_lossy_chars l)) next, plain_run run behind within low, ap (λ l. length (utf16_lossy_chars l)) left)
+
+-- what was read ends between characters
+pub past_copied : (units here out : List ℕ) (offset read : ℕ) → here ≡ drop offset units → IsUnitBoundary units offset
+    → IsCopied (utf16_lossy_chars here) out (utf16_lossy_chars (drop read here)) → IsUnitBoundary units (offset + read)
+past_copied units here out offset read at whole copied =
+    let before : List ℕ = utf16_lossy_chars (take offset units) in
+    let left : drop read here ≡ drop (offset + read) units = ap (drop read) at ∙ drop-drop read offset units in
+    let taken : utf16_lossy_chars (drop offset units) ≡ copied.prefix ++ utf16_lossy_chars (drop (offset + read) units) =
+    ap utf16_lossy_chars (sym at) ∙ copied.taken ∙ ap (λ l. copied.prefix ++ utf16_lossy_chars l) left in
+    reads_boundary units (before ++ copied.prefix) (offset + read)
+    (split_at offset units whole ∙ ap (λ l. before ++ l) taken ∙ sym (append_assoc before copied.prefix (utf16_lossy_chars (drop (offset + read) units))))

@@ -1,18 +1,20 @@
 -- The first character of units. Surrogates with no partner. The UTF-16 of a text is well-formed, and well-formed
 -- units are the UTF-16 of their text.
-use Rattle.std.proofs.Common.{◌≡◌, ℕ, ◌<◌, ◌≤◌, List, [], ◌∷◌, length, get_or, drop, ◌∙◌, ap, refl, arith, map, Some, ◌⊎◌, inl, inr, ◌≢◌, set, get_or-set_other, get_or-set_same, zero, suc, ◌+◌, take, sym, subst, ◌-◌, ◌*◌, ◌/◌, ◌%◌, true}
+use Rattle.std.proofs.Common.{◌≡◌, ℕ, ◌<◌, ◌≤◌, List, [], ◌∷◌, length, get_or, drop, ◌∙◌, ap, refl, arith, map, Some, None, Option, ◌⊎◌, inl, inr, ◌≢◌, set, get_or-set_other, get_or-set_same, zero, suc, ◌+◌, take, sym, subst, ◌-◌, ◌*◌, ◌/◌, ◌%◌, true, add-zero}
 use Rattle.std.specs.Option.{unwrap_or}
 use Rattle.std.specs.Char.Utf16.{utf16_lossy_chars, lone_unit_char, surrogate_pair_char}
 use Rattle.std.proofs.str.Utf16.{IsPair}
 use Rattle.std.proofs.lemmas.Str.{utf16_chars_lone, utf16_chars_pair, utf16_chars-nil}
 use Rattle.std.proofs.lemmas.Bool.{le-leb, lt-leb, lt-ltb, le-ltb, cases_lt, and_parts}
-use Rattle.std.proofs.lemmas.List.{get_or-take, get_or_past, ext_get_or}
+use Rattle.std.proofs.lemmas.List.{get_or-take, get_or-drop, get_or_past, ext_get_or}
+use Rattle.encoding_mem.specs.Conversions.{IsUnitBoundary}
 use Rattle.encoding_mem.specs.LongestPrefix.{IsLongestPrefix}
-use Rattle.encoding_mem.specs.Surrogates.{IsHighSurrogate, IsLowSurrogate, IsLoneSurrogate, IsUtf16, IsMended}
+use Rattle.encoding_mem.specs.Surrogates.{IsHighSurrogate, IsLowSurrogate, IsSurrogatePair, IsLoneSurrogate, IsUtf16, IsMended}
 use Rattle.encoding_mem.proofs.PrefixLemmas.{read_behind}
-use Rattle.std.specs.Str.{all_scalars}
+use Rattle.std.specs.Str.{IsAscii, all_scalars}
 use Rattle.std.proofs.Math.Utf8.{scalar, scalar_cases}
-use Rattle.encoding_mem.specs.Writing.{encode_utf16_all}
+use Rattle.std.specs.Prelude.{IfSome}
+use Rattle.encoding_mem.specs.Writing.{encode_utf16_all, len_utf16}
 
 none : (us : List ℕ) → length us ≡ 0 → utf16_lossy_chars us ≡ []
 none [] e = rw utf16_chars-nil refl
@@ -127,6 +129,45 @@ low_at us i j e low = subst (λ k. IsLowSurrogate (get_or us k 0)) e low
 
 high_at : (us : List ℕ) (i j : ℕ) → i ≡ j → IsHighSurrogate (get_or us i 0) → IsHighSurrogate (get_or us j 0)
 high_at us i j e high = subst (λ k. IsHighSurrogate (get_or us k 0)) e high
+
+-- Boundaries: behind one unit, behind a pair, and past some units that are next.
+pub behind_unit : (us : List ℕ) → ¬ IsSurrogatePair (get_or us 0 0) (get_or us 1 0) → IsUnitBoundary us 1
+behind_unit us apart k next pair = let first : k ≡ 0 = omega arith in apart (high_at us k 0 first pair.0, pair.1)
+
+pub behind_pair : (us : List ℕ) → IsLowSurrogate (get_or us 1 0) → IsUnitBoundary us 2
+behind_pair us low k next pair =
+    let second : k ≡ 1 = omega arith in
+    let high = high_at us k 1 second pair.0 in
+    absurd (omega (arith, high.1, low.0))
+
+past_whole : (us here : List ℕ) (o n : ℕ) → here ≡ drop o us → 0 < n → IsUnitBoundary here n → IsUnitBoundary us (o + n)
+past_whole us here o n at some whole k next pair =
+    let last : k ≡ o + (n - 1) = omega arith in
+    let one = ap (λ l. get_or l (n - 1) 0) at ∙ get_or-drop o us (n - 1) 0 in
+    let other = ap (λ l. get_or l n 0) at ∙ get_or-drop o us n 0 in
+    whole (n - 1) (omega arith) (subst IsHighSurrogate (sym one) (high_at us k (o + (n - 1)) last pair.0), subst IsLowSurrogate (sym other) pair.1)
+
+pub past_ascii : (us here : List ℕ) (o n : ℕ) → here ≡ drop o us → IsAscii (take n here) → IsUnitBoundary us o → IsUnitBoundary us (o + n)
+past_ascii us here o zero at low whole = subst (λ i. IsUnitBoundary us i) (sym (add-zero o)) whole
+past_ascii us here o (suc n) at low whole = λ k next pair.
+    let last : k ≡ o + n = omega arith in
+    let high = high_at us k (o + n) last pair.0 in
+    let same = ap (λ l. get_or l n 0) at ∙ get_or-drop o us n 0 in
+    absurd (omega (arith, high.0, low n, get_or-take (suc n) here n 0 (omega arith), same))
+
+one_at_least : (c : ℕ) → 0 < len_utf16 c
+one_at_least c = elim (cases_lt c 0x1_0000) [
+  | inl low ↦ rw (lt-ltb c 0x1_0000 low) (omega arith)
+  | inr high ↦ rw (le-ltb c 0x1_0000 high) (omega arith)
+]
+
+pub past_first : (us here : List ℕ) (o n c : ℕ) → here ≡ drop o us → n ≡ len_utf16 c → IsUnitBoundary here n → IsUnitBoundary us (o + n)
+past_first us here o n c at size whole = past_whole us here o n at (omega (arith, size, one_at_least c)) whole
+
+pub past_next : (us here : List ℕ) (o : ℕ) (next : Option (ℕ × ℕ)) → here ≡ drop o us → IfSome next (λ p. p.1 ≡ len_utf16 p.0)
+    → IfSome next (λ p. IsUnitBoundary here p.1) → IfSome next (λ p. IsUnitBoundary us (o + p.1))
+past_next us here o None at size whole = tt
+past_next us here o (Some p) at size whole = past_first us here o p.1 p.0 at size whole
 
 before : (i : ℕ) → (i ≡ 0) ⊎ ((k : ℕ) × (k + 1 ≡ i))
 before zero = inl refl

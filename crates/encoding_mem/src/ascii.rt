@@ -3,7 +3,7 @@ ghost use Rattle.std.specs.Str.{IsAscii};
 
 use crate::first::first_byte_from;
 
-/// The run of ASCII at the start of these bytes, which may be empty.
+/// The longest run of ASCII at the start of these bytes, as text; it may be empty.
 pub fn ascii_prefix(bytes: &[u8]) -> &str
     ensures prefix { result.now ≡ take (length result.now) bytes.now }
     ensures ascii { IsAscii result.now }
@@ -13,9 +13,9 @@ pub fn ascii_prefix(bytes: &[u8]) -> &str
     unsafe { std::str::from_utf8_unchecked(&bytes[..end]) }
 }
 
-/// The run of ASCII at the start of these bytes, at most so many of it, if two bytes at least are
-/// ASCII there, and else nothing: what a rule in which each ASCII byte is itself returns as
-/// `text_at`. A run of one is cheaper as a character.
+/// The run of ASCII at the start of these bytes, at most `most` of it, where the first two bytes
+/// are ASCII, and else an empty text: what `text_at` of a rule returns in which each ASCII byte is
+/// itself. A run of one byte is cheaper as a character.
 #[inline(always)]
 pub fn longer_ascii_prefix(bytes: &[u8], most: usize) -> &str
     ensures prefix { result.now ≡ take (length result.now) bytes.now }

@@ -7,30 +7,32 @@ ghost use Rattle.encoding_mem.specs.Iso2022JpAscii.{IsIso2022JpAscii, IsIso2022J
 
 use crate::first::{first_byte_from, first_unit_from};
 
-/// Whether each byte is below 80 hex.
+/// Whether each byte is ASCII: below 80 hex.
 pub fn is_ascii(bytes: &[u8]) -> bool
     ensures { IsTrue result ↔ IsAscii bytes.now }
 {
     bytes.is_ascii()
 }
 
-/// Whether each unit of 16 bits is below 80 hex: whether all is in Basic Latin, Unicode's block of the
-/// ASCII characters.
+/// Whether each unit of UTF-16 is below 80 hex: all is in Basic Latin, Unicode's block of the ASCII
+/// characters.
 pub fn is_basic_latin(units: &[u16]) -> bool
     ensures { IsTrue result ↔ IsAscii units.now }
 {
     first_unit_from(units, 0x80) == units.len()
 }
 
-/// The length of the longest prefix that is ASCII.
+/// The length in bytes of the longest prefix that is ASCII: it ends before the first byte from 80
+/// hex on.
 pub fn ascii_valid_up_to(bytes: &[u8]) -> usize
     ensures { IsLongestPrefix IsAscii bytes.now result }
 {
     first_byte_from(bytes, 0x80)
 }
 
-/// The length of the longest prefix that ISO-2022-JP reads as ASCII, from its first state: before the first
-/// 0E, 0F, 1B or byte from 80 on.
+/// The length in bytes of the longest prefix that ISO-2022-JP, at the start of an input, reads as
+/// ASCII: it ends before the first 0E, 0F, 1B or byte from 80 hex on (the Encoding Standard,
+/// section 12.2.1).
 pub fn iso_2022_jp_ascii_valid_up_to(bytes: &[u8]) -> usize
     ensures { IsLongestPrefix IsIso2022JpAscii bytes.now result }
 {

@@ -55,7 +55,8 @@ fn is_code_bidi(code: u32) -> bool
         || code >= 0xFE70 && code <= 0xFEFE
 }
 
-/// Whether a unit of UTF-16 is a character of `is_char_bidi`, or the high surrogate of one.
+/// Whether a unit of UTF-16 is a character of which `is_char_bidi` holds, or a high surrogate with
+/// which one of those above U+FFFF is written: D802, D803, D83A or D83B.
 pub fn is_utf16_code_unit_bidi(unit: u16) -> bool
     ensures { IsTrue result ↔ IsTrue (is_bidi_unit unit) }
 {
@@ -71,7 +72,7 @@ fn any_char_bidi(text: &str) -> bool
     text.chars().any(|c| is_char_bidi(c))
 }
 
-/// Whether `is_char_bidi` holds of some character.
+/// Whether `is_char_bidi` holds of some character of the text.
 pub fn is_str_bidi(text: &str) -> bool
     ensures { IsTrue result ↔ HasBidi (chars text.now) }
 {
@@ -79,7 +80,8 @@ pub fn is_str_bidi(text: &str) -> bool
     any_char_bidi(rest)
 }
 
-/// Whether the bytes are not well-formed UTF-8, or `is_char_bidi` holds of some character.
+/// Whether `is_char_bidi` holds of some character of the bytes, as UTF-8, or they are not
+/// well-formed.
 pub fn is_utf8_bidi(bytes: &[u8]) -> bool
     ensures { IsTrue result ↔ IsBidiBytes bytes.now }
 {
@@ -142,14 +144,16 @@ fn any_unit_bidi(units: &[u16]) -> bool
     any_bidi_in(units)
 }
 
-/// Whether `is_utf16_code_unit_bidi` holds of some unit.
+/// Whether `is_utf16_code_unit_bidi` holds of some unit: in well-formed UTF-16, whether
+/// `is_char_bidi` holds of some character. A lone high surrogate counts as if its pair were whole.
 pub fn is_utf16_bidi(units: &[u16]) -> bool
     ensures { IsTrue result ↔ HasBidiUnit units.now }
 {
     any_unit_bidi(&units[first_unit_from(units, 0x590)..])
 }
 
-/// `Latin1` where `is_str_latin1` holds, `Bidi` where `is_str_bidi` does, and `LeftToRight` otherwise.
+/// `Latin1` where `is_str_latin1` holds of the text, `Bidi` where `is_str_bidi` does, and else
+/// `LeftToRight`.
 pub fn check_str_for_latin1_and_bidi(text: &str) -> Latin1Bidi
     ensures latin1 { (result ≡ Latin1Bidi.Latin1) ↔ AllLatin1 (chars text.now) }
     ensures bidi { (result ≡ Latin1Bidi.Bidi) ↔ HasBidi (chars text.now) }
@@ -163,7 +167,8 @@ pub fn check_str_for_latin1_and_bidi(text: &str) -> Latin1Bidi
     }
 }
 
-/// `Latin1` where `is_utf8_latin1` holds, `Bidi` where `is_utf8_bidi` does, and `LeftToRight` otherwise.
+/// `Latin1` where `is_utf8_latin1` holds of the bytes, `Bidi` where `is_utf8_bidi` does, also where
+/// they are not well-formed, and else `LeftToRight`.
 pub fn check_utf8_for_latin1_and_bidi(bytes: &[u8]) -> Latin1Bidi
     ensures latin1 { (result ≡ Latin1Bidi.Latin1) ↔ IsLatin1Text bytes.now }
     ensures bidi { (result ≡ Latin1Bidi.Bidi) ↔ IsBidiBytes bytes.now }
@@ -178,7 +183,8 @@ pub fn check_utf8_for_latin1_and_bidi(bytes: &[u8]) -> Latin1Bidi
     }
 }
 
-/// `Latin1` where `is_utf16_latin1` holds, `Bidi` where `is_utf16_bidi` does, and `LeftToRight` otherwise.
+/// `Latin1` where `is_utf16_latin1` holds of the units, `Bidi` where `is_utf16_bidi` does, and else
+/// `LeftToRight`.
 pub fn check_utf16_for_latin1_and_bidi(units: &[u16]) -> Latin1Bidi
     ensures latin1 { (result ≡ Latin1Bidi.Latin1) ↔ AllLatin1 units.now }
     ensures bidi { (result ≡ Latin1Bidi.Bidi) ↔ HasBidiUnit units.now }

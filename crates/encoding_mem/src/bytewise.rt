@@ -10,19 +10,21 @@ use crate::room::DecodedLength;
 use crate::sink::Sink;
 use crate::sink_decoder::SinkDecoder;
 
-/// A rule by which any bytes decide their first piece, as where each byte is one.
+/// A rule by which any bytes decide their first piece, as where each byte is one: nothing is ever
+/// pending.
 pub trait DecidedPiece: DecoderRule {
+    /// No bytes leave their first piece undecided.
     ghost decided: { (s : Self) (x : List ℕ) → 0 < length x → IsUndecided (Self.pieces s) x → ⊥ };
 }
 
-/// The decoder that such a rule makes: nothing is ever pending.
+/// The decoder that such a rule makes, in which nothing is ever pending.
 #[derive(Drop)]
 pub struct Bytewise<F: DecidedPiece> {
     rule: F,
 }
 
 impl<F: DecidedPiece> Bytewise<F> {
-    /// Nothing is read yet.
+    /// A decoder by this rule.
     pub fn new(rule: F) -> Self
         ensures { IsFreshDecoder (⟦<Bytewise<F> as SinkDecoder>⟧.state result)
             (F.pieces rule) (F.limits rule) }
@@ -30,7 +32,7 @@ impl<F: DecidedPiece> Bytewise<F> {
         Bytewise { rule }
     }
 
-    /// The rule, as it is now: by it is read what follows.
+    /// The rule as it is now, by which what follows is read.
     pub fn rule(&self) -> &F
         ensures { (⟦<Bytewise<F> as SinkDecoder>⟧.state self.now).pieces ≡ F.pieces result.now }
     {

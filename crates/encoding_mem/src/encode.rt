@@ -18,26 +18,29 @@ use crate::form::{Bytes, EscapeState, Form};
 use crate::room::EncodedLength;
 use crate::source::Source;
 
-/// The rule of an encoder: what it makes of each character, its sets, and which of them is in force. How a call
-/// reads, writes and stops is the driver's. A type that has one is a `SourceEncoder`, and a `RawEncoder`.
+/// The rule of an encoder: what it makes of each character, its sets, and which of them is in
+/// force. How a call reads, writes and stops is the driver's. A type that has one is a
+/// `SourceEncoder` and a `RawEncoder`.
 pub trait EncoderRule {
     /// The most bytes that an escape or a character has.
     ghost need: { Self → ℕ };
 
+    /// What the encoder makes of each character in each set.
     ghost coding: { Self → Coding };
 
     /// The set that is in force.
     ghost set: { Self → EscapeState };
 
-    /// The room that is enough.
+    /// The numbers by which the length queries are computed.
     ghost limits: { Self → EncodedLength };
 
-    /// The set in which a character is written after a set, and its bytes.
+    /// The set in which a character is written after the set `from`, and its bytes there, or the
+    /// scalar that is reported.
     fn step(&self, from: EscapeState, c: char) -> (EscapeState, Form)
         ensures set { result.0 ≡ (coding self.now).set from c }
         ensures form { result.1 ≡ (coding self.now).form c };
 
-    /// The escape from one set to another.
+    /// The bytes of the escape from one set to another: none where they are equal.
     fn escape(&self, from: EscapeState, to: EscapeState) -> Bytes
         ensures { result ≡ (coding self.now).escape from to };
 
@@ -55,7 +58,8 @@ pub trait EncoderRule {
     fn current_set(&self) -> EscapeState
         ensures { result ≡ set self.now };
 
-    /// Takes a set, to which some characters lead, for the one in force.
+    /// Takes `next` as the set in force. The condition is that it is that set, ASCII, or a set that
+    /// some character is written in: one that the driver has left by `step`.
     fn enter(&mut self, next: EscapeState)
         requires { Moves (coding self.old) (set self.old) next }
         ensures set { set self.new ≡ next }
@@ -63,37 +67,45 @@ pub trait EncoderRule {
         ensures need { need self.new ≡ need self.old }
         ensures limits { limits self.new ≡ limits self.old };
 
-    /// The room that is enough for what a text is encoded to.
+    /// The numbers by which the length queries are computed.
     fn encoded_length(&self) -> EncodedLength
         ensures { result ≡ limits self.now };
 
+    /// That no escape and no character has more than `need` bytes, and what else is true of every
+    /// target.
     ghost laws: { (x : Self) → IsCoding (need x) (coding x) };
 
+    /// The room of `limits` is enough.
     ghost fits: { (x : Self) → IsRoomFor (coding x) (limits x) };
 }
 
-/// The rule of an encoder with one set, in which ASCII gives itself: the bytes of each character.
+/// The rule of an encoder with one set, in which each ASCII character is its own byte: the bytes of
+/// each character. A type that has one is an `EncoderRule`.
 pub trait StatelessRule {
     /// The most bytes that a character has.
     ghost need: { Self → ℕ };
 
+    /// The bytes of a scalar, or what is reported in place of one without bytes.
     ghost form: { Self → ℕ → Form };
 
-    /// The room that is enough.
+    /// The numbers by which the length queries are computed.
     ghost limits: { Self → EncodedLength };
 
-    /// The bytes of a character.
+    /// The bytes of a character, or the scalar that is reported where it has none.
     fn form_of(&self, c: char) -> Form
         ensures { result ≡ form self.now c };
 
-    /// The room that is enough for what a text is encoded to.
+    /// The numbers by which the length queries are computed.
     fn encoded_length(&self) -> EncodedLength
         ensures { result ≡ limits self.now };
 
+    /// That no character has more than `need` bytes, and what else is true of every target.
     ghost laws: { (x : Self) → IsCoding (need x) (stateless (form x)) };
 
+    /// The room of `limits` is enough.
     ghost fits: { (x : Self) → IsRoomFor (stateless (form x)) (limits x) };
 
+    /// Each ASCII character is its own byte.
     ghost ascii: { (x : Self) (c : ℕ) → c < 0x80 → form x c ≡ Mapped (c ∷ []) };
 }
 
@@ -143,7 +155,8 @@ impl<R: StatelessRule> EncoderRule for R {
 
 // `#[inline(always)]` at targets and sources is for the loop below, as in `driver.rt`.
 
-/// Puts the bytes at an offset, where there is room for them, and returns the offset behind them.
+/// Copies `bytes` to the offset `at` of `dst`, and returns the offset behind them. The condition,
+/// that there is room, is tested by comparing lengths.
 #[inline(always)]
 pub fn put_all(dst: &mut [u8], at: usize, bytes: &[u8]) -> usize
     requires { at + length bytes.now ≤ length dst.old }
@@ -258,9 +271,12 @@ fn encode_each<T: EncoderRule, S: Source>(
     (EncoderResult::InputEmpty, written)
 }
 
-/// Encodes what is left of a source, from a set. Returns how it ended and how many bytes are
-/// written. It stops at the end, at the first character without bytes, whose escape is written, and
-/// where the next escape or the next character does not fit. After the end of a last call the set
+/// The driver of all encoders: encodes what is left of a source, from the set in `set`, and leaves
+/// there the set that is then in force. Returns how the call ended, and how many bytes of `dst`
+/// were written.
+///
+/// It ends where all is read, at the first character without bytes, whose escape is written, and
+/// where the next escape or character does not fit. After a call with `last` that read all, the set
 /// is ASCII.
 pub fn encode<T: EncoderRule, S: Source>(
     target: &T,

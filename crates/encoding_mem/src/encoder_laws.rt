@@ -35,7 +35,9 @@ pub fn encoded_items()
         → EncodesItems ref e last outcome before text written after rest }
 {}
 
-/// The same in bytes, and whatever follows the text.
+/// The law of a call in bytes: what was written, the reference if a character is reported, and what
+/// the rest stands for are what the whole text stands for; where the call was not the last or a
+/// character is reported, whatever follows the text.
 pub fn encoded_bytes()
     ensures { (need : ℕ) (e : Coding) → IsCoding need e
         → (ref : Reference) (last : Bool) (outcome : EncoderResult) (before : EscapeState)

@@ -1,11 +1,18 @@
-/// How a call of a raw encoder ended.
+/// How a call of an encoder that reports characters without bytes ended, and what the caller does
+/// next.
 #[derive(Clone, Copy, PartialEq, Eq, Debug)]
 pub enum EncoderResult {
-    /// The whole source is read and its bytes are written; after a last call the final escape is too.
+    /// All of the source is read, and its bytes are written; after a call with `last` so is the
+    /// escape to ASCII. Hand in what follows, if anything does.
     InputEmpty,
-    /// Fewer bytes are free behind what is written than one step may need, and something is left to do.
+    /// The next escape or character does not fit into what is free behind what is written, and
+    /// something is left to do: make room, and call again with what is unread and `last` as it was,
+    /// also where nothing is unread. No step of an encoder of these libraries needs more than 4
+    /// bytes.
     OutputFull,
-    /// The last character that was read has no bytes in the target. The escape that must stand before
-    /// its reference is written; the reference is the caller's to write.
+    /// The character that was read last has no bytes in the target. The escape that must stand
+    /// before its reference is written; the reference, or what else stands for it, is the caller's
+    /// to write. The value is that character, but U+FFFD for U+000E, U+000F and U+001B in
+    /// ISO-2022-JP.
     Unmappable(char),
 }

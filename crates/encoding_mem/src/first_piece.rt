@@ -10,7 +10,7 @@ ghost use Rattle.encoding_mem.specs.declared.room.DecodedLength.{DecodedLength};
 
 use crate::room::DecodedLength;
 
-/// What stands at the start of some bytes, each with its length in bytes.
+/// What stands at the start of some bytes, by a decoding rule. Lengths are in bytes.
 #[derive(Clone, Copy)]
 pub enum FirstPiece {
     /// The bytes that are here do not decide it: more bytes are wanted.
@@ -25,38 +25,45 @@ pub enum FirstPiece {
     Malformed(usize),
 }
 
-/// The rule of a codec: what the first piece of some bytes is. How a call cuts, waits, writes and stops
-/// is the driver's.
+/// The rule of a codec: what the first piece of some bytes is. How a call cuts, waits, writes and
+/// stops is the driver's.
 pub trait DecoderRule {
     /// The pieces of bytes from a state, where the list's end is the end of the input.
     ghost pieces: { Self → List ℕ → List Piece };
 
+    /// Joined, the pieces are the bytes.
     ghost whole: { (s : Self) (x : List ℕ) → sizes (pieces s x) ≡ length x };
 
+    /// Each piece is of 1 byte at least, and has the text and size that a piece may have.
     ghost are_pieces: { (s : Self) (x : List ℕ) → ArePieces (pieces s x) };
 
+    /// No bytes have no pieces.
     ghost ends: { (s : Self) → pieces s [] ≡ [] };
 
     /// The most room that a call wants free for so many bytes, in each count.
     ghost needs: { Self → OutputUnit → ℕ → ℕ };
 
-    /// What the length queries return.
+    /// The numbers by which the length queries are computed.
     ghost limits: { Self → DecodedLength };
 
+    /// What a call wants free is never more than the length queries return.
     ghost covers: { (s : Self) (k : OutputUnit) (n : ℕ) → needs s k n ≤ decoded_length (limits s) k n };
 
     /// The state after the first piece of bytes.
     ghost after: { Self → List ℕ → Self };
 
+    /// The numbers of the length queries stay as the rule goes on.
     ghost steady: { (s : Self) (x : List ℕ) → limits (after s x) ≡ limits s };
 
-    /// The first piece of these bytes, which go on unless they are the last.
+    /// The first piece of these bytes, or `More` where what follows decides it; `last` says that
+    /// nothing follows. The condition is that there is a byte.
     fn first_piece(&self, bytes: &[u8], last: bool) -> FirstPiece
         requires { 0 < length bytes.now }
         ensures piece { TellsFirstPiece (pieces self.now) (pieces (after self.now bytes.now)) bytes.now last result }
         ensures room { HasRoomFor (needs self.now) (needs (after self.now bytes.now)) (length bytes.now) last result };
 
-    /// Goes past the first piece of these bytes.
+    /// Goes past the first piece of these bytes: takes the mode in which what follows is read. The
+    /// condition is that there is a byte.
     fn pass(&mut self, bytes: &[u8])
         requires { 0 < length bytes.now }
         ensures { self.new ≡ after self.old bytes.now };
@@ -72,12 +79,13 @@ pub trait DecoderRule {
         ensures room { (k : OutputUnit) (m : ℕ) → text_len (is_units k) result.now + needs self.now k m
             ≤ needs self.now k (length result.now + m) };
 
-    /// The room that is enough.
+    /// The numbers by which the length queries are computed.
     fn room(&self) -> DecodedLength
         ensures { result ≡ limits self.now };
 }
 
-/// What so many bytes show that want more: they are malformed where no more come.
+/// What `size` bytes are that begin a longer sequence: malformed where they are the last of the
+/// input, and else undecided.
 #[inline(always)]
 pub fn cut_short(size: usize, last: bool) -> FirstPiece
     ensures { result ≡ cut_short size last }

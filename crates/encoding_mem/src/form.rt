@@ -4,15 +4,19 @@ ghost use Rattle.std.specs.Prelude.{◌≡◌, ℕ, ◌+◌, ◌<◌, ◌≤◌,
 
 use std::marker::Model;
 
-/// The set that an encoder is in. All but ISO-2022-JP stay in the first.
+/// The set of characters that an encoder is in. All encoders but that of ISO-2022-JP stay in
+/// `Ascii` (the Encoding Standard, section 12.2.2).
 #[derive(Clone, Copy, Debug, PartialEq, Eq)]
 pub enum EscapeState {
+    /// ASCII, in which an output begins and ends.
     Ascii,
+    /// The Roman set of JIS X 0201: ASCII, but U+00A5 and U+203E in place of two characters.
     Roman,
+    /// The two-byte set of JIS X 0208.
     Jis,
 }
 
-/// Up to four bytes.
+/// Up to four bytes: an escape, or the bytes of a character.
 #[derive(Drop)]
 pub struct Bytes {
     bytes: [u8; 4],
@@ -28,6 +32,7 @@ impl Model for Bytes {
 }
 
 impl Bytes {
+    /// No bytes.
     #[inline(always)]
     pub fn none() -> Self
         ensures { result ≡ [] }
@@ -38,6 +43,7 @@ impl Bytes {
         }
     }
 
+    /// One byte.
     #[inline(always)]
     pub fn one(a: u8) -> Self
         ensures { result ≡ a ∷ [] }
@@ -48,6 +54,7 @@ impl Bytes {
         }
     }
 
+    /// Two bytes, in order.
     #[inline(always)]
     pub fn two(a: u8, b: u8) -> Self
         ensures { result ≡ a ∷ b ∷ [] }
@@ -58,6 +65,7 @@ impl Bytes {
         }
     }
 
+    /// Three bytes, in order.
     #[inline(always)]
     pub fn three(a: u8, b: u8, c: u8) -> Self
         ensures { result ≡ a ∷ b ∷ c ∷ [] }
@@ -68,6 +76,7 @@ impl Bytes {
         }
     }
 
+    /// Four bytes, in order.
     #[inline(always)]
     pub fn four(a: u8, b: u8, c: u8, d: u8) -> Self
         ensures { result ≡ a ∷ b ∷ c ∷ d ∷ [] }
@@ -78,6 +87,7 @@ impl Bytes {
         }
     }
 
+    /// The bytes.
     #[inline(always)]
     pub fn as_slice(&self) -> &[u8]
         ensures value { result.now ≡ self.now }
@@ -87,9 +97,11 @@ impl Bytes {
     }
 }
 
-/// The bytes of a character, or the scalar that is reported as unmappable.
+/// What an encoder makes of a character.
 #[derive(Drop)]
 pub enum Form {
+    /// Its bytes.
     Mapped(Bytes),
+    /// It has none: the scalar that is reported as unmappable.
     Unmapped(char),
 }

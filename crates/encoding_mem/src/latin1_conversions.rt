@@ -10,7 +10,9 @@ use crate::sink::Sink;
 use crate::source::{Source, Utf8Source};
 use crate::utf8_sink::Utf8Sink;
 
-/// Converts Latin1 to UTF-16: each byte is a unit. The destination is at least as long as the source.
+/// Converts Latin1 to UTF-16 at the start of `dst`: each byte is a unit, and nothing behind them
+/// changes. `dst` has at least as many units as `src` has bytes, which a comparison of lengths
+/// tests.
 pub fn convert_latin1_to_utf16(src: &[u8], dst: &mut [u16])
     requires { length src.now ≤ length dst.old }
     ensures units { take (length src.now) dst.new ≡ src.now }
@@ -21,8 +23,10 @@ pub fn convert_latin1_to_utf16(src: &[u8], dst: &mut [u16])
     }
 }
 
-/// Takes the low eight bits of each unit of UTF-16. Where no unit is above 00FF, that is Latin1. The
-/// destination is at least as long as the source.
+/// Takes the low eight bits of each unit of UTF-16, into the start of `dst`; nothing behind them
+/// changes. Where `is_utf16_latin1` holds of `src`, that is its text in Latin1; else, also of
+/// surrogates, it is not. `dst` has at least as many bytes as `src` has units, which a comparison
+/// of lengths tests.
 pub fn convert_utf16_to_latin1_lossy(src: &[u16], dst: &mut [u8])
     requires { length src.now ≤ length dst.old }
     ensures bytes { take (length src.now) dst.new ≡ low_bytes src.now }
@@ -33,8 +37,12 @@ pub fn convert_utf16_to_latin1_lossy(src: &[u16], dst: &mut [u8])
     }
 }
 
-/// Converts UTF-8 to Latin1, and returns the bytes written. The source is well-formed UTF-8 with no
-/// scalar above U+00FF, and the destination is at least as long.
+/// Converts UTF-8 to Latin1 at the start of `dst`, a byte for each character, and returns how many
+/// bytes were written; nothing behind them changes.
+///
+/// The conditions are that `src` is well-formed with no character above U+00FF, which
+/// `is_utf8_latin1` tests, and that `dst` is at least as long as `src`, which a comparison of
+/// lengths tests.
 pub fn convert_utf8_to_latin1_lossy(src: &[u8], dst: &mut [u8]) -> usize
     requires latin1 { IsLatin1Text src.now }
     requires room { length src.now ≤ length dst.old }
@@ -68,8 +76,9 @@ pub(crate) fn narrow_text(text: &str, dst: &mut [u8]) -> usize
     written
 }
 
-/// Converts the longest prefix of Latin1 whose UTF-8 fits, and returns the bytes read and the bytes
-/// written.
+/// Converts the longest prefix of Latin1 whose UTF-8 fits into `dst`, and returns how many bytes
+/// were read and how many were written; nothing behind these changes. The caller goes on with the
+/// unread bytes.
 pub fn convert_latin1_to_utf8_partial(src: &[u8], dst: &mut [u8]) -> (usize, usize)
     ensures longest { IsLongest (λ _. Unit {0}) (λ i. length (encode_utf8_all (take i src.now)))
         (length src.now) (length dst.old) result.0 }
@@ -97,8 +106,9 @@ pub fn convert_latin1_to_utf8_partial(src: &[u8], dst: &mut [u8]) -> (usize, usi
     (read, sink.written())
 }
 
-/// Converts Latin1 to UTF-8, and returns the bytes written. The destination is at least twice as
-/// long as the source.
+/// Converts Latin1 to UTF-8 at the start of `dst`, and returns how many bytes were written; nothing
+/// behind them changes. `dst` is at least twice as long as `src`, which a comparison of lengths
+/// tests.
 pub fn convert_latin1_to_utf8(src: &[u8], dst: &mut [u8]) -> usize
     requires { 2 * length src.now ≤ length dst.old }
     ensures fits { result ≤ length dst.new }

@@ -11,15 +11,17 @@ use crate::latin1_conversions::narrow_text;
 use std::alloc::{AllocError, Global};
 use std::borrow::CowStr;
 
-/// Latin1 that is a part of a text, where that is ASCII, or was made of one.
+/// Bytes of Latin1: borrowed from a text, or in memory of their own.
 #[derive(Debug, PartialEq, Eq, Drop)]
 pub enum Latin1Bytes<'a> {
+    /// The bytes of the text itself, which is ASCII.
     Borrowed(&'a [u8]),
+    /// New bytes, of a text that is not ASCII.
     Owned(Vec<u8>),
 }
 
-/// Decodes Latin1. What is ASCII is borrowed, and asks for no memory; anything else is a new text,
-/// for which memory may be wanting.
+/// Decodes Latin1 to text: borrowed where the bytes are ASCII, which asks for no memory, and else
+/// new. The error is that memory was refused.
 pub fn decode_latin1(alloc: Global, bytes: &[u8]) -> Result<CowStr<'_>, AllocError>
     ensures text { IfOk result (λ t. cow_str_bytes t ≡ encode_utf8_all bytes.now) }
     ensures borrowed { IfOk result (λ t. IsBorrowedStr t ↔ IsAscii bytes.now) }
@@ -45,8 +47,9 @@ pub fn decode_latin1(alloc: Global, bytes: &[u8]) -> Result<CowStr<'_>, AllocErr
     Ok(CowStr::Owned(text))
 }
 
-/// Encodes a text, which has no scalar above U+00FF, as Latin1. What is ASCII is borrowed, and asks
-/// for no memory; anything else is new, and memory may be wanting for it.
+/// Encodes a text as Latin1, a byte for each character: borrowed where it is ASCII, which asks for
+/// no memory, and else new. The error is that memory was refused. The condition, that no character
+/// is above U+00FF, is tested by `is_str_latin1`.
 pub fn encode_latin1_lossy(alloc: Global, text: &str) -> Result<Latin1Bytes<'_>, AllocError>
     requires { AllLatin1 (chars text.now) }
     ensures bytes { IfOk result (λ b. latin1_bytes b ≡ chars text.now) }

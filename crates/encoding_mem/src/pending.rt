@@ -18,6 +18,7 @@ impl Model for Pending {
 }
 
 impl Pending {
+    /// No bytes.
     pub fn new() -> Self
         ensures { result ≡ [] }
     {
@@ -27,7 +28,9 @@ impl Pending {
         }
     }
 
-    /// The first `len` of the bytes that are held and those of the source, or all that there are.
+    /// The first `len` of the bytes that are held and those of `src` behind them, or all that there
+    /// are. The conditions are that `len` is at most 8, and that no more than `len` are held
+    /// (`held.len()`).
     pub fn prefix_of(held: &Pending, src: &[u8], len: usize) -> Self
         requires held { length held.now ≤ len }
         requires room { len ≤ 8 }
@@ -42,6 +45,7 @@ impl Pending {
         }
     }
 
+    /// How many bytes are held, at most 8.
     pub fn len(&self) -> usize
         ensures exact { result ≡ length self.now }
         ensures small { result ≤ 8 }
@@ -49,13 +53,14 @@ impl Pending {
         self.len
     }
 
+    /// The bytes that are held.
     pub fn as_slice(&self) -> &[u8]
         ensures { result.now ≡ self.now }
     {
         &self.bytes[..self.len]
     }
 
-    /// Appends a byte.
+    /// Appends a byte. The condition is that fewer than 8 are held (`len`).
     pub fn push(&mut self, b: u8)
         requires { length self.old < 8 }
         ensures { self.new ≡ self.old ++ b ∷ [] }
@@ -64,7 +69,7 @@ impl Pending {
         self.len += 1;
     }
 
-    /// Removes the first `n` bytes.
+    /// Removes the first `n` bytes. The condition is that as many are held (`len`).
     pub fn remove_prefix(&mut self, n: usize)
         requires { n ≤ length self.old }
         ensures { self.new ≡ drop n self.old }
@@ -73,7 +78,7 @@ impl Pending {
         self.len -= n;
     }
 
-    /// Puts these bytes in place of what was there.
+    /// Holds these bytes in place of those before. The condition is that they are at most 8.
     pub fn fill(&mut self, bytes: &[u8])
         requires { length bytes.now ≤ 8 }
         ensures { self.new ≡ bytes.now }

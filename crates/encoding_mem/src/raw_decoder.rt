@@ -8,13 +8,21 @@ ghost use Rattle.encoding_mem.specs.declared.room.OutputUnit.TheVariants.{Units,
 use crate::decoder_result::DecoderResult;
 
 /// A decoder that is fed bytes in cuts of any size, and writes text into room of any size. It
-/// reports each malformed sequence and does not replace it. What a call has not read is handed in
-/// again, first, with the next call; nothing follows a last call.
+/// reports each malformed sequence, and does not replace it.
+///
+/// It keeps the bytes that are not decided and the mode; the caller keeps the unread bytes, which
+/// come first in the next call. `last` says that the stream ends with `src`; behind a call with
+/// `last` that returned `InputEmpty`, no call follows.
 pub trait RawDecoder {
+    /// What contracts say of a decoder: the pieces that the bytes to come will give, how many bytes
+    /// are pending, and the room that is enough.
     ghost state: { Self → DecoderState };
 
-    /// Decodes bytes to UTF-8. Returns how the call ended, the bytes read and the bytes written. A
-    /// character is never split; nothing behind what is written changes.
+    /// Decodes bytes to UTF-8 up to the first malformed sequence. Returns how the call ended, how
+    /// many bytes of `src` were read, and how many bytes of `dst` were written.
+    ///
+    /// A character is never split, and nothing behind what is written changes. `OutputFull` does
+    /// not come where `dst` is as long as `max_utf8_buffer_length_without_replacement` returns.
     fn decode_to_utf8_raw(
         &mut self,
         src: &[u8],
@@ -32,7 +40,11 @@ pub trait RawDecoder {
             (length src.now - result.1) (length dst.old) (length (drop result.2 dst.new)) result.0 }
         ensures limits { (state self.new).room ≡ (state self.old).room };
 
-    /// Decodes bytes to UTF-16. Returns how the call ended, the bytes read and the units written.
+    /// Decodes bytes to UTF-16 up to the first malformed sequence. Returns how the call ended, how
+    /// many bytes of `src` were read, and how many units of `dst` were written.
+    ///
+    /// A surrogate pair is never split, and nothing behind what is written changes. `OutputFull`
+    /// does not come where `dst` is as long as `max_utf16_buffer_length` returns.
     fn decode_to_utf16_raw(
         &mut self,
         src: &[u8],
@@ -47,22 +59,25 @@ pub trait RawDecoder {
             (length src.now - result.1) (length dst.old) (length (drop result.2 dst.new)) result.0 }
         ensures limits { (state self.new).room ≡ (state self.old).room };
 
-    /// How many units are room enough for the text of `n` more bytes; none where that passes a
-    /// `usize`. So much room is also enough where each malformed sequence is written as U+FFFD.
+    /// How many units of UTF-16 are room enough for the text of `n` more bytes and of what is
+    /// pending, whether malformed sequences are reported or written as U+FFFD; `None` where the
+    /// number passes a `usize`.
     fn max_utf16_buffer_length(&self, n: usize) -> Option<usize>
         ensures { result ≡ queried (state self.now).room Units ((state self.now).pending + n) };
 
-    /// How many bytes are room enough for the text of `n` more bytes up to the first malformed
-    /// sequence, and for a U+FFFD; none where that passes a `usize`.
+    /// How many bytes of UTF-8 are room enough for the text of `n` more bytes and of what is
+    /// pending, up to the first malformed sequence, and for one U+FFFD there; `None` where the
+    /// number passes a `usize`.
     fn max_utf8_buffer_length_without_replacement(&self, n: usize) -> Option<usize>
         ensures { result ≡ queried (state self.now).room Bytes ((state self.now).pending + n) };
 
-    /// How many bytes are room enough for the text of `n` more bytes, with U+FFFD for each
-    /// malformed sequence; none where that passes a `usize`.
+    /// How many bytes of UTF-8 are room enough for the text of `n` more bytes and of what is
+    /// pending, with U+FFFD for each malformed sequence; `None` where the number passes a `usize`.
     fn max_utf8_buffer_length(&self, n: usize) -> Option<usize>
         ensures { result ≡ queried (state self.now).room Replaced ((state self.now).pending + n) };
 
-    /// How many bytes are read whose piece is not decided.
+    /// How many bytes are pending: read, but in no piece that is decided. The offset of what comes
+    /// next is the number of bytes read so far less this.
     fn pending_len(&self) -> usize
         ensures { result ≡ (state self.now).pending };
 }

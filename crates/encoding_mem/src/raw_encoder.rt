@@ -2,6 +2,7 @@ ghost use Rattle.std.specs.Prelude.{◌≡◌, ◌≢◌, ◌↔◌, ℕ, ◌-�
 ghost use Rattle.std.specs.Str.{chars, IsCharBoundary};
 ghost use Rattle.std.specs.Char.Utf16.{utf16_lossy_chars};
 ghost use Rattle.encoding_mem.specs.Coding.{Coding, IsCoding};
+ghost use Rattle.encoding_mem.specs.Conversions.{IsUnitBoundary};
 ghost use Rattle.encoding_mem.specs.Encoding.{Encodes, EncodeEndsWith};
 ghost use Rattle.encoding_mem.specs.DecodedLength.{checked, bound_at};
 ghost use Rattle.encoding_mem.specs.EncoderRule.{Tight};
@@ -11,22 +12,31 @@ ghost use Rattle.encoding_mem.specs.declared.room.EncodedLength.{EncodedLength};
 
 use crate::encoder_result::EncoderResult;
 
-/// An encoder that is fed text in cuts of any size, and writes bytes into room of any size. It reports
-/// each character without bytes, and does not write its reference.
+/// An encoder that is fed text in cuts of any size, and writes bytes into room of any size. It
+/// reports each character without bytes, and does not write its reference.
+///
+/// It keeps only the set in force, which ISO-2022-JP alone has; the caller keeps the unread text,
+/// which comes first in the next call. `last` says that the text ends with `src`; after it the
+/// encoder is as a new one.
 pub trait RawEncoder {
-    /// The most bytes that one step writes.
+    /// The most bytes that one step, an escape or a character, writes.
     ghost need: { Self → ℕ };
 
+    /// What the encoder makes of each character in each set: its set, its bytes and the escapes.
     ghost coding: { Self → Coding };
 
     /// The set that is in force.
     ghost set: { Self → EscapeState };
 
-    /// What the length queries return.
+    /// The numbers by which the length queries are computed.
     ghost limits: { Self → EncodedLength };
 
-    /// Encodes a text. Returns how the call ended, the bytes of text read and the bytes written.
-    /// What was read ends between characters; nothing behind what is written changes.
+    /// Encodes text up to the first character without bytes. Returns how the call ended, how many
+    /// bytes of `src` were read, and how many bytes of `dst` were written.
+    ///
+    /// What was read ends between characters, and nothing behind what is written changes.
+    /// `OutputFull` does not come where `dst` is as long as
+    /// `max_buffer_length_from_utf8_without_replacement` returns.
     fn encode_from_utf8_raw(
         &mut self,
         src: &str,
@@ -49,8 +59,13 @@ pub trait RawEncoder {
         ensures limits { limits self.new ≡ limits self.old }
         ensures need { need self.new ≡ need self.old };
 
-    /// Encodes units of UTF-16, in which a surrogate outside a pair is U+FFFD. The slice is read by
-    /// itself, and no pair that it holds is parted. Returns as above, with the units read.
+    /// Encodes units of UTF-16 up to the first character without bytes. Returns how the call ended,
+    /// how many units of `src` were read, and how many bytes of `dst` were written.
+    ///
+    /// A surrogate in no pair of `src` is encoded as U+FFFD: the slice is read by itself. What was
+    /// read ends at no place between the two units of a pair, and nothing behind what is written
+    /// changes. `OutputFull` does not come where `dst` is as long as
+    /// `max_buffer_length_from_utf16_without_replacement` returns.
     fn encode_from_utf16_raw(
         &mut self,
         src: &[u16],
@@ -58,6 +73,7 @@ pub trait RawEncoder {
         last: bool,
     ) -> (EncoderResult, usize, usize)
         ensures read { result.1 ≤ length src.now }
+        ensures boundary { IsUnitBoundary src.now result.1 }
         ensures room { result.2 ≤ length dst.new }
         ensures behind { drop result.2 dst.new ≡ drop result.2 dst.old }
         ensures target { coding self.new ≡ coding self.old }
@@ -72,19 +88,22 @@ pub trait RawEncoder {
         ensures limits { limits self.new ≡ limits self.old }
         ensures need { need self.new ≡ need self.old };
 
-    /// How many bytes are room enough for what `n` units of UTF-16 are encoded to, and for the last escape;
-    /// none where that passes a `usize`. References are not counted.
+    /// How many bytes are room enough for what `n` units of UTF-16 are encoded to, and for the last
+    /// escape; `None` where the number passes a `usize`. References are not counted.
     fn max_buffer_length_from_utf16_without_replacement(&self, n: usize) -> Option<usize>
         ensures { result ≡ checked (bound_at (limits self.now).units n) };
 
-    /// How many bytes are room enough for what `n` bytes of UTF-8 are encoded to, and for the last escape;
-    /// none where that passes a `usize`. References are not counted.
+    /// How many bytes are room enough for what `n` bytes of UTF-8 are encoded to, and for the last
+    /// escape; `None` where the number passes a `usize`. References are not counted.
     fn max_buffer_length_from_utf8_without_replacement(&self, n: usize) -> Option<usize>
         ensures { result ≡ checked (bound_at (limits self.now).bytes n) };
 
-    /// Whether an escape to ASCII is still to be written at the end.
+    /// Whether an escape to ASCII is still to be written at the end: so only in ISO-2022-JP, where
+    /// another set is in force.
     fn has_pending_state(&self) -> bool
         ensures { IsTrue result ↔ (set self.now ≢ Ascii) };
 
+    /// That no escape and no character has more than `need` bytes, and what else is true of every
+    /// target.
     ghost laws: { (x : Self) → IsCoding (need x) (coding x) };
 }

@@ -4,7 +4,7 @@ ghost use Rattle.std.specs.Prelude.{◌≡◌, ◌+◌, false};
 ghost use Rattle.encoding_mem.specs.DecodedLength.{checked, bound_at, bound_of, queried, decoded_length_utf8, decoded_length_single_byte, decoded_length_multibyte, decoded_length_utf16, decoded_length_replacement};
 ghost use Rattle.encoding_mem.specs.EncodedLength.{encoded_length_utf8, encoded_length_single_byte, encoded_length_two_byte, encoded_length_gb18030, encoded_length_iso_2022_jp};
 
-/// What room is counted in.
+/// What the room for decoded text is counted in.
 #[derive(Clone, Copy)]
 pub enum OutputUnit {
     /// Units of UTF-16, whether malformed sequences are reported or written as U+FFFD.
@@ -15,21 +15,24 @@ pub enum OutputUnit {
     Replaced,
 }
 
-/// A factor, and what is added to the product.
+/// A bound on room: `factor` times a length, and `extra`.
 #[derive(Clone, Copy)]
 pub struct Bound {
+    /// What the length is multiplied by.
     pub factor: usize,
+    /// What is added to the product.
     pub extra: usize,
 }
 
 impl Bound {
+    /// The bound with this factor and this addition.
     pub fn new(factor: usize, extra: usize) -> Bound
         ensures { result ≡ record { factor = factor; extra = extra } }
     {
         Bound { factor, extra }
     }
 
-    /// The value for a number; none where it passes a `usize`.
+    /// The bound for a length of `n`; `None` where it passes a `usize`.
     pub fn at(self, n: usize) -> Option<usize>
         ensures { result ≡ checked (bound_at self n) }
     {
@@ -37,43 +40,46 @@ impl Bound {
     }
 }
 
-/// The room that is enough for what a text is encoded to, by its units of UTF-16, and by its bytes of UTF-8.
+/// The room in bytes that is enough for what a text is encoded to, by its length in UTF-16 and in
+/// UTF-8.
 #[derive(Clone, Copy)]
 pub struct EncodedLength {
+    /// By the units of UTF-16 that the text has.
     pub units: Bound,
+    /// By the bytes of UTF-8 that the text has.
     pub bytes: Bound,
 }
 
 impl EncodedLength {
-    /// Of UTF-8.
+    /// For UTF-8 as the target.
     pub fn utf8() -> EncodedLength
         ensures { result ≡ encoded_length_utf8 }
     {
         EncodedLength::new(Bound::new(3, 0), Bound::new(1, 0))
     }
 
-    /// Of the targets with one byte a character.
+    /// For targets with one byte a character.
     pub fn single_byte() -> EncodedLength
         ensures { result ≡ encoded_length_single_byte }
     {
         EncodedLength::new(Bound::new(1, 0), Bound::new(1, 0))
     }
 
-    /// Of the targets with two bytes a character at most.
+    /// For targets with at most two bytes a character.
     pub fn two_byte() -> EncodedLength
         ensures { result ≡ encoded_length_two_byte }
     {
         EncodedLength::new(Bound::new(2, 0), Bound::new(1, 1))
     }
 
-    /// Of gb18030.
+    /// For gb18030 as the target.
     pub fn gb18030() -> EncodedLength
         ensures { result ≡ encoded_length_gb18030 }
     {
         EncodedLength::new(Bound::new(4, 0), Bound::new(2, 2))
     }
 
-    /// Of ISO-2022-JP.
+    /// For ISO-2022-JP as the target.
     pub fn iso_2022_jp() -> EncodedLength
         ensures { result ≡ encoded_length_iso_2022_jp }
     {
@@ -87,39 +93,42 @@ impl EncodedLength {
     }
 }
 
-/// The room that is enough for the text of so many bytes, in each of the three counts.
+/// The room that is enough for the text of some bytes, in each of the three counts of `OutputUnit`.
 #[derive(Clone, Copy)]
 pub struct DecodedLength {
-    /// Whether two bytes count as one, and an odd byte too.
+    /// Whether the length counts pairs of bytes, an odd byte as a pair: so in UTF-16.
     pub in_pairs: bool,
+    /// The bound in units of UTF-16.
     pub units: Bound,
+    /// The bound in bytes of UTF-8, where malformed sequences are reported.
     pub bytes: Bound,
+    /// The bound in bytes of UTF-8, where each malformed sequence is written as U+FFFD.
     pub replaced: Bound,
 }
 
 impl DecodedLength {
-    /// Of UTF-8.
+    /// For UTF-8 as the source.
     pub fn utf8() -> DecodedLength
         ensures { result ≡ decoded_length_utf8 }
     {
         DecodedLength::of_bytes(Bound::new(1, 1), Bound::new(1, 3), Bound::new(3, 3))
     }
 
-    /// Of the encodings with one byte a character.
+    /// For sources with one byte a character.
     pub fn single_byte() -> DecodedLength
         ensures { result ≡ decoded_length_single_byte }
     {
         DecodedLength::of_bytes(Bound::new(1, 0), Bound::new(3, 0), Bound::new(3, 0))
     }
 
-    /// Of the encodings with two and more bytes a character, but UTF-8 and UTF-16.
+    /// For sources with two and more bytes a character, but UTF-8 and UTF-16.
     pub fn multibyte() -> DecodedLength
         ensures { result ≡ decoded_length_multibyte }
     {
         DecodedLength::of_bytes(Bound::new(1, 1), Bound::new(3, 1), Bound::new(3, 1))
     }
 
-    /// Of UTF-16.
+    /// For UTF-16 as the source.
     pub fn utf16() -> DecodedLength
         ensures { result ≡ decoded_length_utf16 }
     {
@@ -129,7 +138,7 @@ impl DecodedLength {
         }
     }
 
-    /// Of the encoding "replacement", whose text is one U+FFFD.
+    /// For replacement as the source, whose text is one U+FFFD.
     pub fn replacement() -> DecodedLength
         ensures { result ≡ decoded_length_replacement }
     {
@@ -148,7 +157,8 @@ impl DecodedLength {
         }
     }
 
-    /// The room for so many bytes that are pending and so many new ones; none where it passes a `usize`.
+    /// The room for the text of `pending` bytes and of `n` more, counted in `count`; `None` where
+    /// it passes a `usize`.
     pub fn query(self, count: OutputUnit, pending: usize, n: usize) -> Option<usize>
         ensures { result ≡ queried self count (pending + n) }
     {

@@ -4,67 +4,78 @@ ghost use Rattle.std.specs.Str.{chars};
 ghost use Rattle.encoding_mem.specs.Writing.{len_utf16};
 ghost use Rattle.encoding_mem.specs.Text.{text_len};
 
-/// A destination of text, whose units are bytes of UTF-8 or units of UTF-16.
+/// A destination of text, filled from its start, whose units are bytes of UTF-8 or units of UTF-16.
+/// Decoders write into any.
 pub trait Sink: Drop {
-    /// The units that are free.
+    /// How many units are free.
     ghost free: { Self → ℕ };
 
-    /// The units that are written.
+    /// How many units are written.
     ghost count: { Self → ℕ };
 
-    /// The units of one scalar, and those that are room for any scalar.
+    /// How many units a scalar takes.
     ghost cost: { ℕ → ℕ };
 
+    /// How many units are room for any scalar: 4 bytes or 2 units.
     ghost room: { ℕ };
 
-    /// Whether the units have 16 bits.
+    /// Whether the units are those of UTF-16.
     ghost is_units: { Bool };
 
-    /// From the first the scalars are written, which gives the second.
+    /// That the scalars of a list, written to the first sink, give the second.
     ghost writes: { Self → List ℕ → Self → Type 0 };
 
-    /// How many units are free.
+    /// How many units are free: bytes of UTF-8 or units of UTF-16.
     fn free_len(&self) -> usize
         ensures { result ≡ free self.now };
 
-    /// Whether there is room for any character, or for two below U+0800.
+    /// Whether there is room for any character, which is also room for two below U+0800: 4 bytes or
+    /// 2 units.
     fn has_room(&self) -> bool
         ensures { IsTrue result ↔ (room ≤ free self.now) };
 
-    /// Whether there is room for this character.
+    /// Whether there is room for this character: the test of the condition of `put`.
     fn fits(&self, c: char) -> bool
         ensures { IsTrue result ↔ (cost c ≤ free self.now) };
 
-    /// Writes a character.
+    /// Writes a character. The condition, that there is room for it, is tested by `fits`.
     fn put(&mut self, c: char)
         requires { cost c ≤ free self.old }
         ensures free { free self.new + cost c ≡ free self.old }
         ensures writes { writes self.old (c ∷ []) self.new };
 
-    /// Writes a text that has no more bytes than units are free.
+    /// Writes a text. The condition, that it has at most as many bytes as units are free, is tested
+    /// by comparing its length with `free_len`.
     fn put_text(&mut self, text: &str)
         requires { length text.now ≤ free self.old }
         ensures free { free self.new + text_len is_units text.now ≡ free self.old }
         ensures writes { writes self.old (chars text.now) self.new };
 
-    /// How many units are written.
+    /// How many units are written: bytes of UTF-8 or units of UTF-16.
     fn written(&self) -> usize
         ensures { result ≡ count self.now };
 
-    /// Hands out the sink, and leaves one without room in its place, for a loop that puts it back.
-    /// One that owns its sink keeps in registers what it would load and store for each character.
+    /// Hands out the sink, and leaves one without room in its place, for a loop that puts it back
+    /// at its end. A loop that owns its sink keeps in registers what it would load and store for
+    /// each character.
     fn detach(&mut self) -> Self
         ensures { result ≡ self.old };
 
+    /// A scalar takes the units of its form in UTF-16, or in UTF-8.
     ghost cost_is: { (c : ℕ) → cost c ≡ (if is_units then len_utf16 c else len_utf8 c) };
 
+    /// The room for any scalar is 2 units or 4 bytes.
     ghost room_is: { room ≡ (if is_units then 2 else 4) };
 
+    /// No scalar takes more than `room`.
     ghost fits_room: { (c : ℕ) → cost c ≤ room };
 
+    /// No two scalars below U+0800 take more than `room`.
     ghost fits_two: { (c d : ℕ) → c < 0x800 → d < 0x800 → cost c + cost d ≤ room };
 
+    /// Writing nothing changes nothing.
     ghost writes_none: { (s : Self) → writes s [] s };
 
+    /// Writing one list and then another writes both.
     ghost writes_more: { (s t u : Self) (a b : List ℕ) → writes s a t → writes t b u → writes s (a ++ b) u };
 }

@@ -14,11 +14,15 @@ use crate::sink::Sink;
 use crate::utf8_sink::Utf8Sink;
 use crate::utf16_sink::Utf16Sink;
 
-/// A decoder that writes into any destination. Each is a `RawDecoder`.
+/// A decoder that writes into any destination. Each is a `RawDecoder` too, whose calls into slices
+/// come by one `impl`; the rule of use is that of `RawDecoder`.
 pub trait SinkDecoder {
+    /// What contracts say of a decoder: the pieces that the bytes to come will give, how many bytes
+    /// are pending, and the room that is enough.
     ghost state: { Self → DecoderState };
 
-    /// Decodes bytes, and returns how the call ended and the bytes read.
+    /// Decodes bytes into a destination up to the first malformed sequence. Returns how the call
+    /// ended, and how many bytes of `src` were read.
     fn decode_into<S: Sink>(
         &mut self,
         src: &[u8],
@@ -33,11 +37,11 @@ pub trait SinkDecoder {
             (length src.now) (length src.now - result.1) (S.free sink.old) (S.free sink.new) result.0 }
         ensures limits { (state self.new).room ≡ (state self.old).room };
 
-    /// How many bytes are read whose piece is not decided.
+    /// How many bytes are pending: read, but in no piece that is decided.
     fn held_len(&self) -> usize
         ensures { result ≡ (state self.now).pending };
 
-    /// The room that is enough.
+    /// The numbers by which the length queries are computed.
     fn room(&self) -> DecodedLength
         ensures { result ≡ (state self.now).room };
 }
@@ -93,7 +97,8 @@ impl<D: SinkDecoder> RawDecoder for D {
     }
 }
 
-/// A rule, with what is pending: the decoder that a rule makes.
+/// The decoder that a rule makes: the rule, and up to 6 bytes that are pending. A codec of another
+/// crate is a `Buffered` over its own `DecoderRule`.
 #[derive(Drop)]
 pub struct Buffered<F: DecoderRule> {
     rule: F,
@@ -103,7 +108,7 @@ pub struct Buffered<F: DecoderRule> {
 }
 
 impl<F: DecoderRule> Buffered<F> {
-    /// Nothing is pending.
+    /// A decoder by this rule, with nothing pending.
     pub fn new(rule: F) -> Self
         ensures { IsFreshDecoder (⟦<Buffered<F> as SinkDecoder>⟧.state result)
             (F.pieces rule) (F.limits rule) }
@@ -114,7 +119,7 @@ impl<F: DecoderRule> Buffered<F> {
         }
     }
 
-    /// The rule, as it is now: by it are read what is pending and what follows.
+    /// The rule as it is now, by which what is pending and what follows are read.
     pub fn rule(&self) -> &F
         ensures { ReadsByRule (⟦<Buffered<F> as SinkDecoder>⟧.state self.now)
             (F.pieces result.now) }

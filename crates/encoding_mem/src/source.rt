@@ -4,6 +4,7 @@ ghost use Rattle.std.specs.Prelude.{◌≡◌, ◌↔◌, IsTrue, ℕ, ◌+◌, 
 ghost use Rattle.std.specs.Str.{chars, IsAscii, IsCharBoundary};
 ghost use Rattle.std.specs.Char.{len_utf8, encode_utf8};
 ghost use Rattle.std.specs.Char.Utf16.{utf16_lossy_chars};
+ghost use Rattle.encoding_mem.specs.Conversions.{IsUnitBoundary};
 ghost use Rattle.encoding_mem.specs.DecodedLength.{cost_in};
 ghost use Rattle.encoding_mem.specs.EncodedLength.{bound_for, encoded_length_utf8};
 ghost use Rattle.encoding_mem.specs.EncoderRule.{IsCopied};
@@ -16,44 +17,47 @@ use crate::ascii_copies::copy_basic_latin_to_ascii;
 use crate::scalar::scalar_of;
 use crate::units_text::write_units;
 
-/// A source of characters: a list of bytes or units, which stays as it is, and an offset in it.
+/// A text that is read character by character from its start: a list of bytes of UTF-8 or of units
+/// of UTF-16, which stays as it is, and an offset in it. Encoders read any.
 pub trait Source {
-    /// The text of a list.
+    /// The text of a list of units.
     ghost text: { List ℕ → List ℕ };
 
-    /// An offset between characters.
+    /// That an offset in a list is between characters: in UTF-16, not between the two units of a
+    /// pair.
     ghost IsBoundary: { List ℕ → ℕ → Type 0 };
 
-    /// Whether it is a list of units of 16 bits.
+    /// Whether the list has units of UTF-16.
     ghost is_units: { Bool };
 
     /// The whole list.
     ghost all: { Self → List ℕ };
 
-    /// How much of it was read.
+    /// How much of the list was read.
     ghost offset: { Self → ℕ };
 
-    /// The next character and its length in bytes or units, or `None` at the end. It stays unread.
+    /// The next character, and its length in bytes or units, or `None` at the end. It stays unread.
+    /// A surrogate in no pair is U+FFFD, of one unit.
     fn peek(&self) -> Option<(char, usize)>
         ensures next { MatchOption result (text (drop (offset self.now) (all self.now)) ≡ [])
             (λ p. text (drop (offset self.now) (all self.now)) ≡ p.0 ∷ text (drop (offset self.now + p.1) (all self.now))) }
         ensures boundary { IfSome result (λ p. IsBoundary (all self.now) (offset self.now + p.1)) }
         ensures size { IfSome result (λ p. (offset self.now + p.1 ≤ length (all self.now)) × (p.1 ≡ cost_in is_units p.0)) };
 
-    /// Goes past the next character, which `peek` has shown to be there.
+    /// Goes past the next character. The condition, that there is one, is tested by `peek`.
     fn advance(&mut self)
         requires { 0 < length (text (drop (offset self.old) (all self.old))) }
         ensures same { all self.new ≡ all self.old }
         ensures next { (c : ℕ) × (text (drop (offset self.old) (all self.old)) ≡ c ∷ text (drop (offset self.new) (all self.new)))
             × (offset self.new ≡ offset self.old + cost_in is_units c) };
 
-    /// Whether the second of the bytes or units that are next is ASCII. Where the first is, a run of two
-    /// characters at least is next, which is worth a copy.
+    /// Whether the second of the bytes or units that are next is there and is ASCII. Where the
+    /// first is too, a run of two characters at least is next, which is worth a copy.
     fn is_second_ascii(&self) -> bool
         ensures { IsTrue result ↔ IsSecondAscii (drop (offset self.now) (all self.now)) };
 
-    /// Copies the run of ASCII that is next, as much of it as fits, and goes past it. Returns its
-    /// length in characters, which is not 0 where the next character is ASCII and there is room.
+    /// Copies the run of ASCII that is next to the start of `dst`, as much of it as fits, and goes
+    /// past it. Returns its length in bytes, which is also its length in units.
     fn copy_ascii(&mut self, dst: &mut [u8]) -> usize
         ensures same { all self.new ≡ all self.old }
         ensures fits { result ≤ length dst.new }
@@ -67,8 +71,8 @@ pub trait Source {
         ensures longest { result < length dst.old
             → (c : ℕ) (rest : List ℕ) → text (drop (offset self.new) (all self.new)) ≡ c ∷ rest → 0x80 ≤ c };
 
-    /// Writes characters that are next in UTF-8, as many as there is surely room for, and goes past
-    /// them. Returns how many bytes they have.
+    /// Writes characters that are next in UTF-8 to the start of `dst`, as many as there is surely
+    /// room for, and goes past them. Returns how many bytes they have.
     fn copy_text(&mut self, dst: &mut [u8]) -> usize
         ensures same { all self.new ≡ all self.old }
         ensures fits { result ≤ length dst.new }
@@ -79,12 +83,14 @@ pub trait Source {
         ensures text { IsCopied (text (drop (offset self.old) (all self.old))) (take result dst.new)
             (text (drop (offset self.new) (all self.new))) };
 
-    /// How many bytes or units were read. They end between characters.
+    /// How many bytes or units were read. They end between characters: in UTF-16, not between the
+    /// two units of a pair.
     fn read(&self) -> usize
         ensures offset { result ≡ offset self.now }
         ensures within { result ≤ length (all self.now) }
         ensures boundary { IsBoundary (all self.now) result };
 
+    /// The offset is at most the length of the list.
     ghost within: { (s : Self) → offset s ≤ length (all s) };
 }
 
@@ -128,7 +134,7 @@ fn whole_characters(text: &str, most: usize) -> (&str, &str)
     text.split_at(text.floor_char_boundary(most))
 }
 
-/// The characters of a text, read from its start.
+/// The characters of a text in UTF-8, read from its start.
 #[derive(Drop)]
 pub struct Utf8Source<'a> {
     text: &'a str,
@@ -140,7 +146,7 @@ pub struct Utf8Source<'a> {
 }
 
 impl<'a> Utf8Source<'a> {
-    /// Nothing of the text is read.
+    /// A source over the text, of which nothing is read yet.
     pub fn new(text: &'a str) -> Self
         ensures text { ⟦<Utf8Source<'a> as Source>⟧.all result ≡ text.now }
         ensures read { ⟦<Utf8Source<'a> as Source>⟧.offset result ≡ 0 }
@@ -218,6 +224,7 @@ pub(crate) fn first_of_units(units: &[u16]) -> Option<(char, usize)>
         (λ p. utf16_lossy_chars units.now ≡ p.0 ∷ utf16_lossy_chars (drop p.1 units.now)) }
     ensures within { IfSome result (λ p. p.1 ≤ length units.now) }
     ensures size { IfSome result (λ p. p.1 ≡ len_utf16 p.0) }
+    ensures boundary { IfSome result (λ p. IsUnitBoundary units.now p.1) }
 {
     if units.is_empty() {
         return None;
@@ -255,10 +262,11 @@ pub struct Utf16Source<'a> {
     units: &'a [u16],
     offset: usize,
     ghost within: { offset ≤ length units.now },
+    ghost boundary: { IsUnitBoundary units.now offset },
 }
 
 impl<'a> Utf16Source<'a> {
-    /// None of the units is read.
+    /// A source over the units, of which none is read yet.
     pub fn new(units: &'a [u16]) -> Self
         ensures units { ⟦<Utf16Source<'a> as Source>⟧.all result ≡ units.now }
         ensures offset { ⟦<Utf16Source<'a> as Source>⟧.offset result ≡ 0 }
@@ -270,7 +278,7 @@ impl<'a> Utf16Source<'a> {
 impl<'a> Source for Utf16Source<'a> {
     ghost text = { utf16_lossy_chars };
 
-    ghost IsBoundary = { λ us i. i ≤ length us };
+    ghost IsBoundary = { IsUnitBoundary };
 
     ghost is_units = { true };
 

@@ -15,11 +15,15 @@ use crate::raw_encoder::RawEncoder;
 use crate::room::EncodedLength;
 use crate::source::{Source, Utf8Source, Utf16Source};
 
-/// An encoder that reads any source. Each is a `RawEncoder`.
+/// An encoder that reads any source. Each is a `RawEncoder` too, whose calls on slices come by one
+/// `impl`; the rule of use is that of `RawEncoder`.
 pub trait SourceEncoder {
+    /// What contracts say of an encoder: the most bytes of a step, what it makes of each character,
+    /// the set in force, and the room that is enough.
     ghost parts: { Self → EncoderParts };
 
-    /// Encodes what is left of a source. Returns how the call ended and the bytes written.
+    /// Encodes what is left of a source up to the first character without bytes. Returns how the
+    /// call ended, and how many bytes of `dst` were written. Nothing behind them changes.
     fn encode_from<S: Source>(
         &mut self,
         source: &mut S,
@@ -43,14 +47,17 @@ pub trait SourceEncoder {
         ensures limits { (parts self.new).limits ≡ (parts self.old).limits }
         ensures need { (parts self.new).need ≡ (parts self.old).need };
 
-    /// The room that is enough for what a text is encoded to.
+    /// The numbers by which the length queries are computed.
     fn encoded_length(&self) -> EncodedLength
         ensures { result ≡ (parts self.now).limits };
 
-    /// Whether another set than ASCII is in force.
+    /// Whether another set than ASCII is in force, so that an escape is still to be written at the
+    /// end.
     fn is_in_other_set(&self) -> bool
         ensures { IsTrue result ↔ ((parts self.now).set ≢ Ascii) };
 
+    /// That no escape and no character has more bytes than a step may need, and what else is true
+    /// of every target.
     ghost laws: { (x : Self) → IsCoding (parts x).need (parts x).coding };
 }
 

@@ -19,9 +19,10 @@ fn clear_prefix(bytes: &mut [u8])
     }
 }
 
-/// Clears what is behind the first `written` bytes of a destination that was a text before they
-/// were overwritten: the continuation bytes there, of a character whose first bytes are gone,
-/// become 00. So it is a text again where what was written is one. Nothing else changes.
+/// Clears what stands behind the first `written` bytes of a destination that was a text before
+/// these were overwritten: the continuation bytes there, of a character whose first bytes are gone,
+/// become 00. So the whole is a text again where what was written is one; nothing else changes. The
+/// condition, that `written` is at most the length of `dst`, is tested by comparing.
 pub fn clear_behind(dst: &mut [u8], written: usize)
     requires { written ≤ length dst.old }
     ensures prefix { take written dst.new ≡ take written dst.old }
@@ -32,9 +33,13 @@ pub fn clear_behind(dst: &mut [u8], written: usize)
     clear_prefix(&mut dst[written..]);
 }
 
-/// Converts the longest prefix of whole characters that fits, as `convert_utf16_to_utf8_partial`,
-/// into a text. Of a character whose first bytes are overwritten the other bytes become 00, so that
-/// it stays a text.
+/// Converts the longest prefix of UTF-16 whose UTF-8 fits into a text, which stays one, and returns
+/// how many units were read and how many bytes were written. No pair is split; a surrogate in no
+/// pair of `src` becomes U+FFFD. Where a character of `dst` is overwritten in part, its other bytes
+/// become 00.
+///
+/// The condition is that `dst` is well-formed UTF-8, which `utf8_valid_up_to(dst) == dst.len()`
+/// tests.
 pub fn convert_utf16_to_str_partial(src: &[u16], dst: &mut [u8]) -> (usize, usize)
     requires { IsUtf8 dst.old }
     ensures longest { IsLongest (IsUnitBoundary src.now) (λ i. length (units_in_utf8 (take i src.now)))
@@ -49,8 +54,13 @@ pub fn convert_utf16_to_str_partial(src: &[u16], dst: &mut [u8]) -> (usize, usiz
     (read, written)
 }
 
-/// Converts all units, as `convert_utf16_to_utf8`, into a text, which stays one. It is at least three times
-/// as long as the source.
+/// Converts UTF-16 to UTF-8 at the start of a text, which stays one, and returns how many bytes
+/// were written. A surrogate in no pair becomes U+FFFD. Where a character of `dst` is overwritten
+/// in part, its other bytes become 00.
+///
+/// The conditions are that `dst` is well-formed UTF-8, which `utf8_valid_up_to(dst) == dst.len()`
+/// tests, and that it has at least three times as many bytes as `src` has units, which a comparison
+/// of lengths tests.
 pub fn convert_utf16_to_str(src: &[u16], dst: &mut [u8]) -> usize
     requires utf8 { IsUtf8 dst.old }
     requires room { 3 * length src.now ≤ length dst.old }
@@ -63,9 +73,12 @@ pub fn convert_utf16_to_str(src: &[u16], dst: &mut [u8]) -> usize
     written
 }
 
-/// Converts the longest prefix of Latin1 whose UTF-8 fits, as `convert_latin1_to_utf8_partial`,
-/// into a text. Of a character whose first bytes are overwritten the other bytes become 00, so that
-/// it stays a text.
+/// Converts the longest prefix of Latin1 whose UTF-8 fits into a text, which stays one, and returns
+/// how many bytes were read and how many were written. Where a character of `dst` is overwritten in
+/// part, its other bytes become 00.
+///
+/// The condition is that `dst` is well-formed UTF-8, which `utf8_valid_up_to(dst) == dst.len()`
+/// tests.
 pub fn convert_latin1_to_str_partial(src: &[u8], dst: &mut [u8]) -> (usize, usize)
     requires { IsUtf8 dst.old }
     ensures longest { IsLongest (λ _. Unit {0}) (λ i. length (encode_utf8_all (take i src.now)))
@@ -80,8 +93,11 @@ pub fn convert_latin1_to_str_partial(src: &[u8], dst: &mut [u8]) -> (usize, usiz
     (read, written)
 }
 
-/// Converts Latin1, as `convert_latin1_to_utf8`, into a text, which stays one. It is at least twice as long
-/// as the source.
+/// Converts Latin1 to UTF-8 at the start of a text, which stays one, and returns how many bytes
+/// were written. Where a character of `dst` is overwritten in part, its other bytes become 00.
+///
+/// The conditions are that `dst` is well-formed UTF-8, which `utf8_valid_up_to(dst) == dst.len()`
+/// tests, and that it is at least twice as long as `src`, which a comparison of lengths tests.
 pub fn convert_latin1_to_str(src: &[u8], dst: &mut [u8]) -> usize
     requires utf8 { IsUtf8 dst.old }
     requires room { 2 * length src.now ≤ length dst.old }

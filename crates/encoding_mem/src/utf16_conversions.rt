@@ -6,8 +6,9 @@ ghost use Rattle.encoding_mem.specs.Conversions.{IsLongest, IsUnitBoundary, unit
 use crate::raw_encoder::RawEncoder;
 use crate::utf8_encoder::Utf8Encoder;
 
-/// Converts the longest prefix of whole characters that fits, and returns the units read and the
-/// bytes written.
+/// Converts the longest prefix of UTF-16 whose UTF-8 fits into `dst`, and returns how many units
+/// were read and how many bytes were written; nothing behind these changes. No pair is split; a
+/// surrogate in no pair of `src` becomes U+FFFD. The caller goes on with the unread units.
 pub fn convert_utf16_to_utf8_partial(src: &[u16], dst: &mut [u8]) -> (usize, usize)
     ensures longest { IsLongest (IsUnitBoundary src.now) (λ i. length (units_in_utf8 (take i src.now)))
         (length src.now) (length dst.old) result.0 }
@@ -20,8 +21,9 @@ pub fn convert_utf16_to_utf8_partial(src: &[u16], dst: &mut [u8]) -> (usize, usi
     (read, written)
 }
 
-/// Converts all units, and returns the bytes written. The destination is at least three times as
-/// long as the source.
+/// Converts UTF-16 to UTF-8 at the start of `dst`, and returns how many bytes were written; nothing
+/// behind them changes. A surrogate in no pair becomes U+FFFD. `dst` has at least three times as
+/// many bytes as `src` has units, which a comparison of lengths tests.
 pub fn convert_utf16_to_utf8(src: &[u16], dst: &mut [u8]) -> usize
     requires { 3 * length src.now ≤ length dst.old }
     ensures fits { result ≤ length dst.new }

@@ -11,7 +11,7 @@ use std::mem;
 // How many bytes of a text are put at a time, as units where all of them are ASCII.
 const BLOCK: usize = 256;
 
-/// A destination in UTF-16, which is filled from its start.
+/// A destination of text in units of UTF-16: a slice that is filled from its start.
 #[derive(Drop)]
 pub struct Utf16Sink<'a> {
     units: &'a mut [u16],
@@ -20,7 +20,7 @@ pub struct Utf16Sink<'a> {
 }
 
 impl<'a> Utf16Sink<'a> {
-    /// Nothing is written yet.
+    /// A sink over the slice, in which nothing is written yet.
     #[inline(always)]
     pub fn new(units: &'a mut [u16]) -> Utf16Sink<'a>
         ensures same_reference { result.units.ghost_name ≡ units.entry.ghost_name }

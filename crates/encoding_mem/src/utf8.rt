@@ -245,14 +245,17 @@ fn decide_three(b: u8, c: u8, d: u8, rest: &[u8], last: bool) -> FirstPiece
     }
 }
 
-/// Decodes UTF-8.
+/// The decoder of UTF-8 (the Encoding Standard, section 8.1.1; RFC 3629), which needs no index. A
+/// malformed sequence is the maximal subpart that Unicode names: the longest prefix of some
+/// character's bytes, or else one byte; surrogates and what is not the shortest form are malformed.
+/// Up to 3 bytes are pending.
 #[derive(Drop)]
 pub struct Utf8Decoder {
     inner: Buffered<Utf8Rule>,
 }
 
 impl Utf8Decoder {
-    /// Nothing is pending.
+    /// A decoder of a new stream.
     pub fn new() -> Self
         ensures { IsFreshDecoder (⟦<Utf8Decoder as RawDecoder>⟧.state result)
             pieces_utf8 decoded_length_utf8 }
@@ -262,7 +265,7 @@ impl Utf8Decoder {
         }
     }
 
-    /// Whether nothing is pending.
+    /// Whether nothing is pending, so that what follows is read as at the start of an input.
     pub fn in_neutral_state(&self) -> bool
         ensures { IsTrue result ↔ ((⟦<Utf8Decoder as RawDecoder>⟧.state self.now).pending ≡ 0) }
     {

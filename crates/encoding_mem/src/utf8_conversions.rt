@@ -18,8 +18,9 @@ use crate::source::{ascii_run, first_char};
 use crate::utf8::Utf8Decoder;
 use crate::utf16_sink::Utf16Sink;
 
-/// Converts a text to UTF-16, and returns the units written. The destination is at least as long as
-/// the source.
+/// Converts a text to UTF-16 at the start of `dst`, and returns how many units were written;
+/// nothing behind them changes. `dst` has at least as many units as `src` has bytes, which a
+/// comparison of lengths tests.
 pub fn convert_str_to_utf16(src: &str, dst: &mut [u16]) -> usize
     requires { length src.now ≤ length dst.old }
     ensures fits { result ≤ length dst.new }
@@ -66,9 +67,10 @@ fn put_units(dst: &mut [u16], at: usize, c: char) -> usize
     }
 }
 
-/// Converts UTF-8 to UTF-16, and returns the units written, or `None` where the source is not
-/// well-formed: the destination then holds the text before the first malformed sequence. It is at
-/// least as long as the source.
+/// Converts UTF-8 to UTF-16 at the start of `dst`, and returns how many units were written, or
+/// `None` where `src` is not well-formed: `dst` then begins with the text before the first
+/// malformed sequence. Nothing behind what is written changes. `dst` has at least as many units as
+/// `src` has bytes, which a comparison of lengths tests.
 pub fn convert_utf8_to_utf16_without_replacement(src: &[u8], dst: &mut [u16]) -> Option<usize>
     requires { length src.now ≤ length dst.old }
     ensures answer { MatchOption result (¬ (IsUtf8 src.now))
@@ -86,8 +88,9 @@ pub fn convert_utf8_to_utf16_without_replacement(src: &[u8], dst: &mut [u16]) ->
     }
 }
 
-/// Converts the longest well-formed prefix whose UTF-16 fits, and returns the bytes read and the
-/// units written.
+/// Converts the longest well-formed prefix of UTF-8 whose UTF-16 fits into `dst`, and returns how
+/// many bytes were read and how many units were written; nothing behind these changes. It ends
+/// before the first malformed sequence, if one comes before the room ends.
 pub fn convert_utf8_to_utf16_up_to_invalid(src: &[u8], dst: &mut [u16]) -> (usize, usize)
     ensures longest { IsLongest (λ i. IsUtf8 (take i src.now)) (λ i. length (text_in_utf16 (take i src.now)))
         (length src.now) (length dst.old) result.0 }
@@ -100,8 +103,9 @@ pub fn convert_utf8_to_utf16_up_to_invalid(src: &[u8], dst: &mut [u16]) -> (usiz
     (read, sink.written())
 }
 
-/// Converts UTF-8 to UTF-16 with U+FFFD for each malformed sequence, and returns the units written.
-/// The destination is longer than the source.
+/// Converts UTF-8 to UTF-16 at the start of `dst`, with U+FFFD for each malformed sequence, and
+/// returns how many units were written; nothing behind them changes. `dst` has more units than
+/// `src` has bytes, one at least, which a comparison of lengths tests.
 pub fn convert_utf8_to_utf16(src: &[u8], dst: &mut [u16]) -> usize
     requires { length src.now < length dst.old }
     ensures fits { result ≤ length dst.new }

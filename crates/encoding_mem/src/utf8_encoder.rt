@@ -39,12 +39,14 @@ fn bytes_of_char(c: char) -> Bytes
     }
 }
 
-/// The encoder of UTF-8. It never returns `Unmappable`, and has no state: a call reads the longest prefix of
-/// whole characters whose bytes fit.
+/// The encoder of UTF-8 (the Encoding Standard, section 8.1.2; RFC 3629). It never returns
+/// `Unmappable`, and has no state: a call reads the longest prefix of whole characters whose bytes
+/// fit.
 #[derive(Drop)]
 pub struct Utf8Encoder {}
 
 impl Utf8Encoder {
+    /// An encoder of a new stream.
     pub fn new() -> Self
         ensures { IsFreshEncoder (⟦<Utf8Encoder as SourceEncoder>⟧.parts result) 4
             utf8_coding encoded_length_utf8 }

@@ -7,7 +7,7 @@ ghost use Rattle.encoding_mem.specs.laws.Writing.{adds_none, adds_encoded, cost_
 use crate::sink::Sink;
 use std::mem;
 
-/// A destination in UTF-8, which is filled from its start.
+/// A destination of text in bytes of UTF-8: a slice that is filled from its start.
 #[derive(Drop)]
 pub struct Utf8Sink<'a> {
     bytes: &'a mut [u8],
@@ -16,7 +16,7 @@ pub struct Utf8Sink<'a> {
 }
 
 impl<'a> Utf8Sink<'a> {
-    /// Nothing is written yet.
+    /// A sink over the slice, in which nothing is written yet.
     #[inline(always)]
     pub fn new(bytes: &'a mut [u8]) -> Utf8Sink<'a>
         ensures same_reference { result.bytes.ghost_name ≡ bytes.entry.ghost_name }

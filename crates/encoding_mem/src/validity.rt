@@ -8,8 +8,9 @@ ghost use Rattle.encoding_mem.specs.Surrogates.{IsHighSurrogate, IsLowSurrogate,
 use crate::ascii_text::is_ascii;
 use crate::first::first_unit_from;
 
-/// The length of the longest prefix that is well-formed UTF-8: it ends before the first byte of the
-/// first malformed sequence.
+/// The length in bytes of the longest prefix that is well-formed UTF-8 (RFC 3629): it ends before
+/// the first byte of the first malformed sequence. Where it is the length of the bytes, they are
+/// text: the test of the condition of calls into text.
 pub fn utf8_valid_up_to(bytes: &[u8]) -> usize
     ensures { IsLongestPrefix IsUtf8 bytes.now result }
 {
@@ -50,8 +51,8 @@ fn is_lone_surrogate(units: &[u16], at: usize) -> bool
     }
 }
 
-/// The length in units of the longest prefix that is well-formed UTF-16: it ends before the first lone
-/// surrogate.
+/// The length in units of the longest prefix that is well-formed UTF-16: it ends before the first
+/// surrogate in no pair.
 pub fn utf16_valid_up_to(units: &[u16]) -> usize
     ensures { IsLongestPrefix IsUtf16 units.now result }
 {
@@ -62,7 +63,7 @@ pub fn utf16_valid_up_to(units: &[u16]) -> usize
     at
 }
 
-/// Puts U+FFFD in place of each lone surrogate, and leaves all else.
+/// Puts U+FFFD in place of each surrogate in no pair, and leaves all other units as they are.
 pub fn ensure_utf16_validity(units: &mut [u16])
     ensures mended { IsMended units.old units.new }
     ensures valid { IsUtf16 units.new }

@@ -8,6 +8,7 @@ use encoding_mem::scalar::scalar_of;
 use std::marker::Model;
 
 /// The list of an index, lent by tables: the scalar at each pointer, and 0 where there is none.
+/// What a decoder or an encoder of one index looks up in.
 #[derive(Drop)]
 pub struct Flat<'a> {
     index: &'a PackedIndex,
@@ -30,8 +31,8 @@ impl<'a> Flat<'a> {
         Flat { index }
     }
 
-    /// The character at a pointer (the Encoding Standard, section 5: "index code point"). None where
-    /// nothing is mapped, and past the end.
+    /// The character at a pointer, or `None` where nothing is mapped and past the end of the list
+    /// (the Encoding Standard, section 5, "index code point").
     #[inline(always)]
     pub fn value(&self, pointer: u32) -> Option<char>
         ensures { result ≡ value_of self.now pointer }
@@ -42,7 +43,8 @@ impl<'a> Flat<'a> {
         }
     }
 
-    /// The least pointer from `from` to below `to` with this character ("index pointer").
+    /// The least pointer from `from` to below `to` with this character, or `None` where there is
+    /// none (the Encoding Standard, section 5, "index pointer").
     #[inline]
     pub fn first_pointer(&self, c: char, from: u32, to: u32) -> Option<u32>
         ensures pointer { result ≡ first_pointer self.now c from to }
@@ -51,7 +53,9 @@ impl<'a> Flat<'a> {
         self.index.first_pointer(c as u32, from, to)
     }
 
-    /// The greatest pointer from `from` to below `to` with this character.
+    /// The greatest pointer from `from` to below `to` with this character, or `None` where there is
+    /// none (what "index Big5 pointer" of the Encoding Standard, section 5, takes for six
+    /// characters).
     #[inline]
     pub fn last_pointer(&self, c: char, from: u32, to: u32) -> Option<u32>
         ensures pointer { result ≡ last_pointer self.now c from to }

@@ -2,8 +2,8 @@ ghost use Rattle.std.specs.Prelude.{◌≡◌, ◌<◌};
 ghost use Rattle.encoding_tables.specs.Kinds.{number, index_size, is_ranges, is_single_byte};
 ghost use Rattle.encoding_tables.specs.FileNames.{file_name_of};
 
-/// The indexes of the Encoding Standard (section 5, "Indexes"): those of the single-byte encodings, and
-/// those of the multi-byte ones. ISO-8859-8-I has that of ISO-8859-8.
+/// One of the indexes of the Encoding Standard (section 5, "Indexes"): those of the single-byte
+/// encodings, and those of the encodings of more bytes. ISO-8859-8-I has that of ISO-8859-8.
 #[derive(Clone, Copy, Debug, PartialEq, Eq)]
 pub enum IndexKind {
     // Written by tools/generate_encodings.py from tools/encodings.toml; do not edit.
@@ -46,8 +46,8 @@ pub enum IndexKind {
 }
 
 impl IndexKind {
-    /// How many entries the list of this kind has: one more than its greatest pointer can be. 0 for the
-    /// ranges, which have rows and no list.
+    /// How many entries the list of this kind has: one more than its greatest pointer can be. It is
+    /// 0 for the ranges, which have rows and no list.
     pub fn size(self) -> usize
         ensures { result ≡ index_size self }
     {
@@ -62,7 +62,8 @@ impl IndexKind {
         }
     }
 
-    /// Whether this kind has rows and no list.
+    /// Whether this kind has rows and no list: true of `Gb18030Ranges` alone. The test of the
+    /// condition of the calls that take or look up a list.
     pub fn is_ranges(self) -> bool
         ensures { result ≡ is_ranges self }
     {
@@ -72,15 +73,16 @@ impl IndexKind {
         }
     }
 
-    /// Whether this is the index of a single-byte encoding. Its list has 128 entries.
+    /// Whether this is the index of a single-byte encoding, whose list has 128 entries: the test of
+    /// the condition of the single-byte codecs.
     pub fn is_single_byte(self) -> bool
         ensures { result ≡ is_single_byte self }
     {
         self.size() == 128
     }
 
-    /// The name of the file in which the Encoding Standard publishes this index: `index-windows-1252.txt`
-    /// and so on (section 5, "Indexes"). No two kinds have the same.
+    /// The name of the file in which the Encoding Standard publishes this index (section 5,
+    /// "Indexes"), as `index-windows-1252.txt`. No two kinds have one name.
     pub fn file_name(self) -> &'static str
         ensures { result.now ≡ file_name_of self }
     {

@@ -75,7 +75,8 @@ pub fn single_byte_steps()
     ensures { (flat : List ℕ) → AreEntries flat → StepLaw (single_byte_coding flat) (in_any_set (pieces_single_byte flat)) }
 {}
 
-/// The same of x-user-defined.
+/// What is written in x-user-defined for a character, its byte or its reference, reads back as that
+/// character, or begins with a piece that is malformed or another character, whatever follows it.
 pub fn user_defined_steps()
     ensures { StepLaw user_defined_coding (in_any_set pieces_user_defined) }
 {}

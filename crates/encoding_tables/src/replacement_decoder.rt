@@ -65,12 +65,13 @@ impl DecidedPiece for ReplacementRule {
     ghost decided = { λ s. decided_in first_piece_replacement after_replacement cuts_replacement decided_by_one s.error_returned };
 }
 
-/// Decodes the replacement encoding: the first byte is malformed, and all bytes after it give
-/// nothing. It stands for encodings that must not be decoded.
+/// The decoder of replacement (the Encoding Standard, section 14.1.1), which stands for encodings
+/// that must not be decoded: the first byte is malformed, and all later bytes give nothing. Nothing
+/// is ever pending.
 pub type ReplacementDecoder = EachByteDecoder<ReplacementRule>;
 
 impl EachByteDecoder<ReplacementRule> {
-    /// The error is still to be returned. Nothing is ever pending.
+    /// A decoder of a new stream.
     pub fn new() -> Self
         ensures { IsFreshDecoder (⟦<ReplacementDecoder as RawDecoder>⟧.state result)
             (pieces_replacement false) decoded_length_replacement }

@@ -125,12 +125,15 @@ fn prefix_of(c: Option<char>) -> FirstPiece
     }
 }
 
-/// Decodes a single-byte encoding: 00 to 7F give themselves, a byte from 80 gives the entry at the
-/// pointer that is the byte less 80, and one without an entry is malformed.
+/// The decoder of a single-byte encoding, by its index (the Encoding Standard, section 9.1): a byte
+/// below 80 is the character of its number, another the entry at the pointer that is the byte less
+/// 80; a byte without an entry is malformed. Nothing is ever pending.
 pub type SingleByteDecoder<'a> = EachByteDecoder<SingleByteRule<'a>>;
 
 impl<'a> EachByteDecoder<SingleByteRule<'a>> {
-    /// The decoder of a kind that is there and is a single-byte one. Nothing is ever pending.
+    /// A decoder of a new stream. The conditions are that the index is there, which `Tables::has`
+    /// tests, and that it is that of a single-byte encoding, which `IndexKind::is_single_byte`
+    /// tests.
     pub fn new(tables: &'a Tables, kind: IndexKind) -> Self
         requires there { has tables.now kind ≡ true }
         requires single { is_single_byte kind ≡ true }
@@ -142,9 +145,8 @@ impl<'a> EachByteDecoder<SingleByteRule<'a>> {
         })
     }
 
-    /// The offset of the first byte whose character has another number than the byte, or that is
-    /// malformed; the length where there is none. Up to there the bytes are their characters in
-    /// Latin1.
+    /// How many of `bytes` stand for the characters of their own numbers, as in Latin1: the next
+    /// byte, if there is one, does not.
     pub fn latin1_byte_compatible_up_to(&self, bytes: &[u8]) -> usize
         ensures { IsLatin1UpTo (⟦<SingleByteDecoder<'a> as RawDecoder>⟧.state self.now).pieces bytes.now result }
     {

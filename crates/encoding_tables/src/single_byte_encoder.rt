@@ -17,15 +17,18 @@ use encoding_mem::form::{Bytes, Form};
 use encoding_mem::room::EncodedLength;
 use encoding_mem::source_encoder::SourceEncoder;
 
-/// Encodes to a single-byte encoding: ASCII gives itself, another character the byte that is 80 more than
-/// the least pointer with it. One without a pointer is unmappable. There is no state.
+/// The encoder of a single-byte encoding, by its index (the Encoding Standard, section 9.2): ASCII
+/// is itself, another character the byte that is 80 more than the least pointer with it; one
+/// without a pointer is unmappable. It has no state.
 #[derive(Drop)]
 pub struct SingleByteEncoder<'a> {
     flat: Flat<'a>,
 }
 
 impl<'a> SingleByteEncoder<'a> {
-    /// The encoder of a kind that is there and is a single-byte one.
+    /// An encoder of a new stream. The conditions are that the index is there, which `Tables::has`
+    /// tests, and that it is that of a single-byte encoding, which `IndexKind::is_single_byte`
+    /// tests.
     pub fn new(tables: &'a Tables, kind: IndexKind) -> Self
         requires there { has tables.now kind ≡ true }
         requires single { is_single_byte kind ≡ true }

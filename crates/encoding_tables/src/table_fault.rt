@@ -1,6 +1,6 @@
 use thiserror::Error;
 
-/// Why a list or rows were not taken. The first that holds is returned, in the order of the
+/// Why a list or rows were not taken. Of several reasons the first is returned, in the order of the
 /// variants.
 #[derive(Debug, Drop, PartialEq, Eq, Error)]
 pub enum TableFault {

@@ -23,7 +23,7 @@ use std::alloc::Global;
 use std::marker::Model;
 
 /// The indexes of the Encoding Standard (section 5) that were handed in, each checked before it was
-/// taken. A list has the scalar at each pointer, and 0 where there is none.
+/// taken. Codecs borrow them. A list has the scalar at each pointer, and 0 where there is none.
 #[derive(Drop)]
 pub struct Tables {
     alloc: Global,
@@ -45,7 +45,8 @@ impl Model for Tables {
 }
 
 impl Tables {
-    /// Tables with no index. Takes no memory; what is handed in later is kept in memory of `alloc`.
+    /// Tables with no index. They take no memory; what is handed in later is kept in memory of
+    /// `alloc`.
     pub fn new(alloc: Global) -> Tables
         ensures flats { (kind : IndexKind) → flat_of result kind ≡ None }
         ensures rows { result.rows ≡ None }
@@ -63,15 +64,15 @@ impl Tables {
         }
     }
 
-    /// What is there was accepted: no list has a fault, nor have the rows. The function does nothing: its
-    /// contract is the law.
+    /// The law that each index there was accepted: no list has a fault, nor have the rows. The
+    /// function does nothing; its contract is the law.
     pub fn accepted(&self)
         ensures { AreAcceptedTables self.now }
     {
         let _ = &self.flats;
     }
 
-    /// Whether the index of a kind is there.
+    /// Whether the index of a kind is there: the test of the condition of look-ups and codecs.
     pub fn has(&self, kind: IndexKind) -> bool
         ensures { result ≡ has self.now kind }
     {
@@ -82,8 +83,13 @@ impl Tables {
         }
     }
 
-    /// Takes a copy of the list of a kind, `size` entries of the kind. Otherwise nothing changes,
-    /// and the result says why.
+    /// Takes a copy of the list of a kind, whose length is `kind.size()` and whose entries are 0 or
+    /// scalars from U+0080, of the basic plane or, in Big5, of plane 2. On an error nothing
+    /// changes.
+    ///
+    /// The faults are `Present`, `Size`, `Entry`, `Reserved` and `Memory`: the first that holds, in
+    /// this order. The condition, that the kind has a list, is tested by `IndexKind::is_ranges`,
+    /// which is false for it.
     pub fn insert(&mut self, kind: IndexKind, flat: &[u32]) -> Result<(), TableFault>
         requires { is_ranges kind ≡ false }
         ensures fault { MatchOption (flat_fault (has self.old kind) kind flat.now)
@@ -137,8 +143,10 @@ impl Tables {
         }
     }
 
-    /// Takes a copy of the rows of the GB18030 ranges, each a pointer and a code point. Otherwise
-    /// nothing changes, and the result says why. No rows ask for no memory.
+    /// Takes a copy of the rows of the GB18030 ranges, each a pointer and a code point. On an error
+    /// nothing changes. No rows ask for no memory.
+    ///
+    /// The faults are `Present`, `Ranges` and `Memory`: the first that holds, in this order.
     pub fn insert_ranges(&mut self, rows: &[(u32, u32)]) -> Result<(), TableFault>
         ensures fault { MatchOption (range_fault (is_some self.old.rows) rows.now)
             ((result ≡ Ok tt) ⊎ (result ≡ Err TableFault.Memory)) (λ f. result ≡ Err f) }
@@ -162,7 +170,8 @@ impl Tables {
         }
     }
 
-    /// The list of a kind that is there, for look-ups.
+    /// The list of a kind, lent for look-ups. The conditions are that it is there, which `has`
+    /// tests, and that it is a list, which `IndexKind::is_ranges` tests.
     pub fn flat(&self, kind: IndexKind) -> Flat<'_>
         requires there { has self.now kind ≡ true }
         requires listed { is_ranges kind ≡ false }
@@ -172,7 +181,8 @@ impl Tables {
         Flat::new(self.index(kind))
     }
 
-    /// The rows of the GB18030 ranges that are there, for look-ups.
+    /// The rows of the GB18030 ranges, lent for look-ups. The condition, that they are there, is
+    /// tested by `has`.
     pub fn ranges(&self) -> Ranges<'_>
         requires { has self.now IndexKind.Gb18030Ranges ≡ true }
         ensures rows { rows_of self.now ≡ result }
@@ -192,7 +202,10 @@ impl Tables {
         self.flat(kind)
     }
 
-    /// The character at a pointer of an index. None where nothing is mapped, and past the end.
+    /// The character at a pointer of an index, or `None` where nothing is mapped and past the end
+    /// of the list (the Encoding Standard, section 5, "index code point"). The conditions are that
+    /// the index is there, which `has` tests, and that it is a list, which `IndexKind::is_ranges`
+    /// tests.
     pub fn value(&self, kind: IndexKind, pointer: u32) -> Option<char>
         requires there { has self.now kind ≡ true }
         requires listed { is_ranges kind ≡ false }
@@ -201,7 +214,10 @@ impl Tables {
         self.flat(kind).value(pointer)
     }
 
-    /// The least pointer from `from` to below `to` with this character in an index.
+    /// The least pointer of an index from `from` to below `to` with this character, or `None` where
+    /// there is none (the Encoding Standard, section 5, "index pointer"). The conditions are that
+    /// the index is there, which `has` tests, and that it is a list, which `IndexKind::is_ranges`
+    /// tests.
     pub fn first_pointer(&self, kind: IndexKind, c: char, from: u32, to: u32) -> Option<u32>
         requires there { has self.now kind ≡ true }
         requires listed { is_ranges kind ≡ false }
@@ -210,7 +226,9 @@ impl Tables {
         self.flat(kind).first_pointer(c, from, to)
     }
 
-    /// The greatest pointer from `from` to below `to` with this character in an index.
+    /// The greatest pointer of an index from `from` to below `to` with this character, or `None`
+    /// where there is none. The conditions are that the index is there, which `has` tests, and that
+    /// it is a list, which `IndexKind::is_ranges` tests.
     pub fn last_pointer(&self, kind: IndexKind, c: char, from: u32, to: u32) -> Option<u32>
         requires there { has self.now kind ≡ true }
         requires listed { is_ranges kind ≡ false }
@@ -219,8 +237,9 @@ impl Tables {
         self.flat(kind).last_pointer(c, from, to)
     }
 
-    /// The character at a pointer of the GB18030 ranges. None where the pointer is not valid, and before
-    /// the first row.
+    /// The character at a pointer of the GB18030 ranges, or `None` where the pointer is not a valid
+    /// one and before the first row (the Encoding Standard, section 5, "index gb18030 ranges code
+    /// point"). The condition, that they are there, is tested by `has`.
     pub fn range_value(&self, pointer: u32) -> Option<char>
         requires { has self.now IndexKind.Gb18030Ranges ≡ true }
         ensures { result ≡ range_value (rows_of self.now) pointer }
@@ -228,8 +247,10 @@ impl Tables {
         self.rows().value(pointer)
     }
 
-    /// The pointer of the GB18030 ranges that is written for this character: 7457 for U+E7C7, else the
-    /// other valid pointer with that row's value.
+    /// The pointer of the GB18030 ranges that is written for a character: 7457 for U+E7C7, and else
+    /// the valid pointer, other than 7457, whose value by the rows it is; `None` where there is
+    /// none (the Encoding Standard, section 5, "index gb18030 ranges pointer"). The condition, that
+    /// the ranges are there, is tested by `has`.
     pub fn range_pointer(&self, c: char) -> Option<u32>
         requires { has self.now IndexKind.Gb18030Ranges ≡ true }
         ensures { result ≡ range_pointer (rows_of self.now) c }

@@ -70,12 +70,13 @@ fn char_of(byte: u8) -> char
     }
 }
 
-/// Decodes x-user-defined: 00 to 7F give themselves, and the bytes from 80 give U+F780 to U+F7FF.
-/// No byte is malformed.
+/// The decoder of x-user-defined (the Encoding Standard, section 14.5.1), which needs no index: a
+/// byte below 80 is the character of its number, and the bytes from 80 are U+F780 to U+F7FF. No
+/// byte is malformed, and nothing is ever pending.
 pub type UserDefinedDecoder = EachByteDecoder<UserDefinedRule>;
 
 impl EachByteDecoder<UserDefinedRule> {
-    /// Nothing is ever pending.
+    /// A decoder of a new stream.
     pub fn new() -> Self
         ensures { IsFreshDecoder (⟦<UserDefinedDecoder as RawDecoder>⟧.state result)
             pieces_user_defined decoded_length_single_byte }

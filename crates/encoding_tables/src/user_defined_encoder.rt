@@ -14,12 +14,14 @@ use encoding_mem::form::Form;
 use encoding_mem::room::EncodedLength;
 use encoding_mem::source_encoder::SourceEncoder;
 
-/// Encodes to x-user-defined: ASCII gives itself, and U+F780 to U+F7FF give the bytes from 80. Any other
-/// character is unmappable. There is no state.
+/// The encoder of x-user-defined (the Encoding Standard, section 14.5.2), which needs no index:
+/// ASCII is itself, and U+F780 to U+F7FF are the bytes from 80; any other character is unmappable.
+/// It has no state.
 #[derive(Drop)]
 pub struct UserDefinedEncoder {}
 
 impl UserDefinedEncoder {
+    /// An encoder of a new stream.
     pub fn new() -> Self
         ensures { IsFreshEncoder (⟦<UserDefinedEncoder as SourceEncoder>⟧.parts result) 1
             user_defined_coding encoded_length_single_byte }

@@ -206,15 +206,16 @@ impl SinkDecoder for Ordered {
     }
 }
 
-/// Decodes UTF-16, in either byte order. A surrogate in no pair is malformed, and so are the bytes
-/// that the end of the input cuts off.
+/// The decoder of UTF-16BE and UTF-16LE (the Encoding Standard, section 14.2.1), which needs no
+/// index. A surrogate in no pair is malformed, 2 bytes, and so are the bytes that the end of the
+/// input cuts off: 1, or 3 where they follow a high surrogate. Up to 3 bytes are pending.
 #[derive(Drop)]
 pub struct Utf16Decoder {
     inner: Ordered,
 }
 
 impl Utf16Decoder {
-    /// The decoder of UTF-16BE, or of UTF-16LE. Nothing is pending.
+    /// A decoder of a new stream of UTF-16BE where `big_endian` is true, and else of UTF-16LE.
     pub fn new(big_endian: bool) -> Self
         ensures { IsFreshDecoder (⟦<Utf16Decoder as RawDecoder>⟧.state result)
             (pieces_utf16 big_endian) decoded_length_utf16 }
@@ -231,8 +232,8 @@ impl Utf16Decoder {
         Utf16Decoder { inner }
     }
 
-    /// How many bytes a question for room has to count beside the new ones, before it halves them: those
-    /// that are pending, and one, to round up.
+    /// How many bytes a computation of room counts beside the new ones before it halves them: those
+    /// that are pending, and one more to round up.
     pub fn additional_from_state(&self) -> usize
         ensures { result ≡ (⟦<Utf16Decoder as RawDecoder>⟧.state self.now).pending + 1 }
     {

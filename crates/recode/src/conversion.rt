@@ -91,10 +91,10 @@ fn tell<L: Write>(log: &mut Counted<L>, fault: Fault)
 ///
 /// - 0 (`FAITHFUL`): all was converted and no call failed, output and log are whole, and nothing
 ///   was lost: no piece of the input is malformed, and the output reads back as the input's text.
-/// - 1 (`NOT_FAITHFUL`): the same, but something was lost. The log has a line for each malformed
-///   sequence and each character without bytes; it can be empty, where a character was written as
-///   bytes that do not read back as it. None is where `encoding_front::Encoding::keeps_characters`
-///   holds of the target.
+/// - 1 (`NOT_FAITHFUL`): all was converted, and something was lost. The log has a line for each
+///   malformed sequence and each character without bytes; it can be empty, where a character was
+///   written as bytes that do not read back as it. None is where
+///   `encoding_front::Encoding::keeps_characters` holds of the target.
 /// - 4 (`FAULT`): a call of a device failed, the input has more bytes than the job's limit, or the
 ///   policy is `Policy::Stop` and a character has no bytes. Output and log have a prefix of what is
 ///   right for the bytes read, however they go on; where the policy stopped, all that comes before

@@ -18,29 +18,34 @@ use thiserror::Error;
 pub const GREATEST_INDEX_FILE: usize = 16777216;
 
 /// Why a source does not give an index file.
-#[derive(Clone, Copy, Debug, PartialEq, Eq)]
+#[derive(Clone, Copy, Debug, PartialEq, Eq, Error)]
 pub enum SourceFault {
     /// The file is absent, can't be read, or has more than `GREATEST_INDEX_FILE` bytes.
+    #[error("missing")]
     Missing,
     /// Memory was refused.
+    #[error("out of memory")]
     Memory,
 }
 
-/// Where index files come from, as the folders of a file system.
+/// Where index files come from, as the folders of a file system: what `program` is given, so that
+/// it can be run without one.
 pub trait IndexSource {
     /// The bytes of the file of a name in a folder, where the source tells them.
     ghost holds: { Self → (dir file : List ℕ) → Option (List ℕ) };
 
-    /// The bytes of the file of this name in the folder `dir`, all of them. `Missing` if there is
-    /// no such file that can be read, `Memory` if memory was refused.
+    /// The bytes of the file with this name in the folder `dir`, all of them. The error is
+    /// `Missing` where there is no such file that can be read, and `Memory` where memory was
+    /// refused.
     fn read_file(&mut self, alloc: Global, dir: &str, file: &str) -> Result<Vec<u8>, SourceFault>
         ensures text { IfOk result (λ bytes. IfSome (holds self.old dir.now file.now)
             (λ text. bytes.items ≡ text)) }
         ensures files { (d f : List ℕ) → holds self.new d f ≡ holds self.old d f };
 }
 
-/// All bytes that the reader gives. The reader of an index file that is too long is read one byte
-/// past `GREATEST_INDEX_FILE` and no further.
+/// All bytes that the reader gives, for the index files of an `IndexSource`. The error is `Missing`
+/// where a read fails or there are more than `GREATEST_INDEX_FILE` bytes, of which one more at most
+/// is read, and `Memory` where memory was refused.
 pub fn read_index_file<R: Read + Drop>(alloc: Global, reader: R) -> Result<Vec<u8>, SourceFault>
     ensures whole { IfOk result (λ bytes. IfSome (R.remaining reader) (λ all. bytes.items ≡ all)) }
     ensures size { IfOk result (λ bytes. vec_len bytes ≤ 2 ^ 24) }

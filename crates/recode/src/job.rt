@@ -2,10 +2,8 @@
 
 use encoding_front::{Encoding, Mark, Reference};
 use encoding_tables::Tables;
+use recode_words::GREATEST_LIMIT;
 use thiserror::Error;
-
-/// The greatest limit of a job, in bytes.
-pub const GREATEST_LIMIT: u64 = 1 << 48;
 
 /// What to recode, and how.
 #[derive(Clone, Copy)]
@@ -18,9 +16,9 @@ pub struct Job<'t> {
     pub mark: Mark,
     /// What is done about a character that has no bytes in the output's encoding.
     pub policy: Policy,
-    /// How many bytes the input may have.
+    /// How many bytes the input may have, at most `GREATEST_LIMIT`.
     pub limit: u64,
-    /// The indexes that the two encodings need.
+    /// The indexes that the two encodings need (`Encoding::needs`).
     pub tables: &'t Tables,
 }
 
@@ -41,7 +39,7 @@ impl Policy {
     ghost use Rattle.std.specs.Prelude.{◌≡◌, IfErr, IfOk, None, Some};
     ghost use Rattle.recode.specs.Policy.{reference_of};
 
-    /// The form of the references that it writes, or `None` where it writes none.
+    /// The form of the references that are written, or `None` where none is.
     pub fn reference(self) -> Option<Reference>
         ensures { result ≡ reference_of self }
     {
@@ -69,8 +67,9 @@ impl<'t> Job<'t> {
     ghost use Rattle.std.specs.Prelude.{IsTrue, ◌↔◌};
     ghost use Rattle.recode.specs.Job.{IsValidJob};
 
-    /// Whether the job can be run: the indexes that the two encodings need are there, and its limit
-    /// is at most `GREATEST_LIMIT`.
+    /// Whether the job can be run: the indexes that `from` and the output encoding of `to` need are
+    /// in `tables`, and the limit is at most `GREATEST_LIMIT`. The test of the condition of
+    /// `Session::new`, `run` and `convert`.
     pub fn is_valid(&self) -> bool
         ensures { IsTrue result ↔ IsValidJob self.now }
     {
@@ -80,15 +79,18 @@ impl<'t> Job<'t> {
     }
 }
 
-/// Room for text in between, as UTF-8 or as UTF-16.
+/// Room for text on its way from the decoder to the encoder, in one of two forms. What is written
+/// is the same with each.
 #[derive(Drop)]
 pub enum Pivot<'b> {
+    /// Text in UTF-8, room in bytes.
     Utf8(&'b mut [u8]),
+    /// Text in UTF-16, room in units.
     Utf16(&'b mut [u16]),
 }
 
-/// What a session is lent. Their sizes change nothing but speed and the count of calls
-/// (`Report::calls`).
+/// The room that a step is lent. Sizes change how fast a conversion is, how many calls of devices
+/// it makes, and the count of calls of codecs (`Report::calls`), and nothing that is written.
 #[derive(Drop)]
 pub struct Buffers<'b> {
     /// What is read from the input, in bytes.
@@ -97,7 +99,7 @@ pub struct Buffers<'b> {
     pub pivot: Pivot<'b>,
     /// What is written to the output, in bytes.
     pub output: &'b mut [u8],
-    /// Room to read the output back, of the pivot's kind.
+    /// The text that the output is read back to, of the pivot's form.
     pub check: Pivot<'b>,
 }
 
@@ -130,8 +132,9 @@ impl<'b> Buffers<'b> {
     ghost use Rattle.std.specs.Prelude.{IsTrue, ◌↔◌};
     ghost use Rattle.recode.specs.Buffers.{AreEnough};
 
-    /// Whether a step can be lent these: input of at least 1 byte, pivot and check of one kind,
-    /// with at least 4 bytes or 2 units each, output of at least 4 bytes.
+    /// Whether a step can be lent these: input of 1 byte at least, output of 4 bytes at least,
+    /// pivot and check of one form, with 4 bytes or 2 units each at least. The test of the
+    /// condition of `Session::step`, `run` and `convert`.
     pub fn is_enough(&self) -> bool
         ensures { IsTrue result ↔ AreEnough self.now }
     {
@@ -146,9 +149,9 @@ impl<'b> Buffers<'b> {
 /// How a step ended that met no fault.
 #[derive(Clone, Copy, PartialEq, Eq, Debug)]
 pub enum Progress {
-    /// Some bytes were read; more may come.
+    /// At least one byte was read; call `step` again.
     More,
-    /// The end of the input was read, and all is written.
+    /// The end of the input was read, and all is written: `Session::report` tells the rest.
     Done,
 }
 
@@ -157,9 +160,9 @@ pub enum Progress {
 pub struct Report {
     /// The bytes of the input.
     pub read: u64,
-    /// The lines of the log that tell a malformed sequence.
+    /// The lines of the log that tell of a malformed sequence.
     pub bad: u64,
-    /// The lines of the log that tell a lost character.
+    /// The lines of the log that tell of a lost character.
     pub lost: u64,
     /// The calls of codecs, those that read the output back among them: at most `37 * read + 9`,
     /// whatever the sizes of the buffers.

@@ -1,23 +1,62 @@
-//! Recodes a stream from one encoding to another, logs what has no characters or no bytes, and
-//! knows whether anything was lost.
+//! Recodes a stream from one encoding to another, logs each malformed sequence and each character
+//! without bytes, and says at the end whether anything was lost. To the five targets that write
+//! some characters as others, a character that reads back as another has no line in the log: only
+//! that something was lost is told.
+//!
+//! A `Job` says what to recode and how. `run` and `convert` make a whole conversion, from a reader
+//! to a writer and a log; `Session` makes it step by step; `program` does what the words of a
+//! command line ask for. Readers and writers are wrapped in `Counted`, and buffers are lent
+//! (`Buffers`): nothing is kept between calls but a few bytes.
+//!
+//! # Use
+//!
+//!     let tables = Tables::new(alloc);
+//!     let job = Job {
+//!         from: Encoding::Utf16Le,
+//!         to: Encoding::Utf8,
+//!         mark: Mark::Sniff,
+//!         policy: Policy::Decimal,
+//!         limit: GREATEST_LIMIT,
+//!         tables: &tables,
+//!     };
+//!     let mut buffers = Buffers {
+//!         input: &mut [0; 64],
+//!         pivot: Pivot::Utf8(&mut [0; 64]),
+//!         output: &mut [0; 64],
+//!         check: Pivot::Utf8(&mut [0; 64]),
+//!     };
+//!     if !job.is_valid() || !buffers.is_enough() {
+//!         return Ok(false);
+//!     }
+//!     let mut reader = Counted::new(b"c\x00\xE9\x00\x00\xD8".as_slice());
+//!     let mut writer = Counted::new(Vec::new(alloc));
+//!     let mut log = Counted::new(Vec::new(alloc));
+//!     let report = run(&mut reader, &mut writer, &mut log, job, &mut buffers)?;
+//!
+//! The writer has `cé` and U+FFFD in UTF-8, the log the line `bad 4 2`, and `report.faithful` is
+//! false: the input ends in a lone surrogate.
 #![tactic(auto)]
 
 mod codec_calls;
 pub mod conversion;
 mod engine;
+mod entry;
 mod indexes;
 pub mod job;
 pub mod laws;
 mod listing;
-pub mod program;
 pub mod session;
 mod target;
 mod verdict;
 mod writers;
 
 pub use conversion::{FAITHFUL, FAULT, NOT_FAITHFUL, convert};
-pub use encoding_front::{Mark, Reference};
+pub use encoding_front::{DecoderResult, EncoderResult, Encoding, Mark, Reference};
+pub use encoding_tables::Tables;
+pub use entry::{NOT_STARTED, REFUSED, program};
 pub use indexes::{GREATEST_INDEX_FILE, IndexSource, SourceFault, read_index_file};
-pub use job::{Buffers, Fault, GREATEST_LIMIT, Job, Pivot, Policy, Progress, Report};
+pub use job::{Buffers, Fault, Job, Pivot, Policy, Progress, Report};
+pub use recode_log::{Counted, LogLine};
+pub use recode_words::GREATEST_LIMIT;
 pub use session::{Phase, Session, run};
 pub use target::Counts;

@@ -72,7 +72,8 @@ impl<'t> Viewed for Session<'t> {
 impl<'t> Session<'t> {
     ghost use Rattle.recode.specs.SessionView.{view_of};
 
-    /// A session that has read nothing. Condition: the job is valid (`Job::is_valid`).
+    /// A session that has read nothing. The condition, that the job is valid, is tested by
+    /// `Job::is_valid`.
     pub fn new(job: Job<'t>) -> Self
         requires { IsValidJob job }
         ensures { IsNewSession (view_of result) job.entry }
@@ -101,7 +102,8 @@ impl<'t> Session<'t> {
         }
     }
 
-    /// Whether nothing more can be done: all was read and written, or a fault ended it.
+    /// Whether nothing more can be done: all was read and written, or a fault ended it. The test of
+    /// the condition of `step`.
     pub fn is_over(&self) -> bool
         ensures { IsTrue result ↔ IsOver (view_of self.now).phase }
     {

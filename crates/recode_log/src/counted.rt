@@ -6,10 +6,11 @@ ghost use Rattle.std.specs.Io.KnownBytes.{ReadConsumes, WriteAppends, Keeps};
 use std::io;
 use std::io::{Read, Write};
 
-/// A reader or a writer, and how many of its calls have failed.
+/// A reader or a writer, and how many of its calls have failed: what calls of `recode` are given
+/// for the input, the output and the log.
 ///
-/// A call fails if it returns an `Err`, as an interrupted one does too, or if it is a write of
-/// some bytes that takes none. A read that gives no bytes is no failure.
+/// A call fails that returns an `Err`, an interrupted one too, and so does a write of some bytes
+/// that takes none. A read that gives no bytes is the end, and no failure.
 #[derive(Debug, Drop)]
 pub struct Counted<T> {
     inner: T,
@@ -42,7 +43,8 @@ impl<T> Counted<T> {
         inner
     }
 
-    /// How many calls have failed.
+    /// How many calls have failed: the test of the condition of `read`, `write` and `flush`, and of
+    /// what calls them, that fewer than 2^64 - 1 have.
     pub fn failures(&self) -> u64
         ensures { result ≡ failures_of self.now }
     {
@@ -67,6 +69,7 @@ impl<T: Read> Counted<T> {
 
     /// Calls `Read::read` of the wrapped reader once, and returns what it returned: how many bytes
     /// stand at the start of `buf`, with 0 for the end, or the reader's error, which is counted.
+    /// The condition, that fewer than 2^64 - 1 calls have failed, is tested by `failures`.
     pub fn read(&mut self, buf: &mut [u8]) -> io::Result<usize>
         requires { failures_of self.old < 2 ^ 64 - 1 }
         ensures bound { ReadsAtMost result buf.new }
@@ -86,7 +89,8 @@ impl<T: Write> Counted<T> {
 
     /// Calls `Write::write` of the wrapped writer once, and returns what it returned: how many
     /// bytes it took from the start of `buf`, or its error. An error is counted, and so is a 0
-    /// unless `buf` is empty.
+    /// unless `buf` is empty. The condition, that fewer than 2^64 - 1 calls have failed, is tested
+    /// by `failures`.
     pub fn write(&mut self, buf: &[u8]) -> io::Result<usize>
         requires { failures_of self.old < 2 ^ 64 - 1 }
         ensures bound { WritesAtMost result buf.now }
@@ -109,7 +113,7 @@ impl<T: Write> Counted<T> {
     }
 
     /// Calls `Write::flush` of the wrapped writer once, and returns what it returned. An error is
-    /// counted.
+    /// counted. The condition, that fewer than 2^64 - 1 calls have failed, is tested by `failures`.
     pub fn flush(&mut self) -> io::Result<()>
         requires { failures_of self.old < 2 ^ 64 - 1 }
         ensures bytes { Keeps (T.contents (inner_of self.old)) (T.contents (inner_of self.new)) }

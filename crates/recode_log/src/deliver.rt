@@ -7,8 +7,9 @@ use std::io::Write;
 
 /// Writes all of the bytes, in as many calls as the writer needs, and none for no bytes.
 ///
-/// Returns `fault` at the first call that fails, an interrupted one included. The writer then took
-/// exactly a prefix of the bytes, and not all of them.
+/// Returns `fault` at the first call that fails, an interrupted one too. The writer then took
+/// exactly a prefix of the bytes, and not all of them. The condition, that fewer than 2^64 - 1
+/// calls of the writer have failed, is tested by `Counted::failures`.
 pub fn deliver<W: Write, F: Drop>(writer: &mut Counted<W>, bytes: &[u8], fault: F) -> Result<(), F>
     requires { failures_of writer.old < 2 ^ 64 - 1 }
     ensures ok { OnOk result (

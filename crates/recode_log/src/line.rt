@@ -5,7 +5,8 @@ ghost use Rattle.recode_log.specs.Line.{row_bytes, two_numbers};
 use itoa::Buffer;
 use std::str;
 
-/// The greatest offset or index that a line of the log can name.
+/// The greatest offset, in bytes, and the greatest index, in characters, that a line of the log can
+/// name: 2^48.
 pub const GREATEST_OFFSET: u64 = 1 << 48;
 
 /// One line of the log: a word and two decimal numbers with a space between, and a line feed at the
@@ -25,7 +26,7 @@ impl LogLine {
     ghost use Rattle.recode_log.specs.declared.line.LogLine.{LogLine};
 
     /// Whether the offset or the index is at most `GREATEST_OFFSET`, and the length is 1 to 4
-    /// bytes.
+    /// bytes: the test of the condition of `write_into`.
     pub fn is_valid(&self) -> bool
         ensures { IsTrue result ↔ IsValid self.now }
     {
@@ -37,8 +38,9 @@ impl LogLine {
         }
     }
 
-    /// Writes the line at the start of `dst`, and returns its length in bytes, line feed included.
-    /// The bytes behind it stay as they were. A valid line always fits.
+    /// Writes the line at the start of `dst`, and returns its length in bytes, line feed included;
+    /// the bytes behind it stay as they were. A valid line always fits. The condition, that the
+    /// line is valid, is tested by `is_valid`.
     pub fn write_into(&self, dst: &mut [u8; 32]) -> usize
         requires { IsValid self.now }
         ensures size { result ≡ length (line_bytes self.now) }

@@ -4,7 +4,7 @@ ghost use Rattle.recode.specs.Program.{devices};
 ghost use Rattle.recode_system.specs.CommandLine.{AnswersSystem};
 
 use crate::system_files::SystemFiles;
-use recode::program::{NOT_STARTED, REFUSED, program};
+use recode::{NOT_STARTED, REFUSED, program};
 use recode_log::counted::Counted;
 use recode_log::deliver::deliver;
 use std::alloc::{AllocError, Global};
@@ -91,7 +91,9 @@ fn answer_words<F: Files, R: Read, W: Write, L: Write>(
 /// program has its own.
 ///
 /// It is 2 (`REFUSED`) with the message `recode: a word is not UTF-8` where one is not, and 3
-/// (`NOT_STARTED`) with `recode: out of memory` where memory for the words was refused.
+/// (`NOT_STARTED`) with `recode: out of memory` where memory for the words was refused. The
+/// condition, that at most 2^64 - 5 calls of each device have failed, is tested by
+/// `Counted::failures`.
 pub fn answer<E: Env + AllocGlobal, F: Files, R: Read, W: Write, L: Write>(
     env: &E,
     files: &F,

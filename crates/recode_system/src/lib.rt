@@ -1,4 +1,15 @@
-//! What the program takes from the system: the words of the command line, and the files of indexes.
+//! What the program `recode` takes from the system: the words of the command line, and the files of
+//! indexes. `answer` is all of `main` but the standard streams.
+//!
+//! # Use
+//!
+//!     let mut reader = Counted::new(rt.stdin());
+//!     let mut writer = Counted::new(rt.stdout());
+//!     let mut log = Counted::new(rt.stderr());
+//!     let status = answer(&rt, &rt, &mut reader, &mut writer, &mut log);
+//!
+//! `status` is the exit status. `rt` is what `main` is given: it has the words, the files and the
+//! allocator.
 #![tactic(auto)]
 
 pub mod command_line;

@@ -1,10 +1,22 @@
-//! The words of the program `recode`: what its command line asks for.
+//! The words of the command line of the program `recode`: what they ask for (`Request`), or why
+//! they are refused (`WordsFault`). `recode::program` does what they ask for.
+//!
+//! # Use
+//!
+//!     let words = ["recode", "--from", "gbk", "--to", "utf-8"];
+//!     let is_run = match parse_words(alloc, &words) {
+//!         Ok(Request::Run(run)) => run.from == "gbk" && run.indexes == ".",
+//!         Ok(_) => false,
+//!         Err(fault) => return Err(fault.into()),
+//!     };
+//!
+//! `is_run` is true: the words ask for a conversion, with `.` as the folder of the index files.
 #![tactic(auto)]
 
 mod command;
+pub mod laws;
 pub mod request;
 mod values;
-pub mod word_laws;
 pub mod words;
 
 pub use command::VERSION;

@@ -5,11 +5,12 @@ ghost use Rattle.recode_words.specs.Request.{AsksFor, HasGoodLimit, IsFaultOf, I
 use crate::command::command;
 use crate::values::{Values, WrongValue};
 use crate::words::Words;
+use clap::Command;
 use clap::error::ErrorKind;
-use clap::{Command, Error};
 use std::alloc::{AllocError, Global};
+use thiserror::Error;
 
-/// What the words ask for.
+/// What the words of the command line ask for.
 #[derive(Debug, Drop)]
 pub enum Request<'a> {
     /// To convert.
@@ -22,12 +23,15 @@ pub enum Request<'a> {
     List,
 }
 
-/// Why the words ask for nothing.
-#[derive(Debug, Drop)]
+/// Why the words of the command line ask for nothing. `Display` shows the text, or `out of memory`.
+#[derive(Debug, Drop, Error)]
 pub enum WordsFault {
-    /// The words are refused, for the reason that this text gives; it is clap's, and shows the usage.
+    /// The words are refused, for the reason that this text gives. The text is clap's, ends with a
+    /// line feed, and shows the usage.
+    #[error("{0}")]
     Refused(String),
     /// Memory was refused.
+    #[error("out of memory")]
     OutOfMemory,
 }
 
@@ -42,7 +46,7 @@ impl From<AllocError> for WordsFault {
 }
 
 // The text of a parse that ended early, with a line feed at its end.
-fn text_of(alloc: Global, error: &Error) -> Result<String, AllocError>
+fn text_of(alloc: Global, error: &clap::Error) -> Result<String, AllocError>
     ensures { IfOk result (λ text. IsLine (string_bytes text)) }
 {
     let mut text = format!(in alloc; "{error}")?;
@@ -64,7 +68,7 @@ fn has_list(words: &[&str]) -> bool
 // What a parse that ended early returns.
 fn early_answer<'a>(
     alloc: Global,
-    error: &Error,
+    error: &clap::Error,
     words: &'a [&'a str],
 ) -> Result<Request<'a>, WordsFault>
     requires named { 0 < length words.now }
@@ -101,14 +105,17 @@ fn refusal(
     text_of(alloc, &error)
 }
 
-/// What the words ask for, the program's name first: `recode --from LABEL --to LABEL [--indexes
-/// DIR] [--mark sniff|remove|keep] [--unmappable decimal|hexadecimal|stop] [--pivot utf8|utf16]
-/// [--limit N]`, or `--help`, `--version` or `--list`, which is the result wherever no word before
-/// it is refused. With `--version` and `--list` it is the list.
+/// What the words of the command line ask for, the program's name first: `recode --from LABEL --to
+/// LABEL [--indexes DIR] [--mark sniff|remove|keep] [--unmappable decimal|hexadecimal|stop]
+/// [--pivot utf8|utf16] [--limit N]`, or `--help`, `--version` or `--list`, which is the result
+/// wherever no word before it is refused. With `--version` and `--list` it is the list.
 ///
 /// The defaults are `.`, `sniff`, `decimal`, `utf8` and 2^48, which is also the greatest N; N is
 /// decimal digits with no sign. An option that is given twice, one with no value, an unknown one
 /// and a word that is no option are refused. An empty label or folder is a value as any other.
+///
+/// The error is `Refused` with a text for the log, or `OutOfMemory`. The condition, that there is a
+/// word at least, is tested by `is_empty`.
 pub fn parse_words<'a>(alloc: Global, words: &'a [&'a str]) -> Result<Request<'a>, WordsFault>
     requires { 0 < length words.now }
     ensures ok { IfOk result (AsksFor (map (λ s. s.now) words.now)) }

@@ -1,8 +1,10 @@
 ghost use Rattle.std.specs.Prelude.{◌≡◌};
 ghost use Rattle.recode_words.specs.Meaning.{limit_of, mark_named, pivot_of, policy_named};
 
-/// The greatest limit, in bytes of input: 2^48.
-pub const GREATEST_LIMIT: u64 = 281474976710656;
+use recode_log::GREATEST_OFFSET;
+
+/// The greatest limit, in bytes of input: 2^48, the greatest offset of a line of the log.
+pub const GREATEST_LIMIT: u64 = GREATEST_OFFSET;
 
 /// What is done with a byte order mark at the start of the input.
 #[derive(Clone, Copy, Debug, PartialEq, Eq)]
@@ -16,7 +18,7 @@ pub enum MarkWord {
 }
 
 impl MarkWord {
-    /// The variant with this name, or `None` if there is none.
+    /// The variant whose word this is, in lower case, or `None` where it is none of them.
     pub fn from_name(name: &str) -> Option<MarkWord>
         ensures { result ≡ mark_named name.now }
     {
@@ -41,7 +43,7 @@ pub enum PolicyWord {
 }
 
 impl PolicyWord {
-    /// The variant with this name, or `None` if there is none.
+    /// The variant whose word this is, in lower case, or `None` where it is none of them.
     pub fn from_name(name: &str) -> Option<PolicyWord>
         ensures { result ≡ policy_named name.now }
     {
@@ -64,7 +66,7 @@ pub enum PivotWord {
 }
 
 impl PivotWord {
-    /// The variant with this name, or `None` if there is none.
+    /// The variant whose word this is, in lower case, or `None` where it is none of them.
     pub fn from_name(name: &str) -> Option<PivotWord>
         ensures { result ≡ pivot_of name.now }
     {
@@ -76,8 +78,8 @@ impl PivotWord {
     }
 }
 
-/// What to convert, and how, as the words say it. Whether a label names an encoding, and whether the
-/// folder has the index files, is not asked yet.
+/// What to convert, and how, as the command line says it. Whether a label names an encoding, and
+/// whether the folder has the index files, is not asked yet.
 #[derive(Clone, Copy, Debug)]
 pub struct Words<'a> {
     /// The label of the input's encoding.

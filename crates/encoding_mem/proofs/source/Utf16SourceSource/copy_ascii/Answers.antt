@@ -2,7 +2,11 @@ use Rattle.std.proofs.Common.{◌∙◌, ap}
 use Rattle.std.specs.Char.Utf16.{utf16_lossy_chars}
 use Rattle.std.proofs.lemmas.List.{take_rest}
 use Rattle.encoding_mem.proofs.AsciiRunLemmas.{past_units, units_some, units_longest}
+use Rattle.encoding_mem.proofs.Utf16Lemmas.{past_ascii}
 use Rattle.encoding_mem.proofs.source.Utf16SourceSource.copy_ascii.Goals as goal
+
+pub invariant_of-self-clause-boundary : goal.invariant_of-self-clause-boundary
+invariant_of-self-clause-boundary c = past_ascii _ _ c.args.self.now.offset _ (take_rest c.args.self.now.units.now c.args.self.now.offset) c.narrow_ascii-count.ensures.ascii c.args.self.now.boundary
 
 pub returns-clause-text : goal.returns-clause-text
 returns-clause-text c =

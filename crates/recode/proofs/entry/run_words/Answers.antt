@@ -3,7 +3,7 @@ use Rattle.encoding_front.specs.Encodings.{HasLabel}
 use Rattle.encoding_front.specs.declared.encoding.Encoding.{Encoding}
 use Rattle.recode.specs.Program.{IsUnknown}
 use Rattle.recode.proofs.LoadLemmas.{adds_to_none}
-use Rattle.recode.proofs.program.run_words.Goals as goal
+use Rattle.recode.proofs.entry.run_words.Goals as goal
 
 unknown_of : (r : Option Encoding) (label bytes : List ℕ) → bytes ≡ label → r ≡ None → ((e : Encoding) → (r ≡ Some e) ↔ HasLabel e bytes) → IsUnknown label
 unknown_of r label bytes same none law e h =

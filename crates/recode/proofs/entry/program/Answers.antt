@@ -3,7 +3,7 @@ use Rattle.recode_words.specs.Request.{AsksFor}
 use Rattle.recode_words.specs.declared.request.Request.TheVariants.{Run}
 use Rattle.recode_words.specs.declared.words.Words.{Words}
 use Rattle.recode.specs.Program.{AnswersProgram, AnswersWords, Devices, FileTexts, devices}
-use Rattle.recode.proofs.program.program.Goals as goal
+use Rattle.recode.proofs.entry.program.Goals as goal
 
 answers : {R W L : Type 0} (holds : FileTexts) (remaining : R → Option (List ℕ)) (contents : W → Option (List ℕ)) (logged : L → Option (List ℕ)) (before after : Devices R W L)
     (words : List (List ℕ)) (w : Words) (status : ℕ) → AsksFor words (Run w) → AnswersWords holds remaining contents logged before after w status

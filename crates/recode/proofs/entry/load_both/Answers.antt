@@ -1,7 +1,7 @@
 use Rattle.std.proofs.Common.{Result, Ok, Err, OnOk}
 use Rattle.encoding_front.specs.Encodings.{needs_of}
 use Rattle.recode.proofs.LoadLemmas.{adds_more, there_kept}
-use Rattle.recode.proofs.program.load_both.Goals as goal
+use Rattle.recode.proofs.entry.load_both.Goals as goal
 
 on_ok : {T E : Type 0} (r : Result T E) (P : Type 0) → P → OnOk r P
 on_ok (Ok x) P p = p

@@ -1,0 +1,314 @@
+#!/usr/bin/env python3
+"""The reference pages of the libraries, `docs/reference/CRATE.md`, from their sources: `make doc`.
+
+    python3 tools/reference.py
+
+A page has each public item that a public path leads to: its doc comment, its signature and its contract, as they stand
+in the source. An item that is re-exported is named by its shortest path. `make lint` calls `faults`: a public item
+without a doc comment, and a page that is not what this script writes.
+"""
+
+import os
+import re
+import sys
+
+TOP = os.path.abspath(os.path.join(os.path.dirname(os.path.abspath(__file__)), ".."))
+PAGES = os.path.join(TOP, "docs", "reference")
+
+# The libraries, lowest first. Other crates are programs and tests.
+LIBRARIES = [
+    "encoding_mem", "encoding_labels", "encoding_tables", "encoding_codecs", "encoding_index", "encoding_front",
+    "recode_log", "recode_words", "recode", "recode_system",
+]  # fmt: skip
+
+# The program that makes the examples of the libraries' pages.
+EXAMPLES = "library_examples"
+
+# Lists of names, of encodings and of their indexes: each name says what it is, and the list has the doc comment.
+NAME_LISTS = {"Encoding", "IndexKind", "encoding_labels::places"}
+
+START = re.compile(r"(?:pub )?(?:unsafe )?(?:const fn|fn|struct|enum|trait|const|type) (\w+)")
+HEADINGS = [
+    ("trait", "Traits"), ("enum", "Types"), ("struct", "Types"), ("type", "Types"), ("fn", "Functions"),
+    ("const", "Constants"),
+]  # fmt: skip
+
+
+class Item:
+    """A public item, method, variant, field or ghost, with its doc comment and its source up to its body."""
+
+    def __init__(self, kind, name, doc, code, place):
+        self.kind, self.name, self.doc, self.code, self.place = kind, name, doc, code, place
+        self.path, self.members, self.implements = None, [], []
+
+
+def read(path):
+    with open(path, encoding="utf-8") as file:
+        return file.read()
+
+
+def dedent(lines):
+    some = [line for line in lines if line.strip()]
+    least = min((len(line) - len(line.lstrip()) for line in some), default=0)
+    return [line[least:] for line in lines]
+
+
+def head(lines, start):
+    """The lines from `start` up to the body of an item or to its semicolon, and the index behind them."""
+    code, indent = [], re.match(r" *", lines[start])[0]
+    for index in range(start, len(lines)):
+        line = lines[index].rstrip()
+        if line in (indent + "{", indent + "{}"):
+            return code, index + 1
+        if line.endswith(" {") and line.startswith(indent + ")") or line.endswith(" {") and index == start:
+            return code + [line[:-2]], index + 1
+        code.append(line)
+        if line.endswith(";") or line.endswith(" {}"):
+            return code, index + 1
+    return code, len(lines)
+
+
+def block(lines, index):
+    """The lines of a block that opened before `index`, up to the brace that closes it, and the index behind it."""
+    indent = None
+    for end in range(index - 1, -1, -1):
+        if lines[end].strip():
+            indent = re.match(r" *", lines[end])[0]
+            break
+    for end in range(index, len(lines)):
+        if lines[end].rstrip() == indent + "}":
+            return lines[index:end], end + 1
+    return lines[index:], len(lines)
+
+
+def comment(lines, index):
+    """The doc comment above a line, past its attributes."""
+    found = []
+    for line in reversed(lines[:index]):
+        text = line.strip()
+        if text.startswith("///"):
+            found.append(text[4:])
+        elif not text.startswith("#["):
+            break
+    return found[::-1]
+
+
+def parts(lines, place, trait):
+    """The public functions of an implementation, or all functions and ghosts of a trait."""
+    index = 0
+    while index < len(lines):
+        text = lines[index].strip()
+        ghost = re.match(r"ghost (\w+):", text) if trait else None
+        if ghost or re.match(r"(?:pub )?fn \w+" if trait else r"pub (?:const )?fn \w+", text):
+            code, behind = head(lines, index)
+            if ghost and not code[-1].endswith(";"):
+                code = code[:1]
+            name = ghost[1] if ghost else re.search(r"fn (\w+)", text)[1]
+            yield Item("ghost" if ghost else "fn", name, comment(lines, index), code, place)
+            index = behind
+            continue
+        index += 1
+
+
+def fields(lines, place, enum):
+    """The variants of an enum, or the public fields of a struct."""
+    depth = 0
+    for index, line in enumerate(lines):
+        text = line.strip()
+        found = re.match(r"(\w+)\b" if enum else r"pub (\w+):", text)
+        if found and depth == 0 and not text.startswith(("//", "#", "ghost ")):
+            yield Item("field", found[1], comment(lines, index), [text.rstrip(",")], place)
+        depth += text.count("{") - text.count("}") if not text.startswith("//") else 0
+
+
+def items(path):
+    """What a source file has: its page comment, its public items by name, and its implementations."""
+    lines = read(path).split("\n")
+    page = [line[4:] for line in lines if line.startswith("//!")]
+    found, implementations, index, place = {}, [], 0, os.path.relpath(path, TOP)
+    while index < len(lines):
+        line = lines[index]
+        implementation = re.match(r"impl\b(?:<[^{]*?>)? ?(?:(.+?) for )?([\w:]+)(.*)\{$", line)
+        start = re.match("pub " + START.pattern[9:], line)
+        if implementation:
+            body, behind = block(lines, index + 1)
+            trait = (implementation[1] or "").replace("fmt::", "")
+            members = [] if trait else list(parts(body, place, False))
+            target = (implementation[2] + implementation[3]).strip()
+            implementations.append((implementation[2], target, re.sub("<'.*?>", "", trait), members))
+            index = behind
+        elif start:
+            kind = re.search(r"\b(fn|struct|enum|trait|const|type)\b", line)[1]
+            code, behind = head(lines, index)
+            item = Item(kind, start[1], comment(lines, index), code, "%s:%d" % (place, index + 1))
+            derive = [text for text in lines[max(0, index - 3) : index] if text.startswith("#[derive(")]
+            item.implements = re.findall(r"\w+", derive[-1][9:]) if derive else []
+            found[start[1]] = item
+            if kind in ("struct", "enum", "trait") and line.endswith("{"):
+                body, behind = block(lines, index + 1)
+                item.members = list(parts(body, place, True) if kind == "trait" else fields(body, place, kind == "enum"))
+            index = behind
+        else:
+            index += 1
+    return page, found, implementations
+
+
+def uses(text):
+    """The re-exports of a file: pairs of a path and a name."""
+    for path, names in re.findall(r"^pub use ([\w:]+?)(?:::\{([^}]*)\})?;", text, re.M | re.S):
+        for name in re.findall(r"\w+", names) if names else [path.split("::")[-1]]:
+            yield (path if names else path.rsplit("::", 1)[0]).removeprefix("crate::"), name
+
+
+def library(crate):
+    """A library's page comment, its items by path, and its re-exports from other crates."""
+    folder = os.path.join(TOP, "crates", crate, "src")
+    names = sorted(name[:-3] for name in os.listdir(folder) if name != "lib.rt")
+    texts = {name: read(os.path.join(folder, name + ".rt")) for name in names}
+    private = {trait for text in texts.values() for trait in re.findall(r"^(?:pub\(crate\) )?trait (\w+)", text, re.M)}
+    sources = {name: items(os.path.join(folder, name + ".rt")) for name in names}
+    root = read(os.path.join(folder, "lib.rt"))
+    page, paths, foreign = items(os.path.join(folder, "lib.rt"))[0], {}, []
+    for module in re.findall(r"^pub mod (\w+);", root, re.M):
+        reached = [(module, name) for name in sources[module][1]]
+        for origin, name in reached + list(uses(texts[module])):
+            paths[origin, name] = "%s::%s" % (module, name)
+    for origin, name in uses(root):
+        if origin in sources:
+            paths[origin, name] = name
+        else:
+            foreign.append("%s::%s" % (origin, name))
+    found = []
+    for (origin, name), path in paths.items():
+        item = sources[origin][1][name]
+        item.path = path
+        found.append(item)
+    types = {item.name: item for item in found}
+    aliases = {item.code[0].split(" = ")[1].rstrip(";"): item.name for item in found if item.kind == "type"}
+    for _, _, implementations in sources.values():
+        for name, target, trait, members in implementations:
+            name = aliases.get(target, name)
+            if name in types and trait and trait not in private:
+                types[name].implements.append(trait)
+            elif name in types and not trait:
+                types[name].members += members
+    return page, sorted(found, key=lambda item: (item.path.count("::"), item.path.lower())), sorted(foreign)
+
+
+def entry(item, crate):
+    """The lines of one item on its page: of a constant one line, with its value."""
+    if item.kind == "const":
+        value = " ".join(line.strip() for line in item.code).split(": ", 1)[1].rstrip(";")
+        yield " ".join(["- `%s::%s: %s`." % (crate, item.path, value)] + item.doc)
+        return
+    yield "### `%s::%s`" % (crate, item.path)
+    yield ""
+    yield from item.doc + [""]
+    code = item.code
+    shown = [part for part in item.members if part.kind == "field"]
+    if item.kind in ("enum", "struct") and shown:
+        code = [code[0] + " {"] + ["    %s," % part.code[0].rstrip("{ ").rstrip() for part in shown] + ["}"]
+    yield from ["```rust"] + dedent(code) + ["```", ""]
+    if item.implements:
+        yield "Implements %s." % ", ".join("`%s`" % trait for trait in sorted(set(item.implements)))
+        yield ""
+    for part in shown:
+        if part.doc:
+            yield "- `%s`: %s" % (part.name, " ".join(part.doc))
+    if any(part.doc for part in shown):
+        yield ""
+    for part in item.members:
+        if part.kind == "ghost":
+            yield "- ghost `%s`: %s" % (part.name, " ".join(part.doc))
+    if any(part.kind == "ghost" for part in item.members):
+        yield ""
+    for part in item.members:
+        if part.kind == "fn":
+            yield from ["#### `%s::%s`" % (item.name, part.name), ""] + part.doc + [""]
+            yield from ["```rust"] + dedent(part.code) + ["```", ""]
+
+
+def pages():
+    """The name and the text of each page."""
+    index = ["# Reference", "", "What each library offers, from its sources, by `make doc` (`tools/reference.py`)."]
+    index += ["A contract says what a call requires and ensures; [the definitions](../DEFINITIONS.md) have its words.", ""]
+    for crate in LIBRARIES:
+        page, found, foreign = library(crate)
+        lines = ["# %s" % crate, "", "<!-- Written by tools/reference.py from the sources; do not edit. -->", ""]
+        lines += ["#" + line if line.startswith("# ") else line for line in page] + [""]
+        if foreign:
+            lines += ["Re-exported from lower crates: %s." % ", ".join("`%s`" % name for name in foreign), ""]
+        for heading in dict.fromkeys(heading for _, heading in HEADINGS):
+            kinds = [kind for kind, of in HEADINGS if of == heading]
+            here = [item for item in found if item.kind in kinds and not item.path.startswith("laws::")]
+            if here:
+                lines += ["## " + heading, ""]
+            for item in here:
+                lines += list(entry(item, crate))
+            lines.append("")
+        laws = [item for item in found if item.path.startswith("laws::")]
+        if laws:
+            lines += ["## Laws", "", "Functions with an empty body, each of whose contract is a law.", ""]
+        for item in laws:
+            lines += list(entry(item, crate))
+        yield crate + ".md", re.sub(r"\n{3,}", "\n\n", "\n".join(lines)).rstrip("\n") + "\n"
+        index.append("- [`%s`](%s.md): %s" % (crate, crate, " ".join(page).split(". ")[0].rstrip(".") + "."))
+    yield "README.md", "\n".join(index) + "\n"
+
+
+def undocumented():
+    for crate in LIBRARIES:
+        page, found, _ = library(crate)
+        if not page:
+            yield "crates/%s/src/lib.rt has no page comment" % crate
+        for item in found:
+            listed = item.name in NAME_LISTS or "%s::%s" % (crate, item.path.rsplit("::", 1)[0]) in NAME_LISTS
+            for part in [item] + item.members:
+                if not part.doc and not (listed and part.kind in ("const", "field")):
+                    name = item.name if part is item else "%s::%s" % (item.name, part.name)
+                    yield "%s: %s has no doc comment" % (part.place, name)
+
+
+def example(crate):
+    """The lines between `// CRATE` and `// end` in the program that makes the examples."""
+    folder = os.path.join(TOP, "crates", EXAMPLES, "src")
+    for name in sorted(os.listdir(folder)):
+        found = re.search(r"^ *// %s\n(.*?)^ *// end$" % crate, read(os.path.join(folder, name)), re.M | re.S)
+        if found:
+            return dedent(found[1].rstrip("\n").split("\n"))
+    return []
+
+
+def unmade_examples():
+    for crate in LIBRARIES:
+        page = library(crate)[0]
+        shown = dedent([line for line in page if line.startswith("    ")])
+        if not shown or shown != [line for line in example(crate) if line]:
+            yield "crates/%s/src/lib.rt shows no lines of use, or others than %s makes" % (crate, EXAMPLES)
+
+
+def faults():
+    """What `make lint` tells: items without a doc comment, examples that are not made, pages that are not written."""
+    yield from undocumented()
+    yield from unmade_examples()
+    written = dict(pages())
+    for name, text in written.items():
+        path = os.path.join(PAGES, name)
+        if not os.path.isfile(path) or read(path) != text:
+            yield "docs/reference/%s is not of these sources: make doc" % name
+    for name in sorted(set(os.listdir(PAGES)) - set(written)):
+        yield "docs/reference/%s is no page of a library" % name
+
+
+def main():
+    os.makedirs(PAGES, exist_ok=True)
+    for name, text in pages():
+        with open(os.path.join(PAGES, name), "w", encoding="utf-8") as file:
+            file.write(text)
+    for fault in undocumented():
+        print(fault)
+    return 0
+
+
+if __name__ == "__main__":
+    sys.exit(main())
