@@ -2,7 +2,7 @@ PREFIX = /usr/local
 FROM = utf-8
 TO = utf-8
 
-.PHONY: build test lint edits example status run refused hostile characters verdicts install
+.PHONY: build test lint usage edits example status run refused hostile characters verdicts install
 
 # Proves the program and all that it stands on, and builds it: crates/recode_cli/out/recode_cli.
 build:
@@ -19,6 +19,10 @@ lint:
 	@python3 tools/lint.py
 	@diff -r indexes crates/encoding_index_files/data
 	@diff indexes/index-jis0208.txt crates/recode_sample/data/index-jis0208.txt
+
+# The tables of README.md and of the man page, from the text of the help.
+usage:
+	@python3 tools/usage.py
 
 # The edits that the gate leaves out, each of which the prover must refuse: for a release, some 25 seconds of processor time each.
 edits:

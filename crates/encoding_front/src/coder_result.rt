@@ -1,3 +1,5 @@
+//! How a call ended that writes replacements itself.
+
 /// How a call of a decoder or an encoder that writes replacements itself ended.
 #[derive(Clone, Copy, PartialEq, Eq, Debug)]
 pub enum CoderResult {

@@ -1,3 +1,6 @@
+//! The forty encodings: names, labels, marks and what is told of each, against the standard's
+//! table.
+
 use encoding_front::{
     BIG5, BIG5_INIT, EUC_JP, EUC_JP_INIT, EUC_KR, EUC_KR_INIT, Encoding, GB18030, GB18030_INIT,
     GBK, GBK_INIT, IBM866, IBM866_INIT, ISO_2022_JP, ISO_2022_JP_INIT, ISO_8859_2, ISO_8859_2_INIT,

@@ -1,6 +1,6 @@
-// The labels for the search, by their length: that leaves few to compare with, and the lists need
-// no order and no index. In each list the labels stand in the order of the Encoding Standard, in
-// lower case, each with the number of its encoding.
+//! The labels for the search, by their length: that leaves few to compare with, and the lists need
+//! no order and no index. In each list the labels stand in the order of the Encoding Standard, in
+//! lower case, each with the number of its encoding.
 
 ghost use Rattle.std.specs.Prelude.{◌≡◌, ℕ};
 ghost use Rattle.encoding_labels.specs.laws.ByLength.{entries, labels_of_length};

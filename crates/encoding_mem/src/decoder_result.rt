@@ -1,3 +1,5 @@
+//! How a call of a raw decoder ended.
+
 /// How a call of a raw decoder ended.
 #[derive(Clone, Copy, PartialEq, Eq, Debug)]
 pub enum DecoderResult {

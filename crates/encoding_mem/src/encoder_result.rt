@@ -1,3 +1,5 @@
+//! How a call of a raw encoder ended.
+
 /// How a call of a raw encoder ended.
 #[derive(Clone, Copy, PartialEq, Eq, Debug)]
 pub enum EncoderResult {

@@ -1,3 +1,5 @@
+//! Why a list or rows were not taken as an index.
+
 use thiserror::Error;
 
 /// Why a list or rows were not taken. The first that holds is returned, in the order of the

@@ -1,3 +1,5 @@
+//! Empty inputs, from and to each encoding.
+
 use crate::trial::{LEAST, LEAST_WIDE, Sizes, Trial, Way, recode};
 use encoding_front::{
     BIG5, EUC_JP, EUC_KR, Encoding, GB18030, GBK, IBM866, ISO_2022_JP, ISO_8859_2, ISO_8859_3,
