@@ -47,7 +47,8 @@ Exit status:
      back as the text of the input; or help, version or list was asked for, whether or not it
      could be written
   1  all was converted, and something was lost. The log says what, but for a character that was
-     written as another, as Shift_JIS writes U+00A5 as the byte 5C: of that there is no line
+     written as another, as Shift_JIS writes U+00A5 as the byte 5C: of that there is no line.
+     Shift_JIS, EUC-JP, ISO-2022-JP, gb18030 and GBK have such characters
   2  the words were refused
   3  an index file is missing or faulty, or memory was refused at the start
   4  a read, a write or a write of the log failed, the input is longer than the limit, or with
