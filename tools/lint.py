@@ -9,12 +9,14 @@
 - Each edit of `must-fail/` and `edits/` names a file, and each text that it replaces stands in it once.
 - Each root file begins its code with the tactic that proofs are found by, and no handle is allowed.
 - Each source file but a crate's root begins with a line that says what it is for (`//!`).
+- The patches of docs/examples apply.
 - README.md and the man page say what the help says (`tools/usage.py`), and README.md has 120 lines at most.
 """
 
 import collections
 import os
 import re
+import subprocess
 import sys
 
 import usage
@@ -144,7 +146,25 @@ def manual():
         yield "README.md has more than %d lines" % README_LINES
 
 
-CHECKS = (double_names, long_lines, unnamed_definitions, stale_definitions, edits, roots, first_lines, manual)
+def example():
+    """The patch that adds an encoding; `make example` proves it."""
+    for name in sorted(os.listdir(os.path.join(TOP, "docs", "examples"))):
+        words = ["git", "apply", "--check", os.path.join("docs", "examples", name)]
+        if subprocess.run(words, cwd=TOP, capture_output=True, check=False).returncode:
+            yield "docs/examples/%s does not apply" % name
+
+
+CHECKS = (
+    double_names,
+    long_lines,
+    unnamed_definitions,
+    stale_definitions,
+    edits,
+    roots,
+    first_lines,
+    manual,
+    example,
+)
 
 
 def main():
