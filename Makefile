@@ -2,7 +2,7 @@ PREFIX = /usr/local
 FROM = utf-8
 TO = utf-8
 
-.PHONY: build test lint doc edits example status run refused hostile characters verdicts install
+.PHONY: build test lint doc usage edits example status run refused hostile characters verdicts install
 
 # Proves the program and all that it stands on, and builds it: crates/recode_cli/out/recode_cli.
 build:
@@ -27,6 +27,10 @@ generate:
 # The reference pages of the libraries, docs/reference, from the doc comments and contracts in their sources.
 doc:
 	@python3 tools/reference.py
+
+# The tables of README.md and of the man page, from the text of the help.
+usage:
+	@python3 tools/usage.py
 
 # The edits that the gate leaves out, each of which the prover must refuse: for a release, some 25 seconds of processor time each.
 edits:

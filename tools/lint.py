@@ -5,23 +5,29 @@
 
 - A public name of `specs/` has one definition in the whole repository.
 - Lines of `src/` over 100 columns: no more than `tools/long_lines` says, and that number is today's, so it only falls.
-- `docs/DEFINITIONS.md` names each file of definitions, and no other.
+- `docs/DEFINITIONS.md` names each file of definitions, and no other, and says of each what it says of itself.
 - Each edit of `must-fail/` and `edits/` names a file, and each text that it replaces stands in it once.
 - Each root file begins its code with the tactic that proofs are found by, and no handle is allowed.
 - Each public item of a library has a doc comment, and `docs/reference` is what `make doc` writes (`tools/reference.py`).
+- Each source file but a crate's root begins with a line that says what it is for (`//!`).
+- The patches of docs/examples apply.
+- README.md and the man page say what the help says (`tools/usage.py`), and README.md has 120 lines at most.
 """
 
 import collections
 import os
 import re
+import subprocess
 import sys
 
 import reference
+import usage
 
 TOP = os.path.join(os.path.dirname(os.path.abspath(__file__)), "..")
 CRATES = os.path.join(TOP, "crates")
 LONG_LINES = os.path.join(TOP, "tools", "long_lines")
 COLUMNS = 100
+README_LINES = 120
 
 # A public definition of a file of `specs/`: a record, a function or an abbreviation, with its type.
 DEFINITION = re.compile(r"^(?:abbrev |unfoldable |irrelevant )*pub (?:(?:record|data|abbrev|unfoldable) )*([^\s:({]+)")
@@ -80,6 +86,16 @@ def unnamed_definitions():
         yield "docs/DEFINITIONS.md names %s, which is no file of definitions" % path
 
 
+def stale_definitions():
+    """A row of docs/DEFINITIONS.md begins with what its file begins with."""
+    row = re.compile(r"^\| \[[^]]*\]\(\.\./(crates/[^)]*\.antt)\) \| (.*) \|$", re.M)
+    for path, said in row.findall(read(os.path.join(TOP, "docs", "DEFINITIONS.md"))):
+        head = re.match(r"(?:--.*\n)*", read(os.path.join(TOP, path))).group()
+        opens = " ".join(line[2:].strip() for line in head.splitlines())
+        if not said.startswith(opens.rstrip(".")):
+            yield "docs/DEFINITIONS.md does not say of %s what it says of itself" % path
+
+
 def edit_faults(path):
     """What is wrong with an edit. A later text is looked for in what the earlier ones have made."""
     crate, texts, target, old = path.split("/")[1], {}, None, None
@@ -118,9 +134,44 @@ def roots():
                 yield "%s has no line #![tactic(auto)]" % path
 
 
+def first_lines():
+    """A crate's root has a page there, of which this says nothing."""
+    for path in files("src", ".rt"):
+        is_root = os.path.basename(path) in ("lib.rt", "main.rt")
+        if not is_root and not re.match("//! [A-Z`0-9]", read(os.path.join(TOP, path))):
+            yield "%s does not begin with a line //! that says what it is for" % path
+
+
+def manual():
+    yield from usage.faults()
+    if len(read(os.path.join(TOP, "README.md")).split("\n")) > README_LINES + 1:
+        yield "README.md has more than %d lines" % README_LINES
+
+
+def example():
+    """The patch that adds an encoding; `make example` proves it."""
+    for name in sorted(os.listdir(os.path.join(TOP, "docs", "examples"))):
+        words = ["git", "apply", "--check", os.path.join("docs", "examples", name)]
+        if subprocess.run(words, cwd=TOP, capture_output=True, check=False).returncode:
+            yield "docs/examples/%s does not apply" % name
+
+
+CHECKS = (
+    double_names,
+    long_lines,
+    unnamed_definitions,
+    stale_definitions,
+    edits,
+    roots,
+    first_lines,
+    manual,
+    example,
+    reference.faults,
+)
+
+
 def main():
-    checks = (double_names, long_lines, unnamed_definitions, edits, roots, reference.faults)
-    faults = [fault for check in checks for fault in check()]
+    faults = [fault for check in CHECKS for fault in check()]
     for fault in faults:
         print(fault)
     return 1 if faults else 0

@@ -1,4 +1,4 @@
-// The names of indexes.
+//! The names of indexes.
 
 use anyhow::bail;
 use encoding_tables::IndexKind;

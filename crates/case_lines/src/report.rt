@@ -1,4 +1,4 @@
-// What is printed of a file.
+//! What is printed of a file.
 
 /// The counts of a file of cases.
 #[derive(Clone, Copy)]

@@ -1,4 +1,4 @@
-// The words of a line as numbers, bytes and characters.
+//! The words of a line as numbers, bytes and characters.
 
 use anyhow::{Context, bail};
 use std::alloc::Global;

@@ -1,4 +1,4 @@
-// One call of a decoder or an encoder, and all that it tells.
+//! One call of a decoder or an encoder, and all that it tells.
 
 use crate::kinds::{Form, Outcome, widened};
 use encoding_codecs::Iso2022JpDecoder;

@@ -1,4 +1,4 @@
-// The lines of single calls, each with all that the call must tell.
+//! The lines of single calls, each with all that the call must tell.
 
 use crate::kinds::{Form, Outcome};
 use anyhow::{Context, bail};

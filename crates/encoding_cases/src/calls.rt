@@ -1,4 +1,4 @@
-// Cases of calls: a new decoder or encoder, and the exact result of each call.
+//! Cases of calls: a new decoder or encoder, and the exact result of each call.
 
 use crate::answer::{Answer, Neutral, Text, decode, encode};
 use crate::call_lines::{CallLine, Source, State};

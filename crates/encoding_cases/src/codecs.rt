@@ -1,5 +1,5 @@
-// The decoder and the encoder of an encoding: those of `encoding_codecs`, and for other encodings
-// those that `encoding_front` chooses.
+//! The decoder and the encoder of an encoding: those of `encoding_codecs`, and for other encodings
+//! those that `encoding_front` chooses.
 
 ghost use Rattle.encoding_front.specs.Encodings.{IsReady};
 

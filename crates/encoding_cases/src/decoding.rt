@@ -1,4 +1,4 @@
-// Streams of bytes, decoded at every cut and into rooms of every size.
+//! Streams of bytes, decoded at every cut and into rooms of every size.
 
 use crate::answer::{Neutral, decode, decoded_room};
 use crate::codecs::{DecoderTask, with_decoder};

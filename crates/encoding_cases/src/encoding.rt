@@ -1,4 +1,4 @@
-// Texts, encoded at every cut and into rooms of every size.
+//! Texts, encoded at every cut and into rooms of every size.
 
 use crate::answer::{Text, encode, encoded_room};
 use crate::codecs::{EncoderTask, with_encoder};

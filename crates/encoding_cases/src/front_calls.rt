@@ -1,4 +1,4 @@
-// One call of a `Decoder`, of each kind, and all that it tells.
+//! One call of a `Decoder`, of each kind, and all that it tells.
 
 use crate::answer::{Answer, UNWRITTEN, UNWRITTEN_UNIT};
 use crate::kinds::{Form, Outcome, widened};

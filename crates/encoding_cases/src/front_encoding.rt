@@ -1,4 +1,4 @@
-// Calls of an `Encoder`, with references written and without, and the exact result of each.
+//! Calls of an `Encoder`, with references written and without, and the exact result of each.
 
 ghost use Rattle.encoding_front.specs.Encodings.{IsReady};
 

@@ -1,4 +1,4 @@
-// The indexes of a file of cases.
+//! The indexes of a file of cases.
 
 use anyhow::{Context, bail, ensure};
 use case_lines::kinds::kind_of;

@@ -1,4 +1,4 @@
-// What cases speak of: the form of a text, and how a call ended.
+//! What cases speak of: the form of a text, and how a call ended.
 
 use encoding_mem::{DecoderResult, EncoderResult};
 use std::alloc::{AllocError, Global};

@@ -1,4 +1,4 @@
-// Streams, each piece with what it becomes.
+//! Streams, each piece with what it becomes.
 
 use crate::kinds::{Form, Item};
 use anyhow::Context;

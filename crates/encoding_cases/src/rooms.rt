@@ -1,4 +1,4 @@
-// The room that decoders and encoders must ask for.
+//! The room that decoders and encoders must ask for.
 
 use crate::kinds::Form;
 use anyhow::{Context, bail};

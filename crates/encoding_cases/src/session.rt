@@ -1,4 +1,4 @@
-// A file of cases, line by line.
+//! A file of cases, line by line.
 
 use crate::call_lines::CallLine;
 use crate::calls::{Calls, check_calls};

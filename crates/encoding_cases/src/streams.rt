@@ -1,5 +1,5 @@
-// Streams of bytes that may begin with a mark, decoded by each kind of call of a `Decoder`, and at
-// once.
+//! Streams of bytes that may begin with a mark, decoded by each kind of call of a `Decoder`, and at
+//! once.
 
 ghost use Rattle.encoding_front.specs.Encodings.{IsReady};
 

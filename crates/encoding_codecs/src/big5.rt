@@ -1,4 +1,4 @@
-// Big5 (the Encoding Standard, section 11.1).
+//! Big5 (the Encoding Standard, section 11.1).
 
 ghost use Rattle.std.specs.Prelude.{◌≡◌, ℕ, ◌+◌, ◌-◌, ◌*◌, ◌/◌, ◌%◌, ◌<◌, ◌≤◌, [], ◌∷◌, true, IfSome};
 ghost use Rattle.encoding_mem.specs.Decoding.{IsFreshDecoder};

@@ -1,3 +1,5 @@
+//! The one type of this crate's decoders, with the rule of each encoding inside.
+
 ghost use Rattle.encoding_mem.specs.Decoding.{IsFreshDecoder, ReadsByRule};
 
 use encoding_mem::DecoderResult;

@@ -1,4 +1,4 @@
-// EUC-JP (the Encoding Standard, section 12.1).
+//! EUC-JP (the Encoding Standard, section 12.1).
 
 ghost use Rattle.std.specs.Prelude.{◌≡◌, ◌≢◌, ◌<◌, true};
 ghost use Rattle.encoding_mem.specs.Decoding.{IsFreshDecoder};

@@ -1,4 +1,4 @@
-// EUC-KR (the Encoding Standard, section 13.1).
+//! EUC-KR (the Encoding Standard, section 13.1).
 
 ghost use Rattle.std.specs.Prelude.{◌≡◌, ℕ, ◌+◌, ◌-◌, ◌*◌, ◌/◌, ◌%◌, ◌<◌, ◌≤◌, [], ◌∷◌, true};
 ghost use Rattle.encoding_mem.specs.Decoding.{IsFreshDecoder};

@@ -1,5 +1,5 @@
-// The decoder of gb18030 (the Encoding Standard, section 10.2.1, "gb18030 decoder"), which is that of GBK
-// too (section 10.1.1).
+//! The decoder of gb18030 (the Encoding Standard, section 10.2.1, "gb18030 decoder"), which is
+//! that of GBK too (section 10.1.1).
 
 ghost use Rattle.std.specs.Prelude.{◌≡◌, ◌||◌, true};
 ghost use Rattle.std.specs.Int.{IsInRange, is_in_range};

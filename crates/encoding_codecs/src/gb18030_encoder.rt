@@ -1,5 +1,5 @@
-// The encoder of gb18030 (the Encoding Standard, section 10.2.2, "gb18030 encoder") and of GBK (section
-// 10.1.2), which has no forms of four bytes.
+//! The encoder of gb18030 (the Encoding Standard, section 10.2.2, "gb18030 encoder") and of GBK
+//! (section 10.1.2), which has no forms of four bytes.
 
 ghost use Rattle.std.specs.Prelude.{◌≡◌, ◌+◌, ◌/◌, ◌%◌, ◌<◌, true};
 ghost use Rattle.encoding_mem.specs.EncoderRule.{IsFreshEncoder};

@@ -1,4 +1,4 @@
-// The decoder of ISO-2022-JP (the Encoding Standard, section 12.2.1, "ISO-2022-JP decoder").
+//! The decoder of ISO-2022-JP (the Encoding Standard, section 12.2.1, "ISO-2022-JP decoder").
 
 ghost use Rattle.std.proofs.Common.{refl, arith};
 ghost use Rattle.std.specs.Prelude.{◌≡◌, ◌↔◌, IsTrue, true, length, take};

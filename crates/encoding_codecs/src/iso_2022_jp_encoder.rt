@@ -1,4 +1,4 @@
-// The encoder of ISO-2022-JP (the Encoding Standard, section 12.2.2, "ISO-2022-JP encoder").
+//! The encoder of ISO-2022-JP (the Encoding Standard, section 12.2.2, "ISO-2022-JP encoder").
 
 ghost use Rattle.std.specs.Prelude.{◌≡◌, ◌+◌, ◌/◌, ◌%◌, ◌<◌, IfSome, true, [], ◌∷◌};
 ghost use Rattle.encoding_mem.specs.EncoderRule.{IsFreshEncoder};

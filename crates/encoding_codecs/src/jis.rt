@@ -1,4 +1,4 @@
-// What Shift_JIS, EUC-JP and ISO-2022-JP share.
+//! What Shift_JIS, EUC-JP and ISO-2022-JP share.
 
 ghost use Rattle.std.specs.Prelude.{◌≡◌, true};
 ghost use Rattle.encoding_codecs.specs.JisForms.{is_katakana_byte, katakana_of_byte, is_katakana, byte_of_katakana, folded};

@@ -1,4 +1,4 @@
-// Laws of the definitions. The functions do nothing: each contract is a law.
+//! Laws of the definitions. The functions do nothing: each contract is a law.
 
 ghost use Rattle.std.specs.Prelude.{ℕ, Bool, List};
 ghost use Rattle.encoding_mem.specs.ReadBack.{ReadsBackExactly};

@@ -1,4 +1,4 @@
-// Shift_JIS (the Encoding Standard, section 12.3).
+//! Shift_JIS (the Encoding Standard, section 12.3).
 
 ghost use Rattle.std.specs.Prelude.{◌≡◌, ◌+◌, ◌<◌, true, IfSome};
 ghost use Rattle.encoding_mem.specs.Decoding.{IsFreshDecoder};

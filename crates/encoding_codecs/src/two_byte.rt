@@ -1,4 +1,4 @@
-// What a lead and a trail give, and the parts of the rules of encodings of two bytes a character.
+//! What a lead and a trail give, and the parts of the rules of encodings of two bytes a character.
 
 ghost use Rattle.std.specs.Prelude.{◌≡◌, ◌+◌, ◌≤◌};
 ghost use Rattle.encoding_codecs.specs.laws.TwoByteDecide.{decide_trail};

@@ -1,4 +1,4 @@
-// The table of encodings: what is said of each of them once.
+//! The table of encodings: what is said of each of them once.
 
 ghost use Rattle.std.specs.Prelude.{◌≡◌};
 ghost use Rattle.std.specs.List.{slice_index_or};

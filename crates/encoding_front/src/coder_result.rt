@@ -1,3 +1,5 @@
+//! How a call ended that writes replacements itself.
+
 /// How a call of a `Decoder` or an `Encoder` that writes replacements itself ended.
 #[derive(Clone, Copy, PartialEq, Eq, Debug)]
 pub enum CoderResult {

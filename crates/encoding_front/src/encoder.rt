@@ -1,3 +1,5 @@
+//! The encoder of a stream: its queries and its calls, with references and without.
+
 ghost use Rattle.std.specs.Prelude.{◌≡◌, ◌≢◌, ◌↔◌, ℕ, ◌+◌, ◌-◌, ◌≤◌, ◌++◌, true, false, IsTrue, List, length, take, drop, vec_capacity, vec_len};
 ghost use Rattle.std.specs.Str.{chars};
 ghost use Rattle.std.specs.Char.Utf16.{utf16_lossy_chars};

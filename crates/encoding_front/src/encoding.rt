@@ -1,3 +1,5 @@
+//! The forty encodings as values: what is found by a label or a mark, and what is told of each.
+
 ghost use Rattle.std.specs.Prelude.{◌≡◌, ◌<◌, ◌↔◌, Some, IsTrue};
 ghost use Rattle.std.specs.Str.{IsAscii, IsUtf8};
 ghost use Rattle.encoding_mem.specs.Iso2022JpAscii.{IsIso2022JpAscii};

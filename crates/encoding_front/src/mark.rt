@@ -1,3 +1,5 @@
+//! What is done with a byte order mark at the start of an input.
+
 ghost use Rattle.std.specs.Prelude.{◌≡◌};
 ghost use Rattle.encoding_front.specs.Marks.{takes_mark_of};
 

@@ -1,4 +1,4 @@
-// A whole input at once.
+//! A whole input at once.
 
 ghost use Rattle.std.specs.Prelude.{◌≡◌, ◌↔◌, ◌<◌, None, Some, length, IfOk, IfSome, encode_utf8_all, string_bytes};
 ghost use Rattle.encoding_mem.specs.Piece.{malformed_count};

@@ -1,4 +1,4 @@
-// A whole text at once.
+//! A whole text at once.
 
 ghost use Rattle.std.specs.Prelude.{◌≡◌, ◌↔◌, ℕ, ◌+◌, ◌-◌, ◌<◌, ◌≤◌, false, IsTrue, length, IfOk, vec_capacity, vec_len};
 ghost use Rattle.std.specs.Str.{chars};

@@ -1,3 +1,5 @@
+//! Why a whole text or a whole input was not converted at once.
+
 use std::alloc::AllocError;
 use thiserror::Error;
 

@@ -1,3 +1,5 @@
+//! Numeric character references, as they are written for characters without bytes.
+
 ghost use Rattle.std.specs.Prelude.{◌≡◌, ◌≤◌, ◌<◌, ◌+◌, ◌^◌, ◌++◌};
 ghost use Rattle.std.specs.Prelude.{codes, drop, length, take, true};
 ghost use Rattle.std.specs.Fmt.{digit_glyph, digits};

@@ -1,4 +1,4 @@
-// Encoding with references for characters without bytes, once for both kinds of source.
+//! Encoding with references for characters without bytes, once for both kinds of source.
 
 ghost use Rattle.std.specs.Prelude.{◌≡◌, ◌≢◌, false, ◌+◌, ◌-◌, ◌≤◌, length, take, drop};
 ghost use Rattle.encoding_mem.specs.EncoderRule.{left};

@@ -1,4 +1,4 @@
-// Looks for a byte order mark at the start of some bytes.
+//! Looks for a byte order mark at the start of some bytes.
 
 ghost use Rattle.std.specs.Prelude.{◌≡◌, ◌||◌};
 ghost use Rattle.encoding_front.specs.Seeking.{can_be, encoding_of_mark, find_end, find_mark, find_second, head_of, is_sought, len_of, nothing_sought, seeks, sought_by};

@@ -1,3 +1,5 @@
+//! The decoder of any encoding, without mark handling: one of the decoders of all codecs.
+
 ghost use Rattle.std.specs.Prelude.{◌≡◌, ◌+◌, ◌-◌, ◌<◌, ◌≤◌, drop, length};
 ghost use Rattle.encoding_mem.specs.Decoding.{EndsWith, StateLaw};
 ghost use Rattle.encoding_mem.specs.Driver.{Suffices};

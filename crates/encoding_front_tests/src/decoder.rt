@@ -1,3 +1,5 @@
+//! Decoders of streams over small indexes, with results worked by hand.
+
 use encoding_front::{
     BIG5, CoderResult, Decoder, EUC_JP, EUC_KR, Encoding, GB18030, GBK, ISO_2022_JP, REPLACEMENT,
     SHIFT_JIS, UTF_8, UTF_16BE, UTF_16LE, WINDOWS_1252, X_USER_DEFINED,

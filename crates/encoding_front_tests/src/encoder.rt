@@ -1,4 +1,4 @@
-// Encoders over small indexes, with results worked by hand.
+//! Encoders over small indexes, with results worked by hand.
 
 use encoding_front::{
     CoderResult, ISO_2022_JP, REPLACEMENT, UTF_8, UTF_16BE, UTF_16LE, WINDOWS_1252, WINDOWS_1253,

@@ -1,3 +1,6 @@
+//! The forty encodings: names, labels, marks and what is told of each, against the standard's
+//! table.
+
 // Written by tools/generate_encodings.py from tools/encodings.toml; do not edit.
 use encoding_front::{
     BIG5, BIG5_INIT, EUC_JP, EUC_JP_INIT, EUC_KR, EUC_KR_INIT, Encoding, GB18030, GB18030_INIT,

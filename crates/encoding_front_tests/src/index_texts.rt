@@ -1,3 +1,5 @@
+//! Index texts that are read or refused, with results worked by hand.
+
 use encoding_index::{IndexFault, IndexFaultKind, LoadFault, load, read_index, read_ranges};
 use encoding_tables::{IndexKind, TableFault, Tables};
 use std::alloc::{AllocError, Global};

@@ -1,4 +1,4 @@
-// Whole inputs at once, with results worked by hand.
+//! Whole inputs at once, with results worked by hand.
 
 use encoding_front::{Encoding, OneShotFault, UTF_8, UTF_16LE, WINDOWS_1257, X_USER_DEFINED};
 use encoding_tables::{IndexKind, Tables};

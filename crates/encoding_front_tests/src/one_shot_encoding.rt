@@ -1,4 +1,4 @@
-// Whole texts at once, with results worked by hand.
+//! Whole texts at once, with results worked by hand.
 
 use encoding_front::{Encoding, ISO_2022_JP, UTF_8, UTF_16LE, WINDOWS_1257};
 use encoding_tables::{IndexKind, Tables};

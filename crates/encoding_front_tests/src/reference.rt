@@ -1,4 +1,4 @@
-// References by hand: U+10FFFF is the last character, and each of its forms has ten bytes.
+//! References by hand: U+10FFFF is the last character, and each of its forms has ten bytes.
 
 use encoding_front::{Reference, write_reference};
 use std::test::Fail;

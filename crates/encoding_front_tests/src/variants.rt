@@ -1,3 +1,5 @@
+//! Codecs that are chosen by encoding, in rooms of the size that they ask for.
+
 use encoding_front::{UTF_8, VariantDecoder, VariantEncoder, WINDOWS_1252};
 use encoding_mem::{DecoderResult, EncoderResult, RawDecoder, RawEncoder};
 use encoding_tables::{IndexKind, TableFault, Tables};

@@ -1,3 +1,5 @@
+//! What is wrong with an index text or with a load of it.
+
 ghost use Rattle.std.specs.Prelude.{◌≡◌};
 ghost use Rattle.encoding_index.specs.declared.fault.LoadFault.TheVariants.{Text, Table};
 

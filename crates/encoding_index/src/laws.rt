@@ -1,3 +1,5 @@
+//! Laws of lines and texts of an index. The functions do nothing: each contract is a law.
+
 ghost use Rattle.std.specs.Prelude.{◌≡◌, ◌↔◌, IsTrue};
 ghost use Rattle.encoding_index.specs.declared.fault.IndexFault.{IndexFault};
 ghost use Rattle.encoding_index.specs.declared.fault.IndexFaultKind.{IndexFaultKind};

@@ -1,3 +1,5 @@
+//! One line of an index text: whether it is skipped, and what row it is.
+
 ghost use Rattle.std.specs.Prelude.{◌≡◌, ℕ, ◌+◌, ◌*◌, ◌^◌, ◌<◌, ◌≤◌, length, Some, None, MatchOption, IfSome, slice_index};
 ghost use Rattle.std.specs.List.{prefix_len, list_all};
 ghost use Rattle.std.specs.Char.{digit_value};

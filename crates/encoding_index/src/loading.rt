@@ -1,3 +1,5 @@
+//! Loads an index: reads its text, and then puts it into the tables.
+
 ghost use Rattle.std.specs.Prelude.{◌≡◌, ◌⊎◌, ◌≢◌, MatchOption, OnOk, OnErr, Ok, Err};
 ghost use Rattle.encoding_index.specs.IndexText.{out_of_memory};
 ghost use Rattle.encoding_index.specs.Loads.{load_fault, Loads, KeepsOthers, WantsMemory};

@@ -1,3 +1,5 @@
+//! Reads an index text to the list or the rows that the tables take.
+
 ghost use Rattle.std.specs.Prelude.{◌≡◌, ◌≢◌, ◌⊎◌, [], None, Some, IfOk, IfErr, false};
 ghost use Rattle.encoding_tables.specs.Kinds.{index_size, is_ranges};
 ghost use Rattle.encoding_index.specs.IndexText.{range_pointers, first_fault, text_list, text_rows, out_of_memory};

@@ -1,4 +1,4 @@
-// Characters, each written by the encoder of an encoding as a text of its own, and read again.
+//! Characters, each written by the encoder of an encoding as a text of its own, and read again.
 
 ghost use Rattle.encoding_front.specs.Encodings.{IsReady, output_encoding_of};
 

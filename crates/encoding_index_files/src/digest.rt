@@ -1,4 +1,5 @@
-// FNV-1a over bytes, and over numbers of 32 bits, the lowest byte first.
+//! FNV-1a over bytes, and over numbers of 32 bits, the lowest byte first.
+
 #[derive(Clone, Copy)]
 pub(crate) struct Digest {
     hash: u32,

@@ -1,4 +1,5 @@
-// The forty encodings by name, over the tables of the files: what each reads, and how each is written.
+//! The forty encodings by name, over the tables of the files: what each reads, and how each is
+//! written.
 
 use crate::characters::{Extent, print_characters};
 use crate::lists::ENCODINGS;

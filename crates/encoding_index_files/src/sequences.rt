@@ -1,5 +1,5 @@
-// Every sequence of two bytes, read by the decoder of an encoding and written again by its encoder, over
-// the tables of the files.
+//! Every sequence of two bytes, read by the decoder of an encoding and written again by its
+//! encoder, over the tables of the files.
 
 ghost use Rattle.std.specs.Prelude.{◌≡◌, true};
 ghost use Rattle.encoding_tables.specs.IndexLists.{has};

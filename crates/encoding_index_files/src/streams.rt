@@ -1,5 +1,5 @@
-// Short streams of bytes, read by the decoder of each encoding. Among them are the bytes of every character
-// of its indexes.
+//! Short streams of bytes, read by the decoder of each encoding. Among them are the bytes of every
+//! character of its indexes.
 
 ghost use Rattle.encoding_front.specs.Encodings.{IsReady};
 

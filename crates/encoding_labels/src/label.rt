@@ -1,3 +1,5 @@
+//! The search for a label.
+
 ghost use Rattle.std.specs.Prelude.{◌≡◌, ℕ, ◌<◌, ◌↔◌, Option, Some, IfSome, OnSome, map};
 ghost use Rattle.std.specs.Char.{to_ascii_lowercase};
 ghost use Rattle.encoding_labels.specs.Labels.{label_text, trimmed, IsLabelOf, IsLabelText, label_number_in, number_of_label};

@@ -1,3 +1,5 @@
+//! The run of ASCII at the start of some bytes, and when it is worth a copy.
+
 ghost use Rattle.std.specs.Prelude.{◌≡◌, ◌<◌, ◌≤◌, length, take, slice_index};
 ghost use Rattle.std.specs.Str.{IsAscii};
 

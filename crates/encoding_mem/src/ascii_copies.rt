@@ -1,4 +1,4 @@
-// Copies of the ASCII at the start.
+//! Copies of the ASCII at the start.
 
 ghost use Rattle.std.specs.Prelude.{◌≡◌, ◌≤◌, length, take, drop};
 ghost use Rattle.std.specs.Str.{IsAscii};

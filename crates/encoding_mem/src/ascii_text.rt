@@ -1,4 +1,4 @@
-// ASCII, in bytes and in units.
+//! ASCII, in bytes and in units.
 
 ghost use Rattle.std.specs.Prelude.{◌↔◌, ℕ, ◌<◌, IsTrue, length, slice_index};
 ghost use Rattle.std.specs.Str.{IsAscii};

@@ -1,5 +1,5 @@
-// Whether a text may have to be laid out from right to left: a quick test that may say yes of a
-// text without such characters, and never says no of one with them.
+//! Whether a text may have to be laid out from right to left: a quick test that may say yes of a
+//! text without such characters, and never says no of one with them.
 
 ghost use Rattle.std.specs.Prelude.{◌≡◌, ◌↔◌, ◌<◌, IsTrue, length, drop};
 ghost use Rattle.std.specs.List.{list_any};

@@ -1,3 +1,5 @@
+//! The decoder of a rule by which any bytes decide their first piece: nothing is ever pending.
+
 ghost use Rattle.std.specs.Prelude.{◌≡◌, ◌<◌, ℕ, List, length};
 ghost use Rattle.encoding_mem.specs.Decoding.{IsFreshDecoder, IsUndecided};
 ghost use Rattle.encoding_mem.specs.Driver.{immediate};

@@ -1,4 +1,4 @@
-// Laws of conversions. The functions do nothing: each contract is a law.
+//! Laws of conversions. The functions do nothing: each contract is a law.
 
 ghost use Rattle.std.specs.Prelude.{◌≡◌, ℕ, List, encode_utf8_all};
 ghost use Rattle.std.specs.Str.{chars, IsUtf8};

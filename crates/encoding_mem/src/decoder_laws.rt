@@ -1,4 +1,4 @@
-// Laws of the decoders' definitions.
+//! Laws of the decoders' definitions.
 
 ghost use Rattle.std.specs.Prelude.{◌≡◌, ◌≤◌, ◌+◌, Bool, true, List, [], ℕ};
 ghost use Rattle.std.specs.Prelude.{drop, encode_utf8_all, length};

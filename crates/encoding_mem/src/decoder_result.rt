@@ -1,3 +1,5 @@
+//! How a call of a raw decoder ended.
+
 /// How a call of a decoder that reports malformed sequences ended, and what the caller does next.
 #[derive(Clone, Copy, PartialEq, Eq, Debug)]
 pub enum DecoderResult {

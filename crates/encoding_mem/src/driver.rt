@@ -1,3 +1,6 @@
+//! The decoding driver, one for all rules and destinations: cuts, pending bytes, room, runs of
+//! text.
+
 ghost use Rattle.std.specs.Prelude.{◌+◌, ◌-◌, ◌≡◌, ◌<◌, ◌≤◌, ◌++◌, [], length, drop};
 ghost use Rattle.encoding_mem.specs.Decoding.{Takes, Reports};
 ghost use Rattle.encoding_mem.specs.Driver.{IsNear, IsStep, IsRoomyStep, DriverEndsWith, Remains, Suffices, PartReports, PartEnds, PartSuffices};

@@ -1,4 +1,4 @@
-// What an encoder makes of each character, and one driver for all encoders.
+//! What an encoder makes of each character, and one driver for all encoders.
 
 ghost use Rattle.std.specs.Prelude.{◌≡◌, ◌≢◌, true, ℕ, ◌+◌, ◌-◌, ◌<◌, ◌≤◌, List, [], ◌∷◌, ◌++◌, length, take, drop};
 ghost use Rattle.encoding_mem.specs.Coding.{Coding, IsCoding};

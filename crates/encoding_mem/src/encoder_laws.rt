@@ -1,4 +1,4 @@
-// Laws of what encoders write. The functions do nothing: each contract is a law.
+//! Laws of what encoders write. The functions do nothing: each contract is a law.
 
 ghost use Rattle.std.specs.Prelude.{◌≡◌, ◌↔◌, ℕ, ◌++◌, Bool, true, false, IsTrue, List, []};
 ghost use Rattle.std.specs.Str.{all_scalars, encode_utf8_all};

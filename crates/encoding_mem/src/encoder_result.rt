@@ -1,3 +1,5 @@
+//! How a call of a raw encoder ended.
+
 /// How a call of an encoder that reports characters without bytes ended, and what the caller does
 /// next.
 #[derive(Clone, Copy, PartialEq, Eq, Debug)]

@@ -1,4 +1,4 @@
-// Laws of `==`. The functions do nothing: each contract is a law.
+//! Laws of `==`. The functions do nothing: each contract is a law.
 
 ghost use Rattle.std.specs.Prelude.{◌≡◌, ◌↔◌, IsTrue};
 ghost use Rattle.encoding_mem.specs.declared.bidi.Latin1Bidi.{Latin1Bidi};

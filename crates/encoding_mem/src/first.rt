@@ -1,4 +1,4 @@
-// Where a run of small bytes or units ends.
+//! Where a run of small bytes or units ends.
 
 ghost use Rattle.std.specs.Prelude.{IsTrue, ℕ, ◌≡◌, ◌<◌, ◌≤◌, length, slice_index, not};
 ghost use Rattle.std.specs.Prelude.{nat_le};

@@ -1,4 +1,4 @@
-// What an encoder makes of one character.
+//! What an encoder makes of one character.
 
 ghost use Rattle.std.specs.Prelude.{◌≡◌, ℕ, ◌+◌, ◌<◌, ◌≤◌, List, [], ◌∷◌, ◌++◌, length, take};
 

@@ -1,4 +1,4 @@
-// Text of the characters U+0000 to U+00FF.
+//! Text of the characters U+0000 to U+00FF.
 
 ghost use Rattle.std.specs.Prelude.{◌↔◌, IsTrue};
 ghost use Rattle.std.specs.Str.{chars};

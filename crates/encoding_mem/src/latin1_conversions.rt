@@ -1,4 +1,4 @@
-// Conversions from Latin1, whose bytes are scalars, and into it.
+//! Conversions from Latin1, whose bytes are scalars, and into it.
 
 ghost use Rattle.std.specs.Prelude.{◌≡◌, ℕ, ◌*◌, ◌≤◌, length, take, drop, encode_utf8_all};
 ghost use Rattle.std.specs.Str.{chars};

@@ -1,4 +1,4 @@
-// Latin1 to text and back, borrowed where nothing changes.
+//! Latin1 to text and back, borrowed where nothing changes.
 
 ghost use Rattle.std.specs.Prelude.{◌≡◌, ◌↔◌, IfOk, IsOk, encode_utf8_all};
 ghost use Rattle.std.specs.Cow.{cow_str_bytes, IsBorrowedStr};

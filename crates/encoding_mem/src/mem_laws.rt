@@ -1,4 +1,4 @@
-// Laws of the checks of texts. The functions do nothing: each contract is a law.
+//! Laws of the checks of texts. The functions do nothing: each contract is a law.
 
 ghost use Rattle.std.specs.Prelude.{◌≡◌, ◌<◌, ◌^◌, ◌↔◌, ℕ, true, List, slice_index, encode_utf8_all};
 ghost use Rattle.std.specs.Char.Utf16.{utf16_lossy_chars};

@@ -1,3 +1,5 @@
+//! The bytes at the end of what was read whose piece is not decided.
+
 ghost use Rattle.std.specs.Prelude.{◌≡◌, ℕ, ◌<◌, ◌≤◌, ◌++◌, ◌∷◌, List, [], length, drop, take};
 
 use std::marker::Model;

@@ -1,3 +1,5 @@
+//! The decoder that callers use: its calls into bytes and units, and its queries.
+
 ghost use Rattle.std.specs.Prelude.{◌≢◌, ◌≡◌, ℕ, ◌+◌, ◌-◌, ◌≤◌, true, false, length, drop, encode_utf8_all};
 ghost use Rattle.encoding_mem.specs.Writing.{Adds, encode_utf16_all};
 ghost use Rattle.encoding_mem.specs.Decoding.{DecoderState, StateLaw, EndsWith};

@@ -1,3 +1,5 @@
+//! The encoder that callers use: its calls from text and units, and its queries.
+
 ghost use Rattle.std.specs.Prelude.{◌≡◌, ◌≢◌, ◌↔◌, ℕ, ◌-◌, ◌≤◌, IsTrue, length, take, drop};
 ghost use Rattle.std.specs.Str.{chars, IsCharBoundary};
 ghost use Rattle.std.specs.Char.Utf16.{utf16_lossy_chars};

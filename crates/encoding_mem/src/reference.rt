@@ -1,3 +1,5 @@
+//! The two forms of a numeric character reference.
+
 /// How the numeric character reference of a character without bytes is written (the HTML Standard,
 /// section 13.1.4).
 #[derive(Clone, Copy, Debug, PartialEq, Eq)]

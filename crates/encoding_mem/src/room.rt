@@ -1,4 +1,4 @@
-// Room that is enough, as numbers: what is returned to those who ask for it.
+//! Room that is enough, as numbers: what is returned to those who ask for it.
 
 ghost use Rattle.std.specs.Prelude.{◌≡◌, ◌+◌, false};
 ghost use Rattle.encoding_mem.specs.DecodedLength.{checked, bound_at, bound_of, queried, decoded_length_utf8, decoded_length_single_byte, decoded_length_multibyte, decoded_length_utf16, decoded_length_replacement};

@@ -1,3 +1,5 @@
+//! The character of a number that is a scalar.
+
 ghost use Rattle.std.specs.Prelude.{◌≡◌};
 ghost use Rattle.std.specs.Char.{InScalarRange};
 

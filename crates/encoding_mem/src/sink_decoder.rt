@@ -1,3 +1,5 @@
+//! A decoder into any destination, and how a rule becomes one.
+
 ghost use Rattle.std.specs.Prelude.{◌≡◌, ℕ, ◌<◌, ◌≤◌, ◌+◌, ◌-◌, [], length, drop, encode_utf8_all};
 ghost use Rattle.encoding_mem.specs.Decoding.{DecoderState, StateLaw, EndsWith};
 ghost use Rattle.encoding_mem.specs.Decoding.{IsFreshDecoder, ReadsByRule};

@@ -1,4 +1,4 @@
-// A text that is read from its start.
+//! A text that is read from its start.
 
 ghost use Rattle.std.specs.Prelude.{◌≡◌, ◌↔◌, IsTrue, ℕ, ◌+◌, ◌-◌, ◌*◌, ◌<◌, ◌≤◌, Bool, true, false, List, [], ◌∷◌, ◌++◌, length, take, drop, slice_index, MatchOption, IfSome};
 ghost use Rattle.std.specs.Str.{chars, IsAscii, IsCharBoundary};

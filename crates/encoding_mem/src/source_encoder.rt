@@ -1,4 +1,4 @@
-// An encoder of any source, and the two sources that a raw encoder is handed.
+//! An encoder of any source, and the two sources that a raw encoder is handed.
 
 ghost use Rattle.std.specs.Prelude.{◌≡◌, ◌≢◌, ◌↔◌, ℕ, ◌-◌, ◌≤◌, IsTrue, length, take, drop};
 ghost use Rattle.encoding_mem.specs.Coding.{IsCoding};

@@ -1,4 +1,4 @@
-// Conversions to UTF-8 in a destination that is text before the call and after it.
+//! Conversions to UTF-8 in a destination that is text before the call and after it.
 
 ghost use Rattle.std.specs.Prelude.{◌≡◌, ℕ, ◌*◌, ◌≤◌, true, List, length, take, drop, encode_utf8_all};
 ghost use Rattle.std.specs.Str.{IsUtf8, all_scalars};

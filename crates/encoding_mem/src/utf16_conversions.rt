@@ -1,4 +1,4 @@
-// Conversions from UTF-16 to UTF-8. A surrogate in no pair gives U+FFFD.
+//! Conversions from UTF-16 to UTF-8. A surrogate in no pair gives U+FFFD.
 
 ghost use Rattle.std.specs.Prelude.{◌≡◌, ℕ, ◌*◌, ◌≤◌, length, take, drop};
 ghost use Rattle.encoding_mem.specs.Conversions.{IsLongest, IsUnitBoundary, units_in_utf8};

@@ -1,3 +1,5 @@
+//! The destination of text in UTF-16; ASCII is widened by blocks.
+
 ghost use Rattle.std.specs.Prelude.{true, ◌≡◌, ◌-◌, ◌<◌, ◌≤◌, ◌∷◌, [], length, refl};
 ghost use Rattle.std.proofs.Common.{◌∙◌};
 ghost use Rattle.encoding_mem.specs.Conversions.{text_in_utf16};

@@ -1,3 +1,5 @@
+//! The decoder of UTF-8 (RFC 3629, section 4).
+
 ghost use Rattle.std.proofs.Common.{refl, arith};
 ghost use Rattle.std.specs.Prelude.{◌+◌, ◌*◌, ◌≡◌, ℕ, ◌<◌, ◌≤◌, ◌==◌, ◌↔◌, IsTrue, List, [], length, take, min, if◌then◌else◌};
 ghost use Rattle.std.specs.Int.{IsInRange, is_in_range};

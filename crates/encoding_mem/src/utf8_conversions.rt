@@ -1,4 +1,4 @@
-// Conversions from UTF-8 to UTF-16.
+//! Conversions from UTF-8 to UTF-16.
 
 ghost use Rattle.std.specs.Prelude.{◌≡◌, ℕ, ◌+◌, ◌<◌, ◌≤◌, List, ◌∷◌, ◌++◌, length, take, drop};
 ghost use Rattle.std.specs.Prelude.{MatchOption};

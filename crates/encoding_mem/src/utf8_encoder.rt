@@ -1,4 +1,4 @@
-// The encoder of UTF-8.
+//! The encoder of UTF-8.
 
 ghost use Rattle.std.specs.Prelude.{◌≡◌};
 ghost use Rattle.std.specs.Char.{encode_utf8};

@@ -1,3 +1,5 @@
+//! The destination of text in UTF-8.
+
 ghost use Rattle.std.specs.Prelude.{false, ◌≡◌, ◌-◌, ◌<◌, ◌≤◌, ◌∷◌, [], length, refl, encode_utf8_all};
 ghost use Rattle.std.specs.Char.{len_utf8};
 ghost use Rattle.std.proofs.Common.{◌∙◌};

@@ -1,4 +1,4 @@
-// Well-formed UTF-8 and UTF-16.
+//! Well-formed UTF-8 and UTF-16.
 
 ghost use Rattle.std.specs.Prelude.{◌↔◌, ◌<◌, IsTrue, length};
 ghost use Rattle.std.specs.Str.{IsUtf8};

@@ -1,3 +1,5 @@
+//! Checks of texts, with results worked by hand.
+
 use encoding_mem::ascii::longer_ascii_prefix;
 use encoding_mem::{
     Latin1Bidi, ascii_valid_up_to, check_str_for_latin1_and_bidi, check_utf8_for_latin1_and_bidi,

@@ -1,3 +1,5 @@
+//! Conversions between ASCII, Latin1, UTF-8 and UTF-16, with results worked by hand.
+
 use encoding_mem::{
     Latin1Bytes, convert_latin1_to_str_partial, convert_latin1_to_utf8_partial,
     convert_str_to_utf16, convert_utf8_to_latin1_lossy, convert_utf8_to_utf16,

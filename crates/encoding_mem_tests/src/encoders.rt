@@ -1,4 +1,4 @@
-// Encoders into rooms of every size, against outputs worked by hand.
+//! Encoders into rooms of every size, against outputs worked by hand.
 
 ghost use Rattle.std.specs.Prelude.{◌≤◌, length};
 ghost use Rattle.encoding_mem.specs.examples.SampleCoding.{sample_coding, sample_room};

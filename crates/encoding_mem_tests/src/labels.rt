@@ -1,3 +1,5 @@
+//! Labels and their numbers, and texts that are no labels.
+
 use encoding_labels::label_number;
 use std::test::Fail;
 

@@ -1,3 +1,5 @@
+//! The decoder of UTF-8 into small rooms and at every cut, with results worked by hand.
+
 use encoding_mem::{DecoderResult, RawDecoder, Utf8Decoder};
 use std::alloc::AllocError;
 use std::test::Fail;

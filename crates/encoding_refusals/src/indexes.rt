@@ -1,4 +1,4 @@
-// The calls that read indexes or put them into tables, and what the tables have then.
+//! The calls that read indexes or put them into tables, and what the tables have then.
 
 use crate::Ended;
 use anyhow::bail;

@@ -1,4 +1,4 @@
-// The calls that convert whole texts.
+//! The calls that convert whole texts.
 
 ghost use Rattle.encoding_front.specs.Encodings.{IsReady};
 

@@ -1,4 +1,4 @@
-// Which lists of entries, and which rows in place of a list, are taken as the index of a kind.
+//! Which lists of entries, and which rows in place of a list, are taken as the index of a kind.
 
 ghost use Rattle.std.specs.Prelude.{◌≡◌, ◌+◌, ◌<◌, ◌≤◌, not, ◌==◌, length, IfSome};
 ghost use Rattle.std.specs.List.{position};

@@ -1,4 +1,4 @@
-// Which rows are taken as the GB18030 ranges, and which row is named in the others.
+//! Which rows are taken as the GB18030 ranges, and which row is named in the others.
 
 ghost use Rattle.std.specs.Prelude.{◌≡◌, ◌≤◌};
 ghost use Rattle.encoding_tables.specs.RangeFaults.{first_out_of_order, first_bad_value, are_scalars, above_values, above_row, bad_row};

@@ -1,3 +1,5 @@
+//! The one type of decoders of encodings each of whose bytes is a piece, with the rule inside.
+
 ghost use Rattle.std.specs.Prelude.{◌≡◌};
 ghost use Rattle.encoding_mem.specs.Decoding.{IsFreshDecoder};
 

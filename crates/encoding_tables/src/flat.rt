@@ -1,4 +1,4 @@
-// Look-ups in the list of an index.
+//! Look-ups in the list of an index.
 
 ghost use Rattle.std.specs.Prelude.{◌≡◌, ℕ, ◌<◌, List, IfSome};
 ghost use Rattle.encoding_tables.specs.Lookups.{value_of, first_pointer, last_pointer, AreEntries};

@@ -1,3 +1,5 @@
+//! The 34 kinds of index: their sizes and their files.
+
 ghost use Rattle.std.specs.Prelude.{◌≡◌, ◌<◌};
 ghost use Rattle.encoding_tables.specs.Kinds.{number, index_size, is_ranges, is_single_byte};
 ghost use Rattle.encoding_tables.specs.FileNames.{file_name_of};

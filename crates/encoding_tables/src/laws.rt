@@ -1,5 +1,5 @@
-// Laws of the definitions: the functions do nothing, and each contract is a law. Beside them stands the search
-// that every look-up makes, whose contract bounds its comparisons.
+//! Laws of the definitions: the functions do nothing, and each contract is a law. Beside them
+//! stands the search that every look-up makes, whose contract bounds its comparisons.
 
 ghost use Rattle.std.specs.Prelude.{◌≡◌, ◌↔◌, ℕ, IsTrue, List};
 ghost use Rattle.encoding_mem.specs.ReadBack.{ReadsBackExactly};

@@ -1,4 +1,4 @@
-// An index as rows: by pointer for decoders, and by entry for encoders.
+//! An index as rows: by pointer for decoders, and by entry for encoders.
 
 ghost use Rattle.std.specs.Prelude.{◌≡◌, ℕ, ◌+◌, ◌^◌, ◌<◌, List, length, map, IfOk, IfSome};
 ghost use Rattle.encoding_tables.specs.Lookups.{value_of, first_pointer, last_pointer};

@@ -1,5 +1,5 @@
-// The rows of the GB18030 ranges, packed for look-ups in either direction (the Encoding Standard,
-// section 5: "index gb18030 ranges code point" and "index gb18030 ranges pointer").
+//! The rows of the GB18030 ranges, packed for look-ups in either direction (the Encoding Standard,
+//! section 5: "index gb18030 ranges code point" and "index gb18030 ranges pointer").
 
 ghost use Rattle.std.specs.Prelude.{◌≡◌, ℕ, ◌<◌, ◌^◌, ◌++◌, List, [], max, None, IfOk, IfSome};
 ghost use Rattle.std.specs.Prelude.{IsOk, OnOk};

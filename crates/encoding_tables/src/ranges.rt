@@ -1,4 +1,4 @@
-// The rows of the GB18030 ranges, as they are lent.
+//! The rows of the GB18030 ranges, as they are lent.
 
 ghost use Rattle.std.specs.Prelude.{◌≡◌, ℕ, ◌<◌, List, IfSome};
 ghost use Rattle.encoding_tables.specs.Ranges.{range_value, range_pointer};

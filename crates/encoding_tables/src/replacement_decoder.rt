@@ -1,4 +1,5 @@
-// The decoder of the replacement encoding (the Encoding Standard, section 14.1.1, "replacement decoder").
+//! The decoder of the replacement encoding (the Encoding Standard, section 14.1.1, "replacement
+//! decoder").
 
 ghost use Rattle.std.proofs.Common.{refl};
 ghost use Rattle.std.specs.Prelude.{◌≡◌, false};

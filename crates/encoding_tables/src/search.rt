@@ -1,4 +1,4 @@
-// A binary search among rows in order.
+//! A binary search among rows in order.
 
 ghost use Rattle.std.specs.Prelude.{◌≡◌, length};
 ghost use Rattle.encoding_tables.specs.SortedRows.{is_below, AreRising, IsRank, IsWithinDigits};

@@ -1,4 +1,5 @@
-// The decoder of the single-byte encodings (the Encoding Standard, section 9.1, "single-byte decoder").
+//! The decoder of the single-byte encodings (the Encoding Standard, section 9.1, "single-byte
+//! decoder").
 
 ghost use Rattle.std.proofs.Common.{refl, arith};
 ghost use Rattle.std.specs.Prelude.{◌≡◌, ℕ, ◌<◌, not, true};

@@ -1,4 +1,5 @@
-// The encoder of the single-byte encodings (the Encoding Standard, section 9.2, "single-byte encoder").
+//! The encoder of the single-byte encodings (the Encoding Standard, section 9.2, "single-byte
+//! encoder").
 
 ghost use Rattle.std.specs.Prelude.{◌≡◌, ◌+◌, true};
 ghost use Rattle.encoding_mem.specs.EncoderRule.{IsFreshEncoder};

@@ -1,3 +1,5 @@
+//! Why a list or rows were not taken as an index.
+
 use thiserror::Error;
 
 /// Why a list or rows were not taken. Of several reasons the first is returned, in the order of the

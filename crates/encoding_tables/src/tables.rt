@@ -1,3 +1,5 @@
+//! The indexes that are handed in, checked, with their look-ups.
+
 ghost use Rattle.std.specs.Prelude.{◌≡◌, ◌≢◌, ◌⊎◌, [], false, true, MatchOption, OnOk, OnErr};
 ghost use Rattle.std.specs.Prelude.{is_some};
 ghost use Rattle.encoding_tables.specs.Kinds.{is_ranges, is_single_byte, index_size};

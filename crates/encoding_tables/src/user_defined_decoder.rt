@@ -1,4 +1,4 @@
-// The decoder of x-user-defined (the Encoding Standard, section 14.5.1, "x-user-defined decoder").
+//! The decoder of x-user-defined (the Encoding Standard, section 14.5.1, "x-user-defined decoder").
 
 ghost use Rattle.std.proofs.Common.{refl, arith};
 ghost use Rattle.std.specs.Prelude.{◌≡◌, ◌<◌, Some};

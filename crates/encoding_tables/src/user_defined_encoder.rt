@@ -1,4 +1,4 @@
-// The encoder of x-user-defined (the Encoding Standard, section 14.5.2, "x-user-defined encoder").
+//! The encoder of x-user-defined (the Encoding Standard, section 14.5.2, "x-user-defined encoder").
 
 ghost use Rattle.std.specs.Prelude.{◌≡◌};
 ghost use Rattle.encoding_mem.specs.EncoderRule.{IsFreshEncoder};

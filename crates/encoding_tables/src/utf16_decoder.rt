@@ -1,5 +1,5 @@
-// The decoder of UTF-16, in both byte orders (the Encoding Standard, section 14.2.1, "shared UTF-16
-// decoder").
+//! The decoder of UTF-16, in both byte orders (the Encoding Standard, section 14.2.1, "shared
+//! UTF-16 decoder").
 
 ghost use Rattle.std.proofs.Common.{refl, arith};
 ghost use Rattle.std.specs.Prelude.{◌≡◌, ◌+◌, Bool, IsTrue, false, true};

@@ -1,4 +1,4 @@
-// Lists and rows that are taken or refused, with results worked by hand.
+//! Lists and rows that are taken or refused, with results worked by hand.
 
 use encoding_tables::{IndexKind, TableFault, Tables};
 use std::alloc::{AllocError, Global};

@@ -1,4 +1,4 @@
-// Rows of an index, and the search among rows, with results worked by hand.
+//! Rows of an index, and the search among rows, with results worked by hand.
 
 use encoding_tables::laws::search;
 use encoding_tables::{IndexKind, TableFault, Tables};

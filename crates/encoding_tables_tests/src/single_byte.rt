@@ -1,4 +1,4 @@
-// The single-byte codecs over small lists, with results worked by hand.
+//! The single-byte codecs over small lists, with results worked by hand.
 
 use encoding_mem::{DecoderResult, EncoderResult, RawDecoder, RawEncoder};
 use encoding_tables::{IndexKind, SingleByteDecoder, SingleByteEncoder, Tables};

@@ -1,4 +1,4 @@
-// The codecs that need no index, with rows of the standard worked by hand.
+//! The codecs that need no index, with rows of the standard worked by hand.
 
 use encoding_mem::{DecoderResult, EncoderResult, RawDecoder, RawEncoder};
 use encoding_tables::{ReplacementDecoder, UserDefinedDecoder, UserDefinedEncoder, Utf16Decoder};

@@ -1,3 +1,5 @@
+//! A conversion step by step, and a run, which is the loop over its steps.
+
 ghost use Rattle.std.specs.Prelude.{◌≡◌, ◌≤◌, ◌<◌, ◌^◌, ◌+◌, ◌-◌, ◌↔◌, ◌==◌, IsTrue, IsSome, OnOk, IfOk, IfErr, IfSome, [], true, false};
 ghost use Rattle.encoding_mem.specs.Decoding.{DecoderState};
 ghost use Rattle.recode_log.specs.Counted.{failures_of};

@@ -1,4 +1,4 @@
-// A line of one conversion: what is converted, and what must come of it.
+//! A line of one conversion: what is converted, and what must come of it.
 
 use crate::parts::{bytes_of, integer};
 use crate::trial::Setting;

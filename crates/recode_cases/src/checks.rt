@@ -1,5 +1,5 @@
-// Converts a case at every cut, byte by byte, with buffers of all sizes, and with each call of a
-// device failing.
+//! Converts a case at every cut, byte by byte, with buffers of all sizes, and with each call of a
+//! device failing.
 
 use crate::case::{Case, few_calls};
 use crate::compare::{same_bytes, same_failures};

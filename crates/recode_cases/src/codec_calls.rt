@@ -1,4 +1,4 @@
-// How many calls of codecs a conversion takes.
+//! How many calls of codecs a conversion takes.
 
 use crate::case::Head;
 use crate::parts::{bytes_of, integer};

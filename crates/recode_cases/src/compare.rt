@@ -1,4 +1,4 @@
-// What is compared of a conversion.
+//! What is compared of a conversion.
 
 use anyhow::{bail, ensure};
 

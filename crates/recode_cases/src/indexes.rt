@@ -1,4 +1,4 @@
-// The indexes of a file of cases, which are loaded as texts.
+//! The indexes of a file of cases, which are loaded as texts.
 
 use anyhow::{Context, ensure};
 use case_lines::kinds::kind_of;

@@ -1,5 +1,5 @@
-// In which order the output and the log are written, byte by byte, and what is written where the
-// call for one of these bytes fails.
+//! In which order the output and the log are written, byte by byte, and what is written where the
+//! call for one of these bytes fails.
 
 use crate::case::{Head, add_line, stop_of};
 use crate::compare::same_failures;

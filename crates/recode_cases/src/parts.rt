@@ -1,4 +1,4 @@
-// Bytes as words, and numbers in decimal digits.
+//! Bytes as words, and numbers in decimal digits.
 
 use anyhow::Context;
 use case_lines::words::add_bytes;

@@ -1,4 +1,4 @@
-// A file of cases, line by line.
+//! A file of cases, line by line.
 
 use crate::case::{Case, Head};
 use crate::checks::check_case;

@@ -1,3 +1,5 @@
+//! Writers that take little, fail, and note on the tape what happens to them.
+
 use crate::tape::{Device, Event, Tape};
 use std::alloc::Global;
 use std::io;

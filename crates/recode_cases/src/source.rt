@@ -1,3 +1,5 @@
+//! Readers over memory that cut the input, fail, and note on the tape what happens to them.
+
 use crate::tape::{Device, Event, Tape};
 use std::io;
 use std::io::{ErrorKind, Read};

@@ -1,5 +1,5 @@
-// What is written after each step of a conversion that reads byte by byte, and where the read of
-// the next byte fails.
+//! What is written after each step of a conversion that reads byte by byte, and where the read of
+//! the next byte fails.
 
 use crate::case::{Head, add_line, stop_of};
 use crate::compare::{same_bytes, same_failures};

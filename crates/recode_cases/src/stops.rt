@@ -1,5 +1,5 @@
-// Each call of a device that fails, alone: a conversion is over with it. Up to it all happens as
-// where no call fails, and nothing behind it, but for the flushes and the message of `convert`.
+//! Each call of a device that fails, alone: a conversion is over with it. Up to it all happens as
+//! where no call fails, and nothing behind it, but for the flushes and the message of `convert`.
 
 use crate::compare::same_failures;
 use crate::sink::{FAILURES, Failure, Manners};

@@ -1,3 +1,5 @@
+//! What happens to all devices of a conversion, in one order.
+
 use std::alloc::{AllocError, Global};
 use std::cell::RefCell;
 

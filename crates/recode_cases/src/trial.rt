@@ -1,4 +1,4 @@
-// A conversion in one of the two ways, and what came of it.
+//! A conversion in one of the two ways, and what came of it.
 
 use crate::sink::{Manners, Sink, WILLING};
 use crate::source::{Reads, Source};

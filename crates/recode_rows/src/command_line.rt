@@ -1,3 +1,5 @@
+//! The program with words and files of the system's kind.
+
 use recode_log::counted::Counted;
 use recode_system::answer;
 use std::alloc::Global;

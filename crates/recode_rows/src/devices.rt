@@ -1,5 +1,5 @@
-// Readers and writers whose failed calls are counted, and bytes that are written, all of them
-// or a prefix.
+//! Readers and writers whose failed calls are counted, and bytes that are written, all of them
+//! or a prefix.
 
 ghost use Rattle.std.specs.Prelude.{◌≤◌, IfOk};
 

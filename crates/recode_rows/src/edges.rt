@@ -1,3 +1,5 @@
+//! The conditions of a conversion at their edges: a valid job, buffers that are enough.
+
 use encoding_front::{GB18030, REPLACEMENT, SHIFT_JIS, UTF_8, UTF_16LE, X_USER_DEFINED};
 use encoding_tables::Tables;
 use recode::{Buffers, GREATEST_LIMIT, Job, Mark, Pivot, Policy};

@@ -1,3 +1,5 @@
+//! Empty inputs, from and to each encoding.
+
 use crate::trial::{LEAST, LEAST_WIDE, Sizes, Trial, Way, recode};
 // Written by tools/generate_encodings.py from tools/encodings.toml; do not edit.
 use encoding_front::{

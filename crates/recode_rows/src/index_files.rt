@@ -1,3 +1,5 @@
+//! The greatest index file that is read.
+
 use recode::{SourceFault, read_index_file};
 use std::test::Fail;
 

@@ -1,3 +1,5 @@
+//! Inputs at the limit, past it, and without an end.
+
 use crate::source::Reads;
 use crate::trial::{LEAST, LEAST_WIDE, ROOMY, SIZES, Sizes, Trial, WAYS, recode};
 use encoding_front::WINDOWS_1252;

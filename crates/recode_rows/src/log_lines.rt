@@ -1,4 +1,4 @@
-// The lines of the log, byte for byte.
+//! The lines of the log, byte for byte.
 
 use recode_log::line::{GREATEST_OFFSET, LogLine};
 

@@ -1,3 +1,5 @@
+//! The program over files in memory: statuses, messages, texts, and which files are read.
+
 ghost use Rattle.std.specs.Prelude.{◌≡◌, ◌&&◌, None, Some, if◌then◌else◌, nat_eq};
 ghost use Rattle.std.specs.Cmp.Lexicographic.{pointwise};
 ghost use Rattle.recode_log.specs.Counted.{failures_of};

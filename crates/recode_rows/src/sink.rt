@@ -1,3 +1,5 @@
+//! Writers that take little and fail.
+
 use crate::turns::Turns;
 use std::alloc::Global;
 use std::io;

@@ -1,3 +1,5 @@
+//! Readers over memory that cut the input and fail.
+
 use std::io;
 use std::io::{ErrorKind, Read};
 

@@ -1,3 +1,5 @@
+//! Statuses and messages of whole conversions, and in which order the writers are flushed.
+
 use crate::sink::{Failure, Flushes, Manners, WILLING};
 use crate::source::Reads;
 use crate::trial::{LEAST, LEAST_WIDE, SIZES, Trial, status};

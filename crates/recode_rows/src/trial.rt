@@ -1,3 +1,5 @@
+//! One conversion for a test: its job, buffers and devices, and what came of it.
+
 ghost use Rattle.std.specs.Prelude.{◌≡◌};
 ghost use Rattle.recode_log.specs.Counted.{failures_of};
 

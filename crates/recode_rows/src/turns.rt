@@ -1,3 +1,5 @@
+//! How often, and in which order, the writers of a conversion were flushed.
+
 use std::cell::Cell;
 
 /// How often the writers of a conversion were flushed.

@@ -1,4 +1,4 @@
-// Texts, which no clause says, and the words as a user writes them.
+//! Texts, which no clause says, and the words as a user writes them.
 
 use recode_words::{Request, WordsFault, parse_words};
 use std::alloc::Global;

@@ -1,3 +1,5 @@
+//! The index files of the system.
+
 ghost use Rattle.std.specs.Prelude.{None};
 
 use recode::{IndexSource, SourceFault, read_index_file};

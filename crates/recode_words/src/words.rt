@@ -1,3 +1,5 @@
+//! What a conversion is asked for in words, and the values of its options.
+
 ghost use Rattle.std.specs.Prelude.{◌≡◌};
 ghost use Rattle.recode_words.specs.Meaning.{limit_of, mark_named, pivot_of, policy_named};
 

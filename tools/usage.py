@@ -1,0 +1,177 @@
+#!/usr/bin/env python3
+"""The tables of README.md and of man/recode.1 that say what `recode --help` says: `make usage`.
+
+    python3 tools/usage.py
+
+The text of the help stands in crates/recode_words/src/command.rt, and nowhere else. What is made of it stands between
+two comments in README.md and in the man page, `NAME` and `end of NAME`: the options, the log, the statuses and their
+messages. `make lint` compares them.
+"""
+
+import os
+import re
+import sys
+
+TOP = os.path.abspath(os.path.join(os.path.dirname(os.path.abspath(__file__)), ".."))
+SOURCE = "crates/recode_words/src/command.rt"
+README = "README.md"
+MAN = "man/recode.1"
+
+# An option that is made by a call, with its value if it has a default, the name of the value and the help.
+OPTION = re.compile(r'(required|default)_option\(\s*alloc,((?:\s*"[^"]*",?)+)\s*\)')
+# What is code in a sentence of the help without standing in quotes.
+WORDS = re.compile(r"(?<![\w`-])(&#\w+;|--[a-z]+(?: stop)?|utf-8|shift_jis|windows-1252)(?![\w`])")
+FLAG = re.compile(r'Arg::new\(alloc, "list"\).*?\.help\("([^"]*)"\)', re.S)
+
+
+class Usage:
+    """What the help says: the options, and the paragraphs and lists behind them."""
+
+    def __init__(self, source):
+        self.options = [self.option(*found) for found in OPTION.findall(source)]
+        self.options.append(("--list", "", "", FLAG.search(source).group(1)))
+        text = re.search(r'const AFTER_HELP: &str =\s*"((?:[^"\\]|\\.)*)";', source).group(1).replace('\\"', '"')
+        self.notes, self.lists = {}, {}
+        for part in text.split("\n\n"):
+            title, _, rest = part.partition(":")
+            if "\n  " in rest:
+                self.lists[title] = self.rows(rest)
+            else:
+                self.notes[title] = " ".join(rest.split())
+
+    @staticmethod
+    def option(kind, words):
+        words = re.findall(r'"([^"]*)"', words)
+        value = words.pop(1) if kind == "default" else ""
+        return "--" + words[0], words[1], value, words[2]
+
+    def rows(self, text):
+        """The rows of a list, a word and what it says, and what is said behind the last of them."""
+        head, *lines = text.split("\n")
+        rows, behind = [], []
+        for line in lines:
+            begins = re.fullmatch(r"  (\S+(?: \S+)*)  +(.*)", line)
+            if begins and not line.startswith("   "):
+                rows.append([begins.group(1), begins.group(2)])
+            elif line.startswith("   "):
+                rows[-1][1] += " " + line.strip()
+            else:
+                behind.append(line)
+        return rows, " ".join(behind)
+
+    def list_of(self, word):
+        """The list whose title has the word, without what is said behind it."""
+        return next((rows for title, (rows, _) in self.lists.items() if word in title), [])
+
+    def behind(self, word):
+        return next(behind for title, (_, behind) in self.lists.items() if word in title)
+
+
+def as_code(text):
+    """In Markdown: what is quoted, numbered references, options and labels as code."""
+    text = re.sub(r'"([^"]*)"', r"`\1`", text)
+    return WORDS.sub(r"`\1`", text)
+
+
+def table(*rows):
+    lines = ["| " + " | ".join(cell for cell in row) + " |" for row in rows]
+    return [lines[0], "|---" * len(rows[0]) + "|", *lines[1:]]
+
+
+def option_row(usage, name, value, default, text):
+    values = "; ".join("`%s`: %s" % (word, as_code(said)) for word, said in usage.list_of("(" + name + ")"))
+    if name in ("--from", "--to"):
+        values = as_code(usage.notes["Labels"]).rstrip(".") if name == "--from" else ""
+    said = text + (". " + values if values else "")
+    return "`%s`" % " ".join([name, value]).strip(), said, "`%s`" % default if default else ""
+
+
+def readme_parts(usage):
+    lines = table(("Option", "What it asks for", "Default"), *(option_row(usage, *o) for o in usage.options))
+    title = next(title for title in usage.lists if title.startswith("Log"))
+    lines += ["", title + ":", "", *("- `%s`: %s" % (word, as_code(said)) for word, said in usage.list_of("Log"))]
+    lines += ["", as_code(usage.behind("Log")), ""]
+    told = dict(usage.list_of("Message"))
+    rows = [(word, as_code(said), as_code(told.get(word, "none"))) for word, said in usage.list_of("Exit status")]
+    yield "usage", lines + table(("Status", "When", "Message, at the end of standard error"), *rows)
+
+
+def roff(text):
+    return text.replace("\\", "\\\\").replace("-", "\\-")
+
+
+def man_item(words, text):
+    """An item of the man page. A message keeps its first letter."""
+    begins = text[1:] if text.startswith('"') else text[0].upper() + text[1:]
+    return [".TP", words, roff(begins.replace('"', "") + ".")]
+
+
+def man_parts(usage):
+    lines = []
+    for name, value, default, text in usage.options:
+        said = text + (", `%s` by default" % default).replace("`", "") * bool(default) + "."
+        for word, meaning in usage.list_of("(" + name + ")"):
+            said += " With %s %s." % (word, meaning) if name == "--unmappable" else " %s: %s." % (word, meaning)
+        if name == "--from":
+            said += " " + usage.notes["Labels"]
+        lines += [".TP", ('.BI %s " %s"' if value else ".B %s%s") % (roff(name), value), roff(said)]
+    lines += [".TP", ".BR \\-h \", \" \\-\\-help \", \" \\-V \", \" \\-\\-version", "Print help, or the version."]
+    yield "options", lines
+    lines = []
+    for word, said in usage.list_of("Log"):
+        word, _, rest = word.partition(" ")
+        lines += man_item('.BI %s " %s"' % (word, rest), said)
+    yield "log", lines + [".PP", roff(usage.behind("Log"))]
+    lines = []
+    for word, said in usage.list_of("Exit status"):
+        lines += man_item(".B " + word, said)
+    yield "statuses", lines
+    lines = []
+    for word, said in usage.list_of("Message"):
+        lines += man_item(".B " + word, said)
+    yield "messages", lines
+
+
+def put(text, parts, begin, end):
+    """The text with each part between its two comments."""
+    for name, lines in parts:
+        head, tail = begin % name, end % name
+        if text.count(head) != 1 or text.count(tail) != 1:
+            raise ValueError("%r and %r do not stand once each" % (head, tail))
+        before, rest = text.split(head)
+        text = before + head + "\n".join(lines) + "\n" + tail + rest.split(tail)[1]
+    return text
+
+
+def read(path):
+    with open(os.path.join(TOP, path), encoding="utf-8") as file:
+        return file.read()
+
+
+def pages():
+    """Each page with what it has, and with what it should have."""
+    usage = Usage(read(SOURCE))
+    text = read(README)
+    yield README, text, put(text, readme_parts(usage), "<!-- %s -->\n", "<!-- end of %s -->\n")
+    text = read(MAN)
+    yield MAN, text, put(text, man_parts(usage), '.\\" %s\n', '.\\" end of %s\n')
+
+
+def faults():
+    """What `make lint` asks for."""
+    for path, has, should in pages():
+        if has != should:
+            yield "%s does not say what the help says: make usage" % path
+
+
+def main():
+    for path, has, should in pages():
+        if has != should:
+            with open(os.path.join(TOP, path), "w", encoding="utf-8") as file:
+                file.write(should)
+            print("wrote", path)
+    return 0
+
+
+if __name__ == "__main__":
+    sys.exit(main())
