@@ -9,7 +9,7 @@ use Rattle.std.proofs.lemmas.List.Folds.{list_any-append}
 use Rattle.std.proofs.Math.Bool.{or-true}
 use Rattle.encoding_mem.proofs.LongestPrefixLemmas.{take_sum}
 use Rattle.std.proofs.lemmas.Str.{chars-append, IsUtf8-take, chars-encodes}
-use Rattle.encoding_mem.specs.Latin1.{AllLatin1}
+use Rattle.encoding_mem.specs.Latin1.{AllLatin1, IsLatin1Text}
 use Rattle.encoding_mem.specs.Bidi.{is_bidi_char, is_bidi_unit, HasBidi, HasBidiUnit, is_bidi_bmp, IsBidiBytes}
 use Rattle.encoding_mem.proofs.PrefixLemmas.{each_of_prefix}
 use Rattle.encoding_mem.proofs.Latin1Lemmas.{latin1_from_ascii, low_text}
@@ -84,10 +84,11 @@ latin1_has_none cs low some = let none = low_char (get_or cs some.0 0) (let l = 
 pub latin1_units_none : (us : List ℕ) → AllLatin1 us → ¬ HasBidiUnit us
 latin1_units_none us low some = let none = low_unit (get_or us some.0 0) (let l = low some.0 in omega arith) in absurd (cc (none, some.1))
 
+pub latin1_bytes_none : (bs : List ℕ) → IsLatin1Text bs → ¬ IsBidiBytes bs
+latin1_bytes_none bs latin1 bidi = elim bidi [ inl broken ↦ broken latin1.0 | inr some ↦ latin1_has_none (chars bs) latin1.1 some ]
+
 pub ascii_has_none : (bs : List ℕ) → IsAscii bs → ¬ IsBidiBytes bs
-ascii_has_none bs low bidi =
-    let latin1 = latin1_from_ascii bs low in
-    elim bidi [ inl broken ↦ broken latin1.0 | inr some ↦ latin1_has_none (chars bs) latin1.1 some ]
+ascii_has_none bs low bidi = latin1_bytes_none bs (latin1_from_ascii bs low) bidi
 
 -- so a prefix of low bytes, or of low units, decides nothing
 chars_behind : (text : List ℕ) (at : ℕ) → IsUtf8 text → IsCharBoundary text at → ((k : ℕ) → k < at → get_or text k 0 < 0xD6)
@@ -114,7 +115,7 @@ units_bidi units rest at r low is any =
 -- The characters of a text, its UTF-8 and its UTF-16 agree on what is from right to left.
 
 -- Tests of ranges.
-below_range : (lo hi c : ℕ) → c < lo → is_in_range lo hi c ≡ false
+pub below_range : (lo hi c : ℕ) → c < lo → is_in_range lo hi c ≡ false
 below_range lo hi c low = rw (lt-leb lo c low) refl
 
 within_range : (lo hi c : ℕ) → lo ≤ c → c ≤ hi → is_in_range lo hi c ≡ true
@@ -132,7 +133,7 @@ cases_range lo hi c = elim (cases_lt c lo) [
   | inr from ↦ elim (cases_lt hi c) [ inl over ↦ inr (above_range lo hi c over) | inr to ↦ inl (from, to) ]
 ]
 
-same_range : (lo hi a lo2 hi2 b : ℕ) → (lo ≤ a → a ≤ hi → (lo2 ≤ b) × (b ≤ hi2)) → (lo2 ≤ b → b ≤ hi2 → (lo ≤ a) × (a ≤ hi))
+pub same_range : (lo hi a lo2 hi2 b : ℕ) → (lo ≤ a → a ≤ hi → (lo2 ≤ b) × (b ≤ hi2)) → (lo2 ≤ b → b ≤ hi2 → (lo ≤ a) × (a ≤ hi))
     → is_in_range lo hi a ≡ is_in_range lo2 hi2 b
 same_range lo hi a lo2 hi2 b there back = elim (cases_range lo hi a) [
   | inl inside ↦ let other = there inside.0 inside.1 in within_range lo hi a inside.0 inside.1 ∙ sym (within_range lo2 hi2 b other.0 other.1)

@@ -9,8 +9,11 @@ pub mod Utf8TextLemmas
 pub mod AsciiRunLemmas
 pub mod PrefixLemmas
 pub mod Latin1Lemmas
+pub mod Latin1BytesLemmas
 pub mod BidiLemmas
+pub mod BidiBytesLemmas
 pub mod LongestPrefixLemmas
 pub mod UnitPrefixLemmas
+pub mod UnitWritingLemmas
 pub mod ReplacementLemmas
 pub mod ConversionLemmas

@@ -1,4 +1,4 @@
--- Characters of units of UTF-16 that are written in UTF-8, one or a run of ASCII at a time.
+-- How many characters units of UTF-16 have, and where those that were copied end.
 use Rattle.std.proofs.Common.{◌≡◌, ℕ, zero, suc, get_or, ◌+◌, ◌*◌, ◌<◌, ◌≤◌, List, [], ◌∷◌, ◌++◌, length, take, drop, refl, sym, ◌∙◌, ap, arith, inl, inr, append_assoc, encode_utf8_all}
 use Rattle.std.specs.Char.{encode_utf8, len_utf8}
 use Rattle.std.specs.Char.Utf16.{utf16_lossy_chars}
@@ -9,42 +9,9 @@ use Rattle.std.proofs.lemmas.Str.{encodes-IsAscii, encodes-append}
 use Rattle.encoding_mem.specs.EncoderRule.{IsCopied}
 use Rattle.encoding_mem.specs.Writing.{len_utf16}
 use Rattle.encoding_mem.proofs.AsciiRunLemmas.{run_units}
-use Rattle.encoding_mem.specs.Conversions.{IsUnitBoundary}
+use Rattle.encoding_mem.specs.Conversions.{IsUnitBoundary, units_in_utf8}
 use Rattle.encoding_mem.proofs.UnitPrefixLemmas.{reads_boundary, split_at}
 use Rattle.encoding_mem.proofs.Utf16Lemmas.{plain_unit}
-
-pub none_copied : (text : List ℕ) → IsCopied text [] text
-none_copied text = record { prefix = []; taken = refl; put = refl }
-
-pub copied_then : (text written rest more rest' : List ℕ) → IsCopied text written rest → IsCopied rest more rest' → IsCopied text (written ++ more) rest'
-copied_then text written rest more rest' a b = record {
-  prefix = a.prefix ++ b.prefix;
-  taken = a.taken ∙ ap (λ l. a.prefix ++ l) b.taken ∙ sym (append_assoc a.prefix b.prefix rest');
-  put = rw (a.put, b.put) (sym (encodes-append a.prefix b.prefix));
-}
-
-pub ascii_copied : (units out : List ℕ) (n : ℕ) → n ≤ length units → out ≡ take n units → IsAscii (take n units) → IsCopied (utf16_lossy_chars units) out (utf16_lossy_chars (drop n units))
-ascii_copied units out n within copied low = record {
-  prefix = out;
-  taken = run_units n units within low ∙ ap (λ l. l ++ utf16_lossy_chars (drop n units)) (sym copied);
-  put = rw copied (sym (encodes-IsAscii (take n units) low));
-}
-
-pub one_copied : (units out : List ℕ) (c n : ℕ) → utf16_lossy_chars units ≡ c ∷ utf16_lossy_chars (drop n units) → out ≡ encode_utf8 c → IsCopied (utf16_lossy_chars units) out (utf16_lossy_chars (drop n units))
-one_copied units out c n next bytes = record { prefix = c ∷ []; taken = next; put = bytes ∙ sym (append-nil (encode_utf8 c)) }
-
--- a character has three bytes for each of its units at most
-pub three_bytes_a_unit : (c : ℕ) → len_utf8 c ≤ 3 * len_utf16 c
-three_bytes_a_unit c = elim (cases_lt c 0x80) [
-  | inl a ↦ rw (lt-ltb c 0x80 a, lt-ltb c 0x1_0000 (omega arith)) (omega arith)
-  | inr a ↦ elim (cases_lt c 0x800) [
-    | inl b ↦ rw (le-ltb c 0x80 a, lt-ltb c 0x800 b, lt-ltb c 0x1_0000 (omega arith)) (omega arith)
-    | inr b ↦ elim (cases_lt c 0x1_0000) [
-      | inl d ↦ rw (le-ltb c 0x80 a, le-ltb c 0x800 b, lt-ltb c 0x1_0000 d) (omega arith)
-      | inr d ↦ rw (le-ltb c 0x80 a, le-ltb c 0x800 b, le-ltb c 0x1_0000 d) (omega arith)
-    ]
-  ]
-]
 
 -- units below the surrogates are a character each
 pub plain_run : (n : ℕ) (units : List ℕ) → n ≤ length units → ((k : ℕ) → k < n → get_or units k 0 < 0xD800) → length (utf16_lossy_chars units) ≡ n + length (utf16_lossy_chars (drop n units))
@@ -67,13 +34,25 @@ counted units here behind read c size run at after first within low =
     let one = ap length first in
     omega (arith, ap (λ l. length (utf16_lossy_chars l)) at, one, ap (λ l. length (utf16_lossy_chars l)) next, plain_run run behind within low, ap (λ l. length (utf16_lossy_chars l)) left)
 
+-- the longest prefix in UTF-8 is copied text
+pub prefix_copied : (units out : List ℕ) (read : ℕ) → IsUnitBoundary units read → out ≡ units_in_utf8 (take read units) → IsCopied (utf16_lossy_chars units) out (utf16_lossy_chars (drop read units))
+prefix_copied units out read whole bytes = record { prefix = utf16_lossy_chars (take read units); taken = split_at read units whole; put = bytes }
+
+pub copied_from : (units here out : List ℕ) (offset read : ℕ) → here ≡ drop offset units → IsCopied (utf16_lossy_chars here) out (utf16_lossy_chars (drop read here))
+    → IsCopied (utf16_lossy_chars (drop offset units)) out (utf16_lossy_chars (drop (offset + read) units))
+copied_from units here out offset read at copied =
+    let left : drop read here ≡ drop (offset + read) units = ap (drop read) at ∙ drop-drop read offset units in
+    record {
+      prefix = copied.prefix;
+      taken = ap utf16_lossy_chars (sym at) ∙ copied.taken ∙ ap (λ l. copied.prefix ++ utf16_lossy_chars l) left;
+      put = copied.put;
+    }
+
 -- what was read ends between characters
 pub past_copied : (units here out : List ℕ) (offset read : ℕ) → here ≡ drop offset units → IsUnitBoundary units offset
     → IsCopied (utf16_lossy_chars here) out (utf16_lossy_chars (drop read here)) → IsUnitBoundary units (offset + read)
 past_copied units here out offset read at whole copied =
     let before : List ℕ = utf16_lossy_chars (take offset units) in
-    let left : drop read here ≡ drop (offset + read) units = ap (drop read) at ∙ drop-drop read offset units in
-    let taken : utf16_lossy_chars (drop offset units) ≡ copied.prefix ++ utf16_lossy_chars (drop (offset + read) units) =
-    ap utf16_lossy_chars (sym at) ∙ copied.taken ∙ ap (λ l. copied.prefix ++ utf16_lossy_chars l) left in
-    reads_boundary units (before ++ copied.prefix) (offset + read)
-    (split_at offset units whole ∙ ap (λ l. before ++ l) taken ∙ sym (append_assoc before copied.prefix (utf16_lossy_chars (drop (offset + read) units))))
+    let more = copied_from units here out offset read at copied in
+    reads_boundary units (before ++ more.prefix) (offset + read)
+    (split_at offset units whole ∙ ap (λ l. before ++ l) more.taken ∙ sym (append_assoc before more.prefix (utf16_lossy_chars (drop (offset + read) units))))

@@ -21,6 +21,8 @@ pub mod Steps
 pub mod Agreement
 pub mod ReadCalls
 pub mod Latin1
+pub mod Latin1Bytes
+pub mod BidiBytes
 pub mod Bidi
 pub mod LongestPrefix
 pub mod Iso2022JpAscii

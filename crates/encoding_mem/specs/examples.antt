@@ -16,6 +16,8 @@ pub mod Agreement
 pub mod ReadCalls
 pub mod Text
 pub mod Latin1
+pub mod Latin1Bytes
+pub mod BidiBytes
 pub mod Bidi
 pub mod Iso2022JpAscii
 pub mod Surrogates

@@ -8,8 +8,10 @@ ghost use Rattle.encoding_mem.specs.Latin1.{AllLatin1, IsLatin1Text};
 ghost use Rattle.encoding_mem.specs.Bidi.{is_bidi_bmp, is_bidi_char, is_bidi_unit, HasBidi, HasBidiUnit, IsBidiBytes};
 
 use crate::ascii_text::is_ascii;
+use crate::bidi_bytes::any_char_bidi;
 use crate::first::{first_byte_from, first_unit_from};
 use crate::latin1::{is_str_latin1, is_utf16_latin1};
+use crate::latin1_bytes::is_latin1_text;
 
 /// What a text is, for layout.
 #[derive(Clone, Copy, Debug, PartialEq, Eq)]
@@ -66,12 +68,6 @@ pub fn is_utf16_code_unit_bidi(unit: u16) -> bool
 // In UTF-8 each character below U+0580 is written with bytes below this one.
 const ABOVE_ARMENIAN: u8 = 0xD6;
 
-fn any_char_bidi(text: &str) -> bool
-    ensures { result ≡ list_any is_bidi_char (chars text.now) }
-{
-    text.chars().any(|c| is_char_bidi(c))
-}
-
 /// Whether `is_char_bidi` holds of some character of the text.
 pub fn is_str_bidi(text: &str) -> bool
     ensures { IsTrue result ↔ HasBidi (chars text.now) }
@@ -87,6 +83,10 @@ pub fn is_utf8_bidi(bytes: &[u8]) -> bool
 {
     // ASCII is read once.
     if is_ascii(bytes) {
+        return false;
+    }
+    // Latin1 wants none of the tables that the test of UTF-8 sets up.
+    if is_latin1_text(bytes) {
         return false;
     }
     match simdutf8::compat::from_utf8(bytes) {
@@ -175,6 +175,9 @@ pub fn check_utf8_for_latin1_and_bidi(bytes: &[u8]) -> Latin1Bidi
 {
     // ASCII is read once.
     if is_ascii(bytes) {
+        return Latin1Bidi::Latin1;
+    }
+    if is_latin1_text(bytes) {
         return Latin1Bidi::Latin1;
     }
     match simdutf8::compat::from_utf8(bytes) {

@@ -7,6 +7,7 @@ ghost use Rattle.encoding_mem.specs.LongestPrefix.{IsLongestPrefix};
 
 use crate::ascii_text::is_ascii;
 use crate::first::{first_byte_from, first_unit_from};
+use crate::latin1_bytes::is_latin1_text;
 use crate::validity::utf8_valid_up_to;
 
 // In UTF-8 each character up to U+00FF is written with bytes below this one, and each character above
@@ -50,6 +51,9 @@ pub fn utf8_latin1_up_to(bytes: &[u8]) -> usize
 {
     // ASCII is read once.
     if is_ascii(bytes) {
+        return bytes.len();
+    }
+    if is_latin1_text(bytes) {
         return bytes.len();
     }
     let low = first_byte_from(bytes, ABOVE_LATIN1);

@@ -15,7 +15,7 @@ ghost use Rattle.encoding_mem.specs.laws.EncodedLength.{sum_within};
 use crate::ascii::ascii_prefix;
 use crate::ascii_copies::copy_basic_latin_to_ascii;
 use crate::scalar::scalar_of;
-use crate::units_text::write_units;
+use crate::utf16_conversions::convert_utf16_to_utf8_partial;
 
 /// A text that is read character by character from its start: a list of bytes of UTF-8 or of units
 /// of UTF-16, which stays as it is, and an offset in it. Encoders read any.
@@ -310,7 +310,7 @@ impl<'a> Source for Utf16Source<'a> {
     }
 
     fn copy_text(&mut self, dst: &mut [u8]) -> usize {
-        let (read, written) = write_units(&self.units[self.offset..], dst);
+        let (read, written) = convert_utf16_to_utf8_partial(&self.units[self.offset..], dst);
         self.offset += read;
         written
     }

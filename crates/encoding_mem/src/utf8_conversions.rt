@@ -11,6 +11,7 @@ ghost use Rattle.encoding_mem.specs.Utf8.{pieces_utf8};
 ghost use Rattle.encoding_mem.specs.Writing.{len_utf16, encode_utf16_all};
 
 use crate::decoder_result::DecoderResult;
+use crate::latin1_bytes::is_latin1_text;
 use crate::latin1_conversions::convert_latin1_to_utf16;
 use crate::sink::Sink;
 use crate::sink_decoder::SinkDecoder;
@@ -112,7 +113,10 @@ pub fn convert_utf8_to_utf16(src: &[u8], dst: &mut [u16]) -> usize
     ensures units { take result dst.new ≡ encode_utf16_all (text (pieces_utf8 src.now)) }
     ensures behind { drop result dst.new ≡ drop result dst.old }
 {
-    // Well-formed text wants no decoder.
+    // Latin1 wants no tables, which the test of UTF-8 sets up, and well-formed text no decoder.
+    if is_latin1_text(src) {
+        return convert_str_to_utf16(unsafe { std::str::from_utf8_unchecked(src) }, dst);
+    }
     if let Ok(text) = simdutf8::compat::from_utf8(src) {
         return convert_str_to_utf16(text, dst);
     }
@@ -127,6 +131,9 @@ fn prefix_text(bytes: &[u8]) -> &str
     ensures within { length result.now ≤ length bytes.now }
     ensures longest { (i : ℕ) → utf8_valid_len bytes.now < i → i ≤ length bytes.now → ¬ (IsUtf8 (take i bytes.now)) }
 {
+    if is_latin1_text(bytes) {
+        return unsafe { std::str::from_utf8_unchecked(bytes) };
+    }
     match simdutf8::compat::from_utf8(bytes) {
         Ok(text) => text,
         Err(e) => unsafe { std::str::from_utf8_unchecked(&bytes[..e.valid_up_to()]) },

@@ -7,6 +7,7 @@ ghost use Rattle.encoding_mem.specs.Surrogates.{IsHighSurrogate, IsLowSurrogate,
 
 use crate::ascii_text::is_ascii;
 use crate::first::first_unit_from;
+use crate::latin1_bytes::is_latin1_text;
 
 /// The length in bytes of the longest prefix that is well-formed UTF-8 (RFC 3629): it ends before
 /// the first byte of the first malformed sequence. Where it is the length of the bytes, they are
@@ -16,6 +17,10 @@ pub fn utf8_valid_up_to(bytes: &[u8]) -> usize
 {
     // ASCII wants none of the tables that the other test sets up.
     if is_ascii(bytes) {
+        return bytes.len();
+    }
+    // Nor does Latin1.
+    if is_latin1_text(bytes) {
         return bytes.len();
     }
     match simdutf8::compat::from_utf8(bytes) {

@@ -1,11 +1,14 @@
 use Rattle.std.proofs.Common.{sym, subst, inl, inr, refl}
 use Rattle.std.specs.Str.{chars}
 use Rattle.encoding_mem.specs.Bidi.{HasBidi}
-use Rattle.encoding_mem.proofs.BidiLemmas.{ascii_has_none}
+use Rattle.encoding_mem.proofs.BidiLemmas.{ascii_has_none, latin1_bytes_none}
 use Rattle.encoding_mem.proofs.bidi.is_utf8_bidi.Goals as goal
 
 pub returns-then-is_ascii : goal.returns-then-is_ascii
 returns-then-is_ascii c = (λ yes. absurd (cc), λ bidi. absurd (ascii_has_none c.args.bytes.now (c.if-is_ascii.ensures.0 refl) bidi))
+
+pub returns-then-is_latin1_text : goal.returns-then-is_latin1_text
+returns-then-is_latin1_text c = (λ yes. absurd (cc), λ bidi. absurd (latin1_bytes_none c.args.bytes.now (c.if-is_latin1_text.ensures refl) bidi))
 
 pub returns-in-Ok : goal.returns-in-Ok
 returns-in-Ok c =

@@ -1,7 +1,21 @@
-use Rattle.std.proofs.Common.{◌∙◌, length, take, sym, ap, arith}
+use Rattle.std.proofs.Common.{◌∙◌, length, take, refl, sym, ap, arith}
 use Rattle.std.proofs.lemmas.List.{take_all}
 use Rattle.std.proofs.lemmas.Str.{utf8_valid_len-IsUtf8}
 use Rattle.encoding_mem.proofs.utf8_conversions.prefix_text.Goals as goal
+
+pub from_utf8_unchecked-requires : goal.from_utf8_unchecked-requires
+from_utf8_unchecked-requires c = let latin1 = c.if-is_latin1_text.ensures refl in latin1.0
+
+pub returns-then-is_latin1_text-clause-prefix : goal.returns-then-is_latin1_text-clause-prefix
+returns-then-is_latin1_text-clause-prefix c =
+    let bytes = c.args.bytes.now in
+    let latin1 = c.if-is_latin1_text.ensures refl in
+    c.from_utf8_unchecked.ensures ∙ sym (ap (λ n. take n bytes) (utf8_valid_len-IsUtf8 bytes latin1.0) ∙ take_all (length bytes) bytes (omega arith))
+
+pub returns-then-is_latin1_text-clause-longest : goal.returns-then-is_latin1_text-clause-longest
+returns-then-is_latin1_text-clause-longest c = λ i more le utf8.
+    let latin1 = c.if-is_latin1_text.ensures refl in
+    absurd (omega (arith, more, le, utf8_valid_len-IsUtf8 c.args.bytes.now latin1.0))
 
 pub returns-in-Ok-clause-prefix : goal.returns-in-Ok-clause-prefix
 returns-in-Ok-clause-prefix c =

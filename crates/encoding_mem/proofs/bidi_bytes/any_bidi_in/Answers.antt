@@ -1,0 +1,10 @@
+use Rattle.encoding_mem.proofs.BidiBytesLemmas.{test_none, test_some}
+use Rattle.encoding_mem.proofs.bidi_bytes.any_bidi_in.Goals as goal
+
+pub loop-i-preserved : goal.loop-i-preserved
+loop-i-preserved c =
+    let i = c.loop-i.invariant in
+    record {
+      none = λ no. test_none c.args.bytes.now c.loop-i.i c.loop-i.any c.is_bidi_bytes-any.result no c.is_bidi_bytes-any.ensures i.none;
+      some = λ yes. test_some c.args.bytes.now c.loop-i.i c.loop-i.any c.is_bidi_bytes-any.result yes c.is_bidi_bytes-any.ensures i.some;
+    }

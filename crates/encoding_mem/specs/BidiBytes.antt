@@ -1,0 +1,17 @@
+-- Text from right to left by its bytes in UTF-8: where a character of `is_bidi_char` begins, its first three bytes
+-- are a number of these ranges, and no other three bytes in a text are. A character of two bytes has the next
+-- character's first byte as its third.
+use Rattle.std.specs.Prelude.{ℕ, ◌+◌, ◌*◌, Bool, ◌||◌, List, slice_index}
+use Rattle.std.specs.Int.{is_in_range}
+
+abbrev pub is_bidi_number : ℕ → Bool
+is_bidi_number v = (is_in_range 0xD6_9000 0xE0_A3FF v || is_in_range 0xE2_808F 0xE2_808F v || is_in_range 0xE2_80AB 0xE2_80AB v || is_in_range 0xE2_80AE 0xE2_80AE v
+    || is_in_range 0xE2_81A7 0xE2_81A7 v || is_in_range 0xEF_AC9D 0xEF_B7BF v || is_in_range 0xEF_B9B0 0xEF_BBBE v) || is_in_range 0xF0_90A0 0xF0_90BF v || is_in_range 0xF0_9EA0 0xF0_9EBF v
+
+-- three bytes, the first of the greatest weight
+abbrev pub is_bidi_bytes : ℕ → ℕ → ℕ → Bool
+is_bidi_bytes b n m = is_bidi_number (b * 0x1_0000 + n * 0x100 + m)
+
+-- at an offset; behind the end stands 00
+abbrev pub is_bidi_at : List ℕ → ℕ → Bool
+is_bidi_at bytes i = is_bidi_bytes (slice_index bytes i) (slice_index bytes (i + 1)) (slice_index bytes (i + 2))
