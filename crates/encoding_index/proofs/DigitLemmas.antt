@@ -1,5 +1,5 @@
 -- Digits at the start of some bytes, counted and read in one walk.
-use Rattle.std.proofs.Common.{◌≡◌, ℕ, zero, suc, ◌+◌, ◌-◌, ◌*◌, ◌^◌, ◌<◌, ◌≤◌, Bool, true, false, List, [], ◌∷◌, length, take, drop, get_or, refl, sym, ap, ◌∙◌, arith, None, Some, inl, inr}
+use Rattle.std.proofs.Common.{◌≡◌, ℕ, zero, suc, ◌+◌, ◌-◌, ◌*◌, ◌/◌, ◌%◌, ◌^◌, ◌<◌, ◌≤◌, Bool, true, false, List, [], ◌∷◌, length, take, drop, get_or, refl, sym, ap, ◌∙◌, arith, None, Some, inl, inr}
 use Rattle.std.specs.Char.{digit_value, is_ascii_digit}
 use Rattle.std.specs.Str.Parse.{digits_value, AllDigits}
 use Rattle.std.specs.List.{prefix_len}
@@ -26,14 +26,22 @@ no_digit_by b other = grind (arith, nat_tests)
 pub digit_value_is : (b : ℕ) → is_digit b ≡ true → b - 0x30 ≡ digit_value b
 digit_value_is b digit = grind (arith, nat_tests)
 
--- a byte that is no hexadecimal digit has the value 16, and no other byte has
-pub hex_digit_by : (b value : ℕ) (hex : Bool) → is_hex_digit b ≡ hex → (is_hex_digit b ≡ false → value ≡ 16) → value < 16 → is_hex_digit b ≡ true
-hex_digit_by b value true hex other below = hex
-hex_digit_by b value false hex other below = absurd (omega (arith, other hex))
+low_digit : (b : ℕ) → 48 ≤ b → b < 58 → b % 16 + 9 * (b / 64) ≡ b - 48
+low_digit b low high = omega arith
 
-pub no_hex_digit_by : (b value : ℕ) (hex : Bool) → is_hex_digit b ≡ hex → (is_hex_digit b ≡ true → value ≡ digit_value b) → 16 ≤ value → is_hex_digit b ≡ false
-no_hex_digit_by b value true hex digit above = absurd (omega (arith, digit hex, hex_digit_small b hex))
-no_hex_digit_by b value false hex digit above = hex
+letter_digit : (b : ℕ) → 65 ≤ b → b < 71 → b % 16 + 9 * (b / 64) ≡ b - 55
+letter_digit b low high = omega arith
+
+pub hex_value_is : (b : ℕ) → is_hex_digit b ≡ true → b % 16 + 9 * (b / 64) ≡ digit_value b
+hex_value_is b hex = elim (cases_lt b 58) [
+  | inl below ↦
+      let low : 48 ≤ b = grind (arith, nat_tests) in
+      low_digit b low below ∙ grind (arith, nat_tests)
+  | inr above ↦
+      let low : 65 ≤ b = grind (arith, nat_tests) in
+      let high : b < 71 = grind (arith, nat_tests) in
+      letter_digit b low high ∙ grind (arith, nat_tests)
+]
 
 -- the first `count` bytes pass, and write `value`
 pub record AreCounted (p : ℕ → Bool) (radix : ℕ) (bytes : List ℕ) (count value : ℕ) : Type 0 where

@@ -1,4 +1,4 @@
-ghost use Rattle.std.specs.Prelude.{◌≡◌, ◌^◌, ◌<◌, ◌≤◌, true, false, length, Some, None, IfSome};
+ghost use Rattle.std.specs.Prelude.{◌≡◌, ◌^◌, ◌<◌, ◌≤◌, true, length, Some, None, IfSome};
 ghost use Rattle.std.specs.List.{prefix_len, list_all};
 ghost use Rattle.std.specs.Char.{digit_value};
 ghost use Rattle.encoding_index.specs.IndexLine.{is_hex_digit, is_space, is_blank, is_skipped};
@@ -20,23 +20,20 @@ pub(crate) fn is_skipped(line: &[u8]) -> bool
     is_blank(line) || line.starts_with(b"#")
 }
 
-// The value of a hexadecimal digit in upper case, and 16 of any other byte: no branch depends on
-// which digit it is.
+#[inline(always)]
+fn is_hex_digit(b: u8) -> bool
+    ensures { result ≡ is_hex_digit b }
+{
+    b.is_ascii_digit() || (b'A'..=b'F').contains(&b)
+}
+
+// The value of a hexadecimal digit in upper case: no branch depends on whether it is a letter.
 #[inline(always)]
 fn hex_value(b: u8) -> u32
-    ensures digit { is_hex_digit b ≡ true → result ≡ digit_value b }
-    ensures other { is_hex_digit b ≡ false → result ≡ 16 }
-    ensures least { result ≤ 16 }
+    requires { is_hex_digit b ≡ true }
+    ensures { result ≡ digit_value b }
 {
-    let digit = b.wrapping_sub(b'0') as u32;
-    let letter = b.wrapping_sub(b'A') as u32;
-    if digit < 10 {
-        digit
-    } else if letter < 6 {
-        letter + 10
-    } else {
-        16
-    }
+    (b % 16 + 9 * (b / 64)) as u32
 }
 
 // How many spaces stand at the start.
@@ -76,7 +73,7 @@ fn code_in(bytes: &[u8]) -> Option<(u32, &[u8])>
 {
     let mut code = 0;
     let mut count = 0;
-    'digits: while count < bytes.len() && count < 7 && hex_value(bytes[count]) < 16 {
+    'digits: while count < bytes.len() && count < 7 && is_hex_digit(bytes[count]) {
         code = code * 16 + hex_value(bytes[count]);
         count += 1;
     }

@@ -31,8 +31,8 @@ pub fn read_index(alloc: Global, kind: IndexKind, text: &[u8]) -> Result<Vec<u32
     Ok(list)
 }
 
-/// Reads the text of the GB18030 ranges: its rows, each a pointer and a code point. Asks for memory row
-/// by row, so a text without rows asks for none.
+/// Reads the text of the GB18030 ranges: its rows, each a pointer and a code point. Asks for memory
+/// at the first row, and at a row for which there is no room left: a text without rows asks for none.
 ///
 /// The fault is the first of the first faulty line, or want of memory.
 pub fn read_ranges(alloc: Global, text: &[u8]) -> Result<Vec<(u32, u32)>, IndexFault>
