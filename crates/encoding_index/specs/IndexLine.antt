@@ -1,5 +1,5 @@
 -- A line of an index text (the Encoding Standard, section 5, "Indexes"), without its end.
-use Rattle.std.specs.Prelude.{◌≡◌, ℕ, Bool, true, ◌==◌, nat_eq, nat_lt, not, ◌&&◌, ◌||◌, if◌then◌else◌, List, [], ◌∷◌, length, take, drop, Option, Some, None, option_and_then, codes, refl}
+use Rattle.std.specs.Prelude.{ℕ, Bool, true, ◌==◌, nat_eq, nat_lt, not, ◌&&◌, ◌||◌, if◌then◌else◌, List, [], ◌∷◌, length, take, drop, Option, Some, None, option_and_then, codes}
 use Rattle.std.specs.List.{list_all, prefix_len, starts_with}
 use Rattle.std.specs.Str.Parse.{digits_value}
 

@@ -1,13 +1,49 @@
 //! Loads an index: reads its text, and then puts it into the tables.
 
-ghost use Rattle.std.specs.Prelude.{◌≡◌, ◌⊎◌, ◌≢◌, MatchOption, OnOk, OnErr, Ok, Err};
-ghost use Rattle.encoding_index.specs.IndexText.{out_of_memory};
-ghost use Rattle.encoding_index.specs.Loads.{load_fault, Loads, KeepsOthers, WantsMemory};
+ghost use Rattle.std.specs.Prelude.{◌≡◌, ◌⊎◌, ◌≢◌, false, MatchOption, OnOk, OnErr, IfOk, IfErr};
+ghost use Rattle.std.specs.Prelude.{Ok, Err, Some, None};
+ghost use Rattle.encoding_tables.specs.Kinds.{is_ranges, index_size};
+ghost use Rattle.encoding_tables.specs.PackedRows.{PointersRise, PointersAreBelow};
+ghost use Rattle.encoding_index.specs.IndexText.{text_rows, out_of_memory};
+ghost use Rattle.encoding_index.specs.Loads.{text_fault, load_fault};
+ghost use Rattle.encoding_index.specs.Loads.{Loads, KeepsOthers, WantsMemory};
+ghost use Rattle.encoding_index.specs.laws.Inserts.{rows_fault, HaveRows};
 
-use crate::fault::LoadFault;
-use crate::reading::{read_ranges, rows_below};
-use encoding_tables::{IndexKind, Tables};
+use crate::fault::{IndexFault, LoadFault};
+use crate::reading::{RANGE_POINTERS, rows_below};
+use encoding_tables::{IndexKind, TableFault, Tables};
 use std::alloc::Global;
+
+// The rows of a text of the kind.
+fn rows_of(alloc: Global, kind: IndexKind, text: &[u8]) -> Result<Vec<(u32, u32)>, IndexFault>
+    ensures rows { IfOk result (λ rows. (text_fault kind text.now ≡ None)
+        × (rows.items ≡ text_rows text.now)) }
+    ensures fault { IfErr result (λ fault. (text_fault kind text.now ≡ Some fault)
+        ⊎ (fault ≡ out_of_memory)) }
+{
+    if kind.is_ranges() {
+        rows_below(alloc, text, RANGE_POINTERS)
+    } else {
+        rows_below(alloc, text, kind.size() as u32)
+    }
+}
+
+// Puts what the rows stand for into the tables.
+fn insert(tables: &mut Tables, kind: IndexKind, rows: &[(u32, u32)]) -> Result<(), TableFault>
+    requires rise { is_ranges kind ≡ false → PointersRise rows.now }
+    requires below { is_ranges kind ≡ false → PointersAreBelow (index_size kind) rows.now }
+    ensures fault { MatchOption (rows_fault tables.old kind rows.now)
+        ((result ≡ Ok tt) ⊎ (result ≡ Err TableFault.Memory)) (λ f. result ≡ Err f) }
+    ensures taken { OnOk result (HaveRows tables.new kind rows.now) }
+    ensures others { KeepsOthers tables.old tables.new kind }
+    ensures unchanged { OnErr result (tables.new ≡ tables.old) }
+{
+    if kind.is_ranges() {
+        tables.insert_ranges(rows)
+    } else {
+        tables.insert_rows(kind, rows)
+    }
+}
 
 /// Reads the text of an index, of any kind, and puts what it stands for into the tables. After an
 /// error the tables are as they were.
@@ -29,12 +65,28 @@ pub fn load(
     ensures others { KeepsOthers tables.old tables.new kind }
     ensures unchanged { OnErr result (tables.new ≡ tables.old) }
 {
-    if kind.is_ranges() {
-        let rows = read_ranges(alloc, text)?;
-        tables.insert_ranges(&rows)?;
-    } else {
-        let rows = rows_below(alloc, text, kind.size() as u32)?;
-        tables.insert_rows(kind, &rows)?;
-    }
+    let rows = rows_of(alloc, kind, text)?;
+    insert(tables, kind, &rows)?;
+    Ok(())
+}
+
+/// Reads the text of an index, lets it go, and puts what it stands for into the tables, which may
+/// take the memory that the text had. In all else it is [`load`].
+pub fn load_owned(
+    alloc: Global,
+    tables: &mut Tables,
+    kind: IndexKind,
+    text: Vec<u8>,
+) -> Result<(), LoadFault>
+    ensures fault { MatchOption (load_fault tables.old kind text.items)
+        ((result ≡ Ok tt) ⊎ WantsMemory result)
+        (λ fault. (result ≡ Err fault) ⊎ (result ≡ Err (LoadFault.Text out_of_memory))) }
+    ensures loaded { OnOk result (Loads tables.new kind text.items) }
+    ensures others { KeepsOthers tables.old tables.new kind }
+    ensures unchanged { OnErr result (tables.new ≡ tables.old) }
+{
+    let rows = rows_of(alloc, kind, &text)?;
+    drop(text);
+    insert(tables, kind, &rows)?;
     Ok(())
 }

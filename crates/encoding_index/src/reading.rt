@@ -35,7 +35,8 @@ pub fn read_index(alloc: Global, kind: IndexKind, text: &[u8]) -> Result<Vec<u32
 }
 
 /// Reads the text of the GB18030 ranges: returns its rows, each a pointer and a code point. It asks
-/// for memory row by row, so a text without rows asks for none.
+/// for memory at the first row, and at a row for which there is no room left: a text without rows
+/// asks for none.
 ///
 /// The error is the fault of the first faulty line, or, with line 0, that memory was refused.
 pub fn read_ranges(alloc: Global, text: &[u8]) -> Result<Vec<(u32, u32)>, IndexFault>
@@ -48,7 +49,12 @@ pub fn read_ranges(alloc: Global, text: &[u8]) -> Result<Vec<(u32, u32)>, IndexF
     rows_below(alloc, text, RANGE_POINTERS)
 }
 
-/// Reads the rows of a text, where pointers are to be below `size`. Asks for memory row by row.
+// The lines of the standard's longer indexes have more bytes on average, so that the room that is
+// asked for at the first row is enough for all rows.
+const COMMON_LINE: usize = 32;
+
+/// Reads the rows of a text, where pointers are to be below `size`. Asks for memory at the first
+/// row, and at a row for which there is no room left.
 pub(crate) fn rows_below(
     alloc: Global,
     text: &[u8],
@@ -62,7 +68,11 @@ pub(crate) fn rows_below(
 {
     let mut rows = Vec::new(alloc);
     for row in IndexRows::new(text, size) {
-        rows.push(row?)?;
+        let row = row?;
+        if rows.len() == rows.capacity() {
+            rows.reserve(text.len() / COMMON_LINE + 1)?;
+        }
+        rows.push(row)?;
     }
     Ok(rows)
 }

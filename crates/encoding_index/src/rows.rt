@@ -1,14 +1,16 @@
 //! The rows of an index text, one after another, or its first fault.
 
-ghost use Rattle.std.specs.Prelude.{◌≡◌, ℕ, ◌+◌, ◌^◌, ◌<◌, ◌≤◌, List, ◌∷◌, [], length, IfOk, ◌==◌};
+ghost use Rattle.std.specs.Prelude.{◌≡◌, ℕ, ◌+◌, ◌^◌, ◌<◌, ◌≤◌, List, ◌∷◌, [], length, ◌==◌};
+ghost use Rattle.std.specs.Prelude.{IfOk, IfSome};
 ghost use Rattle.std.specs.List.{position_or_len};
 ghost use Rattle.std.specs.Str.Lines.{lines, strip_carriage_return};
 ghost use Rattle.encoding_index.specs.IndexText.{lines_in};
 ghost use Rattle.encoding_index.specs.laws.Outcomes.{outcomes, outcome_of};
+ghost use Rattle.encoding_index.specs.laws.RowStarts.{BeginsWithRow};
 
 use crate::fault::{IndexFault, IndexFaultKind};
-use crate::line::{is_skipped, row_of};
-use memchr::memchr;
+use crate::line::{is_skipped, row_of, row_start};
+use std::simd::prelude::*;
 
 // A line that ends at LF, without the CR before that.
 fn without_carriage_return(line: &[u8]) -> &[u8]
@@ -20,14 +22,40 @@ fn without_carriage_return(line: &[u8]) -> &[u8]
     }
 }
 
+// How many bytes are looked at at once for a LF: most lines of an index have no more behind their
+// code point.
+const LANES: usize = 32;
+
+// How many bytes stand before the first LF of some.
+#[inline(always)]
+fn lanes_before_newline(block: u8x32) -> usize
+    ensures { result ≡ position_or_len (λ b. b == 10) block }
+{
+    let marks = block.simd_eq(u8x32::splat(b'\n')).to_bitmask();
+    if marks == 0 {
+        LANES
+    } else {
+        marks.trailing_zeros() as usize
+    }
+}
+
 // How many bytes stand before the first LF.
+#[inline(always)]
 fn line_len(text: &[u8]) -> usize
     ensures { result ≡ position_or_len (λ b. b == 10) text.now }
 {
-    match memchr(b'\n', text) {
-        Some(end) => end,
-        None => text.len(),
+    let mut at = 0;
+    'lanes: while text.len() - at >= LANES {
+        let run = lanes_before_newline(u8x32::from_slice(&text[at..]));
+        at += run;
+        if run < LANES {
+            return at;
+        }
     }
+    'bytes: while at < text.len() && text[at] != b'\n' {
+        at += 1;
+    }
+    at
 }
 
 // The first line of a text with some bytes, without its end, and what stands behind that.
@@ -42,6 +70,28 @@ fn first_line(text: &[u8]) -> (&[u8], &[u8])
         (without_carriage_return(&text[..end]), &text[end + 1..])
     } else {
         (text, &[])
+    }
+}
+
+// The row of the first line, where a tab stands behind its code point and the line ends at LF; and
+// what stands behind the line. The line is not cut off before it is read.
+#[inline(always)]
+fn plain_row(text: &[u8]) -> Option<((u32, u32), &[u8])>
+    ensures row { IfSome result (λ r. BeginsWithRow text.now r.0 r.1.now) }
+    ensures small { IfSome result (λ r. r.0.0 < 10 ^ 7) }
+{
+    let (pointer, code, behind) = row_start(text)?;
+    if code == 0 {
+        return None;
+    }
+    if behind.is_empty() || behind[0] != b'\t' {
+        return None;
+    }
+    let end = line_len(behind);
+    if end < behind.len() {
+        Some(((pointer, code), &behind[end + 1..]))
+    } else {
+        None
     }
 }
 
@@ -74,6 +124,7 @@ pub(crate) struct IndexRows<'a> {
 }
 
 impl<'a> IndexRows<'a> {
+    ghost use Rattle.std.specs.Iterator.{YieldsFirst};
     ghost use Rattle.encoding_index.specs.laws.RowsLeft.{outcomes_left};
 
     /// The rows of a text whose pointers are below `size`.
@@ -87,19 +138,29 @@ impl<'a> IndexRows<'a> {
             size,
         }
     }
-}
 
-impl<'a> Iterator for IndexRows<'a> {
-    ghost use Rattle.std.specs.Iterator.{YieldsFirst, item_count};
-    ghost use Rattle.encoding_index.specs.laws.RowsLeft.{outcomes_left};
+    // The next row, at once where it is a plain one, or the first fault.
+    #[inline(always)]
+    fn next_row(&mut self) -> Option<Result<(u32, u32), IndexFault>>
+        ensures { YieldsFirst outcomes_left self.old result self.new }
+    {
+        if let Some((row, rest)) = plain_row(self.rest) {
+            if row.0 >= self.least && row.0 < self.size {
+                self.rest = rest;
+                self.number += 1;
+                self.least = row.0 + 1;
+                return Some(Ok(row));
+            }
+        }
+        self.next_by_line()
+    }
 
-    type Item = Result<(u32, u32), IndexFault>;
-
-    ghost next_gives = { YieldsFirst outcomes_left };
-
-    ghost remaining = { item_count outcomes_left };
-
-    fn next(&mut self) -> Option<Result<(u32, u32), IndexFault>> {
+    // The next row of any form, or the first fault, line by line.
+    #[cold]
+    #[inline(never)]
+    fn next_by_line(&mut self) -> Option<Result<(u32, u32), IndexFault>>
+        ensures { YieldsFirst outcomes_left self.old result self.new }
+    {
         while !self.rest.is_empty() {
             let (line, rest) = first_line(self.rest);
             self.rest = rest;
@@ -121,5 +182,21 @@ impl<'a> Iterator for IndexRows<'a> {
             }
         }
         None
+    }
+}
+
+impl<'a> Iterator for IndexRows<'a> {
+    ghost use Rattle.std.specs.Iterator.{YieldsFirst, item_count};
+    ghost use Rattle.encoding_index.specs.laws.RowsLeft.{outcomes_left};
+
+    type Item = Result<(u32, u32), IndexFault>;
+
+    ghost next_gives = { YieldsFirst outcomes_left };
+
+    ghost remaining = { item_count outcomes_left };
+
+    #[inline(always)]
+    fn next(&mut self) -> Option<Result<(u32, u32), IndexFault>> {
+        self.next_row()
     }
 }

@@ -1,13 +1,13 @@
 //! Where index files come from, and the indexes that an encoding needs, each loaded once.
 
-ghost use Rattle.std.specs.Prelude.{◌≡◌, ◌≤◌, ◌^◌, IfOk, IfSome, OnOk, true, vec_len};
+ghost use Rattle.std.specs.Prelude.{◌≡◌, ◌≤◌, ◌^◌, [], IfOk, IfSome, OnOk, true, vec_len};
 ghost use Rattle.std.specs.Prelude.{List, Option, ℕ};
 ghost use Rattle.encoding_tables.specs.IndexLists.{has};
 ghost use Rattle.encoding_front.specs.Encodings.{IsReady};
 ghost use Rattle.recode.specs.Program.{AddsFromFiles, AreKept};
 
 use encoding_front::Encoding;
-use encoding_index::{IndexFaultKind, LoadFault, load};
+use encoding_index::{IndexFaultKind, LoadFault, load_owned};
 use encoding_tables::{IndexKind, TableFault, Tables};
 use std::alloc::{AllocError, Global};
 use std::io::{ErrorKind, Read};
@@ -16,6 +16,22 @@ use thiserror::Error;
 /// The most bytes that an index file may have: 2^24. The longest of the standard has about a
 /// twentieth of them.
 pub const GREATEST_INDEX_FILE: usize = 16777216;
+
+// The room that is asked for before an index file is read, so that the vector does not grow under
+// the files of the standard: what is not written costs nothing.
+const FIRST_ROOM: usize = 1048576;
+
+// A vector with that room. More is asked for before, and given back: a C library that takes blocks
+// of this size from the system, as glibc does, keeps them from then on, so that the tables and the
+// next file are written where the text was. A page that is new costs more than what is written to it.
+fn empty_text(alloc: Global) -> Result<Vec<u8>, AllocError>
+    ensures items { IfOk result (λ bytes. bytes.items ≡ []) }
+    ensures len { IfOk result (λ bytes. vec_len bytes ≡ 0) }
+{
+    let room: Vec<u8> = Vec::with_capacity(alloc, 2 * FIRST_ROOM)?;
+    drop(room);
+    Vec::with_capacity(alloc, FIRST_ROOM)
+}
 
 /// Why a source does not give an index file.
 #[derive(Clone, Copy, Debug, PartialEq, Eq, Error)]
@@ -50,7 +66,9 @@ pub fn read_index_file<R: Read + Drop>(alloc: Global, reader: R) -> Result<Vec<u
     ensures whole { IfOk result (λ bytes. IfSome (R.remaining reader) (λ all. bytes.items ≡ all)) }
     ensures size { IfOk result (λ bytes. vec_len bytes ≤ 2 ^ 24) }
 {
-    let mut bytes = Vec::new(alloc);
+    let Ok(mut bytes) = empty_text(alloc) else {
+        return Err(SourceFault::Memory);
+    };
     match reader
         .take(GREATEST_INDEX_FILE as u64 + 1)
         .read_to_end(&mut bytes)
@@ -143,7 +161,7 @@ fn load_index<S: IndexSource>(
         Err(SourceFault::Missing) => return Err(StartFault::Missing { file }),
         Err(SourceFault::Memory) => return Err(StartFault::Memory),
     };
-    match load(alloc, tables, kind, &text) {
+    match load_owned(alloc, tables, kind, text) {
         Ok(()) => Ok(()),
         Err(fault) => Err(fault_of(file, &fault)),
     }

@@ -1,7 +1,5 @@
 -- Worked rows of `specs/IndexLine.antt`.
-use Rattle.std.specs.Prelude.{◌≡◌, ℕ, Bool, true, ◌==◌, nat_eq, nat_lt, not, ◌&&◌, ◌||◌, if◌then◌else◌, List, [], ◌∷◌, length, take, drop, Option, Some, None, option_and_then, codes, refl, map, replicate, false}
-use Rattle.std.specs.List.{list_all, prefix_len, starts_with}
-use Rattle.std.specs.Str.Parse.{digits_value}
+use Rattle.std.specs.Prelude.{◌≡◌, true, [], ◌∷◌, Some, None, codes, refl, map, replicate, false}
 use Rattle.encoding_index.specs.IndexLine.{is_skipped, row_in, is_digit, is_hex_digit}
 
 plain_row : row_in (codes "0\t0x0080") ≡ Some (0, 0x80)

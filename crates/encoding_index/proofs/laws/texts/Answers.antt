@@ -1,6 +1,7 @@
 use Rattle.encoding_index.proofs.RowLemmas.{lists_are_of_rows}
 use Rattle.encoding_index.proofs.FaultLemmas.{faults_are_first}
-use Rattle.encoding_index.proofs.LineLemmas.{row_in-written, written-row_in}
+use Rattle.encoding_index.proofs.LineLemmas.{row_in-written}
+use Rattle.encoding_index.proofs.StartLemmas.{written-row_in}
 use Rattle.encoding_index.proofs.laws.texts.Goals as goal
 
 pub returns-clause-rows : goal.returns-clause-rows

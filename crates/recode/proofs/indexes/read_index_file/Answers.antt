@@ -15,12 +15,12 @@ whole : (limit : ℕ) (items : List ℕ) (remaining : Option (List ℕ)) → len
 whole limit items None small h = tt
 whole limit items (Some all) small h = all_of limit items all h small
 
-pub returns-in-Ok-clause-whole : goal.returns-in-Ok-clause-whole
-returns-in-Ok-clause-whole g c =
+pub returns-in-Ok-read_to_end-clause-whole : goal.returns-in-Ok-read_to_end-clause-whole
+returns-in-Ok-read_to_end-clause-whole g c =
     let items : List ℕ = c.read_to_end.new.buf.items in
     let limit : ℕ = c.take.result.limit in
     let short : length items + 1 ≤ limit =
-    omega (arith, c.in-Ok.ensures.ok, c.new-bytes.ensures.len, c.if-count-le-GREATEST_INDEX_FILE.true, c.read_to_end.new.buf.ok.0, c.take.ensures.limit) in
+    omega (arith, c.in-Ok-read_to_end.ensures.ok, c.in-Ok.ensures.len, c.if-count-le-GREATEST_INDEX_FILE.true, c.read_to_end.new.buf.ok.0, c.take.ensures.limit) in
     let given : IfSome (option_map (take limit) (g.R.Read.remaining c.args.reader)) (λ xs. items ≡ [] ++ xs) =
-    rw (c.take.ensures.inner, c.new-bytes.ensures.items) at c.in-Ok.ensures.bytes in
+    rw (c.take.ensures.inner, c.in-Ok.ensures.items) at c.in-Ok-read_to_end.ensures.bytes in
     whole limit items (g.R.Read.remaining c.args.reader) short given

@@ -1,6 +1,6 @@
 use Rattle.std.proofs.Common.{◌≡◌, length}
 use Rattle.encoding_index.specs.laws.RowsLeft.{outcomes_left}
-use Rattle.encoding_index.proofs.rows.IndexRowsIterator.next.Given as goal
+use Rattle.encoding_index.proofs.rows.IndexRows.next_by_line.Given as goal
 
 abbrev pub invariant-loop-line : goal.invariant-loop-line
 invariant-loop-line l = outcomes_left l.self ≡ outcomes_left l.fn.self
