@@ -7,6 +7,7 @@
 - Lines of `src/` over 100 columns: no more than `tools/long_lines` says, and that number is today's, so it only falls.
 - `docs/DEFINITIONS.md` names each file of definitions, and no other.
 - Each edit of `must-fail/` and `edits/` names a file, and each text that it replaces stands in it once.
+- `docs/reference/edits.md` is what `tools/edits_table.py` writes.
 - Each root file begins its code with the tactic that proofs are found by, and no handle is allowed.
 """
 
@@ -14,6 +15,10 @@ import collections
 import os
 import re
 import sys
+
+sys.dont_write_bytecode = True
+
+import edits_table
 
 TOP = os.path.join(os.path.dirname(os.path.abspath(__file__)), "..")
 CRATES = os.path.join(TOP, "crates")
@@ -106,6 +111,11 @@ def edits():
             yield from edit_faults(path)
 
 
+def edits_page():
+    if not os.path.isfile(edits_table.PAGE) or read(edits_table.PAGE) != edits_table.page():
+        yield "docs/reference/edits.md is out of date: python3 tools/edits_table.py"
+
+
 def roots():
     if read(os.path.join(TOP, "HANDLES")) != "Handles allowed: none.\n":
         yield "HANDLES is not the line 'Handles allowed: none.'"
@@ -116,7 +126,8 @@ def roots():
 
 
 def main():
-    faults = [fault for check in (double_names, long_lines, unnamed_definitions, edits, roots) for fault in check()]
+    checks = (double_names, long_lines, unnamed_definitions, edits, edits_page, roots)
+    faults = [fault for check in checks for fault in check()]
     for fault in faults:
         print(fault)
     return 1 if faults else 0
