@@ -1,15 +1,16 @@
 PREFIX = /usr/local
 FROM = utf-8
 TO = utf-8
+SECONDS = 60
 
-.PHONY: build test lint doc usage edits example status run refused hostile characters verdicts install
+.PHONY: build test lint doc usage edits example status run fuzz refused hostile characters verdicts install
 
 # Proves the program and all that it stands on, and builds it: crates/recode_cli/out/recode_cli.
 build:
 	@cd crates/recode_cli && rt run -- --version > /dev/null
 
-# The merge gate: `rt ci`, behind what it does not look at; and then, as `make refused` and `make hostile` have it, the
-# programs that it has built. One line at the end counts all.
+# The merge gate: `rt ci`, behind what it does not look at; and then the programs that it has built, as the other targets
+# have them, and what is stored (`tools/gate.py`). One line at the end counts all.
 test: lint
 	@python3 tools/gate.py
 
@@ -24,9 +25,11 @@ lint:
 generate:
 	@python3 tools/generate_encodings.py
 
-# The reference pages of the libraries, docs/reference, from the doc comments and contracts in their sources.
+# The reference pages of the libraries, docs/reference, from the doc comments and contracts in their sources; and the
+# page of the edits.
 doc:
 	@python3 tools/reference.py
+	@python3 tools/edits_table.py
 
 # The tables of README.md and of the man page, from the text of the help.
 usage:
@@ -48,6 +51,14 @@ status:
 run:
 	@cd crates/recode_cli && rt run -- --from $(FROM) --to $(TO) --indexes $(CURDIR)/indexes
 
+# Random inputs, for so many seconds, converted by the program and by the libraries, against `tools/plain_recode.py`, a
+# plain program: a difference is printed with its seed. The gate does this with seeds of its own. (The two programs of cases
+# are proved and built here; run in this place, they find no cases, and end with an error.)
+fuzz: build
+	@cd crates/encoding_cases && rt run > /dev/null 2>&1; test -x out/encoding_cases
+	@cd crates/recode_cases && rt run > /dev/null 2>&1; test -x out/recode_cases
+	@python3 tools/fuzz.py seconds $(SECONDS)
+
 # The program, and calls of the libraries, with each request for memory refused in turn, and then with all refused:
 # `recode` must end with status 3 and say so; a call must return that fault, leave tables as they were, and succeed when
 # made again.
@@ -55,27 +66,28 @@ refused: build
 	@cd crates/encoding_refusals && rt run > /dev/null
 	@python3 tools/refused_memory.py
 
-# The program with index texts that no one publishes, and on streams that are closed, full, slow, abandoned or 4 GiB long:
-# status, output and log as README.md says. The gate does this but for the 4 GiB.
+# The program by a table of command lines, with index texts that no one publishes, and on streams that are closed, full,
+# slow, abandoned or 4 GiB long: status, output and log as README.md says. The gate does this but for the 4 GiB.
 hostile: build
+	@python3 tools/command_lines.py
 	@python3 tools/hostile_indexes.py
 	@python3 tools/hostile_streams.py
 
-# Every character in every encoding, written and read again, against `tools/encodings.py`, a plain program over the
+# Every character in every encoding, written and read again, against `tools/characters.py`, a plain program over the
 # same index texts: the gate runs a sample. This needs Python and bash, and takes minutes.
 characters: SHELL = bash
 characters:
 	@cd indexes && rt run encoding_index_files > /dev/null
-	@cd indexes && diff <(python3 $(CURDIR)/tools/encodings.py . all) \
+	@cd indexes && diff <(python3 $(CURDIR)/tools/characters.py . all) \
 		<($(CURDIR)/crates/encoding_index_files/out/encoding_index_files all | sed -n '/ reads: /,$$p')
 
 # Whether each character is kept as a text of its own, in every encoding, as a run tells it, against what
-# `tools/encodings.py` makes of it. This needs Python and bash, and takes minutes.
+# `tools/characters.py` makes of it: the gate does a part. This needs Python and bash, and takes minutes.
 verdicts: SHELL = bash
 verdicts:
 	@cd indexes && rt run recode_verdicts > /dev/null
-	@cd indexes && for name in $$(python3 $(CURDIR)/tools/encodings.py . names); do \
-		diff <(python3 $(CURDIR)/tools/encodings.py . verdicts 1 $$name) \
+	@cd indexes && for name in $$(python3 $(CURDIR)/tools/characters.py . names); do \
+		diff <(python3 $(CURDIR)/tools/characters.py . verdicts 1 $$name) \
 			<($(CURDIR)/crates/recode_verdicts/out/recode_verdicts 1 $$name) || exit 1; \
 	done
 

@@ -3,9 +3,10 @@
 
     python3 tools/gate.py
 
-The programs run with memory refused (`refused_memory.py`), with hostile index texts (`hostile_indexes.py`) and on
-hostile streams (`hostile_streams.py`), each of which counts as one more in the last line. The status is 0 where nothing
-failed.
+The programs run by a table of command lines (`command_lines.py`), on random inputs (`fuzz.py`), with memory refused
+(`refused_memory.py`), with hostile index texts (`hostile_indexes.py`) and on hostile streams (`hostile_streams.py`). What
+is stored is compared with what plain programs say (`stored.py`). Each of these steps counts as one more in the last line.
+The status is 0 where nothing failed.
 """
 
 import os
@@ -13,13 +14,23 @@ import re
 import subprocess
 import sys
 
+sys.dont_write_bytecode = True
+
+import command_lines
+import fuzz
 import hostile_indexes
 import hostile_streams
 import refused_memory
+import stored
 
 TOP = os.path.abspath(os.path.join(os.path.dirname(os.path.abspath(__file__)), ".."))
 
 STEPS = [
+    ("command lines", command_lines.faults),
+    ("random inputs", fuzz.faults),
+    ("stored output of encoding_index_files", stored.index_file_faults),
+    ("stored streams of recode_sample", stored.sample_faults),
+    ("verdicts of single characters", stored.verdict_faults),
     ("refused memory", refused_memory.faults),
     ("hostile index texts", hostile_indexes.faults),
     ("hostile streams", hostile_streams.faults),

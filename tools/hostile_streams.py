@@ -14,7 +14,6 @@ import select
 import signal
 import subprocess
 import sys
-import tempfile
 import time
 
 TOP = os.path.abspath(os.path.join(os.path.dirname(os.path.abspath(__file__)), ".."))
@@ -22,9 +21,7 @@ PROGRAM = os.path.join(TOP, "crates/recode_cli/out/recode_cli")
 INDEXES = os.path.join(TOP, "indexes")
 
 UTF_8 = ["--from", "utf-8", "--to", "utf-8"]
-TO_WESTERN = ["--from", "utf-8", "--to", "windows-1252", "--indexes", INDEXES]
 FROM_JAPANESE = ["--from", "shift_jis", "--to", "utf-8", "--indexes", INDEXES]
-TO_JAPANESE = ["--from", "utf-8", "--to", "shift_jis", "--indexes", INDEXES]
 
 READ_FAULT = b"recode: read fault\n"
 WRITE_FAULT = b"recode: write fault\n"
@@ -42,10 +39,10 @@ def check(name, got, want):
         wrong.append(f"{name}: got {got!r}, want {want!r}")
 
 
-def shell(script, words, given=b"", folder=None):
+def shell(script, words, given=b""):
     """Status, output and standard error of a shell's command, in which "$@" is the program with its words."""
     command = ["bash", "-c", script, "bash", PROGRAM, *words]
-    ran = subprocess.run(command, input=given, capture_output=True, cwd=folder, timeout=PATIENCE, check=False)
+    ran = subprocess.run(command, input=given, capture_output=True, timeout=PATIENCE, check=False)
     return ran.returncode, ran.stdout, ran.stderr
 
 
@@ -53,49 +50,6 @@ def start(words, **streams):
     """The program, with pipes for the streams that are not named."""
     pipes = {"stdin": subprocess.PIPE, "stdout": subprocess.PIPE, "stderr": subprocess.PIPE}
     return subprocess.Popen([PROGRAM, *words], bufsize=0, **(pipes | streams))
-
-
-def statuses():
-    """The five statuses, each with its output, and its log or message."""
-    check("0: nothing is lost", shell('"$@"', FROM_JAPANESE, b"A\x83\x6eB"), (0, "AハB".encode(), b""))
-    lines = (1, b"A" + "ハ".encode() + MALFORMED + b"B", b"bad 3 1\n")
-    check("1: a malformed byte is logged", shell('"$@"', FROM_JAPANESE, b"A\x83\x6e\xffB"), lines)
-    lost = (1, b"caf\xe9 &#26085;", b"lost 5 26085\n")
-    check("1: a character without bytes is logged", shell('"$@"', TO_WESTERN, "café 日".encode()), lost)
-    check("1: a fold has no line", shell('"$@"', TO_JAPANESE, "¥".encode()), (1, b"\\", b""))
-    check("1: lines in the order of the text", shell('"$@"', TO_WESTERN, b"\xc3\x28\xe6\x97\xa5\xff"),
-          (1, b"&#65533;(&#26085;&#65533;", b"bad 0 1\nlost 0 65533\nlost 2 26085\nbad 5 1\nlost 3 65533\n"))
-    status, out, error = shell('"$@"', ["--from", "utf-8"])
-    check("2: an option is missing", (status, out, error.startswith(b"error:")), (2, b"", True))
-    unknown = (2, b"", b"recode: unknown label nope\n")
-    check("2: an unknown label", shell('"$@"', ["--from", "nope", "--to", "utf-8"]), unknown)
-    word = (2, b"", b"recode: a word is not UTF-8\n")
-    check("2: a word is not UTF-8", shell('"$@" --from $\'\\xff\'', []), word)
-    check("4: the input is longer than the limit", shell('"$@"', UTF_8 + ["--limit", "2"], b"abc"),
-          (4, b"", b"recode: input too long\n"))
-    for words in ["--help", "--version", "--list"]:
-        status, out, error = shell('"$@"', [words])
-        check(f"0: {words}", (status, out != b"", error), (0, True, b""))
-
-
-def index_files():
-    """Index files that are missing, are a folder, or are faulty."""
-    words = ["--from", "shift_jis", "--to", "utf-8", "--indexes", "."]
-    missing = (3, b"", b"recode: index-jis0208.txt: missing\n")
-    with tempfile.TemporaryDirectory() as folder:
-        path = os.path.join(folder, "index-jis0208.txt")
-        check("3: an index file is missing", shell('"$@"', words, b"A", folder), missing)
-        os.mkdir(path)
-        check("3: an index file is a folder", shell('"$@"', words, b"A", folder), missing)
-        os.rmdir(path)
-        os.symlink("/dev/zero", path)
-        check("3: an index file has no end", shell('"$@"', words, b"A", folder), missing)
-        os.remove(path)
-        for text, fault in [(b"0\t0x80\n", b"line 1: Row"), (b"8836\t0x4E00\n", b"table: Reserved")]:
-            with open(path, "wb") as file:
-                file.write(text)
-            told = (3, b"", b"recode: index-jis0208.txt: " + fault + b"\n")
-            check(f"3: an index file is faulty, {fault.decode()}", shell('"$@"', words, b"A", folder), told)
 
 
 def broken_streams():
@@ -206,8 +160,6 @@ def faults(is_whole=False):
     """What was wrong, with a line for each case."""
     if not os.path.isfile(PROGRAM):
         return ["%s was not built" % os.path.relpath(PROGRAM, TOP)]
-    statuses()
-    index_files()
     broken_streams()
     gone_consumers()
     slow_reader(1 if is_whole else 0)

@@ -7,6 +7,7 @@
 - Lines of `src/` over 100 columns: no more than `tools/long_lines` says, and that number is today's, so it only falls.
 - `docs/DEFINITIONS.md` names each file of definitions, and no other, and says of each what it says of itself.
 - Each edit of `must-fail/` and `edits/` names a file, and each text that it replaces stands in it once.
+- `docs/reference/edits.md` is what `tools/edits_table.py` writes.
 - Each root file begins its code with the tactic that proofs are found by, and no handle is allowed.
 - Each public item of a library has a doc comment, and `docs/reference` is what `make doc` writes (`tools/reference.py`).
 - Each source file but a crate's root begins with a line that says what it is for (`//!`).
@@ -20,6 +21,9 @@ import re
 import subprocess
 import sys
 
+sys.dont_write_bytecode = True
+
+import edits_table
 import reference
 import usage
 
@@ -125,6 +129,11 @@ def edits():
             yield from edit_faults(path)
 
 
+def edits_page():
+    if not os.path.isfile(edits_table.PAGE) or read(edits_table.PAGE) != edits_table.page():
+        yield "docs/reference/edits.md is out of date: python3 tools/edits_table.py"
+
+
 def roots():
     if read(os.path.join(TOP, "HANDLES")) != "Handles allowed: none.\n":
         yield "HANDLES is not the line 'Handles allowed: none.'"
@@ -162,6 +171,7 @@ CHECKS = (
     unnamed_definitions,
     stale_definitions,
     edits,
+    edits_page,
     roots,
     first_lines,
     manual,

@@ -253,6 +253,7 @@ def pages():
             lines += list(entry(item, crate))
         yield crate + ".md", re.sub(r"\n{3,}", "\n\n", "\n".join(lines)).rstrip("\n") + "\n"
         index.append("- [`%s`](%s.md): %s" % (crate, crate, " ".join(page).split(". ")[0].rstrip(".") + "."))
+    index.append("- [Wrong bodies](edits.md): the edits that the prover refuses, by function.")
     yield "README.md", "\n".join(index) + "\n"
 
 
@@ -296,7 +297,8 @@ def faults():
         path = os.path.join(PAGES, name)
         if not os.path.isfile(path) or read(path) != text:
             yield "docs/reference/%s is not of these sources: make doc" % name
-    for name in sorted(set(os.listdir(PAGES)) - set(written)):
+    # The page of edits is that of `edits_table.py`.
+    for name in sorted(set(os.listdir(PAGES)) - set(written) - {"edits.md"}):
         yield "docs/reference/%s is no page of a library" % name
 
 

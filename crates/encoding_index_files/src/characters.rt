@@ -54,16 +54,7 @@ impl Told {
     }
 }
 
-// Whether the encoder searches lists of thousands of entries.
-fn is_slow(encoding: Encoding) -> bool {
-    match encoding {
-        Encoding::Big5 | Encoding::EucKr | Encoding::ShiftJis | Encoding::EucJp => true,
-        Encoding::Gb18030 | Encoding::Gbk | Encoding::Iso2022Jp => true,
-        _ => false,
-    }
-}
-
-// Which characters the slow encoders write. The others write every one.
+// Which characters are written.
 #[derive(Clone, Copy, PartialEq, Eq)]
 pub(crate) enum Extent {
     // All of the basic plane, and every 64th of the others: no index has one of these but that of Big5, which
@@ -73,7 +64,7 @@ pub(crate) enum Extent {
     All,
 }
 
-// Whether a slow encoder writes a character of a sample.
+// Whether a character of a sample is written in this encoding.
 fn is_sample(encoding: Encoding, number: u32) -> bool {
     let is_whole = match number / 0x10000 {
         0 => true,
@@ -81,11 +72,6 @@ fn is_sample(encoding: Encoding, number: u32) -> bool {
         _ => false,
     };
     is_whole || number % 64 == 0
-}
-
-// Whether a character is written in this encoding.
-fn is_written(extent: Extent, encoding: Encoding, number: u32) -> bool {
-    extent == Extent::All || !is_slow(encoding) || is_sample(encoding, number)
 }
 
 // Prints how many characters an encoding has no bytes for, how many it writes as others, and the digests of
@@ -106,7 +92,7 @@ pub(crate) fn print_characters(
     };
     let mut encoder = encoding.new_encoder(tables);
     for number in 0..0x110000 {
-        if is_written(extent, encoding, number)
+        if (extent == Extent::All || is_sample(encoding, number))
             && let Some(c) = char::from_u32(number)
         {
             told.character(tables, encoding.output_encoding(), &mut encoder, c);

@@ -6,10 +6,10 @@
 //! and RFC 2319 (KOI8), the code pages of the vendors, JIS X 0208 and 0212, KS X 1001, GB 18030 and the
 //! notes of the Encoding Standard, never from the files. Its lines on sequences are those of
 //! `tools/sequences.py`, a program that reads the same files by itself, and those on the forty encodings by name
-//! are those of `tools/encodings.py`.
+//! are those of `tools/characters.py`.
 //!
-//! The encoders that search lists of thousands of entries write a sample of the characters above the basic
-//! plane. With the word `all` they write every character (`make characters`).
+//! Of the characters above the basic plane a sample is written. With the word `all` every character is
+//! (`make characters`).
 #![tactic(auto)]
 
 ghost use Rattle.std.specs.Prelude.{◌≡◌, true};

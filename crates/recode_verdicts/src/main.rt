@@ -1,5 +1,5 @@
 //! Converts every character to an encoding, each as a text of its own, and prints what is told of
-//! them: `make verdicts` compares that with `tools/encodings.py`, a plain program over the same
+//! them: `make verdicts` compares that with `tools/characters.py`, a plain program over the same
 //! index texts.
 //!
 //! It is run in the folder of the index files, with a number and labels of encodings. Of the planes

@@ -1,0 +1,87 @@
+#!/usr/bin/env python3
+"""Writes docs/reference/edits.md: which wrong bodies stand beside which function; `make lint` compares it.
+
+    python3 tools/edits_table.py
+
+An edit's file is named after the function whose body it changes: `function`, or `Type-function` for a method. Of the
+functions that no edit changes it lists those that promise something: public ones, and methods of public traits, with a
+clause and a body that is not empty (a law has none).
+"""
+
+import collections
+import os
+import re
+import sys
+
+TOP = os.path.abspath(os.path.join(os.path.dirname(os.path.abspath(__file__)), ".."))
+CRATES = os.path.join(TOP, "crates")
+PAGE = os.path.join(TOP, "docs", "reference", "edits.md")
+
+HEAD = """# Wrong bodies
+
+Which edits change the body of which function, and which public functions no edit changes: their helpers may have edits, or there is hardly another body that the types allow. The prover refuses each edit: those in **bold** in each run of the gate (`must-fail/`), the others at `make edits` (`edits/`). Made by `tools/edits_table.py`.
+"""
+
+BLOCK = re.compile(r"^(pub )?(impl|trait)\b(?:<[^{]*?>)? (?:(?:\w+(?:<[^{]*>)?) for )?(\w+)", re.MULTILINE)
+FUNCTION = re.compile(r"^( *)(pub )?fn (\w+)")
+
+
+def read(path):
+    with open(path, encoding="utf-8") as file:
+        return file.read()
+
+
+def promising(text):
+    """The public functions of a file that have a clause and a body, each as edits name it."""
+    owner, is_public_trait, found, lines = None, False, None, text.split("\n")
+    for place, line in enumerate(lines):
+        block = BLOCK.match(line)
+        if block:
+            owner, is_public_trait = block[3], block[2] == "trait" and block[1] is not None
+            is_of_trait = block[2] == "impl" and " for " in line
+            owner = None if is_of_trait else owner
+        if line == "}":
+            owner, is_public_trait = None, False
+        function = FUNCTION.match(line)
+        if function:
+            is_method = function[1] != ""
+            is_promise = function[2] or (is_method and is_public_trait)
+            name = f"{owner}-{function[3]}" if is_method else function[3]
+            found = (name, function[1]) if is_promise and (owner or not is_method) else None
+            has_clause = False
+        has_clause = found and (has_clause or line.lstrip().startswith("ensures "))
+        if found and line == found[1] + "{" and has_clause and lines[place + 1] != found[1] + "}":
+            yield found[0]
+            found = None
+
+
+def edits_of(crate):
+    """The faults of the edits of each function, those that the gate tries marked."""
+    edits = collections.defaultdict(list)
+    for folder, mark in (("must-fail", "**"), ("edits", "")):
+        path = os.path.join(CRATES, crate, folder)
+        for name in sorted(os.listdir(path)) if os.path.isdir(path) else []:
+            function, fault, _ = name.split(".")
+            edits[function].append(mark + fault + mark)
+    return edits
+
+
+def page():
+    parts = [HEAD]
+    for crate in sorted(os.listdir(CRATES)):
+        edits = edits_of(crate)
+        if not edits:
+            continue
+        source = os.path.join(CRATES, crate, "src")
+        public = sorted({name for file in os.listdir(source) for name in promising(read(os.path.join(source, file)))})
+        rows = ["| `%s` | %s |" % (name, ", ".join(faults)) for name, faults in sorted(edits.items())]
+        none = ", ".join("`%s`" % name for name in public if name not in edits) or "none"
+        parts.append("\n".join([f"## `{crate}`\n", "| Function | Edits |", "|---|---|", *rows, f"\nWithout one: {none}."]))
+    return "\n".join(part + "\n" for part in parts)
+
+
+if __name__ == "__main__":
+    os.makedirs(os.path.dirname(PAGE), exist_ok=True)
+    with open(PAGE, "w", encoding="utf-8") as file:
+        file.write(page())
+    sys.exit(0)
