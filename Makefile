@@ -73,11 +73,16 @@ hostile: build
 	@python3 tools/hostile_indexes.py
 	@python3 tools/hostile_streams.py
 
+# Proves and builds a program that reads the index texts. `rt run` runs it in its crate's folder, which has none, so the
+# status counts where it was not run at all.
+built = cd crates/$(1) && mkdir -p out && { rt run > /dev/null 2> out/built.txt || \
+	grep -q '^rt: running' out/built.txt || { cat out/built.txt; false; }; }
+
 # Every character in every encoding, written and read again, against `tools/characters.py`, a plain program over the
 # same index texts: the gate runs a sample. This needs Python and bash, and takes minutes.
 characters: SHELL = bash
 characters:
-	@cd indexes && rt run encoding_index_files > /dev/null
+	@$(call built,encoding_index_files)
 	@cd indexes && diff <(python3 $(CURDIR)/tools/characters.py . all) \
 		<($(CURDIR)/crates/encoding_index_files/out/encoding_index_files all | sed -n '/ reads: /,$$p')
 
@@ -85,7 +90,7 @@ characters:
 # `tools/characters.py` makes of it: the gate does a part. This needs Python and bash, and takes minutes.
 verdicts: SHELL = bash
 verdicts:
-	@cd indexes && rt run recode_verdicts > /dev/null
+	@$(call built,recode_verdicts)
 	@cd indexes && for name in $$(python3 $(CURDIR)/tools/characters.py . names); do \
 		diff <(python3 $(CURDIR)/tools/characters.py . verdicts 1 $$name) \
 			<($(CURDIR)/crates/recode_verdicts/out/recode_verdicts 1 $$name) || exit 1; \
