@@ -14,7 +14,6 @@ use Rattle.encoding_mem.specs.declared.form.EscapeState.{EscapeState}
 use Rattle.encoding_mem.specs.declared.form.EscapeState.TheVariants.{Ascii}
 use Rattle.std.specs.Char.{encode_utf8, len_utf8}
 use Rattle.std.proofs.lemmas.Str.{drop_past_char, length-encode, IsCharBoundary-from_rest}
-
 use native.Mathlib.Nat.{mul-add, mul_comm}
 use Rattle.encoding_mem.specs.DecodedLength.{cost_in}
 use Rattle.encoding_mem.specs.EncodedLength.{IsBoundFor, bound_for, encoded_length_utf8}

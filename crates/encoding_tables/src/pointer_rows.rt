@@ -111,10 +111,7 @@ fn are_numbered(rows: &[(u32, u32)]) -> bool
 }
 
 // The rows, where all their numbers are below 2^16.
-fn small_rows(
-    alloc: Global,
-    rows: &[(u32, u32)],
-) -> Result<Option<Vec<(u16, u16)>>, AllocError>
+fn small_rows(alloc: Global, rows: &[(u32, u32)]) -> Result<Option<Vec<(u16, u16)>>, AllocError>
     ensures { IfOk result (λ small. IfSome small (λ same. same.items ≡ rows.now)) }
 {
     let mut small = Vec::with_capacity(alloc, rows.len())?;

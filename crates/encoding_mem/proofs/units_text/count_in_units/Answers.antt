@@ -13,8 +13,7 @@ characters-preserved c =
     let here = take_rest units read in
     let behind = take_rest units (read + c.in-Some.size) in
     let sum = counted units _ _ read _ c.in-Some.size c.first_unit_from-run.result here behind first.value run.within run.below in
-    let some = some_units c.in-Some.field-0-0 in
-    (
+    let some = some_units c.in-Some.field-0-0 in (
       omega (arith, i.0, first.within, run.within, ap length here, ap length behind, length-drop read units, length-drop (read + c.in-Some.size) units),
       omega (arith, i.1, first.size, some),
       omega (arith, i.2, sum),
