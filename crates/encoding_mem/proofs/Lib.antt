@@ -13,6 +13,5 @@ pub mod BidiLemmas
 pub mod BidiBytesLemmas
 pub mod LongestPrefixLemmas
 pub mod UnitPrefixLemmas
-pub mod UnitWritingLemmas
 pub mod ReplacementLemmas
 pub mod ConversionLemmas

@@ -1,55 +1,10 @@
 // Conversions from UTF-16 to UTF-8. A surrogate in no pair gives U+FFFD.
 
-ghost use Rattle.std.specs.Prelude.{◌≡◌, ℕ, ◌*◌, ◌<◌, ◌≤◌, List, [], ◌∷◌, ◌++◌, length, take, drop};
-ghost use Rattle.std.specs.Prelude.{MatchOption, IfSome};
-ghost use Rattle.std.specs.Char.{len_utf8};
-ghost use Rattle.std.specs.Char.Utf16.{utf16_lossy_chars};
-ghost use Rattle.std.specs.Str.{IsAscii, encode_utf8_all};
+ghost use Rattle.std.specs.Prelude.{◌≡◌, ℕ, ◌*◌, ◌≤◌, length, take, drop};
 ghost use Rattle.encoding_mem.specs.Conversions.{IsLongest, IsUnitBoundary, units_in_utf8};
-ghost use Rattle.encoding_mem.specs.Writing.{Adds};
 
-use crate::sink::Sink;
-use crate::source::{Source, Utf16Source};
-use crate::utf8_sink::Utf8Sink;
-
-// The first character of units, and how many units it has. Here and below a source or a sink lives
-// for one step, so that the loop's offsets stay in registers.
-#[inline(always)]
-fn first_char(units: &[u16]) -> Option<(char, usize)>
-    ensures value { MatchOption result (utf16_lossy_chars units.now ≡ [])
-        (λ p. utf16_lossy_chars units.now ≡ p.0 ∷ utf16_lossy_chars (drop p.1 units.now)) }
-    ensures within { IfSome result (λ p. p.1 ≤ length units.now) }
-    ensures some { IfSome result (λ p. 0 < p.1) }
-{
-    Utf16Source::new(units).peek()
-}
-
-// Copies the run of ASCII at the start of units, as much of it as fits, and returns its length.
-#[inline(always)]
-fn copy_run(units: &[u16], dst: &mut [u8]) -> usize
-    ensures within { result ≤ length units.now }
-    ensures fits { result ≤ length dst.new }
-    ensures behind { drop result dst.new ≡ drop result dst.old }
-    ensures ascii { IsAscii (take result dst.new) }
-    ensures text { utf16_lossy_chars units.now
-        ≡ take result dst.new ++ utf16_lossy_chars (drop result units.now) }
-    ensures some { (c : ℕ) (rest : List ℕ) → utf16_lossy_chars units.now ≡ c ∷ rest → c < 0x80
-        → 0 < length dst.old → 0 < result }
-{
-    let mut source = Utf16Source::new(units);
-    source.copy_ascii(dst)
-}
-
-// Puts a character at the start, and returns its length.
-#[inline(always)]
-fn put_char(c: char, dst: &mut [u8]) -> usize
-    requires { len_utf8 c ≤ length dst.old }
-    ensures { Adds dst.old 0 (encode_utf8_all (c ∷ [])) dst.new result }
-{
-    let mut sink = Utf8Sink::new(dst);
-    sink.put(c);
-    sink.written()
-}
+use crate::raw_encoder::RawEncoder;
+use crate::utf8_encoder::Utf8Encoder;
 
 /// Converts the longest prefix of whole characters that fits, and returns the units read and the
 /// bytes written.
@@ -60,20 +15,8 @@ pub fn convert_utf16_to_utf8_partial(src: &[u16], dst: &mut [u8]) -> (usize, usi
     ensures text { take result.1 dst.new ≡ units_in_utf8 (take result.0 src.now) }
     ensures behind { drop result.1 dst.new ≡ drop result.1 dst.old }
 {
-    let mut read = 0;
-    let mut written = 0;
-    'characters: while let Some((c, units)) = first_char(&src[read..]) {
-        if u32::from(c) < 0x80 && written < dst.len() {
-            let run = copy_run(&src[read..], &mut dst[written..]);
-            read += run;
-            written += run;
-        } else if dst.len() - written < c.len_utf8() {
-            return (read, written);
-        } else {
-            written += put_char(c, &mut dst[written..]);
-            read += units;
-        }
-    }
+    let mut encoder = Utf8Encoder::new();
+    let (_, read, written) = encoder.encode_from_utf16_raw(src, dst, true);
     (read, written)
 }
 

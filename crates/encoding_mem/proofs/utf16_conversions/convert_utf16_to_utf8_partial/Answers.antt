@@ -1,68 +1,19 @@
-use Rattle.std.proofs.Common.{◌∙◌, ◌∷◌, [], ◌-◌, length, take, drop, sym, ap, arith, encode_utf8_all}
-use Rattle.std.specs.Char.Utf16.{utf16_lossy_chars}
-use Rattle.std.proofs.lemmas.List.{take_rest}
-use Rattle.std.proofs.lemmas.Str.{encodes-IsAscii}
-use Rattle.encoding_mem.proofs.LongestPrefixLemmas.{adds_prefix, adds_behind}
-use Rattle.encoding_mem.proofs.UnitPrefixLemmas.{written_text}
-use Rattle.encoding_mem.proofs.UnitWritingLemmas.{none_written, past_part, rest_length, more_written, reads_to_end, reads_to_char, is_longest}
+use Rattle.std.proofs.Common.{ℕ, length, take, subst}
+use Rattle.std.proofs.lemmas.List.{length-take-le}
+use Rattle.encoding_mem.specs.Conversions.{IsLongest, IsUnitBoundary, units_in_utf8}
+use Rattle.encoding_mem.specs.laws.Encoding.{utf8_calls_are_longest}
+use Rattle.encoding_mem.proofs.UnitPrefixLemmas.{written_text, written_longest}
 use Rattle.encoding_mem.proofs.utf16_conversions.convert_utf16_to_utf8_partial.Goals as goal
-
-pub characters-init : goal.characters-init
-characters-init c = none_written c.args.src.now c.args.dst.now
-
-pub characters-preserved-then-written-dst : goal.characters-preserved-then-written-dst
-characters-preserved-then-written-dst c =
-    let i = c.characters.invariant in
-    let us = c.args.src.now in
-    let e = c.copy_run-run.ensures in
-    let n = c.copy_run-run.result in
-    let ys = c.copy_run-run.new.dst in
-    more_written us c.args.dst.now c.characters.read c.characters.dst c.characters.written ys (take n ys) n n i
-    (omega (arith, e.within, rest_length us c.characters.read, i.within)) c.copy_run-run.auto.dst e.fits (past_part us (take n ys) c.characters.read n e.text)
-    (sym (encodes-IsAscii (take n ys) e.ascii)) e.behind
-
-pub characters-preserved : goal.characters-preserved
-characters-preserved c =
-    let i = c.characters.invariant in
-    let us = c.args.src.now in
-    let e = c.in-Some.ensures in
-    let n = c.in-Some.units in
-    let char = c.in-Some.c in
-    let p = c.put_char-written.ensures in
-    let k = c.put_char-written.result in
-    let ys = c.put_char-written.new.dst in
-    more_written us c.args.dst.now c.characters.read c.characters.dst c.characters.written ys (char ∷ []) n k i
-    (omega (arith, e.within, rest_length us c.characters.read, i.within)) c.put_char-written.auto.dst (omega (arith, p.within, c.put_char-written.auto.dst)) (past_part us (char ∷ []) c.characters.read n e.value)
-    (adds_prefix _ _ ys k p) (adds_behind _ _ ys k p)
-
-pub returns-then-dst-written-clause-longest : goal.returns-then-dst-written-clause-longest
-returns-then-dst-written-clause-longest c =
-    let i = c.characters.invariant in
-    let us = c.args.src.now in
-    let at = ap utf16_lossy_chars (sym (take_rest us c.characters.read)) ∙ c.in-Some.ensures.value in
-    is_longest us c.args.dst.now c.characters.read c.characters.dst c.characters.written i
-    (reads_to_char us c.args.dst.now c.characters.read c.characters.dst c.characters.written c.in-Some.c _ i at (omega (arith, c.if-dst-written.true, c.len_utf8.ensures.value)))
-
-pub returns-then-dst-written-clause-text : goal.returns-then-dst-written-clause-text
-returns-then-dst-written-clause-text c =
-    let i = c.characters.invariant in
-    let us = c.args.src.now in
-    let at = ap utf16_lossy_chars (sym (take_rest us c.characters.read)) ∙ c.in-Some.ensures.value in
-    written_text us _ c.characters.read (length c.characters.dst - c.characters.written)
-    (reads_to_char us c.args.dst.now c.characters.read c.characters.dst c.characters.written c.in-Some.c _ i at (omega (arith, c.if-dst-written.true, c.len_utf8.ensures.value)))
 
 pub returns-clause-longest : goal.returns-clause-longest
 returns-clause-longest c =
-    let i = c.characters.invariant in
+    let f = c.encode_from_utf16_raw-read in
+    let e = f.ensures in
     let us = c.args.src.now in
-    let none = ap utf16_lossy_chars (sym (take_rest us c.characters.read)) ∙ c.in_default.ensures.value in
-    is_longest us c.args.dst.now c.characters.read c.characters.dst c.characters.written i
-    (reads_to_end us c.args.dst.now c.characters.read c.characters.dst c.characters.written i none)
+    subst (λ (room : ℕ). IsLongest (IsUnitBoundary us) (λ i. length (units_in_utf8 (take i us))) (length us) room f.result.1) f.auto.dst
+    (written_longest us (take f.result.2 f.new.dst) f.result.1 (length f.new.dst) f.result.2 e.read (utf8_calls_are_longest _ _ _ _ _ _ _ _ e.law e.tight) (length-take-le f.result.2 f.new.dst e.room) e.room)
 
 pub returns-clause-text : goal.returns-clause-text
 returns-clause-text c =
-    let i = c.characters.invariant in
-    let us = c.args.src.now in
-    let none = ap utf16_lossy_chars (sym (take_rest us c.characters.read)) ∙ c.in_default.ensures.value in
-    written_text us _ c.characters.read (length c.characters.dst - c.characters.written)
-    (reads_to_end us c.args.dst.now c.characters.read c.characters.dst c.characters.written i none)
+    let e = c.encode_from_utf16_raw-read.ensures in
+    written_text _ _ _ _ (utf8_calls_are_longest _ _ _ _ _ _ _ _ e.law e.tight)
