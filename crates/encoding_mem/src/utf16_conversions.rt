@@ -52,7 +52,9 @@ pub fn convert_utf16_to_utf8_partial(src: &[u16], dst: &mut [u8]) -> (usize, usi
     let mut read = 0;
     let mut written = 0;
     'characters: while let Some((c, units)) = first_of_units(&src[read..]) {
-        if u32::from(c) < 0x80 && written < dst.len() {
+        // A run of one is cheaper as a character.
+        let is_second_ascii = matches!(&src[read..], [_, second, ..] if *second < 0x80);
+        if u32::from(c) < 0x80 && is_second_ascii && written < dst.len() {
             let run = copy_run(&src[read..], &mut dst[written..]);
             read += run;
             written += run;
