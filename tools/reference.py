@@ -27,7 +27,7 @@ EXAMPLES = "library_examples"
 # Lists of names, of encodings and of their indexes: each name says what it is, and the list has the doc comment.
 NAME_LISTS = {"Encoding", "IndexKind", "encoding_labels::places"}
 
-START = re.compile(r"(?:pub )?(?:unsafe )?(?:const fn|fn|struct|enum|trait|const|type) (\w+)")
+START = re.compile(r"pub (?:const (?=fn))?(fn|struct|enum|trait|const|type) (\w+)")
 HEADINGS = [
     ("trait", "Traits"), ("enum", "Types"), ("struct", "Types"), ("type", "Types"), ("fn", "Functions"),
     ("const", "Constants"),
@@ -129,7 +129,7 @@ def items(path):
     while index < len(lines):
         line = lines[index]
         implementation = re.match(r"impl\b(?:<[^{]*?>)? ?(?:(.+?) for )?([\w:]+)(.*)\{$", line)
-        start = re.match("pub " + START.pattern[9:], line)
+        start = START.match(line)
         if implementation:
             body, behind = block(lines, index + 1)
             trait = (implementation[1] or "").replace("fmt::", "")
@@ -138,12 +138,12 @@ def items(path):
             implementations.append((implementation[2], target, re.sub("<'.*?>", "", trait), members))
             index = behind
         elif start:
-            kind = re.search(r"\b(fn|struct|enum|trait|const|type)\b", line)[1]
+            kind, name = start.groups()
             code, behind = head(lines, index)
-            item = Item(kind, start[1], comment(lines, index), code, "%s:%d" % (place, index + 1))
+            item = Item(kind, name, comment(lines, index), code, "%s:%d" % (place, index + 1))
             derive = [text for text in lines[max(0, index - 3) : index] if text.startswith("#[derive(")]
             item.implements = re.findall(r"\w+", derive[-1][9:]) if derive else []
-            found[start[1]] = item
+            found[name] = item
             if kind in ("struct", "enum", "trait") and line.endswith("{"):
                 body, behind = block(lines, index + 1)
                 item.members = list(parts(body, place, True) if kind == "trait" else fields(body, place, kind == "enum"))
@@ -163,12 +163,12 @@ def uses(text):
 def library(crate):
     """A library's page comment, its items by path, and its re-exports from other crates."""
     folder = os.path.join(TOP, "crates", crate, "src")
-    names = sorted(name[:-3] for name in os.listdir(folder) if name != "lib.rt")
+    names = sorted(name[:-3] for name in os.listdir(folder))
     texts = {name: read(os.path.join(folder, name + ".rt")) for name in names}
     private = {trait for text in texts.values() for trait in re.findall(r"^(?:pub\(crate\) )?trait (\w+)", text, re.M)}
     sources = {name: items(os.path.join(folder, name + ".rt")) for name in names}
-    root = read(os.path.join(folder, "lib.rt"))
-    page, paths, foreign = items(os.path.join(folder, "lib.rt"))[0], {}, []
+    root, page, foreign = texts["lib"], sources["lib"][0], []
+    paths = {("lib", name): name for name in sources["lib"][1]}
     for module in re.findall(r"^pub mod (\w+);", root, re.M):
         reached = [(module, name) for name in sources[module][1]]
         for origin, name in reached + list(uses(texts[module])):

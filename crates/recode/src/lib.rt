@@ -19,11 +19,17 @@
 //!         limit: GREATEST_LIMIT,
 //!         tables: &tables,
 //!     };
+//!     let mut input = [0; 64];
+//!     let mut text = [0; 64];
+//!     let mut output = [0; 64];
+//!     let mut text_again = [0; 64];
+//!     let pivot = Pivot::Utf8(&mut text);
+//!     let check = Pivot::Utf8(&mut text_again);
 //!     let mut buffers = Buffers {
-//!         input: &mut [0; 64],
-//!         pivot: Pivot::Utf8(&mut [0; 64]),
-//!         output: &mut [0; 64],
-//!         check: Pivot::Utf8(&mut [0; 64]),
+//!         input: &mut input,
+//!         pivot,
+//!         output: &mut output,
+//!         check,
 //!     };
 //!     if !job.is_valid() || !buffers.is_enough() {
 //!         return Ok(false);
