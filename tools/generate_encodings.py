@@ -319,10 +319,10 @@ def tested_imports():
 
 def tested_encodings():
     elements = [
-        '(%s, %s_INIT, "%s", %d)' % (name, name, row["name"], len(row["indexes"]))
+        '(%s, %s_INIT, "%s")' % (name, name, row["name"])
         for name, row in zip(CONSTANTS, ENCODINGS)
     ]
-    return array("ALL", "(Encoding, Encoding, &str, usize)", elements)
+    return array("ALL", "(Encoding, Encoding, &str)", elements)
 
 
 # Other crates

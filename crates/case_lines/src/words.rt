@@ -42,6 +42,32 @@ pub fn add_bytes(word: &str, bytes: &mut Vec<u8>) -> anyhow::Result<()> {
     Ok(())
 }
 
+/// The bytes of a text in which `\t`, `\n`, `\r` and `\xEF` stand for a tab, the ends of lines
+/// and any byte.
+pub fn unescaped(alloc: Global, text: &str) -> anyhow::Result<Vec<u8>> {
+    let mut bytes = Vec::new(alloc);
+    let mut parts = text.split('\\');
+    bytes.extend_from_slice(parts.next().unwrap_or("").as_bytes())?;
+    for part in parts {
+        if let Some(rest) = part.strip_prefix('t') {
+            bytes.push(b'\t')?;
+            bytes.extend_from_slice(rest.as_bytes())?;
+        } else if let Some(rest) = part.strip_prefix('n') {
+            bytes.push(b'\n')?;
+            bytes.extend_from_slice(rest.as_bytes())?;
+        } else if let Some(rest) = part.strip_prefix('r') {
+            bytes.push(b'\r')?;
+            bytes.extend_from_slice(rest.as_bytes())?;
+        } else {
+            let rest = part.strip_prefix('x').context("an escape is not known")?;
+            let (digits, rest) = rest.split_at_checked(2).context("a byte has one digit")?;
+            add_bytes(digits, &mut bytes)?;
+            bytes.extend_from_slice(rest.as_bytes())?;
+        }
+    }
+    Ok(bytes)
+}
+
 /// The numbers of words in hexadecimal digits.
 pub fn numbers(alloc: Global, words: &str) -> anyhow::Result<Vec<u32>> {
     let mut numbers = Vec::new(alloc);

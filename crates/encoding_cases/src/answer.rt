@@ -5,7 +5,10 @@ use encoding_codecs::Iso2022JpDecoder;
 use encoding_codecs::codec_decoder::CodecDecoder;
 use encoding_codecs::lead_byte_rule::{LeadByteDecoderRule, LeadByteRule};
 use encoding_front::VariantDecoder;
-use encoding_mem::{RawDecoder, RawEncoder};
+use encoding_mem::bytewise::DecidedPiece;
+use encoding_mem::{RawDecoder, RawEncoder, Utf8Decoder};
+use encoding_tables::Utf16Decoder;
+use encoding_tables::each_byte_decoder::EachByteDecoder;
 use std::alloc::{AllocError, Global};
 
 // Stands in a room where nothing is written.
@@ -49,6 +52,36 @@ impl<'t> Neutral for Iso2022JpDecoder<'t> {
 
     fn is_at_one(&self) -> bool {
         !self.in_neutral_state() || self.pending_len() == 0
+    }
+}
+
+impl Neutral for Utf8Decoder {
+    fn is_neutral(&self) -> Option<bool> {
+        Some(self.in_neutral_state())
+    }
+
+    fn is_at_one(&self) -> bool {
+        self.in_neutral_state() == (self.pending_len() == 0)
+    }
+}
+
+impl Neutral for Utf16Decoder {
+    fn is_neutral(&self) -> Option<bool> {
+        None
+    }
+
+    fn is_at_one(&self) -> bool {
+        true
+    }
+}
+
+impl<R: DecidedPiece> Neutral for EachByteDecoder<R> {
+    fn is_neutral(&self) -> Option<bool> {
+        None
+    }
+
+    fn is_at_one(&self) -> bool {
+        self.pending_len() == 0
     }
 }
 

@@ -2,7 +2,7 @@
 
 use crate::kinds::{Form, Outcome};
 use anyhow::{Context, bail};
-use case_lines::words::{decimal, numbers, scalar};
+use case_lines::words::{add_bytes, decimal, numbers, scalar};
 use std::alloc::Global;
 
 // What a call is given.
@@ -44,12 +44,35 @@ pub(crate) enum State {
     Lost(bool),
 }
 
+// What a `Decoder` must answer after a call.
+#[derive(Drop)]
+pub(crate) enum Ask {
+    Finished(bool),
+    // Whether the call says that it replaced a malformed sequence.
+    Errors(bool),
+    // The encoding that is found, by its name.
+    Found(String),
+    // The room for so many more bytes: in units, and in bytes without replacement and with it.
+    // One that a case leaves open is none.
+    Rooms(usize, [Option<Option<usize>>; 3]),
+    // How many of these bytes are Latin1.
+    Latin1(Vec<u8>, Option<usize>),
+}
+
+// The room of a call.
+#[derive(Clone, Copy)]
+pub(crate) enum Given {
+    Room(usize),
+    // That which the decoder asks for just before.
+    Asked,
+}
+
 // A call, and what it must tell.
 #[derive(Drop)]
 pub(crate) struct CallLine {
     pub(crate) number: usize,
     pub(crate) form: Form,
-    pub(crate) room: usize,
+    pub(crate) room: Given,
     pub(crate) last: bool,
     // Whether an `Encoder` writes references.
     pub(crate) replaces: bool,
@@ -59,6 +82,7 @@ pub(crate) struct CallLine {
     // The characters that a decoder writes, the bytes that an encoder writes.
     pub(crate) output: Vec<u32>,
     pub(crate) states: Vec<State>,
+    pub(crate) asks: Vec<Ask>,
 }
 
 fn ending_of(words: &str) -> anyhow::Result<Ending> {
@@ -81,6 +105,57 @@ fn ending_of(words: &str) -> anyhow::Result<Ending> {
     }
 }
 
+fn number_or_none(word: &str) -> anyhow::Result<Option<usize>> {
+    if word == "none" {
+        return Ok(None);
+    }
+    Ok(Some(decimal(word)?))
+}
+
+// A room, `none` where it passes a `usize`, or `?`.
+fn room_or_open(word: &str) -> anyhow::Result<Option<Option<usize>>> {
+    if word == "?" {
+        return Ok(None);
+    }
+    Ok(Some(number_or_none(word)?))
+}
+
+// Words as `found UTF-8`, `rooms 1 4 9 ?` and `latin1 6180 1`. None where they are not of a
+// `Decoder`.
+pub(crate) fn ask_of(alloc: Global, words: &str) -> anyhow::Result<Option<Ask>> {
+    match words {
+        "finished" => return Ok(Some(Ask::Finished(true))),
+        "not finished" => return Ok(Some(Ask::Finished(false))),
+        "errors" => return Ok(Some(Ask::Errors(true))),
+        "no errors" => return Ok(Some(Ask::Errors(false))),
+        _ => {}
+    }
+    let mut words = words.split_whitespace();
+    match words.next().unwrap_or("") {
+        "found" => {
+            let name = String::from_str(alloc, words.next().unwrap_or(""))?;
+            Ok(Some(Ask::Found(name)))
+        }
+        "rooms" => {
+            let n = decimal(words.next().unwrap_or(""))?;
+            let units = room_or_open(words.next().unwrap_or(""))?;
+            let bytes = room_or_open(words.next().unwrap_or(""))?;
+            let replaced = room_or_open(words.next().unwrap_or(""))?;
+            Ok(Some(Ask::Rooms(n, [units, bytes, replaced])))
+        }
+        "latin1" => {
+            let mut bytes = Vec::new(alloc);
+            let word = words.next().unwrap_or("");
+            if word != "-" {
+                add_bytes(word, &mut bytes)?;
+            }
+            let most = number_or_none(words.next().unwrap_or(""))?;
+            Ok(Some(Ask::Latin1(bytes, most)))
+        }
+        _ => Ok(None),
+    }
+}
+
 fn state_of(words: &str) -> anyhow::Result<State> {
     match words {
         "neutral" => Ok(State::Neutral(true)),
@@ -99,10 +174,13 @@ fn state_of(words: &str) -> anyhow::Result<State> {
 }
 
 // The form and the room, whether the call is the last, and whether it writes references.
-fn head_of(words: &str) -> anyhow::Result<(Form, usize, bool, bool)> {
+fn head_of(words: &str) -> anyhow::Result<(Form, Given, bool, bool)> {
     let mut words = words.split_whitespace();
     let form = Form::of(words.next().unwrap_or("")).context("a form is not known")?;
-    let room = decimal(words.next().context("no room is there")?)?;
+    let room = match words.next().context("no room is there")? {
+        "asked" => Given::Asked,
+        word => Given::Room(decimal(word)?),
+    };
     match (words.next(), words.next()) {
         (None, _) => Ok((form, room, false, false)),
         (Some("last"), None) => Ok((form, room, true, false)),
@@ -130,8 +208,12 @@ impl CallLine {
         };
         let output = numbers(alloc, fields.next().context("an output is not there")?)?;
         let mut states = Vec::new(alloc);
+        let mut asks = Vec::new(alloc);
         for field in fields {
-            states.push(state_of(field.trim())?)?;
+            match ask_of(alloc, field.trim())? {
+                Some(ask) => asks.push(ask)?,
+                None => states.push(state_of(field.trim())?)?,
+            }
         }
         Ok(CallLine {
             number,
@@ -144,6 +226,7 @@ impl CallLine {
             read,
             output,
             states,
+            asks,
         })
     }
 }

@@ -1,11 +1,13 @@
 //! Cases of calls: a new decoder or encoder, and the exact result of each call.
 
 use crate::answer::{Answer, Neutral, Text, decode, encode};
-use crate::call_lines::{CallLine, Source, State};
-use crate::codecs::{DecoderTask, EncoderTask, with_decoder, with_encoder};
+use crate::call_lines::{Ask, CallLine, Given, Source, State};
+use crate::codecs::{DecoderTask, EncoderTask, Through, with_decoder, with_encoder};
+use crate::front_decoding::check_decoder_calls;
 use crate::front_encoding::check_front_calls;
 use crate::kinds::{Form, Outcome};
 use crate::rooms::Side;
+use anyhow::bail;
 use case_lines::report::Report;
 use encoding_front::Encoding;
 use encoding_mem::RawEncoder;
@@ -17,11 +19,14 @@ use std::alloc::{AllocError, Global};
 pub(crate) struct Calls {
     pub(crate) side: Side,
     pub(crate) encoding: Encoding,
+    // The line of what a new `Decoder` must answer.
+    pub(crate) number: usize,
+    pub(crate) asks: Vec<Ask>,
     pub(crate) lines: Vec<CallLine>,
 }
 
 // The numbers of a text in a form.
-fn in_form(alloc: Global, form: Form, scalars: &[u32]) -> Result<Vec<u32>, AllocError> {
+pub(crate) fn in_form(alloc: Global, form: Form, scalars: &[u32]) -> Result<Vec<u32>, AllocError> {
     let mut output = Vec::new(alloc);
     for number in scalars {
         match char::from_u32(*number) {
@@ -33,7 +38,7 @@ fn in_form(alloc: Global, form: Form, scalars: &[u32]) -> Result<Vec<u32>, Alloc
     Ok(output)
 }
 
-fn narrowed_bytes(alloc: Global, numbers: &[u32]) -> Result<Vec<u8>, AllocError> {
+pub(crate) fn narrowed_bytes(alloc: Global, numbers: &[u32]) -> Result<Vec<u8>, AllocError> {
     let mut bytes = Vec::new(alloc);
     for number in numbers {
         bytes.push((*number % 0x100) as u8)?;
@@ -70,6 +75,14 @@ impl TextOfCall {
             Form::Utf8 => Text::Utf8(std::str::from_utf8(self.bytes.as_slice()).unwrap_or("")),
             Form::Utf16 => Text::Utf16(self.units.as_slice()),
         }
+    }
+}
+
+// The room of a call that a line gives.
+pub(crate) fn given_room(line: &CallLine) -> anyhow::Result<usize> {
+    match line.room {
+        Given::Room(room) => Ok(room),
+        Given::Asked => bail!("a room is asked for of a `Decoder` alone"),
     }
 }
 
@@ -144,7 +157,8 @@ impl<'a, P: Print + AllocGlobal> DecoderTask for Making<'a, P> {
                 offset = 0;
             }
             let rest = bytes.get(offset..).unwrap_or(&[]);
-            let answer = decode(alloc, &mut decoder, line.form, rest, line.room, line.last)?;
+            let room = given_room(line)?;
+            let answer = decode(alloc, &mut decoder, line.form, rest, room, line.last)?;
             offset = answer.read.saturating_add(offset);
             let output = in_form(alloc, line.form, line.output.as_slice())?;
             check_answer(self.rt, line, &answer, output.as_slice(), self.report)?;
@@ -177,7 +191,8 @@ impl<'a, P: Print + AllocGlobal> EncoderTask for Making<'a, P> {
             };
             let source = TextOfCall::of(alloc, line.form, numbers.as_slice())?;
             let text = source.text(line.form);
-            let answer = encode(alloc, &mut encoder, text, line.room, line.last)?;
+            let room = given_room(line)?;
+            let answer = encode(alloc, &mut encoder, text, room, line.last)?;
             check_answer(self.rt, line, &answer, line.output.as_slice(), self.report)?;
             let state = State::Escape(encoder.has_pending_state());
             check_state(self.rt, line, state, self.report)?;
@@ -186,23 +201,40 @@ impl<'a, P: Print + AllocGlobal> EncoderTask for Making<'a, P> {
     }
 }
 
-// Makes the calls of a case.
+// Makes the calls of a case by one decoder or encoder.
+fn check_through(
+    rt: &(impl Print + AllocGlobal),
+    tables: &Tables,
+    calls: &Calls,
+    through: Through,
+    report: &mut Report,
+) -> anyhow::Result<()> {
+    let mut making = Making { rt, calls, report };
+    let is_ready = match calls.side {
+        Side::Decoder => with_decoder(tables, calls.encoding, through, &mut making)?,
+        _ => with_encoder(tables, calls.encoding, through, &mut making)?,
+    };
+    if !is_ready {
+        making.report.differs(rt, "an index is not there")?;
+    }
+    Ok(())
+}
+
+// Makes the calls of a case, of a codec both by itself and by what `encoding_front` chooses.
 pub(crate) fn check_calls(
     rt: &(impl Print + AllocGlobal),
     tables: &Tables,
     calls: &Calls,
     report: &mut Report,
 ) -> anyhow::Result<()> {
-    if calls.side == Side::FrontEncoder {
-        return check_front_calls(rt, tables, calls, report);
-    }
-    let mut making = Making { rt, calls, report };
-    let is_ready = match calls.side {
-        Side::Decoder => with_decoder(tables, calls.encoding, &mut making)?,
-        _ => with_encoder(tables, calls.encoding, &mut making)?,
+    let needed = match calls.side {
+        Side::FrontEncoder => return check_front_calls(rt, tables, calls, report),
+        Side::FrontDecoder(mark) => return check_decoder_calls(rt, tables, mark, calls, report),
+        Side::Decoder => calls.encoding,
+        Side::Encoder => calls.encoding.output_encoding(),
     };
-    if !is_ready {
-        making.report.differs(rt, "an index is not there")?;
+    for through in Through::of(needed.is_ready(tables)) {
+        check_through(rt, tables, calls, *through, report)?;
     }
     Ok(())
 }

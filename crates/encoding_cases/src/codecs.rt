@@ -1,5 +1,5 @@
-//! The decoder and the encoder of an encoding: those of `encoding_codecs`, and for other encodings
-//! those that `encoding_front` chooses.
+//! The decoder and the encoder of an encoding: its own codec, and the one that `encoding_front`
+//! chooses.
 
 ghost use Rattle.encoding_front.specs.Encodings.{IsReady};
 
@@ -10,8 +10,29 @@ use encoding_codecs::{
     ShiftJisEncoder,
 };
 use encoding_front::{Encoding, VariantDecoder, VariantEncoder};
-use encoding_mem::RawEncoder;
-use encoding_tables::{IndexKind, Tables};
+use encoding_mem::{RawEncoder, Utf8Decoder, Utf8Encoder};
+use encoding_tables::{
+    IndexKind, ReplacementDecoder, SingleByteDecoder, SingleByteEncoder, Tables,
+    UserDefinedDecoder, UserDefinedEncoder, Utf16Decoder,
+};
+
+// Which decoder or encoder of an encoding.
+#[derive(Clone, Copy, PartialEq, Eq, Debug)]
+pub(crate) enum Through {
+    Codec,
+    Variant,
+}
+
+impl Through {
+    // Both, or the codec alone where not all indexes are there that the encoding needs.
+    pub(crate) fn of(is_ready: bool) -> &'static [Through] {
+        if is_ready {
+            &[Through::Codec, Through::Variant]
+        } else {
+            &[Through::Codec]
+        }
+    }
+}
 
 // What is done with a new decoder, of whichever encoding.
 pub(crate) trait DecoderTask {
@@ -27,9 +48,32 @@ pub(crate) trait EncoderTask {
 pub(crate) fn with_decoder<T: DecoderTask>(
     tables: &Tables,
     encoding: Encoding,
+    through: Through,
+    task: &mut T,
+) -> anyhow::Result<bool> {
+    match through {
+        Through::Codec => with_codec_decoder(tables, encoding, task),
+        Through::Variant => {
+            if !encoding.is_ready(tables) {
+                return Ok(false);
+            }
+            task.run(VariantDecoder::new(encoding, tables))?;
+            Ok(true)
+        }
+    }
+}
+
+fn with_codec_decoder<T: DecoderTask>(
+    tables: &Tables,
+    encoding: Encoding,
     task: &mut T,
 ) -> anyhow::Result<bool> {
     match encoding {
+        Encoding::Utf8 => task.run(Utf8Decoder::new())?,
+        Encoding::Utf16Be => task.run(Utf16Decoder::new(true))?,
+        Encoding::Utf16Le => task.run(Utf16Decoder::new(false))?,
+        Encoding::Replacement => task.run(ReplacementDecoder::new())?,
+        Encoding::XUserDefined => task.run(UserDefinedDecoder::new())?,
         Encoding::Big5 if tables.has(IndexKind::Big5) => task.run(Big5Decoder::new(tables))?,
         Encoding::EucKr if tables.has(IndexKind::EucKr) => task.run(EucKrDecoder::new(tables))?,
         Encoding::ShiftJis if tables.has(IndexKind::Jis0208) => {
@@ -41,12 +85,16 @@ pub(crate) fn with_decoder<T: DecoderTask>(
         Encoding::EucJp if tables.has(IndexKind::Jis0208) && tables.has(IndexKind::Jis0212) => {
             task.run(EucJpDecoder::new(tables))?
         }
-        Encoding::Gb18030
+        Encoding::Gb18030 | Encoding::Gbk
             if tables.has(IndexKind::Gb18030) && tables.has(IndexKind::Gb18030Ranges) => {
             task.run(Gb18030Decoder::new(tables))?
         }
-        _ if encoding.is_ready(tables) => task.run(VariantDecoder::new(encoding, tables))?,
-        _ => return Ok(false),
+        _ => match encoding.needs() {
+            [kind] if kind.is_single_byte() && tables.has(*kind) => {
+                task.run(SingleByteDecoder::new(tables, *kind))?
+            }
+            _ => return Ok(false),
+        },
     }
     Ok(true)
 }
@@ -55,9 +103,31 @@ pub(crate) fn with_decoder<T: DecoderTask>(
 pub(crate) fn with_encoder<T: EncoderTask>(
     tables: &Tables,
     encoding: Encoding,
+    through: Through,
+    task: &mut T,
+) -> anyhow::Result<bool> {
+    match through {
+        Through::Codec => with_codec_encoder(tables, encoding, task),
+        Through::Variant => {
+            if !encoding.output_encoding().is_ready(tables) {
+                return Ok(false);
+            }
+            task.run(VariantEncoder::new(encoding, tables))?;
+            Ok(true)
+        }
+    }
+}
+
+fn with_codec_encoder<T: EncoderTask>(
+    tables: &Tables,
+    encoding: Encoding,
     task: &mut T,
 ) -> anyhow::Result<bool> {
     match encoding {
+        Encoding::Utf8 | Encoding::Utf16Be | Encoding::Utf16Le | Encoding::Replacement => {
+            task.run(Utf8Encoder::new())?
+        }
+        Encoding::XUserDefined => task.run(UserDefinedEncoder::new())?,
         Encoding::Big5 if tables.has(IndexKind::Big5) => task.run(Big5Encoder::new(tables))?,
         Encoding::EucKr if tables.has(IndexKind::EucKr) => task.run(EucKrEncoder::new(tables))?,
         Encoding::ShiftJis if tables.has(IndexKind::Jis0208) => {
@@ -73,10 +143,12 @@ pub(crate) fn with_encoder<T: EncoderTask>(
             let is_extended = encoding == Encoding::Gb18030;
             task.run(Gb18030Encoder::new(tables, is_extended))?
         }
-        _ if encoding.output_encoding().is_ready(tables) => {
-            task.run(VariantEncoder::new(encoding, tables))?
-        }
-        _ => return Ok(false),
+        _ => match encoding.needs() {
+            [kind] if kind.is_single_byte() && tables.has(*kind) => {
+                task.run(SingleByteEncoder::new(tables, *kind))?
+            }
+            _ => return Ok(false),
+        },
     }
     Ok(true)
 }

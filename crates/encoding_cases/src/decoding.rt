@@ -1,7 +1,7 @@
 //! Streams of bytes, decoded at every cut and into rooms of every size.
 
 use crate::answer::{Neutral, decode, decoded_room};
-use crate::codecs::{DecoderTask, with_decoder};
+use crate::codecs::{DecoderTask, Through, with_decoder};
 use crate::kinds::{Form, Item, Outcome};
 use crate::pieces::DecodedStream;
 use crate::rooms::{Asked, Room, Side, room_of};
@@ -13,6 +13,7 @@ use std::alloc::{AllocError, Global};
 // How a stream is handed in: in two parts, into so much room.
 #[derive(Clone, Copy)]
 struct Plan {
+    through: Through,
     form: Form,
     cut: usize,
     room: usize,
@@ -105,6 +106,12 @@ impl<'a> DecoderTask for Reading<'a> {
         if decoder.is_neutral() == Some(false) {
             told.fault = Some("a new decoder is not neutral");
         }
+        if let Some(room) = self.plan.asked {
+            let (enough, replaced) = decoded_room(&decoder, self.plan.form, usize::MAX);
+            if enough != room.of(usize::MAX) || replaced != room.of(usize::MAX) {
+                told.fault = Some("another room is asked for");
+            }
+        }
         let (before, after) = self.bytes.split_at(self.plan.cut.min(self.bytes.len()));
         feed(self.alloc, &mut decoder, self.plan, before, false, told)?;
         feed(self.alloc, &mut decoder, self.plan, after, true, told)?;
@@ -139,12 +146,15 @@ fn check_plan(
             fault: None,
         },
     };
-    if !with_decoder(tables, encoding, &mut reading)? {
+    if !with_decoder(tables, encoding, plan.through, &mut reading)? {
         report.differs(rt, "an index is not there")?;
     }
     let told = &reading.told;
     let expected = stream.items(plan.form);
-    let place = format!(in rt.alloc(); "{:?}, cut at {}, room {}", plan.form, plan.cut, plan.room)?;
+    let place = format!(in rt.alloc();
+        "{:?}, {:?}, cut at {}, room {}",
+        plan.through, plan.form, plan.cut, plan.room
+    )?;
     if let Some(fault) = told.fault {
         let what = format!(in rt.alloc(); "{place}: {fault}")?;
         report.differs(rt, what.as_str())?;
@@ -157,7 +167,30 @@ fn check_plan(
     Ok(told.asked)
 }
 
-// Decodes a stream at each cut, and into each room from the least to that which is asked for.
+// Decodes a stream by one decoder, at each cut, and into each room from the least to that which
+// is asked for.
+fn check_through(
+    rt: &(impl Print + AllocGlobal),
+    tables: &Tables,
+    encoding: Encoding,
+    first: Plan,
+    stream: &DecodedStream,
+    report: &mut Report,
+) -> anyhow::Result<()> {
+    for cut in 0..=stream.bytes.len() {
+        let mut enough = 0;
+        for room in first.form.least_room()..usize::MAX {
+            let plan = Plan { cut, room, ..first };
+            enough = check_plan(rt, tables, encoding, plan, stream, report)?.max(enough);
+            if room >= enough {
+                break;
+            }
+        }
+    }
+    Ok(())
+}
+
+// Decodes a stream to both forms, by its codec and by the decoder that `encoding_front` chooses.
 pub(crate) fn check_decoded(
     rt: &(impl Print + AllocGlobal),
     tables: &Tables,
@@ -166,22 +199,16 @@ pub(crate) fn check_decoded(
     stream: &DecodedStream,
     report: &mut Report,
 ) -> anyhow::Result<()> {
-    for form in [Form::Utf8, Form::Utf16] {
-        let asked = room_of(asked, Side::Decoder, encoding, form);
-        for cut in 0..=stream.bytes.len() {
-            let mut enough = 0;
-            for room in form.least_room()..usize::MAX {
-                let plan = Plan {
-                    form,
-                    cut,
-                    room,
-                    asked,
-                };
-                enough = check_plan(rt, tables, encoding, plan, stream, report)?.max(enough);
-                if room >= enough {
-                    break;
-                }
-            }
+    for through in Through::of(encoding.is_ready(tables)) {
+        for form in [Form::Utf8, Form::Utf16] {
+            let plan = Plan {
+                through: *through,
+                form,
+                cut: 0,
+                room: 0,
+                asked: room_of(asked, Side::Decoder, encoding, form),
+            };
+            check_through(rt, tables, encoding, plan, stream, report)?;
         }
     }
     Ok(())

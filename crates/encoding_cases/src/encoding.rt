@@ -1,7 +1,7 @@
 //! Texts, encoded at every cut and into rooms of every size.
 
 use crate::answer::{Text, encode, encoded_room};
-use crate::codecs::{EncoderTask, with_encoder};
+use crate::codecs::{EncoderTask, Through, with_encoder};
 use crate::kinds::{Form, Item, Outcome};
 use crate::pieces::EncodedStream;
 use crate::rooms::{Asked, Room, Side, room_of};
@@ -20,6 +20,7 @@ const LEAST_ROOM_OF_ESCAPES: usize = 3;
 // How a text is handed in: in two parts, into so much room.
 #[derive(Clone, Copy)]
 struct Plan {
+    through: Through,
     form: Form,
     // In bytes and in units.
     cut: (usize, usize),
@@ -156,14 +157,14 @@ fn check_plan(
             fault: None,
         },
     };
-    if !with_encoder(tables, encoding, &mut writing)? {
+    if !with_encoder(tables, encoding, plan.through, &mut writing)? {
         report.differs(rt, "an index is not there")?;
     }
     let told = &writing.told;
     let expected = stream.items.as_slice();
     let place = format!(in rt.alloc();
-        "{:?}, cut at {:?}, room {}",
-        plan.form, plan.cut, plan.room
+        "{:?}, {:?}, cut at {:?}, room {}",
+        plan.through, plan.form, plan.cut, plan.room
     )?;
     if let Some(fault) = told.fault {
         let what = format!(in rt.alloc(); "{place}: {fault}")?;
@@ -177,7 +178,42 @@ fn check_plan(
     Ok(told.asked)
 }
 
-// Encodes a text at each cut, and into each room from the least to that which is asked for.
+// The least room in which an encoder comes on.
+fn least_room(encoding: Encoding) -> usize {
+    match encoding {
+        Encoding::Iso2022Jp => LEAST_ROOM_OF_ESCAPES,
+        _ => LEAST_ROOM,
+    }
+}
+
+// Encodes a text by one encoder, at each cut, and into each room from the least to that which is
+// asked for.
+fn check_through(
+    rt: &(impl Print + AllocGlobal),
+    tables: &Tables,
+    encoding: Encoding,
+    first: Plan,
+    stream: &EncodedStream,
+    report: &mut Report,
+) -> anyhow::Result<()> {
+    for cut in stream.cuts.iter() {
+        let mut enough = 0;
+        for room in least_room(encoding)..usize::MAX {
+            let plan = Plan {
+                cut: *cut,
+                room,
+                ..first
+            };
+            enough = check_plan(rt, tables, encoding, plan, stream, report)?.max(enough);
+            if room >= enough {
+                break;
+            }
+        }
+    }
+    Ok(())
+}
+
+// Encodes a text of both forms, by its codec and by the encoder that `encoding_front` chooses.
 pub(crate) fn check_encoded(
     rt: &(impl Print + AllocGlobal),
     tables: &Tables,
@@ -186,26 +222,16 @@ pub(crate) fn check_encoded(
     stream: &EncodedStream,
     report: &mut Report,
 ) -> anyhow::Result<()> {
-    let least = match encoding {
-        Encoding::Iso2022Jp => LEAST_ROOM_OF_ESCAPES,
-        _ => LEAST_ROOM,
-    };
-    for form in [Form::Utf8, Form::Utf16] {
-        let asked = room_of(asked, Side::Encoder, encoding, form);
-        for cut in stream.cuts.iter() {
-            let mut enough = 0;
-            for room in least..usize::MAX {
-                let plan = Plan {
-                    form,
-                    cut: *cut,
-                    room,
-                    asked,
-                };
-                enough = check_plan(rt, tables, encoding, plan, stream, report)?.max(enough);
-                if room >= enough {
-                    break;
-                }
-            }
+    for through in Through::of(encoding.output_encoding().is_ready(tables)) {
+        for form in [Form::Utf8, Form::Utf16] {
+            let plan = Plan {
+                through: *through,
+                form,
+                cut: (0, 0),
+                room: 0,
+                asked: room_of(asked, Side::Encoder, encoding, form),
+            };
+            check_through(rt, tables, encoding, plan, stream, report)?;
         }
     }
     Ok(())

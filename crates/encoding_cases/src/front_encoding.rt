@@ -4,7 +4,7 @@ ghost use Rattle.encoding_front.specs.Encodings.{IsReady};
 
 use crate::answer::{Answer, Text, UNWRITTEN};
 use crate::call_lines::{Source, State};
-use crate::calls::{Calls, TextOfCall, check_answer, check_state};
+use crate::calls::{Calls, TextOfCall, check_answer, check_state, given_room};
 use crate::kinds::{Outcome, widened};
 use case_lines::report::Report;
 use encoding_front::{CoderResult, Encoder};
@@ -84,10 +84,11 @@ pub(crate) fn check_front_calls(
         };
         let source = TextOfCall::of(alloc, line.form, numbers.as_slice())?;
         let text = source.text(line.form);
+        let room = given_room(line)?;
         let (answer, is_lost) = if line.replaces {
-            encode_replacing(alloc, &mut encoder, text, line.room, line.last)?
+            encode_replacing(alloc, &mut encoder, text, room, line.last)?
         } else {
-            let answer = encode_without(alloc, &mut encoder, text, line.room, line.last)?;
+            let answer = encode_without(alloc, &mut encoder, text, room, line.last)?;
             (answer, false)
         };
         check_answer(rt, line, &answer, line.output.as_slice(), report)?;

@@ -13,10 +13,12 @@ mod calls;
 mod codecs;
 mod decoding;
 mod encoding;
+mod encoding_lines;
 mod front_calls;
+mod front_decoding;
 mod front_encoding;
-mod indexes;
 mod kinds;
+mod names;
 mod pieces;
 mod rooms;
 mod session;
@@ -26,7 +28,10 @@ use crate::session::run_file;
 use anyhow::Context;
 use std::fs;
 
-const FILES: [&str; 8] = [
+const FILES: [&str; 13] = [
+    "utf-8.txt",
+    "single-byte.txt",
+    "without-index.txt",
     "big5.txt",
     "euc-kr.txt",
     "gb18030.txt",
@@ -34,7 +39,9 @@ const FILES: [&str; 8] = [
     "shift_jis-and-euc-jp.txt",
     "codecs-together.txt",
     "marks.txt",
+    "decoder-calls.txt",
     "references.txt",
+    "encodings.txt",
 ];
 
 fn main(rt: HostRuntime) -> anyhow::Result<()> {

@@ -1,9 +1,10 @@
 //! The room that decoders and encoders must ask for.
 
 use crate::kinds::Form;
+use crate::names::encoding_of;
 use anyhow::{Context, bail};
 use case_lines::words::decimal;
-use encoding_front::Encoding;
+use encoding_front::{Encoding, Mark};
 
 // A room as a multiple of a number, and so much more.
 #[derive(Clone, Copy)]
@@ -25,6 +26,8 @@ pub(crate) enum Side {
     Encoder,
     // The `Encoder` of `encoding_front`.
     FrontEncoder,
+    // The `Decoder` of `encoding_front`, and what it does with a mark.
+    FrontDecoder(Mark),
 }
 
 // What the decoder or the encoder of an encoding must ask for in a form.
@@ -45,11 +48,11 @@ impl Asked {
             Some("encoder") => Side::Encoder,
             _ => bail!("neither a decoder nor an encoder is named"),
         };
-        let encoding = Encoding::for_label(words.next().unwrap_or("").as_bytes());
+        let encoding = encoding_of(words.next().unwrap_or(""))?;
         let form = Form::of(words.next().unwrap_or(""));
         Ok(Asked {
             side,
-            encoding: encoding.context("no encoding has this name")?,
+            encoding,
             form: form.context("a form is not known")?,
             room: Room {
                 factor: decimal(words.next().unwrap_or(""))?,

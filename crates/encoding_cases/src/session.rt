@@ -1,17 +1,20 @@
 //! A file of cases, line by line.
 
-use crate::call_lines::CallLine;
+use crate::call_lines::{CallLine, ask_of};
 use crate::calls::{Calls, check_calls};
 use crate::decoding::check_decoded;
 use crate::encoding::check_encoded;
-use crate::indexes::{insert_list, insert_ranges, insert_rows};
+use crate::encoding_lines::check_saying;
+use crate::names::{encoding_of, mark_of};
 use crate::pieces::{DecodedStream, EncodedStream};
 use crate::rooms::{Asked, Side};
 use crate::streams::{MarkedStream, check_marked};
 use anyhow::{Context, ensure};
+use case_lines::indexes::{insert_rows, put_index, rows_of};
 use case_lines::report::Report;
 use encoding_front::Encoding;
-use encoding_tables::Tables;
+use encoding_tables::{IndexKind, Tables};
+use std::alloc::Global;
 
 // What the lines so far have put in place.
 #[derive(Drop)]
@@ -26,8 +29,7 @@ struct Session {
 // The encoding of a line, and the words behind it.
 fn encoding_in(words: &str) -> anyhow::Result<(Encoding, &str)> {
     let (name, rest) = words.split_once(' ').unwrap_or((words, ""));
-    let encoding = Encoding::for_label(name.as_bytes()).context("no encoding has this name")?;
-    Ok((encoding, rest))
+    Ok((encoding_of(name)?, rest))
 }
 
 impl Session {
@@ -52,9 +54,14 @@ impl Session {
         let alloc = rt.alloc();
         match word {
             "tables" => self.tables = Tables::new(alloc),
-            "index" => insert_list(alloc, &mut self.tables, words)?,
-            "rows" => insert_rows(alloc, &mut self.tables, words)?,
-            "ranges" => insert_ranges(alloc, &mut self.tables, words)?,
+            "index" => put_index(alloc, &mut self.tables, true, words)?,
+            "rows" => put_index(alloc, &mut self.tables, false, words)?,
+            "ranges" => {
+                let rows = rows_of(alloc, words)?;
+                let kind = IndexKind::Gb18030Ranges;
+                let fault = insert_rows(&mut self.tables, kind, rows.as_slice())?;
+                ensure!(fault.is_none(), "the ranges are refused");
+            }
             "asks" => self.asked.push(Asked::of(words)?)?,
             "decode" => {
                 let (encoding, pieces) = encoding_in(words)?;
@@ -75,22 +82,39 @@ impl Session {
                 self.report.count_case();
                 check_marked(rt, &self.tables, &marked, &mut self.report)?;
             }
-            "decoder" | "encoder" | "Encoder" => {
-                let (encoding, rest) = encoding_in(words)?;
-                ensure!(rest.is_empty(), "a word behind the encoding");
-                self.calls = Some(Calls {
-                    side: match word {
-                        "decoder" => Side::Decoder,
-                        "encoder" => Side::Encoder,
-                        _ => Side::FrontEncoder,
-                    },
-                    encoding,
-                    lines: Vec::new(alloc),
-                });
+            "decoder" => self.begin_calls(alloc, Side::Decoder, words)?,
+            "encoder" => self.begin_calls(alloc, Side::Encoder, words)?,
+            "Encoder" => self.begin_calls(alloc, Side::FrontEncoder, words)?,
+            "Decoder" => {
+                let (mark, words) = words.split_once(' ').context("a word is missing")?;
+                self.begin_calls(alloc, Side::FrontDecoder(mark_of(mark)?), words)?
             }
-            _ => return Ok(false),
+            _ => return check_saying(rt, &self.tables, word, words, &mut self.report),
         }
         Ok(true)
+    }
+
+    // A new decoder or encoder. Behind its encoding and a colon stands what a new `Decoder` must
+    // answer.
+    fn begin_calls(&mut self, alloc: Global, side: Side, words: &str) -> anyhow::Result<()> {
+        let (name, answers) = words.split_once(':').unwrap_or((words, ""));
+        let (encoding, rest) = encoding_in(name)?;
+        ensure!(rest.is_empty(), "a word behind the encoding");
+        let mut asks = Vec::new(alloc);
+        for answer in answers.split(',') {
+            let answer = answer.trim();
+            if !answer.is_empty() {
+                asks.push(ask_of(alloc, answer)?.context("an answer is not known")?)?;
+            }
+        }
+        self.calls = Some(Calls {
+            side,
+            encoding,
+            number: self.report.line(),
+            asks,
+            lines: Vec::new(alloc),
+        });
+        Ok(())
     }
 
     // The next line.
@@ -109,7 +133,9 @@ impl Session {
             calls.lines.push(call)?;
             return Ok(());
         }
+        let number = self.report.line();
         self.end_calls(rt)?;
+        self.report.at(number);
         let is_known = self.line_of(rt, word, words.trim())?;
         ensure!(is_known, "a line is not understood");
         Ok(())

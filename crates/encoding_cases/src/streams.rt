@@ -5,8 +5,9 @@ ghost use Rattle.encoding_front.specs.Encodings.{IsReady};
 
 use crate::front_calls::{Destination, Kind};
 use crate::kinds::{Item, Outcome};
+use crate::names::{encoding_of, mark_of};
 use crate::pieces::DecodedStream;
-use anyhow::{Context, bail};
+use anyhow::Context;
 use case_lines::report::Report;
 use encoding_front::{Decoder, Encoding, Mark};
 use encoding_tables::Tables;
@@ -181,18 +182,10 @@ impl MarkedStream {
         let (head, pieces) = words.split_once(':').context("a stream has no `:`")?;
         let (before, found) = head.split_once(" as ").context("a stream has no ` as `")?;
         let (mark, encoding) = before.split_once(' ').context("a word is missing")?;
-        let mark = match mark {
-            "sniff" => Mark::Sniff,
-            "remove" => Mark::Remove,
-            "keep" => Mark::Keep,
-            _ => bail!("a way to treat marks is not known"),
-        };
-        let encoding = Encoding::for_label(encoding.as_bytes());
-        let found = Encoding::for_label(found.as_bytes());
         Ok(MarkedStream {
-            mark,
-            encoding: encoding.context("no encoding has this name")?,
-            found: found.context("no encoding has this name")?,
+            mark: mark_of(mark)?,
+            encoding: encoding_of(encoding)?,
+            found: encoding_of(found)?,
             stream: DecodedStream::of(alloc, pieces)?,
         })
     }

@@ -1,5 +1,5 @@
-//! Calls of `encoding_index` and `encoding_front`, worked by hand: index texts, encodings by name,
-//! streams and whole texts. There are tests alone here.
+//! Calls of `encoding_front` that are no lines of `encoding_cases`, worked by hand. There are
+//! tests alone here.
 #![tactic(auto)]
 
 #[cfg(test)]
@@ -9,12 +9,4 @@ mod encoder;
 #[cfg(test)]
 mod encoding;
 #[cfg(test)]
-mod index_texts;
-#[cfg(test)]
-mod one_shot_decoding;
-#[cfg(test)]
-mod one_shot_encoding;
-#[cfg(test)]
-mod reference;
-#[cfg(test)]
-mod variants;
+mod one_shot;

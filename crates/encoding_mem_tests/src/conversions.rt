@@ -1,12 +1,13 @@
 //! Conversions between ASCII, Latin1, UTF-8 and UTF-16, with results worked by hand.
 
 use encoding_mem::{
-    Latin1Bytes, convert_latin1_to_str_partial, convert_latin1_to_utf8_partial,
-    convert_str_to_utf16, convert_utf8_to_latin1_lossy, convert_utf8_to_utf16,
-    convert_utf8_to_utf16_up_to_invalid, convert_utf8_to_utf16_without_replacement,
-    convert_utf16_to_latin1_lossy, convert_utf16_to_utf8_partial, copy_ascii_to_ascii,
-    copy_ascii_to_basic_latin, copy_basic_latin_to_ascii, decode_latin1, encode_latin1_lossy,
-    is_str_latin1,
+    Latin1Bytes, convert_latin1_to_str, convert_latin1_to_str_partial, convert_latin1_to_utf8,
+    convert_latin1_to_utf8_partial, convert_latin1_to_utf16, convert_str_to_utf16,
+    convert_utf8_to_latin1_lossy, convert_utf8_to_utf16, convert_utf8_to_utf16_up_to_invalid,
+    convert_utf8_to_utf16_without_replacement, convert_utf16_to_latin1_lossy, convert_utf16_to_str,
+    convert_utf16_to_str_partial, convert_utf16_to_utf8, convert_utf16_to_utf8_partial,
+    copy_ascii_to_ascii, copy_ascii_to_basic_latin, copy_basic_latin_to_ascii, decode_latin1,
+    encode_latin1_lossy, is_str_latin1, utf8_valid_up_to,
 };
 use std::borrow::CowStr;
 use std::test::Fail;
@@ -54,15 +55,64 @@ fn a_character_that_does_not_fit_is_left(rt: HostRuntime) {
         convert_utf16_to_utf8_partial(&[0x41, 0x20AC], &mut bytes[..3]),
         (1, 1)
     );
+    assert_eq!(rt; bytes, [0x41, 0, 0, 0]);
     assert_eq!(rt;
         convert_utf16_to_utf8_partial(&[0x41, 0x20AC], &mut bytes),
         (2, 4)
     );
     assert_eq!(rt; bytes, [0x41, 0xE2, 0x82, 0xAC]);
     assert_eq!(rt;
-        convert_latin1_to_utf8_partial(&[0x41, 0xE9], &mut bytes[..2]),
+        convert_latin1_to_utf8_partial(&[0x42, 0xE9], &mut bytes[..2]),
         (1, 1)
     );
+    assert_eq!(rt; bytes, [0x42, 0xE2, 0x82, 0xAC]);
+}
+
+// U+0041, U+20AC and half a pair, of which U+FFFD stands in the place.
+#[test]
+fn all_units_are_converted(rt: HostRuntime) {
+    let units = [0x41, 0x20AC, 0xD83D];
+    let mut bytes = [0x7A; 9];
+    assert_eq!(rt; convert_utf16_to_utf8(&units, &mut bytes), 7);
+    let text = [0x41, 0xE2, 0x82, 0xAC, 0xEF, 0xBF, 0xBD];
+    assert_eq!(rt; bytes.get(..7), Some(text.as_slice()));
+    assert_eq!(rt; bytes.get(7..), Some([0x7A; 2].as_slice()));
+}
+
+#[test]
+fn units_go_into_a_text(rt: HostRuntime) {
+    let units = [0x41, 0x20AC];
+    let mut text = [0x7A; 6];
+    assert!(rt; utf8_valid_up_to(&text) == text.len());
+    assert_eq!(rt; convert_utf16_to_str(&units, &mut text), 4);
+    assert_eq!(rt; text, [0x41, 0xE2, 0x82, 0xAC, 0x7A, 0x7A]);
+    let mut text = [0x7A; 3];
+    assert!(rt; utf8_valid_up_to(&text) == text.len());
+    assert_eq!(rt; convert_utf16_to_str_partial(&units, &mut text), (1, 1));
+    assert_eq!(rt; text, [0x41, 0x7A, 0x7A]);
+}
+
+#[test]
+fn all_of_latin1_is_converted(rt: HostRuntime) {
+    let latin1 = [0x41, 0xE9];
+    let mut units = [0x7A; 3];
+    convert_latin1_to_utf16(&latin1, &mut units);
+    assert_eq!(rt; units, [0x41, 0xE9, 0x7A]);
+    let mut bytes = [0x7A; 4];
+    assert_eq!(rt; convert_latin1_to_utf8(&latin1, &mut bytes), 3);
+    assert_eq!(rt; bytes, [0x41, 0xC3, 0xA9, 0x7A]);
+    let mut text = [0x7A; 4];
+    assert!(rt; utf8_valid_up_to(&text) == text.len());
+    assert_eq!(rt; convert_latin1_to_str(&latin1, &mut text), 3);
+    assert_eq!(rt; text, [0x41, 0xC3, 0xA9, 0x7A]);
+}
+
+#[test]
+fn well_formed_bytes_become_units(rt: HostRuntime) {
+    let mut units = [0; 4];
+    let written = convert_utf8_to_utf16_without_replacement(&[0x61, 0xC3, 0xA9], &mut units);
+    assert_eq!(rt; written, Some(2));
+    assert_eq!(rt; units, [0x61, 0xE9, 0, 0]);
 }
 
 #[test]

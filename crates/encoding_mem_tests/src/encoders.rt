@@ -1,4 +1,4 @@
-//! Encoders into rooms of every size, against outputs worked by hand.
+//! A small target with three sets, by the encoding driver.
 
 ghost use Rattle.std.specs.Prelude.{◌≤◌, length};
 ghost use Rattle.encoding_mem.specs.examples.SampleCoding.{sample_coding, sample_room};
@@ -9,7 +9,7 @@ use encoding_mem::form::{Bytes, EscapeState, Form};
 use encoding_mem::room::{Bound, EncodedLength};
 use encoding_mem::source::{Source, Utf8Source};
 use encoding_mem::source_encoder::SourceEncoder;
-use encoding_mem::{EncoderResult, RawEncoder, Utf8Encoder};
+use encoding_mem::{EncoderResult, RawEncoder};
 
 // The small target with three sets.
 #[derive(Drop)]
@@ -89,72 +89,6 @@ impl EncoderRule for Sample {
     }
 }
 
-const TEXT: &str = "aé€💩z";
-
-const BYTES: [u8; 11] = [
-    0x61, 0xc3, 0xa9, 0xe2, 0x82, 0xac, 0xf0, 0x9f, 0x92, 0xa9, 0x7a,
-];
-
-// how many bytes, and units, are read into a room of each size
-const BYTES_READ: [usize; 13] = [0, 1, 1, 3, 3, 3, 6, 6, 6, 6, 10, 11, 11];
-
-const UNITS_READ: [usize; 13] = [0, 1, 1, 2, 2, 2, 3, 3, 3, 3, 5, 6, 6];
-
-#[test]
-fn texts_into_each_room(rt: HostRuntime) {
-    let mut encoder = Utf8Encoder::new();
-    for room in 0..13 {
-        let bytes = BYTES_READ[room];
-        let mut dst = [0xff; 16];
-        let (result, read, written) = encoder.encode_from_utf8_raw(TEXT, &mut dst[..room], true);
-        assert_eq!(rt; read, bytes, "room {room}");
-        assert_eq!(rt; written, bytes, "room {room}");
-        assert!(rt;
-            (result == EncoderResult::InputEmpty) == (read == 11),
-            "room {room}"
-        );
-        assert!(rt; dst[..written] == BYTES[..written], "room {room}");
-        assert!(rt; dst[written..].iter().all(|b| *b == 0xff), "room {room}");
-    }
-}
-
-#[test]
-fn units_into_each_room(rt: HostRuntime) {
-    let mut encoder = Utf8Encoder::new();
-    let text = [0x61, 0xe9, 0x20ac, 0xd83d, 0xdca9, 0x7a];
-    for room in 0..13 {
-        let bytes = BYTES_READ[room];
-        let units = UNITS_READ[room];
-        let mut dst = [0xff; 16];
-        let (result, read, written) = encoder.encode_from_utf16_raw(&text, &mut dst[..room], false);
-        assert_eq!(rt; read, units, "room {room}");
-        assert_eq!(rt; written, bytes, "room {room}");
-        assert!(rt;
-            (result == EncoderResult::InputEmpty) == (read == 6),
-            "room {room}"
-        );
-        assert!(rt; dst[..written] == BYTES[..written], "room {room}");
-        assert!(rt; dst[written..].iter().all(|b| *b == 0xff), "room {room}");
-    }
-}
-
-#[test]
-fn surrogates_outside_a_pair(rt: HostRuntime) {
-    let mut encoder = Utf8Encoder::new();
-    for units in [[0xdc00, 0x61], [0xd800, 0x61], [0xdbff, 0x61]] {
-        let mut dst = [0xff; 8];
-        let (result, read, written) = encoder.encode_from_utf16_raw(&units, &mut dst, true);
-        assert_eq!(rt; result, EncoderResult::InputEmpty);
-        assert_eq!(rt; (read, written), (2, 4));
-        assert_eq!(rt; dst, [0xef, 0xbf, 0xbd, 0x61, 0xff, 0xff, 0xff, 0xff]);
-    }
-    let mut dst = [0xff; 4];
-    let (result, read, written) = encoder.encode_from_utf16_raw(&[0xdc00, 0xd800], &mut dst, true);
-    assert_eq!(rt; result, EncoderResult::OutputFull);
-    assert_eq!(rt; (read, written), (1, 3));
-    assert_eq!(rt; dst, [0xef, 0xbf, 0xbd, 0xff]);
-}
-
 #[test]
 fn escapes_into_tiny_rooms(rt: HostRuntime) {
     let mut encoder = new_sample();
@@ -204,15 +138,4 @@ fn escapes_of_units(rt: HostRuntime) {
     assert_eq!(rt; ended, (EncoderResult::InputEmpty, 1, 5));
     assert!(rt; encoder.has_pending_state());
     assert_eq!(rt; encoder.set, EscapeState::Jis);
-}
-
-#[test]
-fn room_of_utf_8(rt: HostRuntime) {
-    let encoder = Utf8Encoder::new();
-    let units = encoder.max_buffer_length_from_utf16_without_replacement(5);
-    let bytes = encoder.max_buffer_length_from_utf8_without_replacement(5);
-    assert_eq!(rt; (units, bytes), (Some(15), Some(5)));
-    let too_many = encoder.max_buffer_length_from_utf16_without_replacement(usize::MAX / 2);
-    assert_eq!(rt; too_many, None);
-    assert!(rt; !encoder.has_pending_state());
 }

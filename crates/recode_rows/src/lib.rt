@@ -1,5 +1,5 @@
-//! Calls of `recode_log`, `recode_words`, `recode` and `recode_system`, with devices that cut, stop
-//! and fail, where a line of `recode_cases` does not say them. There are tests alone here.
+//! Calls of `recode_log`, `recode` and `recode_system`, with devices that cut, stop and fail, where
+//! no line of `recode_cases` or `program_cases` says them. There are tests alone here.
 #![tactic(auto)]
 
 #[cfg(test)]
@@ -15,8 +15,6 @@ mod index_files;
 #[cfg(test)]
 mod limits;
 #[cfg(test)]
-mod log_lines;
-#[cfg(test)]
 mod programs;
 #[cfg(test)]
 mod sink;
@@ -28,5 +26,3 @@ mod statuses;
 mod trial;
 #[cfg(test)]
 mod turns;
-#[cfg(test)]
-mod words;

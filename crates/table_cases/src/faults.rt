@@ -1,0 +1,41 @@
+//! What a call must return that takes an index.
+
+use anyhow::{Context, bail};
+use case_lines::indexes::pointer;
+use case_lines::words::decimal;
+use encoding_index::{IndexFault, IndexFaultKind, LoadFault};
+use encoding_tables::TableFault;
+
+fn text_fault(line: usize, kind: IndexFaultKind) -> Option<LoadFault> {
+    Some(LoadFault::Text(IndexFault { line, kind }))
+}
+
+// Words as `ok`, `Present`, `Size`, `Entry 5`, `Reserved 8836`, `Ranges 1` and, with the line of an
+// index text, `Row 2`, `Order 2` and `Pointer 1`.
+pub(crate) fn fault_of(words: &str) -> anyhow::Result<Option<LoadFault>> {
+    let (word, number) = words.split_once(' ').unwrap_or((words, ""));
+    Ok(match word {
+        "ok" => None,
+        "Present" => Some(LoadFault::Table(TableFault::Present)),
+        "Size" => Some(LoadFault::Table(TableFault::Size)),
+        "Entry" => Some(LoadFault::Table(TableFault::Entry(pointer(number)?))),
+        "Reserved" => Some(LoadFault::Table(TableFault::Reserved(pointer(number)?))),
+        "Ranges" => Some(LoadFault::Table(TableFault::Ranges(decimal(number)?))),
+        "Row" => text_fault(decimal(number)?, IndexFaultKind::Row),
+        "Order" => text_fault(decimal(number)?, IndexFaultKind::Order),
+        "Pointer" => text_fault(decimal(number)?, IndexFaultKind::Pointer),
+        _ => bail!("a result is not known"),
+    })
+}
+
+// A line in two: what is done, and what must come of it.
+pub(crate) fn halves(words: &str) -> anyhow::Result<(&str, &str)> {
+    let (call, told) = words.split_once("->").context("a line has no `->`")?;
+    Ok((call.trim(), told.trim()))
+}
+
+// The first word, and what stands behind it.
+pub(crate) fn first_word(words: &str) -> (&str, &str) {
+    let (word, rest) = words.split_once(' ').unwrap_or((words, ""));
+    (word, rest.trim())
+}

@@ -1,0 +1,104 @@
+//! Indexes that are handed in, and what is there then.
+
+use crate::faults::{fault_of, first_word, halves};
+use crate::texts::text_of;
+use anyhow::bail;
+use case_lines::indexes::{insert_list, insert_rows, rows_of};
+use case_lines::kinds::{KINDS, kind_of};
+use case_lines::report::Report;
+use case_lines::words::decimal;
+use encoding_index::{LoadFault, load};
+use encoding_tables::{IndexKind, TableFault, Tables};
+use std::alloc::{AllocError, Global};
+
+// Adds the characters of an index that is there, of the ranges those below 39420.
+fn add_characters(
+    tables: &Tables,
+    kind: IndexKind,
+    characters: &mut Vec<Option<char>>,
+) -> Result<(), AllocError> {
+    if kind.is_ranges() {
+        if tables.has(IndexKind::Gb18030Ranges) {
+            for pointer in 0..39420 {
+                characters.push(tables.range_value(pointer))?;
+            }
+        }
+    } else if tables.has(kind) {
+        for pointer in 0..kind.size() as u32 {
+            characters.push(tables.value(kind, pointer))?;
+        }
+    }
+    Ok(())
+}
+
+// The characters of all indexes that are there.
+fn contents(alloc: Global, tables: &Tables) -> Result<Vec<Option<char>>, AllocError> {
+    let mut characters = Vec::new(alloc);
+    for (_, kind) in KINDS {
+        add_characters(tables, kind, &mut characters)?;
+    }
+    Ok(characters)
+}
+
+fn of_table(fault: Option<TableFault>) -> Option<LoadFault> {
+    match fault {
+        None => None,
+        Some(fault) => Some(LoadFault::Table(fault)),
+    }
+}
+
+// Hands an index in, by words as `list 128 5=80`, `rows 5=80` and `text 5\t0x0080`. Returns why
+// it is refused.
+fn hand_in(
+    alloc: Global,
+    tables: &mut Tables,
+    kind: IndexKind,
+    words: &str,
+) -> anyhow::Result<Option<LoadFault>> {
+    let (form, rest) = first_word(words);
+    match form {
+        "list" => {
+            let (size, rest) = first_word(rest);
+            let rows = rows_of(alloc, rest)?;
+            let fault = insert_list(alloc, tables, kind, decimal(size)?, rows.as_slice())?;
+            Ok(of_table(fault))
+        }
+        "rows" => {
+            let rows = rows_of(alloc, rest)?;
+            Ok(of_table(insert_rows(tables, kind, rows.as_slice())?))
+        }
+        "text" | "text-of" => {
+            let text = text_of(alloc, words)?;
+            Ok(load(alloc, tables, kind, text.as_slice()).err())
+        }
+        _ => bail!("a way to hand an index in is not known"),
+    }
+}
+
+// Words as `big5 rows 942=2008A -> ok`. Where the index is refused no index changes.
+pub(crate) fn check_insertion(
+    rt: &(impl Print + AllocGlobal),
+    tables: &mut Tables,
+    words: &str,
+    report: &mut Report,
+) -> anyhow::Result<()> {
+    report.count_conversion();
+    let (call, told) = halves(words)?;
+    let expected = fault_of(told)?;
+    let (name, call) = first_word(call);
+    let kind = kind_of(name)?;
+    let was_there = tables.has(kind);
+    let before = contents(rt.alloc(), tables)?;
+    let fault = hand_in(rt.alloc(), tables, kind, call)?;
+    if fault != expected {
+        let what = format!(in rt.alloc(); "{fault:?} and not {expected:?}")?;
+        report.differs(rt, what.as_str())?;
+    }
+    if tables.has(kind) != (was_there || fault.is_none()) {
+        report.differs(rt, "whether the index is there is told wrong")?;
+    }
+    if fault.is_some() && contents(rt.alloc(), tables)?.as_slice() != before.as_slice() {
+        report.differs(rt, "an index changes though one is refused")?;
+    }
+    Ok(())
+}

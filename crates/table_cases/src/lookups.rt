@@ -1,0 +1,261 @@
+//! Look-ups in the indexes that are there, by the tables and by what they lend.
+
+use crate::faults::{first_word, halves};
+use anyhow::{Context, ensure};
+use case_lines::indexes::{pointer, rows_of};
+use case_lines::kinds::kind_of;
+use case_lines::report::Report;
+use case_lines::words::scalar;
+use encoding_tables::laws::search;
+use encoding_tables::{IndexKind, Tables};
+
+// The character at a pointer, by the tables and by what they lend. None where they differ, or the
+// index is not there.
+fn value(tables: &Tables, kind: IndexKind, pointer: u32) -> Option<Option<char>> {
+    if kind.is_ranges() {
+        if !tables.has(IndexKind::Gb18030Ranges) {
+            return None;
+        }
+        let found = tables.range_value(pointer);
+        return if tables.ranges().value(pointer) == found {
+            Some(found)
+        } else {
+            None
+        };
+    }
+    if !tables.has(kind) {
+        return None;
+    }
+    let found = tables.value(kind, pointer);
+    if tables.flat(kind).value(pointer) == found {
+        Some(found)
+    } else {
+        None
+    }
+}
+
+// The pointer of a character in the ranges, in the same way.
+fn range_pointer(tables: &Tables, c: char) -> Option<Option<u32>> {
+    if !tables.has(IndexKind::Gb18030Ranges) {
+        return None;
+    }
+    let found = tables.range_pointer(c);
+    if tables.ranges().pointer(c) == found {
+        Some(found)
+    } else {
+        None
+    }
+}
+
+// The first or the last pointer of a character between two, in the same way.
+fn pointer_in(
+    tables: &Tables,
+    kind: IndexKind,
+    is_first: bool,
+    c: char,
+    from: u32,
+    to: u32,
+) -> Option<Option<u32>> {
+    if kind.is_ranges() || !tables.has(kind) {
+        return None;
+    }
+    let (found, lent) = if is_first {
+        (
+            tables.first_pointer(kind, c, from, to),
+            tables.flat(kind).first_pointer(c, from, to),
+        )
+    } else {
+        (
+            tables.last_pointer(kind, c, from, to),
+            tables.flat(kind).last_pointer(c, from, to),
+        )
+    };
+    if lent == found { Some(found) } else { None }
+}
+
+// Words as `big5 5287=5341 0-127=80`: what stands at these pointers.
+pub(crate) fn check_values(
+    rt: &(impl Print + AllocGlobal),
+    tables: &Tables,
+    words: &str,
+    report: &mut Report,
+) -> anyhow::Result<()> {
+    let (name, words) = first_word(words);
+    let kind = kind_of(name)?;
+    for (pointer, entry) in rows_of(rt.alloc(), words)?.iter() {
+        report.count_conversion();
+        let found = value(tables, kind, *pointer);
+        if found != Some(char::from_u32(*entry)) {
+            let what = format!(in rt.alloc(); "at {pointer}: {found:?}")?;
+            report.differs(rt, what.as_str())?;
+        }
+    }
+    Ok(())
+}
+
+// Words as `big5 5286 6000-6009`: nothing stands at these pointers.
+pub(crate) fn check_gaps(
+    rt: &(impl Print + AllocGlobal),
+    tables: &Tables,
+    words: &str,
+    report: &mut Report,
+) -> anyhow::Result<()> {
+    let (name, words) = first_word(words);
+    let kind = kind_of(name)?;
+    for word in words.split_whitespace() {
+        let (first, last) = word.split_once('-').unwrap_or((word, word));
+        for pointer in pointer(first)?..=pointer(last)? {
+            report.count_conversion();
+            let found = value(tables, kind, pointer);
+            if found != Some(None) {
+                let what = format!(in rt.alloc(); "at {pointer}: {found:?}")?;
+                report.differs(rt, what.as_str())?;
+            }
+        }
+    }
+    Ok(())
+}
+
+// Words as `7457=E7C7`: these are the pointers of the ranges that are written for characters.
+pub(crate) fn check_range_pointers(
+    rt: &(impl Print + AllocGlobal),
+    tables: &Tables,
+    words: &str,
+    report: &mut Report,
+) -> anyhow::Result<()> {
+    for (pointer, entry) in rows_of(rt.alloc(), words)?.iter() {
+        report.count_conversion();
+        let c = char::from_u32(*entry).context("a number is not a character's")?;
+        let found = range_pointer(tables, c);
+        if found != Some(Some(*pointer)) {
+            let what = format!(in rt.alloc(); "for {c:?}: {found:?}")?;
+            report.differs(rt, what.as_str())?;
+        }
+    }
+    Ok(())
+}
+
+// Words as `1E3F 80`: characters without a pointer in the ranges.
+pub(crate) fn check_unmapped(
+    rt: &(impl Print + AllocGlobal),
+    tables: &Tables,
+    words: &str,
+    report: &mut Report,
+) -> anyhow::Result<()> {
+    for word in words.split_whitespace() {
+        report.count_conversion();
+        let found = range_pointer(tables, scalar(word)?);
+        if found != Some(None) {
+            let what = format!(in rt.alloc(); "for {word}: {found:?}")?;
+            report.differs(rt, what.as_str())?;
+        }
+    }
+    Ok(())
+}
+
+// Words as `big5 5341 0 19782 -> 3` or `-> none`: the first or the last pointer of a character,
+// from one to below another.
+pub(crate) fn check_pointer(
+    rt: &(impl Print + AllocGlobal),
+    tables: &Tables,
+    is_first: bool,
+    words: &str,
+    report: &mut Report,
+) -> anyhow::Result<()> {
+    report.count_conversion();
+    let (call, told) = halves(words)?;
+    let mut words = call.split_whitespace();
+    let kind = kind_of(words.next().unwrap_or(""))?;
+    let c = scalar(words.next().unwrap_or(""))?;
+    let from = pointer(words.next().unwrap_or(""))?;
+    let to = pointer(words.next().unwrap_or(""))?;
+    ensure!(words.next().is_none(), "a word behind the pointers");
+    let expected = if told == "none" {
+        None
+    } else {
+        Some(pointer(told)?)
+    };
+    let found = pointer_in(tables, kind, is_first, c, from, to);
+    if found != Some(expected) {
+        let what = format!(in rt.alloc(); "{found:?}")?;
+        report.differs(rt, what.as_str())?;
+    }
+    Ok(())
+}
+
+// Words as `big5 no`: whether an index is there.
+pub(crate) fn check_presence(
+    rt: &(impl Print + AllocGlobal),
+    tables: &Tables,
+    words: &str,
+    report: &mut Report,
+) -> anyhow::Result<()> {
+    report.count_conversion();
+    let (name, told) = first_word(words);
+    ensure!(told == "yes" || told == "no", "neither `yes` nor `no`");
+    if tables.has(kind_of(name)?) != (told == "yes") {
+        report.differs(rt, "whether the index is there is told wrong")?;
+    }
+    Ok(())
+}
+
+// Words as `big5 index-big5.txt 19782 list`: the file of an index, how many entries it has, and
+// whether it is a `list`, one of a `single`-byte encoding, or the `ranges`.
+pub(crate) fn check_kind(
+    rt: &(impl Print + AllocGlobal),
+    words: &str,
+    report: &mut Report,
+) -> anyhow::Result<()> {
+    report.count_conversion();
+    let mut words = words.split_whitespace();
+    let kind = kind_of(words.next().unwrap_or(""))?;
+    let file = words.next().unwrap_or("");
+    let size = pointer(words.next().unwrap_or(""))?;
+    let form = words.next().unwrap_or("");
+    if kind.file_name() != file {
+        let what = format!(in rt.alloc(); "its file is {}", kind.file_name())?;
+        report.differs(rt, what.as_str())?;
+    }
+    if !kind.is_ranges() && kind.size() as u32 != size {
+        let what = format!(in rt.alloc(); "it has {} entries", kind.size())?;
+        report.differs(rt, what.as_str())?;
+    }
+    if kind.is_single_byte() != (form == "single") || kind.is_ranges() != (form == "ranges") {
+        report.differs(rt, "it is of another form")?;
+    }
+    Ok(())
+}
+
+// How many rows are below a key, and how many were compared; nothing where the rows do not rise.
+fn below(rows: &[(u32, u32)], key: (u32, u32)) -> Option<(usize, u32)> {
+    let rising = rows.windows(2).all(|pair| {
+        pair[0].0 < pair[1].0 || pair[0].0 == pair[1].0 && pair[0].1 < pair[1].1
+    });
+    if !rising {
+        return None;
+    }
+    Some(search(rows, key))
+}
+
+// Words as `3 8 among 1=5 3=0 -> 2, 2`: of these rows so many are below a key, and at most so
+// many are compared. Numbers behind a `=` and in a key behind the first are hexadecimal.
+pub(crate) fn check_search(
+    rt: &(impl Print + AllocGlobal),
+    words: &str,
+    report: &mut Report,
+) -> anyhow::Result<()> {
+    report.count_conversion();
+    let (call, told) = halves(words)?;
+    let (key, rows) = call.split_once(" among").context("no rows are there")?;
+    let (first, second) = key.split_once(' ').context("a key has one number")?;
+    let key = (pointer(first)?, case_lines::words::hexadecimal(second)?);
+    let (rank, most) = told.split_once(", ").context("a number is missing")?;
+    let rows = rows_of(rt.alloc(), rows)?;
+    let below = below(rows.as_slice(), key);
+    let (found, compared) = below.context("the rows do not rise")?;
+    if found as u64 != u64::from(pointer(rank)?) || compared > pointer(most)? {
+        let what = format!(in rt.alloc(); "{found}, and {compared} are compared")?;
+        report.differs(rt, what.as_str())?;
+    }
+    Ok(())
+}

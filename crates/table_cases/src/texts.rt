@@ -1,0 +1,103 @@
+//! Index texts that are read.
+
+use crate::faults::{fault_of, first_word, halves};
+use anyhow::bail;
+use case_lines::indexes::rows_of;
+use case_lines::kinds::kind_of;
+use case_lines::report::Report;
+use case_lines::words::unescaped;
+use encoding_index::{IndexFault, LoadFault, read_index, read_ranges};
+use encoding_tables::IndexKind;
+use std::alloc::Global;
+
+// A text by words as `text 0\t0x0080`, or `text-of 0-127=80`: a line for each of these rows.
+pub(crate) fn text_of(alloc: Global, words: &str) -> anyhow::Result<Vec<u8>> {
+    let (form, rest) = first_word(words);
+    match form {
+        "text" => unescaped(alloc, rest),
+        "text-of" => {
+            let mut text = String::new(alloc);
+            for (pointer, entry) in rows_of(alloc, rest)?.iter() {
+                writeln!(text, "{pointer}\t0x{entry:04X}")?;
+            }
+            Ok(Vec::from_slice(alloc, text.as_bytes())?)
+        }
+        _ => bail!("a text is not given"),
+    }
+}
+
+// What is read of an index text.
+#[derive(Drop)]
+enum Told {
+    Rows(Vec<(u32, u32)>),
+    OtherLength(usize),
+    Fault(IndexFault),
+}
+
+// The rows of a list: those of its entries that are not 0.
+fn rows_of_list(alloc: Global, list: &[u32]) -> anyhow::Result<Vec<(u32, u32)>> {
+    let mut rows = Vec::new(alloc);
+    for (pointer, entry) in list.iter().enumerate() {
+        if *entry != 0 {
+            rows.push((u32::try_from(pointer).unwrap_or(u32::MAX), *entry))?;
+        }
+    }
+    Ok(rows)
+}
+
+fn told_of(alloc: Global, kind: IndexKind, text: &[u8]) -> anyhow::Result<Told> {
+    if kind.is_ranges() {
+        return Ok(match read_ranges(alloc, text) {
+            Ok(rows) => Told::Rows(rows),
+            Err(fault) => Told::Fault(fault),
+        });
+    }
+    match read_index(alloc, kind, text) {
+        Ok(list) if list.len() != kind.size() => Ok(Told::OtherLength(list.len())),
+        Ok(list) => Ok(Told::Rows(rows_of_list(alloc, list.as_slice())?)),
+        Err(fault) => Ok(Told::Fault(fault)),
+    }
+}
+
+// Words as `koi8-r text 0\t0x00C0 -> ok 0=C0`: the fault, or the rows that are read.
+pub(crate) fn check_reading(
+    rt: &(impl Print + AllocGlobal),
+    words: &str,
+    report: &mut Report,
+) -> anyhow::Result<()> {
+    report.count_conversion();
+    let alloc = rt.alloc();
+    let (call, told) = halves(words)?;
+    let (name, source) = first_word(call);
+    let kind = kind_of(name)?;
+    let text = text_of(alloc, source)?;
+    match told_of(alloc, kind, text.as_slice())? {
+        Told::OtherLength(len) => {
+            let what = format!(in alloc; "a list of {len} entries")?;
+            report.differs(rt, what.as_str())
+        }
+        Told::Fault(fault) => {
+            let fault = Some(LoadFault::Text(fault));
+            let expected = if told.starts_with("ok") {
+                None
+            } else {
+                fault_of(told)?
+            };
+            if fault == expected {
+                return Ok(());
+            }
+            let what = format!(in alloc; "{fault:?} and not {expected:?}")?;
+            report.differs(rt, what.as_str())
+        }
+        Told::Rows(rows) => {
+            let (word, expected) = first_word(told);
+            if word != "ok" {
+                return report.differs(rt, "the text is read");
+            }
+            if rows.as_slice() != rows_of(alloc, expected)?.as_slice() {
+                report.differs(rt, "other rows are read")?;
+            }
+            Ok(())
+        }
+    }
+}
