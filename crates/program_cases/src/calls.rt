@@ -5,7 +5,7 @@ use crate::files::{File, Files};
 use anyhow::{Context, bail, ensure};
 use case_lines::report::Report;
 use case_lines::words::{decimal, unescaped};
-use recode::program::program;
+use recode::program;
 use recode_log::counted::Counted;
 use std::alloc::Global;
 
