@@ -25,7 +25,7 @@ fn is_bidi_bytes(byte: u8, next: u8, after: u8) -> bool
     (bytes >= 0xD6_9000) & (bytes <= 0xE0_A3FF)
         | (bytes == 0xE2_808F)
         | (bytes == 0xE2_80AB)
-        | (bytes == 0xE2_80AF)
+        | (bytes == 0xE2_80AE)
         | (bytes == 0xE2_81A7)
         | (bytes >= 0xEF_AC9D) & (bytes <= 0xEF_B7BF)
         | (bytes >= 0xEF_B9B0) & (bytes <= 0xEF_BBBE)
