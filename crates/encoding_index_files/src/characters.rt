@@ -74,6 +74,11 @@ fn is_sample(encoding: Encoding, number: u32) -> bool {
     is_whole || number % 64 == 0
 }
 
+// Whether a character is written in this encoding.
+fn is_written(extent: Extent, encoding: Encoding, number: u32) -> bool {
+    extent == Extent::All || is_sample(encoding, number)
+}
+
 // Prints how many characters an encoding has no bytes for, how many it writes as others, and the digests of
 // what is written and of what is read again.
 pub(crate) fn print_characters(
@@ -92,7 +97,7 @@ pub(crate) fn print_characters(
     };
     let mut encoder = encoding.new_encoder(tables);
     for number in 0..0x110000 {
-        if (extent == Extent::All || is_sample(encoding, number))
+        if is_written(extent, encoding, number)
             && let Some(c) = char::from_u32(number)
         {
             told.character(tables, encoding.output_encoding(), &mut encoder, c);
