@@ -33,8 +33,8 @@ PROGRAMS = {
     name: os.path.join(TOP, "crates", name, "out", name) for name in ("recode_cli", "encoding_cases", "recode_cases")
 }
 
-# The rounds of the gate.
-GATE_ROUNDS = range(12)
+# The rounds of the gate, which has the runs of the program alone.
+GATE_ROUNDS = range(20)
 
 # What a round has: runs of the program, streams, texts and conversions.
 RUNS, STREAMS, TEXTS, CONVERSIONS = 100, 24, 24, 12
@@ -404,11 +404,15 @@ def library_faults(random, inputs, fronts):
     yield from line_faults("recode_cases", lines, fronts[1])
 
 
+def not_built(names):
+    return ["%s was not built" % os.path.relpath(PROGRAMS[name], TOP) for name in names if not os.path.isfile(PROGRAMS[name])]
+
+
 def round_faults(seeds):
     """What differs in the rounds of these seeds."""
-    missing = [path for path in PROGRAMS.values() if not os.path.isfile(path)]
+    missing = not_built(PROGRAMS)
     if missing:
-        yield from ("%s was not built" % os.path.relpath(path, TOP) for path in missing)
+        yield from missing
         return
     inputs = Inputs(standard.encodings(INDEXES))
     fronts = [*index_lines("ranges")], [*index_lines("index gb18030-ranges")]
@@ -420,8 +424,12 @@ def round_faults(seeds):
 
 def faults():
     """What differs in the rounds of the gate."""
-    wrong = list(round_faults(GATE_ROUNDS))
-    print("%d rounds of %d random runs and %d lines" % (len(GATE_ROUNDS), RUNS, STREAMS + TEXTS + CONVERSIONS))
+    missing = not_built(["recode_cli"])
+    if missing:
+        return missing
+    inputs = Inputs(standard.encodings(INDEXES))
+    wrong = [f"seed {seed}: {fault}" for seed in GATE_ROUNDS for fault in program_faults(random.Random(seed), inputs)]
+    print("%d rounds of %d random runs" % (len(GATE_ROUNDS), RUNS))
     return wrong
 
 

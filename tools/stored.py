@@ -56,8 +56,9 @@ def index_file_faults():
 def sample_faults():
     wrong = []
     with tempfile.TemporaryDirectory() as folder:
+        os.mkdir(os.path.join(folder, "data"))
         subprocess.run([sys.executable, os.path.join(TOP, "tools/sample.py"), folder], check=True)
-        for name in ("stdin", "stdout"):
+        for name in ("stdin", "stdout", "data/index-jis0208.txt"):
             with open(os.path.join(folder, name), "rb") as file:
                 wanted = file.read()
             with open(os.path.join(TOP, "crates/recode_sample", name), "rb") as file:
