@@ -1,5 +1,6 @@
 use Rattle.std.proofs.Common.{◌≡◌, ◌<◌, ◌∙◌, sym}
 use Rattle.encoding_labels.specs.Labels.{label_text, number_of_label, IsLabelText}
+use Rattle.encoding_labels.specs.declared.places.TheConstants.{ENCODING_COUNT}
 use Rattle.encoding_labels.proofs.LabelLemmas.{number_of_label-search, label_number_in-labels, number_of_label-below, number_of_label-text, if_some}
 use Rattle.encoding_labels.proofs.label.label_number.Goals as goal
 
@@ -11,6 +12,6 @@ returns c =
     record {
       labels = λ number. (λ h. (label_number_in-labels (label_text c.args.label.now) number).0 (sym value ∙ h), λ h. value ∙ (label_number_in-labels (label_text c.args.label.now) number).1 h);
       value = value;
-      below = if_some c.find.result (λ number. number < 40) (λ number h. number_of_label-below (label_text c.args.label.now) number (sym value ∙ h));
+      below = if_some c.find.result (λ number. number < ENCODING_COUNT) (λ number h. number_of_label-below (label_text c.args.label.now) number (sym value ∙ h));
       text = if_some c.find.result (λ _. IsLabelText (label_text c.args.label.now)) (λ number h. number_of_label-text (label_text c.args.label.now) number (sym value ∙ h));
     }
