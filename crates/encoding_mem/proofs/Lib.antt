@@ -13,6 +13,7 @@ pub mod Latin1BytesLemmas
 pub mod BidiLemmas
 pub mod BidiBytesLemmas
 pub mod LongestPrefixLemmas
+pub mod UnitCopyLemmas
 pub mod UnitPrefixLemmas
 pub mod UnitWritingLemmas
 pub mod ReplacementLemmas

@@ -1,6 +1,6 @@
 //! Copies of the ASCII at the start.
 
-ghost use Rattle.std.specs.Prelude.{◌≡◌, ◌≤◌, IsTrue, length, take, drop};
+ghost use Rattle.std.specs.Prelude.{◌≡◌, ℕ, ◌<◌, ◌≤◌, IsTrue, length, take, drop, slice_index};
 ghost use Rattle.std.specs.Str.{IsAscii};
 ghost use Rattle.encoding_mem.specs.LongestPrefix.{IsLongestPrefix};
 
@@ -48,7 +48,10 @@ pub fn copy_basic_latin_to_ascii(src: &[u16], dst: &mut [u8]) -> usize
     ensures behind { drop result dst.new ≡ drop result dst.old }
 {
     let mut at = 0;
-    'blocks: while src.len() - at >= UNIT_BLOCK && narrow_block(&src[at..], &mut dst[at..]) {
+    'wide: while src.len() - at >= UNIT_BLOCK {
+        if !narrow_block(&src[at..], &mut dst[at..]) {
+            break;
+        }
         at += UNIT_BLOCK;
     }
     'units: while at < src.len() && src[at] < 0x80 {
@@ -64,7 +67,7 @@ pub fn copy_basic_latin_to_ascii(src: &[u16], dst: &mut [u8]) -> usize
 pub(crate) fn narrow_block(units: &[u16], dst: &mut [u8]) -> bool
     requires units { 32 ≤ length units.now }
     requires room { 32 ≤ length dst.old }
-    ensures ascii { IsTrue result → IsAscii (take 32 units.now) }
+    ensures low { IsTrue result → (k : ℕ) → k < 32 → slice_index units.now k < 0x80 }
     ensures copied { IsTrue result → take 32 dst.new ≡ take 32 units.now }
     ensures behind { drop 32 dst.new ≡ drop 32 dst.old }
     ensures kept { ¬ (IsTrue result) → dst.new ≡ dst.old }
