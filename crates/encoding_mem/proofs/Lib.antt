@@ -16,5 +16,6 @@ pub mod LongestPrefixLemmas
 pub mod UnitCopyLemmas
 pub mod UnitPrefixLemmas
 pub mod UnitWritingLemmas
+pub mod PlainUnitsLemmas
 pub mod ReplacementLemmas
 pub mod ConversionLemmas
