@@ -50,8 +50,8 @@ fn put_short_block(units: &[u16], dst: &mut [u8]) -> usize
     written
 }
 
-/// Puts a character at the start, and returns its length. The sink lives for one step, so that a
-/// loop's offsets stay in registers.
+// Puts a character at the start, and returns its length. The sink lives for one step, so that a
+// loop's offsets stay in registers.
 #[inline(always)]
 pub(crate) fn put_char(c: char, dst: &mut [u8]) -> usize
     requires { len_utf8 c ≤ length dst.old }
@@ -89,9 +89,8 @@ fn put_chars_of_block(units: &[u16], dst: &mut [u8]) -> (usize, usize)
     (read, written)
 }
 
-/// Writes the first units in UTF-8 to the start of `dst`, a block of them or one more, where its end
-/// would be inside a pair. Returns how many units were read and how many bytes were written. The
-/// conditions, that there is a block and room for it, are tested by comparisons of lengths.
+// Writes a block of units in UTF-8 to the start of `dst`, and one more where the block ends inside a
+// pair. Returns how many units were read and how many bytes were written.
 #[inline(always)]
 pub(crate) fn put_block(units: &[u16], dst: &mut [u8]) -> (usize, usize)
     requires units { 32 ≤ length units.now }
