@@ -1,13 +1,17 @@
 -- Blocks of units in UTF-8.
 use Rattle.std.proofs.Common.{◌≡◌, ℕ, ◌+◌, ◌-◌, ◌*◌, ◌/◌, ◌%◌, ◌<◌, ◌≤◌, List, [], ◌∷◌, ◌++◌, length, take, drop, set, get_or, inl, refl, sym, ◌∙◌, ap, arith, length-drop, encode_utf8_all}
 use Rattle.std.proofs.lemmas.Bool.{le-leb, lt-leb}
-use Rattle.std.proofs.lemmas.Str.{encode_ascii}
+use Rattle.std.proofs.lemmas.Str.{encode_ascii, encodes-IsAscii}
 use Rattle.std.proofs.lemmas.List.{get_or-drop, drop-drop}
 use Rattle.std.specs.Char.Utf16.{utf16_lossy_chars}
 use lib.Dec.{leb}
 use mir.Val.{bool_byte}
+use Rattle.encoding_mem.specs.Conversions.{units_in_utf8}
 use Rattle.encoding_mem.specs.Writing.{Adds}
 use Rattle.encoding_mem.specs.laws.Utf8.{encode_two}
+use Rattle.encoding_mem.proofs.AsciiLemmas.{ascii_take}
+use Rattle.encoding_mem.proofs.AsciiRunLemmas.{run_units}
+use Rattle.encoding_mem.proofs.UnitPrefixLemmas.{first_of, reads_text}
 use Rattle.encoding_mem.proofs.Utf16Lemmas.{plain_unit}
 
 -- the lead is written last, over what an ASCII unit has there already
@@ -34,3 +38,16 @@ plain_at us i inside low =
     let here : get_or (drop i us) 0 0 ≡ get_or us i 0 = get_or-drop i us 0 0 ∙ ap (λ k. get_or us k 0) (omega arith) in
     plain_unit (drop i us) (omega (arith, length-drop i us)) (inl (omega (arith, here)))
     ∙ ap (λ u. u ∷ utf16_lossy_chars (drop 1 (drop i us))) here ∙ ap (λ l. get_or us i 0 ∷ utf16_lossy_chars l) (drop-drop 1 i us)
+
+-- ASCII is its UTF-8
+pub ascii_in_utf8 : (us : List ℕ) (n : ℕ) → n ≤ length us → ((k : ℕ) → k < n → get_or us k 0 < 0x80) → take n us ≡ units_in_utf8 (take n us)
+ascii_in_utf8 us n within low =
+    let ascii = ascii_take us n within low in
+    sym (encodes-IsAscii (take n us) ascii) ∙ ap encode_utf8_all (reads_text us (take n us) n (run_units n us within ascii))
+
+-- units have a character
+pub has_character : (us : List ℕ) → 0 < length us → utf16_lossy_chars us ≡ [] → ⊥
+has_character us some none =
+    let first = first_of us some in
+    let same : first.0 ∷ first.1 ≡ [] = sym first.2 ∙ none in
+    cc

@@ -3,7 +3,7 @@ use Rattle.std.specs.Char.Utf16.{utf16_lossy_chars}
 use Rattle.std.proofs.lemmas.List.{take_rest}
 use Rattle.std.proofs.lemmas.Str.{len_utf8_bounds}
 use Rattle.encoding_mem.proofs.LongestPrefixLemmas.{adds_prefix, adds_behind}
-use Rattle.encoding_mem.proofs.UnitPrefixLemmas.{first_of}
+use Rattle.encoding_mem.proofs.PlainUnitsLemmas.{has_character}
 use Rattle.encoding_mem.proofs.UnitWritingLemmas.{none_written, more_written, past_part, rest_length, few_bytes, written_boundary, written_units}
 use Rattle.encoding_mem.proofs.plain_units.put_chars_of_block.Goals as goal
 
@@ -35,9 +35,8 @@ characters-preserved c =
 pub unreachable-requires : goal.unreachable-requires
 unreachable-requires c =
     let us = c.args.units.now in
-    let some = first_of (take (length us - c.characters.read) (drop c.characters.read us)) (omega (arith, rest_length us c.characters.read, c.characters-test.true, c.requires.units)) in
-    let none = sym some.2 ∙ c.in-None.ensures.value in
-    cc
+    has_character (take (length us - c.characters.read) (drop c.characters.read us))
+    (omega (arith, rest_length us c.characters.read, c.characters-test.true, c.requires.units)) c.in-None.ensures.value
 
 pub returns-clause-boundary : goal.returns-clause-boundary
 returns-clause-boundary c = written_boundary c.args.units.now c.args.dst.now c.characters.read c.characters.dst c.characters.written c.characters.invariant
