@@ -1,5 +1,5 @@
 -- Blocks of units in UTF-8.
-use Rattle.std.proofs.Common.{◌≡◌, ℕ, ◌+◌, ◌-◌, ◌*◌, ◌/◌, ◌%◌, ◌<◌, ◌≤◌, List, [], ◌∷◌, ◌++◌, length, take, drop, set, get_or, inl, refl, sym, ◌∙◌, ap, arith, length-drop, encode_utf8_all}
+use Rattle.std.proofs.Common.{◌≡◌, ℕ, ◌+◌, ◌/◌, ◌%◌, ◌<◌, ◌≤◌, List, [], ◌∷◌, ◌++◌, length, take, drop, set, get_or, inl, refl, sym, ◌∙◌, ap, arith, length-drop, encode_utf8_all}
 use Rattle.std.proofs.lemmas.Bool.{le-leb, lt-leb}
 use Rattle.std.proofs.lemmas.Str.{encode_ascii, encodes-IsAscii}
 use Rattle.std.proofs.lemmas.List.{get_or-drop, drop-drop}

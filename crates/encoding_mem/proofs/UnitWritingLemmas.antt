@@ -2,15 +2,14 @@
 use Rattle.std.proofs.Common.{◌≡◌, ℕ, ◌+◌, ◌-◌, ◌*◌, ◌<◌, ◌≤◌, List, [], ◌∷◌, ◌++◌, length, take, drop, get_or, refl, sym, ◌∙◌, ap, subst, arith, append_assoc, encode_utf8_all}
 use Rattle.std.specs.Char.{len_utf8}
 use Rattle.std.specs.Char.Utf16.{utf16_lossy_chars}
-use Rattle.std.proofs.lemmas.List.{length-drop, length-take-le, take_rest, drop-drop, drop_all}
+use Rattle.std.proofs.lemmas.List.{length-drop, length-take-le, take_rest, drop-drop}
 use Rattle.std.proofs.lemmas.Str.{encodes-append}
 use borrow.Rule.Slice.PartMut.{put_mid}
 use Rattle.encoding_mem.specs.Conversions.{IsLongest, IsUnitBoundary, units_in_utf8}
 use Rattle.encoding_mem.specs.Utf8Coding.{NextIsTooLong, ReadsLongest}
 use Rattle.encoding_mem.proofs.DestinationLemmas.{take_into, drop_into, take_low}
 use Rattle.encoding_mem.proofs.LongestPrefixLemmas.{length_put, behind_more}
-use Rattle.encoding_mem.proofs.UnitPrefixLemmas.{written_text, written_longest, units_size, reads_boundary, reads_text}
-use Rattle.encoding_mem.proofs.Utf16Lemmas.{no_units}
+use Rattle.encoding_mem.proofs.UnitPrefixLemmas.{written_longest, units_size, reads_boundary, reads_text}
 
 -- of the units so many are read, and the destination has their text
 pub record IsWritten (us old : List ℕ) (read : ℕ) (new : List ℕ) (written : ℕ) : Type 0 where

@@ -4,9 +4,8 @@ ghost use Rattle.std.specs.Prelude.{◌≡◌, ℕ, ◌<◌, ◌≤◌, IsTrue, 
 ghost use Rattle.std.specs.Str.{IsAscii};
 ghost use Rattle.encoding_mem.specs.LongestPrefix.{IsLongestPrefix};
 
-use std::simd::prelude::*;
-
 use crate::first::{UNIT_BLOCK, all_units_below, first_byte_from};
+use std::simd::prelude::*;
 
 /// Copies the longest prefix of `src` that is ASCII to the start of `dst`, and returns its length
 /// in bytes; nothing behind it changes. `dst` is at least as long as `src`, which a comparison of

@@ -1,18 +1,17 @@
 //! Blocks of UTF-16 in UTF-8, where there is room for whatever they are.
 
-ghost use Rattle.std.specs.Prelude.{◌≡◌, ℕ, ◌*◌, ◌<◌, ◌≤◌, [], ◌∷◌, length, take, drop, slice_index};
+ghost use Rattle.std.specs.Prelude.{◌≡◌, ℕ, ◌<◌, ◌≤◌, [], ◌∷◌, length, take, drop, slice_index};
 ghost use Rattle.std.specs.Char.{len_utf8};
 ghost use Rattle.std.specs.Str.{encode_utf8_all};
 ghost use Rattle.encoding_mem.specs.Conversions.{IsUnitBoundary, units_in_utf8};
 ghost use Rattle.encoding_mem.specs.Writing.{Adds};
-
-use std::simd::prelude::*;
 
 use crate::ascii_copies::narrow_block;
 use crate::first::{UNIT_BLOCK, all_units_below};
 use crate::sink::Sink;
 use crate::source::first_of_units;
 use crate::utf8_sink::Utf8Sink;
+use std::simd::prelude::*;
 
 // Puts a unit below 800 hex at the start, and returns its length: no branch asks which it is.
 #[inline(always)]

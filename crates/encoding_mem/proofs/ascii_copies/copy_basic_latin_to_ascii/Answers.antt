@@ -1,4 +1,4 @@
-use Rattle.std.proofs.Common.{refl, arith}
+use Rattle.std.proofs.Common.{arith}
 use Rattle.encoding_mem.proofs.UnitCopyLemmas.{copied_more}
 use Rattle.encoding_mem.proofs.ascii_copies.copy_basic_latin_to_ascii.Goals as goal
 

@@ -1,6 +1,4 @@
-use Rattle.std.proofs.Common.{◌≡◌, ◌≤◌, ◌*◌, ◌-◌, ◌∷◌, [], length, take, drop, sym, ap, ◌∙◌, arith, length-drop}
-use Rattle.std.specs.Char.Utf16.{utf16_lossy_chars}
-use Rattle.std.proofs.lemmas.List.{take_rest}
+use Rattle.std.proofs.Common.{◌≤◌, ◌*◌, ◌-◌, ◌∷◌, [], length, take, drop, arith}
 use Rattle.std.proofs.lemmas.Str.{len_utf8_bounds}
 use Rattle.encoding_mem.proofs.LongestPrefixLemmas.{adds_prefix, adds_behind}
 use Rattle.encoding_mem.proofs.PlainUnitsLemmas.{has_character}

@@ -1,4 +1,4 @@
-use Rattle.std.proofs.Common.{◌≤◌, ◌-◌}
+use Rattle.std.proofs.Common.{◌-◌}
 use Rattle.encoding_mem.proofs.UnitWritingLemmas.{IsWritten}
 use Rattle.encoding_mem.proofs.plain_units.put_chars_of_block.Given as goal
 

@@ -1,4 +1,4 @@
-use Rattle.std.proofs.Common.{◌∙◌, ◌∷◌, ◌+◌, ◌≡◌, ◌≤◌, [], length, take, get_or, ap, arith}
+use Rattle.std.proofs.Common.{◌∙◌, ◌∷◌, ◌≡◌, [], take, get_or, ap, arith}
 use Rattle.encoding_mem.specs.Conversions.{units_in_utf8}
 use Rattle.encoding_mem.proofs.LongestPrefixLemmas.{adds_prefix, adds_behind}
 use Rattle.encoding_mem.proofs.PlainUnitsLemmas.{plain_at}
@@ -23,10 +23,10 @@ units-preserved c =
       within = omega (arith, c.units-test.true);
       few = omega (arith, i.few, p.few);
       so_far =
-        more_written us c.args.dst.now c.units.read c.units.dst c.units.written ys (get_or us c.units.read 0 ∷ []) 1 n i.so_far
-        (omega (arith, c.units-test.true, c.requires.units)) c.put_short-written.auto.dst (omega (arith, p.adds.within, c.put_short-written.auto.dst))
-        (plain_at us c.units.read (omega (arith, c.units-test.true, c.requires.units)) (omega (arith, c.requires.short c.units.read c.units-test.true)))
-        (adds_prefix _ _ ys n p.adds) (adds_behind _ _ ys n p.adds);
+          more_written us c.args.dst.now c.units.read c.units.dst c.units.written ys (get_or us c.units.read 0 ∷ []) 1 n i.so_far
+          (omega (arith, c.units-test.true, c.requires.units)) c.put_short-written.auto.dst (omega (arith, p.adds.within, c.put_short-written.auto.dst))
+          (plain_at us c.units.read (omega (arith, c.units-test.true, c.requires.units)) (omega (arith, c.requires.short c.units.read c.units-test.true)))
+          (adds_prefix _ _ ys n p.adds) (adds_behind _ _ ys n p.adds);
     }
 
 pub returns-clause-boundary : goal.returns-clause-boundary

@@ -1,4 +1,4 @@
-use Rattle.std.proofs.Common.{◌∙◌, ◌∷◌, [], ◌-◌, length, take, drop, sym, ap, arith, encode_utf8_all}
+use Rattle.std.proofs.Common.{◌∙◌, ◌∷◌, [], ◌-◌, length, take, drop, sym, ap, arith}
 use Rattle.std.specs.Char.Utf16.{utf16_lossy_chars}
 use Rattle.std.proofs.lemmas.List.{take_rest}
 use Rattle.std.proofs.lemmas.Str.{encodes-IsAscii}
@@ -21,7 +21,6 @@ wide-preserved c =
     more_written us c.args.dst.now c.wide.read c.wide.dst c.wide.written ys (utf16_lossy_chars (take n here)) n c.put_block-units.result.1 i
     (omega (arith, e.within, rest_length us c.wide.read, i.within)) c.put_block-units.auto.dst e.fits
     (past_part us (utf16_lossy_chars (take n here)) c.wide.read n (split_at n here e.boundary)) e.text e.behind
-
 
 pub characters-preserved-then-written-dst : goal.characters-preserved-then-written-dst
 characters-preserved-then-written-dst c =
