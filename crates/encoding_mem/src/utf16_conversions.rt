@@ -1,15 +1,13 @@
 //! Conversions from UTF-16 to UTF-8. A surrogate in no pair gives U+FFFD.
 
-ghost use Rattle.std.specs.Prelude.{◌≡◌, ℕ, ◌*◌, ◌<◌, ◌≤◌, List, [], ◌∷◌, ◌++◌, length, take, drop};
-ghost use Rattle.std.specs.Char.{len_utf8};
+ghost use Rattle.std.specs.Prelude.{◌≡◌, ℕ, ◌*◌, ◌<◌, ◌≤◌, List, ◌∷◌, ◌++◌, length, take, drop};
 ghost use Rattle.std.specs.Char.Utf16.{utf16_lossy_chars};
-ghost use Rattle.std.specs.Str.{IsAscii, encode_utf8_all};
+ghost use Rattle.std.specs.Str.{IsAscii};
 ghost use Rattle.encoding_mem.specs.Conversions.{IsLongest, IsUnitBoundary, units_in_utf8};
-ghost use Rattle.encoding_mem.specs.Writing.{Adds};
 
-use crate::sink::Sink;
+use crate::first::UNIT_BLOCK;
+use crate::plain_units::{put_block, put_char};
 use crate::source::{first_of_units, narrow_ascii};
-use crate::utf8_sink::Utf8Sink;
 
 // Copies the run of ASCII at the start of units, as much of it as fits, and returns its length.
 #[inline(always)]
@@ -26,17 +24,8 @@ fn copy_run(units: &[u16], dst: &mut [u8]) -> usize
     narrow_ascii(units, dst)
 }
 
-// Puts a character at the start, and returns its length. The sink lives for one step, so that the
-// loop's offsets stay in registers.
-#[inline(always)]
-fn put_char(c: char, dst: &mut [u8]) -> usize
-    requires { len_utf8 c ≤ length dst.old }
-    ensures { Adds dst.old 0 (encode_utf8_all (c ∷ [])) dst.new result }
-{
-    let mut sink = Utf8Sink::new(dst);
-    sink.put(c);
-    sink.written()
-}
+// With fewer units left, one at a time is cheaper.
+const MANY: usize = 64;
 
 /// Converts the longest prefix of UTF-16 whose UTF-8 fits into `dst`, and returns how many units
 /// were read and how many bytes were written; nothing behind these changes. No pair is split; a
@@ -51,6 +40,11 @@ pub fn convert_utf16_to_utf8_partial(src: &[u16], dst: &mut [u8]) -> (usize, usi
 {
     let mut read = 0;
     let mut written = 0;
+    'wide: while src.len() - read >= MANY && dst.len() - written >= 4 * UNIT_BLOCK {
+        let (units, bytes) = put_block(&src[read..], &mut dst[written..]);
+        read += units;
+        written += bytes;
+    }
     'characters: while let Some((c, units)) = first_of_units(&src[read..]) {
         // A run of one is cheaper as a character.
         let is_second_ascii = matches!(&src[read..], [_, second, ..] if *second < 0x80);

@@ -1,14 +1,26 @@
-use Rattle.std.proofs.Common.{◌∙◌, ◌∷◌, [], ◌-◌, length, take, drop, sym, ap, arith, encode_utf8_all}
+use Rattle.std.proofs.Common.{◌∙◌, ◌∷◌, [], ◌-◌, length, take, drop, sym, ap, arith}
 use Rattle.std.specs.Char.Utf16.{utf16_lossy_chars}
 use Rattle.std.proofs.lemmas.List.{take_rest}
 use Rattle.std.proofs.lemmas.Str.{encodes-IsAscii}
 use Rattle.encoding_mem.proofs.LongestPrefixLemmas.{adds_prefix, adds_behind}
-use Rattle.encoding_mem.proofs.UnitPrefixLemmas.{written_text}
+use Rattle.encoding_mem.proofs.UnitPrefixLemmas.{split_at, written_text}
 use Rattle.encoding_mem.proofs.UnitWritingLemmas.{none_written, past_part, rest_length, more_written, reads_to_end, reads_to_char, is_longest, few_bytes}
 use Rattle.encoding_mem.proofs.utf16_conversions.convert_utf16_to_utf8_partial.Goals as goal
 
-pub characters-init : goal.characters-init
-characters-init c = none_written c.args.src.now c.args.dst.now
+pub wide-init : goal.wide-init
+wide-init c = none_written c.args.src.now c.args.dst.now
+
+pub wide-preserved : goal.wide-preserved
+wide-preserved c =
+    let i = c.wide.invariant in
+    let us = c.args.src.now in
+    let e = c.put_block-units.ensures in
+    let n = c.put_block-units.result.0 in
+    let here = take (length us - c.wide.read) (drop c.wide.read us) in
+    let ys = c.put_block-units.new.dst in
+    more_written us c.args.dst.now c.wide.read c.wide.dst c.wide.written ys (utf16_lossy_chars (take n here)) n c.put_block-units.result.1 i
+    (omega (arith, e.within, rest_length us c.wide.read, i.within)) c.put_block-units.auto.dst e.fits
+    (past_part us (utf16_lossy_chars (take n here)) c.wide.read n (split_at n here e.boundary)) e.text e.behind
 
 pub characters-preserved-then-written-dst : goal.characters-preserved-then-written-dst
 characters-preserved-then-written-dst c =
@@ -35,21 +47,21 @@ characters-preserved c =
     (omega (arith, e.within, rest_length us c.characters.read, i.within)) c.put_char-written.auto.dst (omega (arith, p.within, c.put_char-written.auto.dst)) (past_part us (char ∷ []) c.characters.read n e.value)
     (adds_prefix _ _ ys k p) (adds_behind _ _ ys k p)
 
-pub returns-then-dst-written-clause-longest : goal.returns-then-dst-written-clause-longest
-returns-then-dst-written-clause-longest c =
+pub returns-then-dst-written-2-clause-longest : goal.returns-then-dst-written-2-clause-longest
+returns-then-dst-written-2-clause-longest c =
     let i = c.characters.invariant in
     let us = c.args.src.now in
     let at = ap utf16_lossy_chars (sym (take_rest us c.characters.read)) ∙ c.in-Some.ensures.value in
     is_longest us c.args.dst.now c.characters.read c.characters.dst c.characters.written i
-    (reads_to_char us c.args.dst.now c.characters.read c.characters.dst c.characters.written c.in-Some.c _ i at (omega (arith, c.if-dst-written.true, c.len_utf8.ensures.value)))
+    (reads_to_char us c.args.dst.now c.characters.read c.characters.dst c.characters.written c.in-Some.c _ i at (omega (arith, c.if-dst-written-2.true, c.len_utf8.ensures.value)))
 
-pub returns-then-dst-written-clause-text : goal.returns-then-dst-written-clause-text
-returns-then-dst-written-clause-text c =
+pub returns-then-dst-written-2-clause-text : goal.returns-then-dst-written-2-clause-text
+returns-then-dst-written-2-clause-text c =
     let i = c.characters.invariant in
     let us = c.args.src.now in
     let at = ap utf16_lossy_chars (sym (take_rest us c.characters.read)) ∙ c.in-Some.ensures.value in
     written_text us _ c.characters.read (length c.characters.dst - c.characters.written)
-    (reads_to_char us c.args.dst.now c.characters.read c.characters.dst c.characters.written c.in-Some.c _ i at (omega (arith, c.if-dst-written.true, c.len_utf8.ensures.value)))
+    (reads_to_char us c.args.dst.now c.characters.read c.characters.dst c.characters.written c.in-Some.c _ i at (omega (arith, c.if-dst-written-2.true, c.len_utf8.ensures.value)))
 
 pub returns-clause-longest : goal.returns-clause-longest
 returns-clause-longest c =
@@ -67,10 +79,10 @@ returns-clause-text c =
     written_text us _ c.characters.read (length c.characters.dst - c.characters.written)
     (reads_to_end us c.args.dst.now c.characters.read c.characters.dst c.characters.written i none)
 
-pub returns-then-dst-written-clause-few : goal.returns-then-dst-written-clause-few
-returns-then-dst-written-clause-few c =
+pub returns-then-dst-written-2-clause-few : goal.returns-then-dst-written-2-clause-few
+returns-then-dst-written-2-clause-few c =
     let i = c.characters.invariant in
-    few_bytes c.args.src.now c.characters.dst c.characters.read c.characters.written (λ k. omega (arith, c.type_inv.src k)) i.within i.room (returns-then-dst-written-clause-text c)
+    few_bytes c.args.src.now c.characters.dst c.characters.read c.characters.written (λ k. omega (arith, c.type_inv.src k)) i.within i.room (returns-then-dst-written-2-clause-text c)
 
 pub returns-clause-few : goal.returns-clause-few
 returns-clause-few c =

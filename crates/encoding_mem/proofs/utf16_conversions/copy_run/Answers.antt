@@ -1,4 +1,4 @@
-use Rattle.std.proofs.Common.{◌∙◌, ◌++◌, take, drop, sym, ap, subst}
+use Rattle.std.proofs.Common.{◌∙◌, ◌++◌, drop, sym, ap, subst}
 use Rattle.std.specs.Char.Utf16.{utf16_lossy_chars}
 use Rattle.std.specs.Str.{IsAscii}
 use Rattle.encoding_mem.proofs.AsciiRunLemmas.{run_units, units_some}

@@ -1,0 +1,53 @@
+-- Blocks of units in UTF-8.
+use Rattle.std.proofs.Common.{◌≡◌, ℕ, ◌+◌, ◌/◌, ◌%◌, ◌<◌, ◌≤◌, List, [], ◌∷◌, ◌++◌, length, take, drop, set, get_or, inl, refl, sym, ◌∙◌, ap, arith, length-drop, encode_utf8_all}
+use Rattle.std.proofs.lemmas.Bool.{le-leb, lt-leb}
+use Rattle.std.proofs.lemmas.Str.{encode_ascii, encodes-IsAscii}
+use Rattle.std.proofs.lemmas.List.{get_or-drop, drop-drop}
+use Rattle.std.specs.Char.Utf16.{utf16_lossy_chars}
+use lib.Dec.{leb}
+use mir.Val.{bool_byte}
+use Rattle.encoding_mem.specs.Conversions.{units_in_utf8}
+use Rattle.encoding_mem.specs.Writing.{Adds}
+use Rattle.encoding_mem.specs.laws.Utf8.{encode_two}
+use Rattle.encoding_mem.proofs.AsciiLemmas.{ascii_take}
+use Rattle.encoding_mem.proofs.AsciiRunLemmas.{run_units}
+use Rattle.encoding_mem.proofs.UnitPrefixLemmas.{first_of, reads_text}
+use Rattle.encoding_mem.proofs.Utf16Lemmas.{plain_unit}
+
+-- the lead is written last, over what an ASCII unit has there already
+put_one : (a b : ℕ) (dst : List ℕ) → 2 ≤ length dst → Adds dst 0 (a ∷ []) (set (set dst 0 b) 0 a) 1
+put_one a b [] room = absurd (omega arith)
+put_one a b (x ∷ dst) room = record { counted = refl; within = omega arith; list = refl }
+
+put_two : (a b : ℕ) (dst : List ℕ) → 2 ≤ length dst → Adds dst 0 (a ∷ b ∷ []) (set (set dst 1 b) 0 a) 2
+put_two a b [] room = absurd (omega arith)
+put_two a b (x ∷ []) room = absurd (omega arith)
+put_two a b (x ∷ y ∷ dst) room = record { counted = refl; within = omega arith; list = refl }
+
+pub short_one : (u lead : ℕ) (dst : List ℕ) → u < 0x80 → lead ≡ u → 2 ≤ length dst
+    → Adds dst 0 (encode_utf8_all (u ∷ [])) (set (set dst (bool_byte (leb 0x80 u)) (128 + u % 64)) 0 lead) (bool_byte (leb 0x80 u) + 1)
+short_one u lead dst low is room = rw (lt-leb 0x80 u low, encode_ascii u low, is) (put_one u (128 + u % 64) dst room)
+
+pub short_two : (u lead : ℕ) (dst : List ℕ) → 0x80 ≤ u → u < 0x800 → lead ≡ 192 + u / 64 → 2 ≤ length dst
+    → Adds dst 0 (encode_utf8_all (u ∷ [])) (set (set dst (bool_byte (leb 0x80 u)) (128 + u % 64)) 0 lead) (bool_byte (leb 0x80 u) + 1)
+short_two u lead dst from below is room = rw (le-leb 0x80 u from, encode_two u from below, is) (put_two (192 + u / 64) (128 + u % 64) dst room)
+
+-- a unit that is no surrogate is its character
+pub plain_at : (us : List ℕ) (i : ℕ) → i < length us → get_or us i 0 < 0xD800 → utf16_lossy_chars (drop i us) ≡ (get_or us i 0 ∷ []) ++ utf16_lossy_chars (drop (i + 1) us)
+plain_at us i inside low =
+    let here : get_or (drop i us) 0 0 ≡ get_or us i 0 = get_or-drop i us 0 0 ∙ ap (λ k. get_or us k 0) (omega arith) in
+    plain_unit (drop i us) (omega (arith, length-drop i us)) (inl (omega (arith, here)))
+    ∙ ap (λ u. u ∷ utf16_lossy_chars (drop 1 (drop i us))) here ∙ ap (λ l. get_or us i 0 ∷ utf16_lossy_chars l) (drop-drop 1 i us)
+
+-- ASCII is its UTF-8
+pub ascii_in_utf8 : (us : List ℕ) (n : ℕ) → n ≤ length us → ((k : ℕ) → k < n → get_or us k 0 < 0x80) → take n us ≡ units_in_utf8 (take n us)
+ascii_in_utf8 us n within low =
+    let ascii = ascii_take us n within low in
+    sym (encodes-IsAscii (take n us) ascii) ∙ ap encode_utf8_all (reads_text us (take n us) n (run_units n us within ascii))
+
+-- units have a character
+pub has_character : (us : List ℕ) → 0 < length us → utf16_lossy_chars us ≡ [] → ⊥
+has_character us some none =
+    let first = first_of us some in
+    let same : first.0 ∷ first.1 ≡ [] = sym first.2 ∙ none in
+    cc

@@ -1,0 +1,111 @@
+//! Blocks of UTF-16 in UTF-8, where there is room for whatever they are.
+
+ghost use Rattle.std.specs.Prelude.{◌≡◌, ℕ, ◌<◌, ◌≤◌, [], ◌∷◌, length, take, drop, slice_index};
+ghost use Rattle.std.specs.Char.{len_utf8};
+ghost use Rattle.std.specs.Str.{encode_utf8_all};
+ghost use Rattle.encoding_mem.specs.Conversions.{IsUnitBoundary, units_in_utf8};
+ghost use Rattle.encoding_mem.specs.Writing.{Adds};
+
+use crate::ascii_copies::narrow_block;
+use crate::first::{UNIT_BLOCK, all_units_below};
+use crate::sink::Sink;
+use crate::source::first_of_units;
+use crate::utf8_sink::Utf8Sink;
+use std::simd::prelude::*;
+
+// Puts a unit below 800 hex at the start, and returns its length: no branch asks which it is.
+#[inline(always)]
+fn put_short(unit: u16, dst: &mut [u8]) -> usize
+    requires short { unit < 0x800 }
+    requires room { 2 ≤ length dst.old }
+    ensures adds { Adds dst.old 0 (encode_utf8_all (unit ∷ [])) dst.new result }
+    ensures few { result ≤ 2 }
+{
+    let is_two = unit >= 0x80;
+    let lead = if is_two { 0xC0 + unit / 64 } else { unit };
+    // Where it is ASCII, the lead is written over this.
+    dst[is_two as usize] = (0x80 + unit % 64) as u8;
+    dst[0] = lead as u8;
+    is_two as usize + 1
+}
+
+// Puts a block of units below 800 hex at the start, and returns how many bytes that are.
+#[inline(always)]
+fn put_short_block(units: &[u16], dst: &mut [u8]) -> usize
+    requires units { 32 ≤ length units.now }
+    requires room { 64 ≤ length dst.old }
+    requires short { (k : ℕ) → k < 32 → slice_index units.now k < 0x800 }
+    ensures boundary { IsUnitBoundary units.now 32 }
+    ensures fits { result ≤ length dst.new }
+    ensures text { take result dst.new ≡ units_in_utf8 (take 32 units.now) }
+    ensures behind { drop result dst.new ≡ drop result dst.old }
+{
+    let mut read = 0;
+    let mut written = 0;
+    'units: while read < UNIT_BLOCK {
+        written += put_short(units[read], &mut dst[written..]);
+        read += 1;
+    }
+    written
+}
+
+// Puts a character at the start, and returns its length. The sink lives for one step, so that a
+// loop's offsets stay in registers.
+#[inline(always)]
+pub(crate) fn put_char(c: char, dst: &mut [u8]) -> usize
+    requires { len_utf8 c ≤ length dst.old }
+    ensures { Adds dst.old 0 (encode_utf8_all (c ∷ [])) dst.new result }
+{
+    let mut sink = Utf8Sink::new(dst);
+    sink.put(c);
+    sink.written()
+}
+
+// Puts the characters of a block at the start, the last one whole, and returns how many units were
+// read and how many bytes were written.
+#[inline(always)]
+fn put_chars_of_block(units: &[u16], dst: &mut [u8]) -> (usize, usize)
+    requires units { 32 ≤ length units.now }
+    requires room { 128 ≤ length dst.old }
+    ensures some { 0 < result.0 }
+    ensures within { result.0 ≤ length units.now }
+    ensures boundary { IsUnitBoundary units.now result.0 }
+    ensures fits { result.1 ≤ length dst.new }
+    ensures text { take result.1 dst.new ≡ units_in_utf8 (take result.0 units.now) }
+    ensures behind { drop result.1 dst.new ≡ drop result.1 dst.old }
+{
+    let mut read = 0;
+    let mut written = 0;
+    'characters: while read < UNIT_BLOCK {
+        match first_of_units(&units[read..]) {
+            Some((c, count)) => {
+                written += put_char(c, &mut dst[written..]);
+                read += count;
+            }
+            None => unreachable!(),
+        }
+    }
+    (read, written)
+}
+
+// Writes a block of units in UTF-8 to the start of `dst`, and one more where the block ends inside a
+// pair. Returns how many units were read and how many bytes were written.
+#[inline(always)]
+pub(crate) fn put_block(units: &[u16], dst: &mut [u8]) -> (usize, usize)
+    requires units { 32 ≤ length units.now }
+    requires room { 128 ≤ length dst.old }
+    ensures some { 0 < result.0 }
+    ensures within { result.0 ≤ length units.now }
+    ensures boundary { IsUnitBoundary units.now result.0 }
+    ensures fits { result.1 ≤ length dst.new }
+    ensures text { take result.1 dst.new ≡ units_in_utf8 (take result.0 units.now) }
+    ensures behind { drop result.1 dst.new ≡ drop result.1 dst.old }
+{
+    if narrow_block(units, dst) {
+        return (UNIT_BLOCK, UNIT_BLOCK);
+    }
+    if all_units_below(u16x32::from_slice(units), 0x800) {
+        return (UNIT_BLOCK, put_short_block(units, dst));
+    }
+    put_chars_of_block(units, dst)
+}
