@@ -35,7 +35,7 @@ doc:
 usage:
 	@python3 tools/usage.py
 
-# The edits that the gate leaves out, each of which the prover must refuse: for a release, some 25 seconds of processor time each.
+# The edits that the gate leaves out, each of which the prover must refuse: for a release, since it takes hours.
 edits:
 	@python3 tools/edits.py
 
@@ -43,7 +43,7 @@ edits:
 example:
 	@python3 tools/example.py
 
-# The merge gate on a clean clone of HEAD, and what it said as docs/STATUS.md: an hour or more.
+# The merge gate on a clean clone of HEAD, and what it said, and took, as docs/STATUS.md.
 status:
 	@python3 tools/status.py
 
