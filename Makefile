@@ -31,7 +31,7 @@ doc:
 	@python3 tools/reference.py
 	@python3 tools/edits_table.py
 
-# The tables of README.md and of the man page, from the text of the help.
+# The parts of README.md and of the man page that say what the help says, from its text.
 usage:
 	@python3 tools/usage.py
 
