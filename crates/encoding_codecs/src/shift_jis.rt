@@ -74,8 +74,8 @@ impl<'a> ShiftJis<'a> {
     }
 }
 
-// Whether a byte from 80 hex on is a lead: 81 to 9F, or E0 to FC. Which of the two ranges it is in is
-// not tested: of 80 to 9F and E0 to FF, and of no others, the sum with 20 leaves less than 40 over 80.
+// Whether a byte from 80 hex on is a lead: 81 to 9F, or E0 to FC. Which of the two it is in is not
+// tested: 20 more than 80 to 9F and E0 to FF is less than 40 above a multiple of 80.
 #[inline(always)]
 fn is_lead(byte: u8) -> bool
     requires { 0x80 ≤ byte }

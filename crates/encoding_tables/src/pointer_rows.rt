@@ -1,7 +1,7 @@
 //! Rows of an index in the order of their pointers.
 
-ghost use Rattle.std.specs.Prelude.{◌≡◌, ◌<◌, ◌^◌, List, ℕ, Some, None, IsTrue, length, if◌then◌else◌};
-ghost use Rattle.std.specs.Prelude.{IfOk, IfSome, ◌==◌};
+ghost use Rattle.std.specs.Prelude.{◌≡◌, ◌<◌, ◌^◌, ◌==◌, List, ℕ, Some, None, IsTrue, length};
+ghost use Rattle.std.specs.Prelude.{IfOk, IfSome, if◌then◌else◌};
 ghost use Rattle.encoding_tables.specs.PackedLists.{kept_rows, CanFind, IsSecond};
 ghost use Rattle.encoding_tables.specs.SortedRows.{AreNumbered, AreRising};
 
