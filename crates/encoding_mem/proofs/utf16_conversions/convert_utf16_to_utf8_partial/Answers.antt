@@ -22,17 +22,6 @@ wide-preserved c =
     (omega (arith, e.within, rest_length us c.wide.read, i.within)) c.put_block-units.auto.dst e.fits
     (past_part us (utf16_lossy_chars (take n here)) c.wide.read n (split_at n here e.boundary)) e.text e.behind
 
-pub characters-preserved-then-written-dst : goal.characters-preserved-then-written-dst
-characters-preserved-then-written-dst c =
-    let i = c.characters.invariant in
-    let us = c.args.src.now in
-    let e = c.copy_run-run.ensures in
-    let n = c.copy_run-run.result in
-    let ys = c.copy_run-run.new.dst in
-    more_written us c.args.dst.now c.characters.read c.characters.dst c.characters.written ys (take n ys) n n i
-    (omega (arith, e.within, rest_length us c.characters.read, i.within)) c.copy_run-run.auto.dst e.fits (past_part us (take n ys) c.characters.read n e.text)
-    (sym (encodes-IsAscii (take n ys) e.ascii)) e.behind
-
 pub characters-preserved : goal.characters-preserved
 characters-preserved c =
     let i = c.characters.invariant in
