@@ -1,13 +1,15 @@
 -- Blocks of units in UTF-8.
-use Rattle.std.proofs.Common.{◌≡◌, ℕ, ◌+◌, ◌/◌, ◌%◌, ◌<◌, ◌≤◌, List, [], ◌∷◌, ◌++◌, length, take, drop, set, get_or, inl, refl, sym, ◌∙◌, ap, arith, length-drop, encode_utf8_all}
-use Rattle.std.proofs.lemmas.Bool.{le-leb, lt-leb}
+use Rattle.std.proofs.Common.{◌≡◌, ℕ, ◌+◌, ◌*◌, ◌-◌, ◌/◌, ◌%◌, ◌<◌, ◌≤◌, List, [], ◌∷◌, ◌++◌, length, take, drop, set, get_or, inl, inr, refl, sym, ◌∙◌, ap, arith, length-drop, encode_utf8_all}
+use Rattle.std.proofs.lemmas.Bool.{cases_lt, le-leb, lt-leb}
 use Rattle.std.proofs.lemmas.Str.{encode_ascii, encodes-IsAscii}
 use Rattle.std.proofs.lemmas.List.{get_or-drop, drop-drop}
+use Rattle.std.proofs.lemmas.Bool.Decides.{nat_tests}
+use Rattle.std.specs.Char.{len_utf8}
 use Rattle.std.specs.Char.Utf16.{utf16_lossy_chars}
 use lib.Dec.{leb}
 use mir.Val.{bool_byte}
 use Rattle.encoding_mem.specs.Conversions.{units_in_utf8}
-use Rattle.encoding_mem.specs.Writing.{Adds}
+use Rattle.encoding_mem.specs.Writing.{Adds, len_utf16}
 use Rattle.encoding_mem.specs.laws.Utf8.{encode_two}
 use Rattle.encoding_mem.proofs.AsciiLemmas.{ascii_take}
 use Rattle.encoding_mem.proofs.AsciiRunLemmas.{run_units}
@@ -51,3 +53,15 @@ has_character us some none =
     let first = first_of us some in
     let same : first.0 ∷ first.1 ≡ [] = sym first.2 ∙ none in
     cc
+
+-- a character of one unit has three bytes at most, and one of two units has four
+pub bytes_of_units : (c n : ℕ) → n ≡ len_utf16 c → (len_utf8 c ≤ n + 2) × (n ≤ 2)
+bytes_of_units c n size = grind (arith, nat_tests)
+
+-- so there is room for a character of n units and so many bytes, where three bytes a unit are left, and one more where it may end behind them
+pub room_for_char : (len end room read written n bytes : ℕ) → read < end → read + n ≤ len → bytes ≤ n + 2 → n ≤ 2 → written ≤ 3 * read
+    → 3 * end ≤ room → (end < len → 3 * end < room) → bytes ≤ room - written
+room_for_char len end room read written n bytes before inside size few_units few three over = elim (cases_lt end len) [
+  | inl more ↦ let one_more = over more in omega arith
+  | inr whole ↦ omega arith
+]

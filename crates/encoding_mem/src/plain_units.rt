@@ -1,15 +1,16 @@
 //! Blocks of UTF-16 in UTF-8, where there is room for whatever they are.
 
-ghost use Rattle.std.specs.Prelude.{◌≡◌, ℕ, ◌<◌, ◌≤◌, [], ◌∷◌, length, take, drop, slice_index};
+ghost use Rattle.std.specs.Prelude.{◌≡◌, ℕ, ◌*◌, ◌<◌, ◌≤◌, List, [], ◌∷◌, ◌++◌, length, take, drop, slice_index};
 ghost use Rattle.std.specs.Char.{len_utf8};
-ghost use Rattle.std.specs.Str.{encode_utf8_all};
+ghost use Rattle.std.specs.Char.Utf16.{utf16_lossy_chars};
+ghost use Rattle.std.specs.Str.{IsAscii, encode_utf8_all};
 ghost use Rattle.encoding_mem.specs.Conversions.{IsUnitBoundary, units_in_utf8};
 ghost use Rattle.encoding_mem.specs.Writing.{Adds};
 
 use crate::ascii_copies::narrow_block;
 use crate::first::{UNIT_BLOCK, all_units_below};
 use crate::sink::Sink;
-use crate::source::first_of_units;
+use crate::source::{first_of_units, narrow_ascii};
 use crate::utf8_sink::Utf8Sink;
 use std::simd::prelude::*;
 
@@ -61,13 +62,28 @@ pub(crate) fn put_char(c: char, dst: &mut [u8]) -> usize
     sink.written()
 }
 
-// Puts the characters of a block at the start, the last one whole, and returns how many units were
-// read and how many bytes were written.
+// Copies the run of ASCII at the start of units, as much of it as fits, and returns its length.
 #[inline(always)]
-fn put_chars_of_block(units: &[u16], dst: &mut [u8]) -> (usize, usize)
-    requires units { 32 ≤ length units.now }
-    requires room { 128 ≤ length dst.old }
-    ensures some { 0 < result.0 }
+fn copy_run(units: &[u16], dst: &mut [u8]) -> usize
+    ensures within { result ≤ length units.now }
+    ensures fits { result ≤ length dst.new }
+    ensures behind { drop result dst.new ≡ drop result dst.old }
+    ensures ascii { IsAscii (take result dst.new) }
+    ensures text { utf16_lossy_chars units.now
+        ≡ take result dst.new ++ utf16_lossy_chars (drop result units.now) }
+    ensures some { (c : ℕ) (rest : List ℕ) → utf16_lossy_chars units.now ≡ c ∷ rest → c < 0x80
+        → 0 < length dst.old → 0 < result }
+{
+    narrow_ascii(units, dst)
+}
+
+// Puts characters at the start until so many units are read, or one more where the last of them is
+// the first of a pair. Returns how many units were read and how many bytes were written.
+pub(crate) fn put_chars(units: &[u16], end: usize, dst: &mut [u8]) -> (usize, usize)
+    requires units { end ≤ length units.now }
+    requires room { 3 * end ≤ length dst.old }
+    requires more_room { end < length units.now → 3 * end < length dst.old }
+    ensures reaches { end ≤ result.0 }
     ensures within { result.0 ≤ length units.now }
     ensures boundary { IsUnitBoundary units.now result.0 }
     ensures fits { result.1 ≤ length dst.new }
@@ -76,13 +92,18 @@ fn put_chars_of_block(units: &[u16], dst: &mut [u8]) -> (usize, usize)
 {
     let mut read = 0;
     let mut written = 0;
-    'characters: while read < UNIT_BLOCK {
-        match first_of_units(&units[read..]) {
-            Some((c, count)) => {
-                written += put_char(c, &mut dst[written..]);
-                read += count;
-            }
+    'characters: while read < end {
+        let (c, count) = match first_of_units(&units[read..]) {
+            Some(first) => first,
             None => unreachable!(),
+        };
+        if u32::from(c) < 0x80 {
+            let run = copy_run(&units[read..], &mut dst[written..]);
+            read += run;
+            written += run;
+        } else {
+            written += put_char(c, &mut dst[written..]);
+            read += count;
         }
     }
     (read, written)
@@ -107,5 +128,5 @@ pub(crate) fn put_block(units: &[u16], dst: &mut [u8]) -> (usize, usize)
     if all_units_below(u16x32::from_slice(units), 0x800) {
         return (UNIT_BLOCK, put_short_block(units, dst));
     }
-    put_chars_of_block(units, dst)
+    put_chars(units, UNIT_BLOCK, dst)
 }

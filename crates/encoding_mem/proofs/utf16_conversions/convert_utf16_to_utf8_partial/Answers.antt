@@ -3,35 +3,29 @@ use Rattle.std.specs.Char.Utf16.{utf16_lossy_chars}
 use Rattle.std.proofs.lemmas.List.{take_rest}
 use Rattle.std.proofs.lemmas.Str.{encodes-IsAscii}
 use Rattle.encoding_mem.proofs.LongestPrefixLemmas.{adds_prefix, adds_behind}
-use Rattle.encoding_mem.proofs.UnitPrefixLemmas.{split_at, written_text}
-use Rattle.encoding_mem.proofs.UnitWritingLemmas.{none_written, past_part, rest_length, more_written, reads_to_end, reads_to_char, is_longest, few_bytes}
+use Rattle.encoding_mem.proofs.UnitPrefixLemmas.{written_text}
+use Rattle.encoding_mem.proofs.UnitWritingLemmas.{none_written, past_part, rest_length, more_written, units_written, reads_to_end, reads_to_char, is_longest, few_bytes}
 use Rattle.encoding_mem.proofs.utf16_conversions.convert_utf16_to_utf8_partial.Goals as goal
+use Rattle.encoding_mem.proofs.utf16_conversions.convert_utf16_to_utf8_partial.Goals.{then-src-read, else-src-read}
 
 pub wide-init : goal.wide-init
 wide-init c = none_written c.args.src.now c.args.dst.now
 
 pub wide-preserved : goal.wide-preserved
 wide-preserved c =
-    let i = c.wide.invariant in
-    let us = c.args.src.now in
-    let e = c.put_block-units.ensures in
-    let n = c.put_block-units.result.0 in
-    let here = take (length us - c.wide.read) (drop c.wide.read us) in
-    let ys = c.put_block-units.new.dst in
-    more_written us c.args.dst.now c.wide.read c.wide.dst c.wide.written ys (utf16_lossy_chars (take n here)) n c.put_block-units.result.1 i
-    (omega (arith, e.within, rest_length us c.wide.read, i.within)) c.put_block-units.auto.dst e.fits
-    (past_part us (utf16_lossy_chars (take n here)) c.wide.read n (split_at n here e.boundary)) e.text e.behind
+    let p = c.put_block-units in
+    units_written c.args.src.now c.args.dst.now c.wide.read c.wide.dst c.wide.written p.new.dst p.result.0 p.result.1 c.wide.invariant
+    p.ensures.within p.ensures.boundary p.auto.dst p.ensures.fits p.ensures.text p.ensures.behind
 
-pub characters-preserved-then-written-dst : goal.characters-preserved-then-written-dst
-characters-preserved-then-written-dst c =
-    let i = c.characters.invariant in
-    let us = c.args.src.now in
-    let e = c.copy_run-run.ensures in
-    let n = c.copy_run-run.result in
-    let ys = c.copy_run-run.new.dst in
-    more_written us c.args.dst.now c.characters.read c.characters.dst c.characters.written ys (take n ys) n n i
-    (omega (arith, e.within, rest_length us c.characters.read, i.within)) c.copy_run-run.auto.dst e.fits (past_part us (take n ys) c.characters.read n e.text)
-    (sym (encodes-IsAscii (take n ys) e.ascii)) e.behind
+pub characters-init : goal.characters-init
+characters-init c = elim c.if-src-read.branch [
+  | then-src-read w ↦
+      let p = w.put_chars-units in
+      rw (w.read-is, w.dst-is, w.written-is)
+      (units_written c.args.src.now c.args.dst.now c.wide.read c.wide.dst c.wide.written p.new.dst p.result.0 p.result.1 c.wide.invariant
+      p.ensures.within p.ensures.boundary p.auto.dst p.ensures.fits p.ensures.text p.ensures.behind)
+  | else-src-read w ↦ rw (w.read-is, w.dst-is, w.written-is) c.wide.invariant
+]
 
 pub characters-preserved : goal.characters-preserved
 characters-preserved c =
@@ -63,16 +57,16 @@ returns-then-dst-written-2-clause-text c =
     written_text us _ c.characters.read (length c.characters.dst - c.characters.written)
     (reads_to_char us c.args.dst.now c.characters.read c.characters.dst c.characters.written c.in-Some.c _ i at (omega (arith, c.if-dst-written-2.true, c.len_utf8.ensures.value)))
 
-pub returns-clause-longest : goal.returns-clause-longest
-returns-clause-longest c =
+pub returns-in_default-clause-longest : goal.returns-in_default-clause-longest
+returns-in_default-clause-longest c =
     let i = c.characters.invariant in
     let us = c.args.src.now in
     let none = ap utf16_lossy_chars (sym (take_rest us c.characters.read)) ∙ c.in_default.ensures.value in
     is_longest us c.args.dst.now c.characters.read c.characters.dst c.characters.written i
     (reads_to_end us c.args.dst.now c.characters.read c.characters.dst c.characters.written i none)
 
-pub returns-clause-text : goal.returns-clause-text
-returns-clause-text c =
+pub returns-in_default-clause-text : goal.returns-in_default-clause-text
+returns-in_default-clause-text c =
     let i = c.characters.invariant in
     let us = c.args.src.now in
     let none = ap utf16_lossy_chars (sym (take_rest us c.characters.read)) ∙ c.in_default.ensures.value in
@@ -84,7 +78,7 @@ returns-then-dst-written-2-clause-few c =
     let i = c.characters.invariant in
     few_bytes c.args.src.now c.characters.dst c.characters.read c.characters.written (λ k. omega (arith, c.type_inv.src k)) i.within i.room (returns-then-dst-written-2-clause-text c)
 
-pub returns-clause-few : goal.returns-clause-few
-returns-clause-few c =
+pub returns-in_default-clause-few : goal.returns-in_default-clause-few
+returns-in_default-clause-few c =
     let i = c.characters.invariant in
-    few_bytes c.args.src.now c.characters.dst c.characters.read c.characters.written (λ k. omega (arith, c.type_inv.src k)) i.within i.room (returns-clause-text c)
+    few_bytes c.args.src.now c.characters.dst c.characters.read c.characters.written (λ k. omega (arith, c.type_inv.src k)) i.within i.room (returns-in_default-clause-text c)

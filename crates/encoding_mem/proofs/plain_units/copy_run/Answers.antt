@@ -2,7 +2,7 @@ use Rattle.std.proofs.Common.{◌∙◌, ◌++◌, drop, sym, ap, subst}
 use Rattle.std.specs.Char.Utf16.{utf16_lossy_chars}
 use Rattle.std.specs.Str.{IsAscii}
 use Rattle.encoding_mem.proofs.AsciiRunLemmas.{run_units, units_some}
-use Rattle.encoding_mem.proofs.utf16_conversions.copy_run.Goals as goal
+use Rattle.encoding_mem.proofs.plain_units.copy_run.Goals as goal
 
 pub returns-clause-ascii : goal.returns-clause-ascii
 returns-clause-ascii c = let run = c.narrow_ascii.ensures in subst IsAscii (sym run.copied) run.ascii
