@@ -31,12 +31,12 @@ pub fn convert_utf16_to_utf8_partial(src: &[u16], dst: &mut [u8]) -> (usize, usi
         read += units;
         written += bytes;
     }
-    'characters: while let Some((c, units)) = first_of_units(&src[read..]) {
+    'characters: while let Some((c, count)) = first_of_units(&src[read..]) {
         if dst.len() - written < c.len_utf8() {
             break;
         }
         written += put_char(c, &mut dst[written..]);
-        read += units;
+        read += count;
     }
     (read, written)
 }
