@@ -13,6 +13,7 @@ use Rattle.encoding_mem.specs.Writing.{Adds, len_utf16}
 use Rattle.encoding_mem.specs.laws.Utf8.{encode_two}
 use Rattle.encoding_mem.proofs.AsciiLemmas.{ascii_take}
 use Rattle.encoding_mem.proofs.AsciiRunLemmas.{run_units}
+use Rattle.encoding_mem.proofs.UnitCopyLemmas.{IsCopiedTo}
 use Rattle.encoding_mem.proofs.UnitPrefixLemmas.{first_of, reads_text}
 use Rattle.encoding_mem.proofs.Utf16Lemmas.{plain_unit}
 
@@ -65,3 +66,8 @@ room_for_char len end room read written n bytes before inside size few_units few
   | inl more ↦ let one_more = over more in omega arith
   | inr whole ↦ omega arith
 ]
+
+-- ASCII that is copied is the text of its units
+pub text_of_run : (us old : List ℕ) (n : ℕ) (dst : List ℕ) → IsCopiedTo us old n dst → utf16_lossy_chars us ≡ take n dst ++ utf16_lossy_chars (drop n us)
+text_of_run us old n dst done =
+    run_units n us done.within (ascii_take us n done.within done.low) ∙ ap (λ l. l ++ utf16_lossy_chars (drop n us)) (sym done.copied)

@@ -40,7 +40,6 @@ pub fn copy_ascii_to_basic_latin(src: &[u8], dst: &mut [u16]) -> usize
 /// Copies the longest prefix of `src` whose units of UTF-16 are below 80 hex to the start of `dst`,
 /// each as a byte, and returns its length; nothing behind it changes. `dst` has at least as many
 /// bytes as `src` has units, which a comparison of lengths tests.
-#[inline(always)]
 pub fn copy_basic_latin_to_ascii(src: &[u16], dst: &mut [u8]) -> usize
     requires { length src.now ≤ length dst.old }
     ensures prefix { IsLongestPrefix IsAscii src.now result }

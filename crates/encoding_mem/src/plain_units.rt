@@ -10,9 +10,12 @@ ghost use Rattle.encoding_mem.specs.Writing.{Adds};
 use crate::ascii_copies::narrow_block;
 use crate::first::{UNIT_BLOCK, all_units_below};
 use crate::sink::Sink;
-use crate::source::{first_of_units, narrow_ascii};
+use crate::source::first_of_units;
 use crate::utf8_sink::Utf8Sink;
 use std::simd::prelude::*;
+
+// With fewer units left, branches are cheaper.
+const MANY: usize = 64;
 
 // Puts a unit below 800 hex at the start, and returns its length: no branch asks which it is.
 #[inline(always)]
@@ -62,7 +65,8 @@ pub(crate) fn put_char(c: char, dst: &mut [u8]) -> usize
     sink.written()
 }
 
-// Copies the run of ASCII at the start of units, as much of it as fits, and returns its length.
+// Copies the run of ASCII at the start of units, as much of it as fits, and returns its length. It
+// is mostly short, so each unit is tested by itself.
 #[inline(always)]
 fn copy_run(units: &[u16], dst: &mut [u8]) -> usize
     ensures within { result ≤ length units.now }
@@ -74,7 +78,13 @@ fn copy_run(units: &[u16], dst: &mut [u8]) -> usize
     ensures some { (c : ℕ) (rest : List ℕ) → utf16_lossy_chars units.now ≡ c ∷ rest → c < 0x80
         → 0 < length dst.old → 0 < result }
 {
-    narrow_ascii(units, dst)
+    let end = units.len().min(dst.len());
+    let mut run = 0;
+    'units: while run < end && units[run] < 0x80 {
+        dst[run] = units[run] as u8;
+        run += 1;
+    }
+    run
 }
 
 // Puts characters at the start until so many units are read, or one more where the last of them is
@@ -125,7 +135,7 @@ pub(crate) fn put_block(units: &[u16], dst: &mut [u8]) -> (usize, usize)
     if narrow_block(units, dst) {
         return (UNIT_BLOCK, UNIT_BLOCK);
     }
-    if all_units_below(u16x32::from_slice(units), 0x800) {
+    if units.len() >= MANY && all_units_below(u16x32::from_slice(units), 0x800) {
         return (UNIT_BLOCK, put_short_block(units, dst));
     }
     put_chars(units, UNIT_BLOCK, dst)

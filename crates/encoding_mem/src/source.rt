@@ -243,7 +243,6 @@ pub(crate) fn first_of_units(units: &[u16]) -> Option<(char, usize)>
 }
 
 // Copies the run of ASCII at the start of units, as much of it as fits, and returns its length.
-#[inline(always)]
 pub(crate) fn narrow_ascii(units: &[u16], dst: &mut [u8]) -> usize
     ensures within { result ≤ length units.now }
     ensures size { length dst.new ≡ length dst.old }

@@ -7,9 +7,6 @@ use crate::first::UNIT_BLOCK;
 use crate::plain_units::{put_block, put_char, put_chars};
 use crate::source::first_of_units;
 
-// With fewer units left, one at a time is cheaper.
-const MANY: usize = 64;
-
 /// Converts the longest prefix of UTF-16 whose UTF-8 fits into `dst`, and returns how many units
 /// were read and how many bytes were written; nothing behind these changes. No pair is split; a
 /// surrogate in no pair of `src` becomes U+FFFD. The caller goes on with the unread units.
@@ -23,7 +20,7 @@ pub fn convert_utf16_to_utf8_partial(src: &[u16], dst: &mut [u8]) -> (usize, usi
 {
     let mut read = 0;
     let mut written = 0;
-    'wide: while src.len() - read >= MANY && dst.len() - written >= 4 * UNIT_BLOCK {
+    'wide: while src.len() - read >= UNIT_BLOCK && dst.len() - written >= 4 * UNIT_BLOCK {
         let (units, bytes) = put_block(&src[read..], &mut dst[written..]);
         read += units;
         written += bytes;
@@ -34,12 +31,12 @@ pub fn convert_utf16_to_utf8_partial(src: &[u16], dst: &mut [u8]) -> (usize, usi
         read += units;
         written += bytes;
     }
-    'characters: while let Some((c, units)) = first_of_units(&src[read..]) {
+    'characters: while let Some((c, count)) = first_of_units(&src[read..]) {
         if dst.len() - written < c.len_utf8() {
             break;
         }
         written += put_char(c, &mut dst[written..]);
-        read += units;
+        read += count;
     }
     (read, written)
 }

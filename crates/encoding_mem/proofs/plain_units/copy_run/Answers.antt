@@ -1,17 +1,18 @@
-use Rattle.std.proofs.Common.{◌∙◌, ◌++◌, drop, sym, ap, subst}
-use Rattle.std.specs.Char.Utf16.{utf16_lossy_chars}
-use Rattle.std.specs.Str.{IsAscii}
-use Rattle.encoding_mem.proofs.AsciiRunLemmas.{run_units, units_some}
+use Rattle.std.proofs.Common.{length, arith}
+use Rattle.encoding_mem.proofs.AsciiRunLemmas.{units_some}
+use Rattle.encoding_mem.proofs.PlainUnitsLemmas.{text_of_run}
 use Rattle.encoding_mem.proofs.plain_units.copy_run.Goals as goal
 
-pub returns-clause-ascii : goal.returns-clause-ascii
-returns-clause-ascii c = let run = c.narrow_ascii.ensures in subst IsAscii (sym run.copied) run.ascii
+pub returns-else-units-run-lt128-clause-text : goal.returns-else-units-run-lt128-clause-text
+returns-else-units-run-lt128-clause-text c = text_of_run c.args.units.now c.args.dst.now c.units.run c.units.dst c.units.invariant
 
-pub returns-clause-text : goal.returns-clause-text
-returns-clause-text c =
-    let run = c.narrow_ascii.ensures in
-    let n = c.narrow_ascii.result in
-    run_units n c.args.units.now run.within run.ascii ∙ ap (λ l. l ++ utf16_lossy_chars (drop n c.args.units.now)) (sym run.copied)
+pub returns-after-units-clause-text : goal.returns-after-units-clause-text
+returns-after-units-clause-text c = text_of_run c.args.units.now c.args.dst.now c.units.run c.units.dst c.units.invariant
 
-pub returns-clause-some : goal.returns-clause-some
-returns-clause-some c = λ first rest at low some. units_some _ _ _ first rest c.narrow_ascii.ensures.longest at low some
+pub returns-else-units-run-lt128-clause-some : goal.returns-else-units-run-lt128-clause-some
+returns-else-units-run-lt128-clause-some c = λ first rest at low some.
+    units_some c.args.units.now c.units.run (length c.args.dst.now) first rest (λ more fits. c.if-units-run-lt128.false) at low some
+
+pub returns-after-units-clause-some : goal.returns-after-units-clause-some
+returns-after-units-clause-some c = λ first rest at low some.
+    units_some c.args.units.now c.units.run (length c.args.dst.now) first rest (λ more fits. absurd (omega (arith, c.units-test.false, c.min-end.ensures))) at low some

@@ -12,9 +12,10 @@ pub returns-then-code-lt65536-clause-writes : goal.returns-then-code-lt65536-cla
 returns-then-code-lt65536-clause-writes c =
     let a = c.put_byte-then-code-lt65536.ensures in
     let b = c.put_byte-then-code-lt65536-2.ensures in
-    let d = c.put_byte-then-code-lt65536-3.ensures in
-    (d.same_reference ∙ b.same_reference ∙ a.same_reference,
-     rw (encode_three c.args.c c.if-code-lt2048.false c.if-code-lt65536.true) (adds_more _ _ _ _ _ _ _ _ (adds_more _ _ _ _ _ _ _ _ a.adds b.adds) d.adds))
+    let d = c.put_byte-then-code-lt65536-3.ensures in (
+      d.same_reference ∙ b.same_reference ∙ a.same_reference,
+      rw (encode_three c.args.c c.if-code-lt2048.false c.if-code-lt65536.true) (adds_more _ _ _ _ _ _ _ _ (adds_more _ _ _ _ _ _ _ _ a.adds b.adds) d.adds),
+    )
 
 pub returns-else-code-lt65536-clause-writes : goal.returns-else-code-lt65536-clause-writes
 returns-else-code-lt65536-clause-writes c =
