@@ -90,6 +90,7 @@ fn copy_run(units: &[u16], dst: &mut [u8]) -> usize
 
 // Puts characters at the start until so many units are read, or one more where the last of them is
 // the first of a pair. Returns how many units were read and how many bytes were written.
+#[inline(always)]
 pub(crate) fn put_chars(units: &[u16], end: usize, dst: &mut [u8]) -> (usize, usize)
     requires units { end ≤ length units.now }
     requires room { 3 * end ≤ length dst.old }
