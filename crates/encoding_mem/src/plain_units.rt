@@ -1,6 +1,7 @@
 //! Blocks of UTF-16 in UTF-8, where there is room for whatever they are.
 
-ghost use Rattle.std.specs.Prelude.{◌≡◌, ℕ, ◌*◌, ◌<◌, ◌≤◌, List, [], ◌∷◌, ◌++◌, length, take, drop, slice_index};
+ghost use Rattle.std.specs.Prelude.{◌≡◌, ℕ, ◌*◌, ◌<◌, ◌≤◌, List, [], ◌∷◌, ◌++◌};
+ghost use Rattle.std.specs.Prelude.{length, take, drop, slice_index};
 ghost use Rattle.std.specs.Char.{len_utf8};
 ghost use Rattle.std.specs.Char.Utf16.{utf16_lossy_chars};
 ghost use Rattle.std.specs.Str.{IsAscii, encode_utf8_all};
@@ -89,6 +90,7 @@ fn copy_run(units: &[u16], dst: &mut [u8]) -> usize
 
 // Puts characters at the start until so many units are read, or one more where the last of them is
 // the first of a pair. Returns how many units were read and how many bytes were written.
+#[inline(always)]
 pub(crate) fn put_chars(units: &[u16], end: usize, dst: &mut [u8]) -> (usize, usize)
     requires units { end ≤ length units.now }
     requires room { 3 * end ≤ length dst.old }
@@ -119,8 +121,8 @@ pub(crate) fn put_chars(units: &[u16], end: usize, dst: &mut [u8]) -> (usize, us
     (read, written)
 }
 
-// Writes a block of units in UTF-8 to the start of `dst`, and one more where the block ends inside a
-// pair. Returns how many units were read and how many bytes were written.
+// Writes a block of units in UTF-8 to the start of `dst`, and one more where the block ends inside
+// a pair. Returns how many units were read and how many bytes were written.
 #[inline(always)]
 pub(crate) fn put_block(units: &[u16], dst: &mut [u8]) -> (usize, usize)
     requires units { 32 ≤ length units.now }

@@ -13,7 +13,10 @@ fn a_copy_ends_at_the_first_unit_that_is_not_ascii(rt: HostRuntime) {
                 units[offset] = 0x80;
             }
             let mut bytes = [1; 69];
-            assert_eq!(rt; copy_basic_latin_to_ascii(&units[..length], &mut bytes), offset);
+            assert_eq!(rt;
+                copy_basic_latin_to_ascii(&units[..length], &mut bytes),
+                offset
+            );
             for (i, byte) in bytes.iter().enumerate() {
                 assert_eq!(rt; *byte, if i < offset { 0x7F } else { 1 });
             }
