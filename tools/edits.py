@@ -226,7 +226,7 @@ def proving(crate):
     def place(name):
         return os.path.join(CRATES, name, "out", "rlib") if name in stands_on else os.path.join(kit, "rlibs")
 
-    words = ["rattle", "check", "--crate-name", crate, "src/lib.rt", "--jobs", "1", "--incremental", "out"]
+    words = [f"{kit}/bin/rattle", "check", "--crate-name", crate, "src/lib.rt", "--jobs", "1", "--incremental", "out"]
     for name in ["std", *stands_on[crate]]:
         words += ["--extern", f"{name}={place(name)}/{name}.rlib"]
     for folder in [place("std"), *map(place, sorted(below(crate, stands_on)))]:
