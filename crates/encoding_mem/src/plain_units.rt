@@ -15,7 +15,7 @@ use crate::source::first_of_units;
 use crate::utf8_sink::Utf8Sink;
 use std::simd::prelude::*;
 
-// With fewer units left, branches are cheaper.
+// Where fewer units than this are left, their characters go one by one.
 const MANY: usize = 64;
 
 // Puts a unit below 800 hex at the start, and returns its length: no branch asks which it is.
@@ -34,7 +34,7 @@ fn put_short(unit: u16, dst: &mut [u8]) -> usize
     is_two as usize + 1
 }
 
-// Puts a block of units below 800 hex at the start, and returns how many bytes that are.
+// Puts a block of units below 800 hex at the start, and returns how many bytes it has.
 #[inline(always)]
 fn put_short_block(units: &[u16], dst: &mut [u8]) -> usize
     requires units { 32 ≤ length units.now }

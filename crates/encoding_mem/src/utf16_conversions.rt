@@ -20,12 +20,13 @@ pub fn convert_utf16_to_utf8_partial(src: &[u16], dst: &mut [u8]) -> (usize, usi
 {
     let mut read = 0;
     let mut written = 0;
+    // A block has four bytes of room for each unit, so none of its characters asks for room.
     'wide: while src.len() - read >= UNIT_BLOCK && dst.len() - written >= 4 * UNIT_BLOCK {
         let (units, bytes) = put_block(&src[read..], &mut dst[written..]);
         read += units;
         written += bytes;
     }
-    // Where there is room for whatever is left, no character asks for it.
+    // Nor do the characters behind it, where three bytes a unit are left.
     if src.len() - read <= (dst.len() - written) / 3 {
         let (units, bytes) = put_chars(&src[read..], src.len() - read, &mut dst[written..]);
         read += units;
