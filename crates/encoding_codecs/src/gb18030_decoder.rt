@@ -1,7 +1,7 @@
 //! The decoder of gb18030 (the Encoding Standard, section 10.2.1, "gb18030 decoder"), which is
 //! that of GBK too (section 10.1.1).
 
-ghost use Rattle.std.specs.Prelude.{◌≡◌, ◌||◌, true};
+ghost use Rattle.std.specs.Prelude.{◌≡◌, ◌≤◌, ◌||◌, true};
 ghost use Rattle.std.specs.Int.{IsInRange, is_in_range};
 ghost use Rattle.encoding_mem.specs.Decoding.{IsFreshDecoder};
 ghost use Rattle.encoding_mem.specs.DecodedLength.{decoded_length_multibyte};
@@ -52,10 +52,12 @@ impl<'a> LeadByteRule for Gb18030Rule<'a> {
             [] => cut_short(1, last),
             [second, rest @ ..] => {
                 let second = *second;
-                if second >= 0x40 || !is_digit(second) {
+                if second >= 0x40 {
                     decide_trail(1, self.pair(lead, second), second)
-                } else {
+                } else if is_digit(second) {
                     self.after_two(lead, second, rest, last)
+                } else {
+                    FirstPiece::Malformed(1)
                 }
             }
         }
@@ -66,7 +68,8 @@ impl<'a> Gb18030Rule<'a> {
     // The character of a lead and a trail, from the index.
     #[inline(always)]
     fn pair(&self, lead: u8, trail: u8) -> PairValue
-        requires { IsInRange 0x81 0xFE lead }
+        requires lead { IsInRange 0x81 0xFE lead }
+        requires trail { 0x40 ≤ trail }
         ensures { result ≡ gb18030_pair self.now.index lead trail }
     {
         if !is_trail(trail) {
@@ -133,12 +136,13 @@ fn is_digit(byte: u8) -> bool
     byte >= 0x30 && byte <= 0x39
 }
 
-// The second byte of a form of two.
+// Whether a byte from 40 hex on is the second byte of a form of two: all are, but 7F and FF.
 #[inline(always)]
 fn is_trail(byte: u8) -> bool
+    requires { 0x40 ≤ byte }
     ensures { result ≡ (is_in_range 0x40 0x7E byte || is_in_range 0x80 0xFE byte) }
 {
-    byte >= 0x40 && byte != 0x7F && byte != 0xFF
+    byte % 0x80 != 0x7F
 }
 
 // The pointer of a lead and a trail: a lead has 190, and the trails leave out 7F.
