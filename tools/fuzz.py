@@ -33,8 +33,8 @@ PROGRAMS = {
     name: os.path.join(TOP, "crates", name, "out", name) for name in ("recode_cli", "encoding_cases", "recode_cases")
 }
 
-# The rounds of the gate, which has the runs of the program alone.
-GATE_ROUNDS = range(20)
+# The seeds of the gate: those whose runs of the program it has, and those whose lines of cases.
+RUN_SEEDS, LINE_SEEDS = range(20), range(20)
 
 # What a round has: runs of the program, streams, texts and conversions.
 RUNS, STREAMS, TEXTS, CONVERSIONS = 100, 24, 24, 12
@@ -368,7 +368,7 @@ def index_lines(ranges):
     """The whole indexes. The rows of the ranges have a word of their own, or that of an index."""
     yield "tables"
     for file, name in CASE_INDEXES.items():
-        rows = " ".join(f"{pointer}={point:X}" for pointer, point in standard.index(INDEXES, file))
+        rows = " ".join(f"{pointer}={point:04X}" for pointer, point in standard.index(INDEXES, file))
         yield f"{ranges if name == 'gb18030-ranges' else 'index ' + name} {rows}"
 
 
@@ -408,28 +408,38 @@ def not_built(names):
     return ["%s was not built" % os.path.relpath(PROGRAMS[name], TOP) for name in names if not os.path.isfile(PROGRAMS[name])]
 
 
+def front_lines():
+    """The lines with the whole indexes, for each of the programs of cases."""
+    return [*index_lines("ranges")], [*index_lines("index gb18030-ranges")]
+
+
+def of_seed(seed, wrong):
+    return (f"seed {seed}: {fault}" for fault in wrong)
+
+
 def round_faults(seeds):
-    """What differs in the rounds of these seeds."""
+    """What differs in the rounds of these seeds, whose two halves are each made from the seed alone."""
     missing = not_built(PROGRAMS)
     if missing:
         yield from missing
         return
-    inputs = Inputs(standard.encodings(INDEXES))
-    fronts = [*index_lines("ranges")], [*index_lines("index gb18030-ranges")]
+    inputs, fronts = Inputs(standard.encodings(INDEXES)), front_lines()
     for seed in seeds:
-        source = random.Random(seed)
-        for fault in itertools.chain(program_faults(source, inputs), library_faults(source, inputs, fronts)):
-            yield f"seed {seed}: {fault}"
+        yield from of_seed(seed, program_faults(random.Random(seed), inputs))
+        yield from of_seed(seed, library_faults(random.Random(seed), inputs, fronts))
 
 
 def faults():
     """What differs in the rounds of the gate."""
-    missing = not_built(["recode_cli"])
+    missing = not_built(PROGRAMS)
     if missing:
         return missing
-    inputs = Inputs(standard.encodings(INDEXES))
-    wrong = [f"seed {seed}: {fault}" for seed in GATE_ROUNDS for fault in program_faults(random.Random(seed), inputs)]
-    print("%d rounds of %d random runs" % (len(GATE_ROUNDS), RUNS))
+    inputs, fronts = Inputs(standard.encodings(INDEXES)), front_lines()
+    wrong = [fault for seed in RUN_SEEDS for fault in of_seed(seed, program_faults(random.Random(seed), inputs))]
+    for seed in LINE_SEEDS:
+        wrong += of_seed(seed, library_faults(random.Random(seed), inputs, fronts))
+    lines = len(LINE_SEEDS) * (STREAMS + TEXTS + CONVERSIONS)
+    print("%d random runs, %d random lines of cases" % (len(RUN_SEEDS) * RUNS, lines))
     return wrong
 
 
