@@ -31,11 +31,11 @@ doc:
 	@python3 tools/reference.py
 	@python3 tools/edits_table.py
 
-# The tables of README.md and of the man page, from the text of the help.
+# The parts of README.md and of the man page that say what the help says, from its text.
 usage:
 	@python3 tools/usage.py
 
-# The edits that the gate leaves out, each of which the prover must refuse: for a release, some 25 seconds of processor time each.
+# The edits that the gate leaves out, each of which the prover must refuse: for a release, since it takes hours.
 edits:
 	@python3 tools/edits.py
 
@@ -43,7 +43,7 @@ edits:
 example:
 	@python3 tools/example.py
 
-# The merge gate on a clean clone of HEAD, and what it said as docs/STATUS.md: an hour or more.
+# The merge gate on a clean clone of HEAD, and what it said, and took, as docs/STATUS.md.
 status:
 	@python3 tools/status.py
 

@@ -165,7 +165,7 @@ class Ratio:
 
     def __init__(self, ratios):
         self.median = statistics.median(ratios)
-        self.low, _, self.high = statistics.quantiles(ratios, n=4)
+        self.low, _, self.high = statistics.quantiles(ratios, n=4) if len(ratios) > 1 else 3 * ratios
 
     def __str__(self):
         unsteady = "~" if self.high - self.low > self.median / 10 else ""

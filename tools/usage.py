@@ -1,11 +1,11 @@
 #!/usr/bin/env python3
-"""The tables of README.md and of man/recode.1 that say what `recode --help` says: `make usage`.
+"""The parts of README.md and of man/recode.1 that say what `recode --help` and `--version` say: `make usage`.
 
     python3 tools/usage.py
 
 The text of the help stands in crates/recode_words/src/command.rt, and nowhere else. What is made of it stands between
-two comments in README.md and in the man page, `NAME` and `end of NAME`: the options, the log, the statuses and their
-messages. `make lint` compares them.
+two comments in README.md and in the man page, `NAME` and `end of NAME`: the version, the options, the log, the statuses
+and their messages, the index files. `make lint` compares them.
 """
 
 import os
@@ -21,6 +21,9 @@ MAN = "man/recode.1"
 OPTION = re.compile(r'(required|default)_option\(\s*alloc,((?:\s*"[^"]*",?)+)\s*\)')
 # What is code in a sentence of the help without standing in quotes.
 WORDS = re.compile(r"(?<![\w`-])(&#\w+;|--[a-z]+(?: stop)?|utf-8|shift_jis|windows-1252)(?![\w`])")
+# The words that an option takes, where its help has them behind a colon.
+CHOICES = re.compile(r": ((?:\w+, )*\w+ or \w+)")
+VERSION = re.compile(r'const VERSION: &str = "([^"]*)"')
 FLAG = re.compile(r'Arg::new\(alloc, "list"\).*?\.help\("([^"]*)"\)', re.S)
 
 
@@ -28,6 +31,7 @@ class Usage:
     """What the help says: the options, and the paragraphs and lists behind them."""
 
     def __init__(self, source):
+        self.version = VERSION.search(source).group(1)
         self.options = [self.option(*found) for found in OPTION.findall(source)]
         self.options.append(("--list", "", "", FLAG.search(source).group(1)))
         text = re.search(r'const AFTER_HELP: &str =\s*"((?:[^"\\]|\\.)*)";', source).group(1).replace('\\"', '"')
@@ -106,7 +110,22 @@ def man_item(words, text):
     return [".TP", words, roff(begins.replace('"', "") + ".")]
 
 
+def man_synopsis(usage):
+    yield ".B recode"
+    for name, value, default, text in usage.options:
+        choices = CHOICES.search(text)
+        if not default:
+            yield from ['.BI %s " %s"' % (roff(name), value)] * bool(value)
+        elif choices:
+            yield from (".RB [ " + roff(name), ".BR %s ]" % " | ".join(re.split(", | or ", choices.group(1))))
+        else:
+            yield from (".RB [ " + roff(name), ".IR %s ]" % value)
+    yield from (".br", ".B recode", ".RB { \\-\\-help | \\-\\-version | \\-\\-list }")
+
+
 def man_parts(usage):
+    yield "title", ['.TH RECODE 1 "" "recode %s" "User Commands"' % usage.version]
+    yield "synopsis", [*man_synopsis(usage)]
     lines = []
     for name, value, default, text in usage.options:
         said = text + (", `%s` by default" % default).replace("`", "") * bool(default) + "."
@@ -130,6 +149,8 @@ def man_parts(usage):
     for word, said in usage.list_of("Message"):
         lines += man_item(".B " + word, said)
     yield "messages", lines
+    files = usage.notes["Index files"]
+    yield "files", [roff(files[0].upper() + files[1:])]
 
 
 def put(text, parts, begin, end):

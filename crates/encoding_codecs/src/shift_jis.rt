@@ -1,6 +1,6 @@
 //! Shift_JIS (the Encoding Standard, section 12.3).
 
-ghost use Rattle.std.specs.Prelude.{◌≡◌, ◌+◌, ◌<◌, true, IfSome};
+ghost use Rattle.std.specs.Prelude.{◌≡◌, ◌+◌, ◌<◌, ◌≤◌, true, IfSome};
 ghost use Rattle.encoding_mem.specs.Decoding.{IsFreshDecoder};
 ghost use Rattle.encoding_mem.specs.DecodedLength.{decoded_length_multibyte};
 ghost use Rattle.encoding_mem.specs.EncoderRule.{IsFreshEncoder};
@@ -40,9 +40,11 @@ impl<'a> LeadByteRule for ShiftJis<'a> {
 
     #[inline(always)]
     fn first(&self, byte: u8) -> FirstByte {
+        if is_lead(byte) {
+            return FirstByte::Lead;
+        }
         match byte {
             0x80 => FirstByte::Alone('\u{80}'),
-            0x81..=0x9F | 0xE0..=0xFC => FirstByte::Lead,
             0xA1..=0xDF => FirstByte::Alone(katakana_of_byte(byte)),
             _ => FirstByte::Unused,
         }
@@ -72,6 +74,16 @@ impl<'a> ShiftJis<'a> {
     }
 }
 
+// Whether a byte from 80 hex on is a lead: 81 to 9F, or E0 to FC. Which of the two it is in is not
+// tested: 20 more than 80 to 9F and E0 to FF is less than 40 above a multiple of 80.
+#[inline(always)]
+fn is_lead(byte: u8) -> bool
+    requires { 0x80 ≤ byte }
+    ensures { result ≡ is_shift_jis_lead byte }
+{
+    (byte as u32 + 0x20) % 0x80 < 0x40 && byte != 0x80 && byte <= 0xFC
+}
+
 // Whether a byte may follow a lead. Which of the two ranges a trail is in is not tested, since a
 // processor can't foresee it.
 #[inline(always)]
@@ -81,16 +93,16 @@ fn is_trail(byte: u8) -> bool
     byte >= 0x40 && byte <= 0xFC && byte != 0x7F
 }
 
-// The pointer of a lead and a trail.
+// The pointer of a lead and a trail. The leads of both ranges, 81 to 9F and E0 to FC, are 1 to 60
+// above a multiple of 64, in one row.
 #[inline(always)]
 fn pointer_of_pair(lead: u8, trail: u8) -> u32
     requires lead { is_shift_jis_lead lead ≡ true }
     requires trail { is_trail trail ≡ true }
     ensures { result ≡ shift_jis_pair_pointer lead trail }
 {
-    let lead_offset = if lead < 0xA0 { 0x81 } else { 0xC1 };
     let offset = if trail < 0x7F { 0x40 } else { 0x41 };
-    (lead - lead_offset) as u32 * 188 + (trail - offset) as u32
+    ((lead - 1) % 64) as u32 * 188 + (trail - offset) as u32
 }
 
 // What a pointer gives: those from 8836 to 10715 are for private use.

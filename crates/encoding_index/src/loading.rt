@@ -1,7 +1,7 @@
 //! Loads an index: reads its text, and then puts it into the tables.
 
 ghost use Rattle.std.specs.Prelude.{◌≡◌, ◌⊎◌, ◌≢◌, false, MatchOption, OnOk, OnErr, IfOk, IfErr};
-ghost use Rattle.std.specs.Prelude.{Ok, Err, Some, None};
+ghost use Rattle.std.specs.Prelude.{Ok, Err, Some, None, [], true};
 ghost use Rattle.encoding_tables.specs.Kinds.{is_ranges, index_size};
 ghost use Rattle.encoding_tables.specs.PackedRows.{PointersRise, PointersAreBelow};
 ghost use Rattle.encoding_index.specs.IndexText.{text_rows, out_of_memory};
@@ -20,6 +20,7 @@ fn rows_of(alloc: Global, kind: IndexKind, text: &[u8]) -> Result<Vec<(u32, u32)
         × (rows.items ≡ text_rows text.now)) }
     ensures fault { IfErr result (λ fault. (text_fault kind text.now ≡ Some fault)
         ⊎ (fault ≡ out_of_memory)) }
+    ensures grows { text_rows text.now ≡ [] → result ≢ Err out_of_memory }
 {
     if kind.is_ranges() {
         rows_below(alloc, text, RANGE_POINTERS)
@@ -34,6 +35,7 @@ fn insert(tables: &mut Tables, kind: IndexKind, rows: &[(u32, u32)]) -> Result<(
     requires below { is_ranges kind ≡ false → PointersAreBelow (index_size kind) rows.now }
     ensures fault { MatchOption (rows_fault tables.old kind rows.now)
         ((result ≡ Ok tt) ⊎ (result ≡ Err TableFault.Memory)) (λ f. result ≡ Err f) }
+    ensures grows { is_ranges kind ≡ true → rows.now ≡ [] → result ≢ Err TableFault.Memory }
     ensures taken { OnOk result (HaveRows tables.new kind rows.now) }
     ensures others { KeepsOthers tables.old tables.new kind }
     ensures unchanged { OnErr result (tables.new ≡ tables.old) }
@@ -51,7 +53,7 @@ fn insert(tables: &mut Tables, kind: IndexKind, rows: &[(u32, u32)]) -> Result<(
 /// The text is read whole before the tables are asked, so a faulty text is named also where the
 /// index is there already: the error is `Text`. Where the tables do not take the list or the rows,
 /// it is `Table`. Where memory was refused it is `Text` with line 0 while the text was read, and
-/// else `Table`.
+/// else `Table`. A text without rows is read without memory, and the ranges of no rows take none.
 pub fn load(
     alloc: Global,
     tables: &mut Tables,
@@ -61,6 +63,9 @@ pub fn load(
     ensures fault { MatchOption (load_fault tables.old kind text.now)
         ((result ≡ Ok tt) ⊎ WantsMemory result)
         (λ fault. (result ≡ Err fault) ⊎ (result ≡ Err (LoadFault.Text out_of_memory))) }
+    ensures grows { text_rows text.now ≡ [] → result ≢ Err (LoadFault.Text out_of_memory) }
+    ensures grows_ranges { is_ranges kind ≡ true → text_rows text.now ≡ []
+        → result ≢ Err (LoadFault.Table TableFault.Memory) }
     ensures loaded { OnOk result (Loads tables.new kind text.now) }
     ensures others { KeepsOthers tables.old tables.new kind }
     ensures unchanged { OnErr result (tables.new ≡ tables.old) }
@@ -81,6 +86,9 @@ pub fn load_owned(
     ensures fault { MatchOption (load_fault tables.old kind text.items)
         ((result ≡ Ok tt) ⊎ WantsMemory result)
         (λ fault. (result ≡ Err fault) ⊎ (result ≡ Err (LoadFault.Text out_of_memory))) }
+    ensures grows { text_rows text.items ≡ [] → result ≢ Err (LoadFault.Text out_of_memory) }
+    ensures grows_ranges { is_ranges kind ≡ true → text_rows text.items ≡ []
+        → result ≢ Err (LoadFault.Table TableFault.Memory) }
     ensures loaded { OnOk result (Loads tables.new kind text.items) }
     ensures others { KeepsOthers tables.old tables.new kind }
     ensures unchanged { OnErr result (tables.new ≡ tables.old) }

@@ -13,7 +13,9 @@ pub mod Latin1BytesLemmas
 pub mod BidiLemmas
 pub mod BidiBytesLemmas
 pub mod LongestPrefixLemmas
+pub mod UnitCopyLemmas
 pub mod UnitPrefixLemmas
 pub mod UnitWritingLemmas
+pub mod PlainUnitsLemmas
 pub mod ReplacementLemmas
 pub mod ConversionLemmas

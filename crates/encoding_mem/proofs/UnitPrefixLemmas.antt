@@ -54,7 +54,7 @@ split_at (suc (suc j)) (u ∷ v ∷ us) b = elim (pair_or_not u v) [
 ]
 
 -- units have a character
-first_of : (us : List ℕ) → 0 < length us → (c : ℕ) × (more : List ℕ) × (utf16_lossy_chars us ≡ c ∷ more)
+pub first_of : (us : List ℕ) → 0 < length us → (c : ℕ) × (more : List ℕ) × (utf16_lossy_chars us ≡ c ∷ more)
 first_of [] some = absurd (omega arith)
 first_of (u ∷ []) some = (char_of u, utf16_lossy_chars [], one u [] (λ p. absurd (omega arith)))
 first_of (u ∷ v ∷ us) some = elim (pair_or_not u v) [

@@ -2,15 +2,14 @@
 use Rattle.std.proofs.Common.{◌≡◌, ℕ, ◌+◌, ◌-◌, ◌*◌, ◌<◌, ◌≤◌, List, [], ◌∷◌, ◌++◌, length, take, drop, get_or, refl, sym, ◌∙◌, ap, subst, arith, append_assoc, encode_utf8_all}
 use Rattle.std.specs.Char.{len_utf8}
 use Rattle.std.specs.Char.Utf16.{utf16_lossy_chars}
-use Rattle.std.proofs.lemmas.List.{length-drop, length-take-le, take_rest, drop-drop, drop_all}
+use Rattle.std.proofs.lemmas.List.{length-drop, length-take-le, take_rest, drop-drop}
 use Rattle.std.proofs.lemmas.Str.{encodes-append}
 use borrow.Rule.Slice.PartMut.{put_mid}
 use Rattle.encoding_mem.specs.Conversions.{IsLongest, IsUnitBoundary, units_in_utf8}
 use Rattle.encoding_mem.specs.Utf8Coding.{NextIsTooLong, ReadsLongest}
 use Rattle.encoding_mem.proofs.DestinationLemmas.{take_into, drop_into, take_low}
 use Rattle.encoding_mem.proofs.LongestPrefixLemmas.{length_put, behind_more}
-use Rattle.encoding_mem.proofs.UnitPrefixLemmas.{written_text, written_longest, units_size}
-use Rattle.encoding_mem.proofs.Utf16Lemmas.{no_units}
+use Rattle.encoding_mem.proofs.UnitPrefixLemmas.{written_longest, units_size, reads_boundary, reads_text, split_at}
 
 -- of the units so many are read, and the destination has their text
 pub record IsWritten (us old : List ℕ) (read : ℕ) (new : List ℕ) (written : ℕ) : Type 0 where
@@ -61,6 +60,24 @@ more_written us old read new written ys part n k w within size fits chars wrote 
       split = w.split ∙ ap (λ l. w.text ++ l) chars ∙ sym (append_assoc w.text part _);
       bytes = take_into written _ k new ys w.room fits ∙ ap (λ l. l ++ take k ys) w.bytes ∙ ap (λ l. encode_utf8_all w.text ++ l) wrote ∙ sym (encodes-append w.text part);
     }
+
+-- the text of units up to a boundary is written behind it
+pub units_written : (us old : List ℕ) (read : ℕ) (new : List ℕ) (written : ℕ) (ys : List ℕ) (n k : ℕ) → IsWritten us old read new written
+    → n ≤ length (take (length us - read) (drop read us)) → IsUnitBoundary (take (length us - read) (drop read us)) n
+    → length ys ≡ length (take (length new - written) (drop written new)) → k ≤ length ys
+    → take k ys ≡ units_in_utf8 (take n (take (length us - read) (drop read us))) → drop k ys ≡ drop k (take (length new - written) (drop written new))
+    → IsWritten us old (read + n) (put_mid written (length new - written) new ys) (written + k)
+units_written us old read new written ys n k w inside boundary size fits wrote behind =
+    let here = take (length us - read) (drop read us) in
+    more_written us old read new written ys (utf16_lossy_chars (take n here)) n k w
+    (omega (arith, inside, rest_length us read, w.within)) size fits (past_part us (utf16_lossy_chars (take n here)) read n (split_at n here boundary)) wrote behind
+
+-- what is read ends at a boundary, and what is written is its text
+pub written_boundary : (us old : List ℕ) (read : ℕ) (new : List ℕ) (written : ℕ) → IsWritten us old read new written → IsUnitBoundary us read
+written_boundary us old read new written w = reads_boundary us w.text read w.split
+
+pub written_units : (us old : List ℕ) (read : ℕ) (new : List ℕ) (written : ℕ) → IsWritten us old read new written → take written new ≡ units_in_utf8 (take read us)
+written_units us old read new written w = w.bytes ∙ ap encode_utf8_all (reads_text us w.text read w.split)
 
 -- where it ends
 end_is_short : (us : List ℕ) (free : ℕ) → utf16_lossy_chars us ≡ [] → NextIsTooLong (utf16_lossy_chars us) free

@@ -1,10 +1,11 @@
 //! Copies of the ASCII at the start.
 
-ghost use Rattle.std.specs.Prelude.{◌≡◌, ◌≤◌, length, take, drop};
+ghost use Rattle.std.specs.Prelude.{◌≡◌, ℕ, ◌<◌, ◌≤◌, IsTrue, length, take, drop, slice_index};
 ghost use Rattle.std.specs.Str.{IsAscii};
 ghost use Rattle.encoding_mem.specs.LongestPrefix.{IsLongestPrefix};
 
-use crate::first::{first_byte_from, first_unit_from};
+use crate::first::{UNIT_BLOCK, all_units_below, first_byte_from};
+use std::simd::prelude::*;
 
 /// Copies the longest prefix of `src` that is ASCII to the start of `dst`, and returns its length
 /// in bytes; nothing behind it changes. `dst` is at least as long as `src`, which a comparison of
@@ -45,9 +46,35 @@ pub fn copy_basic_latin_to_ascii(src: &[u16], dst: &mut [u8]) -> usize
     ensures copied { take result dst.new ≡ take result src.now }
     ensures behind { drop result dst.new ≡ drop result dst.old }
 {
-    let count = first_unit_from(src, 0x80);
-    for (i, u) in src[..count].iter().enumerate() {
-        dst[i] = *u as u8;
+    let mut at = 0;
+    'wide: while src.len() - at >= UNIT_BLOCK {
+        if !narrow_block(&src[at..], &mut dst[at..]) {
+            break;
+        }
+        at += UNIT_BLOCK;
     }
-    count
+    'units: while at < src.len() && src[at] < 0x80 {
+        dst[at] = src[at] as u8;
+        at += 1;
+    }
+    at
+}
+
+// Copies a block of units to the start of `dst`, each as a byte, where all of them are ASCII, and
+// returns whether they are. Else nothing changes.
+#[inline(always)]
+pub(crate) fn narrow_block(units: &[u16], dst: &mut [u8]) -> bool
+    requires units { 32 ≤ length units.now }
+    requires room { 32 ≤ length dst.old }
+    ensures low { IsTrue result → (k : ℕ) → k < 32 → slice_index units.now k < 0x80 }
+    ensures copied { IsTrue result → take 32 dst.new ≡ take 32 units.now }
+    ensures behind { drop 32 dst.new ≡ drop 32 dst.old }
+    ensures kept { ¬ (IsTrue result) → dst.new ≡ dst.old }
+{
+    let block = u16x32::from_slice(units);
+    if !all_units_below(block, 0x80) {
+        return false;
+    }
+    block.cast::<u8>().copy_to_slice(dst);
+    true
 }

@@ -10,7 +10,7 @@ use std::simd::prelude::*;
 // is too large, or fewer are left, smaller vectors say where the run ends.
 const BYTE_BLOCK: usize = 64;
 
-const UNIT_BLOCK: usize = 32;
+pub(crate) const UNIT_BLOCK: usize = 32;
 
 // How many are in a smaller vector.
 const BYTE_LANES: usize = 16;
@@ -25,7 +25,7 @@ fn all_bytes_below(block: u8x64, limit: u8) -> bool
 }
 
 #[inline(always)]
-fn all_units_below(block: u16x32, limit: u16) -> bool
+pub(crate) fn all_units_below(block: u16x32, limit: u16) -> bool
     ensures { IsTrue result → prefix_len (λ u. not (nat_le limit u)) block ≡ 32 }
 {
     block.simd_ge(u16x32::splat(limit)).to_bitmask() == 0

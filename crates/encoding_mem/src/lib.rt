@@ -50,6 +50,7 @@ pub mod latin1_texts;
 pub mod laws;
 mod mem_laws;
 pub mod pending;
+mod plain_units;
 pub mod raw_decoder;
 pub mod raw_encoder;
 pub mod reference;

@@ -1,42 +1,11 @@
 //! Conversions from UTF-16 to UTF-8. A surrogate in no pair gives U+FFFD.
 
-ghost use Rattle.std.specs.Prelude.{◌≡◌, ℕ, ◌*◌, ◌<◌, ◌≤◌, List, [], ◌∷◌, ◌++◌, length, take, drop};
-ghost use Rattle.std.specs.Char.{len_utf8};
-ghost use Rattle.std.specs.Char.Utf16.{utf16_lossy_chars};
-ghost use Rattle.std.specs.Str.{IsAscii, encode_utf8_all};
+ghost use Rattle.std.specs.Prelude.{◌≡◌, ◌*◌, ◌≤◌, length, take, drop};
 ghost use Rattle.encoding_mem.specs.Conversions.{IsLongest, IsUnitBoundary, units_in_utf8};
-ghost use Rattle.encoding_mem.specs.Writing.{Adds};
 
-use crate::sink::Sink;
-use crate::source::{first_of_units, narrow_ascii};
-use crate::utf8_sink::Utf8Sink;
-
-// Copies the run of ASCII at the start of units, as much of it as fits, and returns its length.
-#[inline(always)]
-fn copy_run(units: &[u16], dst: &mut [u8]) -> usize
-    ensures within { result ≤ length units.now }
-    ensures fits { result ≤ length dst.new }
-    ensures behind { drop result dst.new ≡ drop result dst.old }
-    ensures ascii { IsAscii (take result dst.new) }
-    ensures text { utf16_lossy_chars units.now
-        ≡ take result dst.new ++ utf16_lossy_chars (drop result units.now) }
-    ensures some { (c : ℕ) (rest : List ℕ) → utf16_lossy_chars units.now ≡ c ∷ rest → c < 0x80
-        → 0 < length dst.old → 0 < result }
-{
-    narrow_ascii(units, dst)
-}
-
-// Puts a character at the start, and returns its length. The sink lives for one step, so that the
-// loop's offsets stay in registers.
-#[inline(always)]
-fn put_char(c: char, dst: &mut [u8]) -> usize
-    requires { len_utf8 c ≤ length dst.old }
-    ensures { Adds dst.old 0 (encode_utf8_all (c ∷ [])) dst.new result }
-{
-    let mut sink = Utf8Sink::new(dst);
-    sink.put(c);
-    sink.written()
-}
+use crate::first::UNIT_BLOCK;
+use crate::plain_units::{put_block, put_char, put_chars};
+use crate::source::first_of_units;
 
 /// Converts the longest prefix of UTF-16 whose UTF-8 fits into `dst`, and returns how many units
 /// were read and how many bytes were written; nothing behind these changes. No pair is split; a
@@ -51,19 +20,23 @@ pub fn convert_utf16_to_utf8_partial(src: &[u16], dst: &mut [u8]) -> (usize, usi
 {
     let mut read = 0;
     let mut written = 0;
-    'characters: while let Some((c, units)) = first_of_units(&src[read..]) {
-        // A run of one is cheaper as a character.
-        let is_second_ascii = matches!(&src[read..], [_, second, ..] if *second < 0x80);
-        if u32::from(c) < 0x80 && is_second_ascii && written < dst.len() {
-            let run = copy_run(&src[read..], &mut dst[written..]);
-            read += run;
-            written += run;
-        } else if dst.len() - written < c.len_utf8() {
-            return (read, written);
-        } else {
-            written += put_char(c, &mut dst[written..]);
-            read += units;
+    'wide: while src.len() - read >= UNIT_BLOCK && dst.len() - written >= 4 * UNIT_BLOCK {
+        let (units, bytes) = put_block(&src[read..], &mut dst[written..]);
+        read += units;
+        written += bytes;
+    }
+    // Where there is room for whatever is left, no character asks for it.
+    if src.len() - read <= (dst.len() - written) / 3 {
+        let (units, bytes) = put_chars(&src[read..], src.len() - read, &mut dst[written..]);
+        read += units;
+        written += bytes;
+    }
+    'characters: while let Some((c, count)) = first_of_units(&src[read..]) {
+        if dst.len() - written < c.len_utf8() {
+            break;
         }
+        written += put_char(c, &mut dst[written..]);
+        read += count;
     }
     (read, written)
 }

@@ -90,11 +90,10 @@ impl<'a> Sink for Utf8Sink<'a> {
                 self.put_bytes(&[(0xC0 + code / 64) as u8, (0x80 + code % 64) as u8]);
             }
         } else if code < 0x1_0000 {
-            self.put_bytes(&[
-                (0xE0 + code / 4096) as u8,
-                (0x80 + code / 64 % 64) as u8,
-                (0x80 + code % 64) as u8,
-            ]);
+            // One by one: three bytes are no size of a store, so an array of them would be slower.
+            self.put_byte((0xE0 + code / 4096) as u8);
+            self.put_byte((0x80 + code / 64 % 64) as u8);
+            self.put_byte((0x80 + code % 64) as u8);
         } else {
             self.put_bytes(&[
                 (0xF0 + code / 262144) as u8,

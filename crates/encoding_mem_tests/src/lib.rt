@@ -11,4 +11,6 @@ mod encoders;
 #[cfg(test)]
 mod labels;
 #[cfg(test)]
+mod unit_blocks;
+#[cfg(test)]
 mod utf8_decoder;

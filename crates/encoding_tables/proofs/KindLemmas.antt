@@ -1,5 +1,5 @@
 -- A kind is found again by the name of its file. The sizes of the kinds.
-use Rattle.std.proofs.Common.{◌≡◌, ℕ, List, [], ◌∷◌, sym, ◌∙◌, ap, refl, get_or, ◌<◌, ◌^◌, arith}
+use Rattle.std.proofs.Common.{◌≡◌, ℕ, List, sym, ◌∙◌, ap, refl, get_or, ◌<◌, ◌^◌, arith}
 use Rattle.std.specs.List.{position_or_len}
 use Rattle.std.specs.Str.{bytes_eq}
 use Rattle.encoding_tables.specs.FileNames.{file_name_of, FileNamesDiffer}

@@ -10,7 +10,7 @@ use Rattle.std.proofs.lemmas.List.FromFn.{get_or-map-range_with_len, length-map-
 use Rattle.encoding_tables.specs.Lookups.{value_of, first_pointer, last_pointer}
 use Rattle.encoding_tables.specs.SortedRows.{row_at, AreRising, IsRank, IsBelow, AreSorted}
 use Rattle.encoding_tables.specs.PackedRows.{entry_at, flat_list, PointersRise, listed_rows, mapped_rows, PointersAreBelow, swapped}
-use Rattle.encoding_tables.specs.PackedLists.{HasRow, AreIndexRows, IsReversed, IsPacked}
+use Rattle.encoding_tables.specs.PackedLists.{HasRow, IsSecond, AreIndexRows, IsReversed, IsPacked}
 use Rattle.encoding_tables.proofs.SearchLemmas.{below_cases, below_first, below_second, below_at_most, rises}
 use Rattle.std.specs.List as holes
 use Rattle.std.specs.List.{Contains}
@@ -89,23 +89,14 @@ value_here size rows p k index within is =
     let e : slice_index (flat_list size rows) p ≡ (row_at rows k).1 = ap (λ q. slice_index (flat_list size rows) q) (sym is) ∙ entry_of_row size rows k index within in
     rw (e, ne_eqb (row_at rows k).1 0 (index.mapped k within)) refl
 
-pub value_nowhere : (size : ℕ) (rows : List (ℕ × ℕ)) (p n : ℕ) → AreIndexRows size rows → IsRank rows (p, 0) n → (n < length rows → (row_at rows n).0 ≢ p)
-    → value_of (flat_list size rows) p ≡ None
-value_nowhere size rows p n index rank other = elim (cases_eq (slice_index (flat_list size rows) p) 0) [
-  | inl none ↦ rw (eq-eqb (slice_index (flat_list size rows) p) 0 none) refl
-  | inr some ↦
-      let row = row_with_pointer size rows p some in
-      let is : (row_at rows row.0).0 ≡ p = ap (λ r. r.0) row.2 in
-      absurd (elim (cases_lt row.0 n) [
-        | inl early ↦ elim (below_cases (row_at rows row.0) (p, 0) (rank.below row.0 early)) [ inl less ↦ omega (arith, is, less) | inr same ↦ omega (arith, same.1) ]
-        | inr late ↦ elim (cases_eq row.0 n) [
-          | inl here ↦ other (omega (arith, row.1)) (rw here at is)
-          | inr later ↦
-              let less = pointers_far rows index.rise n row.0 (omega arith) row.1 in
-              rank.others n (omega arith) (omega (arith, row.1)) (below_first (row_at rows n) (p, 0) (omega (arith, less, is)))
-        ]
-      ])
+-- the entry of a pointer is what is found at it among the rows
+pub value_found : (size : ℕ) (rows : List (ℕ × ℕ)) (p : ℕ) (found : Option ℕ) → AreIndexRows size rows → IsSecond rows p found → value_of (flat_list size rows) p ≡ found
+value_found size rows p None index none = elim (cases_eq (slice_index (flat_list size rows) p) 0) [
+  | inl empty ↦ rw (eq-eqb (slice_index (flat_list size rows) p) 0 empty) refl
+  | inr some ↦ let row = row_with_pointer size rows p some in absurd (none row.0 row.1 (ap (λ r. r.0) row.2))
 ]
+value_found size rows p (Some entry) index row =
+    value_here size rows p row.0 index row.1 (ap (λ r. r.0) row.2) ∙ ap (λ r. Some r.1) row.2
 
 -- what a look at a position gives
 pub row_got : (got rows : List (ℕ × ℕ)) (k : ℕ) (row : ℕ × ℕ) → got ≡ rows → k < length got → row ≡ get_or got k row → (k < length rows) × (row_at rows k ≡ row)

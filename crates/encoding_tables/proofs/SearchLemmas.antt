@@ -2,11 +2,12 @@
 -- a search to the rows of one first number. Rows whose first numbers rise, and the last of them at or below a
 -- number.
 use Rattle.std.proofs.Common.{get_or, subst, sym, ◌≡◌, ℕ, ◌+◌, ◌-◌, ◌*◌, ◌/◌, ◌<◌, ◌≤◌, ◌^◌, ◌⊎◌, inl, inr, zero, suc, List, length, arith, refl, pow-suc, nat_lt, ◌==◌, ◌≢◌, [], ◌∷◌, ◌++◌, ◌∙◌, ap, drop, length-drop, length-take, length-append, None, Some}
-use Rattle.std.specs.Prelude.{◌&&◌, slice_range, slice_index, min}
-use Rattle.std.proofs.lemmas.Bool.{cases_eq, or_cases, and_parts, ltb-true, eqb-true, lt-ltb, le-ltb, eq-eqb, cases_lt}
+use Rattle.std.specs.Prelude.{◌&&◌, Option, slice_range, slice_index, min, if◌then◌else◌}
+use Rattle.encoding_tables.specs.PackedLists.{IsSecond}
+use Rattle.std.proofs.lemmas.Bool.{cases_eq, or_cases, and_parts, ltb-true, eqb-true, lt-ltb, le-ltb, eq-eqb, ne_eqb, cases_lt}
 use Rattle.encoding_tables.specs.SortedRows.{row_at, IsBelow, AreNumbered, AreRising, IsRank, IsDirectory, IsSpan}
 use Rattle.std.proofs.lemmas.List.Edits.{get_or-between}
-use Rattle.std.proofs.lemmas.List.{get_or_append_left, get_or_default}
+use Rattle.std.proofs.lemmas.List.{get_or_append_left}
 use Rattle.std.proofs.Math.Seq.{get_or-append_right}
 use Rattle.std.proofs.Math.Nat.{sub_self}
 use Rattle.encoding_tables.specs.Ranges.{last_row}
@@ -158,32 +159,11 @@ span_ordered rows first from to begins ends = elim (cases_lt to from) [
       absurd (omega (arith, low, high))
 ]
 
--- a span with some rows begins with one
-pub span_has : (rows : List (ℕ × ℕ)) (first from to : ℕ) → IsSpan rows first from to → from ≢ to → (row_at rows from).0 ≡ first
-span_has rows first from to span some =
-    let low = from_start (row_at rows from) first (span.begins.others from (omega arith) (omega (arith, span.ordered, span.inside))) in
-    let high = below_start (row_at rows from) (first + 1) (span.ends.below from (omega (arith, span.ordered))) in
-    omega (arith, low, high)
-
--- no row is of the number where the span is empty
-pub span_empty : (rows : List (ℕ × ℕ)) (first from to : ℕ) → IsSpan rows first from to → from ≡ to → from < length rows → (row_at rows from).0 ≢ first
-span_empty rows first from to span none within is =
-    let high = from_start (row_at rows from) (first + 1) (span.ends.others from (omega arith) within) in
-    omega (arith, high, is)
-
 pub span_here : (rows : List (ℕ × ℕ)) (begins : List ℕ) (first : ℕ) → IsDirectory rows begins → first + 1 < length begins → IsSpan rows first (slice_index begins first) (slice_index begins (first + 1))
 span_here rows begins first dir within =
     let this = dir.ranks first (omega arith) in
     let next = dir.ranks (first + 1) within in
     record { begins = this; ends = next; ordered = span_ordered rows first (slice_index begins first) (slice_index begins (first + 1)) this next; inside = next.within }
-
--- two numbers that were read from a directory
-pub read_span : (rows : List (ℕ × ℕ)) (begins : List ℕ) (first from to : ℕ) → IsDirectory rows begins → first + 1 < length begins
-    → from ≡ get_or begins first from → to ≡ get_or begins (first + 1) to → IsSpan rows first from to
-read_span rows begins first from to dir within read_from read_to =
-    let from_is : from ≡ slice_index begins first = read_from ∙ get_or_default begins first from 0 (omega arith) in
-    let to_is : to ≡ slice_index begins (first + 1) = read_to ∙ get_or_default begins (first + 1) to 0 within in
-    subst (λ n. IsSpan rows first n to) (sym from_is) (subst (λ n. IsSpan rows first (slice_index begins first) n) (sym to_is) (span_here rows begins first dir within))
 
 all_below : (rows : List (ℕ × ℕ)) (begins : List ℕ) (first : ℕ) → IsDirectory rows begins → length begins ≤ first + 1 → IsRank rows (first, 0) (length rows)
 all_below rows begins first dir past = record {
@@ -198,7 +178,7 @@ span_past rows begins first dir past =
 
 -- ---- rows whose first numbers are their positions
 
-rank_of_numbered : (rows : List (ℕ × ℕ)) (first n : ℕ) → AreNumbered rows → n ≡ min (length rows) first → IsRank rows (first, 0) n
+pub rank_of_numbered : (rows : List (ℕ × ℕ)) (first n : ℕ) → AreNumbered rows → n ≡ min (length rows) first → IsRank rows (first, 0) n
 rank_of_numbered rows first n counted is = record {
   within = omega (arith, is);
   below = λ k less. let here = counted k (omega (arith, is)) in below_first (row_at rows k) (first, 0) (omega (arith, here, is));
@@ -207,10 +187,6 @@ rank_of_numbered rows first n counted is = record {
       let low = below_start (row_at rows k) first below in
       absurd (omega (arith, here, low, is));
 }
-
-pub numbered_span : (rows : List (ℕ × ℕ)) (first from to : ℕ) → AreNumbered rows → from ≡ min (length rows) first → to ≡ min (length rows) (first + 1) → IsSpan rows first from to
-numbered_span rows first from to counted begins ends =
-    record { begins = rank_of_numbered rows first from counted begins; ends = rank_of_numbered rows (first + 1) to counted ends; ordered = omega (arith, begins, ends); inside = omega (arith, ends) }
 
 pub rank_in_span : (rows : List (ℕ × ℕ)) (key : ℕ × ℕ) (from to n : ℕ) → IsSpan rows key.0 from to → IsRank (slice_range rows from to) key n → IsRank rows key (from + n)
 rank_in_span rows key from to n span rank =
@@ -222,14 +198,40 @@ rank_in_span rows key from to n span rank =
     absurd (omega (arith, high, low)))
     rank
 
--- the first row of a span, searched for alone, is not below the pair of its number and 0
-pub rank_of_one : (rows : List (ℕ × ℕ)) (row : ℕ × ℕ) (first from to n : ℕ) → IsSpan rows first from to → from ≢ to → row ≡ row_at rows from → IsRank (row ∷ []) (first, 0) n → n ≡ 0
-rank_of_one rows row first from to n span some same rank = elim (cases_lt 0 n) [
-  | inr none ↦ omega arith
-  | inl more ↦
-      let below : IsBelow (row_at rows from) (first, 0) = rw (← same) (rank.below 0 more) in
-      absurd (span.begins.others from (omega arith) (omega (arith, span.ordered, span.inside)) below)
+-- ---- the row with a first number
+
+-- where the first row that is not before a number has another one, no row has it
+pub no_second : (rows : List (ℕ × ℕ)) (first n : ℕ) → AreRising rows → IsRank rows (first, 0) n → (n < length rows → (row_at rows n).0 ≢ first) → IsSecond rows first None
+no_second rows first n rise rank other k within is = elim (cases_lt k n) [
+  | inl early ↦ let low = below_start (row_at rows k) first (rank.below k early) in omega (arith, low, is)
+  | inr late ↦ elim (cases_eq k n) [
+    | inl here ↦ other (omega (arith, within)) (rw here at is)
+    | inr later ↦
+        let from = from_start (row_at rows n) first (rank.others n (omega arith) (omega (arith, within))) in
+        let after = below_at_most (row_at rows n) (row_at rows k) (rises rows rise n k (omega arith) within) in
+        other (omega (arith, within)) (omega (arith, from, after, is))
+  ]
 ]
+
+-- what the first row that is not before a number gives
+pub second_found : (rows : List (ℕ × ℕ)) (first n : ℕ) (row : ℕ × ℕ) (found : Option ℕ) → AreRising rows → IsRank rows (first, 0) n → n < length rows → row_at rows n ≡ row
+    → found ≡ (if row.0 == first then Some row.1 else None) → IsSecond rows first found
+second_found rows first n row found rise rank within here is = elim (cases_eq row.0 first) [
+  | inl same ↦
+      let some : found ≡ Some row.1 = rw (eq-eqb row.0 first same) at is in
+      subst (IsSecond rows first) (sym some) (n, within, here ∙ ap (λ f. (f, row.1)) same)
+  | inr other ↦
+      let none : found ≡ None = rw (ne_eqb row.0 first other) at is in
+      subst (IsSecond rows first) (sym none) (no_second rows first n rise rank (λ _ same. other (ap (λ r. r.0) (sym here) ∙ same)))
+]
+
+-- what the row gives that the directory names for a first number, both read at their positions
+pub second_by_directory : (rows got : List (ℕ × ℕ)) (begins got_begins : List ℕ) (first n : ℕ) (row : ℕ × ℕ) (found : Option ℕ) → AreRising rows → IsDirectory rows begins → got_begins ≡ begins → got ≡ rows
+    → (first < length got_begins) × ((d : ℕ) → n ≡ get_or got_begins first d) → (n < length got) × ((d : ℕ × ℕ) → row ≡ get_or got n d) → found ≡ (if row.0 == first then Some row.1 else None) → IsSecond rows first found
+second_by_directory rows got begins got_begins first n row found rise directory same_begins same begin_is row_is is =
+    let begin : n ≡ slice_index begins first = begin_is.1 0 ∙ ap (λ b. slice_index b first) same_begins in
+    let rank = directory.ranks first (rw (← same_begins) begin_is.0) in
+    second_found rows first n row found rise (subst (IsRank rows (first, 0)) (sym begin) rank) (rw (← same) row_is.0) (ap (λ r. row_at r n) (sym same) ∙ sym (row_is.1 (0, 0))) is
 
 -- ---- how a directory is made
 

@@ -1,18 +1,30 @@
 -- What a packed index keeps: its rows by pointer, and the same rows by entry.
-use Rattle.std.specs.Prelude.{◌≡◌, ◌≢◌, ℕ, ◌<◌, List, length}
-use Rattle.encoding_tables.specs.SortedRows.{row_at, AreRising}
+use Rattle.std.specs.Prelude.{◌≡◌, ◌≢◌, ℕ, ◌<◌, List, length, Option, None, Some}
+use Rattle.encoding_tables.specs.SortedRows.{row_at, AreRising, AreNumbered, IsDirectory}
 use Rattle.encoding_tables.specs.PackedRows.{PointersRise, PointersAreBelow, swapped}
 use Rattle.encoding_tables.specs.declared.pointer_rows.Rows.{Rows}
-use Rattle.encoding_tables.specs.declared.pointer_rows.Rows.TheVariants.{Small, Wide}
+use Rattle.encoding_tables.specs.declared.pointer_rows.Rows.TheVariants.{Numbered, Small, Wide}
 
 -- the rows, whatever numbers they are kept in
 abbrev pub kept_rows : Rows → List (ℕ × ℕ)
+kept_rows (Numbered rows) = rows.items
 kept_rows (Small rows) = rows.items
 kept_rows (Wide rows) = rows.items
 
 -- a row stands somewhere among these
 abbrev pub HasRow : List (ℕ × ℕ) → ℕ × ℕ → Type 0
 HasRow rows row = (k : ℕ) × (k < length rows) × (row_at rows k ≡ row)
+
+-- rows can be found by their first numbers: these are their positions, or there is a directory
+abbrev pub CanFind : Rows → List ℕ → Type 0
+CanFind (Numbered rows) begins = AreNumbered rows.items
+CanFind (Small rows) begins = IsDirectory rows.items begins
+CanFind (Wide rows) begins = IsDirectory rows.items begins
+
+-- the second number of a row with this first number, or none where no row has it
+abbrev pub IsSecond : List (ℕ × ℕ) → ℕ → Option ℕ → Type 0
+IsSecond rows first None = (k : ℕ) → k < length rows → (row_at rows k).0 ≢ first
+IsSecond rows first (Some second) = HasRow rows (first, second)
 
 -- mapped rows in the order of their pointers, all below the size
 pub record AreIndexRows (size : ℕ) (rows : List (ℕ × ℕ)) : Type 0 where

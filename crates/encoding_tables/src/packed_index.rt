@@ -7,7 +7,6 @@ ghost use Rattle.encoding_tables.specs.PackedLists.{AreIndexRows, IsPacked, IsRe
 ghost use Rattle.encoding_tables.specs.Chains.{AreChains, HaveEntriesBelow};
 
 use crate::pointer_rows::PointerRows;
-use crate::search::search;
 use crate::sorted_rows::SortedRows;
 use std::alloc::{AllocError, Global};
 use std::marker::Model;
@@ -75,14 +74,7 @@ impl PackedIndex {
     pub(crate) fn value(&self, pointer: u32) -> Option<u32>
         ensures { result ≡ value_of self.now pointer }
     {
-        // The directory leaves one row at most, since pointers differ: reading costs one comparison.
-        let (begin, end) = self.by_pointer.span(pointer);
-        if begin == end {
-            return None;
-        }
-        let row = self.by_pointer.row(begin);
-        let (below, _) = search(&[row], (pointer, 0));
-        if below == 0 { Some(row.1) } else { None }
+        self.by_pointer.second(pointer)
     }
 
     /// The least pointer from `from` to below `to` with an entry, which is none where it is 0.

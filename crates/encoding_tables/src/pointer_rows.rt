@@ -1,11 +1,11 @@
 //! Rows of an index in the order of their pointers.
 
-ghost use Rattle.std.specs.Prelude.{◌≡◌, ◌<◌, ◌^◌, List, ℕ, IsTrue, length};
-ghost use Rattle.std.specs.Prelude.{IfOk, IfSome, MatchOption};
-ghost use Rattle.encoding_tables.specs.PackedLists.{kept_rows};
-ghost use Rattle.encoding_tables.specs.SortedRows.{row_at, AreNumbered, AreRising};
-ghost use Rattle.encoding_tables.specs.SortedRows.{IsDirectory, IsSpan};
+ghost use Rattle.std.specs.Prelude.{◌≡◌, ◌<◌, ◌^◌, ◌==◌, List, ℕ, Some, None, IsTrue, length};
+ghost use Rattle.std.specs.Prelude.{IfOk, IfSome, if◌then◌else◌};
+ghost use Rattle.encoding_tables.specs.PackedLists.{kept_rows, CanFind, IsSecond};
+ghost use Rattle.encoding_tables.specs.SortedRows.{AreNumbered, AreRising};
 
+use crate::search::search;
 use crate::sorted_rows::directory;
 use std::alloc::{AllocError, Global};
 use std::marker::Model;
@@ -14,6 +14,8 @@ use std::marker::Model;
 /// the rows of the characters of a text stay in the fastest of it.
 #[derive(Drop)]
 pub(crate) enum Rows {
+    /// Each row's first number is its position, as in an index without gaps.
+    Numbered(Vec<(u16, u16)>),
     Small(Vec<(u16, u16)>),
     Wide(Vec<(u32, u32)>),
 }
@@ -22,9 +24,9 @@ pub(crate) enum Rows {
 #[derive(Drop)]
 pub(crate) struct PointerRows {
     rows: Rows,
-    // How many rows stand before each first number, and at last how many there are. There is no
-    // such directory where each row's first number is its position, as in an index without gaps.
-    begins: Option<Vec<u16>>,
+    // How many rows stand before each first number, and at last how many there are. Rows that are
+    // numbered need none.
+    begins: Vec<u16>,
 }
 
 impl Model for PointerRows {
@@ -32,8 +34,7 @@ impl Model for PointerRows {
 
     ghost view = { λ s. kept_rows s.rows };
 
-    ghost invariant = { λ s. AreRising (kept_rows s.rows) × MatchOption s.begins
-        (AreNumbered (kept_rows s.rows)) (λ b. IsDirectory (kept_rows s.rows) b.items) };
+    ghost invariant = { λ s. AreRising (kept_rows s.rows) × CanFind s.rows s.begins.items };
 }
 
 impl PointerRows {
@@ -43,58 +44,52 @@ impl PointerRows {
         requires few { length rows.items < 2 ^ 16 }
         ensures { IfOk result (λ sorted. sorted ≡ rows.items) }
     {
-        let begins = if are_numbered(&rows) {
-            None
-        } else {
-            Some(directory(alloc, &rows)?)
-        };
-        let rows = match small_rows(alloc, &rows)? {
-            Some(small) => Rows::Small(small),
-            None => Rows::Wide(rows),
+        let small = small_rows(alloc, &rows)?;
+        let (rows, begins) = match small {
+            Some(small) if are_numbered(&rows) => (Rows::Numbered(small), Vec::new(alloc)),
+            Some(small) => (Rows::Small(small), directory(alloc, &rows)?),
+            None => {
+                let begins = directory(alloc, &rows)?;
+                (Rows::Wide(rows), begins)
+            }
         };
         Ok(PointerRows { rows, begins })
     }
 
-    /// How many rows there are.
+    /// The second number of the row with a first number; of the first one, where several have it.
     #[inline(always)]
-    fn len(&self) -> usize
-        ensures { result ≡ length self.now }
+    pub(crate) fn second(&self, first: u32) -> Option<u32>
+        ensures { IsSecond self.now first result }
     {
         match &self.rows {
-            Rows::Small(rows) => rows.len(),
-            Rows::Wide(rows) => rows.len(),
-        }
-    }
-
-    /// The row at a position.
-    #[inline(always)]
-    pub(crate) fn row(&self, position: usize) -> (u32, u32)
-        requires { position < length self.now }
-        ensures { result ≡ row_at self.now position }
-    {
-        match &self.rows {
+            Rows::Numbered(rows) => {
+                let (number, second) = *rows.get(first as usize)?;
+                second_of((number as u32, second as u32), first)
+            }
             Rows::Small(rows) => {
-                let (first, second) = rows[position];
-                (first as u32, second as u32)
+                let begin = *self.begins.get(first as usize)?;
+                let (number, second) = *rows.get(begin as usize)?;
+                second_of((number as u32, second as u32), first)
             }
-            Rows::Wide(rows) => rows[position],
+            Rows::Wide(rows) => {
+                let begin = *self.begins.get(first as usize)?;
+                second_of(*rows.get(begin as usize)?, first)
+            }
         }
     }
+}
 
-    /// Where the rows with a first number begin and end.
-    #[inline(always)]
-    pub(crate) fn span(&self, first: u32) -> (usize, usize)
-        ensures { IsSpan self.now first result.0 result.1 }
-    {
-        let offset = first as usize;
-        let count = self.len();
-        match &self.begins {
-            None => (offset.min(count), (offset + 1).min(count)),
-            Some(begins) if offset + 1 < begins.len() => {
-                (begins[offset] as usize, begins[offset + 1] as usize)
-            }
-            Some(_) => (count, count),
-        }
+// The second number of a row, where its first is this one. Of rows in order, those that are below a
+// first number are left by the search; the first that is not is this one, or a greater number's.
+#[inline(always)]
+fn second_of(row: (u32, u32), first: u32) -> Option<u32>
+    ensures { result ≡ (if row.0 == first then Some row.1 else None) }
+{
+    let (below, _) = search(&[row], (first, 0));
+    if row.0 == first && below == 0 {
+        Some(row.1)
+    } else {
+        None
     }
 }
 

@@ -1,4 +1,4 @@
-use Rattle.std.proofs.Common.{◌≡◌, ◌+◌, ◌*◌, ◌<◌, ◌∙◌, false, true, arith, length, get_or, refl, sym, subst, ℕ}
+use Rattle.std.proofs.Common.{◌≡◌, ◌+◌, ◌*◌, ◌<◌, ◌∙◌, false, true, arith, length, get_or, sym, subst, ℕ}
 use Rattle.std.proofs.lemmas.List.{take_rest}
 use Rattle.encoding_index.specs.IndexLine.{is_hex_digit}
 use Rattle.encoding_index.proofs.DigitLemmas.{AreCounted, one_counted, number_counted, too_few_counted, too_many_counted, code_below, hex_digit_small}

@@ -1,5 +1,4 @@
-use Rattle.std.proofs.Common.{arith, ◌∙◌}
-use Rattle.encoding_index.proofs.DigitLemmas.{hex_value_is, hex_digit_small}
+use Rattle.encoding_index.proofs.DigitLemmas.{hex_value_is}
 use Rattle.encoding_index.proofs.line.hex_value.Goals as goal
 
 pub returns : goal.returns

@@ -1,0 +1,73 @@
+-- Blocks of units in UTF-8.
+use Rattle.std.proofs.Common.{◌≡◌, ℕ, ◌+◌, ◌*◌, ◌-◌, ◌/◌, ◌%◌, ◌<◌, ◌≤◌, List, [], ◌∷◌, ◌++◌, length, take, drop, set, get_or, inl, inr, refl, sym, ◌∙◌, ap, arith, length-drop, encode_utf8_all}
+use Rattle.std.proofs.lemmas.Bool.{cases_lt, le-leb, lt-leb}
+use Rattle.std.proofs.lemmas.Str.{encode_ascii, encodes-IsAscii}
+use Rattle.std.proofs.lemmas.List.{get_or-drop, drop-drop}
+use Rattle.std.proofs.lemmas.Bool.Decides.{nat_tests}
+use Rattle.std.specs.Char.{len_utf8}
+use Rattle.std.specs.Char.Utf16.{utf16_lossy_chars}
+use lib.Dec.{leb}
+use mir.Val.{bool_byte}
+use Rattle.encoding_mem.specs.Conversions.{units_in_utf8}
+use Rattle.encoding_mem.specs.Writing.{Adds, len_utf16}
+use Rattle.encoding_mem.specs.laws.Utf8.{encode_two}
+use Rattle.encoding_mem.proofs.AsciiLemmas.{ascii_take}
+use Rattle.encoding_mem.proofs.AsciiRunLemmas.{run_units}
+use Rattle.encoding_mem.proofs.UnitCopyLemmas.{IsCopiedTo}
+use Rattle.encoding_mem.proofs.UnitPrefixLemmas.{first_of, reads_text}
+use Rattle.encoding_mem.proofs.Utf16Lemmas.{plain_unit}
+
+-- the lead is written last, over what an ASCII unit has there already
+put_one : (a b : ℕ) (dst : List ℕ) → 2 ≤ length dst → Adds dst 0 (a ∷ []) (set (set dst 0 b) 0 a) 1
+put_one a b [] room = absurd (omega arith)
+put_one a b (x ∷ dst) room = record { counted = refl; within = omega arith; list = refl }
+
+put_two : (a b : ℕ) (dst : List ℕ) → 2 ≤ length dst → Adds dst 0 (a ∷ b ∷ []) (set (set dst 1 b) 0 a) 2
+put_two a b [] room = absurd (omega arith)
+put_two a b (x ∷ []) room = absurd (omega arith)
+put_two a b (x ∷ y ∷ dst) room = record { counted = refl; within = omega arith; list = refl }
+
+pub short_one : (u lead : ℕ) (dst : List ℕ) → u < 0x80 → lead ≡ u → 2 ≤ length dst
+    → Adds dst 0 (encode_utf8_all (u ∷ [])) (set (set dst (bool_byte (leb 0x80 u)) (128 + u % 64)) 0 lead) (bool_byte (leb 0x80 u) + 1)
+short_one u lead dst low is room = rw (lt-leb 0x80 u low, encode_ascii u low, is) (put_one u (128 + u % 64) dst room)
+
+pub short_two : (u lead : ℕ) (dst : List ℕ) → 0x80 ≤ u → u < 0x800 → lead ≡ 192 + u / 64 → 2 ≤ length dst
+    → Adds dst 0 (encode_utf8_all (u ∷ [])) (set (set dst (bool_byte (leb 0x80 u)) (128 + u % 64)) 0 lead) (bool_byte (leb 0x80 u) + 1)
+short_two u lead dst from below is room = rw (le-leb 0x80 u from, encode_two u from below, is) (put_two (192 + u / 64) (128 + u % 64) dst room)
+
+-- a unit that is no surrogate is its character
+pub plain_at : (us : List ℕ) (i : ℕ) → i < length us → get_or us i 0 < 0xD800 → utf16_lossy_chars (drop i us) ≡ (get_or us i 0 ∷ []) ++ utf16_lossy_chars (drop (i + 1) us)
+plain_at us i inside low =
+    let here : get_or (drop i us) 0 0 ≡ get_or us i 0 = get_or-drop i us 0 0 ∙ ap (λ k. get_or us k 0) (omega arith) in
+    plain_unit (drop i us) (omega (arith, length-drop i us)) (inl (omega (arith, here)))
+    ∙ ap (λ u. u ∷ utf16_lossy_chars (drop 1 (drop i us))) here ∙ ap (λ l. get_or us i 0 ∷ utf16_lossy_chars l) (drop-drop 1 i us)
+
+-- ASCII is its UTF-8
+pub ascii_in_utf8 : (us : List ℕ) (n : ℕ) → n ≤ length us → ((k : ℕ) → k < n → get_or us k 0 < 0x80) → take n us ≡ units_in_utf8 (take n us)
+ascii_in_utf8 us n within low =
+    let ascii = ascii_take us n within low in
+    sym (encodes-IsAscii (take n us) ascii) ∙ ap encode_utf8_all (reads_text us (take n us) n (run_units n us within ascii))
+
+-- units have a character
+pub has_character : (us : List ℕ) → 0 < length us → utf16_lossy_chars us ≡ [] → ⊥
+has_character us some none =
+    let first = first_of us some in
+    let same : first.0 ∷ first.1 ≡ [] = sym first.2 ∙ none in
+    cc
+
+-- a character of one unit has three bytes at most, and one of two units has four
+pub bytes_of_units : (c n : ℕ) → n ≡ len_utf16 c → (len_utf8 c ≤ n + 2) × (n ≤ 2)
+bytes_of_units c n size = grind (arith, nat_tests)
+
+-- so there is room for a character of n units and so many bytes, where three bytes a unit are left, and one more where it may end behind them
+pub room_for_char : (len end room read written n bytes : ℕ) → read < end → read + n ≤ len → bytes ≤ n + 2 → n ≤ 2 → written ≤ 3 * read
+    → 3 * end ≤ room → (end < len → 3 * end < room) → bytes ≤ room - written
+room_for_char len end room read written n bytes before inside size few_units few three over = elim (cases_lt end len) [
+  | inl more ↦ let one_more = over more in omega arith
+  | inr whole ↦ omega arith
+]
+
+-- ASCII that is copied is the text of its units
+pub text_of_run : (us old : List ℕ) (n : ℕ) (dst : List ℕ) → IsCopiedTo us old n dst → utf16_lossy_chars us ≡ take n dst ++ utf16_lossy_chars (drop n us)
+text_of_run us old n dst done =
+    run_units n us done.within (ascii_take us n done.within done.low) ∙ ap (λ l. l ++ utf16_lossy_chars (drop n us)) (sym done.copied)

@@ -1,0 +1,57 @@
+-- Copies of ASCII units as bytes, a block at a time.
+use Rattle.std.proofs.Common.{◌≡◌, ℕ, ◌+◌, ◌-◌, ◌<◌, ◌≤◌, inl, inr, List, ◌++◌, length, take, drop, get_or, refl, sym, ◌∙◌, ap, arith, length-drop}
+use Rattle.std.proofs.lemmas.Bool.{cases_lt}
+use Rattle.std.proofs.lemmas.List.{get_or-take, get_or-drop, length-take-le, take_at, drop_at, take_rest}
+use Rattle.std.proofs.lemmas.Simd.{put_chunk_is, Each1-from_get_or}
+use borrow.Rule.Slice.PartMut.{put_mid}
+use lib.Lanes.{put_chunk, Each1}
+use mir.Syntax.{w8}
+use mir.Val.{Fits}
+use Rattle.encoding_mem.proofs.DestinationLemmas.{take_into, drop_into}
+use Rattle.encoding_mem.proofs.LongestPrefixLemmas.{length_put, behind_more, take_sum}
+
+-- ASCII units fit bytes
+pub lanes_fit : (units : List ℕ) (n : ℕ) → n ≤ length units → ((k : ℕ) → k < n → get_or units k 0 < 0x80) → Each1 (Fits w8) (take n units)
+lanes_fit units n within low = Each1-from_get_or (Fits w8) (take n units) 0 (λ k inside. record {
+  fits = let here : k < n = omega (arith, length-take-le n units within) in omega (arith, get_or-take n units k 0 here, low k here);
+})
+
+-- a vector of units, stored as bytes at the start of a destination
+pub narrowed : (units dst : List ℕ) (n : ℕ) (lanes : List ℕ) → n ≤ length units → n ≤ length dst → lanes ≡ take n units
+    → (take n (put_chunk 0 dst lanes) ≡ take n units) × (drop n (put_chunk 0 dst lanes) ≡ drop n dst)
+narrowed units dst n lanes within fits are =
+    let size : length lanes ≡ n = ap length are ∙ length-take-le n units within in
+    let put : put_chunk 0 dst lanes ≡ lanes ++ drop n dst = put_chunk_is 0 dst lanes (omega arith) ∙ ap (λ m. lanes ++ drop m dst) size in
+    (ap (take n) put ∙ take_at lanes (drop n dst) n size ∙ are, ap (drop n) put ∙ drop_at lanes (drop n dst) n size)
+
+-- so many units are copied, and the destination is otherwise as it was
+pub record IsCopiedTo (src old : List ℕ) (at : ℕ) (dst : List ℕ) : Type 0 where
+  pub within : at ≤ length src
+  pub size : length dst ≡ length old
+  pub low : (k : ℕ) → k < at → get_or src k 0 < 0x80
+  pub copied : take at dst ≡ take at src
+  pub behind : drop at dst ≡ drop at old
+
+-- a block more
+pub copied_more : (src old : List ℕ) (at : ℕ) (dst ys : List ℕ) (n : ℕ) → IsCopiedTo src old at dst → length src ≤ length old → at + n ≤ length src
+    → length ys ≡ length (take (length dst - at) (drop at dst))
+    → ((k : ℕ) → k < n → get_or (take (length src - at) (drop at src)) k 0 < 0x80)
+    → take n ys ≡ take n (take (length src - at) (drop at src)) → drop n ys ≡ drop n (take (length dst - at) (drop at dst))
+    → IsCopiedTo src old (at + n) (put_mid at (length dst - at) dst ys)
+copied_more src old at dst ys n done room fits size low same behind =
+    let here : at ≤ length dst = omega (arith, done.size, done.within) in
+    let len : length ys ≡ length dst - at = size ∙ ap length (take_rest dst at) ∙ length-drop at dst in
+    let enough : n ≤ length ys = omega (arith, len, done.size) in
+    record {
+      within = fits;
+      size = length_put at (length dst - at) dst ys here refl len ∙ done.size;
+      low = λ k inside. elim (cases_lt k at) [
+        | inl before ↦ done.low k before
+        | inr from ↦
+            let e : get_or (take (length src - at) (drop at src)) (k - at) 0 ≡ get_or src k 0 =
+            ap (λ l. get_or l (k - at) 0) (take_rest src at) ∙ get_or-drop at src (k - at) 0 ∙ ap (λ j. get_or src j 0) (omega arith) in
+            omega (arith, e, low (k - at) (omega arith))
+      ];
+      copied = take_into at (length dst - at) n dst ys here enough ∙ ap (λ l. l ++ take n ys) done.copied ∙ ap (λ l. take at src ++ l) (same ∙ ap (take n) (take_rest src at)) ∙ sym (take_sum at n src done.within);
+      behind = behind_more at n _ dst old (drop_into at _ n dst ys here refl enough behind) done.behind;
+    }

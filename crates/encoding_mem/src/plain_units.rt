@@ -1,0 +1,144 @@
+//! Blocks of UTF-16 in UTF-8, where there is room for whatever they are.
+
+ghost use Rattle.std.specs.Prelude.{◌≡◌, ℕ, ◌*◌, ◌<◌, ◌≤◌, List, [], ◌∷◌, ◌++◌};
+ghost use Rattle.std.specs.Prelude.{length, take, drop, slice_index};
+ghost use Rattle.std.specs.Char.{len_utf8};
+ghost use Rattle.std.specs.Char.Utf16.{utf16_lossy_chars};
+ghost use Rattle.std.specs.Str.{IsAscii, encode_utf8_all};
+ghost use Rattle.encoding_mem.specs.Conversions.{IsUnitBoundary, units_in_utf8};
+ghost use Rattle.encoding_mem.specs.Writing.{Adds};
+
+use crate::ascii_copies::narrow_block;
+use crate::first::{UNIT_BLOCK, all_units_below};
+use crate::sink::Sink;
+use crate::source::first_of_units;
+use crate::utf8_sink::Utf8Sink;
+use std::simd::prelude::*;
+
+// With fewer units left, branches are cheaper.
+const MANY: usize = 64;
+
+// Puts a unit below 800 hex at the start, and returns its length: no branch asks which it is.
+#[inline(always)]
+fn put_short(unit: u16, dst: &mut [u8]) -> usize
+    requires short { unit < 0x800 }
+    requires room { 2 ≤ length dst.old }
+    ensures adds { Adds dst.old 0 (encode_utf8_all (unit ∷ [])) dst.new result }
+    ensures few { result ≤ 2 }
+{
+    let is_two = unit >= 0x80;
+    let lead = if is_two { 0xC0 + unit / 64 } else { unit };
+    // Where it is ASCII, the lead is written over this.
+    dst[is_two as usize] = (0x80 + unit % 64) as u8;
+    dst[0] = lead as u8;
+    is_two as usize + 1
+}
+
+// Puts a block of units below 800 hex at the start, and returns how many bytes that are.
+#[inline(always)]
+fn put_short_block(units: &[u16], dst: &mut [u8]) -> usize
+    requires units { 32 ≤ length units.now }
+    requires room { 64 ≤ length dst.old }
+    requires short { (k : ℕ) → k < 32 → slice_index units.now k < 0x800 }
+    ensures boundary { IsUnitBoundary units.now 32 }
+    ensures fits { result ≤ length dst.new }
+    ensures text { take result dst.new ≡ units_in_utf8 (take 32 units.now) }
+    ensures behind { drop result dst.new ≡ drop result dst.old }
+{
+    let mut read = 0;
+    let mut written = 0;
+    'units: while read < UNIT_BLOCK {
+        written += put_short(units[read], &mut dst[written..]);
+        read += 1;
+    }
+    written
+}
+
+// Puts a character at the start, and returns its length. The sink lives for one step, so that a
+// loop's offsets stay in registers.
+#[inline(always)]
+pub(crate) fn put_char(c: char, dst: &mut [u8]) -> usize
+    requires { len_utf8 c ≤ length dst.old }
+    ensures { Adds dst.old 0 (encode_utf8_all (c ∷ [])) dst.new result }
+{
+    let mut sink = Utf8Sink::new(dst);
+    sink.put(c);
+    sink.written()
+}
+
+// Copies the run of ASCII at the start of units, as much of it as fits, and returns its length. It
+// is mostly short, so each unit is tested by itself.
+#[inline(always)]
+fn copy_run(units: &[u16], dst: &mut [u8]) -> usize
+    ensures within { result ≤ length units.now }
+    ensures fits { result ≤ length dst.new }
+    ensures behind { drop result dst.new ≡ drop result dst.old }
+    ensures ascii { IsAscii (take result dst.new) }
+    ensures text { utf16_lossy_chars units.now
+        ≡ take result dst.new ++ utf16_lossy_chars (drop result units.now) }
+    ensures some { (c : ℕ) (rest : List ℕ) → utf16_lossy_chars units.now ≡ c ∷ rest → c < 0x80
+        → 0 < length dst.old → 0 < result }
+{
+    let end = units.len().min(dst.len());
+    let mut run = 0;
+    'units: while run < end && units[run] < 0x80 {
+        dst[run] = units[run] as u8;
+        run += 1;
+    }
+    run
+}
+
+// Puts characters at the start until so many units are read, or one more where the last of them is
+// the first of a pair. Returns how many units were read and how many bytes were written.
+#[inline(always)]
+pub(crate) fn put_chars(units: &[u16], end: usize, dst: &mut [u8]) -> (usize, usize)
+    requires units { end ≤ length units.now }
+    requires room { 3 * end ≤ length dst.old }
+    requires more_room { end < length units.now → 3 * end < length dst.old }
+    ensures reaches { end ≤ result.0 }
+    ensures within { result.0 ≤ length units.now }
+    ensures boundary { IsUnitBoundary units.now result.0 }
+    ensures fits { result.1 ≤ length dst.new }
+    ensures text { take result.1 dst.new ≡ units_in_utf8 (take result.0 units.now) }
+    ensures behind { drop result.1 dst.new ≡ drop result.1 dst.old }
+{
+    let mut read = 0;
+    let mut written = 0;
+    'characters: while read < end {
+        let (c, count) = match first_of_units(&units[read..]) {
+            Some(first) => first,
+            None => unreachable!(),
+        };
+        if u32::from(c) < 0x80 {
+            let run = copy_run(&units[read..], &mut dst[written..]);
+            read += run;
+            written += run;
+        } else {
+            written += put_char(c, &mut dst[written..]);
+            read += count;
+        }
+    }
+    (read, written)
+}
+
+// Writes a block of units in UTF-8 to the start of `dst`, and one more where the block ends inside
+// a pair. Returns how many units were read and how many bytes were written.
+#[inline(always)]
+pub(crate) fn put_block(units: &[u16], dst: &mut [u8]) -> (usize, usize)
+    requires units { 32 ≤ length units.now }
+    requires room { 128 ≤ length dst.old }
+    ensures some { 0 < result.0 }
+    ensures within { result.0 ≤ length units.now }
+    ensures boundary { IsUnitBoundary units.now result.0 }
+    ensures fits { result.1 ≤ length dst.new }
+    ensures text { take result.1 dst.new ≡ units_in_utf8 (take result.0 units.now) }
+    ensures behind { drop result.1 dst.new ≡ drop result.1 dst.old }
+{
+    if narrow_block(units, dst) {
+        return (UNIT_BLOCK, UNIT_BLOCK);
+    }
+    if units.len() >= MANY && all_units_below(u16x32::from_slice(units), 0x800) {
+        return (UNIT_BLOCK, put_short_block(units, dst));
+    }
+    put_chars(units, UNIT_BLOCK, dst)
+}
