@@ -42,10 +42,12 @@ def main():
     with tempfile.TemporaryDirectory() as work:
         clone = os.path.join(work, "clone")
         subprocess.run(["git", "clone", "--quiet", TOP, clone], check=True)
-        how = {"cwd": clone, "stdout": subprocess.PIPE, "stderr": subprocess.STDOUT, "text": True}
-        ran = subprocess.run(["bash", ".ci/run"], check=False, **how)
-    lines = ran.stdout.rstrip("\n").split("\n")
-    print(ran.stdout, end="")
+        how = {"cwd": clone, "stdout": subprocess.PIPE, "stderr": subprocess.STDOUT, "text": True, "errors": "replace"}
+        ran, lines = subprocess.Popen(["bash", ".ci/run"], **how), []
+        for line in ran.stdout:
+            print(line, end="", flush=True)
+            lines.append(line.rstrip("\n"))
+        ran.wait()
     used = resource.getrusage(resource.RUSAGE_CHILDREN)
     failed = [line.partition("FAILED: ")[2] for line in lines if "FAILED: " in line]
     page = PAGE.format(
