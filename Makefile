@@ -9,8 +9,8 @@ SECONDS = 60
 build:
 	@cd crates/recode_cli && rt run -- --version > /dev/null
 
-# The merge gate: `rt ci`, behind what it does not look at; and then edits of functions, the programs that it has built, as
-# the other targets have them, and what is stored (`tools/gate.py`). One line at the end counts all.
+# The merge gate: `make lint`, `rt ci`, and then what `tools/gate.py` has of edits, of programs and of what is stored. One
+# line at the end counts all.
 test: lint
 	@python3 tools/gate.py
 
