@@ -74,8 +74,8 @@ impl<'a> ShiftJis<'a> {
     }
 }
 
-// Whether a byte from 80 hex on is a lead: 81 to 9F, or E0 to FC. Which of the two it is in is not
-// tested: 20 more than 80 to 9F and E0 to FF is less than 40 above a multiple of 80.
+// Whether a byte from 80 on is a lead, 81 to 9F or E0 to FC (numbers are hexadecimal). Which of the
+// two it is in is not tested: 80 to 9F and E0 to FF, with 20 added, leave less than 40 over 80.
 #[inline(always)]
 fn is_lead(byte: u8) -> bool
     requires { 0x80 ≤ byte }
@@ -93,8 +93,8 @@ fn is_trail(byte: u8) -> bool
     byte >= 0x40 && byte <= 0xFC && byte != 0x7F
 }
 
-// The pointer of a lead and a trail. The leads of both ranges, 81 to 9F and E0 to FC, are 1 to 60
-// above a multiple of 64, in one row.
+// The pointer of a lead and a trail. Divided by 64, the leads from 81 to 9F hex leave 1 to 31, and
+// those from E0 to FC hex 32 to 60: the second range goes on where the first ends.
 #[inline(always)]
 fn pointer_of_pair(lead: u8, trail: u8) -> u32
     requires lead { is_shift_jis_lead lead ≡ true }

@@ -10,6 +10,7 @@ use std::simd::prelude::*;
 // is too large, or fewer are left, smaller vectors say where the run ends.
 const BYTE_BLOCK: usize = 64;
 
+/// How many units are tested, narrowed or written in UTF-8 at a time: those of `BYTE_BLOCK` bytes.
 pub(crate) const UNIT_BLOCK: usize = 32;
 
 // How many are in a smaller vector.

@@ -15,7 +15,8 @@ use crate::source::first_of_units;
 use crate::utf8_sink::Utf8Sink;
 use std::simd::prelude::*;
 
-// Where fewer units than this are left, their characters go one by one.
+// Where fewer units than this are left, their characters go one by one: a short text is not worth
+// the test of a whole block.
 const MANY: usize = 64;
 
 // Puts a unit below 800 hex at the start, and returns its length: no branch asks which it is.
@@ -89,7 +90,8 @@ fn copy_run(units: &[u16], dst: &mut [u8]) -> usize
 }
 
 // Puts characters at the start until so many units are read, or one more where the last of them is
-// the first of a pair. Returns how many units were read and how many bytes were written.
+// the first of a pair: its four bytes are one more than three a unit. Returns how many units were
+// read and how many bytes were written.
 #[inline(always)]
 pub(crate) fn put_chars(units: &[u16], end: usize, dst: &mut [u8]) -> (usize, usize)
     requires units { end ≤ length units.now }

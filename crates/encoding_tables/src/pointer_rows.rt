@@ -56,7 +56,7 @@ impl PointerRows {
         Ok(PointerRows { rows, begins })
     }
 
-    /// The second number of the row with a first number; of the first one, where several have it.
+    /// The second number of a row with this first number, or `None` where no row has it.
     #[inline(always)]
     pub(crate) fn second(&self, first: u32) -> Option<u32>
         ensures { IsSecond self.now first result }
@@ -79,8 +79,8 @@ impl PointerRows {
     }
 }
 
-// The second number of a row, where its first is this one. Of rows in order, those that are below a
-// first number are left by the search; the first that is not is this one, or a greater number's.
+// The second number of a row, where its first is this one. Look-ups find rows by `search`, here
+// among this row alone: it is not below a number that it has, so this costs no comparison.
 #[inline(always)]
 fn second_of(row: (u32, u32), first: u32) -> Option<u32>
     ensures { result ≡ (if row.0 == first then Some row.1 else None) }
