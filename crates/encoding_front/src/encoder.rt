@@ -246,10 +246,10 @@ impl<'t> Encoder<'t> {
     ///
     /// Unless the output encoding is UTF-8, the last ten bytes of `dst` are kept back, so that a
     /// reference is never cut: only a reference that begins before them, or where they begin,
-    /// reaches into them, and it ends the call. A `dst` of fewer than ten bytes then takes nothing. In the room that
-    /// `max_buffer_length_from_utf8_if_no_unmappables` returns only a reference ends a call before
-    /// the text ends. What was read ends between characters; nothing behind what is written
-    /// changes.
+    /// reaches into them, and it ends the call. A `dst` of fewer than ten bytes then takes nothing.
+    /// In the room that `max_buffer_length_from_utf8_if_no_unmappables` returns only a reference
+    /// ends a call before the text ends. What was read ends between characters; nothing behind what
+    /// is written changes.
     pub fn encode_from_utf8(
         &mut self,
         src: &str,
