@@ -9,8 +9,8 @@ SECONDS = 60
 build:
 	@cd crates/recode_cli && rt run -- --version > /dev/null
 
-# The merge gate: `make lint`, `rt ci`, and then what `tools/gate.py` has of edits, of programs and of what is stored. One
-# line at the end counts all.
+# The merge gate: `make lint`, `rt ci`, and then what `tools/gate.py` has of programs and of what is stored. One line at
+# the end counts all.
 test: lint
 	@python3 tools/gate.py
 

@@ -19,11 +19,11 @@ PAGE = os.path.join(TOP, "docs", "reference", "edits.md")
 
 HEAD = """# Wrong bodies
 
-Which edits change the body of which function, and which public functions no edit changes: their helpers may have edits, or there is hardly another body that the types allow. The prover refuses each edit: those in **bold** in each run of the gate (`gate-edits/` and `must-fail/`), the others at `make edits` (`edits/`). Made by `tools/edits_table.py`.
+Which edits change the body of which function, and which public functions no edit changes: their helpers may have edits, or there is hardly another body that the types allow. The prover refuses each edit: those in **bold** in each run of the gate (`must-fail/`), the others at `make edits` (`edits/`). Made by `tools/edits_table.py`.
 """
 
 # The folders of edits, and how those are marked that the gate tries.
-FOLDERS = {"must-fail": "**", "gate-edits": "**", "edits": ""}
+FOLDERS = {"must-fail": "**", "edits": ""}
 
 BLOCK = re.compile(r"^(pub )?(impl|trait)\b(?:<[^{]*?>)? (?:(?:\w+(?:<[^{]*>)?) for )?(\w+)", re.MULTILINE)
 FUNCTION = re.compile(r"^( *)(pub )?fn (\w+)")

@@ -3,24 +3,20 @@
 
     python3 tools/gate.py
 
-The edits of `gate-edits/` are tried, each by its own function (`edits.py`). The programs run by a table of command lines
-(`command_lines.py`), on random inputs (`fuzz.py`), with memory refused (`refused_memory.py`), with hostile index texts
-(`hostile_indexes.py`) and on hostile streams (`hostile_streams.py`). What is stored is compared with what plain programs
-say (`stored.py`). Each of these steps counts as one more in the last line. The status is 0 where nothing failed.
+The programs run by a table of command lines (`command_lines.py`), on random inputs (`fuzz.py`), with memory refused
+(`refused_memory.py`), with hostile index texts (`hostile_indexes.py`) and on hostile streams (`hostile_streams.py`). What
+is stored is compared with what plain programs say (`stored.py`). Each of these steps counts as one more in the last line.
+The status is 0 where nothing failed.
 """
 
-import contextlib
 import os
 import re
-import shutil
 import subprocess
 import sys
-import tempfile
 
 sys.dont_write_bytecode = True
 
 import command_lines
-import edits
 import fuzz
 import hostile_indexes
 import hostile_streams
@@ -30,7 +26,6 @@ import stored
 TOP = os.path.abspath(os.path.join(os.path.dirname(os.path.abspath(__file__)), ".."))
 
 STEPS = [
-    ("edits of functions", edits.gate_faults),
     ("command lines", command_lines.faults),
     ("random inputs", fuzz.faults),
     ("stored output of encoding_index_files", stored.index_file_faults),
@@ -40,23 +35,6 @@ STEPS = [
     ("hostile index texts", hostile_indexes.faults),
     ("hostile streams", hostile_streams.faults),
 ]
-
-
-@contextlib.contextmanager
-def libraries_aside():
-    """Keeps the libraries that checks have built elsewhere until the end: `rt ci` would put them back over its own, by which
-    the edits are tried."""
-    places = [os.path.join(TOP, "crates", name, "out", "rlib") for name in os.listdir(os.path.join(TOP, "crates"))]
-    places = [place for place in places if os.path.isdir(place)]
-    with tempfile.TemporaryDirectory() as aside:
-        for number, place in enumerate(places):
-            shutil.move(place, os.path.join(aside, str(number)))
-        try:
-            yield
-        finally:
-            for number, place in enumerate(places):
-                shutil.rmtree(place, ignore_errors=True)
-                shutil.move(os.path.join(aside, str(number)), place)
 
 
 def ci():
@@ -70,11 +48,6 @@ def ci():
 
 
 def main():
-    with libraries_aside():
-        return run()
-
-
-def run():
     status, last = ci()
     counts = re.fullmatch(r"(\d+) passed, (\d+) failed\n", last)
     if not counts:

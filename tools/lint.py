@@ -6,8 +6,7 @@
 - A public name of `specs/` has one definition in the whole repository.
 - Lines of `src/` over 100 columns: no more than `tools/long_lines` says, and that number is today's, so it only falls.
 - `docs/DEFINITIONS.md` names each file of definitions, and no other, and says of each what it says of itself.
-- Each edit of `must-fail/`, `gate-edits/` and `edits/` names a file, and each text that it replaces stands in it once; one
-  of `gate-edits/` changes the function that it is named after.
+- Each edit of `must-fail/` and `edits/` names a file, and each text that it replaces stands in it once.
 - `docs/reference/edits.md` is what `tools/edits_table.py` writes.
 - Each root file begins its code with the tactic that proofs are found by, and no handle is allowed.
 - Each public item of a library has a doc comment, and `docs/reference` is what `make doc` writes (`tools/reference.py`).
@@ -27,7 +26,6 @@ sys.dont_write_bytecode = True
 import edits_table
 import reference
 import usage
-from edits import Edit
 
 TOP = os.path.join(os.path.dirname(os.path.abspath(__file__)), "..")
 CRATES = os.path.join(TOP, "crates")
@@ -131,12 +129,6 @@ def edits():
             yield from edit_faults(path)
 
 
-def gate_edits():
-    for path in files("gate-edits", ".edit"):
-        if not Edit(os.path.join(TOP, path), os.path.join(CRATES, path.split("/")[1])).path:
-            yield "%s does not change the function that it is named after" % path
-
-
 def edits_page():
     if not os.path.isfile(edits_table.PAGE) or read(edits_table.PAGE) != edits_table.page():
         yield "docs/reference/edits.md is out of date: python3 tools/edits_table.py"
@@ -179,7 +171,6 @@ CHECKS = (
     unnamed_definitions,
     stale_definitions,
     edits,
-    gate_edits,
     edits_page,
     roots,
     first_lines,
