@@ -5,7 +5,7 @@ use Rattle.std.proofs.Common.{get_or, subst, sym, ◌≡◌, ℕ, ◌+◌, ◌-�
 use Rattle.std.specs.Prelude.{◌&&◌, Option, slice_range, slice_index, min, if◌then◌else◌}
 use Rattle.encoding_tables.specs.PackedLists.{IsSecond}
 use Rattle.std.proofs.lemmas.Bool.{cases_eq, or_cases, and_parts, ltb-true, eqb-true, lt-ltb, le-ltb, eq-eqb, ne_eqb, cases_lt}
-use Rattle.encoding_tables.specs.SortedRows.{row_at, IsBelow, AreNumbered, AreRising, IsRank, IsDirectory, IsSpan}
+use Rattle.encoding_tables.specs.SortedRows.{row_at, IsBelow, AreRising, IsRank, IsDirectory, IsSpan}
 use Rattle.std.proofs.lemmas.List.Edits.{get_or-between}
 use Rattle.std.proofs.lemmas.List.{get_or_append_left}
 use Rattle.std.proofs.Math.Seq.{get_or-append_right}
@@ -176,18 +176,6 @@ pub span_past : (rows : List (ℕ × ℕ)) (begins : List ℕ) (first : ℕ) →
 span_past rows begins first dir past =
     record { begins = all_below rows begins first dir past; ends = all_below rows begins (first + 1) dir (omega arith); ordered = omega arith; inside = omega arith }
 
--- ---- rows whose first numbers are their positions
-
-pub rank_of_numbered : (rows : List (ℕ × ℕ)) (first n : ℕ) → AreNumbered rows → n ≡ min (length rows) first → IsRank rows (first, 0) n
-rank_of_numbered rows first n counted is = record {
-  within = omega (arith, is);
-  below = λ k less. let here = counted k (omega (arith, is)) in below_first (row_at rows k) (first, 0) (omega (arith, here, is));
-  others = λ k past within below.
-      let here = counted k within in
-      let low = below_start (row_at rows k) first below in
-      absurd (omega (arith, here, low, is));
-}
-
 pub rank_in_span : (rows : List (ℕ × ℕ)) (key : ℕ × ℕ) (from to n : ℕ) → IsSpan rows key.0 from to → IsRank (slice_range rows from to) key n → IsRank rows key (from + n)
 rank_in_span rows key from to n span rank =
     rank_of_part rows key from to n span.ordered span.inside
@@ -201,7 +189,7 @@ rank_in_span rows key from to n span rank =
 -- ---- the row with a first number
 
 -- where the first row that is not before a number has another one, no row has it
-pub no_second : (rows : List (ℕ × ℕ)) (first n : ℕ) → AreRising rows → IsRank rows (first, 0) n → (n < length rows → (row_at rows n).0 ≢ first) → IsSecond rows first None
+no_second : (rows : List (ℕ × ℕ)) (first n : ℕ) → AreRising rows → IsRank rows (first, 0) n → (n < length rows → (row_at rows n).0 ≢ first) → IsSecond rows first None
 no_second rows first n rise rank other k within is = elim (cases_lt k n) [
   | inl early ↦ let low = below_start (row_at rows k) first (rank.below k early) in omega (arith, low, is)
   | inr late ↦ elim (cases_eq k n) [
@@ -214,7 +202,7 @@ no_second rows first n rise rank other k within is = elim (cases_lt k n) [
 ]
 
 -- what the first row that is not before a number gives
-pub second_found : (rows : List (ℕ × ℕ)) (first n : ℕ) (row : ℕ × ℕ) (found : Option ℕ) → AreRising rows → IsRank rows (first, 0) n → n < length rows → row_at rows n ≡ row
+second_found : (rows : List (ℕ × ℕ)) (first n : ℕ) (row : ℕ × ℕ) (found : Option ℕ) → AreRising rows → IsRank rows (first, 0) n → n < length rows → row_at rows n ≡ row
     → found ≡ (if row.0 == first then Some row.1 else None) → IsSecond rows first found
 second_found rows first n row found rise rank within here is = elim (cases_eq row.0 first) [
   | inl same ↦

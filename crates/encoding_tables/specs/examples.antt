@@ -4,6 +4,7 @@ pub mod FileNames
 pub mod IndexLists
 pub mod Kinds
 pub mod Lookups
+pub mod PackedLists
 pub mod PackedRows
 pub mod RangeFaults
 pub mod Ranges
