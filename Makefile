@@ -90,10 +90,10 @@ characters:
 # `tools/characters.py` makes of it: the gate does a part. This needs Python and bash, and takes minutes.
 verdicts: SHELL = bash
 verdicts:
-	@$(call built,recode_verdicts)
+	@$(call built,recode_cases)
 	@cd indexes && for name in $$(python3 $(CURDIR)/tools/characters.py . names); do \
 		diff <(python3 $(CURDIR)/tools/characters.py . verdicts 1 $$name) \
-			<($(CURDIR)/crates/recode_verdicts/out/recode_verdicts 1 $$name) || exit 1; \
+			<($(CURDIR)/crates/recode_cases/out/recode_cases 1 $$name) || exit 1; \
 	done
 
 # The program, its man page and the index texts.

@@ -8,7 +8,7 @@ With the word `all` behind the folder, it is what the program must print with th
 character in every encoding (`make characters`).
 
 With the word `names` it prints the names. With `verdicts`, a number and names it prints what the program
-`recode_verdicts` must print with these (`make verdicts`): of the characters, in the planes from 1 on of those that
+`recode_cases` must print with these (`make verdicts`): of the characters, in the planes from 1 on of those that
 the number divides, whether each is kept, folded or lost as a text of its own.
 
 Of each encoding: what it reads in short streams of bytes, among which are the bytes of every character of its

@@ -161,9 +161,9 @@ INDEX_FILES = [
 ]
 
 
-def run(words, given=b"", folder=None):
-    """Status, standard output and standard error of the program, by the name that it is installed by."""
-    command, streams = ["recode", *words], {"input": given, "capture_output": True}
+def run(words, given=b"", folder=None, name="recode"):
+    """Status, standard output and standard error of the program, by the name that it is installed by or another."""
+    command, streams = [name, *words], {"input": given, "capture_output": True}
     ran = subprocess.run(command, executable=PROGRAM, cwd=folder, timeout=PATIENCE, check=False, **streams)
     return ran.returncode, ran.stdout, ran.stderr
 
@@ -188,9 +188,11 @@ def index_file_faults():
 
 
 def other_files():
-    """A folder, and a file without an end, where an index file should be."""
+    """A folder, and a file without an end, where an index file should be; a file, and nothing, in place of the folder."""
     words = ["--from", "shift_jis", "--to", "utf-8"]
     wanted = (3, b"", b"recode: index-jis0208.txt: missing\n")
+    for other in (["--indexes", "/dev/null"], ["--indexes", "/dev/none"]):
+        yield from differences(words + other, run(words + other, b"A"), wanted)
     with tempfile.TemporaryDirectory() as folder:
         path = os.path.join(folder, "index-jis0208.txt")
         os.mkdir(path)
@@ -224,6 +226,8 @@ def faults():
     wrong = [*text_faults(), *index_file_faults(), *other_files()]
     for words, given, *wanted in CONVERSIONS:
         wrong += differences(words, run(words, given), tuple(wanted))
+    # The program's own name is a word as well.
+    wrong += differences([b"\xed\xa0\x80"], run(["--version"], name=b"\xed\xa0\x80"), (2, b"", b"recode: a word is not UTF-8\n"))
     for words, message in REFUSALS:
         wrong += differences(words, run(words), (2, b"", message.encode()))
     print("%d conversions, %d refusals, %d index files" % (len(CONVERSIONS), len(REFUSALS), len(INDEX_FILES)))

@@ -29,7 +29,7 @@ STEPS = [
     ("command lines", command_lines.faults),
     ("random inputs", fuzz.faults),
     ("stored output of encoding_index_files", stored.index_file_faults),
-    ("stored streams of recode_sample", stored.sample_faults),
+    ("stored streams of recode_cli", stored.sample_faults),
     ("verdicts of single characters", stored.verdict_faults),
     ("refused memory", refused_memory.faults),
     ("hostile index texts", hostile_indexes.faults),

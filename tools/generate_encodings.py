@@ -351,12 +351,8 @@ def lists_of_files():
     return lines + array("ENCODINGS", "Encoding", names, "pub(crate) ")
 
 
-def imported_encodings():
-    return imports("encoding_front", ["Encoding", *CONSTANTS])
-
-
-def encodings_by_number():
-    return array("ENCODINGS", "Encoding", CONSTANTS)
+def empty_conversions():
+    return ["# No bytes, from each encoding to each.", "nothing " + " ".join(row["name"].lower() for row in ENCODINGS)]
 
 
 def kinds_by_name():
@@ -395,6 +391,7 @@ WHOLE = {
     "encoding_front/specs/examples/Constants.antt": worked_constants,
     "encoding_index_files/src/lists.rt": lists_of_files,
     "recode/src/listing.rt": listing,
+    "recode_cases/data/nothing.txt": empty_conversions,
 }
 PARTS = {
     "encoding_labels/specs/Labels.antt": [constants_of_places, places_rise],
@@ -410,14 +407,13 @@ PARTS = {
     "encoding_front/specs/EncodingTable.antt": [variants_of_encodings, all_encodings],
     "encoding_front/specs/examples/Encodings.antt": [variants_alone, own_indexes],
     "case_lines/src/kinds.rt": [kinds_by_name],
-    "encoding_mem_tests/src/labels.rt": [label_names],
-    "encoding_front_tests/src/encoding.rt": [tested_imports, tested_encodings],
-    "recode_rows/src/empty.rt": [imported_encodings, encodings_by_number],
+    "library_tests/src/labels.rt": [label_names],
+    "library_tests/src/encoding.rt": [tested_imports, tested_encodings],
 }
 
 
 def comment(path):
-    return "//" if path.endswith(".rt") else "--"
+    return {".rt": "//", ".txt": "#"}.get(os.path.splitext(path)[1], "--")
 
 
 def with_parts(path, text, parts):

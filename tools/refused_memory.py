@@ -14,7 +14,7 @@ slices, asks for the room of all of them, and where that is refused it asks word
 
 `encoding_refusals` must print its stored output, with `refused, then` in one line, that of the call whose request was
 refused; it compares the tables itself, before and after. Each call must have been refused, but for those that take no
-memory. Where every request is refused these have their result, and no other call has.
+memory. A load says whether memory was refused to the reader of the text or, behind all requests of that, to the tables. Where every request is refused these have their result, and no other call has.
 """
 
 import os
@@ -111,6 +111,9 @@ FAULTY = {"index-jis0208.txt": b"1\t0x3000\n0\t0x3001\n", "index-big5.txt": b"0\
 # The calls of `encoding_refusals` that take no memory.
 FREE = {"read_ranges of no rows", "decode_latin1 of ASCII", "encode_latin1_lossy of ASCII"}
 
+# Those that load a text, and what they print where memory is refused to the tables.
+LOADS, TO_TABLES = {"load", "load of ranges", "load beside others"}, ": refused to the tables, then "
+
 # Those that need an index: where every request is refused there is none.
 NEEDING = {"encode", "decode of windows-1252", "encode by what was loaded"}
 
@@ -179,8 +182,8 @@ def sweep_calls(allocator):
     with open(os.path.join(TOP, "crates/encoding_refusals/stdout"), encoding="utf-8") as file:
         lines = file.read().splitlines()
     names = [line.split(": ")[0] for line in lines]
-    told = [line.replace(": ", ": refused, then ", 1) for line in lines]
-    counts = [0] * len(lines)
+    loads = [place for place, name in enumerate(names) if name in LOADS]
+    counts, counts_of_tables = [0] * len(lines), [0] * len(lines)
     wrong = []
 
     def look(place, ended, allowed):
@@ -192,21 +195,32 @@ def sweep_calls(allocator):
         return allowed.index(given)
 
     look("calls with memory", run(CALLS, [], b"")[0], [lines])
+
+    def with_line(place, words):
+        return lines[:place] + [lines[place].replace(": ", words, 1)] + lines[place + 1 :]
+
     # what is printed where the request of one call is refused
-    ways = [lines[:place] + [told[place]] + lines[place + 1 :] for place in range(len(lines))]
+    ways = [with_line(place, ": refused, then ") for place in range(len(lines))]
+    ways += [with_line(place, TO_TABLES) for place in loads]
     request = 0
     while True:
         ended, was_refused = run(CALLS, [], b"", allocator, request + 1)
         if not was_refused:
             break
         request += 1
-        place = look("calls at request %d" % request, ended, ways)
-        if place is not None:
-            counts[place] += 1
-    for name, count in zip(names, counts):
-        print("%d refused: %s" % (count, name))
-        if (count == 0) != (name in FREE):
-            wrong.append("%s: %d refused" % (name, count))
+        way = look("calls at request %d" % request, ended, ways)
+        if way is None:
+            continue
+        if way >= len(lines):
+            counts_of_tables[loads[way - len(lines)]] += 1
+        elif counts_of_tables[way]:
+            wrong.append("%s: the reader is refused behind the tables, at request %d" % (names[way], request))
+        else:
+            counts[way] += 1
+    for name, count, of_tables in zip(names, counts, counts_of_tables):
+        print("%d refused: %s" % (count + of_tables, name) + (", %d to the tables" % of_tables if of_tables else ""))
+        if (count == 0) != (name in FREE) or (of_tables == 0) != (name not in LOADS):
+            wrong.append("%s: %d refused, %d to the tables" % (name, count, of_tables))
     none = [
         line if name in FREE else name + (": no index" if name in NEEDING else ": refused, then refused")
         for name, line in zip(names, lines)

@@ -1,11 +1,11 @@
 #!/usr/bin/env python3
-"""Writes the files `stdin` and `stdout` of the program `recode_sample`, by the codec cp932 of Python, and the index that
-it reads.
+"""Writes the stored run of `recode_cli`, by the codec cp932 of Python: its files `stdin` and `stdout`, the log, and the index
+that it reads.
 
-    python3 tools/sample.py crates/recode_sample
+    python3 tools/sample.py crates/recode_cli
 
 The input is a text in Shift_JIS with half a character in it; what must come of it is the text in UTF-8 with
-U+FFFD in that place, and behind it the log. The index has the rows of `indexes/index-jis0208.txt` with characters of the
+U+FFFD in that place, and the log. The index has the rows of `indexes/index-jis0208.txt` with characters of the
 text.
 """
 
@@ -38,7 +38,9 @@ before = BEFORE.encode("cp932")
 with open(f"{folder}/stdin", "wb") as file:
     file.write(before + HALF + AFTER.encode("cp932"))
 with open(f"{folder}/stdout", "wb") as file:
-    file.write((BEFORE + "\ufffd" + AFTER + f"bad {len(before)} {len(HALF)}\n").encode("utf-8"))
+    file.write((BEFORE + "\ufffd" + AFTER).encode("utf-8"))
+with open(f"{folder}/data/log.txt", "w", encoding="ascii") as file:
+    file.write(f"bad {len(before)} {len(HALF)}\n")
 indexes = os.path.join(os.path.dirname(os.path.abspath(__file__)), "..", "indexes")
 with open(os.path.join(indexes, INDEX), encoding="utf-8") as file:
     rows = [line for line in file if is_needed(line)]

@@ -1,12 +1,12 @@
 #!/usr/bin/env python3
-"""Compares what is stored, and what the program `recode_verdicts` prints, with what plain programs say of the same index
+"""Compares what is stored, and what the program `recode_cases` prints, with what plain programs say of the same index
 texts, so that no expected output was made from our own.
 
     python3 tools/stored.py
 
 - The stored output of `encoding_index_files`: `sequences.py` and `characters.py`, behind its first 34 lines, which have
   entries taken from standards and code pages by hand.
-- The stored input and output of `recode_sample`: `sample.py`, by the codec of Python for that text.
+- The stored run of `recode_cli`: `sample.py`, by the codec of Python for that text; and its log, which `rt ci` doesn't see.
 - What a run tells of each character as a text of its own, of every one of the basic plane and of some above it, in the
   encodings that have folds and in some that have none: `characters.py` (`make verdicts` has every character).
 """
@@ -24,7 +24,8 @@ import sequences
 
 TOP = os.path.abspath(os.path.join(os.path.dirname(os.path.abspath(__file__)), ".."))
 INDEXES = os.path.join(TOP, "indexes")
-VERDICTS = os.path.join(TOP, "crates/recode_verdicts/out/recode_verdicts")
+SAMPLE = os.path.join(TOP, "crates/recode_cli")
+VERDICTS = os.path.join(TOP, "crates/recode_cases/out/recode_cases")
 
 # The lines of `encoding_index_files` that were written by hand, one for each kind of index.
 KINDS = 34
@@ -58,12 +59,17 @@ def sample_faults():
     with tempfile.TemporaryDirectory() as folder:
         os.mkdir(os.path.join(folder, "data"))
         subprocess.run([sys.executable, os.path.join(TOP, "tools/sample.py"), folder], check=True)
-        for name in ("stdin", "stdout", "data/index-jis0208.txt"):
+        for name in ("stdin", "stdout", "data/log.txt", "data/index-jis0208.txt"):
             with open(os.path.join(folder, name), "rb") as file:
                 wanted = file.read()
-            with open(os.path.join(TOP, "crates/recode_sample", name), "rb") as file:
-                wrong += difference("crates/recode_sample/" + name, file.read().split(b"\n"), wanted.split(b"\n"))
-    return wrong
+            with open(os.path.join(SAMPLE, name), "rb") as file:
+                wrong += difference("crates/recode_cli/" + name, file.read().split(b"\n"), wanted.split(b"\n"))
+    with open(os.path.join(SAMPLE, "stdin"), "rb") as given:
+        ran = subprocess.run(
+            [os.path.join(SAMPLE, "out/recode_cli"), *read("crates/recode_cli/args").split()],
+            cwd=os.path.join(SAMPLE, "data"), stdin=given, capture_output=True, text=True, timeout=60, check=False,
+        )
+    return wrong + difference("log of recode_cli", ran.stderr.split("\n"), read("crates/recode_cli/data/log.txt").split("\n"))
 
 
 def verdict_faults():
@@ -72,8 +78,8 @@ def verdict_faults():
     words = [VERDICTS, str(STEP), *JUDGED]
     ran = subprocess.run(words, cwd=INDEXES, capture_output=True, text=True, timeout=600, check=False)
     if ran.returncode:
-        return ["recode_verdicts: status %d, %s" % (ran.returncode, ran.stderr)]
-    return difference("recode_verdicts", ran.stdout.splitlines(), characters.verdicts(INDEXES, STEP, JUDGED))
+        return ["recode_cases: status %d, %s" % (ran.returncode, ran.stderr)]
+    return difference("recode_cases", ran.stdout.splitlines(), characters.verdicts(INDEXES, STEP, JUDGED))
 
 
 def main():

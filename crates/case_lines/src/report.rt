@@ -1,5 +1,7 @@
 //! What is printed of a file.
 
+use std::fmt::Debug;
+
 /// The counts of a file of cases.
 #[derive(Clone, Copy)]
 pub struct Report {
@@ -53,12 +55,68 @@ impl Report {
         self.conversions = self.conversions.saturating_add(count);
     }
 
+    // Counts a difference. Returns whether it is the first of its line, which is printed.
+    fn count_difference(&mut self) -> bool {
+        let is_first = !self.is_told;
+        self.differences = self.differences.wrapping_add(1);
+        self.is_told = true;
+        is_first
+    }
+
     /// Prints the first difference of a line, and counts all.
     pub fn differs(&mut self, rt: &impl Print, what: &str) -> anyhow::Result<()> {
-        self.differences = self.differences.wrapping_add(1);
-        if !self.is_told {
-            self.is_told = true;
+        if self.count_difference() {
             println!(rt; "{}:{}: {what}", self.file, self.line)?;
+        }
+        Ok(())
+    }
+
+    /// Compares what there is with what is expected: prints the first difference of a line, and
+    /// counts all.
+    pub fn compare<T: PartialEq + Debug>(
+        &mut self,
+        rt: &impl Print,
+        what: &str,
+        got: &T,
+        want: &T,
+    ) -> anyhow::Result<()> {
+        if got != want && self.count_difference() {
+            println!(rt;
+                "{}:{}: {what}: {got:?} and not {want:?}",
+                self.file, self.line
+            )?;
+        }
+        Ok(())
+    }
+
+    /// The same of texts.
+    pub fn compare_texts(
+        &mut self,
+        rt: &impl Print,
+        what: &str,
+        got: &str,
+        want: &str,
+    ) -> anyhow::Result<()> {
+        if got != want && self.count_difference() {
+            println!(rt; "{}:{}: {what}: {got} and not {want}", self.file, self.line)?;
+        }
+        Ok(())
+    }
+
+    /// The same by a plan, which is printed with the difference.
+    pub fn compare_by<P: Debug, T: PartialEq + Debug>(
+        &mut self,
+        rt: &impl Print,
+        plan: &P,
+        what: &str,
+        got: &T,
+        want: &T,
+    ) -> anyhow::Result<()> {
+        if got != want && self.count_difference() {
+            println!(rt;
+                "{}:{}: {plan:?}: {what}: {got:?} and not {want:?}",
+                self.file, self.line
+            )?;
         }
         Ok(())
     }

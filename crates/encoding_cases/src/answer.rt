@@ -27,6 +27,31 @@ pub(crate) struct Answer {
     pub(crate) keeps_rest: bool,
 }
 
+impl Answer {
+    // Of a call that wrote so many elements to the front of a room in which each was `unwritten`.
+    pub(crate) fn of<T: Copy + PartialEq>(
+        alloc: Global,
+        outcome: Outcome,
+        read: usize,
+        (room, written): (&[T], usize),
+        unwritten: T,
+    ) -> Result<Answer, AllocError>
+    where
+        u32: From<T>,
+    {
+        let mut keeps_rest = true;
+        for element in room.get(written..).unwrap_or(&[]) {
+            keeps_rest = keeps_rest && *element == unwritten;
+        }
+        Ok(Answer {
+            outcome,
+            read,
+            output: widened(alloc, room.get(..written).unwrap_or(&[]))?,
+            keeps_rest,
+        })
+    }
+}
+
 // A decoder that may tell whether it is as at the start of a stream.
 pub(crate) trait Neutral: RawDecoder {
     fn is_neutral(&self) -> Option<bool>;
@@ -108,24 +133,14 @@ pub(crate) fn decode<D: RawDecoder>(
         Form::Utf8 => {
             let mut dst = std::vec![in alloc; UNWRITTEN; room]?;
             let (outcome, read, written) = decoder.decode_to_utf8_raw(src, &mut dst, last);
-            let (output, rest) = dst.split_at(written);
-            Ok(Answer {
-                outcome: Outcome::of_decoder(outcome),
-                read,
-                output: widened(alloc, output)?,
-                keeps_rest: rest.iter().all(|byte| *byte == UNWRITTEN),
-            })
+            let outcome = Outcome::of_decoder(outcome);
+            Answer::of(alloc, outcome, read, (&dst, written), UNWRITTEN)
         }
         Form::Utf16 => {
             let mut dst = std::vec![in alloc; UNWRITTEN_UNIT; room]?;
             let (outcome, read, written) = decoder.decode_to_utf16_raw(src, &mut dst, last);
-            let (output, rest) = dst.split_at(written);
-            Ok(Answer {
-                outcome: Outcome::of_decoder(outcome),
-                read,
-                output: widened(alloc, output)?,
-                keeps_rest: rest.iter().all(|unit| *unit == UNWRITTEN_UNIT),
-            })
+            let outcome = Outcome::of_decoder(outcome);
+            Answer::of(alloc, outcome, read, (&dst, written), UNWRITTEN_UNIT)
         }
     }
 }
@@ -193,13 +208,8 @@ pub(crate) fn encode<E: RawEncoder>(
         Text::Utf8(text) => encoder.encode_from_utf8_raw(text, &mut dst, last),
         Text::Utf16(units) => encoder.encode_from_utf16_raw(units, &mut dst, last),
     };
-    let (output, rest) = dst.split_at(written);
-    Ok(Answer {
-        outcome: Outcome::of_encoder(outcome),
-        read,
-        output: widened(alloc, output)?,
-        keeps_rest: rest.iter().all(|byte| *byte == UNWRITTEN),
-    })
+    let outcome = Outcome::of_encoder(outcome);
+    Answer::of(alloc, outcome, read, (&dst, written), UNWRITTEN)
 }
 
 // The room that an encoder asks for.

@@ -15,7 +15,7 @@ pub(crate) enum Source {
 }
 
 // How a call must end. A number that a case leaves open is none.
-#[derive(Clone, Copy, Debug)]
+#[derive(Clone, Copy)]
 pub(crate) enum Ending {
     Exactly(Outcome),
     // The length of a malformed sequence, with any number of bytes behind it.
@@ -23,11 +23,14 @@ pub(crate) enum Ending {
 }
 
 impl Ending {
-    pub(crate) fn takes(self, outcome: Outcome) -> bool {
+    // The outcome that it must be, with what it leaves open as in that which there is.
+    pub(crate) fn of(self, outcome: Outcome) -> Outcome {
         match (self, outcome) {
-            (Ending::Exactly(expected), _) => expected == outcome,
-            (Ending::Malformed(len), Outcome::Malformed(size, _)) => len == size,
-            _ => false,
+            (Ending::Exactly(expected), _) => expected,
+            (Ending::Malformed(len), Outcome::Malformed(_, behind)) => {
+                Outcome::Malformed(len, behind)
+            }
+            (Ending::Malformed(len), _) => Outcome::Malformed(len, 0),
         }
     }
 }
@@ -42,6 +45,18 @@ pub(crate) enum State {
     Escape(bool),
     // Whether an encoder says that it wrote a reference.
     Lost(bool),
+}
+
+impl State {
+    pub(crate) fn is_of_kind(self, other: State) -> bool {
+        matches!(
+            (self, other),
+            (State::Pending(_), State::Pending(_))
+                | (State::Neutral(_), State::Neutral(_))
+                | (State::Escape(_), State::Escape(_))
+                | (State::Lost(_), State::Lost(_))
+        )
+    }
 }
 
 // What a `Decoder` must answer after a call.
@@ -105,7 +120,8 @@ fn ending_of(words: &str) -> anyhow::Result<Ending> {
     }
 }
 
-fn number_or_none(word: &str) -> anyhow::Result<Option<usize>> {
+// A number, or `none`.
+pub(crate) fn number_or_none(word: &str) -> anyhow::Result<Option<usize>> {
     if word == "none" {
         return Ok(None);
     }
@@ -173,6 +189,21 @@ fn state_of(words: &str) -> anyhow::Result<State> {
     }
 }
 
+fn source_of(alloc: Global, words: &str) -> anyhow::Result<Source> {
+    if words == "rest" {
+        return Ok(Source::Rest);
+    }
+    Ok(Source::Numbers(numbers(alloc, words)?))
+}
+
+// How much must be read; none where a case leaves it open.
+fn read_of(word: &str) -> anyhow::Result<Option<usize>> {
+    if word == "?" {
+        return Ok(None);
+    }
+    Ok(Some(decimal(word)?))
+}
+
 // The form and the room, whether the call is the last, and whether it writes references.
 fn head_of(words: &str) -> anyhow::Result<(Form, Given, bool, bool)> {
     let mut words = words.split_whitespace();
@@ -181,13 +212,15 @@ fn head_of(words: &str) -> anyhow::Result<(Form, Given, bool, bool)> {
         "asked" => Given::Asked,
         word => Given::Room(decimal(word)?),
     };
-    match (words.next(), words.next()) {
-        (None, _) => Ok((form, room, false, false)),
-        (Some("last"), None) => Ok((form, room, true, false)),
-        (Some("replaced"), None) => Ok((form, room, false, true)),
-        (Some("replaced"), Some("last")) => Ok((form, room, true, true)),
-        _ => bail!("a word is neither `replaced` nor `last`"),
+    let (mut last, mut replaces) = (false, false);
+    for word in words {
+        match word {
+            "last" => last = true,
+            "replaced" => replaces = true,
+            _ => bail!("a word is neither `replaced` nor `last`"),
+        }
     }
+    Ok((form, room, last, replaces))
 }
 
 impl CallLine {
@@ -196,37 +229,35 @@ impl CallLine {
         let (call, told) = line.split_once(" -> ").context("a call has no ` -> `")?;
         let (head, source) = call.split_once(':').context("a call has no `:`")?;
         let (form, room, last, replaces) = head_of(head)?;
-        let source = match source.trim() {
-            "rest" => Source::Rest,
-            words => Source::Numbers(numbers(alloc, words)?),
-        };
         let mut fields = told.split(',');
         let ending = ending_of(fields.next().unwrap_or(""))?;
-        let read = match fields.next().context("a number read is not there")?.trim() {
-            "?" => None,
-            word => Some(decimal(word)?),
-        };
-        let output = numbers(alloc, fields.next().context("an output is not there")?)?;
-        let mut states = Vec::new(alloc);
-        let mut asks = Vec::new(alloc);
-        for field in fields {
-            match ask_of(alloc, field.trim())? {
-                Some(ask) => asks.push(ask)?,
-                None => states.push(state_of(field.trim())?)?,
-            }
-        }
-        Ok(CallLine {
+        let read = read_of(fields.next().context("a number read is not there")?.trim())?;
+        let output = fields.next().context("an output is not there")?;
+        let mut line = CallLine {
             number,
             form,
             room,
             last,
             replaces,
-            source,
+            source: source_of(alloc, source.trim())?,
             ending,
             read,
-            output,
-            states,
-            asks,
-        })
+            output: numbers(alloc, output)?,
+            states: Vec::new(alloc),
+            asks: Vec::new(alloc),
+        };
+        for field in fields {
+            line.add(alloc, field.trim())?;
+        }
+        Ok(line)
+    }
+
+    // Adds what must be answered, or hold, after the call.
+    fn add(&mut self, alloc: Global, field: &str) -> anyhow::Result<()> {
+        match ask_of(alloc, field)? {
+            Some(ask) => self.asks.push(ask)?,
+            None => self.states.push(state_of(field)?)?,
+        }
+        Ok(())
     }
 }

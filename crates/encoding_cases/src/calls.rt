@@ -88,50 +88,30 @@ pub(crate) fn given_room(line: &CallLine) -> anyhow::Result<usize> {
 
 // Compares what a call tells with its line.
 pub(crate) fn check_answer(
-    rt: &(impl Print + AllocGlobal),
+    rt: &impl Print,
     line: &CallLine,
     answer: &Answer,
     output: &[u32],
     report: &mut Report,
 ) -> anyhow::Result<()> {
     report.count_conversion();
-    if !line.ending.takes(answer.outcome) {
-        let what = format!(in rt.alloc(); "{:?} and not {:?}", answer.outcome, line.ending)?;
-        report.differs(rt, what.as_str())?;
-    }
-    if line.read.is_some() && line.read != Some(answer.read) {
-        let what = format!(in rt.alloc(); "{} read and not {:?}", answer.read, line.read)?;
-        report.differs(rt, what.as_str())?;
-    }
-    if answer.output.as_slice() != output {
-        let written = answer.output.as_slice();
-        let what = format!(in rt.alloc(); "{written:?} written and not {output:?}")?;
-        report.differs(rt, what.as_str())?;
-    }
-    if !answer.keeps_rest {
-        report.differs(rt, "what stands behind the output changes")?;
-    }
-    Ok(())
+    let outcome = line.ending.of(answer.outcome);
+    report.compare(rt, "the outcome", &answer.outcome, &outcome)?;
+    report.compare(rt, "read", &answer.read, &line.read.unwrap_or(answer.read))?;
+    report.compare(rt, "written", &answer.output.as_slice(), &output)?;
+    report.compare(rt, "the rest is kept", &answer.keeps_rest, &true)
 }
 
 // Compares a state with those that a line names, of the same kind.
 pub(crate) fn check_state(
-    rt: &(impl Print + AllocGlobal),
+    rt: &impl Print,
     line: &CallLine,
     state: State,
     report: &mut Report,
 ) -> anyhow::Result<()> {
     for expected in line.states.iter() {
-        let is_other = match (*expected, state) {
-            (State::Pending(a), State::Pending(b)) => a != b,
-            (State::Neutral(a), State::Neutral(b)) => a != b,
-            (State::Escape(a), State::Escape(b)) => a != b,
-            (State::Lost(a), State::Lost(b)) => a != b,
-            _ => false,
-        };
-        if is_other {
-            let what = format!(in rt.alloc(); "{state:?} and not {expected:?}")?;
-            report.differs(rt, what.as_str())?;
+        if expected.is_of_kind(state) {
+            report.compare(rt, "the state", &state, expected)?;
         }
     }
     Ok(())

@@ -11,7 +11,7 @@ use encoding_tables::Tables;
 use std::alloc::{AllocError, Global};
 
 // How a stream is handed in: in two parts, into so much room.
-#[derive(Clone, Copy)]
+#[derive(Clone, Copy, Debug)]
 struct Plan {
     through: Through,
     form: Form,
@@ -151,19 +151,8 @@ fn check_plan(
     }
     let told = &reading.told;
     let expected = stream.items(plan.form);
-    let place = format!(in rt.alloc();
-        "{:?}, {:?}, cut at {}, room {}",
-        plan.through, plan.form, plan.cut, plan.room
-    )?;
-    if let Some(fault) = told.fault {
-        let what = format!(in rt.alloc(); "{place}: {fault}")?;
-        report.differs(rt, what.as_str())?;
-    }
-    if told.items.as_slice() != expected {
-        let items = told.items.as_slice();
-        let what = format!(in rt.alloc(); "{place}: {items:?} and not {expected:?}")?;
-        report.differs(rt, what.as_str())?;
-    }
+    report.compare_by(rt, &plan, "the fault", &told.fault, &None)?;
+    report.compare_by(rt, &plan, "the items", &told.items.as_slice(), &expected)?;
     Ok(told.asked)
 }
 

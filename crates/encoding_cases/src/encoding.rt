@@ -18,7 +18,7 @@ const LEAST_ROOM: usize = 4;
 const LEAST_ROOM_OF_ESCAPES: usize = 3;
 
 // How a text is handed in: in two parts, into so much room.
-#[derive(Clone, Copy)]
+#[derive(Clone, Copy, Debug)]
 struct Plan {
     through: Through,
     form: Form,
@@ -162,19 +162,8 @@ fn check_plan(
     }
     let told = &writing.told;
     let expected = stream.items.as_slice();
-    let place = format!(in rt.alloc();
-        "{:?}, {:?}, cut at {:?}, room {}",
-        plan.through, plan.form, plan.cut, plan.room
-    )?;
-    if let Some(fault) = told.fault {
-        let what = format!(in rt.alloc(); "{place}: {fault}")?;
-        report.differs(rt, what.as_str())?;
-    }
-    if told.items.as_slice() != expected {
-        let items = told.items.as_slice();
-        let what = format!(in rt.alloc(); "{place}: {items:?} and not {expected:?}")?;
-        report.differs(rt, what.as_str())?;
-    }
+    report.compare_by(rt, &plan, "the fault", &told.fault, &None)?;
+    report.compare_by(rt, &plan, "the items", &told.items.as_slice(), &expected)?;
     Ok(told.asked)
 }
 

@@ -2,6 +2,7 @@
 
 ghost use Rattle.encoding_front.specs.Encodings.{IsReady};
 
+use crate::call_lines::number_or_none;
 use crate::names::encoding_of;
 use anyhow::{Context, ensure};
 use case_lines::kinds::kind_of;
@@ -9,7 +10,6 @@ use case_lines::report::Report;
 use case_lines::words::{add_bytes, decimal, scalar, unescaped};
 use encoding_front::{Encoding, Reference, write_reference};
 use encoding_tables::Tables;
-use std::alloc::Global;
 
 // A line in two: what is asked, and what must be answered.
 fn halves(words: &str) -> anyhow::Result<(&str, &str)> {
@@ -36,11 +36,8 @@ fn check_label(
     let found = name_of(Encoding::for_label(label.as_slice()));
     let other = name_of(Encoding::for_label_no_replacement(label.as_slice()));
     let expected = if name == "replacement" { "none" } else { name };
-    if found != name || other != expected {
-        let what = format!(in rt.alloc(); "{found}, and {other} without replacement")?;
-        report.differs(rt, what.as_str())?;
-    }
-    Ok(())
+    report.compare_texts(rt, "the encoding", found, name)?;
+    report.compare_texts(rt, "without replacement", other, expected)
 }
 
 // Words as `EFBBBF41 -> UTF-8 3` or `EF -> none 0`.
@@ -52,41 +49,29 @@ fn check_bom(
     let (word, told) = halves(words)?;
     let mut bytes = Vec::new(rt.alloc());
     add_bytes(word, &mut bytes)?;
-    let (name, len) = match Encoding::for_bom(bytes.as_slice()) {
+    let (name, len) = told.split_once(' ').context("a number is missing")?;
+    let (found, found_len) = match Encoding::for_bom(bytes.as_slice()) {
         Some((encoding, len)) => (encoding.name(), len),
         None => ("none", 0),
     };
-    let found = format!(in rt.alloc(); "{name} {len}")?;
-    if found.as_str() != told {
-        report.differs(rt, found.as_str())?;
-    }
-    Ok(())
+    report.compare_texts(rt, "the mark", found, name)?;
+    report.compare(rt, "its length", &found_len, &decimal(len)?)
+}
+
+// One of two words.
+fn word_for(is_first: bool, first: &'static str, second: &'static str) -> &'static str {
+    if is_first { first } else { second }
 }
 
 // The words that say of an encoding what it is.
-fn words_of(alloc: Global, encoding: Encoding) -> anyhow::Result<String> {
-    let bytes = if encoding.is_single_byte() {
-        "single"
-    } else {
-        "several"
-    };
-    let ascii = if encoding.is_ascii_compatible() {
-        "ascii"
-    } else {
-        "no-ascii"
-    };
-    let folds = if encoding.keeps_characters() {
-        "keeps"
-    } else {
-        "folds"
-    };
-    let all = if encoding.can_encode_everything() {
-        "all"
-    } else {
-        "some"
-    };
-    let output = encoding.output_encoding().name();
-    Ok(format!(in alloc; "{output} {all} {bytes} {ascii} {folds}")?)
+fn words_of(encoding: Encoding) -> [&'static str; 5] {
+    [
+        encoding.output_encoding().name(),
+        word_for(encoding.can_encode_everything(), "all", "some"),
+        word_for(encoding.is_single_byte(), "single", "several"),
+        word_for(encoding.is_ascii_compatible(), "ascii", "no-ascii"),
+        word_for(encoding.keeps_characters(), "keeps", "folds"),
+    ]
 }
 
 // Words as `Big5 -> Big5 some several ascii keeps big5`: of the encoding with this name the
@@ -100,28 +85,16 @@ fn check_encoding(
 ) -> anyhow::Result<()> {
     let (name, told) = halves(words)?;
     let encoding = encoding_of(name)?;
-    if encoding.name() != name {
-        report.differs(rt, encoding.name())?;
+    report.compare_texts(rt, "the name", encoding.name(), name)?;
+    let mut words = told.split_whitespace();
+    for found in words_of(encoding) {
+        report.compare_texts(rt, "a word", found, words.next().unwrap_or(""))?;
     }
-    let found = words_of(rt.alloc(), encoding)?;
-    let rest = told.strip_prefix(found.as_str()).unwrap_or("-");
-    let mut kinds = Vec::new(rt.alloc());
-    for word in rest.split_whitespace() {
-        kinds.push(if word == "-" {
-            None
-        } else {
-            Some(kind_of(word)?)
-        })?;
-    }
-    let mut needed = Vec::new(rt.alloc());
     for kind in encoding.needs() {
-        needed.push(Some(*kind))?;
+        let word = words.next().context("an index is missing")?;
+        report.compare(rt, "an index", kind, &kind_of(word)?)?;
     }
-    if kinds.as_slice() != needed.as_slice() {
-        let what = format!(in rt.alloc(); "{found}, and {} indexes", needed.len())?;
-        report.differs(rt, what.as_str())?;
-    }
-    Ok(())
+    report.compare_texts(rt, "behind the last index", words.next().unwrap_or(""), "")
 }
 
 // Words as `61620EC3A9FF -> 5 3 2`: how long the prefix is that is UTF-8, ASCII, and ASCII for
@@ -134,14 +107,15 @@ fn check_prefixes(
     let (word, told) = halves(words)?;
     let mut bytes = Vec::new(rt.alloc());
     add_bytes(word, &mut bytes)?;
-    let found = format!(in rt.alloc();
-        "{} {} {}",
+    let lengths = [
         Encoding::utf8_valid_up_to(bytes.as_slice()),
         Encoding::ascii_valid_up_to(bytes.as_slice()),
-        Encoding::iso_2022_jp_ascii_valid_up_to(bytes.as_slice())
-    )?;
-    if found.as_str() != told {
-        report.differs(rt, found.as_str())?;
+        Encoding::iso_2022_jp_ascii_valid_up_to(bytes.as_slice()),
+    ];
+    let mut words = told.split_whitespace();
+    for length in lengths {
+        let expected = decimal(words.next().unwrap_or(""))?;
+        report.compare(rt, "a prefix", &length, &expected)?;
     }
     Ok(())
 }
@@ -163,13 +137,11 @@ fn check_reference(
     let (word, told) = halves(words)?;
     let c = scalar(word)?;
     let (decimal, hexadecimal) = told.split_once(' ').context("a form is missing")?;
-    if !is_written(c, Reference::Decimal, decimal) {
-        report.differs(rt, "the decimal form is another")?;
-    }
-    if !is_written(c, Reference::Hexadecimal, hexadecimal) {
-        report.differs(rt, "the hexadecimal form is another")?;
-    }
-    Ok(())
+    let are_written = (
+        is_written(c, Reference::Decimal, decimal),
+        is_written(c, Reference::Hexadecimal, hexadecimal),
+    );
+    report.compare(rt, "the forms are written", &are_written, &(true, true))
 }
 
 // Words as `GBK no`: whether the indexes are there that an encoding needs.
@@ -181,10 +153,8 @@ fn check_ready(
 ) -> anyhow::Result<()> {
     let (name, told) = words.split_once(' ').context("a word is missing")?;
     ensure!(told == "yes" || told == "no", "neither `yes` nor `no`");
-    if encoding_of(name)?.is_ready(tables) != (told == "yes") {
-        report.differs(rt, "whether the indexes are there is told wrong")?;
-    }
-    Ok(())
+    let is_ready = encoding_of(name)?.is_ready(tables);
+    report.compare(rt, "the indexes are there", &is_ready, &(told == "yes"))
 }
 
 // Words as `ISO-2022-JP 7 -> 31 41 38 48`: the room that an `Encoder` asks for so many bytes,
@@ -211,14 +181,8 @@ fn check_rooms(
     ];
     let mut words = told.split_whitespace();
     for room in rooms {
-        let expected = match words.next().unwrap_or("") {
-            "none" => None,
-            word => Some(decimal(word)?),
-        };
-        if room != expected {
-            let what = format!(in rt.alloc(); "{room:?} and not {expected:?}")?;
-            report.differs(rt, what.as_str())?;
-        }
+        let expected = number_or_none(words.next().unwrap_or(""))?;
+        report.compare(rt, "a room", &room, &expected)?;
     }
     Ok(())
 }
@@ -243,16 +207,26 @@ fn check_whole(
         return report.differs(rt, "an index is not there");
     }
     let (bytes, output, is_lost) = encoding.encode(alloc, tables, text.as_str())?;
-    let lost = if is_lost { "lost" } else { "not-lost" };
-    let mut found = format!(in alloc; "{} {lost}", output.name())?;
-    for byte in bytes.iter() {
-        let word = format!(in alloc; " {byte:02X}")?;
-        found.push_str(word.as_str())?;
+    let lost = word_for(is_lost, "lost", "not-lost");
+    check_written(rt, (output.name(), lost, bytes.as_slice()), told, report)
+}
+
+// Compares what comes of a text with words as `windows-1257 not-lost 61 80`.
+fn check_written(
+    rt: &(impl Print + AllocGlobal),
+    (output, lost, bytes): (&str, &str, &[u8]),
+    told: &str,
+    report: &mut Report,
+) -> anyhow::Result<()> {
+    let (name, rest) = told.split_once(' ').context("a word is missing")?;
+    let (word, digits) = rest.split_once(' ').unwrap_or((rest, ""));
+    report.compare_texts(rt, "the output", output, name)?;
+    report.compare_texts(rt, "whether it is lost", lost, word)?;
+    let mut expected = Vec::new(rt.alloc());
+    for byte in digits.split_whitespace() {
+        add_bytes(byte, &mut expected)?;
     }
-    if found.as_str() != told {
-        report.differs(rt, found.as_str())?;
-    }
-    Ok(())
+    report.compare(rt, "the bytes", &bytes, &expected.as_slice())
 }
 
 // A line that says something by itself. Returns whether its first word is known.

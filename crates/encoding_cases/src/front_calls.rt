@@ -97,15 +97,8 @@ fn into_bytes(
         );
         (Outcome::of_decoder(outcome), read, written, false)
     };
-    let output = dst.get(..written).unwrap_or(&[]);
-    let rest = dst.get(written..).unwrap_or(&[]);
     Ok(Some(KindAnswer {
-        answer: Answer {
-            outcome,
-            read,
-            output: widened(alloc, output)?,
-            keeps_rest: rest.iter().all(|byte| *byte == UNWRITTEN),
-        },
+        answer: Answer::of(alloc, outcome, read, (&dst, written), UNWRITTEN)?,
         had_errors,
     }))
 }
@@ -131,15 +124,8 @@ fn into_units(
         );
         (Outcome::of_decoder(outcome), read, written, false)
     };
-    let output = dst.get(..written).unwrap_or(&[]);
-    let rest = dst.get(written..).unwrap_or(&[]);
     Ok(Some(KindAnswer {
-        answer: Answer {
-            outcome,
-            read,
-            output: widened(alloc, output)?,
-            keeps_rest: rest.iter().all(|unit| *unit == UNWRITTEN_UNIT),
-        },
+        answer: Answer::of(alloc, outcome, read, (&dst, written), UNWRITTEN_UNIT)?,
         had_errors,
     }))
 }

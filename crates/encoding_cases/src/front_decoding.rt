@@ -24,13 +24,18 @@ fn rooms_for(decoder: &Decoder<'_>, n: usize) -> Option<[Option<usize>; 3]> {
     ])
 }
 
-// Whether these are the rooms, as far as they are stated.
-fn are_rooms(decoder: &Decoder<'_>, n: usize, expected: &[Option<Option<usize>>; 3]) -> bool {
-    match rooms_for(decoder, n) {
-        None => false,
-        Some(rooms) => rooms.iter().zip(expected.iter()).all(|(room, stated)| stated.is_none()
-            || *stated == Some(*room)),
-    }
+// The rooms that are stated, and where a case leaves one open that which there is.
+fn stated_rooms(
+    rooms: Option<[Option<usize>; 3]>,
+    stated: &[Option<Option<usize>>; 3],
+) -> Option<[Option<usize>; 3]> {
+    let [units, bytes, replaced] = rooms.unwrap_or([None; 3]);
+    let [of_units, of_bytes, of_replaced] = *stated;
+    Some([
+        of_units.unwrap_or(units),
+        of_bytes.unwrap_or(bytes),
+        of_replaced.unwrap_or(replaced),
+    ])
 }
 
 // How many bytes are Latin1, where the decoder is not finished.
@@ -43,31 +48,43 @@ fn latin1(decoder: &Decoder<'_>, bytes: &[u8]) -> Option<Option<usize>> {
 
 // Compares what a decoder answers with what it must.
 fn check_ask(
-    rt: &(impl Print + AllocGlobal),
+    rt: &impl Print,
     decoder: &Decoder<'_>,
     had_errors: bool,
     ask: &Ask,
     report: &mut Report,
 ) -> anyhow::Result<()> {
-    let what = match ask {
-        Ask::Finished(expected) if decoder.is_finished() != *expected => {
-            format!(in rt.alloc(); "finished: {}", !*expected)?
+    match ask {
+        Ask::Finished(expected) => {
+            report.compare(rt, "finished", &decoder.is_finished(), expected)
         }
-        Ask::Errors(expected) if had_errors != *expected => {
-            format!(in rt.alloc(); "errors: {had_errors}")?
+        Ask::Errors(expected) => report.compare(rt, "errors", &had_errors, expected),
+        Ask::Found(expected) => {
+            report.compare_texts(rt, "found", decoder.encoding().name(), expected.as_str())
         }
-        Ask::Found(expected) if decoder.encoding().name() != expected.as_str() => {
-            format!(in rt.alloc(); "found: {}", decoder.encoding().name())?
+        Ask::Rooms(n, expected) => {
+            let rooms = rooms_for(decoder, *n);
+            report.compare(rt, "rooms", &rooms, &stated_rooms(rooms, expected))
         }
-        Ask::Rooms(n, expected) if !are_rooms(decoder, *n, expected) => {
-            format!(in rt.alloc(); "rooms: {:?}", rooms_for(decoder, *n))?
+        Ask::Latin1(bytes, expected) => {
+            let most = latin1(decoder, bytes.as_slice());
+            report.compare(rt, "latin1", &most, &Some(*expected))
         }
-        Ask::Latin1(bytes, expected) if latin1(decoder, bytes.as_slice()) != Some(*expected) => {
-            format!(in rt.alloc(); "latin1: {:?}", latin1(decoder, bytes.as_slice()))?
-        }
-        _ => return Ok(()),
-    };
-    report.differs(rt, what.as_str())
+    }
+}
+
+// Makes what is asked, before a call or behind it.
+fn check_asks(
+    rt: &impl Print,
+    decoder: &Decoder<'_>,
+    had_errors: bool,
+    asks: &[Ask],
+    report: &mut Report,
+) -> anyhow::Result<()> {
+    for ask in asks {
+        check_ask(rt, decoder, had_errors, ask, report)?;
+    }
+    Ok(())
 }
 
 // What a decoder has read of bytes, of which some may be left.
@@ -111,10 +128,7 @@ fn check_call(
     reading.offset = call.answer.read.saturating_add(reading.offset);
     let output = in_form(alloc, line.form, line.output.as_slice())?;
     check_answer(rt, line, &call.answer, output.as_slice(), report)?;
-    for ask in line.asks.iter() {
-        check_ask(rt, decoder, call.had_errors, ask, report)?;
-    }
-    Ok(())
+    check_asks(rt, decoder, call.had_errors, line.asks.as_slice(), report)
 }
 
 // Makes the calls of a case.
@@ -130,9 +144,7 @@ pub(crate) fn check_decoder_calls(
     }
     let mut decoder = Decoder::new(calls.encoding, mark, tables);
     report.at(calls.number);
-    for ask in calls.asks.iter() {
-        check_ask(rt, &decoder, false, ask, report)?;
-    }
+    check_asks(rt, &decoder, false, calls.asks.as_slice(), report)?;
     let mut reading = Reading {
         bytes: Vec::new(rt.alloc()),
         offset: 0,

@@ -5,7 +5,7 @@ ghost use Rattle.encoding_front.specs.Encodings.{IsReady};
 use crate::answer::{Answer, Text, UNWRITTEN};
 use crate::call_lines::{Source, State};
 use crate::calls::{Calls, TextOfCall, check_answer, check_state, given_room};
-use crate::kinds::{Outcome, widened};
+use crate::kinds::Outcome;
 use case_lines::report::Report;
 use encoding_front::{CoderResult, Encoder};
 use encoding_tables::Tables;
@@ -31,14 +31,7 @@ fn encode_replacing(
         Text::Utf8(text) => encoder.encode_from_utf8(text, &mut dst, last),
         Text::Utf16(units) => encoder.encode_from_utf16(units, &mut dst, last),
     };
-    let output = dst.get(..written).unwrap_or(&[]);
-    let rest = dst.get(written..).unwrap_or(&[]);
-    let answer = Answer {
-        outcome: outcome_of(outcome),
-        read,
-        output: widened(alloc, output)?,
-        keeps_rest: rest.iter().all(|byte| *byte == UNWRITTEN),
-    };
+    let answer = Answer::of(alloc, outcome_of(outcome), read, (&dst, written), UNWRITTEN)?;
     Ok((answer, is_lost))
 }
 
@@ -55,14 +48,8 @@ fn encode_without(
         Text::Utf8(text) => encoder.encode_from_utf8_without_replacement(text, &mut dst, last),
         Text::Utf16(units) => encoder.encode_from_utf16_without_replacement(units, &mut dst, last),
     };
-    let output = dst.get(..written).unwrap_or(&[]);
-    let rest = dst.get(written..).unwrap_or(&[]);
-    Ok(Answer {
-        outcome: Outcome::of_encoder(outcome),
-        read,
-        output: widened(alloc, output)?,
-        keeps_rest: rest.iter().all(|byte| *byte == UNWRITTEN),
-    })
+    let outcome = Outcome::of_encoder(outcome);
+    Answer::of(alloc, outcome, read, (&dst, written), UNWRITTEN)
 }
 
 // Makes the calls of a case.

@@ -1,6 +1,7 @@
-//! Converts the cases of the files in `data/`, and prints of each file how many cases it has, how
-//! many conversions they took, and each difference from what a case expects. The file `stdout`
-//! beside `src/` has what it must print: no difference.
+//! Hands in the indexes of the files in `data/` and looks entries up in them, converts the cases of
+//! the others, and prints of each file how many cases it has, how many conversions or calls they
+//! took, and each difference from what a case expects. The file `stdout` beside `src/` has what it
+//! must print: no difference.
 //!
 //! A case of a whole stream gives each piece beside what it becomes; it is converted at every cut,
 //! into rooms of every size. A case of calls gives the exact result of each. `data/README.md` has
@@ -14,20 +15,30 @@ mod codecs;
 mod decoding;
 mod encoding;
 mod encoding_lines;
+mod faults;
 mod front_calls;
 mod front_decoding;
 mod front_encoding;
+mod insertions;
 mod kinds;
+mod lookups;
 mod names;
 mod pieces;
 mod rooms;
 mod session;
 mod streams;
+mod table_lines;
+mod texts;
 
 use crate::session::run_file;
+use crate::table_lines::run_table_file;
 use anyhow::Context;
 use std::fs;
 
+// The files of indexes.
+const TABLE_FILES: [&str; 4] = ["lists.txt", "rows.txt", "ranges.txt", "index-texts.txt"];
+
+// The files of codecs and of encodings.
 const FILES: [&str; 13] = [
     "utf-8.txt",
     "single-byte.txt",
@@ -45,6 +56,10 @@ const FILES: [&str; 13] = [
 ];
 
 fn main(rt: HostRuntime) -> anyhow::Result<()> {
+    for name in TABLE_FILES {
+        let text = fs::read_to_string(&rt, name).context(name)?;
+        run_table_file(&rt, name, text.as_str())?;
+    }
     for name in FILES {
         let text = fs::read_to_string(&rt, name).context(name)?;
         run_file(&rt, name, text.as_str())?;

@@ -7,7 +7,7 @@ use case_lines::words::decimal;
 use encoding_front::{Encoding, Mark};
 
 // A room as a multiple of a number, and so much more.
-#[derive(Clone, Copy)]
+#[derive(Clone, Copy, Debug)]
 pub(crate) struct Room {
     factor: usize,
     more: usize,

@@ -125,19 +125,22 @@ impl Session {
         }
         let (word, words) = line.split_once(' ').unwrap_or((line, ""));
         if word == "utf-8" || word == "utf-16" {
-            let call = CallLine::of(rt.alloc(), self.report.line(), line)?;
-            let calls = self
-                .calls
-                .as_mut()
-                .context("a call of no decoder or encoder")?;
-            calls.lines.push(call)?;
-            return Ok(());
+            return self.add_call(rt.alloc(), line);
         }
         let number = self.report.line();
         self.end_calls(rt)?;
         self.report.at(number);
         let is_known = self.line_of(rt, word, words.trim())?;
         ensure!(is_known, "a line is not understood");
+        Ok(())
+    }
+
+    // A call of the decoder or encoder of the lines before.
+    fn add_call(&mut self, alloc: Global, line: &str) -> anyhow::Result<()> {
+        let number = self.report.line();
+        let calls = self.calls.as_mut();
+        let calls = calls.context("a call of no decoder or encoder")?;
+        calls.lines.push(CallLine::of(alloc, number, line)?)?;
         Ok(())
     }
 }

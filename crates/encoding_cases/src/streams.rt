@@ -140,7 +140,7 @@ fn read_stream(
     Ok(Some(told))
 }
 
-// Compares what is told of a stream with what is expected. Returns the room that was asked for.
+// Decodes a stream, and compares what is told of it. Returns the room that was asked for.
 fn check_plan(
     rt: &(impl Print + AllocGlobal),
     tables: &Tables,
@@ -153,27 +153,29 @@ fn check_plan(
         report.differs(rt, "an index is not there")?;
         return Ok(0);
     };
-    let items = marked.stream.items(plan.kind.form());
-    let expected = if plan.kind.replaces {
-        marked.stream.replaced(rt.alloc(), plan.kind.form())?
-    } else {
-        Vec::from_slice(rt.alloc(), items)?
-    };
-    if let Some(fault) = told.fault {
-        let what = format!(in rt.alloc(); "{plan:?}: {fault}")?;
-        report.differs(rt, what.as_str())?;
-    }
-    if told.had_errors != (plan.kind.replaces && marked.stream.is_malformed()) {
-        let what = format!(in rt.alloc(); "{plan:?}: errors {}", told.had_errors)?;
-        report.differs(rt, what.as_str())?;
-    }
-    if told.items.as_slice() != expected.as_slice() {
-        let items = told.items.as_slice();
-        let expected = expected.as_slice();
-        let what = format!(in rt.alloc(); "{plan:?}: {items:?} and not {expected:?}")?;
-        report.differs(rt, what.as_str())?;
-    }
+    check_told(rt, marked, plan, &told, report)?;
     Ok(told.asked)
+}
+
+// Compares what is told of a stream with what is expected.
+fn check_told(
+    rt: &(impl Print + AllocGlobal),
+    marked: &MarkedStream,
+    plan: Plan,
+    told: &Told,
+    report: &mut Report,
+) -> anyhow::Result<()> {
+    let has_errors = plan.kind.replaces && marked.stream.is_malformed();
+    report.compare_by(rt, &plan, "the fault", &told.fault, &None)?;
+    report.compare_by(rt, &plan, "errors", &told.had_errors, &has_errors)?;
+    let items = told.items.as_slice();
+    if plan.kind.replaces {
+        let expected = marked.stream.replaced(rt.alloc(), plan.kind.form())?;
+        report.compare_by(rt, &plan, "the items", &items, &expected.as_slice())
+    } else {
+        let expected = marked.stream.items(plan.kind.form());
+        report.compare_by(rt, &plan, "the items", &items, &expected)
+    }
 }
 
 // Words as `sniff windows-1252 as utf-8: EFBBBF= 61=61`.
@@ -252,10 +254,8 @@ fn check_at_once(
     };
     let expected = &marked.stream.text;
     let is_malformed = marked.stream.is_malformed();
-    if text.as_str() != expected.as_str() || found != marked.found || bad != is_malformed {
-        let what = format!(in alloc; "at once: {:?} {} {bad}", text.as_str(), found.name())?;
-        report.differs(rt, what.as_str())?;
-    }
+    report.compare_texts(rt, "at once", text.as_str(), expected.as_str())?;
+    report.compare(rt, "at once", &(found, bad), &(marked.found, is_malformed))?;
     if marked.mark == Mark::Keep {
         let good = encoding.decode_without_bom_handling_and_without_replacement(
             alloc, tables, bytes,

@@ -170,18 +170,27 @@ fn is_memory(fault: &IndexFault) -> bool {
     fault.kind == IndexFaultKind::Memory && fault.line == 0
 }
 
-// How a load ended, as the call of the tables that it makes would.
+// How an insertion ended.
+fn ended_of(inserted: Result<(), TableFault>) -> anyhow::Result<Ended> {
+    match inserted {
+        Ok(()) => Ok(Ended::Well),
+        Err(TableFault::Memory) => Ok(Ended::Refused),
+        Err(fault) => bail!("another fault: {fault}"),
+    }
+}
+
+// Loads a text: what is refused to the tables is told apart from what is refused to its reader.
 fn load_text(
     alloc: Global,
     tables: &mut Tables,
     kind: IndexKind,
     text: &[u8],
-) -> Result<(), TableFault> {
+) -> anyhow::Result<Ended> {
     match load(alloc, tables, kind, text) {
-        Ok(()) => Ok(()),
-        Err(LoadFault::Text(fault)) if is_memory(&fault) => Err(TableFault::Memory),
-        Err(LoadFault::Text(_)) => Err(TableFault::Size),
-        Err(LoadFault::Table(fault)) => Err(fault),
+        Ok(()) => Ok(Ended::Well),
+        Err(LoadFault::Text(fault)) if is_memory(&fault) => Ok(Ended::Refused),
+        Err(LoadFault::Table(TableFault::Memory)) => Ok(Ended::RefusedToTables),
+        Err(fault) => bail!("another fault: {fault}"),
     }
 }
 
@@ -195,22 +204,19 @@ pub(crate) fn insert_index(
     let Some((kind, rows, text)) = INDEXES.get(offset) else {
         bail!("no such index");
     };
-    let inserted = match way {
-        Way::Rows => insert_rows(tables, *kind, rows),
-        Way::List => insert_list(tables, *kind, rows),
-        Way::Text => load_text(rt.alloc(), tables, *kind, text),
+    let ended = match way {
+        Way::Rows => ended_of(insert_rows(tables, *kind, rows))?,
+        Way::List => ended_of(insert_list(tables, *kind, rows))?,
+        Way::Text => load_text(rt.alloc(), tables, *kind, text)?,
     };
-    match inserted {
-        Ok(()) => {}
-        Err(TableFault::Memory) => return Ok(Ended::Refused),
-        Err(fault) => bail!("another fault: {fault}"),
-    }
-    for (pointer, _) in *rows {
-        if let Some(c) = entry(tables, *kind, *pointer) {
-            print!(rt; " {pointer}={:X}", u32::from(c))?;
+    if let Ended::Well = ended {
+        for (pointer, _) in *rows {
+            if let Some(c) = entry(tables, *kind, *pointer) {
+                print!(rt; " {pointer}={:X}", u32::from(c))?;
+            }
         }
     }
-    Ok(Ended::Well)
+    Ok(ended)
 }
 
 // Reads the text of an index of 128 entries, and prints those that are mapped.

@@ -19,8 +19,21 @@ enum Ended {
     Well,
     // Memory was refused.
     Refused,
+    // Memory was refused to the tables into which a text is loaded.
+    RefusedToTables,
     // An index that it needs is not in the tables, so it was not made.
     NoIndex,
+}
+
+impl Ended {
+    // How that memory was refused is printed; none where it wasn't.
+    fn refusal(self) -> Option<&'static str> {
+        match self {
+            Ended::Refused => Some(" refused"),
+            Ended::RefusedToTables => Some(" refused to the tables"),
+            Ended::Well | Ended::NoIndex => None,
+        }
+    }
 }
 
 // A call, and what it is given.
@@ -124,15 +137,15 @@ fn make(rt: HostRuntime, round: Round) -> anyhow::Result<()> {
         print!(rt; "{name}:")?;
         let mut ended = call.make(rt, &mut tables)?;
         look(&tables, &mut inserted, *call, ended)?;
-        if let Ended::Refused = ended {
-            print!(rt; " refused, then")?;
+        if let Some(refusal) = ended.refusal() {
+            print!(rt; "{refusal}, then")?;
             ended = call.make(rt, &mut tables)?;
             look(&tables, &mut inserted, *call, ended)?;
         }
-        match ended {
-            Ended::Well => println!(rt; "")?,
-            Ended::Refused => println!(rt; " refused")?,
-            Ended::NoIndex => println!(rt; " no index")?,
+        match (ended, ended.refusal()) {
+            (_, Some(refusal)) => println!(rt; "{refusal}")?,
+            (Ended::NoIndex, _) => println!(rt; " no index")?,
+            _ => println!(rt; "")?,
         }
     }
     Ok(())

@@ -57,10 +57,9 @@ pub(crate) fn encoding_of(name: &str) -> anyhow::Result<Encoding> {
 }
 
 impl Head {
-    pub(crate) fn of(words: &str) -> anyhow::Result<Self> {
-        let (from, rest) = words.split_once(" -> ").context("a line has no ` -> `")?;
-        let (to, rest) = rest.split_once(' ').unwrap_or((rest, ""));
-        let mut head = Head {
+    // With no words behind the encodings.
+    pub(crate) fn between(from: &str, to: &str) -> anyhow::Result<Self> {
+        Ok(Head {
             from: encoding_of(from)?,
             to: encoding_of(to)?,
             mark: None,
@@ -70,7 +69,13 @@ impl Head {
                 has_rooms: false,
                 has_calls: false,
             },
-        };
+        })
+    }
+
+    pub(crate) fn of(words: &str) -> anyhow::Result<Self> {
+        let (from, rest) = words.split_once(" -> ").context("a line has no ` -> `")?;
+        let (to, rest) = rest.split_once(' ').unwrap_or((rest, ""));
+        let mut head = Head::between(from, to)?;
         for word in rest.split_whitespace() {
             head.take(word)?;
         }
@@ -92,7 +97,8 @@ impl Head {
         Ok(())
     }
 
-    // A conversion of these bytes, with marks kept where each way to treat them is meant.
+    // A conversion of these bytes, with marks kept where each way to treat them is meant, and with
+    // no more than these bytes let through.
     pub(crate) fn setting<'a>(&self, input: &'a [u8]) -> Setting<'a> {
         Setting {
             from: self.from,
@@ -100,6 +106,7 @@ impl Head {
             mark: self.mark.unwrap_or(Mark::Keep),
             policy: self.policy,
             input,
+            limit: input.len(),
         }
     }
 }

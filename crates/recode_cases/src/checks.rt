@@ -5,7 +5,7 @@ use crate::case::{Case, few_calls};
 use crate::compare::{same_bytes, same_failures};
 use crate::sink::{Manners, WILLING};
 use crate::source::Reads;
-use crate::stops::{check_flushes, check_stops};
+use crate::stops::{FLUSHES, check_cut_messages, check_flushes, check_stops};
 use crate::trial::{
     AT_ONCE, LEAST, LEAST_WIDE, Plan, ROOMY, SIZES, Setting, Sizes, WAYS, Way, recode,
 };
@@ -155,7 +155,8 @@ fn check_failing_calls(
     Ok(())
 }
 
-// With flushes that fail, behind a call that failed too.
+// By `convert`: with flushes that fail, behind a call that failed too, and with a message that is
+// cut.
 fn check_failing_flushes(
     rt: &(impl Print + AllocGlobal),
     subject: Subject<'_>,
@@ -165,12 +166,14 @@ fn check_failing_flushes(
         sizes: LEAST,
         ..AT_ONCE
     };
-    for flushes in [(false, false), (true, false), (false, true), (true, true)] {
+    for flushes in FLUSHES {
         let met = check_flushes(rt.alloc(), subject.tables, subject.setting, &plan, flushes);
         report.count_conversions(*met.as_ref().unwrap_or(&0));
         tell(rt, &plan, met, report)?;
     }
-    Ok(())
+    let met = check_cut_messages(rt.alloc(), subject.tables, subject.setting, &plan);
+    report.count_conversions(*met.as_ref().unwrap_or(&0));
+    tell(rt, &plan, met, report)
 }
 
 // With buffers of all sizes beside one another: an input that is longer than the pivot or the
@@ -264,6 +267,28 @@ fn check_once(
     for is_wide in [false, true] {
         let sizes = Sizes { is_wide, ..ROOMY };
         check(rt, subject, &Plan { sizes, ..AT_ONCE }, report)?;
+    }
+    Ok(())
+}
+
+// No bytes, with the least buffers of either kind of pivot, and marks treated in each way.
+pub(crate) fn check_nothing(
+    rt: &(impl Print + AllocGlobal),
+    tables: &Tables,
+    case: &Case,
+    report: &mut Report,
+) -> anyhow::Result<()> {
+    let setting = case.head.setting(case.input.as_slice());
+    for sizes in [LEAST, LEAST_WIDE] {
+        for mark in [Mark::Sniff, Mark::Remove, Mark::Keep] {
+            let setting = Setting { mark, ..setting };
+            let subject = Subject {
+                tables,
+                case,
+                setting,
+            };
+            check(rt, subject, &Plan { sizes, ..AT_ONCE }, report)?;
+        }
     }
     Ok(())
 }

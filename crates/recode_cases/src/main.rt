@@ -1,19 +1,26 @@
-//! Converts the cases of the files in `data/`, and prints of each file how many cases it has, how
-//! many conversions they took, and each difference from what a case expects. The file `stdout`
-//! beside `src/` has what it must print: no difference.
+//! Converts the cases of the files in `data/`, calls the program, and prints of each file how many
+//! cases it has, how many conversions they took, and each difference from what a case expects. The
+//! file `stdout` beside `src/` has what it must print: no difference.
 //!
 //! A case gives an input, what it must become, and what must be told of it; it is converted at
 //! every cut, in steps and at once, with buffers of many sizes, and with each call of a device
 //! failing. `data/README.md` has the format. Expected values are worked by hand.
+//!
+//! With a number and labels of encodings as words it is run in the folder of the index files, and
+//! prints what is told of each character instead.
 #![tactic(auto)]
 
+mod calls;
 mod case;
+mod characters;
 mod checks;
 mod codec_calls;
 mod compare;
+mod files;
 mod indexes;
 mod orders;
 mod parts;
+mod program_lines;
 mod session;
 mod sink;
 mod source;
@@ -21,12 +28,15 @@ mod steps;
 mod stops;
 mod tape;
 mod trial;
+mod words;
 
+use crate::characters::print_all;
+use crate::program_lines::run_program_file;
 use crate::session::run_file;
 use anyhow::Context;
-use std::fs;
+use std::{env, fs};
 
-const FILES: [&str; 15] = [
+const FILES: [&str; 16] = [
     "worked.txt",
     "counts.txt",
     "encodings.txt",
@@ -38,16 +48,28 @@ const FILES: [&str; 15] = [
     "policies.txt",
     "verdicts.txt",
     "long.txt",
+    "nothing.txt",
     "roads.txt",
     "orders.txt",
     "steps.txt",
     "codec-calls.txt",
 ];
 
+// The files of calls of the program, and of words and lines that it reads.
+const PROGRAM_FILES: [&str; 2] = ["calls.txt", "words.txt"];
+
 fn main(rt: HostRuntime) -> anyhow::Result<()> {
+    let words: Vec<String> = env::args(&rt)?.collect(rt.alloc())?;
+    if let [_, step, labels @ ..] = words.as_slice() {
+        return print_all(&rt, step.parse()?, labels);
+    }
     for name in FILES {
         let text = fs::read_to_string(&rt, name).context(name)?;
         run_file(&rt, name, text.as_str())?;
+    }
+    for name in PROGRAM_FILES {
+        let text = fs::read_to_string(&rt, name).context(name)?;
+        run_program_file(&rt, name, text.as_str())?;
     }
     Ok(())
 }

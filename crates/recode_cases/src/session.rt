@@ -1,7 +1,7 @@
 //! A file of cases, line by line.
 
 use crate::case::{Case, Head};
-use crate::checks::check_case;
+use crate::checks::{check_case, check_nothing};
 use crate::codec_calls::{CodecCalls, check_codec_calls};
 use crate::indexes::{complete, load_index};
 use crate::orders::{Order, check_order};
@@ -45,6 +45,19 @@ impl Session {
         check_steps(rt, &self.tables, &steps, &mut self.report)
     }
 
+    // A line as `nothing big5 utf-8`: no bytes, from each of these encodings to each.
+    fn nothing(&mut self, rt: &(impl Print + AllocGlobal), words: &str) -> anyhow::Result<()> {
+        for from in words.split_whitespace() {
+            for to in words.split_whitespace() {
+                let head = Head::between(from, to)?;
+                let case = Case::of(rt.alloc(), head, "=> | faithful")?;
+                self.complete(rt.alloc(), head)?;
+                check_nothing(rt, &self.tables, &case, &mut self.report)?;
+            }
+        }
+        Ok(())
+    }
+
     fn codec_calls(
         &mut self,
         rt: &impl AllocGlobal,
@@ -66,6 +79,7 @@ impl Session {
                 Ok(())
             }
             "index" => load_index(rt.alloc(), &mut self.tables, words),
+            "nothing" => self.nothing(rt, words),
             "order" => self.order(rt, words),
             "steps" => self.steps(rt, words),
             "calls" | "byte-calls" => self.codec_calls(rt, word == "calls", words),

@@ -1,13 +1,15 @@
-//! What is written after each step of a conversion that reads byte by byte, and where the read of
-//! the next byte fails.
+//! What is written after each step of a conversion that reads byte by byte, and where the next read
+//! fails, or passes the limit.
 
 use crate::case::{Head, add_line, stop_of};
 use crate::compare::{same_bytes, same_failures};
 use crate::parts::bytes_of;
 use crate::source::Reads;
-use crate::tape::Tape;
+use crate::stops::{FLUSHES, check_cut_messages, check_flushes};
+use crate::tape::{Device, Tape, calls_of};
 use crate::trial::{
-    AT_ONCE, Devices, LEAST, LEAST_WIDE, Plan, Rooms, SIZES, Sizes, WAYS, Way, recode, step,
+    AT_ONCE, Devices, LEAST, LEAST_WIDE, Plan, Rooms, SIZES, Setting, Sizes, WAYS, Way, recode,
+    step,
 };
 use anyhow::{Context, ensure};
 use case_lines::report::Report;
@@ -92,6 +94,14 @@ impl Steps {
         Ok(())
     }
 
+    // What is written of the first bytes.
+    fn held_behind(&self, bytes: usize) -> anyhow::Result<Held> {
+        match bytes.checked_sub(1) {
+            Some(place) => Ok(*self.helds.get(place).context("not so many steps")?),
+            None => Ok(Held { output: 0, log: 0 }),
+        }
+    }
+
     // Compares what is written.
     fn compare(&self, held: Held, output: &[u8], log: &[u8]) -> anyhow::Result<()> {
         same_bytes(
@@ -171,13 +181,7 @@ fn compare_failing_read(
     bytes: usize,
 ) -> anyhow::Result<()> {
     let setting = steps.head.setting(steps.input.as_slice());
-    let held = match bytes.checked_sub(1) {
-        Some(place) => *steps
-            .helds
-            .get(place)
-            .context("so many steps there are not")?,
-        None => Held { output: 0, log: 0 },
-    };
+    let held = steps.held_behind(bytes)?;
     for read_kind in [ErrorKind::BrokenPipe, ErrorKind::Interrupted] {
         let plan = Plan {
             reads: Reads::OneByOne,
@@ -198,6 +202,86 @@ fn compare_failing_read(
     Ok(())
 }
 
+// Converts to a limit, where no read passes the offset `cut`: the read that passes the limit is the
+// last, and nothing of it is converted.
+fn compare_limit(
+    alloc: Global,
+    tables: &Tables,
+    steps: &Steps,
+    way: Way,
+    sizes: Sizes,
+    (limit, cut): (usize, usize),
+) -> anyhow::Result<()> {
+    let setting = Setting {
+        limit,
+        ..steps.head.setting(steps.input.as_slice())
+    };
+    let plan = Plan {
+        reads: Reads::CutAt(cut),
+        sizes,
+        ..AT_ONCE
+    };
+    // How many bytes are read before, and by how many reads.
+    let (bytes, reads) = if sizes.input == 1 {
+        (limit, limit)
+    } else if 0 < cut && cut <= limit {
+        (cut, 1)
+    } else {
+        (0, 0)
+    };
+    let outcome = recode(alloc, tables, setting, way, &plan)?;
+    let answer = outcome.answer;
+    ensure!(
+        answer == Err(Fault::TooLong),
+        "a limit of {limit} ends by {answer:?}"
+    );
+    same_failures(outcome.failures, [0, 0, 0])?;
+    let calls = calls_of(outcome.events.as_slice(), Device::Reader);
+    ensure!(
+        calls == reads.saturating_add(1),
+        "{calls} reads for a limit of {limit}"
+    );
+    steps.compare(
+        steps.held_behind(bytes)?,
+        outcome.output.as_slice(),
+        outcome.log.as_slice(),
+    )
+}
+
+// Converts to each limit that the input passes, with reads cut at each place, and by `convert`.
+fn check_limits(
+    alloc: Global,
+    tables: &Tables,
+    steps: &Steps,
+    report: &mut Report,
+) -> anyhow::Result<()> {
+    let len = steps.input.len();
+    for limit in (0..=steps.helds.len()).filter(|limit| *limit < len) {
+        for sizes in SIZES {
+            for cut in 0..=len {
+                for way in WAYS {
+                    report.count_conversion();
+                    compare_limit(alloc, tables, steps, way, sizes, (limit, cut))?;
+                }
+            }
+        }
+        let setting = Setting {
+            limit,
+            ..steps.head.setting(steps.input.as_slice())
+        };
+        for sizes in [LEAST, LEAST_WIDE] {
+            let plan = Plan { sizes, ..AT_ONCE };
+            for flushes in FLUSHES {
+                let stops = check_flushes(alloc, tables, setting, &plan, flushes)?;
+                report.count_conversions(stops);
+            }
+            let cuts = check_cut_messages(alloc, tables, setting, &plan)?;
+            report.count_conversions(cuts);
+        }
+    }
+    Ok(())
+}
+
 pub(crate) fn check_steps(
     rt: &impl AllocGlobal,
     tables: &Tables,
@@ -208,6 +292,7 @@ pub(crate) fn check_steps(
         report.count_conversion();
         compare_steps(rt.alloc(), tables, steps, sizes)?;
     }
+    check_limits(rt.alloc(), tables, steps, report)?;
     for way in WAYS {
         for sizes in SIZES {
             for bytes in 0..=steps.helds.len() {

@@ -7,7 +7,7 @@ use crate::tape::{Device, Event, calls_of, takes, up_to};
 use crate::trial::{Plan, Setting, Way, recode, status};
 use anyhow::{Context, ensure};
 use encoding_tables::Tables;
-use recode::{FAULT, Fault};
+use recode::{FAITHFUL, FAULT, Fault, NOT_FAITHFUL, Report};
 use std::alloc::{AllocError, Global};
 use std::io::ErrorKind;
 
@@ -137,16 +137,17 @@ fn behind_flushes<'e>(events: &'e [Event], front: &[Event]) -> Option<&'e [Event
     events.strip_prefix(front)?.strip_prefix(&flushes)
 }
 
-// Converts by `convert`: these events, a flush of both, and the message of the fault.
+// Converts by `convert`: these events, a flush of both, and so many bytes of the message of the
+// fault, if it has as many.
 fn check_message(
     alloc: Global,
     tables: &Tables,
     setting: Setting<'_>,
     plan: &Plan,
     front: &[Event],
-    wanted: (Fault, [u64; 3]),
+    wanted: (Fault, [u64; 3], usize),
 ) -> anyhow::Result<()> {
-    let (fault, failures) = wanted;
+    let (fault, failures, len) = wanted;
     let outcome = status(alloc, tables, setting, plan)?;
     let given = outcome.answer;
     ensure!(given == FAULT, "the status of {fault:?} is {given}");
@@ -154,13 +155,78 @@ fn check_message(
     let events = outcome.events.as_slice();
     let told = behind_flushes(events, front).context("`convert` does not flush both")?;
     let message = message(alloc, fault)?;
+    let bytes = message.as_str().as_bytes();
     ensure!(
-        takes(told, Device::Log, message.as_str().as_bytes()),
+        takes(told, Device::Log, bytes.get(..len).unwrap_or(bytes)),
         "another message than that of {fault:?}"
     );
     let calls = calls_of(told, Device::Reader).saturating_add(calls_of(told, Device::Writer));
     ensure!(calls == 0, "calls behind {fault:?}");
     Ok(())
+}
+
+// Converts by `convert` where nothing fails: these events, a flush of both, and the status of the
+// report.
+fn check_status(
+    alloc: Global,
+    tables: &Tables,
+    setting: Setting<'_>,
+    plan: &Plan,
+    front: &[Event],
+    report: Report,
+) -> anyhow::Result<()> {
+    let outcome = status(alloc, tables, setting, plan)?;
+    let wanted = if report.faithful {
+        FAITHFUL
+    } else {
+        NOT_FAITHFUL
+    };
+    let given = outcome.answer;
+    ensure!(given == wanted, "the status is {given} and not {wanted}");
+    same_failures(outcome.failures, [0, 0, 0])?;
+    let behind = behind_flushes(outcome.events.as_slice(), front);
+    ensure!(
+        behind.is_some_and(|events| events.is_empty()),
+        "`convert` does more than flush both"
+    );
+    Ok(())
+}
+
+// Converts by `convert` with each write of the message of a fault failing, by a log that takes a
+// byte a call: what stands before it is written. Returns how many conversions that takes.
+pub(crate) fn check_cut_messages(
+    alloc: Global,
+    tables: &Tables,
+    setting: Setting<'_>,
+    plan: &Plan,
+) -> anyhow::Result<usize> {
+    let slow = Plan {
+        log: Manners {
+            most: 1,
+            ..plan.log
+        },
+        ..*plan
+    };
+    let outcome = recode(alloc, tables, setting, Way::Run, &slow)?;
+    let Err(fault) = outcome.answer else {
+        return Ok(0);
+    };
+    let events = outcome.events.as_slice();
+    let lines = calls_of(events, Device::Log);
+    let len = message(alloc, fault)?.len();
+    for place in 0..len {
+        let call = place.saturating_add(lines).saturating_add(1);
+        let cut = Stop::Line(call, FULL).plan(slow);
+        check_message(
+            alloc,
+            tables,
+            setting,
+            &cut,
+            events,
+            (fault, [0, 0, 1], place),
+        )?;
+    }
+    Ok(len)
 }
 
 // The plan with flushes that fail.
@@ -178,7 +244,15 @@ fn stuck(plan: Plan, writer: bool, log: bool) -> Plan {
     }
 }
 
-// Converts by `convert` with each call failing, one at a time, and with these flushes failing
+// Whether the flush of the writer fails, and that of the log.
+pub(crate) const FLUSHES: [(bool, bool); 4] = [
+    (false, false),
+    (true, false),
+    (false, true),
+    (true, true),
+];
+
+// Converts by `convert`, and with each call failing, one at a time, and with these flushes failing
 // behind it: the message is that of the first fault, which is the policy's where it stops, and
 // each failure is counted. Returns how many conversions that takes.
 pub(crate) fn check_flushes(
@@ -189,15 +263,21 @@ pub(crate) fn check_flushes(
     flushes: (bool, bool),
 ) -> anyhow::Result<usize> {
     let outcome = recode(alloc, tables, setting, Way::Run, plan)?;
+    let told = outcome.answer;
     let events = outcome.events.as_slice();
     let (writer, log) = flushes;
     let stuck_plan = stuck(*plan, writer, log);
     let (written, logged) = (u64::from(writer), u64::from(log));
-    if writer || log || outcome.answer.is_err() {
-        let flush = if writer { Fault::Write } else { Fault::Log };
-        let fault = outcome.answer.err().unwrap_or(flush);
-        let wanted = (fault, [0, written, logged]);
-        check_message(alloc, tables, setting, &stuck_plan, events, wanted)?;
+    match told {
+        Ok(report) if !writer && !log => {
+            check_status(alloc, tables, setting, plan, events, report)?;
+        }
+        answer => {
+            let flush = if writer { Fault::Write } else { Fault::Log };
+            let fault = answer.err().unwrap_or(flush);
+            let wanted = (fault, [0, written, logged], usize::MAX);
+            check_message(alloc, tables, setting, &stuck_plan, events, wanted)?;
+        }
     }
     let stops = stops_of(alloc, events, &[FULL])?;
     for stop in stops.iter() {
@@ -209,7 +289,8 @@ pub(crate) fn check_flushes(
         ];
         let front = stop.front(events);
         let stopped = stop.plan(stuck_plan);
-        check_message(alloc, tables, setting, &stopped, front, (fault, failures))?;
+        let wanted = (fault, failures, usize::MAX);
+        check_message(alloc, tables, setting, &stopped, front, wanted)?;
     }
     Ok(stops.len())
 }

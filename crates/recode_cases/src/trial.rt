@@ -6,10 +6,7 @@ use crate::tape::{Device, Event, Tape};
 use anyhow::{Context, bail, ensure};
 use encoding_front::Encoding;
 use encoding_tables::Tables;
-use recode::{
-    Buffers, Fault, GREATEST_LIMIT, Job, Mark, Pivot, Policy, Progress, Report, Session, convert,
-    run,
-};
+use recode::{Buffers, Fault, Job, Mark, Pivot, Policy, Progress, Report, Session, convert, run};
 use recode_log::counted::Counted;
 use std::alloc::{AllocError, Global};
 use std::io::ErrorKind;
@@ -72,17 +69,18 @@ pub(crate) struct Setting<'a> {
     pub(crate) mark: Mark,
     pub(crate) policy: Policy,
     pub(crate) input: &'a [u8],
+    // How many bytes it may have at most.
+    pub(crate) limit: usize,
 }
 
 impl<'a> Setting<'a> {
-    // The job, with all that any input may have.
     pub(crate) fn job<'t>(&self, tables: &'t Tables) -> Job<'t> {
         Job {
             from: self.from,
             to: self.to,
             mark: self.mark,
             policy: self.policy,
-            limit: GREATEST_LIMIT,
+            limit: self.limit as u64,
             tables,
         }
     }

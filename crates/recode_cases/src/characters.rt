@@ -1,10 +1,6 @@
 //! Converts every character to an encoding, each as a text of its own, and prints what is told of
 //! them: `make verdicts` compares that with `tools/characters.py`, a plain program over the same
 //! index texts.
-//!
-//! It is run in the folder of the index files, with a number and labels of encodings. Of the planes
-//! from 1 on it converts the characters that the number divides. Without words it prints nothing.
-#![tactic(auto)]
 
 use anyhow::{Context, bail, ensure};
 use encoding_front::{Encoding, Mark, UTF_8};
@@ -12,8 +8,8 @@ use encoding_index::load;
 use encoding_tables::Tables;
 use recode::{Buffers, GREATEST_LIMIT, Job, Pivot, Policy, run};
 use recode_log::counted::Counted;
+use std::fs;
 use std::rt::Files;
-use std::{env, fs};
 
 // What is told of a character.
 #[derive(Clone, Copy, PartialEq, Eq)]
@@ -158,15 +154,16 @@ fn tables(rt: &(impl Files + AllocGlobal), to: Encoding) -> anyhow::Result<Table
     Ok(tables)
 }
 
-fn main(rt: HostRuntime) -> anyhow::Result<()> {
-    let words: Vec<String> = env::args(&rt)?.collect(rt.alloc())?;
-    let Some(word) = words.get(1) else {
-        return Ok(());
-    };
-    let step: u32 = word.parse()?;
-    for label in words.iter().skip(2) {
+// Prints what is told of the characters of each of these encodings, with the index files of the
+// folder. Of the planes from 1 on those are converted that the step divides.
+pub(crate) fn print_all(
+    rt: &(impl Print + Files + AllocGlobal),
+    step: u32,
+    labels: &[String],
+) -> anyhow::Result<()> {
+    for label in labels {
         let to = Encoding::for_label(label.as_bytes()).context("an unknown label")?;
-        let tables = tables(&rt, to)?;
+        let tables = tables(rt, to)?;
         let job = Job {
             from: UTF_8,
             to,
@@ -175,7 +172,7 @@ fn main(rt: HostRuntime) -> anyhow::Result<()> {
             limit: GREATEST_LIMIT,
             tables: &tables,
         };
-        print_verdicts(&rt, job, step)?;
+        print_verdicts(rt, job, step)?;
     }
     Ok(())
 }

@@ -1,13 +1,16 @@
 //! Calls of the program.
 
-use crate::devices::{Manners, Sink, Source, WILLING};
 use crate::files::{File, Files};
+use crate::sink::{Failure, Manners, Sink, WILLING};
+use crate::source::{Reads, Source};
+use crate::tape::{Device, Tape};
 use anyhow::{Context, bail, ensure};
 use case_lines::report::Report;
 use case_lines::words::{decimal, unescaped};
 use recode::program;
 use recode_log::counted::Counted;
 use std::alloc::Global;
+use std::io::ErrorKind;
 
 // A call, and what must come of it.
 #[derive(Drop)]
@@ -39,11 +42,15 @@ struct Call<'a> {
 fn manners_of(words: &str) -> anyhow::Result<Manners> {
     let (most, rest) = words.split_once(' ').context("a number is missing")?;
     let (fails_at, how) = rest.split_once(' ').context("a word is missing")?;
-    ensure!(how == "error" || how == "nothing", "a failure is not known");
     Ok(Manners {
         most: decimal(most)?,
         fails_at: decimal(fails_at)?,
-        by_error: how == "error",
+        failure: match how {
+            "error" => Failure::Error(ErrorKind::BrokenPipe),
+            "nothing" => Failure::Nothing,
+            _ => bail!("a failure is not known"),
+        },
+        flush_fails: false,
     })
 }
 
@@ -133,9 +140,11 @@ fn call_program(alloc: Global, call: &Call<'_>) -> anyhow::Result<Outcome> {
         is_full: call.is_full,
         asked: 0,
     };
-    let mut reader = Counted::new(Source::new(call.input.as_slice()));
-    let mut writer = Counted::new(Sink::new(alloc, call.writer));
-    let mut log = Counted::new(Sink::new(alloc, call.log_manners));
+    let tape = Tape::new(alloc);
+    let (reads, kind) = (Reads::CutAt(0), ErrorKind::BrokenPipe);
+    let mut reader = Counted::new(Source::new(call.input.as_slice(), reads, 0, kind, &tape));
+    let mut writer = Counted::new(Sink::new(alloc, call.writer, Device::Writer, &tape));
+    let mut log = Counted::new(Sink::new(alloc, call.log_manners, Device::Log, &tape));
     let status = program(
         alloc,
         words.as_slice(),

@@ -1,4 +1,4 @@
-//! A file of cases, line by line.
+//! A file of cases of indexes, line by line.
 
 use crate::faults::first_word;
 use crate::insertions::check_insertion;
@@ -43,7 +43,7 @@ fn check_line(
 
 // Makes the calls of a file, and prints the differences and the counts. A line that can't be read
 // is a difference.
-pub(crate) fn run_file(
+pub(crate) fn run_table_file(
     rt: &(impl Print + AllocGlobal),
     name: &'static str,
     text: &str,

@@ -1,4 +1,4 @@
-//! A file of cases, line by line.
+//! A file of calls of the program and of what it reads, line by line.
 
 use crate::calls::check_call;
 use crate::words::{check_invalid, check_line, check_part, check_refused, check_words};
@@ -27,7 +27,7 @@ fn check_case(
 
 // Makes the calls of a file, and prints the differences and the counts. A line that can't be read
 // is a difference.
-pub(crate) fn run_file(
+pub(crate) fn run_program_file(
     rt: &(impl Print + AllocGlobal),
     name: &'static str,
     text: &str,

@@ -85,10 +85,13 @@ pub(crate) fn check_values(
     for (pointer, entry) in rows_of(rt.alloc(), words)?.iter() {
         report.count_conversion();
         let found = value(tables, kind, *pointer);
-        if found != Some(char::from_u32(*entry)) {
-            let what = format!(in rt.alloc(); "at {pointer}: {found:?}")?;
-            report.differs(rt, what.as_str())?;
-        }
+        report.compare_by(
+            rt,
+            pointer,
+            "its entry",
+            &found,
+            &Some(char::from_u32(*entry)),
+        )?;
     }
     Ok(())
 }
@@ -107,10 +110,7 @@ pub(crate) fn check_gaps(
         for pointer in pointer(first)?..=pointer(last)? {
             report.count_conversion();
             let found = value(tables, kind, pointer);
-            if found != Some(None) {
-                let what = format!(in rt.alloc(); "at {pointer}: {found:?}")?;
-                report.differs(rt, what.as_str())?;
-            }
+            report.compare_by(rt, &pointer, "its entry", &found, &Some(None))?;
         }
     }
     Ok(())
@@ -127,10 +127,7 @@ pub(crate) fn check_range_pointers(
         report.count_conversion();
         let c = char::from_u32(*entry).context("a number is not a character's")?;
         let found = range_pointer(tables, c);
-        if found != Some(Some(*pointer)) {
-            let what = format!(in rt.alloc(); "for {c:?}: {found:?}")?;
-            report.differs(rt, what.as_str())?;
-        }
+        report.compare_by(rt, &c, "its pointer", &found, &Some(Some(*pointer)))?;
     }
     Ok(())
 }
@@ -144,11 +141,14 @@ pub(crate) fn check_unmapped(
 ) -> anyhow::Result<()> {
     for word in words.split_whitespace() {
         report.count_conversion();
-        let found = range_pointer(tables, scalar(word)?);
-        if found != Some(None) {
-            let what = format!(in rt.alloc(); "for {word}: {found:?}")?;
-            report.differs(rt, what.as_str())?;
-        }
+        let c = scalar(word)?;
+        report.compare_by(
+            rt,
+            &c,
+            "its pointer",
+            &range_pointer(tables, c),
+            &Some(None),
+        )?;
     }
     Ok(())
 }
@@ -176,11 +176,7 @@ pub(crate) fn check_pointer(
         Some(pointer(told)?)
     };
     let found = pointer_in(tables, kind, is_first, c, from, to);
-    if found != Some(expected) {
-        let what = format!(in rt.alloc(); "{found:?}")?;
-        report.differs(rt, what.as_str())?;
-    }
-    Ok(())
+    report.compare(rt, "the pointer", &found, &Some(expected))
 }
 
 // Words as `big5 no`: whether an index is there.
@@ -193,10 +189,18 @@ pub(crate) fn check_presence(
     report.count_conversion();
     let (name, told) = first_word(words);
     ensure!(told == "yes" || told == "no", "neither `yes` nor `no`");
-    if tables.has(kind_of(name)?) != (told == "yes") {
-        report.differs(rt, "whether the index is there is told wrong")?;
+    let is_there = tables.has(kind_of(name)?);
+    report.compare(rt, "the index is there", &is_there, &(told == "yes"))
+}
+
+fn form_of(kind: IndexKind) -> &'static str {
+    if kind.is_ranges() {
+        "ranges"
+    } else if kind.is_single_byte() {
+        "single"
+    } else {
+        "list"
     }
-    Ok(())
 }
 
 // Words as `big5 index-big5.txt 19782 list`: the file of an index, how many entries it has, and
@@ -212,18 +216,11 @@ pub(crate) fn check_kind(
     let file = words.next().unwrap_or("");
     let size = pointer(words.next().unwrap_or(""))?;
     let form = words.next().unwrap_or("");
-    if kind.file_name() != file {
-        let what = format!(in rt.alloc(); "its file is {}", kind.file_name())?;
-        report.differs(rt, what.as_str())?;
+    report.compare_texts(rt, "its file", kind.file_name(), file)?;
+    if !kind.is_ranges() {
+        report.compare(rt, "its size", &(kind.size() as u32), &size)?;
     }
-    if !kind.is_ranges() && kind.size() as u32 != size {
-        let what = format!(in rt.alloc(); "it has {} entries", kind.size())?;
-        report.differs(rt, what.as_str())?;
-    }
-    if kind.is_single_byte() != (form == "single") || kind.is_ranges() != (form == "ranges") {
-        report.differs(rt, "it is of another form")?;
-    }
-    Ok(())
+    report.compare_texts(rt, "its form", form_of(kind), form)
 }
 
 // How many rows are below a key, and how many were compared; nothing where the rows do not rise.
@@ -253,9 +250,12 @@ pub(crate) fn check_search(
     let rows = rows_of(rt.alloc(), rows)?;
     let below = below(rows.as_slice(), key);
     let (found, compared) = below.context("the rows do not rise")?;
-    if found as u64 != u64::from(pointer(rank)?) || compared > pointer(most)? {
-        let what = format!(in rt.alloc(); "{found}, and {compared} are compared")?;
-        report.differs(rt, what.as_str())?;
-    }
-    Ok(())
+    report.compare(
+        rt,
+        "the rows below",
+        &(found as u64),
+        &u64::from(pointer(rank)?),
+    )?;
+    let most = pointer(most)?;
+    report.compare(rt, "few are compared", &(compared.max(most)), &most)
 }

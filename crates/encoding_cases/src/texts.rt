@@ -72,32 +72,20 @@ pub(crate) fn check_reading(
     let kind = kind_of(name)?;
     let text = text_of(alloc, source)?;
     match told_of(alloc, kind, text.as_slice())? {
-        Told::OtherLength(len) => {
-            let what = format!(in alloc; "a list of {len} entries")?;
-            report.differs(rt, what.as_str())
-        }
+        Told::OtherLength(len) => report.compare(rt, "entries", &len, &kind.size()),
         Told::Fault(fault) => {
-            let fault = Some(LoadFault::Text(fault));
             let expected = if told.starts_with("ok") {
                 None
             } else {
                 fault_of(told)?
             };
-            if fault == expected {
-                return Ok(());
-            }
-            let what = format!(in alloc; "{fault:?} and not {expected:?}")?;
-            report.differs(rt, what.as_str())
+            report.compare(rt, "the fault", &Some(LoadFault::Text(fault)), &expected)
         }
         Told::Rows(rows) => {
             let (word, expected) = first_word(told);
-            if word != "ok" {
-                return report.differs(rt, "the text is read");
-            }
-            if rows.as_slice() != rows_of(alloc, expected)?.as_slice() {
-                report.differs(rt, "other rows are read")?;
-            }
-            Ok(())
+            report.compare_texts(rt, "the text is read", "ok", word)?;
+            let expected = rows_of(alloc, expected)?;
+            report.compare(rt, "the rows", &rows.as_slice(), &expected.as_slice())
         }
     }
 }

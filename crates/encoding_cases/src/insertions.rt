@@ -90,13 +90,9 @@ pub(crate) fn check_insertion(
     let was_there = tables.has(kind);
     let before = contents(rt.alloc(), tables)?;
     let fault = hand_in(rt.alloc(), tables, kind, call)?;
-    if fault != expected {
-        let what = format!(in rt.alloc(); "{fault:?} and not {expected:?}")?;
-        report.differs(rt, what.as_str())?;
-    }
-    if tables.has(kind) != (was_there || fault.is_none()) {
-        report.differs(rt, "whether the index is there is told wrong")?;
-    }
+    let is_there = was_there || fault.is_none();
+    report.compare(rt, "the fault", &fault, &expected)?;
+    report.compare(rt, "the index is there", &tables.has(kind), &is_there)?;
     if fault.is_some() && contents(rt.alloc(), tables)?.as_slice() != before.as_slice() {
         report.differs(rt, "an index changes though one is refused")?;
     }
