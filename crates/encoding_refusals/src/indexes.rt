@@ -189,8 +189,9 @@ fn load_text(
     match load(alloc, tables, kind, text) {
         Ok(()) => Ok(Ended::Well),
         Err(LoadFault::Text(fault)) if is_memory(&fault) => Ok(Ended::Refused),
+        Err(LoadFault::Text(fault)) => bail!("another fault: {fault}"),
         Err(LoadFault::Table(TableFault::Memory)) => Ok(Ended::RefusedToTables),
-        Err(fault) => bail!("another fault: {fault}"),
+        Err(LoadFault::Table(fault)) => bail!("another fault: {fault}"),
     }
 }
 
