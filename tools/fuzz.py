@@ -378,14 +378,15 @@ def files_of(program):
         return [line.partition(":")[0] for line in file]
 
 
-def line_faults(program, lines, front):
-    """What a program says of these lines, behind those of the front, in the first of the files that it reads."""
+def line_faults(program, given, lines, front):
+    """What a program says of these lines, behind those of the front, in that one of the files that it reads."""
     files = files_of(program)
+    place = files.index(given)
     count = sum(not line.startswith("#") for line in lines)
     with tempfile.TemporaryDirectory() as folder:
         for name in files:
             with open(os.path.join(folder, name), "w", encoding="utf-8") as file:
-                file.write("\n".join((*front, *lines)) if name == files[0] else "")
+                file.write("\n".join((*front, *lines)) if name == given else "")
         ran = subprocess.run([PROGRAMS[program]], cwd=folder, capture_output=True, text=True, timeout=600, check=False)
     said = ran.stdout.splitlines()
     for line in said[: -len(files)]:
@@ -393,15 +394,15 @@ def line_faults(program, lines, front):
         yield f"{program}: {lines[int(number[1]) - 1 - len(front)] if number else ''}: {line}"
     counts = [rf"{re.escape(name)}: (\d+) cases, \d+ conversions, 0 differences" for name in files]
     found = [re.fullmatch(*pair) for pair in zip(counts, said[-len(files) :])]
-    if ran.returncode or not all(found) or int(found[0][1]) != count:
-        yield f"{program}: status {ran.returncode}, {said[-len(files):][:1]} of {count} lines {ran.stderr}"
+    if ran.returncode or not all(found) or int(found[place][1]) != count:
+        yield f"{program}: status {ran.returncode}, {said[-len(files):][place:][:1]} of {count} lines {ran.stderr}"
 
 
 def library_faults(random, inputs, fronts):
     lines = [stream_line(random, inputs) for _ in range(STREAMS)] + [text_line(random, inputs) for _ in range(TEXTS)]
-    yield from line_faults("encoding_cases", lines, fronts[0])
+    yield from line_faults("encoding_cases", "utf-8.txt", lines, fronts[0])
     lines = [conversion_line(random, inputs) for _ in range(CONVERSIONS)]
-    yield from line_faults("recode_cases", lines, fronts[1])
+    yield from line_faults("recode_cases", "worked.txt", lines, fronts[1])
 
 
 def not_built(names):
