@@ -2,7 +2,9 @@
 """Tries edits, each a wrong body, which the prover has to refuse: those of `edits/` in each crate, which the merge gate
 leaves out, or with `--gate` those of `must-fail/`, which `rt ci` tries.
 
-    python3 tools/edits.py [--gate] [CRATE..]
+    python3 tools/edits.py [--gate] [CRATE[/NAME]..]
+
+With a name, those of the crate whose names begin with it.
 
 In a copy of the repository, with what checks have kept in `out/`, the edits of a crate are made in rounds: of each
 function at most one edit in a round. A check then says of each function whether it is proved, and an edit is refused
@@ -187,8 +189,8 @@ def main(words):
     with tempfile.TemporaryDirectory() as work:
         copy = os.path.join(work, "repository")
         shutil.copytree(TOP, copy, symlinks=True, ignore=shutil.ignore_patterns(".git"))
-        for crate in crates:
-            edits = edits_of(crate, kind)
+        for crate, _, name in (word.partition("/") for word in crates):
+            edits = [edit for edit in edits_of(crate, kind) if edit.name.startswith(name)]
             tried += len(edits)
             failed += try_crate(crate, os.path.join(copy, "crates", crate), edits) if edits else 0
     print("%d refused, %d not" % (tried - failed, failed))
