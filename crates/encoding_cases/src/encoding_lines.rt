@@ -3,6 +3,7 @@
 ghost use Rattle.encoding_front.specs.Encodings.{IsReady};
 
 use crate::call_lines::number_or_none;
+use crate::faults::halves;
 use crate::names::encoding_of;
 use anyhow::{Context, ensure};
 use case_lines::kinds::kind_of;
@@ -10,12 +11,6 @@ use case_lines::report::Report;
 use case_lines::words::{add_bytes, decimal, scalar, unescaped};
 use encoding_front::{Encoding, Reference, write_reference};
 use encoding_tables::Tables;
-
-// A line in two: what is asked, and what must be answered.
-fn halves(words: &str) -> anyhow::Result<(&str, &str)> {
-    let (asked, told) = words.split_once("->").context("a line has no `->`")?;
-    Ok((asked.trim(), told.trim()))
-}
 
 fn name_of(encoding: Option<Encoding>) -> &'static str {
     match encoding {

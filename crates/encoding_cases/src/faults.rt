@@ -1,4 +1,4 @@
-//! What a call must return that takes an index.
+//! Lines in parts, and what a call must return that takes an index.
 
 use anyhow::{Context, bail};
 use case_lines::indexes::pointer;
