@@ -227,7 +227,8 @@ def faults():
     for words, given, *wanted in CONVERSIONS:
         wrong += differences(words, run(words, given), tuple(wanted))
     # The program's own name is a word as well.
-    wrong += differences([b"\xed\xa0\x80"], run(["--version"], name=b"\xed\xa0\x80"), (2, b"", b"recode: a word is not UTF-8\n"))
+    refused = (2, b"", b"recode: a word is not UTF-8\n")
+    wrong += differences([b"\xed\xa0\x80"], run(["--version"], name=b"\xed\xa0\x80"), refused)
     for words, message in REFUSALS:
         wrong += differences(words, run(words), (2, b"", message.encode()))
     print("%d conversions, %d refusals, %d index files" % (len(CONVERSIONS), len(REFUSALS), len(INDEX_FILES)))

@@ -14,7 +14,8 @@ slices, asks for the room of all of them, and where that is refused it asks word
 
 `encoding_refusals` must print its stored output, with `refused, then` in one line, that of the call whose request was
 refused; it compares the tables itself, before and after. Each call must have been refused, but for those that take no
-memory. A load says whether memory was refused to the reader of the text or, behind all requests of that, to the tables. Where every request is refused these have their result, and no other call has.
+memory. A load says whether memory was refused to the reader of the text or, behind all requests of that, to the
+tables. Where every request is refused those that take no memory have their result, and no other call has.
 """
 
 import os

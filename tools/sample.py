@@ -1,6 +1,6 @@
 #!/usr/bin/env python3
-"""Writes the stored run of `recode_cli`, by the codec cp932 of Python: its files `stdin` and `stdout`, the log, and the index
-that it reads.
+"""Writes the stored run of `recode_cli`, by the codec cp932 of Python: its files `stdin` and `stdout`, the log, and the
+index that it reads.
 
     python3 tools/sample.py crates/recode_cli
 

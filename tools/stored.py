@@ -6,7 +6,8 @@ texts, so that no expected output was made from our own.
 
 - The stored output of `encoding_index_files`: `sequences.py` and `characters.py`, behind its first 34 lines, which have
   entries taken from standards and code pages by hand.
-- The stored run of `recode_cli`: `sample.py`, by the codec of Python for that text; and its log, which `rt ci` doesn't see.
+- The stored run of `recode_cli`: `sample.py`, by the codec of Python for that text; and its log, which `rt ci` doesn't
+  see.
 - What a run tells of each character as a text of its own, of every one of the basic plane and of some above it, in the
   encodings that have folds and in some that have none: `characters.py` (`make verdicts` has every character).
 """

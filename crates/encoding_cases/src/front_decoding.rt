@@ -10,7 +10,6 @@ use crate::kinds::Form;
 use case_lines::report::Report;
 use encoding_front::{Decoder, Mark};
 use encoding_tables::Tables;
-use std::alloc::Global;
 
 // The room for so many more bytes: in units, and in bytes without replacement and with it.
 fn rooms_for(decoder: &Decoder<'_>, n: usize) -> Option<[Option<usize>; 3]> {

@@ -218,9 +218,9 @@ pub fn whole_texts_are_the_same()
 {}
 
 /// Two runs on one job and one input that came to their end wrote the same bytes to output and log,
-/// and their reports differ in `calls` alone: the cuts of the reader, the sizes
-/// of the buffers and the kind of the pivot change nothing. `known` says it of readers that tell
-/// their bytes, `bytes` of writers that do.
+/// and their reports differ in `calls` alone: the cuts of the reader, the sizes of the buffers and
+/// the kind of the pivot change nothing. `known` says it of readers that tell their bytes, `bytes`
+/// of writers that do.
 pub fn runs_agree()
     ensures written { (j : Job) (x : List ℕ) (w w' v v' : Written) (p q : Report)
         → IsConverted w w' j x p → IsConverted v v' j x q → WroteTheSame w w' v v' }
@@ -279,9 +279,9 @@ pub fn steps_add_up()
 {}
 
 /// Steps that went on, and the one that ended them, are a run: so a session stepped by hand keeps
-/// the promise of `run`. At the start there are none, and
-/// each that answers `More` is added. With one that answers `Done`, and with the session's report,
-/// they are a run that came to its end; with one that answers a fault, a run that it ended.
+/// the promise of `run`. At the start there are none, and each that answers `More` is added. With
+/// one that answers `Done`, and with the session's report, they are a run that came to its end;
+/// with one that answers a fault, a run that it ended.
 pub fn steps_are_a_run()
     ensures begins { (t : Streams) (j : Job) (v : View) → IsNewSession v j
         → HasRun t t j.limit v.state v.state }

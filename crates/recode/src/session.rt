@@ -212,9 +212,9 @@ impl<'t> Session<'t> {
 /// as many steps as the limit has bytes, and one more.
 ///
 /// - `Ok`: the input was read to its end, and is within the limit. Exactly its output and its log
-///   were written. They depend on the input and the job alone: not on how reads are
-///   cut, on the sizes of the buffers or on the kind of the pivot. The codecs were called at most
-///   37 times for each byte of the input, and 9 times more.
+///   were written. They depend on the input and the job alone: not on how reads are cut, on the
+///   sizes of the buffers or on the kind of the pivot. The codecs were called at most 37 times for
+///   each byte of the input, and 9 times more.
 /// - `Err`: a call of the reader (`Read`), the writer (`Write`) or the log (`Log`) failed, and no
 ///   other; or none failed, and the input has more bytes than the job's limit (`TooLong`), or the
 ///   policy is `Policy::Stop` and a character has no bytes (`Unmappable`). Output and log have a
