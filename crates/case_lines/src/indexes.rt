@@ -45,8 +45,8 @@ pub fn rows_of(alloc: Global, words: &str) -> anyhow::Result<Vec<(u32, u32)>> {
     Ok(rows)
 }
 
-/// Hands a list of this size in, all 0 but these rows. Returns why it is refused.
-pub fn insert_list(
+// Hands a list of this size in, all 0 but these rows. Returns why it is refused.
+pub(crate) fn insert_list(
     alloc: Global,
     tables: &mut Tables,
     kind: IndexKind,

@@ -1,8 +1,15 @@
-//! What the programs whose cases are lines of files share: the words of a line as numbers, bytes,
-//! texts and indexes, and what is printed of a file.
+//! What the programs whose cases are lines of files share: the driver of a file, what is printed of
+//! it, the words of a line as numbers, bytes, texts and indexes; and the lines that look into
+//! indexes.
 #![tactic(auto)]
 
+mod faults;
+pub mod file;
 pub mod indexes;
+mod insertions;
 pub mod kinds;
+mod lookups;
 pub mod report;
+pub mod table_lines;
+mod texts;
 pub mod words;

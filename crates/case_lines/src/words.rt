@@ -76,3 +76,15 @@ pub fn numbers(alloc: Global, words: &str) -> anyhow::Result<Vec<u32>> {
     }
     Ok(numbers)
 }
+
+/// A line in two: what is done, and what must come of it.
+pub fn halves(words: &str) -> anyhow::Result<(&str, &str)> {
+    let (call, told) = words.split_once("->").context("a line has no `->`")?;
+    Ok((call.trim(), told.trim()))
+}
+
+/// The first word, and what stands behind it.
+pub fn first_word(words: &str) -> (&str, &str) {
+    let (word, rest) = words.split_once(' ').unwrap_or((words, ""));
+    (word, rest.trim())
+}

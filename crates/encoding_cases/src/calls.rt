@@ -1,14 +1,14 @@
 //! Cases of calls: a new decoder or encoder, and the exact result of each call.
 
-use crate::answer::{Answer, Neutral, Text, decode, encode};
-use crate::call_lines::{Ask, CallLine, Given, Source, State};
-use crate::codecs::{DecoderTask, EncoderTask, Through, with_decoder, with_encoder};
 use crate::front_decoding::check_decoder_calls;
 use crate::front_encoding::check_front_calls;
-use crate::kinds::{Form, Outcome};
-use crate::rooms::Side;
 use anyhow::bail;
 use case_lines::report::Report;
+use encoding_calls::answer::{Answer, Neutral, Text, decode, encode};
+use encoding_calls::call_lines::{Ask, CallLine, Given, Source, State};
+use encoding_calls::codecs::{DecoderTask, EncoderTask, Through, with_decoder, with_encoder};
+use encoding_calls::kinds::{Form, Outcome};
+use encoding_calls::rooms::Side;
 use encoding_front::Encoding;
 use encoding_mem::RawEncoder;
 use encoding_tables::Tables;

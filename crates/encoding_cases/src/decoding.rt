@@ -1,11 +1,11 @@
 //! Streams of bytes, decoded at every cut and into rooms of every size.
 
-use crate::answer::{Neutral, decode, decoded_room};
-use crate::codecs::{DecoderTask, Through, with_decoder};
-use crate::kinds::{Form, Item, Outcome};
-use crate::pieces::DecodedStream;
-use crate::rooms::{Asked, Room, Side, room_of};
 use case_lines::report::Report;
+use encoding_calls::answer::{Neutral, decode, decoded_room};
+use encoding_calls::codecs::{DecoderTask, Through, with_decoder};
+use encoding_calls::kinds::{Form, Item, Outcome};
+use encoding_calls::pieces::DecodedStream;
+use encoding_calls::rooms::{Asked, Room, Side, room_of};
 use encoding_front::Encoding;
 use encoding_tables::Tables;
 use std::alloc::{AllocError, Global};

@@ -1,11 +1,11 @@
 //! Texts, encoded at every cut and into rooms of every size.
 
-use crate::answer::{Text, encode, encoded_room};
-use crate::codecs::{EncoderTask, Through, with_encoder};
-use crate::kinds::{Form, Item, Outcome};
-use crate::pieces::EncodedStream;
-use crate::rooms::{Asked, Room, Side, room_of};
 use case_lines::report::Report;
+use encoding_calls::answer::{Text, encode, encoded_room};
+use encoding_calls::codecs::{EncoderTask, Through, with_encoder};
+use encoding_calls::kinds::{Form, Item, Outcome};
+use encoding_calls::pieces::EncodedStream;
+use encoding_calls::rooms::{Asked, Room, Side, room_of};
 use encoding_front::Encoding;
 use encoding_mem::RawEncoder;
 use encoding_tables::Tables;

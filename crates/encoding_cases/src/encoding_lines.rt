@@ -2,13 +2,12 @@
 
 ghost use Rattle.encoding_front.specs.Encodings.{IsReady};
 
-use crate::call_lines::number_or_none;
-use crate::faults::halves;
-use crate::names::encoding_of;
 use anyhow::{Context, ensure};
 use case_lines::kinds::kind_of;
 use case_lines::report::Report;
-use case_lines::words::{add_bytes, decimal, scalar, unescaped};
+use case_lines::words::{add_bytes, decimal, halves, scalar, unescaped};
+use encoding_calls::call_lines::number_or_none;
+use encoding_calls::names::encoding_of;
 use encoding_front::{Encoding, Reference, write_reference};
 use encoding_tables::Tables;
 

@@ -3,11 +3,11 @@
 
 ghost use Rattle.encoding_front.specs.Encodings.{IsReady};
 
-use crate::call_lines::{Ask, CallLine, Given, Source};
 use crate::calls::{Calls, check_answer, in_form, narrowed_bytes};
-use crate::front_calls::{Destination, Kind};
-use crate::kinds::Form;
 use case_lines::report::Report;
+use encoding_calls::call_lines::{Ask, CallLine, Given, Source};
+use encoding_calls::front_calls::{Destination, Kind};
+use encoding_calls::kinds::Form;
 use encoding_front::{Decoder, Mark};
 use encoding_tables::Tables;
 

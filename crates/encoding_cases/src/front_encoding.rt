@@ -2,21 +2,14 @@
 
 ghost use Rattle.encoding_front.specs.Encodings.{IsReady};
 
-use crate::answer::{Answer, Text, UNWRITTEN};
-use crate::call_lines::{Source, State};
 use crate::calls::{Calls, TextOfCall, check_answer, check_state, given_room};
-use crate::kinds::Outcome;
 use case_lines::report::Report;
-use encoding_front::{CoderResult, Encoder};
+use encoding_calls::answer::{Answer, Text, UNWRITTEN};
+use encoding_calls::call_lines::{Source, State};
+use encoding_calls::kinds::Outcome;
+use encoding_front::Encoder;
 use encoding_tables::Tables;
 use std::alloc::{AllocError, Global};
-
-fn outcome_of(outcome: CoderResult) -> Outcome {
-    match outcome {
-        CoderResult::InputEmpty => Outcome::InputEmpty,
-        CoderResult::OutputFull => Outcome::OutputFull,
-    }
-}
 
 // One call that writes references. Returns also whether it says that it wrote one.
 fn encode_replacing(
@@ -31,7 +24,13 @@ fn encode_replacing(
         Text::Utf8(text) => encoder.encode_from_utf8(text, &mut dst, last),
         Text::Utf16(units) => encoder.encode_from_utf16(units, &mut dst, last),
     };
-    let answer = Answer::of(alloc, outcome_of(outcome), read, (&dst, written), UNWRITTEN)?;
+    let answer = Answer::of(
+        alloc,
+        Outcome::of_coder(outcome),
+        read,
+        (&dst, written),
+        UNWRITTEN,
+    )?;
     Ok((answer, is_lost))
 }
 

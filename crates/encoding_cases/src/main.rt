@@ -8,31 +8,19 @@
 //! the format. Expected values are worked by hand from the Encoding Standard.
 #![tactic(auto)]
 
-mod answer;
-mod call_lines;
 mod calls;
-mod codecs;
 mod decoding;
 mod encoding;
 mod encoding_lines;
-mod faults;
-mod front_calls;
 mod front_decoding;
 mod front_encoding;
-mod insertions;
-mod kinds;
-mod lookups;
-mod names;
-mod pieces;
-mod rooms;
 mod session;
 mod streams;
-mod table_lines;
-mod texts;
 
-use crate::session::run_file;
-use crate::table_lines::run_table_file;
+use crate::session::Session;
 use anyhow::Context;
+use case_lines::file::run_file;
+use case_lines::table_lines::TableLines;
 use std::fs;
 
 // The files of indexes.
@@ -58,11 +46,11 @@ const FILES: [&str; 13] = [
 fn main(rt: HostRuntime) -> anyhow::Result<()> {
     for name in TABLE_FILES {
         let text = fs::read_to_string(&rt, name).context(name)?;
-        run_table_file(&rt, name, text.as_str())?;
+        run_file(&rt, name, text.as_str(), TableLines::new(rt.alloc()))?;
     }
     for name in FILES {
         let text = fs::read_to_string(&rt, name).context(name)?;
-        run_file(&rt, name, text.as_str())?;
+        run_file(&rt, name, text.as_str(), Session::new(rt.alloc()))?;
     }
     Ok(())
 }

@@ -3,12 +3,12 @@
 
 ghost use Rattle.encoding_front.specs.Encodings.{IsReady};
 
-use crate::front_calls::{Destination, Kind};
-use crate::kinds::{Item, Outcome};
-use crate::names::{encoding_of, mark_of};
-use crate::pieces::DecodedStream;
 use anyhow::Context;
 use case_lines::report::Report;
+use encoding_calls::front_calls::{Destination, Kind};
+use encoding_calls::kinds::{Item, Outcome};
+use encoding_calls::names::{encoding_of, mark_of};
+use encoding_calls::pieces::DecodedStream;
 use encoding_front::{Decoder, Encoding, Mark};
 use encoding_tables::Tables;
 use std::alloc::{AllocError, Global};

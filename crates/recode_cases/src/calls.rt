@@ -1,14 +1,14 @@
 //! Calls of the program.
 
 use crate::files::{File, Files};
-use crate::sink::{Failure, Manners, Sink, WILLING};
-use crate::source::{Reads, Source};
-use crate::tape::{Device, Tape};
 use anyhow::{Context, bail, ensure};
 use case_lines::report::Report;
 use case_lines::words::{decimal, unescaped};
 use recode::program;
 use recode_log::counted::Counted;
+use recode_trials::sink::{Failure, Manners, Sink, WILLING};
+use recode_trials::source::{Reads, Source};
+use recode_trials::tape::{Device, Tape};
 use std::alloc::Global;
 use std::io::ErrorKind;
 

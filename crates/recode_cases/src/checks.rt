@@ -1,18 +1,18 @@
 //! Converts a case at every cut, byte by byte, with buffers of all sizes, and with each call of a
 //! device failing.
 
-use crate::case::{Case, few_calls};
-use crate::compare::{same_bytes, same_failures};
-use crate::sink::{Manners, WILLING};
-use crate::source::Reads;
-use crate::stops::{FLUSHES, check_cut_messages, check_flushes, check_stops};
-use crate::trial::{
-    AT_ONCE, LEAST, LEAST_WIDE, Plan, ROOMY, SIZES, Setting, Sizes, WAYS, Way, recode,
-};
 use anyhow::{bail, ensure};
 use case_lines::report::Report;
 use encoding_tables::Tables;
 use recode::{Fault, Mark, Policy};
+use recode_trials::case::{Case, few_calls};
+use recode_trials::compare::{same_bytes, same_failures};
+use recode_trials::sink::{Manners, WILLING};
+use recode_trials::source::Reads;
+use recode_trials::stops::{FLUSHES, check_cut_messages, check_flushes, check_stops};
+use recode_trials::trial::{
+    AT_ONCE, LEAST, LEAST_WIDE, Plan, ROOMY, SIZES, Setting, Sizes, WAYS, Way, recode,
+};
 use std::alloc::Global;
 
 // Room for all of a case, but little to read back.

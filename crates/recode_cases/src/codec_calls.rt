@@ -1,11 +1,11 @@
 //! How many calls of codecs a conversion takes.
 
-use crate::case::Head;
-use crate::parts::{bytes_of, integer};
-use crate::trial::{AT_ONCE, LEAST, LEAST_WIDE, Plan, ROOMY, Sizes, WAYS, recode};
 use anyhow::{Context, bail, ensure};
 use case_lines::report::Report;
 use encoding_tables::Tables;
+use recode_trials::case::Head;
+use recode_trials::parts::{bytes_of, integer};
+use recode_trials::trial::{AT_ONCE, LEAST, LEAST_WIDE, Plan, ROOMY, Sizes, WAYS, recode};
 use std::alloc::Global;
 
 // What is converted, and by how many calls.

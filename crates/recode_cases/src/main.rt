@@ -11,29 +11,22 @@
 #![tactic(auto)]
 
 mod calls;
-mod case;
 mod characters;
 mod checks;
 mod codec_calls;
-mod compare;
 mod files;
 mod indexes;
 mod orders;
-mod parts;
 mod program_lines;
 mod session;
-mod sink;
-mod source;
 mod steps;
-mod stops;
-mod tape;
-mod trial;
 mod words;
 
 use crate::characters::print_all;
-use crate::program_lines::run_program_file;
-use crate::session::run_file;
+use crate::program_lines::ProgramLines;
+use crate::session::Session;
 use anyhow::Context;
+use case_lines::file::run_file;
 use std::{env, fs};
 
 const FILES: [&str; 16] = [
@@ -65,11 +58,11 @@ fn main(rt: HostRuntime) -> anyhow::Result<()> {
     }
     for name in FILES {
         let text = fs::read_to_string(&rt, name).context(name)?;
-        run_file(&rt, name, text.as_str())?;
+        run_file(&rt, name, text.as_str(), Session::new(rt.alloc()))?;
     }
     for name in PROGRAM_FILES {
         let text = fs::read_to_string(&rt, name).context(name)?;
-        run_program_file(&rt, name, text.as_str())?;
+        run_file(&rt, name, text.as_str(), ProgramLines)?;
     }
     Ok(())
 }

@@ -1,17 +1,17 @@
 //! In which order the output and the log are written, byte by byte, and what is written where the
 //! call for one of these bytes fails.
 
-use crate::case::{Head, add_line, stop_of};
-use crate::compare::same_failures;
-use crate::parts::bytes_of;
-use crate::sink::{FAILURES, Manners, WILLING};
-use crate::stops::Stop;
-use crate::tape::{Device, Event, only_bytes};
-use crate::trial::{AT_ONCE, Plan, SIZES, Sizes, WAYS, Way, recode};
 use anyhow::{Context, ensure};
 use case_lines::report::Report;
 use encoding_tables::Tables;
 use recode::Fault;
+use recode_trials::case::{Head, add_line, stop_of};
+use recode_trials::compare::same_failures;
+use recode_trials::parts::bytes_of;
+use recode_trials::sink::{FAILURES, Manners, WILLING};
+use recode_trials::stops::Stop;
+use recode_trials::tape::{Device, Event, only_bytes};
+use recode_trials::trial::{AT_ONCE, Plan, SIZES, Sizes, WAYS, Way, recode};
 use std::alloc::Global;
 
 // What is converted, and the bytes that devices take, in order.

@@ -1,20 +1,20 @@
 //! What is written after each step of a conversion that reads byte by byte, and where the next read
 //! fails, or passes the limit.
 
-use crate::case::{Head, add_line, stop_of};
-use crate::compare::{same_bytes, same_failures};
-use crate::parts::bytes_of;
-use crate::source::Reads;
-use crate::stops::{FLUSHES, check_cut_messages, check_flushes};
-use crate::tape::{Device, Tape, calls_of};
-use crate::trial::{
-    AT_ONCE, Devices, LEAST, LEAST_WIDE, Plan, Rooms, SIZES, Setting, Sizes, WAYS, Way, recode,
-    step,
-};
 use anyhow::{Context, ensure};
 use case_lines::report::Report;
 use encoding_tables::Tables;
 use recode::{Buffers, Fault, Progress, Session};
+use recode_trials::case::{Head, add_line, stop_of};
+use recode_trials::compare::{same_bytes, same_failures};
+use recode_trials::parts::bytes_of;
+use recode_trials::source::Reads;
+use recode_trials::stops::{FLUSHES, check_cut_messages, check_flushes};
+use recode_trials::tape::{Device, Tape, calls_of};
+use recode_trials::trial::{
+    AT_ONCE, Devices, LEAST, LEAST_WIDE, Plan, Rooms, SIZES, Setting, Sizes, WAYS, Way, recode,
+    step,
+};
 use std::alloc::Global;
 use std::io::ErrorKind;
 

@@ -2,45 +2,46 @@
 
 use crate::answer::{Answer, UNWRITTEN, UNWRITTEN_UNIT};
 use crate::kinds::{Form, Outcome, widened};
-use encoding_front::{CoderResult, Decoder};
+use encoding_front::Decoder;
 use encoding_mem::utf8_valid_up_to;
 use std::alloc::{AllocError, Global};
 
-// Where the text of a call goes.
+/// Where the text of a call goes.
 #[derive(Clone, Copy, PartialEq, Eq, Debug)]
-pub(crate) enum Destination {
+pub enum Destination {
     Bytes,
     Units,
-    // Over the bytes of a text.
+    /// Over the bytes of a text.
     Text,
-    // Behind a text, into its spare capacity.
+    /// Behind a text, into its spare capacity.
     Spare,
 }
 
-// A kind of call: where the text goes, and whether U+FFFD is written for malformed sequences.
+/// A kind of call: where the text goes, and whether U+FFFD is written for malformed sequences.
 #[derive(Clone, Copy, PartialEq, Eq, Debug)]
-pub(crate) struct Kind {
-    pub(crate) destination: Destination,
-    pub(crate) replaces: bool,
+pub struct Kind {
+    pub destination: Destination,
+    pub replaces: bool,
 }
 
-// What a call tells, and whether it says that there was a malformed sequence.
+/// What a call tells, and whether it says that there was a malformed sequence.
 #[derive(Drop)]
-pub(crate) struct KindAnswer {
-    pub(crate) answer: Answer,
-    pub(crate) had_errors: bool,
+pub struct KindAnswer {
+    pub answer: Answer,
+    pub had_errors: bool,
 }
 
 impl Kind {
-    pub(crate) fn form(self) -> Form {
+    /// The form of the text that it writes.
+    pub fn form(self) -> Form {
         match self.destination {
             Destination::Units => Form::Utf16,
             _ => Form::Utf8,
         }
     }
 
-    // The room that a decoder asks for, before calls of this kind.
-    pub(crate) fn room(self, decoder: &Decoder<'_>, n: usize) -> Option<usize> {
+    /// The room that a decoder asks for, before calls of this kind.
+    pub fn room(self, decoder: &Decoder<'_>, n: usize) -> Option<usize> {
         if decoder.is_finished() {
             return None;
         }
@@ -51,8 +52,8 @@ impl Kind {
         }
     }
 
-    // One call into so much room. None where the decoder is finished.
-    pub(crate) fn call(
+    /// One call into so much room. None where the decoder is finished.
+    pub fn call(
         self,
         alloc: Global,
         decoder: &mut Decoder<'_>,
@@ -66,13 +67,6 @@ impl Kind {
             Destination::Text => over_text(alloc, decoder, self.replaces, src, room, last),
             Destination::Spare => into_spare(alloc, decoder, self.replaces, src, room, last),
         }
-    }
-}
-
-fn outcome_of(outcome: CoderResult) -> Outcome {
-    match outcome {
-        CoderResult::InputEmpty => Outcome::InputEmpty,
-        CoderResult::OutputFull => Outcome::OutputFull,
     }
 }
 
@@ -90,7 +84,7 @@ fn into_bytes(
     }
     let (outcome, read, written, had_errors) = if replaces {
         let (outcome, read, written, bad) = decoder.decode_to_utf8(src, &mut dst, last);
-        (outcome_of(outcome), read, written, bad)
+        (Outcome::of_coder(outcome), read, written, bad)
     } else {
         let (outcome, read, written) = decoder.decode_to_utf8_without_replacement(
             src, &mut dst, last,
@@ -117,7 +111,7 @@ fn into_units(
     }
     let (outcome, read, written, had_errors) = if replaces {
         let (outcome, read, written, bad) = decoder.decode_to_utf16(src, &mut dst, last);
-        (outcome_of(outcome), read, written, bad)
+        (Outcome::of_coder(outcome), read, written, bad)
     } else {
         let (outcome, read, written) = decoder.decode_to_utf16_without_replacement(
             src, &mut dst, last,
@@ -145,7 +139,7 @@ fn over_text(
     }
     let (outcome, read, written, had_errors) = if replaces {
         let (outcome, read, written, bad) = decoder.decode_to_str(src, &mut dst, last);
-        (outcome_of(outcome), read, written, bad)
+        (Outcome::of_coder(outcome), read, written, bad)
     } else {
         let (outcome, read, written) = decoder.decode_to_str_without_replacement(
             src, &mut dst, last,
@@ -178,7 +172,7 @@ fn into_spare(
     }
     let (outcome, read, had_errors) = if replaces {
         let (outcome, read, bad) = decoder.decode_to_string(src, &mut text, last);
-        (outcome_of(outcome), read, bad)
+        (Outcome::of_coder(outcome), read, bad)
     } else {
         let (outcome, read) = decoder.decode_to_string_without_replacement(src, &mut text, last);
         (Outcome::of_decoder(outcome), read, false)

@@ -11,18 +11,18 @@ use recode_log::counted::Counted;
 use std::alloc::{AllocError, Global};
 use std::io::ErrorKind;
 
-// How many elements the buffers have, and whether the pivots are of UTF-16.
+/// How many elements the buffers have, and whether the pivots are of UTF-16.
 #[derive(Clone, Copy, Debug)]
-pub(crate) struct Sizes {
-    pub(crate) input: usize,
-    pub(crate) pivot: usize,
-    pub(crate) output: usize,
-    pub(crate) check: usize,
-    pub(crate) is_wide: bool,
+pub struct Sizes {
+    pub input: usize,
+    pub pivot: usize,
+    pub output: usize,
+    pub check: usize,
+    pub is_wide: bool,
 }
 
-// The least that is enough.
-pub(crate) const LEAST: Sizes = Sizes {
+/// The least that is enough.
+pub const LEAST: Sizes = Sizes {
     input: 1,
     pivot: 4,
     output: 4,
@@ -30,16 +30,16 @@ pub(crate) const LEAST: Sizes = Sizes {
     is_wide: false,
 };
 
-// The least that is enough with pivots of UTF-16.
-pub(crate) const LEAST_WIDE: Sizes = Sizes {
+/// The least that is enough with pivots of UTF-16.
+pub const LEAST_WIDE: Sizes = Sizes {
     pivot: 2,
     check: 2,
     is_wide: true,
     ..LEAST
 };
 
-// Room for all of a small input.
-pub(crate) const ROOMY: Sizes = Sizes {
+/// Room for all of a small input.
+pub const ROOMY: Sizes = Sizes {
     input: 4096,
     pivot: 4096,
     output: 4096,
@@ -47,34 +47,36 @@ pub(crate) const ROOMY: Sizes = Sizes {
     is_wide: false,
 };
 
-// The least buffers, of either kind of pivot, and large ones.
-pub(crate) const SIZES: [Sizes; 3] = [LEAST, LEAST_WIDE, ROOMY];
+/// The least buffers, of either kind of pivot, and large ones.
+pub const SIZES: [Sizes; 3] = [LEAST, LEAST_WIDE, ROOMY];
 
-// What is called.
+/// What is called.
 #[derive(Clone, Copy, Debug)]
-pub(crate) enum Way {
-    // `run`, once.
+pub enum Way {
+    /// `run`, once.
     Run,
-    // `Session::step`, until the session is over.
+    /// `Session::step`, until the session is over.
     Steps,
 }
 
-pub(crate) const WAYS: [Way; 2] = [Way::Run, Way::Steps];
+/// Both.
+pub const WAYS: [Way; 2] = [Way::Run, Way::Steps];
 
-// What is converted, and how.
+/// What is converted, and how.
 #[derive(Clone, Copy)]
-pub(crate) struct Setting<'a> {
-    pub(crate) from: Encoding,
-    pub(crate) to: Encoding,
-    pub(crate) mark: Mark,
-    pub(crate) policy: Policy,
-    pub(crate) input: &'a [u8],
-    // How many bytes it may have at most.
-    pub(crate) limit: usize,
+pub struct Setting<'a> {
+    pub from: Encoding,
+    pub to: Encoding,
+    pub mark: Mark,
+    pub policy: Policy,
+    pub input: &'a [u8],
+    /// How many bytes it may have at most.
+    pub limit: usize,
 }
 
 impl<'a> Setting<'a> {
-    pub(crate) fn job<'t>(&self, tables: &'t Tables) -> Job<'t> {
+    /// As the engine takes it.
+    pub fn job<'t>(&self, tables: &'t Tables) -> Job<'t> {
         Job {
             from: self.from,
             to: self.to,
@@ -86,20 +88,20 @@ impl<'a> Setting<'a> {
     }
 }
 
-// The buffers of a conversion, and what its devices do.
+/// The buffers of a conversion, and what its devices do.
 #[derive(Clone, Copy, Debug)]
-pub(crate) struct Plan {
-    pub(crate) reads: Reads,
-    pub(crate) sizes: Sizes,
-    // The read that fails, counted from 1. 0: none.
-    pub(crate) read_fails_at: usize,
-    pub(crate) read_kind: ErrorKind,
-    pub(crate) writer: Manners,
-    pub(crate) log: Manners,
+pub struct Plan {
+    pub reads: Reads,
+    pub sizes: Sizes,
+    /// The read that fails, counted from 1. 0: none.
+    pub read_fails_at: usize,
+    pub read_kind: ErrorKind,
+    pub writer: Manners,
+    pub log: Manners,
 }
 
-// The input in one read, large buffers, and no fault.
-pub(crate) const AT_ONCE: Plan = Plan {
+/// The input in one read, large buffers, and no fault.
+pub const AT_ONCE: Plan = Plan {
     reads: Reads::CutAt(0),
     sizes: ROOMY,
     read_fails_at: 0,
@@ -108,28 +110,30 @@ pub(crate) const AT_ONCE: Plan = Plan {
     log: WILLING,
 };
 
-// What came of a conversion.
+/// What came of a conversion.
 #[derive(Drop)]
-pub(crate) struct Outcome<A> {
-    pub(crate) answer: A,
-    pub(crate) output: Vec<u8>,
-    pub(crate) log: Vec<u8>,
-    // The failures of the reader, the writer and the log.
-    pub(crate) failures: [u64; 3],
-    // What happened to all three.
-    pub(crate) events: Vec<Event>,
+pub struct Outcome<A> {
+    pub answer: A,
+    pub output: Vec<u8>,
+    pub log: Vec<u8>,
+    /// The failures of the reader, the writer and the log.
+    pub failures: [u64; 3],
+    /// What happened to all three.
+    pub events: Vec<Event>,
 }
 
+/// The reader, the writer and the log of a conversion.
 #[derive(Drop)]
-pub(crate) struct Devices<'a> {
-    pub(crate) reader: Counted<Source<'a>>,
-    pub(crate) writer: Counted<Sink<'a>>,
-    pub(crate) log: Counted<Sink<'a>>,
+pub struct Devices<'a> {
+    pub reader: Counted<Source<'a>>,
+    pub writer: Counted<Sink<'a>>,
+    pub log: Counted<Sink<'a>>,
     tape: &'a Tape,
 }
 
 impl<'a> Devices<'a> {
-    pub(crate) fn new(alloc: Global, input: &'a [u8], plan: &Plan, tape: &'a Tape) -> Self {
+    /// As a plan has them, over an input.
+    pub fn new(alloc: Global, input: &'a [u8], plan: &Plan, tape: &'a Tape) -> Self {
         let source = Source::new(input, plan.reads, plan.read_fails_at, plan.read_kind, tape);
         Devices {
             reader: Counted::new(source),
@@ -139,7 +143,8 @@ impl<'a> Devices<'a> {
         }
     }
 
-    pub(crate) fn outcome<A>(self, alloc: Global, answer: A) -> Outcome<A> {
+    /// What came of the conversion that ended with this answer.
+    pub fn outcome<A>(self, alloc: Global, answer: A) -> Outcome<A> {
         let failures = [
             self.reader.failures(),
             self.writer.failures(),
@@ -157,8 +162,9 @@ impl<'a> Devices<'a> {
     }
 }
 
+/// The memory of the buffers of a conversion.
 #[derive(Drop)]
-pub(crate) struct Rooms {
+pub struct Rooms {
     input: Vec<u8>,
     output: Vec<u8>,
     pivots: Pivots,
@@ -172,7 +178,8 @@ enum Pivots {
 }
 
 impl Rooms {
-    pub(crate) fn new(alloc: Global, sizes: Sizes) -> Result<Rooms, AllocError> {
+    /// Of these sizes.
+    pub fn new(alloc: Global, sizes: Sizes) -> Result<Rooms, AllocError> {
         let pivots = if sizes.is_wide {
             let pivot = std::vec![in alloc; 0; sizes.pivot]?;
             Pivots::Wide(pivot, std::vec![in alloc; 0; sizes.check]?)
@@ -187,7 +194,8 @@ impl Rooms {
         })
     }
 
-    pub(crate) fn lend(&mut self) -> Buffers<'_> {
+    /// The buffers.
+    pub fn lend(&mut self) -> Buffers<'_> {
         let (pivot, check) = match &mut self.pivots {
             Pivots::Narrow(pivot, check) => (
                 Pivot::Utf8(pivot.as_mut_slice()),
@@ -226,8 +234,8 @@ fn by_run(
     ))
 }
 
-// One step of a session that is not over.
-pub(crate) fn step(
+/// One step of a session that is not over.
+pub fn step(
     session: &mut Session<'_>,
     devices: &mut Devices<'_>,
     buffers: &mut Buffers<'_>,
@@ -274,8 +282,8 @@ fn by_steps(
     bail!("a session does not end")
 }
 
-// Converts in one of the two ways.
-pub(crate) fn recode(
+/// Converts in one of the two ways.
+pub fn recode(
     alloc: Global,
     tables: &Tables,
     setting: Setting<'_>,
@@ -313,8 +321,8 @@ fn by_convert(
     ))
 }
 
-// Converts by `convert`, whose status is the answer.
-pub(crate) fn status(
+/// Converts by `convert`, whose status is the answer.
+pub fn status(
     alloc: Global,
     tables: &Tables,
     setting: Setting<'_>,

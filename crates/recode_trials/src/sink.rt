@@ -5,47 +5,48 @@ use std::alloc::Global;
 use std::io;
 use std::io::{ErrorKind, Write};
 
-// How a call of a writer fails.
+/// How a call of a writer fails.
 #[derive(Clone, Copy, Debug)]
-pub(crate) enum Failure {
-    // It takes no byte.
+pub enum Failure {
+    /// It takes no byte.
     Nothing,
-    // It returns an error.
+    /// It returns an error.
     Error(ErrorKind),
 }
 
-// The ways in which a call of a writer fails.
-pub(crate) const FAILURES: [Failure; 3] = [
+/// The ways in which a call of a writer fails.
+pub const FAILURES: [Failure; 3] = [
     Failure::Nothing,
     Failure::Error(ErrorKind::BrokenPipe),
     Failure::Error(ErrorKind::Interrupted),
 ];
 
-// What a writer does.
+/// What a writer does.
 #[derive(Clone, Copy, Debug)]
-pub(crate) struct Manners {
-    // How many bytes a call takes at most.
-    pub(crate) most: usize,
-    // The write that fails, counted from 1, and only that one. 0: none.
-    pub(crate) fails_at: usize,
-    // How it fails.
-    pub(crate) failure: Failure,
-    // Whether flushes fail.
-    pub(crate) flush_fails: bool,
+pub struct Manners {
+    /// How many bytes a call takes at most.
+    pub most: usize,
+    /// The write that fails, counted from 1, and only that one. 0: none.
+    pub fails_at: usize,
+    /// How it fails.
+    pub failure: Failure,
+    /// Whether flushes fail.
+    pub flush_fails: bool,
 }
 
-// A writer that takes all.
-pub(crate) const WILLING: Manners = Manners {
+/// A writer that takes all.
+pub const WILLING: Manners = Manners {
     most: usize::MAX,
     fails_at: 0,
     failure: Failure::Nothing,
     flush_fails: false,
 };
 
-// A writer to memory.
+/// A writer to memory.
 #[derive(Drop)]
-pub(crate) struct Sink<'a> {
-    pub(crate) taken: Vec<u8>,
+pub struct Sink<'a> {
+    /// The bytes that it took.
+    pub taken: Vec<u8>,
     manners: Manners,
     calls: usize,
     device: Device,
@@ -53,8 +54,8 @@ pub(crate) struct Sink<'a> {
 }
 
 impl<'a> Sink<'a> {
-    // A writer that has taken nothing, as one of the devices that share a tape.
-    pub(crate) fn new(alloc: Global, manners: Manners, device: Device, tape: &'a Tape) -> Sink<'a> {
+    /// A writer that has taken nothing, as one of the devices that share a tape.
+    pub fn new(alloc: Global, manners: Manners, device: Device, tape: &'a Tape) -> Sink<'a> {
         Sink {
             taken: Vec::new(alloc),
             manners,

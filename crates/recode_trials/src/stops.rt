@@ -11,17 +11,17 @@ use recode::{FAITHFUL, FAULT, Fault, NOT_FAITHFUL, Report};
 use std::alloc::{AllocError, Global};
 use std::io::ErrorKind;
 
-// A call that fails, by its number from 1.
+/// A call that fails, by its number from 1.
 #[derive(Clone, Copy)]
-pub(crate) enum Stop {
+pub enum Stop {
     Read(usize, ErrorKind),
     Write(usize, Failure),
     Line(usize, Failure),
 }
 
 impl Stop {
-    // The plan with that call failing.
-    pub(crate) fn plan(self, plan: Plan) -> Plan {
+    /// The plan with that call failing.
+    pub fn plan(self, plan: Plan) -> Plan {
         match self {
             Stop::Read(call, read_kind) => Plan {
                 read_fails_at: call,
@@ -56,8 +56,8 @@ impl Stop {
         }
     }
 
-    // The fault, and the failures of the reader, the writer and the log.
-    pub(crate) fn fault(self) -> (Fault, [u64; 3]) {
+    /// The fault, and the failures of the reader, the writer and the log.
+    pub fn fault(self) -> (Fault, [u64; 3]) {
         match self {
             Stop::Read(..) => (Fault::Read, [1, 0, 0]),
             Stop::Write(..) => (Fault::Write, [0, 1, 0]),
@@ -89,9 +89,9 @@ pub(crate) fn stops_of(
     Ok(stops)
 }
 
-// Converts with each call failing, one at a time, and compares with what happens where none does.
-// Returns how many conversions that takes.
-pub(crate) fn check_stops(
+/// Converts with each call failing, one at a time, and compares with what happens where none does.
+/// Returns how many conversions that takes.
+pub fn check_stops(
     alloc: Global,
     tables: &Tables,
     setting: Setting<'_>,
@@ -192,9 +192,9 @@ fn check_status(
     Ok(())
 }
 
-// Converts by `convert` with each write of the message of a fault failing, by a log that takes a
-// byte a call: what stands before it is written. Returns how many conversions that takes.
-pub(crate) fn check_cut_messages(
+/// Converts by `convert` with each write of the message of a fault failing, by a log that takes a
+/// byte a call: what stands before it is written. Returns how many conversions that takes.
+pub fn check_cut_messages(
     alloc: Global,
     tables: &Tables,
     setting: Setting<'_>,
@@ -244,18 +244,13 @@ fn stuck(plan: Plan, writer: bool, log: bool) -> Plan {
     }
 }
 
-// Whether the flush of the writer fails, and that of the log.
-pub(crate) const FLUSHES: [(bool, bool); 4] = [
-    (false, false),
-    (true, false),
-    (false, true),
-    (true, true),
-];
+/// Whether the flush of the writer fails, and that of the log.
+pub const FLUSHES: [(bool, bool); 4] = [(false, false), (true, false), (false, true), (true, true)];
 
-// Converts by `convert`, and with each call failing, one at a time, and with these flushes failing
-// behind it: the message is that of the first fault, which is the policy's where it stops, and
-// each failure is counted. Returns how many conversions that takes.
-pub(crate) fn check_flushes(
+/// Converts by `convert`, and with each call failing, one at a time, and with these flushes failing
+/// behind it: the message is that of the first fault, which is the policy's where it stops, and
+/// each failure is counted. Returns how many conversions that takes.
+pub fn check_flushes(
     alloc: Global,
     tables: &Tables,
     setting: Setting<'_>,

@@ -2,8 +2,8 @@
 
 use anyhow::{bail, ensure};
 
-// The bytes of a device, with the place of the first other byte.
-pub(crate) fn same_bytes(name: &str, got: &[u8], want: &[u8]) -> anyhow::Result<()> {
+/// The bytes of a device, with the place of the first other byte.
+pub fn same_bytes(name: &str, got: &[u8], want: &[u8]) -> anyhow::Result<()> {
     for (place, (left, right)) in got.iter().zip(want.iter()).enumerate() {
         if left != right {
             bail!("byte {place} of the {name} is {left:02X} and not {right:02X}");
@@ -14,8 +14,8 @@ pub(crate) fn same_bytes(name: &str, got: &[u8], want: &[u8]) -> anyhow::Result<
     Ok(())
 }
 
-// The failures of the reader, the writer and the log.
-pub(crate) fn same_failures(got: [u64; 3], want: [u64; 3]) -> anyhow::Result<()> {
+/// The failures of the reader, the writer and the log.
+pub fn same_failures(got: [u64; 3], want: [u64; 3]) -> anyhow::Result<()> {
     ensure!(got == want, "the failures are {got:?} and not {want:?}");
     Ok(())
 }

@@ -5,14 +5,14 @@ use anyhow::Context;
 use case_lines::words::{add_bytes, scalar};
 use std::alloc::Global;
 
-// The bytes of a stream, and what they are decoded to.
+/// The bytes of a stream, and what they are decoded to.
 #[derive(Drop)]
-pub(crate) struct DecodedStream {
-    pub(crate) bytes: Vec<u8>,
-    // With U+FFFD for each malformed sequence.
-    pub(crate) text: String,
-    pub(crate) utf8: Vec<Item>,
-    pub(crate) utf16: Vec<Item>,
+pub struct DecodedStream {
+    pub bytes: Vec<u8>,
+    /// With U+FFFD for each malformed sequence.
+    pub text: String,
+    pub utf8: Vec<Item>,
+    pub utf16: Vec<Item>,
 }
 
 // Adds the bytes or units of a character to a stream.
@@ -26,8 +26,8 @@ fn add_character(alloc: Global, form: Form, c: char, items: &mut Vec<Item>) -> a
 }
 
 impl DecodedStream {
-    // Pieces as `B0A1=AC00`, `8862=CA+304`, `1B2842=` and, where malformed, `B0=!`.
-    pub(crate) fn of(alloc: Global, pieces: &str) -> anyhow::Result<Self> {
+    /// Pieces as `B0A1=AC00`, `8862=CA+304`, `1B2842=` and, where malformed, `B0=!`.
+    pub fn of(alloc: Global, pieces: &str) -> anyhow::Result<Self> {
         let mut stream = DecodedStream {
             bytes: Vec::new(alloc),
             text: String::new(alloc),
@@ -60,15 +60,15 @@ impl DecodedStream {
         Ok(())
     }
 
-    // Whether a piece is malformed.
-    pub(crate) fn is_malformed(&self) -> bool {
+    /// Whether a piece is malformed.
+    pub fn is_malformed(&self) -> bool {
         self.utf8
             .iter()
             .any(|item| matches!(item, Item::Malformed(_, _)))
     }
 
-    // The text as it is written where malformed sequences are replaced.
-    pub(crate) fn replaced(&self, alloc: Global, form: Form) -> anyhow::Result<Vec<Item>> {
+    /// The text as it is written where malformed sequences are replaced.
+    pub fn replaced(&self, alloc: Global, form: Form) -> anyhow::Result<Vec<Item>> {
         let mut items = Vec::new(alloc);
         for c in self.text.chars() {
             add_character(alloc, form, c, &mut items)?;
@@ -76,7 +76,8 @@ impl DecodedStream {
         Ok(items)
     }
 
-    pub(crate) fn items(&self, form: Form) -> &[Item] {
+    /// The pieces in a form.
+    pub fn items(&self, form: Form) -> &[Item] {
         match form {
             Form::Utf8 => self.utf8.as_slice(),
             Form::Utf16 => self.utf16.as_slice(),
@@ -84,20 +85,20 @@ impl DecodedStream {
     }
 }
 
-// The text of a stream, and what it is encoded to.
+/// The text of a stream, and what it is encoded to.
 #[derive(Drop)]
-pub(crate) struct EncodedStream {
-    pub(crate) text: String,
-    pub(crate) units: Vec<u16>,
-    // Where characters end, in bytes and in units.
-    pub(crate) cuts: Vec<(usize, usize)>,
-    pub(crate) items: Vec<Item>,
+pub struct EncodedStream {
+    pub text: String,
+    pub units: Vec<u16>,
+    /// Where characters end, in bytes and in units.
+    pub cuts: Vec<(usize, usize)>,
+    pub items: Vec<Item>,
 }
 
 impl EncodedStream {
-    // Pieces as `AC00=B0A1`, `30CF=1B2442254F`, `=1B2842`, and, without bytes, `1F4A9=!`,
-    // `1F4A9=1B2842!`, and `E=!FFFD` where another character is reported.
-    pub(crate) fn of(alloc: Global, pieces: &str) -> anyhow::Result<Self> {
+    /// Pieces as `AC00=B0A1`, `30CF=1B2442254F`, `=1B2842`, and, without bytes, `1F4A9=!`,
+    /// `1F4A9=1B2842!`, and `E=!FFFD` where another character is reported.
+    pub fn of(alloc: Global, pieces: &str) -> anyhow::Result<Self> {
         let mut stream = EncodedStream {
             text: String::new(alloc),
             units: Vec::new(alloc),

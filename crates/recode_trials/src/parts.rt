@@ -4,8 +4,8 @@ use anyhow::Context;
 use case_lines::words::add_bytes;
 use std::alloc::Global;
 
-// A number in decimal digits.
-pub(crate) fn integer(word: &str) -> anyhow::Result<u64> {
+/// A number in decimal digits.
+pub fn integer(word: &str) -> anyhow::Result<u64> {
     u64::from_str_radix(word.trim(), 10)
         .ok()
         .context("a number is not decimal")
@@ -32,8 +32,8 @@ fn add_word(alloc: Global, word: &str, bytes: &mut Vec<u8>) -> anyhow::Result<()
     add_times(part.as_slice(), integer(times)?, bytes)
 }
 
-// The bytes of words.
-pub(crate) fn bytes_of(alloc: Global, words: &str) -> anyhow::Result<Vec<u8>> {
+/// The bytes of words.
+pub fn bytes_of(alloc: Global, words: &str) -> anyhow::Result<Vec<u8>> {
     let mut bytes = Vec::new(alloc);
     for word in words.split_whitespace() {
         add_word(alloc, word, &mut bytes)?;

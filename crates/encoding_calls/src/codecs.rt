@@ -16,16 +16,16 @@ use encoding_tables::{
     UserDefinedDecoder, UserDefinedEncoder, Utf16Decoder,
 };
 
-// Which decoder or encoder of an encoding.
+/// Which decoder or encoder of an encoding.
 #[derive(Clone, Copy, PartialEq, Eq, Debug)]
-pub(crate) enum Through {
+pub enum Through {
     Codec,
     Variant,
 }
 
 impl Through {
-    // Both, or the codec alone where not all indexes are there that the encoding needs.
-    pub(crate) fn of(is_ready: bool) -> &'static [Through] {
+    /// Both, or the codec alone where not all indexes are there that the encoding needs.
+    pub fn of(is_ready: bool) -> &'static [Through] {
         if is_ready {
             &[Through::Codec, Through::Variant]
         } else {
@@ -34,18 +34,18 @@ impl Through {
     }
 }
 
-// What is done with a new decoder, of whichever encoding.
-pub(crate) trait DecoderTask {
+/// What is done with a new decoder, of whichever encoding.
+pub trait DecoderTask {
     fn run<D: Neutral + Drop>(&mut self, decoder: D) -> anyhow::Result<()>;
 }
 
-// What is done with a new encoder, of whichever encoding.
-pub(crate) trait EncoderTask {
+/// What is done with a new encoder, of whichever encoding.
+pub trait EncoderTask {
     fn run<E: RawEncoder + Drop>(&mut self, encoder: E) -> anyhow::Result<()>;
 }
 
-// Does this with a decoder. Returns whether the indexes are there.
-pub(crate) fn with_decoder<T: DecoderTask>(
+/// Does this with a decoder. Returns whether the indexes are there.
+pub fn with_decoder<T: DecoderTask>(
     tables: &Tables,
     encoding: Encoding,
     through: Through,
@@ -99,8 +99,8 @@ fn with_codec_decoder<T: DecoderTask>(
     Ok(true)
 }
 
-// Does this with an encoder. Returns whether the indexes are there.
-pub(crate) fn with_encoder<T: EncoderTask>(
+/// Does this with an encoder. Returns whether the indexes are there.
+pub fn with_encoder<T: EncoderTask>(
     tables: &Tables,
     encoding: Encoding,
     through: Through,

@@ -6,33 +6,34 @@ use anyhow::{Context, bail};
 use case_lines::words::decimal;
 use encoding_front::{Encoding, Mark};
 
-// A room as a multiple of a number, and so much more.
+/// A room as a multiple of a number, and so much more.
 #[derive(Clone, Copy, Debug)]
-pub(crate) struct Room {
+pub struct Room {
     factor: usize,
     more: usize,
 }
 
 impl Room {
-    // The room for so many bytes or units; none where it passes a `usize`.
-    pub(crate) fn of(self, n: usize) -> Option<usize> {
+    /// The room for so many bytes or units; none where it passes a `usize`.
+    pub fn of(self, n: usize) -> Option<usize> {
         self.factor.checked_mul(n)?.checked_add(self.more)
     }
 }
 
+/// What is called.
 #[derive(Clone, Copy, PartialEq, Eq, Debug)]
-pub(crate) enum Side {
+pub enum Side {
     Decoder,
     Encoder,
-    // The `Encoder` of `encoding_front`.
+    /// The `Encoder` of `encoding_front`.
     FrontEncoder,
-    // The `Decoder` of `encoding_front`, and what it does with a mark.
+    /// The `Decoder` of `encoding_front`, and what it does with a mark.
     FrontDecoder(Mark),
 }
 
-// What the decoder or the encoder of an encoding must ask for in a form.
+/// What the decoder or the encoder of an encoding must ask for in a form.
 #[derive(Clone, Copy)]
-pub(crate) struct Asked {
+pub struct Asked {
     side: Side,
     encoding: Encoding,
     form: Form,
@@ -40,8 +41,8 @@ pub(crate) struct Asked {
 }
 
 impl Asked {
-    // Words as `decoder big5 utf-8 3 1`.
-    pub(crate) fn of(words: &str) -> anyhow::Result<Asked> {
+    /// Words as `decoder big5 utf-8 3 1`.
+    pub fn of(words: &str) -> anyhow::Result<Asked> {
         let mut words = words.split_whitespace();
         let side = match words.next() {
             Some("decoder") => Side::Decoder,
@@ -62,8 +63,8 @@ impl Asked {
     }
 }
 
-// What must be asked for, where it is said.
-pub(crate) fn room_of(asked: &[Asked], side: Side, encoding: Encoding, form: Form) -> Option<Room> {
+/// What must be asked for, where it is said.
+pub fn room_of(asked: &[Asked], side: Side, encoding: Encoding, form: Form) -> Option<Room> {
     for one in asked {
         if one.side == side && one.encoding == encoding && one.form == form {
             return Some(one.room);

@@ -5,26 +5,26 @@ use anyhow::{Context, bail};
 use case_lines::words::{add_bytes, decimal, numbers, scalar};
 use std::alloc::Global;
 
-// What a call is given.
+/// What a call is given.
 #[derive(Drop)]
-pub(crate) enum Source {
-    // What the call before left unread.
+pub enum Source {
+    /// What the call before left unread.
     Rest,
-    // Bytes, the characters of a text, or units.
+    /// Bytes, the characters of a text, or units.
     Numbers(Vec<u32>),
 }
 
-// How a call must end. A number that a case leaves open is none.
+/// How a call must end. A number that a case leaves open is none.
 #[derive(Clone, Copy)]
-pub(crate) enum Ending {
+pub enum Ending {
     Exactly(Outcome),
-    // The length of a malformed sequence, with any number of bytes behind it.
+    /// The length of a malformed sequence, with any number of bytes behind it.
     Malformed(usize),
 }
 
 impl Ending {
-    // The outcome that it must be, with what it leaves open as in that which there is.
-    pub(crate) fn of(self, outcome: Outcome) -> Outcome {
+    /// The outcome that it must be, with what it leaves open as in that which there is.
+    pub fn of(self, outcome: Outcome) -> Outcome {
         match (self, outcome) {
             (Ending::Exactly(expected), _) => expected,
             (Ending::Malformed(len), Outcome::Malformed(_, behind)) => {
@@ -35,20 +35,21 @@ impl Ending {
     }
 }
 
-// What must hold after a call.
+/// What must hold after a call.
 #[derive(Clone, Copy, PartialEq, Eq, Debug)]
-pub(crate) enum State {
+pub enum State {
     Pending(usize),
-    // Whether a decoder is as at the start.
+    /// Whether a decoder is as at the start.
     Neutral(bool),
-    // Whether an encoder has an escape to write.
+    /// Whether an encoder has an escape to write.
     Escape(bool),
-    // Whether an encoder says that it wrote a reference.
+    /// Whether an encoder says that it wrote a reference.
     Lost(bool),
 }
 
 impl State {
-    pub(crate) fn is_of_kind(self, other: State) -> bool {
+    /// Whether both say the like of one thing.
+    pub fn is_of_kind(self, other: State) -> bool {
         matches!(
             (self, other),
             (State::Pending(_), State::Pending(_))
@@ -59,45 +60,45 @@ impl State {
     }
 }
 
-// What a `Decoder` must answer after a call.
+/// What a `Decoder` must answer after a call.
 #[derive(Drop)]
-pub(crate) enum Ask {
+pub enum Ask {
     Finished(bool),
-    // Whether the call says that it replaced a malformed sequence.
+    /// Whether the call says that it replaced a malformed sequence.
     Errors(bool),
-    // The encoding that is found, by its name.
+    /// The encoding that is found, by its name.
     Found(String),
-    // The room for so many more bytes: in units, and in bytes without replacement and with it.
-    // One that a case leaves open is none.
+    /// The room for so many more bytes: in units, and in bytes without replacement and with it.
+    /// One that a case leaves open is none.
     Rooms(usize, [Option<Option<usize>>; 3]),
-    // How many of these bytes are Latin1.
+    /// How many of these bytes are Latin1.
     Latin1(Vec<u8>, Option<usize>),
 }
 
-// The room of a call.
+/// The room of a call.
 #[derive(Clone, Copy)]
-pub(crate) enum Given {
+pub enum Given {
     Room(usize),
-    // That which the decoder asks for just before.
+    /// That which the decoder asks for just before.
     Asked,
 }
 
-// A call, and what it must tell.
+/// A call, and what it must tell.
 #[derive(Drop)]
-pub(crate) struct CallLine {
-    pub(crate) number: usize,
-    pub(crate) form: Form,
-    pub(crate) room: Given,
-    pub(crate) last: bool,
-    // Whether an `Encoder` writes references.
-    pub(crate) replaces: bool,
-    pub(crate) source: Source,
-    pub(crate) ending: Ending,
-    pub(crate) read: Option<usize>,
-    // The characters that a decoder writes, the bytes that an encoder writes.
-    pub(crate) output: Vec<u32>,
-    pub(crate) states: Vec<State>,
-    pub(crate) asks: Vec<Ask>,
+pub struct CallLine {
+    pub number: usize,
+    pub form: Form,
+    pub room: Given,
+    pub last: bool,
+    /// Whether an `Encoder` writes references.
+    pub replaces: bool,
+    pub source: Source,
+    pub ending: Ending,
+    pub read: Option<usize>,
+    /// The characters that a decoder writes, the bytes that an encoder writes.
+    pub output: Vec<u32>,
+    pub states: Vec<State>,
+    pub asks: Vec<Ask>,
 }
 
 fn ending_of(words: &str) -> anyhow::Result<Ending> {
@@ -120,8 +121,8 @@ fn ending_of(words: &str) -> anyhow::Result<Ending> {
     }
 }
 
-// A number, or `none`.
-pub(crate) fn number_or_none(word: &str) -> anyhow::Result<Option<usize>> {
+/// A number, or `none`.
+pub fn number_or_none(word: &str) -> anyhow::Result<Option<usize>> {
     if word == "none" {
         return Ok(None);
     }
@@ -136,9 +137,9 @@ fn room_or_open(word: &str) -> anyhow::Result<Option<Option<usize>>> {
     Ok(Some(number_or_none(word)?))
 }
 
-// Words as `found UTF-8`, `rooms 1 4 9 ?` and `latin1 6180 1`. None where they are not of a
-// `Decoder`.
-pub(crate) fn ask_of(alloc: Global, words: &str) -> anyhow::Result<Option<Ask>> {
+/// Words as `found UTF-8`, `rooms 1 4 9 ?` and `latin1 6180 1`. None where they are not of a
+/// `Decoder`.
+pub fn ask_of(alloc: Global, words: &str) -> anyhow::Result<Option<Ask>> {
     match words {
         "finished" => return Ok(Some(Ask::Finished(true))),
         "not finished" => return Ok(Some(Ask::Finished(false))),
@@ -224,8 +225,8 @@ fn head_of(words: &str) -> anyhow::Result<(Form, Given, bool, bool)> {
 }
 
 impl CallLine {
-    // A line as `utf-8 8 last: B0 41 -> Malformed 1 0, 1, AC00, pending 0`.
-    pub(crate) fn of(alloc: Global, number: usize, line: &str) -> anyhow::Result<Self> {
+    /// A line as `utf-8 8 last: B0 41 -> Malformed 1 0, 1, AC00, pending 0`.
+    pub fn of(alloc: Global, number: usize, line: &str) -> anyhow::Result<Self> {
         let (call, told) = line.split_once(" -> ").context("a call has no ` -> `")?;
         let (head, source) = call.split_once(':').context("a call has no `:`")?;
         let (form, room, last, replaces) = head_of(head)?;

@@ -3,48 +3,49 @@
 use std::alloc::{AllocError, Global};
 use std::cell::RefCell;
 
-// What a conversion calls.
+/// What a conversion calls.
 #[derive(Clone, Copy, PartialEq, Eq, Debug)]
-pub(crate) enum Device {
+pub enum Device {
     Reader,
     Writer,
     Log,
 }
 
-// What happens to a device.
+/// What happens to a device.
 #[derive(Clone, Copy, PartialEq, Eq, Debug)]
-pub(crate) enum Event {
-    // It is called, to read or to write.
+pub enum Event {
+    /// It is called, to read or to write.
     Call(Device),
-    // It takes a byte.
+    /// It takes a byte.
     Byte(Device, u8),
-    // It is flushed.
+    /// It is flushed.
     Flush(Device),
 }
 
-// What happens to all devices of a conversion, in one order.
+/// What happens to all devices of a conversion, in one order.
 #[derive(Drop)]
-pub(crate) struct Tape {
+pub struct Tape {
     events: RefCell<Vec<Event>>,
 }
 
 impl Tape {
-    pub(crate) fn new(alloc: Global) -> Tape {
+    /// With nothing noted.
+    pub fn new(alloc: Global) -> Tape {
         Tape {
             events: RefCell::new(Vec::new(alloc)),
         }
     }
 
-    // Notes what happens next.
-    pub(crate) fn add(&self, event: Event) -> Result<(), AllocError> {
+    /// Notes what happens next.
+    pub fn add(&self, event: Event) -> Result<(), AllocError> {
         if let Ok(mut events) = self.events.try_borrow_mut() {
             events.push(event)?;
         }
         Ok(())
     }
 
-    // Gives what is noted away.
-    pub(crate) fn take(&self, alloc: Global) -> Vec<Event> {
+    /// Gives what is noted away.
+    pub fn take(&self, alloc: Global) -> Vec<Event> {
         match self.events.try_replace(Vec::new(alloc)) {
             Ok(events) => events,
             Err(nothing) => nothing,
@@ -52,8 +53,8 @@ impl Tape {
     }
 }
 
-// How many of these are calls of a device.
-pub(crate) fn calls_of(events: &[Event], device: Device) -> usize {
+/// How many of these are calls of a device.
+pub fn calls_of(events: &[Event], device: Device) -> usize {
     let mut calls = 0usize;
     for event in events {
         if *event == Event::Call(device) {
@@ -77,8 +78,8 @@ pub(crate) fn up_to(events: &[Event], device: Device, call: usize) -> &[Event] {
     events
 }
 
-// The bytes among these events.
-pub(crate) fn only_bytes(alloc: Global, events: &[Event]) -> Result<Vec<Event>, AllocError> {
+/// The bytes among these events.
+pub fn only_bytes(alloc: Global, events: &[Event]) -> Result<Vec<Event>, AllocError> {
     let mut bytes = Vec::new(alloc);
     for event in events {
         if let Event::Byte(..) = event {
@@ -88,8 +89,8 @@ pub(crate) fn only_bytes(alloc: Global, events: &[Event]) -> Result<Vec<Event>, 
     Ok(bytes)
 }
 
-// Whether a device takes exactly these bytes.
-pub(crate) fn takes(events: &[Event], device: Device, bytes: &[u8]) -> bool {
+/// Whether a device takes exactly these bytes.
+pub fn takes(events: &[Event], device: Device, bytes: &[u8]) -> bool {
     let mut left = bytes;
     for event in events {
         match (event, left.split_first()) {

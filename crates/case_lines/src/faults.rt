@@ -1,8 +1,8 @@
-//! Lines in parts, and what a call must return that takes an index.
+//! What a call must return that takes an index.
 
-use anyhow::{Context, bail};
-use case_lines::indexes::pointer;
-use case_lines::words::decimal;
+use crate::indexes::pointer;
+use crate::words::decimal;
+use anyhow::bail;
 use encoding_index::{IndexFault, IndexFaultKind, LoadFault};
 use encoding_tables::TableFault;
 
@@ -26,16 +26,4 @@ pub(crate) fn fault_of(words: &str) -> anyhow::Result<Option<LoadFault>> {
         "Pointer" => text_fault(decimal(number)?, IndexFaultKind::Pointer),
         _ => bail!("a result is not known"),
     })
-}
-
-// A line in two: what is done, and what must come of it.
-pub(crate) fn halves(words: &str) -> anyhow::Result<(&str, &str)> {
-    let (call, told) = words.split_once("->").context("a line has no `->`")?;
-    Ok((call.trim(), told.trim()))
-}
-
-// The first word, and what stands behind it.
-pub(crate) fn first_word(words: &str) -> (&str, &str) {
-    let (word, rest) = words.split_once(' ').unwrap_or((words, ""));
-    (word, rest.trim())
 }

@@ -1,11 +1,10 @@
 //! Look-ups in the indexes that are there, by the tables and by what they lend.
 
-use crate::faults::{first_word, halves};
+use crate::indexes::{pointer, rows_of};
+use crate::kinds::kind_of;
+use crate::report::Report;
+use crate::words::{first_word, halves, hexadecimal, scalar};
 use anyhow::{Context, ensure};
-use case_lines::indexes::{pointer, rows_of};
-use case_lines::kinds::kind_of;
-use case_lines::report::Report;
-use case_lines::words::scalar;
 use encoding_tables::laws::search;
 use encoding_tables::{IndexKind, Tables};
 
@@ -245,7 +244,7 @@ pub(crate) fn check_search(
     let (call, told) = halves(words)?;
     let (key, rows) = call.split_once(" among").context("no rows are there")?;
     let (first, second) = key.split_once(' ').context("a key has one number")?;
-    let key = (pointer(first)?, case_lines::words::hexadecimal(second)?);
+    let key = (pointer(first)?, hexadecimal(second)?);
     let (rank, most) = told.split_once(", ").context("a number is missing")?;
     let rows = rows_of(rt.alloc(), rows)?;
     let below = below(rows.as_slice(), key);

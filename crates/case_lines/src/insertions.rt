@@ -1,12 +1,12 @@
 //! Indexes that are handed in, and what is there then.
 
-use crate::faults::{fault_of, first_word, halves};
+use crate::faults::fault_of;
+use crate::indexes::{insert_list, insert_rows, rows_of};
+use crate::kinds::{KINDS, kind_of};
+use crate::report::Report;
 use crate::texts::text_of;
+use crate::words::{decimal, first_word, halves};
 use anyhow::bail;
-use case_lines::indexes::{insert_list, insert_rows, rows_of};
-use case_lines::kinds::{KINDS, kind_of};
-use case_lines::report::Report;
-use case_lines::words::decimal;
 use encoding_index::{LoadFault, load};
 use encoding_tables::{IndexKind, TableFault, Tables};
 use std::alloc::{AllocError, Global};

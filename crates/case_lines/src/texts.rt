@@ -1,11 +1,11 @@
 //! Index texts that are read.
 
-use crate::faults::{fault_of, first_word, halves};
+use crate::faults::fault_of;
+use crate::indexes::rows_of;
+use crate::kinds::kind_of;
+use crate::report::Report;
+use crate::words::{first_word, halves, unescaped};
 use anyhow::bail;
-use case_lines::indexes::rows_of;
-use case_lines::kinds::kind_of;
-use case_lines::report::Report;
-use case_lines::words::unescaped;
 use encoding_index::{IndexFault, LoadFault, read_index, read_ranges};
 use encoding_tables::IndexKind;
 use std::alloc::Global;

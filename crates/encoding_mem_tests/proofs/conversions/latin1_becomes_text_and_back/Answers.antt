@@ -1,5 +1,5 @@
-use Rattle.library_tests.proofs.Latin1Lemmas.{a_is_latin1, e_is_latin1}
-use Rattle.library_tests.proofs.conversions.latin1_becomes_text_and_back.Goals as goal
+use Rattle.encoding_mem_tests.proofs.Latin1Lemmas.{a_is_latin1, e_is_latin1}
+use Rattle.encoding_mem_tests.proofs.conversions.latin1_becomes_text_and_back.Goals as goal
 
 pub encode_latin1_lossy-requires : goal.encode_latin1_lossy-requires
 encode_latin1_lossy-requires g c = e_is_latin1

@@ -4,18 +4,18 @@ use crate::tape::{Device, Event, Tape};
 use std::io;
 use std::io::{ErrorKind, Read};
 
-// How the input is cut into reads.
+/// How the input is cut into reads.
 #[derive(Clone, Copy, Debug)]
-pub(crate) enum Reads {
-    // No read passes this offset: where there is room, there are two.
+pub enum Reads {
+    /// No read passes this offset: where there is room, there are two.
     CutAt(usize),
-    // A read gives one byte.
+    /// A read gives one byte.
     OneByOne,
 }
 
-// A reader over memory.
+/// A reader over memory.
 #[derive(Drop)]
-pub(crate) struct Source<'a> {
+pub struct Source<'a> {
     rest: &'a [u8],
     given: usize,
     reads: Reads,
@@ -26,8 +26,8 @@ pub(crate) struct Source<'a> {
 }
 
 impl<'a> Source<'a> {
-    // A reader of these bytes. The call `fails_at`, counted from 1, fails, and only that one.
-    pub(crate) fn new(
+    /// A reader of these bytes. The call `fails_at`, counted from 1, fails, and only that one.
+    pub fn new(
         bytes: &'a [u8],
         reads: Reads,
         fails_at: usize,
@@ -45,8 +45,8 @@ impl<'a> Source<'a> {
         }
     }
 
-    // How often it was called.
-    pub(crate) fn calls(&self) -> usize {
+    /// How often it was called.
+    pub fn calls(&self) -> usize {
         self.calls
     }
 

@@ -11,25 +11,28 @@ use encoding_tables::Utf16Decoder;
 use encoding_tables::each_byte_decoder::EachByteDecoder;
 use std::alloc::{AllocError, Global};
 
-// Stands in a room where nothing is written.
-pub(crate) const UNWRITTEN: u8 = 0xEE;
+/// Stands in a room where nothing is written.
+pub const UNWRITTEN: u8 = 0xEE;
 
+// Stands in a room of units where nothing is written.
 pub(crate) const UNWRITTEN_UNIT: u16 = 0xEEEE;
 
-// What a call tells.
+/// What a call tells.
 #[derive(Drop)]
-pub(crate) struct Answer {
-    pub(crate) outcome: Outcome,
-    pub(crate) read: usize,
-    // The bytes or units that it wrote.
-    pub(crate) output: Vec<u32>,
-    // Whether what stands behind them is as it was.
-    pub(crate) keeps_rest: bool,
+pub struct Answer {
+    /// How it ended.
+    pub outcome: Outcome,
+    /// How many bytes or units it read.
+    pub read: usize,
+    /// The bytes or units that it wrote.
+    pub output: Vec<u32>,
+    /// Whether what stands behind them is as it was.
+    pub keeps_rest: bool,
 }
 
 impl Answer {
-    // Of a call that wrote so many elements to the front of a room in which each was `unwritten`.
-    pub(crate) fn of<T: Copy + PartialEq>(
+    /// Of a call that wrote so many elements to the front of a room in which each was `unwritten`.
+    pub fn of<T: Copy + PartialEq>(
         alloc: Global,
         outcome: Outcome,
         read: usize,
@@ -52,11 +55,12 @@ impl Answer {
     }
 }
 
-// A decoder that may tell whether it is as at the start of a stream.
-pub(crate) trait Neutral: RawDecoder {
+/// A decoder that may tell whether it is as at the start of a stream.
+pub trait Neutral: RawDecoder {
+    /// Whether it is, where it tells.
     fn is_neutral(&self) -> Option<bool>;
 
-    // Whether that agrees with what is pending.
+    /// Whether that agrees with what is pending.
     fn is_at_one(&self) -> bool;
 }
 
@@ -120,8 +124,8 @@ impl<'t> Neutral for VariantDecoder<'t> {
     }
 }
 
-// One call of a decoder into so much room.
-pub(crate) fn decode<D: RawDecoder>(
+/// One call of a decoder into so much room.
+pub fn decode<D: RawDecoder>(
     alloc: Global,
     decoder: &mut D,
     form: Form,
@@ -145,8 +149,8 @@ pub(crate) fn decode<D: RawDecoder>(
     }
 }
 
-// The room that a decoder asks for: for its text, and with U+FFFD for each malformed sequence.
-pub(crate) fn decoded_room<D: RawDecoder>(
+/// The room that a decoder asks for: for its text, and with U+FFFD for each malformed sequence.
+pub fn decoded_room<D: RawDecoder>(
     decoder: &D,
     form: Form,
     n: usize,
@@ -163,31 +167,32 @@ pub(crate) fn decoded_room<D: RawDecoder>(
     }
 }
 
-// A text that is handed to an encoder.
+/// A text that is handed to an encoder.
 #[derive(Clone, Copy)]
-pub(crate) enum Text<'a> {
+pub enum Text<'a> {
     Utf8(&'a str),
     Utf16(&'a [u16]),
 }
 
 impl<'a> Text<'a> {
-    pub(crate) fn len(self) -> usize {
+    /// How many bytes or units it has.
+    pub fn len(self) -> usize {
         match self {
             Text::Utf8(text) => text.len(),
             Text::Utf16(units) => units.len(),
         }
     }
 
-    // What is left behind so many bytes or units.
-    pub(crate) fn behind(self, read: usize) -> Option<Text<'a>> {
+    /// What is left behind so many bytes or units.
+    pub fn behind(self, read: usize) -> Option<Text<'a>> {
         match self {
             Text::Utf8(text) => Some(Text::Utf8(text.split_at_checked(read)?.1)),
             Text::Utf16(units) => Some(Text::Utf16(units.split_at_checked(read)?.1)),
         }
     }
 
-    // What stands before so many bytes or units.
-    pub(crate) fn before(self, cut: usize) -> Option<Text<'a>> {
+    /// What stands before so many bytes or units.
+    pub fn before(self, cut: usize) -> Option<Text<'a>> {
         match self {
             Text::Utf8(text) => Some(Text::Utf8(text.split_at_checked(cut)?.0)),
             Text::Utf16(units) => Some(Text::Utf16(units.split_at_checked(cut)?.0)),
@@ -195,8 +200,8 @@ impl<'a> Text<'a> {
     }
 }
 
-// One call of an encoder into so much room.
-pub(crate) fn encode<E: RawEncoder>(
+/// One call of an encoder into so much room.
+pub fn encode<E: RawEncoder>(
     alloc: Global,
     encoder: &mut E,
     text: Text<'_>,
@@ -212,8 +217,8 @@ pub(crate) fn encode<E: RawEncoder>(
     Answer::of(alloc, outcome, read, (&dst, written), UNWRITTEN)
 }
 
-// The room that an encoder asks for.
-pub(crate) fn encoded_room<E: RawEncoder>(encoder: &E, form: Form, n: usize) -> Option<usize> {
+/// The room that an encoder asks for.
+pub fn encoded_room<E: RawEncoder>(encoder: &E, form: Form, n: usize) -> Option<usize> {
     match form {
         Form::Utf8 => encoder.max_buffer_length_from_utf8_without_replacement(n),
         Form::Utf16 => encoder.max_buffer_length_from_utf16_without_replacement(n),

@@ -3,12 +3,13 @@
 use anyhow::{Context, bail};
 use encoding_front::{Encoding, Mark};
 
-// The encoding of a label.
-pub(crate) fn encoding_of(word: &str) -> anyhow::Result<Encoding> {
+/// The encoding of a label.
+pub fn encoding_of(word: &str) -> anyhow::Result<Encoding> {
     Encoding::for_label(word.as_bytes()).context("no encoding has this name")
 }
 
-pub(crate) fn mark_of(word: &str) -> anyhow::Result<Mark> {
+/// What is done with a mark, by its name.
+pub fn mark_of(word: &str) -> anyhow::Result<Mark> {
     match word {
         "sniff" => Ok(Mark::Sniff),
         "remove" => Ok(Mark::Remove),

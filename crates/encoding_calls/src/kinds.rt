@@ -1,17 +1,19 @@
 //! What cases speak of: the form of a text, and how a call ended.
 
+use encoding_front::CoderResult;
 use encoding_mem::{DecoderResult, EncoderResult};
 use std::alloc::{AllocError, Global};
 
+/// The form of a text.
 #[derive(Clone, Copy, PartialEq, Eq, Debug)]
-pub(crate) enum Form {
+pub enum Form {
     Utf8,
     Utf16,
 }
 
 impl Form {
-    // The form that a word names.
-    pub(crate) fn of(word: &str) -> Option<Form> {
+    /// The form that a word names.
+    pub fn of(word: &str) -> Option<Form> {
         match word {
             "utf-8" => Some(Form::Utf8),
             "utf-16" => Some(Form::Utf16),
@@ -19,16 +21,16 @@ impl Form {
         }
     }
 
-    // The least room that a decoder is given.
-    pub(crate) fn least_room(self) -> usize {
+    /// The least room that a decoder is given.
+    pub fn least_room(self) -> usize {
         match self {
             Form::Utf8 => 4,
             Form::Utf16 => 2,
         }
     }
 
-    // Adds the bytes or units of a character to an output.
-    pub(crate) fn add(self, c: char, output: &mut Vec<u32>) -> Result<(), AllocError> {
+    /// Adds the bytes or units of a character to an output.
+    pub fn add(self, c: char, output: &mut Vec<u32>) -> Result<(), AllocError> {
         match self {
             Form::Utf8 => {
                 let mut bytes = [0; 4];
@@ -47,17 +49,26 @@ impl Form {
     }
 }
 
-// How a call of a decoder or an encoder ended.
+/// How a call of a decoder or an encoder ended.
 #[derive(Clone, Copy, PartialEq, Eq, Debug)]
-pub(crate) enum Outcome {
+pub enum Outcome {
     InputEmpty,
     OutputFull,
-    // The length, and how many bytes were read behind it.
+    /// The length, and how many bytes were read behind it.
     Malformed(usize, usize),
     Unmappable(char),
 }
 
 impl Outcome {
+    /// What a call returns that replaces what it can't convert.
+    pub fn of_coder(outcome: CoderResult) -> Outcome {
+        match outcome {
+            CoderResult::InputEmpty => Outcome::InputEmpty,
+            CoderResult::OutputFull => Outcome::OutputFull,
+        }
+    }
+
+    // What a decoder returns.
     pub(crate) fn of_decoder(outcome: DecoderResult) -> Outcome {
         match outcome {
             DecoderResult::InputEmpty => Outcome::InputEmpty,
@@ -68,7 +79,8 @@ impl Outcome {
         }
     }
 
-    pub(crate) fn of_encoder(outcome: EncoderResult) -> Outcome {
+    /// What an encoder returns.
+    pub fn of_encoder(outcome: EncoderResult) -> Outcome {
         match outcome {
             EncoderResult::InputEmpty => Outcome::InputEmpty,
             EncoderResult::OutputFull => Outcome::OutputFull,
@@ -77,12 +89,12 @@ impl Outcome {
     }
 }
 
-// A part of what a stream becomes.
+/// A part of what a stream becomes.
 #[derive(Clone, Copy, PartialEq, Eq, Debug)]
-pub(crate) enum Item {
-    // A byte or a unit.
+pub enum Item {
+    /// A byte or a unit.
     Output(u32),
-    // Where a malformed sequence begins, and its length.
+    /// Where a malformed sequence begins, and its length.
     Malformed(usize, usize),
     Unmappable(char),
 }

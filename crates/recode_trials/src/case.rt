@@ -7,48 +7,49 @@ use encoding_front::Encoding;
 use recode::{Fault, Mark, Policy, Report};
 use std::alloc::Global;
 
-// How a conversion ends.
+/// How a conversion ends.
 #[derive(Clone, Copy)]
-pub(crate) enum Ending {
-    // All is converted.
+pub enum Ending {
+    /// All is converted.
     Told { faithful: bool },
-    // The policy stops it.
+    /// The policy stops it.
     Stopped(Fault),
 }
 
-// Which plans a case is converted by.
+/// Which plans a case is converted by.
 #[derive(Clone, Copy)]
-pub(crate) struct Scope {
-    // At once alone.
-    pub(crate) is_once: bool,
-    // With rooms of 4 to 9 bytes for the output, too.
-    pub(crate) has_rooms: bool,
-    // By the calls on whole inputs and texts, too.
-    pub(crate) has_calls: bool,
+pub struct Scope {
+    /// At once alone.
+    pub is_once: bool,
+    /// With rooms of 4 to 9 bytes for the output, too.
+    pub has_rooms: bool,
+    /// By the calls on whole inputs and texts, too.
+    pub has_calls: bool,
 }
 
-// What stands before `:`, as `shift_jis -> iso-2022-jp keep stop`.
+/// What stands before `:`, as `shift_jis -> iso-2022-jp keep stop`.
 #[derive(Clone, Copy)]
-pub(crate) struct Head {
-    pub(crate) from: Encoding,
-    pub(crate) to: Encoding,
-    // The way to treat marks. None: each.
-    pub(crate) mark: Option<Mark>,
-    pub(crate) policy: Policy,
-    pub(crate) scope: Scope,
+pub struct Head {
+    pub from: Encoding,
+    pub to: Encoding,
+    /// The way to treat marks. None: each.
+    pub mark: Option<Mark>,
+    pub policy: Policy,
+    pub scope: Scope,
 }
 
+/// A line of one conversion.
 #[derive(Drop)]
-pub(crate) struct Case {
-    pub(crate) head: Head,
-    pub(crate) input: Vec<u8>,
-    pub(crate) output: Vec<u8>,
-    pub(crate) log: Vec<u8>,
-    pub(crate) bad: u64,
-    pub(crate) lost: u64,
-    // What the input turns out to be in.
-    pub(crate) found: Encoding,
-    pub(crate) ending: Ending,
+pub struct Case {
+    pub head: Head,
+    pub input: Vec<u8>,
+    pub output: Vec<u8>,
+    pub log: Vec<u8>,
+    pub bad: u64,
+    pub lost: u64,
+    /// What the input turns out to be in.
+    pub found: Encoding,
+    pub ending: Ending,
 }
 
 // The encoding of this name.
@@ -57,8 +58,8 @@ pub(crate) fn encoding_of(name: &str) -> anyhow::Result<Encoding> {
 }
 
 impl Head {
-    // With no words behind the encodings.
-    pub(crate) fn between(from: &str, to: &str) -> anyhow::Result<Self> {
+    /// With no words behind the encodings.
+    pub fn between(from: &str, to: &str) -> anyhow::Result<Self> {
         Ok(Head {
             from: encoding_of(from)?,
             to: encoding_of(to)?,
@@ -72,7 +73,8 @@ impl Head {
         })
     }
 
-    pub(crate) fn of(words: &str) -> anyhow::Result<Self> {
+    /// Words as `shift_jis -> iso-2022-jp keep stop`.
+    pub fn of(words: &str) -> anyhow::Result<Self> {
         let (from, rest) = words.split_once(" -> ").context("a line has no ` -> `")?;
         let (to, rest) = rest.split_once(' ').unwrap_or((rest, ""));
         let mut head = Head::between(from, to)?;
@@ -97,9 +99,9 @@ impl Head {
         Ok(())
     }
 
-    // A conversion of these bytes, with marks kept where each way to treat them is meant, and with
-    // no more than these bytes let through.
-    pub(crate) fn setting<'a>(&self, input: &'a [u8]) -> Setting<'a> {
+    /// A conversion of these bytes, with marks kept where each way to treat them is meant, and with
+    /// no more than these bytes let through.
+    pub fn setting<'a>(&self, input: &'a [u8]) -> Setting<'a> {
         Setting {
             from: self.from,
             to: self.to,
@@ -111,16 +113,16 @@ impl Head {
     }
 }
 
-// Adds what a line of the log says, as `bad 0 1`, as the log has it.
-pub(crate) fn add_line(item: &str, log: &mut Vec<u8>) -> anyhow::Result<()> {
+/// Adds what a line of the log says, as `bad 0 1`, as the log has it.
+pub fn add_line(item: &str, log: &mut Vec<u8>) -> anyhow::Result<()> {
     log.extend_from_slice(item.as_bytes())?;
     log.push(b'\n')?;
     Ok(())
 }
 
-// The fault of a policy that stops, by numbers as `1 232`: how many characters stand before the one
-// that has no bytes, and its number.
-pub(crate) fn stop_of(numbers: &str) -> anyhow::Result<Fault> {
+/// The fault of a policy that stops, by numbers as `1 232`: how many characters stand before the
+/// one that has no bytes, and its number.
+pub fn stop_of(numbers: &str) -> anyhow::Result<Fault> {
     let (index, scalar) = numbers.split_once(' ').context("a stop has two numbers")?;
     let number = u32::try_from(integer(scalar)?).ok();
     let scalar = char::from_u32(number.context("a character is too large")?);
@@ -131,7 +133,8 @@ pub(crate) fn stop_of(numbers: &str) -> anyhow::Result<Fault> {
 }
 
 impl Case {
-    pub(crate) fn of(alloc: Global, head: Head, words: &str) -> anyhow::Result<Self> {
+    /// Words as `836E => 1B2442254F1B2842 | faithful`.
+    pub fn of(alloc: Global, head: Head, words: &str) -> anyhow::Result<Self> {
         let (input, rest) = words.split_once("=>").context("a line has no `=>`")?;
         let mut items = rest.split('|');
         let output = items.next().unwrap_or("");
@@ -173,8 +176,8 @@ impl Case {
         Ok(word == "faithful" || word == "lossy" || word == "stopped")
     }
 
-    // Compares the report, or the fault where it is stopped, and the bound of calls of codecs.
-    pub(crate) fn compare(&self, answer: Result<Report, Fault>) -> anyhow::Result<()> {
+    /// Compares the report, or the fault where it is stopped, and the bound of calls of codecs.
+    pub fn compare(&self, answer: Result<Report, Fault>) -> anyhow::Result<()> {
         match (self.ending, answer) {
             (Ending::Stopped(fault), answer) => {
                 ensure!(answer == Err(fault), "it is not stopped so: {answer:?}");
@@ -201,8 +204,8 @@ impl Case {
     }
 }
 
-// The bound of calls of codecs.
-pub(crate) fn few_calls(report: Report) -> anyhow::Result<()> {
+/// The bound of calls of codecs.
+pub fn few_calls(report: Report) -> anyhow::Result<()> {
     let most = report.read.saturating_mul(37).saturating_add(9);
     let calls = report.calls;
     ensure!(
