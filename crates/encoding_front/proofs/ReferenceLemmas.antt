@@ -1,15 +1,14 @@
 -- How long a reference can be. Calls with replacement: what the calls without replacement and the references
 -- between them make together. How a call with replacement ends. A turn of a call with replacement: one call
 -- without, and the reference that it asks for. A whole text through last calls with replacement, one after another.
-use Rattle.std.proofs.Common.{ℕ, ◌≡◌, ◌≤◌, ◌<◌, List, length, ap, arith, ◌↔◌, ◌+◌, Bool, true, false, IsTrue, [], ◌∷◌, ◌++◌, map, refl, sym, ◌∙◌, append_assoc, length-append, add_assoc, add-zero, zero-add, ◌-◌, ◌⊎◌, inl, inr, subst, take, drop, length-drop, ◌||◌, zero, suc}
+use Rattle.std.proofs.Common.{ℕ, ◌≡◌, ◌≤◌, ◌<◌, List, length, ap, arith, ◌↔◌, ◌+◌, Bool, true, false, IsTrue, [], ◌∷◌, ◌++◌, refl, sym, ◌∙◌, append_assoc, length-append, add_assoc, zero-add, ◌-◌, ◌⊎◌, inl, inr, subst, take, drop, length-drop, ◌||◌, zero, suc}
 use Rattle.std.proofs.lemmas.Fmt.{length-decimal-le}
 use Rattle.std.specs.Fmt.{decimal}
-use Rattle.std.proofs.lemmas.List.{append-nil, append_cancel_left, map-append, drop-drop, drop_all, drop-append-le, length-take-le, take-append-le, take_rest}
+use Rattle.std.proofs.lemmas.List.{append-nil, append_cancel_right, drop-drop, drop_all, drop-append-le, length-take-le, take-append-le, take_rest}
 use Rattle.encoding_mem.specs.declared.reference.Reference.TheVariants.{Decimal}
-use Rattle.encoding_mem.specs.Coding.{AllMapped, Coding, IsMapped, last_set, lost_count, open_from, reference, spelled, unmapped_count, whole_from, output}
-use Rattle.encoding_mem.specs.Encoding.{Continues, EncodesItems}
-use Rattle.encoding_mem.specs.laws.Encoding.{items_in_bytes, last_set-append, open_from-append}
-use Rattle.encoding_mem.specs.Items.{Byte, Item, LostAt, form_items, open_items, whole_items}
+use Rattle.encoding_mem.specs.Coding.{AllMapped, Coding, IsMapped, last_set, lost_count, bytes_from, open_from, reference, spelled, unmapped_count, whole_from, output}
+use Rattle.encoding_mem.specs.Encoding.{Continues, Encodes, EncodesItems}
+use Rattle.encoding_mem.specs.laws.Encoding.{items_in_bytes, last_set-append, mapped_open, open_from-append}
 use Rattle.encoding_mem.specs.declared.encoder_result.EncoderResult.TheVariants.{Unmappable, InputEmpty, OutputFull}
 use Rattle.encoding_mem.specs.declared.form.Form.{Form}
 use Rattle.encoding_mem.specs.declared.form.Form.TheVariants.{Mapped, Unmapped}
@@ -41,57 +40,18 @@ pub count-append : (e : Coding) (a b : List ℕ) → lost_count e (a ++ b) ≡ l
 count-append e [] b = sym (zero-add (lost_count e b))
 count-append e (c ∷ a) b = ap (λ n. unmapped_count (e.form c) + n) (count-append e a b) ∙ sym (add_assoc (unmapped_count (e.form c)) (lost_count e a) (lost_count e b))
 
-open_items-append : (e : Coding) (s : EscapeState) (i : ℕ) (a b : List ℕ) → open_items Decimal e s i (a ++ b) ≡ open_items Decimal e s i a ++ open_items Decimal e (last_set e s a) (i + length a) b
-open_items-append e s i [] b = ap (λ n. open_items Decimal e s n b) (sym (add-zero i))
-open_items-append e s i (c ∷ a) b =
-    let more = open_items-append e (e.set s c) (i + 1) a b in
-    let at : i + 1 + length a ≡ i + length (c ∷ a) = omega arith in
-    rw (more, at, append_assoc (map Byte (e.escape s (e.set s c))) _ _, append_assoc (form_items Decimal i (e.form c)) _ _) refl
-
-whole_items-append : (e : Coding) (last : Bool) (s : EscapeState) (i : ℕ) (a b : List ℕ) → whole_items Decimal e last s i (a ++ b) ≡ open_items Decimal e s i a ++ whole_items Decimal e last (last_set e s a) (i + length a) b
-whole_items-append e last s i a b =
-    rw (open_items-append e s i a b, last_set-append e s a b) (append_assoc (open_items Decimal e s i a) (open_items Decimal e (last_set e s a) (i + length a) b) _)
-
 -- A text in which each character has bytes.
-mapped_form : (e : Coding) (i : ℕ) (f : Form) → IsMapped f → form_items Decimal i f ≡ map Byte (spelled Decimal f)
-mapped_form e i (Mapped bs) h = refl
-mapped_form e i (Unmapped c) h = absurd h
-
 mapped_count : (f : Form) → IsMapped f → unmapped_count f ≡ 0
 mapped_count (Mapped bs) h = refl
 mapped_count (Unmapped c) h = absurd h
-
-open_mapped : (e : Coding) (s : EscapeState) (i : ℕ) (t : List ℕ) → AllMapped e t → open_items Decimal e s i t ≡ map Byte (open_from Decimal e s t)
-open_mapped e s i [] h = refl
-open_mapped e s i (c ∷ t) h =
-    rw (mapped_form e i (e.form c) h.0, open_mapped e (e.set s c) (i + 1) t h.1)
-    (ap (λ l. map Byte (e.escape s (e.set s c)) ++ l) (sym (map-append Byte (spelled Decimal (e.form c)) _)) ∙ sym (map-append Byte (e.escape s (e.set s c)) _))
 
 pub count_mapped : (e : Coding) (t : List ℕ) → AllMapped e t → lost_count e t ≡ 0
 count_mapped e [] h = refl
 count_mapped e (c ∷ t) h = rw (mapped_count (e.form c) h.0, count_mapped e t h.1) refl
 
--- bytes before the first note
-first_note : (a b : List ℕ) (k k' c c' : ℕ) (x y : List Item) → map Byte a ++ LostAt k c ∷ x ≡ map Byte b ++ LostAt k' c' ∷ y → (a ≡ b) × (x ≡ y)
-first_note [] [] k k' c c' x y h = (refl, cc)
-first_note [] (n ∷ b) k k' c c' x y h = absurd (cc)
-first_note (n ∷ a) [] k k' c c' x y h = absurd (cc)
-first_note (n ∷ a) (m ∷ b) k k' c c' x y h =
-    let same : n ≡ m = cc in
-    let rest = first_note a b k k' c c' x y (cc) in
-    (ap (λ l. n ∷ l) rest.0 ∙ ap (λ v. v ∷ b) same, rest.1)
-
 -- A text that ends with a character without bytes.
 abbrev pub before_reference : Coding → EscapeState → List ℕ → ℕ → List ℕ
 before_reference e s t d = open_from Decimal e s t ++ e.escape (last_set e s t) (e.set (last_set e s t) d)
-
-unmapped_items : (e : Coding) (s : EscapeState) (k : ℕ) (t : List ℕ) (d u : ℕ) → AllMapped e t → e.form d ≡ Unmapped u
-    → open_items Decimal e s k (t ++ d ∷ []) ≡ map Byte (before_reference e s t d) ++ LostAt (k + length t) u ∷ map Byte (reference Decimal u)
-unmapped_items e s k t d u mapped lost =
-    let q = last_set e s t in
-    open_items-append e s k t (d ∷ []) ∙ rw (open_mapped e s k t mapped, lost, append-nil (map Byte (reference Decimal u)))
-    (sym (append_assoc (map Byte (open_from Decimal e s t)) (map Byte (e.escape q (e.set q d))) _)
-    ∙ ap (λ l. l ++ LostAt (k + length t) u ∷ map Byte (reference Decimal u)) (sym (map-append Byte (open_from Decimal e s t) (e.escape q (e.set q d)))))
 
 unmapped_bytes : (e : Coding) (s : EscapeState) (t : List ℕ) (d u : ℕ) → e.form d ≡ Unmapped u → open_from Decimal e s (t ++ d ∷ []) ≡ before_reference e s t d ++ reference Decimal u
 unmapped_bytes e s t d u lost =
@@ -102,7 +62,7 @@ unmapped_bytes e s t d u lost =
 pub record Gone (e : Coding) (last : Bool) (s : EscapeState) (text written : List ℕ) (s' : EscapeState) (rest : List ℕ) (lost : Bool) (prefix : List ℕ) : Type 0 where
   pub split : text ≡ prefix ++ rest
   pub opened : written ≡ open_from Decimal e s prefix
-  pub items : (i : ℕ) → whole_items Decimal e last s i text ≡ open_items Decimal e s i prefix ++ whole_items Decimal e last s' (i + length prefix) rest
+  pub set : s' ≡ last_set e s prefix
   pub continues : Continues Decimal e s text written s' rest
   pub sets : last_set e s text ≡ last_set e s' rest
   pub told : IsTrue lost ↔ (0 < lost_count e prefix)
@@ -111,56 +71,62 @@ pub gone_none : (e : Coding) (last : Bool) (s : EscapeState) (text : List ℕ) �
 gone_none e last s text = record {
   split = refl;
   opened = refl;
-  items = λ i. ap (λ n. whole_items Decimal e last s n text) (sym (add-zero i));
+  set = refl;
   continues = λ r. refl;
   sets = refl;
   told = (λ h. absurd (cc), λ h. absurd (omega arith));
 }
 
--- the sets may differ, what is still to be written does not
-owed : (e : Coding) (last : Bool) (s : EscapeState) (text written : List ℕ) (s' : EscapeState) (rest : List ℕ) (lost : Bool) (prefix : List ℕ) (g : Gone e last s text written s' rest lost prefix)
-    (i : ℕ) → whole_items Decimal e last s' (i + length prefix) rest ≡ whole_items Decimal e last (last_set e s prefix) (i + length prefix) rest
-owed e last s text written s' rest lost prefix g i =
-    append_cancel_left (open_items Decimal e s i prefix) _ _
-    (sym (g.items i) ∙ ap (λ t. whole_items Decimal e last s i t) g.split ∙ whole_items-append e last s i prefix rest)
-
--- one more call that reports a character: what it wrote, with the reference, is what the text that it read is written as
-cut : (e : Coding) (last : Bool) (s q : EscapeState) (text w : List ℕ) (u : ℕ) (s' : EscapeState) (rest : List ℕ) (k : ℕ) (p : EncodesItems Decimal e last (Unmappable u) s text w s' rest)
-    → whole_items Decimal e last s k text ≡ whole_items Decimal e last q k text
-    → (w ++ reference Decimal u ≡ open_from Decimal e q p.prefix) × (whole_items Decimal e last q k text ≡ open_items Decimal e q k p.prefix ++ whole_items Decimal e last s' (k + length p.prefix) rest)
-cut e last s q text w u s' rest k p same =
-    let t = p.reads.0 in
-    let d = p.reads.1 in
-    let ends : p.prefix ≡ t ++ d ∷ [] = p.reads.2 in
-    let items = unmapped_items e q k t d u p.reads.3 p.reads.4 in
-    let whole = ap (λ l. whole_items Decimal e last q k l) p.split ∙ whole_items-append e last q k p.prefix rest in
-    let after = whole_items Decimal e last (last_set e q p.prefix) (k + length p.prefix) rest in
-    let both = first_note (before_reference e q t d) w _ _ u u _ _
-    (sym (append_assoc (map Byte (before_reference e q t d)) (LostAt (k + length t) u ∷ map Byte (reference Decimal u)) after)
-    ∙ ap (λ l. l ++ after) (sym (ap (λ l. open_items Decimal e q k l) ends ∙ items)) ∙ sym whole ∙ sym same ∙ p.items k) in (
-      ap (λ l. l ++ reference Decimal u) (sym both.0) ∙ sym (unmapped_bytes e q t d u p.reads.4) ∙ ap (open_from Decimal e q) (sym ends),
-      whole ∙ ap (λ l. open_items Decimal e q k p.prefix ++ l) (append_cancel_left (map Byte (reference Decimal u)) _ _ both.1),
+-- what a call that reports a character wrote, with the reference, is what the text that it read is written as, and the set
+-- that it leaves is that in which this ends
+reported : (e : Coding) (last : Bool) (u : ℕ) (s : EscapeState) (text w : List ℕ) (s' : EscapeState) (rest prefix : List ℕ) → Encodes e last (Unmappable u) s text w s' rest → text ≡ prefix ++ rest
+    → (w ++ reference Decimal u ≡ open_from Decimal e s prefix) × (s' ≡ last_set e s prefix)
+reported e last u s text w s' rest prefix law split =
+    let t = law.before in
+    let d = law.leaves.0 in
+    let q = last_set e s t in
+    let ends : t ++ d ∷ [] ≡ prefix = append_cancel_right (t ++ d ∷ []) prefix rest
+    (append_assoc t (d ∷ []) rest ∙ ap (λ l. t ++ l) (sym law.leaves.1) ∙ sym law.split ∙ split) in
+    let is : w ≡ before_reference e s t d = law.bytes ∙ ap (λ (k : EscapeState). bytes_from e s t ++ e.escape q k) law.leaves.3
+    ∙ ap (λ l. l ++ e.escape q (e.set q d)) (sym (mapped_open Decimal e s t law.mapped)) in (
+      ap (λ l. l ++ reference Decimal u) is ∙ sym (unmapped_bytes e s t d u law.leaves.2) ∙ ap (open_from Decimal e s) ends,
+      law.leaves.3 ∙ sym (last_set-append e s t (d ∷ [])) ∙ ap (last_set e s) ends,
     )
+
+-- what a call without one wrote is what the text that it read is written as, and the escape to the set that it leaves
+abbrev Puts : Coding → EscapeState → (prefix written : List ℕ) → EscapeState → Type 0
+Puts e s prefix written s' = written ≡ open_from Decimal e s prefix ++ e.escape (last_set e s prefix) s'
+
+put_before : (e : Coding) (last : Bool) (outcome : EncoderResult) (s : EscapeState) (text w : List ℕ) (s' : EscapeState) (rest prefix : List ℕ) (law : Encodes e last outcome s text w s' rest)
+    → law.next ≡ rest → text ≡ prefix ++ rest → Puts e s prefix w s'
+put_before e last outcome s text w s' rest prefix law left split =
+    let ends : law.before ≡ prefix = append_cancel_right law.before prefix rest (ap (λ l. law.before ++ l) (sym left) ∙ sym law.split ∙ split) in
+    law.bytes ∙ ap (λ l. l ++ e.escape (last_set e s law.before) s') (sym (mapped_open Decimal e s law.before law.mapped))
+    ∙ ap (λ l. open_from Decimal e s l ++ e.escape (last_set e s l) s') ends
+
+-- and so are both, one behind the other
+put_on : (e : Coding) (s : EscapeState) (written prefix : List ℕ) (q : EscapeState) (more w : List ℕ) (s' : EscapeState) → written ≡ open_from Decimal e s prefix → q ≡ last_set e s prefix
+    → Puts e q more w s' → Puts e s (prefix ++ more) (written ++ w) s'
+put_on e s written prefix q more w s' opened set is =
+    let r = last_set e s prefix in
+    ap (λ l. l ++ w) opened ∙ ap (λ l. open_from Decimal e s prefix ++ l) (subst (λ (k : EscapeState). Puts e k more w s') set is)
+    ∙ sym (append_assoc (open_from Decimal e s prefix) (open_from Decimal e r more) (e.escape (last_set e r more) s'))
+    ∙ ap (λ l. l ++ e.escape (last_set e r more) s') (sym (open_from-append Decimal e s prefix more))
+    ∙ ap (λ (k : EscapeState). open_from Decimal e s (prefix ++ more) ++ e.escape k s') (sym (last_set-append e s prefix more))
 
 counted_lost : (e : Coding) (t : List ℕ) (d u : ℕ) → AllMapped e t → e.form d ≡ Unmapped u → lost_count e (t ++ d ∷ []) ≡ 1
 counted_lost e t d u mapped lost = count-append e t (d ∷ []) ∙ rw (count_mapped e t mapped, lost) refl
 
 pub gone_on : (e : Coding) (last : Bool) (s : EscapeState) (text written : List ℕ) (s' : EscapeState) (rest : List ℕ) (lost : Bool) (prefix : List ℕ) (w : List ℕ) (u : ℕ) (s'' : EscapeState) (rest' : List ℕ)
-    → Gone e last s text written s' rest lost prefix → (p : EncodesItems Decimal e last (Unmappable u) s' rest w s'' rest')
+    → Gone e last s text written s' rest lost prefix → Encodes e last (Unmappable u) s' rest w s'' rest' → (p : EncodesItems Decimal e last (Unmappable u) s' rest w s'' rest')
     → Gone e last s text (written ++ (w ++ reference Decimal u)) s'' rest' true (prefix ++ p.prefix)
-gone_on e last s text written s' rest lost prefix w u s'' rest' g p =
-    let q = last_set e s prefix in
-    let bytes = (cut e last s' q rest w u s'' rest' (0 + length prefix) p (owed e last s text written s' rest lost prefix g 0)).0 in
+gone_on e last s text written s' rest lost prefix w u s'' rest' g law p =
+    let now = reported e last u s' rest w s'' rest' p.prefix law p.split in
     record {
       split = g.split ∙ ap (λ l. prefix ++ l) p.split ∙ sym (append_assoc prefix p.prefix rest');
-      opened = ap (λ l. l ++ (w ++ reference Decimal u)) g.opened ∙ ap (λ l. open_from Decimal e s prefix ++ l) bytes ∙ sym (open_from-append Decimal e s prefix p.prefix);
-      items = λ i.
-          let same = owed e last s text written s' rest lost prefix g i in
-          let more = (cut e last s' q rest w u s'' rest' (i + length prefix) p same).1 in
-          let at : i + length prefix + length p.prefix ≡ i + length (prefix ++ p.prefix) = omega (arith, length-append prefix p.prefix) in
-          g.items i ∙ ap (λ l. open_items Decimal e s i prefix ++ l) (same ∙ more) ∙ sym (append_assoc (open_items Decimal e s i prefix) (open_items Decimal e q (i + length prefix) p.prefix) _)
-          ∙ ap (λ l. l ++ whole_items Decimal e last s'' (i + length prefix + length p.prefix) rest') (sym (open_items-append e s i prefix p.prefix))
-          ∙ ap (λ n. open_items Decimal e s i (prefix ++ p.prefix) ++ whole_items Decimal e last s'' n rest') at;
+      opened = ap (λ l. l ++ (w ++ reference Decimal u)) g.opened
+          ∙ ap (λ l. open_from Decimal e s prefix ++ l) (now.0 ∙ ap (λ (q : EscapeState). open_from Decimal e q p.prefix) g.set) ∙ sym (open_from-append Decimal e s prefix p.prefix);
+      set = now.1 ∙ ap (λ (q : EscapeState). last_set e q p.prefix) g.set ∙ sym (last_set-append e s prefix p.prefix);
       continues = λ r. g.continues r ∙ ap (λ l. written ++ l) (items_in_bytes Decimal e last (Unmappable u) s' rest w s'' rest' p r) ∙ sym (append_assoc written (w ++ reference Decimal u) _);
       sets = g.sets ∙ p.sets tt;
       told =
@@ -245,10 +211,10 @@ going_none e last s text end = record {
 }
 
 pub going_on : (e : Coding) (last : Bool) (s : EscapeState) (text written : List ℕ) (s' : EscapeState) (rest : List ℕ) (lost : Bool) (end : ℕ) (w : List ℕ) (u : ℕ) (s'' : EscapeState) (rest' : List ℕ)
-    → Going e last s text written s' rest lost end → EncodesItems Decimal e last (Unmappable u) s' rest w s'' rest' → Moves e s' s'' → length (written ++ (w ++ reference Decimal u)) < end
+    → Going e last s text written s' rest lost end → Encodes e last (Unmappable u) s' rest w s'' rest' → EncodesItems Decimal e last (Unmappable u) s' rest w s'' rest' → Moves e s' s'' → length (written ++ (w ++ reference Decimal u)) < end
     → Going e last s text (written ++ (w ++ reference Decimal u)) s'' rest' true end
-going_on e last s text written s' rest lost end w u s'' rest' g p moves more =
-    let on = gone_on e last s text written s' rest lost g.prefix w u s'' rest' g.gone p in
+going_on e last s text written s' rest lost end w u s'' rest' g law p moves more =
+    let on = gone_on e last s text written s' rest lost g.prefix w u s'' rest' g.gone law p in
     record {
       prefix = g.prefix ++ p.prefix;
       gone = on;
@@ -286,19 +252,29 @@ joined e true s text written s' rest lost prefix w s'' rest' g is =
     owed_open e true s text written s' rest lost prefix g ∙ ap (λ l. written ++ l) is ∙ sym (append_assoc written w (whole_from Decimal e s'' rest'))
 joined e false s text written s' rest lost prefix w s'' rest' g is = λ r. g.continues r ∙ ap (λ l. written ++ l) (is r) ∙ sym (append_assoc written w (open_from Decimal e s'' (rest' ++ r)))
 
+-- no escape is to be written where the set is that in which the text ends
+at_set : (x : EncoderState) (last : Bool) (text written : List ℕ) (s' : EscapeState) (rest : List ℕ) (lost : Bool) (prefix : List ℕ) → Gone (coding_in x) last x.set text written s' rest lost prefix
+    → Puts (coding_in x) x.set prefix written s'
+at_set x last text written s' rest lost prefix g =
+    let e = coding_in x in
+    let q = last_set e x.set prefix in
+    let none : e.escape q s' ≡ [] = ap (λ (k : EscapeState). e.escape q k) g.set ∙ (coding_laws x.tables x.encoding).same q in
+    g.opened ∙ sym (append-nil (open_from Decimal e x.set prefix)) ∙ ap (λ l. open_from Decimal e x.set prefix ++ l) (sym none)
+
 -- a last call without a character to report
 pub ended : (x x' : EncoderState) (last : Bool) (outcome : CoderResult) (text written : List ℕ) (s : EscapeState) (rest : List ℕ) (lost : Bool) (w rest' prefix : List ℕ) (size end : ℕ)
     → end ≡ size - kept_back x.encoding → kept_back x.encoding ≤ size → Going (coding_in x) last x.set text written s rest lost end
-    → x' ≡ record x { set = x'.set } → rest ≡ prefix ++ rest' → AllMapped (coding_in x) prefix → Bytes (coding_in x) last s rest w x'.set rest'
+    → x' ≡ record x { set = x'.set } → rest ≡ prefix ++ rest' → AllMapped (coding_in x) prefix → Puts (coding_in x) s prefix w x'.set → Bytes (coding_in x) last s rest w x'.set rest'
     → (last ≡ false → last_set (coding_in x) s rest ≡ last_set (coding_in x) x'.set rest') → Moves (coding_in x) s x'.set → ReplacingEndsWith last outcome x'.set rest'
     → (outcome ≡ CoderResult.OutputFull → end - length (written ++ w) < need_of x.encoding) → length (written ++ w) ≤ end
     → Replaces x last outcome text (written ++ w) x' rest' lost size
-ended x x' last outcome text written s rest lost w rest' prefix size end at enough g same split mapped bytes sets moves ends full fits =
+ended x x' last outcome text written s rest lost w rest' prefix size end at enough g same split mapped put bytes sets moves ends full fits =
     let e = coding_in x in
     record {
       same = same;
       prefix = g.prefix ++ prefix;
       split = g.gone.split ∙ ap (λ l. g.prefix ++ l) split ∙ sym (append_assoc g.prefix prefix rest');
+      put = put_on e x.set written g.prefix s prefix w x'.set g.gone.opened g.gone.set put;
       bytes = joined e last x.set text written s rest lost g.prefix w x'.set rest' g.gone bytes;
       sets = λ h. g.gone.sets ∙ sets h;
       moves = moves_on e x.set s x'.set g.moves moves;
@@ -317,16 +293,17 @@ ended x x' last outcome text written s rest lost w rest' prefix size end at enou
 -- a reference that reaches the end
 pub reached : (x x' : EncoderState) (last : Bool) (outcome : CoderResult) (text written : List ℕ) (s : EscapeState) (rest : List ℕ) (lost : Bool) (w : List ℕ) (u : ℕ) (rest' : List ℕ) (size end : ℕ)
     → end ≡ size - kept_back x.encoding → kept_back x.encoding ≤ size → Going (coding_in x) last x.set text written s rest lost end
-    → x' ≡ record x { set = x'.set } → EncodesItems Decimal (coding_in x) last (Unmappable u) s rest w x'.set rest' → Moves (coding_in x) s x'.set → ReplacingEndsWith last outcome x'.set rest'
+    → x' ≡ record x { set = x'.set } → Encodes (coding_in x) last (Unmappable u) s rest w x'.set rest' → EncodesItems Decimal (coding_in x) last (Unmappable u) s rest w x'.set rest' → Moves (coding_in x) s x'.set → ReplacingEndsWith last outcome x'.set rest'
     → end ≤ length (written ++ (w ++ reference Decimal u)) → length (written ++ w) ≤ end
     → Replaces x last outcome text (written ++ (w ++ reference Decimal u)) x' rest' true size
-reached x x' last outcome text written s rest lost w u rest' size end at enough g same p moves ends reach fits =
+reached x x' last outcome text written s rest lost w u rest' size end at enough g same law p moves ends reach fits =
     let e = coding_in x in
-    let on = gone_on e last x.set text written s rest lost g.prefix w u x'.set rest' g.gone p in
+    let on = gone_on e last x.set text written s rest lost g.prefix w u x'.set rest' g.gone law p in
     record {
       same = same;
       prefix = g.prefix ++ p.prefix;
       split = on.split;
+      put = at_set x last text (written ++ (w ++ reference Decimal u)) x'.set rest' true (g.prefix ++ p.prefix) on;
       bytes = gone_bytes e last x.set text (written ++ (w ++ reference Decimal u)) x'.set rest' true (g.prefix ++ p.prefix) on;
       sets = λ h. on.sets;
       moves = moves_on e x.set s x'.set g.moves moves;
@@ -361,6 +338,7 @@ too_few x last outcome text size less ends =
       same = refl;
       prefix = [];
       split = refl;
+      put = at_set x last text [] x.set text false [] none;
       bytes = gone_bytes (coding_in x) last x.set text [] x.set text false [] none;
       sets = λ h. refl;
       moves = inl refl;
@@ -429,7 +407,8 @@ input_empty x x1 x' last answer text old rest lost more rest' new size end n at 
     let bytes : more ≡ t.called = t.all ∙ ap (λ (a : EncoderResult). t.called ++ referred a) is ∙ append-nil t.called in
     subst (λ (l : List ℕ). Replaces x last CoderResult.InputEmpty text l x' rest' lost size) (sym (new_is ∙ ap (λ l. old ++ l) bytes))
     (ended x x' last CoderResult.InputEmpty text old x1.set rest lost t.called rest' law.prefix size end at enough going
-    call.same law.split law.reads call.bytes law.sets call.moves call.ends (λ h. absurd (cc)) (omega (arith, t.fits, left, length-append old t.called)))
+    call.same law.split law.reads (put_before (coding_in x) last InputEmpty x1.set rest t.called x'.set rest' law.prefix call.law (call.law.leaves.0 ∙ sym call.law.leaves.1) law.split)
+    call.bytes law.sets call.moves call.ends (λ h. absurd (cc)) (omega (arith, t.fits, left, length-append old t.called)))
 
 pub output_full : (x x1 x' : EncoderState) (last : Bool) (answer : EncoderResult) (text old rest : List ℕ) (lost : Bool) (more rest' new : List ℕ) (size end n : ℕ)
     → end ≡ size - kept_back x.encoding → kept_back x.encoding ≤ size → x1 ≡ record x { set = x1.set } → Going (coding_in x) last x.set text old x1.set rest lost end
@@ -441,7 +420,8 @@ output_full x x1 x' last answer text old rest lost more rest' new size end n at 
     let bytes : more ≡ t.called = t.all ∙ ap (λ (a : EncoderResult). t.called ++ referred a) is ∙ append-nil t.called in
     subst (λ (l : List ℕ). Replaces x last CoderResult.OutputFull text l x' rest' lost size) (sym (new_is ∙ ap (λ l. old ++ l) bytes))
     (ended x x' last CoderResult.OutputFull text old x1.set rest lost t.called rest' law.prefix size end at enough going
-    call.same law.split law.reads call.bytes law.sets call.moves call.ends.1 (λ h. omega (arith, call.ends.0, length-append old t.called)) (omega (arith, t.fits, left, length-append old t.called)))
+    call.same law.split law.reads (put_before (coding_in x) last OutputFull x1.set rest t.called x'.set rest' law.prefix call.law call.law.leaves.0 law.split)
+    call.bytes law.sets call.moves call.ends.1 (λ h. omega (arith, call.ends.0, length-append old t.called)) (omega (arith, t.fits, left, length-append old t.called)))
 
 -- of a turn that writes a reference
 pub reference_reached : (x x1 x' : EncoderState) (last : Bool) (answer : EncoderResult) (u : ℕ) (outcome : CoderResult) (text old rest : List ℕ) (lost : Bool) (more rest' new : List ℕ) (size end n : ℕ)
@@ -453,7 +433,7 @@ reference_reached x x1 x' last answer u outcome text old rest lost more rest' ne
     let law = told_items (record x { set = x1.set }) last (Unmappable u) rest t.called x' rest' (n - length t.called) call in
     let bytes : new ≡ old ++ (t.called ++ reference Decimal u) = new_is ∙ ap (λ l. old ++ l) (t.all ∙ ap (λ (a : EncoderResult). t.called ++ referred a) is) in
     subst (λ (l : List ℕ). Replaces x last outcome text l x' rest' true size) (sym bytes)
-    (reached x x' last outcome text old x1.set rest lost t.called u rest' size end at enough going call.same law call.moves ends (omega (arith, reach, ap length bytes)) (omega (arith, t.fits, left, length-append old t.called)))
+    (reached x x' last outcome text old x1.set rest lost t.called u rest' size end at enough going call.same call.law law call.moves ends (omega (arith, reach, ap length bytes)) (omega (arith, t.fits, left, length-append old t.called)))
 
 pub turn_on : (x x1 x' : EncoderState) (last : Bool) (answer : EncoderResult) (u : ℕ) (text old rest : List ℕ) (lost : Bool) (more rest' new : List ℕ) (end n : ℕ)
     → x1 ≡ record x { set = x1.set } → Going (coding_in x) last x.set text old x1.set rest lost end
@@ -464,7 +444,7 @@ turn_on x x1 x' last answer u text old rest lost more rest' new end n same going
     let law = told_items (record x { set = x1.set }) last (Unmappable u) rest t.called x' rest' (n - length t.called) call in
     let bytes : new ≡ old ++ (t.called ++ reference Decimal u) = new_is ∙ ap (λ l. old ++ l) (t.all ∙ ap (λ (a : EncoderResult). t.called ++ referred a) is) in
     subst (λ (l : List ℕ). Going (coding_in x) last x.set text l x'.set rest' true end) (sym bytes)
-    (going_on (coding_in x) last x.set text old x1.set rest lost end t.called u x'.set rest' going law call.moves (omega (arith, short, ap length bytes)))
+    (going_on (coding_in x) last x.set text old x1.set rest lost end t.called u x'.set rest' going call.law law call.moves (omega (arith, short, ap length bytes)))
 
 -- the encoder afterwards
 pub still_same : (x x1 x' : EncoderState) (last : Bool) (answer : EncoderResult) (text more : List ℕ) (rest : List ℕ) (n : ℕ) → x1 ≡ record x { set = x1.set } → Turned x1 last answer text more x' rest n

@@ -94,13 +94,15 @@ pub record EndsWithReference (e : Coding) (s : EscapeState) (prefix written : Li
   pub whole : written ≡ open_from Decimal e s prefix
   pub begins : length written ≤ end + length (spelled Decimal (e.form lost))
 
--- A call with replacement on a text, into size bytes, the last of which are kept back: what is written has the
--- references, and lost tells whether there is one. Only a reference reaches into the kept bytes, and where one ends there,
--- or where they begin, nothing more is read or written.
+-- A call with replacement on a text, into size bytes, the last of which are kept back: what is written is what the text
+-- that was read stands for, with references, and behind it no more than the escape to the set that is left; lost tells
+-- whether there is a reference. Only a reference reaches into the kept bytes, and where one ends there, or where they
+-- begin, nothing more is read or written.
 pub record Replaces (x : EncoderState) (last : Bool) (outcome : CoderResult) (text written : List ℕ) (x' : EncoderState) (rest : List ℕ) (lost : Bool) (size : ℕ) : Type 0 where
   pub same : x' ≡ record x { set = x'.set }
   pub prefix : List ℕ
   pub split : text ≡ prefix ++ rest
+  pub put : written ≡ open_from Decimal (coding_in x) x.set prefix ++ (coding_in x).escape (last_set (coding_in x) x.set prefix) x'.set
   pub bytes : MatchBool last (whole_from Decimal (coding_in x) x.set text ≡ written ++ whole_from Decimal (coding_in x) x'.set rest)
       (Continues Decimal (coding_in x) x.set text written x'.set rest)
   pub sets : last ≡ false → last_set (coding_in x) x.set text ≡ last_set (coding_in x) x'.set rest

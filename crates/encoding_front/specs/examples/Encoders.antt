@@ -136,6 +136,7 @@ last_call_into_18 = record {
   same = refl;
   prefix = yen_and_pile;
   split = refl;
+  put = refl;
   bytes = refl;
   sets = λ h. absurd (cc h);
   moves = inr (inl (Ascii, 0xA5, refl));
