@@ -14,8 +14,7 @@ build:
 test: lint
 	@python3 tools/gate.py
 
-# In seconds: one definition for each name, no more long lines than before, edits that fit their files, and each list that
-# `make generate` writes is as it would write it.
+# In seconds: what tools/lint.py lists, and that each list that `make generate` writes is as it would write it.
 lint:
 	@python3 tools/lint.py
 	@python3 tools/generate_encodings.py --check
@@ -35,7 +34,8 @@ doc:
 usage:
 	@python3 tools/usage.py
 
-# The edits that the gate leaves out, each of which the prover must refuse: for a release, since it takes hours.
+# The edits that the gate leaves out, each of which the prover must refuse, and what came of it as docs/EDITS.md: for a
+# release, since it takes hours.
 edits:
 	@python3 tools/edits.py
 

@@ -4,16 +4,17 @@ leaves out, or with `--gate` those of `must-fail/`, which `rt ci` tries.
 
     python3 tools/edits.py [--gate] [CRATE[/NAME]..]
 
-With a name, those of the crate whose names begin with it.
+With a name, those of the crate whose names begin with it. Without crates, those of `edits/` of the last commit are tried,
+and what came of it is written to docs/EDITS.md.
 
 In a copy of the repository, with what checks have kept in `out/`, the edits of a crate are made in rounds: of each
 function at most one edit in a round. A check then says of each function whether it is proved, and an edit is refused
 where a fact of its own function is not. A function that calls one that is not proved is not looked at: its edit comes
 into a later round. An edit that changes no function, as that of a constant, and one that no round shows refused, is
-tried alone: then the crate must not be proved. The status is 0 where all are refused. It takes some 25 seconds of
-processor time an edit, where the crates are proved.
+tried alone: then the crate must not be proved. The status is 0 where all are refused.
 """
 
+import datetime
 import itertools
 import os
 import re
@@ -24,6 +25,12 @@ import tempfile
 
 TOP = os.path.abspath(os.path.join(os.path.dirname(os.path.abspath(__file__)), ".."))
 CRATES = os.path.join(TOP, "crates")
+
+PAGE = """# The edits that the gate leaves out
+
+`make edits` tried them on {commit} ({day}, {kit}): {refused} refused, {failed} not.
+"""
+
 FUNCTION = re.compile(r"^ *(?:pub(?:\([^)]*\))? )?fn (\w+)")
 # The type of a block of methods, behind the trait that it implements.
 BLOCK = re.compile(r"^(?:pub )?(?:impl|trait)\b(?:<.*?>)? (?:(\w+)(?:<.*?>)? for )?(\w+)")
@@ -182,18 +189,35 @@ def try_crate(crate, folder, edits):
     return failed
 
 
+def said(*words):
+    return subprocess.run(words, cwd=TOP, capture_output=True, text=True, check=True).stdout.strip()
+
+
 def main(words):
     kind = "must-fail" if "--gate" in words else "edits"
-    crates = [word for word in words if word != "--gate"] or sorted(os.listdir(CRATES))
+    is_whole = not words
+    if is_whole and said("git", "status", "--porcelain"):
+        sys.exit("there are changes that no commit has")
+    about = {"commit": said("git", "rev-parse", "--short", "HEAD"), "kit": said("rt", "version")} if is_whole else {}
+    names = [word for word in words if word != "--gate"]
+    chosen = []
+    for word in names or sorted(os.listdir(CRATES)):
+        crate, _, name = word.partition("/")
+        edits = [edit for edit in edits_of(crate, kind) if edit.name.startswith(name)]
+        if names and not edits:
+            sys.exit("no edit has the name %s" % word)
+        chosen += [(crate, edits)] if edits else []
     tried = failed = 0
     with tempfile.TemporaryDirectory() as work:
         copy = os.path.join(work, "repository")
         shutil.copytree(TOP, copy, symlinks=True, ignore=shutil.ignore_patterns(".git"))
-        for crate, _, name in (word.partition("/") for word in crates):
-            edits = [edit for edit in edits_of(crate, kind) if edit.name.startswith(name)]
+        for crate, edits in chosen:
             tried += len(edits)
-            failed += try_crate(crate, os.path.join(copy, "crates", crate), edits) if edits else 0
+            failed += try_crate(crate, os.path.join(copy, "crates", crate), edits)
     print("%d refused, %d not" % (tried - failed, failed))
+    if is_whole:
+        page = PAGE.format(**about, day=datetime.date.today().isoformat(), refused=tried - failed, failed=failed)
+        write(os.path.join(TOP, "docs", "EDITS.md"), page)
     return 1 if failed else 0
 
 

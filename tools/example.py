@@ -3,7 +3,8 @@
 
     make example
 
-- `iso_8859_1.patch`: a codec, as a crate with tests.
+- `iso_8859_1.patch`: a codec, as a crate. Its tests stand in it, and not in a crate of their own, so that the patch is one
+  crate.
 - `ibm912.patch`: an encoding over an index that is there. It changes three files; the others are written anew by
   `generate_encodings.py`.
 

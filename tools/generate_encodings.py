@@ -4,7 +4,7 @@
     python3 tools/generate_encodings.py [--check]
 
 A file of such a list begins with a line that says so; where a list is a part of a file, it stands between such a line
-and a line `end`. With `--check` nothing is written: the files that differ are named, and the status is 1 where there are
+and a line `end`. What a program must print of a list is a line of its stored output. With `--check` nothing is written: the files that differ are named, and the status is 1 where there are
 any (`make lint`).
 """
 
@@ -355,6 +355,19 @@ def empty_conversions():
     return ["# No bytes, from each encoding to each.", "nothing " + " ".join(row["name"].lower() for row in ENCODINGS)]
 
 
+def counted_conversions():
+    """What `recode_cases` prints of them: each is one case, and is converted twelve times."""
+    cases = len(ENCODINGS) ** 2
+    return "nothing.txt: %d cases, %d conversions, 0 differences" % (cases, 12 * cases)
+
+
+def counts_of_listing():
+    return [
+        "    assert_eq!(rt; lines, %d);" % len(ENCODINGS),
+        "    assert_eq!(rt; labels, %d);" % len(LABELS),
+    ]
+
+
 def kinds_by_name():
     lines = [
         "/// Each kind of index by the name that cases have for it.",
@@ -409,7 +422,10 @@ PARTS = {
     "case_lines/src/kinds.rt": [kinds_by_name],
     "library_tests/src/labels.rt": [label_names],
     "library_tests/src/encoding.rt": [tested_imports, tested_encodings],
+    "library_tests/src/programs.rt": [counts_of_listing],
 }
+# Of each file of stored output the one line that begins so.
+LINES = {"recode_cases/stdout": ("nothing.txt: ", counted_conversions)}
 
 
 def comment(path):
@@ -436,6 +452,16 @@ def with_parts(path, text, parts):
     return "\n".join(result)
 
 
+def with_line(path, text, begin, line):
+    """The text of a file with the one line that begins so as it should be."""
+    lines = text.split("\n")
+    places = [place for place, old in enumerate(lines) if old.startswith(begin)]
+    if len(places) != 1:
+        sys.exit("%s: %d lines begin with %s" % (path, len(places), begin))
+    lines[places[0]] = line()
+    return "\n".join(lines)
+
+
 def wanted(path):
     if path in WHOLE:
         lines = WHOLE[path]()
@@ -445,6 +471,8 @@ def wanted(path):
             head += 1
         note = ["%s %s" % (comment(path), WRITTEN)]
         return "\n".join(lines[:head] + [""] + note + lines[head:] if head else note + lines) + "\n"
+    if path in LINES:
+        return with_line(path, read(path), *LINES[path])
     return with_parts(path, read(path), PARTS[path])
 
 
@@ -458,7 +486,7 @@ def read(path):
 
 def main(words):
     status = 0
-    for path in sorted([*WHOLE, *PARTS]):
+    for path in sorted([*WHOLE, *PARTS, *LINES]):
         text = wanted(path)
         if text == read(path):
             continue

@@ -248,12 +248,13 @@ def pages():
             lines.append("")
         laws = [item for item in found if item.path.startswith("laws::")]
         if laws:
-            lines += ["## Laws", "", "Functions with an empty body, each of whose contract is a law.", ""]
+            body = ", but for `search`" * any(item.path == "laws::search" for item in laws)
+            lines += ["## Laws", "", "Functions whose contracts are laws. Each has an empty body%s." % body, ""]
         for item in laws:
             lines += list(entry(item, crate))
         yield crate + ".md", re.sub(r"\n{3,}", "\n\n", "\n".join(lines)).rstrip("\n") + "\n"
         index.append("- [`%s`](%s.md): %s" % (crate, crate, " ".join(page).split(". ")[0].rstrip(".") + "."))
-    index.append("- [Wrong bodies](edits.md): the edits that the prover refuses, by function.")
+    index.append("- [Wrong bodies](edits.md): the edits that the prover has to refuse, by function.")
     yield "README.md", "\n".join(index) + "\n"
 
 

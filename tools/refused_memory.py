@@ -3,7 +3,7 @@
 
     python3 tools/refused_memory.py
 
-They are `recode` and `encoding_refusals`, which makes each call of the libraries that takes memory, as `rt ci` or
+They are `recode` and `encoding_refusals`, which makes each call of the encoding crates that takes memory, as `rt ci` or
 `rt run` has left them in their `out/`. An allocator is compiled, by the kit's own clang, and loaded before the program.
 It refuses the Nth request (malloc, calloc, realloc, posix_memalign, aligned_alloc), for N = 1, 2, 3, .. until there is
 none left to refuse, or every one.

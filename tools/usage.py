@@ -23,6 +23,8 @@ OPTION = re.compile(r'(required|default)_option\(\s*alloc,((?:\s*"[^"]*",?)+)\s*
 WORDS = re.compile(r"(?<![\w`-])(&#\w+;|--[a-z]+(?: stop)?|utf-8|shift_jis|windows-1252)(?![\w`])")
 # The words that an option takes, where its help has them behind a colon.
 CHOICES = re.compile(r": ((?:\w+, )*\w+ or \w+)")
+# The options that clap makes, and what they ask for.
+OWN_OF_CLAP = ("-h", "--help", "-V", "--version"), "Print help, or the version"
 VERSION = re.compile(r'const VERSION: &str = "([^"]*)"')
 FLAG = re.compile(r'Arg::new\(alloc, "list"\).*?\.help\("([^"]*)"\)', re.S)
 
@@ -67,6 +69,11 @@ class Usage:
         """The list whose title has the word, without what is said behind it."""
         return next((rows for title, (rows, _) in self.lists.items() if word in title), [])
 
+    def labels(self, name):
+        """What is said of labels: at `--from` what one is, at `--to` which encodings are written as another."""
+        of_from, _, of_to = self.notes["Labels"].rstrip(".").rpartition(". ")
+        return {"--from": of_from, "--to": of_to}.get(name, "")
+
     def behind(self, word):
         return next(behind for title, (_, behind) in self.lists.items() if word in title)
 
@@ -84,14 +91,15 @@ def table(*rows):
 
 def option_row(usage, name, value, default, text):
     values = "; ".join("`%s`: %s" % (word, as_code(said)) for word, said in usage.list_of("(" + name + ")"))
-    if name in ("--from", "--to"):
-        values = as_code(usage.notes["Labels"]).rstrip(".") if name == "--from" else ""
+    values = values or as_code(usage.labels(name))
     said = text + (". " + values if values else "")
     return "`%s`" % " ".join([name, value]).strip(), said, "`%s`" % default if default else ""
 
 
 def readme_parts(usage):
-    lines = table(("Option", "What it asks for", "Default"), *(option_row(usage, *o) for o in usage.options))
+    words, said = OWN_OF_CLAP
+    rows = [*(option_row(usage, *o) for o in usage.options), (", ".join("`%s`" % word for word in words), said, "")]
+    lines = table(("Option", "What it asks for", "Default"), *rows)
     title = next(title for title in usage.lists if title.startswith("Log"))
     lines += ["", title + ":", "", *("- `%s`: %s" % (word, as_code(said)) for word, said in usage.list_of("Log"))]
     lines += ["", as_code(usage.behind("Log")), ""]
@@ -131,10 +139,11 @@ def man_parts(usage):
         said = text + (", `%s` by default" % default).replace("`", "") * bool(default) + "."
         for word, meaning in usage.list_of("(" + name + ")"):
             said += " With %s %s." % (word, meaning) if name == "--unmappable" else " %s: %s." % (word, meaning)
-        if name == "--from":
-            said += " " + usage.notes["Labels"]
+        if usage.labels(name):
+            said += " " + usage.labels(name) + "."
         lines += [".TP", ('.BI %s " %s"' if value else ".B %s%s") % (roff(name), value), roff(said)]
-    lines += [".TP", ".BR \\-h \", \" \\-\\-help \", \" \\-V \", \" \\-\\-version", "Print help, or the version."]
+    words, said = OWN_OF_CLAP
+    lines += [".TP", ".BR " + ' ", " '.join(map(roff, words)), roff(said + ".")]
     yield "options", lines
     lines = []
     for word, said in usage.list_of("Log"):
