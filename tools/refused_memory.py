@@ -15,9 +15,11 @@ slices, asks for the room of all of them, and where that is refused it asks word
 `encoding_refusals` must print its stored output, with `refused, then` in one line, that of the call whose request was
 refused; it compares the tables itself, before and after. Each call must have been refused, but for those that take no
 memory. A load says whether memory was refused to the reader of the text or, behind all requests of that, to the
-tables. Where every request is refused those that take no memory have their result, and no other call has.
+tables; and for `load_owned`, before them, to the copy of the text that it is given. Where every request is refused
+those that take no memory have their result, and no other call has.
 """
 
+import itertools
 import os
 import shutil
 import subprocess
@@ -112,8 +114,11 @@ FAULTY = {"index-jis0208.txt": b"1\t0x3000\n0\t0x3001\n", "index-big5.txt": b"0\
 # The calls of `encoding_refusals` that take no memory.
 FREE = {"read_ranges of no rows", "decode_latin1 of ASCII", "encode_latin1_lossy of ASCII"}
 
-# Those that load a text, and what they print where memory is refused to the tables.
-LOADS, TO_TABLES = {"load", "load of ranges", "load beside others"}, ": refused to the tables, then "
+# Those that load a text, and the one of them that is given a copy.
+LOADS, OWNED = {"load", "load of ranges", "load beside others", "load_owned"}, "load_owned"
+
+# What is printed where memory is refused to a call, and, of a load, to the tables and to the copy.
+REFUSED, TO_TABLES, TO_COPY = "refused", "refused to the tables", "refused to the copy"
 
 # Those that need an index: where every request is refused there is none.
 NEEDING = {"encode", "decode of windows-1252", "encode by what was loaded"}
@@ -178,13 +183,18 @@ def sweep_program(allocator):
     return wrong
 
 
+def words_of(name):
+    """What a call prints where its requests are refused, in their order: the same for one or more of them."""
+    if name in FREE:
+        return []
+    return [TO_COPY] * (name == OWNED) + [REFUSED] + [TO_TABLES] * (name in LOADS)
+
+
 def sweep_calls(allocator):
     """Refuses the requests of the calls, and says what was wrong."""
     with open(os.path.join(TOP, "crates/encoding_refusals/stdout"), encoding="utf-8") as file:
         lines = file.read().splitlines()
     names = [line.split(": ")[0] for line in lines]
-    loads = [place for place, name in enumerate(names) if name in LOADS]
-    counts, counts_of_tables = [0] * len(lines), [0] * len(lines)
     wrong = []
 
     def look(place, ended, allowed):
@@ -198,34 +208,33 @@ def sweep_calls(allocator):
     look("calls with memory", run(CALLS, [], b"")[0], [lines])
 
     def with_line(place, words):
-        return lines[:place] + [lines[place].replace(": ", words, 1)] + lines[place + 1 :]
+        return lines[:place] + [lines[place].replace(": ", ": %s, then " % words, 1)] + lines[place + 1 :]
 
     # what is printed where the request of one call is refused
-    ways = [with_line(place, ": refused, then ") for place in range(len(lines))]
-    ways += [with_line(place, TO_TABLES) for place in loads]
+    ways = [(place, words) for place, name in enumerate(names) for words in words_of(name)]
+    allowed = [with_line(*way) for way in ways]
+    told = [[] for _ in names]
     request = 0
     while True:
         ended, was_refused = run(CALLS, [], b"", allocator, request + 1)
         if not was_refused:
             break
         request += 1
-        way = look("calls at request %d" % request, ended, ways)
-        if way is None:
-            continue
-        if way >= len(lines):
-            counts_of_tables[loads[way - len(lines)]] += 1
-        elif counts_of_tables[way]:
-            wrong.append("%s: the reader is refused behind the tables, at request %d" % (names[way], request))
-        else:
-            counts[way] += 1
-    for name, count, of_tables in zip(names, counts, counts_of_tables):
-        print("%d refused: %s" % (count + of_tables, name) + (", %d to the tables" % of_tables if of_tables else ""))
-        if (count == 0) != (name in FREE) or (of_tables == 0) != (name not in LOADS):
-            wrong.append("%s: %d refused, %d to the tables" % (name, count, of_tables))
-    none = [
-        line if name in FREE else name + (": no index" if name in NEEDING else ": refused, then refused")
-        for name, line in zip(names, lines)
-    ]
+        way = look("calls at request %d" % request, ended, allowed)
+        if way is not None:
+            place, words = ways[way]
+            told[place].append(words)
+    for name, words in zip(names, told):
+        counts = ["%d %s" % (len(list(group)), word) for word, group in itertools.groupby(words)]
+        print("%s: %s" % (name, ", ".join(counts) or "0 refused"))
+        if [word for word, _ in itertools.groupby(words)] != words_of(name):
+            wrong.append("%s: %s" % (name, ", ".join(counts)))
+    none = list(lines)
+    for place, name in enumerate(names):
+        if name in NEEDING:
+            none[place] = name + ": no index"
+        elif name not in FREE:
+            none[place] = "{0}: {1}, then {1}".format(name, words_of(name)[0])
     look("calls with every request refused", run(CALLS, [], b"", allocator, 1, True)[0], [none])
     return wrong
 

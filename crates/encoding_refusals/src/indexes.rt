@@ -2,7 +2,9 @@
 
 use crate::Ended;
 use anyhow::bail;
-use encoding_index::{IndexFault, IndexFaultKind, LoadFault, load, read_index, read_ranges};
+use encoding_index::{
+    IndexFault, IndexFaultKind, LoadFault, load, load_owned, read_index, read_ranges,
+};
 use encoding_tables::{IndexKind, TableFault, Tables};
 use std::alloc::Global;
 
@@ -11,7 +13,7 @@ type Rows = &'static [(u32, u32)];
 pub(crate) const RANGES_TEXT: &[u8] =
     b"0\t0x0080\n36\t0x00A5\n38\t0x00A9\n45\t0x00B2\n50\t0x00B8\n81\t0x00D8\n189000\t0x10000\n";
 
-const MACINTOSH_TEXT: &[u8] = b"\
+pub(crate) const MACINTOSH_TEXT: &[u8] = b"\
 0\t0x00C4
 1\t0x00C5
 2\t0x00C7
@@ -22,6 +24,9 @@ const MACINTOSH_TEXT: &[u8] = b"\
 7\t0x00E1
 8\t0x00E0
 ";
+
+// A text for an index of 128 entries, whose first row has a pointer that is not below 128.
+pub(crate) const FAULTY_TEXT: &[u8] = b"# faulty\n128\t0x00C4\n";
 
 // The indexes that are put into tables, as rows and as the text that says the same.
 pub(crate) const INDEXES: &[(IndexKind, Rows, &[u8])] = &[
@@ -71,6 +76,7 @@ pub(crate) enum Way {
     Rows,
     List,
     Text,
+    OwnedText,
 }
 
 // The entry at a pointer, of a list or of the ranges, where there is one.
@@ -179,20 +185,30 @@ fn ended_of(inserted: Result<(), TableFault>) -> anyhow::Result<Ended> {
     }
 }
 
-// Loads a text: what is refused to the tables is told apart from what is refused to its reader.
-fn load_text(
-    alloc: Global,
-    tables: &mut Tables,
-    kind: IndexKind,
-    text: &[u8],
-) -> anyhow::Result<Ended> {
-    match load(alloc, tables, kind, text) {
+// How a load ended: what is refused to the tables is told apart from what is refused to the reader
+// of the text.
+fn ended_of_load(loaded: Result<(), LoadFault>) -> anyhow::Result<Ended> {
+    match loaded {
         Ok(()) => Ok(Ended::Well),
         Err(LoadFault::Text(fault)) if is_memory(&fault) => Ok(Ended::Refused),
         Err(LoadFault::Text(fault)) => bail!("another fault: {fault}"),
         Err(LoadFault::Table(TableFault::Memory)) => Ok(Ended::RefusedToTables),
         Err(LoadFault::Table(fault)) => bail!("another fault: {fault}"),
     }
+}
+
+// Loads a copy of a text, which the load lets go.
+fn load_copy(
+    alloc: Global,
+    tables: &mut Tables,
+    kind: IndexKind,
+    text: &[u8],
+) -> anyhow::Result<Ended> {
+    let mut copy = Vec::new(alloc);
+    if copy.extend_from_slice(text).is_err() {
+        return Ok(Ended::RefusedToCopy);
+    }
+    ended_of_load(load_owned(alloc, tables, kind, copy))
 }
 
 // Puts an index into the tables, and prints its entries at the pointers of its rows.
@@ -208,7 +224,8 @@ pub(crate) fn insert_index(
     let ended = match way {
         Way::Rows => ended_of(insert_rows(tables, *kind, rows))?,
         Way::List => ended_of(insert_list(tables, *kind, rows))?,
-        Way::Text => load_text(rt.alloc(), tables, *kind, text)?,
+        Way::Text => ended_of_load(load(rt.alloc(), tables, *kind, text))?,
+        Way::OwnedText => load_copy(rt.alloc(), tables, *kind, text)?,
     };
     if let Ended::Well = ended {
         for (pointer, _) in *rows {
@@ -220,12 +237,15 @@ pub(crate) fn insert_index(
     Ok(ended)
 }
 
-// Reads the text of an index of 128 entries, and prints those that are mapped.
-pub(crate) fn print_list(rt: HostRuntime) -> anyhow::Result<Ended> {
-    let list = match read_index(rt.alloc(), IndexKind::Macintosh, MACINTOSH_TEXT) {
+// Reads the text of an index of 128 entries, and prints those that are mapped, or its fault.
+pub(crate) fn print_list(rt: HostRuntime, text: &[u8]) -> anyhow::Result<Ended> {
+    let list = match read_index(rt.alloc(), IndexKind::Macintosh, text) {
         Ok(list) => list,
         Err(fault) if is_memory(&fault) => return Ok(Ended::Refused),
-        Err(fault) => bail!("another fault: {fault}"),
+        Err(fault) => {
+            print!(rt; " {fault}")?;
+            return Ok(Ended::Well);
+        }
     };
     for (pointer, entry) in list.iter().enumerate() {
         if *entry != 0 {

@@ -6,7 +6,10 @@
 mod indexes;
 mod texts;
 
-use crate::indexes::{RANGES_TEXT, Way, are_as_inserted, insert_index, print_list, print_ranges};
+use crate::indexes::{
+    FAULTY_TEXT, MACINTOSH_TEXT, RANGES_TEXT, Way, are_as_inserted, insert_index, print_list,
+    print_ranges,
+};
 use crate::texts::{Marks, print_decoded, print_encoded, print_latin1_bytes, print_latin1_text};
 use anyhow::bail;
 use encoding_front::{Encoding, UTF_8, WINDOWS_1252};
@@ -21,6 +24,8 @@ enum Ended {
     Refused,
     // Memory was refused to the tables into which a text is loaded.
     RefusedToTables,
+    // Memory was refused for the copy of a text that a load takes.
+    RefusedToCopy,
     // An index that it needs is not in the tables, so it was not made.
     NoIndex,
 }
@@ -31,6 +36,7 @@ impl Ended {
         match self {
             Ended::Refused => Some(" refused"),
             Ended::RefusedToTables => Some(" refused to the tables"),
+            Ended::RefusedToCopy => Some(" refused to the copy"),
             Ended::Well | Ended::NoIndex => None,
         }
     }
@@ -41,7 +47,7 @@ impl Ended {
 enum Call {
     // Puts the index with this offset in `INDEXES` into the tables.
     Insert(usize, Way),
-    ReadIndex,
+    ReadIndex(&'static [u8]),
     ReadRanges(&'static [u8]),
     DecodeLatin1(&'static [u8]),
     EncodeLatin1(&'static str),
@@ -60,7 +66,8 @@ const LISTS: Round = &[
     ("insert", Call::Insert(1, Way::List)),
     ("insert_ranges", Call::Insert(2, Way::Rows)),
     ("insert_rows beside others", Call::Insert(3, Way::Rows)),
-    ("read_index", Call::ReadIndex),
+    ("read_index", Call::ReadIndex(MACINTOSH_TEXT)),
+    ("read_index of a faulty text", Call::ReadIndex(FAULTY_TEXT)),
     ("read_ranges", Call::ReadRanges(RANGES_TEXT)),
     ("read_ranges of no rows", Call::ReadRanges(b"# none\n")),
     ("decode_latin1", Call::DecodeLatin1(b"caf\xE9")),
@@ -92,6 +99,7 @@ const TEXTS: Round = &[
     ("load", Call::Insert(3, Way::Text)),
     ("load of ranges", Call::Insert(2, Way::Text)),
     ("load beside others", Call::Insert(1, Way::Text)),
+    ("load_owned", Call::Insert(0, Way::OwnedText)),
     ("encode by what was loaded", Call::Encode(WINDOWS_1252)),
 ];
 
@@ -100,7 +108,7 @@ impl Call {
     fn make(self, rt: HostRuntime, tables: &mut Tables) -> anyhow::Result<Ended> {
         match self {
             Call::Insert(offset, way) => insert_index(rt, tables, offset, way),
-            Call::ReadIndex => print_list(rt),
+            Call::ReadIndex(text) => print_list(rt, text),
             Call::ReadRanges(text) => print_ranges(rt, text),
             Call::DecodeLatin1(bytes) => print_latin1_text(rt, bytes),
             Call::EncodeLatin1(text) => print_latin1_bytes(rt, text),
