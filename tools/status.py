@@ -38,7 +38,7 @@ def said(*words):
 def main():
     if said("git", "status", "--porcelain"):
         sys.exit("there are changes that no commit has")
-    start = time.time()
+    commit, start = said("git", "rev-parse", "--short", "HEAD"), time.time()
     with tempfile.TemporaryDirectory() as work:
         clone = os.path.join(work, "clone")
         subprocess.run(["git", "clone", "--quiet", TOP, clone], check=True)
@@ -51,7 +51,7 @@ def main():
     used = resource.getrusage(resource.RUSAGE_CHILDREN)
     failed = [line.partition("FAILED: ")[2] for line in lines if "FAILED: " in line]
     page = PAGE.format(
-        commit=said("git", "rev-parse", "--short", "HEAD"),
+        commit=commit,
         day=datetime.date.today().isoformat(),
         kit=said("rt", "version"),
         last=lines[-1],
