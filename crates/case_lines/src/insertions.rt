@@ -34,8 +34,8 @@ fn add_characters(
 // The characters of all indexes that are there.
 fn contents(alloc: Global, tables: &Tables) -> Result<Vec<Option<char>>, AllocError> {
     let mut characters = Vec::new(alloc);
-    for (_, kind) in KINDS {
-        add_characters(tables, kind, &mut characters)?;
+    for (_, kind) in KINDS.iter() {
+        add_characters(tables, *kind, &mut characters)?;
     }
     Ok(characters)
 }

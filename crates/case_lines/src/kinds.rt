@@ -45,9 +45,9 @@ pub const KINDS: [(&str, IndexKind); 34] = [
 
 /// The index of this name.
 pub fn kind_of(name: &str) -> anyhow::Result<IndexKind> {
-    for (known, kind) in KINDS {
-        if name == known {
-            return Ok(kind);
+    for (known, kind) in KINDS.iter() {
+        if name == *known {
+            return Ok(*kind);
         }
     }
     bail!("no index has this name")
