@@ -4,8 +4,8 @@
     python3 tools/generate_encodings.py [--check]
 
 A file of such a list begins with a line that says so; where a list is a part of a file, it stands between such a line
-and a line `end`. What a program must print of a list is a line of its stored output. With `--check` nothing is written: the files that differ are named, and the status is 1 where there are
-any (`make lint`).
+and a line `end`. What a program must print of a list is a line of its stored output. With `--check` nothing is written:
+the files that differ are named, and the status is 1 where there are any (`make lint`).
 """
 
 import os
@@ -370,8 +370,8 @@ def counts_of_listing():
 
 def kinds_by_name():
     lines = [
-        "/// Each kind of index by the name that cases have for it.",
-        "pub const KINDS: [(&str, IndexKind); %d] = [" % len(KINDS),
+        "// Each kind of index by the name that cases have for it.",
+        "pub(crate) const KINDS: [(&str, IndexKind); %d] = [" % len(KINDS),
     ]
     for row in INDEXES:
         word = row.get("word", row["name"])

@@ -4,8 +4,8 @@ use anyhow::bail;
 use encoding_tables::IndexKind;
 
 // Written by tools/generate_encodings.py from tools/encodings.toml; do not edit.
-/// Each kind of index by the name that cases have for it.
-pub const KINDS: [(&str, IndexKind); 34] = [
+// Each kind of index by the name that cases have for it.
+pub(crate) const KINDS: [(&str, IndexKind); 34] = [
     ("ibm866", IndexKind::Ibm866),
     ("iso-8859-2", IndexKind::Iso8859_2),
     ("iso-8859-3", IndexKind::Iso8859_3),

@@ -1,6 +1,6 @@
 //! What the programs whose cases are lines of files share: the driver of a file, what is printed of
-//! it, the words of a line as numbers, bytes, texts and indexes; and the lines that look into
-//! indexes.
+//! it, and the words of a line as numbers, bytes, texts and indexes. Besides, the lines of
+//! `encoding_cases` that look into indexes.
 #![tactic(auto)]
 
 mod faults;

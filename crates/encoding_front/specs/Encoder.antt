@@ -95,9 +95,9 @@ pub record EndsWithReference (e : Coding) (s : EscapeState) (prefix written : Li
   pub begins : length written ≤ end + length (spelled Decimal (e.form lost))
 
 -- A call with replacement on a text, into size bytes, the last of which are kept back: what is written is what the text
--- that was read stands for, with references, and behind it no more than the escape to the set that is left; lost tells
--- whether there is a reference. Only a reference reaches into the kept bytes, and where one ends there, or where they
--- begin, nothing more is read or written.
+-- that was read stands for, with references, and behind it no more than the escape to the set that is then in force;
+-- lost tells whether there is a reference. Only a reference reaches into the kept bytes, and where one ends there, or
+-- where they begin, nothing more is read or written.
 pub record Replaces (x : EncoderState) (last : Bool) (outcome : CoderResult) (text written : List ℕ) (x' : EncoderState) (rest : List ℕ) (lost : Bool) (size : ℕ) : Type 0 where
   pub same : x' ≡ record x { set = x'.set }
   pub prefix : List ℕ

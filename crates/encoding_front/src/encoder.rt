@@ -242,7 +242,8 @@ impl<'t> Encoder<'t> {
     /// - `InputEmpty`: all of `src` is read and written; with `last` the last escape is written
     ///   too.
     /// - `OutputFull`: something is left to do, and fewer bytes are free than the next step may
-    ///   need, at most 4, not counting those that are kept back.
+    ///   need, at most 4, not counting those that are kept back. The escape to the set of the next
+    ///   character may be written already; that set is then in force.
     ///
     /// Unless the output encoding is UTF-8, the last ten bytes of `dst` are kept back, so that a
     /// reference is never cut: only a reference that begins before them, or where they begin,

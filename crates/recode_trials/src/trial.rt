@@ -59,7 +59,7 @@ pub enum Way {
     Steps,
 }
 
-/// Both.
+/// Both ways.
 pub const WAYS: [Way; 2] = [Way::Run, Way::Steps];
 
 /// What is converted, and how.
@@ -194,7 +194,7 @@ impl Rooms {
         })
     }
 
-    /// The buffers.
+    /// Buffers in this memory, for one conversion.
     pub fn lend(&mut self) -> Buffers<'_> {
         let (pivot, check) = match &mut self.pivots {
             Pivots::Narrow(pivot, check) => (
