@@ -14,10 +14,6 @@ import subprocess
 import sys
 import tempfile
 
-sys.dont_write_bytecode = True
-
-from generate_encodings import ENCODINGS, LABELS
-
 TOP = os.path.abspath(os.path.join(os.path.dirname(os.path.abspath(__file__)), ".."))
 PROGRAM = os.path.join(TOP, "crates/recode_cli/out/recode_cli")
 INDEXES = os.path.join(TOP, "indexes")
@@ -207,7 +203,7 @@ def other_files():
 
 
 def text_faults():
-    """The three texts. The list has the encodings of `tools/encodings.toml`, with as many labels, no two of them alike."""
+    """The three texts: the Encoding Standard has 40 encodings and 228 labels (4.2), no two of them alike."""
     for word in ("--version", "-V"):
         yield from differences([word], run([word]), (0, b"recode 0.1.0\n", b""))
     for word in ("--help", "-h"):
@@ -219,7 +215,7 @@ def text_faults():
     status, out, log = run(["--list"])
     rows = [line.split(": ") for line in out.decode().splitlines()]
     labels = [label for row in rows for label in row[-1].split(" ")]
-    if (status, log, len(rows), len(labels), len(set(labels))) != (0, b"", len(ENCODINGS), len(LABELS), len(LABELS)):
+    if (status, log, len(rows), len(labels), len(set(labels))) != (0, b"", 40, 228, 228):
         yield "recode --list: status %d, %d lines, %d labels, %r" % (status, len(rows), len(labels), log)
 
 

@@ -361,13 +361,6 @@ def counted_conversions():
     return "nothing.txt: %d cases, %d conversions, 0 differences" % (cases, 12 * cases)
 
 
-def counts_of_listing():
-    return [
-        "    assert_eq!(rt; lines, %d);" % len(ENCODINGS),
-        "    assert_eq!(rt; labels, %d);" % len(LABELS),
-    ]
-
-
 def kinds_by_name():
     lines = [
         "// Each kind of index by the name that cases have for it.",
@@ -422,7 +415,6 @@ PARTS = {
     "case_lines/src/kinds.rt": [kinds_by_name],
     "library_tests/src/labels.rt": [label_names],
     "library_tests/src/encoding.rt": [tested_imports, tested_encodings],
-    "library_tests/src/programs.rt": [counts_of_listing],
 }
 # Of each file of stored output the one line that begins so.
 LINES = {"recode_cases/stdout": ("nothing.txt: ", counted_conversions)}

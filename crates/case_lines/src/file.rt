@@ -12,8 +12,10 @@ pub trait Lines {
         report: &mut Report,
     ) -> anyhow::Result<()>;
 
-    /// Behind the last line.
-    fn end(&mut self, rt: &(impl Print + AllocGlobal), report: &mut Report) -> anyhow::Result<()>;
+    /// Behind the last line: nothing, unless lines are still to be made something of.
+    fn end(&mut self, _: &(impl Print + AllocGlobal), _: &mut Report) -> anyhow::Result<()> {
+        Ok(())
+    }
 }
 
 /// Converts the cases of a file, and prints the differences and the counts. A line that can't be

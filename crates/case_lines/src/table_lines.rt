@@ -58,8 +58,4 @@ impl Lines for TableLines {
             _ => bail!("a line is not understood"),
         }
     }
-
-    fn end(&mut self, _: &(impl Print + AllocGlobal), _: &mut Report) -> anyhow::Result<()> {
-        Ok(())
-    }
 }

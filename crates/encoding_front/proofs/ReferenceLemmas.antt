@@ -17,7 +17,7 @@ use Rattle.std.specs.Bool.{MatchBool}
 use Rattle.encoding_mem.specs.EncoderRule.{Moves}
 use Rattle.encoding_mem.specs.declared.form.EscapeState.TheVariants.{Ascii}
 use Rattle.encoding_front.proofs.EncoderCallLemmas.{told_items}
-use Rattle.encoding_front.specs.Encoder.{EncoderState, ReplacingEndsWith, Replaces, coding_in, kept_back, Encoded, Turned, referred, new_state}
+use Rattle.encoding_front.specs.Encoder.{EncoderState, Puts, ReplacingEndsWith, Replaces, coding_in, kept_back, Encoded, Turned, referred, new_state}
 use Rattle.encoding_front.specs.laws.Encoder.{need_positive, coding_laws, output_twice}
 use Rattle.encoding_front.specs.Encodings.{need_of, coding_of, coding_of_codec_kind}
 use Rattle.encoding_front.specs.declared.coder_result.CoderResult.{CoderResult}
@@ -93,10 +93,7 @@ reported e last u s text w s' rest prefix law split =
       law.leaves.3 ∙ sym (last_set-append e s t (d ∷ [])) ∙ ap (last_set e s) ends,
     )
 
--- what a call without one wrote is what the text that it read is written as, and the escape to the set that it leaves
-abbrev Puts : Coding → EscapeState → (prefix written : List ℕ) → EscapeState → Type 0
-Puts e s prefix written s' = written ≡ open_from Decimal e s prefix ++ e.escape (last_set e s prefix) s'
-
+-- what a call that reports none wrote is what the text that it read is written as
 put_before : (e : Coding) (last : Bool) (outcome : EncoderResult) (s : EscapeState) (text w : List ℕ) (s' : EscapeState) (rest prefix : List ℕ) (law : Encodes e last outcome s text w s' rest)
     → law.next ≡ rest → text ≡ prefix ++ rest → Puts e s prefix w s'
 put_before e last outcome s text w s' rest prefix law left split =
@@ -104,7 +101,7 @@ put_before e last outcome s text w s' rest prefix law left split =
     law.bytes ∙ ap (λ l. l ++ e.escape (last_set e s law.before) s') (sym (mapped_open Decimal e s law.before law.mapped))
     ∙ ap (λ l. open_from Decimal e s l ++ e.escape (last_set e s l) s') ends
 
--- and so are both, one behind the other
+-- and so are both texts, one behind the other
 put_on : (e : Coding) (s : EscapeState) (written prefix : List ℕ) (q : EscapeState) (more w : List ℕ) (s' : EscapeState) → written ≡ open_from Decimal e s prefix → q ≡ last_set e s prefix
     → Puts e q more w s' → Puts e s (prefix ++ more) (written ++ w) s'
 put_on e s written prefix q more w s' opened set is =

@@ -94,6 +94,11 @@ pub record EndsWithReference (e : Coding) (s : EscapeState) (prefix written : Li
   pub whole : written ≡ open_from Decimal e s prefix
   pub begins : length written ≤ end + length (spelled Decimal (e.form lost))
 
+-- What a text is written as from a set: what it stands for, with references, and the escape to the set that is then in
+-- force.
+abbrev pub Puts : Coding → EscapeState → (text written : List ℕ) → EscapeState → Type 0
+Puts e s text written s' = written ≡ open_from Decimal e s text ++ e.escape (last_set e s text) s'
+
 -- A call with replacement on a text, into size bytes, the last of which are kept back: what is written is what the text
 -- that was read stands for, with references, and behind it no more than the escape to the set that is then in force;
 -- lost tells whether there is a reference. Only a reference reaches into the kept bytes, and where one ends there, or
@@ -102,7 +107,7 @@ pub record Replaces (x : EncoderState) (last : Bool) (outcome : CoderResult) (te
   pub same : x' ≡ record x { set = x'.set }
   pub prefix : List ℕ
   pub split : text ≡ prefix ++ rest
-  pub put : written ≡ open_from Decimal (coding_in x) x.set prefix ++ (coding_in x).escape (last_set (coding_in x) x.set prefix) x'.set
+  pub put : Puts (coding_in x) x.set prefix written x'.set
   pub bytes : MatchBool last (whole_from Decimal (coding_in x) x.set text ≡ written ++ whole_from Decimal (coding_in x) x'.set rest)
       (Continues Decimal (coding_in x) x.set text written x'.set rest)
   pub sets : last ≡ false → last_set (coding_in x) x.set text ≡ last_set (coding_in x) x'.set rest

@@ -104,9 +104,7 @@ fn the_list_has_all_labels(rt: HostRuntime) -> Result<(), Fail> {
             labels = labels.saturating_add(1);
         }
     }
-    // Written by tools/generate_encodings.py from tools/encodings.toml; do not edit.
     assert_eq!(rt; lines, 40);
     assert_eq!(rt; labels, 228);
-    // end
     Ok(())
 }

@@ -30,8 +30,4 @@ impl Lines for ProgramLines {
             _ => bail!("a line is not understood"),
         }
     }
-
-    fn end(&mut self, _: &(impl Print + AllocGlobal), _: &mut Report) -> anyhow::Result<()> {
-        Ok(())
-    }
 }

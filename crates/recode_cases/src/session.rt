@@ -121,8 +121,4 @@ impl Lines for Session {
             _ => self.convert(rt, line, report),
         }
     }
-
-    fn end(&mut self, _: &(impl Print + AllocGlobal), _: &mut Report) -> anyhow::Result<()> {
-        Ok(())
-    }
 }

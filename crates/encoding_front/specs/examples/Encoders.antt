@@ -6,7 +6,7 @@ use Rattle.encoding_mem.specs.declared.reference.Reference.TheVariants.{Decimal}
 use Rattle.encoding_mem.specs.Coding.{lost_count, open_from, whole_from, last_set, IsMapped}
 use Rattle.encoding_mem.specs.examples.SampleCoding.{sample_coding}
 use Rattle.encoding_mem.specs.declared.form.EscapeState.TheVariants.{Ascii, Roman}
-use Rattle.encoding_front.specs.Encoder.{ReplacingEndsWith, kept_back, queried_room, queried_with_kept, EndsWithReference, EncoderState, Replaces}
+use Rattle.encoding_front.specs.Encoder.{ReplacingEndsWith, kept_back, queried_room, queried_with_kept, EndsWithReference, EncoderState, Puts, Replaces}
 use Rattle.encoding_front.specs.declared.coder_result.CoderResult.{CoderResult}
 use Rattle.encoding_front.specs.declared.encoding.Encoding.TheVariants.{Iso2022Jp, Replacement, Utf8, Utf16Le, Windows1252, Big5, EucJp, EucKr, Gb18030, Gbk, ShiftJis, XUserDefined, Utf16Be}
 use Rattle.encoding_tables.specs.IndexLists.{IndexLists}
@@ -111,6 +111,17 @@ written_in_roman : (open_from Decimal (coding_of no_tables Iso2022Jp) Ascii yen_
     × (last_set (coding_of no_tables Iso2022Jp) Ascii yen_and_pile ≡ Roman)
 unfolding no_tables digits
 written_in_roman = (refl, refl)
+
+-- a set that is in force behind a call has its escape among what is written, also where no character is
+set_has_its_escape : Puts (coding_of no_tables Iso2022Jp) Ascii [] (0x1B ∷ 0x28 ∷ 0x4A ∷ []) Roman × Puts (coding_of no_tables Iso2022Jp) Ascii [] [] Ascii
+unfolding no_tables
+set_has_its_escape = (refl, refl)
+
+-- behind U+00A5 it is that of ASCII, and none where Roman stays
+set_behind_yen : Puts (coding_of no_tables Iso2022Jp) Ascii (0xA5 ∷ []) (0x1B ∷ 0x28 ∷ 0x4A ∷ 0x5C ∷ 0x1B ∷ 0x28 ∷ 0x42 ∷ []) Ascii
+    × Puts (coding_of no_tables Iso2022Jp) Ascii (0xA5 ∷ []) (0x1B ∷ 0x28 ∷ 0x4A ∷ 0x5C ∷ []) Roman
+unfolding no_tables
+set_behind_yen = (refl, refl)
 
 -- The reference begins behind 4 bytes: it is written into 14 bytes, of which 10 are kept back, and not into 13.
 reaches_into_the_kept : EndsWithReference (coding_of no_tables Iso2022Jp) Ascii yen_and_pile yen_and_its_reference 4
