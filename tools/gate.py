@@ -6,9 +6,12 @@
 The programs run by a table of command lines (`command_lines.py`), on random inputs (`fuzz.py`), with memory refused
 (`refused_memory.py`), with hostile index texts (`hostile_indexes.py`) and on hostile streams (`hostile_streams.py`). What
 is stored is compared with what plain programs say (`stored.py`). Each of these steps counts as one more in the last line.
-The status is 0 where nothing failed.
+Two of them run at a time, since the machine of the gate has two processors. The status is 0 where nothing failed.
 """
 
+import concurrent.futures
+import contextlib
+import io
 import os
 import re
 import subprocess
@@ -47,6 +50,14 @@ def ci():
     return ran.wait(), last
 
 
+def tried(faults):
+    """What a step says, and what it found wrong."""
+    said = io.StringIO()
+    with contextlib.redirect_stdout(said):
+        wrong = faults()
+    return said.getvalue(), wrong
+
+
 def main():
     status, last = ci()
     counts = re.fullmatch(r"(\d+) passed, (\d+) failed\n", last)
@@ -54,16 +65,16 @@ def main():
         print(last, end="")
         return status or 1
     passed, failed = int(counts[1]), int(counts[2])
-    for name, faults in STEPS:
-        print("== " + name, flush=True)
-        wrong = faults()
-        for line in wrong:
-            print("WRONG", line)
-        if wrong:
-            print("FAILED: " + name)
-            failed += 1
-        else:
-            passed += 1
+    with concurrent.futures.ProcessPoolExecutor(2) as pool:
+        for (name, _), (said, wrong) in zip(STEPS, pool.map(tried, [faults for _, faults in STEPS])):
+            print("== %s\n%s" % (name, said), end="", flush=True)
+            for line in wrong:
+                print("WRONG", line)
+            if wrong:
+                print("FAILED: " + name)
+                failed += 1
+            else:
+                passed += 1
     print("%d passed, %d failed" % (passed, failed), flush=True)
     return status or (1 if failed else 0)
 
