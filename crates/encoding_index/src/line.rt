@@ -2,9 +2,10 @@
 
 ghost use Rattle.std.specs.Prelude.{◌≡◌, ◌^◌, ◌<◌, ◌≤◌, true, length, Some, None, IfSome};
 ghost use Rattle.std.specs.List.{prefix_len, list_all};
+ghost use Rattle.std.specs.Char.{digit_value};
 ghost use Rattle.encoding_index.specs.IndexLine.{is_hex_digit, is_space, is_blank, is_skipped};
 ghost use Rattle.encoding_index.specs.IndexLine.{is_row_end, pointer_in, code_in, row_in};
-ghost use Rattle.encoding_index.specs.laws.Digits.{hex_or_none, AreCounted, AreEnded};
+ghost use Rattle.encoding_index.specs.laws.Digits.{AreCounted, AreEnded};
 ghost use Rattle.encoding_index.specs.laws.RowStarts.{row_start};
 
 // Whether a line has blanks alone.
@@ -22,26 +23,20 @@ pub(crate) fn is_skipped(line: &[u8]) -> bool
     is_blank(line) || line.starts_with(b"#")
 }
 
-// The value of a hexadecimal digit in upper case, and 16 for any other byte: no branch depends on
-// whether it is a letter.
-#[inline(always)]
-fn hex_value(b: u8) -> u8
-    ensures { result ≡ hex_or_none b }
-{
-    if b >= b'0' && b <= b'9' {
-        b - b'0'
-    } else if b >= b'A' && b <= b'F' {
-        b - b'A' + 10
-    } else {
-        16
-    }
-}
-
 #[inline(always)]
 fn is_hex_digit(b: u8) -> bool
     ensures { result ≡ is_hex_digit b }
 {
-    hex_value(b) < 16
+    b.is_ascii_digit() || (b'A'..=b'F').contains(&b)
+}
+
+// The value of a hexadecimal digit in upper case: no branch depends on whether it is a letter.
+#[inline(always)]
+fn hex_value(b: u8) -> u32
+    requires { is_hex_digit b ≡ true }
+    ensures { result ≡ digit_value b }
+{
+    (b % 16 + 9 * (b / 64)) as u32
 }
 
 // How many spaces stand at the start.
@@ -85,7 +80,7 @@ fn hex_digits_in(bytes: &[u8], most: usize) -> (u32, usize)
     let mut code = 0;
     let mut count = 0;
     'digits: while count < bytes.len() && count < most && is_hex_digit(bytes[count]) {
-        code = code * 16 + hex_value(bytes[count]) as u32;
+        code = code * 16 + hex_value(bytes[count]);
         count += 1;
     }
     (code, count)
