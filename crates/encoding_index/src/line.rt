@@ -2,10 +2,9 @@
 
 ghost use Rattle.std.specs.Prelude.{◌≡◌, ◌^◌, ◌<◌, ◌≤◌, true, length, Some, None, IfSome};
 ghost use Rattle.std.specs.List.{prefix_len, list_all};
-ghost use Rattle.std.specs.Char.{digit_value};
 ghost use Rattle.encoding_index.specs.IndexLine.{is_hex_digit, is_space, is_blank, is_skipped};
 ghost use Rattle.encoding_index.specs.IndexLine.{is_row_end, pointer_in, code_in, row_in};
-ghost use Rattle.encoding_index.specs.laws.Digits.{AreCounted, AreEnded};
+ghost use Rattle.encoding_index.specs.laws.Digits.{hex_or_none, AreCounted, AreEnded};
 ghost use Rattle.encoding_index.specs.laws.RowStarts.{row_start};
 
 // Whether a line has blanks alone.
@@ -23,20 +22,39 @@ pub(crate) fn is_skipped(line: &[u8]) -> bool
     is_blank(line) || line.starts_with(b"#")
 }
 
+// The value of each byte that is a hexadecimal digit in upper case, and 16 for any other: digits are
+// most of what is read of a text.
+const HEX_VALUES: [u8; 256] = [
+    16, 16, 16, 16, 16, 16, 16, 16, 16, 16, 16, 16, 16, 16, 16, 16,
+    16, 16, 16, 16, 16, 16, 16, 16, 16, 16, 16, 16, 16, 16, 16, 16,
+    16, 16, 16, 16, 16, 16, 16, 16, 16, 16, 16, 16, 16, 16, 16, 16,
+    0, 1, 2, 3, 4, 5, 6, 7, 8, 9, 16, 16, 16, 16, 16, 16,
+    16, 10, 11, 12, 13, 14, 15, 16, 16, 16, 16, 16, 16, 16, 16, 16,
+    16, 16, 16, 16, 16, 16, 16, 16, 16, 16, 16, 16, 16, 16, 16, 16,
+    16, 16, 16, 16, 16, 16, 16, 16, 16, 16, 16, 16, 16, 16, 16, 16,
+    16, 16, 16, 16, 16, 16, 16, 16, 16, 16, 16, 16, 16, 16, 16, 16,
+    16, 16, 16, 16, 16, 16, 16, 16, 16, 16, 16, 16, 16, 16, 16, 16,
+    16, 16, 16, 16, 16, 16, 16, 16, 16, 16, 16, 16, 16, 16, 16, 16,
+    16, 16, 16, 16, 16, 16, 16, 16, 16, 16, 16, 16, 16, 16, 16, 16,
+    16, 16, 16, 16, 16, 16, 16, 16, 16, 16, 16, 16, 16, 16, 16, 16,
+    16, 16, 16, 16, 16, 16, 16, 16, 16, 16, 16, 16, 16, 16, 16, 16,
+    16, 16, 16, 16, 16, 16, 16, 16, 16, 16, 16, 16, 16, 16, 16, 16,
+    16, 16, 16, 16, 16, 16, 16, 16, 16, 16, 16, 16, 16, 16, 16, 16,
+    16, 16, 16, 16, 16, 16, 16, 16, 16, 16, 16, 16, 16, 16, 16, 16,
+];
+
+#[inline(always)]
+fn hex_value(b: u8) -> u32
+    ensures { result ≡ hex_or_none b }
+{
+    HEX_VALUES[b as usize] as u32
+}
+
 #[inline(always)]
 fn is_hex_digit(b: u8) -> bool
     ensures { result ≡ is_hex_digit b }
 {
-    b.is_ascii_digit() || (b'A'..=b'F').contains(&b)
-}
-
-// The value of a hexadecimal digit in upper case: no branch depends on whether it is a letter.
-#[inline(always)]
-fn hex_value(b: u8) -> u32
-    requires { is_hex_digit b ≡ true }
-    ensures { result ≡ digit_value b }
-{
-    (b % 16 + 9 * (b / 64)) as u32
+    hex_value(b) < 16
 }
 
 // How many spaces stand at the start.
