@@ -1,5 +1,5 @@
 -- Digits at the start of some bytes, counted and read in one walk.
-use Rattle.std.proofs.Common.{◌≡◌, ℕ, zero, suc, ◌+◌, ◌-◌, ◌*◌, ◌/◌, ◌%◌, ◌^◌, ◌<◌, ◌≤◌, Bool, true, false, List, [], ◌∷◌, length, take, drop, get_or, refl, sym, ap, ◌∙◌, arith, None, Some, inl, inr}
+use Rattle.std.proofs.Common.{◌≡◌, ℕ, zero, suc, ◌+◌, ◌-◌, ◌*◌, ◌^◌, ◌<◌, ◌≤◌, Bool, true, false, List, [], ◌∷◌, length, take, drop, get_or, refl, sym, ap, ◌∙◌, arith, None, Some, inl, inr}
 use Rattle.std.specs.Char.{digit_value, is_ascii_digit}
 use Rattle.std.specs.Str.Parse.{digits_value, AllDigits}
 use Rattle.std.specs.List.{prefix_len}
@@ -10,6 +10,7 @@ use Rattle.std.proofs.lemmas.List.Sums.{prefix_len_is, prefix_len_stops}
 use Rattle.std.proofs.lemmas.Int.Digits.{digits_value-lt, digits_value_more}
 use Rattle.std.proofs.Math.Nat.{pow-le-pow_right}
 use Rattle.encoding_index.specs.IndexLine.{is_digit, is_hex_digit, number_in}
+use Rattle.encoding_index.specs.laws.Digits.{hex_or_none, AreCounted}
 
 pub digit_small : (b : ℕ) → is_digit b ≡ true → digit_value b < 10
 digit_small b digit = grind (arith, nat_tests)
@@ -26,28 +27,8 @@ no_digit_by b other = grind (arith, nat_tests)
 pub digit_value_is : (b : ℕ) → is_digit b ≡ true → b - 0x30 ≡ digit_value b
 digit_value_is b digit = grind (arith, nat_tests)
 
-low_digit : (b : ℕ) → 48 ≤ b → b < 58 → b % 16 + 9 * (b / 64) ≡ b - 48
-low_digit b low high = omega arith
-
-letter_digit : (b : ℕ) → 65 ≤ b → b < 71 → b % 16 + 9 * (b / 64) ≡ b - 55
-letter_digit b low high = omega arith
-
-pub hex_value_is : (b : ℕ) → is_hex_digit b ≡ true → b % 16 + 9 * (b / 64) ≡ digit_value b
-hex_value_is b hex = elim (cases_lt b 58) [
-  | inl below ↦
-      let low : 48 ≤ b = grind (arith, nat_tests) in
-      low_digit b low below ∙ grind (arith, nat_tests)
-  | inr above ↦
-      let low : 65 ≤ b = grind (arith, nat_tests) in
-      let high : b < 71 = grind (arith, nat_tests) in
-      letter_digit b low high ∙ grind (arith, nat_tests)
-]
-
--- the first `count` bytes pass, and write `value`
-pub record AreCounted (p : ℕ → Bool) (radix : ℕ) (bytes : List ℕ) (count value : ℕ) : Type 0 where
-  pub within : count ≤ length bytes
-  pub passes : (k : ℕ) → k < count → p (get_or bytes k 0) ≡ true
-  pub value_is : value ≡ digits_value radix (take count bytes)
+pub hex_is : (b v : ℕ) → v ≡ hex_or_none b → is_hex_digit b ≡ true → v ≡ digit_value b
+hex_is b v is hex = rw hex at is
 
 all_digits : (radix : ℕ) (p : ℕ → Bool) → ((b : ℕ) → p b ≡ true → digit_value b < radix) → (bytes : List ℕ) (n : ℕ) → ((k : ℕ) → k < n → p (get_or bytes k 0) ≡ true) → n ≤ length bytes
     → AllDigits radix (take n bytes)

@@ -2,4 +2,5 @@
 pub mod Outcomes
 pub mod RowsLeft
 pub mod RowStarts
+pub mod Digits
 pub mod Inserts

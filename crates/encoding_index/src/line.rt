@@ -2,9 +2,9 @@
 
 ghost use Rattle.std.specs.Prelude.{◌≡◌, ◌^◌, ◌<◌, ◌≤◌, true, length, Some, None, IfSome};
 ghost use Rattle.std.specs.List.{prefix_len, list_all};
-ghost use Rattle.std.specs.Char.{digit_value};
 ghost use Rattle.encoding_index.specs.IndexLine.{is_hex_digit, is_space, is_blank, is_skipped};
 ghost use Rattle.encoding_index.specs.IndexLine.{is_row_end, pointer_in, code_in, row_in};
+ghost use Rattle.encoding_index.specs.laws.Digits.{hex_or_none, AreCounted, AreEnded};
 ghost use Rattle.encoding_index.specs.laws.RowStarts.{row_start};
 
 // Whether a line has blanks alone.
@@ -22,20 +22,39 @@ pub(crate) fn is_skipped(line: &[u8]) -> bool
     is_blank(line) || line.starts_with(b"#")
 }
 
+// The value of each byte that is a hexadecimal digit in upper case, and 16 for any other: digits are
+// most of what is read of a text.
+const HEX_VALUES: [u8; 256] = [
+    16, 16, 16, 16, 16, 16, 16, 16, 16, 16, 16, 16, 16, 16, 16, 16,
+    16, 16, 16, 16, 16, 16, 16, 16, 16, 16, 16, 16, 16, 16, 16, 16,
+    16, 16, 16, 16, 16, 16, 16, 16, 16, 16, 16, 16, 16, 16, 16, 16,
+    0, 1, 2, 3, 4, 5, 6, 7, 8, 9, 16, 16, 16, 16, 16, 16,
+    16, 10, 11, 12, 13, 14, 15, 16, 16, 16, 16, 16, 16, 16, 16, 16,
+    16, 16, 16, 16, 16, 16, 16, 16, 16, 16, 16, 16, 16, 16, 16, 16,
+    16, 16, 16, 16, 16, 16, 16, 16, 16, 16, 16, 16, 16, 16, 16, 16,
+    16, 16, 16, 16, 16, 16, 16, 16, 16, 16, 16, 16, 16, 16, 16, 16,
+    16, 16, 16, 16, 16, 16, 16, 16, 16, 16, 16, 16, 16, 16, 16, 16,
+    16, 16, 16, 16, 16, 16, 16, 16, 16, 16, 16, 16, 16, 16, 16, 16,
+    16, 16, 16, 16, 16, 16, 16, 16, 16, 16, 16, 16, 16, 16, 16, 16,
+    16, 16, 16, 16, 16, 16, 16, 16, 16, 16, 16, 16, 16, 16, 16, 16,
+    16, 16, 16, 16, 16, 16, 16, 16, 16, 16, 16, 16, 16, 16, 16, 16,
+    16, 16, 16, 16, 16, 16, 16, 16, 16, 16, 16, 16, 16, 16, 16, 16,
+    16, 16, 16, 16, 16, 16, 16, 16, 16, 16, 16, 16, 16, 16, 16, 16,
+    16, 16, 16, 16, 16, 16, 16, 16, 16, 16, 16, 16, 16, 16, 16, 16,
+];
+
+#[inline(always)]
+fn hex_value(b: u8) -> u32
+    ensures { result ≡ hex_or_none b }
+{
+    HEX_VALUES[b as usize] as u32
+}
+
 #[inline(always)]
 fn is_hex_digit(b: u8) -> bool
     ensures { result ≡ is_hex_digit b }
 {
-    b.is_ascii_digit() || (b'A'..=b'F').contains(&b)
-}
-
-// The value of a hexadecimal digit in upper case: no branch depends on whether it is a letter.
-#[inline(always)]
-fn hex_value(b: u8) -> u32
-    requires { is_hex_digit b ≡ true }
-    ensures { result ≡ digit_value b }
-{
-    (b % 16 + 9 * (b / 64)) as u32
+    hex_value(b) < 16
 }
 
 // How many spaces stand at the start.
@@ -67,18 +86,47 @@ fn pointer_in(bytes: &[u8]) -> Option<(u32, &[u8])>
     Some((pointer, &bytes[count..]))
 }
 
-// The code point at the start, and the bytes behind it, likewise.
+// The number that the hexadecimal digits at the start write, of which at most so many are read, and
+// how many they are.
+#[inline(always)]
+fn hex_digits_in(bytes: &[u8], most: usize) -> (u32, usize)
+    requires { most ≤ 7 }
+    ensures counted { AreCounted is_hex_digit 16 bytes.now result.1 result.0 }
+    ensures few { result.1 ≤ most }
+    ensures ends { result.1 < most → AreEnded is_hex_digit bytes.now result.1 }
+{
+    let mut code = 0;
+    let mut count = 0;
+    'digits: while count < bytes.len() && count < most && is_hex_digit(bytes[count]) {
+        code = code * 16 + hex_value(bytes[count]);
+        count += 1;
+    }
+    (code, count)
+}
+
+// The code point at the start, and the bytes behind it, likewise. Most have four digits, which are
+// read without a loop.
 #[inline(always)]
 fn code_in(bytes: &[u8]) -> Option<(u32, &[u8])>
     ensures none { result ≡ None → code_in bytes.now ≡ None }
     ensures some { IfSome result (λ p. code_in bytes.now ≡ Some (p.0, p.1.now)) }
 {
-    let mut code = 0;
-    let mut count = 0;
-    'digits: while count < bytes.len() && count < 7 && is_hex_digit(bytes[count]) {
-        code = code * 16 + hex_value(bytes[count]);
-        count += 1;
+    if bytes.len() > 4 && !is_hex_digit(bytes[4]) {
+        let (code, count) = hex_digits_in(bytes, 4);
+        if count == 4 {
+            return Some((code, &bytes[4..]));
+        }
     }
+    longer_code_in(bytes)
+}
+
+// The code point at the start, whatever its length.
+#[inline(never)]
+fn longer_code_in(bytes: &[u8]) -> Option<(u32, &[u8])>
+    ensures none { result ≡ None → code_in bytes.now ≡ None }
+    ensures some { IfSome result (λ p. code_in bytes.now ≡ Some (p.0, p.1.now)) }
+{
+    let (code, count) = hex_digits_in(bytes, 7);
     if count < 4 || count > 6 {
         return None;
     }

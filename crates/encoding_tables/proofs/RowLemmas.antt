@@ -1,10 +1,11 @@
 -- The entries of the list that rows stand for. The mapped rows of a list, and of rows: they are in order, and stand
 -- for the same list. Rows the other way round, sorted: they rise, and are the same rows. The least and the greatest
 -- pointer with an entry, by the pairs of an entry and its pointer.
-use Rattle.std.proofs.Common.{◌≡◌, ◌≢◌, ℕ, zero, suc, ◌+◌, ◌-◌, ◌<◌, ◌≤◌, List, [], ◌∷◌, length, get_or, inl, inr, refl, sym, ◌∙◌, ap, arith, None, Some, map, ◌==◌, Option}
-use Rattle.std.specs.Prelude.{slice_index, if◌then◌else◌, MatchOption}
+use Rattle.std.proofs.Common.{◌≡◌, ◌≢◌, ℕ, zero, suc, ◌+◌, ◌-◌, ◌<◌, ◌≤◌, List, [], ◌∷◌, length, get_or, inl, inr, refl, sym, ◌∙◌, ap, arith, None, Some, map, ◌==◌, Option, subst}
+use Rattle.std.specs.Prelude.{slice_index, if◌then◌else◌, MatchOption, not, true}
+use Rattle.std.specs.List.{list_all}
 use Rattle.std.proofs.Math.ListN.{get_or-eq_default}
-use Rattle.std.proofs.lemmas.Bool.{cases_lt, cases_eq, eq-eqb, ne_eqb}
+use Rattle.std.proofs.lemmas.Bool.{and_parts, cases_lt, cases_eq, eq-eqb, ne_eqb}
 use Rattle.std.proofs.lemmas.List.{get_or_default, get_or-map, length-map}
 use Rattle.std.proofs.lemmas.List.FromFn.{get_or-map-range_with_len, length-map-range_with_len, fill_by_all}
 use Rattle.encoding_tables.specs.Lookups.{value_of, first_pointer, last_pointer}
@@ -214,6 +215,16 @@ pub flat_of_mapped : (size : ℕ) (rows : List (ℕ × ℕ)) → PointersRise ro
 flat_of_mapped size rows rise below =
     fill_by_all (entry_at rows) (flat_list size (mapped_rows rows)) size 0 (length-flat_list size (mapped_rows rows)) (λ k within.
     entry_within size (mapped_rows rows) k within ∙ mapped_entry size rows k rise below)
+
+-- rows without the entry 0 are all mapped
+pub all_mapped : (rows : List (ℕ × ℕ)) → list_all (λ row. not (row.1 == 0)) rows ≡ true → mapped_rows rows ≡ rows
+all_mapped [] all = refl
+all_mapped (row ∷ rows) all =
+    let parts = and_parts (not (row.1 == 0)) (list_all (λ row. not (row.1 == 0)) rows) all in
+    rw (parts.0, all_mapped rows parts.1) refl
+
+pub mapped_are_all : (size : ℕ) (rows : List (ℕ × ℕ)) → PointersRise rows → PointersAreBelow size rows → list_all (λ row. not (row.1 == 0)) rows ≡ true → AreIndexRows size rows
+mapped_are_all size rows rise below all = subst (AreIndexRows size) (all_mapped rows all) (mapped_are_rows size rows rise below)
 
 -- ---- how many there are
 

@@ -1,6 +1,7 @@
 //! An index as rows: by pointer for decoders, and by entry for encoders.
 
-ghost use Rattle.std.specs.Prelude.{◌≡◌, ℕ, ◌+◌, ◌^◌, ◌<◌, List, length, map, IfOk, IfSome};
+ghost use Rattle.std.specs.Prelude.{◌≡◌, ℕ, ◌+◌, ◌^◌, ◌<◌, List, length, map, IfOk, IfSome, not, ◌==◌};
+ghost use Rattle.std.specs.List.{list_all};
 ghost use Rattle.encoding_tables.specs.Lookups.{value_of, first_pointer, last_pointer};
 ghost use Rattle.encoding_tables.specs.PackedRows.{flat_list, mapped_rows, listed_rows, swapped, PointersRise, PointersAreBelow};
 ghost use Rattle.encoding_tables.specs.PackedLists.{AreIndexRows, IsPacked, IsReversed};
@@ -37,7 +38,7 @@ impl PackedIndex {
         ensures { IfOk result (λ index. index ≡ list.now) }
     {
         let rows = rows_of_list(alloc, list)?;
-        PackedIndex::new(alloc, list.len(), rows)
+        PackedIndex::new(alloc, list.len(), &rows)
     }
 
     /// The index of a list with these entries and 0 elsewhere.
@@ -51,17 +52,20 @@ impl PackedIndex {
         requires small { size < 2 ^ 16 }
         ensures { IfOk result (λ index. index ≡ flat_list size rows.now) }
     {
-        let rows = rows_with_entry(alloc, rows)?;
-        PackedIndex::new(alloc, size, rows)
+        if are_mapped(rows) {
+            return PackedIndex::new(alloc, size, rows);
+        }
+        let mapped = rows_with_entry(alloc, rows)?;
+        PackedIndex::new(alloc, size, &mapped)
     }
 
     // The index of mapped rows.
-    fn new(alloc: Global, size: usize, rows: Vec<(u32, u32)>) -> Result<Self, AllocError>
-        requires rows { AreIndexRows size rows.items }
+    fn new(alloc: Global, size: usize, rows: &[(u32, u32)]) -> Result<Self, AllocError>
+        requires rows { AreIndexRows size rows.now }
         requires small { size < 2 ^ 16 }
-        ensures { IfOk result (λ index. index ≡ flat_list size rows.items) }
+        ensures { IfOk result (λ index. index ≡ flat_list size rows.now) }
     {
-        let by_entry = reversed(alloc, &rows)?;
+        let by_entry = reversed(alloc, rows)?;
         Ok(PackedIndex {
             size,
             by_pointer: PointerRows::new(alloc, rows)?,
@@ -121,6 +125,13 @@ fn rows_of_list(alloc: Global, list: &[u32]) -> Result<Vec<(u32, u32)>, AllocErr
         }
     }
     Ok(rows)
+}
+
+// Whether no row has the entry 0, as in every index of the standard.
+fn are_mapped(rows: &[(u32, u32)]) -> bool
+    ensures { result ≡ list_all (λ row. not (row.1 == 0)) rows.now }
+{
+    rows.iter().all(|(_, entry)| *entry != 0)
 }
 
 // The rows whose entry is not 0.

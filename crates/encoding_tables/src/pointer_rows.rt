@@ -39,19 +39,16 @@ impl Model for PointerRows {
 
 impl PointerRows {
     /// Rows in order.
-    pub(crate) fn new(alloc: Global, rows: Vec<(u32, u32)>) -> Result<Self, AllocError>
-        requires rising { AreRising rows.items }
-        requires few { length rows.items < 2 ^ 16 }
-        ensures { IfOk result (λ sorted. sorted ≡ rows.items) }
+    pub(crate) fn new(alloc: Global, rows: &[(u32, u32)]) -> Result<Self, AllocError>
+        requires rising { AreRising rows.now }
+        requires few { length rows.now < 2 ^ 16 }
+        ensures { IfOk result (λ sorted. sorted ≡ rows.now) }
     {
-        let small = small_rows(alloc, &rows)?;
+        let small = small_rows(alloc, rows)?;
         let (rows, begins) = match small {
-            Some(small) if are_numbered(&rows) => (Rows::Numbered(small), Vec::new(alloc)),
-            Some(small) => (Rows::Small(small), directory(alloc, &rows)?),
-            None => {
-                let begins = directory(alloc, &rows)?;
-                (Rows::Wide(rows), begins)
-            }
+            Some(small) if are_numbered(rows) => (Rows::Numbered(small), Vec::new(alloc)),
+            Some(small) => (Rows::Small(small), directory(alloc, rows)?),
+            None => (Rows::Wide(copied(alloc, rows)?), directory(alloc, rows)?),
         };
         Ok(PointerRows { rows, begins })
     }
@@ -91,6 +88,15 @@ fn second_of(row: (u32, u32), first: u32) -> Option<u32>
     } else {
         None
     }
+}
+
+// The rows in memory of their own.
+fn copied(alloc: Global, rows: &[(u32, u32)]) -> Result<Vec<(u32, u32)>, AllocError>
+    ensures { IfOk result (λ same. same.items ≡ rows.now) }
+{
+    let mut same = Vec::with_capacity(alloc, rows.len())?;
+    same.extend_from_slice(rows)?;
+    Ok(same)
 }
 
 // Whether each row's first number is its position.

@@ -1,6 +1,6 @@
 use Rattle.std.proofs.Common.{length, ◌-◌, ◌≤◌}
 use Rattle.encoding_index.specs.IndexLine.{is_digit}
-use Rattle.encoding_index.proofs.DigitLemmas.{AreCounted}
+use Rattle.encoding_index.specs.laws.Digits.{AreCounted}
 use Rattle.encoding_index.proofs.line.pointer_in.Given as goal
 
 abbrev pub invariant-digits : goal.invariant-digits

@@ -5,9 +5,9 @@ use Rattle.encoding_tables.proofs.RowLemmas.{listed_are_rows, flat_of_listed}
 use Rattle.encoding_tables.proofs.packed_index.PackedIndex.from_list.Goals as goal
 
 pub new-requires-clause-rows : goal.new-requires-clause-rows
-new-requires-clause-rows c = rw c.in_ok-rows.ensures (listed_are_rows c.args.list.now)
+new-requires-clause-rows c = rw (c.deref.ensures.value ∙ c.in_ok-rows.ensures) (listed_are_rows c.args.list.now)
 
 pub returns : goal.returns
 returns c =
-    let same = ap (flat_list (length c.args.list.now)) c.in_ok-rows.ensures ∙ flat_of_listed c.args.list.now in
+    let same = ap (flat_list (length c.args.list.now)) (c.deref.ensures.value ∙ c.in_ok-rows.ensures) ∙ flat_of_listed c.args.list.now in
     subst (λ list. IfOk c.new.result (λ index. index ≡ list)) same c.new.ensures
