@@ -83,17 +83,17 @@ impl<'a> Sink for Utf8Sink<'a> {
     #[inline(always)]
     fn put(&mut self, c: char) {
         let code = c as u32;
-        if code < 0x800 {
-            if code < 0x80 {
-                self.put_byte(code as u8);
-            } else {
-                self.put_bytes(&[(0xC0 + code / 64) as u8, (0x80 + code % 64) as u8]);
-            }
-        } else if code < 0x1_0000 {
+        // Three bytes are tested first: runs of ASCII are put as a whole, and in an encoding of two
+        // bytes a character most of what stands between them has three.
+        if code >= 0x800 && code < 0x1_0000 {
             // One by one: three bytes are no size of a store, so an array of them would be slower.
             self.put_byte((0xE0 + code / 4096) as u8);
             self.put_byte((0x80 + code / 64 % 64) as u8);
             self.put_byte((0x80 + code % 64) as u8);
+        } else if code < 0x80 {
+            self.put_byte(code as u8);
+        } else if code < 0x800 {
+            self.put_bytes(&[(0xC0 + code / 64) as u8, (0x80 + code % 64) as u8]);
         } else {
             self.put_bytes(&[
                 (0xF0 + code / 262144) as u8,

@@ -1,10 +1,10 @@
 -- The order of rows, and the steps of a binary search among rows in order. A directory of rows in order: it narrows
 -- a search to the rows of one first number. Rows whose first numbers rise, and the last of them at or below a
 -- number.
-use Rattle.std.proofs.Common.{get_or, subst, sym, ◌≡◌, ℕ, ◌+◌, ◌-◌, ◌*◌, ◌/◌, ◌<◌, ◌≤◌, ◌^◌, ◌⊎◌, inl, inr, zero, suc, List, length, arith, refl, pow-suc, nat_lt, ◌==◌, ◌≢◌, [], ◌∷◌, ◌++◌, ◌∙◌, ap, drop, length-drop, length-take, length-append, None, Some}
-use Rattle.std.specs.Prelude.{◌&&◌, Option, slice_range, slice_index, min, if◌then◌else◌}
-use Rattle.encoding_tables.specs.PackedLists.{IsSecond}
-use Rattle.std.proofs.lemmas.Bool.{cases_eq, or_cases, and_parts, ltb-true, eqb-true, lt-ltb, le-ltb, eq-eqb, ne_eqb, cases_lt}
+use Rattle.std.proofs.Common.{get_or, ◌≡◌, ℕ, ◌+◌, ◌-◌, ◌*◌, ◌/◌, ◌<◌, ◌≤◌, ◌^◌, ◌⊎◌, inl, inr, zero, suc, List, length, arith, refl, pow-suc, nat_lt, ◌==◌, ◌≢◌, [], ◌∷◌, ◌++◌, ◌∙◌, ap, drop, length-drop, length-take, length-append, None, Some}
+use Rattle.std.specs.Prelude.{◌&&◌, slice_range, slice_index, min}
+use Rattle.encoding_tables.specs.PackedLists.{CanFind, IsPlace}
+use Rattle.std.proofs.lemmas.Bool.{cases_eq, or_cases, and_parts, ltb-true, eqb-true, lt-ltb, le-ltb, eq-eqb, cases_lt}
 use Rattle.encoding_tables.specs.SortedRows.{row_at, IsBelow, AreRising, IsRank, IsDirectory, IsSpan}
 use Rattle.std.proofs.lemmas.List.Edits.{get_or-between}
 use Rattle.std.proofs.lemmas.List.{get_or_append_left}
@@ -188,38 +188,27 @@ rank_in_span rows key from to n span rank =
 
 -- ---- the row with a first number
 
--- where the first row that is not before a number has another one, no row has it
-no_second : (rows : List (ℕ × ℕ)) (first n : ℕ) → AreRising rows → IsRank rows (first, 0) n → (n < length rows → (row_at rows n).0 ≢ first) → IsSecond rows first None
-no_second rows first n rise rank other k within is = elim (cases_lt k n) [
-  | inl early ↦ let low = below_start (row_at rows k) first (rank.below k early) in omega (arith, low, is)
-  | inr late ↦ elim (cases_eq k n) [
-    | inl here ↦ other (omega (arith, within)) (rw here at is)
-    | inr later ↦
-        let from = from_start (row_at rows n) first (rank.others n (omega arith) (omega (arith, within))) in
-        let after = below_at_most (row_at rows n) (row_at rows k) (rises rows rise n k (omega arith) within) in
-        other (omega (arith, within)) (omega (arith, from, after, is))
-  ]
-]
+-- the directory says where the first row with a number stands
+place_in_directory : (rows : List (ℕ × ℕ)) (begins : List ℕ) (first place : ℕ) → AreRising rows → IsDirectory rows begins → first < length begins → place ≡ slice_index begins first → IsPlace rows first place
+place_in_directory rows begins first place rise directory within is k inside same =
+    let rank : IsRank rows (first, 0) place = rw is (directory.ranks first within) in
+    elim (cases_lt k place) [
+      | inl early ↦ let low = below_start (row_at rows k) first (rank.below k early) in absurd (omega (arith, low, same))
+      | inr late ↦
+          let from = from_start (row_at rows place) first (rank.others place (omega arith) (omega (arith, inside))) in
+          elim (cases_eq k place) [
+            | inl here ↦ (omega (arith, inside), rw here at same)
+            | inr later ↦
+                let up_to = below_at_most (row_at rows place) (row_at rows k) (rises rows rise place k (omega arith) inside) in
+                (omega (arith, inside), omega (arith, from, up_to, same))
+          ]
+    ]
 
--- what the first row that is not before a number gives
-second_found : (rows : List (ℕ × ℕ)) (first n : ℕ) (row : ℕ × ℕ) (found : Option ℕ) → AreRising rows → IsRank rows (first, 0) n → n < length rows → row_at rows n ≡ row
-    → found ≡ (if row.0 == first then Some row.1 else None) → IsSecond rows first found
-second_found rows first n row found rise rank within here is = elim (cases_eq row.0 first) [
-  | inl same ↦
-      let some : found ≡ Some row.1 = rw (eq-eqb row.0 first same) at is in
-      subst (IsSecond rows first) (sym some) (n, within, here ∙ ap (λ f. (f, row.1)) same)
-  | inr other ↦
-      let none : found ≡ None = rw (ne_eqb row.0 first other) at is in
-      subst (IsSecond rows first) (sym none) (no_second rows first n rise rank (λ _ same. other (ap (λ r. r.0) (sym here) ∙ same)))
-]
-
--- what the row gives that the directory names for a first number, both read at their positions
-pub second_by_directory : (rows got : List (ℕ × ℕ)) (begins got_begins : List ℕ) (first n : ℕ) (row : ℕ × ℕ) (found : Option ℕ) → AreRising rows → IsDirectory rows begins → got_begins ≡ begins → got ≡ rows
-    → (first < length got_begins) × ((d : ℕ) → n ≡ get_or got_begins first d) → (n < length got) × ((d : ℕ × ℕ) → row ≡ get_or got n d) → found ≡ (if row.0 == first then Some row.1 else None) → IsSecond rows first found
-second_by_directory rows got begins got_begins first n row found rise directory same_begins same begin_is row_is is =
-    let begin : n ≡ slice_index begins first = begin_is.1 0 ∙ ap (λ b. slice_index b first) same_begins in
-    let rank = directory.ranks first (rw (← same_begins) begin_is.0) in
-    second_found rows first n row found rise (subst (IsRank rows (first, 0)) (sym begin) rank) (rw (← same) row_is.0) (ap (λ r. row_at r n) (sym same) ∙ sym (row_is.1 (0, 0))) is
+-- what a look at the directory gives
+pub place_there : (rows : List (ℕ × ℕ)) (begins got : List ℕ) (first place : ℕ) → AreRising rows → CanFind rows begins → got ≡ begins → (first < length got) × ((d : ℕ) → place ≡ get_or got first d) → IsPlace rows first place
+place_there rows begins got first place rise (inl directory) same is =
+    place_in_directory rows begins first place rise directory (rw (← same) is.0) (is.1 0 ∙ ap (λ b. slice_index b first) same)
+place_there rows begins got first place rise (inr (none, numbered)) same is = absurd (omega (arith, is.0, ap length same, ap length none))
 
 -- ---- how a directory is made
 

@@ -1,13 +1,12 @@
 -- What a packed index keeps: its rows by pointer, and the same rows by entry.
-use Rattle.std.specs.Prelude.{◌≡◌, ◌≢◌, ℕ, ◌<◌, List, length, Option, None, Some}
+use Rattle.std.specs.Prelude.{◌≡◌, ◌≢◌, ◌⊎◌, ℕ, ◌<◌, List, [], length, Option, None, Some}
 use Rattle.encoding_tables.specs.SortedRows.{row_at, AreRising, AreNumbered, IsDirectory}
 use Rattle.encoding_tables.specs.PackedRows.{PointersRise, PointersAreBelow, swapped}
 use Rattle.encoding_tables.specs.declared.pointer_rows.Rows.{Rows}
-use Rattle.encoding_tables.specs.declared.pointer_rows.Rows.TheVariants.{Numbered, Small, Wide}
+use Rattle.encoding_tables.specs.declared.pointer_rows.Rows.TheVariants.{Small, Wide}
 
 -- the rows, whatever numbers they are kept in
 abbrev pub kept_rows : Rows → List (ℕ × ℕ)
-kept_rows (Numbered rows) = rows.items
 kept_rows (Small rows) = rows.items
 kept_rows (Wide rows) = rows.items
 
@@ -15,11 +14,14 @@ kept_rows (Wide rows) = rows.items
 abbrev pub HasRow : List (ℕ × ℕ) → ℕ × ℕ → Type 0
 HasRow rows row = (k : ℕ) × (k < length rows) × (row_at rows k ≡ row)
 
--- rows can be found by their first numbers: these are their positions, or there is a directory
-abbrev pub CanFind : Rows → List ℕ → Type 0
-CanFind (Numbered rows) begins = AreNumbered rows.items
-CanFind (Small rows) begins = IsDirectory rows.items begins
-CanFind (Wide rows) begins = IsDirectory rows.items begins
+-- rows can be found by their first numbers: there is a directory, or these are their positions
+abbrev pub CanFind : List (ℕ × ℕ) → List ℕ → Type 0
+CanFind rows begins = IsDirectory rows begins ⊎ ((begins ≡ []) × AreNumbered rows)
+
+-- where one of the rows has this first number, the row at this place has it
+abbrev pub IsPlace : List (ℕ × ℕ) → ℕ → ℕ → Type 0
+IsPlace rows first place = (k : ℕ) → k < length rows → (row_at rows k).0 ≡ first
+    → (place < length rows) × ((row_at rows place).0 ≡ first)
 
 -- the second number of a row with this first number, or none where no row has it
 abbrev pub IsSecond : List (ℕ × ℕ) → ℕ → Option ℕ → Type 0

@@ -2,7 +2,7 @@
 
 ghost use Rattle.std.specs.Prelude.{◌≡◌, ◌<◌, ◌^◌, ◌==◌, List, ℕ, Some, None, IsTrue, length};
 ghost use Rattle.std.specs.Prelude.{IfOk, IfSome, if◌then◌else◌};
-ghost use Rattle.encoding_tables.specs.PackedLists.{kept_rows, CanFind, IsSecond};
+ghost use Rattle.encoding_tables.specs.PackedLists.{kept_rows, CanFind, IsPlace, IsSecond};
 ghost use Rattle.encoding_tables.specs.SortedRows.{AreNumbered, AreRising};
 
 use crate::search::search;
@@ -14,8 +14,6 @@ use std::marker::Model;
 /// the rows of the characters of a text stay in the fastest of it.
 #[derive(Drop)]
 pub(crate) enum Rows {
-    /// Each row's first number is its position, as in an index without gaps.
-    Numbered(Vec<(u16, u16)>),
     Small(Vec<(u16, u16)>),
     Wide(Vec<(u32, u32)>),
 }
@@ -24,8 +22,8 @@ pub(crate) enum Rows {
 #[derive(Drop)]
 pub(crate) struct PointerRows {
     rows: Rows,
-    // How many rows stand before each first number, and at last how many there are. Rows that are
-    // numbered need none.
+    // How many rows stand before each first number, and at last how many there are. None are kept
+    // where each row's first number is its position, as in an index without gaps.
     begins: Vec<u16>,
 }
 
@@ -34,7 +32,7 @@ impl Model for PointerRows {
 
     ghost view = { λ s. kept_rows s.rows };
 
-    ghost invariant = { λ s. AreRising (kept_rows s.rows) × CanFind s.rows s.begins.items };
+    ghost invariant = { λ s. AreRising (kept_rows s.rows) × CanFind (kept_rows s.rows) s.begins.items };
 }
 
 impl PointerRows {
@@ -44,12 +42,8 @@ impl PointerRows {
         requires few { length rows.now < 2 ^ 16 }
         ensures { IfOk result (λ sorted. sorted ≡ rows.now) }
     {
-        let small = small_rows(alloc, rows)?;
-        let (rows, begins) = match small {
-            Some(small) if are_numbered(rows) => (Rows::Numbered(small), Vec::new(alloc)),
-            Some(small) => (Rows::Small(small), directory(alloc, rows)?),
-            None => (Rows::Wide(copied(alloc, rows)?), directory(alloc, rows)?),
-        };
+        let begins = places(alloc, rows)?;
+        let rows = kept(alloc, rows)?;
         Ok(PointerRows { rows, begins })
     }
 
@@ -58,20 +52,24 @@ impl PointerRows {
     pub(crate) fn second(&self, first: u32) -> Option<u32>
         ensures { IsSecond self.now first result }
     {
+        let place = self.place(first);
         match &self.rows {
-            Rows::Numbered(rows) => {
-                let (number, second) = *rows.get(first as usize)?;
-                second_of((number as u32, second as u32), first)
-            }
             Rows::Small(rows) => {
-                let begin = *self.begins.get(first as usize)?;
-                let (number, second) = *rows.get(begin as usize)?;
+                let (number, second) = *rows.get(place)?;
                 second_of((number as u32, second as u32), first)
             }
-            Rows::Wide(rows) => {
-                let begin = *self.begins.get(first as usize)?;
-                second_of(*rows.get(begin as usize)?, first)
-            }
+            Rows::Wide(rows) => second_of(*rows.get(place)?, first),
+        }
+    }
+
+    // Where the first row with a first number stands, if one has it.
+    #[inline(always)]
+    fn place(&self, first: u32) -> usize
+        ensures { IsPlace self.now first result }
+    {
+        match self.begins.get(first as usize) {
+            Some(begin) => *begin as usize,
+            None => first as usize,
         }
     }
 }
@@ -97,6 +95,29 @@ fn copied(alloc: Global, rows: &[(u32, u32)]) -> Result<Vec<(u32, u32)>, AllocEr
     let mut same = Vec::with_capacity(alloc, rows.len())?;
     same.extend_from_slice(rows)?;
     Ok(same)
+}
+
+// The rows, in the least of the two forms that holds them.
+fn kept(alloc: Global, rows: &[(u32, u32)]) -> Result<Rows, AllocError>
+    ensures { IfOk result (λ kept. kept_rows kept ≡ rows.now) }
+{
+    match small_rows(alloc, rows)? {
+        Some(small) => Ok(Rows::Small(small)),
+        None => Ok(Rows::Wide(copied(alloc, rows)?)),
+    }
+}
+
+// The directory of rows, or none where their first numbers are their positions.
+fn places(alloc: Global, rows: &[(u32, u32)]) -> Result<Vec<u16>, AllocError>
+    requires rising { AreRising rows.now }
+    requires few { length rows.now < 2 ^ 16 }
+    ensures { IfOk result (λ begins. CanFind rows.now begins.items) }
+{
+    if are_numbered(rows) {
+        Ok(Vec::new(alloc))
+    } else {
+        directory(alloc, rows)
+    }
 }
 
 // Whether each row's first number is its position.
