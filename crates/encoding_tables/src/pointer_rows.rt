@@ -32,7 +32,8 @@ impl Model for PointerRows {
 
     ghost view = { λ s. kept_rows s.rows };
 
-    ghost invariant = { λ s. AreRising (kept_rows s.rows) × CanFind (kept_rows s.rows) s.begins.items };
+    ghost invariant = { λ s. AreRising (kept_rows s.rows)
+        × CanFind (kept_rows s.rows) s.begins.items };
 }
 
 impl PointerRows {
