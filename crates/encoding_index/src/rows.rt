@@ -152,7 +152,7 @@ impl<'a> IndexRows<'a> {
                 return Some(Ok(row));
             }
         }
-        // Put together anew: a row that the call writes to memory would have plain ones go there too.
+        // Put together anew: where the call's own memory were the result, plain rows went there too.
         match self.next_by_line() {
             Some(Ok((pointer, code))) => Some(Ok((pointer, code))),
             Some(Err(fault)) => Some(Err(fault)),
