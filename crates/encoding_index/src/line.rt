@@ -99,14 +99,14 @@ fn hex_digits_in(bytes: &[u8], most: usize) -> (u32, usize)
     (code, count)
 }
 
-// The code point at the start, and the bytes behind it, likewise. Most have four digits, which are
-// read without a loop.
+// The code point at the start, and the bytes behind it, likewise. Most have four digits and a tab
+// behind them, and are read without a loop.
 #[inline(always)]
 fn code_in(bytes: &[u8]) -> Option<(u32, &[u8])>
     ensures none { result ≡ None → code_in bytes.now ≡ None }
     ensures some { IfSome result (λ p. code_in bytes.now ≡ Some (p.0, p.1.now)) }
 {
-    if bytes.len() > 4 && !is_hex_digit(bytes[4]) {
+    if bytes.len() > 4 && bytes[4] == b'\t' {
         let (code, count) = hex_digits_in(bytes, 4);
         if count == 4 {
             return Some((code, &bytes[4..]));
@@ -147,7 +147,10 @@ pub(crate) fn row_start(bytes: &[u8]) -> Option<(u32, u32, &[u8])>
     ensures small { IfSome result (λ r. r.0 < 10 ^ 7) }
 {
     let (pointer, rest) = pointer_in(&bytes[spaces_len(bytes)..])?;
-    let (code, rest) = code_in(rest.strip_prefix(b"\t0x")?)?;
+    let [b'\t', b'0', b'x', numeral @ ..] = rest else {
+        return None;
+    };
+    let (code, rest) = code_in(numeral)?;
     Some((pointer, code, rest))
 }
 
