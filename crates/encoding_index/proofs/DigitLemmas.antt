@@ -10,7 +10,7 @@ use Rattle.std.proofs.lemmas.List.Sums.{prefix_len_is, prefix_len_stops}
 use Rattle.std.proofs.lemmas.Int.Digits.{digits_value-lt, digits_value_more}
 use Rattle.std.proofs.Math.Nat.{pow-le-pow_right}
 use Rattle.encoding_index.specs.IndexLine.{is_digit, is_hex_digit, number_in}
-use Rattle.encoding_index.specs.laws.Digits.{hex_or_none, AreCounted}
+use Rattle.encoding_index.specs.laws.Digits.{hex_or_none, HaveDigits}
 
 pub digit_small : (b : ℕ) → is_digit b ≡ true → digit_value b < 10
 digit_small b digit = grind (arith, nat_tests)
@@ -43,7 +43,7 @@ below_power radix most digits some all short =
     omega arith
 
 -- so few digits write no greater number
-counted_below : (radix most : ℕ) (p : ℕ → Bool) → ((b : ℕ) → p b ≡ true → digit_value b < radix) → 0 < radix → (bytes : List ℕ) (count value : ℕ) → AreCounted p radix bytes count value → count ≤ most
+counted_below : (radix most : ℕ) (p : ℕ → Bool) → ((b : ℕ) → p b ≡ true → digit_value b < radix) → 0 < radix → (bytes : List ℕ) (count value : ℕ) → HaveDigits p radix bytes count value → count ≤ most
     → value < radix ^ most
 counted_below radix most p small some bytes count value counted few =
     let within : count ≤ length bytes = counted.within in
@@ -51,17 +51,17 @@ counted_below radix most p small some bytes count value counted few =
     let below = below_power radix most (take count bytes) some (all_digits radix p small bytes count counted.passes counted.within) short in
     omega (arith, counted.value_is, below)
 
-pub pointer_below : (most : ℕ) (bytes : List ℕ) (count value : ℕ) → AreCounted is_digit 10 bytes count value → count ≤ most → value < 10 ^ most
+pub pointer_below : (most : ℕ) (bytes : List ℕ) (count value : ℕ) → HaveDigits is_digit 10 bytes count value → count ≤ most → value < 10 ^ most
 pointer_below most = counted_below 10 most is_digit digit_small (omega arith)
 
-pub code_below : (most : ℕ) (bytes : List ℕ) (count value : ℕ) → AreCounted is_hex_digit 16 bytes count value → count ≤ most → value < 16 ^ most
+pub code_below : (most : ℕ) (bytes : List ℕ) (count value : ℕ) → HaveDigits is_hex_digit 16 bytes count value → count ≤ most → value < 16 ^ most
 code_below most = counted_below 16 most is_hex_digit hex_digit_small (omega arith)
 
-pub none_counted : (p : ℕ → Bool) (radix : ℕ) (bytes : List ℕ) → AreCounted p radix bytes 0 0
+pub none_counted : (p : ℕ → Bool) (radix : ℕ) (bytes : List ℕ) → HaveDigits p radix bytes 0 0
 none_counted p radix bytes = record { within = omega arith; passes = λ k below. absurd (omega arith); value_is = refl }
 
-pub one_counted : (p : ℕ → Bool) (radix : ℕ) (bytes : List ℕ) (count value : ℕ) → AreCounted p radix bytes count value → count < length bytes → p (get_or bytes count 0) ≡ true
-    → AreCounted p radix bytes (count + 1) (value * radix + digit_value (get_or bytes count 0))
+pub one_counted : (p : ℕ → Bool) (radix : ℕ) (bytes : List ℕ) (count value : ℕ) → HaveDigits p radix bytes count value → count < length bytes → p (get_or bytes count 0) ≡ true
+    → HaveDigits p radix bytes (count + 1) (value * radix + digit_value (get_or bytes count 0))
 one_counted p radix bytes count value counted within digit = record {
   within = omega arith;
   passes = λ k below. elim (cases_lt k count) [
@@ -76,26 +76,26 @@ one_counted p radix bytes count value counted within digit = record {
 }
 
 -- no more of them stand there
-counted_all : (p : ℕ → Bool) (radix : ℕ) (bytes : List ℕ) (count value : ℕ) → AreCounted p radix bytes count value → (count < length bytes → p (get_or bytes count 0) ≡ false) → prefix_len p bytes ≡ count
+counted_all : (p : ℕ → Bool) (radix : ℕ) (bytes : List ℕ) (count value : ℕ) → HaveDigits p radix bytes count value → (count < length bytes → p (get_or bytes count 0) ≡ false) → prefix_len p bytes ≡ count
 counted_all p radix bytes count value counted ends = prefix_len_is p bytes count 0 counted.within counted.passes ends
 
-counted_some : (p : ℕ → Bool) (radix : ℕ) (bytes : List ℕ) (count value : ℕ) → AreCounted p radix bytes count value → count ≤ prefix_len p bytes
+counted_some : (p : ℕ → Bool) (radix : ℕ) (bytes : List ℕ) (count value : ℕ) → HaveDigits p radix bytes count value → count ≤ prefix_len p bytes
 counted_some p radix bytes count value counted = elim (cases_lt (prefix_len p bytes) count) [
   | inl fewer ↦ absurd (false≢true (sym (prefix_len_stops p bytes 0 (omega (arith, counted.within))) ∙ counted.passes (prefix_len p bytes) fewer))
   | inr enough ↦ enough
 ]
 
-pub number_counted : (p : ℕ → Bool) (radix least most : ℕ) (bytes : List ℕ) (count value : ℕ) → AreCounted p radix bytes count value → least ≤ count → count ≤ most
+pub number_counted : (p : ℕ → Bool) (radix least most : ℕ) (bytes : List ℕ) (count value : ℕ) → HaveDigits p radix bytes count value → least ≤ count → count ≤ most
     → (count < length bytes → p (get_or bytes count 0) ≡ false) → number_in radix least most (prefix_len p bytes) bytes ≡ Some (value, drop count bytes)
 number_counted p radix least most bytes count value counted low high ends =
     rw (counted_all p radix bytes count value counted ends, ← counted.value_is) (grind (arith, nat_tests))
 
-pub too_few_counted : (p : ℕ → Bool) (radix least most : ℕ) (bytes : List ℕ) (count value : ℕ) → AreCounted p radix bytes count value → count < least
+pub too_few_counted : (p : ℕ → Bool) (radix least most : ℕ) (bytes : List ℕ) (count value : ℕ) → HaveDigits p radix bytes count value → count < least
     → (count < length bytes → p (get_or bytes count 0) ≡ false) → number_in radix least most (prefix_len p bytes) bytes ≡ None
 too_few_counted p radix least most bytes count value counted few ends =
     rw (counted_all p radix bytes count value counted ends) (grind (arith, nat_tests))
 
-pub too_many_counted : (p : ℕ → Bool) (radix least most : ℕ) (bytes : List ℕ) (count value : ℕ) → AreCounted p radix bytes count value → most < count
+pub too_many_counted : (p : ℕ → Bool) (radix least most : ℕ) (bytes : List ℕ) (count value : ℕ) → HaveDigits p radix bytes count value → most < count
     → number_in radix least most (prefix_len p bytes) bytes ≡ None
 too_many_counted p radix least most bytes count value counted many =
     let enough = counted_some p radix bytes count value counted in

@@ -4,7 +4,7 @@ ghost use Rattle.std.specs.Prelude.{◌≡◌, ◌^◌, ◌<◌, ◌≤◌, true
 ghost use Rattle.std.specs.List.{prefix_len, list_all};
 ghost use Rattle.encoding_index.specs.IndexLine.{is_hex_digit, is_space, is_blank, is_skipped};
 ghost use Rattle.encoding_index.specs.IndexLine.{is_row_end, pointer_in, code_in, row_in};
-ghost use Rattle.encoding_index.specs.laws.Digits.{hex_or_none, AreCounted, AreEnded};
+ghost use Rattle.encoding_index.specs.laws.Digits.{hex_or_none, HaveDigits, AreEnded};
 ghost use Rattle.encoding_index.specs.laws.RowStarts.{row_start};
 
 // Whether a line has blanks alone.
@@ -22,25 +22,20 @@ pub(crate) fn is_skipped(line: &[u8]) -> bool
     is_blank(line) || line.starts_with(b"#")
 }
 
-// The value of each byte that is a hexadecimal digit in upper case, and 16 for any other: digits are
-// most of what is read of a text.
+// The value of each byte that is a hexadecimal digit in upper case, and 16 for any other. Digits
+// are most of what is read of a text, and a table has no branch.
 const HEX_VALUES: [u8; 256] = [
-    16, 16, 16, 16, 16, 16, 16, 16, 16, 16, 16, 16, 16, 16, 16, 16,
-    16, 16, 16, 16, 16, 16, 16, 16, 16, 16, 16, 16, 16, 16, 16, 16,
-    16, 16, 16, 16, 16, 16, 16, 16, 16, 16, 16, 16, 16, 16, 16, 16,
-    0, 1, 2, 3, 4, 5, 6, 7, 8, 9, 16, 16, 16, 16, 16, 16,
-    16, 10, 11, 12, 13, 14, 15, 16, 16, 16, 16, 16, 16, 16, 16, 16,
-    16, 16, 16, 16, 16, 16, 16, 16, 16, 16, 16, 16, 16, 16, 16, 16,
-    16, 16, 16, 16, 16, 16, 16, 16, 16, 16, 16, 16, 16, 16, 16, 16,
-    16, 16, 16, 16, 16, 16, 16, 16, 16, 16, 16, 16, 16, 16, 16, 16,
-    16, 16, 16, 16, 16, 16, 16, 16, 16, 16, 16, 16, 16, 16, 16, 16,
-    16, 16, 16, 16, 16, 16, 16, 16, 16, 16, 16, 16, 16, 16, 16, 16,
-    16, 16, 16, 16, 16, 16, 16, 16, 16, 16, 16, 16, 16, 16, 16, 16,
-    16, 16, 16, 16, 16, 16, 16, 16, 16, 16, 16, 16, 16, 16, 16, 16,
-    16, 16, 16, 16, 16, 16, 16, 16, 16, 16, 16, 16, 16, 16, 16, 16,
-    16, 16, 16, 16, 16, 16, 16, 16, 16, 16, 16, 16, 16, 16, 16, 16,
-    16, 16, 16, 16, 16, 16, 16, 16, 16, 16, 16, 16, 16, 16, 16, 16,
-    16, 16, 16, 16, 16, 16, 16, 16, 16, 16, 16, 16, 16, 16, 16, 16,
+    16, 16, 16, 16, 16, 16, 16, 16, 16, 16, 16, 16, 16, 16, 16, 16, 16, 16, 16, 16, 16, 16, 16, 16,
+    16, 16, 16, 16, 16, 16, 16, 16, 16, 16, 16, 16, 16, 16, 16, 16, 16, 16, 16, 16, 16, 16, 16, 16,
+    0, 1, 2, 3, 4, 5, 6, 7, 8, 9, 16, 16, 16, 16, 16, 16, 16, 10, 11, 12, 13, 14, 15, 16, 16, 16,
+    16, 16, 16, 16, 16, 16, 16, 16, 16, 16, 16, 16, 16, 16, 16, 16, 16, 16, 16, 16, 16, 16, 16, 16,
+    16, 16, 16, 16, 16, 16, 16, 16, 16, 16, 16, 16, 16, 16, 16, 16, 16, 16, 16, 16, 16, 16, 16, 16,
+    16, 16, 16, 16, 16, 16, 16, 16, 16, 16, 16, 16, 16, 16, 16, 16, 16, 16, 16, 16, 16, 16, 16, 16,
+    16, 16, 16, 16, 16, 16, 16, 16, 16, 16, 16, 16, 16, 16, 16, 16, 16, 16, 16, 16, 16, 16, 16, 16,
+    16, 16, 16, 16, 16, 16, 16, 16, 16, 16, 16, 16, 16, 16, 16, 16, 16, 16, 16, 16, 16, 16, 16, 16,
+    16, 16, 16, 16, 16, 16, 16, 16, 16, 16, 16, 16, 16, 16, 16, 16, 16, 16, 16, 16, 16, 16, 16, 16,
+    16, 16, 16, 16, 16, 16, 16, 16, 16, 16, 16, 16, 16, 16, 16, 16, 16, 16, 16, 16, 16, 16, 16, 16,
+    16, 16, 16, 16, 16, 16, 16, 16, 16, 16, 16, 16, 16, 16,
 ];
 
 #[inline(always)]
@@ -91,7 +86,7 @@ fn pointer_in(bytes: &[u8]) -> Option<(u32, &[u8])>
 #[inline(always)]
 fn hex_digits_in(bytes: &[u8], most: usize) -> (u32, usize)
     requires { most ≤ 7 }
-    ensures counted { AreCounted is_hex_digit 16 bytes.now result.1 result.0 }
+    ensures counted { HaveDigits is_hex_digit 16 bytes.now result.1 result.0 }
     ensures few { result.1 ≤ most }
     ensures ends { result.1 < most → AreEnded is_hex_digit bytes.now result.1 }
 {
@@ -104,14 +99,14 @@ fn hex_digits_in(bytes: &[u8], most: usize) -> (u32, usize)
     (code, count)
 }
 
-// The code point at the start, and the bytes behind it, likewise. Most have four digits, which are
-// read without a loop.
+// The code point at the start, and the bytes behind it, likewise. Most have four digits and a tab
+// behind them, and are read without a loop.
 #[inline(always)]
 fn code_in(bytes: &[u8]) -> Option<(u32, &[u8])>
     ensures none { result ≡ None → code_in bytes.now ≡ None }
     ensures some { IfSome result (λ p. code_in bytes.now ≡ Some (p.0, p.1.now)) }
 {
-    if bytes.len() > 4 && !is_hex_digit(bytes[4]) {
+    if bytes.len() > 4 && bytes[4] == b'\t' {
         let (code, count) = hex_digits_in(bytes, 4);
         if count == 4 {
             return Some((code, &bytes[4..]));
@@ -152,7 +147,10 @@ pub(crate) fn row_start(bytes: &[u8]) -> Option<(u32, u32, &[u8])>
     ensures small { IfSome result (λ r. r.0 < 10 ^ 7) }
 {
     let (pointer, rest) = pointer_in(&bytes[spaces_len(bytes)..])?;
-    let (code, rest) = code_in(rest.strip_prefix(b"\t0x")?)?;
+    let [b'\t', b'0', b'x', numeral @ ..] = rest else {
+        return None;
+    };
+    let (code, rest) = code_in(numeral)?;
     Some((pointer, code, rest))
 }
 

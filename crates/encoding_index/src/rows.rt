@@ -152,12 +152,7 @@ impl<'a> IndexRows<'a> {
                 return Some(Ok(row));
             }
         }
-        // Put together anew: a row that the call writes to memory would have plain ones go there too.
-        match self.next_by_line() {
-            Some(Ok((pointer, code))) => Some(Ok((pointer, code))),
-            Some(Err(fault)) => Some(Err(fault)),
-            None => None,
-        }
+        self.next_by_line()
     }
 
     // The next row of any form, or the first fault, line by line.

@@ -8,4 +8,4 @@ pub mod ReplacementLengthLemmas
 mod KindLemmas
 pub mod RowLemmas
 mod RowFaultLemmas
-pub mod ChainLemmas
+pub mod CountLemmas

@@ -16,7 +16,7 @@ pub mod Utf16
 pub mod SingleByte
 pub mod PackedRows
 pub mod PackedLists
-pub mod Chains
+pub mod EntryCounts
 pub mod LookupLaws
 pub mod laws
 pub mod examples

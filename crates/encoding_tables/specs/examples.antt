@@ -1,5 +1,5 @@
 -- Worked rows: what the definitions of `specs/` come to on inputs that a reader can work by hand.
-pub mod Chains
+pub mod EntryCounts
 pub mod FileNames
 pub mod IndexLists
 pub mod Kinds

@@ -1,11 +1,12 @@
 //! An index as rows: by pointer for decoders, and by entry for encoders.
 
-ghost use Rattle.std.specs.Prelude.{◌≡◌, ℕ, ◌+◌, ◌^◌, ◌<◌, List, length, map, IfOk, IfSome, not, ◌==◌};
+ghost use Rattle.std.specs.Prelude.{◌≡◌, ℕ, ◌+◌, ◌^◌, ◌<◌, List, length, map, IfOk, IfSome};
+ghost use Rattle.std.specs.Prelude.{not, ◌==◌};
 ghost use Rattle.std.specs.List.{list_all};
 ghost use Rattle.encoding_tables.specs.Lookups.{value_of, first_pointer, last_pointer};
 ghost use Rattle.encoding_tables.specs.PackedRows.{flat_list, mapped_rows, listed_rows, swapped, PointersRise, PointersAreBelow};
 ghost use Rattle.encoding_tables.specs.PackedLists.{AreIndexRows, IsPacked, IsReversed};
-ghost use Rattle.encoding_tables.specs.Chains.{AreChains, HaveEntriesBelow};
+ghost use Rattle.encoding_tables.specs.EntryCounts.{AreCounts, AreEnds, HaveEntriesBelow};
 
 use crate::pointer_rows::PointerRows;
 use crate::sorted_rows::SortedRows;
@@ -147,17 +148,6 @@ fn rows_with_entry(alloc: Global, rows: &[(u32, u32)]) -> Result<Vec<(u32, u32)>
     Ok(mapped)
 }
 
-// The position of no row: there are fewer rows.
-const NO_ROW: u16 = u16::MAX;
-
-// The rows of each entry, in their order, as a chain of positions: of each entry the first row with
-// it, and of each row the next one with its entry, or `NO_ROW`. Behind the greatest entry stands one
-// more that no row has.
-struct Chains {
-    first: Vec<u16>,
-    next: Vec<u16>,
-}
-
 // The greatest entry of some rows, or 0.
 fn greatest_entry(rows: &[(u32, u32)]) -> u32
     ensures { HaveEntriesBelow (result + 1) rows.now }
@@ -169,45 +159,52 @@ fn greatest_entry(rows: &[(u32, u32)]) -> u32
     greatest
 }
 
-impl Chains {
-    // The chains of some rows: each row is put before the chain of its entry, the last one first.
-    fn new(alloc: Global, rows: &[(u32, u32)]) -> Result<Chains, AllocError>
-        requires few { length rows.now < 2 ^ 16 }
-        ensures { IfOk result (λ chains. AreChains rows.now chains.first.items chains.next.items) }
-    {
-        let mut first = vec![in alloc; NO_ROW; greatest_entry(rows) as usize + 2]?;
-        let mut next = vec![in alloc; NO_ROW; rows.len()]?;
-        let mut at = rows.len();
-        'rows: while at > 0 {
-            at -= 1;
-            let entry = rows[at].1 as usize;
-            next[at] = first[entry];
-            first[entry] = at as u16;
-        }
-        Ok(Chains { first, next })
+// How many rows have each entry. Behind the greatest entry stands one more that no row has.
+fn counts(alloc: Global, rows: &[(u32, u32)]) -> Result<Vec<u16>, AllocError>
+    requires few { length rows.now < 2 ^ 16 }
+    ensures { IfOk result (λ counts. AreCounts rows.now counts.items) }
+{
+    let mut counts = vec![in alloc; 0; greatest_entry(rows) as usize + 2]?;
+    'rows: for at in 0..rows.len() {
+        let entry = rows[at].1 as usize;
+        let count = counts[entry];
+        counts[entry] = count + 1;
     }
+    Ok(counts)
 }
 
-// Each row the other way round, in order: entry by entry, along its chain. Where an entry's chain
-// began, its directory then says how many pairs stand before it.
+// How many rows have each entry or a smaller one.
+fn ends(alloc: Global, rows: &[(u32, u32)]) -> Result<Vec<u16>, AllocError>
+    requires few { length rows.now < 2 ^ 16 }
+    ensures { IfOk result (λ ends. AreEnds rows.now ends.items) }
+{
+    let mut ends = counts(alloc, rows)?;
+    let mut sum = 0;
+    'entries: for entry in 0..ends.len() {
+        let count = ends[entry];
+        sum += count;
+        ends[entry] = sum;
+    }
+    Ok(ends)
+}
+
+// Each row the other way round, in order: from the last row on, each goes to the end of the places
+// of its entry that are free. Where the first of an entry went, its pairs begin. No two rows are
+// compared, and what is done with one does not hang on another, as a processor likes it.
 fn reversed(alloc: Global, rows: &[(u32, u32)]) -> Result<SortedRows, AllocError>
     requires rise { PointersRise rows.now }
     requires few { length rows.now < 2 ^ 16 }
     ensures { IfOk result (λ pairs. IsReversed rows.now pairs) }
 {
-    let Chains {
-        first: mut begins,
-        next,
-    } = Chains::new(alloc, rows)?;
-    let mut pairs = Vec::with_capacity(alloc, rows.len())?;
-    for entry in 0..begins.len() {
-        let mut at = begins[entry];
-        begins[entry] = pairs.len() as u16;
-        'chain: while at != NO_ROW {
-            let (pointer, entry) = rows[at as usize];
-            pairs.push((entry, pointer))?;
-            at = next[at as usize];
-        }
+    let mut begins = ends(alloc, rows)?;
+    let mut pairs = vec![in alloc; (0, 0); rows.len()]?;
+    let mut at = rows.len();
+    'rows: while at > 0 {
+        at -= 1;
+        let (pointer, entry) = rows[at];
+        let place = begins[entry as usize] - 1;
+        begins[entry as usize] = place;
+        pairs[place as usize] = (entry, pointer);
     }
     Ok(SortedRows::with_directory(pairs, begins))
 }

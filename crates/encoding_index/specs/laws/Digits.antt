@@ -9,7 +9,7 @@ abbrev pub hex_or_none : ℕ → ℕ
 hex_or_none b = if is_hex_digit b then digit_value b else 16
 
 -- the first `count` bytes pass, and write `value`
-pub record AreCounted (p : ℕ → Bool) (radix : ℕ) (bytes : List ℕ) (count value : ℕ) : Type 0 where
+pub record HaveDigits (p : ℕ → Bool) (radix : ℕ) (bytes : List ℕ) (count value : ℕ) : Type 0 where
   pub within : count ≤ length bytes
   pub passes : (k : ℕ) → k < count → p (slice_index bytes k) ≡ true
   pub value_is : value ≡ digits_value radix (take count bytes)

@@ -1,6 +1,6 @@
 use Rattle.std.proofs.Common.{◌≡◌, ◌+◌, ◌*◌, ◌∙◌, true, arith, get_or, sym, subst, ℕ}
 use Rattle.encoding_index.specs.IndexLine.{is_hex_digit}
-use Rattle.encoding_index.specs.laws.Digits.{AreCounted}
+use Rattle.encoding_index.specs.laws.Digits.{HaveDigits}
 use Rattle.encoding_index.proofs.DigitLemmas.{one_counted, code_below, hex_digit_small, hex_is}
 use Rattle.encoding_index.proofs.line.hex_digits_in.Goals as goal
 
@@ -22,6 +22,6 @@ digits-preserved c =
     let hex : is_hex_digit b ≡ true = sym c.is_hex_digit.ensures ∙ c.if-is_hex_digit.true in
     let counted = one_counted is_hex_digit 16 c.args.bytes.now c.digits.count c.digits.code c.digits.invariant.counted c.digits-test.true hex in
     record {
-      counted = subst (λ (d : ℕ). AreCounted is_hex_digit 16 c.args.bytes.now (c.digits.count + 1) (c.digits.code * 16 + d)) (sym (hex_is b c.hex_value.result c.hex_value.ensures hex)) counted;
+      counted = subst (λ (d : ℕ). HaveDigits is_hex_digit 16 c.args.bytes.now (c.digits.count + 1) (c.digits.code * 16 + d)) (sym (hex_is b c.hex_value.result c.hex_value.ensures hex)) counted;
       few = omega arith;
     }

@@ -1,7 +1,7 @@
 use Rattle.std.proofs.Common.{◌≡◌, ◌+◌, ◌*◌, ◌<◌, ◌∙◌, false, true, arith, length, get_or, sym, subst, ℕ}
 use Rattle.std.proofs.lemmas.List.{take_rest}
 use Rattle.encoding_index.specs.IndexLine.{is_digit}
-use Rattle.encoding_index.specs.laws.Digits.{AreCounted}
+use Rattle.encoding_index.specs.laws.Digits.{HaveDigits}
 use Rattle.encoding_index.proofs.DigitLemmas.{one_counted, number_counted, too_few_counted, too_many_counted, pointer_below, digit_small, digit_value_is, is_digit_by, no_digit_by}
 use Rattle.encoding_index.proofs.line.pointer_in.Goals.{then-digits-test+then-count-lt8+else-is_ascii_digit, then-digits-test+else-count-lt8, else-digits-test, then-count-eq0-via-then-count-eq0, then-count-eq0-via-else-count-eq0+then-count-gt7}
 use Rattle.encoding_index.proofs.line.pointer_in.Goals as goal
@@ -24,7 +24,7 @@ digits-preserved c =
     let digit : is_digit b ≡ true = is_digit_by b (sym c.is_ascii_digit.ensures.value ∙ c.if-is_ascii_digit.true) in
     let counted = one_counted is_digit 10 c.args.bytes.now c.digits.count c.digits.pointer c.digits.invariant.counted c.digits-test.true digit in
     record {
-      counted = subst (λ (d : ℕ). AreCounted is_digit 10 c.args.bytes.now (c.digits.count + 1) (c.digits.pointer * 10 + d)) (sym (digit_value_is b digit)) counted;
+      counted = subst (λ (d : ℕ). HaveDigits is_digit 10 c.args.bytes.now (c.digits.count + 1) (c.digits.pointer * 10 + d)) (sym (digit_value_is b digit)) counted;
       few = omega (arith, c.if-count-lt8.true);
     }
 

@@ -1,57 +1,32 @@
-use Rattle.std.proofs.Common.{◌<◌, ◌≡◌, ◌∙◌, arith, length, subst, ap, ℕ}
-use Rattle.std.specs.Prelude.{slice_index}
-use Rattle.std.proofs.lemmas.List.{get_or_default, length-set}
-use Rattle.encoding_tables.proofs.ChainLemmas.{AreTurned, all_passed, all_turned, begins_passing, fits_below, is_directory, one_turned, pairs_below, passing_later, passing_on, passing_within}
+use Rattle.std.proofs.Common.{◌-◌, ◌∙◌, arith, ℕ}
+use Rattle.std.proofs.lemmas.List.{get_or_default}
+use Rattle.encoding_tables.specs.SortedRows.{row_at}
+use Rattle.encoding_tables.proofs.CountLemmas.{place_found, place_is_there, turn_placed, placed_are_reversed, placed_have_directory}
 use Rattle.encoding_tables.proofs.packed_index.reversed.Goals as goal
 
-pub overflow_cast-len : goal.overflow_cast-len
-overflow_cast-len c = omega (arith, c.len.ensures, c.loop-entry.pairs.ok.0, ap length c.loop-entry.invariant.0, fits_below c.loop-entry.entry c.args.rows.now, c.requires.few)
+pub overflow_sub-place : goal.overflow_sub-place
+overflow_sub-place c =
+    let inside = c.rows.invariant.entries (c.rows.at - 1) (omega (arith, c.rows-test.true, c.rows.invariant.within)) in
+    let read = λ (d : ℕ). c.index.ensures ∙ get_or_default c.rows.begins.items (row_at c.args.rows.now (c.rows.at - 1)).1 c.index.result.now d (omega (arith, inside)) in
+    omega (arith, place_found c.args.rows.now c.rows.at c.index.result.now c.rows.begins.items c.rows.pairs.items (omega (arith, c.rows-test.true)) c.rows.invariant read)
 
-pub chain-init : goal.chain-init
-chain-init c =
-    let within : c.loop-entry.entry < length c.loop-entry.begins.items = omega (arith, c.loop-entry-test.true, c.len-entry-end.ensures, c.loop-entry.invariant.2, c.in_ok-begins.field-0.first.ok.0) in
-    let start : c.index-at.result.now ≡ slice_index c.loop-entry.begins.items c.loop-entry.entry = c.index-at.ensures ∙ get_or_default c.loop-entry.begins.items c.loop-entry.entry c.index-at.result.now 0 within in
-    begins_passing _ _ _ _ c.loop-entry.begins.items _ within start c.loop-entry.invariant.0 c.loop-entry.invariant.1
+pub index_mut-requires-in-rows : goal.index_mut-requires-in-rows
+index_mut-requires-in-rows c =
+    let inside = c.rows.invariant.entries (c.rows.at - 1) (omega (arith, c.rows-test.true, c.rows.invariant.within)) in
+    let read = λ (d : ℕ). c.index.ensures ∙ get_or_default c.rows.begins.items (row_at c.args.rows.now (c.rows.at - 1)).1 c.index.result.now d (omega (arith, inside)) in
+    omega (arith, place_is_there c.args.rows.now c.rows.at c.index.result.now c.rows.begins.items c.rows.pairs.items (omega (arith, c.rows-test.true)) c.rows.invariant read, c.rows.pairs.ok.0)
 
-pub bounds-rows-at : goal.bounds-rows-at
-bounds-rows-at c = passing_within _ _ _ _ _ c.chain.invariant c.chain-test.true
-
-pub bounds-rows-at-in-chain : goal.bounds-rows-at-in-chain
-bounds-rows-at-in-chain c = passing_within _ _ _ _ _ c.chain.invariant c.chain-test.true
-
-pub index-at-requires-in-chain : goal.index-at-requires-in-chain
-index-at-requires-in-chain c = omega (arith, passing_within _ _ _ _ _ c.chain.invariant c.chain-test.true, c.in_ok-begins.ensures.size, c.in_ok-begins.field-0.next.ok.0)
-
-next_at : (c : goal.After-row_known-in-chain-2-1) → c.index-at-in-chain.result.now ≡ slice_index c.in_ok-begins.field-0.next.items c.chain.at
-next_at c = c.index-at-in-chain.ensures ∙ get_or_default c.in_ok-begins.field-0.next.items c.chain.at c.index-at-in-chain.result.now 0 (omega (arith, passing_within _ _ _ _ _ c.chain.invariant c.chain-test.true, c.in_ok-begins.ensures.size))
-
-pub chain-smaller : goal.chain-smaller
-chain-smaller c = omega (arith, next_at c, passing_later _ _ _ _ _ c.chain.invariant c.chain-test.true c.requires.few, passing_within _ _ _ _ _ c.chain.invariant c.chain-test.true, c.requires.few)
-
-pub chain-preserved : goal.chain-preserved
-chain-preserved c = rw (next_at c, c.in_ok-push.ensures.items) (passing_on _ _ _ _ _ c.chain.invariant c.chain-test.true)
-
-pub loop-entry-preserved : goal.loop-entry-preserved
-loop-entry-preserved c =
-    let within : c.loop-entry.entry < length c.loop-entry.begins.items = omega (arith, c.loop-entry-test.true, c.len-entry-end.ensures, c.loop-entry.invariant.2, c.in_ok-begins.field-0.first.ok.0) in
-    let count : c.len.result ≡ length (pairs_below c.loop-entry.entry c.args.rows.now) = omega (arith, c.len.ensures, c.loop-entry.pairs.ok.0, ap length c.loop-entry.invariant.0) in (
-      all_passed _ _ _ _ _ c.chain.invariant c.chain-test.false c.requires.few,
-      rw count (one_turned c.args.rows.now c.in_ok-begins.field-0.next.items c.loop-entry.entry c.loop-entry.begins.items within c.loop-entry.invariant.1),
-      length-set c.loop-entry.begins.items c.loop-entry.entry c.len.result ∙ c.loop-entry.invariant.2,
-    )
-
-all_read : (c : goal.After-loop-entry) → c.loop-entry.entry ≡ length c.loop-entry.begins.items
-all_read c = omega (arith, c.loop-entry-test.false, c.loop-entry.auto.entry-end, c.len-entry-end.ensures, c.loop-entry.invariant.2, c.in_ok-begins.field-0.first.ok.0)
+pub rows-preserved : goal.rows-preserved
+rows-preserved c =
+    let inside = c.rows.invariant.entries (c.rows.at - 1) (omega (arith, c.rows-test.true, c.rows.invariant.within)) in
+    let read = λ (d : ℕ). c.index.ensures ∙ get_or_default c.rows.begins.items (row_at c.args.rows.now (c.rows.at - 1)).1 c.index.result.now d (omega (arith, inside)) in
+    turn_placed c.args.rows.now c.rows.at c.index.result.now c.rows.begins.items c.rows.pairs.items (omega (arith, c.rows-test.true)) c.rows.invariant read
 
 pub with_directory-requires-clause-rising : goal.with_directory-requires-clause-rising
-with_directory-requires-clause-rising c = (all_turned _ _ _ c.loop-entry.begins.items _ c.requires.rise c.loop-entry.invariant.0 (all_read c) c.loop-entry.invariant.1).rise
+with_directory-requires-clause-rising c = (placed_are_reversed c.args.rows.now c.rows.at c.rows.begins.items c.rows.pairs.items c.requires.rise (omega (arith, c.rows-test.false)) c.rows.invariant).rise
 
 pub with_directory-requires-clause-directory : goal.with_directory-requires-clause-directory
-with_directory-requires-clause-directory c =
-    rw (c.loop-entry.invariant.0, all_read c)
-    (is_directory c.args.rows.now c.in_ok-begins.field-0.next.items c.loop-entry.begins.items c.requires.rise (subst (λ (n : ℕ). AreTurned c.args.rows.now c.in_ok-begins.field-0.next.items n c.loop-entry.begins.items) (all_read c) c.loop-entry.invariant.1))
+with_directory-requires-clause-directory c = placed_have_directory c.args.rows.now c.rows.at c.rows.begins.items c.rows.pairs.items c.requires.rise (omega (arith, c.rows-test.false)) c.rows.invariant
 
 pub returns : goal.returns
-returns c =
-    let read : c.loop-entry.entry ≡ length c.loop-entry.begins.items = omega (arith, c.loop-entry-test.false, c.loop-entry.auto.entry-end, c.len-entry-end.ensures, c.loop-entry.invariant.2, c.in_ok-begins.field-0.first.ok.0) in
-    rw c.with_directory.ensures (all_turned _ _ _ c.loop-entry.begins.items _ c.requires.rise c.loop-entry.invariant.0 read c.loop-entry.invariant.1)
+returns c = rw c.with_directory.ensures (placed_are_reversed c.args.rows.now c.rows.at c.rows.begins.items c.rows.pairs.items c.requires.rise (omega (arith, c.rows-test.false)) c.rows.invariant)
