@@ -1,16 +1,17 @@
 -- The bytes of a text and its characters agree on what is from right to left.
 use Rattle.std.proofs.Common.{◌≡◌, ℕ, zero, suc, ◌+◌, ◌-◌, ◌*◌, ◌/◌, ◌%◌, ◌<◌, ◌≤◌, inl, inr, List, [], ◌∷◌, ◌++◌, ◌||◌, Bool, true, false, IsTrue, length, take, drop, get_or, refl, sym, ◌∙◌, ap, subst, arith, encode_utf8_all}
 use Rattle.std.specs.Char.{encode_utf8}
-use Rattle.std.specs.Int.{is_in_range}
 use Rattle.std.specs.List.{list_any}
 use Rattle.std.specs.Str.{chars, IsUtf8, all_scalars}
-use Rattle.std.proofs.Math.Utf8.{scalar, scalar_cases}
+use Rattle.std.proofs.Math.Utf8.{scalar}
 use Rattle.std.proofs.lemmas.Bool.{cases_lt, and_parts}
-use Rattle.std.proofs.lemmas.List.{get_or-drop, take_rest}
+use Rattle.std.proofs.lemmas.List.{get_or-drop, get_or-take, length-take-le, take_rest}
+use Rattle.std.proofs.lemmas.List.Folds.{list_any_at}
+use Rattle.std.specs.Int.{is_in_range}
 use Rattle.std.proofs.lemmas.Str.{encode_ascii, encodes-chars, scalars-chars}
 use Rattle.encoding_mem.specs.Bidi.{is_bidi_char}
-use Rattle.encoding_mem.specs.BidiBytes.{is_bidi_number, is_bidi_bytes, is_bidi_at}
-use Rattle.encoding_mem.proofs.BidiLemmas.{below_range, same_range, low_char}
+use Rattle.encoding_mem.specs.BidiBytes.{is_bidi_number, is_bidi_bytes, is_bidi_at, is_bidi_lead}
+use Rattle.encoding_mem.proofs.BidiLemmas.{below_range, same_range, out_of_range, not_in_range, low_char}
 use Rattle.encoding_mem.proofs.Latin1BytesLemmas.{one_more}
 use Rattle.encoding_mem.proofs.Latin1Lemmas.{each_back}
 use Rattle.encoding_mem.proofs.Utf8TextLemmas.{of_two, of_three, of_four}
@@ -205,3 +206,40 @@ pub test_some : (xs : List ℕ) (n : ℕ) (a b : Bool) → IsTrue (a || b) → b
     → (k : ℕ) × IsTrue (is_bidi_at xs k)
 test_some xs n true b some is before = before refl
 test_some xs n false b some is before = (n, sym is ∙ some)
+
+-- a test that no element of a list passes, at one of them
+not_found : (p : ℕ → Bool) (xs : List ℕ) (k : ℕ) → k < length xs → list_any p xs ≡ false → p (get_or xs k 0) ≡ false
+not_found p xs k inside none = no_true (p (get_or xs k 0)) (λ yes. let some = list_any_at p xs k 0 inside yes in let wrong : true ≡ false = sym some ∙ none in cc)
+  where
+    no_true : (a : Bool) → (a ≡ true → ⊥) → a ≡ false
+    no_true true never = absurd (never refl)
+    no_true false never = refl
+
+-- where no such character begins with a byte, none begins there
+no_lead : (b n m v : ℕ) → n < 256 → m < 256 → v ≡ b * 0x1_0000 + n * 0x100 + m → (0xD6 ≤ b → b ≤ 0xE0 → ⊥) → (0xE2 ≤ b → b ≤ 0xE2 → ⊥) → (0xEF ≤ b → b ≤ 0xF0 → ⊥)
+    → is_bidi_number v ≡ false
+no_lead b n m v next after at first second third = each_range
+    (out_of_range 0xD6_9000 0xE0_A3FF v (λ l h. first (omega arith) (omega arith)))
+    (out_of_range 0xE2_808F 0xE2_808F v (λ l h. second (omega arith) (omega arith)))
+    (out_of_range 0xE2_80AB 0xE2_80AB v (λ l h. second (omega arith) (omega arith)))
+    (out_of_range 0xE2_80AE 0xE2_80AE v (λ l h. second (omega arith) (omega arith)))
+    (out_of_range 0xE2_81A7 0xE2_81A7 v (λ l h. second (omega arith) (omega arith)))
+    (out_of_range 0xEF_AC9D 0xEF_B7BF v (λ l h. third (omega arith) (omega arith)))
+    (out_of_range 0xEF_B9B0 0xEF_BBBE v (λ l h. third (omega arith) (omega arith)))
+    (out_of_range 0xF0_90A0 0xF0_90BF v (λ l h. third (omega arith) (omega arith)))
+    (out_of_range 0xF0_9EA0 0xF0_9EBF v (λ l h. third (omega arith) (omega arith)))
+
+lead_ranges : (b n m : ℕ) → n < 256 → m < 256 → is_bidi_lead b ≡ false → is_bidi_bytes b n m ≡ false
+lead_ranges b n m next after none =
+    let last = or_none (is_in_range 0xD6 0xE0 b || is_in_range 0xE2 0xE2 b) (is_in_range 0xEF 0xF0 b) none in
+    let first = or_none (is_in_range 0xD6 0xE0 b) (is_in_range 0xE2 0xE2 b) last.0 in
+    no_lead b n m (b * 0x1_0000 + n * 0x100 + m) next after refl (not_in_range 0xD6 0xE0 b first.0) (not_in_range 0xE2 0xE2 b first.1) (not_in_range 0xEF 0xF0 b last.1)
+
+-- so none begins in bytes of which no byte is such
+pub no_leads : (bytes : List ℕ) (n : ℕ) → ((k : ℕ) → get_or bytes k 0 < 256) → n ≤ length bytes → list_any is_bidi_lead (take n bytes) ≡ false
+    → (k : ℕ) → k < n → is_bidi_at bytes k ≡ false
+no_leads bytes n small fits none k inside =
+    let at = get_or-take n bytes k 0 inside in
+    let here : is_bidi_lead (get_or bytes k 0) ≡ false =
+    ap is_bidi_lead (sym at) ∙ not_found (is_bidi_lead) (take n bytes) k (omega (arith, inside, length-take-le n bytes fits)) none in
+    lead_ranges (get_or bytes k 0) (get_or bytes (k + 1) 0) (get_or bytes (k + 2) 0) (small (k + 1)) (small (k + 2)) here

@@ -133,6 +133,12 @@ cases_range lo hi c = elim (cases_lt c lo) [
   | inr from ↦ elim (cases_lt hi c) [ inl over ↦ inr (above_range lo hi c over) | inr to ↦ inl (from, to) ]
 ]
 
+pub out_of_range : (lo hi c : ℕ) → (lo ≤ c → c ≤ hi → ⊥) → is_in_range lo hi c ≡ false
+out_of_range lo hi c out = elim (cases_range lo hi c) [ inl inside ↦ absurd (out inside.0 inside.1) | inr outside ↦ outside ]
+
+pub not_in_range : (lo hi c : ℕ) → is_in_range lo hi c ≡ false → lo ≤ c → c ≤ hi → ⊥
+not_in_range lo hi c outside low high = let wrong : true ≡ false = sym (within_range lo hi c low high) ∙ outside in cc
+
 pub same_range : (lo hi a lo2 hi2 b : ℕ) → (lo ≤ a → a ≤ hi → (lo2 ≤ b) × (b ≤ hi2)) → (lo2 ≤ b → b ≤ hi2 → (lo ≤ a) × (a ≤ hi))
     → is_in_range lo hi a ≡ is_in_range lo2 hi2 b
 same_range lo hi a lo2 hi2 b there back = elim (cases_range lo hi a) [

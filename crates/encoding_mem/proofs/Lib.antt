@@ -19,3 +19,4 @@ pub mod UnitWritingLemmas
 pub mod PlainUnitsLemmas
 pub mod ReplacementLemmas
 pub mod ConversionLemmas
+pub mod TextUnitsLemmas

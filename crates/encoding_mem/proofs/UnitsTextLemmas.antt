@@ -1,14 +1,10 @@
 -- How many characters units of UTF-16 have, and where those that were copied end.
-use Rattle.std.proofs.Common.{◌≡◌, ℕ, zero, suc, get_or, ◌+◌, ◌*◌, ◌<◌, ◌≤◌, List, [], ◌∷◌, ◌++◌, length, take, drop, refl, sym, ◌∙◌, ap, arith, inl, inr, append_assoc, encode_utf8_all}
-use Rattle.std.specs.Char.{encode_utf8, len_utf8}
+use Rattle.std.proofs.Common.{◌≡◌, ℕ, zero, suc, get_or, ◌+◌, ◌<◌, ◌≤◌, List, [], ◌∷◌, ◌++◌, length, take, drop, sym, ◌∙◌, ap, arith, inl, inr, append_assoc}
 use Rattle.std.specs.Char.Utf16.{utf16_lossy_chars}
-use Rattle.std.specs.Str.{IsAscii}
 use Rattle.std.proofs.lemmas.Bool.{cases_lt, lt-ltb, le-ltb}
-use Rattle.std.proofs.lemmas.List.{append-nil, drop-drop}
-use Rattle.std.proofs.lemmas.Str.{encodes-IsAscii, encodes-append}
+use Rattle.std.proofs.lemmas.List.{drop-drop}
 use Rattle.encoding_mem.specs.EncoderRule.{IsCopied}
 use Rattle.encoding_mem.specs.Writing.{len_utf16}
-use Rattle.encoding_mem.proofs.AsciiRunLemmas.{run_units}
 use Rattle.encoding_mem.specs.Conversions.{IsUnitBoundary, units_in_utf8}
 use Rattle.encoding_mem.proofs.UnitPrefixLemmas.{reads_boundary, split_at}
 use Rattle.encoding_mem.proofs.Utf16Lemmas.{plain_unit}

@@ -44,7 +44,7 @@ chars_step text n m c d rest utf8 b e at next =
 pub part_boundary : (text rest : List ℕ) (i n : ℕ) → IsCharBoundary text i → rest ≡ drop i text → IsCharBoundary rest n → IsCharBoundary text (i + n)
 part_boundary text rest i n b at d = IsCharBoundary-from_rest text i n b.0 (subst (λ r. IsCharBoundary r n) at d)
 
-chars_part : (text rest : List ℕ) (i n : ℕ) → IsUtf8 text → IsCharBoundary text i → rest ≡ drop i text → chars (take (i + n) text) ≡ chars (take i text) ++ chars (take n rest)
+pub chars_part : (text rest : List ℕ) (i n : ℕ) → IsUtf8 text → IsCharBoundary text i → rest ≡ drop i text → chars (take (i + n) text) ≡ chars (take i text) ++ chars (take n rest)
 chars_part text rest i n utf8 b at =
     ap chars (take-add i n text ∙ ap (λ l. take i text ++ take n l) (sym at)) ∙ chars-append (take i text) (take n rest) (IsUtf8-take text i utf8 b)
 

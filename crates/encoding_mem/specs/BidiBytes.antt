@@ -15,3 +15,7 @@ is_bidi_bytes b n m = is_bidi_number (b * 0x1_0000 + n * 0x100 + m)
 -- at an offset; behind the end stands 00
 abbrev pub is_bidi_at : List ℕ → ℕ → Bool
 is_bidi_at bytes i = is_bidi_bytes (slice_index bytes i) (slice_index bytes (i + 1)) (slice_index bytes (i + 2))
+
+-- the first of such bytes
+abbrev pub is_bidi_lead : ℕ → Bool
+is_bidi_lead b = is_in_range 0xD6 0xE0 b || is_in_range 0xE2 0xE2 b || is_in_range 0xEF 0xF0 b

@@ -29,6 +29,7 @@ pub mod Iso2022JpAscii
 pub mod Surrogates
 pub mod Conversions
 pub mod TextDestination
+pub mod TextUnits
 pub mod Latin1Texts
 pub mod laws
 pub mod examples

@@ -22,3 +22,4 @@ pub mod Bidi
 pub mod Iso2022JpAscii
 pub mod Surrogates
 pub mod TextDestination
+pub mod TextUnits

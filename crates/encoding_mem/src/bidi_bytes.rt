@@ -4,16 +4,16 @@ ghost use Rattle.std.specs.Prelude.{◌≡◌, ℕ, ◌<◌, IsTrue, false, leng
 ghost use Rattle.std.specs.List.{list_any};
 ghost use Rattle.std.specs.Str.{chars};
 ghost use Rattle.encoding_mem.specs.Bidi.{is_bidi_char};
-ghost use Rattle.encoding_mem.specs.BidiBytes.{is_bidi_bytes, is_bidi_at};
+ghost use Rattle.encoding_mem.specs.BidiBytes.{is_bidi_bytes, is_bidi_at, is_bidi_lead};
 
 use crate::bidi::is_char_bidi;
 
 // How many offsets are tested at a time, without a look at which of them is found.
 const BLOCK: usize = 16;
 
-// A text of fewer bytes is read character by character: on 64 bytes the blocks were a third slower
-// than that, when both were measured.
-const SHORT: usize = 128;
+// A text of fewer bytes has no whole block and the two bytes behind it: it is read character by
+// character.
+const SHORT: usize = BLOCK + 2;
 
 // Whether a character from right to left begins with three bytes. It has no branch, so that the
 // compiler tests several offsets by one vector.
@@ -33,6 +33,26 @@ fn is_bidi_bytes(byte: u8, next: u8, after: u8) -> bool
         | (bytes >= 0xF0_9EA0) & (bytes <= 0xF0_9EBF)
 }
 
+// Whether a character from right to left may begin with this byte, without a branch.
+#[inline(always)]
+fn is_bidi_lead(byte: u8) -> bool
+    ensures { result ≡ is_bidi_lead byte }
+{
+    (byte >= 0xD6) & (byte <= 0xE0) | (byte == 0xE2) | (byte >= 0xEF) & (byte <= 0xF0)
+}
+
+// Whether one may begin with some of these bytes.
+#[inline(always)]
+fn any_bidi_lead(bytes: &[u8]) -> bool
+    ensures { result ≡ list_any is_bidi_lead bytes.now }
+{
+    let mut any = false;
+    for byte in bytes {
+        any |= is_bidi_lead(*byte);
+    }
+    any
+}
+
 // Whether one begins at some of the first offsets.
 #[inline(always)]
 fn any_bidi_in(bytes: &[u8]) -> bool
@@ -40,6 +60,10 @@ fn any_bidi_in(bytes: &[u8]) -> bool
     ensures none { result ≡ false → (k : ℕ) → k < 16 → is_bidi_at bytes.now k ≡ false }
     ensures some { IsTrue result → (k : ℕ) × IsTrue (is_bidi_at bytes.now k) }
 {
+    // Most scripts have none of these bytes, and a byte is tested faster than three.
+    if !any_bidi_lead(&bytes[..BLOCK]) {
+        return false;
+    }
     let mut any = false;
     for i in 0..BLOCK {
         any |= is_bidi_bytes(bytes[i], bytes[i + 1], bytes[i + 2]);

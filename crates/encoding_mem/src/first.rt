@@ -13,8 +13,8 @@ const BYTE_BLOCK: usize = 64;
 /// How many units are tested, narrowed or written in UTF-8 at a time: those of `BYTE_BLOCK` bytes.
 pub(crate) const UNIT_BLOCK: usize = 32;
 
-// How many are in a smaller vector.
-const BYTE_LANES: usize = 16;
+/// How many are in a smaller vector.
+pub(crate) const BYTE_LANES: usize = 16;
 
 const UNIT_LANES: usize = 8;
 
@@ -32,9 +32,10 @@ pub(crate) fn all_units_below(block: u16x32, limit: u16) -> bool
     block.simd_ge(u16x32::splat(limit)).to_bitmask() == 0
 }
 
-// How many bytes stand before the first that is not below the limit; all of them where there is none.
+/// How many bytes stand before the first that is not below the limit; all of them where there is
+/// none.
 #[inline(always)]
-fn lanes_below(block: u8x16, limit: u8) -> usize
+pub(crate) fn lanes_below(block: u8x16, limit: u8) -> usize
     ensures { result ≡ prefix_len (λ b. not (nat_le limit b)) block }
 {
     let marks = block.simd_ge(u8x16::splat(limit)).to_bitmask();

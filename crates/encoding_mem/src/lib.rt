@@ -61,6 +61,7 @@ pub mod sink_decoder;
 pub mod source;
 pub mod source_encoder;
 pub mod text_destinations;
+mod text_units;
 pub mod units_text;
 pub mod utf16_conversions;
 pub mod utf16_sink;

@@ -1,4 +1,4 @@
-//! The destination of text in UTF-16; ASCII is widened by blocks.
+//! The destination of text in UTF-16.
 
 ghost use Rattle.std.specs.Prelude.{true, ◌≡◌, ◌-◌, ◌<◌, ◌≤◌, ◌∷◌, [], length, refl};
 ghost use Rattle.std.proofs.Common.{◌∙◌};
@@ -6,12 +6,9 @@ ghost use Rattle.encoding_mem.specs.Conversions.{text_in_utf16};
 ghost use Rattle.encoding_mem.specs.Writing.{Adds, len_utf16, encode_utf16_all};
 ghost use Rattle.encoding_mem.specs.laws.Writing.{adds_none, adds_encoded16, cost_fits16, cost_two16};
 
-use crate::latin1_conversions::convert_latin1_to_utf16;
 use crate::sink::Sink;
+use crate::utf8_conversions::convert_str_to_utf16;
 use std::mem;
-
-// How many bytes of a text are put at a time, as units where all of them are ASCII.
-const BLOCK: usize = 256;
 
 /// A destination of text in units of UTF-16: a slice that is filled from its start.
 #[derive(Drop)]
@@ -41,53 +38,6 @@ impl<'a> Utf16Sink<'a> {
         self.units[self.written] = unit;
         self.written += 1;
     }
-
-    // Puts each byte as a unit.
-    fn put_bytes(&mut self, bytes: &[u8])
-        requires { length bytes.now ≤ length self.old.units.now - self.old.written }
-        ensures same_reference { self.new.units.ghost_name ≡ self.old.units.ghost_name }
-        ensures adds { Adds self.old.units.now self.old.written bytes.now self.new.units.now self.new.written }
-    {
-        let end = self.written + bytes.len();
-        convert_latin1_to_utf16(bytes, &mut self.units[self.written..end]);
-        self.written = end;
-    }
-
-    // Puts each character of a text.
-    fn put_chars(&mut self, text: &str)
-        requires { length text.now ≤ length self.old.units.now - self.old.written }
-        ensures same_reference { self.new.units.ghost_name ≡ self.old.units.ghost_name }
-        ensures adds { Adds self.old.units.now self.old.written (text_in_utf16 text.now) self.new.units.now self.new.written }
-    {
-        for c in text.chars() {
-            self.put(c);
-        }
-    }
-
-    // Puts a text, at once if it is ASCII.
-    fn put_block(&mut self, text: &str)
-        requires { length text.now ≤ length self.old.units.now - self.old.written }
-        ensures same_reference { self.new.units.ghost_name ≡ self.old.units.ghost_name }
-        ensures adds { Adds self.old.units.now self.old.written (text_in_utf16 text.now) self.new.units.now self.new.written }
-    {
-        if text.is_ascii() {
-            self.put_bytes(text.as_bytes());
-        } else {
-            let count = write_chars(text, &mut self.units[self.written..]);
-            self.written += count;
-        }
-    }
-}
-
-// Writes each character of a text to the start of units, and returns the units written. The sink
-// is its own, so that the offset stays in a register.
-fn write_chars(text: &str, dst: &mut [u16]) -> usize
-    requires { length text.now ≤ length dst.old }
-    ensures { Adds dst.old 0 (text_in_utf16 text.now) dst.new result }
-{
-    let mut sink = Utf16Sink::new(dst);
-    sink.put_chars(text);
-    sink.written()
 }
 
 impl<'a> Sink for Utf16Sink<'a> {
@@ -131,13 +81,8 @@ impl<'a> Sink for Utf16Sink<'a> {
     }
 
     fn put_text(&mut self, text: &str) {
-        let mut read = 0;
-        'parts: while read < text.len() {
-            let rest = &text[read..];
-            let block = &rest[..rest.floor_char_boundary(BLOCK)];
-            self.put_block(block);
-            read += block.len();
-        }
+        let count = convert_str_to_utf16(text, &mut self.units[self.written..]);
+        self.written += count;
     }
 
     #[inline(always)]

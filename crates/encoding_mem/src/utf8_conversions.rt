@@ -12,10 +12,10 @@ ghost use Rattle.encoding_mem.specs.Writing.{len_utf16, encode_utf16_all};
 
 use crate::decoder_result::DecoderResult;
 use crate::latin1_bytes::is_latin1_text;
-use crate::latin1_conversions::convert_latin1_to_utf16;
 use crate::sink::Sink;
 use crate::sink_decoder::SinkDecoder;
-use crate::source::{ascii_run, first_char};
+use crate::source::first_char;
+use crate::text_units::{put_ascii, put_next, put_run, size_of_lead};
 use crate::utf8::Utf8Decoder;
 use crate::utf16_sink::Utf16Sink;
 
@@ -28,28 +28,25 @@ pub fn convert_str_to_utf16(src: &str, dst: &mut [u16]) -> usize
     ensures units { take result dst.new ≡ text_in_utf16 src.now }
     ensures behind { drop result dst.new ≡ drop result dst.old }
 {
-    let mut rest = src;
+    let mut read = 0;
     let mut written = 0;
-    // A run of two characters of ASCII at least is copied at once; one alone is cheaper by itself.
-    'characters: while let Some((c, more)) = first_char(rest) {
-        let is_run = u32::from(c) < 0x80 && matches!(more.as_bytes(), [b, ..] if *b < 0x80);
-        if is_run {
-            let (run, behind) = ascii_run(rest, rest.len());
-            convert_latin1_to_utf16(run.as_bytes(), &mut dst[written..]);
-            written += run.len();
-            rest = behind;
-        } else {
-            written = put_units(dst, written, c);
-            rest = more;
-        }
+    'runs: while read < src.len() {
+        let (more, units) = match size_of_lead(src.as_bytes()[read]) {
+            1 => put_ascii(src, read, dst, written),
+            2 => put_run(src, read, 2, dst, written),
+            3 => put_run(src, read, 3, dst, written),
+            _ => put_next(src, read, dst, written),
+        };
+        read = more;
+        written = units;
     }
     written
 }
 
-// Puts the units of a character at an offset, where there is room for them, and returns the offset
-// behind them.
+/// Puts the units of a character at an offset, where there is room for them, and returns the offset
+/// behind them.
 #[inline(always)]
-fn put_units(dst: &mut [u16], at: usize, c: char) -> usize
+pub(crate) fn put_units(dst: &mut [u16], at: usize, c: char) -> usize
     requires { at + len_utf16 c ≤ length dst.old }
     ensures end { result ≡ at + len_utf16 c }
     ensures prefix { take result dst.new ≡ take at dst.old ++ encode_utf16 c }

@@ -1,7 +1,7 @@
 -- Bytes with which characters from right to left begin.
 use Rattle.std.specs.Prelude.{true, false}
 use Rattle.std.proofs.Common.{◌≡◌, refl}
-use Rattle.encoding_mem.specs.BidiBytes.{is_bidi_bytes}
+use Rattle.encoding_mem.specs.BidiBytes.{is_bidi_bytes, is_bidi_lead}
 
 -- U+058F, U+0590 and U+08FF, U+0900
 before_hebrew : is_bidi_bytes 0xD6 0x8F 0x20 ≡ false
@@ -70,3 +70,35 @@ last_of_second = refl
 
 emoji : is_bidi_bytes 0xF0 0x9F 0x98 ≡ false
 emoji = refl
+
+-- the first bytes: those of Armenian and Hebrew, of the Arabic extensions and of Georgian, of the controls and of kana,
+-- of private use and of the presentation forms, of the supplements and of the planes behind
+armenian_lead : is_bidi_lead 0xD5 ≡ false
+armenian_lead = refl
+
+hebrew_lead : is_bidi_lead 0xD6 ≡ true
+hebrew_lead = refl
+
+extended_lead : is_bidi_lead 0xE0 ≡ true
+extended_lead = refl
+
+georgian_lead : is_bidi_lead 0xE1 ≡ false
+georgian_lead = refl
+
+control_lead : is_bidi_lead 0xE2 ≡ true
+control_lead = refl
+
+kana_lead : is_bidi_lead 0xE3 ≡ false
+kana_lead = refl
+
+private_lead : is_bidi_lead 0xEE ≡ false
+private_lead = refl
+
+forms_lead : is_bidi_lead 0xEF ≡ true
+forms_lead = refl
+
+supplement_lead : is_bidi_lead 0xF0 ≡ true
+supplement_lead = refl
+
+later_plane_lead : is_bidi_lead 0xF1 ≡ false
+later_plane_lead = refl

@@ -1,7 +1,6 @@
-use Rattle.std.proofs.Common.{◌∙◌, ◌∷◌, [], ◌-◌, length, take, drop, sym, ap, arith}
+use Rattle.std.proofs.Common.{◌∙◌, ◌∷◌, [], ◌-◌, length, sym, ap, arith}
 use Rattle.std.specs.Char.Utf16.{utf16_lossy_chars}
 use Rattle.std.proofs.lemmas.List.{take_rest}
-use Rattle.std.proofs.lemmas.Str.{encodes-IsAscii}
 use Rattle.encoding_mem.proofs.LongestPrefixLemmas.{adds_prefix, adds_behind}
 use Rattle.encoding_mem.proofs.UnitPrefixLemmas.{written_text}
 use Rattle.encoding_mem.proofs.UnitWritingLemmas.{none_written, past_part, rest_length, more_written, units_written, reads_to_end, reads_to_char, is_longest, few_bytes}

@@ -1,0 +1,122 @@
+//! Text in units of UTF-16, by runs of characters that have as many bytes.
+
+ghost use Rattle.std.specs.Prelude.{◌≡◌, ℕ, ◌+◌, ◌<◌, ◌≤◌, IsTrue, List, ◌++◌, length, drop, slice_index};
+ghost use Rattle.std.specs.Char.{encode_utf8};
+ghost use Rattle.std.specs.Str.{IsCharBoundary};
+ghost use Rattle.encoding_mem.specs.TextUnits.{IsInUnits, size_from_lead};
+
+use crate::first::{BYTE_LANES, first_byte_from, lanes_below};
+use crate::latin1_conversions::convert_latin1_to_utf16;
+use crate::source::first_char;
+use crate::utf8_conversions::put_units;
+use std::simd::prelude::*;
+
+/// How many bytes the character has that this byte begins.
+#[inline(always)]
+pub(crate) fn size_of_lead(lead: u8) -> usize
+    ensures { result ≡ size_from_lead lead }
+{
+    if lead < 0x80 {
+        1
+    } else if lead < 0xE0 {
+        2
+    } else if lead < 0xF0 {
+        3
+    } else {
+        4
+    }
+}
+
+// The unit of the character at an offset, which has so many bytes.
+#[inline(always)]
+fn unit_at(text: &str, at: usize, size: usize) -> u16
+    requires boundary { IsCharBoundary text.now at }
+    requires inside { at < length text.now }
+    requires size { size_from_lead (slice_index text.now at) ≡ size }
+    requires small { size < 4 }
+    ensures { (c : ℕ) (rest : List ℕ) → drop at text.now ≡ encode_utf8 c ++ rest → result ≡ c }
+{
+    let bytes = text.as_bytes();
+    let lead = bytes[at] as u16;
+    if size == 1 {
+        return lead;
+    }
+    let second = bytes[at + 1] as u16 % 64;
+    if size == 2 {
+        return lead % 32 * 64 + second;
+    }
+    lead % 16 * 4096 + second * 64 + bytes[at + 2] as u16 % 64
+}
+
+/// Puts the run of characters of so many bytes that begins at an offset, each of them one unit.
+/// Returns the offsets behind it. The size is a literal at each call, so that no loop asks for it.
+#[inline(always)]
+pub(crate) fn put_run(
+    text: &str,
+    at: usize,
+    size: usize,
+    dst: &mut [u16],
+    to: usize,
+) -> (usize, usize)
+    requires so_far { IsInUnits text.now at dst.old to }
+    requires inside { at < length text.now }
+    requires size { size_from_lead (slice_index text.now at) ≡ size }
+    requires small { size < 4 }
+    ensures some { at < result.0 }
+    ensures after { to ≤ result.1 }
+    ensures further { IsInUnits text.now result.0 dst.new result.1 }
+    ensures behind { drop result.1 dst.new ≡ drop result.1 dst.old }
+{
+    let mut read = at;
+    let mut written = to;
+    'characters: while read < text.len() && size_of_lead(text.as_bytes()[read]) == size {
+        dst[written] = unit_at(text, read, size);
+        written += 1;
+        read += size;
+    }
+    (read, written)
+}
+
+// Whether a vector of ASCII is next: a run that is worth vectors.
+#[inline(always)]
+fn is_long_run(bytes: &[u8]) -> bool
+    ensures { IsTrue result → (k : ℕ) → k < 16 → slice_index bytes.now k < 0x80 }
+{
+    bytes.len() >= BYTE_LANES && lanes_below(u8x16::from_slice(bytes), 0x80) == BYTE_LANES
+}
+
+/// Puts the run of ASCII that begins at an offset, and returns the offsets behind it.
+#[inline(always)]
+pub(crate) fn put_ascii(text: &str, at: usize, dst: &mut [u16], to: usize) -> (usize, usize)
+    requires so_far { IsInUnits text.now at dst.old to }
+    requires inside { at < length text.now }
+    requires ascii { slice_index text.now at < 0x80 }
+    ensures some { at < result.0 }
+    ensures after { to ≤ result.1 }
+    ensures further { IsInUnits text.now result.0 dst.new result.1 }
+    ensures behind { drop result.1 dst.new ≡ drop result.1 dst.old }
+{
+    let bytes = text.as_bytes();
+    if !is_long_run(&bytes[at..]) {
+        return put_run(text, at, 1, dst, to);
+    }
+    let run = first_byte_from(&bytes[at..], 0x80);
+    convert_latin1_to_utf16(&bytes[at..at + run], &mut dst[to..]);
+    (at + run, to + run)
+}
+
+/// Puts the character at an offset, and returns the offsets behind it.
+#[inline(always)]
+pub(crate) fn put_next(text: &str, at: usize, dst: &mut [u16], to: usize) -> (usize, usize)
+    requires so_far { IsInUnits text.now at dst.old to }
+    requires inside { at < length text.now }
+    ensures some { at < result.0 }
+    ensures after { to ≤ result.1 }
+    ensures further { IsInUnits text.now result.0 dst.new result.1 }
+    ensures behind { drop result.1 dst.new ≡ drop result.1 dst.old }
+{
+    match first_char(&text[at..]) {
+        Some((c, _)) => (at + c.len_utf8(), put_units(dst, to, c)),
+        None => unreachable!(),
+    }
+}
