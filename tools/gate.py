@@ -10,6 +10,7 @@ Two of them run at a time, since the machine of the gate has two processors. The
 """
 
 import concurrent.futures
+import concurrent.futures.process
 import contextlib
 import io
 import os
@@ -51,11 +52,25 @@ def ci():
 
 
 def tried(faults):
-    """What a step says, and what it found wrong."""
+    """What a step says, and what it found wrong. An exception is a fault."""
     said = io.StringIO()
     with contextlib.redirect_stdout(said):
-        wrong = faults()
+        try:
+            wrong = faults()
+        except Exception as fault:
+            wrong = ["%s: %s" % (type(fault).__name__, fault)]
     return said.getvalue(), wrong
+
+
+def tried_all():
+    """Each step by its name, in their order, with what it says and what it found wrong."""
+    with concurrent.futures.ProcessPoolExecutor(2) as pool:
+        runs = [(name, pool.submit(tried, faults)) for name, faults in STEPS]
+        for name, run in runs:
+            try:
+                yield name, *run.result()
+            except concurrent.futures.process.BrokenProcessPool as fault:
+                yield name, "", [str(fault)]
 
 
 def main():
@@ -65,16 +80,15 @@ def main():
         print(last, end="")
         return status or 1
     passed, failed = int(counts[1]), int(counts[2])
-    with concurrent.futures.ProcessPoolExecutor(2) as pool:
-        for (name, _), (said, wrong) in zip(STEPS, pool.map(tried, [faults for _, faults in STEPS])):
-            print("== %s\n%s" % (name, said), end="", flush=True)
-            for line in wrong:
-                print("WRONG", line)
-            if wrong:
-                print("FAILED: " + name)
-                failed += 1
-            else:
-                passed += 1
+    for name, said, wrong in tried_all():
+        print("== %s\n%s" % (name, said), end="", flush=True)
+        for line in wrong:
+            print("WRONG", line, flush=True)
+        if wrong:
+            print("FAILED: " + name, flush=True)
+            failed += 1
+        else:
+            passed += 1
     print("%d passed, %d failed" % (passed, failed), flush=True)
     return status or (1 if failed else 0)
 

@@ -81,7 +81,7 @@ fn pointer_in(bytes: &[u8]) -> Option<(u32, &[u8])>
     Some((pointer, &bytes[count..]))
 }
 
-// The number that the hexadecimal digits at the start write, of which at most so many are read, and
+// The number that the hexadecimal digits at the start write, of which at most `most` are read, and
 // how many they are.
 #[inline(always)]
 fn hex_digits_in(bytes: &[u8], most: usize) -> (u32, usize)
@@ -99,8 +99,8 @@ fn hex_digits_in(bytes: &[u8], most: usize) -> (u32, usize)
     (code, count)
 }
 
-// The code point at the start, and the bytes behind it, likewise. Most have four digits and a tab
-// behind them, and are read without a loop.
+// The code point at the start, and the bytes behind it. Most have four digits and a tab behind
+// them: these are read by a loop of fixed length, which the compiler unrolls.
 #[inline(always)]
 fn code_in(bytes: &[u8]) -> Option<(u32, &[u8])>
     ensures none { result ≡ None → code_in bytes.now ≡ None }
@@ -115,7 +115,8 @@ fn code_in(bytes: &[u8]) -> Option<(u32, &[u8])>
     longer_code_in(bytes)
 }
 
-// The code point at the start, whatever its length.
+// The code point at the start, whatever its length. It stands out of line, so that a plain row
+// stays in registers.
 #[inline(never)]
 fn longer_code_in(bytes: &[u8]) -> Option<(u32, &[u8])>
     ensures none { result ≡ None → code_in bytes.now ≡ None }

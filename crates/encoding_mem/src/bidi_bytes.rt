@@ -11,8 +11,8 @@ use crate::bidi::is_char_bidi;
 // How many offsets are tested at a time, without a look at which of them is found.
 const BLOCK: usize = 16;
 
-// A text of fewer bytes has no whole block and the two bytes behind it: it is read character by
-// character.
+// A text of fewer bytes does not have a whole block and two bytes behind it, and is read character
+// by character.
 const SHORT: usize = BLOCK + 2;
 
 // Whether a character from right to left begins with three bytes. It has no branch, so that the
@@ -60,7 +60,8 @@ fn any_bidi_in(bytes: &[u8]) -> bool
     ensures none { result ≡ false → (k : ℕ) → k < 16 → is_bidi_at bytes.now k ≡ false }
     ensures some { IsTrue result → (k : ℕ) × IsTrue (is_bidi_at bytes.now k) }
 {
-    // Most scripts have none of these bytes, and a byte is tested faster than three.
+    // Latin, Greek, Cyrillic, kana, Chinese and Korean letters have none of these bytes, and a byte
+    // is tested faster than three.
     if !any_bidi_lead(&bytes[..BLOCK]) {
         return false;
     }

@@ -13,7 +13,7 @@ const BYTE_BLOCK: usize = 64;
 /// How many units are tested, narrowed or written in UTF-8 at a time: those of `BYTE_BLOCK` bytes.
 pub(crate) const UNIT_BLOCK: usize = 32;
 
-/// How many are in a smaller vector.
+/// How many bytes a smaller vector has.
 pub(crate) const BYTE_LANES: usize = 16;
 
 const UNIT_LANES: usize = 8;

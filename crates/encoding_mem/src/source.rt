@@ -110,7 +110,7 @@ pub(crate) fn first_char(text: &str) -> Option<(char, &str)>
 
 // The run of ASCII at the start of a text, at most so many bytes of it, and what follows.
 #[inline(always)]
-pub(crate) fn ascii_run(text: &str, most: usize) -> (&str, &str)
+fn ascii_run(text: &str, most: usize) -> (&str, &str)
     ensures bytes { text.now ≡ result.0.now ++ result.1.now }
     ensures chars { chars text.now ≡ result.0.now ++ chars result.1.now }
     ensures ascii { IsAscii result.0.now }

@@ -1,4 +1,4 @@
-//! Text in units of UTF-16, by runs of characters that have as many bytes.
+//! Text in units of UTF-16, by runs of characters of one length in bytes.
 
 ghost use Rattle.std.specs.Prelude.{◌≡◌, ℕ, ◌+◌, ◌<◌, ◌≤◌, IsTrue, List, ◌++◌, length, drop, slice_index};
 ghost use Rattle.std.specs.Char.{encode_utf8};

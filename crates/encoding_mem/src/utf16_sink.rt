@@ -2,7 +2,6 @@
 
 ghost use Rattle.std.specs.Prelude.{true, ◌≡◌, ◌-◌, ◌<◌, ◌≤◌, ◌∷◌, [], length, refl};
 ghost use Rattle.std.proofs.Common.{◌∙◌};
-ghost use Rattle.encoding_mem.specs.Conversions.{text_in_utf16};
 ghost use Rattle.encoding_mem.specs.Writing.{Adds, len_utf16, encode_utf16_all};
 ghost use Rattle.encoding_mem.specs.laws.Writing.{adds_none, adds_encoded16, cost_fits16, cost_two16};
 

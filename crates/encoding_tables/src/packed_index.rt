@@ -1,10 +1,10 @@
 //! An index as rows: by pointer for decoders, and by entry for encoders.
 
-ghost use Rattle.std.specs.Prelude.{◌≡◌, ℕ, ◌+◌, ◌^◌, ◌<◌, List, length, map, IfOk, IfSome};
+ghost use Rattle.std.specs.Prelude.{◌≡◌, ℕ, ◌+◌, ◌^◌, ◌<◌, List, length, IfOk, IfSome};
 ghost use Rattle.std.specs.Prelude.{not, ◌==◌};
 ghost use Rattle.std.specs.List.{list_all};
 ghost use Rattle.encoding_tables.specs.Lookups.{value_of, first_pointer, last_pointer};
-ghost use Rattle.encoding_tables.specs.PackedRows.{flat_list, mapped_rows, listed_rows, swapped, PointersRise, PointersAreBelow};
+ghost use Rattle.encoding_tables.specs.PackedRows.{flat_list, mapped_rows, listed_rows, PointersRise, PointersAreBelow};
 ghost use Rattle.encoding_tables.specs.PackedLists.{AreIndexRows, IsPacked, IsReversed};
 ghost use Rattle.encoding_tables.specs.EntryCounts.{AreCounts, AreEnds, HaveEntriesBelow};
 
@@ -190,7 +190,7 @@ fn ends(alloc: Global, rows: &[(u32, u32)]) -> Result<Vec<u16>, AllocError>
 
 // Each row the other way round, in order: from the last row on, each goes to the end of the places
 // of its entry that are free. Where the first of an entry went, its pairs begin. No two rows are
-// compared, and what is done with one does not hang on another, as a processor likes it.
+// compared, and no branch depends on what a row has.
 fn reversed(alloc: Global, rows: &[(u32, u32)]) -> Result<SortedRows, AllocError>
     requires rise { PointersRise rows.now }
     requires few { length rows.now < 2 ^ 16 }

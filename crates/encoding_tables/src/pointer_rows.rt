@@ -63,7 +63,8 @@ impl PointerRows {
         }
     }
 
-    // Where the first row with a first number stands, if one has it.
+    // Where a row with this first number stands, if one has it: the directory says so. Without one
+    // the number is the position; behind the end of a directory no row has the number.
     #[inline(always)]
     fn place(&self, first: u32) -> usize
         ensures { IsPlace self.now first result }
@@ -98,7 +99,7 @@ fn copied(alloc: Global, rows: &[(u32, u32)]) -> Result<Vec<(u32, u32)>, AllocEr
     Ok(same)
 }
 
-// The rows, in the least of the two forms that holds them.
+// The rows, in the smaller of the two forms if it holds them.
 fn kept(alloc: Global, rows: &[(u32, u32)]) -> Result<Rows, AllocError>
     ensures { IfOk result (λ kept. kept_rows kept ≡ rows.now) }
 {
