@@ -1,6 +1,6 @@
 //! Text from right to left, by its bytes.
 
-ghost use Rattle.std.specs.Prelude.{◌≡◌, ℕ, ◌<◌, IsTrue, false, length, slice_index};
+ghost use Rattle.std.specs.Prelude.{◌≡◌, ℕ, ◌<◌, ◌≤◌, IsTrue, false, length, slice_index};
 ghost use Rattle.std.specs.List.{list_any};
 ghost use Rattle.std.specs.Str.{chars};
 ghost use Rattle.encoding_mem.specs.Bidi.{is_bidi_char};
@@ -89,8 +89,9 @@ fn is_bidi_at(bytes: &[u8], at: usize) -> bool
     is_bidi_bytes(bytes[at], byte_at(bytes, at + 1), byte_at(bytes, at + 2))
 }
 
-// Whether one begins somewhere.
+// Whether one begins somewhere in bytes that are not short.
 fn any_bidi_at(bytes: &[u8]) -> bool
+    requires { 18 ≤ length bytes.now }
     ensures none { result ≡ false → (k : ℕ) → k < length bytes.now
         → is_bidi_at bytes.now k ≡ false }
     ensures some { IsTrue result → (k : ℕ) × IsTrue (is_bidi_at bytes.now k) }
@@ -103,20 +104,11 @@ fn any_bidi_at(bytes: &[u8]) -> bool
         at += BLOCK;
     }
     // The last block may begin within what was tested. It ends before the last two bytes.
-    if bytes.len() > BLOCK + 1 {
-        let last = bytes.len() - 2;
-        if any_bidi_in(&bytes[last - BLOCK..]) {
-            return true;
-        }
-        return is_bidi_at(bytes, last) || is_bidi_at(bytes, last + 1);
+    let last = bytes.len() - 2;
+    if any_bidi_in(&bytes[last - BLOCK..]) {
+        return true;
     }
-    'bytes: while at < bytes.len() {
-        if is_bidi_at(bytes, at) {
-            return true;
-        }
-        at += 1;
-    }
-    false
+    is_bidi_at(bytes, last) || is_bidi_at(bytes, last + 1)
 }
 
 // Whether some character of a text is written from right to left.

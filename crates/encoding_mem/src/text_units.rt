@@ -1,14 +1,15 @@
 //! Text in units of UTF-16, by runs of characters of one length in bytes.
 
-ghost use Rattle.std.specs.Prelude.{◌≡◌, ℕ, ◌+◌, ◌<◌, ◌≤◌, IsTrue, List, ◌++◌, length, drop, slice_index};
+ghost use Rattle.std.specs.Prelude.{◌≡◌, ℕ, ◌+◌, ◌<◌, ◌≤◌, IsTrue, List, ◌++◌, length, drop, slice_index, take};
+ghost use Rattle.std.specs.Char.Escape.{encode_utf16};
 ghost use Rattle.std.specs.Char.{encode_utf8};
 ghost use Rattle.std.specs.Str.{IsCharBoundary};
 ghost use Rattle.encoding_mem.specs.TextUnits.{IsInUnits, size_from_lead};
+ghost use Rattle.encoding_mem.specs.Writing.{len_utf16};
 
 use crate::first::{BYTE_LANES, first_byte_from, lanes_below};
 use crate::latin1_conversions::convert_latin1_to_utf16;
 use crate::source::first_char;
-use crate::utf8_conversions::put_units;
 use std::simd::prelude::*;
 
 /// How many bytes the character has that this byte begins.
@@ -103,6 +104,28 @@ pub(crate) fn put_ascii(text: &str, at: usize, dst: &mut [u16], to: usize) -> (u
     let run = first_byte_from(&bytes[at..], 0x80);
     convert_latin1_to_utf16(&bytes[at..at + run], &mut dst[to..]);
     (at + run, to + run)
+}
+
+// Puts the units of a character at an offset, where there is room for them, and returns the offset
+// behind them.
+#[inline(always)]
+fn put_units(dst: &mut [u16], at: usize, c: char) -> usize
+    requires { at + len_utf16 c ≤ length dst.old }
+    ensures end { result ≡ at + len_utf16 c }
+    ensures prefix { take result dst.new ≡ take at dst.old ++ encode_utf16 c }
+    ensures back { drop result dst.new ≡ drop result dst.old }
+    ensures size { length dst.new ≡ length dst.old }
+{
+    let code = u32::from(c);
+    if code < 0x1_0000 {
+        dst[at] = code as u16;
+        at + 1
+    } else {
+        let over = code - 0x1_0000;
+        dst[at] = (0xD800 + over / 0x400) as u16;
+        dst[at + 1] = (0xDC00 + over % 0x400) as u16;
+        at + 2
+    }
 }
 
 /// Puts the character at an offset, and returns the offsets behind it.

@@ -2,7 +2,6 @@
 
 ghost use Rattle.std.specs.Prelude.{◌≡◌, ℕ, ◌+◌, ◌<◌, ◌≤◌, List, ◌∷◌, ◌++◌, length, take, drop};
 ghost use Rattle.std.specs.Prelude.{MatchOption};
-ghost use Rattle.std.specs.Char.Escape.{encode_utf16};
 ghost use Rattle.std.specs.Str.{chars, IsUtf8, IsCharBoundary};
 ghost use Rattle.std.specs.Str.Lossy.{utf8_valid_len};
 ghost use Rattle.encoding_mem.specs.Conversions.{IsLongest, text_in_utf16, text_prefix};
@@ -41,28 +40,6 @@ pub fn convert_str_to_utf16(src: &str, dst: &mut [u16]) -> usize
         written = units;
     }
     written
-}
-
-/// Puts the units of a character at an offset, where there is room for them, and returns the offset
-/// behind them.
-#[inline(always)]
-pub(crate) fn put_units(dst: &mut [u16], at: usize, c: char) -> usize
-    requires { at + len_utf16 c ≤ length dst.old }
-    ensures end { result ≡ at + len_utf16 c }
-    ensures prefix { take result dst.new ≡ take at dst.old ++ encode_utf16 c }
-    ensures back { drop result dst.new ≡ drop result dst.old }
-    ensures size { length dst.new ≡ length dst.old }
-{
-    let code = u32::from(c);
-    if code < 0x1_0000 {
-        dst[at] = code as u16;
-        at + 1
-    } else {
-        let over = code - 0x1_0000;
-        dst[at] = (0xD800 + over / 0x400) as u16;
-        dst[at + 1] = (0xDC00 + over % 0x400) as u16;
-        at + 2
-    }
 }
 
 /// Converts UTF-8 to UTF-16 at the start of `dst`, and returns how many units were written, or

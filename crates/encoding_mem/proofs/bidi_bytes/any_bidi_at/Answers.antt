@@ -22,13 +22,5 @@ returns-else-is_bidi_at-clause-none c = λ no k less.
     let P = λ (j : ℕ). is_bidi_at bytes j ≡ false in
     let before = λ (j : ℕ) (e : j < (length bytes - 2) - 16). c.wide.invariant.none j (omega (arith, e, c.wide-test.false)) in
     let block = block_none bytes ((length bytes - 2) - 16) 16 before (c.if-any_bidi_in-2.ensures.none refl) in
-    let early = λ (j : ℕ) (e : j < length bytes - 2). block j (omega (arith, e, c.if-bytes.true)) in
-    one_more P ((length bytes - 2) + 1) (one_more P (length bytes - 2) early (sym c.if-is_bidi_at.ensures)) (sym c.is_bidi_at-else-is_bidi_at.ensures ∙ no) k (omega (arith, less, c.if-bytes.true))
-
-pub bytes-preserved : goal.bytes-preserved
-bytes-preserved c =
-    let bytes = c.args.bytes.now in
-    record {
-      within = omega (arith, c.bytes-test.true);
-      none = one_more (λ k. is_bidi_at bytes k ≡ false) c.bytes.at c.bytes.invariant.none (sym c.if-is_bidi_at-2.ensures);
-    }
+    let early = λ (j : ℕ) (e : j < length bytes - 2). block j (omega (arith, e, c.requires)) in
+    one_more P ((length bytes - 2) + 1) (one_more P (length bytes - 2) early (sym c.if-is_bidi_at.ensures)) (sym c.is_bidi_at-else-is_bidi_at.ensures ∙ no) k (omega (arith, less, c.requires))

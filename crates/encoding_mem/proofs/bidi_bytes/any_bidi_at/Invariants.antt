@@ -10,12 +10,3 @@ invariant-wide l = record {
 
 abbrev pub decreases-wide : goal.decreases-wide
 decreases-wide l = length l.bytes - l.at
-
-abbrev pub invariant-bytes : goal.invariant-bytes
-invariant-bytes l = record {
-  within : l.at ≤ length l.bytes;
-  none : (k : ℕ) → k < l.at → is_bidi_at l.bytes k ≡ false;
-}
-
-abbrev pub decreases-bytes : goal.decreases-bytes
-decreases-bytes l = length l.bytes - l.at
