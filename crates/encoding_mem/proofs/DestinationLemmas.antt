@@ -173,7 +173,7 @@ past_set [] (suc n) y = refl
 past_set (x ∷ xs) zero y = refl
 past_set (x ∷ xs) (suc n) y = past_set xs n y
 
-drop_past_set : (xs : List ℕ) (n y : ℕ) → drop (n + 1) (set xs n y) ≡ drop (n + 1) xs
+pub drop_past_set : (xs : List ℕ) (n y : ℕ) → drop (n + 1) (set xs n y) ≡ drop (n + 1) xs
 drop_past_set xs n y = let e : suc n ≡ n + 1 = omega arith in subst (λ m. drop m (set xs n y) ≡ drop m xs) e (past_set xs n y)
 
 stops : (b : ℕ) → (b < 0x80) ⊎ (0xBF < b) → is_in_range 0x80 0xBF b ≡ false

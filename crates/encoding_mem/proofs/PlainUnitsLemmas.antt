@@ -1,10 +1,10 @@
 -- Blocks of units in UTF-8.
-use Rattle.std.proofs.Common.{◌≡◌, ℕ, ◌+◌, ◌*◌, ◌-◌, ◌/◌, ◌%◌, ◌<◌, ◌≤◌, List, [], ◌∷◌, ◌++◌, length, take, drop, set, get_or, inl, inr, refl, sym, ◌∙◌, ap, arith, length-drop, encode_utf8_all}
+use Rattle.std.proofs.Common.{◌≡◌, ℕ, ◌+◌, ◌*◌, ◌-◌, ◌/◌, ◌%◌, ◌<◌, ◌≤◌, List, [], ◌∷◌, ◌++◌, length, take, drop, set, get_or, inl, inr, refl, sym, ◌∙◌, ap, arith, append_assoc, length-append, length-drop, encode_utf8_all}
 use Rattle.std.proofs.lemmas.Bool.{cases_lt, le-leb, lt-leb}
-use Rattle.std.proofs.lemmas.Str.{encode_ascii, encodes-IsAscii}
-use Rattle.std.proofs.lemmas.List.{get_or-drop, drop-drop}
+use Rattle.std.proofs.lemmas.Str.{encode_ascii, encodes-IsAscii, encodes-append, length-encode}
+use Rattle.std.proofs.lemmas.List.{get_or-drop, drop-drop, length-set, take_more_set}
 use Rattle.std.proofs.lemmas.Bool.Decides.{nat_tests}
-use Rattle.std.specs.Char.{len_utf8}
+use Rattle.std.specs.Char.{encode_utf8, len_utf8}
 use Rattle.std.specs.Char.Utf16.{utf16_lossy_chars}
 use lib.Dec.{leb}
 use mir.Val.{bool_byte}
@@ -13,8 +13,9 @@ use Rattle.encoding_mem.specs.Writing.{Adds, len_utf16}
 use Rattle.encoding_mem.specs.laws.Utf8.{encode_two}
 use Rattle.encoding_mem.proofs.AsciiLemmas.{ascii_take}
 use Rattle.encoding_mem.proofs.AsciiRunLemmas.{run_units}
-use Rattle.encoding_mem.proofs.UnitCopyLemmas.{IsCopiedTo}
+use Rattle.encoding_mem.proofs.DestinationLemmas.{drop_past_set}
 use Rattle.encoding_mem.proofs.UnitPrefixLemmas.{first_of, reads_text}
+use Rattle.encoding_mem.proofs.UnitWritingLemmas.{IsWritten}
 use Rattle.encoding_mem.proofs.Utf16Lemmas.{plain_unit}
 
 -- the lead is written last, over what an ASCII unit has there already
@@ -55,9 +56,12 @@ has_character us some none =
     let same : first.0 ∷ first.1 ≡ [] = sym first.2 ∙ none in
     cc
 
--- a character of one unit has three bytes at most, and one of two units has four
-pub bytes_of_units : (c n : ℕ) → n ≡ len_utf16 c → (len_utf8 c ≤ n + 2) × (n ≤ 2)
+-- a character of one unit has one to three bytes, and one of two units has four
+pub bytes_of_units : (c n : ℕ) → n ≡ len_utf16 c → (len_utf8 c ≤ n + 2) × (n ≤ 2) × (n ≤ len_utf8 c)
 bytes_of_units c n size = grind (arith, nat_tests)
+
+pub char_bytes : (c : ℕ) → length (encode_utf8_all (c ∷ [])) ≡ len_utf8 c
+char_bytes c = length-append (encode_utf8 c) [] ∙ omega (arith, length-encode c)
 
 -- so there is room for a character of n units and so many bytes, where three bytes a unit are left, and one more where it may end behind them
 pub room_for_char : (len end room read written n bytes : ℕ) → read < end → read + n ≤ len → bytes ≤ n + 2 → n ≤ 2 → written ≤ 3 * read
@@ -67,7 +71,29 @@ room_for_char len end room read written n bytes before inside size few_units few
   | inr whole ↦ omega arith
 ]
 
--- ASCII that is copied is the text of its units
-pub text_of_run : (us old : List ℕ) (n : ℕ) (dst : List ℕ) → IsCopiedTo us old n dst → utf16_lossy_chars us ≡ take n dst ++ utf16_lossy_chars (drop n us)
-text_of_run us old n dst done =
-    run_units n us done.within (ascii_take us n done.within done.low) ∙ ap (λ l. l ++ utf16_lossy_chars (drop n us)) (sym done.copied)
+-- a run of ASCII is put
+pub ascii_written : (us old : List ℕ) (n : ℕ) → n ≤ length us → n ≤ length old → ((k : ℕ) → k < n → get_or us k 0 < 0x80) → take n old ≡ take n us → IsWritten us old n old n
+ascii_written us old n within room low put = record {
+  within = within;
+  size = refl;
+  room = room;
+  behind = refl;
+  text = take n us;
+  split = run_units n us within (ascii_take us n within low);
+  bytes = put ∙ sym (encodes-IsAscii (take n us) (ascii_take us n within low));
+}
+
+-- an ASCII unit more
+pub one_written : (us old : List ℕ) (read : ℕ) (new : List ℕ) (written : ℕ) → IsWritten us old read new written → read < length us → get_or us read 0 < 0x80 → written < length new
+    → IsWritten us old (read + 1) (set new written (get_or us read 0)) (written + 1)
+one_written us old read new written w inside low fits =
+    let u = get_or us read 0 in
+    record {
+      within = omega arith;
+      size = length-set new written u ∙ w.size;
+      room = omega (arith, length-set new written u);
+      behind = drop_past_set new written u ∙ sym (drop-drop 1 written new) ∙ ap (drop 1) w.behind ∙ drop-drop 1 written old;
+      text = w.text ++ (u ∷ []);
+      split = w.split ∙ ap (λ l. w.text ++ l) (plain_at us read inside (omega arith)) ∙ sym (append_assoc w.text (u ∷ []) _);
+      bytes = take_more_set new written u fits ∙ ap (λ l. l ++ (u ∷ [])) w.bytes ∙ ap (λ l. encode_utf8_all w.text ++ l) (sym (ap (λ l. l ++ []) (encode_ascii u low))) ∙ sym (encodes-append w.text (u ∷ []));
+    }

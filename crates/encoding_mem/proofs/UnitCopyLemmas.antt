@@ -1,10 +1,12 @@
 -- Copies of ASCII units as bytes, a block at a time.
-use Rattle.std.proofs.Common.{◌≡◌, ℕ, ◌+◌, ◌-◌, ◌<◌, ◌≤◌, inl, inr, List, ◌++◌, length, take, drop, get_or, refl, sym, ◌∙◌, ap, arith, length-drop}
+use Rattle.std.proofs.Common.{◌≡◌, ℕ, suc, ◌+◌, ◌-◌, ◌<◌, ◌≤◌, inl, inr, List, [], ◌∷◌, ◌++◌, length, take, drop, get_or, refl, sym, ◌∙◌, ap, arith, length-drop, bit_and, map, replicate}
 use Rattle.std.proofs.lemmas.Bool.{cases_lt}
-use Rattle.std.proofs.lemmas.List.{get_or-take, get_or-drop, length-take-le, take_at, drop_at, take_rest}
-use Rattle.std.proofs.lemmas.Simd.{put_chunk_is, Each1-from_get_or}
+use Rattle.std.proofs.lemmas.List.{get_or-take, get_or-drop, length-take-le, take_at, drop_at, take_rest, take-map, take-take, take-append-le, length-map}
+use Rattle.std.proofs.lemmas.Nat.{and_mask}
+use Rattle.std.proofs.lemmas.Simd.{put_chunk_is, Each1-from_get_or, Each1-all, Each1-zip2, Each2-splat, zip2_splat}
+use Rattle.std.proofs.Math.Facts.{Fits-mask}
 use borrow.Rule.Slice.PartMut.{put_mid}
-use lib.Lanes.{put_chunk, Each1}
+use lib.Lanes.{put_chunk, zip2, Each1}
 use mir.Syntax.{w8}
 use mir.Val.{Fits}
 use Rattle.encoding_mem.proofs.DestinationLemmas.{take_into, drop_into}
@@ -23,6 +25,34 @@ narrowed units dst n lanes within fits are =
     let size : length lanes ≡ n = ap length are ∙ length-take-le n units within in
     let put : put_chunk 0 dst lanes ≡ lanes ++ drop n dst = put_chunk_is 0 dst lanes (omega arith) ∙ ap (λ m. lanes ++ drop m dst) size in
     (ap (take n) put ∙ take_at lanes (drop n dst) n size ∙ are, ap (drop n) put ∙ drop_at lanes (drop n dst) n size)
+
+-- the low seven bits of each unit: those of ASCII are the unit
+abbrev low_bits : List ℕ → List ℕ
+low_bits units = map (λ u. bit_and u 127) units
+
+low_bits_same : (units : List ℕ) → ((k : ℕ) → k < length units → get_or units k 0 < 0x80) → low_bits units ≡ units
+low_bits_same [] low = refl
+low_bits_same (u ∷ units) low =
+    let here : bit_and u 127 ≡ u = omega (arith, and_mask u 7, low 0 (omega arith)) in
+    ap (λ v. v ∷ low_bits units) here ∙ ap (λ l. u ∷ l) (low_bits_same units (λ k inside. low (suc k) (omega arith)))
+
+-- they fit bytes
+pub low_bits_fit : (units : List ℕ) (n : ℕ) → Each1 (Fits w8) (zip2 bit_and (take n units) (replicate n 127))
+low_bits_fit units n =
+    Each1-zip2 bit_and (Fits w8) (take n units) (replicate n 127) (Each2-splat (λ u m. Fits w8 (bit_and u m)) (take n units) n 127 (Each1-all (λ u. Fits w8 (bit_and u 127)) (λ u. Fits-mask u 7 tt) (take n units)))
+
+-- a vector of units, of which the low seven bits are stored at the start of a destination: a run of ASCII is copied
+pub narrowed_run : (units dst : List ℕ) (n run : ℕ) (lanes : List ℕ) → n ≤ length units → n ≤ length dst → run ≤ n → ((k : ℕ) → k < run → get_or units k 0 < 0x80)
+    → lanes ≡ zip2 bit_and (take n units) (replicate n 127)
+    → (take run (put_chunk 0 dst lanes) ≡ take run units) × (drop n (put_chunk 0 dst lanes) ≡ drop n dst)
+narrowed_run units dst n run lanes within fits inside low are =
+    let bits : lanes ≡ low_bits (take n units) = are ∙ zip2_splat bit_and (take n units) n 127 (length-take-le n units within) in
+    let size : length lanes ≡ n = ap length bits ∙ length-map (take n units) (λ u. bit_and u 127) ∙ length-take-le n units within in
+    let put : put_chunk 0 dst lanes ≡ lanes ++ drop n dst = put_chunk_is 0 dst lanes (omega arith) ∙ ap (λ m. lanes ++ drop m dst) size in
+    let prefix : take run lanes ≡ low_bits (take run units) =
+    ap (take run) bits ∙ take-map (λ u. bit_and u 127) run (take n units) ∙ ap low_bits (take-take run n units inside) in
+    let same = low_bits_same (take run units) (λ k here. omega (arith, here, length-take-le run units (omega arith), get_or-take run units k 0 (omega (arith, here, length-take-le run units (omega arith))), low k (omega (arith, here, length-take-le run units (omega arith))))) in
+    (ap (take run) put ∙ take-append-le run lanes (drop n dst) (omega arith) ∙ prefix ∙ same, ap (drop n) put ∙ drop_at lanes (drop n dst) n size)
 
 -- so many units are copied, and the destination is otherwise as it was
 pub record IsCopiedTo (src old : List ℕ) (at : ℕ) (dst : List ℕ) : Type 0 where

@@ -112,3 +112,6 @@ is_longest us old read new written w r =
 pub few_bytes : (us new : List ℕ) (read written : ℕ) → ((k : ℕ) → get_or us k 0 < 0x1_0000) → read ≤ length us → written ≤ length new → take written new ≡ units_in_utf8 (take read us) → written ≤ 3 * read
 few_bytes us new read written low within room is =
     omega (arith, length-take-le written new room, ap length is, units_size (take read us) (take_low 0x1_0000 read us (omega arith) low), length-take-le read us within)
+
+pub few_written : (us old : List ℕ) (read : ℕ) (new : List ℕ) (written : ℕ) → ((k : ℕ) → get_or us k 0 < 0x1_0000) → IsWritten us old read new written → written ≤ 3 * read
+few_written us old read new written low w = few_bytes us new read written low w.within w.room (written_units us old read new written w)

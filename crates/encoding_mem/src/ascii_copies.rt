@@ -4,7 +4,7 @@ ghost use Rattle.std.specs.Prelude.{◌≡◌, ℕ, ◌<◌, ◌≤◌, IsTrue, 
 ghost use Rattle.std.specs.Str.{IsAscii};
 ghost use Rattle.encoding_mem.specs.LongestPrefix.{IsLongestPrefix};
 
-use crate::first::{UNIT_BLOCK, all_units_below, first_byte_from};
+use crate::first::{UNIT_BLOCK, all_units_below, first_byte_from, unit_lanes_below};
 use std::simd::prelude::*;
 
 /// Copies the longest prefix of `src` that is ASCII to the start of `dst`, and returns its length
@@ -77,4 +77,21 @@ pub(crate) fn narrow_block(units: &[u16], dst: &mut [u8]) -> bool
     }
     block.cast::<u8>().copy_to_slice(dst);
     true
+}
+
+// Copies the ASCII at the start of a vector of units to the start of `dst`, each as a byte, and
+// returns how many units it has. Bytes without a meaning stand behind them, as many as there are
+// lanes: so no branch asks how many they are.
+#[inline(always)]
+pub(crate) fn narrow_lanes(units: &[u16], dst: &mut [u8]) -> usize
+    requires units { 8 ≤ length units.now }
+    requires room { 8 ≤ length dst.old }
+    ensures within { result ≤ 8 }
+    ensures low { (k : ℕ) → k < result → slice_index units.now k < 0x80 }
+    ensures copied { take result dst.new ≡ take result units.now }
+    ensures behind { drop 8 dst.new ≡ drop 8 dst.old }
+{
+    let lanes = u16x8::from_slice(units);
+    (lanes & u16x8::splat(0x7F)).cast::<u8>().copy_to_slice(dst);
+    unit_lanes_below(lanes, 0x80)
 }

@@ -16,7 +16,8 @@ pub(crate) const UNIT_BLOCK: usize = 32;
 /// How many bytes a smaller vector has.
 pub(crate) const BYTE_LANES: usize = 16;
 
-const UNIT_LANES: usize = 8;
+/// How many units a smaller vector has.
+pub(crate) const UNIT_LANES: usize = 8;
 
 #[inline(always)]
 fn all_bytes_below(block: u8x64, limit: u8) -> bool
@@ -46,9 +47,9 @@ pub(crate) fn lanes_below(block: u8x16, limit: u8) -> usize
     }
 }
 
-// The same of units.
+/// The same of units.
 #[inline(always)]
-fn unit_lanes_below(block: u16x8, limit: u16) -> usize
+pub(crate) fn unit_lanes_below(block: u16x8, limit: u16) -> usize
     ensures { result ≡ prefix_len (λ u. not (nat_le limit u)) block }
 {
     let marks = block.simd_ge(u16x8::splat(limit)).to_bitmask();

@@ -1,22 +1,21 @@
 //! Blocks of UTF-16 in UTF-8, where there is room for whatever they are.
 
-ghost use Rattle.std.specs.Prelude.{◌≡◌, ℕ, ◌*◌, ◌<◌, ◌≤◌, List, [], ◌∷◌, ◌++◌};
+ghost use Rattle.std.specs.Prelude.{◌≡◌, ℕ, ◌*◌, ◌<◌, ◌≤◌, [], ◌∷◌};
 ghost use Rattle.std.specs.Prelude.{length, take, drop, slice_index};
 ghost use Rattle.std.specs.Char.{len_utf8};
-ghost use Rattle.std.specs.Char.Utf16.{utf16_lossy_chars};
-ghost use Rattle.std.specs.Str.{IsAscii, encode_utf8_all};
+ghost use Rattle.std.specs.Str.{encode_utf8_all};
 ghost use Rattle.encoding_mem.specs.Conversions.{IsUnitBoundary, units_in_utf8};
 ghost use Rattle.encoding_mem.specs.Writing.{Adds};
 
-use crate::ascii_copies::narrow_block;
-use crate::first::{UNIT_BLOCK, all_units_below};
+use crate::ascii_copies::{narrow_block, narrow_lanes};
+use crate::first::{UNIT_BLOCK, UNIT_LANES, all_units_below};
 use crate::sink::Sink;
 use crate::source::first_of_units;
 use crate::utf8_sink::Utf8Sink;
 use std::simd::prelude::*;
 
-// Where fewer units than this are left, their characters go one by one: a short text is not worth
-// the test of a whole block.
+// Where fewer units than this are left, those that are not all ASCII go by smaller vectors: a short
+// text is not worth another test of a whole block.
 const MANY: usize = 64;
 
 // Puts a unit below 800 hex at the start, and returns its length: no branch asks which it is.
@@ -67,64 +66,66 @@ pub(crate) fn put_char(c: char, dst: &mut [u8]) -> usize
     sink.written()
 }
 
-// Copies the run of ASCII at the start of units, as much of it as fits, and returns its length. It
-// is mostly short, so each unit is tested by itself.
+// Puts the characters behind a run of ASCII, whose bytes are put already, until so many units are
+// read, or one more where the last of them is the first of a pair: its four bytes are one more than
+// three a unit. Returns how many units were read and how many bytes were written, with the run.
 #[inline(always)]
-fn copy_run(units: &[u16], dst: &mut [u8]) -> usize
-    ensures within { result ≤ length units.now }
-    ensures fits { result ≤ length dst.new }
-    ensures behind { drop result dst.new ≡ drop result dst.old }
-    ensures ascii { IsAscii (take result dst.new) }
-    ensures text { utf16_lossy_chars units.now
-        ≡ take result dst.new ++ utf16_lossy_chars (drop result units.now) }
-    ensures some { (c : ℕ) (rest : List ℕ) → utf16_lossy_chars units.now ≡ c ∷ rest → c < 0x80
-        → 0 < length dst.old → 0 < result }
-{
-    let end = units.len().min(dst.len());
-    let mut run = 0;
-    'units: while run < end && units[run] < 0x80 {
-        dst[run] = units[run] as u8;
-        run += 1;
-    }
-    run
-}
-
-// Puts characters at the start until so many units are read, or one more where the last of them is
-// the first of a pair: its four bytes are one more than three a unit. Returns how many units were
-// read and how many bytes were written.
-#[inline(always)]
-pub(crate) fn put_chars(units: &[u16], end: usize, dst: &mut [u8]) -> (usize, usize)
+pub(crate) fn put_chars(units: &[u16], run: usize, end: usize, dst: &mut [u8]) -> (usize, usize)
     requires units { end ≤ length units.now }
+    requires run { run ≤ end }
+    requires ascii { (k : ℕ) → k < run → slice_index units.now k < 0x80 }
+    requires put { take run dst.old ≡ take run units.now }
     requires room { 3 * end ≤ length dst.old }
     requires more_room { end < length units.now → 3 * end < length dst.old }
     ensures reaches { end ≤ result.0 }
     ensures within { result.0 ≤ length units.now }
     ensures boundary { IsUnitBoundary units.now result.0 }
     ensures fits { result.1 ≤ length dst.new }
+    ensures many { result.0 ≤ result.1 }
     ensures text { take result.1 dst.new ≡ units_in_utf8 (take result.0 units.now) }
     ensures behind { drop result.1 dst.new ≡ drop result.1 dst.old }
 {
-    let mut read = 0;
-    let mut written = 0;
+    let mut read = run;
+    let mut written = run;
     'characters: while read < end {
+        let unit = units[read];
+        if unit < 0x80 {
+            dst[written] = unit as u8;
+            written += 1;
+            read += 1;
+            continue;
+        }
         let (c, count) = match first_of_units(&units[read..]) {
             Some(first) => first,
             None => unreachable!(),
         };
-        if u32::from(c) < 0x80 {
-            let run = copy_run(&units[read..], &mut dst[written..]);
-            read += run;
-            written += run;
-        } else {
-            written += put_char(c, &mut dst[written..]);
-            read += count;
-        }
+        written += put_char(c, &mut dst[written..]);
+        read += count;
     }
     (read, written)
 }
 
-// Writes a block of units in UTF-8 to the start of `dst`, and one more where the block ends inside
-// a pair. Returns how many units were read and how many bytes were written.
+// Writes a vector of units in UTF-8 to the start of `dst`, and one more where it ends inside a
+// pair. Returns how many units were read and how many bytes were written.
+#[inline(always)]
+pub(crate) fn put_lanes(units: &[u16], dst: &mut [u8]) -> (usize, usize)
+    requires units { 8 ≤ length units.now }
+    requires room { 32 ≤ length dst.old }
+    ensures some { 0 < result.0 }
+    ensures within { result.0 ≤ length units.now }
+    ensures boundary { IsUnitBoundary units.now result.0 }
+    ensures fits { result.1 ≤ length dst.new }
+    ensures text { take result.1 dst.new ≡ units_in_utf8 (take result.0 units.now) }
+    ensures behind { drop result.1 dst.new ≡ drop result.1 dst.old }
+{
+    // What stands behind the run is written over, since no unit has less than a byte.
+    let run = narrow_lanes(units, dst);
+    put_chars(units, run, UNIT_LANES, dst)
+}
+
+// Writes a block of units in UTF-8 to the start of `dst`, or a vector of them where few are left,
+// and one more where this ends inside a pair. Returns how many units were read and how many bytes
+// were written.
 #[inline(always)]
 pub(crate) fn put_block(units: &[u16], dst: &mut [u8]) -> (usize, usize)
     requires units { 32 ≤ length units.now }
@@ -139,8 +140,11 @@ pub(crate) fn put_block(units: &[u16], dst: &mut [u8]) -> (usize, usize)
     if narrow_block(units, dst) {
         return (UNIT_BLOCK, UNIT_BLOCK);
     }
-    if units.len() >= MANY && all_units_below(u16x32::from_slice(units), 0x800) {
+    if units.len() < MANY {
+        return put_lanes(units, dst);
+    }
+    if all_units_below(u16x32::from_slice(units), 0x800) {
         return (UNIT_BLOCK, put_short_block(units, dst));
     }
-    put_chars(units, UNIT_BLOCK, dst)
+    put_chars(units, 0, UNIT_BLOCK, dst)
 }

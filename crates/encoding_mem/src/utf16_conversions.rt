@@ -3,8 +3,8 @@
 ghost use Rattle.std.specs.Prelude.{◌≡◌, ◌*◌, ◌≤◌, length, take, drop};
 ghost use Rattle.encoding_mem.specs.Conversions.{IsLongest, IsUnitBoundary, units_in_utf8};
 
-use crate::first::UNIT_BLOCK;
-use crate::plain_units::{put_block, put_char, put_chars};
+use crate::first::{UNIT_BLOCK, UNIT_LANES};
+use crate::plain_units::{put_block, put_char, put_chars, put_lanes};
 use crate::source::first_of_units;
 
 /// Converts the longest prefix of UTF-16 whose UTF-8 fits into `dst`, and returns how many units
@@ -20,15 +20,21 @@ pub fn convert_utf16_to_utf8_partial(src: &[u16], dst: &mut [u8]) -> (usize, usi
 {
     let mut read = 0;
     let mut written = 0;
-    // A block has four bytes of room for each unit, so none of its characters asks for room.
+    // A block has four bytes of room for each unit, so none of its characters asks for room. Nor do
+    // those of a vector, by which what is too short for a block goes.
     'wide: while src.len() - read >= UNIT_BLOCK && dst.len() - written >= 4 * UNIT_BLOCK {
         let (units, bytes) = put_block(&src[read..], &mut dst[written..]);
         read += units;
         written += bytes;
     }
+    'lanes: while src.len() - read >= UNIT_LANES && dst.len() - written >= 4 * UNIT_LANES {
+        let (units, bytes) = put_lanes(&src[read..], &mut dst[written..]);
+        read += units;
+        written += bytes;
+    }
     // Nor do the characters behind it, where three bytes a unit are left.
     if src.len() - read <= (dst.len() - written) / 3 {
-        let (units, bytes) = put_chars(&src[read..], src.len() - read, &mut dst[written..]);
+        let (units, bytes) = put_chars(&src[read..], 0, src.len() - read, &mut dst[written..]);
         read += units;
         written += bytes;
     }

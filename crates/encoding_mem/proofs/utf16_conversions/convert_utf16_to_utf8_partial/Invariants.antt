@@ -8,6 +8,12 @@ invariant-wide l = IsWritten l.src l.initial.dst l.read l.dst l.written
 abbrev pub decreases-wide : goal.decreases-wide
 decreases-wide l = length l.src - l.read
 
+abbrev pub invariant-lanes : goal.invariant-lanes
+invariant-lanes l = IsWritten l.src l.fn.dst l.read l.dst l.written
+
+abbrev pub decreases-lanes : goal.decreases-lanes
+decreases-lanes l = length l.src - l.read
+
 abbrev pub invariant-characters : goal.invariant-characters
 invariant-characters l = IsWritten l.src l.fn.dst l.read l.dst l.written
 
