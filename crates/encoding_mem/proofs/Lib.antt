@@ -10,6 +10,7 @@ pub mod AsciiRunLemmas
 pub mod PrefixLemmas
 pub mod Latin1Lemmas
 pub mod Latin1BytesLemmas
+pub mod Latin1WritingLemmas
 pub mod BidiLemmas
 pub mod BidiBytesLemmas
 pub mod LongestPrefixLemmas

@@ -2,18 +2,17 @@
 use Rattle.std.proofs.Common.{◌≡◌, ℕ, zero, suc, ◌+◌, ◌*◌, ◌-◌, ◌<◌, ◌≤◌, inl, inr, List, [], ◌∷◌, ◌++◌, length, take, drop, get_or, refl, sym, ◌∙◌, ap, subst, arith, length-append, length-drop, encode_utf8_all}
 use Rattle.std.specs.Char.{encode_utf8, len_utf8}
 use Rattle.std.specs.Char.Escape.{encode_utf16}
-use Rattle.std.specs.Str.{chars, IsAscii, IsUtf8}
+use Rattle.std.specs.Str.{chars, IsUtf8}
 use Rattle.std.proofs.lemmas.Bool.{cases_lt}
 use Rattle.std.proofs.lemmas.Bool.Decides.{nat_tests}
-use Rattle.std.proofs.lemmas.List.{append-nil, take_more, take_at, drop_at, take-append-drop, length-take-le, take_all, get_or-drop, drop-drop, take_rest}
-use Rattle.std.proofs.lemmas.Str.{encodes-append, encodes-IsAscii, encodes-chars, length-encode, length-le-encodes}
+use Rattle.std.proofs.lemmas.List.{append-nil, take_more, take_at, drop_at, take-append-drop, length-take-le, take_all, get_or-drop, drop-drop}
+use Rattle.std.proofs.lemmas.Str.{encodes-append, encodes-chars, length-encode, length-le-encodes}
 use Rattle.std.proofs.Math.Seq.{take-append-add}
 use borrow.Rule.Slice.PartMut.{put_mid, post_of}
 use Rattle.encoding_mem.specs.Conversions.{IsLongest}
 use Rattle.encoding_mem.specs.Latin1.{AllLatin1}
 use Rattle.encoding_mem.specs.Writing.{Adds, len_utf16, encode_utf16_all}
 use Rattle.encoding_mem.specs.laws.Writing.{encode_utf16_all-append, length-encode_utf16}
-use Rattle.encoding_mem.proofs.AsciiRunLemmas.{run_is}
 
 -- What was written from the start on.
 pub adds_prefix : (old text new : List ℕ) (k : ℕ) → Adds old 0 text new k → take k new ≡ text
@@ -68,18 +67,6 @@ whole_latin1 src out room n low wide l is =
     let n_is = reads_whole (λ _. Unit {0}) (λ i. length (encode_utf8_all (take i src))) (length src) room n l tt fits in
     is ∙ ap (λ m. encode_utf8_all (take m src)) n_is ∙ ap encode_utf8_all all
 
--- A run at the start of what is left.
-pub run_taken : (src run : List ℕ) (n m : ℕ) → n ≤ length src → m ≤ length (drop n src) → run ≡ take (length run) (take m (take (length src - n) (drop n src))) → take (n + length run) src ≡ take n src ++ run
-run_taken src run n m h k is =
-    take_sum n (length run) src h ∙ ap (λ l. take n src ++ l) (sym (run_is (drop n src) (take (length src - n) (drop n src)) run m (take_rest src n) k is))
-
-pub run_within : (src run : List ℕ) (n : ℕ) → n ≤ length src → take (n + length run) src ≡ take n src ++ run → n + length run ≤ length src
-run_within src run n h is = elim (cases_lt (length src) (n + length run)) [
-  | inl past ↦ (let all : length (take (n + length run) src) ≡ length src = ap length (take_all (n + length run) src (omega arith)) in
-      omega (arith, all, ap length is, length-append (take n src) run, length-take-le n src h))
-  | inr within ↦ within
-]
-
 -- Text that is narrowed to bytes.
 pub chars_short : (text : List ℕ) → IsUtf8 text → length (chars text) ≤ length text
 chars_short text utf8 = omega (arith, length-le-encodes (chars text), ap length (encodes-chars text utf8))
@@ -106,11 +93,3 @@ whole_run run bytes is len = is ∙ ap (λ n. take n bytes) len ∙ take_all (le
 pub encode_next : (bytes : List ℕ) (i : ℕ) → i < length bytes → encode_utf8_all (take i bytes) ++ encode_utf8 (get_or bytes i 0) ≡ encode_utf8_all (take (i + 1) bytes)
 encode_next bytes i h =
     sym (ap encode_utf8_all (take_more bytes i 0 h) ∙ encodes-append (take i bytes) (get_or bytes i 0 ∷ []) ∙ ap (λ l. encode_utf8_all (take i bytes) ++ l) (append-nil (encode_utf8 (get_or bytes i 0))))
-
--- the UTF-8 of a run of ASCII more
-pub run_next : (src run : List ℕ) (n : ℕ) → n ≤ length src → run ≡ take (length run) (take (length src - n) (drop n src)) → take (n + length run) src ≡ take n src ++ run
-run_next src run n within is = take_sum n (length run) src within ∙ ap (λ l. take n src ++ l) (sym (is ∙ ap (take (length run)) (take_rest src n)))
-
-pub encode_run : (src run : List ℕ) (n : ℕ) → IsAscii run → take (n + length run) src ≡ take n src ++ run → encode_utf8_all (take n src) ++ run ≡ encode_utf8_all (take (n + length run) src)
-encode_run src run n low is =
-    sym (ap encode_utf8_all is ∙ encodes-append (take n src) run ∙ ap (λ l. encode_utf8_all (take n src) ++ l) (encodes-IsAscii run low))

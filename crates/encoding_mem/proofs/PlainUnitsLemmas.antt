@@ -23,7 +23,7 @@ put_one : (a b : ℕ) (dst : List ℕ) → 2 ≤ length dst → Adds dst 0 (a �
 put_one a b [] room = absurd (omega arith)
 put_one a b (x ∷ dst) room = record { counted = refl; within = omega arith; list = refl }
 
-put_two : (a b : ℕ) (dst : List ℕ) → 2 ≤ length dst → Adds dst 0 (a ∷ b ∷ []) (set (set dst 1 b) 0 a) 2
+pub put_two : (a b : ℕ) (dst : List ℕ) → 2 ≤ length dst → Adds dst 0 (a ∷ b ∷ []) (set (set dst 1 b) 0 a) 2
 put_two a b [] room = absurd (omega arith)
 put_two a b (x ∷ []) room = absurd (omega arith)
 put_two a b (x ∷ y ∷ dst) room = record { counted = refl; within = omega arith; list = refl }

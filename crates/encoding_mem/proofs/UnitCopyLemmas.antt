@@ -1,7 +1,7 @@
 -- Copies of ASCII units as bytes, a block at a time.
-use Rattle.std.proofs.Common.{◌≡◌, ℕ, suc, ◌+◌, ◌-◌, ◌<◌, ◌≤◌, inl, inr, List, [], ◌∷◌, ◌++◌, length, take, drop, get_or, refl, sym, ◌∙◌, ap, arith, length-drop, bit_and, map, replicate}
+use Rattle.std.proofs.Common.{◌≡◌, ℕ, suc, ◌+◌, ◌-◌, ◌<◌, ◌≤◌, inl, inr, List, [], ◌∷◌, ◌++◌, length, take, drop, set, get_or, refl, sym, ◌∙◌, ap, arith, length-drop, bit_and, map, replicate}
 use Rattle.std.proofs.lemmas.Bool.{cases_lt}
-use Rattle.std.proofs.lemmas.List.{get_or-take, get_or-drop, length-take-le, take_at, drop_at, take_rest, take-map, take-take, take-append-le, length-map}
+use Rattle.std.proofs.lemmas.List.{get_or-take, get_or-drop, length-take-le, take_at, drop_at, take_rest, take-map, take-take, take-append-le, length-map, drop-drop, length-set, take_more, take_more_set}
 use Rattle.std.proofs.lemmas.Nat.{and_mask}
 use Rattle.std.proofs.lemmas.Simd.{put_chunk_is, Each1-from_get_or, Each1-all, Each1-zip2, Each2-splat, zip2_splat}
 use Rattle.std.proofs.Math.Facts.{Fits-mask}
@@ -9,7 +9,7 @@ use borrow.Rule.Slice.PartMut.{put_mid}
 use lib.Lanes.{put_chunk, zip2, Each1}
 use mir.Syntax.{w8}
 use mir.Val.{Fits}
-use Rattle.encoding_mem.proofs.DestinationLemmas.{take_into, drop_into}
+use Rattle.encoding_mem.proofs.DestinationLemmas.{take_into, drop_into, drop_past_set}
 use Rattle.encoding_mem.proofs.LongestPrefixLemmas.{length_put, behind_more, take_sum}
 
 -- ASCII units fit bytes
@@ -54,6 +54,11 @@ narrowed_run units dst n run lanes within fits inside low are =
     let same = low_bits_same (take run units) (λ k here. omega (arith, here, length-take-le run units (omega arith), get_or-take run units k 0 (omega (arith, here, length-take-le run units (omega arith))), low k (omega (arith, here, length-take-le run units (omega arith))))) in
     (ap (take run) put ∙ take-append-le run lanes (drop n dst) (omega arith) ∙ prefix ∙ same, ap (drop n) put ∙ drop_at lanes (drop n dst) n size)
 
+-- a vector of bytes, stored at the start of a destination
+pub stored : (bytes dst : List ℕ) (n : ℕ) → n ≤ length bytes → n ≤ length dst
+    → (take n (put_chunk 0 dst (take n bytes)) ≡ take n bytes) × (drop n (put_chunk 0 dst (take n bytes)) ≡ drop n dst)
+stored bytes dst n within fits = narrowed bytes dst n (take n bytes) within fits refl
+
 -- so many units are copied, and the destination is otherwise as it was
 pub record IsCopiedTo (src old : List ℕ) (at : ℕ) (dst : List ℕ) : Type 0 where
   pub within : at ≤ length src
@@ -84,4 +89,60 @@ copied_more src old at dst ys n done room fits size low same behind =
       ];
       copied = take_into at (length dst - at) n dst ys here enough ∙ ap (λ l. l ++ take n ys) done.copied ∙ ap (λ l. take at src ++ l) (same ∙ ap (take n) (take_rest src at)) ∙ sym (take_sum at n src done.within);
       behind = behind_more at n _ dst old (drop_into at _ n dst ys here refl enough behind) done.behind;
+    }
+
+-- so many bytes are copied, and as many others as the source has may have changed
+pub record IsCopiedOver (src old : List ℕ) (at : ℕ) (dst : List ℕ) : Type 0 where
+  pub within : at ≤ length src
+  pub size : length dst ≡ length old
+  pub low : (k : ℕ) → k < at → get_or src k 0 < 0x80
+  pub copied : take at dst ≡ take at src
+  pub behind : drop (length src) dst ≡ drop (length src) old
+
+-- what is behind an offset is behind any later one
+pub further : (xs ys : List ℕ) (a b : ℕ) → a ≤ b → drop a xs ≡ drop a ys → drop b xs ≡ drop b ys
+further xs ys a b before same =
+    let e : a + (b - a) ≡ b = omega arith in
+    ap (λ k. drop k xs) (sym e) ∙ sym (drop-drop (b - a) a xs) ∙ ap (drop (b - a)) same ∙ drop-drop (b - a) a ys ∙ ap (λ k. drop k ys) e
+
+-- the ASCII at the start of a stored vector more
+pub copied_over : (src old : List ℕ) (at : ℕ) (dst ys : List ℕ) (n run : ℕ) → IsCopiedOver src old at dst → length src ≤ length old → at + n ≤ length src → run ≤ n
+    → length ys ≡ length (take (length dst - at) (drop at dst))
+    → ((k : ℕ) → k < run → get_or (take (length src - at) (drop at src)) k 0 < 0x80)
+    → take n ys ≡ take n (take (length src - at) (drop at src)) → drop n ys ≡ drop n (take (length dst - at) (drop at dst))
+    → IsCopiedOver src old (at + run) (put_mid at (length dst - at) dst ys)
+copied_over src old at dst ys n run done room fits inside size low same behind =
+    let here : at ≤ length dst = omega (arith, done.size, done.within) in
+    let len : length ys ≡ length dst - at = size ∙ ap length (take_rest dst at) ∙ length-drop at dst in
+    let enough : n ≤ length ys = omega (arith, len, done.size) in
+    let begin : take run ys ≡ take run (drop at src) =
+    sym (take-take run n ys inside) ∙ ap (take run) (same ∙ ap (take n) (take_rest src at)) ∙ take-take run n (drop at src) inside in
+    record {
+      within = omega arith;
+      size = length_put at (length dst - at) dst ys here refl len ∙ done.size;
+      low = λ k before. elim (cases_lt k at) [
+        | inl earlier ↦ done.low k earlier
+        | inr from ↦
+            let e : get_or (take (length src - at) (drop at src)) (k - at) 0 ≡ get_or src k 0 =
+            ap (λ l. get_or l (k - at) 0) (take_rest src at) ∙ get_or-drop at src (k - at) 0 ∙ ap (λ j. get_or src j 0) (omega arith) in
+            omega (arith, e, low (k - at) (omega arith))
+      ];
+      copied = take_into at (length dst - at) run dst ys here (omega arith) ∙ ap (λ l. l ++ take run ys) done.copied ∙ ap (λ l. take at src ++ l) begin ∙ sym (take_sum at run src done.within);
+      behind = further (put_mid at (length dst - at) dst ys) dst (at + n) (length src) fits (drop_into at _ n dst ys here refl enough behind) ∙ done.behind;
+    }
+
+-- a byte more
+pub copied_one : (src old : List ℕ) (at : ℕ) (dst : List ℕ) → IsCopiedOver src old at dst → length src ≤ length old → at < length src → get_or src at 0 < 0x80
+    → IsCopiedOver src old (at + 1) (set dst at (get_or src at 0))
+copied_one src old at dst done room inside low =
+    let b = get_or src at 0 in
+    record {
+      within = omega arith;
+      size = length-set dst at b ∙ done.size;
+      low = λ k before. elim (cases_lt k at) [
+        | inl earlier ↦ done.low k earlier
+        | inr from ↦ let same : k ≡ at = omega arith in rw same low
+      ];
+      copied = take_more_set dst at b (omega (arith, done.size)) ∙ ap (λ l. l ++ (b ∷ [])) done.copied ∙ sym (take_more src at 0 inside);
+      behind = further (set dst at b) dst (at + 1) (length src) (omega arith) (drop_past_set dst at b) ∙ done.behind;
     }

@@ -4,7 +4,10 @@ ghost use Rattle.std.specs.Prelude.{◌≡◌, ℕ, ◌<◌, ◌≤◌, IsTrue, 
 ghost use Rattle.std.specs.Str.{IsAscii};
 ghost use Rattle.encoding_mem.specs.LongestPrefix.{IsLongestPrefix};
 
-use crate::first::{UNIT_BLOCK, all_units_below, first_byte_from, unit_lanes_below};
+use crate::first::{
+    BYTE_BLOCK, BYTE_LANES, UNIT_BLOCK, all_bytes_below, all_units_below, first_byte_from,
+    lanes_below, unit_lanes_below,
+};
 use std::simd::prelude::*;
 
 /// Copies the longest prefix of `src` that is ASCII to the start of `dst`, and returns its length
@@ -94,4 +97,73 @@ pub(crate) fn narrow_lanes(units: &[u16], dst: &mut [u8]) -> usize
     let lanes = u16x8::from_slice(units);
     (lanes & u16x8::splat(0x7F)).cast::<u8>().copy_to_slice(dst);
     unit_lanes_below(lanes, 0x80)
+}
+
+// Copies a block of bytes to the start of `dst` where all of them are ASCII, and returns whether
+// they are. Else nothing changes.
+#[inline(always)]
+fn copy_block(bytes: &[u8], dst: &mut [u8]) -> bool
+    requires bytes { 64 ≤ length bytes.now }
+    requires room { 64 ≤ length dst.old }
+    ensures low { IsTrue result → (k : ℕ) → k < 64 → slice_index bytes.now k < 0x80 }
+    ensures copied { IsTrue result → take 64 dst.new ≡ take 64 bytes.now }
+    ensures behind { drop 64 dst.new ≡ drop 64 dst.old }
+    ensures kept { ¬ (IsTrue result) → dst.new ≡ dst.old }
+{
+    let block = u8x64::from_slice(bytes);
+    if !all_bytes_below(block, 0x80) {
+        return false;
+    }
+    block.copy_to_slice(dst);
+    true
+}
+
+// Copies a vector of bytes to the start of `dst`, and returns how many at its start are ASCII: no
+// branch asks how many they are.
+#[inline(always)]
+fn copy_lanes(bytes: &[u8], dst: &mut [u8]) -> usize
+    requires bytes { 16 ≤ length bytes.now }
+    requires room { 16 ≤ length dst.old }
+    ensures within { result ≤ 16 }
+    ensures low { (k : ℕ) → k < result → slice_index bytes.now k < 0x80 }
+    ensures ends { result < 16 → 0x80 ≤ slice_index bytes.now result }
+    ensures copied { take 16 dst.new ≡ take 16 bytes.now }
+    ensures behind { drop 16 dst.new ≡ drop 16 dst.old }
+{
+    let lanes = u8x16::from_slice(bytes);
+    lanes.copy_to_slice(dst);
+    lanes_below(lanes, 0x80)
+}
+
+/// Copies the run of ASCII at the start of `src` to the start of `dst`, and returns its length. Up
+/// to as many bytes as `src` has change, also those behind the run: vectors are stored before it is
+/// asked where the run ends.
+#[inline(always)]
+pub(crate) fn copy_ascii_run(src: &[u8], dst: &mut [u8]) -> usize
+    requires { length src.now ≤ length dst.old }
+    ensures within { result ≤ length src.now }
+    ensures low { (k : ℕ) → k < result → slice_index src.now k < 0x80 }
+    ensures ends { result < length src.now → 0x80 ≤ slice_index src.now result }
+    ensures copied { take result dst.new ≡ take result src.now }
+    ensures behind { drop (length src.now) dst.new ≡ drop (length src.now) dst.old }
+{
+    let mut at = 0;
+    'wide: while src.len() - at >= BYTE_BLOCK {
+        if !copy_block(&src[at..], &mut dst[at..]) {
+            break;
+        }
+        at += BYTE_BLOCK;
+    }
+    'lanes: while src.len() - at >= BYTE_LANES {
+        let run = copy_lanes(&src[at..], &mut dst[at..]);
+        at += run;
+        if run < BYTE_LANES {
+            return at;
+        }
+    }
+    'bytes: while at < src.len() && src[at] < 0x80 {
+        dst[at] = src[at];
+        at += 1;
+    }
+    at
 }

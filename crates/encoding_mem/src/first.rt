@@ -6,9 +6,9 @@ ghost use Rattle.std.specs.List.{prefix_len};
 
 use std::simd::prelude::*;
 
-// How many bytes or units are tested at a time, with one branch for all of them. Where one of them
-// is too large, or fewer are left, smaller vectors say where the run ends.
-const BYTE_BLOCK: usize = 64;
+/// How many bytes or units are tested at a time, with one branch for all of them. Where one of them
+/// is too large, or fewer are left, smaller vectors say where the run ends.
+pub(crate) const BYTE_BLOCK: usize = 64;
 
 /// How many units are tested, narrowed or written in UTF-8 at a time: those of `BYTE_BLOCK` bytes.
 pub(crate) const UNIT_BLOCK: usize = 32;
@@ -20,7 +20,7 @@ pub(crate) const BYTE_LANES: usize = 16;
 pub(crate) const UNIT_LANES: usize = 8;
 
 #[inline(always)]
-fn all_bytes_below(block: u8x64, limit: u8) -> bool
+pub(crate) fn all_bytes_below(block: u8x64, limit: u8) -> bool
     ensures { IsTrue result → prefix_len (λ b. not (nat_le limit b)) block ≡ 64 }
 {
     block.simd_ge(u8x64::splat(limit)).to_bitmask() == 0

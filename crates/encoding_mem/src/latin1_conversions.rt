@@ -1,14 +1,13 @@
 //! Conversions from Latin1, whose bytes are scalars, and into it.
 
-ghost use Rattle.std.specs.Prelude.{◌≡◌, ℕ, ◌*◌, ◌≤◌, length, take, drop, encode_utf8_all};
+ghost use Rattle.std.specs.Prelude.{◌≡◌, ℕ, ◌*◌, ◌≤◌, [], ◌∷◌, length, take, drop, encode_utf8_all};
 ghost use Rattle.std.specs.Str.{chars};
 ghost use Rattle.encoding_mem.specs.Conversions.{IsLongest, low_bytes};
 ghost use Rattle.encoding_mem.specs.Latin1.{AllLatin1, IsLatin1Text};
+ghost use Rattle.encoding_mem.specs.Writing.{Adds};
 
-use crate::ascii::ascii_prefix;
-use crate::sink::Sink;
+use crate::ascii_copies::copy_ascii_run;
 use crate::source::{Source, Utf8Source};
-use crate::utf8_sink::Utf8Sink;
 
 /// Converts Latin1 to UTF-16 at the start of `dst`: each byte is a unit, and nothing behind them
 /// changes. `dst` has at least as many units as `src` has bytes, which a comparison of lengths
@@ -76,6 +75,17 @@ pub(crate) fn narrow_text(text: &str, dst: &mut [u8]) -> usize
     written
 }
 
+// Puts a byte of Latin1 that is not ASCII at the start: its UTF-8 has two bytes.
+#[inline(always)]
+fn put_high(byte: u8, dst: &mut [u8])
+    requires high { 0x80 ≤ byte }
+    requires room { 2 ≤ length dst.old }
+    ensures { Adds dst.old 0 (encode_utf8_all (byte ∷ [])) dst.new 2 }
+{
+    dst[1] = 0x80 + byte % 64;
+    dst[0] = 0xC0 + byte / 64;
+}
+
 /// Converts the longest prefix of Latin1 whose UTF-8 fits into `dst`, and returns how many bytes
 /// were read and how many were written; nothing behind these changes. The caller goes on with the
 /// unread bytes.
@@ -86,24 +96,22 @@ pub fn convert_latin1_to_utf8_partial(src: &[u8], dst: &mut [u8]) -> (usize, usi
     ensures text { take result.1 dst.new ≡ encode_utf8_all (take result.0 src.now) }
     ensures behind { drop result.1 dst.new ≡ drop result.1 dst.old }
 {
-    let mut sink = Utf8Sink::new(dst);
     let mut read = 0;
-    'bytes: while read < src.len() {
-        let rest = &src[read..];
-        let run = ascii_prefix(&rest[..rest.len().min(sink.free_len())]);
-        if !run.is_empty() {
-            sink.put_text(run);
-            read += run.len();
-            continue;
-        }
-        let c = src[read] as char;
-        if !sink.fits(c) {
+    let mut written = 0;
+    // As many bytes as surely fit, until no two bytes of room are left.
+    'parts: loop {
+        let sure = (src.len() - read).min((dst.len() - written) / 2);
+        if sure == 0 {
             break;
         }
-        sink.put(c);
-        read += 1;
+        written += convert_latin1_to_utf8(&src[read..read + sure], &mut dst[written..]);
+        read += sure;
     }
-    (read, sink.written())
+    if read < src.len() && written < dst.len() && src[read] < 0x80 {
+        dst[written] = src[read];
+        return (read + 1, written + 1);
+    }
+    (read, written)
 }
 
 /// Converts Latin1 to UTF-8 at the start of `dst`, and returns how many bytes were written; nothing
@@ -115,6 +123,19 @@ pub fn convert_latin1_to_utf8(src: &[u8], dst: &mut [u8]) -> usize
     ensures text { take result dst.new ≡ encode_utf8_all src.now }
     ensures behind { drop result dst.new ≡ drop result dst.old }
 {
-    let (_, written) = convert_latin1_to_utf8_partial(src, dst);
+    let mut read = 0;
+    let mut written = 0;
+    // A run may change as many bytes as are left to read. What follows it has no fewer, and is
+    // written over them.
+    'runs: while read < src.len() {
+        let run = copy_ascii_run(&src[read..], &mut dst[written..]);
+        read += run;
+        written += run;
+        if read < src.len() {
+            put_high(src[read], &mut dst[written..]);
+            read += 1;
+            written += 2;
+        }
+    }
     written
 }

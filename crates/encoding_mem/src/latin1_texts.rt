@@ -1,13 +1,14 @@
 //! Latin1 to text and back, borrowed where nothing changes.
 
-ghost use Rattle.std.specs.Prelude.{◌≡◌, ◌↔◌, IfOk, IsOk, encode_utf8_all};
+ghost use Rattle.std.specs.Prelude.{◌≡◌, ◌↔◌, ◌+◌, ◌*◌, ◌≤◌, ◌++◌};
+ghost use Rattle.std.specs.Prelude.{IfOk, IsOk, encode_utf8_all, length, take};
 ghost use Rattle.std.specs.Cow.{cow_str_bytes, IsBorrowedStr};
 ghost use Rattle.std.specs.Str.{chars, IsAscii};
 ghost use Rattle.encoding_mem.specs.Latin1.{AllLatin1};
 ghost use Rattle.encoding_mem.specs.Latin1Texts.{latin1_bytes, AreBorrowed};
 
 use crate::ascii::ascii_prefix;
-use crate::latin1_conversions::narrow_text;
+use crate::latin1_conversions::{convert_latin1_to_utf8, narrow_text};
 use std::alloc::{AllocError, Global};
 use std::borrow::CowStr;
 
@@ -18,6 +19,17 @@ pub enum Latin1Bytes<'a> {
     Borrowed(&'a [u8]),
     /// New bytes, of a text that is not ASCII.
     Owned(Vec<u8>),
+}
+
+// Puts a text, and behind it Latin1 in UTF-8, at the start. Returns how many bytes were written.
+fn put_both(text: &str, latin1: &[u8], dst: &mut [u8]) -> usize
+    requires { length text.now + 2 * length latin1.now ≤ length dst.old }
+    ensures fits { result ≤ length dst.new }
+    ensures text { take result dst.new ≡ text.now ++ encode_utf8_all latin1.now }
+{
+    let end = text.len();
+    dst[..end].copy_from_slice(text.as_bytes());
+    end + convert_latin1_to_utf8(latin1, &mut dst[end..])
 }
 
 /// Decodes Latin1 to text: borrowed where the bytes are ASCII, which asks for no memory, and else
@@ -31,20 +43,12 @@ pub fn decode_latin1(alloc: Global, bytes: &[u8]) -> Result<CowStr<'_>, AllocErr
     if run.len() == bytes.len() {
         return Ok(CowStr::Borrowed(run));
     }
-    // Each of the others has two bytes at most, so that the text never moves.
-    let most = bytes.len().saturating_add(bytes.len() - run.len());
-    let mut text = String::with_capacity(alloc, most)?;
-    let mut read = 0;
-    'bytes: while read < bytes.len() {
-        let run = ascii_prefix(&bytes[read..]);
-        text.push_str(run)?;
-        read += run.len();
-        if read < bytes.len() {
-            text.push(bytes[read] as char)?;
-            read += 1;
-        }
-    }
-    Ok(CowStr::Owned(text))
+    // Each of the others has two bytes at most.
+    let rest = &bytes[run.len()..];
+    let mut text = vec![in alloc; 0u8; bytes.len().saturating_add(rest.len())]?;
+    let written = put_both(run, rest, &mut text);
+    text.truncate(written);
+    Ok(CowStr::Owned(unsafe { String::from_utf8_unchecked(text) }))
 }
 
 /// Encodes a text as Latin1, a byte for each character: borrowed where it is ASCII, which asks for

@@ -1,8 +1,19 @@
-use Rattle.std.proofs.Common.{length, arith}
-use Rattle.encoding_mem.proofs.LongestPrefixLemmas.{whole_latin1}
+use Rattle.std.proofs.Common.{◌+◌, ◌-◌, length}
+use borrow.Rule.Slice.PartMut.{put_mid}
+use Rattle.encoding_mem.proofs.Latin1WritingLemmas.{latin1_run_written, latin1_high_written}
 use Rattle.encoding_mem.proofs.latin1_conversions.convert_latin1_to_utf8.Goals as goal
 
-pub returns-clause-text : goal.returns-clause-text
-returns-clause-text c =
-    let e = c.convert_latin1_to_utf8_partial-written.ensures in
-    whole_latin1 c.args.src.now _ (length c.args.dst.now) c.convert_latin1_to_utf8_partial-written.result.0 (λ k. omega (arith, c.type_inv.src k)) c.requires e.longest e.text
+pub runs-preserved : goal.runs-preserved
+runs-preserved c =
+    let e = c.copy_ascii_run-run.ensures in
+    latin1_run_written c.args.src.now c.args.dst.now c.runs.read c.runs.dst c.runs.written c.copy_ascii_run-run.new.dst c.copy_ascii_run-run.result c.runs.invariant c.requires
+    e.within c.copy_ascii_run-run.auto.dst e.low e.copied e.behind
+
+pub runs-preserved-then-read-src : goal.runs-preserved-then-read-src
+runs-preserved-then-read-src c =
+    let e = c.copy_ascii_run-run.ensures in
+    let run = c.copy_ascii_run-run.result in
+    let mid = put_mid c.runs.written (length c.runs.dst - c.runs.written) c.runs.dst c.copy_ascii_run-run.new.dst in
+    let w = latin1_run_written c.args.src.now c.args.dst.now c.runs.read c.runs.dst c.runs.written c.copy_ascii_run-run.new.dst run c.runs.invariant c.requires
+    e.within c.copy_ascii_run-run.auto.dst e.low e.copied e.behind in
+    latin1_high_written c.args.src.now c.args.dst.now (c.runs.read + run) mid (c.runs.written + run) c.put_high.new.dst w c.requires c.if-read-src.true c.put_high.auto.dst c.put_high.ensures

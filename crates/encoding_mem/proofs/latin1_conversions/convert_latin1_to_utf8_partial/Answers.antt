@@ -1,52 +1,38 @@
-use Rattle.std.proofs.Common.{◌∙◌, ◌+◌, length, take, get_or, encode_utf8_all, ap, arith, inl, inr}
-use Rattle.std.proofs.lemmas.List.{take_more, length-drop}
-use Rattle.std.proofs.lemmas.Str.{chars-IsAscii}
-use Rattle.std.proofs.lemmas.Bool.{cases_lt}
-use Rattle.std.specs.Char.{len_utf8}
-use Rattle.encoding_mem.specs.laws.Writing.{adds_encoded, adds-length}
-use Rattle.encoding_mem.proofs.LongestPrefixLemmas.{run_taken, run_within, latin1_over}
+use Rattle.std.proofs.Common.{◌≡◌, ◌+◌, ◌-◌, take, drop, get_or, ap, arith}
+use Rattle.std.proofs.lemmas.Str.{len_utf8_bounds}
+use Rattle.encoding_mem.proofs.Latin1WritingLemmas.{high_is_two, latin1_byte_put, latin1_longest, latin1_part_put}
 use Rattle.encoding_mem.proofs.latin1_conversions.convert_latin1_to_utf8_partial.Goals as goal
-use Rattle.encoding_mem.proofs.latin1_conversions.convert_latin1_to_utf8_partial.Goals.{else-bytes-test, then-bytes-test+else-not-is_empty+then-not-fits}
+use Rattle.encoding_mem.proofs.latin1_conversions.convert_latin1_to_utf8_partial.Goals.{else-read-src-via-then-read-src+then-written-dst+else-src-read-lt128, else-read-src-via-then-read-src+else-written-dst, else-read-src-via-else-read-src}
 
-pub bytes-preserved-then-not-is_empty : goal.bytes-preserved-then-not-is_empty
-bytes-preserved-then-not-is_empty c =
-    let i = c.bytes.invariant in
+pub parts-preserved : goal.parts-preserved
+parts-preserved c =
+    let i = c.parts.invariant in
     let src = c.args.src.now in
-    let run = c.ascii_prefix-run.result.now in
-    let w = c.put_text.ensures.writes in
-    let taken = run_taken src run c.bytes.read c.min.result i.within (omega (arith, c.min.ensures, length-drop c.bytes.read src)) c.ascii_prefix-run.ensures.prefix in
-    record {
-      within = run_within src run c.bytes.read i.within taken;
-      same = w.0 ∙ i.same;
-      adds = rw taken (adds_encoded _ _ (take c.bytes.read src) run _ _ _ _ i.adds (rw (← chars-IsAscii run c.ascii_prefix-run.ensures.ascii) w.1));
-    }
+    let sure = c.min-sure.result in
+    let e = c.convert_latin1_to_utf8-written.ensures in
+    let same : (c.parts.read + sure) - c.parts.read ≡ sure = omega arith in
+    latin1_part_put src c.args.dst.now c.parts.read c.parts.dst c.parts.written c.convert_latin1_to_utf8-written.new.dst (take ((c.parts.read + sure) - c.parts.read) (drop c.parts.read src)) sure c.convert_latin1_to_utf8-written.result i
+    (omega (arith, c.min-sure.ensures, i.within)) (ap (λ m. take m (drop c.parts.read src)) same) c.convert_latin1_to_utf8-written.auto.dst e.fits e.text e.behind
 
-pub bytes-preserved : goal.bytes-preserved
-bytes-preserved c =
-    let i = c.bytes.invariant in
-    let src = c.args.src.now in
-    let w = c.put.ensures.writes in
-    record {
-      within = omega (arith, c.bytes-test.true);
-      same = w.0 ∙ i.same;
-      adds = rw (take_more src c.bytes.read 0 c.bytes-test.true) (adds_encoded _ _ (take c.bytes.read src) _ _ _ _ _ i.adds w.1);
-    }
+pub returns-then-src-read-lt128-clause-longest : goal.returns-then-src-read-lt128-clause-longest
+returns-then-src-read-lt128-clause-longest c =
+    let i = c.parts.invariant in
+    let w = latin1_byte_put c.args.src.now c.args.dst.now c.parts.read c.parts.dst c.parts.written i c.if-read-src.true c.if-src-read-lt128.true c.if-written-dst.true in
+    latin1_longest c.args.src.now c.args.dst.now (c.parts.read + 1) _ (c.parts.written + 1) w
+    (λ more. omega (arith, w.size, i.size, c.min-sure.ensures, c.if-sure-eq0.true, c.if-read-src.true, (len_utf8_bounds (get_or c.args.src.now (c.parts.read + 1) 0)).0))
+
+pub returns-then-src-read-lt128-clause-text : goal.returns-then-src-read-lt128-clause-text
+returns-then-src-read-lt128-clause-text c =
+    (latin1_byte_put c.args.src.now c.args.dst.now c.parts.read c.parts.dst c.parts.written c.parts.invariant c.if-read-src.true c.if-src-read-lt128.true c.if-written-dst.true).bytes
 
 pub returns-clause-longest : goal.returns-clause-longest
 returns-clause-longest c =
-    let i = c.bytes.invariant in
-    let src = c.args.src.now in
-    let size = adds-length _ _ _ _ _ i.adds in
-    let room = ap length c.new-sink.ensures.bytes in
-    record {
-      within = i.within;
-      whole = tt;
-      fits = omega (arith, i.adds.counted, i.adds.within, c.new-sink.ensures.written, room);
-      longest = λ k more le _. elim c.bytes-test.branch [
-        | else-bytes-test w ↦ absurd (omega (arith, w.bytes-test.false))
-        | then-bytes-test+else-not-is_empty+then-not-fits w ↦ elim (cases_lt (length c.args.dst.now) (length (encode_utf8_all (take c.bytes.read src)) + len_utf8 (get_or src c.bytes.read 0))) [
-          | inl tight ↦ latin1_over src c.bytes.read (length c.args.dst.now) tight k more le
-          | inr wide ↦ (let e = w.if-not-fits.ensures.1 (omega (arith, i.adds.counted, i.adds.within, c.new-sink.ensures.written, room, size)) in absurd (cc))
-        ]
-      ];
-    }
+    let i = c.parts.invariant in
+    let next = get_or c.args.src.now c.parts.read 0 in
+    latin1_longest c.args.src.now c.args.dst.now c.parts.read c.parts.dst c.parts.written i
+    (λ more. elim c.else-read-src.branch [
+      | else-read-src-via-then-read-src+then-written-dst+else-src-read-lt128 w ↦
+          omega (arith, c.min-sure.ensures, c.if-sure-eq0.true, more, high_is_two next w.if-src-read-lt128.false)
+      | else-read-src-via-then-read-src+else-written-dst w ↦ omega (arith, w.if-written-dst.false, (len_utf8_bounds next).0)
+      | else-read-src-via-else-read-src w ↦ absurd (omega (arith, more, w.if-read-src.false))
+    ])

@@ -1,8 +1,10 @@
-use Rattle.std.proofs.Common.{◌∙◌, ◌++◌, ◌+◌, length, get_or, sym, ap, subst, arith}
-use Rattle.std.specs.Char.{encode_utf8}
+use Rattle.std.proofs.Common.{◌≤◌, ◌-◌, ◌∙◌, length, take, drop, sym, ap, subst, arith}
 use Rattle.std.specs.Str.{IsAscii}
+use Rattle.std.proofs.lemmas.List.{take_rest}
 use Rattle.std.proofs.lemmas.Str.{encodes-IsAscii}
-use Rattle.encoding_mem.proofs.LongestPrefixLemmas.{whole_run, encode_next, encode_run, run_next, run_within}
+use Rattle.encoding_mem.proofs.DestinationLemmas.{bytes_are_scalars}
+use Rattle.encoding_mem.proofs.Latin1WritingLemmas.{decoded}
+use Rattle.encoding_mem.proofs.LongestPrefixLemmas.{whole_run}
 use Rattle.encoding_mem.proofs.latin1_texts.decode_latin1.Goals as goal
 
 pub returns-then-run-bytes-clause-text : goal.returns-then-run-bytes-clause-text
@@ -11,28 +13,24 @@ returns-then-run-bytes-clause-text c =
     let is = whole_run c.ascii_prefix-run.result.now c.args.bytes.now e.prefix c.if-run-bytes.true in
     is ∙ sym (encodes-IsAscii c.args.bytes.now (subst IsAscii is e.ascii))
 
-pub bytes-preserved-then-read-bytes : goal.bytes-preserved-then-read-bytes
-bytes-preserved-then-read-bytes c =
-    let i = c.bytes.invariant in
-    let e = c.ascii_prefix-run-in-bytes.ensures in
+pub from_utf8_unchecked-requires : goal.from_utf8_unchecked-requires
+from_utf8_unchecked-requires c =
+    let p = c.put_both-written in
     let src = c.args.bytes.now in
-    let run = c.ascii_prefix-run-in-bytes.result.now in
-    let taken = run_next src run c.bytes.read i.within e.prefix in
-    let end = c.bytes.read + length run in
-    let front = c.in_ok-push_str.ensures.bytes ∙ ap (λ l. l ++ run) i.text ∙ encode_run src run c.bytes.read e.ascii taken in
-    record {
-      within = omega (arith, c.if-read-bytes.true);
-      text = c.in_ok-push.ensures.bytes ∙ ap (λ l. l ++ encode_utf8 (get_or src end 0)) front ∙ encode_next src end c.if-read-bytes.true;
-    }
+    let run = c.ascii_prefix-run.result.now in
+    let e = c.ascii_prefix-run.ensures in
+    let room : p.result ≤ c.in_ok-text.text.len = omega (arith, p.ensures.fits, p.auto.dst, c.deref_mut.ensures.len) in
+    let text = decoded src run (take (length src - length run) (drop (length run) src)) p.new.dst (drop (length p.new.dst) c.in_ok-text.text.items) c.truncate.new.self.items p.result c.in_ok-text.text.len
+    e.prefix e.ascii (take_rest src (length run)) c.truncate.ensures.items room p.ensures.fits p.ensures.text in
+    (src, (bytes_are_scalars src (λ k. omega (arith, c.type_inv.bytes k)), sym text))
 
-pub bytes-preserved : goal.bytes-preserved
-bytes-preserved c =
-    let i = c.bytes.invariant in
-    let e = c.ascii_prefix-run-in-bytes.ensures in
+pub returns-clause-text : goal.returns-clause-text
+returns-clause-text c =
+    let p = c.put_both-written in
     let src = c.args.bytes.now in
-    let run = c.ascii_prefix-run-in-bytes.result.now in
-    let taken = run_next src run c.bytes.read i.within e.prefix in
-    record {
-      within = run_within src run c.bytes.read i.within taken;
-      text = c.in_ok-push_str.ensures.bytes ∙ ap (λ l. l ++ run) i.text ∙ encode_run src run c.bytes.read e.ascii taken;
-    }
+    let run = c.ascii_prefix-run.result.now in
+    let e = c.ascii_prefix-run.ensures in
+    let room : p.result ≤ c.in_ok-text.text.len = omega (arith, p.ensures.fits, p.auto.dst, c.deref_mut.ensures.len) in
+    let text = decoded src run (take (length src - length run) (drop (length run) src)) p.new.dst (drop (length p.new.dst) c.in_ok-text.text.items) c.truncate.new.self.items p.result c.in_ok-text.text.len
+    e.prefix e.ascii (take_rest src (length run)) c.truncate.ensures.items room p.ensures.fits p.ensures.text in
+    ap (λ v. v.items) c.from_utf8_unchecked.ensures.value ∙ text
