@@ -2,7 +2,7 @@
 use Rattle.std.proofs.Common.{rules, ◌≡◌, ℕ, ◌+◌, ◌*◌, ◌-◌, ◌/◌, ◌%◌, ◌<◌, ◌≤◌, List, [], ◌∷◌, ◌++◌, length, take, drop, set, get_or, inl, inr, refl, sym, ◌∙◌, ap, subst, arith, length-drop, length-append, encode_utf8_all}
 use Rattle.std.proofs.lemmas.Bool.{cases_lt, lt-ltb}
 use Rattle.std.proofs.lemmas.Bool.Decides.{nat_tests}
-use Rattle.std.proofs.lemmas.List.{get_or-drop, take_more_set, append-nil, take_rest, take_all, length-take-le}
+use Rattle.std.proofs.lemmas.List.{get_or-drop, take_more_set, append-nil, take_rest, take_all, take-take, length-take-le}
 use borrow.Rule.Slice.PartMut.{put_mid}
 use Rattle.std.proofs.lemmas.Str.{IsUtf8-drop, IsCharBoundary-start, chars-nil, IsCharBoundary-from_take, IsCharBoundary-past_char, IsUtf8-from_ascii, chars_past_char, encode_ascii, length-encode, len_utf8_bounds}
 use Rattle.std.specs.Char.{encode_utf8, len_utf8}
@@ -14,7 +14,8 @@ use Rattle.encoding_mem.specs.Writing.{len_utf16, encode_utf16_all}
 use Rattle.encoding_mem.specs.laws.Writing.{encode_utf16_all-append, len_utf16_le}
 use Rattle.encoding_mem.proofs.AsciiLemmas.{ascii_take}
 use Rattle.encoding_mem.proofs.DestinationLemmas.{take_into, drop_into}
-use Rattle.encoding_mem.proofs.LongestPrefixLemmas.{length_put, behind_more}
+use Rattle.encoding_mem.proofs.LongestPrefixLemmas.{length_put}
+use Rattle.encoding_mem.proofs.UnitCopyLemmas.{further}
 use Rattle.encoding_mem.proofs.Utf8TextLemmas.{of_two, of_three, of_four, part_boundary, first_alone, chars_part, ascii_in_utf16}
 
 -- a character begins at an offset before the end
@@ -118,11 +119,19 @@ none_in_units text units utf8 room = record {
 pub all_in_units : (text : List ℕ) (read : ℕ) (units : List ℕ) (written : ℕ) → IsInUnits text read units written → length text ≤ read → take written units ≡ text_in_utf16 text
 all_in_units text read units written so_far end = so_far.prefix ∙ ap text_in_utf16 (take_all read text end)
 
--- what is behind stays, where more is put before it
-pub stays_behind : (w e : ℕ) (new mid old : List ℕ) → w ≤ e → drop e new ≡ drop e mid → drop w mid ≡ drop w old → drop e new ≡ drop e old
-stays_behind w e new mid old later h k =
-    let end : w + (e - w) ≡ e = omega arith in
-    subst (λ n. drop n new ≡ drop n old) end (behind_more w (e - w) new mid old (subst (λ n. drop n new ≡ drop n mid) (sym end) h) k)
+-- What is behind stays, where more is put before it: a unit for three bytes that are left may have changed.
+pub loosely_behind : (text : List ℕ) (read more written end : ℕ) (new mid old : List ℕ) → read < more → more ≤ length text → more + 3 * written ≤ read + 3 * end
+    → drop (end + (length text - more) / 3) new ≡ drop (end + (length text - more) / 3) mid
+    → drop (written + (length text - read) / 3) mid ≡ drop (written + (length text - read) / 3) old
+    → drop (end + (length text - more) / 3) new ≡ drop (end + (length text - more) / 3) old
+loosely_behind text read more written end new mid old later within dense h k =
+    h ∙ further mid old (written + (length text - read) / 3) (end + (length text - more) / 3) (omega arith) k
+
+pub still_behind : (text : List ℕ) (read more written end : ℕ) (new mid old : List ℕ) → read < more → more ≤ length text → more + 3 * written ≤ read + 3 * end
+    → drop end new ≡ drop end mid → drop (written + (length text - read) / 3) mid ≡ drop (written + (length text - read) / 3) old
+    → drop (end + (length text - more) / 3) new ≡ drop (end + (length text - more) / 3) old
+still_behind text read more written end new mid old later within dense h k =
+    loosely_behind text read more written end new mid old later within dense (further new mid end (end + (length text - more) / 3) (omega arith) h) k
 
 -- a part more of a text is in units
 pub part_in_units : (text : List ℕ) (read : ℕ) (units : List ℕ) (written : ℕ) (new : List ℕ) (n k : ℕ) → IsUtf8 text → IsInUnits text read units written
@@ -197,3 +206,27 @@ run_in_units text bytes at n to xs ys utf8 so_far same within low size wrote beh
       ascii_in_units text at xs to (put_mid to (length xs - to) xs ys) n utf8 so_far fits ascii put (length_put to (length xs - to) xs ys inside refl room),
       drop_into to _ n xs ys inside refl more left,
     )
+
+-- a vector of the text is copied to units, of which those are the text that are ASCII: the others are no more than the units of what is left
+pub vector_in_units : (text bytes : List ℕ) (at n to : ℕ) (xs ys : List ℕ) → IsUtf8 text → IsInUnits text at xs to → bytes ≡ text → at + 48 ≤ length bytes → n ≤ 16
+    → ((k : ℕ) → k < n → get_or (take (length bytes - at) (drop at bytes)) k 0 < 0x80) → length ys ≡ length (take (length xs - to) (drop to xs))
+    → take 16 ys ≡ take 16 (take (length bytes - at) (drop at bytes)) → drop 16 ys ≡ drop 16 (take (length xs - to) (drop to xs))
+    → IsInUnits text (at + n) (put_mid to (length xs - to) xs ys) (to + n)
+    × (drop (to + n + (length text - (at + n)) / 3) (put_mid to (length xs - to) xs ys) ≡ drop (to + n + (length text - (at + n)) / 3) xs)
+vector_in_units text bytes at n to xs ys utf8 so_far same many few low size wrote behind =
+    let all : take (length bytes - at) (drop at bytes) ≡ drop at text = take_rest bytes at ∙ ap (drop at) same in
+    let whole : at + 48 ≤ length text = omega (arith, many, ap length same) in
+    let fits : n ≤ length (drop at text) = omega (arith, whole, length-drop at text) in
+    let ascii = ascii_take (drop at text) n fits (λ k h. omega (arith, low k h, ap (λ l. get_or l k 0) all)) in
+    let copied : take n ys ≡ take n (drop at text) = sym (take-take n 16 ys few) ∙ ap (take n) (wrote ∙ ap (take 16) all) ∙ take-take n 16 (drop at text) few in
+    let inside : to ≤ length xs = omega (arith, so_far.room, so_far.boundary.0) in
+    let room : length ys ≡ length xs - to = size ∙ ap length (take_rest xs to) ∙ length-drop to xs in
+    let more : 16 ≤ length ys = omega (arith, room, so_far.room, whole) in
+    let put : take (to + n) (put_mid to (length xs - to) xs ys) ≡ take to xs ++ take n (drop at text) = take_into to _ n xs ys inside (omega arith) ∙ ap (λ l. take to xs ++ l) copied in (
+      ascii_in_units text at xs to (put_mid to (length xs - to) xs ys) n utf8 so_far fits ascii put (length_put to (length xs - to) xs ys inside refl room),
+      further (put_mid to (length xs - to) xs ys) xs (to + 16) (to + n + (length text - (at + n)) / 3) (omega arith) (drop_into to _ 16 xs ys inside refl more behind),
+    )
+
+-- a unit stands for three bytes at most
+pub dense_char : (c : ℕ) → len_utf8 c ≤ 3 * len_utf16 c
+dense_char c = grind (arith, nat_tests)

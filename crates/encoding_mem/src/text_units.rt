@@ -1,6 +1,7 @@
 //! Text in units of UTF-16, by runs of characters of one length in bytes.
 
-ghost use Rattle.std.specs.Prelude.{◌≡◌, ℕ, ◌+◌, ◌<◌, ◌≤◌, IsTrue, List, ◌++◌, length, drop, slice_index, take};
+ghost use Rattle.std.specs.Prelude.{◌≡◌, ℕ, ◌+◌, ◌-◌, ◌*◌, ◌/◌, ◌<◌, ◌≤◌, IsTrue, List, ◌++◌};
+ghost use Rattle.std.specs.Prelude.{length, drop, slice_index, take};
 ghost use Rattle.std.specs.Char.Escape.{encode_utf16};
 ghost use Rattle.std.specs.Char.{encode_utf8};
 ghost use Rattle.std.specs.Str.{IsCharBoundary};
@@ -65,6 +66,7 @@ pub(crate) fn put_run(
     requires small { size < 4 }
     ensures some { at < result.0 }
     ensures after { to ≤ result.1 }
+    ensures dense { result.0 + 3 * to ≤ at + 3 * result.1 }
     ensures further { IsInUnits text.now result.0 dst.new result.1 }
     ensures behind { drop result.1 dst.new ≡ drop result.1 dst.old }
 {
@@ -86,7 +88,26 @@ fn is_long_run(bytes: &[u8]) -> bool
     bytes.len() >= BYTE_LANES && lanes_below(u8x16::from_slice(bytes), 0x80) == BYTE_LANES
 }
 
-/// Puts the run of ASCII that begins at an offset, and returns the offsets behind it.
+// Puts the ASCII at the start of a vector of bytes as units, and returns how many these are. The
+// other lanes are stored too: so no branch asks how many they are.
+#[inline(always)]
+fn widen_lanes(bytes: &[u8], dst: &mut [u16]) -> usize
+    requires bytes { 16 ≤ length bytes.now }
+    requires room { 16 ≤ length dst.old }
+    ensures within { result ≤ 16 }
+    ensures low { (k : ℕ) → k < result → slice_index bytes.now k < 0x80 }
+    ensures ends { result < 16 → 0x80 ≤ slice_index bytes.now result }
+    ensures copied { take 16 dst.new ≡ take 16 bytes.now }
+    ensures behind { drop 16 dst.new ≡ drop 16 dst.old }
+{
+    let lanes = u8x16::from_slice(bytes);
+    lanes.cast::<u16>().copy_to_slice(dst);
+    lanes_below(lanes, 0x80)
+}
+
+/// Puts ASCII that begins at an offset, and returns the offsets behind it. Units behind it may
+/// change, one for every three bytes that are left: these have a unit at least, which is put over
+/// it.
 #[inline(always)]
 pub(crate) fn put_ascii(text: &str, at: usize, dst: &mut [u16], to: usize) -> (usize, usize)
     requires so_far { IsInUnits text.now at dst.old to }
@@ -94,16 +115,22 @@ pub(crate) fn put_ascii(text: &str, at: usize, dst: &mut [u16], to: usize) -> (u
     requires ascii { slice_index text.now at < 0x80 }
     ensures some { at < result.0 }
     ensures after { to ≤ result.1 }
+    ensures dense { result.0 + 3 * to ≤ at + 3 * result.1 }
     ensures further { IsInUnits text.now result.0 dst.new result.1 }
-    ensures behind { drop result.1 dst.new ≡ drop result.1 dst.old }
+    ensures behind { let end = result.1 + (length text.now - result.0) / 3 in drop end dst.new ≡ drop end dst.old }
 {
     let bytes = text.as_bytes();
-    if !is_long_run(&bytes[at..]) {
-        return put_run(text, at, 1, dst, to);
+    if is_long_run(&bytes[at..]) {
+        let run = first_byte_from(&bytes[at..], 0x80);
+        convert_latin1_to_utf16(&bytes[at..at + run], &mut dst[to..]);
+        return (at + run, to + run);
     }
-    let run = first_byte_from(&bytes[at..], 0x80);
-    convert_latin1_to_utf16(&bytes[at..at + run], &mut dst[to..]);
-    (at + run, to + run)
+    // Of a vector that is not all ASCII all lanes are stored, where the text has units for them.
+    if bytes.len() - at >= 3 * BYTE_LANES {
+        let run = widen_lanes(&bytes[at..], &mut dst[to..]);
+        return (at + run, to + run);
+    }
+    put_run(text, at, 1, dst, to)
 }
 
 // Puts the units of a character at an offset, where there is room for them, and returns the offset
@@ -135,6 +162,7 @@ pub(crate) fn put_next(text: &str, at: usize, dst: &mut [u16], to: usize) -> (us
     requires inside { at < length text.now }
     ensures some { at < result.0 }
     ensures after { to ≤ result.1 }
+    ensures dense { result.0 + 3 * to ≤ at + 3 * result.1 }
     ensures further { IsInUnits text.now result.0 dst.new result.1 }
     ensures behind { drop result.1 dst.new ≡ drop result.1 dst.old }
 {

@@ -20,6 +20,7 @@ characters-preserved c =
     record {
       later = omega (arith, i.later);
       after = omega (arith, i.after);
+      dense = omega (arith, i.dense, c.requires.small);
       so_far = rw (← size, unit) more;
       size = search rules;
       behind = behind_more c.characters.written 1 _ c.characters.dst c.args.dst.now (drop-set-lt (c.characters.written + 1) c.characters.dst c.characters.written c.unit_at.result (omega arith)) i.behind;
