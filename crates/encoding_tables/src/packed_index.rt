@@ -69,7 +69,7 @@ impl PackedIndex {
         let by_entry = reversed(alloc, rows)?;
         Ok(PackedIndex {
             size,
-            by_pointer: PointerRows::new(alloc, rows)?,
+            by_pointer: PointerRows::new(alloc, size, rows)?,
             by_entry,
         })
     }
