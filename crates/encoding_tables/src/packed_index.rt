@@ -13,7 +13,7 @@ use crate::sorted_rows::SortedRows;
 use std::alloc::{AllocError, Global};
 use std::marker::Model;
 
-/// The list of an index, of which the mapped entries alone are kept.
+/// The list of an index: its entries at their pointers, and its mapped entries in order.
 #[derive(Drop)]
 pub(crate) struct PackedIndex {
     // How many entries the list has, mapped or not.
