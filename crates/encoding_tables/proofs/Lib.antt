@@ -8,4 +8,5 @@ pub mod ReplacementLengthLemmas
 mod KindLemmas
 pub mod RowLemmas
 mod RowFaultLemmas
+mod EntryLemmas
 pub mod CountLemmas

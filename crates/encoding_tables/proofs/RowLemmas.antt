@@ -106,7 +106,7 @@ row_got got rows k row same within is = (rw (← same) within, rw (← same) (ge
 -- The mapped rows of a list, and of rows: they are in order, and stand for the same list.
 
 -- mapped rows in order, from one pointer to below another
-abbrev AreFrom : ℕ → ℕ → List (ℕ × ℕ) → Type 0
+abbrev pub AreFrom : ℕ → ℕ → List (ℕ × ℕ) → Type 0
 AreFrom least end [] = Unit {0}
 AreFrom least end (row ∷ rows) = (least ≤ row.0) × (row.0 < end) × (row.1 ≢ 0) × AreFrom (row.0 + 1) end rows
 
@@ -135,8 +135,19 @@ from_mapped least end (row ∷ rows) h (suc k) within = from_mapped (row.0 + 1) 
 index_rows : (least end : ℕ) (rows : List (ℕ × ℕ)) → AreFrom least end rows → AreIndexRows end rows
 index_rows least end rows h = record { rise = from_rise least end rows h; below = from_below least end rows h; mapped = from_mapped least end rows h }
 
+pub rows_from : (least end : ℕ) (rows : List (ℕ × ℕ)) → AreIndexRows end rows → (0 < length rows → least ≤ (row_at rows 0).0) → AreFrom least end rows
+rows_from least end [] index from = tt
+rows_from least end (row ∷ rows) index from = (
+  from (omega arith),
+  index.below 0 (omega arith),
+  index.mapped 0 (omega arith),
+  rows_from (row.0 + 1) end rows
+      (record { rise = λ k within. (let same : suc k + 1 ≡ suc (k + 1) = omega arith in rw same at (index.rise (suc k) (omega arith))); below = λ k within. index.below (suc k) (omega arith); mapped = λ k within. index.mapped (suc k) (omega arith) })
+      (λ some. let less = index.rise 0 (omega arith) in omega (arith, less)),
+)
+
 -- there is no entry before them
-entry_before : (least end : ℕ) (rows : List (ℕ × ℕ)) (p : ℕ) → AreFrom least end rows → p < least → entry_at rows p ≡ 0
+pub entry_before : (least end : ℕ) (rows : List (ℕ × ℕ)) (p : ℕ) → AreFrom least end rows → p < least → entry_at rows p ≡ 0
 entry_before least end [] p h less = refl
 entry_before least end (row ∷ rows) p h less =
     let low : least ≤ row.0 = h.0 in

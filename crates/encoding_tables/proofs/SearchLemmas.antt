@@ -1,15 +1,11 @@
 -- The order of rows, and the steps of a binary search among rows in order. A directory of rows in order: it narrows
 -- a search to the rows of one first number. Rows whose first numbers rise, and the last of them at or below a
 -- number.
-use Rattle.std.proofs.Common.{get_or, ◌≡◌, ℕ, ◌+◌, ◌-◌, ◌*◌, ◌/◌, ◌<◌, ◌≤◌, ◌^◌, ◌⊎◌, inl, inr, zero, suc, List, length, arith, refl, pow-suc, nat_lt, ◌==◌, ◌≢◌, [], ◌∷◌, ◌++◌, ◌∙◌, ap, drop, length-drop, length-take, length-append, None, Some}
+use Rattle.std.proofs.Common.{◌≡◌, ℕ, ◌+◌, ◌-◌, ◌*◌, ◌/◌, ◌<◌, ◌≤◌, ◌^◌, ◌⊎◌, inl, inr, zero, suc, List, length, arith, refl, pow-suc, nat_lt, ◌==◌, ◌≢◌, [], ◌∷◌, ◌∙◌, ap, drop, length-drop, length-take, None, Some}
 use Rattle.std.specs.Prelude.{◌&&◌, slice_range, slice_index, min}
-use Rattle.encoding_tables.specs.PackedLists.{CanFind, IsPlace}
 use Rattle.std.proofs.lemmas.Bool.{cases_eq, or_cases, and_parts, ltb-true, eqb-true, lt-ltb, le-ltb, eq-eqb, cases_lt}
 use Rattle.encoding_tables.specs.SortedRows.{row_at, IsBelow, AreRising, IsRank, IsDirectory, IsSpan}
 use Rattle.std.proofs.lemmas.List.Edits.{get_or-between}
-use Rattle.std.proofs.lemmas.List.{get_or_append_left}
-use Rattle.std.proofs.Math.Seq.{get_or-append_right}
-use Rattle.std.proofs.Math.Nat.{sub_self}
 use Rattle.encoding_tables.specs.Ranges.{last_row}
 
 -- ---- the order
@@ -185,85 +181,6 @@ rank_in_span rows key from to n span rank =
     let low = below_at_most (row_at rows k) key is in
     absurd (omega (arith, high, low)))
     rank
-
--- ---- the row with a first number
-
--- the directory says where the first row with a number stands
-place_in_directory : (rows : List (ℕ × ℕ)) (begins : List ℕ) (first place : ℕ) → AreRising rows → IsDirectory rows begins → first < length begins → place ≡ slice_index begins first → IsPlace rows first place
-place_in_directory rows begins first place rise directory within is k inside same =
-    let rank : IsRank rows (first, 0) place = rw is (directory.ranks first within) in
-    elim (cases_lt k place) [
-      | inl early ↦ let low = below_start (row_at rows k) first (rank.below k early) in absurd (omega (arith, low, same))
-      | inr late ↦
-          let from = from_start (row_at rows place) first (rank.others place (omega arith) (omega (arith, inside))) in
-          elim (cases_eq k place) [
-            | inl here ↦ (omega (arith, inside), rw here at same)
-            | inr later ↦
-                let up_to = below_at_most (row_at rows place) (row_at rows k) (rises rows rise place k (omega arith) inside) in
-                (omega (arith, inside), omega (arith, from, up_to, same))
-          ]
-    ]
-
--- what a look at the directory gives
-pub place_there : (rows : List (ℕ × ℕ)) (begins got : List ℕ) (first place : ℕ) → AreRising rows → CanFind rows begins → got ≡ begins → (first < length got) × ((d : ℕ) → place ≡ get_or got first d) → IsPlace rows first place
-place_there rows begins got first place rise (inl directory) same is =
-    place_in_directory rows begins first place rise directory (rw (← same) is.0) (is.1 0 ∙ ap (λ b. slice_index b first) same)
-place_there rows begins got first place rise (inr (none, numbered)) same is = absurd (omega (arith, is.0, ap length same, ap length none))
-
--- ---- how a directory is made
-
--- the numbers up to the one of the row at `offset`, as far as they are there
-pub record IsBuilding (rows : List (ℕ × ℕ)) (begins : List ℕ) (offset : ℕ) : Type 0 where
-  pub ranks : (first : ℕ) → first < length begins → IsRank rows (first, 0) (slice_index begins first)
-  pub passed : (k : ℕ) → k < offset → (row_at rows k).0 < length begins
-
-pub nothing_built : (rows : List (ℕ × ℕ)) → IsBuilding rows [] 0
-nothing_built rows = record { ranks = λ b less. absurd (omega arith); passed = λ k less. absurd (omega arith) }
-
-one_more : (rows : List (ℕ × ℕ)) (begins : List ℕ) (rank : ℕ) → ((b : ℕ) → b < length begins → IsRank rows (b, 0) (slice_index begins b)) → IsRank rows (length begins, 0) rank
-    → (b : ℕ) → b < length (begins ++ rank ∷ []) → IsRank rows (b, 0) (slice_index (begins ++ rank ∷ []) b)
-one_more rows begins rank ranks last b less = elim (cases_lt b (length begins)) [
-  | inl early ↦ rw (get_or_append_left begins (rank ∷ []) 0 b early) (ranks b early)
-  | inr late ↦
-      let here : b ≡ length begins = omega (arith, length-append begins (rank ∷ [])) in
-      rw (here, get_or-append_right begins (rank ∷ []) (length begins) 0 (omega arith), sub_self (length begins)) last
-]
-
-no_row_before : (rows : List (ℕ × ℕ)) (offset first : ℕ) → AreRising rows → offset ≤ length rows → ((k : ℕ) → k < offset → (row_at rows k).0 < first)
-    → (offset < length rows → first ≤ (row_at rows offset).0) → IsRank rows (first, 0) offset
-no_row_before rows offset first rise within before from = record {
-  within = within;
-  below = λ k less. below_first (row_at rows k) (first, 0) (before k less);
-  others = λ k past inside is.
-      let low = below_start (row_at rows k) first is in
-      let high = from (omega arith) in
-      elim (cases_eq k offset) [
-        | inl same ↦ absurd (omega (arith, low, rw (← same) at high))
-        | inr apart ↦ absurd (omega (arith, low, high, below_at_most (row_at rows offset) (row_at rows k) (rises rows rise offset k (omega arith) inside)))
-      ];
-}
-
-pub number_built : (rows : List (ℕ × ℕ)) (begins : List ℕ) (offset : ℕ) → AreRising rows → offset < length rows → IsBuilding rows begins offset → length begins ≤ (row_at rows offset).0
-    → IsBuilding rows (begins ++ offset ∷ []) offset
-number_built rows begins offset rise within so_far left = record {
-  ranks = one_more rows begins offset so_far.ranks (no_row_before rows offset (length begins) rise (omega arith) so_far.passed (λ _. left));
-  passed = λ k less. omega (arith, so_far.passed k less, length-append begins (offset ∷ []));
-}
-
-pub row_passed : (rows : List (ℕ × ℕ)) (begins : List ℕ) (offset : ℕ) → IsBuilding rows begins offset → (row_at rows offset).0 < length begins → IsBuilding rows begins (offset + 1)
-row_passed rows begins offset so_far above = record {
-  ranks = so_far.ranks;
-  passed = λ k less. elim (cases_lt k offset) [
-    | inl early ↦ so_far.passed k early
-    | inr late ↦ let here : k ≡ offset = omega arith in rw here above
-  ];
-}
-
-pub all_built : (rows : List (ℕ × ℕ)) (begins : List ℕ) → AreRising rows → IsBuilding rows begins (length rows) → IsDirectory rows (begins ++ length rows ∷ [])
-all_built rows begins rise so_far = record {
-  ranks = one_more rows begins (length rows) so_far.ranks (no_row_before rows (length rows) (length begins) rise (omega arith) so_far.passed (λ less. absurd (omega arith)));
-  last = λ k within. omega (arith, so_far.passed k within, length-append begins (length rows ∷ []));
-}
 
 -- Rows whose first numbers rise, and the last of them at or below a number.
 

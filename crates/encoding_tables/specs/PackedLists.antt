@@ -1,27 +1,34 @@
 -- What a packed index keeps: its rows by pointer, and the same rows by entry.
-use Rattle.std.specs.Prelude.{◌≡◌, ◌≢◌, ◌⊎◌, ℕ, ◌<◌, List, [], length, Option, None, Some}
-use Rattle.encoding_tables.specs.SortedRows.{row_at, AreRising, AreNumbered, IsDirectory}
-use Rattle.encoding_tables.specs.PackedRows.{PointersRise, PointersAreBelow, swapped}
-use Rattle.encoding_tables.specs.declared.pointer_rows.Rows.{Rows}
-use Rattle.encoding_tables.specs.declared.pointer_rows.Rows.TheVariants.{Small, Wide}
+use Rattle.std.specs.Prelude.{◌≡◌, ◌≢◌, ◌⊎◌, ℕ, ◌<◌, List, [], ◌∷◌, length, Option, None, Some, nat_lt, if◌then◌else◌, slice_index, true}
+use Rattle.std.specs.List.{list_all}
+use Rattle.encoding_tables.specs.SortedRows.{row_at, AreRising}
+use Rattle.encoding_tables.specs.PackedRows.{PointersRise, PointersAreBelow, swapped, entry_at}
 
--- the rows, whatever numbers they are kept in
-abbrev pub kept_rows : Rows → List (ℕ × ℕ)
-kept_rows (Small rows) = rows.items
-kept_rows (Wide rows) = rows.items
+-- an entry that 16 bits hold, or 0
+abbrev pub narrow_entry : ℕ → ℕ
+narrow_entry entry = if nat_lt entry 0x10000 then entry else 0
+
+-- all entries of an index: the wide ones, or the narrow ones where there are no wide ones
+abbrev pub kept_entries : List ℕ → List ℕ → List ℕ
+kept_entries narrow [] = narrow
+kept_entries narrow (entry ∷ wide) = entry ∷ wide
+
+-- these have 0 or the entry at each pointer
+abbrev pub AreNarrowOf : List ℕ → List ℕ → Type 0
+AreNarrowOf list narrow = (p : ℕ) → slice_index narrow p ≢ 0 → slice_index list p ≡ slice_index narrow p
+
+-- a list has at each pointer below the size what is kept of the entry there
+pub record AreEntriesAt (kept : ℕ → ℕ) (size : ℕ) (rows : List (ℕ × ℕ)) (list : List ℕ) : Type 0 where
+  pub sized : length list ≡ size
+  pub entry : (p : ℕ) → slice_index list p ≡ kept (entry_at rows p)
+
+-- the wide entries of rows: none where each is narrow, and else all
+abbrev pub AreWide : ℕ → List (ℕ × ℕ) → List ℕ → Type 0
+AreWide size rows wide = ((wide ≡ []) × (list_all (λ row. nat_lt row.1 0x10000) rows ≡ true)) ⊎ AreEntriesAt (λ entry. entry) size rows wide
 
 -- a row stands somewhere among these
 abbrev pub HasRow : List (ℕ × ℕ) → ℕ × ℕ → Type 0
 HasRow rows row = (k : ℕ) × (k < length rows) × (row_at rows k ≡ row)
-
--- rows can be found by their first numbers: there is a directory, or these are their positions
-abbrev pub CanFind : List (ℕ × ℕ) → List ℕ → Type 0
-CanFind rows begins = IsDirectory rows begins ⊎ ((begins ≡ []) × AreNumbered rows)
-
--- where one of the rows has this first number, the row at this place has it
-abbrev pub IsPlace : List (ℕ × ℕ) → ℕ → ℕ → Type 0
-IsPlace rows first place = (k : ℕ) → k < length rows → (row_at rows k).0 ≡ first
-    → (place < length rows) × ((row_at rows place).0 ≡ first)
 
 -- the second number of a row with this first number, or none where no row has it
 abbrev pub IsSecond : List (ℕ × ℕ) → ℕ → Option ℕ → Type 0

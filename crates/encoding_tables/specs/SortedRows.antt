@@ -34,10 +34,6 @@ pub record IsDirectory (rows : List (ℕ × ℕ)) (begins : List ℕ) : Type 0 w
   pub ranks : (first : ℕ) → first < length begins → IsRank rows (first, 0) (slice_index begins first)
   pub last : (k : ℕ) → k < length rows → (row_at rows k).0 + 1 < length begins
 
--- each row's first number is its position
-abbrev pub AreNumbered : List (ℕ × ℕ) → Type 0
-AreNumbered rows = (k : ℕ) → k < length rows → (row_at rows k).0 ≡ k
-
 -- the rows with a first number stand from one position to before another
 pub record IsSpan (rows : List (ℕ × ℕ)) (first from to : ℕ) : Type 0 where
   pub begins : IsRank rows (first, 0) from

@@ -13,7 +13,7 @@ use crate::sorted_rows::SortedRows;
 use std::alloc::{AllocError, Global};
 use std::marker::Model;
 
-/// The list of an index, of which the mapped entries alone are kept.
+/// The list of an index: its entries at their pointers, and its mapped entries in order.
 #[derive(Drop)]
 pub(crate) struct PackedIndex {
     // How many entries the list has, mapped or not.
@@ -69,7 +69,7 @@ impl PackedIndex {
         let by_entry = reversed(alloc, rows)?;
         Ok(PackedIndex {
             size,
-            by_pointer: PointerRows::new(alloc, rows)?,
+            by_pointer: PointerRows::new(alloc, size, rows)?,
             by_entry,
         })
     }

@@ -1,51 +1,47 @@
-//! Rows of an index in the order of their pointers.
+//! The entries of an index at their pointers.
 
-ghost use Rattle.std.specs.Prelude.{◌≡◌, ◌<◌, ◌^◌, ◌==◌, List, ℕ, Some, None, IsTrue, length};
-ghost use Rattle.std.specs.Prelude.{IfOk, IfSome, if◌then◌else◌};
-ghost use Rattle.encoding_tables.specs.PackedLists.{kept_rows, CanFind, IsPlace, IsSecond};
-ghost use Rattle.encoding_tables.specs.SortedRows.{AreNumbered, AreRising};
+ghost use Rattle.std.specs.Prelude.{◌≡◌, ◌==◌, List, ℕ, Some, None, nat_lt, IfOk};
+ghost use Rattle.std.specs.Prelude.{if◌then◌else◌};
+ghost use Rattle.std.specs.List.{list_all};
+ghost use Rattle.encoding_tables.specs.Lookups.{value_of};
+ghost use Rattle.encoding_tables.specs.PackedRows.{listed_rows};
+ghost use Rattle.encoding_tables.specs.PackedLists.{AreIndexRows, IsSecond, kept_entries};
+ghost use Rattle.encoding_tables.specs.PackedLists.{AreNarrowOf, AreEntriesAt, AreWide};
+ghost use Rattle.encoding_tables.specs.PackedLists.{narrow_entry};
 
 use crate::search::search;
-use crate::sorted_rows::directory;
 use std::alloc::{AllocError, Global};
 use std::marker::Model;
 
-/// Rows of two numbers. Where all are small, as in most indexes, they take half the memory, so that
-/// the rows of the characters of a text stay in the fastest of it.
-#[derive(Drop)]
-pub(crate) enum Rows {
-    Small(Vec<(u16, u16)>),
-    Wide(Vec<(u32, u32)>),
-}
-
-/// Rows in order, fewer than 2^16.
+/// Rows of a pointer and an entry that is not 0, in the order of their pointers, as the entry at
+/// each pointer.
 #[derive(Drop)]
 pub(crate) struct PointerRows {
-    rows: Rows,
-    // How many rows stand before each first number, and at last how many there are. None are kept
-    // where each row's first number is its position, as in an index without gaps.
-    begins: Vec<u16>,
+    // The entry at each pointer, and 0 where no row has it or 16 bits do not hold it: most
+    // characters of a text are among these, and take the least of the fastest memory.
+    narrow: Vec<u16>,
+    // Every entry, where 16 bits do not hold one, as in Big5; else empty.
+    wide: Vec<u32>,
 }
 
 impl Model for PointerRows {
     ghost Value = { List (ℕ × ℕ) };
 
-    ghost view = { λ s. kept_rows s.rows };
+    ghost view = { λ s. listed_rows 0 (kept_entries s.narrow.items s.wide.items) };
 
-    ghost invariant = { λ s. AreRising (kept_rows s.rows)
-        × CanFind (kept_rows s.rows) s.begins.items };
+    ghost invariant = { λ s. AreNarrowOf (kept_entries s.narrow.items s.wide.items)
+        s.narrow.items };
 }
 
 impl PointerRows {
-    /// Rows in order.
-    pub(crate) fn new(alloc: Global, rows: &[(u32, u32)]) -> Result<Self, AllocError>
-        requires rising { AreRising rows.now }
-        requires few { length rows.now < 2 ^ 16 }
-        ensures { IfOk result (λ sorted. sorted ≡ rows.now) }
+    /// The mapped rows of an index of this size.
+    pub(crate) fn new(alloc: Global, size: usize, rows: &[(u32, u32)]) -> Result<Self, AllocError>
+        requires { AreIndexRows size rows.now }
+        ensures { IfOk result (λ kept. kept ≡ rows.now) }
     {
-        let begins = places(alloc, rows)?;
-        let rows = kept(alloc, rows)?;
-        Ok(PointerRows { rows, begins })
+        let narrow = narrow_entries(alloc, size, rows)?;
+        let wide = wide_entries(alloc, size, rows)?;
+        Ok(PointerRows { narrow, wide })
     }
 
     /// The second number of a row with this first number, or `None` where no row has it.
@@ -53,26 +49,32 @@ impl PointerRows {
     pub(crate) fn second(&self, first: u32) -> Option<u32>
         ensures { IsSecond self.now first result }
     {
-        let place = self.place(first);
-        match &self.rows {
-            Rows::Small(rows) => {
-                let (number, second) = *rows.get(place)?;
-                second_of((number as u32, second as u32), first)
-            }
-            Rows::Wide(rows) => second_of(*rows.get(place)?, first),
+        match narrow_value(self.narrow.as_slice(), first) {
+            Some(entry) => Some(entry),
+            None => wide_value(self.wide.as_slice(), first),
         }
     }
+}
 
-    // Where a row with this first number stands, if one has it: the directory says so. Without one
-    // the number is the position; behind the end of a directory no row has the number.
-    #[inline(always)]
-    fn place(&self, first: u32) -> usize
-        ensures { IsPlace self.now first result }
-    {
-        match self.begins.get(first as usize) {
-            Some(begin) => *begin as usize,
-            None => first as usize,
-        }
+// The entry of a list at a pointer, where 0 is none.
+#[inline(always)]
+fn narrow_value(entries: &[u16], pointer: u32) -> Option<u32>
+    ensures { result ≡ value_of entries.now pointer }
+{
+    match entries.get(pointer as usize) {
+        Some(entry) if *entry != 0 => second_of((pointer, *entry as u32), pointer),
+        _ => None,
+    }
+}
+
+// The same, in a list of wide entries.
+#[inline(always)]
+fn wide_value(entries: &[u32], pointer: u32) -> Option<u32>
+    ensures { result ≡ value_of entries.now pointer }
+{
+    match entries.get(pointer as usize) {
+        Some(entry) if *entry != 0 => second_of((pointer, *entry), pointer),
+        _ => None,
     }
 }
 
@@ -90,60 +92,58 @@ fn second_of(row: (u32, u32), first: u32) -> Option<u32>
     }
 }
 
-// The rows in memory of their own.
-fn copied(alloc: Global, rows: &[(u32, u32)]) -> Result<Vec<(u32, u32)>, AllocError>
-    ensures { IfOk result (λ same. same.items ≡ rows.now) }
+// An entry that 16 bits hold, or 0.
+fn narrowed(entry: u32) -> u16
+    ensures { result ≡ narrow_entry entry }
 {
-    let mut same = Vec::with_capacity(alloc, rows.len())?;
-    same.extend_from_slice(rows)?;
-    Ok(same)
+    if entry < 0x10000 { entry as u16 } else { 0 }
 }
 
-// The rows, in the smaller of the two forms if it holds them.
-fn kept(alloc: Global, rows: &[(u32, u32)]) -> Result<Rows, AllocError>
-    ensures { IfOk result (λ kept. kept_rows kept ≡ rows.now) }
+// The entry at each pointer, or 0 where 16 bits do not hold it.
+fn narrow_entries(alloc: Global, size: usize, rows: &[(u32, u32)]) -> Result<Vec<u16>, AllocError>
+    requires { AreIndexRows size rows.now }
+    ensures { IfOk result (λ list. AreEntriesAt narrow_entry size rows.now list.items) }
 {
-    match small_rows(alloc, rows)? {
-        Some(small) => Ok(Rows::Small(small)),
-        None => Ok(Rows::Wide(copied(alloc, rows)?)),
+    let mut list = vec![in alloc; 0; size]?;
+    let mut at = rows.len();
+    'rows: while at > 0 {
+        at -= 1;
+        let (pointer, entry) = rows[at];
+        list[pointer as usize] = narrowed(entry);
     }
+    Ok(list)
 }
 
-// The directory of rows, or none where their first numbers are their positions.
-fn places(alloc: Global, rows: &[(u32, u32)]) -> Result<Vec<u16>, AllocError>
-    requires rising { AreRising rows.now }
-    requires few { length rows.now < 2 ^ 16 }
-    ensures { IfOk result (λ begins. CanFind rows.now begins.items) }
+// Every entry at its pointer, where 16 bits do not hold one, or nothing.
+fn wide_entries(alloc: Global, size: usize, rows: &[(u32, u32)]) -> Result<Vec<u32>, AllocError>
+    requires { AreIndexRows size rows.now }
+    ensures { IfOk result (λ list. AreWide size rows.now list.items) }
 {
-    if are_numbered(rows) {
+    if are_narrow(rows) {
         Ok(Vec::new(alloc))
     } else {
-        directory(alloc, rows)
+        entries(alloc, size, rows)
     }
 }
 
-// Whether each row's first number is its position.
-fn are_numbered(rows: &[(u32, u32)]) -> bool
-    ensures { IsTrue result → AreNumbered rows.now }
+// Whether 16 bits hold each entry.
+fn are_narrow(rows: &[(u32, u32)]) -> bool
+    ensures { result ≡ list_all (λ row. nat_lt row.1 0x10000) rows.now }
 {
-    for (position, (first, _)) in rows.iter().enumerate() {
-        if *first as usize != position {
-            return false;
-        }
-    }
-    true
+    rows.iter().all(|(_, entry)| *entry < 0x10000)
 }
 
-// The rows, where all their numbers are below 2^16.
-fn small_rows(alloc: Global, rows: &[(u32, u32)]) -> Result<Option<Vec<(u16, u16)>>, AllocError>
-    ensures { IfOk result (λ small. IfSome small (λ same. same.items ≡ rows.now)) }
+// The entry at each pointer.
+fn entries(alloc: Global, size: usize, rows: &[(u32, u32)]) -> Result<Vec<u32>, AllocError>
+    requires { AreIndexRows size rows.now }
+    ensures { IfOk result (λ list. AreEntriesAt (λ entry. entry) size rows.now list.items) }
 {
-    let mut small = Vec::with_capacity(alloc, rows.len())?;
-    for (first, second) in rows {
-        if *first > 0xFFFF || *second > 0xFFFF {
-            return Ok(None);
-        }
-        small.push((*first as u16, *second as u16))?;
+    let mut list = vec![in alloc; 0; size]?;
+    let mut at = rows.len();
+    'rows: while at > 0 {
+        at -= 1;
+        let (pointer, entry) = rows[at];
+        list[pointer as usize] = entry;
     }
-    Ok(Some(small))
+    Ok(list)
 }

@@ -1,11 +1,10 @@
 //! Rows in order, with a directory that says where the rows of each first number begin, so that a
 //! search looks at the rows of one first number alone.
 
-ghost use Rattle.std.specs.Prelude.{◌≡◌, ◌<◌, ◌^◌, List, ℕ, length, IfOk};
+ghost use Rattle.std.specs.Prelude.{◌≡◌, List, ℕ};
 ghost use Rattle.encoding_tables.specs.SortedRows.{AreRising, IsRank, IsDirectory, IsSpan};
 
 use crate::search::search;
-use std::alloc::{AllocError, Global};
 use std::marker::Model;
 
 /// Rows in order, fewer than 2^16.
@@ -74,24 +73,4 @@ fn rank_in(rows: &[(u32, u32)], begins: &[u16], key: (u32, u32)) -> usize
 {
     let (begin, end) = span_in(rows, begins, key.0);
     begin + search(&rows[begin..end], key).0
-}
-
-/// How many rows stand before each first number, and at last how many there are.
-pub(crate) fn directory(alloc: Global, rows: &[(u32, u32)]) -> Result<Vec<u16>, AllocError>
-    requires rising { AreRising rows.now }
-    requires few { length rows.now < 2 ^ 16 }
-    ensures { IfOk result (λ begins. IsDirectory rows.now begins.items) }
-{
-    let numbers = match rows {
-        [.., (first, _)] => *first as usize + 1,
-        [] => 0,
-    };
-    let mut begins = Vec::with_capacity(alloc, numbers + 1)?;
-    'rows: for (offset, (first, _)) in rows.iter().enumerate() {
-        'numbers: while begins.len() <= *first as usize {
-            begins.push(offset as u16)?;
-        }
-    }
-    begins.push(rows.len() as u16)?;
-    Ok(begins)
 }

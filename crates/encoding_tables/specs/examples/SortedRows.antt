@@ -1,7 +1,7 @@
 -- Worked rows of `specs/SortedRows.antt`.
 use Rattle.std.proofs.Common.{zero, suc, [], ◌∷◌, refl, arith}
 use Rattle.std.specs.Prelude.{◌≡◌, true, false}
-use Rattle.encoding_tables.specs.SortedRows.{is_below, AreNumbered, AreRising, AreSorted}
+use Rattle.encoding_tables.specs.SortedRows.{is_below, AreRising, AreSorted}
 
 by_the_first : is_below (3, 9) (4, 0) ≡ true
 by_the_first = refl
@@ -30,11 +30,3 @@ twice_is_not_rising rise = let first = rise 0 (omega arith) in cc
 
 falling : ¬ (AreSorted ((3, 9) ∷ (3, 8) ∷ []))
 falling sorted = sorted 0 (omega arith) refl
-
-numbered : AreNumbered ((0, 8) ∷ (1, 3) ∷ [])
-numbered zero more = refl
-numbered (suc zero) more = refl
-numbered (suc (suc k)) more = absurd (omega (arith, more))
-
-from_one_is_not_numbered : ¬ (AreNumbered ((1, 8) ∷ (2, 3) ∷ []))
-from_one_is_not_numbered numbered = let first = numbered 0 (omega arith) in cc
