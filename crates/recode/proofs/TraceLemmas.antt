@@ -328,13 +328,16 @@ pub fails_as : {T : Type 0} (r : Result T Fault) (e f : Fault) → IsErrAnd r (�
 fails_as (Ok x) e f same is = tt
 fails_as (Err x) e f same is = same ∙ is
 
+-- what holds of a fault holds of the one that is handed on
+pub handed_on : {T : Type 0} (P : Fault → Type 0) (r : Result T Fault) (e : Fault) → IsErrAnd r (λ (x : Fault). x ≡ e) → P e → IfErr r P
+handed_on P (Ok x) e same h = tt
+handed_on P (Err x) e same h = subst P (sym same) h
+
 pub hands_on : {T : Type 0} (r : Result T Fault) (e : Fault) (w w' : Written) (p : Policy) (a : List Item) → IsErrAnd r (λ (x : Fault). x ≡ e) → WritesPrefix w w' p e a → IfErr r (λ (g : Fault). WritesPrefix w w' p g a)
-hands_on (Ok x) e w w' p a same h = tt
-hands_on (Err x) e w w' p a same h = subst (λ (q : Fault). WritesPrefix w w' p q a) (sym same) h
+hands_on r e w w' p a same h = handed_on (λ (q : Fault). WritesPrefix w w' p q a) r e same h
 
 pub hands_on_for : {T : Type 0} (r : Result T Fault) (e : Fault) (w w' : Written) (p : Policy) (last : Bool) (a : List ℕ → List Item) → IsErrAnd r (λ (x : Fault). x ≡ e) → WritesPrefixFor w w' p e last a → IfErr r (λ (g : Fault). WritesPrefixFor w w' p g last a)
-hands_on_for (Ok x) e w w' p last a same h = tt
-hands_on_for (Err x) e w w' p last a same h = subst (λ (q : Fault). WritesPrefixFor w w' p q last a) (sym same) h
+hands_on_for r e w w' p last a same h = handed_on (λ (q : Fault). WritesPrefixFor w w' p q last a) r e same h
 
 pub fails_in_line : {T : Type 0} (r : Result T Fault) (w l l' : Option (List ℕ)) (p : Policy) (line : List ℕ) (n : ℕ) (item : Item) (more : List Item) → IfErr r (λ (g : Fault). g ≡ Log) → tagged_item item ≡ map Line line → Appends l l' (take n line)
     → IfErr r (λ (g : Fault). (rest : List Item) → WritesPrefix (record { output = w; log = l }) (record { output = w; log = l' }) p g (item ∷ (more ++ rest)))

@@ -2,7 +2,7 @@
 //! sequences are logged.
 
 use crate::codec_calls::{decode_to_pivot, text_in};
-use crate::job::{Buffers, Fault, Pivot, Progress};
+use crate::job::{Fault, Pivot, Progress};
 use crate::target::Target;
 use crate::writers::Writers;
 use encoding_front::StreamDecoder;
@@ -36,14 +36,13 @@ pub struct Engine<D, E> {
 impl<D: StreamDecoder, E: RawEncoder> Engine<D, E> {
     ghost use Rattle.std.specs.Prelude.{◌≡◌, ◌↔◌, ℕ, ◌+◌, ◌-◌, ◌^◌, ◌<◌, ◌≤◌, ◌++◌, ◌⊎◌, IfErr, IfOk, IsTrue, List, OnOk, [], drop, false, length, true};
     ghost use Rattle.recode_log.specs.Counted.{failures_of};
-    ghost use Rattle.recode.specs.Buffers.{AreEnough, KeepSizes};
     ghost use Rattle.recode.specs.Buffers.{HoldsAnyCharacter, capacity, is_wide};
     ghost use Rattle.recode.specs.EngineState.{engine_state};
     ghost use Rattle.recode.specs.Failures.{CountsFault};
     ghost use Rattle.recode.specs.Policy.{form_of};
     ghost use Rattle.recode.specs.Step.{Advances, Finishes, IsNearlyDecided, StepsOn, Stops};
     ghost use Rattle.recode.specs.TraceToWrite.{AreSound, trace_to_write};
-    ghost use Rattle.recode.specs.Verdict.{CanTell, IsFaithfulFor};
+    ghost use Rattle.recode.specs.Verdict.{CanTell, IsFaithfulFor, NeedsOneKind};
     ghost use Rattle.recode.specs.VerdictView.{verdict_view};
     ghost use Rattle.recode.specs.Work.{TakesCalls, calls_at_end};
     ghost use Rattle.recode.specs.Writers.{AreTheSame, CountsWriterFault, MayFail};
@@ -65,7 +64,8 @@ impl<D: StreamDecoder, E: RawEncoder> Engine<D, E> {
         requires sound { AreSound (D.view self.old.decoder).state.pending self.old.target.counts }
         requires limit { self.old.target.counts.read + length chunk.bytes.now ≤ 2 ^ 48 }
         requires check { HoldsAnyCharacter check.old }
-        requires form { is_wide check.old ≡ is_wide pivot.old }
+        requires form { NeedsOneKind (verdict_view D.view self.old.target.verdict)
+            check.old pivot.old }
         requires tells { CanTell (verdict_view D.view self.old.target.verdict)
             (E.coding self.old.target.encoder) (E.set self.old.target.encoder) [] }
         requires writers { MayFail writers.old }
@@ -94,6 +94,7 @@ impl<D: StreamDecoder, E: RawEncoder> Engine<D, E> {
         ensures sound { OnOk result (AreSound (D.view self.new.decoder).state.pending
             self.new.target.counts) }
         ensures target { E.coding self.new.target.encoder ≡ E.coding self.old.target.encoder }
+        ensures by_log { self.new.target.verdict.by_log ≡ self.old.target.verdict.by_log }
         ensures done { IfOk result (λ p. p.is_done ≡ true → p.read ≡ length chunk.entry.bytes.now) }
         ensures end { IfOk result (λ p. p.is_done ≡ true → chunk.entry.last ≡ true
             → trace_to_write (form_of writers.old.policy) (D.view self.new.decoder).state
@@ -204,7 +205,8 @@ impl<D: StreamDecoder, E: RawEncoder> Engine<D, E> {
         requires sound { AreSound (D.view self.old.decoder).state.pending self.old.target.counts }
         requires limit { self.old.target.counts.read + length chunk.now ≤ 2 ^ 48 }
         requires check { HoldsAnyCharacter check.old }
-        requires form { is_wide check.old ≡ is_wide pivot.old }
+        requires form { NeedsOneKind (verdict_view D.view self.old.target.verdict)
+            check.old pivot.old }
         requires tells { CanTell (verdict_view D.view self.old.target.verdict)
             (E.coding self.old.target.encoder) (E.set self.old.target.encoder) [] }
         requires writers { MayFail writers.old }
@@ -300,13 +302,20 @@ impl<D: StreamDecoder, E: RawEncoder> Engine<D, E> {
         reader: &mut Counted<R>,
         writers: &mut Writers<'_, W, L>,
         limit: u64,
-        buffers: &mut Buffers<'_>,
+        input: &mut [u8],
+        pivot: &mut Pivot<'_>,
+        output: &mut [u8],
+        check: &mut Pivot<'_>,
     ) -> Result<Progress, Fault>
         requires limit { limit ≤ 2 ^ 48 }
         requires read { self.old.target.counts.read ≤ limit }
         requires open_ { (D.view self.old.decoder).finished ≡ false }
         requires sound { AreSound (D.view self.old.decoder).state.pending self.old.target.counts }
-        requires buffers { AreEnough buffers.old }
+        requires input { 0 < length input.old }
+        requires pivot { HoldsAnyCharacter pivot.old }
+        requires output { 4 ≤ length output.old }
+        requires check { HoldsAnyCharacter check.old }
+        requires form { is_wide pivot.old ≡ is_wide check.old }
         requires tells { CanTell (verdict_view D.view self.old.target.verdict)
             (E.coding self.old.target.encoder) (E.set self.old.target.encoder) [] }
         requires reader { failures_of reader.old < 2 ^ 64 - 1 }
@@ -337,30 +346,26 @@ impl<D: StreamDecoder, E: RawEncoder> Engine<D, E> {
         ensures failures { CountsFault (failures_to reader.old writers.old)
             (failures_to reader.new writers.new) result }
         ensures writers { AreTheSame writers.old writers.new }
-        ensures buffers { KeepSizes buffers.old buffers.new }
+        ensures check_kind { is_wide check.new ≡ is_wide check.old }
+        ensures check_size { capacity check.new ≡ capacity check.old }
+        ensures kind { is_wide pivot.new ≡ is_wide pivot.old }
+        ensures size { capacity pivot.new ≡ capacity pivot.old }
     {
-        let Ok(read) = reader.read(buffers.input) else {
+        let Ok(read) = reader.read(input) else {
             return Err(Fault::Read);
         };
         if read as u64 > limit - self.target.counts.read {
             return Err(Fault::TooLong);
         }
-        let converted = self.decode_chunk(
-            writers,
-            &mut buffers.input[..read],
-            &mut buffers.pivot,
-            buffers.output,
-            &mut buffers.check,
-        );
-        match converted {
-            Ok(()) => {
-                if read == 0 {
-                    Ok(Progress::Done)
-                } else {
-                    Ok(Progress::More)
-                }
-            }
-            Err(fault) => Err(fault),
+        let chunk = &input[..read];
+        // What is not read back need not be in units: half of the output's room holds the text as
+        // UTF-8, which most encoders read faster.
+        if self.target.verdict.by_log && pivot.is_wide() && output.len() >= 8 {
+            let (text, output) = output.split_at_mut(output.len() / 2);
+            self.decode_chunk(writers, chunk, &mut Pivot::Utf8(text), output, check)?;
+            return Ok(Progress::after(read));
         }
+        self.decode_chunk(writers, chunk, pivot, output, check)?;
+        Ok(Progress::after(read))
     }
 }

@@ -80,7 +80,8 @@ impl<'t> Job<'t> {
 }
 
 /// Room for text on its way from the decoder to the encoder, in one of two forms. What is written
-/// is the same with each.
+/// is the same with each. Room in UTF-16 is used for outputs that are read back; for all others the
+/// text stands as UTF-8 in half of the output's room, if that has 8 bytes or more.
 #[derive(Drop)]
 pub enum Pivot<'b> {
     /// Text in UTF-8, room in bytes.
@@ -118,7 +119,7 @@ impl<'b> Pivot<'b> {
     }
 
     // Whether it is of UTF-16.
-    fn is_wide(&self) -> bool
+    pub(crate) fn is_wide(&self) -> bool
         ensures { result ≡ is_wide self.now }
     {
         match self {
@@ -153,6 +154,22 @@ pub enum Progress {
     More,
     /// The end of the input was read, and all is written: `Session::report` tells the rest.
     Done,
+}
+
+impl Progress {
+    ghost use Rattle.std.specs.Prelude.{◌≡◌, ◌<◌};
+
+    // How a step ended that read so many bytes: a read of none is the end of the input.
+    pub(crate) fn after(read: usize) -> Progress
+        ensures more { result ≡ Progress.More → 0 < read }
+        ensures done { result ≡ Progress.Done → read ≡ 0 }
+    {
+        if read == 0 {
+            Progress::Done
+        } else {
+            Progress::More
+        }
+    }
 }
 
 /// What a run that came to its end tells.

@@ -194,7 +194,16 @@ impl<'t> Session<'t> {
             policy: self.job.policy,
         };
         self.phase = Phase::Stopped;
-        match self.engine.step(reader, &mut writers, limit, buffers) {
+        let stepped = self.engine.step(
+            reader,
+            &mut writers,
+            limit,
+            buffers.input,
+            &mut buffers.pivot,
+            buffers.output,
+            &mut buffers.check,
+        );
+        match stepped {
             Ok(Progress::More) => {
                 self.phase = Phase::Open;
                 Ok(Progress::More)
