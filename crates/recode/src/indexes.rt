@@ -10,6 +10,7 @@ use encoding_front::Encoding;
 use encoding_index::{IndexFaultKind, LoadFault, load_owned};
 use encoding_tables::{IndexKind, TableFault, Tables};
 use std::alloc::{AllocError, Global};
+use std::io;
 use std::io::{ErrorKind, Read};
 use thiserror::Error;
 
@@ -31,6 +32,27 @@ fn empty_text(alloc: Global) -> Result<Vec<u8>, AllocError>
     let room: Vec<u8> = Vec::with_capacity(alloc, 2 * FIRST_ROOM)?;
     drop(room);
     Vec::with_capacity(alloc, FIRST_ROOM)
+}
+
+// How many bytes a read gives at most. `read_to_end` writes zeros where it will read to, in 8 KiB
+// at first and in twice as many behind each read that gave all that was asked for. With a byte less
+// it keeps to 8 KiB, which are still in the fastest memory when the bytes come over them, and the
+// memory behind a file stays untouched.
+const MOST_AT_ONCE: usize = 8191;
+
+// A reader that gives what another one does, in short reads.
+#[derive(Drop)]
+struct ShortReads<R> {
+    inner: R,
+}
+
+impl<R: Read> Read for ShortReads<R> {
+    ghost remaining = { λ s. R.remaining s.inner };
+
+    fn read(&mut self, buf: &mut [u8]) -> io::Result<usize> {
+        let most = buf.len().min(MOST_AT_ONCE);
+        self.inner.read(&mut buf[..most])
+    }
 }
 
 /// Why a source does not give an index file.
@@ -69,7 +91,8 @@ pub fn read_index_file<R: Read + Drop>(alloc: Global, reader: R) -> Result<Vec<u
     let Ok(mut bytes) = empty_text(alloc) else {
         return Err(SourceFault::Memory);
     };
-    match reader
+    let short = ShortReads { inner: reader };
+    match short
         .take(GREATEST_INDEX_FILE as u64 + 1)
         .read_to_end(&mut bytes)
     {
