@@ -35,7 +35,7 @@ scalar_back c units is = elim (cases_lt c 0x1_0000) [
       rw (le-ltb c 0x1_0000 great) (two _ _ units ((omega arith, omega arith), (omega arith, omega arith)) ∙ ap (λ x. x ∷ utf16_lossy_chars units) (omega arith)))
 ]
 
-scalars_back : (cs : List ℕ) → all_scalars cs ≡ true → utf16_lossy_chars (encode_utf16_all cs) ≡ cs
+pub scalars_back : (cs : List ℕ) → all_scalars cs ≡ true → utf16_lossy_chars (encode_utf16_all cs) ≡ cs
 scalars_back [] h = no_units [] refl
 scalars_back (c ∷ cs) h =
     let parts = and_parts (scalar c) (all_scalars cs) h in

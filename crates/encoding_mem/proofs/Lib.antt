@@ -5,6 +5,7 @@ pub mod AsciiLemmas
 pub mod EncoderCallLemmas
 pub mod UnitsTextLemmas
 pub mod Utf16Lemmas
+pub mod UnitRunLemmas
 pub mod Utf8TextLemmas
 pub mod AsciiRunLemmas
 pub mod PrefixLemmas

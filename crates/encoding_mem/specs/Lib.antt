@@ -30,6 +30,7 @@ pub mod Surrogates
 pub mod Conversions
 pub mod TextDestination
 pub mod TextUnits
+pub mod UnitRun
 pub mod Latin1Texts
 pub mod laws
 pub mod examples

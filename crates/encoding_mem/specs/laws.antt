@@ -4,6 +4,7 @@ pub mod Piece
 pub mod Pieces
 pub mod Event
 pub mod Writing
+pub mod UnitRun
 pub mod Utf8
 pub mod Shows
 pub mod DecodedLength

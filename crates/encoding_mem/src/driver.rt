@@ -6,7 +6,7 @@ ghost use Rattle.encoding_mem.specs.Decoding.{Takes, Reports};
 ghost use Rattle.encoding_mem.specs.Driver.{IsNear, IsStep, IsRoomyStep, DriverEndsWith, Remains, Suffices, PartReports, PartEnds, PartSuffices};
 
 use crate::decoder_result::DecoderResult;
-use crate::first_piece::{DecoderRule, FirstPiece};
+use crate::first_piece::{DecoderRule, FirstPiece, UNIT_RUN};
 use crate::pending::Pending;
 use crate::sink::Sink;
 
@@ -143,12 +143,26 @@ fn decode_pieces<F: DecoderRule, S: Sink>(
     ensures near { IsNear (F.pieces codec.new) pending.new }
 {
     let mut rest = src;
+    // A run of units is sought where no more bytes than `seek` are left. Each time that there is none,
+    // twice as many bytes are taken by pieces before the next: text without runs is hardly asked.
+    let mut seek = src.len();
+    let mut apart = 2 * UNIT_RUN;
     'pieces: while !rest.is_empty() {
         let text = codec.text_at(rest, sink.free_len());
         if !text.is_empty() {
             sink.put_text(text);
             rest = &rest[text.len()..];
             continue;
+        }
+        if rest.len() <= seek && sink.free_len() >= 2 * UNIT_RUN {
+            if let Some(units) = codec.units_at(rest) {
+                sink.put_units(&units);
+                rest = &rest[2 * UNIT_RUN..];
+                apart = 2 * UNIT_RUN;
+                continue;
+            }
+            seek = rest.len().saturating_sub(apart);
+            apart = apart.saturating_mul(2);
         }
         match take_piece(codec, rest, last, sink) {
             Step::Wait => {

@@ -26,8 +26,9 @@ pub(crate) fn all_bytes_below(block: u8x64, limit: u8) -> bool
     block.simd_ge(u8x64::splat(limit)).to_bitmask() == 0
 }
 
+/// Whether each of 32 units is below the limit: one branch for all of them.
 #[inline(always)]
-pub(crate) fn all_units_below(block: u16x32, limit: u16) -> bool
+pub fn all_units_below(block: u16x32, limit: u16) -> bool
     ensures { IsTrue result → prefix_len (λ u. not (nat_le limit u)) block ≡ 32 }
 {
     block.simd_ge(u16x32::splat(limit)).to_bitmask() == 0

@@ -1,16 +1,20 @@
 //! A decoder's rule: what the first piece of some bytes is.
 
-ghost use Rattle.std.specs.Prelude.{◌≡◌, ℕ, ◌<◌, ◌≤◌, ◌+◌, ◌++◌, List, [], length, take};
-ghost use Rattle.std.specs.Str.{chars};
+ghost use Rattle.std.specs.Prelude.{◌≡◌, ℕ, ◌<◌, ◌≤◌, ◌+◌, ◌++◌, List, [], IfSome, length, take};
+ghost use Rattle.std.specs.Str.{chars, encode_utf8_all};
 ghost use Rattle.encoding_mem.specs.Piece.{Piece, sizes, ArePieces};
 ghost use Rattle.encoding_mem.specs.DecoderRule.{TellsFirstPiece, HasRoomFor};
 ghost use Rattle.encoding_mem.specs.DecodedLength.{is_units, decoded_length};
 ghost use Rattle.encoding_mem.specs.Text.{text_len, text_pieces};
+ghost use Rattle.encoding_mem.specs.UnitRun.{BeginWithUnits};
 ghost use Rattle.encoding_mem.specs.laws.Utf8Decide.{cut_short};
 ghost use Rattle.encoding_mem.specs.declared.room.OutputUnit.{OutputUnit};
 ghost use Rattle.encoding_mem.specs.declared.room.DecodedLength.{DecodedLength};
 
 use crate::room::DecodedLength;
+
+/// How many units of UTF-16 are decoded at once, where all of them are characters below U+0800.
+pub const UNIT_RUN: usize = 32;
 
 /// What stands at the start of some bytes, by a decoding rule. Lengths are in bytes.
 #[derive(Clone, Copy)]
@@ -80,6 +84,19 @@ pub trait DecoderRule {
             ≡ text_pieces (chars result.now) ++ pieces self.now r }
         ensures room { (k : OutputUnit) (m : ℕ) → text_len (is_units k) result.now + needs self.now k m
             ≤ needs self.now k (length result.now + m) };
+
+    /// The 32 units of UTF-16 that these bytes begin with, where each of them is a character below
+    /// U+0800 and the state stays as it is. Else, and in every encoding but UTF-16, `None`: then
+    /// `first_piece` says what is there.
+    #[inline(always)]
+    fn units_at(&self, _bytes: &[u8]) -> Option<[u16; UNIT_RUN]>
+        ensures units { IfSome result (λ units. BeginWithUnits (pieces self.now) _bytes.now units) }
+        ensures room { IfSome result (λ units. (k : OutputUnit) (m : ℕ)
+            → text_len (is_units k) (encode_utf8_all units) + needs self.now k m
+            ≤ needs self.now k (64 + m)) }
+    {
+        None
+    }
 
     /// The numbers by which the length queries are computed.
     fn room(&self) -> DecodedLength

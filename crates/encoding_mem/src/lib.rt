@@ -40,7 +40,7 @@ pub mod encode;
 mod encoder_laws;
 pub mod encoder_result;
 mod equality_laws;
-mod first;
+pub mod first;
 pub mod first_piece;
 pub mod form;
 pub mod latin1;

@@ -54,6 +54,25 @@ fn put_short_block(units: &[u16], dst: &mut [u8]) -> usize
     written
 }
 
+// Puts a block of units below 800 hex at the start, whether they are ASCII or not, and returns how
+// many bytes it has.
+#[inline(always)]
+pub(crate) fn put_short_units(units: &[u16], dst: &mut [u8]) -> usize
+    requires units { 32 ≤ length units.now }
+    requires room { 64 ≤ length dst.old }
+    requires short { (k : ℕ) → k < 32 → slice_index units.now k < 0x800 }
+    ensures boundary { IsUnitBoundary units.now 32 }
+    ensures fits { result ≤ length dst.new }
+    ensures text { take result dst.new ≡ units_in_utf8 (take 32 units.now) }
+    ensures behind { drop result dst.new ≡ drop result dst.old }
+{
+    if narrow_block(units, dst) {
+        UNIT_BLOCK
+    } else {
+        put_short_block(units, dst)
+    }
+}
+
 // Puts a character at the start, and returns its length. The sink lives for one step, so that a
 // loop's offsets stay in registers.
 #[inline(always)]

@@ -1,8 +1,8 @@
 //! A destination of decoded text.
 
-ghost use Rattle.std.specs.Prelude.{Bool, if◌then◌else◌, ◌≡◌, ℕ, ◌+◌, ◌<◌, ◌≤◌, ◌↔◌, IsTrue, List, [], ◌∷◌, ◌++◌, length};
+ghost use Rattle.std.specs.Prelude.{Bool, if◌then◌else◌, ◌≡◌, ℕ, ◌+◌, ◌<◌, ◌≤◌, ◌↔◌, IsTrue, List, [], ◌∷◌, ◌++◌, length, slice_index};
 ghost use Rattle.std.specs.Char.{len_utf8};
-ghost use Rattle.std.specs.Str.{chars};
+ghost use Rattle.std.specs.Str.{chars, encode_utf8_all};
 ghost use Rattle.encoding_mem.specs.Writing.{len_utf16};
 ghost use Rattle.encoding_mem.specs.Text.{text_len};
 
@@ -52,6 +52,16 @@ pub trait Sink: Drop {
         requires { length text.now ≤ free self.old }
         ensures free { free self.new + text_len is_units text.now ≡ free self.old }
         ensures writes { writes self.old (chars text.now) self.new };
+
+    /// Writes 32 characters below U+0800, given as units of UTF-16. The conditions are tested by
+    /// their number, by comparing each with 800 hex, and by comparing `free_len` with 64.
+    fn put_units(&mut self, units: &[u16])
+        requires whole { length units.now ≡ 32 }
+        requires short { (k : ℕ) → slice_index units.now k < 0x800 }
+        requires room { 64 ≤ free self.old }
+        ensures free { free self.new + text_len is_units (encode_utf8_all units.now)
+            ≡ free self.old }
+        ensures writes { writes self.old units.now self.new };
 
     /// How many units are written: bytes of UTF-8 or units of UTF-16.
     fn written(&self) -> usize

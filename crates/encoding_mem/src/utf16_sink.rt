@@ -37,6 +37,17 @@ impl<'a> Utf16Sink<'a> {
         self.units[self.written] = unit;
         self.written += 1;
     }
+
+    #[inline(always)]
+    fn put_all(&mut self, units: &[u16])
+        requires { length units.now ≤ length self.old.units.now - self.old.written }
+        ensures same_reference { self.new.units.ghost_name ≡ self.old.units.ghost_name }
+        ensures adds { Adds self.old.units.now self.old.written units.now self.new.units.now self.new.written }
+    {
+        let end = self.written + units.len();
+        self.units[self.written..end].copy_from_slice(units);
+        self.written = end;
+    }
 }
 
 impl<'a> Sink for Utf16Sink<'a> {
@@ -82,6 +93,11 @@ impl<'a> Sink for Utf16Sink<'a> {
     fn put_text(&mut self, text: &str) {
         let count = convert_str_to_utf16(text, &mut self.units[self.written..]);
         self.written += count;
+    }
+
+    #[inline(always)]
+    fn put_units(&mut self, units: &[u16]) {
+        self.put_all(units);
     }
 
     #[inline(always)]

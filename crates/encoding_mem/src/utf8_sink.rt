@@ -6,6 +6,7 @@ ghost use Rattle.std.proofs.Common.{◌∙◌};
 ghost use Rattle.encoding_mem.specs.Writing.{Adds};
 ghost use Rattle.encoding_mem.specs.laws.Writing.{adds_none, adds_encoded, cost_fits, cost_two};
 
+use crate::plain_units::put_short_units;
 use crate::sink::Sink;
 use std::mem;
 
@@ -107,6 +108,10 @@ impl<'a> Sink for Utf8Sink<'a> {
     #[inline(always)]
     fn put_text(&mut self, text: &str) {
         self.put_bytes(text.as_bytes());
+    }
+
+    fn put_units(&mut self, units: &[u16]) {
+        self.written += put_short_units(units, &mut self.bytes[self.written..]);
     }
 
     #[inline(always)]

@@ -4,6 +4,7 @@ mod RowNameLemmas
 mod SingleByteLemmas
 pub mod ReplacementLemmas
 pub mod Utf16Lemmas
+pub mod Utf16RunLemmas
 pub mod ReplacementLengthLemmas
 mod KindLemmas
 pub mod RowLemmas

@@ -1,5 +1,5 @@
 -- UTF-16 in bytes, of either order (the Encoding Standard, section 14.2.1, "shared UTF-16 decoder"; RFC 2781).
-use Rattle.std.specs.Prelude.{◌≡◌, ℕ, ◌*◌, ◌<◌, Bool, false, List, [], ◌∷◌, ◌++◌, map, slice_index, if◌then◌else◌, Option, None, Some, refl}
+use Rattle.std.specs.Prelude.{◌≡◌, ℕ, ◌+◌, ◌*◌, ◌<◌, Bool, false, List, [], ◌∷◌, ◌++◌, map, slice_index, if◌then◌else◌, Option, None, Some, refl}
 use Rattle.std.specs.Int.{w16, from_be_bytes, from_le_bytes, to_be_bytes, to_le_bytes}
 use Rattle.std.specs.Char.Utf16.{is_high_surrogate, is_low_surrogate, surrogate_pair_char, utf16_chars}
 use Rattle.std.proofs.Math.Utf8.{scalar}
@@ -42,6 +42,11 @@ first_piece_utf16 big_endian (a ∷ b ∷ x) = after_unit big_endian (unit_of bi
 -- the pieces of some bytes, where the list's end is the end of the input
 abbrev pub pieces_utf16 : (big_endian : Bool) → List ℕ → List Piece
 pieces_utf16 big_endian x = pieces_by (first_piece_utf16 big_endian) x
+
+-- each of so many units is the next two bytes
+abbrev pub AreUnitsOf : (big_endian : Bool) → ℕ → List ℕ → List ℕ → Type 0
+AreUnitsOf big_endian count units bytes = (k : ℕ) → k < count
+    → slice_index units k ≡ unit_of big_endian (slice_index bytes (2 * k)) (slice_index bytes (2 * k + 1))
 
 -- the piece of a character, and of a surrogate in no pair
 abbrev pub piece_of_char : Option ℕ → Piece

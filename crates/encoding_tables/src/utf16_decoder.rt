@@ -2,21 +2,23 @@
 //! UTF-16 decoder").
 
 ghost use Rattle.std.proofs.Common.{refl, arith};
-ghost use Rattle.std.specs.Prelude.{◌≡◌, ◌+◌, Bool, IsTrue, false, true};
+ghost use Rattle.std.specs.Prelude.{◌≡◌, ◌+◌, ◌≤◌, Bool, IsTrue, false, length, true};
 ghost use Rattle.std.specs.Char.Utf16.{is_high_surrogate, is_low_surrogate, surrogate_pair_char};
 ghost use Rattle.encoding_mem.specs.laws.Pieces.{pieces_by-nil, pieces_by-whole, pieces_by-are_pieces};
 ghost use Rattle.encoding_mem.specs.Decoding.{IsFreshDecoder};
 ghost use Rattle.encoding_mem.specs.DecodedLength.{decoded_length, decoded_length_utf16};
-ghost use Rattle.encoding_tables.specs.Utf16.{unit_of, first_piece_utf16, pieces_utf16};
+ghost use Rattle.encoding_tables.specs.Utf16.{AreUnitsOf, unit_of, first_piece_utf16, pieces_utf16};
 ghost use Rattle.encoding_tables.specs.laws.Utf16Decide.{decide_utf16, decide_unit, decide_pair};
 ghost use Rattle.encoding_tables.specs.laws.Utf16.{cuts_utf16};
 
-use encoding_mem::first_piece::{DecoderRule, FirstPiece, cut_short};
+use encoding_mem::first::all_units_below;
+use encoding_mem::first_piece::{DecoderRule, FirstPiece, UNIT_RUN, cut_short};
 use encoding_mem::room::DecodedLength;
 use encoding_mem::scalar::scalar_of;
 use encoding_mem::sink::Sink;
 use encoding_mem::sink_decoder::{Buffered, SinkDecoder};
 use encoding_mem::{DecoderResult, RawDecoder};
+use std::simd::prelude::*;
 
 // Which of its two bytes is a unit's high one. It is a type, so that the loop of neither order asks
 // for it with each unit.
@@ -90,9 +92,38 @@ impl<E: ByteOrder> DecoderRule for Utf16Rule<E> {
         ""
     }
 
+    #[inline(always)]
+    fn units_at(&self, bytes: &[u8]) -> Option<[u16; UNIT_RUN]> {
+        if bytes.len() < 2 * UNIT_RUN {
+            return None;
+        }
+        let units = units_in::<E>(bytes);
+        if all_units_below(u16x32::from_array(units), 0x800) {
+            Some(units)
+        } else {
+            None
+        }
+    }
+
     fn room(&self) -> DecodedLength {
         DecodedLength::utf16()
     }
+}
+
+// The units that the first bytes are.
+#[inline(always)]
+fn units_in<E: ByteOrder>(bytes: &[u8]) -> [u16; UNIT_RUN]
+    requires { 64 ≤ length bytes.now }
+    ensures whole { length result ≡ 32 }
+    ensures units { AreUnitsOf E.big_endian 32 result bytes.now }
+{
+    let mut units = [0; UNIT_RUN];
+    let mut at = 0;
+    'units: while at < UNIT_RUN {
+        units[at] = E::unit_of(bytes[2 * at], bytes[2 * at + 1]);
+        at += 1;
+    }
+    units
 }
 
 #[inline(always)]

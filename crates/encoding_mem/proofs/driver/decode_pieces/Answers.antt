@@ -1,4 +1,4 @@
-use Rattle.std.proofs.Common.{◌≡◌, ℕ, ◌+◌, ◌-◌, ◌≤◌, List, length, take, drop, length-take, refl, sym, subst, ap, ◌∙◌, arith}
+use Rattle.std.proofs.Common.{◌≡◌, ℕ, ◌+◌, ◌-◌, ◌≤◌, List, encode_utf8_all, length, take, drop, length-take, refl, sym, subst, ap, ◌∙◌, arith}
 use Rattle.std.proofs.lemmas.List.{append-nil}
 use Rattle.encoding_mem.specs.Piece.{malformed, AreWellFormed, scalars_of}
 use Rattle.encoding_mem.specs.laws.Piece.{AreWellFormed-last}
@@ -6,7 +6,7 @@ use Rattle.encoding_mem.specs.Decoding.{Reports, Takes}
 use Rattle.encoding_mem.specs.DecodedLength.{is_units}
 use Rattle.encoding_mem.specs.Text.{text_len}
 use Rattle.encoding_mem.specs.declared.decoder_result.DecoderResult.TheVariants.{Malformed}
-use Rattle.encoding_mem.proofs.DecoderCallLemmas.{enough_left, left_behind, none_pending, took_source, took_text}
+use Rattle.encoding_mem.proofs.DecoderCallLemmas.{enough_left, left_behind, none_pending, took_source, took_text, took_units}
 use Rattle.encoding_mem.proofs.driver.decode_pieces.Goals as goal
 
 pub pieces-preserved-then-not-is_empty : goal.pieces-preserved-then-not-is_empty
@@ -34,6 +34,35 @@ pieces-preserved-then-not-is_empty g c =
           subst (λ (x : ℕ). need (x + extra) ≤ g.S.Sink.free c.put_text.new.self) (sym left.size) here);
       takes = subst (λ (k : ℕ). Takes AreWellFormed (g.F.DecoderRule.pieces c.args.codec.now) (g.F.DecoderRule.pieces c.pieces.codec) src c.args.last 0 0 k (λ t. g.S.Sink.writes c.args.sink.now t c.put_text.new.self)) (sym left.read)
           (took_text _ (g.F.DecoderRule.pieces c.pieces.codec) src rest text c.args.last _ (length src - length rest) (λ t. g.S.Sink.writes c.args.sink.now t c.pieces.sink) (λ t. g.S.Sink.writes c.args.sink.now t c.put_text.new.self) i.behind e.prefix c.text_at-text.utf8 e.pieces (λ t w. g.met.S.Sink.writes_more _ _ _ t _ w c.put_text.ensures.writes) i.takes);
+    }
+
+pub pieces-preserved-in-Some : goal.pieces-preserved-in-Some
+pieces-preserved-in-Some g c =
+    let i = c.pieces.invariant in
+    let e = c.in-Some.ensures in
+    let src : List ℕ = c.args.src.now in
+    let rest : List ℕ = c.pieces.rest.now in
+    let units : List ℕ = c.in-Some.units in
+    let n : ℕ = 64 in
+    let fits : n ≤ length rest = e.units.within in
+    let left = left_behind src rest n i.within i.behind fits in
+    let text : List ℕ = encode_utf8_all units in
+    record {
+      none = i.none;
+      limits = i.limits;
+      within = left.within;
+      behind = left.behind;
+      enough = λ k extra kind stops h. (
+          let need : ℕ → ℕ = g.F.DecoderRule.needs c.pieces.codec k in
+          let less : ℕ = (length rest - n) + extra in
+          let all : ℕ = length rest + extra in
+          let sum_is : n + less ≡ all = omega (arith, fits) in
+          let len_is : text_len (is_units k) text ≡ text_len g.S.Sink.is_units text = ap (λ t. text_len t text) kind in
+          let room : text_len (is_units k) text + need less ≤ need all = subst (λ (x : ℕ). text_len (is_units k) text + need less ≤ need x) sum_is (e.room k less) in
+          let here : need less ≤ g.S.Sink.free c.put_units.new.self = enough_left (text_len g.S.Sink.is_units text) (need less) (need all) (g.S.Sink.free c.pieces.sink) (g.S.Sink.free c.put_units.new.self) (omega (arith, room, len_is)) (i.enough k extra kind stops h) c.put_units.ensures.free in
+          subst (λ (x : ℕ). need (x + extra) ≤ g.S.Sink.free c.put_units.new.self) (sym left.size) here);
+      takes = subst (λ (k : ℕ). Takes AreWellFormed (g.F.DecoderRule.pieces c.args.codec.now) (g.F.DecoderRule.pieces c.pieces.codec) src c.args.last 0 0 k (λ t. g.S.Sink.writes c.args.sink.now t c.put_units.new.self)) (sym left.read)
+          (took_units _ (g.F.DecoderRule.pieces c.pieces.codec) src rest units c.args.last _ (length src - length rest) (λ t. g.S.Sink.writes c.args.sink.now t c.pieces.sink) (λ t. g.S.Sink.writes c.args.sink.now t c.put_units.new.self) i.behind e.units (λ t w. g.met.S.Sink.writes_more _ _ _ t _ w c.put_units.ensures.writes) i.takes);
     }
 
 pub pieces-preserved : goal.pieces-preserved

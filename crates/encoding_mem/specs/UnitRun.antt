@@ -1,0 +1,17 @@
+-- A run of characters below U+0800 that stand in units of UTF-16, of two bytes each.
+use Rattle.std.specs.Prelude.{◌≡◌, ℕ, ◌<◌, ◌≤◌, List, [], ◌∷◌, ◌++◌, length, map, refl, slice_index, take}
+use Rattle.encoding_mem.specs.Piece.{Piece, well_formed}
+
+-- its pieces: each unit is a character
+abbrev pub unit_pieces : List ℕ → List Piece
+unit_pieces units = map (λ u. well_formed 2 (u ∷ [])) units
+
+two_units : unit_pieces (0x41 ∷ 0xE9 ∷ []) ≡ well_formed 2 (0x41 ∷ []) ∷ well_formed 2 (0xE9 ∷ []) ∷ []
+two_units = refl
+
+-- bytes begin with 32 such units, whatever follows
+pub record BeginWithUnits (pieces : List ℕ → List Piece) (bytes units : List ℕ) : Type 0 where
+  pub whole : length units ≡ 32
+  pub within : 64 ≤ length bytes
+  pub short : (k : ℕ) → slice_index units k < 0x800
+  pub rest : (r : List ℕ) → pieces (take 64 bytes ++ r) ≡ unit_pieces units ++ pieces r
