@@ -143,8 +143,9 @@ fn decode_pieces<F: DecoderRule, S: Sink>(
     ensures near { IsNear (F.pieces codec.new) pending.new }
 {
     let mut rest = src;
-    // A run of units is sought where no more bytes than `seek` are left. Each time that there is none,
-    // twice as many bytes are taken by pieces before the next: text without runs is hardly asked.
+    // A run of units is sought where no more bytes than `seek` are left. Each time that there is
+    // none, twice as many bytes are taken by pieces before the next try, so that text without runs
+    // is hardly asked.
     let mut seek = src.len();
     let mut apart = 2 * UNIT_RUN;
     'pieces: while !rest.is_empty() {

@@ -42,7 +42,8 @@ impl<'a> Utf16Sink<'a> {
     fn put_all(&mut self, units: &[u16])
         requires { length units.now ≤ length self.old.units.now - self.old.written }
         ensures same_reference { self.new.units.ghost_name ≡ self.old.units.ghost_name }
-        ensures adds { Adds self.old.units.now self.old.written units.now self.new.units.now self.new.written }
+        ensures adds { Adds self.old.units.now self.old.written units.now
+            self.new.units.now self.new.written }
     {
         let end = self.written + units.len();
         self.units[self.written..end].copy_from_slice(units);
