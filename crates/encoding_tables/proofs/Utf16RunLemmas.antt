@@ -43,8 +43,8 @@ short_pieces e (u ∷ us) (a ∷ b ∷ xs) r size are short =
     let low : (k : ℕ) → 2 * suc k ≡ suc (suc (2 * k)) = λ k. omega arith in
     let high : (k : ℕ) → 2 * suc k + 1 ≡ suc (suc (2 * k + 1)) = λ k. omega arith in
     let rest : AreUnitsOf e (length us) us xs = λ k below. are (suc k) (omega (arith, below))
-        ∙ ap (λ i. unit_of e (get_or (a ∷ b ∷ xs) i 0) (get_or (a ∷ b ∷ xs) (2 * suc k + 1) 0)) (low k)
-        ∙ ap (λ i. unit_of e (get_or xs (2 * k) 0) (get_or (a ∷ b ∷ xs) i 0)) (high k) in
+    ∙ ap (λ i. unit_of e (get_or (a ∷ b ∷ xs) i 0) (get_or (a ∷ b ∷ xs) (2 * suc k + 1) 0)) (low k)
+    ∙ ap (λ i. unit_of e (get_or xs (2 * k) 0) (get_or (a ∷ b ∷ xs) i 0)) (high k) in
     pieces_by-cons (first_piece_utf16 e) (cuts_utf16 e) a (b ∷ (xs ++ r))
     ∙ ap (λ p. p ∷ pieces_utf16 e (drop (piece_len p) (a ∷ b ∷ (xs ++ r)))) is
     ∙ ap (λ ps. well_formed 2 (u ∷ []) ∷ ps) (short_pieces e us xs r (omega (arith, size)) rest (λ k. short (suc k)))
@@ -61,8 +61,8 @@ pub short_run : (e : Bool) (us bytes : List ℕ) → length us ≡ 32 → 64 ≤
     → BeginWithUnits (pieces_utf16 e) bytes us
 short_run e us bytes whole fits are short =
     let here : AreUnitsOf e (length us) us (take 64 bytes) = λ k below. are k (omega (arith, below, whole))
-        ∙ ap (λ a. unit_of e a (get_or bytes (2 * k + 1) 0)) (sym (get_or-take 64 bytes (2 * k) 0 (omega (arith, below, whole))))
-        ∙ ap (λ b. unit_of e (get_or (take 64 bytes) (2 * k) 0) b) (sym (get_or-take 64 bytes (2 * k + 1) 0 (omega (arith, below, whole)))) in
+    ∙ ap (λ a. unit_of e a (get_or bytes (2 * k + 1) 0)) (sym (get_or-take 64 bytes (2 * k) 0 (omega (arith, below, whole))))
+    ∙ ap (λ b. unit_of e (get_or (take 64 bytes) (2 * k) 0) b) (sym (get_or-take 64 bytes (2 * k + 1) 0 (omega (arith, below, whole)))) in
     record {
       whole = whole;
       within = fits;
