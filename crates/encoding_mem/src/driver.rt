@@ -155,6 +155,7 @@ fn decode_pieces<F: DecoderRule, S: Sink>(
             rest = &rest[text.len()..];
             continue;
         }
+        // Three bytes a unit; where units are written, a third of it would do.
         if rest.len() <= seek && sink.free_len() >= 3 * UNIT_RUN {
             if let Some(units) = codec.units_at(rest) {
                 sink.put_units(&units);

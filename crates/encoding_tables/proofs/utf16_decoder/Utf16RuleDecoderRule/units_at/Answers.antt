@@ -6,9 +6,9 @@ pub returns-then-all_units_below-clause-units : goal.returns-then-all_units_belo
 returns-then-all_units_below-clause-units g c =
     let e = c.units_in-units.ensures in
     plain_run g.E.ByteOrder.big_endian c.units_in-units.result c.args.bytes.now e.whole (omega (arith, c.if-bytes.false)) e.units
-    (all_plain c.units_in-units.result (c.all_units_below.ensures c.if-all_units_below.true ∙ sym e.whole))
+    (all_plain c.units_in-units.result (c.all_units_below.ensures.all c.if-all_units_below.true ∙ sym e.whole))
 
 pub returns-then-all_units_below-clause-room : goal.returns-then-all_units_below-clause-room
 returns-then-all_units_below-clause-room g c =
     let e = c.units_in-units.ensures in
-    plain_room c.units_in-units.result e.whole (all_plain c.units_in-units.result (c.all_units_below.ensures c.if-all_units_below.true ∙ sym e.whole))
+    plain_room c.units_in-units.result e.whole (all_plain c.units_in-units.result (c.all_units_below.ensures.all c.if-all_units_below.true ∙ sym e.whole))
