@@ -1,6 +1,7 @@
 -- A prefix of ASCII bytes. The bits of a vector that is compared with one value.
-use Rattle.std.proofs.Common.{ℕ, ◌+◌, ◌≤◌, ◌<◌, inl, inr, List, length, take, get_or, arith, subst, ◌≡◌, length-take, ◌^◌, ◌-◌, ◌%◌, Bool, cond, ap, ◌∙◌}
+use Rattle.std.proofs.Common.{ℕ, ◌+◌, ◌≤◌, ◌<◌, inl, inr, List, length, take, get_or, arith, subst, ◌≡◌, length-take, ◌^◌, ◌-◌, ◌%◌, ◌*◌, Bool, true, false, not, cond, ap, ◌∙◌, suc, [], ◌∷◌, refl}
 use Rattle.std.specs.Str.{IsAscii}
+use Rattle.std.specs.List.{prefix_len}
 use Rattle.std.proofs.lemmas.Bool.{cases_lt}
 use Rattle.std.proofs.lemmas.List.{get_or-take, get_or_past, length-map}
 use Rattle.encoding_mem.specs.LongestPrefix.{IsLongestPrefix}
@@ -31,6 +32,15 @@ behind_ascii xs n prefix more = elim (cases_lt (get_or xs n 0) 0x80) [
     ]
 
 -- The bits of a vector that is compared with one value.
+
+-- where no lane passes p, no bit is set
+unset_bit : (b : Bool) (n m l : ℕ) → cond (not b) (1 + m) 0 ≡ suc l → (m ≡ l → n ≡ 0) → cond b 1 0 + 2 * n ≡ 0
+unset_bit true n m l e f = absurd (omega (arith, e))
+unset_bit false n m l e f = omega (arith, f (omega (arith, e)))
+
+pub empty_mask : {X : Type 0} (p : X → Bool) (xs : List X) → prefix_len (λ x. not (p x)) xs ≡ length xs → mask_l (map p xs) ≡ 0
+empty_mask p [] all = refl
+empty_mask p (x ∷ xs) all = unset_bit (p x) (mask_l (map p xs)) (prefix_len (λ y. not (p y)) xs) (length xs) all (empty_mask p xs)
 
 -- std's bitmask_splat, with the value on the left: `simd_ge` compares the other way round
 pub bitmask_splat_left : {X : Type 0} (w : Width) (t : X → X → Bool) (n : ℕ) (x : X) (ys : List X) → length ys ≡ n → n ≤ 64

@@ -10,7 +10,7 @@ use lib.Dec.{leb}
 use mir.Val.{bool_byte}
 use Rattle.encoding_mem.specs.Conversions.{units_in_utf8}
 use Rattle.encoding_mem.specs.Writing.{Adds, len_utf16}
-use Rattle.encoding_mem.specs.laws.Utf8.{encode_two}
+use Rattle.encoding_mem.specs.laws.Utf8.{encode_two, encode_three}
 use Rattle.encoding_mem.proofs.AsciiLemmas.{ascii_take}
 use Rattle.encoding_mem.proofs.AsciiRunLemmas.{run_units}
 use Rattle.encoding_mem.proofs.DestinationLemmas.{drop_past_set}
@@ -35,6 +35,42 @@ short_one u lead dst low is room = rw (lt-leb 0x80 u low, encode_ascii u low, is
 pub short_two : (u lead : ℕ) (dst : List ℕ) → 0x80 ≤ u → u < 0x800 → lead ≡ 192 + u / 64 → 2 ≤ length dst
     → Adds dst 0 (encode_utf8_all (u ∷ [])) (set (set dst (bool_byte (leb 0x80 u)) (128 + u % 64)) 0 lead) (bool_byte (leb 0x80 u) + 1)
 short_two u lead dst from below is room = rw (le-leb 0x80 u from, encode_two u from below, is) (put_two (192 + u / 64) (128 + u % 64) dst room)
+
+-- the last byte is written first, and what a shorter character has not is written over
+put_first : (a b c : ℕ) (dst : List ℕ) → 3 ≤ length dst → Adds dst 0 (a ∷ []) (set (set (set dst 0 c) 0 b) 0 a) 1
+put_first a b c [] room = absurd (omega arith)
+put_first a b c (x ∷ dst) room = record { counted = refl; within = omega arith; list = refl }
+
+put_second : (a b c : ℕ) (dst : List ℕ) → 3 ≤ length dst → Adds dst 0 (a ∷ c ∷ []) (set (set (set dst 1 c) 0 b) 0 a) 2
+put_second a b c [] room = absurd (omega arith)
+put_second a b c (x ∷ []) room = absurd (omega arith)
+put_second a b c (x ∷ y ∷ dst) room = record { counted = refl; within = omega arith; list = refl }
+
+put_third : (a b c : ℕ) (dst : List ℕ) → 3 ≤ length dst → Adds dst 0 (a ∷ b ∷ c ∷ []) (set (set (set dst 2 c) 1 b) 0 a) 3
+put_third a b c [] room = absurd (omega arith)
+put_third a b c (x ∷ []) room = absurd (omega arith)
+put_third a b c (x ∷ y ∷ []) room = absurd (omega arith)
+put_third a b c (x ∷ y ∷ z ∷ dst) room = record { counted = refl; within = omega arith; list = refl }
+
+-- what is written for a unit, and its length
+abbrev pub PutsPlain : (u lead : ℕ) (dst : List ℕ) → Type 0
+PutsPlain u lead dst = Adds dst 0 (encode_utf8_all (u ∷ []))
+    (set (set (set dst (bool_byte (leb 0x80 u) + bool_byte (leb 0x800 u)) (128 + u % 64)) (bool_byte (leb 0x800 u)) (128 + u / 64 % 64)) 0 lead)
+    (bool_byte (leb 0x80 u) + bool_byte (leb 0x800 u) + 1)
+
+pub plain_one : (u lead : ℕ) (dst : List ℕ) → u < 0x80 → lead ≡ u → 3 ≤ length dst → PutsPlain u lead dst
+plain_one u lead dst low is room =
+    let below : u < 0x800 = omega (arith, low) in
+    rw (lt-leb 0x80 u low, lt-leb 0x800 u below, encode_ascii u low, is) (put_first u (128 + u / 64 % 64) (128 + u % 64) dst room)
+
+pub plain_two : (u lead : ℕ) (dst : List ℕ) → 0x80 ≤ u → u < 0x800 → lead ≡ 192 + u / 64 → 3 ≤ length dst → PutsPlain u lead dst
+plain_two u lead dst from below is room =
+    rw (le-leb 0x80 u from, lt-leb 0x800 u below, encode_two u from below, is) (put_second (192 + u / 64) (128 + u / 64 % 64) (128 + u % 64) dst room)
+
+pub plain_three : (u lead : ℕ) (dst : List ℕ) → 0x800 ≤ u → u < 0x10000 → lead ≡ 224 + u / 4096 → 3 ≤ length dst → PutsPlain u lead dst
+plain_three u lead dst from below is room =
+    let over : 0x80 ≤ u = omega (arith, from) in
+    rw (le-leb 0x80 u over, le-leb 0x800 u from, encode_three u from below, is) (put_third (224 + u / 4096) (128 + u / 64 % 64) (128 + u % 64) dst room)
 
 -- a unit that is no surrogate is its character
 pub plain_at : (us : List ℕ) (i : ℕ) → i < length us → get_or us i 0 < 0xD800 → utf16_lossy_chars (drop i us) ≡ (get_or us i 0 ∷ []) ++ utf16_lossy_chars (drop (i + 1) us)

@@ -1,4 +1,4 @@
--- A run of characters below U+0800 that stand in units of UTF-16, of two bytes each.
+-- A run of characters below U+D800 that stand in units of UTF-16, of two bytes each.
 use Rattle.std.specs.Prelude.{◌≡◌, ℕ, ◌<◌, ◌≤◌, List, [], ◌∷◌, ◌++◌, length, map, refl, slice_index, take}
 use Rattle.encoding_mem.specs.Piece.{Piece, well_formed}
 
@@ -13,5 +13,5 @@ two_units = refl
 pub record BeginWithUnits (pieces : List ℕ → List Piece) (bytes units : List ℕ) : Type 0 where
   pub whole : length units ≡ 32
   pub within : 64 ≤ length bytes
-  pub short : (k : ℕ) → slice_index units k < 0x800
+  pub plain : (k : ℕ) → slice_index units k < 0xD800
   pub rest : (r : List ℕ) → pieces (take 64 bytes ++ r) ≡ unit_pieces units ++ pieces r

@@ -143,11 +143,11 @@ fn decode_pieces<F: DecoderRule, S: Sink>(
     ensures near { IsNear (F.pieces codec.new) pending.new }
 {
     let mut rest = src;
-    // A run of units is sought where no more bytes than `seek` are left. Each time that there is
-    // none, twice as many bytes are taken by pieces before the next try, so that text without runs
-    // is hardly asked.
+    // A run of units is sought where no more bytes than `seek` are left. Where there is none, what
+    // is in its way is taken by pieces: 16 bytes, and 16 more each time, so that text without runs
+    // is rarely asked for them.
     let mut seek = src.len();
-    let mut apart = 2 * UNIT_RUN;
+    let mut apart = 16;
     'pieces: while !rest.is_empty() {
         let text = codec.text_at(rest, sink.free_len());
         if !text.is_empty() {
@@ -155,15 +155,16 @@ fn decode_pieces<F: DecoderRule, S: Sink>(
             rest = &rest[text.len()..];
             continue;
         }
-        if rest.len() <= seek && sink.free_len() >= 2 * UNIT_RUN {
+        // Three bytes a unit; where units are written, a third of it would do.
+        if rest.len() <= seek && sink.free_len() >= 3 * UNIT_RUN {
             if let Some(units) = codec.units_at(rest) {
                 sink.put_units(&units);
                 rest = &rest[2 * UNIT_RUN..];
-                apart = 2 * UNIT_RUN;
+                apart = 16;
                 continue;
             }
             seek = rest.len().saturating_sub(apart);
-            apart = apart.saturating_mul(2);
+            apart = apart.saturating_add(16);
         }
         match take_piece(codec, rest, last, sink) {
             Step::Wait => {

@@ -6,8 +6,8 @@ ghost use Rattle.std.specs.List.{prefix_len};
 
 use std::simd::prelude::*;
 
-/// How many bytes or units are tested at a time, with one branch for all of them. Where one of them
-/// is too large, or fewer are left, smaller vectors say where the run ends.
+/// How many bytes are tested at a time, with one branch for all of them. Where one of them is too
+/// large, or fewer are left, smaller vectors say where the run ends.
 pub(crate) const BYTE_BLOCK: usize = 64;
 
 /// How many units are tested, narrowed or written in UTF-8 at a time: those of `BYTE_BLOCK` bytes.
@@ -19,6 +19,7 @@ pub(crate) const BYTE_LANES: usize = 16;
 /// How many units a smaller vector has.
 pub(crate) const UNIT_LANES: usize = 8;
 
+// Whether each of 64 bytes is below the limit: one branch for all of them.
 #[inline(always)]
 pub(crate) fn all_bytes_below(block: u8x64, limit: u8) -> bool
     ensures { IsTrue result → prefix_len (λ b. not (nat_le limit b)) block ≡ 64 }
@@ -29,7 +30,8 @@ pub(crate) fn all_bytes_below(block: u8x64, limit: u8) -> bool
 /// Whether each of 32 units is below the limit: one branch for all of them.
 #[inline(always)]
 pub fn all_units_below(block: u16x32, limit: u16) -> bool
-    ensures { IsTrue result → prefix_len (λ u. not (nat_le limit u)) block ≡ 32 }
+    ensures all { IsTrue result → prefix_len (λ u. not (nat_le limit u)) block ≡ 32 }
+    ensures only { prefix_len (λ u. not (nat_le limit u)) block ≡ 32 → IsTrue result }
 {
     block.simd_ge(u16x32::splat(limit)).to_bitmask() == 0
 }
@@ -48,7 +50,8 @@ pub(crate) fn lanes_below(block: u8x16, limit: u8) -> usize
     }
 }
 
-/// The same of units.
+/// How many units stand before the first that is not below the limit; all of them where there is
+/// none.
 #[inline(always)]
 pub(crate) fn unit_lanes_below(block: u16x8, limit: u16) -> usize
     ensures { result ≡ prefix_len (λ u. not (nat_le limit u)) block }

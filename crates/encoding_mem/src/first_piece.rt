@@ -13,7 +13,7 @@ ghost use Rattle.encoding_mem.specs.declared.room.DecodedLength.{DecodedLength};
 
 use crate::room::DecodedLength;
 
-/// How many units of UTF-16 are decoded at once, where all of them are characters below U+0800.
+/// How many units of UTF-16 are decoded at once, where all of them are characters below U+D800.
 pub const UNIT_RUN: usize = 32;
 
 /// What stands at the start of some bytes, by a decoding rule. Lengths are in bytes.
@@ -86,8 +86,8 @@ pub trait DecoderRule {
             ≤ needs self.now k (length result.now + m) };
 
     /// The 32 units of UTF-16 that these bytes begin with, where each of them is a character below
-    /// U+0800 and the state stays as it is. Else, and in every encoding but UTF-16, `None`: then
-    /// `first_piece` says what is there.
+    /// U+D800 and the state stays as it is. `None` may be returned anywhere, as by each rule but
+    /// that of UTF-16: then `first_piece` says what is there.
     #[inline(always)]
     fn units_at(&self, _bytes: &[u8]) -> Option<[u16; UNIT_RUN]>
         ensures units { IfSome result (λ units. BeginWithUnits (pieces self.now) _bytes.now units) }

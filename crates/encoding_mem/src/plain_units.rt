@@ -54,13 +54,52 @@ fn put_short_block(units: &[u16], dst: &mut [u8]) -> usize
     written
 }
 
-// Puts a block of units below 800 hex at the start, whether they are ASCII or not, and returns how
-// many bytes it has.
+// Puts a unit below D800 hex at the start, and returns its length: no branch asks which it is.
 #[inline(always)]
-pub(crate) fn put_short_units(units: &[u16], dst: &mut [u8]) -> usize
+fn put_plain(unit: u16, dst: &mut [u8]) -> usize
+    requires plain { unit < 0xD800 }
+    requires room { 3 ≤ length dst.old }
+    ensures adds { Adds dst.old 0 (encode_utf8_all (unit ∷ [])) dst.new result }
+    ensures few { result ≤ 3 }
+{
+    let is_two = unit >= 0x80;
+    let is_three = unit >= 0x800;
+    let short = if is_two { 0xC0 + unit / 64 } else { unit };
+    let lead = if is_three { 0xE0 + unit / 4096 } else { short };
+    // The last byte first: what a shorter character has not is written over.
+    dst[is_two as usize + is_three as usize] = (0x80 + unit % 64) as u8;
+    dst[is_three as usize] = (0x80 + unit / 64 % 64) as u8;
+    dst[0] = lead as u8;
+    is_two as usize + is_three as usize + 1
+}
+
+// Puts a block of units below D800 hex at the start, and returns how many bytes it has.
+#[inline(always)]
+fn put_plain_block(units: &[u16], dst: &mut [u8]) -> usize
     requires units { 32 ≤ length units.now }
-    requires room { 64 ≤ length dst.old }
-    requires short { (k : ℕ) → k < 32 → slice_index units.now k < 0x800 }
+    requires room { 96 ≤ length dst.old }
+    requires plain { (k : ℕ) → k < 32 → slice_index units.now k < 0xD800 }
+    ensures boundary { IsUnitBoundary units.now 32 }
+    ensures fits { result ≤ length dst.new }
+    ensures text { take result dst.new ≡ units_in_utf8 (take 32 units.now) }
+    ensures behind { drop result dst.new ≡ drop result dst.old }
+{
+    let mut read = 0;
+    let mut written = 0;
+    'units: while read < UNIT_BLOCK {
+        written += put_plain(units[read], &mut dst[written..]);
+        read += 1;
+    }
+    written
+}
+
+// Puts a block of units below D800 hex at the start, by the way that is fastest for it, and returns
+// how many bytes it has.
+#[inline(always)]
+pub(crate) fn put_plain_units(units: &[u16], dst: &mut [u8]) -> usize
+    requires units { 32 ≤ length units.now }
+    requires room { 96 ≤ length dst.old }
+    requires plain { (k : ℕ) → k < 32 → slice_index units.now k < 0xD800 }
     ensures boundary { IsUnitBoundary units.now 32 }
     ensures fits { result ≤ length dst.new }
     ensures text { take result dst.new ≡ units_in_utf8 (take 32 units.now) }
@@ -68,8 +107,10 @@ pub(crate) fn put_short_units(units: &[u16], dst: &mut [u8]) -> usize
 {
     if narrow_block(units, dst) {
         UNIT_BLOCK
-    } else {
+    } else if all_units_below(u16x32::from_slice(units), 0x800) {
         put_short_block(units, dst)
+    } else {
+        put_plain_block(units, dst)
     }
 }
 

@@ -80,7 +80,7 @@ pub(crate) fn put_run(
     (read, written)
 }
 
-// Whether a vector of ASCII is next: a run that is worth vectors.
+// Whether a vector of ASCII is next.
 #[inline(always)]
 fn is_long_run(bytes: &[u8]) -> bool
     ensures { IsTrue result → (k : ℕ) → k < 16 → slice_index bytes.now k < 0x80 }

@@ -20,19 +20,19 @@ pub fn convert_utf16_to_utf8_partial(src: &[u16], dst: &mut [u8]) -> (usize, usi
 {
     let mut read = 0;
     let mut written = 0;
-    // A block has four bytes of room for each unit, so none of its characters asks for room. Nor do
-    // those of a vector, by which what is too short for a block goes.
+    // Four bytes of room for each unit of a block: none of its characters asks for room.
     'wide: while src.len() - read >= UNIT_BLOCK && dst.len() - written >= 4 * UNIT_BLOCK {
         let (units, bytes) = put_block(&src[read..], &mut dst[written..]);
         read += units;
         written += bytes;
     }
+    // As much room for each unit of a vector, by which what is too short for a block goes.
     'lanes: while src.len() - read >= UNIT_LANES && dst.len() - written >= 4 * UNIT_LANES {
         let (units, bytes) = put_lanes(&src[read..], &mut dst[written..]);
         read += units;
         written += bytes;
     }
-    // Nor do the characters behind it, where three bytes a unit are left.
+    // Nor do the last characters ask, where three bytes a unit are left.
     if src.len() - read <= (dst.len() - written) / 3 {
         let (units, bytes) = put_chars(&src[read..], 0, src.len() - read, &mut dst[written..]);
         read += units;

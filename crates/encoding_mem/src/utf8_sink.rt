@@ -6,7 +6,7 @@ ghost use Rattle.std.proofs.Common.{◌∙◌};
 ghost use Rattle.encoding_mem.specs.Writing.{Adds};
 ghost use Rattle.encoding_mem.specs.laws.Writing.{adds_none, adds_encoded, cost_fits, cost_two};
 
-use crate::plain_units::put_short_units;
+use crate::plain_units::put_plain_units;
 use crate::sink::Sink;
 use std::mem;
 
@@ -111,7 +111,7 @@ impl<'a> Sink for Utf8Sink<'a> {
     }
 
     fn put_units(&mut self, units: &[u16]) {
-        self.written += put_short_units(units, &mut self.bytes[self.written..]);
+        self.written += put_plain_units(units, &mut self.bytes[self.written..]);
     }
 
     #[inline(always)]

@@ -1,4 +1,4 @@
--- A run of units of UTF-16 below 800 hex: each is a piece of two bytes. Room for it.
+-- A run of units of UTF-16 below D800 hex: each is a piece of two bytes. Room for it.
 use Rattle.std.proofs.Common.{◌≡◌, ℕ, zero, suc, ◌+◌, ◌*◌, ◌≤◌, ◌<◌, Bool, true, false, not, inl, inr, List, [], ◌∷◌, ◌++◌, length, drop, take, get_or, get_or-take, refl, sym, ◌∙◌, ap, arith, encode_utf8_all, nat_le}
 use Rattle.std.specs.List.{prefix_len}
 use Rattle.std.proofs.lemmas.Bool.{cases_lt, le-leb, lt-leb, lt-ltb}
@@ -14,32 +14,30 @@ use Rattle.encoding_mem.specs.laws.UnitRun.{unit_text_len}
 use Rattle.encoding_tables.specs.Utf16.{AreUnitsOf, unit_of, after_unit, first_piece_utf16, pieces_utf16}
 use Rattle.encoding_tables.specs.laws.Utf16.{cuts_utf16}
 
-short_piece : (e : Bool) (u : ℕ) (x : List ℕ) → u < 0x800 → after_unit e u x ≡ well_formed 2 (u ∷ [])
-short_piece e u x short =
-    let low : u < 0xD800 = omega (arith, short) in
-    rw (lt-leb 0xD800 u low, lt-ltb u 0xD800 low) refl
+plain_piece : (e : Bool) (u : ℕ) (x : List ℕ) → u < 0xD800 → after_unit e u x ≡ well_formed 2 (u ∷ [])
+plain_piece e u x low = rw (lt-leb 0xD800 u low, lt-ltb u 0xD800 low) refl
 
 -- where the test passed, each unit is below; behind the end there is none
-pub all_short : (us : List ℕ) → prefix_len (λ u. not (nat_le 0x800 u)) us ≡ length us → (k : ℕ) → get_or us k 0 < 0x800
-all_short [] all k = omega arith
-all_short (u ∷ us) all k = elim (cases_lt u 0x800) [
-  | inl low ↦ here low (all_short us (omega (arith, (rw (lt-leb 0x800 u low) at all)))) k
-  | inr over ↦ absurd (omega (arith, (rw (le-leb 0x800 u over) at all)))
+pub all_plain : (us : List ℕ) → prefix_len (λ u. not (nat_le 0xD800 u)) us ≡ length us → (k : ℕ) → get_or us k 0 < 0xD800
+all_plain [] all k = omega arith
+all_plain (u ∷ us) all k = elim (cases_lt u 0xD800) [
+  | inl low ↦ here low (all_plain us (omega (arith, (rw (lt-leb 0xD800 u low) at all)))) k
+  | inr over ↦ absurd (omega (arith, (rw (le-leb 0xD800 u over) at all)))
 ]
   where
-    here : u < 0x800 → ((k : ℕ) → get_or us k 0 < 0x800) → (k : ℕ) → get_or (u ∷ us) k 0 < 0x800
+    here : u < 0xD800 → ((k : ℕ) → get_or us k 0 < 0xD800) → (k : ℕ) → get_or (u ∷ us) k 0 < 0xD800
     here low rest zero = low
     here low rest (suc k) = rest k
 
-short_pieces : (e : Bool) (us xs r : List ℕ) → length xs ≡ 2 * length us → AreUnitsOf e (length us) us xs → ((k : ℕ) → get_or us k 0 < 0x800)
+plain_pieces : (e : Bool) (us xs r : List ℕ) → length xs ≡ 2 * length us → AreUnitsOf e (length us) us xs → ((k : ℕ) → get_or us k 0 < 0xD800)
     → pieces_utf16 e (xs ++ r) ≡ unit_pieces us ++ pieces_utf16 e r
-short_pieces e [] [] r size are short = refl
-short_pieces e [] (a ∷ xs) r size are short = absurd (omega (arith, size))
-short_pieces e (u ∷ us) [] r size are short = absurd (omega (arith, size))
-short_pieces e (u ∷ us) (a ∷ []) r size are short = absurd (omega (arith, size))
-short_pieces e (u ∷ us) (a ∷ b ∷ xs) r size are short =
+plain_pieces e [] [] r size are plain = refl
+plain_pieces e [] (a ∷ xs) r size are plain = absurd (omega (arith, size))
+plain_pieces e (u ∷ us) [] r size are plain = absurd (omega (arith, size))
+plain_pieces e (u ∷ us) (a ∷ []) r size are plain = absurd (omega (arith, size))
+plain_pieces e (u ∷ us) (a ∷ b ∷ xs) r size are plain =
     let unit : unit_of e a b ≡ u = sym (are 0 (omega arith)) in
-    let is : first_piece_utf16 e (a ∷ b ∷ (xs ++ r)) ≡ well_formed 2 (u ∷ []) = ap (λ v. after_unit e v (xs ++ r)) unit ∙ short_piece e u (xs ++ r) (short 0) in
+    let is : first_piece_utf16 e (a ∷ b ∷ (xs ++ r)) ≡ well_formed 2 (u ∷ []) = ap (λ v. after_unit e v (xs ++ r)) unit ∙ plain_piece e u (xs ++ r) (plain 0) in
     let low : (k : ℕ) → 2 * suc k ≡ suc (suc (2 * k)) = λ k. omega arith in
     let high : (k : ℕ) → 2 * suc k + 1 ≡ suc (suc (2 * k + 1)) = λ k. omega arith in
     let rest : AreUnitsOf e (length us) us xs = λ k below. are (suc k) (omega (arith, below))
@@ -47,25 +45,25 @@ short_pieces e (u ∷ us) (a ∷ b ∷ xs) r size are short =
     ∙ ap (λ i. unit_of e (get_or xs (2 * k) 0) (get_or (a ∷ b ∷ xs) i 0)) (high k) in
     pieces_by-cons (first_piece_utf16 e) (cuts_utf16 e) a (b ∷ (xs ++ r))
     ∙ ap (λ p. p ∷ pieces_utf16 e (drop (piece_len p) (a ∷ b ∷ (xs ++ r)))) is
-    ∙ ap (λ ps. well_formed 2 (u ∷ []) ∷ ps) (short_pieces e us xs r (omega (arith, size)) rest (λ k. short (suc k)))
+    ∙ ap (λ ps. well_formed 2 (u ∷ []) ∷ ps) (plain_pieces e us xs r (omega (arith, size)) rest (λ k. plain (suc k)))
 
--- room for it: two bytes and one unit each
-pub short_room : (us : List ℕ) → length us ≡ 32 → ((k : ℕ) → get_or us k 0 < 0x800) → (k : OutputUnit) (m : ℕ)
+-- room for it: three bytes and one unit each
+pub plain_room : (us : List ℕ) → length us ≡ 32 → ((k : ℕ) → get_or us k 0 < 0xD800) → (k : OutputUnit) (m : ℕ)
     → text_len (is_units k) (encode_utf8_all us) + decoded_length decoded_length_utf16 k m ≤ decoded_length decoded_length_utf16 k (64 + m)
-short_room us whole short Units m = omega (arith, whole, unit_text_len true us short)
-short_room us whole short Bytes m = omega (arith, whole, unit_text_len false us short)
-short_room us whole short Replaced m = omega (arith, whole, unit_text_len false us short)
+plain_room us whole plain Units m = omega (arith, whole, unit_text_len true us plain)
+plain_room us whole plain Bytes m = omega (arith, whole, unit_text_len false us plain)
+plain_room us whole plain Replaced m = omega (arith, whole, unit_text_len false us plain)
 
 -- all that is said of a run
-pub short_run : (e : Bool) (us bytes : List ℕ) → length us ≡ 32 → 64 ≤ length bytes → AreUnitsOf e 32 us bytes → ((k : ℕ) → get_or us k 0 < 0x800)
+pub plain_run : (e : Bool) (us bytes : List ℕ) → length us ≡ 32 → 64 ≤ length bytes → AreUnitsOf e 32 us bytes → ((k : ℕ) → get_or us k 0 < 0xD800)
     → BeginWithUnits (pieces_utf16 e) bytes us
-short_run e us bytes whole fits are short =
+plain_run e us bytes whole fits are plain =
     let here : AreUnitsOf e (length us) us (take 64 bytes) = λ k below. are k (omega (arith, below, whole))
     ∙ ap (λ a. unit_of e a (get_or bytes (2 * k + 1) 0)) (sym (get_or-take 64 bytes (2 * k) 0 (omega (arith, below, whole))))
     ∙ ap (λ b. unit_of e (get_or (take 64 bytes) (2 * k) 0) b) (sym (get_or-take 64 bytes (2 * k + 1) 0 (omega (arith, below, whole)))) in
     record {
       whole = whole;
       within = fits;
-      short = short;
-      rest = λ r. short_pieces e us (take 64 bytes) r (length-take-le 64 bytes fits ∙ omega (arith, whole)) here short;
+      plain = plain;
+      rest = λ r. plain_pieces e us (take 64 bytes) r (length-take-le 64 bytes fits ∙ omega (arith, whole)) here plain;
     }

@@ -1,4 +1,4 @@
--- What a packed index keeps: its rows by pointer, and the same rows by entry.
+-- What a packed index keeps: its entries at their pointers, and its rows by entry.
 use Rattle.std.specs.Prelude.{◌≡◌, ◌≢◌, ◌⊎◌, ℕ, ◌<◌, List, [], ◌∷◌, length, Option, None, Some, nat_lt, if◌then◌else◌, slice_index, true}
 use Rattle.std.specs.List.{list_all}
 use Rattle.encoding_tables.specs.SortedRows.{row_at, AreRising}

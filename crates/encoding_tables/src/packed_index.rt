@@ -1,4 +1,4 @@
-//! An index as rows: by pointer for decoders, and by entry for encoders.
+//! An index: its entries at their pointers for decoders, and its rows by entry for encoders.
 
 ghost use Rattle.std.specs.Prelude.{◌≡◌, ℕ, ◌+◌, ◌^◌, ◌<◌, List, length, IfOk, IfSome};
 ghost use Rattle.std.specs.Prelude.{not, ◌==◌};

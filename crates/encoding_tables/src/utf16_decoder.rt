@@ -98,7 +98,7 @@ impl<E: ByteOrder> DecoderRule for Utf16Rule<E> {
             return None;
         }
         let units = units_in::<E>(bytes);
-        if all_units_below(u16x32::from_array(units), 0x800) {
+        if all_units_below(u16x32::from_array(units), 0xD800) {
             Some(units)
         } else {
             None

@@ -10,7 +10,7 @@ wide-preserved c =
     let fits : c.wide.at + 32 ≤ length c.args.units.now = omega (arith, c.wide-test.true, c.wide.invariant.within) in
     record {
       within = omega (arith, fits);
-      below = below_run c.args.units.now c.wide.at 32 32 c.args.limit fits c.wide.invariant.below (sym (c.all_units_below.ensures c.if-all_units_below.true));
+      below = below_run c.args.units.now c.wide.at 32 32 c.args.limit fits c.wide.invariant.below (sym (c.all_units_below.ensures.all c.if-all_units_below.true));
     }
 
 pub returns-then-low-lt-UNIT_LANES-clause-below : goal.returns-then-low-lt-UNIT_LANES-clause-below

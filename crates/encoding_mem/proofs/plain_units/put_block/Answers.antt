@@ -10,4 +10,4 @@ returns-then-narrow_block-clause-text c =
 
 pub put_short_block-requires-clause-short : goal.put_short_block-requires-clause-short
 put_short_block-requires-clause-short c =
-    below_run c.args.units.now 0 32 32 0x800 c.requires.units (λ k none. absurd (omega arith)) (sym (c.all_units_below.ensures c.if-all_units_below.true))
+    below_run c.args.units.now 0 32 32 0x800 c.requires.units (λ k none. absurd (omega arith)) (sym (c.all_units_below.ensures.all c.if-all_units_below.true))
