@@ -170,7 +170,7 @@ def left_of(crate, folder, edits):
 def edits_of(crate, kind):
     folder = os.path.join(CRATES, crate, kind)
     names = sorted(os.listdir(folder)) if os.path.isdir(folder) else []
-    return [Edit(os.path.join(folder, name), os.path.join(CRATES, crate)) for name in names]
+    return [Edit(os.path.join(folder, name), os.path.join(CRATES, crate)) for name in names if name.endswith(".edit")]
 
 
 def is_refused_alone(folder, edit):

@@ -64,8 +64,9 @@ def edits_of(crate):
     for folder, mark in FOLDERS.items():
         path = os.path.join(CRATES, crate, folder)
         for name in sorted(os.listdir(path)) if os.path.isdir(path) else []:
-            function, fault, _ = name.split(".")
-            edits[function].append(mark + fault + mark)
+            if name.endswith(".edit"):
+                function, fault, _ = name.split(".")
+                edits[function].append(mark + fault + mark)
     return edits
 
 
