@@ -37,10 +37,10 @@ impl<'a> LeadByteRule for Gb18030Rule<'a> {
 
     #[inline(always)]
     fn first(&self, byte: u8) -> FirstByte {
-        if byte == 0x80 {
-            FirstByte::Alone('\u{20AC}')
-        } else if is_lead(byte) {
+        if is_lead(byte) {
             FirstByte::Lead
+        } else if byte == 0x80 {
+            FirstByte::Alone('\u{20AC}')
         } else {
             FirstByte::Unused
         }
@@ -120,12 +120,13 @@ impl<'a> Gb18030Rule<'a> {
     }
 }
 
-// The first byte of a form of two or four bytes, and the third of one of four.
+// The first byte of a form of two or four bytes, and the third of one of four. One comparison tells
+// it: two bounds would be tested with 80 and with FF, where a byte is known to be no ASCII.
 #[inline(always)]
 fn is_lead(byte: u8) -> bool
     ensures { result ≡ is_in_range 0x81 0xFE byte }
 {
-    byte >= 0x81 && byte <= 0xFE
+    byte.wrapping_sub(0x81) < 0x7E
 }
 
 // The second and the fourth byte of a form of four.

@@ -1,6 +1,6 @@
 -- Why a call ended, as a caller sees it. Room that is enough. How far a call has come.
-use Rattle.std.proofs.Common.{◌≡◌, ◌≢◌, ℕ, ◌+◌, ◌*◌, ◌<◌, ◌≤◌, inl, inr, Bool, List, [], ◌++◌, length, refl, subst, sym, ◌∙◌, ap, arith, ◌-◌, true, false, IsTrue, Option, None, Some, ◌∷◌, take, drop, get_or, append_assoc, length-append, length-drop, length-take, encode_utf8_all}
-use Rattle.std.proofs.lemmas.List.{append-nil, drop-drop, drop_all, drop_more, length-take-le, take-append-drop, take_rest}
+use Rattle.std.proofs.Common.{◌≡◌, ◌≢◌, ℕ, ◌+◌, ◌<◌, ◌≤◌, inl, inr, Bool, List, [], ◌++◌, length, refl, subst, sym, ◌∙◌, ap, arith, ◌-◌, true, false, IsTrue, Option, None, Some, ◌∷◌, take, drop, get_or, append_assoc, length-append, length-drop}
+use Rattle.std.proofs.lemmas.List.{append-nil, drop-drop, drop_all, drop_more, take_rest}
 use Rattle.encoding_mem.specs.Piece.{Piece, first, sizes, ArePieces, malformed, piece_len, scalars_of, scalars, AreWellFormed}
 use Rattle.encoding_mem.specs.Decoding.{DecoderState, EndsWith, IsUndecided, Takes, Reports}
 use Rattle.encoding_mem.specs.DecodedLength.{is_units, goes_on, replacement_len, left_after, decoded_length}
@@ -9,12 +9,7 @@ use Rattle.encoding_mem.specs.declared.room.DecodedLength.{DecodedLength}
 use Rattle.encoding_mem.specs.Driver.{DriverEndsWith, Suffices, Remains, buffered, IsNear, PartReports, PartSuffices}
 use Rattle.encoding_mem.specs.declared.decoder_result.DecoderResult.{DecoderResult}
 use Rattle.encoding_mem.specs.declared.decoder_result.DecoderResult.TheVariants.{InputEmpty, OutputFull, Malformed}
-use Rattle.std.proofs.lemmas.Str.{encodes-chars, length-encode}
-use Rattle.std.specs.Char.{encode_utf8}
-use Rattle.std.specs.Str.{chars, IsUtf8}
 use Rattle.encoding_mem.specs.laws.Piece.{sizes-append, scalars-append, AreWellFormed-append}
-use Rattle.encoding_mem.specs.Text.{text_pieces}
-use Rattle.encoding_mem.specs.UnitRun.{BeginWithUnits, unit_pieces}
 use Rattle.encoding_mem.specs.DecoderRule.{IsFirstPiece, IsSoon}
 
 pub ends_with : (P : List ℕ → List Piece) (pending unread : List ℕ) (last : Bool) (free room mark : ℕ) (whole : (x : List ℕ) → sizes (P x) ≡ length x) (are_pieces : (x : List ℕ) → ArePieces (P x)) (needs : OutputUnit → ℕ → ℕ) (limits : DecodedLength) (covers : (k : OutputUnit) (n : ℕ) → needs k n ≤ decoded_length limits k n) (outcome : DecoderResult) → P [] ≡ [] → DriverEndsWith P pending unread last free room mark outcome
@@ -67,9 +62,6 @@ has_room before want n len m free last t k is fits window whole wants h =
     let same : n + (m - n) ≡ m = omega (arith, fits, window) in
     let there : want (is_units k) ≤ before k m = subst (λ (x : ℕ). want (is_units k) ≤ before k x) same (wants (m - n) (λ e. omega (arith, same, whole e))) in
     subst (λ (b : Bool). want b ≤ free) is (omega (arith, there, h))
-
-pub enough_left : (n k m old new : ℕ) → n + k ≤ m → m ≤ old → new + n ≡ old → k ≤ new
-enough_left n k m old new h j e = omega arith
 
 pub mark_first : (t : Bool) (mark more room : ℕ) → left_after t mark more ≤ room → mark ≤ room
 mark_first true mark more room h = omega (arith, h)
@@ -126,85 +118,6 @@ pub none_pending : (WellFormed : ℕ → List Piece → Type 0) (before P : List
     → Takes (WellFormed 0) before P src last held 0 read W
     → Takes (WellFormed (length pending)) before (λ x. P (pending ++ x)) src last held (length pending) read W
 none_pending WellFormed before P src last held pending read W none h = subst (λ (y : List ℕ). Takes (WellFormed (length y)) before (λ x. P (y ++ x)) src last held (length y) read W) (sym none) h
-
--- a run of text
-text_well_formed : (cs : List ℕ) → AreWellFormed (text_pieces cs)
-text_well_formed [] = tt
-text_well_formed (c ∷ cs) = (tt, text_well_formed cs)
-
-text_size : (cs : List ℕ) → sizes (text_pieces cs) ≡ length (encode_utf8_all cs)
-text_size [] = refl
-text_size (c ∷ cs) = omega (arith, text_size cs, length-encode c, length-append (encode_utf8 c) (encode_utf8_all cs))
-
-text_scalars : (cs : List ℕ) → scalars (text_pieces cs) ≡ cs
-text_scalars [] = refl
-text_scalars (c ∷ cs) = ap (λ y. c ∷ y) (text_scalars cs)
-
-pub text_fits : (src rest text : List ℕ) (read : ℕ) → rest ≡ drop read src → text ≡ take (length text) rest → length text ≤ length src - read
-text_fits src rest text read is prefix = omega (arith, ap length prefix, length-take (length text) rest, ap length is, length-drop read src)
-
--- a run of well-formed pieces, however the input goes on
-pub took_run : (before P : List ℕ → List Piece) (src rest run cs : List ℕ) (ps : List Piece) (last : Bool) (held read : ℕ) (W W' : List ℕ → Type 0)
-    → rest ≡ drop read src
-    → run ≡ take (length run) rest
-    → AreWellFormed ps → sizes ps ≡ length run → scalars ps ≡ cs
-    → ((r : List ℕ) → P (run ++ r) ≡ ps ++ P r)
-    → ((t : List ℕ) → W t → W' (t ++ cs))
-    → Takes AreWellFormed before P src last held 0 read W
-    → Takes AreWellFormed before P src last held 0 (read + length run) W'
-took_run before P src rest run cs ps last held read W W' is prefix fine size chars_are gives step h =
-    let n : ℕ = length run in
-    let fits = text_fits src rest run read is prefix in
-    let cut : drop read src ≡ run ++ drop (read + n) src = sym is ∙ sym (take-append-drop n rest) ∙ ap (λ y. y ++ drop n rest) (sym prefix) ∙ ap (λ y. run ++ y) (ap (drop n) is ∙ drop-drop n read src) in
-    let all : scalars (h.taken ++ ps) ≡ scalars h.taken ++ cs = scalars-append h.taken ps ∙ ap (λ y. scalars h.taken ++ y) chars_are in
-    record {
-      taken = h.taken ++ ps;
-      well_formed = AreWellFormed-append h.taken ps h.well_formed fine;
-      within = omega (arith, h.within, fits);
-      counted = omega (arith, h.counted, sizes-append h.taken ps, size);
-      writes = rw all (step (scalars h.taken) h.writes);
-      rest = λ r e.
-          let tail : List ℕ = drop (read + n) src ++ r in
-          let seam : drop read src ++ r ≡ run ++ tail = ap (λ y. y ++ r) cut ∙ append_assoc run (drop (read + n) src) r in
-          h.rest r e ∙ ap (λ y. h.taken ++ P y) seam ∙ ap (λ y. h.taken ++ y) (gives tail) ∙ sym (append_assoc h.taken ps (P tail));
-    }
-
-pub took_text : (before P : List ℕ → List Piece) (src rest text : List ℕ) (last : Bool) (held read : ℕ) (W W' : List ℕ → Type 0)
-    → rest ≡ drop read src
-    → text ≡ take (length text) rest
-    → IsUtf8 text
-    → ((r : List ℕ) → P (text ++ r) ≡ text_pieces (chars text) ++ P r)
-    → ((t : List ℕ) → W t → W' (t ++ chars text))
-    → Takes AreWellFormed before P src last held 0 read W
-    → Takes AreWellFormed before P src last held 0 (read + length text) W'
-took_text before P src rest text last held read W W' is prefix utf8 gives step h =
-    took_run before P src rest text (chars text) (text_pieces (chars text)) last held read W W' is prefix (text_well_formed (chars text))
-    (text_size (chars text) ∙ ap length (encodes-chars text utf8)) (text_scalars (chars text)) gives step h
-
--- units of UTF-16 that are characters
-unit_well_formed : (us : List ℕ) → AreWellFormed (unit_pieces us)
-unit_well_formed [] = tt
-unit_well_formed (u ∷ us) = (tt, unit_well_formed us)
-
-unit_size : (us : List ℕ) → sizes (unit_pieces us) ≡ 2 * length us
-unit_size [] = refl
-unit_size (u ∷ us) = omega (arith, unit_size us)
-
-unit_scalars : (us : List ℕ) → scalars (unit_pieces us) ≡ us
-unit_scalars [] = refl
-unit_scalars (u ∷ us) = ap (λ y. u ∷ y) (unit_scalars us)
-
-pub took_units : (before P : List ℕ → List Piece) (src rest units : List ℕ) (last : Bool) (held read : ℕ) (W W' : List ℕ → Type 0)
-    → rest ≡ drop read src
-    → BeginWithUnits P rest units
-    → ((t : List ℕ) → W t → W' (t ++ units))
-    → Takes AreWellFormed before P src last held 0 read W
-    → Takes AreWellFormed before P src last held 0 (read + 64) W'
-took_units before P src rest units last held read W W' is run step h =
-    let size : length (take 64 rest) ≡ 64 = length-take-le 64 rest run.within in
-    subst (λ n. Takes AreWellFormed before P src last held 0 (read + n) W') size
-    (took_run before P src rest (take 64 rest) units (unit_pieces units) last held read W W' is (ap (λ n. take n rest) (sym size)) (unit_well_formed units)
-    (unit_size units ∙ omega (arith, run.whole, size)) (unit_scalars units) run.rest step h)
 
 -- a part of a call, and then another
 reports_after : (outcome : DecoderResult) (pending : ℕ) (a b : List Piece) → AreWellFormed a → Reports outcome pending b → Reports outcome pending (a ++ b)

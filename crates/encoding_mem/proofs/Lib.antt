@@ -1,4 +1,5 @@
 pub mod DecoderCallLemmas
+pub mod DriverLemmas
 pub mod DestinationLemmas
 pub mod Utf8PieceLemmas
 pub mod AsciiLemmas

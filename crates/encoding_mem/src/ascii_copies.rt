@@ -95,6 +95,7 @@ pub(crate) fn narrow_lanes(units: &[u16], dst: &mut [u8]) -> usize
     ensures behind { drop 8 dst.new ≡ drop 8 dst.old }
 {
     let lanes = u16x8::from_slice(units);
+    // The mask leaves ASCII as it is, and no lane above 7F, so that one instruction packs them.
     (lanes & u16x8::splat(0x7F)).cast::<u8>().copy_to_slice(dst);
     unit_lanes_below(lanes, 0x80)
 }

@@ -1,7 +1,8 @@
 //! The decoding driver, one for all rules and destinations: cuts, pending bytes, room, runs of
-//! text.
+//! text, pairs of bytes.
 
-ghost use Rattle.std.specs.Prelude.{◌+◌, ◌-◌, ◌≡◌, ◌<◌, ◌≤◌, ◌++◌, [], length, drop};
+ghost use Rattle.std.specs.Prelude.{◌+◌, ◌-◌, ◌≡◌, ◌<◌, ◌≤◌, ◌++◌, [], None, false, length, drop};
+ghost use Rattle.encoding_mem.specs.Piece.{AreWellFormed};
 ghost use Rattle.encoding_mem.specs.Decoding.{Takes, Reports};
 ghost use Rattle.encoding_mem.specs.Driver.{IsNear, IsStep, IsRoomyStep, DriverEndsWith, Remains, Suffices, PartReports, PartEnds, PartSuffices};
 
@@ -11,8 +12,8 @@ use crate::pending::Pending;
 use crate::sink::Sink;
 
 // `#[inline(always)]`, here and at rules and sinks in any crate, brings what is done for each piece
-// into one loop: so what a rule returns and what a step did stay in registers. What is rare keeps
-// its calls.
+// into the loops below: so what a rule returns and what a step did stay in registers. What is rare
+// keeps its calls.
 
 // What one step did: nothing, since the piece is not decided, or since it has no room; or it took a
 // piece of so many bytes, which is well-formed, or malformed.
@@ -69,6 +70,35 @@ fn take_piece<F: DecoderRule, S: Sink>(
             Step::Broke(n)
         }
     }
+}
+
+// Takes pairs of bytes, as long as each is a character from U+0800 to U+FFFF and has room, and
+// returns how many bytes they are. Such characters follow one another in text, and none of them
+// asks for room by itself, or for a run of text.
+#[inline(always)]
+fn take_pairs<F: DecoderRule, S: Sink>(codec: &mut F, src: &[u8], sink: &mut S) -> usize
+    ensures law { Takes AreWellFormed (F.pieces codec.old) (F.pieces codec.new)
+        src.now false 0 0 result (λ text. S.writes sink.old text sink.new) }
+    ensures enough { PartSuffices (F.needs codec.old) (F.needs codec.new) S.is_units false
+        (length src.now) (length src.now - result) (S.free sink.old) (S.free sink.new) None }
+    ensures limits { F.limits codec.new ≡ F.limits codec.old }
+{
+    let mut rest = src;
+    // Each has three bytes of UTF-8. Where units are written, a third of the room would do.
+    let mut pairs_left = (src.len() / 2).min(sink.free_len() / 3);
+    'pairs: while pairs_left > 0 {
+        let pair = &rest[..2];
+        match codec.first_piece(pair, false) {
+            FirstPiece::One(c, 2) if c >= '\u{800}' && c <= '\u{FFFF}' => {
+                sink.put(c);
+                codec.pass(pair);
+                rest = &rest[2..];
+                pairs_left -= 1;
+            }
+            _ => break,
+        }
+    }
+    src.len() - rest.len()
 }
 
 // Takes the pieces that begin with what is pending, with as many bytes of the source as they need. No
@@ -144,8 +174,8 @@ fn decode_pieces<F: DecoderRule, S: Sink>(
 {
     let mut rest = src;
     // A run of units is sought where no more bytes than `seek` are left. Where there is none, what
-    // is in its way is taken by pieces: 16 bytes, and 16 more each time, so that text without runs
-    // is rarely asked for them.
+    // is in its way is taken by pieces: 16 bytes at least, 16 more each time, and the pairs behind
+    // each piece; so text without runs is rarely asked for them.
     let mut seek = src.len();
     let mut apart = 16;
     'pieces: while !rest.is_empty() {
@@ -172,7 +202,11 @@ fn decode_pieces<F: DecoderRule, S: Sink>(
                 return (DecoderResult::InputEmpty, src.len());
             }
             Step::Full => return (DecoderResult::OutputFull, src.len() - rest.len()),
-            Step::Took(n) => rest = &rest[n..],
+            Step::Took(n) => {
+                rest = &rest[n..];
+                let pairs = take_pairs(codec, rest, sink);
+                rest = &rest[pairs..];
+            }
             Step::Broke(n) => {
                 let read = src.len() - rest.len() + n;
                 return (DecoderResult::Malformed(n as u8, 0), read);

@@ -11,10 +11,11 @@ ghost use Rattle.encoding_mem.specs.laws.Utf8Decide.{cut_short};
 ghost use Rattle.encoding_mem.specs.declared.room.OutputUnit.{OutputUnit};
 ghost use Rattle.encoding_mem.specs.declared.room.DecodedLength.{DecodedLength};
 
+use crate::first::UNIT_BLOCK;
 use crate::room::DecodedLength;
 
-/// How many units of UTF-16 are decoded at once, where all of them are characters below U+D800.
-pub const UNIT_RUN: usize = 32;
+/// How many units of UTF-16 are decoded at once, 32, where all are characters below U+D800.
+pub const UNIT_RUN: usize = UNIT_BLOCK;
 
 /// What stands at the start of some bytes, by a decoding rule. Lengths are in bytes.
 #[derive(Clone, Copy)]

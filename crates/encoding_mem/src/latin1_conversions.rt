@@ -77,7 +77,7 @@ pub(crate) fn narrow_text(text: &str, dst: &mut [u8]) -> usize
 
 // Puts a byte of Latin1 that is not ASCII at the start: its UTF-8 has two bytes.
 #[inline(always)]
-fn put_high(byte: u8, dst: &mut [u8])
+fn put_two_bytes(byte: u8, dst: &mut [u8])
     requires high { 0x80 ≤ byte }
     requires room { 2 ≤ length dst.old }
     ensures { Adds dst.old 0 (encode_utf8_all (byte ∷ [])) dst.new 2 }
@@ -132,7 +132,7 @@ pub fn convert_latin1_to_utf8(src: &[u8], dst: &mut [u8]) -> usize
         read += run;
         written += run;
         if read < src.len() {
-            put_high(src[read], &mut dst[written..]);
+            put_two_bytes(src[read], &mut dst[written..]);
             read += 1;
             written += 2;
         }

@@ -2,6 +2,7 @@
 
 ghost use Rattle.std.specs.Prelude.{◌≡◌, ℕ, ◌*◌, ◌<◌, ◌≤◌, [], ◌∷◌};
 ghost use Rattle.std.specs.Prelude.{length, take, drop, slice_index};
+ghost use Rattle.std.proofs.Common.{arith};
 ghost use Rattle.std.specs.Char.{len_utf8};
 ghost use Rattle.std.specs.Str.{encode_utf8_all};
 ghost use Rattle.encoding_mem.specs.Conversions.{IsUnitBoundary, units_in_utf8};
@@ -18,67 +19,69 @@ use std::simd::prelude::*;
 // text is not worth another test of a whole block.
 const MANY: usize = 64;
 
-// Puts a unit below 800 hex at the start, and returns its length: no branch asks which it is.
-#[inline(always)]
-fn put_short(unit: u16, dst: &mut [u8]) -> usize
-    requires short { unit < 0x800 }
-    requires room { 2 ≤ length dst.old }
-    ensures adds { Adds dst.old 0 (encode_utf8_all (unit ∷ [])) dst.new result }
-    ensures few { result ≤ 2 }
-{
-    let is_two = unit >= 0x80;
-    let lead = if is_two { 0xC0 + unit / 64 } else { unit };
-    // Where it is ASCII, the lead is written over this.
-    dst[is_two as usize] = (0x80 + unit % 64) as u8;
-    dst[0] = lead as u8;
-    is_two as usize + 1
+// How units below a limit are put: without a branch that asks how many bytes one has.
+trait UnitWriter {
+    ghost limit: { ℕ };
+
+    // No surrogate is below the limit.
+    ghost plain: { limit ≤ 0xD800 };
+
+    // Puts a unit at the start, and returns its length.
+    fn put(unit: u16, dst: &mut [u8]) -> usize
+        requires low { unit < limit }
+        requires room { 3 ≤ length dst.old }
+        ensures adds { Adds dst.old 0 (encode_utf8_all (unit ∷ [])) dst.new result }
+        ensures few { result ≤ 3 };
 }
 
-// Puts a block of units below 800 hex at the start, and returns how many bytes it has.
-#[inline(always)]
-fn put_short_block(units: &[u16], dst: &mut [u8]) -> usize
-    requires units { 32 ≤ length units.now }
-    requires room { 64 ≤ length dst.old }
-    requires short { (k : ℕ) → k < 32 → slice_index units.now k < 0x800 }
-    ensures boundary { IsUnitBoundary units.now 32 }
-    ensures fits { result ≤ length dst.new }
-    ensures text { take result dst.new ≡ units_in_utf8 (take 32 units.now) }
-    ensures behind { drop result dst.new ≡ drop result dst.old }
-{
-    let mut read = 0;
-    let mut written = 0;
-    'units: while read < UNIT_BLOCK {
-        written += put_short(units[read], &mut dst[written..]);
-        read += 1;
+// Units below 800 hex, which have two bytes at most.
+struct Short {}
+
+impl UnitWriter for Short {
+    ghost limit = { 0x800 };
+
+    ghost plain = { omega arith };
+
+    #[inline(always)]
+    fn put(unit: u16, dst: &mut [u8]) -> usize {
+        let is_two = unit >= 0x80;
+        let lead = if is_two { 0xC0 + unit / 64 } else { unit };
+        // Where it is ASCII, the lead is written over this.
+        dst[is_two as usize] = (0x80 + unit % 64) as u8;
+        dst[0] = lead as u8;
+        is_two as usize + 1
     }
-    written
 }
 
-// Puts a unit below D800 hex at the start, and returns its length: no branch asks which it is.
-#[inline(always)]
-fn put_plain(unit: u16, dst: &mut [u8]) -> usize
-    requires plain { unit < 0xD800 }
-    requires room { 3 ≤ length dst.old }
-    ensures adds { Adds dst.old 0 (encode_utf8_all (unit ∷ [])) dst.new result }
-    ensures few { result ≤ 3 }
-{
-    let is_two = unit >= 0x80;
-    let is_three = unit >= 0x800;
-    let short = if is_two { 0xC0 + unit / 64 } else { unit };
-    let lead = if is_three { 0xE0 + unit / 4096 } else { short };
-    // The last byte first: what a shorter character has not is written over.
-    dst[is_two as usize + is_three as usize] = (0x80 + unit % 64) as u8;
-    dst[is_three as usize] = (0x80 + unit / 64 % 64) as u8;
-    dst[0] = lead as u8;
-    is_two as usize + is_three as usize + 1
+// Units below D800 hex, which have three bytes at most.
+struct Plain {}
+
+impl UnitWriter for Plain {
+    ghost limit = { 0xD800 };
+
+    ghost plain = { omega arith };
+
+    #[inline(always)]
+    fn put(unit: u16, dst: &mut [u8]) -> usize {
+        let is_two = unit >= 0x80;
+        let is_three = unit >= 0x800;
+        let short = if is_two { 0xC0 + unit / 64 } else { unit };
+        let lead = if is_three { 0xE0 + unit / 4096 } else { short };
+        // The last byte first: what a shorter character has not is written over.
+        dst[is_two as usize + is_three as usize] = (0x80 + unit % 64) as u8;
+        dst[is_three as usize] = (0x80 + unit / 64 % 64) as u8;
+        dst[0] = lead as u8;
+        is_two as usize + is_three as usize + 1
+    }
 }
 
-// Puts a block of units below D800 hex at the start, and returns how many bytes it has.
+// Puts a block of units at the start, each below the limit of the writer, and returns how many
+// bytes it has.
 #[inline(always)]
-fn put_plain_block(units: &[u16], dst: &mut [u8]) -> usize
+fn put_each<W: UnitWriter>(units: &[u16], dst: &mut [u8]) -> usize
     requires units { 32 ≤ length units.now }
     requires room { 96 ≤ length dst.old }
-    requires plain { (k : ℕ) → k < 32 → slice_index units.now k < 0xD800 }
+    requires low { (k : ℕ) → k < 32 → slice_index units.now k < W.limit }
     ensures boundary { IsUnitBoundary units.now 32 }
     ensures fits { result ≤ length dst.new }
     ensures text { take result dst.new ≡ units_in_utf8 (take 32 units.now) }
@@ -87,7 +90,7 @@ fn put_plain_block(units: &[u16], dst: &mut [u8]) -> usize
     let mut read = 0;
     let mut written = 0;
     'units: while read < UNIT_BLOCK {
-        written += put_plain(units[read], &mut dst[written..]);
+        written += W::put(units[read], &mut dst[written..]);
         read += 1;
     }
     written
@@ -108,9 +111,9 @@ pub(crate) fn put_plain_units(units: &[u16], dst: &mut [u8]) -> usize
     if narrow_block(units, dst) {
         UNIT_BLOCK
     } else if all_units_below(u16x32::from_slice(units), 0x800) {
-        put_short_block(units, dst)
+        put_each::<Short>(units, dst)
     } else {
-        put_plain_block(units, dst)
+        put_each::<Plain>(units, dst)
     }
 }
 
@@ -204,7 +207,7 @@ pub(crate) fn put_block(units: &[u16], dst: &mut [u8]) -> (usize, usize)
         return put_lanes(units, dst);
     }
     if all_units_below(u16x32::from_slice(units), 0x800) {
-        return (UNIT_BLOCK, put_short_block(units, dst));
+        return (UNIT_BLOCK, put_each::<Short>(units, dst));
     }
     put_chars(units, 0, UNIT_BLOCK, dst)
 }

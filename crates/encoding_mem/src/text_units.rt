@@ -136,7 +136,7 @@ pub(crate) fn put_ascii(text: &str, at: usize, dst: &mut [u16], to: usize) -> (u
 // Puts the units of a character at an offset, where there is room for them, and returns the offset
 // behind them.
 #[inline(always)]
-fn put_units(dst: &mut [u16], at: usize, c: char) -> usize
+fn put_char_units(dst: &mut [u16], at: usize, c: char) -> usize
     requires { at + len_utf16 c ≤ length dst.old }
     ensures end { result ≡ at + len_utf16 c }
     ensures prefix { take result dst.new ≡ take at dst.old ++ encode_utf16 c }
@@ -167,7 +167,7 @@ pub(crate) fn put_next(text: &str, at: usize, dst: &mut [u16], to: usize) -> (us
     ensures behind { drop result.1 dst.new ≡ drop result.1 dst.old }
 {
     match first_char(&text[at..]) {
-        Some((c, _)) => (at + c.len_utf8(), put_units(dst, to, c)),
+        Some((c, _)) => (at + c.len_utf8(), put_char_units(dst, to, c)),
         None => unreachable!(),
     }
 }

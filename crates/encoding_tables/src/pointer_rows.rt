@@ -56,7 +56,8 @@ impl PointerRows {
     }
 }
 
-// The entry of a list at a pointer, where 0 is none.
+// The entry at a pointer, in a list that has 0 where there is none, or where 16 bits do not hold
+// it.
 #[inline(always)]
 fn narrow_value(entries: &[u16], pointer: u32) -> Option<u32>
     ensures { result ≡ value_of entries.now pointer }
@@ -67,7 +68,7 @@ fn narrow_value(entries: &[u16], pointer: u32) -> Option<u32>
     }
 }
 
-// The same, in a list of wide entries.
+// The entry at a pointer, in the list of 32 bits, which is empty where 16 bits hold every entry.
 #[inline(always)]
 fn wide_value(entries: &[u32], pointer: u32) -> Option<u32>
     ensures { result ≡ value_of entries.now pointer }
@@ -105,6 +106,8 @@ fn narrow_entries(alloc: Global, size: usize, rows: &[(u32, u32)]) -> Result<Vec
     ensures { IfOk result (λ list. AreEntriesAt narrow_entry size rows.now list.items) }
 {
     let mut list = vec![in alloc; 0; size]?;
+    // From the last row to the first, so that the list always has the rows from `at` on, and no
+    // others.
     let mut at = rows.len();
     'rows: while at > 0 {
         at -= 1;

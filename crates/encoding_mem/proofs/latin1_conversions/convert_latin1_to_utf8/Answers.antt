@@ -16,4 +16,4 @@ runs-preserved-then-read-src c =
     let mid = put_mid c.runs.written (length c.runs.dst - c.runs.written) c.runs.dst c.copy_ascii_run-run.new.dst in
     let w = latin1_run_written c.args.src.now c.args.dst.now c.runs.read c.runs.dst c.runs.written c.copy_ascii_run-run.new.dst run c.runs.invariant c.requires
     e.within c.copy_ascii_run-run.auto.dst e.low e.copied e.behind in
-    latin1_high_written c.args.src.now c.args.dst.now (c.runs.read + run) mid (c.runs.written + run) c.put_high.new.dst w c.requires c.if-read-src.true c.put_high.auto.dst c.put_high.ensures
+    latin1_high_written c.args.src.now c.args.dst.now (c.runs.read + run) mid (c.runs.written + run) c.put_two_bytes.new.dst w c.requires c.if-read-src.true c.put_two_bytes.auto.dst c.put_two_bytes.ensures

@@ -9,6 +9,6 @@ unreachable-requires c =
 
 pub returns-clause-further : goal.returns-clause-further
 returns-clause-further c =
-    let p = c.put_units.ensures in
-    next_in_units c.args.text.now c.args.at c.args.dst.now c.args.to c.in-Some.c _ c.put_units.new.dst c.len_utf8.result c.put_units.result c.utf8.text c.requires.so_far
+    let p = c.put_char_units.ensures in
+    next_in_units c.args.text.now c.args.at c.args.dst.now c.args.to c.in-Some.c _ c.put_char_units.new.dst c.len_utf8.result c.put_char_units.result c.utf8.text c.requires.so_far
     (sym c.range_from.ensures.value ∙ c.in-Some.ensures.bytes) c.len_utf8.ensures.value p.end p.prefix p.size

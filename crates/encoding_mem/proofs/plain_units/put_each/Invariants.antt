@@ -1,13 +1,13 @@
 use Rattle.std.proofs.Common.{◌≤◌, ◌*◌, ◌-◌}
 use Rattle.encoding_mem.proofs.UnitWritingLemmas.{IsWritten}
-use Rattle.encoding_mem.proofs.plain_units.put_plain_block.Given as goal
+use Rattle.encoding_mem.proofs.plain_units.put_each.Given as goal
 
 abbrev pub invariant-units : goal.invariant-units
-invariant-units l = record {
+invariant-units g l = record {
   within : l.read ≤ 32;
   few : l.written ≤ 3 * l.read;
   so_far : IsWritten l.units l.initial.dst l.read l.dst l.written;
 }
 
 abbrev pub decreases-units : goal.decreases-units
-decreases-units l = 32 - l.read
+decreases-units g l = 32 - l.read

@@ -3,38 +3,38 @@ use Rattle.encoding_mem.specs.Conversions.{units_in_utf8}
 use Rattle.encoding_mem.proofs.LongestPrefixLemmas.{adds_prefix, adds_behind}
 use Rattle.encoding_mem.proofs.PlainUnitsLemmas.{plain_at}
 use Rattle.encoding_mem.proofs.UnitWritingLemmas.{none_written, more_written, written_boundary, written_units}
-use Rattle.encoding_mem.proofs.plain_units.put_short_block.Goals as goal
+use Rattle.encoding_mem.proofs.plain_units.put_each.Goals as goal
 
 pub units-init : goal.units-init
-units-init c = record {
+units-init g c = record {
   within = omega arith;
   few = omega arith;
   so_far = none_written c.args.units.now c.args.dst.now;
 }
 
 pub units-preserved : goal.units-preserved
-units-preserved c =
+units-preserved g c =
     let us = c.args.units.now in
     let i = c.units.invariant in
-    let p = c.put_short-written.ensures in
-    let n = c.put_short-written.result in
-    let ys = c.put_short-written.new.dst in
+    let p = c.put-written.ensures in
+    let n = c.put-written.result in
+    let ys = c.put-written.new.dst in
     record {
       within = omega (arith, c.units-test.true);
       few = omega (arith, i.few, p.few);
       so_far =
           more_written us c.args.dst.now c.units.read c.units.dst c.units.written ys (get_or us c.units.read 0 ∷ []) 1 n i.so_far
-          (omega (arith, c.units-test.true, c.requires.units)) c.put_short-written.auto.dst (omega (arith, p.adds.within, c.put_short-written.auto.dst))
-          (plain_at us c.units.read (omega (arith, c.units-test.true, c.requires.units)) (omega (arith, c.requires.short c.units.read c.units-test.true)))
+          (omega (arith, c.units-test.true, c.requires.units)) c.put-written.auto.dst (omega (arith, p.adds.within, c.put-written.auto.dst))
+          (plain_at us c.units.read (omega (arith, c.units-test.true, c.requires.units)) (omega (arith, c.requires.low c.units.read c.units-test.true, g.W.UnitWriter.plain)))
           (adds_prefix _ _ ys n p.adds) (adds_behind _ _ ys n p.adds);
     }
 
 pub returns-clause-boundary : goal.returns-clause-boundary
-returns-clause-boundary c =
+returns-clause-boundary g c =
     let all : c.units.read ≡ 32 = omega (arith, c.units-test.false, c.units.invariant.within) in
     rw (← all) (written_boundary c.args.units.now c.args.dst.now c.units.read c.units.dst c.units.written c.units.invariant.so_far)
 
 pub returns-clause-text : goal.returns-clause-text
-returns-clause-text c =
+returns-clause-text g c =
     let all : c.units.read ≡ 32 = omega (arith, c.units-test.false, c.units.invariant.within) in
     written_units c.args.units.now c.args.dst.now c.units.read c.units.dst c.units.written c.units.invariant.so_far ∙ ap (λ n. units_in_utf8 (take n c.args.units.now)) all

@@ -1,0 +1,190 @@
+-- How far the loops of the driver have come.
+use Rattle.std.proofs.Common.{◌≡◌, ℕ, ◌+◌, ◌*◌, ◌-◌, ◌<◌, ◌≤◌, Bool, true, false, IsTrue, List, [], ◌∷◌, ◌++◌, length, take, drop, refl, subst, sym, ◌∙◌, ap, arith, append_assoc, length-take, length-append, encode_utf8_all}
+use Rattle.std.proofs.lemmas.Bool.Decides.{nat_tests}
+use Rattle.std.proofs.lemmas.List.{drop-append-le, length-take-le, take-append-drop}
+use Rattle.std.proofs.lemmas.Str.{encodes-chars, length-encode}
+use Rattle.std.specs.Char.{encode_utf8}
+use Rattle.std.specs.Str.{chars, IsUtf8}
+use Rattle.encoding_mem.specs.Piece.{Piece, sizes, piece_len, scalars, scalars_of, IsWellFormed, AreWellFormed}
+use Rattle.encoding_mem.specs.Decoding.{Takes}
+use Rattle.encoding_mem.specs.DecodedLength.{cost_in, is_units}
+use Rattle.encoding_mem.specs.DecoderRule.{IsFirstPiece}
+use Rattle.encoding_mem.specs.Text.{text_pieces}
+use Rattle.encoding_mem.specs.UnitRun.{BeginWithUnits, unit_pieces}
+use Rattle.encoding_mem.specs.declared.room.OutputUnit.{OutputUnit}
+use Rattle.encoding_mem.specs.declared.decoder_result.DecoderResult.TheVariants.{OutputFull}
+use Rattle.encoding_mem.specs.laws.Piece.{AreWellFormed-last}
+use Rattle.encoding_mem.specs.laws.Writing.{cost_fits16}
+use Rattle.encoding_mem.proofs.DecoderCallLemmas.{left_behind, takes_then, took_source}
+
+-- Of the source rest is left, and nothing is pending; what was taken is written, and room that was enough for the source
+-- is enough for the rest.
+pub record HasCome (before P : List ℕ → List Piece) (needed need : OutputUnit → ℕ → ℕ) (t last : Bool) (src rest : List ℕ) (old free : ℕ) (W : List ℕ → Type 0) : Type 0 where
+  pub within : length rest ≤ length src
+  pub behind : rest ≡ drop (length src - length rest) src
+  pub enough : (k : OutputUnit) (m : ℕ) → is_units k ≡ t → (IsTrue last → m ≡ 0) → needed k (length src + m) ≤ old → need k (length rest + m) ≤ free
+  pub takes : Takes AreWellFormed before P src last 0 0 (length src - length rest) W
+
+-- nothing is taken yet
+pub come_none : (P : List ℕ → List Piece) (need : OutputUnit → ℕ → ℕ) (t last : Bool) (src : List ℕ) (free : ℕ) (W : List ℕ → Type 0) → W [] → HasCome P P need need t last src src free free W
+come_none P need t last src free W none =
+    let start : 0 ≡ length src - length src = omega arith in
+    record {
+      within = omega arith;
+      behind = ap (λ n. drop n src) start;
+      enough = λ k m units stops h. h;
+      takes = record {
+        taken = [];
+        well_formed = tt;
+        within = omega arith;
+        counted = omega arith;
+        writes = none;
+        rest = λ r e. ap (λ n. P (drop n src ++ r)) start;
+      };
+    }
+
+-- a piece more
+pub come_piece : (before P P' : List ℕ → List Piece) (needed need need' : OutputUnit → ℕ → ℕ) (t last : Bool) (src rest : List ℕ) (old free free' : ℕ) (W W' : List ℕ → Type 0) (p : Piece) (n : ℕ)
+    → HasCome before P needed need t last src rest old free W
+    → IsWellFormed p
+    → piece_len p ≡ n
+    → IsFirstPiece P P' rest last p
+    → ((k : OutputUnit) (m : ℕ) → is_units k ≡ t → length rest ≤ m → (IsTrue last → m ≡ length rest) → need k m ≤ free → need' k (m - n) ≤ free')
+    → ((text : List ℕ) → W text → W' (text ++ scalars_of p))
+    → HasCome before P' needed need' t last src (take (length rest - n) (drop n rest)) old free' W'
+come_piece before P P' needed need need' t last src rest old free free' W W' p n i fine size first room step =
+    let fits : n ≤ length rest = omega (arith, size, first.within) in
+    let left = left_behind src rest n i.within i.behind fits in
+    record {
+      within = left.within;
+      behind = left.behind;
+      enough = λ k m units stops h. (
+          let e : (length rest + m) - n ≡ length (take (length rest - n) (drop n rest)) + m = omega (arith, fits, left.size) in
+          subst (λ (x : ℕ). need' k x ≤ free') e (room k (length rest + m) units (omega arith) (λ l. omega (arith, stops l)) (i.enough k m units stops h)));
+      takes = subst (λ (k : ℕ). Takes AreWellFormed before P' src last 0 0 k W') (sym left.read)
+          (took_source AreWellFormed before P P' src rest last 0 (length src - length rest) W W' p n size i.behind i.takes first (λ ps a. AreWellFormed-last ps p a fine) step);
+    }
+
+pub untrue : IsTrue false → ⊥
+untrue h = cc
+
+-- pieces more, whatever follows them
+pub come_more : (before P P' : List ℕ → List Piece) (needed need need' : OutputUnit → ℕ → ℕ) (t last : Bool) (src rest : List ℕ) (old free free' : ℕ) (W W1 W' : List ℕ → Type 0) (n : ℕ)
+    → HasCome before P needed need t last src rest old free W
+    → Takes AreWellFormed P P' rest false 0 0 n W1
+    → ((k : OutputUnit) (m : ℕ) → is_units k ≡ t → (IsTrue false → m ≡ 0) → need k (length rest + m) ≤ free → need' k ((length rest - n) + m) ≤ free')
+    → ((text more : List ℕ) → W text → W1 more → W' (text ++ more))
+    → HasCome before P' needed need' t last src (take (length rest - n) (drop n rest)) old free' W'
+come_more before P P' needed need need' t last src rest old free free' W W1 W' n i more room step =
+    let left = left_behind src rest n i.within i.behind more.within in
+    let then : Takes AreWellFormed P P' rest last 0 0 n W1 = record {
+      taken = more.taken;
+      well_formed = more.well_formed;
+      within = more.within;
+      counted = more.counted;
+      writes = more.writes;
+      rest = λ r e. more.rest r (λ no. absurd (untrue no));
+    } in
+    record {
+      within = left.within;
+      behind = left.behind;
+      enough = λ k m units stops h. subst (λ (x : ℕ). need' k (x + m) ≤ free') (sym left.size) (room k m units (λ no. absurd (untrue no)) (i.enough k m units stops h));
+      takes = subst (λ (k : ℕ). Takes AreWellFormed before P' src last 0 0 k W') (sym left.read)
+          (takes_then OutputFull before P P' src last 0 0 (length src - length rest) n W W1 W' step i.takes (subst (λ x. Takes AreWellFormed P P' x last 0 0 n W1) i.behind then));
+    }
+
+-- a run of text
+text_well_formed : (cs : List ℕ) → AreWellFormed (text_pieces cs)
+text_well_formed [] = tt
+text_well_formed (c ∷ cs) = (tt, text_well_formed cs)
+
+text_size : (cs : List ℕ) → sizes (text_pieces cs) ≡ length (encode_utf8_all cs)
+text_size [] = refl
+text_size (c ∷ cs) = omega (arith, text_size cs, length-encode c, length-append (encode_utf8 c) (encode_utf8_all cs))
+
+text_scalars : (cs : List ℕ) → scalars (text_pieces cs) ≡ cs
+text_scalars [] = refl
+text_scalars (c ∷ cs) = ap (λ y. c ∷ y) (text_scalars cs)
+
+-- units of UTF-16 that are characters
+unit_well_formed : (us : List ℕ) → AreWellFormed (unit_pieces us)
+unit_well_formed [] = tt
+unit_well_formed (u ∷ us) = (tt, unit_well_formed us)
+
+unit_size : (us : List ℕ) → sizes (unit_pieces us) ≡ 2 * length us
+unit_size [] = refl
+unit_size (u ∷ us) = omega (arith, unit_size us)
+
+unit_scalars : (us : List ℕ) → scalars (unit_pieces us) ≡ us
+unit_scalars [] = refl
+unit_scalars (u ∷ us) = ap (λ y. u ∷ y) (unit_scalars us)
+
+-- a run of well-formed pieces
+run_taken : (P : List ℕ → List Piece) (rest run cs : List ℕ) (ps : List Piece) (W : List ℕ → Type 0)
+    → run ≡ take (length run) rest
+    → AreWellFormed ps → sizes ps ≡ length run → scalars ps ≡ cs
+    → ((r : List ℕ) → P (run ++ r) ≡ ps ++ P r)
+    → W cs
+    → Takes AreWellFormed P P rest false 0 0 (length run) W
+run_taken P rest run cs ps W prefix fine size chars_are gives written =
+    let whole : rest ≡ run ++ drop (length run) rest = sym (take-append-drop (length run) rest) ∙ ap (λ x. x ++ drop (length run) rest) (sym prefix) in
+    record {
+      taken = ps;
+      well_formed = fine;
+      within = omega (arith, ap length prefix, length-take (length run) rest);
+      counted = omega (arith, size);
+      writes = rw chars_are written;
+      rest = λ r e. ap (λ x. P (x ++ r)) whole ∙ ap P (append_assoc run (drop (length run) rest) r) ∙ gives (drop (length run) rest ++ r);
+    }
+
+pub text_taken : (P : List ℕ → List Piece) (rest text : List ℕ) (W : List ℕ → Type 0)
+    → text ≡ take (length text) rest
+    → IsUtf8 text
+    → ((r : List ℕ) → P (text ++ r) ≡ text_pieces (chars text) ++ P r)
+    → W (chars text)
+    → Takes AreWellFormed P P rest false 0 0 (length text) W
+text_taken P rest text W prefix utf8 gives written =
+    run_taken P rest text (chars text) (text_pieces (chars text)) W prefix (text_well_formed (chars text)) (text_size (chars text) ∙ ap length (encodes-chars text utf8)) (text_scalars (chars text)) gives written
+
+pub units_taken : (P : List ℕ → List Piece) (rest units : List ℕ) (W : List ℕ → Type 0) → BeginWithUnits P rest units → W units → Takes AreWellFormed P P rest false 0 0 64 W
+units_taken P rest units W run written =
+    let size : length (take 64 rest) ≡ 64 = length-take-le 64 rest run.within in
+    subst (λ n. Takes AreWellFormed P P rest false 0 0 n W) size
+    (run_taken P rest (take 64 rest) units (unit_pieces units) W (ap (λ n. take n rest) (sym size)) (unit_well_formed units) (unit_size units ∙ omega (arith, run.whole, size)) (unit_scalars units) run.rest written)
+
+-- room for a run of n bytes, and for what follows
+pub run_room : (need : OutputUnit → ℕ → ℕ) (t : Bool) (len n : ℕ) (cost : Bool → ℕ) (free free' : ℕ) → n ≤ len
+    → ((k : OutputUnit) (m : ℕ) → cost (is_units k) + need k m ≤ need k (n + m))
+    → free' + cost t ≡ free
+    → (k : OutputUnit) (m : ℕ) → is_units k ≡ t → (IsTrue false → m ≡ 0) → need k (len + m) ≤ free → need k ((len - n) + m) ≤ free'
+run_room need t len n cost free free' fits room left k m units stops h =
+    let sum_is : n + ((len - n) + m) ≡ len + m = omega (arith, fits) in
+    omega (arith, room k ((len - n) + m), ap (need k) sum_is, ap cost units, left, h)
+
+-- the same for a piece, which changes the state
+pub piece_room : (need need' : OutputUnit → ℕ → ℕ) (t : Bool) (len n : ℕ) (cost : Bool → ℕ) (free free' : ℕ) → n ≤ len
+    → ((k : OutputUnit) (m : ℕ) → cost (is_units k) + need' k m ≤ need k (n + m))
+    → free' + cost t ≡ free
+    → (k : OutputUnit) (m : ℕ) → is_units k ≡ t → len ≤ m → (IsTrue false → m ≡ len) → need k m ≤ free → need' k (m - n) ≤ free'
+piece_room need need' t len n cost free free' fits room left k m units window stops h =
+    let sum_is : n + (m - n) ≡ m = omega (arith, fits, window) in
+    omega (arith, room k (m - n), ap (need k) sum_is, ap cost units, left, h)
+
+-- The first piece of a list, whatever follows it, is that of any list that begins with it.
+pub first_of_start : (P P' : List ℕ → List Piece) (start rest : List ℕ) (n : ℕ) (last : Bool) (p : Piece)
+    → start ≡ take n rest → IsFirstPiece P P' start false p → IsFirstPiece P P' rest last p
+first_of_start P P' start rest n last p is h =
+    let whole : rest ≡ start ++ drop n rest = sym (take-append-drop n rest) ∙ ap (λ x. x ++ drop n rest) (sym is) in
+    record {
+      some = h.some;
+      within = omega (arith, h.within, ap length whole, length-append start (drop n rest));
+      rest = λ r e.
+          ap (λ x. P (x ++ r)) whole ∙ ap P (append_assoc start (drop n rest) r) ∙ h.rest (drop n rest ++ r) (λ no. absurd (untrue no))
+          ∙ ap (λ x. p ∷ P' x) (sym (append_assoc (drop (piece_len p) start) (drop n rest) r))
+          ∙ ap (λ x. p ∷ P' (x ++ r)) (sym (drop-append-le (piece_len p) start (drop n rest) h.within) ∙ ap (drop (piece_len p)) (sym whole));
+    }
+
+-- a character of the basic plane has three bytes at most
+pub basic_cost : (t : Bool) (c : ℕ) → c < 0x1_0000 → cost_in t c ≤ 3
+basic_cost true c small = omega (arith, cost_fits16 c)
+basic_cost false c small = grind (arith, nat_tests)
