@@ -74,15 +74,24 @@ fn take_piece<F: DecoderRule, S: Sink>(
 
 // Takes pairs of bytes, as long as each is a character from U+0800 to U+FFFF and has room, and
 // returns how many bytes they are. Such characters follow one another in text, and none of them
-// asks for room by itself, or for a run of text.
+// asks for room by itself, or for a run of text. Where units come in runs, it takes none.
 #[inline(always)]
-fn take_pairs<F: DecoderRule, S: Sink>(codec: &mut F, src: &[u8], sink: &mut S) -> usize
+fn take_pairs<F: DecoderRule, S: Sink>(
+    codec: &mut F,
+    src: &[u8],
+    sink: &mut S,
+    in_runs: bool,
+) -> usize
     ensures law { Takes AreWellFormed (F.pieces codec.old) (F.pieces codec.new)
         src.now false 0 0 result (λ text. S.writes sink.old text sink.new) }
     ensures enough { PartSuffices (F.needs codec.old) (F.needs codec.new) S.is_units false
         (length src.now) (length src.now - result) (S.free sink.old) (S.free sink.new) None }
     ensures limits { F.limits codec.new ≡ F.limits codec.old }
 {
+    // No pair begins with ASCII but in UTF-16, where most text comes in runs.
+    if in_runs || src.is_empty() || src[0] < 0x80 {
+        return 0;
+    }
     let mut rest = src;
     // Each has three bytes of UTF-8. Where units are written, a third of the room would do.
     let mut pairs_left = (src.len() / 2).min(sink.free_len() / 3);
@@ -178,6 +187,7 @@ fn decode_pieces<F: DecoderRule, S: Sink>(
     // each piece; so text without runs is rarely asked for them.
     let mut seek = src.len();
     let mut apart = 16;
+    let mut in_runs = false;
     'pieces: while !rest.is_empty() {
         let text = codec.text_at(rest, sink.free_len());
         if !text.is_empty() {
@@ -191,6 +201,7 @@ fn decode_pieces<F: DecoderRule, S: Sink>(
                 sink.put_units(&units);
                 rest = &rest[2 * UNIT_RUN..];
                 apart = 16;
+                in_runs = true;
                 continue;
             }
             seek = rest.len().saturating_sub(apart);
@@ -204,7 +215,7 @@ fn decode_pieces<F: DecoderRule, S: Sink>(
             Step::Full => return (DecoderResult::OutputFull, src.len() - rest.len()),
             Step::Took(n) => {
                 rest = &rest[n..];
-                let pairs = take_pairs(codec, rest, sink);
+                let pairs = take_pairs(codec, rest, sink, in_runs);
                 rest = &rest[pairs..];
             }
             Step::Broke(n) => {
