@@ -2,18 +2,20 @@
 """Tries edits, each a wrong body, which the prover has to refuse: those of `edits/` in each crate, which the merge gate
 leaves out, or with `--gate` those of `must-fail/`, which `rt ci` tries.
 
-    python3 tools/edits.py [--gate] [CRATE[/NAME]..]
+    python3 tools/edits.py [--gate] [--jobs N] [CRATE[/NAME]..]
 
 With a name, those of the crate whose names begin with it. Without crates, those of `edits/` of the last commit are tried,
-and what came of it is written to docs/EDITS.md.
+and what came of it is written to docs/EDITS.md. N crates are tried at a time, two where nothing is said.
 
-In a copy of the repository, with what checks have kept in `out/`, the edits of a crate are made in rounds: of each
+In a copy of the repository for each crate, with what checks have kept in `out/`, its edits are made in rounds: of each
 function at most one edit in a round. A check then says of each function whether it is proved, and an edit is refused
 where a fact of its own function is not. A function that calls one that is not proved is not looked at: its edit comes
 into a later round. An edit that changes no function, as that of a constant, and one that no round shows refused, is
 tried alone: then the crate must not be proved. The status is 0 where all are refused.
 """
 
+import argparse
+import concurrent.futures
 import datetime
 import itertools
 import os
@@ -22,13 +24,14 @@ import shutil
 import subprocess
 import sys
 import tempfile
+import time
 
 TOP = os.path.abspath(os.path.join(os.path.dirname(os.path.abspath(__file__)), ".."))
 CRATES = os.path.join(TOP, "crates")
 
 PAGE = """# The edits that the gate leaves out
 
-`make edits` tried them on {commit} ({day}, {kit}): {refused} refused, {failed} not.
+`make edits` tried them on {commit} ({day}, {kit}): {refused} refused, {failed} not. It took {minutes} minutes.
 """
 
 FUNCTION = re.compile(r"^ *(?:pub(?:\([^)]*\))? )?fn (\w+)")
@@ -178,48 +181,74 @@ def is_refused_alone(folder, edit):
     return not is_proved and "logic=not-proved" in said
 
 
-def try_crate(crate, folder, edits):
-    """How many of these edits are not refused, by checks of the whole crate in this folder."""
-    single, failed = [edit for edit in edits if not edit.path], 0
-    single += left_of(crate, folder, [edit for edit in edits if edit.path])
-    for edit in single:
-        is_refused = is_refused_alone(folder, edit)
-        tell(crate, edit, is_refused)
-        failed += not is_refused
-    return failed
+def below(crate):
+    """The crate, and the repository's crates that it stands on."""
+    lines = [line.split("#")[0].partition(":") for line in read(os.path.join(TOP, "crates.txt")).split("\n")]
+    uses = {name.split()[0]: used.split() for name, _, used in lines if name.strip()}
+    found = [crate]
+    for name in found:
+        found += [other for other in uses[name] if other in uses and other not in found]
+    return found
+
+
+def copy_for(crate, work):
+    """A copy of the repository, with what checks have kept of this crate and of those below it."""
+    kept = [os.path.join(CRATES, name) for name in below(crate)]
+    copy = os.path.join(work, crate)
+    ignored = lambda folder, names: {".git"} | ({"out"} if folder not in kept else set())
+    shutil.copytree(TOP, copy, symlinks=True, ignore=ignored)
+    return os.path.join(copy, "crates", crate)
+
+
+def try_crate(crate, edits):
+    """How many of these edits are not refused, by checks of the whole crate in a copy."""
+    with tempfile.TemporaryDirectory() as work:
+        folder = copy_for(crate, work)
+        single, failed = [edit for edit in edits if not edit.path], 0
+        single += left_of(crate, folder, [edit for edit in edits if edit.path])
+        for edit in single:
+            is_refused = is_refused_alone(folder, edit)
+            tell(crate, edit, is_refused)
+            failed += not is_refused
+        return failed
 
 
 def said(*words):
     return subprocess.run(words, cwd=TOP, capture_output=True, text=True, check=True).stdout.strip()
 
 
-def main(words):
-    kind = "must-fail" if "--gate" in words else "edits"
-    is_whole = not words
-    if is_whole and said("git", "status", "--porcelain"):
-        sys.exit("there are changes that no commit has")
-    about = {"commit": said("git", "rev-parse", "--short", "HEAD"), "kit": said("rt", "version")} if is_whole else {}
-    names = [word for word in words if word != "--gate"]
-    chosen = []
+def chosen(kind, names):
+    """The edits of this kind, crate by crate, the largest crates first: all, or those that have one of the names."""
+    found = []
     for word in names or sorted(os.listdir(CRATES)):
         crate, _, name = word.partition("/")
         edits = [edit for edit in edits_of(crate, kind) if edit.name.startswith(name)]
         if names and not edits:
             sys.exit("no edit has the name %s" % word)
-        chosen += [(crate, edits)] if edits else []
-    tried = failed = 0
-    with tempfile.TemporaryDirectory() as work:
-        copy = os.path.join(work, "repository")
-        shutil.copytree(TOP, copy, symlinks=True, ignore=shutil.ignore_patterns(".git"))
-        for crate, edits in chosen:
-            tried += len(edits)
-            failed += try_crate(crate, os.path.join(copy, "crates", crate), edits)
-    print("%d refused, %d not" % (tried - failed, failed))
+        found += [(crate, edits)] if edits else []
+    return sorted(found, key=lambda pair: -len(pair[1]))
+
+
+def main():
+    parser = argparse.ArgumentParser(description=__doc__, formatter_class=argparse.RawDescriptionHelpFormatter)
+    parser.add_argument("--gate", action="store_true")
+    parser.add_argument("--jobs", type=int, default=2)
+    parser.add_argument("names", nargs="*")
+    given = parser.parse_args()
+    is_whole = not given.gate and not given.names
+    if is_whole and said("git", "status", "--porcelain"):
+        sys.exit("there are changes that no commit has")
+    about = {"commit": said("git", "rev-parse", "--short", "HEAD"), "kit": said("rt", "version")} if is_whole else {}
+    crates, start = chosen("must-fail" if given.gate else "edits", given.names), time.time()
+    with concurrent.futures.ThreadPoolExecutor(given.jobs) as pool:
+        failed = sum(pool.map(lambda pair: try_crate(*pair), crates))
+    refused = sum(len(edits) for _, edits in crates) - failed
+    print("%d refused, %d not" % (refused, failed))
     if is_whole:
-        page = PAGE.format(**about, day=datetime.date.today().isoformat(), refused=tried - failed, failed=failed)
-        write(os.path.join(TOP, "docs", "EDITS.md"), page)
+        about |= {"minutes": round((time.time() - start) / 60), "day": datetime.date.today().isoformat()}
+        write(os.path.join(TOP, "docs", "EDITS.md"), PAGE.format(**about, refused=refused, failed=failed))
     return 1 if failed else 0
 
 
 if __name__ == "__main__":
-    sys.exit(main(sys.argv[1:]))
+    sys.exit(main())

@@ -86,6 +86,12 @@ impl<'a> DecoderRule for Iso2022JpRule<'a> {
         }
     }
 
+    // Only in the two-byte set may any byte begin a character of two.
+    #[inline(always)]
+    fn seeks_pairs(&self, _first: u8) -> bool {
+        matches!(self.mode, Mode::Jis)
+    }
+
     fn room(&self) -> DecodedLength {
         DecodedLength::multibyte()
     }

@@ -146,11 +146,11 @@ pub text_taken : (P : List ℕ → List Piece) (rest text : List ℕ) (W : List 
 text_taken P rest text W prefix utf8 gives written =
     run_taken P rest text (chars text) (text_pieces (chars text)) W prefix (text_well_formed (chars text)) (text_size (chars text) ∙ ap length (encodes-chars text utf8)) (text_scalars (chars text)) gives written
 
-pub units_taken : (P : List ℕ → List Piece) (rest units : List ℕ) (W : List ℕ → Type 0) → BeginWithUnits P rest units → W units → Takes AreWellFormed P P rest false 0 0 64 W
+pub units_taken : (P : List ℕ → List Piece) (rest units : List ℕ) (W : List ℕ → Type 0) → BeginWithUnits P rest units → W units → Takes AreWellFormed P P rest false 0 0 (2 * length units) W
 units_taken P rest units W run written =
-    let size : length (take 64 rest) ≡ 64 = length-take-le 64 rest run.within in
+    let size : length (take (2 * length units) rest) ≡ 2 * length units = length-take-le (2 * length units) rest run.within in
     subst (λ n. Takes AreWellFormed P P rest false 0 0 n W) size
-    (run_taken P rest (take 64 rest) units (unit_pieces units) W (ap (λ n. take n rest) (sym size)) (unit_well_formed units) (unit_size units ∙ omega (arith, run.whole, size)) (unit_scalars units) run.rest written)
+    (run_taken P rest (take (2 * length units) rest) units (unit_pieces units) W (ap (λ n. take n rest) (sym size)) (unit_well_formed units) (unit_size units ∙ omega (arith, size)) (unit_scalars units) run.rest written)
 
 -- room for a run of n bytes, and for what follows
 pub run_room : (need : OutputUnit → ℕ → ℕ) (t : Bool) (len n : ℕ) (cost : Bool → ℕ) (free free' : ℕ) → n ≤ len

@@ -74,22 +74,16 @@ fn take_piece<F: DecoderRule, S: Sink>(
 
 // Takes pairs of bytes, as long as each is a character from U+0800 to U+FFFF and has room, and
 // returns how many bytes they are. Such characters follow one another in text, and none of them
-// asks for room by itself, or for a run of text. Where units come in runs, it takes none.
+// asks for room by itself, or for a run of text.
 #[inline(always)]
-fn take_pairs<F: DecoderRule, S: Sink>(
-    codec: &mut F,
-    src: &[u8],
-    sink: &mut S,
-    in_runs: bool,
-) -> usize
+fn take_pairs<F: DecoderRule, S: Sink>(codec: &mut F, src: &[u8], sink: &mut S) -> usize
     ensures law { Takes AreWellFormed (F.pieces codec.old) (F.pieces codec.new)
         src.now false 0 0 result (λ text. S.writes sink.old text sink.new) }
     ensures enough { PartSuffices (F.needs codec.old) (F.needs codec.new) S.is_units false
         (length src.now) (length src.now - result) (S.free sink.old) (S.free sink.new) None }
     ensures limits { F.limits codec.new ≡ F.limits codec.old }
 {
-    // No pair begins with ASCII but in UTF-16, where most text comes in runs.
-    if in_runs || src.is_empty() || src[0] < 0x80 {
+    if src.is_empty() || !codec.seeks_pairs(src[0]) {
         return 0;
     }
     let mut rest = src;
@@ -182,12 +176,6 @@ fn decode_pieces<F: DecoderRule, S: Sink>(
     ensures near { IsNear (F.pieces codec.new) pending.new }
 {
     let mut rest = src;
-    // A run of units is sought where no more bytes than `seek` are left. Where there is none, what
-    // is in its way is taken by pieces: 16 bytes at least, 16 more each time, and the pairs behind
-    // each piece; so text without runs is rarely asked for them.
-    let mut seek = src.len();
-    let mut apart = 16;
-    let mut in_runs = false;
     'pieces: while !rest.is_empty() {
         let text = codec.text_at(rest, sink.free_len());
         if !text.is_empty() {
@@ -196,16 +184,13 @@ fn decode_pieces<F: DecoderRule, S: Sink>(
             continue;
         }
         // Three bytes a unit; where units are written, a third of it would do.
-        if rest.len() <= seek && sink.free_len() >= 3 * UNIT_RUN {
-            if let Some(units) = codec.units_at(rest) {
-                sink.put_units(&units);
-                rest = &rest[2 * UNIT_RUN..];
-                apart = 16;
-                in_runs = true;
+        if sink.free_len() >= 3 * UNIT_RUN {
+            let (units, count) = codec.units_at(rest);
+            if count > 0 {
+                sink.put_units(&units[..count]);
+                rest = &rest[2 * count..];
                 continue;
             }
-            seek = rest.len().saturating_sub(apart);
-            apart = apart.saturating_add(16);
         }
         match take_piece(codec, rest, last, sink) {
             Step::Wait => {
@@ -215,7 +200,7 @@ fn decode_pieces<F: DecoderRule, S: Sink>(
             Step::Full => return (DecoderResult::OutputFull, src.len() - rest.len()),
             Step::Took(n) => {
                 rest = &rest[n..];
-                let pairs = take_pairs(codec, rest, sink, in_runs);
+                let pairs = take_pairs(codec, rest, sink);
                 rest = &rest[pairs..];
             }
             Step::Broke(n) => {

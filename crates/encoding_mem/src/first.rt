@@ -27,13 +27,27 @@ pub(crate) fn all_bytes_below(block: u8x64, limit: u8) -> bool
     block.simd_ge(u8x64::splat(limit)).to_bitmask() == 0
 }
 
-/// Whether each of 32 units is below the limit: one branch for all of them.
+// Whether each of 32 units is below the limit: one branch for all of them.
 #[inline(always)]
-pub fn all_units_below(block: u16x32, limit: u16) -> bool
+pub(crate) fn all_units_below(block: u16x32, limit: u16) -> bool
     ensures all { IsTrue result → prefix_len (λ u. not (nat_le limit u)) block ≡ 32 }
     ensures only { prefix_len (λ u. not (nat_le limit u)) block ≡ 32 → IsTrue result }
 {
     block.simd_ge(u16x32::splat(limit)).to_bitmask() == 0
+}
+
+/// How many of 32 units stand before the first that is not below the limit; all of them where there
+/// is none.
+#[inline(always)]
+pub fn units_below(block: u16x32, limit: u16) -> usize
+    ensures { result ≡ prefix_len (λ u. not (nat_le limit u)) block }
+{
+    let marks = block.simd_ge(u16x32::splat(limit)).to_bitmask();
+    if marks == 0 {
+        UNIT_BLOCK
+    } else {
+        marks.trailing_zeros() as usize
+    }
 }
 
 /// How many bytes stand before the first that is not below the limit; all of them where there is

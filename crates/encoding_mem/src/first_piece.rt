@@ -1,6 +1,6 @@
 //! A decoder's rule: what the first piece of some bytes is.
 
-ghost use Rattle.std.specs.Prelude.{◌≡◌, ℕ, ◌<◌, ◌≤◌, ◌+◌, ◌++◌, List, [], IfSome, length, take};
+ghost use Rattle.std.specs.Prelude.{◌≡◌, ℕ, ◌<◌, ◌≤◌, ◌+◌, ◌*◌, ◌++◌, List, [], length, take};
 ghost use Rattle.std.specs.Str.{chars, encode_utf8_all};
 ghost use Rattle.encoding_mem.specs.Piece.{Piece, sizes, ArePieces};
 ghost use Rattle.encoding_mem.specs.DecoderRule.{TellsFirstPiece, HasRoomFor};
@@ -14,7 +14,7 @@ ghost use Rattle.encoding_mem.specs.declared.room.DecodedLength.{DecodedLength};
 use crate::first::UNIT_BLOCK;
 use crate::room::DecodedLength;
 
-/// How many units of UTF-16 are decoded at once, 32, where all are characters below U+D800.
+/// How many units of UTF-16 are looked at at once: 32.
 pub const UNIT_RUN: usize = UNIT_BLOCK;
 
 /// What stands at the start of some bytes, by a decoding rule. Lengths are in bytes.
@@ -86,17 +86,26 @@ pub trait DecoderRule {
         ensures room { (k : OutputUnit) (m : ℕ) → text_len (is_units k) result.now + needs self.now k m
             ≤ needs self.now k (length result.now + m) };
 
-    /// The 32 units of UTF-16 that these bytes begin with, where each of them is a character below
-    /// U+D800 and the state stays as it is. `None` may be returned anywhere, as by each rule but
-    /// that of UTF-16: then `first_piece` says what is there.
+    /// Units of UTF-16, and how many of them, from the first on, are what these bytes begin with:
+    /// each of these is a character below U+D800, and the state stays as it is. Their number may be
+    /// 0 anywhere, as by each rule but that of UTF-16: then `first_piece` says what is there.
     #[inline(always)]
-    fn units_at(&self, _bytes: &[u8]) -> Option<[u16; UNIT_RUN]>
-        ensures units { IfSome result (λ units. BeginWithUnits (pieces self.now) _bytes.now units) }
-        ensures room { IfSome result (λ units. (k : OutputUnit) (m : ℕ)
-            → text_len (is_units k) (encode_utf8_all units) + needs self.now k m
-            ≤ needs self.now k (64 + m)) }
+    fn units_at(&self, _bytes: &[u8]) -> ([u16; UNIT_RUN], usize)
+        ensures whole { length result.0 ≡ 32 }
+        ensures few { result.1 ≤ 32 }
+        ensures units { BeginWithUnits (pieces self.now) _bytes.now (take result.1 result.0) }
+        ensures room { (k : OutputUnit) (m : ℕ)
+            → text_len (is_units k) (encode_utf8_all (take result.1 result.0))
+            + needs self.now k m ≤ needs self.now k (2 * result.1 + m) }
     {
-        None
+        ([0; UNIT_RUN], 0)
+    }
+
+    /// Whether characters of two bytes that begin with such a byte may follow one another, so that
+    /// the driver seeks them in a loop of their own. This decides speed alone: any answer is right.
+    #[inline(always)]
+    fn seeks_pairs(&self, first: u8) -> bool {
+        first >= 0x80
     }
 
     /// The numbers by which the length queries are computed.

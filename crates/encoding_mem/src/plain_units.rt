@@ -75,45 +75,46 @@ impl UnitWriter for Plain {
     }
 }
 
-// Puts a block of units at the start, each below the limit of the writer, and returns how many
-// bytes it has.
+// Puts so many units at the start, each below the limit of the writer, and returns how many bytes
+// they have.
 #[inline(always)]
-fn put_each<W: UnitWriter>(units: &[u16], dst: &mut [u8]) -> usize
-    requires units { 32 ≤ length units.now }
-    requires room { 96 ≤ length dst.old }
-    requires low { (k : ℕ) → k < 32 → slice_index units.now k < W.limit }
-    ensures boundary { IsUnitBoundary units.now 32 }
+fn put_each<W: UnitWriter>(units: &[u16], count: usize, dst: &mut [u8]) -> usize
+    requires units { count ≤ length units.now }
+    requires room { 3 * count ≤ length dst.old }
+    requires low { (k : ℕ) → k < count → slice_index units.now k < W.limit }
+    ensures boundary { IsUnitBoundary units.now count }
     ensures fits { result ≤ length dst.new }
-    ensures text { take result dst.new ≡ units_in_utf8 (take 32 units.now) }
+    ensures text { take result dst.new ≡ units_in_utf8 (take count units.now) }
     ensures behind { drop result dst.new ≡ drop result dst.old }
 {
     let mut read = 0;
     let mut written = 0;
-    'units: while read < UNIT_BLOCK {
+    'units: while read < count {
         written += W::put(units[read], &mut dst[written..]);
         read += 1;
     }
     written
 }
 
-// Puts a block of units below D800 hex at the start, by the way that is fastest for it, and returns
-// how many bytes it has.
+// Puts at most a block of units below D800 hex at the start, by the way that is fastest for them,
+// and returns how many bytes they have.
 #[inline(always)]
 pub(crate) fn put_plain_units(units: &[u16], dst: &mut [u8]) -> usize
-    requires units { 32 ≤ length units.now }
+    requires few { length units.now ≤ 32 }
     requires room { 96 ≤ length dst.old }
-    requires plain { (k : ℕ) → k < 32 → slice_index units.now k < 0xD800 }
-    ensures boundary { IsUnitBoundary units.now 32 }
+    requires plain { (k : ℕ) → slice_index units.now k < 0xD800 }
     ensures fits { result ≤ length dst.new }
-    ensures text { take result dst.new ≡ units_in_utf8 (take 32 units.now) }
+    ensures text { take result dst.new ≡ units_in_utf8 units.now }
     ensures behind { drop result dst.new ≡ drop result dst.old }
 {
-    if narrow_block(units, dst) {
+    if units.len() < UNIT_BLOCK {
+        put_each::<Plain>(units, units.len(), dst)
+    } else if narrow_block(units, dst) {
         UNIT_BLOCK
     } else if all_units_below(u16x32::from_slice(units), 0x800) {
-        put_each::<Short>(units, dst)
+        put_each::<Short>(units, UNIT_BLOCK, dst)
     } else {
-        put_each::<Plain>(units, dst)
+        put_each::<Plain>(units, UNIT_BLOCK, dst)
     }
 }
 
@@ -207,7 +208,7 @@ pub(crate) fn put_block(units: &[u16], dst: &mut [u8]) -> (usize, usize)
         return put_lanes(units, dst);
     }
     if all_units_below(u16x32::from_slice(units), 0x800) {
-        return (UNIT_BLOCK, put_each::<Short>(units, dst));
+        return (UNIT_BLOCK, put_each::<Short>(units, UNIT_BLOCK, dst));
     }
     put_chars(units, 0, UNIT_BLOCK, dst)
 }

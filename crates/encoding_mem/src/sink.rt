@@ -53,10 +53,10 @@ pub trait Sink: Drop {
         ensures free { free self.new + text_len is_units text.now ≡ free self.old }
         ensures writes { writes self.old (chars text.now) self.new };
 
-    /// Writes 32 characters below U+D800, given as units of UTF-16. The conditions are tested by
-    /// their number, by comparing each with D800 hex, and by comparing `free_len` with 96.
+    /// Writes at most 32 characters below U+D800, given as units of UTF-16. The conditions are
+    /// tested by their number, by comparing each with D800 hex and `free_len` with 96.
     fn put_units(&mut self, units: &[u16])
-        requires whole { length units.now ≡ 32 }
+        requires few { length units.now ≤ 32 }
         requires plain { (k : ℕ) → slice_index units.now k < 0xD800 }
         requires room { 96 ≤ free self.old }
         ensures free { free self.new + text_len is_units (encode_utf8_all units.now)

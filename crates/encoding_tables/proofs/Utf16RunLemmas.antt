@@ -3,6 +3,7 @@ use Rattle.std.proofs.Common.{◌≡◌, ℕ, zero, suc, ◌+◌, ◌*◌, ◌�
 use Rattle.std.specs.List.{prefix_len}
 use Rattle.std.proofs.lemmas.Bool.{cases_lt, le-leb, lt-leb, lt-ltb}
 use Rattle.std.proofs.lemmas.List.{length-take-le}
+use Rattle.std.proofs.lemmas.List.Sums.{prefix_len-le-length}
 use Rattle.encoding_mem.specs.Piece.{piece_len, well_formed}
 use Rattle.encoding_mem.specs.DecodedLength.{is_units, decoded_length, decoded_length_utf16}
 use Rattle.encoding_mem.specs.Text.{text_len}
@@ -17,15 +18,22 @@ use Rattle.encoding_tables.specs.laws.Utf16.{cuts_utf16}
 plain_piece : (e : Bool) (u : ℕ) (x : List ℕ) → u < 0xD800 → after_unit e u x ≡ well_formed 2 (u ∷ [])
 plain_piece e u x low = rw (lt-leb 0xD800 u low, lt-ltb u 0xD800 low) refl
 
--- where the test passed, each unit is below; behind the end there is none
-pub all_plain : (us : List ℕ) → prefix_len (λ u. not (nat_le 0xD800 u)) us ≡ length us → (k : ℕ) → get_or us k 0 < 0xD800
-all_plain [] all k = omega arith
-all_plain (u ∷ us) all k = elim (cases_lt u 0xD800) [
-  | inl low ↦ here low (all_plain us (omega (arith, (rw (lt-leb 0xD800 u low) at all)))) k
-  | inr over ↦ absurd (omega (arith, (rw (le-leb 0xD800 u over) at all)))
+-- the units before the first that is not below D800 hex
+abbrev pub plain_len : List ℕ → ℕ
+plain_len us = prefix_len (λ u. not (nat_le 0xD800 u)) us
+
+-- each of them is below; behind the end there is none
+pub all_plain : (us : List ℕ) (k : ℕ) → get_or (take (plain_len us) us) k 0 < 0xD800
+all_plain [] k = omega arith
+all_plain (u ∷ us) k = elim (cases_lt u 0xD800) [
+  | inl low ↦ rw (lt-leb 0xD800 u low, one_more (plain_len us)) (here low (all_plain us) k)
+  | inr over ↦ rw (le-leb 0xD800 u over) (omega arith)
 ]
   where
-    here : u < 0xD800 → ((k : ℕ) → get_or us k 0 < 0xD800) → (k : ℕ) → get_or (u ∷ us) k 0 < 0xD800
+    one_more : (n : ℕ) → 1 + n ≡ suc n
+    one_more n = omega arith
+
+    here : u < 0xD800 → ((k : ℕ) → get_or (take (plain_len us) us) k 0 < 0xD800) → (k : ℕ) → get_or (u ∷ take (plain_len us) us) k 0 < 0xD800
     here low rest zero = low
     here low rest (suc k) = rest k
 
@@ -47,23 +55,36 @@ plain_pieces e (u ∷ us) (a ∷ b ∷ xs) r size are plain =
     ∙ ap (λ p. p ∷ pieces_utf16 e (drop (piece_len p) (a ∷ b ∷ (xs ++ r)))) is
     ∙ ap (λ ps. well_formed 2 (u ∷ []) ∷ ps) (plain_pieces e us xs r (omega (arith, size)) rest (λ k. plain (suc k)))
 
--- room for it: three bytes and one unit each
-pub plain_room : (us : List ℕ) → length us ≡ 32 → ((k : ℕ) → get_or us k 0 < 0xD800) → (k : OutputUnit) (m : ℕ)
-    → text_len (is_units k) (encode_utf8_all us) + decoded_length decoded_length_utf16 k m ≤ decoded_length decoded_length_utf16 k (64 + m)
-plain_room us whole plain Units m = omega (arith, whole, unit_text_len true us plain)
-plain_room us whole plain Bytes m = omega (arith, whole, unit_text_len false us plain)
-plain_room us whole plain Replaced m = omega (arith, whole, unit_text_len false us plain)
+-- room for them: three bytes and one unit each
+pub plain_room : (us : List ℕ) → ((k : ℕ) → get_or us k 0 < 0xD800) → (k : OutputUnit) (m : ℕ)
+    → text_len (is_units k) (encode_utf8_all us) + decoded_length decoded_length_utf16 k m ≤ decoded_length decoded_length_utf16 k (2 * length us + m)
+plain_room us plain Units m = omega (arith, unit_text_len true us plain)
+plain_room us plain Bytes m = omega (arith, unit_text_len false us plain)
+plain_room us plain Replaced m = omega (arith, unit_text_len false us plain)
 
--- all that is said of a run
-pub plain_run : (e : Bool) (us bytes : List ℕ) → length us ≡ 32 → 64 ≤ length bytes → AreUnitsOf e 32 us bytes → ((k : ℕ) → get_or us k 0 < 0xD800)
-    → BeginWithUnits (pieces_utf16 e) bytes us
-plain_run e us bytes whole fits are plain =
-    let here : AreUnitsOf e (length us) us (take 64 bytes) = λ k below. are k (omega (arith, below, whole))
-    ∙ ap (λ a. unit_of e a (get_or bytes (2 * k + 1) 0)) (sym (get_or-take 64 bytes (2 * k) 0 (omega (arith, below, whole))))
-    ∙ ap (λ b. unit_of e (get_or (take 64 bytes) (2 * k) 0) b) (sym (get_or-take 64 bytes (2 * k + 1) 0 (omega (arith, below, whole)))) in
+-- all that is said of them
+pub plain_run : (e : Bool) (us bytes : List ℕ) (n : ℕ) → n ≡ plain_len us → length us ≡ 32 → 64 ≤ length bytes → AreUnitsOf e 32 us bytes
+    → BeginWithUnits (pieces_utf16 e) bytes (take n us)
+plain_run e us bytes n counted whole fits are =
+    let few : n ≤ 32 = omega (arith, counted, whole, prefix_len-le-length (λ u. not (nat_le 0xD800 u)) us) in
+    let size : length (take n us) ≡ n = length-take-le n us (omega (arith, few, whole)) in
+    let plain : (k : ℕ) → get_or (take n us) k 0 < 0xD800 = rw counted (all_plain us) in
+    let m = 2 * length (take n us) in
+    let here : AreUnitsOf e (length (take n us)) (take n us) (take m bytes) = λ k below. get_or-take n us k 0 (omega (arith, below, size))
+    ∙ are k (omega (arith, below, size, few))
+    ∙ ap (λ a. unit_of e a (get_or bytes (2 * k + 1) 0)) (sym (get_or-take m bytes (2 * k) 0 (omega (arith, below))))
+    ∙ ap (λ b. unit_of e (get_or (take m bytes) (2 * k) 0) b) (sym (get_or-take m bytes (2 * k + 1) 0 (omega (arith, below)))) in
     record {
-      whole = whole;
-      within = fits;
+      few = omega (arith, size, few);
+      within = omega (arith, size, few, fits);
       plain = plain;
-      rest = λ r. plain_pieces e us (take 64 bytes) r (length-take-le 64 bytes fits ∙ omega (arith, whole)) here plain;
+      rest = λ r. plain_pieces e (take n us) (take m bytes) r (length-take-le m bytes (omega (arith, size, few, fits))) here plain;
     }
+
+-- room for them
+pub plain_run_room : (us : List ℕ) (n : ℕ) → n ≡ plain_len us → (k : OutputUnit) (m : ℕ)
+    → text_len (is_units k) (encode_utf8_all (take n us)) + decoded_length decoded_length_utf16 k m ≤ decoded_length decoded_length_utf16 k (2 * n + m)
+plain_run_room us n counted k m =
+    let size : length (take n us) ≡ n = length-take-le n us (omega (arith, counted, prefix_len-le-length (λ u. not (nat_le 0xD800 u)) us)) in
+    let room = plain_room (take n us) (rw counted (all_plain us)) k m in
+    rw size at room

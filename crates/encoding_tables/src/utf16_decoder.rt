@@ -11,7 +11,7 @@ ghost use Rattle.encoding_tables.specs.Utf16.{AreUnitsOf, unit_of, first_piece_u
 ghost use Rattle.encoding_tables.specs.laws.Utf16Decide.{decide_utf16, decide_unit, decide_pair};
 ghost use Rattle.encoding_tables.specs.laws.Utf16.{cuts_utf16};
 
-use encoding_mem::first::all_units_below;
+use encoding_mem::first::units_below;
 use encoding_mem::first_piece::{DecoderRule, FirstPiece, UNIT_RUN, cut_short};
 use encoding_mem::room::DecodedLength;
 use encoding_mem::scalar::scalar_of;
@@ -92,17 +92,20 @@ impl<E: ByteOrder> DecoderRule for Utf16Rule<E> {
         ""
     }
 
+    // Where a surrogate comes first, no block of units is looked at.
     #[inline(always)]
-    fn units_at(&self, bytes: &[u8]) -> Option<[u16; UNIT_RUN]> {
-        if bytes.len() < 2 * UNIT_RUN {
-            return None;
+    fn units_at(&self, bytes: &[u8]) -> ([u16; UNIT_RUN], usize) {
+        if bytes.len() < 2 * UNIT_RUN || E::unit_of(bytes[0], bytes[1]) >= 0xD800 {
+            return ([0; UNIT_RUN], 0);
         }
         let units = units_in::<E>(bytes);
-        if all_units_below(u16x32::from_array(units), 0xD800) {
-            Some(units)
-        } else {
-            None
-        }
+        (units, units_below(u16x32::from_array(units), 0xD800))
+    }
+
+    // Behind a surrogate or a pair, units are sought again.
+    #[inline(always)]
+    fn seeks_pairs(&self, _first: u8) -> bool {
+        false
     }
 
     fn room(&self) -> DecodedLength {

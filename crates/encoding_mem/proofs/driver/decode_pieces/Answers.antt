@@ -1,7 +1,7 @@
-use Rattle.std.proofs.Common.{ℕ, ◌-◌, ◌≤◌, List, length, take, drop, length-take, refl, ap, ◌∙◌, arith, encode_utf8_all}
-use Rattle.std.proofs.lemmas.List.{append-nil}
-use Rattle.encoding_mem.specs.Piece.{malformed, scalars_of}
-use Rattle.encoding_mem.specs.Decoding.{Reports}
+use Rattle.std.proofs.Common.{◌≡◌, ℕ, ◌*◌, ◌-◌, ◌≤◌, List, length, take, drop, false, length-take, refl, subst, ap, ◌∙◌, arith, encode_utf8_all}
+use Rattle.std.proofs.lemmas.List.{append-nil, length-take-le}
+use Rattle.encoding_mem.specs.Piece.{AreWellFormed, malformed, scalars_of}
+use Rattle.encoding_mem.specs.Decoding.{Reports, Takes}
 use Rattle.encoding_mem.specs.Text.{text_len}
 use Rattle.encoding_mem.specs.declared.decoder_result.DecoderResult.TheVariants.{Malformed}
 use Rattle.encoding_mem.proofs.DecoderCallLemmas.{none_pending, took_source}
@@ -33,20 +33,22 @@ pieces-preserved-then-not-is_empty g c =
           (λ t u h k. g.met.S.Sink.writes_more _ _ _ t u h k);
     }
 
-pub pieces-preserved-in-Some : goal.pieces-preserved-in-Some
-pieces-preserved-in-Some g c =
+pub pieces-preserved-then-count-gt0 : goal.pieces-preserved-then-count-gt0
+pieces-preserved-then-count-gt0 g c =
     let i = c.pieces.invariant in
-    let e = c.in-Some.ensures in
+    let e = c.units_at-count.ensures in
     let rest : List ℕ = c.pieces.rest.now in
-    let units : List ℕ = c.in-Some.units in
+    let count = c.units_at-count.result.1 in
+    let units : List ℕ = take count c.units_at-count.result.0 in
+    let size : length units ≡ count = length-take-le count c.units_at-count.result.0 (omega (arith, e.whole, e.few)) in
     let P = g.F.DecoderRule.pieces c.pieces.codec in
     let W = λ (t : List ℕ). g.S.Sink.writes c.pieces.sink t c.put_units.new.self in
     record {
       none = i.none;
       limits = i.limits;
-      so_far = come_more _ P P _ _ _ g.S.Sink.is_units c.args.last c.args.src.now rest _ _ _ (λ t. g.S.Sink.writes c.args.sink.now t c.pieces.sink) W _ 64 i.so_far
-          (units_taken P rest units W e.units c.put_units.ensures.writes)
-          (run_room (g.F.DecoderRule.needs c.pieces.codec) g.S.Sink.is_units (length rest) 64 (λ t. text_len t (encode_utf8_all units)) (g.S.Sink.free c.pieces.sink) (g.S.Sink.free c.put_units.new.self) e.units.within e.room c.put_units.ensures.free)
+      so_far = come_more _ P P _ _ _ g.S.Sink.is_units c.args.last c.args.src.now rest _ _ _ (λ t. g.S.Sink.writes c.args.sink.now t c.pieces.sink) W _ (2 * count) i.so_far
+          (subst (λ n. Takes AreWellFormed P P rest false 0 0 (2 * n) W) size (units_taken P rest units W e.units c.put_units.ensures.writes))
+          (run_room (g.F.DecoderRule.needs c.pieces.codec) g.S.Sink.is_units (length rest) (2 * count) (λ t. text_len t (encode_utf8_all units)) (g.S.Sink.free c.pieces.sink) (g.S.Sink.free c.put_units.new.self) (omega (arith, size, e.units.within)) e.room c.put_units.ensures.free)
           (λ t u h k. g.met.S.Sink.writes_more _ _ _ t u h k);
     }
 

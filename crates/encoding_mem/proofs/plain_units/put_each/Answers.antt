@@ -31,10 +31,10 @@ units-preserved g c =
 
 pub returns-clause-boundary : goal.returns-clause-boundary
 returns-clause-boundary g c =
-    let all : c.units.read ≡ 32 = omega (arith, c.units-test.false, c.units.invariant.within) in
+    let all : c.units.read ≡ c.args.count = omega (arith, c.units-test.false, c.units.invariant.within) in
     rw (← all) (written_boundary c.args.units.now c.args.dst.now c.units.read c.units.dst c.units.written c.units.invariant.so_far)
 
 pub returns-clause-text : goal.returns-clause-text
 returns-clause-text g c =
-    let all : c.units.read ≡ 32 = omega (arith, c.units-test.false, c.units.invariant.within) in
+    let all : c.units.read ≡ c.args.count = omega (arith, c.units-test.false, c.units.invariant.within) in
     written_units c.args.units.now c.args.dst.now c.units.read c.units.dst c.units.written c.units.invariant.so_far ∙ ap (λ n. units_in_utf8 (take n c.args.units.now)) all

@@ -4,10 +4,10 @@ use Rattle.encoding_mem.proofs.plain_units.put_each.Given as goal
 
 abbrev pub invariant-units : goal.invariant-units
 invariant-units g l = record {
-  within : l.read ≤ 32;
+  within : l.read ≤ l.count;
   few : l.written ≤ 3 * l.read;
   so_far : IsWritten l.units l.initial.dst l.read l.dst l.written;
 }
 
 abbrev pub decreases-units : goal.decreases-units
-decreases-units g l = 32 - l.read
+decreases-units g l = l.count - l.read
