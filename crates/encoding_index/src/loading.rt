@@ -11,7 +11,7 @@ ghost use Rattle.encoding_index.specs.laws.Inserts.{rows_fault, HaveRows};
 
 use crate::fault::{IndexFault, LoadFault};
 use crate::reading::{RANGE_POINTERS, rows_below};
-use encoding_tables::{IndexKind, TableFault, Tables};
+use encoding_tables::{IndexKind, IndexUse, TableFault, Tables};
 use std::alloc::Global;
 
 // The rows of a text of the kind.
@@ -30,7 +30,12 @@ fn rows_of(alloc: Global, kind: IndexKind, text: &[u8]) -> Result<Vec<(u32, u32)
 }
 
 // Puts what the rows stand for into the tables.
-fn insert(tables: &mut Tables, kind: IndexKind, rows: &[(u32, u32)]) -> Result<(), TableFault>
+fn insert(
+    tables: &mut Tables,
+    kind: IndexKind,
+    rows: &[(u32, u32)],
+    purpose: IndexUse,
+) -> Result<(), TableFault>
     requires rise { is_ranges kind ≡ false → PointersRise rows.now }
     requires below { is_ranges kind ≡ false → PointersAreBelow (index_size kind) rows.now }
     ensures fault { MatchOption (rows_fault tables.old kind rows.now)
@@ -43,7 +48,7 @@ fn insert(tables: &mut Tables, kind: IndexKind, rows: &[(u32, u32)]) -> Result<(
     if kind.is_ranges() {
         tables.insert_ranges(rows)
     } else {
-        tables.insert_rows(kind, rows)
+        tables.insert_rows_for(kind, rows, purpose)
     }
 }
 
@@ -71,17 +76,19 @@ pub fn load(
     ensures unchanged { OnErr result (tables.new ≡ tables.old) }
 {
     let rows = rows_of(alloc, kind, text)?;
-    insert(tables, kind, &rows)?;
+    insert(tables, kind, &rows, IndexUse::Writing)?;
     Ok(())
 }
 
 /// Reads the text of an index, lets it go, and puts what it stands for into the tables, which may
-/// take the memory that the text had. In all else it is [`load`].
+/// take the memory that the text had, and take less of it where text is only read by the index. In
+/// all else it is [`load`].
 pub fn load_owned(
     alloc: Global,
     tables: &mut Tables,
     kind: IndexKind,
     text: Vec<u8>,
+    purpose: IndexUse,
 ) -> Result<(), LoadFault>
     ensures fault { MatchOption (load_fault tables.old kind text.items)
         ((result ≡ Ok tt) ⊎ WantsMemory result)
@@ -95,6 +102,6 @@ pub fn load_owned(
 {
     let rows = rows_of(alloc, kind, &text)?;
     drop(text);
-    insert(tables, kind, &rows)?;
+    insert(tables, kind, &rows, purpose)?;
     Ok(())
 }

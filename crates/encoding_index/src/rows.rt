@@ -152,7 +152,12 @@ impl<'a> IndexRows<'a> {
                 return Some(Ok(row));
             }
         }
-        self.next_by_line()
+        // What the call returns by memory is taken apart, so that a plain row stays in registers.
+        match self.next_by_line() {
+            Some(Ok(row)) => Some(Ok(row)),
+            Some(Err(fault)) => Some(Err(fault)),
+            None => None,
+        }
     }
 
     // The next row of any form, or the first fault, line by line.

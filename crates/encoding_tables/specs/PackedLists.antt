@@ -48,6 +48,11 @@ pub record IsReversed (rows pairs : List (ℕ × ℕ)) : Type 0 where
   pub only : (k : ℕ) → k < length pairs → HasRow rows (swapped (row_at pairs k))
   pub same : length pairs ≡ length rows
 
+-- what is kept of an index: its rows by pointer, and by entry unless it is for reading alone
+pub record IsKept (size : ℕ) (rows pairs : List (ℕ × ℕ)) : Type 0 where
+  pub index : AreIndexRows size rows
+  pub reverse : (pairs ≡ []) ⊎ IsReversed rows pairs
+
 -- the rows of an index, by pointer and by entry
 pub record IsPacked (size : ℕ) (rows pairs : List (ℕ × ℕ)) : Type 0 where
   pub index : AreIndexRows size rows

@@ -1,13 +1,15 @@
-//! An index: its entries at their pointers for decoders, and its rows by entry for encoders.
+//! An index: its entries at their pointers for decoders, and its rows by entry for encoders, where
+//! it is for these.
 
-ghost use Rattle.std.specs.Prelude.{◌≡◌, ℕ, ◌+◌, ◌^◌, ◌<◌, List, length, IfOk, IfSome};
+ghost use Rattle.std.specs.Prelude.{◌≡◌, ◌⊎◌, ℕ, ◌+◌, ◌^◌, ◌<◌, ◌≤◌, List, [], None, length, IfOk, IfSome};
 ghost use Rattle.std.specs.Prelude.{not, ◌==◌};
 ghost use Rattle.std.specs.List.{list_all};
 ghost use Rattle.encoding_tables.specs.Lookups.{value_of, first_pointer, last_pointer};
 ghost use Rattle.encoding_tables.specs.PackedRows.{flat_list, mapped_rows, listed_rows, PointersRise, PointersAreBelow};
-ghost use Rattle.encoding_tables.specs.PackedLists.{AreIndexRows, IsPacked, IsReversed};
+ghost use Rattle.encoding_tables.specs.PackedLists.{AreIndexRows, IsKept, IsReversed};
 ghost use Rattle.encoding_tables.specs.EntryCounts.{AreCounts, AreEnds, HaveEntriesBelow};
 
+use crate::index_use::IndexUse;
 use crate::pointer_rows::PointerRows;
 use crate::sorted_rows::SortedRows;
 use std::alloc::{AllocError, Global};
@@ -20,7 +22,7 @@ pub(crate) struct PackedIndex {
     size: usize,
     // A pointer and its entry.
     by_pointer: PointerRows,
-    // An entry and its pointer.
+    // An entry and its pointer; none where the index is for reading alone.
     by_entry: SortedRows,
 }
 
@@ -29,7 +31,7 @@ impl Model for PackedIndex {
 
     ghost view = { λ p. flat_list p.size p.by_pointer };
 
-    ghost invariant = { λ p. IsPacked p.size p.by_pointer p.by_entry };
+    ghost invariant = { λ p. IsKept p.size p.by_pointer p.by_entry };
 }
 
 impl PackedIndex {
@@ -39,7 +41,7 @@ impl PackedIndex {
         ensures { IfOk result (λ index. index ≡ list.now) }
     {
         let rows = rows_of_list(alloc, list)?;
-        PackedIndex::new(alloc, list.len(), &rows)
+        PackedIndex::new(alloc, list.len(), &rows, IndexUse::Writing)
     }
 
     /// The index of a list with these entries and 0 elsewhere.
@@ -47,6 +49,7 @@ impl PackedIndex {
         alloc: Global,
         size: usize,
         rows: &[(u32, u32)],
+        purpose: IndexUse,
     ) -> Result<Self, AllocError>
         requires rise { PointersRise rows.now }
         requires below { PointersAreBelow size rows.now }
@@ -54,19 +57,24 @@ impl PackedIndex {
         ensures { IfOk result (λ index. index ≡ flat_list size rows.now) }
     {
         if are_mapped(rows) {
-            return PackedIndex::new(alloc, size, rows);
+            return PackedIndex::new(alloc, size, rows, purpose);
         }
         let mapped = rows_with_entry(alloc, rows)?;
-        PackedIndex::new(alloc, size, &mapped)
+        PackedIndex::new(alloc, size, &mapped, purpose)
     }
 
     // The index of mapped rows.
-    fn new(alloc: Global, size: usize, rows: &[(u32, u32)]) -> Result<Self, AllocError>
+    fn new(
+        alloc: Global,
+        size: usize,
+        rows: &[(u32, u32)],
+        purpose: IndexUse,
+    ) -> Result<Self, AllocError>
         requires rows { AreIndexRows size rows.now }
         requires small { size < 2 ^ 16 }
         ensures { IfOk result (λ index. index ≡ flat_list size rows.now) }
     {
-        let by_entry = reversed(alloc, rows)?;
+        let by_entry = pairs_for(alloc, rows, purpose)?;
         Ok(PackedIndex {
             size,
             by_pointer: PointerRows::new(alloc, size, rows)?,
@@ -88,6 +96,9 @@ impl PackedIndex {
         ensures pointer { result ≡ first_pointer self.now entry from to }
         ensures before { IfSome result (λ p. p < to) }
     {
+        if self.by_entry.is_empty() {
+            return self.first_by_walk(entry, from, to);
+        }
         let offset = self.by_entry.rank((entry, from));
         match self.by_entry.rows().get(offset) {
             Some((first, pointer)) if *first == entry && *pointer < to => Some(*pointer),
@@ -101,6 +112,9 @@ impl PackedIndex {
         ensures pointer { result ≡ last_pointer self.now entry from to }
         ensures before { IfSome result (λ p. p < to) }
     {
+        if self.by_entry.is_empty() {
+            return self.last_by_walk(entry, from, to);
+        }
         let behind = self.by_entry.rank((entry, to));
         if behind == 0 {
             return None;
@@ -111,6 +125,69 @@ impl PackedIndex {
         } else {
             None
         }
+    }
+
+    // The end of a range of pointers, or that of the list.
+    fn end_before(&self, to: u32) -> u32
+        ensures within { result ≤ to }
+        ensures behind { (p : ℕ) → result ≤ p → p < to → value_of self.now p ≡ None }
+    {
+        if to as usize > self.size {
+            self.size as u32
+        } else {
+            to
+        }
+    }
+
+    // The least one, by a walk through the entries.
+    #[cold]
+    #[inline(never)]
+    fn first_by_walk(&self, entry: u32, from: u32, to: u32) -> Option<u32>
+        ensures pointer { result ≡ first_pointer self.now entry from to }
+        ensures before { IfSome result (λ p. p < to) }
+    {
+        let end = self.end_before(to);
+        let mut at = from;
+        'pointers: while at < end {
+            if self.value(at) == Some(entry) {
+                return Some(at);
+            }
+            at += 1;
+        }
+        None
+    }
+
+    // The greatest one, by a walk through the entries.
+    #[cold]
+    #[inline(never)]
+    fn last_by_walk(&self, entry: u32, from: u32, to: u32) -> Option<u32>
+        ensures pointer { result ≡ last_pointer self.now entry from to }
+        ensures before { IfSome result (λ p. p < to) }
+    {
+        let mut end = self.end_before(to);
+        'pointers: while from < end {
+            end -= 1;
+            if self.value(end) == Some(entry) {
+                return Some(end);
+            }
+        }
+        None
+    }
+}
+
+// The rows the other way round, as an index keeps them for this use.
+fn pairs_for(
+    alloc: Global,
+    rows: &[(u32, u32)],
+    purpose: IndexUse,
+) -> Result<SortedRows, AllocError>
+    requires rise { PointersRise rows.now }
+    requires few { length rows.now < 2 ^ 16 }
+    ensures { IfOk result (λ pairs. (pairs ≡ []) ⊎ IsReversed rows.now pairs) }
+{
+    match purpose {
+        IndexUse::Reading => Ok(SortedRows::none(alloc)),
+        IndexUse::Writing => reversed(alloc, rows),
     }
 }
 

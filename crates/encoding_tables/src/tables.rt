@@ -17,6 +17,7 @@ use crate::accept::{fault_of_flat, fault_of_rows};
 use crate::accept_ranges::bad_row;
 use crate::flat::Flat;
 use crate::index_kind::IndexKind;
+use crate::index_use::IndexUse;
 use crate::packed_index::PackedIndex;
 use crate::packed_ranges::PackedRanges;
 use crate::ranges::Ranges;
@@ -97,7 +98,8 @@ impl Tables {
         ensures fault { MatchOption (flat_fault (has self.old kind) kind flat.now)
             ((result ≡ Ok tt) ⊎ (result ≡ Err TableFault.Memory)) (λ f. result ≡ Err f) }
         ensures taken { OnOk result (flat_of self.new kind ≡ Some flat.now) }
-        ensures others { (other : IndexKind) → other ≢ kind → flat_of self.new other ≡ flat_of self.old other }
+        ensures others { (other : IndexKind) → other ≢ kind
+            → flat_of self.new other ≡ flat_of self.old other }
         ensures rows { self.new.rows ≡ self.old.rows }
         ensures unchanged { OnErr result (self.new ≡ self.old) }
     {
@@ -129,14 +131,39 @@ impl Tables {
             ((result ≡ Ok tt) ⊎ (result ≡ Err TableFault.Memory)) (λ f. result ≡ Err f) }
         ensures taken { OnOk result
             (flat_of self.new kind ≡ Some (flat_list (index_size kind) rows.now)) }
-        ensures others { (other : IndexKind) → other ≢ kind → flat_of self.new other ≡ flat_of self.old other }
+        ensures others { (other : IndexKind) → other ≢ kind
+            → flat_of self.new other ≡ flat_of self.old other }
+        ensures rows { self.new.rows ≡ self.old.rows }
+        ensures unchanged { OnErr result (self.new ≡ self.old) }
+    {
+        self.insert_rows_for(kind, rows, IndexUse::Writing)
+    }
+
+    /// The same for an index of which it is known what it is used for: where text is only read by
+    /// it, less memory is asked for. Look-ups have the same results in both cases.
+    pub fn insert_rows_for(
+        &mut self,
+        kind: IndexKind,
+        rows: &[(u32, u32)],
+        purpose: IndexUse,
+    ) -> Result<(), TableFault>
+        requires listed { is_ranges kind ≡ false }
+        requires rise { PointersRise rows.now }
+        requires below { PointersAreBelow (index_size kind) rows.now }
+        ensures fault { MatchOption
+            (flat_fault (has self.old kind) kind (flat_list (index_size kind) rows.now))
+            ((result ≡ Ok tt) ⊎ (result ≡ Err TableFault.Memory)) (λ f. result ≡ Err f) }
+        ensures taken { OnOk result
+            (flat_of self.new kind ≡ Some (flat_list (index_size kind) rows.now)) }
+        ensures others { (other : IndexKind) → other ≢ kind
+            → flat_of self.new other ≡ flat_of self.old other }
         ensures rows { self.new.rows ≡ self.old.rows }
         ensures unchanged { OnErr result (self.new ≡ self.old) }
     {
         if let Some(fault) = fault_of_rows(self.has(kind), kind, rows) {
             return Err(fault);
         }
-        match PackedIndex::from_rows(self.alloc, kind.size(), rows) {
+        match PackedIndex::from_rows(self.alloc, kind.size(), rows, purpose) {
             Ok(index) => {
                 self.flats[kind.slot()] = Some(index);
                 Ok(())

@@ -8,7 +8,7 @@ ghost use Rattle.recode.specs.Program.{AddsFromFiles, AreKept};
 
 use encoding_front::Encoding;
 use encoding_index::{IndexFaultKind, LoadFault, load_owned};
-use encoding_tables::{IndexKind, TableFault, Tables};
+use encoding_tables::{IndexKind, IndexUse, TableFault, Tables};
 use std::alloc::{AllocError, Global};
 use std::io;
 use std::io::{ErrorKind, Read};
@@ -18,18 +18,22 @@ use thiserror::Error;
 /// twentieth of them.
 pub const GREATEST_INDEX_FILE: usize = 16777216;
 
-// The room that is asked for before an index file is read, so that the vector does not grow under
-// the files of the standard: what is not written costs nothing.
-const FIRST_ROOM: usize = 1048576;
+// The room that is asked for before an index file is read. Most files fit; the vector grows under
+// the longest, by twice and twice again.
+const FIRST_ROOM: usize = 327680;
 
-// A vector with that room. More is asked for before, and given back: a C library that takes blocks
-// of this size from the system, as glibc does, keeps them from then on, so that the tables and the
-// next file are written where the text was. A page that is new costs more than what is written to it.
+// More than a text has room for that grew under a file of the standard.
+const LARGEST_ROOM: usize = 2097152;
+
+// A vector with the first room. The largest is asked for before, and given back: a C library that
+// takes blocks of this size from the system, as glibc does, keeps them from then on, so that the
+// tables and the next file are written where the text was. A page that is new costs more than what
+// is written to it.
 fn empty_text(alloc: Global) -> Result<Vec<u8>, AllocError>
     ensures items { IfOk result (λ bytes. bytes.items ≡ []) }
     ensures len { IfOk result (λ bytes. vec_len bytes ≡ 0) }
 {
-    let room: Vec<u8> = Vec::with_capacity(alloc, 2 * FIRST_ROOM)?;
+    let room: Vec<u8> = Vec::with_capacity(alloc, LARGEST_ROOM)?;
     drop(room);
     Vec::with_capacity(alloc, FIRST_ROOM)
 }
@@ -161,12 +165,23 @@ fn fault_of(file: &'static str, fault: &LoadFault) -> StartFault {
     }
 }
 
+// What an index is loaded for in a run to an encoding. Text is written in EUC-JP by jis0208 alone
+// (the Encoding Standard, section 12.1.2).
+fn use_of(kind: IndexKind, to: Encoding) -> IndexUse {
+    if kind != IndexKind::Jis0212 && to.output_encoding().needs().contains(&kind) {
+        IndexUse::Writing
+    } else {
+        IndexUse::Reading
+    }
+}
+
 // Puts the index of a kind into the tables, from its file in the folder, if it is not there yet.
 fn load_index<S: IndexSource>(
     alloc: Global,
     source: &mut S,
     dir: &str,
     kind: IndexKind,
+    purpose: IndexUse,
     tables: &mut Tables,
 ) -> Result<(), StartFault>
     ensures there { OnOk result (has tables.new kind ≡ true) }
@@ -184,19 +199,20 @@ fn load_index<S: IndexSource>(
         Err(SourceFault::Missing) => return Err(StartFault::Missing { file }),
         Err(SourceFault::Memory) => return Err(StartFault::Memory),
     };
-    match load_owned(alloc, tables, kind, text) {
+    match load_owned(alloc, tables, kind, text, purpose) {
         Ok(()) => Ok(()),
         Err(fault) => Err(fault_of(file, &fault)),
     }
 }
 
 // Puts the indexes that the encoding needs into the tables, each once, in the order of `needs`, up
-// to the first that is missing or faulty.
+// to the first that is missing or faulty. Text is written in the encoding `to`.
 pub(crate) fn load_indexes<S: IndexSource>(
     alloc: Global,
     source: &mut S,
     dir: &str,
     encoding: Encoding,
+    to: Encoding,
     tables: &mut Tables,
 ) -> Result<(), StartFault>
     ensures there { OnOk result (IsReady tables.new encoding) }
@@ -206,7 +222,7 @@ pub(crate) fn load_indexes<S: IndexSource>(
 {
     let kinds = encoding.needs();
     for kind in kinds {
-        load_index(alloc, source, dir, *kind, tables)?;
+        load_index(alloc, source, dir, *kind, use_of(*kind, to), tables)?;
     }
     Ok(())
 }
