@@ -69,12 +69,10 @@ pub(crate) fn rows_below(
     let mut rows = Vec::new(alloc);
     for row in IndexRows::new(text, size) {
         let row = row?;
-        // Two numbers, and not one pair, which would be loaded whole where it was stored by halves.
-        let (pointer, code) = row;
         if rows.len() == rows.capacity() {
             rows.reserve(text.len() / COMMON_LINE + 1)?;
         }
-        rows.push((pointer, code))?;
+        rows.push(row)?;
     }
     Ok(rows)
 }

@@ -1,12 +1,13 @@
 //! An index: its entries at their pointers for decoders, and its rows by entry for encoders, where
 //! it is for these.
 
-ghost use Rattle.std.specs.Prelude.{◌≡◌, ◌⊎◌, ℕ, ◌+◌, ◌^◌, ◌<◌, ◌≤◌, List, [], None, length, IfOk, IfSome};
+ghost use Rattle.std.specs.Prelude.{◌≡◌, ℕ, ◌+◌, ◌^◌, ◌<◌, ◌≤◌, List, [], None, length, IfOk, IfSome};
 ghost use Rattle.std.specs.Prelude.{not, ◌==◌};
 ghost use Rattle.std.specs.List.{list_all};
 ghost use Rattle.encoding_tables.specs.Lookups.{value_of, first_pointer, last_pointer};
 ghost use Rattle.encoding_tables.specs.PackedRows.{flat_list, mapped_rows, listed_rows, PointersRise, PointersAreBelow};
 ghost use Rattle.encoding_tables.specs.PackedLists.{AreIndexRows, IsKept, IsReversed};
+ghost use Rattle.encoding_tables.specs.declared.index_use.IndexUse.TheVariants.{Reading, Writing};
 ghost use Rattle.encoding_tables.specs.EntryCounts.{AreCounts, AreEnds, HaveEntriesBelow};
 
 use crate::index_use::IndexUse;
@@ -183,7 +184,8 @@ fn pairs_for(
 ) -> Result<SortedRows, AllocError>
     requires rise { PointersRise rows.now }
     requires few { length rows.now < 2 ^ 16 }
-    ensures { IfOk result (λ pairs. (pairs ≡ []) ⊎ IsReversed rows.now pairs) }
+    ensures read { purpose ≡ Reading → IfOk result (λ pairs. pairs ≡ []) }
+    ensures written { purpose ≡ Writing → IfOk result (λ pairs. IsReversed rows.now pairs) }
 {
     match purpose {
         IndexUse::Reading => Ok(SortedRows::none(alloc)),

@@ -139,8 +139,10 @@ impl Tables {
         self.insert_rows_for(kind, rows, IndexUse::Writing)
     }
 
-    /// The same for an index of which it is known what it is used for: where text is only read by
-    /// it, less memory is asked for. Look-ups have the same results in both cases.
+    /// Takes the list of a kind by its rows, and keeps of it what the use wants: for reading alone
+    /// less memory is asked for, and a look-up by character walks through the list. What look-ups
+    /// return does not depend on it. Conditions and faults are those of [`Tables::insert_rows`],
+    /// which keeps the list for writing.
     pub fn insert_rows_for(
         &mut self,
         kind: IndexKind,
