@@ -31,7 +31,7 @@ CRATES = os.path.join(TOP, "crates")
 
 PAGE = """# The edits that the gate leaves out
 
-`make edits` tried them on {commit} ({day}, {kit}): {refused} refused, {failed} not. It took {minutes} minutes.
+`make edits` tried them on {commit} ({day}, {kit}): {refused} refused, {failed} not. It took {minutes} minutes, {jobs} crates at a time.
 """
 
 FUNCTION = re.compile(r"^ *(?:pub(?:\([^)]*\))? )?fn (\w+)")
@@ -150,7 +150,8 @@ def said_of(folder, texts):
 
 
 def tell(crate, edit, is_refused):
-    print("%s/%s: %s" % (crate, edit.name, "refused" if is_refused else "NOT REFUSED"), flush=True)
+    sys.stdout.write("%s/%s: %s\n" % (crate, edit.name, "refused" if is_refused else "NOT REFUSED"))
+    sys.stdout.flush()
 
 
 def left_of(crate, folder, edits):
@@ -177,7 +178,10 @@ def edits_of(crate, kind):
 
 
 def is_refused_alone(folder, edit):
-    said, is_proved = said_of(folder, edit.made_in({}, folder))
+    texts = edit.made_in({}, folder)
+    if texts is None:
+        sys.exit("%s: a text that it replaces does not stand in its file once" % edit.name)
+    said, is_proved = said_of(folder, texts)
     return not is_proved and "logic=not-proved" in said
 
 
@@ -235,17 +239,20 @@ def main():
     parser.add_argument("--jobs", type=int, default=2)
     parser.add_argument("names", nargs="*")
     given = parser.parse_args()
-    is_whole = not given.gate and not given.names
+    is_whole, head = not given.gate and not given.names, said("git", "rev-parse", "--short", "HEAD")
     if is_whole and said("git", "status", "--porcelain"):
         sys.exit("there are changes that no commit has")
-    about = {"commit": said("git", "rev-parse", "--short", "HEAD"), "kit": said("rt", "version")} if is_whole else {}
     crates, start = chosen("must-fail" if given.gate else "edits", given.names), time.time()
     with concurrent.futures.ThreadPoolExecutor(given.jobs) as pool:
         failed = sum(pool.map(lambda pair: try_crate(*pair), crates))
     refused = sum(len(edits) for _, edits in crates) - failed
     print("%d refused, %d not" % (refused, failed))
     if is_whole:
-        about |= {"minutes": round((time.time() - start) / 60), "day": datetime.date.today().isoformat()}
+        # A crate is copied when its turn comes.
+        if said("git", "rev-parse", "--short", "HEAD") != head or said("git", "status", "--porcelain"):
+            sys.exit("the repository changed meanwhile, so no page is written")
+        about = {"commit": head, "kit": said("rt", "version"), "day": datetime.date.today().isoformat()}
+        about |= {"minutes": round((time.time() - start) / 60), "jobs": given.jobs}
         write(os.path.join(TOP, "docs", "EDITS.md"), PAGE.format(**about, refused=refused, failed=failed))
     return 1 if failed else 0
 

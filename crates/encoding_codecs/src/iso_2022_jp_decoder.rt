@@ -86,7 +86,7 @@ impl<'a> DecoderRule for Iso2022JpRule<'a> {
         }
     }
 
-    // Only in the two-byte set may any byte begin a character of two.
+    // Only in the two-byte set do characters have two bytes.
     #[inline(always)]
     fn seeks_pairs(&self, _first: u8) -> bool {
         matches!(self.mode, Mode::Jis)

@@ -81,8 +81,9 @@ pub fn load(
 }
 
 /// Reads the text of an index, lets it go, and puts what it stands for into the tables, which may
-/// take the memory that the text had, and take less of it where text is only read by the index. In
-/// all else it is [`load`].
+/// take the memory that the text had. Of a list they keep what the use wants, as
+/// `Tables::insert_rows_for` says; the ranges are kept alike for both. In all else it is [`load`],
+/// which keeps a list for writing.
 pub fn load_owned(
     alloc: Global,
     tables: &mut Tables,

@@ -14,7 +14,7 @@ ghost use Rattle.encoding_mem.specs.declared.room.DecodedLength.{DecodedLength};
 use crate::first::UNIT_BLOCK;
 use crate::room::DecodedLength;
 
-/// How many units of UTF-16 are looked at at once: 32.
+/// How many units of UTF-16 a rule looks at together: 32.
 pub const UNIT_RUN: usize = UNIT_BLOCK;
 
 /// What stands at the start of some bytes, by a decoding rule. Lengths are in bytes.
@@ -86,9 +86,10 @@ pub trait DecoderRule {
         ensures room { (k : OutputUnit) (m : ℕ) → text_len (is_units k) result.now + needs self.now k m
             ≤ needs self.now k (length result.now + m) };
 
-    /// Units of UTF-16, and how many of them, from the first on, are what these bytes begin with:
-    /// each of these is a character below U+D800, and the state stays as it is. Their number may be
-    /// 0 anywhere, as by each rule but that of UTF-16: then `first_piece` says what is there.
+    /// 32 units of UTF-16, and how many of them, from the first on, are the characters that these
+    /// bytes begin with, two bytes each: all are below U+D800, and the state stays as it is. The
+    /// units behind these mean nothing. 0 may be returned anywhere, as by each rule but that of
+    /// UTF-16: then `first_piece` says what is there.
     #[inline(always)]
     fn units_at(&self, _bytes: &[u8]) -> ([u16; UNIT_RUN], usize)
         ensures whole { length result.0 ≡ 32 }
@@ -101,8 +102,9 @@ pub trait DecoderRule {
         ([0; UNIT_RUN], 0)
     }
 
-    /// Whether characters of two bytes that begin with such a byte may follow one another, so that
-    /// the driver seeks them in a loop of their own. This decides speed alone: any answer is right.
+    /// Whether the driver seeks, where this byte comes next, characters from U+0800 to U+FFFF of
+    /// two bytes each in a loop of their own. This decides speed alone: any answer is right, and so
+    /// no clause speaks of it.
     #[inline(always)]
     fn seeks_pairs(&self, first: u8) -> bool {
         first >= 0x80

@@ -1,4 +1,4 @@
-//! Blocks of UTF-16 in UTF-8, where there is room for whatever they are.
+//! Blocks of UTF-16, and shorter runs, in UTF-8, where there is room for whatever they are.
 
 ghost use Rattle.std.specs.Prelude.{◌≡◌, ℕ, ◌*◌, ◌<◌, ◌≤◌, [], ◌∷◌};
 ghost use Rattle.std.specs.Prelude.{length, take, drop, slice_index};

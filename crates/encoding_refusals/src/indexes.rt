@@ -208,7 +208,7 @@ fn load_copy(
     if copy.extend_from_slice(text).is_err() {
         return Ok(Ended::RefusedToCopy);
     }
-    ended_of_load(load_owned(alloc, tables, kind, copy, IndexUse::Writing))
+    ended_of_load(load_owned(alloc, tables, kind, copy, IndexUse::Reading))
 }
 
 // Puts an index into the tables, and prints its entries at the pointers of its rows.

@@ -1,7 +1,7 @@
 -- The entries of the list that rows stand for. The mapped rows of a list, and of rows: they are in order, and stand
 -- for the same list. Rows the other way round, sorted: they rise, and are the same rows. The least and the greatest
--- pointer with an entry, by the pairs of an entry and its pointer.
-use Rattle.std.proofs.Common.{◌≡◌, ◌≢◌, ℕ, zero, suc, ◌+◌, ◌-◌, ◌<◌, ◌≤◌, List, [], ◌∷◌, length, get_or, inl, inr, refl, sym, ◌∙◌, ap, arith, None, Some, map, ◌==◌, Option, subst, Bool, IsTrue, false, ◌↔◌}
+-- pointer with an entry, by a walk, and by the pairs of an entry and its pointer.
+use Rattle.std.proofs.Common.{◌≡◌, ◌≢◌, ℕ, zero, suc, ◌+◌, ◌-◌, ◌<◌, ◌≤◌, List, [], ◌∷◌, length, get_or, inl, inr, refl, sym, ◌∙◌, ap, arith, None, Some, map, ◌==◌, Option, subst}
 use Rattle.std.specs.Prelude.{slice_index, if◌then◌else◌, MatchOption, not, true}
 use Rattle.std.specs.List.{list_all}
 use Rattle.std.proofs.Math.ListN.{get_or-eq_default}
@@ -13,7 +13,7 @@ use Rattle.std.proofs.lemmas.List.FromFn.{get_or-map-range_with_len, length-map-
 use Rattle.encoding_tables.specs.Lookups.{value_of, first_pointer, last_pointer}
 use Rattle.encoding_tables.specs.SortedRows.{row_at, AreRising, IsRank, IsBelow, AreSorted}
 use Rattle.encoding_tables.specs.PackedRows.{entry_at, flat_list, PointersRise, listed_rows, mapped_rows, PointersAreBelow, swapped}
-use Rattle.encoding_tables.specs.PackedLists.{HasRow, IsSecond, AreIndexRows, IsReversed, IsKept, IsPacked}
+use Rattle.encoding_tables.specs.PackedLists.{HasRow, IsSecond, AreIndexRows, IsReversed, IsPacked}
 use Rattle.encoding_tables.proofs.SearchLemmas.{below_cases, below_first, below_second, below_at_most, rises}
 use Rattle.std.specs.List as holes
 use Rattle.std.specs.List.{Contains}
@@ -450,19 +450,6 @@ last_not_walked flat c from to end past behind =
     (λ q h. behind q (omega (arith, h.after, past)) h.before h.entry)
 
 -- ---- pairs and pointers
-
-untrue : (b : Bool) → IsTrue b → b ≡ false → ⊥
-untrue b is isnt = cc
-
--- where there are pairs, they are the rows the other way round
-pub packed_of : (size : ℕ) (rows pairs : List (ℕ × ℕ)) (none : Bool) → IsKept size rows pairs → IsTrue none ↔ (pairs ≡ []) → none ≡ false → IsPacked size rows pairs
-packed_of size rows pairs none kept tells some = record {
-  index = kept.index;
-  reverse = elim kept.reverse [
-    | inl empty ↦ absurd (untrue none (tells.1 empty) some)
-    | inr reversed ↦ reversed
-  ];
-}
 
 pair_is_pointer : (size : ℕ) (rows pairs : List (ℕ × ℕ)) (c from to p k : ℕ) → IsPacked size rows pairs → k < length pairs → row_at pairs k ≡ (c, p) → from ≤ p → p < to
     → IsPointer (flat_list size rows) c from to p

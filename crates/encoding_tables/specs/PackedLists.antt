@@ -1,5 +1,5 @@
--- What a packed index keeps: its entries at their pointers, and its rows by entry.
-use Rattle.std.specs.Prelude.{◌≡◌, ◌≢◌, ◌⊎◌, ℕ, ◌<◌, List, [], ◌∷◌, length, Option, None, Some, nat_lt, if◌then◌else◌, slice_index, true}
+-- What a packed index keeps: its entries at their pointers, and its rows by entry where text is written by it.
+use Rattle.std.specs.Prelude.{◌≡◌, ◌≢◌, ◌⊎◌, ℕ, ◌<◌, List, [], ◌∷◌, length, Option, None, Some, IfSome, nat_lt, if◌then◌else◌, slice_index, true}
 use Rattle.std.specs.List.{list_all}
 use Rattle.encoding_tables.specs.SortedRows.{row_at, AreRising}
 use Rattle.encoding_tables.specs.PackedRows.{PointersRise, PointersAreBelow, swapped, entry_at}
@@ -48,10 +48,10 @@ pub record IsReversed (rows pairs : List (ℕ × ℕ)) : Type 0 where
   pub only : (k : ℕ) → k < length pairs → HasRow rows (swapped (row_at pairs k))
   pub same : length pairs ≡ length rows
 
--- what is kept of an index: its rows by pointer, and by entry unless it is for reading alone
-pub record IsKept (size : ℕ) (rows pairs : List (ℕ × ℕ)) : Type 0 where
+-- what is kept of an index: its rows by pointer, and by entry or not at all
+pub record IsKept (size : ℕ) (rows : List (ℕ × ℕ)) (pairs : Option (List (ℕ × ℕ))) : Type 0 where
   pub index : AreIndexRows size rows
-  pub reverse : (pairs ≡ []) ⊎ IsReversed rows pairs
+  pub reverse : IfSome pairs (λ p. IsReversed rows p)
 
 -- the rows of an index, by pointer and by entry
 pub record IsPacked (size : ℕ) (rows pairs : List (ℕ × ℕ)) : Type 0 where

@@ -1,8 +1,8 @@
 //! The indexes of the Encoding Standard (section 5) as checked tables; the single-byte codecs over
 //! them, and the codecs that need no index: x-user-defined, UTF-16 and replacement.
 //!
-//! Indexes are handed in: as lists (`Tables::insert`), as rows (`insert_rows`, `insert_ranges`), or
-//! as the texts that the standard publishes (`encoding_index::load`). Each is checked before it is
+//! Indexes are handed in: as lists (`Tables::insert`), as rows (`insert_rows`, `insert_rows_for`,
+//! `insert_ranges`), or as the texts that the standard publishes (`encoding_index::load`). Each is checked before it is
 //! taken, and an index that is there stays as it is. Codecs borrow the tables; `Tables::has` is the
 //! test of their condition. How a codec is used stands with `encoding_mem::RawDecoder` and
 //! `RawEncoder`.

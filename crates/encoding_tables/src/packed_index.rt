@@ -1,12 +1,13 @@
 //! An index: its entries at their pointers for decoders, and its rows by entry for encoders, where
 //! it is for these.
 
-ghost use Rattle.std.specs.Prelude.{◌≡◌, ℕ, ◌+◌, ◌^◌, ◌<◌, ◌≤◌, List, [], None, length, IfOk, IfSome};
+ghost use Rattle.std.specs.Prelude.{◌≡◌, ℕ, ◌+◌, ◌^◌, ◌<◌, ◌≤◌, List, None, length, IfOk, IfSome};
+ghost use Rattle.std.specs.Prelude.{is_some, true};
 ghost use Rattle.std.specs.Prelude.{not, ◌==◌};
 ghost use Rattle.std.specs.List.{list_all};
 ghost use Rattle.encoding_tables.specs.Lookups.{value_of, first_pointer, last_pointer};
 ghost use Rattle.encoding_tables.specs.PackedRows.{flat_list, mapped_rows, listed_rows, PointersRise, PointersAreBelow};
-ghost use Rattle.encoding_tables.specs.PackedLists.{AreIndexRows, IsKept, IsReversed};
+ghost use Rattle.encoding_tables.specs.PackedLists.{AreIndexRows, IsKept, IsPacked, IsReversed};
 ghost use Rattle.encoding_tables.specs.declared.index_use.IndexUse.TheVariants.{Reading, Writing};
 ghost use Rattle.encoding_tables.specs.EntryCounts.{AreCounts, AreEnds, HaveEntriesBelow};
 
@@ -23,8 +24,8 @@ pub(crate) struct PackedIndex {
     size: usize,
     // A pointer and its entry.
     by_pointer: PointerRows,
-    // An entry and its pointer; none where the index is for reading alone.
-    by_entry: SortedRows,
+    // An entry and its pointer, where text is written by the index.
+    by_entry: Option<SortedRows>,
 }
 
 impl Model for PackedIndex {
@@ -97,13 +98,9 @@ impl PackedIndex {
         ensures pointer { result ≡ first_pointer self.now entry from to }
         ensures before { IfSome result (λ p. p < to) }
     {
-        if self.by_entry.is_empty() {
-            return self.first_by_walk(entry, from, to);
-        }
-        let offset = self.by_entry.rank((entry, from));
-        match self.by_entry.rows().get(offset) {
-            Some((first, pointer)) if *first == entry && *pointer < to => Some(*pointer),
-            _ => None,
+        match &self.by_entry {
+            Some(pairs) => first_in(pairs, entry, from, to),
+            None => self.first_by_walk(entry, from, to),
         }
     }
 
@@ -113,18 +110,9 @@ impl PackedIndex {
         ensures pointer { result ≡ last_pointer self.now entry from to }
         ensures before { IfSome result (λ p. p < to) }
     {
-        if self.by_entry.is_empty() {
-            return self.last_by_walk(entry, from, to);
-        }
-        let behind = self.by_entry.rank((entry, to));
-        if behind == 0 {
-            return None;
-        }
-        let (first, pointer) = self.by_entry.rows()[behind - 1];
-        if first == entry && pointer >= from {
-            Some(pointer)
-        } else {
-            None
+        match &self.by_entry {
+            Some(pairs) => last_in(pairs, entry, from, to),
+            None => self.last_by_walk(entry, from, to),
         }
     }
 
@@ -176,20 +164,54 @@ impl PackedIndex {
     }
 }
 
-// The rows the other way round, as an index keeps them for this use.
+// The least pointer of an entry from one to below another, by the rows by entry.
+#[inline(always)]
+fn first_in(pairs: &SortedRows, entry: u32, from: u32, to: u32) -> Option<u32>
+    ensures pointer { (size : ℕ) (rows : List (ℕ × ℕ)) → IsPacked size rows pairs.now
+        → result ≡ first_pointer (flat_list size rows) entry from to }
+    ensures before { IfSome result (λ p. p < to) }
+{
+    let offset = pairs.rank((entry, from));
+    match pairs.rows().get(offset) {
+        Some((first, pointer)) if *first == entry && *pointer < to => Some(*pointer),
+        _ => None,
+    }
+}
+
+// The greatest one.
+#[inline(always)]
+fn last_in(pairs: &SortedRows, entry: u32, from: u32, to: u32) -> Option<u32>
+    ensures pointer { (size : ℕ) (rows : List (ℕ × ℕ)) → IsPacked size rows pairs.now
+        → result ≡ last_pointer (flat_list size rows) entry from to }
+    ensures before { IfSome result (λ p. p < to) }
+{
+    let behind = pairs.rank((entry, to));
+    if behind == 0 {
+        return None;
+    }
+    let (first, pointer) = pairs.rows()[behind - 1];
+    if first == entry && pointer >= from {
+        Some(pointer)
+    } else {
+        None
+    }
+}
+
+// The rows the other way round, where this use wants them.
 fn pairs_for(
     alloc: Global,
     rows: &[(u32, u32)],
     purpose: IndexUse,
-) -> Result<SortedRows, AllocError>
+) -> Result<Option<SortedRows>, AllocError>
     requires rise { PointersRise rows.now }
     requires few { length rows.now < 2 ^ 16 }
-    ensures read { purpose ≡ Reading → IfOk result (λ pairs. pairs ≡ []) }
-    ensures written { purpose ≡ Writing → IfOk result (λ pairs. IsReversed rows.now pairs) }
+    ensures read { purpose ≡ Reading → IfOk result (λ pairs. pairs ≡ None) }
+    ensures written { purpose ≡ Writing → IfOk result (λ pairs. is_some pairs ≡ true) }
+    ensures pairs { IfOk result (λ pairs. IfSome pairs (λ p. IsReversed rows.now p)) }
 {
     match purpose {
-        IndexUse::Reading => Ok(SortedRows::none(alloc)),
-        IndexUse::Writing => reversed(alloc, rows),
+        IndexUse::Reading => Ok(None),
+        IndexUse::Writing => Ok(Some(reversed(alloc, rows)?)),
     }
 }
 

@@ -1,11 +1,10 @@
 //! Rows in order, with a directory that says where the rows of each first number begin, so that a
 //! search looks at the rows of one first number alone.
 
-ghost use Rattle.std.specs.Prelude.{◌≡◌, ◌↔◌, IsTrue, List, [], ℕ};
+ghost use Rattle.std.specs.Prelude.{◌≡◌, List, ℕ};
 ghost use Rattle.encoding_tables.specs.SortedRows.{AreRising, IsRank, IsDirectory, IsSpan};
 
 use crate::search::search;
-use std::alloc::Global;
 use std::marker::Model;
 
 /// Rows in order, fewer than 2^16.
@@ -32,24 +31,6 @@ impl SortedRows {
         ensures { result ≡ rows.items }
     {
         SortedRows { rows, begins }
-    }
-
-    /// No rows, which take no memory.
-    pub(crate) fn none(alloc: Global) -> Self
-        ensures { result ≡ [] }
-    {
-        SortedRows {
-            rows: Vec::new(alloc),
-            begins: Vec::new(alloc),
-        }
-    }
-
-    /// Whether there are none.
-    #[inline(always)]
-    pub(crate) fn is_empty(&self) -> bool
-        ensures { IsTrue result ↔ (self.now ≡ []) }
-    {
-        self.rows.as_slice().is_empty()
     }
 
     /// The rows.

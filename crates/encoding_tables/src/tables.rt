@@ -139,10 +139,10 @@ impl Tables {
         self.insert_rows_for(kind, rows, IndexUse::Writing)
     }
 
-    /// Takes the list of a kind by its rows, and keeps of it what the use wants: for reading alone
-    /// less memory is asked for, and a look-up by character walks through the list. What look-ups
-    /// return does not depend on it. Conditions and faults are those of [`Tables::insert_rows`],
-    /// which keeps the list for writing.
+    /// Takes the list of a kind by its rows, and keeps of it what the use wants (`IndexUse`): for
+    /// reading less memory is asked for, and each look-up by character walks through the list. What
+    /// look-ups return does not depend on it. Conditions and faults are those of
+    /// [`Tables::insert_rows`], which keeps the list for writing.
     pub fn insert_rows_for(
         &mut self,
         kind: IndexKind,

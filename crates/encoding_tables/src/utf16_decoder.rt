@@ -92,7 +92,7 @@ impl<E: ByteOrder> DecoderRule for Utf16Rule<E> {
         ""
     }
 
-    // Where a surrogate comes first, no block of units is looked at.
+    // Where a unit from D800 hex on comes first, no block of units is looked at.
     #[inline(always)]
     fn units_at(&self, bytes: &[u8]) -> ([u16; UNIT_RUN], usize) {
         if bytes.len() < 2 * UNIT_RUN || E::unit_of(bytes[0], bytes[1]) >= 0xD800 {
@@ -102,7 +102,7 @@ impl<E: ByteOrder> DecoderRule for Utf16Rule<E> {
         (units, units_below(u16x32::from_array(units), 0xD800))
     }
 
-    // Behind a surrogate or a pair, units are sought again.
+    // Behind what is no such unit, units are sought again.
     #[inline(always)]
     fn seeks_pairs(&self, _first: u8) -> bool {
         false

@@ -113,8 +113,9 @@ fn load_both<S: IndexSource>(
     ensures files { AddsFromFiles (S.holds source.old) (S.holds source.new) dir.now tables.old
         tables.new }
 {
-    load_indexes(alloc, source, dir, from, to, tables)?;
-    load_indexes(alloc, source, dir, to.output_encoding(), to, tables)
+    let written = to.output_encoding();
+    load_indexes(alloc, source, dir, from, written, tables)?;
+    load_indexes(alloc, source, dir, written, written, tables)
 }
 
 // How many elements each buffer of a conversion has.

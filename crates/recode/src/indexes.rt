@@ -18,11 +18,12 @@ use thiserror::Error;
 /// twentieth of them.
 pub const GREATEST_INDEX_FILE: usize = 16777216;
 
-// The room that is asked for before an index file is read. Most files fit; the vector grows under
-// the longest, by twice and twice again.
+// The room that is asked for before an index file is read. The three longest files of the standard
+// have more: under these the vector grows, to twice and to four times as much. So the text of a
+// second index finds room where the first one's was, between the tables that stand there by then.
 const FIRST_ROOM: usize = 327680;
 
-// More than a text has room for that grew under a file of the standard.
+// More than four times that room.
 const LARGEST_ROOM: usize = 2097152;
 
 // A vector with the first room. The largest is asked for before, and given back: a C library that
@@ -165,13 +166,14 @@ fn fault_of(file: &'static str, fault: &LoadFault) -> StartFault {
     }
 }
 
-// What an index is loaded for in a run to an encoding. Text is written in EUC-JP by jis0208 alone
-// (the Encoding Standard, section 12.1.2).
-fn use_of(kind: IndexKind, to: Encoding) -> IndexUse {
-    if kind != IndexKind::Jis0212 && to.output_encoding().needs().contains(&kind) {
-        IndexUse::Writing
-    } else {
-        IndexUse::Reading
+// What an index is loaded for where text is written in this encoding. Encoders look no character
+// up in jis0212, nor in that of katakana, which they have by pointer (the Encoding Standard,
+// sections 12.1.2 and 12.2.2).
+fn use_of(kind: IndexKind, written: Encoding) -> IndexUse {
+    match kind {
+        IndexKind::Jis0212 | IndexKind::Iso2022JpKatakana => IndexUse::Reading,
+        _ if written.needs().contains(&kind) => IndexUse::Writing,
+        _ => IndexUse::Reading,
     }
 }
 
@@ -206,13 +208,13 @@ fn load_index<S: IndexSource>(
 }
 
 // Puts the indexes that the encoding needs into the tables, each once, in the order of `needs`, up
-// to the first that is missing or faulty. Text is written in the encoding `to`.
+// to the first that is missing or faulty. Text is written in the encoding `written`.
 pub(crate) fn load_indexes<S: IndexSource>(
     alloc: Global,
     source: &mut S,
     dir: &str,
     encoding: Encoding,
-    to: Encoding,
+    written: Encoding,
     tables: &mut Tables,
 ) -> Result<(), StartFault>
     ensures there { OnOk result (IsReady tables.new encoding) }
@@ -222,7 +224,7 @@ pub(crate) fn load_indexes<S: IndexSource>(
 {
     let kinds = encoding.needs();
     for kind in kinds {
-        load_index(alloc, source, dir, *kind, use_of(*kind, to), tables)?;
+        load_index(alloc, source, dir, *kind, use_of(*kind, written), tables)?;
     }
     Ok(())
 }
