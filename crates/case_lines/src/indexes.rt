@@ -3,7 +3,7 @@
 use crate::kinds::kind_of;
 use crate::words::{decimal, hexadecimal};
 use anyhow::{Context, bail, ensure};
-use encoding_tables::{IndexKind, IndexUse, TableFault, Tables};
+use encoding_tables::{IndexKind, TableFault, Tables};
 use std::alloc::Global;
 
 /// A pointer in decimal digits.
@@ -70,16 +70,6 @@ pub fn insert_rows(
     kind: IndexKind,
     rows: &[(u32, u32)],
 ) -> anyhow::Result<Option<TableFault>> {
-    insert_rows_for(tables, kind, rows, IndexUse::Writing)
-}
-
-/// Hands rows in, for this use. Returns why they are refused.
-pub fn insert_rows_for(
-    tables: &mut Tables,
-    kind: IndexKind,
-    rows: &[(u32, u32)],
-    purpose: IndexUse,
-) -> anyhow::Result<Option<TableFault>> {
     if kind.is_ranges() {
         return Ok(tables.insert_ranges(rows).err());
     }
@@ -89,10 +79,7 @@ pub fn insert_rows_for(
     if !rows.iter().all(|row| (row.0 as usize) < kind.size()) {
         bail!("a pointer is too large");
     }
-    match purpose {
-        IndexUse::Writing => Ok(tables.insert_rows(kind, rows).err()),
-        IndexUse::Reading => Ok(tables.insert_rows_for(kind, rows, purpose).err()),
-    }
+    Ok(tables.insert_rows(kind, rows).err())
 }
 
 /// Puts words as `jis0208 422=30CF` into tables, as a list or else as rows.

@@ -1,14 +1,14 @@
 //! Indexes that are handed in, and what is there then.
 
 use crate::faults::fault_of;
-use crate::indexes::{insert_list, insert_rows_for, rows_of};
+use crate::indexes::{insert_list, insert_rows, rows_of};
 use crate::kinds::{KINDS, kind_of};
 use crate::report::Report;
 use crate::texts::text_of;
 use crate::words::{decimal, first_word, halves};
 use anyhow::bail;
 use encoding_index::{LoadFault, load};
-use encoding_tables::{IndexKind, IndexUse, TableFault, Tables};
+use encoding_tables::{IndexKind, TableFault, Tables};
 use std::alloc::{AllocError, Global};
 
 // Adds the characters of an index that is there, of the ranges those below 39420.
@@ -47,8 +47,8 @@ fn of_table(fault: Option<TableFault>) -> Option<LoadFault> {
     }
 }
 
-// Hands an index in, by words as `list 128 5=80`, `rows 5=80`, `rows-to-read 5=80` and
-// `text 5\t0x0080`. Returns why it is refused.
+// Hands an index in, by words as `list 128 5=80`, `rows 5=80` and `text 5\t0x0080`. Returns why
+// it is refused.
 fn hand_in(
     alloc: Global,
     tables: &mut Tables,
@@ -63,15 +63,9 @@ fn hand_in(
             let fault = insert_list(alloc, tables, kind, decimal(size)?, rows.as_slice())?;
             Ok(of_table(fault))
         }
-        "rows" | "rows-to-read" => {
-            let purpose = if form == "rows" {
-                IndexUse::Writing
-            } else {
-                IndexUse::Reading
-            };
+        "rows" => {
             let rows = rows_of(alloc, rest)?;
-            let fault = insert_rows_for(tables, kind, rows.as_slice(), purpose)?;
-            Ok(of_table(fault))
+            Ok(of_table(insert_rows(tables, kind, rows.as_slice())?))
         }
         "text" | "text-of" => {
             let text = text_of(alloc, words)?;

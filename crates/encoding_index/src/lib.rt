@@ -30,5 +30,5 @@ pub mod reading;
 mod rows;
 
 pub use fault::{IndexFault, IndexFaultKind, LoadFault};
-pub use loading::{load, load_owned};
+pub use loading::load;
 pub use reading::{RANGE_POINTERS, read_index, read_ranges};

@@ -11,7 +11,7 @@ ghost use Rattle.encoding_index.specs.laws.Inserts.{rows_fault, HaveRows};
 
 use crate::fault::{IndexFault, LoadFault};
 use crate::reading::{RANGE_POINTERS, rows_below};
-use encoding_tables::{IndexKind, IndexUse, TableFault, Tables};
+use encoding_tables::{IndexKind, TableFault, Tables};
 use std::alloc::Global;
 
 // The rows of a text of the kind.
@@ -30,12 +30,7 @@ fn rows_of(alloc: Global, kind: IndexKind, text: &[u8]) -> Result<Vec<(u32, u32)
 }
 
 // Puts what the rows stand for into the tables.
-fn insert(
-    tables: &mut Tables,
-    kind: IndexKind,
-    rows: &[(u32, u32)],
-    purpose: IndexUse,
-) -> Result<(), TableFault>
+fn insert(tables: &mut Tables, kind: IndexKind, rows: &[(u32, u32)]) -> Result<(), TableFault>
     requires rise { is_ranges kind ≡ false → PointersRise rows.now }
     requires below { is_ranges kind ≡ false → PointersAreBelow (index_size kind) rows.now }
     ensures fault { MatchOption (rows_fault tables.old kind rows.now)
@@ -48,7 +43,7 @@ fn insert(
     if kind.is_ranges() {
         tables.insert_ranges(rows)
     } else {
-        tables.insert_rows_for(kind, rows, purpose)
+        tables.insert_rows(kind, rows)
     }
 }
 
@@ -76,33 +71,6 @@ pub fn load(
     ensures unchanged { OnErr result (tables.new ≡ tables.old) }
 {
     let rows = rows_of(alloc, kind, text)?;
-    insert(tables, kind, &rows, IndexUse::Writing)?;
-    Ok(())
-}
-
-/// Reads the text of an index, lets it go, and puts what it stands for into the tables, which may
-/// take the memory that the text had. Of a list they keep what the use wants, as
-/// `Tables::insert_rows_for` says; the ranges are kept alike for both. In all else it is [`load`],
-/// which keeps a list for writing.
-pub fn load_owned(
-    alloc: Global,
-    tables: &mut Tables,
-    kind: IndexKind,
-    text: Vec<u8>,
-    purpose: IndexUse,
-) -> Result<(), LoadFault>
-    ensures fault { MatchOption (load_fault tables.old kind text.items)
-        ((result ≡ Ok tt) ⊎ WantsMemory result)
-        (λ fault. (result ≡ Err fault) ⊎ (result ≡ Err (LoadFault.Text out_of_memory))) }
-    ensures grows { text_rows text.items ≡ [] → result ≢ Err (LoadFault.Text out_of_memory) }
-    ensures grows_ranges { is_ranges kind ≡ true → text_rows text.items ≡ []
-        → result ≢ Err (LoadFault.Table TableFault.Memory) }
-    ensures loaded { OnOk result (Loads tables.new kind text.items) }
-    ensures others { KeepsOthers tables.old tables.new kind }
-    ensures unchanged { OnErr result (tables.new ≡ tables.old) }
-{
-    let rows = rows_of(alloc, kind, &text)?;
-    drop(text);
-    insert(tables, kind, &rows, purpose)?;
+    insert(tables, kind, &rows)?;
     Ok(())
 }

@@ -5,7 +5,7 @@ use anyhow::bail;
 use encoding_index::{
     IndexFault, IndexFaultKind, LoadFault, load, load_owned, read_index, read_ranges,
 };
-use encoding_tables::{IndexKind, IndexUse, TableFault, Tables};
+use encoding_tables::{IndexKind, TableFault, Tables};
 use std::alloc::Global;
 
 type Rows = &'static [(u32, u32)];
@@ -208,7 +208,7 @@ fn load_copy(
     if copy.extend_from_slice(text).is_err() {
         return Ok(Ended::RefusedToCopy);
     }
-    ended_of_load(load_owned(alloc, tables, kind, copy, IndexUse::Reading))
+    ended_of_load(load_owned(alloc, tables, kind, copy))
 }
 
 // Puts an index into the tables, and prints its entries at the pointers of its rows.

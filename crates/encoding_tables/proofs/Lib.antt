@@ -9,5 +9,4 @@ pub mod ReplacementLengthLemmas
 mod KindLemmas
 pub mod RowLemmas
 mod RowFaultLemmas
-mod EntryLemmas
 pub mod CountLemmas

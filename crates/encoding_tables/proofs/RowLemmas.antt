@@ -1,13 +1,11 @@
 -- The entries of the list that rows stand for. The mapped rows of a list, and of rows: they are in order, and stand
 -- for the same list. Rows the other way round, sorted: they rise, and are the same rows. The least and the greatest
--- pointer with an entry, by a walk, and by the pairs of an entry and its pointer.
+-- pointer with an entry, by the pairs of an entry and its pointer.
 use Rattle.std.proofs.Common.{◌≡◌, ◌≢◌, ℕ, zero, suc, ◌+◌, ◌-◌, ◌<◌, ◌≤◌, List, [], ◌∷◌, length, get_or, inl, inr, refl, sym, ◌∙◌, ap, arith, None, Some, map, ◌==◌, Option, subst}
 use Rattle.std.specs.Prelude.{slice_index, if◌then◌else◌, MatchOption, not, true}
 use Rattle.std.specs.List.{list_all}
 use Rattle.std.proofs.Math.ListN.{get_or-eq_default}
-use Rattle.std.proofs.Math.Dec.{eqb}
-use Rattle.std.specs.Option.{option_eq}
-use Rattle.std.proofs.lemmas.Bool.{and_parts, cases_lt, cases_eq, eq-eqb, eqb-true, ne_eqb}
+use Rattle.std.proofs.lemmas.Bool.{and_parts, cases_lt, cases_eq, eq-eqb, ne_eqb}
 use Rattle.std.proofs.lemmas.List.{get_or_default, get_or-map, length-map}
 use Rattle.std.proofs.lemmas.List.FromFn.{get_or-map-range_with_len, length-map-range_with_len, fill_by_all}
 use Rattle.encoding_tables.specs.Lookups.{value_of, first_pointer, last_pointer}
@@ -400,54 +398,6 @@ none_by_law : (flat : List ℕ) (c from to : ℕ) (R : ℕ → Type 0) (o : Opti
     → MatchOption o ((q : ℕ) → ¬ (IsPointer flat c from to q)) (λ q. IsPointer flat c from to q × R q) → ((q : ℕ) → ¬ (IsPointer flat c from to q)) → o ≡ None
 none_by_law flat c from to R None law none = refl
 none_by_law flat c from to R (Some q) law none = absurd (none q law.0)
-
--- ---- by a walk through the entries
-
--- a test that passed
-pub tested : (o : Option ℕ) (c : ℕ) → option_eq eqb o (Some c) ≡ true → o ≡ Some c
-tested None c is = cc
-tested (Some x) c is = ap Some (eqb-true x c is)
-
-pub nothing : (o : Option ℕ) (c : ℕ) → o ≡ None → o ≢ Some c
-nothing o c none is = cc
-
--- no entry stands behind the list
-pub behind_the_list : (size : ℕ) (rows : List (ℕ × ℕ)) (p : ℕ) → size ≤ p → value_of (flat_list size rows) p ≡ None
-behind_the_list size rows p behind = rw (get_or-eq_default (flat_list size rows) 0 {n = p} (omega (arith, behind, length-flat_list size rows))) refl
-
--- none has the entry before, and the one here has it
-pub first_walked : (flat : List ℕ) (c from to p : ℕ) → from ≤ p → p < to → ((q : ℕ) → from ≤ q → q < p → value_of flat q ≢ Some c) → value_of flat p ≡ Some c
-    → first_pointer flat c from to ≡ Some p
-first_walked flat c from to p low high before here =
-    first_by_law flat c from to p (first_pointer flat c from to) (first_is_least flat c from to) (record { after = low; before = high; entry = here })
-    (λ q h. elim (cases_lt q p) [
-      | inl less ↦ absurd (before q h.after less h.entry)
-      | inr other ↦ other
-    ])
-
-pub first_not_walked : (flat : List ℕ) (c from to end : ℕ) → ((q : ℕ) → end ≤ q → q < to → value_of flat q ≡ None) → ((q : ℕ) → from ≤ q → q < end → value_of flat q ≢ Some c)
-    → first_pointer flat c from to ≡ None
-first_not_walked flat c from to end past before =
-    none_by_law flat c from to (λ q. (r : ℕ) → IsPointer flat c from to r → q ≤ r) (first_pointer flat c from to) (first_is_least flat c from to)
-    (λ q h. elim (cases_lt q end) [
-      | inl inside ↦ before q h.after inside h.entry
-      | inr behind ↦ nothing (value_of flat q) c (past q behind h.before) h.entry
-    ])
-
--- none has the entry behind, and the one here has it
-pub last_walked : (flat : List ℕ) (c from to p : ℕ) → from ≤ p → p < to → ((q : ℕ) → p < q → q < to → value_of flat q ≢ Some c) → value_of flat p ≡ Some c
-    → last_pointer flat c from to ≡ Some p
-last_walked flat c from to p low high behind here =
-    last_by_law flat c from to p (last_pointer flat c from to) (last_is_greatest flat c from to) (record { after = low; before = high; entry = here })
-    (λ q h. elim (cases_lt p q) [
-      | inl more ↦ absurd (behind q more h.before h.entry)
-      | inr other ↦ other
-    ])
-
-pub last_not_walked : (flat : List ℕ) (c from to end : ℕ) → end ≤ from → ((q : ℕ) → end ≤ q → q < to → value_of flat q ≢ Some c) → last_pointer flat c from to ≡ None
-last_not_walked flat c from to end past behind =
-    none_by_law flat c from to (λ q. (r : ℕ) → IsPointer flat c from to r → r ≤ q) (last_pointer flat c from to) (last_is_greatest flat c from to)
-    (λ q h. behind q (omega (arith, h.after, past)) h.before h.entry)
 
 -- ---- pairs and pointers
 

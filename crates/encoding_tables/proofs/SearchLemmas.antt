@@ -1,11 +1,16 @@
 -- The order of rows, and the steps of a binary search among rows in order. A directory of rows in order: it narrows
 -- a search to the rows of one first number. Rows whose first numbers rise, and the last of them at or below a
 -- number.
-use Rattle.std.proofs.Common.{◌≡◌, ℕ, ◌+◌, ◌-◌, ◌*◌, ◌/◌, ◌<◌, ◌≤◌, ◌^◌, ◌⊎◌, inl, inr, zero, suc, List, length, arith, refl, pow-suc, nat_lt, ◌==◌, ◌≢◌, [], ◌∷◌, ◌∙◌, ap, drop, length-drop, length-take, None, Some}
+use Rattle.std.proofs.Common.{◌≡◌, ℕ, ◌+◌, ◌-◌, ◌*◌, ◌/◌, ◌<◌, ◌≤◌, ◌^◌, ◌⊎◌, inl, inr, zero, suc, List, length, arith, refl, pow-suc, nat_lt, ◌==◌, ◌≢◌, [], ◌∷◌, ◌++◌, ◌∙◌, ap, drop, length-drop, length-take, length-append, None, Some}
 use Rattle.std.specs.Prelude.{◌&&◌, slice_range, slice_index, min}
+use Rattle.encoding_tables.specs.PackedLists.{IsSecond}
+use Rattle.encoding_tables.specs.PackedRows.{PointersAreBelow}
 use Rattle.std.proofs.lemmas.Bool.{cases_eq, or_cases, and_parts, ltb-true, eqb-true, lt-ltb, le-ltb, eq-eqb, cases_lt}
-use Rattle.encoding_tables.specs.SortedRows.{row_at, IsBelow, AreRising, IsRank, IsDirectory, IsSpan}
+use Rattle.encoding_tables.specs.SortedRows.{row_at, IsBelow, AreRising, IsRank, IsDirectory, IsSpan, IsTight}
 use Rattle.std.proofs.lemmas.List.Edits.{get_or-between}
+use Rattle.std.proofs.lemmas.List.{get_or_append_left}
+use Rattle.std.proofs.Math.Seq.{get_or-append_right}
+use Rattle.std.proofs.Math.Nat.{sub_self}
 use Rattle.encoding_tables.specs.Ranges.{last_row}
 
 -- ---- the order
@@ -181,6 +186,118 @@ rank_in_span rows key from to n span rank =
     let low = below_at_most (row_at rows k) key is in
     absurd (omega (arith, high, low)))
     rank
+
+-- ---- the row with a first number
+
+-- behind the directory no row has the number
+pub none_past : (rows : List (ℕ × ℕ)) (begins : List ℕ) (first : ℕ) → IsDirectory rows begins → length begins ≤ first + 1 → (k : ℕ) → k < length rows → (row_at rows k).0 ≢ first
+none_past rows begins first directory past k within is = let small = directory.last k within in omega (arith, small, is)
+
+-- the row at a place, in the part that has it alone
+row_alone : (rows : List (ℕ × ℕ)) (place : ℕ) → row_at (slice_range rows place (place + 1)) 0 ≡ row_at rows place
+row_alone rows place =
+    let here : place + 0 ≡ place = omega arith in
+    row_of_part rows place (place + 1) 0 (omega arith) ∙ ap (λ q. row_at rows q) here
+
+-- where the row at the place of a number is below the next number, it has the number
+pub second_at_place : (rows : List (ℕ × ℕ)) (first place n : ℕ) → IsRank rows (first, 0) place → place < length rows → IsRank (slice_range rows place (place + 1)) (first + 1, 0) n → n ≡ 1
+    → IsSecond rows first (Some (row_at rows place).1)
+second_at_place rows first place n rank within next one =
+    let low = below_start (row_at (slice_range rows place (place + 1)) 0) (first + 1) (next.below 0 (omega (arith, one))) in
+    let from = from_start (row_at rows place) first (rank.others place (omega arith) within) in
+    let is : (row_at rows place).0 ≡ first = omega (arith, low, from, ap (λ (r : ℕ × ℕ). r.0) (row_alone rows place)) in
+    (place, within, ap (λ q. (q, (row_at rows place).1)) is)
+
+-- and where it is not, no row has it
+pub none_at_place : (rows : List (ℕ × ℕ)) (first place n : ℕ) → AreRising rows → IsRank rows (first, 0) place → place < length rows → IsRank (slice_range rows place (place + 1)) (first + 1, 0) n → n ≢ 1
+    → IsSecond rows first None
+none_at_place rows first place n rise rank within next other k inside is =
+    let size : length (slice_range rows place (place + 1)) ≡ 1 = part_length rows place (place + 1) ∙ omega (arith, within) in
+    let from = from_start (row_at (slice_range rows place (place + 1)) 0) (first + 1) (next.others 0 (omega (arith, next.within, size, other)) (omega (arith, size))) in
+    let above : first + 1 ≤ (row_at rows place).0 = omega (arith, from, ap (λ (r : ℕ × ℕ). r.0) (row_alone rows place)) in
+    elim (cases_lt k place) [
+      | inl early ↦ let low = below_start (row_at rows k) first (rank.below k early) in omega (arith, low, is)
+      | inr late ↦ elim (cases_eq k place) [
+        | inl here ↦ omega (arith, above, is, ap (λ (q : ℕ). (row_at rows q).0) here)
+        | inr later ↦
+            let up_to = below_at_most (row_at rows place) (row_at rows k) (rises rows rise place k (omega (arith, late, later)) inside) in
+            omega (arith, up_to, above, is)
+      ]
+    ]
+
+-- ---- how a directory is made
+
+-- the numbers up to the one of the row at `offset`, as far as they are there
+pub record IsBuilding (rows : List (ℕ × ℕ)) (begins : List ℕ) (offset : ℕ) : Type 0 where
+  pub ranks : (first : ℕ) → first < length begins → IsRank rows (first, 0) (slice_index begins first)
+  pub passed : (k : ℕ) → k < offset → (row_at rows k).0 < length begins
+  pub inside : (first : ℕ) → first < length begins → slice_index begins first < length rows
+  pub short : length begins ≤ 2 ^ 16
+
+pub nothing_built : (rows : List (ℕ × ℕ)) → IsBuilding rows [] 0
+nothing_built rows = record { ranks = λ b less. absurd (omega arith); passed = λ k less. absurd (omega arith); inside = λ b less. absurd (omega arith); short = omega arith }
+
+one_more : (rows : List (ℕ × ℕ)) (begins : List ℕ) (rank : ℕ) → ((b : ℕ) → b < length begins → IsRank rows (b, 0) (slice_index begins b)) → IsRank rows (length begins, 0) rank
+    → (b : ℕ) → b < length (begins ++ rank ∷ []) → IsRank rows (b, 0) (slice_index (begins ++ rank ∷ []) b)
+one_more rows begins rank ranks last b less = elim (cases_lt b (length begins)) [
+  | inl early ↦ rw (get_or_append_left begins (rank ∷ []) 0 b early) (ranks b early)
+  | inr late ↦
+      let here : b ≡ length begins = omega (arith, length-append begins (rank ∷ [])) in
+      rw (here, get_or-append_right begins (rank ∷ []) (length begins) 0 (omega arith), sub_self (length begins)) last
+]
+
+no_row_before : (rows : List (ℕ × ℕ)) (offset first : ℕ) → AreRising rows → offset ≤ length rows → ((k : ℕ) → k < offset → (row_at rows k).0 < first)
+    → (offset < length rows → first ≤ (row_at rows offset).0) → IsRank rows (first, 0) offset
+no_row_before rows offset first rise within before from = record {
+  within = within;
+  below = λ k less. below_first (row_at rows k) (first, 0) (before k less);
+  others = λ k past inside is.
+      let low = below_start (row_at rows k) first is in
+      let high = from (omega arith) in
+      elim (cases_eq k offset) [
+        | inl same ↦ absurd (omega (arith, low, rw (← same) at high))
+        | inr apart ↦ absurd (omega (arith, low, high, below_at_most (row_at rows offset) (row_at rows k) (rises rows rise offset k (omega arith) inside)))
+      ];
+}
+
+pub number_built : (rows : List (ℕ × ℕ)) (begins : List ℕ) (offset : ℕ) → AreRising rows → PointersAreBelow (2 ^ 16) rows → offset < length rows → IsBuilding rows begins offset
+    → length begins ≤ (row_at rows offset).0 → IsBuilding rows (begins ++ offset ∷ []) offset
+number_built rows begins offset rise below within so_far left = record {
+  ranks = one_more rows begins offset so_far.ranks (no_row_before rows offset (length begins) rise (omega arith) so_far.passed (λ _. left));
+  passed = λ k less. omega (arith, so_far.passed k less, length-append begins (offset ∷ []));
+  inside = λ b less. elim (cases_lt b (length begins)) [
+    | inl early ↦ rw (get_or_append_left begins (offset ∷ []) 0 b early) (so_far.inside b early)
+    | inr late ↦
+        let here : b ≡ length begins = omega (arith, length-append begins (offset ∷ [])) in
+        rw (here, get_or-append_right begins (offset ∷ []) (length begins) 0 (omega arith), sub_self (length begins)) within
+  ];
+  short = omega (arith, left, below offset within, length-append begins (offset ∷ []));
+}
+
+pub row_passed : (rows : List (ℕ × ℕ)) (begins : List ℕ) (offset : ℕ) → IsBuilding rows begins offset → (row_at rows offset).0 < length begins → IsBuilding rows begins (offset + 1)
+row_passed rows begins offset so_far above = record {
+  ranks = so_far.ranks;
+  inside = so_far.inside;
+  short = so_far.short;
+  passed = λ k less. elim (cases_lt k offset) [
+    | inl early ↦ so_far.passed k early
+    | inr late ↦ let here : k ≡ offset = omega arith in rw here above
+  ];
+}
+
+pub all_built : (rows : List (ℕ × ℕ)) (begins : List ℕ) → AreRising rows → IsBuilding rows begins (length rows) → IsDirectory rows (begins ++ length rows ∷ [])
+all_built rows begins rise so_far = record {
+  ranks = one_more rows begins (length rows) so_far.ranks (no_row_before rows (length rows) (length begins) rise (omega arith) so_far.passed (λ less. absurd (omega arith)));
+  last = λ k within. omega (arith, so_far.passed k within, length-append begins (length rows ∷ []));
+}
+
+pub all_tight : (rows : List (ℕ × ℕ)) (begins : List ℕ) (last : ℕ) → IsBuilding rows begins (length rows) → IsTight rows (begins ++ last ∷ [])
+all_tight rows begins last so_far = record {
+  stands = λ first less.
+      let early : first < length begins = omega (arith, less, length-append begins (last ∷ [])) in
+      rw (get_or_append_left begins (last ∷ []) 0 first early) (so_far.inside first early);
+  short = omega (arith, so_far.short, length-append begins (last ∷ []));
+}
 
 -- Rows whose first numbers rise, and the last of them at or below a number.
 

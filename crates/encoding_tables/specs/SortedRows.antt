@@ -34,6 +34,11 @@ pub record IsDirectory (rows : List (ℕ × ℕ)) (begins : List ℕ) : Type 0 w
   pub ranks : (first : ℕ) → first < length begins → IsRank rows (first, 0) (slice_index begins first)
   pub last : (k : ℕ) → k < length rows → (row_at rows k).0 + 1 < length begins
 
+-- in a directory of rows whose first numbers are below 2^16, a row stands at each place but the last
+pub record IsTight (rows : List (ℕ × ℕ)) (begins : List ℕ) : Type 0 where
+  pub stands : (first : ℕ) → first + 1 < length begins → slice_index begins first < length rows
+  pub short : length begins ≤ 2 ^ 16 + 1
+
 -- the rows with a first number stand from one position to before another
 pub record IsSpan (rows : List (ℕ × ℕ)) (first from to : ℕ) : Type 0 where
   pub begins : IsRank rows (first, 0) from

@@ -1,8 +1,8 @@
 //! The indexes of the Encoding Standard (section 5) as checked tables; the single-byte codecs over
 //! them, and the codecs that need no index: x-user-defined, UTF-16 and replacement.
 //!
-//! Indexes are handed in: as lists (`Tables::insert`), as rows (`insert_rows`, `insert_rows_for`,
-//! `insert_ranges`), or as the texts that the standard publishes (`encoding_index::load`). Each is checked before it is
+//! Indexes are handed in: as lists (`Tables::insert`), as rows (`insert_rows`, `insert_ranges`), or
+//! as the texts that the standard publishes (`encoding_index::load`). Each is checked before it is
 //! taken, and an index that is there stays as it is. Codecs borrow the tables; `Tables::has` is the
 //! test of their condition. How a codec is used stands with `encoding_mem::RawDecoder` and
 //! `RawEncoder`.
@@ -29,7 +29,6 @@ mod accept_ranges;
 pub mod each_byte_decoder;
 pub mod flat;
 pub mod index_kind;
-pub mod index_use;
 pub mod laws;
 mod packed_index;
 mod packed_ranges;
@@ -49,7 +48,6 @@ pub mod utf16_decoder;
 pub use encoding_mem::{DecoderResult, EncoderResult};
 pub use flat::Flat;
 pub use index_kind::IndexKind;
-pub use index_use::IndexUse;
 pub use ranges::Ranges;
 pub use replacement_decoder::ReplacementDecoder;
 pub use single_byte_decoder::SingleByteDecoder;

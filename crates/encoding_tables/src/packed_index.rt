@@ -1,31 +1,27 @@
-//! An index: its entries at their pointers for decoders, and its rows by entry for encoders, where
-//! it is for these.
+//! An index as rows: by pointer for decoders, and by entry for encoders.
 
-ghost use Rattle.std.specs.Prelude.{◌≡◌, ℕ, ◌+◌, ◌^◌, ◌<◌, ◌≤◌, List, None, length, IfOk, IfSome};
-ghost use Rattle.std.specs.Prelude.{is_some, true};
+ghost use Rattle.std.specs.Prelude.{◌≡◌, ℕ, ◌+◌, ◌^◌, ◌<◌, List, length, IfOk, IfSome};
 ghost use Rattle.std.specs.Prelude.{not, ◌==◌};
 ghost use Rattle.std.specs.List.{list_all};
 ghost use Rattle.encoding_tables.specs.Lookups.{value_of, first_pointer, last_pointer};
 ghost use Rattle.encoding_tables.specs.PackedRows.{flat_list, mapped_rows, listed_rows, PointersRise, PointersAreBelow};
-ghost use Rattle.encoding_tables.specs.PackedLists.{AreIndexRows, IsKept, IsPacked, IsReversed};
-ghost use Rattle.encoding_tables.specs.declared.index_use.IndexUse.TheVariants.{Reading, Writing};
+ghost use Rattle.encoding_tables.specs.PackedLists.{AreIndexRows, IsPacked, IsReversed};
 ghost use Rattle.encoding_tables.specs.EntryCounts.{AreCounts, AreEnds, HaveEntriesBelow};
 
-use crate::index_use::IndexUse;
 use crate::pointer_rows::PointerRows;
 use crate::sorted_rows::SortedRows;
 use std::alloc::{AllocError, Global};
 use std::marker::Model;
 
-/// The list of an index: its entries at their pointers, and its mapped entries in order.
+/// The list of an index, of which the mapped entries alone are kept.
 #[derive(Drop)]
 pub(crate) struct PackedIndex {
     // How many entries the list has, mapped or not.
     size: usize,
     // A pointer and its entry.
     by_pointer: PointerRows,
-    // An entry and its pointer, where text is written by the index.
-    by_entry: Option<SortedRows>,
+    // An entry and its pointer.
+    by_entry: SortedRows,
 }
 
 impl Model for PackedIndex {
@@ -33,7 +29,7 @@ impl Model for PackedIndex {
 
     ghost view = { λ p. flat_list p.size p.by_pointer };
 
-    ghost invariant = { λ p. IsKept p.size p.by_pointer p.by_entry };
+    ghost invariant = { λ p. IsPacked p.size p.by_pointer p.by_entry };
 }
 
 impl PackedIndex {
@@ -43,7 +39,7 @@ impl PackedIndex {
         ensures { IfOk result (λ index. index ≡ list.now) }
     {
         let rows = rows_of_list(alloc, list)?;
-        PackedIndex::new(alloc, list.len(), &rows, IndexUse::Writing)
+        PackedIndex::new(alloc, list.len(), &rows)
     }
 
     /// The index of a list with these entries and 0 elsewhere.
@@ -51,7 +47,6 @@ impl PackedIndex {
         alloc: Global,
         size: usize,
         rows: &[(u32, u32)],
-        purpose: IndexUse,
     ) -> Result<Self, AllocError>
         requires rise { PointersRise rows.now }
         requires below { PointersAreBelow size rows.now }
@@ -59,27 +54,22 @@ impl PackedIndex {
         ensures { IfOk result (λ index. index ≡ flat_list size rows.now) }
     {
         if are_mapped(rows) {
-            return PackedIndex::new(alloc, size, rows, purpose);
+            return PackedIndex::new(alloc, size, rows);
         }
         let mapped = rows_with_entry(alloc, rows)?;
-        PackedIndex::new(alloc, size, &mapped, purpose)
+        PackedIndex::new(alloc, size, &mapped)
     }
 
     // The index of mapped rows.
-    fn new(
-        alloc: Global,
-        size: usize,
-        rows: &[(u32, u32)],
-        purpose: IndexUse,
-    ) -> Result<Self, AllocError>
+    fn new(alloc: Global, size: usize, rows: &[(u32, u32)]) -> Result<Self, AllocError>
         requires rows { AreIndexRows size rows.now }
         requires small { size < 2 ^ 16 }
         ensures { IfOk result (λ index. index ≡ flat_list size rows.now) }
     {
-        let by_entry = pairs_for(alloc, rows, purpose)?;
+        let by_entry = reversed(alloc, rows)?;
         Ok(PackedIndex {
             size,
-            by_pointer: PointerRows::new(alloc, size, rows)?,
+            by_pointer: PointerRows::new(alloc, rows)?,
             by_entry,
         })
     }
@@ -98,9 +88,10 @@ impl PackedIndex {
         ensures pointer { result ≡ first_pointer self.now entry from to }
         ensures before { IfSome result (λ p. p < to) }
     {
-        match &self.by_entry {
-            Some(pairs) => first_in(pairs, entry, from, to),
-            None => self.first_by_walk(entry, from, to),
+        let offset = self.by_entry.rank((entry, from));
+        match self.by_entry.rows().get(offset) {
+            Some((first, pointer)) if *first == entry && *pointer < to => Some(*pointer),
+            _ => None,
         }
     }
 
@@ -110,108 +101,16 @@ impl PackedIndex {
         ensures pointer { result ≡ last_pointer self.now entry from to }
         ensures before { IfSome result (λ p. p < to) }
     {
-        match &self.by_entry {
-            Some(pairs) => last_in(pairs, entry, from, to),
-            None => self.last_by_walk(entry, from, to),
+        let behind = self.by_entry.rank((entry, to));
+        if behind == 0 {
+            return None;
         }
-    }
-
-    // The end of a range of pointers, or that of the list.
-    fn end_before(&self, to: u32) -> u32
-        ensures within { result ≤ to }
-        ensures behind { (p : ℕ) → result ≤ p → p < to → value_of self.now p ≡ None }
-    {
-        if to as usize > self.size {
-            self.size as u32
+        let (first, pointer) = self.by_entry.rows()[behind - 1];
+        if first == entry && pointer >= from {
+            Some(pointer)
         } else {
-            to
+            None
         }
-    }
-
-    // The least one, by a walk through the entries.
-    #[cold]
-    #[inline(never)]
-    fn first_by_walk(&self, entry: u32, from: u32, to: u32) -> Option<u32>
-        ensures pointer { result ≡ first_pointer self.now entry from to }
-        ensures before { IfSome result (λ p. p < to) }
-    {
-        let end = self.end_before(to);
-        let mut at = from;
-        'pointers: while at < end {
-            if self.value(at) == Some(entry) {
-                return Some(at);
-            }
-            at += 1;
-        }
-        None
-    }
-
-    // The greatest one, by a walk through the entries.
-    #[cold]
-    #[inline(never)]
-    fn last_by_walk(&self, entry: u32, from: u32, to: u32) -> Option<u32>
-        ensures pointer { result ≡ last_pointer self.now entry from to }
-        ensures before { IfSome result (λ p. p < to) }
-    {
-        let mut end = self.end_before(to);
-        'pointers: while from < end {
-            end -= 1;
-            if self.value(end) == Some(entry) {
-                return Some(end);
-            }
-        }
-        None
-    }
-}
-
-// The least pointer of an entry from one to below another, by the rows by entry.
-#[inline(always)]
-fn first_in(pairs: &SortedRows, entry: u32, from: u32, to: u32) -> Option<u32>
-    ensures pointer { (size : ℕ) (rows : List (ℕ × ℕ)) → IsPacked size rows pairs.now
-        → result ≡ first_pointer (flat_list size rows) entry from to }
-    ensures before { IfSome result (λ p. p < to) }
-{
-    let offset = pairs.rank((entry, from));
-    match pairs.rows().get(offset) {
-        Some((first, pointer)) if *first == entry && *pointer < to => Some(*pointer),
-        _ => None,
-    }
-}
-
-// The greatest one.
-#[inline(always)]
-fn last_in(pairs: &SortedRows, entry: u32, from: u32, to: u32) -> Option<u32>
-    ensures pointer { (size : ℕ) (rows : List (ℕ × ℕ)) → IsPacked size rows pairs.now
-        → result ≡ last_pointer (flat_list size rows) entry from to }
-    ensures before { IfSome result (λ p. p < to) }
-{
-    let behind = pairs.rank((entry, to));
-    if behind == 0 {
-        return None;
-    }
-    let (first, pointer) = pairs.rows()[behind - 1];
-    if first == entry && pointer >= from {
-        Some(pointer)
-    } else {
-        None
-    }
-}
-
-// The rows the other way round, where this use wants them.
-fn pairs_for(
-    alloc: Global,
-    rows: &[(u32, u32)],
-    purpose: IndexUse,
-) -> Result<Option<SortedRows>, AllocError>
-    requires rise { PointersRise rows.now }
-    requires few { length rows.now < 2 ^ 16 }
-    ensures read { purpose ≡ Reading → IfOk result (λ pairs. pairs ≡ None) }
-    ensures written { purpose ≡ Writing → IfOk result (λ pairs. is_some pairs ≡ true) }
-    ensures pairs { IfOk result (λ pairs. IfSome pairs (λ p. IsReversed rows.now p)) }
-{
-    match purpose {
-        IndexUse::Reading => Ok(None),
-        IndexUse::Writing => Ok(Some(reversed(alloc, rows)?)),
     }
 }
 

@@ -1,152 +1,103 @@
-//! The entries of an index at their pointers.
+//! Rows of an index in the order of their pointers, with a directory that names the one row in which a
+//! pointer can stand.
 
-ghost use Rattle.std.specs.Prelude.{◌≡◌, ◌==◌, List, ℕ, Some, None, nat_lt, IfOk};
-ghost use Rattle.std.specs.Prelude.{if◌then◌else◌};
-ghost use Rattle.std.specs.List.{list_all};
-ghost use Rattle.encoding_tables.specs.Lookups.{value_of};
-ghost use Rattle.encoding_tables.specs.PackedRows.{listed_rows};
-ghost use Rattle.encoding_tables.specs.PackedLists.{AreIndexRows, IsSecond, kept_entries};
-ghost use Rattle.encoding_tables.specs.PackedLists.{AreNarrowOf, AreEntriesAt, AreWide};
-ghost use Rattle.encoding_tables.specs.PackedLists.{narrow_entry};
+ghost use Rattle.std.specs.Prelude.{◌≡◌, ◌+◌, ◌<◌, ◌≤◌, ◌^◌, List, ℕ, length, IfOk};
+ghost use Rattle.encoding_tables.specs.PackedLists.{IsSecond};
+ghost use Rattle.encoding_tables.specs.PackedRows.{PointersAreBelow};
+ghost use Rattle.encoding_tables.specs.SortedRows.{AreRising, IsDirectory, IsTight};
 
 use crate::search::search;
 use std::alloc::{AllocError, Global};
 use std::marker::Model;
 
-/// Rows of a pointer and an entry that is not 0, in the order of their pointers, as the entry at
-/// each pointer.
+/// Rows in order, each with a pointer below 2^16 of its own.
 #[derive(Drop)]
 pub(crate) struct PointerRows {
-    // The entry at each pointer, and 0 where no row has it or 16 bits do not hold it: most
-    // characters of a text are among these, and take the least of the fastest memory.
-    narrow: Vec<u16>,
-    // Every entry, where 16 bits do not hold one, as in Big5; else empty.
-    wide: Vec<u32>,
+    rows: Vec<(u32, u32)>,
+    // How many rows stand before each pointer, and at last how many there are.
+    begins: Vec<u16>,
 }
 
 impl Model for PointerRows {
     ghost Value = { List (ℕ × ℕ) };
 
-    ghost view = { λ s. listed_rows 0 (kept_entries s.narrow.items s.wide.items) };
+    ghost view = { λ s. s.rows.items };
 
-    ghost invariant = { λ s. AreNarrowOf (kept_entries s.narrow.items s.wide.items)
-        s.narrow.items };
+    ghost invariant = { λ s. AreRising s.rows.items × IsDirectory s.rows.items s.begins.items
+        × IsTight s.rows.items s.begins.items };
 }
 
 impl PointerRows {
-    /// The mapped rows of an index of this size.
-    pub(crate) fn new(alloc: Global, size: usize, rows: &[(u32, u32)]) -> Result<Self, AllocError>
-        requires { AreIndexRows size rows.now }
-        ensures { IfOk result (λ kept. kept ≡ rows.now) }
+    /// Rows in order.
+    pub(crate) fn new(alloc: Global, rows: &[(u32, u32)]) -> Result<Self, AllocError>
+        requires rising { AreRising rows.now }
+        requires below { PointersAreBelow (2 ^ 16) rows.now }
+        requires few { length rows.now < 2 ^ 16 }
+        ensures { IfOk result (λ sorted. sorted ≡ rows.now) }
     {
-        let narrow = narrow_entries(alloc, size, rows)?;
-        let wide = wide_entries(alloc, size, rows)?;
-        Ok(PointerRows { narrow, wide })
+        let begins = directory(alloc, rows)?;
+        let rows = copied(alloc, rows)?;
+        Ok(PointerRows { rows, begins })
     }
 
-    /// The second number of a row with this first number, or `None` where no row has it.
+    /// The second number of the row with this first number, or `None` if no row has it.
     #[inline(always)]
     pub(crate) fn second(&self, first: u32) -> Option<u32>
         ensures { IsSecond self.now first result }
     {
-        match narrow_value(self.narrow.as_slice(), first) {
-            Some(entry) => Some(entry),
-            None => wide_value(self.wide.as_slice(), first),
-        }
+        second_in(self.rows.as_slice(), self.begins.as_slice(), first)
     }
 }
 
-// The entry at a pointer, in a list that has 0 where there is none, or where 16 bits do not hold
-// it.
+// The second number of the row with this first number, or `None`. The rows before the place that the
+// directory names are below the number, and those from there on are not: so if a row has the number,
+// it is the one at this place, and the search tells whether that row is below the next number.
 #[inline(always)]
-fn narrow_value(entries: &[u16], pointer: u32) -> Option<u32>
-    ensures { result ≡ value_of entries.now pointer }
+fn second_in(rows: &[(u32, u32)], begins: &[u16], first: u32) -> Option<u32>
+    requires rising { AreRising rows.now }
+    requires directory { IsDirectory rows.now begins.now }
+    requires tight { IsTight rows.now begins.now }
+    ensures { IsSecond rows.now first result }
 {
-    match entries.get(pointer as usize) {
-        Some(entry) if *entry != 0 => second_of((pointer, *entry as u32), pointer),
-        _ => None,
+    if first as usize + 1 >= begins.len() {
+        return None;
     }
-}
-
-// The entry at a pointer, in the list of 32 bits, which is empty where 16 bits hold every entry.
-#[inline(always)]
-fn wide_value(entries: &[u32], pointer: u32) -> Option<u32>
-    ensures { result ≡ value_of entries.now pointer }
-{
-    match entries.get(pointer as usize) {
-        Some(entry) if *entry != 0 => second_of((pointer, *entry), pointer),
-        _ => None,
-    }
-}
-
-// The second number of a row, where its first is this one. Look-ups find rows by `search`, here
-// among this row alone: it is not below a number that it has, so this costs no comparison.
-#[inline(always)]
-fn second_of(row: (u32, u32), first: u32) -> Option<u32>
-    ensures { result ≡ (if row.0 == first then Some row.1 else None) }
-{
-    let (below, _) = search(&[row], (first, 0));
-    if row.0 == first && below == 0 {
-        Some(row.1)
+    let place = begins[first as usize] as usize;
+    let (below, _) = search(&rows[place..place + 1], (first + 1, 0));
+    if below == 1 {
+        Some(rows[place].1)
     } else {
         None
     }
 }
 
-// An entry that 16 bits hold, or 0.
-fn narrowed(entry: u32) -> u16
-    ensures { result ≡ narrow_entry entry }
+// How many rows stand before each first number, and at last how many there are.
+fn directory(alloc: Global, rows: &[(u32, u32)]) -> Result<Vec<u16>, AllocError>
+    requires rising { AreRising rows.now }
+    requires below { PointersAreBelow (2 ^ 16) rows.now }
+    requires few { length rows.now < 2 ^ 16 }
+    ensures directory { IfOk result (λ begins. IsDirectory rows.now begins.items) }
+    ensures tight { IfOk result (λ begins. IsTight rows.now begins.items) }
 {
-    if entry < 0x10000 { entry as u16 } else { 0 }
-}
-
-// The entry at each pointer, or 0 where 16 bits do not hold it.
-fn narrow_entries(alloc: Global, size: usize, rows: &[(u32, u32)]) -> Result<Vec<u16>, AllocError>
-    requires { AreIndexRows size rows.now }
-    ensures { IfOk result (λ list. AreEntriesAt narrow_entry size rows.now list.items) }
-{
-    let mut list = vec![in alloc; 0; size]?;
-    // From the last row to the first, so that the list always has the rows from `at` on, and no
-    // others.
-    let mut at = rows.len();
-    'rows: while at > 0 {
-        at -= 1;
-        let (pointer, entry) = rows[at];
-        list[pointer as usize] = narrowed(entry);
+    let numbers = match rows {
+        [.., (first, _)] => *first as usize + 1,
+        [] => 0,
+    };
+    let mut begins = Vec::with_capacity(alloc, numbers + 1)?;
+    'rows: for (offset, (first, _)) in rows.iter().enumerate() {
+        'numbers: while begins.len() <= *first as usize {
+            begins.push(offset as u16)?;
+        }
     }
-    Ok(list)
+    begins.push(rows.len() as u16)?;
+    Ok(begins)
 }
 
-// Every entry at its pointer, where 16 bits do not hold one, or nothing.
-fn wide_entries(alloc: Global, size: usize, rows: &[(u32, u32)]) -> Result<Vec<u32>, AllocError>
-    requires { AreIndexRows size rows.now }
-    ensures { IfOk result (λ list. AreWide size rows.now list.items) }
+// The rows in memory of their own.
+fn copied(alloc: Global, rows: &[(u32, u32)]) -> Result<Vec<(u32, u32)>, AllocError>
+    ensures { IfOk result (λ same. same.items ≡ rows.now) }
 {
-    if are_narrow(rows) {
-        Ok(Vec::new(alloc))
-    } else {
-        entries(alloc, size, rows)
-    }
-}
-
-// Whether 16 bits hold each entry.
-fn are_narrow(rows: &[(u32, u32)]) -> bool
-    ensures { result ≡ list_all (λ row. nat_lt row.1 0x10000) rows.now }
-{
-    rows.iter().all(|(_, entry)| *entry < 0x10000)
-}
-
-// The entry at each pointer.
-fn entries(alloc: Global, size: usize, rows: &[(u32, u32)]) -> Result<Vec<u32>, AllocError>
-    requires { AreIndexRows size rows.now }
-    ensures { IfOk result (λ list. AreEntriesAt (λ entry. entry) size rows.now list.items) }
-{
-    let mut list = vec![in alloc; 0; size]?;
-    let mut at = rows.len();
-    'rows: while at > 0 {
-        at -= 1;
-        let (pointer, entry) = rows[at];
-        list[pointer as usize] = entry;
-    }
-    Ok(list)
+    let mut same = Vec::with_capacity(alloc, rows.len())?;
+    same.extend_from_slice(rows)?;
+    Ok(same)
 }

@@ -17,7 +17,6 @@ use crate::accept::{fault_of_flat, fault_of_rows};
 use crate::accept_ranges::bad_row;
 use crate::flat::Flat;
 use crate::index_kind::IndexKind;
-use crate::index_use::IndexUse;
 use crate::packed_index::PackedIndex;
 use crate::packed_ranges::PackedRanges;
 use crate::ranges::Ranges;
@@ -136,36 +135,10 @@ impl Tables {
         ensures rows { self.new.rows ≡ self.old.rows }
         ensures unchanged { OnErr result (self.new ≡ self.old) }
     {
-        self.insert_rows_for(kind, rows, IndexUse::Writing)
-    }
-
-    /// Takes the list of a kind by its rows, and keeps of it what the use wants (`IndexUse`): for
-    /// reading less memory is asked for, and each look-up by character walks through the list. What
-    /// look-ups return does not depend on it. Conditions and faults are those of
-    /// [`Tables::insert_rows`], which keeps the list for writing.
-    pub fn insert_rows_for(
-        &mut self,
-        kind: IndexKind,
-        rows: &[(u32, u32)],
-        purpose: IndexUse,
-    ) -> Result<(), TableFault>
-        requires listed { is_ranges kind ≡ false }
-        requires rise { PointersRise rows.now }
-        requires below { PointersAreBelow (index_size kind) rows.now }
-        ensures fault { MatchOption
-            (flat_fault (has self.old kind) kind (flat_list (index_size kind) rows.now))
-            ((result ≡ Ok tt) ⊎ (result ≡ Err TableFault.Memory)) (λ f. result ≡ Err f) }
-        ensures taken { OnOk result
-            (flat_of self.new kind ≡ Some (flat_list (index_size kind) rows.now)) }
-        ensures others { (other : IndexKind) → other ≢ kind
-            → flat_of self.new other ≡ flat_of self.old other }
-        ensures rows { self.new.rows ≡ self.old.rows }
-        ensures unchanged { OnErr result (self.new ≡ self.old) }
-    {
         if let Some(fault) = fault_of_rows(self.has(kind), kind, rows) {
             return Err(fault);
         }
-        match PackedIndex::from_rows(self.alloc, kind.size(), rows, purpose) {
+        match PackedIndex::from_rows(self.alloc, kind.size(), rows) {
             Ok(index) => {
                 self.flats[kind.slot()] = Some(index);
                 Ok(())

@@ -113,9 +113,8 @@ fn load_both<S: IndexSource>(
     ensures files { AddsFromFiles (S.holds source.old) (S.holds source.new) dir.now tables.old
         tables.new }
 {
-    let written = to.output_encoding();
-    load_indexes(alloc, source, dir, from, written, tables)?;
-    load_indexes(alloc, source, dir, written, written, tables)
+    load_indexes(alloc, source, dir, from, tables)?;
+    load_indexes(alloc, source, dir, to.output_encoding(), tables)
 }
 
 // How many elements each buffer of a conversion has.

@@ -7,8 +7,8 @@ ghost use Rattle.encoding_front.specs.Encodings.{IsReady};
 ghost use Rattle.recode.specs.Program.{AddsFromFiles, AreKept};
 
 use encoding_front::Encoding;
-use encoding_index::{IndexFaultKind, LoadFault, load_owned};
-use encoding_tables::{IndexKind, IndexUse, TableFault, Tables};
+use encoding_index::{IndexFaultKind, LoadFault, load};
+use encoding_tables::{IndexKind, TableFault, Tables};
 use std::alloc::{AllocError, Global};
 use std::io;
 use std::io::{ErrorKind, Read};
@@ -166,24 +166,12 @@ fn fault_of(file: &'static str, fault: &LoadFault) -> StartFault {
     }
 }
 
-// What an index is loaded for where text is written in this encoding. Encoders look no character
-// up in jis0212, nor in that of katakana, which they have by pointer (the Encoding Standard,
-// sections 12.1.2 and 12.2.2).
-fn use_of(kind: IndexKind, written: Encoding) -> IndexUse {
-    match kind {
-        IndexKind::Jis0212 | IndexKind::Iso2022JpKatakana => IndexUse::Reading,
-        _ if written.needs().contains(&kind) => IndexUse::Writing,
-        _ => IndexUse::Reading,
-    }
-}
-
 // Puts the index of a kind into the tables, from its file in the folder, if it is not there yet.
 fn load_index<S: IndexSource>(
     alloc: Global,
     source: &mut S,
     dir: &str,
     kind: IndexKind,
-    purpose: IndexUse,
     tables: &mut Tables,
 ) -> Result<(), StartFault>
     ensures there { OnOk result (has tables.new kind ≡ true) }
@@ -201,20 +189,19 @@ fn load_index<S: IndexSource>(
         Err(SourceFault::Missing) => return Err(StartFault::Missing { file }),
         Err(SourceFault::Memory) => return Err(StartFault::Memory),
     };
-    match load_owned(alloc, tables, kind, text, purpose) {
+    match load(alloc, tables, kind, &text) {
         Ok(()) => Ok(()),
         Err(fault) => Err(fault_of(file, &fault)),
     }
 }
 
 // Puts the indexes that the encoding needs into the tables, each once, in the order of `needs`, up
-// to the first that is missing or faulty. Text is written in the encoding `written`.
+// to the first that is missing or faulty.
 pub(crate) fn load_indexes<S: IndexSource>(
     alloc: Global,
     source: &mut S,
     dir: &str,
     encoding: Encoding,
-    written: Encoding,
     tables: &mut Tables,
 ) -> Result<(), StartFault>
     ensures there { OnOk result (IsReady tables.new encoding) }
@@ -224,7 +211,7 @@ pub(crate) fn load_indexes<S: IndexSource>(
 {
     let kinds = encoding.needs();
     for kind in kinds {
-        load_index(alloc, source, dir, *kind, use_of(*kind, written), tables)?;
+        load_index(alloc, source, dir, *kind, tables)?;
     }
     Ok(())
 }

@@ -5,7 +5,7 @@ use Rattle.encoding_tables.specs.laws.Kinds.{index-put, index-others, accepted-p
 use Rattle.encoding_tables.specs.Kinds.{index_size}
 use Rattle.encoding_tables.specs.PackedRows.{flat_list}
 use Rattle.encoding_tables.proofs.KindLemmas.{size_is_small}
-use Rattle.encoding_tables.proofs.tables.Tables.insert_rows_for.Goals as goal
+use Rattle.encoding_tables.proofs.tables.Tables.insert_rows.Goals as goal
 
 pub from_rows-requires-clause-small : goal.from_rows-requires-clause-small
 from_rows-requires-clause-small c = omega (arith, c.size.ensures, size_is_small c.args.kind)

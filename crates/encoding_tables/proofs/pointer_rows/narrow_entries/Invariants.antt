@@ -1,9 +1,0 @@
-use Rattle.std.proofs.Common.{◌≤◌, drop, length}
-use Rattle.encoding_tables.specs.PackedLists.{AreEntriesAt, narrow_entry}
-use Rattle.encoding_tables.proofs.pointer_rows.narrow_entries.Given as goal
-
-abbrev pub invariant-rows : goal.invariant-rows
-invariant-rows l = (l.at ≤ length l.rows) × AreEntriesAt narrow_entry l.size (drop l.at l.rows) l.list.items
-
-abbrev pub decreases-rows : goal.decreases-rows
-decreases-rows l = l.at
