@@ -14,7 +14,6 @@ mod encoder;
 #[cfg(test)]
 mod encoding;
 #[cfg(test)]
-mod index_files;
 #[cfg(test)]
 mod labels;
 #[cfg(test)]

@@ -357,15 +357,7 @@ impl<D: StreamDecoder, E: RawEncoder> Engine<D, E> {
         if read as u64 > limit - self.target.counts.read {
             return Err(Fault::TooLong);
         }
-        let chunk = &input[..read];
-        // Where the target has no folds, nothing is compared with the text, so it need not be in
-        // units: half of the output's room holds it as UTF-8, which most encoders read faster.
-        if self.target.verdict.by_log && pivot.is_wide() && output.len() >= 8 {
-            let (text, output) = output.split_at_mut(output.len() / 2);
-            self.decode_chunk(writers, chunk, &mut Pivot::Utf8(text), output, check)?;
-            return Ok(Progress::after(read));
-        }
-        self.decode_chunk(writers, chunk, pivot, output, check)?;
+        self.decode_chunk(writers, &input[..read], pivot, output, check)?;
         Ok(Progress::after(read))
     }
 }

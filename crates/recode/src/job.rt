@@ -80,9 +80,7 @@ impl<'t> Job<'t> {
 }
 
 /// Room for text on its way from the decoder to the encoder, in one of two forms. What is written
-/// is the same with each. Room in UTF-16 is used where the target has folds
-/// (`Encoding::keeps_characters` is false); elsewhere the text stands as UTF-8 in half of the
-/// output's room, if the output's room has 8 bytes or more.
+/// is the same with each.
 #[derive(Drop)]
 pub enum Pivot<'b> {
     /// Text in UTF-8, room in bytes.
@@ -99,7 +97,7 @@ pub struct Buffers<'b> {
     pub input: &'b mut [u8],
     /// The text on its way from the decoder to the encoder.
     pub pivot: Pivot<'b>,
-    /// What is written to the output, in bytes. Half of it may hold the text on its way.
+    /// What is written to the output, in bytes.
     pub output: &'b mut [u8],
     /// The text that the output is read back to, of the pivot's form.
     pub check: Pivot<'b>,

@@ -13,6 +13,7 @@
 #![tactic(auto)]
 
 pub mod command_line;
+mod index_file;
 mod system_files;
 
 pub use command_line::answer;

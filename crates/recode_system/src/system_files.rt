@@ -2,7 +2,8 @@
 
 ghost use Rattle.std.specs.Prelude.{None};
 
-use recode::{IndexSource, SourceFault, read_index_file};
+use crate::index_file::read_index_file;
+use recode::{IndexSource, SourceFault};
 use std::alloc::Global;
 use std::fs;
 use std::io::ErrorKind;

@@ -21,28 +21,11 @@ returns-in_err-decode_chunk-clause-fault g c = handed_on _ _ _ c.from_residual.e
     (omega (arith, c.in-Ok.ensures.bound.1, c.if-read-limit.false, c.requires.read))
     c.in_err-decode_chunk.ensures.err)
 
-pub returns-then-output-ge8-clause-more : goal.returns-then-output-ge8-clause-more
-returns-then-output-ge8-clause-more g c e =
+pub returns-clause-more : goal.returns-clause-more
+returns-clause-more g c e =
     let k = c.in_ok-decode_chunk.ensures in
     let some = c.after.ensures.more (ap (elim [ Ok p ↦ p | Err f ↦ More ]) e) in
     let on = ne_eqb (length (take c.in-Ok.read c.read.new.buf)) 0 (omega (arith, c.in-Ok.ensures.bound.1, some)) in
     steps_on _ _ _ _ _ _ _ c.in-Ok.ensures.bytes.0 k.read (omega (arith, c.in-Ok.ensures.bound.1, some))
     (omega (arith, k.read, c.in-Ok.ensures.bound.1, c.if-read-limit.false, c.requires.read)) c.decode_chunk.ensures.target refl
-    c.requires.sound on k.source k.pays (k.advances on) k.settled k.verdict k.calls
-
-pub returns-in_err-decode_chunk-2-clause-fault : goal.returns-in_err-decode_chunk-2-clause-fault
-returns-in_err-decode_chunk-2-clause-fault g c = handed_on _ _ _ c.from_residual-in_err-decode_chunk-2.ensures.1 (stops_under _ _ _ _ _ _ _
-    c.in-Ok.ensures.bytes.0
-    (λ h. c.in-Ok.ensures.bytes.1 (c.in-Ok.ensures.bound.1 ∙ eqb-true _ 0 h) (omega (arith, c.read.auto.buf, c.requires.input)))
-    (is_writing (Unit {0}) _ c.in_err-decode_chunk-2.ensures.failures.not_other)
-    (omega (arith, c.in-Ok.ensures.bound.1, c.if-read-limit.false, c.requires.read))
-    c.in_err-decode_chunk-2.ensures.err)
-
-pub returns-clause-more : goal.returns-clause-more
-returns-clause-more g c e =
-    let k = c.in_ok-decode_chunk-2.ensures in
-    let some = c.after-2.ensures.more (ap (elim [ Ok p ↦ p | Err f ↦ More ]) e) in
-    let on = ne_eqb (length (take c.in-Ok.read c.read.new.buf)) 0 (omega (arith, c.in-Ok.ensures.bound.1, some)) in
-    steps_on _ _ _ _ _ _ _ c.in-Ok.ensures.bytes.0 k.read (omega (arith, c.in-Ok.ensures.bound.1, some))
-    (omega (arith, k.read, c.in-Ok.ensures.bound.1, c.if-read-limit.false, c.requires.read)) c.decode_chunk-2.ensures.target refl
     c.requires.sound on k.source k.pays (k.advances on) k.settled k.verdict k.calls

@@ -1,7 +1,7 @@
 use Rattle.std.proofs.Common.{◌≡◌, ◌≤◌, ◌++◌, ◌+◌, ◌∙◌, ℕ, List, Option, Some, None, [], ap, arith, length, min, take}
 use Rattle.std.specs.Prelude.{IfSome, option_map}
 use Rattle.std.proofs.lemmas.List.{length-take, take_all}
-use Rattle.recode.proofs.indexes.read_index_file.Goals as goal
+use Rattle.recode_system.proofs.index_file.read_index_file.Goals as goal
 
 -- a prefix that is shorter than the limit is all
 all_of : (limit : ℕ) (items all : List ℕ) → items ≡ take limit all → length items + 1 ≤ limit → items ≡ all
