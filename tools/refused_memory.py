@@ -14,9 +14,8 @@ slices, asks for the room of all of them, and where that is refused it asks word
 
 `encoding_refusals` must print its stored output, with `refused, then` in one line, that of the call whose request was
 refused; it compares the tables itself, before and after. Each call must have been refused, but for those that take no
-memory. A load says whether memory was refused to the reader of the text or, behind all requests of that, to the
-tables; and for `load_owned`, before them, to the copy of the text that it is given. Where every request is refused
-those that take no memory have their result, and no other call has.
+memory. A load says whether memory was refused to the reader of the text or, after all requests of that, to the tables.
+Where every request is refused those that take no memory have their result, and no other call has.
 """
 
 import itertools
@@ -114,11 +113,11 @@ FAULTY = {"index-jis0208.txt": b"1\t0x3000\n0\t0x3001\n", "index-big5.txt": b"0\
 # The calls of `encoding_refusals` that take no memory.
 FREE = {"read_ranges of no rows", "decode_latin1 of ASCII", "encode_latin1_lossy of ASCII"}
 
-# Those that load a text, and the one of them that is given a copy.
-LOADS, OWNED = {"load", "load of ranges", "load beside others", "load_owned"}, "load_owned"
+# Those that load a text.
+LOADS = {"load", "load of ranges", "load beside others"}
 
-# What is printed where memory is refused to a call, and, of a load, to the tables and to the copy.
-REFUSED, TO_TABLES, TO_COPY = "refused", "refused to the tables", "refused to the copy"
+# What is printed where memory is refused to a call, and, of a load, to the tables.
+REFUSED, TO_TABLES = "refused", "refused to the tables"
 
 # Those that need an index: where every request is refused there is none.
 NEEDING = {"encode", "decode of windows-1252", "encode by what was loaded"}
@@ -187,7 +186,7 @@ def words_of(name):
     """What a call prints where its requests are refused, in their order: the same for one or more of them."""
     if name in FREE:
         return []
-    return [TO_COPY] * (name == OWNED) + [REFUSED] + [TO_TABLES] * (name in LOADS)
+    return [REFUSED] + [TO_TABLES] * (name in LOADS)
 
 
 def sweep_calls(allocator):

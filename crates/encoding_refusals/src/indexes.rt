@@ -2,9 +2,7 @@
 
 use crate::Ended;
 use anyhow::bail;
-use encoding_index::{
-    IndexFault, IndexFaultKind, LoadFault, load, load_owned, read_index, read_ranges,
-};
+use encoding_index::{IndexFault, IndexFaultKind, LoadFault, load, read_index, read_ranges};
 use encoding_tables::{IndexKind, TableFault, Tables};
 use std::alloc::Global;
 
@@ -76,7 +74,6 @@ pub(crate) enum Way {
     Rows,
     List,
     Text,
-    OwnedText,
 }
 
 // The entry at a pointer, of a list or of the ranges, where there is one.
@@ -197,20 +194,6 @@ fn ended_of_load(loaded: Result<(), LoadFault>) -> anyhow::Result<Ended> {
     }
 }
 
-// Loads a copy of a text, which the load lets go.
-fn load_copy(
-    alloc: Global,
-    tables: &mut Tables,
-    kind: IndexKind,
-    text: &[u8],
-) -> anyhow::Result<Ended> {
-    let mut copy = Vec::new(alloc);
-    if copy.extend_from_slice(text).is_err() {
-        return Ok(Ended::RefusedToCopy);
-    }
-    ended_of_load(load_owned(alloc, tables, kind, copy))
-}
-
 // Puts an index into the tables, and prints its entries at the pointers of its rows.
 pub(crate) fn insert_index(
     rt: HostRuntime,
@@ -225,7 +208,6 @@ pub(crate) fn insert_index(
         Way::Rows => ended_of(insert_rows(tables, *kind, rows))?,
         Way::List => ended_of(insert_list(tables, *kind, rows))?,
         Way::Text => ended_of_load(load(rt.alloc(), tables, *kind, text))?,
-        Way::OwnedText => load_copy(rt.alloc(), tables, *kind, text)?,
     };
     if let Ended::Well = ended {
         for (pointer, _) in *rows {

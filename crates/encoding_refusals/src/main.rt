@@ -24,8 +24,6 @@ enum Ended {
     Refused,
     // Memory was refused to the tables into which a text is loaded.
     RefusedToTables,
-    // Memory was refused for the copy of a text that a load takes.
-    RefusedToCopy,
     // An index that it needs is not in the tables, so it was not made.
     NoIndex,
 }
@@ -36,7 +34,6 @@ impl Ended {
         match self {
             Ended::Refused => Some(" refused"),
             Ended::RefusedToTables => Some(" refused to the tables"),
-            Ended::RefusedToCopy => Some(" refused to the copy"),
             Ended::Well | Ended::NoIndex => None,
         }
     }
@@ -99,7 +96,6 @@ const TEXTS: Round = &[
     ("load", Call::Insert(3, Way::Text)),
     ("load of ranges", Call::Insert(2, Way::Text)),
     ("load beside others", Call::Insert(1, Way::Text)),
-    ("load_owned", Call::Insert(0, Way::OwnedText)),
     ("encode by what was loaded", Call::Encode(WINDOWS_1252)),
 ];
 
