@@ -1,7 +1,7 @@
-//! Rows of an index in the order of their pointers, with a directory that names the one row in which a
-//! pointer can stand.
+//! Rows of an index in the order of their pointers, with a directory that names the one row in
+//! which a pointer can stand.
 
-ghost use Rattle.std.specs.Prelude.{◌≡◌, ◌+◌, ◌<◌, ◌≤◌, ◌^◌, List, ℕ, length, IfOk};
+ghost use Rattle.std.specs.Prelude.{◌≡◌, ◌<◌, ◌^◌, List, ℕ, length, IfOk};
 ghost use Rattle.encoding_tables.specs.PackedLists.{IsSecond};
 ghost use Rattle.encoding_tables.specs.PackedRows.{PointersAreBelow};
 ghost use Rattle.encoding_tables.specs.SortedRows.{AreRising, IsDirectory, IsTight};
@@ -49,9 +49,9 @@ impl PointerRows {
     }
 }
 
-// The second number of the row with this first number, or `None`. The rows before the place that the
-// directory names are below the number, and those from there on are not: so if a row has the number,
-// it is the one at this place, and the search tells whether that row is below the next number.
+// The second number of the row with this first number, or `None`. The rows before the place that
+// the directory names are below the number, and those from there on are not. So if a row has the
+// number, it is the one at this place, and the search tells whether it is below the next number.
 #[inline(always)]
 fn second_in(rows: &[(u32, u32)], begins: &[u16], first: u32) -> Option<u32>
     requires rising { AreRising rows.now }

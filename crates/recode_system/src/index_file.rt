@@ -21,8 +21,8 @@ const LARGEST_ROOM: usize = 2097152;
 
 // A vector with the first room. The largest is asked for before, and given back: a C library that
 // takes blocks of this size from the system, as glibc does, keeps them from then on, so that the
-// tables and the next file are written where the text was. A page that is new costs more than what
-// is written to it.
+// next file is read to where the first one's text was. A page that is new costs more than what is
+// written to it.
 fn empty_text(alloc: Global) -> Result<Vec<u8>, AllocError>
     ensures items { IfOk result (λ bytes. bytes.items ≡ []) }
     ensures len { IfOk result (λ bytes. vec_len bytes ≡ 0) }
@@ -56,7 +56,10 @@ impl<R: Read> Read for ShortReads<R> {
 /// All bytes that the reader gives. The error is `Missing` if a read fails or there are more than
 /// `GREATEST_INDEX_FILE` bytes, of which one more at most is read, and `Memory` if memory was
 /// refused.
-pub(crate) fn read_index_file<R: Read + Drop>(alloc: Global, reader: R) -> Result<Vec<u8>, SourceFault>
+pub(crate) fn read_index_file<R: Read + Drop>(
+    alloc: Global,
+    reader: R,
+) -> Result<Vec<u8>, SourceFault>
     ensures whole { IfOk result (λ bytes. IfSome (R.remaining reader) (λ all. bytes.items ≡ all)) }
     ensures size { IfOk result (λ bytes. vec_len bytes ≤ 2 ^ 24) }
 {
