@@ -3,10 +3,11 @@
 
     python3 tools/gate.py
 
-The programs run by a table of command lines (`command_lines.py`), on random inputs (`fuzz.py`), with memory refused
-(`refused_memory.py`), with hostile index texts (`hostile_indexes.py`) and on hostile streams (`hostile_streams.py`). What
-is stored is compared with what plain programs say (`stored.py`). Each of these steps counts as one more in the last line.
-Two of them run at a time, since the machine of the gate has two processors. The status is 0 where nothing failed.
+The programs run by a table of command lines (`command_lines.py`), on random inputs (`fuzz.py`), on a text that Python
+converts, too (`sample.py`), with memory refused (`refused_memory.py`), with hostile index texts (`hostile_indexes.py`)
+and on hostile streams (`hostile_streams.py`). What is stored is compared with what plain programs say (`stored.py`).
+Each of these steps counts as one more in the last line. Two of them run at a time, since the machine of the gate has
+two processors. The status is 0 where nothing failed.
 """
 
 import concurrent.futures
@@ -25,6 +26,7 @@ import fuzz
 import hostile_indexes
 import hostile_streams
 import refused_memory
+import sample
 import stored
 
 TOP = os.path.abspath(os.path.join(os.path.dirname(os.path.abspath(__file__)), ".."))
@@ -33,7 +35,7 @@ STEPS = [
     ("command lines", command_lines.faults),
     ("random inputs", fuzz.faults),
     ("stored output of encoding_index_files", stored.index_file_faults),
-    ("stored streams of recode_cli", stored.sample_faults),
+    ("a text in Shift_JIS", sample.faults),
     ("verdicts of single characters", stored.verdict_faults),
     ("refused memory", refused_memory.faults),
     ("hostile index texts", hostile_indexes.faults),

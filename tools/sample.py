@@ -1,16 +1,20 @@
 #!/usr/bin/env python3
-"""Writes the stored run of `recode_cli`, by the codec cp932 of Python: its files `stdin` and `stdout`, the log, and the
-index that it reads.
+"""Runs `recode` on a text in Shift_JIS with half a character in it.
 
-    python3 tools/sample.py crates/recode_cli
+    python3 tools/sample.py
 
-The input is a text in Shift_JIS with half a character in it; what must come of it is the text in UTF-8 with
-U+FFFD in that place, and the log. The index has the rows of `indexes/index-jis0208.txt` with characters of the
-text.
+The program is the one that `rt ci` or `rt run` has left in its `out/`. What must come of it is said by Python's codec
+cp932: the text in UTF-8 with U+FFFD in that place, a line of the log with the offset of the half, and status 1.
 """
 
 import os
+import subprocess
 import sys
+
+TOP = os.path.abspath(os.path.join(os.path.dirname(os.path.abspath(__file__)), ".."))
+PROGRAM = os.path.join(TOP, "crates/recode_cli/out/recode_cli")
+INDEXES = os.path.join(TOP, "indexes")
+WORDS = ["--from", "shift_jis", "--to", "utf-8", "--indexes", INDEXES]
 
 BEFORE = """毎朝歩く道に、古い本屋が一軒ある。店先の棚には『文字の歴史』という本が並び、値段は 500 円ではなく「五百円」
 と書いてある。ﾊﾝｶｸの札もあり、題名は "Kanji & Kana" のように英語の場合もある。店主は言う――「文字は、読まれて
@@ -24,25 +28,26 @@ AFTER = """
 「ソースの表を十分に能く見よ」で、終わりの点は残っていた。
 """
 
-INDEX = "index-jis0208.txt"
+
+def faults():
+    """What the program does wrong."""
+    before = BEFORE.encode("cp932")
+    given = before + HALF + AFTER.encode("cp932")
+    ran = subprocess.run([PROGRAM, *WORDS], input=given, capture_output=True, timeout=60, check=False)
+    wanted = {
+        "status": (ran.returncode, 1),
+        "output": (ran.stdout, (BEFORE + "\ufffd" + AFTER).encode("utf-8")),
+        "log": (ran.stderr, b"bad %d %d\n" % (len(before), len(HALF))),
+    }
+    return ["%s: %r and not %r" % (name, found, right) for name, (found, right) in wanted.items() if found != right]
 
 
-def is_needed(line):
-    """Whether a line of the index is a note, or a row with a character of the text."""
-    fields = line.split("\t")
-    return len(fields) < 2 or chr(int(fields[1], 16)) in BEFORE + AFTER
+def main():
+    wrong = faults()
+    for line in wrong:
+        print("WRONG", line)
+    return 1 if wrong else 0
 
 
-folder = sys.argv[1]
-before = BEFORE.encode("cp932")
-with open(f"{folder}/stdin", "wb") as file:
-    file.write(before + HALF + AFTER.encode("cp932"))
-with open(f"{folder}/stdout", "wb") as file:
-    file.write((BEFORE + "\ufffd" + AFTER).encode("utf-8"))
-with open(f"{folder}/data/log.txt", "w", encoding="ascii") as file:
-    file.write(f"bad {len(before)} {len(HALF)}\n")
-indexes = os.path.join(os.path.dirname(os.path.abspath(__file__)), "..", "indexes")
-with open(os.path.join(indexes, INDEX), encoding="utf-8") as file:
-    rows = [line for line in file if is_needed(line)]
-with open(f"{folder}/data/{INDEX}", "w", encoding="utf-8") as file:
-    file.writelines(rows)
+if __name__ == "__main__":
+    sys.exit(main())

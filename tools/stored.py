@@ -6,8 +6,6 @@ texts, so that no expected output was made from our own.
 
 - The stored output of `encoding_index_files`: `sequences.py` and `characters.py`, behind its first 34 lines, which have
   entries taken from standards and code pages by hand.
-- The stored run of `recode_cli`: `sample.py`, by the codec of Python for that text; and its log, which `rt ci` doesn't
-  see.
 - What a run tells of each character as a text of its own, of every one of the basic plane and of some above it, in the
   encodings that have folds and in some that have none: `characters.py` (`make verdicts` has every character).
 """
@@ -16,7 +14,6 @@ import itertools
 import os
 import subprocess
 import sys
-import tempfile
 
 sys.dont_write_bytecode = True
 
@@ -25,7 +22,6 @@ import sequences
 
 TOP = os.path.abspath(os.path.join(os.path.dirname(os.path.abspath(__file__)), ".."))
 INDEXES = os.path.join(TOP, "indexes")
-SAMPLE = os.path.join(TOP, "crates/recode_cli")
 VERDICTS = os.path.join(TOP, "crates/recode_cases/out/recode_cases")
 
 # The lines of `encoding_index_files` that were written by hand, one for each kind of index.
@@ -55,24 +51,6 @@ def index_file_faults():
     return difference("crates/encoding_index_files/stdout", stored, wanted)
 
 
-def sample_faults():
-    wrong = []
-    with tempfile.TemporaryDirectory() as folder:
-        os.mkdir(os.path.join(folder, "data"))
-        subprocess.run([sys.executable, os.path.join(TOP, "tools/sample.py"), folder], check=True)
-        for name in ("stdin", "stdout", "data/log.txt", "data/index-jis0208.txt"):
-            with open(os.path.join(folder, name), "rb") as file:
-                wanted = file.read()
-            with open(os.path.join(SAMPLE, name), "rb") as file:
-                wrong += difference("crates/recode_cli/" + name, file.read().split(b"\n"), wanted.split(b"\n"))
-    with open(os.path.join(SAMPLE, "stdin"), "rb") as given:
-        ran = subprocess.run(
-            [os.path.join(SAMPLE, "out/recode_cli"), *read("crates/recode_cli/args").split()],
-            cwd=os.path.join(SAMPLE, "data"), stdin=given, capture_output=True, text=True, timeout=60, check=False,
-        )
-    return wrong + difference("log of recode_cli", ran.stderr.split("\n"), read("crates/recode_cli/data/log.txt").split("\n"))
-
-
 def verdict_faults():
     if not os.path.isfile(VERDICTS):
         return ["%s was not built" % os.path.relpath(VERDICTS, TOP)]
@@ -84,7 +62,7 @@ def verdict_faults():
 
 
 def main():
-    wrong = [*sample_faults(), *verdict_faults(), *index_file_faults()]
+    wrong = [*verdict_faults(), *index_file_faults()]
     for line in wrong:
         print("WRONG", line)
     return 1 if wrong else 0
