@@ -90,7 +90,8 @@ pub enum Pivot<'b> {
 }
 
 /// The room that a step is lent. Sizes change how fast a conversion is, how many calls of devices
-/// it makes, and the count of calls of codecs (`Report::calls`), and nothing that is written.
+/// it makes, and the count of calls of codecs (`Report::calls`). They change nothing that is
+/// written by a run that ends well.
 #[derive(Drop)]
 pub struct Buffers<'b> {
     /// What is read from the input, in bytes.
