@@ -35,7 +35,7 @@ pub mod shift_jis;
 pub mod two_byte;
 
 pub use big5::{Big5Decoder, Big5Encoder};
-pub use encoding_mem::{DecoderResult, EncoderResult};
+pub use encoding_mem::{DecoderResult, EncoderResult, Reference};
 pub use euc_jp::{EucJpDecoder, EucJpEncoder};
 pub use euc_kr::{EucKrDecoder, EucKrEncoder};
 pub use gb18030_decoder::Gb18030Decoder;

@@ -45,7 +45,7 @@ pub mod user_defined_decoder;
 pub mod user_defined_encoder;
 pub mod utf16_decoder;
 
-pub use encoding_mem::{DecoderResult, EncoderResult};
+pub use encoding_mem::{DecoderResult, EncoderResult, Reference};
 pub use flat::Flat;
 pub use index_kind::IndexKind;
 pub use ranges::Ranges;
