@@ -1,6 +1,8 @@
 -- What a call of a decoder of a stream does.
-use Rattle.std.specs.Prelude.{◌≡◌, ℕ, ◌≤◌, Bool, IsTrue, Some, List, [], ◌++◌, drop}
+use Rattle.std.specs.Prelude.{◌≡◌, ℕ, ◌≤◌, Bool, IsTrue, Some, List, [], ◌++◌, drop, encode_utf8_all}
 use Rattle.encoding_mem.specs.Decoding.{StateLaw, EndsWith}
+use Rattle.encoding_mem.specs.TextDestination.{Overwrites}
+use Rattle.encoding_mem.specs.Writing.{Adds}
 use Rattle.encoding_mem.specs.declared.decoder_result.DecoderResult.{DecoderResult}
 use Rattle.encoding_mem.specs.declared.room.OutputUnit.{OutputUnit}
 use Rattle.encoding_front.specs.DecodedText.{TakesText, raw_result}
@@ -26,3 +28,15 @@ pub record TextCall (before after : DecoderView) (src : List ℕ) (last : Bool) 
 -- a fact, where as much room is free as is asked for the text of so many bytes
 abbrev pub IfRoomAsked : DecoderView → OutputUnit → (size free : ℕ) → Type 0 → Type 0
 IfRoomAsked v k size free P = (n : ℕ) → room_asked v.opening k size ≡ Some n → n ≤ free → P
+
+-- Where a call writes its text: a buffer of bytes or units, a buffer that is text before and after, a string.
+pub data Destination : Type 0 where
+  buffer : (encode : List ℕ → List ℕ) (old new : List ℕ) (written : ℕ) → Destination
+  text_buffer : (old new : List ℕ) (written : ℕ) → Destination
+  grown_string : (old new : List ℕ) → Destination
+
+-- the text was written there
+abbrev pub HasText : Destination → List ℕ → Type 0
+HasText (buffer encode old new written) text = Adds old 0 (encode text) new written
+HasText (text_buffer old new written) text = Overwrites old (encode_utf8_all text) new written
+HasText (grown_string old new) text = new ≡ old ++ encode_utf8_all text

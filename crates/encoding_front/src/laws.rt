@@ -14,13 +14,12 @@ ghost use Rattle.encoding_mem.specs.ReadCalls.{KeepsVerdict, NothingIsLost};
 ghost use Rattle.encoding_mem.specs.declared.encoder_result.EncoderResult.{EncoderResult};
 ghost use Rattle.encoding_mem.specs.ReadBack.{ReadsAs, ReadsBackExactly};
 ghost use Rattle.encoding_mem.specs.Steps.{IsBroken};
-ghost use Rattle.encoding_mem.specs.Writing.{Adds};
 ghost use Rattle.encoding_mem.specs.declared.decoder_result.DecoderResult.{DecoderResult};
 ghost use Rattle.encoding_mem.specs.declared.form.EscapeState.{EscapeState};
 ghost use Rattle.encoding_mem.specs.declared.form.EscapeState.TheVariants.{Ascii};
 ghost use Rattle.encoding_tables.specs.IndexLists.{AreAcceptedTables, IndexLists};
 ghost use Rattle.encoding_front.specs.Bounds.{ReportsItself};
-ghost use Rattle.encoding_front.specs.DecoderCall.{DecoderCall, TextCall};
+ghost use Rattle.encoding_front.specs.DecoderCall.{DecoderCall, Destination, HasText, TextCall};
 ghost use Rattle.encoding_front.specs.EncodingTable.{encoding_name};
 ghost use Rattle.encoding_front.specs.Encodings.{HasLabel, KeepsCharacters, coding_of, output_encoding_of, pieces_of};
 ghost use Rattle.encoding_front.specs.Encodings.{set_pieces_of};
@@ -145,20 +144,19 @@ pub fn input_is_its_pieces()
         → length (output ref (coding_of t to) (marked_text t mark from x)) ≤ 13 * length x + 3 }
 {}
 
-/// A call of a decoder, with any handling of marks, that read all has passed or reported each piece
-/// that ends three or more bytes before the end of what was read, whatever follows: one that stops
-/// at a malformed sequence, and one that writes U+FFFD for it.
+/// A call of a decoder, with any handling of marks and into any destination, that read all has
+/// passed or reported each piece that ends three or more bytes before the end of what was read,
+/// whatever follows: one that stops at a malformed sequence, and one that writes U+FFFD for it.
 pub fn pieces_are_passed_soon()
     ensures reported { (v v' : DecoderView) (src : List ℕ) (last : Bool) (read : ℕ)
-        → (encode : List ℕ → List ℕ) (old new : List ℕ) (written free room mark : ℕ)
-        → (call : DecoderCall v v' src last read (λ text. Adds old 0 (encode text) new written)
-        free room mark DecoderResult.InputEmpty)
+        → (there : Destination) (free room mark : ℕ)
+        → (call : DecoderCall v v' src last read (HasText there) free room mark
+        DecoderResult.InputEmpty)
         → TakesSoon v.state.pieces src last (v.state.pending + length src) call.law.taken }
     ensures replaced { (v v' : DecoderView) (src : List ℕ) (last : Bool) (read : ℕ)
-        → (encode : List ℕ → List ℕ) (old new : List ℕ) (written free room mark : ℕ)
-        → (had_errors : Bool)
-        → (call : TextCall v v' src last read (λ text. Adds old 0 (encode text) new written)
-        free room mark CoderResult.InputEmpty had_errors)
+        → (there : Destination) (free room mark : ℕ) (had_errors : Bool)
+        → (call : TextCall v v' src last read (HasText there) free room mark
+        CoderResult.InputEmpty had_errors)
         → TakesSoon v.state.pieces src last (v.state.pending + length src) call.law.taken }
 {}
 
