@@ -47,6 +47,13 @@ fn the_debug_text_names_the_encoding(rt: HostRuntime) -> Result<(), AllocError> 
     let tables = Tables::new(rt.alloc());
     let text = format!(in rt.alloc(); "{:?}", UTF_8.new_decoder(&tables))?;
     assert!(rt; text.contains("UTF-8"));
+    // Once a mark is read, the encoding that it names.
+    let mut decoder = UTF_8.new_decoder(&tables);
+    let mut room = [0; 8];
+    let answer = decoder.decode_to_utf8(b"\xFF\xFE", &mut room, false);
+    assert_eq!(rt; answer, (CoderResult::InputEmpty, 2, 0, false));
+    let text = format!(in rt.alloc(); "{:?}", decoder)?;
+    assert!(rt; text.contains("UTF-16LE"));
     let text = format!(in rt.alloc(); "{:?}", SHIFT_JIS)?;
     assert_eq!(rt; text.as_str(), "Shift_JIS");
     Ok(())
