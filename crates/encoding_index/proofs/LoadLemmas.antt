@@ -41,6 +41,7 @@ answers_memory (Some f) result refused = inr refused
 
 load_fault-text : (tables : IndexLists) (kind : IndexKind) (text : List ℕ) (fault : Option IndexFault) → text_fault kind text ≡ fault
     → load_fault tables kind text ≡ option_or (option_map Text fault) (option_map Table (table_fault tables kind text))
+unfolding load_fault
 load_fault-text tables kind text fault found = ap (λ o. option_or (option_map Text o) (option_map Table (table_fault tables kind text))) found
 
 -- the text was not read

@@ -27,8 +27,9 @@ table_fault tables kind text =
     if is_ranges kind then range_fault (is_some tables.rows) (text_rows text)
     else flat_fault (has tables kind) kind (text_list (index_size kind) text)
 
--- the first fault of a load: that of the text comes before that of the tables
-abbrev pub load_fault : IndexLists → IndexKind → List ℕ → Option LoadFault
+-- The first fault of a load: that of the text comes before that of the tables. It is no abbreviation, so that the
+-- proofs of callers show its name and do not read the text.
+unfoldable pub load_fault : IndexLists → IndexKind → List ℕ → Option LoadFault
 load_fault tables kind text = option_or (option_map Text (text_fault kind text)) (option_map Table (table_fault tables kind text))
 
 -- the tables have what the text stands for

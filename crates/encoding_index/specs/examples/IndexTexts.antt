@@ -114,30 +114,30 @@ unfoldable with_ibm866 : IndexLists
 with_ibm866 = record { flats = Some (replicate 128 0) ∷ []; rows = Some [] }
 
 ascii_entry : load_fault empty_tables Ibm866 (codes "0\t0x0041") ≡ Some (LoadFault.Table (Entry 0))
-unfolding is_skipped row_in row_fault empty_tables
+unfolding load_fault is_skipped row_in row_fault empty_tables
 ascii_entry = refl
 
 reserved_pointer : load_fault empty_tables Jis0208 (codes "8836\t0x4E00") ≡ Some (LoadFault.Table (Reserved 8836))
-unfolding is_skipped row_in row_fault empty_tables
+unfolding load_fault is_skipped row_in row_fault empty_tables
 reserved_pointer = refl
 
 good_load : load_fault empty_tables Ibm866 (codes "0\t0x0410") ≡ None
-unfolding is_skipped row_in row_fault empty_tables
+unfolding load_fault is_skipped row_in row_fault empty_tables
 good_load = refl
 
 second_load : load_fault with_ibm866 Ibm866 (codes "0\t0x0410") ≡ Some (LoadFault.Table Present)
-unfolding is_skipped row_in row_fault with_ibm866
+unfolding load_fault is_skipped row_in row_fault with_ibm866
 second_load = refl
 
 broken_second_load : load_fault with_ibm866 Ibm866 (codes "0\t0x41") ≡ Some (LoadFault.Text (record { line = 1; kind = Row }))
-unfolding is_skipped row_in row_fault with_ibm866
+unfolding load_fault is_skipped row_in row_fault with_ibm866
 broken_second_load = refl
 
 -- ranges: the second row gives a value that an earlier one has; then one that is there
 same_value_twice : load_fault empty_tables Gb18030Ranges (codes "0\t0x0080\n36\t0x0080") ≡ Some (LoadFault.Table (Ranges 1))
-unfolding is_skipped row_in row_fault empty_tables
+unfolding load_fault is_skipped row_in row_fault empty_tables
 same_value_twice = refl
 
 second_ranges : load_fault with_ibm866 Gb18030Ranges (codes "0\t0x0080") ≡ Some (LoadFault.Table Present)
-unfolding is_skipped row_in row_fault with_ibm866
+unfolding load_fault is_skipped row_in row_fault with_ibm866
 second_ranges = refl
