@@ -1,9 +1,9 @@
 -- The first fault, by positions. What is read of a text's lines, against its rows and its first fault.
-use Rattle.std.proofs.Common.{◌≡◌, ◌≢◌, ℕ, ◌+◌, List, [], ◌∷◌, ◌++◌, length, get_or, Option, None, Some, inl, inr, refl, sym, ap, subst, ◌∙◌, length-append, append_assoc, arith, ◌<◌, ◌≤◌, Bool, true, false, Result, Ok, Err}
+use Rattle.std.proofs.Common.{◌≡◌, ◌≢◌, ℕ, suc, ◌+◌, ◌-◌, take, List, [], ◌∷◌, ◌++◌, length, get_or, Option, None, Some, inl, inr, refl, sym, ap, subst, ◌∙◌, length-append, append_assoc, arith, ◌<◌, ◌≤◌, Bool, true, false, Result, Ok, Err}
 use Rattle.std.specs.Option.{MatchOption}
 use Rattle.std.proofs.lemmas.Bool.{cases_lt}
 use Rattle.std.proofs.Math.Seq.{take-append_seam, get_or-append_seam}
-use Rattle.encoding_index.specs.IndexText.{lines_in, rows_in, least_above, line_fault, first_fault_behind, first_fault, out_of_memory, row_fault}
+use Rattle.encoding_index.specs.IndexText.{lines_in, rows_in, rows_before_fault, least_above, line_fault, first_fault_behind, first_fault, out_of_memory, row_fault}
 use Rattle.encoding_index.specs.FaultLaws.{fault_at, NoneFaultyBefore, IsFirstFault, FaultsAreFirst}
 use Rattle.encoding_index.specs.declared.fault.IndexFault.{IndexFault}
 use Rattle.encoding_index.specs.declared.fault.IndexFaultKind.{IndexFaultKind}
@@ -119,9 +119,6 @@ row_fits size least row right = (grind (arith, nat_tests), grind (arith, nat_tes
 some_is_none : {A : Type 0} {x : A} → Some x ≡ None → ⊥
 some_is_none e = cc
 
-cons_is_none : {A : Type 0} {x : A} {xs : List A} → x ∷ xs ≡ [] → ⊥
-cons_is_none e = cc
-
 -- what a line is
 data LineCase (size least : ℕ) (line : List ℕ) : Type 0 where
   skips : is_skipped line ≡ true → line_fault size least line ≡ None → LineCase size least line
@@ -188,11 +185,62 @@ rows_read_is size least number (line ∷ after) none = elim (line_case size leas
   | gives row full right _ some low high ↦ rw (full, right, some) (ap (λ rows. row ∷ rows) (rows_read_is size (row.0 + 1) (number + 1) after (rw (full, right) at none)))
 ]
 
--- a row was read only of a text that has rows
-pub no_rows_read : (size least number : ℕ) (lines : List (List ℕ)) → rows_in lines ≡ [] → rows_read (outcomes size least number lines) ≡ []
-no_rows_read size least number [] none = refl
-no_rows_read size least number (line ∷ after) none = elim (line_case size least line) [
-  | skips skipped _ ↦ rw skipped (no_rows_read size least (number + 1) after (rw (row_in-skipped line skipped) at none))
-  | fails kind full wrong _ ↦ rw (full, wrong) refl
-  | gives row full right _ some low high ↦ absurd (cons_is_none (rw some at none))
+-- the lines before the fault, behind `number` others
+abbrev lines_before : ℕ → Option IndexFault → List (List ℕ) → List (List ℕ)
+lines_before number None lines = lines
+lines_before number (Some fault) lines = take (fault.line - (number + 1)) lines
+
+fault_is_behind : (size least number : ℕ) (lines : List (List ℕ)) (fault : IndexFault) → fault_in (outcomes size least number lines) ≡ Some fault → number < fault.line
+fault_is_behind size least number [] fault found = absurd cc
+fault_is_behind size least number (line ∷ after) fault found = elim (line_case size least line) [
+  | skips skipped _ ↦
+      let rest = fault_is_behind size least (number + 1) after fault (rw skipped at found) in
+      omega arith
+  | fails kind full wrong _ ↦
+      let same : Some (record { line = number + 1; kind = kind }) ≡ Some fault = rw (full, wrong) at found in
+      let first : number + 1 ≡ fault.line = cc in
+      omega arith
+  | gives row full right _ some low high ↦
+      let rest = fault_is_behind size (row.0 + 1) (number + 1) after fault (rw (full, right) at found) in
+      omega arith
 ]
+
+-- the first line is no faulty one
+one_line_more : (number : ℕ) (line : List ℕ) (after : List (List ℕ)) (found : Option IndexFault) → ((fault : IndexFault) → found ≡ Some fault → number + 1 < fault.line)
+    → lines_before number found (line ∷ after) ≡ line ∷ lines_before (number + 1) found after
+one_line_more number line after None later = refl
+one_line_more number line after (Some fault) later =
+    let low = later fault refl in
+    let same : fault.line - (number + 1) ≡ suc (fault.line - (number + 1 + 1)) = omega arith in
+    ap (λ n. take n (line ∷ after)) same
+
+no_line_more : (number : ℕ) (kind : IndexFaultKind) (lines : List (List ℕ)) → lines_before number (Some (record { line = number + 1; kind = kind })) lines ≡ []
+no_line_more number kind lines =
+    let none : number + 1 - (number + 1) ≡ 0 = omega arith in
+    ap (λ n. take n lines) none
+
+-- the rows that are read stand before the first fault
+rows_read_before : (size least number : ℕ) (lines : List (List ℕ)) → rows_read (outcomes size least number lines) ≡ rows_in (lines_before number (fault_in (outcomes size least number lines)) lines)
+rows_read_before size least number [] = refl
+rows_read_before size least number (line ∷ after) = elim (line_case size least line) [
+  | skips skipped _ ↦
+      let all = outcomes size least (number + 1) after in
+      let more = one_line_more number line after (fault_in all) (fault_is_behind size least (number + 1) after) in
+      rw (skipped, more, row_in-skipped line skipped) (rows_read_before size least (number + 1) after)
+  | fails kind full wrong _ ↦ rw (full, wrong, no_line_more number kind (line ∷ after)) refl
+  | gives row full right _ some low high ↦
+      let all = outcomes size (row.0 + 1) (number + 1) after in
+      let more = one_line_more number line after (fault_in all) (fault_is_behind size (row.0 + 1) (number + 1) after) in
+      rw (full, right, more, some) (ap (λ rows. row ∷ rows) (rows_read_before size (row.0 + 1) (number + 1) after))
+]
+
+before_is : (text : List ℕ) (found : Option IndexFault) → lines_before 0 found (lines_in text) ≡ elim found [ None ↦ lines_in text | Some fault ↦ take (fault.line - 1) (lines_in text) ]
+before_is text None = refl
+before_is text (Some fault) = refl
+
+pub rows_before_fault_is : (size : ℕ) (text : List ℕ) → rows_before_fault size text ≡ rows_read (outcomes size 0 0 (lines_in text))
+unfolding rows_before_fault
+rows_before_fault_is size text =
+    let lines = lines_in text in
+    let found = first_fault_is size 0 0 [] lines refl refl in
+    ap rows_in (sym (before_is text (first_fault size text)) ∙ ap (λ f. lines_before 0 f lines) found) ∙ sym (rows_read_before size 0 0 lines)

@@ -2,8 +2,8 @@
 -- come. A list that rows are written into, one after another. The entries of a list of rows.
 use Rattle.std.proofs.Common.{◌≡◌, ℕ, zero, suc, ◌+◌, List, [], ◌∷◌, None, refl, sym, subst, ◌∙◌, arith, ◌++◌, Some, Result, Ok, Err, ap, ◌≢◌, length, length-append, ◌<◌, ◌≤◌, eqb, cond, get_or, set, replicate, inl, inr, false}
 use Rattle.encoding_tables.specs.PackedRows.{PointersRise, PointersAreBelow, entry_at, flat_list}
-use Rattle.encoding_index.specs.IndexText.{lines_in, text_rows, first_fault, rows_in}
-use Rattle.encoding_index.proofs.FaultLemmas.{AreRising, first_fault_is, rows_rise, rows_read_is, fault_in, rows_read, no_rows_read}
+use Rattle.encoding_index.specs.IndexText.{lines_in, text_rows, first_fault, rows_before_fault, rows_in}
+use Rattle.encoding_index.proofs.FaultLemmas.{AreRising, first_fault_is, rows_rise, rows_read_is, fault_in, rows_read, rows_before_fault_is}
 use Rattle.std.proofs.lemmas.List.{append_assoc, append-nil, length-set, get_or-set_other, get_or-replicate, length-replicate}
 use Rattle.encoding_index.specs.laws.Outcomes.{outcomes}
 use Rattle.encoding_index.specs.declared.fault.IndexFault.{IndexFault}
@@ -58,11 +58,11 @@ pub gathering_turn : (all : List (Result (ℕ × ℕ) IndexFault)) (list : List 
     → IsGathering all list (Ok row ∷ left) → IsGathering all (list ++ row ∷ []) left
 gathering_turn all list row left h = record { same = append_assoc list (row ∷ []) (rows_read left) ∙ h.same; fault = h.fault }
 
--- a row is read only where the text has one
+-- a row that is read stands before the first fault
 pub gathering_has_rows : (size : ℕ) (text : List ℕ) (list : List (ℕ × ℕ)) (row : ℕ × ℕ) (left : List (Result (ℕ × ℕ) IndexFault))
-    → IsGathering (outcomes size 0 0 (lines_in text)) list (Ok row ∷ left) → text_rows text ≢ []
+    → IsGathering (outcomes size 0 0 (lines_in text)) list (Ok row ∷ left) → rows_before_fault size text ≢ []
 gathering_has_rows size text list row left h none =
-    let read : list ++ row ∷ rows_read left ≡ [] = h.same ∙ no_rows_read size 0 0 (lines_in text) none in
+    let read : list ++ row ∷ rows_read left ≡ [] = h.same ∙ sym (rows_before_fault_is size text) ∙ none in
     absurd (omega (arith, ap length read, length-append list (row ∷ rows_read left)))
 
 -- the fault is met

@@ -1,5 +1,5 @@
 -- A whole index text (the Encoding Standard, section 5, "Indexes"): its lines, its rows, its first fault, and the list that it stands for.
-use Rattle.std.specs.Prelude.{ℕ, ◌+◌, nat_eq, nat_lt, if◌then◌else◌, List, [], ◌∷◌, ◌++◌, length, drop, Option, Some, None}
+use Rattle.std.specs.Prelude.{ℕ, ◌+◌, ◌-◌, nat_eq, nat_lt, if◌then◌else◌, List, [], ◌∷◌, ◌++◌, length, take, drop, Option, Some, None}
 use Rattle.std.specs.List.{starts_with, filter_map, last_or}
 use Rattle.std.specs.Option.{option_map_or}
 use Rattle.std.specs.Str.Lines.{lines}
@@ -56,6 +56,15 @@ first_fault size text = first_fault_behind size [] (lines_in text)
 -- the rows of a text
 abbrev pub text_rows : List ℕ → List (ℕ × ℕ)
 text_rows text = rows_in (lines_in text)
+
+-- the lines before the first faulty one; all lines, if none is faulty
+abbrev pub lines_before_fault : ℕ → List ℕ → List (List ℕ)
+lines_before_fault size text =
+    elim (first_fault size text) [ None ↦ lines_in text | Some fault ↦ take (fault.line - 1) (lines_in text) ]
+
+-- The rows of these lines. It is no abbreviation, so that the proofs of callers show its name and do not read the text.
+unfoldable pub rows_before_fault : ℕ → List ℕ → List (ℕ × ℕ)
+rows_before_fault size text = rows_in (lines_before_fault size text)
 
 -- the list that a text stands for
 abbrev pub text_list : ℕ → List ℕ → List ℕ

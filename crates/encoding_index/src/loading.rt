@@ -4,8 +4,8 @@ ghost use Rattle.std.specs.Prelude.{◌≡◌, ◌⊎◌, ◌≢◌, false, Matc
 ghost use Rattle.std.specs.Prelude.{Ok, Err, Some, None, [], true};
 ghost use Rattle.encoding_tables.specs.Kinds.{is_ranges, index_size};
 ghost use Rattle.encoding_tables.specs.PackedRows.{PointersRise, PointersAreBelow};
-ghost use Rattle.encoding_index.specs.IndexText.{text_rows, out_of_memory};
-ghost use Rattle.encoding_index.specs.Loads.{text_fault, load_fault};
+ghost use Rattle.encoding_index.specs.IndexText.{rows_before_fault, text_rows, out_of_memory};
+ghost use Rattle.encoding_index.specs.Loads.{pointers_of, text_fault, load_fault};
 ghost use Rattle.encoding_index.specs.Loads.{Loads, KeepsOthers, WantsMemory};
 ghost use Rattle.encoding_index.specs.laws.Inserts.{rows_fault, HaveRows};
 
@@ -20,7 +20,8 @@ fn rows_of(alloc: Global, kind: IndexKind, text: &[u8]) -> Result<Vec<(u32, u32)
         × (rows.items ≡ text_rows text.now)) }
     ensures fault { IfErr result (λ fault. (text_fault kind text.now ≡ Some fault)
         ⊎ (fault ≡ out_of_memory)) }
-    ensures grows { text_rows text.now ≡ [] → result ≢ Err out_of_memory }
+    ensures grows { rows_before_fault (pointers_of kind) text.now ≡ []
+        → result ≢ Err out_of_memory }
 {
     if kind.is_ranges() {
         rows_below(alloc, text, RANGE_POINTERS)
@@ -53,7 +54,8 @@ fn insert(tables: &mut Tables, kind: IndexKind, rows: &[(u32, u32)]) -> Result<(
 /// The text is read whole before the tables are asked, so a faulty text is named also where the
 /// index is there already: the error is `Text`. Where the tables do not take the list or the rows,
 /// it is `Table`. Where memory was refused it is `Text` with line 0 while the text was read, and
-/// else `Table`. A text without rows is read without memory, and the ranges of no rows take none.
+/// else `Table`. A text with no row before its first faulty line is read without memory, and the
+/// ranges of no rows take none.
 pub fn load(
     alloc: Global,
     tables: &mut Tables,
@@ -63,7 +65,8 @@ pub fn load(
     ensures fault { MatchOption (load_fault tables.old kind text.now)
         ((result ≡ Ok tt) ⊎ WantsMemory result)
         (λ fault. (result ≡ Err fault) ⊎ (result ≡ Err (LoadFault.Text out_of_memory))) }
-    ensures grows { text_rows text.now ≡ [] → result ≢ Err (LoadFault.Text out_of_memory) }
+    ensures grows { rows_before_fault (pointers_of kind) text.now ≡ []
+        → result ≢ Err (LoadFault.Text out_of_memory) }
     ensures grows_ranges { is_ranges kind ≡ true → text_rows text.now ≡ []
         → result ≢ Err (LoadFault.Table TableFault.Memory) }
     ensures loaded { OnOk result (Loads tables.new kind text.now) }

@@ -2,7 +2,8 @@
 
 ghost use Rattle.std.specs.Prelude.{◌≡◌, ◌≢◌, ◌⊎◌, [], None, Some, IfOk, IfErr, false};
 ghost use Rattle.encoding_tables.specs.Kinds.{index_size, is_ranges};
-ghost use Rattle.encoding_index.specs.IndexText.{range_pointers, first_fault, text_list, text_rows, out_of_memory};
+ghost use Rattle.encoding_index.specs.IndexText.{range_pointers, first_fault, rows_before_fault, text_list, text_rows};
+ghost use Rattle.encoding_index.specs.IndexText.{out_of_memory};
 
 use crate::fault::IndexFault;
 use crate::rows::IndexRows;
@@ -35,8 +36,8 @@ pub fn read_index(alloc: Global, kind: IndexKind, text: &[u8]) -> Result<Vec<u32
 }
 
 /// Reads the text of the GB18030 ranges: returns its rows, each a pointer and a code point. It asks
-/// for memory at the first row, and at a row for which there is no room left: a text without rows
-/// asks for none.
+/// for memory at the first row, and at a row for which there is no room left. A text with no row
+/// before its first faulty line asks for none.
 ///
 /// The error is the fault of the first faulty line, or, with line 0, that memory was refused.
 pub fn read_ranges(alloc: Global, text: &[u8]) -> Result<Vec<(u32, u32)>, IndexFault>
@@ -44,7 +45,7 @@ pub fn read_ranges(alloc: Global, text: &[u8]) -> Result<Vec<(u32, u32)>, IndexF
         × (rows.items ≡ text_rows text.now)) }
     ensures fault { IfErr result (λ fault. (first_fault range_pointers text.now ≡ Some fault)
         ⊎ (fault ≡ out_of_memory)) }
-    ensures grows { text_rows text.now ≡ [] → result ≢ Err out_of_memory }
+    ensures grows { rows_before_fault range_pointers text.now ≡ [] → result ≢ Err out_of_memory }
 {
     rows_below(alloc, text, RANGE_POINTERS)
 }
@@ -64,7 +65,7 @@ pub(crate) fn rows_below(
         × (rows.items ≡ text_rows text.now)) }
     ensures fault { IfErr result (λ fault. (first_fault size text.now ≡ Some fault)
         ⊎ (fault ≡ out_of_memory)) }
-    ensures grows { text_rows text.now ≡ [] → result ≢ Err out_of_memory }
+    ensures grows { rows_before_fault size text.now ≡ [] → result ≢ Err out_of_memory }
 {
     let mut rows = Vec::new(alloc);
     for row in IndexRows::new(text, size) {

@@ -1,7 +1,7 @@
 -- Worked index texts.
 use Rattle.std.specs.Prelude.{◌≡◌, ℕ, List, [], ◌∷◌, ◌++◌, Option, Some, None, codes, refl, map, replicate}
 use Rattle.encoding_index.specs.IndexLine.{is_skipped, row_in}
-use Rattle.encoding_index.specs.IndexText.{row_fault, first_fault, text_rows, text_list, range_pointers, out_of_memory}
+use Rattle.encoding_index.specs.IndexText.{row_fault, first_fault, rows_before_fault, text_rows, text_list, range_pointers, out_of_memory}
 use Rattle.encoding_index.specs.declared.fault.IndexFault.{IndexFault}
 use Rattle.encoding_index.specs.declared.fault.IndexFaultKind.{IndexFaultKind}
 use Rattle.encoding_index.specs.declared.fault.IndexFaultKind.TheVariants.{Row, Order, Pointer, Memory}
@@ -96,6 +96,22 @@ last_pointer = refl
 no_tab : first_fault 128 (codes "0\t0x0080\n1 0x0081") ≡ fault_at 2 Row
 unfolding is_skipped row_in row_fault
 no_tab = refl
+
+-- the rows before the first faulty line: of a text with no rows, of texts whose first row is faulty or whose first line
+-- is no row, of texts with a good row and then a faulty one, and of one with no fault
+no_rows_come_first : map (λ (text : List ℕ). rows_before_fault 128 text) ([] ∷ codes "#\n\n" ∷ codes "128\t0x0080\n0\t0x0081" ∷ codes "#\n0 0x0080\n1\t0x0081" ∷ [])
+    ≡ [] ∷ [] ∷ [] ∷ [] ∷ []
+unfolding rows_before_fault is_skipped row_in row_fault
+no_rows_come_first = refl
+
+one_row_comes_first : map (λ (text : List ℕ). rows_before_fault 128 text) (codes "1\t0x0080\n0\t0x0081\n2\t0x0082" ∷ codes "#\n1\t0x0080\n\n128\t0x0081\n" ∷ [])
+    ≡ ((1, 0x80) ∷ []) ∷ ((1, 0x80) ∷ []) ∷ []
+unfolding rows_before_fault is_skipped row_in row_fault
+one_row_comes_first = refl
+
+all_rows_come_first : rows_before_fault 4 marked ≡ (0, 0xC0) ∷ (3, 0xFF) ∷ []
+unfolding rows_before_fault is_skipped row_in row_fault marked
+all_rows_come_first = refl
 
 -- out of memory has no line
 no_line : out_of_memory ≡ record { line = 0; kind = Memory }
