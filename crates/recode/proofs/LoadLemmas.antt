@@ -69,6 +69,7 @@ ended (Some f) result value Y ok (inr h) = cc
 
 pub load_met_no_fault : {T : Type 0} (old : IndexLists) (kind : IndexKind) (text : List ℕ) (result : Result T LoadFault) (value : T) (Y : Type 0) → result ≡ Ok value
     → MatchOption (load_fault old kind text) Y (λ f. (result ≡ Err f) ⊎ (result ≡ Err (Text out_of_memory))) → text_fault kind text ≡ None
+unfolding load_fault
 load_met_no_fault old kind text result value Y ok h =
     no_fault (text_fault kind text) (table_fault old kind text) (ended (load_fault old kind text) result value Y ok h)
 

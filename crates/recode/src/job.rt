@@ -92,6 +92,9 @@ pub enum Pivot<'b> {
 /// The room that a step is lent. Sizes change how fast a conversion is, how many calls of devices
 /// it makes, and the count of calls of codecs (`Report::calls`). They change nothing that is
 /// written by a run that ends well.
+///
+/// Each `Pivot` has to stand in a variable of its own before it is lent: the borrow checker refuses
+/// one that is made inside the braces of `Buffers`.
 #[derive(Drop)]
 pub struct Buffers<'b> {
     /// What is read from the input, in bytes.
