@@ -1,10 +1,41 @@
 -- What is done and returned for the words of the command line.
-use Rattle.std.specs.Prelude.{◌≡◌, ◌⊎◌, ℕ, List, Option, None}
-use Rattle.recode.specs.Program.{AnswersProgram, Devices, IsLeftAlone}
+use Rattle.std.specs.Prelude.{◌≡◌, ◌⊎◌, ⊤, ℕ, List, Option, None, ◌∷◌, [], All, Any, IfSome, codes}
+use Rattle.std.specs.Str.{IsUtf8}
+use Rattle.recode.specs.Program.{AnswersProgram, Devices, FailsToStart, IsLeftAlone}
+use Rattle.recode_system.specs.declared.command_line.Wordless.{Wordless}
+use Rattle.recode_system.specs.declared.command_line.Wordless.TheVariants.{NotUtf8, Memory}
 
--- There are no words that can be read, and nothing is read and nothing written but a message; or all is as
--- the program does and returns it for some words, where nothing is told of the files of indexes.
-abbrev pub AnswersSystem : {R W L : Type 0} → (R → Option (List ℕ)) → (W → Option (List ℕ)) → (L → Option (List ℕ)) → Devices R W L → Devices R W L → ℕ → Type 0
-AnswersSystem remaining contents logged before after status =
-    (((status ≡ 2) ⊎ (status ≡ 3)) × IsLeftAlone before after)
-    ⊎ ((words : List (List ℕ)) × AnswersProgram (λ dir file. None) remaining contents logged before after words status)
+-- a word is no text
+abbrev pub HasWordNotUtf8 : List (List ℕ) → Type 0
+HasWordNotUtf8 words = Any (λ word. ¬ (IsUtf8 word)) words
+
+-- why there are no words, where these are told; memory may be refused at any
+abbrev pub IsWhy : Option (List (List ℕ)) → Wordless → Type 0
+IsWhy told NotUtf8 = IfSome told HasWordNotUtf8
+IsWhy told Memory = ⊤
+
+-- the words of the program: where there is none, not even its name, the program has its own
+abbrev pub words_with_name : List (List ℕ) → List (List ℕ)
+words_with_name [] = codes "recode" ∷ []
+words_with_name (name ∷ words) = name ∷ words
+
+-- A word is no text: nothing is read, and nothing written but a message.
+pub record RefusesLine {R W L : Type 0} (told : Option (List (List ℕ))) (before after : Devices R W L) (status : ℕ) : Type 0 where
+  pub answered : status ≡ 2
+  pub refused : IfSome told HasWordNotUtf8
+  pub alone : IsLeftAlone before after
+
+-- Each word is a text, and all is as the program does and returns it for these words, in their order. They are those
+-- that are told, if they are; nothing is told of the files of indexes.
+pub record AnswersLine {R W L : Type 0} (told : Option (List (List ℕ))) (remaining : R → Option (List ℕ)) (contents : W → Option (List ℕ)) (logged : L → Option (List ℕ)) (before after : Devices R W L) (status : ℕ) : Type 0 where
+  pub words : List (List ℕ)
+  pub given : IfSome told (λ all. words ≡ all)
+  pub texts : All IsUtf8 words
+  pub answered : AnswersProgram (λ dir file. None) remaining contents logged before after (words_with_name words) status
+
+-- The words are refused, or the start fails, or they are answered.
+abbrev pub AnswersSystem : {R W L : Type 0} → Option (List (List ℕ)) → (R → Option (List ℕ)) → (W → Option (List ℕ)) → (L → Option (List ℕ)) → Devices R W L → Devices R W L → ℕ → Type 0
+AnswersSystem told remaining contents logged before after status =
+    RefusesLine told before after status
+    ⊎ (FailsToStart before after status
+    ⊎ AnswersLine told remaining contents logged before after status)

@@ -1,42 +1,56 @@
 //! The words of the command line, handed to the program.
 
-ghost use Rattle.std.specs.Prelude.{◌≡◌, ◌≤◌, ◌<◌, ◌^◌, ◌-◌};
+ghost use Rattle.std.specs.Prelude.{◌≡◌, ◌≤◌, ◌<◌, ◌^◌, ◌-◌, ℕ, List, Option, map};
+ghost use Rattle.std.specs.Prelude.{IfErr, IfOk, IfSome, None, length, string_bytes};
 ghost use Rattle.recode_log.specs.Counted.{failures_of};
-ghost use Rattle.recode.specs.Program.{devices};
-ghost use Rattle.recode_system.specs.CommandLine.{AnswersSystem};
+ghost use Rattle.recode.specs.Program.{AnswersProgram, devices};
+ghost use Rattle.recode_system.specs.CommandLine.{AnswersSystem, IsWhy, words_with_name};
 
 use crate::system_files::SystemFiles;
 use recode::{NOT_STARTED, REFUSED, program};
 use recode_log::counted::Counted;
 use recode_log::deliver::deliver;
 use std::alloc::{AllocError, Global};
-use std::env;
-use std::env::Env;
 use std::fs::Files;
-use std::io::{ErrorKind, Read, Write};
+use std::io::{Read, Write};
 
-// Why there are no words.
-enum Wordless {
+/// Why there are no words.
+#[derive(Clone, Copy, Debug, PartialEq, Eq)]
+pub enum Wordless {
+    /// A word is not UTF-8.
     NotUtf8,
+    /// Memory was refused.
     Memory,
 }
 
-// The words of the command line, the program's name first, if there is one.
-fn words_of<E: Env + AllocGlobal>(env: &E) -> Result<Vec<String>, Wordless> {
-    let collected: Result<Vec<String>, AllocError> = match env::args(env) {
-        Ok(words) => words.collect(env.alloc()),
-        Err(error) if error.kind() == ErrorKind::OutOfMemory => return Err(Wordless::Memory),
-        Err(_) => return Err(Wordless::NotUtf8),
-    };
-    match collected {
-        Ok(words) => Ok(words),
-        Err(_) => Err(Wordless::Memory),
-    }
+/// Where the words of the command line come from: what `answer` is given, so that it can be run
+/// without a system's. A type that has `Env` of std, as the runtime that `main` is given, is one,
+/// and tells nothing of its words.
+pub trait CommandLine {
+    /// The bytes of each word, the program's name first, where the command line tells them.
+    ghost told: { Self → Option (List (List ℕ)) };
+
+    /// The words, all of them and in their order. The error is `NotUtf8` where one is not UTF-8,
+    /// and `Memory` where memory was refused.
+    fn words(&self, alloc: Global) -> Result<Vec<String>, Wordless>
+        ensures words { IfOk result (λ words. IfSome (told self.now)
+            (λ all. map string_bytes words.items ≡ all)) }
+        ensures why { IfErr result (IsWhy (told self.now)) };
 }
 
-// The words as slices of text.
-fn slices<'a>(alloc: Global, words: &'a [String]) -> Result<Vec<&'a str>, AllocError> {
+// The words as slices of text, in their order.
+fn slices<'a>(alloc: Global, words: &'a [String]) -> Result<Vec<&'a str>, AllocError>
+    ensures { IfOk result (λ texts. map (λ s. s.now) texts.items ≡ map string_bytes words.now) }
+{
     words.iter().map(|word| word.as_str()).collect(alloc)
+}
+
+// The words, or the program's own name where there are none, not even a name.
+fn with_name<'a>(words: &'a [&'a str]) -> &'a [&'a str]
+    ensures some { 0 < length result.now }
+    ensures words { map (λ s. s.now) result.now ≡ words_with_name (map (λ s. s.now) words.now) }
+{
+    if words.is_empty() { &["recode"] } else { words }
 }
 
 // Writes a message; where that fails, the rest of it is dropped.
@@ -62,7 +76,7 @@ fn out_of_memory<L: Write>(log: &mut Counted<L>) -> u8
     NOT_STARTED
 }
 
-// Does what the words ask for. Where there are none, not even a name, the program has its own.
+// Does what the words ask for.
 fn answer_words<F: Files, R: Read, W: Write, L: Write>(
     alloc: Global,
     files: &F,
@@ -74,13 +88,13 @@ fn answer_words<F: Files, R: Read, W: Write, L: Write>(
     requires reader { failures_of reader.old ≤ 2 ^ 64 - 5 }
     requires writer { failures_of writer.old ≤ 2 ^ 64 - 5 }
     requires log { failures_of log.old ≤ 2 ^ 64 - 5 }
-    ensures { AnswersSystem R.remaining W.contents L.contents
-        (devices reader.old writer.old log.old) (devices reader.new writer.new log.new) result }
+    ensures { AnswersProgram (λ dir file. None) R.remaining W.contents L.contents
+        (devices reader.old writer.old log.old) (devices reader.new writer.new log.new)
+        (words_with_name (map (λ s. s.now) words.now)) result }
 {
-    let words = if words.is_empty() { &["recode"] } else { words };
     program(
         alloc,
-        words,
+        with_name(words),
         &mut SystemFiles::new(files),
         reader,
         writer,
@@ -89,15 +103,16 @@ fn answer_words<F: Files, R: Read, W: Write, L: Write>(
 }
 
 /// Does what the words of the command line ask for, as `recode::program` says, with the index files
-/// among `files`, and returns the exit status. Where there are no words, not even a name, the
-/// program has its own.
+/// among `files`, and returns the exit status, which is at most 4. The words are those that the
+/// command line tells, if it tells them. Where there are none, not even a name, the program has its
+/// own.
 ///
-/// It is 2 (`REFUSED`) with the message `recode: a word is not UTF-8` where one is not, and 3
-/// (`NOT_STARTED`) with `recode: out of memory` where memory for the words was refused. The
+/// The status is 2 (`REFUSED`) with the message `recode: a word is not UTF-8` where one is not, and
+/// 3 (`NOT_STARTED`) with `recode: out of memory` where memory for the words was refused. The
 /// condition, that at most 2^64 - 5 calls of each device have failed, is tested by
 /// `Counted::failures`.
-pub fn answer<E: Env + AllocGlobal, F: Files, R: Read, W: Write, L: Write>(
-    env: &E,
+pub fn answer<C: CommandLine + AllocGlobal, F: Files, R: Read, W: Write, L: Write>(
+    line: &C,
     files: &F,
     reader: &mut Counted<R>,
     writer: &mut Counted<W>,
@@ -106,16 +121,17 @@ pub fn answer<E: Env + AllocGlobal, F: Files, R: Read, W: Write, L: Write>(
     requires reader { failures_of reader.old ≤ 2 ^ 64 - 5 }
     requires writer { failures_of writer.old ≤ 2 ^ 64 - 5 }
     requires log { failures_of log.old ≤ 2 ^ 64 - 5 }
-    ensures { AnswersSystem R.remaining W.contents L.contents
+    ensures answered { AnswersSystem (C.told line.now) R.remaining W.contents L.contents
         (devices reader.old writer.old log.old) (devices reader.new writer.new log.new) result }
+    ensures status { result ≤ 4 }
 {
-    let owned = match words_of(env) {
+    let owned = match line.words(line.alloc()) {
         Ok(owned) => owned,
         Err(Wordless::NotUtf8) => return refuse(log),
         Err(Wordless::Memory) => return out_of_memory(log),
     };
-    match slices(env.alloc(), owned.as_slice()) {
-        Ok(words) => answer_words(env.alloc(), files, words.as_slice(), reader, writer, log),
+    match slices(line.alloc(), owned.as_slice()) {
+        Ok(words) => answer_words(line.alloc(), files, words.as_slice(), reader, writer, log),
         Err(_) => out_of_memory(log),
     }
 }

@@ -1,5 +1,5 @@
 //! What the program `recode` takes from the system: the words of the command line, and the files of
-//! indexes. `answer` is all of `main` but the standard streams.
+//! indexes. `answer` is all of `main` but the standard streams; a `CommandLine` gives it the words.
 //!
 //! # Use
 //!
@@ -15,5 +15,6 @@
 pub mod command_line;
 mod index_file;
 mod system_files;
+mod system_words;
 
-pub use command_line::answer;
+pub use command_line::{CommandLine, Wordless, answer};

@@ -1,13 +1,20 @@
 //! The index files of the system.
 
-ghost use Rattle.std.specs.Prelude.{None};
+ghost use Rattle.std.specs.Prelude.{◌≡◌, ◌++◌, IfOk, None, codes, string_bytes};
 
 use crate::index_file::read_index_file;
 use recode::{IndexSource, SourceFault};
-use std::alloc::Global;
+use std::alloc::{AllocError, Global};
 use std::fs;
 use std::io::ErrorKind;
 use std::rt::Files;
+
+// The path of a file in a folder.
+fn path_of(alloc: Global, dir: &str, file: &str) -> Result<String, AllocError>
+    ensures { IfOk result (λ path. string_bytes path ≡ dir.now ++ codes "/" ++ file.now) }
+{
+    format!(in alloc; "{dir}/{file}")
+}
 
 // The files that a runtime reaches.
 #[derive(Drop)]
@@ -25,9 +32,8 @@ impl<'r, R: Files> IndexSource for SystemFiles<'r, R> {
     // What a file of the system holds is told by no contract of std.
     ghost holds = { λ _ _ _. None };
 
-    // Reads `DIR/FILE`.
     fn read_file(&mut self, alloc: Global, dir: &str, file: &str) -> Result<Vec<u8>, SourceFault> {
-        let Ok(path) = format!(in alloc; "{dir}/{file}") else {
+        let Ok(path) = path_of(alloc, dir, file) else {
             return Err(SourceFault::Memory);
         };
         match fs::open(self.runtime, path.as_str()) {
