@@ -5,21 +5,28 @@
 
 An edit's file is named after the function whose body it changes: `function`, or `Type-function` for a method. Of the
 functions that no edit changes it lists those that promise something: public ones, and methods of public traits, with a
-clause and a body that is not empty (a law has none).
+clause and a body that is not empty (a law has none). A table before them has the wrong bodies of tools/wrong_bodies.toml,
+each in plain words, with what shows that it is refused.
 """
 
 import collections
 import os
 import re
 import sys
+import tomllib
 
 TOP = os.path.abspath(os.path.join(os.path.dirname(os.path.abspath(__file__)), ".."))
 CRATES = os.path.join(TOP, "crates")
 PAGE = os.path.join(TOP, "docs", "reference", "edits.md")
+BODIES = os.path.join(TOP, "tools", "wrong_bodies.toml")
 
 HEAD = """# Wrong bodies
 
 Which edits change the body of which function, and which public functions no edit changes: their helpers may have edits, or there is hardly another body that the types allow. The gate has the prover refuse those in **bold** (`must-fail/`); `make edits` tries the others (`edits/`), and [EDITS.md](../EDITS.md) has its last run that was recorded, if there is one. Made by `tools/edits_table.py`.
+
+## By what is wrong
+
+Wrong bodies that this repository sets out to refuse, and which edits show that the prover refuses each; where a contract cannot speak of one, or of a part of it, the test that refuses it. `tools/wrong_bodies.toml` has the list.
 """
 
 # The folders of edits, and how those are marked that the gate tries.
@@ -70,8 +77,29 @@ def edits_of(crate):
     return edits
 
 
+def bodies():
+    """The wrong bodies of tools/wrong_bodies.toml, in its order."""
+    with open(BODIES, "rb") as file:
+        return tomllib.load(file)["bodies"]
+
+
+def mark_of(edit):
+    """How an edit, CRATE/NAME, is marked; none where there is no such file."""
+    crate, _, name = edit.partition("/")
+    marks = [mark for folder, mark in FOLDERS.items() if os.path.isfile(os.path.join(CRATES, crate, folder, name + ".edit"))]
+    return marks[0] if marks else None
+
+
+def bodies_table():
+    rows = ["| Wrong body | Edits | Tests |", "|---|---|---|"]
+    for body in bodies():
+        edits = ["{1}`{0}`{1}".format(edit, mark_of(edit) or "") for edit in body["edits"]]
+        rows.append("| %s | %s | %s |" % (body["name"], ", ".join(edits), body.get("tests", "")))
+    return "\n".join(rows)
+
+
 def page():
-    parts = [HEAD]
+    parts = [HEAD, bodies_table()]
     for crate in sorted(os.listdir(CRATES)):
         edits = edits_of(crate)
         if not edits:

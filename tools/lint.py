@@ -7,7 +7,8 @@
 - Lines of `src/` over 100 columns: no more than `tools/long_lines` says, and that number is today's, so it only falls.
 - `docs/DEFINITIONS.md` names each file of definitions, and no other, and says of each what it says of itself.
 - Each edit of `must-fail/` and `edits/` names a file, and each text that it replaces stands in it once.
-- `docs/reference/edits.md` is what `tools/edits_table.py` writes.
+- `docs/reference/edits.md` is what `tools/edits_table.py` writes, and each edit that `tools/wrong_bodies.toml` names is
+  there.
 - Each root file begins its code with the tactic that proofs are found by, and no handle is allowed.
 - Each public item of a library has a doc comment, and `docs/reference` is what `make doc` writes (`tools/reference.py`).
 - Each source file but a crate's root begins with a line that says what it is for (`//!`).
@@ -129,6 +130,15 @@ def edits():
             yield from edit_faults(path)
 
 
+def wrong_bodies():
+    for body in edits_table.bodies():
+        if not body["edits"]:
+            yield "tools/wrong_bodies.toml has no edit of: %s" % body["name"]
+        for edit in body["edits"]:
+            if edits_table.mark_of(edit) is None:
+                yield "tools/wrong_bodies.toml names %s, which is no edit" % edit
+
+
 def edits_page():
     if not os.path.isfile(edits_table.PAGE) or read(edits_table.PAGE) != edits_table.page():
         yield "docs/reference/edits.md is out of date: python3 tools/edits_table.py"
@@ -171,6 +181,7 @@ CHECKS = (
     unnamed_definitions,
     stale_definitions,
     edits,
+    wrong_bodies,
     edits_page,
     roots,
     first_lines,
