@@ -1,8 +1,9 @@
-//! The indexes of a file of cases, as lists and as rows.
+//! The indexes of a file of cases, as lists, as rows and as texts.
 
 use crate::kinds::kind_of;
 use crate::words::{decimal, hexadecimal};
 use anyhow::{Context, bail, ensure};
+use encoding_index::load;
 use encoding_tables::{IndexKind, TableFault, Tables};
 use std::alloc::Global;
 
@@ -82,21 +83,39 @@ pub fn insert_rows(
     Ok(tables.insert_rows(kind, rows).err())
 }
 
-/// Puts words as `jis0208 422=30CF` into tables, as a list or else as rows.
-pub fn put_index(
-    alloc: Global,
-    tables: &mut Tables,
-    is_list: bool,
-    words: &str,
-) -> anyhow::Result<()> {
+/// How an index is put into tables.
+#[derive(Clone, Copy, PartialEq, Eq)]
+pub enum Way {
+    List,
+    Rows,
+    Text,
+}
+
+// The text with a line for each of these rows.
+pub(crate) fn text_of_rows(alloc: Global, words: &str) -> anyhow::Result<Vec<u8>> {
+    let mut text = String::new(alloc);
+    for (pointer, entry) in rows_of(alloc, words)?.iter() {
+        writeln!(text, "{pointer}\t0x{entry:04X}")?;
+    }
+    Ok(Vec::from_slice(alloc, text.as_bytes())?)
+}
+
+/// Puts words as `jis0208 422=30CF` into tables.
+pub fn put_index(alloc: Global, tables: &mut Tables, way: Way, words: &str) -> anyhow::Result<()> {
     let (name, words) = words.split_once(' ').unwrap_or((words, ""));
     let kind = kind_of(name)?;
-    let rows = rows_of(alloc, words)?;
-    let fault = if is_list {
-        insert_list(alloc, tables, kind, kind.size(), rows.as_slice())?
+    let is_put = if way == Way::Text {
+        let text = text_of_rows(alloc, words)?;
+        load(alloc, tables, kind, text.as_slice()).is_ok()
     } else {
-        insert_rows(tables, kind, rows.as_slice())?
+        let rows = rows_of(alloc, words)?;
+        let fault = if way == Way::List {
+            insert_list(alloc, tables, kind, kind.size(), rows.as_slice())?
+        } else {
+            insert_rows(tables, kind, rows.as_slice())?
+        };
+        fault.is_none()
     };
-    ensure!(fault.is_none(), "an index is refused");
+    ensure!(is_put, "an index is refused");
     Ok(())
 }

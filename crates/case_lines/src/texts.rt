@@ -1,7 +1,7 @@
 //! Index texts that are read.
 
 use crate::faults::fault_of;
-use crate::indexes::rows_of;
+use crate::indexes::{rows_of, text_of_rows};
 use crate::kinds::kind_of;
 use crate::report::Report;
 use crate::words::{first_word, halves, unescaped};
@@ -15,13 +15,7 @@ pub(crate) fn text_of(alloc: Global, words: &str) -> anyhow::Result<Vec<u8>> {
     let (form, rest) = first_word(words);
     match form {
         "text" => unescaped(alloc, rest),
-        "text-of" => {
-            let mut text = String::new(alloc);
-            for (pointer, entry) in rows_of(alloc, rest)?.iter() {
-                writeln!(text, "{pointer}\t0x{entry:04X}")?;
-            }
-            Ok(Vec::from_slice(alloc, text.as_bytes())?)
-        }
+        "text-of" => text_of_rows(alloc, rest),
         _ => bail!("a text is not given"),
     }
 }

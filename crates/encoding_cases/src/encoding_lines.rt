@@ -9,7 +9,7 @@ use case_lines::words::{add_bytes, decimal, halves, scalar, unescaped};
 use encoding_calls::call_lines::number_or_none;
 use encoding_calls::names::encoding_of;
 use encoding_front::{Encoding, Reference, write_reference};
-use encoding_tables::Tables;
+use encoding_tables::{SingleByteDecoder, Tables};
 
 fn name_of(encoding: Option<Encoding>) -> &'static str {
     match encoding {
@@ -112,6 +112,28 @@ fn check_prefixes(
         report.compare(rt, "a prefix", &length, &expected)?;
     }
     Ok(())
+}
+
+// Words as `windows-1252 41E980 -> 2`: how many of these bytes are Latin1 to the decoder of a
+// single-byte encoding itself.
+fn check_latin1(
+    rt: &(impl Print + AllocGlobal),
+    tables: &Tables,
+    words: &str,
+    report: &mut Report,
+) -> anyhow::Result<()> {
+    let (asked, told) = halves(words)?;
+    let (name, word) = asked.split_once(' ').context("a word is missing")?;
+    let mut bytes = Vec::new(rt.alloc());
+    add_bytes(word, &mut bytes)?;
+    match encoding_of(name)?.needs() {
+        [kind] if kind.is_single_byte() && tables.has(*kind) => {
+            let decoder = SingleByteDecoder::new(tables, *kind);
+            let found = decoder.latin1_byte_compatible_up_to(bytes.as_slice());
+            report.compare(rt, "latin1", &found, &decimal(told)?)
+        }
+        _ => report.differs(rt, "no index of a single-byte encoding is there"),
+    }
 }
 
 // What a reference is, and whether what stands behind it stays.
@@ -236,6 +258,7 @@ pub(crate) fn check_saying(
         "bom" => check_bom(rt, words, report)?,
         "encoding" => check_encoding(rt, words, report)?,
         "prefixes" => check_prefixes(rt, words, report)?,
+        "latin1" => check_latin1(rt, tables, words, report)?,
         "reference" => check_reference(rt, words, report)?,
         "ready" => check_ready(rt, tables, words, report)?,
         "rooms" => check_rooms(rt, tables, words, report)?,

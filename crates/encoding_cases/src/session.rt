@@ -7,7 +7,7 @@ use crate::encoding_lines::check_saying;
 use crate::streams::{MarkedStream, check_marked};
 use anyhow::{Context, ensure};
 use case_lines::file::Lines;
-use case_lines::indexes::{insert_rows, put_index, rows_of};
+use case_lines::indexes::{Way, insert_rows, put_index, rows_of};
 use case_lines::report::Report;
 use case_lines::words::first_word;
 use encoding_calls::call_lines::{CallLine, ask_of};
@@ -69,8 +69,9 @@ impl Session {
         let alloc = rt.alloc();
         match word {
             "tables" => self.tables = Tables::new(alloc),
-            "index" => put_index(alloc, &mut self.tables, true, words)?,
-            "rows" => put_index(alloc, &mut self.tables, false, words)?,
+            "index" => put_index(alloc, &mut self.tables, Way::List, words)?,
+            "rows" => put_index(alloc, &mut self.tables, Way::Rows, words)?,
+            "text" => put_index(alloc, &mut self.tables, Way::Text, words)?,
             "ranges" => {
                 let rows = rows_of(alloc, words)?;
                 let kind = IndexKind::Gb18030Ranges;
