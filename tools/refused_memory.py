@@ -111,7 +111,17 @@ LINES = [
 FAULTY = {"index-jis0208.txt": b"1\t0x3000\n0\t0x3001\n", "index-big5.txt": b"0\t0x3000\n1\t0x0041\n"}
 
 # The calls of `encoding_refusals` that take no memory.
-FREE = {"read_ranges of no rows", "decode_latin1 of ASCII", "encode_latin1_lossy of ASCII"}
+FREE = {
+    "read_ranges of no rows",
+    "read_ranges of a faulty pointer",
+    "read_ranges of a faulty row",
+    "load of a faulty pointer",
+    "load of a faulty row",
+    "load of ranges with a faulty pointer",
+    "load of ranges with a faulty row",
+    "decode_latin1 of ASCII",
+    "encode_latin1_lossy of ASCII",
+}
 
 # Those that load a text.
 LOADS = {"load", "load of ranges", "load beside others"}

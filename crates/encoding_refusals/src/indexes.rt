@@ -26,6 +26,12 @@ pub(crate) const MACINTOSH_TEXT: &[u8] = b"\
 // A text for an index of 128 entries, whose first row has a pointer that is not below 128.
 pub(crate) const FAULTY_TEXT: &[u8] = b"# faulty\n128\t0x00C4\n";
 
+// A text whose first row has a pointer behind the last of the ranges.
+pub(crate) const FAULTY_RANGES_TEXT: &[u8] = b"1237576\t0x0080\n";
+
+// A text whose first row has no tab.
+pub(crate) const TEXT_WITHOUT_TAB: &[u8] = b"36 0x00A5\n";
+
 // The indexes that are put into tables, as rows and as the text that says the same.
 pub(crate) const INDEXES: &[(IndexKind, Rows, &[u8])] = &[
     (
@@ -194,6 +200,23 @@ fn ended_of_load(loaded: Result<(), LoadFault>) -> anyhow::Result<Ended> {
     }
 }
 
+// Loads a text that has a fault, and prints that.
+pub(crate) fn load_faulty(
+    rt: HostRuntime,
+    tables: &mut Tables,
+    kind: IndexKind,
+    text: &[u8],
+) -> anyhow::Result<Ended> {
+    match load(rt.alloc(), tables, kind, text) {
+        Ok(()) => bail!("a faulty text is loaded"),
+        Err(LoadFault::Text(fault)) if !is_memory(&fault) => {
+            print!(rt; " {fault}")?;
+            Ok(Ended::Well)
+        }
+        Err(fault) => ended_of_load(Err(fault)),
+    }
+}
+
 // Puts an index into the tables, and prints its entries at the pointers of its rows.
 pub(crate) fn insert_index(
     rt: HostRuntime,
@@ -238,12 +261,15 @@ pub(crate) fn print_list(rt: HostRuntime, text: &[u8]) -> anyhow::Result<Ended> 
     Ok(Ended::Well)
 }
 
-// Reads the text of ranges, and prints the rows.
+// Reads the text of ranges, and prints the rows, or its fault.
 pub(crate) fn print_ranges(rt: HostRuntime, text: &[u8]) -> anyhow::Result<Ended> {
     let rows = match read_ranges(rt.alloc(), text) {
         Ok(rows) => rows,
         Err(fault) if is_memory(&fault) => return Ok(Ended::Refused),
-        Err(fault) => bail!("another fault: {fault}"),
+        Err(fault) => {
+            print!(rt; " {fault}")?;
+            return Ok(Ended::Well);
+        }
     };
     for (pointer, code) in rows.iter() {
         print!(rt; " {pointer}={code:X}")?;

@@ -7,13 +7,13 @@ mod indexes;
 mod texts;
 
 use crate::indexes::{
-    FAULTY_TEXT, MACINTOSH_TEXT, RANGES_TEXT, Way, are_as_inserted, insert_index, print_list,
-    print_ranges,
+    FAULTY_RANGES_TEXT, FAULTY_TEXT, MACINTOSH_TEXT, RANGES_TEXT, TEXT_WITHOUT_TAB, Way,
+    are_as_inserted, insert_index, load_faulty, print_list, print_ranges,
 };
 use crate::texts::{Marks, print_decoded, print_encoded, print_latin1_bytes, print_latin1_text};
 use anyhow::bail;
 use encoding_front::{Encoding, UTF_8, WINDOWS_1252};
-use encoding_tables::Tables;
+use encoding_tables::{IndexKind, Tables};
 
 // How a call ended.
 #[derive(Clone, Copy)]
@@ -44,6 +44,8 @@ impl Ended {
 enum Call {
     // Puts the index with this offset in `INDEXES` into the tables.
     Insert(usize, Way),
+    // Loads a text that has a fault.
+    LoadFaulty(IndexKind, &'static [u8]),
     ReadIndex(&'static [u8]),
     ReadRanges(&'static [u8]),
     DecodeLatin1(&'static [u8]),
@@ -67,6 +69,14 @@ const LISTS: Round = &[
     ("read_index of a faulty text", Call::ReadIndex(FAULTY_TEXT)),
     ("read_ranges", Call::ReadRanges(RANGES_TEXT)),
     ("read_ranges of no rows", Call::ReadRanges(b"# none\n")),
+    (
+        "read_ranges of a faulty pointer",
+        Call::ReadRanges(FAULTY_RANGES_TEXT),
+    ),
+    (
+        "read_ranges of a faulty row",
+        Call::ReadRanges(TEXT_WITHOUT_TAB),
+    ),
     ("decode_latin1", Call::DecodeLatin1(b"caf\xE9")),
     ("decode_latin1 of ASCII", Call::DecodeLatin1(b"cafe")),
     ("encode_latin1_lossy", Call::EncodeLatin1("caf\u{E9}")),
@@ -93,6 +103,22 @@ const LISTS: Round = &[
 ];
 
 const TEXTS: Round = &[
+    (
+        "load of a faulty pointer",
+        Call::LoadFaulty(IndexKind::Macintosh, FAULTY_TEXT),
+    ),
+    (
+        "load of a faulty row",
+        Call::LoadFaulty(IndexKind::Macintosh, TEXT_WITHOUT_TAB),
+    ),
+    (
+        "load of ranges with a faulty pointer",
+        Call::LoadFaulty(IndexKind::Gb18030Ranges, FAULTY_RANGES_TEXT),
+    ),
+    (
+        "load of ranges with a faulty row",
+        Call::LoadFaulty(IndexKind::Gb18030Ranges, TEXT_WITHOUT_TAB),
+    ),
     ("load", Call::Insert(3, Way::Text)),
     ("load of ranges", Call::Insert(2, Way::Text)),
     ("load beside others", Call::Insert(1, Way::Text)),
@@ -104,6 +130,7 @@ impl Call {
     fn make(self, rt: HostRuntime, tables: &mut Tables) -> anyhow::Result<Ended> {
         match self {
             Call::Insert(offset, way) => insert_index(rt, tables, offset, way),
+            Call::LoadFaulty(kind, text) => load_faulty(rt, tables, kind, text),
             Call::ReadIndex(text) => print_list(rt, text),
             Call::ReadRanges(text) => print_ranges(rt, text),
             Call::DecodeLatin1(bytes) => print_latin1_text(rt, bytes),
