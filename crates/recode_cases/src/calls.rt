@@ -35,6 +35,8 @@ struct Call<'a> {
     asked: usize,
     // Whether the input is read.
     is_read: bool,
+    // How many bytes each read has room for, where that is said.
+    room: Option<usize>,
 }
 
 // Words as `1 8 error` or `1 2 nothing`: how many bytes a call of a writer takes, the call that
@@ -74,6 +76,7 @@ impl<'a> Call<'a> {
             is_log_whole: true,
             asked: 0,
             is_read: true,
+            room: None,
         };
         for item in items {
             call.take(alloc, item)?;
@@ -109,6 +112,7 @@ impl<'a> Call<'a> {
             }
             "full" => self.is_full = true,
             "unread" => self.is_read = false,
+            "room" => self.room = Some(decimal(rest)?),
             "writer" => self.writer = manners_of(rest)?,
             "log-writer" => self.log_manners = manners_of(rest)?,
             _ => bail!("what is said of a call is not known"),
@@ -125,6 +129,8 @@ struct Outcome {
     log: Vec<u8>,
     asked: usize,
     reads: usize,
+    // Whether each read has the room that is said.
+    has_room: bool,
 }
 
 fn call_program(alloc: Global, call: &Call<'_>) -> anyhow::Result<Outcome> {
@@ -153,12 +159,17 @@ fn call_program(alloc: Global, call: &Call<'_>) -> anyhow::Result<Outcome> {
         &mut writer,
         &mut log,
     );
+    let has_room = match call.room {
+        Some(room) => reader.get_ref().has_room(room),
+        None => true,
+    };
     Ok(Outcome {
         status,
         output: writer.into_inner().taken,
         log: log.into_inner().taken,
         asked: source.asked,
         reads: reader.get_ref().calls(),
+        has_room,
     })
 }
 
@@ -206,6 +217,9 @@ pub(crate) fn check_call(
     if status != call.status || asked != call.asked || (reads > 0) != call.is_read {
         let what = format!(in alloc; "status {status}, {asked} files, {reads} reads")?;
         report.differs(rt, what.as_str())?;
+    }
+    if !given.has_room {
+        report.differs(rt, "a read has another room")?;
     }
     Ok(())
 }

@@ -11,7 +11,7 @@ use recode_trials::sink::{Manners, WILLING};
 use recode_trials::source::Reads;
 use recode_trials::stops::{FLUSHES, check_cut_messages, check_flushes, check_stops};
 use recode_trials::trial::{
-    AT_ONCE, LEAST, LEAST_WIDE, Plan, ROOMY, SIZES, Setting, Sizes, WAYS, Way, recode,
+    AT_ONCE, LEAST, LEAST_WIDE, Plan, ROOMY, ROOMY_WIDE, SIZES, Setting, Sizes, WAYS, Way, recode,
 };
 use std::alloc::Global;
 
@@ -136,7 +136,7 @@ fn check_failing_calls(
     subject: Subject<'_>,
     report: &mut Report,
 ) -> anyhow::Result<()> {
-    for sizes in [LEAST, LEAST_WIDE, SHORT_OF_CHECK] {
+    for sizes in PIVOTS {
         for most in [1, usize::MAX] {
             let manners = Manners { most, ..WILLING };
             let plan = Plan {
@@ -258,14 +258,13 @@ fn check_rooms(
     Ok(())
 }
 
-// With one read, and large buffers of either kind of pivot.
+// With one read, and large buffers with either kind of pivot.
 fn check_once(
     rt: &(impl Print + AllocGlobal),
     subject: Subject<'_>,
     report: &mut Report,
 ) -> anyhow::Result<()> {
-    for is_wide in [false, true] {
-        let sizes = Sizes { is_wide, ..ROOMY };
+    for sizes in [ROOMY, ROOMY_WIDE] {
         check(rt, subject, &Plan { sizes, ..AT_ONCE }, report)?;
     }
     Ok(())

@@ -5,7 +5,9 @@ use case_lines::report::Report;
 use encoding_tables::Tables;
 use recode_trials::case::Head;
 use recode_trials::parts::{bytes_of, integer};
-use recode_trials::trial::{AT_ONCE, LEAST, LEAST_WIDE, Plan, ROOMY, Sizes, WAYS, recode};
+use recode_trials::trial::{
+    AT_ONCE, LEAST, LEAST_WIDE, Plan, ROOMY, ROOMY_WIDE, Sizes, WAYS, recode,
+};
 use std::alloc::Global;
 
 // What is converted, and by how many calls.
@@ -42,8 +44,7 @@ impl CodecCalls {
     // Buffers of either kind of pivot.
     fn sizes(&self) -> [Sizes; 2] {
         if self.at_once {
-            let is_wide = true;
-            [ROOMY, Sizes { is_wide, ..ROOMY }]
+            [ROOMY, ROOMY_WIDE]
         } else {
             [LEAST, LEAST_WIDE]
         }

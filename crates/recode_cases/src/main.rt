@@ -18,6 +18,7 @@ mod files;
 mod indexes;
 mod orders;
 mod program_lines;
+mod reads;
 mod session;
 mod steps;
 mod words;
@@ -29,7 +30,7 @@ use anyhow::Context;
 use case_lines::file::run_file;
 use std::{env, fs};
 
-const FILES: [&str; 16] = [
+const FILES: [&str; 17] = [
     "worked.txt",
     "counts.txt",
     "encodings.txt",
@@ -46,6 +47,7 @@ const FILES: [&str; 16] = [
     "orders.txt",
     "steps.txt",
     "codec-calls.txt",
+    "reads.txt",
 ];
 
 // The files of calls of the program, and of words and lines that it reads.

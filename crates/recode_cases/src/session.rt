@@ -4,6 +4,7 @@ use crate::checks::{check_case, check_nothing};
 use crate::codec_calls::{CodecCalls, check_codec_calls};
 use crate::indexes::{complete, load_index};
 use crate::orders::{Order, check_order};
+use crate::reads::{Reads, check_reads};
 use crate::steps::{Steps, check_steps};
 use anyhow::{Context, ensure};
 use case_lines::file::Lines;
@@ -96,6 +97,18 @@ impl Session {
         self.begin(rt.alloc(), calls.head, report)?;
         check_codec_calls(rt, &self.tables, &calls, report)
     }
+
+    fn reads(
+        &mut self,
+        rt: &impl AllocGlobal,
+        is_limit: bool,
+        words: &str,
+        report: &mut Report,
+    ) -> anyhow::Result<()> {
+        let reads = Reads::of(rt.alloc(), words, is_limit)?;
+        self.begin(rt.alloc(), reads.head, report)?;
+        check_reads(rt, &self.tables, &reads, report)
+    }
 }
 
 impl Lines for Session {
@@ -117,6 +130,7 @@ impl Lines for Session {
             "nothing" => self.nothing(rt, words, report),
             "order" => self.order(rt, words, report),
             "steps" => self.steps(rt, words, report),
+            "limit" | "room" => self.reads(rt, word == "limit", words, report),
             "calls" | "byte-calls" => self.codec_calls(rt, word == "calls", words, report),
             _ => self.convert(rt, line, report),
         }

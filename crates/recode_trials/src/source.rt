@@ -11,6 +11,8 @@ pub enum Reads {
     CutAt(usize),
     /// A read gives one byte.
     OneByOne,
+    /// A read gives one byte, and the last one comes again and again: there is no end.
+    Endless,
 }
 
 /// A reader over memory.
@@ -22,6 +24,8 @@ pub struct Source<'a> {
     calls: usize,
     fails_at: usize,
     kind: ErrorKind,
+    // The least and the greatest room of its calls.
+    rooms: (usize, usize),
     tape: &'a Tape,
 }
 
@@ -41,6 +45,7 @@ impl<'a> Source<'a> {
             calls: 0,
             fails_at,
             kind,
+            rooms: (usize::MAX, 0),
             tape,
         }
     }
@@ -50,12 +55,17 @@ impl<'a> Source<'a> {
         self.calls
     }
 
+    /// Whether each call had room for so many bytes.
+    pub fn has_room(&self, room: usize) -> bool {
+        self.calls == 0 || self.rooms == (room, room)
+    }
+
     // How many bytes the next read may give.
     fn most(&self) -> usize {
         match self.reads {
             Reads::CutAt(offset) if self.given < offset => offset - self.given,
             Reads::CutAt(_) => usize::MAX,
-            Reads::OneByOne => 1,
+            Reads::OneByOne | Reads::Endless => 1,
         }
     }
 }
@@ -64,13 +74,17 @@ impl<'a> Read for Source<'a> {
     fn read(&mut self, buf: &mut [u8]) -> io::Result<usize> {
         self.calls = self.calls.saturating_add(1);
         self.tape.add(Event::Call(Device::Reader))?;
+        let (least, greatest) = self.rooms;
+        self.rooms = (least.min(buf.len()), greatest.max(buf.len()));
         if self.calls == self.fails_at {
             return Err(io::Error::from(self.kind));
         }
         let count = self.most().min(self.rest.len()).min(buf.len());
         let (prefix, rest) = self.rest.split_at(count);
         buf[..count].copy_from_slice(prefix);
-        self.rest = rest;
+        if !matches!(self.reads, Reads::Endless) || !rest.is_empty() {
+            self.rest = rest;
+        }
         self.given = self.given.saturating_add(count);
         Ok(count)
     }

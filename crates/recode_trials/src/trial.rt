@@ -47,8 +47,14 @@ pub const ROOMY: Sizes = Sizes {
     is_wide: false,
 };
 
-/// The least buffers, of either kind of pivot, and large ones.
-pub const SIZES: [Sizes; 3] = [LEAST, LEAST_WIDE, ROOMY];
+/// Room for all of a small input, with pivots of UTF-16.
+pub const ROOMY_WIDE: Sizes = Sizes {
+    is_wide: true,
+    ..ROOMY
+};
+
+/// The least buffers and large ones, each with either kind of pivot.
+pub const SIZES: [Sizes; 4] = [LEAST, LEAST_WIDE, ROOMY, ROOMY_WIDE];
 
 /// What is called.
 #[derive(Clone, Copy, Debug)]
@@ -282,6 +288,16 @@ fn by_steps(
     bail!("a session does not end")
 }
 
+// The reader had all of the input buffer each time.
+fn lends_all(devices: &Devices<'_>, plan: &Plan) -> anyhow::Result<()> {
+    let room = plan.sizes.input;
+    ensure!(
+        devices.reader.get_ref().has_room(room),
+        "a read has another room than {room} bytes"
+    );
+    Ok(())
+}
+
 /// Converts in one of the two ways.
 pub fn recode(
     alloc: Global,
@@ -299,6 +315,7 @@ pub fn recode(
         Way::Run => by_run(&mut devices, job, &mut buffers)?,
         Way::Steps => by_steps(&mut devices, job, &mut buffers)?,
     };
+    lends_all(&devices, plan)?;
     Ok(devices.outcome(alloc, answer))
 }
 
@@ -334,5 +351,6 @@ pub fn status(
     let mut buffers = rooms.lend();
     let job = setting.job(tables);
     let answer = by_convert(&mut devices, job, &mut buffers)?;
+    lends_all(&devices, plan)?;
     Ok(devices.outcome(alloc, answer))
 }
