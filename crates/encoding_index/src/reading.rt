@@ -2,8 +2,8 @@
 
 ghost use Rattle.std.specs.Prelude.{◌≡◌, ◌≢◌, ◌⊎◌, [], None, Some, IfOk, IfErr, false};
 ghost use Rattle.encoding_tables.specs.Kinds.{index_size, is_ranges};
-ghost use Rattle.encoding_index.specs.IndexText.{range_pointers, first_fault, rows_before_fault, text_list, text_rows};
-ghost use Rattle.encoding_index.specs.IndexText.{out_of_memory};
+ghost use Rattle.encoding_index.specs.IndexText.{first_fault, range_pointers, rows_before_fault};
+ghost use Rattle.encoding_index.specs.IndexText.{text_list, text_rows, out_of_memory};
 
 use crate::fault::IndexFault;
 use crate::rows::IndexRows;

@@ -30,8 +30,9 @@ pub(crate) struct Reads {
 }
 
 impl Reads {
-    // Words as `3 utf-8 -> utf-8: "abcd" => "abc" | too long | 4 reads`. The number is the limit, with
-    // one byte a read; or else the length of the input buffer, and the limit is that of the input.
+    // Words as `3 utf-8 -> utf-8: "abcd" => "abc" | too long | 4 reads`. The number is the limit,
+    // with one byte a read; or else the length of the input buffer, with the length of the input as
+    // the limit.
     pub(crate) fn of(alloc: Global, words: &str, is_limit: bool) -> anyhow::Result<Self> {
         let (number, words) = words.split_once(' ').context("a number is missing")?;
         let number = decimal(number)?;
