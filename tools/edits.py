@@ -8,16 +8,25 @@ With a name, those of the crate whose names begin with it. Without crates, those
 and what came of it is written to docs/EDITS.md. N crates are tried at a time, two where nothing is said.
 
 In a copy of the repository for each crate, with what checks have kept in `out/`, its edits are made in rounds: of each
-function at most one edit in a round. A check then says of each function whether it is proved, and an edit is refused
-where a fact of its own function is not. A function that calls one that is not proved is not looked at: its edit comes
-into a later round. An edit that changes no function, as that of a constant, and one that no round shows refused, is
-tried alone: then the crate must not be proved. The status is 0 where all are refused.
+function at most one edit in a round. A check then says of each function whether it is proved, and of one that is not
+which goals are open. A function that calls one that is not proved is not looked at: its edit comes into a later round.
+An edit that changes no function, as that of a constant, and one that no round decides, is tried alone. An edit is
+
+- refused by the fact, if a goal of its own function is open that no answer is written for: a clause, a condition of a
+  call, a bound, an invariant. Of an edit that changes no function a goal of any function counts, and a row of `specs/`;
+- refused by a stale answer, if nothing but an answer fails, which was written for the right body. The answer may fail
+  because its goal is false now, or only because a step has another name or place: somebody has to look. First such an
+  edit is tried once more with the answers set aside that fail, and so is the right body: a goal that is open for the
+  edit alone refuses it by the fact, and goals that are open for both, or that may have a new name, say nothing;
+- let through, if the function is proved, with its answers or without them.
+
+The status is 0 if none is let through.
 """
 
 import argparse
+import collections
 import concurrent.futures
 import datetime
-import itertools
 import os
 import re
 import shutil
@@ -31,15 +40,37 @@ CRATES = os.path.join(TOP, "crates")
 
 PAGE = """# The edits that the gate leaves out
 
-`make edits` tried them on {commit} ({day}, {kit}): {refused} refused, {failed} not. It took {minutes} minutes, {jobs} crates at a time.
+`make edits` tried them on {commit} ({day}, {kit}): {refused} refused by the fact, {stale} by a stale answer, {through} let through. It took {minutes} minutes, {jobs} crates at a time.
+
+An edit is refused by the fact if a goal of the changed function is open that no answer is written for. It is refused by a stale answer if nothing but an answer fails, which was written for the right body, and the right body has the same open goals without that answer. The prover then does not tell whether the body is wrong or the answer alone, and somebody has to look; `tools/edits.py` says more.
 """
+
+STALE_ROWS = """
+## By a stale answer
+
+| Edit | Open without its answers |
+|---|---|
+{rows}
+"""
+
+# What may come of an edit.
+REFUSED, STALE, THROUGH = "refused", "by a stale answer", "LET THROUGH"
 
 FUNCTION = re.compile(r"^ *(?:pub(?:\([^)]*\))? )?fn (\w+)")
 # The type of a block of methods, behind the trait that it implements.
 BLOCK = re.compile(r"^(?:pub )?(?:impl|trait)\b(?:<.*?>)? (?:(\w+)(?:<.*?>)? for )?(\w+)")
 
-# How an error begins where a proof names what an edit took away, or rests on what was refused.
+# What a check says of a function; a note of an open goal stands before it.
+SAID = re.compile(r"fn \w+::(\S+): (.*)")
+GOAL = re.compile(r"note: src/.*it is not proved that .*?\(`([^`]+)`\)(.*)")
+FALSE = "values at which this goal is false"
+ERROR = re.compile(r"^\./(\S+?):\d+:\d+: error: (.*)", re.MULTILINE)
+# How an error begins where a definition names what an edit took away.
 NAMES = re.compile(r"has no field|is not in scope|has no `|was not admitted")
+# The goal whose answer an error is in, and one that is not there; an answer, which ends at an empty line.
+FAILING = re.compile(r"`([^`]+)`: ")
+GONE = re.compile(r"`goal\.([^`]+)`: module \S+ has no ")
+ANSWER = re.compile(r"pub (\S+) : goal\.")
 
 
 def read(path):
@@ -50,6 +81,64 @@ def read(path):
 def write(path, text):
     with open(path, "w", encoding="utf-8") as file:
         file.write(text)
+
+
+class Check:
+    """What a check said: of each function that it looked at the open goals, each with whether values were found at which
+    it is false; and the errors, by file."""
+
+    def __init__(self, said, is_proved):
+        self.is_proved, self.has_verdict = is_proved, is_proved or "logic=not-proved" in said
+        self.errors, self.goals, self.proved, goals = ERROR.findall(said), {}, set(), {}
+        for line in said.split("\n"):
+            goal, function = GOAL.match(line), SAID.match(line)
+            if goal:
+                goals[goal[1]] = FALSE in goal[2]
+            elif function:
+                path, word = function[1], function[2]
+                if word == "proved":
+                    self.proved.add(path)
+                if word in ("proved", "not proved") or "`search` did not prove" in word:
+                    self.goals[path] = goals
+                goals = {}
+
+    def own_errors(self, path):
+        return [error for file, error in self.errors if file.startswith(folder_of(path))]
+
+    def failing(self, path):
+        """The goals of a function whose answers fail; one without a name where an error is in none of them."""
+        return {found[1] if found else "" for found in map(FAILING.match, self.own_errors(path))}
+
+    def refusing(self, path):
+        """The open goals of a function that refuse its body."""
+        gone = {name for error in self.own_errors(path) for name in GONE.findall(error)}
+        return new_goals(self.goals.get(path, {}), {}, gone)
+
+
+def folder_of(path):
+    return "proofs/%s/" % path.replace("::", "/")
+
+
+def kind_of(goal):
+    """What a goal is of: `returns`, `loop`, `bounds` .."""
+    return re.split("[-_]", goal)[0]
+
+
+def new_goals(goals, right, gone):
+    """The open goals of a body that the right body does not have open, too; one without values at which it is false is left
+    out if it may be one of the right body's under a new name: if a goal of its kind is gone."""
+    gone = {kind_of(name) for name in gone}
+    return [
+        name
+        for name, is_false in goals.items()
+        if (is_false and not right.get(name)) or (name not in right and kind_of(name) not in gone)
+    ]
+
+
+def without(text, goals):
+    """A file of answers without those for these goals."""
+    parts = text.split("\n\n")
+    return "\n\n".join(part for part in parts if not (ANSWER.match(part) and ANSWER.match(part)[1] in goals))
 
 
 class Edit:
@@ -104,21 +193,6 @@ class Edit:
             texts[target] = text.replace(old, new)
         return texts
 
-    def is_shown(self, said):
-        """Whether the check says that a fact of the edit's own function is not proved: by an answer in its proof files that
-        does not hold, but for one that names what is no longer there, or by a note before the line of the function."""
-        lines = said.split("\n")
-        name = re.compile(r"fn \w+::%s: (?:not proved|no proof: .*`search` did not prove)" % re.escape(self.path))
-        place = next((place for place, line in enumerate(lines) if name.match(line)), None)
-        if place is None:
-            return False
-        own = "./proofs/%s/" % self.path.replace("::", "/")
-        errors = re.findall(r"^%s\S+: error: .*(?:\n .*)*" % re.escape(own), said, re.MULTILINE)
-        if not all(NAMES.search(error) for error in errors):
-            return True
-        before = itertools.takewhile(lambda line: not line.startswith("fn "), reversed(lines[:place]))
-        return any(line.startswith("note: ") and "it is not proved that" in line for line in before)
-
 
 def rounds_of(edits, folder):
     """The edits in rounds, each with its texts: of each function at most one edit in a round."""
@@ -138,51 +212,139 @@ def rounds_of(edits, folder):
     return rounds
 
 
-def said_of(folder, texts):
-    """What a check says in a crate's folder with these texts in place of its own, and whether the crate is proved."""
+def set_aside(folder, path, goals):
+    """The proof files of a function, by their paths, as they are without the answers for these goals; a file that is to go
+    has no text. Its loops keep their invariants."""
+    texts = {}
+    for name in (folder_of(path) + "Answers.antt", folder_of(path) + "Proof.antt"):
+        if os.path.isfile(os.path.join(folder, name)):
+            left = without(read(os.path.join(folder, name)), goals)
+            texts[name] = left if ANSWER.search(left) and "" not in goals else ""
+    return texts
+
+
+def checked(folder, texts, aside=None):
+    """A check in a crate's folder with these texts in place of its own, and with answers aside: of functions, for goals."""
+    texts = dict(texts)
+    for path, goals in (aside or {}).items():
+        texts |= set_aside(folder, path, goals)
     kept = {target: read(os.path.join(folder, target)) for target in texts}
     for target, text in texts.items():
         write(os.path.join(folder, target), text)
-    ran = subprocess.run(["rt", "check"], cwd=folder, stdout=subprocess.PIPE, stderr=subprocess.STDOUT, text=True, check=False)
+        if not text:
+            os.remove(os.path.join(folder, target))
+    out = {"stdout": subprocess.PIPE, "stderr": subprocess.STDOUT, "text": True}
+    ran = subprocess.run(["rt", "check"], cwd=folder, check=False, **out)
     for target, text in kept.items():
         write(os.path.join(folder, target), text)
-    return ran.stdout, ran.returncode == 0
+    return Check(ran.stdout, ran.returncode == 0)
 
 
-def tell(crate, edit, is_refused):
-    sys.stdout.write("%s/%s: %s\n" % (crate, edit.name, "refused" if is_refused else "NOT REFUSED"))
-    sys.stdout.flush()
+class Crate:
+    """A crate's copy, in which its edits are tried, and what came of each."""
 
+    def __init__(self, name, folder):
+        self.name, self.folder = name, folder
+        self.told, self.right = [], {}
 
-def left_of(crate, folder, edits):
-    """Tries edits of functions in rounds, and returns those that none has shown."""
-    is_shown = True
-    while edits and is_shown:
-        is_shown, left = False, []
-        for together, texts in rounds_of(edits, folder):
-            said, _ = said_of(folder, texts)
-            for edit in together:
-                if edit.is_shown(said):
-                    tell(crate, edit, True)
-                    is_shown = True
-                else:
-                    left.append(edit)
-        edits = left
-    return edits
+    def tell(self, edit, kind, goals=()):
+        self.told.append(("%s/%s" % (self.name, edit.name), kind, goals))
+        print("%s/%s: %s%s" % (self.name, edit.name, kind, " (%s)" % ", ".join(goals) if goals else ""), flush=True)
+
+    def try_all(self, edits):
+        left, stale = self.in_rounds([edit for edit in edits if edit.path])
+        self.without_answers(stale)
+        for edit in [edit for edit in edits if not edit.path] + left:
+            self.alone(edit)
+        return self.told
+
+    def in_rounds(self, edits):
+        """Tries edits of functions in rounds. Returns those that none decides, and those that nothing but an answer refuses,
+        each with the goals whose answers fail."""
+        is_decided, stale = True, {}
+        while edits and is_decided:
+            is_decided, left = False, []
+            for together, texts in rounds_of(edits, self.folder):
+                check = checked(self.folder, texts)
+                for edit in together:
+                    if check.refusing(edit.path):
+                        self.tell(edit, REFUSED, check.refusing(edit.path))
+                    elif edit.path in check.goals and check.failing(edit.path):
+                        stale[edit] = check.failing(edit.path)
+                    else:
+                        left.append(edit)
+                        continue
+                    is_decided = True
+            edits = left
+        return edits, stale
+
+    def without_answers(self, stale):
+        """Tries edits with the answers set aside that fail, in rounds."""
+        aside = collections.defaultdict(set)
+        for edit, goals in stale.items():
+            aside[edit.path] |= goals
+        self.look_at_right_bodies(aside)
+        edits, is_decided = list(stale), True
+        while edits and is_decided:
+            is_decided, left = False, []
+            for together, texts in rounds_of(edits, self.folder):
+                check = checked(self.folder, texts, {edit.path: stale[edit] for edit in together})
+                for edit in together:
+                    if edit.path in check.goals:
+                        self.compare(edit, check, {edit.path: stale[edit]})
+                        is_decided = True
+                    else:
+                        left.append(edit)
+            edits = left
+        for edit in edits:
+            self.tell(edit, STALE)
+
+    def look_at_right_bodies(self, aside):
+        """Finds the goals of functions that are open for the right body where answers are set aside."""
+        left, found = dict(aside), aside
+        while left and found:
+            check = checked(self.folder, {}, left)
+            found = [path for path in left if path in check.goals]
+            for path in found:
+                self.right.setdefault(path, {}).update(check.goals[path])
+                del left[path]
+
+    def compare(self, edit, check, aside):
+        """Tells what came of an edit by a check without these answers of functions."""
+        new, same = [], []
+        for path, answered in aside.items():
+            goals = check.goals.get(path, {})
+            new += new_goals(goals, self.right.get(path, {}), answered - set(goals))
+            same += goals or sorted(answered)
+        if all(path in check.proved for path in aside):
+            self.tell(edit, THROUGH)
+        else:
+            self.tell(edit, REFUSED if new else STALE, new or same)
+
+    def alone(self, edit):
+        """Tries an edit by itself, by all functions of the crate."""
+        texts = edit.made_in({}, self.folder)
+        if texts is None:
+            sys.exit("%s: a text that it replaces does not stand in its file once" % edit.name)
+        check = checked(self.folder, texts)
+        new = [name for path in check.goals for name in check.refusing(path)]
+        rows = {file for file, error in check.errors if file.startswith("specs/") and not NAMES.search(error)}
+        aside = {path: check.failing(path) for path in check.goals if check.failing(path)}
+        if check.is_proved or not check.has_verdict:
+            self.tell(edit, THROUGH, [] if check.is_proved else ["the check has no verdict"])
+        elif new or rows:
+            self.tell(edit, REFUSED, new or sorted(rows))
+        elif aside:
+            self.look_at_right_bodies(aside)
+            self.compare(edit, checked(self.folder, texts, aside), aside)
+        else:
+            self.tell(edit, STALE, sorted({file for file, _ in check.errors}))
 
 
 def edits_of(crate, kind):
     folder = os.path.join(CRATES, crate, kind)
     names = sorted(os.listdir(folder)) if os.path.isdir(folder) else []
     return [Edit(os.path.join(folder, name), os.path.join(CRATES, crate)) for name in names if name.endswith(".edit")]
-
-
-def is_refused_alone(folder, edit):
-    texts = edit.made_in({}, folder)
-    if texts is None:
-        sys.exit("%s: a text that it replaces does not stand in its file once" % edit.name)
-    said, is_proved = said_of(folder, texts)
-    return not is_proved and "logic=not-proved" in said
 
 
 def below(crate):
@@ -205,16 +367,9 @@ def copy_for(crate, work):
 
 
 def try_crate(crate, edits):
-    """How many of these edits are not refused, by checks of the whole crate in a copy."""
+    """What came of these edits, by checks of the whole crate in a copy."""
     with tempfile.TemporaryDirectory() as work:
-        folder = copy_for(crate, work)
-        single, failed = [edit for edit in edits if not edit.path], 0
-        single += left_of(crate, folder, [edit for edit in edits if edit.path])
-        for edit in single:
-            is_refused = is_refused_alone(folder, edit)
-            tell(crate, edit, is_refused)
-            failed += not is_refused
-        return failed
+        return Crate(crate, copy_for(crate, work)).try_all(edits)
 
 
 def said(*words):
@@ -244,17 +399,20 @@ def main():
         sys.exit("there are changes that no commit has")
     crates, start = chosen("must-fail" if given.gate else "edits", given.names), time.time()
     with concurrent.futures.ThreadPoolExecutor(given.jobs) as pool:
-        failed = sum(pool.map(lambda pair: try_crate(*pair), crates))
-    refused = sum(len(edits) for _, edits in crates) - failed
-    print("%d refused, %d not" % (refused, failed))
+        told = [one for found in pool.map(lambda pair: try_crate(*pair), crates) for one in found]
+    refused, stale, through = (sum(kind == word for _, kind, _ in told) for word in (REFUSED, STALE, THROUGH))
+    print("%d refused by the fact, %d by a stale answer, %d let through" % (refused, stale, through))
     if is_whole:
         # A crate is copied when its turn comes.
         if said("git", "rev-parse", "--short", "HEAD") != head or said("git", "status", "--porcelain"):
             sys.exit("the repository changed meanwhile, so no page is written")
         about = {"commit": head, "kit": said("rt", "version"), "day": datetime.date.today().isoformat()}
         about |= {"minutes": round((time.time() - start) / 60), "jobs": given.jobs}
-        write(os.path.join(TOP, "docs", "EDITS.md"), PAGE.format(**about, refused=refused, failed=failed))
-    return 1 if failed else 0
+        page = PAGE.format(**about, refused=refused, stale=stale, through=through)
+        rows = ["| %s | %s |" % (name, ", ".join(goals)) for name, kind, goals in sorted(told) if kind == STALE]
+        page += STALE_ROWS.format(rows="\n".join(rows)) if rows else ""
+        write(os.path.join(TOP, "docs", "EDITS.md"), page)
+    return 1 if through else 0
 
 
 if __name__ == "__main__":
