@@ -9,12 +9,12 @@ use Rattle.recode_system.specs.declared.command_line.Wordless.TheVariants.{NotUt
 abbrev pub HasWordNotUtf8 : List (List ℕ) → Type 0
 HasWordNotUtf8 words = Any (λ word. ¬ (IsUtf8 word)) words
 
--- why there are no words, where these are told; memory may be refused at any
+-- why there are no words, if they are told; memory may be refused at any
 abbrev pub IsWhy : Option (List (List ℕ)) → Wordless → Type 0
 IsWhy told NotUtf8 = IfSome told HasWordNotUtf8
 IsWhy told Memory = ⊤
 
--- the words of the program: where there is none, not even its name, the program has its own
+-- the words of the program: if there is none, not even its name, the program has its own
 abbrev pub words_with_name : List (List ℕ) → List (List ℕ)
 words_with_name [] = codes "recode" ∷ []
 words_with_name (name ∷ words) = name ∷ words

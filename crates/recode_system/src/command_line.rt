@@ -27,11 +27,11 @@ pub enum Wordless {
 /// without a system's. A type that has `Env` of std, as the runtime that `main` is given, is one,
 /// and tells nothing of its words.
 pub trait CommandLine {
-    /// The bytes of each word, the program's name first, where the command line tells them.
+    /// The bytes of each word, the program's name first, if the command line tells them.
     ghost told: { Self → Option (List (List ℕ)) };
 
-    /// The words, all of them and in their order. The error is `NotUtf8` where one is not UTF-8,
-    /// and `Memory` where memory was refused.
+    /// The words, all of them and in their order. The error is `NotUtf8` if one is not UTF-8, and
+    /// `Memory` if memory was refused.
     fn words(&self, alloc: Global) -> Result<Vec<String>, Wordless>
         ensures words { IfOk result (λ words. IfSome (told self.now)
             (λ all. map string_bytes words.items ≡ all)) }
@@ -45,7 +45,7 @@ fn slices<'a>(alloc: Global, words: &'a [String]) -> Result<Vec<&'a str>, AllocE
     words.iter().map(|word| word.as_str()).collect(alloc)
 }
 
-// The words, or the program's own name where there are none, not even a name.
+// The words, or the program's own name if there are none, not even a name.
 fn with_name<'a>(words: &'a [&'a str]) -> &'a [&'a str]
     ensures some { 0 < length result.now }
     ensures words { map (λ s. s.now) result.now ≡ words_with_name (map (λ s. s.now) words.now) }
@@ -53,7 +53,7 @@ fn with_name<'a>(words: &'a [&'a str]) -> &'a [&'a str]
     if words.is_empty() { &["recode"] } else { words }
 }
 
-// Writes a message; where that fails, the rest of it is dropped.
+// Writes a message; if that fails, the rest of it is dropped.
 fn tell<L: Write>(log: &mut Counted<L>, message: &str)
     requires { failures_of log.old < 2 ^ 64 - 1 }
 {
@@ -104,11 +104,11 @@ fn answer_words<F: Files, R: Read, W: Write, L: Write>(
 
 /// Does what the words of the command line ask for, as `recode::program` says, with the index files
 /// among `files`, and returns the exit status, which is at most 4. The words are those that the
-/// command line tells, if it tells them. Where there are none, not even a name, the program has its
+/// command line tells, if it tells them. If there are none, not even a name, the program has its
 /// own.
 ///
-/// The status is 2 (`REFUSED`) with the message `recode: a word is not UTF-8` where one is not, and
-/// 3 (`NOT_STARTED`) with `recode: out of memory` where memory for the words was refused. The
+/// The status is 2 (`REFUSED`) with the message `recode: a word is not UTF-8` if one is not, and 3
+/// (`NOT_STARTED`) with `recode: out of memory` if memory for the words was refused. The
 /// condition, that at most 2^64 - 5 calls of each device have failed, is tested by
 /// `Counted::failures`.
 pub fn answer<C: CommandLine + AllocGlobal, F: Files, R: Read, W: Write, L: Write>(
