@@ -1,12 +1,19 @@
 //! The lines of use that the page of each library shows, made, so that they are compiled and proved. `make lint`
 //! compares them with the pages: an example stands between `// CRATE` and `// end`.
+//!
+//! Beside them are programs as users write them: `stream_faults`, `whole_runs` and `whole_texts`.
+//! Each loads its indexes and uses them in one function.
 #![tactic(auto)]
 
 mod conversions;
+mod stream_faults;
 mod streams;
 mod texts;
+mod whole_runs;
+mod whole_texts;
 
 use anyhow::bail;
+use std::io::Write;
 
 // An example with its result, which is printed beside the one that the page tells.
 fn print(rt: HostRuntime, name: &str, is_as_told: bool) -> anyhow::Result<()> {
@@ -16,6 +23,23 @@ fn print(rt: HostRuntime, name: &str, is_as_told: bool) -> anyhow::Result<()> {
     } else {
         bail!("{name} is not as its page tells")
     }
+}
+
+// The one row of `index-jis0208.txt`, and of `index-jis0212.txt`, that the programs need.
+const JIS0208: &[u8] = b"422\t0x30CF\n";
+
+const JIS0212: &[u8] = b"565\t0x0402\n";
+
+fn run_programs(rt: HostRuntime) -> anyhow::Result<()> {
+    whole_texts::decode_text(rt, JIS0208, b"A\x83\x6E\xFF")?;
+    whole_texts::encode_text(rt, JIS0208, "A\u{20AC}")?;
+    whole_texts::decode_by_label(rt, b"euc-jp", JIS0208, JIS0212, b"\xA5\xCF\x8F\xA7\xA2")?;
+    let mut input = b"A\x83\x6E\xFFB\x83".as_slice();
+    let mut text = Vec::new(rt.alloc());
+    stream_faults::decode_stream(rt, JIS0208, &mut input, &mut text)?;
+    rt.stdout().write_all(&text)?;
+    println!(rt; "")?;
+    whole_runs::recode_bytes(rt, JIS0208, b"A\x83\x6E\xFF")
 }
 
 fn main(rt: HostRuntime) -> anyhow::Result<()> {
@@ -29,5 +53,6 @@ fn main(rt: HostRuntime) -> anyhow::Result<()> {
     print(rt, "recode_log", streams::writes_a_line(alloc)?)?;
     print(rt, "recode_words", streams::reads_words(alloc)?)?;
     print(rt, "recode", conversions::converts_a_stream(alloc)?)?;
-    print(rt, "recode_system", conversions::answers_words(rt)? <= 4)
+    print(rt, "recode_system", conversions::answers_words(rt)? <= 4)?;
+    run_programs(rt)
 }
