@@ -313,8 +313,8 @@ class Crate:
         """Tells what came of an edit by a check without these answers of functions."""
         new, same = [], []
         for path, answered in aside.items():
-            goals = check.goals.get(path, {})
-            new += new_goals(goals, self.right.get(path, {}), answered - set(goals))
+            goals, right = check.goals.get(path, {}), self.right.get(path, {})
+            new += new_goals(goals, right, answered & set(right) - set(goals)) if path in self.right else []
             same += goals or sorted(answered)
         if all(path in check.proved for path in aside):
             self.tell(edit, THROUGH)
