@@ -26,7 +26,7 @@ pub(crate) const MACINTOSH_TEXT: &[u8] = b"\
 // A text for an index of 128 entries, whose first row has a pointer that is not below 128.
 pub(crate) const FAULTY_TEXT: &[u8] = b"# faulty\n128\t0x00C4\n";
 
-// A text whose first row has a pointer behind the last of the ranges.
+// A text whose first row has a pointer above the last of the ranges.
 pub(crate) const FAULTY_RANGES_TEXT: &[u8] = b"1237576\t0x0080\n";
 
 // A text whose first row has no tab.

@@ -35,7 +35,7 @@ struct Call<'a> {
     asked: usize,
     // Whether the input is read.
     is_read: bool,
-    // How many bytes each read has room for, where that is said.
+    // How many bytes each read must have room for, if a line says it.
     room: Option<usize>,
 }
 
@@ -129,7 +129,7 @@ struct Outcome {
     log: Vec<u8>,
     asked: usize,
     reads: usize,
-    // Whether each read has the room that is said.
+    // Whether each read has the room that the line says.
     has_room: bool,
 }
 
