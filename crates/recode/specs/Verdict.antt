@@ -65,10 +65,6 @@ pub record IsReadBack (v v' : VerdictView) (bytes t : List ℕ) : Type 0 where
 abbrev pub NeedsForm : VerdictView → Pivot → PivotText → Type 0
 NeedsForm v check p = IsFalse v.by_log → IsTrue v.faithful → is_wide check ≡ is_in_units p
 
--- where the output is read back, it is to a pivot of the kind that the text passes through
-abbrev pub NeedsOneKind : VerdictView → Pivot → Pivot → Type 0
-NeedsOneKind v check pivot = IsFalse v.by_log → is_wide check ≡ is_wide pivot
-
 -- ---- why that tells it
 
 -- The pieces of the output are the same from every set, and a call that reports nothing keeps a true verdict.

@@ -42,7 +42,7 @@ impl<D: StreamDecoder, E: RawEncoder> Engine<D, E> {
     ghost use Rattle.recode.specs.Policy.{form_of};
     ghost use Rattle.recode.specs.Step.{Advances, Finishes, IsNearlyDecided, StepsOn, Stops};
     ghost use Rattle.recode.specs.TraceToWrite.{AreSound, trace_to_write};
-    ghost use Rattle.recode.specs.Verdict.{CanTell, IsFaithfulFor, NeedsOneKind};
+    ghost use Rattle.recode.specs.Verdict.{CanTell, IsFaithfulFor};
     ghost use Rattle.recode.specs.VerdictView.{verdict_view};
     ghost use Rattle.recode.specs.Work.{TakesCalls, calls_at_end};
     ghost use Rattle.recode.specs.Writers.{AreTheSame, CountsWriterFault, MayFail};
@@ -64,8 +64,7 @@ impl<D: StreamDecoder, E: RawEncoder> Engine<D, E> {
         requires sound { AreSound (D.view self.old.decoder).state.pending self.old.target.counts }
         requires limit { self.old.target.counts.read + length chunk.bytes.now ≤ 2 ^ 48 }
         requires check { HoldsAnyCharacter check.old }
-        requires form { NeedsOneKind (verdict_view D.view self.old.target.verdict)
-            check.old pivot.old }
+        requires form { is_wide check.old ≡ is_wide pivot.old }
         requires tells { CanTell (verdict_view D.view self.old.target.verdict)
             (E.coding self.old.target.encoder) (E.set self.old.target.encoder) [] }
         requires writers { MayFail writers.old }
@@ -94,7 +93,6 @@ impl<D: StreamDecoder, E: RawEncoder> Engine<D, E> {
         ensures sound { OnOk result (AreSound (D.view self.new.decoder).state.pending
             self.new.target.counts) }
         ensures target { E.coding self.new.target.encoder ≡ E.coding self.old.target.encoder }
-        ensures by_log { self.new.target.verdict.by_log ≡ self.old.target.verdict.by_log }
         ensures done { IfOk result (λ p. p.is_done ≡ true → p.read ≡ length chunk.entry.bytes.now) }
         ensures end { IfOk result (λ p. p.is_done ≡ true → chunk.entry.last ≡ true
             → trace_to_write (form_of writers.old.policy) (D.view self.new.decoder).state
@@ -205,8 +203,7 @@ impl<D: StreamDecoder, E: RawEncoder> Engine<D, E> {
         requires sound { AreSound (D.view self.old.decoder).state.pending self.old.target.counts }
         requires limit { self.old.target.counts.read + length chunk.now ≤ 2 ^ 48 }
         requires check { HoldsAnyCharacter check.old }
-        requires form { NeedsOneKind (verdict_view D.view self.old.target.verdict)
-            check.old pivot.old }
+        requires form { is_wide check.old ≡ is_wide pivot.old }
         requires tells { CanTell (verdict_view D.view self.old.target.verdict)
             (E.coding self.old.target.encoder) (E.set self.old.target.encoder) [] }
         requires writers { MayFail writers.old }

@@ -27,7 +27,6 @@ chunk-init g c = record {
   tells = c.requires.tells;
   check = c.requires.check;
   check_kind = refl;
-  by_log = refl;
   size = refl;
   check_size = refl;
   calls = λ r h. omega arith;
@@ -40,7 +39,7 @@ pub decode_part-requires-clause-check : goal.decode_part-requires-clause-check
 decode_part-requires-clause-check g c = c.chunk.invariant.check
 
 pub decode_part-requires-clause-form : goal.decode_part-requires-clause-form
-decode_part-requires-clause-form g c no_log = c.chunk.invariant.check_kind ∙ c.requires.form (sym c.chunk.invariant.by_log ∙ no_log) ∙ sym c.chunk.invariant.kind
+decode_part-requires-clause-form g c = c.chunk.invariant.check_kind ∙ c.requires.form ∙ sym c.chunk.invariant.kind
 
 pub chunk-preserved : goal.chunk-preserved
 chunk-preserved g c =
@@ -62,7 +61,6 @@ chunk-preserved g c =
       tells = rw c.chunk.invariant.target at (c.in_ok-turn.ensures.tells (inl c.if-turn.false));
       check = c.decode_part.ensures.check;
       check_kind = c.decode_part.ensures.check_kind ∙ c.chunk.invariant.check_kind;
-      by_log = c.decode_part.ensures.by_log ∙ c.chunk.invariant.by_log;
       size = c.decode_part.ensures.size ∙ c.chunk.invariant.size;
       check_size = c.decode_part.ensures.check_size ∙ c.chunk.invariant.check_size;
       calls = λ r h. rw rest_is (more_calls 0 0 c.args.self.now.target.counts c.chunk.self.target.counts c.decode_part.new.self.target.counts _ _ _ (c.chunk.invariant.calls r h) (rw (c.chunk.invariant.target, c.chunk.invariant.same.policy, c.if-turn.false) at (c.in_ok-turn.ensures.calls r h)));

@@ -34,7 +34,6 @@ invariant-chunk g l = record {
   tells : CanTell (verdict_view g.D.StreamDecoder.view l.self.target.verdict) (g.E.RawEncoder.coding l.initial.self.target.encoder) (g.E.RawEncoder.set l.self.target.encoder) [];
   check : HoldsAnyCharacter l.check;
   check_kind : is_wide l.check ≡ is_wide l.initial.check;
-  by_log : l.self.target.verdict.by_log ≡ l.initial.self.target.verdict.by_log;
   size : capacity l.pivot ≡ capacity l.initial.pivot;
   check_size : capacity l.check ≡ capacity l.initial.check;
   calls : (r : List ℕ) → (l.last ≡ true → r ≡ []) → TakesCalls 0 l.initial.self.target.counts l.self.target.counts

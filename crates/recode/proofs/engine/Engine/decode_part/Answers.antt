@@ -162,19 +162,19 @@ returns-in_ok-log_malformed-in-Malformed-clause-advances g c on =
     malformed_advances _ _ _ _ _ _ _ _ k (g.E.RawEncoder.coding c.args.self.now.target.encoder) (g.E.RawEncoder.set c.args.self.now.target.encoder) (g.E.RawEncoder.set c.encode_text-in-Malformed.new.self.encoder) (g.E.RawEncoder.set c.log_malformed.new.self.encoder) c.args.self.now.target.counts c.encode_text-in-Malformed.new.self.counts c.log_malformed.new.self.counts on (e.state refl) e.passed (rw c.encode_text-in-Malformed.ensures.target at f.state) f.index
 
 pub encode_text-requires-clause-form : goal.encode_text-requires-clause-form
-encode_text-requires-clause-form g c no_log faithful = c.requires.form no_log ∙ sym c.decode_to_pivot-call.ensures.kind ∙ sym c.text_in-text.ensures.form
+encode_text-requires-clause-form g c no_log faithful = c.requires.form ∙ sym c.decode_to_pivot-call.ensures.kind ∙ sym c.text_in-text.ensures.form
 
 pub encode_text-requires-clause-tells : goal.encode_text-requires-clause-tells
 encode_text-requires-clause-tells g c = next_tells (g.E.RawEncoder.coding c.args.self.now.target.encoder) (verdict_view g.D.StreamDecoder.view c.args.self.now.target.verdict) (g.E.RawEncoder.set c.args.self.now.target.encoder) _ c.requires.tells
 
 pub encode_text-requires-in-OutputFull-clause-form : goal.encode_text-requires-in-OutputFull-clause-form
-encode_text-requires-in-OutputFull-clause-form g c no_log faithful = c.requires.form no_log ∙ sym c.decode_to_pivot-call.ensures.kind ∙ sym c.text_in-text.ensures.form
+encode_text-requires-in-OutputFull-clause-form g c no_log faithful = c.requires.form ∙ sym c.decode_to_pivot-call.ensures.kind ∙ sym c.text_in-text.ensures.form
 
 pub encode_text-requires-in-OutputFull-clause-tells : goal.encode_text-requires-in-OutputFull-clause-tells
 encode_text-requires-in-OutputFull-clause-tells g c = next_tells (g.E.RawEncoder.coding c.args.self.now.target.encoder) (verdict_view g.D.StreamDecoder.view c.args.self.now.target.verdict) (g.E.RawEncoder.set c.args.self.now.target.encoder) _ c.requires.tells
 
 pub encode_text-requires-in-Malformed-clause-form : goal.encode_text-requires-in-Malformed-clause-form
-encode_text-requires-in-Malformed-clause-form g c no_log faithful = c.requires.form no_log ∙ sym c.decode_to_pivot-call.ensures.kind ∙ sym c.text_in-text.ensures.form
+encode_text-requires-in-Malformed-clause-form g c no_log faithful = c.requires.form ∙ sym c.decode_to_pivot-call.ensures.kind ∙ sym c.text_in-text.ensures.form
 
 pub encode_text-requires-in-Malformed-clause-tells : goal.encode_text-requires-in-Malformed-clause-tells
 encode_text-requires-in-Malformed-clause-tells g c = next_tells (g.E.RawEncoder.coding c.args.self.now.target.encoder) (verdict_view g.D.StreamDecoder.view c.args.self.now.target.verdict) (g.E.RawEncoder.set c.args.self.now.target.encoder) _ c.requires.tells
