@@ -34,7 +34,8 @@ pub record IsDirectory (rows : List (ℕ × ℕ)) (begins : List ℕ) : Type 0 w
   pub ranks : (first : ℕ) → first < length begins → IsRank rows (first, 0) (slice_index begins first)
   pub last : (k : ℕ) → k < length rows → (row_at rows k).0 + 1 < length begins
 
--- in a directory of rows whose first numbers are below 2^16, a row stands at each place but the last
+-- A directory names the place of a row for each first number but the last, and has at most 2^16 numbers and the last:
+-- one of rows whose first numbers are below 2^16.
 pub record IsTight (rows : List (ℕ × ℕ)) (begins : List ℕ) : Type 0 where
   pub stands : (first : ℕ) → first + 1 < length begins → slice_index begins first < length rows
   pub short : length begins ≤ 2 ^ 16 + 1

@@ -82,7 +82,8 @@ impl PackedIndex {
         self.by_pointer.second(pointer)
     }
 
-    /// The least pointer from `from` to below `to` with an entry, which is none where it is 0.
+    /// The least pointer from `from` to below `to` with an entry, or `None` if there is none. The
+    /// entry 0 has no pointer.
     #[inline]
     pub(crate) fn first_pointer(&self, entry: u32, from: u32, to: u32) -> Option<u32>
         ensures pointer { result ≡ first_pointer self.now entry from to }

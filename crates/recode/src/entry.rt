@@ -215,9 +215,8 @@ fn run_words<S: IndexSource, R: Read, W: Write, L: Write>(
 /// A run looks up the label of `--from`, then that of `--to`, reads the index files that the
 /// source and then the target's output encoding need, each once, and converts with buffers of 4096
 /// elements. Each index is what its file in the folder of `--indexes` stands for, where the source
-/// tells what the file holds (`IndexSource`). With `--pivot utf16` the text in between is UTF-16
-/// where the target has folds (`Encoding::keeps_characters`), and else UTF-8: what is written is
-/// the same.
+/// tells what the file holds (`IndexSource`). With `--pivot utf16` the text in between is UTF-16:
+/// what is written is the same.
 ///
 /// The statuses 0, 1 and 4 are those of `convert`. Otherwise a message says why nothing was read:
 /// - 2 (`REFUSED`): that of `clap`, or `recode: unknown label WORD`;

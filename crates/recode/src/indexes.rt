@@ -29,8 +29,8 @@ pub trait IndexSource {
     ghost holds: { Self → (dir file : List ℕ) → Option (List ℕ) };
 
     /// The bytes of the file with this name in the folder `dir`, all of them. The error is
-    /// `Missing` where there is no such file that can be read, and `Memory` where memory was
-    /// refused.
+    /// `Missing` if there is no such file that can be read, or if it is longer than the source
+    /// takes, and `Memory` if memory was refused.
     fn read_file(&mut self, alloc: Global, dir: &str, file: &str) -> Result<Vec<u8>, SourceFault>
         ensures text { IfOk result (λ bytes. IfSome (holds self.old dir.now file.now)
             (λ text. bytes.items ≡ text)) }

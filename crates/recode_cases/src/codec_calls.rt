@@ -17,13 +17,27 @@ pub(crate) struct CodecCalls {
     input: Vec<u8>,
     // Of the decoder, of the encoder, and of the decoder that reads back.
     calls: u64,
-    // Whether all is read at once, or byte by byte.
-    at_once: bool,
+    // The buffers, with either kind of pivot.
+    sizes: [Sizes; 2],
 }
 
+// Large buffers, but for pivots of which a character above U+FFFF takes all.
+const SMALL_PIVOTS: [Sizes; 2] = [
+    Sizes { pivot: 4, ..ROOMY },
+    Sizes {
+        pivot: 2,
+        ..ROOMY_WIDE
+    },
+];
+
 impl CodecCalls {
-    // Words as `utf-8 -> shift_jis: "abc" => 2 2 2`.
-    pub(crate) fn of(alloc: Global, words: &str, at_once: bool) -> anyhow::Result<Self> {
+    // Words as `utf-8 -> shift_jis: "abc" => 2 2 2`, behind the word for the buffers.
+    pub(crate) fn of(alloc: Global, word: &str, words: &str) -> anyhow::Result<Self> {
+        let sizes = match word {
+            "byte-calls" => [LEAST, LEAST_WIDE],
+            "pivot-calls" => SMALL_PIVOTS,
+            _ => [ROOMY, ROOMY_WIDE],
+        };
         let (head, words) = words.split_once(": ").context("calls have no `: `")?;
         let (input, numbers) = words.split_once("=>").context("calls have no `=>`")?;
         let mut calls = 0_u64;
@@ -37,17 +51,8 @@ impl CodecCalls {
             head: Head::of(head)?,
             input: bytes_of(alloc, input)?,
             calls,
-            at_once,
+            sizes,
         })
-    }
-
-    // Buffers of either kind of pivot.
-    fn sizes(&self) -> [Sizes; 2] {
-        if self.at_once {
-            [ROOMY, ROOMY_WIDE]
-        } else {
-            [LEAST, LEAST_WIDE]
-        }
     }
 }
 
@@ -58,7 +63,7 @@ pub(crate) fn check_codec_calls(
     report: &mut Report,
 ) -> anyhow::Result<()> {
     let setting = case.head.setting(case.input.as_slice());
-    for sizes in case.sizes() {
+    for sizes in case.sizes {
         let plan = Plan { sizes, ..AT_ONCE };
         for way in WAYS {
             report.count_conversion();

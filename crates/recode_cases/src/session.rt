@@ -89,11 +89,11 @@ impl Session {
     fn codec_calls(
         &mut self,
         rt: &impl AllocGlobal,
-        at_once: bool,
+        word: &str,
         words: &str,
         report: &mut Report,
     ) -> anyhow::Result<()> {
-        let calls = CodecCalls::of(rt.alloc(), words, at_once)?;
+        let calls = CodecCalls::of(rt.alloc(), word, words)?;
         self.begin(rt.alloc(), calls.head, report)?;
         check_codec_calls(rt, &self.tables, &calls, report)
     }
@@ -131,7 +131,7 @@ impl Lines for Session {
             "order" => self.order(rt, words, report),
             "steps" => self.steps(rt, words, report),
             "limit" | "room" => self.reads(rt, word == "limit", words, report),
-            "calls" | "byte-calls" => self.codec_calls(rt, word == "calls", words, report),
+            "calls" | "byte-calls" | "pivot-calls" => self.codec_calls(rt, word, words, report),
             _ => self.convert(rt, line, report),
         }
     }

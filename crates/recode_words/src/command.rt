@@ -35,8 +35,8 @@ Character without bytes in the output's encoding (--unmappable):
 
 Log, on standard error, a line for each malformed sequence and each character without bytes:
   bad OFFSET LENGTH  these bytes of the input stand for no character; the text has U+FFFD in their
-                     place. UTF-8 and gb18030 have bytes for it; to any other encoding a line
-                     \"lost\" follows
+                     place. UTF-8 and gb18030 have bytes for it; to any other encoding of the
+                     output a line \"lost\" follows
   lost INDEX SCALAR  the character with this index in the text, and with this number, has no bytes
                      in the output's encoding; SCALAR is 65533 for U+000E, U+000F and U+001B to
                      ISO-2022-JP
