@@ -1,7 +1,8 @@
 -- Worked rows of `specs/SortedRows.antt`.
 use Rattle.std.proofs.Common.{zero, suc, [], ◌∷◌, refl, arith}
-use Rattle.std.specs.Prelude.{◌≡◌, true, false}
-use Rattle.encoding_tables.specs.SortedRows.{is_below, AreRising, AreSorted}
+use Rattle.std.specs.Prelude.{◌≡◌, ◌+◌, ◌<◌, ℕ, List, replicate, slice_index, true, false}
+use Rattle.std.proofs.lemmas.List.{length-replicate}
+use Rattle.encoding_tables.specs.SortedRows.{is_below, AreRising, AreSorted, IsTight}
 
 by_the_first : is_below (3, 9) (4, 0) ≡ true
 by_the_first = refl
@@ -30,3 +31,22 @@ twice_is_not_rising rise = let first = rise 0 (omega arith) in cc
 
 falling : ¬ (AreSorted ((3, 9) ∷ (3, 8) ∷ []))
 falling sorted = sorted 0 (omega arith) refl
+
+-- the directory of the rows 1 and 3: none stands before 0 and 1, one before 2 and 3, and there are two
+stands : (first : ℕ) → first + 1 < 5 → slice_index (0 ∷ 0 ∷ 1 ∷ 1 ∷ 2 ∷ []) first < 2
+stands zero less = omega arith
+stands (suc zero) less = omega arith
+stands (suc (suc zero)) less = omega arith
+stands (suc (suc (suc zero))) less = omega arith
+stands (suc (suc (suc (suc k)))) less = absurd (omega (arith, less))
+
+tight : IsTight ((1, 9) ∷ (3, 8) ∷ []) (0 ∷ 0 ∷ 1 ∷ 1 ∷ 2 ∷ [])
+tight = record { stands = stands; short = omega arith }
+
+-- with a number that is greater than that of each row it names a place without a row
+not_tight : ¬ (IsTight ((1, 9) ∷ []) (0 ∷ 0 ∷ 1 ∷ 1 ∷ []))
+not_tight t = omega (arith, t.stands 2 (omega arith))
+
+-- nor has it a place for a number above 2^16 - 1, and one more behind it
+not_tight_for_great_numbers : (rows : List (ℕ × ℕ)) → ¬ (IsTight rows (replicate 65538 0))
+not_tight_for_great_numbers rows t = omega (arith, t.short, length-replicate 65538 0)
