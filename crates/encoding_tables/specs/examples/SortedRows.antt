@@ -49,4 +49,4 @@ not_tight t = omega (arith, t.stands 2 (omega arith))
 
 -- nor has it a place for a number above 2^16 - 1, and one more behind it
 not_tight_for_great_numbers : (rows : List (ℕ × ℕ)) → ¬ (IsTight rows (replicate 65538 0))
-not_tight_for_great_numbers rows t = omega (arith, t.short, length-replicate 65538 0)
+not_tight_for_great_numbers rows t = omega (arith, t.short, length-replicate {A = ℕ} 65538 0)
