@@ -6,7 +6,7 @@ use Rattle.std.specs.Prelude.{◌&&◌, slice_range, slice_index, min}
 use Rattle.encoding_tables.specs.PackedLists.{IsSecond}
 use Rattle.encoding_tables.specs.PackedRows.{PointersAreBelow}
 use Rattle.std.proofs.lemmas.Bool.{cases_eq, or_cases, and_parts, ltb-true, eqb-true, lt-ltb, le-ltb, eq-eqb, cases_lt}
-use Rattle.encoding_tables.specs.SortedRows.{row_at, IsBelow, AreRising, IsRank, IsDirectory, IsSpan, IsTight}
+use Rattle.encoding_tables.specs.SortedRows.{row_at, IsBelow, AreRising, IsRank, IsDirectory, IsSpan}
 use Rattle.std.proofs.lemmas.List.Edits.{get_or-between}
 use Rattle.std.proofs.lemmas.List.{get_or_append_left}
 use Rattle.std.proofs.Math.Seq.{get_or-append_right}
@@ -189,10 +189,6 @@ rank_in_span rows key from to n span rank =
 
 -- ---- the row with a first number
 
--- behind the directory no row has the number
-pub none_past : (rows : List (ℕ × ℕ)) (begins : List ℕ) (first : ℕ) → IsDirectory rows begins → length begins ≤ first + 1 → (k : ℕ) → k < length rows → (row_at rows k).0 ≢ first
-none_past rows begins first directory past k within is = let small = directory.last k within in omega (arith, small, is)
-
 -- the row at a place, in the part that has it alone
 row_alone : (rows : List (ℕ × ℕ)) (place : ℕ) → row_at (slice_range rows place (place + 1)) 0 ≡ row_at rows place
 row_alone rows place =
@@ -233,9 +229,6 @@ pub record IsBuilding (rows : List (ℕ × ℕ)) (begins : List ℕ) (offset : �
   pub passed : (k : ℕ) → k < offset → (row_at rows k).0 < length begins
   pub inside : (first : ℕ) → first < length begins → slice_index begins first < length rows
   pub short : length begins ≤ 2 ^ 16
-
-pub nothing_built : (rows : List (ℕ × ℕ)) → IsBuilding rows [] 0
-nothing_built rows = record { ranks = λ b less. absurd (omega arith); passed = λ k less. absurd (omega arith); inside = λ b less. absurd (omega arith); short = omega arith }
 
 one_more : (rows : List (ℕ × ℕ)) (begins : List ℕ) (rank : ℕ) → ((b : ℕ) → b < length begins → IsRank rows (b, 0) (slice_index begins b)) → IsRank rows (length begins, 0) rank
     → (b : ℕ) → b < length (begins ++ rank ∷ []) → IsRank rows (b, 0) (slice_index (begins ++ rank ∷ []) b)
@@ -283,20 +276,6 @@ row_passed rows begins offset so_far above = record {
     | inl early ↦ so_far.passed k early
     | inr late ↦ let here : k ≡ offset = omega arith in rw here above
   ];
-}
-
-pub all_built : (rows : List (ℕ × ℕ)) (begins : List ℕ) → AreRising rows → IsBuilding rows begins (length rows) → IsDirectory rows (begins ++ length rows ∷ [])
-all_built rows begins rise so_far = record {
-  ranks = one_more rows begins (length rows) so_far.ranks (no_row_before rows (length rows) (length begins) rise (omega arith) so_far.passed (λ less. absurd (omega arith)));
-  last = λ k within. omega (arith, so_far.passed k within, length-append begins (length rows ∷ []));
-}
-
-pub all_tight : (rows : List (ℕ × ℕ)) (begins : List ℕ) (last : ℕ) → IsBuilding rows begins (length rows) → IsTight rows (begins ++ last ∷ [])
-all_tight rows begins last so_far = record {
-  stands = λ first less.
-      let early : first < length begins = omega (arith, less, length-append begins (last ∷ [])) in
-      rw (get_or_append_left begins (last ∷ []) 0 first early) (so_far.inside first early);
-  short = omega (arith, so_far.short, length-append begins (last ∷ []));
 }
 
 -- Rows whose first numbers rise, and the last of them at or below a number.

@@ -1,7 +1,7 @@
 //! Rows in order, with a directory that says where the rows of each first number begin, so that a
 //! search looks at the rows of one first number alone.
 
-ghost use Rattle.std.specs.Prelude.{◌≡◌, List, ℕ, length};
+ghost use Rattle.std.specs.Prelude.{◌≡◌, List, ℕ};
 ghost use Rattle.encoding_tables.specs.SortedRows.{AreRising, IsRank, IsDirectory, IsSpan};
 
 use crate::search::search;
