@@ -5,6 +5,8 @@
 
 - A public name of `specs/` has one definition in the whole repository.
 - Lines of `src/` over 100 columns: no more than `tools/long_lines` says, and that number is today's, so it only falls.
+- No function has more clauses than `tools/most_clauses` says, and that number is today's, so it only falls; no contract
+  has more than 30 lines.
 - `docs/DEFINITIONS.md` names each file of definitions, and no other, and says of each what it says of itself.
 - Each edit of `must-fail/` and `edits/` names a file, and each text that it replaces stands in it once.
 - `docs/reference/edits.md` is what `tools/edits_table.py` writes, and each edit that `tools/wrong_bodies.toml` names is
@@ -31,8 +33,13 @@ import usage
 TOP = os.path.join(os.path.dirname(os.path.abspath(__file__)), "..")
 CRATES = os.path.join(TOP, "crates")
 LONG_LINES = os.path.join(TOP, "tools", "long_lines")
+MOST_CLAUSES = os.path.join(TOP, "tools", "most_clauses")
 COLUMNS = 100
+CONTRACT_LINES = 30
 README_LINES = 120
+
+FUNCTION = re.compile(r"^ *(?:pub(?:\(\w+\))? )?(?:unsafe )?fn (\w+)")
+CLAUSE = re.compile(r"^ *(?:requires|ensures)\b")
 
 # A public definition of a file of `specs/`: a record, a function or an abbreviation, with its type.
 DEFINITION = re.compile(r"^(?:abbrev |unfoldable |irrelevant )*pub (?:(?:record|data|abbrev|unfoldable) )*([^\s:({]+)")
@@ -74,6 +81,38 @@ def long_lines():
         yield "%d lines of src/ have more than %d columns; tools/long_lines allows %d" % (count, COLUMNS, limit)
     if count < limit:
         yield "%d lines of src/ have more than %d columns: write this number to tools/long_lines" % (count, COLUMNS)
+
+
+def contracts():
+    """Each function that has a contract: its place and name, how many clauses it has, and on how many lines they stand. A
+    clause ends where its braces are closed."""
+    for path in files("src", ".rt"):
+        name, clauses, lines, depth = None, 0, 0, 0
+        for line in read(os.path.join(TOP, path)).split("\n"):
+            function = FUNCTION.match(line)
+            if function and depth == 0:
+                if clauses:
+                    yield "%s: %s" % (path, name), clauses, lines
+                name, clauses, lines = function.group(1), 0, 0
+            is_clause = depth == 0 and CLAUSE.match(line)
+            if is_clause or depth > 0:
+                clauses += 1 if is_clause else 0
+                lines += 1
+                depth += line.count("{") - line.count("}")
+        if clauses:
+            yield "%s: %s" % (path, name), clauses, lines
+
+
+def most_clauses():
+    found, limit = list(contracts()), int(read(MOST_CLAUSES))
+    for place, clauses, lines in found:
+        if clauses > limit:
+            yield "%s has %d clauses; tools/most_clauses allows %d" % (place, clauses, limit)
+        if lines > CONTRACT_LINES:
+            yield "%s has a contract of %d lines; %d are allowed" % (place, lines, CONTRACT_LINES)
+    most = max(clauses for _, clauses, _ in found)
+    if most < limit:
+        yield "no function has more than %d clauses: write this number to tools/most_clauses" % most
 
 
 def unnamed_definitions():
@@ -178,6 +217,7 @@ def example():
 CHECKS = (
     double_names,
     long_lines,
+    most_clauses,
     unnamed_definitions,
     stale_definitions,
     edits,

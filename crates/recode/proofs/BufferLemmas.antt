@@ -1,6 +1,6 @@
 -- Buffers and writers that are lent and given back.
 use Rattle.std.proofs.Common.{◌≡◌, ◌∙◌, arith, refl, sym, true≢false}
-use Rattle.recode.specs.Buffers.{AreEnough, KeepSizes, HoldsAnyCharacter, capacity, is_wide}
+use Rattle.recode.specs.Buffers.{AreEnough, KeepSizes, KeepsRoom, HoldsAnyCharacter, capacity, is_wide}
 use Rattle.recode.specs.Writers.{AreTheSame}
 use Rattle.recode.specs.declared.job.Buffers.{Buffers}
 use Rattle.recode.specs.declared.job.Pivot.{Pivot}
@@ -25,6 +25,12 @@ holds_still (Utf8 a) (Utf8 b) h size kind = omega (arith, h, size)
 holds_still (Utf16 a) (Utf16 b) h size kind = omega (arith, h, size)
 holds_still (Utf8 a) (Utf16 b) h size kind = absurd (true≢false kind)
 holds_still (Utf16 a) (Utf8 b) h size kind = absurd (true≢false (sym kind))
+
+pub room_start : (p : Pivot) → HoldsAnyCharacter p → KeepsRoom p p
+room_start p h = record { roomy = h; kind = refl; size = refl }
+
+pub room_on : {p q r : Pivot} → KeepsRoom p q → KeepsRoom q r → KeepsRoom p r
+room_on h k = record { roomy = k.roomy; kind = k.kind ∙ h.kind; size = k.size ∙ h.size }
 
 pub kept_enough : (b c : Buffers) → AreEnough b → KeepSizes b c → AreEnough c
 kept_enough b c e k = record {

@@ -1,5 +1,5 @@
 -- What was taken while the input goes on, and what that says of the output and the log.
-use Rattle.std.proofs.Common.{◌≡◌, ◌⊎◌, ◌↔◌, ℕ, suc, ◌+◌, ◌-◌, ◌≤◌, ◌<◌, Bool, true, false, List, [], ◌∷◌, ◌++◌, length, drop, Some, refl, sym, ◌∙◌, ap, subst, arith, append_assoc, length-append, add-zero, inl, inr}
+use Rattle.std.proofs.Common.{◌≡◌, ◌⊎◌, ℕ, suc, ◌+◌, ◌-◌, ◌≤◌, ◌<◌, Bool, true, false, List, [], ◌∷◌, ◌++◌, length, drop, Some, refl, sym, ◌∙◌, ap, subst, arith, append_assoc, length-append, add-zero, inl, inr}
 use Rattle.std.specs.Io.KnownBytes.{Appends, Consumes}
 use Rattle.std.specs.List.{flat_map}
 use Rattle.std.proofs.KnownBytes.{Appends-kept, Appends-nil, Appends-trans, Consumes-nil, Consumes-trans}
@@ -17,16 +17,14 @@ use Rattle.recode_log.specs.Line.{line_bytes}
 use Rattle.recode_log.specs.declared.line.LogLine.{LogLine}
 use Rattle.recode_log.specs.declared.line.LogLine.TheVariants.{Bad}
 use Rattle.recode.specs.Job.{input_pieces, log_lines, lost_in, target_of}
+use Rattle.recode.specs.Chunk.{DecodesChunk}
 use Rattle.recode.specs.Latency.{StandsAt, WroteDecided}
 use Rattle.recode.specs.Policy.{form_of}
-use Rattle.recode.specs.State.{State, WillBeFaithful, to_write}
-use Rattle.recode.specs.Verdict.{IsFaithfulFor}
+use Rattle.recode.specs.State.{State}
 use Rattle.recode.specs.Step.{Advances, HasRun, IsNearlyDecided, StepsOn}
-use Rattle.recode.specs.Work.{TakesCalls}
 use Rattle.recode.specs.Streams.{KeepsWritten, Streams, Written}
 use Rattle.recode.specs.TaggedByte.{IsPrefix, lines, tagged, outputs}
 use Rattle.recode.specs.TraceToWrite.{AreSound, trace_to_write}
-use Rattle.recode.specs.WrittenItems.{WritesItemsFor}
 use Rattle.recode.specs.Session.{IsNewSession, View}
 use Rattle.recode.specs.declared.target.Counts.{Counts}
 use Rattle.recode.specs.declared.job.Job.{Job}
@@ -144,23 +142,23 @@ taken_sizes : (d d1 : DecoderState) (chunk : List ℕ) (taken : List Piece) → 
 taken_sizes d d1 chunk taken is = omega (arith, d.whole (chunk ++ []), d1.whole [], ap sizes is, sizes-append taken (d1.pieces []), length-append {A = ℕ} chunk [])
 
 -- the clause of a step that goes on
-pub steps_on : (before after : Streams) (limit : ℕ) (s s1 : State) (chunk : List ℕ) (last : Bool)
-    → Consumes before.input after.input chunk → s1.counts.read ≡ s.counts.read + length chunk → 0 < length chunk → s1.counts.read ≤ limit → s1.coding ≡ s.coding → s1.policy ≡ s.policy → AreSound s.decoder.pending s.counts
-    → last ≡ false → ((r : List ℕ) → (last ≡ true → r ≡ []) → s.source (chunk ++ r) ≡ s1.source r)
-    → WritesItemsFor before.written after.written s.counts s1.counts s.policy last (λ r. to_write s (chunk ++ r)) (λ r. trace_to_write (form_of s.policy) s1.decoder s.coding s1.set s1.counts r)
-    → Advances (λ r. s.decoder.pieces (chunk ++ r)) s1.decoder.pieces s.coding s.set s1.set s.counts s1.counts → IsNearlyDecided s1.decoder
-    → ((r : List ℕ) → (last ≡ true → r ≡ []) → WillBeFaithful s (chunk ++ r) ↔ IsFaithfulFor (form_of s.policy) s1.verdict s.coding s1.set (s1.decoder.pieces r))
-    → ((r : List ℕ) → (last ≡ true → r ≡ []) → TakesCalls 3 s.counts s1.counts (to_write s (chunk ++ r)) (trace_to_write (form_of s.policy) s1.decoder s.coding s1.set s1.counts r)) → StepsOn before after limit s s1
-steps_on before after limit s s1 chunk last read_in counted some within target policy sound goes_on same pays p settled verdict calls =
+pub steps_on : (before after : Streams) (limit : ℕ) (s s1 : State) (chunk : List ℕ) (last : Bool) → Consumes before.input after.input chunk → 0 < length chunk → s1.counts.read ≤ limit → AreSound s.decoder.pending s.counts
+    → last ≡ false → DecodesChunk before.written after.written s s1 chunk last → StepsOn before after limit s s1
+steps_on before after limit s s1 chunk last read_in some within sound goes_on k =
+    let c = k.converts in
+    let p = c.advances goes_on in
     let e = s.coding in
     let offset = s.counts.read - s.decoder.pending in
     let offset1 = s1.counts.read - s1.decoder.pending in
     let i = s.counts.index in
     let i1 = s1.counts.index in
     let qs = s1.decoder.pieces [] in
+    let counted : s1.counts.read ≡ s.counts.read + length chunk = omega (arith, c.counted) in
     let offset_is : offset1 ≡ offset + sizes p.taken = omega (arith, taken_sizes s.decoder s1.decoder chunk p.taken (p.rest []), counted, sound.index) in
-    let is : trace_from (form_of s.policy) e s.set offset i (p.taken ++ qs) ≡ pays.written_items ++ trace_from (form_of s.policy) e s1.set offset1 i1 qs =
-    ap (trace_from (form_of s.policy) e s.set offset i) (sym (p.rest [])) ∙ pays.equals [] (λ _. refl) in
+    let is : trace_from (form_of s.policy) e s.set offset i (p.taken ++ qs) ≡ c.pays.written_items ++ trace_from (form_of s.policy) e s1.set offset1 i1 qs =
+    ap (trace_from (form_of s.policy) e s.set offset i) (sym (p.rest [])) ∙ c.pays.equals [] (λ _. refl)
+    ∙ ap (λ (q : Coding). c.pays.written_items ++ trace_from (form_of s1.policy) q s1.set offset1 i1 qs) c.target
+    ∙ ap (λ (q : Policy). c.pays.written_items ++ trace_from (form_of q) e s1.set offset1 i1 qs) c.policy in
     let none : (r : List ℕ) → last ≡ true → r ≡ [] = λ r h. absurd (false≢true (sym goes_on ∙ h)) in
     record {
       chunk = chunk;
@@ -168,25 +166,17 @@ steps_on before after limit s s1 chunk last read_in counted some within target p
       counted = counted;
       grows = omega (arith, counted, some);
       within = within;
-      target = target;
-      policy = policy;
-      source = λ r. same r (none r);
-      pays = record {
-        written_items = pays.written_items;
-        wrote = pays.wrote;
-        counted = pays.counted;
-        spared = pays.spared;
-        equals = λ r h. pays.equals r (none r) ∙ ap (λ (q : Coding). pays.written_items ++ trace_to_write (form_of s.policy) s1.decoder q s1.set s1.counts r) (sym target)
-            ∙ ap (λ (q : Policy). pays.written_items ++ trace_to_write (form_of q) s1.decoder s1.coding s1.set s1.counts r) (sym policy);
-      };
+      target = c.target;
+      policy = c.policy;
+      source = λ r. c.source r (none r);
+      pays = record { written_items = c.pays.written_items; wrote = c.pays.wrote; counted = c.pays.counted; spared = c.pays.spared; equals = λ r h. c.pays.equals r (none r) };
       advances = p;
-      output = subst (Appends before.written.output after.written.output) (paid_output (form_of s.policy) e s.set s1.set offset i offset1 i1 p.taken qs pays.written_items p.set offset_is p.index is) pays.wrote.output;
-      logged = subst (Appends before.written.log after.written.log) (paid_lines (form_of s.policy) e s.set s1.set offset i offset1 i1 p.taken qs pays.written_items p.set offset_is p.index is) pays.wrote.lined;
-      settled = settled;
-      verdict = λ r. subst (λ (f : Policy). WillBeFaithful s (chunk ++ r) ↔ IsFaithfulFor (form_of f) s1.verdict s1.coding s1.set (s1.decoder.pieces r)) (sym policy)
-          (subst (λ (q : Coding). WillBeFaithful s (chunk ++ r) ↔ IsFaithfulFor (form_of s.policy) s1.verdict q s1.set (s1.decoder.pieces r)) (sym target) (verdict r (none r)));
-      calls = λ r. subst (λ (f : Policy). TakesCalls 3 s.counts s1.counts (to_write s (chunk ++ r)) (trace_to_write (form_of f) s1.decoder s1.coding s1.set s1.counts r)) (sym policy)
-          (subst (λ (q : Coding). TakesCalls 3 s.counts s1.counts (to_write s (chunk ++ r)) (trace_to_write (form_of s.policy) s1.decoder q s1.set s1.counts r)) (sym target) (calls r (none r)));
+      output = subst (Appends before.written.output after.written.output) (paid_output (form_of s.policy) e s.set s1.set offset i offset1 i1 p.taken qs c.pays.written_items p.set offset_is p.index is) c.pays.wrote.output;
+      logged = subst (Appends before.written.log after.written.log) (paid_lines (form_of s.policy) e s.set s1.set offset i offset1 i1 p.taken qs c.pays.written_items p.set offset_is p.index is) c.pays.wrote.lined;
+      settled = k.done.settled;
+      verdict = λ r. c.verdict r (none r);
+      calls = λ r. c.calls r (none r);
+      least = c.least;
     }
 
 -- A session that has read nothing, and one that steps on.

@@ -18,4 +18,6 @@ pub mod TwoRunLemmas
 pub mod CharacterLemmas
 pub mod PivotLemmas
 pub mod LatencyLemmas
+pub mod TextLemmas
+pub mod ChunkLemmas
 pub mod LoadLemmas

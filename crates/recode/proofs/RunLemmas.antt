@@ -1,5 +1,5 @@
 -- From steps to runs.
-use Rattle.std.proofs.Common.{◌≡◌, ℕ, ◌+◌, ◌*◌, ◌↔◌, true, IsTrue, List, [], ◌∷◌, ◌++◌, length, refl, sym, ◌∙◌, ap, subst, arith, append-nil}
+use Rattle.std.proofs.Common.{◌≡◌, ℕ, ◌+◌, ◌*◌, ◌≤◌, ◌-◌, ◌↔◌, true, IsTrue, List, [], ◌∷◌, ◌++◌, length, refl, sym, ◌∙◌, ap, subst, arith, append-nil}
 use Rattle.encoding_mem.specs.Piece.{Piece, well_formed, malformed, AreWellFormed, malformed_count}
 use Rattle.encoding_mem.specs.Coding.{AllMapped, lost_count}
 use Rattle.encoding_mem.specs.declared.form.EscapeState.TheVariants.{Ascii}
@@ -11,7 +11,7 @@ use Rattle.recode.specs.TaggedByte.{TaggedByte, Wrote, IsPrefix, tagged, outputs
 use Rattle.recode.specs.WrittenItems.{IsLeft, IsSpared, bad_lines, lost_lines}
 use Rattle.recode.specs.State.{WillBeFaithful, to_write}
 use Rattle.recode.specs.TraceToWrite.{AreSound}
-use Rattle.recode.specs.Work.{TakesCalls}
+use Rattle.recode.specs.Work.{TakesAtLeast, TakesCalls}
 use Rattle.recode.specs.Job.{IsValidJob, Faithful, input_pieces, output_pieces, input_text, target_of, log_of, output_of, trace, whole_trace}
 use Rattle.recode.specs.Latency.{WroteDecided}
 use Rattle.recode.specs.Policy.{form_of}
@@ -53,35 +53,38 @@ quiet_where_faithful j x v f = quiet_where_kept j x f.source (mapped_where_faith
 -- The report.
 is_report : (j : Job) (x : List ℕ) (v w : View) (p : Report) → IsNewSession v j → Tells w p → v.state.source x ≡ w.state.source [] → w.state.counts.read ≡ v.state.counts.read + length x
     → w.state.counts.bad ≡ v.state.counts.bad + bad_lines (whole_trace j x) → w.state.counts.lost ≡ v.state.counts.lost + lost_lines (whole_trace j x) → WillBeFaithful v.state x ↔ IsTrue w.state.verdict.faithful
-    → IsValidJob j → TakesCalls (3 * length x + 3) v.state.counts w.state.counts (to_write v.state x) [] → AreSound w.state.decoder.pending w.state.counts → IsReport j x p
-is_report j x v w p b t same read_is malformed_is lost_is told valid calls sound =
+    → IsValidJob j → length x ≤ j.limit → TakesCalls (3 * length x + 3) v.state.counts w.state.counts (to_write v.state x) []
+    → TakesAtLeast (3 * (w.state.counts.bad - v.state.counts.bad) + 2) v.state.counts w.state.counts → AreSound w.state.decoder.pending w.state.counts → IsReport j x p
+is_report j x v w p b t same read_is malformed_is lost_is told valid within calls least sound =
     let e = target_of j in
     let bads : p.bad ≡ malformed_count (input_pieces j x) = omega (arith, t.bad, malformed_is, b.bad, bad_lines-trace (form_of j.policy) e Ascii 0 0 (input_pieces j x)) in
     let losts : p.lost ≡ lost_count e (input_text j x) = omega (arith, t.lost, lost_is, b.lost, lost_lines-trace (form_of j.policy) e Ascii 0 0 (input_pieces j x)) in
+    let read : p.read ≡ length x = omega (arith, t.read, read_is, b.read) in
+    let most : p.calls ≤ 37 * p.read + 9 = omega (
+      arith,
+      t.calls,
+      t.read,
+      calls,
+      b.calls,
+      b.index,
+      b.read,
+      b.bad,
+      b.lost,
+      read_is,
+      malformed_is,
+      lost_is,
+      sound.index,
+      sound.bad,
+      sound.lost,
+      ap length (b.owes_trace x),
+      items_split (whole_trace j x),
+      whole_within j x valid,
+    ) in
     record {
-      read = omega (arith, t.read, read_is, b.read);
+      read = read;
       bad = bads;
       lost = losts;
-      calls = omega (
-        arith,
-        t.calls,
-        t.read,
-        calls,
-        b.calls,
-        b.index,
-        b.read,
-        b.bad,
-        b.lost,
-        read_is,
-        malformed_is,
-        lost_is,
-        sound.index,
-        sound.bad,
-        sound.lost,
-        ap length (b.owes_trace x),
-        items_split (whole_trace j x),
-        whole_within j x valid,
-      );
+      calls = (omega (arith, t.calls, t.bad, t.lost, b.calls, b.bad, b.lost, least (omega (arith, most, t.calls, read, within, valid.limit))), most);
       encoding = t.encoding ∙ sym same ∙ b.source x;
       faithful = (λ h. (b.verdict x).0 (told.1 (sym t.verdict ∙ h)), λ h. t.verdict ∙ told.0 ((b.verdict x).1 h));
     }
@@ -92,13 +95,14 @@ completes before after j v u p valid b f t =
     let written_items : f.pays.written_items ≡ whole_trace j x = sym (append-nil f.pays.written_items) ∙ sym f.pays.equals ∙ b.owes_trace x in
     let spared : IsSpared j.policy (whole_trace j x) = subst (IsSpared j.policy) written_items (subst (λ (q : Policy). IsSpared q f.pays.written_items) b.policy f.pays.spared) in
     let wrote : Wrote before.written after.written (tagged (trace j x)) = subst (λ t. Wrote before.written after.written (tagged t)) (written_items ∙ sym (trace_where_spared j x spared)) f.pays.wrote in
+    let within : length x ≤ j.limit = omega (arith, f.within, f.counted, b.read) in
     let report = is_report j x v u p b t f.source f.counted
-    (f.pays.counted.bad ∙ ap (λ t. v.state.counts.bad + bad_lines t) written_items) (f.pays.counted.lost ∙ ap (λ t. v.state.counts.lost + lost_lines t) written_items) f.verdict valid f.calls f.sound in
+    (f.pays.counted.bad ∙ ap (λ t. v.state.counts.bad + bad_lines t) written_items) (f.pays.counted.lost ∙ ap (λ t. v.state.counts.lost + lost_lines t) written_items) f.verdict valid within f.calls f.least f.sound in
     record {
       input = x;
       consumed = f.consumed;
       end = f.end;
-      within = omega (arith, f.within, f.counted, b.read);
+      within = within;
       wrote = wrote;
       output = wrote.output;
       logged = wrote.lined;

@@ -138,6 +138,7 @@ goes_on_start a limit s within settled = record {
   source = λ r. refl;
   verdict = λ r. (λ h. h, λ h. h);
   calls = λ r. omega arith;
+  least = λ under. omega arith;
 }
 
 -- the same bytes in two parts
@@ -167,6 +168,9 @@ goes_on_more a b c limit s s1 s2 p q = record {
   source = λ r. ap s.source (append_assoc p.chunk q.chunk r) ∙ p.source (q.chunk ++ r) ∙ q.source r;
   verdict = λ r. rw (append_assoc p.chunk q.chunk r) (both_ways (p.verdict (q.chunk ++ r)) (q.verdict r));
   calls = λ r. rw (append_assoc p.chunk q.chunk r) (omega (arith, p.calls (q.chunk ++ r), q.calls r, q.grows, q.counted, length-append p.chunk q.chunk));
+  least = λ under.
+      let later = q.least under in
+      omega (arith, later, p.pays.counted.bad, q.pays.counted.bad, p.least (omega (arith, later, under, q.pays.counted.lost)));
 }
 
 pub goes_on_finish : (a b c : Streams) (limit : ℕ) (s s1 s2 : State) → HasRun a b limit s s1 → Finishes b c limit s1 s2 → Finishes a c limit s s2
@@ -186,6 +190,9 @@ goes_on_finish a b c limit s s1 s2 p q = record {
   source = p.source q.chunk ∙ q.source;
   verdict = both_ways (p.verdict q.chunk) q.verdict;
   calls = omega (arith, p.calls q.chunk, q.calls, length-append p.chunk q.chunk);
+  least = λ under.
+      let later = q.least under in
+      omega (arith, later, p.pays.counted.bad, q.pays.counted.bad, p.least (omega (arith, later, under, q.pays.counted.lost)));
   sound = q.sound;
 }
 

@@ -252,11 +252,16 @@ writes_lost w l l' x y p i c b h same one goes_on = record {
   equals = refl;
 }
 
+pub wrote_malformed : (w l l' : Option (List ℕ)) (offset size : ℕ) → Appends l l' (line_bytes (LogLine.Bad offset size))
+    → Wrote (record { output = w; log = l }) (record { output = w; log = l' }) (tagged (MalformedAt offset size ∷ []))
+wrote_malformed w l l' offset size h =
+    subst (Wrote (record { output = w; log = l }) (record { output = w; log = l' })) (sym (append-nil (map Line (line_bytes (LogLine.Bad offset size))))) (wrote_line w l l' (line_bytes (LogLine.Bad offset size)) h)
+
 pub writes_malformed : (w l l' : Option (List ℕ)) (x y : Counts) (p : Policy) (offset size : ℕ) (b : List Item) → Appends l l' (line_bytes (LogLine.Bad offset size)) → y.bad ≡ x.bad + 1 → y.lost ≡ x.lost
     → WritesItems (record { output = w; log = l }) (record { output = w; log = l' }) x y p (MalformedAt offset size ∷ b) b
 writes_malformed w l l' x y p offset size b h one same = record {
   written_items = MalformedAt offset size ∷ [];
-  wrote = subst (Wrote (record { output = w; log = l }) (record { output = w; log = l' })) (sym (append-nil (map Line (line_bytes (LogLine.Bad offset size))))) (wrote_line w l l' (line_bytes (LogLine.Bad offset size)) h);
+  wrote = wrote_malformed w l l' offset size h;
   counted = record { bad = omega (arith, one); lost = omega (arith, same) };
   spared = λ stops. refl;
   equals = refl;

@@ -1,10 +1,10 @@
 -- How the calls of codecs add up.
-use Rattle.std.proofs.Common.{◌≡◌, ℕ, ◌+◌, ◌*◌, ◌≤◌, ◌<◌, List, [], ◌∷◌, ◌++◌, length, length-append, Bool, true, arith, refl, ap, ◌∙◌, map}
+use Rattle.std.proofs.Common.{◌≡◌, ℕ, ◌+◌, ◌-◌, ◌*◌, ◌^◌, ◌≤◌, ◌<◌, List, [], ◌∷◌, ◌++◌, length, length-append, Bool, true, arith, refl, ap, ◌∙◌, map}
 use Rattle.encoding_mem.specs.Items.{Item, Byte, MalformedAt, LostAt}
 use Rattle.recode_log.specs.Line.{line_bytes}
 use Rattle.recode_log.specs.declared.line.LogLine.TheVariants.{Bad, Lost}
 use Rattle.recode.specs.TaggedByte.{Line, outputs, tagged}
-use Rattle.recode.specs.Work.{TakesCalls}
+use Rattle.recode.specs.Work.{IsCounted, TakesCalls}
 use Rattle.recode.specs.WrittenItems.{bad_lines, lost_lines}
 use Rattle.recode.specs.declared.target.Counts.{Counts}
 use Rattle.recode.proofs.TraceLemmas.{outputs-append, outputs-lines}
@@ -26,6 +26,13 @@ pub malformed_calls : (c c1 c' : Counts) (k : ℕ) (last : Bool) (w v : List Ite
     → c'.calls + c1.index ≤ c1.calls + c'.index + 2 * length v + 2 → c'.index ≡ c1.index + 1
     → (r : List ℕ) → (last ≡ true → r ≡ []) → TakesCalls 0 c c' (a r) (b r)
 malformed_calls c c1 c' k last w v m a b is one few up more next r h = omega (arith, one, few, up, more, next, ap length (is r h), length-append (w ++ (m ∷ v)) (b r), length-append w (m ∷ v))
+
+-- one more call behind some, of which at most so many are left
+pub counted_more : (calls calls1 calls2 left most : ℕ) → (calls1 < 2 ^ 64 - 1 → calls ≤ calls1) → calls1 + left ≤ calls + most → IsCounted 1 1 calls1 calls2 → IsCounted 1 (most + 1) calls calls2
+counted_more calls calls1 calls2 left most up few one = record {
+  at_least = λ under. let call = one.at_least under in omega (arith, call, up (omega (arith, call, under)));
+  at_most = omega (arith, few, one.at_most);
+}
 
 -- those of one stretch and of the next
 pub more_calls : (n m : ℕ) (c c' c'' : Counts) (w w' w'' : List Item) → TakesCalls n c c' w w' → TakesCalls m c' c'' w' w'' → TakesCalls (n + m) c c'' w w''

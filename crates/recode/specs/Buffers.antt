@@ -18,6 +18,12 @@ abbrev pub capacity : Pivot → ℕ
 capacity (Utf8 bytes) = length bytes.now
 capacity (Utf16 units) = length units.now
 
+-- a pivot of the kind and size that it was of, which still holds any character
+pub record KeepsRoom (before after : Pivot) : Type 0 where
+  pub roomy : HoldsAnyCharacter after
+  pub kind : is_wide after ≡ is_wide before
+  pub size : capacity after ≡ capacity before
+
 pub record AreEnough (b : Buffers) : Type 0 where
   pub input : 0 < length b.input.now
   pub pivot : HoldsAnyCharacter b.pivot

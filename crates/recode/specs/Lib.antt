@@ -22,7 +22,10 @@ pub mod Latency
 pub mod Conversion
 pub mod Program
 pub mod VerdictView
-pub mod EngineState
 pub mod Writers
+pub mod Lent
+pub mod Text
+pub mod Chunk
+pub mod EngineState
 pub mod SessionView
 pub mod examples

@@ -72,7 +72,7 @@ pub record IsReport (j : Job) (x : List ℕ) (p : Report) : Type 0 where
   pub read : p.read ≡ length x
   pub bad : p.bad ≡ malformed_count (input_pieces j x)
   pub lost : p.lost ≡ lost_count (target_of j) (input_text j x)
-  pub calls : p.calls ≤ 37 * p.read + 9
+  pub calls : (3 * p.bad + p.lost + 2 ≤ p.calls) × (p.calls ≤ 37 * p.read + 9)
   pub encoding : p.encoding ≡ source_in j x
   pub faithful : IsTrue p.faithful ↔ Faithful j x
 

@@ -1,5 +1,5 @@
 -- Where a conversion stands, as contracts see it.
-use Rattle.std.specs.Prelude.{List, ℕ}
+use Rattle.std.specs.Prelude.{Bool, List, ℕ}
 use Rattle.encoding_mem.specs.Coding.{Coding}
 use Rattle.encoding_mem.specs.Decoding.{DecoderState}
 use Rattle.encoding_mem.specs.Items.{Item}
@@ -11,11 +11,12 @@ use Rattle.recode.specs.Verdict.{IsFaithfulFor, VerdictView}
 use Rattle.recode.specs.declared.job.Policy.{Policy}
 use Rattle.recode.specs.declared.target.Counts.{Counts}
 
--- The pieces of the bytes to come, and the encoding that the input turns out to be in with them; the target's rule and
+-- The pieces of the bytes to come, whether there can be more, and the encoding that the input turns out to be in with them; the target's rule and
 -- the set in force, and what is done about characters without bytes; whether something was lost, and what was counted
 -- so far.
 pub record State : Type 0 where
   pub decoder : DecoderState
+  pub finished : Bool
   pub source : List ℕ → Encoding
   pub coding : Coding
   pub set : EscapeState

@@ -14,7 +14,7 @@ use Rattle.recode.specs.State.{State, WillBeFaithful, to_write}
 use Rattle.recode.specs.Streams.{KeepsWritten, Streams, Written}
 use Rattle.recode.specs.TaggedByte.{TaggedByte, Wrote, IsPrefix, tagged}
 use Rattle.recode.specs.TraceToWrite.{AreSound}
-use Rattle.recode.specs.Work.{TakesCalls}
+use Rattle.recode.specs.Work.{TakesAtLeast, TakesCalls}
 use Rattle.recode.specs.WrittenItems.{IsStop, WritesItems, WritesItemsFor, WritesPrefixFor}
 use Rattle.recode.specs.declared.target.Counts.{Counts}
 use Rattle.recode.specs.declared.job.Fault.{Fault}
@@ -36,7 +36,8 @@ pub record Advances (before after : List ℕ → List Piece) (e : Coding) (s s' 
 -- Some bytes were read. What was still to be written for them and any bytes to come is what was written, then what is
 -- still to be written now; the encoding that the input turns out to be in stays the same. What is decided was
 -- converted, however the input goes on: what was written is its text and what was logged its lines, no more and no
--- less, and what is pending is nearly decided. Of codecs it took few calls.
+-- less, and what is pending is nearly decided. Of codecs it took few calls, and two at least, with three more for each
+-- malformed sequence and one for each lost character.
 pub record StepsOn (before after : Streams) (limit : ℕ) (s s' : State) : Type 0 where
   pub chunk : List ℕ
   pub consumed : Consumes before.input after.input chunk
@@ -53,6 +54,7 @@ pub record StepsOn (before after : Streams) (limit : ℕ) (s s' : State) : Type 
   pub settled : IsNearlyDecided s'.decoder
   pub verdict : (r : List ℕ) → WillBeFaithful s (chunk ++ r) ↔ WillBeFaithful s' r
   pub calls : (r : List ℕ) → TakesCalls 3 s.counts s'.counts (to_write s (chunk ++ r)) (to_write s' r)
+  pub least : TakesAtLeast (3 * (s'.counts.bad - s.counts.bad) + 2) s.counts s'.counts
 
 -- Some steps that went on, from a state to a later one. They may be none.
 pub record HasRun (before after : Streams) (limit : ℕ) (s s' : State) : Type 0 where
@@ -68,6 +70,7 @@ pub record HasRun (before after : Streams) (limit : ℕ) (s s' : State) : Type 0
   pub source : (r : List ℕ) → s.source (chunk ++ r) ≡ s'.source r
   pub verdict : (r : List ℕ) → WillBeFaithful s (chunk ++ r) ↔ WillBeFaithful s' r
   pub calls : (r : List ℕ) → TakesCalls (3 * length chunk) s.counts s'.counts (to_write s (chunk ++ r)) (to_write s' r)
+  pub least : TakesAtLeast (3 * (s'.counts.bad - s.counts.bad)) s.counts s'.counts
 
 -- The end was read, and all the rest of the trace was written: under a policy that stops, none of it a lost character.
 -- It may stand for some steps and the one that ended.
@@ -81,6 +84,7 @@ pub record Finishes (before after : Streams) (limit : ℕ) (s s' : State) : Type
   pub source : s.source chunk ≡ s'.source []
   pub verdict : WillBeFaithful s chunk ↔ IsTrue s'.verdict.faithful
   pub calls : TakesCalls (3 * length chunk + 3) s.counts s'.counts (to_write s chunk) []
+  pub least : TakesAtLeast (3 * (s'.counts.bad - s.counts.bad) + 2) s.counts s'.counts
   pub sound : AreSound s'.decoder.pending s'.counts
 
 -- where the bytes that were read pass the limit, or not

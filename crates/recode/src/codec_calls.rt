@@ -8,7 +8,7 @@ ghost use Rattle.encoding_mem.specs.Encoding.{EncodeEndsWith, Encodes};
 ghost use Rattle.encoding_mem.specs.Writing.{Adds, encode_utf16_all};
 ghost use Rattle.encoding_front.specs.DecoderCall.{DecoderCall};
 ghost use Rattle.encoding_front.specs.Stream.{finishes};
-ghost use Rattle.recode.specs.Buffers.{HoldsAnyCharacter, capacity, is_wide};
+ghost use Rattle.recode.specs.Buffers.{HoldsAnyCharacter, KeepsRoom, is_wide};
 ghost use Rattle.recode.specs.Character.{begins_character};
 ghost use Rattle.recode.specs.CodecCalls.{DecodeCallEndsWith};
 ghost use Rattle.recode.specs.Work.{IsCounted};
@@ -84,7 +84,7 @@ pub fn text_in<'p>(pivot: &'p Pivot<'_>, len: usize) -> PivotText<'p>
 
 // Counts a call of a codec. The count stops at the greatest number.
 fn count_call(calls: &mut u64)
-    ensures { IsCounted calls.old calls.new }
+    ensures { IsCounted 1 1 calls.old calls.new }
 {
     *calls = calls.saturating_add(1);
 }
@@ -97,6 +97,18 @@ pub struct DecodeCall {
     pub read: usize,
     /// The elements of the pivot that were written.
     pub written: usize,
+}
+
+impl DecodeCall {
+    ghost use Rattle.std.specs.Prelude.{◌≡◌};
+    ghost use Rattle.recode.specs.CodecCalls.{reads_all};
+
+    /// Whether all bytes are read, and all that they give is written.
+    pub fn is_done(&self) -> bool
+        ensures { result ≡ reads_all self.now.answer }
+    {
+        matches!(self.answer, DecoderResult::InputEmpty)
+    }
 }
 
 // Decodes to UTF-8. Returns how the call ended, the bytes read and the elements written.
@@ -152,10 +164,8 @@ pub fn decode_to_pivot<D: StreamDecoder>(
         → (D.view decoder.old).source (src.now ++ r)
         ≡ (D.view decoder.new).source (drop result.read src.now ++ r) }
     ensures finished { (D.view decoder.new).finished ≡ finishes last result.answer }
-    ensures roomy { HoldsAnyCharacter pivot.new }
-    ensures kind { is_wide pivot.new ≡ is_wide pivot.old }
-    ensures size { capacity pivot.new ≡ capacity pivot.old }
-    ensures calls { IsCounted calls.old calls.new }
+    ensures pivot { KeepsRoom pivot.old pivot.new }
+    ensures calls { IsCounted 1 1 calls.old calls.new }
 {
     count_call(calls);
     match pivot {
@@ -192,6 +202,18 @@ pub struct EncodeCall<'p> {
     pub rest: PivotText<'p>,
 }
 
+impl<'p> EncodeCall<'p> {
+    ghost use Rattle.std.specs.Prelude.{◌≡◌};
+    ghost use Rattle.recode.specs.CodecCalls.{writes_all};
+
+    /// Whether all of the text is read, and all that it gives is written.
+    pub fn is_done(&self) -> bool
+        ensures { result ≡ writes_all self.now.answer }
+    {
+        matches!(self.answer, EncoderResult::InputEmpty)
+    }
+}
+
 /// One call of an encoder, which reads text of a pivot. It is counted: no encoder is called but
 /// here.
 pub fn encode_from_pivot<'p, E: RawEncoder>(
@@ -211,7 +233,7 @@ pub fn encode_from_pivot<'p, E: RawEncoder>(
         (pivot_chars result.rest) }
     ensures ends { EncodeEndsWith (E.need encoder.old) last result.answer (E.set encoder.new)
         (pivot_chars result.rest) (length out.new - result.written) }
-    ensures calls { IsCounted calls.old calls.new }
+    ensures calls { IsCounted 1 1 calls.old calls.new }
 {
     count_call(calls);
     match text {

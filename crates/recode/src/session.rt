@@ -5,15 +5,13 @@ ghost use Rattle.encoding_mem.specs.Decoding.{DecoderState};
 ghost use Rattle.recode_log.specs.Counted.{failures_of};
 ghost use Rattle.recode.specs.Job.{IsValidJob};
 ghost use Rattle.recode.specs.Buffers.{AreEnough, KeepSizes};
-ghost use Rattle.recode.specs.TraceToWrite.{AreSound};
+ghost use Rattle.recode.specs.Chunk.{CanConvert};
 ghost use Rattle.recode.specs.EngineState.{engine_state};
 ghost use Rattle.recode.specs.Session.{View, IsOver, IsNewSession, IsStepped, Tells, Completes, Fails};
 ghost use Rattle.recode.specs.declared.session.Phase.TheVariants.{Open};
 ghost use Rattle.recode.specs.Step.{Finishes, Stops, StepsOn};
 ghost use Rattle.recode.specs.Failures.{CountsFault, failures_in};
 ghost use Rattle.recode.specs.Streams.{streams_in};
-ghost use Rattle.recode.specs.Verdict.{CanTell};
-ghost use Rattle.recode.specs.VerdictView.{verdict_view};
 
 use crate::engine::Engine;
 use crate::job::{Buffers, Fault, Job, Pivot, Progress, Report};
@@ -49,16 +47,11 @@ pub struct Session<'t> {
     job: Job<'t>,
     phase: Phase,
     ghost small: { job.limit ≤ 2 ^ 48 },
-    ghost sound: { phase ≡ Open → AreSound
-        (⟦<Decoder<'static> as StreamDecoder>⟧.view engine.decoder).state.pending
-        engine.target.counts },
-    ghost open_: { phase ≡ Open → (⟦<Decoder<'static> as StreamDecoder>⟧.view
-        engine.decoder).finished ≡ false },
+    ghost ready: { phase ≡ Open → CanConvert (engine_state
+        ⟦<Decoder<'static> as StreamDecoder>⟧.view
+        ⟦<VariantEncoder<'static> as RawEncoder>⟧.coding
+        ⟦<VariantEncoder<'static> as RawEncoder>⟧.set job.policy engine) },
     ghost within: { phase ≡ Open → engine.target.counts.read ≤ job.limit },
-    ghost tells: { phase ≡ Open → CanTell
-        (verdict_view ⟦<Decoder<'static> as StreamDecoder>⟧.view engine.target.verdict)
-        (⟦<VariantEncoder<'static> as RawEncoder>⟧.coding engine.target.encoder)
-        (⟦<VariantEncoder<'static> as RawEncoder>⟧.set engine.target.encoder) [] },
 }
 
 impl<'t> Viewed for Session<'t> {
@@ -194,16 +187,7 @@ impl<'t> Session<'t> {
             policy: self.job.policy,
         };
         self.phase = Phase::Stopped;
-        let stepped = self.engine.step(
-            reader,
-            &mut writers,
-            limit,
-            buffers.input,
-            &mut buffers.pivot,
-            buffers.output,
-            &mut buffers.check,
-        );
-        match stepped {
+        match self.engine.step(reader, &mut writers, limit, buffers) {
             Ok(Progress::More) => {
                 self.phase = Phase::Open;
                 Ok(Progress::More)
@@ -222,8 +206,9 @@ impl<'t> Session<'t> {
 ///
 /// - `Ok`: the input was read to its end, and is within the limit. Exactly its output and its log
 ///   were written. They depend on the input and the job alone: not on how reads are cut, on the
-///   sizes of the buffers or on the kind of the pivot. The codecs were called at most 37 times for
-///   each byte of the input, and 9 times more.
+///   sizes of the buffers or on the kind of the pivot. The codecs were called at least twice, with
+///   three times more for each malformed sequence and once for each lost character, and at most 37
+///   times for each byte of the input, and 9 times more.
 /// - `Err`: a call of the reader (`Read`), the writer (`Write`) or the log (`Log`) failed, and no
 ///   other; or none failed, and the input has more bytes than the job's limit (`TooLong`), or the
 ///   policy is `Policy::Stop` and a character has no bytes (`Unmappable`). Output and log have a

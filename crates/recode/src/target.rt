@@ -1,7 +1,7 @@
 //! The part of an engine that writes text: what its encoder writes is delivered and read back, and
 //! what has no bytes is logged.
 
-use crate::codec_calls::{PivotText, encode_from_pivot};
+use crate::codec_calls::{EncodeCall, PivotText, encode_from_pivot};
 use crate::job::{Fault, Pivot};
 use crate::verdict::Verdict;
 use crate::writers::{Writers, log_line, put_reference};
@@ -26,15 +26,6 @@ pub struct Counts {
     pub calls: u64,
 }
 
-/// What one call of an encoder left.
-#[derive(Clone, Copy)]
-pub struct EncodeTurn<'p> {
-    /// The text that was not read.
-    pub rest: PivotText<'p>,
-    /// Whether all is written.
-    pub is_done: bool,
-}
-
 /// What writes the text of a conversion: the encoder, what was counted, and whether something was
 /// lost.
 #[derive(Drop)]
@@ -45,15 +36,20 @@ pub struct Target<D, E> {
 }
 
 impl<D: StreamDecoder, E: RawEncoder> Target<D, E> {
-    ghost use Rattle.std.specs.Prelude.{◌≡◌, ℕ, ◌+◌, ◌-◌, ◌*◌, ◌^◌, ◌<◌, ◌≤◌, ◌++◌, ◌∷◌, ◌⊎◌, List, [], true, false, length, map, IfErr, IfOk, OnOk};
-    ghost use Rattle.encoding_mem.specs.Coding.{last_set, reference};
-    ghost use Rattle.encoding_mem.specs.Items.{Item, LostAt, MalformedAt, Byte, open_items, whole_items};
-    ghost use Rattle.encoding_mem.specs.declared.form.EscapeState.TheVariants.{Ascii};
+    ghost use Rattle.std.specs.Prelude.{◌≡◌, ◌+◌, ◌-◌, ◌^◌, ◌<◌, ◌≤◌, ◌++◌, ◌∷◌, List, [], length, map, IfErr, IfOk, OnOk};
+    ghost use Rattle.encoding_mem.specs.Coding.{reference};
+    ghost use Rattle.encoding_mem.specs.Items.{Item, LostAt, Byte};
+    ghost use Rattle.recode_log.specs.Line.{IsValid};
+    ghost use Rattle.recode_log.specs.declared.line.LogLine.TheVariants.{Bad};
     ghost use Rattle.recode.specs.WrittenItems.{WritesItems, WritesPrefix};
-    ghost use Rattle.recode.specs.Buffers.{HoldsAnyCharacter, capacity, is_wide};
+    ghost use Rattle.recode.specs.Buffers.{HoldsAnyCharacter, KeepsRoom};
+    ghost use Rattle.recode.specs.CodecCalls.{writes_all};
+    ghost use Rattle.recode.specs.Lent.{AreLentFor};
+    ghost use Rattle.recode.specs.Text.{CanEncode, EncodesPart, EncodesText, WritesMalformed};
+    ghost use Rattle.recode.specs.Text.{malformed_items, text_items};
+    ghost use Rattle.recode.specs.EngineState.{target_state};
     ghost use Rattle.recode.specs.Policy.{form_of};
     ghost use Rattle.recode.specs.PivotText.{is_in_units, pivot_chars, IsWholeText};
-    ghost use Rattle.recode.specs.Verdict.{CanTell, IsToldAtEnd, Keeps, NeedsForm};
     ghost use Rattle.recode.specs.VerdictView.{verdict_view};
     ghost use Rattle.recode.specs.Writers.{CountsWriterFault, MayFail, written_by};
 
@@ -102,70 +98,29 @@ impl<D: StreamDecoder, E: RawEncoder> Target<D, E> {
         output: &mut [u8],
         check: &mut Pivot<'_>,
         last: bool,
-    ) -> Result<EncodeTurn<'p>, Fault>
-        requires room { 4 ≤ length output.old }
-        requires index { self.old.counts.index + length (pivot_chars text) ≤ 2 ^ 48 }
-        requires lost { self.old.counts.lost ≤ self.old.counts.index }
-        requires check { HoldsAnyCharacter check.old }
-        requires form { NeedsForm (verdict_view D.view self.old.verdict) check.old text }
+    ) -> Result<EncodeCall<'p>, Fault>
+        requires ready { CanEncode (target_state D.view E.coding E.set writers.old.policy self.old)
+            (pivot_chars text) }
         requires text { IsWholeText text }
-        requires tells { CanTell (verdict_view D.view self.old.verdict) (E.coding self.old.encoder)
-            (E.set self.old.encoder) (pivot_chars text) }
+        requires lent { AreLentFor (verdict_view D.view self.old.verdict) text check.old
+            output.old }
         requires writers { MayFail writers.old }
-        ensures pays { IfOk result (λ p. WritesItems
+        ensures part { IfOk result (λ p. EncodesPart
             (written_by W.contents L.contents writers.old)
             (written_by W.contents L.contents writers.new)
-            self.old.counts self.new.counts writers.old.policy
-            (whole_items (form_of writers.old.policy) (E.coding self.old.encoder) last
-            (E.set self.old.encoder)
-            self.old.counts.index (pivot_chars text.entry))
-            (whole_items (form_of writers.old.policy) (E.coding self.old.encoder) last
-            (E.set self.new.encoder)
-            self.new.counts.index (pivot_chars p.rest))) }
-        ensures passed { IfOk result (λ p. self.new.counts.index + length (pivot_chars p.rest)
-            ≡ self.old.counts.index + length (pivot_chars text.entry)) }
-        ensures lost { OnOk result (self.new.counts.lost ≤ self.new.counts.index) }
-        ensures bad { OnOk result (self.new.counts.bad ≡ self.old.counts.bad) }
-        ensures read { OnOk result (self.new.counts.read ≡ self.old.counts.read) }
-        ensures target { E.coding self.new.encoder ≡ E.coding self.old.encoder }
-        ensures state { IfOk result (λ p. last ≡ false
-            → last_set (E.coding self.old.encoder) (E.set self.old.encoder) (pivot_chars text.entry)
-            ≡ last_set (E.coding self.old.encoder) (E.set self.new.encoder) (pivot_chars p.rest)) }
-        ensures done { IfOk result (λ p. p.is_done ≡ true
-            → (pivot_chars p.rest ≡ []) × (last ≡ true → E.set self.new.encoder ≡ Ascii)) }
-        ensures more { IfOk result (λ p. p.is_done ≡ false → length
-            (whole_items (form_of writers.old.policy) (E.coding self.old.encoder) last
-            (E.set self.new.encoder)
-            self.new.counts.index (pivot_chars p.rest))
-            < length
-            (whole_items (form_of writers.old.policy) (E.coding self.old.encoder) last
-            (E.set self.old.encoder)
-            self.old.counts.index (pivot_chars text.entry))) }
+            (target_state D.view E.coding E.set writers.old.policy self.old)
+            (target_state D.view E.coding E.set writers.new.policy self.new)
+            last (pivot_chars text.entry) (pivot_chars p.rest) (writes_all p.answer)) }
+        ensures rest { IfOk result (λ p. IsWholeText p.rest
+            × (is_in_units p.rest ≡ is_in_units text.entry)) }
         ensures err { IfErr result (λ f. WritesPrefix
             (written_by W.contents L.contents writers.old)
             (written_by W.contents L.contents writers.new) writers.old.policy f
-            (whole_items (form_of writers.old.policy) (E.coding self.old.encoder) last
-            (E.set self.old.encoder)
-            self.old.counts.index (pivot_chars text.entry))) }
+            (text_items (target_state D.view E.coding E.set writers.old.policy self.old) last
+            (pivot_chars text.entry))) }
+        ensures target { E.coding self.new.encoder ≡ E.coding self.old.encoder }
         ensures failures { CountsWriterFault writers.old writers.new result }
-        ensures verdict { IfOk result (λ p. Keeps (E.coding self.old.encoder) last
-            (verdict_view D.view self.old.verdict) (E.set self.old.encoder) (pivot_chars text.entry)
-            (verdict_view D.view self.new.verdict) (E.set self.new.encoder) (pivot_chars p.rest)) }
-        ensures tells { IfOk result (λ p. (p.is_done ≡ false) ⊎ (last ≡ false)
-            → CanTell (verdict_view D.view self.new.verdict) (E.coding self.old.encoder)
-            (E.set self.new.encoder) (pivot_chars p.rest)) }
-        ensures told { IfOk result (λ p. p.is_done ≡ true → last ≡ true
-            → IsToldAtEnd (verdict_view D.view self.new.verdict)) }
-        ensures rest { IfOk result (λ p. IsWholeText p.rest
-            × (is_in_units p.rest ≡ is_in_units text.entry)) }
-        ensures calls { OnOk result (self.new.counts.calls + self.old.counts.index
-            ≤ self.old.counts.calls + self.new.counts.index + 2) }
-        ensures stays { OnOk result (self.old.verdict.faithful ≡ false
-            → self.new.verdict.faithful ≡ false) }
-        ensures by_log { self.new.verdict.by_log ≡ self.old.verdict.by_log }
-        ensures roomy { HoldsAnyCharacter check.new }
-        ensures kind { is_wide check.new ≡ is_wide check.old }
-        ensures size { capacity check.new ≡ capacity check.old }
+        ensures check { KeepsRoom check.old check.new }
     {
         let calls = &mut self.counts.calls;
         let call = encode_from_pivot(&mut self.encoder, text, output, last, calls);
@@ -176,27 +131,18 @@ impl<D: StreamDecoder, E: RawEncoder> Target<D, E> {
                 let written = &output[..call.written];
                 let calls = &mut self.counts.calls;
                 self.verdict.read_back(written, call.read, check, calls);
-                Ok(EncodeTurn {
-                    rest: call.rest,
-                    is_done: true,
-                })
+                Ok(call)
             }
             EncoderResult::OutputFull => {
                 let written = &output[..call.written];
                 let calls = &mut self.counts.calls;
                 self.verdict.read_back(written, call.read, check, calls);
-                Ok(EncodeTurn {
-                    rest: call.rest,
-                    is_done: false,
-                })
+                Ok(call)
             }
             EncoderResult::Unmappable(scalar) => {
                 self.verdict.faithful = false;
                 self.log_lost(writers, scalar)?;
-                Ok(EncodeTurn {
-                    rest: call.rest,
-                    is_done: false,
-                })
+                Ok(call)
             }
         }
     }
@@ -210,66 +156,34 @@ impl<D: StreamDecoder, E: RawEncoder> Target<D, E> {
         check: &mut Pivot<'_>,
         last: bool,
     ) -> Result<(), Fault>
-        requires room { 4 ≤ length output.old }
-        requires index { self.old.counts.index + length (pivot_chars text) ≤ 2 ^ 48 }
-        requires lost { self.old.counts.lost ≤ self.old.counts.index }
-        requires check { HoldsAnyCharacter check.old }
-        requires form { NeedsForm (verdict_view D.view self.old.verdict) check.old text }
+        requires ready { CanEncode (target_state D.view E.coding E.set writers.old.policy self.old)
+            (pivot_chars text) }
         requires text { IsWholeText text }
-        requires tells { CanTell (verdict_view D.view self.old.verdict) (E.coding self.old.encoder)
-            (E.set self.old.encoder) (pivot_chars text) }
+        requires lent { AreLentFor (verdict_view D.view self.old.verdict) text check.old
+            output.old }
         requires writers { MayFail writers.old }
-        ensures pays { OnOk result (WritesItems
+        ensures text { OnOk result (EncodesText
             (written_by W.contents L.contents writers.old)
             (written_by W.contents L.contents writers.new)
-            self.old.counts self.new.counts writers.old.policy
-            (whole_items (form_of writers.old.policy) (E.coding self.old.encoder) last
-            (E.set self.old.encoder)
-            self.old.counts.index (pivot_chars text.entry)) []) }
-        ensures passed { OnOk result (self.new.counts.index
-            ≡ self.old.counts.index + length (pivot_chars text.entry)) }
-        ensures lost { OnOk result (self.new.counts.lost ≤ self.new.counts.index) }
-        ensures bad { OnOk result (self.new.counts.bad ≡ self.old.counts.bad) }
-        ensures read { OnOk result (self.new.counts.read ≡ self.old.counts.read) }
-        ensures target { E.coding self.new.encoder ≡ E.coding self.old.encoder }
-        ensures state { OnOk result (last ≡ false → E.set self.new.encoder
-            ≡ last_set (E.coding self.old.encoder) (E.set self.old.encoder)
-            (pivot_chars text.entry)) }
-        ensures closed { OnOk result (last ≡ true → E.set self.new.encoder ≡ Ascii) }
+            (target_state D.view E.coding E.set writers.old.policy self.old)
+            (target_state D.view E.coding E.set writers.new.policy self.new)
+            last (pivot_chars text.entry)) }
         ensures err { IfErr result (λ f. WritesPrefix
             (written_by W.contents L.contents writers.old)
             (written_by W.contents L.contents writers.new) writers.old.policy f
-            (whole_items (form_of writers.old.policy) (E.coding self.old.encoder) last
-            (E.set self.old.encoder)
-            self.old.counts.index (pivot_chars text.entry))) }
+            (text_items (target_state D.view E.coding E.set writers.old.policy self.old) last
+            (pivot_chars text.entry))) }
+        ensures target { E.coding self.new.encoder ≡ E.coding self.old.encoder }
         ensures failures { CountsWriterFault writers.old writers.new result }
-        ensures verdict { OnOk result (Keeps (E.coding self.old.encoder) last
-            (verdict_view D.view self.old.verdict) (E.set self.old.encoder) (pivot_chars text.entry)
-            (verdict_view D.view self.new.verdict) (E.set self.new.encoder) []) }
-        ensures tells { OnOk result (last ≡ false
-            → CanTell (verdict_view D.view self.new.verdict) (E.coding self.old.encoder)
-            (E.set self.new.encoder) []) }
-        ensures told { OnOk result (last ≡ true
-            → IsToldAtEnd (verdict_view D.view self.new.verdict)) }
-        ensures calls { OnOk result (self.new.counts.calls + self.old.counts.index
-            ≤ self.old.counts.calls + self.new.counts.index + 2 * length
-            (whole_items (form_of writers.old.policy) (E.coding self.old.encoder) last
-            (E.set self.old.encoder)
-            self.old.counts.index (pivot_chars text.entry)) + 2) }
-        ensures stays { OnOk result (self.old.verdict.faithful ≡ false
-            → self.new.verdict.faithful ≡ false) }
-        ensures by_log { self.new.verdict.by_log ≡ self.old.verdict.by_log }
-        ensures roomy { HoldsAnyCharacter check.new }
-        ensures kind { is_wide check.new ≡ is_wide check.old }
-        ensures size { capacity check.new ≡ capacity check.old }
+        ensures check { KeepsRoom check.old check.new }
     {
         let mut rest = text;
         'text: loop {
-            let turn = self.encode_part(writers, rest, output, check, last)?;
-            if turn.is_done {
+            let call = self.encode_part(writers, rest, output, check, last)?;
+            if call.is_done() {
                 return Ok(());
             }
-            rest = turn.rest;
+            rest = call.rest;
         }
     }
 
@@ -282,50 +196,26 @@ impl<D: StreamDecoder, E: RawEncoder> Target<D, E> {
         output: &mut [u8],
         check: &mut Pivot<'_>,
     ) -> Result<(), Fault>
-        requires room { 4 ≤ length output.old }
-        requires offset { offset ≤ 2 ^ 48 }
-        requires some { 1 ≤ size }
-        requires few { size ≤ 4 }
-        requires index { self.old.counts.index < 2 ^ 48 }
-        requires lost { self.old.counts.lost ≤ self.old.counts.index }
+        requires ready { CanEncode (target_state D.view E.coding E.set writers.old.policy self.old)
+            (0xFFFD ∷ []) }
         requires bad { self.old.counts.bad ≤ self.old.counts.index }
+        requires line { IsValid (Bad offset size) }
+        requires output { 4 ≤ length output.old }
         requires check { HoldsAnyCharacter check.old }
-        requires tells { CanTell (verdict_view D.view self.old.verdict) (E.coding self.old.encoder)
-            (E.set self.old.encoder) [] }
         requires writers { MayFail writers.old }
-        ensures pays { OnOk result (WritesItems
+        ensures line { OnOk result (WritesMalformed
             (written_by W.contents L.contents writers.old)
             (written_by W.contents L.contents writers.new)
-            self.old.counts self.new.counts writers.old.policy
-            (MalformedAt offset size ∷ open_items (form_of writers.old.policy)
-            (E.coding self.old.encoder)
-            (E.set self.old.encoder) self.old.counts.index (0xFFFD ∷ [])) []) }
-        ensures index { OnOk result (self.new.counts.index ≡ self.old.counts.index + 1) }
-        ensures read { OnOk result (self.new.counts.read ≡ self.old.counts.read) }
-        ensures lost { OnOk result (self.new.counts.lost ≤ self.new.counts.index) }
-        ensures bad { OnOk result (self.new.counts.bad ≤ self.new.counts.index) }
-        ensures target { E.coding self.new.encoder ≡ E.coding self.old.encoder }
-        ensures state { OnOk result (E.set self.new.encoder
-            ≡ (E.coding self.old.encoder).set (E.set self.old.encoder) 0xFFFD) }
+            (target_state D.view E.coding E.set writers.old.policy self.old)
+            (target_state D.view E.coding E.set writers.new.policy self.new) offset size) }
         ensures err { IfErr result (λ f. WritesPrefix
             (written_by W.contents L.contents writers.old)
             (written_by W.contents L.contents writers.new) writers.old.policy f
-            (MalformedAt offset size ∷ open_items (form_of writers.old.policy)
-            (E.coding self.old.encoder)
-            (E.set self.old.encoder) self.old.counts.index (0xFFFD ∷ []))) }
+            (malformed_items (target_state D.view E.coding E.set writers.old.policy self.old)
+            offset size)) }
+        ensures target { E.coding self.new.encoder ≡ E.coding self.old.encoder }
         ensures failures { CountsWriterFault writers.old writers.new result }
-        ensures calls { OnOk result (self.new.counts.calls + self.old.counts.index
-            ≤ self.old.counts.calls + self.new.counts.index + 2 * length
-            (open_items (form_of writers.old.policy) (E.coding self.old.encoder)
-            (E.set self.old.encoder)
-            self.old.counts.index (0xFFFD ∷ [])) + 2) }
-        ensures verdict { OnOk result (self.new.verdict.faithful ≡ false) }
-        ensures tells { OnOk result (CanTell (verdict_view D.view self.new.verdict)
-            (E.coding self.old.encoder) (E.set self.new.encoder) []) }
-        ensures by_log { self.new.verdict.by_log ≡ self.old.verdict.by_log }
-        ensures roomy { HoldsAnyCharacter check.new }
-        ensures kind { is_wide check.new ≡ is_wide check.old }
-        ensures size { capacity check.new ≡ capacity check.old }
+        ensures check { KeepsRoom check.old check.new }
     {
         log_line(
             writers.log,

@@ -19,12 +19,13 @@ pub struct Verdict<D> {
 }
 
 impl<D: StreamDecoder> Verdict<D> {
-    ghost use Rattle.std.specs.Prelude.{◌≡◌, ◌≤◌, ◌+◌, ℕ, false, length};
+    ghost use Rattle.std.specs.Prelude.{◌≡◌, ◌+◌, ℕ, false, length};
     ghost use Rattle.std.specs.Bool.{MatchBool};
-    ghost use Rattle.recode.specs.Buffers.{HoldsAnyCharacter, capacity, is_wide};
+    ghost use Rattle.recode.specs.Buffers.{HoldsAnyCharacter, KeepsRoom, is_wide};
     ghost use Rattle.recode.specs.PivotText.{is_in_units, pivot_chars, IsWholeText};
     ghost use Rattle.recode.specs.Verdict.{IsReadBack, NeedsForm, ReadsAsOther, ReadsAsText};
     ghost use Rattle.recode.specs.VerdictView.{verdict_view};
+    ghost use Rattle.recode.specs.Work.{IsCounted};
 
     // Reads back what was written for a text, and compares it with that, part by part: at most a
     // call for each character, and one more.
@@ -46,10 +47,8 @@ impl<D: StreamDecoder> Verdict<D> {
             (D.view self.new.reader).state.pieces written.now (pivot_chars text.entry))
             (ReadsAsOther (D.view self.old.reader).state.pieces
             (D.view self.new.reader).state.pieces written.now (pivot_chars text.entry)) }
-        ensures calls { calls.new ≤ calls.old + length (pivot_chars text.entry) + 1 }
-        ensures roomy { HoldsAnyCharacter check.new }
-        ensures kind { is_wide check.new ≡ is_wide check.old }
-        ensures size { capacity check.new ≡ capacity check.old }
+        ensures calls { IsCounted 1 (length (pivot_chars text.entry) + 1) calls.old calls.new }
+        ensures check { KeepsRoom check.old check.new }
     {
         let mut left = written;
         let mut expected = text;
@@ -91,10 +90,8 @@ impl<D: StreamDecoder> Verdict<D> {
         requires text { IsWholeText text }
         ensures verdict { IsReadBack (verdict_view D.view self.old) (verdict_view D.view self.new)
             written.now (pivot_chars text.entry) }
-        ensures calls { calls.new ≤ calls.old + length (pivot_chars text.entry) + 1 }
-        ensures roomy { HoldsAnyCharacter check.new }
-        ensures kind { is_wide check.new ≡ is_wide check.old }
-        ensures size { capacity check.new ≡ capacity check.old }
+        ensures calls { IsCounted 0 (length (pivot_chars text.entry) + 1) calls.old calls.new }
+        ensures check { KeepsRoom check.old check.new }
     {
         if !self.by_log && self.faithful {
             self.compare(written, text, check, calls);

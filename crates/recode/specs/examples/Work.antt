@@ -2,7 +2,7 @@
 use Rattle.std.specs.Prelude.{◌≡◌, ℕ, [], ◌∷◌, refl}
 use Rattle.std.proofs.Common.{arith}
 use Rattle.encoding_mem.specs.Items.{Byte, LostAt}
-use Rattle.recode.specs.Work.{IsCounted, TakesCalls, calls_at_end}
+use Rattle.recode.specs.Work.{IsCounted, TakesAtLeast, TakesCalls, ends}
 use Rattle.recode.specs.declared.target.Counts.{Counts}
 use Rattle.std.specs.Prelude.{true, false}
 
@@ -16,15 +16,35 @@ as_many = omega arith
 no_more : TakesCalls 1 (counts 5 10) (counts 7 26) (Byte 0x41 ∷ LostAt 6 232 ∷ Byte 0x26 ∷ Byte 0x42 ∷ []) (Byte 0x42 ∷ []) → ⊥
 no_more h = absurd (omega (arith, h))
 
-at_end : calls_at_end true ≡ 3
+at_end : ends true ≡ 1
 at_end = refl
 
-before_end : calls_at_end false ≡ 0
+before_end : ends false ≡ 0
 before_end = refl
 
--- the count stops at 2^64 - 1
-counted_last : IsCounted 18446744073709551614 18446744073709551615
-counted_last = record { at_most = omega arith; one = λ h. refl }
+-- a line of a lost character, and two more
+abbrev with_lost : (lost calls : ℕ) → Counts
+with_lost lost calls = record { read = 9; index = 7; bad = 0; lost = lost; calls = calls }
 
-counted_no_more : IsCounted 18446744073709551615 18446744073709551615
-counted_no_more = record { at_most = omega arith; one = λ h. absurd (omega (arith, h)) }
+at_least : TakesAtLeast 2 (with_lost 1 10) (with_lost 2 13)
+at_least = λ under. omega arith
+
+no_less : TakesAtLeast 2 (with_lost 1 10) (with_lost 2 12) → ⊥
+no_less h = absurd (omega (arith, h (omega arith)))
+
+-- where the count has stopped nothing is said
+stopped : TakesAtLeast 2 (with_lost 1 18446744073709551615) (with_lost 2 18446744073709551615)
+stopped = λ under. absurd (omega (arith, under))
+
+-- the count stops at 2^64 - 1
+counted_last : IsCounted 1 1 18446744073709551614 18446744073709551615
+counted_last = record { at_least = λ h. absurd (omega (arith, h)); at_most = omega arith }
+
+counted_no_more : IsCounted 1 1 18446744073709551615 18446744073709551615
+counted_no_more = record { at_least = λ h. absurd (omega (arith, h)); at_most = omega arith }
+
+counted_one : IsCounted 1 1 5 6
+counted_one = record { at_least = λ h. omega arith; at_most = omega arith }
+
+not_none : IsCounted 1 1 5 5 → ⊥
+not_none h = absurd (omega (arith, h.at_least (omega arith)))

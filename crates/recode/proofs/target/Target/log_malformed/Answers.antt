@@ -2,8 +2,9 @@ use Rattle.std.proofs.Common.{◌+◌, arith, refl, ap, length, false, [], ◌�
 use Rattle.recode.specs.Policy.{form_of}
 use Rattle.encoding_mem.specs.Items.{MalformedAt, open_items, whole_items}
 use lib.Utf8.{encode}
+use Rattle.std.proofs.lemmas.Bool.{false≢true}
 use Rattle.std.specs.Str.{chars}
-use Rattle.recode.proofs.TraceLemmas.{under_line, writes_malformed, WritesItems-trans, WritesItems-under, WritesItems-of, WritesPrefix-of, hands_on}
+use Rattle.recode.proofs.TraceLemmas.{under_line, wrote_malformed, writes_malformed, WritesItems-under, WritesPrefix-of, hands_on}
 use Rattle.recode.proofs.DecoderCallLemmas.{replacement_text, open_replacement}
 use Rattle.recode.specs.VerdictView.{verdict_view}
 use Rattle.recode.proofs.VerdictLemmas.{lost_tells}
@@ -11,23 +12,6 @@ use Rattle.recode.proofs.target.Target.log_malformed.Goals as goal
 
 pub returns-in_err-log_line-clause-err : goal.returns-in_err-log_line-clause-err
 returns-in_err-log_line-clause-err g c = hands_on _ _ _ _ _ _ c.from_residual.ensures.1 (under_line _ _ _ _ _ _ _ (MalformedAt c.args.offset c.args.size) _ c.in_err-log_line.ensures.fault refl c.in_err-log_line.ensures.err.1)
-
-pub encode_text-requires-clause-index : goal.encode_text-requires-clause-index
-encode_text-requires-clause-index g c = omega (arith, ap length replacement_text, c.requires.index)
-
-pub returns-clause-pays : goal.returns-clause-pays
-returns-clause-pays g c = WritesItems-trans _ _ _ _ _ _ _ _ _ _
-    (writes_malformed _ _ _ _ (record c.args.self.now.counts { bad = c.args.self.now.counts.bad + 1 }) _ _ _ _ c.in_ok-log_line.ensures.ok.0 refl refl)
-    (WritesItems-of _ _ _ _ _ _ _ _ (open_replacement (form_of c.args.writers.now.policy) (g.E.RawEncoder.coding c.args.self.now.encoder) (g.E.RawEncoder.set c.args.self.now.encoder) c.args.self.now.counts.index) c.in_ok-encode_text.ensures.pays)
-
-pub returns-clause-index : goal.returns-clause-index
-returns-clause-index g c = omega (arith, ap length replacement_text, c.in_ok-encode_text.ensures.passed)
-
-pub returns-clause-bad : goal.returns-clause-bad
-returns-clause-bad g c = omega (arith, ap length replacement_text, c.in_ok-encode_text.ensures.passed, c.in_ok-encode_text.ensures.bad, c.requires.bad)
-
-pub returns-clause-state : goal.returns-clause-state
-returns-clause-state g c = rw replacement_text at (c.in_ok-encode_text.ensures.state refl)
 
 pub returns-in_err-encode_text-clause-err : goal.returns-in_err-encode_text-clause-err
 returns-in_err-encode_text-clause-err g c =
@@ -42,8 +26,19 @@ pub encode_text-requires-clause-text : goal.encode_text-requires-clause-text
 unfolding encode
 encode_text-requires-clause-text g c = record { scalars = rw replacement_text refl; whole = rw replacement_text refl }
 
-pub encode_text-requires-clause-tells : goal.encode_text-requires-clause-tells
-encode_text-requires-clause-tells g c = lost_tells (g.E.RawEncoder.coding c.args.self.now.encoder) (verdict_view g.D.StreamDecoder.view c.args.self.now.verdict) (g.E.RawEncoder.set c.args.self.now.encoder) [] (g.E.RawEncoder.set c.args.self.now.encoder) _ c.requires.tells
+pub encode_text-requires-clause-ready : goal.encode_text-requires-clause-ready
+encode_text-requires-clause-ready g c = record {
+  index = omega (arith, ap length replacement_text, c.requires.ready.index);
+  lost = c.requires.ready.lost;
+  tells = lost_tells (g.E.RawEncoder.coding c.args.self.now.encoder) (verdict_view g.D.StreamDecoder.view c.args.self.now.verdict) (g.E.RawEncoder.set c.args.self.now.encoder) (0xFFFD ∷ []) (g.E.RawEncoder.set c.args.self.now.encoder) _ c.requires.ready.tells;
+}
 
-pub returns-clause-calls : goal.returns-clause-calls
-returns-clause-calls g c = omega (arith, c.in_ok-encode_text.ensures.calls, ap length (open_replacement (form_of c.args.writers.now.policy) (g.E.RawEncoder.coding c.args.self.now.encoder) (g.E.RawEncoder.set c.args.self.now.encoder) c.args.self.now.counts.index))
+pub encode_text-requires-clause-lent : goal.encode_text-requires-clause-lent
+encode_text-requires-clause-lent g c = record { check = c.requires.check; output = c.requires.output; form = λ no_log faithful. absurd (false≢true faithful) }
+
+pub returns-clause-line : goal.returns-clause-line
+returns-clause-line g c = record {
+  between = _;
+  line = wrote_malformed _ _ _ c.args.offset c.args.size c.in_ok-log_line.ensures.ok.0;
+  text = rw replacement_text at c.in_ok-encode_text.ensures.text;
+}

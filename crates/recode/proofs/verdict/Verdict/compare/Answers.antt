@@ -1,7 +1,9 @@
 use Rattle.std.proofs.Common.{◌∙◌, ap, arith, length, length-append, refl, sym}
 use Rattle.recode.proofs.DecoderCallLemmas.{empty_call, full_call, full_left, full_some, malformed_call, some_written}
 use Rattle.std.proofs.lemmas.List.{take_rest}
+use Rattle.recode.proofs.BufferLemmas.{room_on, room_start}
 use Rattle.recode.proofs.CompareLemmas.{compares_differing, compares_end, compares_malformed, compares_more, compares_start}
+use Rattle.recode.proofs.WorkLemmas.{counted_more}
 use Rattle.recode.proofs.PivotLemmas.{holds_some}
 use Rattle.recode.specs.PivotText.{pivot_chars}
 use Rattle.recode.proofs.verdict.Verdict.compare.Goals as goal
@@ -13,14 +15,13 @@ parts-init g c = record {
   by_log = refl;
   expected = c.requires.text;
   form = c.requires.form;
-  roomy = c.requires.check;
-  kind = refl;
-  size = refl;
-  calls = omega arith;
+  check = room_start _ c.requires.check;
+  least = λ under. omega arith;
+  most = omega arith;
 }
 
 pub decode_to_pivot-call-requires-clause-pivot : goal.decode_to_pivot-call-requires-clause-pivot
-decode_to_pivot-call-requires-clause-pivot g c = c.parts.invariant.roomy
+decode_to_pivot-call-requires-clause-pivot g c = c.parts.invariant.check.roomy
 
 pub decode_to_pivot-call-requires-clause-open_ : goal.decode_to_pivot-call-requires-clause-open_
 decode_to_pivot-call-requires-clause-open_ g c = c.parts.invariant.open_
@@ -29,7 +30,7 @@ pub text_in-part-requires : goal.text_in-part-requires
 text_in-part-requires g c = some_written (g.D.StreamDecoder.view c.parts.self.reader).state (g.D.StreamDecoder.view c.decode_to_pivot-call.new.decoder).state _ _ _ _ _ c.decode_to_pivot-call.ensures.law
 
 pub strip_prefix-requires-clause-form : goal.strip_prefix-requires-clause-form
-strip_prefix-requires-clause-form g c = sym c.parts.invariant.form ∙ sym c.decode_to_pivot-call.ensures.kind ∙ sym c.text_in-part.ensures.form
+strip_prefix-requires-clause-form g c = sym c.parts.invariant.form ∙ sym c.decode_to_pivot-call.ensures.pivot.kind ∙ sym c.text_in-part.ensures.form
 
 pub strip_prefix-requires-clause-text : goal.strip_prefix-requires-clause-text
 strip_prefix-requires-clause-text g c = c.parts.invariant.expected
@@ -37,8 +38,8 @@ strip_prefix-requires-clause-text g c = c.parts.invariant.expected
 pub returns-in_default-clause-by_log : goal.returns-in_default-clause-by_log
 returns-in_default-clause-by_log g c = c.parts.invariant.by_log
 
-pub returns-in_default-clause-kind : goal.returns-in_default-clause-kind
-returns-in_default-clause-kind g c = c.decode_to_pivot-call.ensures.kind ∙ c.parts.invariant.kind
+pub returns-in_default-clause-check : goal.returns-in_default-clause-check
+returns-in_default-clause-check g c = room_on c.parts.invariant.check c.decode_to_pivot-call.ensures.pivot
 
 pub returns-in_default-clause-verdict : goal.returns-in_default-clause-verdict
 returns-in_default-clause-verdict g c =
@@ -47,8 +48,8 @@ returns-in_default-clause-verdict g c =
 pub returns-in-InputEmpty-clause-by_log : goal.returns-in-InputEmpty-clause-by_log
 returns-in-InputEmpty-clause-by_log g c = c.parts.invariant.by_log
 
-pub returns-in-InputEmpty-clause-kind : goal.returns-in-InputEmpty-clause-kind
-returns-in-InputEmpty-clause-kind g c = c.decode_to_pivot-call.ensures.kind ∙ c.parts.invariant.kind
+pub returns-in-InputEmpty-clause-check : goal.returns-in-InputEmpty-clause-check
+returns-in-InputEmpty-clause-check g c = room_on c.parts.invariant.check c.decode_to_pivot-call.ensures.pivot
 
 pub returns-in-InputEmpty-clause-verdict : goal.returns-in-InputEmpty-clause-verdict
 returns-in-InputEmpty-clause-verdict g c =
@@ -59,8 +60,8 @@ returns-in-InputEmpty-clause-verdict g c =
 pub returns-in-Malformed-clause-by_log : goal.returns-in-Malformed-clause-by_log
 returns-in-Malformed-clause-by_log g c = c.parts.invariant.by_log
 
-pub returns-in-Malformed-clause-kind : goal.returns-in-Malformed-clause-kind
-returns-in-Malformed-clause-kind g c = c.decode_to_pivot-call.ensures.kind ∙ c.parts.invariant.kind
+pub returns-in-Malformed-clause-check : goal.returns-in-Malformed-clause-check
+returns-in-Malformed-clause-check g c = room_on c.parts.invariant.check c.decode_to_pivot-call.ensures.pivot
 
 pub returns-in-Malformed-clause-verdict : goal.returns-in-Malformed-clause-verdict
 returns-in-Malformed-clause-verdict g c =
@@ -84,13 +85,14 @@ parts-preserved g c =
       open_ = c.decode_to_pivot-call.ensures.finished;
       by_log = c.parts.invariant.by_log;
       expected = c.in-Some.ensures.text;
-      form = c.decode_to_pivot-call.ensures.kind ∙ c.parts.invariant.form ∙ sym c.in-Some.ensures.form;
-      roomy = c.decode_to_pivot-call.ensures.roomy;
-      kind = c.decode_to_pivot-call.ensures.kind ∙ c.parts.invariant.kind;
-      size = c.decode_to_pivot-call.ensures.size ∙ c.parts.invariant.size;
-      calls = omega (
+      form = c.decode_to_pivot-call.ensures.pivot.kind ∙ c.parts.invariant.form ∙ sym c.in-Some.ensures.form;
+      check = room_on c.parts.invariant.check c.decode_to_pivot-call.ensures.pivot;
+      least = λ under.
+          let call = c.decode_to_pivot-call.ensures.calls.at_least under in
+          omega (arith, call, c.parts.invariant.least (omega (arith, call, under)));
+      most = omega (
         arith,
-        c.parts.invariant.calls,
+        c.parts.invariant.most,
         c.decode_to_pivot-call.ensures.calls.at_most,
         ap length c.in-Some.ensures.parts,
         length-append (pivot_chars c.text_in-part.result) (pivot_chars c.in-Some.rest),
@@ -100,19 +102,10 @@ parts-preserved g c =
     })
 
 pub returns-in_default-clause-calls : goal.returns-in_default-clause-calls
-returns-in_default-clause-calls g c = omega (arith, c.parts.invariant.calls, c.decode_to_pivot-call.ensures.calls.at_most)
+returns-in_default-clause-calls g c = counted_more _ _ _ _ _ c.parts.invariant.least c.parts.invariant.most c.decode_to_pivot-call.ensures.calls
 
 pub returns-in-InputEmpty-clause-calls : goal.returns-in-InputEmpty-clause-calls
-returns-in-InputEmpty-clause-calls g c = omega (arith, c.parts.invariant.calls, c.decode_to_pivot-call.ensures.calls.at_most)
+returns-in-InputEmpty-clause-calls g c = counted_more _ _ _ _ _ c.parts.invariant.least c.parts.invariant.most c.decode_to_pivot-call.ensures.calls
 
 pub returns-in-Malformed-clause-calls : goal.returns-in-Malformed-clause-calls
-returns-in-Malformed-clause-calls g c = omega (arith, c.parts.invariant.calls, c.decode_to_pivot-call.ensures.calls.at_most)
-
-pub returns-in_default-clause-size : goal.returns-in_default-clause-size
-returns-in_default-clause-size g c = c.decode_to_pivot-call.ensures.size ∙ c.parts.invariant.size
-
-pub returns-in-InputEmpty-clause-size : goal.returns-in-InputEmpty-clause-size
-returns-in-InputEmpty-clause-size g c = c.decode_to_pivot-call.ensures.size ∙ c.parts.invariant.size
-
-pub returns-in-Malformed-clause-size : goal.returns-in-Malformed-clause-size
-returns-in-Malformed-clause-size g c = c.decode_to_pivot-call.ensures.size ∙ c.parts.invariant.size
+returns-in-Malformed-clause-calls g c = counted_more _ _ _ _ _ c.parts.invariant.least c.parts.invariant.most c.decode_to_pivot-call.ensures.calls

@@ -1,5 +1,5 @@
-use Rattle.std.proofs.Common.{◌≡◌, ◌≤◌, ◌+◌, false, length}
-use Rattle.recode.specs.Buffers.{HoldsAnyCharacter, capacity, is_wide}
+use Rattle.std.proofs.Common.{◌≡◌, ◌≤◌, ◌<◌, ◌+◌, ◌-◌, ◌^◌, false, length}
+use Rattle.recode.specs.Buffers.{KeepsRoom, is_wide}
 use Rattle.recode.specs.PivotText.{is_in_units, pivot_chars, IsWholeText}
 use Rattle.recode.proofs.CompareLemmas.{HasCompared}
 use Rattle.recode.proofs.verdict.Verdict.compare.Given as goal
@@ -11,10 +11,9 @@ invariant-parts g l = record {
   by_log : l.self.by_log ≡ l.initial.self.by_log;
   expected : IsWholeText l.expected;
   form : is_wide l.check ≡ is_in_units l.expected;
-  roomy : HoldsAnyCharacter l.check;
-  kind : is_wide l.check ≡ is_wide l.initial.check;
-  size : capacity l.check ≡ capacity l.initial.check;
-  calls : l.calls + length (pivot_chars l.expected) ≤ l.initial.calls + length (pivot_chars l.text);
+  check : KeepsRoom l.initial.check l.check;
+  least : l.calls < 2 ^ 64 - 1 → l.initial.calls ≤ l.calls;
+  most : l.calls + length (pivot_chars l.expected) ≤ l.initial.calls + length (pivot_chars l.text);
 }
 
 abbrev pub decreases-parts : goal.decreases-parts
