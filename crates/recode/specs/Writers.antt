@@ -11,13 +11,6 @@ use Rattle.recode.specs.declared.writers.Writers.{Writers}
 abbrev pub written_by : {W L : Type 0} → (W → Option (List ℕ)) → (L → Option (List ℕ)) → Writers W L → Written
 written_by contents logged writers = written_in contents logged writers.output.now writers.log.now
 
--- with a reader
-abbrev pub streams_of : {R W L : Type 0} → (R → Option (List ℕ)) → (W → Option (List ℕ)) → (L → Option (List ℕ)) → Counted R → Writers W L → Streams
-streams_of remaining contents logged reader writers = streams_in remaining contents logged reader writers.output.now writers.log.now
-
-abbrev pub failures_to : {R W L : Type 0} → Counted R → Writers W L → Failures
-failures_to reader writers = failures_in reader writers.output.now writers.log.now
-
 -- One more failed call of each can be counted.
 pub record MayFail {W L : Type 0} (writers : Writers W L) : Type 0 where
   pub output : failures_of writers.output.now < 2 ^ 64 - 1

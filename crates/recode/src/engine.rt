@@ -1,14 +1,12 @@
-//! What converts: a step reads once and decodes what was read; its text is encoded, and malformed
-//! sequences are logged.
+//! What converts: what was read is decoded, its text is encoded, and malformed sequences are logged.
 
 use crate::codec_calls::{DecodeCall, decode_to_pivot, text_in};
-use crate::job::{Buffers, Fault, Pivot, Progress};
+use crate::job::{Fault, Pivot};
 use crate::target::Target;
 use crate::writers::Writers;
 use encoding_front::StreamDecoder;
 use encoding_mem::{DecoderResult, RawEncoder};
-use recode_log::counted::Counted;
-use std::io::{Read, Write};
+use std::io::Write;
 
 /// A conversion under way: the decoder, and what writes the text.
 #[derive(Drop)]
@@ -20,17 +18,13 @@ pub struct Engine<D, E> {
 impl<D: StreamDecoder, E: RawEncoder> Engine<D, E> {
     ghost use Rattle.std.specs.Prelude.{◌≡◌, ◌+◌, ◌-◌, ◌^◌, ◌<◌, ◌≤◌, ◌++◌};
     ghost use Rattle.std.specs.Prelude.{IfErr, IfOk, OnOk, length};
-    ghost use Rattle.recode_log.specs.Counted.{failures_of};
-    ghost use Rattle.recode.specs.Buffers.{AreEnough, KeepSizes, KeepsRoom};
+    ghost use Rattle.recode.specs.Buffers.{KeepsRoom};
     ghost use Rattle.recode.specs.CodecCalls.{reads_all};
     ghost use Rattle.recode.specs.Chunk.{CanConvert, DecodesChunk, DecodesPart};
     ghost use Rattle.recode.specs.EngineState.{engine_state};
-    ghost use Rattle.recode.specs.Failures.{CountsFault};
     ghost use Rattle.recode.specs.Lent.{AreLent};
     ghost use Rattle.recode.specs.State.{to_write};
-    ghost use Rattle.recode.specs.Step.{Finishes, StepsOn, Stops};
-    ghost use Rattle.recode.specs.Writers.{AreTheSame, CountsWriterFault, MayFail};
-    ghost use Rattle.recode.specs.Writers.{failures_to, is_end, streams_of, written_by};
+    ghost use Rattle.recode.specs.Writers.{CountsWriterFault, MayFail, is_end, written_by};
     ghost use Rattle.recode.specs.WrittenItems.{WritesPrefixFor};
 
     // One call of the decoder, and all that follows from it.
@@ -128,59 +122,5 @@ impl<D: StreamDecoder, E: RawEncoder> Engine<D, E> {
             }
             rest = &rest[call.read..];
         }
-    }
-
-    /// One read, and all that follows from it. After a fault the engine is of no use.
-    pub fn step<R: Read, W: Write, L: Write>(
-        &mut self,
-        reader: &mut Counted<R>,
-        writers: &mut Writers<'_, W, L>,
-        limit: u64,
-        buffers: &mut Buffers<'_>,
-    ) -> Result<Progress, Fault>
-        requires limit { limit ≤ 2 ^ 48 }
-        requires read { self.old.target.counts.read ≤ limit }
-        requires ready { CanConvert
-            (engine_state D.view E.coding E.set writers.old.policy self.old) }
-        requires buffers { AreEnough buffers.old }
-        requires reader { failures_of reader.old < 2 ^ 64 - 1 }
-        requires writers { MayFail writers.old }
-
-        ensures more { result ≡ Ok Progress.More → StepsOn
-            (streams_of R.remaining W.contents L.contents reader.old writers.old)
-            (streams_of R.remaining W.contents L.contents reader.new writers.new) limit
-            (engine_state D.view E.coding E.set writers.old.policy self.old)
-            (engine_state D.view E.coding E.set writers.old.policy self.new) }
-        ensures done { result ≡ Ok Progress.Done → Finishes
-            (streams_of R.remaining W.contents L.contents reader.old writers.old)
-            (streams_of R.remaining W.contents L.contents reader.new writers.new) limit
-            (engine_state D.view E.coding E.set writers.old.policy self.old)
-            (engine_state D.view E.coding E.set writers.old.policy self.new) }
-        ensures fault { IfErr result (Stops
-            (streams_of R.remaining W.contents L.contents reader.old writers.old)
-            (streams_of R.remaining W.contents L.contents reader.new writers.new) limit
-            (engine_state D.view E.coding E.set writers.old.policy self.old)) }
-        ensures ready { result ≡ Ok Progress.More
-            → CanConvert (engine_state D.view E.coding E.set writers.old.policy self.new) }
-        ensures target { E.coding self.new.target.encoder ≡ E.coding self.old.target.encoder }
-        ensures failures { CountsFault (failures_to reader.old writers.old)
-            (failures_to reader.new writers.new) result }
-        ensures writers { AreTheSame writers.old writers.new }
-        ensures buffers { KeepSizes buffers.old buffers.new }
-    {
-        let Ok(read) = reader.read(buffers.input) else {
-            return Err(Fault::Read);
-        };
-        if read as u64 > limit - self.target.counts.read {
-            return Err(Fault::TooLong);
-        }
-        self.decode_chunk(
-            writers,
-            &mut buffers.input[..read],
-            &mut buffers.pivot,
-            buffers.output,
-            &mut buffers.check,
-        )?;
-        Ok(Progress::after(read))
     }
 }

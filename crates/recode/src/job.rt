@@ -159,22 +159,6 @@ pub enum Progress {
     Done,
 }
 
-impl Progress {
-    ghost use Rattle.std.specs.Prelude.{◌≡◌, ◌<◌};
-
-    // How a step ended that read so many bytes: a read of none is the end of the input.
-    pub(crate) fn after(read: usize) -> Progress
-        ensures more { result ≡ Progress.More → 0 < read }
-        ensures done { result ≡ Progress.Done → read ≡ 0 }
-    {
-        if read == 0 {
-            Progress::Done
-        } else {
-            Progress::More
-        }
-    }
-}
-
 /// What a run that came to its end tells.
 #[derive(Clone, Copy, PartialEq, Eq, Debug)]
 pub struct Report {

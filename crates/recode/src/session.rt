@@ -180,23 +180,31 @@ impl<'t> Session<'t> {
         ensures failures { CountsFault (failures_in reader.old writer.old log.old)
             (failures_in reader.new writer.new log.new) result }
     {
-        let limit = self.job.limit;
+        self.phase = Phase::Stopped;
+        let Ok(read) = reader.read(buffers.input) else {
+            return Err(Fault::Read);
+        };
+        if read as u64 > self.job.limit - self.engine.target.counts.read {
+            return Err(Fault::TooLong);
+        }
         let mut writers = Writers {
             output: writer,
             log,
             policy: self.job.policy,
         };
-        self.phase = Phase::Stopped;
-        match self.engine.step(reader, &mut writers, limit, buffers) {
-            Ok(Progress::More) => {
-                self.phase = Phase::Open;
-                Ok(Progress::More)
-            }
-            Ok(Progress::Done) => {
-                self.phase = Phase::Done;
-                Ok(Progress::Done)
-            }
-            Err(fault) => Err(fault),
+        self.engine.decode_chunk(
+            &mut writers,
+            &mut buffers.input[..read],
+            &mut buffers.pivot,
+            buffers.output,
+            &mut buffers.check,
+        )?;
+        if read == 0 {
+            self.phase = Phase::Done;
+            Ok(Progress::Done)
+        } else {
+            self.phase = Phase::Open;
+            Ok(Progress::More)
         }
     }
 }
