@@ -11,7 +11,7 @@ use Rattle.recode.specs.CodecCalls.{DecodeCallEndsWith}
 use Rattle.recode.specs.Policy.{form_of}
 use Rattle.recode.specs.State.{State, WillBeFaithful, to_write}
 use Rattle.recode.specs.Step.{Advances}
-use Rattle.recode.specs.Streams.{Written}
+use Rattle.recode.specs.Devices.{Written}
 use Rattle.recode.specs.TraceToWrite.{AreSound, trace_to_write}
 use Rattle.recode.specs.Verdict.{CanTell, IsFaithfulFor}
 use Rattle.recode.specs.Work.{IsCounted, TakesCalls}

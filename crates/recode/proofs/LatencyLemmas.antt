@@ -22,7 +22,7 @@ use Rattle.recode.specs.Latency.{StandsAt, WroteDecided}
 use Rattle.recode.specs.Policy.{form_of}
 use Rattle.recode.specs.State.{State}
 use Rattle.recode.specs.Step.{Advances, HasRun, IsNearlyDecided, StepsOn}
-use Rattle.recode.specs.Streams.{KeepsWritten, Streams, Written}
+use Rattle.recode.specs.Devices.{Devices, KeepsWritten, Written}
 use Rattle.recode.specs.TaggedByte.{IsPrefix, lines, tagged, outputs}
 use Rattle.recode.specs.TraceToWrite.{AreSound, trace_to_write}
 use Rattle.recode.specs.Session.{IsNewSession, View}
@@ -142,7 +142,7 @@ taken_sizes : (d d1 : DecoderState) (chunk : List ℕ) (taken : List Piece) → 
 taken_sizes d d1 chunk taken is = omega (arith, d.whole (chunk ++ []), d1.whole [], ap sizes is, sizes-append taken (d1.pieces []), length-append {A = ℕ} chunk [])
 
 -- the clause of a step that goes on
-pub steps_on : (before after : Streams) (limit : ℕ) (s s1 : State) (chunk : List ℕ) (last : Bool) → Consumes before.input after.input chunk → 0 < length chunk → s1.counts.read ≤ limit → AreSound s.decoder.pending s.counts
+pub steps_on : (before after : Devices) (limit : ℕ) (s s1 : State) (chunk : List ℕ) (last : Bool) → Consumes before.input after.input chunk → 0 < length chunk → s1.counts.read ≤ limit → AreSound s.decoder.pending s.counts
     → last ≡ false → DecodesChunk before.written after.written s s1 chunk last → StepsOn before after limit s s1
 steps_on before after limit s s1 chunk last read_in some within sound goes_on k =
     let c = k.converts in
@@ -180,7 +180,7 @@ steps_on before after limit s s1 chunk last read_in some within sound goes_on k 
     }
 
 -- A session that has read nothing, and one that steps on.
-pub stands_first : (t : Streams) (j : Job) (v : View) → IsNewSession v j → StandsAt t t j v.state [] []
+pub stands_first : (t : Devices) (j : Job) (v : View) → IsNewSession v j → StandsAt t t j v.state [] []
 stands_first t j v b = record {
   coding = b.coding;
   policy = b.policy;
@@ -194,7 +194,7 @@ stands_first t j v b = record {
   logged = Appends-nil t.written.log;
 }
 
-pub stands_on : (t t1 t2 : Streams) (j : Job) (limit : ℕ) (s s1 : State) (x : List ℕ) (ps : List Piece)
+pub stands_on : (t t1 t2 : Devices) (j : Job) (limit : ℕ) (s s1 : State) (x : List ℕ) (ps : List Piece)
     → StandsAt t t1 j s x ps → (p : StepsOn t1 t2 limit s s1) → StandsAt t t2 j s1 (x ++ p.chunk) (ps ++ p.advances.taken)
 stands_on t t1 t2 j limit s s1 x ps k p =
     let e = target_of j in
@@ -240,10 +240,10 @@ prefixes (q ∷ a) b (p ∷ c) d e =
       | inr m ↦ inr (m.0, m.1, ap (λ l. p ∷ l) m.2 ∙ ap (λ x. x ∷ (a ++ (m.0 ∷ m.1))) (sym same), m.3)
     ]
 
-pub fixed : (t t1 : Streams) (j : Job) (s : State) (x : List ℕ) (ps : List Piece) → StandsAt t t1 j s x ps → IsFixed (input_pieces j) x ps
+pub fixed : (t t1 : Devices) (j : Job) (s : State) (x : List ℕ) (ps : List Piece) → StandsAt t t1 j s x ps → IsFixed (input_pieces j) x ps
 fixed t t1 j s x ps k y = (s.decoder.pieces y, k.pieces y)
 
-pub decided : (t t1 : Streams) (j : Job) (s : State) (x : List ℕ) (ps : List Piece) → StandsAt t t1 j s x ps → IsDecided (input_pieces j) x ps
+pub decided : (t t1 : Devices) (j : Job) (s : State) (x : List ℕ) (ps : List Piece) → StandsAt t t1 j s x ps → IsDecided (input_pieces j) x ps
 decided t t1 j s x ps k y bytes = fixed t t1 j s x ps k y
 
 begins_with : (d : List Piece) (p : Piece) (more : List Piece) → d ≡ p ∷ more → first d ≡ Some p
@@ -275,11 +275,11 @@ none_more d a qs settled h =
       ]
     ]
 
-pub longest : (t t1 : Streams) (j : Job) (s : State) (x : List ℕ) (ps qs : List Piece)
+pub longest : (t t1 : Devices) (j : Job) (s : State) (x : List ℕ) (ps qs : List Piece)
     → StandsAt t t1 j s x ps → IsNearlyDecided s.decoder → IsDecided (input_pieces j) x qs → IsPrefix qs ps
 longest t t1 j s x ps qs k settled h = none_more s.decoder ps qs settled (λ y bytes. let f = h y bytes in (f.0, sym (k.pieces y) ∙ f.1))
 
-pub soon : (t t1 : Streams) (j : Job) (s : State) (x y : List ℕ) (ps qs more : List Piece)
+pub soon : (t t1 : Devices) (j : Job) (s : State) (x y : List ℕ) (ps qs more : List Piece)
     → StandsAt t t1 j s x ps → IsNearlyDecided s.decoder → input_pieces j (x ++ y) ≡ qs ++ more → sizes qs + 3 ≤ length x → IsPrefix qs ps
 soon t t1 j s x y ps qs more k settled is early =
     elim (prefixes ps (s.decoder.pieces y) qs more (sym (k.pieces y) ∙ is)) [
@@ -306,7 +306,7 @@ pub new_settled : (v : View) (j : Job) → IsNewSession v j → IsNearlyDecided 
 new_settled v j b = inl (b.pending, no_pieces (v.state.decoder.pieces []) (v.state.decoder.are_pieces []) (omega (arith, v.state.decoder.whole [], b.pending)))
 
 -- Where a new session stands that has run.
-pub stands_run : (a b : Streams) (j : Job) (v : View) (s : State) → IsNewSession v j → (p : HasRun a b j.limit v.state s) → StandsAt a b j s p.chunk p.advances.taken
+pub stands_run : (a b : Devices) (j : Job) (v : View) (s : State) → IsNewSession v j → (p : HasRun a b j.limit v.state s) → StandsAt a b j s p.chunk p.advances.taken
 stands_run a b j v s n p =
     let e = target_of j in
     let taken : List Piece = p.advances.taken in
@@ -336,7 +336,7 @@ stands_run a b j v s n p =
     }
 
 -- All that the bytes read decide was written, and stays so where nothing is written after.
-pub wrote_decided : (a b : Streams) (after : Written) (j : Job) (s : State) (x : List ℕ) (ps : List Piece)
+pub wrote_decided : (a b : Devices) (after : Written) (j : Job) (s : State) (x : List ℕ) (ps : List Piece)
     → StandsAt a b j s x ps → IsNearlyDecided s.decoder → KeepsWritten b.written after → WroteDecided a.written after j x ps
 wrote_decided a b after j s x ps k settled kept = record {
   decided = decided a b j s x ps k;

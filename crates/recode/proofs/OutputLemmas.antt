@@ -20,7 +20,7 @@ use Rattle.recode.specs.Job.{IsValidJob, Faithful, input_pieces, input_text, out
 use Rattle.recode.specs.WrittenItems.{lost_lines}
 use Rattle.recode.specs.ReadBack.{back, in_utf8}
 use Rattle.recode.specs.Runs.{IsWholeOutput}
-use Rattle.recode.specs.Streams.{Written}
+use Rattle.recode.specs.Devices.{Written}
 use Rattle.recode.specs.Session.{IsReport, IsConverted}
 use Rattle.recode.specs.declared.job.Job.{Job}
 use Rattle.recode.specs.declared.job.Report.{Report}

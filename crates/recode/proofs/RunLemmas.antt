@@ -17,7 +17,7 @@ use Rattle.recode.specs.Latency.{WroteDecided}
 use Rattle.recode.specs.Policy.{form_of}
 use Rattle.recode.specs.Session.{View, IsNewSession, Tells, IsReport, Completes, Fails}
 use Rattle.recode.specs.Step.{Finishes, PassesLimit}
-use Rattle.recode.specs.Streams.{Streams}
+use Rattle.recode.specs.Devices.{Devices}
 use Rattle.recode.specs.declared.job.Fault.{Fault}
 use Rattle.recode.specs.declared.job.Job.{Job}
 use Rattle.recode.specs.declared.job.Policy.{Policy}
@@ -89,7 +89,7 @@ is_report j x v w p b t same read_is malformed_is lost_is told valid within call
       faithful = (λ h. (b.verdict x).0 (told.1 (sym t.verdict ∙ h)), λ h. t.verdict ∙ told.0 ((b.verdict x).1 h));
     }
 
-pub completes : (before after : Streams) (j : Job) (v u : View) (p : Report) → IsValidJob j → IsNewSession v j → Finishes before after j.limit v.state u.state → Tells u p → Completes before after j p
+pub completes : (before after : Devices) (j : Job) (v u : View) (p : Report) → IsValidJob j → IsNewSession v j → Finishes before after j.limit v.state u.state → Tells u p → Completes before after j p
 completes before after j v u p valid b f t =
     let x : List ℕ = f.chunk in
     let written_items : f.pays.written_items ≡ whole_trace j x = sym (append-nil f.pays.written_items) ∙ sym f.pays.equals ∙ b.owes_trace x in
@@ -116,7 +116,7 @@ prefix_outputs t u f = (outputs f.0, ap outputs f.1 ∙ outputs-append t f.0)
 prefix_lines : (t u : List TaggedByte) → IsPrefix t u → IsPrefix (lines t) (lines u)
 prefix_lines t u f = (lines f.0, ap lines f.1 ∙ lines-append t f.0)
 
-pub fails : (before after : Streams) (j : Job) (v : View) (f : Fault) → IsNewSession v j → HasStopped before after j.limit v.state f → Fails before after j f
+pub fails : (before after : Devices) (j : Job) (v : View) (f : Fault) → IsNewSession v j → HasStopped before after j.limit v.state f → Fails before after j f
 fails before after j v f b s =
     let left : (r : List ℕ) → (s.ended ≡ true → r ≡ []) → IsLeft j.policy f s.pays.taken (whole_trace j (s.chunk ++ r)) =
     λ r h. subst (IsLeft j.policy f s.pays.taken) (b.owes_trace (s.chunk ++ r)) (left_as v.state.policy j.policy f s.pays.taken (to_write v.state (s.chunk ++ r)) b.policy (s.pays.left r h)) in

@@ -4,12 +4,11 @@ use Rattle.std.specs.Io.KnownBytes.{Consumes, Keeps, IsAtEnd, Appends}
 use Rattle.std.proofs.KnownBytes.{Consumes-nil, Consumes-kept, Consumes-trans, Appends-kept, Appends-trans, Keeps-refl}
 use Rattle.encoding_mem.specs.Items.{Item}
 use Rattle.recode.specs.State.{State, to_write}
-use Rattle.recode.specs.Streams.{KeepsWritten, Streams, Written}
+use Rattle.recode.specs.Devices.{CountsFault, Devices, Failures, KeepsWritten, Written}
 use Rattle.recode.specs.TaggedByte.{Wrote, tagged, TaggedByte, outputs, lines}
 use Rattle.recode.specs.Policy.{written_under}
 use Rattle.recode.specs.WrittenItems.{IsLeft, IsSpared, IsStop, WritesPrefixFor}
 use Rattle.recode.specs.Step.{Advances, Finishes, HasRun, IsNearlyDecided, PassesLimit, StepsOn, Stops}
-use Rattle.recode.specs.Failures.{CountsFault, Failures}
 use Rattle.recode.specs.Fault.{of_other}
 use Rattle.recode.specs.declared.job.Fault.{Fault}
 use Rattle.recode.specs.declared.job.Fault.TheVariants.{Read, Write, Log, TooLong, Unmappable}
@@ -29,9 +28,9 @@ nothing_under w p f last to_write stop = record { taken = []; wrote = Wrote-nil 
 keeps_all : (w : Written) → KeepsWritten w w
 keeps_all w = record { output = Keeps-refl w.output; log = Keeps-refl w.log }
 
-pub stops_unread : (a b : Option (List ℕ)) (w : Written) (limit : ℕ) (s : State) → Keeps a b → s.counts.read ≤ limit
-    → Stops (record { input = a; written = w }) (record { input = b; written = w }) limit s Read
-stops_unread a b w limit s p within = record {
+pub stops_unread : (a b : Option (List ℕ)) (w : Written) (n m : Failures) (limit : ℕ) (s : State) → Keeps a b → s.counts.read ≤ limit
+    → Stops (record { input = a; written = w; failures = n }) (record { input = b; written = w; failures = m }) limit s Read
+stops_unread a b w n m limit s p within = record {
   chunk = [];
   refused = [];
   spared = λ h. refl;
@@ -45,9 +44,9 @@ stops_unread a b w limit s p within = record {
   untouched = λ h. (refl, keeps_all w);
 }
 
-pub stops_refused : (a b : Option (List ℕ)) (w : Written) (limit : ℕ) (s : State) (chunk : List ℕ) → Consumes a b chunk → s.counts.read ≤ limit → limit < s.counts.read + length chunk
-    → Stops (record { input = a; written = w }) (record { input = b; written = w }) limit s TooLong
-stops_refused a b w limit s chunk p within past = record {
+pub stops_refused : (a b : Option (List ℕ)) (w : Written) (n m : Failures) (limit : ℕ) (s : State) (chunk : List ℕ) → Consumes a b chunk → s.counts.read ≤ limit → limit < s.counts.read + length chunk
+    → Stops (record { input = a; written = w; failures = n }) (record { input = b; written = w; failures = m }) limit s TooLong
+stops_refused a b w n m limit s chunk p within past = record {
   chunk = [];
   refused = chunk;
   spared = λ h. absurd (h refl);
@@ -83,7 +82,7 @@ is_writing T Log h = tt
 is_writing T TooLong h = absurd (omega arith)
 is_writing T (Unmappable i c) h = tt
 
-pub stops_under : (before after : Streams) (limit : ℕ) (last : Bool) (s : State) (chunk : List ℕ) (f : Fault) → Consumes before.input after.input chunk → (last ≡ true → IsAtEnd after.input)
+pub stops_under : (before after : Devices) (limit : ℕ) (last : Bool) (s : State) (chunk : List ℕ) (f : Fault) → Consumes before.input after.input chunk → (last ≡ true → IsAtEnd after.input)
     → IsWriting f → s.counts.read + length chunk ≤ limit → WritesPrefixFor before.written after.written s.policy f last (λ r. to_write s (chunk ++ r)) → Stops before after limit s f
 stops_under before after limit last s chunk f p e writing within q = record {
   chunk = chunk;
@@ -103,7 +102,7 @@ stops_under before after limit last s chunk f p e writing within q = record {
 }
 
 -- What a run has done that a fault ended.
-pub record HasStopped (before after : Streams) (limit : ℕ) (s : State) (fault : Fault) : Type 0 where
+pub record HasStopped (before after : Devices) (limit : ℕ) (s : State) (fault : Fault) : Type 0 where
   pub chunk : List ℕ
   pub refused : List ℕ
   pub ended : Bool
@@ -115,7 +114,7 @@ pub record HasStopped (before after : Streams) (limit : ℕ) (s : State) (fault 
   pub limited : PassesLimit (s.counts.read + length (chunk ++ refused)) limit fault
   pub pays : WritesPrefixFor before.written after.written s.policy fault ended (λ r. to_write s (chunk ++ r))
   -- where no writer failed, what was written is what the steps before wrote
-  pub latest : (fault ≡ Read) ⊎ (fault ≡ TooLong) → (t : Streams) × (s' : State) × (ran : HasRun before t limit s s') × (ran.chunk ≡ chunk) × KeepsWritten t.written after.written
+  pub latest : (fault ≡ Read) ⊎ (fault ≡ TooLong) → (t : Devices) × (s' : State) × (ran : HasRun before t limit s s') × (ran.chunk ≡ chunk) × KeepsWritten t.written after.written
 
 -- under the same policy
 spared_as : (p q : Policy) (items : List Item) → p ≡ q → IsSpared p items → IsSpared q items
@@ -124,7 +123,7 @@ spared_as p q items e h = subst (λ (k : Policy). IsSpared k items) e h
 pub left_as : (p q : Policy) (f : Fault) (taken : List TaggedByte) (to_write : List Item) → p ≡ q → IsLeft p f taken to_write → IsLeft q f taken to_write
 left_as p q f taken to_write e h = subst (λ (k : Policy). IsLeft k f taken to_write) e h
 
-pub goes_on_start : (a : Streams) (limit : ℕ) (s : State) → s.counts.read ≤ limit → IsNearlyDecided s.decoder → HasRun a a limit s s
+pub goes_on_start : (a : Devices) (limit : ℕ) (s : State) → s.counts.read ≤ limit → IsNearlyDecided s.decoder → HasRun a a limit s s
 goes_on_start a limit s within settled = record {
   chunk = [];
   consumed = Consumes-nil a.input;
@@ -146,7 +145,7 @@ in_parts : (s s1 : State) (chunk more : List ℕ) → Advances (λ r. s.decoder.
     → Advances (λ r. s.decoder.pieces ((chunk ++ more) ++ r)) (λ r. s1.decoder.pieces (more ++ r)) s.coding s.set s1.set s.counts s1.counts
 in_parts s s1 chunk more p = record { taken = p.taken; rest = λ r. ap s.decoder.pieces (append_assoc chunk more r) ∙ p.rest (more ++ r); set = p.set; index = p.index }
 
-pub goes_on_more : (a b c : Streams) (limit : ℕ) (s s1 s2 : State) → HasRun a b limit s s1 → StepsOn b c limit s1 s2 → HasRun a c limit s s2
+pub goes_on_more : (a b c : Devices) (limit : ℕ) (s s1 s2 : State) → HasRun a b limit s s1 → StepsOn b c limit s1 s2 → HasRun a c limit s s2
 goes_on_more a b c limit s s1 s2 p q = record {
   chunk = p.chunk ++ q.chunk;
   consumed = Consumes-trans a.input b.input c.input p.chunk q.chunk p.consumed q.consumed;
@@ -173,7 +172,7 @@ goes_on_more a b c limit s s1 s2 p q = record {
       omega (arith, later, p.pays.counted.bad, q.pays.counted.bad, p.least (omega (arith, later, under, q.pays.counted.lost)));
 }
 
-pub goes_on_finish : (a b c : Streams) (limit : ℕ) (s s1 s2 : State) → HasRun a b limit s s1 → Finishes b c limit s1 s2 → Finishes a c limit s s2
+pub goes_on_finish : (a b c : Devices) (limit : ℕ) (s s1 s2 : State) → HasRun a b limit s s1 → Finishes b c limit s1 s2 → Finishes a c limit s s2
 goes_on_finish a b c limit s s1 s2 p q = record {
   chunk = p.chunk ++ q.chunk;
   consumed = Consumes-trans a.input b.input c.input p.chunk q.chunk p.consumed q.consumed;
@@ -199,7 +198,7 @@ goes_on_finish a b c limit s s1 s2 p q = record {
 limit_on : (n m limit : ℕ) (f : Fault) → n ≡ m → PassesLimit n limit f → PassesLimit m limit f
 limit_on n m limit f e h = subst (λ (k : ℕ). PassesLimit k limit f) e h
 
-pub goes_on_stop : (a b c : Streams) (limit : ℕ) (s s1 : State) (f : Fault) → HasRun a b limit s s1 → Stops b c limit s1 f → HasStopped a c limit s f
+pub goes_on_stop : (a b c : Devices) (limit : ℕ) (s s1 : State) (f : Fault) → HasRun a b limit s s1 → Stops b c limit s1 f → HasStopped a c limit s f
 goes_on_stop a b c limit s s1 f p q = record {
   chunk = p.chunk ++ q.chunk;
   refused = q.refused;
@@ -220,13 +219,13 @@ goes_on_stop a b c limit s s1 f p q = record {
 }
 
 -- with a limit that is the same
-pub steps_within : {before after : Streams} {s s1 : State} (n m : ℕ) → n ≡ m → StepsOn before after n s s1 → StepsOn before after m s s1
+pub steps_within : {before after : Devices} {s s1 : State} (n m : ℕ) → n ≡ m → StepsOn before after n s s1 → StepsOn before after m s s1
 steps_within {before} {after} {s} {s1} n m same h = subst (λ (k : ℕ). StepsOn before after k s s1) same h
 
-pub finishes_within : {before after : Streams} {s s1 : State} (n m : ℕ) → n ≡ m → Finishes before after n s s1 → Finishes before after m s s1
+pub finishes_within : {before after : Devices} {s s1 : State} (n m : ℕ) → n ≡ m → Finishes before after n s s1 → Finishes before after m s s1
 finishes_within {before} {after} {s} {s1} n m same h = subst (λ (k : ℕ). Finishes before after k s s1) same h
 
-pub stops_within : {before after : Streams} {s : State} {f : Fault} (n m : ℕ) → n ≡ m → Stops before after n s f → Stops before after m s f
+pub stops_within : {before after : Devices} {s : State} {f : Fault} (n m : ℕ) → n ≡ m → Stops before after n s f → Stops before after m s f
 stops_within {before} {after} {s} {f} n m same h = subst (λ (k : ℕ). Stops before after k s f) same h
 
 -- What is left where a conversion failed.
@@ -248,7 +247,7 @@ run_cause a b n m limit bytes TooLong p q h = record { input = bytes; consumed =
 run_cause a b n m limit bytes (Unmappable i c) p q h = tt
 
 -- a run's fault is counted, and counts do not fall
-pub run_counted : (T : Type 0) (n k m : Failures) (f : Fault) → CountsFault {T = T} n k (Err f) → k.reader ≡ m.reader → k.writer ≤ m.writer → k.log ≤ m.log → IsCounted n m f
+pub run_counted : (T : Type 0) (n k : Devices) (m : Failures) (f : Fault) → CountsFault {T = T} n k (Err f) → k.failures.reader ≡ m.reader → k.failures.writer ≤ m.writer → k.failures.log ≤ m.log → IsCounted n.failures m f
 run_counted T n k m Read c r w l = omega (arith, c.reader, r)
 run_counted T n k m Write c r w l = omega (arith, c.writer, w)
 run_counted T n k m Log c r w l = omega (arith, c.log, l)
@@ -256,7 +255,7 @@ run_counted T n k m TooLong c r w l = tt
 run_counted T n k m (Unmappable i d) c r w l = tt
 
 -- a failed read is the run's fault
-pub run_unread : (T : Type 0) (n k : Failures) (f : Fault) → CountsFault {T = T} n k (Err f) → n.reader < k.reader → f ≡ Read
+pub run_unread : (T : Type 0) (n k : Devices) (f : Fault) → CountsFault {T = T} n k (Err f) → n.failures.reader < k.failures.reader → f ≡ Read
 run_unread T n k Read c h = refl
 run_unread T n k Write c h = absurd (omega (arith, c.reader, h))
 run_unread T n k Log c h = absurd (omega (arith, c.reader, h))
@@ -280,14 +279,14 @@ flush_stop writes writes' logs logs' p taken written TooLong h = tt
 flush_stop writes writes' logs logs' p taken written (Unmappable i c) h = absurd h
 
 -- the log with its message, behind what was written and flushed
-module _ (before after : Streams) (flushed : Written) (log : Option (List ℕ)) (n m : Failures) (untold : ℕ) (j : Job) (kept : KeepsWritten after.written flushed) (since : n.log ≤ untold) where
+module _ (before after : Devices) (flushed : Written) (log : Option (List ℕ)) (m : Failures) (untold : ℕ) (j : Job) (kept : KeepsWritten after.written flushed) (since : before.failures.log ≤ untold) where
   told_log : (taken : List TaggedByte) (message : List ℕ) → Wrote before.written after.written taken → Appends flushed.log log message → Appends before.written.log log (lines taken ++ message)
   told_log taken message wrote told =
       Appends-trans before.written.log flushed.log log (lines taken) message (Appends-kept before.written.log after.written.log flushed.log (lines taken) wrote.lined kept.log) told
 
   -- by a run that failed
-  pub run_broke : (f : Fault) → Fails before after j f → (k : ℕ) × IsTold untold m.log (message_of f) k × Appends flushed.log log (take k (message_of f)) → IsCounted n (record m { log = untold }) f
-      → (n.reader < m.reader → f ≡ Read) → Breaks before (record { input = after.input; written = record { output = flushed.output; log = log } }) n m j
+  pub run_broke : (f : Fault) → Fails before after j f → (k : ℕ) × IsTold untold m.log (message_of f) k × Appends flushed.log log (take k (message_of f)) → IsCounted before.failures (record m { log = untold }) f
+      → (before.failures.reader < m.reader → f ≡ Read) → Breaks before (record { input = after.input; written = record { output = flushed.output; log = log }; failures = m }) j
   run_broke f k told counted unread = record {
     input = k.input;
     refused = k.refused;
@@ -302,7 +301,7 @@ module _ (before after : Streams) (flushed : Written) (log : Option (List ℕ)) 
     fault = f;
     untold = untold;
     since = since;
-    cause = run_cause before.input after.input n (record m { log = untold }) j.limit (k.input ++ k.refused) f k.consumed k.limited counted;
+    cause = run_cause before.input after.input before.failures (record m { log = untold }) j.limit (k.input ++ k.refused) f k.consumed k.limited counted;
     told = told.0;
     whole = told.1;
     output = Appends-kept before.written.output after.written.output flushed.output (outputs k.taken) k.wrote.output kept.output;
@@ -313,8 +312,8 @@ module _ (before after : Streams) (flushed : Written) (log : Option (List ℕ)) 
 
   -- by a flush that failed
   pub flush_broke : (p : Report) (g : Fault) → Completes before after j p → (k : ℕ) × IsTold untold m.log (message_of g) k × Appends flushed.log log (take k (message_of g))
-      → IsCause n (record m { log = untold }) before.input after.input j.limit g → ((taken : List TaggedByte) (written : List Item) → IsStop j.policy g taken written) → m.reader ≡ n.reader
-      → Breaks before (record { input = after.input; written = record { output = flushed.output; log = log } }) n m j
+      → IsCause before.failures (record m { log = untold }) before.input after.input j.limit g → ((taken : List TaggedByte) (written : List Item) → IsStop j.policy g taken written) → m.reader ≡ before.failures.reader
+      → Breaks before (record { input = after.input; written = record { output = flushed.output; log = log }; failures = m }) j
   flush_broke p g k told cause stop same =
       let all : List TaggedByte = tagged (trace j k.input) in
       record {

@@ -7,7 +7,7 @@ use Rattle.encoding_mem.specs.declared.form.EscapeState.{EscapeState}
 use Rattle.encoding_mem.specs.declared.encoder_result.EncoderResult.TheVariants.{Unmappable}
 use Rattle.encoding_mem.specs.laws.Verdict.{keeps_then}
 use Rattle.recode.specs.Policy.{form_of}
-use Rattle.recode.specs.Streams.{Written}
+use Rattle.recode.specs.Devices.{Written}
 use Rattle.recode.specs.Text.{EncodesText, EncodesTo, TargetState, WritesMalformed, malformed_items, text_items, with_malformed}
 use Rattle.recode.specs.Verdict.{CanTell, Keeps, to_read}
 use Rattle.recode.specs.WrittenItems.{WritesItems, WritesPrefix}

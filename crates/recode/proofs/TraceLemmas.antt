@@ -8,7 +8,7 @@ use Rattle.std.specs.Io.KnownBytes.{Appends}
 use Rattle.encoding_mem.specs.declared.reference.Reference.{Reference}
 use Rattle.encoding_mem.specs.Items.{Item, Byte, MalformedAt, LostAt, whole_items, closing, bytes_of, open_items, form_items, trace_from}
 use Rattle.recode_log.specs.Line.{line_bytes}
-use Rattle.recode.specs.Streams.{Written}
+use Rattle.recode.specs.Devices.{Written}
 use Rattle.recode.specs.TaggedByte.{TaggedByte, Out, Line, outputs, lines, Wrote, tagged, tagged_item}
 use Rattle.recode.specs.Policy.{up_to_loss, written_under}
 use Rattle.recode.specs.WrittenItems.{WritesItems, WritesPrefix, WritesItemsFor, WritesPrefixFor, AreCounted, IsLeft, IsSpared, IsStop, bad_lines, lost_lines}

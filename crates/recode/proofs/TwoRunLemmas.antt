@@ -3,8 +3,7 @@ use Rattle.std.proofs.Common.{◌≡◌, ℕ, ◌<◌, ◌≤◌, ◌↔◌, ◌
 use Rattle.std.proofs.lemmas.Bool.{false≢true}
 use Rattle.encoding_front.specs.declared.encoding.Encoding.{Encoding}
 use Rattle.recode.specs.Job.{RunsThrough, trace}
-use Rattle.recode.specs.Failures.{Failures}
-use Rattle.recode.specs.Streams.{Streams, Written, known}
+use Rattle.recode.specs.Devices.{Devices, Failures, known, Written}
 use Rattle.recode.specs.TaggedByte.{tagged}
 use Rattle.recode.specs.Runs.{AgreeButForCalls, IsStopped, RunReturns, WroteTheSame}
 use Rattle.recode.specs.Session.{IsReport, IsConverted, Completes}
@@ -41,7 +40,7 @@ pub same_reports : (j : Job) (x : List ℕ) (w w' v v' : Written) (p q : Report)
 same_reports j x w w' v v' p q a b = same_report j x p q a.report b.report
 
 -- with readers that tell their bytes
-pub same_runs : (j : Job) (x : List ℕ) (s s' t t' : Streams) (p q : Report) → s.input ≡ Some x → t.input ≡ Some x → Completes s s' j p → Completes t t' j q
+pub same_runs : (j : Job) (x : List ℕ) (s s' t t' : Devices) (p q : Report) → s.input ≡ Some x → t.input ≡ Some x → Completes s s' j p → Completes t t' j q
     → WroteTheSame s.written s'.written t.written t'.written × AgreeButForCalls p q
 same_runs j x s s' t t' p q is are a b =
     let one = known_completes x s s' j p is a in
@@ -53,33 +52,33 @@ pub same_bytes : (j : Job) (x w w' v' l l' m' : List ℕ) (p q : Report) → IsC
 same_bytes j x w w' v' l l' m' p q a b = (a.output ∙ sym b.output, a.logged ∙ sym b.logged)
 
 -- A run in which no call failed.
-module _ (j : Job) (s s' : Streams) (n : Failures) where
-  pub well_or_ended : (answer : Result Report Fault) → RunReturns s s' n n j answer → IsOk answer ⊎ ((answer ≡ Err TooLong) ⊎ IsStopped j.policy answer)
+module _ (j : Job) (s s' : Devices) (quiet : s'.failures ≡ s.failures) where
+  pub well_or_ended : (answer : Result Report Fault) → RunReturns s s' j answer → IsOk answer ⊎ ((answer ≡ Err TooLong) ⊎ IsStopped j.policy answer)
   well_or_ended (Ok p) a = inl refl
-  well_or_ended (Err Read) a = absurd (omega (arith, a.counts.reader))
-  well_or_ended (Err Write) a = absurd (omega (arith, a.counts.writer))
-  well_or_ended (Err Log) a = absurd (omega (arith, a.counts.log))
+  well_or_ended (Err Read) a = absurd (omega (arith, a.counts.reader, ap (λ (n : Failures). n.reader) quiet))
+  well_or_ended (Err Write) a = absurd (omega (arith, a.counts.writer, ap (λ (n : Failures). n.writer) quiet))
+  well_or_ended (Err Log) a = absurd (omega (arith, a.counts.log, ap (λ (n : Failures). n.log) quiet))
   well_or_ended (Err TooLong) a = inr (inl refl)
   well_or_ended (Err (Unmappable i c)) a = inr (inr (a.fails.stopped [] (λ last. refl)).policy)
 
 -- and whose reader tells its bytes
-module _ (j : Job) (x : List ℕ) (s s' : Streams) (n : Failures) where
-  through_where_well : (answer : Result Report Fault) → s.input ≡ Some x → RunReturns s s' n n j answer → IsOk answer → (length x ≤ j.limit) × RunsThrough j x
+module _ (j : Job) (x : List ℕ) (s s' : Devices) (quiet : s'.failures ≡ s.failures) where
+  through_where_well : (answer : Result Report Fault) → s.input ≡ Some x → RunReturns s s' j answer → IsOk answer → (length x ≤ j.limit) × RunsThrough j x
   through_where_well (Ok p) is a h =
       let k = known_completes x s s' j p is a.completes in
       (k.within, k.unstopped)
   through_where_well (Err f) is a h = absurd (false≢true h)
 
-  too_long_where_told : (answer : Result Report Fault) → s.input ≡ Some x → RunReturns s s' n n j answer → answer ≡ Err TooLong → j.limit < length x
+  too_long_where_told : (answer : Result Report Fault) → s.input ≡ Some x → RunReturns s s' j answer → answer ≡ Err TooLong → j.limit < length x
   too_long_where_told (Ok p) is a h = absurd (cc)
-  too_long_where_told (Err Read) is a h = absurd (omega (arith, a.counts.reader))
-  too_long_where_told (Err Write) is a h = absurd (omega (arith, a.counts.writer))
-  too_long_where_told (Err Log) is a h = absurd (omega (arith, a.counts.log))
+  too_long_where_told (Err Read) is a h = absurd (omega (arith, a.counts.reader, ap (λ (n : Failures). n.reader) quiet))
+  too_long_where_told (Err Write) is a h = absurd (omega (arith, a.counts.writer, ap (λ (n : Failures). n.writer) quiet))
+  too_long_where_told (Err Log) is a h = absurd (omega (arith, a.counts.log, ap (λ (n : Failures). n.log) quiet))
   too_long_where_told (Err TooLong) is a h = known_too_long x s s' j is a.fails
   too_long_where_told (Err (Unmappable i c)) is a h = absurd (cc)
 
   -- where the policy stopped it a character was lost
-  lost_where_stopped : (answer : Result Report Fault) → s.input ≡ Some x → RunReturns s s' n n j answer → IsStopped j.policy answer → ¬ (RunsThrough j x)
+  lost_where_stopped : (answer : Result Report Fault) → s.input ≡ Some x → RunReturns s s' j answer → IsStopped j.policy answer → ¬ (RunsThrough j x)
   lost_where_stopped (Ok p) is a h through = absurd h
   lost_where_stopped (Err Read) is a h through = absurd h
   lost_where_stopped (Err Write) is a h through = absurd h
@@ -90,20 +89,20 @@ module _ (j : Job) (x : List ℕ) (s s' : Streams) (n : Failures) where
       let spared = runs_through j x through in
       omega (arith, spared k.policy, ap lost_lines (sym (trace_where_spared j x spared)), ap lost_lines k.last, lost_lines-append k.items (LostAt i c ∷ []))
 
-  pub well_where_through : (answer : Result Report Fault) → s.input ≡ Some x → RunReturns s s' n n j answer → IsOk answer ↔ ((length x ≤ j.limit) × RunsThrough j x)
+  pub well_where_through : (answer : Result Report Fault) → s.input ≡ Some x → RunReturns s s' j answer → IsOk answer ↔ ((length x ≤ j.limit) × RunsThrough j x)
   well_where_through answer is a = (
     through_where_well answer is a,
-    λ h. elim (well_or_ended j s s' n answer a) [
+    λ h. elim (well_or_ended j s s' quiet answer a) [
       | inl well ↦ well
       | inr (inl long) ↦ absurd (omega (arith, too_long_where_told answer is a long, h.0))
       | inr (inr stopped) ↦ absurd (lost_where_stopped answer is a stopped h.1)
     ],
   )
 
-  pub told_where_too_long : (answer : Result Report Fault) → s.input ≡ Some x → RunReturns s s' n n j answer → RunsThrough j x → (answer ≡ Err TooLong) ↔ (j.limit < length x)
+  pub told_where_too_long : (answer : Result Report Fault) → s.input ≡ Some x → RunReturns s s' j answer → RunsThrough j x → (answer ≡ Err TooLong) ↔ (j.limit < length x)
   told_where_too_long answer is a through = (
     too_long_where_told answer is a,
-    λ h. elim (well_or_ended j s s' n answer a) [
+    λ h. elim (well_or_ended j s s' quiet answer a) [
       | inl well ↦ absurd (omega (arith, (through_where_well answer is a well).0, h))
       | inr (inl long) ↦ long
       | inr (inr stopped) ↦ absurd (lost_where_stopped answer is a stopped through)

@@ -2,7 +2,7 @@
 use Rattle.std.specs.Prelude.{◌≡◌, ◌↔◌, IsTrue, ℕ, ◌+◌, ◌-◌, ◌*◌, ◌<◌, ◌≤◌, List, [], ◌++◌, drop, length, Bool, true, false}
 use Rattle.recode.specs.State.{State, WillBeFaithful, to_write}
 use Rattle.recode.specs.Step.{Advances, IsNearlyDecided}
-use Rattle.recode.specs.Streams.{Written}
+use Rattle.recode.specs.Devices.{Written}
 use Rattle.recode.specs.TraceToWrite.{AreSound}
 use Rattle.recode.specs.Verdict.{CanTell}
 use Rattle.recode.specs.Work.{TakesAtLeast, TakesCalls, ends}

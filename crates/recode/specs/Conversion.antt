@@ -3,8 +3,7 @@ use Rattle.std.specs.Prelude.{◌≡◌, ◌≢◌, ℕ, ◌+◌, ◌<◌, ◌�
 use Rattle.std.specs.Io.KnownBytes.{Appends, Consumes, IsAtEnd}
 use Rattle.recode_log.specs.Line.{row_bytes}
 use Rattle.recode.specs.Job.{trace, output_of, log_of, Faithful, RunsThrough}
-use Rattle.recode.specs.Failures.{Failures}
-use Rattle.recode.specs.Streams.{Streams}
+use Rattle.recode.specs.Devices.{Devices, Failures}
 use Rattle.recode.specs.TaggedByte.{TaggedByte, Wrote, IsPrefix, tagged, outputs, lines}
 use Rattle.recode.specs.WrittenItems.{IsStop}
 use Rattle.recode.specs.declared.job.Fault.{Fault}
@@ -13,7 +12,7 @@ use Rattle.recode.specs.declared.job.Job.{Job}
 
 -- The input was read whole and is within the limit, the policy did not stop, output and log are whole, and the status
 -- tells whether anything was lost.
-pub record Converts (before after : Streams) (j : Job) (status : ℕ) : Type 0 where
+pub record Converts (before after : Devices) (j : Job) (status : ℕ) : Type 0 where
   pub input : List ℕ
   pub consumed : Consumes before.input after.input input
   pub end : IsAtEnd after.input
@@ -64,7 +63,7 @@ IsTold before after message told = ((after ≡ before) × (take told message ≡
 -- none where the end was read, in their one order; behind it the log has a prefix of the message of a fault that came,
 -- all of it where no call of the log failed while it was written. `untold` is the log's count when it was begun. Where
 -- the policy stopped the run, `stopped` says at which character.
-pub record Breaks (before after : Streams) (failures failures' : Failures) (j : Job) : Type 0 where
+pub record Breaks (before after : Devices) (j : Job) : Type 0 where
   pub input : List ℕ
   pub refused : List ℕ
   pub ended : Bool
@@ -75,12 +74,12 @@ pub record Breaks (before after : Streams) (failures failures' : Failures) (j : 
   pub taken : List TaggedByte
   pub fault : Fault
   pub spared : fault ≢ TooLong → refused ≡ []
-  pub unread : failures.reader < failures'.reader → fault ≡ Read
+  pub unread : before.failures.reader < after.failures.reader → fault ≡ Read
   pub untold : ℕ
-  pub since : failures.log ≤ untold
-  pub cause : IsCause failures (record failures' { log = untold }) before.input after.input j.limit fault
+  pub since : before.failures.log ≤ untold
+  pub cause : IsCause before.failures (record after.failures { log = untold }) before.input after.input j.limit fault
   pub told : ℕ
-  pub whole : IsTold untold failures'.log (message_of fault) told
+  pub whole : IsTold untold after.failures.log (message_of fault) told
   pub output : Appends before.written.output after.written.output (outputs taken)
   pub logged : Appends before.written.log after.written.log (lines taken ++ take told (message_of fault))
   pub prefix : (r : List ℕ) → (ended ≡ true → r ≡ []) → IsPrefix taken (tagged (trace j (input ++ r)))

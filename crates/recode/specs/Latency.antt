@@ -10,13 +10,13 @@ use Rattle.recode_log.specs.Line.{line_bytes}
 use Rattle.recode.specs.Job.{input_pieces, log_lines, target_of}
 use Rattle.recode.specs.Policy.{form_of}
 use Rattle.recode.specs.State.{State}
-use Rattle.recode.specs.Streams.{Streams, Written}
+use Rattle.recode.specs.Devices.{Devices, Written}
 use Rattle.recode.specs.TaggedByte.{IsPrefix}
 use Rattle.recode.specs.declared.job.Job.{Job}
 
 -- A conversion of a job has read x, and has converted the pieces ps: those of x, however it goes on, are ps and then
 -- what is to come. The output so far is the text of ps, and the log so far their lines.
-pub record StandsAt (before after : Streams) (j : Job) (s : State) (x : List ℕ) (ps : List Piece) : Type 0 where
+pub record StandsAt (before after : Devices) (j : Job) (s : State) (x : List ℕ) (ps : List Piece) : Type 0 where
   pub coding : s.coding ≡ target_of j
   pub policy : s.policy ≡ j.policy
   pub read : s.counts.read ≡ length x

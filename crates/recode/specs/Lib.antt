@@ -4,8 +4,7 @@ pub mod WrittenItems
 pub mod Work
 pub mod Policy
 pub mod Fault
-pub mod Failures
-pub mod Streams
+pub mod Devices
 pub mod TraceToWrite
 pub mod Verdict
 pub mod State

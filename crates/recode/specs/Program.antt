@@ -15,9 +15,8 @@ use Rattle.recode_words.specs.declared.words.MarkWord.{MarkWord}
 use Rattle.recode_words.specs.declared.words.PolicyWord.{PolicyWord}
 use Rattle.recode_words.specs.declared.words.Words.{Words}
 use Rattle.recode.specs.Conversion.{Breaks, Converts}
-use Rattle.recode.specs.Failures.{Failures, failures_in}
+use Rattle.recode.specs.Devices.{Devices, devices_in, Failures}
 use Rattle.recode.specs.Job.{IsValidJob}
-use Rattle.recode.specs.Streams.{Streams, streams_in}
 use Rattle.recode.specs.declared.job.Job.{Job}
 use Rattle.recode.specs.declared.job.Policy.{Policy}
 
@@ -90,34 +89,33 @@ abbrev pub AreKept : IndexLists → IndexLists → Type 0
 AreKept old new = (kind : IndexKind) → has old kind ≡ true → has new kind ≡ true
 
 -- a reader, a writer and a log, as they are at one moment
-pub record Devices (R W L : Type 0) : Type 0 where
+pub record Ports (R W L : Type 0) : Type 0 where
   pub reader : Counted R
   pub writer : Counted W
   pub log : Counted L
 
-abbrev pub devices : {R W L : Type 0} → Counted R → Counted W → Counted L → Devices R W L
-devices reader writer log = record { reader = reader; writer = writer; log = log }
+abbrev pub ports : {R W L : Type 0} → Counted R → Counted W → Counted L → Ports R W L
+ports reader writer log = record { reader = reader; writer = writer; log = log }
 
 -- What `convert` promises: the conversion is whole, and no call of a device failed, or it broke off.
-pub record IsConversion (before after : Streams) (failures failures' : Failures) (j : Job) (status : ℕ) : Type 0 where
+pub record IsConversion (before after : Devices) (j : Job) (status : ℕ) : Type 0 where
   pub converts : status ≢ 4 → Converts before after j status
-  pub quiet : status ≢ 4 → failures' ≡ failures
-  pub broken : status ≡ 4 → Breaks before after failures failures' j
+  pub quiet : status ≢ 4 → after.failures ≡ before.failures
+  pub broken : status ≡ 4 → Breaks before after j
 
 -- the same of devices
-abbrev pub IsConversionOn : {R W L : Type 0} → (R → Option (List ℕ)) → (W → Option (List ℕ)) → (L → Option (List ℕ)) → Devices R W L → Devices R W L → Job → ℕ → Type 0
+abbrev pub IsConversionOn : {R W L : Type 0} → (R → Option (List ℕ)) → (W → Option (List ℕ)) → (L → Option (List ℕ)) → Ports R W L → Ports R W L → Job → ℕ → Type 0
 IsConversionOn remaining contents logged before after j status =
-    IsConversion (streams_in remaining contents logged before.reader before.writer before.log) (streams_in remaining contents logged after.reader after.writer after.log)
-    (failures_in before.reader before.writer before.log) (failures_in after.reader after.writer after.log) j status
+    IsConversion (devices_in remaining contents logged before.reader before.writer before.log) (devices_in remaining contents logged after.reader after.writer after.log) j status
 
 -- Nothing is read, and nothing written but to the log.
-pub record IsLeftAlone {R W L : Type 0} (before after : Devices R W L) : Type 0 where
+pub record IsLeftAlone {R W L : Type 0} (before after : Ports R W L) : Type 0 where
   pub unread : after.reader ≡ before.reader
   pub unwritten : after.writer ≡ before.writer
 
 -- What is returned for words that clap takes: a label is unknown, or an index or memory is missing, or their job is
 -- converted, with the indexes of the folder's files.
-abbrev pub AnswersWords : {R W L : Type 0} → FileTexts → (R → Option (List ℕ)) → (W → Option (List ℕ)) → (L → Option (List ℕ)) → Devices R W L → Devices R W L → Words → ℕ → Type 0
+abbrev pub AnswersWords : {R W L : Type 0} → FileTexts → (R → Option (List ℕ)) → (W → Option (List ℕ)) → (L → Option (List ℕ)) → Ports R W L → Ports R W L → Words → ℕ → Type 0
 AnswersWords holds remaining contents logged before after w status =
     ((status ≡ 2) × HasUnknownLabel w × IsLeftAlone before after)
     ⊎ (((status ≡ 3) × IsLeftAlone before after)
@@ -126,22 +124,22 @@ AnswersWords holds remaining contents logged before after w status =
 -- What is returned for the program's words: they are refused, or the start fails, with nothing read and nothing written
 -- but a message; or they ask for a text, with nothing read and no message; or the job that they mean is converted, with
 -- the indexes of the folder's files.
-pub record RefusesWords {R W L : Type 0} (before after : Devices R W L) (words : List (List ℕ)) (status : ℕ) : Type 0 where
+pub record RefusesWords {R W L : Type 0} (before after : Ports R W L) (words : List (List ℕ)) (status : ℕ) : Type 0 where
   pub answered : status ≡ 2
   pub refused : IsRefusedByClap words ⊎ (HasMeaninglessValue words ⊎ NamesUnknown words)
   pub alone : IsLeftAlone before after
 
-pub record FailsToStart {R W L : Type 0} (before after : Devices R W L) (status : ℕ) : Type 0 where
+pub record FailsToStart {R W L : Type 0} (before after : Ports R W L) (status : ℕ) : Type 0 where
   pub answered : status ≡ 3
   pub alone : IsLeftAlone before after
 
-pub record TellsText {R W L : Type 0} (before after : Devices R W L) (words : List (List ℕ)) (status : ℕ) : Type 0 where
+pub record TellsText {R W L : Type 0} (before after : Ports R W L) (words : List (List ℕ)) (status : ℕ) : Type 0 where
   pub answered : status ≡ 0
   pub asked : AskForText words
   pub unread : after.reader ≡ before.reader
   pub unlogged : after.log ≡ before.log
 
-pub record RunsJob {R W L : Type 0} (holds : FileTexts) (remaining : R → Option (List ℕ)) (contents : W → Option (List ℕ)) (logged : L → Option (List ℕ)) (before after : Devices R W L) (words : List (List ℕ)) (status : ℕ) : Type 0 where
+pub record RunsJob {R W L : Type 0} (holds : FileTexts) (remaining : R → Option (List ℕ)) (contents : W → Option (List ℕ)) (logged : L → Option (List ℕ)) (before after : Ports R W L) (words : List (List ℕ)) (status : ℕ) : Type 0 where
   pub w : Words
   pub meant : AsksFor words (Run w)
   pub j : Job
@@ -149,7 +147,7 @@ pub record RunsJob {R W L : Type 0} (holds : FileTexts) (remaining : R → Optio
   pub files : AreOfFiles holds w.indexes.now j.tables.now
   pub converted : IsConversionOn remaining contents logged before after j status
 
-abbrev pub AnswersProgram : {R W L : Type 0} → FileTexts → (R → Option (List ℕ)) → (W → Option (List ℕ)) → (L → Option (List ℕ)) → Devices R W L → Devices R W L → List (List ℕ) → ℕ → Type 0
+abbrev pub AnswersProgram : {R W L : Type 0} → FileTexts → (R → Option (List ℕ)) → (W → Option (List ℕ)) → (L → Option (List ℕ)) → Ports R W L → Ports R W L → List (List ℕ) → ℕ → Type 0
 AnswersProgram holds remaining contents logged before after words status =
     RefusesWords before after words status
     ⊎ (FailsToStart before after status

@@ -1,7 +1,6 @@
 -- What two runs have in common, and what a run returns.
 use Rattle.std.specs.Prelude.{◌≡◌, ℕ, List, [], Some, Result, Ok, Err, IfOk, IfErr}
-use Rattle.recode.specs.Failures.{Failures, CountsFault}
-use Rattle.recode.specs.Streams.{Streams, Written}
+use Rattle.recode.specs.Devices.{CountsFault, Devices, Failures, Written}
 use Rattle.recode.specs.TaggedByte.{TaggedByte, Wrote}
 use Rattle.recode.specs.Session.{Completes, Fails}
 use Rattle.recode.specs.declared.job.Fault.{Fault}
@@ -35,7 +34,7 @@ IsStopped p (Err TooLong) = ⊥
 IsStopped p (Err (Unmappable index scalar)) = p ≡ Policy.Stop
 
 -- what `run` ensures of its result
-pub record RunReturns (before after : Streams) (failures failures' : Failures) (j : Job) (answer : Result Report Fault) : Type 0 where
+pub record RunReturns (before after : Devices) (j : Job) (answer : Result Report Fault) : Type 0 where
   pub completes : IfOk answer (Completes before after j)
   pub fails : IfErr answer (Fails before after j)
-  pub counts : CountsFault failures failures' answer
+  pub counts : CountsFault before after answer

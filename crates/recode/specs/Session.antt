@@ -7,7 +7,7 @@ use Rattle.encoding_mem.specs.declared.form.EscapeState.TheVariants.{Ascii}
 use Rattle.recode.specs.Job.{trace, whole_trace, target_of, output_of, log_of, source_in, input_pieces, input_text, Faithful, RunsThrough}
 use Rattle.recode.specs.Latency.{WroteDecided}
 use Rattle.recode.specs.State.{State, WillBeFaithful, to_write}
-use Rattle.recode.specs.Streams.{Streams, Written}
+use Rattle.recode.specs.Devices.{Devices, Written}
 use Rattle.recode.specs.TaggedByte.{TaggedByte, Wrote, IsPrefix, tagged, outputs, lines}
 use Rattle.recode.specs.Step.{PassesLimit}
 use Rattle.recode.specs.WrittenItems.{IsStop}
@@ -78,7 +78,7 @@ pub record IsReport (j : Job) (x : List ℕ) (p : Report) : Type 0 where
 
 -- A run that came to its end: the input was read whole and is within the limit, output and log are whole, and the
 -- report is of this input. Where the policy stops at a lost character, there was none.
-pub record Completes (before after : Streams) (j : Job) (p : Report) : Type 0 where
+pub record Completes (before after : Devices) (j : Job) (p : Report) : Type 0 where
   pub input : List ℕ
   pub consumed : Consumes before.input after.input input
   pub end : IsAtEnd after.input
@@ -93,7 +93,7 @@ pub record Completes (before after : Streams) (j : Job) (p : Report) : Type 0 wh
 -- the end was read, output and log in their one order; where the policy stopped it, it is all that any continuation
 -- gives, and ends with the line of the lost character. Bytes are refused by `TooLong` alone, and pass the limit. Where
 -- the fault is `Read` or `TooLong`, all that the bytes decide that were counted was written.
-pub record Fails (before after : Streams) (j : Job) (f : Fault) : Type 0 where
+pub record Fails (before after : Devices) (j : Job) (f : Fault) : Type 0 where
   pub input : List ℕ
   pub refused : List ℕ
   pub ended : Bool

@@ -11,7 +11,7 @@ use Rattle.recode_log.specs.Line.{line_bytes}
 use Rattle.recode.specs.Job.{log_lines}
 use Rattle.recode.specs.Policy.{form_of}
 use Rattle.recode.specs.State.{State, WillBeFaithful, to_write}
-use Rattle.recode.specs.Streams.{KeepsWritten, Streams, Written}
+use Rattle.recode.specs.Devices.{Devices, KeepsWritten, Written}
 use Rattle.recode.specs.TaggedByte.{TaggedByte, Wrote, IsPrefix, tagged}
 use Rattle.recode.specs.TraceToWrite.{AreSound}
 use Rattle.recode.specs.Work.{TakesAtLeast, TakesCalls}
@@ -38,7 +38,7 @@ pub record Advances (before after : List ℕ → List Piece) (e : Coding) (s s' 
 -- converted, however the input goes on: what was written is its text and what was logged its lines, no more and no
 -- less, and what is pending is nearly decided. Of codecs it took few calls, and two at least, with three more for each
 -- malformed sequence and one for each lost character.
-pub record StepsOn (before after : Streams) (limit : ℕ) (s s' : State) : Type 0 where
+pub record StepsOn (before after : Devices) (limit : ℕ) (s s' : State) : Type 0 where
   pub chunk : List ℕ
   pub consumed : Consumes before.input after.input chunk
   pub counted : s'.counts.read ≡ s.counts.read + length chunk
@@ -57,7 +57,7 @@ pub record StepsOn (before after : Streams) (limit : ℕ) (s s' : State) : Type 
   pub least : TakesAtLeast (3 * (s'.counts.bad - s.counts.bad) + 2) s.counts s'.counts
 
 -- Some steps that went on, from a state to a later one. They may be none.
-pub record HasRun (before after : Streams) (limit : ℕ) (s s' : State) : Type 0 where
+pub record HasRun (before after : Devices) (limit : ℕ) (s s' : State) : Type 0 where
   pub chunk : List ℕ
   pub consumed : Consumes before.input after.input chunk
   pub counted : s'.counts.read ≡ s.counts.read + length chunk
@@ -74,7 +74,7 @@ pub record HasRun (before after : Streams) (limit : ℕ) (s s' : State) : Type 0
 
 -- The end was read, and all the rest of the trace was written: under a policy that stops, none of it a lost character.
 -- It may stand for some steps and the one that ended.
-pub record Finishes (before after : Streams) (limit : ℕ) (s s' : State) : Type 0 where
+pub record Finishes (before after : Devices) (limit : ℕ) (s s' : State) : Type 0 where
   pub chunk : List ℕ
   pub consumed : Consumes before.input after.input chunk
   pub end : IsAtEnd after.input
@@ -99,7 +99,7 @@ PassesLimit read limit (Unmappable index scalar) = read ≤ limit
 -- to come, none where the end was read; all of it, up to the line of the first lost character, where the policy stopped
 -- it. Where the fault is `Read` or `TooLong`, none were counted, and nothing was written. Bytes are refused by `TooLong`
 -- alone, and pass the limit.
-pub record Stops (before after : Streams) (limit : ℕ) (s : State) (fault : Fault) : Type 0 where
+pub record Stops (before after : Devices) (limit : ℕ) (s : State) (fault : Fault) : Type 0 where
   pub chunk : List ℕ
   pub refused : List ℕ
   pub ended : Bool

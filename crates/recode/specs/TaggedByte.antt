@@ -3,7 +3,7 @@ use Rattle.std.specs.Prelude.{◌≡◌, ℕ, List, [], ◌∷◌, ◌++◌, map
 use Rattle.std.specs.List.{flat_map}
 use Rattle.std.specs.Io.KnownBytes.{Appends}
 use Rattle.encoding_mem.specs.Items.{Item, Byte, MalformedAt, LostAt}
-use Rattle.recode.specs.Streams.{Written}
+use Rattle.recode.specs.Devices.{Written}
 use Rattle.recode_log.specs.Line.{line_bytes}
 use Rattle.recode_log.specs.declared.line.LogLine.TheVariants.{Bad, Lost}
 

@@ -6,7 +6,7 @@ use Rattle.encoding_mem.specs.declared.form.EscapeState.{EscapeState}
 use Rattle.encoding_mem.specs.declared.form.EscapeState.TheVariants.{Ascii}
 use Rattle.recode.specs.Policy.{form_of}
 use Rattle.recode.specs.State.{State}
-use Rattle.recode.specs.Streams.{Written}
+use Rattle.recode.specs.Devices.{Written}
 use Rattle.recode.specs.TaggedByte.{Wrote, tagged}
 use Rattle.recode.specs.Verdict.{CanTell, IsToldAtEnd, Keeps, VerdictView}
 use Rattle.recode.specs.Work.{TakesAtLeast, ends}

@@ -2,7 +2,7 @@
 use Rattle.std.specs.Prelude.{◌≡◌, ℕ, ◌+◌, List, [], ◌∷◌, ◌++◌, Bool, true}
 use Rattle.encoding_mem.specs.Items.{Item, Byte, MalformedAt, LostAt}
 use Rattle.recode.specs.Policy.{written_under}
-use Rattle.recode.specs.Streams.{Written}
+use Rattle.recode.specs.Devices.{Written}
 use Rattle.recode.specs.TaggedByte.{TaggedByte, Wrote, IsPrefix, tagged}
 use Rattle.recode.specs.declared.job.Fault.{Fault}
 use Rattle.recode.specs.declared.job.Fault.TheVariants.{Read, Write, Log, TooLong, Unmappable}

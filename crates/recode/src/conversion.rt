@@ -5,8 +5,7 @@ ghost use Rattle.std.specs.Io.KnownBytes.{Appends};
 ghost use Rattle.recode_log.specs.Counted.{inner_of, failures_of};
 ghost use Rattle.recode.specs.Job.{IsValidJob};
 ghost use Rattle.recode.specs.Buffers.{AreEnough, KeepSizes};
-ghost use Rattle.recode.specs.Failures.{failures_in};
-ghost use Rattle.recode.specs.Streams.{KeepsWritten, streams_in, written_in};
+ghost use Rattle.recode.specs.Devices.{devices_in, KeepsWritten, written_in};
 ghost use Rattle.recode.specs.Conversion.{Breaks, Converts, IsFlushCause, IsTold, message_of};
 
 use crate::job::{Buffers, Fault, Job};
@@ -121,15 +120,15 @@ pub fn convert<R: Read, W: Write, L: Write>(
 
     ensures buffers { KeepSizes buffers.old buffers.new }
     ensures converts { result ≢ 4 → Converts
-        (streams_in R.remaining W.contents L.contents reader.old writer.old log.old)
-        (streams_in R.remaining W.contents L.contents reader.new writer.new log.new) job.entry
+        (devices_in R.remaining W.contents L.contents reader.old writer.old log.old)
+        (devices_in R.remaining W.contents L.contents reader.new writer.new log.new) job.entry
         result }
-    ensures quiet { result ≢ 4 →
-        failures_in reader.new writer.new log.new ≡ failures_in reader.old writer.old log.old }
+    ensures quiet { result ≢ 4 → (devices_in R.remaining W.contents L.contents
+        reader.new writer.new log.new).failures
+        ≡ (devices_in R.remaining W.contents L.contents reader.old writer.old log.old).failures }
     ensures broken { result ≡ 4 → Breaks
-        (streams_in R.remaining W.contents L.contents reader.old writer.old log.old)
-        (streams_in R.remaining W.contents L.contents reader.new writer.new log.new)
-        (failures_in reader.old writer.old log.old) (failures_in reader.new writer.new log.new)
+        (devices_in R.remaining W.contents L.contents reader.old writer.old log.old)
+        (devices_in R.remaining W.contents L.contents reader.new writer.new log.new)
         job.entry }
 {
     let result = run(reader, writer, log, job, buffers);

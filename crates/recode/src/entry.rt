@@ -5,7 +5,7 @@ ghost use Rattle.encoding_front.specs.Encodings.{IsReady, output_encoding_of};
 ghost use Rattle.recode_log.specs.Counted.{failures_of};
 ghost use Rattle.recode.specs.Job.{IsValidJob};
 ghost use Rattle.recode.specs.Program.{AddsFromFiles, AnswersProgram, AnswersWords};
-ghost use Rattle.recode.specs.Program.{IsConversionOn, devices, mark_of_word, policy_of_word};
+ghost use Rattle.recode.specs.Program.{IsConversionOn, ports, mark_of_word, policy_of_word};
 
 use crate::conversion::{FAITHFUL, convert};
 use crate::indexes::{IndexSource, StartFault, load_indexes};
@@ -133,7 +133,7 @@ fn convert_in_buffers<R: Read, W: Write, L: Write>(
     requires writer { failures_of writer.old ≤ 2 ^ 64 - 5 }
     requires log { failures_of log.old ≤ 2 ^ 64 - 5 }
     ensures { IsConversionOn R.remaining W.contents L.contents
-        (devices reader.old writer.old log.old) (devices reader.new writer.new log.new) job.entry
+        (ports reader.old writer.old log.old) (ports reader.new writer.new log.new) job.entry
         result }
 {
     let mut input = [0; BUFFER_SIZE];
@@ -182,7 +182,7 @@ fn run_words<S: IndexSource, R: Read, W: Write, L: Write>(
     requires writer { failures_of writer.old ≤ 2 ^ 64 - 5 }
     requires log { failures_of log.old ≤ 2 ^ 64 - 5 }
     ensures { AnswersWords (S.holds source.old) R.remaining W.contents L.contents
-        (devices reader.old writer.old log.old) (devices reader.new writer.new log.new) words.entry
+        (ports reader.old writer.old log.old) (ports reader.new writer.new log.new) words.entry
         result }
 {
     let Some(from) = Encoding::for_label(words.from.as_bytes()) else {
@@ -242,7 +242,7 @@ pub fn program<S: IndexSource, R: Read, W: Write, L: Write>(
     requires writer { failures_of writer.old ≤ 2 ^ 64 - 5 }
     requires log { failures_of log.old ≤ 2 ^ 64 - 5 }
     ensures { AnswersProgram (S.holds source.old) R.remaining W.contents L.contents
-        (devices reader.old writer.old log.old) (devices reader.new writer.new log.new)
+        (ports reader.old writer.old log.old) (ports reader.new writer.new log.new)
         (map (λ s. s.now) words.now) result }
 {
     match parse_words(alloc, words) {

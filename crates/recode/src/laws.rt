@@ -17,7 +17,7 @@ ghost use Rattle.encoding_mem.specs.declared.reference.Reference.TheVariants.{De
 ghost use Rattle.encoding_front.specs.Encodings.{IsUtf8Encoding, KeepsCharacters, coding_of, output_encoding_of};
 ghost use Rattle.encoding_front.specs.Marks.{marked_pieces, marked_text};
 ghost use Rattle.encoding_front.specs.declared.mark.Mark.{Mark};
-ghost use Rattle.recode.specs.Failures.{Failures};
+ghost use Rattle.recode.specs.Devices.{Devices, known, Written};
 ghost use Rattle.recode_log.specs.Line.{line_bytes};
 ghost use Rattle.recode_log.specs.declared.line.LogLine.TheVariants.{Lost};
 ghost use Rattle.recode.specs.Job.{Faithful, IsValidJob, input_pieces, input_text, log_lines};
@@ -34,7 +34,6 @@ ghost use Rattle.recode.specs.Slices.{slices};
 ghost use Rattle.recode.specs.State.{State};
 ghost use Rattle.recode.specs.Step.{Finishes, HasRun, IsNearlyDecided, StepsOn, Stops};
 ghost use Rattle.recode.specs.Step.{WrotePrefix};
-ghost use Rattle.recode.specs.Streams.{Streams, Written, known};
 ghost use Rattle.recode.specs.TaggedByte.{IsPrefix, TaggedByte};
 ghost use Rattle.recode.specs.WrittenItems.{StopsAt, bad_lines, lost_lines};
 ghost use Rattle.recode.specs.declared.job.Fault.{Fault};
@@ -128,12 +127,12 @@ pub fn log_is_empty()
 /// prefixes of them, and said that the input is too long only where it is. One that the policy
 /// stopped wrote all of them.
 pub fn known_input()
-    ensures completes { (x : List ℕ) (s s' : Streams) (j : Job) (p : Report)
+    ensures completes { (x : List ℕ) (s s' : Devices) (j : Job) (p : Report)
         → s.input ≡ Some x → Completes s s' j p → IsConverted s.written s'.written j x p }
-    ensures fails { (x : List ℕ) (s s' : Streams) (j : Job) (f : Fault)
+    ensures fails { (x : List ℕ) (s s' : Devices) (j : Job) (f : Fault)
         → s.input ≡ Some x → Fails s s' j f
         → WrotePrefix s.written s'.written j.policy f (trace j x) }
-    ensures too_long { (x : List ℕ) (s s' : Streams) (j : Job)
+    ensures too_long { (x : List ℕ) (s s' : Devices) (j : Job)
         → s.input ≡ Some x → Fails s s' j Fault.TooLong → j.limit < length x }
 {}
 
@@ -226,7 +225,7 @@ pub fn runs_agree()
         → IsConverted w w' j x p → IsConverted v v' j x q → WroteTheSame w w' v v' }
     ensures report { (j : Job) (x : List ℕ) (w w' v v' : Written) (p q : Report)
         → IsConverted w w' j x p → IsConverted v v' j x q → AgreeButForCalls p q }
-    ensures known { (j : Job) (x : List ℕ) (s s' t t' : Streams) (p q : Report)
+    ensures known { (j : Job) (x : List ℕ) (s s' t t' : Devices) (p q : Report)
         → s.input ≡ Some x → t.input ≡ Some x → Completes s s' j p → Completes t t' j q
         → WroteTheSame s.written s'.written t.written t'.written × AgreeButForCalls p q }
     ensures bytes { (j : Job) (x w w' v' l l' m' : List ℕ) (p q : Report)
@@ -239,16 +238,17 @@ pub fn runs_agree()
 /// tells its bytes; where it does not, the result is still one of these, and `Unmappable` under
 /// `Policy::Stop` alone.
 pub fn answers_without_faults()
-    ensures ok { (j : Job) (x : List ℕ) (s s' : Streams) (n : Failures)
-        (answer : Result Report Fault)
-        → s.input ≡ Some x → RunReturns s s' n n j answer
+    ensures ok { (j : Job) (x : List ℕ) (s s' : Devices)
+        → s'.failures ≡ s.failures → (answer : Result Report Fault)
+        → s.input ≡ Some x → RunReturns s s' j answer
         → IsOk answer ↔ ((length x ≤ j.limit) × RunsThrough j x) }
-    ensures too_long { (j : Job) (x : List ℕ) (s s' : Streams) (n : Failures)
-        (answer : Result Report Fault)
-        → s.input ≡ Some x → RunReturns s s' n n j answer → RunsThrough j x
+    ensures too_long { (j : Job) (x : List ℕ) (s s' : Devices)
+        → s'.failures ≡ s.failures → (answer : Result Report Fault)
+        → s.input ≡ Some x → RunReturns s s' j answer → RunsThrough j x
         → (answer ≡ Err Fault.TooLong) ↔ (j.limit < length x) }
-    ensures either { (j : Job) (s s' : Streams) (n : Failures) (answer : Result Report Fault)
-        → RunReturns s s' n n j answer
+    ensures either { (j : Job) (s s' : Devices)
+        → s'.failures ≡ s.failures → (answer : Result Report Fault)
+        → RunReturns s s' j answer
         → IsOk answer ⊎ ((answer ≡ Err Fault.TooLong) ⊎ IsStopped j.policy answer) }
 {}
 
@@ -270,9 +270,9 @@ pub fn faithful_output_reads_back()
 /// A new session has converted nothing. One that steps on has converted the pieces that the step
 /// took too.
 pub fn steps_add_up()
-    ensures first { (t : Streams) (j : Job) (v : View) → IsNewSession v j
+    ensures first { (t : Devices) (j : Job) (v : View) → IsNewSession v j
         → StandsAt t t j v.state [] [] }
-    ensures next { (t t1 t2 : Streams) (j : Job) (limit : ℕ) (s s1 : State) (x : List ℕ)
+    ensures next { (t t1 t2 : Devices) (j : Job) (limit : ℕ) (s s1 : State) (x : List ℕ)
         (ps : List Piece)
         → StandsAt t t1 j s x ps → (p : StepsOn t1 t2 limit s s1)
         → StandsAt t t2 j s1 (x ++ p.chunk) (ps ++ p.advances.taken) }
@@ -283,14 +283,14 @@ pub fn steps_add_up()
 /// one that answers `Done`, and with the session's report, they are a run that came to its end;
 /// with one that answers a fault, a run that it ended.
 pub fn steps_are_a_run()
-    ensures begins { (t : Streams) (j : Job) (v : View) → IsNewSession v j
+    ensures begins { (t : Devices) (j : Job) (v : View) → IsNewSession v j
         → HasRun t t j.limit v.state v.state }
-    ensures goes_on { (t t1 t2 : Streams) (limit : ℕ) (s s1 s2 : State)
+    ensures goes_on { (t t1 t2 : Devices) (limit : ℕ) (s s1 s2 : State)
         → HasRun t t1 limit s s1 → StepsOn t1 t2 limit s1 s2 → HasRun t t2 limit s s2 }
-    ensures completes { (t t1 t2 : Streams) (j : Job) (v w : View) (s : State) (p : Report)
+    ensures completes { (t t1 t2 : Devices) (j : Job) (v w : View) (s : State) (p : Report)
         → IsValidJob j → IsNewSession v j → HasRun t t1 j.limit v.state s
         → Finishes t1 t2 j.limit s w.state → Tells w p → Completes t t2 j p }
-    ensures fails { (t t1 t2 : Streams) (j : Job) (v : View) (s : State) (f : Fault)
+    ensures fails { (t t1 t2 : Devices) (j : Job) (v : View) (s : State) (f : Fault)
         → IsNewSession v j → HasRun t t1 j.limit v.state s
         → Stops t1 t2 j.limit s f → Fails t t2 j f }
 {}
@@ -299,14 +299,14 @@ pub fn steps_are_a_run()
 /// input so far decides, and each piece that ends three or more bytes before the end of what was
 /// read, whatever bytes follow. What it has converted stands whatever numbers follow.
 pub fn decided_pieces_are_converted()
-    ensures decided { (t t1 : Streams) (j : Job) (s : State) (x : List ℕ) (ps : List Piece)
+    ensures decided { (t t1 : Devices) (j : Job) (s : State) (x : List ℕ) (ps : List Piece)
         → StandsAt t t1 j s x ps → IsDecided (input_pieces j) x ps }
-    ensures fixed { (t t1 : Streams) (j : Job) (s : State) (x : List ℕ) (ps : List Piece)
+    ensures fixed { (t t1 : Devices) (j : Job) (s : State) (x : List ℕ) (ps : List Piece)
         → StandsAt t t1 j s x ps → IsFixed (input_pieces j) x ps }
-    ensures longest { (t t1 : Streams) (j : Job) (s : State) (x : List ℕ) (ps qs : List Piece)
+    ensures longest { (t t1 : Devices) (j : Job) (s : State) (x : List ℕ) (ps qs : List Piece)
         → StandsAt t t1 j s x ps → IsNearlyDecided s.decoder → IsDecided (input_pieces j) x qs
         → IsPrefix qs ps }
-    ensures soon { (t t1 : Streams) (j : Job) (s : State) (x y : List ℕ) (ps qs more : List Piece)
+    ensures soon { (t t1 : Devices) (j : Job) (s : State) (x y : List ℕ) (ps qs more : List Piece)
         → StandsAt t t1 j s x ps → IsNearlyDecided s.decoder → input_pieces j (x ++ y) ≡ qs ++ more
         → sizes qs + 3 ≤ length x → IsPrefix qs ps }
 {}

@@ -10,8 +10,7 @@ ghost use Rattle.recode.specs.EngineState.{engine_state};
 ghost use Rattle.recode.specs.Session.{View, IsOver, IsNewSession, IsStepped, Tells, Completes, Fails};
 ghost use Rattle.recode.specs.declared.session.Phase.TheVariants.{Open};
 ghost use Rattle.recode.specs.Step.{Finishes, Stops, StepsOn};
-ghost use Rattle.recode.specs.Failures.{CountsFault, failures_in};
-ghost use Rattle.recode.specs.Streams.{streams_in};
+ghost use Rattle.recode.specs.Devices.{CountsFault, devices_in};
 
 use crate::engine::Engine;
 use crate::job::{Buffers, Fault, Job, Pivot, Progress, Report};
@@ -164,21 +163,22 @@ impl<'t> Session<'t> {
         requires log { failures_of log.old < 2 ^ 64 - 1 }
 
         ensures more { result ≡ Ok Progress.More → StepsOn
-            (streams_in R.remaining W.contents L.contents reader.old writer.old log.old)
-            (streams_in R.remaining W.contents L.contents reader.new writer.new log.new)
+            (devices_in R.remaining W.contents L.contents reader.old writer.old log.old)
+            (devices_in R.remaining W.contents L.contents reader.new writer.new log.new)
             (view_of self.old).job.limit (view_of self.old).state (view_of self.new).state }
         ensures done { result ≡ Ok Progress.Done → Finishes
-            (streams_in R.remaining W.contents L.contents reader.old writer.old log.old)
-            (streams_in R.remaining W.contents L.contents reader.new writer.new log.new)
+            (devices_in R.remaining W.contents L.contents reader.old writer.old log.old)
+            (devices_in R.remaining W.contents L.contents reader.new writer.new log.new)
             (view_of self.old).job.limit (view_of self.old).state (view_of self.new).state }
         ensures fault { IfErr result (Stops
-            (streams_in R.remaining W.contents L.contents reader.old writer.old log.old)
-            (streams_in R.remaining W.contents L.contents reader.new writer.new log.new)
+            (devices_in R.remaining W.contents L.contents reader.old writer.old log.old)
+            (devices_in R.remaining W.contents L.contents reader.new writer.new log.new)
             (view_of self.old).job.limit (view_of self.old).state) }
         ensures session { IsStepped (view_of self.old) (view_of self.new) result }
         ensures buffers { KeepSizes buffers.old buffers.new }
-        ensures failures { CountsFault (failures_in reader.old writer.old log.old)
-            (failures_in reader.new writer.new log.new) result }
+        ensures failures { CountsFault
+            (devices_in R.remaining W.contents L.contents reader.old writer.old log.old)
+            (devices_in R.remaining W.contents L.contents reader.new writer.new log.new) result }
     {
         self.phase = Phase::Stopped;
         let Ok(read) = reader.read(buffers.input) else {
@@ -241,16 +241,17 @@ pub fn run<R: Read, W: Write, L: Write>(
     requires log { failures_of log.old < 2 ^ 64 - 1 }
 
     ensures completes { IfOk result (λ p. Completes
-        (streams_in R.remaining W.contents L.contents reader.old writer.old log.old)
-        (streams_in R.remaining W.contents L.contents reader.new writer.new log.new) job.entry
+        (devices_in R.remaining W.contents L.contents reader.old writer.old log.old)
+        (devices_in R.remaining W.contents L.contents reader.new writer.new log.new) job.entry
         p) }
     ensures fails { IfErr result (λ f. Fails
-        (streams_in R.remaining W.contents L.contents reader.old writer.old log.old)
-        (streams_in R.remaining W.contents L.contents reader.new writer.new log.new) job.entry
+        (devices_in R.remaining W.contents L.contents reader.old writer.old log.old)
+        (devices_in R.remaining W.contents L.contents reader.new writer.new log.new) job.entry
         f) }
     ensures buffers { KeepSizes buffers.old buffers.new }
-    ensures failures { CountsFault (failures_in reader.old writer.old log.old)
-        (failures_in reader.new writer.new log.new) result }
+    ensures failures { CountsFault
+        (devices_in R.remaining W.contents L.contents reader.old writer.old log.old)
+        (devices_in R.remaining W.contents L.contents reader.new writer.new log.new) result }
 {
     let mut session = Session::new(job);
     'run: loop {

@@ -1,7 +1,7 @@
 -- What is done and returned for the words of the command line.
 use Rattle.std.specs.Prelude.{◌≡◌, ◌⊎◌, ⊤, ℕ, List, Option, None, ◌∷◌, [], All, Any, IfSome, codes}
 use Rattle.std.specs.Str.{IsUtf8}
-use Rattle.recode.specs.Program.{AnswersProgram, Devices, FailsToStart, IsLeftAlone}
+use Rattle.recode.specs.Program.{AnswersProgram, Ports, FailsToStart, IsLeftAlone}
 use Rattle.recode_system.specs.declared.command_line.Wordless.{Wordless}
 use Rattle.recode_system.specs.declared.command_line.Wordless.TheVariants.{NotUtf8, Memory}
 
@@ -20,21 +20,21 @@ words_with_name [] = codes "recode" ∷ []
 words_with_name (name ∷ words) = name ∷ words
 
 -- A word is no text: nothing is read, and nothing written but a message.
-pub record RefusesLine {R W L : Type 0} (told : Option (List (List ℕ))) (before after : Devices R W L) (status : ℕ) : Type 0 where
+pub record RefusesLine {R W L : Type 0} (told : Option (List (List ℕ))) (before after : Ports R W L) (status : ℕ) : Type 0 where
   pub answered : status ≡ 2
   pub refused : IfSome told HasWordNotUtf8
   pub alone : IsLeftAlone before after
 
 -- Each word is a text, and all is as the program does and returns it for these words, in their order. They are those
 -- that are told, if they are; nothing is told of the files of indexes.
-pub record AnswersLine {R W L : Type 0} (told : Option (List (List ℕ))) (remaining : R → Option (List ℕ)) (contents : W → Option (List ℕ)) (logged : L → Option (List ℕ)) (before after : Devices R W L) (status : ℕ) : Type 0 where
+pub record AnswersLine {R W L : Type 0} (told : Option (List (List ℕ))) (remaining : R → Option (List ℕ)) (contents : W → Option (List ℕ)) (logged : L → Option (List ℕ)) (before after : Ports R W L) (status : ℕ) : Type 0 where
   pub words : List (List ℕ)
   pub given : IfSome told (λ all. words ≡ all)
   pub texts : All IsUtf8 words
   pub answered : AnswersProgram (λ dir file. None) remaining contents logged before after (words_with_name words) status
 
 -- The words are refused, or the start fails, or they are answered.
-abbrev pub AnswersSystem : {R W L : Type 0} → Option (List (List ℕ)) → (R → Option (List ℕ)) → (W → Option (List ℕ)) → (L → Option (List ℕ)) → Devices R W L → Devices R W L → ℕ → Type 0
+abbrev pub AnswersSystem : {R W L : Type 0} → Option (List (List ℕ)) → (R → Option (List ℕ)) → (W → Option (List ℕ)) → (L → Option (List ℕ)) → Ports R W L → Ports R W L → ℕ → Type 0
 AnswersSystem told remaining contents logged before after status =
     RefusesLine told before after status
     ⊎ (FailsToStart before after status

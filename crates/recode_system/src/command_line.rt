@@ -3,7 +3,7 @@
 ghost use Rattle.std.specs.Prelude.{◌≡◌, ◌≤◌, ◌<◌, ◌^◌, ◌-◌, ℕ, List, Option, map};
 ghost use Rattle.std.specs.Prelude.{IfErr, IfOk, IfSome, None, length, string_bytes};
 ghost use Rattle.recode_log.specs.Counted.{failures_of};
-ghost use Rattle.recode.specs.Program.{AnswersProgram, devices};
+ghost use Rattle.recode.specs.Program.{AnswersProgram, ports};
 ghost use Rattle.recode_system.specs.CommandLine.{AnswersSystem, IsWhy, words_with_name};
 
 use crate::system_files::SystemFiles;
@@ -89,7 +89,7 @@ fn answer_words<F: Files, R: Read, W: Write, L: Write>(
     requires writer { failures_of writer.old ≤ 2 ^ 64 - 5 }
     requires log { failures_of log.old ≤ 2 ^ 64 - 5 }
     ensures { AnswersProgram (λ dir file. None) R.remaining W.contents L.contents
-        (devices reader.old writer.old log.old) (devices reader.new writer.new log.new)
+        (ports reader.old writer.old log.old) (ports reader.new writer.new log.new)
         (words_with_name (map (λ s. s.now) words.now)) result }
 {
     program(
@@ -122,7 +122,7 @@ pub fn answer<C: CommandLine + AllocGlobal, F: Files, R: Read, W: Write, L: Writ
     requires writer { failures_of writer.old ≤ 2 ^ 64 - 5 }
     requires log { failures_of log.old ≤ 2 ^ 64 - 5 }
     ensures answered { AnswersSystem (C.told line.now) R.remaining W.contents L.contents
-        (devices reader.old writer.old log.old) (devices reader.new writer.new log.new) result }
+        (ports reader.old writer.old log.old) (ports reader.new writer.new log.new) result }
     ensures status { result ≤ 4 }
 {
     let owned = match line.words(line.alloc()) {

@@ -2,10 +2,10 @@ use Rattle.std.proofs.Common.{ℕ, List, Option, inl, inr, map}
 use Rattle.recode_words.specs.Request.{AsksFor}
 use Rattle.recode_words.specs.declared.request.Request.TheVariants.{Run}
 use Rattle.recode_words.specs.declared.words.Words.{Words}
-use Rattle.recode.specs.Program.{AnswersProgram, AnswersWords, Devices, FileTexts, devices}
+use Rattle.recode.specs.Program.{AnswersProgram, AnswersWords, Ports, FileTexts, ports}
 use Rattle.recode.proofs.entry.program.Goals as goal
 
-answers : {R W L : Type 0} (holds : FileTexts) (remaining : R → Option (List ℕ)) (contents : W → Option (List ℕ)) (logged : L → Option (List ℕ)) (before after : Devices R W L)
+answers : {R W L : Type 0} (holds : FileTexts) (remaining : R → Option (List ℕ)) (contents : W → Option (List ℕ)) (logged : L → Option (List ℕ)) (before after : Ports R W L)
     (words : List (List ℕ)) (w : Words) (status : ℕ) → AsksFor words (Run w) → AnswersWords holds remaining contents logged before after w status
     → AnswersProgram holds remaining contents logged before after words status
 answers holds remaining contents logged before after words w status meant (inl (two, unknown, alone)) =
@@ -17,5 +17,5 @@ answers holds remaining contents logged before after words w status meant (inr (
 
 pub returns-in-Ok-Run : goal.returns-in-Ok-Run
 returns-in-Ok-Run g c =
-    answers (g.S.IndexSource.holds c.args.source.now) g.R.Read.remaining g.W.Write.contents g.L.Write.contents (devices c.args.reader.now c.args.writer.now c.args.log.now) (devices c.run_words.new.reader c.run_words.new.writer c.run_words.new.log)
+    answers (g.S.IndexSource.holds c.args.source.now) g.R.Read.remaining g.W.Write.contents g.L.Write.contents (ports c.args.reader.now c.args.writer.now c.args.log.now) (ports c.run_words.new.reader c.run_words.new.writer c.run_words.new.log)
     (map (λ s. s.now) c.args.words.now) c.in-Ok-Run.words c.run_words.result (rw c.in-Ok-Run.field-0-is at c.in-Ok-Run.ensures.ok) (rw c.in-Ok-Run.words-is at c.run_words.ensures)

@@ -2,14 +2,14 @@ use Rattle.std.proofs.Common.{◌≡◌, ◌-◌}
 use Rattle.recode_log.specs.Counted.{failures_of}
 use Rattle.recode.specs.Buffers.{AreEnough, KeepSizes}
 use Rattle.recode.specs.SessionView.{view_of}
-use Rattle.recode.specs.Streams.{streams_in}
+use Rattle.recode.specs.Devices.{devices_in}
 use Rattle.recode.specs.declared.session.Phase.TheVariants.{Open}
 use Rattle.recode.specs.Step.{HasRun}
 use Rattle.recode.proofs.session.run.Given as goal
 
 abbrev pub invariant-run : goal.invariant-run
 invariant-run g l = record {
-  ran : HasRun (streams_in g.R.Read.remaining g.W.Write.contents g.L.Write.contents l.initial.reader l.initial.writer l.initial.log) (streams_in g.R.Read.remaining g.W.Write.contents g.L.Write.contents l.reader l.writer l.log)
+  ran : HasRun (devices_in g.R.Read.remaining g.W.Write.contents g.L.Write.contents l.initial.reader l.initial.writer l.initial.log) (devices_in g.R.Read.remaining g.W.Write.contents g.L.Write.contents l.reader l.writer l.log)
       l.job.limit (view_of l.initial.session).state (view_of l.session).state;
   open_ : (view_of l.session).phase ≡ Open;
   job : (view_of l.session).job ≡ l.job;

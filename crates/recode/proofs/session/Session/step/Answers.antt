@@ -6,10 +6,10 @@ use Rattle.recode.proofs.TraceLemmas.{handed_on}
 use Rattle.recode.proofs.session.Session.step.Goals as goal
 
 pub returns-in_default-clause-fault : goal.returns-in_default-clause-fault
-returns-in_default-clause-fault g c = stops_unread _ _ _ _ _ c.in_default.ensures.bytes (search rules)
+returns-in_default-clause-fault g c = stops_unread _ _ _ _ _ _ _ c.in_default.ensures.bytes (search rules)
 
 pub returns-then-read-self-clause-fault : goal.returns-then-read-self-clause-fault
-returns-then-read-self-clause-fault g c = stops_refused _ _ _ _ _ _ c.in-Ok.ensures.bytes.0 (search rules)
+returns-then-read-self-clause-fault g c = stops_refused _ _ _ _ _ _ _ _ c.in-Ok.ensures.bytes.0 (search rules)
     (omega (arith, c.in-Ok.ensures.bound.1, c.if-read-self.true))
 
 pub returns-in_err-decode_chunk-clause-fault : goal.returns-in_err-decode_chunk-clause-fault
