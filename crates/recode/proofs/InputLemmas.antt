@@ -57,15 +57,14 @@ kept_log j x kept from to u =
 -- A reader that tells its bytes.
 pub known_completes : (x : List ℕ) (s t : Devices) (j : Job) (p : Report) → s.input ≡ Some x → Completes s t j p → IsConverted s.written t.written j x p
 known_completes x s t j p is k =
-    subst (λ y. IsConverted s.written t.written j y p) (whole_input x t.input k.input (subst (λ y. Consumes y t.input k.input) is k.consumed) k.end)
-    (record { within = k.within; wrote = k.wrote; output = k.output; logged = k.logged; report = k.report; unstopped = k.unstopped })
+    subst (λ y. IsConverted s.written t.written j y p) (whole_input x t.input k.input (subst (λ y. Consumes y t.input k.input) is k.consumed) k.end) k.converted
   where
     whole_input : (x : List ℕ) (after : Option (List ℕ)) (input : List ℕ) → Consumes (Some x) after input → IsAtEnd after → input ≡ x
     whole_input x None input consumed end = absurd consumed
     whole_input x (Some y) input consumed end = sym (consumed ∙ ap (λ t. input ++ t) end ∙ append-nil input)
 
 pub known_fails : (x : List ℕ) (s t : Devices) (j : Job) (f : Fault) → s.input ≡ Some x → Fails s t j f → WrotePrefix s.written t.written j.policy f (trace j x)
-known_fails x s t j f is k = prefix_of x t.input k.input k.refused k.ended (subst (λ y. Consumes y t.input (k.input ++ k.refused)) is k.consumed) k.end k.none (λ r h. (k.prefix r h, k.stopped r h))
+known_fails x s t j f is k = prefix_of x t.input k.read.input k.read.refused k.read.ended (subst (λ y. Consumes y t.input (k.read.input ++ k.read.refused)) is k.read.consumed) k.read.end k.read.none (λ r h. (k.prefix r h, k.stopped r h))
   where
     prefix_of : (x : List ℕ) (after : Option (List ℕ)) (input refused : List ℕ) (ended : Bool) → Consumes (Some x) after (input ++ refused) → (ended ≡ true → IsAtEnd after) → (ended ≡ true → refused ≡ [])
         → ((r : List ℕ) → (ended ≡ true → r ≡ []) → IsPrefix k.taken (tagged (trace j (input ++ r))) × IsStop j.policy f k.taken (trace j (input ++ r))) → WrotePrefix s.written t.written j.policy f (trace j x)
@@ -76,7 +75,7 @@ known_fails x s t j f is k = prefix_of x t.input k.input k.refused k.ended (subs
         record { taken = k.taken; wrote = k.wrote; prefix = (left.0.0, ap (λ t. tagged (trace j t)) whole ∙ left.0.1); stopped = subst (λ t. IsStop j.policy f k.taken (trace j t)) (sym whole) left.1 }
 
 pub known_too_long : (x : List ℕ) (s t : Devices) (j : Job) → s.input ≡ Some x → Fails s t j Fault.TooLong → j.limit < length x
-known_too_long x s t j is k = past x t.input (k.input ++ k.refused) (subst (λ y. Consumes y t.input (k.input ++ k.refused)) is k.consumed) k.limited
+known_too_long x s t j is k = past x t.input (k.read.input ++ k.read.refused) (subst (λ y. Consumes y t.input (k.read.input ++ k.read.refused)) is k.read.consumed) k.limited
   where
     past : (x : List ℕ) (after : Option (List ℕ)) (bytes : List ℕ) → Consumes (Some x) after bytes → j.limit < length bytes → j.limit < length x
     past x None bytes consumed limited = absurd consumed

@@ -49,10 +49,10 @@ quiet_back j x f = (quiet_where_kept (back j) (output_of j x) f.target (all_in_u
 pub runs_read_back : (j : Job) (x bytes again direct : List ℕ) (w w' v v' u u' : Written) (p q r : Report) → IsTrue p.faithful → IsWholeOutput w w' bytes → IsConverted w w' j x p
     → IsWholeOutput v v' again → IsConverted v v' (back j) bytes q → IsWholeOutput u u' direct → IsConverted u u' (in_utf8 j) x r → again ≡ direct
 runs_read_back j x bytes again direct w w' v v' u u' p q r told k a l b m c =
-    bytes_are v.output v'.output again (output_of (back j) bytes) l.begun l.all b.output
-    ∙ ap (output_of (back j)) (bytes_are w.output w'.output bytes (output_of j x) k.begun k.all a.output)
+    bytes_are v.output v'.output again (output_of (back j) bytes) l.begun l.all b.whole.output
+    ∙ ap (output_of (back j)) (bytes_are w.output w'.output bytes (output_of j x) k.begun k.all a.whole.output)
     ∙ reads_back j x (a.report.faithful.0 told)
-    ∙ sym (bytes_are u.output u'.output direct (output_of (in_utf8 j) x) m.begun m.all c.output)
+    ∙ sym (bytes_are u.output u'.output direct (output_of (in_utf8 j) x) m.begun m.all c.whole.output)
   where
     bytes_are : (before after : Option (List ℕ)) (bytes added : List ℕ) → before ≡ Some [] → after ≡ Some bytes → Appends before after added → bytes ≡ added
     bytes_are before after bytes added none all grew = let grown : Appends (Some []) (Some bytes) added = rw (none, all) at grew in grown
@@ -80,7 +80,7 @@ same_whole j x decoded bytes v decimal is written =
 
 pub same_run : (j : Job) (x decoded bytes : List ℕ) (w w' : Written) (p : Report) → IsValidJob j → j.policy ≡ Policy.Decimal → decoded ≡ encode_utf8_all (marked_text j.tables.now j.mark j.from x) → bytes ≡ output Decimal (coding_of j.tables.now j.to) (chars decoded)
     → IsConverted w w' j x p → Appends w.output w'.output bytes
-same_run j x decoded bytes w w' p v decimal is written k = subst (Appends w.output w'.output) (sym (same_whole j x decoded bytes v decimal is written)) k.output
+same_run j x decoded bytes w w' p v decimal is written k = subst (Appends w.output w'.output) (sym (same_whole j x decoded bytes v decimal is written)) k.whole.output
 
 -- a count of which a flag tells whether it is none
 none_where_false : (b : Bool) (n : ℕ) → IsTrue b ↔ (0 < n) → IsFalse b → n ≡ 0

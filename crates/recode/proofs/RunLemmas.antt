@@ -102,12 +102,16 @@ completes before after j v u p valid b f t =
       input = x;
       consumed = f.consumed;
       end = f.end;
-      within = within;
-      wrote = wrote;
-      output = wrote.output;
-      logged = wrote.lined;
-      report = report;
-      unstopped = λ stops. sym (lost_lines-trace (form_of j.policy) (target_of j) Ascii 0 0 (input_pieces j x)) ∙ spared stops;
+      converted = record {
+        whole = record {
+          within = within;
+          unstopped = λ stops. sym (lost_lines-trace (form_of j.policy) (target_of j) Ascii 0 0 (input_pieces j x)) ∙ spared stops;
+          wrote = wrote;
+          output = wrote.output;
+          logged = wrote.lined;
+        };
+        report = report;
+      };
     }
 
 prefix_outputs : (t u : List TaggedByte) → IsPrefix t u → IsPrefix (outputs t) (outputs u)
@@ -118,18 +122,12 @@ prefix_lines t u f = (lines f.0, ap lines f.1 ∙ lines-append t f.0)
 
 pub fails : (before after : Devices) (j : Job) (v : View) (f : Fault) → IsNewSession v j → HasStopped before after j.limit v.state f → Fails before after j f
 fails before after j v f b s =
-    let left : (r : List ℕ) → (s.ended ≡ true → r ≡ []) → IsLeft j.policy f s.pays.taken (whole_trace j (s.chunk ++ r)) =
-    λ r h. subst (IsLeft j.policy f s.pays.taken) (b.owes_trace (s.chunk ++ r)) (left_as v.state.policy j.policy f s.pays.taken (to_write v.state (s.chunk ++ r)) b.policy (s.pays.left r h)) in
+    let left : (r : List ℕ) → (s.read.ended ≡ true → r ≡ []) → IsLeft j.policy f s.pays.taken (whole_trace j (s.read.input ++ r)) =
+    λ r h. subst (IsLeft j.policy f s.pays.taken) (b.owes_trace (s.read.input ++ r)) (left_as v.state.policy j.policy f s.pays.taken (to_write v.state (s.read.input ++ r)) b.policy (s.pays.left r h)) in
     record {
-      input = s.chunk;
-      refused = s.refused;
-      ended = s.ended;
-      consumed = s.consumed;
-      end = s.end;
-      none = s.none;
-      spared = s.spared;
+      read = s.read;
       within = omega (arith, s.within, b.read);
-      limited = subst (λ (n : ℕ). PassesLimit n j.limit f) (ap (λ (n : ℕ). n + length (s.chunk ++ s.refused)) b.read ∙ zero_plus (length (s.chunk ++ s.refused))) s.limited;
+      limited = subst (λ (n : ℕ). PassesLimit n j.limit f) (ap (λ (n : ℕ). n + length (s.read.input ++ s.read.refused)) b.read ∙ zero_plus (length (s.read.input ++ s.read.refused))) s.limited;
       taken = s.pays.taken;
       wrote = s.pays.wrote;
       prefix = λ r h. (left r h).prefix;

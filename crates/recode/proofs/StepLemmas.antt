@@ -8,7 +8,7 @@ use Rattle.recode.specs.Devices.{CountsFault, Devices, Failures, KeepsWritten, W
 use Rattle.recode.specs.TaggedByte.{Wrote, tagged, TaggedByte, outputs, lines}
 use Rattle.recode.specs.Policy.{written_under}
 use Rattle.recode.specs.WrittenItems.{IsLeft, IsSpared, IsStop, WritesPrefixFor}
-use Rattle.recode.specs.Step.{Advances, Finishes, HasRun, IsNearlyDecided, PassesLimit, StepsOn, Stops}
+use Rattle.recode.specs.Step.{Advances, Finishes, HasRun, IsNearlyDecided, PassesLimit, StepsOn, Stops, WasRead}
 use Rattle.recode.specs.Fault.{of_other}
 use Rattle.recode.specs.declared.job.Fault.{Fault}
 use Rattle.recode.specs.declared.job.Fault.TheVariants.{Read, Write, Log, TooLong, Unmappable}
@@ -31,13 +31,7 @@ keeps_all w = record { output = Keeps-refl w.output; log = Keeps-refl w.log }
 pub stops_unread : (a b : Option (List ℕ)) (w : Written) (n m : Failures) (limit : ℕ) (s : State) → Keeps a b → s.counts.read ≤ limit
     → Stops (record { input = a; written = w; failures = n }) (record { input = b; written = w; failures = m }) limit s Read
 stops_unread a b w n m limit s p within = record {
-  chunk = [];
-  refused = [];
-  spared = λ h. refl;
-  ended = false;
-  consumed = Consumes-kept a a b [] (Consumes-nil a) p;
-  end = λ h. cc;
-  none = λ h. cc;
+  read = record { input = []; refused = []; ended = false; consumed = Consumes-kept a a b [] (Consumes-nil a) p; end = λ h. cc; none = λ h. cc; spared = λ h. refl };
   within = omega (arith, within);
   limited = omega (arith, within);
   pays = nothing_under w s.policy Read false (to_write s) (λ t. tt);
@@ -47,13 +41,7 @@ stops_unread a b w n m limit s p within = record {
 pub stops_refused : (a b : Option (List ℕ)) (w : Written) (n m : Failures) (limit : ℕ) (s : State) (chunk : List ℕ) → Consumes a b chunk → s.counts.read ≤ limit → limit < s.counts.read + length chunk
     → Stops (record { input = a; written = w; failures = n }) (record { input = b; written = w; failures = m }) limit s TooLong
 stops_refused a b w n m limit s chunk p within past = record {
-  chunk = [];
-  refused = chunk;
-  spared = λ h. absurd (h refl);
-  ended = false;
-  consumed = p;
-  end = λ h. cc;
-  none = λ h. cc;
+  read = record { input = []; refused = chunk; ended = false; consumed = p; end = λ h. cc; none = λ h. cc; spared = λ h. absurd (h refl) };
   within = omega (arith, within);
   limited = past;
   pays = nothing_under w s.policy TooLong false (to_write s) (λ t. tt);
@@ -85,13 +73,7 @@ is_writing T (Unmappable i c) h = tt
 pub stops_under : (before after : Devices) (limit : ℕ) (last : Bool) (s : State) (chunk : List ℕ) (f : Fault) → Consumes before.input after.input chunk → (last ≡ true → IsAtEnd after.input)
     → IsWriting f → s.counts.read + length chunk ≤ limit → WritesPrefixFor before.written after.written s.policy f last (λ r. to_write s (chunk ++ r)) → Stops before after limit s f
 stops_under before after limit last s chunk f p e writing within q = record {
-  chunk = chunk;
-  refused = [];
-  spared = λ h. refl;
-  ended = last;
-  consumed = subst (Consumes before.input after.input) (sym (append-nil chunk)) p;
-  end = e;
-  none = λ h. refl;
+  read = record { input = chunk; refused = []; ended = last; consumed = subst (Consumes before.input after.input) (sym (append-nil chunk)) p; end = e; none = λ h. refl; spared = λ h. refl };
   within = within;
   limited = within_limit _ limit f writing (omega (arith, within, ap length (append-nil chunk)));
   pays = q;
@@ -103,18 +85,12 @@ stops_under before after limit last s chunk f p e writing within q = record {
 
 -- What a run has done that a fault ended.
 pub record HasStopped (before after : Devices) (limit : ℕ) (s : State) (fault : Fault) : Type 0 where
-  pub chunk : List ℕ
-  pub refused : List ℕ
-  pub ended : Bool
-  pub consumed : Consumes before.input after.input (chunk ++ refused)
-  pub end : ended ≡ true → IsAtEnd after.input
-  pub none : ended ≡ true → refused ≡ []
-  pub spared : fault ≢ TooLong → refused ≡ []
-  pub within : s.counts.read + length chunk ≤ limit
-  pub limited : PassesLimit (s.counts.read + length (chunk ++ refused)) limit fault
-  pub pays : WritesPrefixFor before.written after.written s.policy fault ended (λ r. to_write s (chunk ++ r))
+  pub read : WasRead before.input after.input fault
+  pub within : s.counts.read + length read.input ≤ limit
+  pub limited : PassesLimit (s.counts.read + length (read.input ++ read.refused)) limit fault
+  pub pays : WritesPrefixFor before.written after.written s.policy fault read.ended (λ r. to_write s (read.input ++ r))
   -- where no writer failed, what was written is what the steps before wrote
-  pub latest : (fault ≡ Read) ⊎ (fault ≡ TooLong) → (t : Devices) × (s' : State) × (ran : HasRun before t limit s s') × (ran.chunk ≡ chunk) × KeepsWritten t.written after.written
+  pub latest : (fault ≡ Read) ⊎ (fault ≡ TooLong) → (t : Devices) × (s' : State) × (ran : HasRun before t limit s s') × (ran.chunk ≡ read.input) × KeepsWritten t.written after.written
 
 -- under the same policy
 spared_as : (p q : Policy) (items : List Item) → p ≡ q → IsSpared p items → IsSpared q items
@@ -200,20 +176,22 @@ limit_on n m limit f e h = subst (λ (k : ℕ). PassesLimit k limit f) e h
 
 pub goes_on_stop : (a b c : Devices) (limit : ℕ) (s s1 : State) (f : Fault) → HasRun a b limit s s1 → Stops b c limit s1 f → HasStopped a c limit s f
 goes_on_stop a b c limit s s1 f p q = record {
-  chunk = p.chunk ++ q.chunk;
-  refused = q.refused;
-  ended = q.ended;
-  none = q.none;
-  spared = q.spared;
-  consumed = subst (Consumes a.input c.input) (sym (append_assoc p.chunk q.chunk q.refused)) (Consumes-trans a.input b.input c.input p.chunk (q.chunk ++ q.refused) p.consumed q.consumed);
-  end = q.end;
-  within = omega (arith, p.counted, length-append p.chunk q.chunk, q.within);
-  limited = limit_on _ _ limit f (omega (arith, p.counted, length-append p.chunk (q.chunk ++ q.refused), ap length (append_assoc p.chunk q.chunk q.refused))) q.limited;
+  read = record {
+    input = p.chunk ++ q.read.input;
+    refused = q.read.refused;
+    ended = q.read.ended;
+    consumed = subst (Consumes a.input c.input) (sym (append_assoc p.chunk q.read.input q.read.refused)) (Consumes-trans a.input b.input c.input p.chunk (q.read.input ++ q.read.refused) p.consumed q.read.consumed);
+    end = q.read.end;
+    none = q.read.none;
+    spared = q.read.spared;
+  };
+  within = omega (arith, p.counted, length-append p.chunk q.read.input, q.within);
+  limited = limit_on _ _ limit f (omega (arith, p.counted, length-append p.chunk (q.read.input ++ q.read.refused), ap length (append_assoc p.chunk q.read.input q.read.refused))) q.limited;
   pays = record {
     taken = tagged p.pays.written_items ++ q.pays.taken;
     wrote = Wrote-trans a.written b.written c.written _ _ p.pays.wrote q.pays.wrote;
-    left = λ r h. left_behind s.policy f p.pays.written_items q.pays.taken _ (to_write s1 (q.chunk ++ r)) p.pays.spared
-        (ap (to_write s) (append_assoc p.chunk q.chunk r) ∙ p.pays.equals (q.chunk ++ r) (λ k. cc)) (left_as s1.policy s.policy f _ _ p.policy (q.pays.left r h));
+    left = λ r h. left_behind s.policy f p.pays.written_items q.pays.taken _ (to_write s1 (q.read.input ++ r)) p.pays.spared
+        (ap (to_write s) (append_assoc p.chunk q.read.input r) ∙ p.pays.equals (q.read.input ++ r) (λ k. cc)) (left_as s1.policy s.policy f _ _ p.policy (q.pays.left r h));
   };
   latest = λ h. let kept = q.untouched h in (b, s1, p, sym (append-nil p.chunk) ∙ ap (λ x. p.chunk ++ x) (sym kept.0), kept.1);
 }
@@ -288,20 +266,14 @@ module _ (before after : Devices) (flushed : Written) (log : Option (List ℕ)) 
   pub run_broke : (f : Fault) → Fails before after j f → (k : ℕ) × IsTold untold m.log (message_of f) k × Appends flushed.log log (take k (message_of f)) → IsCounted before.failures (record m { log = untold }) f
       → (before.failures.reader < m.reader → f ≡ Read) → Breaks before (record { input = after.input; written = record { output = flushed.output; log = log }; failures = m }) j
   run_broke f k told counted unread = record {
-    input = k.input;
-    refused = k.refused;
-    ended = k.ended;
-    consumed = k.consumed;
-    end = k.end;
-    none = k.none;
-    spared = k.spared;
+    read = k.read;
     unread = unread;
     within = k.within;
     taken = k.taken;
     fault = f;
     untold = untold;
     since = since;
-    cause = run_cause before.input after.input before.failures (record m { log = untold }) j.limit (k.input ++ k.refused) f k.consumed k.limited counted;
+    cause = run_cause before.input after.input before.failures (record m { log = untold }) j.limit (k.read.input ++ k.read.refused) f k.read.consumed k.limited counted;
     told = told.0;
     whole = told.1;
     output = Appends-kept before.written.output after.written.output flushed.output (outputs k.taken) k.wrote.output kept.output;
@@ -315,17 +287,12 @@ module _ (before after : Devices) (flushed : Written) (log : Option (List ℕ)) 
       → IsCause before.failures (record m { log = untold }) before.input after.input j.limit g → ((taken : List TaggedByte) (written : List Item) → IsStop j.policy g taken written) → m.reader ≡ before.failures.reader
       → Breaks before (record { input = after.input; written = record { output = flushed.output; log = log }; failures = m }) j
   flush_broke p g k told cause stop same =
+      let w = k.converted.whole in
       let all : List TaggedByte = tagged (trace j k.input) in
       record {
-        input = k.input;
-        refused = [];
-        ended = true;
-        consumed = subst (Consumes before.input after.input) (sym (append-nil k.input)) k.consumed;
-        end = λ h. k.end;
-        none = λ h. refl;
-        spared = λ h. refl;
+        read = record { input = k.input; refused = []; ended = true; consumed = subst (Consumes before.input after.input) (sym (append-nil k.input)) k.consumed; end = λ h. k.end; none = λ h. refl; spared = λ h. refl };
         unread = λ h. absurd (omega (arith, h, same));
-        within = k.within;
+        within = w.within;
         taken = all;
         fault = g;
         untold = untold;
@@ -333,8 +300,8 @@ module _ (before after : Devices) (flushed : Written) (log : Option (List ℕ)) 
         cause = cause;
         told = told.0;
         whole = told.1;
-        output = Appends-kept before.written.output after.written.output flushed.output (outputs all) k.wrote.output kept.output;
-        logged = told_log all (take told.0 (message_of g)) k.wrote told.2;
+        output = Appends-kept before.written.output after.written.output flushed.output (outputs all) w.wrote.output kept.output;
+        logged = told_log all (take told.0 (message_of g)) w.wrote told.2;
         prefix = λ r h. ([], ap (λ t. tagged (trace j t)) (ap (λ t. k.input ++ t) (h refl) ∙ append-nil k.input) ∙ sym (append-nil all));
         stopped = λ r h. stop all (trace j (k.input ++ r));
       }

@@ -19,7 +19,7 @@ use Rattle.recode.proofs.TraceLemmas.{lost_lines-append}
 
 -- Two runs that came to their end.
 pub same_written : (j : Job) (x : List ℕ) (w w' v v' : Written) (p q : Report) → IsConverted w w' j x p → IsConverted v v' j x q → WroteTheSame w w' v v'
-same_written j x w w' v v' p q a b = record { taken = tagged (trace j x); one = a.wrote; another = b.wrote }
+same_written j x w w' v v' p q a b = record { taken = tagged (trace j x); one = a.whole.wrote; another = b.whole.wrote }
 
 same_truth : (a b : Bool) (P : Type 0) → IsTrue a ↔ P → IsTrue b ↔ P → a ≡ b
 same_truth true true P h k = refl
@@ -49,7 +49,7 @@ same_runs j x s s' t t' p q is are a b =
 
 -- with writers that tell theirs
 pub same_bytes : (j : Job) (x w w' v' l l' m' : List ℕ) (p q : Report) → IsConverted (known w l) (known w' l') j x p → IsConverted (known w l) (known v' m') j x q → (w' ≡ v') × (l' ≡ m')
-same_bytes j x w w' v' l l' m' p q a b = (a.output ∙ sym b.output, a.logged ∙ sym b.logged)
+same_bytes j x w w' v' l l' m' p q a b = (a.whole.output ∙ sym b.whole.output, a.whole.logged ∙ sym b.whole.logged)
 
 -- A run in which no call failed.
 module _ (j : Job) (s s' : Devices) (quiet : s'.failures ≡ s.failures) where
@@ -66,7 +66,7 @@ module _ (j : Job) (x : List ℕ) (s s' : Devices) (quiet : s'.failures ≡ s.fa
   through_where_well : (answer : Result Report Fault) → s.input ≡ Some x → RunReturns s s' j answer → IsOk answer → (length x ≤ j.limit) × RunsThrough j x
   through_where_well (Ok p) is a h =
       let k = known_completes x s s' j p is a.completes in
-      (k.within, k.unstopped)
+      (k.whole.within, k.whole.unstopped)
   through_where_well (Err f) is a h = absurd (false≢true h)
 
   too_long_where_told : (answer : Result Report Fault) → s.input ≡ Some x → RunReturns s s' j answer → answer ≡ Err TooLong → j.limit < length x

@@ -3,6 +3,8 @@ use Rattle.std.specs.Prelude.{◌≡◌, ◌≢◌, ℕ, ◌+◌, ◌<◌, ◌�
 use Rattle.std.specs.Io.KnownBytes.{Appends, Consumes, IsAtEnd}
 use Rattle.recode_log.specs.Line.{row_bytes}
 use Rattle.recode.specs.Job.{trace, output_of, log_of, Faithful, RunsThrough}
+use Rattle.recode.specs.Session.{WroteWhole}
+use Rattle.recode.specs.Step.{WasRead}
 use Rattle.recode.specs.Devices.{Devices, Failures}
 use Rattle.recode.specs.TaggedByte.{TaggedByte, Wrote, IsPrefix, tagged, outputs, lines}
 use Rattle.recode.specs.WrittenItems.{IsStop}
@@ -16,11 +18,7 @@ pub record Converts (before after : Devices) (j : Job) (status : ℕ) : Type 0 w
   pub input : List ℕ
   pub consumed : Consumes before.input after.input input
   pub end : IsAtEnd after.input
-  pub within : length input ≤ j.limit
-  pub unstopped : RunsThrough j input
-  pub wrote : Wrote before.written after.written (tagged (trace j input))
-  pub output : Appends before.written.output after.written.output (output_of j input)
-  pub logged : Appends before.written.log after.written.log (log_of j input)
+  pub whole : WroteWhole before.written after.written j input
   pub known : (status ≡ 0) ⊎ (status ≡ 1)
   pub faithful : status ≡ 0 → Faithful j input
   pub lossy : status ≡ 1 → ¬ (Faithful j input)
@@ -64,16 +62,10 @@ IsTold before after message told = ((after ≡ before) × (take told message ≡
 -- all of it where no call of the log failed while it was written. `untold` is the log's count when it was begun. Where
 -- the policy stopped the run, `stopped` says at which character.
 pub record Breaks (before after : Devices) (j : Job) : Type 0 where
-  pub input : List ℕ
-  pub refused : List ℕ
-  pub ended : Bool
-  pub consumed : Consumes before.input after.input (input ++ refused)
-  pub end : ended ≡ true → IsAtEnd after.input
-  pub none : ended ≡ true → refused ≡ []
-  pub within : length input ≤ j.limit
-  pub taken : List TaggedByte
   pub fault : Fault
-  pub spared : fault ≢ TooLong → refused ≡ []
+  pub read : WasRead before.input after.input fault
+  pub within : length read.input ≤ j.limit
+  pub taken : List TaggedByte
   pub unread : before.failures.reader < after.failures.reader → fault ≡ Read
   pub untold : ℕ
   pub since : before.failures.log ≤ untold
@@ -82,5 +74,5 @@ pub record Breaks (before after : Devices) (j : Job) : Type 0 where
   pub whole : IsTold untold after.failures.log (message_of fault) told
   pub output : Appends before.written.output after.written.output (outputs taken)
   pub logged : Appends before.written.log after.written.log (lines taken ++ take told (message_of fault))
-  pub prefix : (r : List ℕ) → (ended ≡ true → r ≡ []) → IsPrefix taken (tagged (trace j (input ++ r)))
-  pub stopped : (r : List ℕ) → (ended ≡ true → r ≡ []) → IsStop j.policy fault taken (trace j (input ++ r))
+  pub prefix : (r : List ℕ) → (read.ended ≡ true → r ≡ []) → IsPrefix taken (tagged (trace j (read.input ++ r)))
+  pub stopped : (r : List ℕ) → (read.ended ≡ true → r ≡ []) → IsStop j.policy fault taken (trace j (read.input ++ r))

@@ -9,7 +9,7 @@ use Rattle.recode.specs.Latency.{WroteDecided}
 use Rattle.recode.specs.State.{State, WillBeFaithful, to_write}
 use Rattle.recode.specs.Devices.{Devices, Written}
 use Rattle.recode.specs.TaggedByte.{TaggedByte, Wrote, IsPrefix, tagged, outputs, lines}
-use Rattle.recode.specs.Step.{PassesLimit}
+use Rattle.recode.specs.Step.{PassesLimit, WasRead}
 use Rattle.recode.specs.WrittenItems.{IsStop}
 use Rattle.recode.specs.declared.job.Fault.{Fault}
 use Rattle.recode.specs.declared.job.Fault.TheVariants.{Read, TooLong}
@@ -76,46 +76,39 @@ pub record IsReport (j : Job) (x : List ℕ) (p : Report) : Type 0 where
   pub encoding : p.encoding ≡ source_in j x
   pub faithful : IsTrue p.faithful ↔ Faithful j x
 
--- A run that came to its end: the input was read whole and is within the limit, output and log are whole, and the
--- report is of this input. Where the policy stops at a lost character, there was none.
+-- All of an input was converted that is within the limit: output and log are whole. Where the policy stops at a lost
+-- character, there was none.
+pub record WroteWhole (before after : Written) (j : Job) (x : List ℕ) : Type 0 where
+  pub within : length x ≤ j.limit
+  pub unstopped : RunsThrough j x
+  pub wrote : Wrote before after (tagged (trace j x))
+  pub output : Appends before.output after.output (output_of j x)
+  pub logged : Appends before.log after.log (log_of j x)
+
+-- and reported
+pub record IsConverted (before after : Written) (j : Job) (x : List ℕ) (p : Report) : Type 0 where
+  pub whole : WroteWhole before after j x
+  pub report : IsReport j x p
+
+-- A run that came to its end: the input was read to its end, converted and reported.
 pub record Completes (before after : Devices) (j : Job) (p : Report) : Type 0 where
   pub input : List ℕ
   pub consumed : Consumes before.input after.input input
   pub end : IsAtEnd after.input
-  pub within : length input ≤ j.limit
-  pub wrote : Wrote before.written after.written (tagged (trace j input))
-  pub output : Appends before.written.output after.written.output (output_of j input)
-  pub logged : Appends before.written.log after.written.log (log_of j input)
-  pub report : IsReport j input p
-  pub unstopped : RunsThrough j input
+  pub converted : IsConverted before.written after.written j input p
 
 -- A run that a fault ended: what was written is a prefix of what any continuation of the bytes read gives, none where
 -- the end was read, output and log in their one order; where the policy stopped it, it is all that any continuation
--- gives, and ends with the line of the lost character. Bytes are refused by `TooLong` alone, and pass the limit. Where
--- the fault is `Read` or `TooLong`, all that the bytes decide that were counted was written.
+-- gives, and ends with the line of the lost character. Bytes that are refused pass the limit. Where the fault is `Read`
+-- or `TooLong`, all that the bytes decide that were counted was written.
 pub record Fails (before after : Devices) (j : Job) (f : Fault) : Type 0 where
-  pub input : List ℕ
-  pub refused : List ℕ
-  pub ended : Bool
-  pub consumed : Consumes before.input after.input (input ++ refused)
-  pub end : ended ≡ true → IsAtEnd after.input
-  pub none : ended ≡ true → refused ≡ []
-  pub spared : f ≢ TooLong → refused ≡ []
-  pub within : length input ≤ j.limit
-  pub limited : PassesLimit (length (input ++ refused)) j.limit f
+  pub read : WasRead before.input after.input f
+  pub within : length read.input ≤ j.limit
+  pub limited : PassesLimit (length (read.input ++ read.refused)) j.limit f
   pub taken : List TaggedByte
   pub wrote : Wrote before.written after.written taken
-  pub prefix : (r : List ℕ) → (ended ≡ true → r ≡ []) → IsPrefix taken (tagged (trace j (input ++ r)))
-  pub output : (r : List ℕ) → (ended ≡ true → r ≡ []) → IsPrefix (outputs taken) (output_of j (input ++ r))
-  pub logged : (r : List ℕ) → (ended ≡ true → r ≡ []) → IsPrefix (lines taken) (log_of j (input ++ r))
-  pub stopped : (r : List ℕ) → (ended ≡ true → r ≡ []) → IsStop j.policy f taken (trace j (input ++ r))
-  pub latest : (f ≡ Read) ⊎ (f ≡ TooLong) → (ps : List Piece) × WroteDecided before.written after.written j input ps
-
--- The whole input x was converted and reported.
-pub record IsConverted (before after : Written) (j : Job) (x : List ℕ) (p : Report) : Type 0 where
-  pub within : length x ≤ j.limit
-  pub wrote : Wrote before after (tagged (trace j x))
-  pub output : Appends before.output after.output (output_of j x)
-  pub logged : Appends before.log after.log (log_of j x)
-  pub report : IsReport j x p
-  pub unstopped : RunsThrough j x
+  pub prefix : (r : List ℕ) → (read.ended ≡ true → r ≡ []) → IsPrefix taken (tagged (trace j (read.input ++ r)))
+  pub output : (r : List ℕ) → (read.ended ≡ true → r ≡ []) → IsPrefix (outputs taken) (output_of j (read.input ++ r))
+  pub logged : (r : List ℕ) → (read.ended ≡ true → r ≡ []) → IsPrefix (lines taken) (log_of j (read.input ++ r))
+  pub stopped : (r : List ℕ) → (read.ended ≡ true → r ≡ []) → IsStop j.policy f taken (trace j (read.input ++ r))
+  pub latest : (f ≡ Read) ⊎ (f ≡ TooLong) → (ps : List Piece) × WroteDecided before.written after.written j read.input ps

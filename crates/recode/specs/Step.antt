@@ -1,5 +1,5 @@
 -- What one step does, for every continuation of the bytes read.
-use Rattle.std.specs.Prelude.{◌≡◌, ◌≢◌, ◌↔◌, IsTrue, ℕ, ◌+◌, ◌-◌, ◌*◌, ◌<◌, ◌≤◌, ◌⊎◌, List, [], ◌++◌, length, Bool, true, false}
+use Rattle.std.specs.Prelude.{◌≡◌, ◌≢◌, ◌↔◌, IsTrue, ℕ, ◌+◌, ◌-◌, ◌*◌, ◌<◌, ◌≤◌, ◌⊎◌, List, [], ◌++◌, length, Bool, true, false, Option}
 use Rattle.std.specs.Io.KnownBytes.{Appends, Consumes, IsAtEnd}
 use Rattle.std.specs.List.{flat_map}
 use Rattle.encoding_mem.specs.Coding.{Coding, last_set, open_from}
@@ -95,22 +95,27 @@ PassesLimit read limit Write = read ≤ limit
 PassesLimit read limit Log = read ≤ limit
 PassesLimit read limit (Unmappable index scalar) = read ≤ limit
 
--- What was written is a prefix of what was still to be written for the bytes that were read and counted, and any bytes
--- to come, none where the end was read; all of it, up to the line of the first lost character, where the policy stopped
--- it. Where the fault is `Read` or `TooLong`, none were counted, and nothing was written. Bytes are refused by `TooLong`
--- alone, and pass the limit.
-pub record Stops (before after : Devices) (limit : ℕ) (s : State) (fault : Fault) : Type 0 where
-  pub chunk : List ℕ
+-- What was read when a fault came: bytes that were counted, then bytes that were refused, which `TooLong` does alone;
+-- and whether their end was read.
+pub record WasRead (before after : Option (List ℕ)) (fault : Fault) : Type 0 where
+  pub input : List ℕ
   pub refused : List ℕ
   pub ended : Bool
-  pub consumed : Consumes before.input after.input (chunk ++ refused)
-  pub end : ended ≡ true → IsAtEnd after.input
+  pub consumed : Consumes before after (input ++ refused)
+  pub end : ended ≡ true → IsAtEnd after
   pub none : ended ≡ true → refused ≡ []
   pub spared : fault ≢ TooLong → refused ≡ []
-  pub within : s.counts.read + length chunk ≤ limit
-  pub limited : PassesLimit (s.counts.read + length (chunk ++ refused)) limit fault
-  pub pays : WritesPrefixFor before.written after.written s.policy fault ended (λ r. to_write s (chunk ++ r))
-  pub untouched : (fault ≡ Read) ⊎ (fault ≡ TooLong) → (chunk ≡ []) × KeepsWritten before.written after.written
+
+-- What was written is a prefix of what was still to be written for the bytes that were read and counted, and any bytes
+-- to come, none where the end was read; all of it, up to the line of the first lost character, where the policy stopped
+-- it. Where the fault is `Read` or `TooLong`, none were counted, and nothing was written. Bytes that are
+-- refused pass the limit.
+pub record Stops (before after : Devices) (limit : ℕ) (s : State) (fault : Fault) : Type 0 where
+  pub read : WasRead before.input after.input fault
+  pub within : s.counts.read + length read.input ≤ limit
+  pub limited : PassesLimit (s.counts.read + length (read.input ++ read.refused)) limit fault
+  pub pays : WritesPrefixFor before.written after.written s.policy fault read.ended (λ r. to_write s (read.input ++ r))
+  pub untouched : (fault ≡ Read) ⊎ (fault ≡ TooLong) → (read.input ≡ []) × KeepsWritten before.written after.written
 
 -- A prefix of what this input gives was written, and all of it where the policy stopped the run.
 pub record WrotePrefix (before after : Written) (p : Policy) (f : Fault) (given : List Item) : Type 0 where
