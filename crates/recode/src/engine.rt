@@ -1,4 +1,4 @@
-//! What converts: what was read is decoded, its text is encoded, and malformed sequences are logged.
+//! What converts: what was read is decoded and its text encoded; malformed sequences are logged.
 
 use crate::codec_calls::{DecodeCall, decode_to_pivot, text_in};
 use crate::job::{Fault, Pivot};
