@@ -1,5 +1,5 @@
 -- How a step's parts make its clauses. What is left where a conversion failed.
-use Rattle.std.proofs.Common.{Err, ◌⊎◌, ◌≡◌, ℕ, ◌+◌, ◌≤◌, ◌<◌, add-zero, arith, length-append, append_assoc, List, [], ◌++◌, length, Option, Bool, true, false, refl, sym, ap, ◌∙◌, subst, append-nil, take, inl, inr, ◌≢◌}
+use Rattle.std.proofs.Common.{Err, ◌⊎◌, ◌≡◌, ℕ, ◌+◌, ◌≤◌, ◌<◌, add-zero, arith, length-append, append_assoc, List, [], ◌++◌, length, Option, Bool, true, false, refl, sym, ap, ◌∙◌, subst, append-nil, take, inl, inr}
 use Rattle.std.specs.Io.KnownBytes.{Consumes, Keeps, IsAtEnd, Appends}
 use Rattle.std.proofs.KnownBytes.{Consumes-nil, Consumes-kept, Consumes-trans, Appends-kept, Appends-trans, Keeps-refl}
 use Rattle.encoding_mem.specs.Items.{Item}
@@ -15,7 +15,8 @@ use Rattle.recode.specs.declared.job.Fault.TheVariants.{Read, Write, Log, TooLon
 use Rattle.recode.proofs.LatencyLemmas.{advances_more, advances_start}
 use Rattle.recode.proofs.VerdictLemmas.{both_ways}
 use Rattle.recode.proofs.TraceLemmas.{Wrote-nil, Wrote-trans, tagged-append, AreCounted-trans, WritesItemsFor-start, left_behind, spared_append}
-use Rattle.recode.specs.Conversion.{Breaks, IsCause, IsFlushCause, IsTold, message_of}
+use Rattle.recode_log.specs.Counted.{IsTold}
+use Rattle.recode.specs.Conversion.{Breaks, IsCause, IsFlushCause, message_of}
 use Rattle.recode.specs.Job.{trace}
 use Rattle.recode.specs.Session.{Completes, Fails}
 use Rattle.recode.specs.declared.job.Job.{Job}

@@ -1,12 +1,13 @@
 -- What a whole conversion says by its status.
-use Rattle.std.specs.Prelude.{◌≡◌, ◌≢◌, ℕ, ◌+◌, ◌<◌, ◌≤◌, ◌⊎◌, List, [], ◌++◌, length, take, Option, Bool, true, codes}
+use Rattle.std.specs.Prelude.{◌≡◌, ℕ, ◌<◌, ◌≤◌, ◌⊎◌, List, [], ◌++◌, length, take, Option, true, codes}
 use Rattle.std.specs.Io.KnownBytes.{Appends, Consumes, IsAtEnd}
+use Rattle.recode_log.specs.Counted.{IsTold}
 use Rattle.recode_log.specs.Line.{row_bytes}
-use Rattle.recode.specs.Job.{trace, output_of, log_of, Faithful, RunsThrough}
+use Rattle.recode.specs.Job.{trace, Faithful}
 use Rattle.recode.specs.Session.{WroteWhole}
 use Rattle.recode.specs.Step.{WasRead}
 use Rattle.recode.specs.Devices.{Devices, Failures}
-use Rattle.recode.specs.TaggedByte.{TaggedByte, Wrote, IsPrefix, tagged, outputs, lines}
+use Rattle.recode.specs.TaggedByte.{TaggedByte, IsPrefix, tagged, outputs, lines}
 use Rattle.recode.specs.WrittenItems.{IsStop}
 use Rattle.recode.specs.declared.job.Fault.{Fault}
 use Rattle.recode.specs.declared.job.Fault.TheVariants.{Read, Write, Log, TooLong, Unmappable}
@@ -52,10 +53,6 @@ message_of Write = codes "recode: write fault\n"
 message_of Log = codes "recode: log fault\n"
 message_of TooLong = codes "recode: input too long\n"
 message_of (Unmappable index scalar) = row_bytes (codes "recode: unmappable ") index scalar
-
--- the message is whole, or a call of the log failed and its end is missing
-abbrev pub IsTold : (before after : ℕ) (message : List ℕ) (told : ℕ) → Type 0
-IsTold before after message told = ((after ≡ before) × (take told message ≡ message)) ⊎ ((after ≡ before + 1) × (told < length message))
 
 -- What a conversion leaves that failed: output and log are a prefix of what any continuation of the bytes read gives,
 -- none where the end was read, in their one order; behind it the log has a prefix of the message of a fault that came,

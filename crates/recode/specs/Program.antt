@@ -15,7 +15,7 @@ use Rattle.recode_words.specs.declared.words.MarkWord.{MarkWord}
 use Rattle.recode_words.specs.declared.words.PolicyWord.{PolicyWord}
 use Rattle.recode_words.specs.declared.words.Words.{Words}
 use Rattle.recode.specs.Conversion.{Breaks, Converts}
-use Rattle.recode.specs.Devices.{Devices, devices_in, Failures}
+use Rattle.recode.specs.Devices.{Devices, devices_in}
 use Rattle.recode.specs.Job.{IsValidJob}
 use Rattle.recode.specs.declared.job.Job.{Job}
 use Rattle.recode.specs.declared.job.Policy.{Policy}

@@ -1,6 +1,6 @@
 -- What two runs have in common, and what a run returns.
 use Rattle.std.specs.Prelude.{◌≡◌, ℕ, List, [], Some, Result, Ok, Err, IfOk, IfErr}
-use Rattle.recode.specs.Devices.{CountsFault, Devices, Failures, Written}
+use Rattle.recode.specs.Devices.{CountsFault, Devices, Written}
 use Rattle.recode.specs.TaggedByte.{TaggedByte, Wrote}
 use Rattle.recode.specs.Session.{Completes, Fails}
 use Rattle.recode.specs.declared.job.Fault.{Fault}

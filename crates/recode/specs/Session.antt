@@ -1,5 +1,5 @@
 -- A session as its callers know it, and what a run of it says.
-use Rattle.std.specs.Prelude.{◌≡◌, ◌≢◌, ℕ, ◌+◌, ◌*◌, ◌≤◌, ◌⊎◌, ◌↔◌, IsTrue, List, [], ◌++◌, length, Bool, true, Result, Ok, Err}
+use Rattle.std.specs.Prelude.{◌≡◌, ℕ, ◌+◌, ◌*◌, ◌≤◌, ◌⊎◌, ◌↔◌, IsTrue, List, [], ◌++◌, length, true, Result, Ok, Err}
 use Rattle.std.specs.Io.KnownBytes.{Appends, Consumes, IsAtEnd}
 use Rattle.encoding_mem.specs.Piece.{Piece, malformed_count}
 use Rattle.encoding_mem.specs.Coding.{lost_count}

@@ -1,8 +1,7 @@
 -- What the two writers of a conversion have, and how the counts of their failed calls rise.
 use Rattle.std.specs.Prelude.{◌≡◌, ℕ, ◌+◌, ◌-◌, ◌^◌, ◌<◌, nat_eq, length, Bool, List, Option, Result}
 use Rattle.recode_log.specs.Counted.{failures_of}
-use Rattle.recode_log.specs.declared.counted.Counted.{Counted}
-use Rattle.recode.specs.Devices.{Devices, devices_in, Failures, Written, written_in}
+use Rattle.recode.specs.Devices.{Written, written_in}
 use Rattle.recode.specs.Fault.{of_log, of_other, of_reader, of_writer}
 use Rattle.recode.specs.declared.job.Fault.{Fault}
 use Rattle.recode.specs.declared.writers.Writers.{Writers}

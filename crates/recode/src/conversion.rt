@@ -2,16 +2,16 @@
 
 ghost use Rattle.std.specs.Prelude.{◌≡◌, ◌≢◌, ◌≤◌, ◌<◌, ◌^◌, ◌+◌, ◌-◌, ℕ, take, length, OnOk, IfErr};
 ghost use Rattle.std.specs.Io.KnownBytes.{Appends};
-ghost use Rattle.recode_log.specs.Counted.{inner_of, failures_of};
+ghost use Rattle.recode_log.specs.Counted.{IsTold, inner_of, failures_of};
 ghost use Rattle.recode.specs.Job.{IsValidJob};
 ghost use Rattle.recode.specs.Buffers.{AreEnough, KeepSizes};
 ghost use Rattle.recode.specs.Devices.{devices_in, KeepsWritten, written_in};
-ghost use Rattle.recode.specs.Conversion.{Breaks, Converts, IsFlushCause, IsTold, message_of};
+ghost use Rattle.recode.specs.Conversion.{Breaks, Converts, IsFlushCause, message_of};
 
 use crate::job::{Buffers, Fault, Job};
 use crate::session::run;
 use recode_log::counted::Counted;
-use recode_log::deliver::deliver;
+use recode_log::deliver::tell;
 use recode_log::line::write_message;
 use std::io::{Read, Write};
 
@@ -73,7 +73,7 @@ fn message_of(fault: Fault, numbers: &mut [u8; 64]) -> &[u8]
 }
 
 // Writes the message of a fault to the log; where that fails, the rest of it is dropped.
-fn tell<L: Write>(log: &mut Counted<L>, fault: Fault)
+fn tell_fault<L: Write>(log: &mut Counted<L>, fault: Fault)
     requires { failures_of log.old < 2 ^ 64 - 1 }
     ensures message { (n : ℕ) × IsTold (failures_of log.old) (failures_of log.new)
         (message_of fault) n
@@ -82,10 +82,7 @@ fn tell<L: Write>(log: &mut Counted<L>, fault: Fault)
     ensures count { failures_of log.old ≤ failures_of log.new }
 {
     let mut numbers = [0; 64];
-    match deliver(log, message_of(fault, &mut numbers), fault) {
-        Ok(()) => {}
-        Err(_) => {}
-    }
+    tell(log, message_of(fault, &mut numbers));
 }
 
 /// Runs the job, flushes the writer, then the log, and returns the status.
@@ -143,12 +140,12 @@ pub fn convert<R: Read, W: Write, L: Write>(
                 }
             }
             Err(fault) => {
-                tell(log, fault);
+                tell_fault(log, fault);
                 FAULT
             }
         },
         Err(fault) => {
-            tell(log, fault);
+            tell_fault(log, fault);
             FAULT
         }
     }

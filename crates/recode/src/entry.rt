@@ -14,7 +14,7 @@ use crate::listing::listing;
 use encoding_front::{Encoding, Mark};
 use encoding_tables::Tables;
 use recode_log::counted::Counted;
-use recode_log::deliver::deliver;
+use recode_log::deliver::tell;
 use recode_words::{MarkWord, PivotWord, PolicyWord, Request, Words, WordsFault, parse_words};
 use std::alloc::Global;
 use std::io::{Read, Write};
@@ -26,22 +26,12 @@ pub const REFUSED: u8 = 2;
 /// read.
 pub const NOT_STARTED: u8 = 3;
 
-// Writes a text; where that fails, the rest of it is dropped.
-fn say<W: Write>(writer: &mut Counted<W>, text: &str)
-    requires { failures_of writer.old < 2 ^ 64 - 1 }
-{
-    match deliver(writer, text.as_bytes(), ()) {
-        Ok(()) => {}
-        Err(()) => {}
-    }
-}
-
 // Writes a text that the words ask for.
 fn tell_text<W: Write>(writer: &mut Counted<W>, text: &str) -> u8
     requires { failures_of writer.old < 2 ^ 64 - 1 }
     ensures { result ≡ 0 }
 {
-    say(writer, text);
+    tell(writer, text.as_bytes());
     FAITHFUL
 }
 
@@ -50,7 +40,7 @@ fn refuse_words<L: Write>(log: &mut Counted<L>, message: &str) -> u8
     requires { failures_of log.old < 2 ^ 64 - 1 }
     ensures { result ≡ 2 }
 {
-    say(log, message);
+    tell(log, message.as_bytes());
     REFUSED
 }
 
@@ -60,8 +50,8 @@ fn refuse_start<L: Write>(alloc: Global, log: &mut Counted<L>, fault: &StartFaul
     ensures { result ≡ 3 }
 {
     match format!(in alloc; "recode: {fault}\n") {
-        Ok(message) => say(log, &message),
-        Err(_) => say(log, "recode: out of memory\n"),
+        Ok(message) => tell(log, message.as_bytes()),
+        Err(_) => tell(log, b"recode: out of memory\n"),
     }
     NOT_STARTED
 }

@@ -1,5 +1,5 @@
--- What a clause reads of a `Counted`.
-use Rattle.std.specs.Prelude.{ℕ}
+-- What a clause reads of a `Counted`, and what is left of a message.
+use Rattle.std.specs.Prelude.{◌≡◌, ◌⊎◌, ℕ, ◌+◌, ◌<◌, List, length, take}
 use Rattle.recode_log.specs.declared.counted.Counted.{Counted}
 
 -- what is wrapped
@@ -9,3 +9,7 @@ inner_of c = c.inner
 -- how many calls have failed
 abbrev pub failures_of : {T : Type 0} → Counted T → ℕ
 failures_of c = c.failures
+
+-- the message is whole, or a call of its writer failed and its end is missing
+abbrev pub IsTold : (before after : ℕ) (message : List ℕ) (told : ℕ) → Type 0
+IsTold before after message told = ((after ≡ before) × (take told message ≡ message)) ⊎ ((after ≡ before + 1) × (told < length message))

@@ -1,8 +1,9 @@
-//! Writes all of some bytes.
+//! Writes all of some bytes, or tells a message as far as it can be told.
 
-ghost use Rattle.std.specs.Prelude.{◌≡◌, ℕ, ◌+◌, ◌-◌, ◌^◌, ◌<◌, [], take, length, IsOk, OnOk, OnErr, IfErr};
+ghost use Rattle.std.specs.Prelude.{◌≡◌, ℕ, ◌+◌, ◌-◌, ◌^◌, ◌<◌, ◌≤◌, [], take, length};
+ghost use Rattle.std.specs.Prelude.{IsOk, OnOk, OnErr, IfErr};
 ghost use Rattle.std.specs.Io.KnownBytes.{Appends};
-ghost use Rattle.recode_log.specs.Counted.{inner_of, failures_of};
+ghost use Rattle.recode_log.specs.Counted.{IsTold, inner_of, failures_of};
 
 use crate::counted::Counted;
 use std::io::Write;
@@ -32,4 +33,21 @@ pub fn deliver<W: Write, F: Drop>(writer: &mut Counted<W>, bytes: &[u8], fault: 
         }
     }
     Ok(())
+}
+
+/// Writes a message for a person to read. If a call fails, the rest of the message is dropped: there
+/// is nobody else to tell. The condition, that fewer than 2^64 - 1 calls of the writer have failed,
+/// is tested by `Counted::failures`.
+pub fn tell<W: Write>(writer: &mut Counted<W>, message: &[u8])
+    requires { failures_of writer.old < 2 ^ 64 - 1 }
+    ensures told { (n : ℕ)
+        × IsTold (failures_of writer.old) (failures_of writer.new) message.now n
+        × Appends (W.contents (inner_of writer.old)) (W.contents (inner_of writer.new))
+        (take n message.now) }
+    ensures count { failures_of writer.old ≤ failures_of writer.new }
+{
+    match deliver(writer, message, ()) {
+        Ok(()) => {}
+        Err(()) => {}
+    }
 }

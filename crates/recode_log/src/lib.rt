@@ -1,6 +1,6 @@
 //! What stands at the edge of a conversion: readers and writers whose failed calls are counted
-//! (`Counted`), bytes that are written, all of them or a prefix (`deliver::deliver`), and the lines
-//! of the log (`LogLine`).
+//! (`Counted`), bytes that are written, all of them or a prefix (`deliver::deliver`), messages
+//! (`deliver::tell`), and the lines of the log (`LogLine`).
 //!
 //! # Use
 //!

@@ -9,7 +9,7 @@ ghost use Rattle.recode_system.specs.CommandLine.{AnswersSystem, IsWhy, words_wi
 use crate::system_files::SystemFiles;
 use recode::{NOT_STARTED, REFUSED, program};
 use recode_log::counted::Counted;
-use recode_log::deliver::deliver;
+use recode_log::deliver::tell;
 use std::alloc::{AllocError, Global};
 use std::fs::Files;
 use std::io::{Read, Write};
@@ -53,18 +53,11 @@ fn with_name<'a>(words: &'a [&'a str]) -> &'a [&'a str]
     if words.is_empty() { &["recode"] } else { words }
 }
 
-// Writes a message; if that fails, the rest of it is dropped.
-fn tell<L: Write>(log: &mut Counted<L>, message: &str)
-    requires { failures_of log.old < 2 ^ 64 - 1 }
-{
-    let _ = deliver(log, message.as_bytes(), ());
-}
-
 fn refuse<L: Write>(log: &mut Counted<L>) -> u8
     requires { failures_of log.old < 2 ^ 64 - 1 }
     ensures { result ≡ 2 }
 {
-    tell(log, "recode: a word is not UTF-8\n");
+    tell(log, b"recode: a word is not UTF-8\n");
     REFUSED
 }
 
@@ -72,7 +65,7 @@ fn out_of_memory<L: Write>(log: &mut Counted<L>) -> u8
     requires { failures_of log.old < 2 ^ 64 - 1 }
     ensures { result ≡ 3 }
 {
-    tell(log, "recode: out of memory\n");
+    tell(log, b"recode: out of memory\n");
     NOT_STARTED
 }
 
