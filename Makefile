@@ -34,8 +34,8 @@ doc:
 usage:
 	@python3 tools/usage.py
 
-# The edits that the gate leaves out, each of which the prover must refuse, and what came of it as docs/EDITS.md: for a
-# release, since it takes hours.
+# The edits that the gate leaves out, each of which the prover must refuse: those of the crates that have changed since
+# they were tried last. What came of it as docs/EDITS.md. For a release, since it can take hours.
 edits:
 	@python3 tools/edits.py
 

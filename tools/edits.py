@@ -4,8 +4,10 @@ leaves out, or with `--gate` those of `must-fail/`, which `rt ci` tries.
 
     python3 tools/edits.py [--gate] [--jobs N] [CRATE[/NAME]..]
 
-With a name, those of the crate whose names begin with it. Without crates, those of `edits/` of the last commit are tried,
-and what came of it is written to docs/EDITS.md. N crates are tried at a time, two where nothing is said.
+With a name, those of the crate whose names begin with it. Without crates, those of `edits/` of each crate that has changed,
+or that stands on one that has, since its row of docs/EDITS.md was written. What came of a whole crate is written to that
+page as soon as it is done, so a run that was cut off goes on with the crates that are left. N crates are tried at a time,
+two where nothing is said.
 
 In a copy of the repository for each crate, with what checks have kept in `out/`, its edits are made in rounds: of each
 function at most one edit in a round. A check then says of each function whether it is proved, and of one that is not
@@ -40,7 +42,11 @@ CRATES = os.path.join(TOP, "crates")
 
 PAGE = """# The edits that the gate leaves out
 
-`make edits` tried them on {commit} ({day}, {kit}): {refused} refused by the fact, {stale} by a stale answer, {through} let through. It took {minutes} minutes, {jobs} crates at a time.
+`make edits` tries the edits of each crate that has changed, or that stands on one that has, since its row was written.
+
+| Crate | Commit | Day | Kit | Refused by the fact | By a stale answer | Let through | Minutes |
+|---|---|---|---|---|---|---|---|
+{rows}
 
 An edit is refused by the fact if a goal of the changed function is open that no answer is written for. It is refused by a stale answer if nothing but an answer fails, which was written for the right body, and the right body has the same open goals without that answer. The prover then does not tell whether the body is wrong or the answer alone, and somebody has to look; `tools/edits.py` says more.
 """
@@ -52,6 +58,9 @@ STALE_ROWS = """
 |---|---|
 {rows}
 """
+
+ROW = re.compile(r"^\| (\w+) \| (\w+) \| .* \|$", re.M)
+STALE_ROW = re.compile(r"^\| (\w+)/\S+ \| .* \|$", re.M)
 
 # What may come of an edit.
 REFUSED, STALE, THROUGH = "refused", "by a stale answer", "LET THROUGH"
@@ -388,30 +397,69 @@ def chosen(kind, names):
     return sorted(found, key=lambda pair: -len(pair[1]))
 
 
+class Page:
+    """docs/EDITS.md: a row for each crate, and one for each edit that nothing but a stale answer refuses."""
+
+    path = os.path.join(TOP, "docs", "EDITS.md")
+
+    def __init__(self):
+        text = read(self.path)
+        self.rows = {row.group(1): row.group() for row in ROW.finditer(text)}
+        self.commits = {row.group(1): row.group(2) for row in ROW.finditer(text)}
+        self.stale = [row.group() for row in STALE_ROW.finditer(text)]
+
+    def is_current(self, crate):
+        """Whether nothing that a crate's edits depend on has changed since its row was written."""
+        if crate not in self.commits:
+            return False
+        paths = ["crates/%s/edits" % crate]
+        paths += ["crates/%s/%s" % (name, part) for name in below(crate) for part in ("src", "specs", "proofs")]
+        words = ["git", "diff", "--quiet", self.commits[crate], "HEAD", "--", *paths]
+        return subprocess.run(words, cwd=TOP, capture_output=True, check=False).returncode == 0
+
+    def take(self, crate, told, about):
+        """Puts the row of a crate in place of the one that it had, and writes the page."""
+        count = [sum(kind == word for _, kind, _ in told) for word in (REFUSED, STALE, THROUGH)]
+        cells = [crate, about["commit"], about["day"], about["kit"], *count, about["minutes"]]
+        self.rows[crate] = "| %s |" % " | ".join(str(cell) for cell in cells)
+        stale = ["| %s | %s |" % (name, ", ".join(goals)) for name, kind, goals in told if kind == STALE]
+        self.stale = sorted([row for row in self.stale if not row.startswith("| %s/" % crate)] + stale)
+        page = PAGE.format(rows="\n".join(self.rows[name] for name in sorted(self.rows)))
+        write(self.path, page + (STALE_ROWS.format(rows="\n".join(self.stale)) if self.stale else ""))
+
+
 def main():
     parser = argparse.ArgumentParser(description=__doc__, formatter_class=argparse.RawDescriptionHelpFormatter)
     parser.add_argument("--gate", action="store_true")
     parser.add_argument("--jobs", type=int, default=2)
     parser.add_argument("names", nargs="*")
     given = parser.parse_args()
-    is_whole, head = not given.gate and not given.names, said("git", "rev-parse", "--short", "HEAD")
-    if is_whole and said("git", "status", "--porcelain"):
+    page, head = Page(), said("git", "rev-parse", "--short", "HEAD")
+    crates = chosen("must-fail" if given.gate else "edits", given.names)
+    if not given.gate and not given.names:
+        crates = [(crate, edits) for crate, edits in crates if not page.is_current(crate)]
+    # What a page says is said of a commit.
+    whole = {crate for crate, _ in crates if not given.gate and (not given.names or crate in given.names)}
+    if whole and said("git", "status", "--porcelain", "--", ".", ":!docs/EDITS.md"):
         sys.exit("there are changes that no commit has")
-    crates, start = chosen("must-fail" if given.gate else "edits", given.names), time.time()
+
+    def tried(pair):
+        start = time.time()
+        return pair[0], try_crate(*pair), round((time.time() - start) / 60)
+
+    all_told = []
     with concurrent.futures.ThreadPoolExecutor(given.jobs) as pool:
-        told = [one for found in pool.map(lambda pair: try_crate(*pair), crates) for one in found]
-    refused, stale, through = (sum(kind == word for _, kind, _ in told) for word in (REFUSED, STALE, THROUGH))
+        for done in concurrent.futures.as_completed([pool.submit(tried, pair) for pair in crates]):
+            crate, told, minutes = done.result()
+            all_told += told
+            if crate in whole:
+                # A crate is copied when its turn comes.
+                if said("git", "rev-parse", "--short", "HEAD") != head:
+                    sys.exit("the repository changed meanwhile, so no row is written")
+                about = {"commit": head, "kit": said("rt", "version"), "day": datetime.date.today().isoformat()}
+                page.take(crate, told, about | {"minutes": minutes})
+    refused, stale, through = (sum(kind == word for _, kind, _ in all_told) for word in (REFUSED, STALE, THROUGH))
     print("%d refused by the fact, %d by a stale answer, %d let through" % (refused, stale, through))
-    if is_whole:
-        # A crate is copied when its turn comes.
-        if said("git", "rev-parse", "--short", "HEAD") != head or said("git", "status", "--porcelain"):
-            sys.exit("the repository changed meanwhile, so no page is written")
-        about = {"commit": head, "kit": said("rt", "version"), "day": datetime.date.today().isoformat()}
-        about |= {"minutes": round((time.time() - start) / 60), "jobs": given.jobs}
-        page = PAGE.format(**about, refused=refused, stale=stale, through=through)
-        rows = ["| %s | %s |" % (name, ", ".join(goals)) for name, kind, goals in sorted(told) if kind == STALE]
-        page += STALE_ROWS.format(rows="\n".join(rows)) if rows else ""
-        write(os.path.join(TOP, "docs", "EDITS.md"), page)
     return 1 if through else 0
 
 
