@@ -6,7 +6,7 @@ use Rattle.encoding_mem.specs.Decoding.{StateLaw}
 use Rattle.encoding_mem.specs.declared.decoder_result.DecoderResult.TheVariants.{InputEmpty, OutputFull, Malformed}
 use Rattle.encoding_front.specs.Stream.{finishes}
 use Rattle.recode.specs.Chunk.{CanConvert, ConvertsTo, DecodesPart}
-use Rattle.recode.specs.Text.{EncodesText, TargetState, WritesMalformed, malformed_items, text_items, with_malformed, writing_of}
+use Rattle.recode.specs.Text.{EncodesText, TargetState, WritesMalformed, malformed_items, text_items, with_malformed}
 use Rattle.recode.specs.CodecCalls.{DecodeCallEndsWith}
 use Rattle.recode.specs.Policy.{form_of}
 use Rattle.recode.specs.State.{State, WillBeFaithful, to_write}
@@ -31,7 +31,6 @@ converts_start w s last bytes sound = record {
   counted = refl;
   target = refl;
   policy = refl;
-  by_log = refl;
   sound = sound;
   source = λ r h. refl;
   pays = WritesItemsFor-start w s.counts s.policy last (λ r. to_write s (bytes ++ r));
@@ -46,7 +45,6 @@ converts_more w w1 w2 s s1 s2 last a b c n p q = record {
   counted = omega (arith, p.counted, q.counted);
   target = q.target ∙ p.target;
   policy = q.policy ∙ p.policy;
-  by_log = q.by_log ∙ p.by_log;
   sound = q.sound;
   source = λ r h. p.source r h ∙ q.source r h;
   pays = WritesItemsFor-trans w w1 w2 s.counts s1.counts s2.counts s.policy last (λ r. to_write s (a ++ r)) (λ r. to_write s1 (b ++ r)) (λ r. to_write s2 (c ++ r)) p.pays
@@ -80,6 +78,10 @@ module _ (s s' : State) (target : s'.coding ≡ s.coding) (policy : s'.policy �
       subst (λ q. A ↔ IsFaithfulFor (form_of q) s'.verdict s'.coding s'.set (s'.decoder.pieces r)) (sym policy)
       (subst (λ q. A ↔ IsFaithfulFor (form_of s.policy) s'.verdict q s'.set (s'.decoder.pieces r)) (sym target) h)
 
+-- the part of a state that does not speak of the decoder
+abbrev pub writing_of : State → TargetState
+writing_of s = record { coding = s.coding; set = s.set; policy = s.policy; verdict = s.verdict; counts = s.counts }
+
 -- what an encoder is handed behind it
 abbrev pub after_call : State → (read calls : ℕ) → TargetState
 after_call s read calls = record (writing_of s) { counts = record s.counts { read = s.counts.read + read; calls = calls } }
@@ -110,7 +112,6 @@ module _ (w w' : Written) (s s' : State) (src : List ℕ) (last : Bool) (read ca
         counted = omega (arith, f.read, length-drop read src, k.within);
         target = f.target;
         policy = f.policy;
-        by_log = f.by_log;
         sound = well_formed_sound s.decoder s'.decoder src last read t k s.counts s'.counts ready.sound index f.read (omega (arith, f.bad, index, ready.sound.bad)) f.lost;
         source = source;
         pays = WritesItemsFor-of w w' (record s.counts { read = s.counts.read + read; calls = calls }) s.counts s'.counts s.policy last (text_items (writing_of s) ended t) (λ r. to_write s (src ++ r)) (λ r. to_write s' (drop read src ++ r)) refl refl (text_pays w w' (after_call s read calls) (writing_of s') ended t e need law)
@@ -193,7 +194,6 @@ module _ (w w' : Written) (s s' : State) (src : List ℕ) (last : Bool) (read ca
         counted = omega (arith, g.read, e.read, length-drop read src, k.within);
         target = g.target;
         policy = g.policy;
-        by_log = g.by_log ∙ e.by_log;
         sound = malformed_sound s.decoder s'.decoder src last read a b t k s.counts s'.counts ready.sound (omega (arith, index1, index2)) (g.read ∙ e.read) (omega (arith, g.bad, e.bad, index1, index2, ready.sound.bad)) g.lost;
         source = source;
         pays = WritesItemsFor-of w w' (record s.counts { read = s.counts.read + read; calls = calls }) s.counts s'.counts s.policy last _ (λ r. to_write s (src ++ r)) (λ r. to_write s' (drop read src ++ r)) refl refl

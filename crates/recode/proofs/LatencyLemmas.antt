@@ -81,9 +81,6 @@ advances_more d d1 d2 e s s1 s2 c c1 c2 p q =
       index = omega (arith, p.index, q.index, ap length is, length-append (text p.taken) (text q.taken));
     }
 
-pub advances_to : (d d1 d2 : List ℕ → List Piece) (e : Coding) (s s1 : EscapeState) (c c1 : Counts) → Advances d d1 e s s1 c c1 → ((r : List ℕ) → d1 r ≡ d2 r) → Advances d d2 e s s1 c c1
-advances_to d d1 d2 e s s1 c c1 p same = record { taken = p.taken; rest = λ r. p.rest r ∙ ap (λ x. p.taken ++ x) (same r); set = p.set; index = p.index }
-
 -- The lines of pieces in a row.
 log_lines-append : (e : Coding) (offset i : ℕ) (a b : List Piece) → log_lines e offset i (a ++ b) ≡ log_lines e offset i a ++ log_lines e (offset + sizes a) (i + length (text a)) b
 log_lines-append e offset i [] b = ap (λ (n : ℕ). log_lines e n i b) (sym (add-zero offset)) ∙ ap (λ (n : ℕ). log_lines e (offset + 0) n b) (sym (add-zero i))

@@ -1,5 +1,5 @@
 -- From steps to runs.
-use Rattle.std.proofs.Common.{◌≡◌, ℕ, ◌+◌, ◌*◌, ◌≤◌, ◌-◌, ◌↔◌, true, IsTrue, List, [], ◌∷◌, ◌++◌, length, refl, sym, ◌∙◌, ap, subst, arith, append-nil}
+use Rattle.std.proofs.Common.{◌≡◌, ℕ, ◌+◌, ◌*◌, ◌≤◌, ◌-◌, ◌↔◌, true, IsTrue, List, [], ◌∷◌, ◌++◌, length, refl, sym, ◌∙◌, ap, subst, arith, append-nil, min}
 use Rattle.encoding_mem.specs.Piece.{Piece, well_formed, malformed, AreWellFormed, malformed_count}
 use Rattle.encoding_mem.specs.Coding.{AllMapped, lost_count}
 use Rattle.encoding_mem.specs.declared.form.EscapeState.TheVariants.{Ascii}
@@ -54,7 +54,7 @@ quiet_where_faithful j x v f = quiet_where_kept j x f.source (mapped_where_faith
 is_report : (j : Job) (x : List ℕ) (v w : View) (p : Report) → IsNewSession v j → Tells w p → v.state.source x ≡ w.state.source [] → w.state.counts.read ≡ v.state.counts.read + length x
     → w.state.counts.bad ≡ v.state.counts.bad + bad_lines (whole_trace j x) → w.state.counts.lost ≡ v.state.counts.lost + lost_lines (whole_trace j x) → WillBeFaithful v.state x ↔ IsTrue w.state.verdict.faithful
     → IsValidJob j → length x ≤ j.limit → TakesCalls (3 * length x + 3) v.state.counts w.state.counts (to_write v.state x) []
-    → TakesAtLeast (3 * (w.state.counts.bad - v.state.counts.bad) + 2) v.state.counts w.state.counts → AreSound w.state.decoder.pending w.state.counts → IsReport j x p
+    → TakesAtLeast (3 * (w.state.counts.bad - v.state.counts.bad) + 2 * min 1 (length x) + 2) v.state.counts w.state.counts → AreSound w.state.decoder.pending w.state.counts → IsReport j x p
 is_report j x v w p b t same read_is malformed_is lost_is told valid within calls least sound =
     let e = target_of j in
     let bads : p.bad ≡ malformed_count (input_pieces j x) = omega (arith, t.bad, malformed_is, b.bad, bad_lines-trace (form_of j.policy) e Ascii 0 0 (input_pieces j x)) in
@@ -84,7 +84,8 @@ is_report j x v w p b t same read_is malformed_is lost_is told valid within call
       read = read;
       bad = bads;
       lost = losts;
-      calls = (omega (arith, t.calls, t.bad, t.lost, b.calls, b.bad, b.lost, least (omega (arith, most, t.calls, read, within, valid.limit))), most);
+      least = omega (arith, read, t.calls, t.bad, t.lost, b.calls, b.bad, b.lost, least (omega (arith, most, t.calls, read, within, valid.limit)));
+      most = most;
       encoding = t.encoding ∙ sym same ∙ b.source x;
       faithful = (λ h. (b.verdict x).0 (told.1 (sym t.verdict ∙ h)), λ h. t.verdict ∙ told.0 ((b.verdict x).1 h));
     }

@@ -146,7 +146,7 @@ goes_on_more a b c limit s s1 s2 p q = record {
   calls = λ r. rw (append_assoc p.chunk q.chunk r) (omega (arith, p.calls (q.chunk ++ r), q.calls r, q.grows, q.counted, length-append p.chunk q.chunk));
   least = λ under.
       let later = q.least under in
-      omega (arith, later, p.pays.counted.bad, q.pays.counted.bad, p.least (omega (arith, later, under, q.pays.counted.lost)));
+      omega (arith, length-append p.chunk q.chunk, later, p.pays.counted.bad, q.pays.counted.bad, p.least (omega (arith, later, under, q.pays.counted.lost)));
 }
 
 pub goes_on_finish : (a b c : Devices) (limit : ℕ) (s s1 s2 : State) → HasRun a b limit s s1 → Finishes b c limit s1 s2 → Finishes a c limit s s2
@@ -168,7 +168,7 @@ goes_on_finish a b c limit s s1 s2 p q = record {
   calls = omega (arith, p.calls q.chunk, q.calls, length-append p.chunk q.chunk);
   least = λ under.
       let later = q.least under in
-      omega (arith, later, p.pays.counted.bad, q.pays.counted.bad, p.least (omega (arith, later, under, q.pays.counted.lost)));
+      omega (arith, length-append p.chunk q.chunk, later, p.pays.counted.bad, q.pays.counted.bad, p.least (omega (arith, later, under, q.pays.counted.lost)));
   sound = q.sound;
 }
 

@@ -419,9 +419,6 @@ WritesItemsFor-trans w w' w'' x y z p last a b c h k = record {
   equals = λ r none. h.equals r none ∙ ap (λ l. h.written_items ++ l) (k.equals r none) ∙ sym (append_assoc h.written_items k.written_items (c r));
 }
 
-pub WritesItemsFor-to : (w w' : Written) (x y : Counts) (p : Policy) (last : Bool) (a b c : List ℕ → List Item) → WritesItemsFor w w' x y p last a b → ((r : List ℕ) → b r ≡ c r) → WritesItemsFor w w' x y p last a c
-WritesItemsFor-to w w' x y p last a b c h e = record { written_items = h.written_items; wrote = h.wrote; counted = h.counted; spared = h.spared; equals = λ r none. h.equals r none ∙ ap (λ l. h.written_items ++ l) (e r) }
-
 pub WritesItemsFor-under : (w w' w'' : Written) (x y : Counts) (p : Policy) (f : Fault) (last : Bool) (a b : List ℕ → List Item) → WritesItemsFor w w' x y p last a b → WritesPrefixFor w' w'' p f last b → WritesPrefixFor w w'' p f last a
 WritesItemsFor-under w w' w'' x y p f last a b h k = record {
   taken = tagged h.written_items ++ k.taken;

@@ -34,10 +34,6 @@ counted_more calls calls1 calls2 left most up few one = record {
   at_most = omega (arith, few, one.at_most);
 }
 
--- those of one stretch and of the next
-pub more_calls : (n m : ℕ) (c c' c'' : Counts) (w w' w'' : List Item) → TakesCalls n c c' w w' → TakesCalls m c' c'' w' w'' → TakesCalls (n + m) c c'' w w''
-more_calls n m c c' c'' w w' w'' p q = omega (arith, p, q)
-
 -- items are bytes and lines
 pub items_split : (t : List Item) → length t ≡ length (outputs (tagged t)) + bad_lines t + lost_lines t
 items_split [] = refl

@@ -5,7 +5,7 @@ use Rattle.recode.specs.Step.{Advances, IsNearlyDecided}
 use Rattle.recode.specs.Devices.{Written}
 use Rattle.recode.specs.TraceToWrite.{AreSound}
 use Rattle.recode.specs.Verdict.{CanTell}
-use Rattle.recode.specs.Work.{TakesAtLeast, TakesCalls, ends}
+use Rattle.recode.specs.Work.{TakesAtLeast, TakesCalls, ended_count}
 use Rattle.recode.specs.WrittenItems.{WritesItemsFor}
 
 -- More bytes can be converted.
@@ -15,14 +15,13 @@ pub record CanConvert (s : State) : Type 0 where
   pub tells : CanTell s.verdict s.coding s.set []
 
 -- Of these bytes the rest is left to convert, whatever comes behind them, which is nothing after the last: what was
--- still to be written is what was written, then what is still to be written now. The chunks that ended were n: each takes
--- a call of the decoder and one of the encoder at least, and one more that reads back at most. A malformed sequence takes
--- one of the decoder and two of the encoder at least.
+-- still to be written is what was written, then what is still to be written now. Of n chunks that ended, calls of codecs
+-- were at most 3 each, with 4 for each character and 2 for each item; and at least 2 each, with 3 for each malformed
+-- sequence and one for each lost character.
 pub record ConvertsTo (before after : Written) (s s' : State) (last : Bool) (bytes rest : List ℕ) (n : ℕ) : Type 0 where
   pub counted : s'.counts.read + length rest ≡ s.counts.read + length bytes
   pub target : s'.coding ≡ s.coding
   pub policy : s'.policy ≡ s.policy
-  pub by_log : s'.verdict.by_log ≡ s.verdict.by_log
   pub sound : AreSound s'.decoder.pending s'.counts
   pub source : (r : List ℕ) → (last ≡ true → r ≡ []) → s.source (bytes ++ r) ≡ s'.source (rest ++ r)
   pub pays : WritesItemsFor before after s.counts s'.counts s.policy last (λ r. to_write s (bytes ++ r)) (λ r. to_write s' (rest ++ r))
@@ -42,7 +41,7 @@ pub record IsDoneWith (s : State) (last : Bool) : Type 0 where
 -- One call of the decoder, and all that follows from it.
 pub record DecodesPart (before after : Written) (s s' : State) (chunk : List ℕ) (last : Bool) (read : ℕ) (is_done : Bool) : Type 0 where
   pub within : read ≤ length chunk
-  pub converts : ConvertsTo before after s s' last chunk (drop read chunk) (ends is_done)
+  pub converts : ConvertsTo before after s s' last chunk (drop read chunk) (ended_count is_done)
   pub more : is_done ≡ false → CanConvert s' × (length (s'.decoder.pieces (drop read chunk)) < length (s.decoder.pieces chunk))
   pub done : is_done ≡ true → (drop read chunk ≡ []) × IsDoneWith s' last
 

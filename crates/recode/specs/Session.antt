@@ -1,5 +1,5 @@
 -- A session as its callers know it, and what a run of it says.
-use Rattle.std.specs.Prelude.{◌≡◌, ℕ, ◌+◌, ◌*◌, ◌≤◌, ◌⊎◌, ◌↔◌, IsTrue, List, [], ◌++◌, length, true, Result, Ok, Err}
+use Rattle.std.specs.Prelude.{◌≡◌, ℕ, ◌+◌, ◌*◌, ◌≤◌, ◌⊎◌, ◌↔◌, IsTrue, List, [], ◌++◌, length, true, Result, Ok, Err, min}
 use Rattle.std.specs.Io.KnownBytes.{Appends, Consumes, IsAtEnd}
 use Rattle.encoding_mem.specs.Piece.{Piece, malformed_count}
 use Rattle.encoding_mem.specs.Coding.{lost_count}
@@ -67,12 +67,14 @@ pub record Tells (v : View) (p : Report) : Type 0 where
   pub encoding : p.encoding ≡ v.state.source []
   pub verdict : p.faithful ≡ v.state.verdict.faithful
 
--- The report on an input.
+-- The report on an input. Calls of codecs are two for each step at least, of which there are two where the input has a
+-- byte; and three more for each malformed sequence, and one for each lost character.
 pub record IsReport (j : Job) (x : List ℕ) (p : Report) : Type 0 where
   pub read : p.read ≡ length x
   pub bad : p.bad ≡ malformed_count (input_pieces j x)
   pub lost : p.lost ≡ lost_count (target_of j) (input_text j x)
-  pub calls : (3 * p.bad + p.lost + 2 ≤ p.calls) × (p.calls ≤ 37 * p.read + 9)
+  pub least : 3 * p.bad + p.lost + 2 * min 1 p.read + 2 ≤ p.calls
+  pub most : p.calls ≤ 37 * p.read + 9
   pub encoding : p.encoding ≡ source_in j x
   pub faithful : IsTrue p.faithful ↔ Faithful j x
 

@@ -11,9 +11,9 @@ use Rattle.recode.specs.Verdict.{IsFaithfulFor, VerdictView}
 use Rattle.recode.specs.declared.job.Policy.{Policy}
 use Rattle.recode.specs.declared.target.Counts.{Counts}
 
--- The pieces of the bytes to come, whether there can be more, and the encoding that the input turns out to be in with them; the target's rule and
--- the set in force, and what is done about characters without bytes; whether something was lost, and what was counted
--- so far.
+-- The pieces of the bytes to come, whether the decoder has ended, and the encoding that the input turns out to be in
+-- with them; the target's rule and the set in force, and what is done about characters without bytes; whether something
+-- was lost, and what was counted so far.
 pub record State : Type 0 where
   pub decoder : DecoderState
   pub finished : Bool

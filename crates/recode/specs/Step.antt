@@ -1,5 +1,5 @@
 -- What one step does, for every continuation of the bytes read.
-use Rattle.std.specs.Prelude.{◌≡◌, ◌≢◌, ◌↔◌, IsTrue, ℕ, ◌+◌, ◌-◌, ◌*◌, ◌<◌, ◌≤◌, ◌⊎◌, List, [], ◌++◌, length, Bool, true, false, Option}
+use Rattle.std.specs.Prelude.{◌≡◌, ◌≢◌, ◌↔◌, IsTrue, ℕ, ◌+◌, ◌-◌, ◌*◌, ◌<◌, ◌≤◌, ◌⊎◌, List, [], ◌++◌, length, Bool, true, false, Option, min}
 use Rattle.std.specs.Io.KnownBytes.{Appends, Consumes, IsAtEnd}
 use Rattle.std.specs.List.{flat_map}
 use Rattle.encoding_mem.specs.Coding.{Coding, last_set, open_from}
@@ -70,7 +70,7 @@ pub record HasRun (before after : Devices) (limit : ℕ) (s s' : State) : Type 0
   pub source : (r : List ℕ) → s.source (chunk ++ r) ≡ s'.source r
   pub verdict : (r : List ℕ) → WillBeFaithful s (chunk ++ r) ↔ WillBeFaithful s' r
   pub calls : (r : List ℕ) → TakesCalls (3 * length chunk) s.counts s'.counts (to_write s (chunk ++ r)) (to_write s' r)
-  pub least : TakesAtLeast (3 * (s'.counts.bad - s.counts.bad)) s.counts s'.counts
+  pub least : TakesAtLeast (3 * (s'.counts.bad - s.counts.bad) + 2 * min 1 (length chunk)) s.counts s'.counts
 
 -- The end was read, and all the rest of the trace was written: under a policy that stops, none of it a lost character.
 -- It may stand for some steps and the one that ended.
@@ -84,7 +84,7 @@ pub record Finishes (before after : Devices) (limit : ℕ) (s s' : State) : Type
   pub source : s.source chunk ≡ s'.source []
   pub verdict : WillBeFaithful s chunk ↔ IsTrue s'.verdict.faithful
   pub calls : TakesCalls (3 * length chunk + 3) s.counts s'.counts (to_write s chunk) []
-  pub least : TakesAtLeast (3 * (s'.counts.bad - s.counts.bad) + 2) s.counts s'.counts
+  pub least : TakesAtLeast (3 * (s'.counts.bad - s.counts.bad) + 2 * min 1 (length chunk) + 2) s.counts s'.counts
   pub sound : AreSound s'.decoder.pending s'.counts
 
 -- where the bytes that were read pass the limit, or not
@@ -108,8 +108,8 @@ pub record WasRead (before after : Option (List ℕ)) (fault : Fault) : Type 0 w
 
 -- What was written is a prefix of what was still to be written for the bytes that were read and counted, and any bytes
 -- to come, none where the end was read; all of it, up to the line of the first lost character, where the policy stopped
--- it. Where the fault is `Read` or `TooLong`, none were counted, and nothing was written. Bytes that are
--- refused pass the limit.
+-- it. Where the fault is `Read` or `TooLong`, none were counted, and nothing was written. Bytes that are refused pass
+-- the limit.
 pub record Stops (before after : Devices) (limit : ℕ) (s : State) (fault : Fault) : Type 0 where
   pub read : WasRead before.input after.input fault
   pub within : s.counts.read + length read.input ≤ limit

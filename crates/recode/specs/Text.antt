@@ -5,11 +5,10 @@ use Rattle.encoding_mem.specs.Items.{Item, MalformedAt, open_items, whole_items}
 use Rattle.encoding_mem.specs.declared.form.EscapeState.{EscapeState}
 use Rattle.encoding_mem.specs.declared.form.EscapeState.TheVariants.{Ascii}
 use Rattle.recode.specs.Policy.{form_of}
-use Rattle.recode.specs.State.{State}
 use Rattle.recode.specs.Devices.{Written}
 use Rattle.recode.specs.TaggedByte.{Wrote, tagged}
 use Rattle.recode.specs.Verdict.{CanTell, IsToldAtEnd, Keeps, VerdictView}
-use Rattle.recode.specs.Work.{TakesAtLeast, ends}
+use Rattle.recode.specs.Work.{TakesAtLeast, ended_count}
 use Rattle.recode.specs.WrittenItems.{WritesItems}
 use Rattle.recode.specs.declared.job.Policy.{Policy}
 use Rattle.recode.specs.declared.target.Counts.{Counts}
@@ -22,9 +21,6 @@ pub record TargetState : Type 0 where
   pub verdict : VerdictView
   pub counts : Counts
 
-abbrev pub writing_of : State → TargetState
-writing_of s = record { coding = s.coding; set = s.set; policy = s.policy; verdict = s.verdict; counts = s.counts }
-
 -- A text can be encoded.
 pub record CanEncode (t : TargetState) (text : List ℕ) : Type 0 where
   pub index : t.counts.index + length text ≤ 2 ^ 48
@@ -36,8 +32,8 @@ abbrev pub text_items : TargetState → Bool → List ℕ → List Item
 text_items t last text = whole_items (form_of t.policy) t.coding last t.set t.counts.index text
 
 -- Of this text the rest is left to encode: what was to be written for it is what was written, then what is to be written
--- for the rest. Calls of codecs were at most one for each character and 2 for each item, and 2 for each text that ended,
--- of which there were n.
+-- for the rest. Of n texts that ended, calls of codecs were at most 2 each, with one for each character and 2 for each
+-- item; and at least one each, with one for each lost character that was logged.
 pub record EncodesTo (before after : Written) (t t' : TargetState) (last : Bool) (text rest : List ℕ) (n : ℕ) : Type 0 where
   pub pays : WritesItems before after t.counts t'.counts t.policy (text_items t last text) (text_items t' last rest)
   pub index : t'.counts.index + length rest ≡ t.counts.index + length text
@@ -61,7 +57,7 @@ pub record IsEncoded (t : TargetState) (last : Bool) : Type 0 where
 
 -- One call of the encoder, and all that follows from it.
 pub record EncodesPart (before after : Written) (t t' : TargetState) (last : Bool) (text rest : List ℕ) (is_done : Bool) : Type 0 where
-  pub encodes : EncodesTo before after t t' last text rest (ends is_done)
+  pub encodes : EncodesTo before after t t' last text rest (ended_count is_done)
   pub more : is_done ≡ false → CanTell t'.verdict t'.coding t'.set rest × (length (text_items t' last rest) < length (text_items t last text))
   pub done : is_done ≡ true → (rest ≡ []) × IsEncoded t' last
 

@@ -19,6 +19,6 @@ abbrev pub TakesAtLeast : ℕ → (c c' : Counts) → Type 0
 TakesAtLeast n c c' = c'.calls < 2 ^ 64 - 1 → c.calls + c'.lost + n ≤ c'.calls + c.lost
 
 -- how many texts or chunks end with a call
-abbrev pub ends : Bool → ℕ
-ends true = 1
-ends false = 0
+abbrev pub ended_count : Bool → ℕ
+ended_count true = 1
+ended_count false = 0

@@ -168,8 +168,9 @@ pub struct Report {
     pub bad: u64,
     /// The lines of the log that tell of a lost character.
     pub lost: u64,
-    /// The calls of codecs, those that read the output back among them: at most `37 * read + 9`,
-    /// whatever the sizes of the buffers.
+    /// The calls of codecs, those that read the output back among them, whatever the sizes of the
+    /// buffers: at least `3 * bad + lost + 2`, two more if the input has a byte, and at most
+    /// `37 * read + 9`.
     pub calls: u64,
     /// The encoding of the input, as its byte order mark says where one of another encoding is
     /// taken.

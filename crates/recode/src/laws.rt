@@ -238,17 +238,14 @@ pub fn runs_agree()
 /// tells its bytes; where it does not, the result is still one of these, and `Unmappable` under
 /// `Policy::Stop` alone.
 pub fn answers_without_faults()
-    ensures ok { (j : Job) (x : List ℕ) (s s' : Devices)
-        → s'.failures ≡ s.failures → (answer : Result Report Fault)
-        → s.input ≡ Some x → RunReturns s s' j answer
+    ensures ok { (j : Job) (x : List ℕ) (s s' : Devices) (answer : Result Report Fault)
+        → s'.failures ≡ s.failures → s.input ≡ Some x → RunReturns s s' j answer
         → IsOk answer ↔ ((length x ≤ j.limit) × RunsThrough j x) }
-    ensures too_long { (j : Job) (x : List ℕ) (s s' : Devices)
-        → s'.failures ≡ s.failures → (answer : Result Report Fault)
-        → s.input ≡ Some x → RunReturns s s' j answer → RunsThrough j x
+    ensures too_long { (j : Job) (x : List ℕ) (s s' : Devices) (answer : Result Report Fault)
+        → s'.failures ≡ s.failures → s.input ≡ Some x → RunReturns s s' j answer → RunsThrough j x
         → (answer ≡ Err Fault.TooLong) ↔ (j.limit < length x) }
-    ensures either { (j : Job) (s s' : Devices)
-        → s'.failures ≡ s.failures → (answer : Result Report Fault)
-        → RunReturns s s' j answer
+    ensures either { (j : Job) (s s' : Devices) (answer : Result Report Fault)
+        → s'.failures ≡ s.failures → RunReturns s s' j answer
         → IsOk answer ⊎ ((answer ≡ Err Fault.TooLong) ⊎ IsStopped j.policy answer) }
 {}
 

@@ -192,6 +192,7 @@ impl<'t> Session<'t> {
             log,
             policy: self.job.policy,
         };
+        // Lent as `&mut`, since the borrow checker refuses `&` beside the other buffers.
         self.engine.decode_chunk(
             &mut writers,
             &mut buffers.input[..read],
@@ -214,9 +215,9 @@ impl<'t> Session<'t> {
 ///
 /// - `Ok`: the input was read to its end, and is within the limit. Exactly its output and its log
 ///   were written. They depend on the input and the job alone: not on how reads are cut, on the
-///   sizes of the buffers or on the kind of the pivot. The codecs were called at least twice, with
-///   three times more for each malformed sequence and once for each lost character, and at most 37
-///   times for each byte of the input, and 9 times more.
+///   sizes of the buffers or on the kind of the pivot. The codecs were called at least twice (four
+///   times if the input has a byte), three more times for each malformed sequence and once more for
+///   each lost character; and at most 37 times for each byte of the input, and 9 times more.
 /// - `Err`: a call of the reader (`Read`), the writer (`Write`) or the log (`Log`) failed, and no
 ///   other; or none failed, and the input has more bytes than the job's limit (`TooLong`), or the
 ///   policy is `Policy::Stop` and a character has no bytes (`Unmappable`). Output and log have a

@@ -2,7 +2,7 @@
 use Rattle.std.specs.Prelude.{◌≡◌, ℕ, [], ◌∷◌, refl}
 use Rattle.std.proofs.Common.{arith}
 use Rattle.encoding_mem.specs.Items.{Byte, LostAt}
-use Rattle.recode.specs.Work.{IsCounted, TakesAtLeast, TakesCalls, ends}
+use Rattle.recode.specs.Work.{IsCounted, TakesAtLeast, TakesCalls, ended_count}
 use Rattle.recode.specs.declared.target.Counts.{Counts}
 use Rattle.std.specs.Prelude.{true, false}
 
@@ -16,10 +16,10 @@ as_many = omega arith
 no_more : TakesCalls 1 (counts 5 10) (counts 7 26) (Byte 0x41 ∷ LostAt 6 232 ∷ Byte 0x26 ∷ Byte 0x42 ∷ []) (Byte 0x42 ∷ []) → ⊥
 no_more h = absurd (omega (arith, h))
 
-at_end : ends true ≡ 1
+at_end : ended_count true ≡ 1
 at_end = refl
 
-before_end : ends false ≡ 0
+before_end : ended_count false ≡ 0
 before_end = refl
 
 -- a line of a lost character, and two more
