@@ -35,17 +35,16 @@ import shutil
 import subprocess
 import sys
 import tempfile
-import time
 
 TOP = os.path.abspath(os.path.join(os.path.dirname(os.path.abspath(__file__)), ".."))
 CRATES = os.path.join(TOP, "crates")
 
 PAGE = """# The edits that the gate leaves out
 
-`make edits` tries the edits of each crate that has changed, or that stands on one that has, since its row was written.
+`make edits` tries the edits of each crate that has changed, or that stands on one that has, since its row was written. A crate without a row has not been tried so.
 
-| Crate | Commit | Day | Kit | Refused by the fact | By a stale answer | Let through | Minutes |
-|---|---|---|---|---|---|---|---|
+| Crate | Commit | Day | Kit | Refused by the fact | By a stale answer | Let through |
+|---|---|---|---|---|---|---|
 {rows}
 
 An edit is refused by the fact if a goal of the changed function is open that no answer is written for. It is refused by a stale answer if nothing but an answer fails, which was written for the right body, and the right body has the same open goals without that answer. The prover then does not tell whether the body is wrong or the answer alone, and somebody has to look; `tools/edits.py` says more.
@@ -59,7 +58,7 @@ STALE_ROWS = """
 {rows}
 """
 
-ROW = re.compile(r"^\| (\w+) \| (\w+) \| .* \|$", re.M)
+ROW = re.compile(r"^\| (\w+) \| ([0-9a-f]{7,40}) \| .* \|$", re.M)
 STALE_ROW = re.compile(r"^\| (\w+)/\S+ \| .* \|$", re.M)
 
 # What may come of an edit.
@@ -420,7 +419,7 @@ class Page:
     def take(self, crate, told, about):
         """Puts the row of a crate in place of the one that it had, and writes the page."""
         count = [sum(kind == word for _, kind, _ in told) for word in (REFUSED, STALE, THROUGH)]
-        cells = [crate, about["commit"], about["day"], about["kit"], *count, about["minutes"]]
+        cells = [crate, about["commit"], about["day"], about["kit"], *count]
         self.rows[crate] = "| %s |" % " | ".join(str(cell) for cell in cells)
         stale = ["| %s | %s |" % (name, ", ".join(goals)) for name, kind, goals in told if kind == STALE]
         self.stale = sorted([row for row in self.stale if not row.startswith("| %s/" % crate)] + stale)
@@ -444,20 +443,19 @@ def main():
         sys.exit("there are changes that no commit has")
 
     def tried(pair):
-        start = time.time()
-        return pair[0], try_crate(*pair), round((time.time() - start) / 60)
+        return pair[0], try_crate(*pair)
 
     all_told = []
     with concurrent.futures.ThreadPoolExecutor(given.jobs) as pool:
         for done in concurrent.futures.as_completed([pool.submit(tried, pair) for pair in crates]):
-            crate, told, minutes = done.result()
+            crate, told = done.result()
             all_told += told
             if crate in whole:
                 # A crate is copied when its turn comes.
                 if said("git", "rev-parse", "--short", "HEAD") != head:
                     sys.exit("the repository changed meanwhile, so no row is written")
                 about = {"commit": head, "kit": said("rt", "version"), "day": datetime.date.today().isoformat()}
-                page.take(crate, told, about | {"minutes": minutes})
+                page.take(crate, told, about)
     refused, stale, through = (sum(kind == word for _, kind, _ in all_told) for word in (REFUSED, STALE, THROUGH))
     print("%d refused by the fact, %d by a stale answer, %d let through" % (refused, stale, through))
     return 1 if through else 0
