@@ -9,7 +9,7 @@ use Rattle.encoding_front.specs.declared.seeking.BomMatch.{BomMatch}
 use Rattle.encoding_front.specs.declared.seeking.BomMatch.TheVariants.{Prefix, Whole, Other}
 use Rattle.std.proofs.lemmas.List.{append-nil, take-append-drop, drop_all, drop-append-le}
 use Rattle.encoding_mem.specs.Piece.{Piece, well_formed, first, piece_len, sizes, AreWellFormed, scalars}
-use Rattle.encoding_mem.specs.Decoding.{AreBytes, DecoderState, Takes, Waits, Reports, EndsWith}
+use Rattle.encoding_mem.specs.Decoding.{AreBytes, DecoderState, Takes, Waits, Reports, EndsWith, Suffices}
 use Rattle.encoding_mem.specs.DecodedLength.{decoded_length, goes_on, replacement_len, left_after}
 use Rattle.encoding_mem.specs.declared.room.OutputUnit.{OutputUnit}
 use Rattle.encoding_front.specs.TakesMark.{LeavesRoom}
@@ -23,7 +23,6 @@ use Rattle.encoding_mem.specs.declared.room.DecodedLength.{DecodedLength}
 use Rattle.encoding_front.specs.Stream.{Opening, encoding_after}
 use Rattle.encoding_front.specs.declared.encoding.Encoding.{Encoding}
 use Rattle.encoding_front.specs.declared.mark.Mark.{Mark}
-use Rattle.encoding_mem.specs.Driver.{Suffices}
 use Rattle.encoding_mem.specs.declared.decoder_result.DecoderResult.{DecoderResult}
 use Rattle.encoding_mem.specs.declared.decoder_result.DecoderResult.TheVariants.{InputEmpty, OutputFull, Malformed}
 use Rattle.encoding_mem.specs.laws.Piece.{sizes-append, scalars-append, AreWellFormed-append}

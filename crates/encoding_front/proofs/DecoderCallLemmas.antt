@@ -6,8 +6,7 @@ use Rattle.std.specs.Char.{len_utf8}
 use Rattle.encoding_mem.specs.Writing.{len_utf16, Adds}
 use Rattle.encoding_mem.specs.Piece.{Piece, well_formed, malformed, text, scalars, sizes, malformed_count, AreWellFormed, first, ArePieces}
 use Rattle.encoding_mem.specs.laws.Piece.{sizes-append, scalars-append, text-append}
-use Rattle.encoding_mem.specs.Decoding.{Takes, Reports, DecoderState, EndsWith}
-use Rattle.encoding_mem.specs.Driver.{Suffices}
+use Rattle.encoding_mem.specs.Decoding.{Takes, Reports, DecoderState, EndsWith, Suffices}
 use Rattle.encoding_mem.specs.DecodedLength.{is_units, goes_on, replacement_len, left_after}
 use Rattle.encoding_mem.specs.declared.room.OutputUnit.{OutputUnit}
 use Rattle.encoding_mem.specs.declared.decoder_result.DecoderResult.{DecoderResult}

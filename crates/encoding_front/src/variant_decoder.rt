@@ -1,8 +1,7 @@
 //! The decoder of any encoding, without mark handling: one of the decoders of all codecs.
 
 ghost use Rattle.std.specs.Prelude.{◌≡◌, ◌+◌, ◌-◌, ◌<◌, ◌≤◌, drop, length};
-ghost use Rattle.encoding_mem.specs.Decoding.{EndsWith, StateLaw};
-ghost use Rattle.encoding_mem.specs.Driver.{Suffices};
+ghost use Rattle.encoding_mem.specs.Decoding.{EndsWith, StateLaw, Suffices};
 ghost use Rattle.encoding_front.specs.BomDecoderState.{held_state};
 ghost use Rattle.encoding_front.specs.Encodings.{IsReady, pieces_of, decoded_length_of};
 ghost use Rattle.encoding_front.specs.Latin1Prefix.{TellsLatin1, latin1_rule};

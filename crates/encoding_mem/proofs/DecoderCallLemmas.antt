@@ -1,18 +1,18 @@
 -- Why a call ended, as a caller sees it. Room that is enough. How far a call has come.
-use Rattle.std.proofs.Common.{◌≡◌, ◌≢◌, ℕ, ◌+◌, ◌<◌, ◌≤◌, inl, inr, Bool, List, [], ◌++◌, length, refl, subst, sym, ◌∙◌, ap, arith, ◌-◌, true, false, IsTrue, Option, None, Some, ◌∷◌, take, drop, get_or, append_assoc, length-append, length-drop}
+use Rattle.std.proofs.Common.{◌≡◌, ◌≢◌, ℕ, ◌+◌, ◌<◌, ◌≤◌, inl, inr, Bool, List, [], ◌++◌, length, refl, subst, sym, ◌∙◌, ap, arith, ◌-◌, true, false, IsTrue, None, Some, ◌∷◌, take, drop, get_or, append_assoc, length-append, length-drop}
 use Rattle.std.proofs.lemmas.List.{append-nil, drop-drop, drop_all, drop_more, take_rest}
 use Rattle.encoding_mem.specs.Piece.{Piece, first, sizes, ArePieces, malformed, piece_len, scalars_of, scalars, AreWellFormed}
-use Rattle.encoding_mem.specs.Decoding.{DecoderState, EndsWith, IsUndecided, Takes, Reports}
-use Rattle.encoding_mem.specs.DecodedLength.{is_units, goes_on, replacement_len, left_after, decoded_length}
+use Rattle.encoding_mem.specs.Decoding.{DecoderState, EndsWith, IsUndecided, Reports, StateCall, Suffices, Takes}
+use Rattle.encoding_mem.specs.DecodedLength.{is_units, left_after, decoded_length}
 use Rattle.encoding_mem.specs.declared.room.OutputUnit.{OutputUnit}
 use Rattle.encoding_mem.specs.declared.room.DecodedLength.{DecodedLength}
-use Rattle.encoding_mem.specs.Driver.{DriverEndsWith, Suffices, Remains, buffered, IsNear, PartReports, PartSuffices}
+use Rattle.encoding_mem.specs.Driver.{DriverCall, DriverEndsWith, IsNear, Remains, buffered}
 use Rattle.encoding_mem.specs.declared.decoder_result.DecoderResult.{DecoderResult}
 use Rattle.encoding_mem.specs.declared.decoder_result.DecoderResult.TheVariants.{InputEmpty, OutputFull, Malformed}
 use Rattle.encoding_mem.specs.laws.Piece.{sizes-append, scalars-append, AreWellFormed-append}
 use Rattle.encoding_mem.specs.DecoderRule.{IsFirstPiece, IsSoon}
 
-pub ends_with : (P : List ℕ → List Piece) (pending unread : List ℕ) (last : Bool) (free room mark : ℕ) (whole : (x : List ℕ) → sizes (P x) ≡ length x) (are_pieces : (x : List ℕ) → ArePieces (P x)) (needs : OutputUnit → ℕ → ℕ) (limits : DecodedLength) (covers : (k : OutputUnit) (n : ℕ) → needs k n ≤ decoded_length limits k n) (outcome : DecoderResult) → P [] ≡ [] → DriverEndsWith P pending unread last free room mark outcome
+ends_with : (P : List ℕ → List Piece) (pending unread : List ℕ) (last : Bool) (free room mark : ℕ) (whole : (x : List ℕ) → sizes (P x) ≡ length x) (are_pieces : (x : List ℕ) → ArePieces (P x)) (needs : OutputUnit → ℕ → ℕ) (limits : DecodedLength) (covers : (k : OutputUnit) (n : ℕ) → needs k n ≤ decoded_length limits k n) (outcome : DecoderResult) → P [] ≡ [] → DriverEndsWith P pending unread last free room mark outcome
     → EndsWith (buffered P whole are_pieces needs limits covers pending) unread last free room mark outcome
 ends_with P pending unread last free room mark whole are_pieces needs limits covers InputEmpty e h = (
   h.0,
@@ -48,11 +48,6 @@ nothing_remains P pending decided h = elim h [
   | inl none ↦ none
   | inr waits ↦ absurd (decided pending waits.0 waits.1)
 ]
-
-pub suffices_now : (before need : OutputUnit → ℕ → ℕ) (t last : Bool) (size unread old new : ℕ) (pending : List ℕ) (outcome : DecoderResult) → pending ≡ [] → Suffices before (λ k n. need k (length pending + n)) t last size unread old new outcome → Suffices before need t last size unread old new outcome
-suffices_now before need t last size unread old new pending InputEmpty none h = λ k m is stops fits. (let same : length pending + m ≡ m = omega (arith, ap length none) in subst (λ (n : ℕ). need k n ≤ new) same (h k m is stops fits))
-suffices_now before need t last size unread old new pending OutputFull none h = h
-suffices_now before need t last size unread old new pending (Malformed a b) none h = λ k m is stops fits. (let same : length pending + (unread + m) ≡ unread + m = omega (arith, ap length none) in subst (λ (n : ℕ). left_after (goes_on k) (replacement_len t) (need k n) ≤ new) same (h k m is stops fits))
 
 -- Room that is enough.
 
@@ -139,17 +134,7 @@ takes_then outcome before middle after src last held now read more W W' W'' join
   rest = λ r e. h.rest r e ∙ ap (λ y. h.taken ++ y) (k.rest r e) ∙ sym (append_assoc h.taken k.taken (after (drop more (drop read src) ++ r))) ∙ ap (λ y. (h.taken ++ k.taken) ++ after (y ++ r)) (drop-drop more read src);
 }
 
--- a part of a call that has not ended it
-pub part_well_formed : (ended : Option DecoderResult) (before P : List ℕ → List Piece) (src : List ℕ) (last : Bool) (held : ℕ) (pending : List ℕ) (read : ℕ) (W : List ℕ → Type 0)
-    → ended ≡ None
-    → pending ≡ []
-    → Takes (PartReports ended (length pending)) before (λ x. P (pending ++ x)) src last held (length pending) read W
-    → Takes AreWellFormed before P src last held 0 read W
-part_well_formed ended before P src last held pending read W is none h =
-    let well_formed : Takes AreWellFormed before (λ x. P (pending ++ x)) src last held (length pending) read W = subst (λ (o : Option DecoderResult). Takes (PartReports o (length pending)) before (λ x. P (pending ++ x)) src last held (length pending) read W) is h in
-    subst (λ (y : List ℕ). Takes AreWellFormed before (λ x. P (y ++ x)) src last held (length y) read W) none well_formed
-
-pub suffices_then : (outcome : DecoderResult) (before middle after : OutputUnit → ℕ → ℕ) (t last : Bool) (size left unread old mid new : ℕ)
+suffices_then : (outcome : DecoderResult) (before middle after : OutputUnit → ℕ → ℕ) (t last : Bool) (size left unread old mid new : ℕ)
     → ((k : OutputUnit) (m : ℕ) → is_units k ≡ t → (IsTrue last → m ≡ 0) → before k (size + m) ≤ old → middle k (left + m) ≤ mid)
     → Suffices middle after t last left unread mid new outcome
     → Suffices before after t last size unread old new outcome
@@ -157,16 +142,43 @@ suffices_then InputEmpty before middle after t last size left unread old mid new
 suffices_then OutputFull before middle after t last size left unread old mid new h s = λ k m is none fits. s k m is none (h k m is none fits)
 suffices_then (Malformed a b) before middle after t last size left unread old mid new h s = λ k m is none fits. s k m is none (h k m is none fits)
 
-pub part_suffices : (ended : Option DecoderResult) (before need : OutputUnit → ℕ → ℕ) (t last : Bool) (size unread left old mid : ℕ) (pending : List ℕ)
-    → ended ≡ None
-    → pending ≡ []
-    → left ≡ unread
-    → PartSuffices before (λ k n. need k (length pending + n)) t last size unread old mid ended
-    → (k : OutputUnit) (m : ℕ) → is_units k ≡ t → (IsTrue last → m ≡ 0) → before k (size + m) ≤ old → need k (left + m) ≤ mid
-part_suffices ended before need t last size unread left old mid pending is none same h k m units stops fits =
-    let enough = subst (λ (o : Option DecoderResult). PartSuffices before (λ k n. need k (length pending + n)) t last size unread old mid o) is h in
-    let at : length pending + (unread + m) ≡ left + m = omega (arith, ap length none, same) in
-    subst (λ (x : ℕ). need k x ≤ mid) at (enough k m units stops fits)
+-- a part of a call that has not ended it, and the rest of it
+pub calls_join : (P0 P1 P2 : List ℕ → List Piece) (n0 n1 n2 : OutputUnit → ℕ → ℕ) (p0 p1 p2 src part : List ℕ) (last : Bool) (r1 r2 : ℕ) (W1 W2 W : List ℕ → Type 0) (t : Bool) (old mid new room mark : ℕ) (outcome : DecoderResult)
+    → part ≡ drop r1 src → ((text more : List ℕ) → W1 text → W2 more → W (text ++ more))
+    → DriverCall P0 P1 n0 n1 p0 p1 src last r1 W1 t old mid room mark None → DriverCall P1 P2 n1 n2 [] p2 part last r2 W2 t mid new room mark (Some outcome)
+    → DriverCall P0 P2 n0 n2 p0 p2 src last (r1 + r2) W t old new room mark (Some outcome)
+calls_join P0 P1 P2 n0 n1 n2 p0 p1 p2 src part last r1 r2 W1 W2 W t old mid new room mark outcome is join f s =
+    let none : p1 ≡ [] = f.ends in
+    let before = λ (x : List ℕ). P0 (p0 ++ x) in
+    let after = λ (x : List ℕ). P2 (p2 ++ x) in
+    let size : length part ≡ length src - r1 = ap length is ∙ length-drop r1 src in
+    let unread : length part - r2 ≡ length src - (r1 + r2) = omega (arith, size) in
+    record {
+      law = takes_then outcome before P1 after src last (length p0) (length p2) r1 r2 W1 W2 W join
+          (subst (λ (y : List ℕ). Takes AreWellFormed before (λ x. P1 (y ++ x)) src last (length p0) (length y) r1 W1) none f.law)
+          (subst (λ (x : List ℕ). Takes (Reports outcome (length p2)) P1 after x last 0 (length p2) r2 W2) is s.law);
+      ends = subst (λ (x : List ℕ). DriverEndsWith P2 p2 x last new room mark outcome) (ap (drop r2) is ∙ drop-drop r2 r1 src) s.ends;
+      enough = subst (λ (u : ℕ). Suffices (λ k n. n0 k (length p0 + n)) (λ k n. n2 k (length p2 + n)) t last (length src) u old new outcome) unread
+          (suffices_then outcome (λ k n. n0 k (length p0 + n)) (λ k n. n1 k (length {A = ℕ} [] + n)) (λ k n. n2 k (length p2 + n)) t last (length src) (length part) (length part - r2) old mid new
+          (λ k m units stops h. (let at : length p1 + ((length src - r1) + m) ≡ length {A = ℕ} [] + (length part + m) = omega (arith, ap length none, size) in subst (λ (x : ℕ). n1 k x ≤ mid) at (f.enough k m units stops h)))
+          s.enough);
+      short = s.short;
+      near = s.near;
+    }
+
+-- A call of the driver is one of a decoder.
+pub state_call : (P P' : List ℕ → List Piece) (whole : (x : List ℕ) → sizes (P x) ≡ length x) (whole' : (x : List ℕ) → sizes (P' x) ≡ length x)
+    → (pieces : (x : List ℕ) → ArePieces (P x)) (pieces' : (x : List ℕ) → ArePieces (P' x)) (need need' : OutputUnit → ℕ → ℕ) (limits limits' : DecodedLength)
+    → (covers : (k : OutputUnit) (n : ℕ) → need k n ≤ decoded_length limits k n) (covers' : (k : OutputUnit) (n : ℕ) → need' k n ≤ decoded_length limits' k n)
+    → (pending pending' src : List ℕ) (last : Bool) (read : ℕ) (W : List ℕ → Type 0) (t : Bool) (old new room mark : ℕ) (outcome : DecoderResult)
+    → P' [] ≡ [] → limits' ≡ limits → DriverCall P P' need need' pending pending' src last read W t old new room mark (Some outcome)
+    → StateCall (buffered P whole pieces need limits covers pending) (buffered P' whole' pieces' need' limits' covers' pending') src last read W t old new room mark outcome
+state_call P P' whole whole' pieces pieces' need need' limits limits' covers covers' pending pending' src last read W t old new room mark outcome nil same c = record {
+  law = c.law;
+  ends = ends_with P' pending' (drop read src) last new room mark whole' pieces' need' limits' covers' outcome nil c.ends;
+  enough = c.enough;
+  limits = same;
+}
 
 -- from what is pending; here says that nothing comes after it
 pub took_pending : (WellFormed : List Piece → Type 0) (before P P' : List ℕ → List Piece) (src : List ℕ) (last here : Bool) (held : ℕ) (pending : List ℕ) (read : ℕ) (W W' : List ℕ → Type 0) (p : Piece)
@@ -217,6 +229,26 @@ took_pending_of WellFormed before P P' src window last here held pending now rea
     let fine' : (ps : List Piece) → AreWellFormed ps → WellFormed (drop (piece_len p) pending) (ps ++ p ∷ []) = λ ps a. subst (λ (x : List ℕ). WellFormed x (ps ++ p ∷ [])) (sym same) (fine ps a) in
     subst (λ (y : List ℕ). Takes (WellFormed y) before (λ x. P' (y ++ x)) src last held (length y) read W') same
     (took_pending (WellFormed (drop (piece_len p) pending)) before P P' src last here held pending read W W' p ends h first' fine' step)
+
+-- A step on what is pending. The first piece of what is left, where its bytes are decided but have no room;
+pub known_next : (P rest : List ℕ → List Piece) (window pending src : List ℕ) (last here : Bool) (read : ℕ) (p : Piece)
+    → window ≡ pending → (IsTrue here → IsTrue last × (length src ≤ read)) → IsFirstPiece P rest window here p
+    → (r : List ℕ) → (IsTrue last → r ≡ []) → first (P (pending ++ (drop read src ++ r))) ≡ Some p
+known_next P rest window pending src last here read p same ends first_is r e =
+    let none : IsTrue here → drop read src ++ r ≡ [] = λ t. rw (drop_all read src (ends t).1) (e (ends t).0) in
+    ap (λ x. first (P (x ++ (drop read src ++ r)))) (sym same) ∙ ap first (first_is.rest (drop read src ++ r) none)
+
+-- and what it leaves of room that is enough.
+pub pending_room : (need : OutputUnit → ℕ → ℕ) (here last t : Bool) (size read mid : ℕ) (window pending now : List ℕ) (n : ℕ) (Q : OutputUnit → ℕ → Type 0)
+    → window ≡ pending → now ≡ drop n pending → n ≤ length pending → (IsTrue here → IsTrue last × (size ≤ read))
+    → ((k : OutputUnit) (m : ℕ) → is_units k ≡ t → length window ≤ m → (IsTrue here → m ≡ length window) → need k m ≤ mid → Q k (m - n))
+    → (k : OutputUnit) (m : ℕ) → is_units k ≡ t → (IsTrue last → m ≡ 0) → need k (length pending + ((size - read) + m)) ≤ mid → Q k (length now + ((size - read) + m))
+pending_room need here last t size read mid window pending now n Q same is fits ends room k m units stops h =
+    let all : ℕ = length pending + ((size - read) + m) in
+    let len : length window ≡ length pending = ap length same in
+    let whole : IsTrue here → all ≡ length window = λ t. omega (arith, len, stops (ends t).0, (ends t).1) in
+    let left_over : all - n ≡ length now + ((size - read) + m) = omega (arith, fits, ap length is, length-drop n pending) in
+    subst (Q k) left_over (room k all units (omega (arith, len)) whole h)
 
 -- what is pending ends soon after its first piece
 pub near_few : (P : List ℕ → List Piece) (x : List ℕ) → length x ≤ 3 → IsNear P x

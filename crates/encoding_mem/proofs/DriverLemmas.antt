@@ -1,21 +1,22 @@
 -- How far the loops of the driver have come.
-use Rattle.std.proofs.Common.{◌≡◌, ℕ, ◌+◌, ◌*◌, ◌-◌, ◌<◌, ◌≤◌, Bool, true, false, IsTrue, List, [], ◌∷◌, ◌++◌, length, take, drop, refl, subst, sym, ◌∙◌, ap, arith, append_assoc, length-take, length-append, encode_utf8_all}
+use Rattle.std.proofs.Common.{◌≡◌, ℕ, ◌+◌, ◌*◌, ◌-◌, ◌<◌, ◌≤◌, Bool, true, false, IsTrue, Some, List, [], ◌∷◌, ◌++◌, length, take, drop, refl, subst, sym, ◌∙◌, ap, arith, append_assoc, length-take, length-append, encode_utf8_all, inl, inr}
 use Rattle.std.proofs.lemmas.Bool.Decides.{nat_tests}
-use Rattle.std.proofs.lemmas.List.{drop-append-le, length-take-le, take-append-drop}
+use Rattle.std.proofs.lemmas.List.{append-nil, drop_all, drop-append-le, length-take-le, take-append-drop}
 use Rattle.std.proofs.lemmas.Str.{encodes-chars, length-encode}
 use Rattle.std.specs.Char.{encode_utf8}
 use Rattle.std.specs.Str.{chars, IsUtf8}
-use Rattle.encoding_mem.specs.Piece.{Piece, sizes, piece_len, scalars, scalars_of, IsWellFormed, AreWellFormed}
-use Rattle.encoding_mem.specs.Decoding.{Takes}
-use Rattle.encoding_mem.specs.DecodedLength.{cost_in, is_units}
-use Rattle.encoding_mem.specs.DecoderRule.{IsFirstPiece}
+use Rattle.encoding_mem.specs.Piece.{Piece, first, malformed, text_of, sizes, piece_len, scalars, scalars_of, IsWellFormed, AreWellFormed}
+use Rattle.encoding_mem.specs.Decoding.{IsUndecided, Reports, Takes}
+use Rattle.encoding_mem.specs.DecodedLength.{cost_in, goes_on, is_units, left_after, replacement_len}
+use Rattle.encoding_mem.specs.Driver.{DriverCall}
+use Rattle.encoding_mem.specs.DecoderRule.{IsFirstPiece, IsSoon}
 use Rattle.encoding_mem.specs.Text.{text_pieces}
 use Rattle.encoding_mem.specs.UnitRun.{BeginWithUnits, unit_pieces}
 use Rattle.encoding_mem.specs.declared.room.OutputUnit.{OutputUnit}
-use Rattle.encoding_mem.specs.declared.decoder_result.DecoderResult.TheVariants.{OutputFull}
+use Rattle.encoding_mem.specs.declared.decoder_result.DecoderResult.TheVariants.{InputEmpty, OutputFull, Malformed}
 use Rattle.encoding_mem.specs.laws.Piece.{AreWellFormed-last}
 use Rattle.encoding_mem.specs.laws.Writing.{cost_fits16}
-use Rattle.encoding_mem.proofs.DecoderCallLemmas.{left_behind, takes_then, took_source}
+use Rattle.encoding_mem.proofs.DecoderCallLemmas.{held_all, left_behind, near_few, near_soon, takes_then, took_source}
 
 -- Of the source rest is left, and nothing is pending; what was taken is written, and room that was enough for the source
 -- is enough for the rest.
@@ -188,3 +189,70 @@ first_of_start P P' start rest n last p is h =
 pub basic_cost : (t : Bool) (c : ℕ) → c < 0x1_0000 → cost_in t c ≤ 3
 basic_cost true c small = omega (arith, cost_fits16 c)
 basic_cost false c small = grind (arith, nat_tests)
+
+-- room for so many bytes, where nothing is pending
+bare : (need : OutputUnit → ℕ → ℕ) (k : OutputUnit) (n room : ℕ) → need k (length {A = ℕ} [] + n) ≤ room → need k n ≤ room
+bare need k n room h = let same : length {A = ℕ} [] + n ≡ n = omega arith in subst (λ (m : ℕ). need k m ≤ room) same h
+
+-- How a call ends that has come so far. The next piece has no room;
+pub ends_full : (before P : List ℕ → List Piece) (needed need : OutputUnit → ℕ → ℕ) (t last : Bool) (src rest : List ℕ) (old free room mark : ℕ) (W : List ℕ → Type 0) (pending : List ℕ)
+    → pending ≡ [] → HasCome before P needed need t last src rest old free W
+    → free < room → (p : Piece) × (then : List ℕ → List Piece) × IsFirstPiece P then rest last p × (0 < length (text_of p))
+    → ((k : OutputUnit) (m : ℕ) → is_units k ≡ t → length rest ≤ m → (IsTrue last → m ≡ length rest) → need k m ≤ free → ⊥)
+    → DriverCall before P needed need [] pending src last (length src - length rest) W t old free room mark (Some OutputFull)
+ends_full before P needed need t last src rest old free room mark W pending none i over piece refused = rw none (record {
+  law = i.takes;
+  ends = (
+    over,
+    (piece.0, λ r e. ap (λ x. first (P (x ++ r))) (sym i.behind) ∙ ap first (piece.2.rest r e), piece.3),
+  );
+  enough = λ k m units stops h. refused k (length rest + m) units (omega arith) (λ l. omega (arith, stops l)) (i.enough k m units stops (bare needed k (length src + m) old h));
+  short = omega arith;
+  near = near_few P [] (omega arith);
+})
+
+-- it is not decided, and is pending;
+pub ends_waiting : (before P : List ℕ → List Piece) (needed need : OutputUnit → ℕ → ℕ) (t last : Bool) (src rest : List ℕ) (old free room mark : ℕ) (W : List ℕ → Type 0) (pending : List ℕ)
+    → pending ≡ rest → HasCome before P needed need t last src rest old free W
+    → last ≡ false → length rest < 6 → IsUndecided P rest → IsSoon P rest
+    → DriverCall before P needed need [] pending src last (length src) W t old free room mark (Some InputEmpty)
+ends_waiting before P needed need t last src rest old free room mark W pending is i more short undecided soon = rw is (record {
+  law = held_all before P src rest last 0 rest (length src - length rest) W i.behind refl i.takes;
+  ends = (drop_all (length src) src (omega arith), inr (more, short, undecided, soon));
+  enough = λ k m units stops h. i.enough k m units stops (bare needed k (length src + m) old h);
+  short = omega (arith, short);
+  near = near_soon P rest rest refl soon;
+})
+
+-- it is malformed;
+pub ends_malformed : (before P P' : List ℕ → List Piece) (needed need need' : OutputUnit → ℕ → ℕ) (t last : Bool) (src rest : List ℕ) (old free free' room mark : ℕ) (W W' : List ℕ → Type 0) (pending : List ℕ) (n : ℕ)
+    → pending ≡ [] → HasCome before P needed need t last src rest old free W
+    → IsFirstPiece P P' rest last (malformed n) → n ≤ 4 → ((text : List ℕ) → W text → W' text) → mark ≤ free'
+    → ((k : OutputUnit) (m : ℕ) → is_units k ≡ t → length rest ≤ m → (IsTrue last → m ≡ length rest) → need k m ≤ free → left_after (goes_on k) (replacement_len t) (need' k (m - n)) ≤ free')
+    → DriverCall before P' needed need' [] pending src last (length src - length rest + n) W' t old free' room mark (Some (Malformed n 0))
+ends_malformed before P P' needed need need' t last src rest old free free' room mark W W' pending n none i taken few same marks room_left = rw none (record {
+  law = took_source (Reports (Malformed n 0) 0) before P P' src rest last 0 (length src - length rest) W W' (malformed n) n refl i.behind i.takes taken
+      (λ ps a. (refl, few, omega arith, omega (arith, few), (ps, a, refl))) (λ t w. rw append-nil (same t w));
+  ends = marks;
+  enough = λ k m units stops h. (
+      let left_over : (length rest + m) - n ≡ length {A = ℕ} [] + ((length src - (length src - length rest + n)) + m) = omega (arith, i.within, taken.within) in
+      subst (λ (x : ℕ). left_after (goes_on k) (replacement_len t) (need' k x) ≤ free') left_over (room_left k (length rest + m) units (omega arith) (λ l. omega (arith, stops l)) (i.enough k m units stops (bare needed k (length src + m) old h))));
+  short = omega arith;
+  near = near_few P' [] (omega arith);
+})
+
+-- or nothing is left.
+pub ends_empty : (before P : List ℕ → List Piece) (needed need : OutputUnit → ℕ → ℕ) (t last : Bool) (src rest : List ℕ) (old free room mark : ℕ) (W : List ℕ → Type 0) (pending : List ℕ)
+    → pending ≡ [] → HasCome before P needed need t last src rest old free W → length rest ≡ 0
+    → DriverCall before P needed need [] pending src last (length src) W t old free room mark (Some InputEmpty)
+ends_empty before P needed need t last src rest old free room mark W pending none i size =
+    let read : length src - length rest ≡ length src = omega (arith, size) in
+    rw none (record {
+      law = subst (λ (n : ℕ). Takes AreWellFormed before P src last 0 0 n W) read i.takes;
+      ends = (drop_all (length src) src (omega arith), inl refl);
+      enough = λ k m units stops h. (
+          let all : length rest + m ≡ length {A = ℕ} [] + m = omega (arith, size) in
+          subst (λ (n : ℕ). need k n ≤ free) all (i.enough k m units stops (bare needed k (length src + m) old h)));
+      short = omega arith;
+      near = near_few P [] (omega arith);
+    })

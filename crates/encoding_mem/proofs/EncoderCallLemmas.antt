@@ -1,12 +1,15 @@
 -- The steps of the encoding driver, over texts. A step of a source over one character. What was written for what
 -- was read, and what is next.
-use Rattle.std.proofs.Common.{◌≡◌, ◌≢◌, ℕ, suc, ◌+◌, ◌-◌, ◌<◌, inl, inr, List, [], ◌∷◌, ◌++◌, length, sym, ◌∙◌, ap, subst, refl, arith, Bool, true, false, append_assoc, drop, ◌≤◌, ◌*◌, lit<}
+use Rattle.std.proofs.Common.{◌≡◌, ◌≢◌, ℕ, suc, ◌+◌, ◌-◌, ◌<◌, inl, inr, List, [], ◌∷◌, ◌++◌, length, sym, ◌∙◌, ap, subst, refl, arith, Bool, true, false, append_assoc, take, drop, ◌≤◌, ◌*◌, lit<}
 use Rattle.std.proofs.lemmas.List.{append-nil, drop-drop}
+use borrow.Rule.Slice.PartMut.{put_mid}
+use Rattle.encoding_mem.proofs.LongestPrefixLemmas.{length_put}
 use Rattle.encoding_mem.specs.Coding.{Coding, IsCoding, last_set, bytes, bytes_from, AllMapped, IsMapped}
 use Rattle.encoding_mem.specs.laws.Encoding.{all_mapped-append, bytes_from-append, last_set-append}
-use Rattle.encoding_mem.specs.Encoding.{Encodes}
+use Rattle.encoding_mem.specs.Encoding.{EncodeEndsWith, Encodes}
 use Rattle.std.specs.Str.{IsAscii, IsCharBoundary, encode_utf8_all}
-use Rattle.encoding_mem.specs.EncoderRule.{CopiesAscii, CopiesUtf8, IsCopied, IsRun, Tight}
+use Rattle.encoding_mem.specs.EncoderRule.{CopiesAscii, CopiesUtf8, EncoderCall, EncoderParts, IsCopied, IsRun, Tight}
+use Rattle.encoding_mem.proofs.DestinationLemmas.{drop_into, length_into, take_into}
 use Rattle.encoding_mem.specs.declared.form.Form.TheVariants.{Mapped, Unmapped}
 use Rattle.encoding_mem.specs.declared.encoder_result.EncoderResult.{EncoderResult as Outcome}
 use Rattle.encoding_mem.specs.declared.encoder_result.EncoderResult.TheVariants as EncoderResult
@@ -113,6 +116,11 @@ finished e false s t w s1 rest k h p empty = record {
   leaves = (empty, empty, p.set);
 }
 
+-- What is said of the last call is said of no other.
+pub not_last : (last : Bool) (s q : EscapeState) → last ≡ false → last ≡ true → s ≡ q
+not_last true s q h k = cc
+not_last false s q h k = cc
+
 pub ended : (e : Coding) (last : Bool) (s : EscapeState) (t w : List ℕ) (s1 : EscapeState) (rest w1 : List ℕ) → last ≡ true
     → Steps e s t w s1 rest → rest ≡ [] → w1 ≡ w ++ e.escape s1 Ascii → Encodes e last EncoderResult.InputEmpty s t w1 Ascii rest
 ended e false s t w s1 rest w1 h p empty one = cc
@@ -155,6 +163,27 @@ copied_first e last outcome s t w rest w2 s' rest' k plain r p =
       leaves = rw set p.leaves;
     }
 
+pub behind_put : (old mid new : List ℕ) (a n b : ℕ) → b ≡ a + n → drop a mid ≡ drop a old → drop b new ≡ drop b mid → drop b new ≡ drop b old
+behind_put old mid new a n b end before now = now ∙ rw (end, ← drop-drop, before, drop-drop) refl
+
+-- A whole call behind such text, into what is left of the room.
+pub behind_copy : (x x' : EncoderParts) (last : Bool) (outcome : Outcome) (t middle rest after old mid ys : List ℕ) (a n : ℕ) → IsCoding x.need x.coding → CopiesUtf8 x.coding x.set
+    → a ≤ length mid → IsCopied t (take a mid) middle → after ≡ rest → drop a mid ≡ drop a old → length ys ≡ length mid - a
+    → EncoderCall x x' last outcome middle after (take (length mid - a) (drop a mid)) ys n
+    → EncoderCall x x' last outcome t rest old (put_mid a (length mid - a) mid ys) (a + n)
+behind_copy x x' last outcome t middle rest after old mid ys a n k plain fits copied same_rest before left_over p =
+    let now = put_mid a (length mid - a) mid ys in
+    let size : length now ≡ length mid = length_put a (length mid - a) mid ys fits refl left_over in
+    let free : length ys - n ≡ length now - (a + n) = omega (arith, size, left_over) in
+    record {
+      same = p.same;
+      room = length_into a (length mid - a) n mid ys fits p.room;
+      behind = behind_put old mid now a n (a + n) refl before (drop_into a (length mid - a) n mid ys fits refl p.room p.behind);
+      law = rw (take_into a (length mid - a) n mid ys fits p.room) (copied_first x.coding last outcome x.set t (take a mid) middle (take n ys) x'.set rest k plain copied (rw same_rest at p.law));
+      ends = subst (λ (room : ℕ). EncodeEndsWith x.need last outcome x'.set rest room) free (rw same_rest at p.ends);
+      tight = subst (λ (room : ℕ). Tight x.coding outcome x'.set rest room) free (rw same_rest at p.tight);
+    }
+
 cost_zero : (t : Bool) → cost_in t 0 ≡ 1
 cost_zero true = refl
 cost_zero false = refl
@@ -193,9 +222,6 @@ pub utf8_costs : (e : Coding) (t : Bool) (l : Bound) (s : EscapeState) → IsBou
 utf8_costs e true l s fits copies = let most : 3 ≤ l.factor * 1 = utf8_cost e true l s 0xFFFF fits copies in omega (arith, most)
 utf8_costs e false l s fits copies = let most : 1 ≤ l.factor * 1 = utf8_cost e false l s 0 fits copies in omega (arith, most)
 
-pub behind_put : (old mid new : List ℕ) (a n b : ℕ) → b ≡ a + n → drop a mid ≡ drop a old → drop b new ≡ drop b mid → drop b new ≡ drop b old
-behind_put old mid new a n b end before now = now ∙ rw (end, ← drop-drop, before, drop-drop) refl
-
 -- What put wrote, by what the calls before it returned.
 pub escape_is : (e : Coding) (w w1 slice escape : List ℕ) (s1 n : EscapeState) (c : ℕ) → w1 ≡ w ++ slice → slice ≡ escape → escape ≡ e.escape s1 n → n ≡ e.set s1 c
     → w1 ≡ w ++ e.escape s1 (e.set s1 c)
@@ -216,6 +242,20 @@ form_over need e c slice bs room k a is over =
 
 pub some_left : (t more : List ℕ) (c : ℕ) → t ≡ c ∷ more → 0 < length t
 some_left t more c at = rw at (omega arith)
+
+-- The escape to the set of the next character does not fit, or that to ASCII at the end.
+pub tight_escape : (e : Coding) (s n : EscapeState) (c : ℕ) (t more slice escape : List ℕ) (room : ℕ) → t ≡ c ∷ more
+    → slice ≡ escape → escape ≡ e.escape s n → n ≡ e.set s c → room < length slice → Tight e EncoderResult.OutputFull s t room
+tight_escape e s n c t more slice escape room at a b is over =
+    let m : length slice ≡ length (e.escape s (e.set s c)) = ap length (a ∙ b ∙ ap (e.escape s) is) in
+    let enough : room < length (e.escape s (e.set s c)) = omega arith in
+    rw at (inl enough)
+
+pub tight_end : (e : Coding) (s : EscapeState) (t slice escape : List ℕ) (room : ℕ) → t ≡ []
+    → slice ≡ escape → escape ≡ e.escape s Ascii → room < length slice → Tight e EncoderResult.OutputFull s t room
+tight_end e s t slice escape room at a b over =
+    let m : length slice ≡ length (e.escape s Ascii) = ap length (a ∙ b) in
+    rw at (omega arith)
 
 -- In the set of the next character its bytes do not fit.
 pub tight_form : (need : ℕ) (e : Coding) (s1 s2 : EscapeState) (c : ℕ) (t more slice bs : List ℕ) (room : ℕ) → IsCoding need e

@@ -1,7 +1,7 @@
 -- What a call of a decoder does.
 use Rattle.std.specs.Prelude.{◌≡◌, ℕ, ◌+◌, ◌-◌, ◌≤◌, ◌<◌, ◌≢◌, ◌⊎◌, Bool, false, IsTrue, Some, List, [], ◌∷◌, ◌++◌, length, drop}
 use Rattle.encoding_mem.specs.Piece.{Piece, malformed, first, piece_len, sizes, scalars, text_of, AreWellFormed, ArePieces}
-use Rattle.encoding_mem.specs.DecodedLength.{decoded_length}
+use Rattle.encoding_mem.specs.DecodedLength.{decoded_length, goes_on, is_units, left_after, replacement_len}
 use Rattle.encoding_mem.specs.declared.room.OutputUnit.{OutputUnit}
 use Rattle.encoding_mem.specs.declared.room.DecodedLength.{DecodedLength}
 use Rattle.encoding_mem.specs.Event.{Event, malformed_at, events, scalar_events}
@@ -89,6 +89,22 @@ EndsWith after unread last free room mark InputEmpty =
     (unread ≡ []) × (((after.pending ≡ 0) × (after.pieces [] ≡ [])) ⊎ ((last ≡ false) × Waits after.pieces after.pending))
 EndsWith after unread last free room mark OutputFull = (free < room) × IsKnown after.pieces unread last
 EndsWith after unread last free room mark (Malformed a b) = mark ≤ free
+
+-- Room that is enough for the size bytes of a call and m more, none after a last call, isn't refused, and what is left
+-- is enough for the unread ones of them. before and after are the needs of so many new bytes, old and new is the room
+-- that is free.
+abbrev pub Suffices : (before after : OutputUnit → ℕ → ℕ) (t last : Bool) (size unread old new : ℕ) → DecoderResult → Type 0
+Suffices before after t last size unread old new InputEmpty = (k : OutputUnit) (m : ℕ) → is_units k ≡ t → (IsTrue last → m ≡ 0) → before k (size + m) ≤ old → after k m ≤ new
+Suffices before after t last size unread old new OutputFull = (k : OutputUnit) (m : ℕ) → is_units k ≡ t → (IsTrue last → m ≡ 0) → before k (size + m) ≤ old → ⊥
+Suffices before after t last size unread old new (Malformed a b) = (k : OutputUnit) (m : ℕ) → is_units k ≡ t → (IsTrue last → m ≡ 0) → before k (size + m) ≤ old → left_after (goes_on k) (replacement_len t) (after k (unread + m)) ≤ new
+
+-- One call of a decoder into a destination: what it was and is, which bytes of src it read, whose scalars Writes says
+-- were written, whether they are units, the room that was free and is, and the room that any character wants and U+FFFD.
+pub record StateCall (before after : DecoderState) (src : List ℕ) (last : Bool) (read : ℕ) (Writes : List ℕ → Type 0) (units : Bool) (old new room mark : ℕ) (outcome : DecoderResult) : Type 0 where
+  pub law : StateLaw before after src last read Writes outcome
+  pub ends : EndsWith after (drop read src) last new room mark outcome
+  pub enough : Suffices before.needs after.needs units last (length src) (length src - read) old new outcome
+  pub limits : after.room ≡ before.room
 
 -- However the input goes on behind src, the pieces that end three or more of its bytes before its end are taken: size
 -- counts the bytes up to there, src and what was pending before it.

@@ -1,8 +1,8 @@
 -- What the driver of a rule does, where its state is known by the rule's pieces and by what is pending.
-use Rattle.std.specs.Prelude.{◌≡◌, ℕ, ◌+◌, ◌-◌, ◌≤◌, ◌<◌, ◌⊎◌, Bool, false, IsTrue, Option, Some, None, List, [], ◌++◌, length}
-use Rattle.std.proofs.Common.{◌∙◌, length-append, subst, arith}
+use Rattle.std.specs.Prelude.{◌≡◌, ℕ, ◌+◌, ◌-◌, ◌≤◌, ◌<◌, ◌⊎◌, Bool, false, IsTrue, Option, Some, None, List, [], ◌++◌, length, drop}
+use Rattle.std.proofs.Common.{◌∙◌, length-append}
 use Rattle.encoding_mem.specs.Piece.{Piece, malformed, first, piece_len, scalars_of, text_of, sizes, IsWellFormed, AreWellFormed, ArePieces}
-use Rattle.encoding_mem.specs.Decoding.{DecoderState, IsUndecided, IsKnown, Reports}
+use Rattle.encoding_mem.specs.Decoding.{DecoderState, IsUndecided, IsKnown, Reports, Suffices, Takes}
 use Rattle.encoding_mem.specs.DecoderRule.{IsFirstPiece, IsSoon}
 use Rattle.encoding_mem.specs.DecodedLength.{is_units, goes_on, replacement_len, left_after, decoded_length}
 use Rattle.encoding_mem.specs.declared.room.OutputUnit.{OutputUnit}
@@ -47,15 +47,8 @@ DriverEndsWith pieces pending unread last free room mark (Malformed a b) = mark 
 abbrev pub Remains : (pieces : List ℕ → List Piece) (pending : List ℕ) → Type 0
 Remains pieces pending = (pending ≡ []) ⊎ ((0 < length pending) × IsUndecided pieces pending)
 
--- Room that is enough for the size bytes of a call and m more, none after a last call, isn't refused, and what is left
--- is enough for the unread ones of them. before and after are the needs of so many new bytes, old and new is the room
--- that is free.
-abbrev pub Suffices : (before after : OutputUnit → ℕ → ℕ) (t last : Bool) (size unread old new : ℕ) → DecoderResult → Type 0
-Suffices before after t last size unread old new InputEmpty = (k : OutputUnit) (m : ℕ) → is_units k ≡ t → (IsTrue last → m ≡ 0) → before k (size + m) ≤ old → after k m ≤ new
-Suffices before after t last size unread old new OutputFull = (k : OutputUnit) (m : ℕ) → is_units k ≡ t → (IsTrue last → m ≡ 0) → before k (size + m) ≤ old → ⊥
-Suffices before after t last size unread old new (Malformed a b) = (k : OutputUnit) (m : ℕ) → is_units k ≡ t → (IsTrue last → m ≡ 0) → before k (size + m) ≤ old → left_after (goes_on k) (replacement_len t) (after k (unread + m)) ≤ new
-
--- The same of a part of a call, which has ended only with an outcome, and else left nothing pending.
+-- Which pieces a part of a call took, why it ended and what room it left: it has ended the call only if it has an
+-- outcome, and else left nothing pending.
 abbrev pub PartReports : Option DecoderResult → ℕ → List Piece → Type 0
 PartReports None pending taken = AreWellFormed taken
 PartReports (Some outcome) pending taken = Reports outcome pending taken
@@ -67,6 +60,15 @@ PartEnds pieces pending unread last free room mark (Some outcome) = DriverEndsWi
 abbrev pub PartSuffices : (before after : OutputUnit → ℕ → ℕ) (t last : Bool) (size unread old new : ℕ) → Option DecoderResult → Type 0
 PartSuffices before after t last size unread old new None = (k : OutputUnit) (m : ℕ) → is_units k ≡ t → (IsTrue last → m ≡ 0) → before k (size + m) ≤ old → after k (unread + m) ≤ new
 PartSuffices before after t last size unread old new (Some outcome) = Suffices before after t last size unread old new outcome
+
+-- A call of the driver, or such a part of one: what the rule makes of bytes and what room it needs, before and after,
+-- what was pending and is, what was read of src, and the room that was free and is.
+pub record DriverCall (pieces pieces' : List ℕ → List Piece) (needs needs' : OutputUnit → ℕ → ℕ) (pending pending' src : List ℕ) (last : Bool) (read : ℕ) (Writes : List ℕ → Type 0) (units : Bool) (old new room mark : ℕ) (outcome : Option DecoderResult) : Type 0 where
+  pub law : Takes (PartReports outcome (length pending')) (λ x. pieces (pending ++ x)) (λ x. pieces' (pending' ++ x)) src last (length pending) (length pending') read Writes
+  pub ends : PartEnds pieces' pending' (drop read src) last new room mark outcome
+  pub enough : PartSuffices (λ k n. needs k (length pending + n)) (λ k n. needs' k (length pending' + n)) units last (length src) (length src - read) old new outcome
+  pub short : length pending' < 7
+  pub near : IsNear pieces' pending'
 
 -- the state of a rule with what is pending
 abbrev pub buffered : (pieces : List ℕ → List Piece) (whole : (x : List ℕ) → sizes (pieces x) ≡ length x)
@@ -80,18 +82,4 @@ buffered pieces whole are_pieces needs room covers pending = record {
   needs = λ k n. needs k (length pending + n);
   room = room;
   covers = λ k n. covers k (length pending + n);
-}
-
--- the state of a rule where nothing is ever pending
-abbrev pub immediate : (pieces : List ℕ → List Piece) (whole : (x : List ℕ) → sizes (pieces x) ≡ length x)
-    (are_pieces : (x : List ℕ) → ArePieces (pieces x)) (needs : OutputUnit → ℕ → ℕ) (room : DecodedLength)
-    (covers : (k : OutputUnit) (n : ℕ) → needs k n ≤ decoded_length room k n) → DecoderState
-immediate pieces whole are_pieces needs room covers = record {
-  pieces = pieces;
-  pending = 0;
-  whole = λ x. omega (arith, whole x);
-  are_pieces = are_pieces;
-  needs = needs;
-  room = room;
-  covers = λ k n. (let same : n ≡ 0 + n = omega arith in subst (λ (m : ℕ). needs k n ≤ decoded_length room k m) same (covers k n));
 }

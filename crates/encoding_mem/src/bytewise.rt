@@ -1,11 +1,11 @@
 //! The decoder of a rule by which any bytes decide their first piece: nothing is ever pending.
 
-ghost use Rattle.std.specs.Prelude.{◌≡◌, ◌<◌, ℕ, List, length};
+ghost use Rattle.std.specs.Prelude.{◌≡◌, ◌<◌, ℕ, List, [], length};
 ghost use Rattle.encoding_mem.specs.Decoding.{IsFreshDecoder, IsUndecided};
-ghost use Rattle.encoding_mem.specs.Driver.{immediate};
+ghost use Rattle.encoding_mem.specs.Driver.{buffered};
 
 use crate::decoder_result::DecoderResult;
-use crate::driver::decode_source;
+use crate::driver::decode_pieces;
 use crate::first_piece::DecoderRule;
 use crate::pending::Pending;
 use crate::room::DecodedLength;
@@ -43,8 +43,8 @@ impl<F: DecidedPiece> Bytewise<F> {
 }
 
 impl<F: DecidedPiece> SinkDecoder for Bytewise<F> {
-    ghost state = { λ d. immediate (F.pieces d.rule) (F.whole d.rule) (F.are_pieces d.rule)
-        (F.needs d.rule) (F.limits d.rule) (F.covers d.rule) };
+    ghost state = { λ d. buffered (F.pieces d.rule) (F.whole d.rule) (F.are_pieces d.rule)
+        (F.needs d.rule) (F.limits d.rule) (F.covers d.rule) [] };
 
     #[inline(always)]
     fn decode_into<S: Sink>(
@@ -53,7 +53,10 @@ impl<F: DecidedPiece> SinkDecoder for Bytewise<F> {
         sink: &mut S,
         last: bool,
     ) -> (DecoderResult, usize) {
-        decode_source(&mut self.rule, &mut Pending::new(), src, sink, last)
+        let mut own = sink.detach();
+        let ended = decode_pieces(&mut self.rule, &mut Pending::new(), src, &mut own, last);
+        *sink = own;
+        ended
     }
 
     fn held_len(&self) -> usize {

@@ -1,10 +1,10 @@
 //! The decoding driver, one for all rules and destinations: cuts, pending bytes, room, runs of
 //! text, pairs of bytes.
 
-ghost use Rattle.std.specs.Prelude.{◌+◌, ◌-◌, ◌≡◌, ◌<◌, ◌≤◌, ◌++◌, [], None, false, length, drop};
+ghost use Rattle.std.specs.Prelude.{◌-◌, ◌≡◌, ◌<◌, [], None, Some, false, length};
 ghost use Rattle.encoding_mem.specs.Piece.{AreWellFormed};
-ghost use Rattle.encoding_mem.specs.Decoding.{Takes, Reports};
-ghost use Rattle.encoding_mem.specs.Driver.{IsNear, IsStep, IsRoomyStep, DriverEndsWith, Remains, Suffices, PartReports, PartEnds, PartSuffices};
+ghost use Rattle.encoding_mem.specs.Decoding.{Takes};
+ghost use Rattle.encoding_mem.specs.Driver.{DriverCall, IsNear, IsStep, IsRoomyStep, PartSuffices, Remains};
 
 use crate::decoder_result::DecoderResult;
 use crate::first_piece::{DecoderRule, FirstPiece, UNIT_RUN};
@@ -104,10 +104,10 @@ fn take_pairs<F: DecoderRule, S: Sink>(codec: &mut F, src: &[u8], sink: &mut S) 
     src.len() - rest.len()
 }
 
-// Takes the pieces that begin with what is pending, with as many bytes of the source as they need. No
-// outcome: nothing is pending any more.
+/// Takes the pieces that begin with what is pending, with as many bytes of the source as they need.
+/// Returns how the call ended, if it has, and the bytes read; if not, nothing is pending any more.
 #[inline(always)]
-fn finish_pending<F: DecoderRule, S: Sink>(
+pub(crate) fn finish_pending<F: DecoderRule, S: Sink>(
     codec: &mut F,
     pending: &mut Pending,
     src: &[u8],
@@ -116,18 +116,11 @@ fn finish_pending<F: DecoderRule, S: Sink>(
 ) -> (Option<DecoderResult>, usize)
     requires short { length pending.old < 7 }
     requires near { IsNear (F.pieces codec.old) pending.old }
-    ensures law { Takes (PartReports result.0 (length pending.new))
-        (λ x. F.pieces codec.old (pending.old ++ x)) (λ x. F.pieces codec.new (pending.new ++ x))
-        src.now last (length pending.old) (length pending.new) result.1
-        (λ text. S.writes sink.old text sink.new) }
-    ensures ends { PartEnds (F.pieces codec.new) pending.new (drop result.1 src.now) last
-        (S.free sink.new) S.room (S.cost 0xFFFD) result.0 }
-    ensures enough { PartSuffices (λ k n. F.needs codec.old k (length pending.old + n))
-        (λ k n. F.needs codec.new k (length pending.new + n)) S.is_units last
-        (length src.now) (length src.now - result.1) (S.free sink.old) (S.free sink.new) result.0 }
+    ensures call { DriverCall (F.pieces codec.old) (F.pieces codec.new)
+        (F.needs codec.old) (F.needs codec.new) pending.old pending.new src.now last result.1
+        (λ text. S.writes sink.old text sink.new) S.is_units (S.free sink.old) (S.free sink.new)
+        S.room (S.cost 0xFFFD) result.0 }
     ensures limits { F.limits codec.new ≡ F.limits codec.old }
-    ensures short { length pending.new < 7 }
-    ensures near { IsNear (F.pieces codec.new) pending.new }
 {
     let mut read = 0;
     'pieces: while pending.len() > 0 {
@@ -152,9 +145,10 @@ fn finish_pending<F: DecoderRule, S: Sink>(
     (None, read)
 }
 
-// The same, with a sink that is the caller's own.
+/// Decodes a source where nothing is pending: runs of text as a whole, and what else there is by
+/// pieces. Returns how the call ended, and the bytes read.
 #[inline(always)]
-fn decode_pieces<F: DecoderRule, S: Sink>(
+pub(crate) fn decode_pieces<F: DecoderRule, S: Sink>(
     codec: &mut F,
     pending: &mut Pending,
     src: &[u8],
@@ -162,18 +156,12 @@ fn decode_pieces<F: DecoderRule, S: Sink>(
     last: bool,
 ) -> (DecoderResult, usize)
     requires { pending.old ≡ [] }
-    ensures law { Takes (Reports result.0 (length pending.new))
-        (F.pieces codec.old) (λ x. F.pieces codec.new (pending.new ++ x))
-        src.now last 0 (length pending.new) result.1 (λ text. S.writes sink.old text sink.new) }
-    ensures ends { DriverEndsWith (F.pieces codec.new) pending.new (drop result.1 src.now) last
-        (S.free sink.new) S.room (S.cost 0xFFFD) result.0 }
-    ensures enough { Suffices (F.needs codec.old)
-        (λ k n. F.needs codec.new k (length pending.new + n)) S.is_units last
-        (length src.now) (length src.now - result.1) (S.free sink.old) (S.free sink.new) result.0 }
+    ensures call { DriverCall (F.pieces codec.old) (F.pieces codec.new)
+        (F.needs codec.old) (F.needs codec.new) [] pending.new src.now last result.1
+        (λ text. S.writes sink.old text sink.new) S.is_units (S.free sink.old) (S.free sink.new)
+        S.room (S.cost 0xFFFD) (Some result.0) }
     ensures limits { F.limits codec.new ≡ F.limits codec.old }
     ensures waits { Remains (F.pieces codec.new) pending.new }
-    ensures short { length pending.new < 7 }
-    ensures near { IsNear (F.pieces codec.new) pending.new }
 {
     let mut rest = src;
     'pieces: while !rest.is_empty() {
@@ -210,66 +198,4 @@ fn decode_pieces<F: DecoderRule, S: Sink>(
         }
     }
     (DecoderResult::InputEmpty, src.len())
-}
-
-/// Decodes a source where nothing is pending: runs of text as a whole, and what else there is by pieces.
-#[inline(always)]
-pub fn decode_source<F: DecoderRule, S: Sink>(
-    codec: &mut F,
-    pending: &mut Pending,
-    src: &[u8],
-    sink: &mut S,
-    last: bool,
-) -> (DecoderResult, usize)
-    requires { pending.old ≡ [] }
-    ensures law { Takes (Reports result.0 (length pending.new))
-        (F.pieces codec.old) (λ x. F.pieces codec.new (pending.new ++ x))
-        src.now last 0 (length pending.new) result.1 (λ text. S.writes sink.old text sink.new) }
-    ensures ends { DriverEndsWith (F.pieces codec.new) pending.new (drop result.1 src.now) last
-        (S.free sink.new) S.room (S.cost 0xFFFD) result.0 }
-    ensures enough { Suffices (F.needs codec.old)
-        (λ k n. F.needs codec.new k (length pending.new + n)) S.is_units last
-        (length src.now) (length src.now - result.1) (S.free sink.old) (S.free sink.new) result.0 }
-    ensures limits { F.limits codec.new ≡ F.limits codec.old }
-    ensures waits { Remains (F.pieces codec.new) pending.new }
-    ensures short { length pending.new < 7 }
-    ensures near { IsNear (F.pieces codec.new) pending.new }
-{
-    let mut own = sink.detach();
-    let ended = decode_pieces(codec, pending, src, &mut own, last);
-    *sink = own;
-    ended
-}
-
-/// Decodes until the input is read, there is no room or a piece is malformed. Returns which, and
-/// the bytes read.
-#[inline(always)]
-pub fn decode<F: DecoderRule, S: Sink>(
-    codec: &mut F,
-    pending: &mut Pending,
-    src: &[u8],
-    sink: &mut S,
-    last: bool,
-) -> (DecoderResult, usize)
-    requires short { length pending.old < 7 }
-    requires near { IsNear (F.pieces codec.old) pending.old }
-    ensures law { Takes (Reports result.0 (length pending.new))
-        (λ x. F.pieces codec.old (pending.old ++ x)) (λ x. F.pieces codec.new (pending.new ++ x))
-        src.now last (length pending.old) (length pending.new) result.1
-        (λ text. S.writes sink.old text sink.new) }
-    ensures ends { DriverEndsWith (F.pieces codec.new) pending.new (drop result.1 src.now) last
-        (S.free sink.new) S.room (S.cost 0xFFFD) result.0 }
-    ensures enough { Suffices (λ k n. F.needs codec.old k (length pending.old + n))
-        (λ k n. F.needs codec.new k (length pending.new + n)) S.is_units last
-        (length src.now) (length src.now - result.1) (S.free sink.old) (S.free sink.new) result.0 }
-    ensures limits { F.limits codec.new ≡ F.limits codec.old }
-    ensures short { length pending.new < 7 }
-    ensures near { IsNear (F.pieces codec.new) pending.new }
-{
-    let (ended, read) = finish_pending(codec, pending, src, sink, last);
-    if let Some(outcome) = ended {
-        return (outcome, read);
-    }
-    let (outcome, more) = decode_source(codec, pending, &src[read..], sink, last);
-    (outcome, read + more)
 }

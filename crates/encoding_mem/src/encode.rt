@@ -1,12 +1,11 @@
 //! What an encoder makes of each character, and one driver for all encoders.
 
 ghost use Rattle.std.specs.Prelude.{◌≡◌, ◌≢◌, true, ℕ, ◌+◌, ◌-◌, ◌<◌, ◌≤◌, List, [], ◌∷◌, ◌++◌, length, take, drop};
-ghost use Rattle.encoding_mem.specs.Coding.{Coding, IsCoding};
-ghost use Rattle.encoding_mem.specs.Encoding.{Encodes, EncodeEndsWith};
+ghost use Rattle.encoding_mem.specs.Coding.{IsCoding};
 ghost use Rattle.encoding_mem.specs.DecodedLength.{bound_at};
 ghost use Rattle.encoding_mem.specs.EncodedLength.{IsRoomFor, bound_for};
 ghost use Rattle.encoding_mem.specs.declared.room.EncodedLength.{EncodedLength};
-ghost use Rattle.encoding_mem.specs.EncoderRule.{CopiesAscii, CopiesUtf8, IsRun, Moves, Tight, left};
+ghost use Rattle.encoding_mem.specs.EncoderRule.{CopiesAscii, CopiesUtf8, EncoderCall, EncoderParts, IsRun, Moves, left};
 ghost use Rattle.encoding_mem.specs.Stateless.{stateless};
 ghost use Rattle.encoding_mem.specs.declared.form.Form.{Form};
 ghost use Rattle.encoding_mem.specs.declared.form.Form.TheVariants.{Mapped};
@@ -22,61 +21,50 @@ use crate::source::Source;
 /// force. How a call reads, writes and stops is the driver's. A type that has one is a
 /// `SourceEncoder` and a `RawEncoder`.
 pub trait EncoderRule {
-    /// The most bytes that an escape or a character has.
-    ghost need: { Self → ℕ };
-
-    /// What the encoder makes of each character in each set.
-    ghost coding: { Self → Coding };
-
-    /// The set that is in force.
-    ghost set: { Self → EscapeState };
-
-    /// The numbers by which the length queries are computed.
-    ghost limits: { Self → EncodedLength };
+    /// What contracts say of an encoder: the most bytes of a step, what it makes of each character,
+    /// the set in force, and the room that is enough.
+    ghost parts: { Self → EncoderParts };
 
     /// The set in which a character is written after the set `from`, and its bytes there, or the
     /// scalar that is reported.
     fn step(&self, from: EscapeState, c: char) -> (EscapeState, Form)
-        ensures set { result.0 ≡ (coding self.now).set from c }
-        ensures form { result.1 ≡ (coding self.now).form c };
+        ensures set { result.0 ≡ (parts self.now).coding.set from c }
+        ensures form { result.1 ≡ (parts self.now).coding.form c };
 
     /// The bytes of the escape from one set to another: none where they are equal.
     fn escape(&self, from: EscapeState, to: EscapeState) -> Bytes
-        ensures { result ≡ (coding self.now).escape from to };
+        ensures { result ≡ (parts self.now).coding.escape from to };
 
     /// Whether in this set each ASCII character is its own byte and leaves the set as it is, so that a run
     /// of them can be copied.
     fn copies_ascii(&self, from: EscapeState) -> bool
-        ensures { result ≡ true → CopiesAscii (coding self.now) from };
+        ensures { result ≡ true → CopiesAscii (parts self.now).coding from };
 
     /// Whether in this set each character is its UTF-8 and leaves the set as it is, so that a
     /// source can copy its text, or write it in UTF-8, by itself.
     fn copies_utf8(&self, from: EscapeState) -> bool
-        ensures { result ≡ true → CopiesUtf8 (coding self.now) from };
+        ensures { result ≡ true → CopiesUtf8 (parts self.now).coding from };
 
     /// The set that is in force.
     fn current_set(&self) -> EscapeState
-        ensures { result ≡ set self.now };
+        ensures { result ≡ (parts self.now).set };
 
     /// Takes `next` as the set in force. The condition is that it is that set, ASCII, or a set that
     /// some character is written in: one that the driver has left by `step`.
     fn enter(&mut self, next: EscapeState)
-        requires { Moves (coding self.old) (set self.old) next }
-        ensures set { set self.new ≡ next }
-        ensures coding { coding self.new ≡ coding self.old }
-        ensures need { need self.new ≡ need self.old }
-        ensures limits { limits self.new ≡ limits self.old };
+        requires { Moves (parts self.old).coding (parts self.old).set next }
+        ensures { parts self.new ≡ record (parts self.old) { set = next } };
 
     /// The numbers by which the length queries are computed.
     fn encoded_length(&self) -> EncodedLength
-        ensures { result ≡ limits self.now };
+        ensures { result ≡ (parts self.now).limits };
 
-    /// That no escape and no character has more than `need` bytes, and what else is true of every
-    /// target.
-    ghost laws: { (x : Self) → IsCoding (need x) (coding x) };
+    /// That no escape and no character has more bytes than a step may need, and what else is true
+    /// of every target.
+    ghost laws: { (x : Self) → IsCoding (parts x).need (parts x).coding };
 
-    /// The room of `limits` is enough.
-    ghost fits: { (x : Self) → IsRoomFor (coding x) (limits x) };
+    /// The room of the length queries is enough.
+    ghost fits: { (x : Self) → IsRoomFor (parts x).coding (parts x).limits };
 }
 
 /// The rule of an encoder with one set, in which each ASCII character is its own byte: the bytes of
@@ -110,13 +98,12 @@ pub trait StatelessRule {
 }
 
 impl<R: StatelessRule> EncoderRule for R {
-    ghost need = { R.need };
-
-    ghost coding = { λ x. stateless (R.form x) };
-
-    ghost set = { λ _. Ascii };
-
-    ghost limits = { R.limits };
+    ghost parts = { λ x. record {
+      need = R.need x;
+      coding = stateless (R.form x);
+      set = Ascii;
+      limits = R.limits x;
+    } };
 
     ghost laws = { R.laws };
 
@@ -215,19 +202,14 @@ fn encode_each<T: EncoderRule, S: Source>(
     dst: &mut [u8],
     last: bool,
 ) -> (EncoderResult, usize)
-    ensures room { result.1 ≤ length dst.new }
-    ensures behind { drop result.1 dst.new ≡ drop result.1 dst.old }
     ensures source { S.all source.new ≡ S.all source.old }
-    ensures law { Encodes (T.coding target.now) last result.0 set.old
-        (left S.text (S.all source.old) (S.offset source.old)) (take result.1 dst.new)
-        set.new (left S.text (S.all source.old) (S.offset source.new)) }
-    ensures tight { Tight (T.coding target.now) result.0 set.new
-        (left S.text (S.all source.old) (S.offset source.new)) (length dst.new - result.1) }
-    ensures enough { bound_at (bound_for (T.limits target.now) S.is_units)
+    ensures call { EncoderCall (record (T.parts target.now) { set = set.old })
+        (record (T.parts target.now) { set = set.new }) last result.0
+        (left S.text (S.all source.old) (S.offset source.old))
+        (left S.text (S.all source.old) (S.offset source.new)) dst.old dst.new result.1 }
+    ensures enough { bound_at (bound_for (T.parts target.now).limits S.is_units)
         (length (S.all source.old) - S.offset source.old) ≤ length dst.old
         → result.0 ≢ EncoderResult.OutputFull }
-    ensures ends { EncodeEndsWith (T.need target.now) last result.0 set.new
-        (left S.text (S.all source.old) (S.offset source.new)) (length dst.new - result.1) }
 {
     let mut written = 0;
     while let Some((c, _)) = source.peek() {
@@ -285,19 +267,14 @@ pub fn encode<T: EncoderRule, S: Source>(
     dst: &mut [u8],
     last: bool,
 ) -> (EncoderResult, usize)
-    ensures room { result.1 ≤ length dst.new }
-    ensures behind { drop result.1 dst.new ≡ drop result.1 dst.old }
     ensures source { S.all source.new ≡ S.all source.old }
-    ensures law { Encodes (T.coding target.now) last result.0 set.old
-        (left S.text (S.all source.old) (S.offset source.old)) (take result.1 dst.new)
-        set.new (left S.text (S.all source.old) (S.offset source.new)) }
-    ensures tight { Tight (T.coding target.now) result.0 set.new
-        (left S.text (S.all source.old) (S.offset source.new)) (length dst.new - result.1) }
-    ensures enough { bound_at (bound_for (T.limits target.now) S.is_units)
+    ensures call { EncoderCall (record (T.parts target.now) { set = set.old })
+        (record (T.parts target.now) { set = set.new }) last result.0
+        (left S.text (S.all source.old) (S.offset source.old))
+        (left S.text (S.all source.old) (S.offset source.new)) dst.old dst.new result.1 }
+    ensures enough { bound_at (bound_for (T.parts target.now).limits S.is_units)
         (length (S.all source.old) - S.offset source.old) ≤ length dst.old
         → result.0 ≢ EncoderResult.OutputFull }
-    ensures ends { EncodeEndsWith (T.need target.now) last result.0 set.new
-        (left S.text (S.all source.old) (S.offset source.new)) (length dst.new - result.1) }
 {
     if !target.copies_utf8(*set) {
         return encode_each(target, set, source, dst, last);

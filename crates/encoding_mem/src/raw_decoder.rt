@@ -2,8 +2,7 @@
 
 ghost use Rattle.std.specs.Prelude.{◌≢◌, ◌≡◌, ℕ, ◌+◌, ◌-◌, ◌≤◌, true, false, length, drop, encode_utf8_all};
 ghost use Rattle.encoding_mem.specs.Writing.{Adds, encode_utf16_all};
-ghost use Rattle.encoding_mem.specs.Decoding.{DecoderState, StateLaw, EndsWith};
-ghost use Rattle.encoding_mem.specs.Driver.{Suffices};
+ghost use Rattle.encoding_mem.specs.Decoding.{DecoderState, StateCall};
 ghost use Rattle.encoding_mem.specs.DecodedLength.{decoded_length, queried};
 ghost use Rattle.encoding_mem.specs.declared.room.OutputUnit.TheVariants.{Units, Bytes, Replaced};
 
@@ -31,16 +30,14 @@ pub trait RawDecoder {
         dst: &mut [u8],
         last: bool,
     ) -> (DecoderResult, usize, usize)
-        ensures law { StateLaw (state self.old) (state self.new) src.now last result.1 (λ text. Adds dst.old 0 (encode_utf8_all text) dst.new result.2) result.0 }
-        ensures ends { EndsWith (state self.new) (drop result.1 src.now) last (length (drop result.2 dst.new)) 4 3 result.0 }
+        ensures call { StateCall (state self.old) (state self.new) src.now last result.1
+            (λ text. Adds dst.old 0 (encode_utf8_all text) dst.new result.2) false (length dst.old)
+            (length (drop result.2 dst.new)) 4 3 result.0 }
         ensures enough { decoded_length (state self.old).room Bytes ((state self.old).pending + length src.now) ≤ length dst.old
             → result.0 ≢ DecoderResult.OutputFull }
         ensures replaced { decoded_length (state self.old).room Replaced
             ((state self.old).pending + length src.now) ≤ length dst.old
-            → result.0 ≢ DecoderResult.OutputFull }
-        ensures leaves { Suffices (state self.old).needs (state self.new).needs false last (length src.now)
-            (length src.now - result.1) (length dst.old) (length (drop result.2 dst.new)) result.0 }
-        ensures limits { (state self.new).room ≡ (state self.old).room };
+            → result.0 ≢ DecoderResult.OutputFull };
 
     /// Decodes bytes to UTF-16 up to the first malformed sequence. Returns how the call ended, how
     /// many bytes of `src` were read, and how many units of `dst` were written.
@@ -53,13 +50,11 @@ pub trait RawDecoder {
         dst: &mut [u16],
         last: bool,
     ) -> (DecoderResult, usize, usize)
-        ensures law { StateLaw (state self.old) (state self.new) src.now last result.1 (λ text. Adds dst.old 0 (encode_utf16_all text) dst.new result.2) result.0 }
-        ensures ends { EndsWith (state self.new) (drop result.1 src.now) last (length (drop result.2 dst.new)) 2 1 result.0 }
+        ensures call { StateCall (state self.old) (state self.new) src.now last result.1
+            (λ text. Adds dst.old 0 (encode_utf16_all text) dst.new result.2) true (length dst.old)
+            (length (drop result.2 dst.new)) 2 1 result.0 }
         ensures enough { decoded_length (state self.old).room Units ((state self.old).pending + length src.now) ≤ length dst.old
-            → result.0 ≢ DecoderResult.OutputFull }
-        ensures leaves { Suffices (state self.old).needs (state self.new).needs true last (length src.now)
-            (length src.now - result.1) (length dst.old) (length (drop result.2 dst.new)) result.0 }
-        ensures limits { (state self.new).room ≡ (state self.old).room };
+            → result.0 ≢ DecoderResult.OutputFull };
 
     /// How many units of UTF-16 are room enough for the text of `n` more bytes and of what is
     /// pending, whether malformed sequences are reported or written as U+FFFD; `None` where the

@@ -3,14 +3,11 @@
 ghost use Rattle.std.specs.Prelude.{◌≡◌, ◌≢◌, ◌↔◌, ℕ, ◌-◌, ◌≤◌, IsTrue, length, take, drop};
 ghost use Rattle.std.specs.Str.{chars, IsCharBoundary};
 ghost use Rattle.std.specs.Char.Utf16.{utf16_lossy_chars};
-ghost use Rattle.encoding_mem.specs.Coding.{Coding, IsCoding};
+ghost use Rattle.encoding_mem.specs.Coding.{IsCoding};
 ghost use Rattle.encoding_mem.specs.Conversions.{IsUnitBoundary};
-ghost use Rattle.encoding_mem.specs.Encoding.{Encodes, EncodeEndsWith};
 ghost use Rattle.encoding_mem.specs.DecodedLength.{checked, bound_at};
-ghost use Rattle.encoding_mem.specs.EncoderRule.{Tight};
-ghost use Rattle.encoding_mem.specs.declared.form.EscapeState.{EscapeState};
+ghost use Rattle.encoding_mem.specs.EncoderRule.{EncoderCall, EncoderParts};
 ghost use Rattle.encoding_mem.specs.declared.form.EscapeState.TheVariants.{Ascii};
-ghost use Rattle.encoding_mem.specs.declared.room.EncodedLength.{EncodedLength};
 
 use crate::encoder_result::EncoderResult;
 
@@ -21,17 +18,9 @@ use crate::encoder_result::EncoderResult;
 /// which comes first in the next call. `last` says that the text ends with `src`; after it the
 /// encoder is as a new one.
 pub trait RawEncoder {
-    /// The most bytes that one step, an escape or a character, writes.
-    ghost need: { Self → ℕ };
-
-    /// What the encoder makes of each character in each set: its set, its bytes and the escapes.
-    ghost coding: { Self → Coding };
-
-    /// The set that is in force.
-    ghost set: { Self → EscapeState };
-
-    /// The numbers by which the length queries are computed.
-    ghost limits: { Self → EncodedLength };
+    /// What contracts say of an encoder: the most bytes of a step, what it makes of each character,
+    /// the set in force, and the room that is enough.
+    ghost parts: { Self → EncoderParts };
 
     /// Encodes text up to the first character without bytes. Returns how the call ended, how many
     /// bytes of `src` were read, and how many bytes of `dst` were written.
@@ -47,19 +36,10 @@ pub trait RawEncoder {
     ) -> (EncoderResult, usize, usize)
         ensures read { result.1 ≤ length src.now }
         ensures boundary { IsCharBoundary src.now result.1 }
-        ensures room { result.2 ≤ length dst.new }
-        ensures behind { drop result.2 dst.new ≡ drop result.2 dst.old }
-        ensures target { coding self.new ≡ coding self.old }
-        ensures law { Encodes (coding self.old) last result.0 (set self.old) (chars src.now)
-            (take result.2 dst.new) (set self.new) (chars (drop result.1 src.now)) }
-        ensures ends { EncodeEndsWith (need self.old) last result.0 (set self.new)
-            (chars (drop result.1 src.now)) (length dst.new - result.2) }
-        ensures tight { Tight (coding self.old) result.0 (set self.new)
-            (chars (drop result.1 src.now)) (length dst.new - result.2) }
-        ensures enough { bound_at (limits self.old).bytes (length src.now) ≤ length dst.old
-            → result.0 ≢ EncoderResult.OutputFull }
-        ensures limits { limits self.new ≡ limits self.old }
-        ensures need { need self.new ≡ need self.old };
+        ensures call { EncoderCall (parts self.old) (parts self.new) last result.0 (chars src.now)
+            (chars (drop result.1 src.now)) dst.old dst.new result.2 }
+        ensures enough { bound_at (parts self.old).limits.bytes (length src.now) ≤ length dst.old
+            → result.0 ≢ EncoderResult.OutputFull };
 
     /// Encodes units of UTF-16 up to the first character without bytes. Returns how the call ended,
     /// how many units of `src` were read, and how many bytes of `dst` were written.
@@ -76,36 +56,27 @@ pub trait RawEncoder {
     ) -> (EncoderResult, usize, usize)
         ensures read { result.1 ≤ length src.now }
         ensures boundary { IsUnitBoundary src.now result.1 }
-        ensures room { result.2 ≤ length dst.new }
-        ensures behind { drop result.2 dst.new ≡ drop result.2 dst.old }
-        ensures target { coding self.new ≡ coding self.old }
-        ensures law { Encodes (coding self.old) last result.0 (set self.old) (utf16_lossy_chars src.now)
-            (take result.2 dst.new) (set self.new) (utf16_lossy_chars (drop result.1 src.now)) }
-        ensures ends { EncodeEndsWith (need self.old) last result.0 (set self.new)
-            (utf16_lossy_chars (drop result.1 src.now)) (length dst.new - result.2) }
-        ensures tight { Tight (coding self.old) result.0 (set self.new)
-            (utf16_lossy_chars (drop result.1 src.now)) (length dst.new - result.2) }
-        ensures enough { bound_at (limits self.old).units (length src.now) ≤ length dst.old
-            → result.0 ≢ EncoderResult.OutputFull }
-        ensures limits { limits self.new ≡ limits self.old }
-        ensures need { need self.new ≡ need self.old };
+        ensures call { EncoderCall (parts self.old) (parts self.new) last result.0 (utf16_lossy_chars src.now)
+            (utf16_lossy_chars (drop result.1 src.now)) dst.old dst.new result.2 }
+        ensures enough { bound_at (parts self.old).limits.units (length src.now) ≤ length dst.old
+            → result.0 ≢ EncoderResult.OutputFull };
 
     /// How many bytes are room enough for what `n` units of UTF-16 are encoded to, and for the last
     /// escape; `None` where the number passes a `usize`. References are not counted.
     fn max_buffer_length_from_utf16_without_replacement(&self, n: usize) -> Option<usize>
-        ensures { result ≡ checked (bound_at (limits self.now).units n) };
+        ensures { result ≡ checked (bound_at (parts self.now).limits.units n) };
 
     /// How many bytes are room enough for what `n` bytes of UTF-8 are encoded to, and for the last
     /// escape; `None` where the number passes a `usize`. References are not counted.
     fn max_buffer_length_from_utf8_without_replacement(&self, n: usize) -> Option<usize>
-        ensures { result ≡ checked (bound_at (limits self.now).bytes n) };
+        ensures { result ≡ checked (bound_at (parts self.now).limits.bytes n) };
 
     /// Whether an escape to ASCII is still to be written at the end: so only in ISO-2022-JP, where
     /// another set is in force.
     fn has_pending_state(&self) -> bool
-        ensures { IsTrue result ↔ (set self.now ≢ Ascii) };
+        ensures { IsTrue result ↔ ((parts self.now).set ≢ Ascii) };
 
-    /// That no escape and no character has more than `need` bytes, and what else is true of every
-    /// target.
-    ghost laws: { (x : Self) → IsCoding (need x) (coding x) };
+    /// That no escape and no character has more bytes than a step may need, and what else is true
+    /// of every target.
+    ghost laws: { (x : Self) → IsCoding (parts x).need (parts x).coding };
 }

@@ -1,13 +1,13 @@
 //! A decoder into any destination, and how a rule becomes one.
 
 ghost use Rattle.std.specs.Prelude.{◌≡◌, ℕ, ◌<◌, ◌≤◌, ◌+◌, ◌-◌, [], length, drop, encode_utf8_all};
-ghost use Rattle.encoding_mem.specs.Decoding.{DecoderState, StateLaw, EndsWith};
+ghost use Rattle.encoding_mem.specs.Decoding.{DecoderState, StateCall};
 ghost use Rattle.encoding_mem.specs.Decoding.{IsFreshDecoder, ReadsByRule};
-ghost use Rattle.encoding_mem.specs.Driver.{IsNear, Suffices, buffered};
+ghost use Rattle.encoding_mem.specs.Driver.{IsNear, buffered};
 ghost use Rattle.encoding_mem.specs.DecodedLength.{queried};
 
 use crate::decoder_result::DecoderResult;
-use crate::driver::decode;
+use crate::driver::{decode_pieces, finish_pending};
 use crate::first_piece::DecoderRule;
 use crate::pending::Pending;
 use crate::raw_decoder::RawDecoder;
@@ -31,13 +31,9 @@ pub trait SinkDecoder {
         sink: &mut S,
         last: bool,
     ) -> (DecoderResult, usize)
-        ensures law { StateLaw (state self.old) (state self.new) src.now last result.1
-            (λ text. S.writes sink.old text sink.new) result.0 }
-        ensures ends { EndsWith (state self.new) (drop result.1 src.now) last
-            (S.free sink.new) S.room (S.cost 0xFFFD) result.0 }
-        ensures enough { Suffices (state self.old).needs (state self.new).needs S.is_units last
-            (length src.now) (length src.now - result.1) (S.free sink.old) (S.free sink.new) result.0 }
-        ensures limits { (state self.new).room ≡ (state self.old).room };
+        ensures { StateCall (state self.old) (state self.new) src.now last result.1
+            (λ text. S.writes sink.old text sink.new) S.is_units (S.free sink.old) (S.free sink.new)
+            S.room (S.cost 0xFFFD) result.0 };
 
     /// How many bytes are pending: read, but in no piece that is decided.
     fn held_len(&self) -> usize
@@ -141,7 +137,20 @@ impl<F: DecoderRule> SinkDecoder for Buffered<F> {
         sink: &mut S,
         last: bool,
     ) -> (DecoderResult, usize) {
-        decode(&mut self.rule, &mut self.pending, src, sink, last)
+        let (ended, read) = finish_pending(&mut self.rule, &mut self.pending, src, sink, last);
+        if let Some(outcome) = ended {
+            return (outcome, read);
+        }
+        let mut own = sink.detach();
+        let (outcome, more) = decode_pieces(
+            &mut self.rule,
+            &mut self.pending,
+            &src[read..],
+            &mut own,
+            last,
+        );
+        *sink = own;
+        (outcome, read + more)
     }
 
     fn held_len(&self) -> usize {

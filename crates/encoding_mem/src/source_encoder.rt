@@ -4,8 +4,7 @@ ghost use Rattle.std.specs.Prelude.{◌≡◌, ◌≢◌, ◌↔◌, ℕ, ◌-�
 ghost use Rattle.encoding_mem.specs.Coding.{IsCoding};
 ghost use Rattle.encoding_mem.specs.DecodedLength.{bound_at};
 ghost use Rattle.encoding_mem.specs.EncodedLength.{bound_for};
-ghost use Rattle.encoding_mem.specs.Encoding.{Encodes, EncodeEndsWith};
-ghost use Rattle.encoding_mem.specs.EncoderRule.{EncoderParts, Tight, left};
+ghost use Rattle.encoding_mem.specs.EncoderRule.{EncoderCall, EncoderParts, left};
 ghost use Rattle.encoding_mem.specs.declared.form.EscapeState.TheVariants.{Ascii};
 
 use crate::encode::{EncoderRule, encode};
@@ -30,22 +29,13 @@ pub trait SourceEncoder {
         dst: &mut [u8],
         last: bool,
     ) -> (EncoderResult, usize)
-        ensures room { result.1 ≤ length dst.new }
-        ensures behind { drop result.1 dst.new ≡ drop result.1 dst.old }
         ensures source { S.all source.new ≡ S.all source.old }
-        ensures coding { (parts self.new).coding ≡ (parts self.old).coding }
-        ensures law { Encodes (parts self.old).coding last result.0 (parts self.old).set
-            (left S.text (S.all source.old) (S.offset source.old)) (take result.1 dst.new)
-            (parts self.new).set (left S.text (S.all source.new) (S.offset source.new)) }
-        ensures ends { EncodeEndsWith (parts self.old).need last result.0 (parts self.new).set
-            (left S.text (S.all source.new) (S.offset source.new)) (length dst.new - result.1) }
-        ensures tight { Tight (parts self.old).coding result.0 (parts self.new).set
-            (left S.text (S.all source.new) (S.offset source.new)) (length dst.new - result.1) }
+        ensures call { EncoderCall (parts self.old) (parts self.new) last result.0
+            (left S.text (S.all source.old) (S.offset source.old))
+            (left S.text (S.all source.new) (S.offset source.new)) dst.old dst.new result.1 }
         ensures enough { bound_at (bound_for (parts self.old).limits S.is_units)
             (length (S.all source.old) - S.offset source.old) ≤ length dst.old
-            → result.0 ≢ EncoderResult.OutputFull }
-        ensures limits { (parts self.new).limits ≡ (parts self.old).limits }
-        ensures need { (parts self.new).need ≡ (parts self.old).need };
+            → result.0 ≢ EncoderResult.OutputFull };
 
     /// The numbers by which the length queries are computed.
     fn encoded_length(&self) -> EncodedLength
@@ -62,12 +52,7 @@ pub trait SourceEncoder {
 }
 
 impl<R: EncoderRule> SourceEncoder for R {
-    ghost parts = { λ x. record {
-      need = R.need x;
-      coding = R.coding x;
-      set = R.set x;
-      limits = R.limits x;
-    } };
+    ghost parts = { R.parts };
 
     ghost laws = { R.laws };
 
@@ -94,13 +79,7 @@ impl<R: EncoderRule> SourceEncoder for R {
 }
 
 impl<E: SourceEncoder> RawEncoder for E {
-    ghost need = { λ x. (E.parts x).need };
-
-    ghost coding = { λ x. (E.parts x).coding };
-
-    ghost set = { λ x. (E.parts x).set };
-
-    ghost limits = { λ x. (E.parts x).limits };
+    ghost parts = { E.parts };
 
     ghost laws = { E.laws };
 

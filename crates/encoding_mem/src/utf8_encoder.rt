@@ -56,13 +56,12 @@ impl Utf8Encoder {
 }
 
 impl EncoderRule for Utf8Encoder {
-    ghost need = { λ _. 4 };
-
-    ghost coding = { λ _. utf8_coding };
-
-    ghost set = { λ _. Ascii };
-
-    ghost limits = { λ _. encoded_length_utf8 };
+    ghost parts = { λ _. record {
+      need = 4;
+      coding = utf8_coding;
+      set = Ascii;
+      limits = encoded_length_utf8;
+    } };
 
     ghost laws = { λ _. utf8_coding_laws };
 

@@ -1,11 +1,9 @@
-use Rattle.std.proofs.Common.{◌≡◌, ℕ, ◌*◌, ◌-◌, ◌≤◌, List, length, take, drop, false, length-take, refl, subst, ap, ◌∙◌, arith, encode_utf8_all}
-use Rattle.std.proofs.lemmas.List.{append-nil, length-take-le}
-use Rattle.encoding_mem.specs.Piece.{AreWellFormed, malformed, scalars_of}
-use Rattle.encoding_mem.specs.Decoding.{Reports, Takes}
+use Rattle.std.proofs.Common.{◌≡◌, ℕ, ◌*◌, ◌-◌, ◌≤◌, List, length, take, drop, false, length-take, refl, subst, ap, ◌∙◌, arith, encode_utf8_all, rules}
+use Rattle.std.proofs.lemmas.List.{length-take-le}
+use Rattle.encoding_mem.specs.Piece.{AreWellFormed, scalars_of}
+use Rattle.encoding_mem.specs.Decoding.{Takes}
 use Rattle.encoding_mem.specs.Text.{text_len}
-use Rattle.encoding_mem.specs.declared.decoder_result.DecoderResult.TheVariants.{Malformed}
-use Rattle.encoding_mem.proofs.DecoderCallLemmas.{none_pending, took_source}
-use Rattle.encoding_mem.proofs.DriverLemmas.{come_more, come_none, come_piece, run_room, text_taken, units_taken}
+use Rattle.encoding_mem.proofs.DriverLemmas.{come_more, come_none, come_piece, ends_empty, ends_full, ends_malformed, ends_waiting, run_room, text_taken, units_taken}
 use Rattle.encoding_mem.proofs.driver.decode_pieces.Goals as goal
 
 pub pieces-init : goal.pieces-init
@@ -71,11 +69,37 @@ pieces-preserved g c =
           pairs.ensures.law pairs.ensures.enough (λ t u h k. g.met.S.Sink.writes_more _ _ _ t u h k);
     }
 
-pub returns-in-Broke-clause-law : goal.returns-in-Broke-clause-law
-returns-in-Broke-clause-law g c =
+pub returns-in-Broke-clause-call : goal.returns-in-Broke-clause-call
+returns-in-Broke-clause-call g c =
     let s = c.in-Broke.ensures.step in
     let i = c.pieces.invariant in
-    let src : List ℕ = c.args.src.now in
-    let rest : List ℕ = c.pieces.rest.now in
-    none_pending (Reports (Malformed c.in-Broke.n 0)) _ (g.F.DecoderRule.pieces c.take_piece.new.codec) src c.args.last _ c.pieces.pending _ (λ t. g.S.Sink.writes c.args.sink.now t c.take_piece.new.sink) i.none
-    (took_source (Reports (Malformed c.in-Broke.n 0) 0) _ (g.F.DecoderRule.pieces c.pieces.codec) (g.F.DecoderRule.pieces c.take_piece.new.codec) src rest c.args.last _ (length src - length rest) (λ t. g.S.Sink.writes c.args.sink.now t c.pieces.sink) (λ t. g.S.Sink.writes c.args.sink.now t c.take_piece.new.sink) (malformed c.in-Broke.n) c.in-Broke.n refl i.so_far.behind i.so_far.takes s.0 (λ ps a. (refl, s.1, omega arith, omega (arith, s.1), (ps, a, refl))) (λ t w. rw append-nil (rw s.2 w)))
+    let F = g.F.DecoderRule in
+    ends_malformed (F.pieces c.args.codec.now) (F.pieces c.pieces.codec) (F.pieces c.take_piece.new.codec) (F.needs c.args.codec.now) (F.needs c.pieces.codec) (F.needs c.take_piece.new.codec) g.S.Sink.is_units c.args.last c.args.src.now c.pieces.rest.now _
+    (g.S.Sink.free c.pieces.sink) _ _ _ (λ t. g.S.Sink.writes c.args.sink.now t c.pieces.sink) _ c.pieces.pending c.in-Broke.n i.none i.so_far s.0 s.1 (λ t w. rw s.2 w) s.3 c.in-Broke.ensures.room
+
+pub returns-in-Full-clause-call : goal.returns-in-Full-clause-call
+returns-in-Full-clause-call g c =
+    let s = c.in-Full.ensures.step in
+    let i = c.pieces.invariant in
+    let F = g.F.DecoderRule in
+    let free = g.S.Sink.free in
+    let room = c.in-Full.ensures.room in
+    rw (s.2, s.3)
+    (ends_full (F.pieces c.args.codec.now) (F.pieces c.pieces.codec) (F.needs c.args.codec.now) (F.needs c.pieces.codec) g.S.Sink.is_units c.args.last c.args.src.now c.pieces.rest.now (free c.args.sink.now) (free c.pieces.sink) _ _
+    (λ t. g.S.Sink.writes c.args.sink.now t c.pieces.sink) c.pieces.pending i.none i.so_far (rw s.3 at s.0) s.1 room)
+
+pub returns-in-Wait-clause-call : goal.returns-in-Wait-clause-call
+returns-in-Wait-clause-call g c =
+    let s = c.in-Wait.ensures.step in
+    let i = c.pieces.invariant in
+    let F = g.F.DecoderRule in
+    let free = g.S.Sink.free in
+    rw (s.4, s.5)
+    (ends_waiting (F.pieces c.args.codec.now) (F.pieces c.pieces.codec) (F.needs c.args.codec.now) (F.needs c.pieces.codec) g.S.Sink.is_units c.args.last c.args.src.now c.pieces.rest.now (free c.args.sink.now) (free c.pieces.sink) _ _
+    (λ t. g.S.Sink.writes c.args.sink.now t c.pieces.sink) c.fill.new.self c.fill.ensures i.so_far s.0 s.1 s.2 s.3)
+
+pub returns-clause-call : goal.returns-clause-call
+returns-clause-call g c =
+    let i = c.pieces.invariant in
+    let nothing : length c.pieces.rest.now ≡ 0 = search rules in
+    ends_empty _ _ _ _ _ _ _ _ _ _ _ _ _ c.pieces.pending i.none i.so_far nothing

@@ -11,8 +11,8 @@ invariant-loop-c g l = record {
   source : g.S.Source.all l.source ≡ g.S.Source.all l.initial.source;
   size : length l.dst ≡ length l.initial.dst;
   after : g.S.Source.offset l.initial.source ≤ g.S.Source.offset l.source;
-  spent : l.written ≤ (bound_for (g.T.EncoderRule.limits l.target) g.S.Source.is_units).factor * (g.S.Source.offset l.source - g.S.Source.offset l.initial.source);
-  steps : Steps (g.T.EncoderRule.coding l.target) l.initial.set (left g.S.Source.text (g.S.Source.all l.initial.source) (g.S.Source.offset l.initial.source))
+  spent : l.written ≤ (bound_for (g.T.EncoderRule.parts l.target).limits g.S.Source.is_units).factor * (g.S.Source.offset l.source - g.S.Source.offset l.initial.source);
+  steps : Steps (g.T.EncoderRule.parts l.target).coding l.initial.set (left g.S.Source.text (g.S.Source.all l.initial.source) (g.S.Source.offset l.initial.source))
       (take l.written l.dst) l.set (left g.S.Source.text (g.S.Source.all l.initial.source) (g.S.Source.offset l.source));
 }
 

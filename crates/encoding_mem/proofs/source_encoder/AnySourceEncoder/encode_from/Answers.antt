@@ -5,5 +5,5 @@ use Rattle.encoding_mem.proofs.source_encoder.AnySourceEncoder.encode_from.Goals
 
 pub enter-requires : goal.enter-requires
 enter-requires g c =
-    subst (λ s. Moves (g.R.EncoderRule.coding c.args.self.now) s c.encode-result.new.set) c.current_set-set.ensures
-    (encoded_moves _ _ _ _ _ _ _ _ c.encode-result.ensures.law)
+    subst (λ s. Moves (g.R.EncoderRule.parts c.args.self.now).coding s c.encode-result.new.set) c.current_set-set.ensures
+    (encoded_moves _ _ _ _ _ _ _ _ c.encode-result.ensures.call.law)
