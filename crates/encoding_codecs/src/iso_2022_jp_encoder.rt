@@ -75,13 +75,12 @@ impl<'a> Iso2022JpEncoder<'a> {
 }
 
 impl<'a> EncoderRule for Iso2022JpEncoder<'a> {
-    ghost need = { λ _. 3 };
-
-    ghost coding = { λ e. iso_2022_jp_coding e.jis0208 e.katakana };
-
-    ghost set = { λ e. e.set };
-
-    ghost limits = { λ _. encoded_length_iso_2022_jp };
+    ghost parts = { λ e. record {
+      need = 3;
+      coding = iso_2022_jp_coding e.jis0208 e.katakana;
+      set = e.set;
+      limits = encoded_length_iso_2022_jp;
+    } };
 
     ghost laws = { λ e. iso_2022_jp_laws e.jis0208 e.katakana };
 

@@ -60,17 +60,20 @@ impl<'a> LeadByteRule for ShiftJis<'a> {
 }
 
 impl<'a> ShiftJis<'a> {
-    // What a lead and a second byte give.
+    // What a lead and a second byte give. The pointers from 8836 to 10715 are for private use.
     #[inline(always)]
     fn pair(&self, lead: u8, second: u8) -> PairValue
         requires { (shift_jis_rule self.now.jis0208).first lead ≡ FirstByte.Lead }
         ensures { result ≡ (shift_jis_rule self.now.jis0208).pair lead second }
     {
-        if is_trail(second) {
-            value_of_pointer(&self.jis0208, pointer_of_pair(lead, second))
-        } else {
-            PairValue::NoChar
+        if !is_trail(second) {
+            return PairValue::NoChar;
         }
+        let pointer = pointer_of_pair(lead, second);
+        if pointer >= 8836 && pointer <= 10715 {
+            return PairValue::OneChar(scalar_of(0xE000 + (pointer - 8836)));
+        }
+        value_of_entry(self.jis0208.value(pointer))
     }
 }
 
@@ -103,18 +106,6 @@ fn pointer_of_pair(lead: u8, trail: u8) -> u32
 {
     let offset = if trail < 0x7F { 0x40 } else { 0x41 };
     ((lead - 1) % 64) as u32 * 188 + (trail - offset) as u32
-}
-
-// What a pointer gives: those from 8836 to 10715 are for private use.
-#[inline(always)]
-fn value_of_pointer(jis0208: &Flat<'_>, pointer: u32) -> PairValue
-    ensures { result ≡ value_of_pointer jis0208.now pointer }
-{
-    if pointer >= 8836 && pointer <= 10715 {
-        PairValue::OneChar(scalar_of(0xE000 + (pointer - 8836)))
-    } else {
-        value_of_entry(jis0208.value(pointer))
-    }
 }
 
 // The bytes of a character.

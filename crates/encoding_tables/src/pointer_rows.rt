@@ -41,33 +41,26 @@ impl PointerRows {
     }
 
     /// The second number of the row with this first number, or `None` if no row has it.
+    ///
+    /// The rows before the place that the directory names are below the number, and those from
+    /// there on are not. So if a row has the number, it is the one at this place, and the search
+    /// tells whether it is below the next number.
     #[inline(always)]
     pub(crate) fn second(&self, first: u32) -> Option<u32>
         ensures { IsSecond self.now first result }
     {
-        second_in(self.rows.as_slice(), self.begins.as_slice(), first)
-    }
-}
-
-// The second number of the row with this first number, or `None`. The rows before the place that
-// the directory names are below the number, and those from there on are not. So if a row has the
-// number, it is the one at this place, and the search tells whether it is below the next number.
-#[inline(always)]
-fn second_in(rows: &[(u32, u32)], begins: &[u16], first: u32) -> Option<u32>
-    requires rising { AreRising rows.now }
-    requires directory { IsDirectory rows.now begins.now }
-    requires tight { IsTight rows.now begins.now }
-    ensures { IsSecond rows.now first result }
-{
-    if first as usize + 1 >= begins.len() {
-        return None;
-    }
-    let place = begins[first as usize] as usize;
-    let (below, _) = search(&rows[place..place + 1], (first + 1, 0));
-    if below == 1 {
-        Some(rows[place].1)
-    } else {
-        None
+        let rows = self.rows.as_slice();
+        let begins = self.begins.as_slice();
+        if first as usize + 1 >= begins.len() {
+            return None;
+        }
+        let place = begins[first as usize] as usize;
+        let (below, _) = search(&rows[place..place + 1], (first + 1, 0));
+        if below == 1 {
+            Some(rows[place].1)
+        } else {
+            None
+        }
     }
 }
 
