@@ -7,9 +7,9 @@ use Rattle.encoding_front.specs.declared.seeking.ByteOrderMark.TheVariants.{Utf8
 use Rattle.encoding_front.specs.declared.seeking.BomSet.{BomSet}
 use Rattle.encoding_front.specs.declared.seeking.BomMatch.{BomMatch}
 use Rattle.encoding_front.specs.declared.seeking.BomMatch.TheVariants.{Prefix, Whole, Other}
-use Rattle.std.proofs.lemmas.List.{append-nil, take-append-drop, drop_all, drop-append-le}
-use Rattle.encoding_mem.specs.Piece.{Piece, well_formed, first, piece_len, sizes, AreWellFormed, scalars}
-use Rattle.encoding_mem.specs.Decoding.{AreBytes, DecoderState, Takes, Waits, Reports, EndsWith, Suffices}
+use Rattle.std.proofs.lemmas.List.{append-nil, take-append-drop, drop_all, drop-append-le, nil_from_length}
+use Rattle.encoding_mem.specs.Piece.{Piece, malformed, well_formed, first, piece_len, sizes, AreWellFormed, scalars}
+use Rattle.encoding_mem.specs.Decoding.{AreBytes, DecoderState, Takes, Waits, Reports, EndsWith, StateLaw, Suffices}
 use Rattle.encoding_mem.specs.DecodedLength.{decoded_length, goes_on, replacement_len, left_after}
 use Rattle.encoding_mem.specs.declared.room.OutputUnit.{OutputUnit}
 use Rattle.encoding_front.specs.TakesMark.{LeavesRoom}
@@ -532,6 +532,54 @@ ends_none s [] unread last free room mark InputEmpty e h = (
 )
 ends_none s [] unread last free room mark OutputFull e h = h
 ends_none s [] unread last free room mark (Malformed a b) e h = h
+
+-- No byte is held.
+pub law_none : (s u : DecoderState) (held src : List ℕ) (last : Bool) (read : ℕ) (W : List ℕ → Type 0) (outcome : DecoderResult) → length held ≡ 0
+    → StateLaw s u src last read W outcome → StateLaw (held_state s held) (held_state u held) src last read W outcome
+law_none s u held src last read W outcome none h =
+    let nothing : held ≡ [] = nil_from_length held none in
+    let now : u.pending + length held ≡ u.pending = omega (arith, none) in
+    record {
+      taken = h.taken;
+      well_formed = subst (λ (n : ℕ). Reports outcome n h.taken) (sym now) h.well_formed;
+      within = h.within;
+      counted = omega (arith, h.counted, none);
+      writes = h.writes;
+      rest = λ r e. rw nothing (h.rest r e);
+    }
+
+-- Some held bytes are read by a call that ends without the source.
+pub law_held : (s u : DecoderState) (held bytes after src : List ℕ) (last : Bool) (n : ℕ) (W : List ℕ → Type 0) (outcome outcome' : DecoderResult) → bytes ≡ held → after ≡ drop n held
+    → (h : StateLaw s u bytes false n W outcome) → Reports outcome' (u.pending + length after) h.taken → StateLaw (held_state s held) (held_state u after) src last 0 W outcome'
+law_held s u held bytes after src last n W outcome outcome' same is h reports =
+    let size : length bytes ≡ length held = ap length same in
+    record {
+      taken = h.taken;
+      well_formed = reports;
+      within = omega arith;
+      counted = omega (arith, h.counted, h.within, size, ap length is, length-drop n held);
+      writes = h.writes;
+      rest = λ r e.
+          rw (← same, is, ← same) (h.rest (src ++ r) (λ no. cc));
+    }
+
+-- A malformed sequence that ends among held bytes: those after it stay held.
+pub reports_held : (s u : DecoderState) (held bytes after : List ℕ) (n a b b' : ℕ) (W : List ℕ → Type 0) → bytes ≡ held → after ≡ drop n held → s.pending + length held ≤ 2 → b' ≡ b + length after
+    → (h : StateLaw s u bytes false n W (Malformed a b)) → Reports (Malformed a b') (u.pending + length after) h.taken
+reports_held s u held bytes after n a b b' W same is few sum h =
+    let size : length bytes ≡ length held = ap length same in
+    let left : length after ≡ length held - n = ap length is ∙ length-drop n held in
+    let r = h.well_formed in
+    let last_of : sizes h.taken ≡ sizes r.4.0 + a = ap sizes r.4.2 ∙ sizes-append r.4.0 (malformed a ∷ []) ∙ omega arith in
+    (omega (arith, r.0, sum), r.1, omega (arith, h.counted, h.within, size, left, r.0, few, sum, last_of), omega (arith, h.counted, h.within, size, left, r.0, few, last_of, sum), r.4)
+
+pub suffices_held : (s u : DecoderState) (held bytes after : List ℕ) (t last : Bool) (n size old new a b b' : ℕ) → bytes ≡ held → after ≡ drop n held
+    → Suffices s.needs u.needs t false (length bytes) (length bytes - n) old new (Malformed a b) → Suffices (held_state s held).needs (held_state u after).needs t last size (size - 0) old new (Malformed a b')
+suffices_held s u held bytes after t last n size old new a b b' same is h k m units stops fits =
+    let long : length bytes ≡ length held = ap length same in
+    let then : (length bytes - n) + (size + m) ≡ length after + ((size - 0) + m) = omega (arith, long, ap length is, length-drop n held) in
+    let asked : length bytes + (size + m) ≡ length held + (size + m) = omega (arith, long) in
+    subst (λ (x : ℕ). left_after (goes_on k) (replacement_len t) (u.needs k x) ≤ new) then (h k (size + m) units (λ no. cc) (subst (λ (x : ℕ). s.needs k x ≤ old) (sym asked) fits))
 
 -- The room that is enough.
 pub suffices_none : (s u : DecoderState) (held after : List ℕ) (t last : Bool) (size unread old new : ℕ) (outcome : DecoderResult) → length held ≡ 0 → length after ≡ 0 → Suffices s.needs u.needs t last size unread old new outcome → Suffices (held_state s held).needs (held_state u after).needs t last size unread old new outcome

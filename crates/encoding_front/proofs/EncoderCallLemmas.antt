@@ -2,44 +2,42 @@
 use Rattle.std.proofs.Common.{◌≡◌, ℕ, ◌+◌, ◌-◌, ◌≤◌, Bool, List, [], ◌++◌, length, take, drop, refl, sym, ◌∙◌, ap, subst, arith}
 use Rattle.std.proofs.lemmas.List.{drop-append-le, drop-drop, take-append-drop}
 use Rattle.encoding_mem.specs.declared.reference.Reference.TheVariants.{Decimal}
-use Rattle.encoding_mem.specs.Coding.{Coding}
-use Rattle.encoding_mem.specs.Encoding.{EncodeEndsWith, Encodes, EncodesItems}
+use Rattle.encoding_mem.specs.Encoding.{EncodesItems}
 use Rattle.encoding_mem.specs.laws.Encoding.{encoded_bytes, encoded_items, encoded_moves}
-use Rattle.encoding_mem.specs.EncoderRule.{Tight}
+use Rattle.encoding_mem.specs.EncoderRule.{EncoderCall, EncoderParts}
 use Rattle.encoding_mem.specs.declared.encoder_result.EncoderResult.{EncoderResult}
 use Rattle.encoding_mem.specs.declared.encoder_result.EncoderResult.TheVariants.{InputEmpty, OutputFull, Unmappable}
 use Rattle.encoding_mem.specs.declared.form.Form.TheVariants.{Unmapped}
-use Rattle.encoding_mem.specs.declared.form.EscapeState.{EscapeState}
-use Rattle.encoding_mem.specs.declared.room.EncodedLength.{EncodedLength}
 use Rattle.encoding_tables.specs.IndexLists.{IndexLists}
-use Rattle.encoding_front.specs.Encoder.{Encoded, EncoderState, IsEncoderOf, Turned, coding_in, kept_back, kept_by_codec_kind, referred}
+use Rattle.encoding_front.specs.Encoder.{Encoded, EncoderState, Turned, coding_in, kept_back, kept_by_codec_kind, parts_in, referred}
 use Rattle.encoding_front.specs.laws.Encoder.{coding_laws}
 use Rattle.encoding_front.specs.EncodingTable.{codec_kind_of}
 use Rattle.encoding_front.specs.Encodings.{coding_of, coding_of_codec_kind, output_encoding_of}
 use Rattle.encoding_front.specs.declared.encoding.Encoding.{Encoding}
 use Rattle.encoding_front.specs.declared.codec_kind.CodecKind.{CodecKind}
 
--- what its parts do, said of its state
-pub encoded : (t : IndexLists) (enc : Encoding) (s s' : EscapeState) (coding : Coding) (need : ℕ) (limits : EncodedLength) → IsEncoderOf t enc coding need limits
-    → (last : Bool) (answer : EncoderResult) (text written rest : List ℕ) (room : ℕ) → Encodes coding last answer s text written s' rest → EncodeEndsWith need last answer s' rest room
-    → Tight coding answer s' rest room
-    → Encoded (record { tables = t; encoding = enc; set = s }) last answer text written (record { tables = t; encoding = enc; set = s' }) rest room
-encoded t enc s s' coding need limits parts last answer text written rest room law ends tight =
-    let of_coding : Encodes (coding_of t enc) last answer s text written s' rest = subst (λ (e : Coding). Encodes e last answer s text written s' rest) parts.codes law in
+-- a call of its codec, said of its state
+pub encoded : (t : IndexLists) (enc : Encoding) (e e' : EncoderParts) → e ≡ parts_in (record { tables = t; encoding = enc; set = e.set })
+    → (last : Bool) (answer : EncoderResult) (text written rest : List ℕ) (room : ℕ) → EncoderCall e e' last answer text written rest room
+    → Encoded (record { tables = t; encoding = enc; set = e.set }) last answer text written (record { tables = t; encoding = enc; set = e'.set }) rest room
+encoded t enc e e' is last answer text written rest room c =
+    let x : EncoderState = record { tables = t; encoding = enc; set = e.set } in
+    let x' : EncoderState = record { tables = t; encoding = enc; set = e'.set } in
+    let is_then : e' ≡ parts_in x' = c.same ∙ ap (λ (p : EncoderParts). record p { set = e'.set }) is in
+    let call : EncoderCall (parts_in x) (parts_in x') last answer text written rest room =
+    subst (λ (p : EncoderParts). EncoderCall p (parts_in x') last answer text written rest room) is (subst (λ (p : EncoderParts). EncoderCall e p last answer text written rest room) is_then c) in
     record {
       same = refl;
-      law = of_coding;
-      bytes = encoded_bytes Decimal (coding_of t enc) last answer s text written s' rest (coding_laws t enc) of_coding;
-      ends = subst (λ (n : ℕ). EncodeEndsWith n last answer s' rest room) parts.needs ends;
-      tight = subst (λ (e : Coding). Tight e answer s' rest room) parts.codes tight;
-      moves = encoded_moves (coding_of t enc) last answer s text written s' rest of_coding;
+      codec = call;
+      bytes = encoded_bytes Decimal (coding_of t enc) last answer e.set text written e'.set rest (coding_laws t enc) call.law;
+      moves = encoded_moves (coding_of t enc) last answer e.set text written e'.set rest call.law;
     }
 
 -- what it says of items
 pub told_items : (x : EncoderState) (last : Bool) (answer : EncoderResult) (text written : List ℕ) (x' : EncoderState) (rest : List ℕ) (room : ℕ)
     → Encoded x last answer text written x' rest room → EncodesItems Decimal (coding_in x) last answer x.set text written x'.set rest
 told_items x last answer text written x' rest room call =
-    encoded_items Decimal (coding_in x) last answer x.set text written x'.set rest (coding_laws x.tables x.encoding) call.law
+    encoded_items Decimal (coding_in x) last answer x.set text written x'.set rest (coding_laws x.tables x.encoding) call.codec.law
 
 -- what a call wrote into the part of a slice before an offset
 pub behind_part : (w end : ℕ) (xs ys : List ℕ) → end ≤ length xs → w ≤ length ys → length ys ≡ length (take end xs) → drop w ys ≡ drop w (take end xs) → drop w (ys ++ drop end xs) ≡ drop w xs

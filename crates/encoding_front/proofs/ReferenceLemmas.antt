@@ -404,8 +404,8 @@ input_empty x x1 x' last answer text old rest lost more rest' new size end n at 
     let bytes : more ≡ t.called = t.all ∙ ap (λ (a : EncoderResult). t.called ++ referred a) is ∙ append-nil t.called in
     subst (λ (l : List ℕ). Replaces x last CoderResult.InputEmpty text l x' rest' lost size) (sym (new_is ∙ ap (λ l. old ++ l) bytes))
     (ended x x' last CoderResult.InputEmpty text old x1.set rest lost t.called rest' law.prefix size end at enough going
-    call.same law.split law.reads (put_before (coding_in x) last InputEmpty x1.set rest t.called x'.set rest' law.prefix call.law (call.law.leaves.0 ∙ sym call.law.leaves.1) law.split)
-    call.bytes law.sets call.moves call.ends (λ h. absurd (cc)) (omega (arith, t.fits, left, length-append old t.called)))
+    call.same law.split law.reads (put_before (coding_in x) last InputEmpty x1.set rest t.called x'.set rest' law.prefix call.codec.law (call.codec.law.leaves.0 ∙ sym call.codec.law.leaves.1) law.split)
+    call.bytes law.sets call.moves call.codec.ends (λ h. absurd (cc)) (omega (arith, t.fits, left, length-append old t.called)))
 
 pub output_full : (x x1 x' : EncoderState) (last : Bool) (answer : EncoderResult) (text old rest : List ℕ) (lost : Bool) (more rest' new : List ℕ) (size end n : ℕ)
     → end ≡ size - kept_back x.encoding → kept_back x.encoding ≤ size → x1 ≡ record x { set = x1.set } → Going (coding_in x) last x.set text old x1.set rest lost end
@@ -417,8 +417,8 @@ output_full x x1 x' last answer text old rest lost more rest' new size end n at 
     let bytes : more ≡ t.called = t.all ∙ ap (λ (a : EncoderResult). t.called ++ referred a) is ∙ append-nil t.called in
     subst (λ (l : List ℕ). Replaces x last CoderResult.OutputFull text l x' rest' lost size) (sym (new_is ∙ ap (λ l. old ++ l) bytes))
     (ended x x' last CoderResult.OutputFull text old x1.set rest lost t.called rest' law.prefix size end at enough going
-    call.same law.split law.reads (put_before (coding_in x) last OutputFull x1.set rest t.called x'.set rest' law.prefix call.law call.law.leaves.0 law.split)
-    call.bytes law.sets call.moves call.ends.1 (λ h. omega (arith, call.ends.0, length-append old t.called)) (omega (arith, t.fits, left, length-append old t.called)))
+    call.same law.split law.reads (put_before (coding_in x) last OutputFull x1.set rest t.called x'.set rest' law.prefix call.codec.law call.codec.law.leaves.0 law.split)
+    call.bytes law.sets call.moves call.codec.ends.1 (λ h. omega (arith, call.codec.ends.0, length-append old t.called)) (omega (arith, t.fits, left, length-append old t.called)))
 
 -- of a turn that writes a reference
 pub reference_reached : (x x1 x' : EncoderState) (last : Bool) (answer : EncoderResult) (u : ℕ) (outcome : CoderResult) (text old rest : List ℕ) (lost : Bool) (more rest' new : List ℕ) (size end n : ℕ)
@@ -430,7 +430,7 @@ reference_reached x x1 x' last answer u outcome text old rest lost more rest' ne
     let law = told_items (record x { set = x1.set }) last (Unmappable u) rest t.called x' rest' (n - length t.called) call in
     let bytes : new ≡ old ++ (t.called ++ reference Decimal u) = new_is ∙ ap (λ l. old ++ l) (t.all ∙ ap (λ (a : EncoderResult). t.called ++ referred a) is) in
     subst (λ (l : List ℕ). Replaces x last outcome text l x' rest' true size) (sym bytes)
-    (reached x x' last outcome text old x1.set rest lost t.called u rest' size end at enough going call.same call.law law call.moves ends (omega (arith, reach, ap length bytes)) (omega (arith, t.fits, left, length-append old t.called)))
+    (reached x x' last outcome text old x1.set rest lost t.called u rest' size end at enough going call.same call.codec.law law call.moves ends (omega (arith, reach, ap length bytes)) (omega (arith, t.fits, left, length-append old t.called)))
 
 pub turn_on : (x x1 x' : EncoderState) (last : Bool) (answer : EncoderResult) (u : ℕ) (text old rest : List ℕ) (lost : Bool) (more rest' new : List ℕ) (end n : ℕ)
     → x1 ≡ record x { set = x1.set } → Going (coding_in x) last x.set text old x1.set rest lost end
@@ -441,7 +441,7 @@ turn_on x x1 x' last answer u text old rest lost more rest' new end n same going
     let law = told_items (record x { set = x1.set }) last (Unmappable u) rest t.called x' rest' (n - length t.called) call in
     let bytes : new ≡ old ++ (t.called ++ reference Decimal u) = new_is ∙ ap (λ l. old ++ l) (t.all ∙ ap (λ (a : EncoderResult). t.called ++ referred a) is) in
     subst (λ (l : List ℕ). Going (coding_in x) last x.set text l x'.set rest' true end) (sym bytes)
-    (going_on (coding_in x) last x.set text old x1.set rest lost end t.called u x'.set rest' going call.law law call.moves (omega (arith, short, ap length bytes)))
+    (going_on (coding_in x) last x.set text old x1.set rest lost end t.called u x'.set rest' going call.codec.law law call.moves (omega (arith, short, ap length bytes)))
 
 -- the encoder afterwards
 pub still_same : (x x1 x' : EncoderState) (last : Bool) (answer : EncoderResult) (text more : List ℕ) (rest : List ℕ) (n : ℕ) → x1 ≡ record x { set = x1.set } → Turned x1 last answer text more x' rest n

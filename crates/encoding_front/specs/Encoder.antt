@@ -1,17 +1,16 @@
 -- What an encoder is to its callers, and what its calls do (the Encoding Standard, sections 4.1 and 6).
-use Rattle.std.specs.Prelude.{◌≡◌, ℕ, ◌+◌, ◌-◌, ◌<◌, ◌≤◌, Bool, true, false, List, [], ◌∷◌, ◌++◌, length, drop, IsTrue, ◌↔◌, ◌⊎◌, ◌≢◌, Option}
+use Rattle.std.specs.Prelude.{◌≡◌, ℕ, ◌+◌, ◌-◌, ◌<◌, ◌≤◌, Bool, true, false, List, [], ◌∷◌, ◌++◌, length, IsTrue, ◌↔◌, ◌⊎◌, ◌≢◌, Option}
 use Rattle.std.specs.Bool.{MatchBool}
 use Rattle.std.specs.Str.{IsCharBoundary}
 use Rattle.encoding_mem.specs.declared.reference.Reference.TheVariants.{Decimal}
 use Rattle.encoding_mem.specs.Coding.{Coding, IsMapped, last_set, lost_count, open_from, reference, spelled, whole_from}
-use Rattle.encoding_mem.specs.Encoding.{EncodeEndsWith, Continues, Encodes, Writes}
+use Rattle.encoding_mem.specs.Encoding.{Continues, Writes}
 use Rattle.encoding_mem.specs.DecodedLength.{checked, bound_at}
-use Rattle.encoding_mem.specs.EncoderRule.{Moves, Tight}
+use Rattle.encoding_mem.specs.EncoderRule.{EncoderCall, EncoderParts, Moves}
 use Rattle.encoding_mem.specs.EncodedLength.{bound_for}
 use Rattle.encoding_mem.specs.declared.encoder_result.EncoderResult.{EncoderResult}
 use Rattle.encoding_mem.specs.declared.form.EscapeState.{EscapeState}
 use Rattle.encoding_mem.specs.declared.form.EscapeState.TheVariants.{Ascii}
-use Rattle.encoding_mem.specs.declared.room.EncodedLength.{EncodedLength}
 use Rattle.encoding_tables.specs.IndexLists.{IndexLists}
 use Rattle.encoding_front.specs.EncodingTable.{codec_kind_of}
 use Rattle.encoding_front.specs.Encodings.{coding_of, need_of, output_encoding_of, encoded_length_of}
@@ -32,31 +31,22 @@ coding_in x = coding_of x.tables x.encoding
 abbrev pub new_state : IndexLists → Encoding → EncoderState
 new_state t e = record { tables = t; encoding = output_encoding_of e; set = Ascii }
 
--- what an encoder of this encoding does is what its parts do
-pub record IsEncoderOf (t : IndexLists) (e : Encoding) (coding : Coding) (need : ℕ) (limits : EncodedLength) : Type 0 where
-  pub codes : coding ≡ coding_of t e
-  pub needs : need ≡ need_of e
-  pub limited : limits ≡ encoded_length_of e
+-- what its codec is
+abbrev pub parts_in : EncoderState → EncoderParts
+parts_in x = record { need = need_of x.encoding; coding = coding_in x; set = x.set; limits = encoded_length_of x.encoding }
 
 -- A call without replacement on a text, of an encoder that was x and is x': room is what is free behind what is
 -- written.
 pub record Encoded (x : EncoderState) (last : Bool) (answer : EncoderResult) (text written : List ℕ) (x' : EncoderState) (rest : List ℕ) (room : ℕ) : Type 0 where
   pub same : x' ≡ record x { set = x'.set }
-  pub law : Encodes (coding_in x) last answer x.set text written x'.set rest
+  pub codec : EncoderCall (parts_in x) (parts_in x') last answer text written rest room
   pub bytes : Writes Decimal (coding_in x) last answer x.set text written x'.set rest
-  pub ends : EncodeEndsWith (need_of x.encoding) last answer x'.set rest room
-  pub tight : Tight (coding_in x) answer x'.set rest room
   pub moves : Moves (coding_in x) x.set x'.set
 
 -- so much of a text was read, which ends between characters
 pub record ReadsText (text : List ℕ) (read : ℕ) : Type 0 where
   pub within : read ≤ length text
   pub boundary : IsCharBoundary text read
-
--- so many bytes were written, and those behind them stay
-pub record WritesBytes (old new : List ℕ) (written : ℕ) : Type 0 where
-  pub room : written ≤ length new
-  pub behind : drop written new ≡ drop written old
 
 -- The bytes that are kept back for a reference, of which the longest is `&#1114111;`: none where each character has
 -- bytes.

@@ -3,6 +3,7 @@
 
 ghost use Rattle.std.specs.Prelude.{◌≡◌, ◌≢◌, ℕ, ◌<◌, ◌≤◌, ◌+◌, ◌-◌, ◌++◌, Bool, true, false, IsTrue, List, [], Some, length, take, drop, encode_utf8_all, refl, string_bytes, string_capacity, string_len, vec_capacity, vec_len};
 ghost use Rattle.std.specs.Str.{IsUtf8};
+ghost use Rattle.encoding_mem.specs.Decoding.{Suffices};
 ghost use Rattle.encoding_mem.specs.TextDestination.{Overwrites};
 ghost use Rattle.encoding_mem.specs.Writing.{Adds, encode_utf16_all};
 ghost use Rattle.encoding_mem.specs.declared.room.OutputUnit.TheVariants.{Units, Bytes, Replaced};

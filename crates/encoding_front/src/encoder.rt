@@ -4,11 +4,11 @@ ghost use Rattle.std.specs.Prelude.{◌≡◌, ◌≢◌, ◌↔◌, ℕ, ◌+�
 ghost use Rattle.std.specs.Str.{chars};
 ghost use Rattle.std.specs.Char.Utf16.{utf16_lossy_chars};
 ghost use Rattle.encoding_mem.specs.Conversions.{IsUnitBoundary};
-ghost use Rattle.encoding_mem.specs.EncoderRule.{left};
+ghost use Rattle.encoding_mem.specs.EncoderRule.{WritesBytes, left};
 ghost use Rattle.encoding_mem.specs.declared.form.EscapeState.TheVariants.{Ascii};
-ghost use Rattle.encoding_front.specs.Encoder.{Encoded, EncoderState, IsEncoderOf, ReadsText, Replaces, WritesBytes, coding_in, kept_back, new_state, queried_room, queried_with_kept, room_for, room_with_kept};
+ghost use Rattle.encoding_front.specs.Encoder.{Encoded, EncoderState, ReadsText, Replaces, kept_back, new_state, parts_in, queried_room, queried_with_kept, room_for, room_with_kept};
 ghost use Rattle.encoding_front.specs.laws.Encoder.{coding_laws};
-ghost use Rattle.encoding_front.specs.Encodings.{IsReady, coding_of, need_of, output_encoding_of, encoded_length_of};
+ghost use Rattle.encoding_front.specs.Encodings.{IsReady, coding_of, output_encoding_of};
 
 use crate::coder_result::CoderResult;
 use crate::encoding::Encoding;
@@ -55,13 +55,15 @@ impl<'t> Model for Encoder<'t> {
     ghost view = { λ s. record {
       tables = s.tables.now;
       encoding = s.encoding;
-      set = ⟦<VariantEncoder<'static> as RawEncoder>⟧.set s.variant;
+      set = (⟦<VariantEncoder<'static> as RawEncoder>⟧.parts s.variant).set;
     } };
 
-    ghost invariant = { λ s. IsEncoderOf s.tables.now s.encoding
-        (⟦<VariantEncoder<'static> as RawEncoder>⟧.coding s.variant)
-        (⟦<VariantEncoder<'static> as RawEncoder>⟧.need s.variant)
-        (⟦<VariantEncoder<'static> as RawEncoder>⟧.limits s.variant) };
+    ghost invariant = { λ s. ⟦<VariantEncoder<'static> as RawEncoder>⟧.parts s.variant
+        ≡ parts_in (record {
+          tables = s.tables.now;
+          encoding = s.encoding;
+          set = (⟦<VariantEncoder<'static> as RawEncoder>⟧.parts s.variant).set;
+        }) };
 }
 
 impl Encoding {
@@ -73,7 +75,7 @@ impl Encoding {
     pub fn new_encoder(self, tables: &Tables) -> Encoder<'_>
         requires { IsReady tables.now (output_encoding_of self) }
         ensures state { result ≡ new_state tables.now self }
-        ensures coding { ⟦<Encoder<'static> as RawEncoder>⟧.coding result
+        ensures coding { (⟦<Encoder<'static> as RawEncoder>⟧.parts result).coding
             ≡ coding_of tables.now self }
     {
         let encoding = self.output_encoding();
@@ -160,9 +162,8 @@ impl<'t> Encoder<'t> {
         dst: &mut [u8],
         last: bool,
     ) -> (EncoderResult, usize)
-        ensures room { result.1 ≤ length dst.new }
-        ensures behind { drop result.1 dst.new ≡ drop result.1 dst.old }
         ensures source { S.all source.new ≡ S.all source.old }
+        ensures wrote { WritesBytes dst.old dst.new result.1 }
         ensures call { Encoded self.old last result.0
             (left S.text (S.all source.old) (S.offset source.old)) (take result.1 dst.new)
             self.new (left S.text (S.all source.new) (S.offset source.new))
@@ -352,12 +353,7 @@ impl<'t> Encoder<'t> {
 }
 
 impl<'t> SourceEncoder for Encoder<'t> {
-    ghost parts = { λ x. record {
-      need = need_of x.encoding;
-      coding = coding_in x;
-      set = x.set;
-      limits = encoded_length_of x.encoding;
-    } };
+    ghost parts = { parts_in };
 
     ghost laws = { λ x. coding_laws x.tables x.encoding };
 

@@ -1,7 +1,7 @@
 //! Encoding with references for characters without bytes, once for both kinds of source.
 
 ghost use Rattle.std.specs.Prelude.{◌≡◌, ◌≢◌, false, ◌+◌, ◌-◌, ◌≤◌, length, take, drop};
-ghost use Rattle.encoding_mem.specs.EncoderRule.{left};
+ghost use Rattle.encoding_mem.specs.EncoderRule.{WritesBytes, left};
 ghost use Rattle.encoding_front.specs.Encoder.{ReplacingEndsWith, Replaces, Turned, kept_back, room_for, room_with_kept};
 
 use crate::coder_result::CoderResult;
@@ -23,8 +23,7 @@ fn encode_turn<S: Source>(
 ) -> (EncoderResult, usize)
     requires { end + kept_back encoder.old.encoding ≡ length dst.old }
     ensures source { S.all source.new ≡ S.all source.old }
-    ensures room { result.1 ≤ length dst.new }
-    ensures behind { drop result.1 dst.new ≡ drop result.1 dst.old }
+    ensures wrote { WritesBytes dst.old dst.new result.1 }
     ensures enough { room_for encoder.old.encoding S.is_units
         (length (S.all source.old) - S.offset source.old) ≤ end
         → result.0 ≢ EncoderResult.OutputFull }
@@ -64,8 +63,7 @@ pub(crate) fn encode_replacing<S: Source>(
     last: bool,
 ) -> (CoderResult, usize, bool)
     ensures source { S.all source.new ≡ S.all source.old }
-    ensures room { result.1 ≤ length dst.new }
-    ensures behind { drop result.1 dst.new ≡ drop result.1 dst.old }
+    ensures wrote { WritesBytes dst.old dst.new result.1 }
     ensures call { Replaces encoder.old last result.0
         (left S.text (S.all source.old) (S.offset source.old)) (take result.1 dst.new)
         encoder.new (left S.text (S.all source.new) (S.offset source.new))

@@ -1,7 +1,7 @@
 //! The decoder of any encoding, without mark handling: one of the decoders of all codecs.
 
-ghost use Rattle.std.specs.Prelude.{◌≡◌, ◌+◌, ◌-◌, ◌<◌, ◌≤◌, drop, length};
-ghost use Rattle.encoding_mem.specs.Decoding.{EndsWith, StateLaw, Suffices};
+ghost use Rattle.std.specs.Prelude.{◌≡◌, ◌+◌, ◌<◌, ◌≤◌, length};
+ghost use Rattle.encoding_mem.specs.Decoding.{StateCall};
 ghost use Rattle.encoding_front.specs.BomDecoderState.{held_state};
 ghost use Rattle.encoding_front.specs.Encodings.{IsReady, pieces_of, decoded_length_of};
 ghost use Rattle.encoding_front.specs.Latin1Prefix.{TellsLatin1, latin1_rule};
@@ -120,14 +120,9 @@ impl<'t> VariantDecoder<'t> {
 
     // The call `decode_into`. The rule stays as it is.
     fn decode_on<S: Sink>(&mut self, src: &[u8], sink: &mut S, last: bool) -> (DecoderResult, usize)
-        ensures law { StateLaw (state_of self.old) (state_of self.new) src.now last result.1
-            (λ text. S.writes sink.old text sink.new) result.0 }
-        ensures ends { EndsWith (state_of self.new) (drop result.1 src.now) last
-            (S.free sink.new) S.room (S.cost 0xFFFD) result.0 }
-        ensures enough { Suffices (state_of self.old).needs (state_of self.new).needs S.is_units
-            last (length src.now) (length src.now - result.1)
-            (S.free sink.old) (S.free sink.new) result.0 }
-        ensures limits { (state_of self.new).room ≡ (state_of self.old).room }
+        ensures call { StateCall (state_of self.old) (state_of self.new) src.now last result.1
+            (λ text. S.writes sink.old text sink.new) S.is_units (S.free sink.old) (S.free sink.new)
+            S.room (S.cost 0xFFFD) result.0 }
         ensures rule { rule_of self.new ≡ rule_of self.old }
     {
         dispatch!(self, decoder => decoder.decode_into(src, sink, last))
@@ -142,15 +137,10 @@ impl<'t> VariantDecoder<'t> {
         last: bool,
     ) -> (DecoderResult, usize)
         requires { 0 < length held.old → (state_of self.old).pending + length held.old ≤ 2 }
-        ensures law { StateLaw (held_state (state_of self.old) held.old)
+        ensures call { StateCall (held_state (state_of self.old) held.old)
             (held_state (state_of self.new) held.new) src.now last result.1
-            (λ text. S.writes sink.old text sink.new) result.0 }
-        ensures ends { EndsWith (held_state (state_of self.new) held.new) (drop result.1 src.now)
-            last (S.free sink.new) S.room (S.cost 0xFFFD) result.0 }
-        ensures enough { Suffices (held_state (state_of self.old) held.old).needs
-            (held_state (state_of self.new) held.new).needs S.is_units last (length src.now)
-            (length src.now - result.1) (S.free sink.old) (S.free sink.new) result.0 }
-        ensures limits { (state_of self.new).room ≡ (state_of self.old).room }
+            (λ text. S.writes sink.old text sink.new) S.is_units (S.free sink.old) (S.free sink.new)
+            S.room (S.cost 0xFFFD) result.0 }
         ensures rule { rule_of self.new ≡ rule_of self.old }
         ensures few { 0 < length held.new → (state_of self.new).pending + length held.new ≤ 2 }
     {

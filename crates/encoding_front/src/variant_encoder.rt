@@ -1,7 +1,6 @@
 //! The encoder of any output encoding: one of the encoders of all codecs.
 
-ghost use Rattle.std.specs.Prelude.{◌≡◌};
-ghost use Rattle.encoding_mem.specs.declared.form.EscapeState.TheVariants.{Ascii};
+ghost use Rattle.encoding_mem.specs.EncoderRule.{IsFreshEncoder};
 ghost use Rattle.encoding_mem.specs.laws.Utf8Coding.{utf8_coding_laws};
 ghost use Rattle.encoding_tables.specs.laws.SingleByte.{single_byte_laws};
 ghost use Rattle.encoding_tables.specs.laws.UserDefined.{user_defined_laws};
@@ -57,12 +56,8 @@ impl<'t> VariantEncoder<'t> {
     /// `Encoding::is_ready` of `output_encoding`.
     pub fn new(encoding: Encoding, tables: &'t Tables) -> Self
         requires { IsReady tables.now (output_encoding_of encoding) }
-        ensures coding { ⟦<VariantEncoder<'t> as RawEncoder>⟧.coding result
-            ≡ coding_of tables.now encoding }
-        ensures set { ⟦<VariantEncoder<'t> as RawEncoder>⟧.set result ≡ Ascii }
-        ensures need { ⟦<VariantEncoder<'t> as RawEncoder>⟧.need result ≡ need_of encoding }
-        ensures limits { ⟦<VariantEncoder<'t> as RawEncoder>⟧.limits result
-            ≡ encoded_length_of encoding }
+        ensures { IsFreshEncoder (⟦<VariantEncoder<'t> as RawEncoder>⟧.parts result)
+            (need_of encoding) (coding_of tables.now encoding) (encoded_length_of encoding) }
     {
         match encoding.output_encoding().codec_kind() {
             CodecKind::SingleByte(kind) => {

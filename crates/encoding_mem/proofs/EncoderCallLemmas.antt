@@ -8,7 +8,7 @@ use Rattle.encoding_mem.specs.Coding.{Coding, IsCoding, last_set, bytes, bytes_f
 use Rattle.encoding_mem.specs.laws.Encoding.{all_mapped-append, bytes_from-append, last_set-append}
 use Rattle.encoding_mem.specs.Encoding.{EncodeEndsWith, Encodes}
 use Rattle.std.specs.Str.{IsAscii, IsCharBoundary, encode_utf8_all}
-use Rattle.encoding_mem.specs.EncoderRule.{CopiesAscii, CopiesUtf8, EncoderCall, EncoderParts, IsCopied, IsRun, Tight}
+use Rattle.encoding_mem.specs.EncoderRule.{CopiesAscii, CopiesUtf8, EncoderCall, EncoderParts, IsCopied, IsRun, Tight, WritesBytes}
 use Rattle.encoding_mem.proofs.DestinationLemmas.{drop_into, length_into, take_into}
 use Rattle.encoding_mem.specs.declared.form.Form.TheVariants.{Mapped, Unmapped}
 use Rattle.encoding_mem.specs.declared.encoder_result.EncoderResult.{EncoderResult as Outcome}
@@ -166,23 +166,27 @@ copied_first e last outcome s t w rest w2 s' rest' k plain r p =
 pub behind_put : (old mid new : List ℕ) (a n b : ℕ) → b ≡ a + n → drop a mid ≡ drop a old → drop b new ≡ drop b mid → drop b new ≡ drop b old
 behind_put old mid new a n b end before now = now ∙ rw (end, ← drop-drop, before, drop-drop) refl
 
--- A whole call behind such text, into what is left of the room.
-pub behind_copy : (x x' : EncoderParts) (last : Bool) (outcome : Outcome) (t middle rest after old mid ys : List ℕ) (a n : ℕ) → IsCoding x.need x.coding → CopiesUtf8 x.coding x.set
-    → a ≤ length mid → IsCopied t (take a mid) middle → after ≡ rest → drop a mid ≡ drop a old → length ys ≡ length mid - a
-    → EncoderCall x x' last outcome middle after (take (length mid - a) (drop a mid)) ys n
-    → EncoderCall x x' last outcome t rest old (put_mid a (length mid - a) mid ys) (a + n)
-behind_copy x x' last outcome t middle rest after old mid ys a n k plain fits copied same_rest before left_over p =
+-- A whole call after such text, into what is left of the room.
+pub after_copy : (x x' : EncoderParts) (last : Bool) (outcome : Outcome) (t middle rest after mid ys : List ℕ) (a n : ℕ) → IsCoding x.need x.coding → CopiesUtf8 x.coding x.set
+    → a ≤ length mid → n ≤ length ys → length ys ≡ length mid - a → IsCopied t (take a mid) middle → after ≡ rest
+    → EncoderCall x x' last outcome middle (take n ys) after (length ys - n)
+    → EncoderCall x x' last outcome t (take (a + n) (put_mid a (length mid - a) mid ys)) rest (length (put_mid a (length mid - a) mid ys) - (a + n))
+after_copy x x' last outcome t middle rest after mid ys a n k plain fits room left_over copied same p =
     let now = put_mid a (length mid - a) mid ys in
-    let size : length now ≡ length mid = length_put a (length mid - a) mid ys fits refl left_over in
-    let free : length ys - n ≡ length now - (a + n) = omega (arith, size, left_over) in
+    let free : length ys - n ≡ length now - (a + n) = omega (arith, length_put a (length mid - a) mid ys fits refl left_over, left_over) in
     record {
       same = p.same;
-      room = length_into a (length mid - a) n mid ys fits p.room;
-      behind = behind_put old mid now a n (a + n) refl before (drop_into a (length mid - a) n mid ys fits refl p.room p.behind);
-      law = rw (take_into a (length mid - a) n mid ys fits p.room) (copied_first x.coding last outcome x.set t (take a mid) middle (take n ys) x'.set rest k plain copied (rw same_rest at p.law));
-      ends = subst (λ (room : ℕ). EncodeEndsWith x.need last outcome x'.set rest room) free (rw same_rest at p.ends);
-      tight = subst (λ (room : ℕ). Tight x.coding outcome x'.set rest room) free (rw same_rest at p.tight);
+      law = rw (take_into a (length mid - a) n mid ys fits room) (copied_first x.coding last outcome x.set t (take a mid) middle (take n ys) x'.set rest k plain copied (rw same at p.law));
+      ends = subst (λ (free : ℕ). EncodeEndsWith x.need last outcome x'.set rest free) free (rw same at p.ends);
+      tight = subst (λ (free : ℕ). Tight x.coding outcome x'.set rest free) free (rw same at p.tight);
     }
+
+pub wrote_after : (old mid ys : List ℕ) (a n : ℕ) → a ≤ length mid → drop a mid ≡ drop a old
+    → WritesBytes (take (length mid - a) (drop a mid)) ys n → WritesBytes old (put_mid a (length mid - a) mid ys) (a + n)
+wrote_after old mid ys a n fits before w = record {
+  room = length_into a (length mid - a) n mid ys fits w.room;
+  behind = behind_put old mid (put_mid a (length mid - a) mid ys) a n (a + n) refl before (drop_into a (length mid - a) n mid ys fits refl w.room w.behind);
+}
 
 cost_zero : (t : Bool) → cost_in t 0 ≡ 1
 cost_zero true = refl

@@ -1,5 +1,5 @@
 -- What a call of the encoding driver leaves, beside the law of a call.
-use Rattle.std.specs.Prelude.{◌≡◌, ℕ, ◌-◌, ◌<◌, ◌≤◌, Bool, List, [], ◌∷◌, ◌++◌, length, take, drop, ◌⊎◌}
+use Rattle.std.specs.Prelude.{◌≡◌, ℕ, ◌<◌, ◌≤◌, Bool, List, [], ◌∷◌, ◌++◌, length, drop, ◌⊎◌}
 use Rattle.std.specs.Char.{encode_utf8}
 use Rattle.std.specs.Str.{IsAscii, encode_utf8_all}
 use Rattle.encoding_mem.specs.Coding.{Coding, bytes}
@@ -62,12 +62,15 @@ Tight e (Unmappable c) s rest room = Unit {0}
 Tight e OutputFull s [] room = room < length (e.escape s Ascii)
 Tight e OutputFull s (c ∷ rest) room = (room < length (e.escape s (e.set s c))) ⊎ ((e.set s c ≡ s) × (room < length (bytes (e.form c))))
 
--- One call on a text, of which the rest is left: what the encoder was and is, how the call ended, the room as it was and
--- is, and how many bytes of it are written. Nothing behind them changes.
-pub record EncoderCall (before after : EncoderParts) (last : Bool) (outcome : EncoderResult) (text rest dst dst' : List ℕ) (written : ℕ) : Type 0 where
+-- So many bytes were written at the start of a buffer, and those after them stay.
+pub record WritesBytes (old new : List ℕ) (written : ℕ) : Type 0 where
+  pub room : written ≤ length new
+  pub behind : drop written new ≡ drop written old
+
+-- One call on a text, of which the rest is left: what the encoder was and is, how the call ended, what was written, and
+-- the room that is free after that.
+pub record EncoderCall (before after : EncoderParts) (last : Bool) (outcome : EncoderResult) (text written rest : List ℕ) (room : ℕ) : Type 0 where
   pub same : after ≡ record before { set = after.set }
-  pub room : written ≤ length dst'
-  pub behind : drop written dst' ≡ drop written dst
-  pub law : Encodes before.coding last outcome before.set text (take written dst') after.set rest
-  pub ends : EncodeEndsWith before.need last outcome after.set rest (length dst' - written)
-  pub tight : Tight before.coding outcome after.set rest (length dst' - written)
+  pub law : Encodes before.coding last outcome before.set text written after.set rest
+  pub ends : EncodeEndsWith before.need last outcome after.set rest room
+  pub tight : Tight before.coding outcome after.set rest room

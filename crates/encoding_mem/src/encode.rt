@@ -5,7 +5,7 @@ ghost use Rattle.encoding_mem.specs.Coding.{IsCoding};
 ghost use Rattle.encoding_mem.specs.DecodedLength.{bound_at};
 ghost use Rattle.encoding_mem.specs.EncodedLength.{IsRoomFor, bound_for};
 ghost use Rattle.encoding_mem.specs.declared.room.EncodedLength.{EncodedLength};
-ghost use Rattle.encoding_mem.specs.EncoderRule.{CopiesAscii, CopiesUtf8, EncoderCall, EncoderParts, IsRun, Moves, left};
+ghost use Rattle.encoding_mem.specs.EncoderRule.{CopiesAscii, CopiesUtf8, EncoderCall, EncoderParts, IsRun, Moves, WritesBytes, left};
 ghost use Rattle.encoding_mem.specs.Stateless.{stateless};
 ghost use Rattle.encoding_mem.specs.declared.form.Form.{Form};
 ghost use Rattle.encoding_mem.specs.declared.form.Form.TheVariants.{Mapped};
@@ -203,10 +203,11 @@ fn encode_each<T: EncoderRule, S: Source>(
     last: bool,
 ) -> (EncoderResult, usize)
     ensures source { S.all source.new ≡ S.all source.old }
+    ensures wrote { WritesBytes dst.old dst.new result.1 }
     ensures call { EncoderCall (record (T.parts target.now) { set = set.old })
         (record (T.parts target.now) { set = set.new }) last result.0
-        (left S.text (S.all source.old) (S.offset source.old))
-        (left S.text (S.all source.old) (S.offset source.new)) dst.old dst.new result.1 }
+        (left S.text (S.all source.old) (S.offset source.old)) (take result.1 dst.new)
+        (left S.text (S.all source.old) (S.offset source.new)) (length dst.new - result.1) }
     ensures enough { bound_at (bound_for (T.parts target.now).limits S.is_units)
         (length (S.all source.old) - S.offset source.old) ≤ length dst.old
         → result.0 ≢ EncoderResult.OutputFull }
@@ -268,10 +269,11 @@ pub fn encode<T: EncoderRule, S: Source>(
     last: bool,
 ) -> (EncoderResult, usize)
     ensures source { S.all source.new ≡ S.all source.old }
+    ensures wrote { WritesBytes dst.old dst.new result.1 }
     ensures call { EncoderCall (record (T.parts target.now) { set = set.old })
         (record (T.parts target.now) { set = set.new }) last result.0
-        (left S.text (S.all source.old) (S.offset source.old))
-        (left S.text (S.all source.old) (S.offset source.new)) dst.old dst.new result.1 }
+        (left S.text (S.all source.old) (S.offset source.old)) (take result.1 dst.new)
+        (left S.text (S.all source.old) (S.offset source.new)) (length dst.new - result.1) }
     ensures enough { bound_at (bound_for (T.parts target.now).limits S.is_units)
         (length (S.all source.old) - S.offset source.old) ≤ length dst.old
         → result.0 ≢ EncoderResult.OutputFull }

@@ -6,7 +6,7 @@ ghost use Rattle.std.specs.Char.Utf16.{utf16_lossy_chars};
 ghost use Rattle.encoding_mem.specs.Coding.{IsCoding};
 ghost use Rattle.encoding_mem.specs.Conversions.{IsUnitBoundary};
 ghost use Rattle.encoding_mem.specs.DecodedLength.{checked, bound_at};
-ghost use Rattle.encoding_mem.specs.EncoderRule.{EncoderCall, EncoderParts};
+ghost use Rattle.encoding_mem.specs.EncoderRule.{EncoderCall, EncoderParts, WritesBytes};
 ghost use Rattle.encoding_mem.specs.declared.form.EscapeState.TheVariants.{Ascii};
 
 use crate::encoder_result::EncoderResult;
@@ -36,8 +36,9 @@ pub trait RawEncoder {
     ) -> (EncoderResult, usize, usize)
         ensures read { result.1 ≤ length src.now }
         ensures boundary { IsCharBoundary src.now result.1 }
+        ensures wrote { WritesBytes dst.old dst.new result.2 }
         ensures call { EncoderCall (parts self.old) (parts self.new) last result.0 (chars src.now)
-            (chars (drop result.1 src.now)) dst.old dst.new result.2 }
+            (take result.2 dst.new) (chars (drop result.1 src.now)) (length dst.new - result.2) }
         ensures enough { bound_at (parts self.old).limits.bytes (length src.now) ≤ length dst.old
             → result.0 ≢ EncoderResult.OutputFull };
 
@@ -56,8 +57,9 @@ pub trait RawEncoder {
     ) -> (EncoderResult, usize, usize)
         ensures read { result.1 ≤ length src.now }
         ensures boundary { IsUnitBoundary src.now result.1 }
+        ensures wrote { WritesBytes dst.old dst.new result.2 }
         ensures call { EncoderCall (parts self.old) (parts self.new) last result.0 (utf16_lossy_chars src.now)
-            (utf16_lossy_chars (drop result.1 src.now)) dst.old dst.new result.2 }
+            (take result.2 dst.new) (utf16_lossy_chars (drop result.1 src.now)) (length dst.new - result.2) }
         ensures enough { bound_at (parts self.old).limits.units (length src.now) ≤ length dst.old
             → result.0 ≢ EncoderResult.OutputFull };
 

@@ -4,7 +4,7 @@ ghost use Rattle.std.specs.Prelude.{◌≡◌, ◌≢◌, ◌↔◌, ℕ, ◌-�
 ghost use Rattle.encoding_mem.specs.Coding.{IsCoding};
 ghost use Rattle.encoding_mem.specs.DecodedLength.{bound_at};
 ghost use Rattle.encoding_mem.specs.EncodedLength.{bound_for};
-ghost use Rattle.encoding_mem.specs.EncoderRule.{EncoderCall, EncoderParts, left};
+ghost use Rattle.encoding_mem.specs.EncoderRule.{EncoderCall, EncoderParts, WritesBytes, left};
 ghost use Rattle.encoding_mem.specs.declared.form.EscapeState.TheVariants.{Ascii};
 
 use crate::encode::{EncoderRule, encode};
@@ -30,9 +30,10 @@ pub trait SourceEncoder {
         last: bool,
     ) -> (EncoderResult, usize)
         ensures source { S.all source.new ≡ S.all source.old }
+        ensures wrote { WritesBytes dst.old dst.new result.1 }
         ensures call { EncoderCall (parts self.old) (parts self.new) last result.0
-            (left S.text (S.all source.old) (S.offset source.old))
-            (left S.text (S.all source.new) (S.offset source.new)) dst.old dst.new result.1 }
+            (left S.text (S.all source.old) (S.offset source.old)) (take result.1 dst.new)
+            (left S.text (S.all source.new) (S.offset source.new)) (length dst.new - result.1) }
         ensures enough { bound_at (bound_for (parts self.old).limits S.is_units)
             (length (S.all source.old) - S.offset source.old) ≤ length dst.old
             → result.0 ≢ EncoderResult.OutputFull };

@@ -24,13 +24,12 @@ fn new_sample() -> Sample {
 }
 
 impl EncoderRule for Sample {
-    ghost need = { λ _. 3 };
-
-    ghost coding = { λ _. sample_coding };
-
-    ghost set = { λ s. s.set };
-
-    ghost limits = { λ _. sample_room };
+    ghost parts = { λ s. record {
+      need = 3;
+      coding = sample_coding;
+      set = s.set;
+      limits = sample_room;
+    } };
 
     ghost laws = { λ _. sample_coding_laws };
 

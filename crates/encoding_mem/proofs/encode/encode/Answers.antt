@@ -1,21 +1,25 @@
 use Rattle.std.proofs.Common.{◌≡◌, ℕ, ◌≤◌, ◌-◌, length, drop, ◌∙◌, ap, arith}
 use Rattle.std.proofs.lemmas.List.{length-take, length-take-le, length-drop}
-use Rattle.encoding_mem.proofs.EncoderCallLemmas.{behind_copy, less_asked, utf8_costs}
+use Rattle.encoding_mem.proofs.EncoderCallLemmas.{after_copy, less_asked, wrote_after, utf8_costs}
 use Rattle.encoding_mem.specs.EncodedLength.{bound_for, encoded_length_utf8}
 use Rattle.encoding_mem.specs.EncoderRule.{left}
 use Rattle.encoding_mem.proofs.encode.encode.Goals as goal
 
+pub returns-clause-wrote : goal.returns-clause-wrote
+returns-clause-wrote g c =
+    let first = c.copy_text-copied in
+    wrote_after c.args.dst.now first.new.dst c.encode_each-result.new.dst first.result c.encode_each-result.result.1 first.ensures.fits first.ensures.behind c.encode_each-result.ensures.wrote
+
 pub returns-clause-call : goal.returns-clause-call
 returns-clause-call g c =
     let S = g.S.Source in
-    let first = c.copy_text-copied.ensures in
-    let size = c.copy_text-copied.result in
-    let room : ℕ = length c.copy_text-copied.new.dst - size in
-    let rest = ap (λ l. left S.text l (S.offset c.encode_each-result.new.source)) first.same in
-    let left_over : length c.encode_each-result.new.dst ≡ room =
-    c.encode_each-result.auto.dst ∙ length-take-le room (drop size c.copy_text-copied.new.dst) (omega (arith, length-drop size c.copy_text-copied.new.dst)) in
-    behind_copy _ _ c.args.last c.encode_each-result.result.0 _ _ _ _ _ _ _ size c.encode_each-result.result.1
-    (g.met.T.EncoderRule.laws c.args.target.now) (c.copies_utf8.ensures c.if-not-copies_utf8.false) first.fits first.text rest first.behind left_over c.encode_each-result.ensures.call
+    let first = c.copy_text-copied in
+    let each = c.encode_each-result in
+    let room : ℕ = length first.new.dst - first.result in
+    let rest = ap (λ l. left S.text l (S.offset each.new.source)) first.ensures.same in
+    let left_over : length each.new.dst ≡ room = each.auto.dst ∙ length-take-le room (drop first.result first.new.dst) (omega (arith, length-drop first.result first.new.dst)) in
+    after_copy _ _ c.args.last each.result.0 _ _ _ _ first.new.dst each.new.dst first.result each.result.1 (g.met.T.EncoderRule.laws c.args.target.now) (c.copies_utf8.ensures c.if-not-copies_utf8.false)
+    first.ensures.fits each.ensures.wrote.room left_over first.ensures.text rest each.ensures.call
 
 pub returns-clause-enough : goal.returns-clause-enough
 returns-clause-enough g c h full =

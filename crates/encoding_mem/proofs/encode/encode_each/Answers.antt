@@ -91,6 +91,11 @@ returns-then-dst-written-3-clause-enough g c h full =
     let room = fits_all l.factor l.extra (S.offset c.args.source.now) (S.offset c.loop-c.source) (length (S.all c.args.source.now)) c.loop-c.written (length c.as_slice-bytes-then-last.result.now) (length c.args.dst.now) i.after (omega (arith, all, g.met.S.Source.within c.loop-c.source)) h i.spent (omega (arith, escape_len, (g.met.T.EncoderRule.fits c.args.target.now S.is_units).last c.loop-c.set)) in
     omega (arith, room, c.if-dst-written-3.true, i.size)
 
+pub returns-then-dst-written-clause-wrote : goal.returns-then-dst-written-clause-wrote
+returns-then-dst-written-clause-wrote g c =
+    let i = c.loop-c.invariant in
+    record { room = i.room; behind = i.behind }
+
 pub returns-then-dst-written-clause-call : goal.returns-then-dst-written-clause-call
 returns-then-dst-written-clause-call g c =
     let i = c.loop-c.invariant in
@@ -99,8 +104,6 @@ returns-then-dst-written-clause-call g c =
     let at = sym (ap (λ l. left g.S.Source.text l (g.S.Source.offset c.loop-c.source)) i.source) ∙ c.in-Some.ensures.next in
     record {
       same = refl;
-      room = i.room;
-      behind = i.behind;
       law = full e c.args.last _ _ _ _ _ laws i.steps;
       ends = (
         escape_over _ e _ _ _ _ _ laws c.as_slice-bytes.ensures.value c.escape-escape.ensures c.if-dst-written.true,
@@ -108,6 +111,11 @@ returns-then-dst-written-clause-call g c =
       );
       tight = tight_escape e _ _ _ _ _ _ _ _ at c.as_slice-bytes.ensures.value c.escape-escape.ensures c.step-next.ensures.set c.if-dst-written.true;
     }
+
+pub returns-then-dst-written-2-clause-wrote : goal.returns-then-dst-written-2-clause-wrote
+returns-then-dst-written-2-clause-wrote g c =
+    let i = c.loop-c.invariant in
+    record { room = omega (arith, c.put-written.ensures.end, c.put-written.auto.dst); behind = behind_put _ _ _ _ _ _ c.put-written.ensures.end i.behind c.put-written.ensures.back }
 
 pub returns-then-dst-written-2-clause-call : goal.returns-then-dst-written-2-clause-call
 returns-then-dst-written-2-clause-call g c =
@@ -120,12 +128,15 @@ returns-then-dst-written-2-clause-call g c =
     let bytes = c.as_slice-bytes-in-Mapped.ensures.value in
     record {
       same = refl;
-      room = omega (arith, c.put-written.ensures.end, c.put-written.auto.dst);
-      behind = behind_put _ _ _ _ _ _ c.put-written.ensures.end i.behind c.put-written.ensures.back;
       law = rw c.step-next.ensures.set (escaped _ c.args.last _ _ _ _ _ _ _ _ i.steps at one);
       ends = (form_over _ e c.in-Some.c _ _ _ laws bytes form c.if-dst-written-2.true, inl (some_left _ _ _ at));
       tight = tight_form _ _ _ _ _ _ _ _ _ _ laws at c.step-next.ensures.set bytes form c.if-dst-written-2.true;
     }
+
+pub returns-in-Unmapped-clause-wrote : goal.returns-in-Unmapped-clause-wrote
+returns-in-Unmapped-clause-wrote g c =
+    let i = c.loop-c.invariant in
+    record { room = omega (arith, c.put-written.ensures.end, c.put-written.auto.dst); behind = behind_put _ _ _ _ _ _ c.put-written.ensures.end i.behind c.put-written.ensures.back }
 
 pub returns-in-Unmapped-clause-call : goal.returns-in-Unmapped-clause-call
 returns-in-Unmapped-clause-call g c =
@@ -137,12 +148,15 @@ returns-in-Unmapped-clause-call g c =
     let one = escape_is e _ _ _ _ _ _ _ c.put-written.ensures.prefix c.as_slice-bytes.ensures.value c.escape-escape.ensures c.step-next.ensures.set in
     record {
       same = refl;
-      room = omega (arith, c.put-written.ensures.end, c.put-written.auto.dst);
-      behind = behind_put _ _ _ _ _ _ c.put-written.ensures.end i.behind c.put-written.ensures.back;
       law = rw c.step-next.ensures.set (unmapped _ c.args.last _ _ _ _ _ _ _ _ _ _ _ i.steps at next one (sym c.step-next.ensures.form ∙ c.in-Unmapped.is));
       ends = tt;
       tight = tt;
     }
+
+pub returns-then-dst-written-3-clause-wrote : goal.returns-then-dst-written-3-clause-wrote
+returns-then-dst-written-3-clause-wrote g c =
+    let i = c.loop-c.invariant in
+    record { room = i.room; behind = i.behind }
 
 pub returns-then-dst-written-3-clause-call : goal.returns-then-dst-written-3-clause-call
 returns-then-dst-written-3-clause-call g c =
@@ -154,8 +168,6 @@ returns-then-dst-written-3-clause-call g c =
     let escape = c.escape-escape-then-last.ensures in
     record {
       same = refl;
-      room = i.room;
-      behind = i.behind;
       law = full e c.args.last _ _ _ _ _ laws i.steps;
       ends = (
         escape_over _ e _ _ _ _ _ laws bytes escape c.if-dst-written-3.true,
@@ -163,6 +175,11 @@ returns-then-dst-written-3-clause-call g c =
       );
       tight = tight_end e _ _ _ _ _ empty bytes escape c.if-dst-written-3.true;
     }
+
+pub returns-else-dst-written-3-clause-wrote : goal.returns-else-dst-written-3-clause-wrote
+returns-else-dst-written-3-clause-wrote g c =
+    let i = c.loop-c.invariant in
+    record { room = omega (arith, c.put-written-then-last.ensures.end, c.put-written-then-last.auto.dst); behind = behind_put _ _ _ _ _ _ c.put-written-then-last.ensures.end i.behind c.put-written-then-last.ensures.back }
 
 pub returns-else-dst-written-3-clause-call : goal.returns-else-dst-written-3-clause-call
 returns-else-dst-written-3-clause-call g c =
@@ -172,13 +189,16 @@ returns-else-dst-written-3-clause-call g c =
     let empty = sym (ap (λ l. left g.S.Source.text l (g.S.Source.offset c.loop-c.source)) i.source) ∙ c.in_default.ensures.next in
     record {
       same = refl;
-      room = omega (arith, c.put-written-then-last.ensures.end, c.put-written-then-last.auto.dst);
-      behind = behind_put _ _ _ _ _ _ c.put-written-then-last.ensures.end i.behind c.put-written-then-last.ensures.back;
       law = ended e c.args.last _ _ _ _ _ _ c.if-last.true i.steps empty
           (c.put-written-then-last.ensures.prefix ∙ ap (λ l. take c.loop-c.written c.loop-c.dst ++ l) (c.as_slice-bytes-then-last.ensures.value ∙ c.escape-escape-then-last.ensures));
       ends = (empty, λ _. refl);
       tight = tt;
     }
+
+pub returns-else-last-clause-wrote : goal.returns-else-last-clause-wrote
+returns-else-last-clause-wrote g c =
+    let i = c.loop-c.invariant in
+    record { room = i.room; behind = i.behind }
 
 pub returns-else-last-clause-call : goal.returns-else-last-clause-call
 returns-else-last-clause-call g c =
@@ -188,8 +208,6 @@ returns-else-last-clause-call g c =
     let empty = sym (ap (λ l. left g.S.Source.text l (g.S.Source.offset c.loop-c.source)) i.source) ∙ c.in_default.ensures.next in
     record {
       same = refl;
-      room = i.room;
-      behind = i.behind;
       law = finished e c.args.last _ _ _ _ _ laws c.if-last.false i.steps empty;
       ends = (empty, not_last c.args.last _ _ c.if-last.false);
       tight = tt;

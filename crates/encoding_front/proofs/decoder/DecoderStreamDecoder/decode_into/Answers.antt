@@ -23,8 +23,8 @@ returns-in-Some-clause-call g c =
     record {
       law = takes_settled was.state.pieces (decoder_view mid).state.pieces (λ x. (state_of mid.inner).pieces (mid.held ++ x)) (λ x. own.pieces (held.new.held ++ x)) (λ x. sought_pieces mid.sought own.pieces (held.new.held ++ x))
           held.result.0 c.args.src.now _ c.args.last _ _ (own.pending + length held.new.held) c.in-Some.taken held.result.1 (λ t. g.S.Sink.writes c.args.sink.now t held.new.sink)
-          (λ x. unmarked mid.sought (state_of mid.inner).pieces (mid.held ++ x) settled) (λ x. unmarked mid.sought own.pieces (held.new.held ++ x) settled) rest looked.1 held.ensures.law;
-      ends = ends_settled (held_state own held.new.held) (bom_decoder_state mid.sought own held.new.held (λ t. cc) (widest_by own.room (encoding_after mid.encoding mid.taken) (held.ensures.limits ∙ mid.room))) _ _ c.args.last _ _ _ held.result.0 (λ x. unmarked mid.sought own.pieces (held.new.held ++ x) settled) refl unread held.ensures.ends;
+          (λ x. unmarked mid.sought (state_of mid.inner).pieces (mid.held ++ x) settled) (λ x. unmarked mid.sought own.pieces (held.new.held ++ x) settled) rest looked.1 held.ensures.call.law;
+      ends = ends_settled (held_state own held.new.held) (bom_decoder_state mid.sought own held.new.held (λ t. cc) (widest_by own.room (encoding_after mid.encoding mid.taken) (held.ensures.call.limits ∙ mid.room))) _ _ c.args.last _ _ _ held.result.0 (λ x. unmarked mid.sought own.pieces (held.new.held ++ x) settled) refl unread held.ensures.call.ends;
       source = λ r e. c.in-Some.ensures.source r e ∙ ap (encoding_after mid.encoding) (untaken mid.sought mid.taken (mid.held ++ r) settled ∙ sym (untaken mid.sought mid.taken (held.new.held ++ (drop (c.in-Some.taken + held.result.1) c.args.src.now ++ r)) settled));
       finished = c.finishes-self.ensures;
     }
@@ -39,4 +39,4 @@ returns-in-Some-clause-enough g c =
     suffices_settled was.state.needs (decoder_view mid).state.needs (λ k n. (state_of mid.inner).needs k (length mid.held + n)) (λ k n. (state_of held.new.self).needs k (length held.new.held + n)) (sought_needs mid.sought (state_of held.new.self).needs held.new.held)
     g.S.Sink.is_units c.args.last (length c.args.src.now) _ c.in-Some.taken held.result.1 _ _ held.result.0
     (λ k m. needs_settled mid.sought (state_of mid.inner).needs mid.held looked.0 k m) (λ k m. needs_settled mid.sought (state_of held.new.self).needs held.new.held looked.0 k m)
-    looked.1.within (ap length rest ∙ length-drop c.in-Some.taken c.args.src.now) held.ensures.law.within looked.2 held.ensures.enough
+    looked.1.within (ap length rest ∙ length-drop c.in-Some.taken c.args.src.now) held.ensures.call.law.within looked.2 held.ensures.call.enough

@@ -3,5 +3,4 @@ use Rattle.encoding_front.proofs.encoder.Encoder.encode_source.Goals as goal
 
 pub returns-clause-call : goal.returns-clause-call
 returns-clause-call g c =
-    let e = c.encode_from.ensures in
-    rw (← c.self.view_is) (encoded _ _ _ _ _ _ _ c.self.invariant _ _ _ _ _ _ e.law e.ends e.tight)
+    rw (← c.self.view_is) (encoded _ _ _ _ c.self.invariant _ _ _ _ _ _ c.encode_from.ensures.call)

@@ -1,4 +1,4 @@
-use Rattle.std.proofs.Common.{◌≡◌, ◌<◌, ◌+◌, ◌∙◌, ap, arith, length, subst, sym, Some, None, get_or}
+use Rattle.std.proofs.Common.{◌≡◌, ◌<◌, ◌+◌, ◌∙◌, arith, length, subst, Some, None, get_or}
 use Rattle.encoding_tables.specs.PackedLists.{IsSecond}
 use Rattle.encoding_tables.specs.SortedRows.{AreRising, IsDirectory, IsTight, row_at}
 use Rattle.encoding_tables.proofs.SearchLemmas.{second_at_place, none_at_place}
