@@ -4,7 +4,7 @@ ghost use Rattle.std.specs.Prelude.{◌≡◌, ◌↔◌, ℕ, ◌++◌, ◌+◌
 ghost use Rattle.std.specs.Char.Utf16.{utf16_lossy_chars};
 ghost use Rattle.std.specs.Str.{all_scalars, chars};
 ghost use Rattle.encoding_mem.specs.Decoding.{StateLaw};
-ghost use Rattle.encoding_mem.specs.Encoding.{EncodeEndsWith, Encodes};
+ghost use Rattle.encoding_mem.specs.EncoderRule.{EncoderCall};
 ghost use Rattle.encoding_mem.specs.Writing.{Adds, encode_utf16_all};
 ghost use Rattle.encoding_front.specs.DecoderCall.{DecoderCall};
 ghost use Rattle.encoding_front.specs.Stream.{finishes};
@@ -227,12 +227,9 @@ pub fn encode_from_pivot<'p, E: RawEncoder>(
         ≡ length (pivot_chars text.entry) }
     ensures parts { IsWholeText text.entry → IsCutInto text.entry result.read result.rest }
     ensures room { result.written ≤ length out.new }
-    ensures target { E.coding encoder.new ≡ E.coding encoder.old }
-    ensures law { Encodes (E.coding encoder.old) last result.answer (E.set encoder.old)
-        (pivot_chars text.entry) (take result.written out.new) (E.set encoder.new)
-        (pivot_chars result.rest) }
-    ensures ends { EncodeEndsWith (E.need encoder.old) last result.answer (E.set encoder.new)
-        (pivot_chars result.rest) (length out.new - result.written) }
+    ensures call { EncoderCall (E.parts encoder.old) (E.parts encoder.new) last result.answer
+        (pivot_chars text.entry) (take result.written out.new) (pivot_chars result.rest)
+        (length out.new - result.written) }
     ensures calls { IsCounted 1 1 calls.old calls.new }
 {
     count_call(calls);

@@ -38,22 +38,23 @@ impl<D: StreamDecoder, E: RawEncoder> Engine<D, E> {
         check: &mut Pivot<'_>,
     ) -> Result<DecodeCall, Fault>
         requires ready { CanConvert
-            (engine_state D.view E.coding E.set writers.old.policy self.old) }
+            (engine_state D.view E.parts writers.old.policy self.old) }
         requires limit { self.old.target.counts.read + length chunk.now ≤ 2 ^ 48 }
         requires lent { AreLent pivot.old check.old output.old }
         requires writers { MayFail writers.old }
         ensures part { IfOk result (λ p. DecodesPart
             (written_by W.contents L.contents writers.old)
             (written_by W.contents L.contents writers.new)
-            (engine_state D.view E.coding E.set writers.old.policy self.old)
-            (engine_state D.view E.coding E.set writers.new.policy self.new)
+            (engine_state D.view E.parts writers.old.policy self.old)
+            (engine_state D.view E.parts writers.new.policy self.new)
             chunk.now last p.read (reads_all p.answer)) }
         ensures err { IfErr result (λ f. WritesPrefixFor
             (written_by W.contents L.contents writers.old)
             (written_by W.contents L.contents writers.new) writers.old.policy f last
-            (λ r. to_write (engine_state D.view E.coding E.set writers.old.policy self.old)
+            (λ r. to_write (engine_state D.view E.parts writers.old.policy self.old)
             (chunk.now ++ r))) }
-        ensures target { E.coding self.new.target.encoder ≡ E.coding self.old.target.encoder }
+        ensures target { (E.parts self.new.target.encoder).coding
+            ≡ (E.parts self.old.target.encoder).coding }
         ensures failures { CountsWriterFault writers.old writers.new result }
         ensures pivot { KeepsRoom pivot.old pivot.new }
         ensures check { KeepsRoom check.old check.new }
@@ -93,22 +94,23 @@ impl<D: StreamDecoder, E: RawEncoder> Engine<D, E> {
         check: &mut Pivot<'_>,
     ) -> Result<(), Fault>
         requires ready { CanConvert
-            (engine_state D.view E.coding E.set writers.old.policy self.old) }
+            (engine_state D.view E.parts writers.old.policy self.old) }
         requires limit { self.old.target.counts.read + length chunk.now ≤ 2 ^ 48 }
         requires lent { AreLent pivot.old check.old output.old }
         requires writers { MayFail writers.old }
         ensures chunk { OnOk result (DecodesChunk
             (written_by W.contents L.contents writers.old)
             (written_by W.contents L.contents writers.new)
-            (engine_state D.view E.coding E.set writers.old.policy self.old)
-            (engine_state D.view E.coding E.set writers.new.policy self.new)
+            (engine_state D.view E.parts writers.old.policy self.old)
+            (engine_state D.view E.parts writers.new.policy self.new)
             chunk.now (is_end chunk.now)) }
         ensures err { IfErr result (λ f. WritesPrefixFor
             (written_by W.contents L.contents writers.old)
             (written_by W.contents L.contents writers.new) writers.old.policy f (is_end chunk.now)
-            (λ r. to_write (engine_state D.view E.coding E.set writers.old.policy self.old)
+            (λ r. to_write (engine_state D.view E.parts writers.old.policy self.old)
             (chunk.now ++ r))) }
-        ensures target { E.coding self.new.target.encoder ≡ E.coding self.old.target.encoder }
+        ensures target { (E.parts self.new.target.encoder).coding
+            ≡ (E.parts self.old.target.encoder).coding }
         ensures failures { CountsWriterFault writers.old writers.new result }
         ensures pivot { KeepsRoom pivot.old pivot.new }
         ensures check { KeepsRoom check.old check.new }

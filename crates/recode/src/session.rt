@@ -48,8 +48,7 @@ pub struct Session<'t> {
     ghost small: { job.limit ≤ 2 ^ 48 },
     ghost ready: { phase ≡ Open → CanConvert (engine_state
         ⟦<Decoder<'static> as StreamDecoder>⟧.view
-        ⟦<VariantEncoder<'static> as RawEncoder>⟧.coding
-        ⟦<VariantEncoder<'static> as RawEncoder>⟧.set job.policy engine) },
+        ⟦<VariantEncoder<'static> as RawEncoder>⟧.parts job.policy engine) },
     ghost within: { phase ≡ Open → engine.target.counts.read ≤ job.limit },
 }
 
@@ -57,8 +56,7 @@ impl<'t> Viewed for Session<'t> {
     ghost view = { λ s. record {
       job = s.job;
       state = engine_state ⟦<Decoder<'t> as StreamDecoder>⟧.view
-          ⟦<VariantEncoder<'t> as RawEncoder>⟧.coding ⟦<VariantEncoder<'t> as RawEncoder>⟧.set
-          s.job.policy s.engine;
+          ⟦<VariantEncoder<'t> as RawEncoder>⟧.parts s.job.policy s.engine;
       phase = s.phase;
     } };
 }

@@ -99,7 +99,7 @@ impl<D: StreamDecoder, E: RawEncoder> Target<D, E> {
         check: &mut Pivot<'_>,
         last: bool,
     ) -> Result<EncodeCall<'p>, Fault>
-        requires ready { CanEncode (target_state D.view E.coding E.set writers.old.policy self.old)
+        requires ready { CanEncode (target_state D.view E.parts writers.old.policy self.old)
             (pivot_chars text) }
         requires text { IsWholeText text }
         requires lent { AreLentFor (verdict_view D.view self.old.verdict) text check.old
@@ -108,17 +108,17 @@ impl<D: StreamDecoder, E: RawEncoder> Target<D, E> {
         ensures part { IfOk result (λ p. EncodesPart
             (written_by W.contents L.contents writers.old)
             (written_by W.contents L.contents writers.new)
-            (target_state D.view E.coding E.set writers.old.policy self.old)
-            (target_state D.view E.coding E.set writers.new.policy self.new)
+            (target_state D.view E.parts writers.old.policy self.old)
+            (target_state D.view E.parts writers.new.policy self.new)
             last (pivot_chars text.entry) (pivot_chars p.rest) (writes_all p.answer)) }
         ensures rest { IfOk result (λ p. IsWholeText p.rest
             × (is_in_units p.rest ≡ is_in_units text.entry)) }
         ensures err { IfErr result (λ f. WritesPrefix
             (written_by W.contents L.contents writers.old)
             (written_by W.contents L.contents writers.new) writers.old.policy f
-            (text_items (target_state D.view E.coding E.set writers.old.policy self.old) last
+            (text_items (target_state D.view E.parts writers.old.policy self.old) last
             (pivot_chars text.entry))) }
-        ensures target { E.coding self.new.encoder ≡ E.coding self.old.encoder }
+        ensures target { (E.parts self.new.encoder).coding ≡ (E.parts self.old.encoder).coding }
         ensures failures { CountsWriterFault writers.old writers.new result }
         ensures check { KeepsRoom check.old check.new }
     {
@@ -156,7 +156,7 @@ impl<D: StreamDecoder, E: RawEncoder> Target<D, E> {
         check: &mut Pivot<'_>,
         last: bool,
     ) -> Result<(), Fault>
-        requires ready { CanEncode (target_state D.view E.coding E.set writers.old.policy self.old)
+        requires ready { CanEncode (target_state D.view E.parts writers.old.policy self.old)
             (pivot_chars text) }
         requires text { IsWholeText text }
         requires lent { AreLentFor (verdict_view D.view self.old.verdict) text check.old
@@ -165,15 +165,15 @@ impl<D: StreamDecoder, E: RawEncoder> Target<D, E> {
         ensures text { OnOk result (EncodesText
             (written_by W.contents L.contents writers.old)
             (written_by W.contents L.contents writers.new)
-            (target_state D.view E.coding E.set writers.old.policy self.old)
-            (target_state D.view E.coding E.set writers.new.policy self.new)
+            (target_state D.view E.parts writers.old.policy self.old)
+            (target_state D.view E.parts writers.new.policy self.new)
             last (pivot_chars text.entry)) }
         ensures err { IfErr result (λ f. WritesPrefix
             (written_by W.contents L.contents writers.old)
             (written_by W.contents L.contents writers.new) writers.old.policy f
-            (text_items (target_state D.view E.coding E.set writers.old.policy self.old) last
+            (text_items (target_state D.view E.parts writers.old.policy self.old) last
             (pivot_chars text.entry))) }
-        ensures target { E.coding self.new.encoder ≡ E.coding self.old.encoder }
+        ensures target { (E.parts self.new.encoder).coding ≡ (E.parts self.old.encoder).coding }
         ensures failures { CountsWriterFault writers.old writers.new result }
         ensures check { KeepsRoom check.old check.new }
     {
@@ -196,7 +196,7 @@ impl<D: StreamDecoder, E: RawEncoder> Target<D, E> {
         output: &mut [u8],
         check: &mut Pivot<'_>,
     ) -> Result<(), Fault>
-        requires ready { CanEncode (target_state D.view E.coding E.set writers.old.policy self.old)
+        requires ready { CanEncode (target_state D.view E.parts writers.old.policy self.old)
             (0xFFFD ∷ []) }
         requires bad { self.old.counts.bad ≤ self.old.counts.index }
         requires line { IsValid (Bad offset size) }
@@ -206,14 +206,14 @@ impl<D: StreamDecoder, E: RawEncoder> Target<D, E> {
         ensures line { OnOk result (WritesMalformed
             (written_by W.contents L.contents writers.old)
             (written_by W.contents L.contents writers.new)
-            (target_state D.view E.coding E.set writers.old.policy self.old)
-            (target_state D.view E.coding E.set writers.new.policy self.new) offset size) }
+            (target_state D.view E.parts writers.old.policy self.old)
+            (target_state D.view E.parts writers.new.policy self.new) offset size) }
         ensures err { IfErr result (λ f. WritesPrefix
             (written_by W.contents L.contents writers.old)
             (written_by W.contents L.contents writers.new) writers.old.policy f
-            (malformed_items (target_state D.view E.coding E.set writers.old.policy self.old)
+            (malformed_items (target_state D.view E.parts writers.old.policy self.old)
             offset size)) }
-        ensures target { E.coding self.new.encoder ≡ E.coding self.old.encoder }
+        ensures target { (E.parts self.new.encoder).coding ≡ (E.parts self.old.encoder).coding }
         ensures failures { CountsWriterFault writers.old writers.new result }
         ensures check { KeepsRoom check.old check.new }
     {

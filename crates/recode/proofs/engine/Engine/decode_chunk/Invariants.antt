@@ -9,9 +9,9 @@ use Rattle.recode.proofs.engine.Engine.decode_chunk.Given as goal
 abbrev pub invariant-chunk : goal.invariant-chunk
 invariant-chunk g l = record {
   converts : ConvertsTo (written_by g.W.Write.contents g.L.Write.contents l.initial.writers) (written_by g.W.Write.contents g.L.Write.contents l.writers)
-      (engine_state g.D.StreamDecoder.view g.E.RawEncoder.coding g.E.RawEncoder.set l.initial.writers.policy l.initial.self) (engine_state g.D.StreamDecoder.view g.E.RawEncoder.coding g.E.RawEncoder.set l.writers.policy l.self)
+      (engine_state g.D.StreamDecoder.view g.E.RawEncoder.parts l.initial.writers.policy l.initial.self) (engine_state g.D.StreamDecoder.view g.E.RawEncoder.parts l.writers.policy l.self)
       l.last l.initial.rest l.rest 0;
-  ready : CanConvert (engine_state g.D.StreamDecoder.view g.E.RawEncoder.coding g.E.RawEncoder.set l.writers.policy l.self);
+  ready : CanConvert (engine_state g.D.StreamDecoder.view g.E.RawEncoder.parts l.writers.policy l.self);
   writer_count : failures_of l.writers.output.now ≡ failures_of l.initial.writers.output.now;
   log_count : failures_of l.writers.log.now ≡ failures_of l.initial.writers.log.now;
   same : AreTheSame l.initial.writers l.writers;

@@ -2,6 +2,7 @@ use Rattle.std.proofs.Common.{◌+◌, ◌-◌, ◌∙◌, arith, refl, sym, ap,
 use Rattle.recode.proofs.TraceLemmas.{writes_bytes, under_bytes, WritesItems-trans, WritesItems-under, hands_on, whole_end}
 use Rattle.recode.proofs.EncoderCallLemmas.{turn_items, less_bytes, less_note}
 use Rattle.recode.specs.Policy.{form_of}
+use Rattle.encoding_mem.specs.EncoderRule.{EncoderParts}
 use Rattle.encoding_mem.specs.Coding.{reference}
 use Rattle.encoding_mem.specs.laws.Encoding.{encoded_items}
 use Rattle.encoding_mem.specs.declared.encoder_result.EncoderResult.TheVariants.{InputEmpty, OutputFull, Unmappable}
@@ -15,11 +16,11 @@ use Rattle.recode.proofs.VerdictLemmas.{end_tells, full_tells, lost_tells, read_
 use Rattle.recode.proofs.target.Target.encode_part.Goals as goal
 
 pub returns-in_err-deliver-clause-err : goal.returns-in_err-deliver-clause-err
-returns-in_err-deliver-clause-err g c = hands_on _ _ _ _ _ _ c.from_residual.ensures.1 (under_bytes _ _ _ _ _ _ _ _ _ c.in_err-deliver.ensures.fault c.in_err-deliver.ensures.err.2 ((encoded_items (form_of c.args.writers.now.policy) _ _ _ _ _ _ _ _ (g.met.E.RawEncoder.laws c.args.self.now.encoder) c.encode_from_pivot-call.ensures.law).items c.args.self.now.counts.index))
+returns-in_err-deliver-clause-err g c = hands_on _ _ _ _ _ _ c.from_residual.ensures.1 (under_bytes _ _ _ _ _ _ _ _ _ c.in_err-deliver.ensures.fault c.in_err-deliver.ensures.err.2 ((encoded_items (form_of c.args.writers.now.policy) _ _ _ _ _ _ _ _ (g.met.E.RawEncoder.laws c.args.self.now.encoder) c.encode_from_pivot-call.ensures.call.law).items c.args.self.now.counts.index))
 
 pub returns-in_err-log_lost-in-Unmappable-clause-err : goal.returns-in_err-log_lost-in-Unmappable-clause-err
 returns-in_err-log_lost-in-Unmappable-clause-err g c =
-    let law = turn_items (form_of c.args.writers.now.policy) _ _ _ _ _ _ _ _ c.args.self.now.counts.index (c.args.self.now.counts.index + c.encode_from_pivot-call.result.characters) (g.met.E.RawEncoder.laws c.args.self.now.encoder) c.encode_from_pivot-call.ensures.law (omega (arith, c.encode_from_pivot-call.ensures.passed)) in
+    let law = turn_items (form_of c.args.writers.now.policy) _ _ _ _ _ _ _ _ c.args.self.now.counts.index (c.args.self.now.counts.index + c.encode_from_pivot-call.result.characters) (g.met.E.RawEncoder.laws c.args.self.now.encoder) c.encode_from_pivot-call.ensures.call.law (omega (arith, c.encode_from_pivot-call.ensures.passed)) in
     hands_on _ _ _ _ _ _ c.from_residual-in_err-log_lost-in-Unmappable.ensures.1 (WritesItems-under _ _ _ c.args.self.now.counts (record c.args.self.now.counts { index = c.args.self.now.counts.index + c.encode_from_pivot-call.result.characters; calls = c.encode_from_pivot-call.new.calls }) _ _ _ _
     (writes_bytes _ _ _ _ _ _ _ _ _ c.in_ok-deliver.ensures.ok.0 refl refl (rw c.in-Unmappable.is at law))
     (c.in_err-log_lost-in-Unmappable.ensures.err _))
@@ -27,20 +28,21 @@ returns-in_err-log_lost-in-Unmappable-clause-err g c =
 pub returns-in-InputEmpty-clause-part : goal.returns-in-InputEmpty-clause-part
 returns-in-InputEmpty-clause-part g c =
     let call = c.encode_from_pivot-call in
-    let coding = g.E.RawEncoder.coding c.args.self.now.encoder in
+    let target = ap (λ (p : EncoderParts). p.coding) call.ensures.call.same in
+    let coding = (g.E.RawEncoder.parts c.args.self.now.encoder).coding in
     let laws = g.met.E.RawEncoder.laws c.args.self.now.encoder in
-    let s = g.E.RawEncoder.set c.args.self.now.encoder in
-    let s1 = g.E.RawEncoder.set call.new.encoder in
+    let s = (g.E.RawEncoder.parts c.args.self.now.encoder).set in
+    let s1 = (g.E.RawEncoder.parts call.new.encoder).set in
     let v = verdict_view g.D.StreamDecoder.view c.args.self.now.verdict in
     let t = pivot_chars c.args.text in
     let rest = pivot_chars call.result.rest in
-    let law = turn_items (form_of c.args.writers.now.policy) _ _ _ _ _ _ _ _ c.args.self.now.counts.index (c.args.self.now.counts.index + call.result.characters) (g.met.E.RawEncoder.laws c.args.self.now.encoder) call.ensures.law (omega (arith, call.ensures.passed)) in
-    let encodes = rw c.in-InputEmpty.is at call.ensures.law in
+    let law = turn_items (form_of c.args.writers.now.policy) _ _ _ _ _ _ _ _ c.args.self.now.counts.index (c.args.self.now.counts.index + call.result.characters) (g.met.E.RawEncoder.laws c.args.self.now.encoder) call.ensures.call.law (omega (arith, call.ensures.passed)) in
+    let encodes = rw c.in-InputEmpty.is at call.ensures.call.law in
     let parts = (call.ensures.parts c.requires.text).parts in
     let back = c.read_back.ensures.verdict in
-    let ends = rw c.in-InputEmpty.is at call.ensures.ends in
+    let ends = rw c.in-InputEmpty.is at call.ensures.call.ends in
     let v' = verdict_view g.D.StreamDecoder.view c.read_back.new.self in
-    rw (call.ensures.target, c.in-InputEmpty.is) (record {
+    rw (target, c.in-InputEmpty.is) (record {
       encodes = record {
         pays = writes_bytes _ _ _ _ _ _ _ _ _ c.in_ok-deliver.ensures.ok.0 refl refl (rw c.in-InputEmpty.is at law);
         index = search rules;
@@ -80,20 +82,21 @@ returns-in-InputEmpty-clause-part g c =
 pub returns-in-OutputFull-clause-part : goal.returns-in-OutputFull-clause-part
 returns-in-OutputFull-clause-part g c =
     let call = c.encode_from_pivot-call in
-    let coding = g.E.RawEncoder.coding c.args.self.now.encoder in
+    let target = ap (λ (p : EncoderParts). p.coding) call.ensures.call.same in
+    let coding = (g.E.RawEncoder.parts c.args.self.now.encoder).coding in
     let laws = g.met.E.RawEncoder.laws c.args.self.now.encoder in
-    let s = g.E.RawEncoder.set c.args.self.now.encoder in
-    let s1 = g.E.RawEncoder.set call.new.encoder in
+    let s = (g.E.RawEncoder.parts c.args.self.now.encoder).set in
+    let s1 = (g.E.RawEncoder.parts call.new.encoder).set in
     let v = verdict_view g.D.StreamDecoder.view c.args.self.now.verdict in
     let t = pivot_chars c.args.text in
     let rest = pivot_chars call.result.rest in
-    let law = turn_items (form_of c.args.writers.now.policy) _ _ _ _ _ _ _ _ c.args.self.now.counts.index (c.args.self.now.counts.index + call.result.characters) (g.met.E.RawEncoder.laws c.args.self.now.encoder) call.ensures.law (omega (arith, call.ensures.passed)) in
-    let encodes = rw c.in-OutputFull.is at call.ensures.law in
+    let law = turn_items (form_of c.args.writers.now.policy) _ _ _ _ _ _ _ _ c.args.self.now.counts.index (c.args.self.now.counts.index + call.result.characters) (g.met.E.RawEncoder.laws c.args.self.now.encoder) call.ensures.call.law (omega (arith, call.ensures.passed)) in
+    let encodes = rw c.in-OutputFull.is at call.ensures.call.law in
     let parts = (call.ensures.parts c.requires.text).parts in
     let back = c.read_back-in-OutputFull.ensures.verdict in
-    let less = less_bytes _ _ _ _ (rw c.in-OutputFull.is at law) call.ensures.room (omega (arith, (rw c.in-OutputFull.is at call.ensures.ends).0, laws.few, c.requires.lent.output)) in
+    let less = less_bytes _ _ _ _ (rw c.in-OutputFull.is at law) call.ensures.room (omega (arith, (rw c.in-OutputFull.is at call.ensures.call.ends).0, laws.few, c.requires.lent.output)) in
     let v' = verdict_view g.D.StreamDecoder.view c.read_back-in-OutputFull.new.self in
-    rw (call.ensures.target, c.in-OutputFull.is) (record {
+    rw (target, c.in-OutputFull.is) (record {
       encodes = record {
         pays = writes_bytes _ _ _ _ _ _ _ _ _ c.in_ok-deliver.ensures.ok.0 refl refl (rw c.in-OutputFull.is at law);
         index = search rules;
@@ -121,19 +124,20 @@ returns-in-OutputFull-clause-part g c =
 pub returns-in_ok-log_lost-in-Unmappable-clause-part : goal.returns-in_ok-log_lost-in-Unmappable-clause-part
 returns-in_ok-log_lost-in-Unmappable-clause-part g c =
     let call = c.encode_from_pivot-call in
-    let coding = g.E.RawEncoder.coding c.args.self.now.encoder in
+    let target = ap (λ (p : EncoderParts). p.coding) call.ensures.call.same in
+    let coding = (g.E.RawEncoder.parts c.args.self.now.encoder).coding in
     let laws = g.met.E.RawEncoder.laws c.args.self.now.encoder in
-    let s = g.E.RawEncoder.set c.args.self.now.encoder in
-    let s1 = g.E.RawEncoder.set call.new.encoder in
+    let s = (g.E.RawEncoder.parts c.args.self.now.encoder).set in
+    let s1 = (g.E.RawEncoder.parts call.new.encoder).set in
     let v = verdict_view g.D.StreamDecoder.view c.args.self.now.verdict in
     let t = pivot_chars c.args.text in
     let rest = pivot_chars call.result.rest in
-    let law = turn_items (form_of c.args.writers.now.policy) _ _ _ _ _ _ _ _ c.args.self.now.counts.index (c.args.self.now.counts.index + call.result.characters) (g.met.E.RawEncoder.laws c.args.self.now.encoder) call.ensures.law (omega (arith, call.ensures.passed)) in
-    let encodes = rw c.in-Unmappable.is at call.ensures.law in
+    let law = turn_items (form_of c.args.writers.now.policy) _ _ _ _ _ _ _ _ c.args.self.now.counts.index (c.args.self.now.counts.index + call.result.characters) (g.met.E.RawEncoder.laws c.args.self.now.encoder) call.ensures.call.law (omega (arith, call.ensures.passed)) in
+    let encodes = rw c.in-Unmappable.is at call.ensures.call.law in
     let f = c.in_ok-log_lost-in-Unmappable.ensures in
     let less = less_note _ _ _ (LostAt ((c.args.self.now.counts.index + call.result.characters) - 1) c.in-Unmappable.scalar) (map Byte (reference (form_of c.args.writers.now.policy) c.in-Unmappable.scalar)) (rw c.in-Unmappable.is at law) in
     let c1 : Counts = record c.args.self.now.counts { index = c.args.self.now.counts.index + call.result.characters; calls = call.new.calls } in
-    rw (f.encoder, f.failures.same.policy, f.verdict, f.counts, call.ensures.target, c.in-Unmappable.is) (record {
+    rw (f.encoder, f.failures.same.policy, f.verdict, f.counts, target, c.in-Unmappable.is) (record {
       encodes = record {
         pays = WritesItems-trans _ _ _ c.args.self.now.counts c1 _ _ _ _ _
             (writes_bytes _ _ _ _ _ _ _ _ _ c.in_ok-deliver.ensures.ok.0 refl refl (rw c.in-Unmappable.is at law)) (rw f.counts at (f.pays (whole_items (form_of c.args.writers.now.policy) coding c.args.last s1 c1.index rest)));

@@ -10,8 +10,8 @@ use Rattle.recode.proofs.target.Target.encode_text.Given as goal
 
 abbrev pub invariant-text : goal.invariant-text
 invariant-text g l =
-    let t = target_state g.D.StreamDecoder.view g.E.RawEncoder.coding g.E.RawEncoder.set l.initial.writers.policy l.initial.self in
-    let t' = target_state g.D.StreamDecoder.view g.E.RawEncoder.coding g.E.RawEncoder.set l.writers.policy l.self in
+    let t = target_state g.D.StreamDecoder.view g.E.RawEncoder.parts l.initial.writers.policy l.initial.self in
+    let t' = target_state g.D.StreamDecoder.view g.E.RawEncoder.parts l.writers.policy l.self in
     record {
       encodes : EncodesTo (written_by g.W.Write.contents g.L.Write.contents l.initial.writers) (written_by g.W.Write.contents g.L.Write.contents l.writers) t t' l.last (pivot_chars l.initial.rest) (pivot_chars l.rest) 0;
       tells : CanTell t'.verdict t'.coding t'.set (pivot_chars l.rest);
@@ -25,4 +25,4 @@ invariant-text g l =
     }
 
 abbrev pub decreases-text : goal.decreases-text
-decreases-text g l = length (text_items (target_state g.D.StreamDecoder.view g.E.RawEncoder.coding g.E.RawEncoder.set l.writers.policy l.self) l.last (pivot_chars l.rest))
+decreases-text g l = length (text_items (target_state g.D.StreamDecoder.view g.E.RawEncoder.parts l.writers.policy l.self) l.last (pivot_chars l.rest))

@@ -15,8 +15,8 @@ returns-in_err-log_line-clause-err g c = hands_on _ _ _ _ _ _ c.from_residual.en
 
 pub returns-in_err-encode_text-clause-err : goal.returns-in_err-encode_text-clause-err
 returns-in_err-encode_text-clause-err g c =
-    let e = g.E.RawEncoder.coding c.args.self.now.encoder in
-    let s = g.E.RawEncoder.set c.args.self.now.encoder in
+    let e = (g.E.RawEncoder.parts c.args.self.now.encoder).coding in
+    let s = (g.E.RawEncoder.parts c.args.self.now.encoder).set in
     let i = c.args.self.now.counts.index in
     hands_on _ _ _ _ _ _ c.from_residual-in_err-encode_text.ensures.1 (WritesItems-under _ _ _ c.args.self.now.counts (record c.args.self.now.counts { bad = c.args.self.now.counts.bad + 1 }) _ _ _ (open_items (form_of c.args.writers.now.policy) e s i (0xFFFD ∷ []))
     (writes_malformed _ _ _ _ _ _ _ _ _ c.in_ok-log_line.ensures.ok.0 refl refl)
@@ -30,7 +30,7 @@ pub encode_text-requires-clause-ready : goal.encode_text-requires-clause-ready
 encode_text-requires-clause-ready g c = record {
   index = omega (arith, ap length replacement_text, c.requires.ready.index);
   lost = c.requires.ready.lost;
-  tells = lost_tells (g.E.RawEncoder.coding c.args.self.now.encoder) (verdict_view g.D.StreamDecoder.view c.args.self.now.verdict) (g.E.RawEncoder.set c.args.self.now.encoder) (0xFFFD ∷ []) (g.E.RawEncoder.set c.args.self.now.encoder) _ c.requires.ready.tells;
+  tells = lost_tells (g.E.RawEncoder.parts c.args.self.now.encoder).coding (verdict_view g.D.StreamDecoder.view c.args.self.now.verdict) (g.E.RawEncoder.parts c.args.self.now.encoder).set (0xFFFD ∷ []) (g.E.RawEncoder.parts c.args.self.now.encoder).set _ c.requires.ready.tells;
 }
 
 pub encode_text-requires-clause-lent : goal.encode_text-requires-clause-lent
