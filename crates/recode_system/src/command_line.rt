@@ -69,32 +69,6 @@ fn out_of_memory<L: Write>(log: &mut Counted<L>) -> u8
     NOT_STARTED
 }
 
-// Does what the words ask for.
-fn answer_words<F: Files, R: Read, W: Write, L: Write>(
-    alloc: Global,
-    files: &F,
-    words: &[&str],
-    reader: &mut Counted<R>,
-    writer: &mut Counted<W>,
-    log: &mut Counted<L>,
-) -> u8
-    requires reader { failures_of reader.old ≤ 2 ^ 64 - 5 }
-    requires writer { failures_of writer.old ≤ 2 ^ 64 - 5 }
-    requires log { failures_of log.old ≤ 2 ^ 64 - 5 }
-    ensures { AnswersProgram (λ dir file. None) R.remaining W.contents L.contents
-        (ports reader.old writer.old log.old) (ports reader.new writer.new log.new)
-        (words_with_name (map (λ s. s.now) words.now)) result }
-{
-    program(
-        alloc,
-        with_name(words),
-        &mut SystemFiles::new(files),
-        reader,
-        writer,
-        log,
-    )
-}
-
 /// Does what the words of the command line ask for, as `recode::program` says, with the index files
 /// among `files`, and returns the exit status, which is at most 4. The words are those that the
 /// command line tells, if it tells them. If there are none, not even a name, the program has its
@@ -123,8 +97,10 @@ pub fn answer<C: CommandLine + AllocGlobal, F: Files, R: Read, W: Write, L: Writ
         Err(Wordless::NotUtf8) => return refuse(log),
         Err(Wordless::Memory) => return out_of_memory(log),
     };
-    match slices(line.alloc(), owned.as_slice()) {
-        Ok(words) => answer_words(line.alloc(), files, words.as_slice(), reader, writer, log),
-        Err(_) => out_of_memory(log),
-    }
+    let Ok(words) = slices(line.alloc(), owned.as_slice()) else {
+        return out_of_memory(log);
+    };
+    let words = with_name(words.as_slice());
+    let mut indexes = SystemFiles::new(files);
+    program(line.alloc(), words, &mut indexes, reader, writer, log)
 }
