@@ -2,8 +2,11 @@
 
 ghost use Rattle.std.specs.Prelude.{◌≡◌, ℕ, ◌<◌, List, IfSome};
 ghost use Rattle.encoding_tables.specs.Lookups.{value_of, first_pointer, last_pointer, AreEntries};
+ghost use Rattle.encoding_tables.specs.PackedLists.{IsPacked};
+ghost use Rattle.encoding_tables.specs.PackedRows.{flat_list};
 
-use crate::packed_index::PackedIndex;
+use crate::pointer_rows::PointerRows;
+use crate::sorted_rows::SortedRows;
 use encoding_mem::scalar::scalar_of;
 use std::marker::Model;
 
@@ -11,24 +14,35 @@ use std::marker::Model;
 /// What a decoder or an encoder of one index looks up in.
 #[derive(Drop)]
 pub struct Flat<'a> {
-    index: &'a PackedIndex,
+    // How many entries the list has, mapped or not.
+    size: usize,
+    // A pointer and its entry.
+    by_pointer: &'a PointerRows,
+    // An entry and its pointer.
+    by_entry: &'a SortedRows,
 }
 
 impl<'a> Model for Flat<'a> {
     ghost Value = { List ℕ };
 
-    ghost view = { λ f. f.index.now };
+    ghost view = { λ f. flat_list f.size f.by_pointer.now };
 
-    ghost invariant = { λ f. AreEntries f.index.now };
+    ghost invariant = { λ f. IsPacked f.size f.by_pointer.now f.by_entry.now
+        × AreEntries (flat_list f.size f.by_pointer.now) };
 }
 
 impl<'a> Flat<'a> {
-    /// A list in which each entry is 0 or a scalar.
-    pub(crate) fn new(index: &'a PackedIndex) -> Self
-        requires { AreEntries index.now }
-        ensures { result ≡ index.now }
+    /// The list of so many entries with these rows, each 0 or a scalar.
+    pub(crate) fn new(size: usize, by_pointer: &'a PointerRows, by_entry: &'a SortedRows) -> Self
+        requires packed { IsPacked size by_pointer.now by_entry.now }
+        requires entries { AreEntries (flat_list size by_pointer.now) }
+        ensures { result ≡ flat_list size by_pointer.now }
     {
-        Flat { index }
+        Flat {
+            size,
+            by_pointer,
+            by_entry,
+        }
     }
 
     /// The character at a pointer, or `None` where nothing is mapped and past the end of the list
@@ -37,7 +51,7 @@ impl<'a> Flat<'a> {
     pub fn value(&self, pointer: u32) -> Option<char>
         ensures { result ≡ value_of self.now pointer }
     {
-        match self.index.value(pointer) {
+        match self.by_pointer.second(pointer) {
             Some(entry) => Some(scalar_of(entry)),
             None => None,
         }
@@ -50,7 +64,12 @@ impl<'a> Flat<'a> {
         ensures pointer { result ≡ first_pointer self.now c from to }
         ensures before { IfSome result (λ p. p < to) }
     {
-        self.index.first_pointer(c as u32, from, to)
+        let entry = c as u32;
+        let offset = self.by_entry.rank((entry, from));
+        match self.by_entry.rows().get(offset) {
+            Some((first, pointer)) if *first == entry && *pointer < to => Some(*pointer),
+            _ => None,
+        }
     }
 
     /// The greatest pointer from `from` to below `to` with this character, or `None` where there is
@@ -61,6 +80,16 @@ impl<'a> Flat<'a> {
         ensures pointer { result ≡ last_pointer self.now c from to }
         ensures before { IfSome result (λ p. p < to) }
     {
-        self.index.last_pointer(c as u32, from, to)
+        let entry = c as u32;
+        let behind = self.by_entry.rank((entry, to));
+        if behind == 0 {
+            return None;
+        }
+        let (first, pointer) = self.by_entry.rows()[behind - 1];
+        if first == entry && pointer >= from {
+            Some(pointer)
+        } else {
+            None
+        }
     }
 }

@@ -1,13 +1,14 @@
-//! An index as rows: by pointer for decoders, and by entry for encoders.
+//! An index as rows, in memory of its own: by pointer for decoders, and by entry for encoders.
 
-ghost use Rattle.std.specs.Prelude.{◌≡◌, ℕ, ◌+◌, ◌^◌, ◌<◌, List, length, IfOk, IfSome};
+ghost use Rattle.std.specs.Prelude.{◌≡◌, ℕ, ◌+◌, ◌^◌, ◌<◌, List, length, IfOk};
 ghost use Rattle.std.specs.Prelude.{not, ◌==◌};
 ghost use Rattle.std.specs.List.{list_all};
-ghost use Rattle.encoding_tables.specs.Lookups.{value_of, first_pointer, last_pointer};
+ghost use Rattle.encoding_tables.specs.Lookups.{AreEntries};
 ghost use Rattle.encoding_tables.specs.PackedRows.{flat_list, mapped_rows, listed_rows, PointersRise, PointersAreBelow};
 ghost use Rattle.encoding_tables.specs.PackedLists.{AreIndexRows, IsPacked, IsReversed};
 ghost use Rattle.encoding_tables.specs.EntryCounts.{AreCounts, AreEnds, HaveEntriesBelow};
 
+use crate::flat::Flat;
 use crate::pointer_rows::PointerRows;
 use crate::sorted_rows::SortedRows;
 use std::alloc::{AllocError, Global};
@@ -74,44 +75,12 @@ impl PackedIndex {
         })
     }
 
-    /// The entry at a pointer.
-    #[inline(always)]
-    pub(crate) fn value(&self, pointer: u32) -> Option<u32>
-        ensures { result ≡ value_of self.now pointer }
+    /// The list, lent for look-ups.
+    pub(crate) fn flat(&self) -> Flat<'_>
+        requires { AreEntries self.now }
+        ensures { result ≡ self.now }
     {
-        self.by_pointer.second(pointer)
-    }
-
-    /// The least pointer from `from` to below `to` with an entry, or `None` if there is none. The
-    /// entry 0 has no pointer.
-    #[inline]
-    pub(crate) fn first_pointer(&self, entry: u32, from: u32, to: u32) -> Option<u32>
-        ensures pointer { result ≡ first_pointer self.now entry from to }
-        ensures before { IfSome result (λ p. p < to) }
-    {
-        let offset = self.by_entry.rank((entry, from));
-        match self.by_entry.rows().get(offset) {
-            Some((first, pointer)) if *first == entry && *pointer < to => Some(*pointer),
-            _ => None,
-        }
-    }
-
-    /// The greatest one.
-    #[inline]
-    pub(crate) fn last_pointer(&self, entry: u32, from: u32, to: u32) -> Option<u32>
-        ensures pointer { result ≡ last_pointer self.now entry from to }
-        ensures before { IfSome result (λ p. p < to) }
-    {
-        let behind = self.by_entry.rank((entry, to));
-        if behind == 0 {
-            return None;
-        }
-        let (first, pointer) = self.by_entry.rows()[behind - 1];
-        if first == entry && pointer >= from {
-            Some(pointer)
-        } else {
-            None
-        }
+        Flat::new(self.size, &self.by_pointer, &self.by_entry)
     }
 }
 

@@ -182,7 +182,7 @@ impl Tables {
         ensures entries { flat_of self.now kind ≡ Some result }
         ensures index { IsIndex kind result }
     {
-        Flat::new(self.index(kind))
+        self.index(kind).flat()
     }
 
     /// The rows of the GB18030 ranges, lent for look-ups. The condition, that they are there, is
