@@ -1,6 +1,7 @@
 //! What an encoder makes of one character.
 
 ghost use Rattle.std.specs.Prelude.{◌≡◌, ℕ, ◌+◌, ◌<◌, ◌≤◌, List, [], ◌∷◌, ◌++◌, length, take};
+ghost use Rattle.std.specs.Char.{encode_utf8};
 
 use std::marker::Model;
 
@@ -84,6 +85,19 @@ impl Bytes {
         Bytes {
             bytes: [a, b, c, d],
             len: 4,
+        }
+    }
+
+    /// The UTF-8 of a character.
+    pub fn utf8(c: char) -> Self
+        ensures { result ≡ encode_utf8 c }
+    {
+        match *c.encode_utf8(&mut [0; 4]).as_bytes() {
+            [a] => Bytes::one(a),
+            [a, b] => Bytes::two(a, b),
+            [a, b, c] => Bytes::three(a, b, c),
+            [a, b, c, d] => Bytes::four(a, b, c, d),
+            _ => unreachable!(),
         }
     }
 

@@ -1,7 +1,6 @@
 //! The encoder of UTF-8.
 
 ghost use Rattle.std.specs.Prelude.{◌≡◌};
-ghost use Rattle.std.specs.Char.{encode_utf8};
 ghost use Rattle.encoding_mem.specs.EncoderRule.{IsFreshEncoder};
 ghost use Rattle.encoding_mem.specs.EncodedLength.{encoded_length_utf8};
 ghost use Rattle.encoding_mem.specs.laws.EncodedLength.{utf8_room};
@@ -13,31 +12,6 @@ use crate::encode::EncoderRule;
 use crate::form::{Bytes, EscapeState, Form};
 use crate::room::EncodedLength;
 use crate::source_encoder::SourceEncoder;
-
-// The bytes of a character.
-fn bytes_of_char(c: char) -> Bytes
-    ensures { result ≡ encode_utf8 c }
-{
-    let code = c as u32;
-    if code < 0x80 {
-        Bytes::one(code as u8)
-    } else if code < 0x800 {
-        Bytes::two((0xc0 + code / 0x40) as u8, (0x80 + code % 0x40) as u8)
-    } else if code < 0x10000 {
-        Bytes::three(
-            (0xe0 + code / 0x1000) as u8,
-            (0x80 + code / 0x40 % 0x40) as u8,
-            (0x80 + code % 0x40) as u8,
-        )
-    } else {
-        Bytes::four(
-            (0xf0 + code / 0x40000) as u8,
-            (0x80 + code / 0x1000 % 0x40) as u8,
-            (0x80 + code / 0x40 % 0x40) as u8,
-            (0x80 + code % 0x40) as u8,
-        )
-    }
-}
 
 /// The encoder of UTF-8 (the Encoding Standard, section 8.1.2; RFC 3629). It never returns
 /// `Unmappable`, and has no state: a call reads the longest prefix of whole characters whose bytes
@@ -68,7 +42,7 @@ impl EncoderRule for Utf8Encoder {
     ghost fits = { λ _. utf8_room };
 
     fn step(&self, _from: EscapeState, c: char) -> (EscapeState, Form) {
-        (EscapeState::Ascii, Form::Mapped(bytes_of_char(c)))
+        (EscapeState::Ascii, Form::Mapped(Bytes::utf8(c)))
     }
 
     fn escape(&self, _from: EscapeState, _to: EscapeState) -> Bytes {
