@@ -1,4 +1,4 @@
--- What a call of the encoding driver leaves, beside the law of a call.
+-- An encoder as contracts know it, and one call of it: what it wrote, the set that it left, and why it ended.
 use Rattle.std.specs.Prelude.{◌≡◌, ℕ, ◌<◌, ◌≤◌, Bool, List, [], ◌∷◌, ◌++◌, length, drop, ◌⊎◌}
 use Rattle.std.specs.Char.{encode_utf8}
 use Rattle.std.specs.Str.{IsAscii, encode_utf8_all}
