@@ -127,13 +127,7 @@ impl<D: StreamDecoder, E: RawEncoder> Target<D, E> {
         deliver(writers.output, &output[..call.written], Fault::Write)?;
         self.counts.index += call.characters as u64;
         match call.answer {
-            EncoderResult::InputEmpty => {
-                let written = &output[..call.written];
-                let calls = &mut self.counts.calls;
-                self.verdict.read_back(written, call.read, check, calls);
-                Ok(call)
-            }
-            EncoderResult::OutputFull => {
+            EncoderResult::InputEmpty | EncoderResult::OutputFull => {
                 let written = &output[..call.written];
                 let calls = &mut self.counts.calls;
                 self.verdict.read_back(written, call.read, check, calls);

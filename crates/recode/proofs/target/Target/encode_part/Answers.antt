@@ -1,4 +1,4 @@
-use Rattle.std.proofs.Common.{◌+◌, ◌-◌, ◌∙◌, arith, refl, sym, ap, length, length-append, map, inr, rules, true≢false}
+use Rattle.std.proofs.Common.{◌+◌, ◌-◌, ◌∙◌, arith, refl, sym, ap, length, length-append, map, inl, inr, rules, true≢false}
 use Rattle.recode.proofs.TraceLemmas.{writes_bytes, under_bytes, WritesItems-trans, WritesItems-under, hands_on, whole_end}
 use Rattle.recode.proofs.EncoderCallLemmas.{turn_items, less_bytes, less_note}
 use Rattle.recode.specs.Policy.{form_of}
@@ -37,89 +37,77 @@ returns-in-InputEmpty-clause-part g c =
     let t = pivot_chars c.args.text in
     let rest = pivot_chars call.result.rest in
     let law = turn_items (form_of c.args.writers.now.policy) _ _ _ _ _ _ _ _ c.args.self.now.counts.index (c.args.self.now.counts.index + call.result.characters) (g.met.E.RawEncoder.laws c.args.self.now.encoder) call.ensures.call.law (omega (arith, call.ensures.passed)) in
-    let encodes = rw c.in-InputEmpty.is at call.ensures.call.law in
     let parts = (call.ensures.parts c.requires.text).parts in
     let back = c.read_back.ensures.verdict in
-    let ends = rw c.in-InputEmpty.is at call.ensures.call.ends in
     let v' = verdict_view g.D.StreamDecoder.view c.read_back.new.self in
-    rw (target, c.in-InputEmpty.is) (record {
-      encodes = record {
-        pays = writes_bytes _ _ _ _ _ _ _ _ _ c.in_ok-deliver.ensures.ok.0 refl refl (rw c.in-InputEmpty.is at law);
-        index = search rules;
-        lost = search rules;
-        bad = refl;
-        read = refl;
-        target = refl;
-        policy = refl;
-        set = λ on. (encoded_items (form_of c.args.writers.now.policy) _ _ InputEmpty _ _ _ _ _ laws encodes).sets on;
-        by_log = back.by_log;
-        stays = λ lost. ap (λ (u : VerdictView). u.faithful) (back.kept (inr lost)) ∙ lost;
-        verdict = read_keeps coding _ laws c.args.last InputEmpty v v' s t _ s1 rest (pivot_chars call.result.read) c.requires.text.scalars encodes (λ m h. cc) parts back c.requires.ready.tells;
-        calls = omega (
-          arith,
-          call.ensures.calls.at_most,
-          c.read_back.ensures.calls.at_most,
-          call.ensures.passed,
-          ap length parts,
-          length-append (pivot_chars call.result.read) rest,
-          ap length (whole_end (form_of c.args.writers.now.policy) coding c.args.last s1 (c.args.self.now.counts.index + call.result.characters) rest laws ends.0 ends.1),
-        );
-        least = λ under.
-            let later = c.read_back.ensures.calls.at_least under in
-            omega (arith, later, call.ensures.calls.at_least (omega (arith, later, under)));
-      };
-      more = λ never. absurd (true≢false never);
-      done = λ same. (
-        ends.0,
-        record {
-          closed = ends.1;
-          tells = λ on. rw ends.0 at (read_tells coding _ laws v v' s t _ s1 rest (pivot_chars call.result.read) c.requires.text.scalars (rw on at encodes) parts back c.requires.ready.tells);
-          told = λ end. end_tells coding _ laws v v' s t _ s1 rest (pivot_chars call.result.read) c.requires.text.scalars (rw end at encodes) parts back c.requires.ready.tells;
-        },
-      );
-    })
-
-pub returns-in-OutputFull-clause-part : goal.returns-in-OutputFull-clause-part
-returns-in-OutputFull-clause-part g c =
-    let call = c.encode_from_pivot-call in
-    let target = ap (λ (p : EncoderParts). p.coding) call.ensures.call.same in
-    let coding = (g.E.RawEncoder.parts c.args.self.now.encoder).coding in
-    let laws = g.met.E.RawEncoder.laws c.args.self.now.encoder in
-    let s = (g.E.RawEncoder.parts c.args.self.now.encoder).set in
-    let s1 = (g.E.RawEncoder.parts call.new.encoder).set in
-    let v = verdict_view g.D.StreamDecoder.view c.args.self.now.verdict in
-    let t = pivot_chars c.args.text in
-    let rest = pivot_chars call.result.rest in
-    let law = turn_items (form_of c.args.writers.now.policy) _ _ _ _ _ _ _ _ c.args.self.now.counts.index (c.args.self.now.counts.index + call.result.characters) (g.met.E.RawEncoder.laws c.args.self.now.encoder) call.ensures.call.law (omega (arith, call.ensures.passed)) in
-    let encodes = rw c.in-OutputFull.is at call.ensures.call.law in
-    let parts = (call.ensures.parts c.requires.text).parts in
-    let back = c.read_back-in-OutputFull.ensures.verdict in
-    let less = less_bytes _ _ _ _ (rw c.in-OutputFull.is at law) call.ensures.room (omega (arith, (rw c.in-OutputFull.is at call.ensures.call.ends).0, laws.few, c.requires.lent.output)) in
-    let v' = verdict_view g.D.StreamDecoder.view c.read_back-in-OutputFull.new.self in
-    rw (target, c.in-OutputFull.is) (record {
-      encodes = record {
-        pays = writes_bytes _ _ _ _ _ _ _ _ _ c.in_ok-deliver.ensures.ok.0 refl refl (rw c.in-OutputFull.is at law);
-        index = search rules;
-        lost = search rules;
-        bad = refl;
-        read = refl;
-        target = refl;
-        policy = refl;
-        set = λ on. (encoded_items (form_of c.args.writers.now.policy) _ _ OutputFull _ _ _ _ _ laws encodes).sets on;
-        by_log = back.by_log;
-        stays = λ lost. ap (λ (u : VerdictView). u.faithful) (back.kept (inr lost)) ∙ lost;
-        verdict = read_keeps coding _ laws c.args.last OutputFull v v' s t _ s1 rest (pivot_chars call.result.read) c.requires.text.scalars encodes (λ m h. cc) parts back c.requires.ready.tells;
-        calls = omega (arith, call.ensures.calls.at_most, c.read_back-in-OutputFull.ensures.calls.at_most, call.ensures.passed, ap length parts, length-append (pivot_chars call.result.read) rest, less);
-        least = λ under.
-            let later = c.read_back-in-OutputFull.ensures.calls.at_least under in
-            omega (arith, later, call.ensures.calls.at_least (omega (arith, later, under)));
-      };
-      more = λ same. (
-        full_tells coding _ laws c.args.last v v' s t _ s1 rest (pivot_chars call.result.read) c.requires.text.scalars encodes parts back c.requires.ready.tells,
-        less,
-      );
-      done = λ never. absurd (true≢false (sym never));
-    })
+    elim c.in-InputEmpty.is [
+      | inl empty ↦
+          let encodes = rw empty at call.ensures.call.law in
+          let ends = rw empty at call.ensures.call.ends in
+          rw (target, empty) (record {
+            encodes = record {
+              pays = writes_bytes _ _ _ _ _ _ _ _ _ c.in_ok-deliver.ensures.ok.0 refl refl (rw empty at law);
+              index = search rules;
+              lost = search rules;
+              bad = refl;
+              read = refl;
+              target = refl;
+              policy = refl;
+              set = λ on. (encoded_items (form_of c.args.writers.now.policy) _ _ InputEmpty _ _ _ _ _ laws encodes).sets on;
+              by_log = back.by_log;
+              stays = λ lost. ap (λ (u : VerdictView). u.faithful) (back.kept (inr lost)) ∙ lost;
+              verdict = read_keeps coding _ laws c.args.last InputEmpty v v' s t _ s1 rest (pivot_chars call.result.read) c.requires.text.scalars encodes (λ m h. cc) parts back c.requires.ready.tells;
+              calls = omega (
+                arith,
+                call.ensures.calls.at_most,
+                c.read_back.ensures.calls.at_most,
+                call.ensures.passed,
+                ap length parts,
+                length-append (pivot_chars call.result.read) rest,
+                ap length (whole_end (form_of c.args.writers.now.policy) coding c.args.last s1 (c.args.self.now.counts.index + call.result.characters) rest laws ends.0 ends.1),
+              );
+              least = λ under.
+                  let later = c.read_back.ensures.calls.at_least under in
+                  omega (arith, later, call.ensures.calls.at_least (omega (arith, later, under)));
+            };
+            more = λ never. absurd (true≢false never);
+            done = λ same. (
+              ends.0,
+              record {
+                closed = ends.1;
+                tells = λ on. rw ends.0 at (read_tells coding _ laws v v' s t _ s1 rest (pivot_chars call.result.read) c.requires.text.scalars (rw on at encodes) parts back c.requires.ready.tells);
+                told = λ end. end_tells coding _ laws v v' s t _ s1 rest (pivot_chars call.result.read) c.requires.text.scalars (rw end at encodes) parts back c.requires.ready.tells;
+              },
+            );
+          })
+      | inr full ↦
+          let encodes = rw full at call.ensures.call.law in
+          let less = less_bytes _ _ _ _ (rw full at law) call.ensures.room (omega (arith, (rw full at call.ensures.call.ends).0, laws.few, c.requires.lent.output)) in
+          rw (target, full) (record {
+            encodes = record {
+              pays = writes_bytes _ _ _ _ _ _ _ _ _ c.in_ok-deliver.ensures.ok.0 refl refl (rw full at law);
+              index = search rules;
+              lost = search rules;
+              bad = refl;
+              read = refl;
+              target = refl;
+              policy = refl;
+              set = λ on. (encoded_items (form_of c.args.writers.now.policy) _ _ OutputFull _ _ _ _ _ laws encodes).sets on;
+              by_log = back.by_log;
+              stays = λ lost. ap (λ (u : VerdictView). u.faithful) (back.kept (inr lost)) ∙ lost;
+              verdict = read_keeps coding _ laws c.args.last OutputFull v v' s t _ s1 rest (pivot_chars call.result.read) c.requires.text.scalars encodes (λ m h. cc) parts back c.requires.ready.tells;
+              calls = omega (arith, call.ensures.calls.at_most, c.read_back.ensures.calls.at_most, call.ensures.passed, ap length parts, length-append (pivot_chars call.result.read) rest, less);
+              least = λ under.
+                  let later = c.read_back.ensures.calls.at_least under in
+                  omega (arith, later, call.ensures.calls.at_least (omega (arith, later, under)));
+            };
+            more = λ same. (
+              full_tells coding _ laws c.args.last v v' s t _ s1 rest (pivot_chars call.result.read) c.requires.text.scalars encodes parts back c.requires.ready.tells,
+              less,
+            );
+            done = λ never. absurd (true≢false (sym never));
+          })
+    ]
 
 pub returns-in_ok-log_lost-in-Unmappable-clause-part : goal.returns-in_ok-log_lost-in-Unmappable-clause-part
 returns-in_ok-log_lost-in-Unmappable-clause-part g c =
