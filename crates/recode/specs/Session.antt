@@ -1,5 +1,5 @@
 -- A session as its callers know it, and what a run of it says.
-use Rattle.std.specs.Prelude.{◌≡◌, ℕ, ◌+◌, ◌*◌, ◌≤◌, ◌⊎◌, ◌↔◌, IsTrue, List, [], ◌++◌, length, true, Result, Ok, Err, min}
+use Rattle.std.specs.Prelude.{◌≡◌, ℕ, ◌≤◌, ◌⊎◌, ◌↔◌, IsTrue, List, [], ◌++◌, length, true, Result, Ok, Err}
 use Rattle.std.specs.Io.KnownBytes.{Appends, Consumes, IsAtEnd}
 use Rattle.encoding_mem.specs.Piece.{Piece, malformed_count}
 use Rattle.encoding_mem.specs.Coding.{lost_count}
@@ -10,6 +10,7 @@ use Rattle.recode.specs.State.{State, WillBeFaithful, to_write}
 use Rattle.recode.specs.Devices.{Devices, Written}
 use Rattle.recode.specs.TaggedByte.{TaggedByte, Wrote, IsPrefix, tagged, outputs, lines}
 use Rattle.recode.specs.Step.{PassesLimit, WasRead}
+use Rattle.recode.specs.Work.{fewest_calls, most_calls}
 use Rattle.recode.specs.WrittenItems.{IsStop}
 use Rattle.recode.specs.declared.job.Fault.{Fault}
 use Rattle.recode.specs.declared.job.Fault.TheVariants.{Read, TooLong}
@@ -67,14 +68,13 @@ pub record Tells (v : View) (p : Report) : Type 0 where
   pub encoding : p.encoding ≡ v.state.source []
   pub verdict : p.faithful ≡ v.state.verdict.faithful
 
--- The report on an input. Calls of codecs are two for each step at least, of which there are two where the input has a
--- byte; and three more for each malformed sequence, and one for each lost character.
+-- the report on an input
 pub record IsReport (j : Job) (x : List ℕ) (p : Report) : Type 0 where
   pub read : p.read ≡ length x
   pub bad : p.bad ≡ malformed_count (input_pieces j x)
   pub lost : p.lost ≡ lost_count (target_of j) (input_text j x)
-  pub least : 3 * p.bad + p.lost + 2 * min 1 p.read + 2 ≤ p.calls
-  pub most : p.calls ≤ 37 * p.read + 9
+  pub least : fewest_calls p.read p.bad p.lost ≤ p.calls
+  pub most : p.calls ≤ most_calls p.read
   pub encoding : p.encoding ≡ source_in j x
   pub faithful : IsTrue p.faithful ↔ Faithful j x
 

@@ -1,5 +1,5 @@
 -- How many calls of codecs a conversion takes.
-use Rattle.std.specs.Prelude.{ℕ, ◌+◌, ◌*◌, ◌^◌, ◌-◌, ◌<◌, ◌≤◌, Bool, true, false, List, length}
+use Rattle.std.specs.Prelude.{ℕ, ◌+◌, ◌*◌, ◌^◌, ◌-◌, ◌<◌, ◌≤◌, Bool, true, false, List, length, min}
 use Rattle.encoding_mem.specs.Items.{Item}
 use Rattle.recode.specs.declared.target.Counts.{Counts}
 
@@ -22,3 +22,11 @@ TakesAtLeast n c c' = c'.calls < 2 ^ 64 - 1 → c.calls + c'.lost + n ≤ c'.cal
 abbrev pub ended_count : Bool → ℕ
 ended_count true = 1
 ended_count false = 0
+
+-- The calls of a run that ended well. Each of its steps takes two at least, and where the input has a byte there are two
+-- steps; a malformed sequence takes three more, and a lost character that was logged one more.
+abbrev pub fewest_calls : (read bad lost : ℕ) → ℕ
+fewest_calls read bad lost = 3 * bad + lost + 2 * min 1 read + 2
+
+abbrev pub most_calls : (read : ℕ) → ℕ
+most_calls read = 37 * read + 9

@@ -2,7 +2,7 @@
 use Rattle.std.specs.Prelude.{◌≡◌, ℕ, [], ◌∷◌, refl}
 use Rattle.std.proofs.Common.{arith}
 use Rattle.encoding_mem.specs.Items.{Byte, LostAt}
-use Rattle.recode.specs.Work.{IsCounted, TakesAtLeast, TakesCalls, ended_count}
+use Rattle.recode.specs.Work.{IsCounted, TakesAtLeast, TakesCalls, ended_count, fewest_calls, most_calls}
 use Rattle.recode.specs.declared.target.Counts.{Counts}
 use Rattle.std.specs.Prelude.{true, false}
 
@@ -48,3 +48,22 @@ counted_one = record { at_least = λ h. omega arith; at_most = omega arith }
 
 not_none : IsCounted 1 1 5 5 → ⊥
 not_none h = absurd (omega (arith, h.at_least (omega arith)))
+
+-- an input with no byte, and one with two
+fewest_without_a_byte : fewest_calls 0 0 0 ≡ 2
+fewest_without_a_byte = refl
+
+fewest_of_two : fewest_calls 2 0 0 ≡ 4
+fewest_of_two = refl
+
+fewest_with_a_malformed_sequence : fewest_calls 2 1 0 ≡ 7
+fewest_with_a_malformed_sequence = refl
+
+fewest_with_a_lost_character : fewest_calls 2 1 1 ≡ 8
+fewest_with_a_lost_character = refl
+
+most_without_a_byte : most_calls 0 ≡ 9
+most_without_a_byte = refl
+
+most_of_two : most_calls 2 ≡ 83
+most_of_two = refl
