@@ -75,11 +75,10 @@ fn message_of(fault: Fault, numbers: &mut [u8; 64]) -> &[u8]
 // Writes the message of a fault to the log; where that fails, the rest of it is dropped.
 fn tell_fault<L: Write>(log: &mut Counted<L>, fault: Fault)
     requires { failures_of log.old < 2 ^ 64 - 1 }
-    ensures message { (n : ℕ) × IsTold (failures_of log.old) (failures_of log.new)
+    ensures { (n : ℕ) × IsTold (failures_of log.old) (failures_of log.new)
         (message_of fault) n
         × Appends (L.contents (inner_of log.old)) (L.contents (inner_of log.new))
         (take n (message_of fault)) }
-    ensures count { failures_of log.old ≤ failures_of log.new }
 {
     let mut numbers = [0; 64];
     tell(log, message_of(fault, &mut numbers));

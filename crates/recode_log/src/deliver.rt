@@ -40,11 +40,10 @@ pub fn deliver<W: Write, F: Drop>(writer: &mut Counted<W>, bytes: &[u8], fault: 
 /// is tested by `Counted::failures`.
 pub fn tell<W: Write>(writer: &mut Counted<W>, message: &[u8])
     requires { failures_of writer.old < 2 ^ 64 - 1 }
-    ensures told { (n : ℕ)
+    ensures { (n : ℕ)
         × IsTold (failures_of writer.old) (failures_of writer.new) message.now n
         × Appends (W.contents (inner_of writer.old)) (W.contents (inner_of writer.new))
         (take n message.now) }
-    ensures count { failures_of writer.old ≤ failures_of writer.new }
 {
     match deliver(writer, message, ()) {
         Ok(()) => {}
