@@ -7,7 +7,7 @@ ghost use Rattle.encoding_mem.specs.EncoderRule.{IsFreshEncoder};
 ghost use Rattle.encoding_mem.specs.EncodedLength.{encoded_length_two_byte};
 ghost use Rattle.encoding_tables.specs.IndexLists.{has, entries_of};
 ghost use Rattle.encoding_tables.specs.Lookups.{AreEntries};
-ghost use Rattle.encoding_codecs.specs.ShiftJis.{is_shift_jis_lead, is_trail, shift_jis_pair_pointer, value_of_pointer, shift_jis_rule, pieces_shift_jis, shift_jis_single_byte, shift_jis_pointer, shift_jis_pair_bytes, shift_jis_char_bytes, shift_jis_form, shift_jis_coding};
+ghost use Rattle.encoding_codecs.specs.ShiftJis.{is_shift_jis_lead, is_trail, shift_jis_pair_pointer, shift_jis_rule, pieces_shift_jis, shift_jis_single_byte, shift_jis_pointer, shift_jis_pair_bytes, shift_jis_char_bytes, shift_jis_form, shift_jis_coding};
 ghost use Rattle.encoding_codecs.specs.laws.TwoByte.{two_byte_rule};
 ghost use Rattle.encoding_codecs.specs.laws.TwoByteDecide.{lead_rule_of};
 ghost use Rattle.encoding_codecs.specs.laws.ShiftJis.{shift_jis_is_two_byte, shift_jis_ascii, shift_jis_laws};

@@ -9,7 +9,7 @@ use Rattle.encoding_mem.specs.declared.encoder_result.EncoderResult.{EncoderResu
 use Rattle.encoding_mem.specs.declared.encoder_result.EncoderResult.TheVariants.{InputEmpty, OutputFull, Unmappable}
 use Rattle.encoding_mem.specs.declared.form.Form.TheVariants.{Unmapped}
 use Rattle.encoding_tables.specs.IndexLists.{IndexLists}
-use Rattle.encoding_front.specs.Encoder.{Encoded, EncoderState, Turned, coding_in, kept_back, kept_by_codec_kind, parts_in, referred}
+use Rattle.encoding_front.specs.Encoder.{Encoded, EncoderState, IsCodecOf, Turned, coding_in, kept_back, kept_by_codec_kind, parts_in, referred}
 use Rattle.encoding_front.specs.laws.Encoder.{coding_laws}
 use Rattle.encoding_front.specs.EncodingTable.{codec_kind_of}
 use Rattle.encoding_front.specs.Encodings.{coding_of, coding_of_codec_kind, output_encoding_of}
@@ -17,7 +17,7 @@ use Rattle.encoding_front.specs.declared.encoding.Encoding.{Encoding}
 use Rattle.encoding_front.specs.declared.codec_kind.CodecKind.{CodecKind}
 
 -- a call of its codec, said of its state
-pub encoded : (t : IndexLists) (enc : Encoding) (e e' : EncoderParts) → e ≡ parts_in (record { tables = t; encoding = enc; set = e.set })
+pub encoded : (t : IndexLists) (enc : Encoding) (e e' : EncoderParts) → IsCodecOf t enc e
     → (last : Bool) (answer : EncoderResult) (text written rest : List ℕ) (room : ℕ) → EncoderCall e e' last answer text written rest room
     → Encoded (record { tables = t; encoding = enc; set = e.set }) last answer text written (record { tables = t; encoding = enc; set = e'.set }) rest room
 encoded t enc e e' is last answer text written rest room c =

@@ -35,6 +35,10 @@ new_state t e = record { tables = t; encoding = output_encoding_of e; set = Asci
 abbrev pub parts_in : EncoderState → EncoderParts
 parts_in x = record { need = need_of x.encoding; coding = coding_in x; set = x.set; limits = encoded_length_of x.encoding }
 
+-- of the codec that an encoder stands on: what it is, with its set
+abbrev pub IsCodecOf : IndexLists → Encoding → EncoderParts → Type 0
+IsCodecOf t e p = p ≡ parts_in (record { tables = t; encoding = e; set = p.set })
+
 -- A call without replacement on a text, of an encoder that was x and is x': room is what is free behind what is
 -- written.
 pub record Encoded (x : EncoderState) (last : Bool) (answer : EncoderResult) (text written : List ℕ) (x' : EncoderState) (rest : List ℕ) (room : ℕ) : Type 0 where

@@ -1,7 +1,7 @@
 //! The decoder of a stream: a byte order mark is taken first, and U+FFFD is written where it is
 //! asked for.
 
-ghost use Rattle.std.specs.Prelude.{◌≡◌, ◌≢◌, ℕ, ◌<◌, ◌≤◌, ◌+◌, ◌-◌, ◌++◌, Bool, true, false, IsTrue, List, [], Some, length, take, drop, encode_utf8_all, refl, string_bytes, string_capacity, string_len, vec_capacity, vec_len};
+ghost use Rattle.std.specs.Prelude.{◌≡◌, ◌≢◌, ℕ, ◌<◌, ◌≤◌, ◌+◌, ◌-◌, ◌++◌, true, false, IsTrue, List, [], Some, length, take, drop, encode_utf8_all, refl, string_bytes, string_capacity, string_len, vec_capacity, vec_len};
 ghost use Rattle.std.specs.Str.{IsUtf8};
 ghost use Rattle.encoding_mem.specs.Decoding.{Suffices};
 ghost use Rattle.encoding_mem.specs.TextDestination.{Overwrites};

@@ -6,7 +6,7 @@ ghost use Rattle.std.specs.Char.Utf16.{utf16_lossy_chars};
 ghost use Rattle.encoding_mem.specs.Conversions.{IsUnitBoundary};
 ghost use Rattle.encoding_mem.specs.EncoderRule.{WritesBytes, left};
 ghost use Rattle.encoding_mem.specs.declared.form.EscapeState.TheVariants.{Ascii};
-ghost use Rattle.encoding_front.specs.Encoder.{Encoded, EncoderState, ReadsText, Replaces, kept_back, new_state, parts_in, queried_room, queried_with_kept, room_for, room_with_kept};
+ghost use Rattle.encoding_front.specs.Encoder.{Encoded, EncoderState, IsCodecOf, ReadsText, Replaces, kept_back, new_state, parts_in, queried_room, queried_with_kept, room_for, room_with_kept};
 ghost use Rattle.encoding_front.specs.laws.Encoder.{coding_laws};
 ghost use Rattle.encoding_front.specs.Encodings.{IsReady, coding_of, output_encoding_of};
 
@@ -58,12 +58,8 @@ impl<'t> Model for Encoder<'t> {
       set = (⟦<VariantEncoder<'static> as RawEncoder>⟧.parts s.variant).set;
     } };
 
-    ghost invariant = { λ s. ⟦<VariantEncoder<'static> as RawEncoder>⟧.parts s.variant
-        ≡ parts_in (record {
-          tables = s.tables.now;
-          encoding = s.encoding;
-          set = (⟦<VariantEncoder<'static> as RawEncoder>⟧.parts s.variant).set;
-        }) };
+    ghost invariant = { λ s. IsCodecOf s.tables.now s.encoding
+        (⟦<VariantEncoder<'static> as RawEncoder>⟧.parts s.variant) };
 }
 
 impl Encoding {

@@ -1,6 +1,6 @@
 //! A whole text at once.
 
-ghost use Rattle.std.specs.Prelude.{◌≡◌, ◌↔◌, ℕ, ◌+◌, ◌-◌, ◌<◌, ◌≤◌, false, IsTrue, length, IfOk, vec_capacity, vec_len};
+ghost use Rattle.std.specs.Prelude.{◌≡◌, ◌↔◌, ◌-◌, ◌<◌, ◌≤◌, false, IsTrue, length, IfOk, vec_capacity, vec_len};
 ghost use Rattle.std.specs.Str.{chars};
 ghost use Rattle.encoding_mem.specs.declared.reference.Reference.TheVariants.{Decimal};
 ghost use Rattle.encoding_mem.specs.Coding.{lost_count, output};

@@ -1,6 +1,6 @@
 //! Encoding with references for characters without bytes, once for both kinds of source.
 
-ghost use Rattle.std.specs.Prelude.{◌≡◌, ◌≢◌, false, ◌+◌, ◌-◌, ◌≤◌, length, take, drop};
+ghost use Rattle.std.specs.Prelude.{◌≡◌, ◌≢◌, false, ◌+◌, ◌-◌, ◌≤◌, length, take};
 ghost use Rattle.encoding_mem.specs.EncoderRule.{WritesBytes, left};
 ghost use Rattle.encoding_front.specs.Encoder.{ReplacingEndsWith, Replaces, Turned, kept_back, room_for, room_with_kept};
 

@@ -59,7 +59,7 @@ impl<'t> VariantEncoder<'t> {
         ensures { IsFreshEncoder (⟦<VariantEncoder<'t> as RawEncoder>⟧.parts result)
             (need_of encoding) (coding_of tables.now encoding) (encoded_length_of encoding) }
     {
-        match encoding.output_encoding().codec_kind() {
+        match encoding.codec_kind() {
             CodecKind::SingleByte(kind) => {
                 VariantEncoder::SingleByte(SingleByteEncoder::new(tables, kind))
             }
@@ -72,7 +72,7 @@ impl<'t> VariantEncoder<'t> {
             }
             CodecKind::Iso2022Jp => VariantEncoder::Iso2022Jp(Iso2022JpEncoder::new(tables)),
             CodecKind::UserDefined => VariantEncoder::UserDefined(UserDefinedEncoder::new()),
-            // No output encoding is UTF-16 or replacement.
+            // The output encoding of UTF-16 and of replacement is UTF-8.
             CodecKind::Utf8 | CodecKind::Utf16 { .. } | CodecKind::Replacement => {
                 VariantEncoder::Utf8(Utf8Encoder::new())
             }

@@ -107,13 +107,6 @@ held_all before P src window last held pending read W is all h =
       rest = λ r e. h.rest r e ∙ ap (λ x. h.taken ++ P (x ++ r)) (sym whole) ∙ ap (λ x. h.taken ++ P (pending ++ (x ++ r))) (sym (drop_all (length src) src (omega arith)));
     }
 
--- nothing is pending
-pub none_pending : (WellFormed : ℕ → List Piece → Type 0) (before P : List ℕ → List Piece) (src : List ℕ) (last : Bool) (held : ℕ) (pending : List ℕ) (read : ℕ) (W : List ℕ → Type 0)
-    → pending ≡ []
-    → Takes (WellFormed 0) before P src last held 0 read W
-    → Takes (WellFormed (length pending)) before (λ x. P (pending ++ x)) src last held (length pending) read W
-none_pending WellFormed before P src last held pending read W none h = subst (λ (y : List ℕ). Takes (WellFormed (length y)) before (λ x. P (y ++ x)) src last held (length y) read W) (sym none) h
-
 -- a part of a call, and then another
 reports_after : (outcome : DecoderResult) (pending : ℕ) (a b : List Piece) → AreWellFormed a → Reports outcome pending b → Reports outcome pending (a ++ b)
 reports_after InputEmpty pending a b h k = AreWellFormed-append a b h k

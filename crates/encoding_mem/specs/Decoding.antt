@@ -93,13 +93,14 @@ EndsWith after unread last free room mark (Malformed a b) = mark ≤ free
 -- Room that is enough for the size bytes of a call and m more, none after a last call, isn't refused, and what is left
 -- is enough for the unread ones of them. before and after are the needs of so many new bytes, old and new is the room
 -- that is free.
-abbrev pub Suffices : (before after : OutputUnit → ℕ → ℕ) (t last : Bool) (size unread old new : ℕ) → DecoderResult → Type 0
-Suffices before after t last size unread old new InputEmpty = (k : OutputUnit) (m : ℕ) → is_units k ≡ t → (IsTrue last → m ≡ 0) → before k (size + m) ≤ old → after k m ≤ new
-Suffices before after t last size unread old new OutputFull = (k : OutputUnit) (m : ℕ) → is_units k ≡ t → (IsTrue last → m ≡ 0) → before k (size + m) ≤ old → ⊥
-Suffices before after t last size unread old new (Malformed a b) = (k : OutputUnit) (m : ℕ) → is_units k ≡ t → (IsTrue last → m ≡ 0) → before k (size + m) ≤ old → left_after (goes_on k) (replacement_len t) (after k (unread + m)) ≤ new
+abbrev pub Suffices : (before after : OutputUnit → ℕ → ℕ) (units last : Bool) (size unread old new : ℕ) → DecoderResult → Type 0
+Suffices before after units last size unread old new InputEmpty = (k : OutputUnit) (m : ℕ) → is_units k ≡ units → (IsTrue last → m ≡ 0) → before k (size + m) ≤ old → after k m ≤ new
+Suffices before after units last size unread old new OutputFull = (k : OutputUnit) (m : ℕ) → is_units k ≡ units → (IsTrue last → m ≡ 0) → before k (size + m) ≤ old → ⊥
+Suffices before after units last size unread old new (Malformed a b) = (k : OutputUnit) (m : ℕ) → is_units k ≡ units → (IsTrue last → m ≡ 0) → before k (size + m) ≤ old → left_after (goes_on k) (replacement_len units) (after k (unread + m)) ≤ new
 
 -- One call of a decoder into a destination: what it was and is, which bytes of src it read, whose scalars Writes says
--- were written, whether they are units, the room that was free and is, and the room that any character wants and U+FFFD.
+-- were written, and whether in units; old and new is the room that was free and is, room is enough for any character,
+-- and mark for U+FFFD.
 pub record StateCall (before after : DecoderState) (src : List ℕ) (last : Bool) (read : ℕ) (Writes : List ℕ → Type 0) (units : Bool) (old new room mark : ℕ) (outcome : DecoderResult) : Type 0 where
   pub law : StateLaw before after src last read Writes outcome
   pub ends : EndsWith after (drop read src) last new room mark outcome

@@ -61,8 +61,8 @@ abbrev pub PartSuffices : (before after : OutputUnit → ℕ → ℕ) (t last : 
 PartSuffices before after t last size unread old new None = (k : OutputUnit) (m : ℕ) → is_units k ≡ t → (IsTrue last → m ≡ 0) → before k (size + m) ≤ old → after k (unread + m) ≤ new
 PartSuffices before after t last size unread old new (Some outcome) = Suffices before after t last size unread old new outcome
 
--- A call of the driver, or such a part of one: what the rule makes of bytes and what room it needs, before and after,
--- what was pending and is, what was read of src, and the room that was free and is.
+-- A call of the driver, or a part of one, which has no outcome if the call goes on: what the rule makes of bytes and what
+-- room it needs, before and after, and what was pending and is; the rest as in `StateCall`.
 pub record DriverCall (pieces pieces' : List ℕ → List Piece) (needs needs' : OutputUnit → ℕ → ℕ) (pending pending' src : List ℕ) (last : Bool) (read : ℕ) (Writes : List ℕ → Type 0) (units : Bool) (old new room mark : ℕ) (outcome : Option DecoderResult) : Type 0 where
   pub law : Takes (PartReports outcome (length pending')) (λ x. pieces (pending ++ x)) (λ x. pieces' (pending' ++ x)) src last (length pending) (length pending') read Writes
   pub ends : PartEnds pieces' pending' (drop read src) last new room mark outcome

@@ -11,8 +11,9 @@ use Rattle.encoding_mem.specs.declared.encoder_result.EncoderResult.{EncoderResu
 use Rattle.encoding_mem.specs.declared.encoder_result.EncoderResult.TheVariants.{InputEmpty, OutputFull, Unmappable}
 use Rattle.encoding_mem.specs.declared.room.EncodedLength.{EncodedLength}
 
--- What an encoder is to its callers: the most bytes that one step writes, what it makes of each character, the set that
--- is in force, and the room that is enough, as the length queries return it.
+-- What an encoder is to its callers: the most bytes that one step, an escape or a character, writes; what it makes of
+-- each character in each set, with its bytes and the escapes; the set that is in force; and the room that is enough, as
+-- the length queries return it.
 pub record EncoderParts : Type 0 where
   pub need : ℕ
   pub coding : Coding

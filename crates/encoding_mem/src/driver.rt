@@ -146,7 +146,8 @@ pub(crate) fn finish_pending<F: DecoderRule, S: Sink>(
 }
 
 /// Decodes a source where nothing is pending: runs of text as a whole, and what else there is by
-/// pieces. Returns how the call ended, and the bytes read.
+/// pieces. Returns how the call ended, and the bytes read. For speed the caller lends a sink of its
+/// own (`Sink::detach`).
 #[inline(always)]
 pub(crate) fn decode_pieces<F: DecoderRule, S: Sink>(
     codec: &mut F,

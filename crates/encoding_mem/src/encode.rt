@@ -21,8 +21,7 @@ use crate::source::Source;
 /// force. How a call reads, writes and stops is the driver's. A type that has one is a
 /// `SourceEncoder` and a `RawEncoder`.
 pub trait EncoderRule {
-    /// What contracts say of an encoder: the most bytes of a step, what it makes of each character,
-    /// the set in force, and the room that is enough.
+    /// What an encoder is to its callers.
     ghost parts: { Self → EncoderParts };
 
     /// The set in which a character is written after the set `from`, and its bytes there, or the
@@ -59,8 +58,8 @@ pub trait EncoderRule {
     fn encoded_length(&self) -> EncodedLength
         ensures { result ≡ (parts self.now).limits };
 
-    /// That no escape and no character has more bytes than a step may need, and what else is true
-    /// of every target.
+    /// That no escape and no character has more bytes than `need` of its parts, and what else is
+    /// true of every target.
     ghost laws: { (x : Self) → IsCoding (parts x).need (parts x).coding };
 
     /// The room of the length queries is enough.

@@ -1,6 +1,6 @@
 //! What an encoder makes of one character.
 
-ghost use Rattle.std.specs.Prelude.{◌≡◌, ℕ, ◌+◌, ◌<◌, ◌≤◌, List, [], ◌∷◌, ◌++◌, length, take};
+ghost use Rattle.std.specs.Prelude.{◌≡◌, ℕ, ◌+◌, ◌≤◌, List, [], ◌∷◌, length, take};
 ghost use Rattle.std.specs.Char.{encode_utf8};
 
 use std::marker::Model;
@@ -89,10 +89,10 @@ impl Bytes {
     }
 
     /// The UTF-8 of a character.
-    pub fn utf8(c: char) -> Self
-        ensures { result ≡ encode_utf8 c }
+    pub fn utf8(character: char) -> Self
+        ensures { result ≡ encode_utf8 character }
     {
-        match *c.encode_utf8(&mut [0; 4]).as_bytes() {
+        match *character.encode_utf8(&mut [0; 4]).as_bytes() {
             [a] => Bytes::one(a),
             [a, b] => Bytes::two(a, b),
             [a, b, c] => Bytes::three(a, b, c),

@@ -1,6 +1,6 @@
 //! Conversions from Latin1, whose bytes are scalars, and into it.
 
-ghost use Rattle.std.specs.Prelude.{◌≡◌, ℕ, ◌*◌, ◌≤◌, [], ◌∷◌, length, take, drop, encode_utf8_all};
+ghost use Rattle.std.specs.Prelude.{◌≡◌, ◌*◌, ◌≤◌, [], ◌∷◌, length, take, drop, encode_utf8_all};
 ghost use Rattle.std.specs.Str.{chars};
 ghost use Rattle.encoding_mem.specs.Conversions.{IsLongest, low_bytes};
 ghost use Rattle.encoding_mem.specs.Latin1.{AllLatin1, IsLatin1Text};

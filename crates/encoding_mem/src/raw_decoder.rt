@@ -1,6 +1,6 @@
 //! The decoder that callers use: its calls into bytes and units, and its queries.
 
-ghost use Rattle.std.specs.Prelude.{◌≢◌, ◌≡◌, ℕ, ◌+◌, ◌-◌, ◌≤◌, true, false, length, drop, encode_utf8_all};
+ghost use Rattle.std.specs.Prelude.{◌≢◌, ◌≡◌, ◌+◌, ◌-◌, ◌≤◌, true, false, length, drop, encode_utf8_all};
 ghost use Rattle.encoding_mem.specs.Writing.{Adds, encode_utf16_all};
 ghost use Rattle.encoding_mem.specs.Decoding.{DecoderState, StateCall};
 ghost use Rattle.encoding_mem.specs.DecodedLength.{decoded_length, queried};

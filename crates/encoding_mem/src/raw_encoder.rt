@@ -1,6 +1,6 @@
 //! The encoder that callers use: its calls from text and units, and its queries.
 
-ghost use Rattle.std.specs.Prelude.{◌≡◌, ◌≢◌, ◌↔◌, ℕ, ◌-◌, ◌≤◌, IsTrue, length, take, drop};
+ghost use Rattle.std.specs.Prelude.{◌≡◌, ◌≢◌, ◌↔◌, ◌-◌, ◌≤◌, IsTrue, length, take, drop};
 ghost use Rattle.std.specs.Str.{chars, IsCharBoundary};
 ghost use Rattle.std.specs.Char.Utf16.{utf16_lossy_chars};
 ghost use Rattle.encoding_mem.specs.Coding.{IsCoding};
@@ -18,8 +18,7 @@ use crate::encoder_result::EncoderResult;
 /// which comes first in the next call. `last` says that the text ends with `src`; after it the
 /// encoder is as a new one.
 pub trait RawEncoder {
-    /// What contracts say of an encoder: the most bytes of a step, what it makes of each character,
-    /// the set in force, and the room that is enough.
+    /// What an encoder is to its callers.
     ghost parts: { Self → EncoderParts };
 
     /// Encodes text up to the first character without bytes. Returns how the call ended, how many
@@ -78,7 +77,7 @@ pub trait RawEncoder {
     fn has_pending_state(&self) -> bool
         ensures { IsTrue result ↔ ((parts self.now).set ≢ Ascii) };
 
-    /// That no escape and no character has more bytes than a step may need, and what else is true
-    /// of every target.
+    /// That no escape and no character has more bytes than `need` of its parts, and what else is
+    /// true of every target.
     ghost laws: { (x : Self) → IsCoding (parts x).need (parts x).coding };
 }

@@ -1,6 +1,6 @@
 //! A decoder into any destination, and how a rule becomes one.
 
-ghost use Rattle.std.specs.Prelude.{◌≡◌, ℕ, ◌<◌, ◌≤◌, ◌+◌, ◌-◌, [], length, drop, encode_utf8_all};
+ghost use Rattle.std.specs.Prelude.{◌≡◌, ◌<◌, ◌+◌, ◌-◌, length};
 ghost use Rattle.encoding_mem.specs.Decoding.{DecoderState, StateCall};
 ghost use Rattle.encoding_mem.specs.Decoding.{IsFreshDecoder, ReadsByRule};
 ghost use Rattle.encoding_mem.specs.Driver.{IsNear, buffered};

@@ -1,6 +1,6 @@
 //! An encoder of any source, and the two sources that a raw encoder is handed.
 
-ghost use Rattle.std.specs.Prelude.{◌≡◌, ◌≢◌, ◌↔◌, ℕ, ◌-◌, ◌≤◌, IsTrue, length, take, drop};
+ghost use Rattle.std.specs.Prelude.{◌≡◌, ◌≢◌, ◌↔◌, ◌-◌, ◌≤◌, IsTrue, length, take};
 ghost use Rattle.encoding_mem.specs.Coding.{IsCoding};
 ghost use Rattle.encoding_mem.specs.DecodedLength.{bound_at};
 ghost use Rattle.encoding_mem.specs.EncodedLength.{bound_for};
@@ -17,8 +17,7 @@ use crate::source::{Source, Utf8Source, Utf16Source};
 /// An encoder that reads any source. Each is a `RawEncoder` too, whose calls on slices come by one
 /// `impl`; the rule of use is that of `RawEncoder`.
 pub trait SourceEncoder {
-    /// What contracts say of an encoder: the most bytes of a step, what it makes of each character,
-    /// the set in force, and the room that is enough.
+    /// What an encoder is to its callers.
     ghost parts: { Self → EncoderParts };
 
     /// Encodes what is left of a source up to the first character without bytes. Returns how the
@@ -47,8 +46,8 @@ pub trait SourceEncoder {
     fn is_in_other_set(&self) -> bool
         ensures { IsTrue result ↔ ((parts self.now).set ≢ Ascii) };
 
-    /// That no escape and no character has more bytes than a step may need, and what else is true
-    /// of every target.
+    /// That no escape and no character has more bytes than `need` of its parts, and what else is
+    /// true of every target.
     ghost laws: { (x : Self) → IsCoding (parts x).need (parts x).coding };
 }
 

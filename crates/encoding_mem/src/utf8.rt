@@ -1,15 +1,14 @@
 //! The decoder of UTF-8 (RFC 3629, section 4).
 
 ghost use Rattle.std.proofs.Common.{refl, arith};
-ghost use Rattle.std.specs.Prelude.{◌+◌, ◌*◌, ◌≡◌, ℕ, ◌<◌, ◌≤◌, ◌==◌, ◌↔◌, IsTrue, List, [], length, take, min, if◌then◌else◌};
+ghost use Rattle.std.specs.Prelude.{◌+◌, ◌*◌, ◌≡◌, ◌<◌, ◌≤◌, ◌==◌, ◌↔◌, IsTrue, [], length, take, min};
 ghost use Rattle.std.specs.Int.{IsInRange, is_in_range};
-ghost use Rattle.std.specs.Str.{IsUtf8};
 ghost use Rattle.std.specs.Str.Lossy.{utf8_valid_len};
 ghost use Rattle.encoding_mem.specs.DecoderRule.{IsNotLonger};
 ghost use Rattle.encoding_mem.specs.Decoding.{IsFreshDecoder};
 ghost use Rattle.encoding_mem.specs.DecodedLength.{decoded_length, decoded_length_utf8};
 ghost use Rattle.encoding_mem.specs.laws.Pieces.{pieces_by-nil, pieces_by-whole, pieces_by-are_pieces};
-ghost use Rattle.encoding_mem.specs.Utf8.{first_piece_utf8, pieces_utf8, scalar_of_two, scalar_of_three, scalar_of_four, second_min, second_max};
+ghost use Rattle.encoding_mem.specs.Utf8.{first_piece_utf8, pieces_utf8, second_min, second_max};
 ghost use Rattle.encoding_mem.specs.laws.Utf8Decide.{decide_utf8, utf8_decide_lead, utf8_decide_two, utf8_decide_three};
 ghost use Rattle.encoding_mem.specs.laws.Utf8.{cuts_utf8};
 

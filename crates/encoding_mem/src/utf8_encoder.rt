@@ -1,6 +1,5 @@
 //! The encoder of UTF-8.
 
-ghost use Rattle.std.specs.Prelude.{◌≡◌};
 ghost use Rattle.encoding_mem.specs.EncoderRule.{IsFreshEncoder};
 ghost use Rattle.encoding_mem.specs.EncodedLength.{encoded_length_utf8};
 ghost use Rattle.encoding_mem.specs.laws.EncodedLength.{utf8_room};

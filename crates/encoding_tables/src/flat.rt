@@ -58,7 +58,7 @@ impl<'a> Flat<'a> {
     }
 
     /// The least pointer from `from` to below `to` with this character, or `None` where there is
-    /// none (the Encoding Standard, section 5, "index pointer").
+    /// none (the Encoding Standard, section 5, "index pointer"). U+0000 has none.
     #[inline]
     pub fn first_pointer(&self, c: char, from: u32, to: u32) -> Option<u32>
         ensures pointer { result ≡ first_pointer self.now c from to }
@@ -74,7 +74,7 @@ impl<'a> Flat<'a> {
 
     /// The greatest pointer from `from` to below `to` with this character, or `None` where there is
     /// none (what "index Big5 pointer" of the Encoding Standard, section 5, takes for six
-    /// characters).
+    /// characters). U+0000 has none.
     #[inline]
     pub fn last_pointer(&self, c: char, from: u32, to: u32) -> Option<u32>
         ensures pointer { result ≡ last_pointer self.now c from to }

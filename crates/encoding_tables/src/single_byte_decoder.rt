@@ -2,7 +2,7 @@
 //! decoder").
 
 ghost use Rattle.std.proofs.Common.{refl, arith};
-ghost use Rattle.std.specs.Prelude.{◌≡◌, ℕ, ◌<◌, not, true};
+ghost use Rattle.std.specs.Prelude.{◌≡◌, ◌<◌, not, true};
 ghost use Rattle.std.specs.List.{position};
 ghost use Rattle.encoding_mem.specs.laws.Pieces.{pieces_by-nil, pieces_by-whole, pieces_by-are_pieces};
 ghost use Rattle.encoding_mem.specs.Decoding.{IsFreshDecoder};

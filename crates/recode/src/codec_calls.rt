@@ -1,10 +1,9 @@
 //! The calls of codecs over text in a pivot, and that text: what form it has is known here alone.
 
-ghost use Rattle.std.specs.Prelude.{◌≡◌, ◌↔◌, ℕ, ◌++◌, ◌+◌, ◌-◌, ◌≤◌, IsTrue, List, MatchOption, [], count_by, drop, encode_utf8_all, false, length, take, true};
-ghost use Rattle.std.specs.Char.Utf16.{utf16_lossy_chars};
+ghost use Rattle.std.specs.Prelude.{◌≡◌, ◌↔◌, ℕ, ◌++◌, ◌+◌, ◌-◌, IsTrue, List, MatchOption, [], count_by, drop, encode_utf8_all, false, length, take, true};
 ghost use Rattle.std.specs.Str.{all_scalars, chars};
 ghost use Rattle.encoding_mem.specs.Decoding.{StateLaw};
-ghost use Rattle.encoding_mem.specs.EncoderRule.{EncoderCall};
+ghost use Rattle.encoding_mem.specs.EncoderRule.{EncoderCall, WritesBytes};
 ghost use Rattle.encoding_mem.specs.Writing.{Adds, encode_utf16_all};
 ghost use Rattle.encoding_front.specs.DecoderCall.{DecoderCall};
 ghost use Rattle.encoding_front.specs.Stream.{finishes};
@@ -226,7 +225,7 @@ pub fn encode_from_pivot<'p, E: RawEncoder>(
     ensures passed { result.characters + length (pivot_chars result.rest)
         ≡ length (pivot_chars text.entry) }
     ensures parts { IsWholeText text.entry → IsCutInto text.entry result.read result.rest }
-    ensures room { result.written ≤ length out.new }
+    ensures wrote { WritesBytes out.old out.new result.written }
     ensures call { EncoderCall (E.parts encoder.old) (E.parts encoder.new) last result.answer
         (pivot_chars text.entry) (take result.written out.new) (pivot_chars result.rest)
         (length out.new - result.written) }

@@ -1,6 +1,6 @@
 //! The program over any devices and index files: arguments, labels, indexes, then a conversion.
 
-ghost use Rattle.std.specs.Prelude.{◌≡◌, ◌⊎◌, ◌≤◌, ◌<◌, ◌^◌, ◌-◌, ℕ, length, map, OnOk};
+ghost use Rattle.std.specs.Prelude.{◌≡◌, ◌⊎◌, ◌≤◌, ◌<◌, ◌^◌, ◌-◌, length, map, OnOk};
 ghost use Rattle.encoding_front.specs.Encodings.{IsReady, output_encoding_of};
 ghost use Rattle.recode_log.specs.Counted.{failures_of};
 ghost use Rattle.recode.specs.Job.{IsValidJob};

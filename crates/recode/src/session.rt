@@ -1,7 +1,6 @@
 //! A conversion step by step, and a run, which is the loop over its steps.
 
-ghost use Rattle.std.specs.Prelude.{◌≡◌, ◌≤◌, ◌<◌, ◌^◌, ◌+◌, ◌-◌, ◌↔◌, ◌==◌, IsTrue, IsSome, OnOk, IfOk, IfErr, IfSome, [], true, false};
-ghost use Rattle.encoding_mem.specs.Decoding.{DecoderState};
+ghost use Rattle.std.specs.Prelude.{◌≡◌, ◌≤◌, ◌<◌, ◌^◌, ◌-◌, ◌↔◌, ◌==◌, IsTrue, IsSome, IfOk, IfErr, IfSome, true, false};
 ghost use Rattle.recode_log.specs.Counted.{failures_of};
 ghost use Rattle.recode.specs.Job.{IsValidJob};
 ghost use Rattle.recode.specs.Buffers.{AreEnough, KeepSizes};

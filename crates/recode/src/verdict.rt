@@ -19,7 +19,7 @@ pub struct Verdict<D> {
 }
 
 impl<D: StreamDecoder> Verdict<D> {
-    ghost use Rattle.std.specs.Prelude.{◌≡◌, ◌+◌, ℕ, false, length};
+    ghost use Rattle.std.specs.Prelude.{◌≡◌, ◌+◌, false, length};
     ghost use Rattle.std.specs.Bool.{MatchBool};
     ghost use Rattle.recode.specs.Buffers.{HoldsAnyCharacter, KeepsRoom, is_wide};
     ghost use Rattle.recode.specs.PivotText.{is_in_units, pivot_chars, IsWholeText};

@@ -1,9 +1,9 @@
 //! The words of the command line, handed to the program.
 
 ghost use Rattle.std.specs.Prelude.{◌≡◌, ◌≤◌, ◌<◌, ◌^◌, ◌-◌, ℕ, List, Option, map};
-ghost use Rattle.std.specs.Prelude.{IfErr, IfOk, IfSome, None, length, string_bytes};
+ghost use Rattle.std.specs.Prelude.{IfErr, IfOk, IfSome, length, string_bytes};
 ghost use Rattle.recode_log.specs.Counted.{failures_of};
-ghost use Rattle.recode.specs.Program.{AnswersProgram, ports};
+ghost use Rattle.recode.specs.Program.{ports};
 ghost use Rattle.recode_system.specs.CommandLine.{AnswersSystem, IsWhy, words_with_name};
 
 use crate::system_files::SystemFiles;

@@ -82,7 +82,7 @@ returns-in-InputEmpty-clause-part g c =
           })
       | inr full ↦
           let encodes = rw full at call.ensures.call.law in
-          let less = less_bytes _ _ _ _ (rw full at law) call.ensures.room (omega (arith, (rw full at call.ensures.call.ends).0, laws.few, c.requires.lent.output)) in
+          let less = less_bytes _ _ _ _ (rw full at law) call.ensures.wrote.room (omega (arith, (rw full at call.ensures.call.ends).0, laws.few, c.requires.lent.output)) in
           rw (target, full) (record {
             encodes = record {
               pays = writes_bytes _ _ _ _ _ _ _ _ _ c.in_ok-deliver.ensures.ok.0 refl refl (rw full at law);
