@@ -11,6 +11,8 @@
 - Each edit of `must-fail/` and `edits/` names a file, and each text that it replaces stands in it once.
 - `docs/reference/edits.md` is what `tools/edits_table.py` writes, and each edit that `tools/wrong_bodies.toml` names is
   there.
+- `docs/HEADLINE.md` is what `tools/headline.py` writes, and the headline stands on no more lines of definitions than
+  `tools/headline_lines` says, and that number is today's, so it only falls.
 - Each root file begins its code with the tactic that proofs are found by, and no handle is allowed.
 - Each public item of a library has a doc comment, and `docs/reference` is what `make doc` writes (`tools/reference.py`).
 - Each source file but a crate's root begins with a line that says what it is for (`//!`).
@@ -27,6 +29,7 @@ import sys
 sys.dont_write_bytecode = True
 
 import edits_table
+import headline
 import reference
 import usage
 
@@ -228,6 +231,7 @@ CHECKS = (
     manual,
     example,
     reference.faults,
+    headline.faults,
 )
 
 

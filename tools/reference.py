@@ -4,7 +4,8 @@
     python3 tools/reference.py
 
 A page has each public item that a public path leads to: its doc comment, its signature and its contract, as they stand
-in the source. An item that is re-exported is named by its shortest path. `make lint` calls `faults`: a public item
+in the source, and links from the words of the contract to `words.md`, which has each with the line above its definition
+and its place. An item that is re-exported is named by its shortest path. `make lint` calls `faults`: a public item
 without a doc comment, and a page that is not what this script writes.
 """
 
@@ -12,7 +13,8 @@ import os
 import re
 import sys
 
-TOP = os.path.abspath(os.path.join(os.path.dirname(os.path.abspath(__file__)), ".."))
+from definitions import TOP, WORD, definitions
+
 PAGES = os.path.join(TOP, "docs", "reference")
 
 # The libraries, lowest first. Other crates are programs and tests.
@@ -195,6 +197,74 @@ def library(crate):
     return page, sorted(found, key=lambda item: (item.path.count("::"), item.path.lower())), sorted(foreign)
 
 
+def public_words():
+    """The public definitions of the libraries by their names, of which each has one."""
+    found, _ = definitions(LIBRARIES)
+    return {d.name: d for d in found.values() if re.match(r"(?:abbrev |unfoldable |irrelevant )*pub ", d.source[0])}
+
+
+WORDS = public_words()
+
+
+def brought(place):
+    """The definitions that a source file brings in for its contracts."""
+    path = os.path.join(TOP, place.split(":")[0])
+    if path not in BROUGHT:
+        uses = re.findall(r"^ *ghost use Rattle\.[^{]*\.\{([^}]*)\};", read(path), re.M)
+        BROUGHT[path] = {name.strip() for names in uses for name in names.split(",")} & set(WORDS)
+    return BROUGHT[path]
+
+
+BROUGHT = {}
+
+
+def words_of(item):
+    """The words of an item's contract, in their order: not the names of its clauses."""
+    text = re.sub(r"\b(requires|ensures) \w+ \{", r"\1 {", "\n".join(item.code))
+    start = re.search(r"\b(?:requires|ensures)\b", text)
+    contract = text[start.start() :] if start else ""
+    return list(dict.fromkeys(word for word in WORD.findall(contract) if word in brought(item.place)))
+
+
+def linked(item):
+    """The line that links the words of an item's contract, and a line after it, or nothing."""
+    words = words_of(item)
+    if words:
+        yield "Words: %s." % ", ".join("[`%s`](words.md#%s)" % (word, word) for word in words)
+        yield ""
+
+
+def anchor(heading):
+    """The name of a heading's anchor."""
+    return re.sub(r"[^\w -]", "", heading.lower()).replace(" ", "-")
+
+
+def contents(found, crate):
+    """A line for each kind of item: a link to each of them."""
+    for heading in dict.fromkeys(heading for _, heading in HEADINGS):
+        kinds = [kind for kind, of in HEADINGS if of == heading]
+        here = [item for item in found if item.kind in kinds and not item.path.startswith("laws::")]
+        if here and heading != "Constants":
+            links = ("[`%s`](#%s)" % (item.path, anchor("%s::%s" % (crate, item.path))) for item in here)
+            yield "- %s: %s." % (heading, ", ".join(links))
+        elif here:
+            yield "- [%s](#%s)." % (heading, anchor(heading))
+    laws = [item for item in found if item.path.startswith("laws::")]
+    if laws:
+        links = ("[`%s`](#%s)" % (item.name, anchor("%s::%s" % (crate, item.path))) for item in laws)
+        yield "- Laws: %s." % ", ".join(links)
+
+
+def word_page(used):
+    """The page of the words that some contracts use."""
+    lines = ["# Words", "", "<!-- Written by tools/reference.py from the sources; do not edit. -->", ""]
+    lines += ["The definitions that contracts of public functions cite, with the line above each, and its place. What the headline stands on is on one page: [HEADLINE.md](../HEADLINE.md).", ""]
+    lines += ["| Word | What it is | Place |", "|---|---|---|"]
+    for word in sorted(used, key=lambda word: (word.lower(), word)):
+        lines.append('| <a id="%s"></a>`%s` | %s | %s |' % (word, word, WORDS[word].meaning(), WORDS[word].link("../../")))
+    return "\n".join(lines) + "\n"
+
+
 def entry(item, crate):
     """The lines of one item on its page: of a constant one line, with its value."""
     if item.kind == "const":
@@ -209,6 +279,7 @@ def entry(item, crate):
     if item.kind in ("enum", "struct") and shown:
         code = [code[0] + " {"] + ["    %s," % part.code[0].rstrip("{ ").rstrip() for part in shown] + ["}"]
     yield from ["```rust"] + dedent(code) + ["```", ""]
+    yield from linked(item)
     if item.implements:
         yield "Implements %s." % ", ".join("`%s`" % trait for trait in sorted(set(item.implements)))
         yield ""
@@ -226,16 +297,20 @@ def entry(item, crate):
         if part.kind == "fn":
             yield from ["#### `%s::%s`" % (item.name, part.name), ""] + part.doc + [""]
             yield from ["```rust"] + dedent(part.code) + ["```", ""]
+            yield from linked(part)
 
 
 def pages():
     """The name and the text of each page."""
     index = ["# Reference", "", "What each library offers, from its sources, by `make doc` (`tools/reference.py`)."]
-    index += ["A contract says what a call requires and ensures; [the definitions](../DEFINITIONS.md) have its words.", ""]
+    index += ["A contract says what a call requires and ensures; its words are in [words.md](words.md).", ""]
+    used = set()
     for crate in LIBRARIES:
         page, found, foreign = library(crate)
         lines = ["# %s" % crate, "", "<!-- Written by tools/reference.py from the sources; do not edit. -->", ""]
         lines += ["#" + line if line.startswith("# ") else line for line in page] + [""]
+        lines += ["## Contents", ""] + list(contents(found, crate)) + [""]
+        used.update(word for item in found for part in [item] + item.members for word in words_of(part))
         if foreign:
             lines += ["Re-exported from lower crates: %s." % ", ".join("`%s`" % name for name in foreign), ""]
         for heading in dict.fromkeys(heading for _, heading in HEADINGS):
@@ -254,6 +329,8 @@ def pages():
             lines += list(entry(item, crate))
         yield crate + ".md", re.sub(r"\n{3,}", "\n\n", "\n".join(lines)).rstrip("\n") + "\n"
         index.append("- [`%s`](%s.md): %s" % (crate, crate, " ".join(page).split(". ")[0].rstrip(".") + "."))
+    yield "words.md", word_page(used)
+    index.append("- [Words](words.md): the definitions that contracts cite, each with its line and its place.")
     index.append("- [Wrong bodies](edits.md): the edits that the prover has to refuse, by function.")
     yield "README.md", "\n".join(index) + "\n"
 
