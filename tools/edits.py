@@ -2,12 +2,12 @@
 """Tries edits, each a wrong body, which the prover has to refuse: those of `edits/` in each crate, which the merge gate
 leaves out, or with `--gate` those of `must-fail/`, which `rt ci` tries.
 
-    python3 tools/edits.py [--gate] [--jobs N] [CRATE[/NAME]..]
+    python3 tools/edits.py [--gate] [--jobs N] [--copies N] [CRATE[/NAME]..]
 
 With a name, those of the crate whose names begin with it. Without crates, those of `edits/` of each crate that has changed,
 or that stands on one that has, since its row of docs/EDITS.md was written. What came of a whole crate is written to that
-page as soon as it is done, so a run that was cut off goes on with the crates that are left. N crates are tried at a time,
-two where nothing is said.
+page as soon as it is done, so a run that was cut off goes on with the crates that are left. `--jobs` crates are tried at
+a time, two where nothing is said, and of a crate with many edits as many as `--copies` says, one where nothing is said.
 
 In a copy of the repository for each crate, with what checks have kept in `out/`, its edits are made in rounds: of each
 function at most one edit in a round. A check then says of each function whether it is proved, and of one that is not
@@ -30,6 +30,7 @@ import collections
 import concurrent.futures
 import datetime
 import os
+import queue
 import re
 import shutil
 import subprocess
@@ -249,11 +250,22 @@ def checked(folder, texts, aside=None):
 
 
 class Crate:
-    """A crate's copy, in which its edits are tried, and what came of each."""
+    """A crate's copies, in which its edits are tried, and what came of each."""
 
-    def __init__(self, name, folder):
-        self.name, self.folder = name, folder
+    def __init__(self, name, folders):
+        self.name, self.folder = name, folders[0]
         self.told, self.right = [], {}
+        self.free, self.pool = queue.SimpleQueue(), concurrent.futures.ThreadPoolExecutor(len(folders))
+        for folder in folders:
+            self.free.put(folder)
+
+    def checked(self, texts, aside=None):
+        """A check in a copy that is free."""
+        folder = self.free.get()
+        try:
+            return checked(folder, texts, aside)
+        finally:
+            self.free.put(folder)
 
     def tell(self, edit, kind, goals=()):
         self.told.append(("%s/%s" % (self.name, edit.name), kind, goals))
@@ -262,8 +274,7 @@ class Crate:
     def try_all(self, edits):
         left, stale = self.in_rounds([edit for edit in edits if edit.path])
         self.without_answers(stale)
-        for edit in [edit for edit in edits if not edit.path] + left:
-            self.alone(edit)
+        list(self.pool.map(self.alone, [edit for edit in edits if not edit.path] + left))
         return self.told
 
     def in_rounds(self, edits):
@@ -272,8 +283,9 @@ class Crate:
         is_decided, stale = True, {}
         while edits and is_decided:
             is_decided, left = False, []
-            for together, texts in rounds_of(edits, self.folder):
-                check = checked(self.folder, texts)
+            rounds = rounds_of(edits, self.folder)
+            checks = self.pool.map(lambda found: self.checked(found[1]), rounds)
+            for (together, _), check in zip(rounds, checks):
                 for edit in together:
                     if check.refusing(edit.path):
                         self.tell(edit, REFUSED, check.refusing(edit.path))
@@ -295,8 +307,9 @@ class Crate:
         edits, is_decided = list(stale), True
         while edits and is_decided:
             is_decided, left = False, []
-            for together, texts in rounds_of(edits, self.folder):
-                check = checked(self.folder, texts, {edit.path: stale[edit] for edit in together})
+            rounds = rounds_of(edits, self.folder)
+            checks = self.pool.map(lambda found: self.checked(found[1], {edit.path: stale[edit] for edit in found[0]}), rounds)
+            for (together, _), check in zip(rounds, checks):
                 for edit in together:
                     if edit.path in check.goals:
                         self.compare(edit, check, {edit.path: stale[edit]})
@@ -311,7 +324,7 @@ class Crate:
         """Finds the goals of functions that are open for the right body where answers are set aside."""
         left, found = dict(aside), aside
         while left and found:
-            check = checked(self.folder, {}, left)
+            check = self.checked({}, left)
             found = [path for path in left if path in check.goals]
             for path in found:
                 self.right.setdefault(path, {}).update(check.goals[path])
@@ -334,7 +347,7 @@ class Crate:
         texts = edit.made_in({}, self.folder)
         if texts is None:
             sys.exit("%s: a text that it replaces does not stand in its file once" % edit.name)
-        check = checked(self.folder, texts)
+        check = self.checked(texts)
         new = [name for path in check.goals for name in check.refusing(path)]
         rows = {file for file, error in check.errors if file.startswith("specs/") and not NAMES.search(error)}
         aside = {path: check.failing(path) for path in check.goals if check.failing(path)}
@@ -344,7 +357,7 @@ class Crate:
             self.tell(edit, REFUSED, new or sorted(rows))
         elif aside:
             self.look_at_right_bodies(aside)
-            self.compare(edit, checked(self.folder, texts, aside), aside)
+            self.compare(edit, self.checked(texts, aside), aside)
         else:
             self.tell(edit, STALE, sorted({file for file, _ in check.errors}))
 
@@ -365,19 +378,24 @@ def below(crate):
     return found
 
 
-def copy_for(crate, work):
+def copy_for(crate, copy):
     """A copy of the repository, with what checks have kept of this crate and of those below it."""
     kept = [os.path.join(CRATES, name) for name in below(crate)]
-    copy = os.path.join(work, crate)
     ignored = lambda folder, names: {".git"} | ({"out"} if folder not in kept else set())
     shutil.copytree(TOP, copy, symlinks=True, ignore=ignored)
     return os.path.join(copy, "crates", crate)
 
 
-def try_crate(crate, edits):
-    """What came of these edits, by checks of the whole crate in a copy."""
+# So many edits are worth a copy more.
+EDITS_OF_A_COPY = 20
+
+
+def try_crate(crate, edits, most):
+    """What came of these edits, by checks of the whole crate in copies, at most so many."""
+    count = min(most, 1 + len(edits) // EDITS_OF_A_COPY)
     with tempfile.TemporaryDirectory() as work:
-        return Crate(crate, copy_for(crate, work)).try_all(edits)
+        copies = [copy_for(crate, os.path.join(work, "%s_%d" % (crate, number))) for number in range(count)]
+        return Crate(crate, copies).try_all(edits)
 
 
 def said(*words):
@@ -431,6 +449,7 @@ def main():
     parser = argparse.ArgumentParser(description=__doc__, formatter_class=argparse.RawDescriptionHelpFormatter)
     parser.add_argument("--gate", action="store_true")
     parser.add_argument("--jobs", type=int, default=2)
+    parser.add_argument("--copies", type=int, default=1)
     parser.add_argument("names", nargs="*")
     given = parser.parse_args()
     page, head = Page(), said("git", "rev-parse", "--short", "HEAD")
@@ -443,7 +462,7 @@ def main():
         sys.exit("there are changes that no commit has")
 
     def tried(pair):
-        return pair[0], try_crate(*pair)
+        return pair[0], try_crate(*pair, given.copies)
 
     all_told = []
     with concurrent.futures.ThreadPoolExecutor(given.jobs) as pool:
