@@ -25,11 +25,13 @@ generate:
 	@python3 tools/generate_encodings.py
 
 # The reference pages of the libraries, docs/reference, from the doc comments and contracts in their sources; the page of
-# the edits; and the theorem on one page, docs/HEADLINE.md, with the definitions that it stands on.
+# the edits; the theorem on one page, docs/HEADLINE.md, with the definitions that it stands on; and their files,
+# docs/DEFINITIONS.md.
 doc:
 	@python3 tools/reference.py
 	@python3 tools/edits_table.py
 	@python3 tools/headline.py
+	@python3 tools/definitions_page.py
 
 # The parts of README.md and of the man page that say what the help says, from its text.
 usage:

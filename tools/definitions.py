@@ -58,6 +58,8 @@ def parse(crate, path, imported):
             for name in brought[2].split(","):
                 imported[name.strip().split(" as ")[-1]] = brought[1]
             continue
+        if line.startswith("-- Written by tools/"):
+            continue
         if line.startswith("--"):
             comment.append(line[2:].strip())
             continue

@@ -96,16 +96,16 @@ def first(seen, definition):
 
 
 def page():
-    """The text of the page, and on how many lines of definitions the headline stands."""
+    """The text of the page, on how many lines of definitions the headline stands, and in which files."""
     found, imports = definitions([crate for crate, _ in GROUPS])
     lines = ["# The headline", "", "<!-- Written by tools/headline.py from the sources; do not edit. -->", ""]
-    before, size = {}, 0
+    before, size, paths = {}, 0, set()
     for crate, function, name, about in CLAUSES:
         text, place = clause(crate, function, name)
         words = [word for line in text for word in WORD.findall(line)]
         seen, library = closure(words, found, imports)
         if not before:
-            size = count(seen)[1]
+            size, paths = count(seen)[1], {d.path for d in seen}
             lines += ["What is proved of a conversion that ends well, and all that it stands on: %d definitions, %d lines, in %d files. They are below in the order in which one reads them, from the clause down." % count(seen), ""]
             lines += ["## %s" % about, "", "The clause `%s` of `%s::%s` ([%s](../%s)):" % (name, crate, function, place, place.replace(":", "#L")), ""]
             lines += ["    " + line for line in text] + [""]
@@ -124,11 +124,11 @@ def page():
             lines += ["It stands on %d definitions, %d lines, in %d files" % count(seen) + (", of which these %d are not above:" % len(more) if more else ", all of them above."), ""]
             lines += table(more)
         before.update(seen)
-    return re.sub(r"\n{3,}", "\n\n", "\n".join(lines)).rstrip("\n") + "\n", size
+    return re.sub(r"\n{3,}", "\n\n", "\n".join(lines)).rstrip("\n") + "\n", size, paths
 
 
 def faults():
-    text, size = page()
+    text, size, paths = page()
     if not os.path.isfile(PAGE) or reference.read(PAGE) != text:
         yield "docs/HEADLINE.md is not of these sources: make doc"
     limit = int(reference.read(LINES))
@@ -136,6 +136,9 @@ def faults():
         yield "the headline stands on %d lines of definitions, more than %d" % (size, limit)
     elif size < limit:
         yield "the headline stands on %d lines of definitions: write this number to tools/headline_lines" % size
+    for path in sorted(paths):
+        if "/calls/" in path:
+            yield "the headline stands on %s, which is no part of what it means" % path
 
 
 def main():

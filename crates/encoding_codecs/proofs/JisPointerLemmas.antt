@@ -1,20 +1,16 @@
 -- EUC-JP and ISO-2022-JP write the least pointer.
 use Rattle.std.proofs.Common.{◌≡◌, ℕ, List, refl, ◌∙◌, ap, false, Option, None, Some}
 use Rattle.std.specs.Prelude.{MatchOption}
-use Rattle.std.specs.Option.{option_map, option_or}
+use Rattle.std.specs.Option.{option_map, option_or, option_and_then}
 use Rattle.std.proofs.lemmas.Bool.{le-ltb, ne_eqb}
 use Rattle.encoding_mem.specs.declared.form.Form.TheVariants.{Unmapped}
+use Rattle.encoding_mem.specs.Coding.{form_of_bytes}
 use Rattle.encoding_tables.specs.Lookups.{first_pointer}
 use Rattle.encoding_tables.specs.laws.Pointers.{first_is_least}
 use Rattle.encoding_codecs.specs.EucJp.{euc_jp_pair_bytes, own_bytes}
-use Rattle.encoding_codecs.specs.Iso2022JpForms.{iso_2022_jp_form, jis_form_of_pointer, pointer_of, looked_up}
+use Rattle.encoding_codecs.specs.Iso2022JpForms.{iso_2022_jp_form, looked_up, iso_2022_jp_pair_bytes}
 use Rattle.encoding_codecs.specs.JisForms.{is_katakana, folded}
-use Rattle.encoding_codecs.specs.JisPointers.{WritesLeastPointer, IsNoSingleByte, EucJpPointerIsLeast, Iso2022JpPointerIsLeast, iso_2022_jp_pair_bytes}
-use Rattle.encoding_codecs.specs.Pointers.{form_of_bytes, form_of_pointer}
-
-mapped_bytes : (bytes : ℕ → List ℕ) (c : ℕ) (o : Option ℕ) → form_of_bytes c (option_map bytes o) ≡ form_of_pointer bytes c o
-mapped_bytes bytes c None = refl
-mapped_bytes bytes c (Some p) = refl
+use Rattle.encoding_codecs.specs.JisPointers.{WritesLeastPointer, IsNoSingleByte, EucJpPointerIsLeast, Iso2022JpPointerIsLeast}
 
 no_own_bytes : (c : ℕ) → IsNoSingleByte c → is_katakana c ≡ false → own_bytes c ≡ None
 no_own_bytes c h kana = rw (le-ltb c 0x80 h.high, ne_eqb c 0xA5 h.no_yen, ne_eqb c 0x203E h.no_overline, kana) refl
@@ -25,24 +21,20 @@ euc_jp_pointer_is_least jis0208 c h kana =
     record {
       pointer = found;
       least = first_is_least jis0208 (folded c) 0 8836;
-      writes = ap (λ o. form_of_bytes c (option_or o (option_map euc_jp_pair_bytes found))) (no_own_bytes c h kana) ∙ mapped_bytes euc_jp_pair_bytes c found;
+      writes = ap (λ o. form_of_bytes c (option_or o (option_map euc_jp_pair_bytes found))) (no_own_bytes c h kana);
     }
 
-same_form : (c : ℕ) (o : Option ℕ) → jis_form_of_pointer c o ≡ form_of_pointer iso_2022_jp_pair_bytes c o
-same_form c None = refl
-same_form c (Some p) = refl
-
-looked_up_form : (jis0208 katakana : List ℕ) (c : ℕ) → IsNoSingleByte c → iso_2022_jp_form jis0208 katakana c ≡ jis_form_of_pointer c (pointer_of jis0208 (looked_up katakana c))
+looked_up_form : (jis0208 katakana : List ℕ) (c : ℕ) → IsNoSingleByte c → iso_2022_jp_form jis0208 katakana c ≡ form_of_bytes c (option_map iso_2022_jp_pair_bytes (option_and_then (λ d. first_pointer jis0208 d 0 8836) (looked_up katakana c)))
 looked_up_form jis0208 katakana c h = rw (le-ltb c 0x80 h.high, ne_eqb c 0xA5 h.no_yen, ne_eqb c 0x203E h.no_overline) refl
 
 by_entry : (jis0208 katakana : List ℕ) (c : ℕ) → IsNoSingleByte c → (o : Option ℕ) → looked_up katakana c ≡ o → MatchOption o
     (iso_2022_jp_form jis0208 katakana c ≡ Unmapped c)
     (λ d. WritesLeastPointer jis0208 8836 iso_2022_jp_pair_bytes c d (iso_2022_jp_form jis0208 katakana c))
-by_entry jis0208 katakana c h None e = looked_up_form jis0208 katakana c h ∙ ap (λ o. jis_form_of_pointer c (pointer_of jis0208 o)) e
+by_entry jis0208 katakana c h None e = looked_up_form jis0208 katakana c h ∙ ap (λ o. form_of_bytes c (option_map iso_2022_jp_pair_bytes (option_and_then (λ d. first_pointer jis0208 d 0 8836) o))) e
 by_entry jis0208 katakana c h (Some d) e = record {
   pointer = first_pointer jis0208 d 0 8836;
   least = first_is_least jis0208 d 0 8836;
-  writes = looked_up_form jis0208 katakana c h ∙ ap (λ o. jis_form_of_pointer c (pointer_of jis0208 o)) e ∙ same_form c (first_pointer jis0208 d 0 8836);
+  writes = looked_up_form jis0208 katakana c h ∙ ap (λ o. form_of_bytes c (option_map iso_2022_jp_pair_bytes (option_and_then (λ d. first_pointer jis0208 d 0 8836) o))) e;
 }
 
 pub iso_2022_jp_pointer_is_least : Iso2022JpPointerIsLeast

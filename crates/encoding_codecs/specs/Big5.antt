@@ -8,7 +8,7 @@ use Rattle.encoding_mem.specs.Pieces.{pieces_by}
 use Rattle.encoding_mem.specs.Stateless.{stateless}
 use Rattle.encoding_mem.specs.declared.form.Form.{Form}
 use Rattle.encoding_tables.specs.Lookups.{value_of, first_pointer, last_pointer}
-use Rattle.encoding_codecs.specs.TwoByte.{TwoByteRule, first_piece_two_byte}
+use Rattle.encoding_codecs.specs.TwoByte.{first_piece_two_byte}
 use Rattle.encoding_codecs.specs.Pointers.{value_of_entry, form_by_pointer}
 use Rattle.encoding_codecs.specs.declared.lead_byte_rule.FirstByte.{FirstByte}
 use Rattle.encoding_codecs.specs.declared.lead_byte_rule.FirstByte.TheVariants.{Lead, Unused}
@@ -23,6 +23,7 @@ big5_first a = if is_in_range 0x81 0xFE a then Lead else Unused
 abbrev pub big5_is_trail : ℕ → Bool
 big5_is_trail b = is_in_range 0x40 0x7E b || is_in_range 0xA1 0xFE b
 
+-- the pointer of a lead and a trail in index Big5: each lead has 157 trails
 abbrev pub big5_pointer : ℕ → ℕ → ℕ
 big5_pointer a b = (a - 0x81) * 157 + (b - (if nat_lt b 0x7F then 0x40 else 0x62))
 
@@ -35,35 +36,31 @@ big5_value flat p =
     else if p == 1166 then TwoChars 0xEA 0x30C
     else value_of_entry (value_of flat p)
 
+-- what a lead and the byte after it give in Big5, by its index: one character, two, or none
 abbrev pub big5_pair : List ℕ → ℕ → ℕ → PairValue
 big5_pair flat a b = if big5_is_trail b then big5_value flat (big5_pointer a b) else NoChar
 
-abbrev pub big5_rule : List ℕ → TwoByteRule
-big5_rule flat = record { first = big5_first; pair = big5_pair flat }
-
-abbrev pub first_piece_big5 : List ℕ → List ℕ → Piece
-first_piece_big5 flat = first_piece_two_byte (big5_rule flat)
-
+-- the pieces of an input in Big5, by the list of its index ("Big5 decoder", section 11.1.1)
 abbrev pub pieces_big5 : List ℕ → List ℕ → List Piece
-pieces_big5 flat = pieces_by (first_piece_big5 flat)
+pieces_big5 flat = pieces_by (first_piece_two_byte big5_first (big5_pair flat))
 
--- The pointer of a scalar is the least from 5024 on, below which Hong Kong's extensions stand; of six scalars it is the
--- greatest.
+-- the six characters for which Big5 writes the greatest pointer of its index, not the least
 abbrev pub takes_last : ℕ → Bool
 takes_last c = c == 0x2550 || c == 0x255E || c == 0x2561 || c == 0x256A || c == 0x5341 || c == 0x5345
 
+-- "index Big5 pointer" (section 5): a character's least pointer from 5024 to 19781, and of six
+-- characters the greatest, if there is one. Below 5024 Hong Kong's extensions stand.
 abbrev pub big5_find : List ℕ → ℕ → Option ℕ
 big5_find flat c = if takes_last c then last_pointer flat c 5024 19782 else first_pointer flat c 5024 19782
 
--- the bytes of a pointer
+-- the trail of a pointer in Big5, by its remainder modulo 157: 40 to 7E, then A1 to FE
 abbrev pub big5_trail : ℕ → ℕ
 big5_trail r = if nat_lt r 63 then 0x40 + r else 0x62 + r
 
+-- the two bytes of a pointer in Big5: the lead, from 81 on, and the trail
 abbrev pub big5_bytes : ℕ → List ℕ
 big5_bytes p = (0x81 + p / 157) ∷ big5_trail (p % 157) ∷ []
 
+-- the form of a character in Big5: one byte if it is ASCII, its pointer's two bytes, or none
 abbrev pub big5_form : List ℕ → ℕ → Form
 big5_form flat = form_by_pointer big5_bytes (big5_find flat)
-
-abbrev pub big5_coding : List ℕ → Coding
-big5_coding flat = stateless (big5_form flat)

@@ -8,7 +8,7 @@ use Rattle.encoding_mem.specs.Pieces.{pieces_by}
 use Rattle.encoding_mem.specs.Stateless.{stateless}
 use Rattle.encoding_mem.specs.declared.form.Form.{Form}
 use Rattle.encoding_tables.specs.Lookups.{value_of, first_pointer}
-use Rattle.encoding_codecs.specs.TwoByte.{TwoByteRule, first_piece_two_byte}
+use Rattle.encoding_codecs.specs.TwoByte.{first_piece_two_byte}
 use Rattle.encoding_codecs.specs.Pointers.{value_of_entry, form_by_pointer}
 use Rattle.encoding_codecs.specs.declared.lead_byte_rule.FirstByte.{FirstByte}
 use Rattle.encoding_codecs.specs.declared.lead_byte_rule.FirstByte.TheVariants.{Lead, Unused}
@@ -19,28 +19,22 @@ use Rattle.encoding_codecs.specs.declared.two_byte.PairValue.TheVariants.{NoChar
 abbrev pub euc_kr_first : ℕ → FirstByte
 euc_kr_first a = if is_in_range 0x81 0xFE a then Lead else Unused
 
--- the pointer of a lead and a trail, and what they give; the trails are 41 to FE
+-- the pointer of a lead and a trail in index EUC-KR: each lead has 190 trails, 41 to FE
 abbrev pub euc_kr_pointer : ℕ → ℕ → ℕ
 euc_kr_pointer a b = (a - 0x81) * 190 + (b - 0x41)
 
+-- what a lead and the byte after it give in EUC-KR, by its index: one character, or none
 abbrev pub euc_kr_pair : List ℕ → ℕ → ℕ → PairValue
 euc_kr_pair flat a b = if is_in_range 0x41 0xFE b then value_of_entry (value_of flat (euc_kr_pointer a b)) else NoChar
 
-abbrev pub euc_kr_rule : List ℕ → TwoByteRule
-euc_kr_rule flat = record { first = euc_kr_first; pair = euc_kr_pair flat }
-
-abbrev pub first_piece_euc_kr : List ℕ → List ℕ → Piece
-first_piece_euc_kr flat = first_piece_two_byte (euc_kr_rule flat)
-
+-- the pieces of an input in EUC-KR, by the list of its index ("EUC-KR decoder", section 13.1.1)
 abbrev pub pieces_euc_kr : List ℕ → List ℕ → List Piece
-pieces_euc_kr flat = pieces_by (first_piece_euc_kr flat)
+pieces_euc_kr flat = pieces_by (first_piece_two_byte euc_kr_first (euc_kr_pair flat))
 
--- the bytes of a pointer, and the form of a scalar: its least pointer counts
+-- the two bytes of a pointer in EUC-KR: the lead, from 81 on, and the trail, from 41 on
 abbrev pub euc_kr_bytes : ℕ → List ℕ
 euc_kr_bytes p = (0x81 + p / 190) ∷ (0x41 + p % 190) ∷ []
 
+-- the form of a character in EUC-KR: one byte if it is ASCII, its least pointer's two, or none
 abbrev pub euc_kr_form : List ℕ → ℕ → Form
 euc_kr_form flat = form_by_pointer euc_kr_bytes (λ c. first_pointer flat c 0 23940)
-
-abbrev pub euc_kr_coding : List ℕ → Coding
-euc_kr_coding flat = stateless (euc_kr_form flat)

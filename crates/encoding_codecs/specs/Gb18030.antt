@@ -2,7 +2,7 @@
 -- list of the index and by the rows of the ranges.
 use Rattle.std.specs.Prelude.{ℕ, ◌+◌, ◌-◌, ◌*◌, ◌==◌, ◌||◌, List, [], ◌∷◌, nat_lt, if◌then◌else◌, Option, None, Some}
 use Rattle.std.specs.Int.{is_in_range}
-use Rattle.encoding_mem.specs.Piece.{Piece, well_formed, malformed}
+use Rattle.encoding_mem.specs.Piece.{Piece, well_formed, malformed, piece_of_scalar}
 use Rattle.encoding_mem.specs.Pieces.{pieces_by}
 use Rattle.encoding_tables.specs.Lookups.{value_of}
 use Rattle.encoding_tables.specs.Ranges.{range_value}
@@ -17,10 +17,11 @@ use Rattle.encoding_codecs.specs.declared.two_byte.PairValue.TheVariants.{NoChar
 abbrev pub gb18030_first : ℕ → FirstByte
 gb18030_first a = if a == 0x80 then Alone 0x20AC else (if is_in_range 0x81 0xFE a then Lead else Unused)
 
--- trails are 40 to 7E and 80 to FE: a lead has 190 pointers
+-- what gb18030 subtracts from a trail for its pointer ("offset"): 40 if it is below 7F, else 41
 abbrev pub trail_offset : ℕ → ℕ
 trail_offset b = if nat_lt b 0x7F then 0x40 else 0x41
 
+-- the pointer of a lead and a trail in index gb18030: a lead has 190 trails, 40 to 7E and 80 to FE
 abbrev pub pair_pointer : ℕ → ℕ → ℕ
 pair_pointer a b = (a - 0x81) * 190 + (b - trail_offset b)
 
@@ -32,33 +33,31 @@ gb18030_pair flat a b = if is_in_range 0x40 0x7E b || is_in_range 0x80 0xFE b th
 abbrev pub four_pointer : ℕ → ℕ → ℕ → ℕ → ℕ
 four_pointer a b c d = (a - 0x81) * 12600 + (b - 0x30) * 1260 + (c - 0x81) * 10 + (d - 0x30)
 
-abbrev pub piece_of_four : Option ℕ → Piece
-piece_of_four None = malformed 4
-piece_of_four (Some c) = well_formed 4 (c ∷ [])
-
--- The piece that begins with three, two and one bytes of a longer form, and goes on with what follows them. Where four
--- bytes break off, the first is malformed alone, and those behind it are read again.
+-- The piece that three bytes of a form of four begin. If the next is not 30 to 39, the first is
+-- malformed alone, and those after it are read again. If the input ends, all three are malformed.
 abbrev pub gb18030_after_three : List (ℕ × ℕ) → ℕ → ℕ → ℕ → List ℕ → Piece
 gb18030_after_three rows a b c [] = malformed 3
-gb18030_after_three rows a b c (d ∷ x) = if is_in_range 0x30 0x39 d then piece_of_four (range_value rows (four_pointer a b c d)) else malformed 1
+gb18030_after_three rows a b c (d ∷ x) = if is_in_range 0x30 0x39 d then piece_of_scalar 4 (range_value rows (four_pointer a b c d)) else malformed 1
 
+-- The piece that two bytes of a form of four begin. If the next is not 81 to FE, the first is
+-- malformed alone, and those after it are read again. If the input ends, both are malformed.
 abbrev pub gb18030_after_two : List (ℕ × ℕ) → ℕ → ℕ → List ℕ → Piece
 gb18030_after_two rows a b [] = malformed 2
 gb18030_after_two rows a b (c ∷ x) = if is_in_range 0x81 0xFE c then gb18030_after_three rows a b c x else malformed 1
 
+-- the piece that a lead of gb18030 begins: read as four bytes if 30 to 39 is next, else as two
 abbrev pub gb18030_after_lead : List ℕ → List (ℕ × ℕ) → ℕ → List ℕ → Piece
 gb18030_after_lead flat rows a [] = malformed 1
 gb18030_after_lead flat rows a (b ∷ x) = if is_in_range 0x30 0x39 b then gb18030_after_two rows a b x else piece_of_trail 1 (gb18030_pair flat a b) b
 
-abbrev pub first_piece_gb18030 : List ℕ → List (ℕ × ℕ) → List ℕ → Piece
-first_piece_gb18030 flat rows = first_piece_by_lead gb18030_first (gb18030_after_lead flat rows)
-
+-- the pieces of an input in gb18030 or GBK, by the list of the index and the rows of the ranges
 abbrev pub pieces_gb18030 : List ℕ → List (ℕ × ℕ) → List ℕ → List Piece
-pieces_gb18030 flat rows = pieces_by (first_piece_gb18030 flat rows)
+pieces_gb18030 flat rows = pieces_by (first_piece_by_lead gb18030_first (gb18030_after_lead flat rows))
 
--- tables for examples: U+4E04 at the pointer 1, and no other entry
+-- a list of an index for examples: U+4E04 at the pointer 1, and no other entry
 unfoldable pub sample_flat : List ℕ
 sample_flat = 0 ∷ 0x4E04 ∷ []
 
+-- rows of ranges for examples: one row, in which the pointers from 189000 on count from U+10000
 unfoldable pub sample_rows : List (ℕ × ℕ)
 sample_rows = (189000, 0x10000) ∷ []

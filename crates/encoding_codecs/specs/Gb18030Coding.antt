@@ -6,12 +6,11 @@ use Rattle.std.specs.List.{find}
 use Rattle.std.specs.Option.{option_map, option_or}
 use Rattle.encoding_mem.specs.EncodedLength.{encoded_length_gb18030, encoded_length_two_byte}
 use Rattle.encoding_mem.specs.declared.room.EncodedLength.{EncodedLength}
-use Rattle.encoding_mem.specs.Coding.{Coding}
+use Rattle.encoding_mem.specs.Coding.{Coding, form_of_bytes}
 use Rattle.encoding_mem.specs.Stateless.{stateless}
 use Rattle.encoding_mem.specs.declared.form.Form.{Form}
 use Rattle.encoding_tables.specs.Lookups.{first_pointer}
 use Rattle.encoding_tables.specs.Ranges.{range_pointer}
-use Rattle.encoding_codecs.specs.Pointers.{form_of_bytes}
 
 -- The standard's table of private-use characters and their bytes: those of the edition of 2005. The decoder reads
 -- these bytes as the characters that took their place.
@@ -25,13 +24,15 @@ fixed_rows = (0xE78D, (0xA6, 0xD9)) ∷ (0xE78E, (0xA6, 0xDA)) ∷ (0xE78F, (0xA
 abbrev pub fixed_pair : ℕ → Option (ℕ × ℕ)
 fixed_pair c = option_map (λ r. r.1) (find (λ r. r.0 == c) fixed_rows)
 
+-- a lead and a trail, as a list of two bytes
 abbrev pub two_of : ℕ × ℕ → List ℕ
 two_of p = p.0 ∷ p.1 ∷ []
 
--- the lead and the trail of a pointer of the index
+-- the trail of a pointer of index gb18030, by its remainder modulo 190: 40 to 7E, then 80 to FE
 abbrev pub gb18030_trail : ℕ → ℕ
 gb18030_trail r = if nat_lt r 0x3F then 0x40 + r else 0x41 + r
 
+-- the two bytes of a pointer of index gb18030: the lead, from 81 on, and the trail
 abbrev pub gb18030_pair_bytes : ℕ → List ℕ
 gb18030_pair_bytes p = (0x81 + p / 190) ∷ gb18030_trail (p % 190) ∷ []
 
@@ -39,10 +40,11 @@ gb18030_pair_bytes p = (0x81 + p / 190) ∷ gb18030_trail (p % 190) ∷ []
 abbrev pub four_bytes : ℕ → List ℕ
 four_bytes p = (0x81 + p / 12600) ∷ (0x30 + p / 1260 % 10) ∷ (0x81 + p / 10 % 126) ∷ (0x30 + p % 10) ∷ []
 
--- the bytes of a character above ASCII, from the standard's table, from the index, and from the ranges
+-- the two bytes of a character by its least pointer in index gb18030, if it has one
 abbrev pub index_bytes : List ℕ → ℕ → Option (List ℕ)
 index_bytes flat c = option_map gb18030_pair_bytes (first_pointer flat c 0 23940)
 
+-- The four bytes of a character by its pointer in the ranges, if it has one. GBK has none of them.
 abbrev pub range_bytes : List (ℕ × ℕ) → Bool → ℕ → Option (List ℕ)
 range_bytes rows extended c = if extended then option_map four_bytes (range_pointer rows c) else None
 
@@ -53,11 +55,9 @@ gb18030_bytes flat rows extended c = if nat_lt c 0x80 then Some (c ∷ [])
     else if c == 0x20AC && not extended then Some (0x80 ∷ [])
     else option_or (option_map two_of (fixed_pair c)) (option_or (index_bytes flat c) (range_bytes rows extended c))
 
+-- the form of a character in gb18030, or in GBK: its one, two or four bytes, or that it has none
 abbrev pub gb18030_form : List ℕ → List (ℕ × ℕ) → Bool → ℕ → Form
 gb18030_form flat rows extended c = form_of_bytes c (gb18030_bytes flat rows extended c)
-
-abbrev pub gb18030_coding : List ℕ → List (ℕ × ℕ) → Bool → Coding
-gb18030_coding flat rows extended = stateless (gb18030_form flat rows extended)
 
 -- the most bytes of a character
 abbrev pub gb18030_need : Bool → ℕ

@@ -5,7 +5,7 @@ use Rattle.std.specs.Prelude.{◌≡◌, ℕ, ◌+◌, ◌-◌, ◌*◌, ◌==�
 use Rattle.std.specs.Int.{is_in_range}
 use Rattle.std.specs.Option.{unwrap_or}
 use Rattle.encoding_mem.specs.Decoding.{DecoderState}
-use Rattle.encoding_mem.specs.Piece.{Piece, well_formed, malformed}
+use Rattle.encoding_mem.specs.Piece.{Piece, well_formed, malformed, piece_of_scalar}
 use Rattle.encoding_mem.specs.Pieces.{pieces_by}
 use Rattle.encoding_tables.specs.Lookups.{value_of}
 use Rattle.encoding_codecs.specs.declared.iso_2022_jp_decoder.Mode.{Mode}
@@ -15,43 +15,37 @@ use Rattle.encoding_codecs.specs.declared.iso_2022_jp_decoder.Mode.TheVariants.{
 
 -- the mode that three bytes switch to, if they are an escape
 abbrev pub escape_of : ℕ → ℕ → ℕ → Option Mode
-escape_of a b c = if a == 0x1B
-    then (if b == 0x28
+escape_of a b c = if a == 0x1B then (if b == 0x28
     then (if c == 0x42 then Some Ascii else (if c == 0x4A then Some Roman else (if c == 0x49 then Some Katakana else None)))
-    else (if b == 0x24 then (if c == 0x40 then Some Jis else (if c == 0x42 then Some Jis else None)) else None))
-    else None
+    else (if b == 0x24 then (if c == 0x40 then Some Jis else (if c == 0x42 then Some Jis else None)) else None)) else None
 
 -- that of the whole escape with which bytes begin
 abbrev pub escape_at : List ℕ → Option Mode
-escape_at [] = None
-escape_at (a ∷ []) = None
-escape_at (a ∷ b ∷ []) = None
 escape_at (a ∷ b ∷ c ∷ x) = escape_of a b c
+escape_at _ = None
 
 -- ---- text
 
--- the sets of one byte a character: what a byte is in ASCII, and in each mode but JIS
+-- a byte as a piece in ASCII mode: malformed if it is 0E, 0F, 1B or from 80 on, and else itself
 abbrev pub ascii_piece : ℕ → Piece
 ascii_piece b = if nat_le 0x80 b || b == 0x0E || b == 0x0F || b == 0x1B then malformed 1 else well_formed 1 (b ∷ [])
 
+-- a byte as a piece in Roman mode: 5C is U+00A5, 7E is U+203E, any other is as in ASCII mode
 abbrev pub roman_piece : ℕ → Piece
 roman_piece b = if b == 0x5C then well_formed 1 (0xA5 ∷ []) else (if b == 0x7E then well_formed 1 (0x203E ∷ []) else ascii_piece b)
 
+-- a byte as a piece in katakana mode: 21 to 5F are U+FF61 to U+FF9F, and any other is malformed
 abbrev pub katakana_piece : ℕ → Piece
 katakana_piece b = if is_in_range 0x21 0x5F b then well_formed 1 ((0xFF61 + (b - 0x21)) ∷ []) else malformed 1
 
--- the set of two bytes a character
+-- the pointer in index jis0208 of two bytes of ISO-2022-JP from 21 to 7E: 94 for each first byte
 abbrev pub jis_pair_pointer : ℕ → ℕ → ℕ
 jis_pair_pointer b c = (b - 0x21) * 94 + (c - 0x21)
-
-abbrev pub piece_of_entry : Option ℕ → Piece
-piece_of_entry None = malformed 2
-piece_of_entry (Some c) = well_formed 2 (c ∷ [])
 
 -- the piece that begins with a first byte b from 21 to 7E, and goes on with what follows it
 abbrev pub pair_piece : List ℕ → ℕ → List ℕ → Piece
 pair_piece jis0208 b [] = malformed 1
-pair_piece jis0208 b (c ∷ x) = if is_in_range 0x21 0x7E c then piece_of_entry (value_of jis0208 (jis_pair_pointer b c)) else malformed 2
+pair_piece jis0208 b (c ∷ x) = if is_in_range 0x21 0x7E c then piece_of_scalar 2 (value_of jis0208 (jis_pair_pointer b c)) else malformed 2
 
 -- the first piece of text in a mode
 abbrev pub prefix_text : List ℕ → Mode → List ℕ → Piece
@@ -63,6 +57,7 @@ prefix_text jis0208 Jis (b ∷ x) = if is_in_range 0x21 0x7E b then pair_piece j
 
 -- ---- parts
 
+-- the bytes begin with 1B, as each escape does
 abbrev pub begins_with_1B : List ℕ → Bool
 begins_with_1B [] = false
 begins_with_1B (b ∷ x) = b == 0x1B
@@ -106,13 +101,15 @@ pieces_in_mode jis0208 m x = pieces_of_parts jis0208 m (parts x)
 abbrev pub pieces_iso_2022_jp : List ℕ → List ℕ → List Piece
 pieces_iso_2022_jp jis0208 x = pieces_in_mode jis0208 Ascii x
 
--- the modes that are sets of the encoder too
+-- the mode of ASCII, in which an input of ISO-2022-JP begins, and a set of its encoder too
 abbrev pub ascii_mode : Mode
 ascii_mode = Ascii
 
+-- the mode of the Roman set of JIS X 0201 in ISO-2022-JP, and a set of its encoder too
 abbrev pub roman_mode : Mode
 roman_mode = Roman
 
+-- the mode of JIS X 0208 in ISO-2022-JP, two bytes a character, and a set of its encoder too
 abbrev pub jis_mode : Mode
 jis_mode = Jis
 

@@ -1,7 +1,8 @@
 -- What is written in ISO-2022-JP, by the lists of the indexes jis0208 and iso-2022-jp-katakana (the Encoding Standard,
 -- section 12.2.2, "ISO-2022-JP encoder").
 use Rattle.std.specs.Prelude.{ℕ, ◌+◌, ◌-◌, ◌/◌, ◌%◌, ◌==◌, ◌||◌, not, Bool, true, false, List, [], ◌∷◌, nat_lt, if◌then◌else◌, Option, None, Some}
-use Rattle.encoding_mem.specs.Coding.{Coding}
+use Rattle.std.specs.Option.{option_map, option_and_then}
+use Rattle.encoding_mem.specs.Coding.{Coding, form_of_bytes}
 use Rattle.encoding_mem.specs.declared.form.Form.{Form}
 use Rattle.encoding_mem.specs.declared.form.Form.TheVariants.{Mapped, Unmapped}
 use Rattle.encoding_mem.specs.declared.form.EscapeState.{EscapeState}
@@ -15,48 +16,43 @@ use Rattle.encoding_codecs.specs.JisForms.{is_katakana, folded}
 abbrev pub looked_up : List ℕ → ℕ → Option ℕ
 looked_up katakana c = if is_katakana c then value_of katakana (c - 0xFF61) else Some (folded c)
 
-abbrev pub pointer_of : List ℕ → Option ℕ → Option ℕ
-pointer_of jis0208 None = None
-pointer_of jis0208 (Some c) = first_pointer jis0208 c 0 8836
-
+-- the least jis0208 pointer below 8836 of what ISO-2022-JP looks up for a character, if it has one
 abbrev pub pointer_of_char : List ℕ → List ℕ → ℕ → Option ℕ
-pointer_of_char jis0208 katakana c = pointer_of jis0208 (looked_up katakana c)
+pointer_of_char jis0208 katakana c = option_and_then (λ d. first_pointer jis0208 d 0 8836) (looked_up katakana c)
 
-abbrev pub jis_form_of_pointer : ℕ → Option ℕ → Form
-jis_form_of_pointer c None = Unmapped c
-jis_form_of_pointer c (Some p) = Mapped ((0x21 + p / 94) ∷ (0x21 + p % 94) ∷ [])
+-- the two bytes of a pointer
+abbrev pub iso_2022_jp_pair_bytes : ℕ → List ℕ
+iso_2022_jp_pair_bytes p = (0x21 + p / 94) ∷ (0x21 + p % 94) ∷ []
 
 -- The three controls that a reader of ISO-2022-JP takes for shifts and escapes are reported as U+FFFD.
 abbrev pub ascii_form : ℕ → Form
 ascii_form c = if c == 0x0E || c == 0x0F || c == 0x1B then Unmapped 0xFFFD else Mapped (c ∷ [])
 
+-- the form of a character in ISO-2022-JP, escapes apart: its one or two bytes, or that it has none
 abbrev pub iso_2022_jp_form : List ℕ → List ℕ → ℕ → Form
 iso_2022_jp_form jis0208 katakana c = if nat_lt c 0x80 then ascii_form c
-    else (if c == 0xA5 then Mapped (0x5C ∷ [])
-    else (if c == 0x203E then Mapped (0x7E ∷ [])
-    else jis_form_of_pointer c (pointer_of_char jis0208 katakana c)))
+    else (if c == 0xA5 then Mapped (0x5C ∷ []) else (if c == 0x203E then Mapped (0x7E ∷ [])
+    else form_of_bytes c (option_map iso_2022_jp_pair_bytes (pointer_of_char jis0208 katakana c))))
 
 -- ---- the sets
 
+-- two sets of the encoder are equal: both ASCII, both Roman, or both JIS X 0208
 abbrev pub is_set : EscapeState → EscapeState → Bool
 is_set Ascii Ascii = true
 is_set Roman Roman = true
 is_set Jis Jis = true
-is_set Ascii Roman = false
-is_set Ascii Jis = false
-is_set Roman Ascii = false
-is_set Roman Jis = false
-is_set Jis Ascii = false
-is_set Jis Roman = false
+is_set _ _ = false
 
 -- the sets in which a character may be written, and the one that is taken where another set is in force
 pub record Sets : Type 0 where
   pub allows : EscapeState → Bool
   pub default : EscapeState
 
+-- the sets of a character that is in one set alone, to which an encoder changes from any other
 abbrev pub only : EscapeState → Sets
 only s = record { allows = is_set s; default = s }
 
+-- the sets ASCII and Roman: either stays if it is in force, and ASCII is taken if JIS X 0208 is
 abbrev pub ascii_or_roman : Sets
 ascii_or_roman = record { allows = λ s. not (is_set Jis s); default = Ascii }
 
@@ -64,6 +60,7 @@ ascii_or_roman = record { allows = λ s. not (is_set Jis s); default = Ascii }
 abbrev pub set_after : Sets → EscapeState → EscapeState
 set_after sets s = if sets.allows s then s else sets.default
 
+-- the sets of a character by its jis0208 pointer: JIS X 0208 alone, or ASCII and Roman without one
 abbrev pub sets_of_pointer : Option ℕ → Sets
 sets_of_pointer None = ascii_or_roman
 sets_of_pointer (Some p) = only Jis
@@ -73,17 +70,17 @@ abbrev pub iso_2022_jp_sets : List ℕ → List ℕ → ℕ → Sets
 iso_2022_jp_sets jis0208 katakana c = if nat_lt c 0x80 then (if c == 0x5C || c == 0x7E then only Ascii else ascii_or_roman)
     else (if c == 0xA5 || c == 0x203E then only Roman else sets_of_pointer (pointer_of_char jis0208 katakana c))
 
+-- the escape to a set: 1B 28 42 to ASCII, 1B 28 4A to Roman, 1B 24 42 to JIS X 0208
 abbrev pub iso_2022_jp_escape_to : EscapeState → List ℕ
 iso_2022_jp_escape_to Ascii = 0x1B ∷ 0x28 ∷ 0x42 ∷ []
 iso_2022_jp_escape_to Roman = 0x1B ∷ 0x28 ∷ 0x4A ∷ []
 iso_2022_jp_escape_to Jis = 0x1B ∷ 0x24 ∷ 0x42 ∷ []
 
+-- the escape from one set to another: three bytes, or none if the two are equal
 abbrev pub iso_2022_jp_escape : EscapeState → EscapeState → List ℕ
 iso_2022_jp_escape s s' = if is_set s s' then [] else iso_2022_jp_escape_to s'
 
+-- the "ISO-2022-JP encoder" (section 12.2.2): form and set of each character, escapes between sets
 abbrev pub iso_2022_jp_coding : List ℕ → List ℕ → Coding
-iso_2022_jp_coding jis0208 katakana = record {
-  form = iso_2022_jp_form jis0208 katakana;
-  set = λ s c. set_after (iso_2022_jp_sets jis0208 katakana c) s;
-  escape = iso_2022_jp_escape;
-}
+iso_2022_jp_coding jis0208 katakana = let set : EscapeState → ℕ → EscapeState = λ s c. set_after (iso_2022_jp_sets jis0208 katakana c) s in
+    record { form = iso_2022_jp_form jis0208 katakana; set = set; escape = iso_2022_jp_escape }

@@ -12,5 +12,6 @@ mode_of Ascii = ascii_mode
 mode_of Roman = roman_mode
 mode_of Jis = jis_mode
 
+-- the pieces of bytes of ISO-2022-JP that are read from the mode of an encoder's set on
 abbrev pub pieces_from_set : List ℕ → EscapeState → List ℕ → List Piece
 pieces_from_set jis0208 s x = pieces_in_mode jis0208 (mode_of s) x

@@ -5,6 +5,7 @@ pub mod Big5
 pub mod JisForms
 pub mod ShiftJis
 pub mod ShiftJisPointers
+pub mod TwoByteRule
 pub mod EucJp
 pub mod Gb18030
 pub mod Gb18030Coding

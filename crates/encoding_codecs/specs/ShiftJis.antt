@@ -2,15 +2,15 @@
 use Rattle.std.specs.Prelude.{ℕ, ◌+◌, ◌-◌, ◌*◌, ◌/◌, ◌%◌, ◌==◌, ◌||◌, Bool, List, [], ◌∷◌, nat_lt, if◌then◌else◌, Option, None, Some}
 use Rattle.std.specs.Int.{is_in_range}
 use Rattle.std.specs.Option.{option_map, option_or}
-use Rattle.encoding_mem.specs.Coding.{Coding}
+use Rattle.encoding_mem.specs.Coding.{Coding, form_of_bytes}
 use Rattle.encoding_mem.specs.Piece.{Piece}
 use Rattle.encoding_mem.specs.Pieces.{pieces_by}
 use Rattle.encoding_mem.specs.Stateless.{stateless}
 use Rattle.encoding_tables.specs.Lookups.{value_of, first_pointer}
 use Rattle.encoding_mem.specs.declared.form.Form.{Form}
 use Rattle.encoding_codecs.specs.JisForms.{is_katakana_byte, katakana_of_byte, is_katakana, byte_of_katakana, folded}
-use Rattle.encoding_codecs.specs.Pointers.{value_of_entry, form_of_bytes}
-use Rattle.encoding_codecs.specs.TwoByte.{TwoByteRule, first_piece_two_byte}
+use Rattle.encoding_codecs.specs.Pointers.{value_of_entry}
+use Rattle.encoding_codecs.specs.TwoByte.{first_piece_two_byte}
 use Rattle.encoding_codecs.specs.declared.lead_byte_rule.FirstByte.{FirstByte}
 use Rattle.encoding_codecs.specs.declared.lead_byte_rule.FirstByte.TheVariants.{Alone, Lead, Unused}
 use Rattle.encoding_codecs.specs.declared.two_byte.PairValue.{PairValue}
@@ -18,39 +18,35 @@ use Rattle.encoding_codecs.specs.declared.two_byte.PairValue.TheVariants.{NoChar
 
 -- ---- the decoder
 
--- what a first byte from 80 on is
+-- the leads of Shift_JIS are 81 to 9F and E0 to FC
 abbrev pub is_shift_jis_lead : ℕ → Bool
 is_shift_jis_lead a = is_in_range 0x81 0x9F a || is_in_range 0xE0 0xFC a
 
+-- what a first byte from 80 on is in Shift_JIS: U+0080, a lead, halfwidth katakana, or unused
 abbrev pub shift_jis_first : ℕ → FirstByte
 shift_jis_first a = if a == 0x80 then Alone 0x80
     else if is_shift_jis_lead a then Lead
-    else if is_katakana_byte a then Alone (katakana_of_byte a)
-    else Unused
+    else if is_katakana_byte a then Alone (katakana_of_byte a) else Unused
 
--- the pointer of a lead and a trail
+-- the trails of Shift_JIS are 40 to 7E and 80 to FC
 abbrev pub is_trail : ℕ → Bool
 is_trail b = is_in_range 0x40 0x7E b || is_in_range 0x80 0xFC b
 
+-- the pointer of a lead and a trail in Shift_JIS: each lead has 188 trails
 abbrev pub shift_jis_pair_pointer : ℕ → ℕ → ℕ
-shift_jis_pair_pointer a b = let lead_offset = if nat_lt a 0xA0 then 0x81 else 0xC1 in
-    let offset = if nat_lt b 0x7F then 0x40 else 0x41 in (a - lead_offset) * 188 + (b - offset)
+shift_jis_pair_pointer a b = (a - (if nat_lt a 0xA0 then 0x81 else 0xC1)) * 188 + (b - (if nat_lt b 0x7F then 0x40 else 0x41))
 
 -- what a pointer gives: in one range it is for private use, whatever the index holds
 abbrev pub value_of_pointer : List ℕ → ℕ → PairValue
 value_of_pointer jis0208 p = if is_in_range 8836 10715 p then OneChar (0xE000 + (p - 8836)) else value_of_entry (value_of jis0208 p)
 
+-- what a lead and the byte after it give in Shift_JIS, by index jis0208: one character, or none
 abbrev pub shift_jis_pair : List ℕ → ℕ → ℕ → PairValue
 shift_jis_pair jis0208 a b = if is_trail b then value_of_pointer jis0208 (shift_jis_pair_pointer a b) else NoChar
 
-abbrev pub shift_jis_rule : List ℕ → TwoByteRule
-shift_jis_rule jis0208 = record { first = shift_jis_first; pair = shift_jis_pair jis0208 }
-
-abbrev pub first_piece_shift_jis : List ℕ → List ℕ → Piece
-first_piece_shift_jis jis0208 = first_piece_two_byte (shift_jis_rule jis0208)
-
+-- the pieces of an input in Shift_JIS, by jis0208 ("Shift_JIS decoder", section 12.3.1)
 abbrev pub pieces_shift_jis : List ℕ → List ℕ → List Piece
-pieces_shift_jis jis0208 = pieces_by (first_piece_shift_jis jis0208)
+pieces_shift_jis jis0208 = pieces_by (first_piece_two_byte shift_jis_first (shift_jis_pair jis0208))
 
 -- ---- the encoder
 
@@ -59,20 +55,21 @@ abbrev pub shift_jis_single_byte : ℕ → Option ℕ
 shift_jis_single_byte c = if nat_lt c 0x81 then Some c
     else if c == 0xA5 then Some 0x5C
     else if c == 0x203E then Some 0x7E
-    else if is_katakana c then Some (byte_of_katakana c)
-    else None
+    else if is_katakana c then Some (byte_of_katakana c) else None
 
 -- "index Shift_JIS pointer": the least pointer with a character, without those from 8272 to 8835
 abbrev pub shift_jis_pointer : List ℕ → ℕ → Option ℕ
 shift_jis_pointer jis0208 c = option_or (first_pointer jis0208 c 0 8272) (first_pointer jis0208 c 8836 11280)
 
--- the two bytes of a pointer
+-- the lead of a pointer in Shift_JIS, 188 pointers for each: 81 to 9F, then E0 to FC
 abbrev pub lead_of : ℕ → ℕ
 lead_of p = if nat_lt (p / 188) 31 then 0x81 + p / 188 else 0xC1 + p / 188
 
+-- the trail of a pointer in Shift_JIS, by its remainder modulo 188: 40 to 7E, then 80 to FC
 abbrev pub shift_jis_trail : ℕ → ℕ
 shift_jis_trail p = if nat_lt (p % 188) 63 then 0x40 + p % 188 else 0x41 + p % 188
 
+-- the two bytes of a pointer in Shift_JIS: its lead and its trail
 abbrev pub shift_jis_pair_bytes : ℕ → List ℕ
 shift_jis_pair_bytes p = lead_of p ∷ shift_jis_trail p ∷ []
 
@@ -81,8 +78,6 @@ abbrev pub shift_jis_char_bytes : List ℕ → ℕ → Option (List ℕ)
 shift_jis_char_bytes jis0208 c = option_or (option_map (λ b. b ∷ []) (shift_jis_single_byte c))
     (option_map shift_jis_pair_bytes (shift_jis_pointer jis0208 (folded c)))
 
+-- the form of a character in Shift_JIS: its one or two bytes, or that it has none
 abbrev pub shift_jis_form : List ℕ → ℕ → Form
 shift_jis_form jis0208 c = form_of_bytes c (shift_jis_char_bytes jis0208 c)
-
-abbrev pub shift_jis_coding : List ℕ → Coding
-shift_jis_coding jis0208 = stateless (shift_jis_form jis0208)

@@ -3,10 +3,8 @@
 -- 13.1.1, "EUC-KR decoder", in what they share). 00 to 7F give themselves. A lead wants a trail: at the end it is
 -- malformed alone. A trail with which it gives nothing is left unread if it is ASCII, and is malformed with the lead
 -- otherwise.
-use Rattle.std.specs.Prelude.{ℕ, ◌+◌, ◌<◌, List, [], ◌∷◌, nat_lt, if◌then◌else◌}
-use Rattle.std.specs.Char.{IsScalar}
+use Rattle.std.specs.Prelude.{ℕ, ◌+◌, List, [], ◌∷◌, nat_lt, if◌then◌else◌}
 use Rattle.encoding_mem.specs.Piece.{Piece, well_formed, malformed}
-use Rattle.encoding_mem.specs.Pieces.{pieces_by}
 use Rattle.encoding_codecs.specs.declared.lead_byte_rule.FirstByte.{FirstByte}
 use Rattle.encoding_codecs.specs.declared.lead_byte_rule.FirstByte.TheVariants.{Alone, Lead, Unused}
 use Rattle.encoding_codecs.specs.declared.two_byte.PairValue.{PairValue}
@@ -19,6 +17,8 @@ piece_of_first (Alone c) piece = well_formed 1 (c ∷ [])
 piece_of_first Lead piece = piece
 piece_of_first Unused piece = malformed 1
 
+-- The first piece of one or more bytes, by what a first byte from 80 on is, and by the piece that
+-- a lead begins with the bytes after it. ASCII gives itself.
 abbrev pub first_piece_by_lead : (ℕ → FirstByte) → (ℕ → List ℕ → Piece) → List ℕ → Piece
 first_piece_by_lead first after [] = malformed 1
 first_piece_by_lead first after (a ∷ x) = if nat_lt a 0x80 then well_formed 1 (a ∷ []) else piece_of_first (first a) (after a x)
@@ -34,28 +34,6 @@ abbrev pub after_bytes : ℕ → (ℕ → PairValue) → List ℕ → Piece
 after_bytes n value [] = malformed n
 after_bytes n value (b ∷ x) = piece_of_trail n (value b) b
 
--- An encoding of one and two bytes: what a first byte from 80 on is, and the value of a lead and a trail.
-pub record TwoByteRule : Type 0 where
-  pub first : ℕ → FirstByte
-  pub pair : ℕ → ℕ → PairValue
-
-abbrev pub first_piece_two_byte : TwoByteRule → List ℕ → Piece
-first_piece_two_byte e = first_piece_by_lead e.first (λ a. after_bytes 1 (e.pair a))
-
-abbrev pub pieces_two_byte : TwoByteRule → List ℕ → List Piece
-pieces_two_byte e = pieces_by (first_piece_two_byte e)
-
--- What these are: scalars, of one byte in the basic plane, and two of a pair below U+0800.
-abbrev pub IsFirstByte : FirstByte → Type 0
-IsFirstByte (Alone c) = IsScalar c × (c < 0x10000)
-IsFirstByte Lead = Unit {0}
-IsFirstByte Unused = Unit {0}
-
-abbrev pub IsPairValue : PairValue → Type 0
-IsPairValue NoChar = Unit {0}
-IsPairValue (OneChar c) = IsScalar c
-IsPairValue (TwoChars c d) = IsScalar c × IsScalar d × (c < 0x800) × (d < 0x800)
-
-pub record IsTwoByte (e : TwoByteRule) : Type 0 where
-  pub firsts : (a : ℕ) → IsFirstByte (e.first a)
-  pub pairs : (a b : ℕ) → IsPairValue (e.pair a b)
+-- the first piece of one or more bytes by the rule of an encoding of one and two bytes
+abbrev pub first_piece_two_byte : (ℕ → FirstByte) → (ℕ → ℕ → PairValue) → List ℕ → Piece
+first_piece_two_byte first pair = first_piece_by_lead first (λ a. after_bytes 1 (pair a))

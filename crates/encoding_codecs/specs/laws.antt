@@ -1,4 +1,5 @@
 -- Lemmas about the definitions of `specs/`. Nothing here has to be read to trust a claim.
+pub mod FirstPieces
 pub mod Big5
 pub mod CodecSteps
 pub mod CodecTables

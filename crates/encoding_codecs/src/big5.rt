@@ -5,14 +5,16 @@ ghost use Rattle.encoding_mem.specs.Decoding.{IsFreshDecoder};
 ghost use Rattle.encoding_mem.specs.DecodedLength.{decoded_length_multibyte};
 ghost use Rattle.encoding_mem.specs.EncoderRule.{IsFreshEncoder};
 ghost use Rattle.encoding_mem.specs.EncodedLength.{encoded_length_two_byte};
+ghost use Rattle.encoding_mem.specs.Stateless.{stateless};
 ghost use Rattle.encoding_tables.specs.IndexLists.{has, entries_of};
 ghost use Rattle.encoding_tables.specs.Lookups.{AreEntries};
-ghost use Rattle.encoding_codecs.specs.Big5.{big5_is_trail, big5_rule, big5_value, pieces_big5, takes_last, big5_find, big5_trail, big5_bytes, big5_form, big5_coding};
+ghost use Rattle.encoding_codecs.specs.Big5.{big5_is_trail, big5_value, pieces_big5, takes_last, big5_find, big5_trail, big5_bytes, big5_form, big5_first, big5_pair};
 ghost use Rattle.encoding_codecs.specs.laws.TwoByte.{two_byte_rule};
 ghost use Rattle.encoding_codecs.specs.laws.TwoByteDecide.{lead_rule_of};
 ghost use Rattle.encoding_codecs.specs.laws.Big5.{big5_is_two_byte, big5_laws};
 ghost use Rattle.encoding_codecs.specs.laws.Pointers.{ascii_by_pointer};
 ghost use Rattle.encoding_codecs.specs.laws.EncodedLengths.{two_byte_fits};
+ghost use Rattle.encoding_codecs.specs.TwoByteRule.{big5_rule};
 
 use crate::codec_decoder::CodecDecoder;
 use crate::lead_byte_rule::{FirstByte, LeadByteDecoderRule, LeadByteRule};
@@ -41,8 +43,8 @@ impl<'a> Big5<'a> {
     // What a lead and a second byte give.
     #[inline(always)]
     fn pair(&self, lead: u8, second: u8) -> PairValue
-        requires { (big5_rule self.now.flat).first lead ≡ FirstByte.Lead }
-        ensures { result ≡ (big5_rule self.now.flat).pair lead second }
+        requires { big5_first lead ≡ FirstByte.Lead }
+        ensures { result ≡ big5_pair self.now.flat lead second }
     {
         if !is_trail(second) {
             return PairValue::NoChar;
@@ -159,7 +161,8 @@ impl<'a> Big5Encoder<'a> {
     pub fn new(tables: &'a Tables) -> Self
         requires { has tables.now IndexKind.Big5 ≡ true }
         ensures { IsFreshEncoder (⟦<Big5Encoder<'a> as SourceEncoder>⟧.parts result) 2
-            (big5_coding (entries_of tables.now IndexKind.Big5)) encoded_length_two_byte }
+            (stateless (big5_form (entries_of tables.now IndexKind.Big5)))
+            encoded_length_two_byte }
     {
         Big5Encoder {
             flat: tables.flat(IndexKind::Big5),

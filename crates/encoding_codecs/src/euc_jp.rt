@@ -5,9 +5,10 @@ ghost use Rattle.encoding_mem.specs.Decoding.{IsFreshDecoder};
 ghost use Rattle.encoding_mem.specs.DecodedLength.{decoded_length_multibyte};
 ghost use Rattle.encoding_mem.specs.EncoderRule.{IsFreshEncoder};
 ghost use Rattle.encoding_mem.specs.EncodedLength.{encoded_length_two_byte};
+ghost use Rattle.encoding_mem.specs.Stateless.{stateless};
 ghost use Rattle.encoding_tables.specs.IndexLists.{has, entries_of};
 ghost use Rattle.encoding_tables.specs.Lookups.{AreEntries};
-ghost use Rattle.encoding_codecs.specs.EucJp.{is_pointer_byte, euc_jp_first, euc_pair, euc_jp_pair, euc_jp_after, pieces_euc_jp, own_bytes, euc_jp_pair_bytes, euc_jp_char_bytes, euc_jp_form, euc_jp_coding};
+ghost use Rattle.encoding_codecs.specs.EucJp.{is_pointer_byte, euc_jp_first, euc_pair, euc_jp_pair, euc_jp_after, pieces_euc_jp, own_bytes, euc_jp_pair_bytes, euc_jp_char_bytes, euc_jp_form};
 ghost use Rattle.encoding_codecs.specs.laws.EucJpDecide.{decide_8f, decide_euc_jp};
 ghost use Rattle.encoding_codecs.specs.laws.EucJp.{euc_jp_is_lead_rule, euc_jp_ascii, euc_jp_laws};
 ghost use Rattle.encoding_codecs.specs.laws.EncodedLengths.{two_byte_fits};
@@ -202,7 +203,8 @@ impl<'a> EucJpEncoder<'a> {
     pub fn new(tables: &'a Tables) -> Self
         requires { has tables.now IndexKind.Jis0208 ≡ true }
         ensures { IsFreshEncoder (⟦<EucJpEncoder<'a> as SourceEncoder>⟧.parts result) 2
-            (euc_jp_coding (entries_of tables.now IndexKind.Jis0208)) encoded_length_two_byte }
+            (stateless (euc_jp_form (entries_of tables.now IndexKind.Jis0208)))
+            encoded_length_two_byte }
     {
         EucJpEncoder {
             jis0208: tables.flat(IndexKind::Jis0208),

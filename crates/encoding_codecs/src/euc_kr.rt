@@ -5,14 +5,16 @@ ghost use Rattle.encoding_mem.specs.Decoding.{IsFreshDecoder};
 ghost use Rattle.encoding_mem.specs.DecodedLength.{decoded_length_multibyte};
 ghost use Rattle.encoding_mem.specs.EncoderRule.{IsFreshEncoder};
 ghost use Rattle.encoding_mem.specs.EncodedLength.{encoded_length_two_byte};
+ghost use Rattle.encoding_mem.specs.Stateless.{stateless};
 ghost use Rattle.encoding_tables.specs.IndexLists.{has, entries_of};
 ghost use Rattle.encoding_tables.specs.Lookups.{AreEntries, first_pointer};
-ghost use Rattle.encoding_codecs.specs.EucKr.{euc_kr_rule, pieces_euc_kr, euc_kr_bytes, euc_kr_form, euc_kr_coding};
+ghost use Rattle.encoding_codecs.specs.EucKr.{pieces_euc_kr, euc_kr_bytes, euc_kr_form, euc_kr_first, euc_kr_pair};
 ghost use Rattle.encoding_codecs.specs.laws.TwoByte.{two_byte_rule};
 ghost use Rattle.encoding_codecs.specs.laws.TwoByteDecide.{lead_rule_of};
 ghost use Rattle.encoding_codecs.specs.laws.EucKr.{euc_kr_is_two_byte, euc_kr_laws};
 ghost use Rattle.encoding_codecs.specs.laws.Pointers.{ascii_by_pointer};
 ghost use Rattle.encoding_codecs.specs.laws.EncodedLengths.{two_byte_fits};
+ghost use Rattle.encoding_codecs.specs.TwoByteRule.{euc_kr_rule};
 
 use crate::codec_decoder::CodecDecoder;
 use crate::lead_byte_rule::{FirstByte, LeadByteDecoderRule, LeadByteRule};
@@ -59,8 +61,8 @@ impl<'a> EucKr<'a> {
     // What a lead and a second byte give.
     #[inline(always)]
     fn pair(&self, lead: u8, second: u8) -> PairValue
-        requires { (euc_kr_rule self.now.flat).first lead ≡ FirstByte.Lead }
-        ensures { result ≡ (euc_kr_rule self.now.flat).pair lead second }
+        requires { euc_kr_first lead ≡ FirstByte.Lead }
+        ensures { result ≡ euc_kr_pair self.now.flat lead second }
     {
         if second < 0x41 || second > 0xFE {
             return PairValue::NoChar;
@@ -107,7 +109,8 @@ impl<'a> EucKrEncoder<'a> {
     pub fn new(tables: &'a Tables) -> Self
         requires { has tables.now IndexKind.EucKr ≡ true }
         ensures { IsFreshEncoder (⟦<EucKrEncoder<'a> as SourceEncoder>⟧.parts result) 2
-            (euc_kr_coding (entries_of tables.now IndexKind.EucKr)) encoded_length_two_byte }
+            (stateless (euc_kr_form (entries_of tables.now IndexKind.EucKr)))
+            encoded_length_two_byte }
     {
         EucKrEncoder {
             flat: tables.flat(IndexKind::EucKr),

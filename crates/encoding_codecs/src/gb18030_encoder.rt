@@ -3,8 +3,9 @@
 
 ghost use Rattle.std.specs.Prelude.{◌≡◌, ◌+◌, ◌/◌, ◌%◌, ◌<◌, true};
 ghost use Rattle.encoding_mem.specs.EncoderRule.{IsFreshEncoder};
+ghost use Rattle.encoding_mem.specs.Stateless.{stateless};
 ghost use Rattle.encoding_tables.specs.IndexLists.{has, entries_of, rows_of};
-ghost use Rattle.encoding_codecs.specs.Gb18030Coding.{fixed_pair, gb18030_pair_bytes, four_bytes, gb18030_bytes, gb18030_form, gb18030_coding, gb18030_need, gb18030_encoded_length};
+ghost use Rattle.encoding_codecs.specs.Gb18030Coding.{fixed_pair, gb18030_pair_bytes, four_bytes, gb18030_bytes, gb18030_form, gb18030_need, gb18030_encoded_length};
 ghost use Rattle.encoding_codecs.specs.laws.Gb18030Coding.{gb18030_ascii, gb18030_fits, gb18030_laws};
 
 use crate::two_byte::form_of_bytes;
@@ -33,7 +34,8 @@ impl<'a> Gb18030Encoder<'a> {
         requires index { has tables.now IndexKind.Gb18030 ≡ true }
         requires ranges { has tables.now IndexKind.Gb18030Ranges ≡ true }
         ensures { IsFreshEncoder (⟦<Gb18030Encoder<'a> as SourceEncoder>⟧.parts result) (gb18030_need extended_range)
-            (gb18030_coding (entries_of tables.now IndexKind.Gb18030) (rows_of tables.now) extended_range)
+            (stateless (gb18030_form (entries_of tables.now IndexKind.Gb18030) (rows_of tables.now)
+                extended_range))
             (gb18030_encoded_length extended_range) }
     {
         Gb18030Encoder {

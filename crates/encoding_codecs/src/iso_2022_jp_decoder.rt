@@ -6,10 +6,11 @@ ghost use Rattle.std.specs.Int.{IsInRange};
 ghost use Rattle.encoding_mem.specs.Iso2022JpAscii.{IsIso2022JpAscii};
 ghost use Rattle.encoding_mem.specs.Decoding.{IsFreshDecoder};
 ghost use Rattle.encoding_mem.specs.DecodedLength.{decoded_length, decoded_length_multibyte};
+ghost use Rattle.encoding_mem.specs.Piece.{piece_of_scalar};
 ghost use Rattle.encoding_tables.specs.IndexLists.{has, entries_of};
 ghost use Rattle.encoding_tables.specs.Lookups.{AreEntries};
 ghost use Rattle.encoding_tables.specs.declared.index_kind.IndexKind.{IndexKind};
-ghost use Rattle.encoding_codecs.specs.Iso2022Jp.{escape_of, escape_at, ascii_piece, katakana_piece, piece_of_entry, pieces_in_mode, pieces_iso_2022_jp, IsNeutral};
+ghost use Rattle.encoding_codecs.specs.Iso2022Jp.{escape_of, escape_at, ascii_piece, katakana_piece, pieces_in_mode, pieces_iso_2022_jp, IsNeutral};
 ghost use Rattle.encoding_codecs.specs.laws.Iso2022JpDecide.{escape_first_piece, char_first_piece, jis_pair_first_piece, first_piece_iso_2022_jp, mode_after, may_be_escape, is_jis_lead, is_open, shown, decide_iso_2022_jp};
 ghost use Rattle.encoding_codecs.specs.laws.Iso2022Jp.{iso_2022_jp_whole, iso_2022_jp_are_pieces, iso_2022_jp_ends};
 
@@ -291,7 +292,7 @@ fn pair_first_piece(jis0208: &Flat<'_>, b: u8, rest: &[u8]) -> FirstPiece
 
 #[inline(always)]
 fn entry_first_piece(entry: Option<char>) -> FirstPiece
-    ensures { result ≡ shown (piece_of_entry entry) }
+    ensures { result ≡ shown (piece_of_scalar 2 entry) }
 {
     match entry {
         Some(c) => FirstPiece::One(c, 2),

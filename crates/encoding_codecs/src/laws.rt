@@ -3,29 +3,32 @@
 ghost use Rattle.std.specs.Prelude.{ℕ, Bool, List};
 ghost use Rattle.encoding_mem.specs.ReadBack.{ReadsBackExactly};
 ghost use Rattle.encoding_mem.specs.Steps.{StepLaw, in_any_set};
+ghost use Rattle.encoding_mem.specs.Stateless.{stateless};
 ghost use Rattle.encoding_tables.specs.Lookups.{AreEntries};
 ghost use Rattle.encoding_tables.specs.Ranges.{HaveScalars};
-ghost use Rattle.encoding_codecs.specs.Big5.{pieces_big5, big5_coding};
-ghost use Rattle.encoding_codecs.specs.EucJp.{pieces_euc_jp, euc_jp_coding};
-ghost use Rattle.encoding_codecs.specs.EucKr.{pieces_euc_kr, euc_kr_coding};
-ghost use Rattle.encoding_codecs.specs.ShiftJis.{pieces_shift_jis, shift_jis_coding};
+ghost use Rattle.encoding_codecs.specs.Big5.{pieces_big5, big5_form};
+ghost use Rattle.encoding_codecs.specs.EucJp.{pieces_euc_jp, euc_jp_form};
+ghost use Rattle.encoding_codecs.specs.EucKr.{pieces_euc_kr, euc_kr_form};
+ghost use Rattle.encoding_codecs.specs.ShiftJis.{pieces_shift_jis, shift_jis_form};
 ghost use Rattle.encoding_codecs.specs.ShiftJisPointers.{PointerIsLeastUsed};
 ghost use Rattle.encoding_codecs.specs.JisPointers.{EucJpPointerIsLeast, Iso2022JpPointerIsLeast};
 ghost use Rattle.encoding_codecs.specs.Gb18030.{pieces_gb18030};
-ghost use Rattle.encoding_codecs.specs.Gb18030Coding.{gb18030_coding};
 ghost use Rattle.encoding_codecs.specs.Iso2022JpForms.{iso_2022_jp_coding};
 ghost use Rattle.encoding_codecs.specs.Iso2022JpSets.{pieces_from_set};
+ghost use Rattle.encoding_codecs.specs.Gb18030Coding.{gb18030_form};
 
 /// What is written in EUC-KR reads back, by the decoder of the same index, as the text exactly where each
 /// character of it has a pointer.
 pub fn euc_kr_text_reads_back()
-    ensures { (flat : List ℕ) → AreEntries flat → ReadsBackExactly (pieces_euc_kr flat) (euc_kr_coding flat) }
+    ensures { (flat : List ℕ) → AreEntries flat
+        → ReadsBackExactly (pieces_euc_kr flat) (stateless (euc_kr_form flat)) }
 {}
 
 /// What is written in Big5 reads back, by the decoder of the same index, as the text exactly where each
 /// character of it has a pointer from 5024 on.
 pub fn big5_text_reads_back()
-    ensures { (flat : List ℕ) → AreEntries flat → ReadsBackExactly (pieces_big5 flat) (big5_coding flat) }
+    ensures { (flat : List ℕ) → AreEntries flat
+        → ReadsBackExactly (pieces_big5 flat) (stateless (big5_form flat)) }
 {}
 
 /// The pointer that Shift_JIS writes for a character is the least one of jis0208 with it that is not from
@@ -54,7 +57,7 @@ pub fn iso_2022_jp_pointers()
 /// character, whatever follows it.
 pub fn shift_jis_steps()
     ensures { (jis0208 : List ℕ) → AreEntries jis0208
-        → StepLaw (shift_jis_coding jis0208) (in_any_set (pieces_shift_jis jis0208)) }
+        → StepLaw (stateless (shift_jis_form jis0208)) (in_any_set (pieces_shift_jis jis0208)) }
 {}
 
 /// What EUC-JP writes for a character, its bytes or its reference, reads back, by the decoder of
@@ -62,7 +65,7 @@ pub fn shift_jis_steps()
 /// malformed or another character, whatever follows it.
 pub fn euc_jp_steps()
     ensures { (jis0208 jis0212 : List ℕ) → AreEntries jis0208 → AreEntries jis0212
-        → StepLaw (euc_jp_coding jis0208) (in_any_set (pieces_euc_jp jis0208 jis0212)) }
+        → StepLaw (stateless (euc_jp_form jis0208)) (in_any_set (pieces_euc_jp jis0208 jis0212)) }
 {}
 
 /// What gb18030, or GBK, writes for a character, its bytes or its reference, reads back, by the
@@ -70,21 +73,24 @@ pub fn euc_jp_steps()
 /// malformed or another character, whatever follows it.
 pub fn gb18030_steps()
     ensures { (flat : List ℕ) (rows : List (ℕ × ℕ)) (extended : Bool) → AreEntries flat → HaveScalars rows
-        → StepLaw (gb18030_coding flat rows extended) (in_any_set (pieces_gb18030 flat rows)) }
+        → StepLaw (stateless (gb18030_form flat rows extended))
+            (in_any_set (pieces_gb18030 flat rows)) }
 {}
 
 /// What EUC-KR writes for a character, its bytes or its reference, reads back, by the decoder of
 /// the same index, as that character, or begins with a piece that is malformed or another
 /// character, whatever follows it.
 pub fn euc_kr_steps()
-    ensures { (flat : List ℕ) → AreEntries flat → StepLaw (euc_kr_coding flat) (in_any_set (pieces_euc_kr flat)) }
+    ensures { (flat : List ℕ) → AreEntries flat
+        → StepLaw (stateless (euc_kr_form flat)) (in_any_set (pieces_euc_kr flat)) }
 {}
 
 /// What Big5 writes for a character, its bytes or its reference, reads back, by the decoder of the
 /// same index, as that character, or begins with a piece that is malformed or another character,
 /// whatever follows it.
 pub fn big5_steps()
-    ensures { (flat : List ℕ) → AreEntries flat → StepLaw (big5_coding flat) (in_any_set (pieces_big5 flat)) }
+    ensures { (flat : List ℕ) → AreEntries flat
+        → StepLaw (stateless (big5_form flat)) (in_any_set (pieces_big5 flat)) }
 {}
 
 /// What is written in ISO-2022-JP for a character, its escape included, is read by the decoder of the

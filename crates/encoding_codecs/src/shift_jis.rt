@@ -5,13 +5,15 @@ ghost use Rattle.encoding_mem.specs.Decoding.{IsFreshDecoder};
 ghost use Rattle.encoding_mem.specs.DecodedLength.{decoded_length_multibyte};
 ghost use Rattle.encoding_mem.specs.EncoderRule.{IsFreshEncoder};
 ghost use Rattle.encoding_mem.specs.EncodedLength.{encoded_length_two_byte};
+ghost use Rattle.encoding_mem.specs.Stateless.{stateless};
 ghost use Rattle.encoding_tables.specs.IndexLists.{has, entries_of};
 ghost use Rattle.encoding_tables.specs.Lookups.{AreEntries};
-ghost use Rattle.encoding_codecs.specs.ShiftJis.{is_shift_jis_lead, is_trail, shift_jis_pair_pointer, shift_jis_rule, pieces_shift_jis, shift_jis_single_byte, shift_jis_pointer, shift_jis_pair_bytes, shift_jis_char_bytes, shift_jis_form, shift_jis_coding};
+ghost use Rattle.encoding_codecs.specs.ShiftJis.{is_shift_jis_lead, is_trail, shift_jis_pair_pointer, pieces_shift_jis, shift_jis_single_byte, shift_jis_pointer, shift_jis_pair_bytes, shift_jis_char_bytes, shift_jis_form, shift_jis_first, shift_jis_pair};
 ghost use Rattle.encoding_codecs.specs.laws.TwoByte.{two_byte_rule};
 ghost use Rattle.encoding_codecs.specs.laws.TwoByteDecide.{lead_rule_of};
 ghost use Rattle.encoding_codecs.specs.laws.ShiftJis.{shift_jis_is_two_byte, shift_jis_ascii, shift_jis_laws};
 ghost use Rattle.encoding_codecs.specs.laws.EncodedLengths.{two_byte_fits};
+ghost use Rattle.encoding_codecs.specs.TwoByteRule.{shift_jis_rule};
 
 use crate::codec_decoder::CodecDecoder;
 use crate::jis::{byte_of_katakana, folded, is_katakana, katakana_of_byte};
@@ -63,8 +65,8 @@ impl<'a> ShiftJis<'a> {
     // What a lead and a second byte give. The pointers from 8836 to 10715 are for private use.
     #[inline(always)]
     fn pair(&self, lead: u8, second: u8) -> PairValue
-        requires { (shift_jis_rule self.now.jis0208).first lead ≡ FirstByte.Lead }
-        ensures { result ≡ (shift_jis_rule self.now.jis0208).pair lead second }
+        requires { shift_jis_first lead ≡ FirstByte.Lead }
+        ensures { result ≡ shift_jis_pair self.now.jis0208 lead second }
     {
         if !is_trail(second) {
             return PairValue::NoChar;
@@ -205,7 +207,8 @@ impl<'a> ShiftJisEncoder<'a> {
     pub fn new(tables: &'a Tables) -> Self
         requires { has tables.now IndexKind.Jis0208 ≡ true }
         ensures { IsFreshEncoder (⟦<ShiftJisEncoder<'a> as SourceEncoder>⟧.parts result) 2
-            (shift_jis_coding (entries_of tables.now IndexKind.Jis0208)) encoded_length_two_byte }
+            (stateless (shift_jis_form (entries_of tables.now IndexKind.Jis0208)))
+            encoded_length_two_byte }
     {
         ShiftJisEncoder {
             jis0208: tables.flat(IndexKind::Jis0208),

@@ -2,7 +2,8 @@
 
 ghost use Rattle.std.specs.Prelude.{◌≡◌, ◌+◌, ◌≤◌};
 ghost use Rattle.encoding_codecs.specs.laws.TwoByteDecide.{decide_trail};
-ghost use Rattle.encoding_codecs.specs.Pointers.{form_of_bytes, value_of_entry};
+ghost use Rattle.encoding_codecs.specs.Pointers.{value_of_entry};
+ghost use Rattle.encoding_mem.specs.Coding.{form_of_bytes};
 
 use encoding_mem::first_piece::FirstPiece;
 use encoding_mem::form::{Bytes, Form};

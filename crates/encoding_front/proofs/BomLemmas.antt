@@ -16,9 +16,11 @@ use Rattle.encoding_front.specs.TakesMark.{LeavesRoom}
 use Rattle.std.specs.Prelude.{eqb}
 use Rattle.std.specs.List.{starts_with}
 use Rattle.std.proofs.lemmas.Bool.{eqb-true}
+use Rattle.std.specs.Option.{unwrap_or}
 use Rattle.encoding_tables.specs.IndexLists.{IndexLists}
-use Rattle.encoding_front.specs.Encodings.{first_mark, pieces_of, decoded_length_of}
-use Rattle.encoding_front.specs.Marks.{source_or, source_of, pieces_from, marked_pieces}
+use Rattle.encoding_front.specs.Encodings.{first_mark, pieces_of}
+use Rattle.encoding_front.specs.CodecBounds.{decoded_length_of}
+use Rattle.encoding_front.specs.Marks.{source_of, pieces_from, marked_pieces}
 use Rattle.encoding_mem.specs.declared.room.DecodedLength.{DecodedLength}
 use Rattle.encoding_front.specs.Stream.{Opening, encoding_after}
 use Rattle.encoding_front.specs.declared.encoding.Encoding.{Encoding}
@@ -346,12 +348,12 @@ one true m l x = refl
 one false m l x = refl
 
 abbrev in_turn : Encoding → (p q r : Bool) → Encoding × ℕ
-in_turn e p q r = source_or e (cond p (Some (Encoding.Utf8, 3)) (cond q (Some (Encoding.Utf16Be, 2)) (cond r (Some (Encoding.Utf16Le, 2)) None)))
+in_turn e p q r = unwrap_or (cond p (Some (Encoding.Utf8, 3)) (cond q (Some (Encoding.Utf16Be, 2)) (cond r (Some (Encoding.Utf16Le, 2)) None))) (e, 0)
 
 source_in_turn : (mark : Mark) (e : Encoding) (x : List ℕ) → let s = sought_by mark e in source_of mark e x ≡ in_turn e (s.utf8 && starts_with eqb x (0xEF ∷ 0xBB ∷ 0xBF ∷ [])) (s.utf16_be && starts_with eqb x (0xFE ∷ 0xFF ∷ [])) (s.utf16_le && starts_with eqb x (0xFF ∷ 0xFE ∷ []))
 source_in_turn mark e x =
     let s : BomSet = sought_by mark e in
-    ap (source_or e) (
+    ap (λ o. unwrap_or o (e, 0)) (
     one s.utf8 (Encoding.Utf8, 0xEF ∷ 0xBB ∷ 0xBF ∷ []) _ x
     ∙ ap (cond (s.utf8 && starts_with eqb x (0xEF ∷ 0xBB ∷ 0xBF ∷ [])) (Some (Encoding.Utf8, 3))) (
     one s.utf16_be (Encoding.Utf16Be, 0xFE ∷ 0xFF ∷ []) _ x

@@ -12,9 +12,10 @@ use Rattle.encoding_tables.specs.IndexLists.{IndexLists}
 use Rattle.encoding_front.specs.Encoder.{Encoded, EncoderState, IsCodecOf, Turned, coding_in, kept_back, kept_by_codec_kind, parts_in, referred}
 use Rattle.encoding_front.specs.laws.Encoder.{coding_laws}
 use Rattle.encoding_front.specs.EncodingTable.{codec_kind_of}
-use Rattle.encoding_front.specs.Encodings.{coding_of, coding_of_codec_kind, output_encoding_of}
+use Rattle.encoding_front.specs.Encodings.{coding_of, output_encoding_of}
 use Rattle.encoding_front.specs.declared.encoding.Encoding.{Encoding}
 use Rattle.encoding_front.specs.declared.codec_kind.CodecKind.{CodecKind}
+use Rattle.encoding_front.specs.Codecs.{codec_of}
 
 -- a call of its codec, said of its state
 pub encoded : (t : IndexLists) (enc : Encoding) (e e' : EncoderParts) → IsCodecOf t enc e
@@ -46,7 +47,7 @@ behind_part w end xs ys within fits size behind =
     ∙ sym (drop-append-le w (take end xs) (drop end xs) (omega (arith, size))) ∙ ap (drop w) (take-append-drop end xs)
 
 -- where a character has no bytes, bytes are kept back
-keeps : (t : IndexLists) (s : CodecKind) (d u : ℕ) → (coding_of_codec_kind t s).form d ≡ Unmapped u → kept_by_codec_kind s ≡ 10
+keeps : (t : IndexLists) (s : CodecKind) (d u : ℕ) → (codec_of t s).coding.form d ≡ Unmapped u → kept_by_codec_kind s ≡ 10
 keeps t CodecKind.Utf8 d u h = absurd (cc)
 keeps t _ d u h = refl
 

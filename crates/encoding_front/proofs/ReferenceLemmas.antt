@@ -19,13 +19,15 @@ use Rattle.encoding_mem.specs.declared.form.EscapeState.TheVariants.{Ascii}
 use Rattle.encoding_front.proofs.EncoderCallLemmas.{told_items}
 use Rattle.encoding_front.specs.Encoder.{EncoderState, Puts, ReplacingEndsWith, Replaces, coding_in, kept_back, Encoded, Turned, referred, new_state}
 use Rattle.encoding_front.specs.laws.Encoder.{need_positive, coding_laws, output_twice}
-use Rattle.encoding_front.specs.Encodings.{need_of, coding_of, coding_of_codec_kind}
+use Rattle.encoding_front.specs.Encodings.{coding_of}
+use Rattle.encoding_front.specs.CodecBounds.{need_of}
 use Rattle.encoding_front.specs.declared.coder_result.CoderResult.{CoderResult}
 use Rattle.std.proofs.Math.Seq.{take-append-add, drop-append-add}
 use borrow.Rule.Slice.PartMut.{put_mid, post_of}
 use Rattle.encoding_mem.specs.declared.encoder_result.EncoderResult.{EncoderResult}
 use Rattle.encoding_front.specs.EncodingTable.{codec_kind_of}
 use Rattle.encoding_front.specs.declared.encoding.Encoding.{Encoding}
+use Rattle.encoding_front.specs.Codecs.{codec_of}
 use Rattle.encoding_tables.specs.IndexLists.{IndexLists}
 
 -- the digits of a character's number
@@ -514,11 +516,11 @@ pub all_bytes : (t : IndexLists) (e : Encoding) (x x' : EncoderState) (text writ
     → written ≡ output Decimal (coding_of t e) text
 all_bytes t e x x' text written rest lost new p none ascii =
     passed_all x x' text written rest lost p none ascii ∙ ap (λ (y : EncoderState). whole_from Decimal (coding_in y) y.set text) new
-    ∙ ap (λ (d : Encoding). whole_from Decimal (coding_of_codec_kind t (codec_kind_of d)) Ascii text) (output_twice e)
+    ∙ ap (λ (d : Encoding). whole_from Decimal (codec_of t (codec_kind_of d)).coding Ascii text) (output_twice e)
 
 pub all_told : (t : IndexLists) (e : Encoding) (x x' : EncoderState) (text written rest : List ℕ) (lost : Bool) → x ≡ new_state t e → Passed x text written x' rest lost → rest ≡ []
     → IsTrue lost ↔ (0 < lost_count (coding_of t e) text)
 all_told t e x x' text written rest lost new p none =
     let count : lost_count (coding_in x) text ≡ lost_count (coding_of t e) text =
-    ap (λ (y : EncoderState). lost_count (coding_in y) text) new ∙ ap (λ (d : Encoding). lost_count (coding_of_codec_kind t (codec_kind_of d)) text) (output_twice e) in
+    ap (λ (y : EncoderState). lost_count (coding_in y) text) new ∙ ap (λ (d : Encoding). lost_count (codec_of t (codec_kind_of d)).coding text) (output_twice e) in
     subst (λ (n : ℕ). IsTrue lost ↔ (0 < n)) count (passed_told x x' text written rest lost p none)

@@ -8,9 +8,11 @@ use Rattle.encoding_front.specs.Seeking.{is_sought, sought_pieces, sought_needs,
 use Rattle.encoding_front.specs.laws.Seeking.{sought_whole, sought_are_pieces, sought_covers}
 use Rattle.encoding_front.specs.declared.seeking.BomSet.{BomSet}
 
+-- a decoder's pieces of held bytes and x have as many bytes as are pending, held and in x together
 pub held_whole : (own : DecoderState) (held x : List ℕ) → sizes (own.pieces (held ++ x)) ≡ (own.pending + length held) + length x
 held_whole own held x = own.whole (held ++ x) ∙ omega (arith, length-append held x)
 
+-- the room needed for held bytes and n more is at most the decoded length of these and the pending
 pub held_covers : (own : DecoderState) (held : List ℕ) (k : OutputUnit) (n : ℕ) → own.needs k (length held + n) ≤ decoded_length own.room k ((own.pending + length held) + n)
 held_covers own held k n = let same : own.pending + (length held + n) ≡ (own.pending + length held) + n = omega arith in subst (λ (m : ℕ). own.needs k (length held + n) ≤ decoded_length own.room k m) same (own.covers k (length held + n))
 

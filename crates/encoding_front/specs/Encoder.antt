@@ -13,7 +13,8 @@ use Rattle.encoding_mem.specs.declared.form.EscapeState.{EscapeState}
 use Rattle.encoding_mem.specs.declared.form.EscapeState.TheVariants.{Ascii}
 use Rattle.encoding_tables.specs.IndexLists.{IndexLists}
 use Rattle.encoding_front.specs.EncodingTable.{codec_kind_of}
-use Rattle.encoding_front.specs.Encodings.{coding_of, need_of, output_encoding_of, encoded_length_of}
+use Rattle.encoding_front.specs.Encodings.{coding_of, output_encoding_of}
+use Rattle.encoding_front.specs.CodecBounds.{need_of, encoded_length_of}
 use Rattle.encoding_front.specs.declared.coder_result.CoderResult.{CoderResult}
 use Rattle.encoding_front.specs.declared.encoding.Encoding.{Encoding}
 use Rattle.encoding_front.specs.declared.codec_kind.CodecKind.{CodecKind}
@@ -24,6 +25,7 @@ pub record EncoderState : Type 0 where
   pub encoding : Encoding
   pub set : EscapeState
 
+-- the coding by which an encoder in some state writes: that of its output encoding, by its indexes
 abbrev pub coding_in : EncoderState → Coding
 coding_in x = coding_of x.tables x.encoding
 
@@ -58,19 +60,24 @@ abbrev pub kept_by_codec_kind : CodecKind → ℕ
 kept_by_codec_kind CodecKind.Utf8 = 0
 kept_by_codec_kind _ = 10
 
+-- how many last bytes of a destination are kept back for a reference: 10, or 0 if output is UTF-8
 abbrev pub kept_back : Encoding → ℕ
 kept_back e = kept_by_codec_kind (codec_kind_of (output_encoding_of e))
 
--- the room that is enough for so many bytes or units, without references, and with the bytes that are kept back
+-- enough bytes of room for what n bytes of UTF-8 or n units are encoded to, without references
 abbrev pub room_for : Encoding → (is_units : Bool) → ℕ → ℕ
 room_for e is_units n = bound_at (bound_for (encoded_length_of e) is_units) n
 
+-- enough bytes of room for n bytes or units without references, and those kept back for one
 abbrev pub room_with_kept : Encoding → (is_units : Bool) → ℕ → ℕ
 room_with_kept e is_units n = room_for e is_units n + kept_back e
 
+-- what the length query without replacement returns: enough bytes of room, or none from 2^64 on
 abbrev pub queried_room : Encoding → (is_units : Bool) → ℕ → Option ℕ
 queried_room e is_units n = checked (room_for e is_units n)
 
+-- what the length query with replacement returns: enough bytes, those kept back for a reference
+-- included, if no reference is written, or none from 2^64 on
 abbrev pub queried_with_kept : Encoding → (is_units : Bool) → ℕ → Option ℕ
 queried_with_kept e is_units n = checked (room_with_kept e is_units n)
 

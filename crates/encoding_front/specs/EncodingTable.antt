@@ -53,12 +53,15 @@ row_of Utf16Be = (UTF_16BE, codes "UTF-16BE", CodecKind.Utf16 true)
 row_of Utf16Le = (UTF_16LE, codes "UTF-16LE", CodecKind.Utf16 false)
 row_of XUserDefined = (X_USER_DEFINED, codes "x-user-defined", CodecKind.UserDefined)
 
+-- the number of an encoding: its position, from 0, in the list of all 40
 abbrev pub number_of : Encoding → ℕ
 number_of e = (row_of e).0
 
+-- the name of an encoding, in bytes of ASCII (section 4.2, "Names and labels")
 abbrev pub encoding_name : Encoding → List ℕ
 encoding_name e = (row_of e).1
 
+-- how an encoding is read and written: its codec, with the index, the byte order or the variant
 abbrev pub codec_kind_of : Encoding → CodecKind
 codec_kind_of e = (row_of e).2
 
@@ -69,5 +72,6 @@ encodings = Big5 ∷ EucJp ∷ EucKr ∷ Gb18030 ∷ Gbk ∷ Ibm866 ∷ Iso2022J
 
 -- end
 
+-- the numbers of the encodings, in the order of their list, are 0 to 39
 pub numbers_rise : map number_of encodings ≡ range_with_len 0 ENCODING_COUNT
 numbers_rise = refl

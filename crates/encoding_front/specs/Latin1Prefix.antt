@@ -19,6 +19,7 @@ pub data Latin1Rule : Type 0 where
   by_ascii : Latin1Rule
   untold : Latin1Rule
 
+-- by which rule a decoder of a codec kind tells how far bytes are their own Latin1 characters
 abbrev pub latin1_rule_of_codec_kind : CodecKind → Latin1Rule
 latin1_rule_of_codec_kind (CodecKind.SingleByte kind) = by_index
 latin1_rule_of_codec_kind CodecKind.Iso2022Jp = by_mode
@@ -26,6 +27,7 @@ latin1_rule_of_codec_kind (CodecKind.Utf16 big_endian) = untold
 latin1_rule_of_codec_kind CodecKind.Replacement = untold
 latin1_rule_of_codec_kind _ = by_ascii
 
+-- by which rule a decoder of an encoding tells how far bytes are their own Latin1 characters
 abbrev pub latin1_rule : Encoding → Latin1Rule
 latin1_rule e = latin1_rule_of_codec_kind (codec_kind_of e)
 
@@ -36,6 +38,8 @@ IsAtRest by_mode s = IsNeutral s
 IsAtRest by_ascii s = s.pending ≡ 0
 IsAtRest untold s = ⊥
 
+-- By the rule the first n bytes are their own Latin1 characters, and the next one, if any, is not.
+-- By `untold` it holds of no n.
 abbrev pub IsLatin1Prefix : Latin1Rule → (pieces : List ℕ → List Piece) → List ℕ → ℕ → Type 0
 IsLatin1Prefix by_index pieces bytes n = IsLatin1UpTo pieces bytes n
 IsLatin1Prefix by_mode pieces bytes n = IsLongestPrefix IsIso2022JpAscii bytes n

@@ -2,6 +2,7 @@ pub mod Encoder
 pub mod EncodingTable
 pub mod Codecs
 pub mod Encodings
+pub mod CodecBounds
 pub mod Marks
 pub mod Seeking
 pub mod BomDecoderState

@@ -1,6 +1,7 @@
 -- Byte order marks: which one is taken from the start of an input, in which encoding what follows it is then, and the
 -- pieces of both (the Encoding Standard, section 6, "decode", "UTF-8 decode" and "UTF-8 decode without BOM").
 use Rattle.std.specs.Prelude.{ℕ, zero, suc, ◌==◌, Bool, true, false, Option, None, Some, List, [], ◌∷◌, ◌++◌, drop, filter}
+use Rattle.std.specs.Option.{unwrap_or}
 use Rattle.encoding_mem.specs.Piece.{Piece, well_formed, text}
 use Rattle.encoding_tables.specs.IndexLists.{IndexLists}
 use Rattle.encoding_front.specs.EncodingTable.{number_of}
@@ -15,26 +16,25 @@ takes_mark_of Sniff e f = true
 takes_mark_of Remove e f = number_of e == number_of f
 takes_mark_of Keep e f = false
 
+-- the marks that are taken from an input said to be in e, each with its encoding and its bytes
 abbrev pub marks_taken : Mark → Encoding → List (Encoding × List ℕ)
 marks_taken mark e = filter (λ m. takes_mark_of mark e m.0) byte_order_marks
 
--- the encoding of what follows the mark that is taken, and its length; none is taken of no length
-abbrev pub source_or : Encoding → Option (Encoding × ℕ) → Encoding × ℕ
-source_or e None = (e, 0)
-source_or e (Some s) = s
-
+-- the encoding of an input said to be in e, which a mark that is taken decides, and how many bytes
+-- the mark has, or 0 if none is taken
 abbrev pub source_of : Mark → Encoding → List ℕ → Encoding × ℕ
-source_of mark e x = source_or e (first_mark (marks_taken mark e) x)
+source_of mark e x = unwrap_or (first_mark (marks_taken mark e) x) (e, 0)
 
 -- a mark of n bytes is a piece with no text
 abbrev pub mark_piece : ℕ → List Piece
 mark_piece zero = []
 mark_piece (suc n) = well_formed (suc n) [] ∷ []
 
--- the pieces of a whole input
+-- the pieces of a whole input, by its encoding and the length of its mark, 0 if none is taken
 abbrev pub pieces_from : IndexLists → Encoding × ℕ → List ℕ → List Piece
 pieces_from t s x = mark_piece s.1 ++ pieces_of t s.0 (drop s.1 x)
 
+-- the pieces of a whole input said to be in e, where a mark that is taken is a piece without text
 abbrev pub marked_pieces : IndexLists → Mark → Encoding → List ℕ → List Piece
 marked_pieces t mark e x = pieces_from t (source_of mark e x) x
 

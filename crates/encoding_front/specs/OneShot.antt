@@ -3,7 +3,7 @@ use Rattle.std.specs.Prelude.{◌≡◌, ◌≢◌, ◌↔◌, ℕ, ◌<◌, Boo
 use Rattle.encoding_mem.specs.Piece.{malformed_count}
 use Rattle.encoding_mem.specs.declared.room.OutputUnit.{OutputUnit}
 use Rattle.encoding_tables.specs.IndexLists.{IndexLists}
-use Rattle.encoding_front.specs.Encodings.{decoded_length_of}
+use Rattle.encoding_front.specs.CodecBounds.{decoded_length_of}
 use Rattle.encoding_front.specs.Marks.{marked_pieces, marked_text}
 use Rattle.encoding_front.specs.Seeking.{sought_by}
 use Rattle.encoding_front.specs.Stream.{room_asked}

@@ -7,7 +7,8 @@ use Rattle.encoding_mem.specs.declared.decoder_result.DecoderResult.TheVariants.
 use Rattle.encoding_mem.specs.declared.room.OutputUnit.{OutputUnit}
 use Rattle.encoding_mem.specs.declared.room.DecodedLength.{DecodedLength}
 use Rattle.encoding_tables.specs.IndexLists.{IndexLists}
-use Rattle.encoding_front.specs.Encodings.{pieces_of, decoded_length_of}
+use Rattle.encoding_front.specs.Encodings.{pieces_of}
+use Rattle.encoding_front.specs.CodecBounds.{decoded_length_of}
 use Rattle.encoding_front.specs.Latin1Prefix.{latin1_rule, IsAtRest, IsLatin1Prefix}
 use Rattle.encoding_front.specs.Marks.{marked_pieces, source_of}
 use Rattle.encoding_front.specs.Seeking.{can_be, encoding_of_mark, find_mark, is_sought, mark_taken, sought_by, sought_pieces}
@@ -37,6 +38,7 @@ greater None n = None
 greater (Some m) None = None
 greater (Some m) (Some n) = Some (if nat_lt m n then n else m)
 
+-- the second number, or, if the test holds, the greater of both, which is none if one is missing
 abbrev pub greater_if : Bool → (other own : Option ℕ) → Option ℕ
 greater_if t other own = if t then greater own other else own
 
@@ -53,12 +55,13 @@ room_asked o k n =
     (greater_if (can_be o.sought o.held Utf8) (queried decoded_length_utf8 k (n + ahead o.held))
     (queried o.room k (o.pending + (n + ahead o.held))))
 
--- after a last call that returned InputEmpty nothing follows
+-- whether a call of a decoder returned `InputEmpty`: all bytes that it was handed are read
 abbrev pub is_input_empty : DecoderResult → Bool
 is_input_empty InputEmpty = true
 is_input_empty OutputFull = false
 is_input_empty (Malformed a b) = false
 
+-- whether a call ends the stream: it is the last, and it returned `InputEmpty`
 abbrev pub finishes : (last : Bool) → DecoderResult → Bool
 finishes last outcome = last && is_input_empty outcome
 

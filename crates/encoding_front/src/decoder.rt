@@ -10,7 +10,8 @@ ghost use Rattle.encoding_mem.specs.declared.room.OutputUnit.TheVariants.{Units,
 ghost use Rattle.encoding_front.specs.BomDecoderState.{bom_decoder_state};
 ghost use Rattle.encoding_front.specs.DecodedText.{NeverFull};
 ghost use Rattle.encoding_front.specs.DecoderCall.{DecoderCall, IfRoomAsked, TextCall};
-ghost use Rattle.encoding_front.specs.Encodings.{IsReady, decoded_length_of};
+ghost use Rattle.encoding_front.specs.Encodings.{IsReady};
+ghost use Rattle.encoding_front.specs.CodecBounds.{decoded_length_of};
 ghost use Rattle.encoding_front.specs.Latin1Prefix.{latin1_rule};
 ghost use Rattle.encoding_front.specs.Seeking.{find_mark, is_sought, mark_taken};
 ghost use Rattle.encoding_front.specs.Stream.{IsNewDecoder, DecoderView, IsOpenedBy, TellsLatin1Prefix, ahead, encoding_after, finishes, greater_if, room_asked};

@@ -3,7 +3,8 @@
 ghost use Rattle.std.specs.Prelude.{◌≡◌, ◌+◌, ◌<◌, ◌≤◌, length};
 ghost use Rattle.encoding_mem.specs.Decoding.{StateCall};
 ghost use Rattle.encoding_front.specs.BomDecoderState.{held_state};
-ghost use Rattle.encoding_front.specs.Encodings.{IsReady, pieces_of, decoded_length_of};
+ghost use Rattle.encoding_front.specs.Encodings.{IsReady, pieces_of};
+ghost use Rattle.encoding_front.specs.CodecBounds.{decoded_length_of};
 ghost use Rattle.encoding_front.specs.Latin1Prefix.{TellsLatin1, latin1_rule};
 ghost use Rattle.encoding_front.specs.Seeking.{encoding_of_mark, pieces_after};
 ghost use Rattle.encoding_front.specs.declared.variant_decoder.VariantDecoder.TheVariants.{Utf8, SingleByte, Big5, EucKr, EucJp, ShiftJis, Gb18030, Iso2022Jp, UserDefined, Utf16, Replacement};

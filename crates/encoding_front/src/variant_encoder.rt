@@ -10,7 +10,8 @@ ghost use Rattle.encoding_codecs.specs.laws.EucJp.{euc_jp_laws};
 ghost use Rattle.encoding_codecs.specs.laws.ShiftJis.{shift_jis_laws};
 ghost use Rattle.encoding_codecs.specs.laws.Gb18030Coding.{gb18030_laws};
 ghost use Rattle.encoding_codecs.specs.laws.Iso2022JpForms.{iso_2022_jp_laws};
-ghost use Rattle.encoding_front.specs.Encodings.{IsReady, coding_of, need_of, output_encoding_of, encoded_length_of};
+ghost use Rattle.encoding_front.specs.Encodings.{IsReady, coding_of, output_encoding_of};
+ghost use Rattle.encoding_front.specs.CodecBounds.{need_of, encoded_length_of};
 ghost use Rattle.encoding_front.specs.declared.variant_encoder.VariantEncoder.TheVariants.{Utf8, SingleByte, Big5, EucKr, EucJp, ShiftJis, Gb18030, Iso2022Jp, UserDefined};
 
 use crate::codec_kind::CodecKind;

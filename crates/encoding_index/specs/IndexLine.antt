@@ -3,6 +3,7 @@ use Rattle.std.specs.Prelude.{ℕ, Bool, true, ◌==◌, nat_eq, nat_lt, not, �
 use Rattle.std.specs.List.{list_all, prefix_len, starts_with}
 use Rattle.std.specs.Str.Parse.{digits_value}
 
+-- a space
 abbrev pub is_space : ℕ → Bool
 is_space b = b == 0x20
 
@@ -23,6 +24,8 @@ unfoldable pub is_skipped : List ℕ → Bool
 is_skipped line = list_all is_blank line || starts_with nat_eq line (codes "#")
 
 infixl 10 ◌>>=◌
+
+-- a step of a `do`: what a function gives for an option's value, or nothing if it has none
 abbrev pub ◌>>=◌ : {A B : Type 0} → Option A → (A → Option B) → Option B
 o >>= f = option_and_then f o
 

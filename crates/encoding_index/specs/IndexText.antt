@@ -17,6 +17,7 @@ range_pointers = 1237576
 abbrev pub mark : List ℕ
 mark = 0xEF ∷ 0xBB ∷ 0xBF ∷ []
 
+-- a text without the byte order mark EF BB BF, if it begins with one
 abbrev pub without_mark : List ℕ → List ℕ
 without_mark text = if starts_with nat_eq text mark then drop 3 text else text
 

@@ -9,11 +9,12 @@ use Rattle.encoding_labels.specs.declared.places.TheConstants.{ENCODING_COUNT, B
 
 -- end
 
--- the words of a text, which has a space between each two
+-- a byte put before some words: a space begins an empty word there, any other joins the first word
 abbrev pub add_byte : ℕ → List (List ℕ) → List (List ℕ)
 add_byte b [] = (b ∷ []) ∷ []
 add_byte b (word ∷ more) = cond (b == 32) ([] ∷ word ∷ more) ((b ∷ word) ∷ more)
 
+-- the words of a text, which has a space between each two
 abbrev pub words : List ℕ → List (List ℕ)
 words [] = [] ∷ []
 words (b ∷ bs) = add_byte b (words bs)
@@ -22,6 +23,7 @@ words (b ∷ bs) = add_byte b (words bs)
 abbrev pub row : ℕ → String → List (ℕ × List ℕ)
 row number text = map (λ (label : List ℕ). (number, label)) (words (codes text))
 
+-- the labels of all rows of the table, each with its encoding's number, in one list
 abbrev pub all_of : List (List (ℕ × List ℕ)) → List (ℕ × List ℕ)
 all_of [] = []
 all_of (r ∷ rows) = r ++ all_of rows
@@ -71,13 +73,15 @@ labels = all_of (
     ∷ row X_USER_DEFINED "x-user-defined"
     ∷ [])
 
--- without the white space at the start, and at the end ("ASCII whitespace" of the Infra Standard)
+-- bytes without the white space at their start ("ASCII whitespace" of the Infra Standard)
 abbrev pub without_leading : List ℕ → List ℕ
 without_leading bytes = drop (prefix_len is_ascii_whitespace bytes) bytes
 
+-- bytes without the white space at their end ("ASCII whitespace" of the Infra Standard)
 abbrev pub without_trailing : List ℕ → List ℕ
 without_trailing bytes = take (length bytes - suffix_len is_ascii_whitespace bytes) bytes
 
+-- bytes without the white space at both ends ("ASCII whitespace" of the Infra Standard)
 abbrev pub trimmed : List ℕ → List ℕ
 trimmed bytes = without_trailing (without_leading bytes)
 
@@ -115,22 +119,28 @@ label_numbers_rise = refl
 
 -- end
 
+-- how many labels the table has
 pub length-labels : length labels ≡ 228
 unfolding labels
 length-labels = refl
 
+-- of all bytes, five are white space: tab, line feed, form feed, carriage return, space
 pub white_space : filter is_ascii_whitespace (range_with_len 0 256) ≡ 9 ∷ 10 ∷ 12 ∷ 13 ∷ 32 ∷ []
 white_space = refl
 
+-- of all bytes, 40 may stand in a label: small letters, digits, and the four of `-.:_`
 pub label_bytes : filter is_label_byte (range_with_len 0 256) ≡ codes "-.0123456789:_abcdefghijklmnopqrstuvwxyz"
 label_bytes = refl
 
+-- A and Z become a and z, and the bytes next to the letters (@, [, ` and {) stay
 pub lower_case : map to_ascii_lowercase (codes "@AZ[`az{") ≡ codes "@az[`az{"
 lower_case = refl
 
+-- white space before and after a label is left out, and its capitals are read as small letters
 pub label_text-both_ends : label_text (9 ∷ 10 ∷ codes "ISO_8859-2:1987" ++ 12 ∷ 13 ∷ 32 ∷ []) ≡ codes "iso_8859-2:1987"
 label_text-both_ends = refl
 
+-- a space inside a label stays, and those at its ends do not
 pub label_text-inside : label_text (codes " utf-8 _ ") ≡ codes "utf-8 _"
 label_text-inside = refl
 
@@ -138,25 +148,31 @@ label_text-inside = refl
 pub label_text-tab : label_text (11 ∷ codes "UTF-8") ≡ 11 ∷ codes "utf-8"
 label_text-tab = refl
 
+-- of white space alone nothing is left to look up
 pub label_text-white : label_text (9 ∷ 10 ∷ 12 ∷ 13 ∷ 32 ∷ []) ≡ []
 label_text-white = refl
 
+-- `Latin2` with a space before it is a label of ISO-8859-2
 pub number_of_label-latin2 : number_of_label (codes " Latin2") ≡ Some ISO_8859_2
 unfolding labels
 number_of_label-latin2 = refl
 
+-- `unicode11utf8` is a label of UTF-8
 pub number_of_label-unicode11utf8 : number_of_label (codes "unicode11utf8") ≡ Some UTF_8
 unfolding labels
 number_of_label-unicode11utf8 = refl
 
+-- `UTF-16BE` in capitals is a label of UTF-16BE
 pub number_of_label-utf-16be : number_of_label (codes "UTF-16BE") ≡ Some UTF_16BE
 unfolding labels
 number_of_label-utf-16be = refl
 
+-- `utf-8 _`, with a space inside, is a label of no encoding
 pub number_of_label-none : number_of_label (codes "utf-8 _") ≡ None
 unfolding labels
 number_of_label-none = refl
 
+-- an empty label is one of no encoding
 pub number_of_label-empty : number_of_label [] ≡ None
 unfolding labels
 number_of_label-empty = refl

@@ -25,6 +25,7 @@ pub record Agrees (e : Coding) (pieces : List ℕ → List Piece) (bytes t : Lis
   pub same : text taken ≡ t
   pub left : (drop (sizes taken) bytes ≡ []) ⊎ IsEscape e (drop (sizes taken) bytes)
 
+-- bytes, read back as what was written for a text so far, agree with it, or never read as it
 abbrev pub AgreesOrBreaks : Coding → (List ℕ → List Piece) → List ℕ → List ℕ → Type 0
 AgreesOrBreaks e pieces bytes t = Agrees e pieces bytes t ⊎ IsBroken pieces bytes t
 

@@ -19,10 +19,11 @@ is_bidi_char c = is_bidi_bmp c || is_in_range 0x1_0800 0x1_0FFF c || is_in_range
 abbrev pub is_bidi_unit : ℕ → Bool
 is_bidi_unit u = is_bidi_bmp u || is_in_range 0xD802 0xD803 u || is_in_range 0xD83A 0xD83B u
 
--- some character is; some unit is
+-- a text has a character that may have to be laid out from right to left, by `is_bidi_char`
 abbrev pub HasBidi : List ℕ → Type 0
 HasBidi cs = (i : ℕ) × IsTrue (is_bidi_char (slice_index cs i))
 
+-- units of UTF-16 include one that may belong to text from right to left, by `is_bidi_unit`
 abbrev pub HasBidiUnit : List ℕ → Type 0
 HasBidiUnit units = (i : ℕ) × IsTrue (is_bidi_unit (slice_index units i))
 

@@ -4,6 +4,8 @@
 use Rattle.std.specs.Prelude.{ℕ, ◌+◌, ◌*◌, Bool, ◌||◌, List, slice_index}
 use Rattle.std.specs.Int.{is_in_range}
 
+-- whether a character of `is_bidi_char` begins at three bytes of a text in UTF-8, which are given
+-- as one big-endian number
 abbrev pub is_bidi_number : ℕ → Bool
 is_bidi_number v = (is_in_range 0xD6_9000 0xE0_A3FF v || is_in_range 0xE2_808F 0xE2_808F v || is_in_range 0xE2_80AB 0xE2_80AB v || is_in_range 0xE2_80AE 0xE2_80AE v
     || is_in_range 0xE2_81A7 0xE2_81A7 v || is_in_range 0xEF_AC9D 0xEF_B7BF v || is_in_range 0xEF_B9B0 0xEF_BBBE v) || is_in_range 0xF0_90A0 0xF0_90BF v || is_in_range 0xF0_9EA0 0xF0_9EBF v

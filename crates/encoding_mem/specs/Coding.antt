@@ -1,5 +1,5 @@
 -- What an encoder has to write for a text (the Encoding Standard, section 4.1, "encoder").
-use Rattle.std.specs.Prelude.{◌≡◌, ℕ, ◌+◌, ◌≤◌, List, [], ◌∷◌, ◌++◌, length, codes, true}
+use Rattle.std.specs.Prelude.{◌≡◌, ℕ, ◌+◌, ◌≤◌, List, [], ◌∷◌, ◌++◌, length, codes, true, Option, None, Some}
 use Rattle.std.specs.Fmt.{decimal, digits}
 use Rattle.encoding_mem.specs.declared.form.Form.{Form}
 use Rattle.encoding_mem.specs.declared.form.Form.TheVariants.{Mapped, Unmapped}
@@ -15,16 +15,22 @@ pub record Coding : Type 0 where
   pub set : EscapeState → ℕ → EscapeState
   pub escape : EscapeState → EscapeState → List ℕ
 
+-- the form of a character by its bytes; one without bytes is reported as it is
+abbrev pub form_of_bytes : ℕ → Option (List ℕ) → Form
+form_of_bytes c None = Unmapped c
+form_of_bytes c (Some bs) = Mapped bs
+
 -- the numeric character reference: `&#` and the decimal digits, or `&#x` and the hexadecimal ones, and `;`
 abbrev pub reference : Reference → ℕ → List ℕ
 reference Decimal c = codes "&#" ++ (decimal c ++ codes ";")
 reference Hexadecimal c = codes "&#x" ++ (digits 16 true c ++ codes ";")
 
--- the bytes that a form has, and what is written for it: the bytes of a character, or its reference
+-- the bytes of a form: none if its character is unmappable
 abbrev pub bytes : Form → List ℕ
 bytes (Mapped bs) = bs
 bytes (Unmapped c) = []
 
+-- what is written for a form: its bytes, or a numeric character reference if it has none
 abbrev pub spelled : Reference → Form → List ℕ
 spelled ref (Mapped bs) = bs
 spelled ref (Unmapped c) = reference ref c
@@ -52,6 +58,7 @@ abbrev pub bytes_from : Coding → EscapeState → List ℕ → List ℕ
 bytes_from e s [] = []
 bytes_from e s (c ∷ t) = e.escape s (e.set s c) ++ (bytes (e.form c) ++ bytes_from e (e.set s c) t)
 
+-- a form has bytes: the target can write its character
 abbrev pub IsMapped : Form → Type 0
 IsMapped (Mapped bs) = Unit {0}
 IsMapped (Unmapped c) = ⊥
@@ -61,11 +68,12 @@ abbrev pub AllMapped : Coding → List ℕ → Type 0
 AllMapped e [] = Unit {0}
 AllMapped e (c ∷ t) = IsMapped (e.form c) × AllMapped e t
 
--- how many scalars have none
+-- 1 for a form without bytes, else 0
 abbrev pub unmapped_count : Form → ℕ
 unmapped_count (Mapped bs) = 0
 unmapped_count (Unmapped c) = 1
 
+-- how many characters of a text have no bytes in the target
 abbrev pub lost_count : Coding → List ℕ → ℕ
 lost_count e [] = 0
 lost_count e (c ∷ t) = unmapped_count (e.form c) + lost_count e t

@@ -10,10 +10,11 @@ use Rattle.encoding_mem.specs.Writing.{encode_utf16_all}
 abbrev pub low_bytes : List ℕ → List ℕ
 low_bytes units = map (λ u. u % 256) units
 
--- units of UTF-16 in UTF-8, where a surrogate in no pair gives U+FFFD, and text in UTF-16
+-- units of UTF-16 in UTF-8, where a surrogate in no pair gives U+FFFD
 abbrev pub units_in_utf8 : List ℕ → List ℕ
 units_in_utf8 units = encode_utf8_all (utf16_lossy_chars units)
 
+-- the units of UTF-16 of a text, which is given as its bytes in UTF-8
 abbrev pub text_in_utf16 : List ℕ → List ℕ
 text_in_utf16 text = encode_utf16_all (chars text)
 

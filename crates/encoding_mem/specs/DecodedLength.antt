@@ -7,13 +7,13 @@ use Rattle.encoding_mem.specs.declared.room.OutputUnit.TheVariants.{Units, Bytes
 use Rattle.encoding_mem.specs.declared.room.Bound.{Bound}
 use Rattle.encoding_mem.specs.declared.room.DecodedLength.{DecodedLength}
 
--- Of the three counts: whether it is of 16 bits, and whether a malformed sequence takes room in it for good, and does
--- not end the count.
+-- whether an output unit is of 16 bits: room is counted in units of UTF-16, not in bytes of UTF-8
 abbrev pub is_units : OutputUnit → Bool
 is_units Units = true
 is_units Bytes = false
 is_units Replaced = false
 
+-- whether room in an output unit includes what follows a malformed sequence: in all but `Bytes`
 abbrev pub goes_on : OutputUnit → Bool
 goes_on Units = true
 goes_on Bytes = false
@@ -23,9 +23,11 @@ goes_on Replaced = true
 abbrev pub cost_in : (is_units : Bool) → ℕ → ℕ
 cost_in is_units c = if is_units then len_utf16 c else len_utf8 c
 
+-- the room that U+FFFD takes: 1 unit of UTF-16, or 3 bytes of UTF-8
 abbrev pub replacement_len : (is_units : Bool) → ℕ
 replacement_len is_units = if is_units then 1 else 3
 
+-- the room for any character, or for two below U+0800: 2 units of UTF-16, or 4 bytes of UTF-8
 abbrev pub two_in : (is_units : Bool) → ℕ
 two_in is_units = if is_units then 2 else 4
 
@@ -33,6 +35,7 @@ two_in is_units = if is_units then 2 else 4
 abbrev pub left_after : (goes_on : Bool) (mark more : ℕ) → ℕ
 left_after goes_on mark more = if goes_on then mark + more else mark
 
+-- the bound that a decoded length has in an output unit: units, bytes, or bytes with each U+FFFD
 abbrev pub bound_of : DecodedLength → OutputUnit → Bound
 bound_of room Units = room.units
 bound_of room Bytes = room.bytes
@@ -42,6 +45,7 @@ bound_of room Replaced = room.replaced
 abbrev pub counted : (in_pairs : Bool) → ℕ → ℕ
 counted in_pairs m = if in_pairs then (m + 1) / 2 else m
 
+-- the room that a bound comes to for a length n: its factor times n, plus its extra
 abbrev pub bound_at : Bound → ℕ → ℕ
 bound_at l n = l.factor * n + l.extra
 
@@ -57,6 +61,7 @@ checked n = if nat_lt n (2 ^ 64) then Some n else None
 abbrev pub queried : DecodedLength → OutputUnit → ℕ → Option ℕ
 queried room count m = if nat_lt (if room.in_pairs then m + 1 else m) (2 ^ 64) then checked (decoded_length room count m) else None
 
+-- the bound on room that is `factor` times a length, plus `extra`
 abbrev pub line : (factor extra : ℕ) → Bound
 line factor extra = record { factor = factor; extra = extra }
 
@@ -64,19 +69,23 @@ line factor extra = record { factor = factor; extra = extra }
 abbrev pub of_bytes : (units bytes replaced : Bound) → DecodedLength
 of_bytes units bytes replaced = record { in_pairs = false; units = units; bytes = bytes; replaced = replaced }
 
--- Of UTF-8; of the encodings with one byte a character; of those with two and more but UTF-16; of UTF-16, where two
--- bytes count as one; and of "replacement", whose text is one U+FFFD.
+-- room for the text of n bytes of UTF-8: n + 1 units, or n + 3 bytes, or 3n + 3 bytes if each
+-- malformed sequence is written as U+FFFD
 abbrev pub decoded_length_utf8 : DecodedLength
 decoded_length_utf8 = of_bytes (line 1 1) (line 1 3) (line 3 3)
 
+-- room for the text of n bytes, at one byte a character: n units of UTF-16, or 3n bytes of UTF-8
 abbrev pub decoded_length_single_byte : DecodedLength
 decoded_length_single_byte = of_bytes (line 1 0) (line 3 0) (line 3 0)
 
+-- room for the text of n bytes of a legacy multi-byte encoding: n + 1 units, or 3n + 1 bytes
 abbrev pub decoded_length_multibyte : DecodedLength
 decoded_length_multibyte = of_bytes (line 1 1) (line 3 1) (line 3 1)
 
+-- room for the text of n pairs of UTF-16 bytes, an odd byte a pair: n + 1 units, or 3n + 1 bytes
 abbrev pub decoded_length_utf16 : DecodedLength
 decoded_length_utf16 = record { in_pairs = true; units = line 1 1; bytes = line 3 1; replaced = line 3 1 }
 
+-- room for the text of bytes in replacement, which is one U+FFFD at most: 1 unit, or 3 bytes
 abbrev pub decoded_length_replacement : DecodedLength
 decoded_length_replacement = of_bytes (line 0 1) (line 0 3) (line 0 3)

@@ -19,6 +19,7 @@ pub record IsFirstPiece (before after : List ℕ → List Piece) (bytes : List �
   pub within : piece_len p ≤ length bytes
   pub rest : (r : List ℕ) → (IsTrue last → r ≡ []) → before (bytes ++ r) ≡ p ∷ after (drop (piece_len p) bytes ++ r)
 
+-- a rule's report of bytes is true: it is their first piece, or at most three more bytes change it
 abbrev pub TellsFirstPiece : (before after : List ℕ → List Piece) → List ℕ → Bool → FirstPiece → Type 0
 TellsFirstPiece before after bytes last More = (last ≡ false) × (length bytes < 6) × IsUndecided before bytes × IsSoon before bytes
 TellsFirstPiece before after bytes last (One c n) = IsFirstPiece before after bytes last (well_formed n (c ∷ []))

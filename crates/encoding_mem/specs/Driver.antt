@@ -47,16 +47,18 @@ DriverEndsWith pieces pending unread last free room mark (Malformed a b) = mark 
 abbrev pub Remains : (pieces : List ℕ → List Piece) (pending : List ℕ) → Type 0
 Remains pieces pending = (pending ≡ []) ⊎ ((0 < length pending) × IsUndecided pieces pending)
 
--- Which pieces a part of a call took, why it ended and what room it left: it has ended the call only if it has an
--- outcome, and else left nothing pending.
+-- no piece that a part of a call took is malformed, but for a last one that its outcome reports
 abbrev pub PartReports : Option DecoderResult → ℕ → List Piece → Type 0
 PartReports None pending taken = AreWellFormed taken
 PartReports (Some outcome) pending taken = Reports outcome pending taken
 
+-- why a part of a call ended: as its outcome says, or, if it has none, with nothing pending
 abbrev pub PartEnds : (pieces : List ℕ → List Piece) (pending unread : List ℕ) (last : Bool) (free room mark : ℕ) → Option DecoderResult → Type 0
 PartEnds pieces pending unread last free room mark None = pending ≡ []
 PartEnds pieces pending unread last free room mark (Some outcome) = DriverEndsWith pieces pending unread last free room mark outcome
 
+-- Room that is enough for the bytes of a part of a call isn't refused, and what is left is enough
+-- for those unread (in `Bytes`, after a malformed sequence, for its U+FFFD).
 abbrev pub PartSuffices : (before after : OutputUnit → ℕ → ℕ) (t last : Bool) (size unread old new : ℕ) → Option DecoderResult → Type 0
 PartSuffices before after t last size unread old new None = (k : OutputUnit) (m : ℕ) → is_units k ≡ t → (IsTrue last → m ≡ 0) → before k (size + m) ≤ old → after k (unread + m) ≤ new
 PartSuffices before after t last size unread old new (Some outcome) = Suffices before after t last size unread old new outcome

@@ -7,6 +7,7 @@ use Rattle.encoding_mem.specs.declared.form.EscapeState.TheVariants.{Ascii}
 use Rattle.encoding_mem.specs.declared.room.Bound.{Bound}
 use Rattle.encoding_mem.specs.declared.room.EncodedLength.{EncodedLength}
 
+-- the bound of an encoded length by a text's units of UTF-16, or by its bytes of UTF-8
 abbrev pub bound_for : EncodedLength → (is_units : Bool) → Bound
 bound_for room is_units = if is_units then room.units else room.bytes
 
@@ -16,21 +17,31 @@ pub record IsBoundFor (e : Coding) (is_units : Bool) (l : Bound) : Type 0 where
   pub each : (s : EscapeState) (c : ℕ) → length (e.escape s (e.set s c)) + length (bytes (e.form c)) ≤ l.factor * cost_in is_units c
   pub last : (s : EscapeState) → length (e.escape s Ascii) ≤ l.extra
 
+-- an encoded length, by a text's units and by its bytes, is enough for what a target writes,
+-- references apart
 abbrev pub IsRoomFor : Coding → EncodedLength → Type 0
 IsRoomFor e room = (is_units : Bool) → IsBoundFor e is_units (bound_for room is_units)
 
--- Of UTF-8; of the targets with one byte a character; of those with two; and of gb18030 and ISO-2022-JP.
+-- room for a text in UTF-8: 3n bytes for n units of UTF-16, or n bytes for n bytes of UTF-8
 abbrev pub encoded_length_utf8 : EncodedLength
 encoded_length_utf8 = record { units = line 3 0; bytes = line 1 0 }
 
+-- room for a text at one byte a character: n bytes for n units of UTF-16, or for n bytes of UTF-8,
+-- references apart
 abbrev pub encoded_length_single_byte : EncodedLength
 encoded_length_single_byte = record { units = line 1 0; bytes = line 1 0 }
 
+-- room for a text at one byte for ASCII and two at most for all else: 2n bytes for n units of
+-- UTF-16, or n + 1 for n bytes of UTF-8, references apart
 abbrev pub encoded_length_two_byte : EncodedLength
 encoded_length_two_byte = record { units = line 2 0; bytes = line 1 1 }
 
+-- room for a text in gb18030: 4n bytes for n units of UTF-16, or 2n + 2 for n bytes of UTF-8,
+-- references apart
 abbrev pub encoded_length_gb18030 : EncodedLength
 encoded_length_gb18030 = record { units = line 4 0; bytes = line 2 2 }
 
+-- room for a text in ISO-2022-JP: 5n + 3 bytes for n units of UTF-16, or 4n + 3 for n bytes of
+-- UTF-8, references apart
 abbrev pub encoded_length_iso_2022_jp : EncodedLength
 encoded_length_iso_2022_jp = record { units = line 5 3; bytes = line 4 3 }

@@ -67,11 +67,13 @@ pub record EncodesItems (ref : Reference) (e : Coding) (last : Bool) (outcome : 
       ≡ map Byte written ++ (reported_item ref (i + length prefix) outcome ++ whole_items ref e last s' (i + length prefix) rest)
   pub sets : TextGoesOn last outcome → last_set e s text ≡ last_set e s' rest
 
--- What follows from it for bytes. Of the text t from s the bytes w are written, and rest from s' is still to be written,
--- whatever follows.
+-- Of the text t from the set s the bytes w are written, and rest from the set s' is still to be
+-- written, whatever follows.
 abbrev pub Continues : Reference → Coding → EscapeState → List ℕ → List ℕ → EscapeState → List ℕ → Type 0
 Continues ref e s t w s' rest = (r : List ℕ) → open_from ref e s (t ++ r) ≡ w ++ open_from ref e s' (rest ++ r)
 
+-- What the text t is written as from the set s is a call's bytes w, a reference that it asks for,
+-- and what the rest is written as from the set s': whatever follows, if the call is not the last.
 abbrev pub Writes : Reference → Coding → Bool → EncoderResult → EscapeState → List ℕ → List ℕ → EscapeState → List ℕ → Type 0
 Writes ref e last (Unmappable c) s t w s' rest = Continues ref e s t (w ++ reference ref c) s' rest
 Writes ref e last InputEmpty s t w s' rest = MatchBool last (whole_from ref e s t ≡ w ++ whole_from ref e s' rest) (Continues ref e s t w s' rest)

@@ -2,10 +2,13 @@
 use Rattle.std.specs.Prelude.{ℕ, ◌+◌, List, [], ◌∷◌, ◌++◌}
 use Rattle.encoding_mem.specs.Piece.{Piece, well_formed, malformed}
 
+-- what a caller is told: a scalar, or a malformed sequence with its size in bytes and the offset
+-- after it
 pub data Event : Type 0 where
   scalar : (c : ℕ) → Event
   malformed_at : (size end : ℕ) → Event
 
+-- the events of some scalars, one for each
 abbrev pub scalar_events : List ℕ → List Event
 scalar_events [] = []
 scalar_events (c ∷ cs) = scalar c ∷ scalar_events cs

@@ -5,9 +5,15 @@ use Rattle.std.specs.Str.{all_scalars}
 
 -- size bytes that give these scalars (one, or two, or none), or size bytes that are malformed
 pub data Piece : Type 0 where
-  well_formed : (size : ℕ) (scalars : List ℕ) → Piece
+  well_formed : (size : ℕ) (chars : List ℕ) → Piece
   malformed : (size : ℕ) → Piece
 
+-- the piece of n bytes that give this scalar; bytes that give none are malformed
+abbrev pub piece_of_scalar : ℕ → Option ℕ → Piece
+piece_of_scalar n None = malformed n
+piece_of_scalar n (Some c) = well_formed n (c ∷ [])
+
+-- how many bytes a piece has
 abbrev pub piece_len : Piece → ℕ
 piece_len (well_formed n cs) = n
 piece_len (malformed n) = n
@@ -22,23 +28,27 @@ abbrev pub text_of : Piece → List ℕ
 text_of (well_formed n cs) = cs
 text_of (malformed n) = 0xFFFD ∷ []
 
+-- a piece is well-formed, not a malformed sequence
 abbrev pub IsWellFormed : Piece → Type 0
 IsWellFormed (well_formed n cs) = Unit {0}
 IsWellFormed (malformed n) = ⊥
 
--- The same of pieces in a row: their bytes, scalars and text, and that none is malformed.
+-- how many bytes some pieces have in all
 abbrev pub sizes : List Piece → ℕ
 sizes [] = 0
 sizes (p ∷ ps) = piece_len p + sizes ps
 
+-- the scalars that some pieces give, in a row: none for a malformed one
 abbrev pub scalars : List Piece → List ℕ
 scalars [] = []
 scalars (p ∷ ps) = scalars_of p ++ scalars ps
 
+-- the text of some pieces: the scalars that they give, and U+FFFD for each malformed one
 abbrev pub text : List Piece → List ℕ
 text [] = []
 text (p ∷ ps) = text_of p ++ text ps
 
+-- none of some pieces is malformed
 abbrev pub AreWellFormed : List Piece → Type 0
 AreWellFormed [] = Unit {0}
 AreWellFormed (p ∷ ps) = IsWellFormed p × AreWellFormed ps
@@ -49,6 +59,7 @@ malformed_count [] = 0
 malformed_count (well_formed n cs ∷ ps) = malformed_count ps
 malformed_count (malformed n ∷ ps) = 1 + malformed_count ps
 
+-- the first of some pieces, if there is one
 abbrev pub first : List Piece → Option Piece
 first [] = None
 first (p ∷ ps) = Some p
@@ -60,6 +71,7 @@ pub record IsPiece (p : Piece) : Type 0 where
   pub at_most_two : length (scalars_of p) ≤ 2
   pub are_scalars : all_scalars (scalars_of p) ≡ true
 
+-- each of some pieces has bytes, and gives at most two scalars, not more than it has bytes
 abbrev pub ArePieces : List Piece → Type 0
 ArePieces [] = Unit {0}
 ArePieces (p ∷ ps) = IsPiece p × ArePieces ps

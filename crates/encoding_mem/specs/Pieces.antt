@@ -9,6 +9,7 @@ pieces_within first_piece after zero m (b ∷ x) = []
 pieces_within first_piece after (suc fuel) m (b ∷ x) =
     first_piece m (b ∷ x) ∷ pieces_within first_piece after fuel (after m (b ∷ x)) (drop (piece_len (first_piece m (b ∷ x))) (b ∷ x))
 
+-- the pieces of a whole input, read from a mode on: the first, then those of the bytes after it
 unfoldable pub pieces_in : {M : Type 0} → (M → List ℕ → Piece) → (M → List ℕ → M) → M → List ℕ → List Piece
 pieces_in first_piece after m x = pieces_within first_piece after (length x) m x
 

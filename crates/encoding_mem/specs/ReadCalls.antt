@@ -75,6 +75,7 @@ pub record HasTaken (pieces now : List ℕ → List Piece) (bytes : List ℕ) (t
   pub rest : (r : List ℕ) → pieces (bytes ++ r) ≡ taken ++ now r
   pub nothing : DecidesNothing now
 
+-- a call of an encoder did not end at a character without bytes in the target
 abbrev pub NothingIsLost : EncoderResult → Type 0
 NothingIsLost outcome = (m : ℕ) → outcome ≢ Unmappable m
 
@@ -82,12 +83,13 @@ NothingIsLost outcome = (m : ℕ) → outcome ≢ Unmappable m
 abbrev pub ReadsWhole : Reference → Coding → (List ℕ → List Piece) → EscapeState → List ℕ → Type 0
 ReadsWhole ref e pieces s t = ReadsAs pieces (whole_from ref e s t) t
 
--- Whatever follows the text, where it is not the last, it is read so exactly where the rest is that a call leaves; or it
--- never is.
+-- With whatever follows (nothing, if it is the last), what a text is written as reads as it
+-- exactly if what the rest that a call leaves is written as reads as the rest.
 abbrev pub ReadsWholeAs : Coding → Bool → (pieces now : List ℕ → List Piece) → (s : EscapeState) (t : List ℕ) (s' : EscapeState) (rest : List ℕ) → Type 0
 ReadsWholeAs e last pieces now s t s' rest =
     (ref : Reference) (u : List ℕ) → (IsTrue last → u ≡ []) → ReadsWhole ref e pieces s (t ++ u) ↔ ReadsWhole ref e now s' (rest ++ u)
 
+-- with whatever follows (nothing, if it is the last), what a text is written as never reads as it
 abbrev pub NeverReadsWhole : Coding → Bool → (List ℕ → List Piece) → EscapeState → List ℕ → Type 0
 NeverReadsWhole e last pieces s t = (ref : Reference) (u : List ℕ) → (IsTrue last → u ≡ []) → ¬ (ReadsWhole ref e pieces s (t ++ u))
 

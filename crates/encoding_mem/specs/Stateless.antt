@@ -5,6 +5,7 @@ use Rattle.encoding_mem.specs.declared.form.Form.{Form}
 use Rattle.encoding_mem.specs.declared.form.EscapeState.{EscapeState}
 use Rattle.encoding_mem.specs.declared.form.EscapeState.TheVariants.{Ascii}
 
+-- the target with one set and no escapes that has a given form for each character
 abbrev pub stateless : (ℕ → Form) → Coding
 stateless form = record { form = form; set = λ _ _. Ascii; escape = λ _ _. [] }
 

@@ -2,10 +2,11 @@
 use Rattle.std.specs.Prelude.{ℕ, ◌≡◌, ◌+◌, ◌⊎◌, List, length, slice_index}
 use Rattle.std.specs.Int.{IsInRange}
 
--- the first unit of a pair, and the second
+-- a unit is a high surrogate, the first of a surrogate pair: D800 to DBFF
 abbrev pub IsHighSurrogate : ℕ → Type 0
 IsHighSurrogate u = IsInRange 0xD800 0xDBFF u
 
+-- a unit is a low surrogate, the second of a surrogate pair: DC00 to DFFF
 abbrev pub IsLowSurrogate : ℕ → Type 0
 IsLowSurrogate u = IsInRange 0xDC00 0xDFFF u
 

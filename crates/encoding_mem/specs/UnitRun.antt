@@ -6,6 +6,7 @@ use Rattle.encoding_mem.specs.Piece.{Piece, well_formed}
 abbrev pub unit_pieces : List ℕ → List Piece
 unit_pieces units = map (λ u. well_formed 2 (u ∷ [])) units
 
+-- worked row: the units 0041 and 00E9 are two pieces, of one character and two bytes each
 two_units : unit_pieces (0x41 ∷ 0xE9 ∷ []) ≡ well_formed 2 (0x41 ∷ []) ∷ well_formed 2 (0xE9 ∷ []) ∷ []
 two_units = refl
 

@@ -6,6 +6,7 @@ use Rattle.encoding_mem.specs.Coding.{Coding}
 use Rattle.encoding_mem.specs.Stateless.{stateless}
 use Rattle.encoding_mem.specs.declared.form.Form.TheVariants.{Mapped}
 
+-- UTF-8 as a target: the form of each character is its bytes in UTF-8, and there is one set
 abbrev pub utf8_coding : Coding
 utf8_coding = stateless (λ c. Mapped (encode_utf8 c))
 

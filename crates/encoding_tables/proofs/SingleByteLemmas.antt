@@ -5,22 +5,21 @@ use Rattle.std.specs.List.{position}
 use Rattle.std.specs.Option.{unwrap_or}
 use Rattle.std.proofs.lemmas.Bool.{eqb-true, eqb-false, not-true, not-false}
 use Rattle.std.proofs.lemmas.List.Quantifiers.{position-Some}
-use Rattle.encoding_mem.specs.Piece.{well_formed}
+use Rattle.encoding_mem.specs.Piece.{well_formed, piece_of_scalar}
 use Rattle.encoding_mem.specs.laws.Pieces.{pieces_by-nil}
-use Rattle.encoding_tables.specs.EachByte.{piece_of_byte}
 use Rattle.encoding_tables.specs.Lookups.{AreEntries}
-use Rattle.encoding_tables.specs.SingleByte.{char_of_byte, first_piece_single_byte, pieces_single_byte, has_number, IsLatin1UpTo}
-use Rattle.encoding_tables.specs.laws.SingleByte.{pieces_of_byte}
+use Rattle.encoding_tables.specs.SingleByte.{char_of_byte, pieces_single_byte, has_number, IsLatin1UpTo}
+use Rattle.encoding_tables.specs.laws.SingleByte.{pieces_of_byte, first_piece_single_byte}
 use Rattle.encoding_tables.specs.laws.TableFaults.{no_position}
 
-alone : (flat : List ℕ) → AreEntries flat → (b : ℕ) → pieces_single_byte flat (b ∷ []) ≡ piece_of_byte (char_of_byte flat b) ∷ []
-alone flat scalars b = pieces_of_byte flat scalars b [] ∙ ap (λ ps. piece_of_byte (char_of_byte flat b) ∷ ps) (pieces_by-nil (first_piece_single_byte flat))
+alone : (flat : List ℕ) → AreEntries flat → (b : ℕ) → pieces_single_byte flat (b ∷ []) ≡ piece_of_scalar 1 (char_of_byte flat b) ∷ []
+alone flat scalars b = pieces_of_byte flat scalars b [] ∙ ap (λ ps. piece_of_scalar 1 (char_of_byte flat b) ∷ ps) (pieces_by-nil (first_piece_single_byte flat))
 
-itself : (b : ℕ) (o : Option ℕ) → has_number b o ≡ true → piece_of_byte o ∷ [] ≡ well_formed 1 (b ∷ []) ∷ []
+itself : (b : ℕ) (o : Option ℕ) → has_number b o ≡ true → piece_of_scalar 1 o ∷ [] ≡ well_formed 1 (b ∷ []) ∷ []
 itself b None h = absurd (cc)
 itself b (Some c) h = ap (λ d. well_formed 1 (d ∷ []) ∷ []) (eqb-true c b h)
 
-another : (b : ℕ) (o : Option ℕ) → has_number b o ≡ false → piece_of_byte o ∷ [] ≢ well_formed 1 (b ∷ []) ∷ []
+another : (b : ℕ) (o : Option ℕ) → has_number b o ≡ false → piece_of_scalar 1 o ∷ [] ≢ well_formed 1 (b ∷ []) ∷ []
 another b None h e = cc
 another b (Some c) h e = eqb-false c b h (let same : c ≡ b = cc in same)
 

@@ -6,16 +6,16 @@ use Rattle.encoding_tables.specs.RangeFaults.{bad_row}
 use Rattle.encoding_tables.specs.TableFaults.{flat_fault}
 use Rattle.encoding_tables.specs.declared.index_kind.IndexKind.{IndexKind}
 
--- the lists, in the order of the kinds, and the rows of the ranges
+-- what tables hold: the lists, in the order of the kinds, each if it is there, and the rows of the GB18030 ranges
 pub record IndexLists : Type 0 where
   pub flats : List (Option (List ℕ))
   pub rows : Option (List (ℕ × ℕ))
 
--- the list of a kind among lists in the order of the kinds
+-- the list of a kind among lists that stand in the order of the kinds, if it is there
 abbrev pub flat_at : List (Option (List ℕ)) → IndexKind → Option (List ℕ)
 flat_at flats kind = slice_index_or flats (number kind) None
 
--- the list of a kind, if it is there
+-- the list of a kind, if it is there: at each pointer its scalar, or 0
 abbrev pub flat_of : IndexLists → IndexKind → Option (List ℕ)
 flat_of tables kind = flat_at tables.flats kind
 
@@ -23,19 +23,22 @@ flat_of tables kind = flat_at tables.flats kind
 abbrev pub has : IndexLists → IndexKind → Bool
 has tables kind = if is_ranges kind then is_some tables.rows else is_some (flat_of tables kind)
 
--- the entries of a kind that is there, and the rows where they are
+-- the entries of the list of a kind, one for each pointer: none if the list is not there
 abbrev pub entries_of : IndexLists → IndexKind → List ℕ
-entries_of tables kind = unwrap_or (flat_of tables kind) []
+entries_of tables kind = unwrap_or (flat_at tables.flats kind) []
 
+-- the rows of index gb18030 ranges: none if the index is not there
 abbrev pub rows_of : IndexLists → List (ℕ × ℕ)
 rows_of tables = unwrap_or tables.rows []
 
--- no list has a fault, and the rows have none
+-- no list that is there has a fault as the index of its kind
 abbrev pub AreAccepted : List (Option (List ℕ)) → Type 0
 AreAccepted flats = (kind : IndexKind) → IfSome (flat_at flats kind) (λ flat. flat_fault false kind flat ≡ None)
 
+-- no list that is there has a fault as the index of its kind, nor have gb18030 ranges, if there
 abbrev pub AreTaken : List (Option (List ℕ)) → Option (List (ℕ × ℕ)) → Type 0
 AreTaken flats rows = AreAccepted flats × IfSome rows (λ r. bad_row r ≡ None)
 
+-- tables hold no index with a fault, neither a list nor the rows of gb18030 ranges
 abbrev pub AreAcceptedTables : IndexLists → Type 0
 AreAcceptedTables tables = AreTaken tables.flats tables.rows

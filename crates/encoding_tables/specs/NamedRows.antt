@@ -23,6 +23,7 @@ Gives [] k q v = ⊥
 Gives (r ∷ rows) zero q v = IsValue r (end_by rows) q v
 Gives (r ∷ rows) (suc k) q v = Gives rows k q v
 
+-- v is a scalar that is not below `least`
 pub record IsScalarFrom (least v : ℕ) : Type 0 where
   pub high : least ≤ v
   pub scalar : InScalarRange v
@@ -43,6 +44,7 @@ pub record HasBadValue (least : ℕ) (rows : List (ℕ × ℕ)) (k : ℕ) : Type
   pub gives : Gives rows k pointer value
   pub bad : (¬ (IsScalarFrom least value)) ⊎ IsReached rows k value
 
+-- k is the least number that has the property P
 abbrev pub IsFirstWith : (ℕ → Type 0) → ℕ → Type 0
 IsFirstWith P k = P k × ((j : ℕ) → j < k → ¬ (P j))
 

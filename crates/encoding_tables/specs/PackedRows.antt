@@ -16,6 +16,7 @@ flat_list size rows = map (entry_at rows) (range_with_len 0 size)
 abbrev pub PointersRise : List (ℕ × ℕ) → Type 0
 PointersRise rows = (k : ℕ) → k + 1 < length rows → (row_at rows k).0 < (row_at rows (k + 1)).0
 
+-- each row's pointer is below `size`
 abbrev pub PointersAreBelow : ℕ → List (ℕ × ℕ) → Type 0
 PointersAreBelow size rows = (k : ℕ) → k < length rows → (row_at rows k).0 < size
 

@@ -15,6 +15,8 @@ first_piece_replacement true x = well_formed 1 []
 abbrev pub after_replacement : (error_returned : Bool) → List ℕ → Bool
 after_replacement error_returned x = true
 
+-- the pieces of bytes in replacement, one for each: the first is malformed, unless the error was
+-- returned before, and the others are ignored
 abbrev pub pieces_replacement : (error_returned : Bool) → List ℕ → List Piece
 pieces_replacement = pieces_in first_piece_replacement after_replacement
 

@@ -5,7 +5,8 @@ use Rattle.std.specs.Option.{option_map}
 use Rattle.encoding_mem.specs.Coding.{Coding}
 use Rattle.encoding_mem.specs.Piece.{Piece, well_formed}
 use Rattle.encoding_mem.specs.Pieces.{pieces_by}
-use Rattle.encoding_tables.specs.EachByte.{first_piece_by_byte, coding_by_byte}
+use Rattle.encoding_mem.specs.Stateless.{stateless}
+use Rattle.encoding_tables.specs.EachByte.{first_piece_by_byte, form_by_byte}
 use Rattle.encoding_tables.specs.Lookups.{value_of, first_pointer}
 
 -- the character of a byte: ASCII gives itself
@@ -16,14 +17,13 @@ char_of_byte flat b = if nat_lt b 0x80 then Some b else value_of flat (b - 0x80)
 abbrev pub single_byte_of_char : List ℕ → ℕ → Option ℕ
 single_byte_of_char flat c = if nat_lt c 0x80 then Some c else option_map (λ p. 0x80 + p) (first_pointer flat c 0 128)
 
-abbrev pub first_piece_single_byte : List ℕ → List ℕ → Piece
-first_piece_single_byte flat x = first_piece_by_byte (char_of_byte flat) x
-
+-- the pieces of bytes in the single-byte encoding with the index `flat`, one for each byte
 abbrev pub pieces_single_byte : List ℕ → List ℕ → List Piece
-pieces_single_byte flat x = pieces_by (first_piece_single_byte flat) x
+pieces_single_byte flat x = pieces_by (first_piece_by_byte (char_of_byte flat)) x
 
+-- the single-byte encoding with the index `flat` as a target: one byte for a character, or none
 abbrev pub single_byte_coding : List ℕ → Coding
-single_byte_coding flat = coding_by_byte (single_byte_of_char flat)
+single_byte_coding flat = stateless (form_by_byte (single_byte_of_char flat))
 
 -- the character of a byte has the byte's number
 abbrev pub has_number : ℕ → Option ℕ → Bool

@@ -5,9 +5,11 @@ use Rattle.std.specs.Prelude.{◌≡◌, ℕ, ◌+◌, ◌^◌, ◌<◌, ◌≤�
 abbrev pub row_at : List (ℕ × ℕ) → ℕ → ℕ × ℕ
 row_at rows k = slice_index_or rows k (0, 0)
 
+-- whether a row is below a key: by the first numbers, by the second if the first are equal
 abbrev pub is_below : ℕ × ℕ → ℕ × ℕ → Bool
 is_below row key = nat_lt row.0 key.0 || (row.0 == key.0 && nat_lt row.1 key.1)
 
+-- a row is below a key, by the first numbers, or by the second if the first are equal
 abbrev pub IsBelow : ℕ × ℕ → ℕ × ℕ → Type 0
 IsBelow row key = is_below row key ≡ true
 

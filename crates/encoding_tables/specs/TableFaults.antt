@@ -9,6 +9,7 @@ use Rattle.encoding_tables.specs.declared.index_kind.IndexKind.TheVariants.{Big5
 use Rattle.encoding_tables.specs.declared.table_fault.TableFault.{TableFault}
 use Rattle.encoding_tables.specs.declared.table_fault.TableFault.TheVariants.{Present, Size, Entry, Reserved, Ranges}
 
+-- whether two kinds of index are equal
 abbrev pub is_kind : IndexKind → IndexKind → Bool
 is_kind a b = number a == number b
 
@@ -25,6 +26,8 @@ first_bad_entry kind flat = position (λ v. not (is_entry_of kind v)) flat
 abbrev pub first_reserved : List ℕ → Option ℕ
 first_reserved flat = option_map (λ k. 8836 + k) (position (λ v. not (v == 0)) (slice_range flat 8836 10716))
 
+-- the fault of a list of JIS X 0208, if it maps a pointer from 8836 to 10715, where Shift_JIS has
+-- end-user-defined characters: it tells the first such pointer
 abbrev pub reserved_fault : IndexKind → List ℕ → Option TableFault
 reserved_fault kind flat = if is_kind kind Jis0208 then option_map Reserved (first_reserved flat) else None
 

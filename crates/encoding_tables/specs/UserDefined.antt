@@ -5,25 +5,23 @@ use Rattle.std.specs.Int.{is_in_range}
 use Rattle.encoding_mem.specs.Coding.{Coding}
 use Rattle.encoding_mem.specs.Piece.{Piece}
 use Rattle.encoding_mem.specs.Pieces.{pieces_by}
-use Rattle.encoding_tables.specs.EachByte.{first_piece_by_byte, coding_by_byte}
+use Rattle.encoding_mem.specs.Stateless.{stateless}
+use Rattle.encoding_tables.specs.EachByte.{first_piece_by_byte, form_by_byte}
 
 -- the character of a byte: ASCII gives itself, and what is above FF is no byte
 abbrev pub user_char_of_byte : ℕ → Option ℕ
-user_char_of_byte b = if nat_lt b 0x80
-    then Some b
+user_char_of_byte b = if nat_lt b 0x80 then Some b
     else (if is_in_range 0x80 0xFF b then Some (0xF780 + (b - 0x80)) else None)
 
 -- the byte of a character
 abbrev pub byte_of_user_char : ℕ → Option ℕ
-byte_of_user_char c = if nat_lt c 0x80
-    then Some c
+byte_of_user_char c = if nat_lt c 0x80 then Some c
     else (if is_in_range 0xF780 0xF7FF c then Some (0x80 + (c - 0xF780)) else None)
 
-abbrev pub first_piece_user_defined : List ℕ → Piece
-first_piece_user_defined = first_piece_by_byte user_char_of_byte
-
+-- the pieces of some bytes in x-user-defined: a character for each byte
 abbrev pub pieces_user_defined : List ℕ → List Piece
-pieces_user_defined = pieces_by first_piece_user_defined
+pieces_user_defined = pieces_by (first_piece_by_byte user_char_of_byte)
 
+-- x-user-defined as a target: one byte for U+0000 to U+007F and U+F780 to U+F7FF, else none
 abbrev pub user_defined_coding : Coding
-user_defined_coding = coding_by_byte byte_of_user_char
+user_defined_coding = stateless (form_by_byte byte_of_user_char)

@@ -7,13 +7,15 @@ use Rattle.encoding_mem.specs.Piece.{Piece, well_formed, malformed}
 use Rattle.encoding_mem.specs.Pieces.{pieces_by}
 use Rattle.encoding_mem.specs.Writing.{len_utf16}
 
--- the unit that two bytes are, and the two bytes of a unit
+-- the unit of UTF-16 that two bytes are, in big-endian or in little-endian order
 abbrev pub unit_of : (big_endian : Bool) → ℕ → ℕ → ℕ
 unit_of big_endian a b = if big_endian then from_be_bytes w16 (a ∷ b ∷ []) else from_le_bytes w16 (a ∷ b ∷ [])
 
+-- the two bytes of a unit of UTF-16, in big-endian or in little-endian order
 abbrev pub bytes_of_unit : (big_endian : Bool) → ℕ → List ℕ
 bytes_of_unit big_endian u = if big_endian then to_be_bytes w16 u else to_le_bytes w16 u
 
+-- the bytes of units of UTF-16, two for each, in big-endian or in little-endian order
 abbrev pub bytes_of_units : (big_endian : Bool) → List ℕ → List ℕ
 bytes_of_units big_endian [] = []
 bytes_of_units big_endian (u ∷ us) = bytes_of_unit big_endian u ++ bytes_of_units big_endian us
@@ -24,13 +26,11 @@ abbrev pub after_high_surrogate : (big_endian : Bool) → ℕ → List ℕ → P
 after_high_surrogate big_endian u [] = malformed 2
 after_high_surrogate big_endian u (c ∷ []) = malformed 3
 after_high_surrogate big_endian u (c ∷ d ∷ x) = if is_low_surrogate (unit_of big_endian c d)
-    then well_formed 4 (surrogate_pair_char u (unit_of big_endian c d) ∷ [])
-    else malformed 2
+    then well_formed 4 (surrogate_pair_char u (unit_of big_endian c d) ∷ []) else malformed 2
 
 -- The piece that begins with a unit. A unit that is a scalar is that character; a low surrogate is none.
 abbrev pub after_unit : (big_endian : Bool) → ℕ → List ℕ → Piece
-after_unit big_endian u x = if is_high_surrogate u
-    then after_high_surrogate big_endian u x
+after_unit big_endian u x = if is_high_surrogate u then after_high_surrogate big_endian u x
     else (if scalar u then well_formed 2 (u ∷ []) else malformed 2)
 
 -- the first piece of some bytes
@@ -58,5 +58,6 @@ abbrev pub ReadsUnits : Type 0
 ReadsUnits = (big_endian : Bool) (units : List ℕ) → ((k : ℕ) → slice_index units k < 0x10000)
     → pieces_utf16 big_endian (bytes_of_units big_endian units) ≡ map piece_of_char (utf16_chars units)
 
+-- worked row: the units D83D and DCA9 (U+1F4A9) are the bytes 3D D8 A9 DC in little-endian order
 units : bytes_of_units false (0xD83D ∷ 0xDCA9 ∷ []) ≡ 0x3D ∷ 0xD8 ∷ 0xA9 ∷ 0xDC ∷ []
 units = refl

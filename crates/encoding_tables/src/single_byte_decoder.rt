@@ -12,8 +12,8 @@ ghost use Rattle.encoding_tables.specs.laws.EachByte.{first_piece_of_byte};
 ghost use Rattle.encoding_tables.specs.IndexLists.{has, entries_of};
 ghost use Rattle.encoding_tables.specs.Kinds.{is_single_byte};
 ghost use Rattle.encoding_tables.specs.Lookups.{AreEntries};
-ghost use Rattle.encoding_tables.specs.SingleByte.{char_of_byte, has_number, first_piece_single_byte, pieces_single_byte, IsLatin1UpTo};
-ghost use Rattle.encoding_tables.specs.laws.SingleByte.{AreBasic, cuts_single_byte};
+ghost use Rattle.encoding_tables.specs.SingleByte.{char_of_byte, has_number, pieces_single_byte, IsLatin1UpTo};
+ghost use Rattle.encoding_tables.specs.laws.SingleByte.{AreBasic, cuts_single_byte, first_piece_single_byte};
 
 use crate::each_byte_decoder::EachByteDecoder;
 use crate::flat::Flat;

@@ -1,10 +1,12 @@
 //! The encoder of the single-byte encodings (the Encoding Standard, section 9.2, "single-byte
 //! encoder").
 
-ghost use Rattle.std.specs.Prelude.{◌≡◌, ◌+◌, true};
+ghost use Rattle.std.specs.Prelude.{◌≡◌, ◌+◌, true, [], ◌∷◌};
+ghost use Rattle.std.specs.Option.{option_map};
+ghost use Rattle.encoding_mem.specs.Coding.{form_of_bytes};
 ghost use Rattle.encoding_mem.specs.EncoderRule.{IsFreshEncoder};
 ghost use Rattle.encoding_mem.specs.EncodedLength.{encoded_length_single_byte};
-ghost use Rattle.encoding_tables.specs.EachByte.{form_of_byte, form_by_byte};
+ghost use Rattle.encoding_tables.specs.EachByte.{form_by_byte};
 ghost use Rattle.encoding_tables.specs.IndexLists.{has, entries_of};
 ghost use Rattle.encoding_tables.specs.Kinds.{is_single_byte};
 ghost use Rattle.encoding_tables.specs.SingleByte.{single_byte_of_char, single_byte_coding};
@@ -82,7 +84,7 @@ fn byte_of(flat: &Flat<'_>, c: char) -> Option<u8>
 // The form of a character, by its byte. One without a byte is reported as it is.
 #[inline(always)]
 pub(crate) fn form_of_byte(c: char, byte: Option<u8>) -> Form
-    ensures { result ≡ form_of_byte c byte }
+    ensures { result ≡ form_of_bytes c (option_map (λ b. b ∷ []) byte) }
 {
     match byte {
         Some(byte) => Form::Mapped(Bytes::one(byte)),

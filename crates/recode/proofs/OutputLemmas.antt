@@ -11,9 +11,10 @@ use Rattle.encoding_mem.specs.laws.Encoding.{utf8_lost_count}
 use Rattle.encoding_mem.specs.laws.ReadBack.{all_in_utf8, none_lost, all_mapped}
 use Rattle.encoding_mem.specs.Utf8Coding.{utf8_coding}
 use Rattle.encoding_mem.specs.declared.form.EscapeState.TheVariants.{Ascii}
-use Rattle.encoding_front.specs.Encodings.{IsUtf8Encoding, coding_of, coding_of_codec_kind, output_encoding_of}
+use Rattle.encoding_front.specs.Encodings.{IsUtf8Encoding, coding_of, output_encoding_of}
 use Rattle.encoding_front.specs.laws.Input.{marked_scalars, recoded_at_once}
 use Rattle.encoding_front.specs.Marks.{marked_pieces, marked_text}
+use Rattle.encoding_front.specs.Codecs.{codec_of}
 use Rattle.recode.specs.Policy.{form_of}
 use Rattle.recode.specs.declared.job.Policy.{Policy}
 use Rattle.recode.specs.Job.{IsValidJob, Faithful, input_pieces, input_text, output_pieces, target_of, output_of, log_of, trace}
@@ -59,7 +60,7 @@ runs_read_back j x bytes again direct w w' v v' u u' p q r told k a l b m c =
 
 -- UTF-8 loses no character.
 pub none_lost_in_utf8 : (j : Job) (x : List ℕ) → IsUtf8Encoding (output_encoding_of j.to) → lost_count (target_of j) (input_text j x) ≡ 0
-none_lost_in_utf8 j x h = ap (λ e. lost_count e (input_text j x)) (ap (coding_of_codec_kind j.tables.now) h) ∙ utf8_lost_count (input_text j x)
+none_lost_in_utf8 j x h = ap (λ e. lost_count e (input_text j x)) (ap (λ k. (codec_of j.tables.now k).coding) h) ∙ utf8_lost_count (input_text j x)
 
 pub no_lost_lines : (j : Job) (x : List ℕ) → IsUtf8Encoding (output_encoding_of j.to) → lost_lines (trace j x) ≡ 0
 no_lost_lines j x h =

@@ -107,7 +107,6 @@ completes before after j v u p valid b f t =
         whole = record {
           within = within;
           unstopped = λ stops. sym (lost_lines-trace (form_of j.policy) (target_of j) Ascii 0 0 (input_pieces j x)) ∙ spared stops;
-          wrote = wrote;
           output = wrote.output;
           logged = wrote.lined;
         };

@@ -301,8 +301,8 @@ module _ (before after : Devices) (flushed : Written) (log : Option (List ℕ)) 
         cause = cause;
         told = told.0;
         whole = told.1;
-        output = Appends-kept before.written.output after.written.output flushed.output (outputs all) w.wrote.output kept.output;
-        logged = told_log all (take told.0 (message_of g)) w.wrote told.2;
+        output = Appends-kept before.written.output after.written.output flushed.output (outputs all) w.output kept.output;
+        logged = told_log all (take told.0 (message_of g)) (record { output = w.output; lined = w.logged }) told.2;
         prefix = λ r h. ([], ap (λ t. tagged (trace j t)) (ap (λ t. k.input ++ t) (h refl) ∙ append-nil k.input) ∙ sym (append-nil all));
         stopped = λ r h. stop all (trace j (k.input ++ r));
       }

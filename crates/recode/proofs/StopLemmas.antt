@@ -17,7 +17,8 @@ use Rattle.encoding_mem.specs.laws.Agreement.{open_reads}
 use Rattle.encoding_mem.specs.laws.Encoding.{bytes_of-append, bytes_of-bytes, mapped_open}
 use Rattle.encoding_mem.specs.laws.ReadBack.{none_lost}
 use Rattle.encoding_mem.specs.laws.ReadCalls.{begins_along, broken_never_reads_on, lost_never_reads, reads_on, scalars_parts}
-use Rattle.encoding_front.specs.Encodings.{need_of, set_pieces_of}
+use Rattle.encoding_front.specs.Encodings.{set_pieces_of}
+use Rattle.encoding_front.specs.CodecBounds.{need_of}
 use Rattle.encoding_front.specs.laws.Encoder.{coding_laws}
 use Rattle.encoding_front.specs.laws.Encodings.{reads_by_step, set_pieces_at_start}
 use Rattle.encoding_front.specs.laws.Input.{marked_scalars, short_recoded}

@@ -19,7 +19,11 @@ use Rattle.recode.proofs.TraceLemmas.{lost_lines-append}
 
 -- Two runs that came to their end.
 pub same_written : (j : Job) (x : List ℕ) (w w' v v' : Written) (p q : Report) → IsConverted w w' j x p → IsConverted v v' j x q → WroteTheSame w w' v v'
-same_written j x w w' v v' p q a b = record { taken = tagged (trace j x); one = a.whole.wrote; another = b.whole.wrote }
+same_written j x w w' v v' p q a b = record {
+  taken = tagged (trace j x);
+  one = record { output = a.whole.output; lined = a.whole.logged };
+  another = record { output = b.whole.output; lined = b.whole.logged };
+}
 
 same_truth : (a b : Bool) (P : Type 0) → IsTrue a ↔ P → IsTrue b ↔ P → a ≡ b
 same_truth true true P h k = refl

@@ -9,6 +9,7 @@ abbrev pub HoldsAnyCharacter : Pivot → Type 0
 HoldsAnyCharacter (Utf8 bytes) = 4 ≤ length bytes.now
 HoldsAnyCharacter (Utf16 units) = 2 ≤ length units.now
 
+-- whether a pivot is of UTF-16, with room in units, rather than of UTF-8, with room in bytes
 abbrev pub is_wide : Pivot → Bool
 is_wide (Utf8 bytes) = false
 is_wide (Utf16 units) = true
@@ -24,6 +25,8 @@ pub record KeepsRoom (before after : Pivot) : Type 0 where
   pub kind : is_wide after ≡ is_wide before
   pub size : capacity after ≡ capacity before
 
+-- enough for a step: input of 1 byte or more, output of 4 or more, and pivot and check of one form
+-- that each hold any character
 pub record AreEnough (b : Buffers) : Type 0 where
   pub input : 0 < length b.input.now
   pub pivot : HoldsAnyCharacter b.pivot

@@ -28,26 +28,27 @@ pub record IsValidJob (j : Job) : Type 0 where
 abbrev pub source_in : Job → List ℕ → Encoding
 source_in j x = (source_of j.mark j.from x).0
 
--- the pieces of the input, of which the mark that is taken is the first, and its text
+-- the pieces of the input, of which the mark that is taken is the first
 abbrev pub input_pieces : Job → List ℕ → List Piece
 input_pieces j x = marked_pieces j.tables.now j.mark j.from x
 
+-- the characters of the input without a mark that is taken, U+FFFD for each malformed sequence
 abbrev pub input_text : Job → List ℕ → List ℕ
 input_text j x = text (input_pieces j x)
 
--- what is written for characters, and what that reads back as: its pieces in the output encoding, without mark
--- handling
+-- the coding of the job's output encoding: what is written for characters
 abbrev pub target_of : Job → Coding
 target_of j = coding_of j.tables.now j.to
 
+-- the pieces of some bytes in the job's output encoding, without mark handling
 abbrev pub output_pieces : Job → List ℕ → List Piece
 output_pieces j y = pieces_of j.tables.now (output_encoding_of j.to) y
 
--- What is written to the output and to the log, in their one order, where no policy stops it; and what is written under
--- the job's.
+-- what is written to the output and to the log, in their one order, where no policy stops it
 abbrev pub whole_trace : Job → List ℕ → List Item
 whole_trace j x = trace_from (form_of j.policy) (target_of j) Ascii 0 0 (input_pieces j x)
 
+-- what is written to the output and to the log, in their one order: all, or what a stop leaves
 abbrev pub trace : Job → List ℕ → List Item
 trace j x = written_under j.policy (whole_trace j x)
 
@@ -55,17 +56,20 @@ trace j x = written_under j.policy (whole_trace j x)
 abbrev pub RunsThrough : Job → List ℕ → Type 0
 RunsThrough j x = j.policy ≡ Policy.Stop → lost_count (target_of j) (input_text j x) ≡ 0
 
+-- the bytes of the output for an input: all, or those up to where the job's policy stops
 abbrev pub output_of : Job → List ℕ → List ℕ
 output_of j x = outputs (tagged (trace j x))
 
+-- the bytes of the log for an input: all, or those up to where the job's policy stops
 abbrev pub log_of : Job → List ℕ → List ℕ
 log_of j x = lines (tagged (trace j x))
 
--- the lines of characters without bytes, the first with the index i
+-- the log's line for the character with the index i, by its form: none if it has bytes
 abbrev pub form_lines : ℕ → Form → List LogLine
 form_lines i (Mapped bs) = []
 form_lines i (Unmapped c) = Lost i c ∷ []
 
+-- the log's lines for the characters without bytes in a text, whose first character has index i
 abbrev pub lost_in : Coding → ℕ → List ℕ → List LogLine
 lost_in e i [] = []
 lost_in e i (c ∷ t) = form_lines i (e.form c) ++ lost_in e (i + 1) t

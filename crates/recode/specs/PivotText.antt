@@ -51,5 +51,6 @@ abbrev pub Holds : Pivot → ℕ → List ℕ → Type 0
 Holds (InPivot.Utf8 bytes) n text = (n ≤ length bytes.now) × (take n bytes.now ≡ encode_utf8_all text)
 Holds (InPivot.Utf16 units) n text = (n ≤ length units.now) × (take n units.now ≡ encode_utf16_all text)
 
+-- the first n bytes or units of a pivot are well-formed UTF-8 or UTF-16, by the pivot's form
 abbrev pub HoldsText : Pivot → ℕ → Type 0
 HoldsText pivot n = (text : List ℕ) × (all_scalars text ≡ true) × Holds pivot n text

@@ -12,19 +12,16 @@ reference_of Policy.Stop = None
 
 -- the same where one is asked for: under `Stop` none is written, and its form is of no account
 abbrev pub form_of : Policy → Reference
-form_of Policy.Decimal = Reference.Decimal
 form_of Policy.Hexadecimal = Reference.Hexadecimal
-form_of Policy.Stop = Reference.Decimal
+form_of _ = Reference.Decimal
 
 -- up to the first line of a lost character, with it
 abbrev pub up_to_loss : List Item → List Item
 up_to_loss [] = []
-up_to_loss (Byte b ∷ t) = Byte b ∷ up_to_loss t
-up_to_loss (MalformedAt offset size ∷ t) = MalformedAt offset size ∷ up_to_loss t
 up_to_loss (LostAt index scalar ∷ t) = LostAt index scalar ∷ []
+up_to_loss (item ∷ t) = item ∷ up_to_loss t
 
 -- what is written of these items: all, or what a stop leaves
 abbrev pub written_under : Policy → List Item → List Item
-written_under Policy.Decimal items = items
-written_under Policy.Hexadecimal items = items
 written_under Policy.Stop items = up_to_loss items
+written_under _ items = items

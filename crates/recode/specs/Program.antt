@@ -45,6 +45,7 @@ pub record IsJobOf (w : Words) (j : Job) : Type 0 where
 abbrev pub IsUnknown : List ℕ → Type 0
 IsUnknown label = (e : Encoding) → HasLabel e label → ⊥
 
+-- the label of the source, or that of the target, is of no encoding
 abbrev pub HasUnknownLabel : Words → Type 0
 HasUnknownLabel w = IsUnknown w.from.now ⊎ IsUnknown w.to.now
 
@@ -54,13 +55,14 @@ pub record NamesUnknown (words : List (List ℕ)) : Type 0 where
   pub meant : AsksFor words (Run w)
   pub unknown : HasUnknownLabel w
 
--- the words ask for a text of the program's own
+-- the request is for a text of the program's own: help, version or the list of encodings
 abbrev pub IsText : Request → Type 0
 IsText (Run w) = ⊥
 IsText (Help text) = Unit {0}
 IsText (Version text) = Unit {0}
 IsText Listing = Unit {0}
 
+-- the words ask for a text of the program's own: help, version or the list of encodings
 pub record AskForText (words : List (List ℕ)) : Type 0 where
   pub request : Request
   pub asked : AsksFor words request
@@ -94,6 +96,7 @@ pub record Ports (R W L : Type 0) : Type 0 where
   pub writer : Counted W
   pub log : Counted L
 
+-- a reader, a writer and a log as one value
 abbrev pub ports : {R W L : Type 0} → Counted R → Counted W → Counted L → Ports R W L
 ports reader writer log = record { reader = reader; writer = writer; log = log }
 
@@ -121,24 +124,26 @@ AnswersWords holds remaining contents logged before after w status =
     ⊎ (((status ≡ 3) × IsLeftAlone before after)
     ⊎ ((j : Job) × IsJobOf w j × AreOfFiles holds w.indexes.now j.tables.now × IsConversionOn remaining contents logged before after j status))
 
--- What is returned for the program's words: they are refused, or the start fails, with nothing read and nothing written
--- but a message; or they ask for a text, with nothing read and no message; or the job that they mean is converted, with
--- the indexes of the folder's files.
+-- The status is 2: clap refuses the words, a value stands for nothing, or a label is unknown.
+-- Nothing is read, and nothing written but to the log.
 pub record RefusesWords {R W L : Type 0} (before after : Ports R W L) (words : List (List ℕ)) (status : ℕ) : Type 0 where
   pub answered : status ≡ 2
   pub refused : IsRefusedByClap words ⊎ (HasMeaninglessValue words ⊎ NamesUnknown words)
   pub alone : IsLeftAlone before after
 
+-- the start fails, with status 3: nothing is read, and nothing written but to the log
 pub record FailsToStart {R W L : Type 0} (before after : Ports R W L) (status : ℕ) : Type 0 where
   pub answered : status ≡ 3
   pub alone : IsLeftAlone before after
 
+-- the words ask for a text of the program's own: the status is 0, nothing is read or logged
 pub record TellsText {R W L : Type 0} (before after : Ports R W L) (words : List (List ℕ)) (status : ℕ) : Type 0 where
   pub answered : status ≡ 0
   pub asked : AskForText words
   pub unread : after.reader ≡ before.reader
   pub unlogged : after.log ≡ before.log
 
+-- the words ask for a run: their job is converted, with the indexes of the folder's files
 pub record RunsJob {R W L : Type 0} (holds : FileTexts) (remaining : R → Option (List ℕ)) (contents : W → Option (List ℕ)) (logged : L → Option (List ℕ)) (before after : Ports R W L) (words : List (List ℕ)) (status : ℕ) : Type 0 where
   pub w : Words
   pub meant : AsksFor words (Run w)
@@ -147,6 +152,8 @@ pub record RunsJob {R W L : Type 0} (holds : FileTexts) (remaining : R → Optio
   pub files : AreOfFiles holds w.indexes.now j.tables.now
   pub converted : IsConversionOn remaining contents logged before after j status
 
+-- What is done for the program's words: they are refused, the start fails, a text of the program's
+-- own is told, or the job that they mean is converted. Each has its status.
 abbrev pub AnswersProgram : {R W L : Type 0} → FileTexts → (R → Option (List ℕ)) → (W → Option (List ℕ)) → (L → Option (List ℕ)) → Ports R W L → Ports R W L → List (List ℕ) → ℕ → Type 0
 AnswersProgram holds remaining contents logged before after words status =
     RefusesWords before after words status

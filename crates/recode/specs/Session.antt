@@ -20,16 +20,19 @@ use Rattle.recode.specs.declared.job.Report.{Report}
 use Rattle.recode.specs.declared.session.Phase.{Phase}
 use Rattle.recode.specs.declared.session.Phase.TheVariants.{Open, Done, Stopped}
 
+-- a session as its callers know it: its job, where the conversion stands, and its phase
 pub record View : Type 0 where
   pub job : Job
   pub state : State
   pub phase : Phase
 
+-- the phase is that of a session that has ended: it is done, or a fault stopped it
 abbrev pub IsOver : Phase → Type 0
 IsOver Open = ⊥
 IsOver Done = Unit {0}
 IsOver Stopped = Unit {0}
 
+-- the phase of a session after a step, by how the step ended: open, done, or stopped by a fault
 abbrev pub phase_after : Result Progress Fault → Phase
 phase_after (Ok Progress.More) = Open
 phase_after (Ok Progress.Done) = Done
@@ -83,7 +86,6 @@ pub record IsReport (j : Job) (x : List ℕ) (p : Report) : Type 0 where
 pub record WroteWhole (before after : Written) (j : Job) (x : List ℕ) : Type 0 where
   pub within : length x ≤ j.limit
   pub unstopped : RunsThrough j x
-  pub wrote : Wrote before after (tagged (trace j x))
   pub output : Appends before.output after.output (output_of j x)
   pub logged : Appends before.log after.log (log_of j x)
 

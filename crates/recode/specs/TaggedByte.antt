@@ -7,6 +7,7 @@ use Rattle.recode.specs.Devices.{Written}
 use Rattle.recode_log.specs.Line.{line_bytes}
 use Rattle.recode_log.specs.declared.line.LogLine.TheVariants.{Bad, Lost}
 
+-- a byte that is written, as one of the output (`Out`) or one of the log (`Line`)
 pub data TaggedByte : Type 0 where
   Out : ℕ → TaggedByte
   Line : ℕ → TaggedByte
@@ -29,6 +30,7 @@ tagged_item (Byte b) = Out b ∷ []
 tagged_item (MalformedAt offset size) = map Line (line_bytes (Bad offset size))
 tagged_item (LostAt index scalar) = map Line (line_bytes (Lost index scalar))
 
+-- the bytes that items are written as, in their order, each as one of the output or of the log
 abbrev pub tagged : List Item → List TaggedByte
 tagged items = flat_map tagged_item items
 

@@ -23,10 +23,11 @@ abbrev pub ended_count : Bool → ℕ
 ended_count true = 1
 ended_count false = 0
 
--- The calls of a run that ended well. Each of its steps takes two at least, and where the input has a byte there are two
--- steps; a malformed sequence takes three more, and a lost character that was logged one more.
+-- the fewest calls of codecs of a run that ended well: two for each step (one, or two if the input
+-- has a byte), three more for each malformed sequence, and one more for each lost character
 abbrev pub fewest_calls : (read bad lost : ℕ) → ℕ
 fewest_calls read bad lost = 3 * bad + lost + 2 * min 1 read + 2
 
+-- the most calls of codecs of a run that ended well, by how many bytes its input has
 abbrev pub most_calls : (read : ℕ) → ℕ
 most_calls read = 37 * read + 9

@@ -6,6 +6,7 @@ use Rattle.recode.specs.Fault.{of_log, of_other, of_reader, of_writer}
 use Rattle.recode.specs.declared.job.Fault.{Fault}
 use Rattle.recode.specs.declared.writers.Writers.{Writers}
 
+-- the bytes that the output's writer and the log have taken so far, as far as each tells it
 abbrev pub written_by : {W L : Type 0} → (W → Option (List ℕ)) → (L → Option (List ℕ)) → Writers W L → Written
 written_by contents logged writers = written_in contents logged writers.output.now writers.log.now
 

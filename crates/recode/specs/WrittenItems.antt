@@ -9,13 +9,14 @@ use Rattle.recode.specs.declared.job.Fault.TheVariants.{Read, Write, Log, TooLon
 use Rattle.recode.specs.declared.job.Policy.{Policy}
 use Rattle.recode.specs.declared.target.Counts.{Counts}
 
--- how many lines of each kind the items have
+-- how many of the items are lines of malformed sequences
 abbrev pub bad_lines : List Item → ℕ
 bad_lines [] = 0
 bad_lines (Byte b ∷ t) = bad_lines t
 bad_lines (MalformedAt offset size ∷ t) = 1 + bad_lines t
 bad_lines (LostAt index scalar ∷ t) = bad_lines t
 
+-- how many of the items are lines of lost characters
 abbrev pub lost_lines : List Item → ℕ
 lost_lines [] = 0
 lost_lines (Byte b ∷ t) = lost_lines t
@@ -69,7 +70,8 @@ pub record WritesPrefix (before after : Written) (p : Policy) (f : Fault) (to_wr
   pub wrote : Wrote before after taken
   pub left : IsLeft p f taken to_write
 
--- The same for every continuation of the bytes that were handed in, which is the empty one after the last.
+-- The writers took items, which are counted and stop nothing. Whatever bytes follow, none if the
+-- input ends, what was still to be written is these items, then what is still to be written now.
 pub record WritesItemsFor (before after : Written) (c c' : Counts) (p : Policy) (last : Bool) (to_write to_write' : List ℕ → List Item) : Type 0 where
   pub written_items : List Item
   pub wrote : Wrote before after (tagged written_items)
@@ -77,6 +79,8 @@ pub record WritesItemsFor (before after : Written) (c c' : Counts) (p : Policy) 
   pub spared : IsSpared p written_items
   pub equals : (r : List ℕ) → (last ≡ true → r ≡ []) → to_write r ≡ written_items ++ to_write' r
 
+-- The writers took bytes up to a fault. Whatever bytes follow, none if the input ends, they are a
+-- prefix of what was still to be written under the policy, and all of it if the policy stopped it.
 pub record WritesPrefixFor (before after : Written) (p : Policy) (f : Fault) (last : Bool) (to_write : List ℕ → List Item) : Type 0 where
   pub taken : List TaggedByte
   pub wrote : Wrote before after taken

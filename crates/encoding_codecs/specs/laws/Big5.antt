@@ -9,14 +9,16 @@ use Rattle.encoding_mem.specs.ReadBack.{ReadsBackExactly}
 use Rattle.encoding_tables.specs.Lookups.{AreEntries, value_of, first_pointer, last_pointer}
 use Rattle.encoding_tables.specs.LookupLaws.{IsPointer}
 use Rattle.encoding_tables.specs.laws.Pointers.{first_is_least, last_is_greatest}
-use Rattle.encoding_codecs.specs.TwoByte.{IsTwoByte, IsPairValue}
 use Rattle.encoding_codecs.specs.Pointers.{value_of_entry}
 use Rattle.encoding_codecs.specs.laws.Pointers.{is_value_of_entry, is_value_if, is_first_if, in_range, coding_by_pointer, IsPairOf, reads_by_pointer}
 use Rattle.encoding_mem.specs.Steps.{StepLaw, in_any_set}
+use Rattle.encoding_mem.specs.Stateless.{stateless}
 use Rattle.encoding_codecs.specs.laws.ExactReadBack.{ReadsEach, each_reads_back_exactly, reads_back_by_steps, each_by_step}
-use Rattle.encoding_codecs.specs.Big5.{big5_is_trail, big5_pointer, big5_value, big5_pair, big5_rule, first_piece_big5, pieces_big5, takes_last, big5_find, big5_trail, big5_bytes, big5_form, big5_coding}
+use Rattle.encoding_codecs.specs.Big5.{big5_is_trail, big5_pointer, big5_value, big5_pair, pieces_big5, takes_last, big5_find, big5_trail, big5_bytes, big5_form}
 use Rattle.encoding_codecs.specs.declared.lead_byte_rule.FirstByte.TheVariants.{Lead, Unused}
 use Rattle.encoding_codecs.specs.declared.two_byte.PairValue.TheVariants.{NoChar, OneChar, TwoChars}
+use Rattle.encoding_codecs.specs.TwoByteRule.{big5_rule, IsPairValue, IsTwoByte}
+use Rattle.encoding_codecs.specs.laws.FirstPieces.{first_piece_big5}
 
 -- ---- values
 
@@ -33,7 +35,7 @@ big5_is_two_byte flat scalars = record {
   pairs = λ a b. is_value_if (big5_is_trail b) (big5_value flat (big5_pointer a b)) NoChar (is_value flat scalars (big5_pointer a b)) tt;
 }
 
-pub big5_laws : (flat : List ℕ) → IsCoding 2 (big5_coding flat)
+pub big5_laws : (flat : List ℕ) → IsCoding 2 (stateless (big5_form flat))
 big5_laws flat = coding_by_pointer big5_bytes (big5_find flat) (λ p. omega arith)
 
 -- ---- reading back
@@ -101,11 +103,11 @@ reads_each flat scalars =
     reads_by_pointer (big5_rule flat) (big5_is_two_byte flat scalars) big5_bytes (big5_find flat)
     (λ c p high e. pair_of flat c p (found flat c p (takes_last c) e))
 
-pub big5_exact : (flat : List ℕ) → AreEntries flat → ReadsBackExactly (pieces_big5 flat) (big5_coding flat)
+pub big5_exact : (flat : List ℕ) → AreEntries flat → ReadsBackExactly (pieces_big5 flat) (stateless (big5_form flat))
 big5_exact flat scalars = each_reads_back_exactly (first_piece_big5 flat) (big5_form flat) (reads_each flat scalars)
 
-pub big5_steps : (flat : List ℕ) → AreEntries flat → StepLaw (big5_coding flat) (in_any_set (pieces_big5 flat))
+pub big5_steps : (flat : List ℕ) → AreEntries flat → StepLaw (stateless (big5_form flat)) (in_any_set (pieces_big5 flat))
 big5_steps flat scalars = reads_back_by_steps (first_piece_big5 flat) (big5_form flat) (reads_each flat scalars)
 
-pub big5_by_step : (flat : List ℕ) → AreEntries flat → ReadsByStep (big5_coding flat) (in_any_set (pieces_big5 flat))
+pub big5_by_step : (flat : List ℕ) → AreEntries flat → ReadsByStep (stateless (big5_form flat)) (in_any_set (pieces_big5 flat))
 big5_by_step flat scalars = each_by_step (first_piece_big5 flat) (big5_form flat) (reads_each flat scalars) tt

@@ -9,15 +9,17 @@ use Rattle.encoding_mem.specs.laws.Shows.{Shows, shows_cond, shows_cons}
 use Rattle.encoding_mem.specs.laws.Utf8.{cuts_cond, cuts_malformed}
 use Rattle.encoding_mem.specs.declared.form.Form.TheVariants.{Mapped}
 use Rattle.encoding_mem.specs.declared.first_piece.FirstPiece.{FirstPiece}
+use Rattle.encoding_mem.specs.Stateless.{stateless}
 use Rattle.encoding_tables.specs.Lookups.{AreEntries, first_pointer}
-use Rattle.encoding_codecs.specs.EucJp.{is_pointer_byte, euc_jp_pair_pointer, euc_jp_first, euc_pair, euc_jp_pair, after_8f, euc_jp_after, own_bytes, euc_jp_pair_bytes, euc_jp_char_bytes, euc_jp_form, euc_jp_coding}
+use Rattle.encoding_codecs.specs.EucJp.{is_pointer_byte, euc_jp_pair_pointer, euc_jp_first, euc_pair, euc_jp_pair, after_8f, euc_jp_after, own_bytes, euc_jp_pair_bytes, euc_jp_char_bytes, euc_jp_form}
 use Rattle.encoding_codecs.specs.laws.EucJpDecide.{decide_8f, decide_euc_jp}
 use Rattle.encoding_codecs.specs.JisForms.{folded, is_katakana, is_katakana_byte, katakana_of_byte}
 use Rattle.encoding_codecs.specs.laws.JisForms.{AreFew, few_or, few_map, few_if, few_one, few_two, few_none, two_byte_laws, katakana_is_char, first_if, pair_if}
 use Rattle.encoding_codecs.specs.laws.Pointers.{is_value_of_entry}
-use Rattle.encoding_codecs.specs.TwoByte.{IsFirstByte, IsPairValue, after_bytes, piece_of_trail}
+use Rattle.encoding_codecs.specs.TwoByte.{after_bytes, piece_of_trail}
 use Rattle.encoding_codecs.specs.laws.TwoByte.{IsLeadByteRule, some_after, shows_end, shows_trail, shows_after, cuts_trail, cuts_after, modest_trail, modest_after}
 use Rattle.encoding_codecs.specs.declared.two_byte.PairValue.TheVariants.{NoChar, OneChar}
+use Rattle.encoding_codecs.specs.TwoByteRule.{IsFirstByte, IsPairValue}
 
 -- a target of at most two bytes a character
 few_own : (c : ℕ) → AreFew (own_bytes c)
@@ -26,7 +28,7 @@ few_own c = few_if (nat_lt c 0x80) few_one (few_if (c == 0xA5) few_one (few_if (
 few_bytes : (jis0208 : List ℕ) (c : ℕ) → AreFew (euc_jp_char_bytes jis0208 c)
 few_bytes jis0208 c = few_or (own_bytes c) _ (few_own c) (few_map euc_jp_pair_bytes (first_pointer jis0208 (folded c) 0 8836) (λ p. lit≤ tt))
 
-pub euc_jp_laws : (jis0208 : List ℕ) → IsCoding 2 (euc_jp_coding jis0208)
+pub euc_jp_laws : (jis0208 : List ℕ) → IsCoding 2 (stateless (euc_jp_form jis0208))
 euc_jp_laws jis0208 = two_byte_laws (euc_jp_char_bytes jis0208) (few_bytes jis0208)
 
 -- ASCII gives itself

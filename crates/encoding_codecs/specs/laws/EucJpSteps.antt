@@ -5,20 +5,20 @@ use Rattle.std.specs.Option.{option_map, option_or}
 use Rattle.std.proofs.lemmas.Bool.{le-ltb, ltb-true, ltb-false}
 use Rattle.std.proofs.lemmas.Bool.Decides.{nat_tests}
 use Rattle.encoding_mem.specs.declared.reference.Reference.{Reference}
-use Rattle.encoding_mem.specs.Coding.{spelled}
+use Rattle.encoding_mem.specs.Coding.{spelled, form_of_bytes}
 use Rattle.encoding_mem.specs.Piece.{well_formed}
 use Rattle.encoding_mem.specs.Steps.{Returns, Strays, StepsReadBack}
 use Rattle.encoding_tables.specs.Lookups.{value_of, first_pointer}
-use Rattle.encoding_codecs.specs.EucJp.{is_pointer_byte, euc_jp_pair_pointer, euc_jp_first, euc_jp_pair, euc_jp_after, first_piece_euc_jp, euc_jp_pair_bytes, euc_jp_form}
+use Rattle.encoding_codecs.specs.EucJp.{is_pointer_byte, euc_jp_pair_pointer, euc_jp_first, euc_jp_pair, euc_jp_after, euc_jp_pair_bytes, euc_jp_form}
 use Rattle.encoding_codecs.specs.JisForms.{is_katakana_byte, katakana_of_byte, is_katakana, byte_of_katakana, folded}
 use Rattle.encoding_codecs.specs.laws.JisSteps.{choose, either_of_entry, either_of_none, pointer_before}
 use Rattle.encoding_codecs.specs.laws.Steps.{IsEither, one_either, by_piece, reference_strays}
 use Rattle.encoding_codecs.specs.TwoByte.{piece_of_first, piece_of_trail}
 use Rattle.encoding_codecs.specs.laws.TwoByte.{lead_ascii}
-use Rattle.encoding_codecs.specs.Pointers.{form_of_bytes}
 use Rattle.encoding_codecs.specs.declared.lead_byte_rule.FirstByte.TheVariants.{Lead}
 use Rattle.encoding_codecs.specs.declared.two_byte.PairValue.{PairValue}
 use Rattle.encoding_codecs.specs.declared.two_byte.PairValue.TheVariants.{NoChar, OneChar}
+use Rattle.encoding_codecs.specs.laws.FirstPieces.{first_piece_euc_jp}
 
 abbrev Steps : (jis0208 jis0212 : List ℕ) → ℕ → List ℕ → Type 0
 Steps jis0208 jis0212 c bytes = Returns (first_piece_euc_jp jis0208 jis0212) bytes c ⊎ Strays (first_piece_euc_jp jis0208 jis0212) bytes c

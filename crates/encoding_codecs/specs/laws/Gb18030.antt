@@ -4,7 +4,7 @@ use Rattle.std.specs.Prelude.{◌==◌, ◌||◌}
 use Rattle.std.specs.Int.{is_in_range}
 use Rattle.std.specs.Char.{IsScalar}
 use Rattle.std.proofs.lemmas.Bool.Decides.{nat_tests}
-use Rattle.encoding_mem.specs.Piece.{well_formed, malformed, Cuts}
+use Rattle.encoding_mem.specs.Piece.{well_formed, malformed, Cuts, piece_of_scalar}
 use Rattle.encoding_mem.specs.laws.Pieces.{CutsEach}
 use Rattle.encoding_mem.specs.laws.Shows.{Shows, shows_cond, shows_cons, shows_const}
 use Rattle.encoding_mem.specs.laws.Utf8.{cuts_cond, cuts_malformed, cuts_one}
@@ -13,15 +13,17 @@ use Rattle.encoding_mem.specs.declared.first_piece.FirstPiece.TheVariants.{Malfo
 use Rattle.encoding_tables.specs.Lookups.{AreEntries, value_of}
 use Rattle.encoding_tables.specs.Ranges.{range_value, HaveScalars}
 use Rattle.encoding_mem.specs.DecoderRule.{IsModest}
-use Rattle.encoding_codecs.specs.TwoByte.{IsFirstByte, IsPairValue, piece_of_trail}
+use Rattle.encoding_codecs.specs.TwoByte.{piece_of_trail}
 use Rattle.encoding_codecs.specs.laws.TwoByteDecide.{decide_trail}
 use Rattle.encoding_codecs.specs.Pointers.{value_of_entry}
 use Rattle.encoding_codecs.specs.laws.Pointers.{is_first_if, is_value_if, is_value_of_entry}
 use Rattle.encoding_codecs.specs.laws.TwoByte.{IsLeadByteRule, shows_end, shows_trail, cuts_trail, cuts_rule, modest_cond, modest_cut, modest_trail}
 use Rattle.encoding_codecs.specs.declared.lead_byte_rule.FirstByte.TheVariants.{Alone, Lead, Unused}
 use Rattle.encoding_codecs.specs.declared.two_byte.PairValue.TheVariants.{NoChar}
-use Rattle.encoding_codecs.specs.Gb18030.{gb18030_first, gb18030_pair, pair_pointer, four_pointer, piece_of_four, gb18030_after_three, gb18030_after_two, gb18030_after_lead, first_piece_gb18030}
+use Rattle.encoding_codecs.specs.Gb18030.{gb18030_first, gb18030_pair, pair_pointer, four_pointer, gb18030_after_three, gb18030_after_two, gb18030_after_lead}
 use Rattle.encoding_codecs.specs.laws.Gb18030Decide.{decide_four, gb18030_decide_three, gb18030_decide_two, gb18030_decide_lead}
+use Rattle.encoding_codecs.specs.TwoByteRule.{IsFirstByte, IsPairValue}
+use Rattle.encoding_codecs.specs.laws.FirstPieces.{first_piece_gb18030}
 
 -- tables whose values are scalars
 pub record AreGbTables (flat : List ℕ) (rows : List (ℕ × ℕ)) : Type 0 where
@@ -45,7 +47,7 @@ gb18030_pairs flat entries a b =
 
 -- ---- each first piece is some of the bytes
 
-cuts_four : (o : Option ℕ) (k : ℕ) → 4 ≤ k → ((c : ℕ) → o ≡ Some c → IsScalar c) → Cuts (piece_of_four o) k
+cuts_four : (o : Option ℕ) (k : ℕ) → 4 ≤ k → ((c : ℕ) → o ≡ Some c → IsScalar c) → Cuts (piece_of_scalar 4 o) k
 cuts_four None k fits is = cuts_malformed 4 k (omega arith) fits
 cuts_four (Some c) k fits is = cuts_one 4 c k (omega arith) fits (is c refl)
 
@@ -53,7 +55,7 @@ cuts_three : (rows : List (ℕ × ℕ)) → HaveScalars rows → (a b c : ℕ) (
 cuts_three rows values a b c [] k fits = cuts_malformed 3 k (omega arith) (omega (arith, fits))
 cuts_three rows values a b c (d ∷ x) k fits =
     let p : ℕ = four_pointer a b c d in
-    cuts_cond (is_in_range 0x30 0x39 d) (piece_of_four (range_value rows p)) (malformed 1) k
+    cuts_cond (is_in_range 0x30 0x39 d) (piece_of_scalar 4 (range_value rows p)) (malformed 1) k
     (λ _. cuts_four (range_value rows p) k (omega (arith, fits)) (values p)) (λ _. cuts_malformed 1 k (omega arith) (omega (arith, fits)))
 
 cuts_two : (rows : List (ℕ × ℕ)) → HaveScalars rows → (a b : ℕ) (x : List ℕ) (k : ℕ) → 2 + length x ≤ k → Cuts (gb18030_after_two rows a b x) k
@@ -70,7 +72,7 @@ cuts_lead flat rows tables a (b ∷ x) =
 
 -- ---- what is shown of the first piece
 
-shows_four : (o : Option ℕ) (x : List ℕ) (last : Bool) → Shows (λ _. piece_of_four o) 4 x last (decide_four o)
+shows_four : (o : Option ℕ) (x : List ℕ) (last : Bool) → Shows (λ _. piece_of_scalar 4 o) 4 x last (decide_four o)
 shows_four None x last = (shows_const (malformed 4) 4 x last (omega arith) (omega arith), omega arith)
 shows_four (Some c) x last = shows_const (well_formed 4 (c ∷ [])) 4 x last (omega arith) (omega arith)
 
@@ -79,7 +81,7 @@ shows_three : (rows : List (ℕ × ℕ)) → HaveScalars rows → (a b c : ℕ) 
 shows_three rows values a b c [] last =
     shows_end (gb18030_after_three rows a b c) 3 last (0 ∷ []) (omega arith) (omega arith) refl (omega arith, tt) (omega arith) (λ e. omega (arith, e)) (λ x. (cuts_three rows values a b c x (3 + length x) (omega arith)).piece.some)
 shows_three rows values a b c (d ∷ x) last = shows_cons (gb18030_after_three rows a b c) 3 d x last _
-    (shows_cond (is_in_range 0x30 0x39 d) (λ _. piece_of_four (range_value rows (four_pointer a b c d))) (λ _. malformed 1) 4 x last _ _
+    (shows_cond (is_in_range 0x30 0x39 d) (λ _. piece_of_scalar 4 (range_value rows (four_pointer a b c d))) (λ _. malformed 1) 4 x last _ _
     (shows_four (range_value rows (four_pointer a b c d)) x last) (shows_const (malformed 1) 4 x last (omega arith) (omega arith), omega arith))
 
 shows_two : (rows : List (ℕ × ℕ)) → HaveScalars rows → (a b : ℕ) (x : List ℕ) (last : Bool) → Shows (gb18030_after_two rows a b) 2 x last (gb18030_decide_two rows a b x last)

@@ -2,16 +2,16 @@
 use Rattle.std.proofs.Common.{◌≡◌, refl, ℕ, ◌<◌, ◌≤◌, Bool, true, false, cond, nat_lt, List, [], ◌∷◌, length, arith, Option, None, Some}
 use Rattle.std.specs.Prelude.{◌==◌, ◌&&◌, not, IfSome}
 use Rattle.std.specs.Option.{option_map, option_or}
-use Rattle.encoding_mem.specs.Coding.{IsCoding, FitsNeed}
+use Rattle.encoding_mem.specs.Coding.{IsCoding, FitsNeed, form_of_bytes}
 use Rattle.encoding_mem.specs.declared.form.Form.TheVariants.{Mapped}
 use Rattle.encoding_mem.specs.laws.Stateless.{stateless_laws, short_one, short_none}
 use Rattle.encoding_mem.specs.EncodedLength.{IsRoomFor}
 use Rattle.encoding_mem.specs.laws.EncodedLength.{two_byte_room, four_byte_room}
+use Rattle.encoding_mem.specs.Stateless.{stateless}
 use Rattle.std.proofs.lemmas.Bool.{lt-ltb}
 use Rattle.encoding_tables.specs.Lookups.{first_pointer}
 use Rattle.encoding_tables.specs.Ranges.{range_pointer}
-use Rattle.encoding_codecs.specs.Gb18030Coding.{fixed_pair, two_of, gb18030_pair_bytes, four_bytes, index_bytes, range_bytes, gb18030_bytes, gb18030_form, gb18030_coding, gb18030_need, gb18030_encoded_length}
-use Rattle.encoding_codecs.specs.Pointers.{form_of_bytes}
+use Rattle.encoding_codecs.specs.Gb18030Coding.{fixed_pair, two_of, gb18030_pair_bytes, four_bytes, index_bytes, range_bytes, gb18030_bytes, gb18030_form, gb18030_need, gb18030_encoded_length}
 
 -- at most n bytes, where there are any
 abbrev AreFew : ℕ → Option (List ℕ) → Type 0
@@ -59,7 +59,7 @@ four_at_most : (extended : Bool) → gb18030_need extended ≤ 4
 four_at_most true = omega arith
 four_at_most false = omega arith
 
-pub gb18030_laws : (flat : List ℕ) (rows : List (ℕ × ℕ)) (extended : Bool) → IsCoding (gb18030_need extended) (gb18030_coding flat rows extended)
+pub gb18030_laws : (flat : List ℕ) (rows : List (ℕ × ℕ)) (extended : Bool) → IsCoding (gb18030_need extended) (stateless (gb18030_form flat rows extended))
 gb18030_laws flat rows extended = stateless_laws (gb18030_need extended) (gb18030_form flat rows extended) (four_at_most extended)
     (λ c. short_form (gb18030_need extended) c (gb18030_bytes flat rows extended c) (few_bytes flat rows extended c))
 
@@ -70,6 +70,6 @@ gb18030_ascii flat rows extended c low = rw (lt-ltb c 0x80 low) refl
 one_byte : (flat : List ℕ) (rows : List (ℕ × ℕ)) (extended : Bool) (c : ℕ) → c < 0x80 → FitsNeed 1 (gb18030_form flat rows extended c)
 one_byte flat rows extended c low = rw (lt-ltb c 0x80 low) short_one
 
-pub gb18030_fits : (flat : List ℕ) (rows : List (ℕ × ℕ)) (extended : Bool) → IsRoomFor (gb18030_coding flat rows extended) (gb18030_encoded_length extended)
+pub gb18030_fits : (flat : List ℕ) (rows : List (ℕ × ℕ)) (extended : Bool) → IsRoomFor (stateless (gb18030_form flat rows extended)) (gb18030_encoded_length extended)
 gb18030_fits flat rows true = four_byte_room (gb18030_form flat rows true) (gb18030_laws flat rows true).short (one_byte flat rows true)
 gb18030_fits flat rows false = two_byte_room (gb18030_form flat rows false) (gb18030_laws flat rows false).short (one_byte flat rows false)

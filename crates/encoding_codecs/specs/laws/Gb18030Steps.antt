@@ -7,8 +7,8 @@ use Rattle.std.specs.Option.{option_map, option_or}
 use Rattle.std.proofs.lemmas.Bool.{cases_lt, lt-ltb, le-ltb, leb-true, and_parts}
 use Rattle.std.proofs.lemmas.Bool.Decides.{nat_tests}
 use Rattle.encoding_mem.specs.declared.reference.Reference.{Reference}
-use Rattle.encoding_mem.specs.Coding.{spelled}
-use Rattle.encoding_mem.specs.Piece.{well_formed, malformed}
+use Rattle.encoding_mem.specs.Coding.{spelled, form_of_bytes}
+use Rattle.encoding_mem.specs.Piece.{well_formed, malformed, piece_of_scalar}
 use Rattle.encoding_mem.specs.Steps.{Returns, Strays, StepsReadBack}
 use Rattle.encoding_tables.specs.Lookups.{value_of, first_pointer}
 use Rattle.encoding_tables.specs.LookupLaws.{IsPointer}
@@ -18,11 +18,12 @@ use Rattle.encoding_tables.specs.Ranges.{range_value, range_pointer}
 use Rattle.encoding_tables.specs.laws.Ranges.{range_pointer-before}
 use Rattle.encoding_codecs.specs.TwoByte.{piece_of_trail}
 use Rattle.encoding_codecs.specs.laws.TwoByte.{lead_ascii}
-use Rattle.encoding_codecs.specs.Pointers.{value_of_entry, form_of_bytes}
+use Rattle.encoding_codecs.specs.Pointers.{value_of_entry}
 use Rattle.encoding_codecs.specs.declared.two_byte.PairValue.TheVariants.{NoChar}
-use Rattle.encoding_codecs.specs.Gb18030.{gb18030_first, gb18030_pair, pair_pointer, four_pointer, piece_of_four, gb18030_after_two, gb18030_after_lead, first_piece_gb18030}
+use Rattle.encoding_codecs.specs.Gb18030.{gb18030_first, gb18030_pair, pair_pointer, four_pointer, gb18030_after_two, gb18030_after_lead}
 use Rattle.encoding_codecs.specs.Gb18030Coding.{fixed_rows, fixed_pair, two_of, gb18030_trail, gb18030_pair_bytes, four_bytes, index_bytes, range_bytes, gb18030_form}
 use Rattle.encoding_codecs.specs.laws.Steps.{IsEither, malformed_either, one_either, either_if, by_piece, reference_strays}
+use Rattle.encoding_codecs.specs.laws.FirstPieces.{first_piece_gb18030}
 
 -- ---- the first piece of a lead and what follows it
 
@@ -50,7 +51,7 @@ trail_either c b true (Some d) = one_either 2 c d
 trail_either c b true None = either_if 2 c (nat_lt b 0x80) (malformed 1) (malformed 2) (malformed_either 2 1 c (omega arith)) (malformed_either 2 2 c (omega arith))
 trail_either c b false o = either_if 2 c (nat_lt b 0x80) (malformed 1) (malformed 2) (malformed_either 2 1 c (omega arith)) (malformed_either 2 2 c (omega arith))
 
-four_either : (c : ℕ) (o : Option ℕ) → IsEither 4 c (piece_of_four o)
+four_either : (c : ℕ) (o : Option ℕ) → IsEither 4 c (piece_of_scalar 4 o)
 four_either c None = malformed_either 4 4 c (omega arith)
 four_either c (Some d) = one_either 4 c d
 
@@ -67,7 +68,7 @@ pair_steps flat rows c a b from to trail =
 four_steps : (flat : List ℕ) (rows : List (ℕ × ℕ)) (s a b c d : ℕ) → 0x81 ≤ a → a ≤ 0xFE → 0x30 ≤ b → b ≤ 0x39 → 0x81 ≤ c → c ≤ 0xFE → 0x30 ≤ d → d ≤ 0x39
     → Steps flat rows s (a ∷ b ∷ c ∷ d ∷ [])
 four_steps flat rows s a b c d from_a to_a from_b to_b from_c to_c from_d to_d =
-    by_piece (first_piece_gb18030 flat rows) (a ∷ b ∷ c ∷ d ∷ []) s (piece_of_four (range_value rows (four_pointer a b c d)))
+    by_piece (first_piece_gb18030 flat rows) (a ∷ b ∷ c ∷ d ∷ []) s (piece_of_scalar 4 (range_value rows (four_pointer a b c d)))
     (λ y. lead_first_piece flat rows a (b ∷ c ∷ d ∷ y) from_a to_a ∙ rw (in_range 0x30 0x39 b from_b to_b, in_range 0x81 0xFE c from_c to_c, in_range 0x30 0x39 d from_d to_d) refl)
     (four_either s (range_value rows (four_pointer a b c d)))
 

@@ -10,8 +10,9 @@ use Rattle.encoding_tables.specs.laws.Ranges.{have_scalars}
 use Rattle.encoding_tables.specs.Ranges.{HaveScalars}
 use Rattle.encoding_tables.specs.laws.SingleByteTables.{entries_scalars}
 use Rattle.encoding_tables.specs.declared.index_kind.IndexKind.TheVariants.{Gb18030}
-use Rattle.encoding_codecs.specs.Gb18030.{first_piece_gb18030, pieces_gb18030}
+use Rattle.encoding_codecs.specs.Gb18030.{pieces_gb18030}
 use Rattle.encoding_codecs.specs.laws.Gb18030.{AreGbTables, cuts_gb18030}
+use Rattle.encoding_codecs.specs.laws.FirstPieces.{first_piece_gb18030}
 
 -- What is there was accepted, and what is not there has no rows.
 scalars_of : (o : Option (List (ℕ × ℕ))) → IfSome o (λ rows. bad_row rows ≡ None) → HaveScalars (unwrap_or o [])

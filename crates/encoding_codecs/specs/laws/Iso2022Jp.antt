@@ -7,13 +7,13 @@ use Rattle.std.specs.Option.{unwrap_or}
 use Rattle.std.proofs.lemmas.Bool.{cases_eq, eq-eqb, ne_eqb}
 use Rattle.std.proofs.lemmas.Bool.Decides.{nat_tests}
 use Rattle.std.proofs.lemmas.Str.{len_utf8_bounds}
-use Rattle.encoding_mem.specs.Piece.{Piece, well_formed, malformed, piece_len, sizes, ArePieces, Cuts}
+use Rattle.encoding_mem.specs.Piece.{Piece, well_formed, malformed, piece_len, sizes, ArePieces, Cuts, piece_of_scalar}
 use Rattle.encoding_mem.specs.Pieces.{pieces_in, pieces_by}
 use Rattle.encoding_mem.specs.laws.Pieces.{AllCut, CutsEach, pieces_in-nil, pieces_in-cons, pieces_in-whole, pieces_in-are_pieces, pieces_by-nil, pieces_by-cons}
 use Rattle.encoding_mem.specs.laws.Utf8.{cuts_malformed, cuts_one, range_from}
 use Rattle.encoding_mem.specs.Writing.{len_utf16}
 use Rattle.encoding_tables.specs.Lookups.{AreEntries, value_of}
-use Rattle.encoding_codecs.specs.Iso2022Jp.{escape_of, escape_at, ascii_piece, roman_piece, katakana_piece, jis_pair_pointer, piece_of_entry, pair_piece, prefix_text, join, parts, escape_piece, pieces_of_part, pieces_of_parts, pieces_in_mode}
+use Rattle.encoding_codecs.specs.Iso2022Jp.{escape_of, escape_at, ascii_piece, roman_piece, katakana_piece, jis_pair_pointer, pair_piece, prefix_text, join, parts, escape_piece, pieces_of_part, pieces_of_parts, pieces_in_mode}
 use Rattle.encoding_codecs.specs.laws.Iso2022JpDecide.{escape_first_piece, jis_pair_first_piece, char_first_piece, first_piece_iso_2022_jp, mode_after}
 use Rattle.encoding_codecs.specs.declared.iso_2022_jp_decoder.Mode.{Mode}
 use Rattle.encoding_codecs.specs.declared.iso_2022_jp_decoder.Mode.TheVariants.{Ascii, Roman, Katakana, Jis}
@@ -55,7 +55,7 @@ small_katakana b k fits = small_if (is_in_range 0x21 0x5F b) (well_formed 1 ((0x
     (λ t. let r = range_from 0x21 0x5F b t in small_high (0xFF61 + (b - 0x21)) k fits (omega arith) (omega (arith, r.1)))
     (λ t. small_malformed 1 k (lit< tt) fits (lit≤ tt))
 
-small_entry : (o : Option ℕ) (k : ℕ) → 2 ≤ k → IfSome o IsScalar → IsSmall (piece_of_entry o) k
+small_entry : (o : Option ℕ) (k : ℕ) → 2 ≤ k → IfSome o IsScalar → IsSmall (piece_of_scalar 2 o) k
 small_entry None k fits scalar = small_malformed 2 k (lit< tt) fits (lit≤ tt)
 small_entry (Some c) k fits scalar = (lit< tt, fits, scalar, omega (arith, (len_utf8_bounds c).1), grind (arith, nat_tests))
 
@@ -66,7 +66,7 @@ scalar_of_value flat scalars p = elim (cases_eq (slice_index flat p) 0) [
 ]
 
 small_second : (jis0208 : List ℕ) → AreEntries jis0208 → (b c : ℕ) (x : List ℕ) → IsSmall (pair_piece jis0208 b (c ∷ x)) (2 + length x)
-small_second jis0208 scalars b c x = small_if (is_in_range 0x21 0x7E c) (piece_of_entry (value_of jis0208 (jis_pair_pointer b c))) (malformed 2) _
+small_second jis0208 scalars b c x = small_if (is_in_range 0x21 0x7E c) (piece_of_scalar 2 (value_of jis0208 (jis_pair_pointer b c))) (malformed 2) _
     (λ t. small_entry (value_of jis0208 (jis_pair_pointer b c)) _ (omega arith) (scalar_of_value jis0208 scalars (jis_pair_pointer b c)))
     (λ t. small_malformed 2 _ (lit< tt) (omega arith) (lit≤ tt))
 
@@ -258,7 +258,7 @@ size_roman b = size_either (b == 0x5C) (well_formed 1 (0xA5 ∷ [])) _ refl (siz
 size_katakana : (b : ℕ) → piece_len (katakana_piece b) ≡ 1
 size_katakana b = size_either (is_in_range 0x21 0x5F b) (well_formed 1 ((0xFF61 + (b - 0x21)) ∷ [])) (malformed 1) refl refl
 
-size_pair : (t : Bool) (o : Option ℕ) → piece_len (cond t (piece_of_entry o) (malformed 2)) ≡ 2
+size_pair : (t : Bool) (o : Option ℕ) → piece_len (cond t (piece_of_scalar 2 o) (malformed 2)) ≡ 2
 size_pair true None = refl
 size_pair true (Some c) = refl
 size_pair false o = refl

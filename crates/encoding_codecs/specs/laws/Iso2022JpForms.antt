@@ -9,7 +9,8 @@ use Rattle.encoding_mem.specs.laws.EncodedLength.{cost_some, two_bytes}
 use Rattle.encoding_mem.specs.laws.Stateless.{short_if, short_one, short_none}
 use Rattle.encoding_mem.specs.declared.form.EscapeState.{EscapeState}
 use Rattle.encoding_mem.specs.declared.form.EscapeState.TheVariants.{Ascii, Roman, Jis}
-use Rattle.encoding_codecs.specs.Iso2022JpForms.{pointer_of_char, jis_form_of_pointer, iso_2022_jp_form, is_set, Sets, only, ascii_or_roman, set_after, sets_of_pointer, iso_2022_jp_sets, iso_2022_jp_escape_to, iso_2022_jp_escape, iso_2022_jp_coding}
+use Rattle.encoding_codecs.specs.Iso2022JpForms.{pointer_of_char, iso_2022_jp_form, is_set, Sets, only, ascii_or_roman, set_after, sets_of_pointer, iso_2022_jp_sets, iso_2022_jp_escape_to, iso_2022_jp_escape, iso_2022_jp_coding, iso_2022_jp_pair_bytes}
+use Rattle.encoding_codecs.specs.laws.Pointers.{form_of_pointer}
 
 -- where a character has one set, that one is taken
 pub set_after-only : (q s : EscapeState) → set_after (only q) s ≡ q
@@ -60,7 +61,7 @@ short_unless : (t : Bool) (x : List ℕ) → length x ≤ 3 → length (cond t [
 short_unless true x h = lit≤ tt
 short_unless false x h = h
 
-short_pair : (c : ℕ) (o : Option ℕ) → FitsNeed 3 (jis_form_of_pointer c o)
+short_pair : (c : ℕ) (o : Option ℕ) → FitsNeed 3 (form_of_pointer iso_2022_jp_pair_bytes c o)
 short_pair c None = short_none
 short_pair c (Some p) = record { short = omega arith }
 
@@ -77,7 +78,7 @@ iso_2022_jp_laws jis0208 katakana = record {
 }
 
 -- A character has two bytes at most, and one in ASCII, so this room is enough.
-pair_of_two : (c : ℕ) (o : Option ℕ) → FitsNeed 2 (jis_form_of_pointer c o)
+pair_of_two : (c : ℕ) (o : Option ℕ) → FitsNeed 2 (form_of_pointer iso_2022_jp_pair_bytes c o)
 pair_of_two c None = short_none
 pair_of_two c (Some p) = record { short = omega arith }
 

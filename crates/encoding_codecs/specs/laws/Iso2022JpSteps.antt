@@ -4,6 +4,7 @@ use Rattle.std.specs.Prelude.{◌||◌}
 use Rattle.std.specs.Int.{is_in_range}
 use Rattle.std.proofs.lemmas.Bool.{cases_lt, cases_eq, cases_Bool, lt-ltb, le-ltb, le-leb, ne_eqb, eqb-false, or_parts, and_from}
 use Rattle.std.proofs.lemmas.Bool.Decides.{nat_tests}
+use Rattle.std.specs.Option.{option_and_then}
 use Rattle.encoding_mem.specs.laws.Steps.{reference_behind}
 use Rattle.encoding_mem.specs.declared.reference.Reference.{Reference}
 use Rattle.encoding_mem.specs.Agreement.{ReadsByStep}
@@ -22,11 +23,12 @@ use Rattle.encoding_tables.specs.Lookups.{AreEntries, value_of, first_pointer}
 use Rattle.encoding_tables.specs.laws.Pointers.{first_is_least}
 use Rattle.encoding_codecs.specs.Iso2022Jp.{ascii_mode, roman_mode, jis_mode, ascii_piece, pieces_in_mode, jis_pair_pointer}
 use Rattle.encoding_codecs.specs.laws.Iso2022JpDecide.{first_piece_iso_2022_jp, char_first_piece, mode_after}
-use Rattle.encoding_codecs.specs.Iso2022JpForms.{looked_up, pointer_of, pointer_of_char, jis_form_of_pointer, ascii_form, iso_2022_jp_form, is_set, only, ascii_or_roman, set_after, sets_of_pointer, iso_2022_jp_sets, iso_2022_jp_escape_to, iso_2022_jp_escape, iso_2022_jp_coding}
+use Rattle.encoding_codecs.specs.Iso2022JpForms.{looked_up, pointer_of_char, ascii_form, iso_2022_jp_form, is_set, only, ascii_or_roman, set_after, sets_of_pointer, iso_2022_jp_sets, iso_2022_jp_escape_to, iso_2022_jp_escape, iso_2022_jp_coding, iso_2022_jp_pair_bytes}
 use Rattle.encoding_codecs.specs.laws.Iso2022JpForms.{set_after-only}
 use Rattle.encoding_codecs.specs.laws.Iso2022Jp.{cuts_iso_2022_jp, agrees, no_escape_at, iso_2022_jp_ends}
 use Rattle.encoding_codecs.specs.Iso2022JpSets.{mode_of, pieces_from_set}
 use Rattle.encoding_codecs.specs.declared.iso_2022_jp_decoder.Mode.{Mode}
+use Rattle.encoding_codecs.specs.laws.Pointers.{form_of_pointer}
 
 -- ---- pieces at the start
 
@@ -244,11 +246,11 @@ gives_pair jis0208 scalars d p c e =
     gives_piece jis0208 Jis (0x21 + p / 94) ((0x21 + p % 94) ∷ []) d c (λ k. absurd (omega (arith, k))) (λ r. pair jis0208 scalars (p / 94) (p % 94) d r high low entry)
 
 gives_pointer : (ref : Reference) (jis0208 : List ℕ) → AreEntries jis0208 → (o : Option ℕ) (s : EscapeState) (c : ℕ) → 0x80 ≤ c
-    → Gives jis0208 (set_after (sets_of_pointer (pointer_of jis0208 o)) s) (spelled ref (jis_form_of_pointer c (pointer_of jis0208 o))) c
+    → Gives jis0208 (set_after (sets_of_pointer (option_and_then (λ d. first_pointer jis0208 d 0 8836) o)) s) (spelled ref (form_of_pointer iso_2022_jp_pair_bytes c (option_and_then (λ d. first_pointer jis0208 d 0 8836) o))) c
 gives_pointer ref jis0208 scalars None s c high = gives_reference ref jis0208 scalars (set_after ascii_or_roman s) c c (one_byte s) (λ e. absurd (omega (arith, e, high)))
 gives_pointer ref jis0208 scalars (Some d) s c high = by (first_pointer jis0208 d 0 8836) refl
   where
-    by : (p : Option ℕ) → first_pointer jis0208 d 0 8836 ≡ p → Gives jis0208 (set_after (sets_of_pointer (first_pointer jis0208 d 0 8836)) s) (spelled ref (jis_form_of_pointer c (first_pointer jis0208 d 0 8836))) c
+    by : (p : Option ℕ) → first_pointer jis0208 d 0 8836 ≡ p → Gives jis0208 (set_after (sets_of_pointer (first_pointer jis0208 d 0 8836)) s) (spelled ref (form_of_pointer iso_2022_jp_pair_bytes c (first_pointer jis0208 d 0 8836))) c
     by None e = rw e (gives_reference ref jis0208 scalars (set_after ascii_or_roman s) c c (one_byte s) (λ k. absurd (omega (arith, k, high))))
     by (Some p) e = rw (e, set_after-only Jis s) (gives_pair jis0208 scalars d p c e)
 
@@ -279,7 +281,7 @@ ascii_step ref jis0208 scalars s c low = elim (cases_Bool (c == 0x0E || c == 0x0
 
 high_step : (ref : Reference) (jis0208 katakana : List ℕ) → AreEntries jis0208 → (s : EscapeState) (c : ℕ) → 0x80 ≤ c
     → Gives jis0208 (set_after (cond (c == 0xA5 || c == 0x203E) (only Roman) (sets_of_pointer (pointer_of_char jis0208 katakana c))) s)
-    (spelled ref (cond (c == 0xA5) (Mapped (0x5C ∷ [])) (cond (c == 0x203E) (Mapped (0x7E ∷ [])) (jis_form_of_pointer c (pointer_of_char jis0208 katakana c))))) c
+    (spelled ref (cond (c == 0xA5) (Mapped (0x5C ∷ [])) (cond (c == 0x203E) (Mapped (0x7E ∷ [])) (form_of_pointer iso_2022_jp_pair_bytes c (pointer_of_char jis0208 katakana c))))) c
 high_step ref jis0208 katakana scalars s c high = elim (cases_eq c 0xA5) [
   | inl yen ↦ rw (yen, set_after-only Roman s) (gives_piece jis0208 Roman 0x5C [] 0xA5 0xA5 (λ e. absurd (omega (arith, e))) (λ r. byte jis0208 scalars roman_mode 0x5C 0xA5 r (λ e. absurd (omega (arith, e))) refl))
   | inr free ↦ elim (cases_eq c 0x203E) [
@@ -301,7 +303,7 @@ iso_2022_jp_steps jis0208 katakana scalars ref s c is =
 -- ---- a character without bytes
 
 -- it is referred to in a set of one byte a character
-lost_in_one_byte : (low single yen line : Bool) (f : Form) (o : Option ℕ) (c : ℕ) (s : EscapeState) → ¬ (IsMapped (cond low f (cond yen (Mapped (0x5C ∷ [])) (cond line (Mapped (0x7E ∷ [])) (jis_form_of_pointer c o)))))
+lost_in_one_byte : (low single yen line : Bool) (f : Form) (o : Option ℕ) (c : ℕ) (s : EscapeState) → ¬ (IsMapped (cond low f (cond yen (Mapped (0x5C ∷ [])) (cond line (Mapped (0x7E ∷ [])) (form_of_pointer iso_2022_jp_pair_bytes c o)))))
     → IsOneByte (set_after (cond low (cond single (only Ascii) ascii_or_roman) (cond (yen || line) (only Roman) (sets_of_pointer o))) s)
 lost_in_one_byte true true yen line f o c s lost = subst IsOneByte (sym (set_after-only Ascii s)) tt
 lost_in_one_byte true false yen line f o c s lost = one_byte s

@@ -3,15 +3,14 @@ use Rattle.std.proofs.Common.{◌≡◌, ℕ, ◌≤◌, ◌<◌, Bool, true, fa
 use Rattle.std.specs.Prelude.{IfSome}
 use Rattle.std.specs.Char.{IsScalar}
 use Rattle.std.specs.Option.{option_map, option_or}
-use Rattle.encoding_mem.specs.Coding.{IsCoding, FitsNeed}
+use Rattle.encoding_mem.specs.Coding.{IsCoding, FitsNeed, form_of_bytes}
 use Rattle.encoding_mem.specs.laws.Stateless.{stateless_laws, short_none}
 use Rattle.encoding_mem.specs.Stateless.{stateless}
 use Rattle.encoding_mem.specs.laws.Utf8.{scalar_from, range_from}
 use Rattle.encoding_codecs.specs.JisForms.{is_katakana_byte, katakana_of_byte}
-use Rattle.encoding_codecs.specs.TwoByte.{IsFirstByte, IsPairValue}
-use Rattle.encoding_codecs.specs.Pointers.{form_of_bytes}
 use Rattle.encoding_codecs.specs.declared.lead_byte_rule.FirstByte.{FirstByte}
 use Rattle.encoding_codecs.specs.declared.two_byte.PairValue.{PairValue}
+use Rattle.encoding_codecs.specs.TwoByteRule.{IsFirstByte, IsPairValue}
 
 -- two bytes at most, where there are some
 pub record AreFew (o : Option (List ℕ)) : Type 0 where

@@ -7,19 +7,20 @@ use Rattle.std.proofs.lemmas.Bool.{lt-ltb}
 use Rattle.encoding_mem.specs.Coding.{IsCoding}
 use Rattle.encoding_mem.specs.laws.Utf8.{scalar_from, range_from}
 use Rattle.encoding_mem.specs.declared.form.Form.TheVariants.{Mapped}
+use Rattle.encoding_mem.specs.Stateless.{stateless}
 use Rattle.encoding_tables.specs.Lookups.{AreEntries}
 use Rattle.encoding_codecs.specs.JisForms.{folded, is_katakana_byte}
 use Rattle.encoding_codecs.specs.laws.JisForms.{AreFew, few_or, few_map, two_byte_laws, katakana_is_char, first_if, pair_if}
 use Rattle.encoding_codecs.specs.laws.Pointers.{is_value_of_entry}
-use Rattle.encoding_codecs.specs.ShiftJis.{is_shift_jis_lead, is_trail, shift_jis_first, shift_jis_pair_pointer, value_of_pointer, shift_jis_rule, shift_jis_single_byte, shift_jis_pointer, shift_jis_pair_bytes, shift_jis_char_bytes, shift_jis_form, shift_jis_coding}
-use Rattle.encoding_codecs.specs.TwoByte.{IsTwoByte, IsFirstByte, IsPairValue}
+use Rattle.encoding_codecs.specs.ShiftJis.{is_shift_jis_lead, is_trail, shift_jis_first, shift_jis_pair_pointer, value_of_pointer, shift_jis_single_byte, shift_jis_pointer, shift_jis_pair_bytes, shift_jis_char_bytes, shift_jis_form}
 use Rattle.encoding_codecs.specs.declared.two_byte.PairValue.TheVariants.{NoChar}
+use Rattle.encoding_codecs.specs.TwoByteRule.{IsFirstByte, IsPairValue, IsTwoByte, shift_jis_rule}
 
 -- a target of at most two bytes a character
 few_bytes : (jis0208 : List ℕ) (c : ℕ) → AreFew (shift_jis_char_bytes jis0208 c)
 few_bytes jis0208 c = few_or _ _ (few_map (λ b. b ∷ []) (shift_jis_single_byte c) (λ p. lit≤ tt)) (few_map shift_jis_pair_bytes (shift_jis_pointer jis0208 (folded c)) (λ p. lit≤ tt))
 
-pub shift_jis_laws : (jis0208 : List ℕ) → IsCoding 2 (shift_jis_coding jis0208)
+pub shift_jis_laws : (jis0208 : List ℕ) → IsCoding 2 (stateless (shift_jis_form jis0208))
 shift_jis_laws jis0208 = two_byte_laws (shift_jis_char_bytes jis0208) (few_bytes jis0208)
 
 -- what its bytes give are scalars

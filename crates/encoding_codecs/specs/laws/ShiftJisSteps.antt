@@ -6,7 +6,7 @@ use Rattle.std.specs.Option.{option_map, option_or}
 use Rattle.std.proofs.lemmas.Bool.{cases_lt, lt-ltb, le-ltb, ltb-true, ltb-false}
 use Rattle.std.proofs.lemmas.Bool.Decides.{nat_tests}
 use Rattle.encoding_mem.specs.declared.reference.Reference.{Reference}
-use Rattle.encoding_mem.specs.Coding.{spelled}
+use Rattle.encoding_mem.specs.Coding.{spelled, form_of_bytes}
 use Rattle.encoding_mem.specs.Piece.{well_formed}
 use Rattle.encoding_mem.specs.laws.Utf8.{range_from}
 use Rattle.encoding_mem.specs.Steps.{Returns, Strays, StepsReadBack}
@@ -14,14 +14,14 @@ use Rattle.encoding_tables.specs.Lookups.{value_of, first_pointer}
 use Rattle.encoding_tables.specs.laws.OptionCases.{option_or_some}
 use Rattle.encoding_codecs.specs.JisForms.{is_katakana_byte, katakana_of_byte, is_katakana, byte_of_katakana, folded}
 use Rattle.encoding_codecs.specs.laws.JisSteps.{choose, either_of_entry, either_of_none, pointer_before}
-use Rattle.encoding_codecs.specs.ShiftJis.{is_shift_jis_lead, is_trail, shift_jis_first, shift_jis_pair, shift_jis_pair_pointer, first_piece_shift_jis, shift_jis_pointer, lead_of, shift_jis_trail, shift_jis_pair_bytes, shift_jis_form}
+use Rattle.encoding_codecs.specs.ShiftJis.{is_shift_jis_lead, is_trail, shift_jis_first, shift_jis_pair, shift_jis_pair_pointer, shift_jis_pointer, lead_of, shift_jis_trail, shift_jis_pair_bytes, shift_jis_form}
 use Rattle.encoding_codecs.specs.laws.Steps.{IsEither, one_either, by_piece, reference_strays}
 use Rattle.encoding_codecs.specs.TwoByte.{after_bytes, piece_of_first, piece_of_trail}
 use Rattle.encoding_codecs.specs.laws.TwoByte.{lead_ascii}
-use Rattle.encoding_codecs.specs.Pointers.{form_of_bytes}
 use Rattle.encoding_codecs.specs.declared.lead_byte_rule.FirstByte.TheVariants.{Alone, Lead}
 use Rattle.encoding_codecs.specs.declared.two_byte.PairValue.{PairValue}
 use Rattle.encoding_codecs.specs.declared.two_byte.PairValue.TheVariants.{NoChar}
+use Rattle.encoding_codecs.specs.laws.FirstPieces.{first_piece_shift_jis}
 
 abbrev Steps : List ℕ → ℕ → List ℕ → Type 0
 Steps jis0208 c bytes = Returns (first_piece_shift_jis jis0208) bytes c ⊎ Strays (first_piece_shift_jis jis0208) bytes c

@@ -17,12 +17,13 @@ use Rattle.encoding_mem.specs.Writing.{len_utf16}
 use Rattle.encoding_mem.specs.laws.Writing.{cost_fits, cost_fits16}
 use Rattle.encoding_mem.specs.declared.first_piece.FirstPiece.{FirstPiece}
 use Rattle.encoding_mem.specs.declared.first_piece.FirstPiece.TheVariants.{One, Malformed}
-use Rattle.encoding_codecs.specs.TwoByte.{TwoByteRule, IsTwoByte, IsFirstByte, IsPairValue, first_piece_by_lead, piece_of_first, piece_of_trail, after_bytes, first_piece_two_byte}
+use Rattle.encoding_codecs.specs.TwoByte.{first_piece_by_lead, piece_of_first, piece_of_trail, after_bytes, first_piece_two_byte}
 use Rattle.encoding_codecs.specs.laws.TwoByteDecide.{decide_of_first, decide_by_lead, decide_trail, decide_after}
 use Rattle.encoding_codecs.specs.declared.lead_byte_rule.FirstByte.{FirstByte}
 use Rattle.encoding_codecs.specs.declared.lead_byte_rule.FirstByte.TheVariants.{Alone, Lead, Unused}
 use Rattle.encoding_codecs.specs.declared.two_byte.PairValue.{PairValue}
 use Rattle.encoding_codecs.specs.declared.two_byte.PairValue.TheVariants.{NoChar, OneChar, TwoChars}
+use Rattle.encoding_codecs.specs.TwoByteRule.{IsFirstByte, TwoByteRule, IsPairValue, IsTwoByte}
 
 -- ---- what is shown of the first piece
 
@@ -200,5 +201,5 @@ two_byte_rule e is = record {
   modest = λ a x last _. modest_after 1 (e.pair a) x last (omega arith) (is.pairs a);
 }
 
-pub cuts_two_byte : (e : TwoByteRule) → IsTwoByte e → CutsEach (first_piece_two_byte e)
+pub cuts_two_byte : (e : TwoByteRule) → IsTwoByte e → CutsEach (first_piece_two_byte e.first e.pair)
 cuts_two_byte e is = cuts_rule e.first (λ a. after_bytes 1 (e.pair a)) (λ a. decide_after 1 (e.pair a)) (two_byte_rule e is)

@@ -5,11 +5,12 @@ use Rattle.encoding_mem.specs.Piece.{Piece}
 use Rattle.encoding_mem.specs.laws.Utf8Decide.{cut_short}
 use Rattle.encoding_mem.specs.declared.first_piece.FirstPiece.{FirstPiece}
 use Rattle.encoding_mem.specs.declared.first_piece.FirstPiece.TheVariants.{More, One, Two, Malformed}
-use Rattle.encoding_codecs.specs.TwoByte.{TwoByteRule, after_bytes}
+use Rattle.encoding_codecs.specs.TwoByte.{after_bytes}
 use Rattle.encoding_codecs.specs.declared.lead_byte_rule.FirstByte.{FirstByte}
 use Rattle.encoding_codecs.specs.declared.lead_byte_rule.FirstByte.TheVariants.{Alone, Lead, Unused}
 use Rattle.encoding_codecs.specs.declared.two_byte.PairValue.{PairValue}
 use Rattle.encoding_codecs.specs.declared.two_byte.PairValue.TheVariants.{NoChar, OneChar, TwoChars}
+use Rattle.encoding_codecs.specs.TwoByteRule.{TwoByteRule}
 
 abbrev pub decide_of_first : FirstByte → FirstPiece → FirstPiece
 decide_of_first (Alone c) prefix = One c 1

@@ -2,7 +2,8 @@
 use Rattle.std.specs.Prelude.{◌≡◌, not, None, Some, [], ◌∷◌, codes, filter, refl, ℕ, ◌+◌, ◌==◌, if◌then◌else◌, List, Option, length, map, replicate}
 use Rattle.encoding_tables.specs.declared.index_kind.IndexKind.{IndexKind}
 use Rattle.encoding_front.specs.EncodingTable.{encodings, encoding_name}
-use Rattle.encoding_front.specs.Encodings.{is_ascii_compatible_of, is_single_byte_of, mark_at_start, needs_of, output_encoding_of, byte_order_marks, need_of, decoded_length_of, pieces_of, coding_of, set_pieces_of}
+use Rattle.encoding_front.specs.Encodings.{is_ascii_compatible_of, is_single_byte_of, mark_at_start, needs_of, output_encoding_of, byte_order_marks, pieces_of, coding_of, set_pieces_of}
+use Rattle.encoding_front.specs.CodecBounds.{need_of, decoded_length_of}
 use Rattle.encoding_front.specs.declared.encoding.Encoding.{Encoding}
 use Rattle.std.specs.List.{range_with_len}
 use Rattle.std.specs.Char.{encode_utf8}

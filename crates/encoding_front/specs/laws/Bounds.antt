@@ -7,32 +7,33 @@ use Rattle.std.specs.Str.{all_scalars}
 use Rattle.std.proofs.lemmas.Fmt.{length-decimal-le}
 use Rattle.encoding_mem.specs.declared.reference.Reference.{Reference}
 use Rattle.encoding_mem.specs.declared.reference.Reference.TheVariants.{Decimal, Hexadecimal}
-use Rattle.encoding_mem.specs.Coding.{Coding, bytes, last_set, open_from, output, reference, spelled}
+use Rattle.encoding_mem.specs.Coding.{Coding, bytes, last_set, open_from, output, reference, spelled, form_of_bytes}
 use Rattle.std.proofs.lemmas.Bool.{and_parts, cases_lt, eq-eqb, ne_eqb}
 use Rattle.encoding_mem.specs.declared.form.Form.{Form}
 use Rattle.encoding_mem.specs.declared.form.Form.TheVariants.{Mapped, Unmapped}
 use Rattle.encoding_mem.specs.declared.form.EscapeState.{EscapeState}
 use Rattle.encoding_mem.specs.declared.form.EscapeState.TheVariants.{Ascii}
-use Rattle.encoding_tables.specs.EachByte.{form_of_byte}
 use Rattle.encoding_tables.specs.IndexLists.{IndexLists, entries_of, rows_of}
 use Rattle.encoding_tables.specs.Lookups.{first_pointer}
 use Rattle.encoding_tables.specs.SingleByte.{single_byte_of_char}
 use Rattle.encoding_tables.specs.UserDefined.{byte_of_user_char}
 use Rattle.encoding_tables.specs.declared.index_kind.IndexKind.{IndexKind}
+use Rattle.encoding_tables.specs.laws.EachByte.{form_of_byte}
 use Rattle.encoding_codecs.specs.Big5.{big5_bytes, big5_find}
 use Rattle.encoding_codecs.specs.EucJp.{euc_jp_char_bytes as euc_jp_bytes}
 use Rattle.encoding_codecs.specs.EucKr.{euc_kr_bytes}
 use Rattle.encoding_codecs.specs.Gb18030Coding.{gb18030_bytes}
-use Rattle.encoding_codecs.specs.Iso2022JpForms.{jis_form_of_pointer as jis_form, pointer_of_char}
+use Rattle.encoding_codecs.specs.Iso2022JpForms.{iso_2022_jp_pair_bytes, pointer_of_char}
 use Rattle.encoding_codecs.specs.laws.Iso2022JpForms.{iso_2022_jp_laws}
-use Rattle.encoding_codecs.specs.Pointers.{form_of_bytes, form_of_pointer}
 use Rattle.encoding_codecs.specs.ShiftJis.{shift_jis_char_bytes as shift_jis_bytes}
+use Rattle.encoding_codecs.specs.laws.Pointers.{form_of_pointer}
 use Rattle.encoding_front.specs.Bounds.{ReportsItself}
 use Rattle.encoding_front.specs.laws.Encoder.{coding_laws}
-use Rattle.encoding_front.specs.Encodings.{coding_of, coding_of_codec_kind, output_encoding_of}
+use Rattle.encoding_front.specs.Encodings.{coding_of, output_encoding_of}
 use Rattle.encoding_front.specs.EncodingTable.{codec_kind_of}
 use Rattle.encoding_front.specs.declared.encoding.Encoding.{Encoding}
 use Rattle.encoding_front.specs.declared.codec_kind.CodecKind.{CodecKind}
+use Rattle.encoding_front.specs.Codecs.{codec_of}
 
 -- what is reported
 reports_if : (t : Bool) (c : ℕ) (f g : Form) → ReportsItself c f → ReportsItself c g → ReportsItself c (cond t f g)
@@ -51,11 +52,7 @@ reports_bytes : (c : ℕ) (o : Option (List ℕ)) → ReportsItself c (form_of_b
 reports_bytes c None = inl refl
 reports_bytes c (Some bs) = tt
 
-reports_jis : (c : ℕ) (o : Option ℕ) → ReportsItself c (jis_form c o)
-reports_jis c None = inl refl
-reports_jis c (Some p) = tt
-
-reports_in : (t : IndexLists) (s : CodecKind) (c : ℕ) → ReportsItself c ((coding_of_codec_kind t s).form c)
+reports_in : (t : IndexLists) (s : CodecKind) (c : ℕ) → ReportsItself c ((codec_of t s).coding.form c)
 reports_in t CodecKind.Utf8 c = tt
 reports_in t (CodecKind.SingleByte kind) c = reports_byte c (single_byte_of_char (entries_of t kind) c)
 reports_in t CodecKind.Big5 c = reports_if (nat_lt c 0x80) c (Mapped (c ∷ [])) _ tt (reports_pointer big5_bytes c (big5_find (entries_of t IndexKind.Big5) c))
@@ -64,7 +61,7 @@ reports_in t CodecKind.EucJp c = reports_bytes c (euc_jp_bytes (entries_of t Ind
 reports_in t CodecKind.ShiftJis c = reports_bytes c (shift_jis_bytes (entries_of t IndexKind.Jis0208) c)
 reports_in t (CodecKind.Gb18030 extended) c = reports_bytes c (gb18030_bytes (entries_of t IndexKind.Gb18030) (rows_of t) extended c)
 reports_in t CodecKind.Iso2022Jp c =
-    let other = reports_jis c (pointer_of_char (entries_of t IndexKind.Jis0208) (entries_of t IndexKind.Iso2022JpKatakana) c) in
+    let other = reports_pointer iso_2022_jp_pair_bytes c (pointer_of_char (entries_of t IndexKind.Jis0208) (entries_of t IndexKind.Iso2022JpKatakana) c) in
     reports_if (nat_lt c 0x80) c _ _ (reports_if (c == 0x0E || c == 0x0F || c == 0x1B) c (Unmapped 0xFFFD) (Mapped (c ∷ [])) (inr refl) tt)
     (reports_if (c == 0xA5) c (Mapped (0x5C ∷ [])) _ tt (reports_if (c == 0x203E) c (Mapped (0x7E ∷ [])) _ tt other))
 reports_in t CodecKind.UserDefined c = reports_byte c (byte_of_user_char c)
@@ -78,7 +75,7 @@ reports_itself t e c = reports_in t (codec_kind_of (output_encoding_of e)) c
 pub short_form : (t : IndexLists) (e : Encoding) (c : ℕ) → length (bytes ((coding_of t e).form c)) ≤ 4
 short_form t e c = omega (arith, ((coding_laws t e).short c).short, (coding_laws t e).few)
 
-escape_in : (t : IndexLists) (k : CodecKind) (s s' : EscapeState) → length ((coding_of_codec_kind t k).escape s s') ≤ 3
+escape_in : (t : IndexLists) (k : CodecKind) (s s' : EscapeState) → length ((codec_of t k).coding.escape s s') ≤ 3
 escape_in t CodecKind.Iso2022Jp s s' = (iso_2022_jp_laws (entries_of t IndexKind.Jis0208) (entries_of t IndexKind.Iso2022JpKatakana)).escape_short s s'
 escape_in t _ s s' = omega arith
 

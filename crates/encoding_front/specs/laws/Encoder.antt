@@ -19,11 +19,13 @@ use Rattle.encoding_codecs.specs.laws.EucJp.{euc_jp_laws}
 use Rattle.encoding_codecs.specs.laws.ShiftJis.{shift_jis_laws}
 use Rattle.encoding_codecs.specs.laws.Gb18030Coding.{gb18030_laws}
 use Rattle.encoding_codecs.specs.laws.Iso2022JpForms.{iso_2022_jp_laws}
-use Rattle.encoding_front.specs.Encodings.{KeepsCharacters, coding_of, coding_of_codec_kind, need_of, need_of_codec_kind, output_encoding_of, pieces_of}
+use Rattle.encoding_front.specs.Encodings.{KeepsCharacters, coding_of, output_encoding_of, pieces_of}
+use Rattle.encoding_front.specs.CodecBounds.{need_of, need_of_codec_kind}
 use Rattle.encoding_front.specs.EncodingTable.{codec_kind_of}
 use Rattle.encoding_front.specs.declared.encoding.Encoding.{Encoding}
 use Rattle.encoding_front.specs.declared.encoding.Encoding.TheVariants.{Big5}
 use Rattle.encoding_front.specs.declared.codec_kind.CodecKind.{CodecKind}
+use Rattle.encoding_front.specs.Codecs.{codec_of}
 
 -- an output encoding is its own
 pub output_twice : (e : Encoding) → output_encoding_of (output_encoding_of e) ≡ output_encoding_of e
@@ -40,7 +42,7 @@ pub need_positive : (e : Encoding) → 0 < need_of e
 need_positive e = need_of_codec_kind-positive (codec_kind_of (output_encoding_of e))
 
 -- what is written in an output encoding is a coding
-coding_of_codec_kind-laws : (t : IndexLists) (s : CodecKind) → IsCoding (need_of_codec_kind s) (coding_of_codec_kind t s)
+coding_of_codec_kind-laws : (t : IndexLists) (s : CodecKind) → IsCoding (need_of_codec_kind s) (codec_of t s).coding
 coding_of_codec_kind-laws t CodecKind.Utf8 = utf8_coding_laws
 coding_of_codec_kind-laws t (CodecKind.SingleByte kind) = single_byte_laws (entries_of t kind)
 coding_of_codec_kind-laws t CodecKind.Big5 = big5_laws (entries_of t IndexKind.Big5)

@@ -19,8 +19,7 @@ use Rattle.encoding_tables.specs.laws.SingleByteReadBack.{single_byte_by_step}
 use Rattle.encoding_tables.specs.laws.SingleByteTables.{entries_scalars, tables_are_pieces, tables_exact}
 use Rattle.encoding_tables.specs.Replacement.{first_piece_replacement, after_replacement}
 use Rattle.encoding_tables.specs.laws.Replacement.{cuts_replacement}
-use Rattle.encoding_tables.specs.UserDefined.{first_piece_user_defined}
-use Rattle.encoding_tables.specs.laws.UserDefined.{cuts_user_defined, user_defined_by_step, user_defined_exact}
+use Rattle.encoding_tables.specs.laws.UserDefined.{cuts_user_defined, user_defined_by_step, user_defined_exact, first_piece_user_defined}
 use Rattle.encoding_tables.specs.Utf16.{first_piece_utf16}
 use Rattle.encoding_tables.specs.laws.Utf16.{cuts_utf16}
 use Rattle.encoding_codecs.specs.laws.CodecTables.{euc_kr_are_pieces, big5_are_pieces, euc_jp_are_pieces, shift_jis_are_pieces, iso_2022_jp_tables_are_pieces, euc_kr_tables_exact, big5_tables_exact}
@@ -30,20 +29,21 @@ use Rattle.encoding_codecs.specs.laws.CodecSteps.{shift_jis_by_step, euc_jp_by_s
 use Rattle.encoding_codecs.specs.laws.EucKr.{euc_kr_by_step}
 use Rattle.encoding_codecs.specs.laws.Iso2022JpSteps.{iso_2022_jp_by_step}
 use Rattle.encoding_tables.specs.declared.index_kind.IndexKind.{IndexKind}
-use Rattle.encoding_front.specs.Encodings.{IsUtf8Encoding, KeepsCharacters, KeepsCharactersCodecKind, pieces_of, pieces_of_codec_kind, coding_of, coding_of_codec_kind, output_encoding_of, output_of_codec_kind, set_pieces_of, set_pieces_of_codec_kind}
+use Rattle.encoding_front.specs.Encodings.{IsUtf8Encoding, KeepsCharacters, KeepsCharactersCodecKind, pieces_of, coding_of, output_encoding_of, output_of_codec_kind, set_pieces_of, set_pieces_of_codec_kind}
 use Rattle.encoding_front.specs.EncodingTable.{codec_kind_of}
 use Rattle.encoding_front.specs.declared.encoding.Encoding.{Encoding}
 use Rattle.encoding_front.specs.declared.codec_kind.CodecKind.{CodecKind}
+use Rattle.encoding_front.specs.Codecs.{codec_of}
 
 -- of UTF-8
 pub pieces_of_utf8 : (t : IndexLists) (e : Encoding) → IsUtf8Encoding e → pieces_of t e ≡ pieces_utf8
-pieces_of_utf8 t e h = ap (pieces_of_codec_kind t) h
+pieces_of_utf8 t e h = ap (λ (k : CodecKind). (codec_of t k).pieces) h
 
 pub coding_of_utf8 : (t : IndexLists) (e : Encoding) → IsUtf8Encoding e → coding_of t e ≡ utf8_coding
-coding_of_utf8 t e h = ap (λ s. coding_of_codec_kind t (codec_kind_of (output_of_codec_kind e s))) h ∙ ap (coding_of_codec_kind t) h
+coding_of_utf8 t e h = ap (λ s. (codec_of t (codec_kind_of (output_of_codec_kind e s))).coding) h ∙ ap (λ (k : CodecKind). (codec_of t k).coding) h
 
 -- the pieces of bytes are pieces
-are_pieces_in : (t : IndexLists) (s : CodecKind) → AreAcceptedTables t → (x : List ℕ) → ArePieces (pieces_of_codec_kind t s x)
+are_pieces_in : (t : IndexLists) (s : CodecKind) → AreAcceptedTables t → (x : List ℕ) → ArePieces ((codec_of t s).pieces x)
 are_pieces_in t CodecKind.Utf8 taken x = pieces_by-are_pieces first_piece_utf8 cuts_utf8 x
 are_pieces_in t (CodecKind.SingleByte kind) taken x = tables_are_pieces t kind taken x
 are_pieces_in t CodecKind.Big5 taken x = big5_are_pieces t taken x
@@ -60,7 +60,7 @@ pub are_pieces_of : (t : IndexLists) (e : Encoding) → AreAcceptedTables t → 
 are_pieces_of t e taken x = are_pieces_in t (codec_kind_of e) taken x
 
 -- what is written for a text reads back as that text exactly where each scalar of it has bytes
-exact_in : (t : IndexLists) (s : CodecKind) → KeepsCharactersCodecKind s → AreAcceptedTables t → ReadsBackExactly (pieces_of_codec_kind t s) (coding_of_codec_kind t s)
+exact_in : (t : IndexLists) (s : CodecKind) → KeepsCharactersCodecKind s → AreAcceptedTables t → ReadsBackExactly (codec_of t s).pieces (codec_of t s).coding
 exact_in t CodecKind.Utf8 kept taken = utf8_exact
 exact_in t (CodecKind.SingleByte kind) kept taken = tables_exact t kind taken
 exact_in t CodecKind.UserDefined kept taken = user_defined_exact
@@ -77,7 +77,7 @@ pub reads_back_exactly : (t : IndexLists) (e : Encoding) → KeepsCharacters e �
 reads_back_exactly t e kept taken = exact_in t (codec_kind_of (output_encoding_of e)) kept taken
 
 -- What is written in an output encoding reads back step by step.
-by_step_in : (t : IndexLists) (s : CodecKind) → AreAcceptedTables t → ReadsByStep (coding_of_codec_kind t s) (set_pieces_of_codec_kind t s)
+by_step_in : (t : IndexLists) (s : CodecKind) → AreAcceptedTables t → ReadsByStep (codec_of t s).coding (set_pieces_of_codec_kind t s)
 by_step_in t CodecKind.Utf8 taken = utf8_by_step
 by_step_in t (CodecKind.SingleByte kind) taken = single_byte_by_step (entries_of t kind) (entries_scalars t kind taken)
 by_step_in t CodecKind.UserDefined taken = user_defined_by_step
@@ -101,7 +101,7 @@ set_pieces_at_start t Encoding.Big5 = refl
 set_pieces_at_start t _ = refl
 
 -- and where no two characters have the same bytes, also from any other set
-set_pieces_in : (t : IndexLists) (s : CodecKind) → KeepsCharactersCodecKind s → (set : EscapeState) → set_pieces_of_codec_kind t s set ≡ pieces_of_codec_kind t s
+set_pieces_in : (t : IndexLists) (s : CodecKind) → KeepsCharactersCodecKind s → (set : EscapeState) → set_pieces_of_codec_kind t s set ≡ (codec_of t s).pieces
 set_pieces_in t CodecKind.Utf8 kept set = refl
 set_pieces_in t (CodecKind.SingleByte kind) kept set = refl
 set_pieces_in t CodecKind.UserDefined kept set = refl
@@ -123,7 +123,7 @@ agrees_or_breaks t e taken =
     subst (λ pieces. ReadsBackOrBreaks pieces (coding_of t e)) (set_pieces_at_start t e) (reads_back_or_breaks (coding_of t e) (set_pieces_of t e) (reads_by_step t e taken))
 
 -- where no two characters have the same bytes, there is one set
-one_set_in : (t : IndexLists) (s : CodecKind) → KeepsCharactersCodecKind s → HasOneSet (coding_of_codec_kind t s)
+one_set_in : (t : IndexLists) (s : CodecKind) → KeepsCharactersCodecKind s → HasOneSet (codec_of t s).coding
 one_set_in t CodecKind.Utf8 kept = record { set = λ s c. refl; escape = λ s s'. refl }
 one_set_in t (CodecKind.SingleByte kind) kept = record { set = λ s c. refl; escape = λ s s'. refl }
 one_set_in t CodecKind.UserDefined kept = record { set = λ s c. refl; escape = λ s s'. refl }
@@ -139,7 +139,7 @@ one_set_in t CodecKind.Replacement kept = absurd kept
 pub one_set_of : (t : IndexLists) (e : Encoding) → KeepsCharacters e → HasOneSet (coding_of t e)
 one_set_of t e kept = one_set_in t (codec_kind_of (output_encoding_of e)) kept
 
-step_law_in : (t : IndexLists) (s : CodecKind) → KeepsCharactersCodecKind s → AreAcceptedTables t → StepLaw (coding_of_codec_kind t s) (in_any_set (pieces_of_codec_kind t s))
+step_law_in : (t : IndexLists) (s : CodecKind) → KeepsCharactersCodecKind s → AreAcceptedTables t → StepLaw (codec_of t s).coding (in_any_set (codec_of t s).pieces)
 step_law_in t CodecKind.Utf8 kept taken = (by_step_in t CodecKind.Utf8 taken).steps
 step_law_in t (CodecKind.SingleByte kind) kept taken = (by_step_in t (CodecKind.SingleByte kind) taken).steps
 step_law_in t CodecKind.UserDefined kept taken = (by_step_in t CodecKind.UserDefined taken).steps

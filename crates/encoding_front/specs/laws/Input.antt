@@ -16,42 +16,39 @@ use Rattle.encoding_mem.specs.laws.Pieces.{pieces_by-whole, pieces_in-whole}
 use Rattle.encoding_mem.specs.Utf8.{first_piece_utf8}
 use Rattle.encoding_mem.specs.laws.Utf8.{cuts_utf8}
 use Rattle.std.proofs.lemmas.Bool.{and_parts}
+use Rattle.std.specs.Option.{unwrap_or}
 use Rattle.encoding_tables.specs.IndexLists.{IndexLists, AreAcceptedTables, entries_of, rows_of}
 use Rattle.encoding_tables.specs.Replacement.{first_piece_replacement, after_replacement}
 use Rattle.encoding_tables.specs.laws.Replacement.{cuts_replacement}
-use Rattle.encoding_tables.specs.SingleByte.{first_piece_single_byte}
-use Rattle.encoding_tables.specs.laws.SingleByte.{cuts_single_byte}
+use Rattle.encoding_tables.specs.laws.SingleByte.{cuts_single_byte, first_piece_single_byte}
 use Rattle.encoding_tables.specs.laws.SingleByteTables.{entries_scalars}
-use Rattle.encoding_tables.specs.UserDefined.{first_piece_user_defined}
-use Rattle.encoding_tables.specs.laws.UserDefined.{cuts_user_defined}
+use Rattle.encoding_tables.specs.laws.UserDefined.{cuts_user_defined, first_piece_user_defined}
 use Rattle.encoding_tables.specs.Utf16.{first_piece_utf16}
 use Rattle.encoding_tables.specs.laws.Utf16.{cuts_utf16}
 use Rattle.encoding_tables.specs.declared.index_kind.IndexKind.{IndexKind}
-use Rattle.encoding_codecs.specs.Big5.{big5_rule, first_piece_big5}
 use Rattle.encoding_codecs.specs.laws.Big5.{big5_is_two_byte}
-use Rattle.encoding_codecs.specs.EucJp.{first_piece_euc_jp}
 use Rattle.encoding_codecs.specs.laws.EucJp.{euc_jp_is_lead_rule}
-use Rattle.encoding_codecs.specs.EucKr.{euc_kr_rule, first_piece_euc_kr}
 use Rattle.encoding_codecs.specs.laws.EucKr.{euc_kr_is_two_byte}
-use Rattle.encoding_codecs.specs.Gb18030.{first_piece_gb18030}
 use Rattle.encoding_codecs.specs.laws.Gb18030.{cuts_gb18030}
 use Rattle.encoding_codecs.specs.laws.Gb18030Tables.{gb18030_tables}
 use Rattle.encoding_codecs.specs.Iso2022Jp.{ascii_mode}
 use Rattle.encoding_codecs.specs.laws.Iso2022Jp.{iso_2022_jp_whole}
-use Rattle.encoding_codecs.specs.ShiftJis.{shift_jis_rule, first_piece_shift_jis}
 use Rattle.encoding_codecs.specs.laws.ShiftJis.{shift_jis_is_two_byte}
 use Rattle.encoding_codecs.specs.laws.TwoByte.{cuts_rule, cuts_two_byte}
+use Rattle.encoding_codecs.specs.TwoByteRule.{euc_kr_rule, big5_rule, shift_jis_rule}
+use Rattle.encoding_codecs.specs.laws.FirstPieces.{first_piece_big5, first_piece_euc_kr, first_piece_shift_jis, first_piece_euc_jp, first_piece_gb18030}
 use Rattle.encoding_front.specs.laws.Bounds.{short_output}
-use Rattle.encoding_front.specs.Encodings.{coding_of, first_mark, pieces_of, pieces_of_codec_kind}
+use Rattle.encoding_front.specs.Encodings.{coding_of, first_mark, pieces_of}
 use Rattle.encoding_front.specs.EncodingTable.{codec_kind_of}
 use Rattle.encoding_front.specs.laws.Encodings.{are_pieces_of}
-use Rattle.encoding_front.specs.Marks.{mark_piece, marked_pieces, marked_text, marks_taken, source_of, source_or}
+use Rattle.encoding_front.specs.Marks.{mark_piece, marked_pieces, marked_text, marks_taken, source_of}
 use Rattle.encoding_front.specs.declared.encoding.Encoding.{Encoding}
 use Rattle.encoding_front.specs.declared.mark.Mark.{Mark}
 use Rattle.encoding_front.specs.declared.codec_kind.CodecKind.{CodecKind}
+use Rattle.encoding_front.specs.Codecs.{codec_of}
 
 -- the pieces of bytes, joined, are the bytes
-whole_in : (t : IndexLists) (s : CodecKind) → AreAcceptedTables t → (x : List ℕ) → sizes (pieces_of_codec_kind t s x) ≡ length x
+whole_in : (t : IndexLists) (s : CodecKind) → AreAcceptedTables t → (x : List ℕ) → sizes ((codec_of t s).pieces x) ≡ length x
 whole_in t CodecKind.Utf8 taken x = pieces_by-whole first_piece_utf8 cuts_utf8 x
 whole_in t (CodecKind.SingleByte kind) taken x =
     let flat = entries_of t kind in
@@ -84,11 +81,11 @@ whole_of t e taken x = whole_in t (codec_kind_of e) taken x
 mark_fits : (x m : List ℕ) → starts_with eqb x m ≡ true → length m ≤ length x
 mark_fits x m h = omega (arith, pointwise_long eqb m (take (length m) x) h, length-take (length m) x)
 
-fits_if : (b : Bool) (f e : Encoding) (n k : ℕ) (o : Option (Encoding × ℕ)) → (b ≡ true → n ≤ k) → (source_or e o).1 ≤ k → (source_or e (cond b (Some (f, n)) o)).1 ≤ k
+fits_if : (b : Bool) (f e : Encoding) (n k : ℕ) (o : Option (Encoding × ℕ)) → (b ≡ true → n ≤ k) → (unwrap_or o (e, 0)).1 ≤ k → (unwrap_or (cond b (Some (f, n)) o) (e, 0)).1 ≤ k
 fits_if true f e n k o h j = h refl
 fits_if false f e n k o h j = j
 
-first_fits : (marks : List (Encoding × List ℕ)) (e : Encoding) (x : List ℕ) → (source_or e (first_mark marks x)).1 ≤ length x
+first_fits : (marks : List (Encoding × List ℕ)) (e : Encoding) (x : List ℕ) → (unwrap_or (first_mark marks x) (e, 0)).1 ≤ length x
 first_fits [] e x = omega arith
 first_fits (m ∷ marks) e x = fits_if (starts_with eqb x m.1) m.0 e (length m.1) (length x) (first_mark marks x) (mark_fits x m.1) (first_fits marks e x)
 

@@ -11,7 +11,7 @@ use Rattle.encoding_mem.specs.declared.room.OutputUnit.TheVariants.{Units, Bytes
 use Rattle.encoding_tables.specs.Utf16.{first_piece_utf16}
 use Rattle.encoding_tables.specs.laws.Utf16.{cuts_utf16}
 use Rattle.encoding_front.specs.EncodingTable.{codec_kind_of}
-use Rattle.encoding_front.specs.Encodings.{decoded_length_of, room_of_codec_kind}
+use Rattle.encoding_front.specs.CodecBounds.{decoded_length_of, room_of_codec_kind}
 use Rattle.encoding_front.specs.declared.encoding.Encoding.{Encoding}
 use Rattle.encoding_front.specs.declared.codec_kind.CodecKind.{CodecKind}
 use Rattle.encoding_front.specs.Seeking.{len_of, pieces_after, room_after, is_sought, find_mark, find_second, find_end, pieces_seen, sought_pieces, can_be, sought_needs, room_widest}

@@ -4,7 +4,7 @@ use Rattle.std.proofs.lemmas.List.{append-nil}
 use Rattle.encoding_mem.specs.DecodedLength.{decoded_length}
 use Rattle.encoding_mem.specs.declared.room.DecodedLength.{DecodedLength}
 use Rattle.encoding_mem.specs.declared.room.OutputUnit.{OutputUnit}
-use Rattle.encoding_front.specs.Encodings.{decoded_length_of}
+use Rattle.encoding_front.specs.CodecBounds.{decoded_length_of}
 use Rattle.encoding_front.specs.Seeking.{encoding_of_mark, find_mark, is_sought, mark_seen, mark_taken, room_after, room_widest}
 use Rattle.encoding_front.specs.Stream.{encoding_after}
 use Rattle.encoding_front.specs.laws.Seeking.{widest_encoding}

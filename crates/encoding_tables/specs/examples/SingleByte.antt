@@ -3,7 +3,8 @@ use Rattle.std.proofs.Common.{ℕ, zero, suc, ◌<◌, refl, ap, arith}
 use Rattle.std.specs.Prelude.{◌≡◌, ℕ, List, [], ◌∷◌, ◌++◌, None, Some, replicate, slice_index, ◌≢◌}
 use Rattle.encoding_mem.specs.Piece.{well_formed, malformed, scalars}
 use Rattle.encoding_mem.specs.Pieces.{pieces_in}
-use Rattle.encoding_tables.specs.SingleByte.{char_of_byte, single_byte_of_char, first_piece_single_byte, pieces_single_byte, IsLatin1UpTo}
+use Rattle.encoding_tables.specs.SingleByte.{char_of_byte, single_byte_of_char, pieces_single_byte, IsLatin1UpTo}
+use Rattle.encoding_tables.specs.laws.SingleByte.{first_piece_single_byte}
 
 -- a list for examples, from 80 on: U+20AC, nothing, U+00E9, U+00E9
 sample : List ℕ

@@ -4,7 +4,7 @@ use Rattle.std.proofs.Common.{◌≡◌, ℕ, ◌+◌, ◌≤◌, List, [], ◌�
 use Rattle.std.specs.Fmt.{decimal, digits}
 use Rattle.encoding_mem.specs.declared.reference.Reference.{Reference}
 use Rattle.encoding_mem.specs.declared.reference.Reference.TheVariants.{Decimal, Hexadecimal}
-use Rattle.encoding_mem.specs.Piece.{text, text_of, AreWellFormed}
+use Rattle.encoding_mem.specs.Piece.{text, text_of, AreWellFormed, piece_of_scalar}
 use Rattle.encoding_mem.specs.laws.Pieces.{pieces_by-nil}
 use Rattle.encoding_mem.specs.Coding.{AllMapped, IsMapped, open_from, output, spelled, lost_count, unmapped_count}
 use Rattle.encoding_mem.specs.Steps.{StepLaw, in_any_set, Returns, Strays}
@@ -15,14 +15,14 @@ use Rattle.encoding_mem.specs.ReadBack.{ReadsAs, ReadsBackExactly}
 use Rattle.encoding_mem.specs.laws.ReadBack.{all_mapped}
 use Rattle.encoding_mem.specs.declared.form.EscapeState.{EscapeState}
 use Rattle.encoding_mem.specs.declared.form.EscapeState.TheVariants.{Ascii}
-use Rattle.encoding_tables.specs.EachByte.{piece_of_byte, first_piece_by_byte, pieces_by_byte, form_of_byte, form_by_byte, coding_by_byte}
-use Rattle.encoding_tables.specs.laws.EachByte.{AreScalars, cuts_by_byte, pieces_by_byte-cons}
+use Rattle.encoding_tables.specs.EachByte.{first_piece_by_byte, form_by_byte}
+use Rattle.encoding_tables.specs.laws.EachByte.{AreScalars, cuts_by_byte, pieces_by_byte-cons, form_of_byte, coding_by_byte, pieces_by_byte}
 
 -- the byte of a character reads as that character
 abbrev pub ReadsBack : (char_of byte_of : ℕ → Option ℕ) → Type 0
 ReadsBack char_of byte_of = (c b : ℕ) → byte_of c ≡ Some b → char_of b ≡ Some c
 
-one_text : (o : Option ℕ) → length (text_of (piece_of_byte o)) ≡ 1
+one_text : (o : Option ℕ) → length (text_of (piece_of_scalar 1 o)) ≡ 1
 one_text None = refl
 one_text (Some c) = refl
 
@@ -30,7 +30,7 @@ as_long : (char_of : ℕ → Option ℕ) → AreScalars char_of → (x : List �
 as_long char_of scalars [] = ap (λ ps. length (text ps)) (pieces_by-nil (first_piece_by_byte char_of))
 as_long char_of scalars (b ∷ x) =
     ap (λ ps. length (text ps)) (pieces_by_byte-cons char_of scalars b x)
-    ∙ omega (arith, length-append (text_of (piece_of_byte (char_of b))) (text (pieces_by_byte char_of x)), one_text (char_of b), as_long char_of scalars x)
+    ∙ omega (arith, length-append (text_of (piece_of_scalar 1 (char_of b))) (text (pieces_by_byte char_of x)), one_text (char_of b), as_long char_of scalars x)
 
 -- What is written for a text whose characters have bytes.
 mapped_byte : (c : ℕ) (o : Option ℕ) → IsMapped (form_of_byte c o) → (b : ℕ) × (o ≡ Some b)
@@ -48,7 +48,7 @@ reads ref char_of byte_of s (c ∷ t) scalars back h =
     let byte = mapped_byte c (byte_of c) h.0 in
     let begins : open_from ref (coding_by_byte byte_of) s (c ∷ t) ≡ byte.0 ∷ open_from ref (coding_by_byte byte_of) Ascii t = ap (λ o. spelled ref (form_of_byte c o) ++ open_from ref (coding_by_byte byte_of) Ascii t) byte.1 in
     let pieces = ap (pieces_by_byte char_of) begins ∙ pieces_by_byte-cons char_of scalars byte.0 (open_from ref (coding_by_byte byte_of) Ascii t)
-    ∙ ap (λ o. piece_of_byte o ∷ pieces_by_byte char_of (open_from ref (coding_by_byte byte_of) Ascii t)) (back c byte.0 byte.1) in
+    ∙ ap (λ o. piece_of_scalar 1 o ∷ pieces_by_byte char_of (open_from ref (coding_by_byte byte_of) Ascii t)) (back c byte.0 byte.1) in
     record {
       well_formed = subst AreWellFormed (sym pieces) (tt, more.well_formed);
       same = ap text pieces ∙ ap (λ l. c ∷ l) more.same;
@@ -83,8 +83,8 @@ one_step : (ref : Reference) (char_of byte_of : ℕ → Option ℕ) → ReadsBac
     → Returns (first_piece_by_byte char_of) (spelled ref (form_of_byte c o)) c ⊎ Strays (first_piece_by_byte char_of) (spelled ref (form_of_byte c o)) c
 one_step ref char_of byte_of back ampersand c None is =
     let other : c ≢ 0x26 = λ same. subst IsAbsent (sym is ∙ ap byte_of same ∙ ampersand) tt in
-    inr (strays_at_reference ref (first_piece_by_byte char_of) c c (λ x. ap piece_of_byte (back 0x26 0x26 ampersand)) other)
-one_step ref char_of byte_of back ampersand c (Some b) is = inl (record { piece = λ y. ap piece_of_byte (back c b is) })
+    inr (strays_at_reference ref (first_piece_by_byte char_of) c c (λ x. ap (piece_of_scalar 1) (back 0x26 0x26 ampersand)) other)
+one_step ref char_of byte_of back ampersand c (Some b) is = inl (record { piece = λ y. ap (piece_of_scalar 1) (back c b is) })
 
 pub steps_by_byte : (char_of byte_of : ℕ → Option ℕ) → AreScalars char_of → ReadsBack char_of byte_of → byte_of 0x26 ≡ Some 0x26
     → StepLaw (coding_by_byte byte_of) (in_any_set (pieces_by_byte char_of))
@@ -96,4 +96,4 @@ pub by_step_by_byte : (char_of byte_of : ℕ → Option ℕ) → AreScalars char
     → ReadsByStep (coding_by_byte byte_of) (in_any_set (pieces_by_byte char_of))
 by_step_by_byte char_of byte_of scalars back ampersand =
     one_set_by_step (first_piece_by_byte char_of) (form_by_byte byte_of) (cuts_by_byte char_of scalars) (steps_by_byte char_of byte_of scalars back ampersand)
-    (λ x. ap piece_of_byte (back 0x26 0x26 ampersand)) (subst (λ o. IsMapped (form_of_byte 0x26 o)) (sym ampersand) tt)
+    (λ x. ap (piece_of_scalar 1) (back 0x26 0x26 ampersand)) (subst (λ o. IsMapped (form_of_byte 0x26 o)) (sym ampersand) tt)

@@ -6,15 +6,18 @@ use Rattle.std.proofs.lemmas.Bool.{cases_lt, cases_eq, lt-ltb, le-ltb, eq-eqb, n
 use Rattle.std.proofs.lemmas.Bool.Decides.{nat_tests}
 use Rattle.encoding_mem.specs.Coding.{IsCoding}
 use Rattle.encoding_mem.specs.EncodedLength.{IsRoomFor, encoded_length_single_byte}
-use Rattle.encoding_mem.specs.Piece.{well_formed}
+use Rattle.encoding_mem.specs.Piece.{well_formed, piece_of_scalar, Piece}
 use Rattle.encoding_mem.specs.laws.Pieces.{CutsEach}
 use Rattle.encoding_mem.specs.DecoderRule.{TellsFirstPiece, IsBasic}
-use Rattle.encoding_tables.specs.EachByte.{piece_of_byte}
 use Rattle.encoding_mem.specs.declared.form.Form.TheVariants.{Mapped}
-use Rattle.encoding_tables.specs.EachByte.{form_by_byte}
+use Rattle.encoding_tables.specs.EachByte.{form_by_byte, first_piece_by_byte}
 use Rattle.encoding_tables.specs.laws.EachByte.{AreScalars, first_piece_of_byte, cuts_by_byte, first_piece_by_first, laws_by_byte, fits_by_byte, pieces_by_byte-cons}
 use Rattle.encoding_tables.specs.Lookups.{AreEntries, value_of}
-use Rattle.encoding_tables.specs.SingleByte.{char_of_byte, single_byte_of_char, first_piece_single_byte, pieces_single_byte, single_byte_coding}
+use Rattle.encoding_tables.specs.SingleByte.{char_of_byte, single_byte_of_char, pieces_single_byte, single_byte_coding}
+
+-- the first piece of bytes in the single-byte encoding with the index `flat`: the first byte
+abbrev pub first_piece_single_byte : List ℕ → List ℕ → Piece
+first_piece_single_byte flat = first_piece_by_byte (char_of_byte flat)
 
 -- each entry is in the basic plane
 abbrev pub AreBasic : List ℕ → Type 0
@@ -75,5 +78,5 @@ pub ascii_is_itself : (flat : List ℕ) (b : ℕ) (x : List ℕ) → b < 0x80 �
 ascii_is_itself flat b x low = rw (lt-ltb b 0x80 low) refl
 
 -- the piece of a byte, then the pieces of what follows
-pub pieces_of_byte : (flat : List ℕ) → AreEntries flat → (b : ℕ) (x : List ℕ) → pieces_single_byte flat (b ∷ x) ≡ piece_of_byte (char_of_byte flat b) ∷ pieces_single_byte flat x
+pub pieces_of_byte : (flat : List ℕ) → AreEntries flat → (b : ℕ) (x : List ℕ) → pieces_single_byte flat (b ∷ x) ≡ piece_of_scalar 1 (char_of_byte flat b) ∷ pieces_single_byte flat x
 pieces_of_byte flat scalars = pieces_by_byte-cons (char_of_byte flat) (scalar_of_byte flat scalars)

@@ -8,11 +8,11 @@ use Rattle.encoding_mem.specs.ReadBack.{ReadsBackExactly}
 use Rattle.encoding_mem.specs.Steps.{StepLaw, in_any_set}
 use Rattle.encoding_tables.specs.laws.EachByteReadBack.{ReadsBack, exact_by_byte, steps_by_byte, by_step_by_byte}
 use Rattle.encoding_tables.specs.Lookups.{AreEntries, first_pointer}
-use Rattle.encoding_tables.specs.SingleByte.{char_of_byte, single_byte_of_char, first_piece_single_byte, pieces_single_byte, single_byte_coding}
+use Rattle.encoding_tables.specs.SingleByte.{char_of_byte, single_byte_of_char, pieces_single_byte, single_byte_coding}
 use Rattle.encoding_tables.specs.LookupLaws.{IsPointer}
 use Rattle.encoding_tables.specs.laws.OptionCases.{map_some}
 use Rattle.encoding_tables.specs.laws.Pointers.{first_is_least}
-use Rattle.encoding_tables.specs.laws.SingleByte.{scalar_of_byte, cuts_single_byte}
+use Rattle.encoding_tables.specs.laws.SingleByte.{scalar_of_byte, cuts_single_byte, first_piece_single_byte}
 
 -- The byte of a character reads as that character.
 found : (flat : List ℕ) (c from to p : ℕ) → first_pointer flat c from to ≡ Some p → IsPointer flat c from to p

@@ -7,17 +7,21 @@ use Rattle.std.proofs.lemmas.Bool.{cases_lt, lt-ltb, le-ltb}
 use Rattle.std.proofs.lemmas.Bool.Decides.{nat_tests}
 use Rattle.encoding_mem.specs.Agreement.{ReadsByStep}
 use Rattle.encoding_mem.specs.Coding.{IsCoding}
-use Rattle.encoding_mem.specs.Piece.{well_formed}
+use Rattle.encoding_mem.specs.Piece.{well_formed, Piece}
 use Rattle.encoding_mem.specs.laws.Pieces.{CutsEach}
 use Rattle.encoding_mem.specs.ReadBack.{ReadsBackExactly}
 use Rattle.encoding_mem.specs.laws.Utf8.{range_from, scalar_from}
 use Rattle.encoding_mem.specs.declared.form.Form.TheVariants.{Mapped}
-use Rattle.encoding_tables.specs.EachByte.{form_by_byte}
+use Rattle.encoding_tables.specs.EachByte.{form_by_byte, first_piece_by_byte}
 use Rattle.encoding_tables.specs.laws.EachByte.{AreScalars, cuts_by_byte, laws_by_byte}
 use Rattle.encoding_mem.specs.Steps.{StepLaw, in_any_set}
 use Rattle.encoding_tables.specs.laws.EachByteReadBack.{ReadsBack, exact_by_byte, steps_by_byte, by_step_by_byte}
 use Rattle.encoding_tables.specs.laws.OptionCases.{if_some_some}
-use Rattle.encoding_tables.specs.UserDefined.{user_char_of_byte, byte_of_user_char, first_piece_user_defined, pieces_user_defined, user_defined_coding}
+use Rattle.encoding_tables.specs.UserDefined.{user_char_of_byte, byte_of_user_char, pieces_user_defined, user_defined_coding}
+
+-- the first piece of some bytes in x-user-defined: the character of the first byte
+abbrev pub first_piece_user_defined : List ℕ → Piece
+first_piece_user_defined = first_piece_by_byte user_char_of_byte
 
 -- the characters are scalars
 upper : (t : Bool) (b : ℕ) → (t ≡ true → IsScalar (0xF780 + (b - 0x80))) → IfSome (cond t (Some (0xF780 + (b - 0x80))) None) IsScalar

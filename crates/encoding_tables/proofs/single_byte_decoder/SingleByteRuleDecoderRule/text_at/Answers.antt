@@ -1,7 +1,6 @@
 use Rattle.encoding_mem.specs.laws.Text.{pieces_by-ascii}
 use Rattle.encoding_mem.specs.laws.DecodedLength.{text_needs_single_byte}
-use Rattle.encoding_tables.specs.SingleByte.{first_piece_single_byte}
-use Rattle.encoding_tables.specs.laws.SingleByte.{cuts_single_byte, ascii_is_itself}
+use Rattle.encoding_tables.specs.laws.SingleByte.{cuts_single_byte, ascii_is_itself, first_piece_single_byte}
 use Rattle.encoding_tables.proofs.single_byte_decoder.SingleByteRuleDecoderRule.text_at.Goals as goal
 
 pub returns-clause-pieces : goal.returns-clause-pieces
