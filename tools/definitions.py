@@ -8,6 +8,8 @@ CRATES = os.path.join(TOP, "crates")
 
 DEFINITION = re.compile(r"^(?:abbrev |unfoldable |irrelevant |private )*(?:pub )?(?:(?:record|data|abbrev|unfoldable|irrelevant) )*([^\s:({⟨]+)")
 IMPORT = re.compile(r"^use (Rattle\.[^\s{]+)\.\{(.*)\}")
+# How a definition begins; what begins otherwise is a theorem or a worked row.
+DEFINES = ("abbrev ", "unfoldable ", "irrelevant ", "record ", "data ", "pub record ", "pub data ", "pub abbrev ", "pub unfoldable ")
 WORD = re.compile(r"[^\s(){},;.:λ→×]+")
 
 
@@ -99,7 +101,7 @@ def closure(words, found, imports):
     seen = {}
     while near:
         definition, hop = near.pop(0)
-        if definition in seen:
+        if definition in seen or not definition.source[0].startswith(DEFINES):
             continue
         seen[definition] = hop
         brought = imports[definition.path]

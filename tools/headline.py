@@ -50,6 +50,7 @@ HOW_TO_READ = """
 - `IfOk result (λ p. ..)` says the rest of `p` if the result is `Ok p`, and `IfErr` of the error. `A → B` is *if A then B*, `A × B` *A and B*, `A ⊎ B` *A or B*, `(x : A) → ..` *for each x*, `(x : A) × ..` *there is an x*.
 - `record R .. where` names each of its parts, and holds if all of them do. `≡` is equality, `∷` puts one element before a list, `++` joins two.
 - A byte is a number below 256, a character its scalar value.
+- The bound on the work is in the report: `least` and `most` bound the calls of decoders and encoders, `fewest_calls` by what was read, malformed and lost, `most_calls` by what was read alone.
 - What is proved is what the contracts say. Whether these definitions say what the standards say is for a reader to judge: hence this page. Each number in them has a row worked by hand, in `specs/examples` of its crate.
 """
 

@@ -7,7 +7,9 @@
 - Lines of `src/` over 100 columns: no more than `tools/long_lines` says, and that number is today's, so it only falls.
 - No function has more clauses than `tools/most_clauses` says, and that number is today's, so it only falls; no contract
   has more than 30 lines.
-- `docs/DEFINITIONS.md` names each file of definitions, and no other, and says of each what it says of itself.
+- Each definition of `specs/` has a line of its own above it. None has a name of the standard library's, and a function
+  of the code that has the name of one cites it in its contract.
+- `docs/DEFINITIONS.md` is what `tools/definitions_page.py` writes.
 - Each edit of `must-fail/` and `edits/` names a file, and each text that it replaces stands in it once.
 - `docs/reference/edits.md` is what `tools/edits_table.py` writes, and each edit that `tools/wrong_bodies.toml` names is
   there.
@@ -23,11 +25,14 @@
 import collections
 import os
 import re
+import shutil
 import subprocess
 import sys
 
 sys.dont_write_bytecode = True
 
+import definitions
+import definitions_page
 import edits_table
 import headline
 import reference
@@ -56,11 +61,16 @@ def read(path):
 def files(folder, ending):
     """The files with an ending in each crate's folder of that name and in the folders below it."""
     for crate in sorted(os.listdir(CRATES)):
-        for place, folders, names in os.walk(os.path.join(CRATES, crate, folder)):
-            folders.sort()
-            for name in sorted(names):
-                if name.endswith(ending):
-                    yield os.path.relpath(os.path.join(place, name), TOP)
+        yield from files_of(crate, folder, ending)
+
+
+def files_of(crate, folder, ending):
+    """Those of one crate."""
+    for place, folders, names in os.walk(os.path.join(CRATES, crate, folder)):
+        folders.sort()
+        for name in sorted(names):
+            if name.endswith(ending):
+                yield os.path.relpath(os.path.join(place, name), TOP)
 
 
 def double_names():
@@ -118,29 +128,46 @@ def most_clauses():
         yield "no function has more than %d clauses: write this number to tools/most_clauses" % most
 
 
-def unnamed_definitions():
-    """The files of `specs/` itself are what has to be read to trust a claim; those of crates of tests are not."""
-    there = {
-        path
-        for path in files("specs", ".antt")
-        if path.count("/") == 3 and not path.split("/")[1].endswith("_tests")
-        if os.path.basename(path) not in ("Lib.antt", "laws.antt", "examples.antt")
-    }
-    named = set(re.findall(r"\(\.\./(crates/[^)]*\.antt)\)", read(os.path.join(TOP, "docs", "DEFINITIONS.md"))))
-    for path in sorted(there - named):
-        yield "docs/DEFINITIONS.md does not name %s" % path
-    for path in sorted(named - there):
-        yield "docs/DEFINITIONS.md names %s, which is no file of definitions" % path
+def definitions_of_specs():
+    """The definitions of the libraries' `specs/`, theorems and worked rows apart."""
+    found, _ = definitions.definitions([crate for crate, _ in definitions_page.PARTS])
+    return [definition for (path, _), definition in found.items() if "/laws/" not in path]
 
 
-def stale_definitions():
-    """A row of docs/DEFINITIONS.md begins with what its file begins with."""
-    row = re.compile(r"^\| \[[^]]*\]\(\.\./(crates/[^)]*\.antt)\) \| (.*) \|$", re.M)
-    for path, said in row.findall(read(os.path.join(TOP, "docs", "DEFINITIONS.md"))):
-        head = re.match(r"(?:--.*\n)*", read(os.path.join(TOP, path))).group()
-        opens = " ".join(line[2:].strip() for line in head.splitlines())
-        if not said.startswith(opens.rstrip(".")):
-            yield "docs/DEFINITIONS.md does not say of %s what it says of itself" % path
+def undescribed():
+    """Each definition has a line of its own above it."""
+    for definition in definitions_of_specs():
+        if not definition.comment and DEFINITION.match(definition.source[0]):
+            yield "%s:%d: %s has no line above it" % (definition.path, definition.line, definition.name)
+
+
+def taken_names():
+    """No definition takes a name of the standard library's: where both are meant, a reader would not know which."""
+    kit = os.path.join(os.path.dirname(os.path.realpath(shutil.which("rt") or "rt")), "..", "rattle")
+    taken = set()
+    for part in ("core", "std"):
+        for place, _, names in os.walk(os.path.join(kit, part, "specs")):
+            for name in names:
+                if name.endswith(".antt"):
+                    lines = map(DEFINITION.match, read(os.path.join(place, name)).split("\n"))
+                    taken.update(line.group(1) for line in lines if line)
+    for definition in definitions_of_specs():
+        if definition.name in taken:
+            yield "%s:%d: %s is a name of the standard library's" % (definition.path, definition.line, definition.name)
+
+
+def shared_names():
+    """A function of the code that has the name of a definition says so: its contract cites the definition. One without a
+    contract is left out, as a function of a trait is where it is implemented: the trait has its contract."""
+    words = {definition.name for definition in definitions_of_specs()}
+    for crate, _ in definitions_page.PARTS:
+        for path in files_of(crate, "src", ".rt"):
+            text = read(os.path.join(TOP, path))
+            for function in re.finditer(r"^ *(?:pub(?:\(\w+\))? )?(?:const )?fn (\w+)([^;]*?)(?:;|^ *\{$)", text, re.M | re.S):
+                name, contract = function.groups()
+                clauses = re.search(r"\b(?:requires|ensures)\b.*", contract, re.S)
+                if name in words and clauses and not re.search(r"(?<![\w-])%s(?![\w-])" % name, clauses.group()):
+                    yield "%s: %s has the name of a definition that its contract does not cite" % (path, name)
 
 
 def edit_faults(path):
@@ -221,8 +248,10 @@ CHECKS = (
     double_names,
     long_lines,
     most_clauses,
-    unnamed_definitions,
-    stale_definitions,
+    undescribed,
+    taken_names,
+    shared_names,
+    definitions_page.faults,
     edits,
     wrong_bodies,
     edits_page,

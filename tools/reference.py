@@ -204,6 +204,8 @@ def public_words():
 
 
 WORDS = public_words()
+# The words of the prose, each with the term of the field.
+TERMS = os.path.join(TOP, "tools", "terms.md")
 
 
 def brought(place):
@@ -258,7 +260,8 @@ def contents(found, crate):
 def word_page(used):
     """The page of the words that some contracts use."""
     lines = ["# Words", "", "<!-- Written by tools/reference.py from the sources; do not edit. -->", ""]
-    lines += ["The definitions that contracts of public functions cite, with the line above each, and its place. What the headline stands on is on one page: [HEADLINE.md](../HEADLINE.md).", ""]
+    lines += ["What the words mean, first those of the prose ([Terms](#terms)), then the [definitions](#definitions) that contracts of public functions cite, with the line above each, and its place. What the headline stands on is on one page: [HEADLINE.md](../HEADLINE.md).", ""]
+    lines += ["## Terms", "", read(TERMS).rstrip("\n"), "", "## Definitions", ""]
     lines += ["| Word | What it is | Place |", "|---|---|---|"]
     for word in sorted(used, key=lambda word: (word.lower(), word)):
         lines.append('| <a id="%s"></a>`%s` | %s | %s |' % (word, word, WORDS[word].meaning(), WORDS[word].link("../../")))
@@ -330,7 +333,7 @@ def pages():
         yield crate + ".md", re.sub(r"\n{3,}", "\n\n", "\n".join(lines)).rstrip("\n") + "\n"
         index.append("- [`%s`](%s.md): %s" % (crate, crate, " ".join(page).split(". ")[0].rstrip(".") + "."))
     yield "words.md", word_page(used)
-    index.append("- [Words](words.md): the definitions that contracts cite, each with its line and its place.")
+    index.append("- [Words](words.md): the terms of the prose, and the definitions that contracts cite, each with its line and its place.")
     index.append("- [Wrong bodies](edits.md): the edits that the prover has to refuse, by function.")
     yield "README.md", "\n".join(index) + "\n"
 

@@ -6,7 +6,7 @@ use Rattle.std.specs.Option.{unwrap_or}
 use Rattle.std.proofs.lemmas.Bool.{eqb-true, ne_eqb, and_parts, or_cases, or_parts}
 use Rattle.std.proofs.lemmas.List.{append-nil, take_all}
 use Rattle.encoding_mem.specs.Piece.{Piece, well_formed, malformed, piece_len}
-use Rattle.encoding_mem.specs.DecoderRule.{TellsFirstPiece, IsModest}
+use Rattle.encoding_mem.specs.calls.DecoderRule.{TellsFirstPiece, IsModest}
 use Rattle.encoding_mem.specs.Pieces.{pieces_in}
 use Rattle.encoding_mem.specs.laws.Shows.{Shows, Awaits, SettlesMode, shows_first_piece_in, broken_then_well_formed, well_formed_then_broken}
 use Rattle.encoding_mem.specs.declared.first_piece.FirstPiece.{FirstPiece}
@@ -21,13 +21,14 @@ use Rattle.std.specs.Char.{len_utf8}
 use Rattle.std.specs.Str.{chars, IsAscii}
 use Rattle.std.proofs.lemmas.Bool.Decides.{nat_tests}
 use Rattle.std.proofs.lemmas.Str.{chars-IsAscii, len_utf8_ascii}
-use Rattle.encoding_mem.specs.Decoding.{AreBytes, DecoderState}
+use Rattle.encoding_mem.specs.calls.Decoding.{DecoderState}
 use Rattle.encoding_mem.specs.Iso2022JpAscii.{IsIso2022JpAscii, IsIso2022JpAsciiByte}
 use Rattle.encoding_mem.specs.laws.Pieces.{pieces_in-cons}
-use Rattle.encoding_mem.specs.DecodedLength.{is_units, decoded_length, decoded_length_multibyte}
-use Rattle.encoding_mem.specs.Text.{text_pieces, text_len}
+use Rattle.encoding_mem.specs.calls.DecodedLength.{is_units, decoded_length, decoded_length_multibyte}
+use Rattle.encoding_mem.specs.calls.TextRun.{text_pieces, text_len}
 use Rattle.encoding_mem.specs.declared.room.OutputUnit.{OutputUnit}
 use Rattle.encoding_mem.specs.declared.room.OutputUnit.TheVariants.{Units, Bytes, Replaced}
+use Rattle.encoding_mem.specs.Decided.{AreBytes}
 
 -- ---- escapes
 

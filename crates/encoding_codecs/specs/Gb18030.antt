@@ -13,39 +13,41 @@ use Rattle.encoding_codecs.specs.declared.lead_byte_rule.FirstByte.TheVariants.{
 use Rattle.encoding_codecs.specs.declared.two_byte.PairValue.{PairValue}
 use Rattle.encoding_codecs.specs.declared.two_byte.PairValue.TheVariants.{NoChar}
 
--- 80 is the euro sign, 81 to FE begin a form of two or of four bytes
+-- what a first byte from 80 on is in gb18030: 80 is the euro sign, 81 to FE a lead, FF unused
 abbrev pub gb18030_first : ℕ → FirstByte
 gb18030_first a = if a == 0x80 then Alone 0x20AC else (if is_in_range 0x81 0xFE a then Lead else Unused)
 
 -- what gb18030 subtracts from a trail for its pointer ("offset"): 40 if it is below 7F, else 41
-abbrev pub trail_offset : ℕ → ℕ
-trail_offset b = if nat_lt b 0x7F then 0x40 else 0x41
+abbrev pub gb18030_trail_offset : ℕ → ℕ
+gb18030_trail_offset b = if nat_lt b 0x7F then 0x40 else 0x41
 
 -- the pointer of a lead and a trail in index gb18030: a lead has 190 trails, 40 to 7E and 80 to FE
-abbrev pub pair_pointer : ℕ → ℕ → ℕ
-pair_pointer a b = (a - 0x81) * 190 + (b - trail_offset b)
+abbrev pub gb18030_pair_pointer : ℕ → ℕ → ℕ
+gb18030_pair_pointer a b = (a - 0x81) * 190 + (b - gb18030_trail_offset b)
 
--- what a lead and a trail give
+-- what a lead and the byte after it give in gb18030, by its index: one character, or none
 abbrev pub gb18030_pair : List ℕ → ℕ → ℕ → PairValue
-gb18030_pair flat a b = if is_in_range 0x40 0x7E b || is_in_range 0x80 0xFE b then value_of_entry (value_of flat (pair_pointer a b)) else NoChar
+gb18030_pair flat a b = if is_in_range 0x40 0x7E b || is_in_range 0x80 0xFE b then value_of_entry (value_of flat (gb18030_pair_pointer a b)) else NoChar
 
--- the pointer of four bytes: the second and the fourth have 10 values each, the third 126
-abbrev pub four_pointer : ℕ → ℕ → ℕ → ℕ → ℕ
-four_pointer a b c d = (a - 0x81) * 12600 + (b - 0x30) * 1260 + (c - 0x81) * 10 + (d - 0x30)
+-- the pointer of four bytes in index gb18030 ranges: the second and the fourth have 10 values
+-- each, the third 126
+abbrev pub gb18030_four_pointer : ℕ → ℕ → ℕ → ℕ → ℕ
+gb18030_four_pointer a b c d = (a - 0x81) * 12600 + (b - 0x30) * 1260 + (c - 0x81) * 10 + (d - 0x30)
 
--- The piece that three bytes of a form of four begin. If the next is not 30 to 39, the first is
--- malformed alone, and those after it are read again. If the input ends, all three are malformed.
+-- The piece that three bytes of a form of four begin in gb18030: four bytes, by the ranges, if 30
+-- to 39 is next. If another is, the first is malformed alone. If the input ends, all three are.
 abbrev pub gb18030_after_three : List (ℕ × ℕ) → ℕ → ℕ → ℕ → List ℕ → Piece
 gb18030_after_three rows a b c [] = malformed 3
-gb18030_after_three rows a b c (d ∷ x) = if is_in_range 0x30 0x39 d then piece_of_scalar 4 (range_value rows (four_pointer a b c d)) else malformed 1
+gb18030_after_three rows a b c (d ∷ x) = if is_in_range 0x30 0x39 d then piece_of_scalar 4 (range_value rows (gb18030_four_pointer a b c d)) else malformed 1
 
--- The piece that two bytes of a form of four begin. If the next is not 81 to FE, the first is
--- malformed alone, and those after it are read again. If the input ends, both are malformed.
+-- The piece that two bytes of a form of four begin in gb18030: that of three if 81 to FE is next.
+-- If another is, the first is malformed alone. If the input ends, both are malformed.
 abbrev pub gb18030_after_two : List (ℕ × ℕ) → ℕ → ℕ → List ℕ → Piece
 gb18030_after_two rows a b [] = malformed 2
 gb18030_after_two rows a b (c ∷ x) = if is_in_range 0x81 0xFE c then gb18030_after_three rows a b c x else malformed 1
 
--- the piece that a lead of gb18030 begins: read as four bytes if 30 to 39 is next, else as two
+-- the piece that a lead of gb18030 begins: read as four bytes if 30 to 39 is next, else as two,
+-- and malformed if none is next
 abbrev pub gb18030_after_lead : List ℕ → List (ℕ × ℕ) → ℕ → List ℕ → Piece
 gb18030_after_lead flat rows a [] = malformed 1
 gb18030_after_lead flat rows a (b ∷ x) = if is_in_range 0x30 0x39 b then gb18030_after_two rows a b x else piece_of_trail 1 (gb18030_pair flat a b) b

@@ -12,19 +12,20 @@ use Rattle.encoding_codecs.specs.JisForms.{is_katakana, folded}
 
 -- ---- the bytes of a character
 
--- What is looked up for a character: U+FF0D for U+2212, and entry k of the katakana for U+FF61 + k.
+-- what ISO-2022-JP looks up in jis0208 for a character, if anything: for U+FF61 + k up to U+FF9F
+-- entry k of iso-2022-jp-katakana, for U+2212 U+FF0D, else itself
 abbrev pub looked_up : List ℕ → ℕ → Option ℕ
 looked_up katakana c = if is_katakana c then value_of katakana (c - 0xFF61) else Some (folded c)
 
 -- the least jis0208 pointer below 8836 of what ISO-2022-JP looks up for a character, if it has one
-abbrev pub pointer_of_char : List ℕ → List ℕ → ℕ → Option ℕ
-pointer_of_char jis0208 katakana c = option_and_then (λ d. first_pointer jis0208 d 0 8836) (looked_up katakana c)
+abbrev pub iso_2022_jp_pointer : List ℕ → List ℕ → ℕ → Option ℕ
+iso_2022_jp_pointer jis0208 katakana c = option_and_then (λ d. first_pointer jis0208 d 0 8836) (looked_up katakana c)
 
--- the two bytes of a pointer
+-- the two bytes of a jis0208 pointer in ISO-2022-JP, each from 21 on: 94 for each first byte
 abbrev pub iso_2022_jp_pair_bytes : ℕ → List ℕ
 iso_2022_jp_pair_bytes p = (0x21 + p / 94) ∷ (0x21 + p % 94) ∷ []
 
--- The three controls that a reader of ISO-2022-JP takes for shifts and escapes are reported as U+FFFD.
+-- the form of an ASCII character in ISO-2022-JP: itself, but U+FFFD is reported for 0E, 0F and 1B
 abbrev pub ascii_form : ℕ → Form
 ascii_form c = if c == 0x0E || c == 0x0F || c == 0x1B then Unmapped 0xFFFD else Mapped (c ∷ [])
 
@@ -32,31 +33,32 @@ ascii_form c = if c == 0x0E || c == 0x0F || c == 0x1B then Unmapped 0xFFFD else 
 abbrev pub iso_2022_jp_form : List ℕ → List ℕ → ℕ → Form
 iso_2022_jp_form jis0208 katakana c = if nat_lt c 0x80 then ascii_form c
     else (if c == 0xA5 then Mapped (0x5C ∷ []) else (if c == 0x203E then Mapped (0x7E ∷ [])
-    else form_of_bytes c (option_map iso_2022_jp_pair_bytes (pointer_of_char jis0208 katakana c))))
+    else form_of_bytes c (option_map iso_2022_jp_pair_bytes (iso_2022_jp_pointer jis0208 katakana c))))
 
 -- ---- the sets
 
--- two sets of the encoder are equal: both ASCII, both Roman, or both JIS X 0208
-abbrev pub is_set : EscapeState → EscapeState → Bool
-is_set Ascii Ascii = true
-is_set Roman Roman = true
-is_set Jis Jis = true
-is_set _ _ = false
+-- two sets of an encoder of ISO-2022-JP are equal: both ASCII, both Roman, or both JIS X 0208
+abbrev pub is_same_set : EscapeState → EscapeState → Bool
+is_same_set Ascii Ascii = true
+is_same_set Roman Roman = true
+is_same_set Jis Jis = true
+is_same_set _ _ = false
 
--- the sets in which a character may be written, and the one that is taken where another set is in force
+-- the sets that a character may have in ISO-2022-JP, and the one taken if none of them is in force
 pub record Sets : Type 0 where
   pub allows : EscapeState → Bool
   pub default : EscapeState
 
 -- the sets of a character that is in one set alone, to which an encoder changes from any other
 abbrev pub only : EscapeState → Sets
-only s = record { allows = is_set s; default = s }
+only s = record { allows = is_same_set s; default = s }
 
 -- the sets ASCII and Roman: either stays if it is in force, and ASCII is taken if JIS X 0208 is
 abbrev pub ascii_or_roman : Sets
-ascii_or_roman = record { allows = λ s. not (is_set Jis s); default = Ascii }
+ascii_or_roman = record { allows = λ s. not (is_same_set Jis s); default = Ascii }
 
--- a set stays where it may
+-- the set in which a character is written in ISO-2022-JP, by its sets and the set in force: the
+-- set in force if that is among them, else their default
 abbrev pub set_after : Sets → EscapeState → EscapeState
 set_after sets s = if sets.allows s then s else sets.default
 
@@ -65,10 +67,11 @@ abbrev pub sets_of_pointer : Option ℕ → Sets
 sets_of_pointer None = ascii_or_roman
 sets_of_pointer (Some p) = only Jis
 
--- Roman has other characters at 5C and 7E. What has no bytes is reported in ASCII or in Roman.
+-- The sets of a character in ISO-2022-JP: ASCII for 5C and 7E, ASCII or Roman for the rest of
+-- ASCII, Roman for U+00A5 and U+203E, else JIS X 0208, but ASCII or Roman if it is unmappable.
 abbrev pub iso_2022_jp_sets : List ℕ → List ℕ → ℕ → Sets
 iso_2022_jp_sets jis0208 katakana c = if nat_lt c 0x80 then (if c == 0x5C || c == 0x7E then only Ascii else ascii_or_roman)
-    else (if c == 0xA5 || c == 0x203E then only Roman else sets_of_pointer (pointer_of_char jis0208 katakana c))
+    else (if c == 0xA5 || c == 0x203E then only Roman else sets_of_pointer (iso_2022_jp_pointer jis0208 katakana c))
 
 -- the escape to a set: 1B 28 42 to ASCII, 1B 28 4A to Roman, 1B 24 42 to JIS X 0208
 abbrev pub iso_2022_jp_escape_to : EscapeState → List ℕ
@@ -78,7 +81,7 @@ iso_2022_jp_escape_to Jis = 0x1B ∷ 0x24 ∷ 0x42 ∷ []
 
 -- the escape from one set to another: three bytes, or none if the two are equal
 abbrev pub iso_2022_jp_escape : EscapeState → EscapeState → List ℕ
-iso_2022_jp_escape s s' = if is_set s s' then [] else iso_2022_jp_escape_to s'
+iso_2022_jp_escape s s' = if is_same_set s s' then [] else iso_2022_jp_escape_to s'
 
 -- the "ISO-2022-JP encoder" (section 12.2.2): form and set of each character, escapes between sets
 abbrev pub iso_2022_jp_coding : List ℕ → List ℕ → Coding

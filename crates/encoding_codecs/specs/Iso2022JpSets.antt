@@ -6,7 +6,7 @@ use Rattle.encoding_mem.specs.declared.form.EscapeState.TheVariants.{Ascii, Roma
 use Rattle.encoding_codecs.specs.Iso2022Jp.{ascii_mode, roman_mode, jis_mode, pieces_in_mode}
 use Rattle.encoding_codecs.specs.declared.iso_2022_jp_decoder.Mode.{Mode}
 
--- the mode to which the escape to a set switches
+-- the mode of a decoder of ISO-2022-JP to which the escape to an encoder's set switches
 abbrev pub mode_of : EscapeState → Mode
 mode_of Ascii = ascii_mode
 mode_of Roman = roman_mode

@@ -2,7 +2,7 @@
 use Rattle.std.specs.Prelude.{ℕ, ◌+◌, ◌-◌, ◌==◌, Bool, if◌then◌else◌}
 use Rattle.std.specs.Int.{is_in_range}
 
--- the bytes of halfwidth katakana, A1 to DF
+-- the bytes of halfwidth katakana in Shift_JIS, and after 8E in EUC-JP: A1 to DF
 abbrev pub is_katakana_byte : ℕ → Bool
 is_katakana_byte b = is_in_range 0xA1 0xDF b
 
@@ -18,6 +18,6 @@ is_katakana c = is_in_range 0xFF61 0xFF9F c
 abbrev pub byte_of_katakana : ℕ → ℕ
 byte_of_katakana c = 0xA1 + (c - 0xFF61)
 
--- the character that is looked up: MINUS SIGN as FULLWIDTH HYPHEN-MINUS
+-- the character that is looked up in jis0208 for another: U+FF0D for U+2212, and any other itself
 abbrev pub folded : ℕ → ℕ
 folded c = if c == 0x2212 then 0xFF0D else c

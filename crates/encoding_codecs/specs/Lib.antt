@@ -4,14 +4,12 @@ pub mod EucKr
 pub mod Big5
 pub mod JisForms
 pub mod ShiftJis
-pub mod ShiftJisPointers
-pub mod TwoByteRule
 pub mod EucJp
 pub mod Gb18030
 pub mod Gb18030Coding
 pub mod Iso2022Jp
 pub mod Iso2022JpForms
-pub mod JisPointers
 pub mod Iso2022JpSets
+pub mod calls
 pub mod laws
 pub mod examples

@@ -10,8 +10,8 @@ use Rattle.encoding_codecs.specs.declared.lead_byte_rule.FirstByte.TheVariants.{
 use Rattle.encoding_codecs.specs.declared.two_byte.PairValue.{PairValue}
 use Rattle.encoding_codecs.specs.declared.two_byte.PairValue.TheVariants.{NoChar, OneChar, TwoChars}
 
--- The first piece of bytes, by what a first byte from 80 on is, and by the piece that a lead begins with the bytes
--- behind it.
+-- the first piece of bytes that begin with one from 80 on: that byte with its character if it is
+-- one alone, that byte malformed if it is unused, or a given piece if it is a lead
 abbrev pub piece_of_first : FirstByte → Piece → Piece
 piece_of_first (Alone c) piece = well_formed 1 (c ∷ [])
 piece_of_first Lead piece = piece
@@ -23,17 +23,20 @@ abbrev pub first_piece_by_lead : (ℕ → FirstByte) → (ℕ → List ℕ → P
 first_piece_by_lead first after [] = malformed 1
 first_piece_by_lead first after (a ∷ x) = if nat_lt a 0x80 then well_formed 1 (a ∷ []) else piece_of_first (first a) (after a x)
 
--- The piece of n bytes that want a trail, with the byte b behind them, where together they have this value.
+-- The piece of n bytes that want a trail, and of b, the next byte: it gives their one or two
+-- characters. If they have none, it is malformed, with b in it unless b is ASCII.
 abbrev pub piece_of_trail : ℕ → PairValue → ℕ → Piece
 piece_of_trail n NoChar b = if nat_lt b 0x80 then malformed n else malformed (n + 1)
 piece_of_trail n (OneChar c) b = well_formed (n + 1) (c ∷ [])
 piece_of_trail n (TwoChars c d) b = well_formed (n + 1) (c ∷ d ∷ [])
 
--- The piece of n bytes that want a trail, with what is behind them, by the values of the trails.
+-- the piece that n bytes begin which want a trail: malformed if no byte follows, else by what the
+-- next byte gives with them
 abbrev pub after_bytes : ℕ → (ℕ → PairValue) → List ℕ → Piece
 after_bytes n value [] = malformed n
 after_bytes n value (b ∷ x) = piece_of_trail n (value b) b
 
--- the first piece of one or more bytes by the rule of an encoding of one and two bytes
+-- the first piece of one or more bytes in an encoding of one and two bytes, by what a first byte
+-- from 80 on is, and by what a lead and the byte after it give: ASCII gives itself
 abbrev pub first_piece_two_byte : (ℕ → FirstByte) → (ℕ → ℕ → PairValue) → List ℕ → Piece
 first_piece_two_byte first pair = first_piece_by_lead first (λ a. after_bytes 1 (pair a))

@@ -26,3 +26,5 @@ pub mod Steps
 pub mod EncodedLengths
 pub mod TwoByteDecide
 pub mod TwoByte
+pub mod ShiftJisPointers
+pub mod JisPointerLaws

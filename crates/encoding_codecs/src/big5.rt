@@ -1,20 +1,23 @@
 //! Big5 (the Encoding Standard, section 11.1).
 
 ghost use Rattle.std.specs.Prelude.{◌≡◌, ◌+◌, ◌-◌, ◌*◌, ◌/◌, ◌%◌, ◌<◌, [], true, IfSome};
-ghost use Rattle.encoding_mem.specs.Decoding.{IsFreshDecoder};
-ghost use Rattle.encoding_mem.specs.DecodedLength.{decoded_length_multibyte};
-ghost use Rattle.encoding_mem.specs.EncoderRule.{IsFreshEncoder};
-ghost use Rattle.encoding_mem.specs.EncodedLength.{encoded_length_two_byte};
+ghost use Rattle.encoding_mem.specs.calls.Decoding.{IsFreshDecoder};
+ghost use Rattle.encoding_mem.specs.calls.DecodedLength.{decoded_length_multibyte};
+ghost use Rattle.encoding_mem.specs.calls.EncoderRule.{IsFreshEncoder};
+ghost use Rattle.encoding_mem.specs.calls.EncodedLength.{encoded_length_two_byte};
 ghost use Rattle.encoding_mem.specs.Stateless.{stateless};
-ghost use Rattle.encoding_tables.specs.IndexLists.{has, entries_of};
+ghost use Rattle.encoding_tables.specs.IndexLists.{has, index_entries};
 ghost use Rattle.encoding_tables.specs.Lookups.{AreEntries};
-ghost use Rattle.encoding_codecs.specs.Big5.{big5_is_trail, big5_value, pieces_big5, takes_last, big5_find, big5_trail, big5_bytes, big5_form, big5_first, big5_pair};
+ghost use Rattle.encoding_codecs.specs.Big5.{is_big5_trail, big5_value, pieces_big5};
+ghost use Rattle.encoding_codecs.specs.Big5.{takes_greatest_pointer, index_big5_pointer};
+ghost use Rattle.encoding_codecs.specs.Big5.{big5_trail, big5_pair_bytes, big5_form, big5_first};
+ghost use Rattle.encoding_codecs.specs.Big5.{big5_pair};
 ghost use Rattle.encoding_codecs.specs.laws.TwoByte.{two_byte_rule};
 ghost use Rattle.encoding_codecs.specs.laws.TwoByteDecide.{lead_rule_of};
 ghost use Rattle.encoding_codecs.specs.laws.Big5.{big5_is_two_byte, big5_laws};
 ghost use Rattle.encoding_codecs.specs.laws.Pointers.{ascii_by_pointer};
 ghost use Rattle.encoding_codecs.specs.laws.EncodedLengths.{two_byte_fits};
-ghost use Rattle.encoding_codecs.specs.TwoByteRule.{big5_rule};
+ghost use Rattle.encoding_codecs.specs.calls.TwoByteRule.{big5_rule};
 
 use crate::codec_decoder::CodecDecoder;
 use crate::lead_byte_rule::{FirstByte, LeadByteDecoderRule, LeadByteRule};
@@ -72,7 +75,7 @@ impl<'a> Big5<'a> {
 // processor can't foresee it.
 #[inline(always)]
 fn is_trail(byte: u8) -> bool
-    ensures { result ≡ big5_is_trail byte }
+    ensures { result ≡ is_big5_trail byte }
 {
     byte >= 0x40 && byte <= 0xFE && (byte < 0x7F || byte > 0xA0)
 }
@@ -80,7 +83,7 @@ fn is_trail(byte: u8) -> bool
 // Whether a character that stands at two pointers is written by the last.
 #[inline(always)]
 fn takes_last(c: char) -> bool
-    ensures { result ≡ takes_last c }
+    ensures { result ≡ takes_greatest_pointer c }
 {
     c == '\u{2550}'
         || c == '\u{255E}'
@@ -138,7 +141,7 @@ impl<'a> CodecDecoder<LeadByteDecoderRule<Big5<'a>>> {
     pub fn new(tables: &'a Tables) -> Self
         requires { has tables.now IndexKind.Big5 ≡ true }
         ensures { IsFreshDecoder (⟦<Big5Decoder<'a> as RawDecoder>⟧.state result)
-            (pieces_big5 (entries_of tables.now IndexKind.Big5)) decoded_length_multibyte }
+            (pieces_big5 (index_entries tables.now IndexKind.Big5)) decoded_length_multibyte }
     {
         CodecDecoder::of_rule(LeadByteDecoderRule::new(Big5 {
             flat: tables.flat(IndexKind::Big5),
@@ -161,7 +164,7 @@ impl<'a> Big5Encoder<'a> {
     pub fn new(tables: &'a Tables) -> Self
         requires { has tables.now IndexKind.Big5 ≡ true }
         ensures { IsFreshEncoder (⟦<Big5Encoder<'a> as SourceEncoder>⟧.parts result) 2
-            (stateless (big5_form (entries_of tables.now IndexKind.Big5)))
+            (stateless (big5_form (index_entries tables.now IndexKind.Big5)))
             encoded_length_two_byte }
     {
         Big5Encoder {
@@ -172,7 +175,7 @@ impl<'a> Big5Encoder<'a> {
     // The pointer that is written for a character.
     #[inline(always)]
     fn pointer_of(&self, c: char) -> Option<u32>
-        ensures pointer { result ≡ big5_find self.now.flat c }
+        ensures pointer { result ≡ index_big5_pointer self.now.flat c }
         ensures before { IfSome result (λ p. p < 19782) }
     {
         if takes_last(c) {
@@ -192,9 +195,9 @@ impl<'a> StatelessRule for Big5Encoder<'a> {
 
     ghost laws = { λ e. big5_laws e.flat };
 
-    ghost fits = { λ e. two_byte_fits (big5_form e.flat) (big5_laws e.flat) (ascii_by_pointer big5_bytes (big5_find e.flat)) };
+    ghost fits = { λ e. two_byte_fits (big5_form e.flat) (big5_laws e.flat) (ascii_by_pointer big5_pair_bytes (index_big5_pointer e.flat)) };
 
-    ghost ascii = { λ e. ascii_by_pointer big5_bytes (big5_find e.flat) };
+    ghost ascii = { λ e. ascii_by_pointer big5_pair_bytes (index_big5_pointer e.flat) };
 
     #[inline(always)]
     fn form_of(&self, c: char) -> Form {

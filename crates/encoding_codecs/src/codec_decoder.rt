@@ -1,6 +1,6 @@
 //! The one type of this crate's decoders, with the rule of each encoding inside.
 
-ghost use Rattle.encoding_mem.specs.Decoding.{IsFreshDecoder, ReadsByRule};
+ghost use Rattle.encoding_mem.specs.calls.Decoding.{IsFreshDecoder, ReadsByRule};
 
 use encoding_mem::DecoderResult;
 use encoding_mem::first_piece::DecoderRule;

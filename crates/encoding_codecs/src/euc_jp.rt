@@ -1,14 +1,16 @@
 //! EUC-JP (the Encoding Standard, section 12.1).
 
 ghost use Rattle.std.specs.Prelude.{◌≡◌, ◌≢◌, ◌<◌, true};
-ghost use Rattle.encoding_mem.specs.Decoding.{IsFreshDecoder};
-ghost use Rattle.encoding_mem.specs.DecodedLength.{decoded_length_multibyte};
-ghost use Rattle.encoding_mem.specs.EncoderRule.{IsFreshEncoder};
-ghost use Rattle.encoding_mem.specs.EncodedLength.{encoded_length_two_byte};
+ghost use Rattle.encoding_mem.specs.calls.Decoding.{IsFreshDecoder};
+ghost use Rattle.encoding_mem.specs.calls.DecodedLength.{decoded_length_multibyte};
+ghost use Rattle.encoding_mem.specs.calls.EncoderRule.{IsFreshEncoder};
+ghost use Rattle.encoding_mem.specs.calls.EncodedLength.{encoded_length_two_byte};
 ghost use Rattle.encoding_mem.specs.Stateless.{stateless};
-ghost use Rattle.encoding_tables.specs.IndexLists.{has, entries_of};
+ghost use Rattle.encoding_tables.specs.IndexLists.{has, index_entries};
 ghost use Rattle.encoding_tables.specs.Lookups.{AreEntries};
-ghost use Rattle.encoding_codecs.specs.EucJp.{is_pointer_byte, euc_jp_first, euc_pair, euc_jp_pair, euc_jp_after, pieces_euc_jp, own_bytes, euc_jp_pair_bytes, euc_jp_char_bytes, euc_jp_form};
+ghost use Rattle.encoding_codecs.specs.EucJp.{is_pointer_byte, euc_jp_first, euc_pair, euc_jp_pair};
+ghost use Rattle.encoding_codecs.specs.EucJp.{euc_jp_after, pieces_euc_jp, euc_jp_own_bytes};
+ghost use Rattle.encoding_codecs.specs.EucJp.{euc_jp_pair_bytes, euc_jp_char_bytes, euc_jp_form};
 ghost use Rattle.encoding_codecs.specs.laws.EucJpDecide.{decide_8f, decide_euc_jp};
 ghost use Rattle.encoding_codecs.specs.laws.EucJp.{euc_jp_is_lead_rule, euc_jp_ascii, euc_jp_laws};
 ghost use Rattle.encoding_codecs.specs.laws.EncodedLengths.{two_byte_fits};
@@ -137,7 +139,8 @@ impl<'a> CodecDecoder<LeadByteDecoderRule<EucJpLeads<'a>>> {
         requires jis0208 { has tables.now IndexKind.Jis0208 ≡ true }
         requires jis0212 { has tables.now IndexKind.Jis0212 ≡ true }
         ensures { IsFreshDecoder (⟦<EucJpDecoder<'a> as RawDecoder>⟧.state result)
-            (pieces_euc_jp (entries_of tables.now IndexKind.Jis0208) (entries_of tables.now IndexKind.Jis0212))
+            (pieces_euc_jp (index_entries tables.now IndexKind.Jis0208)
+                (index_entries tables.now IndexKind.Jis0212))
             decoded_length_multibyte }
     {
         CodecDecoder::of_rule(LeadByteDecoderRule::new(EucJpLeads {
@@ -164,7 +167,7 @@ fn bytes_of_char(jis0208: &Flat<'_>, c: char) -> Option<Bytes>
 // The bytes of a character that is not looked up.
 #[inline(always)]
 fn own_bytes(c: char) -> Option<Bytes>
-    ensures { result ≡ own_bytes c }
+    ensures { result ≡ euc_jp_own_bytes c }
 {
     if c < '\u{80}' {
         Some(Bytes::one(c as u8))
@@ -203,7 +206,7 @@ impl<'a> EucJpEncoder<'a> {
     pub fn new(tables: &'a Tables) -> Self
         requires { has tables.now IndexKind.Jis0208 ≡ true }
         ensures { IsFreshEncoder (⟦<EucJpEncoder<'a> as SourceEncoder>⟧.parts result) 2
-            (stateless (euc_jp_form (entries_of tables.now IndexKind.Jis0208)))
+            (stateless (euc_jp_form (index_entries tables.now IndexKind.Jis0208)))
             encoded_length_two_byte }
     {
         EucJpEncoder {

@@ -1,20 +1,21 @@
 //! EUC-KR (the Encoding Standard, section 13.1).
 
 ghost use Rattle.std.specs.Prelude.{◌≡◌, ◌+◌, ◌-◌, ◌*◌, ◌/◌, ◌%◌, ◌<◌, [], true};
-ghost use Rattle.encoding_mem.specs.Decoding.{IsFreshDecoder};
-ghost use Rattle.encoding_mem.specs.DecodedLength.{decoded_length_multibyte};
-ghost use Rattle.encoding_mem.specs.EncoderRule.{IsFreshEncoder};
-ghost use Rattle.encoding_mem.specs.EncodedLength.{encoded_length_two_byte};
+ghost use Rattle.encoding_mem.specs.calls.Decoding.{IsFreshDecoder};
+ghost use Rattle.encoding_mem.specs.calls.DecodedLength.{decoded_length_multibyte};
+ghost use Rattle.encoding_mem.specs.calls.EncoderRule.{IsFreshEncoder};
+ghost use Rattle.encoding_mem.specs.calls.EncodedLength.{encoded_length_two_byte};
 ghost use Rattle.encoding_mem.specs.Stateless.{stateless};
-ghost use Rattle.encoding_tables.specs.IndexLists.{has, entries_of};
+ghost use Rattle.encoding_tables.specs.IndexLists.{has, index_entries};
 ghost use Rattle.encoding_tables.specs.Lookups.{AreEntries, first_pointer};
-ghost use Rattle.encoding_codecs.specs.EucKr.{pieces_euc_kr, euc_kr_bytes, euc_kr_form, euc_kr_first, euc_kr_pair};
+ghost use Rattle.encoding_codecs.specs.EucKr.{pieces_euc_kr, euc_kr_pair_bytes, euc_kr_form};
+ghost use Rattle.encoding_codecs.specs.EucKr.{euc_kr_first, euc_kr_pair};
 ghost use Rattle.encoding_codecs.specs.laws.TwoByte.{two_byte_rule};
 ghost use Rattle.encoding_codecs.specs.laws.TwoByteDecide.{lead_rule_of};
 ghost use Rattle.encoding_codecs.specs.laws.EucKr.{euc_kr_is_two_byte, euc_kr_laws};
 ghost use Rattle.encoding_codecs.specs.laws.Pointers.{ascii_by_pointer};
 ghost use Rattle.encoding_codecs.specs.laws.EncodedLengths.{two_byte_fits};
-ghost use Rattle.encoding_codecs.specs.TwoByteRule.{euc_kr_rule};
+ghost use Rattle.encoding_codecs.specs.calls.TwoByteRule.{euc_kr_rule};
 
 use crate::codec_decoder::CodecDecoder;
 use crate::lead_byte_rule::{FirstByte, LeadByteDecoderRule, LeadByteRule};
@@ -87,7 +88,7 @@ impl<'a> CodecDecoder<LeadByteDecoderRule<EucKr<'a>>> {
     pub fn new(tables: &'a Tables) -> Self
         requires { has tables.now IndexKind.EucKr ≡ true }
         ensures { IsFreshDecoder (⟦<EucKrDecoder<'a> as RawDecoder>⟧.state result)
-            (pieces_euc_kr (entries_of tables.now IndexKind.EucKr)) decoded_length_multibyte }
+            (pieces_euc_kr (index_entries tables.now IndexKind.EucKr)) decoded_length_multibyte }
     {
         CodecDecoder::of_rule(LeadByteDecoderRule::new(EucKr {
             flat: tables.flat(IndexKind::EucKr),
@@ -109,7 +110,7 @@ impl<'a> EucKrEncoder<'a> {
     pub fn new(tables: &'a Tables) -> Self
         requires { has tables.now IndexKind.EucKr ≡ true }
         ensures { IsFreshEncoder (⟦<EucKrEncoder<'a> as SourceEncoder>⟧.parts result) 2
-            (stateless (euc_kr_form (entries_of tables.now IndexKind.EucKr)))
+            (stateless (euc_kr_form (index_entries tables.now IndexKind.EucKr)))
             encoded_length_two_byte }
     {
         EucKrEncoder {
@@ -127,9 +128,9 @@ impl<'a> StatelessRule for EucKrEncoder<'a> {
 
     ghost laws = { λ e. euc_kr_laws e.flat };
 
-    ghost fits = { λ e. two_byte_fits (euc_kr_form e.flat) (euc_kr_laws e.flat) (ascii_by_pointer euc_kr_bytes (λ c. first_pointer e.flat c 0 23940)) };
+    ghost fits = { λ e. two_byte_fits (euc_kr_form e.flat) (euc_kr_laws e.flat) (ascii_by_pointer euc_kr_pair_bytes (λ c. first_pointer e.flat c 0 23940)) };
 
-    ghost ascii = { λ e. ascii_by_pointer euc_kr_bytes (λ c. first_pointer e.flat c 0 23940) };
+    ghost ascii = { λ e. ascii_by_pointer euc_kr_pair_bytes (λ c. first_pointer e.flat c 0 23940) };
 
     #[inline(always)]
     fn form_of(&self, c: char) -> Form {

@@ -3,11 +3,14 @@
 
 ghost use Rattle.std.specs.Prelude.{◌≡◌, ◌≤◌, ◌||◌, true};
 ghost use Rattle.std.specs.Int.{IsInRange, is_in_range};
-ghost use Rattle.encoding_mem.specs.Decoding.{IsFreshDecoder};
-ghost use Rattle.encoding_mem.specs.DecodedLength.{decoded_length_multibyte};
-ghost use Rattle.encoding_tables.specs.IndexLists.{has, entries_of, rows_of};
-ghost use Rattle.encoding_codecs.specs.Gb18030.{gb18030_first, gb18030_pair, pair_pointer, four_pointer, gb18030_after_lead, pieces_gb18030};
-ghost use Rattle.encoding_codecs.specs.laws.Gb18030Decide.{gb18030_decide_lead, gb18030_decide_two, gb18030_decide_three, decide_four};
+ghost use Rattle.encoding_mem.specs.calls.Decoding.{IsFreshDecoder};
+ghost use Rattle.encoding_mem.specs.calls.DecodedLength.{decoded_length_multibyte};
+ghost use Rattle.encoding_tables.specs.IndexLists.{has, index_entries, range_rows};
+ghost use Rattle.encoding_codecs.specs.Gb18030.{gb18030_first, gb18030_pair, gb18030_pair_pointer};
+ghost use Rattle.encoding_codecs.specs.Gb18030.{gb18030_four_pointer, gb18030_after_lead};
+ghost use Rattle.encoding_codecs.specs.Gb18030.{pieces_gb18030};
+ghost use Rattle.encoding_codecs.specs.laws.Gb18030Decide.{gb18030_decide_lead, gb18030_decide_two};
+ghost use Rattle.encoding_codecs.specs.laws.Gb18030Decide.{gb18030_decide_three, decide_four};
 ghost use Rattle.encoding_codecs.specs.laws.Gb18030.{AreGbTables, gb18030_rule};
 
 use crate::codec_decoder::CodecDecoder;
@@ -151,7 +154,7 @@ fn is_trail(byte: u8) -> bool
 fn pair_pointer(lead: u8, trail: u8) -> u32
     requires lead { IsInRange 0x81 0xFE lead }
     requires trail { IsInRange 0x40 0xFE trail }
-    ensures { result ≡ pair_pointer lead trail }
+    ensures { result ≡ gb18030_pair_pointer lead trail }
 {
     let offset = if trail < 0x7F { 0x40 } else { 0x41 };
     (lead as u32 - 0x81) * 190 + (trail as u32 - offset)
@@ -163,7 +166,7 @@ fn four_pointer(a: u8, b: u8, c: u8, d: u8) -> u32
     requires second { IsInRange 0x30 0x39 b }
     requires third { IsInRange 0x81 0xFE c }
     requires fourth { IsInRange 0x30 0x39 d }
-    ensures { result ≡ four_pointer a b c d }
+    ensures { result ≡ gb18030_four_pointer a b c d }
 {
     (a as u32 - 0x81) * 12600
         + (b as u32 - 0x30) * 1260
@@ -200,7 +203,7 @@ impl<'a> CodecDecoder<LeadByteDecoderRule<Gb18030Rule<'a>>> {
         requires index { has tables.now IndexKind.Gb18030 ≡ true }
         requires ranges { has tables.now IndexKind.Gb18030Ranges ≡ true }
         ensures { IsFreshDecoder (⟦<Gb18030Decoder<'a> as RawDecoder>⟧.state result)
-            (pieces_gb18030 (entries_of tables.now IndexKind.Gb18030) (rows_of tables.now))
+            (pieces_gb18030 (index_entries tables.now IndexKind.Gb18030) (range_rows tables.now))
             decoded_length_multibyte }
     {
         CodecDecoder::of_rule(LeadByteDecoderRule::new(Gb18030Rule {

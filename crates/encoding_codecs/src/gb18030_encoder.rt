@@ -2,11 +2,15 @@
 //! (section 10.1.2), which has no forms of four bytes.
 
 ghost use Rattle.std.specs.Prelude.{◌≡◌, ◌+◌, ◌/◌, ◌%◌, ◌<◌, true};
-ghost use Rattle.encoding_mem.specs.EncoderRule.{IsFreshEncoder};
+ghost use Rattle.encoding_mem.specs.calls.EncoderRule.{IsFreshEncoder};
 ghost use Rattle.encoding_mem.specs.Stateless.{stateless};
-ghost use Rattle.encoding_tables.specs.IndexLists.{has, entries_of, rows_of};
-ghost use Rattle.encoding_codecs.specs.Gb18030Coding.{fixed_pair, gb18030_pair_bytes, four_bytes, gb18030_bytes, gb18030_form, gb18030_need, gb18030_encoded_length};
-ghost use Rattle.encoding_codecs.specs.laws.Gb18030Coding.{gb18030_ascii, gb18030_fits, gb18030_laws};
+ghost use Rattle.encoding_tables.specs.IndexLists.{has, index_entries, range_rows};
+ghost use Rattle.encoding_codecs.specs.Gb18030Coding.{gb18030_fixed_pair, gb18030_pair_bytes};
+ghost use Rattle.encoding_codecs.specs.Gb18030Coding.{gb18030_four_bytes, gb18030_bytes};
+ghost use Rattle.encoding_codecs.specs.Gb18030Coding.{gb18030_form, gb18030_need};
+ghost use Rattle.encoding_codecs.specs.Gb18030Coding.{gb18030_encoded_length};
+ghost use Rattle.encoding_codecs.specs.laws.Gb18030Coding.{gb18030_ascii, gb18030_fits};
+ghost use Rattle.encoding_codecs.specs.laws.Gb18030Coding.{gb18030_laws};
 
 use crate::two_byte::form_of_bytes;
 use encoding_mem::encode::StatelessRule;
@@ -34,8 +38,8 @@ impl<'a> Gb18030Encoder<'a> {
         requires index { has tables.now IndexKind.Gb18030 ≡ true }
         requires ranges { has tables.now IndexKind.Gb18030Ranges ≡ true }
         ensures { IsFreshEncoder (⟦<Gb18030Encoder<'a> as SourceEncoder>⟧.parts result) (gb18030_need extended_range)
-            (stateless (gb18030_form (entries_of tables.now IndexKind.Gb18030) (rows_of tables.now)
-                extended_range))
+            (stateless (gb18030_form (index_entries tables.now IndexKind.Gb18030)
+                (range_rows tables.now) extended_range))
             (gb18030_encoded_length extended_range) }
     {
         Gb18030Encoder {
@@ -105,7 +109,7 @@ impl<'a> StatelessRule for Gb18030Encoder<'a> {
 // The lead and the trail of the private-use characters that keep their bytes of the edition of 2005.
 #[inline(always)]
 fn fixed_pair(c: char) -> Option<(u8, u8)>
-    ensures { result ≡ fixed_pair c }
+    ensures { result ≡ gb18030_fixed_pair c }
 {
     match c {
         '\u{E78D}' => Some((0xA6, 0xD9)),
@@ -145,7 +149,7 @@ fn pair_bytes(pointer: u32) -> Bytes
 #[inline(always)]
 fn four_bytes(pointer: u32) -> Bytes
     requires { pointer < 1237576 }
-    ensures { result ≡ four_bytes pointer }
+    ensures { result ≡ gb18030_four_bytes pointer }
 {
     Bytes::four(
         (0x81 + pointer / 12600) as u8,

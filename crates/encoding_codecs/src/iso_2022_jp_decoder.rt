@@ -4,15 +4,22 @@ ghost use Rattle.std.proofs.Common.{refl, arith};
 ghost use Rattle.std.specs.Prelude.{◌≡◌, ◌↔◌, IsTrue, true, length, take};
 ghost use Rattle.std.specs.Int.{IsInRange};
 ghost use Rattle.encoding_mem.specs.Iso2022JpAscii.{IsIso2022JpAscii};
-ghost use Rattle.encoding_mem.specs.Decoding.{IsFreshDecoder};
-ghost use Rattle.encoding_mem.specs.DecodedLength.{decoded_length, decoded_length_multibyte};
+ghost use Rattle.encoding_mem.specs.calls.Decoding.{IsFreshDecoder};
+ghost use Rattle.encoding_mem.specs.calls.DecodedLength.{decoded_length, decoded_length_multibyte};
 ghost use Rattle.encoding_mem.specs.Piece.{piece_of_scalar};
-ghost use Rattle.encoding_tables.specs.IndexLists.{has, entries_of};
+ghost use Rattle.encoding_tables.specs.IndexLists.{has, index_entries};
 ghost use Rattle.encoding_tables.specs.Lookups.{AreEntries};
 ghost use Rattle.encoding_tables.specs.declared.index_kind.IndexKind.{IndexKind};
-ghost use Rattle.encoding_codecs.specs.Iso2022Jp.{escape_of, escape_at, ascii_piece, katakana_piece, pieces_in_mode, pieces_iso_2022_jp, IsNeutral};
-ghost use Rattle.encoding_codecs.specs.laws.Iso2022JpDecide.{escape_first_piece, char_first_piece, jis_pair_first_piece, first_piece_iso_2022_jp, mode_after, may_be_escape, is_jis_lead, is_open, shown, decide_iso_2022_jp};
-ghost use Rattle.encoding_codecs.specs.laws.Iso2022Jp.{iso_2022_jp_whole, iso_2022_jp_are_pieces, iso_2022_jp_ends};
+ghost use Rattle.encoding_codecs.specs.Iso2022Jp.{escape_of, escape_at, ascii_piece};
+ghost use Rattle.encoding_codecs.specs.Iso2022Jp.{katakana_piece, pieces_in_mode};
+ghost use Rattle.encoding_codecs.specs.Iso2022Jp.{pieces_iso_2022_jp, IsNeutral};
+ghost use Rattle.encoding_codecs.specs.laws.Iso2022JpDecide.{escape_first_piece, char_first_piece};
+ghost use Rattle.encoding_codecs.specs.laws.Iso2022JpDecide.{jis_pair_first_piece};
+ghost use Rattle.encoding_codecs.specs.laws.Iso2022JpDecide.{first_piece_iso_2022_jp, mode_after};
+ghost use Rattle.encoding_codecs.specs.laws.Iso2022JpDecide.{may_be_escape, is_jis_lead, is_open};
+ghost use Rattle.encoding_codecs.specs.laws.Iso2022JpDecide.{shown, decide_iso_2022_jp};
+ghost use Rattle.encoding_codecs.specs.laws.Iso2022Jp.{iso_2022_jp_whole, iso_2022_jp_are_pieces};
+ghost use Rattle.encoding_codecs.specs.laws.Iso2022Jp.{iso_2022_jp_ends};
 
 use crate::codec_decoder::CodecDecoder;
 use encoding_mem::ascii::ascii_prefix;
@@ -317,7 +324,7 @@ impl<'a> CodecDecoder<Iso2022JpRule<'a>> {
     pub fn new(tables: &'a Tables) -> Self
         requires { has tables.now IndexKind.Jis0208 ≡ true }
         ensures { IsFreshDecoder (⟦<Iso2022JpDecoder<'a> as RawDecoder>⟧.state result)
-            (pieces_iso_2022_jp (entries_of tables.now IndexKind.Jis0208))
+            (pieces_iso_2022_jp (index_entries tables.now IndexKind.Jis0208))
             decoded_length_multibyte }
     {
         CodecDecoder::of_rule(Iso2022JpRule {

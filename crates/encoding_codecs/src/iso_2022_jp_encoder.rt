@@ -1,11 +1,13 @@
 //! The encoder of ISO-2022-JP (the Encoding Standard, section 12.2.2, "ISO-2022-JP encoder").
 
 ghost use Rattle.std.specs.Prelude.{◌≡◌, ◌+◌, ◌/◌, ◌%◌, ◌<◌, IfSome, true, [], ◌∷◌};
-ghost use Rattle.encoding_mem.specs.EncoderRule.{IsFreshEncoder};
-ghost use Rattle.encoding_mem.specs.EncodedLength.{encoded_length_iso_2022_jp};
-ghost use Rattle.encoding_tables.specs.IndexLists.{has, entries_of};
+ghost use Rattle.encoding_mem.specs.calls.EncoderRule.{IsFreshEncoder};
+ghost use Rattle.encoding_mem.specs.calls.EncodedLength.{encoded_length_iso_2022_jp};
+ghost use Rattle.encoding_tables.specs.IndexLists.{has, index_entries};
 ghost use Rattle.encoding_tables.specs.declared.index_kind.IndexKind.{IndexKind};
-ghost use Rattle.encoding_codecs.specs.Iso2022JpForms.{looked_up, pointer_of_char, ascii_form, is_set, ascii_or_roman, set_after, iso_2022_jp_coding};
+ghost use Rattle.encoding_codecs.specs.Iso2022JpForms.{looked_up, iso_2022_jp_pointer, ascii_form};
+ghost use Rattle.encoding_codecs.specs.Iso2022JpForms.{is_same_set, ascii_or_roman, set_after};
+ghost use Rattle.encoding_codecs.specs.Iso2022JpForms.{iso_2022_jp_coding};
 ghost use Rattle.encoding_codecs.specs.laws.Iso2022JpForms.{iso_2022_jp_laws, iso_2022_jp_fits};
 
 use crate::jis::{folded, is_katakana};
@@ -38,7 +40,8 @@ impl<'a> Iso2022JpEncoder<'a> {
         requires jis0208 { has tables.now IndexKind.Jis0208 ≡ true }
         requires katakana { has tables.now IndexKind.Iso2022JpKatakana ≡ true }
         ensures { IsFreshEncoder (⟦<Iso2022JpEncoder<'a> as SourceEncoder>⟧.parts result) 3
-            (iso_2022_jp_coding (entries_of tables.now IndexKind.Jis0208) (entries_of tables.now IndexKind.Iso2022JpKatakana))
+            (iso_2022_jp_coding (index_entries tables.now IndexKind.Jis0208)
+                (index_entries tables.now IndexKind.Iso2022JpKatakana))
             encoded_length_iso_2022_jp }
     {
         Iso2022JpEncoder {
@@ -64,7 +67,7 @@ impl<'a> Iso2022JpEncoder<'a> {
     // The least pointer of a character.
     #[inline(always)]
     fn pointer(&self, c: char) -> Option<u32>
-        ensures pointer { result ≡ pointer_of_char self.now.jis0208 self.now.katakana c }
+        ensures pointer { result ≡ iso_2022_jp_pointer self.now.jis0208 self.now.katakana c }
         ensures before { IfSome result (λ p. p < 8836) }
     {
         match self.looked_up(c) {
@@ -145,7 +148,7 @@ impl<'a> EncoderRule for Iso2022JpEncoder<'a> {
 
 #[inline(always)]
 fn is_set(a: EscapeState, b: EscapeState) -> bool
-    ensures { result ≡ is_set a b }
+    ensures { result ≡ is_same_set a b }
 {
     match (a, b) {
         (EscapeState::Ascii, EscapeState::Ascii)

@@ -1,7 +1,8 @@
 //! What Shift_JIS, EUC-JP and ISO-2022-JP share.
 
 ghost use Rattle.std.specs.Prelude.{◌≡◌, true};
-ghost use Rattle.encoding_codecs.specs.JisForms.{is_katakana_byte, katakana_of_byte, is_katakana, byte_of_katakana, folded};
+ghost use Rattle.encoding_codecs.specs.JisForms.{is_katakana_byte, katakana_of_byte, is_katakana};
+ghost use Rattle.encoding_codecs.specs.JisForms.{byte_of_katakana, folded};
 
 // Whether a byte is one of halfwidth katakana.
 #[inline(always)]

@@ -10,8 +10,9 @@ ghost use Rattle.encoding_codecs.specs.Big5.{pieces_big5, big5_form};
 ghost use Rattle.encoding_codecs.specs.EucJp.{pieces_euc_jp, euc_jp_form};
 ghost use Rattle.encoding_codecs.specs.EucKr.{pieces_euc_kr, euc_kr_form};
 ghost use Rattle.encoding_codecs.specs.ShiftJis.{pieces_shift_jis, shift_jis_form};
-ghost use Rattle.encoding_codecs.specs.ShiftJisPointers.{PointerIsLeastUsed};
-ghost use Rattle.encoding_codecs.specs.JisPointers.{EucJpPointerIsLeast, Iso2022JpPointerIsLeast};
+ghost use Rattle.encoding_codecs.specs.laws.ShiftJisPointers.{ShiftJisPointerIsLeast};
+ghost use Rattle.encoding_codecs.specs.laws.JisPointerLaws.{EucJpPointerIsLeast};
+ghost use Rattle.encoding_codecs.specs.laws.JisPointerLaws.{Iso2022JpPointerIsLeast};
 ghost use Rattle.encoding_codecs.specs.Gb18030.{pieces_gb18030};
 ghost use Rattle.encoding_codecs.specs.Iso2022JpForms.{iso_2022_jp_coding};
 ghost use Rattle.encoding_codecs.specs.Iso2022JpSets.{pieces_from_set};
@@ -34,7 +35,7 @@ pub fn big5_text_reads_back()
 /// The pointer that Shift_JIS writes for a character is the least one of jis0208 with it that is not from
 /// 8272 to 8835.
 pub fn shift_jis_pointers()
-    ensures { PointerIsLeastUsed }
+    ensures { ShiftJisPointerIsLeast }
 {}
 
 /// What EUC-JP writes for a character that is not ASCII, U+00A5, U+203E or halfwidth katakana:

@@ -4,8 +4,9 @@
 ghost use Rattle.std.proofs.Common.{refl, arith};
 ghost use Rattle.std.specs.Prelude.{◌≡◌, ◌↔◌, ◌≤◌, IsTrue};
 ghost use Rattle.encoding_mem.specs.Pieces.{pieces_by};
-ghost use Rattle.encoding_mem.specs.laws.Pieces.{pieces_by-nil, pieces_by-whole, pieces_by-are_pieces};
-ghost use Rattle.encoding_mem.specs.DecodedLength.{decoded_length, decoded_length_multibyte};
+ghost use Rattle.encoding_mem.specs.laws.Pieces.{pieces_by-nil, pieces_by-whole};
+ghost use Rattle.encoding_mem.specs.laws.Pieces.{pieces_by-are_pieces};
+ghost use Rattle.encoding_mem.specs.calls.DecodedLength.{decoded_length, decoded_length_multibyte};
 ghost use Rattle.encoding_codecs.specs.TwoByte.{first_piece_by_lead};
 ghost use Rattle.encoding_codecs.specs.laws.TwoByte.{IsLeadByteRule, cuts_rule};
 ghost use Rattle.encoding_codecs.specs.laws.TwoByteDecide.{LeadRule};

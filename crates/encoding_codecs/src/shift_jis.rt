@@ -1,19 +1,24 @@
 //! Shift_JIS (the Encoding Standard, section 12.3).
 
 ghost use Rattle.std.specs.Prelude.{◌≡◌, ◌+◌, ◌<◌, ◌≤◌, true, IfSome};
-ghost use Rattle.encoding_mem.specs.Decoding.{IsFreshDecoder};
-ghost use Rattle.encoding_mem.specs.DecodedLength.{decoded_length_multibyte};
-ghost use Rattle.encoding_mem.specs.EncoderRule.{IsFreshEncoder};
-ghost use Rattle.encoding_mem.specs.EncodedLength.{encoded_length_two_byte};
+ghost use Rattle.encoding_mem.specs.calls.Decoding.{IsFreshDecoder};
+ghost use Rattle.encoding_mem.specs.calls.DecodedLength.{decoded_length_multibyte};
+ghost use Rattle.encoding_mem.specs.calls.EncoderRule.{IsFreshEncoder};
+ghost use Rattle.encoding_mem.specs.calls.EncodedLength.{encoded_length_two_byte};
 ghost use Rattle.encoding_mem.specs.Stateless.{stateless};
-ghost use Rattle.encoding_tables.specs.IndexLists.{has, entries_of};
+ghost use Rattle.encoding_tables.specs.IndexLists.{has, index_entries};
 ghost use Rattle.encoding_tables.specs.Lookups.{AreEntries};
-ghost use Rattle.encoding_codecs.specs.ShiftJis.{is_shift_jis_lead, is_trail, shift_jis_pair_pointer, pieces_shift_jis, shift_jis_single_byte, shift_jis_pointer, shift_jis_pair_bytes, shift_jis_char_bytes, shift_jis_form, shift_jis_first, shift_jis_pair};
+ghost use Rattle.encoding_codecs.specs.ShiftJis.{is_shift_jis_lead, is_shift_jis_trail};
+ghost use Rattle.encoding_codecs.specs.ShiftJis.{shift_jis_pair_pointer, pieces_shift_jis};
+ghost use Rattle.encoding_codecs.specs.ShiftJis.{shift_jis_single_byte, index_shift_jis_pointer};
+ghost use Rattle.encoding_codecs.specs.ShiftJis.{shift_jis_pair_bytes, shift_jis_char_bytes};
+ghost use Rattle.encoding_codecs.specs.ShiftJis.{shift_jis_form, shift_jis_first, shift_jis_pair};
 ghost use Rattle.encoding_codecs.specs.laws.TwoByte.{two_byte_rule};
 ghost use Rattle.encoding_codecs.specs.laws.TwoByteDecide.{lead_rule_of};
-ghost use Rattle.encoding_codecs.specs.laws.ShiftJis.{shift_jis_is_two_byte, shift_jis_ascii, shift_jis_laws};
+ghost use Rattle.encoding_codecs.specs.laws.ShiftJis.{shift_jis_is_two_byte, shift_jis_ascii};
+ghost use Rattle.encoding_codecs.specs.laws.ShiftJis.{shift_jis_laws};
 ghost use Rattle.encoding_codecs.specs.laws.EncodedLengths.{two_byte_fits};
-ghost use Rattle.encoding_codecs.specs.TwoByteRule.{shift_jis_rule};
+ghost use Rattle.encoding_codecs.specs.calls.TwoByteRule.{shift_jis_rule};
 
 use crate::codec_decoder::CodecDecoder;
 use crate::jis::{byte_of_katakana, folded, is_katakana, katakana_of_byte};
@@ -93,7 +98,7 @@ fn is_lead(byte: u8) -> bool
 // processor can't foresee it.
 #[inline(always)]
 fn is_trail(byte: u8) -> bool
-    ensures { result ≡ is_trail byte }
+    ensures { result ≡ is_shift_jis_trail byte }
 {
     byte >= 0x40 && byte <= 0xFC && byte != 0x7F
 }
@@ -103,7 +108,7 @@ fn is_trail(byte: u8) -> bool
 #[inline(always)]
 fn pointer_of_pair(lead: u8, trail: u8) -> u32
     requires lead { is_shift_jis_lead lead ≡ true }
-    requires trail { is_trail trail ≡ true }
+    requires trail { is_shift_jis_trail trail ≡ true }
     ensures { result ≡ shift_jis_pair_pointer lead trail }
 {
     let offset = if trail < 0x7F { 0x40 } else { 0x41 };
@@ -146,7 +151,7 @@ fn byte_of_char(c: char) -> Option<u8>
 // index what they hold stands at others too.
 #[inline(always)]
 fn pointer_of_char(jis0208: &Flat<'_>, c: char) -> Option<u32>
-    ensures pointer { result ≡ shift_jis_pointer jis0208.now c }
+    ensures pointer { result ≡ index_shift_jis_pointer jis0208.now c }
     ensures before { IfSome result (λ p. p < 11280) }
 {
     match jis0208.first_pointer(c, 0, 8272) {
@@ -184,7 +189,8 @@ impl<'a> CodecDecoder<LeadByteDecoderRule<ShiftJis<'a>>> {
     pub fn new(tables: &'a Tables) -> Self
         requires { has tables.now IndexKind.Jis0208 ≡ true }
         ensures { IsFreshDecoder (⟦<ShiftJisDecoder<'a> as RawDecoder>⟧.state result)
-            (pieces_shift_jis (entries_of tables.now IndexKind.Jis0208)) decoded_length_multibyte }
+            (pieces_shift_jis (index_entries tables.now IndexKind.Jis0208))
+            decoded_length_multibyte }
     {
         CodecDecoder::of_rule(LeadByteDecoderRule::new(ShiftJis {
             jis0208: tables.flat(IndexKind::Jis0208),
@@ -207,7 +213,7 @@ impl<'a> ShiftJisEncoder<'a> {
     pub fn new(tables: &'a Tables) -> Self
         requires { has tables.now IndexKind.Jis0208 ≡ true }
         ensures { IsFreshEncoder (⟦<ShiftJisEncoder<'a> as SourceEncoder>⟧.parts result) 2
-            (stateless (shift_jis_form (entries_of tables.now IndexKind.Jis0208)))
+            (stateless (shift_jis_form (index_entries tables.now IndexKind.Jis0208)))
             encoded_length_two_byte }
     {
         ShiftJisEncoder {

@@ -1,34 +1,35 @@
 -- What some bytes show of a mark, and more bytes do not change. What a look for a mark does. The mark that a look
 -- for it finds is the one that is taken. Held bytes that are decoded before a source.
 use Rattle.std.proofs.Common.{◌≡◌, ℕ, suc, ◌+◌, ◌≤◌, ◌<◌, ◌==◌, ◌&&◌, ◌||◌, Bool, true, false, cond, List, [], ◌∷◌, ◌++◌, length, refl, arith, zero, ◌-◌, IsTrue, take, drop, sym, ◌∙◌, ap, subst, append_assoc, length-append, length-take, Some, Option, None, ◌⊎◌, inl, inr, length-drop}
-use Rattle.encoding_front.specs.Seeking.{len_of, is_sought, find_mark, find_second, find_end, head_of, seeks, pieces_after, pieces_seen, room_after, sought_pieces, mark_seen, mark_taken, can_be, mark_needs, sought_needs, nothing_sought, encoding_of_mark, sought_by}
+use Rattle.encoding_front.specs.calls.Seeking.{mark_len, is_sought, find_mark, find_second, find_end, mark_head, seeks, pieces_after_mark, pieces_seen, room_after_mark, sought_pieces, mark_seen, mark_taken, can_be, mark_needs, sought_needs, nothing_sought, encoding_of_mark, sought_by}
 use Rattle.encoding_front.specs.declared.seeking.ByteOrderMark.{ByteOrderMark}
 use Rattle.encoding_front.specs.declared.seeking.ByteOrderMark.TheVariants.{Utf8, Utf16Be, Utf16Le}
 use Rattle.encoding_front.specs.declared.seeking.BomSet.{BomSet}
 use Rattle.encoding_front.specs.declared.seeking.BomMatch.{BomMatch}
 use Rattle.encoding_front.specs.declared.seeking.BomMatch.TheVariants.{Prefix, Whole, Other}
 use Rattle.std.proofs.lemmas.List.{append-nil, take-append-drop, drop_all, drop-append-le, nil_from_length}
-use Rattle.encoding_mem.specs.Piece.{Piece, malformed, well_formed, first, piece_len, sizes, AreWellFormed, scalars}
-use Rattle.encoding_mem.specs.Decoding.{AreBytes, DecoderState, Takes, Waits, Reports, EndsWith, StateLaw, Suffices}
-use Rattle.encoding_mem.specs.DecodedLength.{decoded_length, goes_on, replacement_len, left_after}
+use Rattle.encoding_mem.specs.Piece.{Piece, malformed, well_formed, head_piece, piece_len, sizes, AreWellFormed, scalars}
+use Rattle.encoding_mem.specs.calls.Decoding.{DecoderState, Takes, Waits, Reports, EndsWith, StateLaw, Suffices}
+use Rattle.encoding_mem.specs.calls.DecodedLength.{decoded_length, counts_past_malformed, replacement_len, left_after}
 use Rattle.encoding_mem.specs.declared.room.OutputUnit.{OutputUnit}
-use Rattle.encoding_front.specs.TakesMark.{LeavesRoom}
+use Rattle.encoding_front.specs.calls.TakesMark.{LeavesRoom}
 use Rattle.std.specs.Prelude.{eqb}
 use Rattle.std.specs.List.{starts_with}
 use Rattle.std.proofs.lemmas.Bool.{eqb-true}
 use Rattle.std.specs.Option.{unwrap_or}
 use Rattle.encoding_tables.specs.IndexLists.{IndexLists}
 use Rattle.encoding_front.specs.Encodings.{first_mark, pieces_of}
-use Rattle.encoding_front.specs.CodecBounds.{decoded_length_of}
+use Rattle.encoding_front.specs.calls.CodecBounds.{decoded_length_of}
 use Rattle.encoding_front.specs.Marks.{source_of, pieces_from, marked_pieces}
 use Rattle.encoding_mem.specs.declared.room.DecodedLength.{DecodedLength}
-use Rattle.encoding_front.specs.Stream.{Opening, encoding_after}
+use Rattle.encoding_front.specs.calls.Stream.{Opening, encoding_after}
 use Rattle.encoding_front.specs.declared.encoding.Encoding.{Encoding}
 use Rattle.encoding_front.specs.declared.mark.Mark.{Mark}
 use Rattle.encoding_mem.specs.declared.decoder_result.DecoderResult.{DecoderResult}
 use Rattle.encoding_mem.specs.declared.decoder_result.DecoderResult.TheVariants.{InputEmpty, OutputFull, Malformed}
 use Rattle.encoding_mem.specs.laws.Piece.{sizes-append, scalars-append, AreWellFormed-append}
-use Rattle.encoding_front.specs.BomDecoderState.{held_state}
+use Rattle.encoding_mem.specs.Decided.{AreBytes}
+use Rattle.encoding_front.specs.calls.BomDecoderState.{held_state}
 
 -- less than a mark, which more bytes complete
 pub record Opens (find : List ℕ → BomMatch) (k : ℕ) (x : List ℕ) : Type 0 where
@@ -36,13 +37,13 @@ pub record Opens (find : List ℕ → BomMatch) (k : ℕ) (x : List ℕ) : Type 
   pub more : List ℕ
   pub bytes : AreBytes more
   pub few : length more ≤ 3
-  pub short : k + length x < len_of mark
+  pub short : k + length x < mark_len mark
   pub whole : find (x ++ more) ≡ Whole mark
 
 -- k bytes stand before x
 abbrev pub Shows : (List ℕ → BomMatch) → ℕ → List ℕ → BomMatch → Type 0
 Shows find k x Prefix = Opens find k x
-Shows find k x (Whole m) = ((r : List ℕ) → find (x ++ r) ≡ Whole m) × (len_of m ≤ k + length x)
+Shows find k x (Whole m) = ((r : List ℕ) → find (x ++ r) ≡ Whole m) × (mark_len m ≤ k + length x)
 Shows find k x Other = (r : List ℕ) → find (x ++ r) ≡ Other
 
 shows_cond : (t : Bool) (f g : List ℕ → BomMatch) (k : ℕ) (x : List ℕ) (F G : BomMatch) → Shows f k x F → Shows g k x G → Shows (λ y. cond t (f y) (g y)) k x (cond t F G)
@@ -57,7 +58,7 @@ shows_cons f k e x Other h = h
 same_byte : (b : ℕ) → (b == b) ≡ true
 same_byte b = grind (arith)
 
-shows_end : (byte : ℕ) (mark : ByteOrderMark) (k : ℕ) (x : List ℕ) → byte < 256 → len_of mark ≡ suc k → Shows (find_end byte mark) k x (find_end byte mark x)
+shows_end : (byte : ℕ) (mark : ByteOrderMark) (k : ℕ) (x : List ℕ) → byte < 256 → mark_len mark ≡ suc k → Shows (find_end byte mark) k x (find_end byte mark x)
 shows_end byte mark k [] is_byte e = record { mark = mark; more = byte ∷ []; bytes = (is_byte, tt); few = omega arith; short = omega (arith, e); whole = rw (same_byte byte) refl }
 shows_end byte mark k (c ∷ x) is_byte e = shows_cons (find_end byte mark) k c x _ (shows_cond (c == byte) (λ _. Whole mark) (λ _. Other) (suc k) x (Whole mark) Other (λ r. refl, omega (arith, e)) (λ r. refl))
 
@@ -81,7 +82,7 @@ shows_mark s (a ∷ x) e = shows_cons (find_mark s) 0 a x _
 
 -- What a look for a mark does.
 
-len_some : (m : ByteOrderMark) → (2 ≤ len_of m) × (len_of m ≤ 3)
+len_some : (m : ByteOrderMark) → (2 ≤ mark_len m) × (mark_len m ≤ 3)
 len_some Utf8 = (omega arith, omega arith)
 len_some Utf16Be = (omega arith, omega arith)
 len_some Utf16Le = (omega arith, omega arith)
@@ -99,7 +100,7 @@ unmarked s own x e = rw e refl
 pub untaken : (s : BomSet) (taken : Option ByteOrderMark) (x : List ℕ) → is_sought s ≡ false → mark_taken s taken x ≡ taken
 untaken s taken x e = rw e refl
 
-first_within : (ps : List Piece) (p : Piece) → first ps ≡ Some p → piece_len p ≤ sizes ps
+first_within : (ps : List Piece) (p : Piece) → head_piece ps ≡ Some p → piece_len p ≤ sizes ps
 first_within [] p e = cc
 first_within (q ∷ ps) p e = let same : q ≡ p = cc in omega (arith, ap piece_len same)
 
@@ -114,7 +115,7 @@ all_of held src window e h =
     let none : drop 3 (held ++ src) ≡ [] = drop_all 3 (held ++ src) (omega (arith, size, h, length-take 3 (held ++ src))) in
     sym (append-nil window) ∙ ap (λ x. window ++ x) (sym none) ∙ ap (λ x. x ++ drop 3 (held ++ src)) e ∙ take-append-drop 3 (held ++ src)
 
-differ : (own : DecoderState) (x : List ℕ) (n : ℕ) (rest : List Piece) → own.pending ≡ 0 → length x < n → first (own.pieces x) ≡ first (well_formed n [] ∷ rest) → ⊥
+differ : (own : DecoderState) (x : List ℕ) (n : ℕ) (rest : List Piece) → own.pending ≡ 0 → length x < n → head_piece (own.pieces x) ≡ head_piece (well_formed n [] ∷ rest) → ⊥
 differ own x n rest new short e = (let h : n ≤ sizes (own.pieces x) = first_within (own.pieces x) (well_formed n []) e in let no : ⊥ = omega (arith, h, own.whole x, new, short) in no)
 
 -- some of a mark waits
@@ -130,7 +131,7 @@ waits_mark s own x e new f =
         more = o.more;
         bytes = o.bytes;
         short = o.few;
-        differs = λ same. differ own x (len_of o.mark) (pieces_after o.mark (drop (len_of o.mark) (x ++ o.more))) new (omega (arith, o.short)) (sym (ap first now) ∙ same ∙ ap first then);
+        differs = λ same. differ own x (mark_len o.mark) (pieces_after_mark o.mark (drop (mark_len o.mark) (x ++ o.more))) new (omega (arith, o.short)) (sym (ap head_piece now) ∙ same ∙ ap head_piece then);
       };
       soon = λ r p g. omega (arith, new, few);
     }
@@ -161,11 +162,11 @@ dropped : (n : ℕ) (held src r : List ℕ) → length held ≤ n → n ≤ leng
 dropped n held src r h k = drop_past n held (src ++ r) h ∙ drop-append-le (n - length held) src r (omega (arith, h, k))
 
 -- a mark is taken, and nothing is held. A are the pieces of what follows it, by another name.
-pub takes_whole : (s : BomSet) (own after : DecoderState) (A : List ℕ → List Piece) (held src window none : List ℕ) (last : Bool) (m : ByteOrderMark) (read : ℕ) → is_sought s ≡ true → own.pending ≡ 0 → length held ≤ 2 → window ≡ take 3 (held ++ src) → find_mark s window ≡ Whole m → ((x : List ℕ) → A x ≡ after.pieces x) → after.pieces ≡ pieces_after m → after.pending ≡ 0 → none ≡ [] → read ≡ len_of m - length held
+pub takes_whole : (s : BomSet) (own after : DecoderState) (A : List ℕ → List Piece) (held src window none : List ℕ) (last : Bool) (m : ByteOrderMark) (read : ℕ) → is_sought s ≡ true → own.pending ≡ 0 → length held ≤ 2 → window ≡ take 3 (held ++ src) → find_mark s window ≡ Whole m → ((x : List ℕ) → A x ≡ after.pieces x) → after.pieces ≡ pieces_after_mark m → after.pending ≡ 0 → none ≡ [] → read ≡ mark_len m - length held
     → Takes AreWellFormed (λ x. sought_pieces s own.pieces (held ++ x)) (λ x. A (none ++ x)) src last (own.pending + length held) (after.pending + length none) read (λ t. t ≡ [])
 takes_whole s own after A held src window none last m read e new few cut_is f named is fresh none_is read_is =
     let sh : Shows (find_mark s) 0 window (Whole m) = subst (λ (F : BomMatch). Shows (find_mark s) 0 window F) f (shows_mark s window e) in
-    let n : ℕ = len_of m in
+    let n : ℕ = mark_len m in
     let size : length window ≤ length held + length src = omega (arith, ap length cut_is, length-take 3 (held ++ src), length-append held src) in
     record {
       taken = well_formed n [] ∷ [];
@@ -175,7 +176,7 @@ takes_whole s own after A held src window none last m read e new few cut_is f na
       writes = refl;
       rest = λ r g.
           seen_is s own.pieces (held ++ (src ++ r)) (Whole m) e (ap (find_mark s) (cut held src window r cut_is) ∙ sh.0 (drop 3 (held ++ src) ++ r))
-          ∙ ap (λ x. well_formed n [] ∷ pieces_after m x) (dropped n held src r (omega (arith, few, (len_some m).0)) (omega (arith, sh.1, size)))
+          ∙ ap (λ x. well_formed n [] ∷ pieces_after_mark m x) (dropped n held src r (omega (arith, few, (len_some m).0)) (omega (arith, sh.1, size)))
           ∙ ap (λ h. well_formed n [] ∷ h (drop (n - length held) src ++ r)) (sym is)
           ∙ ap (λ k. well_formed n [] ∷ after.pieces (drop k src ++ r)) (sym read_is)
           ∙ ap (λ x. well_formed n [] ∷ after.pieces (x ++ (drop read src ++ r))) (sym none_is)
@@ -231,14 +232,14 @@ taken_prefix s taken held src window r e cut_is f =
 -- the first byte of what is looked at says which mark it may be
 abbrev IsOf : BomSet → (a : ℕ) → BomMatch → Type 0
 IsOf s a Prefix = Unit {0}
-IsOf s a (Whole m) = ((a == head_of m) && seeks s m) ≡ true
+IsOf s a (Whole m) = ((a == mark_head m) && seeks s m) ≡ true
 IsOf s a Other = Unit {0}
 
 of_cond : (t : Bool) (s : BomSet) (a : ℕ) (F G : BomMatch) → (t ≡ true → IsOf s a F) → IsOf s a G → IsOf s a (cond t F G)
 of_cond true s a F G h k = h refl
 of_cond false s a F G h k = k
 
-of_end : (s : BomSet) (a byte : ℕ) (m : ByteOrderMark) (x : List ℕ) → ((a == head_of m) && seeks s m) ≡ true → IsOf s a (find_end byte m x)
+of_end : (s : BomSet) (a byte : ℕ) (m : ByteOrderMark) (x : List ℕ) → ((a == mark_head m) && seeks s m) ≡ true → IsOf s a (find_end byte m x)
 of_end s a byte m [] h = tt
 of_end s a byte m (c ∷ x) h = of_cond (c == byte) s a (Whole m) Other (λ _. h) tt
 
@@ -258,15 +259,15 @@ and_right false q h = cc
 -- a mark that is there was possible before
 could_be : (s : BomSet) (m : ByteOrderMark) (held src window : List ℕ) → window ≡ take 3 (held ++ src) → can_be s window m ≡ true → can_be s held m ≡ true
 could_be s m [] src [] e h = h
-could_be s m [] src (a ∷ x) e h = and_right (a == head_of m) (seeks s m) h
+could_be s m [] src (a ∷ x) e h = and_right (a == mark_head m) (seeks s m) h
 could_be s m (b ∷ held) src [] e h = cc
-could_be s m (b ∷ held) src (a ∷ x) e h = let same : a ≡ b = cc in subst (λ (c : ℕ). ((c == head_of m) && seeks s m) ≡ true) same h
+could_be s m (b ∷ held) src (a ∷ x) e h = let same : a ≡ b = cc in subst (λ (c : ℕ). ((c == mark_head m) && seeks s m) ≡ true) same h
 
 whole_can_be : (s : BomSet) (m : ByteOrderMark) (window : List ℕ) → find_mark s window ≡ Whole m → can_be s window m ≡ true
 whole_can_be s m [] f = cc
 whole_can_be s m (a ∷ x) f = subst (λ (F : BomMatch). IsOf s a F) f (of_mark s a x)
 
-need_is : (s : BomSet) (held : List ℕ) (k : OutputUnit) (n : ℕ) (m : ByteOrderMark) → can_be s held m ≡ true → mark_needs s held k n m ≡ decoded_length (room_after m) k ((length held + n) - len_of m)
+need_is : (s : BomSet) (held : List ℕ) (k : OutputUnit) (n : ℕ) (m : ByteOrderMark) → can_be s held m ≡ true → mark_needs s held k n m ≡ decoded_length (room_after_mark m) k ((length held + n) - mark_len m)
 need_is s held k n m h = rw h refl
 
 in_max : (s : BomSet) (own : OutputUnit → ℕ → ℕ) (held : List ℕ) (k : OutputUnit) (n : ℕ) (m : ByteOrderMark) → mark_needs s held k n m ≤ sought_needs s own held k n
@@ -275,13 +276,13 @@ in_max s own held k n Utf16Be = omega arith
 in_max s own held k n Utf16Le = omega arith
 
 -- a mark is taken
-pub leaves_whole : (s : BomSet) (own : OutputUnit → ℕ → ℕ) (after : DecoderState) (held src window none : List ℕ) (m : ByteOrderMark) (read : ℕ) → length held ≤ 2 → window ≡ take 3 (held ++ src) → find_mark s window ≡ Whole m → after.pending ≡ 0 → after.room ≡ room_after m → none ≡ [] → read ≡ len_of m - length held
+pub leaves_whole : (s : BomSet) (own : OutputUnit → ℕ → ℕ) (after : DecoderState) (held src window none : List ℕ) (m : ByteOrderMark) (read : ℕ) → length held ≤ 2 → window ≡ take 3 (held ++ src) → find_mark s window ≡ Whole m → after.pending ≡ 0 → after.room ≡ room_after_mark m → none ≡ [] → read ≡ mark_len m - length held
     → LeavesRoom (sought_needs s own held) (sought_needs nothing_sought after.needs none) read
 leaves_whole s own after held src window none m read few cut_is f fresh is none_is read_is k n =
     let possible : can_be s held m ≡ true = could_be s m held src window cut_is (whole_can_be s m window f) in
-    let size : (length held + (read + n)) - len_of m ≡ n = omega (arith, read_is, few, (len_some m).0) in
+    let size : (length held + (read + n)) - mark_len m ≡ n = omega (arith, read_is, few, (len_some m).0) in
     let now : sought_needs nothing_sought after.needs none k n ≤ decoded_length after.room k (after.pending + n) = rw none_is (let c : after.needs k n ≤ decoded_length after.room k (after.pending + n) = after.covers k n in let zero_ : 0 + n ≡ n = omega arith in omega (arith, c, ap (after.needs k) zero_)) in
-    let same : decoded_length after.room k (after.pending + n) ≡ decoded_length (room_after m) k ((length held + (read + n)) - len_of m) = ap (λ r. decoded_length r k (after.pending + n)) is ∙ ap (decoded_length (room_after m) k) (let e : after.pending + n ≡ (length held + (read + n)) - len_of m = omega (arith, fresh, size) in e) in
+    let same : decoded_length after.room k (after.pending + n) ≡ decoded_length (room_after_mark m) k ((length held + (read + n)) - mark_len m) = ap (λ r. decoded_length r k (after.pending + n)) is ∙ ap (decoded_length (room_after_mark m) k) (let e : after.pending + n ≡ (length held + (read + n)) - mark_len m = omega (arith, fresh, size) in e) in
     omega (arith, now, same, need_is s held k (read + n) m possible, in_max s own held k (read + n) m)
 
 -- all is held
@@ -290,7 +291,7 @@ need_by false q a b h e = omega arith
 need_by true q a b h e = rw (h refl) (omega (arith, e))
 
 need_falls : (s : BomSet) (m : ByteOrderMark) (held window : List ℕ) (k : OutputUnit) (i j : ℕ) → (can_be s window m ≡ true → can_be s held m ≡ true) → length window + j ≡ length held + i → mark_needs s window k j m ≤ mark_needs s held k i m
-need_falls s m held window k i j could same = need_by (can_be s window m) (can_be s held m) (decoded_length (room_after m) k ((length window + j) - len_of m)) (decoded_length (room_after m) k ((length held + i) - len_of m)) could (ap (λ n. decoded_length (room_after m) k (n - len_of m)) same)
+need_falls s m held window k i j could same = need_by (can_be s window m) (can_be s held m) (decoded_length (room_after_mark m) k ((length window + j) - mark_len m)) (decoded_length (room_after_mark m) k ((length held + i) - mark_len m)) could (ap (λ n. decoded_length (room_after_mark m) k (n - mark_len m)) same)
 
 pub leaves_all : (s : BomSet) (own : OutputUnit → ℕ → ℕ) (held src window : List ℕ) → window ≡ take 3 (held ++ src) → length window < 3 → LeavesRoom (sought_needs s own held) (sought_needs s own window) (length src)
 leaves_all s own held src window e h k n =
@@ -339,7 +340,7 @@ needs_settled s own held e k n = ap (λ (t : BomSet). sought_needs t own held k 
 
 abbrev seen_source : Encoding → BomMatch → Encoding × ℕ
 seen_source e Prefix = (e, 0)
-seen_source e (Whole m) = (encoding_of_mark m, len_of m)
+seen_source e (Whole m) = (encoding_of_mark m, mark_len m)
 seen_source e Other = (e, 0)
 
 -- one mark after another
@@ -429,7 +430,7 @@ none_seen : (s : BomSet) (x : List ℕ) → is_sought s ≡ false → (find_mark
 none_seen s [] h = inr refl
 none_seen s (a ∷ x) h = inl (none_by s.utf8 s.utf16_be s.utf16_le (a == 0xEF) (a == 0xFE) (a == 0xFF) (find_second x) (find_end 0xFF Utf16Be x) (find_end 0xFE Utf16Le x) h)
 
-after_mark : (t : IndexLists) (m : ByteOrderMark) (x : List ℕ) → pieces_from t (encoding_of_mark m, len_of m) x ≡ well_formed (len_of m) [] ∷ pieces_after m (drop (len_of m) x)
+after_mark : (t : IndexLists) (m : ByteOrderMark) (x : List ℕ) → pieces_from t (encoding_of_mark m, mark_len m) x ≡ well_formed (mark_len m) [] ∷ pieces_after_mark m (drop (mark_len m) x)
 after_mark t Utf8 x = refl
 after_mark t Utf16Be x = refl
 after_mark t Utf16Le x = refl
@@ -581,7 +582,7 @@ suffices_held s u held bytes after t last n size old new a b b' same is h k m un
     let long : length bytes ≡ length held = ap length same in
     let then : (length bytes - n) + (size + m) ≡ length after + ((size - 0) + m) = omega (arith, long, ap length is, length-drop n held) in
     let asked : length bytes + (size + m) ≡ length held + (size + m) = omega (arith, long) in
-    subst (λ (x : ℕ). left_after (goes_on k) (replacement_len t) (u.needs k x) ≤ new) then (h k (size + m) units (λ no. cc) (subst (λ (x : ℕ). s.needs k x ≤ old) (sym asked) fits))
+    subst (λ (x : ℕ). left_after (counts_past_malformed k) (replacement_len t) (u.needs k x) ≤ new) then (h k (size + m) units (λ no. cc) (subst (λ (x : ℕ). s.needs k x ≤ old) (sym asked) fits))
 
 -- The room that is enough.
 pub suffices_none : (s u : DecoderState) (held after : List ℕ) (t last : Bool) (size unread old new : ℕ) (outcome : DecoderResult) → length held ≡ 0 → length after ≡ 0 → Suffices s.needs u.needs t last size unread old new outcome → Suffices (held_state s held).needs (held_state u after).needs t last size unread old new outcome
@@ -595,7 +596,7 @@ suffices_none s u held after t last size unread old new OutputFull e g h = λ k 
 suffices_none s u held after t last size unread old new (Malformed a b) e g h = λ k m is stops fits.
     (let here : length held + (size + m) ≡ size + m = omega (arith, e) in
     let there : unread + m ≡ length after + (unread + m) = omega (arith, g) in
-    subst (λ (n : ℕ). left_after (goes_on k) (replacement_len t) (u.needs k n) ≤ new) there (h k m is stops (omega (arith, ap (s.needs k) here, fits))))
+    subst (λ (n : ℕ). left_after (counts_past_malformed k) (replacement_len t) (u.needs k n) ≤ new) there (h k m is stops (omega (arith, ap (s.needs k) here, fits))))
 
 -- after a call that read all held bytes, the next
 pub suffices_then : (O M A : DecoderState) (held after : List ℕ) (t last : Bool) (size unread old mid new : ℕ) (first_of outcome : DecoderResult) → length after ≡ 0 → first_of ≡ InputEmpty → Suffices O.needs M.needs t false (length held) 0 old mid first_of
@@ -606,7 +607,7 @@ suffices_then O M A held after t last size unread old mid new InputEmpty InputEm
 suffices_then O M A held after t last size unread old mid new InputEmpty OutputFull g e h j = λ k m is stops fits. j k m is stops (h k (size + m) is (λ n. cc) fits)
 suffices_then O M A held after t last size unread old mid new InputEmpty (Malformed a b) g e h j = λ k m is stops fits.
     (let there : unread + m ≡ length after + (unread + m) = omega (arith, g) in
-    subst (λ (n : ℕ). left_after (goes_on k) (replacement_len t) (A.needs k n) ≤ new) there (j k m is stops (h k (size + m) is (λ n. cc) fits)))
+    subst (λ (n : ℕ). left_after (counts_past_malformed k) (replacement_len t) (A.needs k n) ≤ new) there (j k m is stops (h k (size + m) is (λ n. cc) fits)))
 suffices_then O M A held after t last size unread old mid new OutputFull outcome g e h j = cc
 suffices_then O M A held after t last size unread old mid new (Malformed a b) outcome g e h j = cc
 
@@ -621,4 +622,4 @@ suffices_malformed O M held after t last size left old new a b c InputEmpty e g 
 suffices_malformed O M held after t last size left old new a b c OutputFull e g h = cc
 suffices_malformed O M held after t last size left old new a b c (Malformed i j) e g h = λ k m is stops fits.
     (let there : left + (size + m) ≡ length after + ((size - 0) + m) = omega (arith, g) in
-    subst (λ (n : ℕ). left_after (goes_on k) (replacement_len t) (M.needs k n) ≤ new) there (h k (size + m) is (λ n. cc) fits))
+    subst (λ (n : ℕ). left_after (counts_past_malformed k) (replacement_len t) (M.needs k n) ≤ new) there (h k (size + m) is (λ n. cc) fits))

@@ -2,16 +2,16 @@
 use Rattle.std.proofs.Common.{◌≡◌, ◌≢◌, ℕ, ◌+◌, ◌*◌, ◌-◌, ◌≤◌, ◌||◌, nat_lt, Bool, true, false, cond, Option, None, Some, List, [], ◌∷◌, length, refl, ap, arith}
 use Rattle.std.proofs.Math.Nat.{mul-le-mul_left}
 use Rattle.std.proofs.lemmas.Bool.Decides.{nat_tests}
-use Rattle.encoding_mem.specs.Decoding.{DecoderState, Suffices}
-use Rattle.encoding_mem.specs.DecodedLength.{goes_on, is_units, decoded_length, queried, counted, bound_of, decoded_length_utf8, decoded_length_utf16}
+use Rattle.encoding_mem.specs.calls.Decoding.{DecoderState, Suffices}
+use Rattle.encoding_mem.specs.calls.DecodedLength.{counts_past_malformed, is_units, decoded_length, queried, counted, bound_of, decoded_length_utf8, decoded_length_utf16}
 use Rattle.encoding_mem.specs.declared.decoder_result.DecoderResult.{DecoderResult}
 use Rattle.encoding_mem.specs.declared.decoder_result.DecoderResult.TheVariants.{InputEmpty, OutputFull, Malformed}
 use Rattle.encoding_mem.specs.declared.room.OutputUnit.{OutputUnit}
 use Rattle.encoding_mem.specs.declared.room.DecodedLength.{DecodedLength}
-use Rattle.encoding_front.specs.DecodedText.{NeverFull}
+use Rattle.encoding_front.specs.calls.DecodedText.{NeverFull}
 use Rattle.encoding_front.specs.declared.coder_result.CoderResult.{CoderResult}
-use Rattle.encoding_front.specs.Seeking.{can_be, sought_needs}
-use Rattle.encoding_front.specs.Stream.{ahead, greater, greater_if, room_asked}
+use Rattle.encoding_front.specs.calls.Seeking.{can_be, sought_needs}
+use Rattle.encoding_front.specs.calls.Stream.{ahead, greater, greater_if, room_asked}
 use Rattle.encoding_front.specs.declared.seeking.ByteOrderMark.TheVariants.{Utf8, Utf16Be, Utf16Le}
 use Rattle.encoding_front.specs.declared.seeking.BomSet.{BomSet}
 
@@ -96,6 +96,6 @@ asked_never_full before after k last size unread old new InputEmpty s n h j = λ
 asked_never_full before after k last size unread old new OutputFull s n h j = absurd (s k 0 refl (λ _. refl) (let same : size + 0 ≡ size = omega arith in omega (arith, ap (before k) same, h, j)))
 asked_never_full before after k last size unread old new (Malformed a b) s n h j = λ e. cc
 
-pub asked_never_full_text : (before : OutputUnit → ℕ → ℕ) (k : OutputUnit) (last : Bool) (size old : ℕ) (outcome : CoderResult) → goes_on k ≡ true → NeverFull before (is_units k) last size old outcome → (n : ℕ) → before k size ≤ n → n ≤ old → outcome ≢ CoderResult.OutputFull
+pub asked_never_full_text : (before : OutputUnit → ℕ → ℕ) (k : OutputUnit) (last : Bool) (size old : ℕ) (outcome : CoderResult) → counts_past_malformed k ≡ true → NeverFull before (is_units k) last size old outcome → (n : ℕ) → before k size ≤ n → n ≤ old → outcome ≢ CoderResult.OutputFull
 asked_never_full_text before k last size old CoderResult.InputEmpty on s n h j = λ e. cc
 asked_never_full_text before k last size old CoderResult.OutputFull on s n h j = absurd (s k 0 on refl (λ _. refl) (let same : size + 0 ≡ size = omega arith in omega (arith, ap (before k) same, h, j)))

@@ -3,24 +3,24 @@
 use Rattle.std.proofs.Common.{◌≡◌, ℕ, zero, suc, ◌+◌, ◌-◌, ◌≤◌, ◌<◌, ◌↔◌, ◌⊎◌, inl, inr, Bool, true, false, cond, IsTrue, List, [], ◌∷◌, ◌++◌, length, drop, refl, sym, ◌∙◌, ap, subst, arith, append_assoc, length-append, length-drop, ◌≢◌, take, encode_utf8_all}
 use Rattle.std.proofs.lemmas.List.{append-nil, drop-drop, take_at, take-append-le, take-take}
 use Rattle.std.specs.Char.{len_utf8}
-use Rattle.encoding_mem.specs.Writing.{len_utf16, Adds}
-use Rattle.encoding_mem.specs.Piece.{Piece, well_formed, malformed, text, scalars, sizes, malformed_count, AreWellFormed, first, ArePieces}
+use Rattle.encoding_mem.specs.calls.Writing.{len_utf16, Adds}
+use Rattle.encoding_mem.specs.Piece.{Piece, well_formed, malformed, text, scalars, sizes, malformed_count, AreWellFormed, head_piece, ArePieces}
 use Rattle.encoding_mem.specs.laws.Piece.{sizes-append, scalars-append, text-append}
-use Rattle.encoding_mem.specs.Decoding.{Takes, Reports, DecoderState, EndsWith, Suffices}
-use Rattle.encoding_mem.specs.DecodedLength.{is_units, goes_on, replacement_len, left_after}
+use Rattle.encoding_mem.specs.calls.Decoding.{Takes, Reports, DecoderState, EndsWith, Suffices}
+use Rattle.encoding_mem.specs.calls.DecodedLength.{is_units, counts_past_malformed, replacement_len, left_after}
 use Rattle.encoding_mem.specs.declared.room.OutputUnit.{OutputUnit}
 use Rattle.encoding_mem.specs.declared.decoder_result.DecoderResult.{DecoderResult}
 use Rattle.encoding_mem.specs.declared.decoder_result.DecoderResult.TheVariants.{OutputFull, Malformed, InputEmpty}
-use Rattle.encoding_front.specs.DecodedText.{TakesText, SufficesText, raw_result}
-use Rattle.encoding_front.specs.DecoderCall.{DecoderCall, TextCall}
-use Rattle.encoding_front.specs.TakesMark.{LeavesRoom}
+use Rattle.encoding_front.specs.calls.DecodedText.{TakesText, SufficesText, raw_result}
+use Rattle.encoding_front.specs.calls.DecoderCall.{DecoderCall, TextCall}
+use Rattle.encoding_front.specs.calls.TakesMark.{LeavesRoom}
 use Rattle.encoding_front.proofs.BomLemmas.{reports_join}
 use Rattle.std.specs.Str.{IsUtf8}
 use Rattle.encoding_tables.specs.IndexLists.{IndexLists}
 use Rattle.encoding_front.specs.laws.Input.{text_scalars}
 use Rattle.encoding_front.specs.Marks.{marked_pieces, marked_text}
-use Rattle.encoding_front.specs.OneShot.{IsDecoded}
-use Rattle.encoding_front.specs.Stream.{IsNewDecoder, DecoderView, finishes}
+use Rattle.encoding_front.specs.calls.OneShot.{IsDecoded}
+use Rattle.encoding_front.specs.calls.Stream.{IsNewDecoder, DecoderView, finishes}
 use Rattle.encoding_front.specs.declared.coder_result.CoderResult.{CoderResult}
 use Rattle.encoding_front.specs.declared.encoding.Encoding.{Encoding}
 use Rattle.encoding_front.specs.declared.mark.Mark.{Mark}
@@ -157,12 +157,12 @@ pub suffices_malformed : (before now after : OutputUnit → ℕ → ℕ) (t last
 suffices_malformed before now after t last size left n read old mid new rest a b cost outcome outcome_is left_is cost_is put within few h told k m on is stops fits =
     let s : Suffices now after t last left (left - read) mid new (Malformed a b) = subst (λ (o : DecoderResult). Suffices now after t last left (left - read) mid new o) outcome_is told in
     let here : now k (left + m) ≤ mid = (let same : (size - n) + m ≡ left + m = omega (arith, left_is) in omega (arith, ap (now k) same, h k m on is stops fits)) in
-    let there : replacement_len t + after k ((left - read) + m) ≤ new = left_on (goes_on k) (replacement_len t) (after k ((left - read) + m)) new on (s k m is stops here) in
+    let there : replacement_len t + after k ((left - read) + m) ≤ new = left_on (counts_past_malformed k) (replacement_len t) (after k ((left - read) + m)) new on (s k m is stops here) in
     let same : (left - read) + m ≡ (size - (n + read)) + m = omega (arith, left_is) in
     omega (arith, there, ap (after k) same, cost_is, mark_cost t, put)
 
 pub never_full : (before now after : OutputUnit → ℕ → ℕ) (t last : Bool) (size left n unread old mid new : ℕ) → left ≡ size - n → SufficesText before now t last size (size - n) old mid → Suffices now after t last left unread mid new OutputFull
-    → (k : OutputUnit) (m : ℕ) → goes_on k ≡ true → is_units k ≡ t → (IsTrue last → m ≡ 0) → before k (size + m) ≤ old → ⊥
+    → (k : OutputUnit) (m : ℕ) → counts_past_malformed k ≡ true → is_units k ≡ t → (IsTrue last → m ≡ 0) → before k (size + m) ≤ old → ⊥
 never_full before now after t last size left n unread old mid new left_is h s k m on is stops fits = s k m is stops (let same : (size - n) + m ≡ left + m = omega (arith, left_is) in omega (arith, ap (now k) same, h k m on is stops fits))
 
 -- A call once no mark is sought.
@@ -199,14 +199,14 @@ ends_settled s t left unread last free room mark InputEmpty same e is h = (
           more = waits.1.undecided.more;
           bytes = waits.1.undecided.bytes;
           short = waits.1.undecided.short;
-          differs = λ d. waits.1.undecided.differs (ap first (sym (same [])) ∙ d ∙ ap first (same ([] ++ waits.1.undecided.more)));
+          differs = λ d. waits.1.undecided.differs (ap head_piece (sym (same [])) ∙ d ∙ ap head_piece (same ([] ++ waits.1.undecided.more)));
         };
-        soon = λ r p f. omega (arith, e, waits.1.soon r p (ap first (sym (same r)) ∙ f));
+        soon = λ r p f. omega (arith, e, waits.1.soon r p (ap head_piece (sym (same r)) ∙ f));
       },
     )
   ],
 )
-ends_settled s t left unread last free room mark OutputFull same e is h = (h.0, (h.1.0, (λ r f. ap first (same (unread ++ r)) ∙ ap (λ x. first (s.pieces (x ++ r))) (sym is) ∙ h.1.1 r f), h.1.2))
+ends_settled s t left unread last free room mark OutputFull same e is h = (h.0, (h.1.0, (λ r f. ap head_piece (same (unread ++ r)) ∙ ap (λ x. head_piece (s.pieces (x ++ r))) (sym is) ∙ h.1.1 r f), h.1.2))
 ends_settled s t left unread last free room mark (Malformed a b) same e is h = h
 
 -- W is what is wanted before the mark is looked for, and X and B are N and A by another name
@@ -221,7 +221,7 @@ suffices_settled W X N A B t last size left n read old new OutputFull x b within
 suffices_settled W X N A B t last size left n read old new (Malformed i j) x b within is few leaves h = λ k m units stops fits.
     (let same : n + (left + m) ≡ size + m = omega (arith, within, is) in
     let there : A k ((left - read) + m) ≡ B k ((size - (n + read)) + m) = ap (A k) (let e : (left - read) + m ≡ (size - (n + read)) + m = omega (arith, within, is, few) in e) ∙ sym (b k ((size - (n + read)) + m)) in
-    subst (λ (v : ℕ). left_after (goes_on k) (replacement_len t) v ≤ new) there (h k m units stops (omega (arith, x k (left + m), leaves k (left + m), ap (W k) same, fits))))
+    subst (λ (v : ℕ). left_after (counts_past_malformed k) (replacement_len t) v ≤ new) there (h k m units stops (omega (arith, x k (left + m), leaves k (left + m), ap (W k) same, fits))))
 
 -- A whole input through one last call of a new decoder.
 

@@ -6,13 +6,13 @@ use Rattle.std.proofs.lemmas.Str.{IsUtf8-append}
 use Rattle.std.proofs.Math.Utf8.{scalar}
 use Rattle.std.specs.Str.{all_scalars, IsUtf8}
 use Rattle.encoding_mem.specs.Piece.{Piece, well_formed, malformed, text, scalars, ArePieces}
-use Rattle.encoding_mem.specs.Decoding.{DecoderState, EndsWith, Takes}
+use Rattle.encoding_mem.specs.calls.Decoding.{DecoderState, EndsWith, Takes}
 use Rattle.encoding_mem.specs.declared.decoder_result.DecoderResult.{DecoderResult}
-use Rattle.encoding_mem.specs.TextDestination.{cleared, Overwrites}
-use Rattle.encoding_mem.specs.Writing.{Adds}
-use Rattle.encoding_front.specs.DecodedText.{TakesText, raw_result}
-use Rattle.encoding_front.specs.DecoderCall.{DecoderCall, TextCall}
-use Rattle.encoding_front.specs.Stream.{DecoderView}
+use Rattle.encoding_mem.specs.calls.TextDestination.{cleared, Overwrites}
+use Rattle.encoding_mem.specs.calls.Writing.{Adds}
+use Rattle.encoding_front.specs.calls.DecodedText.{TakesText, raw_result}
+use Rattle.encoding_front.specs.calls.DecoderCall.{DecoderCall, TextCall}
+use Rattle.encoding_front.specs.calls.Stream.{DecoderView}
 use Rattle.encoding_front.specs.declared.coder_result.CoderResult.{CoderResult}
 use borrow.Rule.Slice.PartMut.{put_mid}
 use Rattle.encoding_front.proofs.ReferenceLemmas.{length_turn, take_into}

@@ -12,7 +12,7 @@ use Rattle.encoding_labels.specs.Labels.{IsLabelOf, label_text, labels, label_nu
 use Rattle.encoding_labels.specs.declared.places.TheConstants.{ENCODING_COUNT}
 use Rattle.encoding_tables.specs.IndexLists.{IndexLists, has}
 use Rattle.encoding_tables.specs.declared.index_kind.IndexKind.{IndexKind}
-use Rattle.encoding_front.specs.EncodingTable.{encodings, number_of, encoding_name, numbers_rise}
+use Rattle.encoding_front.specs.EncodingTable.{encodings, number_of, encoding_name, numbers_are_positions}
 use Rattle.encoding_front.specs.Encodings.{AreThere, HasLabel}
 use Rattle.encoding_front.specs.declared.encoding.Encoding.{Encoding}
 use Rattle.encoding_front.specs.declared.encoding.Encoding.TheVariants.{Big5}
@@ -32,7 +32,7 @@ same_number d e h = sym (at_number d) ∙ ap (λ (n : ℕ). slice_index_or encod
 pub number_at : (offset : ℕ) (d : Encoding) → offset < ENCODING_COUNT → number_of (slice_index_or encodings offset d) ≡ offset
 number_at offset d lt =
     sym (get_or-map number_of encodings offset d (number_of d) lt)
-    ∙ ap (λ (l : List ℕ). slice_index_or l offset (number_of d)) numbers_rise
+    ∙ ap (λ (l : List ℕ). slice_index_or l offset (number_of d)) numbers_are_positions
     ∙ get_or-range_with_len 0 ENCODING_COUNT offset (number_of d) lt
     ∙ zero-add offset
 

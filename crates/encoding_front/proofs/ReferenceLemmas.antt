@@ -6,21 +6,21 @@ use Rattle.std.proofs.lemmas.Fmt.{length-decimal-le}
 use Rattle.std.specs.Fmt.{decimal}
 use Rattle.std.proofs.lemmas.List.{append-nil, append_cancel_right, drop-drop, drop_all, drop-append-le, length-take-le, take-append-le, take_rest}
 use Rattle.encoding_mem.specs.declared.reference.Reference.TheVariants.{Decimal}
-use Rattle.encoding_mem.specs.Coding.{AllMapped, Coding, IsMapped, last_set, lost_count, bytes_from, open_from, reference, spelled, unmapped_count, whole_from, output}
-use Rattle.encoding_mem.specs.Encoding.{Continues, Encodes, EncodesItems}
+use Rattle.encoding_mem.specs.Coding.{AllMapped, Coding, IsMapped, last_set, lost_count, bytes_from, open_from, reference_bytes, spelled, unmapped_count, whole_from, output}
+use Rattle.encoding_mem.specs.calls.EncoderCalls.{WritesPart, Encodes, EncodesItems}
 use Rattle.encoding_mem.specs.laws.Encoding.{items_in_bytes, last_set-append, mapped_open, open_from-append}
 use Rattle.encoding_mem.specs.declared.encoder_result.EncoderResult.TheVariants.{Unmappable, InputEmpty, OutputFull}
 use Rattle.encoding_mem.specs.declared.form.Form.{Form}
 use Rattle.encoding_mem.specs.declared.form.Form.TheVariants.{Mapped, Unmapped}
 use Rattle.encoding_mem.specs.declared.form.EscapeState.{EscapeState}
 use Rattle.std.specs.Bool.{MatchBool}
-use Rattle.encoding_mem.specs.EncoderRule.{Moves}
+use Rattle.encoding_mem.specs.calls.EncoderRule.{Moves}
 use Rattle.encoding_mem.specs.declared.form.EscapeState.TheVariants.{Ascii}
 use Rattle.encoding_front.proofs.EncoderCallLemmas.{told_items}
-use Rattle.encoding_front.specs.Encoder.{EncoderState, Puts, ReplacingEndsWith, Replaces, coding_in, kept_back, Encoded, Turned, referred, new_state}
+use Rattle.encoding_front.specs.calls.Encoder.{EncoderState, Puts, ReplacingEndsWith, Replaces, coding_in, kept_back, Encoded, Turned, referred, new_state}
 use Rattle.encoding_front.specs.laws.Encoder.{need_positive, coding_laws, output_twice}
 use Rattle.encoding_front.specs.Encodings.{coding_of}
-use Rattle.encoding_front.specs.CodecBounds.{need_of}
+use Rattle.encoding_front.specs.calls.CodecBounds.{need_of}
 use Rattle.encoding_front.specs.declared.coder_result.CoderResult.{CoderResult}
 use Rattle.std.proofs.Math.Seq.{take-append-add, drop-append-add}
 use borrow.Rule.Slice.PartMut.{put_mid, post_of}
@@ -55,17 +55,17 @@ count_mapped e (c ∷ t) h = rw (mapped_count (e.form c) h.0, count_mapped e t h
 abbrev pub before_reference : Coding → EscapeState → List ℕ → ℕ → List ℕ
 before_reference e s t d = open_from Decimal e s t ++ e.escape (last_set e s t) (e.set (last_set e s t) d)
 
-unmapped_bytes : (e : Coding) (s : EscapeState) (t : List ℕ) (d u : ℕ) → e.form d ≡ Unmapped u → open_from Decimal e s (t ++ d ∷ []) ≡ before_reference e s t d ++ reference Decimal u
+unmapped_bytes : (e : Coding) (s : EscapeState) (t : List ℕ) (d u : ℕ) → e.form d ≡ Unmapped u → open_from Decimal e s (t ++ d ∷ []) ≡ before_reference e s t d ++ reference_bytes Decimal u
 unmapped_bytes e s t d u lost =
     let q = last_set e s t in
-    open_from-append Decimal e s t (d ∷ []) ∙ rw (lost, append-nil (reference Decimal u)) (sym (append_assoc (open_from Decimal e s t) (e.escape q (e.set q d)) (reference Decimal u)))
+    open_from-append Decimal e s t (d ∷ []) ∙ rw (lost, append-nil (reference_bytes Decimal u)) (sym (append_assoc (open_from Decimal e s t) (e.escape q (e.set q d)) (reference_bytes Decimal u)))
 
 -- Where a call stands behind a reference: what was read and written, and what it has still to write.
 pub record Gone (e : Coding) (last : Bool) (s : EscapeState) (text written : List ℕ) (s' : EscapeState) (rest : List ℕ) (lost : Bool) (prefix : List ℕ) : Type 0 where
   pub split : text ≡ prefix ++ rest
   pub opened : written ≡ open_from Decimal e s prefix
   pub set : s' ≡ last_set e s prefix
-  pub continues : Continues Decimal e s text written s' rest
+  pub continues : WritesPart Decimal e s text written s' rest
   pub sets : last_set e s text ≡ last_set e s' rest
   pub told : IsTrue lost ↔ (0 < lost_count e prefix)
 
@@ -82,7 +82,7 @@ gone_none e last s text = record {
 -- what a call that reports a character wrote, with the reference, is what the text that it read is written as, and the set
 -- that it leaves is that in which this ends
 reported : (e : Coding) (last : Bool) (u : ℕ) (s : EscapeState) (text w : List ℕ) (s' : EscapeState) (rest prefix : List ℕ) → Encodes e last (Unmappable u) s text w s' rest → text ≡ prefix ++ rest
-    → (w ++ reference Decimal u ≡ open_from Decimal e s prefix) × (s' ≡ last_set e s prefix)
+    → (w ++ reference_bytes Decimal u ≡ open_from Decimal e s prefix) × (s' ≡ last_set e s prefix)
 reported e last u s text w s' rest prefix law split =
     let t = law.before in
     let d = law.leaves.0 in
@@ -91,7 +91,7 @@ reported e last u s text w s' rest prefix law split =
     (append_assoc t (d ∷ []) rest ∙ ap (λ l. t ++ l) (sym law.leaves.1) ∙ sym law.split ∙ split) in
     let is : w ≡ before_reference e s t d = law.bytes ∙ ap (λ (k : EscapeState). bytes_from e s t ++ e.escape q k) law.leaves.3
     ∙ ap (λ l. l ++ e.escape q (e.set q d)) (sym (mapped_open Decimal e s t law.mapped)) in (
-      ap (λ l. l ++ reference Decimal u) is ∙ sym (unmapped_bytes e s t d u law.leaves.2) ∙ ap (open_from Decimal e s) ends,
+      ap (λ l. l ++ reference_bytes Decimal u) is ∙ sym (unmapped_bytes e s t d u law.leaves.2) ∙ ap (open_from Decimal e s) ends,
       law.leaves.3 ∙ sym (last_set-append e s t (d ∷ [])) ∙ ap (last_set e s) ends,
     )
 
@@ -118,15 +118,15 @@ counted_lost e t d u mapped lost = count-append e t (d ∷ []) ∙ rw (count_map
 
 pub gone_on : (e : Coding) (last : Bool) (s : EscapeState) (text written : List ℕ) (s' : EscapeState) (rest : List ℕ) (lost : Bool) (prefix : List ℕ) (w : List ℕ) (u : ℕ) (s'' : EscapeState) (rest' : List ℕ)
     → Gone e last s text written s' rest lost prefix → Encodes e last (Unmappable u) s' rest w s'' rest' → (p : EncodesItems Decimal e last (Unmappable u) s' rest w s'' rest')
-    → Gone e last s text (written ++ (w ++ reference Decimal u)) s'' rest' true (prefix ++ p.prefix)
+    → Gone e last s text (written ++ (w ++ reference_bytes Decimal u)) s'' rest' true (prefix ++ p.prefix)
 gone_on e last s text written s' rest lost prefix w u s'' rest' g law p =
     let now = reported e last u s' rest w s'' rest' p.prefix law p.split in
     record {
       split = g.split ∙ ap (λ l. prefix ++ l) p.split ∙ sym (append_assoc prefix p.prefix rest');
-      opened = ap (λ l. l ++ (w ++ reference Decimal u)) g.opened
+      opened = ap (λ l. l ++ (w ++ reference_bytes Decimal u)) g.opened
           ∙ ap (λ l. open_from Decimal e s prefix ++ l) (now.0 ∙ ap (λ (q : EscapeState). open_from Decimal e q p.prefix) g.set) ∙ sym (open_from-append Decimal e s prefix p.prefix);
       set = now.1 ∙ ap (λ (q : EscapeState). last_set e q p.prefix) g.set ∙ sym (last_set-append e s prefix p.prefix);
-      continues = λ r. g.continues r ∙ ap (λ l. written ++ l) (items_in_bytes Decimal e last (Unmappable u) s' rest w s'' rest' p r) ∙ sym (append_assoc written (w ++ reference Decimal u) _);
+      continues = λ r. g.continues r ∙ ap (λ l. written ++ l) (items_in_bytes Decimal e last (Unmappable u) s' rest w s'' rest' p r) ∙ sym (append_assoc written (w ++ reference_bytes Decimal u) _);
       sets = g.sets ∙ p.sets tt;
       told =
           let one : lost_count e p.prefix ≡ 1 = ap (lost_count e) p.reads.2 ∙ counted_lost e p.reads.0 p.reads.1 u p.reads.3 p.reads.4 in
@@ -210,8 +210,8 @@ going_none e last s text end = record {
 }
 
 pub going_on : (e : Coding) (last : Bool) (s : EscapeState) (text written : List ℕ) (s' : EscapeState) (rest : List ℕ) (lost : Bool) (end : ℕ) (w : List ℕ) (u : ℕ) (s'' : EscapeState) (rest' : List ℕ)
-    → Going e last s text written s' rest lost end → Encodes e last (Unmappable u) s' rest w s'' rest' → EncodesItems Decimal e last (Unmappable u) s' rest w s'' rest' → Moves e s' s'' → length (written ++ (w ++ reference Decimal u)) < end
-    → Going e last s text (written ++ (w ++ reference Decimal u)) s'' rest' true end
+    → Going e last s text written s' rest lost end → Encodes e last (Unmappable u) s' rest w s'' rest' → EncodesItems Decimal e last (Unmappable u) s' rest w s'' rest' → Moves e s' s'' → length (written ++ (w ++ reference_bytes Decimal u)) < end
+    → Going e last s text (written ++ (w ++ reference_bytes Decimal u)) s'' rest' true end
 going_on e last s text written s' rest lost end w u s'' rest' g law p moves more =
     let on = gone_on e last s text written s' rest lost g.prefix w u s'' rest' g.gone law p in
     record {
@@ -239,7 +239,7 @@ owed_open e last s text written s' rest lost prefix g =
     ∙ append_assoc written (open_from Decimal e s' rest) (e.escape (last_set e s' rest) Ascii)
 
 abbrev pub Bytes : Coding → Bool → EscapeState → List ℕ → List ℕ → EscapeState → List ℕ → Type 0
-Bytes e last s t w s' rest = MatchBool last (whole_from Decimal e s t ≡ w ++ whole_from Decimal e s' rest) (Continues Decimal e s t w s' rest)
+Bytes e last s t w s' rest = MatchBool last (whole_from Decimal e s t ≡ w ++ whole_from Decimal e s' rest) (WritesPart Decimal e s t w s' rest)
 
 gone_bytes : (e : Coding) (last : Bool) (s : EscapeState) (text written : List ℕ) (s' : EscapeState) (rest : List ℕ) (lost : Bool) (prefix : List ℕ) → Gone e last s text written s' rest lost prefix → Bytes e last s text written s' rest
 gone_bytes e true s text written s' rest lost prefix g = owed_open e true s text written s' rest lost prefix g
@@ -293,8 +293,8 @@ ended x x' last outcome text written s rest lost w rest' prefix size end at enou
 pub reached : (x x' : EncoderState) (last : Bool) (outcome : CoderResult) (text written : List ℕ) (s : EscapeState) (rest : List ℕ) (lost : Bool) (w : List ℕ) (u : ℕ) (rest' : List ℕ) (size end : ℕ)
     → end ≡ size - kept_back x.encoding → kept_back x.encoding ≤ size → Going (coding_in x) last x.set text written s rest lost end
     → x' ≡ record x { set = x'.set } → Encodes (coding_in x) last (Unmappable u) s rest w x'.set rest' → EncodesItems Decimal (coding_in x) last (Unmappable u) s rest w x'.set rest' → Moves (coding_in x) s x'.set → ReplacingEndsWith last outcome x'.set rest'
-    → end ≤ length (written ++ (w ++ reference Decimal u)) → length (written ++ w) ≤ end
-    → Replaces x last outcome text (written ++ (w ++ reference Decimal u)) x' rest' true size
+    → end ≤ length (written ++ (w ++ reference_bytes Decimal u)) → length (written ++ w) ≤ end
+    → Replaces x last outcome text (written ++ (w ++ reference_bytes Decimal u)) x' rest' true size
 reached x x' last outcome text written s rest lost w u rest' size end at enough g same law p moves ends reach fits =
     let e = coding_in x in
     let on = gone_on e last x.set text written s rest lost g.prefix w u x'.set rest' g.gone law p in
@@ -302,8 +302,8 @@ reached x x' last outcome text written s rest lost w u rest' size end at enough 
       same = same;
       prefix = g.prefix ++ p.prefix;
       split = on.split;
-      put = at_set x last text (written ++ (w ++ reference Decimal u)) x'.set rest' true (g.prefix ++ p.prefix) on;
-      bytes = gone_bytes e last x.set text (written ++ (w ++ reference Decimal u)) x'.set rest' true (g.prefix ++ p.prefix) on;
+      put = at_set x last text (written ++ (w ++ reference_bytes Decimal u)) x'.set rest' true (g.prefix ++ p.prefix) on;
+      bytes = gone_bytes e last x.set text (written ++ (w ++ reference_bytes Decimal u)) x'.set rest' true (g.prefix ++ p.prefix) on;
       sets = λ h. on.sets;
       moves = moves_on e x.set s x'.set g.moves moves;
       told = on.told;
@@ -316,8 +316,8 @@ reached x x' last outcome text written s rest lost w u rest' size end at enough 
         unmapped = λ mapped. subst IsMapped p.reads.4 mapped;
         whole = on.opened;
         begins =
-            let spelled_is : length (spelled Decimal (e.form p.reads.1)) ≡ length (reference Decimal u) = ap (λ f. length (spelled Decimal f)) p.reads.4 in
-            omega (arith, at, fits, spelled_is, length-append written (w ++ reference Decimal u), length-append w (reference Decimal u), length-append written w);
+            let spelled_is : length (spelled Decimal (e.form p.reads.1)) ≡ length (reference_bytes Decimal u) = ap (λ f. length (spelled Decimal f)) p.reads.4 in
+            omega (arith, at, fits, spelled_is, length-append written (w ++ reference_bytes Decimal u), length-append w (reference_bytes Decimal u), length-append written w);
       };
       few = λ less. absurd (omega arith);
       stops = λ before c after is unmapped past.
@@ -430,7 +430,7 @@ pub reference_reached : (x x1 x' : EncoderState) (last : Bool) (answer : Encoder
 reference_reached x x1 x' last answer u outcome text old rest lost more rest' new size end n at enough same going t is new_is ends reach left within =
     let call = as_first x x1 last (Unmappable u) rest t.called x' rest' (n - length t.called) same (rw is at t.call) in
     let law = told_items (record x { set = x1.set }) last (Unmappable u) rest t.called x' rest' (n - length t.called) call in
-    let bytes : new ≡ old ++ (t.called ++ reference Decimal u) = new_is ∙ ap (λ l. old ++ l) (t.all ∙ ap (λ (a : EncoderResult). t.called ++ referred a) is) in
+    let bytes : new ≡ old ++ (t.called ++ reference_bytes Decimal u) = new_is ∙ ap (λ l. old ++ l) (t.all ∙ ap (λ (a : EncoderResult). t.called ++ referred a) is) in
     subst (λ (l : List ℕ). Replaces x last outcome text l x' rest' true size) (sym bytes)
     (reached x x' last outcome text old x1.set rest lost t.called u rest' size end at enough going call.same call.codec.law law call.moves ends (omega (arith, reach, ap length bytes)) (omega (arith, t.fits, left, length-append old t.called)))
 
@@ -441,7 +441,7 @@ pub turn_on : (x x1 x' : EncoderState) (last : Bool) (answer : EncoderResult) (u
 turn_on x x1 x' last answer u text old rest lost more rest' new end n same going t is new_is short =
     let call = as_first x x1 last (Unmappable u) rest t.called x' rest' (n - length t.called) same (rw is at t.call) in
     let law = told_items (record x { set = x1.set }) last (Unmappable u) rest t.called x' rest' (n - length t.called) call in
-    let bytes : new ≡ old ++ (t.called ++ reference Decimal u) = new_is ∙ ap (λ l. old ++ l) (t.all ∙ ap (λ (a : EncoderResult). t.called ++ referred a) is) in
+    let bytes : new ≡ old ++ (t.called ++ reference_bytes Decimal u) = new_is ∙ ap (λ l. old ++ l) (t.all ∙ ap (λ (a : EncoderResult). t.called ++ referred a) is) in
     subst (λ (l : List ℕ). Going (coding_in x) last x.set text l x'.set rest' true end) (sym bytes)
     (going_on (coding_in x) last x.set text old x1.set rest lost end t.called u x'.set rest' going call.codec.law law call.moves (omega (arith, short, ap length bytes)))
 

@@ -5,7 +5,7 @@ use Rattle.encoding_mem.specs.Coding.{Coding}
 use Rattle.encoding_mem.specs.Utf8.{pieces_utf8}
 use Rattle.encoding_mem.specs.Utf8Coding.{utf8_coding}
 use Rattle.encoding_mem.specs.Stateless.{stateless}
-use Rattle.encoding_tables.specs.IndexLists.{IndexLists, entries_of, rows_of}
+use Rattle.encoding_tables.specs.IndexLists.{IndexLists, index_entries, range_rows}
 use Rattle.encoding_tables.specs.SingleByte.{pieces_single_byte, single_byte_coding}
 use Rattle.encoding_tables.specs.UserDefined.{pieces_user_defined, user_defined_coding}
 use Rattle.encoding_tables.specs.Utf16.{pieces_utf16}
@@ -35,18 +35,18 @@ codec_of t CodecKind.Utf8 = record { pieces = pieces_utf8; coding = utf8_coding 
 codec_of t (CodecKind.Utf16 big_endian) = record { pieces = pieces_utf16 big_endian; coding = utf8_coding }
 codec_of t CodecKind.Replacement = record { pieces = pieces_replacement false; coding = utf8_coding }
 codec_of t CodecKind.UserDefined = record { pieces = pieces_user_defined; coding = user_defined_coding }
-codec_of t (CodecKind.SingleByte kind) = let flat = entries_of t kind in
+codec_of t (CodecKind.SingleByte kind) = let flat = index_entries t kind in
     record { pieces = pieces_single_byte flat; coding = single_byte_coding flat }
-codec_of t CodecKind.Big5 = let flat = entries_of t IndexKind.Big5 in
+codec_of t CodecKind.Big5 = let flat = index_entries t IndexKind.Big5 in
     record { pieces = pieces_big5 flat; coding = stateless (big5_form flat) }
-codec_of t CodecKind.EucKr = let flat = entries_of t IndexKind.EucKr in
+codec_of t CodecKind.EucKr = let flat = index_entries t IndexKind.EucKr in
     record { pieces = pieces_euc_kr flat; coding = stateless (euc_kr_form flat) }
-codec_of t CodecKind.EucJp = let jis0208 = entries_of t IndexKind.Jis0208 in
-    record { pieces = pieces_euc_jp jis0208 (entries_of t IndexKind.Jis0212); coding = stateless (euc_jp_form jis0208) }
-codec_of t CodecKind.ShiftJis = let jis0208 = entries_of t IndexKind.Jis0208 in
+codec_of t CodecKind.EucJp = let jis0208 = index_entries t IndexKind.Jis0208 in
+    record { pieces = pieces_euc_jp jis0208 (index_entries t IndexKind.Jis0212); coding = stateless (euc_jp_form jis0208) }
+codec_of t CodecKind.ShiftJis = let jis0208 = index_entries t IndexKind.Jis0208 in
     record { pieces = pieces_shift_jis jis0208; coding = stateless (shift_jis_form jis0208) }
-codec_of t (CodecKind.Gb18030 extended) = let flat = entries_of t IndexKind.Gb18030 in
-    record { pieces = pieces_gb18030 flat (rows_of t); coding = stateless (gb18030_form flat (rows_of t) extended) }
-codec_of t CodecKind.Iso2022Jp = let jis0208 = entries_of t IndexKind.Jis0208 in
-    let katakana = entries_of t IndexKind.Iso2022JpKatakana in
+codec_of t (CodecKind.Gb18030 extended) = let flat = index_entries t IndexKind.Gb18030 in
+    record { pieces = pieces_gb18030 flat (range_rows t); coding = stateless (gb18030_form flat (range_rows t) extended) }
+codec_of t CodecKind.Iso2022Jp = let jis0208 = index_entries t IndexKind.Jis0208 in
+    let katakana = index_entries t IndexKind.Iso2022JpKatakana in
     record { pieces = pieces_iso_2022_jp jis0208; coding = iso_2022_jp_coding jis0208 katakana }

@@ -11,61 +11,61 @@ use Rattle.encoding_labels.specs.declared.places.TheConstants.{ENCODING_COUNT, B
 -- end
 
 -- of each encoding its number among all, its name, and how it is read and written
-abbrev pub row_of : Encoding → ℕ × List ℕ × CodecKind
-row_of Utf8 = (UTF_8, codes "UTF-8", CodecKind.Utf8)
-row_of Ibm866 = (IBM866, codes "IBM866", CodecKind.SingleByte IndexKind.Ibm866)
-row_of Iso8859_2 = (ISO_8859_2, codes "ISO-8859-2", CodecKind.SingleByte IndexKind.Iso8859_2)
-row_of Iso8859_3 = (ISO_8859_3, codes "ISO-8859-3", CodecKind.SingleByte IndexKind.Iso8859_3)
-row_of Iso8859_4 = (ISO_8859_4, codes "ISO-8859-4", CodecKind.SingleByte IndexKind.Iso8859_4)
-row_of Iso8859_5 = (ISO_8859_5, codes "ISO-8859-5", CodecKind.SingleByte IndexKind.Iso8859_5)
-row_of Iso8859_6 = (ISO_8859_6, codes "ISO-8859-6", CodecKind.SingleByte IndexKind.Iso8859_6)
-row_of Iso8859_7 = (ISO_8859_7, codes "ISO-8859-7", CodecKind.SingleByte IndexKind.Iso8859_7)
-row_of Iso8859_8 = (ISO_8859_8, codes "ISO-8859-8", CodecKind.SingleByte IndexKind.Iso8859_8)
-row_of Iso8859_8I = (ISO_8859_8_I, codes "ISO-8859-8-I", CodecKind.SingleByte IndexKind.Iso8859_8)
-row_of Iso8859_10 = (ISO_8859_10, codes "ISO-8859-10", CodecKind.SingleByte IndexKind.Iso8859_10)
-row_of Iso8859_13 = (ISO_8859_13, codes "ISO-8859-13", CodecKind.SingleByte IndexKind.Iso8859_13)
-row_of Iso8859_14 = (ISO_8859_14, codes "ISO-8859-14", CodecKind.SingleByte IndexKind.Iso8859_14)
-row_of Iso8859_15 = (ISO_8859_15, codes "ISO-8859-15", CodecKind.SingleByte IndexKind.Iso8859_15)
-row_of Iso8859_16 = (ISO_8859_16, codes "ISO-8859-16", CodecKind.SingleByte IndexKind.Iso8859_16)
-row_of Koi8R = (KOI8_R, codes "KOI8-R", CodecKind.SingleByte IndexKind.Koi8R)
-row_of Koi8U = (KOI8_U, codes "KOI8-U", CodecKind.SingleByte IndexKind.Koi8U)
-row_of Macintosh = (MACINTOSH, codes "macintosh", CodecKind.SingleByte IndexKind.Macintosh)
-row_of Windows874 = (WINDOWS_874, codes "windows-874", CodecKind.SingleByte IndexKind.Windows874)
-row_of Windows1250 = (WINDOWS_1250, codes "windows-1250", CodecKind.SingleByte IndexKind.Windows1250)
-row_of Windows1251 = (WINDOWS_1251, codes "windows-1251", CodecKind.SingleByte IndexKind.Windows1251)
-row_of Windows1252 = (WINDOWS_1252, codes "windows-1252", CodecKind.SingleByte IndexKind.Windows1252)
-row_of Windows1253 = (WINDOWS_1253, codes "windows-1253", CodecKind.SingleByte IndexKind.Windows1253)
-row_of Windows1254 = (WINDOWS_1254, codes "windows-1254", CodecKind.SingleByte IndexKind.Windows1254)
-row_of Windows1255 = (WINDOWS_1255, codes "windows-1255", CodecKind.SingleByte IndexKind.Windows1255)
-row_of Windows1256 = (WINDOWS_1256, codes "windows-1256", CodecKind.SingleByte IndexKind.Windows1256)
-row_of Windows1257 = (WINDOWS_1257, codes "windows-1257", CodecKind.SingleByte IndexKind.Windows1257)
-row_of Windows1258 = (WINDOWS_1258, codes "windows-1258", CodecKind.SingleByte IndexKind.Windows1258)
-row_of XMacCyrillic = (X_MAC_CYRILLIC, codes "x-mac-cyrillic", CodecKind.SingleByte IndexKind.XMacCyrillic)
-row_of Gbk = (GBK, codes "GBK", CodecKind.Gb18030 false)
-row_of Gb18030 = (GB18030, codes "gb18030", CodecKind.Gb18030 true)
-row_of Big5 = (BIG5, codes "Big5", CodecKind.Big5)
-row_of EucJp = (EUC_JP, codes "EUC-JP", CodecKind.EucJp)
-row_of Iso2022Jp = (ISO_2022_JP, codes "ISO-2022-JP", CodecKind.Iso2022Jp)
-row_of ShiftJis = (SHIFT_JIS, codes "Shift_JIS", CodecKind.ShiftJis)
-row_of EucKr = (EUC_KR, codes "EUC-KR", CodecKind.EucKr)
-row_of Replacement = (REPLACEMENT, codes "replacement", CodecKind.Replacement)
-row_of Utf16Be = (UTF_16BE, codes "UTF-16BE", CodecKind.Utf16 true)
-row_of Utf16Le = (UTF_16LE, codes "UTF-16LE", CodecKind.Utf16 false)
-row_of XUserDefined = (X_USER_DEFINED, codes "x-user-defined", CodecKind.UserDefined)
+abbrev pub encoding_row : Encoding → ℕ × List ℕ × CodecKind
+encoding_row Utf8 = (UTF_8, codes "UTF-8", CodecKind.Utf8)
+encoding_row Ibm866 = (IBM866, codes "IBM866", CodecKind.SingleByte IndexKind.Ibm866)
+encoding_row Iso8859_2 = (ISO_8859_2, codes "ISO-8859-2", CodecKind.SingleByte IndexKind.Iso8859_2)
+encoding_row Iso8859_3 = (ISO_8859_3, codes "ISO-8859-3", CodecKind.SingleByte IndexKind.Iso8859_3)
+encoding_row Iso8859_4 = (ISO_8859_4, codes "ISO-8859-4", CodecKind.SingleByte IndexKind.Iso8859_4)
+encoding_row Iso8859_5 = (ISO_8859_5, codes "ISO-8859-5", CodecKind.SingleByte IndexKind.Iso8859_5)
+encoding_row Iso8859_6 = (ISO_8859_6, codes "ISO-8859-6", CodecKind.SingleByte IndexKind.Iso8859_6)
+encoding_row Iso8859_7 = (ISO_8859_7, codes "ISO-8859-7", CodecKind.SingleByte IndexKind.Iso8859_7)
+encoding_row Iso8859_8 = (ISO_8859_8, codes "ISO-8859-8", CodecKind.SingleByte IndexKind.Iso8859_8)
+encoding_row Iso8859_8I = (ISO_8859_8_I, codes "ISO-8859-8-I", CodecKind.SingleByte IndexKind.Iso8859_8)
+encoding_row Iso8859_10 = (ISO_8859_10, codes "ISO-8859-10", CodecKind.SingleByte IndexKind.Iso8859_10)
+encoding_row Iso8859_13 = (ISO_8859_13, codes "ISO-8859-13", CodecKind.SingleByte IndexKind.Iso8859_13)
+encoding_row Iso8859_14 = (ISO_8859_14, codes "ISO-8859-14", CodecKind.SingleByte IndexKind.Iso8859_14)
+encoding_row Iso8859_15 = (ISO_8859_15, codes "ISO-8859-15", CodecKind.SingleByte IndexKind.Iso8859_15)
+encoding_row Iso8859_16 = (ISO_8859_16, codes "ISO-8859-16", CodecKind.SingleByte IndexKind.Iso8859_16)
+encoding_row Koi8R = (KOI8_R, codes "KOI8-R", CodecKind.SingleByte IndexKind.Koi8R)
+encoding_row Koi8U = (KOI8_U, codes "KOI8-U", CodecKind.SingleByte IndexKind.Koi8U)
+encoding_row Macintosh = (MACINTOSH, codes "macintosh", CodecKind.SingleByte IndexKind.Macintosh)
+encoding_row Windows874 = (WINDOWS_874, codes "windows-874", CodecKind.SingleByte IndexKind.Windows874)
+encoding_row Windows1250 = (WINDOWS_1250, codes "windows-1250", CodecKind.SingleByte IndexKind.Windows1250)
+encoding_row Windows1251 = (WINDOWS_1251, codes "windows-1251", CodecKind.SingleByte IndexKind.Windows1251)
+encoding_row Windows1252 = (WINDOWS_1252, codes "windows-1252", CodecKind.SingleByte IndexKind.Windows1252)
+encoding_row Windows1253 = (WINDOWS_1253, codes "windows-1253", CodecKind.SingleByte IndexKind.Windows1253)
+encoding_row Windows1254 = (WINDOWS_1254, codes "windows-1254", CodecKind.SingleByte IndexKind.Windows1254)
+encoding_row Windows1255 = (WINDOWS_1255, codes "windows-1255", CodecKind.SingleByte IndexKind.Windows1255)
+encoding_row Windows1256 = (WINDOWS_1256, codes "windows-1256", CodecKind.SingleByte IndexKind.Windows1256)
+encoding_row Windows1257 = (WINDOWS_1257, codes "windows-1257", CodecKind.SingleByte IndexKind.Windows1257)
+encoding_row Windows1258 = (WINDOWS_1258, codes "windows-1258", CodecKind.SingleByte IndexKind.Windows1258)
+encoding_row XMacCyrillic = (X_MAC_CYRILLIC, codes "x-mac-cyrillic", CodecKind.SingleByte IndexKind.XMacCyrillic)
+encoding_row Gbk = (GBK, codes "GBK", CodecKind.Gb18030 false)
+encoding_row Gb18030 = (GB18030, codes "gb18030", CodecKind.Gb18030 true)
+encoding_row Big5 = (BIG5, codes "Big5", CodecKind.Big5)
+encoding_row EucJp = (EUC_JP, codes "EUC-JP", CodecKind.EucJp)
+encoding_row Iso2022Jp = (ISO_2022_JP, codes "ISO-2022-JP", CodecKind.Iso2022Jp)
+encoding_row ShiftJis = (SHIFT_JIS, codes "Shift_JIS", CodecKind.ShiftJis)
+encoding_row EucKr = (EUC_KR, codes "EUC-KR", CodecKind.EucKr)
+encoding_row Replacement = (REPLACEMENT, codes "replacement", CodecKind.Replacement)
+encoding_row Utf16Be = (UTF_16BE, codes "UTF-16BE", CodecKind.Utf16 true)
+encoding_row Utf16Le = (UTF_16LE, codes "UTF-16LE", CodecKind.Utf16 false)
+encoding_row XUserDefined = (X_USER_DEFINED, codes "x-user-defined", CodecKind.UserDefined)
 
 -- the number of an encoding: its position, from 0, in the list of all 40
 abbrev pub number_of : Encoding → ℕ
-number_of e = (row_of e).0
+number_of e = (encoding_row e).0
 
 -- the name of an encoding, in bytes of ASCII (section 4.2, "Names and labels")
 abbrev pub encoding_name : Encoding → List ℕ
-encoding_name e = (row_of e).1
+encoding_name e = (encoding_row e).1
 
 -- how an encoding is read and written: its codec, with the index, the byte order or the variant
 abbrev pub codec_kind_of : Encoding → CodecKind
-codec_kind_of e = (row_of e).2
+codec_kind_of e = (encoding_row e).2
 
--- all of them, in the order of their numbers
+-- all 40 encodings, in the order of their numbers
 -- Written by tools/generate_encodings.py from tools/encodings.toml; do not edit.
 abbrev pub encodings : List Encoding
 encodings = Big5 ∷ EucJp ∷ EucKr ∷ Gb18030 ∷ Gbk ∷ Ibm866 ∷ Iso2022Jp ∷ Iso8859_2 ∷ Iso8859_3 ∷ Iso8859_4 ∷ Iso8859_5 ∷ Iso8859_6 ∷ Iso8859_7 ∷ Iso8859_8 ∷ Iso8859_8I ∷ Iso8859_10 ∷ Iso8859_13 ∷ Iso8859_14 ∷ Iso8859_15 ∷ Iso8859_16 ∷ Koi8R ∷ Koi8U ∷ Macintosh ∷ Replacement ∷ ShiftJis ∷ Utf8 ∷ Utf16Be ∷ Utf16Le ∷ Windows874 ∷ Windows1250 ∷ Windows1251 ∷ Windows1252 ∷ Windows1253 ∷ Windows1254 ∷ Windows1255 ∷ Windows1256 ∷ Windows1257 ∷ Windows1258 ∷ XMacCyrillic ∷ XUserDefined ∷ []
@@ -73,5 +73,5 @@ encodings = Big5 ∷ EucJp ∷ EucKr ∷ Gb18030 ∷ Gbk ∷ Ibm866 ∷ Iso2022J
 -- end
 
 -- the numbers of the encodings, in the order of their list, are 0 to 39
-pub numbers_rise : map number_of encodings ≡ range_with_len 0 ENCODING_COUNT
-numbers_rise = refl
+pub numbers_are_positions : map number_of encodings ≡ range_with_len 0 ENCODING_COUNT
+numbers_are_positions = refl

@@ -8,8 +8,8 @@ use Rattle.encoding_mem.specs.Coding.{Coding}
 use Rattle.encoding_mem.specs.declared.form.EscapeState.{EscapeState}
 use Rattle.encoding_mem.specs.Steps.{in_any_set}
 use Rattle.encoding_mem.specs.Utf8.{pieces_utf8}
-use Rattle.encoding_tables.specs.IndexLists.{IndexLists, entries_of, has}
-use Rattle.encoding_tables.specs.Kinds.{is_single_byte}
+use Rattle.encoding_tables.specs.IndexLists.{IndexLists, index_entries, has}
+use Rattle.encoding_tables.specs.Kinds.{is_single_byte_kind}
 use Rattle.encoding_tables.specs.declared.index_kind.IndexKind.{IndexKind}
 use Rattle.encoding_codecs.specs.Iso2022JpSets.{pieces_from_set}
 use Rattle.encoding_front.specs.declared.encoding.Encoding.{Encoding}
@@ -67,7 +67,7 @@ is_single_byte_of e = is_single_byte_codec_kind (codec_kind_of e)
 
 -- the index of a single-byte codec is that of a single-byte encoding
 abbrev pub IsProper : CodecKind → Type 0
-IsProper (CodecKind.SingleByte kind) = is_single_byte kind ≡ true
+IsProper (CodecKind.SingleByte kind) = is_single_byte_kind kind ≡ true
 IsProper _ = Unit {0}
 
 -- the encoding is UTF-8
@@ -124,7 +124,7 @@ coding_of t e = (codec_of t (codec_kind_of (output_encoding_of e))).coding
 abbrev pub set_pieces_of_codec_kind : IndexLists → CodecKind → EscapeState → List ℕ → List Piece
 set_pieces_of_codec_kind t (CodecKind.Utf16 big_endian) = in_any_set pieces_utf8
 set_pieces_of_codec_kind t CodecKind.Replacement = in_any_set pieces_utf8
-set_pieces_of_codec_kind t CodecKind.Iso2022Jp = pieces_from_set (entries_of t IndexKind.Jis0208)
+set_pieces_of_codec_kind t CodecKind.Iso2022Jp = pieces_from_set (index_entries t IndexKind.Jis0208)
 set_pieces_of_codec_kind t kind = in_any_set (codec_of t kind).pieces
 
 -- The pieces of what is written in the output encoding, from where a set is in force.

@@ -38,6 +38,6 @@ pieces_from t s x = mark_piece s.1 ++ pieces_of t s.0 (drop s.1 x)
 abbrev pub marked_pieces : IndexLists → Mark → Encoding → List ℕ → List Piece
 marked_pieces t mark e x = pieces_from t (source_of mark e x) x
 
--- and its text
+-- the text of a whole input said to be in e, without a mark that is taken
 abbrev pub marked_text : IndexLists → Mark → Encoding → List ℕ → List ℕ
 marked_text t mark e x = text (marked_pieces t mark e x)

@@ -1,22 +1,27 @@
 //! The decoder of a stream: a byte order mark is taken first, and U+FFFD is written where it is
 //! asked for.
 
-ghost use Rattle.std.specs.Prelude.{◌≡◌, ◌≢◌, ℕ, ◌<◌, ◌≤◌, ◌+◌, ◌-◌, ◌++◌, true, false, IsTrue, List, [], Some, length, take, drop, encode_utf8_all, refl, string_bytes, string_capacity, string_len, vec_capacity, vec_len};
+ghost use Rattle.std.specs.Prelude.{◌≡◌, ◌≢◌, ℕ, ◌<◌, ◌≤◌, ◌+◌, ◌-◌, ◌++◌, true, false, IsTrue};
+ghost use Rattle.std.specs.Prelude.{List, [], Some, length, take, drop, encode_utf8_all, refl};
+ghost use Rattle.std.specs.Prelude.{string_bytes, string_capacity, string_len, vec_capacity};
+ghost use Rattle.std.specs.Prelude.{vec_len};
 ghost use Rattle.std.specs.Str.{IsUtf8};
-ghost use Rattle.encoding_mem.specs.Decoding.{Suffices};
-ghost use Rattle.encoding_mem.specs.TextDestination.{Overwrites};
-ghost use Rattle.encoding_mem.specs.Writing.{Adds, encode_utf16_all};
+ghost use Rattle.encoding_mem.specs.calls.Decoding.{Suffices};
+ghost use Rattle.encoding_mem.specs.calls.TextDestination.{Overwrites};
+ghost use Rattle.encoding_mem.specs.calls.Writing.{Adds, encode_utf16_all};
 ghost use Rattle.encoding_mem.specs.declared.room.OutputUnit.TheVariants.{Units, Bytes, Replaced};
-ghost use Rattle.encoding_front.specs.BomDecoderState.{bom_decoder_state};
-ghost use Rattle.encoding_front.specs.DecodedText.{NeverFull};
-ghost use Rattle.encoding_front.specs.DecoderCall.{DecoderCall, IfRoomAsked, TextCall};
+ghost use Rattle.encoding_front.specs.calls.BomDecoderState.{bom_decoder_state};
+ghost use Rattle.encoding_front.specs.calls.DecodedText.{NeverFull};
+ghost use Rattle.encoding_front.specs.calls.DecoderCall.{DecoderCall, IfRoomAsked, TextCall};
 ghost use Rattle.encoding_front.specs.Encodings.{IsReady};
-ghost use Rattle.encoding_front.specs.CodecBounds.{decoded_length_of};
-ghost use Rattle.encoding_front.specs.Latin1Prefix.{latin1_rule};
-ghost use Rattle.encoding_front.specs.Seeking.{find_mark, is_sought, mark_taken};
-ghost use Rattle.encoding_front.specs.Stream.{IsNewDecoder, DecoderView, IsOpenedBy, TellsLatin1Prefix, ahead, encoding_after, finishes, greater_if, room_asked};
-ghost use Rattle.encoding_front.specs.TakesMark.{TakesMark};
-ghost use Rattle.encoding_front.specs.VariantDecoders.{rule_of, state_of};
+ghost use Rattle.encoding_front.specs.calls.CodecBounds.{decoded_length_of};
+ghost use Rattle.encoding_front.specs.calls.Latin1Prefix.{latin1_rule};
+ghost use Rattle.encoding_front.specs.calls.Seeking.{find_mark, is_sought, mark_taken};
+ghost use Rattle.encoding_front.specs.calls.Stream.{IsNewDecoder, DecoderView, IsOpenedBy};
+ghost use Rattle.encoding_front.specs.calls.Stream.{TellsLatin1Prefix, ahead, encoding_after};
+ghost use Rattle.encoding_front.specs.calls.Stream.{finishes, greater_if, room_asked};
+ghost use Rattle.encoding_front.specs.calls.TakesMark.{TakesMark};
+ghost use Rattle.encoding_front.specs.calls.VariantDecoders.{rule_of, state_of};
 ghost use Rattle.encoding_front.specs.laws.Stream.{named_by, room_named, widest_by};
 ghost use Rattle.encoding_front.specs.declared.mark.Mark.{Mark};
 ghost use Rattle.encoding_front.specs.declared.seeking.BomMatch.{BomMatch};
@@ -119,7 +124,7 @@ pub struct Decoder<'t> {
 }
 
 impl Encoding {
-    ghost use Rattle.encoding_front.specs.DecoderViews.{decoder_view};
+    ghost use Rattle.encoding_front.specs.calls.DecoderViews.{decoder_view};
 
     /// A decoder of a new stream that takes any of the three byte order marks, and then decodes by
     /// the encoding of the mark; without one, by this encoding (the Encoding Standard, section 6,
@@ -213,7 +218,7 @@ impl<'t> StreamDecoder for Decoder<'t> {
 }
 
 impl<'t> Decoder<'t> {
-    ghost use Rattle.encoding_front.specs.DecoderViews.{decoder_view};
+    ghost use Rattle.encoding_front.specs.calls.DecoderViews.{decoder_view};
 
     /// A decoder of a new stream in `encoding`, where `mark` says which byte order marks are taken.
     ///

@@ -1,12 +1,16 @@
 //! The encoder of a stream: its queries and its calls, with references and without.
 
-ghost use Rattle.std.specs.Prelude.{◌≡◌, ◌≢◌, ◌↔◌, ℕ, ◌+◌, ◌-◌, ◌≤◌, ◌++◌, true, false, IsTrue, List, length, take, drop, vec_capacity, vec_len};
+ghost use Rattle.std.specs.Prelude.{◌≡◌, ◌≢◌, ◌↔◌, ℕ, ◌+◌, ◌-◌, ◌≤◌, ◌++◌, true, false, IsTrue};
+ghost use Rattle.std.specs.Prelude.{List, length, take, drop, vec_capacity, vec_len};
 ghost use Rattle.std.specs.Str.{chars};
 ghost use Rattle.std.specs.Char.Utf16.{utf16_lossy_chars};
 ghost use Rattle.encoding_mem.specs.Conversions.{IsUnitBoundary};
-ghost use Rattle.encoding_mem.specs.EncoderRule.{WritesBytes, left};
+ghost use Rattle.encoding_mem.specs.calls.EncoderRule.{WritesBytes, left};
 ghost use Rattle.encoding_mem.specs.declared.form.EscapeState.TheVariants.{Ascii};
-ghost use Rattle.encoding_front.specs.Encoder.{Encoded, EncoderState, IsCodecOf, ReadsText, Replaces, kept_back, new_state, parts_in, queried_room, queried_with_kept, room_for, room_with_kept};
+ghost use Rattle.encoding_front.specs.calls.Encoder.{Encoded, EncoderState, IsCodecOf, ReadsText};
+ghost use Rattle.encoding_front.specs.calls.Encoder.{Replaces, kept_back, new_state, parts_in};
+ghost use Rattle.encoding_front.specs.calls.Encoder.{queried_room, queried_with_kept};
+ghost use Rattle.encoding_front.specs.calls.Encoder.{room_without_reference, room_with_reference};
 ghost use Rattle.encoding_front.specs.laws.Encoder.{coding_laws};
 ghost use Rattle.encoding_front.specs.Encodings.{IsReady, coding_of, output_encoding_of};
 
@@ -164,7 +168,7 @@ impl<'t> Encoder<'t> {
             (left S.text (S.all source.old) (S.offset source.old)) (take result.1 dst.new)
             self.new (left S.text (S.all source.new) (S.offset source.new))
             (length dst.new - result.1) }
-        ensures enough { room_for self.old.encoding S.is_units
+        ensures enough { room_without_reference self.old.encoding S.is_units
             (length (S.all source.old) - S.offset source.old) ≤ length dst.old
             → result.0 ≢ EncoderResult.OutputFull }
     {
@@ -196,7 +200,8 @@ impl<'t> Encoder<'t> {
         ensures wrote { WritesBytes dst.old dst.new result.2 }
         ensures call { Encoded self.old last result.0 (chars src.now) (take result.2 dst.new)
             self.new (chars (drop result.1 src.now)) (length dst.new - result.2) }
-        ensures enough { room_for self.old.encoding false (length src.now) ≤ length dst.old
+        ensures enough { room_without_reference self.old.encoding false (length src.now)
+            ≤ length dst.old
             → result.0 ≢ EncoderResult.OutputFull }
     {
         let mut source = Utf8Source::new(src);
@@ -223,7 +228,8 @@ impl<'t> Encoder<'t> {
         ensures call { Encoded self.old last result.0 (utf16_lossy_chars src.now)
             (take result.2 dst.new) self.new (utf16_lossy_chars (drop result.1 src.now))
             (length dst.new - result.2) }
-        ensures enough { room_for self.old.encoding true (length src.now) ≤ length dst.old
+        ensures enough { room_without_reference self.old.encoding true (length src.now)
+            ≤ length dst.old
             → result.0 ≢ EncoderResult.OutputFull }
     {
         let mut source = Utf16Source::new(src);
@@ -258,7 +264,8 @@ impl<'t> Encoder<'t> {
         ensures wrote { WritesBytes dst.old dst.new result.2 }
         ensures call { Replaces self.old last result.0 (chars src.now) (take result.2 dst.new)
             self.new (chars (drop result.1 src.now)) result.3 (length dst.new) }
-        ensures enough { room_with_kept self.old.encoding false (length src.now) ≤ length dst.old
+        ensures enough { room_with_reference self.old.encoding false (length src.now)
+            ≤ length dst.old
             → result.3 ≡ false → result.0 ≢ CoderResult.OutputFull }
     {
         let mut source = Utf8Source::new(src);
@@ -285,7 +292,8 @@ impl<'t> Encoder<'t> {
         ensures call { Replaces self.old last result.0 (utf16_lossy_chars src.now)
             (take result.2 dst.new) self.new (utf16_lossy_chars (drop result.1 src.now))
             result.3 (length dst.new) }
-        ensures enough { room_with_kept self.old.encoding true (length src.now) ≤ length dst.old
+        ensures enough { room_with_reference self.old.encoding true (length src.now)
+            ≤ length dst.old
             → result.3 ≡ false → result.0 ≢ CoderResult.OutputFull }
     {
         let mut source = Utf16Source::new(src);
@@ -309,7 +317,7 @@ impl<'t> Encoder<'t> {
         ensures call { (written : List ℕ) × (dst.new.items ≡ dst.old.items ++ written)
             × Replaces self.old last result.0 (chars src.now) written self.new
             (chars (drop result.1 src.now)) result.2 (vec_capacity dst.old - vec_len dst.old) }
-        ensures enough { room_with_kept self.old.encoding false (length src.now)
+        ensures enough { room_with_reference self.old.encoding false (length src.now)
             ≤ vec_capacity dst.old - vec_len dst.old → result.2 ≡ false
             → result.0 ≢ CoderResult.OutputFull }
     {
@@ -337,7 +345,7 @@ impl<'t> Encoder<'t> {
             × Encoded self.old last result.0 (chars src.now) written self.new
             (chars (drop result.1 src.now))
             (vec_capacity dst.old - vec_len dst.old - length written) }
-        ensures enough { room_for self.old.encoding false (length src.now)
+        ensures enough { room_without_reference self.old.encoding false (length src.now)
             ≤ vec_capacity dst.old - vec_len dst.old → result.0 ≢ EncoderResult.OutputFull }
     {
         let len = fill_spare(dst);

@@ -7,7 +7,10 @@ ghost use Rattle.encoding_mem.specs.LongestPrefix.{IsLongestPrefix};
 ghost use Rattle.std.specs.List.{list_all};
 ghost use Rattle.encoding_tables.specs.IndexLists.{AreAcceptedTables, has};
 ghost use Rattle.encoding_front.specs.EncodingTable.{encoding_name, number_of, codec_kind_of};
-ghost use Rattle.encoding_front.specs.Encodings.{HasLabel, IsProper, IsReady, IsUtf8Encoding, KeepsCharacters, is_ascii_compatible_of, is_single_byte_of, mark_at_start, needs_of, output_encoding_of};
+ghost use Rattle.encoding_front.specs.Encodings.{HasLabel, IsProper, IsReady, IsUtf8Encoding};
+ghost use Rattle.encoding_front.specs.Encodings.{KeepsCharacters, is_ascii_compatible_of};
+ghost use Rattle.encoding_front.specs.Encodings.{is_single_byte_of, mark_at_start, needs_of};
+ghost use Rattle.encoding_front.specs.Encodings.{output_encoding_of};
 ghost use Rattle.encoding_front.specs.declared.encoding.Encoding.{Encoding};
 
 use crate::codec_kind::{CodecKind, row_of};

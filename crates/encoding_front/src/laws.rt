@@ -6,11 +6,11 @@ ghost use Rattle.std.specs.Str.{all_scalars, chars};
 ghost use Rattle.encoding_mem.specs.declared.reference.Reference.{Reference};
 ghost use Rattle.encoding_mem.specs.declared.reference.Reference.TheVariants.{Decimal};
 ghost use Rattle.encoding_mem.specs.Agreement.{ReadsBackOrBreaks, ReadsByStep};
-ghost use Rattle.encoding_mem.specs.Coding.{bytes, open_from, output, reference};
-ghost use Rattle.encoding_mem.specs.Decoding.{TakesSoon};
-ghost use Rattle.encoding_mem.specs.Encoding.{Encodes};
+ghost use Rattle.encoding_mem.specs.Coding.{mapped_bytes, open_from, output, reference_bytes};
+ghost use Rattle.encoding_mem.specs.calls.Decoding.{TakesSoon};
+ghost use Rattle.encoding_mem.specs.calls.EncoderCalls.{Encodes};
 ghost use Rattle.encoding_mem.specs.Piece.{ArePieces, sizes};
-ghost use Rattle.encoding_mem.specs.ReadCalls.{KeepsVerdict, NothingIsLost};
+ghost use Rattle.encoding_mem.specs.calls.ReadCalls.{KeepsVerdict, IsNotUnmappable};
 ghost use Rattle.encoding_mem.specs.declared.encoder_result.EncoderResult.{EncoderResult};
 ghost use Rattle.encoding_mem.specs.ReadBack.{ReadsAs, ReadsBackExactly};
 ghost use Rattle.encoding_mem.specs.Steps.{IsBroken};
@@ -18,18 +18,21 @@ ghost use Rattle.encoding_mem.specs.declared.decoder_result.DecoderResult.{Decod
 ghost use Rattle.encoding_mem.specs.declared.form.EscapeState.{EscapeState};
 ghost use Rattle.encoding_mem.specs.declared.form.EscapeState.TheVariants.{Ascii};
 ghost use Rattle.encoding_tables.specs.IndexLists.{AreAcceptedTables, IndexLists};
-ghost use Rattle.encoding_front.specs.Bounds.{ReportsItself};
-ghost use Rattle.encoding_front.specs.DecoderCall.{DecoderCall, Destination, HasText, TextCall};
+ghost use Rattle.encoding_front.specs.calls.ReportedCharacter.{ReportsItself};
+ghost use Rattle.encoding_front.specs.calls.DecoderCall.{DecoderCall, Destination, HasText};
+ghost use Rattle.encoding_front.specs.calls.DecoderCall.{TextCall};
 ghost use Rattle.encoding_front.specs.EncodingTable.{encoding_name};
-ghost use Rattle.encoding_front.specs.Encodings.{HasLabel, KeepsCharacters, coding_of, output_encoding_of, pieces_of};
+ghost use Rattle.encoding_front.specs.Encodings.{HasLabel, KeepsCharacters, coding_of};
+ghost use Rattle.encoding_front.specs.Encodings.{output_encoding_of, pieces_of};
 ghost use Rattle.encoding_front.specs.Encodings.{set_pieces_of};
 ghost use Rattle.encoding_front.specs.Marks.{marked_pieces, marked_text};
-ghost use Rattle.encoding_front.specs.Stream.{DecoderView};
+ghost use Rattle.encoding_front.specs.calls.Stream.{DecoderView};
 ghost use Rattle.encoding_front.specs.declared.coder_result.CoderResult.{CoderResult};
 ghost use Rattle.encoding_front.specs.declared.mark.Mark.{Mark};
 ghost use Rattle.encoding_front.specs.declared.one_shot_fault.OneShotFault.{OneShotFault};
 ghost use Rattle.encoding_front.specs.declared.encoding.Encoding.{Encoding};
-ghost use Rattle.encoding_front.specs.declared.encoding.Encoding.TheVariants.{Replacement, Utf16Be, Utf16Le};
+ghost use Rattle.encoding_front.specs.declared.encoding.Encoding.TheVariants.{Replacement, Utf16Be};
+ghost use Rattle.encoding_front.specs.declared.encoding.Encoding.TheVariants.{Utf16Le};
 
 use crate::coder_result::CoderResult;
 use crate::encoding::Encoding;
@@ -104,7 +107,7 @@ pub fn kept_characters_keep_verdicts()
         → (last : Bool) (outcome : EncoderResult) (before : EscapeState) (text written : List ℕ)
         → (after : EscapeState) (rest : List ℕ) → all_scalars text ≡ true
         → Encodes (coding_of t e) last outcome before text written after rest
-        → NothingIsLost outcome
+        → IsNotUnmappable outcome
         → KeepsVerdict (coding_of t e) last true (pieces_of t (output_encoding_of e)) before text
         true (pieces_of t (output_encoding_of e)) after rest }
 {}
@@ -113,13 +116,13 @@ pub fn kept_characters_keep_verdicts()
 /// characters is written in at most 13 n + 3 bytes.
 pub fn written_is_short()
     ensures form { (t : IndexLists) (e : Encoding) (c : ℕ)
-        → length (bytes ((coding_of t e).form c)) ≤ 4 }
+        → length (mapped_bytes ((coding_of t e).form c)) ≤ 4 }
     ensures escape { (t : IndexLists) (e : Encoding) (s s' : EscapeState)
         → length ((coding_of t e).escape s s') ≤ 3 }
     ensures reported { (t : IndexLists) (e : Encoding) (c : ℕ)
         → ReportsItself c ((coding_of t e).form c) }
     ensures reference { (ref : Reference) (c : ℕ) → c < 0x110000
-        → length (reference ref c) ≤ 10 }
+        → length (reference_bytes ref c) ≤ 10 }
     ensures part { (ref : Reference) (t : IndexLists) (e : Encoding) (s : EscapeState)
         (text : List ℕ) → all_scalars text ≡ true
         → length (open_from ref (coding_of t e) s text) ≤ 13 * length text }

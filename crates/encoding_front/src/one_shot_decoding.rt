@@ -1,11 +1,12 @@
 //! A whole input at once.
 
-ghost use Rattle.std.specs.Prelude.{◌≡◌, ◌↔◌, ◌<◌, None, Some, length, IfOk, IfSome, encode_utf8_all, string_bytes};
+ghost use Rattle.std.specs.Prelude.{◌≡◌, ◌↔◌, ◌<◌, None, Some, length, IfOk, IfSome};
+ghost use Rattle.std.specs.Prelude.{encode_utf8_all, string_bytes};
 ghost use Rattle.encoding_mem.specs.Piece.{malformed_count};
 ghost use Rattle.encoding_mem.specs.declared.room.OutputUnit.TheVariants.{Bytes, Replaced};
 ghost use Rattle.encoding_front.specs.Encodings.{IsReady};
 ghost use Rattle.encoding_front.specs.Marks.{marked_pieces, marked_text, source_of};
-ghost use Rattle.encoding_front.specs.OneShot.{FailsFor, IsDecoded, room_at_start};
+ghost use Rattle.encoding_front.specs.calls.OneShot.{FailsFor, IsDecoded, room_at_start};
 
 use crate::decoder::{Decoder, StreamDecoder};
 use crate::encoding::Encoding;

@@ -1,12 +1,13 @@
 //! A whole text at once.
 
-ghost use Rattle.std.specs.Prelude.{◌≡◌, ◌↔◌, ◌-◌, ◌<◌, ◌≤◌, false, IsTrue, length, IfOk, vec_capacity, vec_len};
+ghost use Rattle.std.specs.Prelude.{◌≡◌, ◌↔◌, ◌-◌, ◌<◌, ◌≤◌, false, IsTrue, length, IfOk};
+ghost use Rattle.std.specs.Prelude.{vec_capacity, vec_len};
 ghost use Rattle.std.specs.Str.{chars};
 ghost use Rattle.encoding_mem.specs.declared.reference.Reference.TheVariants.{Decimal};
 ghost use Rattle.encoding_mem.specs.Coding.{lost_count, output};
-ghost use Rattle.encoding_front.specs.Encoder.{queried_with_kept, room_with_kept};
+ghost use Rattle.encoding_front.specs.calls.Encoder.{queried_with_kept, room_with_reference};
 ghost use Rattle.encoding_front.specs.Encodings.{IsReady, coding_of, output_encoding_of};
-ghost use Rattle.encoding_front.specs.OneShot.{FailsFor};
+ghost use Rattle.encoding_front.specs.calls.OneShot.{FailsFor};
 
 use crate::coder_result::CoderResult;
 use crate::encoder::Encoder;
@@ -57,7 +58,7 @@ impl Encoding {
 // Makes room behind the bytes for so many bytes of text, if each character of it has bytes.
 fn reserve_for(encoder: &Encoder<'_>, len: usize, bytes: &mut Vec<u8>) -> Result<(), OneShotFault>
     ensures items { bytes.new.items ≡ bytes.old.items }
-    ensures room { IfOk result (λ _. room_with_kept encoder.now.encoding false len
+    ensures room { IfOk result (λ _. room_with_reference encoder.now.encoding false len
         ≤ vec_capacity bytes.new - vec_len bytes.new) }
     ensures fault { FailsFor (queried_with_kept encoder.now.encoding false len) result }
 {

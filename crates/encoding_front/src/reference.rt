@@ -3,7 +3,7 @@
 ghost use Rattle.std.specs.Prelude.{◌≡◌, ◌≤◌, ◌<◌, ◌+◌, ◌^◌, ◌++◌};
 ghost use Rattle.std.specs.Prelude.{codes, drop, length, take, true};
 ghost use Rattle.std.specs.Fmt.{digit_glyph, digits};
-ghost use Rattle.encoding_mem.specs.Coding.{reference};
+ghost use Rattle.encoding_mem.specs.Coding.{reference_bytes};
 
 use encoding_mem::Reference;
 use encoding_mem::encode::put_all;
@@ -20,9 +20,9 @@ use itoa::Buffer;
 /// Ten bytes are enough: no number is above 1114111, hexadecimal 10FFFF, so at most seven digits
 /// stand between three bytes, or six between four.
 pub fn write_reference(c: char, form: Reference, dst: &mut [u8; 10]) -> usize
-    ensures size { result ≡ length (reference form c) }
+    ensures size { result ≡ length (reference_bytes form c) }
     ensures fits { result ≤ 10 }
-    ensures reference { take result dst.new ≡ reference form c }
+    ensures reference { take result dst.new ≡ reference_bytes form c }
     ensures behind { drop result dst.new ≡ drop result dst.old }
 {
     let number = u32::from(c);

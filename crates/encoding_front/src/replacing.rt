@@ -1,8 +1,10 @@
 //! Encoding with references for characters without bytes, once for both kinds of source.
 
 ghost use Rattle.std.specs.Prelude.{◌≡◌, ◌≢◌, false, ◌+◌, ◌-◌, ◌≤◌, length, take};
-ghost use Rattle.encoding_mem.specs.EncoderRule.{WritesBytes, left};
-ghost use Rattle.encoding_front.specs.Encoder.{ReplacingEndsWith, Replaces, Turned, kept_back, room_for, room_with_kept};
+ghost use Rattle.encoding_mem.specs.calls.EncoderRule.{WritesBytes, left};
+ghost use Rattle.encoding_front.specs.calls.Encoder.{ReplacingEndsWith, Replaces, Turned};
+ghost use Rattle.encoding_front.specs.calls.Encoder.{kept_back, room_without_reference};
+ghost use Rattle.encoding_front.specs.calls.Encoder.{room_with_reference};
 
 use crate::coder_result::CoderResult;
 use crate::encoder::Encoder;
@@ -24,7 +26,7 @@ fn encode_turn<S: Source>(
     requires { end + kept_back encoder.old.encoding ≡ length dst.old }
     ensures source { S.all source.new ≡ S.all source.old }
     ensures wrote { WritesBytes dst.old dst.new result.1 }
-    ensures enough { room_for encoder.old.encoding S.is_units
+    ensures enough { room_without_reference encoder.old.encoding S.is_units
         (length (S.all source.old) - S.offset source.old) ≤ end
         → result.0 ≢ EncoderResult.OutputFull }
     ensures turn { Turned encoder.old last result.0
@@ -68,7 +70,7 @@ pub(crate) fn encode_replacing<S: Source>(
         (left S.text (S.all source.old) (S.offset source.old)) (take result.1 dst.new)
         encoder.new (left S.text (S.all source.new) (S.offset source.new))
         result.2 (length dst.new) }
-    ensures enough { room_with_kept encoder.old.encoding S.is_units
+    ensures enough { room_with_reference encoder.old.encoding S.is_units
         (length (S.all source.old) - S.offset source.old) ≤ length dst.old
         → result.2 ≡ false → result.0 ≢ CoderResult.OutputFull }
 {

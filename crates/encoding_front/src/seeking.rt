@@ -1,7 +1,9 @@
 //! Looks for a byte order mark at the start of some bytes.
 
 ghost use Rattle.std.specs.Prelude.{◌≡◌, ◌||◌};
-ghost use Rattle.encoding_front.specs.Seeking.{can_be, encoding_of_mark, find_end, find_mark, find_second, head_of, is_sought, len_of, nothing_sought, seeks, sought_by};
+ghost use Rattle.encoding_front.specs.calls.Seeking.{can_be, encoding_of_mark, find_end, find_mark};
+ghost use Rattle.encoding_front.specs.calls.Seeking.{find_second, mark_head, is_sought, mark_len};
+ghost use Rattle.encoding_front.specs.calls.Seeking.{nothing_sought, seeks, sought_by};
 ghost use Rattle.encoding_front.specs.declared.seeking.ByteOrderMark.TheVariants.{Utf16Be, Utf16Le};
 
 use crate::encoding::Encoding;
@@ -22,7 +24,7 @@ pub enum ByteOrderMark {
 impl ByteOrderMark {
     /// How many bytes it has.
     pub(crate) fn len(self) -> usize
-        ensures { result ≡ len_of self }
+        ensures { result ≡ mark_len self }
     {
         match self {
             ByteOrderMark::Utf8 => 3,
@@ -32,7 +34,7 @@ impl ByteOrderMark {
 
     // Its first byte.
     fn head(self) -> u8
-        ensures { result ≡ head_of self }
+        ensures { result ≡ mark_head self }
     {
         match self {
             ByteOrderMark::Utf8 => 0xEF,

@@ -1,13 +1,23 @@
 //! The decoder of any encoding, without mark handling: one of the decoders of all codecs.
 
 ghost use Rattle.std.specs.Prelude.{◌≡◌, ◌+◌, ◌<◌, ◌≤◌, length};
-ghost use Rattle.encoding_mem.specs.Decoding.{StateCall};
-ghost use Rattle.encoding_front.specs.BomDecoderState.{held_state};
+ghost use Rattle.encoding_mem.specs.calls.Decoding.{StateCall};
+ghost use Rattle.encoding_front.specs.calls.BomDecoderState.{held_state};
 ghost use Rattle.encoding_front.specs.Encodings.{IsReady, pieces_of};
-ghost use Rattle.encoding_front.specs.CodecBounds.{decoded_length_of};
-ghost use Rattle.encoding_front.specs.Latin1Prefix.{TellsLatin1, latin1_rule};
-ghost use Rattle.encoding_front.specs.Seeking.{encoding_of_mark, pieces_after};
-ghost use Rattle.encoding_front.specs.declared.variant_decoder.VariantDecoder.TheVariants.{Utf8, SingleByte, Big5, EucKr, EucJp, ShiftJis, Gb18030, Iso2022Jp, UserDefined, Utf16, Replacement};
+ghost use Rattle.encoding_front.specs.calls.CodecBounds.{decoded_length_of};
+ghost use Rattle.encoding_front.specs.calls.Latin1Prefix.{TellsLatin1, latin1_rule};
+ghost use Rattle.encoding_front.specs.calls.Seeking.{encoding_of_mark, pieces_after_mark};
+ghost use Rattle.encoding_front.specs.declared.variant_decoder.VariantDecoder.TheVariants.{Utf8};
+ghost use Rattle.encoding_front.specs.declared.variant_decoder.VariantDecoder.TheVariants.{SingleByte};
+ghost use Rattle.encoding_front.specs.declared.variant_decoder.VariantDecoder.TheVariants.{Big5};
+ghost use Rattle.encoding_front.specs.declared.variant_decoder.VariantDecoder.TheVariants.{EucKr};
+ghost use Rattle.encoding_front.specs.declared.variant_decoder.VariantDecoder.TheVariants.{EucJp};
+ghost use Rattle.encoding_front.specs.declared.variant_decoder.VariantDecoder.TheVariants.{ShiftJis};
+ghost use Rattle.encoding_front.specs.declared.variant_decoder.VariantDecoder.TheVariants.{Gb18030};
+ghost use Rattle.encoding_front.specs.declared.variant_decoder.VariantDecoder.TheVariants.{Iso2022Jp};
+ghost use Rattle.encoding_front.specs.declared.variant_decoder.VariantDecoder.TheVariants.{UserDefined};
+ghost use Rattle.encoding_front.specs.declared.variant_decoder.VariantDecoder.TheVariants.{Utf16};
+ghost use Rattle.encoding_front.specs.declared.variant_decoder.VariantDecoder.TheVariants.{Replacement};
 
 use crate::codec_kind::CodecKind;
 use crate::encoding::Encoding;
@@ -75,7 +85,7 @@ macro_rules! dispatch {
 }
 
 impl<'t> VariantDecoder<'t> {
-    ghost use Rattle.encoding_front.specs.VariantDecoders.{rule_of, state_of};
+    ghost use Rattle.encoding_front.specs.calls.VariantDecoders.{rule_of, state_of};
 
     /// A decoder of a new stream in `encoding`, with nothing pending.
     ///
@@ -108,7 +118,7 @@ impl<'t> VariantDecoder<'t> {
     /// The decoder of what follows a byte order mark. Nothing is pending.
     pub(crate) fn after_mark(mark: ByteOrderMark) -> Self
         ensures pending { (state_of result).pending ≡ 0 }
-        ensures pieces { (state_of result).pieces ≡ pieces_after mark }
+        ensures pieces { (state_of result).pieces ≡ pieces_after_mark mark }
         ensures room { (state_of result).room ≡ decoded_length_of (encoding_of_mark mark) }
         ensures rule { rule_of result ≡ latin1_rule (encoding_of_mark mark) }
     {

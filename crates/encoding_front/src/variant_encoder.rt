@@ -1,6 +1,6 @@
 //! The encoder of any output encoding: one of the encoders of all codecs.
 
-ghost use Rattle.encoding_mem.specs.EncoderRule.{IsFreshEncoder};
+ghost use Rattle.encoding_mem.specs.calls.EncoderRule.{IsFreshEncoder};
 ghost use Rattle.encoding_mem.specs.laws.Utf8Coding.{utf8_coding_laws};
 ghost use Rattle.encoding_tables.specs.laws.SingleByte.{single_byte_laws};
 ghost use Rattle.encoding_tables.specs.laws.UserDefined.{user_defined_laws};
@@ -11,8 +11,16 @@ ghost use Rattle.encoding_codecs.specs.laws.ShiftJis.{shift_jis_laws};
 ghost use Rattle.encoding_codecs.specs.laws.Gb18030Coding.{gb18030_laws};
 ghost use Rattle.encoding_codecs.specs.laws.Iso2022JpForms.{iso_2022_jp_laws};
 ghost use Rattle.encoding_front.specs.Encodings.{IsReady, coding_of, output_encoding_of};
-ghost use Rattle.encoding_front.specs.CodecBounds.{need_of, encoded_length_of};
-ghost use Rattle.encoding_front.specs.declared.variant_encoder.VariantEncoder.TheVariants.{Utf8, SingleByte, Big5, EucKr, EucJp, ShiftJis, Gb18030, Iso2022Jp, UserDefined};
+ghost use Rattle.encoding_front.specs.calls.CodecBounds.{need_of, encoded_length_of};
+ghost use Rattle.encoding_front.specs.declared.variant_encoder.VariantEncoder.TheVariants.{Utf8};
+ghost use Rattle.encoding_front.specs.declared.variant_encoder.VariantEncoder.TheVariants.{SingleByte};
+ghost use Rattle.encoding_front.specs.declared.variant_encoder.VariantEncoder.TheVariants.{Big5};
+ghost use Rattle.encoding_front.specs.declared.variant_encoder.VariantEncoder.TheVariants.{EucKr};
+ghost use Rattle.encoding_front.specs.declared.variant_encoder.VariantEncoder.TheVariants.{EucJp};
+ghost use Rattle.encoding_front.specs.declared.variant_encoder.VariantEncoder.TheVariants.{ShiftJis};
+ghost use Rattle.encoding_front.specs.declared.variant_encoder.VariantEncoder.TheVariants.{Gb18030};
+ghost use Rattle.encoding_front.specs.declared.variant_encoder.VariantEncoder.TheVariants.{Iso2022Jp};
+ghost use Rattle.encoding_front.specs.declared.variant_encoder.VariantEncoder.TheVariants.{UserDefined};
 
 use crate::codec_kind::CodecKind;
 use crate::encoding::Encoding;

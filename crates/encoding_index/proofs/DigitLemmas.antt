@@ -9,22 +9,22 @@ use Rattle.std.proofs.lemmas.List.{length-take}
 use Rattle.std.proofs.lemmas.List.Sums.{prefix_len_is, prefix_len_stops}
 use Rattle.std.proofs.lemmas.Int.Digits.{digits_value-lt, digits_value_more}
 use Rattle.std.proofs.Math.Nat.{pow-le-pow_right}
-use Rattle.encoding_index.specs.IndexLine.{is_digit, is_hex_digit, number_in}
+use Rattle.encoding_index.specs.IndexLine.{is_decimal_digit, is_hex_digit, number_in}
 use Rattle.encoding_index.specs.laws.Digits.{hex_or_none, HaveDigits}
 
-pub digit_small : (b : ℕ) → is_digit b ≡ true → digit_value b < 10
+pub digit_small : (b : ℕ) → is_decimal_digit b ≡ true → digit_value b < 10
 digit_small b digit = grind (arith, nat_tests)
 
 pub hex_digit_small : (b : ℕ) → is_hex_digit b ≡ true → digit_value b < 16
 hex_digit_small b digit = grind (arith, nat_tests)
 
-pub is_digit_by : (b : ℕ) → is_ascii_digit b ≡ true → is_digit b ≡ true
+pub is_digit_by : (b : ℕ) → is_ascii_digit b ≡ true → is_decimal_digit b ≡ true
 is_digit_by b digit = grind (arith, nat_tests)
 
-pub no_digit_by : (b : ℕ) → is_ascii_digit b ≡ false → is_digit b ≡ false
+pub no_digit_by : (b : ℕ) → is_ascii_digit b ≡ false → is_decimal_digit b ≡ false
 no_digit_by b other = grind (arith, nat_tests)
 
-pub digit_value_is : (b : ℕ) → is_digit b ≡ true → b - 0x30 ≡ digit_value b
+pub digit_value_is : (b : ℕ) → is_decimal_digit b ≡ true → b - 0x30 ≡ digit_value b
 digit_value_is b digit = grind (arith, nat_tests)
 
 pub hex_is : (b v : ℕ) → v ≡ hex_or_none b → is_hex_digit b ≡ true → v ≡ digit_value b
@@ -51,8 +51,8 @@ counted_below radix most p small some bytes count value counted few =
     let below = below_power radix most (take count bytes) some (all_digits radix p small bytes count counted.passes counted.within) short in
     omega (arith, counted.value_is, below)
 
-pub pointer_below : (most : ℕ) (bytes : List ℕ) (count value : ℕ) → HaveDigits is_digit 10 bytes count value → count ≤ most → value < 10 ^ most
-pointer_below most = counted_below 10 most is_digit digit_small (omega arith)
+pub pointer_below : (most : ℕ) (bytes : List ℕ) (count value : ℕ) → HaveDigits is_decimal_digit 10 bytes count value → count ≤ most → value < 10 ^ most
+pointer_below most = counted_below 10 most is_decimal_digit digit_small (omega arith)
 
 pub code_below : (most : ℕ) (bytes : List ℕ) (count value : ℕ) → HaveDigits is_hex_digit 16 bytes count value → count ≤ most → value < 16 ^ most
 code_below most = counted_below 16 most is_hex_digit hex_digit_small (omega arith)

@@ -3,8 +3,8 @@ use Rattle.std.proofs.Common.{◌≡◌, ◌≢◌, ℕ, suc, ◌+◌, ◌-◌, 
 use Rattle.std.specs.Option.{MatchOption}
 use Rattle.std.proofs.lemmas.Bool.{cases_lt}
 use Rattle.std.proofs.Math.Seq.{take-append_seam, get_or-append_seam}
-use Rattle.encoding_index.specs.IndexText.{lines_in, rows_in, rows_before_fault, least_above, line_fault, first_fault_behind, first_fault, out_of_memory, row_fault}
-use Rattle.encoding_index.specs.FaultLaws.{fault_at, NoneFaultyBefore, IsFirstFault, FaultsAreFirst}
+use Rattle.encoding_index.specs.IndexText.{lines_in, rows_in, rows_before_fault, least_above, line_fault, first_fault_behind, first_fault, memory_fault, row_fault}
+use Rattle.encoding_index.specs.laws.FaultLaws.{fault_at, NoneFaultyBefore, IsFirstFault, FaultsAreFirst}
 use Rattle.encoding_index.specs.declared.fault.IndexFault.{IndexFault}
 use Rattle.encoding_index.specs.declared.fault.IndexFaultKind.{IndexFaultKind}
 use Rattle.std.specs.List.{last_or}
@@ -70,7 +70,7 @@ unfolding Told
 faults_are_first size text = told size [] (lines_in text) (λ k below. absurd (omega arith))
 
 -- a fault of a line is no want of memory
-pub fault_has_a_line : (size : ℕ) (text : List ℕ) (fault : IndexFault) → first_fault size text ≡ Some fault → fault ≢ out_of_memory
+pub fault_has_a_line : (size : ℕ) (text : List ℕ) (fault : IndexFault) → first_fault size text ≡ Some fault → fault ≢ memory_fault
 fault_has_a_line size text fault found same =
     let first : IsFirstFault size (lines_in text) fault = subst (λ f. MatchOption f (NoneFaultyBefore size (lines_in text) (length (lines_in text))) (IsFirstFault size (lines_in text))) found (faults_are_first size text) in
     absurd (omega (arith, first.numbered, ap (λ (f : IndexFault). f.line) same))

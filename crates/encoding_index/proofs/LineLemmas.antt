@@ -5,7 +5,7 @@ use Rattle.std.specs.Str.Parse.{digits_value}
 use Rattle.std.specs.List.{prefix_len, slice_split, position_or_len, before_first, after_first, list_all, starts_with, AllPass}
 use Rattle.std.proofs.lemmas.Bool.Decides.{nat_tests}
 use Rattle.std.proofs.lemmas.List.Sums.{fails_before_first, AllPass-from_list_all, prefix_len-drop_no, prefix_len-drop_all, prefix_len_passes}
-use Rattle.encoding_index.specs.IndexLine.{is_digit, is_hex_digit, is_blank, is_space, is_skipped, pointer_in, row_in, is_row_end, behind, number_in}
+use Rattle.encoding_index.specs.IndexLine.{is_decimal_digit, is_hex_digit, is_blank, is_space, is_skipped, pointer_in, row_in, is_row_end, behind, number_in}
 use Rattle.std.specs.Str.Lines.{lines, lines_of_parts, strip_carriage_return}
 use Rattle.std.proofs.lemmas.List.Splits.{slice_split_first, slice_split_none, length-slice_split}
 use Rattle.std.specs.Prelude.{nat_eq, ◌||◌, if◌then◌else◌}
@@ -14,7 +14,7 @@ use Rattle.std.proofs.lemmas.List.{take-append-drop, get_or-take, get_or-replica
 use Rattle.std.proofs.lemmas.List.Folds.{length-prefix_len}
 use Rattle.std.proofs.Math.Seq.{take-append_seam, drop-append_seam}
 use lib.Pointwise.{bytes_decides}
-use Rattle.encoding_index.specs.RowGrammar.{IsRow}
+use Rattle.encoding_index.specs.RowGrammar.{IsIndexRow}
 
 abbrev pub is_newline : ℕ → Bool
 is_newline b = eqb b 10
@@ -45,22 +45,22 @@ lines_last text some none =
 
 -- A line that is skipped is no row.
 
-no_pointer : (bytes : List ℕ) → prefix_len is_digit bytes ≡ 0 → pointer_in bytes ≡ None
+no_pointer : (bytes : List ℕ) → prefix_len is_decimal_digit bytes ≡ 0 → pointer_in bytes ≡ None
 no_pointer bytes none = rw none refl
 
 no_row : (line : List ℕ) → pointer_in (drop (prefix_len is_space line) line) ≡ None → row_in line ≡ None
 unfolding row_in
 no_row line none = rw none refl
 
-no_digit : (b : ℕ) → is_blank b ≡ true → is_digit b ≡ false
+no_digit : (b : ℕ) → is_blank b ≡ true → is_decimal_digit b ≡ false
 no_digit b blank = grind (arith, nat_tests)
 
 row_in-blank : (line : List ℕ) → list_all is_blank line ≡ true → row_in line ≡ None
 row_in-blank line blank =
     let n = prefix_len is_space line in
     no_row line (no_pointer (drop n line) (elim (cases_lt n (length line)) [
-      | inl below ↦ prefix_len-drop_no is_digit line n 0 below (no_digit (get_or line n 0) (AllPass-from_list_all is_blank line blank n 0 below))
-      | inr above ↦ prefix_len-drop_all is_digit line n above
+      | inl below ↦ prefix_len-drop_no is_decimal_digit line n 0 below (no_digit (get_or line n 0) (AllPass-from_list_all is_blank line blank n 0 below))
+      | inr above ↦ prefix_len-drop_all is_decimal_digit line n above
     ]))
 
 row_in-number_sign : (line : List ℕ) → row_in (35 ∷ line) ≡ None
@@ -152,10 +152,10 @@ end_is end (inr some) = rw some.1 (refl, refl)
 number_read : (radix least most : ℕ) (digits rest : List ℕ) → least ≤ length digits → length digits ≤ most → number_in radix least most (length digits) (digits ++ rest) ≡ Some (digits_value radix digits, rest)
 number_read radix least most digits rest low high = rw (take-append_seam digits rest, drop-append_seam digits rest) (grind (arith, nat_tests))
 
-no_space : (digits rest : List ℕ) → AllPass is_digit digits → 1 ≤ length digits → prefix_len is_space (digits ++ rest) ≡ 0
+no_space : (digits rest : List ℕ) → AllPass is_decimal_digit digits → 1 ≤ length digits → prefix_len is_space (digits ++ rest) ≡ 0
 no_space [] rest all some = absurd (omega arith)
 no_space (d ∷ digits) rest all some =
-    let digit : is_digit d ≡ true = all 0 0 (omega arith) in
+    let digit : is_decimal_digit d ≡ true = all 0 0 (omega arith) in
     let other : is_space d ≡ false = grind (arith, nat_tests) in
     rw other refl
 
@@ -164,19 +164,19 @@ behind_spaces spaces body none =
     let count = prefix_len-all is_space (replicate spaces 0x20) body (λ k d below. rw (get_or-replicate spaces k 0x20 d (omega (arith, length-replicate {A = ℕ} spaces 0x20))) refl) none in
     rw count (drop-append_seam (replicate spaces 0x20) body)
 
-row_from : (spaces : ℕ) (digits hex_digits end : List ℕ) → AllPass is_digit digits → 1 ≤ length digits → length digits ≤ 7 → AllPass is_hex_digit hex_digits → 4 ≤ length hex_digits → length hex_digits ≤ 6
+row_from : (spaces : ℕ) (digits hex_digits end : List ℕ) → AllPass is_decimal_digit digits → 1 ≤ length digits → length digits ≤ 7 → AllPass is_hex_digit hex_digits → 4 ≤ length hex_digits → length hex_digits ≤ 6
     → is_row_end end ≡ true → prefix_len is_hex_digit end ≡ 0 → 0 < digits_value 16 hex_digits
     → row_in (replicate spaces 0x20 ++ (digits ++ (codes "\t0x" ++ (hex_digits ++ end)))) ≡ Some (digits_value 10 digits, digits_value 16 hex_digits)
 unfolding row_in
 row_from spaces digits hex_digits end decimal low high hexadecimal least most ended none positive =
     let numeral = codes "\t0x" ++ (hex_digits ++ end) in
     let first = behind_spaces spaces (digits ++ numeral) (no_space digits numeral decimal low) in
-    let digits_count = prefix_len-all is_digit digits numeral decimal refl in
+    let digits_count = prefix_len-all is_decimal_digit digits numeral decimal refl in
     let hex_count = prefix_len-all is_hex_digit hex_digits end hexadecimal none in
     let some : eqb (digits_value 16 hex_digits) 0 ≡ false = grind (arith, nat_tests) in
     rw (first, digits_count, number_read 10 1 7 digits numeral low high, hex_count, number_read 16 4 6 hex_digits end least most, ended, some) refl
 
-pub row_in-written : (line : List ℕ) (pointer code : ℕ) → IsRow line pointer code → row_in line ≡ Some (pointer, code)
+pub row_in-written : (line : List ℕ) (pointer code : ℕ) → IsIndexRow line pointer code → row_in line ≡ Some (pointer, code)
 row_in-written line pointer code row =
     let ended = end_is row.end row.ended in
     let read = row_from row.spaces row.digits row.hex_digits row.end row.decimal row.at_least_one row.at_most_seven row.hexadecimal row.at_least_four row.at_most_six ended.0 ended.1 (omega (arith, row.positive, row.code_is)) in

@@ -10,7 +10,7 @@ use Rattle.std.specs.Prelude.{if◌then◌else◌, is_some}
 use Rattle.encoding_tables.specs.declared.index_kind.IndexKind.{IndexKind}
 use Rattle.encoding_tables.specs.declared.table_fault.TableFault.{TableFault}
 use Rattle.encoding_tables.specs.declared.table_fault.TableFault.TheVariants.{Memory}
-use Rattle.encoding_index.specs.IndexText.{text_rows, out_of_memory}
+use Rattle.encoding_index.specs.IndexText.{text_rows, memory_fault}
 use Rattle.encoding_index.specs.Loads.{pointers_of, text_fault, table_fault, load_fault, WantsMemory}
 use Rattle.encoding_index.specs.laws.Inserts.{rows_fault}
 use Rattle.encoding_index.proofs.RowLemmas.{read_rows_rise, read_rows_are_below}
@@ -33,9 +33,9 @@ Done = Unit {0}
 
 -- the clause of `load`
 abbrev pub Answers : Option LoadFault → Result Done LoadFault → Type 0
-Answers fault result = MatchOption fault ((result ≡ Ok tt) ⊎ WantsMemory result) (λ f. (result ≡ Err f) ⊎ (result ≡ Err (Text out_of_memory)))
+Answers fault result = MatchOption fault ((result ≡ Ok tt) ⊎ WantsMemory result) (λ f. (result ≡ Err f) ⊎ (result ≡ Err (Text memory_fault)))
 
-answers_memory : (fault : Option LoadFault) (result : Result Done LoadFault) → result ≡ Err (Text out_of_memory) → Answers fault result
+answers_memory : (fault : Option LoadFault) (result : Result Done LoadFault) → result ≡ Err (Text memory_fault) → Answers fault result
 answers_memory None result refused = inr (inl refused)
 answers_memory (Some f) result refused = inr refused
 
@@ -46,7 +46,7 @@ load_fault-text tables kind text fault found = ap (λ o. option_or (option_map T
 
 -- the text was not read
 pub answers_text : (tables : IndexLists) (kind : IndexKind) (text : List ℕ) (fault : IndexFault) (result : Result Done LoadFault)
-    → (text_fault kind text ≡ Some fault) ⊎ (fault ≡ out_of_memory) → IsErrAnd result (λ x. x ≡ Text fault) → Answers (load_fault tables kind text) result
+    → (text_fault kind text ≡ Some fault) ⊎ (fault ≡ memory_fault) → IsErrAnd result (λ x. x ≡ Text fault) → Answers (load_fault tables kind text) result
 answers_text tables kind text fault result (inl found) told =
     subst (λ o. Answers o result) (sym (load_fault-text tables kind text (Some fault) found)) (inl (err_is result (Text fault) told))
 answers_text tables kind text fault result (inr refused) told =

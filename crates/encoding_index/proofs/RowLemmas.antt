@@ -1,7 +1,7 @@
 -- The rows of a text without a fault: their pointers, one after another. A list of the rows of a text, as they
 -- come. A list that rows are written into, one after another. The entries of a list of rows.
 use Rattle.std.proofs.Common.{◌≡◌, ℕ, zero, suc, ◌+◌, List, [], ◌∷◌, None, refl, sym, subst, ◌∙◌, arith, ◌++◌, Some, Result, Ok, Err, ap, ◌≢◌, length, length-append, ◌<◌, ◌≤◌, eqb, cond, get_or, set, replicate, inl, inr, false}
-use Rattle.encoding_tables.specs.PackedRows.{PointersRise, PointersAreBelow, entry_at, flat_list}
+use Rattle.encoding_tables.specs.PackedRows.{PointersRise, PointersAreBelow, packed_entry, flat_list}
 use Rattle.encoding_index.specs.IndexText.{lines_in, text_rows, first_fault, rows_before_fault, rows_in}
 use Rattle.encoding_index.proofs.FaultLemmas.{AreRising, first_fault_is, rows_rise, rows_read_is, fault_in, rows_read, rows_before_fault_is}
 use Rattle.std.proofs.lemmas.List.{append_assoc, append-nil, length-set, get_or-set_other, get_or-replicate, length-replicate}
@@ -13,7 +13,7 @@ use Rattle.std.proofs.lemmas.Grind.{get_or-set_at}
 use Rattle.std.proofs.lemmas.List.FromFn.{fill_by_all, get_or-map-range_with_len, length-map-range_with_len}
 use Rattle.std.specs.Prelude.{All}
 use Rattle.std.proofs.Math.ListN.{get_or-eq_default}
-use Rattle.encoding_index.specs.ListLaws.{IsListOf, ListsAreOfRows}
+use Rattle.encoding_index.specs.laws.ListLaws.{IsListOf, ListsAreOfRows}
 
 pub text_rows_rise : (size : ℕ) (text : List ℕ) → first_fault size text ≡ None → AreRising size 0 (text_rows text)
 text_rows_rise size text none =
@@ -88,12 +88,12 @@ length-filled : (list : List ℕ) (rows : List (ℕ × ℕ)) → length (filled 
 length-filled list [] = refl
 length-filled list (row ∷ rows) = length-filled (set list row.0 row.1) rows ∙ length-set list row.0 row.1
 
--- `entry_at`, with a value for pointers of no row
+-- `packed_entry`, with a value for pointers of no row
 entry_or : List (ℕ × ℕ) → ℕ → ℕ → ℕ
 entry_or [] pointer d = d
 entry_or (row ∷ rows) pointer d = cond (eqb row.0 pointer) row.1 (entry_or rows pointer d)
 
-entry_or_zero : (rows : List (ℕ × ℕ)) (pointer : ℕ) → entry_or rows pointer 0 ≡ entry_at rows pointer
+entry_or_zero : (rows : List (ℕ × ℕ)) (pointer : ℕ) → entry_or rows pointer 0 ≡ packed_entry rows pointer
 unfolding entry_or
 entry_or_zero [] pointer = refl
 entry_or_zero (row ∷ rows) pointer = ap (λ d. cond (eqb row.0 pointer) row.1 d) (entry_or_zero rows pointer)
@@ -126,7 +126,7 @@ get_or-filled size least list (row ∷ rows) pointer rising sized =
     ]
 
 pub filled_is_flat : (size least : ℕ) (rows : List (ℕ × ℕ)) → AreRising size least rows → filled (replicate size 0) rows ≡ flat_list size rows
-filled_is_flat size least rows rising = fill_by_all (entry_at rows) (filled (replicate size 0) rows) size 0 (length-filled (replicate size 0) rows ∙ length-replicate size 0) (λ k below.
+filled_is_flat size least rows rising = fill_by_all (packed_entry rows) (filled (replicate size 0) rows) size 0 (length-filled (replicate size 0) rows ∙ length-replicate size 0) (λ k below.
     get_or-filled size least (replicate size 0) rows k rising (length-replicate size 0)
     ∙ ap (entry_or rows k) (get_or-replicate size k 0 0 below)
     ∙ entry_or_zero rows k)
@@ -180,12 +180,12 @@ filling_ends size text list h =
 -- The entries of a list of rows.
 
 length-flat_list : (size : ℕ) (rows : List (ℕ × ℕ)) → length (flat_list size rows) ≡ size
-length-flat_list size rows = length-map-range_with_len (entry_at rows) 0 size
+length-flat_list size rows = length-map-range_with_len (packed_entry rows) 0 size
 
-entry_within : (size : ℕ) (rows : List (ℕ × ℕ)) (pointer : ℕ) → pointer < size → get_or (flat_list size rows) pointer 0 ≡ entry_at rows pointer
-entry_within size rows pointer below = get_or-map-range_with_len (entry_at rows) 0 size pointer pointer 0 below (omega arith)
+entry_within : (size : ℕ) (rows : List (ℕ × ℕ)) (pointer : ℕ) → pointer < size → get_or (flat_list size rows) pointer 0 ≡ packed_entry rows pointer
+entry_within size rows pointer below = get_or-map-range_with_len (packed_entry rows) 0 size pointer pointer 0 below (omega arith)
 
-entry_of_none : (rows : List (ℕ × ℕ)) (pointer : ℕ) → All (λ row. row.0 ≢ pointer) rows → entry_at rows pointer ≡ 0
+entry_of_none : (rows : List (ℕ × ℕ)) (pointer : ℕ) → All (λ row. row.0 ≢ pointer) rows → packed_entry rows pointer ≡ 0
 entry_of_none [] pointer none = refl
 entry_of_none (row ∷ rows) pointer none =
     let other : row.0 ≢ pointer = none 0 row (omega arith) in
@@ -195,7 +195,7 @@ entry_of_none (row ∷ rows) pointer none =
 record IsEntry (size least : ℕ) (rows : List (ℕ × ℕ)) (row : ℕ × ℕ) : Type 0 where
   pub above : least ≤ row.0
   pub below : row.0 < size
-  pub entry : entry_at rows row.0 ≡ row.1
+  pub entry : packed_entry rows row.0 ≡ row.1
 
 entry_of_row : (size least : ℕ) (rows : List (ℕ × ℕ)) (k : ℕ) (d : ℕ × ℕ) → AreRising size least rows → k < length rows → IsEntry size least rows (get_or rows k d)
 entry_of_row size least [] k d rising within = absurd (omega arith)

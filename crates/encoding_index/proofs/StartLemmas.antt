@@ -11,10 +11,10 @@ use Rattle.std.proofs.lemmas.List.Sums.{prefix_len_is, AllPass-from_list_all}
 use Rattle.std.proofs.lemmas.List.Folds.{prefix_len-append, length-prefix_len}
 use Rattle.std.proofs.lemmas.Option.{option_and_then_some}
 use Rattle.std.specs.Prelude.{Ok}
-use Rattle.encoding_index.specs.IndexLine.{is_digit, is_hex_digit, is_space, pointer_in, code_in, behind, row_in, is_row_end, is_skipped}
+use Rattle.encoding_index.specs.IndexLine.{is_decimal_digit, is_hex_digit, is_space, pointer_in, code_in, behind, row_in, is_row_end, is_skipped}
 use Rattle.encoding_index.specs.IndexText.{row_fault}
 use Rattle.encoding_index.specs.laws.Outcomes.{outcome_of, outcomes}
-use Rattle.encoding_index.specs.RowGrammar.{IsRow}
+use Rattle.encoding_index.specs.RowGrammar.{IsIndexRow}
 use Rattle.encoding_index.specs.laws.RowStarts.{row_start, BeginsWithRow}
 use Rattle.encoding_index.proofs.LineLemmas.{is_newline, lines_first_at, number_of, IsNumber, prefix_of, taken_pass, taken_spaces, row_end, row_in-written, row_in-skipped}
 
@@ -77,7 +77,7 @@ record IsStart (text : List ℕ) (pointer code : ℕ) (end : List ℕ) : Type 0 
   pub digits : List ℕ
   pub hex_digits : List ℕ
   pub written : text ≡ replicate spaces 0x20 ++ (digits ++ (codes "\t0x" ++ (hex_digits ++ end)))
-  pub decimal : AllPass is_digit digits
+  pub decimal : AllPass is_decimal_digit digits
   pub at_least_one : 1 ≤ length digits
   pub at_most_seven : length digits ≤ 7
   pub hexadecimal : AllPass is_hex_digit hex_digits
@@ -87,13 +87,13 @@ record IsStart (text : List ℕ) (pointer code : ℕ) (end : List ℕ) : Type 0 
   pub code_is : digits_value 16 hex_digits ≡ code
 
 start_of : (text : List ℕ) (pointer code : ℕ) (behind_pointer numeral end : List ℕ)
-    → IsNumber 10 1 7 (prefix_len is_digit (drop (prefix_len is_space text) text)) (drop (prefix_len is_space text) text) pointer behind_pointer
+    → IsNumber 10 1 7 (prefix_len is_decimal_digit (drop (prefix_len is_space text) text)) (drop (prefix_len is_space text) text) pointer behind_pointer
     → behind_pointer ≡ codes "\t0x" ++ numeral
     → IsNumber 16 4 6 (prefix_len is_hex_digit numeral) numeral code end
     → IsStart text pointer code end
 start_of text pointer code behind_pointer numeral end first middle second =
     let body = drop (prefix_len is_space text) text in
-    let n = prefix_len is_digit body in
+    let n = prefix_len is_decimal_digit body in
     let m = prefix_len is_hex_digit numeral in
     record {
       spaces = prefix_len is_space text;
@@ -104,9 +104,9 @@ start_of text pointer code behind_pointer numeral end first middle second =
           ∙ ap (λ ys. replicate (prefix_len is_space text) 0x20 ++ ys)
           (sym (take-append-drop n body) ∙ ap (λ ys. take n body ++ ys) (first.left ∙ middle
           ∙ ap (λ ys. codes "\t0x" ++ ys) (sym (take-append-drop m numeral) ∙ ap (λ ys. take m numeral ++ ys) second.left)));
-      decimal = taken_pass is_digit body;
-      at_least_one = omega (arith, length-prefix_len is_digit body, first.low);
-      at_most_seven = omega (arith, length-prefix_len is_digit body, first.high);
+      decimal = taken_pass is_decimal_digit body;
+      at_least_one = omega (arith, length-prefix_len is_decimal_digit body, first.low);
+      at_most_seven = omega (arith, length-prefix_len is_decimal_digit body, first.high);
       hexadecimal = taken_pass is_hex_digit numeral;
       at_least_four = omega (arith, length-prefix_len is_hex_digit numeral, second.low);
       at_most_six = omega (arith, length-prefix_len is_hex_digit numeral, second.high);
@@ -123,7 +123,7 @@ start_is text pointer code end read =
     option_and_then_some _ (code_in numeral) (pointer, code, end) code_is (λ second second_is last_is.
     let same : ◌≡◌ {A = ℕ × ℕ × List ℕ} (first.0, second.0, second.1) (pointer, code, end) = cc in
     let found = start_of text first.0 second.0 first.1 numeral second.1
-    (number_of 10 1 7 (prefix_len is_digit body) body first.0 first.1 first_is)
+    (number_of 10 1 7 (prefix_len is_decimal_digit body) body first.0 first.1 first_is)
     (prefix_of (codes "\t0x") first.1 numeral numeral_is)
     (number_of 16 4 6 (prefix_len is_hex_digit numeral) numeral second.0 second.1 second_is) in
     subst (λ (s : ℕ × ℕ × List ℕ). IsStart text s.0 s.1 s.2) same found)))
@@ -143,7 +143,7 @@ last_by pointer code own number end false true none_is ended_is found =
     let same : ◌≡◌ {A = ℕ × ℕ} (own, number) (pointer, code) = cc in
     record { positive = grind (arith, nat_tests); ended = ended_is; pointer_is = ap (λ p. p.0) same; code_is = ap (λ p. p.1) same }
 
-written_by : (line : List ℕ) (pointer code : ℕ) (start : ℕ × ℕ × List ℕ) → IsStart line start.0 start.1 start.2 → IsLast pointer code start.1 start.2 start.0 → IsRow line pointer code
+written_by : (line : List ℕ) (pointer code : ℕ) (start : ℕ × ℕ × List ℕ) → IsStart line start.0 start.1 start.2 → IsLast pointer code start.1 start.2 start.0 → IsIndexRow line pointer code
 written_by line pointer code start own end = record {
   spaces = own.spaces;
   digits = own.digits;
@@ -162,7 +162,7 @@ written_by line pointer code start own end = record {
   positive = omega (arith, end.positive, end.code_is);
 }
 
-pub written-row_in : (line : List ℕ) (pointer code : ℕ) → row_in line ≡ Some (pointer, code) → IsRow line pointer code
+pub written-row_in : (line : List ℕ) (pointer code : ℕ) → row_in line ≡ Some (pointer, code) → IsIndexRow line pointer code
 unfolding last
 written-row_in line pointer code read = option_and_then_some last (row_start line) (pointer, code) (sym (row_by_start line) ∙ read) (λ start start_is_read last_is.
     written_by line pointer code start (start_is line start.0 start.1 start.2 start_is_read)
@@ -180,7 +180,7 @@ past part rest all =
     let none = prefix_len_is other part (length part) 0 (omega arith) (λ k below. all k 0 below) (λ within. absurd (omega arith)) in
     prefix_len-append other part rest ∙ grind (arith, nat_tests)
 
-digit_other : (b : ℕ) → is_digit b ≡ true → other b ≡ true
+digit_other : (b : ℕ) → is_decimal_digit b ≡ true → other b ≡ true
 unfolding other
 digit_other b digit = grind (arith, nat_tests)
 

@@ -3,23 +3,23 @@ use Rattle.std.specs.Prelude.{ℕ, Bool, true, ◌==◌, nat_eq, nat_lt, not, �
 use Rattle.std.specs.List.{list_all, prefix_len, starts_with}
 use Rattle.std.specs.Str.Parse.{digits_value}
 
--- a space
+-- the byte is a space
 abbrev pub is_space : ℕ → Bool
 is_space b = b == 0x20
 
--- a space or a tab
+-- the byte is a space or a tab
 abbrev pub is_blank : ℕ → Bool
 is_blank b = b == 0x20 || b == 0x09
 
--- `0` to `9`
-abbrev pub is_digit : ℕ → Bool
-is_digit b = not (nat_lt b 0x30) && nat_lt b 0x3A
+-- the byte is a decimal digit, `0` to `9`
+abbrev pub is_decimal_digit : ℕ → Bool
+is_decimal_digit b = not (nat_lt b 0x30) && nat_lt b 0x3A
 
--- `0` to `9` and `A` to `F`
+-- the byte is a hexadecimal digit, `0` to `9` or, in upper case alone, `A` to `F`
 abbrev pub is_hex_digit : ℕ → Bool
-is_hex_digit b = is_digit b || (not (nat_lt b 0x41) && nat_lt b 0x47)
+is_hex_digit b = is_decimal_digit b || (not (nat_lt b 0x41) && nat_lt b 0x47)
 
--- blanks alone, or a comment
+-- a line of an index text is skipped: it has nothing but spaces and tabs, or begins with `#`
 unfoldable pub is_skipped : List ℕ → Bool
 is_skipped line = list_all is_blank line || starts_with nat_eq line (codes "#")
 
@@ -29,29 +29,33 @@ infixl 10 ◌>>=◌
 abbrev pub ◌>>=◌ : {A B : Type 0} → Option A → (A → Option B) → Option B
 o >>= f = option_and_then f o
 
--- the bytes behind these
+-- what follows a prefix in some bytes, if they begin with that prefix
 abbrev pub behind : List ℕ → List ℕ → Option (List ℕ)
 behind prefix bytes = if starts_with nat_eq bytes prefix then Some (drop (length prefix) bytes) else None
 
--- the number that the first `count` bytes write, if they are `least` to `most`, and the bytes behind them
+-- the number that the first `count` bytes write in a radix, and the bytes after them, if `count`
+-- is `least` to `most`
 abbrev pub number_in : ℕ → ℕ → ℕ → ℕ → List ℕ → Option (ℕ × List ℕ)
 number_in radix least most count bytes =
     if nat_lt count least || nat_lt most count then None else Some (digits_value radix (take count bytes), drop count bytes)
 
--- 1 to 7 decimal digits, all that stand at the start
+-- the number that all decimal digits at the start of bytes write, and the bytes after them, if
+-- there are 1 to 7 digits
 abbrev pub pointer_in : List ℕ → Option (ℕ × List ℕ)
-pointer_in bytes = number_in 10 1 7 (prefix_len is_digit bytes) bytes
+pointer_in bytes = number_in 10 1 7 (prefix_len is_decimal_digit bytes) bytes
 
--- 4 to 6 hexadecimal digits, all that stand at the start
+-- the number that all hexadecimal digits at the start of bytes write, and the bytes after them, if
+-- there are 4 to 6 digits
 abbrev pub code_in : List ℕ → Option (ℕ × List ℕ)
 code_in bytes = number_in 16 4 6 (prefix_len is_hex_digit bytes) bytes
 
--- a row ends before these bytes: there are none, or the first is a tab
+-- a row of an index text may end before the bytes: there are none, or the first is a tab
 abbrev pub is_row_end : List ℕ → Bool
 is_row_end [] = true
 is_row_end (b ∷ bytes) = b == 0x09
 
--- the pointer and the code point of a row: spaces, the pointer, a tab, `0x`, the code point, which is not 0, and its end
+-- The pointer and the code point of a line that is a row: spaces, the pointer, a tab, `0x`, the
+-- code point, which is not 0, and the line's end or a tab. Other lines give nothing.
 unfoldable pub row_in : List ℕ → Option (ℕ × ℕ)
 row_in line = do
   pointer ← pointer_in (drop (prefix_len is_space line) line)

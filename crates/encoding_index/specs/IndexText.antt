@@ -9,11 +9,11 @@ use Rattle.encoding_index.specs.declared.fault.IndexFault.{IndexFault}
 use Rattle.encoding_index.specs.declared.fault.IndexFaultKind.{IndexFaultKind}
 use Rattle.encoding_index.specs.declared.fault.IndexFaultKind.TheVariants.{Row, Order, Pointer, Memory}
 
--- how many pointers the GB18030 ranges have: one more than the greatest
-abbrev pub range_pointers : ℕ
-range_pointers = 1237576
+-- one more than the greatest pointer of index gb18030 ranges, which is 1237575
+abbrev pub range_pointer_end : ℕ
+range_pointer_end = 1237576
 
--- U+FEFF in UTF-8
+-- the byte order mark of UTF-8: EF BB BF
 abbrev pub mark : List ℕ
 mark = 0xEF ∷ 0xBB ∷ 0xBF ∷ []
 
@@ -21,27 +21,31 @@ mark = 0xEF ∷ 0xBB ∷ 0xBF ∷ []
 abbrev pub without_mark : List ℕ → List ℕ
 without_mark text = if starts_with nat_eq text mark then drop 3 text else text
 
--- the lines: each ends at LF, with one CR before it, or at the end of the text
+-- the lines of a text, without a byte order mark EF BB BF at its start: each ends at LF, at CR and
+-- LF, or at the text's end
 abbrev pub lines_in : List ℕ → List (List ℕ)
 lines_in text = lines (without_mark text)
 
--- the rows of lines, each a pointer and a code point
+-- the rows among lines of an index text, in their order, each as its pointer and its code point
 abbrev pub rows_in : List (List ℕ) → List (ℕ × ℕ)
 rows_in lines = filter_map row_in lines
 
--- the least pointer that rises above those of some rows
+-- the least pointer above that of the last of some rows, or 0 if there are none
 abbrev pub least_above : List (ℕ × ℕ) → ℕ
 least_above rows = option_map_or (λ row. row.0 + 1) (last_or None rows) 0
 
--- the first thing that is wrong with a row, where pointers from `least` to below `size` are right
+-- the fault of a row, if it has one: its pointer is below `least`, so out of order, or is not
+-- below `size`, so none of the index
 unfoldable pub row_fault : ℕ → ℕ → ℕ × ℕ → Option IndexFaultKind
 row_fault size least row = if nat_lt row.0 least then Some Order else if nat_lt row.0 size then None else Some Pointer
 
--- the first thing that is wrong with a line
+-- the fault of a line of an index text, if it has one: it is neither skipped nor a row, or its
+-- row's pointer is below `least`, or is not below `size`
 abbrev pub line_fault : ℕ → ℕ → List ℕ → Option IndexFaultKind
 line_fault size least line = if is_skipped line then None else elim (row_in line) [ None ↦ Some Row | Some row ↦ row_fault size least row ]
 
--- the first fault of lines that stand behind others, with the number of its line
+-- the first fault of lines that follow others, if any, with its line's number, the others counted:
+-- a row's pointer must be above that of the row before and below `size`
 abbrev pub first_fault_behind : ℕ → List (List ℕ) → List (List ℕ) → Option IndexFault
 first_fault_behind size before [] = None
 first_fault_behind size before (line ∷ after) =
@@ -50,27 +54,30 @@ first_fault_behind size before (line ∷ after) =
       | Some kind ↦ Some (record { line = length before + 1; kind = kind })
     ]
 
--- the first fault of a text, where pointers below `size` are right
+-- the first fault of an index text, if any, with its line's number from 1: a line neither skipped
+-- nor a row, a pointer not above that of the row before, or one not below `size`
 abbrev pub first_fault : ℕ → List ℕ → Option IndexFault
 first_fault size text = first_fault_behind size [] (lines_in text)
 
--- the rows of a text
+-- all rows of an index text, in their order, each as its pointer and its code point
 abbrev pub text_rows : List ℕ → List (ℕ × ℕ)
 text_rows text = rows_in (lines_in text)
 
--- the lines before the first faulty one; all lines, if none is faulty
+-- the lines of an index text before the first faulty one, or all of them if none is faulty
 abbrev pub lines_before_fault : ℕ → List ℕ → List (List ℕ)
 lines_before_fault size text =
     elim (first_fault size text) [ None ↦ lines_in text | Some fault ↦ take (fault.line - 1) (lines_in text) ]
 
--- The rows of these lines. It is no abbreviation, so that the proofs of callers show its name and do not read the text.
+-- The rows of an index text before its first faulty line, or all of them if none is faulty. It is
+-- no abbreviation, so that the proofs of callers show its name and do not read the text.
 unfoldable pub rows_before_fault : ℕ → List ℕ → List (ℕ × ℕ)
 rows_before_fault size text = rows_in (lines_before_fault size text)
 
--- the list that a text stands for
+-- the list that an index text stands for: for each pointer below `size` the code point of its row,
+-- or 0 if it has none
 abbrev pub text_list : ℕ → List ℕ → List ℕ
 text_list size text = flat_list size (text_rows text)
 
--- the result where memory is refused
-abbrev pub out_of_memory : IndexFault
-out_of_memory = record { line = 0; kind = Memory }
+-- the fault of an index text that was not read since memory was refused: it names line 0
+abbrev pub memory_fault : IndexFault
+memory_fault = record { line = 0; kind = Memory }

@@ -37,9 +37,9 @@ pub struct IndexFault {
 }
 
 impl From<AllocError> for IndexFault {
-    ghost use Rattle.encoding_index.specs.IndexText.{out_of_memory};
+    ghost use Rattle.encoding_index.specs.IndexText.{memory_fault};
 
-    ghost from_gives = { λ _ fault. fault ≡ out_of_memory };
+    ghost from_gives = { λ _ fault. fault ≡ memory_fault };
 
     fn from(_refused: AllocError) -> IndexFault {
         IndexFault {
@@ -50,9 +50,9 @@ impl From<AllocError> for IndexFault {
 }
 
 impl<T: Drop> From<AllocFailed<T>> for IndexFault {
-    ghost use Rattle.encoding_index.specs.IndexText.{out_of_memory};
+    ghost use Rattle.encoding_index.specs.IndexText.{memory_fault};
 
-    ghost from_gives = { λ _ fault. fault ≡ out_of_memory };
+    ghost from_gives = { λ _ fault. fault ≡ memory_fault };
 
     fn from(_refused: AllocFailed<T>) -> IndexFault {
         IndexFault::from(AllocError)

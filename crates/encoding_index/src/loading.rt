@@ -4,7 +4,7 @@ ghost use Rattle.std.specs.Prelude.{◌≡◌, ◌⊎◌, ◌≢◌, false, Matc
 ghost use Rattle.std.specs.Prelude.{Ok, Err, Some, None, [], true};
 ghost use Rattle.encoding_tables.specs.Kinds.{is_ranges, index_size};
 ghost use Rattle.encoding_tables.specs.PackedRows.{PointersRise, PointersAreBelow};
-ghost use Rattle.encoding_index.specs.IndexText.{rows_before_fault, text_rows, out_of_memory};
+ghost use Rattle.encoding_index.specs.IndexText.{rows_before_fault, text_rows, memory_fault};
 ghost use Rattle.encoding_index.specs.Loads.{pointers_of, text_fault, load_fault};
 ghost use Rattle.encoding_index.specs.Loads.{Loads, KeepsOthers, WantsMemory};
 ghost use Rattle.encoding_index.specs.laws.Inserts.{rows_fault, HaveRows};
@@ -19,9 +19,9 @@ fn rows_of(alloc: Global, kind: IndexKind, text: &[u8]) -> Result<Vec<(u32, u32)
     ensures rows { IfOk result (λ rows. (text_fault kind text.now ≡ None)
         × (rows.items ≡ text_rows text.now)) }
     ensures fault { IfErr result (λ fault. (text_fault kind text.now ≡ Some fault)
-        ⊎ (fault ≡ out_of_memory)) }
+        ⊎ (fault ≡ memory_fault)) }
     ensures grows { rows_before_fault (pointers_of kind) text.now ≡ []
-        → result ≢ Err out_of_memory }
+        → result ≢ Err memory_fault }
 {
     if kind.is_ranges() {
         rows_below(alloc, text, RANGE_POINTERS)
@@ -64,9 +64,9 @@ pub fn load(
 ) -> Result<(), LoadFault>
     ensures fault { MatchOption (load_fault tables.old kind text.now)
         ((result ≡ Ok tt) ⊎ WantsMemory result)
-        (λ fault. (result ≡ Err fault) ⊎ (result ≡ Err (LoadFault.Text out_of_memory))) }
+        (λ fault. (result ≡ Err fault) ⊎ (result ≡ Err (LoadFault.Text memory_fault))) }
     ensures grows { rows_before_fault (pointers_of kind) text.now ≡ []
-        → result ≢ Err (LoadFault.Text out_of_memory) }
+        → result ≢ Err (LoadFault.Text memory_fault) }
     ensures grows_ranges { is_ranges kind ≡ true → text_rows text.now ≡ []
         → result ≢ Err (LoadFault.Table TableFault.Memory) }
     ensures loaded { OnOk result (Loads tables.new kind text.now) }

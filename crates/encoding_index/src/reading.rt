@@ -2,8 +2,8 @@
 
 ghost use Rattle.std.specs.Prelude.{◌≡◌, ◌≢◌, ◌⊎◌, [], None, Some, IfOk, IfErr, false};
 ghost use Rattle.encoding_tables.specs.Kinds.{index_size, is_ranges};
-ghost use Rattle.encoding_index.specs.IndexText.{first_fault, range_pointers, rows_before_fault};
-ghost use Rattle.encoding_index.specs.IndexText.{text_list, text_rows, out_of_memory};
+ghost use Rattle.encoding_index.specs.IndexText.{first_fault, range_pointer_end, rows_before_fault};
+ghost use Rattle.encoding_index.specs.IndexText.{text_list, text_rows, memory_fault};
 
 use crate::fault::IndexFault;
 use crate::rows::IndexRows;
@@ -25,7 +25,7 @@ pub fn read_index(alloc: Global, kind: IndexKind, text: &[u8]) -> Result<Vec<u32
     ensures list { IfOk result (λ list. (first_fault (index_size kind) text.now ≡ None)
         × (list.items ≡ text_list (index_size kind) text.now)) }
     ensures fault { IfErr result (λ fault. (first_fault (index_size kind) text.now ≡ Some fault)
-        ⊎ (fault ≡ out_of_memory)) }
+        ⊎ (fault ≡ memory_fault)) }
 {
     let mut list = vec![in alloc; 0; kind.size()]?;
     for row in IndexRows::new(text, kind.size() as u32) {
@@ -41,11 +41,11 @@ pub fn read_index(alloc: Global, kind: IndexKind, text: &[u8]) -> Result<Vec<u32
 ///
 /// The error is the fault of the first faulty line, or, with line 0, that memory was refused.
 pub fn read_ranges(alloc: Global, text: &[u8]) -> Result<Vec<(u32, u32)>, IndexFault>
-    ensures rows { IfOk result (λ rows. (first_fault range_pointers text.now ≡ None)
+    ensures rows { IfOk result (λ rows. (first_fault range_pointer_end text.now ≡ None)
         × (rows.items ≡ text_rows text.now)) }
-    ensures fault { IfErr result (λ fault. (first_fault range_pointers text.now ≡ Some fault)
-        ⊎ (fault ≡ out_of_memory)) }
-    ensures grows { rows_before_fault range_pointers text.now ≡ [] → result ≢ Err out_of_memory }
+    ensures fault { IfErr result (λ fault. (first_fault range_pointer_end text.now ≡ Some fault)
+        ⊎ (fault ≡ memory_fault)) }
+    ensures grows { rows_before_fault range_pointer_end text.now ≡ [] → result ≢ Err memory_fault }
 {
     rows_below(alloc, text, RANGE_POINTERS)
 }
@@ -64,8 +64,8 @@ pub(crate) fn rows_below(
     ensures rows { IfOk result (λ rows. (first_fault size text.now ≡ None)
         × (rows.items ≡ text_rows text.now)) }
     ensures fault { IfErr result (λ fault. (first_fault size text.now ≡ Some fault)
-        ⊎ (fault ≡ out_of_memory)) }
-    ensures grows { rows_before_fault size text.now ≡ [] → result ≢ Err out_of_memory }
+        ⊎ (fault ≡ memory_fault)) }
+    ensures grows { rows_before_fault size text.now ≡ [] → result ≢ Err memory_fault }
 {
     let mut rows = Vec::new(alloc);
     for row in IndexRows::new(text, size) {

@@ -2,7 +2,8 @@
 
 ghost use Rattle.std.specs.Prelude.{◌≡◌, ℕ, ◌<◌, ◌↔◌, Option, Some, IfSome, OnSome, map};
 ghost use Rattle.std.specs.Char.{to_ascii_lowercase};
-ghost use Rattle.encoding_labels.specs.Labels.{label_text, trimmed, IsLabelOf, IsLabelText, label_number_in, number_of_label};
+ghost use Rattle.encoding_labels.specs.Labels.{label_text, trimmed, IsLabelOf, IsLabelText};
+ghost use Rattle.encoding_labels.specs.Labels.{label_number_in, number_of_label};
 ghost use Rattle.encoding_labels.specs.laws.ByLength.{entries};
 
 use crate::places::ENCODING_COUNT;

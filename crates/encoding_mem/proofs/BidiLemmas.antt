@@ -17,7 +17,7 @@ use Rattle.std.specs.Char.Escape.{encode_utf16}
 use Rattle.std.specs.Int.{is_in_range}
 use Rattle.std.proofs.Math.Utf8.{scalar, scalar_cases}
 use Rattle.std.proofs.lemmas.Bool.{cases_lt, le-leb, lt-leb, lt-ltb, le-ltb, and_parts}
-use Rattle.encoding_mem.specs.Writing.{encode_utf16_all}
+use Rattle.encoding_mem.specs.calls.Writing.{encode_utf16_all}
 
 -- Some element of a list passes.
 here_or_later : (p : ℕ → Bool) (x : ℕ) (xs : List ℕ) (b : Bool) → p x ≡ b → IsTrue (b || list_any p xs)

@@ -10,7 +10,7 @@ use Rattle.std.proofs.lemmas.Bool.{cases_lt, lt-ltb, le-ltb, and_parts}
 use Rattle.std.proofs.lemmas.Str.{chars-encodes, encodes-chars, scalars-chars}
 use Rattle.encoding_mem.specs.Conversions.{text_in_utf16, units_in_utf8}
 use Rattle.encoding_mem.specs.Latin1.{AllLatin1, IsLatin1Text}
-use Rattle.encoding_mem.specs.Writing.{encode_utf16_all}
+use Rattle.encoding_mem.specs.calls.Writing.{encode_utf16_all}
 use Rattle.encoding_mem.proofs.DestinationLemmas.{bytes_are_scalars}
 use Rattle.encoding_mem.proofs.UnitPrefixLemmas.{char_of, one, two}
 use Rattle.encoding_mem.proofs.Utf16Lemmas.{no_units}

@@ -1,16 +1,17 @@
 -- Why a call ended, as a caller sees it. Room that is enough. How far a call has come.
 use Rattle.std.proofs.Common.{◌≡◌, ◌≢◌, ℕ, ◌+◌, ◌<◌, ◌≤◌, inl, inr, Bool, List, [], ◌++◌, length, refl, subst, sym, ◌∙◌, ap, arith, ◌-◌, true, false, IsTrue, None, Some, ◌∷◌, take, drop, get_or, append_assoc, length-append, length-drop}
 use Rattle.std.proofs.lemmas.List.{append-nil, drop-drop, drop_all, drop_more, take_rest}
-use Rattle.encoding_mem.specs.Piece.{Piece, first, sizes, ArePieces, malformed, piece_len, scalars_of, scalars, AreWellFormed}
-use Rattle.encoding_mem.specs.Decoding.{DecoderState, EndsWith, IsUndecided, Reports, StateCall, Suffices, Takes}
-use Rattle.encoding_mem.specs.DecodedLength.{is_units, left_after, decoded_length}
+use Rattle.encoding_mem.specs.Piece.{Piece, head_piece, sizes, ArePieces, malformed, piece_len, piece_scalars, scalars, AreWellFormed}
+use Rattle.encoding_mem.specs.calls.Decoding.{DecoderState, EndsWith, Reports, StateCall, Suffices, Takes}
+use Rattle.encoding_mem.specs.calls.DecodedLength.{is_units, left_after, decoded_length}
 use Rattle.encoding_mem.specs.declared.room.OutputUnit.{OutputUnit}
 use Rattle.encoding_mem.specs.declared.room.DecodedLength.{DecodedLength}
-use Rattle.encoding_mem.specs.Driver.{DriverCall, DriverEndsWith, IsNear, Remains, buffered}
+use Rattle.encoding_mem.specs.calls.Driver.{DriverCall, DriverEndsWith, IsNear, Remains, buffered}
 use Rattle.encoding_mem.specs.declared.decoder_result.DecoderResult.{DecoderResult}
 use Rattle.encoding_mem.specs.declared.decoder_result.DecoderResult.TheVariants.{InputEmpty, OutputFull, Malformed}
 use Rattle.encoding_mem.specs.laws.Piece.{sizes-append, scalars-append, AreWellFormed-append}
-use Rattle.encoding_mem.specs.DecoderRule.{IsFirstPiece, IsSoon}
+use Rattle.encoding_mem.specs.calls.DecoderRule.{IsFirstPiece, IsSoon}
+use Rattle.encoding_mem.specs.Decided.{IsUndecided}
 
 ends_with : (P : List ℕ → List Piece) (pending unread : List ℕ) (last : Bool) (free room mark : ℕ) (whole : (x : List ℕ) → sizes (P x) ≡ length x) (are_pieces : (x : List ℕ) → ArePieces (P x)) (needs : OutputUnit → ℕ → ℕ) (limits : DecodedLength) (covers : (k : OutputUnit) (n : ℕ) → needs k n ≤ decoded_length limits k n) (outcome : DecoderResult) → P [] ≡ [] → DriverEndsWith P pending unread last free room mark outcome
     → EndsWith (buffered P whole are_pieces needs limits covers pending) unread last free room mark outcome
@@ -26,7 +27,7 @@ ends_with P pending unread last free room mark whole are_pieces needs limits cov
           more = waits.2.more;
           bytes = waits.2.bytes;
           short = waits.2.short;
-          differs = λ same. waits.2.differs (ap (λ x. first (P x)) (sym (append-nil pending)) ∙ same);
+          differs = λ same. waits.2.differs (ap (λ x. head_piece (P x)) (sym (append-nil pending)) ∙ same);
         };
         soon = waits.3;
       },
@@ -65,9 +66,9 @@ mark_first false mark more room h = h
 -- How far a call has come.
 
 -- a piece more
-wrote : (W W' : List ℕ → Type 0) (taken : List Piece) (p : Piece) → ((t : List ℕ) → W t → W' (t ++ scalars_of p)) → W (scalars taken) → W' (scalars (taken ++ p ∷ []))
+wrote : (W W' : List ℕ → Type 0) (taken : List Piece) (p : Piece) → ((t : List ℕ) → W t → W' (t ++ piece_scalars p)) → W (scalars taken) → W' (scalars (taken ++ p ∷ []))
 wrote W W' taken p step w =
-    let e : scalars (taken ++ p ∷ []) ≡ scalars taken ++ scalars_of p = scalars-append taken (p ∷ []) ∙ ap (λ x. scalars taken ++ x) (append-nil (scalars_of p)) in
+    let e : scalars (taken ++ p ∷ []) ≡ scalars taken ++ piece_scalars p = scalars-append taken (p ∷ []) ∙ ap (λ x. scalars taken ++ x) (append-nil (piece_scalars p)) in
     rw e (step (scalars taken) w)
 
 -- from the source, where nothing is pending
@@ -77,7 +78,7 @@ pub took_source : (WellFormed : List Piece → Type 0) (before P P' : List ℕ �
     → Takes AreWellFormed before P src last held 0 read W
     → IsFirstPiece P P' window last p
     → ((ps : List Piece) → AreWellFormed ps → WellFormed (ps ++ p ∷ []))
-    → ((t : List ℕ) → W t → W' (t ++ scalars_of p))
+    → ((t : List ℕ) → W t → W' (t ++ piece_scalars p))
     → Takes WellFormed before P' src last held 0 (read + n) W'
 took_source WellFormed before P P' src window last held read W W' p n e is h given fine step =
     let here : IsFirstPiece P P' (drop read src) last p = subst (λ (x : List ℕ). IsFirstPiece P P' x last p) is given in
@@ -179,17 +180,17 @@ pub took_pending : (WellFormed : List Piece → Type 0) (before P P' : List ℕ 
     → Takes AreWellFormed before (λ x. P (pending ++ x)) src last held (length pending) read W
     → IsFirstPiece P P' pending here p
     → ((ps : List Piece) → AreWellFormed ps → WellFormed (ps ++ p ∷ []))
-    → ((t : List ℕ) → W t → W' (t ++ scalars_of p))
+    → ((t : List ℕ) → W t → W' (t ++ piece_scalars p))
     → Takes WellFormed before (λ x. P' (drop (piece_len p) pending ++ x)) src last held (length (drop (piece_len p) pending)) read W'
-took_pending WellFormed before P P' src last here held pending read W W' p ends h first fine step = record {
+took_pending WellFormed before P P' src last here held pending read W W' p ends h head_piece fine step = record {
   taken = h.taken ++ p ∷ [];
   well_formed = fine h.taken h.well_formed;
   within = h.within;
-  counted = omega (arith, h.counted, sizes-append h.taken (p ∷ []), length-drop (piece_len p) pending, first.within);
+  counted = omega (arith, h.counted, sizes-append h.taken (p ∷ []), length-drop (piece_len p) pending, head_piece.within);
   writes = wrote W W' h.taken p step h.writes;
   rest = λ r e.
       let none : IsTrue here → drop read src ++ r ≡ [] = λ t. rw (drop_all read src (ends t).1) (e (ends t).0) in
-      h.rest r e ∙ ap (λ x. h.taken ++ x) (first.rest (drop read src ++ r) none) ∙ sym (append_assoc h.taken (p ∷ []) (P' (drop (piece_len p) pending ++ (drop read src ++ r))));
+      h.rest r e ∙ ap (λ x. h.taken ++ x) (head_piece.rest (drop read src ++ r) none) ∙ sym (append_assoc h.taken (p ∷ []) (P' (drop (piece_len p) pending ++ (drop read src ++ r))));
 }
 
 -- one more byte is pending
@@ -214,22 +215,22 @@ pub took_pending_of : (WellFormed : List ℕ → List Piece → Type 0) (before 
     → Takes AreWellFormed before (λ x. P (pending ++ x)) src last held (length pending) read W
     → IsFirstPiece P P' window here p
     → ((ps : List Piece) → AreWellFormed ps → WellFormed now (ps ++ p ∷ []))
-    → ((t : List ℕ) → W t → W' (t ++ scalars_of p))
+    → ((t : List ℕ) → W t → W' (t ++ piece_scalars p))
     → Takes (WellFormed now) before (λ x. P' (now ++ x)) src last held (length now) read W'
-took_pending_of WellFormed before P P' src window last here held pending now read W W' p n e whole is ends h first fine step =
+took_pending_of WellFormed before P P' src window last here held pending now read W W' p n e whole is ends h head_piece fine step =
     let same : drop (piece_len p) pending ≡ now = ap (λ k. drop k pending) e ∙ sym is in
-    let first' : IsFirstPiece P P' pending here p = subst (λ (x : List ℕ). IsFirstPiece P P' x here p) whole first in
+    let head_piece' : IsFirstPiece P P' pending here p = subst (λ (x : List ℕ). IsFirstPiece P P' x here p) whole head_piece in
     let fine' : (ps : List Piece) → AreWellFormed ps → WellFormed (drop (piece_len p) pending) (ps ++ p ∷ []) = λ ps a. subst (λ (x : List ℕ). WellFormed x (ps ++ p ∷ [])) (sym same) (fine ps a) in
     subst (λ (y : List ℕ). Takes (WellFormed y) before (λ x. P' (y ++ x)) src last held (length y) read W') same
-    (took_pending (WellFormed (drop (piece_len p) pending)) before P P' src last here held pending read W W' p ends h first' fine' step)
+    (took_pending (WellFormed (drop (piece_len p) pending)) before P P' src last here held pending read W W' p ends h head_piece' fine' step)
 
 -- A step on what is pending. The first piece of what is left, where its bytes are decided but have no room;
 pub known_next : (P rest : List ℕ → List Piece) (window pending src : List ℕ) (last here : Bool) (read : ℕ) (p : Piece)
     → window ≡ pending → (IsTrue here → IsTrue last × (length src ≤ read)) → IsFirstPiece P rest window here p
-    → (r : List ℕ) → (IsTrue last → r ≡ []) → first (P (pending ++ (drop read src ++ r))) ≡ Some p
+    → (r : List ℕ) → (IsTrue last → r ≡ []) → head_piece (P (pending ++ (drop read src ++ r))) ≡ Some p
 known_next P rest window pending src last here read p same ends first_is r e =
     let none : IsTrue here → drop read src ++ r ≡ [] = λ t. rw (drop_all read src (ends t).1) (e (ends t).0) in
-    ap (λ x. first (P (x ++ (drop read src ++ r)))) (sym same) ∙ ap first (first_is.rest (drop read src ++ r) none)
+    ap (λ x. head_piece (P (x ++ (drop read src ++ r)))) (sym same) ∙ ap head_piece (first_is.rest (drop read src ++ r) none)
 
 -- and what it leaves of room that is enough.
 pub pending_room : (need : OutputUnit → ℕ → ℕ) (here last t : Bool) (size read mid : ℕ) (window pending now : List ℕ) (n : ℕ) (Q : OutputUnit → ℕ → Type 0)
@@ -248,16 +249,16 @@ pub near_few : (P : List ℕ → List Piece) (x : List ℕ) → length x ≤ 3 �
 near_few P x h r p e = omega (arith, h)
 
 pub near_soon : (P : List ℕ → List Piece) (x y : List ℕ) → y ≡ x → IsSoon P x → IsNear P y
-near_soon P x y e h r p f = let same : length y ≡ length x = ap length e in let there : first (P (x ++ r)) ≡ Some p = ap (λ z. first (P (z ++ r))) (sym e) ∙ f in omega (arith, h r p there, same)
+near_soon P x y e h r p f = let same : length y ≡ length x = ap length e in let there : head_piece (P (x ++ r)) ≡ Some p = ap (λ z. head_piece (P (z ++ r))) (sym e) ∙ f in omega (arith, h r p there, same)
 
 pub near_push : (P : List ℕ → List Piece) (x y z : List ℕ) (b : ℕ) → y ≡ x → z ≡ x ++ b ∷ [] → IsSoon P y → IsNear P z
 near_push P x y z b e f h r p k =
-    let there : first (P (y ++ (b ∷ r))) ≡ Some p = ap (λ s. first (P s)) (ap (λ s. s ++ (b ∷ r)) e ∙ sym (append_assoc x (b ∷ []) r) ∙ ap (λ s. s ++ r) (sym f)) ∙ k in
+    let there : head_piece (P (y ++ (b ∷ r))) ≡ Some p = ap (λ s. head_piece (P s)) (ap (λ s. s ++ (b ∷ r)) e ∙ sym (append_assoc x (b ∷ []) r) ∙ ap (λ s. s ++ r) (sym f)) ∙ k in
     omega (arith, h (b ∷ r) p there, ap length e, ap length f, length-append x (b ∷ []))
 
 pub left_few : (P P' : List ℕ → List Piece) (window pending now : List ℕ) (here : Bool) (p : Piece) (n : ℕ) → piece_len p ≡ n → window ≡ pending → now ≡ drop n pending → IsNear P pending → IsFirstPiece P P' window here p → length now ≤ 3
 left_few P P' window pending now here p n s e f near first_is =
-    let there : first (P (pending ++ [])) ≡ Some p = ap (λ x. first (P (x ++ []))) (sym e) ∙ ap first (first_is.rest [] (λ _. refl)) in
+    let there : head_piece (P (pending ++ [])) ≡ Some p = ap (λ x. head_piece (P (x ++ []))) (sym e) ∙ ap head_piece (first_is.rest [] (λ _. refl)) in
     omega (arith, near [] p there, ap length f, length-drop n pending, s)
 
 -- What is left of the source behind n more bytes: how long it is, and where it begins.

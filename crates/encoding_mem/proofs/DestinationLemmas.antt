@@ -13,7 +13,7 @@ use Rattle.std.proofs.str.Utf16.{lone_unit_char_low, lone_unit_char_high, lone_u
 use Rattle.std.specs.Option.{unwrap_or}
 use Rattle.std.proofs.lemmas.Str.{IsUtf8-append, IsUtf8-from_ascii, IsUtf8-nil, encode_ascii}
 use borrow.Rule.Slice.PartMut.{put_mid, post_of}
-use Rattle.encoding_mem.specs.TextDestination.{cleared}
+use Rattle.encoding_mem.specs.calls.TextDestination.{cleared}
 use Rattle.encoding_mem.specs.laws.Utf8.{scalar_from}
 use Rattle.encoding_mem.proofs.UnitPrefixLemmas.{char_of, one, two, pair_or_not}
 use Rattle.encoding_mem.proofs.Utf16Lemmas.{no_units}

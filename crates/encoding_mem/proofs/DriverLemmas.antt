@@ -5,18 +5,19 @@ use Rattle.std.proofs.lemmas.List.{append-nil, drop_all, drop-append-le, length-
 use Rattle.std.proofs.lemmas.Str.{encodes-chars, length-encode}
 use Rattle.std.specs.Char.{encode_utf8}
 use Rattle.std.specs.Str.{chars, IsUtf8}
-use Rattle.encoding_mem.specs.Piece.{Piece, first, malformed, text_of, sizes, piece_len, scalars, scalars_of, IsWellFormed, AreWellFormed}
-use Rattle.encoding_mem.specs.Decoding.{IsUndecided, Reports, Takes}
-use Rattle.encoding_mem.specs.DecodedLength.{cost_in, goes_on, is_units, left_after, replacement_len}
-use Rattle.encoding_mem.specs.Driver.{DriverCall}
-use Rattle.encoding_mem.specs.DecoderRule.{IsFirstPiece, IsSoon}
-use Rattle.encoding_mem.specs.Text.{text_pieces}
-use Rattle.encoding_mem.specs.UnitRun.{BeginWithUnits, unit_pieces}
+use Rattle.encoding_mem.specs.Piece.{Piece, head_piece, malformed, piece_text, sizes, piece_len, scalars, piece_scalars, IsWellFormedPiece, AreWellFormed}
+use Rattle.encoding_mem.specs.calls.Decoding.{Reports, Takes}
+use Rattle.encoding_mem.specs.calls.DecodedLength.{cost_in, counts_past_malformed, is_units, left_after, replacement_len}
+use Rattle.encoding_mem.specs.calls.Driver.{DriverCall}
+use Rattle.encoding_mem.specs.calls.DecoderRule.{IsFirstPiece, IsSoon}
+use Rattle.encoding_mem.specs.calls.TextRun.{text_pieces}
+use Rattle.encoding_mem.specs.calls.UnitRun.{BeginWithUnits, unit_pieces}
 use Rattle.encoding_mem.specs.declared.room.OutputUnit.{OutputUnit}
 use Rattle.encoding_mem.specs.declared.decoder_result.DecoderResult.TheVariants.{InputEmpty, OutputFull, Malformed}
 use Rattle.encoding_mem.specs.laws.Piece.{AreWellFormed-last}
 use Rattle.encoding_mem.specs.laws.Writing.{cost_fits16}
 use Rattle.encoding_mem.proofs.DecoderCallLemmas.{held_all, left_behind, near_few, near_soon, takes_then, took_source}
+use Rattle.encoding_mem.specs.Decided.{IsUndecided}
 
 -- Of the source rest is left, and nothing is pending; what was taken is written, and room that was enough for the source
 -- is enough for the rest.
@@ -47,14 +48,14 @@ come_none P need t last src free W none =
 -- a piece more
 pub come_piece : (before P P' : List ℕ → List Piece) (needed need need' : OutputUnit → ℕ → ℕ) (t last : Bool) (src rest : List ℕ) (old free free' : ℕ) (W W' : List ℕ → Type 0) (p : Piece) (n : ℕ)
     → HasCome before P needed need t last src rest old free W
-    → IsWellFormed p
+    → IsWellFormedPiece p
     → piece_len p ≡ n
     → IsFirstPiece P P' rest last p
     → ((k : OutputUnit) (m : ℕ) → is_units k ≡ t → length rest ≤ m → (IsTrue last → m ≡ length rest) → need k m ≤ free → need' k (m - n) ≤ free')
-    → ((text : List ℕ) → W text → W' (text ++ scalars_of p))
+    → ((text : List ℕ) → W text → W' (text ++ piece_scalars p))
     → HasCome before P' needed need' t last src (take (length rest - n) (drop n rest)) old free' W'
-come_piece before P P' needed need need' t last src rest old free free' W W' p n i fine size first room step =
-    let fits : n ≤ length rest = omega (arith, size, first.within) in
+come_piece before P P' needed need need' t last src rest old free free' W W' p n i fine size head_piece room step =
+    let fits : n ≤ length rest = omega (arith, size, head_piece.within) in
     let left = left_behind src rest n i.within i.behind fits in
     record {
       within = left.within;
@@ -63,7 +64,7 @@ come_piece before P P' needed need need' t last src rest old free free' W W' p n
           let e : (length rest + m) - n ≡ length (take (length rest - n) (drop n rest)) + m = omega (arith, fits, left.size) in
           subst (λ (x : ℕ). need' k x ≤ free') e (room k (length rest + m) units (omega arith) (λ l. omega (arith, stops l)) (i.enough k m units stops h)));
       takes = subst (λ (k : ℕ). Takes AreWellFormed before P' src last 0 0 k W') (sym left.read)
-          (took_source AreWellFormed before P P' src rest last 0 (length src - length rest) W W' p n size i.behind i.takes first (λ ps a. AreWellFormed-last ps p a fine) step);
+          (took_source AreWellFormed before P P' src rest last 0 (length src - length rest) W W' p n size i.behind i.takes head_piece (λ ps a. AreWellFormed-last ps p a fine) step);
     }
 
 pub untrue : IsTrue false → ⊥
@@ -197,14 +198,14 @@ bare need k n room h = let same : length {A = ℕ} [] + n ≡ n = omega arith in
 -- How a call ends that has come so far. The next piece has no room;
 pub ends_full : (before P : List ℕ → List Piece) (needed need : OutputUnit → ℕ → ℕ) (t last : Bool) (src rest : List ℕ) (old free room mark : ℕ) (W : List ℕ → Type 0) (pending : List ℕ)
     → pending ≡ [] → HasCome before P needed need t last src rest old free W
-    → free < room → (p : Piece) × (then : List ℕ → List Piece) × IsFirstPiece P then rest last p × (0 < length (text_of p))
+    → free < room → (p : Piece) × (then : List ℕ → List Piece) × IsFirstPiece P then rest last p × (0 < length (piece_text p))
     → ((k : OutputUnit) (m : ℕ) → is_units k ≡ t → length rest ≤ m → (IsTrue last → m ≡ length rest) → need k m ≤ free → ⊥)
     → DriverCall before P needed need [] pending src last (length src - length rest) W t old free room mark (Some OutputFull)
 ends_full before P needed need t last src rest old free room mark W pending none i over piece refused = rw none (record {
   law = i.takes;
   ends = (
     over,
-    (piece.0, λ r e. ap (λ x. first (P (x ++ r))) (sym i.behind) ∙ ap first (piece.2.rest r e), piece.3),
+    (piece.0, λ r e. ap (λ x. head_piece (P (x ++ r))) (sym i.behind) ∙ ap head_piece (piece.2.rest r e), piece.3),
   );
   enough = λ k m units stops h. refused k (length rest + m) units (omega arith) (λ l. omega (arith, stops l)) (i.enough k m units stops (bare needed k (length src + m) old h));
   short = omega arith;
@@ -228,7 +229,7 @@ ends_waiting before P needed need t last src rest old free room mark W pending i
 pub ends_malformed : (before P P' : List ℕ → List Piece) (needed need need' : OutputUnit → ℕ → ℕ) (t last : Bool) (src rest : List ℕ) (old free free' room mark : ℕ) (W W' : List ℕ → Type 0) (pending : List ℕ) (n : ℕ)
     → pending ≡ [] → HasCome before P needed need t last src rest old free W
     → IsFirstPiece P P' rest last (malformed n) → n ≤ 4 → ((text : List ℕ) → W text → W' text) → mark ≤ free'
-    → ((k : OutputUnit) (m : ℕ) → is_units k ≡ t → length rest ≤ m → (IsTrue last → m ≡ length rest) → need k m ≤ free → left_after (goes_on k) (replacement_len t) (need' k (m - n)) ≤ free')
+    → ((k : OutputUnit) (m : ℕ) → is_units k ≡ t → length rest ≤ m → (IsTrue last → m ≡ length rest) → need k m ≤ free → left_after (counts_past_malformed k) (replacement_len t) (need' k (m - n)) ≤ free')
     → DriverCall before P' needed need' [] pending src last (length src - length rest + n) W' t old free' room mark (Some (Malformed n 0))
 ends_malformed before P P' needed need need' t last src rest old free free' room mark W W' pending n none i taken few same marks room_left = rw none (record {
   law = took_source (Reports (Malformed n 0) 0) before P P' src rest last 0 (length src - length rest) W W' (malformed n) n refl i.behind i.takes taken
@@ -236,7 +237,7 @@ ends_malformed before P P' needed need need' t last src rest old free free' room
   ends = marks;
   enough = λ k m units stops h. (
       let left_over : (length rest + m) - n ≡ length {A = ℕ} [] + ((length src - (length src - length rest + n)) + m) = omega (arith, i.within, taken.within) in
-      subst (λ (x : ℕ). left_after (goes_on k) (replacement_len t) (need' k x) ≤ free') left_over (room_left k (length rest + m) units (omega arith) (λ l. omega (arith, stops l)) (i.enough k m units stops (bare needed k (length src + m) old h))));
+      subst (λ (x : ℕ). left_after (counts_past_malformed k) (replacement_len t) (need' k x) ≤ free') left_over (room_left k (length rest + m) units (omega arith) (λ l. omega (arith, stops l)) (i.enough k m units stops (bare needed k (length src + m) old h))));
   short = omega arith;
   near = near_few P' [] (omega arith);
 })

@@ -4,11 +4,11 @@ use Rattle.std.proofs.Common.{◌≡◌, ◌≢◌, ℕ, suc, ◌+◌, ◌-◌, 
 use Rattle.std.proofs.lemmas.List.{append-nil, drop-drop}
 use borrow.Rule.Slice.PartMut.{put_mid}
 use Rattle.encoding_mem.proofs.LongestPrefixLemmas.{length_put}
-use Rattle.encoding_mem.specs.Coding.{Coding, IsCoding, last_set, bytes, bytes_from, AllMapped, IsMapped}
+use Rattle.encoding_mem.specs.Coding.{Coding, IsCoding, last_set, mapped_bytes, bytes_from, AllMapped, IsMapped}
 use Rattle.encoding_mem.specs.laws.Encoding.{all_mapped-append, bytes_from-append, last_set-append}
-use Rattle.encoding_mem.specs.Encoding.{EncodeEndsWith, Encodes}
+use Rattle.encoding_mem.specs.calls.EncoderCalls.{EncodeEndsWith, Encodes}
 use Rattle.std.specs.Str.{IsAscii, IsCharBoundary, encode_utf8_all}
-use Rattle.encoding_mem.specs.EncoderRule.{CopiesAscii, CopiesUtf8, EncoderCall, EncoderParts, IsCopied, IsRun, Tight, WritesBytes}
+use Rattle.encoding_mem.specs.calls.EncoderRule.{CopiesAscii, CopiesUtf8, EncoderCall, EncoderParts, IsCopied, IsRun, Tight, WritesBytes}
 use Rattle.encoding_mem.proofs.DestinationLemmas.{drop_into, length_into, take_into}
 use Rattle.encoding_mem.specs.declared.form.Form.TheVariants.{Mapped, Unmapped}
 use Rattle.encoding_mem.specs.declared.encoder_result.EncoderResult.{EncoderResult as Outcome}
@@ -18,8 +18,8 @@ use Rattle.encoding_mem.specs.declared.form.EscapeState.TheVariants.{Ascii}
 use Rattle.std.specs.Char.{encode_utf8, len_utf8}
 use Rattle.std.proofs.lemmas.Str.{drop_past_char, length-encode, IsCharBoundary-from_rest}
 use native.Mathlib.Nat.{mul-add, mul_comm}
-use Rattle.encoding_mem.specs.DecodedLength.{cost_in}
-use Rattle.encoding_mem.specs.EncodedLength.{IsBoundFor, bound_for, encoded_length_utf8}
+use Rattle.encoding_mem.specs.calls.DecodedLength.{cost_in}
+use Rattle.encoding_mem.specs.calls.EncodedLength.{IsBoundFor, bound_for, encoded_length_utf8}
 use Rattle.encoding_mem.specs.declared.room.Bound.{Bound}
 use Rattle.std.proofs.Math.Nat.{mul-le-mul_left}
 
@@ -199,7 +199,7 @@ le_times f n some = let less : n * 1 ≤ n * f = mul-le-mul_left n some in let t
 pub ascii_costs : {need : ℕ} (e : Coding) (t : Bool) (l : Bound) (s : EscapeState) → IsCoding need e → IsBoundFor e t l → CopiesAscii e s → 1 ≤ l.factor
 ascii_costs e t l s laws fits copies =
     let here = copies 0 (lit< tt) in
-    let one : length (bytes (e.form 0)) ≡ 1 = ap (λ f. length (bytes f)) here.1 in
+    let one : length (mapped_bytes (e.form 0)) ≡ 1 = ap (λ f. length (mapped_bytes f)) here.1 in
     let each = fits.each s 0 in
     let cost : cost_in t 0 ≡ 1 = cost_zero t in
     let paid : 1 ≤ l.factor * cost_in t 0 = omega (arith, each, one) in
@@ -219,7 +219,7 @@ less_asked f u extra from offset size copied room some after within few fits eno
 
 -- a target that writes a character as its UTF-8 has room for that
 utf8_cost : (e : Coding) (t : Bool) (l : Bound) (s : EscapeState) (c : ℕ) → IsBoundFor e t l → CopiesUtf8 e s → len_utf8 c ≤ l.factor * cost_in t c
-utf8_cost e t l s c fits copies = omega (arith, fits.each s c, ap length (ap bytes (copies c).1), length-encode c)
+utf8_cost e t l s c fits copies = omega (arith, fits.each s c, ap length (ap mapped_bytes (copies c).1), length-encode c)
 
 -- where characters are copied in UTF-8, there is room for UTF-8
 pub utf8_costs : (e : Coding) (t : Bool) (l : Bound) (s : EscapeState) → IsBoundFor e t l → CopiesUtf8 e s → (bound_for encoded_length_utf8 t).factor ≤ l.factor
@@ -242,7 +242,7 @@ pub form_over : (need : ℕ) (e : Coding) (c : ℕ) (slice bs : List ℕ) (room 
     → slice ≡ bs → e.form c ≡ Mapped bs → room < length slice → room < need
 form_over need e c slice bs room k a is over =
     let n = (k.short c).short in
-    let m : length slice ≡ length (bytes (e.form c)) = rw is (ap length a) in omega arith
+    let m : length slice ≡ length (mapped_bytes (e.form c)) = rw is (ap length a) in omega arith
 
 pub some_left : (t more : List ℕ) (c : ℕ) → t ≡ c ∷ more → 0 < length t
 some_left t more c at = rw at (omega arith)
@@ -266,8 +266,8 @@ pub tight_form : (need : ℕ) (e : Coding) (s1 s2 : EscapeState) (c : ℕ) (t mo
     → t ≡ c ∷ more → s2 ≡ e.set s1 c → slice ≡ bs → e.form c ≡ Mapped bs → room < length slice
     → Tight e EncoderResult.OutputFull s2 t room
 tight_form need e s1 s2 c t more slice bs room k at here a is over =
-    let m : length slice ≡ length (bytes (e.form c)) = rw is (ap length a) in
-    let enough : room < length (bytes (e.form c)) = omega arith in
+    let m : length slice ≡ length (mapped_bytes (e.form c)) = rw is (ap length a) in
+    let enough : room < length (mapped_bytes (e.form c)) = omega arith in
     rw at (inr (rw here (k.stays s1 c), enough))
 
 -- An escape to ASCII that has bytes is from another set.

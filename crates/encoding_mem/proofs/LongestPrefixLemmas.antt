@@ -11,7 +11,7 @@ use Rattle.std.proofs.Math.Seq.{take-append-add}
 use borrow.Rule.Slice.PartMut.{put_mid, post_of}
 use Rattle.encoding_mem.specs.Conversions.{IsLongest}
 use Rattle.encoding_mem.specs.Latin1.{AllLatin1}
-use Rattle.encoding_mem.specs.Writing.{Adds, len_utf16, encode_utf16_all}
+use Rattle.encoding_mem.specs.calls.Writing.{Adds, len_utf16, encode_utf16_all}
 use Rattle.encoding_mem.specs.laws.Writing.{encode_utf16_all-append, length-encode_utf16}
 
 -- What was written from the start on.

@@ -9,7 +9,7 @@ use Rattle.std.specs.Char.Utf16.{utf16_lossy_chars}
 use lib.Dec.{leb}
 use mir.Val.{bool_byte}
 use Rattle.encoding_mem.specs.Conversions.{units_in_utf8}
-use Rattle.encoding_mem.specs.Writing.{Adds, len_utf16}
+use Rattle.encoding_mem.specs.calls.Writing.{Adds, len_utf16}
 use Rattle.encoding_mem.specs.laws.Utf8.{encode_two, encode_three}
 use Rattle.encoding_mem.proofs.AsciiLemmas.{ascii_take}
 use Rattle.encoding_mem.proofs.AsciiRunLemmas.{run_units}

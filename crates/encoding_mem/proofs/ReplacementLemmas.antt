@@ -4,17 +4,17 @@ use Rattle.std.specs.Int.{is_in_range}
 use Rattle.std.specs.Char.Escape.{encode_utf16}
 use Rattle.std.proofs.lemmas.Bool.{lt-ltb, ltb-true}
 use Rattle.std.proofs.lemmas.List.{append-nil, take_rest, drop-drop}
-use Rattle.encoding_mem.specs.Piece.{Piece, well_formed, malformed, piece_len, sizes, scalars, scalars_of, text_of, text, first, AreWellFormed, ArePieces}
+use Rattle.encoding_mem.specs.Piece.{Piece, well_formed, malformed, piece_len, sizes, scalars, piece_scalars, piece_text, text, head_piece, AreWellFormed, ArePieces}
 use Rattle.encoding_mem.specs.laws.Pieces.{pieces_by-nil, pieces_by-cons, pieces_by-whole}
 use Rattle.encoding_mem.specs.Utf8.{second_min, second_max, scalar_of_two, scalar_of_three, scalar_of_four, utf8_after_three, utf8_after_two, utf8_after_lead, first_piece_utf8, pieces_utf8}
 use Rattle.encoding_mem.specs.laws.Utf8.{cuts_utf8}
-use Rattle.encoding_mem.specs.Writing.{Adds, len_utf16, encode_utf16_all}
+use Rattle.encoding_mem.specs.calls.Writing.{Adds, len_utf16, encode_utf16_all}
 use Rattle.encoding_mem.specs.laws.Writing.{adds_encoded16, adds-length, encode_utf16_all-append, length-encode_utf16, cost_fits16}
 
 -- A piece gives some text, and no more units than it has bytes.
 record Fits (p : Piece) : Type 0 where
-  some : 0 < length (encode_utf16_all (text_of p))
-  few : length (encode_utf16_all (text_of p)) ≤ piece_len p
+  some : 0 < length (encode_utf16_all (piece_text p))
+  few : length (encode_utf16_all (piece_text p)) ≤ piece_len p
 
 fits_well_formed : (n c : ℕ) → 2 ≤ n → Fits (well_formed n (c ∷ []))
 fits_well_formed n c h =
@@ -77,19 +77,19 @@ fit_back (p ∷ ps) qs h = fit_back ps qs h.1
 
 pub text-append : (ps qs : List Piece) → text (ps ++ qs) ≡ text ps ++ text qs
 text-append [] qs = refl
-text-append (p ∷ ps) qs = ap (λ l. text_of p ++ l) (text-append ps qs) ∙ sym (append_assoc (text_of p) (text ps) (text qs))
+text-append (p ∷ ps) qs = ap (λ l. piece_text p ++ l) (text-append ps qs) ∙ sym (append_assoc (piece_text p) (text ps) (text qs))
 
 units_few : (ps : List Piece) → AllFit ps → length (encode_utf16_all (text ps)) ≤ sizes ps
 units_few [] h = omega arith
 units_few (p ∷ ps) h =
-    let e = ap length (encode_utf16_all-append (text_of p) (text ps)) in
-    let l = length-append (encode_utf16_all (text_of p)) (encode_utf16_all (text ps)) in
+    let e = ap length (encode_utf16_all-append (piece_text p) (text ps)) in
+    let l = length-append (encode_utf16_all (piece_text p)) (encode_utf16_all (text ps)) in
     let f = h.0.few in
     let r = units_few ps h.1 in
     omega arith
 
 -- what was written before a piece leaves room for it
-pub room_before : (src : List ℕ) (ps rest : List Piece) (p : Piece) → pieces_utf8 src ≡ ps ++ rest → first rest ≡ Some p → length (encode_utf16_all (text ps)) < length src
+pub room_before : (src : List ℕ) (ps rest : List Piece) (p : Piece) → pieces_utf8 src ≡ ps ++ rest → head_piece rest ≡ Some p → length (encode_utf16_all (text ps)) < length src
 room_before src ps [] p is at = let none = sym at in absurd (cc)
 room_before src ps (q ∷ rest) p is at =
     let all = all_fit (length src) src (omega arith) in
@@ -100,8 +100,8 @@ room_before src ps (q ∷ rest) p is at =
     let t = ap (λ l. length (encode_utf16_all l)) (text-append ps (q ∷ rest)) in
     let a = ap length (encode_utf16_all-append (text ps) (text (q ∷ rest))) in
     let b = length-append (encode_utf16_all (text ps)) (encode_utf16_all (text (q ∷ rest))) in
-    let d = ap length (encode_utf16_all-append (text_of q) (text rest)) in
-    let e = length-append (encode_utf16_all (text_of q)) (encode_utf16_all (text rest)) in
+    let d = ap length (encode_utf16_all-append (piece_text q) (text rest)) in
+    let e = length-append (encode_utf16_all (piece_text q)) (encode_utf16_all (text rest)) in
     omega arith
 
 -- What a loop over the parts has: pieces are those of what the decoder has left.
@@ -137,7 +137,7 @@ goes_on src old start before after read more mid m new n taken h are rest adds =
 
 scalars-malformed : (ps : List Piece) (a : ℕ) → scalars (ps ++ (malformed a ∷ [])) ≡ scalars ps
 scalars-malformed [] a = refl
-scalars-malformed (p ∷ ps) a = ap (λ l. scalars_of p ++ l) (scalars-malformed ps a)
+scalars-malformed (p ∷ ps) a = ap (λ l. piece_scalars p ++ l) (scalars-malformed ps a)
 
 -- after a call that ended with a malformed sequence, and its U+FFFD
 pub goes_on_malformed : (src old : List ℕ) (start : ℕ) (before after : List ℕ → List Piece) (read more : ℕ) (mid : List ℕ) (m : ℕ) (new : List ℕ) (n : ℕ) (end : List ℕ) (k : ℕ) (taken prefix : List Piece) (a : ℕ)
@@ -167,7 +167,7 @@ all_written src old start pieces read new count h none =
 
 -- Where a first piece is left, there is room for any character.
 pub never_full : (src old : List ℕ) (start : ℕ) (pieces : List ℕ → List Piece) (read : ℕ) (new : List ℕ) (count : ℕ) (p : Piece) → HasWritten src old start pieces read new count
-    → first (pieces (drop read src)) ≡ Some p → length src < length old - start → 2 ≤ length new - count
+    → head_piece (pieces (drop read src)) ≡ Some p → length src < length old - start → 2 ≤ length new - count
 never_full src old start pieces read new count p h at room =
     let before = room_before src h.taken (pieces (drop read src)) p h.whole at in
     omega (arith, h.adds.counted, adds-length old start (encode_utf16_all (text h.taken)) new count h.adds)

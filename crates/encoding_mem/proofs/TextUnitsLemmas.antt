@@ -9,8 +9,8 @@ use Rattle.std.specs.Char.{encode_utf8, len_utf8}
 use Rattle.std.specs.Char.Escape.{encode_utf16}
 use Rattle.std.specs.Str.{chars, IsAscii, IsUtf8, IsCharBoundary}
 use Rattle.encoding_mem.specs.Conversions.{text_in_utf16}
-use Rattle.encoding_mem.specs.TextUnits.{IsInUnits, size_from_lead}
-use Rattle.encoding_mem.specs.Writing.{len_utf16, encode_utf16_all}
+use Rattle.encoding_mem.specs.calls.TextUnits.{IsInUnits, size_from_lead}
+use Rattle.encoding_mem.specs.calls.Writing.{len_utf16, encode_utf16_all}
 use Rattle.encoding_mem.specs.laws.Writing.{encode_utf16_all-append, len_utf16_le}
 use Rattle.encoding_mem.proofs.AsciiLemmas.{ascii_take}
 use Rattle.encoding_mem.proofs.DestinationLemmas.{take_into, drop_into}

@@ -3,7 +3,7 @@ use Rattle.std.proofs.Common.{◌≡◌, ℕ, ◌+◌, ◌-◌, ◌<◌, ◌≤�
 use Rattle.std.specs.Char.Utf16.{utf16_lossy_chars}
 use Rattle.std.proofs.lemmas.List.{take-append-drop, length-take-le}
 use borrow.Rule.Slice.PartMut.{put_mid}
-use Rattle.encoding_mem.specs.Writing.{Adds}
+use Rattle.encoding_mem.specs.calls.Writing.{Adds}
 use Rattle.encoding_mem.specs.laws.UnitRun.{plain_scalars, units_alone}
 use Rattle.encoding_mem.proofs.ConversionLemmas.{scalars_back}
 use Rattle.encoding_mem.proofs.DestinationLemmas.{take_into, drop_into}

@@ -3,8 +3,8 @@ use Rattle.std.proofs.Common.{◌≡◌, ℕ, zero, suc, get_or, ◌+◌, ◌<�
 use Rattle.std.specs.Char.Utf16.{utf16_lossy_chars}
 use Rattle.std.proofs.lemmas.Bool.{cases_lt, lt-ltb, le-ltb}
 use Rattle.std.proofs.lemmas.List.{drop-drop}
-use Rattle.encoding_mem.specs.EncoderRule.{IsCopied}
-use Rattle.encoding_mem.specs.Writing.{len_utf16}
+use Rattle.encoding_mem.specs.calls.EncoderRule.{IsCopied}
+use Rattle.encoding_mem.specs.calls.Writing.{len_utf16}
 use Rattle.encoding_mem.specs.Conversions.{IsUnitBoundary, units_in_utf8}
 use Rattle.encoding_mem.proofs.UnitPrefixLemmas.{reads_boundary, split_at}
 use Rattle.encoding_mem.proofs.Utf16Lemmas.{plain_unit}

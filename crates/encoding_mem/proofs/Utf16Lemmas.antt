@@ -14,7 +14,7 @@ use Rattle.encoding_mem.proofs.PrefixLemmas.{read_behind}
 use Rattle.std.specs.Str.{IsAscii, all_scalars}
 use Rattle.std.proofs.Math.Utf8.{scalar, scalar_cases}
 use Rattle.std.specs.Prelude.{IfSome}
-use Rattle.encoding_mem.specs.Writing.{encode_utf16_all, len_utf16}
+use Rattle.encoding_mem.specs.calls.Writing.{encode_utf16_all, len_utf16}
 
 none : (us : List ℕ) → length us ≡ 0 → utf16_lossy_chars us ≡ []
 none [] e = rw utf16_chars-nil refl

@@ -9,7 +9,7 @@ use Rattle.std.proofs.lemmas.List.{append_cancel_left, append_cancel_right, take
 use Rattle.std.proofs.lemmas.Str.{chars-append, chars-nil, chars-IsAscii, chars_past_char, length-encode, IsUtf8-take, IsUtf8-drop, IsCharBoundary-from_take, IsCharBoundary-from_rest, IsCharBoundary-past_char, len_utf8_bounds, utf8_valid_len_le}
 use Rattle.std.specs.Str.Lossy.{utf8_valid_len}
 use Rattle.encoding_mem.specs.Conversions.{IsLongest, text_in_utf16, text_prefix}
-use Rattle.encoding_mem.specs.Writing.{Adds, len_utf16, encode_utf16_all}
+use Rattle.encoding_mem.specs.calls.Writing.{Adds, len_utf16, encode_utf16_all}
 use Rattle.encoding_mem.specs.laws.Writing.{adds_none, adds_encoded16}
 use Rattle.encoding_mem.proofs.LongestPrefixLemmas.{over16}
 

@@ -2,8 +2,8 @@
 use Rattle.std.specs.Prelude.{ℕ, ◌+◌, List, [], ◌∷◌, ◌++◌}
 use Rattle.encoding_mem.specs.Piece.{Piece, well_formed, malformed}
 
--- what a caller is told: a scalar, or a malformed sequence with its size in bytes and the offset
--- after it
+-- what a decoder tells its caller: a scalar, or a malformed sequence with its length in bytes and
+-- the offset after it
 pub data Event : Type 0 where
   scalar : (c : ℕ) → Event
   malformed_at : (size end : ℕ) → Event
@@ -13,7 +13,8 @@ abbrev pub scalar_events : List ℕ → List Event
 scalar_events [] = []
 scalar_events (c ∷ cs) = scalar c ∷ scalar_events cs
 
--- of pieces that begin at an offset
+-- the events of pieces of which the first begins at an offset: each scalar, and each malformed
+-- sequence
 abbrev pub events : ℕ → List Piece → List Event
 events offset [] = []
 events offset (well_formed n cs ∷ ps) = scalar_events cs ++ events (offset + n) ps

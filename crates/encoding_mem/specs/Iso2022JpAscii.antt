@@ -6,6 +6,6 @@ use Rattle.std.specs.Prelude.{ℕ, ◌<◌, ◌≢◌, List, slice_index}
 abbrev pub IsIso2022JpAsciiByte : ℕ → Type 0
 IsIso2022JpAsciiByte b = (b < 0x80) × (b ≢ 0x0E) × (b ≢ 0x0F) × (b ≢ 0x1B)
 
--- each byte is one
+-- ISO-2022-JP, in its state ASCII, reads each of some bytes as itself (`IsIso2022JpAsciiByte`)
 abbrev pub IsIso2022JpAscii : List ℕ → Type 0
 IsIso2022JpAscii bytes = (i : ℕ) → IsIso2022JpAsciiByte (slice_index bytes i)

@@ -2,10 +2,10 @@
 use Rattle.std.specs.Prelude.{ℕ, ◌≤◌, List, slice_index}
 use Rattle.std.specs.Str.{IsUtf8, chars}
 
--- each character, or each unit of 16 bits, is at most U+00FF
+-- each of some characters, or of some units of UTF-16, is at most U+00FF
 abbrev pub AllLatin1 : List ℕ → Type 0
 AllLatin1 cs = (i : ℕ) → slice_index cs i ≤ 0xFF
 
--- bytes that are UTF-8, of such characters only
+-- bytes are UTF-8, of characters up to U+00FF only
 abbrev pub IsLatin1Text : List ℕ → Type 0
 IsLatin1Text bytes = IsUtf8 bytes × AllLatin1 (chars bytes)

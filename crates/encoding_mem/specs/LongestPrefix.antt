@@ -1,7 +1,7 @@
 -- The longest prefix with a property.
 use Rattle.std.specs.Prelude.{ℕ, ◌<◌, ◌≤◌, List, length, take}
 
--- the first n elements have the property, and no longer prefix has it
+-- the first n elements of a list have a property, and no longer prefix of the list has it
 pub record IsLongestPrefix (WellFormed : List ℕ → Type 0) (xs : List ℕ) (n : ℕ) : Type 0 where
   pub within : n ≤ length xs
   pub well_formed : WellFormed (take n xs)

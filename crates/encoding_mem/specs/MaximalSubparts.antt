@@ -6,35 +6,38 @@ use Rattle.encoding_mem.specs.LongestPrefix.{IsLongestPrefix}
 use Rattle.encoding_mem.specs.Piece.{Piece, well_formed, malformed, piece_len}
 use Rattle.encoding_mem.specs.Utf8.{pieces_utf8}
 
--- bytes begin with the whole form of this scalar value
+-- bytes begin with all the bytes that a given scalar value has in UTF-8
 pub record BeginsWithForm (bytes : List ℕ) (c : ℕ) : Type 0 where
   pub scalar : IsScalar c
   pub rest : List ℕ
   pub is : bytes ≡ encode_utf8 c ++ rest
 
--- bytes are a prefix of the form of some scalar value
+-- bytes are a prefix of the bytes that some scalar value has in UTF-8
 pub record IsFormPrefix (bytes : List ℕ) : Type 0 where
   pub char : ℕ
   pub scalar : IsScalar char
   pub rest : List ℕ
   pub is : encode_utf8 char ≡ bytes ++ rest
 
--- what may be malformed as one: a prefix of a form, or one byte
+-- bytes may be one malformed sequence: a prefix of some scalar value's UTF-8, or a single byte
 abbrev pub IsSubpart : List ℕ → Type 0
 IsSubpart bytes = IsFormPrefix bytes ⊎ (length bytes ≡ 1)
 
--- the first n bytes are the maximal subpart: no whole form begins here, and no longer prefix of the bytes is a subpart
+-- the first n bytes are the "maximal subpart" (Unicode, section 3.9): no scalar value's UTF-8
+-- begins here, and no longer prefix may be one malformed sequence (`IsSubpart`)
 pub record IsMaximalSubpart (bytes : List ℕ) (n : ℕ) : Type 0 where
   pub some : 0 < n
   pub no_form : (c : ℕ) → ¬ (BeginsWithForm bytes c)
   pub longest : IsLongestPrefix IsSubpart bytes n
 
--- what the first piece is to be: the form of a scalar value, which it gives, or else the maximal subpart
+-- a piece is what Unicode makes first of bytes in UTF-8: all the bytes of a scalar value, which it
+-- gives, or, malformed, the "maximal subpart" (Unicode, section 3.9)
 abbrev pub IsUtf8Piece : List ℕ → Piece → Type 0
 IsUtf8Piece bytes (well_formed n cs) = (c : ℕ) × BeginsWithForm bytes c × (n ≡ length (encode_utf8 c)) × (cs ≡ c ∷ [])
 IsUtf8Piece bytes (malformed n) = IsMaximalSubpart bytes n
 
--- the pieces of bytes are these: such a one, and then the pieces of the bytes behind it
+-- pieces, one at least, are those of bytes in UTF-8 exactly if the first is what Unicode makes
+-- first of the bytes (`IsUtf8Piece`), and the others are the pieces of the bytes after it
 abbrev pub Utf8PiecesAreMaximal : Type 0
 Utf8PiecesAreMaximal = (bytes : List ℕ) (p : Piece) (ps : List Piece)
     → (pieces_utf8 bytes ≡ p ∷ ps) ↔ (IsUtf8Piece bytes p × (ps ≡ pieces_utf8 (drop (piece_len p) bytes)))

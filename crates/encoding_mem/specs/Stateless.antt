@@ -9,7 +9,7 @@ use Rattle.encoding_mem.specs.declared.form.EscapeState.TheVariants.{Ascii}
 abbrev pub stateless : (ℕ → Form) → Coding
 stateless form = record { form = form; set = λ _ _. Ascii; escape = λ _ _. [] }
 
--- such a target, by what it does: one set, and no escapes
+-- a target writes each character with ASCII as its set, and no escape has bytes
 pub record HasOneSet (e : Coding) : Type 0 where
   pub set : (s : EscapeState) (c : ℕ) → e.set s c ≡ Ascii
   pub escape : (s s' : EscapeState) → e.escape s s' ≡ []

@@ -10,21 +10,21 @@ IsHighSurrogate u = IsInRange 0xD800 0xDBFF u
 abbrev pub IsLowSurrogate : ℕ → Type 0
 IsLowSurrogate u = IsInRange 0xDC00 0xDFFF u
 
--- the two units of one character
+-- two units are one character: the first is a high surrogate, the second a low one
 abbrev pub IsSurrogatePair : ℕ → ℕ → Type 0
 IsSurrogatePair u v = IsHighSurrogate u × IsLowSurrogate v
 
--- the unit at i is a surrogate with no partner: a first one that no second one follows, or a second one
--- that follows no first one
+-- the unit at an offset is a surrogate with no partner: a high one that no low one follows, or a
+-- low one that follows no high one
 abbrev pub IsLoneSurrogate : List ℕ → ℕ → Type 0
 IsLoneSurrogate units i = (IsHighSurrogate (slice_index units i) × (¬ IsLowSurrogate (slice_index units (i + 1))))
     ⊎ (IsLowSurrogate (slice_index units i) × ((k : ℕ) → k + 1 ≡ i → ¬ IsHighSurrogate (slice_index units k)))
 
--- well-formed UTF-16: no surrogate is without its partner
+-- units are well-formed UTF-16: no surrogate is without its partner
 abbrev pub IsUtf16 : List ℕ → Type 0
 IsUtf16 units = (i : ℕ) → ¬ IsLoneSurrogate units i
 
--- each lone surrogate has become U+FFFD, and all else stayed
+-- each lone surrogate among some units has become U+FFFD, and all other units stayed
 pub record IsMended (old new : List ℕ) : Type 0 where
   pub same_length : length new ≡ length old
   pub lone : (i : ℕ) → IsLoneSurrogate old i → slice_index new i ≡ 0xFFFD

@@ -35,6 +35,7 @@ utf8_after_three b c d (e ∷ x) = if is_in_range 0x80 0xBF e
     else malformed 3
 
 -- the piece that begins with two bytes of a sequence of three or four in UTF-8, by the bytes after
+-- them
 abbrev pub utf8_after_two : ℕ → ℕ → List ℕ → Piece
 utf8_after_two b c [] = malformed 2
 utf8_after_two b c (d ∷ x) = if is_in_range 0x80 0xBF d
@@ -48,13 +49,13 @@ utf8_after_lead b (c ∷ x) = if is_in_range (second_min b) (second_max b) c
     then (if nat_lt b 0xE0 then well_formed 2 (scalar_of_two b c ∷ []) else utf8_after_two b c x)
     else malformed 1
 
--- the first piece of some bytes
+-- the first piece of some bytes in UTF-8: a sequence that gives one scalar, or a malformed one
 abbrev pub first_piece_utf8 : List ℕ → Piece
 first_piece_utf8 [] = malformed 1
 first_piece_utf8 (b ∷ x) = if nat_lt b 0x80
     then well_formed 1 (b ∷ [])
     else (if is_in_range 0xC2 0xF4 b then utf8_after_lead b x else malformed 1)
 
--- the pieces of some bytes, where the list's end is the end of the input
+-- the pieces of a whole input in UTF-8: a sequence that its end cuts off is malformed
 abbrev pub pieces_utf8 : List ℕ → List Piece
 pieces_utf8 = pieces_by first_piece_utf8

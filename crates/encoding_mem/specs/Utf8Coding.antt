@@ -10,12 +10,13 @@ use Rattle.encoding_mem.specs.declared.form.Form.TheVariants.{Mapped}
 abbrev pub utf8_coding : Coding
 utf8_coding = stateless (λ c. Mapped (encode_utf8 c))
 
--- the next character, where there is one, has more bytes than are free
+-- the next character of a text, if there is one, has more bytes in UTF-8 than are free
 abbrev pub NextIsTooLong : List ℕ → ℕ → Type 0
 NextIsTooLong [] free = Unit {0}
 NextIsTooLong (c ∷ t) free = free < len_utf8 c
 
--- A call reads the longest prefix of a text whose bytes fit: the character behind it has more bytes than are free.
+-- what was written is a prefix of a text in UTF-8, and the next character, if there is one, has
+-- more bytes than are still free
 pub record ReadsLongest (text written rest : List ℕ) (free : ℕ) : Type 0 where
   pub prefix : List ℕ
   pub split : text ≡ prefix ++ rest

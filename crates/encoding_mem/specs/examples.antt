@@ -23,3 +23,4 @@ pub mod Iso2022JpAscii
 pub mod Surrogates
 pub mod TextDestination
 pub mod TextUnits
+pub mod UnitRun

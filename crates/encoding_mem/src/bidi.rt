@@ -5,7 +5,8 @@ ghost use Rattle.std.specs.Prelude.{◌≡◌, ◌↔◌, ◌<◌, IsTrue};
 ghost use Rattle.std.specs.List.{list_any};
 ghost use Rattle.std.specs.Str.{chars};
 ghost use Rattle.encoding_mem.specs.Latin1.{AllLatin1, IsLatin1Text};
-ghost use Rattle.encoding_mem.specs.Bidi.{is_bidi_bmp, is_bidi_char, is_bidi_unit, HasBidi, HasBidiUnit, IsBidiBytes};
+ghost use Rattle.encoding_mem.specs.Bidi.{is_bidi_bmp, is_bidi_char, is_bidi_unit, HasBidi};
+ghost use Rattle.encoding_mem.specs.Bidi.{HasBidiUnit, IsBidiBytes};
 
 use crate::ascii_text::is_ascii;
 use crate::bidi_bytes::any_char_bidi;

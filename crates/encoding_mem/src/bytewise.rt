@@ -1,8 +1,9 @@
 //! The decoder of a rule by which any bytes decide their first piece: nothing is ever pending.
 
 ghost use Rattle.std.specs.Prelude.{◌≡◌, ◌<◌, ℕ, List, [], length};
-ghost use Rattle.encoding_mem.specs.Decoding.{IsFreshDecoder, IsUndecided};
-ghost use Rattle.encoding_mem.specs.Driver.{buffered};
+ghost use Rattle.encoding_mem.specs.calls.Decoding.{IsFreshDecoder};
+ghost use Rattle.encoding_mem.specs.calls.Driver.{buffered};
+ghost use Rattle.encoding_mem.specs.Decided.{IsUndecided};
 
 use crate::decoder_result::DecoderResult;
 use crate::driver::decode_pieces;

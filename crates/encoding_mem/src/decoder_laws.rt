@@ -4,16 +4,17 @@ ghost use Rattle.std.specs.Prelude.{◌≡◌, ◌≤◌, ◌+◌, Bool, true, L
 ghost use Rattle.std.specs.Prelude.{drop, encode_utf8_all, length};
 ghost use Rattle.std.specs.List.{All};
 ghost use Rattle.std.specs.Str.{all_scalars};
-ghost use Rattle.encoding_mem.specs.Piece.{Piece, scalars_of};
-ghost use Rattle.encoding_mem.specs.Decoding.{DecoderState, EventLaw, StateLaw, IsUndecided, IsDecided};
-ghost use Rattle.encoding_mem.specs.Decoding.{EndsWith, TakesSoon};
+ghost use Rattle.encoding_mem.specs.Piece.{Piece, piece_scalars};
+ghost use Rattle.encoding_mem.specs.calls.Decoding.{DecoderState, EventLaw, StateLaw};
+ghost use Rattle.encoding_mem.specs.calls.Decoding.{EndsWith, TakesSoon};
 ghost use Rattle.encoding_mem.specs.declared.decoder_result.DecoderResult.TheVariants.{InputEmpty};
-ghost use Rattle.encoding_mem.specs.Writing.{Adds};
-ghost use Rattle.encoding_mem.specs.Text.{text_pieces};
+ghost use Rattle.encoding_mem.specs.calls.Writing.{Adds};
+ghost use Rattle.encoding_mem.specs.calls.TextRun.{text_pieces};
 ghost use Rattle.encoding_mem.specs.Utf8.{pieces_utf8};
 ghost use Rattle.encoding_mem.specs.MaximalSubparts.{Utf8PiecesAreMaximal};
 ghost use Rattle.encoding_mem.specs.declared.decoder_result.DecoderResult.{DecoderResult};
 ghost use Rattle.encoding_mem.specs.declared.decoder_result.DecoderResult.TheVariants.{Malformed};
+ghost use Rattle.encoding_mem.specs.Decided.{IsDecided, IsUndecided};
 
 /// The law over events, of every call that meets the state law and adds its text to a slice: in bytes or
 /// units, raw or with byte order marks.
@@ -55,7 +56,7 @@ pub fn pieces_are_taken_soon()
 /// whatever bytes come. Big5 has pieces that give two, as `88 62`.
 pub fn pieces_give_at_most_two()
     ensures { (state : DecoderState) (x : List ℕ)
-        → All (λ p. length (scalars_of p) ≤ 2) (state.pieces x) }
+        → All (λ p. length (piece_scalars p) ≤ 2) (state.pieces x) }
 {}
 
 /// Text that is written in UTF-8 is read back, each scalar as a piece.

@@ -3,8 +3,9 @@
 
 ghost use Rattle.std.specs.Prelude.{◌-◌, ◌≡◌, ◌<◌, [], None, Some, false, length};
 ghost use Rattle.encoding_mem.specs.Piece.{AreWellFormed};
-ghost use Rattle.encoding_mem.specs.Decoding.{Takes};
-ghost use Rattle.encoding_mem.specs.Driver.{DriverCall, IsNear, IsStep, IsRoomyStep, PartSuffices, Remains};
+ghost use Rattle.encoding_mem.specs.calls.Decoding.{Takes};
+ghost use Rattle.encoding_mem.specs.calls.Driver.{DriverCall, IsNear, IsStep, IsRoomyStep};
+ghost use Rattle.encoding_mem.specs.calls.Driver.{PartSuffices, Remains};
 
 use crate::decoder_result::DecoderResult;
 use crate::first_piece::{DecoderRule, FirstPiece, UNIT_RUN};

@@ -1,11 +1,14 @@
 //! What an encoder makes of each character, and one driver for all encoders.
 
-ghost use Rattle.std.specs.Prelude.{◌≡◌, ◌≢◌, true, ℕ, ◌+◌, ◌-◌, ◌<◌, ◌≤◌, List, [], ◌∷◌, ◌++◌, length, take, drop};
+ghost use Rattle.std.specs.Prelude.{◌≡◌, ◌≢◌, true, ℕ, ◌+◌, ◌-◌, ◌<◌, ◌≤◌, List, [], ◌∷◌, ◌++◌};
+ghost use Rattle.std.specs.Prelude.{length, take, drop};
 ghost use Rattle.encoding_mem.specs.Coding.{IsCoding};
-ghost use Rattle.encoding_mem.specs.DecodedLength.{bound_at};
-ghost use Rattle.encoding_mem.specs.EncodedLength.{IsRoomFor, bound_for};
+ghost use Rattle.encoding_mem.specs.calls.DecodedLength.{bound_at};
+ghost use Rattle.encoding_mem.specs.calls.EncodedLength.{IsRoomFor, bound_for};
 ghost use Rattle.encoding_mem.specs.declared.room.EncodedLength.{EncodedLength};
-ghost use Rattle.encoding_mem.specs.EncoderRule.{CopiesAscii, CopiesUtf8, EncoderCall, EncoderParts, IsRun, Moves, WritesBytes, left};
+ghost use Rattle.encoding_mem.specs.calls.EncoderRule.{CopiesAscii, CopiesUtf8, EncoderCall};
+ghost use Rattle.encoding_mem.specs.calls.EncoderRule.{EncoderParts, IsRun, Moves, WritesBytes};
+ghost use Rattle.encoding_mem.specs.calls.EncoderRule.{left};
 ghost use Rattle.encoding_mem.specs.Stateless.{stateless};
 ghost use Rattle.encoding_mem.specs.declared.form.Form.{Form};
 ghost use Rattle.encoding_mem.specs.declared.form.Form.TheVariants.{Mapped};

@@ -4,25 +4,26 @@ ghost use Rattle.std.specs.Prelude.{◌≡◌, ◌↔◌, ℕ, ◌++◌, Bool, t
 ghost use Rattle.std.specs.Str.{all_scalars, encode_utf8_all};
 ghost use Rattle.encoding_mem.specs.Coding.{Coding, IsCoding, lost_count, open_from, output};
 ghost use Rattle.encoding_mem.specs.Coding.{whole_from};
-ghost use Rattle.encoding_mem.specs.Items.{bytes_of, open_items, whole_items};
-ghost use Rattle.encoding_mem.specs.Decoding.{IsDecided};
-ghost use Rattle.encoding_mem.specs.Encoding.{Encodes, EncodesItems, Writes};
+ghost use Rattle.encoding_mem.specs.Items.{item_bytes, open_items, whole_items};
+ghost use Rattle.encoding_mem.specs.calls.EncoderCalls.{Encodes, EncodesItems, AccountsForText};
 ghost use Rattle.encoding_mem.specs.Agreement.{ReadsBackOrBreaks, ReadsByStep};
 ghost use Rattle.encoding_mem.specs.Piece.{Piece};
 ghost use Rattle.encoding_mem.specs.ReadBack.{ReadsAs, ReadsBackExactly};
-ghost use Rattle.encoding_mem.specs.ReadCalls.{AreRead, CallReads, CallVerdict, CallsAlong};
-ghost use Rattle.encoding_mem.specs.ReadCalls.{HasTaken, KeepsVerdict, NeverReadsWhole};
-ghost use Rattle.encoding_mem.specs.ReadCalls.{NothingIsLost, ReadsAlong, ReadsWhole, ReadsWholeAs};
+ghost use Rattle.encoding_mem.specs.calls.ReadCalls.{AreRead, CallIsRead, CallVerdict, CallsAlong};
+ghost use Rattle.encoding_mem.specs.calls.ReadCalls.{HasTaken, KeepsVerdict, NeverReadsWhole};
+ghost use Rattle.encoding_mem.specs.calls.ReadCalls.{IsNotUnmappable, ReadsAlong, ReadsWhole};
+ghost use Rattle.encoding_mem.specs.calls.ReadCalls.{ReadsWholeAs};
 ghost use Rattle.encoding_mem.specs.Stateless.{HasOneSet};
 ghost use Rattle.encoding_mem.specs.Steps.{IsBroken, StepLaw, in_any_set};
 ghost use Rattle.encoding_mem.specs.Utf8.{pieces_utf8};
-ghost use Rattle.encoding_mem.specs.EncoderRule.{Moves, Tight};
+ghost use Rattle.encoding_mem.specs.calls.EncoderRule.{Moves, Tight};
 ghost use Rattle.encoding_mem.specs.Utf8Coding.{utf8_coding, ReadsLongest};
 ghost use Rattle.encoding_mem.specs.declared.encoder_result.EncoderResult.{EncoderResult};
 ghost use Rattle.encoding_mem.specs.declared.encoder_result.EncoderResult.TheVariants.{Unmappable};
 ghost use Rattle.encoding_mem.specs.declared.reference.Reference.{Reference};
 ghost use Rattle.encoding_mem.specs.declared.form.EscapeState.{EscapeState};
 ghost use Rattle.encoding_mem.specs.declared.form.EscapeState.TheVariants.{Ascii};
+ghost use Rattle.encoding_mem.specs.Decided.{IsDecided};
 
 /// The law of a call in items: whatever index the text begins at, what was written, the note and
 /// the reference if a character is reported, and what the rest stands for are what the whole stands
@@ -43,7 +44,7 @@ pub fn encoded_bytes()
         → (ref : Reference) (last : Bool) (outcome : EncoderResult) (before : EscapeState)
         → (text written : List ℕ) (after : EscapeState) (rest : List ℕ)
         → Encodes e last outcome before text written after rest
-        → Writes ref e last outcome before text written after rest }
+        → AccountsForText ref e last outcome before text written after rest }
 {}
 
 /// The set that a call leaves is the one before it, one that some character has chosen, or ASCII.
@@ -65,9 +66,9 @@ pub fn utf8_calls_are_longest()
 /// The items of a text without their notes are its bytes.
 pub fn bytes_of_items()
     ensures text { (ref : Reference) (e : Coding) (s : EscapeState) (i : ℕ) (t : List ℕ)
-        → bytes_of (open_items ref e s i t) ≡ open_from ref e s t }
+        → item_bytes (open_items ref e s i t) ≡ open_from ref e s t }
     ensures whole { (ref : Reference) (e : Coding) (s : EscapeState) (i : ℕ) (t : List ℕ)
-        → bytes_of (whole_items ref e true s i t) ≡ whole_from ref e s t }
+        → item_bytes (whole_items ref e true s i t) ≡ whole_from ref e s t }
 {}
 
 /// The output in UTF-8 is the UTF-8 of each character, no character is lost, and it reads back.
@@ -107,7 +108,7 @@ pub fn calls_read_back()
         → (pieces : List ℕ → List Piece) (last : Bool) (outcome : EncoderResult)
         → (before : EscapeState) (text written : List ℕ) (after : EscapeState) (rest : List ℕ)
         → CallsAlong e pieces_from pieces last outcome before text written after rest
-        → CallReads e pieces_from pieces last outcome text written after rest }
+        → CallIsRead e pieces_from pieces last outcome text written after rest }
 {}
 
 /// A decoder reads along from the start, and wherever all is decided; where a text was read, it
@@ -133,7 +134,7 @@ pub fn calls_have_verdicts()
         → (pieces : List ℕ → List Piece) (last : Bool) (outcome : EncoderResult)
         → (before : EscapeState) (t written : List ℕ) (after : EscapeState) (rest : List ℕ)
         → CallsAlong e pieces_from pieces last outcome before t written after rest
-        → NothingIsLost outcome → (prefix : List ℕ) → t ≡ prefix ++ rest
+        → IsNotUnmappable outcome → (prefix : List ℕ) → t ≡ prefix ++ rest
         → (now : List ℕ → List Piece) (taken : List Piece) → HasTaken pieces now written taken
         → CallVerdict e pieces_from pieces now last outcome before t prefix taken after rest }
 {}
@@ -146,7 +147,7 @@ pub fn losses_are_final()
         → (pieces : List ℕ → List Piece) (last : Bool) (outcome : EncoderResult)
         → (before : EscapeState) (t written : List ℕ) (after : EscapeState) (rest : List ℕ)
         → CallsAlong e pieces_from pieces last outcome before t written after rest
-        → NothingIsLost outcome → (prefix : List ℕ) → t ≡ prefix ++ rest
+        → IsNotUnmappable outcome → (prefix : List ℕ) → t ≡ prefix ++ rest
         → (part : List Piece) → IsDecided pieces written part → ¬ (AreRead part prefix)
         → NeverReadsWhole e last pieces before t }
     ensures lost { (e : Coding) (pieces_from : EscapeState → List ℕ → List Piece)
@@ -183,6 +184,6 @@ pub fn exact_targets_keep_verdicts()
         → HasOneSet e → ReadsBackExactly pieces e → StepLaw e (in_any_set pieces)
         → (last : Bool) (outcome : EncoderResult) (before : EscapeState)
         → (t written : List ℕ) (after : EscapeState) (rest : List ℕ) → all_scalars t ≡ true
-        → Encodes e last outcome before t written after rest → NothingIsLost outcome
+        → Encodes e last outcome before t written after rest → IsNotUnmappable outcome
         → KeepsVerdict e last true pieces before t true pieces after rest }
 {}

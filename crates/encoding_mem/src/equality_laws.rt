@@ -7,7 +7,7 @@ ghost use Rattle.encoding_mem.specs.declared.encoder_result.EncoderResult.{Encod
 ghost use Rattle.encoding_mem.specs.declared.form.EscapeState.{EscapeState};
 ghost use Rattle.encoding_mem.specs.declared.latin1_texts.Latin1Bytes.{Latin1Bytes};
 ghost use Rattle.encoding_mem.specs.declared.reference.Reference.{Reference};
-ghost use Rattle.encoding_mem.specs.Latin1Texts.{latin1_bytes, AreBorrowed};
+ghost use Rattle.encoding_mem.specs.calls.Latin1Texts.{latin1_bytes, AreBorrowed};
 
 use crate::bidi::Latin1Bidi;
 use crate::decoder_result::DecoderResult;

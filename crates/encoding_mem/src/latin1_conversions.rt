@@ -4,7 +4,7 @@ ghost use Rattle.std.specs.Prelude.{◌≡◌, ◌*◌, ◌≤◌, [], ◌∷◌
 ghost use Rattle.std.specs.Str.{chars};
 ghost use Rattle.encoding_mem.specs.Conversions.{IsLongest, low_bytes};
 ghost use Rattle.encoding_mem.specs.Latin1.{AllLatin1, IsLatin1Text};
-ghost use Rattle.encoding_mem.specs.Writing.{Adds};
+ghost use Rattle.encoding_mem.specs.calls.Writing.{Adds};
 
 use crate::ascii_copies::copy_ascii_run;
 use crate::source::{Source, Utf8Source};

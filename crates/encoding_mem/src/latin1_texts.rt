@@ -5,7 +5,7 @@ ghost use Rattle.std.specs.Prelude.{IfOk, IsOk, encode_utf8_all, length, take};
 ghost use Rattle.std.specs.Cow.{cow_str_bytes, IsBorrowedStr};
 ghost use Rattle.std.specs.Str.{chars, IsAscii};
 ghost use Rattle.encoding_mem.specs.Latin1.{AllLatin1};
-ghost use Rattle.encoding_mem.specs.Latin1Texts.{latin1_bytes, AreBorrowed};
+ghost use Rattle.encoding_mem.specs.calls.Latin1Texts.{latin1_bytes, AreBorrowed};
 
 use crate::ascii::ascii_prefix;
 use crate::latin1_conversions::{convert_latin1_to_utf8, narrow_text};

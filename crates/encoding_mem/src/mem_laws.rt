@@ -1,11 +1,12 @@
 //! Laws of the checks of texts. The functions do nothing: each contract is a law.
 
-ghost use Rattle.std.specs.Prelude.{◌≡◌, ◌<◌, ◌^◌, ◌↔◌, ℕ, true, List, slice_index, encode_utf8_all};
+ghost use Rattle.std.specs.Prelude.{◌≡◌, ◌<◌, ◌^◌, ◌↔◌, ℕ, true, List, slice_index};
+ghost use Rattle.std.specs.Prelude.{encode_utf8_all};
 ghost use Rattle.std.specs.Char.Utf16.{utf16_lossy_chars};
 ghost use Rattle.std.specs.Str.{all_scalars, chars};
 ghost use Rattle.encoding_mem.specs.Bidi.{HasBidi, HasBidiUnit, IsBidiBytes};
 ghost use Rattle.encoding_mem.specs.Surrogates.{IsMended, IsUtf16};
-ghost use Rattle.encoding_mem.specs.Writing.{encode_utf16_all};
+ghost use Rattle.encoding_mem.specs.calls.Writing.{encode_utf16_all};
 
 /// `ensure_utf16_validity` twice is as once.
 pub fn mended_units_stay()

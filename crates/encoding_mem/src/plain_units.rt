@@ -6,7 +6,7 @@ ghost use Rattle.std.proofs.Common.{arith};
 ghost use Rattle.std.specs.Char.{len_utf8};
 ghost use Rattle.std.specs.Str.{encode_utf8_all};
 ghost use Rattle.encoding_mem.specs.Conversions.{IsUnitBoundary, units_in_utf8};
-ghost use Rattle.encoding_mem.specs.Writing.{Adds};
+ghost use Rattle.encoding_mem.specs.calls.Writing.{Adds};
 
 use crate::ascii_copies::{narrow_block, narrow_lanes};
 use crate::first::{UNIT_BLOCK, UNIT_LANES, all_units_below};

@@ -1,9 +1,10 @@
 //! The decoder that callers use: its calls into bytes and units, and its queries.
 
-ghost use Rattle.std.specs.Prelude.{◌≢◌, ◌≡◌, ◌+◌, ◌-◌, ◌≤◌, true, false, length, drop, encode_utf8_all};
-ghost use Rattle.encoding_mem.specs.Writing.{Adds, encode_utf16_all};
-ghost use Rattle.encoding_mem.specs.Decoding.{DecoderState, StateCall};
-ghost use Rattle.encoding_mem.specs.DecodedLength.{decoded_length, queried};
+ghost use Rattle.std.specs.Prelude.{◌≢◌, ◌≡◌, ◌+◌, ◌-◌, ◌≤◌, true, false, length, drop};
+ghost use Rattle.std.specs.Prelude.{encode_utf8_all};
+ghost use Rattle.encoding_mem.specs.calls.Writing.{Adds, encode_utf16_all};
+ghost use Rattle.encoding_mem.specs.calls.Decoding.{DecoderState, StateCall};
+ghost use Rattle.encoding_mem.specs.calls.DecodedLength.{decoded_length, queried};
 ghost use Rattle.encoding_mem.specs.declared.room.OutputUnit.TheVariants.{Units, Bytes, Replaced};
 
 use crate::decoder_result::DecoderResult;

@@ -5,8 +5,8 @@ ghost use Rattle.std.specs.Str.{chars, IsCharBoundary};
 ghost use Rattle.std.specs.Char.Utf16.{utf16_lossy_chars};
 ghost use Rattle.encoding_mem.specs.Coding.{IsCoding};
 ghost use Rattle.encoding_mem.specs.Conversions.{IsUnitBoundary};
-ghost use Rattle.encoding_mem.specs.DecodedLength.{checked, bound_at};
-ghost use Rattle.encoding_mem.specs.EncoderRule.{EncoderCall, EncoderParts, WritesBytes};
+ghost use Rattle.encoding_mem.specs.calls.DecodedLength.{checked, bound_at};
+ghost use Rattle.encoding_mem.specs.calls.EncoderRule.{EncoderCall, EncoderParts, WritesBytes};
 ghost use Rattle.encoding_mem.specs.declared.form.EscapeState.TheVariants.{Ascii};
 
 use crate::encoder_result::EncoderResult;

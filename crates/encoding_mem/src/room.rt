@@ -1,8 +1,17 @@
 //! Room that is enough, as numbers: what is returned to those who ask for it.
 
 ghost use Rattle.std.specs.Prelude.{◌≡◌, ◌+◌, false};
-ghost use Rattle.encoding_mem.specs.DecodedLength.{checked, bound_at, bound_of, queried, decoded_length_utf8, decoded_length_single_byte, decoded_length_multibyte, decoded_length_utf16, decoded_length_replacement};
-ghost use Rattle.encoding_mem.specs.EncodedLength.{encoded_length_utf8, encoded_length_single_byte, encoded_length_two_byte, encoded_length_gb18030, encoded_length_iso_2022_jp};
+ghost use Rattle.encoding_mem.specs.calls.DecodedLength.{checked, bound_at, bound_of, of_bytes};
+ghost use Rattle.encoding_mem.specs.calls.DecodedLength.{queried, decoded_length_utf8};
+ghost use Rattle.encoding_mem.specs.calls.DecodedLength.{decoded_length_single_byte};
+ghost use Rattle.encoding_mem.specs.calls.DecodedLength.{decoded_length_multibyte};
+ghost use Rattle.encoding_mem.specs.calls.DecodedLength.{decoded_length_utf16};
+ghost use Rattle.encoding_mem.specs.calls.DecodedLength.{decoded_length_replacement};
+ghost use Rattle.encoding_mem.specs.calls.EncodedLength.{encoded_length_utf8};
+ghost use Rattle.encoding_mem.specs.calls.EncodedLength.{encoded_length_single_byte};
+ghost use Rattle.encoding_mem.specs.calls.EncodedLength.{encoded_length_two_byte};
+ghost use Rattle.encoding_mem.specs.calls.EncodedLength.{encoded_length_gb18030};
+ghost use Rattle.encoding_mem.specs.calls.EncodedLength.{encoded_length_iso_2022_jp};
 
 /// What the room for decoded text is counted in.
 #[derive(Clone, Copy)]
@@ -147,7 +156,7 @@ impl DecodedLength {
 
     // Where each byte counts.
     fn of_bytes(units: Bound, bytes: Bound, replaced: Bound) -> DecodedLength
-        ensures { result ≡ record { in_pairs = false; units = units; bytes = bytes; replaced = replaced } }
+        ensures { result ≡ of_bytes units bytes replaced }
     {
         DecodedLength {
             in_pairs: false,

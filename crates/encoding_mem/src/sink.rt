@@ -1,10 +1,11 @@
 //! A destination of decoded text.
 
-ghost use Rattle.std.specs.Prelude.{Bool, if◌then◌else◌, ◌≡◌, ℕ, ◌+◌, ◌<◌, ◌≤◌, ◌↔◌, IsTrue, List, [], ◌∷◌, ◌++◌, length, slice_index};
+ghost use Rattle.std.specs.Prelude.{Bool, if◌then◌else◌, ◌≡◌, ℕ, ◌+◌, ◌<◌, ◌≤◌, ◌↔◌, IsTrue, List};
+ghost use Rattle.std.specs.Prelude.{[], ◌∷◌, ◌++◌, length, slice_index};
 ghost use Rattle.std.specs.Char.{len_utf8};
 ghost use Rattle.std.specs.Str.{chars, encode_utf8_all};
-ghost use Rattle.encoding_mem.specs.Writing.{len_utf16};
-ghost use Rattle.encoding_mem.specs.Text.{text_len};
+ghost use Rattle.encoding_mem.specs.calls.Writing.{len_utf16};
+ghost use Rattle.encoding_mem.specs.calls.TextRun.{text_len};
 
 /// A destination of text, filled from its start, whose units are bytes of UTF-8 or units of UTF-16.
 /// Decoders write into any.

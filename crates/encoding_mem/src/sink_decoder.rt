@@ -1,10 +1,10 @@
 //! A decoder into any destination, and how a rule becomes one.
 
 ghost use Rattle.std.specs.Prelude.{◌≡◌, ◌<◌, ◌+◌, ◌-◌, length};
-ghost use Rattle.encoding_mem.specs.Decoding.{DecoderState, StateCall};
-ghost use Rattle.encoding_mem.specs.Decoding.{IsFreshDecoder, ReadsByRule};
-ghost use Rattle.encoding_mem.specs.Driver.{IsNear, buffered};
-ghost use Rattle.encoding_mem.specs.DecodedLength.{queried};
+ghost use Rattle.encoding_mem.specs.calls.Decoding.{DecoderState, StateCall};
+ghost use Rattle.encoding_mem.specs.calls.Decoding.{IsFreshDecoder, ReadsByRule};
+ghost use Rattle.encoding_mem.specs.calls.Driver.{IsNear, buffered};
+ghost use Rattle.encoding_mem.specs.calls.DecodedLength.{queried};
 
 use crate::decoder_result::DecoderResult;
 use crate::driver::{decode_pieces, finish_pending};

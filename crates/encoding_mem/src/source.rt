@@ -1,15 +1,17 @@
 //! A text that is read from its start.
 
-ghost use Rattle.std.specs.Prelude.{◌≡◌, ◌↔◌, IsTrue, ℕ, ◌+◌, ◌-◌, ◌*◌, ◌<◌, ◌≤◌, Bool, true, false, List, [], ◌∷◌, ◌++◌, length, take, drop, slice_index, MatchOption, IfSome};
+ghost use Rattle.std.specs.Prelude.{◌≡◌, ◌↔◌, IsTrue, ℕ, ◌+◌, ◌-◌, ◌*◌, ◌<◌, ◌≤◌, Bool, true};
+ghost use Rattle.std.specs.Prelude.{false, List, [], ◌∷◌, ◌++◌, length, take, drop, slice_index};
+ghost use Rattle.std.specs.Prelude.{MatchOption, IfSome};
 ghost use Rattle.std.specs.Str.{chars, IsAscii, IsCharBoundary};
 ghost use Rattle.std.specs.Char.{len_utf8, encode_utf8};
 ghost use Rattle.std.specs.Char.Utf16.{utf16_lossy_chars};
 ghost use Rattle.encoding_mem.specs.Conversions.{IsUnitBoundary};
-ghost use Rattle.encoding_mem.specs.DecodedLength.{cost_in};
-ghost use Rattle.encoding_mem.specs.EncodedLength.{bound_for, encoded_length_utf8};
-ghost use Rattle.encoding_mem.specs.EncoderRule.{IsCopied};
-ghost use Rattle.encoding_mem.specs.Text.{IsSecondAscii};
-ghost use Rattle.encoding_mem.specs.Writing.{len_utf16};
+ghost use Rattle.encoding_mem.specs.calls.DecodedLength.{cost_in};
+ghost use Rattle.encoding_mem.specs.calls.EncodedLength.{bound_for, encoded_length_utf8};
+ghost use Rattle.encoding_mem.specs.calls.EncoderRule.{IsCopied};
+ghost use Rattle.encoding_mem.specs.calls.TextRun.{IsSecondAscii};
+ghost use Rattle.encoding_mem.specs.calls.Writing.{len_utf16};
 ghost use Rattle.encoding_mem.specs.laws.EncodedLength.{sum_within};
 
 use crate::ascii::ascii_prefix;

@@ -2,9 +2,10 @@
 
 ghost use Rattle.std.specs.Prelude.{◌≡◌, ◌≢◌, ◌↔◌, ◌-◌, ◌≤◌, IsTrue, length, take};
 ghost use Rattle.encoding_mem.specs.Coding.{IsCoding};
-ghost use Rattle.encoding_mem.specs.DecodedLength.{bound_at};
-ghost use Rattle.encoding_mem.specs.EncodedLength.{bound_for};
-ghost use Rattle.encoding_mem.specs.EncoderRule.{EncoderCall, EncoderParts, WritesBytes, left};
+ghost use Rattle.encoding_mem.specs.calls.DecodedLength.{bound_at};
+ghost use Rattle.encoding_mem.specs.calls.EncodedLength.{bound_for};
+ghost use Rattle.encoding_mem.specs.calls.EncoderRule.{EncoderCall, EncoderParts, WritesBytes};
+ghost use Rattle.encoding_mem.specs.calls.EncoderRule.{left};
 ghost use Rattle.encoding_mem.specs.declared.form.EscapeState.TheVariants.{Ascii};
 
 use crate::encode::{EncoderRule, encode};

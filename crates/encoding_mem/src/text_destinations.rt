@@ -1,9 +1,10 @@
 //! Conversions to UTF-8 in a destination that is text before the call and after it.
 
-ghost use Rattle.std.specs.Prelude.{◌≡◌, ℕ, ◌*◌, ◌≤◌, true, List, length, take, drop, encode_utf8_all};
+ghost use Rattle.std.specs.Prelude.{◌≡◌, ℕ, ◌*◌, ◌≤◌, true, List, length, take, drop};
+ghost use Rattle.std.specs.Prelude.{encode_utf8_all};
 ghost use Rattle.std.specs.Str.{IsUtf8, all_scalars};
 ghost use Rattle.encoding_mem.specs.Conversions.{IsLongest, IsUnitBoundary, units_in_utf8};
-ghost use Rattle.encoding_mem.specs.TextDestination.{cleared};
+ghost use Rattle.encoding_mem.specs.calls.TextDestination.{cleared};
 
 use crate::latin1_conversions::convert_latin1_to_utf8_partial;
 use crate::utf16_conversions::convert_utf16_to_utf8_partial;

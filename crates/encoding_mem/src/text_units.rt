@@ -5,8 +5,8 @@ ghost use Rattle.std.specs.Prelude.{length, drop, slice_index, take};
 ghost use Rattle.std.specs.Char.Escape.{encode_utf16};
 ghost use Rattle.std.specs.Char.{encode_utf8};
 ghost use Rattle.std.specs.Str.{IsCharBoundary};
-ghost use Rattle.encoding_mem.specs.TextUnits.{IsInUnits, size_from_lead};
-ghost use Rattle.encoding_mem.specs.Writing.{len_utf16};
+ghost use Rattle.encoding_mem.specs.calls.TextUnits.{IsInUnits, size_from_lead};
+ghost use Rattle.encoding_mem.specs.calls.Writing.{len_utf16};
 
 use crate::first::{BYTE_LANES, first_byte_from, lanes_below};
 use crate::latin1_conversions::convert_latin1_to_utf16;

@@ -2,8 +2,9 @@
 
 ghost use Rattle.std.specs.Prelude.{true, ◌≡◌, ◌-◌, ◌<◌, ◌≤◌, ◌∷◌, [], length, refl};
 ghost use Rattle.std.proofs.Common.{◌∙◌};
-ghost use Rattle.encoding_mem.specs.Writing.{Adds, len_utf16, encode_utf16_all};
-ghost use Rattle.encoding_mem.specs.laws.Writing.{adds_none, adds_encoded16, cost_fits16, cost_two16};
+ghost use Rattle.encoding_mem.specs.calls.Writing.{Adds, len_utf16, encode_utf16_all};
+ghost use Rattle.encoding_mem.specs.laws.Writing.{adds_none, adds_encoded16, cost_fits16};
+ghost use Rattle.encoding_mem.specs.laws.Writing.{cost_two16};
 
 use crate::sink::Sink;
 use crate::utf8_conversions::convert_str_to_utf16;

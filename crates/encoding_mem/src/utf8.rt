@@ -1,15 +1,18 @@
 //! The decoder of UTF-8 (RFC 3629, section 4).
 
 ghost use Rattle.std.proofs.Common.{refl, arith};
-ghost use Rattle.std.specs.Prelude.{◌+◌, ◌*◌, ◌≡◌, ◌<◌, ◌≤◌, ◌==◌, ◌↔◌, IsTrue, [], length, take, min};
+ghost use Rattle.std.specs.Prelude.{◌+◌, ◌*◌, ◌≡◌, ◌<◌, ◌≤◌, ◌==◌, ◌↔◌, IsTrue, [], length, take};
+ghost use Rattle.std.specs.Prelude.{min};
 ghost use Rattle.std.specs.Int.{IsInRange, is_in_range};
 ghost use Rattle.std.specs.Str.Lossy.{utf8_valid_len};
-ghost use Rattle.encoding_mem.specs.DecoderRule.{IsNotLonger};
-ghost use Rattle.encoding_mem.specs.Decoding.{IsFreshDecoder};
-ghost use Rattle.encoding_mem.specs.DecodedLength.{decoded_length, decoded_length_utf8};
-ghost use Rattle.encoding_mem.specs.laws.Pieces.{pieces_by-nil, pieces_by-whole, pieces_by-are_pieces};
+ghost use Rattle.encoding_mem.specs.calls.DecoderRule.{IsNotLonger};
+ghost use Rattle.encoding_mem.specs.calls.Decoding.{IsFreshDecoder};
+ghost use Rattle.encoding_mem.specs.calls.DecodedLength.{decoded_length, decoded_length_utf8};
+ghost use Rattle.encoding_mem.specs.laws.Pieces.{pieces_by-nil, pieces_by-whole};
+ghost use Rattle.encoding_mem.specs.laws.Pieces.{pieces_by-are_pieces};
 ghost use Rattle.encoding_mem.specs.Utf8.{first_piece_utf8, pieces_utf8, second_min, second_max};
-ghost use Rattle.encoding_mem.specs.laws.Utf8Decide.{decide_utf8, utf8_decide_lead, utf8_decide_two, utf8_decide_three};
+ghost use Rattle.encoding_mem.specs.laws.Utf8Decide.{decide_utf8, utf8_decide_lead};
+ghost use Rattle.encoding_mem.specs.laws.Utf8Decide.{utf8_decide_two, utf8_decide_three};
 ghost use Rattle.encoding_mem.specs.laws.Utf8.{cuts_utf8};
 
 use crate::decoder_result::DecoderResult;
@@ -52,7 +55,7 @@ impl DecoderRule for Utf8Rule {
     }
 
     fn text_at<'b>(&self, bytes: &'b [u8], most: usize) -> &'b str {
-        text_prefix(&bytes[..bytes.len().min(most)])
+        text_at_start(&bytes[..bytes.len().min(most)])
     }
 
     fn room(&self) -> DecodedLength {
@@ -67,7 +70,7 @@ const FEW: usize = 32;
 const MANY: usize = 4096;
 
 // A text at the start, the longest there is in so many bytes.
-fn text_prefix(bytes: &[u8]) -> &str
+fn text_at_start(bytes: &[u8]) -> &str
     ensures { result.now ≡ take (length result.now) bytes.now }
 {
     let few = text_window(bytes, FEW);

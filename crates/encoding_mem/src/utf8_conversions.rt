@@ -7,7 +7,7 @@ ghost use Rattle.std.specs.Str.Lossy.{utf8_valid_len};
 ghost use Rattle.encoding_mem.specs.Conversions.{IsLongest, text_in_utf16, text_prefix};
 ghost use Rattle.encoding_mem.specs.Piece.{text};
 ghost use Rattle.encoding_mem.specs.Utf8.{pieces_utf8};
-ghost use Rattle.encoding_mem.specs.Writing.{len_utf16, encode_utf16_all};
+ghost use Rattle.encoding_mem.specs.calls.Writing.{len_utf16, encode_utf16_all};
 
 use crate::decoder_result::DecoderResult;
 use crate::latin1_bytes::is_latin1_text;
@@ -54,7 +54,7 @@ pub fn convert_utf8_to_utf16_without_replacement(src: &[u8], dst: &mut [u16]) ->
     ensures units { let units = text_in_utf16 (text_prefix src.now) in take (length units) dst.new ≡ units }
     ensures behind { let count = length (text_in_utf16 (text_prefix src.now)) in drop count dst.new ≡ drop count dst.old }
 {
-    let text = prefix_text(src);
+    let text = text_prefix(src);
     let written = convert_str_to_utf16(text, dst);
     if text.len() < src.len() {
         None
@@ -74,7 +74,7 @@ pub fn convert_utf8_to_utf16_up_to_invalid(src: &[u8], dst: &mut [u16]) -> (usiz
     ensures behind { drop result.1 dst.new ≡ drop result.1 dst.old }
 {
     let mut sink = Utf16Sink::new(dst);
-    let read = put_prefix(prefix_text(src), &mut sink);
+    let read = put_prefix(text_prefix(src), &mut sink);
     (read, sink.written())
 }
 
@@ -100,7 +100,7 @@ pub fn convert_utf8_to_utf16(src: &[u8], dst: &mut [u16]) -> usize
 }
 
 // The longest text at the start.
-fn prefix_text(bytes: &[u8]) -> &str
+fn text_prefix(bytes: &[u8]) -> &str
     ensures prefix { result.now ≡ text_prefix bytes.now }
     ensures within { length result.now ≤ length bytes.now }
     ensures longest { (i : ℕ) → utf8_valid_len bytes.now < i → i ≤ length bytes.now → ¬ (IsUtf8 (take i bytes.now)) }

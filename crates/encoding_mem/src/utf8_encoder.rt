@@ -1,7 +1,7 @@
 //! The encoder of UTF-8.
 
-ghost use Rattle.encoding_mem.specs.EncoderRule.{IsFreshEncoder};
-ghost use Rattle.encoding_mem.specs.EncodedLength.{encoded_length_utf8};
+ghost use Rattle.encoding_mem.specs.calls.EncoderRule.{IsFreshEncoder};
+ghost use Rattle.encoding_mem.specs.calls.EncodedLength.{encoded_length_utf8};
 ghost use Rattle.encoding_mem.specs.laws.EncodedLength.{utf8_room};
 ghost use Rattle.encoding_mem.specs.Utf8Coding.{utf8_coding};
 ghost use Rattle.encoding_mem.specs.laws.Utf8Coding.{utf8_coding_laws};

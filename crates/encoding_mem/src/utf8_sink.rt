@@ -1,9 +1,10 @@
 //! The destination of text in UTF-8.
 
-ghost use Rattle.std.specs.Prelude.{false, ◌≡◌, ◌-◌, ◌<◌, ◌≤◌, ◌∷◌, [], length, refl, encode_utf8_all};
+ghost use Rattle.std.specs.Prelude.{false, ◌≡◌, ◌-◌, ◌<◌, ◌≤◌, ◌∷◌, [], length, refl};
+ghost use Rattle.std.specs.Prelude.{encode_utf8_all};
 ghost use Rattle.std.specs.Char.{len_utf8};
 ghost use Rattle.std.proofs.Common.{◌∙◌};
-ghost use Rattle.encoding_mem.specs.Writing.{Adds};
+ghost use Rattle.encoding_mem.specs.calls.Writing.{Adds};
 ghost use Rattle.encoding_mem.specs.laws.Writing.{adds_none, adds_encoded, cost_fits, cost_two};
 
 use crate::plain_units::put_plain_units;

@@ -3,7 +3,8 @@
 ghost use Rattle.std.specs.Prelude.{◌↔◌, ◌<◌, IsTrue, length};
 ghost use Rattle.std.specs.Str.{IsUtf8};
 ghost use Rattle.encoding_mem.specs.LongestPrefix.{IsLongestPrefix};
-ghost use Rattle.encoding_mem.specs.Surrogates.{IsHighSurrogate, IsLowSurrogate, IsLoneSurrogate, IsUtf16, IsMended};
+ghost use Rattle.encoding_mem.specs.Surrogates.{IsHighSurrogate, IsLowSurrogate, IsLoneSurrogate};
+ghost use Rattle.encoding_mem.specs.Surrogates.{IsUtf16, IsMended};
 
 use crate::ascii_text::is_ascii;
 use crate::first::first_unit_from;

@@ -12,11 +12,11 @@ use Rattle.std.proofs.lemmas.List.Kept.{AllPairs-filter}
 use Rattle.std.proofs.lemmas.List.{drop_more, ext_get_or, get_or-append_right, get_or-set_other, get_or_append_left, get_or_default, length-map, length-set, map-append, take_more, take-append-drop}
 use Rattle.std.proofs.Math.Seq.{take-length}
 use Rattle.encoding_tables.specs.PackedRows.{PointersRise, swapped}
-use Rattle.encoding_tables.specs.PackedLists.{IsReversed}
-use Rattle.encoding_tables.specs.SortedRows.{IsBelow, IsDirectory, IsRank, row_at}
-use Rattle.encoding_tables.specs.EntryCounts.{HaveEntriesBelow, HaveNumbers, pairs_below, rows_of_entry}
+use Rattle.encoding_tables.specs.calls.PackedLists.{IsReversed}
+use Rattle.encoding_tables.specs.calls.SortedRows.{IsBelow, IsDirectory, IsRank, row_at}
+use Rattle.encoding_tables.specs.calls.EntryCounts.{HaveEntriesBelow, HaveNumbers, pairs_below, rows_of_entry}
 use Rattle.encoding_tables.proofs.RowLemmas.{pointers_far, row_of_map, sorted_is_reversed}
-use Rattle.encoding_tables.specs.EntryCounts.{AreEnds}
+use Rattle.encoding_tables.specs.calls.EntryCounts.{AreEnds}
 use Rattle.std.proofs.lemmas.List.{length-take}
 
 -- All rows the other way round, entry by entry, are all of them, in order.

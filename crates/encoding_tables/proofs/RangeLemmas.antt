@@ -7,7 +7,7 @@ use Rattle.encoding_tables.specs.RangeFaults.{first_out_of_order, first_bad_valu
 use Rattle.encoding_tables.specs.laws.Ranges.{taken, IsTaken, row_in_prefix, before_rows, values_more, values_between, row_between, valid_cases, pointers_are_exact}
 use Rattle.encoding_tables.specs.laws.RangeRuns.{with_low, with_high, runs_of, ArePacked}
 use Rattle.encoding_tables.specs.Ranges.{is_valid_pointer, last_row, value_in, range_value, HasRowValue, end_by, range_pointer}
-use Rattle.encoding_tables.specs.SortedRows.{row_at, AreRising}
+use Rattle.encoding_tables.specs.calls.SortedRows.{row_at, AreRising}
 use Rattle.encoding_tables.proofs.SearchLemmas.{AreFrom, from_less, rising, none_from}
 
 -- ---- the rows and the runs rise

@@ -3,8 +3,8 @@ use Rattle.std.proofs.Common.{◌≡◌, ℕ, ◌+◌, ◌≤◌, Bool, true, fa
 use Rattle.std.specs.Str.{chars}
 use Rattle.std.proofs.lemmas.Str.{chars-nil}
 use Rattle.encoding_mem.specs.Piece.{Piece, well_formed, malformed, malformed_count, text}
-use Rattle.encoding_mem.specs.Text.{text_len, text_pieces}
-use Rattle.encoding_mem.specs.Writing.{encode_utf16_all}
+use Rattle.encoding_mem.specs.calls.TextRun.{text_len, text_pieces}
+use Rattle.encoding_mem.specs.calls.Writing.{encode_utf16_all}
 use Rattle.encoding_mem.specs.laws.Pieces.{pieces_in-nil, pieces_in-cons}
 use Rattle.encoding_tables.specs.Replacement.{first_piece_replacement, after_replacement, pieces_replacement, IsOneError}
 use Rattle.encoding_tables.specs.laws.Replacement.{cuts_replacement}

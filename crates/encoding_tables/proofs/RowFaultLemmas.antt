@@ -6,8 +6,8 @@ use Rattle.std.specs.Option.{option_map}
 use Rattle.std.proofs.lemmas.Bool.{cases_lt, cases_eq, lt-ltb, le-ltb, eq-eqb, ne_eqb}
 use Rattle.std.proofs.lemmas.List.Edits.{get_or-between}
 use Rattle.std.proofs.lemmas.List.Sums.{position_or_len_is}
-use Rattle.encoding_tables.specs.SortedRows.{row_at}
-use Rattle.encoding_tables.specs.PackedRows.{flat_list, entry_at, PointersRise, PointersAreBelow}
+use Rattle.encoding_tables.specs.calls.SortedRows.{row_at}
+use Rattle.encoding_tables.specs.PackedRows.{flat_list, packed_entry, PointersRise, PointersAreBelow}
 use Rattle.encoding_tables.specs.Kinds.{index_size}
 use Rattle.encoding_tables.specs.TableFaults.{first_reserved, flat_fault, entry_fault}
 use Rattle.encoding_tables.specs.declared.index_kind.IndexKind.{IndexKind}
@@ -34,11 +34,11 @@ fails_before : (test : ℕ → Bool) (size : ℕ) (rows : List (ℕ × ℕ)) (q 
     → test (get_or (flat_list size rows) q 0) ≡ false
 fails_before test size rows q zero fails = elim (cases_lt q size) [
   | inr past ↦ rw (entry_past size rows q past) zero
-  | inl within ↦ elim (cases_eq (entry_at rows q) 0) [
+  | inl within ↦ elim (cases_eq (packed_entry rows q) 0) [
     | inl none ↦ rw (entry_within size rows q within, none) zero
     | inr some ↦
         let row = row_of_entry q rows some in
-        let same : (row_at rows row.0).1 ≡ entry_at rows q = ap (λ r. r.1) row.2 in
+        let same : (row_at rows row.0).1 ≡ packed_entry rows q = ap (λ r. r.1) row.2 in
         rw (entry_within size rows q within, ← same) (fails row.0 row.1 (ap (λ r. r.0) row.2))
   ]
 ]

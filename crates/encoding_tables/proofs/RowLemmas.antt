@@ -9,23 +9,23 @@ use Rattle.std.proofs.lemmas.Bool.{and_parts, cases_lt, cases_eq, eq-eqb, ne_eqb
 use Rattle.std.proofs.lemmas.List.{get_or_default, get_or-map, length-map}
 use Rattle.std.proofs.lemmas.List.FromFn.{get_or-map-range_with_len, length-map-range_with_len, fill_by_all}
 use Rattle.encoding_tables.specs.Lookups.{value_of, first_pointer, last_pointer}
-use Rattle.encoding_tables.specs.SortedRows.{row_at, AreRising, IsRank, IsBelow, AreSorted}
-use Rattle.encoding_tables.specs.PackedRows.{entry_at, flat_list, PointersRise, listed_rows, mapped_rows, PointersAreBelow, swapped}
-use Rattle.encoding_tables.specs.PackedLists.{HasRow, IsSecond, AreIndexRows, IsReversed, IsPacked}
+use Rattle.encoding_tables.specs.calls.SortedRows.{row_at, AreRising, IsRank, IsBelow, AreSorted}
+use Rattle.encoding_tables.specs.PackedRows.{packed_entry, flat_list, PointersRise, listed_rows, mapped_rows, PointersAreBelow, swapped}
+use Rattle.encoding_tables.specs.calls.PackedLists.{HasRow, IsSecond, AreIndexRows, IsReversed, IsPacked}
 use Rattle.encoding_tables.proofs.SearchLemmas.{below_cases, below_first, below_second, below_at_most, rises}
 use Rattle.std.specs.List as holes
 use Rattle.std.specs.List.{Contains}
 use Rattle.std.specs.List.Sorted.{IsPermutation}
 use Rattle.std.proofs.lemmas.List.Edits.{swapped_from_swap, length-swap}
 use Rattle.std.proofs.lemmas.List.Sorted.{IsPermutation-keeps, IsPermutation-sym, Contains-permutation, length_permutation}
-use Rattle.encoding_tables.specs.LookupLaws.{IsPointer}
+use Rattle.encoding_tables.specs.laws.LookupLaws.{IsPointer}
 use Rattle.encoding_tables.specs.laws.Pointers.{value_some, first_is_least, last_is_greatest}
 
 pub length-flat_list : (size : ℕ) (rows : List (ℕ × ℕ)) → length (flat_list size rows) ≡ size
-length-flat_list size rows = length-map-range_with_len (entry_at rows) 0 size
+length-flat_list size rows = length-map-range_with_len (packed_entry rows) 0 size
 
-pub entry_within : (size : ℕ) (rows : List (ℕ × ℕ)) (p : ℕ) → p < size → get_or (flat_list size rows) p 0 ≡ entry_at rows p
-entry_within size rows p below = get_or-map-range_with_len (entry_at rows) 0 size p p 0 below (omega arith)
+pub entry_within : (size : ℕ) (rows : List (ℕ × ℕ)) (p : ℕ) → p < size → get_or (flat_list size rows) p 0 ≡ packed_entry rows p
+entry_within size rows p below = get_or-map-range_with_len (packed_entry rows) 0 size p p 0 below (omega arith)
 
 pub entry_past : (size : ℕ) (rows : List (ℕ × ℕ)) (p : ℕ) → size ≤ p → get_or (flat_list size rows) p 0 ≡ 0
 entry_past size rows p past = get_or-eq_default (flat_list size rows) 0 (omega (arith, length-flat_list size rows))
@@ -51,7 +51,7 @@ pointers_far rows rise i j less within =
     rw (← same) (far_pointers rows rise i (j - i - 1) (omega arith))
 
 -- row k has the pointer, and no row before it
-pub entry_at_row : (p : ℕ) (rows : List (ℕ × ℕ)) (k : ℕ) → k < length rows → (row_at rows k).0 ≡ p → ((j : ℕ) → j < k → (row_at rows j).0 ≢ p) → entry_at rows p ≡ (row_at rows k).1
+pub entry_at_row : (p : ℕ) (rows : List (ℕ × ℕ)) (k : ℕ) → k < length rows → (row_at rows k).0 ≡ p → ((j : ℕ) → j < k → (row_at rows j).0 ≢ p) → packed_entry rows p ≡ (row_at rows k).1
 entry_at_row p [] k within is apart = absurd (omega arith)
 entry_at_row p (r ∷ rows) zero within is apart = rw (eq-eqb r.0 p is) refl
 entry_at_row p (r ∷ rows) (suc k) within is apart =
@@ -59,12 +59,12 @@ entry_at_row p (r ∷ rows) (suc k) within is apart =
     rw (ne_eqb r.0 p here) (entry_at_row p rows k (omega arith) is (λ j less. apart (suc j) (omega arith)))
 
 -- an entry that is not 0 has a row
-pub row_of_entry : (p : ℕ) (rows : List (ℕ × ℕ)) → entry_at rows p ≢ 0 → HasRow rows (p, entry_at rows p)
+pub row_of_entry : (p : ℕ) (rows : List (ℕ × ℕ)) → packed_entry rows p ≢ 0 → HasRow rows (p, packed_entry rows p)
 row_of_entry p [] some = absurd (some refl)
 row_of_entry p (r ∷ rows) some = elim (cases_eq r.0 p) [
   | inl same ↦ (zero, omega arith, rw (eq-eqb r.0 p same) (ap (λ q. (q, r.1)) same))
   | inr other ↦
-      let rest : entry_at rows p ≢ 0 = rw (ne_eqb r.0 p other) at some in
+      let rest : packed_entry rows p ≢ 0 = rw (ne_eqb r.0 p other) at some in
       let found = row_of_entry p rows rest in
       (suc found.0, omega (arith, found.1), rw (ne_eqb r.0 p other) found.2)
 ]
@@ -147,7 +147,7 @@ rows_from least end (row ∷ rows) index from = (
 )
 
 -- there is no entry before them
-pub entry_before : (least end : ℕ) (rows : List (ℕ × ℕ)) (p : ℕ) → AreFrom least end rows → p < least → entry_at rows p ≡ 0
+pub entry_before : (least end : ℕ) (rows : List (ℕ × ℕ)) (p : ℕ) → AreFrom least end rows → p < least → packed_entry rows p ≡ 0
 entry_before least end [] p h less = refl
 entry_before least end (row ∷ rows) p h less =
     let low : least ≤ row.0 = h.0 in
@@ -163,7 +163,7 @@ listed_from p end (v ∷ vs) is = elim (cases_eq v 0) [
   | inr some ↦ rw (ne_eqb v 0 some) (omega arith, omega arith, some, listed_from (p + 1) end vs (omega arith))
 ]
 
-listed_entry : (p : ℕ) (list : List ℕ) (k : ℕ) → entry_at (listed_rows p list) (p + k) ≡ get_or list k 0
+listed_entry : (p : ℕ) (list : List ℕ) (k : ℕ) → packed_entry (listed_rows p list) (p + k) ≡ get_or list k 0
 listed_entry p [] k = refl
 listed_entry p (v ∷ vs) zero = elim (cases_eq v 0) [
   | inl none ↦ rw (eq-eqb v 0 none) (entry_before (p + 1) (p + 1 + length vs) (listed_rows (p + 1) vs) (p + zero) (listed_from (p + 1) (p + 1 + length vs) vs refl) (omega arith) ∙ sym none)
@@ -171,7 +171,7 @@ listed_entry p (v ∷ vs) zero = elim (cases_eq v 0) [
 ]
 listed_entry p (v ∷ vs) (suc k) =
     let next : p + 1 + k ≡ p + suc k = omega arith in
-    let rest : entry_at (listed_rows (p + 1) vs) (p + suc k) ≡ get_or vs k 0 = rw (← next) (listed_entry (p + 1) vs k) in
+    let rest : packed_entry (listed_rows (p + 1) vs) (p + suc k) ≡ get_or vs k 0 = rw (← next) (listed_entry (p + 1) vs k) in
     elim (cases_eq v 0) [
       | inl none ↦ rw (eq-eqb v 0 none) rest
       | inr some ↦ let other : p ≢ p + suc k = λ same. omega (arith, same) in rw (ne_eqb v 0 some, ne_eqb p (p + suc k) other) rest
@@ -181,7 +181,7 @@ pub listed_are_rows : (list : List ℕ) → AreIndexRows (length list) (listed_r
 listed_are_rows list = index_rows 0 (length list) (listed_rows 0 list) (listed_from 0 (length list) list (omega arith))
 
 pub flat_of_listed : (list : List ℕ) → flat_list (length list) (listed_rows 0 list) ≡ list
-flat_of_listed list = sym (fill_by_all (entry_at (listed_rows 0 list)) list (length list) 0 refl (λ k below. let here : 0 + k ≡ k = omega arith in sym (ap (entry_at (listed_rows 0 list)) (sym here) ∙ listed_entry 0 list k)))
+flat_of_listed list = sym (fill_by_all (packed_entry (listed_rows 0 list)) list (length list) 0 refl (λ k below. let here : 0 + k ≡ k = omega arith in sym (ap (packed_entry (listed_rows 0 list)) (sym here) ∙ listed_entry 0 list k)))
 
 -- ---- the mapped ones among rows
 
@@ -201,7 +201,7 @@ mapped_from least end (row ∷ rows) rise below from =
       | inr some ↦ rw (ne_eqb row.1 0 some) (low, below 0 (omega arith), some, rest)
     ]
 
-mapped_entry : (end : ℕ) (rows : List (ℕ × ℕ)) (p : ℕ) → PointersRise rows → PointersAreBelow end rows → entry_at (mapped_rows rows) p ≡ entry_at rows p
+mapped_entry : (end : ℕ) (rows : List (ℕ × ℕ)) (p : ℕ) → PointersRise rows → PointersAreBelow end rows → packed_entry (mapped_rows rows) p ≡ packed_entry rows p
 mapped_entry end [] p rise below = refl
 mapped_entry end (row ∷ rows) p rise below =
     let next : 0 < length rows → row.0 + 1 ≤ (row_at rows 0).0 = λ some. (let less = rise 0 (omega arith) in omega (arith, less)) in
@@ -224,7 +224,7 @@ mapped_are_rows size rows rise below = index_rows 0 size (mapped_rows rows) (map
 
 pub flat_of_mapped : (size : ℕ) (rows : List (ℕ × ℕ)) → PointersRise rows → PointersAreBelow size rows → flat_list size (mapped_rows rows) ≡ flat_list size rows
 flat_of_mapped size rows rise below =
-    fill_by_all (entry_at rows) (flat_list size (mapped_rows rows)) size 0 (length-flat_list size (mapped_rows rows)) (λ k within.
+    fill_by_all (packed_entry rows) (flat_list size (mapped_rows rows)) size 0 (length-flat_list size (mapped_rows rows)) (λ k within.
     entry_within size (mapped_rows rows) k within ∙ mapped_entry size rows k rise below)
 
 -- rows without the entry 0 are all mapped

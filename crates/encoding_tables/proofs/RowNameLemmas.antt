@@ -6,7 +6,7 @@ use Rattle.std.specs.Option.{option_or}
 use Rattle.std.proofs.lemmas.Bool.{cases_lt, lt-ltb, le-ltb, ltb-true, ltb-false, or_cases, and_cases, not-false, cases_Bool}
 use Rattle.encoding_tables.specs.Ranges.{is_valid_pointer, end_by}
 use Rattle.encoding_tables.specs.RangeFaults.{first_out_of_order, are_scalars, above_values, above_row, first_bad_value}
-use Rattle.encoding_tables.specs.NamedRows.{IsOutOfOrder, IsValue, Gives, IsScalarFrom, IsReached, HasBadValue, IsFirstWith, IsNamed, NamesAreExact}
+use Rattle.encoding_tables.specs.NamedRows.{IsOutOfOrder, IsValue, Gives, IsScalarFrom, IsReached, HasBadValue, IsLeastWith, IsNamed, NamesAreExact}
 use Rattle.encoding_tables.specs.laws.OptionCases.{and_then_some, if_none, if_some_none, and_then_none, no_stop}
 use Rattle.encoding_tables.specs.laws.Ranges.{or_false, row_between, row_more, some_pointers, no_pointers}
 
@@ -35,7 +35,7 @@ order_none row from (r ∷ rows) e (suc k) h =
     let a = if_none (nat_lt r.0 from || nat_lt 1237575 r.0) row (first_out_of_order (row + 1) (r.0 + 1) rows) e in
     order_none (row + 1) (r.0 + 1) rows a.1 k h
 
-order_some : (row from n : ℕ) (rows : List (ℕ × ℕ)) → first_out_of_order row from rows ≡ Some n → (k : ℕ) × (row + k ≡ n) × IsFirstWith (IsOutOfOrder from rows) k
+order_some : (row from n : ℕ) (rows : List (ℕ × ℕ)) → first_out_of_order row from rows ≡ Some n → (k : ℕ) × (row + k ≡ n) × IsLeastWith (IsOutOfOrder from rows) k
 order_some row from n [] e = absurd (cc)
 order_some row from n (r ∷ rows) e = elim (cases_Bool (nat_lt r.0 from || nat_lt 1237575 r.0)) [
   | inl out ↦
@@ -204,15 +204,15 @@ well_formed_before : (least above k : ℕ) (r : ℕ × ℕ) (rows : List (ℕ ×
 well_formed_before least above k r rows e rest zero less h = well_formed_head least above r rows e h
 well_formed_before least above k r rows e rest (suc j) less h = rest j (omega arith) (behind least above j r rows e h)
 
-values_some : (row from least n : ℕ) (rows : List (ℕ × ℕ)) → first_out_of_order row from rows ≡ None → first_bad_value row least rows ≡ Some n → (k : ℕ) × (row + k ≡ n) × IsFirstWith (HasBadValue least rows) k
+values_some : (row from least n : ℕ) (rows : List (ℕ × ℕ)) → first_out_of_order row from rows ≡ None → first_bad_value row least rows ≡ Some n → (k : ℕ) × (row + k ≡ n) × IsLeastWith (HasBadValue least rows) k
 values_some row from least n [] order e = absurd (cc)
 values_some row from least n (r ∷ rows) order e =
     let a = if_none (nat_lt r.0 from || nat_lt 1237575 r.0) row (first_out_of_order (row + 1) (r.0 + 1) rows) order in
     go (ends (row + 1) (r.0 + 1) rows a.1) (λ above. values_some (row + 1) (r.0 + 1) above n rows a.1) (above_row r (end_by rows) least) refl e
   where
-    go : end_by rows ≤ 1237576 → ((above : ℕ) → first_bad_value (row + 1) above rows ≡ Some n → (k : ℕ) × (row + 1 + k ≡ n) × IsFirstWith (HasBadValue above rows) k)
+    go : end_by rows ≤ 1237576 → ((above : ℕ) → first_bad_value (row + 1) above rows ≡ Some n → (k : ℕ) × (row + 1 + k ≡ n) × IsLeastWith (HasBadValue above rows) k)
         → (o : Option ℕ) → above_row r (end_by rows) least ≡ o → elim o as (λ _. Option ℕ) [ None ↦ Some row | Some above ↦ first_bad_value (row + 1) above rows ] ≡ Some n
-        → (k : ℕ) × (row + k ≡ n) × IsFirstWith (HasBadValue least (r ∷ rows)) k
+        → (k : ℕ) × (row + k ≡ n) × IsLeastWith (HasBadValue least (r ∷ rows)) k
     go low again None is f = let same : row ≡ n = cc in (zero, omega arith, (malformed_head least r rows low is, λ j less. absurd (omega arith)))
     go low again (Some above) is f =
         let h = again above f in

@@ -3,10 +3,10 @@
 -- number.
 use Rattle.std.proofs.Common.{◌≡◌, ℕ, ◌+◌, ◌-◌, ◌*◌, ◌/◌, ◌<◌, ◌≤◌, ◌^◌, ◌⊎◌, inl, inr, zero, suc, List, length, arith, refl, pow-suc, nat_lt, ◌==◌, ◌≢◌, [], ◌∷◌, ◌++◌, ◌∙◌, ap, drop, length-drop, length-take, length-append, None, Some}
 use Rattle.std.specs.Prelude.{◌&&◌, slice_range, slice_index, min}
-use Rattle.encoding_tables.specs.PackedLists.{IsSecond}
+use Rattle.encoding_tables.specs.calls.PackedLists.{IsSecond}
 use Rattle.encoding_tables.specs.PackedRows.{PointersAreBelow}
 use Rattle.std.proofs.lemmas.Bool.{cases_eq, or_cases, and_parts, ltb-true, eqb-true, lt-ltb, le-ltb, eq-eqb, cases_lt}
-use Rattle.encoding_tables.specs.SortedRows.{row_at, IsBelow, AreRising, IsRank, IsDirectory, IsSpan}
+use Rattle.encoding_tables.specs.calls.SortedRows.{row_at, IsBelow, AreRising, IsRank, IsDirectory, IsSpan}
 use Rattle.std.proofs.lemmas.List.Edits.{get_or-between}
 use Rattle.std.proofs.lemmas.List.{get_or_append_left}
 use Rattle.std.proofs.Math.Seq.{get_or-append_right}

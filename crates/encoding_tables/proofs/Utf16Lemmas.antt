@@ -5,7 +5,6 @@ use Rattle.std.specs.Char.Utf16.{is_high_surrogate, is_low_surrogate, surrogate_
 use Rattle.std.proofs.Math.Utf8.{scalar}
 use Rattle.encoding_mem.specs.Piece.{Piece, well_formed, malformed, piece_len}
 use Rattle.encoding_mem.specs.laws.Utf8Decide.{cut_short}
-use Rattle.encoding_mem.specs.Decoding.{AreBytes}
 use Rattle.encoding_mem.specs.laws.Shows.{Shows, shows_cond, shows_cons, shows_const}
 use Rattle.encoding_tables.specs.Utf16.{unit_of, after_high_surrogate, after_unit, first_piece_utf16, bytes_of_unit, bytes_of_units, pieces_utf16, piece_of_char, ReadsUnits}
 use Rattle.encoding_tables.specs.laws.Utf16Decide.{decide_pair, decide_unit, decide_utf16}
@@ -17,14 +16,15 @@ use Rattle.encoding_mem.specs.laws.Pieces.{pieces_by-nil, pieces_by-cons}
 use Rattle.encoding_tables.specs.laws.Utf16.{cuts_utf16}
 use Rattle.std.specs.Char.{len_utf8}
 use Rattle.std.proofs.lemmas.Bool.Decides.{nat_tests}
-use Rattle.encoding_mem.specs.DecoderRule.{HasRoomFor}
-use Rattle.encoding_mem.specs.DecodedLength.{is_units, goes_on, cost_in, replacement_len, left_after, decoded_length, decoded_length_utf16}
-use Rattle.encoding_mem.specs.Writing.{len_utf16}
+use Rattle.encoding_mem.specs.calls.DecoderRule.{HasRoomFor}
+use Rattle.encoding_mem.specs.calls.DecodedLength.{is_units, counts_past_malformed, cost_in, replacement_len, left_after, decoded_length, decoded_length_utf16}
+use Rattle.encoding_mem.specs.calls.Writing.{len_utf16}
 use Rattle.encoding_mem.specs.laws.Writing.{cost_fits16}
 use Rattle.encoding_mem.specs.declared.first_piece.FirstPiece.{FirstPiece}
 use Rattle.encoding_mem.specs.declared.first_piece.FirstPiece.TheVariants.{More, One, Two, Ignored, Malformed}
 use Rattle.encoding_mem.specs.declared.room.OutputUnit.{OutputUnit}
 use Rattle.encoding_mem.specs.declared.room.OutputUnit.TheVariants.{Units, Bytes, Replaced}
+use Rattle.encoding_mem.specs.Decided.{AreBytes}
 
 -- each piece has a byte
 some_cond : (t : Bool) (p q : Piece) → 0 < piece_len p → 0 < piece_len q → 0 < piece_len (cond t p q)
@@ -286,13 +286,13 @@ two_units c n four Units m = omega (arith, four, cost_fits16 c)
 two_units c n four Bytes m = omega (arith, four, (len_utf8_bounds c).1)
 two_units c n four Replaced m = omega (arith, four, (len_utf8_bounds c).1)
 
-bad_unit : (n : ℕ) → n ≡ 2 → (k : OutputUnit) (m : ℕ) → left_after (goes_on k) (replacement_len (is_units k)) (decoded_length decoded_length_utf16 k m) ≤ decoded_length decoded_length_utf16 k (n + m)
+bad_unit : (n : ℕ) → n ≡ 2 → (k : OutputUnit) (m : ℕ) → left_after (counts_past_malformed k) (replacement_len (is_units k)) (decoded_length decoded_length_utf16 k m) ≤ decoded_length decoded_length_utf16 k (n + m)
 bad_unit n two Units m = omega (arith, two)
 bad_unit n two Bytes m = omega (arith, two)
 bad_unit n two Replaced m = omega (arith, two)
 
 -- nothing follows what the end cuts
-malformed_end : (n : ℕ) → 0 < n → (k : OutputUnit) (m : ℕ) → m ≡ 0 → left_after (goes_on k) (replacement_len (is_units k)) (decoded_length decoded_length_utf16 k m) ≤ decoded_length decoded_length_utf16 k (n + m)
+malformed_end : (n : ℕ) → 0 < n → (k : OutputUnit) (m : ℕ) → m ≡ 0 → left_after (counts_past_malformed k) (replacement_len (is_units k)) (decoded_length decoded_length_utf16 k m) ≤ decoded_length decoded_length_utf16 k (n + m)
 malformed_end n some Units m none = omega (arith, some, none)
 malformed_end n some Bytes m none = omega (arith, some, none)
 malformed_end n some Replaced m none = omega (arith, some, none)

@@ -5,9 +5,9 @@ use Rattle.std.proofs.lemmas.Bool.{cases_lt, le-leb, lt-leb, lt-ltb}
 use Rattle.std.proofs.lemmas.List.{length-take-le}
 use Rattle.std.proofs.lemmas.List.Sums.{prefix_len-le-length}
 use Rattle.encoding_mem.specs.Piece.{piece_len, well_formed}
-use Rattle.encoding_mem.specs.DecodedLength.{is_units, decoded_length, decoded_length_utf16}
-use Rattle.encoding_mem.specs.Text.{text_len}
-use Rattle.encoding_mem.specs.UnitRun.{BeginWithUnits, unit_pieces}
+use Rattle.encoding_mem.specs.calls.DecodedLength.{is_units, decoded_length, decoded_length_utf16}
+use Rattle.encoding_mem.specs.calls.TextRun.{text_len}
+use Rattle.encoding_mem.specs.calls.UnitRun.{BeginWithUnits, unit_pieces}
 use Rattle.encoding_mem.specs.declared.room.OutputUnit.{OutputUnit}
 use Rattle.encoding_mem.specs.declared.room.OutputUnit.TheVariants.{Units, Bytes, Replaced}
 use Rattle.encoding_mem.specs.laws.Pieces.{pieces_by-cons}

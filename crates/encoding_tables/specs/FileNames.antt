@@ -6,7 +6,7 @@ use Rattle.encoding_tables.specs.declared.index_kind.IndexKind.TheVariants.{Ibm8
 
 -- end
 
--- the name of an index, as the standard writes it in its table of files
+-- the name of an index, as the standard writes it in the name of the index's file
 abbrev pub index_name : IndexKind → List ℕ
 index_name Ibm866 = codes "ibm866"
 index_name Iso8859_2 = codes "iso-8859-2"
@@ -43,10 +43,10 @@ index_name Jis0208 = codes "jis0208"
 index_name Jis0212 = codes "jis0212"
 index_name Iso2022JpKatakana = codes "iso-2022-jp-katakana"
 
--- the name of its file
+-- the name of the file of an index: `index-NAME.txt`
 abbrev pub file_name_of : IndexKind → List ℕ
 file_name_of kind = codes "index-" ++ (index_name kind ++ codes ".txt")
 
--- no two kinds have the same file
+-- no two kinds of index have one file name
 abbrev pub FileNamesDiffer : Type 0
 FileNamesDiffer = (a b : IndexKind) → file_name_of a ≡ file_name_of b → a ≡ b

@@ -6,7 +6,8 @@ use Rattle.encoding_tables.specs.RangeFaults.{bad_row}
 use Rattle.encoding_tables.specs.TableFaults.{flat_fault}
 use Rattle.encoding_tables.specs.declared.index_kind.IndexKind.{IndexKind}
 
--- what tables hold: the lists, in the order of the kinds, each if it is there, and the rows of the GB18030 ranges
+-- what tables hold: the lists of the indexes, in the order of the kinds, each if it is there, and
+-- the rows of index gb18030 ranges, if they are there
 pub record IndexLists : Type 0 where
   pub flats : List (Option (List ℕ))
   pub rows : Option (List (ℕ × ℕ))
@@ -15,21 +16,21 @@ pub record IndexLists : Type 0 where
 abbrev pub flat_at : List (Option (List ℕ)) → IndexKind → Option (List ℕ)
 flat_at flats kind = slice_index_or flats (number kind) None
 
--- the list of a kind, if it is there: at each pointer its scalar, or 0
+-- the list of a kind in tables, if it is there: at each pointer its scalar, or 0
 abbrev pub flat_of : IndexLists → IndexKind → Option (List ℕ)
 flat_of tables kind = flat_at tables.flats kind
 
--- whether a kind is there
+-- whether tables have the index of a kind: its list, or, of gb18030 ranges, its rows
 abbrev pub has : IndexLists → IndexKind → Bool
 has tables kind = if is_ranges kind then is_some tables.rows else is_some (flat_of tables kind)
 
 -- the entries of the list of a kind, one for each pointer: none if the list is not there
-abbrev pub entries_of : IndexLists → IndexKind → List ℕ
-entries_of tables kind = unwrap_or (flat_at tables.flats kind) []
+abbrev pub index_entries : IndexLists → IndexKind → List ℕ
+index_entries tables kind = unwrap_or (flat_at tables.flats kind) []
 
 -- the rows of index gb18030 ranges: none if the index is not there
-abbrev pub rows_of : IndexLists → List (ℕ × ℕ)
-rows_of tables = unwrap_or tables.rows []
+abbrev pub range_rows : IndexLists → List (ℕ × ℕ)
+range_rows tables = unwrap_or tables.rows []
 
 -- no list that is there has a fault as the index of its kind
 abbrev pub AreAccepted : List (Option (List ℕ)) → Type 0

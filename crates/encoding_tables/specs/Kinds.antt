@@ -6,7 +6,7 @@ use Rattle.encoding_tables.specs.declared.index_kind.IndexKind.TheVariants.{Ibm8
 
 -- end
 
--- the number of a kind among the kinds
+-- the number of a kind of index: its position among the 34 kinds, from 0
 abbrev pub number : IndexKind → ℕ
 -- Written by tools/generate_encodings.py from tools/encodings.toml; do not edit.
 number Ibm866 = 0
@@ -46,7 +46,7 @@ number Iso2022JpKatakana = 33
 
 -- end
 
--- how many entries the list of a kind has
+-- how many entries the list of a kind of index has: 0 for gb18030 ranges, which has rows instead
 abbrev pub index_size : IndexKind → ℕ
 index_size Big5 = 19782
 index_size EucKr = 23940
@@ -57,11 +57,11 @@ index_size Jis0212 = 8836
 index_size Iso2022JpKatakana = 63
 index_size _ = 128
 
--- the kind with rows
+-- whether a kind of index is gb18030 ranges, which has rows and no list
 abbrev pub is_ranges : IndexKind → Bool
 is_ranges Gb18030Ranges = true
 is_ranges _ = false
 
--- the kinds of the single-byte encodings
-abbrev pub is_single_byte : IndexKind → Bool
-is_single_byte kind = nat_eq (index_size kind) 128
+-- whether a kind of index is that of a single-byte encoding: its list has 128 entries
+abbrev pub is_single_byte_kind : IndexKind → Bool
+is_single_byte_kind kind = nat_eq (index_size kind) 128

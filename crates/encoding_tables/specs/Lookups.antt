@@ -5,23 +5,23 @@ use Rattle.std.specs.Char.{IsScalar}
 use Rattle.std.specs.List.{position}
 use Rattle.std.specs.Option.{option_map, option_or}
 
--- the entry at a pointer; 0 and what is past the end are none
+-- the "index code point" (section 5) of a pointer: none if its entry is 0 or past the list's end
 abbrev pub value_of : List ℕ → ℕ → Option ℕ
 value_of flat p = if slice_index flat p == 0 then None else Some (slice_index flat p)
 
--- each entry is 0 or a scalar
+-- each entry of a list is 0 or a scalar
 abbrev pub AreEntries : List ℕ → Type 0
 AreEntries flat = (p : ℕ) → slice_index flat p ≢ 0 → IsScalar (slice_index flat p)
 
--- the last index at which a test passes
+-- the position of the last element of a list that passes a test, if there is one
 abbrev pub last_position : {X : Type 0} → (X → Bool) → List X → Option ℕ
 last_position test [] = None
 last_position test (x ∷ xs) = option_or (option_map (λ k. k + 1) (last_position test xs)) (if test x then Some 0 else None)
 
--- the least pointer from `from` to below `to` with the entry c
+-- the least pointer, from `from` to below `to`, whose entry is c: none if c is 0 or no entry
 abbrev pub first_pointer : List ℕ → ℕ → ℕ → ℕ → Option ℕ
 first_pointer flat c from to = if c == 0 then None else option_map (λ k. from + k) (position (λ v. v == c) (slice_range flat from to))
 
--- the greatest one
+-- the greatest pointer, from `from` to below `to`, whose entry is c: none if c is 0 or no entry
 abbrev pub last_pointer : List ℕ → ℕ → ℕ → ℕ → Option ℕ
 last_pointer flat c from to = if c == 0 then None else option_map (λ k. from + k) (last_position (λ v. v == c) (slice_range flat from to))

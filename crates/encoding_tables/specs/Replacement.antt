@@ -2,16 +2,17 @@
 -- is one error, and no text.
 use Rattle.std.specs.Prelude.{◌≡◌, ℕ, Bool, true, false, IsTrue, List, [], ◌∷◌, ◌++◌}
 use Rattle.encoding_mem.specs.Piece.{Piece, well_formed, malformed, malformed_count, text}
-use Rattle.encoding_mem.specs.Decoding.{DecoderState, EndsWith}
+use Rattle.encoding_mem.specs.calls.Decoding.{DecoderState, EndsWith}
 use Rattle.encoding_mem.specs.Pieces.{pieces_in}
 use Rattle.encoding_mem.specs.declared.decoder_result.DecoderResult.TheVariants.{OutputFull}
 
--- The first piece, by whether the error was returned: the first byte is malformed, each later one is ignored.
+-- the first piece of bytes in replacement, one byte: malformed, or, if the error was returned
+-- before, ignored
 abbrev pub first_piece_replacement : (error_returned : Bool) → List ℕ → Piece
 first_piece_replacement false x = malformed 1
 first_piece_replacement true x = well_formed 1 []
 
--- once it was returned, it is not returned again
+-- whether replacement's error was returned, once a piece was read: it was, be it then or before
 abbrev pub after_replacement : (error_returned : Bool) → List ℕ → Bool
 after_replacement error_returned x = true
 
@@ -20,11 +21,11 @@ after_replacement error_returned x = true
 abbrev pub pieces_replacement : (error_returned : Bool) → List ℕ → List Piece
 pieces_replacement = pieces_in first_piece_replacement after_replacement
 
--- Some bytes are one error, whose U+FFFD is all their text.
+-- bytes in replacement, one at least, have one malformed piece, and U+FFFD is all their text
 abbrev pub IsOneError : Type 0
 IsOneError = (b : ℕ) (x : List ℕ) → (malformed_count (pieces_replacement false (b ∷ x)) ≡ 1) × (text (pieces_replacement false (b ∷ x)) ≡ 0xFFFD ∷ [])
 
--- Where the error was returned, no call ends for want of room.
+-- after replacement's error was returned, no call of a decoder ends for want of room
 abbrev pub NeedsRoomOnce : Type 0
 NeedsRoomOnce = (s : DecoderState) (unread : List ℕ) (last : Bool) (free room mark : ℕ)
     → ((r : List ℕ) → (IsTrue last → r ≡ []) → s.pieces (unread ++ r) ≡ pieces_replacement true (unread ++ r))

@@ -9,11 +9,13 @@ use Rattle.encoding_mem.specs.Stateless.{stateless}
 use Rattle.encoding_tables.specs.EachByte.{first_piece_by_byte, form_by_byte}
 use Rattle.encoding_tables.specs.Lookups.{value_of, first_pointer}
 
--- the character of a byte: ASCII gives itself
+-- the character of a byte in the single-byte encoding with the index `flat`: itself if it is
+-- ASCII, else the entry at the pointer 80 hex below it, if mapped
 abbrev pub char_of_byte : List ℕ → ℕ → Option ℕ
 char_of_byte flat b = if nat_lt b 0x80 then Some b else value_of flat (b - 0x80)
 
--- the byte of a character: the least pointer with it counts
+-- the byte of a character in the single-byte encoding with the index `flat`: itself if it is
+-- ASCII, else 80 hex more than the least pointer with it, if there is one
 abbrev pub single_byte_of_char : List ℕ → ℕ → Option ℕ
 single_byte_of_char flat c = if nat_lt c 0x80 then Some c else option_map (λ p. 0x80 + p) (first_pointer flat c 0 128)
 
@@ -25,13 +27,13 @@ pieces_single_byte flat x = pieces_by (first_piece_by_byte (char_of_byte flat)) 
 abbrev pub single_byte_coding : List ℕ → Coding
 single_byte_coding flat = stateless (form_by_byte (single_byte_of_char flat))
 
--- the character of a byte has the byte's number
+-- whether a byte has a character, and it is the one with the byte's number
 abbrev pub has_number : ℕ → Option ℕ → Bool
 has_number b None = false
 has_number b (Some c) = c == b
 
--- Of some bytes the first n are the characters with their numbers, and the next byte, if there is one, is not: pieces
--- are those of bytes.
+-- each of the first n of some bytes is read, alone, as the character with its number, and the next
+-- byte, if there is one, is not
 pub record IsLatin1UpTo (pieces : List ℕ → List Piece) (bytes : List ℕ) (n : ℕ) : Type 0 where
   pub within : n ≤ length bytes
   pub same : (k : ℕ) → k < n → pieces (slice_index bytes k ∷ []) ≡ well_formed 1 (slice_index bytes k ∷ []) ∷ []

@@ -8,12 +8,12 @@ use Rattle.encoding_mem.specs.Pieces.{pieces_by}
 use Rattle.encoding_mem.specs.Stateless.{stateless}
 use Rattle.encoding_tables.specs.EachByte.{first_piece_by_byte, form_by_byte}
 
--- the character of a byte: ASCII gives itself, and what is above FF is no byte
+-- the character of a byte in x-user-defined: ASCII gives itself, 80 to FF hex U+F780 to U+F7FF
 abbrev pub user_char_of_byte : ℕ → Option ℕ
 user_char_of_byte b = if nat_lt b 0x80 then Some b
     else (if is_in_range 0x80 0xFF b then Some (0xF780 + (b - 0x80)) else None)
 
--- the byte of a character
+-- the byte of a character in x-user-defined: ASCII is itself, U+F780 to U+F7FF are 80 to FF hex
 abbrev pub byte_of_user_char : ℕ → Option ℕ
 byte_of_user_char c = if nat_lt c 0x80 then Some c
     else (if is_in_range 0xF780 0xF7FF c then Some (0x80 + (c - 0xF780)) else None)

@@ -5,7 +5,7 @@ use Rattle.std.specs.Char.Utf16.{is_high_surrogate, is_low_surrogate, surrogate_
 use Rattle.std.proofs.Math.Utf8.{scalar}
 use Rattle.encoding_mem.specs.Piece.{Piece, well_formed, malformed}
 use Rattle.encoding_mem.specs.Pieces.{pieces_by}
-use Rattle.encoding_mem.specs.Writing.{len_utf16}
+use Rattle.encoding_mem.specs.calls.Writing.{len_utf16}
 
 -- the unit of UTF-16 that two bytes are, in big-endian or in little-endian order
 abbrev pub unit_of : (big_endian : Bool) → ℕ → ℕ → ℕ
@@ -20,44 +20,43 @@ abbrev pub bytes_of_units : (big_endian : Bool) → List ℕ → List ℕ
 bytes_of_units big_endian [] = []
 bytes_of_units big_endian (u ∷ us) = bytes_of_unit big_endian u ++ bytes_of_units big_endian us
 
--- The piece that begins with a high surrogate, by what follows it. A unit that is no low surrogate is left; a byte that
--- the end cuts off from its unit is not.
+-- the piece that begins with a high surrogate, by the bytes after it: 4 bytes with a low
+-- surrogate; else malformed, of 2 bytes, or of 3 if a single byte is left
 abbrev pub after_high_surrogate : (big_endian : Bool) → ℕ → List ℕ → Piece
 after_high_surrogate big_endian u [] = malformed 2
 after_high_surrogate big_endian u (c ∷ []) = malformed 3
 after_high_surrogate big_endian u (c ∷ d ∷ x) = if is_low_surrogate (unit_of big_endian c d)
     then well_formed 4 (surrogate_pair_char u (unit_of big_endian c d) ∷ []) else malformed 2
 
--- The piece that begins with a unit. A unit that is a scalar is that character; a low surrogate is none.
+-- the piece that begins with a unit of UTF-16: a high surrogate's, by the bytes after it; or a
+-- character of 2 bytes; or, for a low surrogate, 2 malformed bytes
 abbrev pub after_unit : (big_endian : Bool) → ℕ → List ℕ → Piece
 after_unit big_endian u x = if is_high_surrogate u then after_high_surrogate big_endian u x
     else (if scalar u then well_formed 2 (u ∷ []) else malformed 2)
 
--- the first piece of some bytes
+-- the first piece of some bytes in UTF-16: a character, or malformed: a lone surrogate, an odd
+-- byte or both
 abbrev pub first_piece_utf16 : (big_endian : Bool) → List ℕ → Piece
 first_piece_utf16 big_endian [] = malformed 1
 first_piece_utf16 big_endian (a ∷ []) = malformed 1
 first_piece_utf16 big_endian (a ∷ b ∷ x) = after_unit big_endian (unit_of big_endian a b) x
 
--- the pieces of some bytes, where the list's end is the end of the input
+-- the pieces of a whole input in UTF-16, in big-endian or in little-endian order
 abbrev pub pieces_utf16 : (big_endian : Bool) → List ℕ → List Piece
 pieces_utf16 big_endian x = pieces_by (first_piece_utf16 big_endian) x
 
--- each of so many units is the next two bytes
+-- the first `count` units are the bytes, two by two, in big-endian or in little-endian order
 abbrev pub AreUnitsOf : (big_endian : Bool) → ℕ → List ℕ → List ℕ → Type 0
 AreUnitsOf big_endian count units bytes = (k : ℕ) → k < count
     → slice_index units k ≡ unit_of big_endian (slice_index bytes (2 * k)) (slice_index bytes (2 * k + 1))
 
--- the piece of a character, and of a surrogate in no pair
+-- the piece of a character in UTF-16, 2 or 4 bytes, or, for a lone surrogate, 2 malformed bytes
 abbrev pub piece_of_char : Option ℕ → Piece
 piece_of_char None = malformed 2
 piece_of_char (Some c) = well_formed (2 * len_utf16 c) (c ∷ [])
 
--- The pieces of units are the characters that they spell.
+-- the pieces of units of UTF-16, put into bytes, are the characters that the units spell, and a
+-- malformed piece for each surrogate in no pair
 abbrev pub ReadsUnits : Type 0
 ReadsUnits = (big_endian : Bool) (units : List ℕ) → ((k : ℕ) → slice_index units k < 0x10000)
     → pieces_utf16 big_endian (bytes_of_units big_endian units) ≡ map piece_of_char (utf16_chars units)
-
--- worked row: the units D83D and DCA9 (U+1F4A9) are the bytes 3D D8 A9 DC in little-endian order
-units : bytes_of_units false (0xD83D ∷ 0xDCA9 ∷ []) ≡ 0x3D ∷ 0xD8 ∷ 0xA9 ∷ 0xDC ∷ []
-units = refl

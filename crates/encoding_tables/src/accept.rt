@@ -4,7 +4,8 @@ ghost use Rattle.std.specs.Prelude.{◌≡◌, ◌+◌, ◌<◌, ◌≤◌, not,
 ghost use Rattle.std.specs.List.{position};
 ghost use Rattle.encoding_tables.specs.Kinds.{index_size};
 ghost use Rattle.encoding_tables.specs.PackedRows.{flat_list, PointersRise, PointersAreBelow};
-ghost use Rattle.encoding_tables.specs.TableFaults.{is_entry_of, first_bad_entry, first_reserved, entry_fault, flat_fault};
+ghost use Rattle.encoding_tables.specs.TableFaults.{is_entry_of, first_bad_entry, first_reserved};
+ghost use Rattle.encoding_tables.specs.TableFaults.{entry_fault, flat_fault};
 
 use crate::index_kind::IndexKind;
 use crate::table_fault::TableFault;

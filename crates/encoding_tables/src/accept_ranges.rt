@@ -1,7 +1,8 @@
 //! Which rows are taken as the GB18030 ranges, and which row is named in the others.
 
 ghost use Rattle.std.specs.Prelude.{◌≡◌, ◌≤◌};
-ghost use Rattle.encoding_tables.specs.RangeFaults.{first_out_of_order, first_bad_value, are_scalars, above_values, above_row, bad_row};
+ghost use Rattle.encoding_tables.specs.RangeFaults.{first_out_of_order, first_bad_value};
+ghost use Rattle.encoding_tables.specs.RangeFaults.{are_scalars, above_values, above_row, bad_row};
 ghost use Rattle.encoding_tables.specs.Ranges.{end_by};
 
 // The valid pointers: those of the basic plane end here, those of the other planes begin and end there.

@@ -1,7 +1,7 @@
 //! The one type of decoders of encodings each of whose bytes is a piece, with the rule inside.
 
 ghost use Rattle.std.specs.Prelude.{◌≡◌};
-ghost use Rattle.encoding_mem.specs.Decoding.{IsFreshDecoder};
+ghost use Rattle.encoding_mem.specs.calls.Decoding.{IsFreshDecoder};
 
 use encoding_mem::DecoderResult;
 use encoding_mem::bytewise::{Bytewise, DecidedPiece};

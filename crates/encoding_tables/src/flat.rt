@@ -2,7 +2,7 @@
 
 ghost use Rattle.std.specs.Prelude.{◌≡◌, ℕ, ◌<◌, List, IfSome};
 ghost use Rattle.encoding_tables.specs.Lookups.{value_of, first_pointer, last_pointer, AreEntries};
-ghost use Rattle.encoding_tables.specs.PackedLists.{IsPacked};
+ghost use Rattle.encoding_tables.specs.calls.PackedLists.{IsPacked};
 ghost use Rattle.encoding_tables.specs.PackedRows.{flat_list};
 
 use crate::pointer_rows::PointerRows;

@@ -1,7 +1,7 @@
 //! The 34 kinds of index: their sizes and their files.
 
 ghost use Rattle.std.specs.Prelude.{◌≡◌, ◌<◌};
-ghost use Rattle.encoding_tables.specs.Kinds.{number, index_size, is_ranges, is_single_byte};
+ghost use Rattle.encoding_tables.specs.Kinds.{number, index_size, is_ranges, is_single_byte_kind};
 ghost use Rattle.encoding_tables.specs.FileNames.{file_name_of};
 
 /// One of the indexes of the Encoding Standard (section 5, "Indexes"): those of the single-byte
@@ -78,7 +78,7 @@ impl IndexKind {
     /// Whether this is the index of a single-byte encoding, whose list has 128 entries: the test of
     /// the condition of the single-byte codecs.
     pub fn is_single_byte(self) -> bool
-        ensures { result ≡ is_single_byte self }
+        ensures { result ≡ is_single_byte_kind self }
     {
         self.size() == 128
     }

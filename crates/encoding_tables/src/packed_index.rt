@@ -4,9 +4,10 @@ ghost use Rattle.std.specs.Prelude.{◌≡◌, ℕ, ◌+◌, ◌^◌, ◌<◌, L
 ghost use Rattle.std.specs.Prelude.{not, ◌==◌};
 ghost use Rattle.std.specs.List.{list_all};
 ghost use Rattle.encoding_tables.specs.Lookups.{AreEntries};
-ghost use Rattle.encoding_tables.specs.PackedRows.{flat_list, mapped_rows, listed_rows, PointersRise, PointersAreBelow};
-ghost use Rattle.encoding_tables.specs.PackedLists.{AreIndexRows, IsPacked, IsReversed};
-ghost use Rattle.encoding_tables.specs.EntryCounts.{AreCounts, AreEnds, HaveEntriesBelow};
+ghost use Rattle.encoding_tables.specs.PackedRows.{flat_list, mapped_rows, listed_rows};
+ghost use Rattle.encoding_tables.specs.PackedRows.{PointersRise, PointersAreBelow};
+ghost use Rattle.encoding_tables.specs.calls.PackedLists.{AreIndexRows, IsPacked, IsReversed};
+ghost use Rattle.encoding_tables.specs.calls.EntryCounts.{AreCounts, AreEnds, HaveEntriesBelow};
 
 use crate::flat::Flat;
 use crate::pointer_rows::PointerRows;

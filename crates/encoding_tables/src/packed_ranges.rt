@@ -5,8 +5,9 @@ ghost use Rattle.std.specs.Prelude.{◌≡◌, ℕ, ◌<◌, ◌^◌, ◌++◌, 
 ghost use Rattle.std.specs.Prelude.{IsOk, OnOk};
 ghost use Rattle.encoding_tables.specs.RangeFaults.{bad_row};
 ghost use Rattle.encoding_tables.specs.laws.RangeRuns.{runs_of, with_low, with_high, ArePacked};
-ghost use Rattle.encoding_tables.specs.Ranges.{last_row, range_value, range_pointer, value_in, is_valid_pointer};
-ghost use Rattle.encoding_tables.specs.SortedRows.{AreRising};
+ghost use Rattle.encoding_tables.specs.Ranges.{last_row, range_value, range_pointer, value_in};
+ghost use Rattle.encoding_tables.specs.Ranges.{is_valid_pointer};
+ghost use Rattle.encoding_tables.specs.calls.SortedRows.{AreRising};
 
 use crate::accept_ranges::{BASIC_END, OTHER_END, OTHER_START, end_by};
 use crate::search::search;

@@ -2,9 +2,9 @@
 //! which a pointer can stand.
 
 ghost use Rattle.std.specs.Prelude.{◌≡◌, ◌<◌, ◌^◌, List, ℕ, length, IfOk};
-ghost use Rattle.encoding_tables.specs.PackedLists.{IsSecond};
+ghost use Rattle.encoding_tables.specs.calls.PackedLists.{IsSecond};
 ghost use Rattle.encoding_tables.specs.PackedRows.{PointersAreBelow};
-ghost use Rattle.encoding_tables.specs.SortedRows.{AreRising, IsDirectory, IsTight};
+ghost use Rattle.encoding_tables.specs.calls.SortedRows.{AreRising, IsDirectory, IsTight};
 
 use crate::search::search;
 use std::alloc::{AllocError, Global};

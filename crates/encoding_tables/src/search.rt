@@ -1,7 +1,8 @@
 //! A binary search among rows in order.
 
 ghost use Rattle.std.specs.Prelude.{◌≡◌, length};
-ghost use Rattle.encoding_tables.specs.SortedRows.{is_below, AreRising, IsRank, IsWithinDigits};
+ghost use Rattle.encoding_tables.specs.calls.SortedRows.{is_below, AreRising, IsRank};
+ghost use Rattle.encoding_tables.specs.calls.SortedRows.{IsWithinDigits};
 
 // Whether a row is below a key: by the first number, and by the second where the first are equal.
 #[inline(always)]

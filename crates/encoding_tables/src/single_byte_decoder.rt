@@ -4,16 +4,20 @@
 ghost use Rattle.std.proofs.Common.{refl, arith};
 ghost use Rattle.std.specs.Prelude.{◌≡◌, ◌<◌, not, true};
 ghost use Rattle.std.specs.List.{position};
-ghost use Rattle.encoding_mem.specs.laws.Pieces.{pieces_by-nil, pieces_by-whole, pieces_by-are_pieces};
-ghost use Rattle.encoding_mem.specs.Decoding.{IsFreshDecoder};
-ghost use Rattle.encoding_mem.specs.DecodedLength.{decoded_length, decoded_length_single_byte};
+ghost use Rattle.encoding_mem.specs.laws.Pieces.{pieces_by-nil, pieces_by-whole};
+ghost use Rattle.encoding_mem.specs.laws.Pieces.{pieces_by-are_pieces};
+ghost use Rattle.encoding_mem.specs.calls.Decoding.{IsFreshDecoder};
+ghost use Rattle.encoding_mem.specs.calls.DecodedLength.{decoded_length};
+ghost use Rattle.encoding_mem.specs.calls.DecodedLength.{decoded_length_single_byte};
 ghost use Rattle.encoding_mem.specs.laws.Shows.{decided_by};
 ghost use Rattle.encoding_tables.specs.laws.EachByte.{first_piece_of_byte};
-ghost use Rattle.encoding_tables.specs.IndexLists.{has, entries_of};
-ghost use Rattle.encoding_tables.specs.Kinds.{is_single_byte};
+ghost use Rattle.encoding_tables.specs.IndexLists.{has, index_entries};
+ghost use Rattle.encoding_tables.specs.Kinds.{is_single_byte_kind};
 ghost use Rattle.encoding_tables.specs.Lookups.{AreEntries};
-ghost use Rattle.encoding_tables.specs.SingleByte.{char_of_byte, has_number, pieces_single_byte, IsLatin1UpTo};
-ghost use Rattle.encoding_tables.specs.laws.SingleByte.{AreBasic, cuts_single_byte, first_piece_single_byte};
+ghost use Rattle.encoding_tables.specs.SingleByte.{char_of_byte, has_number, pieces_single_byte};
+ghost use Rattle.encoding_tables.specs.SingleByte.{IsLatin1UpTo};
+ghost use Rattle.encoding_tables.specs.laws.SingleByte.{AreBasic, cuts_single_byte};
+ghost use Rattle.encoding_tables.specs.laws.SingleByte.{first_piece_single_byte};
 
 use crate::each_byte_decoder::EachByteDecoder;
 use crate::flat::Flat;
@@ -137,9 +141,9 @@ impl<'a> EachByteDecoder<SingleByteRule<'a>> {
     /// tests.
     pub fn new(tables: &'a Tables, kind: IndexKind) -> Self
         requires there { has tables.now kind ≡ true }
-        requires single { is_single_byte kind ≡ true }
+        requires single { is_single_byte_kind kind ≡ true }
         ensures { IsFreshDecoder (⟦<SingleByteDecoder<'a> as RawDecoder>⟧.state result)
-            (pieces_single_byte (entries_of tables.now kind)) decoded_length_single_byte }
+            (pieces_single_byte (index_entries tables.now kind)) decoded_length_single_byte }
     {
         EachByteDecoder::of_rule(SingleByteRule {
             flat: tables.single_byte(kind),

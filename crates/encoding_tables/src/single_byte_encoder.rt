@@ -4,13 +4,14 @@
 ghost use Rattle.std.specs.Prelude.{◌≡◌, ◌+◌, true, [], ◌∷◌};
 ghost use Rattle.std.specs.Option.{option_map};
 ghost use Rattle.encoding_mem.specs.Coding.{form_of_bytes};
-ghost use Rattle.encoding_mem.specs.EncoderRule.{IsFreshEncoder};
-ghost use Rattle.encoding_mem.specs.EncodedLength.{encoded_length_single_byte};
+ghost use Rattle.encoding_mem.specs.calls.EncoderRule.{IsFreshEncoder};
+ghost use Rattle.encoding_mem.specs.calls.EncodedLength.{encoded_length_single_byte};
 ghost use Rattle.encoding_tables.specs.EachByte.{form_by_byte};
-ghost use Rattle.encoding_tables.specs.IndexLists.{has, entries_of};
-ghost use Rattle.encoding_tables.specs.Kinds.{is_single_byte};
+ghost use Rattle.encoding_tables.specs.IndexLists.{has, index_entries};
+ghost use Rattle.encoding_tables.specs.Kinds.{is_single_byte_kind};
 ghost use Rattle.encoding_tables.specs.SingleByte.{single_byte_of_char, single_byte_coding};
-ghost use Rattle.encoding_tables.specs.laws.SingleByte.{single_byte_ascii, single_byte_fits, single_byte_laws};
+ghost use Rattle.encoding_tables.specs.laws.SingleByte.{single_byte_ascii, single_byte_fits};
+ghost use Rattle.encoding_tables.specs.laws.SingleByte.{single_byte_laws};
 
 use crate::flat::Flat;
 use crate::index_kind::IndexKind;
@@ -34,9 +35,9 @@ impl<'a> SingleByteEncoder<'a> {
     /// tests.
     pub fn new(tables: &'a Tables, kind: IndexKind) -> Self
         requires there { has tables.now kind ≡ true }
-        requires single { is_single_byte kind ≡ true }
+        requires single { is_single_byte_kind kind ≡ true }
         ensures { IsFreshEncoder (⟦<SingleByteEncoder<'a> as SourceEncoder>⟧.parts result) 1
-            (single_byte_coding (entries_of tables.now kind)) encoded_length_single_byte }
+            (single_byte_coding (index_entries tables.now kind)) encoded_length_single_byte }
     {
         SingleByteEncoder {
             flat: tables.single_byte(kind),

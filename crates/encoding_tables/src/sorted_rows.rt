@@ -2,7 +2,7 @@
 //! search looks at the rows of one first number alone.
 
 ghost use Rattle.std.specs.Prelude.{◌≡◌, List, ℕ};
-ghost use Rattle.encoding_tables.specs.SortedRows.{AreRising, IsRank, IsDirectory, IsSpan};
+ghost use Rattle.encoding_tables.specs.calls.SortedRows.{AreRising, IsRank, IsDirectory, IsSpan};
 
 use crate::search::search;
 use std::marker::Model;

@@ -2,8 +2,9 @@
 
 ghost use Rattle.std.specs.Prelude.{◌≡◌, ◌≢◌, ◌⊎◌, [], false, true, MatchOption, OnOk, OnErr};
 ghost use Rattle.std.specs.Prelude.{is_some};
-ghost use Rattle.encoding_tables.specs.Kinds.{is_ranges, is_single_byte, index_size};
-ghost use Rattle.encoding_tables.specs.IndexLists.{IndexLists, flat_of, has, entries_of, rows_of, AreAcceptedTables, AreTaken};
+ghost use Rattle.encoding_tables.specs.Kinds.{is_ranges, is_single_byte_kind, index_size};
+ghost use Rattle.encoding_tables.specs.IndexLists.{IndexLists, flat_of, has, index_entries};
+ghost use Rattle.encoding_tables.specs.IndexLists.{range_rows, AreAcceptedTables, AreTaken};
 ghost use Rattle.encoding_tables.specs.Accepted.{IsIndex};
 ghost use Rattle.encoding_tables.specs.PackedRows.{flat_list, PointersRise, PointersAreBelow};
 ghost use Rattle.encoding_tables.specs.TableFaults.{flat_fault, range_fault};
@@ -189,7 +190,7 @@ impl Tables {
     /// tested by `has`.
     pub fn ranges(&self) -> Ranges<'_>
         requires { has self.now IndexKind.Gb18030Ranges ≡ true }
-        ensures rows { rows_of self.now ≡ result }
+        ensures rows { range_rows self.now ≡ result }
         ensures scalars { HaveScalars result }
     {
         Ranges::new(self.rows())
@@ -198,7 +199,7 @@ impl Tables {
     // The list of a single-byte encoding that is there.
     pub(crate) fn single_byte(&self, kind: IndexKind) -> Flat<'_>
         requires there { has self.now kind ≡ true }
-        requires single { is_single_byte kind ≡ true }
+        requires single { is_single_byte_kind kind ≡ true }
         ensures entries { flat_of self.now kind ≡ Some result }
         ensures scalars { AreEntries result }
         ensures basic { AreBasic result }
@@ -213,7 +214,7 @@ impl Tables {
     pub fn value(&self, kind: IndexKind, pointer: u32) -> Option<char>
         requires there { has self.now kind ≡ true }
         requires listed { is_ranges kind ≡ false }
-        ensures { result ≡ value_of (entries_of self.now kind) pointer }
+        ensures { result ≡ value_of (index_entries self.now kind) pointer }
     {
         self.flat(kind).value(pointer)
     }
@@ -225,7 +226,7 @@ impl Tables {
     pub fn first_pointer(&self, kind: IndexKind, c: char, from: u32, to: u32) -> Option<u32>
         requires there { has self.now kind ≡ true }
         requires listed { is_ranges kind ≡ false }
-        ensures { result ≡ first_pointer (entries_of self.now kind) c from to }
+        ensures { result ≡ first_pointer (index_entries self.now kind) c from to }
     {
         self.flat(kind).first_pointer(c, from, to)
     }
@@ -236,7 +237,7 @@ impl Tables {
     pub fn last_pointer(&self, kind: IndexKind, c: char, from: u32, to: u32) -> Option<u32>
         requires there { has self.now kind ≡ true }
         requires listed { is_ranges kind ≡ false }
-        ensures { result ≡ last_pointer (entries_of self.now kind) c from to }
+        ensures { result ≡ last_pointer (index_entries self.now kind) c from to }
     {
         self.flat(kind).last_pointer(c, from, to)
     }
@@ -246,7 +247,7 @@ impl Tables {
     /// point"). The condition, that they are there, is tested by `has`.
     pub fn range_value(&self, pointer: u32) -> Option<char>
         requires { has self.now IndexKind.Gb18030Ranges ≡ true }
-        ensures { result ≡ range_value (rows_of self.now) pointer }
+        ensures { result ≡ range_value (range_rows self.now) pointer }
     {
         self.rows().value(pointer)
     }
@@ -257,7 +258,7 @@ impl Tables {
     /// the ranges are there, is tested by `has`.
     pub fn range_pointer(&self, c: char) -> Option<u32>
         requires { has self.now IndexKind.Gb18030Ranges ≡ true }
-        ensures { result ≡ range_pointer (rows_of self.now) c }
+        ensures { result ≡ range_pointer (range_rows self.now) c }
     {
         self.rows().pointer(c)
     }
@@ -278,7 +279,7 @@ impl Tables {
     // The rows of the ranges.
     fn rows(&self) -> &PackedRanges
         requires { has self.now IndexKind.Gb18030Ranges ≡ true }
-        ensures rows { rows_of self.now ≡ result.now }
+        ensures rows { range_rows self.now ≡ result.now }
         ensures taken { bad_row result.now ≡ None }
     {
         match &self.ranges {

@@ -2,12 +2,15 @@
 
 ghost use Rattle.std.proofs.Common.{refl, arith};
 ghost use Rattle.std.specs.Prelude.{◌≡◌, ◌<◌, Some};
-ghost use Rattle.encoding_mem.specs.laws.Pieces.{pieces_by-nil, pieces_by-whole, pieces_by-are_pieces};
-ghost use Rattle.encoding_mem.specs.Decoding.{IsFreshDecoder};
-ghost use Rattle.encoding_mem.specs.DecodedLength.{decoded_length, decoded_length_single_byte};
+ghost use Rattle.encoding_mem.specs.laws.Pieces.{pieces_by-nil, pieces_by-whole};
+ghost use Rattle.encoding_mem.specs.laws.Pieces.{pieces_by-are_pieces};
+ghost use Rattle.encoding_mem.specs.calls.Decoding.{IsFreshDecoder};
+ghost use Rattle.encoding_mem.specs.calls.DecodedLength.{decoded_length};
+ghost use Rattle.encoding_mem.specs.calls.DecodedLength.{decoded_length_single_byte};
 ghost use Rattle.encoding_mem.specs.laws.Shows.{decided_by};
 ghost use Rattle.encoding_tables.specs.UserDefined.{user_char_of_byte, pieces_user_defined};
-ghost use Rattle.encoding_tables.specs.laws.UserDefined.{cuts_user_defined, first_piece_user_defined};
+ghost use Rattle.encoding_tables.specs.laws.UserDefined.{cuts_user_defined};
+ghost use Rattle.encoding_tables.specs.laws.UserDefined.{first_piece_user_defined};
 
 use crate::each_byte_decoder::EachByteDecoder;
 use encoding_mem::RawDecoder;

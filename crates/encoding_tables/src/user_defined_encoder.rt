@@ -1,8 +1,8 @@
 //! The encoder of x-user-defined (the Encoding Standard, section 14.5.2, "x-user-defined encoder").
 
 ghost use Rattle.std.specs.Prelude.{◌≡◌};
-ghost use Rattle.encoding_mem.specs.EncoderRule.{IsFreshEncoder};
-ghost use Rattle.encoding_mem.specs.EncodedLength.{encoded_length_single_byte};
+ghost use Rattle.encoding_mem.specs.calls.EncoderRule.{IsFreshEncoder};
+ghost use Rattle.encoding_mem.specs.calls.EncodedLength.{encoded_length_single_byte};
 ghost use Rattle.encoding_tables.specs.EachByte.{form_by_byte};
 ghost use Rattle.encoding_tables.specs.laws.EachByte.{fits_by_byte};
 ghost use Rattle.encoding_tables.specs.UserDefined.{byte_of_user_char, user_defined_coding};

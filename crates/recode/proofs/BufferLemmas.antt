@@ -1,7 +1,7 @@
 -- Buffers and writers that are lent and given back.
 use Rattle.std.proofs.Common.{◌≡◌, ◌∙◌, arith, refl, sym, true≢false}
-use Rattle.recode.specs.Buffers.{AreEnough, KeepSizes, KeepsRoom, HoldsAnyCharacter, capacity, is_wide}
-use Rattle.recode.specs.Writers.{AreTheSame}
+use Rattle.recode.specs.calls.Buffers.{AreEnough, KeepSizes, KeepsRoom, HoldsAnyCharacter, capacity, is_wide}
+use Rattle.recode.specs.calls.Writers.{AreTheSame}
 use Rattle.recode.specs.declared.job.Buffers.{Buffers}
 use Rattle.recode.specs.declared.job.Pivot.{Pivot}
 use Rattle.recode.specs.declared.job.Pivot.TheVariants.{Utf8, Utf16}

@@ -2,18 +2,18 @@
 use Rattle.std.proofs.Common.{◌≡◌, ◌↔◌, ℕ, ◌+◌, ◌-◌, ◌*◌, ◌≤◌, ◌<◌, Bool, true, false, IsTrue, List, [], ◌∷◌, ◌++◌, length, drop, length-drop, refl, sym, ◌∙◌, ap, subst, arith}
 use Rattle.std.proofs.lemmas.Bool.{false≢true}
 use Rattle.encoding_mem.specs.Coding.{Coding, IsCoding, last_set}
-use Rattle.encoding_mem.specs.Decoding.{StateLaw}
+use Rattle.encoding_mem.specs.calls.Decoding.{StateLaw}
 use Rattle.encoding_mem.specs.declared.decoder_result.DecoderResult.TheVariants.{InputEmpty, OutputFull, Malformed}
-use Rattle.encoding_front.specs.Stream.{finishes}
-use Rattle.recode.specs.Chunk.{CanConvert, ConvertsTo, DecodesPart}
-use Rattle.recode.specs.Text.{EncodesText, TargetState, WritesMalformed, malformed_items, text_items, with_malformed}
-use Rattle.recode.specs.CodecCalls.{DecodeCallEndsWith}
-use Rattle.recode.specs.Policy.{form_of}
+use Rattle.encoding_front.specs.calls.Stream.{finishes}
+use Rattle.recode.specs.calls.Chunk.{CanConvert, ConvertsTo, DecodesPart}
+use Rattle.recode.specs.calls.Text.{EncodesText, TargetState, WritesMalformed, malformed_items, text_items, with_malformed}
+use Rattle.recode.specs.calls.CodecCalls.{DecodeCallEndsWith}
+use Rattle.recode.specs.Policy.{reference_form}
 use Rattle.recode.specs.State.{State, WillBeFaithful, to_write}
 use Rattle.recode.specs.Step.{Advances}
 use Rattle.recode.specs.Devices.{Written}
-use Rattle.recode.specs.TraceToWrite.{AreSound, trace_to_write}
-use Rattle.recode.specs.Verdict.{CanTell, IsFaithfulFor}
+use Rattle.recode.specs.calls.TraceToWrite.{AreSound, trace_to_write}
+use Rattle.recode.specs.calls.Verdict.{CanTell, IsFaithfulFor}
 use Rattle.recode.specs.Work.{IsCounted, TakesCalls}
 use Rattle.recode.specs.WrittenItems.{WritesItemsFor, WritesPrefixFor}
 use Rattle.recode.specs.declared.job.Fault.{Fault}
@@ -68,15 +68,15 @@ converts_under w w1 w2 s s1 last a b f p q =
 
 -- the state behind it, with the coding and the policy that it had before
 module _ (s s' : State) (target : s'.coding ≡ s.coding) (policy : s'.policy ≡ s.policy) where
-  to_write_is : (r : List ℕ) → trace_to_write (form_of s.policy) s'.decoder s.coding s'.set s'.counts r ≡ to_write s' r
+  to_write_is : (r : List ℕ) → trace_to_write (reference_form s.policy) s'.decoder s.coding s'.set s'.counts r ≡ to_write s' r
   to_write_is r =
-      ap (λ q. trace_to_write (form_of s.policy) s'.decoder q s'.set s'.counts r) (sym target)
-      ∙ ap (λ q. trace_to_write (form_of q) s'.decoder s'.coding s'.set s'.counts r) (sym policy)
+      ap (λ q. trace_to_write (reference_form s.policy) s'.decoder q s'.set s'.counts r) (sym target)
+      ∙ ap (λ q. trace_to_write (reference_form q) s'.decoder s'.coding s'.set s'.counts r) (sym policy)
 
-  will_be : (A : Type 0) (r : List ℕ) → A ↔ IsFaithfulFor (form_of s.policy) s'.verdict s.coding s'.set (s'.decoder.pieces r) → A ↔ WillBeFaithful s' r
+  will_be : (A : Type 0) (r : List ℕ) → A ↔ IsFaithfulFor (reference_form s.policy) s'.verdict s.coding s'.set (s'.decoder.pieces r) → A ↔ WillBeFaithful s' r
   will_be A r h =
-      subst (λ q. A ↔ IsFaithfulFor (form_of q) s'.verdict s'.coding s'.set (s'.decoder.pieces r)) (sym policy)
-      (subst (λ q. A ↔ IsFaithfulFor (form_of s.policy) s'.verdict q s'.set (s'.decoder.pieces r)) (sym target) h)
+      subst (λ q. A ↔ IsFaithfulFor (reference_form q) s'.verdict s'.coding s'.set (s'.decoder.pieces r)) (sym policy)
+      (subst (λ q. A ↔ IsFaithfulFor (reference_form s.policy) s'.verdict q s'.set (s'.decoder.pieces r)) (sym target) h)
 
 -- the part of a state that does not speak of the decoder
 abbrev pub writing_of : State → TargetState
@@ -99,10 +99,10 @@ module _ (w w' : Written) (s s' : State) (src : List ℕ) (last : Bool) (read ca
     (source : (r : List ℕ) → (last ≡ true → r ≡ []) → s.source (src ++ r) ≡ s'.source (drop read src ++ r)) (one : IsCounted 1 1 s.counts.calls calls) where
   -- a text was written
   text_converts : (ended : Bool) (n : ℕ) → n ≤ 1 → (k : WellFormedCall s.decoder s'.decoder src last read t) (e : EncodesText w w' (after_call s read calls) (writing_of s') ended t)
-      → ((r : List ℕ) → (last ≡ true → r ≡ []) → to_write s (src ++ r) ≡ text_items (writing_of s) ended t ++ trace_to_write (form_of s.policy) s'.decoder s.coding s'.set s'.counts (drop read src ++ r))
+      → ((r : List ℕ) → (last ≡ true → r ≡ []) → to_write s (src ++ r) ≡ text_items (writing_of s) ended t ++ trace_to_write (reference_form s.policy) s'.decoder s.coding s'.set s'.counts (drop read src ++ r))
       → (IsTrue ended → (r : List ℕ) → (last ≡ true → r ≡ []) → s'.decoder.pieces (drop read src ++ r) ≡ [])
       → (last ≡ false → s'.set ≡ last_set s.coding s.set t)
-      → ((r : List ℕ) → (last ≡ true → r ≡ []) → TakesCalls (3 * n) s.counts s'.counts (to_write s (src ++ r)) (trace_to_write (form_of s.policy) s'.decoder s.coding s'.set s'.counts (drop read src ++ r)))
+      → ((r : List ℕ) → (last ≡ true → r ≡ []) → TakesCalls (3 * n) s.counts s'.counts (to_write s (src ++ r)) (trace_to_write (reference_form s.policy) s'.decoder s.coding s'.set s'.counts (drop read src ++ r)))
       → ConvertsTo w w' s s' last src (drop read src) n
   text_converts ended n few k e owed none set takes =
       let f = e.encodes in
@@ -117,7 +117,7 @@ module _ (w w' : Written) (s s' : State) (src : List ℕ) (last : Bool) (read ca
         pays = WritesItemsFor-of w w' (record s.counts { read = s.counts.read + read; calls = calls }) s.counts s'.counts s.policy last (text_items (writing_of s) ended t) (λ r. to_write s (src ++ r)) (λ r. to_write s' (drop read src ++ r)) refl refl (text_pays w w' (after_call s read calls) (writing_of s') ended t e need law)
             (λ r h. owed r h ∙ ap (λ l. text_items (writing_of s) ended t ++ l) (same (drop read src ++ r)));
         verdict = λ r h. will_be s s' f.target f.policy (WillBeFaithful s (src ++ r)) (drop read src ++ r)
-            (well_formed_verdict (form_of s.policy) s.decoder s'.decoder src last read t s.coding s.verdict s'.verdict s.set s'.set k ended f.verdict none r h);
+            (well_formed_verdict (reference_form s.policy) s.decoder s'.decoder src last read t s.coding s.verdict s'.verdict s.set s'.set k ended f.verdict none r h);
         calls = λ r h. subst (λ l. TakesCalls (3 * n) s.counts s'.counts (to_write s (src ++ r)) l) (same (drop read src ++ r)) (takes r h);
         least = λ under.
             let later = f.least under in
@@ -137,7 +137,7 @@ module _ (w w' : Written) (s s' : State) (src : List ℕ) (last : Bool) (read ca
       let index : s'.counts.index ≡ s.counts.index + length t = omega (arith, f.index) in
       let k = empty_call s.decoder s'.decoder src last read W t call is_text in
       let none : last ≡ true → s'.decoder.pieces [] ≡ [] = end_none last ends.1 in
-      let owed = ended_owed (form_of s.policy) s.decoder s'.decoder src last read t k s.coding s.set s'.set s.counts s'.counts law (omega (arith, ready.sound.index)) ends.0 none set e.done.closed index f.read in
+      let owed = ended_owed (reference_form s.policy) s.decoder s'.decoder src last read t k s.coding s.set s'.set s.counts s'.counts law (omega (arith, ready.sound.index)) ends.0 none set e.done.closed index f.read in
       let c = text_converts last 1 (omega arith) k e owed (λ end r h. ap s'.decoder.pieces (rw (ends.0, h end) refl) ∙ none end) set
       (end_calls s.counts s'.counts calls last _ _ _ owed one.at_most (text_calls w w' (after_call s read calls) (writing_of s') last t e) (omega (arith, index))) in
       record {
@@ -149,8 +149,8 @@ module _ (w w' : Written) (s s' : State) (src : List ℕ) (last : Bool) (read ca
           record {
             settled = settled_of s'.decoder last ends.1;
             ready = λ on. ready_behind f.target (finished ∙ ap (λ b. finishes b InputEmpty) on) c.sound (text_tells w w' (after_call s read calls) (writing_of s') last t e on);
-            end = λ end. sym (to_write_is s s' f.target f.policy []) ∙ none_owed (form_of s.policy) s'.decoder s.coding s'.set s'.counts law (e.done.closed end) (none end);
-            told = λ end. rw (f.target, f.policy) (verdict_told (form_of s.policy) s.coding need law s'.verdict s'.set (s'.decoder.pieces []) (none end) (e.done.closed end) (e.done.told end));
+            end = λ end. sym (to_write_is s s' f.target f.policy []) ∙ none_owed (reference_form s.policy) s'.decoder s.coding s'.set s'.counts law (e.done.closed end) (none end);
+            told = λ end. rw (f.target, f.policy) (verdict_told (reference_form s.policy) s.coding need law s'.verdict s'.set (s'.decoder.pieces []) (none end) (e.done.closed end) (e.done.told end));
           },
         );
       }
@@ -164,7 +164,7 @@ module _ (w w' : Written) (s s' : State) (src : List ℕ) (last : Bool) (read ca
       let index : s'.counts.index ≡ s.counts.index + length t = omega (arith, f.index) in
       let k = full_call s.decoder s'.decoder src last read W t call is_text in
       let text = full_some s.decoder s'.decoder src last read W t OutputFull call is_text some in
-      let owed = full_owed (form_of s.policy) s.decoder s'.decoder src last read t k s.coding s.set s'.set s.counts s'.counts (omega (arith, ready.sound.index)) set index f.read in
+      let owed = full_owed (reference_form s.policy) s.decoder s'.decoder src last read t k s.coding s.set s'.set s.counts s'.counts (omega (arith, ready.sound.index)) set index f.read in
       let c = text_converts false 0 (omega arith) k e owed (λ never. absurd (false≢true never)) (λ on. set)
       (full_calls s.counts s'.counts calls last _ _ _ owed one.at_most (text_calls w w' (after_call s read calls) (writing_of s') false t e) (omega (arith, index, text))) in
       record {
@@ -187,7 +187,7 @@ module _ (w w' : Written) (s s' : State) (src : List ℕ) (last : Bool) (read ca
       let set2 : s'.set ≡ s.coding.set t1.set 0xFFFD = text_set f.between w' (with_malformed t2) (writing_of s') false (0xFFFD ∷ []) f.text refl in
       let index1 : t1.counts.index ≡ s.counts.index + length t = omega (arith, e.index) in
       let index2 : s'.counts.index ≡ t1.counts.index + 1 = omega (arith, g.index) in
-      let owed = malformed_owed s.decoder s'.decoder src last read a b t k (form_of s.policy) s.coding s.set t1.set s'.set s.counts t1.counts s'.counts offset (omega (arith, ready.sound.index)) (omega (arith, at, e.read)) set1 index1 set2 index2 (g.read ∙ e.read) in
+      let owed = malformed_owed s.decoder s'.decoder src last read a b t k (reference_form s.policy) s.coding s.set t1.set s'.set s.counts t1.counts s'.counts offset (omega (arith, ready.sound.index)) (omega (arith, at, e.read)) set1 index1 set2 index2 (g.read ∙ e.read) in
       let same = to_write_is s s' g.target g.policy in
       let takes = malformed_calls s.counts t1.counts s'.counts calls last _ _ _ _ _ owed one.at_most (text_calls w w1 (after_call s read calls) t1 false t e0) (omega (arith, index1)) (malformed_line_calls w1 w' t2 (writing_of s') offset a f) index2 in
       let c : ConvertsTo w w' s s' last src (drop read src) 0 = record {
@@ -200,7 +200,7 @@ module _ (w w' : Written) (s s' : State) (src : List ℕ) (last : Bool) (read ca
             (WritesItems-join w w1 w' (record s.counts { read = s.counts.read + read; calls = calls }) t1.counts s'.counts s.policy _ _ (text_pays w w1 (after_call s read calls) t1 false t e0 need law) (malformed_pays w1 w' t2 (writing_of s') offset a f need law))
             (λ r h. owed r h ∙ ap (λ l. (text_items (writing_of s) false t ++ malformed_items (record t1 { coding = s.coding; policy = s.policy }) offset a) ++ l) (same (drop read src ++ r)));
         verdict = λ r h. will_be s s' g.target g.policy (WillBeFaithful s (src ++ r)) (drop read src ++ r)
-            (malformed_verdict (form_of s.policy) s.decoder s'.decoder src last read t s.coding s.verdict s'.verdict s.set s'.set a b k (g.stays refl) r h);
+            (malformed_verdict (reference_form s.policy) s.decoder s'.decoder src last read t s.coding s.verdict s'.verdict s.set s'.set a b k (g.stays refl) r h);
         calls = λ r h. subst (λ l. TakesCalls 0 s.counts s'.counts (to_write s (src ++ r)) l) (same (drop read src ++ r)) (takes r h);
         least = λ under.
             let line = g.least under in

@@ -3,15 +3,15 @@ use Rattle.std.proofs.Common.{◌≡◌, ◌⊎◌, ℕ, Bool, true, false, List
 use Rattle.std.specs.Bool.{MatchBool}
 use Rattle.std.proofs.lemmas.Bool.{false≢true}
 use Rattle.std.proofs.lemmas.List.{append_cancel_left}
-use Rattle.encoding_mem.specs.Decoding.{DecoderState, StateLaw, Waits}
+use Rattle.encoding_mem.specs.calls.Decoding.{DecoderState, StateLaw, Waits}
 use Rattle.encoding_mem.specs.Piece.{Piece, malformed, scalars, text, AreWellFormed}
-use Rattle.encoding_mem.specs.ReadCalls.{AreRead, HasTakenPart}
+use Rattle.encoding_mem.specs.calls.ReadCalls.{AreRead, HasTakenPart}
 use Rattle.encoding_mem.specs.laws.Agreement.{well_formed_parts}
 use Rattle.encoding_mem.specs.laws.Piece.{AreWellFormed-append, text-append}
 use Rattle.encoding_mem.specs.laws.Verdict.{part_begins, part_ends, part_is_decided}
 use Rattle.encoding_mem.specs.declared.decoder_result.DecoderResult.{DecoderResult}
 use Rattle.encoding_mem.specs.declared.decoder_result.DecoderResult.TheVariants.{InputEmpty, OutputFull, Malformed}
-use Rattle.recode.specs.Verdict.{ReadsAsOther, ReadsAsText}
+use Rattle.recode.specs.calls.Verdict.{ReadsAsOther, ReadsAsText}
 use Rattle.recode.proofs.DecoderCallLemmas.{empty_call, full_call, malformed_call, IsText, MalformedCall, WellFormedCall}
 
 -- Of bytes that were written for a text, some were read: they are the text, up to what is expected yet.

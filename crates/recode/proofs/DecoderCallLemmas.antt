@@ -5,15 +5,15 @@ use lib.Utf8.{scalar}
 use Rattle.std.proofs.lemmas.Bool.{false≢true}
 use Rattle.std.specs.Str.{chars, all_scalars}
 use Rattle.encoding_mem.specs.declared.reference.Reference.{Reference}
-use Rattle.encoding_mem.specs.Piece.{Piece, well_formed, malformed, scalars_of, sizes, scalars, AreWellFormed, ArePieces, piece_len}
+use Rattle.encoding_mem.specs.Piece.{Piece, well_formed, malformed, piece_scalars, sizes, scalars, AreWellFormed, ArePieces, piece_len}
 use Rattle.encoding_mem.specs.Coding.{Coding, last_set, IsCoding}
 use Rattle.encoding_mem.specs.Items.{Item, Byte, MalformedAt, open_items, whole_items, closing, trace_from}
 use Rattle.encoding_mem.specs.declared.form.EscapeState.{EscapeState}
-use Rattle.encoding_mem.specs.Decoding.{DecoderState, Takes, StateLaw}
+use Rattle.encoding_mem.specs.calls.Decoding.{DecoderState, Takes, StateLaw}
 use Rattle.encoding_mem.specs.declared.form.EscapeState.TheVariants.{Ascii}
 use Rattle.encoding_mem.specs.declared.decoder_result.DecoderResult.{DecoderResult}
 use Rattle.encoding_mem.specs.declared.decoder_result.DecoderResult.TheVariants.{InputEmpty, OutputFull, Malformed}
-use Rattle.recode.specs.TraceToWrite.{trace_to_write, AreSound}
+use Rattle.recode.specs.calls.TraceToWrite.{trace_to_write, AreSound}
 use Rattle.recode.specs.declared.target.Counts.{Counts}
 
 -- of texts in a row
@@ -71,7 +71,7 @@ all_scalars-append (c ∷ a) b h k =
 
 pub scalars_are : (ps : List Piece) → ArePieces ps → all_scalars (scalars ps) ≡ true
 scalars_are [] h = refl
-scalars_are (p ∷ ps) h = all_scalars-append (scalars_of p) (scalars ps) h.0.are_scalars (scalars_are ps h.1)
+scalars_are (p ∷ ps) h = all_scalars-append (piece_scalars p) (scalars ps) h.0.are_scalars (scalars_are ps h.1)
 
 pub sizes-append : (a b : List Piece) → sizes (a ++ b) ≡ sizes a + sizes b
 sizes-append [] b = omega arith
@@ -79,7 +79,7 @@ sizes-append (p ∷ a) b = omega (arith, sizes-append a b)
 
 pub scalars-append : (a b : List Piece) → scalars (a ++ b) ≡ scalars a ++ scalars b
 scalars-append [] b = refl
-scalars-append (p ∷ a) b = ap (λ x. scalars_of p ++ x) (scalars-append a b) ∙ sym (append_assoc (scalars_of p) (scalars a) (scalars b))
+scalars-append (p ∷ a) b = ap (λ x. piece_scalars p ++ x) (scalars-append a b) ∙ sym (append_assoc (piece_scalars p) (scalars a) (scalars b))
 
 -- U+FFFD
 pub replacement_text : chars (239 ∷ 191 ∷ 189 ∷ []) ≡ 0xFFFD ∷ []

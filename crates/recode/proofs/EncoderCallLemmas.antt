@@ -4,7 +4,7 @@ use Rattle.std.proofs.lemmas.List.{length-map, length-take-le}
 use Rattle.encoding_mem.specs.declared.reference.Reference.{Reference}
 use Rattle.encoding_mem.specs.Coding.{Coding, IsCoding}
 use Rattle.encoding_mem.specs.Items.{Item, Byte, whole_items}
-use Rattle.encoding_mem.specs.Encoding.{Encodes, reported_item}
+use Rattle.encoding_mem.specs.calls.EncoderCalls.{Encodes, reported_item}
 use Rattle.encoding_mem.specs.laws.Encoding.{encoded_items}
 use Rattle.encoding_mem.specs.declared.form.EscapeState.{EscapeState}
 use Rattle.encoding_mem.specs.declared.encoder_result.EncoderResult.{EncoderResult}

@@ -11,11 +11,11 @@ use Rattle.encoding_front.specs.Encodings.{IsUtf8Encoding, KeepsCharacters}
 use Rattle.encoding_front.specs.Marks.{marked_pieces}
 use Rattle.encoding_front.specs.declared.mark.Mark.TheVariants.{Keep}
 use Rattle.encoding_front.specs.laws.Encodings.{pieces_of_utf8, coding_of_utf8}
-use Rattle.encoding_mem.specs.Text.{text_pieces}
+use Rattle.encoding_mem.specs.calls.TextRun.{text_pieces}
 use Rattle.encoding_mem.specs.Utf8.{first_piece_utf8, pieces_utf8}
 use Rattle.encoding_mem.specs.laws.Utf8.{pieces_utf8-text}
 use Rattle.encoding_mem.specs.laws.Pieces.{pieces_by-nil}
-use Rattle.recode.specs.Policy.{form_of}
+use Rattle.recode.specs.Policy.{reference_form}
 use Rattle.recode.specs.TaggedByte.{IsPrefix, tagged}
 use Rattle.recode.specs.Job.{IsValidJob, Faithful, input_pieces, input_text, target_of, output_of, log_of, trace}
 use Rattle.recode.specs.Session.{Completes, Fails, IsConverted}
@@ -46,7 +46,7 @@ in_utf8 j x to = subst (λ e. AllMapped e (input_text j x)) (sym (coding_of_utf8
 
 pub kept_output : (j : Job) (x : List ℕ) → j.mark ≡ Keep → IsUtf8Encoding j.from → IsUtf8Encoding j.to → IsUtf8 x → output_of j x ≡ x
 kept_output j x kept from to u =
-    output_where_spared j x (mapped_through j x (in_utf8 j x to)) ∙ ap (λ e. output (form_of j.policy) e (input_text j x)) (coding_of_utf8 j.tables.now j.to to) ∙ utf8_output (form_of j.policy) (input_text j x)
+    output_where_spared j x (mapped_through j x (in_utf8 j x to)) ∙ ap (λ e. output (reference_form j.policy) e (input_text j x)) (coding_of_utf8 j.tables.now j.to to) ∙ utf8_output (reference_form j.policy) (input_text j x)
     ∙ ap encode_utf8_all (ap text (text_is j x kept from u) ∙ text_pieces-text (chars x)) ∙ encodes-chars x u
 
 pub kept_log : (j : Job) (x : List ℕ) → j.mark ≡ Keep → IsUtf8Encoding j.from → IsUtf8Encoding j.to → IsUtf8 x → log_of j x ≡ []

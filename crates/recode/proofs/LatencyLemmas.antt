@@ -7,24 +7,25 @@ use Rattle.std.proofs.lemmas.Bool.{false≢true}
 use Rattle.std.proofs.lemmas.Grind.{flat_map-append}
 use Rattle.std.proofs.lemmas.List.{append_cancel_right}
 use Rattle.encoding_mem.specs.declared.reference.Reference.{Reference}
-use Rattle.encoding_mem.specs.Piece.{ArePieces, Piece, well_formed, malformed, sizes, scalars, text, text_of, first, AreWellFormed}
-use Rattle.encoding_mem.specs.Decoding.{AreBytes, DecoderState, IsDecided, IsFixed, Waits}
+use Rattle.encoding_mem.specs.Piece.{ArePieces, Piece, well_formed, malformed, sizes, scalars, text, piece_text, head_piece, AreWellFormed}
+use Rattle.encoding_mem.specs.calls.Decoding.{DecoderState, Waits}
 use Rattle.encoding_mem.specs.Coding.{Coding, last_set, open_from, whole_from}
 use Rattle.encoding_mem.specs.Items.{Item, trace_from}
 use Rattle.encoding_mem.specs.declared.form.EscapeState.{EscapeState}
 use Rattle.encoding_mem.specs.declared.form.EscapeState.TheVariants.{Ascii}
+use Rattle.encoding_mem.specs.Decided.{AreBytes, IsDecided, IsFixed}
 use Rattle.recode_log.specs.Line.{line_bytes}
 use Rattle.recode_log.specs.declared.line.LogLine.{LogLine}
 use Rattle.recode_log.specs.declared.line.LogLine.TheVariants.{Bad}
-use Rattle.recode.specs.Job.{input_pieces, log_lines, lost_in, target_of}
-use Rattle.recode.specs.Chunk.{DecodesChunk}
+use Rattle.recode.specs.Job.{input_pieces, log_lines, lost_log_lines, target_of}
+use Rattle.recode.specs.calls.Chunk.{DecodesChunk}
 use Rattle.recode.specs.Latency.{StandsAt, WroteDecided}
-use Rattle.recode.specs.Policy.{form_of}
+use Rattle.recode.specs.Policy.{reference_form}
 use Rattle.recode.specs.State.{State}
 use Rattle.recode.specs.Step.{Advances, HasRun, IsNearlyDecided, StepsOn}
 use Rattle.recode.specs.Devices.{Devices, KeepsWritten, Written}
-use Rattle.recode.specs.TaggedByte.{IsPrefix, lines, tagged, outputs}
-use Rattle.recode.specs.TraceToWrite.{AreSound, trace_to_write}
+use Rattle.recode.specs.TaggedByte.{IsPrefix, log_bytes, tagged, output_bytes}
+use Rattle.recode.specs.calls.TraceToWrite.{AreSound, trace_to_write}
 use Rattle.recode.specs.Session.{IsNewSession, View}
 use Rattle.recode.specs.declared.target.Counts.{Counts}
 use Rattle.recode.specs.declared.job.Job.{Job}
@@ -35,7 +36,7 @@ use Rattle.recode.proofs.TraceLemmas.{lines-append, tagged-append, outputs-appen
 -- The text of pieces in a row.
 pub text-append : (a b : List Piece) → text (a ++ b) ≡ text a ++ text b
 text-append [] b = refl
-text-append (p ∷ a) b = ap (λ x. text_of p ++ x) (text-append a b) ∙ sym (append_assoc (text_of p) (text a) (text b))
+text-append (p ∷ a) b = ap (λ x. piece_text p ++ x) (text-append a b) ∙ sym (append_assoc (piece_text p) (text a) (text b))
 
 text_well_formed : (ps : List Piece) → AreWellFormed ps → text ps ≡ scalars ps
 text_well_formed [] h = refl
@@ -87,15 +88,15 @@ log_lines-append e offset i [] b = ap (λ (n : ℕ). log_lines e n i b) (sym (ad
 log_lines-append e offset i (well_formed n cs ∷ a) b =
     let at : offset + n + sizes a ≡ offset + (n + sizes a) = omega arith in
     let index : i + length cs + length (text a) ≡ i + length (cs ++ text a) = omega (arith, length-append cs (text a)) in
-    ap (λ x. lost_in e i cs ++ x)
+    ap (λ x. lost_log_lines e i cs ++ x)
     (log_lines-append e (offset + n) (i + length cs) a b
     ∙ ap (λ (k : ℕ). log_lines e (offset + n) (i + length cs) a ++ log_lines e k (i + length cs + length (text a)) b) at
     ∙ ap (λ (k : ℕ). log_lines e (offset + n) (i + length cs) a ++ log_lines e (offset + (n + sizes a)) k b) index)
-    ∙ sym (append_assoc (lost_in e i cs) (log_lines e (offset + n) (i + length cs) a) (log_lines e (offset + (n + sizes a)) (i + length (cs ++ text a)) b))
+    ∙ sym (append_assoc (lost_log_lines e i cs) (log_lines e (offset + n) (i + length cs) a) (log_lines e (offset + (n + sizes a)) (i + length (cs ++ text a)) b))
 log_lines-append e offset i (malformed n ∷ a) b =
     let at : offset + n + sizes a ≡ offset + (n + sizes a) = omega arith in
     let index : i + 1 + length (text a) ≡ i + suc (length (text a)) = omega arith in
-    let lost : List LogLine = lost_in e i (0xFFFD ∷ []) in
+    let lost : List LogLine = lost_log_lines e i (0xFFFD ∷ []) in
     ap (λ x. Bad offset n ∷ (lost ++ x))
     (log_lines-append e (offset + n) (i + 1) a b
     ∙ ap (λ (k : ℕ). log_lines e (offset + n) (i + 1) a ++ log_lines e k (i + 1 + length (text a)) b) at
@@ -114,25 +115,25 @@ log_bytes-append e offset i offset1 i1 a b at index =
 module _ (ref : Reference) (e : Coding) (s s1 : EscapeState) (offset i offset1 i1 : ℕ) (taken qs : List Piece) (written_items : List Item)
     (set_is : s1 ≡ last_set e s (text taken)) (offset_is : offset1 ≡ offset + sizes taken) (index_is : i1 ≡ i + length (text taken))
     (is : trace_from ref e s offset i (taken ++ qs) ≡ written_items ++ trace_from ref e s1 offset1 i1 qs) where
-  paid_output : outputs (tagged written_items) ≡ open_from ref e s (text taken)
+  paid_output : output_bytes (tagged written_items) ≡ open_from ref e s (text taken)
   paid_output =
-      let all : open_from ref e s (text taken) ++ whole_from ref e s1 (text qs) ≡ outputs (tagged written_items) ++ whole_from ref e s1 (text qs) =
+      let all : open_from ref e s (text taken) ++ whole_from ref e s1 (text qs) ≡ output_bytes (tagged written_items) ++ whole_from ref e s1 (text qs) =
       ap (λ (q : EscapeState). open_from ref e s (text taken) ++ whole_from ref e q (text qs)) set_is
       ∙ sym (whole_from-append _ e s (text taken) (text qs)) ∙ ap (whole_from ref e s) (sym (text-append taken qs))
-      ∙ sym (outputs-trace _ e s offset i (taken ++ qs)) ∙ ap (λ k. outputs (tagged k)) is
-      ∙ ap outputs (tagged-append written_items (trace_from ref e s1 offset1 i1 qs)) ∙ outputs-append (tagged written_items) (tagged (trace_from ref e s1 offset1 i1 qs))
-      ∙ ap (λ x. outputs (tagged written_items) ++ x) (outputs-trace _ e s1 offset1 i1 qs) in
-      sym (append_cancel_right (open_from ref e s (text taken)) (outputs (tagged written_items)) (whole_from ref e s1 (text qs)) all)
+      ∙ sym (outputs-trace _ e s offset i (taken ++ qs)) ∙ ap (λ k. output_bytes (tagged k)) is
+      ∙ ap output_bytes (tagged-append written_items (trace_from ref e s1 offset1 i1 qs)) ∙ outputs-append (tagged written_items) (tagged (trace_from ref e s1 offset1 i1 qs))
+      ∙ ap (λ x. output_bytes (tagged written_items) ++ x) (outputs-trace _ e s1 offset1 i1 qs) in
+      sym (append_cancel_right (open_from ref e s (text taken)) (output_bytes (tagged written_items)) (whole_from ref e s1 (text qs)) all)
 
-  paid_lines : lines (tagged written_items) ≡ flat_map line_bytes (log_lines e offset i taken)
+  paid_lines : log_bytes (tagged written_items) ≡ flat_map line_bytes (log_lines e offset i taken)
   paid_lines =
       let own : List ℕ = flat_map line_bytes (log_lines e offset i taken) in
       let rest : List ℕ = flat_map line_bytes (log_lines e offset1 i1 qs) in
-      let all : own ++ rest ≡ lines (tagged written_items) ++ rest =
-      sym (log_bytes-append e offset i offset1 i1 taken qs offset_is index_is) ∙ sym (lines-trace _ e s offset i (taken ++ qs)) ∙ ap (λ k. lines (tagged k)) is
-      ∙ ap lines (tagged-append written_items (trace_from ref e s1 offset1 i1 qs)) ∙ lines-append (tagged written_items) (tagged (trace_from ref e s1 offset1 i1 qs))
-      ∙ ap (λ x. lines (tagged written_items) ++ x) (lines-trace _ e s1 offset1 i1 qs) in
-      sym (append_cancel_right own (lines (tagged written_items)) rest all)
+      let all : own ++ rest ≡ log_bytes (tagged written_items) ++ rest =
+      sym (log_bytes-append e offset i offset1 i1 taken qs offset_is index_is) ∙ sym (lines-trace _ e s offset i (taken ++ qs)) ∙ ap (λ k. log_bytes (tagged k)) is
+      ∙ ap log_bytes (tagged-append written_items (trace_from ref e s1 offset1 i1 qs)) ∙ lines-append (tagged written_items) (tagged (trace_from ref e s1 offset1 i1 qs))
+      ∙ ap (λ x. log_bytes (tagged written_items) ++ x) (lines-trace _ e s1 offset1 i1 qs) in
+      sym (append_cancel_right own (log_bytes (tagged written_items)) rest all)
 
 -- how many bytes were taken
 taken_sizes : (d d1 : DecoderState) (chunk : List ℕ) (taken : List Piece) → d.pieces (chunk ++ []) ≡ taken ++ d1.pieces [] → sizes taken + d1.pending ≡ d.pending + length chunk
@@ -152,10 +153,10 @@ steps_on before after limit s s1 chunk last read_in some within sound goes_on k 
     let qs = s1.decoder.pieces [] in
     let counted : s1.counts.read ≡ s.counts.read + length chunk = omega (arith, c.counted) in
     let offset_is : offset1 ≡ offset + sizes p.taken = omega (arith, taken_sizes s.decoder s1.decoder chunk p.taken (p.rest []), counted, sound.index) in
-    let is : trace_from (form_of s.policy) e s.set offset i (p.taken ++ qs) ≡ c.pays.written_items ++ trace_from (form_of s.policy) e s1.set offset1 i1 qs =
-    ap (trace_from (form_of s.policy) e s.set offset i) (sym (p.rest [])) ∙ c.pays.equals [] (λ _. refl)
-    ∙ ap (λ (q : Coding). c.pays.written_items ++ trace_from (form_of s1.policy) q s1.set offset1 i1 qs) c.target
-    ∙ ap (λ (q : Policy). c.pays.written_items ++ trace_from (form_of q) e s1.set offset1 i1 qs) c.policy in
+    let is : trace_from (reference_form s.policy) e s.set offset i (p.taken ++ qs) ≡ c.pays.written_items ++ trace_from (reference_form s.policy) e s1.set offset1 i1 qs =
+    ap (trace_from (reference_form s.policy) e s.set offset i) (sym (p.rest [])) ∙ c.pays.equals [] (λ _. refl)
+    ∙ ap (λ (q : Coding). c.pays.written_items ++ trace_from (reference_form s1.policy) q s1.set offset1 i1 qs) c.target
+    ∙ ap (λ (q : Policy). c.pays.written_items ++ trace_from (reference_form q) e s1.set offset1 i1 qs) c.policy in
     let none : (r : List ℕ) → last ≡ true → r ≡ [] = λ r h. absurd (false≢true (sym goes_on ∙ h)) in
     record {
       chunk = chunk;
@@ -168,8 +169,8 @@ steps_on before after limit s s1 chunk last read_in some within sound goes_on k 
       source = λ r. c.source r (none r);
       pays = record { written_items = c.pays.written_items; wrote = c.pays.wrote; counted = c.pays.counted; spared = c.pays.spared; equals = λ r h. c.pays.equals r (none r) };
       advances = p;
-      output = subst (Appends before.written.output after.written.output) (paid_output (form_of s.policy) e s.set s1.set offset i offset1 i1 p.taken qs c.pays.written_items p.set offset_is p.index is) c.pays.wrote.output;
-      logged = subst (Appends before.written.log after.written.log) (paid_lines (form_of s.policy) e s.set s1.set offset i offset1 i1 p.taken qs c.pays.written_items p.set offset_is p.index is) c.pays.wrote.lined;
+      output = subst (Appends before.written.output after.written.output) (paid_output (reference_form s.policy) e s.set s1.set offset i offset1 i1 p.taken qs c.pays.written_items p.set offset_is p.index is) c.pays.wrote.output;
+      logged = subst (Appends before.written.log after.written.log) (paid_lines (reference_form s.policy) e s.set s1.set offset i offset1 i1 p.taken qs c.pays.written_items p.set offset_is p.index is) c.pays.wrote.lined;
       settled = k.done.settled;
       verdict = λ r. c.verdict r (none r);
       calls = λ r. c.calls r (none r);
@@ -201,10 +202,10 @@ stands_on t t1 t2 j limit s s1 x ps k p =
     let coded : s.coding ≡ e = k.coding in
     let offset : s.counts.read - s.decoder.pending ≡ 0 + sizes ps = omega (arith, k.read, k.passed) in
     let index : s.counts.index ≡ 0 + length (text ps) = omega (arith, k.index) in
-    let more : Appends t1.written.output t2.written.output (open_from (form_of j.policy) e (last_set e Ascii (text ps)) (text taken)) =
-    subst (λ (q : EscapeState). Appends t1.written.output t2.written.output (open_from (form_of j.policy) e q (text taken))) k.set
-    (subst (λ (q : Coding). Appends t1.written.output t2.written.output (open_from (form_of j.policy) q s.set (text taken))) coded
-    (subst (λ (f : Policy). Appends t1.written.output t2.written.output (open_from (form_of f) s.coding s.set (text taken))) k.policy p.output)) in
+    let more : Appends t1.written.output t2.written.output (open_from (reference_form j.policy) e (last_set e Ascii (text ps)) (text taken)) =
+    subst (λ (q : EscapeState). Appends t1.written.output t2.written.output (open_from (reference_form j.policy) e q (text taken))) k.set
+    (subst (λ (q : Coding). Appends t1.written.output t2.written.output (open_from (reference_form j.policy) q s.set (text taken))) coded
+    (subst (λ (f : Policy). Appends t1.written.output t2.written.output (open_from (reference_form f) s.coding s.set (text taken))) k.policy p.output)) in
     let lined : Appends t1.written.log t2.written.log (flat_map line_bytes (log_lines e (s.counts.read - s.decoder.pending) s.counts.index taken)) =
     subst (λ (q : Coding). Appends t1.written.log t2.written.log (flat_map line_bytes (log_lines q (s.counts.read - s.decoder.pending) s.counts.index taken))) coded p.logged in
     record {
@@ -217,7 +218,7 @@ stands_on t t1 t2 j limit s s1 x ps k p =
       set = p.advances.set ∙ ap (λ (q : Coding). last_set q s.set (text taken)) coded ∙ ap (λ (q : EscapeState). last_set e q (text taken)) k.set
           ∙ sym (last_set-append e Ascii (text ps) (text taken)) ∙ ap (last_set e Ascii) (sym joined);
       index = omega (arith, k.index, p.advances.index, ap length joined, length-append (text ps) (text taken));
-      output = subst (Appends t.written.output t2.written.output) (sym (open_from-append _ e Ascii (text ps) (text taken)) ∙ ap (open_from (form_of j.policy) e Ascii) (sym joined))
+      output = subst (Appends t.written.output t2.written.output) (sym (open_from-append _ e Ascii (text ps) (text taken)) ∙ ap (open_from (reference_form j.policy) e Ascii) (sym joined))
           (Appends-trans t.written.output t1.written.output t2.written.output _ _ k.output more);
       logged = subst (Appends t.written.log t2.written.log) (sym (log_bytes-append e 0 0 (s.counts.read - s.decoder.pending) s.counts.index ps taken offset index))
           (Appends-trans t.written.log t1.written.log t2.written.log _ _ k.logged lined);
@@ -243,8 +244,8 @@ fixed t t1 j s x ps k y = (s.decoder.pieces y, k.pieces y)
 pub decided : (t t1 : Devices) (j : Job) (s : State) (x : List ℕ) (ps : List Piece) → StandsAt t t1 j s x ps → IsDecided (input_pieces j) x ps
 decided t t1 j s x ps k y bytes = fixed t t1 j s x ps k y
 
-begins_with : (d : List Piece) (p : Piece) (more : List Piece) → d ≡ p ∷ more → first d ≡ Some p
-begins_with d p more e = ap first e
+begins_with : (d : List Piece) (p : Piece) (more : List Piece) → d ≡ p ∷ more → head_piece d ≡ Some p
+begins_with d p more e = ap head_piece e
 
 same_start : (a : List Piece) (p q : Piece) (c d : List Piece) → a ++ (p ∷ c) ≡ a ++ (q ∷ d) → p ≡ q
 same_start [] p q c d e = cc
@@ -314,11 +315,11 @@ stands_run a b j v s n p =
     let set_is : s.set ≡ last_set e Ascii (text taken) = p.advances.set ∙ ap (λ (q : Coding). last_set q v.state.set (text taken)) n.coding ∙ ap (λ (q : EscapeState). last_set e q (text taken)) n.set in
     let index_is : s.counts.index ≡ 0 + length (text taken) = omega (arith, n.index, p.advances.index) in
     let offset_is : offset ≡ 0 + sizes taken = omega (arith, read, passed) in
-    let is : trace_from (form_of j.policy) e Ascii 0 0 (taken ++ qs) ≡ p.pays.written_items ++ trace_from (form_of j.policy) e s.set offset s.counts.index qs =
-    ap (trace_from (form_of j.policy) e Ascii 0 0) (sym (p.advances.rest []) ∙ n.pieces (p.chunk ++ []))
+    let is : trace_from (reference_form j.policy) e Ascii 0 0 (taken ++ qs) ≡ p.pays.written_items ++ trace_from (reference_form j.policy) e s.set offset s.counts.index qs =
+    ap (trace_from (reference_form j.policy) e Ascii 0 0) (sym (p.advances.rest []) ∙ n.pieces (p.chunk ++ []))
     ∙ sym (n.owes_trace (p.chunk ++ [])) ∙ p.pays.equals [] (λ _. refl)
-    ∙ ap (λ (q : Coding). p.pays.written_items ++ trace_to_write (form_of s.policy) s.decoder q s.set s.counts []) (p.target ∙ n.coding)
-    ∙ ap (λ (f : Policy). p.pays.written_items ++ trace_to_write (form_of f) s.decoder e s.set s.counts []) (p.policy ∙ n.policy) in
+    ∙ ap (λ (q : Coding). p.pays.written_items ++ trace_to_write (reference_form s.policy) s.decoder q s.set s.counts []) (p.target ∙ n.coding)
+    ∙ ap (λ (f : Policy). p.pays.written_items ++ trace_to_write (reference_form f) s.decoder e s.set s.counts []) (p.policy ∙ n.policy) in
     record {
       coding = p.target ∙ n.coding;
       policy = p.policy ∙ n.policy;
@@ -328,8 +329,8 @@ stands_run a b j v s n p =
       passed = passed;
       set = set_is;
       index = omega (arith, index_is);
-      output = subst (Appends a.written.output b.written.output) (paid_output (form_of j.policy) e Ascii s.set 0 0 offset s.counts.index taken qs p.pays.written_items set_is offset_is index_is is) p.pays.wrote.output;
-      logged = subst (Appends a.written.log b.written.log) (paid_lines (form_of j.policy) e Ascii s.set 0 0 offset s.counts.index taken qs p.pays.written_items set_is offset_is index_is is) p.pays.wrote.lined;
+      output = subst (Appends a.written.output b.written.output) (paid_output (reference_form j.policy) e Ascii s.set 0 0 offset s.counts.index taken qs p.pays.written_items set_is offset_is index_is is) p.pays.wrote.output;
+      logged = subst (Appends a.written.log b.written.log) (paid_lines (reference_form j.policy) e Ascii s.set 0 0 offset s.counts.index taken qs p.pays.written_items set_is offset_is index_is is) p.pays.wrote.lined;
     }
 
 -- All that the bytes read decide was written, and stays so where nothing is written after.

@@ -12,7 +12,7 @@ use Rattle.encoding_tables.specs.declared.table_fault.TableFault.{TableFault}
 use Rattle.encoding_tables.specs.declared.index_kind.IndexKind.{IndexKind}
 use Rattle.encoding_tables.specs.declared.index_kind.IndexKind.TheVariants.{Gb18030Ranges}
 use Rattle.encoding_front.specs.Encodings.{AreThere}
-use Rattle.encoding_index.specs.IndexText.{out_of_memory, text_list, text_rows}
+use Rattle.encoding_index.specs.IndexText.{memory_fault, text_list, text_rows}
 use Rattle.encoding_index.specs.declared.fault.IndexFault.{IndexFault}
 use Rattle.encoding_index.specs.declared.fault.LoadFault.{LoadFault}
 use Rattle.encoding_index.specs.declared.fault.LoadFault.TheVariants.{Text, Table}
@@ -62,13 +62,13 @@ no_fault None table h = refl
 no_fault (Some fault) table h = cc
 
 ended : {T : Type 0} (fault : Option LoadFault) (result : Result T LoadFault) (value : T) (Y : Type 0) → result ≡ Ok value
-    → MatchOption fault Y (λ f. (result ≡ Err f) ⊎ (result ≡ Err (Text out_of_memory))) → fault ≡ None
+    → MatchOption fault Y (λ f. (result ≡ Err f) ⊎ (result ≡ Err (Text memory_fault))) → fault ≡ None
 ended None result value Y ok h = refl
 ended (Some f) result value Y ok (inl h) = cc
 ended (Some f) result value Y ok (inr h) = cc
 
 pub load_met_no_fault : {T : Type 0} (old : IndexLists) (kind : IndexKind) (text : List ℕ) (result : Result T LoadFault) (value : T) (Y : Type 0) → result ≡ Ok value
-    → MatchOption (load_fault old kind text) Y (λ f. (result ≡ Err f) ⊎ (result ≡ Err (Text out_of_memory))) → text_fault kind text ≡ None
+    → MatchOption (load_fault old kind text) Y (λ f. (result ≡ Err f) ⊎ (result ≡ Err (Text memory_fault))) → text_fault kind text ≡ None
 unfolding load_fault
 load_met_no_fault old kind text result value Y ok h =
     no_fault (text_fault kind text) (table_fault old kind text) (ended (load_fault old kind text) result value Y ok h)

@@ -2,17 +2,17 @@
 use Rattle.std.proofs.Common.{◌≡◌, ◌↔◌, ℕ, Bool, true, IsTrue, List, [], refl, sym, ◌∙◌, ap, subst}
 use Rattle.encoding_mem.specs.Piece.{Piece}
 use Rattle.encoding_mem.specs.ReadBack.{ReadsAs}
-use Rattle.encoding_mem.specs.ReadCalls.{KeepsVerdict}
+use Rattle.encoding_mem.specs.calls.ReadCalls.{KeepsVerdict}
 use Rattle.encoding_mem.specs.laws.ReadCalls.{begins_along}
 use Rattle.encoding_mem.specs.declared.form.EscapeState.TheVariants.{Ascii}
 use Rattle.encoding_front.specs.Encodings.{KeepsCharacters, output_encoding_of, pieces_of, set_pieces_of}
-use Rattle.encoding_front.specs.Stream.{DecoderView, IsNewDecoder}
+use Rattle.encoding_front.specs.calls.Stream.{DecoderView, IsNewDecoder}
 use Rattle.encoding_front.specs.laws.Encoder.{coding_laws, kept_verdict}
 use Rattle.encoding_front.specs.laws.Encodings.{reads_by_step, set_pieces_anywhere, set_pieces_at_start}
 use Rattle.encoding_front.specs.declared.mark.Mark.TheVariants.{Keep}
 use Rattle.recode.specs.Job.{Faithful, IsValidJob, input_pieces, input_text, output_pieces, target_of}
-use Rattle.recode.specs.Policy.{form_of}
-use Rattle.recode.specs.Verdict.{CanTell, IsFaithfulFor, IsReadAlong, VerdictView}
+use Rattle.recode.specs.Policy.{reference_form}
+use Rattle.recode.specs.calls.Verdict.{CanTell, IsFaithfulFor, IsReadAlong, VerdictView}
 use Rattle.recode.specs.declared.job.Job.{Job}
 use Rattle.recode.proofs.StopLemmas.{mapped_where_faithful, mapped_where_read, output_where_mapped}
 
@@ -44,7 +44,7 @@ module _ (j : Job) (valid : IsValidJob j) (reader : DecoderView) (new : IsNewDec
   new_can_tell = record { open_ = new.open_; along = ∣ reads_along ∣₁ }
 
   -- what it will be is what the definition says
-  pub new_verdict : (x : List ℕ) (ps : List Piece) → ps ≡ input_pieces j x → IsFaithfulFor (form_of j.policy) (new_of reader by_log) (target_of j) Ascii ps ↔ Faithful j x
+  pub new_verdict : (x : List ℕ) (ps : List Piece) → ps ≡ input_pieces j x → IsFaithfulFor (reference_form j.policy) (new_of reader by_log) (target_of j) Ascii ps ↔ Faithful j x
   new_verdict x ps are = rw (are, reads_output) (
     λ h. let read = subst (λ y. ReadsAs (output_pieces j) y (input_text j x)) (sym (output_where_mapped j x valid (mapped_where_read j x valid h.2))) h.2 in
         record { source = h.1; target = read.well_formed; same = read.same },

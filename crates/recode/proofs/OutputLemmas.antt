@@ -15,11 +15,11 @@ use Rattle.encoding_front.specs.Encodings.{IsUtf8Encoding, coding_of, output_enc
 use Rattle.encoding_front.specs.laws.Input.{marked_scalars, recoded_at_once}
 use Rattle.encoding_front.specs.Marks.{marked_pieces, marked_text}
 use Rattle.encoding_front.specs.Codecs.{codec_of}
-use Rattle.recode.specs.Policy.{form_of}
+use Rattle.recode.specs.Policy.{reference_form}
 use Rattle.recode.specs.declared.job.Policy.{Policy}
 use Rattle.recode.specs.Job.{IsValidJob, Faithful, input_pieces, input_text, output_pieces, target_of, output_of, log_of, trace}
-use Rattle.recode.specs.WrittenItems.{lost_lines}
-use Rattle.recode.specs.ReadBack.{back, in_utf8}
+use Rattle.recode.specs.WrittenItems.{lost_line_count}
+use Rattle.recode.specs.ReadBackJobs.{back, in_utf8}
 use Rattle.recode.specs.Runs.{IsWholeOutput}
 use Rattle.recode.specs.Devices.{Written}
 use Rattle.recode.specs.Session.{IsReport, IsConverted}
@@ -36,7 +36,7 @@ valid_back j v = (record { tables = v.tables; from = v.to; to = tt; limit = v.li
 pub reads_back : (j : Job) (x : List ℕ) → Faithful j x → output_of (back j) (output_of j x) ≡ output_of (in_utf8 j) x
 reads_back j x f =
     output_where_spared (back j) (output_of j x) (mapped_through (back j) (output_of j x) (all_in_utf8 (text (output_pieces j (output_of j x)))))
-    ∙ ap (output (form_of j.policy) utf8_coding) f.same
+    ∙ ap (output (reference_form j.policy) utf8_coding) f.same
     ∙ sym (output_where_spared (in_utf8 j) x (mapped_through (in_utf8 j) x (all_in_utf8 (input_text j x))))
 
 -- nothing is lost of either
@@ -62,9 +62,9 @@ runs_read_back j x bytes again direct w w' v v' u u' p q r told k a l b m c =
 pub none_lost_in_utf8 : (j : Job) (x : List ℕ) → IsUtf8Encoding (output_encoding_of j.to) → lost_count (target_of j) (input_text j x) ≡ 0
 none_lost_in_utf8 j x h = ap (λ e. lost_count e (input_text j x)) (ap (λ k. (codec_of j.tables.now k).coding) h) ∙ utf8_lost_count (input_text j x)
 
-pub no_lost_lines : (j : Job) (x : List ℕ) → IsUtf8Encoding (output_encoding_of j.to) → lost_lines (trace j x) ≡ 0
+pub no_lost_lines : (j : Job) (x : List ℕ) → IsUtf8Encoding (output_encoding_of j.to) → lost_line_count (trace j x) ≡ 0
 no_lost_lines j x h =
-    ap lost_lines (trace_where_spared j x (runs_through j x (λ stops. none_lost_in_utf8 j x h))) ∙ lost_lines-trace (form_of j.policy) (target_of j) Ascii 0 0 (input_pieces j x) ∙ none_lost_in_utf8 j x h
+    ap lost_line_count (trace_where_spared j x (runs_through j x (λ stops. none_lost_in_utf8 j x h))) ∙ lost_lines-trace (reference_form j.policy) (target_of j) Ascii 0 0 (input_pieces j x) ∙ none_lost_in_utf8 j x h
 
 -- Where a character is lost, something is.
 pub lost_is_unfaithful : (j : Job) (x : List ℕ) → IsValidJob j → 0 < lost_count (target_of j) (input_text j x) → Faithful j x → ⊥
@@ -76,7 +76,7 @@ lost_is_told j x p v r some faithful = lost_is_unfaithful j x v (omega (arith, s
 -- Decoded at once, and then encoded at once.
 pub same_whole : (j : Job) (x decoded bytes : List ℕ) → IsValidJob j → j.policy ≡ Policy.Decimal → decoded ≡ encode_utf8_all (marked_text j.tables.now j.mark j.from x) → bytes ≡ output Decimal (coding_of j.tables.now j.to) (chars decoded) → bytes ≡ output_of j x
 same_whole j x decoded bytes v decimal is written =
-    written ∙ recoded_at_once j.tables.now j.mark j.from j.to x decoded v.tables is ∙ ap (λ (p : Policy). output (form_of p) (target_of j) (input_text j x)) (sym decimal)
+    written ∙ recoded_at_once j.tables.now j.mark j.from j.to x decoded v.tables is ∙ ap (λ (p : Policy). output (reference_form p) (target_of j) (input_text j x)) (sym decimal)
     ∙ sym (output_where_spared j x (λ stops. absurd (cc (sym decimal ∙ stops))))
 
 pub same_run : (j : Job) (x decoded bytes : List ℕ) (w w' : Written) (p : Report) → IsValidJob j → j.policy ≡ Policy.Decimal → decoded ≡ encode_utf8_all (marked_text j.tables.now j.mark j.from x) → bytes ≡ output Decimal (coding_of j.tables.now j.to) (chars decoded)

@@ -14,16 +14,16 @@ use Rattle.std.proofs.lemmas.Slice.Eq.{bytes_eq-Decides}
 use Rattle.std.proofs.lemmas.List.{append_cancel_left, take_at, take_rest, take-append-drop, length-take-le, append_assoc}
 use Rattle.std.proofs.lemmas.Str.{chars-append, chars-encodes, chars-nil, encodes-append, encodes-chars}
 use Rattle.encoding_mem.specs.Piece.{scalars}
-use Rattle.encoding_mem.specs.Decoding.{DecoderState, StateLaw, EndsWith}
-use Rattle.encoding_mem.specs.Writing.{Adds, encode_utf16_all}
+use Rattle.encoding_mem.specs.calls.Decoding.{DecoderState, StateLaw, EndsWith}
+use Rattle.encoding_mem.specs.calls.Writing.{Adds, encode_utf16_all}
 use Rattle.encoding_mem.specs.declared.decoder_result.DecoderResult.{DecoderResult}
 use Rattle.encoding_mem.specs.declared.decoder_result.DecoderResult.TheVariants.{InputEmpty, OutputFull, Malformed}
 use Rattle.encoding_mem.proofs.UnitPrefixLemmas.{char_of, one, pair_or_not, reads_text, two}
 use Rattle.encoding_mem.specs.laws.ReadCalls.{scalars_parts}
 use Rattle.encoding_mem.specs.laws.Writing.{encode_utf16_all-append}
 use Rattle.encoding_mem.proofs.Utf16Lemmas.{no_units}
-use Rattle.recode.specs.CodecCalls.{DecodeCallEndsWith}
-use Rattle.recode.specs.PivotText.{Holds}
+use Rattle.recode.specs.calls.CodecCalls.{DecodeCallEndsWith}
+use Rattle.recode.specs.calls.PivotText.{Holds}
 use Rattle.recode.specs.declared.job.Pivot.{Pivot}
 use Rattle.recode.specs.declared.job.Pivot.TheVariants.{Utf8, Utf16}
 

@@ -1,10 +1,10 @@
 -- Which policies write a reference, and of which form.
 use Rattle.std.proofs.Common.{◌≡◌, Some, None, refl}
 use Rattle.encoding_mem.specs.declared.reference.Reference.{Reference}
-use Rattle.recode.specs.Policy.{form_of, reference_of}
+use Rattle.recode.specs.Policy.{reference_form, reference_of}
 use Rattle.recode.specs.declared.job.Policy.{Policy}
 
-pub form_written : (p : Policy) (ref : Reference) → reference_of p ≡ Some ref → ref ≡ form_of p
+pub form_written : (p : Policy) (ref : Reference) → reference_of p ≡ Some ref → ref ≡ reference_form p
 form_written Policy.Decimal ref h = cc
 form_written Policy.Hexadecimal ref h = cc
 form_written Policy.Stop ref h = absurd cc

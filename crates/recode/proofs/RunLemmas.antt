@@ -7,16 +7,16 @@ use Rattle.encoding_front.specs.Encodings.{KeepsCharacters}
 use Rattle.encoding_front.specs.laws.Encodings.{reads_back_exactly}
 use Rattle.encoding_front.specs.laws.Input.{marked_scalars}
 use Rattle.encoding_mem.specs.ReadBack.{ReadsAs}
-use Rattle.recode.specs.TaggedByte.{TaggedByte, Wrote, IsPrefix, tagged, outputs, lines}
-use Rattle.recode.specs.WrittenItems.{IsLeft, IsSpared, bad_lines, lost_lines}
+use Rattle.recode.specs.TaggedByte.{TaggedByte, Wrote, IsPrefix, tagged, output_bytes, log_bytes}
+use Rattle.recode.specs.WrittenItems.{IsLeft, IsSpared, bad_line_count, lost_line_count}
 use Rattle.recode.specs.State.{WillBeFaithful, to_write}
-use Rattle.recode.specs.TraceToWrite.{AreSound}
+use Rattle.recode.specs.calls.TraceToWrite.{AreSound}
 use Rattle.recode.specs.Work.{TakesAtLeast, TakesCalls}
 use Rattle.recode.specs.Job.{IsValidJob, Faithful, input_pieces, output_pieces, input_text, target_of, log_of, output_of, trace, whole_trace}
 use Rattle.recode.specs.Latency.{WroteDecided}
-use Rattle.recode.specs.Policy.{form_of}
+use Rattle.recode.specs.Policy.{reference_form}
 use Rattle.recode.specs.Session.{View, IsNewSession, Tells, IsReport, Completes, Fails}
-use Rattle.recode.specs.Step.{Finishes, PassesLimit}
+use Rattle.recode.specs.Step.{Finishes, PassesLimitIfTooLong}
 use Rattle.recode.specs.Devices.{Devices}
 use Rattle.recode.specs.declared.job.Fault.{Fault}
 use Rattle.recode.specs.declared.job.Job.{Job}
@@ -42,7 +42,7 @@ well_formed_count (malformed n ∷ ps) h = absurd h.0
 -- nothing was lost where each piece is well-formed and each character has bytes, and only there
 pub faithful_where_kept : (j : Job) (x : List ℕ) → IsValidJob j → KeepsCharacters j.to → AreWellFormed (input_pieces j x) → AllMapped (target_of j) (input_text j x) → Faithful j x
 faithful_where_kept j x v keeps h k =
-    let back = (reads_back_exactly j.tables.now j.to keeps v.tables (form_of j.policy) (input_text j x) (marked_scalars j.tables.now j.mark j.from x v.tables)).1 k in
+    let back = (reads_back_exactly j.tables.now j.to keeps v.tables (reference_form j.policy) (input_text j x) (marked_scalars j.tables.now j.mark j.from x v.tables)).1 k in
     let read : ReadsAs (output_pieces j) (output_of j x) (input_text j x) =
     subst (λ y. ReadsAs (output_pieces j) y (input_text j x)) (sym (output_where_mapped j x v k)) (record { well_formed = back.well_formed; same = back.same }) in
     record { source = h; target = read.well_formed; same = read.same }
@@ -52,13 +52,13 @@ quiet_where_faithful j x v f = quiet_where_kept j x f.source (mapped_where_faith
 
 -- The report.
 is_report : (j : Job) (x : List ℕ) (v w : View) (p : Report) → IsNewSession v j → Tells w p → v.state.source x ≡ w.state.source [] → w.state.counts.read ≡ v.state.counts.read + length x
-    → w.state.counts.bad ≡ v.state.counts.bad + bad_lines (whole_trace j x) → w.state.counts.lost ≡ v.state.counts.lost + lost_lines (whole_trace j x) → WillBeFaithful v.state x ↔ IsTrue w.state.verdict.faithful
+    → w.state.counts.bad ≡ v.state.counts.bad + bad_line_count (whole_trace j x) → w.state.counts.lost ≡ v.state.counts.lost + lost_line_count (whole_trace j x) → WillBeFaithful v.state x ↔ IsTrue w.state.verdict.faithful
     → IsValidJob j → length x ≤ j.limit → TakesCalls (3 * length x + 3) v.state.counts w.state.counts (to_write v.state x) []
     → TakesAtLeast (3 * (w.state.counts.bad - v.state.counts.bad) + 2 * min 1 (length x) + 2) v.state.counts w.state.counts → AreSound w.state.decoder.pending w.state.counts → IsReport j x p
 is_report j x v w p b t same read_is malformed_is lost_is told valid within calls least sound =
     let e = target_of j in
-    let bads : p.bad ≡ malformed_count (input_pieces j x) = omega (arith, t.bad, malformed_is, b.bad, bad_lines-trace (form_of j.policy) e Ascii 0 0 (input_pieces j x)) in
-    let losts : p.lost ≡ lost_count e (input_text j x) = omega (arith, t.lost, lost_is, b.lost, lost_lines-trace (form_of j.policy) e Ascii 0 0 (input_pieces j x)) in
+    let bads : p.bad ≡ malformed_count (input_pieces j x) = omega (arith, t.bad, malformed_is, b.bad, bad_lines-trace (reference_form j.policy) e Ascii 0 0 (input_pieces j x)) in
+    let losts : p.lost ≡ lost_count e (input_text j x) = omega (arith, t.lost, lost_is, b.lost, lost_lines-trace (reference_form j.policy) e Ascii 0 0 (input_pieces j x)) in
     let read : p.read ≡ length x = omega (arith, t.read, read_is, b.read) in
     let most : p.calls ≤ 37 * p.read + 9 = omega (
       arith,
@@ -98,7 +98,7 @@ completes before after j v u p valid b f t =
     let wrote : Wrote before.written after.written (tagged (trace j x)) = subst (λ t. Wrote before.written after.written (tagged t)) (written_items ∙ sym (trace_where_spared j x spared)) f.pays.wrote in
     let within : length x ≤ j.limit = omega (arith, f.within, f.counted, b.read) in
     let report = is_report j x v u p b t f.source f.counted
-    (f.pays.counted.bad ∙ ap (λ t. v.state.counts.bad + bad_lines t) written_items) (f.pays.counted.lost ∙ ap (λ t. v.state.counts.lost + lost_lines t) written_items) f.verdict valid within f.calls f.least f.sound in
+    (f.pays.counted.bad ∙ ap (λ t. v.state.counts.bad + bad_line_count t) written_items) (f.pays.counted.lost ∙ ap (λ t. v.state.counts.lost + lost_line_count t) written_items) f.verdict valid within f.calls f.least f.sound in
     record {
       input = x;
       consumed = f.consumed;
@@ -106,7 +106,7 @@ completes before after j v u p valid b f t =
       converted = record {
         whole = record {
           within = within;
-          unstopped = λ stops. sym (lost_lines-trace (form_of j.policy) (target_of j) Ascii 0 0 (input_pieces j x)) ∙ spared stops;
+          unstopped = λ stops. sym (lost_lines-trace (reference_form j.policy) (target_of j) Ascii 0 0 (input_pieces j x)) ∙ spared stops;
           output = wrote.output;
           logged = wrote.lined;
         };
@@ -114,11 +114,11 @@ completes before after j v u p valid b f t =
       };
     }
 
-prefix_outputs : (t u : List TaggedByte) → IsPrefix t u → IsPrefix (outputs t) (outputs u)
-prefix_outputs t u f = (outputs f.0, ap outputs f.1 ∙ outputs-append t f.0)
+prefix_outputs : (t u : List TaggedByte) → IsPrefix t u → IsPrefix (output_bytes t) (output_bytes u)
+prefix_outputs t u f = (output_bytes f.0, ap output_bytes f.1 ∙ outputs-append t f.0)
 
-prefix_lines : (t u : List TaggedByte) → IsPrefix t u → IsPrefix (lines t) (lines u)
-prefix_lines t u f = (lines f.0, ap lines f.1 ∙ lines-append t f.0)
+prefix_lines : (t u : List TaggedByte) → IsPrefix t u → IsPrefix (log_bytes t) (log_bytes u)
+prefix_lines t u f = (log_bytes f.0, ap log_bytes f.1 ∙ lines-append t f.0)
 
 pub fails : (before after : Devices) (j : Job) (v : View) (f : Fault) → IsNewSession v j → HasStopped before after j.limit v.state f → Fails before after j f
 fails before after j v f b s =
@@ -127,7 +127,7 @@ fails before after j v f b s =
     record {
       read = s.read;
       within = omega (arith, s.within, b.read);
-      limited = subst (λ (n : ℕ). PassesLimit n j.limit f) (ap (λ (n : ℕ). n + length (s.read.input ++ s.read.refused)) b.read ∙ zero_plus (length (s.read.input ++ s.read.refused))) s.limited;
+      limited = subst (λ (n : ℕ). PassesLimitIfTooLong n j.limit f) (ap (λ (n : ℕ). n + length (s.read.input ++ s.read.refused)) b.read ∙ zero_plus (length (s.read.input ++ s.read.refused))) s.limited;
       taken = s.pays.taken;
       wrote = s.pays.wrote;
       prefix = λ r h. (left r h).prefix;

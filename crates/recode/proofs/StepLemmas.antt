@@ -5,10 +5,10 @@ use Rattle.std.proofs.KnownBytes.{Consumes-nil, Consumes-kept, Consumes-trans, A
 use Rattle.encoding_mem.specs.Items.{Item}
 use Rattle.recode.specs.State.{State, to_write}
 use Rattle.recode.specs.Devices.{CountsFault, Devices, Failures, KeepsWritten, Written}
-use Rattle.recode.specs.TaggedByte.{Wrote, tagged, TaggedByte, outputs, lines}
+use Rattle.recode.specs.TaggedByte.{Wrote, tagged, TaggedByte, output_bytes, log_bytes}
 use Rattle.recode.specs.Policy.{written_under}
 use Rattle.recode.specs.WrittenItems.{IsLeft, IsSpared, IsStop, WritesPrefixFor}
-use Rattle.recode.specs.Step.{Advances, Finishes, HasRun, IsNearlyDecided, PassesLimit, StepsOn, Stops, WasRead}
+use Rattle.recode.specs.Step.{Advances, Finishes, HasRun, IsNearlyDecided, PassesLimitIfTooLong, StepsOn, Stops, WasRead}
 use Rattle.recode.specs.Fault.{of_other}
 use Rattle.recode.specs.declared.job.Fault.{Fault}
 use Rattle.recode.specs.declared.job.Fault.TheVariants.{Read, Write, Log, TooLong, Unmappable}
@@ -57,7 +57,7 @@ IsWriting Log = Unit {0}
 IsWriting TooLong = ⊥
 IsWriting (Unmappable i c) = Unit {0}
 
-within_limit : (n limit : ℕ) (f : Fault) → IsWriting f → n ≤ limit → PassesLimit n limit f
+within_limit : (n limit : ℕ) (f : Fault) → IsWriting f → n ≤ limit → PassesLimitIfTooLong n limit f
 within_limit n limit Read w h = absurd w
 within_limit n limit Write w h = h
 within_limit n limit Log w h = h
@@ -88,7 +88,7 @@ stops_under before after limit last s chunk f p e writing within q = record {
 pub record HasStopped (before after : Devices) (limit : ℕ) (s : State) (fault : Fault) : Type 0 where
   pub read : WasRead before.input after.input fault
   pub within : s.counts.read + length read.input ≤ limit
-  pub limited : PassesLimit (s.counts.read + length (read.input ++ read.refused)) limit fault
+  pub limited : PassesLimitIfTooLong (s.counts.read + length (read.input ++ read.refused)) limit fault
   pub pays : WritesPrefixFor before.written after.written s.policy fault read.ended (λ r. to_write s (read.input ++ r))
   -- where no writer failed, what was written is what the steps before wrote
   pub latest : (fault ≡ Read) ⊎ (fault ≡ TooLong) → (t : Devices) × (s' : State) × (ran : HasRun before t limit s s') × (ran.chunk ≡ read.input) × KeepsWritten t.written after.written
@@ -172,8 +172,8 @@ goes_on_finish a b c limit s s1 s2 p q = record {
   sound = q.sound;
 }
 
-limit_on : (n m limit : ℕ) (f : Fault) → n ≡ m → PassesLimit n limit f → PassesLimit m limit f
-limit_on n m limit f e h = subst (λ (k : ℕ). PassesLimit k limit f) e h
+limit_on : (n m limit : ℕ) (f : Fault) → n ≡ m → PassesLimitIfTooLong n limit f → PassesLimitIfTooLong m limit f
+limit_on n m limit f e h = subst (λ (k : ℕ). PassesLimitIfTooLong k limit f) e h
 
 pub goes_on_stop : (a b c : Devices) (limit : ℕ) (s s1 : State) (f : Fault) → HasRun a b limit s s1 → Stops b c limit s1 f → HasStopped a c limit s f
 goes_on_stop a b c limit s s1 f p q = record {
@@ -217,7 +217,7 @@ IsCounted failures failures' Log = failures.log < failures'.log
 IsCounted failures failures' TooLong = Unit {0}
 IsCounted failures failures' (Unmappable i c) = Unit {0}
 
-run_cause : (a b : Option (List ℕ)) (n m : Failures) (limit : ℕ) (bytes : List ℕ) (f : Fault) → Consumes a b bytes → PassesLimit (length bytes) limit f
+run_cause : (a b : Option (List ℕ)) (n m : Failures) (limit : ℕ) (bytes : List ℕ) (f : Fault) → Consumes a b bytes → PassesLimitIfTooLong (length bytes) limit f
     → IsCounted n m f → IsCause n m a b limit f
 run_cause a b n m limit bytes Read p q h = h
 run_cause a b n m limit bytes Write p q h = h
@@ -259,9 +259,9 @@ flush_stop writes writes' logs logs' p taken written (Unmappable i c) h = absurd
 
 -- the log with its message, behind what was written and flushed
 module _ (before after : Devices) (flushed : Written) (log : Option (List ℕ)) (m : Failures) (untold : ℕ) (j : Job) (kept : KeepsWritten after.written flushed) (since : before.failures.log ≤ untold) where
-  told_log : (taken : List TaggedByte) (message : List ℕ) → Wrote before.written after.written taken → Appends flushed.log log message → Appends before.written.log log (lines taken ++ message)
+  told_log : (taken : List TaggedByte) (message : List ℕ) → Wrote before.written after.written taken → Appends flushed.log log message → Appends before.written.log log (log_bytes taken ++ message)
   told_log taken message wrote told =
-      Appends-trans before.written.log flushed.log log (lines taken) message (Appends-kept before.written.log after.written.log flushed.log (lines taken) wrote.lined kept.log) told
+      Appends-trans before.written.log flushed.log log (log_bytes taken) message (Appends-kept before.written.log after.written.log flushed.log (log_bytes taken) wrote.lined kept.log) told
 
   -- by a run that failed
   pub run_broke : (f : Fault) → Fails before after j f → (k : ℕ) × IsTold untold m.log (message_of f) k × Appends flushed.log log (take k (message_of f)) → IsCounted before.failures (record m { log = untold }) f
@@ -277,7 +277,7 @@ module _ (before after : Devices) (flushed : Written) (log : Option (List ℕ)) 
     cause = run_cause before.input after.input before.failures (record m { log = untold }) j.limit (k.read.input ++ k.read.refused) f k.read.consumed k.limited counted;
     told = told.0;
     whole = told.1;
-    output = Appends-kept before.written.output after.written.output flushed.output (outputs k.taken) k.wrote.output kept.output;
+    output = Appends-kept before.written.output after.written.output flushed.output (output_bytes k.taken) k.wrote.output kept.output;
     logged = told_log k.taken (take told.0 (message_of f)) k.wrote told.2;
     prefix = k.prefix;
     stopped = k.stopped;
@@ -301,7 +301,7 @@ module _ (before after : Devices) (flushed : Written) (log : Option (List ℕ)) 
         cause = cause;
         told = told.0;
         whole = told.1;
-        output = Appends-kept before.written.output after.written.output flushed.output (outputs all) w.output kept.output;
+        output = Appends-kept before.written.output after.written.output flushed.output (output_bytes all) w.output kept.output;
         logged = told_log all (take told.0 (message_of g)) (record { output = w.output; lined = w.logged }) told.2;
         prefix = λ r h. ([], ap (λ t. tagged (trace j t)) (ap (λ t. k.input ++ t) (h refl) ∙ append-nil k.input) ∙ sym (append-nil all));
         stopped = λ r h. stop all (trace j (k.input ++ r));

@@ -5,8 +5,8 @@ use Rattle.std.specs.List.{flat_map}
 use Rattle.std.specs.Str.{all_scalars}
 use Rattle.encoding_mem.specs.declared.reference.Reference.{Reference}
 use Rattle.encoding_mem.specs.declared.reference.Reference.TheVariants.{Decimal}
-use Rattle.encoding_mem.specs.Coding.{AllMapped, Coding, IsMapped, bytes, bytes_from, last_set, lost_count, open_from, output}
-use Rattle.encoding_mem.specs.Items.{Item, Byte, MalformedAt, LostAt, bytes_of, form_items, open_items, trace_from}
+use Rattle.encoding_mem.specs.Coding.{AllMapped, Coding, IsMapped, mapped_bytes, bytes_from, last_set, lost_count, open_from, output}
+use Rattle.encoding_mem.specs.Items.{Item, Byte, MalformedAt, LostAt, item_bytes, form_items, open_items, trace_from}
 use Rattle.encoding_mem.specs.Piece.{Piece, well_formed, malformed, text, AreWellFormed}
 use Rattle.encoding_mem.specs.ReadBack.{ReadsAs}
 use Rattle.encoding_mem.specs.declared.form.Form.{Form}
@@ -18,14 +18,14 @@ use Rattle.encoding_mem.specs.laws.Encoding.{bytes_of-append, bytes_of-bytes, ma
 use Rattle.encoding_mem.specs.laws.ReadBack.{none_lost}
 use Rattle.encoding_mem.specs.laws.ReadCalls.{begins_along, broken_never_reads_on, lost_never_reads, reads_on, scalars_parts}
 use Rattle.encoding_front.specs.Encodings.{set_pieces_of}
-use Rattle.encoding_front.specs.CodecBounds.{need_of}
+use Rattle.encoding_front.specs.calls.CodecBounds.{need_of}
 use Rattle.encoding_front.specs.laws.Encoder.{coding_laws}
 use Rattle.encoding_front.specs.laws.Encodings.{reads_by_step, set_pieces_at_start}
 use Rattle.encoding_front.specs.laws.Input.{marked_scalars, short_recoded}
 use Rattle.recode_log.specs.Line.{line_bytes}
 use Rattle.recode.specs.Job.{Faithful, IsValidJob, input_pieces, input_text, log_lines, log_of, output_of, output_pieces, target_of, trace, whole_trace}
-use Rattle.recode.specs.Policy.{form_of, up_to_loss, written_under}
-use Rattle.recode.specs.TaggedByte.{lines, outputs, tagged}
+use Rattle.recode.specs.Policy.{reference_form, up_to_loss, written_under}
+use Rattle.recode.specs.TaggedByte.{log_bytes, output_bytes, tagged}
 use Rattle.recode.specs.WrittenItems.{IsSpared}
 use Rattle.recode.specs.declared.job.Job.{Job}
 use Rattle.recode.specs.declared.job.Policy.{Policy}
@@ -34,7 +34,7 @@ use Rattle.recode.proofs.TraceLemmas.{cut_spared, kept_where_no_lines, lines-tra
 
 -- Where nothing stops it.
 pub runs_through : (j : Job) (x : List ℕ) → (j.policy ≡ Policy.Stop → lost_count (target_of j) (input_text j x) ≡ 0) → IsSpared j.policy (whole_trace j x)
-runs_through j x h stops = lost_lines-trace (form_of j.policy) (target_of j) Ascii 0 0 (input_pieces j x) ∙ h stops
+runs_through j x h stops = lost_lines-trace (reference_form j.policy) (target_of j) Ascii 0 0 (input_pieces j x) ∙ h stops
 
 pub mapped_through : (j : Job) (x : List ℕ) → AllMapped (target_of j) (input_text j x) → IsSpared j.policy (whole_trace j x)
 mapped_through j x h = runs_through j x (λ stops. none_lost (target_of j) (input_text j x) h)
@@ -42,20 +42,20 @@ mapped_through j x h = runs_through j x (λ stops. none_lost (target_of j) (inpu
 pub trace_where_spared : (j : Job) (x : List ℕ) → IsSpared j.policy (whole_trace j x) → trace j x ≡ whole_trace j x
 trace_where_spared j x h = written_whole j.policy (whole_trace j x) h
 
-pub output_where_spared : (j : Job) (x : List ℕ) → IsSpared j.policy (whole_trace j x) → output_of j x ≡ output (form_of j.policy) (target_of j) (input_text j x)
-output_where_spared j x h = ap (λ l. outputs (tagged l)) (trace_where_spared j x h) ∙ outputs-trace (form_of j.policy) (target_of j) Ascii 0 0 (input_pieces j x)
+pub output_where_spared : (j : Job) (x : List ℕ) → IsSpared j.policy (whole_trace j x) → output_of j x ≡ output (reference_form j.policy) (target_of j) (input_text j x)
+output_where_spared j x h = ap (λ l. output_bytes (tagged l)) (trace_where_spared j x h) ∙ outputs-trace (reference_form j.policy) (target_of j) Ascii 0 0 (input_pieces j x)
 
 pub log_where_spared : (j : Job) (x : List ℕ) → IsSpared j.policy (whole_trace j x) → log_of j x ≡ flat_map line_bytes (log_lines (target_of j) 0 0 (input_pieces j x))
-log_where_spared j x h = ap (λ l. lines (tagged l)) (trace_where_spared j x h) ∙ lines-trace (form_of j.policy) (target_of j) Ascii 0 0 (input_pieces j x)
+log_where_spared j x h = ap (λ l. log_bytes (tagged l)) (trace_where_spared j x h) ∙ lines-trace (reference_form j.policy) (target_of j) Ascii 0 0 (input_pieces j x)
 
 -- Where the log is empty nothing stopped it.
-unlogged_cut : (s : List Item) → lines (tagged (up_to_loss s)) ≡ [] → up_to_loss s ≡ s
+unlogged_cut : (s : List Item) → log_bytes (tagged (up_to_loss s)) ≡ [] → up_to_loss s ≡ s
 unlogged_cut [] h = refl
 unlogged_cut (Byte b ∷ s) h = ap (λ l. Byte b ∷ l) (unlogged_cut s h)
 unlogged_cut (MalformedAt o n ∷ s) h = absurd (cc)
 unlogged_cut (LostAt i c ∷ s) h = absurd (cc)
 
-unlogged : (p : Policy) (s : List Item) → lines (tagged (written_under p s)) ≡ [] → written_under p s ≡ s
+unlogged : (p : Policy) (s : List Item) → log_bytes (tagged (written_under p s)) ≡ [] → written_under p s ≡ s
 unlogged Policy.Decimal s h = refl
 unlogged Policy.Hexadecimal s h = refl
 unlogged Policy.Stop s h = unlogged_cut s h
@@ -67,7 +67,7 @@ pub kept_where_quiet : (j : Job) (x : List ℕ) → log_of j x ≡ [] → AreWel
 kept_where_quiet j x h =
     kept_where_no_lines (target_of j) 0 0 (input_pieces j x)
     (no_lines_without_bytes _
-    (sym (lines-trace (form_of j.policy) (target_of j) Ascii 0 0 (input_pieces j x)) ∙ ap (λ l. lines (tagged l)) (sym (unlogged j.policy (whole_trace j x) h)) ∙ h))
+    (sym (lines-trace (reference_form j.policy) (target_of j) Ascii 0 0 (input_pieces j x)) ∙ ap (λ l. log_bytes (tagged l)) (sym (unlogged j.policy (whole_trace j x) h)) ∙ h))
 
 -- A stop writes a prefix.
 cut_prefix : (s : List Item) → (rest : List Item) × (s ≡ up_to_loss s ++ rest)
@@ -81,16 +81,16 @@ written_prefix Policy.Decimal s = ([], sym (append-nil s))
 written_prefix Policy.Hexadecimal s = ([], sym (append-nil s))
 written_prefix Policy.Stop s = cut_prefix s
 
-pub whole_within : (j : Job) (x : List ℕ) → IsValidJob j → length (outputs (tagged (whole_trace j x))) ≤ 13 * length x + 3
+pub whole_within : (j : Job) (x : List ℕ) → IsValidJob j → length (output_bytes (tagged (whole_trace j x))) ≤ 13 * length x + 3
 whole_within j x v =
-    omega (arith, ap length (outputs-trace (form_of j.policy) (target_of j) Ascii 0 0 (input_pieces j x)), short_recoded (form_of j.policy) j.tables.now j.mark j.from j.to x v.tables)
+    omega (arith, ap length (outputs-trace (reference_form j.policy) (target_of j) Ascii 0 0 (input_pieces j x)), short_recoded (reference_form j.policy) j.tables.now j.mark j.from j.to x v.tables)
 
 pub output_within : (j : Job) (x : List ℕ) → IsValidJob j → length (output_of j x) ≤ 13 * length x + 3
 output_within j x v =
     let more = written_prefix j.policy (whole_trace j x) in
-    let is : outputs (tagged (whole_trace j x)) ≡ output_of j x ++ outputs (tagged more.0) =
-    ap (λ l. outputs (tagged l)) more.1 ∙ ap outputs (tagged-append (trace j x) more.0) ∙ outputs-append (tagged (trace j x)) (tagged more.0) in
-    omega (arith, whole_within j x v, ap length is, length-append (output_of j x) (outputs (tagged more.0)))
+    let is : output_bytes (tagged (whole_trace j x)) ≡ output_of j x ++ output_bytes (tagged more.0) =
+    ap (λ l. output_bytes (tagged l)) more.1 ∙ ap output_bytes (tagged-append (trace j x) more.0) ∙ outputs-append (tagged (trace j x)) (tagged more.0) in
+    omega (arith, whole_within j x v, ap length is, length-append (output_of j x) (output_bytes (tagged more.0)))
 
 -- The output up to the first character without bytes, and then this, where there is none.
 abbrev pub form_to_loss : Form → List ℕ → List ℕ
@@ -105,42 +105,42 @@ to_loss-append : (e : Coding) (s : EscapeState) (a b behind : List ℕ) → to_l
 to_loss-append e s [] b behind = refl
 to_loss-append e s (c ∷ a) b behind = ap (λ l. e.escape s (e.set s c) ++ form_to_loss (e.form c) l) (to_loss-append e (e.set s c) a b behind)
 
-cut_bytes : (bs : List ℕ) (rest : List Item) → bytes_of (up_to_loss (map Byte bs ++ rest)) ≡ bs ++ bytes_of (up_to_loss rest)
+cut_bytes : (bs : List ℕ) (rest : List Item) → item_bytes (up_to_loss (map Byte bs ++ rest)) ≡ bs ++ item_bytes (up_to_loss rest)
 cut_bytes bs rest =
-    ap bytes_of (cut_spared (map Byte bs) rest (lost_lines-bytes bs)) ∙ bytes_of-append (map Byte bs) (up_to_loss rest) ∙ ap (λ l. l ++ bytes_of (up_to_loss rest)) (bytes_of-bytes bs)
+    ap item_bytes (cut_spared (map Byte bs) rest (lost_lines-bytes bs)) ∙ bytes_of-append (map Byte bs) (up_to_loss rest) ∙ ap (λ l. l ++ item_bytes (up_to_loss rest)) (bytes_of-bytes bs)
 
-cut_form : (ref : Reference) (i : ℕ) (f : Form) (rest : List Item) → bytes_of (up_to_loss (form_items ref i f ++ rest)) ≡ form_to_loss f (bytes_of (up_to_loss rest))
+cut_form : (ref : Reference) (i : ℕ) (f : Form) (rest : List Item) → item_bytes (up_to_loss (form_items ref i f ++ rest)) ≡ form_to_loss f (item_bytes (up_to_loss rest))
 cut_form ref i (Mapped bs) rest = cut_bytes bs rest
 cut_form ref i (Unmapped m) rest = refl
 
-cut_open : (ref : Reference) (e : Coding) (s : EscapeState) (i : ℕ) (t : List ℕ) (rest : List Item) → bytes_of (up_to_loss (open_items ref e s i t ++ rest)) ≡ to_loss e s t (bytes_of (up_to_loss rest))
+cut_open : (ref : Reference) (e : Coding) (s : EscapeState) (i : ℕ) (t : List ℕ) (rest : List Item) → item_bytes (up_to_loss (open_items ref e s i t ++ rest)) ≡ to_loss e s t (item_bytes (up_to_loss rest))
 cut_open ref e s i [] rest = refl
 cut_open ref e s i (c ∷ t) rest =
     let escape : List ℕ = e.escape s (e.set s c) in
     let form : List Item = form_items ref i (e.form c) in
     let more : List Item = open_items ref e (e.set s c) (i + 1) t in
-    ap (λ l. bytes_of (up_to_loss l)) (append_assoc (map Byte escape) (form ++ more) rest ∙ ap (λ l. map Byte escape ++ l) (append_assoc form more rest))
+    ap (λ l. item_bytes (up_to_loss l)) (append_assoc (map Byte escape) (form ++ more) rest ∙ ap (λ l. map Byte escape ++ l) (append_assoc form more rest))
     ∙ cut_bytes escape (form ++ (more ++ rest))
     ∙ ap (λ l. escape ++ l) (cut_form ref i (e.form c) (more ++ rest) ∙ ap (form_to_loss (e.form c)) (cut_open ref e (e.set s c) (i + 1) t rest))
 
 -- the same behind the text of a piece, of which the rest is known
 cut_more : (ref : Reference) (e : Coding) (s : EscapeState) (i : ℕ) (cs t : List ℕ) (rest : List Item)
-    → bytes_of (up_to_loss rest) ≡ to_loss e (last_set e s cs) t (e.escape (last_set e (last_set e s cs) t) Ascii)
-    → bytes_of (up_to_loss (open_items ref e s i cs ++ rest)) ≡ to_loss e s (cs ++ t) (e.escape (last_set e s (cs ++ t)) Ascii)
+    → item_bytes (up_to_loss rest) ≡ to_loss e (last_set e s cs) t (e.escape (last_set e (last_set e s cs) t) Ascii)
+    → item_bytes (up_to_loss (open_items ref e s i cs ++ rest)) ≡ to_loss e s (cs ++ t) (e.escape (last_set e s (cs ++ t)) Ascii)
 cut_more ref e s i cs t rest known =
     cut_open ref e s i cs rest
     ∙ ap (to_loss e s cs) (known ∙ ap (λ (q : EscapeState). to_loss e (last_set e s cs) t (e.escape q Ascii)) (sym (last_set-append e s cs t)))
     ∙ sym (to_loss-append e s cs t (e.escape (last_set e s (cs ++ t)) Ascii))
 
-cut_trace : (ref : Reference) (e : Coding) (s : EscapeState) (offset i : ℕ) (ps : List Piece) → bytes_of (up_to_loss (trace_from ref e s offset i ps)) ≡ to_loss e s (text ps) (e.escape (last_set e s (text ps)) Ascii)
+cut_trace : (ref : Reference) (e : Coding) (s : EscapeState) (offset i : ℕ) (ps : List Piece) → item_bytes (up_to_loss (trace_from ref e s offset i ps)) ≡ to_loss e s (text ps) (e.escape (last_set e s (text ps)) Ascii)
 cut_trace ref e s offset i [] =
-    ap (λ l. bytes_of (up_to_loss l)) (sym (append-nil (map Byte (e.escape s Ascii)))) ∙ cut_bytes (e.escape s Ascii) [] ∙ append-nil (e.escape s Ascii)
+    ap (λ l. item_bytes (up_to_loss l)) (sym (append-nil (map Byte (e.escape s Ascii)))) ∙ cut_bytes (e.escape s Ascii) [] ∙ append-nil (e.escape s Ascii)
 cut_trace ref e s offset i (well_formed n cs ∷ ps) =
     cut_more ref e s i cs (text ps) (trace_from ref e (last_set e s cs) (offset + n) (i + length cs) ps) (cut_trace ref e (last_set e s cs) (offset + n) (i + length cs) ps)
 cut_trace ref e s offset i (malformed n ∷ ps) =
     cut_more ref e s i (0xFFFD ∷ []) (text ps) (trace_from ref e (e.set s 0xFFFD) (offset + n) (i + 1) ps) (cut_trace ref e (e.set s 0xFFFD) (offset + n) (i + 1) ps)
 
-mapped_to_loss : (f : Form) (behind : List ℕ) → IsMapped f → form_to_loss f behind ≡ bytes f ++ behind
+mapped_to_loss : (f : Form) (behind : List ℕ) → IsMapped f → form_to_loss f behind ≡ mapped_bytes f ++ behind
 mapped_to_loss (Mapped bs) behind h = refl
 mapped_to_loss (Unmapped m) behind h = absurd h
 
@@ -152,8 +152,8 @@ at_loss e s (d ∷ before) c m rest behind h is =
     let own : List ℕ = bytes_from e (e.set s d) before in
     let last : List ℕ = e.escape (last_set e (e.set s d) before) (e.set (last_set e (e.set s d) before) c) in
     ap (λ l. escape ++ l)
-    (mapped_to_loss (e.form d) (to_loss e (e.set s d) (before ++ c ∷ rest) behind) h.0 ∙ ap (λ l. bytes (e.form d) ++ l) (at_loss e (e.set s d) before c m rest behind h.1 is) ∙ sym (append_assoc (bytes (e.form d)) own last))
-    ∙ sym (append_assoc escape (bytes (e.form d) ++ own) last)
+    (mapped_to_loss (e.form d) (to_loss e (e.set s d) (before ++ c ∷ rest) behind) h.0 ∙ ap (λ l. mapped_bytes (e.form d) ++ l) (at_loss e (e.set s d) before c m rest behind h.1 is) ∙ sym (append_assoc (mapped_bytes (e.form d)) own last))
+    ∙ sym (append_assoc escape (mapped_bytes (e.form d) ++ own) last)
 
 -- the first character without bytes
 pub first_unmapped : (e : Coding) (t : List ℕ) → AllMapped e t ⊎ ((before : List ℕ) × (c : ℕ) × (m : ℕ) × (rest : List ℕ) × (t ≡ before ++ c ∷ rest) × AllMapped e before × (e.form c ≡ Unmapped m))
@@ -171,9 +171,9 @@ pub output_at_loss : (j : Job) (x before : List ℕ) (c m : ℕ) (rest : List �
     → output_of j x ≡ bytes_from (target_of j) Ascii before ++ (target_of j).escape (last_set (target_of j) Ascii before) ((target_of j).set (last_set (target_of j) Ascii before) c)
 output_at_loss j x before c m rest stops is mapped none =
     let e = target_of j in
-    ap (λ (p : Policy). outputs (tagged (written_under p (whole_trace j x)))) stops
+    ap (λ (p : Policy). output_bytes (tagged (written_under p (whole_trace j x)))) stops
     ∙ outputs-tagged (up_to_loss (whole_trace j x))
-    ∙ cut_trace (form_of j.policy) e Ascii 0 0 (input_pieces j x)
+    ∙ cut_trace (reference_form j.policy) e Ascii 0 0 (input_pieces j x)
     ∙ ap (λ t. to_loss e Ascii t (e.escape (last_set e Ascii (input_text j x)) Ascii)) is
     ∙ at_loss e Ascii before c m rest (e.escape (last_set e Ascii (input_text j x)) Ascii) mapped none
 
@@ -182,7 +182,7 @@ module _ (j : Job) (x : List ℕ) (v : IsValidJob j) where
   text_scalars : all_scalars (input_text j x) ≡ true
   text_scalars = marked_scalars j.tables.now j.mark j.from x v.tables
 
-  pub mapped_where_read : ReadsAs (output_pieces j) (output (form_of j.policy) (target_of j) (input_text j x)) (input_text j x) → AllMapped (target_of j) (input_text j x)
+  pub mapped_where_read : ReadsAs (output_pieces j) (output (reference_form j.policy) (target_of j) (input_text j x)) (input_text j x) → AllMapped (target_of j) (input_text j x)
   mapped_where_read reads = elim (first_unmapped (target_of j) (input_text j x)) [
     | inl all ↦ all
     | inr k ↦
@@ -198,7 +198,7 @@ module _ (j : Job) (x : List ℕ) (v : IsValidJob j) where
           scalars = text_scalars;
           encodes = record { before = k.0; next = k.1 ∷ k.3; split = k.4; mapped = k.5; bytes = refl; leaves = (k.1, refl, k.6, refl) };
           along = begins_along e (set_pieces_of j.tables.now j.to) coding (output_pieces j) Ascii (input_text j x) start;
-        }) (form_of j.policy) [] (λ no. refl) (rw (append-nil (input_text j x)) reads))
+        }) (reference_form j.policy) [] (λ no. refl) (rw (append-nil (input_text j x)) reads))
   ]
 
   -- an escape behind the text before the character is no text
@@ -234,5 +234,5 @@ module _ (j : Job) (x : List ℕ) (v : IsValidJob j) where
   pub mapped_where_faithful : Faithful j x → AllMapped (target_of j) (input_text j x)
   mapped_where_faithful f = mapped_under j.policy refl f
 
-  pub output_where_mapped : AllMapped (target_of j) (input_text j x) → output_of j x ≡ output (form_of j.policy) (target_of j) (input_text j x)
+  pub output_where_mapped : AllMapped (target_of j) (input_text j x) → output_of j x ≡ output (reference_form j.policy) (target_of j) (input_text j x)
   output_where_mapped h = output_where_spared j x (mapped_through j x h)

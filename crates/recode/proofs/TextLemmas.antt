@@ -1,15 +1,15 @@
 -- How the calls for a text add up, and what they leave.
 use Rattle.std.proofs.Common.{◌≡◌, ℕ, ◌+◌, ◌*◌, ◌≤◌, ◌<◌, Bool, false, List, [], ◌∷◌, length, length-append, refl, sym, ◌∙◌, ap, subst, arith, append-nil}
 use Rattle.encoding_mem.specs.Coding.{Coding, IsCoding, last_set}
-use Rattle.encoding_mem.specs.Encoding.{Encodes}
+use Rattle.encoding_mem.specs.calls.EncoderCalls.{Encodes}
 use Rattle.encoding_mem.specs.Items.{MalformedAt, open_items}
 use Rattle.encoding_mem.specs.declared.form.EscapeState.{EscapeState}
 use Rattle.encoding_mem.specs.declared.encoder_result.EncoderResult.TheVariants.{Unmappable}
 use Rattle.encoding_mem.specs.laws.Verdict.{keeps_then}
-use Rattle.recode.specs.Policy.{form_of}
+use Rattle.recode.specs.Policy.{reference_form}
 use Rattle.recode.specs.Devices.{Written}
-use Rattle.recode.specs.Text.{EncodesText, EncodesTo, TargetState, WritesMalformed, malformed_items, text_items, with_malformed}
-use Rattle.recode.specs.Verdict.{CanTell, Keeps, to_read}
+use Rattle.recode.specs.calls.Text.{EncodesText, EncodesTo, TargetState, WritesMalformed, malformed_items, text_items, with_malformed}
+use Rattle.recode.specs.calls.Verdict.{CanTell, VerdictIsKept, to_read}
 use Rattle.recode.specs.WrittenItems.{WritesItems, WritesPrefix}
 use Rattle.recode.specs.declared.job.Fault.{Fault}
 use Rattle.recode.proofs.TraceLemmas.{WritesItems-nil, WritesItems-of, WritesItems-to, WritesItems-trans, WritesItems-under, whole_end}
@@ -48,7 +48,7 @@ encodes_more w w1 w2 t t1 t2 last a b c n p q = record {
   by_log = q.by_log ∙ p.by_log;
   stays = λ h. q.stays (p.stays h);
   verdict = keeps_then t.coding last t.verdict.faithful t1.verdict.faithful t2.verdict.faithful (to_read t.verdict) (to_read t1.verdict) (to_read t2.verdict) t.set t1.set t2.set a b c p.verdict
-      (subst (λ (k : Coding). Keeps k last t1.verdict t1.set b t2.verdict t2.set c) p.target q.verdict);
+      (subst (λ (k : Coding). VerdictIsKept k last t1.verdict t1.set b t2.verdict t2.set c) p.target q.verdict);
   calls = omega (arith, p.calls, q.calls);
   least = λ under.
       let later = q.least under in
@@ -66,7 +66,7 @@ encodes_under w w1 w2 t t1 last a b f p q =
 module _ (w w' : Written) (t t' : TargetState) (last : Bool) (text : List ℕ) (e : EncodesText w w' t t' last text) where
   pub text_pays : (need : ℕ) → IsCoding need t.coding → WritesItems w w' t.counts t'.counts t.policy (text_items t last text) []
   text_pays need law = WritesItems-to w w' t.counts t'.counts t.policy (text_items t last text) (text_items t' last []) [] e.encodes.pays
-      (whole_end (form_of t'.policy) t'.coding last t'.set t'.counts.index [] (subst (IsCoding need) (sym e.encodes.target) law) refl e.done.closed)
+      (whole_end (reference_form t'.policy) t'.coding last t'.set t'.counts.index [] (subst (IsCoding need) (sym e.encodes.target) law) refl e.done.closed)
 
   pub text_set : last ≡ false → t'.set ≡ last_set t.coding t.set text
   text_set on = sym (e.encodes.set on)
@@ -80,13 +80,13 @@ module _ (w w' : Written) (t t' : TargetState) (last : Bool) (text : List ℕ) (
 -- the line of a malformed sequence, and U+FFFD
 module _ (w w' : Written) (t t' : TargetState) (offset size : ℕ) (f : WritesMalformed w w' t t' offset size) where
   pub malformed_pays : (need : ℕ) → IsCoding need t.coding → WritesItems w w' t.counts t'.counts t.policy (malformed_items t offset size) []
-  malformed_pays need law = WritesItems-trans w f.between w' t.counts (with_malformed t).counts t'.counts t.policy (malformed_items t offset size) (open_items (form_of t.policy) t.coding t.set t.counts.index (0xFFFD ∷ [])) []
+  malformed_pays need law = WritesItems-trans w f.between w' t.counts (with_malformed t).counts t'.counts t.policy (malformed_items t offset size) (open_items (reference_form t.policy) t.coding t.set t.counts.index (0xFFFD ∷ [])) []
       (record { written_items = MalformedAt offset size ∷ []; wrote = f.line; counted = record { bad = omega arith; lost = omega arith }; spared = λ stops. refl; equals = refl })
-      (WritesItems-of f.between w' (with_malformed t).counts t'.counts t.policy (text_items (with_malformed t) false (0xFFFD ∷ [])) (open_items (form_of t.policy) t.coding t.set t.counts.index (0xFFFD ∷ [])) []
-      (sym (append-nil (open_items (form_of t.policy) t.coding t.set t.counts.index (0xFFFD ∷ [])))) (text_pays f.between w' (with_malformed t) t' false (0xFFFD ∷ []) f.text need law))
+      (WritesItems-of f.between w' (with_malformed t).counts t'.counts t.policy (text_items (with_malformed t) false (0xFFFD ∷ [])) (open_items (reference_form t.policy) t.coding t.set t.counts.index (0xFFFD ∷ [])) []
+      (sym (append-nil (open_items (reference_form t.policy) t.coding t.set t.counts.index (0xFFFD ∷ [])))) (text_pays f.between w' (with_malformed t) t' false (0xFFFD ∷ []) f.text need law))
 
-  pub malformed_line_calls : t'.counts.calls + t.counts.index ≤ t.counts.calls + t'.counts.index + 2 * length (open_items (form_of t.policy) t.coding t.set t.counts.index (0xFFFD ∷ [])) + 2
-  malformed_line_calls = omega (arith, text_calls f.between w' (with_malformed t) t' false (0xFFFD ∷ []) f.text, ap length (append-nil (open_items (form_of t.policy) t.coding t.set t.counts.index (0xFFFD ∷ []))))
+  pub malformed_line_calls : t'.counts.calls + t.counts.index ≤ t.counts.calls + t'.counts.index + 2 * length (open_items (reference_form t.policy) t.coding t.set t.counts.index (0xFFFD ∷ [])) + 2
+  malformed_line_calls = omega (arith, text_calls f.between w' (with_malformed t) t' false (0xFFFD ∷ []) f.text, ap length (append-nil (open_items (reference_form t.policy) t.coding t.set t.counts.index (0xFFFD ∷ []))))
 
 -- a character without bytes was read
 pub one_taken : (e : Coding) (last : Bool) (m : ℕ) (s : EscapeState) (t w : List ℕ) (s' : EscapeState) (rest : List ℕ) → Encodes e last (Unmappable m) s t w s' rest → length rest < length t

@@ -6,16 +6,16 @@ use Rattle.std.proofs.lemmas.List.{map-append}
 use Rattle.std.proofs.KnownBytes.{Appends-nil, Appends-trans}
 use Rattle.std.specs.Io.KnownBytes.{Appends}
 use Rattle.encoding_mem.specs.declared.reference.Reference.{Reference}
-use Rattle.encoding_mem.specs.Items.{Item, Byte, MalformedAt, LostAt, whole_items, closing, bytes_of, open_items, form_items, trace_from}
+use Rattle.encoding_mem.specs.Items.{Item, Byte, MalformedAt, LostAt, whole_items, closing, item_bytes, open_items, form_items, trace_from}
 use Rattle.recode_log.specs.Line.{line_bytes}
 use Rattle.recode.specs.Devices.{Written}
-use Rattle.recode.specs.TaggedByte.{TaggedByte, Out, Line, outputs, lines, Wrote, tagged, tagged_item}
+use Rattle.recode.specs.TaggedByte.{TaggedByte, Out, Line, output_bytes, log_bytes, Wrote, tagged, tagged_item}
 use Rattle.recode.specs.Policy.{up_to_loss, written_under}
-use Rattle.recode.specs.WrittenItems.{WritesItems, WritesPrefix, WritesItemsFor, WritesPrefixFor, AreCounted, IsLeft, IsSpared, IsStop, bad_lines, lost_lines}
+use Rattle.recode.specs.WrittenItems.{WritesItems, WritesPrefix, WritesItemsFor, WritesPrefixFor, AreCounted, IsLeft, IsSpared, IsStop, bad_line_count, lost_line_count}
 use Rattle.recode.specs.declared.job.Fault.{Fault}
 use Rattle.recode.specs.declared.job.Fault.TheVariants.{Read, Write, Log, TooLong, Unmappable}
 use Rattle.recode.specs.declared.job.Policy.{Policy}
-use Rattle.encoding_mem.specs.Coding.{Coding, IsCoding, open_from, whole_from, last_set, output, lost_count, unmapped_count, reference, AllMapped, IsMapped}
+use Rattle.encoding_mem.specs.Coding.{Coding, IsCoding, open_from, whole_from, last_set, output, lost_count, unmapped_count, reference_bytes, AllMapped, IsMapped}
 use Rattle.encoding_mem.specs.declared.form.EscapeState.{EscapeState}
 use Rattle.encoding_mem.specs.declared.form.EscapeState.TheVariants.{Ascii}
 use Rattle.recode.specs.declared.target.Counts.{Counts}
@@ -25,33 +25,33 @@ use Rattle.encoding_mem.specs.laws.Encoding.{bytes_of-append, bytes_of-bytes, by
 use Rattle.encoding_mem.specs.declared.form.Form.{Form}
 use Rattle.encoding_mem.specs.declared.form.Form.TheVariants.{Mapped, Unmapped}
 use Rattle.recode_log.specs.declared.line.LogLine.{LogLine}
-use Rattle.recode.specs.Job.{form_lines, lost_in, log_lines}
+use Rattle.recode.specs.Job.{form_lines, lost_log_lines, log_lines}
 use Rattle.recode.proofs.DecoderCallLemmas.{last_set-append}
 use Rattle.recode_log.specs.declared.line.LogLine.TheVariants.{Bad, Lost}
 
-pub outputs-append : (s t : List TaggedByte) → outputs (s ++ t) ≡ outputs s ++ outputs t
+pub outputs-append : (s t : List TaggedByte) → output_bytes (s ++ t) ≡ output_bytes s ++ output_bytes t
 outputs-append [] t = refl
 outputs-append (Out b ∷ s) t = ap (λ l. b ∷ l) (outputs-append s t)
 outputs-append (Line b ∷ s) t = outputs-append s t
 
-pub lines-append : (s t : List TaggedByte) → lines (s ++ t) ≡ lines s ++ lines t
+pub lines-append : (s t : List TaggedByte) → log_bytes (s ++ t) ≡ log_bytes s ++ log_bytes t
 lines-append [] t = refl
 lines-append (Out b ∷ s) t = lines-append s t
 lines-append (Line b ∷ s) t = ap (λ l. b ∷ l) (lines-append s t)
 
-pub outputs-bytes : (bs : List ℕ) → outputs (tagged (map Byte bs)) ≡ bs
+pub outputs-bytes : (bs : List ℕ) → output_bytes (tagged (map Byte bs)) ≡ bs
 outputs-bytes [] = refl
 outputs-bytes (b ∷ bs) = ap (λ l. b ∷ l) (outputs-bytes bs)
 
-pub lines-bytes : (bs : List ℕ) → lines (tagged (map Byte bs)) ≡ []
+pub lines-bytes : (bs : List ℕ) → log_bytes (tagged (map Byte bs)) ≡ []
 lines-bytes [] = refl
 lines-bytes (b ∷ bs) = lines-bytes bs
 
-pub outputs-lines : (bs : List ℕ) → outputs (map Line bs) ≡ []
+pub outputs-lines : (bs : List ℕ) → output_bytes (map Line bs) ≡ []
 outputs-lines [] = refl
 outputs-lines (b ∷ bs) = outputs-lines bs
 
-pub lines-lines : (bs : List ℕ) → lines (map Line bs) ≡ bs
+pub lines-lines : (bs : List ℕ) → log_bytes (map Line bs) ≡ bs
 lines-lines [] = refl
 lines-lines (b ∷ bs) = ap (λ l. b ∷ l) (lines-lines bs)
 
@@ -79,23 +79,23 @@ wrote_line w l l' bs p = record {
   lined = subst (Appends l l') (sym (lines-lines bs)) p;
 }
 
-pub bad_lines-append : (s t : List Item) → bad_lines (s ++ t) ≡ bad_lines s + bad_lines t
+pub bad_lines-append : (s t : List Item) → bad_line_count (s ++ t) ≡ bad_line_count s + bad_line_count t
 bad_lines-append [] t = omega arith
 bad_lines-append (Byte b ∷ s) t = bad_lines-append s t
 bad_lines-append (MalformedAt p n ∷ s) t = omega (arith, bad_lines-append s t)
 bad_lines-append (LostAt i c ∷ s) t = bad_lines-append s t
 
-pub lost_lines-append : (s t : List Item) → lost_lines (s ++ t) ≡ lost_lines s + lost_lines t
+pub lost_lines-append : (s t : List Item) → lost_line_count (s ++ t) ≡ lost_line_count s + lost_line_count t
 lost_lines-append [] t = omega arith
 lost_lines-append (Byte b ∷ s) t = lost_lines-append s t
 lost_lines-append (MalformedAt p n ∷ s) t = lost_lines-append s t
 lost_lines-append (LostAt i c ∷ s) t = omega (arith, lost_lines-append s t)
 
-pub bad_lines-bytes : (bs : List ℕ) → bad_lines (map Byte bs) ≡ 0
+pub bad_lines-bytes : (bs : List ℕ) → bad_line_count (map Byte bs) ≡ 0
 bad_lines-bytes [] = refl
 bad_lines-bytes (b ∷ bs) = bad_lines-bytes bs
 
-pub lost_lines-bytes : (bs : List ℕ) → lost_lines (map Byte bs) ≡ 0
+pub lost_lines-bytes : (bs : List ℕ) → lost_line_count (map Byte bs) ≡ 0
 lost_lines-bytes [] = refl
 lost_lines-bytes (b ∷ bs) = lost_lines-bytes bs
 
@@ -115,7 +115,7 @@ spared_append p s t h k is = omega (arith, lost_lines-append s t, h is, k is)
 spared_bytes : (p : Policy) (bs : List ℕ) → IsSpared p (map Byte bs)
 spared_bytes p bs h = lost_lines-bytes bs
 
-pub cut_spared : (s t : List Item) → lost_lines s ≡ 0 → up_to_loss (s ++ t) ≡ s ++ up_to_loss t
+pub cut_spared : (s t : List Item) → lost_line_count s ≡ 0 → up_to_loss (s ++ t) ≡ s ++ up_to_loss t
 cut_spared [] t h = refl
 cut_spared (Byte b ∷ s) t h = ap (λ l. Byte b ∷ l) (cut_spared s t h)
 cut_spared (MalformedAt o n ∷ s) t h = ap (λ l. MalformedAt o n ∷ l) (cut_spared s t h)
@@ -147,13 +147,13 @@ written_front Policy.Decimal s t = (t, refl)
 written_front Policy.Hexadecimal s t = (t, refl)
 written_front Policy.Stop s t = cut_front s t
 
-cut_once : (s t : List Item) → 0 < lost_lines (up_to_loss s) → up_to_loss (s ++ t) ≡ up_to_loss s
+cut_once : (s t : List Item) → 0 < lost_line_count (up_to_loss s) → up_to_loss (s ++ t) ≡ up_to_loss s
 cut_once [] t h = absurd (omega (arith, h))
 cut_once (Byte b ∷ s) t h = ap (λ l. Byte b ∷ l) (cut_once s t h)
 cut_once (MalformedAt o n ∷ s) t h = ap (λ l. MalformedAt o n ∷ l) (cut_once s t h)
 cut_once (LostAt i c ∷ s) t h = refl
 
-written_once : (p : Policy) (s t : List Item) → p ≡ Policy.Stop → 0 < lost_lines (written_under p s) → written_under p (s ++ t) ≡ written_under p s
+written_once : (p : Policy) (s t : List Item) → p ≡ Policy.Stop → 0 < lost_line_count (written_under p s) → written_under p (s ++ t) ≡ written_under p s
 written_once Policy.Decimal s t is h = absurd (cc)
 written_once Policy.Hexadecimal s t is h = absurd (cc)
 written_once Policy.Stop s t is h = cut_once s t h
@@ -182,7 +182,7 @@ stop_front p Log taken total rest k = tt
 stop_front p TooLong taken total rest k = tt
 stop_front p (Unmappable i c) taken total rest k =
     stop_is p (Unmappable i c) taken _ _
-    (sym (written_once p total rest k.policy (omega (arith, ap lost_lines k.last, lost_lines-append k.items (LostAt i c ∷ []))))) k
+    (sym (written_once p total rest k.policy (omega (arith, ap lost_line_count k.last, lost_lines-append k.items (LostAt i c ∷ []))))) k
 
 pub left_behind : (p : Policy) (f : Fault) (s : List Item) (taken : List TaggedByte) (a b : List Item) → IsSpared p s → a ≡ s ++ b → IsLeft p f taken b → IsLeft p f (tagged s ++ taken) a
 left_behind p f s taken a b h e k =
@@ -429,13 +429,13 @@ WritesItemsFor-under w w' w'' x y p f last a b h k = record {
 -- What the trace of a whole input is made of.
 
 -- The output.
-pub outputs-tagged : (t : List Item) → outputs (tagged t) ≡ bytes_of t
+pub outputs-tagged : (t : List Item) → output_bytes (tagged t) ≡ item_bytes t
 outputs-tagged [] = refl
 outputs-tagged (Byte b ∷ t) = ap (λ x. b ∷ x) (outputs-tagged t)
 outputs-tagged (MalformedAt offset size ∷ t) =
-    outputs-append (map Line (line_bytes (LogLine.Bad offset size))) (tagged t) ∙ ap (λ x. x ++ outputs (tagged t)) (outputs-lines (line_bytes (LogLine.Bad offset size))) ∙ outputs-tagged t
+    outputs-append (map Line (line_bytes (LogLine.Bad offset size))) (tagged t) ∙ ap (λ x. x ++ output_bytes (tagged t)) (outputs-lines (line_bytes (LogLine.Bad offset size))) ∙ outputs-tagged t
 outputs-tagged (LostAt index scalar ∷ t) =
-    outputs-append (map Line (line_bytes (LogLine.Lost index scalar))) (tagged t) ∙ ap (λ x. x ++ outputs (tagged t)) (outputs-lines (line_bytes (LogLine.Lost index scalar))) ∙ outputs-tagged t
+    outputs-append (map Line (line_bytes (LogLine.Lost index scalar))) (tagged t) ∙ ap (λ x. x ++ output_bytes (tagged t)) (outputs-lines (line_bytes (LogLine.Lost index scalar))) ∙ outputs-tagged t
 
 pub open_from-append : (ref : Reference) (e : Coding) (s : EscapeState) (a b : List ℕ) → open_from ref e s (a ++ b) ≡ open_from ref e s a ++ open_from ref e (last_set e s a) b
 open_from-append ref e s [] b = refl
@@ -452,20 +452,20 @@ whole_from-append ref e s a b =
     ∙ ap (λ q. (open_from ref e s a ++ open_from ref e (last_set e s a) b) ++ e.escape q Ascii) (last_set-append e s a b)
     ∙ append_assoc (open_from ref e s a) (open_from ref e (last_set e s a) b) (e.escape (last_set e (last_set e s a) b) Ascii)
 
-bytes_of-trace : (ref : Reference) (e : Coding) (s : EscapeState) (offset i : ℕ) (ps : List Piece) → bytes_of (trace_from ref e s offset i ps) ≡ whole_from ref e s (text ps)
+bytes_of-trace : (ref : Reference) (e : Coding) (s : EscapeState) (offset i : ℕ) (ps : List Piece) → item_bytes (trace_from ref e s offset i ps) ≡ whole_from ref e s (text ps)
 bytes_of-trace ref e s offset i [] = bytes_of-bytes (e.escape s Ascii)
 bytes_of-trace ref e s offset i (well_formed n cs ∷ ps) =
     bytes_of-append (open_items ref e s i cs) (trace_from ref e (last_set e s cs) (offset + n) (i + length cs) ps)
-    ∙ ap (λ x. x ++ bytes_of (trace_from ref e (last_set e s cs) (offset + n) (i + length cs) ps)) (bytes_of-open_items ref e s i cs)
+    ∙ ap (λ x. x ++ item_bytes (trace_from ref e (last_set e s cs) (offset + n) (i + length cs) ps)) (bytes_of-open_items ref e s i cs)
     ∙ ap (λ x. open_from ref e s cs ++ x) (bytes_of-trace ref e (last_set e s cs) (offset + n) (i + length cs) ps)
     ∙ sym (whole_from-append ref e s cs (text ps))
 bytes_of-trace ref e s offset i (malformed n ∷ ps) =
     bytes_of-append (open_items ref e s i (0xFFFD ∷ [])) (trace_from ref e (e.set s 0xFFFD) (offset + n) (i + 1) ps)
-    ∙ ap (λ x. x ++ bytes_of (trace_from ref e (e.set s 0xFFFD) (offset + n) (i + 1) ps)) (bytes_of-open_items ref e s i (0xFFFD ∷ []))
+    ∙ ap (λ x. x ++ item_bytes (trace_from ref e (e.set s 0xFFFD) (offset + n) (i + 1) ps)) (bytes_of-open_items ref e s i (0xFFFD ∷ []))
     ∙ ap (λ x. open_from ref e s (0xFFFD ∷ []) ++ x) (bytes_of-trace ref e (e.set s 0xFFFD) (offset + n) (i + 1) ps)
     ∙ sym (whole_from-append ref e s (0xFFFD ∷ []) (text ps))
 
-pub outputs-trace : (ref : Reference) (e : Coding) (s : EscapeState) (offset i : ℕ) (ps : List Piece) → outputs (tagged (trace_from ref e s offset i ps)) ≡ whole_from ref e s (text ps)
+pub outputs-trace : (ref : Reference) (e : Coding) (s : EscapeState) (offset i : ℕ) (ps : List Piece) → output_bytes (tagged (trace_from ref e s offset i ps)) ≡ whole_from ref e s (text ps)
 outputs-trace ref e s offset i ps = outputs-tagged (trace_from ref e s offset i ps) ∙ bytes_of-trace ref e s offset i ps
 
 -- The log: the lines that items have.
@@ -475,10 +475,10 @@ noted (Byte b ∷ s) = noted s
 noted (MalformedAt offset size ∷ s) = Bad offset size ∷ noted s
 noted (LostAt i c ∷ s) = Lost i c ∷ noted s
 
-lines-line : (line : List ℕ) (s : List Item) → lines (map Line line ++ tagged s) ≡ line ++ lines (tagged s)
-lines-line line s = lines-append (map Line line) (tagged s) ∙ ap (λ x. x ++ lines (tagged s)) (lines-lines line)
+lines-line : (line : List ℕ) (s : List Item) → log_bytes (map Line line ++ tagged s) ≡ line ++ log_bytes (tagged s)
+lines-line line s = lines-append (map Line line) (tagged s) ∙ ap (λ x. x ++ log_bytes (tagged s)) (lines-lines line)
 
-pub lines-noted : (s : List Item) → lines (tagged s) ≡ flat_map line_bytes (noted s)
+pub lines-noted : (s : List Item) → log_bytes (tagged s) ≡ flat_map line_bytes (noted s)
 lines-noted [] = refl
 lines-noted (Byte b ∷ s) = lines-noted s
 lines-noted (MalformedAt offset size ∷ s) = lines-line (line_bytes (Bad offset size)) s ∙ ap (λ x. line_bytes (Bad offset size) ++ x) (lines-noted s)
@@ -496,9 +496,9 @@ noted-bytes (b ∷ bs) = noted-bytes bs
 
 noted-form : (ref : Reference) (i : ℕ) (f : Form) → noted (form_items ref i f) ≡ form_lines i f
 noted-form ref i (Mapped bs) = noted-bytes bs
-noted-form ref i (Unmapped c) = ap (λ x. Lost i c ∷ x) (noted-bytes (reference ref c))
+noted-form ref i (Unmapped c) = ap (λ x. Lost i c ∷ x) (noted-bytes (reference_bytes ref c))
 
-noted-open : (ref : Reference) (e : Coding) (s : EscapeState) (i : ℕ) (t : List ℕ) → noted (open_items ref e s i t) ≡ lost_in e i t
+noted-open : (ref : Reference) (e : Coding) (s : EscapeState) (i : ℕ) (t : List ℕ) → noted (open_items ref e s i t) ≡ lost_log_lines e i t
 noted-open ref e s i [] = refl
 noted-open ref e s i (c ∷ t) =
     let rest : List Item = open_items ref e (e.set s c) (i + 1) t in
@@ -514,40 +514,40 @@ noted-trace ref e s offset i (well_formed n cs ∷ ps) =
     let rest : List Item = trace_from ref e (last_set e s cs) (offset + n) (i + length cs) ps in
     noted-append (open_items ref e s i cs) rest
     ∙ ap (λ x. x ++ noted rest) (noted-open ref e s i cs)
-    ∙ ap (λ x. lost_in e i cs ++ x) (noted-trace ref e (last_set e s cs) (offset + n) (i + length cs) ps)
+    ∙ ap (λ x. lost_log_lines e i cs ++ x) (noted-trace ref e (last_set e s cs) (offset + n) (i + length cs) ps)
 noted-trace ref e s offset i (malformed n ∷ ps) =
     let rest : List Item = trace_from ref e (e.set s 0xFFFD) (offset + n) (i + 1) ps in
     ap (λ x. Bad offset n ∷ x)
     (noted-append (open_items ref e s i (0xFFFD ∷ [])) rest
     ∙ ap (λ x. x ++ noted rest) (noted-open ref e s i (0xFFFD ∷ []))
-    ∙ ap (λ x. lost_in e i (0xFFFD ∷ []) ++ x) (noted-trace ref e (e.set s 0xFFFD) (offset + n) (i + 1) ps))
+    ∙ ap (λ x. lost_log_lines e i (0xFFFD ∷ []) ++ x) (noted-trace ref e (e.set s 0xFFFD) (offset + n) (i + 1) ps))
 
-pub lines-trace : (ref : Reference) (e : Coding) (s : EscapeState) (offset i : ℕ) (ps : List Piece) → lines (tagged (trace_from ref e s offset i ps)) ≡ flat_map line_bytes (log_lines e offset i ps)
+pub lines-trace : (ref : Reference) (e : Coding) (s : EscapeState) (offset i : ℕ) (ps : List Piece) → log_bytes (tagged (trace_from ref e s offset i ps)) ≡ flat_map line_bytes (log_lines e offset i ps)
 lines-trace ref e s offset i ps = lines-noted (trace_from ref e s offset i ps) ∙ ap (flat_map line_bytes) (noted-trace ref e s offset i ps)
 
 -- The numbers of its lines.
-bad_lines-form : (ref : Reference) (i : ℕ) (f : Form) → bad_lines (form_items ref i f) ≡ 0
+bad_lines-form : (ref : Reference) (i : ℕ) (f : Form) → bad_line_count (form_items ref i f) ≡ 0
 bad_lines-form ref i (Mapped bs) = bad_lines-bytes bs
-bad_lines-form ref i (Unmapped c) = bad_lines-bytes (reference ref c)
+bad_lines-form ref i (Unmapped c) = bad_lines-bytes (reference_bytes ref c)
 
-bad_lines-open : (ref : Reference) (e : Coding) (s : EscapeState) (i : ℕ) (t : List ℕ) → bad_lines (open_items ref e s i t) ≡ 0
+bad_lines-open : (ref : Reference) (e : Coding) (s : EscapeState) (i : ℕ) (t : List ℕ) → bad_line_count (open_items ref e s i t) ≡ 0
 bad_lines-open ref e s i [] = refl
 bad_lines-open ref e s i (c ∷ t) =
     let rest : List Item = open_items ref e (e.set s c) (i + 1) t in
     omega (arith, bad_lines-append (map Byte (e.escape s (e.set s c))) (form_items ref i (e.form c) ++ rest), bad_lines-bytes (e.escape s (e.set s c)), bad_lines-append (form_items ref i (e.form c)) rest, bad_lines-form ref i (e.form c), bad_lines-open ref e (e.set s c) (i + 1) t)
 
-pub bad_lines-trace : (ref : Reference) (e : Coding) (s : EscapeState) (offset i : ℕ) (ps : List Piece) → bad_lines (trace_from ref e s offset i ps) ≡ malformed_count ps
+pub bad_lines-trace : (ref : Reference) (e : Coding) (s : EscapeState) (offset i : ℕ) (ps : List Piece) → bad_line_count (trace_from ref e s offset i ps) ≡ malformed_count ps
 bad_lines-trace ref e s offset i [] = bad_lines-bytes (e.escape s Ascii)
 bad_lines-trace ref e s offset i (well_formed n cs ∷ ps) =
     omega (arith, bad_lines-append (open_items ref e s i cs) (trace_from ref e (last_set e s cs) (offset + n) (i + length cs) ps), bad_lines-open ref e s i cs, bad_lines-trace ref e (last_set e s cs) (offset + n) (i + length cs) ps)
 bad_lines-trace ref e s offset i (malformed n ∷ ps) =
     omega (arith, bad_lines-append (open_items ref e s i (0xFFFD ∷ [])) (trace_from ref e (e.set s 0xFFFD) (offset + n) (i + 1) ps), bad_lines-open ref e s i (0xFFFD ∷ []), bad_lines-trace ref e (e.set s 0xFFFD) (offset + n) (i + 1) ps)
 
-lost_lines-form : (ref : Reference) (i : ℕ) (f : Form) → lost_lines (form_items ref i f) ≡ unmapped_count f
+lost_lines-form : (ref : Reference) (i : ℕ) (f : Form) → lost_line_count (form_items ref i f) ≡ unmapped_count f
 lost_lines-form ref i (Mapped bs) = lost_lines-bytes bs
-lost_lines-form ref i (Unmapped c) = omega (arith, lost_lines-bytes (reference ref c))
+lost_lines-form ref i (Unmapped c) = omega (arith, lost_lines-bytes (reference_bytes ref c))
 
-lost_lines-open : (ref : Reference) (e : Coding) (s : EscapeState) (i : ℕ) (t : List ℕ) → lost_lines (open_items ref e s i t) ≡ lost_count e t
+lost_lines-open : (ref : Reference) (e : Coding) (s : EscapeState) (i : ℕ) (t : List ℕ) → lost_line_count (open_items ref e s i t) ≡ lost_count e t
 lost_lines-open ref e s i [] = refl
 lost_lines-open ref e s i (c ∷ t) =
     let rest : List Item = open_items ref e (e.set s c) (i + 1) t in
@@ -557,7 +557,7 @@ lost_count-append : (e : Coding) (a b : List ℕ) → lost_count e (a ++ b) ≡ 
 lost_count-append e [] b = omega arith
 lost_count-append e (c ∷ a) b = omega (arith, lost_count-append e a b)
 
-pub lost_lines-trace : (ref : Reference) (e : Coding) (s : EscapeState) (offset i : ℕ) (ps : List Piece) → lost_lines (trace_from ref e s offset i ps) ≡ lost_count e (text ps)
+pub lost_lines-trace : (ref : Reference) (e : Coding) (s : EscapeState) (offset i : ℕ) (ps : List Piece) → lost_line_count (trace_from ref e s offset i ps) ≡ lost_count e (text ps)
 lost_lines-trace ref e s offset i [] = lost_lines-bytes (e.escape s Ascii)
 lost_lines-trace ref e s offset i (well_formed n cs ∷ ps) =
     omega (arith, lost_lines-append (open_items ref e s i cs) (trace_from ref e (last_set e s cs) (offset + n) (i + length cs) ps), lost_lines-open ref e s i cs, lost_lines-trace ref e (last_set e s cs) (offset + n) (i + length cs) ps, lost_count-append e cs (text ps))
@@ -575,14 +575,14 @@ mapped_where_none : (i : ℕ) (f : Form) (ls : List LogLine) → form_lines i f 
 mapped_where_none i (Mapped bs) ls h = (tt, h)
 mapped_where_none i (Unmapped c) ls h = absurd (cc)
 
-no_line_lost : (e : Coding) (i : ℕ) (t : List ℕ) → AllMapped e t → lost_in e i t ≡ []
+no_line_lost : (e : Coding) (i : ℕ) (t : List ℕ) → AllMapped e t → lost_log_lines e i t ≡ []
 no_line_lost e i [] h = refl
-no_line_lost e i (c ∷ t) h = ap (λ ls. ls ++ lost_in e (i + 1) t) (mapped_lines i (e.form c) h.0) ∙ no_line_lost e (i + 1) t h.1
+no_line_lost e i (c ∷ t) h = ap (λ ls. ls ++ lost_log_lines e (i + 1) t) (mapped_lines i (e.form c) h.0) ∙ no_line_lost e (i + 1) t h.1
 
-mapped_where_no_line : (e : Coding) (i : ℕ) (t : List ℕ) (ls : List LogLine) → lost_in e i t ++ ls ≡ [] → AllMapped e t × (ls ≡ [])
+mapped_where_no_line : (e : Coding) (i : ℕ) (t : List ℕ) (ls : List LogLine) → lost_log_lines e i t ++ ls ≡ [] → AllMapped e t × (ls ≡ [])
 mapped_where_no_line e i [] ls h = (tt, h)
 mapped_where_no_line e i (c ∷ t) ls h =
-    let one = mapped_where_none i (e.form c) (lost_in e (i + 1) t ++ ls) (sym (append_assoc (form_lines i (e.form c)) (lost_in e (i + 1) t) ls) ∙ h) in
+    let one = mapped_where_none i (e.form c) (lost_log_lines e (i + 1) t ++ ls) (sym (append_assoc (form_lines i (e.form c)) (lost_log_lines e (i + 1) t) ls) ∙ h) in
     let more = mapped_where_no_line e (i + 1) t ls one.1 in
     ((one.0, more.0), more.1)
 

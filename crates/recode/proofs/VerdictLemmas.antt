@@ -6,10 +6,10 @@ use Rattle.std.specs.Bool.{MatchBool}
 use Rattle.std.specs.Str.{all_scalars}
 use Rattle.std.proofs.lemmas.Bool.{false≢true}
 use Rattle.encoding_mem.specs.Coding.{Coding, IsCoding}
-use Rattle.encoding_mem.specs.Encoding.{Encodes}
+use Rattle.encoding_mem.specs.calls.EncoderCalls.{Encodes}
 use Rattle.encoding_mem.specs.Piece.{Piece, well_formed, malformed, text, AreWellFormed}
-use Rattle.encoding_mem.specs.ReadCalls.{CallsAlong, HoldsAfter, KeepsVerdict, NothingIsLost, ReadsAlong, ReadsWhole}
-use Rattle.encoding_mem.specs.Decoding.{DecoderState}
+use Rattle.encoding_mem.specs.calls.ReadCalls.{CallsAlong, HoldsAfter, KeepsVerdict, IsNotUnmappable, ReadsAlong, ReadsWhole}
+use Rattle.encoding_mem.specs.calls.Decoding.{DecoderState}
 use Rattle.encoding_mem.specs.laws.Agreement.{well_formed_parts}
 use Rattle.encoding_mem.specs.laws.Piece.{AreWellFormed-append, text-append}
 use Rattle.encoding_mem.specs.laws.ReadCalls.{begins_along, differing_part_never_reads, ends_along, lost_never_reads, next_along, verdict_of_call}
@@ -19,7 +19,7 @@ use Rattle.encoding_mem.specs.declared.form.EscapeState.TheVariants.{Ascii}
 use Rattle.encoding_mem.specs.declared.reference.Reference.{Reference}
 use Rattle.encoding_mem.specs.declared.encoder_result.EncoderResult.{EncoderResult}
 use Rattle.encoding_mem.specs.declared.encoder_result.EncoderResult.TheVariants.{InputEmpty, OutputFull, Unmappable}
-use Rattle.recode.specs.Verdict.{CanTell, IsFaithfulFor, IsReadAlong, IsReadBack, IsToldAtEnd, IsToldByLog, Keeps, ReadsAsOther, ReadsAsText, VerdictView, to_read}
+use Rattle.recode.specs.calls.Verdict.{CanTell, IsFaithfulFor, IsReadAlong, IsReadBack, IsToldAtEnd, IsToldByLog, VerdictIsKept, ReadsAsOther, ReadsAsText, VerdictView, to_read}
 use Rattle.recode.proofs.CompareLemmas.{text_of_scalars}
 use Rattle.recode.proofs.DecoderCallLemmas.{MalformedCall, WellFormedCall}
 
@@ -38,11 +38,11 @@ true_or_false false = inr refl
 
 -- one call of an encoder that reads some of a text, and what the reader makes of its bytes
 module _ (e : Coding) (need : ℕ) (coding : IsCoding need e) (last : Bool) (outcome : EncoderResult) (v v' : VerdictView) (s : EscapeState) (t w : List ℕ) (s' : EscapeState) (rest read : List ℕ)
-    (scalars : all_scalars t ≡ true) (encodes : Encodes e last outcome s t w s' rest) (kept : NothingIsLost outcome) (split : t ≡ read ++ rest) (back : IsReadBack v v' w read) where
+    (scalars : all_scalars t ≡ true) (encodes : Encodes e last outcome s t w s' rest) (kept : IsNotUnmappable outcome) (split : t ≡ read ++ rest) (back : IsReadBack v v' w read) where
   calls_along : (k : IsReadAlong v e s t) → IsTrue v.faithful → CallsAlong e k.pieces_from (to_read v) last outcome s t w s' rest
   calls_along k faithful = record { need = need; coding = coding; steps = k.steps; scalars = scalars; encodes = encodes; along = k.along faithful }
 
-  other_keeps : (k : IsReadAlong v e s t) → IsTrue v.faithful → ReadsAsOther (to_read v) (to_read v') w read → v'.faithful ≡ false → Keeps e last v s t v' s' rest
+  other_keeps : (k : IsReadAlong v e s t) → IsTrue v.faithful → ReadsAsOther (to_read v) (to_read v') w read → v'.faithful ≡ false → VerdictIsKept e last v s t v' s' rest
   other_keeps k faithful (inl part) is =
       subst (λ b. KeepsVerdict e last v.faithful (to_read v) s t b (to_read v') s' rest) (sym is)
       (keeps_lost e last v.faithful (to_read v) (to_read v') s t s' rest
@@ -52,31 +52,31 @@ module _ (e : Coding) (need : ℕ) (coding : IsCoding need e) (last : Bool) (out
       (keeps_lost e last v.faithful (to_read v) (to_read v') s t s' rest
       ((verdict_of_call e k.pieces_from (to_read v) last outcome s t w s' rest (calls_along k faithful) kept read split (to_read v') whole.0 whole.1).differs whole.2))
 
-  text_keeps : (k : IsReadAlong v e s t) → IsTrue v.faithful → ReadsAsText (to_read v) (to_read v') w read → v'.faithful ≡ true → Keeps e last v s t v' s' rest
+  text_keeps : (k : IsReadAlong v e s t) → IsTrue v.faithful → ReadsAsText (to_read v) (to_read v') w read → v'.faithful ≡ true → VerdictIsKept e last v s t v' s' rest
   text_keeps k faithful h is =
       subst (λ b. KeepsVerdict e last b (to_read v) s t v'.faithful (to_read v') s' rest) (sym faithful)
       (subst (λ b. KeepsVerdict e last true (to_read v) s t b (to_read v') s' rest) (sym is)
       (keeps_agreed e last (to_read v) (to_read v') s t s' rest
       ((verdict_of_call e k.pieces_from (to_read v) last outcome s t w s' rest (calls_along k faithful) kept read split (to_read v') h.taken h.has).agrees h.well_formed h.same)))
 
-  compared_keeps : (k : IsReadAlong v e s t) → IsFalse v.by_log → IsTrue v.faithful → Keeps e last v s t v' s' rest
+  compared_keeps : (k : IsReadAlong v e s t) → IsFalse v.by_log → IsTrue v.faithful → VerdictIsKept e last v s t v' s' rest
   compared_keeps k no_log faithful = elim (true_or_false v'.faithful) [
     | inl is ↦ text_keeps k faithful (subst (λ b. MatchBool b (ReadsAsText (to_read v) (to_read v') w read) (ReadsAsOther (to_read v) (to_read v') w read)) is (back.compared no_log faithful)) is
     | inr is ↦ other_keeps k faithful (subst (λ b. MatchBool b (ReadsAsText (to_read v) (to_read v') w read) (ReadsAsOther (to_read v) (to_read v') w read)) is (back.compared no_log faithful)) is
   ]
 
-  lost_keeps : v.faithful ≡ false → v' ≡ v → Keeps e last v s t v' s' rest
+  lost_keeps : v.faithful ≡ false → v' ≡ v → VerdictIsKept e last v s t v' s' rest
   lost_keeps lost same =
-      subst (λ u. Keeps e last v s t u s' rest) (sym same)
+      subst (λ u. VerdictIsKept e last v s t u s' rest) (sym same)
       (subst (λ b. KeepsVerdict e last b (to_read v) s t b (to_read v) s' rest) (sym lost) (keeps_false e last (to_read v) (to_read v) s t s' rest))
 
-  logged_keeps : (k : IsReadAlong v e s t) → IsTrue v.by_log → v.faithful ≡ true → v' ≡ v → Keeps e last v s t v' s' rest
+  logged_keeps : (k : IsReadAlong v e s t) → IsTrue v.by_log → v.faithful ≡ true → v' ≡ v → VerdictIsKept e last v s t v' s' rest
   logged_keeps k by_log faithful same =
-      subst (λ u. Keeps e last v s t u s' rest) (sym same)
+      subst (λ u. VerdictIsKept e last v s t u s' rest) (sym same)
       (subst (λ b. KeepsVerdict e last b (to_read v) s t b (to_read v) s' rest) (sym faithful)
       ((k.told by_log).keeps last outcome s t w s' rest scalars encodes kept))
 
-  along_keeps : IsReadAlong v e s t → Keeps e last v s t v' s' rest
+  along_keeps : IsReadAlong v e s t → VerdictIsKept e last v s t v' s' rest
   along_keeps k = elim (true_or_false v.faithful) [
     | inr lost ↦ lost_keeps lost (back.kept (inr lost))
     | inl faithful ↦ elim (true_or_false v.by_log) [
@@ -86,7 +86,7 @@ module _ (e : Coding) (need : ℕ) (coding : IsCoding need e) (last : Bool) (out
   ]
 
   -- the verdict is kept
-  pub read_keeps : CanTell v e s t → Keeps e last v s t v' s' rest
+  pub read_keeps : CanTell v e s t → VerdictIsKept e last v s t v' s' rest
   read_keeps h = ∥∥₁_elim h.along (hlevel (props, are_well_formed_prop)) along_keeps
 
   -- what holds of the reader then
@@ -126,7 +126,7 @@ pub full_tells : (e : Coding) (need : ℕ) → IsCoding need e → (last : Bool)
 full_tells e need coding last v v' s t w s' rest read scalars encodes split back h =
     can_tell_still e need coding last OutputFull v v' s t w s' rest read scalars encodes full_kept split back h (read_holds e need coding last OutputFull v v' s t w s' rest read scalars encodes full_kept split back)
   where
-    full_kept : NothingIsLost OutputFull
+    full_kept : IsNotUnmappable OutputFull
     full_kept m = λ h. cc
 
 pub read_tells : (e : Coding) (need : ℕ) → IsCoding need e → (v v' : VerdictView) (s : EscapeState) (t w : List ℕ) (s' : EscapeState) (rest read : List ℕ)
@@ -134,7 +134,7 @@ pub read_tells : (e : Coding) (need : ℕ) → IsCoding need e → (v v' : Verdi
 read_tells e need coding v v' s t w s' rest read scalars encodes split back h =
     can_tell_still e need coding false InputEmpty v v' s t w s' rest read scalars encodes read_kept split back h (read_holds e need coding false InputEmpty v v' s t w s' rest read scalars encodes read_kept split back)
   where
-    read_kept : NothingIsLost InputEmpty
+    read_kept : IsNotUnmappable InputEmpty
     read_kept m = λ h. cc
 
 -- and where it is the last
@@ -147,7 +147,7 @@ end_tells e need coding v v' s t w s' rest read scalars encodes split back h fai
   | inr no_log ↦ read_holds e need coding true InputEmpty v v' s t w s' rest read scalars encodes read_kept split back k no_log faithful'
 ])
   where
-    read_kept : NothingIsLost InputEmpty
+    read_kept : IsNotUnmappable InputEmpty
     read_kept m = λ h. cc
 
 -- ---- something is lost
@@ -168,7 +168,7 @@ lost_tells e v s t s' rest h = record {
 }
 
 pub unmapped_keeps : (e : Coding) (need : ℕ) → IsCoding need e → (last : Bool) (m : ℕ) (v : VerdictView) (s : EscapeState) (t w : List ℕ) (s' : EscapeState) (rest : List ℕ)
-    → all_scalars t ≡ true → Encodes e last (Unmappable m) s t w s' rest → CanTell v e s t → Keeps e last v s t (lost_of v) s' rest
+    → all_scalars t ≡ true → Encodes e last (Unmappable m) s t w s' rest → CanTell v e s t → VerdictIsKept e last v s t (lost_of v) s' rest
 unmapped_keeps e need coding last m v s t w s' rest scalars encodes h = ∥∥₁_elim h.along (hlevel (props, are_well_formed_prop)) (λ (k : IsReadAlong v e s t). elim (true_or_false v.faithful) [
   | inl faithful ↦ keeps_lost e last v.faithful (to_read v) (to_read v) s t s' rest
       (lost_never_reads e k.pieces_from (to_read v) last m s t w s' rest (record { need = need; coding = coding; steps = k.steps; scalars = scalars; encodes = encodes; along = k.along faithful }))
@@ -188,7 +188,7 @@ next_tells e v s t h = record {
   });
 }
 
-pub begins_keeps : (e : Coding) (last : Bool) (v : VerdictView) (s : EscapeState) (t : List ℕ) → Keeps e last v s t v s t
+pub begins_keeps : (e : Coding) (last : Bool) (v : VerdictView) (s : EscapeState) (t : List ℕ) → VerdictIsKept e last v s t v s t
 begins_keeps e last v s t = λ ref u ends. (λ h. h, λ h. h)
 
 pub was_true : (a b : Bool) → (a ≡ false → b ≡ false) → b ≡ true → a ≡ true
@@ -201,7 +201,7 @@ pub both_ways : {A B C : Type 0} → A ↔ B → B ↔ C → A ↔ C
 both_ways h k = (λ a. k.0 (h.0 a), λ c. h.1 (k.1 c))
 
 -- pieces whose text was encoded, and those behind them
-pub faithful_on : (ref : Reference) (e : Coding) (last : Bool) (v v' : VerdictView) (s s' : EscapeState) (taken behind all : List Piece) (t : List ℕ) → Keeps e last v s t v' s' [] → (IsTrue last → text behind ≡ []) → AreWellFormed taken → text taken ≡ t
+pub faithful_on : (ref : Reference) (e : Coding) (last : Bool) (v v' : VerdictView) (s s' : EscapeState) (taken behind all : List Piece) (t : List ℕ) → VerdictIsKept e last v s t v' s' [] → (IsTrue last → text behind ≡ []) → AreWellFormed taken → text taken ≡ t
     → all ≡ taken ++ behind → IsFaithfulFor ref v e s all ↔ IsFaithfulFor ref v' e s' behind
 faithful_on ref e last v v' s s' taken behind all t keeps ends good same is =
     let both = keeps ref (text behind) ends in
@@ -215,7 +215,7 @@ faithful_on ref e last v v' s s' taken behind all t keeps ends good same is =
     )
 
 module _ (ref : Reference) (before after : DecoderState) (src : List ℕ) (last : Bool) (read : ℕ) (t : List ℕ) (e : Coding) (v v' : VerdictView) (s s' : EscapeState) where
-  pub well_formed_verdict : (k : WellFormedCall before after src last read t) (ended : Bool) → Keeps e ended v s t v' s' [] → (IsTrue ended → (r : List ℕ) → (last ≡ true → r ≡ []) → after.pieces (drop read src ++ r) ≡ [])
+  pub well_formed_verdict : (k : WellFormedCall before after src last read t) (ended : Bool) → VerdictIsKept e ended v s t v' s' [] → (IsTrue ended → (r : List ℕ) → (last ≡ true → r ≡ []) → after.pieces (drop read src ++ r) ≡ [])
       → (r : List ℕ) → (last ≡ true → r ≡ []) → IsFaithfulFor ref v e s (before.pieces (src ++ r)) ↔ IsFaithfulFor ref v' e s' (after.pieces (drop read src ++ r))
   well_formed_verdict k ended keeps none r h =
       faithful_on ref e ended v v' s s' k.taken (after.pieces (drop read src ++ r)) (before.pieces (src ++ r)) t keeps (λ end. ap text (none end r h)) k.fine (text_of_scalars k.taken k.fine ∙ sym k.text_is) (k.rest r h)

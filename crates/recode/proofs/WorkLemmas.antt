@@ -3,9 +3,9 @@ use Rattle.std.proofs.Common.{◌≡◌, ℕ, ◌+◌, ◌-◌, ◌*◌, ◌^◌
 use Rattle.encoding_mem.specs.Items.{Item, Byte, MalformedAt, LostAt}
 use Rattle.recode_log.specs.Line.{line_bytes}
 use Rattle.recode_log.specs.declared.line.LogLine.TheVariants.{Bad, Lost}
-use Rattle.recode.specs.TaggedByte.{Line, outputs, tagged}
+use Rattle.recode.specs.TaggedByte.{Line, output_bytes, tagged}
 use Rattle.recode.specs.Work.{IsCounted, TakesCalls}
-use Rattle.recode.specs.WrittenItems.{bad_lines, lost_lines}
+use Rattle.recode.specs.WrittenItems.{bad_line_count, lost_line_count}
 use Rattle.recode.specs.declared.target.Counts.{Counts}
 use Rattle.recode.proofs.TraceLemmas.{outputs-append, outputs-lines}
 
@@ -35,14 +35,14 @@ counted_more calls calls1 calls2 left most up few one = record {
 }
 
 -- items are bytes and lines
-pub items_split : (t : List Item) → length t ≡ length (outputs (tagged t)) + bad_lines t + lost_lines t
+pub items_split : (t : List Item) → length t ≡ length (output_bytes (tagged t)) + bad_line_count t + lost_line_count t
 items_split [] = refl
 items_split (Byte b ∷ t) = omega (arith, items_split t)
 items_split (MalformedAt offset size ∷ t) =
-    let none : outputs (tagged (MalformedAt offset size ∷ t)) ≡ outputs (tagged t) =
-    outputs-append (map Line (line_bytes (Bad offset size))) (tagged t) ∙ ap (λ l. l ++ outputs (tagged t)) (outputs-lines (line_bytes (Bad offset size))) in
+    let none : output_bytes (tagged (MalformedAt offset size ∷ t)) ≡ output_bytes (tagged t) =
+    outputs-append (map Line (line_bytes (Bad offset size))) (tagged t) ∙ ap (λ l. l ++ output_bytes (tagged t)) (outputs-lines (line_bytes (Bad offset size))) in
     omega (arith, items_split t, ap length none)
 items_split (LostAt index scalar ∷ t) =
-    let none : outputs (tagged (LostAt index scalar ∷ t)) ≡ outputs (tagged t) =
-    outputs-append (map Line (line_bytes (Lost index scalar))) (tagged t) ∙ ap (λ l. l ++ outputs (tagged t)) (outputs-lines (line_bytes (Lost index scalar))) in
+    let none : output_bytes (tagged (LostAt index scalar ∷ t)) ≡ output_bytes (tagged t) =
+    outputs-append (map Line (line_bytes (Lost index scalar))) (tagged t) ∙ ap (λ l. l ++ output_bytes (tagged t)) (outputs-lines (line_bytes (Lost index scalar))) in
     omega (arith, items_split t, ap length none)

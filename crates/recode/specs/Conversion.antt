@@ -7,7 +7,7 @@ use Rattle.recode.specs.Job.{trace, Faithful}
 use Rattle.recode.specs.Session.{WroteWhole}
 use Rattle.recode.specs.Step.{WasRead}
 use Rattle.recode.specs.Devices.{Devices, Failures}
-use Rattle.recode.specs.TaggedByte.{TaggedByte, IsPrefix, tagged, outputs, lines}
+use Rattle.recode.specs.TaggedByte.{TaggedByte, IsPrefix, tagged, output_bytes, log_bytes}
 use Rattle.recode.specs.WrittenItems.{IsStop}
 use Rattle.recode.specs.declared.job.Fault.{Fault}
 use Rattle.recode.specs.declared.job.Fault.TheVariants.{Read, Write, Log, TooLong, Unmappable}
@@ -69,7 +69,7 @@ pub record Breaks (before after : Devices) (j : Job) : Type 0 where
   pub cause : IsCause before.failures (record after.failures { log = untold }) before.input after.input j.limit fault
   pub told : ℕ
   pub whole : IsTold untold after.failures.log (message_of fault) told
-  pub output : Appends before.written.output after.written.output (outputs taken)
-  pub logged : Appends before.written.log after.written.log (lines taken ++ take told (message_of fault))
+  pub output : Appends before.written.output after.written.output (output_bytes taken)
+  pub logged : Appends before.written.log after.written.log (log_bytes taken ++ take told (message_of fault))
   pub prefix : (r : List ℕ) → (read.ended ≡ true → r ≡ []) → IsPrefix taken (tagged (trace j (read.input ++ r)))
   pub stopped : (r : List ℕ) → (read.ended ≡ true → r ≡ []) → IsStop j.policy fault taken (trace j (read.input ++ r))

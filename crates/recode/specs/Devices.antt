@@ -3,7 +3,7 @@ use Rattle.std.specs.Prelude.{◌≡◌, ℕ, ◌+◌, List, Option, Some, Resul
 use Rattle.std.specs.Io.KnownBytes.{Keeps}
 use Rattle.recode_log.specs.Counted.{failures_of, inner_of}
 use Rattle.recode_log.specs.declared.counted.Counted.{Counted}
-use Rattle.recode.specs.Fault.{of_log, of_reader, of_writer}
+use Rattle.recode.specs.Fault.{log_failures, reader_failures, writer_failures}
 use Rattle.recode.specs.declared.job.Fault.{Fault}
 
 -- the bytes that the writer and the log have taken so far
@@ -11,7 +11,7 @@ pub record Written : Type 0 where
   pub output : Option (List ℕ)
   pub log : Option (List ℕ)
 
--- of devices that tell theirs
+-- what was written, of an output and a log that both tell their bytes
 abbrev pub known : (output log : List ℕ) → Written
 known output log = record { output = Some output; log = Some log }
 
@@ -32,11 +32,11 @@ pub record Devices : Type 0 where
   pub written : Written
   pub failures : Failures
 
--- of a writer and a log
+-- the bytes that a writer and a log have taken, as far as each tells it
 abbrev pub written_in : {W L : Type 0} → (W → Option (List ℕ)) → (L → Option (List ℕ)) → Counted W → Counted L → Written
 written_in contents logged writer log = record { output = contents (inner_of writer); log = logged (inner_of log) }
 
--- of a reader, a writer and a log
+-- the bytes and failures of a reader, a writer and a log, as far as each tells them
 abbrev pub devices_in : {R W L : Type 0} → (R → Option (List ℕ)) → (W → Option (List ℕ)) → (L → Option (List ℕ)) → Counted R → Counted W → Counted L → Devices
 devices_in remaining contents logged reader writer log = record {
   input = remaining (inner_of reader);
@@ -46,6 +46,6 @@ devices_in remaining contents logged reader writer log = record {
 
 -- The count of the device that a fault is of rose by one; the others stayed.
 pub record CountsFault {T : Type 0} (before after : Devices) (result : Result T Fault) : Type 0 where
-  pub reader : after.failures.reader ≡ before.failures.reader + of_reader result
-  pub writer : after.failures.writer ≡ before.failures.writer + of_writer result
-  pub log : after.failures.log ≡ before.failures.log + of_log result
+  pub reader : after.failures.reader ≡ before.failures.reader + reader_failures result
+  pub writer : after.failures.writer ≡ before.failures.writer + writer_failures result
+  pub log : after.failures.log ≡ before.failures.log + log_failures result

@@ -4,19 +4,19 @@ use Rattle.recode.specs.declared.job.Fault.{Fault}
 use Rattle.recode.specs.declared.job.Fault.TheVariants.{Read, Write, Log, TooLong}
 
 -- 1 if the result is a read fault, else 0: by so much the reader's count of failures rises
-abbrev pub of_reader : {T : Type 0} → Result T Fault → ℕ
-of_reader (Err Read) = 1
-of_reader _ = 0
+abbrev pub reader_failures : {T : Type 0} → Result T Fault → ℕ
+reader_failures (Err Read) = 1
+reader_failures _ = 0
 
 -- 1 if the result is a write fault, else 0: by so much the writer's count of failures rises
-abbrev pub of_writer : {T : Type 0} → Result T Fault → ℕ
-of_writer (Err Write) = 1
-of_writer _ = 0
+abbrev pub writer_failures : {T : Type 0} → Result T Fault → ℕ
+writer_failures (Err Write) = 1
+writer_failures _ = 0
 
 -- 1 if the result is a log fault, else 0: by so much the log's count of failures rises
-abbrev pub of_log : {T : Type 0} → Result T Fault → ℕ
-of_log (Err Log) = 1
-of_log _ = 0
+abbrev pub log_failures : {T : Type 0} → Result T Fault → ℕ
+log_failures (Err Log) = 1
+log_failures _ = 0
 
 -- a failed read, or an input that is too long
 abbrev pub of_other : {T : Type 0} → Result T Fault → ℕ

@@ -12,8 +12,8 @@ use Rattle.encoding_front.specs.declared.encoding.Encoding.{Encoding}
 use Rattle.encoding_tables.specs.IndexLists.{AreAcceptedTables}
 use Rattle.recode_log.specs.declared.line.LogLine.{LogLine}
 use Rattle.recode_log.specs.declared.line.LogLine.TheVariants.{Bad, Lost}
-use Rattle.recode.specs.Policy.{form_of, written_under}
-use Rattle.recode.specs.TaggedByte.{lines, outputs, tagged}
+use Rattle.recode.specs.Policy.{reference_form, written_under}
+use Rattle.recode.specs.TaggedByte.{log_bytes, output_bytes, tagged}
 use Rattle.recode.specs.declared.job.Job.{Job}
 use Rattle.recode.specs.declared.job.Policy.{Policy}
 
@@ -32,7 +32,7 @@ source_in j x = (source_of j.mark j.from x).0
 abbrev pub input_pieces : Job → List ℕ → List Piece
 input_pieces j x = marked_pieces j.tables.now j.mark j.from x
 
--- the characters of the input without a mark that is taken, U+FFFD for each malformed sequence
+-- the text of the input, with U+FFFD for each malformed sequence, without a mark that is taken
 abbrev pub input_text : Job → List ℕ → List ℕ
 input_text j x = text (input_pieces j x)
 
@@ -46,7 +46,7 @@ output_pieces j y = pieces_of j.tables.now (output_encoding_of j.to) y
 
 -- what is written to the output and to the log, in their one order, where no policy stops it
 abbrev pub whole_trace : Job → List ℕ → List Item
-whole_trace j x = trace_from (form_of j.policy) (target_of j) Ascii 0 0 (input_pieces j x)
+whole_trace j x = trace_from (reference_form j.policy) (target_of j) Ascii 0 0 (input_pieces j x)
 
 -- what is written to the output and to the log, in their one order: all, or what a stop leaves
 abbrev pub trace : Job → List ℕ → List Item
@@ -58,11 +58,11 @@ RunsThrough j x = j.policy ≡ Policy.Stop → lost_count (target_of j) (input_t
 
 -- the bytes of the output for an input: all, or those up to where the job's policy stops
 abbrev pub output_of : Job → List ℕ → List ℕ
-output_of j x = outputs (tagged (trace j x))
+output_of j x = output_bytes (tagged (trace j x))
 
 -- the bytes of the log for an input: all, or those up to where the job's policy stops
 abbrev pub log_of : Job → List ℕ → List ℕ
-log_of j x = lines (tagged (trace j x))
+log_of j x = log_bytes (tagged (trace j x))
 
 -- the log's line for the character with the index i, by its form: none if it has bytes
 abbrev pub form_lines : ℕ → Form → List LogLine
@@ -70,18 +70,18 @@ form_lines i (Mapped bs) = []
 form_lines i (Unmapped c) = Lost i c ∷ []
 
 -- the log's lines for the characters without bytes in a text, whose first character has index i
-abbrev pub lost_in : Coding → ℕ → List ℕ → List LogLine
-lost_in e i [] = []
-lost_in e i (c ∷ t) = form_lines i (e.form c) ++ lost_in e (i + 1) t
+abbrev pub lost_log_lines : Coding → ℕ → List ℕ → List LogLine
+lost_log_lines e i [] = []
+lost_log_lines e i (c ∷ t) = form_lines i (e.form c) ++ lost_log_lines e (i + 1) t
 
 -- The lines of pieces, the first at this offset, by rising index: where a character stands for a malformed sequence its
 -- line comes first, then that of the character, if it has no bytes.
 abbrev pub log_lines : Coding → (offset i : ℕ) → List Piece → List LogLine
 log_lines e offset i [] = []
-log_lines e offset i (well_formed n cs ∷ ps) = lost_in e i cs ++ log_lines e (offset + n) (i + length cs) ps
-log_lines e offset i (malformed n ∷ ps) = Bad offset n ∷ (lost_in e i (0xFFFD ∷ []) ++ log_lines e (offset + n) (i + 1) ps)
+log_lines e offset i (well_formed n cs ∷ ps) = lost_log_lines e i cs ++ log_lines e (offset + n) (i + length cs) ps
+log_lines e offset i (malformed n ∷ ps) = Bad offset n ∷ (lost_log_lines e i (0xFFFD ∷ []) ++ log_lines e (offset + n) (i + 1) ps)
 
--- up to the line of the first lost character, with it
+-- the log's lines up to that of the first lost character, with it
 abbrev pub lines_up_to_loss : List LogLine → List LogLine
 lines_up_to_loss [] = []
 lines_up_to_loss (Bad offset size ∷ t) = Bad offset size ∷ lines_up_to_loss t

@@ -4,11 +4,11 @@ use Rattle.std.specs.Io.KnownBytes.{Appends, Consumes}
 use Rattle.std.specs.List.{flat_map}
 use Rattle.encoding_mem.specs.Piece.{Piece, sizes, text}
 use Rattle.encoding_mem.specs.Coding.{last_set, open_from}
-use Rattle.encoding_mem.specs.Decoding.{IsDecided}
 use Rattle.encoding_mem.specs.declared.form.EscapeState.TheVariants.{Ascii}
+use Rattle.encoding_mem.specs.Decided.{IsDecided}
 use Rattle.recode_log.specs.Line.{line_bytes}
 use Rattle.recode.specs.Job.{input_pieces, log_lines, target_of}
-use Rattle.recode.specs.Policy.{form_of}
+use Rattle.recode.specs.Policy.{reference_form}
 use Rattle.recode.specs.State.{State}
 use Rattle.recode.specs.Devices.{Devices, Written}
 use Rattle.recode.specs.TaggedByte.{IsPrefix}
@@ -25,7 +25,7 @@ pub record StandsAt (before after : Devices) (j : Job) (s : State) (x : List ℕ
   pub passed : sizes ps + s.decoder.pending ≡ length x
   pub set : s.set ≡ last_set (target_of j) Ascii (text ps)
   pub index : s.counts.index ≡ length (text ps)
-  pub output : Appends before.written.output after.written.output (open_from (form_of j.policy) (target_of j) Ascii (text ps))
+  pub output : Appends before.written.output after.written.output (open_from (reference_form j.policy) (target_of j) Ascii (text ps))
   pub logged : Appends before.written.log after.written.log (flat_map line_bytes (log_lines (target_of j) 0 0 ps))
 
 -- What was written for x is the text of the pieces ps, and what was logged their lines: of all that x decides, however
@@ -34,5 +34,5 @@ pub record WroteDecided (before after : Written) (j : Job) (x : List ℕ) (ps : 
   pub decided : IsDecided (input_pieces j) x ps
   pub longest : (qs : List Piece) → IsDecided (input_pieces j) x qs → IsPrefix qs ps
   pub soon : (y : List ℕ) (qs more : List Piece) → input_pieces j (x ++ y) ≡ qs ++ more → sizes qs + 3 ≤ length x → IsPrefix qs ps
-  pub output : Appends before.output after.output (open_from (form_of j.policy) (target_of j) Ascii (text ps))
+  pub output : Appends before.output after.output (open_from (reference_form j.policy) (target_of j) Ascii (text ps))
   pub logged : Appends before.log after.log (flat_map line_bytes (log_lines (target_of j) 0 0 ps))

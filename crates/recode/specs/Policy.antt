@@ -10,18 +10,18 @@ reference_of Policy.Decimal = Some Reference.Decimal
 reference_of Policy.Hexadecimal = Some Reference.Hexadecimal
 reference_of Policy.Stop = None
 
--- the same where one is asked for: under `Stop` none is written, and its form is of no account
-abbrev pub form_of : Policy → Reference
-form_of Policy.Hexadecimal = Reference.Hexadecimal
-form_of _ = Reference.Decimal
+-- the form of a policy's references: decimal under `Stop`, which writes none
+abbrev pub reference_form : Policy → Reference
+reference_form Policy.Hexadecimal = Reference.Hexadecimal
+reference_form _ = Reference.Decimal
 
--- up to the first line of a lost character, with it
+-- the items up to the first line of a lost character, with it
 abbrev pub up_to_loss : List Item → List Item
 up_to_loss [] = []
 up_to_loss (LostAt index scalar ∷ t) = LostAt index scalar ∷ []
 up_to_loss (item ∷ t) = item ∷ up_to_loss t
 
--- what is written of these items: all, or what a stop leaves
+-- what is written of some items under a policy: all, or those up to the first lost character
 abbrev pub written_under : Policy → List Item → List Item
 written_under Policy.Stop items = up_to_loss items
 written_under _ items = items

@@ -106,7 +106,7 @@ pub record IsConversion (before after : Devices) (j : Job) (status : ℕ) : Type
   pub quiet : status ≢ 4 → after.failures ≡ before.failures
   pub broken : status ≡ 4 → Breaks before after j
 
--- the same of a reader, a writer and a log
+-- the promise of `convert`, of a reader, a writer and a log: whole, or broken off
 abbrev pub IsConversionOn : {R W L : Type 0} → (R → Option (List ℕ)) → (W → Option (List ℕ)) → (L → Option (List ℕ)) → Ports R W L → Ports R W L → Job → ℕ → Type 0
 IsConversionOn remaining contents logged before after j status =
     IsConversion (devices_in remaining contents logged before.reader before.writer before.log) (devices_in remaining contents logged after.reader after.writer after.log) j status

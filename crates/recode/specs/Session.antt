@@ -8,8 +8,8 @@ use Rattle.recode.specs.Job.{trace, whole_trace, target_of, output_of, log_of, s
 use Rattle.recode.specs.Latency.{WroteDecided}
 use Rattle.recode.specs.State.{State, WillBeFaithful, to_write}
 use Rattle.recode.specs.Devices.{Devices, Written}
-use Rattle.recode.specs.TaggedByte.{TaggedByte, Wrote, IsPrefix, tagged, outputs, lines}
-use Rattle.recode.specs.Step.{PassesLimit, WasRead}
+use Rattle.recode.specs.TaggedByte.{TaggedByte, Wrote, IsPrefix, tagged, output_bytes, log_bytes}
+use Rattle.recode.specs.Step.{PassesLimitIfTooLong, WasRead}
 use Rattle.recode.specs.Work.{fewest_calls, most_calls}
 use Rattle.recode.specs.WrittenItems.{IsStop}
 use Rattle.recode.specs.declared.job.Fault.{Fault}
@@ -71,7 +71,7 @@ pub record Tells (v : View) (p : Report) : Type 0 where
   pub encoding : p.encoding ≡ v.state.source []
   pub verdict : p.faithful ≡ v.state.verdict.faithful
 
--- the report on an input
+-- the report on the conversion of an input x: its counts, its source encoding and its verdict
 pub record IsReport (j : Job) (x : List ℕ) (p : Report) : Type 0 where
   pub read : p.read ≡ length x
   pub bad : p.bad ≡ malformed_count (input_pieces j x)
@@ -89,7 +89,7 @@ pub record WroteWhole (before after : Written) (j : Job) (x : List ℕ) : Type 0
   pub output : Appends before.output after.output (output_of j x)
   pub logged : Appends before.log after.log (log_of j x)
 
--- and reported
+-- all of an input was converted and written, and the report is that on it
 pub record IsConverted (before after : Written) (j : Job) (x : List ℕ) (p : Report) : Type 0 where
   pub whole : WroteWhole before after j x
   pub report : IsReport j x p
@@ -108,11 +108,11 @@ pub record Completes (before after : Devices) (j : Job) (p : Report) : Type 0 wh
 pub record Fails (before after : Devices) (j : Job) (f : Fault) : Type 0 where
   pub read : WasRead before.input after.input f
   pub within : length read.input ≤ j.limit
-  pub limited : PassesLimit (length (read.input ++ read.refused)) j.limit f
+  pub limited : PassesLimitIfTooLong (length (read.input ++ read.refused)) j.limit f
   pub taken : List TaggedByte
   pub wrote : Wrote before.written after.written taken
   pub prefix : (r : List ℕ) → (read.ended ≡ true → r ≡ []) → IsPrefix taken (tagged (trace j (read.input ++ r)))
-  pub output : (r : List ℕ) → (read.ended ≡ true → r ≡ []) → IsPrefix (outputs taken) (output_of j (read.input ++ r))
-  pub logged : (r : List ℕ) → (read.ended ≡ true → r ≡ []) → IsPrefix (lines taken) (log_of j (read.input ++ r))
+  pub output : (r : List ℕ) → (read.ended ≡ true → r ≡ []) → IsPrefix (output_bytes taken) (output_of j (read.input ++ r))
+  pub logged : (r : List ℕ) → (read.ended ≡ true → r ≡ []) → IsPrefix (log_bytes taken) (log_of j (read.input ++ r))
   pub stopped : (r : List ℕ) → (read.ended ≡ true → r ≡ []) → IsStop j.policy f taken (trace j (read.input ++ r))
   pub latest : (f ≡ Read) ⊎ (f ≡ TooLong) → (ps : List Piece) × WroteDecided before.written after.written j read.input ps

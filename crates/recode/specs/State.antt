@@ -1,13 +1,13 @@
 -- Where a conversion stands, as contracts see it.
 use Rattle.std.specs.Prelude.{Bool, List, ℕ}
 use Rattle.encoding_mem.specs.Coding.{Coding}
-use Rattle.encoding_mem.specs.Decoding.{DecoderState}
+use Rattle.encoding_mem.specs.calls.Decoding.{DecoderState}
 use Rattle.encoding_mem.specs.Items.{Item}
 use Rattle.encoding_mem.specs.declared.form.EscapeState.{EscapeState}
 use Rattle.encoding_front.specs.declared.encoding.Encoding.{Encoding}
-use Rattle.recode.specs.Policy.{form_of}
-use Rattle.recode.specs.TraceToWrite.{trace_to_write}
-use Rattle.recode.specs.Verdict.{IsFaithfulFor, VerdictView}
+use Rattle.recode.specs.Policy.{reference_form}
+use Rattle.recode.specs.calls.TraceToWrite.{trace_to_write}
+use Rattle.recode.specs.calls.Verdict.{IsFaithfulFor, VerdictView}
 use Rattle.recode.specs.declared.job.Policy.{Policy}
 use Rattle.recode.specs.declared.target.Counts.{Counts}
 
@@ -26,8 +26,8 @@ pub record State : Type 0 where
 
 -- what is still to be written for the bytes to come, where no policy stops it
 abbrev pub to_write : State → List ℕ → List Item
-to_write s r = trace_to_write (form_of s.policy) s.decoder s.coding s.set s.counts r
+to_write s r = trace_to_write (reference_form s.policy) s.decoder s.coding s.set s.counts r
 
 -- nothing was lost so far, and nothing will be of these bytes
 abbrev pub WillBeFaithful : State → List ℕ → Type 0
-WillBeFaithful s r = IsFaithfulFor (form_of s.policy) s.verdict s.coding s.set (s.decoder.pieces r)
+WillBeFaithful s r = IsFaithfulFor (reference_form s.policy) s.verdict s.coding s.set (s.decoder.pieces r)

@@ -3,17 +3,17 @@ use Rattle.std.specs.Prelude.{◌≡◌, ◌≢◌, ◌↔◌, IsTrue, ℕ, ◌+
 use Rattle.std.specs.Io.KnownBytes.{Appends, Consumes, IsAtEnd}
 use Rattle.std.specs.List.{flat_map}
 use Rattle.encoding_mem.specs.Coding.{Coding, last_set, open_from}
-use Rattle.encoding_mem.specs.Decoding.{DecoderState, Waits}
+use Rattle.encoding_mem.specs.calls.Decoding.{DecoderState, Waits}
 use Rattle.encoding_mem.specs.Items.{Item}
 use Rattle.encoding_mem.specs.Piece.{Piece, text}
 use Rattle.encoding_mem.specs.declared.form.EscapeState.{EscapeState}
 use Rattle.recode_log.specs.Line.{line_bytes}
 use Rattle.recode.specs.Job.{log_lines}
-use Rattle.recode.specs.Policy.{form_of}
+use Rattle.recode.specs.Policy.{reference_form}
 use Rattle.recode.specs.State.{State, WillBeFaithful, to_write}
 use Rattle.recode.specs.Devices.{Devices, KeepsWritten, Written}
 use Rattle.recode.specs.TaggedByte.{TaggedByte, Wrote, IsPrefix, tagged}
-use Rattle.recode.specs.TraceToWrite.{AreSound}
+use Rattle.recode.specs.calls.TraceToWrite.{AreSound}
 use Rattle.recode.specs.Work.{TakesAtLeast, TakesCalls}
 use Rattle.recode.specs.WrittenItems.{IsStop, WritesItems, WritesItemsFor, WritesPrefixFor}
 use Rattle.recode.specs.declared.target.Counts.{Counts}
@@ -49,7 +49,7 @@ pub record StepsOn (before after : Devices) (limit : ℕ) (s s' : State) : Type 
   pub source : (r : List ℕ) → s.source (chunk ++ r) ≡ s'.source r
   pub pays : WritesItemsFor before.written after.written s.counts s'.counts s.policy false (λ r. to_write s (chunk ++ r)) (to_write s')
   pub advances : Advances (λ r. s.decoder.pieces (chunk ++ r)) s'.decoder.pieces s.coding s.set s'.set s.counts s'.counts
-  pub output : Appends before.written.output after.written.output (open_from (form_of s.policy) s.coding s.set (text advances.taken))
+  pub output : Appends before.written.output after.written.output (open_from (reference_form s.policy) s.coding s.set (text advances.taken))
   pub logged : Appends before.written.log after.written.log (flat_map line_bytes (log_lines s.coding (s.counts.read - s.decoder.pending) s.counts.index advances.taken))
   pub settled : IsNearlyDecided s'.decoder
   pub verdict : (r : List ℕ) → WillBeFaithful s (chunk ++ r) ↔ WillBeFaithful s' r
@@ -87,13 +87,14 @@ pub record Finishes (before after : Devices) (limit : ℕ) (s s' : State) : Type
   pub least : TakesAtLeast (3 * (s'.counts.bad - s.counts.bad) + 2 * min 1 (length chunk) + 2) s.counts s'.counts
   pub sound : AreSound s'.decoder.pending s'.counts
 
--- where the bytes that were read pass the limit, or not
-abbrev pub PassesLimit : (read limit : ℕ) → Fault → Type 0
-PassesLimit read limit TooLong = limit < read
-PassesLimit read limit Read = read ≤ limit
-PassesLimit read limit Write = read ≤ limit
-PassesLimit read limit Log = read ≤ limit
-PassesLimit read limit (Unmappable index scalar) = read ≤ limit
+-- the bytes that were read pass the limit if the fault is `TooLong`, and do not for any other
+-- fault
+abbrev pub PassesLimitIfTooLong : (read limit : ℕ) → Fault → Type 0
+PassesLimitIfTooLong read limit TooLong = limit < read
+PassesLimitIfTooLong read limit Read = read ≤ limit
+PassesLimitIfTooLong read limit Write = read ≤ limit
+PassesLimitIfTooLong read limit Log = read ≤ limit
+PassesLimitIfTooLong read limit (Unmappable index scalar) = read ≤ limit
 
 -- What was read when a fault came: bytes that were counted, then bytes that were refused, which `TooLong` does alone;
 -- and whether their end was read.
@@ -113,7 +114,7 @@ pub record WasRead (before after : Option (List ℕ)) (fault : Fault) : Type 0 w
 pub record Stops (before after : Devices) (limit : ℕ) (s : State) (fault : Fault) : Type 0 where
   pub read : WasRead before.input after.input fault
   pub within : s.counts.read + length read.input ≤ limit
-  pub limited : PassesLimit (s.counts.read + length (read.input ++ read.refused)) limit fault
+  pub limited : PassesLimitIfTooLong (s.counts.read + length (read.input ++ read.refused)) limit fault
   pub pays : WritesPrefixFor before.written after.written s.policy fault read.ended (λ r. to_write s (read.input ++ r))
   pub untouched : (fault ≡ Read) ⊎ (fault ≡ TooLong) → (read.input ≡ []) × KeepsWritten before.written after.written
 

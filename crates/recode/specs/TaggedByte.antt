@@ -12,19 +12,19 @@ pub data TaggedByte : Type 0 where
   Out : ℕ → TaggedByte
   Line : ℕ → TaggedByte
 
--- its output bytes
-abbrev pub outputs : List TaggedByte → List ℕ
-outputs [] = []
-outputs (Out b ∷ t) = b ∷ outputs t
-outputs (Line b ∷ t) = outputs t
+-- the output's bytes among tagged bytes
+abbrev pub output_bytes : List TaggedByte → List ℕ
+output_bytes [] = []
+output_bytes (Out b ∷ t) = b ∷ output_bytes t
+output_bytes (Line b ∷ t) = output_bytes t
 
--- its log bytes
-abbrev pub lines : List TaggedByte → List ℕ
-lines [] = []
-lines (Out b ∷ t) = lines t
-lines (Line b ∷ t) = b ∷ lines t
+-- the log's bytes among tagged bytes
+abbrev pub log_bytes : List TaggedByte → List ℕ
+log_bytes [] = []
+log_bytes (Out b ∷ t) = log_bytes t
+log_bytes (Line b ∷ t) = b ∷ log_bytes t
 
--- a note is its line
+-- the bytes of an item: one of the output, or those of its line in the log
 abbrev pub tagged_item : Item → List TaggedByte
 tagged_item (Byte b) = Out b ∷ []
 tagged_item (MalformedAt offset size) = map Line (line_bytes (Bad offset size))
@@ -40,5 +40,5 @@ IsPrefix {X} t u = (rest : List X) × (u ≡ t ++ rest)
 
 -- the output grew by the output bytes of t, and the log by its log bytes
 pub record Wrote (before after : Written) (t : List TaggedByte) : Type 0 where
-  pub output : Appends before.output after.output (outputs t)
-  pub lined : Appends before.log after.log (lines t)
+  pub output : Appends before.output after.output (output_bytes t)
+  pub lined : Appends before.log after.log (log_bytes t)

@@ -10,27 +10,27 @@ use Rattle.recode.specs.declared.job.Policy.{Policy}
 use Rattle.recode.specs.declared.target.Counts.{Counts}
 
 -- how many of the items are lines of malformed sequences
-abbrev pub bad_lines : List Item → ℕ
-bad_lines [] = 0
-bad_lines (Byte b ∷ t) = bad_lines t
-bad_lines (MalformedAt offset size ∷ t) = 1 + bad_lines t
-bad_lines (LostAt index scalar ∷ t) = bad_lines t
+abbrev pub bad_line_count : List Item → ℕ
+bad_line_count [] = 0
+bad_line_count (Byte b ∷ t) = bad_line_count t
+bad_line_count (MalformedAt offset size ∷ t) = 1 + bad_line_count t
+bad_line_count (LostAt index scalar ∷ t) = bad_line_count t
 
 -- how many of the items are lines of lost characters
-abbrev pub lost_lines : List Item → ℕ
-lost_lines [] = 0
-lost_lines (Byte b ∷ t) = lost_lines t
-lost_lines (MalformedAt offset size ∷ t) = lost_lines t
-lost_lines (LostAt index scalar ∷ t) = 1 + lost_lines t
+abbrev pub lost_line_count : List Item → ℕ
+lost_line_count [] = 0
+lost_line_count (Byte b ∷ t) = lost_line_count t
+lost_line_count (MalformedAt offset size ∷ t) = lost_line_count t
+lost_line_count (LostAt index scalar ∷ t) = 1 + lost_line_count t
 
 -- the lines of the items are counted
 pub record AreCounted (c c' : Counts) (written_items : List Item) : Type 0 where
-  pub bad : c'.bad ≡ c.bad + bad_lines written_items
-  pub lost : c'.lost ≡ c.lost + lost_lines written_items
+  pub bad : c'.bad ≡ c.bad + bad_line_count written_items
+  pub lost : c'.lost ≡ c.lost + lost_line_count written_items
 
 -- where the policy stops at a lost character, there is none among these
 abbrev pub IsSpared : Policy → List Item → Type 0
-IsSpared p items = p ≡ Policy.Stop → lost_lines items ≡ 0
+IsSpared p items = p ≡ Policy.Stop → lost_line_count items ≡ 0
 
 -- The writers took these items, which are counted and of which none stops the conversion, and what was still to be
 -- written is these, then what is still to be written now.
@@ -43,10 +43,10 @@ pub record WritesItems (before after : Written) (c c' : Counts) (p : Policy) (to
 
 -- The policy stopped the conversion at this lost character: the bytes that were taken are all that is written under the
 -- policy, and the last is the line feed of this character's line.
-pub record StopsAt (p : Policy) (index scalar : ℕ) (taken : List TaggedByte) (written : List Item) : Type 0 where
+pub record StopsAtLoss (p : Policy) (index scalar : ℕ) (taken : List TaggedByte) (written : List Item) : Type 0 where
   pub policy : p ≡ Policy.Stop
   pub items : List Item
-  pub first : lost_lines items ≡ 0
+  pub first : lost_line_count items ≡ 0
   pub last : written ≡ items ++ (LostAt index scalar ∷ [])
   pub whole : taken ≡ tagged written
 
@@ -56,7 +56,7 @@ IsStop p Read taken written = Unit {0}
 IsStop p Write taken written = Unit {0}
 IsStop p Log taken written = Unit {0}
 IsStop p TooLong taken written = Unit {0}
-IsStop p (Unmappable index scalar) taken written = StopsAt p index scalar taken written
+IsStop p (Unmappable index scalar) taken written = StopsAtLoss p index scalar taken written
 
 -- what a fault leaves: these bytes are a prefix of what was still to be written under the policy, and all of it where
 -- that stopped the conversion

@@ -1,17 +1,19 @@
 //! The calls of codecs over text in a pivot, and that text: what form it has is known here alone.
 
-ghost use Rattle.std.specs.Prelude.{◌≡◌, ◌↔◌, ℕ, ◌++◌, ◌+◌, ◌-◌, IsTrue, List, MatchOption, [], count_by, drop, encode_utf8_all, false, length, take, true};
+ghost use Rattle.std.specs.Prelude.{◌≡◌, ◌↔◌, ℕ, ◌++◌, ◌+◌, ◌-◌, IsTrue, List, MatchOption, []};
+ghost use Rattle.std.specs.Prelude.{count_by, drop, encode_utf8_all, false, length, take, true};
 ghost use Rattle.std.specs.Str.{all_scalars, chars};
-ghost use Rattle.encoding_mem.specs.Decoding.{StateLaw};
-ghost use Rattle.encoding_mem.specs.EncoderRule.{EncoderCall, WritesBytes};
-ghost use Rattle.encoding_mem.specs.Writing.{Adds, encode_utf16_all};
-ghost use Rattle.encoding_front.specs.DecoderCall.{DecoderCall};
-ghost use Rattle.encoding_front.specs.Stream.{finishes};
-ghost use Rattle.recode.specs.Buffers.{HoldsAnyCharacter, KeepsRoom, is_wide};
-ghost use Rattle.recode.specs.Character.{begins_character};
-ghost use Rattle.recode.specs.CodecCalls.{DecodeCallEndsWith};
+ghost use Rattle.encoding_mem.specs.calls.Decoding.{StateLaw};
+ghost use Rattle.encoding_mem.specs.calls.EncoderRule.{EncoderCall, WritesBytes};
+ghost use Rattle.encoding_mem.specs.calls.Writing.{Adds, encode_utf16_all};
+ghost use Rattle.encoding_front.specs.calls.DecoderCall.{DecoderCall};
+ghost use Rattle.encoding_front.specs.calls.Stream.{finishes};
+ghost use Rattle.recode.specs.calls.Buffers.{HoldsAnyCharacter, KeepsRoom, is_wide};
+ghost use Rattle.recode.specs.calls.Character.{begins_character};
+ghost use Rattle.recode.specs.calls.CodecCalls.{DecodeCallEndsWith};
 ghost use Rattle.recode.specs.Work.{IsCounted};
-ghost use Rattle.recode.specs.PivotText.{BeginsWith, Holds, HoldsText, IsCutInto, IsLeftBehind, IsWholeText, is_in_units, pivot_chars};
+ghost use Rattle.recode.specs.calls.PivotText.{BeginsWith, Holds, HoldsText, IsCutInto};
+ghost use Rattle.recode.specs.calls.PivotText.{IsLeftBehind, IsWholeText, is_in_units, pivot_chars};
 
 use crate::job::Pivot;
 use encoding_front::StreamDecoder;
@@ -100,7 +102,7 @@ pub struct DecodeCall {
 
 impl DecodeCall {
     ghost use Rattle.std.specs.Prelude.{◌≡◌};
-    ghost use Rattle.recode.specs.CodecCalls.{reads_all};
+    ghost use Rattle.recode.specs.calls.CodecCalls.{reads_all};
 
     /// Whether all bytes are read, and all that they give is written.
     pub fn is_done(&self) -> bool
@@ -203,7 +205,7 @@ pub struct EncodeCall<'p> {
 
 impl<'p> EncodeCall<'p> {
     ghost use Rattle.std.specs.Prelude.{◌≡◌};
-    ghost use Rattle.recode.specs.CodecCalls.{writes_all};
+    ghost use Rattle.recode.specs.calls.CodecCalls.{writes_all};
 
     /// Whether all of the text is read, and all that it gives is written.
     pub fn is_done(&self) -> bool

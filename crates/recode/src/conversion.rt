@@ -4,7 +4,7 @@ ghost use Rattle.std.specs.Prelude.{◌≡◌, ◌≢◌, ◌≤◌, ◌<◌, �
 ghost use Rattle.std.specs.Io.KnownBytes.{Appends};
 ghost use Rattle.recode_log.specs.Counted.{IsTold, inner_of, failures_of};
 ghost use Rattle.recode.specs.Job.{IsValidJob};
-ghost use Rattle.recode.specs.Buffers.{AreEnough, KeepSizes};
+ghost use Rattle.recode.specs.calls.Buffers.{AreEnough, KeepSizes};
 ghost use Rattle.recode.specs.Devices.{devices_in, KeepsWritten, written_in};
 ghost use Rattle.recode.specs.Conversion.{Breaks, Converts, IsFlushCause, message_of};
 

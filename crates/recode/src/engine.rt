@@ -18,13 +18,13 @@ pub struct Engine<D, E> {
 impl<D: StreamDecoder, E: RawEncoder> Engine<D, E> {
     ghost use Rattle.std.specs.Prelude.{◌≡◌, ◌+◌, ◌-◌, ◌^◌, ◌<◌, ◌≤◌, ◌++◌};
     ghost use Rattle.std.specs.Prelude.{IfErr, IfOk, OnOk, length};
-    ghost use Rattle.recode.specs.Buffers.{KeepsRoom};
-    ghost use Rattle.recode.specs.CodecCalls.{reads_all};
-    ghost use Rattle.recode.specs.Chunk.{CanConvert, DecodesChunk, DecodesPart};
-    ghost use Rattle.recode.specs.EngineState.{engine_state};
-    ghost use Rattle.recode.specs.Lent.{AreLent};
+    ghost use Rattle.recode.specs.calls.Buffers.{KeepsRoom};
+    ghost use Rattle.recode.specs.calls.CodecCalls.{reads_all};
+    ghost use Rattle.recode.specs.calls.Chunk.{CanConvert, DecodesChunk, DecodesPart};
+    ghost use Rattle.recode.specs.calls.EngineState.{engine_state};
+    ghost use Rattle.recode.specs.calls.Lent.{AreLent};
     ghost use Rattle.recode.specs.State.{to_write};
-    ghost use Rattle.recode.specs.Writers.{CountsWriterFault, MayFail, is_end, written_by};
+    ghost use Rattle.recode.specs.calls.Writers.{CountsWriterFault, MayFail, is_end, written_by};
     ghost use Rattle.recode.specs.WrittenItems.{WritesPrefixFor};
 
     // One call of the decoder, and all that follows from it.

@@ -109,7 +109,7 @@ pub struct Buffers<'b> {
 
 impl<'b> Pivot<'b> {
     ghost use Rattle.std.specs.Prelude.{IsTrue, ◌≡◌, ◌↔◌};
-    ghost use Rattle.recode.specs.Buffers.{HoldsAnyCharacter, is_wide};
+    ghost use Rattle.recode.specs.calls.Buffers.{HoldsAnyCharacter, is_wide};
 
     // Whether it can hold any character.
     fn is_roomy(&self) -> bool
@@ -134,7 +134,7 @@ impl<'b> Pivot<'b> {
 
 impl<'b> Buffers<'b> {
     ghost use Rattle.std.specs.Prelude.{IsTrue, ◌↔◌};
-    ghost use Rattle.recode.specs.Buffers.{AreEnough};
+    ghost use Rattle.recode.specs.calls.Buffers.{AreEnough};
 
     /// Whether a step can be lent these: input of 1 byte at least, output of 4 bytes at least,
     /// pivot and check of one form, with 4 bytes or 2 units each at least. The test of the

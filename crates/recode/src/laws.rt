@@ -1,41 +1,46 @@
 //! Laws of what a run writes, of what its contract tells and of how soon input is converted. The
 //! functions do nothing: each contract is a law.
 
-ghost use Rattle.std.specs.Prelude.{◌≡◌, ◌↔◌, ◌<◌, ◌≤◌, ◌+◌, ◌*◌, ◌++◌, ◌∷◌, ℕ, ◌⊎◌, Bool, Err, IsFalse, IsOk, IsTrue, List, Result, Some, [], encode_utf8_all, length, map, take};
+ghost use Rattle.std.specs.Prelude.{◌≡◌, ◌↔◌, ◌<◌, ◌≤◌, ◌+◌, ◌*◌, ◌++◌, ◌∷◌, ℕ, ◌⊎◌, Bool, Err};
+ghost use Rattle.std.specs.Prelude.{IsFalse, IsOk, IsTrue, List, Result, Some, [], encode_utf8_all};
+ghost use Rattle.std.specs.Prelude.{length, map, take};
 ghost use Rattle.std.specs.Io.KnownBytes.{Appends};
 ghost use Rattle.std.specs.List.{concat, flat_map};
 ghost use Rattle.std.specs.Str.{IsUtf8, chars};
 ghost use Rattle.encoding_mem.specs.Agreement.{ReadsBackOrBreaks};
 ghost use Rattle.encoding_mem.specs.Coding.{AllMapped, last_set, lost_count, open_from, output};
-ghost use Rattle.encoding_mem.specs.Decoding.{IsDecided, IsFixed};
-ghost use Rattle.encoding_mem.specs.Piece.{ArePieces, AreWellFormed, Piece, malformed_count, piece_len, sizes};
+ghost use Rattle.encoding_mem.specs.Piece.{ArePieces, AreWellFormed, Piece, malformed_count};
+ghost use Rattle.encoding_mem.specs.Piece.{piece_len, sizes};
 ghost use Rattle.encoding_mem.specs.ReadBack.{ReadsAs};
 ghost use Rattle.encoding_mem.specs.Steps.{IsBroken};
 ghost use Rattle.encoding_mem.specs.declared.form.EscapeState.TheVariants.{Ascii};
 ghost use Rattle.encoding_mem.specs.declared.form.Form.TheVariants.{Unmapped};
 ghost use Rattle.encoding_mem.specs.declared.reference.Reference.TheVariants.{Decimal};
-ghost use Rattle.encoding_front.specs.Encodings.{IsUtf8Encoding, KeepsCharacters, coding_of, output_encoding_of};
+ghost use Rattle.encoding_mem.specs.Decided.{IsDecided, IsFixed};
+ghost use Rattle.encoding_front.specs.Encodings.{IsUtf8Encoding, KeepsCharacters, coding_of};
+ghost use Rattle.encoding_front.specs.Encodings.{output_encoding_of};
 ghost use Rattle.encoding_front.specs.Marks.{marked_pieces, marked_text};
 ghost use Rattle.encoding_front.specs.declared.mark.Mark.{Mark};
 ghost use Rattle.recode.specs.Devices.{Devices, known, Written};
 ghost use Rattle.recode_log.specs.Line.{line_bytes};
 ghost use Rattle.recode_log.specs.declared.line.LogLine.TheVariants.{Lost};
 ghost use Rattle.recode.specs.Job.{Faithful, IsValidJob, input_pieces, input_text, log_lines};
-ghost use Rattle.recode.specs.Job.{log_of, lost_in, output_of, output_pieces, target_of, trace};
+ghost use Rattle.recode.specs.Job.{log_of, lost_log_lines, output_of, output_pieces, target_of};
+ghost use Rattle.recode.specs.Job.{trace};
 ghost use Rattle.recode.specs.Job.{RunsThrough, lines_up_to_loss};
-ghost use Rattle.recode.specs.Policy.{form_of};
+ghost use Rattle.recode.specs.Policy.{reference_form};
 ghost use Rattle.recode.specs.Latency.{StandsAt};
-ghost use Rattle.recode.specs.ReadBack.{back, in_utf8};
+ghost use Rattle.recode.specs.ReadBackJobs.{back, in_utf8};
 ghost use Rattle.recode.specs.Runs.{AgreeButForCalls, IsStopped, IsWholeOutput, RunReturns};
 ghost use Rattle.recode.specs.Runs.{WroteTheSame};
 ghost use Rattle.recode.specs.Session.{Completes, Fails, IsConverted, IsNewSession, IsReport};
 ghost use Rattle.recode.specs.Session.{Tells, View};
-ghost use Rattle.recode.specs.Slices.{slices};
+ghost use Rattle.recode.specs.calls.Slices.{piece_bytes};
 ghost use Rattle.recode.specs.State.{State};
 ghost use Rattle.recode.specs.Step.{Finishes, HasRun, IsNearlyDecided, StepsOn, Stops};
 ghost use Rattle.recode.specs.Step.{WrotePrefix};
 ghost use Rattle.recode.specs.TaggedByte.{IsPrefix, TaggedByte};
-ghost use Rattle.recode.specs.WrittenItems.{StopsAt, bad_lines, lost_lines};
+ghost use Rattle.recode.specs.WrittenItems.{StopsAtLoss, bad_line_count, lost_line_count};
 ghost use Rattle.recode.specs.declared.job.Fault.{Fault};
 ghost use Rattle.recode.specs.declared.job.Job.{Job};
 ghost use Rattle.recode.specs.declared.indexes.SourceFault.{SourceFault};
@@ -67,13 +72,13 @@ pub fn reports_are_compared()
 /// for each malformed sequence and each character without bytes, as many as there are.
 pub fn trace_of_input()
     ensures output { (j : Job) (x : List ℕ) → RunsThrough j x
-        → output_of j x ≡ output (form_of j.policy) (target_of j) (input_text j x) }
+        → output_of j x ≡ output (reference_form j.policy) (target_of j) (input_text j x) }
     ensures log { (j : Job) (x : List ℕ) → RunsThrough j x
         → log_of j x ≡ flat_map line_bytes (log_lines (target_of j) 0 0 (input_pieces j x)) }
     ensures bad { (j : Job) (x : List ℕ) → RunsThrough j x
-        → bad_lines (trace j x) ≡ malformed_count (input_pieces j x) }
+        → bad_line_count (trace j x) ≡ malformed_count (input_pieces j x) }
     ensures lost { (j : Job) (x : List ℕ) → RunsThrough j x
-        → lost_lines (trace j x) ≡ lost_count (target_of j) (input_text j x) }
+        → lost_line_count (trace j x) ≡ lost_count (target_of j) (input_text j x) }
 {}
 
 /// What a policy leaves that stops. Where a character of the text is the first without bytes, the
@@ -90,8 +95,8 @@ pub fn stops_at_first_loss()
     ensures log { (j : Job) (x : List ℕ) → j.policy ≡ Policy.Stop → log_of j x
         ≡ flat_map line_bytes (lines_up_to_loss (log_lines (target_of j) 0 0 (input_pieces j x))) }
     ensures fault { (j : Job) (x : List ℕ) (index scalar : ℕ) (taken : List TaggedByte)
-        → StopsAt j.policy index scalar taken (trace j x)
-        → take 1 (lost_in (target_of j) 0 (input_text j x)) ≡ Lost index scalar ∷ [] }
+        → StopsAtLoss j.policy index scalar taken (trace j x)
+        → take 1 (lost_log_lines (target_of j) 0 (input_text j x)) ≡ Lost index scalar ∷ [] }
 {}
 
 /// From UTF-8 to UTF-8, where marks are kept, text gives its own bytes, and an empty log.
@@ -142,9 +147,9 @@ pub fn pieces_are_the_input()
     ensures pieces { (j : Job) (x : List ℕ) → IsValidJob j → ArePieces (input_pieces j x) }
     ensures sizes { (j : Job) (x : List ℕ) → IsValidJob j → sizes (input_pieces j x) ≡ length x }
     ensures covers { (j : Job) (x : List ℕ) → IsValidJob j
-        → map length (slices (input_pieces j x) x) ≡ map piece_len (input_pieces j x) }
+        → map length (piece_bytes (input_pieces j x) x) ≡ map piece_len (input_pieces j x) }
     ensures joined { (j : Job) (x : List ℕ) → IsValidJob j
-        → concat (slices (input_pieces j x) x) ≡ x }
+        → concat (piece_bytes (input_pieces j x) x) ≡ x }
 {}
 
 /// The text has at most as many characters as the input has bytes. The output has at most 13 bytes
@@ -184,7 +189,7 @@ pub fn read_back()
 /// Where the output is UTF-8, no character is lost, and no line tells one.
 pub fn utf8_loses_nothing()
     ensures lines { (j : Job) (x : List ℕ) → IsUtf8Encoding (output_encoding_of j.to)
-        → lost_lines (trace j x) ≡ 0 }
+        → lost_line_count (trace j x) ≡ 0 }
     ensures lost { (j : Job) (x : List ℕ) → IsUtf8Encoding (output_encoding_of j.to)
         → lost_count (target_of j) (input_text j x) ≡ 0 }
 {}

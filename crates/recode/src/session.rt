@@ -1,12 +1,14 @@
 //! A conversion step by step, and a run, which is the loop over its steps.
 
-ghost use Rattle.std.specs.Prelude.{◌≡◌, ◌≤◌, ◌<◌, ◌^◌, ◌-◌, ◌↔◌, ◌==◌, IsTrue, IsSome, IfOk, IfErr, IfSome, true, false};
+ghost use Rattle.std.specs.Prelude.{◌≡◌, ◌≤◌, ◌<◌, ◌^◌, ◌-◌, ◌↔◌, ◌==◌, IsTrue, IsSome, IfOk};
+ghost use Rattle.std.specs.Prelude.{IfErr, IfSome, true, false};
 ghost use Rattle.recode_log.specs.Counted.{failures_of};
 ghost use Rattle.recode.specs.Job.{IsValidJob};
-ghost use Rattle.recode.specs.Buffers.{AreEnough, KeepSizes};
-ghost use Rattle.recode.specs.Chunk.{CanConvert};
-ghost use Rattle.recode.specs.EngineState.{engine_state};
-ghost use Rattle.recode.specs.Session.{View, IsOver, IsNewSession, IsStepped, Tells, Completes, Fails};
+ghost use Rattle.recode.specs.calls.Buffers.{AreEnough, KeepSizes};
+ghost use Rattle.recode.specs.calls.Chunk.{CanConvert};
+ghost use Rattle.recode.specs.calls.EngineState.{engine_state};
+ghost use Rattle.recode.specs.Session.{View, IsOver, IsNewSession, IsStepped, Tells, Completes};
+ghost use Rattle.recode.specs.Session.{Fails};
 ghost use Rattle.recode.specs.declared.session.Phase.TheVariants.{Open};
 ghost use Rattle.recode.specs.Step.{Finishes, Stops, StepsOn};
 ghost use Rattle.recode.specs.Devices.{CountsFault, devices_in};
@@ -61,7 +63,7 @@ impl<'t> Viewed for Session<'t> {
 }
 
 impl<'t> Session<'t> {
-    ghost use Rattle.recode.specs.SessionView.{view_of};
+    ghost use Rattle.recode.specs.calls.SessionView.{view_of};
 
     /// A session that has read nothing. The condition, that the job is valid, is tested by
     /// `Job::is_valid`.

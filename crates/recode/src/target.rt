@@ -36,22 +36,23 @@ pub struct Target<D, E> {
 }
 
 impl<D: StreamDecoder, E: RawEncoder> Target<D, E> {
-    ghost use Rattle.std.specs.Prelude.{◌≡◌, ◌+◌, ◌-◌, ◌^◌, ◌<◌, ◌≤◌, ◌++◌, ◌∷◌, List, [], length, map, IfErr, IfOk, OnOk};
-    ghost use Rattle.encoding_mem.specs.Coding.{reference};
+    ghost use Rattle.std.specs.Prelude.{◌≡◌, ◌+◌, ◌-◌, ◌^◌, ◌<◌, ◌≤◌, ◌++◌, ◌∷◌, List, [], length};
+    ghost use Rattle.std.specs.Prelude.{map, IfErr, IfOk, OnOk};
+    ghost use Rattle.encoding_mem.specs.Coding.{reference_bytes};
     ghost use Rattle.encoding_mem.specs.Items.{Item, LostAt, Byte};
     ghost use Rattle.recode_log.specs.Line.{IsValid};
     ghost use Rattle.recode_log.specs.declared.line.LogLine.TheVariants.{Bad};
     ghost use Rattle.recode.specs.WrittenItems.{WritesItems, WritesPrefix};
-    ghost use Rattle.recode.specs.Buffers.{HoldsAnyCharacter, KeepsRoom};
-    ghost use Rattle.recode.specs.CodecCalls.{writes_all};
-    ghost use Rattle.recode.specs.Lent.{AreLentFor};
-    ghost use Rattle.recode.specs.Text.{CanEncode, EncodesPart, EncodesText, WritesMalformed};
-    ghost use Rattle.recode.specs.Text.{malformed_items, text_items};
-    ghost use Rattle.recode.specs.EngineState.{target_state};
-    ghost use Rattle.recode.specs.Policy.{form_of};
-    ghost use Rattle.recode.specs.PivotText.{is_in_units, pivot_chars, IsWholeText};
-    ghost use Rattle.recode.specs.VerdictView.{verdict_view};
-    ghost use Rattle.recode.specs.Writers.{CountsWriterFault, MayFail, written_by};
+    ghost use Rattle.recode.specs.calls.Buffers.{HoldsAnyCharacter, KeepsRoom};
+    ghost use Rattle.recode.specs.calls.CodecCalls.{writes_all};
+    ghost use Rattle.recode.specs.calls.Lent.{AreLentFor};
+    ghost use Rattle.recode.specs.calls.Text.{CanEncode, EncodesPart, EncodesText, WritesMalformed};
+    ghost use Rattle.recode.specs.calls.Text.{malformed_items, text_items};
+    ghost use Rattle.recode.specs.calls.EngineState.{target_state};
+    ghost use Rattle.recode.specs.Policy.{reference_form};
+    ghost use Rattle.recode.specs.calls.PivotText.{is_in_units, pivot_chars, IsWholeText};
+    ghost use Rattle.recode.specs.calls.VerdictView.{verdict_view};
+    ghost use Rattle.recode.specs.calls.Writers.{CountsWriterFault, MayFail, written_by};
 
     // Logs the character that was read last, and writes its reference, or stops.
     fn log_lost<W: Write, L: Write>(
@@ -67,7 +68,7 @@ impl<D: StreamDecoder, E: RawEncoder> Target<D, E> {
             (written_by W.contents L.contents writers.new)
             self.old.counts self.new.counts writers.old.policy
             (LostAt (self.old.counts.index - 1) scalar ∷ map Byte
-            (reference (form_of writers.old.policy) scalar)
+            (reference_bytes (reference_form writers.old.policy) scalar)
             ++ rest) rest) }
         ensures counts { OnOk result
             (self.new.counts ≡ record self.old.counts { lost = self.old.counts.lost + 1 }) }
@@ -78,7 +79,7 @@ impl<D: StreamDecoder, E: RawEncoder> Target<D, E> {
             (written_by W.contents L.contents writers.old)
             (written_by W.contents L.contents writers.new) writers.old.policy f
             (LostAt (self.old.counts.index - 1) scalar ∷ map Byte
-            (reference (form_of writers.old.policy) scalar)
+            (reference_bytes (reference_form writers.old.policy) scalar)
             ++ rest)) }
         ensures failures { CountsWriterFault writers.old writers.new result }
     {

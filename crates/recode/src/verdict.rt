@@ -21,10 +21,10 @@ pub struct Verdict<D> {
 impl<D: StreamDecoder> Verdict<D> {
     ghost use Rattle.std.specs.Prelude.{◌≡◌, ◌+◌, false, length};
     ghost use Rattle.std.specs.Bool.{MatchBool};
-    ghost use Rattle.recode.specs.Buffers.{HoldsAnyCharacter, KeepsRoom, is_wide};
-    ghost use Rattle.recode.specs.PivotText.{is_in_units, pivot_chars, IsWholeText};
-    ghost use Rattle.recode.specs.Verdict.{IsReadBack, NeedsForm, ReadsAsOther, ReadsAsText};
-    ghost use Rattle.recode.specs.VerdictView.{verdict_view};
+    ghost use Rattle.recode.specs.calls.Buffers.{HoldsAnyCharacter, KeepsRoom, is_wide};
+    ghost use Rattle.recode.specs.calls.PivotText.{is_in_units, pivot_chars, IsWholeText};
+    ghost use Rattle.recode.specs.calls.Verdict.{IsReadBack, NeedsForm, ReadsAsOther, ReadsAsText};
+    ghost use Rattle.recode.specs.calls.VerdictView.{verdict_view};
     ghost use Rattle.recode.specs.Work.{IsCounted};
 
     // Reads back what was written for a text, and compares it with that, part by part: at most a

@@ -2,7 +2,7 @@
 
 ghost use Rattle.std.specs.Prelude.{◌≡◌, ℕ, ◌+◌, ◌-◌, ◌^◌, ◌<◌, take, OnOk, OnErr, IfErr};
 ghost use Rattle.std.specs.Io.KnownBytes.{Appends};
-ghost use Rattle.encoding_mem.specs.Coding.{reference};
+ghost use Rattle.encoding_mem.specs.Coding.{reference_bytes};
 ghost use Rattle.recode_log.specs.Counted.{inner_of, failures_of};
 ghost use Rattle.recode_log.specs.Line.{IsValid, line_bytes};
 
@@ -48,11 +48,11 @@ pub fn put_reference<W: Write>(
 ) -> Result<(), Fault>
     requires { failures_of writer.old < 2 ^ 64 - 1 }
     ensures ok { OnOk result (Appends (W.contents (inner_of writer.old))
-        (W.contents (inner_of writer.new)) (reference form c)
+        (W.contents (inner_of writer.new)) (reference_bytes form c)
         × (failures_of writer.new ≡ failures_of writer.old)) }
     ensures err { OnErr result ((n : ℕ)
         × Appends (W.contents (inner_of writer.old)) (W.contents (inner_of writer.new))
-        (take n (reference form c))
+        (take n (reference_bytes form c))
         × (failures_of writer.new ≡ failures_of writer.old + 1)) }
     ensures fault { IfErr result (λ f. f ≡ Fault.Write) }
 {

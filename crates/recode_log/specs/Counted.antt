@@ -2,14 +2,14 @@
 use Rattle.std.specs.Prelude.{◌≡◌, ◌⊎◌, ℕ, ◌+◌, ◌<◌, List, length, take}
 use Rattle.recode_log.specs.declared.counted.Counted.{Counted}
 
--- what is wrapped
+-- the reader or the writer that a `Counted` wraps
 abbrev pub inner_of : {T : Type 0} → Counted T → T
 inner_of c = c.inner
 
--- how many calls have failed
+-- how many calls of the reader or the writer that a `Counted` wraps have failed
 abbrev pub failures_of : {T : Type 0} → Counted T → ℕ
 failures_of c = c.failures
 
--- the message is whole, or a call of its writer failed and its end is missing
+-- the first `told` bytes of a message were told: all of it and no call failed, or not all and one did
 abbrev pub IsTold : (before after : ℕ) (message : List ℕ) (told : ℕ) → Type 0
 IsTold before after message told = ((after ≡ before) × (take told message ≡ message)) ⊎ ((after ≡ before + 1) × (told < length message))

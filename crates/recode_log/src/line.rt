@@ -1,6 +1,7 @@
 //! The lines of the log, to bytes and back.
 
-ghost use Rattle.std.specs.Prelude.{◌≡◌, ℕ, ◌+◌, ◌^◌, ◌<◌, ◌≤◌, ◌↔◌, ◌++◌, length, take, drop, position, ◌==◌, IsTrue, IfSome};
+ghost use Rattle.std.specs.Prelude.{◌≡◌, ℕ, ◌+◌, ◌^◌, ◌<◌, ◌≤◌, ◌↔◌, ◌++◌, length, take, drop};
+ghost use Rattle.std.specs.Prelude.{position, ◌==◌, IsTrue, IfSome};
 ghost use Rattle.std.specs.Fmt.{decimal};
 ghost use Rattle.recode_log.specs.Line.{row_bytes, two_numbers};
 

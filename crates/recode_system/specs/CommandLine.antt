@@ -5,35 +5,38 @@ use Rattle.recode.specs.Program.{AnswersProgram, Ports, FailsToStart, IsLeftAlon
 use Rattle.recode_system.specs.declared.command_line.Wordless.{Wordless}
 use Rattle.recode_system.specs.declared.command_line.Wordless.TheVariants.{NotUtf8, Memory}
 
--- a word is no text
+-- one of the words is not UTF-8
 abbrev pub HasWordNotUtf8 : List (List ℕ) → Type 0
 HasWordNotUtf8 words = Any (λ word. ¬ (IsUtf8 word)) words
 
--- why there are no words, if they are told; memory may be refused at any
+-- There are no words for this reason: one of them is not UTF-8, as is seen if they are told, or
+-- memory is refused, which may be at any words.
 abbrev pub IsWhy : Option (List (List ℕ)) → Wordless → Type 0
 IsWhy told NotUtf8 = IfSome told HasWordNotUtf8
 IsWhy told Memory = ⊤
 
--- the words of the program: if there is none, not even its name, the program has its own
+-- the words of the command line, or the name `recode` alone if there are none, not even a name
 abbrev pub words_with_name : List (List ℕ) → List (List ℕ)
 words_with_name [] = codes "recode" ∷ []
 words_with_name (name ∷ words) = name ∷ words
 
--- A word is no text: nothing is read, and nothing written but a message.
+-- One of the words is not UTF-8, as is seen if they are told. The status is 2, nothing is read,
+-- and nothing written but to the log.
 pub record RefusesLine {R W L : Type 0} (told : Option (List (List ℕ))) (before after : Ports R W L) (status : ℕ) : Type 0 where
   pub answered : status ≡ 2
   pub refused : IfSome told HasWordNotUtf8
   pub alone : IsLeftAlone before after
 
--- Each word is a text, and all is as the program does and returns it for these words, in their order. They are those
--- that are told, if they are; nothing is told of the files of indexes.
+-- Each word is UTF-8, and the program answers the words, those that are told, if they are, or
+-- `recode` if there are none, with its status. Of the index files nothing is told.
 pub record AnswersLine {R W L : Type 0} (told : Option (List (List ℕ))) (remaining : R → Option (List ℕ)) (contents : W → Option (List ℕ)) (logged : L → Option (List ℕ)) (before after : Ports R W L) (status : ℕ) : Type 0 where
   pub words : List (List ℕ)
   pub given : IfSome told (λ all. words ≡ all)
   pub texts : All IsUtf8 words
   pub answered : AnswersProgram (λ dir file. None) remaining contents logged before after (words_with_name words) status
 
--- The words are refused, or the start fails, or they are answered.
+-- What is done for a command line: one with a word that is not UTF-8 is refused, or the start
+-- fails, or the program answers its words. Each has its status.
 abbrev pub AnswersSystem : {R W L : Type 0} → Option (List (List ℕ)) → (R → Option (List ℕ)) → (W → Option (List ℕ)) → (L → Option (List ℕ)) → Ports R W L → Ports R W L → ℕ → Type 0
 AnswersSystem told remaining contents logged before after status =
     RefusesLine told before after status

@@ -10,19 +10,20 @@ use Rattle.recode_words.specs.Meaning.{limit_of, mark_named, pivot_of, policy_na
 use Rattle.recode_words.specs.declared.values.Values.{Values}
 use Rattle.recode_words.specs.declared.words.Words.{Words}
 
--- the value of an option in clap's parse of the words
+-- the value of an option of `recode` in clap's parse of the words, if it has one there
 abbrev pub given : Text → List Text → Option Text
 given name words = first_of name (matches_of recode_app words)
 
--- clap's parse of the words ends in this kind, and in no other
+-- clap's parse of the words ends in an error of the kind, and can end in no other
 abbrev pub EndsIn : ErrorKind → List Text → Type 0
 EndsIn kind words = fault_of recode_app words ≡ kind ∷ []
 
--- the error is of the kind that clap's parse ends in, or memory ran out
+-- the error is of the kind that clap's parse of the words ends in, or memory ran out
 abbrev pub IsEndOf : List Text → Error → Type 0
 IsEndOf words error = (kind_of error ≡ OutOfMemory) ⊎ EndsIn (kind_of error) words
 
--- the matches are those of clap's parse of the words, and each option has its value
+-- clap refuses nothing in the words, the matches have the values that its parse gives, and each
+-- option has a value
 pub record IsMatch (words : List Text) (m : ArgMatches) : Type 0 where
   pub taken : fault_of recode_app words ≡ []
   pub same : (name : Text) → given name words ≡ first_value (found_of m) name
@@ -34,7 +35,7 @@ pub record IsMatch (words : List Text) (m : ArgMatches) : Type 0 where
   pub pivot : is_some (first_value (found_of m) (codes "pivot")) ≡ true
   pub limit : is_some (first_value (found_of m) (codes "limit")) ≡ true
 
--- clap refuses nothing in the words, and the values are those that it gives
+-- clap refuses nothing in the words, and the values are those that its parse gives to the options
 pub record HasValues (words : List Text) (v : Values) : Type 0 where
   pub taken : fault_of recode_app words ≡ []
   pub from : given (codes "from") words ≡ Some v.from.now
@@ -45,7 +46,8 @@ pub record HasValues (words : List Text) (v : Values) : Type 0 where
   pub pivot : given (codes "pivot") words ≡ Some v.pivot.now
   pub limit : given (codes "limit") words ≡ Some v.limit.now
 
--- what the values stand for
+-- each field of the `Words` is what the value of its option stands for: the labels and the folder
+-- are the values themselves
 pub record IsReading (v : Values) (w : Words) : Type 0 where
   pub from : w.from.now ≡ v.from.now
   pub to : w.to.now ≡ v.to.now
@@ -55,7 +57,7 @@ pub record IsReading (v : Values) (w : Words) : Type 0 where
   pub pivot : pivot_of v.pivot.now ≡ Some w.pivot
   pub limit : limit_of v.limit.now ≡ Some w.limit
 
--- one of the values stands for nothing
+-- the value of `--mark`, `--unmappable`, `--pivot` or `--limit` stands for nothing
 abbrev pub HasWrongValue : Values → Type 0
 HasWrongValue v = (mark_named v.mark.now ≡ None)
     ⊎ ((policy_named v.unmappable.now ≡ None)

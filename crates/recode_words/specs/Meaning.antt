@@ -12,27 +12,28 @@ use Rattle.recode_words.specs.declared.words.PolicyWord.TheVariants.{Decimal, He
 use Rattle.recode_words.specs.declared.words.PivotWord.{PivotWord}
 use Rattle.recode_words.specs.declared.words.PivotWord.TheVariants.{Utf8, Utf16}
 
--- what to do with a byte order mark, by its name
+-- what is to be done with a byte order mark, if a text is the word `sniff`, `remove` or `keep`
 abbrev pub mark_named : Text → Option MarkWord
 mark_named text = if bytes_eq text (codes "sniff") then Some Sniff
     else (if bytes_eq text (codes "remove") then Some Remove
     else (if bytes_eq text (codes "keep") then Some Keep else None))
 
--- what is done about a character without bytes, by its name
+-- what is to be done about an unmappable character, if a text is the word `decimal`, `hexadecimal`
+-- or `stop`
 abbrev pub policy_named : Text → Option PolicyWord
 policy_named text = if bytes_eq text (codes "decimal") then Some Decimal
     else (if bytes_eq text (codes "hexadecimal") then Some Hexadecimal
     else (if bytes_eq text (codes "stop") then Some Stop else None))
 
--- the form of the text between the two codecs, by its name
+-- the form of the text between decoder and encoder, if a text is the word `utf8` or `utf16`
 abbrev pub pivot_of : Text → Option PivotWord
 pivot_of text = if bytes_eq text (codes "utf8") then Some Utf8
     else (if bytes_eq text (codes "utf16") then Some Utf16 else None)
 
--- decimal digits, one or more, of a number up to 2^48
+-- the text is a limit: one or more decimal digits, and nothing else, of a number up to 2^48
 abbrev pub is_limit : Text → Bool
 is_limit text = is_numeral text && nat_le (digits_value 10 text) 281474976710656
 
--- the number that a limit's digits write
+-- the limit, in bytes of input, that a text writes in decimal digits, if it is one up to 2^48
 abbrev pub limit_of : Text → Option ℕ
 limit_of text = if is_limit text then Some (digits_value 10 text) else None

@@ -27,7 +27,8 @@ meant read name words = option_and_then read (given name words)
 abbrev pub asks_list : List Text → Bool
 asks_list words = list_any (λ word. bytes_eq word (codes "--list")) (drop 1 words)
 
--- clap refuses nothing in the words, and each field is what its option stands for
+-- clap refuses nothing in the words of the command line, and each field of the `Words` is what the
+-- value of its option stands for
 pub record IsMeantBy (words : List Text) (w : Words) : Type 0 where
   pub taken : fault_of recode_app words ≡ []
   pub from : given (codes "from") words ≡ Some w.from.now
@@ -38,7 +39,8 @@ pub record IsMeantBy (words : List Text) (w : Words) : Type 0 where
   pub pivot : meant pivot_of (codes "pivot") words ≡ Some w.pivot
   pub limit : meant limit_of (codes "limit") words ≡ Some w.limit
 
--- what the words ask for: clap's kind for `--version` is also that for `--list`
+-- The words of the command line ask for a run, help, the version or the list of encodings: for the
+-- list if clap's parse ends as at `--version` and one of the words is `--list`.
 abbrev pub AsksFor : List Text → Request → Type 0
 AsksFor words (Run w) = IsMeantBy words w
 AsksFor words (Help text) = EndsIn DisplayHelp words × IsLine (string_bytes text)
@@ -46,11 +48,12 @@ AsksFor words (Version text) =
     EndsIn DisplayVersion words × (asks_list words ≡ false) × IsLine (string_bytes text)
 AsksFor words Listing = EndsIn DisplayVersion words × (asks_list words ≡ true)
 
--- clap refuses the words: they ask for neither help nor the version
+-- clap refuses the words: its parse ends in an error that shows neither help nor the version
 abbrev pub IsRefusedByClap : List Text → Type 0
 IsRefusedByClap words = (kind : ErrorKind) × EndsIn kind words × (kind ≢ DisplayHelp) × (kind ≢ DisplayVersion)
 
--- clap takes the words, but the value of one of these options stands for nothing
+-- clap takes the words, but the value of `--mark`, `--unmappable`, `--pivot` or `--limit` stands
+-- for nothing
 abbrev pub HasMeaninglessValue : List Text → Type 0
 HasMeaninglessValue words = (fault_of recode_app words ≡ [])
     × ((meant mark_named (codes "mark") words ≡ None)
@@ -58,13 +61,14 @@ HasMeaninglessValue words = (fault_of recode_app words ≡ [])
     ⊎ ((meant pivot_of (codes "pivot") words ≡ None)
     ⊎ (meant limit_of (codes "limit") words ≡ None))))
 
--- when each fault comes; memory may be refused at any words
+-- The fault fits the words: clap refuses them, or a value stands for nothing, and its text ends
+-- with a line feed, or memory is refused, which may be at any words.
 abbrev pub IsFaultOf : List Text → WordsFault → Type 0
 IsFaultOf words (Refused text) =
     (IsRefusedByClap words ⊎ HasMeaninglessValue words) × IsLine (string_bytes text)
 IsFaultOf words OutOfMemory = ⊤
 
--- the limit of a run is at most 2^48
+-- if the request is for a run, its limit is at most 2^48 bytes of input
 abbrev pub HasGoodLimit : Request → Type 0
 HasGoodLimit (Run w) = w.limit ≤ 281474976710656
 HasGoodLimit _ = ⊤

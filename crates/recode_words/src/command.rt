@@ -2,7 +2,8 @@
 
 ghost use Rattle.std.specs.Prelude.{◌≡◌, IfOk, false};
 ghost use Rattle.clap.specs.Words.{app_of, rule_of};
-ghost use Rattle.recode_words.specs.Command.{default_rule, named_app, list_rule, recode_app, required_rule};
+ghost use Rattle.recode_words.specs.Command.{default_rule, named_app, list_rule, recode_app};
+ghost use Rattle.recode_words.specs.Command.{required_rule};
 
 use clap::{Arg, ArgAction, Command};
 use std::alloc::{AllocError, Global};

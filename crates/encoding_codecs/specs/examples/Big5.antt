@@ -3,7 +3,7 @@ use Rattle.std.specs.Prelude.{◌≡◌, ℕ, List, [], ◌∷◌, ◌++◌, ref
 use Rattle.encoding_mem.specs.Piece.{well_formed, malformed}
 use Rattle.encoding_mem.specs.Pieces.{pieces_in}
 use Rattle.encoding_mem.specs.declared.form.Form.TheVariants.{Mapped, Unmapped}
-use Rattle.encoding_codecs.specs.Big5.{big5_pointer, pieces_big5, big5_bytes, big5_form}
+use Rattle.encoding_codecs.specs.Big5.{big5_pair_pointer, pieces_big5, big5_pair_bytes, big5_form}
 
 -- 88 62, 88 64, 88 A3 and 88 A5 are the four pointers, also where an index maps nothing
 letters_with_marks : pieces_big5 [] (0x88 ∷ 0x62 ∷ 0x88 ∷ 0x64 ∷ 0x88 ∷ 0xA3 ∷ 0x88 ∷ 0xA5 ∷ [])
@@ -26,22 +26,22 @@ unfolding sample pieces_in
 wrong_trails = refl
 
 -- the trails on both sides of the gap
-before_gap : big5_pointer 0xA4 0x51 ≡ 5512
+before_gap : big5_pair_pointer 0xA4 0x51 ≡ 5512
 before_gap = refl
 
-after_gap : big5_pointer 0xA1 0xA1 ≡ 5087
+after_gap : big5_pair_pointer 0xA1 0xA1 ≡ 5087
 after_gap = refl
 
-before_gap_bytes : big5_bytes 5512 ≡ 0xA4 ∷ 0x51 ∷ []
+before_gap_bytes : big5_pair_bytes 5512 ≡ 0xA4 ∷ 0x51 ∷ []
 before_gap_bytes = refl
 
-after_gap_bytes : big5_bytes 5087 ≡ 0xA1 ∷ 0xA1 ∷ []
+after_gap_bytes : big5_pair_bytes 5087 ≡ 0xA1 ∷ 0xA1 ∷ []
 after_gap_bytes = refl
 
-first_bytes : big5_bytes 5024 ≡ 0xA1 ∷ 0x40 ∷ []
+first_bytes : big5_pair_bytes 5024 ≡ 0xA1 ∷ 0x40 ∷ []
 first_bytes = refl
 
-last_bytes : big5_bytes 19781 ≡ 0xFE ∷ 0xFE ∷ []
+last_bytes : big5_pair_bytes 19781 ≡ 0xFE ∷ 0xFE ∷ []
 last_bytes = refl
 
 -- a pointer below 5024 is not written
@@ -96,7 +96,7 @@ ascii_end : map (big5_form []) (0x7F ∷ 0x80 ∷ []) ≡ Mapped (0x7F ∷ []) �
 ascii_end = refl
 
 -- the trails 7E and A1 stand side by side, FE before the next lead
-bytes_side_by_side : map big5_bytes (5086 ∷ 5087 ∷ 5180 ∷ 5181 ∷ [])
+bytes_side_by_side : map big5_pair_bytes (5086 ∷ 5087 ∷ 5180 ∷ 5181 ∷ [])
     ≡ (0xA1 ∷ 0x7E ∷ []) ∷ (0xA1 ∷ 0xA1 ∷ []) ∷ (0xA1 ∷ 0xFE ∷ []) ∷ (0xA2 ∷ 0x40 ∷ []) ∷ []
 bytes_side_by_side = refl
 

@@ -3,7 +3,7 @@ use Rattle.std.specs.Prelude.{◌≡◌, ℕ, List, [], ◌∷◌, refl, map, re
 use Rattle.encoding_mem.specs.Piece.{well_formed, malformed}
 use Rattle.encoding_mem.specs.Pieces.{pieces_in}
 use Rattle.encoding_mem.specs.declared.form.Form.TheVariants.{Mapped, Unmapped}
-use Rattle.encoding_codecs.specs.EucKr.{euc_kr_pointer, pieces_euc_kr, euc_kr_bytes, euc_kr_form}
+use Rattle.encoding_codecs.specs.EucKr.{euc_kr_pair_pointer, pieces_euc_kr, euc_kr_pair_bytes, euc_kr_form}
 
 -- a list for examples, of the first trails of the lead 81: U+AC02 at 41 and 43, nothing at 42
 unfoldable sample : List ℕ
@@ -23,13 +23,13 @@ unfolding sample pieces_in
 unused = refl
 
 -- B0 A1 is the pointer 9026
-first_of_wansung : euc_kr_pointer 0xB0 0xA1 ≡ 9026
+first_of_wansung : euc_kr_pair_pointer 0xB0 0xA1 ≡ 9026
 first_of_wansung = refl
 
-its_bytes : euc_kr_bytes 9026 ≡ 0xB0 ∷ 0xA1 ∷ []
+its_bytes : euc_kr_pair_bytes 9026 ≡ 0xB0 ∷ 0xA1 ∷ []
 its_bytes = refl
 
-last_bytes : euc_kr_bytes 23939 ≡ 0xFE ∷ 0xFE ∷ []
+last_bytes : euc_kr_pair_bytes 23939 ≡ 0xFE ∷ 0xFE ∷ []
 last_bytes = refl
 
 least_pointer : euc_kr_form sample 0xAC02 ≡ Mapped (0x81 ∷ 0x41 ∷ [])

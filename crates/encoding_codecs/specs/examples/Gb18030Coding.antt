@@ -1,11 +1,11 @@
 -- Worked rows of `specs/Gb18030Coding.antt`.
 use Rattle.std.specs.Prelude.{◌≡◌, ℕ, Bool, true, false, List, [], ◌∷◌, refl, map, replicate, ◌++◌}
-use Rattle.encoding_mem.specs.EncodedLength.{bound_for}
+use Rattle.encoding_mem.specs.calls.EncodedLength.{bound_for}
 use Rattle.encoding_mem.specs.declared.form.Form.{Form}
 use Rattle.encoding_mem.specs.declared.form.Form.TheVariants.{Mapped, Unmapped}
 use Rattle.encoding_codecs.specs.Gb18030.{sample_flat, sample_rows}
-use Rattle.encoding_codecs.specs.Gb18030Coding.{gb18030_pair_bytes, gb18030_form, four_bytes, gb18030_need, gb18030_encoded_length}
-use Rattle.encoding_mem.specs.DecodedLength.{bound_at}
+use Rattle.encoding_codecs.specs.Gb18030Coding.{gb18030_pair_bytes, gb18030_form, gb18030_four_bytes, gb18030_need, gb18030_encoded_length}
+use Rattle.encoding_mem.specs.calls.DecodedLength.{bound_at}
 
 two_bytes : gb18030_form sample_flat sample_rows true 0x4E04 ≡ Mapped (0x81 ∷ 0x41 ∷ [])
 unfolding sample_flat
@@ -111,11 +111,11 @@ trails : map gb18030_pair_bytes (0 ∷ 62 ∷ 189 ∷ 190 ∷ []) ≡ (0x81 ∷ 
 trails = refl
 
 -- the four bytes of the first and the last pointers in the basic plane and above it, and where a byte goes over
-four_ends : map four_bytes (0 ∷ 39419 ∷ 189000 ∷ 1237575 ∷ [])
+four_ends : map gb18030_four_bytes (0 ∷ 39419 ∷ 189000 ∷ 1237575 ∷ [])
     ≡ (0x81 ∷ 0x30 ∷ 0x81 ∷ 0x30 ∷ []) ∷ (0x84 ∷ 0x31 ∷ 0xA4 ∷ 0x39 ∷ []) ∷ (0x90 ∷ 0x30 ∷ 0x81 ∷ 0x30 ∷ []) ∷ (0xE3 ∷ 0x32 ∷ 0x9A ∷ 0x35 ∷ []) ∷ []
 four_ends = refl
 
-four_steps : map four_bytes (9 ∷ 10 ∷ 1259 ∷ 1260 ∷ 12599 ∷ 12600 ∷ [])
+four_steps : map gb18030_four_bytes (9 ∷ 10 ∷ 1259 ∷ 1260 ∷ 12599 ∷ 12600 ∷ [])
     ≡ (0x81 ∷ 0x30 ∷ 0x81 ∷ 0x39 ∷ []) ∷ (0x81 ∷ 0x30 ∷ 0x82 ∷ 0x30 ∷ []) ∷ (0x81 ∷ 0x30 ∷ 0xFE ∷ 0x39 ∷ []) ∷ (0x81 ∷ 0x31 ∷ 0x81 ∷ 0x30 ∷ []) ∷ (0x81 ∷ 0x39 ∷ 0xFE ∷ 0x39 ∷ []) ∷ (0x82 ∷ 0x30 ∷ 0x81 ∷ 0x30 ∷ []) ∷ []
 four_steps = refl
 

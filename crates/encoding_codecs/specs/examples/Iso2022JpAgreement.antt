@@ -1,11 +1,11 @@
 -- Worked rows of what is written in ISO-2022-JP and read back as it is written.
 use Rattle.std.proofs.Common.{◌≡◌, ℕ, zero, suc, ◌⊎◌, inl, inr, List, [], ◌∷◌, ◌++◌, refl, sym, ◌∙◌, arith, lit<, lit≤}
 use Rattle.std.specs.Char.{IsScalar}
-use Rattle.encoding_mem.specs.Agreement.{Agrees}
+use Rattle.encoding_mem.specs.Agreement.{AgreesWith}
 use Rattle.encoding_mem.specs.Piece.{Piece, well_formed}
 use Rattle.encoding_mem.specs.Pieces.{pieces_in}
 use Rattle.encoding_mem.specs.ReadBack.{ReadsAs}
-use Rattle.encoding_mem.specs.ReadCalls.{ReadsAlong}
+use Rattle.encoding_mem.specs.calls.ReadCalls.{ReadsAlong}
 use Rattle.encoding_mem.specs.Steps.{IsBroken}
 use Rattle.encoding_mem.specs.laws.Utf8.{scalar_from}
 use Rattle.encoding_mem.specs.laws.Agreement.{broken_never_reads, reads_back_or_breaks}
@@ -37,7 +37,7 @@ space_reads : ReadsAs (pieces_iso_2022_jp (0x3000 ∷ [])) (0x1B ∷ 0x24 ∷ 0x
 unfolding pieces_in_mode pieces_in
 space_reads = record { well_formed = (tt, (tt, (tt, tt))); same = refl }
 
-space_agrees : Agrees (iso_2022_jp_coding (0x3000 ∷ []) []) (pieces_iso_2022_jp (0x3000 ∷ [])) (0x1B ∷ 0x24 ∷ 0x42 ∷ 0x21 ∷ 0x21 ∷ 0x1B ∷ 0x28 ∷ 0x42 ∷ []) (0x3000 ∷ [])
+space_agrees : AgreesWith (iso_2022_jp_coding (0x3000 ∷ []) []) (pieces_iso_2022_jp (0x3000 ∷ [])) (0x1B ∷ 0x24 ∷ 0x42 ∷ 0x21 ∷ 0x21 ∷ 0x1B ∷ 0x28 ∷ 0x42 ∷ []) (0x3000 ∷ [])
 space_agrees = elim ((reads_back_or_breaks (iso_2022_jp_coding (0x3000 ∷ []) []) (pieces_from_set (0x3000 ∷ [])) (iso_2022_jp_by_step (0x3000 ∷ []) [] space_is_entry)).escaped Decimal (0x3000 ∷ []) Ascii refl) [
   | inl agrees ↦ agrees
   | inr broken ↦ absurd (broken_never_reads (pieces_iso_2022_jp (0x3000 ∷ [])) (0x1B ∷ 0x24 ∷ 0x42 ∷ 0x21 ∷ 0x21 ∷ 0x1B ∷ 0x28 ∷ 0x42 ∷ []) (0x3000 ∷ []) broken space_reads)

@@ -6,7 +6,7 @@ use Rattle.encoding_mem.specs.Piece.{well_formed, malformed}
 use Rattle.encoding_mem.specs.Pieces.{pieces_in}
 use Rattle.encoding_mem.specs.declared.form.Form.TheVariants.{Mapped, Unmapped}
 use Rattle.encoding_mem.specs.declared.form.EscapeState.TheVariants.{Ascii, Roman, Jis}
-use Rattle.encoding_codecs.specs.Iso2022Jp.{parts, pieces_in_mode, pieces_iso_2022_jp}
+use Rattle.encoding_codecs.specs.Iso2022Jp.{cut_at_escapes, pieces_in_mode, pieces_iso_2022_jp}
 use Rattle.encoding_codecs.specs.Iso2022JpForms.{iso_2022_jp_form, iso_2022_jp_sets, set_after, iso_2022_jp_coding}
 
 -- lists for examples: U+3002 at pointer 2, U+FF0D at 3, U+30CF at 422; and U+3002 for U+FF61
@@ -18,7 +18,7 @@ katakana = 0x3002 ∷ 0 ∷ []
 
 -- ---- pieces
 
-cut_before_each_1B : parts (0x41 ∷ 0x1B ∷ 0x28 ∷ 0x1B ∷ 0x1B ∷ 0x42 ∷ []) ≡ (0x41 ∷ []) ∷ (0x1B ∷ 0x28 ∷ []) ∷ (0x1B ∷ []) ∷ (0x1B ∷ 0x42 ∷ []) ∷ []
+cut_before_each_1B : cut_at_escapes (0x41 ∷ 0x1B ∷ 0x28 ∷ 0x1B ∷ 0x1B ∷ 0x42 ∷ []) ≡ (0x41 ∷ []) ∷ (0x1B ∷ 0x28 ∷ []) ∷ (0x1B ∷ []) ∷ (0x1B ∷ 0x42 ∷ []) ∷ []
 cut_before_each_1B = refl
 
 escape_before_escape : pieces_iso_2022_jp jis0208 (0x1B ∷ 0x28 ∷ 0x42 ∷ 0x1B ∷ 0x28 ∷ 0x4A ∷ []) ≡ malformed 3 ∷ well_formed 3 [] ∷ []

@@ -7,17 +7,17 @@ use Rattle.encoding_mem.specs.Agreement.{ReadsByStep}
 use Rattle.encoding_mem.specs.Coding.{IsCoding}
 use Rattle.encoding_mem.specs.ReadBack.{ReadsBackExactly}
 use Rattle.encoding_tables.specs.Lookups.{AreEntries, value_of, first_pointer, last_pointer}
-use Rattle.encoding_tables.specs.LookupLaws.{IsPointer}
+use Rattle.encoding_tables.specs.laws.LookupLaws.{IsPointer}
 use Rattle.encoding_tables.specs.laws.Pointers.{first_is_least, last_is_greatest}
 use Rattle.encoding_codecs.specs.Pointers.{value_of_entry}
 use Rattle.encoding_codecs.specs.laws.Pointers.{is_value_of_entry, is_value_if, is_first_if, in_range, coding_by_pointer, IsPairOf, reads_by_pointer}
 use Rattle.encoding_mem.specs.Steps.{StepLaw, in_any_set}
 use Rattle.encoding_mem.specs.Stateless.{stateless}
 use Rattle.encoding_codecs.specs.laws.ExactReadBack.{ReadsEach, each_reads_back_exactly, reads_back_by_steps, each_by_step}
-use Rattle.encoding_codecs.specs.Big5.{big5_is_trail, big5_pointer, big5_value, big5_pair, pieces_big5, takes_last, big5_find, big5_trail, big5_bytes, big5_form}
+use Rattle.encoding_codecs.specs.Big5.{is_big5_trail, big5_pair_pointer, big5_value, big5_pair, pieces_big5, takes_greatest_pointer, index_big5_pointer, big5_trail, big5_pair_bytes, big5_form}
 use Rattle.encoding_codecs.specs.declared.lead_byte_rule.FirstByte.TheVariants.{Lead, Unused}
 use Rattle.encoding_codecs.specs.declared.two_byte.PairValue.TheVariants.{NoChar, OneChar, TwoChars}
-use Rattle.encoding_codecs.specs.TwoByteRule.{big5_rule, IsPairValue, IsTwoByte}
+use Rattle.encoding_codecs.specs.calls.TwoByteRule.{big5_rule, IsPairValue, IsTwoByte}
 use Rattle.encoding_codecs.specs.laws.FirstPieces.{first_piece_big5}
 
 -- ---- values
@@ -32,11 +32,11 @@ is_value flat scalars p =
 pub big5_is_two_byte : (flat : List ℕ) → AreEntries flat → IsTwoByte (big5_rule flat)
 big5_is_two_byte flat scalars = record {
   firsts = λ a. is_first_if (is_in_range 0x81 0xFE a) Lead Unused tt tt;
-  pairs = λ a b. is_value_if (big5_is_trail b) (big5_value flat (big5_pointer a b)) NoChar (is_value flat scalars (big5_pointer a b)) tt;
+  pairs = λ a b. is_value_if (is_big5_trail b) (big5_value flat (big5_pair_pointer a b)) NoChar (is_value flat scalars (big5_pair_pointer a b)) tt;
 }
 
 pub big5_laws : (flat : List ℕ) → IsCoding 2 (stateless (big5_form flat))
-big5_laws flat = coding_by_pointer big5_bytes (big5_find flat) (λ p. omega arith)
+big5_laws flat = coding_by_pointer big5_pair_bytes (index_big5_pointer flat) (λ p. omega arith)
 
 -- ---- reading back
 
@@ -51,8 +51,8 @@ entry_from flat p from =
 
 -- the trail of a pointer is one, and stands for the pointer's rest
 pub record IsTrailOf (lead p b : ℕ) : Type 0 where
-  pub trail : big5_is_trail b ≡ true
-  pub pointer : big5_pointer lead b ≡ p
+  pub trail : is_big5_trail b ≡ true
+  pub pointer : big5_pair_pointer lead b ≡ p
 
 either : (t u : Bool) → u ≡ true → (t || u) ≡ true
 either true u h = refl
@@ -74,7 +74,7 @@ trail_of p = elim (cases_lt (p % 157) 63) [
       })
 ]
 
-pair_of : (flat : List ℕ) (c p : ℕ) → IsPointer flat c 5024 19782 p → IsPairOf (big5_rule flat) c (big5_bytes p)
+pair_of : (flat : List ℕ) (c p : ℕ) → IsPointer flat c 5024 19782 p → IsPairOf (big5_rule flat) c (big5_pair_bytes p)
 pair_of flat c p h =
     let below : p < 19782 = h.before in
     let t = trail_of p in
@@ -87,10 +87,10 @@ pair_of flat c p h =
       gives = gives t.trail t.pointer;
     }
   where
-    gives : big5_is_trail (big5_trail (p % 157)) ≡ true → big5_pointer (0x81 + p / 157) (big5_trail (p % 157)) ≡ p
+    gives : is_big5_trail (big5_trail (p % 157)) ≡ true → big5_pair_pointer (0x81 + p / 157) (big5_trail (p % 157)) ≡ p
         → big5_pair flat (0x81 + p / 157) (big5_trail (p % 157)) ≡ OneChar c
     gives trail pointer =
-        ap (λ t. cond t (big5_value flat (big5_pointer (0x81 + p / 157) (big5_trail (p % 157)))) NoChar) trail
+        ap (λ t. cond t (big5_value flat (big5_pair_pointer (0x81 + p / 157) (big5_trail (p % 157)))) NoChar) trail
         ∙ ap (big5_value flat) pointer ∙ entry_from flat p h.after ∙ ap value_of_entry h.entry
 
 found : (flat : List ℕ) (c p : ℕ) (t : Bool) → cond t (last_pointer flat c 5024 19782) (first_pointer flat c 5024 19782) ≡ Some p
@@ -100,8 +100,8 @@ found flat c p false e = (rw e at (first_is_least flat c 5024 19782)).0
 
 reads_each : (flat : List ℕ) → AreEntries flat → ReadsEach (first_piece_big5 flat) (big5_form flat)
 reads_each flat scalars =
-    reads_by_pointer (big5_rule flat) (big5_is_two_byte flat scalars) big5_bytes (big5_find flat)
-    (λ c p high e. pair_of flat c p (found flat c p (takes_last c) e))
+    reads_by_pointer (big5_rule flat) (big5_is_two_byte flat scalars) big5_pair_bytes (index_big5_pointer flat)
+    (λ c p high e. pair_of flat c p (found flat c p (takes_greatest_pointer c) e))
 
 pub big5_exact : (flat : List ℕ) → AreEntries flat → ReadsBackExactly (pieces_big5 flat) (stateless (big5_form flat))
 big5_exact flat scalars = each_reads_back_exactly (first_piece_big5 flat) (big5_form flat) (reads_each flat scalars)

@@ -18,7 +18,7 @@ use Rattle.encoding_codecs.specs.Gb18030.{pieces_gb18030}
 use Rattle.encoding_codecs.specs.Gb18030Coding.{gb18030_form}
 use Rattle.encoding_codecs.specs.laws.Gb18030.{AreGbTables, cuts_gb18030}
 use Rattle.encoding_codecs.specs.laws.Gb18030Steps.{gb18030_steps}
-use Rattle.encoding_codecs.specs.TwoByteRule.{shift_jis_rule}
+use Rattle.encoding_codecs.specs.calls.TwoByteRule.{shift_jis_rule}
 use Rattle.encoding_codecs.specs.laws.FirstPieces.{first_piece_shift_jis, first_piece_euc_jp, first_piece_gb18030}
 
 pub shift_jis_step_law : (jis0208 : List ℕ) → AreEntries jis0208

@@ -3,7 +3,7 @@ use Rattle.std.proofs.Common.{◌≡◌, ℕ, ◌<◌, [], ◌∷◌, sym, subst
 use Rattle.encoding_mem.specs.Coding.{IsCoding, FitsNeed}
 use Rattle.encoding_mem.specs.Stateless.{stateless}
 use Rattle.encoding_mem.specs.laws.Stateless.{short_one}
-use Rattle.encoding_mem.specs.EncodedLength.{IsRoomFor, encoded_length_two_byte}
+use Rattle.encoding_mem.specs.calls.EncodedLength.{IsRoomFor, encoded_length_two_byte}
 use Rattle.encoding_mem.specs.laws.EncodedLength.{two_byte_room}
 use Rattle.encoding_mem.specs.declared.form.Form.{Form}
 use Rattle.encoding_mem.specs.declared.form.Form.TheVariants.{Mapped}

@@ -12,7 +12,7 @@ use Rattle.encoding_mem.specs.Piece.{Piece, well_formed, piece_len, text, AreWel
 use Rattle.encoding_mem.specs.Pieces.{pieces_by}
 use Rattle.encoding_mem.specs.laws.Pieces.{CutsEach, pieces_by-nil, pieces_by-first}
 use Rattle.encoding_mem.specs.Agreement.{ReadsByStep}
-use Rattle.encoding_mem.specs.Coding.{AllMapped, IsMapped, open_from, output, spelled, reference}
+use Rattle.encoding_mem.specs.Coding.{AllMapped, IsMapped, open_from, output, spelled, reference_bytes}
 use Rattle.encoding_mem.specs.ReadBack.{ReadsAs, ReadsBackExactly}
 use Rattle.encoding_mem.specs.Stateless.{stateless}
 use Rattle.encoding_mem.specs.Steps.{StepLaw, in_any_set, Returns, Strays}
@@ -43,11 +43,11 @@ mapped_pieces first_piece cuts c bs y h =
     ∙ ap (λ x. well_formed (length bs) (c ∷ []) ∷ pieces_by first_piece x) (drop_at bs y (length bs) refl)
 
 reference_pieces : (ref : Reference) (first_piece : List ℕ → Piece) (form : ℕ → Form) → ReadsEach first_piece form → (d : ℕ) (y : List ℕ)
-    → (rest : List Piece) × (pieces_by first_piece (reference ref d ++ y) ≡ well_formed 1 (0x26 ∷ []) ∷ rest)
+    → (rest : List Piece) × (pieces_by first_piece (reference_bytes ref d ++ y) ≡ well_formed 1 (0x26 ∷ []) ∷ rest)
 reference_pieces ref first_piece form is d y = rw (reference_behind ref d) (
-  pieces_by first_piece (drop 1 (reference ref d) ++ y),
-  pieces_by-first first_piece is.cuts (0x26 ∷ drop 1 (reference ref d) ++ y) (omega arith)
-      ∙ ap (λ p. p ∷ pieces_by first_piece (drop (piece_len p) (0x26 ∷ drop 1 (reference ref d) ++ y))) (is.ascii 0x26 (drop 1 (reference ref d) ++ y) (omega arith)),
+  pieces_by first_piece (drop 1 (reference_bytes ref d) ++ y),
+  pieces_by-first first_piece is.cuts (0x26 ∷ drop 1 (reference_bytes ref d) ++ y) (omega arith)
+      ∙ ap (λ p. p ∷ pieces_by first_piece (drop (piece_len p) (0x26 ∷ drop 1 (reference_bytes ref d) ++ y))) (is.ascii 0x26 (drop 1 (reference_bytes ref d) ++ y) (omega arith)),
 )
 
 -- a text whose scalars have bytes
@@ -81,7 +81,7 @@ tail_reads first_piece cuts c bs w t h back =
     record { well_formed = well_formed_ones.1; same = ap (drop 1) whole }
 
 never : (ref : Reference) (first_piece : List ℕ → Piece) (form : ℕ → Form) → ReadsEach first_piece form → (c d : ℕ) (w t : List ℕ) → 0x80 ≤ c
-    → ReadsAs (pieces_by first_piece) (reference ref d ++ w) (c ∷ t) → ⊥
+    → ReadsAs (pieces_by first_piece) (reference_bytes ref d ++ w) (c ∷ t) → ⊥
 never ref first_piece form is c d w t high back =
     let begins = reference_pieces ref first_piece form is d w in
     let whole : 0x26 ∷ text (begins.0) ≡ c ∷ t = sym (ap text begins.1) ∙ back.same in

@@ -12,7 +12,7 @@ use Rattle.encoding_mem.specs.laws.Writing.{cost_fits, cost_fits16}
 use Rattle.encoding_mem.specs.declared.first_piece.FirstPiece.TheVariants.{Malformed}
 use Rattle.encoding_tables.specs.Lookups.{AreEntries, value_of}
 use Rattle.encoding_tables.specs.Ranges.{range_value, HaveScalars}
-use Rattle.encoding_mem.specs.DecoderRule.{IsModest}
+use Rattle.encoding_mem.specs.calls.DecoderRule.{IsModest}
 use Rattle.encoding_codecs.specs.TwoByte.{piece_of_trail}
 use Rattle.encoding_codecs.specs.laws.TwoByteDecide.{decide_trail}
 use Rattle.encoding_codecs.specs.Pointers.{value_of_entry}
@@ -20,9 +20,9 @@ use Rattle.encoding_codecs.specs.laws.Pointers.{is_first_if, is_value_if, is_val
 use Rattle.encoding_codecs.specs.laws.TwoByte.{IsLeadByteRule, shows_end, shows_trail, cuts_trail, cuts_rule, modest_cond, modest_cut, modest_trail}
 use Rattle.encoding_codecs.specs.declared.lead_byte_rule.FirstByte.TheVariants.{Alone, Lead, Unused}
 use Rattle.encoding_codecs.specs.declared.two_byte.PairValue.TheVariants.{NoChar}
-use Rattle.encoding_codecs.specs.Gb18030.{gb18030_first, gb18030_pair, pair_pointer, four_pointer, gb18030_after_three, gb18030_after_two, gb18030_after_lead}
+use Rattle.encoding_codecs.specs.Gb18030.{gb18030_first, gb18030_pair, gb18030_pair_pointer, gb18030_four_pointer, gb18030_after_three, gb18030_after_two, gb18030_after_lead}
 use Rattle.encoding_codecs.specs.laws.Gb18030Decide.{decide_four, gb18030_decide_three, gb18030_decide_two, gb18030_decide_lead}
-use Rattle.encoding_codecs.specs.TwoByteRule.{IsFirstByte, IsPairValue}
+use Rattle.encoding_codecs.specs.calls.TwoByteRule.{IsFirstByte, IsPairValue}
 use Rattle.encoding_codecs.specs.laws.FirstPieces.{first_piece_gb18030}
 
 -- tables whose values are scalars
@@ -42,8 +42,8 @@ gb18030_firsts a =
 
 pub gb18030_pairs : (flat : List ℕ) → AreEntries flat → (a b : ℕ) → IsPairValue (gb18030_pair flat a b)
 gb18030_pairs flat entries a b =
-    is_value_if (is_in_range 0x40 0x7E b || is_in_range 0x80 0xFE b) (value_of_entry (value_of flat (pair_pointer a b))) NoChar
-    (is_value_of_entry flat entries (pair_pointer a b)) tt
+    is_value_if (is_in_range 0x40 0x7E b || is_in_range 0x80 0xFE b) (value_of_entry (value_of flat (gb18030_pair_pointer a b))) NoChar
+    (is_value_of_entry flat entries (gb18030_pair_pointer a b)) tt
 
 -- ---- each first piece is some of the bytes
 
@@ -54,7 +54,7 @@ cuts_four (Some c) k fits is = cuts_one 4 c k (omega arith) fits (is c refl)
 cuts_three : (rows : List (ℕ × ℕ)) → HaveScalars rows → (a b c : ℕ) (x : List ℕ) (k : ℕ) → 3 + length x ≤ k → Cuts (gb18030_after_three rows a b c x) k
 cuts_three rows values a b c [] k fits = cuts_malformed 3 k (omega arith) (omega (arith, fits))
 cuts_three rows values a b c (d ∷ x) k fits =
-    let p : ℕ = four_pointer a b c d in
+    let p : ℕ = gb18030_four_pointer a b c d in
     cuts_cond (is_in_range 0x30 0x39 d) (piece_of_scalar 4 (range_value rows p)) (malformed 1) k
     (λ _. cuts_four (range_value rows p) k (omega (arith, fits)) (values p)) (λ _. cuts_malformed 1 k (omega arith) (omega (arith, fits)))
 
@@ -81,8 +81,8 @@ shows_three : (rows : List (ℕ × ℕ)) → HaveScalars rows → (a b c : ℕ) 
 shows_three rows values a b c [] last =
     shows_end (gb18030_after_three rows a b c) 3 last (0 ∷ []) (omega arith) (omega arith) refl (omega arith, tt) (omega arith) (λ e. omega (arith, e)) (λ x. (cuts_three rows values a b c x (3 + length x) (omega arith)).piece.some)
 shows_three rows values a b c (d ∷ x) last = shows_cons (gb18030_after_three rows a b c) 3 d x last _
-    (shows_cond (is_in_range 0x30 0x39 d) (λ _. piece_of_scalar 4 (range_value rows (four_pointer a b c d))) (λ _. malformed 1) 4 x last _ _
-    (shows_four (range_value rows (four_pointer a b c d)) x last) (shows_const (malformed 1) 4 x last (omega arith) (omega arith), omega arith))
+    (shows_cond (is_in_range 0x30 0x39 d) (λ _. piece_of_scalar 4 (range_value rows (gb18030_four_pointer a b c d))) (λ _. malformed 1) 4 x last _ _
+    (shows_four (range_value rows (gb18030_four_pointer a b c d)) x last) (shows_const (malformed 1) 4 x last (omega arith) (omega arith), omega arith))
 
 shows_two : (rows : List (ℕ × ℕ)) → HaveScalars rows → (a b : ℕ) (x : List ℕ) (last : Bool) → Shows (gb18030_after_two rows a b) 2 x last (gb18030_decide_two rows a b x last)
 shows_two rows values a b [] last =
@@ -107,7 +107,7 @@ modest_four (Some c) = (omega (arith, cost_fits c), omega (arith, cost_fits16 c)
 
 modest_three : (rows : List (ℕ × ℕ)) (a b c : ℕ) (x : List ℕ) (last : Bool) → IsModest (gb18030_decide_three rows a b c x last)
 modest_three rows a b c [] last = modest_cut 3 last (omega arith)
-modest_three rows a b c (d ∷ x) last = modest_cond (is_in_range 0x30 0x39 d) (decide_four (range_value rows (four_pointer a b c d))) (Malformed 1) (modest_four (range_value rows (four_pointer a b c d))) (omega arith)
+modest_three rows a b c (d ∷ x) last = modest_cond (is_in_range 0x30 0x39 d) (decide_four (range_value rows (gb18030_four_pointer a b c d))) (Malformed 1) (modest_four (range_value rows (gb18030_four_pointer a b c d))) (omega arith)
 
 modest_two : (rows : List (ℕ × ℕ)) (a b : ℕ) (x : List ℕ) (last : Bool) → IsModest (gb18030_decide_two rows a b x last)
 modest_two rows a b [] last = modest_cut 2 last (omega arith)

@@ -5,13 +5,13 @@ use Rattle.std.specs.Option.{option_map, option_or}
 use Rattle.encoding_mem.specs.Coding.{IsCoding, FitsNeed, form_of_bytes}
 use Rattle.encoding_mem.specs.declared.form.Form.TheVariants.{Mapped}
 use Rattle.encoding_mem.specs.laws.Stateless.{stateless_laws, short_one, short_none}
-use Rattle.encoding_mem.specs.EncodedLength.{IsRoomFor}
+use Rattle.encoding_mem.specs.calls.EncodedLength.{IsRoomFor}
 use Rattle.encoding_mem.specs.laws.EncodedLength.{two_byte_room, four_byte_room}
 use Rattle.encoding_mem.specs.Stateless.{stateless}
 use Rattle.std.proofs.lemmas.Bool.{lt-ltb}
 use Rattle.encoding_tables.specs.Lookups.{first_pointer}
 use Rattle.encoding_tables.specs.Ranges.{range_pointer}
-use Rattle.encoding_codecs.specs.Gb18030Coding.{fixed_pair, two_of, gb18030_pair_bytes, four_bytes, index_bytes, range_bytes, gb18030_bytes, gb18030_form, gb18030_need, gb18030_encoded_length}
+use Rattle.encoding_codecs.specs.Gb18030Coding.{gb18030_fixed_pair, two_of, gb18030_pair_bytes, gb18030_four_bytes, gb18030_index_bytes, gb18030_range_bytes, gb18030_bytes, gb18030_form, gb18030_need, gb18030_encoded_length}
 
 -- at most n bytes, where there are any
 abbrev AreFew : ℕ → Option (List ℕ) → Type 0
@@ -34,21 +34,21 @@ two_enough : (extended : Bool) → 2 ≤ gb18030_need extended
 two_enough true = omega arith
 two_enough false = omega arith
 
-few_in_range : (rows : List (ℕ × ℕ)) (extended : Bool) (c : ℕ) → AreFew (gb18030_need extended) (range_bytes rows extended c)
-few_in_range rows true c = few_map 4 four_bytes (range_pointer rows c) (λ p. omega arith)
+few_in_range : (rows : List (ℕ × ℕ)) (extended : Bool) (c : ℕ) → AreFew (gb18030_need extended) (gb18030_range_bytes rows extended c)
+few_in_range rows true c = few_map 4 gb18030_four_bytes (range_pointer rows c) (λ p. omega arith)
 few_in_range rows false c = tt
 
 few_bytes : (flat : List ℕ) (rows : List (ℕ × ℕ)) (extended : Bool) (c : ℕ) → AreFew (gb18030_need extended) (gb18030_bytes flat rows extended c)
 few_bytes flat rows extended c =
     let n : ℕ = gb18030_need extended in
     let two : 2 ≤ n = two_enough extended in
-    let tables : Option (List ℕ) = option_or (index_bytes flat c) (range_bytes rows extended c) in
-    let others : Option (List ℕ) = option_or (option_map two_of (fixed_pair c)) tables in
+    let tables : Option (List ℕ) = option_or (gb18030_index_bytes flat c) (gb18030_range_bytes rows extended c) in
+    let others : Option (List ℕ) = option_or (option_map two_of (gb18030_fixed_pair c)) tables in
     few_if n (nat_lt c 0x80) (Some (c ∷ [])) _ (omega (arith, two))
     (few_if n (c == 0xE5E5) None _ tt
     (few_if n (c == 0x20AC && not extended) (Some (0x80 ∷ [])) others (omega (arith, two))
-    (few_or n (option_map two_of (fixed_pair c)) tables (few_map n two_of (fixed_pair c) (λ p. omega (arith, two)))
-    (few_or n (index_bytes flat c) (range_bytes rows extended c) (few_map n gb18030_pair_bytes (first_pointer flat c 0 23940) (λ p. omega (arith, two)))
+    (few_or n (option_map two_of (gb18030_fixed_pair c)) tables (few_map n two_of (gb18030_fixed_pair c) (λ p. omega (arith, two)))
+    (few_or n (gb18030_index_bytes flat c) (gb18030_range_bytes rows extended c) (few_map n gb18030_pair_bytes (first_pointer flat c 0 23940) (λ p. omega (arith, two)))
     (few_in_range rows extended c)))))
 
 short_form : (n c : ℕ) (o : Option (List ℕ)) → AreFew n o → FitsNeed n (form_of_bytes c o)

@@ -7,7 +7,7 @@ use Rattle.encoding_mem.specs.declared.first_piece.FirstPiece.{FirstPiece}
 use Rattle.encoding_mem.specs.declared.first_piece.FirstPiece.TheVariants.{One, Malformed}
 use Rattle.encoding_tables.specs.Ranges.{range_value}
 use Rattle.encoding_codecs.specs.laws.TwoByteDecide.{decide_trail}
-use Rattle.encoding_codecs.specs.Gb18030.{gb18030_pair, four_pointer}
+use Rattle.encoding_codecs.specs.Gb18030.{gb18030_pair, gb18030_four_pointer}
 
 abbrev pub decide_four : Option ℕ → FirstPiece
 decide_four None = Malformed 4
@@ -15,7 +15,7 @@ decide_four (Some c) = One c 4
 
 abbrev pub gb18030_decide_three : List (ℕ × ℕ) → ℕ → ℕ → ℕ → List ℕ → Bool → FirstPiece
 gb18030_decide_three rows a b c [] last = cut_short 3 last
-gb18030_decide_three rows a b c (d ∷ x) last = if is_in_range 0x30 0x39 d then decide_four (range_value rows (four_pointer a b c d)) else Malformed 1
+gb18030_decide_three rows a b c (d ∷ x) last = if is_in_range 0x30 0x39 d then decide_four (range_value rows (gb18030_four_pointer a b c d)) else Malformed 1
 
 abbrev pub gb18030_decide_two : List (ℕ × ℕ) → ℕ → ℕ → List ℕ → Bool → FirstPiece
 gb18030_decide_two rows a b [] last = cut_short 2 last

@@ -11,7 +11,7 @@ use Rattle.encoding_mem.specs.Coding.{spelled, form_of_bytes}
 use Rattle.encoding_mem.specs.Piece.{well_formed, malformed, piece_of_scalar}
 use Rattle.encoding_mem.specs.Steps.{Returns, Strays, StepsReadBack}
 use Rattle.encoding_tables.specs.Lookups.{value_of, first_pointer}
-use Rattle.encoding_tables.specs.LookupLaws.{IsPointer}
+use Rattle.encoding_tables.specs.laws.LookupLaws.{IsPointer}
 use Rattle.encoding_tables.specs.laws.OptionCases.{map_some}
 use Rattle.encoding_tables.specs.laws.Pointers.{first_is_least}
 use Rattle.encoding_tables.specs.Ranges.{range_value, range_pointer}
@@ -20,8 +20,8 @@ use Rattle.encoding_codecs.specs.TwoByte.{piece_of_trail}
 use Rattle.encoding_codecs.specs.laws.TwoByte.{lead_ascii}
 use Rattle.encoding_codecs.specs.Pointers.{value_of_entry}
 use Rattle.encoding_codecs.specs.declared.two_byte.PairValue.TheVariants.{NoChar}
-use Rattle.encoding_codecs.specs.Gb18030.{gb18030_first, gb18030_pair, pair_pointer, four_pointer, gb18030_after_two, gb18030_after_lead}
-use Rattle.encoding_codecs.specs.Gb18030Coding.{fixed_rows, fixed_pair, two_of, gb18030_trail, gb18030_pair_bytes, four_bytes, index_bytes, range_bytes, gb18030_form}
+use Rattle.encoding_codecs.specs.Gb18030.{gb18030_first, gb18030_pair, gb18030_pair_pointer, gb18030_four_pointer, gb18030_after_two, gb18030_after_lead}
+use Rattle.encoding_codecs.specs.Gb18030Coding.{gb18030_fixed_rows, gb18030_fixed_pair, two_of, gb18030_trail, gb18030_pair_bytes, gb18030_four_bytes, gb18030_index_bytes, gb18030_range_bytes, gb18030_form}
 use Rattle.encoding_codecs.specs.laws.Steps.{IsEither, malformed_either, one_either, either_if, by_piece, reference_strays}
 use Rattle.encoding_codecs.specs.laws.FirstPieces.{first_piece_gb18030}
 
@@ -63,14 +63,14 @@ Steps flat rows c bs = Returns (first_piece_gb18030 flat rows) bs c ⊎ Strays (
 pair_steps : (flat : List ℕ) (rows : List (ℕ × ℕ)) (c a b : ℕ) → 0x81 ≤ a → a ≤ 0xFE → 0x40 ≤ b → Steps flat rows c (a ∷ b ∷ [])
 pair_steps flat rows c a b from to trail =
     by_piece (first_piece_gb18030 flat rows) (a ∷ b ∷ []) c (piece_of_trail 1 (gb18030_pair flat a b) b) (λ y. pair_first_piece flat rows a b y from to trail)
-    (trail_either c b (is_in_range 0x40 0x7E b || is_in_range 0x80 0xFE b) (value_of flat (pair_pointer a b)))
+    (trail_either c b (is_in_range 0x40 0x7E b || is_in_range 0x80 0xFE b) (value_of flat (gb18030_pair_pointer a b)))
 
 four_steps : (flat : List ℕ) (rows : List (ℕ × ℕ)) (s a b c d : ℕ) → 0x81 ≤ a → a ≤ 0xFE → 0x30 ≤ b → b ≤ 0x39 → 0x81 ≤ c → c ≤ 0xFE → 0x30 ≤ d → d ≤ 0x39
     → Steps flat rows s (a ∷ b ∷ c ∷ d ∷ [])
 four_steps flat rows s a b c d from_a to_a from_b to_b from_c to_c from_d to_d =
-    by_piece (first_piece_gb18030 flat rows) (a ∷ b ∷ c ∷ d ∷ []) s (piece_of_scalar 4 (range_value rows (four_pointer a b c d)))
+    by_piece (first_piece_gb18030 flat rows) (a ∷ b ∷ c ∷ d ∷ []) s (piece_of_scalar 4 (range_value rows (gb18030_four_pointer a b c d)))
     (λ y. lead_first_piece flat rows a (b ∷ c ∷ d ∷ y) from_a to_a ∙ rw (in_range 0x30 0x39 b from_b to_b, in_range 0x81 0xFE c from_c to_c, in_range 0x30 0x39 d from_d to_d) refl)
-    (four_either s (range_value rows (four_pointer a b c d)))
+    (four_either s (range_value rows (gb18030_four_pointer a b c d)))
 
 -- the rows of the standard's table
 is_row : ℕ × (ℕ × ℕ) → Bool
@@ -80,7 +80,7 @@ are_rows : List (ℕ × (ℕ × ℕ)) → Bool
 are_rows [] = true
 are_rows (r ∷ rs) = is_row r && are_rows rs
 
-fixed_rows_are : are_rows fixed_rows ≡ true
+fixed_rows_are : are_rows gb18030_fixed_rows ≡ true
 unfolding are_rows is_row
 fixed_rows_are = refl
 
@@ -105,11 +105,11 @@ row_steps flat rows c r is =
     let lead = and_parts (nat_le 0x81 r.1.0) (nat_le r.1.0 0xFE) parts.0 in
     pair_steps flat rows c r.1.0 r.1.1 (leb-true 0x81 r.1.0 lead.0) (leb-true r.1.0 0xFE lead.1) (leb-true 0x40 r.1.1 parts.1)
 
-fixed_steps : (flat : List ℕ) (rows : List (ℕ × ℕ)) (c : ℕ) (bs : List ℕ) → option_map two_of (fixed_pair c) ≡ Some bs → Steps flat rows c bs
+fixed_steps : (flat : List ℕ) (rows : List (ℕ × ℕ)) (c : ℕ) (bs : List ℕ) → option_map two_of (gb18030_fixed_pair c) ≡ Some bs → Steps flat rows c bs
 fixed_steps flat rows c bs e =
-    let pair = map_some two_of (fixed_pair c) bs e in
-    let row = map_some (λ (r : ℕ × (ℕ × ℕ)). r.1) (find (λ r. r.0 == c) fixed_rows) pair.0 pair.1 in
-    rw (← pair.2, ← row.2) (row_steps flat rows c row.0 (found_row c fixed_rows row.0 fixed_rows_are row.1))
+    let pair = map_some two_of (gb18030_fixed_pair c) bs e in
+    let row = map_some (λ (r : ℕ × (ℕ × ℕ)). r.1) (find (λ r. r.0 == c) gb18030_fixed_rows) pair.0 pair.1 in
+    rw (← pair.2, ← row.2) (row_steps flat rows c row.0 (found_row c gb18030_fixed_rows row.0 fixed_rows_are row.1))
 
 -- the pointers of the index
 trail_is : (r : ℕ) → 0x40 ≤ gb18030_trail r
@@ -121,17 +121,17 @@ trail_is r = elim (cases_lt r 0x3F) [
 found : (flat : List ℕ) (c p : ℕ) → first_pointer flat c 0 23940 ≡ Some p → IsPointer flat c 0 23940 p
 found flat c p e = (rw e at (first_is_least flat c 0 23940)).0
 
-index_steps : (flat : List ℕ) (rows : List (ℕ × ℕ)) (c : ℕ) (bs : List ℕ) → index_bytes flat c ≡ Some bs → Steps flat rows c bs
+index_steps : (flat : List ℕ) (rows : List (ℕ × ℕ)) (c : ℕ) (bs : List ℕ) → gb18030_index_bytes flat c ≡ Some bs → Steps flat rows c bs
 index_steps flat rows c bs e =
     let p = map_some gb18030_pair_bytes (first_pointer flat c 0 23940) bs e in
     let below : p.0 < 23940 = (found flat c p.0 p.1).before in
     rw (← p.2) (pair_steps flat rows c (0x81 + p.0 / 190) (gb18030_trail (p.0 % 190)) (omega arith) (omega arith) (trail_is (p.0 % 190)))
 
 -- those of the ranges
-range_steps : (flat : List ℕ) (rows : List (ℕ × ℕ)) (extended : Bool) (c : ℕ) (bs : List ℕ) → range_bytes rows extended c ≡ Some bs → Steps flat rows c bs
+range_steps : (flat : List ℕ) (rows : List (ℕ × ℕ)) (extended : Bool) (c : ℕ) (bs : List ℕ) → gb18030_range_bytes rows extended c ≡ Some bs → Steps flat rows c bs
 range_steps flat rows false c bs e = absurd (cc)
 range_steps flat rows true c bs e =
-    let p = map_some four_bytes (range_pointer rows c) bs e in
+    let p = map_some gb18030_four_bytes (range_pointer rows c) bs e in
     let below : p.0 < 1237576 = rw (p.1) at (range_pointer-before rows c) in
     rw (← p.2)
     (four_steps flat rows c (0x81 + p.0 / 12600) (0x30 + p.0 / 1260 % 10) (0x81 + p.0 / 10 % 126) (0x30 + p.0 % 10)
@@ -158,12 +158,12 @@ none_steps : (ref : Reference) (flat : List ℕ) (rows : List (ℕ × ℕ)) (c :
 none_steps ref flat rows c high = inr (reference_strays ref (first_piece_gb18030 flat rows) (ascii_prefix flat rows) c c high)
 
 high_steps : (ref : Reference) (flat : List ℕ) (rows : List (ℕ × ℕ)) (extended : Bool) (c : ℕ) → 0x80 ≤ c
-    → StepsOf ref flat rows c (option_or (option_map two_of (fixed_pair c)) (option_or (index_bytes flat c) (range_bytes rows extended c)))
+    → StepsOf ref flat rows c (option_or (option_map two_of (gb18030_fixed_pair c)) (option_or (gb18030_index_bytes flat c) (gb18030_range_bytes rows extended c)))
 high_steps ref flat rows extended c high =
-    steps_or ref flat rows c (option_map two_of (fixed_pair c)) (option_or (index_bytes flat c) (range_bytes rows extended c)) (fixed_steps flat rows c)
-    (steps_or ref flat rows c (index_bytes flat c) (range_bytes rows extended c) (index_steps flat rows c) (last (range_bytes rows extended c) refl))
+    steps_or ref flat rows c (option_map two_of (gb18030_fixed_pair c)) (option_or (gb18030_index_bytes flat c) (gb18030_range_bytes rows extended c)) (fixed_steps flat rows c)
+    (steps_or ref flat rows c (gb18030_index_bytes flat c) (gb18030_range_bytes rows extended c) (index_steps flat rows c) (last (gb18030_range_bytes rows extended c) refl))
   where
-    last : (o : Option (List ℕ)) → range_bytes rows extended c ≡ o → StepsOf ref flat rows c o
+    last : (o : Option (List ℕ)) → gb18030_range_bytes rows extended c ≡ o → StepsOf ref flat rows c o
     last None e = none_steps ref flat rows c high
     last (Some bs) e = range_steps flat rows extended c bs e
 

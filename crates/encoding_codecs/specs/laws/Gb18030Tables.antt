@@ -4,7 +4,7 @@ use Rattle.std.specs.Prelude.{IfSome}
 use Rattle.std.specs.Option.{unwrap_or}
 use Rattle.encoding_mem.specs.Piece.{ArePieces}
 use Rattle.encoding_mem.specs.laws.Pieces.{pieces_by-are_pieces}
-use Rattle.encoding_tables.specs.IndexLists.{IndexLists, entries_of, rows_of, AreAcceptedTables}
+use Rattle.encoding_tables.specs.IndexLists.{IndexLists, index_entries, range_rows, AreAcceptedTables}
 use Rattle.encoding_tables.specs.RangeFaults.{bad_row}
 use Rattle.encoding_tables.specs.laws.Ranges.{have_scalars}
 use Rattle.encoding_tables.specs.Ranges.{HaveScalars}
@@ -19,9 +19,9 @@ scalars_of : (o : Option (List (ℕ × ℕ))) → IfSome o (λ rows. bad_row row
 scalars_of None h = have_scalars [] refl
 scalars_of (Some rows) h = have_scalars rows h
 
-pub gb18030_tables : (t : IndexLists) → AreAcceptedTables t → AreGbTables (entries_of t Gb18030) (rows_of t)
+pub gb18030_tables : (t : IndexLists) → AreAcceptedTables t → AreGbTables (index_entries t Gb18030) (range_rows t)
 gb18030_tables t h = record { entries = entries_scalars t Gb18030 h; values = scalars_of t.rows h.1 }
 
 -- its pieces are pieces
-pub gb18030_are_pieces : (t : IndexLists) → AreAcceptedTables t → (x : List ℕ) → ArePieces (pieces_gb18030 (entries_of t Gb18030) (rows_of t) x)
-gb18030_are_pieces t h x = pieces_by-are_pieces (first_piece_gb18030 (entries_of t Gb18030) (rows_of t)) (cuts_gb18030 (entries_of t Gb18030) (rows_of t) (gb18030_tables t h)) x
+pub gb18030_are_pieces : (t : IndexLists) → AreAcceptedTables t → (x : List ℕ) → ArePieces (pieces_gb18030 (index_entries t Gb18030) (range_rows t) x)
+gb18030_are_pieces t h x = pieces_by-are_pieces (first_piece_gb18030 (index_entries t Gb18030) (range_rows t)) (cuts_gb18030 (index_entries t Gb18030) (range_rows t) (gb18030_tables t h)) x

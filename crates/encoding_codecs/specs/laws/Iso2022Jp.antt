@@ -11,9 +11,9 @@ use Rattle.encoding_mem.specs.Piece.{Piece, well_formed, malformed, piece_len, s
 use Rattle.encoding_mem.specs.Pieces.{pieces_in, pieces_by}
 use Rattle.encoding_mem.specs.laws.Pieces.{AllCut, CutsEach, pieces_in-nil, pieces_in-cons, pieces_in-whole, pieces_in-are_pieces, pieces_by-nil, pieces_by-cons}
 use Rattle.encoding_mem.specs.laws.Utf8.{cuts_malformed, cuts_one, range_from}
-use Rattle.encoding_mem.specs.Writing.{len_utf16}
+use Rattle.encoding_mem.specs.calls.Writing.{len_utf16}
 use Rattle.encoding_tables.specs.Lookups.{AreEntries, value_of}
-use Rattle.encoding_codecs.specs.Iso2022Jp.{escape_of, escape_at, ascii_piece, roman_piece, katakana_piece, jis_pair_pointer, pair_piece, prefix_text, join, parts, escape_piece, pieces_of_part, pieces_of_parts, pieces_in_mode}
+use Rattle.encoding_codecs.specs.Iso2022Jp.{escape_of, escape_at, ascii_piece, roman_piece, katakana_piece, jis_pair_pointer, pair_piece, first_text_piece, join_byte, cut_at_escapes, escape_piece, pieces_of_part, pieces_of_parts, pieces_in_mode}
 use Rattle.encoding_codecs.specs.laws.Iso2022JpDecide.{escape_first_piece, jis_pair_first_piece, char_first_piece, first_piece_iso_2022_jp, mode_after}
 use Rattle.encoding_codecs.specs.declared.iso_2022_jp_decoder.Mode.{Mode}
 use Rattle.encoding_codecs.specs.declared.iso_2022_jp_decoder.Mode.TheVariants.{Ascii, Roman, Katakana, Jis}
@@ -135,10 +135,10 @@ unfolding tail_of
 tail_1B b x e = rw (eq-eqb b 0x1B e) refl
 
 -- the first part is a byte and what comes before the next 1B
-parts-cons : (b : ℕ) (x : List ℕ) → parts (b ∷ x) ≡ (b ∷ head_of x) ∷ parts (tail_of x)
+parts-cons : (b : ℕ) (x : List ℕ) → cut_at_escapes (b ∷ x) ≡ (b ∷ head_of x) ∷ cut_at_escapes (tail_of x)
 unfolding head_of tail_of
 parts-cons b [] = refl
-parts-cons b (c ∷ x) = ap (join b) (parts-cons c x) ∙ elim (cases_eq c 0x1B) [
+parts-cons b (c ∷ x) = ap (join_byte b) (parts-cons c x) ∙ elim (cases_eq c 0x1B) [
   | inl is ↦ rw (eq-eqb c 0x1B is) (ap (λ l. (b ∷ []) ∷ l) (sym (parts-cons c x)))
   | inr other ↦ rw (ne_eqb c 0x1B other) refl
 ]
@@ -187,11 +187,11 @@ no_escape_at b (c ∷ d ∷ x) n = rw (ne_eqb b 0x1B n) refl
 
 -- what is in the first part, and then the other parts
 parts_of_text : (jis0208 : List ℕ) (m : Mode) (x : List ℕ)
-    → pieces_of_parts jis0208 m (parts x) ≡ pieces_by (prefix_text jis0208 m) (head_of x) ++ pieces_of_parts jis0208 m (parts (tail_of x))
+    → pieces_of_parts jis0208 m (cut_at_escapes x) ≡ pieces_by (first_text_piece jis0208 m) (head_of x) ++ pieces_of_parts jis0208 m (cut_at_escapes (tail_of x))
 unfolding head_of tail_of
-parts_of_text jis0208 m [] = sym (ap (λ l. l ++ []) (pieces_by-nil (prefix_text jis0208 m)))
+parts_of_text jis0208 m [] = sym (ap (λ l. l ++ []) (pieces_by-nil (first_text_piece jis0208 m)))
 parts_of_text jis0208 m (b ∷ x) = elim (cases_eq b 0x1B) [
-  | inl is ↦ rw (head_1B b x is, tail_1B b x is, pieces_by-nil (prefix_text jis0208 m)) refl
+  | inl is ↦ rw (head_1B b x is, tail_1B b x is, pieces_by-nil (first_text_piece jis0208 m)) refl
   | inr other ↦ rw (head_other b x other, tail_other b x other, parts-cons b x, no_escape_at b (head_of x) other) refl
 ]
 
@@ -199,7 +199,7 @@ parts_of_text jis0208 m (b ∷ x) = elim (cases_eq b 0x1B) [
 no_more : (n : ℕ) → (suc (suc (suc (suc n))) == 3) ≡ false
 no_more n = ne_eqb (suc (suc (suc (suc n)))) 3 (λ e. absurd (omega (arith, e)))
 
-escape_agrees : (a b c : ℕ) (x : List ℕ) → escape_piece (a ∷ b ∷ c ∷ head_of x) (parts (tail_of x)) ≡ escape_first_piece x
+escape_agrees : (a b c : ℕ) (x : List ℕ) → escape_piece (a ∷ b ∷ c ∷ head_of x) (cut_at_escapes (tail_of x)) ≡ escape_first_piece x
 unfolding head_of tail_of
 escape_agrees a b c [] = refl
 escape_agrees a b c (d ∷ x) = elim (cases_eq d 0x1B) [
@@ -212,18 +212,18 @@ small_text : (jis0208 : List ℕ) → AreEntries jis0208 → (b : ℕ) (x : List
 small_text jis0208 scalars b [] = small_malformed 1 1 (lit< tt) (lit≤ tt) (lit≤ tt)
 small_text jis0208 scalars b (c ∷ x) = let k : 2 + length x ≡ 1 + length (c ∷ x) = omega arith in subst (IsSmall (pair_piece jis0208 b (c ∷ x))) k (small_second jis0208 scalars b c x)
 
-cuts_text : (jis0208 : List ℕ) → AreEntries jis0208 → (m : Mode) → CutsEach (prefix_text jis0208 m)
+cuts_text : (jis0208 : List ℕ) → AreEntries jis0208 → (m : Mode) → CutsEach (first_text_piece jis0208 m)
 cuts_text jis0208 scalars Ascii b x = cuts_small (ascii_piece b) _ (small_ascii b _ (omega arith))
 cuts_text jis0208 scalars Roman b x = cuts_small (roman_piece b) _ (small_roman b _ (omega arith))
 cuts_text jis0208 scalars Katakana b x = cuts_small (katakana_piece b) _ (small_katakana b _ (omega arith))
-cuts_text jis0208 scalars Jis b x = cuts_small (prefix_text jis0208 Jis (b ∷ x)) _ (small_if (is_in_range 0x21 0x7E b) (pair_piece jis0208 b x) (malformed 1) _
+cuts_text jis0208 scalars Jis b x = cuts_small (first_text_piece jis0208 Jis (b ∷ x)) _ (small_if (is_in_range 0x21 0x7E b) (pair_piece jis0208 b x) (malformed 1) _
     (λ t. small_text jis0208 scalars b x)
     (λ t. small_malformed 1 _ (lit< tt) (omega arith) (lit≤ tt)))
 
 -- behind n bytes, what is left of the part of b and x and the other parts are what is left of b and x
 IsLeft : List ℕ → Mode → ℕ → List ℕ → ℕ → Type 0
-IsLeft jis0208 m b x n = pieces_by (prefix_text jis0208 m) (drop n (b ∷ head_of x)) ++ pieces_of_parts jis0208 m (parts (tail_of x))
-    ≡ pieces_of_parts jis0208 m (parts (drop n (b ∷ x)))
+IsLeft jis0208 m b x n = pieces_by (first_text_piece jis0208 m) (drop n (b ∷ head_of x)) ++ pieces_of_parts jis0208 m (cut_at_escapes (tail_of x))
+    ≡ pieces_of_parts jis0208 m (cut_at_escapes (drop n (b ∷ x)))
 
 left_one : (jis0208 : List ℕ) (m : Mode) (b : ℕ) (x : List ℕ) (n : ℕ) → n ≡ 1 → IsLeft jis0208 m b x n
 unfolding IsLeft
@@ -235,14 +235,14 @@ left_two jis0208 m b c x n other e = rw (e, head_other c x other, tail_other c x
 
 -- bytes whose first piece is p
 Begins : List ℕ → Mode → List ℕ → Piece → Mode → Type 0
-Begins jis0208 m x p m' = pieces_of_parts jis0208 m (parts x) ≡ p ∷ pieces_of_parts jis0208 m' (parts (drop (piece_len p) x))
+Begins jis0208 m x p m' = pieces_of_parts jis0208 m (cut_at_escapes x) ≡ p ∷ pieces_of_parts jis0208 m' (cut_at_escapes (drop (piece_len p) x))
 
 begins_text : (jis0208 : List ℕ) → AreEntries jis0208 → (m : Mode) (b : ℕ) (x : List ℕ) (p : Piece) → escape_at (b ∷ x) ≡ None
-    → prefix_text jis0208 m (b ∷ head_of x) ≡ p → IsLeft jis0208 m b x (piece_len p) → Begins jis0208 m (b ∷ x) p m
+    → first_text_piece jis0208 m (b ∷ head_of x) ≡ p → IsLeft jis0208 m b x (piece_len p) → Begins jis0208 m (b ∷ x) p m
 unfolding IsLeft Begins
 begins_text jis0208 scalars m b x p none first left =
     rw (parts-cons b x, escape_in-part b x, none)
-    (ap (λ ps. ps ++ pieces_of_parts jis0208 m (parts (tail_of x))) (pieces_by-cons (prefix_text jis0208 m) (cuts_text jis0208 scalars m) b (head_of x))
+    (ap (λ ps. ps ++ pieces_of_parts jis0208 m (cut_at_escapes (tail_of x))) (pieces_by-cons (first_text_piece jis0208 m) (cuts_text jis0208 scalars m) b (head_of x))
     ∙ rw first (ap (λ ps. p ∷ ps) left))
 
 size_either : (t : Bool) (p q : Piece) → piece_len p ≡ 1 → piece_len q ≡ 1 → piece_len (cond t p q) ≡ 1
@@ -295,7 +295,7 @@ unfolding Begins
 begins_escape jis0208 m own a b c x e =
     let second : b ≢ 0x1B = λ is. let none : escape_of a b c ≡ None = rw is (escape_of-second a c) in absurd (clash none e) in
     let third : c ≢ 0x1B = λ is. let none : escape_of a b c ≡ None = rw is (escape_of-third a b) in absurd (clash none e) in
-    let part : parts (a ∷ b ∷ c ∷ x) ≡ (a ∷ b ∷ c ∷ head_of x) ∷ parts (tail_of x) = rw (parts-cons a (b ∷ c ∷ x), head_other b (c ∷ x) second, head_other c x third, tail_other b (c ∷ x) second, tail_other c x third) refl in
+    let part : cut_at_escapes (a ∷ b ∷ c ∷ x) ≡ (a ∷ b ∷ c ∷ head_of x) ∷ cut_at_escapes (tail_of x) = rw (parts-cons a (b ∷ c ∷ x), head_other b (c ∷ x) second, head_other c x third, tail_other b (c ∷ x) second, tail_other c x third) refl in
     ap (pieces_of_parts jis0208 m) part
     ∙ own_mode (escape_of a b c) e
     ∙ rw (escape_agrees a b c x, size_escape x) (ap (λ ps. escape_first_piece x ∷ ps) (sym (parts_of_text jis0208 own x)))
@@ -304,8 +304,8 @@ begins_escape jis0208 m own a b c x e =
     clash e f = cc
 
     own_mode : (o : Option Mode) → o ≡ Some own
-        → pieces_of_part jis0208 m o (a ∷ b ∷ c ∷ head_of x) (parts (tail_of x)) ++ pieces_of_parts jis0208 (unwrap_or o m) (parts (tail_of x))
-        ≡ escape_piece (a ∷ b ∷ c ∷ head_of x) (parts (tail_of x)) ∷ (pieces_by (prefix_text jis0208 own) (head_of x) ++ pieces_of_parts jis0208 own (parts (tail_of x)))
+        → pieces_of_part jis0208 m o (a ∷ b ∷ c ∷ head_of x) (cut_at_escapes (tail_of x)) ++ pieces_of_parts jis0208 (unwrap_or o m) (cut_at_escapes (tail_of x))
+        ≡ escape_piece (a ∷ b ∷ c ∷ head_of x) (cut_at_escapes (tail_of x)) ∷ (pieces_by (first_text_piece jis0208 own) (head_of x) ++ pieces_of_parts jis0208 own (cut_at_escapes (tail_of x)))
     own_mode o is = rw is refl
 
 begins_by : (jis0208 : List ℕ) → AreEntries jis0208 → (m : Mode) (b : ℕ) (x : List ℕ) (o : Option Mode) → escape_at (b ∷ x) ≡ o
@@ -315,7 +315,7 @@ begins_by jis0208 scalars m b [] (Some own) e = absurd (cc)
 begins_by jis0208 scalars m b (c ∷ []) (Some own) e = absurd (cc)
 begins_by jis0208 scalars m b (c ∷ d ∷ x) (Some own) e = begins_escape jis0208 m own b c d x e
 
-agrees_within : (jis0208 : List ℕ) → AreEntries jis0208 → (n : ℕ) (m : Mode) (x : List ℕ) → length x ≤ n → pieces_in (first_piece_iso_2022_jp jis0208) mode_after m x ≡ pieces_of_parts jis0208 m (parts x)
+agrees_within : (jis0208 : List ℕ) → AreEntries jis0208 → (n : ℕ) (m : Mode) (x : List ℕ) → length x ≤ n → pieces_in (first_piece_iso_2022_jp jis0208) mode_after m x ≡ pieces_of_parts jis0208 m (cut_at_escapes x)
 unfolding Begins
 agrees_within jis0208 scalars n m [] h = pieces_in-nil (first_piece_iso_2022_jp jis0208) mode_after m
 agrees_within jis0208 scalars zero m (b ∷ x) h = absurd (omega (arith, h))

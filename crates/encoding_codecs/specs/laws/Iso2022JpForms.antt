@@ -2,14 +2,14 @@
 use Rattle.std.proofs.Common.{◌≡◌, ℕ, ◌+◌, ◌*◌, ◌<◌, ◌≤◌, ◌==◌, inl, inr, Bool, true, false, cond, List, [], length, nat_lt, Option, None, Some, refl, arith, lit≤}
 use Rattle.std.specs.Prelude.{◌||◌}
 use Rattle.std.proofs.lemmas.Bool.{cases_lt, lt-ltb}
-use Rattle.encoding_mem.specs.Coding.{IsCoding, FitsNeed, bytes}
-use Rattle.encoding_mem.specs.DecodedLength.{cost_in}
-use Rattle.encoding_mem.specs.EncodedLength.{IsRoomFor, bound_for, encoded_length_iso_2022_jp}
+use Rattle.encoding_mem.specs.Coding.{IsCoding, FitsNeed, mapped_bytes}
+use Rattle.encoding_mem.specs.calls.DecodedLength.{cost_in}
+use Rattle.encoding_mem.specs.calls.EncodedLength.{IsRoomFor, bound_for, encoded_length_iso_2022_jp}
 use Rattle.encoding_mem.specs.laws.EncodedLength.{cost_some, two_bytes}
 use Rattle.encoding_mem.specs.laws.Stateless.{short_if, short_one, short_none}
 use Rattle.encoding_mem.specs.declared.form.EscapeState.{EscapeState}
 use Rattle.encoding_mem.specs.declared.form.EscapeState.TheVariants.{Ascii, Roman, Jis}
-use Rattle.encoding_codecs.specs.Iso2022JpForms.{pointer_of_char, iso_2022_jp_form, is_set, Sets, only, ascii_or_roman, set_after, sets_of_pointer, iso_2022_jp_sets, iso_2022_jp_escape_to, iso_2022_jp_escape, iso_2022_jp_coding, iso_2022_jp_pair_bytes}
+use Rattle.encoding_codecs.specs.Iso2022JpForms.{iso_2022_jp_pointer, iso_2022_jp_form, is_same_set, Sets, only, ascii_or_roman, set_after, sets_of_pointer, iso_2022_jp_sets, iso_2022_jp_escape_to, iso_2022_jp_escape, iso_2022_jp_coding, iso_2022_jp_pair_bytes}
 use Rattle.encoding_codecs.specs.laws.Pointers.{form_of_pointer}
 
 -- where a character has one set, that one is taken
@@ -24,7 +24,7 @@ set_after-only Jis Ascii = refl
 set_after-only Jis Roman = refl
 set_after-only Jis Jis = refl
 
-is_set-same : (s : EscapeState) → is_set s s ≡ true
+is_set-same : (s : EscapeState) → is_same_set s s ≡ true
 is_set-same Ascii = refl
 is_set-same Roman = refl
 is_set-same Jis = refl
@@ -40,9 +40,9 @@ allows_pointer (Some p) = refl
 
 allows_default : (jis0208 katakana : List ℕ) (c : ℕ) → (iso_2022_jp_sets jis0208 katakana c).allows (iso_2022_jp_sets jis0208 katakana c).default ≡ true
 allows_default jis0208 katakana c =
-    allows_if (nat_lt c 0x80) (cond (c == 0x5C || c == 0x7E) (only Ascii) ascii_or_roman) (cond (c == 0xA5 || c == 0x203E) (only Roman) (sets_of_pointer (pointer_of_char jis0208 katakana c)))
+    allows_if (nat_lt c 0x80) (cond (c == 0x5C || c == 0x7E) (only Ascii) ascii_or_roman) (cond (c == 0xA5 || c == 0x203E) (only Roman) (sets_of_pointer (iso_2022_jp_pointer jis0208 katakana c)))
     (allows_if (c == 0x5C || c == 0x7E) (only Ascii) ascii_or_roman refl refl)
-    (allows_if (c == 0xA5 || c == 0x203E) (only Roman) (sets_of_pointer (pointer_of_char jis0208 katakana c)) refl (allows_pointer (pointer_of_char jis0208 katakana c)))
+    (allows_if (c == 0xA5 || c == 0x203E) (only Roman) (sets_of_pointer (iso_2022_jp_pointer jis0208 katakana c)) refl (allows_pointer (iso_2022_jp_pointer jis0208 katakana c)))
 
 -- so a set that was taken stays
 stays_by : (a : Sets) (s : EscapeState) (t : Bool) → a.allows s ≡ t → a.allows a.default ≡ true → set_after a (cond t s a.default) ≡ cond t s a.default
@@ -72,8 +72,8 @@ iso_2022_jp_laws jis0208 katakana = record {
       stays_by a s (a.allows s) refl (allows_default jis0208 katakana c);
   same = same;
   short = λ c. short_if (nat_lt c 0x80) (short_if (c == 0x0E || c == 0x0F || c == 0x1B) short_none short_one)
-      (short_if (c == 0xA5) short_one (short_if (c == 0x203E) short_one (short_pair c (pointer_of_char jis0208 katakana c))));
-  escape_short = λ s s'. short_unless (is_set s s') (iso_2022_jp_escape_to s') (short_escape_to s');
+      (short_if (c == 0xA5) short_one (short_if (c == 0x203E) short_one (short_pair c (iso_2022_jp_pointer jis0208 katakana c))));
+  escape_short = λ s s'. short_unless (is_same_set s s') (iso_2022_jp_escape_to s') (short_escape_to s');
   few = lit≤ tt;
 }
 
@@ -84,12 +84,12 @@ pair_of_two c (Some p) = record { short = omega arith }
 
 two_at_most : (jis0208 katakana : List ℕ) (c : ℕ) → FitsNeed 2 (iso_2022_jp_form jis0208 katakana c)
 two_at_most jis0208 katakana c = short_if (nat_lt c 0x80) (short_if (c == 0x0E || c == 0x0F || c == 0x1B) short_none short_one)
-    (short_if (c == 0xA5) short_one (short_if (c == 0x203E) short_one (pair_of_two c (pointer_of_char jis0208 katakana c))))
+    (short_if (c == 0xA5) short_one (short_if (c == 0x203E) short_one (pair_of_two c (iso_2022_jp_pointer jis0208 katakana c))))
 
 one_in_ascii : (jis0208 katakana : List ℕ) (c : ℕ) → c < 0x80 → FitsNeed 1 (iso_2022_jp_form jis0208 katakana c)
 one_in_ascii jis0208 katakana c low = rw (lt-ltb c 0x80 low) (short_if (c == 0x0E || c == 0x0F || c == 0x1B) short_none short_one)
 
-each_fits : (jis0208 katakana : List ℕ) (t : Bool) (s s' : EscapeState) (c : ℕ) → length (iso_2022_jp_escape s s') + length (bytes (iso_2022_jp_form jis0208 katakana c)) ≤ (bound_for encoded_length_iso_2022_jp t).factor * cost_in t c
+each_fits : (jis0208 katakana : List ℕ) (t : Bool) (s s' : EscapeState) (c : ℕ) → length (iso_2022_jp_escape s s') + length (mapped_bytes (iso_2022_jp_form jis0208 katakana c)) ≤ (bound_for encoded_length_iso_2022_jp t).factor * cost_in t c
 each_fits jis0208 katakana true s s' c = omega (arith, (iso_2022_jp_laws jis0208 katakana).escape_short s s', (two_at_most jis0208 katakana c).short, cost_some true c)
 each_fits jis0208 katakana false s s' c = elim (cases_lt c 0x80) [
   | inl low ↦ omega (arith, (iso_2022_jp_laws jis0208 katakana).escape_short s s', (one_in_ascii jis0208 katakana c low).short, cost_some false c)

@@ -8,9 +8,8 @@ use Rattle.std.specs.Option.{option_and_then}
 use Rattle.encoding_mem.specs.laws.Steps.{reference_behind}
 use Rattle.encoding_mem.specs.declared.reference.Reference.{Reference}
 use Rattle.encoding_mem.specs.Agreement.{ReadsByStep}
-use Rattle.encoding_mem.specs.Coding.{IsMapped, spelled, reference}
-use Rattle.encoding_mem.specs.Decoding.{IsUndecided}
-use Rattle.encoding_mem.specs.Piece.{Piece, well_formed, malformed, first, piece_len, sizes, text, AreWellFormed}
+use Rattle.encoding_mem.specs.Coding.{IsMapped, spelled, reference_bytes}
+use Rattle.encoding_mem.specs.Piece.{Piece, well_formed, malformed, head_piece, piece_len, sizes, text, AreWellFormed}
 use Rattle.encoding_mem.specs.ReadBack.{ReadsAs}
 use Rattle.encoding_mem.specs.laws.Pieces.{pieces_in-cons}
 use Rattle.encoding_mem.specs.Steps.{Follows, IsBroken, StepLaw, one_from}
@@ -18,12 +17,13 @@ use Rattle.encoding_mem.specs.declared.form.Form.{Form}
 use Rattle.encoding_mem.specs.declared.form.Form.TheVariants.{Mapped, Unmapped}
 use Rattle.encoding_mem.specs.declared.form.EscapeState.{EscapeState}
 use Rattle.encoding_mem.specs.declared.form.EscapeState.TheVariants.{Ascii, Roman, Jis}
-use Rattle.encoding_tables.specs.LookupLaws.{IsPointer}
+use Rattle.encoding_mem.specs.Decided.{IsUndecided}
+use Rattle.encoding_tables.specs.laws.LookupLaws.{IsPointer}
 use Rattle.encoding_tables.specs.Lookups.{AreEntries, value_of, first_pointer}
 use Rattle.encoding_tables.specs.laws.Pointers.{first_is_least}
 use Rattle.encoding_codecs.specs.Iso2022Jp.{ascii_mode, roman_mode, jis_mode, ascii_piece, pieces_in_mode, jis_pair_pointer}
 use Rattle.encoding_codecs.specs.laws.Iso2022JpDecide.{first_piece_iso_2022_jp, char_first_piece, mode_after}
-use Rattle.encoding_codecs.specs.Iso2022JpForms.{looked_up, pointer_of_char, ascii_form, iso_2022_jp_form, is_set, only, ascii_or_roman, set_after, sets_of_pointer, iso_2022_jp_sets, iso_2022_jp_escape_to, iso_2022_jp_escape, iso_2022_jp_coding, iso_2022_jp_pair_bytes}
+use Rattle.encoding_codecs.specs.Iso2022JpForms.{looked_up, iso_2022_jp_pointer, ascii_form, iso_2022_jp_form, is_same_set, only, ascii_or_roman, set_after, sets_of_pointer, iso_2022_jp_sets, iso_2022_jp_escape_to, iso_2022_jp_escape, iso_2022_jp_coding, iso_2022_jp_pair_bytes}
 use Rattle.encoding_codecs.specs.laws.Iso2022JpForms.{set_after-only}
 use Rattle.encoding_codecs.specs.laws.Iso2022Jp.{cuts_iso_2022_jp, agrees, no_escape_at, iso_2022_jp_ends}
 use Rattle.encoding_codecs.specs.Iso2022JpSets.{mode_of, pieces_from_set}
@@ -62,7 +62,7 @@ ignored jis0208 scalars m Roman f z n = cons jis0208 scalars m 0x1B (0x28 ∷ 0x
 ignored jis0208 scalars m Jis f z n = cons jis0208 scalars m 0x1B (0x24 ∷ 0x42 ∷ f ∷ z) ∙ rw (no_escape_at f z n) refl
 
 escapes : EscapeState → EscapeState → List Piece
-escapes s q = cond (is_set s q) [] (well_formed 3 [] ∷ [])
+escapes s q = cond (is_same_set s q) [] (well_formed 3 [] ∷ [])
 
 through : (jis0208 : List ℕ) → AreEntries jis0208 → (s q : EscapeState) (f : ℕ) (z : List ℕ) → f ≢ 0x1B
     → pieces_from_set jis0208 s (iso_2022_jp_escape s q ++ (f ∷ z)) ≡ escapes s q ++ pieces_from_set jis0208 q (f ∷ z)
@@ -80,7 +80,7 @@ through jis0208 scalars Jis Roman f z n = ignored jis0208 scalars jis_mode Roman
 -- an escape gives nothing
 escapes_text : (s q : EscapeState) (ps : List Piece) → text (escapes s q ++ ps) ≡ text ps
 unfolding escapes
-escapes_text s q ps = either (is_set s q)
+escapes_text s q ps = either (is_same_set s q)
   where
     either : (t : Bool) → text (cond t [] (well_formed 3 [] ∷ []) ++ ps) ≡ text ps
     either true = refl
@@ -88,7 +88,7 @@ escapes_text s q ps = either (is_set s q)
 
 escapes_well_formed : (s q : EscapeState) (ps : List Piece) → AreWellFormed ps → AreWellFormed (escapes s q ++ ps)
 unfolding escapes
-escapes_well_formed s q ps h = either (is_set s q)
+escapes_well_formed s q ps h = either (is_same_set s q)
   where
     either : (t : Bool) → AreWellFormed (cond t [] (well_formed 3 [] ∷ []) ++ ps)
     either true = h
@@ -96,7 +96,7 @@ escapes_well_formed s q ps h = either (is_set s q)
 
 well_formed_behind : (s q : EscapeState) (ps : List Piece) → AreWellFormed (escapes s q ++ ps) → AreWellFormed ps
 unfolding escapes
-well_formed_behind s q ps h = either (is_set s q) h
+well_formed_behind s q ps h = either (is_same_set s q) h
   where
     either : (t : Bool) → AreWellFormed (cond t [] (well_formed 3 [] ∷ []) ++ ps) → AreWellFormed ps
     either true h = h
@@ -104,7 +104,7 @@ well_formed_behind s q ps h = either (is_set s q) h
 
 escapes_sizes : (s q : EscapeState) (ps : List Piece) (bs : List ℕ) → sizes ps ≡ length bs → sizes (escapes s q ++ ps) ≡ length (iso_2022_jp_escape s q ++ bs)
 unfolding escapes
-escapes_sizes s q ps bs h = either (is_set s q) q
+escapes_sizes s q ps bs h = either (is_same_set s q) q
   where
     either : (t : Bool) (q : EscapeState) → sizes (cond t [] (well_formed 3 [] ∷ []) ++ ps) ≡ length (cond t [] (iso_2022_jp_escape_to q) ++ bs)
     either true q = h
@@ -206,7 +206,7 @@ mark jis0208 scalars Jis y one = absurd one
 
 gives_reference : (ref : Reference) (jis0208 : List ℕ) → AreEntries jis0208 → (q : EscapeState) (d c : ℕ) → IsOneByte q → c ≢ 0x26 → Gives jis0208 q (spelled ref (Unmapped d)) c
 gives_reference ref jis0208 scalars q d c one other =
-    rw (reference_behind ref d) (gives_other jis0208 q 0x26 (drop 1 (reference ref d)) 0x26 c (λ e. absurd (omega (arith, e))) (λ e. other (sym e)) (λ y. mark jis0208 scalars q y one))
+    rw (reference_behind ref d) (gives_other jis0208 q 0x26 (drop 1 (reference_bytes ref d)) 0x26 c (λ e. absurd (omega (arith, e))) (λ e. other (sym e)) (λ y. mark jis0208 scalars q y one))
 
 -- ASCII where it is itself
 plain : (c : ℕ) → c < 0x80 → (c == 0x0E || c == 0x0F || c == 0x1B) ≡ false → ascii_piece c ≡ well_formed 1 (c ∷ [])
@@ -280,8 +280,8 @@ ascii_step ref jis0208 scalars s c low = elim (cases_Bool (c == 0x0E || c == 0x0
         clash k = cc
 
 high_step : (ref : Reference) (jis0208 katakana : List ℕ) → AreEntries jis0208 → (s : EscapeState) (c : ℕ) → 0x80 ≤ c
-    → Gives jis0208 (set_after (cond (c == 0xA5 || c == 0x203E) (only Roman) (sets_of_pointer (pointer_of_char jis0208 katakana c))) s)
-    (spelled ref (cond (c == 0xA5) (Mapped (0x5C ∷ [])) (cond (c == 0x203E) (Mapped (0x7E ∷ [])) (form_of_pointer iso_2022_jp_pair_bytes c (pointer_of_char jis0208 katakana c))))) c
+    → Gives jis0208 (set_after (cond (c == 0xA5 || c == 0x203E) (only Roman) (sets_of_pointer (iso_2022_jp_pointer jis0208 katakana c))) s)
+    (spelled ref (cond (c == 0xA5) (Mapped (0x5C ∷ [])) (cond (c == 0x203E) (Mapped (0x7E ∷ [])) (form_of_pointer iso_2022_jp_pair_bytes c (iso_2022_jp_pointer jis0208 katakana c))))) c
 high_step ref jis0208 katakana scalars s c high = elim (cases_eq c 0xA5) [
   | inl yen ↦ rw (yen, set_after-only Roman s) (gives_piece jis0208 Roman 0x5C [] 0xA5 0xA5 (λ e. absurd (omega (arith, e))) (λ r. byte jis0208 scalars roman_mode 0x5C 0xA5 r (λ e. absurd (omega (arith, e))) refl))
   | inr free ↦ elim (cases_eq c 0x203E) [
@@ -314,15 +314,15 @@ lost_in_one_byte false single false false f (Some p) c s lost = absurd (lost tt)
 
 -- and its reference is never read as it
 lost_is_broken : (ref : Reference) (jis0208 : List ℕ) → AreEntries jis0208 → (s q : EscapeState) (d c : ℕ) → IsOneByte q → c ≢ 0x26
-    → IsBroken (pieces_from_set jis0208 s) (iso_2022_jp_escape s q ++ reference ref d) (c ∷ [])
+    → IsBroken (pieces_from_set jis0208 s) (iso_2022_jp_escape s q ++ reference_bytes ref d) (c ∷ [])
 lost_is_broken ref jis0208 scalars s q d c one other = rw (reference_behind ref d) (record {
   taken = escapes s q ++ well_formed 1 (0x26 ∷ []) ∷ [];
   decided = λ r. (
-    pieces_from_set jis0208 q (drop 1 (reference ref d) ++ r),
-    ap (pieces_from_set jis0208 s) (append_assoc (iso_2022_jp_escape s q) (0x26 ∷ drop 1 (reference ref d)) r)
-        ∙ through jis0208 scalars s q 0x26 (drop 1 (reference ref d) ++ r) (λ e. absurd (omega (arith, e)))
-        ∙ ap (λ ps. escapes s q ++ ps) (mark jis0208 scalars q (drop 1 (reference ref d) ++ r) one)
-        ∙ sym (append_assoc (escapes s q) (well_formed 1 (0x26 ∷ []) ∷ []) (pieces_from_set jis0208 q (drop 1 (reference ref d) ++ r))),
+    pieces_from_set jis0208 q (drop 1 (reference_bytes ref d) ++ r),
+    ap (pieces_from_set jis0208 s) (append_assoc (iso_2022_jp_escape s q) (0x26 ∷ drop 1 (reference_bytes ref d)) r)
+        ∙ through jis0208 scalars s q 0x26 (drop 1 (reference_bytes ref d) ++ r) (λ e. absurd (omega (arith, e)))
+        ∙ ap (λ ps. escapes s q ++ ps) (mark jis0208 scalars q (drop 1 (reference_bytes ref d) ++ r) one)
+        ∙ sym (append_assoc (escapes s q) (well_formed 1 (0x26 ∷ []) ∷ []) (pieces_from_set jis0208 q (drop 1 (reference_bytes ref d) ++ r))),
   );
   wrong = inr (rw (escapes_text s q (well_formed 1 (0x26 ∷ []) ∷ [])) (record { offset = 0; in_one = lit< tt; in_other = lit< tt; apart = λ e. other (sym e) }));
 })
@@ -335,7 +335,7 @@ lost_step ref jis0208 katakana scalars s c lost = by (iso_2022_jp_form jis0208 k
     q = set_after (iso_2022_jp_sets jis0208 katakana c) s
 
     one : IsOneByte q
-    one = lost_in_one_byte (nat_lt c 0x80) (c == 0x5C || c == 0x7E) (c == 0xA5) (c == 0x203E) (ascii_form c) (pointer_of_char jis0208 katakana c) c s lost
+    one = lost_in_one_byte (nat_lt c 0x80) (c == 0x5C || c == 0x7E) (c == 0xA5) (c == 0x203E) (ascii_form c) (iso_2022_jp_pointer jis0208 katakana c) c s lost
 
     by : (f : Form) → iso_2022_jp_form jis0208 katakana c ≡ f → IsBroken (pieces_from_set jis0208 s) (iso_2022_jp_escape s q ++ spelled ref f) (c ∷ [])
     by (Mapped bs) is = absurd (lost (subst IsMapped (sym is) tt))
@@ -350,24 +350,24 @@ last_escape jis0208 scalars m Roman = cons jis0208 scalars m 0x1B (0x28 ∷ 0x4A
 last_escape jis0208 scalars m Jis = cons jis0208 scalars m 0x1B (0x24 ∷ 0x42 ∷ []) ∙ ap (λ ps. well_formed 3 [] ∷ ps) (iso_2022_jp_ends jis0208 jis_mode)
 
 ends_with_escape : (jis0208 : List ℕ) → AreEntries jis0208 → (s q : EscapeState) → ReadsAs (pieces_from_set jis0208 s) (iso_2022_jp_escape s q) []
-ends_with_escape jis0208 scalars s q = either (is_set s q)
+ends_with_escape jis0208 scalars s q = either (is_same_set s q)
   where
     either : (t : Bool) → ReadsAs (pieces_from_set jis0208 s) (cond t [] (iso_2022_jp_escape_to q)) []
     either true = let is = iso_2022_jp_ends jis0208 (mode_of s) in record { well_formed = subst AreWellFormed (sym is) tt; same = ap text is }
     either false = let is = last_escape jis0208 scalars (mode_of s) q in record { well_formed = subst AreWellFormed (sym is) (tt, tt); same = ap text is }
 
 -- but behind it another makes it malformed
-escape_before_another : (jis0208 : List ℕ) → AreEntries jis0208 → (m : Mode) (q : EscapeState) → first (pieces_in_mode jis0208 m (iso_2022_jp_escape_to q ++ iso_2022_jp_escape_to Ascii)) ≡ Some (malformed 3)
-escape_before_another jis0208 scalars m Ascii = ap first (cons jis0208 scalars m 0x1B (0x28 ∷ 0x42 ∷ iso_2022_jp_escape_to Ascii))
-escape_before_another jis0208 scalars m Roman = ap first (cons jis0208 scalars m 0x1B (0x28 ∷ 0x4A ∷ iso_2022_jp_escape_to Ascii))
-escape_before_another jis0208 scalars m Jis = ap first (cons jis0208 scalars m 0x1B (0x24 ∷ 0x42 ∷ iso_2022_jp_escape_to Ascii))
+escape_before_another : (jis0208 : List ℕ) → AreEntries jis0208 → (m : Mode) (q : EscapeState) → head_piece (pieces_in_mode jis0208 m (iso_2022_jp_escape_to q ++ iso_2022_jp_escape_to Ascii)) ≡ Some (malformed 3)
+escape_before_another jis0208 scalars m Ascii = ap head_piece (cons jis0208 scalars m 0x1B (0x28 ∷ 0x42 ∷ iso_2022_jp_escape_to Ascii))
+escape_before_another jis0208 scalars m Roman = ap head_piece (cons jis0208 scalars m 0x1B (0x28 ∷ 0x4A ∷ iso_2022_jp_escape_to Ascii))
+escape_before_another jis0208 scalars m Jis = ap head_piece (cons jis0208 scalars m 0x1B (0x24 ∷ 0x42 ∷ iso_2022_jp_escape_to Ascii))
 
 escape_is_undecided : (jis0208 : List ℕ) → AreEntries jis0208 → (m : Mode) (q : EscapeState) → IsUndecided (pieces_in_mode jis0208 m) (iso_2022_jp_escape_to q)
 escape_is_undecided jis0208 scalars m q = record {
   more = iso_2022_jp_escape_to Ascii;
   bytes = (lit< tt, (lit< tt, (lit< tt, tt)));
   short = lit≤ tt;
-  differs = λ same. clash (sym (ap first (last_escape jis0208 scalars m q)) ∙ same ∙ escape_before_another jis0208 scalars m q);
+  differs = λ same. clash (sym (ap head_piece (last_escape jis0208 scalars m q)) ∙ same ∙ escape_before_another jis0208 scalars m q);
 }
   where
     clash : Some (well_formed 3 []) ≡ Some (malformed 3) → ⊥
@@ -381,7 +381,7 @@ iso_2022_jp_by_step jis0208 katakana scalars = record {
   lost = λ ref s c is lost. lost_step ref jis0208 katakana scalars s c lost;
   nothing = λ s. iso_2022_jp_ends jis0208 (mode_of s);
   ignored = ends_with_escape jis0208 scalars;
-  undecided = λ s s'. either (is_set s s') s s';
+  undecided = λ s s'. either (is_same_set s s') s s';
 }
   where
     either : (t : Bool) (s s' : EscapeState) → (cond t [] (iso_2022_jp_escape_to s') ≡ []) ⊎ IsUndecided (pieces_from_set jis0208 s) (cond t [] (iso_2022_jp_escape_to s'))

@@ -10,7 +10,7 @@ use Rattle.encoding_mem.specs.laws.Utf8.{scalar_from, range_from}
 use Rattle.encoding_codecs.specs.JisForms.{is_katakana_byte, katakana_of_byte}
 use Rattle.encoding_codecs.specs.declared.lead_byte_rule.FirstByte.{FirstByte}
 use Rattle.encoding_codecs.specs.declared.two_byte.PairValue.{PairValue}
-use Rattle.encoding_codecs.specs.TwoByteRule.{IsFirstByte, IsPairValue}
+use Rattle.encoding_codecs.specs.calls.TwoByteRule.{IsFirstByte, IsPairValue}
 
 -- two bytes at most, where there are some
 pub record AreFew (o : Option (List ℕ)) : Type 0 where

@@ -19,7 +19,7 @@ use Rattle.encoding_codecs.specs.declared.lead_byte_rule.FirstByte.{FirstByte}
 use Rattle.encoding_codecs.specs.declared.lead_byte_rule.FirstByte.TheVariants.{Lead}
 use Rattle.encoding_codecs.specs.declared.two_byte.PairValue.{PairValue}
 use Rattle.encoding_codecs.specs.declared.two_byte.PairValue.TheVariants.{OneChar}
-use Rattle.encoding_codecs.specs.TwoByteRule.{IsFirstByte, TwoByteRule, IsPairValue, IsTwoByte}
+use Rattle.encoding_codecs.specs.calls.TwoByteRule.{IsFirstByte, TwoByteRule, IsPairValue, IsTwoByte}
 
 -- what an entry gives is a scalar
 value_is : (flat : List ℕ) → AreEntries flat → (p : ℕ) (o : Option ℕ) → value_of flat p ≡ o → IsPairValue (value_of_entry o)

@@ -14,7 +14,7 @@ use Rattle.encoding_tables.specs.Lookups.{value_of, first_pointer}
 use Rattle.encoding_tables.specs.laws.OptionCases.{option_or_some}
 use Rattle.encoding_codecs.specs.JisForms.{is_katakana_byte, katakana_of_byte, is_katakana, byte_of_katakana, folded}
 use Rattle.encoding_codecs.specs.laws.JisSteps.{choose, either_of_entry, either_of_none, pointer_before}
-use Rattle.encoding_codecs.specs.ShiftJis.{is_shift_jis_lead, is_trail, shift_jis_first, shift_jis_pair, shift_jis_pair_pointer, shift_jis_pointer, lead_of, shift_jis_trail, shift_jis_pair_bytes, shift_jis_form}
+use Rattle.encoding_codecs.specs.ShiftJis.{is_shift_jis_lead, is_shift_jis_trail, shift_jis_first, shift_jis_pair, shift_jis_pair_pointer, index_shift_jis_pointer, shift_jis_lead, shift_jis_trail, shift_jis_pair_bytes, shift_jis_form}
 use Rattle.encoding_codecs.specs.laws.Steps.{IsEither, one_either, by_piece, reference_strays}
 use Rattle.encoding_codecs.specs.TwoByte.{after_bytes, piece_of_first, piece_of_trail}
 use Rattle.encoding_codecs.specs.laws.TwoByte.{lead_ascii}
@@ -65,7 +65,7 @@ low_steps jis0208 c low = elim (cases_lt c 0x80) [
 
 -- ---- two bytes
 
-lead_is : (p : ℕ) → p < 11280 → (0x80 ≤ lead_of p) × (shift_jis_first (lead_of p) ≡ Lead)
+lead_is : (p : ℕ) → p < 11280 → (0x80 ≤ shift_jis_lead p) × (shift_jis_first (shift_jis_lead p) ≡ Lead)
 lead_is p below = elim (cases_lt (p / 188) 31) [
   | inl low ↦ rw (lt-ltb (p / 188) 31 low) (omega arith, leads (0x81 + p / 188) (omega arith) (in_first (0x81 + p / 188) (omega arith) (omega arith)))
   | inr high ↦ rw (le-ltb (p / 188) 31 high) (omega arith, leads (0xC1 + p / 188) (omega arith) (in_second (0xC1 + p / 188) (omega arith) (omega arith)))
@@ -85,7 +85,7 @@ OfPair c b v = IsEither 2 c (piece_of_trail 1 v b)
 
 pair_either : (jis0208 : List ℕ) (c a b : ℕ) → IsEither 2 c (piece_of_trail 1 (shift_jis_pair jis0208 a b) b)
 pair_either jis0208 c a b =
-    choose (OfPair c b) (is_trail b) _ NoChar
+    choose (OfPair c b) (is_shift_jis_trail b) _ NoChar
     (λ _. choose (OfPair c b) (is_in_range 8836 10715 (shift_jis_pair_pointer a b)) _ _
     (λ _. one_either 2 c _)
     (λ _. either_of_entry c b (value_of jis0208 (shift_jis_pair_pointer a b))))
@@ -94,11 +94,11 @@ pair_either jis0208 c a b =
 pair_steps : (jis0208 : List ℕ) (c p : ℕ) → p < 11280 → Steps jis0208 c (shift_jis_pair_bytes p)
 pair_steps jis0208 c p below =
     let lead = lead_is p below in
-    by_piece (first_piece_shift_jis jis0208) (shift_jis_pair_bytes p) c (piece_of_trail 1 (shift_jis_pair jis0208 (lead_of p) (shift_jis_trail p)) (shift_jis_trail p))
-    (λ y. rw (le-ltb (lead_of p) 0x80 lead.0) (ap (λ o. piece_of_first o (after_bytes 1 (shift_jis_pair jis0208 (lead_of p)) (shift_jis_trail p ∷ y))) lead.1))
-    (pair_either jis0208 c (lead_of p) (shift_jis_trail p))
+    by_piece (first_piece_shift_jis jis0208) (shift_jis_pair_bytes p) c (piece_of_trail 1 (shift_jis_pair jis0208 (shift_jis_lead p) (shift_jis_trail p)) (shift_jis_trail p))
+    (λ y. rw (le-ltb (shift_jis_lead p) 0x80 lead.0) (ap (λ o. piece_of_first o (after_bytes 1 (shift_jis_pair jis0208 (shift_jis_lead p)) (shift_jis_trail p ∷ y))) lead.1))
+    (pair_either jis0208 c (shift_jis_lead p) (shift_jis_trail p))
 
-used : (jis0208 : List ℕ) (c p : ℕ) → shift_jis_pointer jis0208 c ≡ Some p → p < 11280
+used : (jis0208 : List ℕ) (c p : ℕ) → index_shift_jis_pointer jis0208 c ≡ Some p → p < 11280
 used jis0208 c p e = elim (option_or_some (first_pointer jis0208 c 0 8272) (first_pointer jis0208 c 8836 11280) p e) [
   | inl first ↦ omega (arith, pointer_before jis0208 c 0 8272 p first)
   | inr later ↦ pointer_before jis0208 c 8836 11280 p later.1
@@ -113,7 +113,7 @@ pointer_steps ref jis0208 c (Some p) high before = pair_steps jis0208 c p (befor
 
 -- by its byte, if it has one
 abbrev ByByte : Reference → List ℕ → ℕ → Option ℕ → Type 0
-ByByte ref jis0208 c byte = Steps jis0208 c (spelled ref (form_of_bytes c (option_or (option_map (λ b. b ∷ []) byte) (option_map shift_jis_pair_bytes (shift_jis_pointer jis0208 (folded c))))))
+ByByte ref jis0208 c byte = Steps jis0208 c (spelled ref (form_of_bytes c (option_or (option_map (λ b. b ∷ []) byte) (option_map shift_jis_pair_bytes (index_shift_jis_pointer jis0208 (folded c))))))
 
 pub shift_jis_steps : (jis0208 : List ℕ) → StepsReadBack (first_piece_shift_jis jis0208) (shift_jis_form jis0208)
 shift_jis_steps jis0208 ref c scalar =
@@ -126,4 +126,4 @@ shift_jis_steps jis0208 ref c scalar =
     (λ _. ascii_steps jis0208 c 0x7E (lit< tt))
     (λ _. choose (ByByte ref jis0208 c) (is_katakana c) (Some (byte_of_katakana c)) None
     (katakana_steps jis0208 c)
-    (λ _. pointer_steps ref jis0208 c (shift_jis_pointer jis0208 (folded c)) (omega arith) (used jis0208 (folded c))))))
+    (λ _. pointer_steps ref jis0208 c (index_shift_jis_pointer jis0208 (folded c)) (omega arith) (used jis0208 (folded c))))))

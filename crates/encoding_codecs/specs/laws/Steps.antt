@@ -2,15 +2,15 @@
 use Rattle.std.proofs.Common.{◌≡◌, ◌≢◌, ℕ, ◌<◌, ◌≤◌, ◌⊎◌, Bool, true, false, cond, List, [], ◌∷◌, ◌++◌, length, refl, ◌∙◌, ap, arith, inl, inr}
 use Rattle.std.proofs.lemmas.Bool.{cases_eq}
 use Rattle.encoding_mem.specs.declared.reference.Reference.{Reference}
-use Rattle.encoding_mem.specs.Coding.{reference}
-use Rattle.encoding_mem.specs.Piece.{Piece, well_formed, malformed, piece_len, scalars_of, IsWellFormed}
+use Rattle.encoding_mem.specs.Coding.{reference_bytes}
+use Rattle.encoding_mem.specs.Piece.{Piece, well_formed, malformed, piece_len, piece_scalars, IsWellFormedPiece}
 use Rattle.encoding_mem.specs.Steps.{Returns, Strays}
 use Rattle.encoding_mem.specs.laws.Steps.{strays_at_reference}
 
 -- a piece of so many bytes gives the scalar, or it is wrong
 pub record IsWrong (n c : ℕ) (p : Piece) : Type 0 where
   pub within : piece_len p ≤ n
-  pub wrong : (¬ (IsWellFormed p)) ⊎ ((d : ℕ) × (d ≢ c) × (scalars_of p ≡ d ∷ []))
+  pub wrong : (¬ (IsWellFormedPiece p)) ⊎ ((d : ℕ) × (d ≢ c) × (piece_scalars p ≡ d ∷ []))
 
 abbrev pub IsEither : ℕ → ℕ → Piece → Type 0
 IsEither n c p = (p ≡ well_formed n (c ∷ [])) ⊎ IsWrong n c p
@@ -36,5 +36,5 @@ by_piece first_piece bytes c p is (inr wrong) = inr (record { piece = p; first =
 
 -- a reference stands for no character from 80 on
 pub reference_strays : (ref : Reference) (first_piece : List ℕ → Piece) → ((b : ℕ) (x : List ℕ) → b < 0x80 → first_piece (b ∷ x) ≡ well_formed 1 (b ∷ [])) → (c d : ℕ) → 0x80 ≤ c
-    → Strays first_piece (reference ref d) c
+    → Strays first_piece (reference_bytes ref d) c
 reference_strays ref first_piece ascii c d high = strays_at_reference ref first_piece c d (λ x. ascii 0x26 x (omega arith)) (λ same. omega (arith, same, high))

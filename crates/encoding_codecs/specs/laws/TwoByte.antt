@@ -8,22 +8,22 @@ use Rattle.std.proofs.Math.Utf8.{scalar}
 use Rattle.encoding_mem.specs.Piece.{Piece, well_formed, malformed, piece_len, Cuts}
 use Rattle.encoding_mem.specs.Pieces.{pieces_by}
 use Rattle.encoding_mem.specs.laws.Pieces.{CutsEach}
-use Rattle.encoding_mem.specs.Decoding.{AreBytes}
 use Rattle.encoding_mem.specs.laws.Shows.{Shows, shows_cond, shows_cons, shows_const, shows_first_piece}
-use Rattle.encoding_mem.specs.DecoderRule.{TellsFirstPiece, IsModest}
+use Rattle.encoding_mem.specs.calls.DecoderRule.{TellsFirstPiece, IsModest}
 use Rattle.encoding_mem.specs.laws.Utf8Decide.{cut_short}
 use Rattle.encoding_mem.specs.laws.Utf8.{cuts_cond, cuts_malformed, cuts_one}
-use Rattle.encoding_mem.specs.Writing.{len_utf16}
+use Rattle.encoding_mem.specs.calls.Writing.{len_utf16}
 use Rattle.encoding_mem.specs.laws.Writing.{cost_fits, cost_fits16}
 use Rattle.encoding_mem.specs.declared.first_piece.FirstPiece.{FirstPiece}
 use Rattle.encoding_mem.specs.declared.first_piece.FirstPiece.TheVariants.{One, Malformed}
+use Rattle.encoding_mem.specs.Decided.{AreBytes}
 use Rattle.encoding_codecs.specs.TwoByte.{first_piece_by_lead, piece_of_first, piece_of_trail, after_bytes, first_piece_two_byte}
 use Rattle.encoding_codecs.specs.laws.TwoByteDecide.{decide_of_first, decide_by_lead, decide_trail, decide_after}
 use Rattle.encoding_codecs.specs.declared.lead_byte_rule.FirstByte.{FirstByte}
 use Rattle.encoding_codecs.specs.declared.lead_byte_rule.FirstByte.TheVariants.{Alone, Lead, Unused}
 use Rattle.encoding_codecs.specs.declared.two_byte.PairValue.{PairValue}
 use Rattle.encoding_codecs.specs.declared.two_byte.PairValue.TheVariants.{NoChar, OneChar, TwoChars}
-use Rattle.encoding_codecs.specs.TwoByteRule.{IsFirstByte, TwoByteRule, IsPairValue, IsTwoByte}
+use Rattle.encoding_codecs.specs.calls.TwoByteRule.{IsFirstByte, TwoByteRule, IsPairValue, IsTwoByte}
 
 -- ---- what is shown of the first piece
 

@@ -10,7 +10,7 @@ use Rattle.encoding_codecs.specs.declared.lead_byte_rule.FirstByte.{FirstByte}
 use Rattle.encoding_codecs.specs.declared.lead_byte_rule.FirstByte.TheVariants.{Alone, Lead, Unused}
 use Rattle.encoding_codecs.specs.declared.two_byte.PairValue.{PairValue}
 use Rattle.encoding_codecs.specs.declared.two_byte.PairValue.TheVariants.{NoChar, OneChar, TwoChars}
-use Rattle.encoding_codecs.specs.TwoByteRule.{TwoByteRule}
+use Rattle.encoding_codecs.specs.calls.TwoByteRule.{TwoByteRule}
 
 abbrev pub decide_of_first : FirstByte → FirstPiece → FirstPiece
 decide_of_first (Alone c) prefix = One c 1

@@ -1,6 +1,6 @@
--- Worked rows of the destinations of a call of a decoder (`specs/DecoderCall.antt`).
+-- Worked rows of the destinations of a call of a decoder (`specs/calls/DecoderCall.antt`).
 use Rattle.std.proofs.Common.{[], ◌∷◌, refl, arith}
-use Rattle.encoding_front.specs.DecoderCall.{HasText, buffer, text_buffer, grown_string}
+use Rattle.encoding_front.specs.calls.DecoderCall.{HasText, buffer, text_buffer, grown_string}
 use Rattle.std.specs.Prelude.{encode_utf8_all}
 
 -- U+00E9 is C3 A9 at the end of a string

@@ -1,7 +1,7 @@
--- Worked rows of `specs/Latin1Prefix.antt`.
+-- Worked rows of `specs/calls/Latin1Prefix.antt`.
 use Rattle.std.specs.Prelude.{◌≡◌, refl}
 use Rattle.encoding_front.specs.declared.encoding.Encoding.{Encoding}
-use Rattle.encoding_front.specs.Latin1Prefix.{latin1_rule, by_index, by_mode, by_ascii, untold}
+use Rattle.encoding_front.specs.calls.Latin1Prefix.{latin1_rule, by_index, by_mode, by_ascii, untold}
 
 of_windows_1252 : latin1_rule Encoding.Windows1252 ≡ by_index
 of_windows_1252 = refl

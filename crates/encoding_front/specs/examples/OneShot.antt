@@ -1,9 +1,9 @@
--- Worked rows of `specs/OneShot.antt`.
+-- Worked rows of `specs/calls/OneShot.antt`.
 use Rattle.std.specs.Prelude.{◌≡◌, None, Some, refl}
 use Rattle.encoding_mem.specs.declared.room.OutputUnit.TheVariants.{Bytes, Replaced}
 use Rattle.encoding_front.specs.declared.encoding.Encoding.{Encoding}
 use Rattle.encoding_front.specs.declared.mark.Mark.TheVariants.{Sniff, Keep}
-use Rattle.encoding_front.specs.OneShot.{room_at_start}
+use Rattle.encoding_front.specs.calls.OneShot.{room_at_start}
 
 sniffed : room_at_start Sniff Encoding.Windows1252 Replaced 4 ≡ Some 15
 sniffed = refl

@@ -1,11 +1,11 @@
--- Worked rows of `specs/Stream.antt`.
+-- Worked rows of `specs/calls/Stream.antt`.
 use Rattle.std.specs.Prelude.{◌≡◌, ℕ, Option, None, Some, List, [], ◌∷◌, refl}
-use Rattle.encoding_mem.specs.DecodedLength.{decoded_length_utf8, decoded_length_single_byte, decoded_length_replacement}
+use Rattle.encoding_mem.specs.calls.DecodedLength.{decoded_length_utf8, decoded_length_single_byte, decoded_length_replacement}
 use Rattle.encoding_mem.specs.declared.room.OutputUnit.TheVariants.{Units, Bytes, Replaced}
-use Rattle.encoding_front.specs.Seeking.{nothing_sought, sought_by}
+use Rattle.encoding_front.specs.calls.Seeking.{nothing_sought, sought_by}
 use Rattle.encoding_front.specs.declared.encoding.Encoding.{Encoding}
 use Rattle.encoding_front.specs.declared.mark.Mark.TheVariants.{Sniff}
-use Rattle.encoding_front.specs.Stream.{Opening, room_asked}
+use Rattle.encoding_front.specs.calls.Stream.{Opening, room_asked}
 
 sniffing_windows_1252 : List ℕ → Opening
 sniffing_windows_1252 held = record { sought = sought_by Sniff Encoding.Windows1252; held = held; room = decoded_length_single_byte; pending = 0 }

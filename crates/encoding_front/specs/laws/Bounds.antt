@@ -7,27 +7,27 @@ use Rattle.std.specs.Str.{all_scalars}
 use Rattle.std.proofs.lemmas.Fmt.{length-decimal-le}
 use Rattle.encoding_mem.specs.declared.reference.Reference.{Reference}
 use Rattle.encoding_mem.specs.declared.reference.Reference.TheVariants.{Decimal, Hexadecimal}
-use Rattle.encoding_mem.specs.Coding.{Coding, bytes, last_set, open_from, output, reference, spelled, form_of_bytes}
+use Rattle.encoding_mem.specs.Coding.{Coding, mapped_bytes, last_set, open_from, output, reference_bytes, spelled, form_of_bytes}
 use Rattle.std.proofs.lemmas.Bool.{and_parts, cases_lt, eq-eqb, ne_eqb}
 use Rattle.encoding_mem.specs.declared.form.Form.{Form}
 use Rattle.encoding_mem.specs.declared.form.Form.TheVariants.{Mapped, Unmapped}
 use Rattle.encoding_mem.specs.declared.form.EscapeState.{EscapeState}
 use Rattle.encoding_mem.specs.declared.form.EscapeState.TheVariants.{Ascii}
-use Rattle.encoding_tables.specs.IndexLists.{IndexLists, entries_of, rows_of}
+use Rattle.encoding_tables.specs.IndexLists.{IndexLists, index_entries, range_rows}
 use Rattle.encoding_tables.specs.Lookups.{first_pointer}
 use Rattle.encoding_tables.specs.SingleByte.{single_byte_of_char}
 use Rattle.encoding_tables.specs.UserDefined.{byte_of_user_char}
 use Rattle.encoding_tables.specs.declared.index_kind.IndexKind.{IndexKind}
 use Rattle.encoding_tables.specs.laws.EachByte.{form_of_byte}
-use Rattle.encoding_codecs.specs.Big5.{big5_bytes, big5_find}
+use Rattle.encoding_codecs.specs.Big5.{big5_pair_bytes, index_big5_pointer}
 use Rattle.encoding_codecs.specs.EucJp.{euc_jp_char_bytes as euc_jp_bytes}
-use Rattle.encoding_codecs.specs.EucKr.{euc_kr_bytes}
+use Rattle.encoding_codecs.specs.EucKr.{euc_kr_pair_bytes}
 use Rattle.encoding_codecs.specs.Gb18030Coding.{gb18030_bytes}
-use Rattle.encoding_codecs.specs.Iso2022JpForms.{iso_2022_jp_pair_bytes, pointer_of_char}
+use Rattle.encoding_codecs.specs.Iso2022JpForms.{iso_2022_jp_pair_bytes, iso_2022_jp_pointer}
 use Rattle.encoding_codecs.specs.laws.Iso2022JpForms.{iso_2022_jp_laws}
 use Rattle.encoding_codecs.specs.ShiftJis.{shift_jis_char_bytes as shift_jis_bytes}
 use Rattle.encoding_codecs.specs.laws.Pointers.{form_of_pointer}
-use Rattle.encoding_front.specs.Bounds.{ReportsItself}
+use Rattle.encoding_front.specs.calls.ReportedCharacter.{ReportsItself}
 use Rattle.encoding_front.specs.laws.Encoder.{coding_laws}
 use Rattle.encoding_front.specs.Encodings.{coding_of, output_encoding_of}
 use Rattle.encoding_front.specs.EncodingTable.{codec_kind_of}
@@ -54,14 +54,14 @@ reports_bytes c (Some bs) = tt
 
 reports_in : (t : IndexLists) (s : CodecKind) (c : ℕ) → ReportsItself c ((codec_of t s).coding.form c)
 reports_in t CodecKind.Utf8 c = tt
-reports_in t (CodecKind.SingleByte kind) c = reports_byte c (single_byte_of_char (entries_of t kind) c)
-reports_in t CodecKind.Big5 c = reports_if (nat_lt c 0x80) c (Mapped (c ∷ [])) _ tt (reports_pointer big5_bytes c (big5_find (entries_of t IndexKind.Big5) c))
-reports_in t CodecKind.EucKr c = reports_if (nat_lt c 0x80) c (Mapped (c ∷ [])) _ tt (reports_pointer euc_kr_bytes c (first_pointer (entries_of t IndexKind.EucKr) c 0 23940))
-reports_in t CodecKind.EucJp c = reports_bytes c (euc_jp_bytes (entries_of t IndexKind.Jis0208) c)
-reports_in t CodecKind.ShiftJis c = reports_bytes c (shift_jis_bytes (entries_of t IndexKind.Jis0208) c)
-reports_in t (CodecKind.Gb18030 extended) c = reports_bytes c (gb18030_bytes (entries_of t IndexKind.Gb18030) (rows_of t) extended c)
+reports_in t (CodecKind.SingleByte kind) c = reports_byte c (single_byte_of_char (index_entries t kind) c)
+reports_in t CodecKind.Big5 c = reports_if (nat_lt c 0x80) c (Mapped (c ∷ [])) _ tt (reports_pointer big5_pair_bytes c (index_big5_pointer (index_entries t IndexKind.Big5) c))
+reports_in t CodecKind.EucKr c = reports_if (nat_lt c 0x80) c (Mapped (c ∷ [])) _ tt (reports_pointer euc_kr_pair_bytes c (first_pointer (index_entries t IndexKind.EucKr) c 0 23940))
+reports_in t CodecKind.EucJp c = reports_bytes c (euc_jp_bytes (index_entries t IndexKind.Jis0208) c)
+reports_in t CodecKind.ShiftJis c = reports_bytes c (shift_jis_bytes (index_entries t IndexKind.Jis0208) c)
+reports_in t (CodecKind.Gb18030 extended) c = reports_bytes c (gb18030_bytes (index_entries t IndexKind.Gb18030) (range_rows t) extended c)
 reports_in t CodecKind.Iso2022Jp c =
-    let other = reports_pointer iso_2022_jp_pair_bytes c (pointer_of_char (entries_of t IndexKind.Jis0208) (entries_of t IndexKind.Iso2022JpKatakana) c) in
+    let other = reports_pointer iso_2022_jp_pair_bytes c (iso_2022_jp_pointer (index_entries t IndexKind.Jis0208) (index_entries t IndexKind.Iso2022JpKatakana) c) in
     reports_if (nat_lt c 0x80) c _ _ (reports_if (c == 0x0E || c == 0x0F || c == 0x1B) c (Unmapped 0xFFFD) (Mapped (c ∷ [])) (inr refl) tt)
     (reports_if (c == 0xA5) c (Mapped (0x5C ∷ [])) _ tt (reports_if (c == 0x203E) c (Mapped (0x7E ∷ [])) _ tt other))
 reports_in t CodecKind.UserDefined c = reports_byte c (byte_of_user_char c)
@@ -72,11 +72,11 @@ pub reports_itself : (t : IndexLists) (e : Encoding) (c : ℕ) → ReportsItself
 reports_itself t e c = reports_in t (codec_kind_of (output_encoding_of e)) c
 
 -- the bytes of a character are at most four, an escape has at most three
-pub short_form : (t : IndexLists) (e : Encoding) (c : ℕ) → length (bytes ((coding_of t e).form c)) ≤ 4
+pub short_form : (t : IndexLists) (e : Encoding) (c : ℕ) → length (mapped_bytes ((coding_of t e).form c)) ≤ 4
 short_form t e c = omega (arith, ((coding_laws t e).short c).short, (coding_laws t e).few)
 
 escape_in : (t : IndexLists) (k : CodecKind) (s s' : EscapeState) → length ((codec_of t k).coding.escape s s') ≤ 3
-escape_in t CodecKind.Iso2022Jp s s' = (iso_2022_jp_laws (entries_of t IndexKind.Jis0208) (entries_of t IndexKind.Iso2022JpKatakana)).escape_short s s'
+escape_in t CodecKind.Iso2022Jp s s' = (iso_2022_jp_laws (index_entries t IndexKind.Jis0208) (index_entries t IndexKind.Iso2022JpKatakana)).escape_short s s'
 escape_in t _ s s' = omega arith
 
 pub short_escape : (t : IndexLists) (e : Encoding) (s s' : EscapeState) → length ((coding_of t e).escape s s') ≤ 3
@@ -100,11 +100,11 @@ unfolding digits
 few_hexadecimal c small = omega (arith, few_digits 5 58 c [] (omega (arith, small)))
 
 -- the longest references are `&#1114111;` and `&#x10FFFF;`
-pub short_reference : (ref : Reference) (c : ℕ) → c < 0x110000 → length (reference ref c) ≤ 10
+pub short_reference : (ref : Reference) (c : ℕ) → c < 0x110000 → length (reference_bytes ref c) ≤ 10
 short_reference Decimal c small = omega (arith, length-append (decimal c) (codes ";"), length-decimal-le 7 c (omega arith) (omega arith) (omega arith))
 short_reference Hexadecimal c small = omega (arith, length-append (digits 16 true c) (codes ";"), few_hexadecimal c small)
 
-short_spelled : (ref : Reference) (c : ℕ) (f : Form) → c < 0x110000 → length (bytes f) ≤ 4 → ReportsItself c f → length (spelled ref f) ≤ 10
+short_spelled : (ref : Reference) (c : ℕ) (f : Form) → c < 0x110000 → length (mapped_bytes f) ≤ 4 → ReportsItself c f → length (spelled ref f) ≤ 10
 short_spelled ref c (Mapped bs) small few itself = omega (arith, few)
 short_spelled ref c (Unmapped d) small few (inl same) = short_reference ref d (omega (arith, same))
 short_spelled ref c (Unmapped d) small few (inr same) = short_reference ref d (omega (arith, same))

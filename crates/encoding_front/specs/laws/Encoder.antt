@@ -1,15 +1,15 @@
 -- What holds of every encoder.
 use Rattle.std.proofs.Common.{◌≡◌, ◌<◌, ℕ, Bool, List, refl, true, false, lit<}
 use Rattle.std.specs.Str.{all_scalars}
-use Rattle.encoding_mem.specs.Encoding.{Encodes}
-use Rattle.encoding_mem.specs.ReadCalls.{KeepsVerdict, NothingIsLost}
+use Rattle.encoding_mem.specs.calls.EncoderCalls.{Encodes}
+use Rattle.encoding_mem.specs.calls.ReadCalls.{KeepsVerdict, IsNotUnmappable}
 use Rattle.encoding_mem.specs.laws.Verdict.{keeps_exact}
 use Rattle.encoding_mem.specs.declared.form.EscapeState.{EscapeState}
 use Rattle.encoding_mem.specs.declared.encoder_result.EncoderResult.{EncoderResult}
 use Rattle.encoding_front.specs.laws.Encodings.{one_set_of, reads_back_exactly, step_law_of}
 use Rattle.encoding_mem.specs.Coding.{IsCoding}
 use Rattle.encoding_mem.specs.laws.Utf8Coding.{utf8_coding_laws}
-use Rattle.encoding_tables.specs.IndexLists.{AreAcceptedTables, IndexLists, entries_of, rows_of}
+use Rattle.encoding_tables.specs.IndexLists.{AreAcceptedTables, IndexLists, index_entries, range_rows}
 use Rattle.encoding_tables.specs.laws.SingleByte.{single_byte_laws}
 use Rattle.encoding_tables.specs.laws.UserDefined.{user_defined_laws}
 use Rattle.encoding_tables.specs.declared.index_kind.IndexKind.{IndexKind}
@@ -20,7 +20,7 @@ use Rattle.encoding_codecs.specs.laws.ShiftJis.{shift_jis_laws}
 use Rattle.encoding_codecs.specs.laws.Gb18030Coding.{gb18030_laws}
 use Rattle.encoding_codecs.specs.laws.Iso2022JpForms.{iso_2022_jp_laws}
 use Rattle.encoding_front.specs.Encodings.{KeepsCharacters, coding_of, output_encoding_of, pieces_of}
-use Rattle.encoding_front.specs.CodecBounds.{need_of, need_of_codec_kind}
+use Rattle.encoding_front.specs.calls.CodecBounds.{need_of, need_of_codec_kind}
 use Rattle.encoding_front.specs.EncodingTable.{codec_kind_of}
 use Rattle.encoding_front.specs.declared.encoding.Encoding.{Encoding}
 use Rattle.encoding_front.specs.declared.encoding.Encoding.TheVariants.{Big5}
@@ -44,13 +44,13 @@ need_positive e = need_of_codec_kind-positive (codec_kind_of (output_encoding_of
 -- what is written in an output encoding is a coding
 coding_of_codec_kind-laws : (t : IndexLists) (s : CodecKind) → IsCoding (need_of_codec_kind s) (codec_of t s).coding
 coding_of_codec_kind-laws t CodecKind.Utf8 = utf8_coding_laws
-coding_of_codec_kind-laws t (CodecKind.SingleByte kind) = single_byte_laws (entries_of t kind)
-coding_of_codec_kind-laws t CodecKind.Big5 = big5_laws (entries_of t IndexKind.Big5)
-coding_of_codec_kind-laws t CodecKind.EucKr = euc_kr_laws (entries_of t IndexKind.EucKr)
-coding_of_codec_kind-laws t CodecKind.EucJp = euc_jp_laws (entries_of t IndexKind.Jis0208)
-coding_of_codec_kind-laws t CodecKind.ShiftJis = shift_jis_laws (entries_of t IndexKind.Jis0208)
-coding_of_codec_kind-laws t (CodecKind.Gb18030 extended) = gb18030_laws (entries_of t IndexKind.Gb18030) (rows_of t) extended
-coding_of_codec_kind-laws t CodecKind.Iso2022Jp = iso_2022_jp_laws (entries_of t IndexKind.Jis0208) (entries_of t IndexKind.Iso2022JpKatakana)
+coding_of_codec_kind-laws t (CodecKind.SingleByte kind) = single_byte_laws (index_entries t kind)
+coding_of_codec_kind-laws t CodecKind.Big5 = big5_laws (index_entries t IndexKind.Big5)
+coding_of_codec_kind-laws t CodecKind.EucKr = euc_kr_laws (index_entries t IndexKind.EucKr)
+coding_of_codec_kind-laws t CodecKind.EucJp = euc_jp_laws (index_entries t IndexKind.Jis0208)
+coding_of_codec_kind-laws t CodecKind.ShiftJis = shift_jis_laws (index_entries t IndexKind.Jis0208)
+coding_of_codec_kind-laws t (CodecKind.Gb18030 extended) = gb18030_laws (index_entries t IndexKind.Gb18030) (range_rows t) extended
+coding_of_codec_kind-laws t CodecKind.Iso2022Jp = iso_2022_jp_laws (index_entries t IndexKind.Jis0208) (index_entries t IndexKind.Iso2022JpKatakana)
 coding_of_codec_kind-laws t CodecKind.UserDefined = user_defined_laws
 coding_of_codec_kind-laws t (CodecKind.Utf16 big_endian) = utf8_coding_laws
 coding_of_codec_kind-laws t CodecKind.Replacement = utf8_coding_laws
@@ -60,7 +60,7 @@ coding_laws t e = coding_of_codec_kind-laws t (codec_kind_of (output_encoding_of
 
 -- where no two characters have the same bytes, a call that reports nothing keeps a true verdict
 pub kept_verdict : (t : IndexLists) (e : Encoding) → KeepsCharacters e → AreAcceptedTables t → (last : Bool) (outcome : EncoderResult) (s : EscapeState) (text w : List ℕ) (s' : EscapeState) (rest : List ℕ)
-    → all_scalars text ≡ true → Encodes (coding_of t e) last outcome s text w s' rest → NothingIsLost outcome
+    → all_scalars text ≡ true → Encodes (coding_of t e) last outcome s text w s' rest → IsNotUnmappable outcome
     → KeepsVerdict (coding_of t e) last true (pieces_of t (output_encoding_of e)) s text true (pieces_of t (output_encoding_of e)) s' rest
 kept_verdict t e kept taken =
     keeps_exact (coding_of t e) (pieces_of t (output_encoding_of e)) (coding_laws t e) (one_set_of t e kept) (reads_back_exactly t e kept taken) (step_law_of t e kept taken)

@@ -14,7 +14,7 @@ use Rattle.encoding_mem.specs.declared.form.EscapeState.TheVariants.{Ascii}
 use Rattle.encoding_mem.specs.Utf8.{first_piece_utf8, pieces_utf8}
 use Rattle.encoding_mem.specs.Utf8Coding.{utf8_coding}
 use Rattle.encoding_mem.specs.laws.Utf8.{cuts_utf8}
-use Rattle.encoding_tables.specs.IndexLists.{IndexLists, AreAcceptedTables, entries_of, rows_of}
+use Rattle.encoding_tables.specs.IndexLists.{IndexLists, AreAcceptedTables, index_entries, range_rows}
 use Rattle.encoding_tables.specs.laws.SingleByteReadBack.{single_byte_by_step}
 use Rattle.encoding_tables.specs.laws.SingleByteTables.{entries_scalars, tables_are_pieces, tables_exact}
 use Rattle.encoding_tables.specs.Replacement.{first_piece_replacement, after_replacement}
@@ -79,16 +79,16 @@ reads_back_exactly t e kept taken = exact_in t (codec_kind_of (output_encoding_o
 -- What is written in an output encoding reads back step by step.
 by_step_in : (t : IndexLists) (s : CodecKind) → AreAcceptedTables t → ReadsByStep (codec_of t s).coding (set_pieces_of_codec_kind t s)
 by_step_in t CodecKind.Utf8 taken = utf8_by_step
-by_step_in t (CodecKind.SingleByte kind) taken = single_byte_by_step (entries_of t kind) (entries_scalars t kind taken)
+by_step_in t (CodecKind.SingleByte kind) taken = single_byte_by_step (index_entries t kind) (entries_scalars t kind taken)
 by_step_in t CodecKind.UserDefined taken = user_defined_by_step
-by_step_in t CodecKind.Big5 taken = big5_by_step (entries_of t IndexKind.Big5) (entries_scalars t IndexKind.Big5 taken)
-by_step_in t CodecKind.EucKr taken = euc_kr_by_step (entries_of t IndexKind.EucKr) (entries_scalars t IndexKind.EucKr taken)
+by_step_in t CodecKind.Big5 taken = big5_by_step (index_entries t IndexKind.Big5) (entries_scalars t IndexKind.Big5 taken)
+by_step_in t CodecKind.EucKr taken = euc_kr_by_step (index_entries t IndexKind.EucKr) (entries_scalars t IndexKind.EucKr taken)
 by_step_in t CodecKind.EucJp taken =
-    euc_jp_by_step (entries_of t IndexKind.Jis0208) (entries_of t IndexKind.Jis0212) (entries_scalars t IndexKind.Jis0208 taken) (entries_scalars t IndexKind.Jis0212 taken)
-by_step_in t CodecKind.ShiftJis taken = shift_jis_by_step (entries_of t IndexKind.Jis0208) (entries_scalars t IndexKind.Jis0208 taken)
-by_step_in t (CodecKind.Gb18030 extended) taken = gb18030_by_step (entries_of t IndexKind.Gb18030) (rows_of t) extended (gb18030_tables t taken)
+    euc_jp_by_step (index_entries t IndexKind.Jis0208) (index_entries t IndexKind.Jis0212) (entries_scalars t IndexKind.Jis0208 taken) (entries_scalars t IndexKind.Jis0212 taken)
+by_step_in t CodecKind.ShiftJis taken = shift_jis_by_step (index_entries t IndexKind.Jis0208) (entries_scalars t IndexKind.Jis0208 taken)
+by_step_in t (CodecKind.Gb18030 extended) taken = gb18030_by_step (index_entries t IndexKind.Gb18030) (range_rows t) extended (gb18030_tables t taken)
 by_step_in t CodecKind.Iso2022Jp taken =
-    iso_2022_jp_by_step (entries_of t IndexKind.Jis0208) (entries_of t IndexKind.Iso2022JpKatakana) (entries_scalars t IndexKind.Jis0208 taken)
+    iso_2022_jp_by_step (index_entries t IndexKind.Jis0208) (index_entries t IndexKind.Iso2022JpKatakana) (entries_scalars t IndexKind.Jis0208 taken)
 by_step_in t (CodecKind.Utf16 big_endian) taken = utf8_by_step
 by_step_in t CodecKind.Replacement taken = utf8_by_step
 

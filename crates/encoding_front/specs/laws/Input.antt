@@ -10,14 +10,14 @@ use lib.Utf8.{scalar}
 use Rattle.encoding_mem.specs.declared.reference.Reference.{Reference}
 use Rattle.encoding_mem.specs.declared.reference.Reference.TheVariants.{Decimal}
 use Rattle.encoding_mem.specs.Coding.{output}
-use Rattle.encoding_mem.specs.Piece.{Piece, well_formed, malformed, text, text_of, sizes, ArePieces}
+use Rattle.encoding_mem.specs.Piece.{Piece, well_formed, malformed, text, piece_text, sizes, ArePieces}
 use Rattle.encoding_mem.specs.laws.Piece.{sizes-append, ArePieces-append}
 use Rattle.encoding_mem.specs.laws.Pieces.{pieces_by-whole, pieces_in-whole}
 use Rattle.encoding_mem.specs.Utf8.{first_piece_utf8}
 use Rattle.encoding_mem.specs.laws.Utf8.{cuts_utf8}
 use Rattle.std.proofs.lemmas.Bool.{and_parts}
 use Rattle.std.specs.Option.{unwrap_or}
-use Rattle.encoding_tables.specs.IndexLists.{IndexLists, AreAcceptedTables, entries_of, rows_of}
+use Rattle.encoding_tables.specs.IndexLists.{IndexLists, AreAcceptedTables, index_entries, range_rows}
 use Rattle.encoding_tables.specs.Replacement.{first_piece_replacement, after_replacement}
 use Rattle.encoding_tables.specs.laws.Replacement.{cuts_replacement}
 use Rattle.encoding_tables.specs.laws.SingleByte.{cuts_single_byte, first_piece_single_byte}
@@ -35,7 +35,7 @@ use Rattle.encoding_codecs.specs.Iso2022Jp.{ascii_mode}
 use Rattle.encoding_codecs.specs.laws.Iso2022Jp.{iso_2022_jp_whole}
 use Rattle.encoding_codecs.specs.laws.ShiftJis.{shift_jis_is_two_byte}
 use Rattle.encoding_codecs.specs.laws.TwoByte.{cuts_rule, cuts_two_byte}
-use Rattle.encoding_codecs.specs.TwoByteRule.{euc_kr_rule, big5_rule, shift_jis_rule}
+use Rattle.encoding_codecs.specs.calls.TwoByteRule.{euc_kr_rule, big5_rule, shift_jis_rule}
 use Rattle.encoding_codecs.specs.laws.FirstPieces.{first_piece_big5, first_piece_euc_kr, first_piece_shift_jis, first_piece_euc_jp, first_piece_gb18030}
 use Rattle.encoding_front.specs.laws.Bounds.{short_output}
 use Rattle.encoding_front.specs.Encodings.{coding_of, first_mark, pieces_of}
@@ -51,25 +51,25 @@ use Rattle.encoding_front.specs.Codecs.{codec_of}
 whole_in : (t : IndexLists) (s : CodecKind) → AreAcceptedTables t → (x : List ℕ) → sizes ((codec_of t s).pieces x) ≡ length x
 whole_in t CodecKind.Utf8 taken x = pieces_by-whole first_piece_utf8 cuts_utf8 x
 whole_in t (CodecKind.SingleByte kind) taken x =
-    let flat = entries_of t kind in
+    let flat = index_entries t kind in
     pieces_by-whole (first_piece_single_byte flat) (cuts_single_byte flat (entries_scalars t kind taken)) x
 whole_in t CodecKind.Big5 taken x =
-    let flat = entries_of t IndexKind.Big5 in
+    let flat = index_entries t IndexKind.Big5 in
     pieces_by-whole (first_piece_big5 flat) (cuts_two_byte (big5_rule flat) (big5_is_two_byte flat (entries_scalars t IndexKind.Big5 taken))) x
 whole_in t CodecKind.EucKr taken x =
-    let flat = entries_of t IndexKind.EucKr in
+    let flat = index_entries t IndexKind.EucKr in
     pieces_by-whole (first_piece_euc_kr flat) (cuts_two_byte (euc_kr_rule flat) (euc_kr_is_two_byte flat (entries_scalars t IndexKind.EucKr taken))) x
 whole_in t CodecKind.EucJp taken x =
-    let jis0208 = entries_of t IndexKind.Jis0208 in
-    let jis0212 = entries_of t IndexKind.Jis0212 in
+    let jis0208 = index_entries t IndexKind.Jis0208 in
+    let jis0212 = index_entries t IndexKind.Jis0212 in
     pieces_by-whole (first_piece_euc_jp jis0208 jis0212) (cuts_rule _ _ _ (euc_jp_is_lead_rule jis0208 jis0212 (entries_scalars t IndexKind.Jis0208 taken) (entries_scalars t IndexKind.Jis0212 taken))) x
 whole_in t CodecKind.ShiftJis taken x =
-    let flat = entries_of t IndexKind.Jis0208 in
+    let flat = index_entries t IndexKind.Jis0208 in
     pieces_by-whole (first_piece_shift_jis flat) (cuts_two_byte (shift_jis_rule flat) (shift_jis_is_two_byte flat (entries_scalars t IndexKind.Jis0208 taken))) x
 whole_in t (CodecKind.Gb18030 extended) taken x =
-    let flat = entries_of t IndexKind.Gb18030 in
-    pieces_by-whole (first_piece_gb18030 flat (rows_of t)) (cuts_gb18030 flat (rows_of t) (gb18030_tables t taken)) x
-whole_in t CodecKind.Iso2022Jp taken x = iso_2022_jp_whole (entries_of t IndexKind.Jis0208) (entries_scalars t IndexKind.Jis0208 taken) ascii_mode x
+    let flat = index_entries t IndexKind.Gb18030 in
+    pieces_by-whole (first_piece_gb18030 flat (range_rows t)) (cuts_gb18030 flat (range_rows t) (gb18030_tables t taken)) x
+whole_in t CodecKind.Iso2022Jp taken x = iso_2022_jp_whole (index_entries t IndexKind.Jis0208) (entries_scalars t IndexKind.Jis0208 taken) ascii_mode x
 whole_in t CodecKind.UserDefined taken x = pieces_by-whole first_piece_user_defined cuts_user_defined x
 whole_in t (CodecKind.Utf16 big_endian) taken x = pieces_by-whole (first_piece_utf16 big_endian) (cuts_utf16 big_endian) x
 whole_in t CodecKind.Replacement taken x = pieces_in-whole first_piece_replacement after_replacement cuts_replacement false x
@@ -114,7 +114,7 @@ marked_whole t mark e x taken =
 -- pieces have no more text than bytes, and it is of scalars
 pub few_text : (ps : List Piece) → ArePieces ps → length (text ps) ≤ sizes ps
 few_text [] h = omega arith
-few_text (p ∷ ps) h = omega (arith, h.0.few, few_text ps h.1, length-append (text_of p) (text ps))
+few_text (p ∷ ps) h = omega (arith, h.0.few, few_text ps h.1, length-append (piece_text p) (text ps))
 
 all_scalars-append : (a b : List ℕ) → all_scalars a ≡ true → all_scalars b ≡ true → all_scalars (a ++ b) ≡ true
 all_scalars-append [] b h k = k

@@ -2,8 +2,8 @@
 use Rattle.std.proofs.Common.{◌≡◌, ℕ, suc, ◌+◌, ◌-◌, ◌≤◌, ◌==◌, ◌&&◌, Bool, true, false, cond, IsTrue, List, [], ◌∷◌, ◌++◌, length, drop, refl, ◌∙◌, length-append, length-drop, arith}
 use Rattle.encoding_mem.specs.Piece.{sizes, ArePieces}
 use Rattle.encoding_mem.specs.laws.Pieces.{pieces_by-are_pieces, pieces_by-whole}
-use Rattle.encoding_mem.specs.Decoding.{DecoderState}
-use Rattle.encoding_mem.specs.DecodedLength.{decoded_length, decoded_length_utf8, decoded_length_utf16, decoded_length_single_byte, decoded_length_multibyte, decoded_length_replacement}
+use Rattle.encoding_mem.specs.calls.Decoding.{DecoderState}
+use Rattle.encoding_mem.specs.calls.DecodedLength.{decoded_length, decoded_length_utf8, decoded_length_utf16, decoded_length_single_byte, decoded_length_multibyte, decoded_length_replacement}
 use Rattle.encoding_mem.specs.Utf8.{first_piece_utf8}
 use Rattle.encoding_mem.specs.laws.Utf8.{cuts_utf8}
 use Rattle.encoding_mem.specs.declared.room.OutputUnit.{OutputUnit}
@@ -11,10 +11,10 @@ use Rattle.encoding_mem.specs.declared.room.OutputUnit.TheVariants.{Units, Bytes
 use Rattle.encoding_tables.specs.Utf16.{first_piece_utf16}
 use Rattle.encoding_tables.specs.laws.Utf16.{cuts_utf16}
 use Rattle.encoding_front.specs.EncodingTable.{codec_kind_of}
-use Rattle.encoding_front.specs.CodecBounds.{decoded_length_of, room_of_codec_kind}
+use Rattle.encoding_front.specs.calls.CodecBounds.{decoded_length_of, decoded_length_of_codec_kind}
 use Rattle.encoding_front.specs.declared.encoding.Encoding.{Encoding}
 use Rattle.encoding_front.specs.declared.codec_kind.CodecKind.{CodecKind}
-use Rattle.encoding_front.specs.Seeking.{len_of, pieces_after, room_after, is_sought, find_mark, find_second, find_end, pieces_seen, sought_pieces, can_be, sought_needs, room_widest}
+use Rattle.encoding_front.specs.calls.Seeking.{mark_len, pieces_after_mark, room_after_mark, is_sought, find_mark, find_second, find_end, pieces_seen, sought_pieces, can_be, sought_needs, room_widest}
 use Rattle.encoding_front.specs.declared.seeking.ByteOrderMark.{ByteOrderMark}
 use Rattle.encoding_front.specs.declared.seeking.ByteOrderMark.TheVariants.{Utf8, Utf16Be, Utf16Le}
 use Rattle.encoding_front.specs.declared.seeking.BomSet.{BomSet}
@@ -22,12 +22,12 @@ use Rattle.encoding_front.specs.declared.seeking.BomMatch.{BomMatch}
 use Rattle.encoding_front.specs.declared.seeking.BomMatch.TheVariants.{Prefix, Whole, Other}
 
 -- what follows a mark
-pub whole_after : (m : ByteOrderMark) (x : List ℕ) → sizes (pieces_after m x) ≡ length x
+pub whole_after : (m : ByteOrderMark) (x : List ℕ) → sizes (pieces_after_mark m x) ≡ length x
 whole_after Utf8 x = pieces_by-whole first_piece_utf8 cuts_utf8 x
 whole_after Utf16Be x = pieces_by-whole (first_piece_utf16 true) (cuts_utf16 true) x
 whole_after Utf16Le x = pieces_by-whole (first_piece_utf16 false) (cuts_utf16 false) x
 
-pub are_pieces_after : (m : ByteOrderMark) (x : List ℕ) → ArePieces (pieces_after m x)
+pub are_pieces_after : (m : ByteOrderMark) (x : List ℕ) → ArePieces (pieces_after_mark m x)
 are_pieces_after Utf8 x = pieces_by-are_pieces first_piece_utf8 cuts_utf8 x
 are_pieces_after Utf16Be x = pieces_by-are_pieces (first_piece_utf16 true) (cuts_utf16 true) x
 are_pieces_after Utf16Le x = pieces_by-are_pieces (first_piece_utf16 false) (cuts_utf16 false) x
@@ -35,7 +35,7 @@ are_pieces_after Utf16Le x = pieces_by-are_pieces (first_piece_utf16 false) (cut
 -- a whole mark stands in n bytes
 abbrev IsWithin : ℕ → BomMatch → Type 0
 IsWithin n Prefix = Unit {0}
-IsWithin n (Whole m) = len_of m ≤ n
+IsWithin n (Whole m) = mark_len m ≤ n
 IsWithin n Other = Unit {0}
 
 within_cond : (t : Bool) (n : ℕ) (F G : BomMatch) → IsWithin n F → IsWithin n G → IsWithin n (cond t F G)
@@ -47,7 +47,7 @@ within_more Prefix n m e h = tt
 within_more (Whole mark) n m e h = omega (arith, e, h)
 within_more Other n m e h = tt
 
-within_end : (byte : ℕ) (mark : ByteOrderMark) (k : ℕ) (x : List ℕ) → len_of mark ≡ suc k → IsWithin (k + length x) (find_end byte mark x)
+within_end : (byte : ℕ) (mark : ByteOrderMark) (k : ℕ) (x : List ℕ) → mark_len mark ≡ suc k → IsWithin (k + length x) (find_end byte mark x)
 within_end byte mark k [] e = tt
 within_end byte mark k (c ∷ x) e = within_cond (c == byte) _ (Whole mark) Other (omega (arith, e)) tt
 
@@ -66,7 +66,7 @@ within_mark s (a ∷ x) =
 
 whole_seen : (own : DecoderState) (x : List ℕ) (F : BomMatch) → own.pending ≡ 0 → IsWithin (length x) F → sizes (pieces_seen own.pieces x F) ≡ own.pending + length x
 whole_seen own x Prefix e h = own.whole x
-whole_seen own x (Whole m) e h = omega (arith, e, h, whole_after m (drop (len_of m) x), length-drop (len_of m) x)
+whole_seen own x (Whole m) e h = omega (arith, e, h, whole_after m (drop (mark_len m) x), length-drop (mark_len m) x)
 whole_seen own x Other e h = own.whole x
 
 whole_at : (t : Bool) (own : DecoderState) (x : List ℕ) (F : BomMatch) → (IsTrue t → own.pending ≡ 0) → IsWithin (length x) F → sizes (cond t (pieces_seen own.pieces x F) (own.pieces x)) ≡ own.pending + length x
@@ -107,7 +107,7 @@ widest_utf16 Units n = omega arith
 widest_utf16 Bytes n = omega arith
 widest_utf16 Replaced n = omega arith
 
-pub widest_after : (m : ByteOrderMark) (k : OutputUnit) (n : ℕ) → decoded_length (room_after m) k n ≤ decoded_length room_widest k n
+pub widest_after : (m : ByteOrderMark) (k : OutputUnit) (n : ℕ) → decoded_length (room_after_mark m) k n ≤ decoded_length room_widest k n
 widest_after Utf8 k n = widest_utf8 k n
 widest_after Utf16Be k n = widest_utf16 k n
 widest_after Utf16Le k n = widest_utf16 k n
@@ -117,7 +117,7 @@ widest_rises Units m n h = omega (arith, h)
 widest_rises Bytes m n h = omega (arith, h)
 widest_rises Replaced m n h = omega (arith, h)
 
-widest_cond : (t : Bool) (m : ByteOrderMark) (k : OutputUnit) (j n : ℕ) → j ≤ n → cond t (decoded_length (room_after m) k j) 0 ≤ decoded_length room_widest k n
+widest_cond : (t : Bool) (m : ByteOrderMark) (k : OutputUnit) (j n : ℕ) → j ≤ n → cond t (decoded_length (room_after_mark m) k j) 0 ≤ decoded_length room_widest k n
 widest_cond true m k j n h = omega (arith, widest_after m k j, widest_rises k j n h)
 widest_cond false m k j n h = omega arith
 
@@ -153,7 +153,7 @@ widest_replacement Units n = omega arith
 widest_replacement Bytes n = omega arith
 widest_replacement Replaced n = omega arith
 
-widest_codec_kind : (s : CodecKind) (k : OutputUnit) (n : ℕ) → decoded_length (room_of_codec_kind s) k n ≤ decoded_length room_widest k n
+widest_codec_kind : (s : CodecKind) (k : OutputUnit) (n : ℕ) → decoded_length (decoded_length_of_codec_kind s) k n ≤ decoded_length room_widest k n
 widest_codec_kind CodecKind.Utf8 k n = widest_utf8 k n
 widest_codec_kind (CodecKind.SingleByte kind) k n = widest_single_byte k n
 widest_codec_kind CodecKind.UserDefined k n = widest_single_byte k n

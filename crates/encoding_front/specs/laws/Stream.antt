@@ -1,12 +1,12 @@
 -- What holds of a decoder that may still look for a mark.
 use Rattle.std.proofs.Common.{◌≡◌, ℕ, ◌≤◌, Bool, true, false, cond, IsTrue, Option, None, List, [], ◌++◌, refl, sym, subst, ◌∙◌, ap}
 use Rattle.std.proofs.lemmas.List.{append-nil}
-use Rattle.encoding_mem.specs.DecodedLength.{decoded_length}
+use Rattle.encoding_mem.specs.calls.DecodedLength.{decoded_length}
 use Rattle.encoding_mem.specs.declared.room.DecodedLength.{DecodedLength}
 use Rattle.encoding_mem.specs.declared.room.OutputUnit.{OutputUnit}
-use Rattle.encoding_front.specs.CodecBounds.{decoded_length_of}
-use Rattle.encoding_front.specs.Seeking.{encoding_of_mark, find_mark, is_sought, mark_seen, mark_taken, room_after, room_widest}
-use Rattle.encoding_front.specs.Stream.{encoding_after}
+use Rattle.encoding_front.specs.calls.CodecBounds.{decoded_length_of}
+use Rattle.encoding_front.specs.calls.Seeking.{encoding_of_mark, find_mark, is_sought, mark_seen, mark_taken, room_after_mark, room_widest}
+use Rattle.encoding_front.specs.calls.Stream.{encoding_after}
 use Rattle.encoding_front.specs.laws.Seeking.{widest_encoding}
 use Rattle.encoding_front.specs.declared.encoding.Encoding.{Encoding}
 use Rattle.encoding_front.specs.declared.seeking.ByteOrderMark.{ByteOrderMark}
@@ -37,7 +37,7 @@ named_by e s taken held prefix x =
     ∙ ap (λ (m : Option ByteOrderMark). encoding_after (encoding_after e m) (mark_taken s None (held ++ x))) (sym (held_taken s taken held prefix))
 
 -- and the room is that of the encoding in force
-pub room_after_is : (m : ByteOrderMark) → room_after m ≡ decoded_length_of (encoding_of_mark m)
+pub room_after_is : (m : ByteOrderMark) → room_after_mark m ≡ decoded_length_of (encoding_of_mark m)
 room_after_is Utf8 = refl
 room_after_is Utf16Be = refl
 room_after_is Utf16Le = refl

@@ -1,6 +1,6 @@
 -- Worked rows of `specs/IndexLine.antt`.
 use Rattle.std.specs.Prelude.{◌≡◌, true, [], ◌∷◌, Some, None, codes, refl, map, replicate, false}
-use Rattle.encoding_index.specs.IndexLine.{is_skipped, row_in, is_digit, is_hex_digit}
+use Rattle.encoding_index.specs.IndexLine.{is_skipped, row_in, is_decimal_digit, is_hex_digit}
 
 plain_row : row_in (codes "0\t0x0080") ≡ Some (0, 0x80)
 unfolding row_in
@@ -47,7 +47,7 @@ unfolding is_skipped
 blank_line = refl
 
 -- 0 to 9 are decimal digits, and no other ASCII character beside them
-digit_ends : map is_digit (codes "/09:") ≡ false ∷ true ∷ true ∷ false ∷ []
+digit_ends : map is_decimal_digit (codes "/09:") ≡ false ∷ true ∷ true ∷ false ∷ []
 digit_ends = refl
 
 -- 0 to 9 and A to F are hexadecimal digits; a to f are not

@@ -1,7 +1,7 @@
 -- Worked index texts.
 use Rattle.std.specs.Prelude.{◌≡◌, ℕ, List, [], ◌∷◌, ◌++◌, Option, Some, None, codes, refl, map, replicate}
 use Rattle.encoding_index.specs.IndexLine.{is_skipped, row_in}
-use Rattle.encoding_index.specs.IndexText.{row_fault, first_fault, rows_before_fault, text_rows, text_list, range_pointers, out_of_memory}
+use Rattle.encoding_index.specs.IndexText.{row_fault, first_fault, rows_before_fault, text_rows, text_list, range_pointer_end, memory_fault}
 use Rattle.encoding_index.specs.declared.fault.IndexFault.{IndexFault}
 use Rattle.encoding_index.specs.declared.fault.IndexFaultKind.{IndexFaultKind}
 use Rattle.encoding_index.specs.declared.fault.IndexFaultKind.TheVariants.{Row, Order, Pointer, Memory}
@@ -71,7 +71,7 @@ other_marks = refl
 ranges : List ℕ
 ranges = codes "# gb18030 ranges\n0\t0x0080\n36\t0x00A5\n189000\t0x10000\n1237575\t0x10FFFF\n"
 
-ranges_have_no_fault : first_fault range_pointers ranges ≡ None
+ranges_have_no_fault : first_fault range_pointer_end ranges ≡ None
 unfolding is_skipped row_in row_fault ranges
 ranges_have_no_fault = refl
 
@@ -79,7 +79,7 @@ ranges_rows : text_rows ranges ≡ (0, 0x80) ∷ (36, 0xA5) ∷ (189000, 0x10000
 unfolding row_in ranges
 ranges_rows = refl
 
-past_the_ranges : first_fault range_pointers (codes "1237576\t0x0080") ≡ fault_at 1 Pointer
+past_the_ranges : first_fault range_pointer_end (codes "1237576\t0x0080") ≡ fault_at 1 Pointer
 unfolding is_skipped row_in row_fault
 past_the_ranges = refl
 
@@ -114,7 +114,7 @@ unfolding rows_before_fault is_skipped row_in row_fault marked
 all_rows_come_first = refl
 
 -- out of memory has no line
-no_line : out_of_memory ≡ record { line = 0; kind = Memory }
+no_line : memory_fault ≡ record { line = 0; kind = Memory }
 no_line = refl
 
 -- how many pointers the texts of each kind of index can name

@@ -1,6 +1,6 @@
 -- Worked rows of `specs/Agreement.antt`, and of `IsBroken` of `specs/Steps.antt`.
 use Rattle.std.proofs.Common.{◌≡◌, ℕ, ◌<◌, ◌⊎◌, inl, inr, List, [], ◌∷◌, ◌++◌, length, drop, refl, sym, ◌∙◌, ap, subst, arith, lit<}
-use Rattle.encoding_mem.specs.Agreement.{Agrees, IsEscape}
+use Rattle.encoding_mem.specs.Agreement.{AgreesWith, IsEscape}
 use Rattle.encoding_mem.specs.Piece.{Piece, text, sizes, AreWellFormed, well_formed, malformed}
 use Rattle.encoding_mem.specs.Pieces.{pieces_in}
 use Rattle.encoding_mem.specs.Steps.{AreApart, IsBroken}
@@ -11,7 +11,7 @@ use Rattle.encoding_mem.specs.laws.SampleCoding.{sample_coding_laws}
 use Rattle.encoding_mem.specs.declared.form.EscapeState.TheVariants.{Ascii, Roman}
 
 -- `Aé` agrees with its two characters
-letters_agree : Agrees utf8_coding pieces_utf8 (0x41 ∷ 0xC3 ∷ 0xA9 ∷ []) (0x41 ∷ 0xE9 ∷ [])
+letters_agree : AgreesWith utf8_coding pieces_utf8 (0x41 ∷ 0xC3 ∷ 0xA9 ∷ []) (0x41 ∷ 0xE9 ∷ [])
 unfolding pieces_in
 letters_agree = record {
   taken = well_formed 1 (0x41 ∷ []) ∷ well_formed 2 (0xE9 ∷ []) ∷ [];
@@ -54,11 +54,11 @@ none_left taken is left = rest (subst (λ l. (drop (sizes l) half ≡ []) ⊎ Is
     rest (inl none) = cc
     rest (inr (s, s', none)) = cc
 
-half_does_not_agree : ¬ (Agrees utf8_coding pieces_utf8 half (0x41 ∷ []))
+half_does_not_agree : ¬ (AgreesWith utf8_coding pieces_utf8 half (0x41 ∷ []))
 half_does_not_agree h = none_left h.taken (letter_alone (malformed 1) h.taken (h.decided []).0 (sym pieces_of_half ∙ (h.decided []).1) h.same (lit< tt)) h.left
 
 -- one escape may be left behind `A`, and two may not
-escape_agrees : Agrees sample_coding (λ x. letter ∷ []) (0x41 ∷ 0x1B ∷ 0x28 ∷ 0x4A ∷ []) (0x41 ∷ [])
+escape_agrees : AgreesWith sample_coding (λ x. letter ∷ []) (0x41 ∷ 0x1B ∷ 0x28 ∷ 0x4A ∷ []) (0x41 ∷ [])
 escape_agrees = record {
   taken = letter ∷ [];
   decided = λ r. ([], refl);
@@ -75,7 +75,7 @@ pieces_of_malformed : pieces_utf8 (0xFF ∷ []) ≡ malformed 1 ∷ []
 unfolding pieces_in
 pieces_of_malformed = refl
 
-malformed_does_not_agree : ¬ (Agrees utf8_coding pieces_utf8 (0xFF ∷ []) (0xFFFD ∷ []))
+malformed_does_not_agree : ¬ (AgreesWith utf8_coding pieces_utf8 (0xFF ∷ []) (0xFFFD ∷ []))
 malformed_does_not_agree h = by h.taken (h.decided []).0 h.well_formed h.same (sym pieces_of_malformed ∙ (h.decided []).1)
   where
     by : (taken rest : List Piece) → AreWellFormed taken → text taken ≡ 0xFFFD ∷ [] → malformed 1 ∷ [] ≡ taken ++ rest → ⊥

@@ -1,12 +1,13 @@
--- Worked rows of `specs/Decoding.antt`.
+-- Worked rows of `specs/calls/Decoding.antt`.
 use Rattle.std.proofs.Common.{◌≡◌, ◌≢◌, ℕ, nat_eq, nat_lt, Bool, true, false, if◌then◌else◌, Some, ◌+◌, ◌≤◌, List, [], ◌∷◌, length, refl, sym, ap, arith}
 use Rattle.std.proofs.lemmas.Bool.{lt-ltb}
-use Rattle.encoding_mem.specs.Piece.{Piece, well_formed, malformed, first, piece_len, text_of}
+use Rattle.encoding_mem.specs.Piece.{Piece, well_formed, malformed, head_piece, piece_len, piece_text}
 use Rattle.encoding_mem.specs.Pieces.{pieces_in}
 use Rattle.encoding_mem.specs.Event.{malformed_at}
-use Rattle.encoding_mem.specs.Decoding.{AreBytes, IsDecided, IsUndecided, Waits, IsKnown, Reports, TakesSoon, reported_event}
+use Rattle.encoding_mem.specs.calls.Decoding.{Waits, IsKnown, Reports, TakesSoon, reported_event}
 use Rattle.encoding_mem.specs.Utf8.{pieces_utf8}
 use Rattle.encoding_mem.specs.declared.decoder_result.DecoderResult.TheVariants.{InputEmpty, Malformed}
+use Rattle.encoding_mem.specs.Decided.{AreBytes, IsDecided, IsUndecided}
 
 -- a malformed sequence of two bytes is told of at the offset where it ends
 told_of : reported_event (Malformed 2 1) 5 ≡ malformed_at 2 5 ∷ []
@@ -56,7 +57,7 @@ late_pieces (a ∷ b ∷ []) = malformed 1 ∷ []
 late_pieces (a ∷ b ∷ c ∷ []) = malformed 1 ∷ []
 late_pieces (a ∷ b ∷ c ∷ d ∷ x) = well_formed 1 [] ∷ []
 
-none_of_three : (more : List ℕ) → length more ≤ 3 → ¬ (first (late_pieces []) ≢ first (late_pieces more))
+none_of_three : (more : List ℕ) → length more ≤ 3 → ¬ (head_piece (late_pieces []) ≢ head_piece (late_pieces more))
 none_of_three [] short differs = differs refl
 none_of_three (a ∷ []) short differs = differs refl
 none_of_three (a ∷ b ∷ []) short differs = differs refl
@@ -88,9 +89,9 @@ wide_is_decided (b ∷ x) bytes = ([], no_byte_changes b x bytes)
 wide_is_not_undecided : ¬ (IsUndecided wide_pieces [])
 wide_is_not_undecided undecided = by undecided.more undecided.bytes undecided.differs
   where
-    by : (more : List ℕ) → AreBytes more → first (wide_pieces []) ≢ first (wide_pieces more) → ⊥
+    by : (more : List ℕ) → AreBytes more → head_piece (wide_pieces []) ≢ head_piece (wide_pieces more) → ⊥
     by [] bytes differs = differs refl
-    by (b ∷ x) bytes differs = differs (ap first (sym (no_byte_changes b x bytes)))
+    by (b ∷ x) bytes differs = differs (ap head_piece (sym (no_byte_changes b x bytes)))
 
 -- The pieces behind 1B 28 42 1B 28, which are pending in ISO-2022-JP: with 42 the first escape is a malformed sequence of
 -- three bytes, else it stands for nothing.
@@ -101,11 +102,11 @@ behind_escape (b ∷ x) = if nat_eq b 0x42 then malformed 3 ∷ [] else well_for
 some_len : (p q : Piece) → Some p ≡ Some q → piece_len p ≡ piece_len q
 some_len p q e = cc
 
-escape_or_malformed : (t : Bool) (p : Piece) → first (if t then malformed 3 ∷ [] else well_formed 3 [] ∷ []) ≡ Some p → 5 ≤ piece_len p + 2
+escape_or_malformed : (t : Bool) (p : Piece) → head_piece (if t then malformed 3 ∷ [] else well_formed 3 [] ∷ []) ≡ Some p → 5 ≤ piece_len p + 2
 escape_or_malformed true p e = omega (arith, some_len (malformed 3) p e)
 escape_or_malformed false p e = omega (arith, some_len (well_formed 3 []) p e)
 
-escape_is_near : (r : List ℕ) (p : Piece) → first (behind_escape r) ≡ Some p → 5 ≤ piece_len p + 2
+escape_is_near : (r : List ℕ) (p : Piece) → head_piece (behind_escape r) ≡ Some p → 5 ≤ piece_len p + 2
 escape_is_near [] p e = omega (arith, some_len (well_formed 3 []) p e)
 escape_is_near (b ∷ x) p e = escape_or_malformed (nat_eq b 0x42) p e
 
@@ -142,7 +143,7 @@ letter_is_known : IsKnown pieces_utf8 (0x41 ∷ []) false
 unfolding pieces_in
 letter_is_known = (well_formed 1 (0x41 ∷ []), λ r last. refl, omega arith)
 
-same_text_len : (p q : Piece) → Some p ≡ Some q → length (text_of p) ≡ length (text_of q)
+same_text_len : (p q : Piece) → Some p ≡ Some q → length (piece_text p) ≡ length (piece_text q)
 same_text_len p q e = cc
 
 ignored_is_not_known : ¬ (IsKnown (λ x. well_formed 3 [] ∷ []) [] false)

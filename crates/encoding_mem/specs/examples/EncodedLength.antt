@@ -1,7 +1,7 @@
--- Worked rows of `specs/EncodedLength.antt`: the room for a text of seven units of UTF-16, or of seven bytes of UTF-8.
+-- Worked rows of `specs/calls/EncodedLength.antt`: the room for a text of seven units of UTF-16, or of seven bytes of UTF-8.
 use Rattle.std.specs.Prelude.{◌≡◌, ℕ, Bool, true, false, Option, Some, None, refl}
-use Rattle.encoding_mem.specs.DecodedLength.{checked, bound_at}
-use Rattle.encoding_mem.specs.EncodedLength.{bound_for, encoded_length_utf8, encoded_length_single_byte, encoded_length_two_byte, encoded_length_gb18030, encoded_length_iso_2022_jp}
+use Rattle.encoding_mem.specs.calls.DecodedLength.{checked, bound_at}
+use Rattle.encoding_mem.specs.calls.EncodedLength.{bound_for, encoded_length_utf8, encoded_length_single_byte, encoded_length_two_byte, encoded_length_gb18030, encoded_length_iso_2022_jp}
 use Rattle.encoding_mem.specs.declared.room.EncodedLength.{EncodedLength}
 
 -- the room for n units or n bytes of text; none where it passes a usize

@@ -3,19 +3,19 @@ use Rattle.std.specs.Prelude.{◌≡◌, [], ◌∷◌, map, codes, refl}
 use Rattle.std.specs.Char.{encode_utf8}
 use Rattle.std.specs.Fmt.{digits}
 use Rattle.encoding_mem.specs.declared.reference.Reference.TheVariants.{Decimal, Hexadecimal}
-use Rattle.encoding_mem.specs.Coding.{reference, output}
+use Rattle.encoding_mem.specs.Coding.{reference_bytes, output}
 use Rattle.encoding_mem.specs.Items.{Byte, LostAt, open_items}
 use Rattle.encoding_mem.specs.Utf8Coding.{utf8_coding}
 use Rattle.encoding_mem.specs.examples.SampleCoding.{sample_coding}
 use Rattle.encoding_mem.specs.declared.form.EscapeState.TheVariants.{Ascii, Jis}
 
 -- the reference of U+FFFD
-pub replacement_reference : reference Decimal 65533 ≡ codes "&#65533;"
+pub replacement_reference : reference_bytes Decimal 65533 ≡ codes "&#65533;"
 unfolding digits
 replacement_reference = refl
 
 -- the hexadecimal ones of U+FFFD and U+1F4A9, whose digits are in upper case, with no zero before them
-pub hexadecimal_references : (reference Hexadecimal 0xFFFD ≡ codes "&#xFFFD;") × (reference Hexadecimal 0x1F4A9 ≡ codes "&#x1F4A9;")
+pub hexadecimal_references : (reference_bytes Hexadecimal 0xFFFD ≡ codes "&#xFFFD;") × (reference_bytes Hexadecimal 0x1F4A9 ≡ codes "&#x1F4A9;")
 unfolding digits
 hexadecimal_references = (refl, refl)
 

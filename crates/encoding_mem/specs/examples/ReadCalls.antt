@@ -1,9 +1,9 @@
--- Worked rows of `specs/ReadCalls.antt`, in UTF-8.
+-- Worked rows of `specs/calls/ReadCalls.antt`, in UTF-8.
 use Rattle.std.proofs.Common.{◌≡◌, ℕ, inl, inr, true, false, IsTrue, List, [], ◌∷◌, refl, sym, ◌∙◌, arith, lit<, lit≤}
 use Rattle.std.specs.Char.{encode_utf8}
 use Rattle.encoding_mem.specs.Piece.{Piece, well_formed, malformed}
 use Rattle.encoding_mem.specs.Pieces.{pieces_in}
-use Rattle.encoding_mem.specs.ReadCalls.{AreRead, DecidesNothing, HasTaken, HasTakenPart, IsReadUpTo, KeepsVerdict, ReadsAlong, ReadsWhole}
+use Rattle.encoding_mem.specs.calls.ReadCalls.{AreRead, DecidesNothing, HasTaken, HasTakenPart, IsReadUpTo, KeepsVerdict, ReadsAlong, ReadsWhole}
 use Rattle.encoding_mem.specs.Steps.{in_any_set}
 use Rattle.encoding_mem.specs.Utf8.{first_piece_utf8, pieces_utf8}
 use Rattle.encoding_mem.specs.Utf8Coding.{utf8_coding}

@@ -2,7 +2,7 @@
 -- itself in ASCII or Roman, and the rest has no bytes and is referred to in ASCII or Roman.
 use Rattle.std.specs.Prelude.{ℕ, List, [], ◌∷◌, nat_lt, nat_eq, if◌then◌else◌}
 use Rattle.encoding_mem.specs.Coding.{Coding}
-use Rattle.encoding_mem.specs.DecodedLength.{line}
+use Rattle.encoding_mem.specs.calls.DecodedLength.{linear_bound}
 use Rattle.encoding_mem.specs.declared.room.EncodedLength.{EncodedLength}
 use Rattle.encoding_mem.specs.declared.form.Form.{Form}
 use Rattle.encoding_mem.specs.declared.form.Form.TheVariants.{Mapped, Unmapped}
@@ -35,7 +35,7 @@ sample_set s c = if nat_eq c 0xA5 then Roman else if nat_eq c 0x3042 then Jis el
 
 -- more room than is needed
 abbrev pub sample_room : EncodedLength
-sample_room = record { units = line 6 3; bytes = line 6 3 }
+sample_room = record { units = linear_bound 6 3; bytes = linear_bound 6 3 }
 
 abbrev pub sample_coding : Coding
 sample_coding = record { form = sample_form; set = sample_set; escape = escape_between }

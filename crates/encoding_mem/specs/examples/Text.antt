@@ -1,8 +1,8 @@
--- Worked rows of `specs/Text.antt`: `A€` and U+1F4A9.
+-- Worked rows of `specs/calls/TextRun.antt`: `A€` and U+1F4A9.
 use Rattle.std.specs.Prelude.{◌≡◌, true, false, [], ◌∷◌, refl}
 use Rattle.std.specs.Str.{chars}
 use Rattle.encoding_mem.specs.Piece.{well_formed}
-use Rattle.encoding_mem.specs.Text.{text_pieces, text_len}
+use Rattle.encoding_mem.specs.calls.TextRun.{text_pieces, text_len}
 
 -- they are cut into one, three and four bytes
 each_is_a_piece : text_pieces (0x41 ∷ 0x20AC ∷ 0x1F4A9 ∷ []) ≡ well_formed 1 (0x41 ∷ []) ∷ well_formed 3 (0x20AC ∷ []) ∷ well_formed 4 (0x1F4A9 ∷ []) ∷ []

@@ -1,6 +1,6 @@
--- Worked rows of `specs/TextDestination.antt`. Two more are in `Texts`.
+-- Worked rows of `specs/calls/TextDestination.antt`. Two more are in `Texts`.
 use Rattle.std.proofs.Common.{◌≡◌, [], ◌∷◌, refl, arith}
-use Rattle.encoding_mem.specs.TextDestination.{cleared, Overwrites}
+use Rattle.encoding_mem.specs.calls.TextDestination.{cleared, Overwrites}
 
 -- 80 and BF are the first and the last continuation byte; what follows another byte stays
 continuation_bytes : cleared (0x80 ∷ 0xBF ∷ 0xC0 ∷ 0x80 ∷ []) ≡ 0 ∷ 0 ∷ 0xC0 ∷ 0x80 ∷ []

@@ -1,6 +1,6 @@
--- Worked rows of `specs/TextUnits.antt`.
+-- Worked rows of `specs/calls/TextUnits.antt`.
 use Rattle.std.proofs.Common.{◌≡◌, refl}
-use Rattle.encoding_mem.specs.TextUnits.{size_from_lead}
+use Rattle.encoding_mem.specs.calls.TextUnits.{size_from_lead}
 
 -- the last byte of ASCII, and the bytes at which each size begins: U+0080, U+0800 and U+10000
 ascii : size_from_lead 0x7F ≡ 1

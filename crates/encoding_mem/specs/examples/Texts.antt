@@ -12,9 +12,9 @@ use Rattle.encoding_mem.specs.LongestPrefix.{IsLongestPrefix}
 use Rattle.encoding_mem.specs.Piece.{text}
 use Rattle.encoding_mem.specs.Pieces.{pieces_in}
 use Rattle.encoding_mem.specs.Surrogates.{IsHighSurrogate, IsLoneSurrogate, IsMended}
-use Rattle.encoding_mem.specs.TextDestination.{cleared}
+use Rattle.encoding_mem.specs.calls.TextDestination.{cleared}
 use Rattle.encoding_mem.specs.Utf8.{pieces_utf8}
-use Rattle.encoding_mem.specs.Writing.{encode_utf16_all}
+use Rattle.encoding_mem.specs.calls.Writing.{encode_utf16_all}
 
 -- the edges of a block, and the character before the first one
 pub hebrew_block_begins : is_bidi_char 0x590 ≡ true

@@ -1,6 +1,6 @@
--- Worked rows of `specs/Writing.antt`.
+-- Worked rows of `specs/calls/Writing.antt`.
 use Rattle.std.proofs.Common.{◌≡◌, [], ◌∷◌, refl, arith}
-use Rattle.encoding_mem.specs.Writing.{len_utf16, encode_utf16_all, Adds}
+use Rattle.encoding_mem.specs.calls.Writing.{len_utf16, encode_utf16_all, Adds}
 
 -- the last character of one unit, and the first of two
 one_unit : len_utf16 0xFFFF ≡ 1

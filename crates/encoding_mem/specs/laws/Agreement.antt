@@ -4,7 +4,7 @@ use Rattle.std.specs.Str.{all_scalars}
 use Rattle.std.proofs.Math.Utf8.{scalar}
 use Rattle.std.proofs.lemmas.Bool.{and_parts}
 use Rattle.std.proofs.lemmas.List.{append-nil, drop_at, get_or_append_left, get_or-append-add}
-use Rattle.encoding_mem.specs.Agreement.{IsEscape, Agrees, AgreesOrBreaks, ReadsBackOrBreaks, ReadsByStep}
+use Rattle.encoding_mem.specs.Agreement.{IsEscape, AgreesWith, AgreesOrBreaks, ReadsBackOrBreaks, ReadsByStep}
 use Rattle.encoding_mem.specs.Coding.{Coding, open_from, last_set, output, spelled}
 use Rattle.encoding_mem.specs.Piece.{Piece, sizes, text, AreWellFormed}
 use Rattle.encoding_mem.specs.ReadBack.{ReadsAs}
@@ -112,7 +112,7 @@ open_reads ref e p steps s (c ∷ t) h =
     ])
 
 -- Whole pieces agree, also with an escape behind them; and where that is ignored at the end, all reads as the text.
-follows_agrees : (e : Coding) (a b : List ℕ → List Piece) (bytes t escape : List ℕ) → Follows a b bytes t → (escape ≡ []) ⊎ IsEscape e escape → Agrees e a (bytes ++ escape) t
+follows_agrees : (e : Coding) (a b : List ℕ → List Piece) (bytes t escape : List ℕ) → Follows a b bytes t → (escape ≡ []) ⊎ IsEscape e escape → AgreesWith e a (bytes ++ escape) t
 follows_agrees e a b bytes t escape h is =
     let left : drop (sizes h.taken) (bytes ++ escape) ≡ escape = drop_at bytes escape (sizes h.taken) (sym h.whole) in
     record {
@@ -133,7 +133,7 @@ follows_reads a b bytes t escape h last =
 
 so_far_in : (e : Coding) (p : EscapeState → List ℕ → List Piece) → StepLaw e p → (ref : Reference) (t : List ℕ) → all_scalars t ≡ true → AgreesOrBreaks e (p Ascii) (open_from ref e Ascii t) t
 so_far_in e p steps ref t h = elim (open_reads ref e p steps Ascii t h) [
-  | inl reads ↦ inl (subst (λ l. Agrees e (p Ascii) l t) (append-nil (open_from ref e Ascii t)) (follows_agrees e (p Ascii) (p (last_set e Ascii t)) (open_from ref e Ascii t) t [] reads (inl refl)))
+  | inl reads ↦ inl (subst (λ l. AgreesWith e (p Ascii) l t) (append-nil (open_from ref e Ascii t)) (follows_agrees e (p Ascii) (p (last_set e Ascii t)) (open_from ref e Ascii t) t [] reads (inl refl)))
   | inr broken ↦ inr broken
 ]
 

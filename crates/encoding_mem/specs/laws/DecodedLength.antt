@@ -3,11 +3,11 @@ use Rattle.std.proofs.Common.{ℕ, ◌+◌, ◌*◌, ◌≤◌, ◌<◌, Bool, L
 use Rattle.std.proofs.lemmas.Bool.Decides.{nat_tests}
 use Rattle.std.specs.Char.{len_utf8}
 use Rattle.std.specs.Str.{IsUtf8}
-use Rattle.encoding_mem.specs.Text.{text_len}
-use Rattle.encoding_mem.specs.Writing.{len_utf16}
+use Rattle.encoding_mem.specs.calls.TextRun.{text_len}
+use Rattle.encoding_mem.specs.calls.Writing.{len_utf16}
 use Rattle.encoding_mem.specs.laws.Writing.{len_utf16_le, cost_two, cost_two16, length-encode_utf16_chars}
-use Rattle.encoding_mem.specs.DecodedLength.{is_units, goes_on, cost_in, replacement_len, two_in, left_after, decoded_length, decoded_length_utf8, decoded_length_single_byte, decoded_length_multibyte}
-use Rattle.encoding_mem.specs.DecoderRule.{HasRoomFor, IsNotLonger, IsBasic, IsModest}
+use Rattle.encoding_mem.specs.calls.DecodedLength.{is_units, counts_past_malformed, cost_in, replacement_len, two_in, left_after, decoded_length, decoded_length_utf8, decoded_length_single_byte, decoded_length_multibyte}
+use Rattle.encoding_mem.specs.calls.DecoderRule.{HasRoomFor, IsNotLonger, IsBasic, IsModest}
 use Rattle.encoding_mem.specs.declared.first_piece.FirstPiece.{FirstPiece}
 use Rattle.encoding_mem.specs.declared.first_piece.FirstPiece.TheVariants.{More, One, Two, Ignored, Malformed}
 use Rattle.encoding_mem.specs.declared.room.OutputUnit.{OutputUnit}
@@ -19,7 +19,7 @@ short_one c n s Units m = omega (arith, s, len_utf16_le c)
 short_one c n s Bytes m = omega (arith, s)
 short_one c n s Replaced m = omega (arith, s)
 
-short_malformed : (n : ℕ) → 0 < n → (k : OutputUnit) (m : ℕ) → left_after (goes_on k) (replacement_len (is_units k)) (decoded_length decoded_length_utf8 k m) ≤ decoded_length decoded_length_utf8 k (n + m)
+short_malformed : (n : ℕ) → 0 < n → (k : OutputUnit) (m : ℕ) → left_after (counts_past_malformed k) (replacement_len (is_units k)) (decoded_length decoded_length_utf8 k m) ≤ decoded_length decoded_length_utf8 k (n + m)
 short_malformed n s Units m = omega (arith, s)
 short_malformed n s Bytes m = omega (arith, s)
 short_malformed n s Replaced m = omega (arith, s)
@@ -66,7 +66,7 @@ basic_one c n low some Units m = omega (arith, some, len_utf16_basic c low)
 basic_one c n low some Bytes m = omega (arith, some, len_utf8_basic c low)
 basic_one c n low some Replaced m = omega (arith, some, len_utf8_basic c low)
 
-basic_malformed : (n : ℕ) → 0 < n → (k : OutputUnit) (m : ℕ) → left_after (goes_on k) (replacement_len (is_units k)) (decoded_length decoded_length_single_byte k m) ≤ decoded_length decoded_length_single_byte k (n + m)
+basic_malformed : (n : ℕ) → 0 < n → (k : OutputUnit) (m : ℕ) → left_after (counts_past_malformed k) (replacement_len (is_units k)) (decoded_length decoded_length_single_byte k m) ≤ decoded_length decoded_length_single_byte k (n + m)
 basic_malformed n some Units m = omega (arith, some)
 basic_malformed n some Bytes m = omega (arith, some)
 basic_malformed n some Replaced m = omega (arith, some)
@@ -89,7 +89,7 @@ modest_two c d n low lower s Units m = (omega (arith, s), omega (arith, s, cost_
 modest_two c d n low lower s Bytes m = (omega (arith, s), omega (arith, s, cost_two c d low lower))
 modest_two c d n low lower s Replaced m = (omega (arith, s), omega (arith, s, cost_two c d low lower))
 
-modest_malformed : (n : ℕ) → 0 < n → (k : OutputUnit) (m : ℕ) → left_after (goes_on k) (replacement_len (is_units k)) (decoded_length decoded_length_multibyte k m) ≤ decoded_length decoded_length_multibyte k (n + m)
+modest_malformed : (n : ℕ) → 0 < n → (k : OutputUnit) (m : ℕ) → left_after (counts_past_malformed k) (replacement_len (is_units k)) (decoded_length decoded_length_multibyte k m) ≤ decoded_length decoded_length_multibyte k (n + m)
 modest_malformed n s Units m = omega (arith, s)
 modest_malformed n s Bytes m = omega (arith, s)
 modest_malformed n s Replaced m = omega (arith, s)

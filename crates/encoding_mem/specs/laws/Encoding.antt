@@ -4,10 +4,10 @@ use Rattle.std.proofs.lemmas.Str.{length-encode}
 use Rattle.std.proofs.lemmas.List.{append-nil, append_cancel_right, map-append}
 use Rattle.std.specs.Str.{encode_utf8_all}
 use Rattle.std.specs.Char.{encode_utf8}
-use Rattle.encoding_mem.specs.Coding.{Coding, IsCoding, AllMapped, IsMapped, bytes, bytes_from, open_from, whole_from, last_set, output, lost_count, reference, spelled}
-use Rattle.encoding_mem.specs.Items.{Item, Byte, MalformedAt, LostAt, bytes_of, form_items, open_items, whole_items, closing}
-use Rattle.encoding_mem.specs.Encoding.{Encodes, EncodesItems, Leaves, Reads, TextGoesOn, Writes, Continues, reported_item}
-use Rattle.encoding_mem.specs.EncoderRule.{Moves, Tight}
+use Rattle.encoding_mem.specs.Coding.{Coding, IsCoding, AllMapped, IsMapped, mapped_bytes, bytes_from, open_from, whole_from, last_set, output, lost_count, reference_bytes, spelled}
+use Rattle.encoding_mem.specs.Items.{Item, Byte, MalformedAt, LostAt, item_bytes, form_items, open_items, whole_items, closing}
+use Rattle.encoding_mem.specs.calls.EncoderCalls.{Encodes, EncodesItems, Leaves, Reads, TextGoesOn, AccountsForText, WritesPart, reported_item}
+use Rattle.encoding_mem.specs.calls.EncoderRule.{Moves, Tight}
 use Rattle.encoding_mem.specs.Utf8Coding.{utf8_coding, NextIsTooLong, ReadsLongest}
 use Rattle.encoding_mem.specs.declared.reference.Reference.{Reference}
 use Rattle.encoding_mem.specs.declared.form.Form.{Form}
@@ -18,21 +18,21 @@ use Rattle.encoding_mem.specs.declared.encoder_result.EncoderResult.{EncoderResu
 use Rattle.encoding_mem.specs.declared.encoder_result.EncoderResult.TheVariants.{InputEmpty, OutputFull, Unmappable}
 
 -- The bytes of items.
-pub bytes_of-append : (xs ys : List Item) → bytes_of (xs ++ ys) ≡ bytes_of xs ++ bytes_of ys
+pub bytes_of-append : (xs ys : List Item) → item_bytes (xs ++ ys) ≡ item_bytes xs ++ item_bytes ys
 bytes_of-append [] ys = refl
 bytes_of-append (Byte b ∷ xs) ys = ap (λ l. b ∷ l) (bytes_of-append xs ys)
 bytes_of-append (MalformedAt offset size ∷ xs) ys = bytes_of-append xs ys
 bytes_of-append (LostAt index scalar ∷ xs) ys = bytes_of-append xs ys
 
-pub bytes_of-bytes : (bs : List ℕ) → bytes_of (map Byte bs) ≡ bs
+pub bytes_of-bytes : (bs : List ℕ) → item_bytes (map Byte bs) ≡ bs
 bytes_of-bytes [] = refl
 bytes_of-bytes (b ∷ bs) = ap (λ l. b ∷ l) (bytes_of-bytes bs)
 
-bytes_of-form : (ref : Reference) (i : ℕ) (f : Form) → bytes_of (form_items ref i f) ≡ spelled ref f
+bytes_of-form : (ref : Reference) (i : ℕ) (f : Form) → item_bytes (form_items ref i f) ≡ spelled ref f
 bytes_of-form ref i (Mapped bs) = bytes_of-bytes bs
-bytes_of-form ref i (Unmapped c) = bytes_of-bytes (reference ref c)
+bytes_of-form ref i (Unmapped c) = bytes_of-bytes (reference_bytes ref c)
 
-pub bytes_of-open_items : (ref : Reference) (e : Coding) (s : EscapeState) (i : ℕ) (t : List ℕ) → bytes_of (open_items ref e s i t) ≡ open_from ref e s t
+pub bytes_of-open_items : (ref : Reference) (e : Coding) (s : EscapeState) (i : ℕ) (t : List ℕ) → item_bytes (open_items ref e s i t) ≡ open_from ref e s t
 bytes_of-open_items ref e s i [] = refl
 bytes_of-open_items ref e s i (c ∷ t) =
     rw (
@@ -43,16 +43,16 @@ bytes_of-open_items ref e s i (c ∷ t) =
       bytes_of-open_items ref e (e.set s c) (i + 1) t,
     )
 
-bytes_of-closing : (e : Coding) (last : Bool) (s : EscapeState) → bytes_of (cond last (closing e s) []) ≡ cond last (e.escape s Ascii) []
+bytes_of-closing : (e : Coding) (last : Bool) (s : EscapeState) → item_bytes (cond last (closing e s) []) ≡ cond last (e.escape s Ascii) []
 bytes_of-closing e true s = bytes_of-bytes (e.escape s Ascii)
 bytes_of-closing e false s = refl
 
 bytes_of-whole : (ref : Reference) (e : Coding) (last : Bool) (s : EscapeState) (i : ℕ) (t : List ℕ)
-    → bytes_of (whole_items ref e last s i t) ≡ open_from ref e s t ++ cond last (e.escape (last_set e s t) Ascii) []
+    → item_bytes (whole_items ref e last s i t) ≡ open_from ref e s t ++ cond last (e.escape (last_set e s t) Ascii) []
 bytes_of-whole ref e last s i t =
     bytes_of-append (open_items ref e s i t) _ ∙ rw (bytes_of-open_items ref e s i t, bytes_of-closing e last (last_set e s t)) refl
 
-pub bytes_of-whole_items : (ref : Reference) (e : Coding) (s : EscapeState) (i : ℕ) (t : List ℕ) → bytes_of (whole_items ref e true s i t) ≡ whole_from ref e s t
+pub bytes_of-whole_items : (ref : Reference) (e : Coding) (s : EscapeState) (i : ℕ) (t : List ℕ) → item_bytes (whole_items ref e true s i t) ≡ whole_from ref e s t
 bytes_of-whole_items ref e s i t = bytes_of-whole ref e true s i t
 
 -- A text that goes on.
@@ -63,7 +63,7 @@ last_set-append e s (c ∷ t) r = last_set-append e (e.set s c) t r
 pub bytes_from-append : (e : Coding) (s : EscapeState) (t r : List ℕ) → bytes_from e s (t ++ r) ≡ bytes_from e s t ++ bytes_from e (last_set e s t) r
 bytes_from-append e s [] r = refl
 bytes_from-append e s (c ∷ t) r =
-    rw (bytes_from-append e (e.set s c) t r, append_assoc (e.escape s (e.set s c)) _ _, append_assoc (bytes (e.form c)) _ _) refl
+    rw (bytes_from-append e (e.set s c) t r, append_assoc (e.escape s (e.set s c)) _ _, append_assoc (mapped_bytes (e.form c)) _ _) refl
 
 pub all_mapped-append : (e : Coding) (t r : List ℕ) → AllMapped e t → AllMapped e r → AllMapped e (t ++ r)
 all_mapped-append e [] r m n = n
@@ -75,7 +75,7 @@ open_from-append ref e s (c ∷ t) r =
     rw (open_from-append ref e (e.set s c) t r, append_assoc (e.escape s (e.set s c)) _ _, append_assoc (spelled ref (e.form c)) _ _) refl
 
 -- Where each character has bytes, the text stands for them, and there is nothing to note.
-items_of_bytes : (ref : Reference) (f : Form) (i : ℕ) → IsMapped f → form_items ref i f ≡ map Byte (bytes f)
+items_of_bytes : (ref : Reference) (f : Form) (i : ℕ) → IsMapped f → form_items ref i f ≡ map Byte (mapped_bytes f)
 items_of_bytes ref (Mapped bs) i m = refl
 items_of_bytes ref (Unmapped c) i m = absurd m
 
@@ -85,9 +85,9 @@ mapped_items ref e s i [] r m = rw add-zero refl
 mapped_items ref e s i (c ∷ t) r m =
     let behind : i + 1 + length t ≡ i + length (c ∷ t) = omega arith in
     rw (items_of_bytes ref (e.form c) i m.0, mapped_items ref e (e.set s c) (i + 1) t r m.1, behind, map-append, map-append)
-    (ap (λ l. map Byte (e.escape s (e.set s c)) ++ l) (sym (append_assoc (map Byte (bytes (e.form c))) _ _)) ∙ sym (append_assoc (map Byte (e.escape s (e.set s c))) _ _))
+    (ap (λ l. map Byte (e.escape s (e.set s c)) ++ l) (sym (append_assoc (map Byte (mapped_bytes (e.form c))) _ _)) ∙ sym (append_assoc (map Byte (e.escape s (e.set s c))) _ _))
 
-spelled_bytes : (ref : Reference) (f : Form) → IsMapped f → spelled ref f ≡ bytes f
+spelled_bytes : (ref : Reference) (f : Form) → IsMapped f → spelled ref f ≡ mapped_bytes f
 spelled_bytes ref (Mapped bs) m = refl
 spelled_bytes ref (Unmapped c) m = absurd m
 
@@ -184,7 +184,7 @@ encoded_items ref e last outcome s t w s' rest k p =
     }
 
 continues : (ref : Reference) (e : Coding) (s : EscapeState) (t w : List ℕ) (s' : EscapeState) (rest : List ℕ)
-    → open_from ref e s t ≡ w ++ open_from ref e s' rest → last_set e s t ≡ last_set e s' rest → Continues ref e s t w s' rest
+    → open_from ref e s t ≡ w ++ open_from ref e s' rest → last_set e s t ≡ last_set e s' rest → WritesPart ref e s t w s' rest
 continues ref e s t w s' rest is sets r =
     open_from-append ref e s t r ∙ rw (is, sets, open_from-append ref e s' rest r) (append_assoc w _ _)
 
@@ -198,19 +198,19 @@ opened ref e last s t w s' rest sets is =
 
 in_bytes : (ref : Reference) (e : Coding) (last : Bool) (outcome : EncoderResult) (s : EscapeState) (t w : List ℕ) (s' : EscapeState) (rest : List ℕ) (p : EncodesItems ref e last outcome s t w s' rest)
     → open_from ref e s t ++ cond last (e.escape (last_set e s t) Ascii) []
-    ≡ w ++ (bytes_of (reported_item ref (0 + length p.prefix) outcome) ++ (open_from ref e s' rest ++ cond last (e.escape (last_set e s' rest) Ascii) []))
+    ≡ w ++ (item_bytes (reported_item ref (0 + length p.prefix) outcome) ++ (open_from ref e s' rest ++ cond last (e.escape (last_set e s' rest) Ascii) []))
 in_bytes ref e last outcome s t w s' rest p =
-    sym (bytes_of-whole ref e last s 0 t) ∙ ap bytes_of (p.items 0) ∙ bytes_of-append (map Byte w) _
+    sym (bytes_of-whole ref e last s 0 t) ∙ ap item_bytes (p.items 0) ∙ bytes_of-append (map Byte w) _
     ∙ rw (bytes_of-bytes w, bytes_of-append (reported_item ref (0 + length p.prefix) outcome) _, bytes_of-whole ref e last s' (0 + length p.prefix) rest) refl
 
 -- The law in items gives the law in bytes.
 pub items_in_bytes : (ref : Reference) (e : Coding) (last : Bool) (outcome : EncoderResult) (s : EscapeState) (t w : List ℕ) (s' : EscapeState) (rest : List ℕ)
-    → EncodesItems ref e last outcome s t w s' rest → Writes ref e last outcome s t w s' rest
+    → EncodesItems ref e last outcome s t w s' rest → AccountsForText ref e last outcome s t w s' rest
 items_in_bytes ref e last (Unmappable c) s t w s' rest p =
     let rest_is = open_from ref e s' rest ++ cond last (e.escape (last_set e s' rest) Ascii) [] in
     let referred = in_bytes ref e last (Unmappable c) s t w s' rest p
-    ∙ ap (λ l. w ++ (l ++ rest_is)) (bytes_of-bytes (reference ref c)) ∙ sym (append_assoc w (reference ref c) rest_is) in
-    continues ref e s t (w ++ reference ref c) s' rest (opened ref e last s t (w ++ reference ref c) s' rest (p.sets tt) referred) (p.sets tt)
+    ∙ ap (λ l. w ++ (l ++ rest_is)) (bytes_of-bytes (reference_bytes ref c)) ∙ sym (append_assoc w (reference_bytes ref c) rest_is) in
+    continues ref e s t (w ++ reference_bytes ref c) s' rest (opened ref e last s t (w ++ reference_bytes ref c) s' rest (p.sets tt) referred) (p.sets tt)
 items_in_bytes ref e true InputEmpty s t w s' rest p = in_bytes ref e true InputEmpty s t w s' rest p
 items_in_bytes ref e false InputEmpty s t w s' rest p =
     continues ref e s t w s' rest (opened ref e false s t w s' rest (p.sets refl) (in_bytes ref e false InputEmpty s t w s' rest p)) (p.sets refl)
@@ -219,7 +219,7 @@ items_in_bytes ref e false OutputFull s t w s' rest p =
     continues ref e s t w s' rest (opened ref e false s t w s' rest (p.sets refl) (in_bytes ref e false OutputFull s t w s' rest p)) (p.sets refl)
 
 pub encoded_bytes : (ref : Reference) {need : ℕ} (e : Coding) (last : Bool) (outcome : EncoderResult) (s : EscapeState) (t w : List ℕ) (s' : EscapeState) (rest : List ℕ) → IsCoding need e
-    → Encodes e last outcome s t w s' rest → Writes ref e last outcome s t w s' rest
+    → Encodes e last outcome s t w s' rest → AccountsForText ref e last outcome s t w s' rest
 encoded_bytes ref e last outcome s t w s' rest k p = items_in_bytes ref e last outcome s t w s' rest (encoded_items ref e last outcome s t w s' rest k p)
 
 -- A call leaves the set as it was, as some scalar chose it, or ASCII.

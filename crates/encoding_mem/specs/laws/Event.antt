@@ -1,12 +1,13 @@
 -- Events of pieces that are joined, and pieces that are not decided yet.
 use Rattle.std.proofs.Common.{◌≡◌, ℕ, ◌+◌, ◌-◌, Bool, List, [], ◌∷◌, ◌++◌, drop, refl, sym, ◌∙◌, ap, subst, arith, append_assoc}
 use Rattle.std.proofs.lemmas.List.{append-nil}
-use Rattle.encoding_mem.specs.Piece.{Piece, well_formed, malformed, sizes, scalars, first, AreWellFormed}
+use Rattle.encoding_mem.specs.Piece.{Piece, well_formed, malformed, sizes, scalars, head_piece, AreWellFormed}
 use Rattle.encoding_mem.specs.laws.Piece.{sizes-append, scalars-append}
 use Rattle.encoding_mem.specs.Event.{scalar, malformed_at, events, scalar_events}
 use Rattle.encoding_mem.specs.declared.decoder_result.DecoderResult.{DecoderResult}
 use Rattle.encoding_mem.specs.declared.decoder_result.DecoderResult.TheVariants.{InputEmpty, OutputFull, Malformed}
-use Rattle.encoding_mem.specs.Decoding.{DecoderState, Reports, StateLaw, EventLaw, reported_event, IsUndecided, IsDecided}
+use Rattle.encoding_mem.specs.calls.Decoding.{DecoderState, Reports, StateLaw, EventLaw, reported_event}
+use Rattle.encoding_mem.specs.Decided.{IsDecided, IsUndecided}
 
 events-append : (offset : ℕ) (a b : List Piece) → events offset (a ++ b) ≡ events offset a ++ events (offset + sizes a) b
 events-append offset [] b = ap (λ n. events n b) (let e : offset ≡ offset + 0 = omega arith in e)
@@ -53,8 +54,8 @@ event_law before after src last read W outcome h =
           ∙ ap (λ n. (scalar_events (scalars h.taken) ++ reported_event outcome n) ++ events n (rest r)) offset,
     )
 
-heads : (p : Piece) (ps rest : List Piece) (a b : List Piece) (a_rest b_rest : List Piece) → a ≡ (p ∷ ps) ++ a_rest → b ≡ (p ∷ ps) ++ b_rest → first a ≡ first b
-heads p ps rest a b ar br e f = ap first e ∙ sym (ap first f)
+heads : (p : Piece) (ps rest : List Piece) (a b : List Piece) (a_rest b_rest : List Piece) → a ≡ (p ∷ ps) ++ a_rest → b ≡ (p ∷ ps) ++ b_rest → head_piece a ≡ head_piece b
+heads p ps rest a b ar br e f = ap head_piece e ∙ sym (ap head_piece f)
 
 pub decides_nothing : (pieces : List ℕ → List Piece) (x : List ℕ) (ps : List Piece) → IsUndecided pieces x → IsDecided pieces x ps → ps ≡ []
 decides_nothing pieces x [] h k = refl

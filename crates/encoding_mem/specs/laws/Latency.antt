@@ -1,8 +1,8 @@
 -- A call that read all has taken what ends three or more bytes before the end of what was read.
 use Rattle.std.proofs.Common.{◌≡◌, ℕ, ◌+◌, ◌⊎◌, inl, inr, Bool, false, IsTrue, List, [], ◌∷◌, ◌++◌, length, drop, sym, ◌∙◌, ap, arith, append_assoc, length-drop}
 use Rattle.std.proofs.lemmas.List.{append-nil, append_cancel_left}
-use Rattle.encoding_mem.specs.Piece.{Piece, first, sizes}
-use Rattle.encoding_mem.specs.Decoding.{DecoderState, EndsWith, StateLaw, TakesSoon, Waits}
+use Rattle.encoding_mem.specs.Piece.{Piece, head_piece, sizes}
+use Rattle.encoding_mem.specs.calls.Decoding.{DecoderState, EndsWith, StateLaw, TakesSoon, Waits}
 use Rattle.encoding_mem.specs.laws.Piece.{sizes-append}
 use Rattle.encoding_mem.specs.laws.ReadCalls.{apart_parts}
 use Rattle.encoding_mem.specs.declared.decoder_result.DecoderResult.TheVariants.{InputEmpty}
@@ -28,7 +28,7 @@ takes_soon before after src last size pending taken counted rest ends r ps more 
         let behind : after r ≡ p ∷ (m ++ more) = append_cancel_left taken (after r) ((p ∷ m) ++ more) (same ∙ ap (λ l. l ++ more) e ∙ append_assoc taken (p ∷ m) more) in
         elim ends [
           | inl none ↦ absurd (omega (arith, none.0, counted, over, early))
-          | inr waits ↦ absurd (omega (arith, waits.1.soon r p (ap first behind), counted, over, early))
+          | inr waits ↦ absurd (omega (arith, waits.1.soon r p (ap head_piece behind), counted, over, early))
         ]
 
 -- of a call up to a malformed sequence

@@ -1,6 +1,6 @@
 -- Pieces in a row, and more pieces behind them.
 use Rattle.std.proofs.Common.{◌≡◌, ◌+◌, List, [], ◌∷◌, ◌++◌, refl, sym, ◌∙◌, ap, arith, append_assoc}
-use Rattle.encoding_mem.specs.Piece.{Piece, scalars_of, text_of, sizes, scalars, text, IsWellFormed, AreWellFormed, ArePieces}
+use Rattle.encoding_mem.specs.Piece.{Piece, piece_scalars, piece_text, sizes, scalars, text, IsWellFormedPiece, AreWellFormed, ArePieces}
 
 pub sizes-append : (a b : List Piece) → sizes (a ++ b) ≡ sizes a + sizes b
 sizes-append [] b = omega arith
@@ -8,17 +8,17 @@ sizes-append (p ∷ a) b = omega (arith, sizes-append a b)
 
 pub scalars-append : (a b : List Piece) → scalars (a ++ b) ≡ scalars a ++ scalars b
 scalars-append [] b = refl
-scalars-append (p ∷ a) b = ap (λ x. scalars_of p ++ x) (scalars-append a b) ∙ sym (append_assoc (scalars_of p) (scalars a) (scalars b))
+scalars-append (p ∷ a) b = ap (λ x. piece_scalars p ++ x) (scalars-append a b) ∙ sym (append_assoc (piece_scalars p) (scalars a) (scalars b))
 
 pub text-append : (a b : List Piece) → text (a ++ b) ≡ text a ++ text b
 text-append [] b = refl
-text-append (p ∷ a) b = ap (λ x. text_of p ++ x) (text-append a b) ∙ sym (append_assoc (text_of p) (text a) (text b))
+text-append (p ∷ a) b = ap (λ x. piece_text p ++ x) (text-append a b) ∙ sym (append_assoc (piece_text p) (text a) (text b))
 
 pub AreWellFormed-append : (a b : List Piece) → AreWellFormed a → AreWellFormed b → AreWellFormed (a ++ b)
 AreWellFormed-append [] b h k = k
 AreWellFormed-append (p ∷ a) b h k = (h.0, AreWellFormed-append a b h.1 k)
 
-pub AreWellFormed-last : (a : List Piece) (p : Piece) → AreWellFormed a → IsWellFormed p → AreWellFormed (a ++ p ∷ [])
+pub AreWellFormed-last : (a : List Piece) (p : Piece) → AreWellFormed a → IsWellFormedPiece p → AreWellFormed (a ++ p ∷ [])
 AreWellFormed-last a p h k = AreWellFormed-append a (p ∷ []) h (k, tt)
 
 pub ArePieces-append : (a b : List Piece) → ArePieces a → ArePieces b → ArePieces (a ++ b)

@@ -2,7 +2,7 @@
 use Rattle.std.proofs.Common.{◌≡◌, ℕ, List, [], ◌∷◌, true, refl, sym, ◌∙◌, ap, subst, arith}
 use Rattle.std.specs.Str.{all_scalars}
 use Rattle.encoding_mem.specs.Piece.{text, AreWellFormed}
-use Rattle.encoding_mem.specs.Text.{text_pieces}
+use Rattle.encoding_mem.specs.calls.TextRun.{text_pieces}
 use Rattle.encoding_mem.specs.Coding.{Coding, AllMapped, IsMapped, output, lost_count, unmapped_count}
 use Rattle.encoding_mem.specs.laws.Encoding.{utf8_output}
 use Rattle.encoding_mem.specs.ReadBack.{ReadsBackExactly}

@@ -7,12 +7,11 @@ use Rattle.std.proofs.Math.Utf8.{scalar}
 use Rattle.std.proofs.lemmas.Bool.{and_parts, and_from}
 use Rattle.std.proofs.lemmas.List.{append-nil, append_cancel_left, append_cancel_right}
 use Rattle.encoding_mem.specs.Agreement.{ReadsByStep}
-use Rattle.encoding_mem.specs.Coding.{Coding, IsCoding, IsMapped, AllMapped, open_from, whole_from, last_set, bytes_from, reference}
-use Rattle.encoding_mem.specs.Decoding.{AreBytes, IsDecided}
-use Rattle.encoding_mem.specs.Encoding.{Encodes, EncodesItems, Leaves, IsSetOfNext, Writes, Continues}
-use Rattle.encoding_mem.specs.Piece.{Piece, first, text, AreWellFormed}
+use Rattle.encoding_mem.specs.Coding.{Coding, IsCoding, IsMapped, AllMapped, open_from, whole_from, last_set, bytes_from, reference_bytes}
+use Rattle.encoding_mem.specs.calls.EncoderCalls.{Encodes, EncodesItems, Leaves, IsSetOfNext, AccountsForText, WritesPart}
+use Rattle.encoding_mem.specs.Piece.{Piece, head_piece, text, AreWellFormed}
 use Rattle.encoding_mem.specs.ReadBack.{ReadsAs}
-use Rattle.encoding_mem.specs.ReadCalls.{behind_escape, ReadsAlong, DecidesNothing, IsReadUpTo, HoldsAfter, ReadsCall, CallReads, CallsAlong, HasTaken, NothingIsLost, ReadsWhole, ReadsWholeAs, NeverReadsWhole, CallVerdict, AreRead}
+use Rattle.encoding_mem.specs.calls.ReadCalls.{behind_escape, ReadsAlong, DecidesNothing, IsReadUpTo, HoldsAfter, PrefixIsRead, CallIsRead, CallsAlong, HasTaken, IsNotUnmappable, ReadsWhole, ReadsWholeAs, NeverReadsWhole, CallVerdict, AreRead}
 use Rattle.encoding_mem.specs.Steps.{Follows, AreApart, IsBroken, one_from}
 use Rattle.encoding_mem.specs.laws.Agreement.{open_reads, broken_stays, broken_behind, broken_then, broken_never_reads, well_formed_parts, never_apart, apart_more}
 use Rattle.encoding_mem.specs.laws.Encoding.{mapped_open, last_set-append, encoded_items, encoded_bytes}
@@ -25,6 +24,7 @@ use Rattle.encoding_mem.specs.declared.form.EscapeState.{EscapeState}
 use Rattle.encoding_mem.specs.declared.form.EscapeState.TheVariants.{Ascii}
 use Rattle.encoding_mem.specs.declared.encoder_result.EncoderResult.{EncoderResult}
 use Rattle.encoding_mem.specs.declared.encoder_result.EncoderResult.TheVariants.{InputEmpty, OutputFull, Unmappable}
+use Rattle.encoding_mem.specs.Decided.{AreBytes, IsDecided}
 
 -- ---- a call behind an escape
 
@@ -95,7 +95,7 @@ escape_waits e p k l s = elim (k.undecided l s) [
     more = waits.more;
     bytes = waits.bytes;
     short = waits.short;
-    differs = λ same. waits.differs (ap (λ x. first (p l x)) (sym (append-nil (e.escape l s))) ∙ same);
+    differs = λ same. waits.differs (ap (λ x. head_piece (p l x)) (sym (append-nil (e.escape l s))) ∙ same);
   })
 ]
 
@@ -126,9 +126,9 @@ goes_on e p k q l s x t Holds h (inl f) = inl (read_up_to e p k q l s x t Holds 
 goes_on e p k q l s x t Holds h (inr broken) = inr (broken_behind (p q) x t (e.escape l s) broken)
 
 lost_behind : (ref : Reference) (e : Coding) (p : EscapeState → List ℕ → List Piece) → ReadsByStep e p → (q l : EscapeState) (x t : List ℕ) (c m : ℕ) → IsScalar c → e.form c ≡ Unmapped m
-    → Follows (p q) (p l) x t ⊎ IsBroken (p q) x t → IsBroken (p q) ((x ++ e.escape l (e.set l c)) ++ reference ref m) (t ++ c ∷ [])
+    → Follows (p q) (p l) x t ⊎ IsBroken (p q) x t → IsBroken (p q) ((x ++ e.escape l (e.set l c)) ++ reference_bytes ref m) (t ++ c ∷ [])
 lost_behind ref e p k q l x t c m scalar is reads =
-    let one : (x ++ e.escape l (e.set l c)) ++ reference ref m ≡ x ++ one_from ref e l c = append_assoc x (e.escape l (e.set l c)) (reference ref m) ∙ rw is refl in
+    let one : (x ++ e.escape l (e.set l c)) ++ reference_bytes ref m ≡ x ++ one_from ref e l c = append_assoc x (e.escape l (e.set l c)) (reference_bytes ref m) ∙ rw is refl in
     rw one (elim reads [
       | inl f ↦ broken_then (p q) (p l) x (one_from ref e l c) t (c ∷ []) f (k.lost ref l c scalar (λ mapped. subst IsMapped is mapped))
       | inr broken ↦ broken_stays (p q) x t (one_from ref e l c) (c ∷ []) broken
@@ -137,7 +137,7 @@ lost_behind ref e p k q l x t c m scalar is reads =
 -- the characters that a call reads, and what its bytes are for them
 reads_leaves : (e : Coding) (p : EscapeState → List ℕ → List Piece) → ReadsByStep e p → (last : Bool) (outcome : EncoderResult) (q l : EscapeState) (x before next rest : List ℕ) (s' : EscapeState)
     → all_scalars next ≡ true → Leaves e last outcome l next rest s' → Follows (p q) (p l) x before ⊎ IsBroken (p q) x before
-    → (prefix : List ℕ) × (before ++ next ≡ prefix ++ rest) × ReadsCall e p (p q) last outcome prefix (x ++ e.escape l s') s' rest
+    → (prefix : List ℕ) × (before ++ next ≡ prefix ++ rest) × PrefixIsRead e p (p q) last outcome prefix (x ++ e.escape l s') s' rest
 reads_leaves e p k true InputEmpty q l x before next rest s' h (none, nothing, is) reads =
     (before, rw (none, nothing) refl, goes_on e p k q l s' x before (λ P. ReadsAs P [] []) (escape_ends e p k l s') reads)
 reads_leaves e p k false InputEmpty q l x before next rest s' h (none, nothing, is) reads =
@@ -152,11 +152,11 @@ reads_leaves e p k last (Unmappable m) q l x before next rest s' h (c, same, for
     )
 
 reads_from : (e : Coding) (p : EscapeState → List ℕ → List Piece) → ReadsByStep e p → (last : Bool) (outcome : EncoderResult) (q : EscapeState) (t w : List ℕ) (s' : EscapeState) (rest : List ℕ)
-    → all_scalars t ≡ true → Encodes e last outcome q t w s' rest → (prefix : List ℕ) × (t ≡ prefix ++ rest) × ReadsCall e p (p q) last outcome prefix w s' rest
+    → all_scalars t ≡ true → Encodes e last outcome q t w s' rest → (prefix : List ℕ) × (t ≡ prefix ++ rest) × PrefixIsRead e p (p q) last outcome prefix w s' rest
 reads_from e p k last outcome q t w s' rest h c =
     let parts = scalars_parts c.before c.next (subst (λ y. all_scalars y ≡ true) c.split h) in
     let reads = reads_leaves e p k last outcome q (last_set e q c.before) (bytes_from e q c.before) c.before c.next rest s' parts.1 c.leaves (reads_before e p k q c.before parts.0 c.mapped) in
-    (reads.0, c.split ∙ reads.1, subst (λ y. ReadsCall e p (p q) last outcome reads.0 y s' rest) (sym c.bytes) reads.2)
+    (reads.0, c.split ∙ reads.1, subst (λ y. PrefixIsRead e p (p q) last outcome reads.0 y s' rest) (sym c.bytes) reads.2)
 
 -- ---- a call behind what the decoder has pending
 
@@ -181,13 +181,13 @@ read_past P pieces y w t Holds is (inl h) = inl (record {
 read_past P pieces y w t Holds is (inr h) = inr (broken_past P pieces y w t is h)
 
 call_past : (e : Coding) (p : EscapeState → List ℕ → List Piece) (P pieces : List ℕ → List Piece) (y : List ℕ) (last : Bool) (outcome : EncoderResult) (prefix w : List ℕ) (s' : EscapeState) (rest : List ℕ)
-    → ((x : List ℕ) → pieces x ≡ P (y ++ x)) → ReadsCall e p P last outcome prefix (y ++ w) s' rest → ReadsCall e p pieces last outcome prefix w s' rest
-call_past e p P pieces y last (Unmappable m) prefix w s' rest is h = λ ref. broken_past P pieces y (w ++ reference ref m) prefix is (subst (λ l. IsBroken P l prefix) (append_assoc y w (reference ref m)) (h ref))
+    → ((x : List ℕ) → pieces x ≡ P (y ++ x)) → PrefixIsRead e p P last outcome prefix (y ++ w) s' rest → PrefixIsRead e p pieces last outcome prefix w s' rest
+call_past e p P pieces y last (Unmappable m) prefix w s' rest is h = λ ref. broken_past P pieces y (w ++ reference_bytes ref m) prefix is (subst (λ l. IsBroken P l prefix) (append_assoc y w (reference_bytes ref m)) (h ref))
 call_past e p P pieces y last InputEmpty prefix w s' rest is h = read_past P pieces y w prefix (HoldsAfter e p last InputEmpty s' rest) is h
 call_past e p P pieces y last OutputFull prefix w s' rest is h = read_past P pieces y w prefix (HoldsAfter e p last OutputFull s' rest) is h
 
 pub reads_call : (e : Coding) (p : EscapeState → List ℕ → List Piece) (pieces : List ℕ → List Piece) (last : Bool) (outcome : EncoderResult) (s : EscapeState) (t w : List ℕ) (s' : EscapeState) (rest : List ℕ)
-    → CallsAlong e p pieces last outcome s t w s' rest → CallReads e p pieces last outcome t w s' rest
+    → CallsAlong e p pieces last outcome s t w s' rest → CallIsRead e p pieces last outcome t w s' rest
 reads_call e p pieces last outcome s t w s' rest c =
     let q = c.along.decided in
     let reads = reads_from e p c.steps last outcome q t (e.escape q s ++ w) s' rest c.scalars (encodes_from e last outcome q s t w s' rest c.coding c.along.next c.encodes) in
@@ -299,7 +299,7 @@ pub broken_never_reads_on : (pieces : List ℕ → List Piece) (w t : List ℕ) 
 broken_never_reads_on pieces w t h x u = broken_never_reads pieces (w ++ x) (t ++ u) (broken_stays pieces w t x u h)
 
 -- The whole that a text stands for is what a call wrote and reported, and the whole that the rest stands for.
-whole_of : (ref : Reference) (e : Coding) (s : EscapeState) (t w : List ℕ) (s' : EscapeState) (rest u : List ℕ) → Continues ref e s t w s' rest → last_set e s t ≡ last_set e s' rest
+whole_of : (ref : Reference) (e : Coding) (s : EscapeState) (t w : List ℕ) (s' : EscapeState) (rest u : List ℕ) → WritesPart ref e s t w s' rest → last_set e s t ≡ last_set e s' rest
     → whole_from ref e s (t ++ u) ≡ w ++ whole_from ref e s' (rest ++ u)
 whole_of ref e s t w s' rest u is sets =
     let ends : last_set e s (t ++ u) ≡ last_set e s' (rest ++ u) = last_set-append e s t u ∙ ap (λ q. last_set e q u) sets ∙ sym (last_set-append e s' rest u) in
@@ -313,12 +313,12 @@ whole_last ref e s t w s' rest u none is = rw (none, append-nil t, append-nil re
 abbrev reported_bytes : Reference → EncoderResult → List ℕ
 reported_bytes ref InputEmpty = []
 reported_bytes ref OutputFull = []
-reported_bytes ref (Unmappable m) = reference ref m
+reported_bytes ref (Unmappable m) = reference_bytes ref m
 
 whole_goes_on : (ref : Reference) (e : Coding) (last : Bool) (outcome : EncoderResult) (s : EscapeState) (t w : List ℕ) (s' : EscapeState) (rest u : List ℕ) → (IsTrue last → u ≡ [])
-    → EncodesItems ref e last outcome s t w s' rest → Writes ref e last outcome s t w s' rest
+    → EncodesItems ref e last outcome s t w s' rest → AccountsForText ref e last outcome s t w s' rest
     → whole_from ref e s (t ++ u) ≡ (w ++ reported_bytes ref outcome) ++ whole_from ref e s' (rest ++ u)
-whole_goes_on ref e last (Unmappable m) s t w s' rest u ends items h = whole_of ref e s t (w ++ reference ref m) s' rest u h (items.sets tt)
+whole_goes_on ref e last (Unmappable m) s t w s' rest u ends items h = whole_of ref e s t (w ++ reference_bytes ref m) s' rest u h (items.sets tt)
 whole_goes_on ref e true InputEmpty s t w s' rest u ends items h = rw (append-nil w) (whole_last ref e s t w s' rest u (ends refl) h)
 whole_goes_on ref e false InputEmpty s t w s' rest u ends items h = rw (append-nil w) (whole_of ref e s t w s' rest u h (items.sets refl))
 whole_goes_on ref e true OutputFull s t w s' rest u ends items h = rw (append-nil w) (whole_last ref e s t w s' rest u (ends refl) h)
@@ -329,14 +329,14 @@ whole_is : (ref : Reference) {need : ℕ} (e : Coding) (last : Bool) (outcome : 
 whole_is ref e last outcome s t w s' rest u coding ends c =
     whole_goes_on ref e last outcome s t w s' rest u ends (encoded_items ref e last outcome s t w s' rest coding c) (encoded_bytes ref e last outcome s t w s' rest coding c)
 
-none_reported : (ref : Reference) (outcome : EncoderResult) → NothingIsLost outcome → reported_bytes ref outcome ≡ []
+none_reported : (ref : Reference) (outcome : EncoderResult) → IsNotUnmappable outcome → reported_bytes ref outcome ≡ []
 none_reported ref InputEmpty h = refl
 none_reported ref OutputFull h = refl
 none_reported ref (Unmappable m) h = absurd (h m refl)
 
 -- that of a call that reports nothing
 whole_written : (ref : Reference) {need : ℕ} (e : Coding) (last : Bool) (outcome : EncoderResult) (s : EscapeState) (t w : List ℕ) (s' : EscapeState) (rest u : List ℕ) → IsCoding need e → (IsTrue last → u ≡ [])
-    → NothingIsLost outcome → Encodes e last outcome s t w s' rest → whole_from ref e s (t ++ u) ≡ w ++ whole_from ref e s' (rest ++ u)
+    → IsNotUnmappable outcome → Encodes e last outcome s t w s' rest → whole_from ref e s (t ++ u) ≡ w ++ whole_from ref e s' (rest ++ u)
 whole_written ref e last outcome s t w s' rest u coding ends kept c =
     whole_is ref e last outcome s t w s' rest u coding ends c ∙ rw (none_reported ref outcome kept, append-nil w) refl
 
@@ -344,23 +344,23 @@ whole_written ref e last outcome s t w s' rest u coding ends kept c =
 same_prefix : (t a b rest : List ℕ) → t ≡ a ++ rest → t ≡ b ++ rest → a ≡ b
 same_prefix t a b rest h k = append_cancel_right a b rest (sym h ∙ k)
 
-either_read : (e : Coding) (p : EscapeState → List ℕ → List Piece) (pieces : List ℕ → List Piece) (last : Bool) (outcome : EncoderResult) (prefix w : List ℕ) (s' : EscapeState) (rest : List ℕ) → NothingIsLost outcome
-    → ReadsCall e p pieces last outcome prefix w s' rest → IsReadUpTo pieces w prefix (HoldsAfter e p last outcome s' rest) ⊎ IsBroken pieces w prefix
+either_read : (e : Coding) (p : EscapeState → List ℕ → List Piece) (pieces : List ℕ → List Piece) (last : Bool) (outcome : EncoderResult) (prefix w : List ℕ) (s' : EscapeState) (rest : List ℕ) → IsNotUnmappable outcome
+    → PrefixIsRead e p pieces last outcome prefix w s' rest → IsReadUpTo pieces w prefix (HoldsAfter e p last outcome s' rest) ⊎ IsBroken pieces w prefix
 either_read e p pieces last InputEmpty prefix w s' rest kept h = h
 either_read e p pieces last OutputFull prefix w s' rest kept h = h
 either_read e p pieces last (Unmappable m) prefix w s' rest kept h = absurd (kept m refl)
 
 call_read : (e : Coding) (p : EscapeState → List ℕ → List Piece) (pieces : List ℕ → List Piece) (last : Bool) (outcome : EncoderResult) (s : EscapeState) (t w : List ℕ) (s' : EscapeState) (rest : List ℕ)
-    → CallsAlong e p pieces last outcome s t w s' rest → NothingIsLost outcome → (prefix : List ℕ) → t ≡ prefix ++ rest
+    → CallsAlong e p pieces last outcome s t w s' rest → IsNotUnmappable outcome → (prefix : List ℕ) → t ≡ prefix ++ rest
     → IsReadUpTo pieces w prefix (HoldsAfter e p last outcome s' rest) ⊎ IsBroken pieces w prefix
 call_read e p pieces last outcome s t w s' rest c kept prefix split =
     let reads = reads_call e p pieces last outcome s t w s' rest c in
     let same : reads.0 ≡ prefix = same_prefix t reads.0 prefix rest reads.1 split in
-    either_read e p pieces last outcome prefix w s' rest kept (subst (λ l. ReadsCall e p pieces last outcome l w s' rest) same reads.2)
+    either_read e p pieces last outcome prefix w s' rest kept (subst (λ l. PrefixIsRead e p pieces last outcome l w s' rest) same reads.2)
 
 -- Where the decoder has taken what the call read, it reads along, and what is to come reads as before.
 agreed_holds : (e : Coding) (p : EscapeState → List ℕ → List Piece) (pieces now : List ℕ → List Piece) (last : Bool) (outcome : EncoderResult) (s : EscapeState) (t w : List ℕ) (s' : EscapeState) (rest : List ℕ)
-    → CallsAlong e p pieces last outcome s t w s' rest → NothingIsLost outcome → (prefix : List ℕ) → t ≡ prefix ++ rest → (taken : List Piece) → HasTaken pieces now w taken → AreWellFormed taken → text taken ≡ prefix
+    → CallsAlong e p pieces last outcome s t w s' rest → IsNotUnmappable outcome → (prefix : List ℕ) → t ≡ prefix ++ rest → (taken : List Piece) → HasTaken pieces now w taken → AreWellFormed taken → text taken ≡ prefix
     → HoldsAfter e p last outcome s' rest now
 agreed_holds e p pieces now last outcome s t w s' rest c kept prefix split taken has good same = elim (call_read e p pieces last outcome s t w s' rest c kept prefix split) [
   | inl read ↦ same_holds e p last outcome s' rest read.behind now (taken_of_read pieces w prefix (HoldsAfter e p last outcome s' rest) read taken now has.rest has.nothing).2 read.holds
@@ -368,7 +368,7 @@ agreed_holds e p pieces now last outcome s t w s' rest c kept prefix split taken
 ]
 
 pub agreed_whole : {need : ℕ} (e : Coding) (pieces now : List ℕ → List Piece) (last : Bool) (outcome : EncoderResult) (s : EscapeState) (t w : List ℕ) (s' : EscapeState) (rest : List ℕ) → IsCoding need e
-    → Encodes e last outcome s t w s' rest → NothingIsLost outcome → (prefix : List ℕ) → t ≡ prefix ++ rest → (taken : List Piece) → ((r : List ℕ) → pieces (w ++ r) ≡ taken ++ now r) → AreWellFormed taken → text taken ≡ prefix
+    → Encodes e last outcome s t w s' rest → IsNotUnmappable outcome → (prefix : List ℕ) → t ≡ prefix ++ rest → (taken : List Piece) → ((r : List ℕ) → pieces (w ++ r) ≡ taken ++ now r) → AreWellFormed taken → text taken ≡ prefix
     → ReadsWholeAs e last pieces now s t s' rest
 agreed_whole e pieces now last outcome s t w s' rest coding c kept prefix split taken has good same ref u ends =
     let whole = whole_written ref e last outcome s t w s' rest u coding ends kept c in
@@ -389,7 +389,7 @@ broken_call e pieces last outcome s t w s' rest coding c prefix split broken =
     broken_whole e pieces last outcome s t w s' rest coding c prefix split (λ ref. broken_behind pieces w prefix (reported_bytes ref outcome) broken)
 
 differing_never_reads : (e : Coding) (p : EscapeState → List ℕ → List Piece) (pieces now : List ℕ → List Piece) (last : Bool) (outcome : EncoderResult) (s : EscapeState) (t w : List ℕ) (s' : EscapeState) (rest : List ℕ)
-    → CallsAlong e p pieces last outcome s t w s' rest → NothingIsLost outcome → (prefix : List ℕ) → t ≡ prefix ++ rest → (taken : List Piece) → HasTaken pieces now w taken → ¬ (AreWellFormed taken × (text taken ≡ prefix))
+    → CallsAlong e p pieces last outcome s t w s' rest → IsNotUnmappable outcome → (prefix : List ℕ) → t ≡ prefix ++ rest → (taken : List Piece) → HasTaken pieces now w taken → ¬ (AreWellFormed taken × (text taken ≡ prefix))
     → NeverReadsWhole e last pieces s t
 differing_never_reads e p pieces now last outcome s t w s' rest c kept prefix split taken has differs = elim (call_read e p pieces last outcome s t w s' rest c kept prefix split) [
   | inl read ↦
@@ -399,7 +399,7 @@ differing_never_reads e p pieces now last outcome s t w s' rest c kept prefix sp
 ]
 
 pub verdict_of_call : (e : Coding) (p : EscapeState → List ℕ → List Piece) (pieces : List ℕ → List Piece) (last : Bool) (outcome : EncoderResult) (s : EscapeState) (t w : List ℕ) (s' : EscapeState) (rest : List ℕ)
-    → CallsAlong e p pieces last outcome s t w s' rest → NothingIsLost outcome → (prefix : List ℕ) → t ≡ prefix ++ rest → (now : List ℕ → List Piece) (taken : List Piece) → HasTaken pieces now w taken
+    → CallsAlong e p pieces last outcome s t w s' rest → IsNotUnmappable outcome → (prefix : List ℕ) → t ≡ prefix ++ rest → (now : List ℕ → List Piece) (taken : List Piece) → HasTaken pieces now w taken
     → CallVerdict e p pieces now last outcome s t prefix taken s' rest
 verdict_of_call e p pieces last outcome s t w s' rest c kept prefix split now taken has = record {
   along = agreed_holds e p pieces now last outcome s t w s' rest c kept prefix split taken has;
@@ -409,7 +409,7 @@ verdict_of_call e p pieces last outcome s t w s' rest c kept prefix split now ta
 
 -- The same of the first of its pieces.
 pub differing_part_never_reads : (e : Coding) (p : EscapeState → List ℕ → List Piece) (pieces : List ℕ → List Piece) (last : Bool) (outcome : EncoderResult) (s : EscapeState) (t w : List ℕ) (s' : EscapeState) (rest : List ℕ)
-    → CallsAlong e p pieces last outcome s t w s' rest → NothingIsLost outcome → (prefix : List ℕ) → t ≡ prefix ++ rest → (part : List Piece) → IsDecided pieces w part → ¬ (AreRead part prefix)
+    → CallsAlong e p pieces last outcome s t w s' rest → IsNotUnmappable outcome → (prefix : List ℕ) → t ≡ prefix ++ rest → (part : List Piece) → IsDecided pieces w part → ¬ (AreRead part prefix)
     → NeverReadsWhole e last pieces s t
 differing_part_never_reads e p pieces last outcome s t w s' rest c kept prefix split part decided differs = elim (call_read e p pieces last outcome s t w s' rest c kept prefix split) [
   | inl read ↦ absurd (differs (decided_of_read pieces w prefix (HoldsAfter e p last outcome s' rest) read part decided))

@@ -1,8 +1,8 @@
 -- The sample is a target of at most three bytes a step.
 use Rattle.std.proofs.Common.{◌≡◌, ℕ, ◌+◌, ◌*◌, ◌≤◌, arith, Bool, true, false, cond, length, [], refl, lit≤, nat_lt, nat_eq}
-use Rattle.encoding_mem.specs.Coding.{IsCoding, FitsNeed, bytes}
-use Rattle.encoding_mem.specs.DecodedLength.{cost_in}
-use Rattle.encoding_mem.specs.EncodedLength.{IsRoomFor, bound_for}
+use Rattle.encoding_mem.specs.Coding.{IsCoding, FitsNeed, mapped_bytes}
+use Rattle.encoding_mem.specs.calls.DecodedLength.{cost_in}
+use Rattle.encoding_mem.specs.calls.EncodedLength.{IsRoomFor, bound_for}
 use Rattle.encoding_mem.specs.laws.EncodedLength.{cost_some}
 use Rattle.encoding_mem.specs.laws.Stateless.{short_if, short_one, short_none}
 use Rattle.encoding_mem.specs.examples.SampleCoding.{out_of_jis, escape_between, sample_form, sample_coding, sample_room}
@@ -47,7 +47,7 @@ sample_coding_laws = record {
   few = lit≤ tt;
 }
 
-each_fits : (t : Bool) (s s' : EscapeState) (c : ℕ) → length (escape_between s s') + length (bytes (sample_form c)) ≤ (bound_for sample_room t).factor * cost_in t c
+each_fits : (t : Bool) (s s' : EscapeState) (c : ℕ) → length (escape_between s s') + length (mapped_bytes (sample_form c)) ≤ (bound_for sample_room t).factor * cost_in t c
 each_fits true s s' c = omega (arith, short_escape s s', (short_form c).short, cost_some true c)
 each_fits false s s' c = omega (arith, short_escape s s', (short_form c).short, cost_some false c)
 

@@ -1,13 +1,13 @@
 -- What a look at the start of some bytes shows of their first piece.
 use Rattle.std.proofs.Common.{◌≡◌, ℕ, suc, ◌+◌, ◌≤◌, ◌<◌, Bool, true, false, cond, IsTrue, List, [], ◌∷◌, ◌++◌, length, drop, refl, sym, ◌∙◌, ap, arith, length-append, Option, Some, None}
 use Rattle.std.proofs.lemmas.List.{drop-append-le}
-use Rattle.encoding_mem.specs.Piece.{Piece, well_formed, malformed, piece_len, first}
+use Rattle.encoding_mem.specs.Piece.{Piece, well_formed, malformed, piece_len, head_piece}
 use Rattle.encoding_mem.specs.Pieces.{pieces_in, pieces_by}
 use Rattle.encoding_mem.specs.laws.Pieces.{AllCut, CutsEach, pieces_in-nil, pieces_in-cons}
-use Rattle.encoding_mem.specs.Decoding.{AreBytes, IsUndecided}
-use Rattle.encoding_mem.specs.DecoderRule.{IsFirstPiece, TellsFirstPiece, IsSoon}
+use Rattle.encoding_mem.specs.calls.DecoderRule.{IsFirstPiece, TellsFirstPiece, IsSoon}
 use Rattle.encoding_mem.specs.declared.first_piece.FirstPiece.{FirstPiece}
 use Rattle.encoding_mem.specs.declared.first_piece.FirstPiece.TheVariants.{More, One, Two, Ignored, Malformed}
+use Rattle.encoding_mem.specs.Decided.{AreBytes, IsUndecided}
 
 -- first_piece is the first piece as a function of what follows k bytes
 abbrev pub ShowsPiece : (List ℕ → Piece) → ℕ → List ℕ → Bool → Piece → Type 0
@@ -78,9 +78,9 @@ shows_uncons f k e x last (Malformed n) h = (piece_uncons f k e x last (malforme
 abbrev pub SettlesMode : {M : Type 0} → (M → List ℕ → M) → M → M → List ℕ → Bool → Type 0
 SettlesMode after m m' x last = (r : List ℕ) → (IsTrue last → r ≡ []) → after m (x ++ r) ≡ m'
 
-first_of_pieces : {M : Type 0} (first_piece : M → List ℕ → Piece) (after : M → List ℕ → M) → AllCut first_piece → (m : M) (x : List ℕ) → 0 < length x → first (pieces_in first_piece after m x) ≡ Some (first_piece m x)
+first_of_pieces : {M : Type 0} (first_piece : M → List ℕ → Piece) (after : M → List ℕ → M) → AllCut first_piece → (m : M) (x : List ℕ) → 0 < length x → head_piece (pieces_in first_piece after m x) ≡ Some (first_piece m x)
 first_of_pieces first_piece after cuts m [] h = absurd (omega (arith, h))
-first_of_pieces first_piece after cuts m (b ∷ x) h = ap first (pieces_in-cons first_piece after cuts m b x)
+first_of_pieces first_piece after cuts m (b ∷ x) h = ap head_piece (pieces_in-cons first_piece after cuts m b x)
 
 is_first : {M : Type 0} (first_piece : M → List ℕ → Piece) (after : M → List ℕ → M) → AllCut first_piece → (m m' : M) (x : List ℕ) (last : Bool) (p : Piece) → 0 < length x → SettlesMode after m m' x last → ShowsPiece (first_piece m) 0 x last p → IsFirstPiece (pieces_in first_piece after m) (pieces_in first_piece after m') x last p
 is_first first_piece after cuts m m' [] last p h t s = absurd (omega (arith, h))
@@ -99,9 +99,9 @@ is_first first_piece after cuts m m' (b ∷ x) last p h t s = record {
 differ : (p q : Piece) (a b : Option Piece) → a ≡ Some p → b ≡ Some q → (p ≡ q → ⊥) → a ≡ b → ⊥
 differ p q a b e f h i = h (let same : p ≡ q = cc in same)
 
-first_of : {M : Type 0} (first_piece : M → List ℕ → Piece) (after : M → List ℕ → M) → AllCut first_piece → (m : M) (x : List ℕ) (p : Piece) → first (pieces_in first_piece after m x) ≡ Some p → first_piece m x ≡ p
-first_of first_piece after cuts m [] p e = let none : first (pieces_in first_piece after m []) ≡ None = ap first (pieces_in-nil first_piece after m) in cc
-first_of first_piece after cuts m (b ∷ x) p e = let here : first (pieces_in first_piece after m (b ∷ x)) ≡ Some (first_piece m (b ∷ x)) = ap first (pieces_in-cons first_piece after cuts m b x) in cc
+first_of : {M : Type 0} (first_piece : M → List ℕ → Piece) (after : M → List ℕ → M) → AllCut first_piece → (m : M) (x : List ℕ) (p : Piece) → head_piece (pieces_in first_piece after m x) ≡ Some p → first_piece m x ≡ p
+first_of first_piece after cuts m [] p e = let none : head_piece (pieces_in first_piece after m []) ≡ None = ap head_piece (pieces_in-nil first_piece after m) in cc
+first_of first_piece after cuts m (b ∷ x) p e = let here : head_piece (pieces_in first_piece after m (b ∷ x)) ≡ Some (first_piece m (b ∷ x)) = ap head_piece (pieces_in-cons first_piece after cuts m b x) in cc
 
 soon_of : {M : Type 0} (first_piece : M → List ℕ → Piece) (after : M → List ℕ → M) → AllCut first_piece → (m : M) (x : List ℕ) → ((r : List ℕ) → 0 + length x ≤ piece_len (first_piece m (x ++ r)) + 2) → IsSoon (pieces_in first_piece after m) x
 soon_of first_piece after cuts m x soon r p e = omega (arith, soon r, ap piece_len (first_of first_piece after cuts m (x ++ r) p e))

@@ -1,7 +1,7 @@
 -- Targets with one set.
 use Rattle.std.proofs.Common.{◌≡◌, ℕ, ◌≤◌, refl, arith, Bool, true, false, cond, [], ◌∷◌, suc, inl, inr, ◌∙◌}
 use Rattle.encoding_mem.specs.Coding.{IsCoding, FitsNeed}
-use Rattle.encoding_mem.specs.EncoderRule.{Moves}
+use Rattle.encoding_mem.specs.calls.EncoderRule.{Moves}
 use Rattle.encoding_mem.specs.Stateless.{stateless}
 use Rattle.encoding_mem.specs.declared.form.Form.{Form}
 use Rattle.encoding_mem.specs.declared.form.Form.TheVariants.{Mapped, Unmapped}

@@ -1,8 +1,8 @@
 -- Where there is one mode, the step law follows from the first piece of what is written for each scalar.
 use Rattle.std.proofs.Common.{◌≡◌, ◌≢◌, ℕ, ◌<◌, List, [], ◌∷◌, ◌++◌, length, drop, refl, sym, ◌∙◌, ap, arith, lit<, inl, inr, length-append}
 use Rattle.std.proofs.lemmas.List.{drop_at}
-use Rattle.encoding_mem.specs.Coding.{reference, spelled}
-use Rattle.encoding_mem.specs.Piece.{Piece, well_formed, malformed, piece_len, scalars_of, text}
+use Rattle.encoding_mem.specs.Coding.{reference_bytes, spelled}
+use Rattle.encoding_mem.specs.Piece.{Piece, well_formed, malformed, piece_len, piece_scalars, text}
 use Rattle.encoding_mem.specs.Pieces.{pieces_by}
 use Rattle.encoding_mem.specs.laws.Pieces.{CutsEach, pieces_by-first}
 use Rattle.encoding_mem.specs.Stateless.{stateless}
@@ -47,11 +47,11 @@ follows first_piece cuts bytes c h = record {
 }
 
 -- a piece with one other scalar
-other_text : (p : Piece) (d : ℕ) → scalars_of p ≡ d ∷ [] → text (p ∷ []) ≡ d ∷ []
+other_text : (p : Piece) (d : ℕ) → piece_scalars p ≡ d ∷ [] → text (p ∷ []) ≡ d ∷ []
 other_text (well_formed n cs) d is = ap (λ x. x ++ []) is
 other_text (malformed n) d is = absurd (omega (arith, ap (λ x. length x) is))
 
-apart : (p : Piece) (c d : ℕ) → d ≢ c → scalars_of p ≡ d ∷ [] → AreApart (text (p ∷ [])) (c ∷ [])
+apart : (p : Piece) (c d : ℕ) → d ≢ c → piece_scalars p ≡ d ∷ [] → AreApart (text (p ∷ [])) (c ∷ [])
 apart p c d differs is = rw (other_text p d is) (record {
   offset = 0;
   in_one = lit< tt;
@@ -80,12 +80,12 @@ step_law first_piece form cuts steps ref s c scalar = elim (steps ref c scalar) 
 ]
 
 -- a reference begins with `&`, and stands for no other character
-pub reference_behind : (ref : Reference) (d : ℕ) → reference ref d ≡ 0x26 ∷ drop 1 (reference ref d)
+pub reference_behind : (ref : Reference) (d : ℕ) → reference_bytes ref d ≡ 0x26 ∷ drop 1 (reference_bytes ref d)
 reference_behind Decimal d = refl
 reference_behind Hexadecimal d = refl
 
 pub strays_at_reference : (ref : Reference) (first_piece : List ℕ → Piece) (c d : ℕ) → ((x : List ℕ) → first_piece (0x26 ∷ x) ≡ well_formed 1 (0x26 ∷ [])) → c ≢ 0x26
-    → Strays first_piece (reference ref d) c
+    → Strays first_piece (reference_bytes ref d) c
 strays_at_reference ref first_piece c d ascii apart = rw (reference_behind ref d) (record {
   piece = well_formed 1 (0x26 ∷ []);
   first = λ y. ascii _;

@@ -6,7 +6,7 @@ use Rattle.std.proofs.lemmas.Str.{chars-IsAscii, len_utf8_ascii}
 use Rattle.encoding_mem.specs.Piece.{Piece, well_formed, piece_len}
 use Rattle.encoding_mem.specs.Pieces.{pieces_in, pieces_by}
 use Rattle.encoding_mem.specs.laws.Pieces.{AllCut, CutsEach, pieces_in-cons}
-use Rattle.encoding_mem.specs.Text.{text_pieces}
+use Rattle.encoding_mem.specs.calls.TextRun.{text_pieces}
 
 -- in this mode an ASCII byte is itself, whatever follows, and the mode stays
 pub record IsPlain {M : Type 0} (first_piece : M → List ℕ → Piece) (after : M → List ℕ → M) (m : M) : Type 0 where

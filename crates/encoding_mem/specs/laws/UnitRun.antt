@@ -6,8 +6,8 @@ use Rattle.std.specs.Str.{all_scalars}
 use Rattle.std.proofs.lemmas.Bool.{lt-ltb}
 use Rattle.std.proofs.lemmas.Bool.Decides.{nat_tests}
 use Rattle.std.proofs.lemmas.Str.{chars-encodes, length-encode}
-use Rattle.encoding_mem.specs.Text.{text_len}
-use Rattle.encoding_mem.specs.Writing.{encode_utf16_all}
+use Rattle.encoding_mem.specs.calls.TextRun.{text_len}
+use Rattle.encoding_mem.specs.calls.Writing.{encode_utf16_all}
 
 -- in UTF-16 each is its own encoding
 one_unit : (c : ℕ) → c < 0x1_0000 → encode_utf16 c ≡ c ∷ []

@@ -11,7 +11,7 @@ use Rattle.std.proofs.lemmas.Bool.Decides.{nat_tests}
 use Rattle.std.specs.Int.{IsInRange}
 use Rattle.encoding_mem.specs.Piece.{Piece, well_formed, malformed, piece_len, Cuts}
 use Rattle.encoding_mem.specs.laws.Pieces.{pieces_by-nil, pieces_by-first}
-use Rattle.encoding_mem.specs.Text.{text_pieces}
+use Rattle.encoding_mem.specs.calls.TextRun.{text_pieces}
 use Rattle.encoding_mem.specs.Utf8.{pieces_utf8, first_piece_utf8, utf8_after_lead, utf8_after_two, utf8_after_three, second_min, second_max, scalar_of_two, scalar_of_three, scalar_of_four}
 
 in_range : (lo hi c : ℕ) → lo ≤ c → c ≤ hi → is_in_range lo hi c ≡ true

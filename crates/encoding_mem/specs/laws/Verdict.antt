@@ -4,11 +4,11 @@ use Rattle.std.specs.Prelude.{◌↔◌}
 use Rattle.std.specs.Str.{all_scalars}
 use Rattle.std.proofs.lemmas.List.{append-nil}
 use Rattle.encoding_mem.specs.Coding.{Coding, IsCoding, AllMapped, open_from, last_set, output, bytes_from}
-use Rattle.encoding_mem.specs.Decoding.{DecoderState, IsFixed, EndsWith, Takes}
-use Rattle.encoding_mem.specs.Encoding.{Encodes, Leaves}
+use Rattle.encoding_mem.specs.calls.Decoding.{DecoderState, EndsWith, Takes}
+use Rattle.encoding_mem.specs.calls.EncoderCalls.{Encodes, Leaves}
 use Rattle.encoding_mem.specs.Piece.{Piece, malformed}
 use Rattle.encoding_mem.specs.ReadBack.{ReadsAs, ReadsBackExactly}
-use Rattle.encoding_mem.specs.ReadCalls.{AreRead, HasTaken, HasTakenPart, KeepsVerdict, NeverReadsWhole, NothingIsLost, ReadsWhole, ReadsWholeAs}
+use Rattle.encoding_mem.specs.calls.ReadCalls.{AreRead, HasTaken, HasTakenPart, KeepsVerdict, NeverReadsWhole, IsNotUnmappable, ReadsWhole, ReadsWholeAs}
 use Rattle.encoding_mem.specs.Stateless.{HasOneSet}
 use Rattle.encoding_mem.specs.Steps.{Follows, IsBroken, StepLaw, in_any_set}
 use Rattle.encoding_mem.specs.laws.Agreement.{broken_behind, broken_never_reads, open_reads, well_formed_parts}
@@ -21,6 +21,7 @@ use Rattle.encoding_mem.specs.declared.encoder_result.EncoderResult.TheVariants.
 use Rattle.encoding_mem.specs.declared.form.EscapeState.{EscapeState}
 use Rattle.encoding_mem.specs.declared.form.EscapeState.TheVariants.{Ascii}
 use Rattle.encoding_mem.specs.declared.decoder_result.DecoderResult.TheVariants.{InputEmpty}
+use Rattle.encoding_mem.specs.Decided.{IsFixed}
 
 -- ---- the verdict
 
@@ -75,7 +76,7 @@ same_open : (ref : Reference) (e : Coding) → HasOneSet e → (s q : EscapeStat
 same_open ref e one s q [] = refl
 same_open ref e one s q (c ∷ t) = rw (one.escape s (e.set s c), one.escape q (e.set q c), one.set s c, one.set q c) refl
 
-next_is_rest : (e : Coding) (last : Bool) (outcome : EncoderResult) (q : EscapeState) (next rest : List ℕ) (s' : EscapeState) → NothingIsLost outcome → Leaves e last outcome q next rest s' → next ≡ rest
+next_is_rest : (e : Coding) (last : Bool) (outcome : EncoderResult) (q : EscapeState) (next rest : List ℕ) (s' : EscapeState) → IsNotUnmappable outcome → Leaves e last outcome q next rest s' → next ≡ rest
 next_is_rest e last Read q next rest s' kept l = l.0 ∙ sym l.1
 next_is_rest e last OutputFull q next rest s' kept l = l.0
 next_is_rest e last (Unmappable m) q next rest s' kept l = absurd (kept m refl)
@@ -92,7 +93,7 @@ exact_follows e P one exact steps s before scalars mapped = subst (λ l. Follows
 
 -- there a call that reports nothing keeps a true verdict, with nothing read back
 pub keeps_exact : {need : ℕ} (e : Coding) (P : List ℕ → List Piece) → IsCoding need e → HasOneSet e → ReadsBackExactly P e → StepLaw e (in_any_set P)
-    → (last : Bool) (outcome : EncoderResult) (s : EscapeState) (t w : List ℕ) (s' : EscapeState) (rest : List ℕ) → all_scalars t ≡ true → Encodes e last outcome s t w s' rest → NothingIsLost outcome
+    → (last : Bool) (outcome : EncoderResult) (s : EscapeState) (t w : List ℕ) (s' : EscapeState) (rest : List ℕ) → all_scalars t ≡ true → Encodes e last outcome s t w s' rest → IsNotUnmappable outcome
     → KeepsVerdict e last true P s t true P s' rest
 keeps_exact e P coding one exact steps last outcome s t w s' rest scalars c kept =
     let parts = scalars_parts c.before c.next (subst (λ l. all_scalars l ≡ true) c.split scalars) in

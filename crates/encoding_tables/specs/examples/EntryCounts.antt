@@ -1,7 +1,7 @@
--- Worked rows of `specs/EntryCounts.antt`: the entry 4 at the pointers 0 and 7, the entry 5 at 3.
+-- Worked rows of `specs/calls/EntryCounts.antt`: the entry 4 at the pointers 0 and 7, the entry 5 at 3.
 use Rattle.std.proofs.Common.{[], ◌∷◌, refl, ℕ, List}
 use Rattle.std.specs.Prelude.{◌≡◌}
-use Rattle.encoding_tables.specs.EntryCounts.{pairs_below, rows_of_entry}
+use Rattle.encoding_tables.specs.calls.EntryCounts.{pairs_below, rows_of_entry}
 
 rows : List (ℕ × ℕ)
 rows = (0, 4) ∷ (3, 5) ∷ (7, 4) ∷ []

@@ -1,6 +1,6 @@
 -- What is found by a first number among rows.
 use Rattle.std.proofs.Common.{[], ◌∷◌, zero, suc, refl, arith, None, Some}
-use Rattle.encoding_tables.specs.PackedLists.{IsSecond}
+use Rattle.encoding_tables.specs.calls.PackedLists.{IsSecond}
 
 five_has_eight : IsSecond ((3, 9) ∷ (5, 8) ∷ []) 5 (Some 8)
 five_has_eight = (1, omega arith, refl)

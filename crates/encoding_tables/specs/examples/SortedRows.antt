@@ -1,8 +1,8 @@
--- Worked rows of `specs/SortedRows.antt`.
+-- Worked rows of `specs/calls/SortedRows.antt`.
 use Rattle.std.proofs.Common.{zero, suc, [], ◌∷◌, refl, arith}
 use Rattle.std.specs.Prelude.{◌≡◌, ◌+◌, ◌<◌, ℕ, List, replicate, slice_index, true, false}
 use Rattle.std.proofs.lemmas.List.{length-replicate}
-use Rattle.encoding_tables.specs.SortedRows.{is_below, AreRising, AreSorted, IsTight}
+use Rattle.encoding_tables.specs.calls.SortedRows.{is_below, AreRising, AreSorted, IsTight}
 
 by_the_first : is_below (3, 9) (4, 0) ≡ true
 by_the_first = refl

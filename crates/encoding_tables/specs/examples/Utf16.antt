@@ -81,3 +81,7 @@ big_units = refl
 -- two bytes up to U+FFFF, four above, and two for a surrogate alone
 sizes_of_characters : map piece_of_char (Some 0xFFFF ∷ Some 0x10000 ∷ None ∷ []) ≡ well_formed 2 (0xFFFF ∷ []) ∷ well_formed 4 (0x10000 ∷ []) ∷ malformed 2 ∷ []
 sizes_of_characters = refl
+
+-- the units D83D and DCA9 (U+1F4A9) are the bytes 3D D8 A9 DC in little-endian order
+bytes_of_pair : bytes_of_units false (0xD83D ∷ 0xDCA9 ∷ []) ≡ 0x3D ∷ 0xD8 ∷ 0xA9 ∷ 0xDC ∷ []
+bytes_of_pair = refl

@@ -3,14 +3,14 @@ use Rattle.std.proofs.Common.{◌≡◌, ℕ, ◌+◌, ◌≤◌, ◌<◌, Bool,
 use Rattle.std.specs.Prelude.{slice_index, IfSome}
 use Rattle.std.specs.Option.{option_map}
 use Rattle.std.specs.Char.{IsScalar}
-use Rattle.encoding_mem.specs.EncodedLength.{IsRoomFor, encoded_length_single_byte}
+use Rattle.encoding_mem.specs.calls.EncodedLength.{IsRoomFor, encoded_length_single_byte}
 use Rattle.encoding_mem.specs.laws.EncodedLength.{single_byte_room}
 use Rattle.encoding_mem.specs.Coding.{IsCoding, FitsNeed, form_of_bytes, Coding}
 use Rattle.encoding_mem.specs.laws.Stateless.{stateless_laws, short_one, short_none}
 use Rattle.encoding_mem.specs.Piece.{piece_len, Cuts, piece_of_scalar, Piece}
 use Rattle.encoding_mem.specs.laws.Pieces.{CutsEach, pieces_by-cons}
 use Rattle.encoding_mem.specs.laws.Utf8.{cuts_malformed, cuts_one}
-use Rattle.encoding_mem.specs.DecoderRule.{TellsFirstPiece}
+use Rattle.encoding_mem.specs.calls.DecoderRule.{TellsFirstPiece}
 use Rattle.encoding_mem.specs.laws.Shows.{Shows, shows_first_piece}
 use Rattle.encoding_mem.specs.declared.form.Form.{Form}
 use Rattle.encoding_mem.specs.declared.first_piece.FirstPiece.{FirstPiece}

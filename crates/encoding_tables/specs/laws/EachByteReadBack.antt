@@ -4,7 +4,7 @@ use Rattle.std.proofs.Common.{◌≡◌, ℕ, ◌+◌, ◌≤◌, List, [], ◌�
 use Rattle.std.specs.Fmt.{decimal, digits}
 use Rattle.encoding_mem.specs.declared.reference.Reference.{Reference}
 use Rattle.encoding_mem.specs.declared.reference.Reference.TheVariants.{Decimal, Hexadecimal}
-use Rattle.encoding_mem.specs.Piece.{text, text_of, AreWellFormed, piece_of_scalar}
+use Rattle.encoding_mem.specs.Piece.{text, piece_text, AreWellFormed, piece_of_scalar}
 use Rattle.encoding_mem.specs.laws.Pieces.{pieces_by-nil}
 use Rattle.encoding_mem.specs.Coding.{AllMapped, IsMapped, open_from, output, spelled, lost_count, unmapped_count}
 use Rattle.encoding_mem.specs.Steps.{StepLaw, in_any_set, Returns, Strays}
@@ -22,7 +22,7 @@ use Rattle.encoding_tables.specs.laws.EachByte.{AreScalars, cuts_by_byte, pieces
 abbrev pub ReadsBack : (char_of byte_of : ℕ → Option ℕ) → Type 0
 ReadsBack char_of byte_of = (c b : ℕ) → byte_of c ≡ Some b → char_of b ≡ Some c
 
-one_text : (o : Option ℕ) → length (text_of (piece_of_scalar 1 o)) ≡ 1
+one_text : (o : Option ℕ) → length (piece_text (piece_of_scalar 1 o)) ≡ 1
 one_text None = refl
 one_text (Some c) = refl
 
@@ -30,7 +30,7 @@ as_long : (char_of : ℕ → Option ℕ) → AreScalars char_of → (x : List �
 as_long char_of scalars [] = ap (λ ps. length (text ps)) (pieces_by-nil (first_piece_by_byte char_of))
 as_long char_of scalars (b ∷ x) =
     ap (λ ps. length (text ps)) (pieces_by_byte-cons char_of scalars b x)
-    ∙ omega (arith, length-append (text_of (piece_of_scalar 1 (char_of b))) (text (pieces_by_byte char_of x)), one_text (char_of b), as_long char_of scalars x)
+    ∙ omega (arith, length-append (piece_text (piece_of_scalar 1 (char_of b))) (text (pieces_by_byte char_of x)), one_text (char_of b), as_long char_of scalars x)
 
 -- What is written for a text whose characters have bytes.
 mapped_byte : (c : ℕ) (o : Option ℕ) → IsMapped (form_of_byte c o) → (b : ℕ) × (o ≡ Some b)

@@ -8,7 +8,7 @@ use Rattle.std.proofs.lemmas.List.{get_or_past}
 use Rattle.std.proofs.lemmas.List.Quantifiers.{position-Some}
 use Rattle.std.proofs.lemmas.List.Edits.{get_or-between}
 use Rattle.encoding_tables.specs.Lookups.{value_of, last_position}
-use Rattle.encoding_tables.specs.LookupLaws.{IsPointer, FirstIsLeast, LastIsGreatest}
+use Rattle.encoding_tables.specs.laws.LookupLaws.{IsPointer, FirstIsLeast, LastIsGreatest}
 use Rattle.encoding_tables.specs.laws.OptionCases.{option_or_none, option_or_some, map_none, map_some, if_some_none, if_some_some}
 use Rattle.encoding_tables.specs.laws.TableFaults.{no_position}
 

@@ -7,7 +7,7 @@ use Rattle.std.proofs.lemmas.Bool.{cases_lt, cases_eq, lt-ltb, le-ltb, ltb-true,
 use Rattle.std.proofs.lemmas.Option.{cond_some}
 use Rattle.encoding_tables.specs.Ranges.{is_valid_pointer, last_row, value_in, row_value, HasRowValue, end_by, is_in_row, row_pointer, range_pointer, HaveScalars}
 use Rattle.encoding_tables.specs.RangeFaults.{first_out_of_order, are_scalars, above_values, above_row, first_bad_value, bad_row}
-use Rattle.encoding_tables.specs.RangeLaws.{ValuesAreScalars, ValuesRise, PointersAreExact, PointersReadBack}
+use Rattle.encoding_tables.specs.laws.RangeLaws.{ValuesAreScalars, ValuesRise, PointersAreExact, PointersReadBack}
 use Rattle.encoding_tables.specs.laws.OptionCases.{option_or_some, option_or_none, and_then_some, map_some, if_none, no_stop}
 
 -- a scalar from `least` to below `above`

@@ -2,8 +2,8 @@
 use Rattle.std.proofs.Common.{◌≡◌, ℕ, ◌+◌, ◌≤◌, ◌<◌, Bool, true, false, List, ◌∷◌, length, refl, arith, lit<, lit≤}
 use Rattle.encoding_mem.specs.laws.Pieces.{AllCut}
 use Rattle.encoding_mem.specs.laws.Utf8.{cuts_malformed}
-use Rattle.encoding_mem.specs.DecoderRule.{TellsFirstPiece, HasRoomFor}
-use Rattle.encoding_mem.specs.DecodedLength.{is_units, goes_on, replacement_len, left_after, decoded_length, decoded_length_replacement}
+use Rattle.encoding_mem.specs.calls.DecoderRule.{TellsFirstPiece, HasRoomFor}
+use Rattle.encoding_mem.specs.calls.DecodedLength.{is_units, counts_past_malformed, replacement_len, left_after, decoded_length, decoded_length_replacement}
 use Rattle.encoding_mem.specs.laws.Shows.{Shows, shows_first_piece_in}
 use Rattle.encoding_mem.specs.declared.first_piece.FirstPiece.{FirstPiece}
 use Rattle.encoding_mem.specs.declared.first_piece.FirstPiece.TheVariants.{Ignored, Malformed}
@@ -42,7 +42,7 @@ pub replacement_covers : (e : Bool) (k : OutputUnit) (m : ℕ) → replacement_n
 replacement_covers false k m = omega arith
 replacement_covers true k m = omega arith
 
-error_fits : (k : OutputUnit) (m : ℕ) → left_after (goes_on k) (replacement_len (is_units k)) 0 ≤ decoded_length decoded_length_replacement k m
+error_fits : (k : OutputUnit) (m : ℕ) → left_after (counts_past_malformed k) (replacement_len (is_units k)) 0 ≤ decoded_length decoded_length_replacement k m
 error_fits Units m = omega arith
 error_fits Bytes m = omega arith
 error_fits Replaced m = omega arith

@@ -5,10 +5,10 @@ use Rattle.std.specs.Char.{IsScalar}
 use Rattle.std.proofs.lemmas.Bool.{cases_lt, cases_eq, lt-ltb, le-ltb, eq-eqb, ne_eqb}
 use Rattle.std.proofs.lemmas.Bool.Decides.{nat_tests}
 use Rattle.encoding_mem.specs.Coding.{IsCoding}
-use Rattle.encoding_mem.specs.EncodedLength.{IsRoomFor, encoded_length_single_byte}
+use Rattle.encoding_mem.specs.calls.EncodedLength.{IsRoomFor, encoded_length_single_byte}
 use Rattle.encoding_mem.specs.Piece.{well_formed, piece_of_scalar, Piece}
 use Rattle.encoding_mem.specs.laws.Pieces.{CutsEach}
-use Rattle.encoding_mem.specs.DecoderRule.{TellsFirstPiece, IsBasic}
+use Rattle.encoding_mem.specs.calls.DecoderRule.{TellsFirstPiece, IsBasic}
 use Rattle.encoding_mem.specs.declared.form.Form.TheVariants.{Mapped}
 use Rattle.encoding_tables.specs.EachByte.{form_by_byte, first_piece_by_byte}
 use Rattle.encoding_tables.specs.laws.EachByte.{AreScalars, first_piece_of_byte, cuts_by_byte, first_piece_by_first, laws_by_byte, fits_by_byte, pieces_by_byte-cons}

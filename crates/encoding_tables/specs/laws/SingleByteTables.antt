@@ -4,7 +4,7 @@ use Rattle.std.specs.Prelude.{IfSome}
 use Rattle.std.specs.Option.{unwrap_or}
 use Rattle.encoding_mem.specs.Piece.{ArePieces}
 use Rattle.encoding_mem.specs.ReadBack.{ReadsBackExactly}
-use Rattle.encoding_tables.specs.IndexLists.{IndexLists, flat_of, entries_of, AreAcceptedTables}
+use Rattle.encoding_tables.specs.IndexLists.{IndexLists, flat_of, index_entries, AreAcceptedTables}
 use Rattle.encoding_tables.specs.Lookups.{AreEntries}
 use Rattle.encoding_tables.specs.TableFaults.{flat_fault}
 use Rattle.encoding_tables.specs.laws.TableFaults.{is_index, entries_are_scalars}
@@ -17,13 +17,13 @@ scalars_of : (kind : IndexKind) (o : Option (List ℕ)) → IfSome o (λ flat. f
 scalars_of kind None h = λ p mapped. absurd (mapped refl)
 scalars_of kind (Some flat) h = entries_are_scalars kind flat (is_index kind flat h)
 
-pub entries_scalars : (t : IndexLists) (kind : IndexKind) → AreAcceptedTables t → AreEntries (entries_of t kind)
+pub entries_scalars : (t : IndexLists) (kind : IndexKind) → AreAcceptedTables t → AreEntries (index_entries t kind)
 entries_scalars t kind h = scalars_of kind (flat_of t kind) (h.0 kind)
 
 -- its pieces are pieces
-pub tables_are_pieces : (t : IndexLists) (kind : IndexKind) → AreAcceptedTables t → (x : List ℕ) → ArePieces (pieces_single_byte (entries_of t kind) x)
-tables_are_pieces t kind h x = single_byte_are_pieces (entries_of t kind) (entries_scalars t kind h) x
+pub tables_are_pieces : (t : IndexLists) (kind : IndexKind) → AreAcceptedTables t → (x : List ℕ) → ArePieces (pieces_single_byte (index_entries t kind) x)
+tables_are_pieces t kind h x = single_byte_are_pieces (index_entries t kind) (entries_scalars t kind h) x
 
 -- what is written reads back exactly where each character has a byte
-pub tables_exact : (t : IndexLists) (kind : IndexKind) → AreAcceptedTables t → ReadsBackExactly (pieces_single_byte (entries_of t kind)) (single_byte_coding (entries_of t kind))
-tables_exact t kind h = single_byte_exact (entries_of t kind) (entries_scalars t kind h)
+pub tables_exact : (t : IndexLists) (kind : IndexKind) → AreAcceptedTables t → ReadsBackExactly (pieces_single_byte (index_entries t kind)) (single_byte_coding (index_entries t kind))
+tables_exact t kind h = single_byte_exact (index_entries t kind) (entries_scalars t kind h)

@@ -9,10 +9,10 @@ use Rattle.std.proofs.lemmas.Bool.Decides.{nat_tests}
 use Rattle.std.proofs.lemmas.List.{get_or_past}
 use Rattle.std.proofs.lemmas.List.Edits.{get_or-between}
 use Rattle.std.proofs.lemmas.List.Sums.{fails_before_first, position_or_len_is}
-use Rattle.encoding_tables.specs.Kinds.{number, index_size, is_single_byte}
+use Rattle.encoding_tables.specs.Kinds.{number, index_size, is_single_byte_kind}
 use Rattle.encoding_tables.specs.Lookups.{AreEntries}
 use Rattle.encoding_tables.specs.laws.SingleByte.{AreBasic}
-use Rattle.encoding_tables.specs.TableFaults.{flat_fault, is_entry_of, is_kind, first_bad_entry, first_reserved, reserved_fault}
+use Rattle.encoding_tables.specs.TableFaults.{flat_fault, is_entry_of, is_same_kind, first_bad_entry, first_reserved, reserved_fault}
 use Rattle.encoding_tables.specs.Accepted.{IsEntry, IsIndex, AcceptanceIsExact}
 use Rattle.encoding_tables.specs.declared.index_kind.IndexKind.{IndexKind}
 use Rattle.encoding_tables.specs.declared.index_kind.IndexKind.TheVariants.{Big5, Jis0208}
@@ -40,7 +40,7 @@ is_scalar : (v : ℕ) → InScalarRange v → IsScalar v
 is_scalar v h = grind (arith, nat_tests)
 
 is_entry : (kind : IndexKind) (v : ℕ) → is_entry_of kind v ≡ true → v ≢ 0 → IsEntry kind v
-is_entry kind v e mapped = elim (or_cases (v == 0 || not (nat_lt v 0x80) && nat_lt v 0xD800 || not (nat_lt v 0xE000) && nat_lt v 0x10000) (is_kind kind Big5 && not (nat_lt v 0x20000) && nat_lt v 0x30000) e) [
+is_entry kind v e mapped = elim (or_cases (v == 0 || not (nat_lt v 0x80) && nat_lt v 0xD800 || not (nat_lt v 0xE000) && nat_lt v 0x10000) (is_same_kind kind Big5 && not (nat_lt v 0x20000) && nat_lt v 0x30000) e) [
   | inl basic ↦ elim (or_cases (v == 0 || not (nat_lt v 0x80) && nat_lt v 0xD800) (not (nat_lt v 0xE000) && nat_lt v 0x10000) basic) [
     | inl low ↦ elim (or_cases (v == 0) (not (nat_lt v 0x80) && nat_lt v 0xD800) low) [
       | inl nil ↦ absurd (mapped (eqb-true v 0 nil))
@@ -56,8 +56,8 @@ is_entry kind v e mapped = elim (or_cases (v == 0 || not (nat_lt v 0x80) && nat_
         record { scalar = is_scalar v (inr (from, omega arith)); high = omega arith; plane = inl below }
   ]
   | inr far ↦
-      let parts = and_parts (is_kind kind Big5 && not (nat_lt v 0x20000)) (nat_lt v 0x30000) far in
-      let both = and_parts (is_kind kind Big5) (not (nat_lt v 0x20000)) parts.0 in
+      let parts = and_parts (is_same_kind kind Big5 && not (nat_lt v 0x20000)) (nat_lt v 0x30000) far in
+      let both = and_parts (is_same_kind kind Big5) (not (nat_lt v 0x20000)) parts.0 in
       let from : 0x20000 ≤ v = ltb-false v 0x20000 (not-true (nat_lt v 0x20000) both.1) in
       let below : v < 0x30000 = ltb-true v 0x30000 parts.1 in
       record {
@@ -152,7 +152,7 @@ no_fault_of kind flat h =
     ]
 
     none : reserved_fault kind flat ≡ None
-    none = elim (cases_Bool (is_kind kind Jis0208)) [
+    none = elim (cases_Bool (is_same_kind kind Jis0208)) [
       | inl is ↦ rw (is, none_reserved flat (h.reserved (number-same kind Jis0208 (eqb-true (number kind) (number Jis0208) is)))) refl
       | inr other ↦ rw other refl
     ]
@@ -164,13 +164,13 @@ pub entries_are_scalars : (kind : IndexKind) (flat : List ℕ) → IsIndex kind 
 entries_are_scalars kind flat index p mapped = (index.entries p mapped).scalar
 
 -- those of a single-byte encoding are in the basic plane
-not_big5 : (kind : IndexKind) → is_single_byte kind ≡ true → kind ≡ Big5 → ⊥
+not_big5 : (kind : IndexKind) → is_single_byte_kind kind ≡ true → kind ≡ Big5 → ⊥
 not_big5 kind single is = let no = rw is at single in clash no
   where
     clash : false ≡ true → ⊥
     clash e = cc
 
-pub entries_are_basic : (kind : IndexKind) (flat : List ℕ) → is_single_byte kind ≡ true → IsIndex kind flat → AreBasic flat
+pub entries_are_basic : (kind : IndexKind) (flat : List ℕ) → is_single_byte_kind kind ≡ true → IsIndex kind flat → AreBasic flat
 entries_are_basic kind flat single index p = elim (cases_eq (get_or flat p 0) 0) [
   | inl nil ↦ omega (arith, nil)
   | inr mapped ↦ elim ((index.entries p mapped).plane) [

@@ -3,19 +3,19 @@ use Rattle.std.specs.Prelude.{◌≡◌, List, [], ◌∷◌, ◌++◌, map, cod
 use Rattle.std.specs.Fmt.{digits}
 use Rattle.encoding_mem.specs.Items.{Item, Byte, MalformedAt, LostAt}
 use Rattle.recode.specs.Policy.{up_to_loss, written_under}
-use Rattle.recode.specs.TaggedByte.{Line, Out, lines, tagged, outputs}
-use Rattle.recode.specs.WrittenItems.{bad_lines, lost_lines}
+use Rattle.recode.specs.TaggedByte.{Line, Out, log_bytes, tagged, output_bytes}
+use Rattle.recode.specs.WrittenItems.{bad_line_count, lost_line_count}
 use Rattle.recode.specs.declared.job.Policy.{Policy}
 
 -- `A`, a malformed sequence of two bytes, an unmappable character of which one byte is written, and another
 unfoldable items : List Item
 items = Byte 0x41 ∷ MalformedAt 1 2 ∷ LostAt 1 65533 ∷ Byte 0x26 ∷ LostAt 2 232 ∷ []
 
-one_malformed : bad_lines items ≡ 1
+one_malformed : bad_line_count items ≡ 1
 unfolding items
 one_malformed = refl
 
-two_lost : lost_lines items ≡ 2
+two_lost : lost_line_count items ≡ 2
 unfolding items
 two_lost = refl
 
@@ -24,11 +24,11 @@ in_order : tagged items
 unfolding items digits
 in_order = refl
 
-what_is_written : outputs (tagged items) ≡ 0x41 ∷ 0x26 ∷ []
+what_is_written : output_bytes (tagged items) ≡ 0x41 ∷ 0x26 ∷ []
 unfolding items digits
 what_is_written = refl
 
-what_is_logged : lines (tagged items) ≡ codes "bad 1 2\nlost 1 65533\nlost 2 232\n"
+what_is_logged : log_bytes (tagged items) ≡ codes "bad 1 2\nlost 1 65533\nlost 2 232\n"
 unfolding items digits
 what_is_logged = refl
 

@@ -1,6 +1,6 @@
 use Rattle.std.proofs.Common.{◌≡◌, ◌+◌, ◌++◌, length, ◌∙◌, ap, arith, length-drop}
 use Rattle.encoding_mem.specs.laws.Latency.{call_takes_soon, takes_soon}
-use Rattle.encoding_front.specs.DecoderCall.{HasText}
+use Rattle.encoding_front.specs.calls.DecoderCall.{HasText}
 use Rattle.encoding_front.proofs.laws.pieces_are_passed_soon.Goals as goal
 
 pub returns-clause-reported : goal.returns-clause-reported

@@ -1,6 +1,6 @@
 use Rattle.std.proofs.Common.{◌≡◌, ◌+◌, ◌≤◌, false, length, take, drop}
-use Rattle.encoding_mem.specs.EncoderRule.{left}
-use Rattle.encoding_front.specs.Encoder.{EncoderState, coding_in, kept_back}
+use Rattle.encoding_mem.specs.calls.EncoderRule.{left}
+use Rattle.encoding_front.specs.calls.Encoder.{EncoderState, coding_in, kept_back}
 use Rattle.encoding_front.proofs.ReferenceLemmas.{Going}
 use Rattle.encoding_front.proofs.replacing.encode_replacing.Given as goal
 

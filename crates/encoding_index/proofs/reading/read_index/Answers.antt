@@ -1,6 +1,6 @@
 use Rattle.std.proofs.Common.{◌≡◌, ◌⊎◌, inl, ◌∷◌, Some, replicate, ap, subst, ◌∙◌, rules, arith}
 use Rattle.encoding_tables.specs.Kinds.{index_size}
-use Rattle.encoding_index.specs.IndexText.{lines_in, first_fault, out_of_memory}
+use Rattle.encoding_index.specs.IndexText.{lines_in, first_fault, memory_fault}
 use Rattle.encoding_index.specs.laws.Outcomes.{outcomes}
 use Rattle.encoding_index.specs.laws.RowsLeft.{outcomes_left}
 use Rattle.encoding_index.proofs.LoadLemmas.{IfErr-from_residual}
@@ -21,7 +21,7 @@ returns-in_err-pointer-clause-fault c =
     let all = outcomes size 0 0 (lines_in c.args.text.now) in
     let next = c.in-Some.ensures.steps ∙ ap (λ row. row ∷ outcomes_left c.next.new.self) c.in_err-pointer.was in
     let found : first_fault size c.args.text.now ≡ Some c.in_err-pointer.field-0.0 = filling_stops size c.args.text.now c.loop-row.list.items c.in_err-pointer.field-0.0 (outcomes_left c.next.new.self) (subst (IsFilling size all c.loop-row.list.items) next c.loop-row.invariant) in
-    IfErr-from_residual c.from_residual-in_err-pointer.result c.in_err-pointer.field-0.0 (λ fault. (first_fault size c.args.text.now ≡ Some fault) ⊎ (fault ≡ out_of_memory)) c.from_residual-in_err-pointer.ensures.1 (inl found)
+    IfErr-from_residual c.from_residual-in_err-pointer.result c.in_err-pointer.field-0.0 (λ fault. (first_fault size c.args.text.now ≡ Some fault) ⊎ (fault ≡ memory_fault)) c.from_residual-in_err-pointer.ensures.1 (inl found)
 
 pub index_mut-requires : goal.index_mut-requires
 index_mut-requires c =

@@ -1,5 +1,5 @@
 use Rattle.std.proofs.Common.{◌≡◌, ◌⊎◌, inl, ◌∷◌, Some, ap, sym, subst, ◌∙◌}
-use Rattle.encoding_index.specs.IndexText.{lines_in, first_fault, out_of_memory}
+use Rattle.encoding_index.specs.IndexText.{lines_in, first_fault, memory_fault}
 use Rattle.encoding_index.specs.laws.Outcomes.{outcomes}
 use Rattle.encoding_index.specs.laws.RowsLeft.{outcomes_left}
 use Rattle.encoding_index.proofs.LoadLemmas.{IfErr-from_residual, err_is}
@@ -13,7 +13,7 @@ returns-in_err-row-clause-fault c =
     let fault = c.in_err-row.field-0.0 in
     let next = c.in-Some.ensures.steps ∙ ap (λ row. row ∷ outcomes_left c.next.new.self) c.in_err-row.was in
     let found : first_fault c.args.size c.args.text.now ≡ Some fault = gathering_stops c.args.size c.args.text.now c.loop-row.rows.items fault (outcomes_left c.next.new.self) (subst (IsGathering all c.loop-row.rows.items) next c.loop-row.invariant) in
-    IfErr-from_residual c.from_residual.result fault (λ told. (first_fault c.args.size c.args.text.now ≡ Some told) ⊎ (told ≡ out_of_memory)) c.from_residual.ensures.1 (inl found)
+    IfErr-from_residual c.from_residual.result fault (λ told. (first_fault c.args.size c.args.text.now ≡ Some told) ⊎ (told ≡ memory_fault)) c.from_residual.ensures.1 (inl found)
 
 pub returns-clause-rows : goal.returns-clause-rows
 returns-clause-rows c =

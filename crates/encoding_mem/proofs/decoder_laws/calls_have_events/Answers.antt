@@ -1,5 +1,5 @@
 use Rattle.encoding_mem.specs.laws.Event.{event_law}
-use Rattle.encoding_mem.specs.Writing.{Adds}
+use Rattle.encoding_mem.specs.calls.Writing.{Adds}
 use Rattle.encoding_mem.proofs.decoder_laws.calls_have_events.Goals as goal
 
 pub returns : goal.returns

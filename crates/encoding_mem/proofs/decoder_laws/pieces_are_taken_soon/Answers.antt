@@ -1,4 +1,4 @@
-use Rattle.encoding_mem.specs.Writing.{Adds}
+use Rattle.encoding_mem.specs.calls.Writing.{Adds}
 use Rattle.encoding_mem.specs.laws.Latency.{call_takes_soon}
 use Rattle.encoding_mem.proofs.decoder_laws.pieces_are_taken_soon.Goals as goal
 

@@ -1,8 +1,8 @@
 use Rattle.std.proofs.Common.{◌≡◌, ℕ, ◌*◌, ◌-◌, ◌≤◌, List, length, take, drop, false, length-take, refl, subst, ap, ◌∙◌, arith, encode_utf8_all, rules}
 use Rattle.std.proofs.lemmas.List.{length-take-le}
-use Rattle.encoding_mem.specs.Piece.{AreWellFormed, scalars_of}
-use Rattle.encoding_mem.specs.Decoding.{Takes}
-use Rattle.encoding_mem.specs.Text.{text_len}
+use Rattle.encoding_mem.specs.Piece.{AreWellFormed, piece_scalars}
+use Rattle.encoding_mem.specs.calls.Decoding.{Takes}
+use Rattle.encoding_mem.specs.calls.TextRun.{text_len}
 use Rattle.encoding_mem.proofs.DriverLemmas.{come_more, come_none, come_piece, ends_empty, ends_full, ends_malformed, ends_waiting, run_room, text_taken, units_taken}
 use Rattle.encoding_mem.proofs.driver.decode_pieces.Goals as goal
 
@@ -61,7 +61,7 @@ pieces-preserved g c =
     let W = λ (t : List ℕ). g.S.Sink.writes c.args.sink.now t c.take_piece.new.sink in
     let piece = come_piece (g.F.DecoderRule.pieces c.args.codec.now) (g.F.DecoderRule.pieces c.pieces.codec) P (g.F.DecoderRule.needs c.args.codec.now) (g.F.DecoderRule.needs c.pieces.codec) (g.F.DecoderRule.needs c.take_piece.new.codec)
     g.S.Sink.is_units c.args.last c.args.src.now rest (g.S.Sink.free c.args.sink.now) (g.S.Sink.free c.pieces.sink) (g.S.Sink.free c.take_piece.new.sink)
-    (λ t. g.S.Sink.writes c.args.sink.now t c.pieces.sink) W s.0 n i.so_far s.1 s.2 s.3 c.in-Took.ensures.room (λ t w. g.met.S.Sink.writes_more _ _ _ t (scalars_of s.0) w s.4) in
+    (λ t. g.S.Sink.writes c.args.sink.now t c.pieces.sink) W s.0 n i.so_far s.1 s.2 s.3 c.in-Took.ensures.room (λ t w. g.met.S.Sink.writes_more _ _ _ t (piece_scalars s.0) w s.4) in
     record {
       none = i.none;
       limits = pairs.ensures.limits ∙ c.take_piece.ensures.limits ∙ i.limits;

@@ -1,8 +1,8 @@
 use Rattle.std.proofs.Common.{ℕ, IsTrue, ◌≡◌, ◌<◌, ◌≤◌, ◌+◌, ◌-◌, ◌*◌, ◌++◌, length}
 use Rattle.encoding_mem.specs.Piece.{AreWellFormed}
-use Rattle.encoding_mem.specs.Decoding.{Takes}
-use Rattle.encoding_mem.specs.Driver.{IsNear}
-use Rattle.encoding_mem.specs.DecodedLength.{is_units}
+use Rattle.encoding_mem.specs.calls.Decoding.{Takes}
+use Rattle.encoding_mem.specs.calls.Driver.{IsNear}
+use Rattle.encoding_mem.specs.calls.DecodedLength.{is_units}
 use Rattle.encoding_mem.specs.declared.room.OutputUnit.{OutputUnit}
 use Rattle.encoding_mem.proofs.driver.finish_pending.Given as goal
 

@@ -1,7 +1,7 @@
 use Rattle.std.proofs.Common.{◌≡◌, ℕ, ◌+◌, ◌≤◌, List, [], ◌∷◌, false, length, take, refl, subst, ap, ◌∙◌, arith}
 use Rattle.encoding_mem.specs.Piece.{well_formed}
-use Rattle.encoding_mem.specs.DecoderRule.{IsFirstPiece}
-use Rattle.encoding_mem.specs.DecodedLength.{cost_in, is_units}
+use Rattle.encoding_mem.specs.calls.DecoderRule.{IsFirstPiece}
+use Rattle.encoding_mem.specs.calls.DecodedLength.{cost_in, is_units}
 use Rattle.encoding_mem.proofs.DriverLemmas.{basic_cost, come_none, come_piece, first_of_start, piece_room, untrue}
 use Rattle.encoding_mem.proofs.driver.take_pairs.Goals as goal
 

@@ -1,6 +1,6 @@
 use Rattle.std.proofs.Common.{refl, ◌++◌, ◌∙◌, ap, take}
 use Rattle.encoding_mem.proofs.DestinationLemmas.{take_into, drop_into}
-use Rattle.encoding_mem.specs.EncoderRule.{left}
+use Rattle.encoding_mem.specs.calls.EncoderRule.{left}
 use Rattle.encoding_mem.proofs.encode.copy_run.Goals as goal
 
 pub returns-clause-run : goal.returns-clause-run

@@ -1,8 +1,8 @@
 use Rattle.std.proofs.Common.{◌≡◌, ℕ, ◌≤◌, ◌-◌, length, drop, ◌∙◌, ap, arith}
 use Rattle.std.proofs.lemmas.List.{length-take, length-take-le, length-drop}
 use Rattle.encoding_mem.proofs.EncoderCallLemmas.{after_copy, less_asked, wrote_after, utf8_costs}
-use Rattle.encoding_mem.specs.EncodedLength.{bound_for, encoded_length_utf8}
-use Rattle.encoding_mem.specs.EncoderRule.{left}
+use Rattle.encoding_mem.specs.calls.EncodedLength.{bound_for, encoded_length_utf8}
+use Rattle.encoding_mem.specs.calls.EncoderRule.{left}
 use Rattle.encoding_mem.proofs.encode.encode.Goals as goal
 
 pub returns-clause-wrote : goal.returns-clause-wrote

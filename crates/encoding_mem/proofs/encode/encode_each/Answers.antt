@@ -1,9 +1,9 @@
 use Rattle.std.proofs.Common.{◌≡◌, ℕ, ◌+◌, ◌-◌, ◌*◌, ◌≤◌, ◌++◌, ◌∷◌, length, take, refl, sym, ◌∙◌, ap, subst, arith, inl, inr}
 use Rattle.encoding_mem.proofs.EncoderCallLemmas.{copied_run, full, turned, escaped, unmapped, finished, not_last, ended, behind_put, escape_is, escape_over, form_over, some_left, tight_end, tight_escape, tight_form, not_ascii, spent_more, fits_all, le_times, first_same, ascii_costs}
-use Rattle.encoding_mem.specs.Coding.{bytes}
-use Rattle.encoding_mem.specs.DecodedLength.{cost_in}
-use Rattle.encoding_mem.specs.EncoderRule.{IsRun, left}
-use Rattle.encoding_mem.specs.EncodedLength.{bound_for}
+use Rattle.encoding_mem.specs.Coding.{mapped_bytes}
+use Rattle.encoding_mem.specs.calls.DecodedLength.{cost_in}
+use Rattle.encoding_mem.specs.calls.EncoderRule.{IsRun, left}
+use Rattle.encoding_mem.specs.calls.EncodedLength.{bound_for}
 use Rattle.encoding_mem.proofs.encode.encode_each.Goals as goal
 
 pub loop-c-preserved : goal.loop-c-preserved
@@ -20,7 +20,7 @@ loop-c-preserved g c = record {
       let n : ℕ = cost_in S.is_units c.in-Some.c in
       let offset : S.offset c.advance.new.self ≡ S.offset c.loop-c.source + n = c.advance.ensures.next.2 ∙ ap (λ d. S.offset c.loop-c.source + cost_in S.is_units d) same in
       let escape_len = ap length (c.as_slice-bytes.ensures.value ∙ c.escape-escape.ensures ∙ ap (e.escape c.loop-c.set) c.step-next.ensures.set) in
-      let form_len = ap length (c.as_slice-bytes-in-Mapped.ensures.value ∙ sym (ap bytes (sym c.step-next.ensures.form ∙ c.in-Mapped.is))) in
+      let form_len = ap length (c.as_slice-bytes-in-Mapped.ensures.value ∙ sym (ap mapped_bytes (sym c.step-next.ensures.form ∙ c.in-Mapped.is))) in
       let more : length c.as_slice-bytes.result.now + length c.as_slice-bytes-in-Mapped.result.now ≤ (bound_for (g.T.EncoderRule.parts c.args.target.now).limits S.is_units).factor * n = omega (arith, escape_len, form_len, (g.met.T.EncoderRule.fits c.args.target.now S.is_units).each c.loop-c.set c.in-Some.c) in
       let spent = spent_more (bound_for (g.T.EncoderRule.parts c.args.target.now).limits S.is_units).factor (S.offset c.args.source.now) (S.offset c.loop-c.source) n c.loop-c.written _ c.loop-c.invariant.after c.loop-c.invariant.spent more in
       rw offset (omega (arith, spent, c.put-written.ensures.end, c.put-written-in-Mapped.ensures.end));
@@ -75,7 +75,7 @@ returns-then-dst-written-2-clause-enough g c h full =
     let i = c.loop-c.invariant in
     let n : ℕ = cost_in S.is_units c.in-Some.c in
     let escape_len = ap length (c.as_slice-bytes.ensures.value ∙ c.escape-escape.ensures ∙ ap (e.escape c.loop-c.set) c.step-next.ensures.set) in
-    let form_len = ap length (c.as_slice-bytes-in-Mapped.ensures.value ∙ sym (ap bytes (sym c.step-next.ensures.form ∙ c.in-Mapped.is))) in
+    let form_len = ap length (c.as_slice-bytes-in-Mapped.ensures.value ∙ sym (ap mapped_bytes (sym c.step-next.ensures.form ∙ c.in-Mapped.is))) in
     let all : length (S.all c.loop-c.source) ≡ length (S.all c.args.source.now) = ap length i.source in
     let spent = spent_more l.factor (S.offset c.args.source.now) (S.offset c.loop-c.source) n c.loop-c.written (length c.as_slice-bytes.result.now + length c.as_slice-bytes-in-Mapped.result.now) i.after i.spent (omega (arith, escape_len, form_len, (g.met.T.EncoderRule.fits c.args.target.now S.is_units).each c.loop-c.set c.in-Some.c)) in
     let room = fits_all l.factor l.extra (S.offset c.args.source.now) (S.offset c.loop-c.source + n) (length (S.all c.args.source.now)) _ 0 (length c.args.dst.now) (omega (arith, i.after)) (omega (arith, all, c.in-Some.ensures.size.0, c.in-Some.ensures.size.1)) h spent (omega arith) in
@@ -125,12 +125,12 @@ returns-then-dst-written-2-clause-call g c =
     let at = sym (ap (λ l. left g.S.Source.text l (g.S.Source.offset c.loop-c.source)) i.source) ∙ c.in-Some.ensures.next in
     let one = escape_is e _ _ _ _ _ _ _ c.put-written.ensures.prefix c.as_slice-bytes.ensures.value c.escape-escape.ensures c.step-next.ensures.set in
     let form = sym c.step-next.ensures.form ∙ c.in-Mapped.is in
-    let bytes = c.as_slice-bytes-in-Mapped.ensures.value in
+    let mapped_bytes = c.as_slice-bytes-in-Mapped.ensures.value in
     record {
       same = refl;
       law = rw c.step-next.ensures.set (escaped _ c.args.last _ _ _ _ _ _ _ _ i.steps at one);
-      ends = (form_over _ e c.in-Some.c _ _ _ laws bytes form c.if-dst-written-2.true, inl (some_left _ _ _ at));
-      tight = tight_form _ _ _ _ _ _ _ _ _ _ laws at c.step-next.ensures.set bytes form c.if-dst-written-2.true;
+      ends = (form_over _ e c.in-Some.c _ _ _ laws mapped_bytes form c.if-dst-written-2.true, inl (some_left _ _ _ at));
+      tight = tight_form _ _ _ _ _ _ _ _ _ _ laws at c.step-next.ensures.set mapped_bytes form c.if-dst-written-2.true;
     }
 
 pub returns-in-Unmapped-clause-wrote : goal.returns-in-Unmapped-clause-wrote
@@ -164,16 +164,16 @@ returns-then-dst-written-3-clause-call g c =
     let e = (g.T.EncoderRule.parts c.args.target.now).coding in
     let laws = g.met.T.EncoderRule.laws c.args.target.now in
     let empty = sym (ap (λ l. left g.S.Source.text l (g.S.Source.offset c.loop-c.source)) i.source) ∙ c.in_default.ensures.next in
-    let bytes = c.as_slice-bytes-then-last.ensures.value in
+    let mapped_bytes = c.as_slice-bytes-then-last.ensures.value in
     let escape = c.escape-escape-then-last.ensures in
     record {
       same = refl;
       law = full e c.args.last _ _ _ _ _ laws i.steps;
       ends = (
-        escape_over _ e _ _ _ _ _ laws bytes escape c.if-dst-written-3.true,
-        inr (c.if-last.true, not_ascii _ e _ _ _ _ laws bytes escape c.if-dst-written-3.true),
+        escape_over _ e _ _ _ _ _ laws mapped_bytes escape c.if-dst-written-3.true,
+        inr (c.if-last.true, not_ascii _ e _ _ _ _ laws mapped_bytes escape c.if-dst-written-3.true),
       );
-      tight = tight_end e _ _ _ _ _ empty bytes escape c.if-dst-written-3.true;
+      tight = tight_end e _ _ _ _ _ empty mapped_bytes escape c.if-dst-written-3.true;
     }
 
 pub returns-else-dst-written-3-clause-wrote : goal.returns-else-dst-written-3-clause-wrote

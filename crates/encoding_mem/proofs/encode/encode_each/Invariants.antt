@@ -1,7 +1,7 @@
 use Rattle.std.proofs.Common.{◌≡◌, ◌≤◌, ◌*◌, ◌-◌, length, take, drop}
 use Rattle.encoding_mem.proofs.EncoderCallLemmas.{Steps}
-use Rattle.encoding_mem.specs.EncoderRule.{left}
-use Rattle.encoding_mem.specs.EncodedLength.{bound_for}
+use Rattle.encoding_mem.specs.calls.EncoderRule.{left}
+use Rattle.encoding_mem.specs.calls.EncodedLength.{bound_for}
 use Rattle.encoding_mem.proofs.encode.encode_each.Given as goal
 
 abbrev pub invariant-loop-c : goal.invariant-loop-c

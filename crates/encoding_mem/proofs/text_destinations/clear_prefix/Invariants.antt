@@ -1,5 +1,5 @@
 use Rattle.std.proofs.Common.{◌-◌, ◌≡◌, ◌≤◌, ◌++◌, length, take, drop}
-use Rattle.encoding_mem.specs.TextDestination.{cleared}
+use Rattle.encoding_mem.specs.calls.TextDestination.{cleared}
 use Rattle.encoding_mem.proofs.text_destinations.clear_prefix.Given as goal
 
 abbrev pub invariant-bytes : goal.invariant-bytes

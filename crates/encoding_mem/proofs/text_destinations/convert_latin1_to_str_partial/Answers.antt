@@ -1,5 +1,5 @@
 use Rattle.std.proofs.Common.{◌∙◌, ap, take, arith}
-use Rattle.encoding_mem.specs.TextDestination.{cleared}
+use Rattle.encoding_mem.specs.calls.TextDestination.{cleared}
 use Rattle.encoding_mem.proofs.DestinationLemmas.{take_low, bytes_are_scalars}
 use Rattle.encoding_mem.proofs.text_destinations.convert_latin1_to_str_partial.Goals as goal
 

@@ -1,6 +1,6 @@
 use Rattle.std.proofs.Common.{◌∙◌, ap, take, arith}
 use Rattle.std.specs.Char.Utf16.{utf16_lossy_chars}
-use Rattle.encoding_mem.specs.TextDestination.{cleared}
+use Rattle.encoding_mem.specs.calls.TextDestination.{cleared}
 use Rattle.encoding_mem.proofs.DestinationLemmas.{take_low, units_are_scalars}
 use Rattle.encoding_mem.proofs.text_destinations.convert_utf16_to_str_partial.Goals as goal
 

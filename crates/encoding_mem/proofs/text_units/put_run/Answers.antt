@@ -1,7 +1,7 @@
 use Rattle.std.proofs.Common.{rules, ◌≡◌, ◌+◌, ◌<◌, length, get_or, ap, arith}
 use Rattle.std.proofs.lemmas.List.{drop-set-lt}
 use Rattle.std.specs.Char.{len_utf8}
-use Rattle.encoding_mem.specs.TextUnits.{size_from_lead}
+use Rattle.encoding_mem.specs.calls.TextUnits.{size_from_lead}
 use Rattle.encoding_mem.proofs.LongestPrefixLemmas.{behind_more}
 use Rattle.encoding_mem.proofs.TextUnitsLemmas.{char_at, lead_size, unit_in_units, unit_range}
 use Rattle.encoding_mem.proofs.text_units.put_run.Goals as goal

@@ -1,5 +1,5 @@
 use Rattle.std.proofs.Common.{◌≡◌, ◌≤◌, ◌+◌, ◌-◌, ◌*◌, length, drop}
-use Rattle.encoding_mem.specs.TextUnits.{IsInUnits}
+use Rattle.encoding_mem.specs.calls.TextUnits.{IsInUnits}
 use Rattle.encoding_mem.proofs.text_units.put_run.Given as goal
 
 abbrev pub invariant-characters : goal.invariant-characters

@@ -1,5 +1,5 @@
 use Rattle.std.proofs.Common.{◌≡◌, ◌+◌, ◌-◌, ◌/◌, length, drop}
-use Rattle.encoding_mem.specs.TextUnits.{IsInUnits}
+use Rattle.encoding_mem.specs.calls.TextUnits.{IsInUnits}
 use Rattle.encoding_mem.proofs.utf8_conversions.convert_str_to_utf16.Given as goal
 
 abbrev pub invariant-runs : goal.invariant-runs

@@ -3,7 +3,7 @@ use Rattle.std.specs.Str.{chars, IsUtf8}
 use Rattle.std.proofs.lemmas.Str.{encodes-chars, scalars-chars}
 use Rattle.encoding_mem.specs.Piece.{text}
 use Rattle.encoding_mem.specs.Utf8.{pieces_utf8}
-use Rattle.encoding_mem.specs.Writing.{encode_utf16_all}
+use Rattle.encoding_mem.specs.calls.Writing.{encode_utf16_all}
 use Rattle.encoding_mem.specs.laws.ReadBack.{text_pieces-text}
 use Rattle.encoding_mem.specs.laws.Utf8.{utf8_reads_back}
 use Rattle.encoding_mem.proofs.utf8_conversions.convert_utf8_to_utf16.Goals as goal

@@ -5,7 +5,7 @@ use Rattle.encoding_mem.proofs.utf8_conversions.convert_utf8_to_utf16_up_to_inva
 
 pub returns-clause-longest : goal.returns-clause-longest
 returns-clause-longest c =
-    let t = c.prefix_text in
+    let t = c.text_prefix in
     let p = c.put_prefix-read in
     let w = p.ensures.writes.1 in
     let size = adds-length _ _ _ _ _ w in

@@ -2,7 +2,7 @@ use Rattle.std.proofs.Common.{◌≡◌, ◌-◌, ◌∙◌, take, refl, subst, 
 use Rattle.std.specs.Str.{IsCharBoundary}
 use Rattle.std.proofs.lemmas.Str.{IsCharBoundary-start}
 use Rattle.encoding_mem.specs.Conversions.{text_in_utf16}
-use Rattle.encoding_mem.specs.Writing.{Adds, encode_utf16_all}
+use Rattle.encoding_mem.specs.calls.Writing.{Adds, encode_utf16_all}
 use Rattle.encoding_mem.proofs.Utf8TextLemmas.{part_boundary, first_alone, adds_start, adds_part}
 use Rattle.encoding_mem.proofs.utf8_conversions.put_prefix.Goals as goal
 

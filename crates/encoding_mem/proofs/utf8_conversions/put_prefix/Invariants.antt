@@ -1,7 +1,7 @@
 use Rattle.std.proofs.Common.{◌≡◌, ◌-◌, length, take}
 use Rattle.std.specs.Str.{IsCharBoundary}
 use Rattle.encoding_mem.specs.Conversions.{text_in_utf16}
-use Rattle.encoding_mem.specs.Writing.{Adds}
+use Rattle.encoding_mem.specs.calls.Writing.{Adds}
 use Rattle.encoding_mem.proofs.utf8_conversions.put_prefix.Given as goal
 
 abbrev pub invariant-parts : goal.invariant-parts

@@ -1,9 +1,9 @@
 use Rattle.std.proofs.Common.{◌≡◌, ◌∙◌, ◌++◌, ◌+◌, ◌-◌, ℕ, [], length, take, drop, sym, ap, subst, refl, arith, true, List, inl, inr, length-drop}
 use Rattle.std.proofs.lemmas.List.{append-nil, take_rest, drop-drop}
 use Rattle.encoding_mem.specs.contracts.utf8.Utf8DecoderSinkDecoder.TheImpl.{ghosts}
-use Rattle.encoding_mem.specs.Decoding.{Reports, EndsWith}
-use Rattle.encoding_mem.specs.Piece.{ArePieces, first}
-use Rattle.encoding_mem.specs.Writing.{len_utf16}
+use Rattle.encoding_mem.specs.calls.Decoding.{Reports, EndsWith}
+use Rattle.encoding_mem.specs.Piece.{ArePieces, head_piece}
+use Rattle.encoding_mem.specs.calls.Writing.{len_utf16}
 use Rattle.encoding_mem.specs.laws.Writing.{adds_none}
 use Rattle.encoding_mem.proofs.ReplacementLemmas.{goes_on, goes_on_malformed, some_taken, all_written, never_full}
 use Rattle.encoding_mem.proofs.utf8_conversions.put_replaced.Goals as goal
@@ -71,6 +71,6 @@ unreachable-requires c =
     let has = goes_on c.args.src.now _ _ (ghosts.state c.parts.decoder).pieces (ghosts.state d.new.self).pieces c.parts.read d.result.1 _ _ _ _ law.taken i.has well_formed (law.rest [] (λ _. refl)) law.writes.1 in
     let unread : drop d.result.1 part ++ [] ≡ drop (c.parts.read + d.result.1) c.args.src.now =
     append-nil (drop d.result.1 part) ∙ ap (drop d.result.1) (take_rest c.args.src.now c.parts.read) ∙ drop-drop d.result.1 c.parts.read c.args.src.now in
-    let at = ap (λ x. first ((ghosts.state d.new.self).pieces x)) (sym unread) ∙ ends.1.1 [] (λ _. refl) in
+    let at = ap (λ x. head_piece ((ghosts.state d.new.self).pieces x)) (sym unread) ∙ ends.1.1 [] (λ _. refl) in
     let room = never_full c.args.src.now _ _ (ghosts.state d.new.self).pieces (c.parts.read + d.result.1) _ _ ends.1.0 has at c.requires in
     omega (arith, room, ends.0)

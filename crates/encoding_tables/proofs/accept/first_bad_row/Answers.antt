@@ -1,7 +1,7 @@
 use Rattle.std.proofs.Common.{◌≡◌, not, sym, ap, arith, inl, inr, refl, ◌∙◌}
 use Rattle.std.proofs.lemmas.Bool.{cases_lt}
 use Rattle.encoding_tables.specs.Kinds.{index_size}
-use Rattle.encoding_tables.specs.SortedRows.{row_at}
+use Rattle.encoding_tables.specs.calls.SortedRows.{row_at}
 use Rattle.encoding_tables.specs.TableFaults.{is_entry_of}
 use Rattle.encoding_tables.proofs.RowFaultLemmas.{first_row, no_row}
 use Rattle.encoding_tables.proofs.accept.first_bad_row.Goals as goal

@@ -1,5 +1,5 @@
 use Rattle.std.proofs.Common.{ℕ, ◌≡◌, ◌<◌, true}
-use Rattle.encoding_tables.specs.SortedRows.{row_at}
+use Rattle.encoding_tables.specs.calls.SortedRows.{row_at}
 use Rattle.encoding_tables.specs.TableFaults.{is_entry_of}
 use Rattle.encoding_tables.proofs.accept.first_bad_row.Given as goal
 

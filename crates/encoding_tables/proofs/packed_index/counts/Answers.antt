@@ -1,7 +1,7 @@
 use Rattle.std.proofs.Common.{◌∙◌, ◌≡◌, arith, ℕ}
 use Rattle.std.specs.Prelude.{slice_index}
 use Rattle.std.proofs.lemmas.List.{get_or_default}
-use Rattle.encoding_tables.specs.SortedRows.{row_at}
+use Rattle.encoding_tables.specs.calls.SortedRows.{row_at}
 use Rattle.encoding_tables.proofs.CountLemmas.{one_counted, count_fits}
 use Rattle.encoding_tables.proofs.packed_index.counts.Goals as goal
 

@@ -1,5 +1,5 @@
 use Rattle.std.proofs.Common.{ℕ, ◌+◌, ◌<◌}
-use Rattle.encoding_tables.specs.SortedRows.{row_at}
+use Rattle.encoding_tables.specs.calls.SortedRows.{row_at}
 use Rattle.encoding_tables.proofs.packed_index.greatest_entry.Given as goal
 
 abbrev pub invariant-loop-entry : goal.invariant-loop-entry

@@ -1,6 +1,6 @@
 use Rattle.std.proofs.Common.{◌-◌, ◌∙◌, arith, ℕ}
 use Rattle.std.proofs.lemmas.List.{get_or_default}
-use Rattle.encoding_tables.specs.SortedRows.{row_at}
+use Rattle.encoding_tables.specs.calls.SortedRows.{row_at}
 use Rattle.encoding_tables.proofs.CountLemmas.{place_found, place_is_there, turn_placed, placed_are_reversed, placed_have_directory}
 use Rattle.encoding_tables.proofs.packed_index.reversed.Goals as goal
 

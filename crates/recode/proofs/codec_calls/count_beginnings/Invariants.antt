@@ -1,6 +1,6 @@
 use Rattle.std.proofs.Common.{◌≡◌, ◌≤◌, ◌-◌, length, take}
 use Rattle.std.specs.List.{count_by}
-use Rattle.recode.specs.Character.{begins_character}
+use Rattle.recode.specs.calls.Character.{begins_character}
 use Rattle.recode.proofs.codec_calls.count_beginnings.Given as goal
 
 abbrev pub invariant-vectors : goal.invariant-vectors

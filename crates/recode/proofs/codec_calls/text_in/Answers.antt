@@ -1,5 +1,5 @@
 use Rattle.std.proofs.Common.{◌∙◌}
-use Rattle.recode.specs.PivotText.{Holds}
+use Rattle.recode.specs.calls.PivotText.{Holds}
 use Rattle.recode.specs.declared.job.Pivot.TheVariants.{Utf8, Utf16}
 use Rattle.recode.proofs.PivotLemmas.{bytes_text, text_of_bytes, text_of_units, units_text}
 use Rattle.recode.proofs.codec_calls.text_in.Goals as goal

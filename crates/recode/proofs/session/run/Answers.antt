@@ -1,6 +1,6 @@
 use Rattle.std.proofs.Common.{◌∙◌, Ok, refl, ap, subst, arith}
 use Rattle.recode.specs.Session.{IsOver, phase_after}
-use Rattle.recode.specs.SessionView.{view_of}
+use Rattle.recode.specs.calls.SessionView.{view_of}
 use Rattle.recode.specs.declared.job.Job.{Job}
 use Rattle.recode.proofs.BufferLemmas.{kept_enough, kept_on, kept_start}
 use Rattle.recode.proofs.LatencyLemmas.{new_settled}

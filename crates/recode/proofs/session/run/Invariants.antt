@@ -1,7 +1,7 @@
 use Rattle.std.proofs.Common.{◌≡◌, ◌-◌}
 use Rattle.recode_log.specs.Counted.{failures_of}
-use Rattle.recode.specs.Buffers.{AreEnough, KeepSizes}
-use Rattle.recode.specs.SessionView.{view_of}
+use Rattle.recode.specs.calls.Buffers.{AreEnough, KeepSizes}
+use Rattle.recode.specs.calls.SessionView.{view_of}
 use Rattle.recode.specs.Devices.{devices_in}
 use Rattle.recode.specs.declared.session.Phase.TheVariants.{Open}
 use Rattle.recode.specs.Step.{HasRun}

@@ -1,7 +1,7 @@
 use Rattle.std.specs.Prelude.{[]}
 use Rattle.std.specs.Option.{unwrap_or}
 use Rattle.std.proofs.Common.{ap, sym, ◌∙◌}
-use Rattle.encoding_tables.specs.IndexLists.{entries_of}
+use Rattle.encoding_tables.specs.IndexLists.{index_entries}
 use Rattle.encoding_tables.specs.declared.index_kind.IndexKind.TheVariants.{Jis0208}
 use Rattle.encoding_codecs.specs.EucJp.{pieces_euc_jp}
 use Rattle.encoding_codecs.proofs.euc_jp.CodecDecoder+LeadByteDecoderRule+EucJpLeads.new.Goals as goal
@@ -11,6 +11,6 @@ returns c = record {
   pending = c.of_rule.ensures.pending;
   pieces = c.of_rule.ensures.pieces ∙ ap (λ e. pieces_euc_jp e.jis0208 e.jis0212) c.new.ensures
       ∙ ap (λ o. pieces_euc_jp (unwrap_or o []) c.flat-2.result) (sym c.flat.ensures.entries)
-      ∙ ap (λ o. pieces_euc_jp (entries_of c.args.tables.now Jis0208) (unwrap_or o [])) (sym c.flat-2.ensures.entries);
+      ∙ ap (λ o. pieces_euc_jp (index_entries c.args.tables.now Jis0208) (unwrap_or o [])) (sym c.flat-2.ensures.entries);
   room = c.of_rule.ensures.room;
 }

@@ -1,7 +1,7 @@
 use Rattle.std.proofs.Common.{ℕ, ◌+◌, ◌<◌, ◌++◌, List, [], ◌∷◌, length, drop, refl, sym, ◌∙◌, ap, subst, arith, length-drop}
 use Rattle.std.proofs.lemmas.List.{take_rest, drop-drop}
-use Rattle.encoding_front.specs.DecoderViews.{decoder_view}
-use Rattle.encoding_front.specs.Stream.{finishes}
+use Rattle.encoding_front.specs.calls.DecoderViews.{decoder_view}
+use Rattle.encoding_front.specs.calls.Stream.{finishes}
 use Rattle.encoding_front.specs.declared.coder_result.CoderResult.TheVariants.{InputEmpty, OutputFull}
 use Rattle.encoding_front.proofs.DecoderCallLemmas.{starts, text_ends, then_malformed, fewer, finishes_never, suffices_start, suffices_malformed}
 use Rattle.encoding_front.proofs.decoder.Decoder.decode_text_into.Goals as goal

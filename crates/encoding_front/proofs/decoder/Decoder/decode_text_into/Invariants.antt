@@ -1,6 +1,6 @@
 use Rattle.std.proofs.Common.{◌≡◌, ℕ, ◌-◌, ◌≤◌, ◌++◌, IsTrue, List, [], false, length, drop}
-use Rattle.encoding_front.specs.DecodedText.{TakesText, SufficesText}
-use Rattle.encoding_front.specs.DecoderViews.{decoder_view}
+use Rattle.encoding_front.specs.calls.DecodedText.{TakesText, SufficesText}
+use Rattle.encoding_front.specs.calls.DecoderViews.{decoder_view}
 use Rattle.encoding_front.proofs.decoder.Decoder.decode_text_into.Given as goal
 
 abbrev pub invariant-pieces : goal.invariant-pieces

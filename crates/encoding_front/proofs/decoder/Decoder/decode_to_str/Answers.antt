@@ -1,6 +1,6 @@
 use Rattle.std.proofs.Common.{◌-◌, ap, sym, ◌∙◌, arith, length-drop, encode_utf8_all}
 use Rattle.encoding_mem.specs.Piece.{text}
-use Rattle.encoding_front.specs.DecoderViews.{decoder_view}
+use Rattle.encoding_front.specs.calls.DecoderViews.{decoder_view}
 use Rattle.encoding_front.proofs.DestinationLemmas.{text_is, text_into, added, kept, overwrites}
 use Rattle.encoding_front.proofs.decoder.Decoder.decode_to_str.Goals as goal
 

@@ -1,6 +1,6 @@
 use Rattle.std.proofs.Common.{◌-◌, ap, sym, ◌∙◌, arith, length-drop, encode_utf8_all}
 use Rattle.encoding_mem.specs.Piece.{scalars}
-use Rattle.encoding_front.specs.DecoderViews.{decoder_view}
+use Rattle.encoding_front.specs.calls.DecoderViews.{decoder_view}
 use Rattle.encoding_front.proofs.DestinationLemmas.{scalars_are, scalars_into, added, kept, overwrites}
 use Rattle.encoding_front.proofs.decoder.Decoder.decode_to_str_without_replacement.Goals as goal
 

@@ -1,6 +1,6 @@
 use Rattle.std.proofs.Common.{◌≤◌, ap, sym, length, take, ◌++◌, ◌∙◌, arith, length-drop, encode_utf8_all}
 use Rattle.encoding_mem.specs.Piece.{text}
-use Rattle.encoding_front.specs.DecoderViews.{decoder_view}
+use Rattle.encoding_front.specs.calls.DecoderViews.{decoder_view}
 use Rattle.encoding_front.proofs.DestinationLemmas.{text_is, text_into, added, utf8_behind, spare, vec_written}
 use Rattle.encoding_front.proofs.decoder.Decoder.decode_to_string.Goals as goal
 

@@ -1,7 +1,7 @@
 use Rattle.std.proofs.Common.{◌-◌, length, ap, arith}
 use Rattle.encoding_mem.specs.declared.room.OutputUnit.TheVariants.{Units}
-use Rattle.encoding_front.specs.Seeking.{sought_needs}
-use Rattle.encoding_front.specs.VariantDecoders.{state_of}
+use Rattle.encoding_front.specs.calls.Seeking.{sought_needs}
+use Rattle.encoding_front.specs.calls.VariantDecoders.{state_of}
 use Rattle.encoding_front.proofs.DecodedLengthLemmas.{asked_covers, asked_never_full}
 use Rattle.encoding_front.proofs.BomLemmas.{few_of}
 use Rattle.encoding_front.proofs.decoder.Decoder.decode_to_utf16_without_replacement.Goals as goal

@@ -1,7 +1,7 @@
 use Rattle.std.proofs.Common.{◌-◌, length, ap, refl, arith}
 use Rattle.encoding_mem.specs.declared.room.OutputUnit.TheVariants.{Replaced}
-use Rattle.encoding_front.specs.Seeking.{sought_needs}
-use Rattle.encoding_front.specs.VariantDecoders.{state_of}
+use Rattle.encoding_front.specs.calls.Seeking.{sought_needs}
+use Rattle.encoding_front.specs.calls.VariantDecoders.{state_of}
 use Rattle.encoding_front.proofs.DecodedLengthLemmas.{asked_covers, asked_never_full_text}
 use Rattle.encoding_front.proofs.BomLemmas.{few_of}
 use Rattle.encoding_front.proofs.decoder.Decoder.decode_to_utf8.Goals as goal

@@ -1,5 +1,5 @@
 use Rattle.std.proofs.Common.{length, arith, refl, ap}
-use Rattle.encoding_front.specs.VariantDecoders.{state_of}
+use Rattle.encoding_front.specs.calls.VariantDecoders.{state_of}
 use Rattle.encoding_front.proofs.BomLemmas.{begun_pieces, begun_source, begun_opening}
 use Rattle.encoding_front.proofs.decoder.Decoder.new.Goals as goal
 

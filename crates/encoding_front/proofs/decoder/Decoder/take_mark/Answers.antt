@@ -1,9 +1,9 @@
 use Rattle.std.proofs.Common.{rules, arith, ◌≡◌, ℕ, ◌-◌, ◌++◌, List, length, true, false, sym, ◌∙◌, ap, subst, [], Some}
-use Rattle.encoding_front.specs.Seeking.{len_of, is_sought, find_mark, sought_pieces, sought_needs}
+use Rattle.encoding_front.specs.calls.Seeking.{mark_len, is_sought, find_mark, sought_pieces, sought_needs}
 use Rattle.encoding_front.specs.laws.Stream.{room_after_is}
-use Rattle.encoding_front.specs.Stream.{encoding_after}
-use Rattle.encoding_front.specs.TakesMark.{LeavesRoom}
-use Rattle.encoding_front.specs.VariantDecoders.{state_of}
+use Rattle.encoding_front.specs.calls.Stream.{encoding_after}
+use Rattle.encoding_front.specs.calls.TakesMark.{LeavesRoom}
+use Rattle.encoding_front.specs.calls.VariantDecoders.{state_of}
 use Rattle.encoding_front.specs.declared.seeking.BomSet.{BomSet}
 use Rattle.encoding_front.specs.declared.seeking.BomMatch.TheVariants.{Prefix, Whole}
 use Rattle.encoding_front.proofs.BomLemmas.{waits_mark, takes_all, takes_none, takes_whole, other_is, ended_is, prefix_short, few_of, unmarked, untaken, taken_whole, taken_other, taken_ended, taken_prefix, leaves_whole, leaves_all, leaves_none}
@@ -40,7 +40,7 @@ returns-in-Whole-clause-takes c =
     let window = c.prefix_of-window.result in
     let e : is_sought d.sought ≡ true = search rules in
     let f : find_mark d.sought window ≡ Whole c.in-Whole.mark = ap (find_mark d.sought) (sym c.as_slice.ensures) ∙ sym c.find_mark.ensures ∙ c.in-Whole.is in
-    let size : c.len.result - c.len-in-Whole.result ≡ len_of c.in-Whole.mark - length d.held = omega (arith, c.len.ensures, c.len-in-Whole.ensures.exact) in
+    let size : c.len.result - c.len-in-Whole.result ≡ mark_len c.in-Whole.mark - length d.held = omega (arith, c.len.ensures, c.len-in-Whole.ensures.exact) in
     let few = few_of (length d.held) own.pending d.few in (
       c.nothing-self.ensures,
       takes_whole d.sought own after (λ x. sought_pieces c.nothing-self.result after.pieces x) d.held c.args.src.now window c.new-self.result c.args.last c.in-Whole.mark _ e (d.fresh e) few c.prefix_of-window.ensures f (λ x. unmarked c.nothing-self.result after.pieces x (ap is_sought c.nothing-self.ensures)) c.after_mark-self.ensures.pieces c.after_mark-self.ensures.pending c.new-self.ensures size,

@@ -1,10 +1,10 @@
 use Rattle.std.proofs.Common.{◌≡◌, ◌+◌, ◌++◌, length, drop, false, refl, sym, ◌∙◌, ap, length-drop}
 use Rattle.std.proofs.lemmas.List.{take_rest, drop-drop}
-use Rattle.encoding_front.specs.BomDecoderState.{bom_decoder_state, held_state}
-use Rattle.encoding_front.specs.DecoderViews.{decoder_view}
-use Rattle.encoding_front.specs.Seeking.{is_sought, sought_pieces, sought_needs}
-use Rattle.encoding_front.specs.Stream.{encoding_after}
-use Rattle.encoding_front.specs.VariantDecoders.{state_of}
+use Rattle.encoding_front.specs.calls.BomDecoderState.{bom_decoder_state, held_state}
+use Rattle.encoding_front.specs.calls.DecoderViews.{decoder_view}
+use Rattle.encoding_front.specs.calls.Seeking.{is_sought, sought_pieces, sought_needs}
+use Rattle.encoding_front.specs.calls.Stream.{encoding_after}
+use Rattle.encoding_front.specs.calls.VariantDecoders.{state_of}
 use Rattle.encoding_front.specs.laws.Stream.{widest_by}
 use Rattle.encoding_front.proofs.BomLemmas.{unmarked, untaken, needs_settled}
 use Rattle.encoding_front.proofs.DecoderCallLemmas.{takes_settled, ends_settled, suffices_settled}

@@ -1,5 +1,5 @@
 use Rattle.std.proofs.Common.{ap, sym, ◌∙◌}
-use Rattle.encoding_front.specs.Stream.{encoding_after}
+use Rattle.encoding_front.specs.calls.Stream.{encoding_after}
 use Rattle.encoding_front.specs.laws.Stream.{held_taken}
 use Rattle.encoding_front.proofs.decoder.DecoderStreamDecoder.encoding.Goals as goal
 

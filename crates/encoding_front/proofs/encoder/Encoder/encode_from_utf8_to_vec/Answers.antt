@@ -1,6 +1,6 @@
 use Rattle.std.proofs.Common.{◌-◌, ◌≤◌, length, take, drop, sym, ◌∙◌, ap, subst, arith, vec_capacity}
 use Rattle.std.specs.Str.{chars}
-use Rattle.encoding_front.specs.Encoder.{Replaces}
+use Rattle.encoding_front.specs.calls.Encoder.{Replaces}
 use Rattle.encoding_front.proofs.DestinationLemmas.{spare, vec_written}
 use Rattle.encoding_front.proofs.encoder.Encoder.encode_from_utf8_to_vec.Goals as goal
 

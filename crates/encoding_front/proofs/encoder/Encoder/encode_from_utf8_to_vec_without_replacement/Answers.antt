@@ -1,7 +1,7 @@
 use Rattle.std.proofs.Common.{◌-◌, ◌≤◌, length, take, drop, sym, ◌∙◌, ap, subst, arith, vec_capacity, vec_len}
 use Rattle.std.proofs.lemmas.List.{length-take-le}
 use Rattle.std.specs.Str.{chars}
-use Rattle.encoding_front.specs.Encoder.{Encoded}
+use Rattle.encoding_front.specs.calls.Encoder.{Encoded}
 use Rattle.encoding_front.proofs.DestinationLemmas.{spare, vec_written}
 use Rattle.encoding_front.proofs.encoder.Encoder.encode_from_utf8_to_vec_without_replacement.Goals as goal
 

@@ -1,5 +1,5 @@
 use Rattle.std.proofs.Common.{◌∙◌, false, length, refl, ap, arith}
-use Rattle.encoding_front.specs.Encoder.{EncoderState, queried_with_kept}
+use Rattle.encoding_front.specs.calls.Encoder.{EncoderState, queried_with_kept}
 use Rattle.encoding_front.proofs.ReferenceLemmas.{all_bytes, all_told, one_more}
 use Rattle.encoding_front.proofs.encoding.Encoding.encode.Goals as goal
 

@@ -1,6 +1,6 @@
 use Rattle.std.proofs.Common.{◌≡◌, ◌≤◌, false, None, length}
 use Rattle.std.specs.Str.{IsUtf8, chars}
-use Rattle.encoding_front.specs.Encoder.{queried_with_kept}
+use Rattle.encoding_front.specs.calls.Encoder.{queried_with_kept}
 use Rattle.encoding_front.proofs.ReferenceLemmas.{Passed}
 use Rattle.encoding_front.proofs.encoding.Encoding.encode.Given as goal
 

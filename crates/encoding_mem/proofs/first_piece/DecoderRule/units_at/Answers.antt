@@ -1,7 +1,7 @@
 use Rattle.std.proofs.Common.{◌≡◌, ◌+◌, ℕ, [], true, false, length, refl, ap, arith}
 use Rattle.std.proofs.lemmas.Str.{chars-encodes}
-use Rattle.encoding_mem.specs.Text.{text_len}
-use Rattle.encoding_mem.specs.Writing.{encode_utf16_all}
+use Rattle.encoding_mem.specs.calls.TextRun.{text_len}
+use Rattle.encoding_mem.specs.calls.Writing.{encode_utf16_all}
 use Rattle.encoding_mem.specs.declared.room.OutputUnit.TheVariants.{Units, Bytes, Replaced}
 use Rattle.encoding_mem.proofs.first_piece.DecoderRule.units_at.Goals as goal
 

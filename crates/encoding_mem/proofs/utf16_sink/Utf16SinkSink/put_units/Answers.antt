@@ -1,6 +1,6 @@
 use Rattle.std.proofs.Common.{ap, arith, length}
 use Rattle.std.proofs.lemmas.Str.{chars-encodes}
-use Rattle.encoding_mem.specs.Writing.{encode_utf16_all}
+use Rattle.encoding_mem.specs.calls.Writing.{encode_utf16_all}
 use Rattle.encoding_mem.specs.laws.Writing.{adds-length}
 use Rattle.encoding_mem.specs.laws.UnitRun.{plain_scalars, units_alone}
 use Rattle.encoding_mem.proofs.utf16_sink.Utf16SinkSink.put_units.Goals as goal

@@ -1,6 +1,6 @@
 use Rattle.std.proofs.Common.{◌≡◌, ◌-◌, ◌<◌, sym, ap, ◌∙◌, None, Some, subst}
 use Rattle.encoding_tables.specs.Lookups.{last_pointer}
-use Rattle.encoding_tables.specs.SortedRows.{row_at}
+use Rattle.encoding_tables.specs.calls.SortedRows.{row_at}
 use Rattle.encoding_tables.proofs.RowLemmas.{last_here, last_nowhere}
 use Rattle.encoding_tables.proofs.flat.Flat.last_pointer.Goals as goal
 use Rattle.encoding_tables.proofs.flat.Flat.last_pointer.Goals.{else-first-entry-via-then-first-entry+else-pointer-from, else-first-entry-via-else-first-entry}

@@ -1,6 +1,6 @@
 use Rattle.std.proofs.Common.{◌≡◌, ◌<◌, ◌+◌, ◌∙◌, arith, length, subst, Some, None, get_or}
-use Rattle.encoding_tables.specs.PackedLists.{IsSecond}
-use Rattle.encoding_tables.specs.SortedRows.{AreRising, IsDirectory, IsTight, row_at}
+use Rattle.encoding_tables.specs.calls.PackedLists.{IsSecond}
+use Rattle.encoding_tables.specs.calls.SortedRows.{AreRising, IsDirectory, IsTight, row_at}
 use Rattle.encoding_tables.proofs.SearchLemmas.{second_at_place, none_at_place}
 use Rattle.encoding_tables.proofs.pointer_rows.PointerRows.second.Goals as goal
 

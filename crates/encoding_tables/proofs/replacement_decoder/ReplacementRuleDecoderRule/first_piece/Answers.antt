@@ -1,5 +1,5 @@
 use Rattle.std.proofs.Common.{true, length, subst}
-use Rattle.encoding_mem.specs.DecoderRule.{TellsFirstPiece, HasRoomFor}
+use Rattle.encoding_mem.specs.calls.DecoderRule.{TellsFirstPiece, HasRoomFor}
 use Rattle.encoding_tables.specs.Replacement.{pieces_replacement}
 use Rattle.encoding_tables.specs.laws.Replacement.{decide_replacement, replacement_first_piece, replacement_needs, replacement_roomy}
 use Rattle.encoding_tables.proofs.replacement_decoder.ReplacementRuleDecoderRule.first_piece.Goals as goal

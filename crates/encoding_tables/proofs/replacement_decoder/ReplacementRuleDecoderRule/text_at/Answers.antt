@@ -1,4 +1,4 @@
-use Rattle.encoding_mem.specs.DecodedLength.{is_units}
+use Rattle.encoding_mem.specs.calls.DecodedLength.{is_units}
 use Rattle.encoding_tables.specs.Replacement.{pieces_replacement}
 use Rattle.encoding_tables.specs.laws.Replacement.{replacement_needs}
 use Rattle.encoding_tables.proofs.ReplacementLemmas.{no_pieces, no_room}

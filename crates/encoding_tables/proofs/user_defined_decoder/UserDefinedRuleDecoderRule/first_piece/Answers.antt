@@ -1,5 +1,5 @@
 use Rattle.std.proofs.Common.{subst, length, lit<}
-use Rattle.encoding_mem.specs.DecoderRule.{TellsFirstPiece}
+use Rattle.encoding_mem.specs.calls.DecoderRule.{TellsFirstPiece}
 use Rattle.encoding_mem.specs.laws.DecodedLength.{roomy_basic}
 use Rattle.encoding_mem.specs.declared.first_piece.FirstPiece.TheVariants.{One}
 use Rattle.encoding_tables.specs.laws.EachByte.{first_piece_of_byte, first_piece_by_first}

@@ -1,4 +1,4 @@
-use Rattle.encoding_mem.specs.DecodedLength.{is_units, decoded_length, decoded_length_utf16}
+use Rattle.encoding_mem.specs.calls.DecodedLength.{is_units, decoded_length, decoded_length_utf16}
 use Rattle.encoding_tables.specs.Utf16.{pieces_utf16}
 use Rattle.encoding_tables.proofs.ReplacementLemmas.{no_pieces, no_room}
 use Rattle.encoding_tables.proofs.utf16_decoder.Utf16RuleDecoderRule.text_at.Goals as goal

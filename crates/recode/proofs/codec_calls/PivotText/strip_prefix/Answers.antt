@@ -1,7 +1,7 @@
 use Rattle.std.proofs.Common.{◌∙◌, ap, refl, sym, ◌++◌}
 use Rattle.std.specs.Str.{encode_utf8_all}
 use Rattle.std.proofs.lemmas.Str.{encodes-append}
-use Rattle.encoding_mem.specs.Writing.{encode_utf16_all}
+use Rattle.encoding_mem.specs.calls.Writing.{encode_utf16_all}
 use Rattle.encoding_mem.specs.laws.Writing.{encode_utf16_all-append}
 use Rattle.recode.proofs.PivotLemmas.{begins_spelled, bytes_left, no_start, starts, units_left}
 use Rattle.recode.proofs.codec_calls.PivotText.strip_prefix.Goals as goal

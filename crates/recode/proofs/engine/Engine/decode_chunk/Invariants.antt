@@ -1,8 +1,8 @@
 use Rattle.std.proofs.Common.{◌≡◌, length}
-use Rattle.recode.specs.Buffers.{KeepsRoom}
-use Rattle.recode.specs.Chunk.{ConvertsTo, CanConvert}
-use Rattle.recode.specs.EngineState.{engine_state}
-use Rattle.recode.specs.Writers.{AreTheSame, written_by}
+use Rattle.recode.specs.calls.Buffers.{KeepsRoom}
+use Rattle.recode.specs.calls.Chunk.{ConvertsTo, CanConvert}
+use Rattle.recode.specs.calls.EngineState.{engine_state}
+use Rattle.recode.specs.calls.Writers.{AreTheSame, written_by}
 use Rattle.recode_log.specs.Counted.{failures_of}
 use Rattle.recode.proofs.engine.Engine.decode_chunk.Given as goal
 

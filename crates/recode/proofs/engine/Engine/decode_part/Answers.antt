@@ -1,14 +1,14 @@
 use Rattle.std.proofs.Common.{◌∙◌, ◌+◌, arith, refl, sym, length}
-use Rattle.recode.specs.Policy.{form_of}
+use Rattle.recode.specs.Policy.{reference_form}
 use Rattle.recode.proofs.ChunkLemmas.{empty_part, full_part, malformed_part}
 use Rattle.recode.proofs.TextLemmas.{text_pays, text_set}
 use Rattle.recode.proofs.TraceLemmas.{hands_on_for, WritesPrefixFor-of, WritesItems-join-under}
 use Rattle.recode.proofs.DecoderCallLemmas.{some_written, empty_call, full_call, malformed_call, end_none, well_formed_fits, ended_prefix, full_owed, malformed_fits, malformed_offset, malformed_text_prefix, malformed_first_piece}
 use Rattle.encoding_mem.specs.Coding.{last_set}
-use Rattle.recode.specs.EngineState.{engine_state}
-use Rattle.recode.specs.PivotText.{pivot_chars}
+use Rattle.recode.specs.calls.EngineState.{engine_state}
+use Rattle.recode.specs.calls.PivotText.{pivot_chars}
 use Rattle.recode.proofs.PivotLemmas.{holds_some}
-use Rattle.recode.specs.VerdictView.{verdict_view}
+use Rattle.recode.specs.calls.VerdictView.{verdict_view}
 use Rattle.recode.proofs.VerdictLemmas.{next_tells}
 use Rattle.recode.proofs.engine.Engine.decode_part.Goals as goal
 
@@ -20,19 +20,19 @@ returns-in_err-encode_text-in-InputEmpty-clause-err g c =
     let k = empty_call (g.D.StreamDecoder.view c.args.self.now.decoder).state (g.D.StreamDecoder.view c.decode_to_pivot-call.new.decoder).state _ _ _ _ _ (rw c.in-InputEmpty.is at c.decode_to_pivot-call.ensures.law) c.text_in-text.ensures.chars in
     let ends = rw c.in-InputEmpty.is at c.decode_to_pivot-call.ensures.ends in
     hands_on_for _ _ _ _ _ _ _ c.from_residual.ensures.1 (WritesPrefixFor-of _ _ _ _ _ _ _ c.in_err-encode_text-in-InputEmpty.ensures.err
-    (ended_prefix (form_of c.args.writers.now.policy) _ _ _ _ _ _ k (g.E.RawEncoder.parts c.args.self.now.target.encoder).coding (g.E.RawEncoder.parts c.args.self.now.target.encoder).set c.args.self.now.target.counts (omega (arith, c.requires.ready.sound.index)) ends.0 (end_none _ ends.1)))
+    (ended_prefix (reference_form c.args.writers.now.policy) _ _ _ _ _ _ k (g.E.RawEncoder.parts c.args.self.now.target.encoder).coding (g.E.RawEncoder.parts c.args.self.now.target.encoder).set c.args.self.now.target.counts (omega (arith, c.requires.ready.sound.index)) ends.0 (end_none _ ends.1)))
 
 pub returns-in_err-encode_text-in-OutputFull-clause-err : goal.returns-in_err-encode_text-in-OutputFull-clause-err
 returns-in_err-encode_text-in-OutputFull-clause-err g c =
     let k = full_call (g.D.StreamDecoder.view c.args.self.now.decoder).state (g.D.StreamDecoder.view c.decode_to_pivot-call.new.decoder).state _ _ _ _ _ (rw c.in-OutputFull.is at c.decode_to_pivot-call.ensures.law) c.text_in-text.ensures.chars in
     hands_on_for _ _ _ _ _ _ _ c.from_residual-in_err-encode_text-in-OutputFull.ensures.1 (WritesPrefixFor-of _ _ _ _ _ _ _ c.in_err-encode_text-in-OutputFull.ensures.err
-    (λ r h. (_, full_owed (form_of c.args.writers.now.policy) _ _ _ _ _ _ k (g.E.RawEncoder.parts c.args.self.now.target.encoder).coding (g.E.RawEncoder.parts c.args.self.now.target.encoder).set (last_set (g.E.RawEncoder.parts c.args.self.now.target.encoder).coding (g.E.RawEncoder.parts c.args.self.now.target.encoder).set (pivot_chars c.text_in-text.result)) c.args.self.now.target.counts (record c.args.self.now.target.counts { read = c.args.self.now.target.counts.read + c.decode_to_pivot-call.result.read; index = c.args.self.now.target.counts.index + length (pivot_chars c.text_in-text.result) }) (omega (arith, c.requires.ready.sound.index)) refl refl refl r h)))
+    (λ r h. (_, full_owed (reference_form c.args.writers.now.policy) _ _ _ _ _ _ k (g.E.RawEncoder.parts c.args.self.now.target.encoder).coding (g.E.RawEncoder.parts c.args.self.now.target.encoder).set (last_set (g.E.RawEncoder.parts c.args.self.now.target.encoder).coding (g.E.RawEncoder.parts c.args.self.now.target.encoder).set (pivot_chars c.text_in-text.result)) c.args.self.now.target.counts (record c.args.self.now.target.counts { read = c.args.self.now.target.counts.read + c.decode_to_pivot-call.result.read; index = c.args.self.now.target.counts.index + length (pivot_chars c.text_in-text.result) }) (omega (arith, c.requires.ready.sound.index)) refl refl refl r h)))
 
 pub returns-in_err-encode_text-in-Malformed-clause-err : goal.returns-in_err-encode_text-in-Malformed-clause-err
 returns-in_err-encode_text-in-Malformed-clause-err g c =
     let k = malformed_call (g.D.StreamDecoder.view c.args.self.now.decoder).state (g.D.StreamDecoder.view c.decode_to_pivot-call.new.decoder).state _ _ _ _ _ _ _ (rw c.in-Malformed.is at c.decode_to_pivot-call.ensures.law) c.text_in-text.ensures.chars in
     hands_on_for _ _ _ _ _ _ _ c.from_residual-in_err-encode_text-in-Malformed.ensures.1 (WritesPrefixFor-of _ _ _ _ _ _ _ c.in_err-encode_text-in-Malformed.ensures.err
-    (malformed_text_prefix _ _ _ _ _ _ _ _ k (form_of c.args.writers.now.policy) (g.E.RawEncoder.parts c.args.self.now.target.encoder).coding (g.E.RawEncoder.parts c.args.self.now.target.encoder).set c.args.self.now.target.counts (omega (arith, c.requires.ready.sound.index))))
+    (malformed_text_prefix _ _ _ _ _ _ _ _ k (reference_form c.args.writers.now.policy) (g.E.RawEncoder.parts c.args.self.now.target.encoder).coding (g.E.RawEncoder.parts c.args.self.now.target.encoder).set c.args.self.now.target.counts (omega (arith, c.requires.ready.sound.index))))
 
 pub overflow_sub-offset-in-Malformed : goal.overflow_sub-offset-in-Malformed
 overflow_sub-offset-in-Malformed g c =
@@ -59,7 +59,7 @@ returns-in_err-log_malformed-in-Malformed-clause-err g c =
     let k = malformed_call (g.D.StreamDecoder.view c.args.self.now.decoder).state (g.D.StreamDecoder.view c.decode_to_pivot-call.new.decoder).state _ _ _ _ _ _ _ (rw c.in-Malformed.is at c.decode_to_pivot-call.ensures.law) c.text_in-text.ensures.chars in
     hands_on_for _ _ _ _ _ _ _ c.from_residual-in_err-log_malformed-in-Malformed.ensures.1 (WritesPrefixFor-of _ _ _ _ _ _ _
     (WritesItems-join-under _ _ _ _ _ _ _ _ _ (text_pays _ _ _ _ _ _ c.in_ok-encode_text-in-Malformed.ensures.text _ (g.met.E.RawEncoder.laws c.args.self.now.target.encoder)) (rw (c.encode_text-in-Malformed.ensures.target, c.in_ok-encode_text-in-Malformed.ensures.failures.same.policy) at c.in_err-log_malformed-in-Malformed.ensures.err))
-    (malformed_first_piece _ _ _ _ _ _ _ _ k (form_of c.args.writers.now.policy) (g.E.RawEncoder.parts c.args.self.now.target.encoder).coding (g.E.RawEncoder.parts c.args.self.now.target.encoder).set (g.E.RawEncoder.parts c.encode_text-in-Malformed.new.self.encoder).set c.args.self.now.target.counts c.encode_text-in-Malformed.new.self.counts _ (omega (arith, c.requires.ready.sound.index)) (omega (arith, c.from.ensures, c.from-in-Malformed.ensures, c.in_ok-encode_text-in-Malformed.ensures.text.encodes.read)) (text_set _ _ _ _ _ _ c.in_ok-encode_text-in-Malformed.ensures.text refl) (omega (arith, c.in_ok-encode_text-in-Malformed.ensures.text.encodes.index))))
+    (malformed_first_piece _ _ _ _ _ _ _ _ k (reference_form c.args.writers.now.policy) (g.E.RawEncoder.parts c.args.self.now.target.encoder).coding (g.E.RawEncoder.parts c.args.self.now.target.encoder).set (g.E.RawEncoder.parts c.encode_text-in-Malformed.new.self.encoder).set c.args.self.now.target.counts c.encode_text-in-Malformed.new.self.counts _ (omega (arith, c.requires.ready.sound.index)) (omega (arith, c.from.ensures, c.from-in-Malformed.ensures, c.in_ok-encode_text-in-Malformed.ensures.text.encodes.read)) (text_set _ _ _ _ _ _ c.in_ok-encode_text-in-Malformed.ensures.text refl) (omega (arith, c.in_ok-encode_text-in-Malformed.ensures.text.encodes.index))))
 
 pub returns-in_ok-encode_text-in-InputEmpty-clause-part : goal.returns-in_ok-encode_text-in-InputEmpty-clause-part
 returns-in_ok-encode_text-in-InputEmpty-clause-part g c =

@@ -1,26 +1,26 @@
 use Rattle.std.proofs.Common.{◌+◌, ◌-◌, ◌∙◌, arith, refl, sym, ap, length, length-append, map, inl, inr, rules, true≢false}
 use Rattle.recode.proofs.TraceLemmas.{writes_bytes, under_bytes, WritesItems-trans, WritesItems-under, hands_on, whole_end}
 use Rattle.recode.proofs.EncoderCallLemmas.{turn_items, less_bytes, less_note}
-use Rattle.recode.specs.Policy.{form_of}
-use Rattle.encoding_mem.specs.EncoderRule.{EncoderParts}
-use Rattle.encoding_mem.specs.Coding.{reference}
+use Rattle.recode.specs.Policy.{reference_form}
+use Rattle.encoding_mem.specs.calls.EncoderRule.{EncoderParts}
+use Rattle.encoding_mem.specs.Coding.{reference_bytes}
 use Rattle.encoding_mem.specs.laws.Encoding.{encoded_items}
 use Rattle.encoding_mem.specs.declared.encoder_result.EncoderResult.TheVariants.{InputEmpty, OutputFull, Unmappable}
 use Rattle.encoding_mem.specs.Items.{Byte, LostAt, whole_items}
-use Rattle.recode.specs.PivotText.{pivot_chars}
+use Rattle.recode.specs.calls.PivotText.{pivot_chars}
 use Rattle.recode.specs.declared.target.Counts.{Counts}
-use Rattle.recode.specs.Verdict.{VerdictView}
-use Rattle.recode.specs.VerdictView.{verdict_view}
+use Rattle.recode.specs.calls.Verdict.{VerdictView}
+use Rattle.recode.specs.calls.VerdictView.{verdict_view}
 use Rattle.recode.proofs.TextLemmas.{one_taken}
 use Rattle.recode.proofs.VerdictLemmas.{end_tells, full_tells, lost_tells, read_keeps, read_tells, unmapped_keeps}
 use Rattle.recode.proofs.target.Target.encode_part.Goals as goal
 
 pub returns-in_err-deliver-clause-err : goal.returns-in_err-deliver-clause-err
-returns-in_err-deliver-clause-err g c = hands_on _ _ _ _ _ _ c.from_residual.ensures.1 (under_bytes _ _ _ _ _ _ _ _ _ c.in_err-deliver.ensures.fault c.in_err-deliver.ensures.err.2 ((encoded_items (form_of c.args.writers.now.policy) _ _ _ _ _ _ _ _ (g.met.E.RawEncoder.laws c.args.self.now.encoder) c.encode_from_pivot-call.ensures.call.law).items c.args.self.now.counts.index))
+returns-in_err-deliver-clause-err g c = hands_on _ _ _ _ _ _ c.from_residual.ensures.1 (under_bytes _ _ _ _ _ _ _ _ _ c.in_err-deliver.ensures.fault c.in_err-deliver.ensures.err.2 ((encoded_items (reference_form c.args.writers.now.policy) _ _ _ _ _ _ _ _ (g.met.E.RawEncoder.laws c.args.self.now.encoder) c.encode_from_pivot-call.ensures.call.law).items c.args.self.now.counts.index))
 
 pub returns-in_err-log_lost-in-Unmappable-clause-err : goal.returns-in_err-log_lost-in-Unmappable-clause-err
 returns-in_err-log_lost-in-Unmappable-clause-err g c =
-    let law = turn_items (form_of c.args.writers.now.policy) _ _ _ _ _ _ _ _ c.args.self.now.counts.index (c.args.self.now.counts.index + c.encode_from_pivot-call.result.characters) (g.met.E.RawEncoder.laws c.args.self.now.encoder) c.encode_from_pivot-call.ensures.call.law (omega (arith, c.encode_from_pivot-call.ensures.passed)) in
+    let law = turn_items (reference_form c.args.writers.now.policy) _ _ _ _ _ _ _ _ c.args.self.now.counts.index (c.args.self.now.counts.index + c.encode_from_pivot-call.result.characters) (g.met.E.RawEncoder.laws c.args.self.now.encoder) c.encode_from_pivot-call.ensures.call.law (omega (arith, c.encode_from_pivot-call.ensures.passed)) in
     hands_on _ _ _ _ _ _ c.from_residual-in_err-log_lost-in-Unmappable.ensures.1 (WritesItems-under _ _ _ c.args.self.now.counts (record c.args.self.now.counts { index = c.args.self.now.counts.index + c.encode_from_pivot-call.result.characters; calls = c.encode_from_pivot-call.new.calls }) _ _ _ _
     (writes_bytes _ _ _ _ _ _ _ _ _ c.in_ok-deliver.ensures.ok.0 refl refl (rw c.in-Unmappable.is at law))
     (c.in_err-log_lost-in-Unmappable.ensures.err _))
@@ -36,7 +36,7 @@ returns-in-InputEmpty-clause-part g c =
     let v = verdict_view g.D.StreamDecoder.view c.args.self.now.verdict in
     let t = pivot_chars c.args.text in
     let rest = pivot_chars call.result.rest in
-    let law = turn_items (form_of c.args.writers.now.policy) _ _ _ _ _ _ _ _ c.args.self.now.counts.index (c.args.self.now.counts.index + call.result.characters) (g.met.E.RawEncoder.laws c.args.self.now.encoder) call.ensures.call.law (omega (arith, call.ensures.passed)) in
+    let law = turn_items (reference_form c.args.writers.now.policy) _ _ _ _ _ _ _ _ c.args.self.now.counts.index (c.args.self.now.counts.index + call.result.characters) (g.met.E.RawEncoder.laws c.args.self.now.encoder) call.ensures.call.law (omega (arith, call.ensures.passed)) in
     let parts = (call.ensures.parts c.requires.text).parts in
     let back = c.read_back.ensures.verdict in
     let v' = verdict_view g.D.StreamDecoder.view c.read_back.new.self in
@@ -53,7 +53,7 @@ returns-in-InputEmpty-clause-part g c =
               read = refl;
               target = refl;
               policy = refl;
-              set = λ on. (encoded_items (form_of c.args.writers.now.policy) _ _ InputEmpty _ _ _ _ _ laws encodes).sets on;
+              set = λ on. (encoded_items (reference_form c.args.writers.now.policy) _ _ InputEmpty _ _ _ _ _ laws encodes).sets on;
               by_log = back.by_log;
               stays = λ lost. ap (λ (u : VerdictView). u.faithful) (back.kept (inr lost)) ∙ lost;
               verdict = read_keeps coding _ laws c.args.last InputEmpty v v' s t _ s1 rest (pivot_chars call.result.read) c.requires.text.scalars encodes (λ m h. cc) parts back c.requires.ready.tells;
@@ -64,7 +64,7 @@ returns-in-InputEmpty-clause-part g c =
                 call.ensures.passed,
                 ap length parts,
                 length-append (pivot_chars call.result.read) rest,
-                ap length (whole_end (form_of c.args.writers.now.policy) coding c.args.last s1 (c.args.self.now.counts.index + call.result.characters) rest laws ends.0 ends.1),
+                ap length (whole_end (reference_form c.args.writers.now.policy) coding c.args.last s1 (c.args.self.now.counts.index + call.result.characters) rest laws ends.0 ends.1),
               );
               least = λ under.
                   let later = c.read_back.ensures.calls.at_least under in
@@ -92,7 +92,7 @@ returns-in-InputEmpty-clause-part g c =
               read = refl;
               target = refl;
               policy = refl;
-              set = λ on. (encoded_items (form_of c.args.writers.now.policy) _ _ OutputFull _ _ _ _ _ laws encodes).sets on;
+              set = λ on. (encoded_items (reference_form c.args.writers.now.policy) _ _ OutputFull _ _ _ _ _ laws encodes).sets on;
               by_log = back.by_log;
               stays = λ lost. ap (λ (u : VerdictView). u.faithful) (back.kept (inr lost)) ∙ lost;
               verdict = read_keeps coding _ laws c.args.last OutputFull v v' s t _ s1 rest (pivot_chars call.result.read) c.requires.text.scalars encodes (λ m h. cc) parts back c.requires.ready.tells;
@@ -120,22 +120,22 @@ returns-in_ok-log_lost-in-Unmappable-clause-part g c =
     let v = verdict_view g.D.StreamDecoder.view c.args.self.now.verdict in
     let t = pivot_chars c.args.text in
     let rest = pivot_chars call.result.rest in
-    let law = turn_items (form_of c.args.writers.now.policy) _ _ _ _ _ _ _ _ c.args.self.now.counts.index (c.args.self.now.counts.index + call.result.characters) (g.met.E.RawEncoder.laws c.args.self.now.encoder) call.ensures.call.law (omega (arith, call.ensures.passed)) in
+    let law = turn_items (reference_form c.args.writers.now.policy) _ _ _ _ _ _ _ _ c.args.self.now.counts.index (c.args.self.now.counts.index + call.result.characters) (g.met.E.RawEncoder.laws c.args.self.now.encoder) call.ensures.call.law (omega (arith, call.ensures.passed)) in
     let encodes = rw c.in-Unmappable.is at call.ensures.call.law in
     let f = c.in_ok-log_lost-in-Unmappable.ensures in
-    let less = less_note _ _ _ (LostAt ((c.args.self.now.counts.index + call.result.characters) - 1) c.in-Unmappable.scalar) (map Byte (reference (form_of c.args.writers.now.policy) c.in-Unmappable.scalar)) (rw c.in-Unmappable.is at law) in
+    let less = less_note _ _ _ (LostAt ((c.args.self.now.counts.index + call.result.characters) - 1) c.in-Unmappable.scalar) (map Byte (reference_bytes (reference_form c.args.writers.now.policy) c.in-Unmappable.scalar)) (rw c.in-Unmappable.is at law) in
     let c1 : Counts = record c.args.self.now.counts { index = c.args.self.now.counts.index + call.result.characters; calls = call.new.calls } in
     rw (f.encoder, f.failures.same.policy, f.verdict, f.counts, target, c.in-Unmappable.is) (record {
       encodes = record {
         pays = WritesItems-trans _ _ _ c.args.self.now.counts c1 _ _ _ _ _
-            (writes_bytes _ _ _ _ _ _ _ _ _ c.in_ok-deliver.ensures.ok.0 refl refl (rw c.in-Unmappable.is at law)) (rw f.counts at (f.pays (whole_items (form_of c.args.writers.now.policy) coding c.args.last s1 c1.index rest)));
+            (writes_bytes _ _ _ _ _ _ _ _ _ c.in_ok-deliver.ensures.ok.0 refl refl (rw c.in-Unmappable.is at law)) (rw f.counts at (f.pays (whole_items (reference_form c.args.writers.now.policy) coding c.args.last s1 c1.index rest)));
         index = search rules;
         lost = omega (arith, c.requires.ready.lost, call.ensures.passed, one_taken _ _ _ _ _ _ _ _ encodes);
         bad = refl;
         read = refl;
         target = refl;
         policy = refl;
-        set = λ on. (encoded_items (form_of c.args.writers.now.policy) _ _ (Unmappable _) _ _ _ _ _ laws encodes).sets tt;
+        set = λ on. (encoded_items (reference_form c.args.writers.now.policy) _ _ (Unmappable _) _ _ _ _ _ laws encodes).sets tt;
         by_log = refl;
         stays = λ lost. refl;
         verdict = unmapped_keeps coding _ laws c.args.last _ v s t _ s1 rest c.requires.text.scalars encodes c.requires.ready.tells;

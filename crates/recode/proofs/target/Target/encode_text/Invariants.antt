@@ -1,10 +1,10 @@
 use Rattle.std.proofs.Common.{◌≡◌, length}
-use Rattle.recode.specs.Buffers.{KeepsRoom}
-use Rattle.recode.specs.Text.{EncodesTo, text_items}
-use Rattle.recode.specs.EngineState.{target_state}
-use Rattle.recode.specs.Writers.{AreTheSame, written_by}
-use Rattle.recode.specs.PivotText.{is_in_units, pivot_chars, IsWholeText}
-use Rattle.recode.specs.Verdict.{CanTell, NeedsForm}
+use Rattle.recode.specs.calls.Buffers.{KeepsRoom}
+use Rattle.recode.specs.calls.Text.{EncodesTo, text_items}
+use Rattle.recode.specs.calls.EngineState.{target_state}
+use Rattle.recode.specs.calls.Writers.{AreTheSame, written_by}
+use Rattle.recode.specs.calls.PivotText.{is_in_units, pivot_chars, IsWholeText}
+use Rattle.recode.specs.calls.Verdict.{CanTell, NeedsForm}
 use Rattle.recode_log.specs.Counted.{failures_of}
 use Rattle.recode.proofs.target.Target.encode_text.Given as goal
 

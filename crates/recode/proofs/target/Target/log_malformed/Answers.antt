@@ -1,12 +1,12 @@
 use Rattle.std.proofs.Common.{◌+◌, arith, refl, ap, length, false, [], ◌∷◌}
-use Rattle.recode.specs.Policy.{form_of}
+use Rattle.recode.specs.Policy.{reference_form}
 use Rattle.encoding_mem.specs.Items.{MalformedAt, open_items, whole_items}
 use lib.Utf8.{encode}
 use Rattle.std.proofs.lemmas.Bool.{false≢true}
 use Rattle.std.specs.Str.{chars}
 use Rattle.recode.proofs.TraceLemmas.{under_line, wrote_malformed, writes_malformed, WritesItems-under, WritesPrefix-of, hands_on}
 use Rattle.recode.proofs.DecoderCallLemmas.{replacement_text, open_replacement}
-use Rattle.recode.specs.VerdictView.{verdict_view}
+use Rattle.recode.specs.calls.VerdictView.{verdict_view}
 use Rattle.recode.proofs.VerdictLemmas.{lost_tells}
 use Rattle.recode.proofs.target.Target.log_malformed.Goals as goal
 
@@ -18,9 +18,9 @@ returns-in_err-encode_text-clause-err g c =
     let e = (g.E.RawEncoder.parts c.args.self.now.encoder).coding in
     let s = (g.E.RawEncoder.parts c.args.self.now.encoder).set in
     let i = c.args.self.now.counts.index in
-    hands_on _ _ _ _ _ _ c.from_residual-in_err-encode_text.ensures.1 (WritesItems-under _ _ _ c.args.self.now.counts (record c.args.self.now.counts { bad = c.args.self.now.counts.bad + 1 }) _ _ _ (open_items (form_of c.args.writers.now.policy) e s i (0xFFFD ∷ []))
+    hands_on _ _ _ _ _ _ c.from_residual-in_err-encode_text.ensures.1 (WritesItems-under _ _ _ c.args.self.now.counts (record c.args.self.now.counts { bad = c.args.self.now.counts.bad + 1 }) _ _ _ (open_items (reference_form c.args.writers.now.policy) e s i (0xFFFD ∷ []))
     (writes_malformed _ _ _ _ _ _ _ _ _ c.in_ok-log_line.ensures.ok.0 refl refl)
-    (WritesPrefix-of _ _ _ _ (whole_items (form_of c.args.writers.now.policy) e false s i (chars (239 ∷ 191 ∷ 189 ∷ []))) _ (open_replacement (form_of c.args.writers.now.policy) e s i) c.in_err-encode_text.ensures.err))
+    (WritesPrefix-of _ _ _ _ (whole_items (reference_form c.args.writers.now.policy) e false s i (chars (239 ∷ 191 ∷ 189 ∷ []))) _ (open_replacement (reference_form c.args.writers.now.policy) e s i) c.in_err-encode_text.ensures.err))
 
 pub encode_text-requires-clause-text : goal.encode_text-requires-clause-text
 unfolding encode

@@ -5,7 +5,7 @@ use Rattle.recode.proofs.BufferLemmas.{room_on, room_start}
 use Rattle.recode.proofs.CompareLemmas.{compares_differing, compares_end, compares_malformed, compares_more, compares_start}
 use Rattle.recode.proofs.WorkLemmas.{counted_more}
 use Rattle.recode.proofs.PivotLemmas.{holds_some}
-use Rattle.recode.specs.PivotText.{pivot_chars}
+use Rattle.recode.specs.calls.PivotText.{pivot_chars}
 use Rattle.recode.proofs.verdict.Verdict.compare.Goals as goal
 
 pub parts-init : goal.parts-init

@@ -1,0 +1,18 @@
+-- The words for the decoder of any encoding, without mark handling.
+use Rattle.encoding_mem.specs.calls.Decoding.{DecoderState}
+use Rattle.encoding_front.specs.calls.Latin1Prefix.{Latin1Rule, by_ascii, by_index, by_mode, untold}
+use Rattle.encoding_front.specs.contracts.variant_decoder.VariantDecoderSinkDecoder.TheImpl.{state-value}
+use Rattle.encoding_front.specs.declared.variant_decoder.VariantDecoder.{VariantDecoder}
+use Rattle.encoding_front.specs.declared.variant_decoder.VariantDecoder.TheVariants.{Iso2022Jp, Replacement, SingleByte, Utf16}
+
+-- the state of the decoder of any encoding, without mark handling
+abbrev pub state_of : VariantDecoder → DecoderState
+state_of d = (state-value).it d
+
+-- by which rule it tells how far bytes are their characters in Latin1
+abbrev pub rule_of : VariantDecoder → Latin1Rule
+rule_of (SingleByte d) = by_index
+rule_of (Iso2022Jp d) = by_mode
+rule_of (Utf16 d) = untold
+rule_of (Replacement d) = untold
+rule_of _ = by_ascii

@@ -1,0 +1,34 @@
+-- What the two writers of a conversion have, and how the counts of their failed calls rise.
+use Rattle.std.specs.Prelude.{◌≡◌, ℕ, ◌+◌, ◌-◌, ◌^◌, ◌<◌, nat_eq, length, Bool, List, Option, Result}
+use Rattle.recode_log.specs.Counted.{failures_of}
+use Rattle.recode.specs.Devices.{Written, written_in}
+use Rattle.recode.specs.Fault.{log_failures, of_other, reader_failures, writer_failures}
+use Rattle.recode.specs.declared.job.Fault.{Fault}
+use Rattle.recode.specs.declared.writers.Writers.{Writers}
+
+-- the bytes that the output's writer and the log have taken so far, as far as each tells it
+abbrev pub written_by : {W L : Type 0} → (W → Option (List ℕ)) → (L → Option (List ℕ)) → Writers W L → Written
+written_by contents logged writers = written_in contents logged writers.output.now writers.log.now
+
+-- One more failed call of each can be counted.
+pub record MayFail {W L : Type 0} (writers : Writers W L) : Type 0 where
+  pub output : failures_of writers.output.now < 2 ^ 64 - 1
+  pub log : failures_of writers.log.now < 2 ^ 64 - 1
+
+-- the writer and the log are the two that they were, and the policy stays
+pub record AreTheSame {W L : Type 0} (before after : Writers W L) : Type 0 where
+  pub output : after.output.ghost_name ≡ before.output.ghost_name
+  pub log : after.log.ghost_name ≡ before.log.ghost_name
+  pub policy : after.policy ≡ before.policy
+
+-- The count of the writer that a fault is of rose by one, and the other stayed. No fault is of another device.
+pub record CountsWriterFault {W L T : Type 0} (before after : Writers W L) (result : Result T Fault) : Type 0 where
+  pub writer : failures_of after.output.now ≡ failures_of before.output.now + writer_failures result
+  pub log : failures_of after.log.now ≡ failures_of before.log.now + log_failures result
+  pub not_reader : reader_failures result ≡ 0
+  pub not_other : of_other result ≡ 0
+  pub same : AreTheSame before after
+
+-- whether what was read is the end of the input: no bytes
+abbrev pub is_end : List ℕ → Bool
+is_end chunk = nat_eq (length chunk) 0

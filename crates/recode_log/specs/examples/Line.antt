@@ -1,0 +1,30 @@
+-- Worked rows of `specs/Line.antt`.
+use Rattle.std.specs.Prelude.{◌≡◌, codes, refl}
+use Rattle.std.specs.Fmt.{digits}
+use Rattle.recode_log.specs.Line.{line_bytes}
+use Rattle.recode_log.specs.declared.line.LogLine.TheVariants.{Bad, Lost}
+
+-- the line `bad 0 3`, of three malformed bytes at the start of an input
+line_bytes-malformed_first : line_bytes (Bad 0 3) ≡ codes "bad 0 3\n"
+unfolding digits
+line_bytes-malformed_first = refl
+
+-- the line `bad 6 1`, of one malformed byte with six bytes before it
+line_bytes-malformed : line_bytes (Bad 6 1) ≡ codes "bad 6 1\n"
+unfolding digits
+line_bytes-malformed = refl
+
+-- the longest valid line of malformed bytes: four of them at the greatest offset, 2^48
+line_bytes-malformed_longest : line_bytes (Bad 281474976710656 4) ≡ codes "bad 281474976710656 4\n"
+unfolding digits
+line_bytes-malformed_longest = refl
+
+-- the line `lost 1 128169`, of a lost U+1F4A9 with one character before it
+line_bytes-lost : line_bytes (Lost 1 128169) ≡ codes "lost 1 128169\n"
+unfolding digits
+line_bytes-lost = refl
+
+-- the longest valid line of a lost character: U+10FFFF at the greatest index, 2^48
+line_bytes-lost_longest : line_bytes (Lost 281474976710656 1114111) ≡ codes "lost 281474976710656 1114111\n"
+unfolding digits
+line_bytes-lost_longest = refl
