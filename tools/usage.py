@@ -4,8 +4,8 @@
     python3 tools/usage.py
 
 The text of the help stands in crates/recode_words/src/command.rt, and nowhere else. What is made of it stands between
-two comments in README.md and in the man page, `NAME` and `end of NAME`: the version, the options, the log, the statuses
-and their messages, the index files. `make lint` compares them.
+two comments in README.md and in the man page, `NAME` and `end of NAME`: the version, the options, names of encodings,
+the log, the statuses and their messages, the index files. `make lint` compares them.
 """
 
 import os
@@ -20,7 +20,10 @@ MAN = "man/recode.1"
 # An option that is made by a call, with its value if it has a default, the name of the value and the help.
 OPTION = re.compile(r'(required|default)_option\(\s*alloc,((?:\s*"[^"]*",?)+)\s*\)')
 # What is code in a sentence of the help without standing in quotes.
-WORDS = re.compile(r"(?<![\w`-])(&#\w+;|--[a-z]+(?: stop)?|utf-8|shift_jis|windows-1252)(?![\w`])")
+WORDS = re.compile(
+    r"(?<![\w`-])(&#\w+;|--[a-z]+(?: stop| keep)?|utf-8|shift_jis|windows-1252|iso-8859-1|ascii|gbk|euc-kr|big5|hz-gb-2312"
+    r"|iso-2022-cn|iso-2022-kr)(?![\w`])"
+)
 # The words that an option takes, where its help has them behind a colon.
 CHOICES = re.compile(r": ((?:\w+, )*\w+ or \w+)")
 # The options that clap makes, and what they ask for.
@@ -74,14 +77,19 @@ class Usage:
         of_from, _, of_to = self.notes["Labels"].rstrip(".").rpartition(". ")
         return {"--from": of_from, "--to": of_to}.get(name, "")
 
+    def names(self):
+        """What is said of names, as a paragraph."""
+        text = self.notes["Names"]
+        return text[0].upper() + text[1:]
+
     def behind(self, word):
         return next(behind for title, (_, behind) in self.lists.items() if word in title)
 
 
 def as_code(text):
     """In Markdown: what is quoted, numbered references, options and labels as code."""
-    text = re.sub(r'"([^"]*)"', r"`\1`", text)
-    return WORDS.sub(r"`\1`", text)
+    parts = re.split(r'"([^"]*)"', text)
+    return "".join("`%s`" % part if number % 2 else WORDS.sub(r"`\1`", part) for number, part in enumerate(parts))
 
 
 def table(*rows):
@@ -97,6 +105,7 @@ def option_row(usage, name, value, default, text):
 
 
 def readme_parts(usage):
+    yield "names", [as_code(usage.names())]
     words, said = OWN_OF_CLAP
     rows = [*(option_row(usage, *o) for o in usage.options), (", ".join("`%s`" % word for word in words), said, "")]
     lines = table(("Option", "What it asks for", "Default"), *rows)
@@ -158,6 +167,7 @@ def man_parts(usage):
     for word, said in usage.list_of("Message"):
         lines += man_item(".B " + word, said)
     yield "messages", lines
+    yield "names", [roff(usage.names())]
     files = usage.notes["Index files"]
     yield "files", [roff(files[0].upper() + files[1:])]
 

@@ -18,6 +18,12 @@ const AFTER_HELP: &str =
     "Labels: LABEL is any of the Encoding Standard's, in upper or lower case, as utf-8, shift_jis or
 windows-1252. UTF-16 and replacement are written as UTF-8.
 
+Names: a label means what the standard says, so iso-8859-1 and ascii are windows-1252. What iconv
+calls CP932, CP936, CP949 and CP950 is shift_jis, gbk, euc-kr and big5. hz-gb-2312, iso-2022-cn and
+iso-2022-kr are replacement: any input but an empty one gives one U+FFFD. The encoding of the input
+is never guessed, and status 0 does not say that --from was right: in windows-1252 any bytes are
+text. An input is UTF-8 if \"recode --from utf-8 --to utf-8 --mark keep\" has status 0.
+
 Index files: most encodings need one or two files index-NAME.txt, which are not built in. The
 program's repository has them in its folder \"indexes\", which its \"make install\" copies to
 PREFIX/share/recode/indexes; the standard's own are at
@@ -58,7 +64,8 @@ Exit status:
 
 Message, at the end of standard error:
   2  lines from \"error:\" on; \"recode: unknown label WORD\"; \"recode: a word is not UTF-8\"
-  3  \"recode: FILE: missing\", also where it can't be read or has more than 2^24 bytes;
+  3  \"recode: FILE: missing\" in the folder that --indexes names, the current one by default, also
+     if it can't be read or has more than 2^24 bytes;
      \"recode: FILE: line N: KIND\" with Row, Order or Pointer; \"recode: FILE: table: KIND\" with
      Entry, Reserved or Ranges; \"recode: out of memory\"
   4  \"recode: read fault\"; \"recode: write fault\"; \"recode: log fault\";
