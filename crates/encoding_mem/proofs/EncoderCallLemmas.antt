@@ -1,7 +1,7 @@
 -- The steps of the encoding driver, over texts. A step of a source over one character. What was written for what
 -- was read, and what is next.
 use Rattle.std.proofs.Common.{◌≡◌, ◌≢◌, ℕ, suc, ◌+◌, ◌-◌, ◌<◌, inl, inr, List, [], ◌∷◌, ◌++◌, length, sym, ◌∙◌, ap, subst, refl, arith, Bool, true, false, append_assoc, take, drop, ◌≤◌, ◌*◌, lit<}
-use Rattle.std.proofs.lemmas.List.{append-nil, drop-drop}
+use Rattle.std.proofs.lemmas.List.{append-nil, drop-drop, length-append}
 use borrow.Rule.Slice.PartMut.{put_mid}
 use Rattle.encoding_mem.proofs.LongestPrefixLemmas.{length_put}
 use Rattle.encoding_mem.specs.Coding.{Coding, IsCoding, last_set, mapped_bytes, bytes_from, AllMapped, IsMapped}
@@ -280,8 +280,14 @@ not_ascii need e s slice escape room k a b over ascii =
 
 -- A step of a source over one character.
 
+pub char_len : (here more : List ℕ) (c : ℕ) → here ≡ encode_utf8 c ++ more → length here - length more ≡ len_utf8 c
+char_len here more c is = omega (arith, ap length is, length-append (encode_utf8 c) more, length-encode c)
+
 pub past_char : (text rest more : List ℕ) (i c n : ℕ) → rest ≡ drop i text → rest ≡ encode_utf8 c ++ more → n ≡ len_utf8 c → more ≡ drop (i + n) text
 past_char text rest more i c n at is len = sym (ap (λ k. drop (i + k) text) len ∙ drop_past_char text more i c (sym at ∙ is))
+
+pub first_boundary : (text here more : List ℕ) (i c : ℕ) → here ≡ drop i text → here ≡ encode_utf8 c ++ more → IsCharBoundary here (len_utf8 c) → IsCharBoundary (drop i text) (length here - length more)
+first_boundary text here more i c at is b = subst (λ r. IsCharBoundary r (length here - length more)) at (subst (λ k. IsCharBoundary here k) (sym (char_len here more c is)) b)
 
 pub boundary_past : (text rest : List ℕ) (i c n : ℕ) → i ≤ length text → rest ≡ drop i text → n ≡ len_utf8 c → IsCharBoundary rest (len_utf8 c) → IsCharBoundary text (i + n)
 boundary_past text rest i c n within at len b = subst (λ k. IsCharBoundary text (i + k)) (sym len) (IsCharBoundary-from_rest text i (len_utf8 c) within (subst (λ r. IsCharBoundary r (len_utf8 c)) at b))

@@ -215,7 +215,7 @@ fn encode_each<T: EncoderRule, S: Source>(
         → result.0 ≢ EncoderResult.OutputFull }
 {
     let mut written = 0;
-    while let Some((c, _)) = source.peek() {
+    while let Some((c, len)) = source.peek() {
         let is_run = u32::from(c) < 0x80 && source.is_second_ascii();
         if is_run && written < dst.len() && target.copies_ascii(*set) {
             written = copy_run(source, dst, written);
@@ -236,10 +236,10 @@ fn encode_each<T: EncoderRule, S: Source>(
                     return (EncoderResult::OutputFull, written);
                 }
                 written = put(dst, written, bytes);
-                source.advance();
+                source.advance_by(len);
             }
             Form::Unmapped(reported) => {
-                source.advance();
+                source.advance_by(len);
                 return (EncoderResult::Unmappable(reported), written);
             }
         }

@@ -62,14 +62,14 @@ pub(crate) fn narrow_text(text: &str, dst: &mut [u8]) -> usize
 {
     let mut source = Utf8Source::new(text);
     let mut written = 0;
-    'characters: while let Some((c, _)) = source.peek() {
+    'characters: while let Some((c, len)) = source.peek() {
         if u32::from(c) < 0x80 {
             let run = source.copy_ascii(&mut dst[written..]);
             written += run;
         } else {
             dst[written] = u32::from(c) as u8;
             written += 1;
-            source.advance();
+            source.advance_by(len);
         }
     }
     written

@@ -44,6 +44,8 @@ pub trait Source {
         ensures next { MatchOption result (text (drop (offset self.now) (all self.now)) ≡ [])
             (λ p. text (drop (offset self.now) (all self.now)) ≡ p.0 ∷ text (drop (offset self.now + p.1) (all self.now))) }
         ensures boundary { IfSome result (λ p. IsBoundary (all self.now) (offset self.now + p.1)) }
+        ensures first { IfSome result (λ p. IsBoundary (drop (offset self.now) (all self.now))
+            p.1) }
         ensures size { IfSome result (λ p. (offset self.now + p.1 ≤ length (all self.now)) × (p.1 ≡ cost_in is_units p.0)) };
 
     /// Goes past the next character. The condition, that there is one, is tested by `peek`.
@@ -51,6 +53,19 @@ pub trait Source {
         requires { 0 < length (text (drop (offset self.old) (all self.old))) }
         ensures same { all self.new ≡ all self.old }
         ensures next { (c : ℕ) × (text (drop (offset self.old) (all self.old)) ≡ c ∷ text (drop (offset self.new) (all self.new)))
+            × (offset self.new ≡ offset self.old + cost_in is_units c) };
+
+    /// Goes past the next character, which has `len` bytes or units. The condition, that there is
+    /// one and that it has so many, is that `peek` returns it with `len`.
+    fn advance_by(&mut self, len: usize)
+        requires next { (c : ℕ) × (text (drop (offset self.old) (all self.old))
+            ≡ c ∷ text (drop (offset self.old + len) (all self.old)))
+            × (len ≡ cost_in is_units c) }
+        requires first { IsBoundary (drop (offset self.old) (all self.old)) len }
+        requires within { offset self.old + len ≤ length (all self.old) }
+        ensures same { all self.new ≡ all self.old }
+        ensures next { (c : ℕ) × (text (drop (offset self.old) (all self.old))
+            ≡ c ∷ text (drop (offset self.new) (all self.new)))
             × (offset self.new ≡ offset self.old + cost_in is_units c) };
 
     /// Whether the second of the bytes or units that are next is there and is ASCII. Where the
@@ -175,7 +190,7 @@ impl<'a> Source for Utf8Source<'a> {
     #[inline(always)]
     fn peek(&self) -> Option<(char, usize)> {
         match first_char(self.rest) {
-            Some((c, _)) => Some((c, c.len_utf8())),
+            Some((c, rest)) => Some((c, self.rest.len() - rest.len())),
             None => None,
         }
     }
@@ -186,6 +201,13 @@ impl<'a> Source for Utf8Source<'a> {
             self.rest = rest;
             self.read += c.len_utf8();
         }
+    }
+
+    #[inline(always)]
+    fn advance_by(&mut self, len: usize) {
+        let (_, rest) = self.rest.split_at(len);
+        self.rest = rest;
+        self.read += len;
     }
 
     #[inline(always)]
@@ -298,6 +320,11 @@ impl<'a> Source for Utf16Source<'a> {
         if let Some((_, n)) = first_of_units(&self.units[self.offset..]) {
             self.offset += n;
         }
+    }
+
+    #[inline(always)]
+    fn advance_by(&mut self, len: usize) {
+        self.offset += len;
     }
 
     #[inline(always)]

@@ -7,7 +7,7 @@ ghost use Rattle.encoding_mem.specs.laws.SampleCoding.{sample_coding_laws, sampl
 use encoding_mem::encode::EncoderRule;
 use encoding_mem::form::{Bytes, EscapeState, Form};
 use encoding_mem::room::{Bound, EncodedLength};
-use encoding_mem::source::{Source, Utf8Source};
+use encoding_mem::source::{Source, Utf8Source, Utf16Source};
 use encoding_mem::source_encoder::SourceEncoder;
 use encoding_mem::{EncoderResult, RawEncoder};
 
@@ -137,4 +137,23 @@ fn escapes_of_units(rt: HostRuntime) {
     assert_eq!(rt; ended, (EncoderResult::InputEmpty, 1, 5));
     assert!(rt; encoder.has_pending_state());
     assert_eq!(rt; encoder.set, EscapeState::Jis);
+}
+
+// A source is passed by the lengths that `peek` returns: one byte and two, then a pair of units.
+#[test]
+fn sources_are_passed_by_what_peek_returns(rt: HostRuntime) {
+    let mut source = Utf8Source::new("aé");
+    if let Some((_, len)) = source.peek() {
+        source.advance_by(len);
+    }
+    assert_eq!(rt; (source.read(), source.peek()), (1, Some(('é', 2))));
+    if let Some((_, len)) = source.peek() {
+        source.advance_by(len);
+    }
+    assert_eq!(rt; (source.read(), source.peek()), (3, None));
+    let mut source = Utf16Source::new(&[0xD83D, 0xDCA9, 0x41]);
+    if let Some((_, len)) = source.peek() {
+        source.advance_by(len);
+    }
+    assert_eq!(rt; (source.read(), source.peek()), (2, Some(('A', 1))));
 }

@@ -10,25 +10,25 @@ pub loop-c-preserved : goal.loop-c-preserved
 loop-c-preserved g c = record {
   room = omega arith;
   size = c.put-written-in-Mapped.auto.dst ∙ c.put-written.auto.dst ∙ c.loop-c.invariant.size;
-  after = omega (arith, c.loop-c.invariant.after, c.advance.ensures.next.2);
+  after = omega (arith, c.loop-c.invariant.after, c.advance_by.ensures.next.2);
   spent =
       let e = (g.T.EncoderRule.parts c.args.target.now).coding in
       let S = g.S.Source in
       let at = c.in-Some.ensures.next in
-      let next = c.advance.ensures.next.1 in
-      let same : c.advance.ensures.next.0 ≡ c.in-Some.c = first_same (sym next ∙ at) in
+      let next = c.advance_by.ensures.next.1 in
+      let same : c.advance_by.ensures.next.0 ≡ c.in-Some.c = first_same (sym next ∙ at) in
       let n : ℕ = cost_in S.is_units c.in-Some.c in
-      let offset : S.offset c.advance.new.self ≡ S.offset c.loop-c.source + n = c.advance.ensures.next.2 ∙ ap (λ d. S.offset c.loop-c.source + cost_in S.is_units d) same in
+      let offset : S.offset c.advance_by.new.self ≡ S.offset c.loop-c.source + n = c.advance_by.ensures.next.2 ∙ ap (λ d. S.offset c.loop-c.source + cost_in S.is_units d) same in
       let escape_len = ap length (c.as_slice-bytes.ensures.value ∙ c.escape-escape.ensures ∙ ap (e.escape c.loop-c.set) c.step-next.ensures.set) in
       let form_len = ap length (c.as_slice-bytes-in-Mapped.ensures.value ∙ sym (ap mapped_bytes (sym c.step-next.ensures.form ∙ c.in-Mapped.is))) in
       let more : length c.as_slice-bytes.result.now + length c.as_slice-bytes-in-Mapped.result.now ≤ (bound_for (g.T.EncoderRule.parts c.args.target.now).limits S.is_units).factor * n = omega (arith, escape_len, form_len, (g.met.T.EncoderRule.fits c.args.target.now S.is_units).each c.loop-c.set c.in-Some.c) in
       let spent = spent_more (bound_for (g.T.EncoderRule.parts c.args.target.now).limits S.is_units).factor (S.offset c.args.source.now) (S.offset c.loop-c.source) n c.loop-c.written _ c.loop-c.invariant.after c.loop-c.invariant.spent more in
       rw offset (omega (arith, spent, c.put-written.ensures.end, c.put-written-in-Mapped.ensures.end));
   behind = behind_put _ _ _ _ _ _ c.put-written-in-Mapped.ensures.end (behind_put _ _ _ _ _ _ c.put-written.ensures.end c.loop-c.invariant.behind c.put-written.ensures.back) c.put-written-in-Mapped.ensures.back;
-  source = c.advance.ensures.same ∙ c.loop-c.invariant.source;
+  source = c.advance_by.ensures.same ∙ c.loop-c.invariant.source;
   steps =
       let at = sym (ap (λ l. left g.S.Source.text l (g.S.Source.offset c.loop-c.source)) c.loop-c.invariant.source) ∙ c.in-Some.ensures.next in
-      let next = sym (ap (λ l. left g.S.Source.text l (g.S.Source.offset c.loop-c.source)) c.loop-c.invariant.source) ∙ c.advance.ensures.next.1 ∙ ap (λ l. c.advance.ensures.next.0 ∷ left g.S.Source.text l (g.S.Source.offset c.advance.new.self)) (c.advance.ensures.same ∙ c.loop-c.invariant.source) in
+      let next = sym (ap (λ l. left g.S.Source.text l (g.S.Source.offset c.loop-c.source)) c.loop-c.invariant.source) ∙ c.advance_by.ensures.next.1 ∙ ap (λ l. c.advance_by.ensures.next.0 ∷ left g.S.Source.text l (g.S.Source.offset c.advance_by.new.self)) (c.advance_by.ensures.same ∙ c.loop-c.invariant.source) in
       let one = escape_is (g.T.EncoderRule.parts c.args.target.now).coding _ _ _ _ _ _ _ c.put-written.ensures.prefix c.as_slice-bytes.ensures.value c.escape-escape.ensures c.step-next.ensures.set in
       let two = c.put-written-in-Mapped.ensures.prefix ∙ ap (λ l. take c.put-written.result c.put-written.new.dst ++ l) c.as_slice-bytes-in-Mapped.ensures.value in
       rw c.step-next.ensures.set (turned _ _ _ _ _ _ _ _ _ _ _ _ _ c.loop-c.invariant.steps at next one two (sym c.step-next.ensures.form ∙ c.in-Mapped.is));
@@ -144,7 +144,7 @@ returns-in-Unmapped-clause-call g c =
     let e = (g.T.EncoderRule.parts c.args.target.now).coding in
     let laws = g.met.T.EncoderRule.laws c.args.target.now in
     let at = sym (ap (λ l. left g.S.Source.text l (g.S.Source.offset c.loop-c.source)) i.source) ∙ c.in-Some.ensures.next in
-    let next = sym (ap (λ l. left g.S.Source.text l (g.S.Source.offset c.loop-c.source)) i.source) ∙ c.advance-in-Unmapped.ensures.next.1 ∙ ap (λ l. c.advance-in-Unmapped.ensures.next.0 ∷ left g.S.Source.text l (g.S.Source.offset c.advance-in-Unmapped.new.self)) (c.advance-in-Unmapped.ensures.same ∙ i.source) in
+    let next = sym (ap (λ l. left g.S.Source.text l (g.S.Source.offset c.loop-c.source)) i.source) ∙ c.advance_by-in-Unmapped.ensures.next.1 ∙ ap (λ l. c.advance_by-in-Unmapped.ensures.next.0 ∷ left g.S.Source.text l (g.S.Source.offset c.advance_by-in-Unmapped.new.self)) (c.advance_by-in-Unmapped.ensures.same ∙ i.source) in
     let one = escape_is e _ _ _ _ _ _ _ c.put-written.ensures.prefix c.as_slice-bytes.ensures.value c.escape-escape.ensures c.step-next.ensures.set in
     record {
       same = refl;
