@@ -86,7 +86,8 @@ def parse(crate, path, imported):
 
 
 def closure(words, found, imports):
-    """The definitions that some words stand on, each with how many steps it is away, in the order in which they come."""
+    """The definitions that some words stand on, each with how many steps it is away, in the order in which they come; the
+    words of the standard library among them; and the types of the code, each by the module that declares it."""
     by_name = {}
     for (path, name), definition in found.items():
         by_name.setdefault(name, definition)
@@ -97,7 +98,7 @@ def closure(words, found, imports):
                 maker = re.match(r"  (\S+) *:", line)
                 if maker:
                     makers[maker[1]] = definition
-    near, library = [(by_name[word], 0) for word in words if word in by_name], set()
+    near, library, types = [(by_name[word], 0) for word in words if word in by_name], set(), set()
     seen = {}
     while near:
         definition, hop = near.pop(0)
@@ -111,10 +112,12 @@ def closure(words, found, imports):
             if word in brought:
                 if brought[word].startswith("Rattle.std."):
                     library.add(word)
+                elif ".declared." in brought[word]:
+                    types.add(re.sub(r"\.The(?:Variants|Constants)$", "", brought[word]))
                 elif ".declared." not in brought[word] and word in by_name:
                     near.append((by_name[word], hop + 1))
             elif (definition.path, word) in found:
                 near.append((found[definition.path, word], hop + 1))
             elif word in makers and makers[word].path == definition.path:
                 near.append((makers[word], hop + 1))
-    return seen, library
+    return seen, library, types

@@ -45,12 +45,13 @@ DEVICE_WORDS = [
 ]  # fmt: skip
 
 HOW_TO_READ = """
-- `ensures NAME { .. }` is what the function promises. `R.remaining`, `W.contents` and `L.contents` are what the devices tell of themselves: the bytes that a reader will give, and those that a writer has taken. A device may tell nothing, as a file of the system does: then what is said here of its bytes is empty, and all else stays.
-- `x.old` is what a parameter refers to before the call, `x.new` after it, `x.entry` the value that was passed, `result` what is returned.
-- `IfOk result (λ p. ..)` says the rest of `p` if the result is `Ok p`, and `IfErr` of the error. `A → B` is *if A then B*, `A × B` *A and B*, `A ⊎ B` *A or B*, `(x : A) → ..` *for each x*, `(x : A) × ..` *there is an x*.
-- `record R .. where` names each of its parts, and holds if all of them do. `≡` is equality, `∷` puts one element before a list, `++` joins two.
-- A byte is a number below 256, a character its scalar value.
-- The bound on the work is in the report: `least` and `most` bound the calls of decoders and encoders, `fewest_calls` by what was read, malformed and lost, `most_calls` by what was read alone.
+- `ensures NAME { .. }` is what the function promises. `R.remaining`, `W.contents` and `L.contents` are what the devices tell of themselves: the bytes that a reader will give, and those that a writer has taken. A device may tell nothing, as a file of the system does. Then nothing is said of its bytes, and if the reader tells nothing, output and report are said to be those of some input: that it is the one that was read rests on `run` being generic, which sees what the reader's calls return, and nothing else.
+- `x.old` is what a parameter refers to before the call, `x.new` after it, `x.now` if the call does not change it; `x.entry` is the value that was passed, `result` what is returned.
+- `IfOk result (λ p. ..)` says the rest of `p` if the result is `Ok p`, and `IfErr` of the error. `A → B` is *if A then B*, `A × B` *A and B*, `A ⊎ B` *A or B*, `A ↔ B` *A exactly if B*, `¬ A` *not A*, `(x : A) → ..` *for each x*, `(x : A) × ..` *there is an x*. `⊥` is false, `Unit {0}` true, and `IsTrue b` says that the Boolean b is `true`.
+- `record R .. where` names each of its parts, and holds if all of them do; a `data` lists what a value can be. `abbrev` and `unfoldable` begin definitions alike. The first equation that fits counts. `≡` is equality, `∷` puts one element before a list, `++` joins two, `p.0` and `p.1` are the parts of a pair.
+- A byte is a number below 256, a character its scalar value. In the lines below, bytes of encodings and code points (U+) are hexadecimal, other numbers decimal. `slice_index list k` is the element at k, and 0 past the end; `slice_range list from to` has those from `from` to below `to`; `digits 16 true n` are the hexadecimal digits of n in capitals, with no zero before them.
+- The bound on the work is in the report: `least` and `most` bound `calls`, its number of calls of decoders and encoders, by what was read, malformed and lost.
+- What it does not say: when the result is `Ok` (`laws::answers_without_faults`), how output and log are interleaved (`fails` says that a fault leaves both at one place of their one order, and `more` that a step does), that the indexes are those of the standard (they were accepted, `IsValidJob`), or that a reader who takes byte order marks finds none at the start of the output.
 - What is proved is what the contracts say. Whether these definitions say what the standards say is for a reader to judge: hence this page. Each number in them has a row worked by hand, in `specs/examples` of its crate.
 """
 
@@ -91,6 +92,26 @@ def table(seen):
         yield ""
 
 
+def type_rows(modules):
+    """A row for each type of the code that these modules of the prover declare."""
+    rows = []
+    for module in modules:
+        _, crate, _, _, *place, name = module.split(".")
+        path = "crates/%s/src/%s.rt" % (crate, "/".join(place))
+        if not os.path.isfile(os.path.join(TOP, path)):
+            continue
+        doc = []
+        for number, line in enumerate(reference.read(os.path.join(TOP, path)).split("\n"), 1):
+            if line.startswith("///"):
+                doc.append(line[3:].strip())
+            elif re.match(r"pub(?:\(crate\))? (?:struct|enum) %s\b" % name, line):
+                said = re.split(r"(?<=\.) ", " ".join(doc))[0].replace("|", "\\|")
+                rows.append("| `%s` | %s | [%s:%d](../%s#L%d) |" % (name, said, os.path.basename(path), number, path, number))
+            elif not line.startswith("#["):
+                doc = []
+    return sorted(rows)
+
+
 def first(seen, definition):
     """How near the nearest definition of a file is."""
     return min(hop for d, hop in seen.items() if d.path == definition.path)
@@ -104,10 +125,10 @@ def page():
     for crate, function, name, about in CLAUSES:
         text, place = clause(crate, function, name)
         words = [word for line in text for word in WORD.findall(line)]
-        seen, library = closure(words, found, imports)
+        seen, library, types = closure(words, found, imports)
         if not before:
             size, paths = count(seen)[1], {d.path for d in seen}
-            lines += ["What is proved of a conversion that ends well, and all that it stands on: %d definitions, %d lines, in %d files. They are below in the order in which one reads them, from the clause down." % count(seen), ""]
+            lines += ["What is proved of a conversion that ends well, and what it stands on: %d definitions, %d lines, in %d files, besides the types of the code that they speak of. They are below by group, the nearest files first, and in a file from its first definition to its last." % count(seen), ""]
             lines += ["## %s" % about, "", "The clause `%s` of `%s::%s` ([%s](../%s)):" % (name, crate, function, place, place.replace(":", "#L")), ""]
             lines += ["    " + line for line in text] + [""]
             for definition in [d for d, hop in seen.items() if d.path.endswith("recode/specs/Session.antt")]:
@@ -117,6 +138,8 @@ def page():
             lines += ["- " + what for word, what in DEVICE_WORDS if word in library] + [""]
             lines += ["## What it stands on", ""]
             lines += table(seen)
+            lines += ["### Types of the code", "", "| Type | What it is | Place |", "|---|---|---|"]
+            lines += type_rows(types) + [""]
         else:
             more = {d: hop for d, hop in seen.items() if d not in before}
             named = "The clause `%s` of" % name if name else "The law"

@@ -54,7 +54,7 @@ takes_greatest_pointer c = c == 0x2550 || c == 0x255E || c == 0x2561 || c == 0x2
 abbrev pub index_big5_pointer : List ℕ → ℕ → Option ℕ
 index_big5_pointer flat c = if takes_greatest_pointer c then last_pointer flat c 5024 19782 else first_pointer flat c 5024 19782
 
--- the trail of a pointer in Big5, by its remainder modulo 157: 40 to 7E, then A1 to FE
+-- the trail in Big5 for a remainder modulo 157: 40 to 7E, then A1 to FE (hexadecimal)
 abbrev pub big5_trail : ℕ → ℕ
 big5_trail r = if nat_lt r 63 then 0x40 + r else 0x62 + r
 

@@ -13,7 +13,7 @@ use Rattle.encoding_tables.specs.Lookups.{first_pointer}
 use Rattle.encoding_tables.specs.Ranges.{range_pointer}
 
 -- The table of the "gb18030 encoder" (section 10.2.2): 18 private-use characters, each with its
--- two bytes of the edition of 2005. The decoder reads these bytes as other characters.
+-- two bytes of the edition of 2005.
 abbrev pub gb18030_fixed_rows : List (ℕ × (ℕ × ℕ))
 gb18030_fixed_rows = (0xE78D, (0xA6, 0xD9)) ∷ (0xE78E, (0xA6, 0xDA)) ∷ (0xE78F, (0xA6, 0xDB)) ∷ (0xE790, (0xA6, 0xDC))
     ∷ (0xE791, (0xA6, 0xDD)) ∷ (0xE792, (0xA6, 0xDE)) ∷ (0xE793, (0xA6, 0xDF)) ∷ (0xE794, (0xA6, 0xEC)) ∷ (0xE795, (0xA6, 0xED))
@@ -29,7 +29,7 @@ gb18030_fixed_pair c = option_map (λ r. r.1) (find (λ r. r.0 == c) gb18030_fix
 abbrev pub two_of : ℕ × ℕ → List ℕ
 two_of p = p.0 ∷ p.1 ∷ []
 
--- the trail of a pointer of index gb18030, by its remainder modulo 190: 40 to 7E, then 80 to FE
+-- the trail in gb18030 for a remainder modulo 190: 40 to 7E, then 80 to FE (hexadecimal)
 abbrev pub gb18030_trail : ℕ → ℕ
 gb18030_trail r = if nat_lt r 0x3F then 0x40 + r else 0x41 + r
 

@@ -25,7 +25,8 @@ iso_2022_jp_pointer jis0208 katakana c = option_and_then (λ d. first_pointer ji
 abbrev pub iso_2022_jp_pair_bytes : ℕ → List ℕ
 iso_2022_jp_pair_bytes p = (0x21 + p / 94) ∷ (0x21 + p % 94) ∷ []
 
--- the form of an ASCII character in ISO-2022-JP: itself, but U+FFFD is reported for 0E, 0F and 1B
+-- the form of an ASCII character in ISO-2022-JP: its byte, but 0E, 0F and 1B have none and are
+-- reported as U+FFFD
 abbrev pub ascii_form : ℕ → Form
 ascii_form c = if c == 0x0E || c == 0x0F || c == 0x1B then Unmapped 0xFFFD else Mapped (c ∷ [])
 

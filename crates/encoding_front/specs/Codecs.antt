@@ -21,7 +21,7 @@ use Rattle.encoding_codecs.specs.Gb18030Coding.{gb18030_form}
 use Rattle.encoding_tables.specs.declared.index_kind.IndexKind.{IndexKind}
 use Rattle.encoding_front.specs.declared.codec_kind.CodecKind.{CodecKind}
 
--- What a kind of codec reads and writes.
+-- What a kind of codec reads, the pieces of an input, and what it writes, the coding of a target.
 pub record Codec : Type 0 where
   -- the pieces of a whole input, without mark handling
   pub pieces : List ℕ → List Piece

@@ -21,11 +21,12 @@ use Rattle.encoding_front.specs.Codecs.{codec_of}
 abbrev pub HasLabel : Encoding → List ℕ → Type 0
 HasLabel e label = IsLabelOf (number_of e) label
 
--- the byte order marks ("BOM sniff", section 6)
+-- the byte order marks ("BOM sniff", section 6): EF BB BF of UTF-8, FE FF of UTF-16BE, FF FE of
+-- UTF-16LE
 abbrev pub byte_order_marks : List (Encoding × List ℕ)
 byte_order_marks = (Encoding.Utf8, 0xEF ∷ 0xBB ∷ 0xBF ∷ []) ∷ (Encoding.Utf16Be, 0xFE ∷ 0xFF ∷ []) ∷ (Encoding.Utf16Le, 0xFF ∷ 0xFE ∷ []) ∷ []
 
--- the first of these marks with which the bytes begin: its encoding, and its length in bytes
+-- the first of some marks with which bytes begin, if any: its encoding, and its length in bytes
 abbrev pub first_mark : List (Encoding × List ℕ) → List ℕ → Option (Encoding × ℕ)
 first_mark [] x = None
 first_mark (mark ∷ marks) x = cond (starts_with eqb x mark.1) (Some (mark.0, length mark.1)) (first_mark marks x)
@@ -34,7 +35,8 @@ first_mark (mark ∷ marks) x = cond (starts_with eqb x mark.1) (Some (mark.0, l
 abbrev pub mark_at_start : List ℕ → Option (Encoding × ℕ)
 mark_at_start x = first_mark byte_order_marks x
 
--- the output encoding of an encoding with a codec of this kind
+-- the output encoding of an encoding e with a codec of some kind: UTF-8 for UTF-16 and
+-- replacement, else e
 abbrev pub output_of_codec_kind : Encoding → CodecKind → Encoding
 output_of_codec_kind e (CodecKind.Utf16 big_endian) = Encoding.Utf8
 output_of_codec_kind e CodecKind.Replacement = Encoding.Utf8
@@ -116,7 +118,7 @@ KeepsCharacters e = KeepsCharactersCodecKind (codec_kind_of (output_encoding_of 
 abbrev pub pieces_of : IndexLists → Encoding → List ℕ → List Piece
 pieces_of t e = (codec_of t (codec_kind_of e)).pieces
 
--- what is written in the output encoding, which is never UTF-16 or replacement
+-- what is written if e is asked for: in its output encoding, which is never UTF-16 or replacement
 abbrev pub coding_of : IndexLists → Encoding → Coding
 coding_of t e = (codec_of t (codec_kind_of (output_encoding_of e))).coding
 

@@ -10,13 +10,15 @@ use Rattle.encoding_front.specs.declared.encoding.Encoding.{Encoding}
 use Rattle.encoding_front.specs.declared.mark.Mark.{Mark}
 use Rattle.encoding_front.specs.declared.mark.Mark.TheVariants.{Sniff, Remove, Keep}
 
--- whether a mark of f is taken from an input that is said to be in e
+-- whether a mark of f is taken from an input said to be in e: under `Sniff` each is, under
+-- `Remove` that of e alone, under `Keep` none
 abbrev pub takes_mark_of : Mark → (e f : Encoding) → Bool
 takes_mark_of Sniff e f = true
 takes_mark_of Remove e f = number_of e == number_of f
 takes_mark_of Keep e f = false
 
--- the marks that are taken from an input said to be in e, each with its encoding and its bytes
+-- the marks that would be taken from an input said to be in e, each with its encoding and its
+-- bytes
 abbrev pub marks_taken : Mark → Encoding → List (Encoding × List ℕ)
 marks_taken mark e = filter (λ m. takes_mark_of mark e m.0) byte_order_marks
 
@@ -25,7 +27,7 @@ marks_taken mark e = filter (λ m. takes_mark_of mark e m.0) byte_order_marks
 abbrev pub source_of : Mark → Encoding → List ℕ → Encoding × ℕ
 source_of mark e x = unwrap_or (first_mark (marks_taken mark e) x) (e, 0)
 
--- a mark of n bytes is a piece with no text
+-- the piece of a mark of n bytes, which has no text, or no piece if n is 0
 abbrev pub mark_piece : ℕ → List Piece
 mark_piece zero = []
 mark_piece (suc n) = well_formed (suc n) [] ∷ []

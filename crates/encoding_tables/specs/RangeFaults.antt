@@ -9,7 +9,8 @@ abbrev pub first_out_of_order : ℕ → ℕ → List (ℕ × ℕ) → Option ℕ
 first_out_of_order row from [] = None
 first_out_of_order row from (r ∷ rows) = if nat_lt r.0 from || nat_lt 1237575 r.0 then Some row else first_out_of_order (row + 1) (r.0 + 1) rows
 
--- whether the numbers from `first` to below `end`, if there are any, are scalars from `least` on
+-- whether the numbers from `first` to below `end`, of which there are some, are scalars from
+-- `least` on
 abbrev pub are_scalars : ℕ → ℕ → ℕ → Bool
 are_scalars least first end = not (nat_lt first least) && (not (nat_lt 0xD800 end) || (not (nat_lt first 0xE000) && not (nat_lt 0x110000 end)))
 

@@ -12,7 +12,7 @@ abbrev pub first_piece_replacement : (error_returned : Bool) → List ℕ → Pi
 first_piece_replacement false x = malformed 1
 first_piece_replacement true x = well_formed 1 []
 
--- whether replacement's error was returned, once a piece was read: it was, be it then or before
+-- whether the error of replacement was returned, after a byte: always
 abbrev pub after_replacement : (error_returned : Bool) → List ℕ → Bool
 after_replacement error_returned x = true
 

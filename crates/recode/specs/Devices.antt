@@ -20,7 +20,7 @@ pub record KeepsWritten (before after : Written) : Type 0 where
   pub output : Keeps before.output after.output
   pub log : Keeps before.log after.log
 
--- how many calls of each have failed
+-- how many calls of a reader, a writer and a log have failed
 pub record Failures : Type 0 where
   pub reader : ℕ
   pub writer : ℕ
@@ -36,7 +36,8 @@ pub record Devices : Type 0 where
 abbrev pub written_in : {W L : Type 0} → (W → Option (List ℕ)) → (L → Option (List ℕ)) → Counted W → Counted L → Written
 written_in contents logged writer log = record { output = contents (inner_of writer); log = logged (inner_of log) }
 
--- the bytes and failures of a reader, a writer and a log, as far as each tells them
+-- the bytes of a reader, a writer and a log, as far as each tells them, and how many calls of each
+-- have failed
 abbrev pub devices_in : {R W L : Type 0} → (R → Option (List ℕ)) → (W → Option (List ℕ)) → (L → Option (List ℕ)) → Counted R → Counted W → Counted L → Devices
 devices_in remaining contents logged reader writer log = record {
   input = remaining (inner_of reader);

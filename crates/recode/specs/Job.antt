@@ -17,7 +17,7 @@ use Rattle.recode.specs.TaggedByte.{log_bytes, output_bytes, tagged}
 use Rattle.recode.specs.declared.job.Job.{Job}
 use Rattle.recode.specs.declared.job.Policy.{Policy}
 
--- the indexes of both encodings are there, as they were accepted; the limit is that of the log's offsets
+-- the indexes of both encodings are there, as they were accepted, and the limit is at most 2^48
 pub record IsValidJob (j : Job) : Type 0 where
   pub tables : AreAcceptedTables j.tables.now
   pub from : IsReady j.tables.now j.from
@@ -44,11 +44,12 @@ target_of j = coding_of j.tables.now j.to
 abbrev pub output_pieces : Job → List ℕ → List Piece
 output_pieces j y = pieces_of j.tables.now (output_encoding_of j.to) y
 
--- what is written to the output and to the log, in their one order, where no policy stops it
+-- what is written to output and log if no policy stops it, as items in order
 abbrev pub whole_trace : Job → List ℕ → List Item
 whole_trace j x = trace_from (reference_form j.policy) (target_of j) Ascii 0 0 (input_pieces j x)
 
--- what is written to the output and to the log, in their one order: all, or what a stop leaves
+-- what is written to output and log under a policy, as items in order: all, or, under `Stop`, up
+-- to the first lost character's line
 abbrev pub trace : Job → List ℕ → List Item
 trace j x = written_under j.policy (whole_trace j x)
 
@@ -87,8 +88,8 @@ lines_up_to_loss [] = []
 lines_up_to_loss (Bad offset size ∷ t) = Bad offset size ∷ lines_up_to_loss t
 lines_up_to_loss (Lost index scalar ∷ t) = Lost index scalar ∷ []
 
--- Nothing was lost: no piece of the input is malformed, and the output, decoded without mark handling, has no malformed
--- sequence and is the input's text.
+-- No piece of the input is malformed, and the output, decoded without mark handling, has no
+-- malformed sequence and is the text of the input, without a mark that is taken.
 pub record Faithful (j : Job) (x : List ℕ) : Type 0 where
   pub source : AreWellFormed (input_pieces j x)
   pub target : AreWellFormed (output_pieces j (output_of j x))

@@ -81,8 +81,8 @@ pub record IsReport (j : Job) (x : List ℕ) (p : Report) : Type 0 where
   pub encoding : p.encoding ≡ source_in j x
   pub faithful : IsTrue p.faithful ↔ Faithful j x
 
--- All of an input was converted that is within the limit: output and log are whole. Where the policy stops at a lost
--- character, there was none.
+-- The input is within the limit, the policy stops nothing in it, and output and log grew by all
+-- that is written for it.
 pub record WroteWhole (before after : Written) (j : Job) (x : List ℕ) : Type 0 where
   pub within : length x ≤ j.limit
   pub unstopped : RunsThrough j x

@@ -14,7 +14,8 @@ abbrev pub TakesCalls : ℕ → (c c' : Counts) → (to_write to_write' : List I
 TakesCalls n c c' to_write to_write' =
     c'.calls + 4 * c.index + 2 * length to_write' ≤ c.calls + 4 * c'.index + 2 * length to_write + n
 
--- The calls since were at least one for each lost character that was logged, and n more.
+-- the calls since were at least one for each lost character that was logged, and n more, unless
+-- the count has stopped at its greatest number
 abbrev pub TakesAtLeast : ℕ → (c c' : Counts) → Type 0
 TakesAtLeast n c c' = c'.calls < 2 ^ 64 - 1 → c.calls + c'.lost + n ≤ c'.calls + c.lost
 
@@ -23,11 +24,11 @@ abbrev pub ended_count : Bool → ℕ
 ended_count true = 1
 ended_count false = 0
 
--- the fewest calls of codecs of a run that ended well: two for each step (one, or two if the input
--- has a byte), three more for each malformed sequence, and one more for each lost character
+-- the least number of calls that is reported: 3 for each malformed sequence, 1 for each lost
+-- character, and 4, or 2 if nothing was read
 abbrev pub fewest_calls : (read bad lost : ℕ) → ℕ
 fewest_calls read bad lost = 3 * bad + lost + 2 * min 1 read + 2
 
--- the most calls of codecs of a run that ended well, by how many bytes its input has
+-- the greatest number of calls that is reported: 37 for each byte that was read, and 9
 abbrev pub most_calls : (read : ℕ) → ℕ
 most_calls read = 37 * read + 9

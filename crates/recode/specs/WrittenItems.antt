@@ -50,7 +50,8 @@ pub record StopsAtLoss (p : Policy) (index scalar : ℕ) (taken : List TaggedByt
   pub last : written ≡ items ++ (LostAt index scalar ∷ [])
   pub whole : taken ≡ tagged written
 
--- where the fault is that the policy stopped it
+-- if the fault is `Unmappable`, the policy stopped at a lost character, and all up to its line was
+-- written; of any other fault nothing is said
 abbrev pub IsStop : Policy → Fault → List TaggedByte → List Item → Type 0
 IsStop p Read taken written = Unit {0}
 IsStop p Write taken written = Unit {0}

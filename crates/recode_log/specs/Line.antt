@@ -25,8 +25,8 @@ two_numbers offset value = decimal offset ++ codes " " ++ decimal value
 abbrev pub row_bytes : List ℕ → ℕ → ℕ → List ℕ
 row_bytes word offset value = word ++ decimal offset ++ codes " " ++ decimal value ++ codes "\n"
 
--- the bytes of a line of the log: `bad`, the offset and the length of malformed bytes, or `lost`,
--- the index and the scalar value of a character, and a line feed
+-- the text of a line of the log: `bad OFFSET LENGTH` or `lost INDEX SCALAR`, with the scalar that
+-- is reported, and a line feed
 abbrev pub line_bytes : LogLine → List ℕ
 line_bytes (Bad offset length) = row_bytes (codes "bad ") offset length
 line_bytes (Lost index scalar) = row_bytes (codes "lost ") index scalar
