@@ -4,7 +4,7 @@
     python3 tools/definitions_page.py
 
 `specs/` itself is what a reader of the theorems reads; `specs/calls/` is what calls and layers promise one another. `make
-lint` calls `faults`: a page that is not what this script writes, and a headline that stands on a file of `specs/calls/`.
+lint` calls `faults`: a page that is not what this script writes.
 """
 
 import os
@@ -33,7 +33,7 @@ HEAD = """# Definitions
 
 <!-- Written by tools/definitions_page.py from the sources; do not edit. -->
 
-What the contracts speak of, and so what has to be read to trust a claim: the files of `specs/` in each crate, below in the order to read them in. What the headline stands on is picked out of them, definition by definition, in [HEADLINE.md](HEADLINE.md); the words that contracts cite are in [reference/words.md](reference/words.md). Each file opens with a paragraph that says what it defines, and with the section of the standard that it follows. Worked rows stand in `specs/examples/`, under the names of the files; they and the theorems in `specs/laws/` and `proofs/` are proved and need not be read.
+What the contracts speak of, and so what has to be read to trust a claim: the files of `specs/` in each crate, below in the order to read them in. What the headline stands on is picked out of them, definition by definition, in [HEADLINE.md](HEADLINE.md); the words that contracts cite are in [reference/words.md](reference/words.md). Each file opens with a paragraph that says what it defines, and with the section of the standard that it follows. Worked rows stand in `specs/examples/`, most of them under the name of their file; they and the theorems in `specs/laws/` and `proofs/` are proved and need not be read.
 
 From the standard library come scalars, the bytes of a text in UTF-8 (RFC 3629) and its units in UTF-16 (Unicode).
 """

@@ -6,7 +6,8 @@
 For each clause that it names, the page has the clause as it stands in the source, and each definition that the clause
 stands on, with the line above that definition and its place. Names are followed through the imports of each file, and
 the standard library is left out but for the words by which a clause is full or empty. `make lint` calls `faults`: a
-page that is not what this script writes, and a clause that stands on more lines than `tools/headline_lines` says.
+page that is not what this script writes, a headline that stands on more lines than `tools/headline_lines` says, and one
+that stands on a file of `specs/calls/`.
 """
 
 import os
@@ -55,8 +56,8 @@ HOW_TO_READ = """
 - What is proved is what the contracts say. Whether these definitions say what the standards say is for a reader to judge: hence this page. Each number in them has a row worked by hand, in `specs/examples` of its crate.
 """
 
-def clause(crate, function, name):
-    """A clause of a public function, or all of them, as lines of its source, with its place."""
+def clause(crate, function, name, kind="ensures"):
+    """A clause of a public function, or all of them of one kind, as lines of its source, with its place."""
     item = None
     for found in reference.library(crate)[1]:
         for part in [found] + found.members:
@@ -70,7 +71,7 @@ def clause(crate, function, name):
     lines, taken, depth = reference.dedent(item.code), [], 0
     for line in lines:
         text = line.strip()
-        if depth or re.match(r"ensures %s" % (name + r" \{" if name else ""), text):
+        if depth or re.match(r"%s %s" % (kind, name + r" \{" if name else ""), text):
             taken.append(text if not depth else "    " + text)
             depth += text.count("{") - text.count("}")
     return taken, item.place
@@ -130,7 +131,8 @@ def page():
             size, paths = count(seen)[1], {d.path for d in seen}
             lines += ["What is proved of a conversion that ends well, and what it stands on: %d definitions, %d lines, in %d files, besides the types of the code that they speak of. They are below by group, the nearest files first, and in a file from its first definition to its last." % count(seen), ""]
             lines += ["## %s" % about, "", "The clause `%s` of `%s::%s` ([%s](../%s)):" % (name, crate, function, place, place.replace(":", "#L")), ""]
-            lines += ["    " + line for line in text] + [""]
+            lines += ["    " + line for line in text] + ["", "if the call's conditions hold:", ""]
+            lines += ["    " + line for line in clause(crate, function, None, "requires")[0]] + [""]
             for definition in [d for d, hop in seen.items() if d.path.endswith("recode/specs/Session.antt")]:
                 lines += ["    -- " + line for line in definition.comment] + ["    " + line for line in definition.source] + [""]
             lines += ["## How to read it", HOW_TO_READ.strip("\n"), ""]

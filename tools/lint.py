@@ -16,7 +16,8 @@
 - `docs/HEADLINE.md` is what `tools/headline.py` writes, and the headline stands on no more lines of definitions than
   `tools/headline_lines` says, and that number is today's, so it only falls.
 - Each root file begins its code with the tactic that proofs are found by, and no handle is allowed.
-- Each public item of a library has a doc comment, and `docs/reference` is what `make doc` writes (`tools/reference.py`).
+- Each public item of a library has a doc comment, and `docs/reference` is what `make doc` writes (`tools/reference.py`). No
+  public contract cites a word that stands among theorems (`specs/laws/`).
 - Each source file but a crate's root begins with a line that says what it is for (`//!`).
 - The patches of docs/examples apply.
 - README.md and the man page say what the help says (`tools/usage.py`), and README.md has fewer than 120 lines.
@@ -96,24 +97,29 @@ def long_lines():
         yield "%d lines of src/ have more than %d columns: write this number to tools/long_lines" % (count, COLUMNS)
 
 
+def contracts_of(text):
+    """Each function of a source file, with the text of its clauses. They end where the body begins, or at a semicolon."""
+    name, clauses, depth = None, [], 0
+    for line in text.split("\n"):
+        function = FUNCTION.match(line)
+        if function and depth == 0:
+            name, clauses = function.group(1), []
+        is_clause = name is not None and (depth > 0 or CLAUSE.match(line))
+        if is_clause:
+            clauses.append(line)
+            depth += line.count("{") - line.count("}")
+        if name and depth == 0 and (line.endswith(";") or not is_clause and line.endswith(("{", "{}"))):
+            yield name, "\n".join(clauses)
+            name = None
+
+
 def contracts():
-    """Each function that has a contract: its place and name, how many clauses it has, and on how many lines they stand. A
-    clause ends where its braces are closed."""
+    """Each function that has a contract: its place and name, how many clauses it has, and on how many lines they stand."""
     for path in files("src", ".rt"):
-        name, clauses, lines, depth = None, 0, 0, 0
-        for line in read(os.path.join(TOP, path)).split("\n"):
-            function = FUNCTION.match(line)
-            if function and depth == 0:
-                if clauses:
-                    yield "%s: %s" % (path, name), clauses, lines
-                name, clauses, lines = function.group(1), 0, 0
-            is_clause = depth == 0 and CLAUSE.match(line)
-            if is_clause or depth > 0:
-                clauses += 1 if is_clause else 0
-                lines += 1
-                depth += line.count("{") - line.count("}")
-        if clauses:
-            yield "%s: %s" % (path, name), clauses, lines
+        for name, clauses in contracts_of(read(os.path.join(TOP, path))):
+            if clauses:
+                lines = clauses.split("\n")
+                yield "%s: %s" % (path, name), len([line for line in lines if CLAUSE.match(line)]), len(lines)
 
 
 def most_clauses():
@@ -129,28 +135,43 @@ def most_clauses():
 
 
 def definitions_of_specs():
-    """The definitions of the libraries' `specs/`, theorems and worked rows apart."""
+    """The definitions of `specs/`: theorems and worked rows are none."""
     found, _ = definitions.definitions([crate for crate, _ in definitions_page.PARTS])
-    return [definition for (path, _), definition in found.items() if "/laws/" not in path]
+    return [definition for definition in found.values() if definition.source[0].startswith(definitions.DEFINES)]
+
+
+def unlisted_crates():
+    """Each crate that has definitions has its part in docs/DEFINITIONS.md, and so in what the checks below look at."""
+    listed = {crate for crate, _ in definitions_page.PARTS}
+    for crate in sorted(os.listdir(CRATES)):
+        if os.path.isdir(os.path.join(CRATES, crate, "specs")) and crate not in listed and not crate.endswith("_tests"):
+            yield "tools/definitions_page.py does not name %s, which has definitions" % crate
 
 
 def undescribed():
     """Each definition has a line of its own above it."""
     for definition in definitions_of_specs():
-        if not definition.comment and DEFINITION.match(definition.source[0]):
+        if not definition.comment:
             yield "%s:%d: %s has no line above it" % (definition.path, definition.line, definition.name)
+
+
+def names_of_the_kit():
+    """The public definitions of the kit's standard library, by their names."""
+    kit = os.path.join(os.path.dirname(os.path.realpath(shutil.which("rt") or "rt")), "..", "rattle")
+    for part in sorted(os.listdir(kit)) if os.path.isdir(kit) else ():
+        if part == "core" or part.startswith("std"):
+            for place, _, names in os.walk(os.path.join(kit, part, "specs")):
+                for name in names:
+                    if name.endswith(".antt"):
+                        lines = map(DEFINITION.match, read(os.path.join(place, name)).split("\n"))
+                        yield from (line.group(1) for line in lines if line)
 
 
 def taken_names():
     """No definition takes a name of the standard library's: where both are meant, a reader would not know which."""
-    kit = os.path.join(os.path.dirname(os.path.realpath(shutil.which("rt") or "rt")), "..", "rattle")
-    taken = set()
-    for part in ("core", "std"):
-        for place, _, names in os.walk(os.path.join(kit, part, "specs")):
-            for name in names:
-                if name.endswith(".antt"):
-                    lines = map(DEFINITION.match, read(os.path.join(place, name)).split("\n"))
-                    taken.update(line.group(1) for line in lines if line)
+    taken = set(names_of_the_kit())
+    if not taken:
+        yield "the kit's standard library was not found beside `rt`, so names can't be compared with its names"
     for definition in definitions_of_specs():
         if definition.name in taken:
             yield "%s:%d: %s is a name of the standard library's" % (definition.path, definition.line, definition.name)
@@ -159,14 +180,12 @@ def taken_names():
 def shared_names():
     """A function of the code that has the name of a definition says so: its contract cites the definition. One without a
     contract is left out, as a function of a trait is where it is implemented: the trait has its contract."""
-    words = {definition.name for definition in definitions_of_specs()}
+    words = {definition.name for definition in definitions_of_specs() if "/laws/" not in definition.path}
     for crate, _ in definitions_page.PARTS:
         for path in files_of(crate, "src", ".rt"):
-            text = read(os.path.join(TOP, path))
-            for function in re.finditer(r"^ *(?:pub(?:\(\w+\))? )?(?:const )?fn (\w+)([^;]*?)(?:;|^ *\{$)", text, re.M | re.S):
-                name, contract = function.groups()
-                clauses = re.search(r"\b(?:requires|ensures)\b.*", contract, re.S)
-                if name in words and clauses and not re.search(r"(?<![\w-])%s(?![\w-])" % name, clauses.group()):
+            for name, clauses in contracts_of(read(os.path.join(TOP, path))):
+                cited = re.sub(r"\b(requires|ensures) \w+ \{", r"\1 {", clauses)
+                if name in words and clauses and not re.search(r"(?<![\w-])%s(?![\w-])" % name, cited):
                     yield "%s: %s has the name of a definition that its contract does not cite" % (path, name)
 
 
@@ -248,6 +267,7 @@ CHECKS = (
     double_names,
     long_lines,
     most_clauses,
+    unlisted_crates,
     undescribed,
     taken_names,
     shared_names,
@@ -260,6 +280,7 @@ CHECKS = (
     manual,
     example,
     reference.faults,
+    reference.hidden_words,
     headline.faults,
 )
 

@@ -338,6 +338,16 @@ def pages():
     yield "README.md", "\n".join(index) + "\n"
 
 
+def hidden_words():
+    """A word that a public contract cites stands where its reader looks: not among theorems."""
+    for crate in LIBRARIES:
+        for item in library(crate)[1]:
+            for part in [item] + item.members:
+                for word in words_of(part):
+                    if "/laws/" in WORDS[word].path:
+                        yield "%s cites %s, which stands among theorems: %s" % (item.path, word, WORDS[word].path)
+
+
 def undocumented():
     for crate in LIBRARIES:
         page, found, _ = library(crate)

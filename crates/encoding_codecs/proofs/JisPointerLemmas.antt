@@ -10,7 +10,7 @@ use Rattle.encoding_tables.specs.laws.Pointers.{first_is_least}
 use Rattle.encoding_codecs.specs.EucJp.{euc_jp_pair_bytes, euc_jp_own_bytes}
 use Rattle.encoding_codecs.specs.Iso2022JpForms.{iso_2022_jp_form, looked_up, iso_2022_jp_pair_bytes}
 use Rattle.encoding_codecs.specs.JisForms.{is_katakana, folded}
-use Rattle.encoding_codecs.specs.laws.JisPointerLaws.{WritesLeastPointer, IsNoSingleByte, EucJpPointerIsLeast, Iso2022JpPointerIsLeast}
+use Rattle.encoding_codecs.specs.JisPointers.{WritesLeastPointer, IsNoSingleByte, EucJpPointerIsLeast, Iso2022JpPointerIsLeast}
 
 no_own_bytes : (c : ℕ) → IsNoSingleByte c → is_katakana c ≡ false → euc_jp_own_bytes c ≡ None
 no_own_bytes c h kana = rw (le-ltb c 0x80 h.high, ne_eqb c 0xA5 h.no_yen, ne_eqb c 0x203E h.no_overline, kana) refl

@@ -2,10 +2,8 @@
 -- and section 5, "index Big5 pointer").
 use Rattle.std.specs.Prelude.{ℕ, ◌+◌, ◌-◌, ◌*◌, ◌/◌, ◌%◌, ◌==◌, ◌||◌, Bool, List, [], ◌∷◌, nat_lt, if◌then◌else◌, Option}
 use Rattle.std.specs.Int.{is_in_range}
-use Rattle.encoding_mem.specs.Coding.{Coding}
 use Rattle.encoding_mem.specs.Piece.{Piece}
 use Rattle.encoding_mem.specs.Pieces.{pieces_by}
-use Rattle.encoding_mem.specs.Stateless.{stateless}
 use Rattle.encoding_mem.specs.declared.form.Form.{Form}
 use Rattle.encoding_tables.specs.Lookups.{value_of, first_pointer, last_pointer}
 use Rattle.encoding_codecs.specs.TwoByte.{first_piece_two_byte}

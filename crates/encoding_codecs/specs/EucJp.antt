@@ -2,10 +2,9 @@
 use Rattle.std.specs.Prelude.{ℕ, ◌+◌, ◌-◌, ◌*◌, ◌/◌, ◌%◌, ◌==◌, ◌||◌, Bool, List, [], ◌∷◌, nat_lt, if◌then◌else◌, Option, None, Some}
 use Rattle.std.specs.Int.{is_in_range}
 use Rattle.std.specs.Option.{option_map, option_or}
-use Rattle.encoding_mem.specs.Coding.{Coding, form_of_bytes}
+use Rattle.encoding_mem.specs.Coding.{form_of_bytes}
 use Rattle.encoding_mem.specs.Piece.{Piece, malformed}
 use Rattle.encoding_mem.specs.Pieces.{pieces_by}
-use Rattle.encoding_mem.specs.Stateless.{stateless}
 use Rattle.encoding_tables.specs.Lookups.{value_of, first_pointer}
 use Rattle.encoding_mem.specs.declared.form.Form.{Form}
 use Rattle.encoding_codecs.specs.JisForms.{is_katakana_byte, katakana_of_byte, is_katakana, byte_of_katakana, folded}

@@ -1,8 +1,8 @@
 -- The pieces of gb18030, which are those of GBK too (the Encoding Standard, section 10.2.1, "gb18030 decoder"), by the
 -- list of the index and by the rows of the ranges.
-use Rattle.std.specs.Prelude.{ℕ, ◌+◌, ◌-◌, ◌*◌, ◌==◌, ◌||◌, List, [], ◌∷◌, nat_lt, if◌then◌else◌, Option, None, Some}
+use Rattle.std.specs.Prelude.{ℕ, ◌+◌, ◌-◌, ◌*◌, ◌==◌, ◌||◌, List, [], ◌∷◌, nat_lt, if◌then◌else◌}
 use Rattle.std.specs.Int.{is_in_range}
-use Rattle.encoding_mem.specs.Piece.{Piece, well_formed, malformed, piece_of_scalar}
+use Rattle.encoding_mem.specs.Piece.{Piece, malformed, piece_of_scalar}
 use Rattle.encoding_mem.specs.Pieces.{pieces_by}
 use Rattle.encoding_tables.specs.Lookups.{value_of}
 use Rattle.encoding_tables.specs.Ranges.{range_value}

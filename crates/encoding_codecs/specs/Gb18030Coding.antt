@@ -4,10 +4,7 @@
 use Rattle.std.specs.Prelude.{ℕ, ◌+◌, ◌/◌, ◌%◌, ◌==◌, ◌&&◌, not, Bool, List, [], ◌∷◌, nat_lt, if◌then◌else◌, Option, None, Some}
 use Rattle.std.specs.List.{find}
 use Rattle.std.specs.Option.{option_map, option_or}
-use Rattle.encoding_mem.specs.calls.EncodedLength.{encoded_length_gb18030, encoded_length_two_byte}
-use Rattle.encoding_mem.specs.declared.room.EncodedLength.{EncodedLength}
-use Rattle.encoding_mem.specs.Coding.{Coding, form_of_bytes}
-use Rattle.encoding_mem.specs.Stateless.{stateless}
+use Rattle.encoding_mem.specs.Coding.{form_of_bytes}
 use Rattle.encoding_mem.specs.declared.form.Form.{Form}
 use Rattle.encoding_tables.specs.Lookups.{first_pointer}
 use Rattle.encoding_tables.specs.Ranges.{range_pointer}
@@ -61,12 +58,3 @@ gb18030_bytes flat rows extended c = if nat_lt c 0x80 then Some (c ∷ [])
 -- the form of a character in gb18030, or in GBK: its one, two or four bytes, or that it has none
 abbrev pub gb18030_form : List ℕ → List (ℕ × ℕ) → Bool → ℕ → Form
 gb18030_form flat rows extended c = form_of_bytes c (gb18030_bytes flat rows extended c)
-
--- the most bytes of a character: 4 in gb18030, 2 in GBK
-abbrev pub gb18030_need : Bool → ℕ
-gb18030_need extended = if extended then 4 else 2
-
--- the room in bytes that is enough for a text in gb18030 or in GBK, by its length in units of
--- UTF-16 or in bytes of UTF-8, references apart
-abbrev pub gb18030_encoded_length : Bool → EncodedLength
-gb18030_encoded_length extended = if extended then encoded_length_gb18030 else encoded_length_two_byte

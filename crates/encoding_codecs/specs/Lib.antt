@@ -10,6 +10,8 @@ pub mod Gb18030Coding
 pub mod Iso2022Jp
 pub mod Iso2022JpForms
 pub mod Iso2022JpSets
+pub mod JisPointers
+pub mod ShiftJisPointers
 pub mod calls
 pub mod laws
 pub mod examples

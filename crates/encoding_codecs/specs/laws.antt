@@ -27,4 +27,3 @@ pub mod EncodedLengths
 pub mod TwoByteDecide
 pub mod TwoByte
 pub mod ShiftJisPointers
-pub mod JisPointerLaws

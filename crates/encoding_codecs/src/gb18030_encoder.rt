@@ -7,10 +7,10 @@ ghost use Rattle.encoding_mem.specs.Stateless.{stateless};
 ghost use Rattle.encoding_tables.specs.IndexLists.{has, index_entries, range_rows};
 ghost use Rattle.encoding_codecs.specs.Gb18030Coding.{gb18030_fixed_pair, gb18030_pair_bytes};
 ghost use Rattle.encoding_codecs.specs.Gb18030Coding.{gb18030_four_bytes, gb18030_bytes};
-ghost use Rattle.encoding_codecs.specs.Gb18030Coding.{gb18030_form, gb18030_need};
-ghost use Rattle.encoding_codecs.specs.Gb18030Coding.{gb18030_encoded_length};
+ghost use Rattle.encoding_codecs.specs.Gb18030Coding.{gb18030_form};
 ghost use Rattle.encoding_codecs.specs.laws.Gb18030Coding.{gb18030_ascii, gb18030_fits};
 ghost use Rattle.encoding_codecs.specs.laws.Gb18030Coding.{gb18030_laws};
+ghost use Rattle.encoding_codecs.specs.calls.Gb18030Bounds.{gb18030_need, gb18030_encoded_length};
 
 use crate::two_byte::form_of_bytes;
 use encoding_mem::encode::StatelessRule;

@@ -3,7 +3,7 @@ use Rattle.std.proofs.Common.{◌≡◌, ℕ, ◌+◌, ◌-◌, ◌≤◌, Bool,
 use Rattle.std.proofs.lemmas.List.{drop-append-le, drop-drop, take-append-drop}
 use Rattle.encoding_mem.specs.declared.reference.Reference.TheVariants.{Decimal}
 use Rattle.encoding_mem.specs.calls.EncoderCalls.{EncodesItems}
-use Rattle.encoding_mem.specs.laws.Encoding.{encoded_bytes, encoded_items, encoded_moves}
+use Rattle.encoding_mem.specs.laws.EncoderCalls.{encoded_bytes, encoded_items, encoded_moves}
 use Rattle.encoding_mem.specs.calls.EncoderRule.{EncoderCall, EncoderParts}
 use Rattle.encoding_mem.specs.declared.encoder_result.EncoderResult.{EncoderResult}
 use Rattle.encoding_mem.specs.declared.encoder_result.EncoderResult.TheVariants.{InputEmpty, OutputFull, Unmappable}

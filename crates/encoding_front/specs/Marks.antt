@@ -1,6 +1,6 @@
 -- Byte order marks: which one is taken from the start of an input, in which encoding what follows it is then, and the
 -- pieces of both (the Encoding Standard, section 6, "decode", "UTF-8 decode" and "UTF-8 decode without BOM").
-use Rattle.std.specs.Prelude.{ℕ, zero, suc, ◌==◌, Bool, true, false, Option, None, Some, List, [], ◌∷◌, ◌++◌, drop, filter}
+use Rattle.std.specs.Prelude.{ℕ, zero, suc, ◌==◌, Bool, true, false, List, [], ◌∷◌, ◌++◌, drop, filter}
 use Rattle.std.specs.Option.{unwrap_or}
 use Rattle.encoding_mem.specs.Piece.{Piece, well_formed, text}
 use Rattle.encoding_tables.specs.IndexLists.{IndexLists}

@@ -1,7 +1,7 @@
 -- Lemmas about the definitions of `specs/`. Nothing here has to be read to trust a claim.
-pub mod Bounds
 pub mod Encoder
 pub mod Encodings
 pub mod Input
 pub mod Seeking
 pub mod Stream
+pub mod ReportedCharacter

@@ -4,7 +4,7 @@ use Rattle.std.specs.Option.{MatchOption}
 use Rattle.std.proofs.lemmas.Bool.{cases_lt}
 use Rattle.std.proofs.Math.Seq.{take-append_seam, get_or-append_seam}
 use Rattle.encoding_index.specs.IndexText.{lines_in, rows_in, rows_before_fault, least_above, line_fault, first_fault_behind, first_fault, memory_fault, row_fault}
-use Rattle.encoding_index.specs.laws.FaultLaws.{fault_at, NoneFaultyBefore, IsFirstFault, FaultsAreFirst}
+use Rattle.encoding_index.specs.FaultLaws.{fault_at, NoneFaultyBefore, IsFirstFault, FaultsAreFirst}
 use Rattle.encoding_index.specs.declared.fault.IndexFault.{IndexFault}
 use Rattle.encoding_index.specs.declared.fault.IndexFaultKind.{IndexFaultKind}
 use Rattle.std.specs.List.{last_or}

@@ -13,7 +13,7 @@ use Rattle.std.proofs.lemmas.Grind.{get_or-set_at}
 use Rattle.std.proofs.lemmas.List.FromFn.{fill_by_all, get_or-map-range_with_len, length-map-range_with_len}
 use Rattle.std.specs.Prelude.{All}
 use Rattle.std.proofs.Math.ListN.{get_or-eq_default}
-use Rattle.encoding_index.specs.laws.ListLaws.{IsListOf, ListsAreOfRows}
+use Rattle.encoding_index.specs.ListLaws.{IsListOf, ListsAreOfRows}
 
 pub text_rows_rise : (size : ℕ) (text : List ℕ) → first_fault size text ≡ None → AreRising size 0 (text_rows text)
 text_rows_rise size text none =

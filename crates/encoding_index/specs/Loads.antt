@@ -40,8 +40,8 @@ Loads tables kind text =
     MatchBool (is_ranges kind) (tables.rows ≡ Some (text_rows text)) (flat_of tables kind ≡ Some (text_list (index_size kind) text))
 
 -- tables before and after a call differ at most in the index of the kind
-abbrev pub KeepsOthers : IndexLists → IndexLists → IndexKind → Type 0
-KeepsOthers old new kind =
+abbrev pub KeepsOtherKinds : IndexLists → IndexLists → IndexKind → Type 0
+KeepsOtherKinds old new kind =
     ((other : IndexKind) → other ≢ kind → flat_of new other ≡ flat_of old other) × (is_ranges kind ≡ false → new.rows ≡ old.rows)
 
 -- a load failed since memory was refused, either to read the index text or to the tables

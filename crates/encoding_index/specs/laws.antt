@@ -4,5 +4,3 @@ pub mod RowsLeft
 pub mod RowStarts
 pub mod Digits
 pub mod Inserts
-pub mod FaultLaws
-pub mod ListLaws

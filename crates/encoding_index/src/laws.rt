@@ -5,8 +5,8 @@ ghost use Rattle.encoding_index.specs.declared.fault.IndexFault.{IndexFault};
 ghost use Rattle.encoding_index.specs.declared.fault.IndexFaultKind.{IndexFaultKind};
 ghost use Rattle.encoding_index.specs.declared.fault.LoadFault.{LoadFault};
 ghost use Rattle.encoding_index.specs.RowGrammar.{RowsAreWritten};
-ghost use Rattle.encoding_index.specs.laws.FaultLaws.{FaultsAreFirst};
-ghost use Rattle.encoding_index.specs.laws.ListLaws.{ListsAreOfRows};
+ghost use Rattle.encoding_index.specs.FaultLaws.{FaultsAreFirst};
+ghost use Rattle.encoding_index.specs.ListLaws.{ListsAreOfRows};
 
 use crate::fault::{IndexFault, IndexFaultKind, LoadFault};
 

@@ -6,7 +6,7 @@ ghost use Rattle.encoding_tables.specs.Kinds.{is_ranges, index_size};
 ghost use Rattle.encoding_tables.specs.PackedRows.{PointersRise, PointersAreBelow};
 ghost use Rattle.encoding_index.specs.IndexText.{rows_before_fault, text_rows, memory_fault};
 ghost use Rattle.encoding_index.specs.Loads.{pointers_of, text_fault, load_fault};
-ghost use Rattle.encoding_index.specs.Loads.{Loads, KeepsOthers, WantsMemory};
+ghost use Rattle.encoding_index.specs.Loads.{Loads, KeepsOtherKinds, WantsMemory};
 ghost use Rattle.encoding_index.specs.laws.Inserts.{rows_fault, HaveRows};
 
 use crate::fault::{IndexFault, LoadFault};
@@ -38,7 +38,7 @@ fn insert(tables: &mut Tables, kind: IndexKind, rows: &[(u32, u32)]) -> Result<(
         ((result ≡ Ok tt) ⊎ (result ≡ Err TableFault.Memory)) (λ f. result ≡ Err f) }
     ensures grows { is_ranges kind ≡ true → rows.now ≡ [] → result ≢ Err TableFault.Memory }
     ensures taken { OnOk result (HaveRows tables.new kind rows.now) }
-    ensures others { KeepsOthers tables.old tables.new kind }
+    ensures others { KeepsOtherKinds tables.old tables.new kind }
     ensures unchanged { OnErr result (tables.new ≡ tables.old) }
 {
     if kind.is_ranges() {
@@ -70,7 +70,7 @@ pub fn load(
     ensures grows_ranges { is_ranges kind ≡ true → text_rows text.now ≡ []
         → result ≢ Err (LoadFault.Table TableFault.Memory) }
     ensures loaded { OnOk result (Loads tables.new kind text.now) }
-    ensures others { KeepsOthers tables.old tables.new kind }
+    ensures others { KeepsOtherKinds tables.old tables.new kind }
     ensures unchanged { OnErr result (tables.new ≡ tables.old) }
 {
     let rows = rows_of(alloc, kind, text)?;

@@ -1,5 +1,5 @@
 -- The labels of encodings (the Encoding Standard, section 4.2, "Names and labels").
-use Rattle.std.specs.Prelude.{◌≡◌, ℕ, ◌-◌, ◌≤◌, ◌==◌, Bool, cond, ◌||◌, Option, None, Some, List, [], ◌∷◌, ◌++◌, map, length, take, drop, codes, refl, Contains, filter}
+use Rattle.std.specs.Prelude.{◌≡◌, ℕ, ◌-◌, ◌≤◌, ◌==◌, Bool, cond, ◌||◌, Option, None, Some, List, [], ◌∷◌, ◌++◌, map, length, take, drop, codes, refl, Contains}
 use Rattle.std.specs.List.{prefix_len, suffix_len, range_with_len, AllPass}
 use Rattle.std.specs.Char.{is_ascii_whitespace, to_ascii_lowercase, is_ascii_lowercase, is_ascii_digit, char_set_contains}
 use Rattle.std.specs.Str.{bytes_eq}

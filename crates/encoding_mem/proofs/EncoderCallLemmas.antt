@@ -5,7 +5,7 @@ use Rattle.std.proofs.lemmas.List.{append-nil, drop-drop, length-append}
 use borrow.Rule.Slice.PartMut.{put_mid}
 use Rattle.encoding_mem.proofs.LongestPrefixLemmas.{length_put}
 use Rattle.encoding_mem.specs.Coding.{Coding, IsCoding, last_set, mapped_bytes, bytes_from, AllMapped, IsMapped}
-use Rattle.encoding_mem.specs.laws.Encoding.{all_mapped-append, bytes_from-append, last_set-append}
+use Rattle.encoding_mem.specs.laws.EncoderCalls.{all_mapped-append, bytes_from-append, last_set-append}
 use Rattle.encoding_mem.specs.calls.EncoderCalls.{EncodeEndsWith, Encodes}
 use Rattle.std.specs.Str.{IsAscii, IsCharBoundary, encode_utf8_all}
 use Rattle.encoding_mem.specs.calls.EncoderRule.{CopiesAscii, CopiesUtf8, EncoderCall, EncoderParts, IsCopied, IsRun, Tight, WritesBytes}

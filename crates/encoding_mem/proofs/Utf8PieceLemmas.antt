@@ -4,7 +4,7 @@ use Rattle.std.specs.Int.{is_in_range, IsInRange}
 use Rattle.std.proofs.lemmas.Bool.Decides.{nat_tests}
 use Rattle.encoding_mem.specs.Piece.{Piece, well_formed, malformed, piece_len, piece_scalars}
 use Rattle.encoding_mem.specs.Utf8.{first_piece_utf8, utf8_after_lead, utf8_after_two, utf8_after_three, second_min, second_max, scalar_of_two, scalar_of_three, scalar_of_four, pieces_utf8}
-use Rattle.encoding_mem.specs.laws.Utf8Decide.{decide_utf8, utf8_decide_lead, utf8_decide_two, utf8_decide_three, cut_short}
+use Rattle.encoding_mem.specs.laws.Utf8Decide.{decide_utf8, utf8_decide_lead, utf8_decide_two, utf8_decide_three}
 use Rattle.encoding_mem.specs.laws.Shows.{Shows, shows_cond, shows_cons, shows_const, broken_then_well_formed}
 use Rattle.std.specs.Char.{IsScalar, encode_utf8}
 use Rattle.std.specs.Str.{all_scalars}
@@ -16,6 +16,7 @@ use Rattle.encoding_mem.specs.laws.Pieces.{pieces_by-nil, pieces_by-first}
 use Rattle.encoding_mem.specs.laws.Utf8.{first_piece_utf8-encode, cuts_utf8, encode_two, encode_three, encode_four, range_from, second_low, second_high, second_least}
 use Rattle.encoding_mem.specs.MaximalSubparts.{BeginsWithForm, IsFormPrefix, IsSubpart, IsMaximalSubpart, IsUtf8Piece, Utf8PiecesAreMaximal}
 use Rattle.encoding_mem.specs.Decided.{AreBytes}
+use Rattle.encoding_mem.specs.calls.DecoderRule.{cut_short}
 
 -- each piece has a byte
 some_cond : (t : Bool) (p q : Piece) → 0 < piece_len p → 0 < piece_len q → 0 < piece_len (cond t p q)

@@ -23,7 +23,7 @@ pub record Follows (before after : List ℕ → List Piece) (bytes t : List ℕ)
   pub rest : (r : List ℕ) → before (bytes ++ r) ≡ taken ++ after r
 
 -- two texts differ in the character at an index that both have
-pub record AreApart (a b : List ℕ) : Type 0 where
+pub record TextsDiffer (a b : List ℕ) : Type 0 where
   pub offset : ℕ
   pub in_one : offset < length a
   pub in_other : offset < length b
@@ -34,7 +34,7 @@ pub record AreApart (a b : List ℕ) : Type 0 where
 pub record IsBroken (before : List ℕ → List Piece) (bytes t : List ℕ) : Type 0 where
   pub taken : List Piece
   pub decided : IsFixed before bytes taken
-  pub wrong : (AreWellFormed taken → ⊥) ⊎ AreApart (text taken) t
+  pub wrong : (AreWellFormed taken → ⊥) ⊎ TextsDiffer (text taken) t
 
 -- A target reads back step by step: what is written for a scalar, read from the set in force, is
 -- the scalar, and what follows is read from the scalar's set; or it is broken (`IsBroken`).

@@ -1,5 +1,4 @@
 -- Worked rows: what the definitions of `specs/` come to on inputs that a reader can work by hand.
-pub mod Encoding
 pub mod Texts
 pub mod SampleCoding
 pub mod Piece
@@ -14,7 +13,6 @@ pub mod Decoding
 pub mod ReadBack
 pub mod Agreement
 pub mod ReadCalls
-pub mod Text
 pub mod Latin1
 pub mod Latin1Bytes
 pub mod BidiBytes
@@ -24,3 +22,5 @@ pub mod Surrogates
 pub mod TextDestination
 pub mod TextUnits
 pub mod UnitRun
+pub mod EncoderCalls
+pub mod TextRun

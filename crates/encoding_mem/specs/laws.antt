@@ -8,11 +8,9 @@ pub mod UnitRun
 pub mod Utf8
 pub mod Shows
 pub mod DecodedLength
-pub mod Text
 pub mod Stateless
 pub mod Utf8Coding
 pub mod EncodedLength
-pub mod Encoding
 pub mod SampleCoding
 pub mod ReadBack
 pub mod Steps
@@ -21,3 +19,5 @@ pub mod OneSet
 pub mod Verdict
 pub mod Latency
 pub mod ReadCalls
+pub mod EncoderCalls
+pub mod TextRun

@@ -3,11 +3,10 @@
 ghost use Rattle.std.specs.Prelude.{◌≡◌, ℕ, ◌<◌, ◌≤◌, ◌+◌, ◌*◌, ◌++◌, List, [], length, take};
 ghost use Rattle.std.specs.Str.{chars, encode_utf8_all};
 ghost use Rattle.encoding_mem.specs.Piece.{Piece, sizes, ArePieces};
-ghost use Rattle.encoding_mem.specs.calls.DecoderRule.{TellsFirstPiece, HasRoomFor};
+ghost use Rattle.encoding_mem.specs.calls.DecoderRule.{TellsFirstPiece, HasRoomFor, cut_short};
 ghost use Rattle.encoding_mem.specs.calls.DecodedLength.{is_units, decoded_length};
 ghost use Rattle.encoding_mem.specs.calls.TextRun.{text_len, text_pieces};
 ghost use Rattle.encoding_mem.specs.calls.UnitRun.{BeginWithUnits};
-ghost use Rattle.encoding_mem.specs.laws.Utf8Decide.{cut_short};
 ghost use Rattle.encoding_mem.specs.declared.room.OutputUnit.{OutputUnit};
 ghost use Rattle.encoding_mem.specs.declared.room.DecodedLength.{DecodedLength};
 

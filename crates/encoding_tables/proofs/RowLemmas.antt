@@ -18,7 +18,7 @@ use Rattle.std.specs.List.{Contains}
 use Rattle.std.specs.List.Sorted.{IsPermutation}
 use Rattle.std.proofs.lemmas.List.Edits.{swapped_from_swap, length-swap}
 use Rattle.std.proofs.lemmas.List.Sorted.{IsPermutation-keeps, IsPermutation-sym, Contains-permutation, length_permutation}
-use Rattle.encoding_tables.specs.laws.LookupLaws.{IsPointer}
+use Rattle.encoding_tables.specs.LookupLaws.{IsPointer}
 use Rattle.encoding_tables.specs.laws.Pointers.{value_some, first_is_least, last_is_greatest}
 
 pub length-flat_list : (size : ℕ) (rows : List (ℕ × ℕ)) → length (flat_list size rows) ≡ size

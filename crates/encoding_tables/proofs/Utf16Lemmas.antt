@@ -4,7 +4,6 @@ use Rattle.std.proofs.Common.{◌≡◌, ℕ, ◌≤◌, ◌<◌, Bool, true, fa
 use Rattle.std.specs.Char.Utf16.{is_high_surrogate, is_low_surrogate, surrogate_pair_char, lone_unit_char, utf16_chars}
 use Rattle.std.proofs.Math.Utf8.{scalar}
 use Rattle.encoding_mem.specs.Piece.{Piece, well_formed, malformed, piece_len}
-use Rattle.encoding_mem.specs.laws.Utf8Decide.{cut_short}
 use Rattle.encoding_mem.specs.laws.Shows.{Shows, shows_cond, shows_cons, shows_const}
 use Rattle.encoding_tables.specs.Utf16.{unit_of, after_high_surrogate, after_unit, first_piece_utf16, bytes_of_unit, bytes_of_units, pieces_utf16, piece_of_char, ReadsUnits}
 use Rattle.encoding_tables.specs.laws.Utf16Decide.{decide_pair, decide_unit, decide_utf16}
@@ -16,7 +15,7 @@ use Rattle.encoding_mem.specs.laws.Pieces.{pieces_by-nil, pieces_by-cons}
 use Rattle.encoding_tables.specs.laws.Utf16.{cuts_utf16}
 use Rattle.std.specs.Char.{len_utf8}
 use Rattle.std.proofs.lemmas.Bool.Decides.{nat_tests}
-use Rattle.encoding_mem.specs.calls.DecoderRule.{HasRoomFor}
+use Rattle.encoding_mem.specs.calls.DecoderRule.{HasRoomFor, cut_short}
 use Rattle.encoding_mem.specs.calls.DecodedLength.{is_units, counts_past_malformed, cost_in, replacement_len, left_after, decoded_length, decoded_length_utf16}
 use Rattle.encoding_mem.specs.calls.Writing.{len_utf16}
 use Rattle.encoding_mem.specs.laws.Writing.{cost_fits16}

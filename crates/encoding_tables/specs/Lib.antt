@@ -13,6 +13,8 @@ pub mod Replacement
 pub mod Utf16
 pub mod SingleByte
 pub mod PackedRows
+pub mod LookupLaws
+pub mod RangeLaws
 pub mod calls
 pub mod laws
 pub mod examples

@@ -1,5 +1,5 @@
 -- UTF-16 in bytes, of either order (the Encoding Standard, section 14.2.1, "shared UTF-16 decoder"; RFC 2781).
-use Rattle.std.specs.Prelude.{◌≡◌, ℕ, ◌+◌, ◌*◌, ◌<◌, Bool, false, List, [], ◌∷◌, ◌++◌, map, slice_index, if◌then◌else◌, Option, None, Some, refl}
+use Rattle.std.specs.Prelude.{◌≡◌, ℕ, ◌+◌, ◌*◌, ◌<◌, Bool, List, [], ◌∷◌, ◌++◌, map, slice_index, if◌then◌else◌, Option, None, Some}
 use Rattle.std.specs.Int.{w16, from_be_bytes, from_le_bytes, to_be_bytes, to_le_bytes}
 use Rattle.std.specs.Char.Utf16.{is_high_surrogate, is_low_surrogate, surrogate_pair_char, utf16_chars}
 use Rattle.std.proofs.Math.Utf8.{scalar}

@@ -14,5 +14,3 @@ pub mod TableFaults
 pub mod UserDefined
 pub mod Utf16Decide
 pub mod Utf16
-pub mod LookupLaws
-pub mod RangeLaws

@@ -7,14 +7,14 @@ ghost use Rattle.encoding_mem.specs.Steps.{StepLaw, in_any_set};
 ghost use Rattle.encoding_tables.specs.FileNames.{FileNamesDiffer};
 ghost use Rattle.encoding_tables.specs.Lookups.{AreEntries};
 ghost use Rattle.encoding_tables.specs.Accepted.{AcceptanceIsExact};
-ghost use Rattle.encoding_tables.specs.laws.LookupLaws.{FirstIsLeast, LastIsGreatest};
+ghost use Rattle.encoding_tables.specs.LookupLaws.{FirstIsLeast, LastIsGreatest};
 ghost use Rattle.encoding_tables.specs.NamedRows.{NamesAreExact};
 ghost use Rattle.encoding_tables.specs.SingleByte.{pieces_single_byte, single_byte_coding};
 ghost use Rattle.encoding_tables.specs.Replacement.{IsOneError, NeedsRoomOnce};
 ghost use Rattle.encoding_tables.specs.UserDefined.{pieces_user_defined, user_defined_coding};
 ghost use Rattle.encoding_tables.specs.Utf16.{ReadsUnits};
-ghost use Rattle.encoding_tables.specs.laws.RangeLaws.{ValuesAreScalars, ValuesRise};
-ghost use Rattle.encoding_tables.specs.laws.RangeLaws.{PointersAreExact, PointersReadBack};
+ghost use Rattle.encoding_tables.specs.RangeLaws.{ValuesAreScalars, ValuesRise};
+ghost use Rattle.encoding_tables.specs.RangeLaws.{PointersAreExact, PointersReadBack};
 ghost use Rattle.encoding_tables.specs.declared.index_kind.IndexKind.{IndexKind};
 ghost use Rattle.encoding_tables.specs.declared.table_fault.TableFault.{TableFault};
 

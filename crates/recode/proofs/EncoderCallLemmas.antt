@@ -5,7 +5,7 @@ use Rattle.encoding_mem.specs.declared.reference.Reference.{Reference}
 use Rattle.encoding_mem.specs.Coding.{Coding, IsCoding}
 use Rattle.encoding_mem.specs.Items.{Item, Byte, whole_items}
 use Rattle.encoding_mem.specs.calls.EncoderCalls.{Encodes, reported_item}
-use Rattle.encoding_mem.specs.laws.Encoding.{encoded_items}
+use Rattle.encoding_mem.specs.laws.EncoderCalls.{encoded_items}
 use Rattle.encoding_mem.specs.declared.form.EscapeState.{EscapeState}
 use Rattle.encoding_mem.specs.declared.encoder_result.EncoderResult.{EncoderResult}
 

@@ -5,7 +5,7 @@ use Rattle.std.specs.Str.{chars, IsUtf8}
 use Rattle.std.proofs.lemmas.Str.{encodes-chars}
 use Rattle.encoding_mem.specs.Piece.{text, AreWellFormed}
 use Rattle.encoding_mem.specs.Coding.{AllMapped, output}
-use Rattle.encoding_mem.specs.laws.Encoding.{utf8_output}
+use Rattle.encoding_mem.specs.laws.EncoderCalls.{utf8_output}
 use Rattle.encoding_mem.specs.laws.ReadBack.{all_in_utf8, text_pieces-well_formed, text_pieces-text}
 use Rattle.encoding_front.specs.Encodings.{IsUtf8Encoding, KeepsCharacters}
 use Rattle.encoding_front.specs.Marks.{marked_pieces}

@@ -19,7 +19,7 @@ use Rattle.recode_log.specs.declared.line.LogLine.{LogLine}
 use Rattle.recode_log.specs.declared.line.LogLine.TheVariants.{Bad}
 use Rattle.recode.specs.Job.{input_pieces, log_lines, lost_log_lines, target_of}
 use Rattle.recode.specs.calls.Chunk.{DecodesChunk}
-use Rattle.recode.specs.Latency.{StandsAt, WroteDecided}
+use Rattle.recode.specs.Latency.{HasReached, WroteDecided}
 use Rattle.recode.specs.Policy.{reference_form}
 use Rattle.recode.specs.State.{State}
 use Rattle.recode.specs.Step.{Advances, HasRun, IsNearlyDecided, StepsOn}
@@ -31,7 +31,7 @@ use Rattle.recode.specs.declared.target.Counts.{Counts}
 use Rattle.recode.specs.declared.job.Job.{Job}
 use Rattle.recode.specs.declared.job.Policy.{Policy}
 use Rattle.recode.proofs.DecoderCallLemmas.{MalformedCall, WellFormedCall, last_set-append, sizes-append}
-use Rattle.recode.proofs.TraceLemmas.{lines-append, tagged-append, outputs-append, lines-trace, outputs-trace, whole_from-append, open_from-append}
+use Rattle.recode.proofs.TraceLemmas.{log_bytes-append_of_items, tagged-append, output_bytes-append, log_bytes-trace, output_bytes-trace, whole_from-append, open_from-append}
 
 -- The text of pieces in a row.
 pub text-append : (a b : List Piece) → text (a ++ b) ≡ text a ++ text b
@@ -120,9 +120,9 @@ module _ (ref : Reference) (e : Coding) (s s1 : EscapeState) (offset i offset1 i
       let all : open_from ref e s (text taken) ++ whole_from ref e s1 (text qs) ≡ output_bytes (tagged written_items) ++ whole_from ref e s1 (text qs) =
       ap (λ (q : EscapeState). open_from ref e s (text taken) ++ whole_from ref e q (text qs)) set_is
       ∙ sym (whole_from-append _ e s (text taken) (text qs)) ∙ ap (whole_from ref e s) (sym (text-append taken qs))
-      ∙ sym (outputs-trace _ e s offset i (taken ++ qs)) ∙ ap (λ k. output_bytes (tagged k)) is
-      ∙ ap output_bytes (tagged-append written_items (trace_from ref e s1 offset1 i1 qs)) ∙ outputs-append (tagged written_items) (tagged (trace_from ref e s1 offset1 i1 qs))
-      ∙ ap (λ x. output_bytes (tagged written_items) ++ x) (outputs-trace _ e s1 offset1 i1 qs) in
+      ∙ sym (output_bytes-trace _ e s offset i (taken ++ qs)) ∙ ap (λ k. output_bytes (tagged k)) is
+      ∙ ap output_bytes (tagged-append written_items (trace_from ref e s1 offset1 i1 qs)) ∙ output_bytes-append (tagged written_items) (tagged (trace_from ref e s1 offset1 i1 qs))
+      ∙ ap (λ x. output_bytes (tagged written_items) ++ x) (output_bytes-trace _ e s1 offset1 i1 qs) in
       sym (append_cancel_right (open_from ref e s (text taken)) (output_bytes (tagged written_items)) (whole_from ref e s1 (text qs)) all)
 
   paid_lines : log_bytes (tagged written_items) ≡ flat_map line_bytes (log_lines e offset i taken)
@@ -130,9 +130,9 @@ module _ (ref : Reference) (e : Coding) (s s1 : EscapeState) (offset i offset1 i
       let own : List ℕ = flat_map line_bytes (log_lines e offset i taken) in
       let rest : List ℕ = flat_map line_bytes (log_lines e offset1 i1 qs) in
       let all : own ++ rest ≡ log_bytes (tagged written_items) ++ rest =
-      sym (log_bytes-append e offset i offset1 i1 taken qs offset_is index_is) ∙ sym (lines-trace _ e s offset i (taken ++ qs)) ∙ ap (λ k. log_bytes (tagged k)) is
-      ∙ ap log_bytes (tagged-append written_items (trace_from ref e s1 offset1 i1 qs)) ∙ lines-append (tagged written_items) (tagged (trace_from ref e s1 offset1 i1 qs))
-      ∙ ap (λ x. log_bytes (tagged written_items) ++ x) (lines-trace _ e s1 offset1 i1 qs) in
+      sym (log_bytes-append e offset i offset1 i1 taken qs offset_is index_is) ∙ sym (log_bytes-trace _ e s offset i (taken ++ qs)) ∙ ap (λ k. log_bytes (tagged k)) is
+      ∙ ap log_bytes (tagged-append written_items (trace_from ref e s1 offset1 i1 qs)) ∙ log_bytes-append_of_items (tagged written_items) (tagged (trace_from ref e s1 offset1 i1 qs))
+      ∙ ap (λ x. log_bytes (tagged written_items) ++ x) (log_bytes-trace _ e s1 offset1 i1 qs) in
       sym (append_cancel_right own (log_bytes (tagged written_items)) rest all)
 
 -- how many bytes were taken
@@ -178,7 +178,7 @@ steps_on before after limit s s1 chunk last read_in some within sound goes_on k 
     }
 
 -- A session that has read nothing, and one that steps on.
-pub stands_first : (t : Devices) (j : Job) (v : View) → IsNewSession v j → StandsAt t t j v.state [] []
+pub stands_first : (t : Devices) (j : Job) (v : View) → IsNewSession v j → HasReached t t j v.state [] []
 stands_first t j v b = record {
   coding = b.coding;
   policy = b.policy;
@@ -193,7 +193,7 @@ stands_first t j v b = record {
 }
 
 pub stands_on : (t t1 t2 : Devices) (j : Job) (limit : ℕ) (s s1 : State) (x : List ℕ) (ps : List Piece)
-    → StandsAt t t1 j s x ps → (p : StepsOn t1 t2 limit s s1) → StandsAt t t2 j s1 (x ++ p.chunk) (ps ++ p.advances.taken)
+    → HasReached t t1 j s x ps → (p : StepsOn t1 t2 limit s s1) → HasReached t t2 j s1 (x ++ p.chunk) (ps ++ p.advances.taken)
 stands_on t t1 t2 j limit s s1 x ps k p =
     let e = target_of j in
     let chunk : List ℕ = p.chunk in
@@ -238,10 +238,10 @@ prefixes (q ∷ a) b (p ∷ c) d e =
       | inr m ↦ inr (m.0, m.1, ap (λ l. p ∷ l) m.2 ∙ ap (λ x. x ∷ (a ++ (m.0 ∷ m.1))) (sym same), m.3)
     ]
 
-pub fixed : (t t1 : Devices) (j : Job) (s : State) (x : List ℕ) (ps : List Piece) → StandsAt t t1 j s x ps → IsFixed (input_pieces j) x ps
+pub fixed : (t t1 : Devices) (j : Job) (s : State) (x : List ℕ) (ps : List Piece) → HasReached t t1 j s x ps → IsFixed (input_pieces j) x ps
 fixed t t1 j s x ps k y = (s.decoder.pieces y, k.pieces y)
 
-pub decided : (t t1 : Devices) (j : Job) (s : State) (x : List ℕ) (ps : List Piece) → StandsAt t t1 j s x ps → IsDecided (input_pieces j) x ps
+pub decided : (t t1 : Devices) (j : Job) (s : State) (x : List ℕ) (ps : List Piece) → HasReached t t1 j s x ps → IsDecided (input_pieces j) x ps
 decided t t1 j s x ps k y bytes = fixed t t1 j s x ps k y
 
 begins_with : (d : List Piece) (p : Piece) (more : List Piece) → d ≡ p ∷ more → head_piece d ≡ Some p
@@ -274,11 +274,11 @@ none_more d a qs settled h =
     ]
 
 pub longest : (t t1 : Devices) (j : Job) (s : State) (x : List ℕ) (ps qs : List Piece)
-    → StandsAt t t1 j s x ps → IsNearlyDecided s.decoder → IsDecided (input_pieces j) x qs → IsPrefix qs ps
+    → HasReached t t1 j s x ps → IsNearlyDecided s.decoder → IsDecided (input_pieces j) x qs → IsPrefix qs ps
 longest t t1 j s x ps qs k settled h = none_more s.decoder ps qs settled (λ y bytes. let f = h y bytes in (f.0, sym (k.pieces y) ∙ f.1))
 
 pub soon : (t t1 : Devices) (j : Job) (s : State) (x y : List ℕ) (ps qs more : List Piece)
-    → StandsAt t t1 j s x ps → IsNearlyDecided s.decoder → input_pieces j (x ++ y) ≡ qs ++ more → sizes qs + 3 ≤ length x → IsPrefix qs ps
+    → HasReached t t1 j s x ps → IsNearlyDecided s.decoder → input_pieces j (x ++ y) ≡ qs ++ more → sizes qs + 3 ≤ length x → IsPrefix qs ps
 soon t t1 j s x y ps qs more k settled is early =
     elim (prefixes ps (s.decoder.pieces y) qs more (sym (k.pieces y) ∙ is)) [
       | inl f ↦ f
@@ -304,7 +304,7 @@ pub new_settled : (v : View) (j : Job) → IsNewSession v j → IsNearlyDecided 
 new_settled v j b = inl (b.pending, no_pieces (v.state.decoder.pieces []) (v.state.decoder.are_pieces []) (omega (arith, v.state.decoder.whole [], b.pending)))
 
 -- Where a new session stands that has run.
-pub stands_run : (a b : Devices) (j : Job) (v : View) (s : State) → IsNewSession v j → (p : HasRun a b j.limit v.state s) → StandsAt a b j s p.chunk p.advances.taken
+pub stands_run : (a b : Devices) (j : Job) (v : View) (s : State) → IsNewSession v j → (p : HasRun a b j.limit v.state s) → HasReached a b j s p.chunk p.advances.taken
 stands_run a b j v s n p =
     let e = target_of j in
     let taken : List Piece = p.advances.taken in
@@ -335,7 +335,7 @@ stands_run a b j v s n p =
 
 -- All that the bytes read decide was written, and stays so where nothing is written after.
 pub wrote_decided : (a b : Devices) (after : Written) (j : Job) (s : State) (x : List ℕ) (ps : List Piece)
-    → StandsAt a b j s x ps → IsNearlyDecided s.decoder → KeepsWritten b.written after → WroteDecided a.written after j x ps
+    → HasReached a b j s x ps → IsNearlyDecided s.decoder → KeepsWritten b.written after → WroteDecided a.written after j x ps
 wrote_decided a b after j s x ps k settled kept = record {
   decided = decided a b j s x ps k;
   longest = λ qs h. longest a b j s x ps qs k settled h;

@@ -16,7 +16,7 @@ use Rattle.encoding_index.specs.IndexText.{memory_fault, text_list, text_rows}
 use Rattle.encoding_index.specs.declared.fault.IndexFault.{IndexFault}
 use Rattle.encoding_index.specs.declared.fault.LoadFault.{LoadFault}
 use Rattle.encoding_index.specs.declared.fault.LoadFault.TheVariants.{Text, Table}
-use Rattle.encoding_index.specs.Loads.{KeepsOthers, Loads, load_fault, table_fault, text_fault}
+use Rattle.encoding_index.specs.Loads.{KeepsOtherKinds, Loads, load_fault, table_fault, text_fault}
 use Rattle.recode.specs.Program.{AddsFromFiles, AreKept, AreOfFiles, FileTexts, IsOfText}
 
 some_there : (b : Bool) (rows : Option (List (ℕ × ℕ))) (flat : Option (List ℕ)) (r : List (ℕ × ℕ)) (f : List ℕ)
@@ -39,7 +39,7 @@ kept_where false c old_rows new_rows old_flat new_flat same some flat was = rw f
 kept_where true true old_rows new_rows old_flat new_flat same some flat was = some refl
 kept_where true false old_rows new_rows old_flat new_flat same some flat was = rw (same refl) was
 
-pub load_keeps : (old new : IndexLists) (kind : IndexKind) (text : List ℕ) → Loads new kind text → KeepsOthers old new kind → AreKept old new
+pub load_keeps : (old new : IndexLists) (kind : IndexKind) (text : List ℕ) → Loads new kind text → KeepsOtherKinds old new kind → AreKept old new
 load_keeps old new kind text loads keeps k was = elim (cases_eq (number k) (number kind)) [
   | inl same ↦ rw (number-same k kind same) (loaded_there new kind text loads)
   | inr apart ↦ kept_where (is_ranges k) (is_ranges kind) old.rows new.rows (flat_of old k) (flat_of new k) keeps.1
@@ -98,7 +98,7 @@ map_told : (told : Option (List ℕ)) (P Q : List ℕ → Type 0) → ((text : L
 map_told None P Q f h = tt
 map_told (Some text) P Q f h = f text h
 
-other_of_file : (old new : IndexLists) (kind k : IndexKind) (told : Option (List ℕ)) → number k ≢ number kind → KeepsOthers old new kind
+other_of_file : (old new : IndexLists) (kind k : IndexKind) (told : Option (List ℕ)) → number k ≢ number kind → KeepsOtherKinds old new kind
     → (has old k ≡ true → IfSome told (IsOfText old k)) → has new k ≡ true → IfSome told (IsOfText new k)
 other_of_file old new kind k told apart keeps was now =
     let flat : flat_of new k ≡ flat_of old k = keeps.0 k (λ e. apart (ap number e)) in
@@ -112,7 +112,7 @@ other_of_file old new kind k told apart keeps was now =
 
 pub load_adds : (holds holds' : FileTexts) (dir : List ℕ) (old new : IndexLists) (kind : IndexKind) (text : List ℕ)
     → ((d f : List ℕ) → holds' d f ≡ holds d f) → IfSome (holds dir (file_name_of kind)) (λ t. text ≡ t) → text_fault kind text ≡ None → Loads new kind text
-    → KeepsOthers old new kind → AddsFromFiles holds holds' dir old new
+    → KeepsOtherKinds old new kind → AddsFromFiles holds holds' dir old new
 load_adds holds holds' dir old new kind text same told faultless loads keeps = record {
   same = same;
   added = λ was k now. elim (cases_eq (number k) (number kind)) [

@@ -16,7 +16,7 @@ use Rattle.recode.specs.TaggedByte.{TaggedByte, log_bytes, tagged}
 use Rattle.recode.specs.WrittenItems.{StopsAtLoss, lost_line_count}
 use Rattle.recode.specs.declared.job.Job.{Job}
 use Rattle.recode.specs.declared.job.Policy.{Policy}
-use Rattle.recode.proofs.TraceLemmas.{lines-noted, noted, noted-trace}
+use Rattle.recode.proofs.TraceLemmas.{log_bytes-noted, noted, noted-trace}
 
 noted-cut : (s : List Item) → noted (up_to_loss s) ≡ lines_up_to_loss (noted s)
 noted-cut [] = refl
@@ -27,7 +27,7 @@ noted-cut (LostAt i c ∷ s) = refl
 pub log_at_loss : (j : Job) (x : List ℕ) → j.policy ≡ Policy.Stop → log_of j x ≡ flat_map line_bytes (lines_up_to_loss (log_lines (target_of j) 0 0 (input_pieces j x)))
 log_at_loss j x stops =
     ap (λ (p : Policy). log_bytes (tagged (written_under p (whole_trace j x)))) stops
-    ∙ lines-noted (up_to_loss (whole_trace j x))
+    ∙ log_bytes-noted (up_to_loss (whole_trace j x))
     ∙ ap (flat_map line_bytes) (noted-cut (whole_trace j x) ∙ ap lines_up_to_loss (noted-trace (reference_form j.policy) (target_of j) Ascii 0 0 (input_pieces j x)))
 
 -- the lines of lost characters

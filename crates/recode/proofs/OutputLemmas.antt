@@ -7,7 +7,7 @@ use Rattle.std.proofs.lemmas.Str.{chars-encodes}
 use Rattle.encoding_mem.specs.declared.reference.Reference.TheVariants.{Decimal}
 use Rattle.encoding_mem.specs.Piece.{text, AreWellFormed, malformed_count}
 use Rattle.encoding_mem.specs.Coding.{output, lost_count}
-use Rattle.encoding_mem.specs.laws.Encoding.{utf8_lost_count}
+use Rattle.encoding_mem.specs.laws.EncoderCalls.{utf8_lost_count}
 use Rattle.encoding_mem.specs.laws.ReadBack.{all_in_utf8, none_lost, all_mapped}
 use Rattle.encoding_mem.specs.Utf8Coding.{utf8_coding}
 use Rattle.encoding_mem.specs.declared.form.EscapeState.TheVariants.{Ascii}
@@ -25,7 +25,7 @@ use Rattle.recode.specs.Devices.{Written}
 use Rattle.recode.specs.Session.{IsReport, IsConverted}
 use Rattle.recode.specs.declared.job.Job.{Job}
 use Rattle.recode.specs.declared.job.Report.{Report}
-use Rattle.recode.proofs.TraceLemmas.{lost_lines-trace}
+use Rattle.recode.proofs.TraceLemmas.{lost_line_count-trace}
 use Rattle.recode.proofs.RunLemmas.{well_formed_count, none_malformed}
 use Rattle.recode.proofs.StopLemmas.{kept_where_quiet, mapped_through, mapped_where_faithful, output_where_spared, quiet_where_kept, runs_through, trace_where_spared}
 
@@ -64,7 +64,7 @@ none_lost_in_utf8 j x h = ap (λ e. lost_count e (input_text j x)) (ap (λ k. (c
 
 pub no_lost_lines : (j : Job) (x : List ℕ) → IsUtf8Encoding (output_encoding_of j.to) → lost_line_count (trace j x) ≡ 0
 no_lost_lines j x h =
-    ap lost_line_count (trace_where_spared j x (runs_through j x (λ stops. none_lost_in_utf8 j x h))) ∙ lost_lines-trace (reference_form j.policy) (target_of j) Ascii 0 0 (input_pieces j x) ∙ none_lost_in_utf8 j x h
+    ap lost_line_count (trace_where_spared j x (runs_through j x (λ stops. none_lost_in_utf8 j x h))) ∙ lost_line_count-trace (reference_form j.policy) (target_of j) Ascii 0 0 (input_pieces j x) ∙ none_lost_in_utf8 j x h
 
 -- Where a character is lost, something is.
 pub lost_is_unfaithful : (j : Job) (x : List ℕ) → IsValidJob j → 0 < lost_count (target_of j) (input_text j x) → Faithful j x → ⊥

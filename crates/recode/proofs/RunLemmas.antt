@@ -26,7 +26,7 @@ use Rattle.recode.proofs.LatencyLemmas.{stands_run, wrote_decided}
 use Rattle.recode.proofs.StepLemmas.{HasStopped, left_as}
 use Rattle.recode.proofs.StopLemmas.{mapped_where_faithful, output_where_mapped, quiet_where_kept, trace_where_spared, whole_within}
 use Rattle.recode.proofs.WorkLemmas.{items_split}
-use Rattle.recode.proofs.TraceLemmas.{outputs-append, lines-append, bad_lines-trace, lost_lines-trace}
+use Rattle.recode.proofs.TraceLemmas.{output_bytes-append, log_bytes-append_of_items, bad_line_count-trace, lost_line_count-trace}
 
 -- No malformed sequence.
 pub none_malformed : (ps : List Piece) → malformed_count ps ≡ 0 → AreWellFormed ps
@@ -57,8 +57,8 @@ is_report : (j : Job) (x : List ℕ) (v w : View) (p : Report) → IsNewSession 
     → TakesAtLeast (3 * (w.state.counts.bad - v.state.counts.bad) + 2 * min 1 (length x) + 2) v.state.counts w.state.counts → AreSound w.state.decoder.pending w.state.counts → IsReport j x p
 is_report j x v w p b t same read_is malformed_is lost_is told valid within calls least sound =
     let e = target_of j in
-    let bads : p.bad ≡ malformed_count (input_pieces j x) = omega (arith, t.bad, malformed_is, b.bad, bad_lines-trace (reference_form j.policy) e Ascii 0 0 (input_pieces j x)) in
-    let losts : p.lost ≡ lost_count e (input_text j x) = omega (arith, t.lost, lost_is, b.lost, lost_lines-trace (reference_form j.policy) e Ascii 0 0 (input_pieces j x)) in
+    let bads : p.bad ≡ malformed_count (input_pieces j x) = omega (arith, t.bad, malformed_is, b.bad, bad_line_count-trace (reference_form j.policy) e Ascii 0 0 (input_pieces j x)) in
+    let losts : p.lost ≡ lost_count e (input_text j x) = omega (arith, t.lost, lost_is, b.lost, lost_line_count-trace (reference_form j.policy) e Ascii 0 0 (input_pieces j x)) in
     let read : p.read ≡ length x = omega (arith, t.read, read_is, b.read) in
     let most : p.calls ≤ 37 * p.read + 9 = omega (
       arith,
@@ -106,7 +106,7 @@ completes before after j v u p valid b f t =
       converted = record {
         whole = record {
           within = within;
-          unstopped = λ stops. sym (lost_lines-trace (reference_form j.policy) (target_of j) Ascii 0 0 (input_pieces j x)) ∙ spared stops;
+          unstopped = λ stops. sym (lost_line_count-trace (reference_form j.policy) (target_of j) Ascii 0 0 (input_pieces j x)) ∙ spared stops;
           output = wrote.output;
           logged = wrote.lined;
         };
@@ -115,10 +115,10 @@ completes before after j v u p valid b f t =
     }
 
 prefix_outputs : (t u : List TaggedByte) → IsPrefix t u → IsPrefix (output_bytes t) (output_bytes u)
-prefix_outputs t u f = (output_bytes f.0, ap output_bytes f.1 ∙ outputs-append t f.0)
+prefix_outputs t u f = (output_bytes f.0, ap output_bytes f.1 ∙ output_bytes-append t f.0)
 
 prefix_lines : (t u : List TaggedByte) → IsPrefix t u → IsPrefix (log_bytes t) (log_bytes u)
-prefix_lines t u f = (log_bytes f.0, ap log_bytes f.1 ∙ lines-append t f.0)
+prefix_lines t u f = (log_bytes f.0, ap log_bytes f.1 ∙ log_bytes-append_of_items t f.0)
 
 pub fails : (before after : Devices) (j : Job) (v : View) (f : Fault) → IsNewSession v j → HasStopped before after j.limit v.state f → Fails before after j f
 fails before after j v f b s =

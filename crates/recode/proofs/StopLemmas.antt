@@ -14,7 +14,7 @@ use Rattle.encoding_mem.specs.declared.form.Form.TheVariants.{Mapped, Unmapped}
 use Rattle.encoding_mem.specs.declared.form.EscapeState.{EscapeState}
 use Rattle.encoding_mem.specs.declared.form.EscapeState.TheVariants.{Ascii}
 use Rattle.encoding_mem.specs.laws.Agreement.{open_reads}
-use Rattle.encoding_mem.specs.laws.Encoding.{bytes_of-append, bytes_of-bytes, mapped_open}
+use Rattle.encoding_mem.specs.laws.EncoderCalls.{item_bytes-append, item_bytes-bytes, mapped_open}
 use Rattle.encoding_mem.specs.laws.ReadBack.{none_lost}
 use Rattle.encoding_mem.specs.laws.ReadCalls.{begins_along, broken_never_reads_on, lost_never_reads, reads_on, scalars_parts}
 use Rattle.encoding_front.specs.Encodings.{set_pieces_of}
@@ -30,11 +30,11 @@ use Rattle.recode.specs.WrittenItems.{IsSpared}
 use Rattle.recode.specs.declared.job.Job.{Job}
 use Rattle.recode.specs.declared.job.Policy.{Policy}
 use Rattle.recode.proofs.DecoderCallLemmas.{last_set-append}
-use Rattle.recode.proofs.TraceLemmas.{cut_spared, kept_where_no_lines, lines-trace, lost_lines-bytes, lost_lines-trace, no_lines, no_lines_without_bytes, outputs-append, outputs-tagged, outputs-trace, tagged-append, written_whole}
+use Rattle.recode.proofs.TraceLemmas.{cut_spared, kept_where_no_lines, log_bytes-trace, lost_line_count-bytes, lost_line_count-trace, no_lines, no_lines_without_bytes, output_bytes-append, output_bytes-tagged, output_bytes-trace, tagged-append, written_whole}
 
 -- Where nothing stops it.
 pub runs_through : (j : Job) (x : List ℕ) → (j.policy ≡ Policy.Stop → lost_count (target_of j) (input_text j x) ≡ 0) → IsSpared j.policy (whole_trace j x)
-runs_through j x h stops = lost_lines-trace (reference_form j.policy) (target_of j) Ascii 0 0 (input_pieces j x) ∙ h stops
+runs_through j x h stops = lost_line_count-trace (reference_form j.policy) (target_of j) Ascii 0 0 (input_pieces j x) ∙ h stops
 
 pub mapped_through : (j : Job) (x : List ℕ) → AllMapped (target_of j) (input_text j x) → IsSpared j.policy (whole_trace j x)
 mapped_through j x h = runs_through j x (λ stops. none_lost (target_of j) (input_text j x) h)
@@ -43,10 +43,10 @@ pub trace_where_spared : (j : Job) (x : List ℕ) → IsSpared j.policy (whole_t
 trace_where_spared j x h = written_whole j.policy (whole_trace j x) h
 
 pub output_where_spared : (j : Job) (x : List ℕ) → IsSpared j.policy (whole_trace j x) → output_of j x ≡ output (reference_form j.policy) (target_of j) (input_text j x)
-output_where_spared j x h = ap (λ l. output_bytes (tagged l)) (trace_where_spared j x h) ∙ outputs-trace (reference_form j.policy) (target_of j) Ascii 0 0 (input_pieces j x)
+output_where_spared j x h = ap (λ l. output_bytes (tagged l)) (trace_where_spared j x h) ∙ output_bytes-trace (reference_form j.policy) (target_of j) Ascii 0 0 (input_pieces j x)
 
 pub log_where_spared : (j : Job) (x : List ℕ) → IsSpared j.policy (whole_trace j x) → log_of j x ≡ flat_map line_bytes (log_lines (target_of j) 0 0 (input_pieces j x))
-log_where_spared j x h = ap (λ l. log_bytes (tagged l)) (trace_where_spared j x h) ∙ lines-trace (reference_form j.policy) (target_of j) Ascii 0 0 (input_pieces j x)
+log_where_spared j x h = ap (λ l. log_bytes (tagged l)) (trace_where_spared j x h) ∙ log_bytes-trace (reference_form j.policy) (target_of j) Ascii 0 0 (input_pieces j x)
 
 -- Where the log is empty nothing stopped it.
 unlogged_cut : (s : List Item) → log_bytes (tagged (up_to_loss s)) ≡ [] → up_to_loss s ≡ s
@@ -67,7 +67,7 @@ pub kept_where_quiet : (j : Job) (x : List ℕ) → log_of j x ≡ [] → AreWel
 kept_where_quiet j x h =
     kept_where_no_lines (target_of j) 0 0 (input_pieces j x)
     (no_lines_without_bytes _
-    (sym (lines-trace (reference_form j.policy) (target_of j) Ascii 0 0 (input_pieces j x)) ∙ ap (λ l. log_bytes (tagged l)) (sym (unlogged j.policy (whole_trace j x) h)) ∙ h))
+    (sym (log_bytes-trace (reference_form j.policy) (target_of j) Ascii 0 0 (input_pieces j x)) ∙ ap (λ l. log_bytes (tagged l)) (sym (unlogged j.policy (whole_trace j x) h)) ∙ h))
 
 -- A stop writes a prefix.
 cut_prefix : (s : List Item) → (rest : List Item) × (s ≡ up_to_loss s ++ rest)
@@ -83,13 +83,13 @@ written_prefix Policy.Stop s = cut_prefix s
 
 pub whole_within : (j : Job) (x : List ℕ) → IsValidJob j → length (output_bytes (tagged (whole_trace j x))) ≤ 13 * length x + 3
 whole_within j x v =
-    omega (arith, ap length (outputs-trace (reference_form j.policy) (target_of j) Ascii 0 0 (input_pieces j x)), short_recoded (reference_form j.policy) j.tables.now j.mark j.from j.to x v.tables)
+    omega (arith, ap length (output_bytes-trace (reference_form j.policy) (target_of j) Ascii 0 0 (input_pieces j x)), short_recoded (reference_form j.policy) j.tables.now j.mark j.from j.to x v.tables)
 
 pub output_within : (j : Job) (x : List ℕ) → IsValidJob j → length (output_of j x) ≤ 13 * length x + 3
 output_within j x v =
     let more = written_prefix j.policy (whole_trace j x) in
     let is : output_bytes (tagged (whole_trace j x)) ≡ output_of j x ++ output_bytes (tagged more.0) =
-    ap (λ l. output_bytes (tagged l)) more.1 ∙ ap output_bytes (tagged-append (trace j x) more.0) ∙ outputs-append (tagged (trace j x)) (tagged more.0) in
+    ap (λ l. output_bytes (tagged l)) more.1 ∙ ap output_bytes (tagged-append (trace j x) more.0) ∙ output_bytes-append (tagged (trace j x)) (tagged more.0) in
     omega (arith, whole_within j x v, ap length is, length-append (output_of j x) (output_bytes (tagged more.0)))
 
 -- The output up to the first character without bytes, and then this, where there is none.
@@ -107,7 +107,7 @@ to_loss-append e s (c ∷ a) b behind = ap (λ l. e.escape s (e.set s c) ++ form
 
 cut_bytes : (bs : List ℕ) (rest : List Item) → item_bytes (up_to_loss (map Byte bs ++ rest)) ≡ bs ++ item_bytes (up_to_loss rest)
 cut_bytes bs rest =
-    ap item_bytes (cut_spared (map Byte bs) rest (lost_lines-bytes bs)) ∙ bytes_of-append (map Byte bs) (up_to_loss rest) ∙ ap (λ l. l ++ item_bytes (up_to_loss rest)) (bytes_of-bytes bs)
+    ap item_bytes (cut_spared (map Byte bs) rest (lost_line_count-bytes bs)) ∙ item_bytes-append (map Byte bs) (up_to_loss rest) ∙ ap (λ l. l ++ item_bytes (up_to_loss rest)) (item_bytes-bytes bs)
 
 cut_form : (ref : Reference) (i : ℕ) (f : Form) (rest : List Item) → item_bytes (up_to_loss (form_items ref i f ++ rest)) ≡ form_to_loss f (item_bytes (up_to_loss rest))
 cut_form ref i (Mapped bs) rest = cut_bytes bs rest
@@ -172,7 +172,7 @@ pub output_at_loss : (j : Job) (x before : List ℕ) (c m : ℕ) (rest : List �
 output_at_loss j x before c m rest stops is mapped none =
     let e = target_of j in
     ap (λ (p : Policy). output_bytes (tagged (written_under p (whole_trace j x)))) stops
-    ∙ outputs-tagged (up_to_loss (whole_trace j x))
+    ∙ output_bytes-tagged (up_to_loss (whole_trace j x))
     ∙ cut_trace (reference_form j.policy) e Ascii 0 0 (input_pieces j x)
     ∙ ap (λ t. to_loss e Ascii t (e.escape (last_set e Ascii (input_text j x)) Ascii)) is
     ∙ at_loss e Ascii before c m rest (e.escape (last_set e Ascii (input_text j x)) Ascii) mapped none

@@ -21,7 +21,7 @@ use Rattle.encoding_mem.specs.declared.form.EscapeState.TheVariants.{Ascii}
 use Rattle.recode.specs.declared.target.Counts.{Counts}
 use Rattle.std.specs.List.{flat_map}
 use Rattle.encoding_mem.specs.Piece.{Piece, well_formed, malformed, text, malformed_count, AreWellFormed}
-use Rattle.encoding_mem.specs.laws.Encoding.{bytes_of-append, bytes_of-bytes, bytes_of-open_items}
+use Rattle.encoding_mem.specs.laws.EncoderCalls.{item_bytes-append, item_bytes-bytes, item_bytes-open_items}
 use Rattle.encoding_mem.specs.declared.form.Form.{Form}
 use Rattle.encoding_mem.specs.declared.form.Form.TheVariants.{Mapped, Unmapped}
 use Rattle.recode_log.specs.declared.line.LogLine.{LogLine}
@@ -29,31 +29,31 @@ use Rattle.recode.specs.Job.{form_lines, lost_log_lines, log_lines}
 use Rattle.recode.proofs.DecoderCallLemmas.{last_set-append}
 use Rattle.recode_log.specs.declared.line.LogLine.TheVariants.{Bad, Lost}
 
-pub outputs-append : (s t : List TaggedByte) → output_bytes (s ++ t) ≡ output_bytes s ++ output_bytes t
-outputs-append [] t = refl
-outputs-append (Out b ∷ s) t = ap (λ l. b ∷ l) (outputs-append s t)
-outputs-append (Line b ∷ s) t = outputs-append s t
+pub output_bytes-append : (s t : List TaggedByte) → output_bytes (s ++ t) ≡ output_bytes s ++ output_bytes t
+output_bytes-append [] t = refl
+output_bytes-append (Out b ∷ s) t = ap (λ l. b ∷ l) (output_bytes-append s t)
+output_bytes-append (Line b ∷ s) t = output_bytes-append s t
 
-pub lines-append : (s t : List TaggedByte) → log_bytes (s ++ t) ≡ log_bytes s ++ log_bytes t
-lines-append [] t = refl
-lines-append (Out b ∷ s) t = lines-append s t
-lines-append (Line b ∷ s) t = ap (λ l. b ∷ l) (lines-append s t)
+pub log_bytes-append_of_items : (s t : List TaggedByte) → log_bytes (s ++ t) ≡ log_bytes s ++ log_bytes t
+log_bytes-append_of_items [] t = refl
+log_bytes-append_of_items (Out b ∷ s) t = log_bytes-append_of_items s t
+log_bytes-append_of_items (Line b ∷ s) t = ap (λ l. b ∷ l) (log_bytes-append_of_items s t)
 
-pub outputs-bytes : (bs : List ℕ) → output_bytes (tagged (map Byte bs)) ≡ bs
-outputs-bytes [] = refl
-outputs-bytes (b ∷ bs) = ap (λ l. b ∷ l) (outputs-bytes bs)
+pub output_bytes-bytes : (bs : List ℕ) → output_bytes (tagged (map Byte bs)) ≡ bs
+output_bytes-bytes [] = refl
+output_bytes-bytes (b ∷ bs) = ap (λ l. b ∷ l) (output_bytes-bytes bs)
 
-pub lines-bytes : (bs : List ℕ) → log_bytes (tagged (map Byte bs)) ≡ []
-lines-bytes [] = refl
-lines-bytes (b ∷ bs) = lines-bytes bs
+pub log_bytes-bytes : (bs : List ℕ) → log_bytes (tagged (map Byte bs)) ≡ []
+log_bytes-bytes [] = refl
+log_bytes-bytes (b ∷ bs) = log_bytes-bytes bs
 
-pub outputs-lines : (bs : List ℕ) → output_bytes (map Line bs) ≡ []
-outputs-lines [] = refl
-outputs-lines (b ∷ bs) = outputs-lines bs
+pub output_bytes-lines : (bs : List ℕ) → output_bytes (map Line bs) ≡ []
+output_bytes-lines [] = refl
+output_bytes-lines (b ∷ bs) = output_bytes-lines bs
 
-pub lines-lines : (bs : List ℕ) → log_bytes (map Line bs) ≡ bs
-lines-lines [] = refl
-lines-lines (b ∷ bs) = ap (λ l. b ∷ l) (lines-lines bs)
+pub log_bytes-lines : (bs : List ℕ) → log_bytes (map Line bs) ≡ bs
+log_bytes-lines [] = refl
+log_bytes-lines (b ∷ bs) = ap (λ l. b ∷ l) (log_bytes-lines bs)
 
 pub tagged-append : (s t : List Item) → tagged (s ++ t) ≡ tagged s ++ tagged t
 tagged-append s t = flat_map-append tagged_item s t
@@ -63,46 +63,46 @@ Wrote-nil w = record { output = Appends-nil w.output; lined = Appends-nil w.log 
 
 pub Wrote-trans : (w w' w'' : Written) (s t : List TaggedByte) → Wrote w w' s → Wrote w' w'' t → Wrote w w'' (s ++ t)
 Wrote-trans w w' w'' s t p q = record {
-  output = subst (Appends w.output w''.output) (sym (outputs-append s t)) (Appends-trans w.output w'.output w''.output _ _ p.output q.output);
-  lined = subst (Appends w.log w''.log) (sym (lines-append s t)) (Appends-trans w.log w'.log w''.log _ _ p.lined q.lined);
+  output = subst (Appends w.output w''.output) (sym (output_bytes-append s t)) (Appends-trans w.output w'.output w''.output _ _ p.output q.output);
+  lined = subst (Appends w.log w''.log) (sym (log_bytes-append_of_items s t)) (Appends-trans w.log w'.log w''.log _ _ p.lined q.lined);
 }
 
 pub wrote_bytes : (w w' l : Option (List ℕ)) (bs : List ℕ) → Appends w w' bs → Wrote (record { output = w; log = l }) (record { output = w'; log = l }) (tagged (map Byte bs))
 wrote_bytes w w' l bs p = record {
-  output = subst (Appends w w') (sym (outputs-bytes bs)) p;
-  lined = subst (Appends l l) (sym (lines-bytes bs)) (Appends-nil l);
+  output = subst (Appends w w') (sym (output_bytes-bytes bs)) p;
+  lined = subst (Appends l l) (sym (log_bytes-bytes bs)) (Appends-nil l);
 }
 
 pub wrote_line : (w l l' : Option (List ℕ)) (bs : List ℕ) → Appends l l' bs → Wrote (record { output = w; log = l }) (record { output = w; log = l' }) (map Line bs)
 wrote_line w l l' bs p = record {
-  output = subst (Appends w w) (sym (outputs-lines bs)) (Appends-nil w);
-  lined = subst (Appends l l') (sym (lines-lines bs)) p;
+  output = subst (Appends w w) (sym (output_bytes-lines bs)) (Appends-nil w);
+  lined = subst (Appends l l') (sym (log_bytes-lines bs)) p;
 }
 
-pub bad_lines-append : (s t : List Item) → bad_line_count (s ++ t) ≡ bad_line_count s + bad_line_count t
-bad_lines-append [] t = omega arith
-bad_lines-append (Byte b ∷ s) t = bad_lines-append s t
-bad_lines-append (MalformedAt p n ∷ s) t = omega (arith, bad_lines-append s t)
-bad_lines-append (LostAt i c ∷ s) t = bad_lines-append s t
+pub bad_line_count-append : (s t : List Item) → bad_line_count (s ++ t) ≡ bad_line_count s + bad_line_count t
+bad_line_count-append [] t = omega arith
+bad_line_count-append (Byte b ∷ s) t = bad_line_count-append s t
+bad_line_count-append (MalformedAt p n ∷ s) t = omega (arith, bad_line_count-append s t)
+bad_line_count-append (LostAt i c ∷ s) t = bad_line_count-append s t
 
-pub lost_lines-append : (s t : List Item) → lost_line_count (s ++ t) ≡ lost_line_count s + lost_line_count t
-lost_lines-append [] t = omega arith
-lost_lines-append (Byte b ∷ s) t = lost_lines-append s t
-lost_lines-append (MalformedAt p n ∷ s) t = lost_lines-append s t
-lost_lines-append (LostAt i c ∷ s) t = omega (arith, lost_lines-append s t)
+pub lost_line_count-append : (s t : List Item) → lost_line_count (s ++ t) ≡ lost_line_count s + lost_line_count t
+lost_line_count-append [] t = omega arith
+lost_line_count-append (Byte b ∷ s) t = lost_line_count-append s t
+lost_line_count-append (MalformedAt p n ∷ s) t = lost_line_count-append s t
+lost_line_count-append (LostAt i c ∷ s) t = omega (arith, lost_line_count-append s t)
 
-pub bad_lines-bytes : (bs : List ℕ) → bad_line_count (map Byte bs) ≡ 0
-bad_lines-bytes [] = refl
-bad_lines-bytes (b ∷ bs) = bad_lines-bytes bs
+pub bad_line_count-bytes : (bs : List ℕ) → bad_line_count (map Byte bs) ≡ 0
+bad_line_count-bytes [] = refl
+bad_line_count-bytes (b ∷ bs) = bad_line_count-bytes bs
 
-pub lost_lines-bytes : (bs : List ℕ) → lost_line_count (map Byte bs) ≡ 0
-lost_lines-bytes [] = refl
-lost_lines-bytes (b ∷ bs) = lost_lines-bytes bs
+pub lost_line_count-bytes : (bs : List ℕ) → lost_line_count (map Byte bs) ≡ 0
+lost_line_count-bytes [] = refl
+lost_line_count-bytes (b ∷ bs) = lost_line_count-bytes bs
 
 pub AreCounted-trans : (a b c : Counts) (s t : List Item) → AreCounted a b s → AreCounted b c t → AreCounted a c (s ++ t)
 AreCounted-trans a b c s t p q = record {
-  bad = omega (arith, p.bad, q.bad, bad_lines-append s t);
-  lost = omega (arith, p.lost, q.lost, lost_lines-append s t);
+  bad = omega (arith, p.bad, q.bad, bad_line_count-append s t);
+  lost = omega (arith, p.lost, q.lost, lost_line_count-append s t);
 }
 
 -- What a policy lets be written.
@@ -110,10 +110,10 @@ pub spared_nil : (p : Policy) → IsSpared p []
 spared_nil p h = refl
 
 pub spared_append : (p : Policy) (s t : List Item) → IsSpared p s → IsSpared p t → IsSpared p (s ++ t)
-spared_append p s t h k is = omega (arith, lost_lines-append s t, h is, k is)
+spared_append p s t h k is = omega (arith, lost_line_count-append s t, h is, k is)
 
 spared_bytes : (p : Policy) (bs : List ℕ) → IsSpared p (map Byte bs)
-spared_bytes p bs h = lost_lines-bytes bs
+spared_bytes p bs h = lost_line_count-bytes bs
 
 pub cut_spared : (s t : List Item) → lost_line_count s ≡ 0 → up_to_loss (s ++ t) ≡ s ++ up_to_loss t
 cut_spared [] t h = refl
@@ -167,7 +167,7 @@ stop_behind p TooLong s taken written h k = tt
 stop_behind p (Unmappable i c) s taken written h k = record {
   policy = k.policy;
   items = s ++ k.items;
-  first = omega (arith, lost_lines-append s k.items, h k.policy, k.first);
+  first = omega (arith, lost_line_count-append s k.items, h k.policy, k.first);
   last = ap (λ l. s ++ l) k.last ∙ sym (append_assoc s k.items (LostAt i c ∷ []));
   whole = ap (λ l. tagged s ++ l) k.whole ∙ sym (tagged-append s written);
 }
@@ -182,7 +182,7 @@ stop_front p Log taken total rest k = tt
 stop_front p TooLong taken total rest k = tt
 stop_front p (Unmappable i c) taken total rest k =
     stop_is p (Unmappable i c) taken _ _
-    (sym (written_once p total rest k.policy (omega (arith, ap lost_line_count k.last, lost_lines-append k.items (LostAt i c ∷ []))))) k
+    (sym (written_once p total rest k.policy (omega (arith, ap lost_line_count k.last, lost_line_count-append k.items (LostAt i c ∷ []))))) k
 
 pub left_behind : (p : Policy) (f : Fault) (s : List Item) (taken : List TaggedByte) (a b : List Item) → IsSpared p s → a ≡ s ++ b → IsLeft p f taken b → IsLeft p f (tagged s ++ taken) a
 left_behind p f s taken a b h e k =
@@ -236,7 +236,7 @@ pub writes_bytes : (w w' l : Option (List ℕ)) (x y : Counts) (p : Policy) (bs 
 writes_bytes w w' l x y p bs a b h same same' e = record {
   written_items = map Byte bs;
   wrote = wrote_bytes w w' l bs h;
-  counted = record { bad = omega (arith, same, bad_lines-bytes bs); lost = omega (arith, same', lost_lines-bytes bs) };
+  counted = record { bad = omega (arith, same, bad_line_count-bytes bs); lost = omega (arith, same', lost_line_count-bytes bs) };
   spared = spared_bytes p bs;
   equals = e;
 }
@@ -429,13 +429,13 @@ WritesItemsFor-under w w' w'' x y p f last a b h k = record {
 -- What the trace of a whole input is made of.
 
 -- The output.
-pub outputs-tagged : (t : List Item) → output_bytes (tagged t) ≡ item_bytes t
-outputs-tagged [] = refl
-outputs-tagged (Byte b ∷ t) = ap (λ x. b ∷ x) (outputs-tagged t)
-outputs-tagged (MalformedAt offset size ∷ t) =
-    outputs-append (map Line (line_bytes (LogLine.Bad offset size))) (tagged t) ∙ ap (λ x. x ++ output_bytes (tagged t)) (outputs-lines (line_bytes (LogLine.Bad offset size))) ∙ outputs-tagged t
-outputs-tagged (LostAt index scalar ∷ t) =
-    outputs-append (map Line (line_bytes (LogLine.Lost index scalar))) (tagged t) ∙ ap (λ x. x ++ output_bytes (tagged t)) (outputs-lines (line_bytes (LogLine.Lost index scalar))) ∙ outputs-tagged t
+pub output_bytes-tagged : (t : List Item) → output_bytes (tagged t) ≡ item_bytes t
+output_bytes-tagged [] = refl
+output_bytes-tagged (Byte b ∷ t) = ap (λ x. b ∷ x) (output_bytes-tagged t)
+output_bytes-tagged (MalformedAt offset size ∷ t) =
+    output_bytes-append (map Line (line_bytes (LogLine.Bad offset size))) (tagged t) ∙ ap (λ x. x ++ output_bytes (tagged t)) (output_bytes-lines (line_bytes (LogLine.Bad offset size))) ∙ output_bytes-tagged t
+output_bytes-tagged (LostAt index scalar ∷ t) =
+    output_bytes-append (map Line (line_bytes (LogLine.Lost index scalar))) (tagged t) ∙ ap (λ x. x ++ output_bytes (tagged t)) (output_bytes-lines (line_bytes (LogLine.Lost index scalar))) ∙ output_bytes-tagged t
 
 pub open_from-append : (ref : Reference) (e : Coding) (s : EscapeState) (a b : List ℕ) → open_from ref e s (a ++ b) ≡ open_from ref e s a ++ open_from ref e (last_set e s a) b
 open_from-append ref e s [] b = refl
@@ -452,21 +452,21 @@ whole_from-append ref e s a b =
     ∙ ap (λ q. (open_from ref e s a ++ open_from ref e (last_set e s a) b) ++ e.escape q Ascii) (last_set-append e s a b)
     ∙ append_assoc (open_from ref e s a) (open_from ref e (last_set e s a) b) (e.escape (last_set e (last_set e s a) b) Ascii)
 
-bytes_of-trace : (ref : Reference) (e : Coding) (s : EscapeState) (offset i : ℕ) (ps : List Piece) → item_bytes (trace_from ref e s offset i ps) ≡ whole_from ref e s (text ps)
-bytes_of-trace ref e s offset i [] = bytes_of-bytes (e.escape s Ascii)
-bytes_of-trace ref e s offset i (well_formed n cs ∷ ps) =
-    bytes_of-append (open_items ref e s i cs) (trace_from ref e (last_set e s cs) (offset + n) (i + length cs) ps)
-    ∙ ap (λ x. x ++ item_bytes (trace_from ref e (last_set e s cs) (offset + n) (i + length cs) ps)) (bytes_of-open_items ref e s i cs)
-    ∙ ap (λ x. open_from ref e s cs ++ x) (bytes_of-trace ref e (last_set e s cs) (offset + n) (i + length cs) ps)
+item_bytes-trace : (ref : Reference) (e : Coding) (s : EscapeState) (offset i : ℕ) (ps : List Piece) → item_bytes (trace_from ref e s offset i ps) ≡ whole_from ref e s (text ps)
+item_bytes-trace ref e s offset i [] = item_bytes-bytes (e.escape s Ascii)
+item_bytes-trace ref e s offset i (well_formed n cs ∷ ps) =
+    item_bytes-append (open_items ref e s i cs) (trace_from ref e (last_set e s cs) (offset + n) (i + length cs) ps)
+    ∙ ap (λ x. x ++ item_bytes (trace_from ref e (last_set e s cs) (offset + n) (i + length cs) ps)) (item_bytes-open_items ref e s i cs)
+    ∙ ap (λ x. open_from ref e s cs ++ x) (item_bytes-trace ref e (last_set e s cs) (offset + n) (i + length cs) ps)
     ∙ sym (whole_from-append ref e s cs (text ps))
-bytes_of-trace ref e s offset i (malformed n ∷ ps) =
-    bytes_of-append (open_items ref e s i (0xFFFD ∷ [])) (trace_from ref e (e.set s 0xFFFD) (offset + n) (i + 1) ps)
-    ∙ ap (λ x. x ++ item_bytes (trace_from ref e (e.set s 0xFFFD) (offset + n) (i + 1) ps)) (bytes_of-open_items ref e s i (0xFFFD ∷ []))
-    ∙ ap (λ x. open_from ref e s (0xFFFD ∷ []) ++ x) (bytes_of-trace ref e (e.set s 0xFFFD) (offset + n) (i + 1) ps)
+item_bytes-trace ref e s offset i (malformed n ∷ ps) =
+    item_bytes-append (open_items ref e s i (0xFFFD ∷ [])) (trace_from ref e (e.set s 0xFFFD) (offset + n) (i + 1) ps)
+    ∙ ap (λ x. x ++ item_bytes (trace_from ref e (e.set s 0xFFFD) (offset + n) (i + 1) ps)) (item_bytes-open_items ref e s i (0xFFFD ∷ []))
+    ∙ ap (λ x. open_from ref e s (0xFFFD ∷ []) ++ x) (item_bytes-trace ref e (e.set s 0xFFFD) (offset + n) (i + 1) ps)
     ∙ sym (whole_from-append ref e s (0xFFFD ∷ []) (text ps))
 
-pub outputs-trace : (ref : Reference) (e : Coding) (s : EscapeState) (offset i : ℕ) (ps : List Piece) → output_bytes (tagged (trace_from ref e s offset i ps)) ≡ whole_from ref e s (text ps)
-outputs-trace ref e s offset i ps = outputs-tagged (trace_from ref e s offset i ps) ∙ bytes_of-trace ref e s offset i ps
+pub output_bytes-trace : (ref : Reference) (e : Coding) (s : EscapeState) (offset i : ℕ) (ps : List Piece) → output_bytes (tagged (trace_from ref e s offset i ps)) ≡ whole_from ref e s (text ps)
+output_bytes-trace ref e s offset i ps = output_bytes-tagged (trace_from ref e s offset i ps) ∙ item_bytes-trace ref e s offset i ps
 
 -- The log: the lines that items have.
 abbrev pub noted : List Item → List LogLine
@@ -475,14 +475,14 @@ noted (Byte b ∷ s) = noted s
 noted (MalformedAt offset size ∷ s) = Bad offset size ∷ noted s
 noted (LostAt i c ∷ s) = Lost i c ∷ noted s
 
-lines-line : (line : List ℕ) (s : List Item) → log_bytes (map Line line ++ tagged s) ≡ line ++ log_bytes (tagged s)
-lines-line line s = lines-append (map Line line) (tagged s) ∙ ap (λ x. x ++ log_bytes (tagged s)) (lines-lines line)
+log_bytes-line : (line : List ℕ) (s : List Item) → log_bytes (map Line line ++ tagged s) ≡ line ++ log_bytes (tagged s)
+log_bytes-line line s = log_bytes-append_of_items (map Line line) (tagged s) ∙ ap (λ x. x ++ log_bytes (tagged s)) (log_bytes-lines line)
 
-pub lines-noted : (s : List Item) → log_bytes (tagged s) ≡ flat_map line_bytes (noted s)
-lines-noted [] = refl
-lines-noted (Byte b ∷ s) = lines-noted s
-lines-noted (MalformedAt offset size ∷ s) = lines-line (line_bytes (Bad offset size)) s ∙ ap (λ x. line_bytes (Bad offset size) ++ x) (lines-noted s)
-lines-noted (LostAt i c ∷ s) = lines-line (line_bytes (Lost i c)) s ∙ ap (λ x. line_bytes (Lost i c) ++ x) (lines-noted s)
+pub log_bytes-noted : (s : List Item) → log_bytes (tagged s) ≡ flat_map line_bytes (noted s)
+log_bytes-noted [] = refl
+log_bytes-noted (Byte b ∷ s) = log_bytes-noted s
+log_bytes-noted (MalformedAt offset size ∷ s) = log_bytes-line (line_bytes (Bad offset size)) s ∙ ap (λ x. line_bytes (Bad offset size) ++ x) (log_bytes-noted s)
+log_bytes-noted (LostAt i c ∷ s) = log_bytes-line (line_bytes (Lost i c)) s ∙ ap (λ x. line_bytes (Lost i c) ++ x) (log_bytes-noted s)
 
 noted-append : (s t : List Item) → noted (s ++ t) ≡ noted s ++ noted t
 noted-append [] t = refl
@@ -522,47 +522,47 @@ noted-trace ref e s offset i (malformed n ∷ ps) =
     ∙ ap (λ x. x ++ noted rest) (noted-open ref e s i (0xFFFD ∷ []))
     ∙ ap (λ x. lost_log_lines e i (0xFFFD ∷ []) ++ x) (noted-trace ref e (e.set s 0xFFFD) (offset + n) (i + 1) ps))
 
-pub lines-trace : (ref : Reference) (e : Coding) (s : EscapeState) (offset i : ℕ) (ps : List Piece) → log_bytes (tagged (trace_from ref e s offset i ps)) ≡ flat_map line_bytes (log_lines e offset i ps)
-lines-trace ref e s offset i ps = lines-noted (trace_from ref e s offset i ps) ∙ ap (flat_map line_bytes) (noted-trace ref e s offset i ps)
+pub log_bytes-trace : (ref : Reference) (e : Coding) (s : EscapeState) (offset i : ℕ) (ps : List Piece) → log_bytes (tagged (trace_from ref e s offset i ps)) ≡ flat_map line_bytes (log_lines e offset i ps)
+log_bytes-trace ref e s offset i ps = log_bytes-noted (trace_from ref e s offset i ps) ∙ ap (flat_map line_bytes) (noted-trace ref e s offset i ps)
 
 -- The numbers of its lines.
-bad_lines-form : (ref : Reference) (i : ℕ) (f : Form) → bad_line_count (form_items ref i f) ≡ 0
-bad_lines-form ref i (Mapped bs) = bad_lines-bytes bs
-bad_lines-form ref i (Unmapped c) = bad_lines-bytes (reference_bytes ref c)
+bad_line_count-form : (ref : Reference) (i : ℕ) (f : Form) → bad_line_count (form_items ref i f) ≡ 0
+bad_line_count-form ref i (Mapped bs) = bad_line_count-bytes bs
+bad_line_count-form ref i (Unmapped c) = bad_line_count-bytes (reference_bytes ref c)
 
-bad_lines-open : (ref : Reference) (e : Coding) (s : EscapeState) (i : ℕ) (t : List ℕ) → bad_line_count (open_items ref e s i t) ≡ 0
-bad_lines-open ref e s i [] = refl
-bad_lines-open ref e s i (c ∷ t) =
+bad_line_count-open : (ref : Reference) (e : Coding) (s : EscapeState) (i : ℕ) (t : List ℕ) → bad_line_count (open_items ref e s i t) ≡ 0
+bad_line_count-open ref e s i [] = refl
+bad_line_count-open ref e s i (c ∷ t) =
     let rest : List Item = open_items ref e (e.set s c) (i + 1) t in
-    omega (arith, bad_lines-append (map Byte (e.escape s (e.set s c))) (form_items ref i (e.form c) ++ rest), bad_lines-bytes (e.escape s (e.set s c)), bad_lines-append (form_items ref i (e.form c)) rest, bad_lines-form ref i (e.form c), bad_lines-open ref e (e.set s c) (i + 1) t)
+    omega (arith, bad_line_count-append (map Byte (e.escape s (e.set s c))) (form_items ref i (e.form c) ++ rest), bad_line_count-bytes (e.escape s (e.set s c)), bad_line_count-append (form_items ref i (e.form c)) rest, bad_line_count-form ref i (e.form c), bad_line_count-open ref e (e.set s c) (i + 1) t)
 
-pub bad_lines-trace : (ref : Reference) (e : Coding) (s : EscapeState) (offset i : ℕ) (ps : List Piece) → bad_line_count (trace_from ref e s offset i ps) ≡ malformed_count ps
-bad_lines-trace ref e s offset i [] = bad_lines-bytes (e.escape s Ascii)
-bad_lines-trace ref e s offset i (well_formed n cs ∷ ps) =
-    omega (arith, bad_lines-append (open_items ref e s i cs) (trace_from ref e (last_set e s cs) (offset + n) (i + length cs) ps), bad_lines-open ref e s i cs, bad_lines-trace ref e (last_set e s cs) (offset + n) (i + length cs) ps)
-bad_lines-trace ref e s offset i (malformed n ∷ ps) =
-    omega (arith, bad_lines-append (open_items ref e s i (0xFFFD ∷ [])) (trace_from ref e (e.set s 0xFFFD) (offset + n) (i + 1) ps), bad_lines-open ref e s i (0xFFFD ∷ []), bad_lines-trace ref e (e.set s 0xFFFD) (offset + n) (i + 1) ps)
+pub bad_line_count-trace : (ref : Reference) (e : Coding) (s : EscapeState) (offset i : ℕ) (ps : List Piece) → bad_line_count (trace_from ref e s offset i ps) ≡ malformed_count ps
+bad_line_count-trace ref e s offset i [] = bad_line_count-bytes (e.escape s Ascii)
+bad_line_count-trace ref e s offset i (well_formed n cs ∷ ps) =
+    omega (arith, bad_line_count-append (open_items ref e s i cs) (trace_from ref e (last_set e s cs) (offset + n) (i + length cs) ps), bad_line_count-open ref e s i cs, bad_line_count-trace ref e (last_set e s cs) (offset + n) (i + length cs) ps)
+bad_line_count-trace ref e s offset i (malformed n ∷ ps) =
+    omega (arith, bad_line_count-append (open_items ref e s i (0xFFFD ∷ [])) (trace_from ref e (e.set s 0xFFFD) (offset + n) (i + 1) ps), bad_line_count-open ref e s i (0xFFFD ∷ []), bad_line_count-trace ref e (e.set s 0xFFFD) (offset + n) (i + 1) ps)
 
-lost_lines-form : (ref : Reference) (i : ℕ) (f : Form) → lost_line_count (form_items ref i f) ≡ unmapped_count f
-lost_lines-form ref i (Mapped bs) = lost_lines-bytes bs
-lost_lines-form ref i (Unmapped c) = omega (arith, lost_lines-bytes (reference_bytes ref c))
+lost_line_count-form : (ref : Reference) (i : ℕ) (f : Form) → lost_line_count (form_items ref i f) ≡ unmapped_count f
+lost_line_count-form ref i (Mapped bs) = lost_line_count-bytes bs
+lost_line_count-form ref i (Unmapped c) = omega (arith, lost_line_count-bytes (reference_bytes ref c))
 
-lost_lines-open : (ref : Reference) (e : Coding) (s : EscapeState) (i : ℕ) (t : List ℕ) → lost_line_count (open_items ref e s i t) ≡ lost_count e t
-lost_lines-open ref e s i [] = refl
-lost_lines-open ref e s i (c ∷ t) =
+lost_line_count-open : (ref : Reference) (e : Coding) (s : EscapeState) (i : ℕ) (t : List ℕ) → lost_line_count (open_items ref e s i t) ≡ lost_count e t
+lost_line_count-open ref e s i [] = refl
+lost_line_count-open ref e s i (c ∷ t) =
     let rest : List Item = open_items ref e (e.set s c) (i + 1) t in
-    omega (arith, lost_lines-append (map Byte (e.escape s (e.set s c))) (form_items ref i (e.form c) ++ rest), lost_lines-bytes (e.escape s (e.set s c)), lost_lines-append (form_items ref i (e.form c)) rest, lost_lines-form ref i (e.form c), lost_lines-open ref e (e.set s c) (i + 1) t)
+    omega (arith, lost_line_count-append (map Byte (e.escape s (e.set s c))) (form_items ref i (e.form c) ++ rest), lost_line_count-bytes (e.escape s (e.set s c)), lost_line_count-append (form_items ref i (e.form c)) rest, lost_line_count-form ref i (e.form c), lost_line_count-open ref e (e.set s c) (i + 1) t)
 
 lost_count-append : (e : Coding) (a b : List ℕ) → lost_count e (a ++ b) ≡ lost_count e a + lost_count e b
 lost_count-append e [] b = omega arith
 lost_count-append e (c ∷ a) b = omega (arith, lost_count-append e a b)
 
-pub lost_lines-trace : (ref : Reference) (e : Coding) (s : EscapeState) (offset i : ℕ) (ps : List Piece) → lost_line_count (trace_from ref e s offset i ps) ≡ lost_count e (text ps)
-lost_lines-trace ref e s offset i [] = lost_lines-bytes (e.escape s Ascii)
-lost_lines-trace ref e s offset i (well_formed n cs ∷ ps) =
-    omega (arith, lost_lines-append (open_items ref e s i cs) (trace_from ref e (last_set e s cs) (offset + n) (i + length cs) ps), lost_lines-open ref e s i cs, lost_lines-trace ref e (last_set e s cs) (offset + n) (i + length cs) ps, lost_count-append e cs (text ps))
-lost_lines-trace ref e s offset i (malformed n ∷ ps) =
-    omega (arith, lost_lines-append (open_items ref e s i (0xFFFD ∷ [])) (trace_from ref e (e.set s 0xFFFD) (offset + n) (i + 1) ps), lost_lines-open ref e s i (0xFFFD ∷ []), lost_lines-trace ref e (e.set s 0xFFFD) (offset + n) (i + 1) ps, lost_count-append e (0xFFFD ∷ []) (text ps))
+pub lost_line_count-trace : (ref : Reference) (e : Coding) (s : EscapeState) (offset i : ℕ) (ps : List Piece) → lost_line_count (trace_from ref e s offset i ps) ≡ lost_count e (text ps)
+lost_line_count-trace ref e s offset i [] = lost_line_count-bytes (e.escape s Ascii)
+lost_line_count-trace ref e s offset i (well_formed n cs ∷ ps) =
+    omega (arith, lost_line_count-append (open_items ref e s i cs) (trace_from ref e (last_set e s cs) (offset + n) (i + length cs) ps), lost_line_count-open ref e s i cs, lost_line_count-trace ref e (last_set e s cs) (offset + n) (i + length cs) ps, lost_count-append e cs (text ps))
+lost_line_count-trace ref e s offset i (malformed n ∷ ps) =
+    omega (arith, lost_line_count-append (open_items ref e s i (0xFFFD ∷ [])) (trace_from ref e (e.set s 0xFFFD) (offset + n) (i + 1) ps), lost_line_count-open ref e s i (0xFFFD ∷ []), lost_line_count-trace ref e (e.set s 0xFFFD) (offset + n) (i + 1) ps, lost_count-append e (0xFFFD ∷ []) (text ps))
 
 -- Where the log is empty.
 

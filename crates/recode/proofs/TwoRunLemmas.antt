@@ -15,7 +15,7 @@ use Rattle.encoding_mem.specs.Items.{LostAt}
 use Rattle.recode.specs.WrittenItems.{lost_line_count}
 use Rattle.recode.proofs.InputLemmas.{known_completes, known_fails, known_too_long}
 use Rattle.recode.proofs.StopLemmas.{runs_through, trace_where_spared}
-use Rattle.recode.proofs.TraceLemmas.{lost_lines-append}
+use Rattle.recode.proofs.TraceLemmas.{lost_line_count-append}
 
 -- Two runs that came to their end.
 pub same_written : (j : Job) (x : List ℕ) (w w' v v' : Written) (p q : Report) → IsConverted w w' j x p → IsConverted v v' j x q → WroteTheSame w w' v v'
@@ -91,7 +91,7 @@ module _ (j : Job) (x : List ℕ) (s s' : Devices) (quiet : s'.failures ≡ s.fa
   lost_where_stopped (Err (Unmappable i c)) is a h through =
       let k = (known_fails x s s' j (Unmappable i c) is a.fails).stopped in
       let spared = runs_through j x through in
-      omega (arith, spared k.policy, ap lost_line_count (sym (trace_where_spared j x spared)), ap lost_line_count k.last, lost_lines-append k.items (LostAt i c ∷ []))
+      omega (arith, spared k.policy, ap lost_line_count (sym (trace_where_spared j x spared)), ap lost_line_count k.last, lost_line_count-append k.items (LostAt i c ∷ []))
 
   pub well_where_through : (answer : Result Report Fault) → s.input ≡ Some x → RunReturns s s' j answer → IsOk answer ↔ ((length x ≤ j.limit) × RunsThrough j x)
   well_where_through answer is a = (

@@ -7,7 +7,7 @@ use Rattle.recode.specs.TaggedByte.{Line, output_bytes, tagged}
 use Rattle.recode.specs.Work.{IsCounted, TakesCalls}
 use Rattle.recode.specs.WrittenItems.{bad_line_count, lost_line_count}
 use Rattle.recode.specs.declared.target.Counts.{Counts}
-use Rattle.recode.proofs.TraceLemmas.{outputs-append, outputs-lines}
+use Rattle.recode.proofs.TraceLemmas.{output_bytes-append, output_bytes-lines}
 
 -- Calls of a decoder, then of an encoder: what was still to be written is this, then what is still to be written now.
 -- The calls of the decoder rose to k.
@@ -40,9 +40,9 @@ items_split [] = refl
 items_split (Byte b ∷ t) = omega (arith, items_split t)
 items_split (MalformedAt offset size ∷ t) =
     let none : output_bytes (tagged (MalformedAt offset size ∷ t)) ≡ output_bytes (tagged t) =
-    outputs-append (map Line (line_bytes (Bad offset size))) (tagged t) ∙ ap (λ l. l ++ output_bytes (tagged t)) (outputs-lines (line_bytes (Bad offset size))) in
+    output_bytes-append (map Line (line_bytes (Bad offset size))) (tagged t) ∙ ap (λ l. l ++ output_bytes (tagged t)) (output_bytes-lines (line_bytes (Bad offset size))) in
     omega (arith, items_split t, ap length none)
 items_split (LostAt index scalar ∷ t) =
     let none : output_bytes (tagged (LostAt index scalar ∷ t)) ≡ output_bytes (tagged t) =
-    outputs-append (map Line (line_bytes (Lost index scalar))) (tagged t) ∙ ap (λ l. l ++ output_bytes (tagged t)) (outputs-lines (line_bytes (Lost index scalar))) in
+    output_bytes-append (map Line (line_bytes (Lost index scalar))) (tagged t) ∙ ap (λ l. l ++ output_bytes (tagged t)) (output_bytes-lines (line_bytes (Lost index scalar))) in
     omega (arith, items_split t, ap length none)

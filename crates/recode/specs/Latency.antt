@@ -16,7 +16,7 @@ use Rattle.recode.specs.declared.job.Job.{Job}
 
 -- A conversion of a job has read x, and has converted the pieces ps: those of x, however it goes on, are ps and then
 -- what is to come. The output so far is the text of ps, and the log so far their lines.
-pub record StandsAt (before after : Devices) (j : Job) (s : State) (x : List ℕ) (ps : List Piece) : Type 0 where
+pub record HasReached (before after : Devices) (j : Job) (s : State) (x : List ℕ) (ps : List Piece) : Type 0 where
   pub coding : s.coding ≡ target_of j
   pub policy : s.policy ≡ j.policy
   pub read : s.counts.read ≡ length x

@@ -29,7 +29,7 @@ ghost use Rattle.recode.specs.Job.{log_of, lost_log_lines, output_of, output_pie
 ghost use Rattle.recode.specs.Job.{trace};
 ghost use Rattle.recode.specs.Job.{RunsThrough, lines_up_to_loss};
 ghost use Rattle.recode.specs.Policy.{reference_form};
-ghost use Rattle.recode.specs.Latency.{StandsAt};
+ghost use Rattle.recode.specs.Latency.{HasReached};
 ghost use Rattle.recode.specs.ReadBackJobs.{back, in_utf8};
 ghost use Rattle.recode.specs.Runs.{AgreeButForCalls, IsStopped, IsWholeOutput, RunReturns};
 ghost use Rattle.recode.specs.Runs.{WroteTheSame};
@@ -273,11 +273,11 @@ pub fn faithful_output_reads_back()
 /// took too.
 pub fn steps_add_up()
     ensures first { (t : Devices) (j : Job) (v : View) → IsNewSession v j
-        → StandsAt t t j v.state [] [] }
+        → HasReached t t j v.state [] [] }
     ensures next { (t t1 t2 : Devices) (j : Job) (limit : ℕ) (s s1 : State) (x : List ℕ)
         (ps : List Piece)
-        → StandsAt t t1 j s x ps → (p : StepsOn t1 t2 limit s s1)
-        → StandsAt t t2 j s1 (x ++ p.chunk) (ps ++ p.advances.taken) }
+        → HasReached t t1 j s x ps → (p : StepsOn t1 t2 limit s s1)
+        → HasReached t t2 j s1 (x ++ p.chunk) (ps ++ p.advances.taken) }
 {}
 
 /// Steps that went on, and the one that ended them, are a run: so a session stepped by hand keeps
@@ -302,13 +302,14 @@ pub fn steps_are_a_run()
 /// read, whatever bytes follow. What it has converted stands whatever numbers follow.
 pub fn decided_pieces_are_converted()
     ensures decided { (t t1 : Devices) (j : Job) (s : State) (x : List ℕ) (ps : List Piece)
-        → StandsAt t t1 j s x ps → IsDecided (input_pieces j) x ps }
+        → HasReached t t1 j s x ps → IsDecided (input_pieces j) x ps }
     ensures fixed { (t t1 : Devices) (j : Job) (s : State) (x : List ℕ) (ps : List Piece)
-        → StandsAt t t1 j s x ps → IsFixed (input_pieces j) x ps }
+        → HasReached t t1 j s x ps → IsFixed (input_pieces j) x ps }
     ensures longest { (t t1 : Devices) (j : Job) (s : State) (x : List ℕ) (ps qs : List Piece)
-        → StandsAt t t1 j s x ps → IsNearlyDecided s.decoder → IsDecided (input_pieces j) x qs
+        → HasReached t t1 j s x ps → IsNearlyDecided s.decoder → IsDecided (input_pieces j) x qs
         → IsPrefix qs ps }
     ensures soon { (t t1 : Devices) (j : Job) (s : State) (x y : List ℕ) (ps qs more : List Piece)
-        → StandsAt t t1 j s x ps → IsNearlyDecided s.decoder → input_pieces j (x ++ y) ≡ qs ++ more
+        → HasReached t t1 j s x ps → IsNearlyDecided s.decoder
+        → input_pieces j (x ++ y) ≡ qs ++ more
         → sizes qs + 3 ≤ length x → IsPrefix qs ps }
 {}

@@ -4,7 +4,8 @@ use Rattle.encoding_mem.specs.calls.EncodedLength.{bound_for}
 use Rattle.encoding_mem.specs.declared.form.Form.{Form}
 use Rattle.encoding_mem.specs.declared.form.Form.TheVariants.{Mapped, Unmapped}
 use Rattle.encoding_codecs.specs.Gb18030.{sample_flat, sample_rows}
-use Rattle.encoding_codecs.specs.Gb18030Coding.{gb18030_pair_bytes, gb18030_form, gb18030_four_bytes, gb18030_need, gb18030_encoded_length}
+use Rattle.encoding_codecs.specs.Gb18030Coding.{gb18030_pair_bytes, gb18030_form, gb18030_four_bytes}
+use Rattle.encoding_codecs.specs.calls.Gb18030Bounds.{gb18030_need, gb18030_encoded_length}
 use Rattle.encoding_mem.specs.calls.DecodedLength.{bound_at}
 
 two_bytes : gb18030_form sample_flat sample_rows true 0x4E04 ≡ Mapped (0x81 ∷ 0x41 ∷ [])

@@ -7,7 +7,7 @@ use Rattle.encoding_mem.specs.Agreement.{ReadsByStep}
 use Rattle.encoding_mem.specs.Coding.{IsCoding}
 use Rattle.encoding_mem.specs.ReadBack.{ReadsBackExactly}
 use Rattle.encoding_tables.specs.Lookups.{AreEntries, value_of, first_pointer, last_pointer}
-use Rattle.encoding_tables.specs.laws.LookupLaws.{IsPointer}
+use Rattle.encoding_tables.specs.LookupLaws.{IsPointer}
 use Rattle.encoding_tables.specs.laws.Pointers.{first_is_least, last_is_greatest}
 use Rattle.encoding_codecs.specs.Pointers.{value_of_entry}
 use Rattle.encoding_codecs.specs.laws.Pointers.{is_value_of_entry, is_value_if, is_first_if, in_range, coding_by_pointer, IsPairOf, reads_by_pointer}

@@ -20,6 +20,7 @@ use Rattle.encoding_codecs.specs.declared.two_byte.PairValue.{PairValue}
 use Rattle.encoding_codecs.specs.declared.two_byte.PairValue.TheVariants.{NoChar, OneChar}
 use Rattle.encoding_codecs.specs.laws.FirstPieces.{first_piece_euc_jp}
 
+-- bytes of EUC-JP read as the character c alone, or begin with a piece that is not c
 abbrev Steps : (jis0208 jis0212 : List ℕ) → ℕ → List ℕ → Type 0
 Steps jis0208 jis0212 c bytes = Returns (first_piece_euc_jp jis0208 jis0212) bytes c ⊎ Strays (first_piece_euc_jp jis0208 jis0212) bytes c
 
@@ -32,6 +33,7 @@ ascii_steps jis0208 jis0212 c b low =
 
 -- ---- two bytes, of which the first is not 8F
 
+-- the piece of a lead and the byte b is the character c, or another or a malformed one
 abbrev OfPair : (c b : ℕ) → PairValue → Type 0
 OfPair c b v = IsEither 2 c (piece_of_trail 1 v b)
 

@@ -29,6 +29,8 @@ abbrev pub ReadsAsScalar : (List ℕ → Piece) → ℕ → Form → Type 0
 ReadsAsScalar prefix c (Mapped bs) = (0 < length bs) × ((y : List ℕ) → prefix (bs ++ y) ≡ well_formed (length bs) (c ∷ []))
 ReadsAsScalar prefix c (Unmapped d) = 0x80 ≤ c
 
+-- What an encoding makes of each scalar reads as it by a first piece: ASCII as itself, any other
+-- by its form.
 pub record ReadsEach (first_piece : List ℕ → Piece) (form : ℕ → Form) : Type 0 where
   pub cuts : CutsEach first_piece
   pub ascii : (b : ℕ) (x : List ℕ) → b < 0x80 → first_piece (b ∷ x) ≡ well_formed 1 (b ∷ [])

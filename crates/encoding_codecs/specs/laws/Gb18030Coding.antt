@@ -11,7 +11,8 @@ use Rattle.encoding_mem.specs.Stateless.{stateless}
 use Rattle.std.proofs.lemmas.Bool.{lt-ltb}
 use Rattle.encoding_tables.specs.Lookups.{first_pointer}
 use Rattle.encoding_tables.specs.Ranges.{range_pointer}
-use Rattle.encoding_codecs.specs.Gb18030Coding.{gb18030_fixed_pair, two_of, gb18030_pair_bytes, gb18030_four_bytes, gb18030_index_bytes, gb18030_range_bytes, gb18030_bytes, gb18030_form, gb18030_need, gb18030_encoded_length}
+use Rattle.encoding_codecs.specs.Gb18030Coding.{gb18030_fixed_pair, two_of, gb18030_pair_bytes, gb18030_four_bytes, gb18030_index_bytes, gb18030_range_bytes, gb18030_bytes, gb18030_form}
+use Rattle.encoding_codecs.specs.calls.Gb18030Bounds.{gb18030_need, gb18030_encoded_length}
 
 -- at most n bytes, where there are any
 abbrev AreFew : ℕ → Option (List ℕ) → Type 0

@@ -11,7 +11,7 @@ use Rattle.encoding_mem.specs.Coding.{spelled, form_of_bytes}
 use Rattle.encoding_mem.specs.Piece.{well_formed, malformed, piece_of_scalar}
 use Rattle.encoding_mem.specs.Steps.{Returns, Strays, StepsReadBack}
 use Rattle.encoding_tables.specs.Lookups.{value_of, first_pointer}
-use Rattle.encoding_tables.specs.laws.LookupLaws.{IsPointer}
+use Rattle.encoding_tables.specs.LookupLaws.{IsPointer}
 use Rattle.encoding_tables.specs.laws.OptionCases.{map_some}
 use Rattle.encoding_tables.specs.laws.Pointers.{first_is_least}
 use Rattle.encoding_tables.specs.Ranges.{range_value, range_pointer}
@@ -57,6 +57,7 @@ four_either c (Some d) = one_either 4 c d
 
 -- ---- bytes by where they come from
 
+-- bytes of gb18030 read as the character c alone, or begin with a piece that is not c
 abbrev Steps : List ℕ → List (ℕ × ℕ) → ℕ → List ℕ → Type 0
 Steps flat rows c bs = Returns (first_piece_gb18030 flat rows) bs c ⊎ Strays (first_piece_gb18030 flat rows) bs c
 
@@ -139,6 +140,8 @@ range_steps flat rows true c bs e =
 
 -- ---- any character
 
+-- what is written for c by its bytes, or its reference, reads as c alone, or begins with a piece
+-- that is not c
 abbrev StepsOf : Reference → List ℕ → List (ℕ × ℕ) → ℕ → Option (List ℕ) → Type 0
 StepsOf ref flat rows c o = Steps flat rows c (spelled ref (form_of_bytes c o))
 

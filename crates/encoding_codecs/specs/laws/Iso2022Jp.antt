@@ -135,11 +135,11 @@ unfolding tail_of
 tail_1B b x e = rw (eq-eqb b 0x1B e) refl
 
 -- the first part is a byte and what comes before the next 1B
-parts-cons : (b : ℕ) (x : List ℕ) → cut_at_escapes (b ∷ x) ≡ (b ∷ head_of x) ∷ cut_at_escapes (tail_of x)
+cut_at_escapes-cons : (b : ℕ) (x : List ℕ) → cut_at_escapes (b ∷ x) ≡ (b ∷ head_of x) ∷ cut_at_escapes (tail_of x)
 unfolding head_of tail_of
-parts-cons b [] = refl
-parts-cons b (c ∷ x) = ap (join_byte b) (parts-cons c x) ∙ elim (cases_eq c 0x1B) [
-  | inl is ↦ rw (eq-eqb c 0x1B is) (ap (λ l. (b ∷ []) ∷ l) (sym (parts-cons c x)))
+cut_at_escapes-cons b [] = refl
+cut_at_escapes-cons b (c ∷ x) = ap (join_byte b) (cut_at_escapes-cons c x) ∙ elim (cases_eq c 0x1B) [
+  | inl is ↦ rw (eq-eqb c 0x1B is) (ap (λ l. (b ∷ []) ∷ l) (sym (cut_at_escapes-cons c x)))
   | inr other ↦ rw (ne_eqb c 0x1B other) refl
 ]
 
@@ -192,7 +192,7 @@ unfolding head_of tail_of
 parts_of_text jis0208 m [] = sym (ap (λ l. l ++ []) (pieces_by-nil (first_text_piece jis0208 m)))
 parts_of_text jis0208 m (b ∷ x) = elim (cases_eq b 0x1B) [
   | inl is ↦ rw (head_1B b x is, tail_1B b x is, pieces_by-nil (first_text_piece jis0208 m)) refl
-  | inr other ↦ rw (head_other b x other, tail_other b x other, parts-cons b x, no_escape_at b (head_of x) other) refl
+  | inr other ↦ rw (head_other b x other, tail_other b x other, cut_at_escapes-cons b x, no_escape_at b (head_of x) other) refl
 ]
 
 -- an escape, by the bytes behind it, is that of its part before the others
@@ -203,7 +203,7 @@ escape_agrees : (a b c : ℕ) (x : List ℕ) → escape_piece (a ∷ b ∷ c ∷
 unfolding head_of tail_of
 escape_agrees a b c [] = refl
 escape_agrees a b c (d ∷ x) = elim (cases_eq d 0x1B) [
-  | inl is ↦ rw (head_1B d x is, tail_1B d x is, parts-cons d x, escape_in-part d x) refl
+  | inl is ↦ rw (head_1B d x is, tail_1B d x is, cut_at_escapes-cons d x, escape_in-part d x) refl
   | inr other ↦ rw (head_other d x other, no_escape_at d x other, no_more (length (head_of x))) refl
 ]
 
@@ -241,7 +241,7 @@ begins_text : (jis0208 : List ℕ) → AreEntries jis0208 → (m : Mode) (b : �
     → first_text_piece jis0208 m (b ∷ head_of x) ≡ p → IsLeft jis0208 m b x (piece_len p) → Begins jis0208 m (b ∷ x) p m
 unfolding IsLeft Begins
 begins_text jis0208 scalars m b x p none first left =
-    rw (parts-cons b x, escape_in-part b x, none)
+    rw (cut_at_escapes-cons b x, escape_in-part b x, none)
     (ap (λ ps. ps ++ pieces_of_parts jis0208 m (cut_at_escapes (tail_of x))) (pieces_by-cons (first_text_piece jis0208 m) (cuts_text jis0208 scalars m) b (head_of x))
     ∙ rw first (ap (λ ps. p ∷ ps) left))
 
@@ -295,7 +295,7 @@ unfolding Begins
 begins_escape jis0208 m own a b c x e =
     let second : b ≢ 0x1B = λ is. let none : escape_of a b c ≡ None = rw is (escape_of-second a c) in absurd (clash none e) in
     let third : c ≢ 0x1B = λ is. let none : escape_of a b c ≡ None = rw is (escape_of-third a b) in absurd (clash none e) in
-    let part : cut_at_escapes (a ∷ b ∷ c ∷ x) ≡ (a ∷ b ∷ c ∷ head_of x) ∷ cut_at_escapes (tail_of x) = rw (parts-cons a (b ∷ c ∷ x), head_other b (c ∷ x) second, head_other c x third, tail_other b (c ∷ x) second, tail_other c x third) refl in
+    let part : cut_at_escapes (a ∷ b ∷ c ∷ x) ≡ (a ∷ b ∷ c ∷ head_of x) ∷ cut_at_escapes (tail_of x) = rw (cut_at_escapes-cons a (b ∷ c ∷ x), head_other b (c ∷ x) second, head_other c x third, tail_other b (c ∷ x) second, tail_other c x third) refl in
     ap (pieces_of_parts jis0208 m) part
     ∙ own_mode (escape_of a b c) e
     ∙ rw (escape_agrees a b c x, size_escape x) (ap (λ ps. escape_first_piece x ∷ ps) (sym (parts_of_text jis0208 own x)))

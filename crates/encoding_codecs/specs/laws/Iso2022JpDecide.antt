@@ -27,6 +27,7 @@ char_first_piece jis0208 Roman b x = roman_piece b
 char_first_piece jis0208 Katakana b x = katakana_piece b
 char_first_piece jis0208 Jis b x = if is_in_range 0x21 0x7E b then jis_pair_first_piece jis0208 b x else malformed 1
 
+-- the first piece of bytes of ISO-2022-JP in a mode: an escape, or a piece of text
 abbrev pub first_piece_iso_2022_jp : List ℕ → Mode → List ℕ → Piece
 first_piece_iso_2022_jp jis0208 m [] = malformed 1
 first_piece_iso_2022_jp jis0208 m (b ∷ x) = if is_some (escape_at (b ∷ x)) then escape_first_piece (drop 3 (b ∷ x)) else char_first_piece jis0208 m b x
@@ -53,15 +54,19 @@ is_jis_lead Jis [] = false
 is_jis_lead Jis (b ∷ []) = is_in_range 0x21 0x7E b
 is_jis_lead Jis (b ∷ c ∷ x) = false
 
+-- whether more bytes may change the first piece of bytes of ISO-2022-JP in a mode
 abbrev pub is_open : Mode → List ℕ → Bool
 is_open m x = may_be_escape x || (if is_some (escape_at x) then may_be_escape (drop 3 x) else is_jis_lead m x)
 
 -- ---- what is shown
 
+-- a piece of at most one character as a report of a first piece
 abbrev pub shown : Piece → FirstPiece
 shown (malformed n) = Malformed n
 shown (well_formed n []) = Ignored n
 shown (well_formed n (c ∷ cs)) = One c n
 
+-- what is known of the first piece of bytes of ISO-2022-JP in a mode, of which more may come
+-- unless they are the last
 abbrev pub decide_iso_2022_jp : List ℕ → Mode → List ℕ → Bool → FirstPiece
 decide_iso_2022_jp jis0208 m x last = if not last && is_open m x then More else shown (first_piece_iso_2022_jp jis0208 m x)

@@ -24,10 +24,10 @@ set_after-only Jis Ascii = refl
 set_after-only Jis Roman = refl
 set_after-only Jis Jis = refl
 
-is_set-same : (s : EscapeState) → is_same_set s s ≡ true
-is_set-same Ascii = refl
-is_set-same Roman = refl
-is_set-same Jis = refl
+is_same_set-same : (s : EscapeState) → is_same_set s s ≡ true
+is_same_set-same Ascii = refl
+is_same_set-same Roman = refl
+is_same_set-same Jis = refl
 
 -- the default is allowed
 allows_if : (t : Bool) (a b : Sets) → a.allows a.default ≡ true → b.allows b.default ≡ true → (cond t a b).allows (cond t a b).default ≡ true
@@ -50,7 +50,7 @@ stays_by a s true e h = rw e refl
 stays_by a s false e h = rw h refl
 
 same : (s : EscapeState) → iso_2022_jp_escape s s ≡ []
-same s = rw (is_set-same s) refl
+same s = rw (is_same_set-same s) refl
 
 short_escape_to : (s : EscapeState) → length (iso_2022_jp_escape_to s) ≤ 3
 short_escape_to Ascii = lit≤ tt

@@ -2,7 +2,7 @@
 use Rattle.std.proofs.Common.{◌≡◌, ℕ, ◌<◌, Bool, true, false, cond, List, nat_lt, refl, arith, Option, None, Some}
 use Rattle.encoding_mem.specs.Piece.{malformed}
 use Rattle.encoding_tables.specs.Lookups.{first_pointer}
-use Rattle.encoding_tables.specs.laws.LookupLaws.{IsPointer}
+use Rattle.encoding_tables.specs.LookupLaws.{IsPointer}
 use Rattle.encoding_tables.specs.laws.Pointers.{first_is_least}
 use Rattle.encoding_codecs.specs.Pointers.{value_of_entry}
 use Rattle.encoding_codecs.specs.laws.Steps.{IsEither, malformed_either, one_either, either_if}

@@ -1,27 +1,11 @@
--- The pointer that Shift_JIS writes for a character (the Encoding Standard, section 5, "index Shift_JIS pointer").
-use Rattle.std.proofs.Common.{◌≡◌, ℕ, ◌<◌, ◌≤◌, ◌⊎◌, List, arith, Option, None, Some, inl, inr}
+-- Shift_JIS takes the least pointer that it may.
+use Rattle.std.proofs.Common.{◌≡◌, ℕ, ◌<◌, ◌≤◌, List, arith, Option, None, Some, inl, inr}
 use Rattle.std.specs.Prelude.{MatchOption}
 use Rattle.std.specs.Option.{option_or}
-use Rattle.encoding_tables.specs.Lookups.{value_of, first_pointer}
-use Rattle.encoding_tables.specs.laws.LookupLaws.{IsPointer}
+use Rattle.encoding_tables.specs.Lookups.{first_pointer}
+use Rattle.encoding_tables.specs.LookupLaws.{IsPointer}
 use Rattle.encoding_tables.specs.laws.Pointers.{first_is_least}
-use Rattle.encoding_codecs.specs.ShiftJis.{index_shift_jis_pointer}
-
--- p is a pointer of jis0208 with the character c, and not one of those from 8272 to 8835
-pub record IsUsedPointer (jis0208 : List ℕ) (c p : ℕ) : Type 0 where
-  pub before : p < 11280
-  pub used : (p < 8272) ⊎ (8836 ≤ p)
-  pub entry : value_of jis0208 p ≡ Some c
-
--- this one is the least such, or there is none
-abbrev pub IsLeastUsed : List ℕ → ℕ → Option ℕ → Type 0
-IsLeastUsed jis0208 c o = MatchOption o
-    ((p : ℕ) → ¬ (IsUsedPointer jis0208 c p))
-    (λ p. IsUsedPointer jis0208 c p × ((q : ℕ) → IsUsedPointer jis0208 c q → p ≤ q))
-
--- Shift_JIS takes a character's least jis0208 pointer below 11280, if any, 8272 to 8835 left out
-abbrev pub ShiftJisPointerIsLeast : Type 0
-ShiftJisPointerIsLeast = (jis0208 : List ℕ) (c : ℕ) → IsLeastUsed jis0208 c (index_shift_jis_pointer jis0208 c)
+use Rattle.encoding_codecs.specs.ShiftJisPointers.{IsUsedPointer, IsLeastUsed, ShiftJisPointerIsLeast}
 
 -- the least pointer with a character from one bound to below another, or there is none
 abbrev Least : List ℕ → (c from to : ℕ) → Option ℕ → Type 0

@@ -23,6 +23,7 @@ use Rattle.encoding_codecs.specs.declared.two_byte.PairValue.{PairValue}
 use Rattle.encoding_codecs.specs.declared.two_byte.PairValue.TheVariants.{NoChar}
 use Rattle.encoding_codecs.specs.laws.FirstPieces.{first_piece_shift_jis}
 
+-- bytes of Shift_JIS read as the character c alone, or begin with a piece that is not c
 abbrev Steps : List ℕ → ℕ → List ℕ → Type 0
 Steps jis0208 c bytes = Returns (first_piece_shift_jis jis0208) bytes c ⊎ Strays (first_piece_shift_jis jis0208) bytes c
 
@@ -80,6 +81,7 @@ lead_is p below = elim (cases_lt (p / 188) 31) [
     leads : (a : ℕ) → 0x81 ≤ a → is_shift_jis_lead a ≡ true → shift_jis_first a ≡ Lead
     leads a from is = let no_control : (a == 0x80) ≡ false = grind (arith, nat_tests) in rw (no_control, is) refl
 
+-- the piece of a lead and the byte b is the character c, or another or a malformed one
 abbrev OfPair : (c b : ℕ) → PairValue → Type 0
 OfPair c b v = IsEither 2 c (piece_of_trail 1 v b)
 

@@ -12,6 +12,7 @@ pub record IsWrong (n c : ℕ) (p : Piece) : Type 0 where
   pub within : piece_len p ≤ n
   pub wrong : (¬ (IsWellFormedPiece p)) ⊎ ((d : ℕ) × (d ≢ c) × (piece_scalars p ≡ d ∷ []))
 
+-- a piece of n bytes is the character c, or is wrong for it
 abbrev pub IsEither : ℕ → ℕ → Piece → Type 0
 IsEither n c p = (p ≡ well_formed n (c ∷ [])) ⊎ IsWrong n c p
 

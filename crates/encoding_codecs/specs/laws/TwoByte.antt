@@ -9,8 +9,7 @@ use Rattle.encoding_mem.specs.Piece.{Piece, well_formed, malformed, piece_len, C
 use Rattle.encoding_mem.specs.Pieces.{pieces_by}
 use Rattle.encoding_mem.specs.laws.Pieces.{CutsEach}
 use Rattle.encoding_mem.specs.laws.Shows.{Shows, shows_cond, shows_cons, shows_const, shows_first_piece}
-use Rattle.encoding_mem.specs.calls.DecoderRule.{TellsFirstPiece, IsModest}
-use Rattle.encoding_mem.specs.laws.Utf8Decide.{cut_short}
+use Rattle.encoding_mem.specs.calls.DecoderRule.{TellsFirstPiece, IsModest, cut_short}
 use Rattle.encoding_mem.specs.laws.Utf8.{cuts_cond, cuts_malformed, cuts_one}
 use Rattle.encoding_mem.specs.calls.Writing.{len_utf16}
 use Rattle.encoding_mem.specs.laws.Writing.{cost_fits, cost_fits16}

@@ -4,7 +4,7 @@ use Rattle.encoding_mem.specs.calls.DecodedLength.{decoded_length_utf8, decoded_
 use Rattle.encoding_mem.specs.calls.EncodedLength.{encoded_length_utf8, encoded_length_single_byte, encoded_length_two_byte, encoded_length_iso_2022_jp}
 use Rattle.encoding_mem.specs.declared.room.DecodedLength.{DecodedLength}
 use Rattle.encoding_mem.specs.declared.room.EncodedLength.{EncodedLength}
-use Rattle.encoding_codecs.specs.Gb18030Coding.{gb18030_need, gb18030_encoded_length}
+use Rattle.encoding_codecs.specs.calls.Gb18030Bounds.{gb18030_need, gb18030_encoded_length}
 use Rattle.encoding_front.specs.declared.encoding.Encoding.{Encoding}
 use Rattle.encoding_front.specs.declared.codec_kind.CodecKind.{CodecKind}
 use Rattle.encoding_front.specs.EncodingTable.{codec_kind_of}

@@ -29,8 +29,8 @@ kept_windows_1252 = refl
 room_iso_2022_jp : queried_room Iso2022Jp false 7 ≡ Some 31
 room_iso_2022_jp = refl
 
-room_with_kept : queried_with_kept Iso2022Jp false 7 ≡ Some 41
-room_with_kept = refl
+room_with_reference_is_told : queried_with_kept Iso2022Jp false 7 ≡ Some 41
+room_with_reference_is_told = refl
 
 room_of_units_with_kept : queried_with_kept Iso2022Jp true 7 ≡ Some 48
 room_of_units_with_kept = refl

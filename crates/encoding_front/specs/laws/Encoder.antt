@@ -42,21 +42,21 @@ pub need_positive : (e : Encoding) → 0 < need_of e
 need_positive e = need_of_codec_kind-positive (codec_kind_of (output_encoding_of e))
 
 -- what is written in an output encoding is a coding
-coding_of_codec_kind-laws : (t : IndexLists) (s : CodecKind) → IsCoding (need_of_codec_kind s) (codec_of t s).coding
-coding_of_codec_kind-laws t CodecKind.Utf8 = utf8_coding_laws
-coding_of_codec_kind-laws t (CodecKind.SingleByte kind) = single_byte_laws (index_entries t kind)
-coding_of_codec_kind-laws t CodecKind.Big5 = big5_laws (index_entries t IndexKind.Big5)
-coding_of_codec_kind-laws t CodecKind.EucKr = euc_kr_laws (index_entries t IndexKind.EucKr)
-coding_of_codec_kind-laws t CodecKind.EucJp = euc_jp_laws (index_entries t IndexKind.Jis0208)
-coding_of_codec_kind-laws t CodecKind.ShiftJis = shift_jis_laws (index_entries t IndexKind.Jis0208)
-coding_of_codec_kind-laws t (CodecKind.Gb18030 extended) = gb18030_laws (index_entries t IndexKind.Gb18030) (range_rows t) extended
-coding_of_codec_kind-laws t CodecKind.Iso2022Jp = iso_2022_jp_laws (index_entries t IndexKind.Jis0208) (index_entries t IndexKind.Iso2022JpKatakana)
-coding_of_codec_kind-laws t CodecKind.UserDefined = user_defined_laws
-coding_of_codec_kind-laws t (CodecKind.Utf16 big_endian) = utf8_coding_laws
-coding_of_codec_kind-laws t CodecKind.Replacement = utf8_coding_laws
+codec_coding_laws : (t : IndexLists) (s : CodecKind) → IsCoding (need_of_codec_kind s) (codec_of t s).coding
+codec_coding_laws t CodecKind.Utf8 = utf8_coding_laws
+codec_coding_laws t (CodecKind.SingleByte kind) = single_byte_laws (index_entries t kind)
+codec_coding_laws t CodecKind.Big5 = big5_laws (index_entries t IndexKind.Big5)
+codec_coding_laws t CodecKind.EucKr = euc_kr_laws (index_entries t IndexKind.EucKr)
+codec_coding_laws t CodecKind.EucJp = euc_jp_laws (index_entries t IndexKind.Jis0208)
+codec_coding_laws t CodecKind.ShiftJis = shift_jis_laws (index_entries t IndexKind.Jis0208)
+codec_coding_laws t (CodecKind.Gb18030 extended) = gb18030_laws (index_entries t IndexKind.Gb18030) (range_rows t) extended
+codec_coding_laws t CodecKind.Iso2022Jp = iso_2022_jp_laws (index_entries t IndexKind.Jis0208) (index_entries t IndexKind.Iso2022JpKatakana)
+codec_coding_laws t CodecKind.UserDefined = user_defined_laws
+codec_coding_laws t (CodecKind.Utf16 big_endian) = utf8_coding_laws
+codec_coding_laws t CodecKind.Replacement = utf8_coding_laws
 
 pub coding_laws : (t : IndexLists) (e : Encoding) → IsCoding (need_of e) (coding_of t e)
-coding_laws t e = coding_of_codec_kind-laws t (codec_kind_of (output_encoding_of e))
+coding_laws t e = codec_coding_laws t (codec_kind_of (output_encoding_of e))
 
 -- where no two characters have the same bytes, a call that reports nothing keeps a true verdict
 pub kept_verdict : (t : IndexLists) (e : Encoding) → KeepsCharacters e → AreAcceptedTables t → (last : Bool) (outcome : EncoderResult) (s : EscapeState) (text w : List ℕ) (s' : EscapeState) (rest : List ℕ)

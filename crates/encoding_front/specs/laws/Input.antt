@@ -37,7 +37,7 @@ use Rattle.encoding_codecs.specs.laws.ShiftJis.{shift_jis_is_two_byte}
 use Rattle.encoding_codecs.specs.laws.TwoByte.{cuts_rule, cuts_two_byte}
 use Rattle.encoding_codecs.specs.calls.TwoByteRule.{euc_kr_rule, big5_rule, shift_jis_rule}
 use Rattle.encoding_codecs.specs.laws.FirstPieces.{first_piece_big5, first_piece_euc_kr, first_piece_shift_jis, first_piece_euc_jp, first_piece_gb18030}
-use Rattle.encoding_front.specs.laws.Bounds.{short_output}
+use Rattle.encoding_front.specs.laws.ReportedCharacter.{short_output}
 use Rattle.encoding_front.specs.Encodings.{coding_of, first_mark, pieces_of}
 use Rattle.encoding_front.specs.EncodingTable.{codec_kind_of}
 use Rattle.encoding_front.specs.laws.Encodings.{are_pieces_of}

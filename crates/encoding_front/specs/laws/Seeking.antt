@@ -33,29 +33,29 @@ are_pieces_after Utf16Be x = pieces_by-are_pieces (first_piece_utf16 true) (cuts
 are_pieces_after Utf16Le x = pieces_by-are_pieces (first_piece_utf16 false) (cuts_utf16 false) x
 
 -- a whole mark stands in n bytes
-abbrev IsWithin : ℕ → BomMatch → Type 0
-IsWithin n Prefix = Unit {0}
-IsWithin n (Whole m) = mark_len m ≤ n
-IsWithin n Other = Unit {0}
+abbrev IsPositionWithin : ℕ → BomMatch → Type 0
+IsPositionWithin n Prefix = Unit {0}
+IsPositionWithin n (Whole m) = mark_len m ≤ n
+IsPositionWithin n Other = Unit {0}
 
-within_cond : (t : Bool) (n : ℕ) (F G : BomMatch) → IsWithin n F → IsWithin n G → IsWithin n (cond t F G)
+within_cond : (t : Bool) (n : ℕ) (F G : BomMatch) → IsPositionWithin n F → IsPositionWithin n G → IsPositionWithin n (cond t F G)
 within_cond true n F G h k = h
 within_cond false n F G h k = k
 
-within_more : (F : BomMatch) (n m : ℕ) → n ≤ m → IsWithin n F → IsWithin m F
+within_more : (F : BomMatch) (n m : ℕ) → n ≤ m → IsPositionWithin n F → IsPositionWithin m F
 within_more Prefix n m e h = tt
 within_more (Whole mark) n m e h = omega (arith, e, h)
 within_more Other n m e h = tt
 
-within_end : (byte : ℕ) (mark : ByteOrderMark) (k : ℕ) (x : List ℕ) → mark_len mark ≡ suc k → IsWithin (k + length x) (find_end byte mark x)
+within_end : (byte : ℕ) (mark : ByteOrderMark) (k : ℕ) (x : List ℕ) → mark_len mark ≡ suc k → IsPositionWithin (k + length x) (find_end byte mark x)
 within_end byte mark k [] e = tt
 within_end byte mark k (c ∷ x) e = within_cond (c == byte) _ (Whole mark) Other (omega (arith, e)) tt
 
-within_second : (x : List ℕ) → IsWithin (1 + length x) (find_second x)
+within_second : (x : List ℕ) → IsPositionWithin (1 + length x) (find_second x)
 within_second [] = tt
 within_second (b ∷ x) = within_cond (b == 0xBB) _ (find_end 0xBF Utf8 x) Other (within_more (find_end 0xBF Utf8 x) _ _ (let e : 2 + length x ≤ 1 + length (b ∷ x) = omega arith in e) (within_end 0xBF Utf8 2 x refl)) tt
 
-within_mark : (s : BomSet) (x : List ℕ) → IsWithin (length x) (find_mark s x)
+within_mark : (s : BomSet) (x : List ℕ) → IsPositionWithin (length x) (find_mark s x)
 within_mark s [] = tt
 within_mark s (a ∷ x) =
     let e : 1 + length x ≤ length (a ∷ x) = omega arith in
@@ -64,12 +64,12 @@ within_mark s (a ∷ x) =
     (within_cond ((a == 0xFE) && s.utf16_be) _ (find_end 0xFF Utf16Be x) _ (within_end 0xFF Utf16Be 1 x refl)
     (within_cond ((a == 0xFF) && s.utf16_le) _ (find_end 0xFE Utf16Le x) Other (within_end 0xFE Utf16Le 1 x refl) tt)))
 
-whole_seen : (own : DecoderState) (x : List ℕ) (F : BomMatch) → own.pending ≡ 0 → IsWithin (length x) F → sizes (pieces_seen own.pieces x F) ≡ own.pending + length x
+whole_seen : (own : DecoderState) (x : List ℕ) (F : BomMatch) → own.pending ≡ 0 → IsPositionWithin (length x) F → sizes (pieces_seen own.pieces x F) ≡ own.pending + length x
 whole_seen own x Prefix e h = own.whole x
 whole_seen own x (Whole m) e h = omega (arith, e, h, whole_after m (drop (mark_len m) x), length-drop (mark_len m) x)
 whole_seen own x Other e h = own.whole x
 
-whole_at : (t : Bool) (own : DecoderState) (x : List ℕ) (F : BomMatch) → (IsTrue t → own.pending ≡ 0) → IsWithin (length x) F → sizes (cond t (pieces_seen own.pieces x F) (own.pieces x)) ≡ own.pending + length x
+whole_at : (t : Bool) (own : DecoderState) (x : List ℕ) (F : BomMatch) → (IsTrue t → own.pending ≡ 0) → IsPositionWithin (length x) F → sizes (cond t (pieces_seen own.pieces x F) (own.pieces x)) ≡ own.pending + length x
 whole_at true own x F fresh h = whole_seen own x F (fresh refl) h
 whole_at false own x F fresh h = own.whole x
 

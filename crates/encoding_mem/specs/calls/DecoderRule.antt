@@ -1,5 +1,5 @@
 -- What a rule says of the start of some bytes.
-use Rattle.std.specs.Prelude.{◌≡◌, ℕ, ◌+◌, ◌*◌, ◌≤◌, ◌<◌, Bool, false, IsTrue, Some, List, [], ◌∷◌, ◌++◌, length, drop}
+use Rattle.std.specs.Prelude.{◌≡◌, ℕ, ◌+◌, ◌*◌, ◌≤◌, ◌<◌, Bool, true, false, IsTrue, Some, List, [], ◌∷◌, ◌++◌, length, drop}
 use Rattle.std.specs.Char.{len_utf8}
 use Rattle.encoding_mem.specs.Piece.{Piece, well_formed, malformed, head_piece, piece_len}
 use Rattle.encoding_mem.specs.calls.Writing.{len_utf16}
@@ -64,3 +64,9 @@ IsModest (One c n) = (len_utf8 c ≤ 3 * n) × (len_utf16 c ≤ n)
 IsModest (Two c d n) = (c < 0x800) × (d < 0x800) × (2 ≤ n)
 IsModest (Ignored n) = Unit {0}
 IsModest (Malformed n) = 0 < n
+
+-- what is known of n bytes that end in the midst of a piece: they are malformed if they are the last,
+-- and else more may come
+abbrev pub cut_short : ℕ → Bool → FirstPiece
+cut_short n true = Malformed n
+cut_short n false = More

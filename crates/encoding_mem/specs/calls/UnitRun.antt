@@ -1,5 +1,5 @@
 -- A run of characters below U+D800 that stand in units of UTF-16, of two bytes each.
-use Rattle.std.specs.Prelude.{◌≡◌, ℕ, ◌*◌, ◌<◌, ◌≤◌, List, [], ◌∷◌, ◌++◌, length, map, refl, slice_index, take}
+use Rattle.std.specs.Prelude.{◌≡◌, ℕ, ◌*◌, ◌<◌, ◌≤◌, List, [], ◌∷◌, ◌++◌, length, map, slice_index, take}
 use Rattle.encoding_mem.specs.Piece.{Piece, well_formed}
 
 -- the pieces of units of UTF-16 that are no surrogates: two bytes and one character for each

@@ -3,7 +3,7 @@ use Rattle.std.proofs.Common.{◌≡◌, ℕ, ◌<◌, ◌⊎◌, inl, inr, List
 use Rattle.encoding_mem.specs.Agreement.{AgreesWith, IsEscape}
 use Rattle.encoding_mem.specs.Piece.{Piece, text, sizes, AreWellFormed, well_formed, malformed}
 use Rattle.encoding_mem.specs.Pieces.{pieces_in}
-use Rattle.encoding_mem.specs.Steps.{AreApart, IsBroken}
+use Rattle.encoding_mem.specs.Steps.{TextsDiffer, IsBroken}
 use Rattle.encoding_mem.specs.Utf8.{pieces_utf8}
 use Rattle.encoding_mem.specs.Utf8Coding.{utf8_coding}
 use Rattle.encoding_mem.specs.examples.SampleCoding.{sample_coding}
@@ -105,15 +105,15 @@ shorter_is_not_broken h = by h.taken (h.decided []).0 (sym pieces_of_letter ∙ 
     at_start : (offset : ℕ) → offset < 1 → offset ≡ 0
     at_start offset h = omega (arith, h)
 
-    apart : AreApart (0x41 ∷ []) (0x41 ∷ 0x42 ∷ []) → ⊥
+    apart : TextsDiffer (0x41 ∷ []) (0x41 ∷ 0x42 ∷ []) → ⊥
     apart h = let first = at_start h.offset h.in_one in h.apart (rw first refl)
 
-    wrong : (AreWellFormed (letter ∷ []) → ⊥) ⊎ AreApart (0x41 ∷ []) (0x41 ∷ 0x42 ∷ []) → ⊥
+    wrong : (AreWellFormed (letter ∷ []) → ⊥) ⊎ TextsDiffer (0x41 ∷ []) (0x41 ∷ 0x42 ∷ []) → ⊥
     wrong (inl none) = none (tt, tt)
     wrong (inr h) = apart h
 
-    by : (taken rest : List Piece) → letter ∷ [] ≡ taken ++ rest → (AreWellFormed taken → ⊥) ⊎ AreApart (text taken) (0x41 ∷ 0x42 ∷ []) → ⊥
+    by : (taken rest : List Piece) → letter ∷ [] ≡ taken ++ rest → (AreWellFormed taken → ⊥) ⊎ TextsDiffer (text taken) (0x41 ∷ 0x42 ∷ []) → ⊥
     by [] rest is (inl none) = none tt
     by [] rest is (inr h) = absurd (omega (arith, h.in_one))
-    by (p ∷ []) rest is h = let first : p ≡ letter = cc in wrong (subst (λ q. (AreWellFormed (q ∷ []) → ⊥) ⊎ AreApart (text (q ∷ [])) (0x41 ∷ 0x42 ∷ [])) first h)
+    by (p ∷ []) rest is h = let first : p ≡ letter = cc in wrong (subst (λ q. (AreWellFormed (q ∷ []) → ⊥) ⊎ TextsDiffer (text (q ∷ [])) (0x41 ∷ 0x42 ∷ [])) first h)
     by (p ∷ q ∷ taken) rest is h = absurd (cc)

@@ -8,7 +8,7 @@ use Rattle.encoding_mem.specs.Agreement.{IsEscape, AgreesWith, AgreesOrBreaks, R
 use Rattle.encoding_mem.specs.Coding.{Coding, open_from, last_set, output, spelled}
 use Rattle.encoding_mem.specs.Piece.{Piece, sizes, text, AreWellFormed}
 use Rattle.encoding_mem.specs.ReadBack.{ReadsAs}
-use Rattle.encoding_mem.specs.Steps.{Follows, AreApart, IsBroken, StepLaw, one_from}
+use Rattle.encoding_mem.specs.Steps.{Follows, TextsDiffer, IsBroken, StepLaw, one_from}
 use Rattle.encoding_mem.specs.laws.Piece.{sizes-append, text-append, AreWellFormed-append}
 use Rattle.encoding_mem.specs.declared.reference.Reference.{Reference}
 use Rattle.encoding_mem.specs.declared.form.EscapeState.{EscapeState}
@@ -20,7 +20,7 @@ pub well_formed_parts : (a b : List Piece) → AreWellFormed (a ++ b) → AreWel
 well_formed_parts [] b h = (tt, h)
 well_formed_parts (p ∷ a) b h = let parts = well_formed_parts a b h.1 in ((h.0, parts.0), parts.1)
 
-pub apart_more : (a b m n : List ℕ) → AreApart a b → AreApart (a ++ m) (b ++ n)
+pub apart_more : (a b m n : List ℕ) → TextsDiffer a b → TextsDiffer (a ++ m) (b ++ n)
 apart_more a b m n h = record {
   offset = h.offset;
   in_one = omega (arith, h.in_one, length-append a m);
@@ -28,7 +28,7 @@ apart_more a b m n h = record {
   apart = λ same. h.apart (sym (get_or_append_left a m 0 h.offset h.in_one) ∙ same ∙ get_or_append_left b n 0 h.offset h.in_other);
 }
 
-apart_behind : (t a b : List ℕ) → AreApart a b → AreApart (t ++ a) (t ++ b)
+apart_behind : (t a b : List ℕ) → TextsDiffer a b → TextsDiffer (t ++ a) (t ++ b)
 apart_behind t a b h = record {
   offset = length t + h.offset;
   in_one = omega (arith, h.in_one, length-append t a);
@@ -36,10 +36,10 @@ apart_behind t a b h = record {
   apart = λ same. h.apart (sym (get_or-append-add t a h.offset 0) ∙ same ∙ get_or-append-add t b h.offset 0);
 }
 
-apart_wider : (a b n : List ℕ) → AreApart a b → AreApart a (b ++ n)
-apart_wider a b n h = subst (λ l. AreApart l (b ++ n)) (append-nil a) (apart_more a b [] n h)
+apart_wider : (a b n : List ℕ) → TextsDiffer a b → TextsDiffer a (b ++ n)
+apart_wider a b n h = subst (λ l. TextsDiffer l (b ++ n)) (append-nil a) (apart_more a b [] n h)
 
-pub never_apart : (a : List ℕ) → AreApart a a → ⊥
+pub never_apart : (a : List ℕ) → TextsDiffer a a → ⊥
 never_apart a h = h.apart refl
 
 -- What is broken stays so, whatever follows the bytes and the text, and never reads as the text.
@@ -53,11 +53,11 @@ broken_stays pieces bytes t more u h = record {
 pub broken_behind : (pieces : List ℕ → List Piece) (bytes t more : List ℕ) → IsBroken pieces bytes t → IsBroken pieces (bytes ++ more) t
 broken_behind pieces bytes t more h = subst (IsBroken pieces (bytes ++ more)) (append-nil t) (broken_stays pieces bytes t more [] h)
 
-never_reads_taken : (taken rest : List Piece) (t : List ℕ) → ((AreWellFormed taken → ⊥) ⊎ AreApart (text taken) t) → AreWellFormed (taken ++ rest) → text (taken ++ rest) ≡ t → ⊥
+never_reads_taken : (taken rest : List Piece) (t : List ℕ) → ((AreWellFormed taken → ⊥) ⊎ TextsDiffer (text taken) t) → AreWellFormed (taken ++ rest) → text (taken ++ rest) ≡ t → ⊥
 never_reads_taken taken rest t (inl none) all same = none (well_formed_parts taken rest all).0
 never_reads_taken taken rest t (inr apart) all same =
     let whole : text taken ++ text rest ≡ t = sym (text-append taken rest) ∙ same in
-    never_apart t (subst (λ l. AreApart l t) whole (subst (λ l. AreApart (text taken ++ text rest) l) (append-nil t) (apart_more (text taken) t (text rest) [] apart)))
+    never_apart t (subst (λ l. TextsDiffer l t) whole (subst (λ l. TextsDiffer (text taken ++ text rest) l) (append-nil t) (apart_more (text taken) t (text rest) [] apart)))
 
 pub broken_never_reads : (pieces : List ℕ → List Piece) (bytes t : List ℕ) → IsBroken pieces bytes t → ¬ (ReadsAs pieces bytes t)
 broken_never_reads pieces bytes t h reads =

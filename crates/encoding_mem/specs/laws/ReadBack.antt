@@ -4,7 +4,7 @@ use Rattle.std.specs.Str.{all_scalars}
 use Rattle.encoding_mem.specs.Piece.{text, AreWellFormed}
 use Rattle.encoding_mem.specs.calls.TextRun.{text_pieces}
 use Rattle.encoding_mem.specs.Coding.{Coding, AllMapped, IsMapped, output, lost_count, unmapped_count}
-use Rattle.encoding_mem.specs.laws.Encoding.{utf8_output}
+use Rattle.encoding_mem.specs.laws.EncoderCalls.{utf8_output}
 use Rattle.encoding_mem.specs.ReadBack.{ReadsBackExactly}
 use Rattle.encoding_mem.specs.Utf8.{pieces_utf8}
 use Rattle.encoding_mem.specs.Utf8Coding.{utf8_coding}

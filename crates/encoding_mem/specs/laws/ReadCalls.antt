@@ -12,9 +12,9 @@ use Rattle.encoding_mem.specs.calls.EncoderCalls.{Encodes, EncodesItems, Leaves,
 use Rattle.encoding_mem.specs.Piece.{Piece, head_piece, text, AreWellFormed}
 use Rattle.encoding_mem.specs.ReadBack.{ReadsAs}
 use Rattle.encoding_mem.specs.calls.ReadCalls.{behind_escape, ReadsAlong, DecidesNothing, IsReadUpTo, HoldsAfter, PrefixIsRead, CallIsRead, CallsAlong, HasTaken, IsNotUnmappable, ReadsWhole, ReadsWholeAs, NeverReadsWhole, CallVerdict, AreRead}
-use Rattle.encoding_mem.specs.Steps.{Follows, AreApart, IsBroken, one_from}
+use Rattle.encoding_mem.specs.Steps.{Follows, TextsDiffer, IsBroken, one_from}
 use Rattle.encoding_mem.specs.laws.Agreement.{open_reads, broken_stays, broken_behind, broken_then, broken_never_reads, well_formed_parts, never_apart, apart_more}
-use Rattle.encoding_mem.specs.laws.Encoding.{mapped_open, last_set-append, encoded_items, encoded_bytes}
+use Rattle.encoding_mem.specs.laws.EncoderCalls.{mapped_open, last_set-append, encoded_items, encoded_bytes}
 use Rattle.encoding_mem.specs.laws.Event.{decides_nothing}
 use Rattle.encoding_mem.specs.laws.Piece.{text-append, AreWellFormed-append}
 use Rattle.encoding_mem.specs.declared.reference.Reference.{Reference}
@@ -266,11 +266,11 @@ taken_is_not_broken pieces w t d after is nothing good same broken =
     let part = decided_of_read pieces w t (λ P. Unit {0}) read broken.taken (λ r bytes. broken.decided r) in
     elim broken.wrong [
       | inl none ↦ none part.0
-      | inr apart ↦ never_apart t (subst (λ l. AreApart l t) (sym part.1.1) (apart_wider (text broken.taken) t part.1.0 apart))
+      | inr apart ↦ never_apart t (subst (λ l. TextsDiffer l t) (sym part.1.1) (apart_wider (text broken.taken) t part.1.0 apart))
     ]
   where
-    apart_wider : (a b n : List ℕ) → AreApart a b → AreApart (a ++ n) b
-    apart_wider a b n h = subst (λ l. AreApart (a ++ n) l) (append-nil b) (apart_more a b n [] h)
+    apart_wider : (a b n : List ℕ) → TextsDiffer a b → TextsDiffer (a ++ n) b
+    apart_wider a b n h = subst (λ l. TextsDiffer (a ++ n) l) (append-nil b) (apart_more a b n [] h)
 
 -- ---- the text to come
 

@@ -23,6 +23,8 @@ pub record Awaits (first_piece : List ℕ → Piece) (k : ℕ) (x : List ℕ) (l
   pub differs : first_piece x ≡ first_piece (x ++ more) → ⊥
   pub soon : (r : List ℕ) → k + length x ≤ piece_len (first_piece (x ++ r)) + 2
 
+-- a look at x, of which the first k bytes are passed, shows a first piece, or, with `More`, that
+-- more bytes may change it
 abbrev pub Shows : (List ℕ → Piece) → ℕ → List ℕ → Bool → FirstPiece → Type 0
 Shows first_piece k x last More = Awaits first_piece k x last
 Shows first_piece k x last (One c n) = ShowsPiece first_piece k x last (well_formed n (c ∷ []))

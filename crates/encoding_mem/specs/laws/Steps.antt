@@ -6,7 +6,7 @@ use Rattle.encoding_mem.specs.Piece.{Piece, well_formed, malformed, piece_len, p
 use Rattle.encoding_mem.specs.Pieces.{pieces_by}
 use Rattle.encoding_mem.specs.laws.Pieces.{CutsEach, pieces_by-first}
 use Rattle.encoding_mem.specs.Stateless.{stateless}
-use Rattle.encoding_mem.specs.Steps.{Follows, AreApart, IsBroken, StepLaw, in_any_set, Returns, Strays, StepsReadBack}
+use Rattle.encoding_mem.specs.Steps.{Follows, TextsDiffer, IsBroken, StepLaw, in_any_set, Returns, Strays, StepsReadBack}
 use Rattle.encoding_mem.specs.declared.reference.Reference.{Reference}
 use Rattle.encoding_mem.specs.declared.reference.Reference.TheVariants.{Decimal, Hexadecimal}
 use Rattle.encoding_mem.specs.declared.form.Form.{Form}
@@ -51,7 +51,7 @@ other_text : (p : Piece) (d : ℕ) → piece_scalars p ≡ d ∷ [] → text (p 
 other_text (well_formed n cs) d is = ap (λ x. x ++ []) is
 other_text (malformed n) d is = absurd (omega (arith, ap (λ x. length x) is))
 
-apart : (p : Piece) (c d : ℕ) → d ≢ c → piece_scalars p ≡ d ∷ [] → AreApart (text (p ∷ [])) (c ∷ [])
+apart : (p : Piece) (c d : ℕ) → d ≢ c → piece_scalars p ≡ d ∷ [] → TextsDiffer (text (p ∷ [])) (c ∷ [])
 apart p c d differs is = rw (other_text p d is) (record {
   offset = 0;
   in_one = lit< tt;

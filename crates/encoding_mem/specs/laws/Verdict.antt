@@ -12,7 +12,7 @@ use Rattle.encoding_mem.specs.calls.ReadCalls.{AreRead, HasTaken, HasTakenPart, 
 use Rattle.encoding_mem.specs.Stateless.{HasOneSet}
 use Rattle.encoding_mem.specs.Steps.{Follows, IsBroken, StepLaw, in_any_set}
 use Rattle.encoding_mem.specs.laws.Agreement.{broken_behind, broken_never_reads, open_reads, well_formed_parts}
-use Rattle.encoding_mem.specs.laws.Encoding.{mapped_open}
+use Rattle.encoding_mem.specs.laws.EncoderCalls.{mapped_open}
 use Rattle.encoding_mem.specs.laws.ReadCalls.{agreed_whole, ends_along, scalars_parts}
 use Rattle.encoding_mem.specs.declared.reference.Reference.{Reference}
 use Rattle.encoding_mem.specs.declared.reference.Reference.TheVariants.{Decimal}

@@ -8,7 +8,7 @@ use Rattle.std.proofs.lemmas.List.{get_or_past}
 use Rattle.std.proofs.lemmas.List.Quantifiers.{position-Some}
 use Rattle.std.proofs.lemmas.List.Edits.{get_or-between}
 use Rattle.encoding_tables.specs.Lookups.{value_of, last_position}
-use Rattle.encoding_tables.specs.laws.LookupLaws.{IsPointer, FirstIsLeast, LastIsGreatest}
+use Rattle.encoding_tables.specs.LookupLaws.{IsPointer, FirstIsLeast, LastIsGreatest}
 use Rattle.encoding_tables.specs.laws.OptionCases.{option_or_none, option_or_some, map_none, map_some, if_some_none, if_some_some}
 use Rattle.encoding_tables.specs.laws.TableFaults.{no_position}
 
@@ -86,6 +86,7 @@ last_none test (x ∷ xs) e zero within =
 last_none test (x ∷ xs) e (suc k) within =
     last_none test xs (map_none (λ k. k + 1) (last_position test xs) (option_or_none (option_map (λ k. k + 1) (last_position test xs)) (cond (test x) (Some 0) None) e).0) k (omega (arith, within))
 
+-- i is the last index in a list at which a test passes
 pub record IsLast (test : ℕ → Bool) (xs : List ℕ) (i : ℕ) : Type 0 where
   pub within : i < length xs
   pub passes : test (get_or xs i 0) ≡ true

@@ -7,11 +7,11 @@ use Rattle.std.proofs.lemmas.Bool.{cases_lt, cases_eq, lt-ltb, le-ltb, ltb-true,
 use Rattle.std.proofs.lemmas.Option.{cond_some}
 use Rattle.encoding_tables.specs.Ranges.{is_valid_pointer, last_row, value_in, row_value, HasRowValue, end_by, is_in_row, row_pointer, range_pointer, HaveScalars}
 use Rattle.encoding_tables.specs.RangeFaults.{first_out_of_order, are_scalars, above_values, above_row, first_bad_value, bad_row}
-use Rattle.encoding_tables.specs.laws.RangeLaws.{ValuesAreScalars, ValuesRise, PointersAreExact, PointersReadBack}
+use Rattle.encoding_tables.specs.RangeLaws.{ValuesAreScalars, ValuesRise, PointersAreExact, PointersReadBack}
 use Rattle.encoding_tables.specs.laws.OptionCases.{option_or_some, option_or_none, and_then_some, map_some, if_none, no_stop}
 
 -- a scalar from `least` to below `above`
-pub record IsBetween (least above v : ℕ) : Type 0 where
+pub record IsValueBetween (least above v : ℕ) : Type 0 where
   pub from : least ≤ v
   pub below : v < above
   pub scalar : InScalarRange v
@@ -46,7 +46,7 @@ pub no_pointers : (r : ℕ × ℕ) (from to least above : ℕ) → to ≤ from �
 no_pointers r from to least above none e = let same = rw (le-ltb from to none) at e in cc
 
 pub values_between : (r : ℕ × ℕ) (from to least above : ℕ) → r.0 ≤ from → above_values r from to least ≡ Some above
-    → (q : ℕ) → from ≤ q → q < to → IsBetween least above (value_in q r)
+    → (q : ℕ) → from ≤ q → q < to → IsValueBetween least above (value_in q r)
 values_between r from to least above start e q low high =
     let both = some_pointers r from to least above (omega arith) e in
     let parts = are_scalars_parts _ _ _ both.0 in
@@ -73,7 +73,7 @@ row_more r end least above e =
     omega (arith, values_more r r.0 (min end 39420) least mid.0 mid.1, values_more r (max r.0 189000) end mid.0 above mid.2)
 
 pub row_between : (r : ℕ × ℕ) (end least above : ℕ) → above_row r end least ≡ Some above
-    → (q : ℕ) → is_valid_pointer q ≡ true → r.0 ≤ q → q < end → IsBetween least above (value_in q r)
+    → (q : ℕ) → is_valid_pointer q ≡ true → r.0 ≤ q → q < end → IsValueBetween least above (value_in q r)
 row_between r end least above e q valid start under =
     let mid = and_then_some _ _ _ e in
     let more : mid.0 ≤ above = values_more _ _ _ _ _ mid.2 in

@@ -9,7 +9,7 @@ use Rattle.encoding_mem.specs.Steps.{StepLaw, in_any_set}
 use Rattle.encoding_tables.specs.laws.EachByteReadBack.{ReadsBack, exact_by_byte, steps_by_byte, by_step_by_byte}
 use Rattle.encoding_tables.specs.Lookups.{AreEntries, first_pointer}
 use Rattle.encoding_tables.specs.SingleByte.{char_of_byte, single_byte_of_char, pieces_single_byte, single_byte_coding}
-use Rattle.encoding_tables.specs.laws.LookupLaws.{IsPointer}
+use Rattle.encoding_tables.specs.LookupLaws.{IsPointer}
 use Rattle.encoding_tables.specs.laws.OptionCases.{map_some}
 use Rattle.encoding_tables.specs.laws.Pointers.{first_is_least}
 use Rattle.encoding_tables.specs.laws.SingleByte.{scalar_of_byte, cuts_single_byte, first_piece_single_byte}

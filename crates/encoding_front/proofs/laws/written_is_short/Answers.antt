@@ -1,4 +1,4 @@
-use Rattle.encoding_front.specs.laws.Bounds.{reports_itself, short_escape, short_form, short_open, short_output, short_reference}
+use Rattle.encoding_front.specs.laws.ReportedCharacter.{reports_itself, short_escape, short_form, short_open, short_output, short_reference}
 use Rattle.encoding_front.proofs.laws.written_is_short.Goals as goal
 
 pub returns : goal.returns

@@ -1,4 +1,4 @@
-use Rattle.encoding_mem.specs.laws.Encoding.{encoded_bytes}
+use Rattle.encoding_mem.specs.laws.EncoderCalls.{encoded_bytes}
 use Rattle.encoding_mem.proofs.encoder_laws.encoded_bytes.Goals as goal
 
 pub returns : goal.returns

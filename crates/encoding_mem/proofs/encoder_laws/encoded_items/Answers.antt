@@ -1,4 +1,4 @@
-use Rattle.encoding_mem.specs.laws.Encoding.{encoded_items}
+use Rattle.encoding_mem.specs.laws.EncoderCalls.{encoded_items}
 use Rattle.encoding_mem.proofs.encoder_laws.encoded_items.Goals as goal
 
 pub returns : goal.returns

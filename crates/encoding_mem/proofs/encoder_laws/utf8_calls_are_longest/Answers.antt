@@ -1,4 +1,4 @@
-use Rattle.encoding_mem.specs.laws.Encoding.{utf8_calls_are_longest}
+use Rattle.encoding_mem.specs.laws.EncoderCalls.{utf8_calls_are_longest}
 use Rattle.encoding_mem.proofs.encoder_laws.utf8_calls_are_longest.Goals as goal
 
 pub returns : goal.returns

@@ -1,5 +1,5 @@
 use Rattle.encoding_mem.specs.laws.ReadBack.{utf8_exact}
-use Rattle.encoding_mem.specs.laws.Encoding.{utf8_output, utf8_lost_count}
+use Rattle.encoding_mem.specs.laws.EncoderCalls.{utf8_output, utf8_lost_count}
 use Rattle.encoding_mem.proofs.encoder_laws.utf8_output.Goals as goal
 
 pub returns-clause-bytes : goal.returns-clause-bytes

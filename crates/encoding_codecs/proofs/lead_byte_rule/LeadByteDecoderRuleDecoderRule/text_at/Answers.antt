@@ -1,4 +1,4 @@
-use Rattle.encoding_mem.specs.laws.Text.{pieces_by-ascii}
+use Rattle.encoding_mem.specs.laws.TextRun.{pieces_by-ascii}
 use Rattle.encoding_mem.specs.laws.DecodedLength.{text_needs_multibyte}
 use Rattle.encoding_codecs.specs.TwoByte.{first_piece_by_lead}
 use Rattle.encoding_codecs.specs.laws.TwoByte.{cuts_rule, lead_ascii}

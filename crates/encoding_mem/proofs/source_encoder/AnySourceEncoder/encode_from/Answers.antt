@@ -1,6 +1,6 @@
 use Rattle.std.proofs.Common.{subst}
 use Rattle.encoding_mem.specs.calls.EncoderRule.{Moves}
-use Rattle.encoding_mem.specs.laws.Encoding.{encoded_moves}
+use Rattle.encoding_mem.specs.laws.EncoderCalls.{encoded_moves}
 use Rattle.encoding_mem.proofs.source_encoder.AnySourceEncoder.encode_from.Goals as goal
 
 pub enter-requires : goal.enter-requires

@@ -1,4 +1,4 @@
-use Rattle.encoding_mem.specs.laws.Text.{pieces_by-ascii}
+use Rattle.encoding_mem.specs.laws.TextRun.{pieces_by-ascii}
 use Rattle.encoding_mem.specs.laws.DecodedLength.{text_needs_single_byte}
 use Rattle.encoding_tables.specs.laws.SingleByte.{cuts_single_byte, ascii_is_itself, first_piece_single_byte}
 use Rattle.encoding_tables.proofs.single_byte_decoder.SingleByteRuleDecoderRule.text_at.Goals as goal

@@ -1,4 +1,4 @@
-use Rattle.encoding_mem.specs.laws.Text.{pieces_by-ascii}
+use Rattle.encoding_mem.specs.laws.TextRun.{pieces_by-ascii}
 use Rattle.encoding_mem.specs.laws.DecodedLength.{text_needs_single_byte}
 use Rattle.encoding_tables.specs.laws.UserDefined.{cuts_user_defined, ascii_user_defined, first_piece_user_defined}
 use Rattle.encoding_tables.proofs.user_defined_decoder.UserDefinedRuleDecoderRule.text_at.Goals as goal

@@ -4,7 +4,7 @@ use Rattle.recode.proofs.EncoderCallLemmas.{turn_items, less_bytes, less_note}
 use Rattle.recode.specs.Policy.{reference_form}
 use Rattle.encoding_mem.specs.calls.EncoderRule.{EncoderParts}
 use Rattle.encoding_mem.specs.Coding.{reference_bytes}
-use Rattle.encoding_mem.specs.laws.Encoding.{encoded_items}
+use Rattle.encoding_mem.specs.laws.EncoderCalls.{encoded_items}
 use Rattle.encoding_mem.specs.declared.encoder_result.EncoderResult.TheVariants.{InputEmpty, OutputFull, Unmappable}
 use Rattle.encoding_mem.specs.Items.{Byte, LostAt, whole_items}
 use Rattle.recode.specs.calls.PivotText.{pivot_chars}

@@ -18,42 +18,42 @@ use Rattle.encoding_mem.specs.declared.encoder_result.EncoderResult.{EncoderResu
 use Rattle.encoding_mem.specs.declared.encoder_result.EncoderResult.TheVariants.{InputEmpty, OutputFull, Unmappable}
 
 -- The bytes of items.
-pub bytes_of-append : (xs ys : List Item) → item_bytes (xs ++ ys) ≡ item_bytes xs ++ item_bytes ys
-bytes_of-append [] ys = refl
-bytes_of-append (Byte b ∷ xs) ys = ap (λ l. b ∷ l) (bytes_of-append xs ys)
-bytes_of-append (MalformedAt offset size ∷ xs) ys = bytes_of-append xs ys
-bytes_of-append (LostAt index scalar ∷ xs) ys = bytes_of-append xs ys
+pub item_bytes-append : (xs ys : List Item) → item_bytes (xs ++ ys) ≡ item_bytes xs ++ item_bytes ys
+item_bytes-append [] ys = refl
+item_bytes-append (Byte b ∷ xs) ys = ap (λ l. b ∷ l) (item_bytes-append xs ys)
+item_bytes-append (MalformedAt offset size ∷ xs) ys = item_bytes-append xs ys
+item_bytes-append (LostAt index scalar ∷ xs) ys = item_bytes-append xs ys
 
-pub bytes_of-bytes : (bs : List ℕ) → item_bytes (map Byte bs) ≡ bs
-bytes_of-bytes [] = refl
-bytes_of-bytes (b ∷ bs) = ap (λ l. b ∷ l) (bytes_of-bytes bs)
+pub item_bytes-bytes : (bs : List ℕ) → item_bytes (map Byte bs) ≡ bs
+item_bytes-bytes [] = refl
+item_bytes-bytes (b ∷ bs) = ap (λ l. b ∷ l) (item_bytes-bytes bs)
 
-bytes_of-form : (ref : Reference) (i : ℕ) (f : Form) → item_bytes (form_items ref i f) ≡ spelled ref f
-bytes_of-form ref i (Mapped bs) = bytes_of-bytes bs
-bytes_of-form ref i (Unmapped c) = bytes_of-bytes (reference_bytes ref c)
+item_bytes-form : (ref : Reference) (i : ℕ) (f : Form) → item_bytes (form_items ref i f) ≡ spelled ref f
+item_bytes-form ref i (Mapped bs) = item_bytes-bytes bs
+item_bytes-form ref i (Unmapped c) = item_bytes-bytes (reference_bytes ref c)
 
-pub bytes_of-open_items : (ref : Reference) (e : Coding) (s : EscapeState) (i : ℕ) (t : List ℕ) → item_bytes (open_items ref e s i t) ≡ open_from ref e s t
-bytes_of-open_items ref e s i [] = refl
-bytes_of-open_items ref e s i (c ∷ t) =
+pub item_bytes-open_items : (ref : Reference) (e : Coding) (s : EscapeState) (i : ℕ) (t : List ℕ) → item_bytes (open_items ref e s i t) ≡ open_from ref e s t
+item_bytes-open_items ref e s i [] = refl
+item_bytes-open_items ref e s i (c ∷ t) =
     rw (
-      bytes_of-append (map Byte (e.escape s (e.set s c))) _,
-      bytes_of-append (form_items ref i (e.form c)) _,
-      bytes_of-bytes (e.escape s (e.set s c)),
-      bytes_of-form ref i (e.form c),
-      bytes_of-open_items ref e (e.set s c) (i + 1) t,
+      item_bytes-append (map Byte (e.escape s (e.set s c))) _,
+      item_bytes-append (form_items ref i (e.form c)) _,
+      item_bytes-bytes (e.escape s (e.set s c)),
+      item_bytes-form ref i (e.form c),
+      item_bytes-open_items ref e (e.set s c) (i + 1) t,
     )
 
-bytes_of-closing : (e : Coding) (last : Bool) (s : EscapeState) → item_bytes (cond last (closing e s) []) ≡ cond last (e.escape s Ascii) []
-bytes_of-closing e true s = bytes_of-bytes (e.escape s Ascii)
-bytes_of-closing e false s = refl
+item_bytes-closing : (e : Coding) (last : Bool) (s : EscapeState) → item_bytes (cond last (closing e s) []) ≡ cond last (e.escape s Ascii) []
+item_bytes-closing e true s = item_bytes-bytes (e.escape s Ascii)
+item_bytes-closing e false s = refl
 
-bytes_of-whole : (ref : Reference) (e : Coding) (last : Bool) (s : EscapeState) (i : ℕ) (t : List ℕ)
+item_bytes-whole : (ref : Reference) (e : Coding) (last : Bool) (s : EscapeState) (i : ℕ) (t : List ℕ)
     → item_bytes (whole_items ref e last s i t) ≡ open_from ref e s t ++ cond last (e.escape (last_set e s t) Ascii) []
-bytes_of-whole ref e last s i t =
-    bytes_of-append (open_items ref e s i t) _ ∙ rw (bytes_of-open_items ref e s i t, bytes_of-closing e last (last_set e s t)) refl
+item_bytes-whole ref e last s i t =
+    item_bytes-append (open_items ref e s i t) _ ∙ rw (item_bytes-open_items ref e s i t, item_bytes-closing e last (last_set e s t)) refl
 
-pub bytes_of-whole_items : (ref : Reference) (e : Coding) (s : EscapeState) (i : ℕ) (t : List ℕ) → item_bytes (whole_items ref e true s i t) ≡ whole_from ref e s t
-bytes_of-whole_items ref e s i t = bytes_of-whole ref e true s i t
+pub item_bytes-whole_items : (ref : Reference) (e : Coding) (s : EscapeState) (i : ℕ) (t : List ℕ) → item_bytes (whole_items ref e true s i t) ≡ whole_from ref e s t
+item_bytes-whole_items ref e s i t = item_bytes-whole ref e true s i t
 
 -- A text that goes on.
 pub last_set-append : (e : Coding) (s : EscapeState) (t r : List ℕ) → last_set e s (t ++ r) ≡ last_set e (last_set e s t) r
@@ -200,8 +200,8 @@ in_bytes : (ref : Reference) (e : Coding) (last : Bool) (outcome : EncoderResult
     → open_from ref e s t ++ cond last (e.escape (last_set e s t) Ascii) []
     ≡ w ++ (item_bytes (reported_item ref (0 + length p.prefix) outcome) ++ (open_from ref e s' rest ++ cond last (e.escape (last_set e s' rest) Ascii) []))
 in_bytes ref e last outcome s t w s' rest p =
-    sym (bytes_of-whole ref e last s 0 t) ∙ ap item_bytes (p.items 0) ∙ bytes_of-append (map Byte w) _
-    ∙ rw (bytes_of-bytes w, bytes_of-append (reported_item ref (0 + length p.prefix) outcome) _, bytes_of-whole ref e last s' (0 + length p.prefix) rest) refl
+    sym (item_bytes-whole ref e last s 0 t) ∙ ap item_bytes (p.items 0) ∙ item_bytes-append (map Byte w) _
+    ∙ rw (item_bytes-bytes w, item_bytes-append (reported_item ref (0 + length p.prefix) outcome) _, item_bytes-whole ref e last s' (0 + length p.prefix) rest) refl
 
 -- The law in items gives the law in bytes.
 pub items_in_bytes : (ref : Reference) (e : Coding) (last : Bool) (outcome : EncoderResult) (s : EscapeState) (t w : List ℕ) (s' : EscapeState) (rest : List ℕ)
@@ -209,7 +209,7 @@ pub items_in_bytes : (ref : Reference) (e : Coding) (last : Bool) (outcome : Enc
 items_in_bytes ref e last (Unmappable c) s t w s' rest p =
     let rest_is = open_from ref e s' rest ++ cond last (e.escape (last_set e s' rest) Ascii) [] in
     let referred = in_bytes ref e last (Unmappable c) s t w s' rest p
-    ∙ ap (λ l. w ++ (l ++ rest_is)) (bytes_of-bytes (reference_bytes ref c)) ∙ sym (append_assoc w (reference_bytes ref c) rest_is) in
+    ∙ ap (λ l. w ++ (l ++ rest_is)) (item_bytes-bytes (reference_bytes ref c)) ∙ sym (append_assoc w (reference_bytes ref c) rest_is) in
     continues ref e s t (w ++ reference_bytes ref c) s' rest (opened ref e last s t (w ++ reference_bytes ref c) s' rest (p.sets tt) referred) (p.sets tt)
 items_in_bytes ref e true InputEmpty s t w s' rest p = in_bytes ref e true InputEmpty s t w s' rest p
 items_in_bytes ref e false InputEmpty s t w s' rest p =

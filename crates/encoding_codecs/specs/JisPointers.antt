@@ -6,7 +6,7 @@ use Rattle.std.specs.Option.{option_map}
 use Rattle.encoding_mem.specs.declared.form.Form.{Form}
 use Rattle.encoding_mem.specs.declared.form.Form.TheVariants.{Unmapped}
 use Rattle.encoding_mem.specs.Coding.{form_of_bytes}
-use Rattle.encoding_tables.specs.laws.LookupLaws.{IsPointer}
+use Rattle.encoding_tables.specs.LookupLaws.{IsPointer}
 use Rattle.encoding_codecs.specs.EucJp.{euc_jp_form, euc_jp_pair_bytes}
 use Rattle.encoding_codecs.specs.Iso2022JpForms.{iso_2022_jp_form, iso_2022_jp_pair_bytes, looked_up}
 use Rattle.encoding_codecs.specs.JisForms.{is_katakana, folded}
