@@ -84,7 +84,7 @@ def count(seen):
 
 def table(seen):
     for crate, about in GROUPS:
-        here = sorted((d for d in seen if d.crate == crate), key=lambda d: (first(seen, d), d.path, d.line))
+        here = sorted((d for d in seen if d.crate == crate), key=lambda d: (first(seen, d), d.path, seen[d], d.line))
         if not here:
             continue
         yield from ["### %s" % about, "", "| Word | What it is | Place |", "|---|---|---|"]
@@ -129,7 +129,7 @@ def page():
         seen, library, types = closure(words, found, imports)
         if not before:
             size, paths = count(seen)[1], {d.path for d in seen}
-            lines += ["What is proved of a conversion that ends well, and what it stands on: %d definitions, %d lines, in %d files, besides the types of the code that they speak of. They are below by group, the nearest files first, and in a file from its first definition to its last." % count(seen), ""]
+            lines += ["What is proved of a conversion that ends well, and what it stands on: %d definitions, %d lines, in %d files, besides the types of the code that they speak of. They are below by group and by file, the nearest to the clause first." % count(seen), ""]
             lines += ["## %s" % about, "", "The clause `%s` of `%s::%s` ([%s](../%s)):" % (name, crate, function, place, place.replace(":", "#L")), ""]
             lines += ["    " + line for line in text] + ["", "if the call's conditions hold:", ""]
             lines += ["    " + line for line in clause(crate, function, None, "requires")[0]] + [""]
