@@ -140,7 +140,7 @@ impl<'a> CodecDecoder<LeadByteDecoderRule<EucJpLeads<'a>>> {
         requires jis0212 { has tables.now IndexKind.Jis0212 ≡ true }
         ensures { IsFreshDecoder (⟦<EucJpDecoder<'a> as RawDecoder>⟧.state result)
             (pieces_euc_jp (index_entries tables.now IndexKind.Jis0208)
-                (index_entries tables.now IndexKind.Jis0212))
+            (index_entries tables.now IndexKind.Jis0212))
             decoded_length_multibyte }
     {
         CodecDecoder::of_rule(LeadByteDecoderRule::new(EucJpLeads {

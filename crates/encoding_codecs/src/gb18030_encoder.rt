@@ -39,7 +39,7 @@ impl<'a> Gb18030Encoder<'a> {
         requires ranges { has tables.now IndexKind.Gb18030Ranges ≡ true }
         ensures { IsFreshEncoder (⟦<Gb18030Encoder<'a> as SourceEncoder>⟧.parts result) (gb18030_need extended_range)
             (stateless (gb18030_form (index_entries tables.now IndexKind.Gb18030)
-                (range_rows tables.now) extended_range))
+            (range_rows tables.now) extended_range))
             (gb18030_encoded_length extended_range) }
     {
         Gb18030Encoder {

@@ -41,7 +41,7 @@ impl<'a> Iso2022JpEncoder<'a> {
         requires katakana { has tables.now IndexKind.Iso2022JpKatakana ≡ true }
         ensures { IsFreshEncoder (⟦<Iso2022JpEncoder<'a> as SourceEncoder>⟧.parts result) 3
             (iso_2022_jp_coding (index_entries tables.now IndexKind.Jis0208)
-                (index_entries tables.now IndexKind.Iso2022JpKatakana))
+            (index_entries tables.now IndexKind.Iso2022JpKatakana))
             encoded_length_iso_2022_jp }
     {
         Iso2022JpEncoder {

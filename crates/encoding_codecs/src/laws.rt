@@ -75,7 +75,7 @@ pub fn euc_jp_steps()
 pub fn gb18030_steps()
     ensures { (flat : List ℕ) (rows : List (ℕ × ℕ)) (extended : Bool) → AreEntries flat → HaveScalars rows
         → StepLaw (stateless (gb18030_form flat rows extended))
-            (in_any_set (pieces_gb18030 flat rows)) }
+        (in_any_set (pieces_gb18030 flat rows)) }
 {}
 
 /// What EUC-KR writes for a character, its bytes or its reference, reads back, by the decoder of

@@ -24,7 +24,6 @@ unfoldable pub is_skipped : List ℕ → Bool
 is_skipped line = list_all is_blank line || starts_with nat_eq line (codes "#")
 
 infixl 10 ◌>>=◌
-
 -- a step of a `do`: what a function gives for an option's value, or nothing if it has none
 abbrev pub ◌>>=◌ : {A B : Type 0} → Option A → (A → Option B) → Option B
 o >>= f = option_and_then f o
