@@ -1,6 +1,7 @@
 -- Worked rows of `specs/Piece.antt`: `A`, a malformed sequence of three bytes, and two characters of two bytes.
+use Rattle.std.specs.Prelude.{Some, None}
 use Rattle.std.proofs.Common.{◌≡◌, List, [], ◌∷◌, refl, arith}
-use Rattle.encoding_mem.specs.Piece.{Piece, well_formed, malformed, sizes, scalars, text, malformed_count, IsPiece}
+use Rattle.encoding_mem.specs.Piece.{Piece, well_formed, malformed, sizes, scalars, text, malformed_count, IsPiece, piece_of_scalar}
 
 abbrev sample : List Piece
 sample = well_formed 1 (0x41 ∷ []) ∷ malformed 3 ∷ well_formed 2 (0xCA ∷ 0x304 ∷ []) ∷ []
@@ -31,3 +32,10 @@ two_of_one_byte_are_none piece = absurd (omega (arith, piece.few))
 
 surrogate_is_none : ¬ (IsPiece (well_formed 3 (0xD800 ∷ [])))
 surrogate_is_none piece = let surrogate = piece.are_scalars in cc
+
+-- an index row found is a character of that many bytes, one not found is malformed
+row_found : piece_of_scalar 2 (Some 0x4E00) ≡ well_formed 2 (0x4E00 ∷ [])
+row_found = refl
+
+row_not_found : piece_of_scalar 4 None ≡ malformed 4
+row_not_found = refl
