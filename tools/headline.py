@@ -53,7 +53,7 @@ HOW_TO_READ = """
 - A byte is a number below 256, a character its scalar value. In the lines below, bytes of encodings and code points (U+) are hexadecimal, other numbers decimal. `slice_index list k` is the element at k, and 0 past the end; `slice_range list from to` has those from `from` to below `to`; `digits 16 true n` are the hexadecimal digits of n in capitals, with no zero before them.
 - The bound on the work is in the report: `least` and `most` bound `calls`, its number of calls of decoders and encoders, by what was read, malformed and lost.
 - What it does not say: when the result is `Ok` (`laws::answers_without_faults`), how output and log are interleaved (`fails` says that a fault leaves both at one place of their one order, and `more` that a step does), that the indexes are those of the standard (they were accepted, `IsValidJob`), or that a reader who takes byte order marks finds none at the start of the output.
-- What is proved is what the contracts say. Whether these definitions say what the standards say is for a reader to judge: hence this page. Rows worked by hand stand in `specs/examples` of its crate.
+- What is proved is what the contracts say. Whether these definitions say what the standards say is for a reader to judge: hence this page. Rows worked by hand stand beside them, in the `specs/examples` of the crate.
 """
 
 def clause(crate, function, name, kind="ensures"):

@@ -1,5 +1,5 @@
 -- What a call of a decoder does.
-use Rattle.std.specs.Prelude.{◌≡◌, ℕ, ◌+◌, ◌-◌, ◌≤◌, ◌<◌, ◌≢◌, ◌⊎◌, Bool, false, IsTrue, Some, List, [], ◌∷◌, ◌++◌, length, drop}
+use Rattle.std.specs.Prelude.{◌≡◌, ℕ, ◌+◌, ◌-◌, ◌≤◌, ◌<◌, ◌⊎◌, Bool, false, IsTrue, Some, List, [], ◌∷◌, ◌++◌, length, drop}
 use Rattle.encoding_mem.specs.Piece.{Piece, malformed, head_piece, piece_len, sizes, scalars, piece_text, AreWellFormed, ArePieces}
 use Rattle.encoding_mem.specs.calls.DecodedLength.{decoded_length, counts_past_malformed, is_units, left_after, replacement_len}
 use Rattle.encoding_mem.specs.declared.room.OutputUnit.{OutputUnit}
