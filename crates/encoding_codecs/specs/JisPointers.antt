@@ -1,7 +1,7 @@
 -- The pointers that EUC-JP and ISO-2022-JP write (the Encoding Standard, sections 12.1.2, "EUC-JP encoder", and 12.2.2,
 -- "ISO-2022-JP encoder": "let pointer be the index pointer for code point in index jis0208"; section 5, "index
 -- pointer": the first pointer corresponding to code point). Two bytes of 94 values reach the pointers below 8836.
-use Rattle.std.specs.Prelude.{◌≡◌, ◌≢◌, ℕ, ◌+◌, ◌/◌, ◌%◌, ◌≤◌, List, [], ◌∷◌, false, Option, MatchOption}
+use Rattle.std.specs.Prelude.{◌≡◌, ◌≢◌, ℕ, ◌≤◌, List, false, Option, MatchOption}
 use Rattle.std.specs.Option.{option_map}
 use Rattle.encoding_mem.specs.declared.form.Form.{Form}
 use Rattle.encoding_mem.specs.declared.form.Form.TheVariants.{Unmapped}

@@ -1,5 +1,5 @@
 -- Shift_JIS takes the least pointer that it may.
-use Rattle.std.proofs.Common.{◌≡◌, ℕ, ◌<◌, ◌≤◌, List, arith, Option, None, Some, inl, inr}
+use Rattle.std.proofs.Common.{ℕ, ◌<◌, ◌≤◌, List, arith, Option, None, Some, inl, inr}
 use Rattle.std.specs.Prelude.{MatchOption}
 use Rattle.std.specs.Option.{option_or}
 use Rattle.encoding_tables.specs.Lookups.{first_pointer}
