@@ -1,5 +1,5 @@
 -- Buffers and writers that are lent and given back.
-use Rattle.std.proofs.Common.{◌≡◌, ◌∙◌, arith, refl, sym, true≢false}
+use Rattle.std.proofs.Common.{◌≡◌, ◌≤◌, ◌∙◌, arith, length, refl, sym, true≢false}
 use Rattle.recode.specs.calls.Buffers.{AreEnough, KeepSizes, KeepsRoom, HoldsAnyCharacter, capacity, is_wide}
 use Rattle.recode.specs.calls.Writers.{AreTheSame}
 use Rattle.recode.specs.declared.job.Buffers.{Buffers}
@@ -41,8 +41,8 @@ kept_enough b c e k = record {
   one_kind = k.pivot_kind ∙ e.one_kind ∙ sym k.check_kind;
 }
 
-pub same_start : {W L : Type 0} (a : Writers W L) → AreTheSame a a
-same_start a = record { output = refl; log = refl; policy = refl }
+pub same_start : {W L : Type 0} (a : Writers W L) → a.held ≤ length a.buffer.now → AreTheSame a a
+same_start a within = record { output = refl; buffer = refl; room = refl; within = within; log = refl; policy = refl }
 
 pub same_on : {W L : Type 0} {a b c : Writers W L} → AreTheSame a b → AreTheSame b c → AreTheSame a c
-same_on p q = record { output = q.output ∙ p.output; log = q.log ∙ p.log; policy = q.policy ∙ p.policy }
+same_on p q = record { output = q.output ∙ p.output; buffer = q.buffer ∙ p.buffer; room = q.room ∙ p.room; within = q.within; log = q.log ∙ p.log; policy = q.policy ∙ p.policy }

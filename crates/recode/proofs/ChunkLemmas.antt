@@ -12,43 +12,44 @@ use Rattle.recode.specs.Policy.{reference_form}
 use Rattle.recode.specs.State.{State, WillBeFaithful, to_write}
 use Rattle.recode.specs.Step.{Advances}
 use Rattle.recode.specs.Devices.{Written}
+use Rattle.recode.specs.calls.Held.{LeavesPrefixFor, PassesBytes, PassesItemsFor, WritersView, behind_held, holding_none}
 use Rattle.recode.specs.calls.TraceToWrite.{AreSound, trace_to_write}
 use Rattle.recode.specs.calls.Verdict.{CanTell, IsFaithfulFor}
 use Rattle.recode.specs.Work.{IsCounted, TakesCalls}
-use Rattle.recode.specs.WrittenItems.{WritesItemsFor, WritesPrefixFor}
 use Rattle.recode.specs.declared.job.Fault.{Fault}
 use Rattle.recode.proofs.DecoderCallLemmas.{IsText, WellFormedCall, empty_call, end_none, ended_owed, full_call, full_left, full_owed, full_some, malformed_call, malformed_left, malformed_owed, malformed_sound, none_owed, well_formed_sound}
 use Rattle.recode.proofs.LatencyLemmas.{advances_more, advances_start, malformed_advances, settled_of, well_formed_advances}
-use Rattle.recode.proofs.TraceLemmas.{WritesItems-join, WritesItemsFor-of, WritesItemsFor-start, WritesItemsFor-trans, WritesItemsFor-under}
+use Rattle.recode.proofs.HeldLemmas.{passes_for_bytes, passes_for_of, passes_join}
+use Rattle.recode.proofs.TraceLemmas.{WritesItemsFor-start, WritesItemsFor-trans, WritesItemsFor-under}
 use Rattle.recode.proofs.VerdictLemmas.{both_ways, malformed_verdict, verdict_told, well_formed_verdict}
 use Rattle.recode.proofs.TextLemmas.{malformed_line_calls, malformed_pays, text_calls, text_pays, text_set, text_tells}
 use Rattle.recode.proofs.WorkLemmas.{end_calls, full_calls, malformed_calls}
 
 -- ---- stretches in a row
 
-pub converts_start : (w : Written) (s : State) (last : Bool) (bytes : List ℕ) → AreSound s.decoder.pending s.counts → ConvertsTo w w s s last bytes bytes 0
+pub converts_start : (w : WritersView) (s : State) (last : Bool) (bytes : List ℕ) → AreSound s.decoder.pending s.counts → ConvertsTo w w s s last bytes bytes 0
 converts_start w s last bytes sound = record {
   counted = refl;
   target = refl;
   policy = refl;
   sound = sound;
   source = λ r h. refl;
-  pays = WritesItemsFor-start w s.counts s.policy last (λ r. to_write s (bytes ++ r));
+  pays = WritesItemsFor-start w.written s.counts s.policy last (λ r. behind_held w (to_write s (bytes ++ r)));
   verdict = λ r h. (λ x. x, λ x. x);
   calls = λ r h. omega arith;
   least = λ under. omega arith;
   advances = λ h. advances_start (λ r. s.decoder.pieces (bytes ++ r)) s.coding s.set s.counts;
 }
 
-pub converts_more : (w w1 w2 : Written) (s s1 s2 : State) (last : Bool) (a b c : List ℕ) (n : ℕ) → ConvertsTo w w1 s s1 last a b 0 → ConvertsTo w1 w2 s1 s2 last b c n → ConvertsTo w w2 s s2 last a c n
+pub converts_more : (w w1 w2 : WritersView) (s s1 s2 : State) (last : Bool) (a b c : List ℕ) (n : ℕ) → ConvertsTo w w1 s s1 last a b 0 → ConvertsTo w1 w2 s1 s2 last b c n → ConvertsTo w w2 s s2 last a c n
 converts_more w w1 w2 s s1 s2 last a b c n p q = record {
   counted = omega (arith, p.counted, q.counted);
   target = q.target ∙ p.target;
   policy = q.policy ∙ p.policy;
   sound = q.sound;
   source = λ r h. p.source r h ∙ q.source r h;
-  pays = WritesItemsFor-trans w w1 w2 s.counts s1.counts s2.counts s.policy last (λ r. to_write s (a ++ r)) (λ r. to_write s1 (b ++ r)) (λ r. to_write s2 (c ++ r)) p.pays
-      (subst (λ k. WritesItemsFor w1 w2 s1.counts s2.counts k last (λ r. to_write s1 (b ++ r)) (λ r. to_write s2 (c ++ r))) p.policy q.pays);
+  pays = WritesItemsFor-trans w.written w1.written w2.written s.counts s1.counts s2.counts s.policy last (λ r. behind_held w (to_write s (a ++ r))) (λ r. behind_held w1 (to_write s1 (b ++ r))) (λ r. behind_held w2 (to_write s2 (c ++ r))) p.pays
+      (subst (λ k. PassesItemsFor w1 w2 s1.counts s2.counts k last (λ r. to_write s1 (b ++ r)) (λ r. to_write s2 (c ++ r))) p.policy q.pays);
   verdict = λ r h. both_ways (p.verdict r h) (q.verdict r h);
   calls = λ r h. omega (arith, p.calls r h, q.calls r h);
   least = λ under.
@@ -58,11 +59,34 @@ converts_more w w1 w2 s s1 s2 last a b c n p q = record {
       (subst (λ (k : Coding). Advances (λ r. s1.decoder.pieces (b ++ r)) (λ r. s2.decoder.pieces (c ++ r)) k s1.set s2.set s1.counts s2.counts) p.target (q.advances h));
 }
 
-pub converts_under : (w w1 w2 : Written) (s s1 : State) (last : Bool) (a b : List ℕ) (f : Fault) → ConvertsTo w w1 s s1 last a b 0
-    → WritesPrefixFor w1 w2 s1.policy f last (λ r. to_write s1 (b ++ r)) → WritesPrefixFor w w2 s.policy f last (λ r. to_write s (a ++ r))
+pub converts_under : (w w1 w2 : WritersView) (s s1 : State) (last : Bool) (a b : List ℕ) (f : Fault) → ConvertsTo w w1 s s1 last a b 0
+    → LeavesPrefixFor w1 w2 s1.policy f last (λ r. to_write s1 (b ++ r)) → LeavesPrefixFor w w2 s.policy f last (λ r. to_write s (a ++ r))
 converts_under w w1 w2 s s1 last a b f p q =
-    WritesItemsFor-under w w1 w2 s.counts s1.counts s.policy f last (λ r. to_write s (a ++ r)) (λ r. to_write s1 (b ++ r)) p.pays
-    (subst (λ k. WritesPrefixFor w1 w2 k f last (λ r. to_write s1 (b ++ r))) p.policy q)
+    WritesItemsFor-under w.written w1.written w2.written s.counts s1.counts s.policy f last (λ r. behind_held w (to_write s (a ++ r))) (λ r. behind_held w1 (to_write s1 (b ++ r))) p.pays
+    (subst (λ k. LeavesPrefixFor w1 w2 k f last (λ r. to_write s1 (b ++ r))) p.policy q)
+
+-- what is held is delivered
+pub converts_delivered : (w w1 w2 : WritersView) (s s1 : State) (last : Bool) (a b : List ℕ) (n : ℕ) → ConvertsTo w w1 s s1 last a b n → PassesBytes w1 w2 [] → ConvertsTo w w2 s s1 last a b n
+converts_delivered w w1 w2 s s1 last a b n p h = record {
+  counted = p.counted;
+  target = p.target;
+  policy = p.policy;
+  sound = p.sound;
+  source = p.source;
+  pays = WritesItemsFor-trans w.written w1.written w2.written s.counts s1.counts s1.counts s.policy last (λ r. behind_held w (to_write s (a ++ r))) (λ r. behind_held w1 (to_write s1 (b ++ r))) (λ r. behind_held w2 (to_write s1 (b ++ r))) p.pays
+      (passes_for_bytes w1 w2 s1.counts s.policy last (λ r. to_write s1 (b ++ r)) h);
+  verdict = p.verdict;
+  calls = p.calls;
+  least = p.least;
+  advances = p.advances;
+}
+
+-- and nothing was held
+pub converts_whole : (w w' : Written) (held held' : List ℕ) (s s1 : State) (last : Bool) (a b : List ℕ) (n : ℕ) → held ≡ [] → held' ≡ []
+    → ConvertsTo (record { written = w; held = held }) (record { written = w'; held = held' }) s s1 last a b n → ConvertsTo (holding_none w) (holding_none w') s s1 last a b n
+converts_whole w w' held held' s s1 last a b n none none' p =
+    subst (λ h. ConvertsTo (holding_none w) (record { written = w'; held = h }) s s1 last a b n) none'
+    (subst (λ h. ConvertsTo (record { written = w; held = h }) (record { written = w'; held = held' }) s s1 last a b n) none p)
 
 -- ---- one call of a decoder
 
@@ -95,7 +119,7 @@ finishes_malformed true a b = refl
 finishes_malformed false a b = refl
 
 -- what a call of the decoder leaves
-module _ (w w' : Written) (s s' : State) (src : List ℕ) (last : Bool) (read calls : ℕ) (t : List ℕ) (W : List ℕ → Type 0) (is_text : IsText W t) (need : ℕ) (law : IsCoding need s.coding) (ready : CanConvert s)
+module _ (w w' : WritersView) (s s' : State) (src : List ℕ) (last : Bool) (read calls : ℕ) (t : List ℕ) (W : List ℕ → Type 0) (is_text : IsText W t) (need : ℕ) (law : IsCoding need s.coding) (ready : CanConvert s)
     (source : (r : List ℕ) → (last ≡ true → r ≡ []) → s.source (src ++ r) ≡ s'.source (drop read src ++ r)) (one : IsCounted 1 1 s.counts.calls calls) where
   -- a text was written
   text_converts : (ended : Bool) (n : ℕ) → n ≤ 1 → (k : WellFormedCall s.decoder s'.decoder src last read t) (e : EncodesText w w' (after_call s read calls) (writing_of s') ended t)
@@ -114,7 +138,7 @@ module _ (w w' : Written) (s s' : State) (src : List ℕ) (last : Bool) (read ca
         policy = f.policy;
         sound = well_formed_sound s.decoder s'.decoder src last read t k s.counts s'.counts ready.sound index f.read (omega (arith, f.bad, index, ready.sound.bad)) f.lost;
         source = source;
-        pays = WritesItemsFor-of w w' (record s.counts { read = s.counts.read + read; calls = calls }) s.counts s'.counts s.policy last (text_items (writing_of s) ended t) (λ r. to_write s (src ++ r)) (λ r. to_write s' (drop read src ++ r)) refl refl (text_pays w w' (after_call s read calls) (writing_of s') ended t e need law)
+        pays = passes_for_of w w' (record s.counts { read = s.counts.read + read; calls = calls }) s.counts s'.counts s.policy last (text_items (writing_of s) ended t) (λ r. to_write s (src ++ r)) (λ r. to_write s' (drop read src ++ r)) refl refl (text_pays w w' (after_call s read calls) (writing_of s') ended t e need law)
             (λ r h. owed r h ∙ ap (λ l. text_items (writing_of s) ended t ++ l) (same (drop read src ++ r)));
         verdict = λ r h. will_be s s' f.target f.policy (WillBeFaithful s (src ++ r)) (drop read src ++ r)
             (well_formed_verdict (reference_form s.policy) s.decoder s'.decoder src last read t s.coding s.verdict s'.verdict s.set s'.set k ended f.verdict none r h);
@@ -175,7 +199,7 @@ module _ (w w' : Written) (s s' : State) (src : List ℕ) (last : Bool) (read ca
       }
 
   -- a malformed sequence was met
-  pub malformed_part : (w1 : Written) (t1 : TargetState) (a b offset : ℕ) → StateLaw s.decoder s'.decoder src last read W (Malformed a b) → s'.finished ≡ finishes last (Malformed a b)
+  pub malformed_part : (w1 : WritersView) (t1 : TargetState) (a b offset : ℕ) → StateLaw s.decoder s'.decoder src last read W (Malformed a b) → s'.finished ≡ finishes last (Malformed a b)
       → EncodesText w w1 (after_call s read calls) t1 false t → offset ≡ t1.counts.read - b - a → WritesMalformed w1 w' t1 (writing_of s') offset a → DecodesPart w w' s s' src last read false
   malformed_part w1 t1 a b offset call finished e0 at f0 =
       let e = e0.encodes in
@@ -196,8 +220,8 @@ module _ (w w' : Written) (s s' : State) (src : List ℕ) (last : Bool) (read ca
         policy = g.policy;
         sound = malformed_sound s.decoder s'.decoder src last read a b t k s.counts s'.counts ready.sound (omega (arith, index1, index2)) (g.read ∙ e.read) (omega (arith, g.bad, e.bad, index1, index2, ready.sound.bad)) g.lost;
         source = source;
-        pays = WritesItemsFor-of w w' (record s.counts { read = s.counts.read + read; calls = calls }) s.counts s'.counts s.policy last _ (λ r. to_write s (src ++ r)) (λ r. to_write s' (drop read src ++ r)) refl refl
-            (WritesItems-join w w1 w' (record s.counts { read = s.counts.read + read; calls = calls }) t1.counts s'.counts s.policy _ _ (text_pays w w1 (after_call s read calls) t1 false t e0 need law) (malformed_pays w1 w' t2 (writing_of s') offset a f need law))
+        pays = passes_for_of w w' (record s.counts { read = s.counts.read + read; calls = calls }) s.counts s'.counts s.policy last _ (λ r. to_write s (src ++ r)) (λ r. to_write s' (drop read src ++ r)) refl refl
+            (passes_join w w1 w' (record s.counts { read = s.counts.read + read; calls = calls }) t1.counts s'.counts s.policy _ _ (text_pays w w1 (after_call s read calls) t1 false t e0 need law) (malformed_pays w1 w' t2 (writing_of s') offset a f need law))
             (λ r h. owed r h ∙ ap (λ l. (text_items (writing_of s) false t ++ malformed_items (record t1 { coding = s.coding; policy = s.policy }) offset a) ++ l) (same (drop read src ++ r)));
         verdict = λ r h. will_be s s' g.target g.policy (WillBeFaithful s (src ++ r)) (drop read src ++ r)
             (malformed_verdict (reference_form s.policy) s.decoder s'.decoder src last read t s.coding s.verdict s'.verdict s.set s'.set a b k (g.stays refl) r h);

@@ -1,5 +1,6 @@
 pub mod PolicyLemmas
 pub mod TraceLemmas
+pub mod HeldLemmas
 pub mod CompareLemmas
 pub mod VerdictLemmas
 pub mod NewVerdictLemmas

@@ -4,6 +4,7 @@ pub mod Character
 pub mod Chunk
 pub mod CodecCalls
 pub mod EngineState
+pub mod Held
 pub mod Lent
 pub mod PivotText
 pub mod SessionView

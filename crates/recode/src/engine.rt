@@ -22,9 +22,11 @@ impl<D: StreamDecoder, E: RawEncoder> Engine<D, E> {
     ghost use Rattle.recode.specs.calls.CodecCalls.{reads_all};
     ghost use Rattle.recode.specs.calls.Chunk.{CanConvert, DecodesChunk, DecodesPart};
     ghost use Rattle.recode.specs.calls.EngineState.{engine_state};
+    ghost use Rattle.recode.specs.calls.Held.{LeavesPrefixFor};
     ghost use Rattle.recode.specs.calls.Lent.{AreLent};
     ghost use Rattle.recode.specs.State.{to_write};
-    ghost use Rattle.recode.specs.calls.Writers.{CountsWriterFault, MayFail, is_end, written_by};
+    ghost use Rattle.recode.specs.calls.Writers.{AreReady, CountsWriterFault, is_end};
+    ghost use Rattle.recode.specs.calls.Writers.{writers_view, written_by};
     ghost use Rattle.recode.specs.WrittenItems.{WritesPrefixFor};
 
     // One call of the decoder, and all that follows from it.
@@ -34,23 +36,22 @@ impl<D: StreamDecoder, E: RawEncoder> Engine<D, E> {
         chunk: &[u8],
         last: bool,
         pivot: &mut Pivot<'_>,
-        output: &mut [u8],
         check: &mut Pivot<'_>,
     ) -> Result<DecodeCall, Fault>
         requires ready { CanConvert
             (engine_state D.view E.parts writers.old.policy self.old) }
         requires limit { self.old.target.counts.read + length chunk.now ≤ 2 ^ 48 }
-        requires lent { AreLent pivot.old check.old output.old }
-        requires writers { MayFail writers.old }
+        requires lent { AreLent pivot.old check.old }
+        requires writers { AreReady writers.old }
         ensures part { IfOk result (λ p. DecodesPart
-            (written_by W.contents L.contents writers.old)
-            (written_by W.contents L.contents writers.new)
+            (writers_view W.contents L.contents writers.old)
+            (writers_view W.contents L.contents writers.new)
             (engine_state D.view E.parts writers.old.policy self.old)
             (engine_state D.view E.parts writers.new.policy self.new)
             chunk.now last p.read (reads_all p.answer)) }
-        ensures err { IfErr result (λ f. WritesPrefixFor
-            (written_by W.contents L.contents writers.old)
-            (written_by W.contents L.contents writers.new) writers.old.policy f last
+        ensures err { IfErr result (λ f. LeavesPrefixFor
+            (writers_view W.contents L.contents writers.old)
+            (writers_view W.contents L.contents writers.new) writers.old.policy f last
             (λ r. to_write (engine_state D.view E.parts writers.old.policy self.old)
             (chunk.now ++ r))) }
         ensures target { (E.parts self.new.target.encoder).coding
@@ -65,39 +66,40 @@ impl<D: StreamDecoder, E: RawEncoder> Engine<D, E> {
         let text = text_in(pivot, call.written);
         match call.answer {
             DecoderResult::InputEmpty => {
-                self.target.encode_text(writers, text, output, check, last)?;
+                self.target.encode_text(writers, text, check, last)?;
                 Ok(call)
             }
             DecoderResult::OutputFull => {
                 self.target
-                    .encode_text(writers, text, output, check, false)?;
+                    .encode_text(writers, text, check, false)?;
                 Ok(call)
             }
             DecoderResult::Malformed(size, after) => {
                 self.target
-                    .encode_text(writers, text, output, check, false)?;
+                    .encode_text(writers, text, check, false)?;
                 let offset = self.target.counts.read - u64::from(after) - u64::from(size);
                 self.target
-                    .log_malformed(writers, offset, size, output, check)?;
+                    .log_malformed(writers, offset, size, check)?;
                 Ok(call)
             }
         }
     }
 
-    /// Converts all that was read, and logs what is lost. No bytes are the end of the input.
+    /// Converts all that was read, and logs what is lost: in the end nothing is held. No bytes are
+    /// the end of the input.
     pub fn decode_chunk<W: Write, L: Write>(
         &mut self,
         writers: &mut Writers<'_, W, L>,
         chunk: &[u8],
         pivot: &mut Pivot<'_>,
-        output: &mut [u8],
         check: &mut Pivot<'_>,
     ) -> Result<(), Fault>
         requires ready { CanConvert
             (engine_state D.view E.parts writers.old.policy self.old) }
         requires limit { self.old.target.counts.read + length chunk.now ≤ 2 ^ 48 }
-        requires lent { AreLent pivot.old check.old output.old }
-        requires writers { MayFail writers.old }
+        requires lent { AreLent pivot.old check.old }
+        requires writers { AreReady writers.old }
+        requires none { writers.old.held ≡ 0 }
         ensures chunk { OnOk result (DecodesChunk
             (written_by W.contents L.contents writers.old)
             (written_by W.contents L.contents writers.new)
@@ -118,9 +120,9 @@ impl<D: StreamDecoder, E: RawEncoder> Engine<D, E> {
         let last = chunk.is_empty();
         let mut rest = chunk;
         'chunk: loop {
-            let call = self.decode_part(writers, rest, last, pivot, output, check)?;
+            let call = self.decode_part(writers, rest, last, pivot, check)?;
             if call.is_done() {
-                return Ok(());
+                return writers.deliver_held();
             }
             rest = &rest[call.read..];
         }

@@ -188,6 +188,8 @@ impl<'t> Session<'t> {
         }
         let mut writers = Writers {
             output: writer,
+            buffer: buffers.output,
+            held: 0,
             log,
             policy: self.job.policy,
         };
@@ -196,7 +198,6 @@ impl<'t> Session<'t> {
             &mut writers,
             &mut buffers.input[..read],
             &mut buffers.pivot,
-            buffers.output,
             &mut buffers.check,
         )?;
         if read == 0 {

@@ -1,13 +1,12 @@
-//! The part of an engine that writes text: what its encoder writes is delivered and read back, and
-//! what has no bytes is logged.
+//! The part of an engine that writes text: what its encoder writes is held, to be delivered, and
+//! read back, and what has no bytes is logged.
 
 use crate::codec_calls::{EncodeCall, PivotText, encode_from_pivot};
 use crate::job::{Fault, Pivot};
 use crate::verdict::Verdict;
-use crate::writers::{Writers, log_line, put_reference};
+use crate::writers::Writers;
 use encoding_front::StreamDecoder;
 use encoding_mem::{EncoderResult, RawEncoder};
-use recode_log::deliver::deliver;
 use recode_log::line::LogLine;
 use std::io::Write;
 
@@ -42,9 +41,9 @@ impl<D: StreamDecoder, E: RawEncoder> Target<D, E> {
     ghost use Rattle.encoding_mem.specs.Items.{Item, LostAt, Byte};
     ghost use Rattle.recode_log.specs.Line.{IsValid};
     ghost use Rattle.recode_log.specs.declared.line.LogLine.TheVariants.{Bad};
-    ghost use Rattle.recode.specs.WrittenItems.{WritesItems, WritesPrefix};
     ghost use Rattle.recode.specs.calls.Buffers.{HoldsAnyCharacter, KeepsRoom};
     ghost use Rattle.recode.specs.calls.CodecCalls.{writes_all};
+    ghost use Rattle.recode.specs.calls.Held.{LeavesPrefix, PassesItems};
     ghost use Rattle.recode.specs.calls.Lent.{AreLentFor};
     ghost use Rattle.recode.specs.calls.Text.{CanEncode, EncodesPart, EncodesText, WritesMalformed};
     ghost use Rattle.recode.specs.calls.Text.{malformed_items, text_items};
@@ -52,9 +51,9 @@ impl<D: StreamDecoder, E: RawEncoder> Target<D, E> {
     ghost use Rattle.recode.specs.Policy.{reference_form};
     ghost use Rattle.recode.specs.calls.PivotText.{is_in_units, pivot_chars, IsWholeText};
     ghost use Rattle.recode.specs.calls.VerdictView.{verdict_view};
-    ghost use Rattle.recode.specs.calls.Writers.{CountsWriterFault, MayFail, written_by};
+    ghost use Rattle.recode.specs.calls.Writers.{AreReady, CountsWriterFault, writers_view};
 
-    // Logs the character that was read last, and writes its reference, or stops.
+    // Logs the character that was read last, and holds its reference, or stops.
     fn log_lost<W: Write, L: Write>(
         &mut self,
         writers: &mut Writers<'_, W, L>,
@@ -62,10 +61,10 @@ impl<D: StreamDecoder, E: RawEncoder> Target<D, E> {
     ) -> Result<(), Fault>
         requires index { self.old.counts.lost < self.old.counts.index }
         requires small { self.old.counts.index ≤ 2 ^ 48 }
-        requires writers { MayFail writers.old }
-        ensures pays { OnOk result ((rest : List Item) → WritesItems
-            (written_by W.contents L.contents writers.old)
-            (written_by W.contents L.contents writers.new)
+        requires writers { AreReady writers.old }
+        ensures pays { OnOk result ((rest : List Item) → PassesItems
+            (writers_view W.contents L.contents writers.old)
+            (writers_view W.contents L.contents writers.new)
             self.old.counts self.new.counts writers.old.policy
             (LostAt (self.old.counts.index - 1) scalar ∷ map Byte
             (reference_bytes (reference_form writers.old.policy) scalar)
@@ -75,18 +74,18 @@ impl<D: StreamDecoder, E: RawEncoder> Target<D, E> {
         ensures encoder { self.new.encoder ≡ self.old.encoder }
         ensures verdict { verdict_view D.view self.new.verdict
             ≡ verdict_view D.view self.old.verdict }
-        ensures err { IfErr result (λ f. (rest : List Item) → WritesPrefix
-            (written_by W.contents L.contents writers.old)
-            (written_by W.contents L.contents writers.new) writers.old.policy f
+        ensures err { IfErr result (λ f. (rest : List Item) → LeavesPrefix
+            (writers_view W.contents L.contents writers.old)
+            (writers_view W.contents L.contents writers.new) writers.old.policy f
             (LostAt (self.old.counts.index - 1) scalar ∷ map Byte
             (reference_bytes (reference_form writers.old.policy) scalar)
             ++ rest)) }
         ensures failures { CountsWriterFault writers.old writers.new result }
     {
         let index = self.counts.index - 1;
-        log_line(writers.log, LogLine::Lost { index, scalar })?;
+        writers.log_line(LogLine::Lost { index, scalar })?;
         let form = writers.policy.reference_at(index, scalar)?;
-        put_reference(writers.output, scalar, form)?;
+        writers.put_reference(scalar, form)?;
         self.counts.lost += 1;
         Ok(())
     }
@@ -96,40 +95,41 @@ impl<D: StreamDecoder, E: RawEncoder> Target<D, E> {
         &mut self,
         writers: &mut Writers<'_, W, L>,
         text: PivotText<'p>,
-        output: &mut [u8],
         check: &mut Pivot<'_>,
         last: bool,
     ) -> Result<EncodeCall<'p>, Fault>
         requires ready { CanEncode (target_state D.view E.parts writers.old.policy self.old)
             (pivot_chars text) }
         requires text { IsWholeText text }
-        requires lent { AreLentFor (verdict_view D.view self.old.verdict) text check.old
-            output.old }
-        requires writers { MayFail writers.old }
+        requires lent { AreLentFor (verdict_view D.view self.old.verdict) text check.old }
+        requires writers { AreReady writers.old }
         ensures part { IfOk result (λ p. EncodesPart
-            (written_by W.contents L.contents writers.old)
-            (written_by W.contents L.contents writers.new)
+            (writers_view W.contents L.contents writers.old)
+            (writers_view W.contents L.contents writers.new)
             (target_state D.view E.parts writers.old.policy self.old)
             (target_state D.view E.parts writers.new.policy self.new)
             last (pivot_chars text.entry) (pivot_chars p.rest) (writes_all p.answer)) }
         ensures rest { IfOk result (λ p. IsWholeText p.rest
             × (is_in_units p.rest ≡ is_in_units text.entry)) }
-        ensures err { IfErr result (λ f. WritesPrefix
-            (written_by W.contents L.contents writers.old)
-            (written_by W.contents L.contents writers.new) writers.old.policy f
+        ensures err { IfErr result (λ f. LeavesPrefix
+            (writers_view W.contents L.contents writers.old)
+            (writers_view W.contents L.contents writers.new) writers.old.policy f
             (text_items (target_state D.view E.parts writers.old.policy self.old) last
             (pivot_chars text.entry))) }
         ensures target { (E.parts self.new.encoder).coding ≡ (E.parts self.old.encoder).coding }
         ensures failures { CountsWriterFault writers.old writers.new result }
         ensures check { KeepsRoom check.old check.new }
     {
+        writers.make_room()?;
+        let held = writers.held;
+        let room = &mut writers.buffer[held..];
         let calls = &mut self.counts.calls;
-        let call = encode_from_pivot(&mut self.encoder, text, output, last, calls);
-        deliver(writers.output, &output[..call.written], Fault::Write)?;
+        let call = encode_from_pivot(&mut self.encoder, text, room, last, calls);
+        writers.held += call.written;
         self.counts.index += call.characters as u64;
         match call.answer {
             EncoderResult::InputEmpty | EncoderResult::OutputFull => {
-                let written = &output[..call.written];
+                let written = &writers.buffer[held..writers.held];
                 let calls = &mut self.counts.calls;
                 self.verdict.read_back(written, call.read, check, calls);
                 Ok(call)
@@ -147,25 +147,23 @@ impl<D: StreamDecoder, E: RawEncoder> Target<D, E> {
         &mut self,
         writers: &mut Writers<'_, W, L>,
         text: PivotText<'_>,
-        output: &mut [u8],
         check: &mut Pivot<'_>,
         last: bool,
     ) -> Result<(), Fault>
         requires ready { CanEncode (target_state D.view E.parts writers.old.policy self.old)
             (pivot_chars text) }
         requires text { IsWholeText text }
-        requires lent { AreLentFor (verdict_view D.view self.old.verdict) text check.old
-            output.old }
-        requires writers { MayFail writers.old }
+        requires lent { AreLentFor (verdict_view D.view self.old.verdict) text check.old }
+        requires writers { AreReady writers.old }
         ensures text { OnOk result (EncodesText
-            (written_by W.contents L.contents writers.old)
-            (written_by W.contents L.contents writers.new)
+            (writers_view W.contents L.contents writers.old)
+            (writers_view W.contents L.contents writers.new)
             (target_state D.view E.parts writers.old.policy self.old)
             (target_state D.view E.parts writers.new.policy self.new)
             last (pivot_chars text.entry)) }
-        ensures err { IfErr result (λ f. WritesPrefix
-            (written_by W.contents L.contents writers.old)
-            (written_by W.contents L.contents writers.new) writers.old.policy f
+        ensures err { IfErr result (λ f. LeavesPrefix
+            (writers_view W.contents L.contents writers.old)
+            (writers_view W.contents L.contents writers.new) writers.old.policy f
             (text_items (target_state D.view E.parts writers.old.policy self.old) last
             (pivot_chars text.entry))) }
         ensures target { (E.parts self.new.encoder).coding ≡ (E.parts self.old.encoder).coding }
@@ -174,7 +172,7 @@ impl<D: StreamDecoder, E: RawEncoder> Target<D, E> {
     {
         let mut rest = text;
         'text: loop {
-            let call = self.encode_part(writers, rest, output, check, last)?;
+            let call = self.encode_part(writers, rest, check, last)?;
             if call.is_done() {
                 return Ok(());
             }
@@ -188,41 +186,36 @@ impl<D: StreamDecoder, E: RawEncoder> Target<D, E> {
         writers: &mut Writers<'_, W, L>,
         offset: u64,
         size: u8,
-        output: &mut [u8],
         check: &mut Pivot<'_>,
     ) -> Result<(), Fault>
         requires ready { CanEncode (target_state D.view E.parts writers.old.policy self.old)
             (0xFFFD ∷ []) }
         requires bad { self.old.counts.bad ≤ self.old.counts.index }
         requires line { IsValid (Bad offset size) }
-        requires output { 4 ≤ length output.old }
         requires check { HoldsAnyCharacter check.old }
-        requires writers { MayFail writers.old }
+        requires writers { AreReady writers.old }
         ensures line { OnOk result (WritesMalformed
-            (written_by W.contents L.contents writers.old)
-            (written_by W.contents L.contents writers.new)
+            (writers_view W.contents L.contents writers.old)
+            (writers_view W.contents L.contents writers.new)
             (target_state D.view E.parts writers.old.policy self.old)
             (target_state D.view E.parts writers.new.policy self.new) offset size) }
-        ensures err { IfErr result (λ f. WritesPrefix
-            (written_by W.contents L.contents writers.old)
-            (written_by W.contents L.contents writers.new) writers.old.policy f
+        ensures err { IfErr result (λ f. LeavesPrefix
+            (writers_view W.contents L.contents writers.old)
+            (writers_view W.contents L.contents writers.new) writers.old.policy f
             (malformed_items (target_state D.view E.parts writers.old.policy self.old)
             offset size)) }
         ensures target { (E.parts self.new.encoder).coding ≡ (E.parts self.old.encoder).coding }
         ensures failures { CountsWriterFault writers.old writers.new result }
         ensures check { KeepsRoom check.old check.new }
     {
-        log_line(
-            writers.log,
-            LogLine::Bad {
-                offset,
-                length: size,
-            },
-        )?;
+        writers.log_line(LogLine::Bad {
+            offset,
+            length: size,
+        })?;
         self.counts.bad += 1;
         self.verdict.faithful = false;
         let text = PivotText::Utf8("\u{FFFD}");
-        self.encode_text(writers, text, output, check, false)?;
+        self.encode_text(writers, text, check, false)?;
         Ok(())
     }
 }

@@ -1,13 +1,8 @@
-//! The two writers of a conversion, of its output and of its log, and what is written to each.
-
-ghost use Rattle.std.specs.Prelude.{◌≡◌, ℕ, ◌+◌, ◌-◌, ◌^◌, ◌<◌, take, OnOk, OnErr, IfErr};
-ghost use Rattle.std.specs.Io.KnownBytes.{Appends};
-ghost use Rattle.encoding_mem.specs.Coding.{reference_bytes};
-ghost use Rattle.recode_log.specs.Counted.{inner_of, failures_of};
-ghost use Rattle.recode_log.specs.Line.{IsValid, line_bytes};
+//! The two writers of a conversion, of its output and of its log, and what is held for the output.
 
 use crate::job::{Fault, Policy};
 use encoding_front::{Reference, write_reference};
+use encoding_mem::encode::put_all;
 use recode_log::counted::Counted;
 use recode_log::deliver::deliver;
 use recode_log::line::LogLine;
@@ -15,48 +10,105 @@ use std::io::Write;
 
 /// Where a conversion writes: its output, and the log of what is lost; and what it writes for a
 /// character without bytes.
+///
+/// What is to be written to the output is held first, at the start of the buffer. It is delivered
+/// before a line is written to the log, so each line is behind the bytes that come before it; and
+/// where the buffer has little room left. All that is held goes out in one call.
 #[derive(Drop)]
 pub struct Writers<'w, W, L> {
     pub output: &'w mut Counted<W>,
+    pub buffer: &'w mut [u8],
+    /// How many bytes are held.
+    pub held: usize,
     pub log: &'w mut Counted<L>,
     pub policy: Policy,
 }
 
-/// Writes a line to the log, all of it or a prefix.
-pub fn log_line<L: Write>(log: &mut Counted<L>, line: LogLine) -> Result<(), Fault>
-    requires valid { IsValid line }
-    requires log { failures_of log.old < 2 ^ 64 - 1 }
-    ensures ok { OnOk result (Appends (L.contents (inner_of log.old))
-        (L.contents (inner_of log.new)) (line_bytes line)
-        × (failures_of log.new ≡ failures_of log.old)) }
-    ensures err { OnErr result ((n : ℕ)
-        × Appends (L.contents (inner_of log.old)) (L.contents (inner_of log.new))
-        (take n (line_bytes line))
-        × (failures_of log.new ≡ failures_of log.old + 1)) }
-    ensures fault { IfErr result (λ f. f ≡ Fault.Log) }
-{
-    let mut bytes = [0; 32];
-    let len = line.write_into(&mut bytes);
-    deliver(log, &bytes[..len], Fault::Log)
-}
+impl<'w, W: Write, L: Write> Writers<'w, W, L> {
+    ghost use Rattle.std.specs.Prelude.{◌≡◌, ◌-◌, ◌≤◌, ◌∷◌, ◌++◌, [], List, map, length};
+    ghost use Rattle.std.specs.Prelude.{OnOk, IfErr};
+    ghost use Rattle.encoding_mem.specs.Coding.{reference_bytes};
+    ghost use Rattle.encoding_mem.specs.Items.{Item, Byte};
+    ghost use Rattle.recode_log.specs.Line.{IsValid};
+    ghost use Rattle.recode.specs.calls.Held.{LeavesPrefix, PassesBytes, WritesLine, item_of};
+    ghost use Rattle.recode.specs.calls.Writers.{AreReady, CountsWriterFault, writers_view};
 
-/// Writes the reference of a character that has no bytes, in this form, all of it or a prefix.
-pub fn put_reference<W: Write>(
-    writer: &mut Counted<W>,
-    c: char,
-    form: Reference,
-) -> Result<(), Fault>
-    requires { failures_of writer.old < 2 ^ 64 - 1 }
-    ensures ok { OnOk result (Appends (W.contents (inner_of writer.old))
-        (W.contents (inner_of writer.new)) (reference_bytes form c)
-        × (failures_of writer.new ≡ failures_of writer.old)) }
-    ensures err { OnErr result ((n : ℕ)
-        × Appends (W.contents (inner_of writer.old)) (W.contents (inner_of writer.new))
-        (take n (reference_bytes form c))
-        × (failures_of writer.new ≡ failures_of writer.old + 1)) }
-    ensures fault { IfErr result (λ f. f ≡ Fault.Write) }
-{
-    let mut bytes = [0; 10];
-    let len = write_reference(c, form, &mut bytes);
-    deliver(writer, &bytes[..len], Fault::Write)
+    /// Delivers what is held, all of it or a prefix.
+    pub fn deliver_held(&mut self) -> Result<(), Fault>
+        requires ready { AreReady self.old }
+        ensures ok { OnOk result (PassesBytes (writers_view W.contents L.contents self.old)
+            (writers_view W.contents L.contents self.new) []) }
+        ensures none { OnOk result (self.new.held ≡ 0) }
+        ensures err { IfErr result (λ f. (to_write : List Item) → LeavesPrefix
+            (writers_view W.contents L.contents self.old)
+            (writers_view W.contents L.contents self.new) self.old.policy f to_write) }
+        ensures failures { CountsWriterFault self.old self.new result }
+    {
+        let held = self.held;
+        // Lent as `&mut`, since the borrow checker refuses `&` beside the writer.
+        deliver(self.output, &mut self.buffer[..held], Fault::Write)?;
+        self.held = 0;
+        Ok(())
+    }
+
+    /// Delivers what is held where too little room is left for some character.
+    pub fn make_room(&mut self) -> Result<(), Fault>
+        requires ready { AreReady self.old }
+        ensures ok { OnOk result (PassesBytes (writers_view W.contents L.contents self.old)
+            (writers_view W.contents L.contents self.new) []) }
+        ensures room { OnOk result (4 ≤ length self.new.buffer.now - self.new.held) }
+        ensures err { IfErr result (λ f. (to_write : List Item) → LeavesPrefix
+            (writers_view W.contents L.contents self.old)
+            (writers_view W.contents L.contents self.new) self.old.policy f to_write) }
+        ensures failures { CountsWriterFault self.old self.new result }
+    {
+        if self.buffer.len() - self.held < 4 {
+            self.deliver_held()
+        } else {
+            Ok(())
+        }
+    }
+
+    /// Delivers what is held and writes a line to the log, all of that or a prefix.
+    pub fn log_line(&mut self, line: LogLine) -> Result<(), Fault>
+        requires valid { IsValid line }
+        requires ready { AreReady self.old }
+        ensures ok { OnOk result (WritesLine (writers_view W.contents L.contents self.old)
+            (writers_view W.contents L.contents self.new) (item_of line)) }
+        ensures none { OnOk result (self.new.held ≡ 0) }
+        ensures err { IfErr result (λ f. (to_write : List Item) → LeavesPrefix
+            (writers_view W.contents L.contents self.old)
+            (writers_view W.contents L.contents self.new) self.old.policy f
+            (item_of line ∷ to_write)) }
+        ensures failures { CountsWriterFault self.old self.new result }
+    {
+        self.deliver_held()?;
+        let mut bytes = [0; 32];
+        let len = line.write_into(&mut bytes);
+        deliver(self.log, &bytes[..len], Fault::Log)
+    }
+
+    /// Holds the reference of a character that has no bytes, in this form. Where the buffer has no
+    /// room for it, it is delivered, behind what is held, all of that or a prefix.
+    pub fn put_reference(&mut self, c: char, form: Reference) -> Result<(), Fault>
+        requires ready { AreReady self.old }
+        ensures ok { OnOk result (PassesBytes (writers_view W.contents L.contents self.old)
+            (writers_view W.contents L.contents self.new) (reference_bytes form c)) }
+        ensures err { IfErr result (λ f. (to_write : List Item) → LeavesPrefix
+            (writers_view W.contents L.contents self.old)
+            (writers_view W.contents L.contents self.new) self.old.policy f
+            (map Byte (reference_bytes form c) ++ to_write)) }
+        ensures failures { CountsWriterFault self.old self.new result }
+    {
+        let mut bytes = [0; 10];
+        let len = write_reference(c, form, &mut bytes);
+        let held = self.held;
+        if len > self.buffer.len() - held {
+            self.deliver_held()?;
+            deliver(self.output, &bytes[..len], Fault::Write)
+        } else {
+            self.held = put_all(self.buffer, held, &bytes[..len]);
+            Ok(())
+        }
+    }
 }

@@ -3,10 +3,10 @@ use Rattle.std.specs.Prelude.{◌≡◌, ◌↔◌, IsTrue, ℕ, ◌+◌, ◌-�
 use Rattle.recode.specs.State.{State, WillBeFaithful, to_write}
 use Rattle.recode.specs.Step.{Advances, IsNearlyDecided}
 use Rattle.recode.specs.Devices.{Written}
+use Rattle.recode.specs.calls.Held.{PassesItemsFor, WritersView, holding_none}
 use Rattle.recode.specs.calls.TraceToWrite.{AreSound}
 use Rattle.recode.specs.calls.Verdict.{CanTell}
 use Rattle.recode.specs.Work.{TakesAtLeast, TakesCalls, ended_count}
-use Rattle.recode.specs.WrittenItems.{WritesItemsFor}
 
 -- More bytes can be converted.
 pub record CanConvert (s : State) : Type 0 where
@@ -18,13 +18,13 @@ pub record CanConvert (s : State) : Type 0 where
 -- still to be written is what was written, then what is still to be written now. Of n chunks that ended, calls of codecs
 -- were at most 3 each, with 4 for each character and 2 for each item; and at least 2 each, with 3 for each malformed
 -- sequence and one for each lost character.
-pub record ConvertsTo (before after : Written) (s s' : State) (last : Bool) (bytes rest : List ℕ) (n : ℕ) : Type 0 where
+pub record ConvertsTo (before after : WritersView) (s s' : State) (last : Bool) (bytes rest : List ℕ) (n : ℕ) : Type 0 where
   pub counted : s'.counts.read + length rest ≡ s.counts.read + length bytes
   pub target : s'.coding ≡ s.coding
   pub policy : s'.policy ≡ s.policy
   pub sound : AreSound s'.decoder.pending s'.counts
   pub source : (r : List ℕ) → (last ≡ true → r ≡ []) → s.source (bytes ++ r) ≡ s'.source (rest ++ r)
-  pub pays : WritesItemsFor before after s.counts s'.counts s.policy last (λ r. to_write s (bytes ++ r)) (λ r. to_write s' (rest ++ r))
+  pub pays : PassesItemsFor before after s.counts s'.counts s.policy last (λ r. to_write s (bytes ++ r)) (λ r. to_write s' (rest ++ r))
   pub verdict : (r : List ℕ) → (last ≡ true → r ≡ []) → WillBeFaithful s (bytes ++ r) ↔ WillBeFaithful s' (rest ++ r)
   pub calls : (r : List ℕ) → (last ≡ true → r ≡ []) → TakesCalls (3 * n) s.counts s'.counts (to_write s (bytes ++ r)) (to_write s' (rest ++ r))
   pub least : TakesAtLeast (3 * (s'.counts.bad - s.counts.bad) + 2 * n) s.counts s'.counts
@@ -39,13 +39,13 @@ pub record IsDoneWith (s : State) (last : Bool) : Type 0 where
   pub told : last ≡ true → WillBeFaithful s [] ↔ IsTrue s.verdict.faithful
 
 -- One call of the decoder, and all that follows from it.
-pub record DecodesPart (before after : Written) (s s' : State) (chunk : List ℕ) (last : Bool) (read : ℕ) (is_done : Bool) : Type 0 where
+pub record DecodesPart (before after : WritersView) (s s' : State) (chunk : List ℕ) (last : Bool) (read : ℕ) (is_done : Bool) : Type 0 where
   pub within : read ≤ length chunk
   pub converts : ConvertsTo before after s s' last chunk (drop read chunk) (ended_count is_done)
   pub more : is_done ≡ false → CanConvert s' × (length (s'.decoder.pieces (drop read chunk)) < length (s.decoder.pieces chunk))
   pub done : is_done ≡ true → (drop read chunk ≡ []) × IsDoneWith s' last
 
--- All calls for a chunk.
+-- All calls for a chunk: nothing is held before or after.
 pub record DecodesChunk (before after : Written) (s s' : State) (chunk : List ℕ) (last : Bool) : Type 0 where
-  pub converts : ConvertsTo before after s s' last chunk [] 1
+  pub converts : ConvertsTo (holding_none before) (holding_none after) s s' last chunk [] 1
   pub done : IsDoneWith s' last

@@ -5,11 +5,9 @@ use Rattle.encoding_mem.specs.Items.{Item, MalformedAt, open_items, whole_items}
 use Rattle.encoding_mem.specs.declared.form.EscapeState.{EscapeState}
 use Rattle.encoding_mem.specs.declared.form.EscapeState.TheVariants.{Ascii}
 use Rattle.recode.specs.Policy.{reference_form}
-use Rattle.recode.specs.Devices.{Written}
-use Rattle.recode.specs.TaggedByte.{Wrote, tagged}
+use Rattle.recode.specs.calls.Held.{PassesItems, WritersView, WritesLine}
 use Rattle.recode.specs.calls.Verdict.{CanTell, IsToldAtEnd, VerdictIsKept, VerdictView}
 use Rattle.recode.specs.Work.{TakesAtLeast, ended_count}
-use Rattle.recode.specs.WrittenItems.{WritesItems}
 use Rattle.recode.specs.declared.job.Policy.{Policy}
 use Rattle.recode.specs.declared.target.Counts.{Counts}
 
@@ -31,11 +29,11 @@ pub record CanEncode (t : TargetState) (text : List ℕ) : Type 0 where
 abbrev pub text_items : TargetState → Bool → List ℕ → List Item
 text_items t last text = whole_items (reference_form t.policy) t.coding last t.set t.counts.index text
 
--- Of this text the rest is left to encode: what was to be written for it is what was written, then what is to be written
+-- Of this text the rest is left to encode: what was to be written for it is what was passed, then what is to be written
 -- for the rest. Of n texts that ended, calls of codecs were at most 2 each, with one for each character and 2 for each
 -- item; and at least one each, with one for each lost character that was logged.
-pub record EncodesTo (before after : Written) (t t' : TargetState) (last : Bool) (text rest : List ℕ) (n : ℕ) : Type 0 where
-  pub pays : WritesItems before after t.counts t'.counts t.policy (text_items t last text) (text_items t' last rest)
+pub record EncodesTo (before after : WritersView) (t t' : TargetState) (last : Bool) (text rest : List ℕ) (n : ℕ) : Type 0 where
+  pub pays : PassesItems before after t.counts t'.counts t.policy (text_items t last text) (text_items t' last rest)
   pub index : t'.counts.index + length rest ≡ t.counts.index + length text
   pub lost : t'.counts.lost ≤ t'.counts.index
   pub bad : t'.counts.bad ≡ t.counts.bad
@@ -56,13 +54,13 @@ pub record IsEncoded (t : TargetState) (last : Bool) : Type 0 where
   pub told : last ≡ true → IsToldAtEnd t.verdict
 
 -- One call of the encoder, and all that follows from it.
-pub record EncodesPart (before after : Written) (t t' : TargetState) (last : Bool) (text rest : List ℕ) (is_done : Bool) : Type 0 where
+pub record EncodesPart (before after : WritersView) (t t' : TargetState) (last : Bool) (text rest : List ℕ) (is_done : Bool) : Type 0 where
   pub encodes : EncodesTo before after t t' last text rest (ended_count is_done)
   pub more : is_done ≡ false → CanTell t'.verdict t'.coding t'.set rest × (length (text_items t' last rest) < length (text_items t last text))
   pub done : is_done ≡ true → (rest ≡ []) × IsEncoded t' last
 
 -- All calls for a text.
-pub record EncodesText (before after : Written) (t t' : TargetState) (last : Bool) (text : List ℕ) : Type 0 where
+pub record EncodesText (before after : WritersView) (t t' : TargetState) (last : Bool) (text : List ℕ) : Type 0 where
   pub encodes : EncodesTo before after t t' last text [] 1
   pub done : IsEncoded t' last
 
@@ -75,7 +73,7 @@ abbrev pub with_malformed : TargetState → TargetState
 with_malformed t = record t { counts = record t.counts { bad = t.counts.bad + 1 }; verdict = record t.verdict { faithful = false } }
 
 -- The line of a malformed sequence is written, then U+FFFD in its place.
-pub record WritesMalformed (before after : Written) (t t' : TargetState) (offset size : ℕ) : Type 0 where
-  pub between : Written
-  pub line : Wrote before between (tagged (MalformedAt offset size ∷ []))
+pub record WritesMalformed (before after : WritersView) (t t' : TargetState) (offset size : ℕ) : Type 0 where
+  pub between : WritersView
+  pub line : WritesLine before between (MalformedAt offset size)
   pub text : EncodesText between after (with_malformed t) t' false (0xFFFD ∷ [])

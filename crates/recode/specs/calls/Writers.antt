@@ -1,8 +1,9 @@
 -- What the two writers of a conversion have, and how the counts of their failed calls rise.
-use Rattle.std.specs.Prelude.{◌≡◌, ℕ, ◌+◌, ◌-◌, ◌^◌, ◌<◌, nat_eq, length, Bool, List, Option, Result}
+use Rattle.std.specs.Prelude.{◌≡◌, ℕ, ◌+◌, ◌-◌, ◌^◌, ◌<◌, ◌≤◌, nat_eq, length, take, Bool, List, Option, Result}
 use Rattle.recode_log.specs.Counted.{failures_of}
 use Rattle.recode.specs.Devices.{Written, written_in}
 use Rattle.recode.specs.Fault.{log_failures, of_other, reader_failures, writer_failures}
+use Rattle.recode.specs.calls.Held.{WritersView}
 use Rattle.recode.specs.declared.job.Fault.{Fault}
 use Rattle.recode.specs.declared.writers.Writers.{Writers}
 
@@ -10,14 +11,23 @@ use Rattle.recode.specs.declared.writers.Writers.{Writers}
 abbrev pub written_by : {W L : Type 0} → (W → Option (List ℕ)) → (L → Option (List ℕ)) → Writers W L → Written
 written_by contents logged writers = written_in contents logged writers.output.now writers.log.now
 
--- One more failed call of each can be counted.
-pub record MayFail {W L : Type 0} (writers : Writers W L) : Type 0 where
+-- the two writers by what they have taken and the bytes that are held, those at the start of the buffer
+abbrev pub writers_view : {W L : Type 0} → (W → Option (List ℕ)) → (L → Option (List ℕ)) → Writers W L → WritersView
+writers_view contents logged writers = record { written = written_by contents logged writers; held = take writers.held writers.buffer.now }
+
+-- One more failed call of each can be counted, and the buffer has 4 bytes or more, those that are held among them.
+pub record AreReady {W L : Type 0} (writers : Writers W L) : Type 0 where
   pub output : failures_of writers.output.now < 2 ^ 64 - 1
   pub log : failures_of writers.log.now < 2 ^ 64 - 1
+  pub room : 4 ≤ length writers.buffer.now
+  pub within : writers.held ≤ length writers.buffer.now
 
--- the writer and the log are the two that they were, and the policy stays
+-- the writer, the log and the buffer are those that they were, what is held is within the buffer, and the policy stays
 pub record AreTheSame {W L : Type 0} (before after : Writers W L) : Type 0 where
   pub output : after.output.ghost_name ≡ before.output.ghost_name
+  pub buffer : after.buffer.ghost_name ≡ before.buffer.ghost_name
+  pub room : length after.buffer.now ≡ length before.buffer.now
+  pub within : after.held ≤ length after.buffer.now
   pub log : after.log.ghost_name ≡ before.log.ghost_name
   pub policy : after.policy ≡ before.policy
 

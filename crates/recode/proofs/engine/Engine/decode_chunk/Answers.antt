@@ -11,7 +11,7 @@ chunk-init g c = record {
   ready = c.requires.ready;
   writer_count = refl;
   log_count = refl;
-  same = same_start _;
+  same = same_start _ c.requires.writers.within;
   pivot = room_start _ c.requires.lent.pivot;
   check = room_start _ c.requires.lent.check;
 }
@@ -25,7 +25,6 @@ decode_part-requires-clause-lent g c =
     record {
       pivot = i.pivot.roomy;
       check = i.check.roomy;
-      output = omega (arith, c.requires.lent.output, c.chunk.auto.output);
       one_form = i.check.kind ∙ c.requires.lent.one_form ∙ sym i.pivot.kind;
     }
 

@@ -2,13 +2,13 @@ use Rattle.std.proofs.Common.{◌≡◌, length}
 use Rattle.recode.specs.calls.Buffers.{KeepsRoom}
 use Rattle.recode.specs.calls.Chunk.{ConvertsTo, CanConvert}
 use Rattle.recode.specs.calls.EngineState.{engine_state}
-use Rattle.recode.specs.calls.Writers.{AreTheSame, written_by}
+use Rattle.recode.specs.calls.Writers.{AreTheSame, writers_view}
 use Rattle.recode_log.specs.Counted.{failures_of}
 use Rattle.recode.proofs.engine.Engine.decode_chunk.Given as goal
 
 abbrev pub invariant-chunk : goal.invariant-chunk
 invariant-chunk g l = record {
-  converts : ConvertsTo (written_by g.W.Write.contents g.L.Write.contents l.initial.writers) (written_by g.W.Write.contents g.L.Write.contents l.writers)
+  converts : ConvertsTo (writers_view g.W.Write.contents g.L.Write.contents l.initial.writers) (writers_view g.W.Write.contents g.L.Write.contents l.writers)
       (engine_state g.D.StreamDecoder.view g.E.RawEncoder.parts l.initial.writers.policy l.initial.self) (engine_state g.D.StreamDecoder.view g.E.RawEncoder.parts l.writers.policy l.self)
       l.last l.initial.rest l.rest 0;
   ready : CanConvert (engine_state g.D.StreamDecoder.view g.E.RawEncoder.parts l.writers.policy l.self);

@@ -87,7 +87,7 @@ encode_text-requires-clause-ready g c =
     record { index = omega (arith, well_formed_fits _ _ _ _ _ _ k c.args.self.now.target.counts c.requires.ready.sound, k.within, c.requires.limit); lost = c.requires.ready.sound.lost; tells = next_tells (g.E.RawEncoder.parts c.args.self.now.target.encoder).coding (verdict_view g.D.StreamDecoder.view c.args.self.now.target.verdict) (g.E.RawEncoder.parts c.args.self.now.target.encoder).set _ c.requires.ready.tells }
 
 pub encode_text-requires-clause-lent : goal.encode_text-requires-clause-lent
-encode_text-requires-clause-lent g c = record { check = c.requires.lent.check; output = c.requires.lent.output; form = λ no_log faithful. c.requires.lent.one_form ∙ sym c.decode_to_pivot-call.ensures.pivot.kind ∙ sym c.text_in-text.ensures.form }
+encode_text-requires-clause-lent g c = record { check = c.requires.lent.check; form = λ no_log faithful. c.requires.lent.one_form ∙ sym c.decode_to_pivot-call.ensures.pivot.kind ∙ sym c.text_in-text.ensures.form }
 
 pub encode_text-requires-in-OutputFull-clause-ready : goal.encode_text-requires-in-OutputFull-clause-ready
 encode_text-requires-in-OutputFull-clause-ready g c =
@@ -95,7 +95,7 @@ encode_text-requires-in-OutputFull-clause-ready g c =
     record { index = omega (arith, well_formed_fits _ _ _ _ _ _ k c.args.self.now.target.counts c.requires.ready.sound, k.within, c.requires.limit); lost = c.requires.ready.sound.lost; tells = next_tells (g.E.RawEncoder.parts c.args.self.now.target.encoder).coding (verdict_view g.D.StreamDecoder.view c.args.self.now.target.verdict) (g.E.RawEncoder.parts c.args.self.now.target.encoder).set _ c.requires.ready.tells }
 
 pub encode_text-requires-in-OutputFull-clause-lent : goal.encode_text-requires-in-OutputFull-clause-lent
-encode_text-requires-in-OutputFull-clause-lent g c = record { check = c.requires.lent.check; output = c.requires.lent.output; form = λ no_log faithful. c.requires.lent.one_form ∙ sym c.decode_to_pivot-call.ensures.pivot.kind ∙ sym c.text_in-text.ensures.form }
+encode_text-requires-in-OutputFull-clause-lent g c = record { check = c.requires.lent.check; form = λ no_log faithful. c.requires.lent.one_form ∙ sym c.decode_to_pivot-call.ensures.pivot.kind ∙ sym c.text_in-text.ensures.form }
 
 pub encode_text-requires-in-Malformed-clause-ready : goal.encode_text-requires-in-Malformed-clause-ready
 encode_text-requires-in-Malformed-clause-ready g c =
@@ -103,4 +103,4 @@ encode_text-requires-in-Malformed-clause-ready g c =
     record { index = omega (arith, malformed_fits _ _ _ _ _ _ _ _ k c.args.self.now.target.counts c.requires.ready.sound, k.within, c.requires.limit); lost = c.requires.ready.sound.lost; tells = next_tells (g.E.RawEncoder.parts c.args.self.now.target.encoder).coding (verdict_view g.D.StreamDecoder.view c.args.self.now.target.verdict) (g.E.RawEncoder.parts c.args.self.now.target.encoder).set _ c.requires.ready.tells }
 
 pub encode_text-requires-in-Malformed-clause-lent : goal.encode_text-requires-in-Malformed-clause-lent
-encode_text-requires-in-Malformed-clause-lent g c = record { check = c.requires.lent.check; output = c.requires.lent.output; form = λ no_log faithful. c.requires.lent.one_form ∙ sym c.decode_to_pivot-call.ensures.pivot.kind ∙ sym c.text_in-text.ensures.form }
+encode_text-requires-in-Malformed-clause-lent g c = record { check = c.requires.lent.check; form = λ no_log faithful. c.requires.lent.one_form ∙ sym c.decode_to_pivot-call.ensures.pivot.kind ∙ sym c.text_in-text.ensures.form }

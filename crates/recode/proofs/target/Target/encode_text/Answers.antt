@@ -15,7 +15,7 @@ text-init g c = record {
   check = room_start _ c.requires.lent.check;
   writer_count = refl;
   log_count = refl;
-  same = same_start _;
+  same = same_start _ c.requires.writers.within;
 }
 
 pub encode_part-requires-clause-ready : goal.encode_part-requires-clause-ready
@@ -24,7 +24,7 @@ encode_part-requires-clause-ready g c =
     record { index = omega (arith, i.encodes.index, c.requires.ready.index); lost = i.encodes.lost; tells = i.tells }
 
 pub encode_part-requires-clause-lent : goal.encode_part-requires-clause-lent
-encode_part-requires-clause-lent g c = record { check = c.text.invariant.check.roomy; output = omega (arith, c.requires.lent.output, c.text.auto.output); form = c.text.invariant.needs }
+encode_part-requires-clause-lent g c = record { check = c.text.invariant.check.roomy; form = c.text.invariant.needs }
 
 pub text-preserved : goal.text-preserved
 text-preserved g c =

@@ -2,7 +2,7 @@ use Rattle.std.proofs.Common.{◌≡◌, length}
 use Rattle.recode.specs.calls.Buffers.{KeepsRoom}
 use Rattle.recode.specs.calls.Text.{EncodesTo, text_items}
 use Rattle.recode.specs.calls.EngineState.{target_state}
-use Rattle.recode.specs.calls.Writers.{AreTheSame, written_by}
+use Rattle.recode.specs.calls.Writers.{AreTheSame, writers_view}
 use Rattle.recode.specs.calls.PivotText.{is_in_units, pivot_chars, IsWholeText}
 use Rattle.recode.specs.calls.Verdict.{CanTell, NeedsForm}
 use Rattle.recode_log.specs.Counted.{failures_of}
@@ -13,7 +13,7 @@ invariant-text g l =
     let t = target_state g.D.StreamDecoder.view g.E.RawEncoder.parts l.initial.writers.policy l.initial.self in
     let t' = target_state g.D.StreamDecoder.view g.E.RawEncoder.parts l.writers.policy l.self in
     record {
-      encodes : EncodesTo (written_by g.W.Write.contents g.L.Write.contents l.initial.writers) (written_by g.W.Write.contents g.L.Write.contents l.writers) t t' l.last (pivot_chars l.initial.rest) (pivot_chars l.rest) 0;
+      encodes : EncodesTo (writers_view g.W.Write.contents g.L.Write.contents l.initial.writers) (writers_view g.W.Write.contents g.L.Write.contents l.writers) t t' l.last (pivot_chars l.initial.rest) (pivot_chars l.rest) 0;
       tells : CanTell t'.verdict t'.coding t'.set (pivot_chars l.rest);
       text : IsWholeText l.rest;
       form : is_in_units l.rest ≡ is_in_units l.initial.rest;

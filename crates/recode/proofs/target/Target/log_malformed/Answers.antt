@@ -34,7 +34,7 @@ encode_text-requires-clause-ready g c = record {
 }
 
 pub encode_text-requires-clause-lent : goal.encode_text-requires-clause-lent
-encode_text-requires-clause-lent g c = record { check = c.requires.check; output = c.requires.output; form = λ no_log faithful. absurd (false≢true faithful) }
+encode_text-requires-clause-lent g c = record { check = c.requires.check; form = λ no_log faithful. absurd (false≢true faithful) }
 
 pub returns-clause-line : goal.returns-clause-line
 returns-clause-line g c = record {
