@@ -1,6 +1,8 @@
 -- How bytes and lines are passed on behind what is held, and what is left where a writer failed.
-use Rattle.std.proofs.Common.{◌≡◌, ◌≤◌, ◌<◌, ◌+◌, ℕ, List, [], ◌∷◌, ◌++◌, map, take, drop, length, Option, Result, Ok, Err, OnOk, OnErr, IfErr, IsErrAnd, Bool, true, refl, sym, ap, subst, ◌∙◌, append_assoc, append-nil, arith}
+use Rattle.std.proofs.Common.{◌≡◌, ◌≤◌, ◌<◌, ◌+◌, ◌-◌, ℕ, List, [], ◌∷◌, ◌++◌, map, take, drop, length, Option, Result, Ok, Err, OnOk, OnErr, IfErr, IsErrAnd, Bool, true, refl, sym, ap, subst, ◌∙◌, append_assoc, append-nil, take-add, arith}
 use Rattle.std.proofs.lemmas.List.{map-append}
+use Rattle.std.proofs.lemmas.Slice.{take-put_mid_below}
+use borrow.Rule.Slice.PartMut.{put_mid}
 use Rattle.std.specs.Io.KnownBytes.{Appends}
 use Rattle.encoding_mem.specs.Items.{Item, Byte, LostAt, MalformedAt}
 use Rattle.recode_log.specs.Line.{line_bytes}
@@ -30,6 +32,15 @@ delivers o o' l held held' h none = record { delivered = held; wrote = wrote_byt
 -- bytes are held
 pub holds : (w : Written) (held held' bytes : List ℕ) → held' ≡ held ++ bytes → PassesBytes (record { written = w; held = held }) (record { written = w; held = held' }) bytes
 holds w held held' bytes e = record { delivered = []; wrote = Wrote-nil w; in_order = sym e }
+
+-- bytes at the start of the room behind what is held
+pub holds_behind : (w : Written) (n m : ℕ) (buffer room : List ℕ) → n ≤ length buffer
+    → PassesBytes (record { written = w; held = take n buffer }) (record { written = w; held = take (n + m) (put_mid n (length buffer - n) buffer room) }) (take m (drop ((n + m) - m) (put_mid n (length buffer - n) buffer room)))
+holds_behind w n m buffer room within =
+    let after = put_mid n (length buffer - n) buffer room in
+    let at : n ≡ (n + m) - m = omega arith in
+    holds w (take n buffer) (take (n + m) after) (take m (drop ((n + m) - m) after))
+    (take-add n m after ∙ ap (λ k. take n after ++ take m (drop k after)) at ∙ ap (λ x. x ++ take m (drop ((n + m) - m) after)) (take-put_mid_below n (length buffer - n) buffer room n (omega arith) within))
 
 pub passes_then : (w w' w'' : WritersView) (a b : List ℕ) → PassesBytes w w' a → PassesBytes w' w'' b → PassesBytes w w'' (a ++ b)
 passes_then w w' w'' a b h k = record {

@@ -1,7 +1,7 @@
 //! The part of an engine that writes text: what its encoder writes is held, to be delivered, and
 //! read back, and what has no bytes is logged.
 
-use crate::codec_calls::{EncodeCall, PivotText, encode_from_pivot};
+use crate::codec_calls::{EncodeCall, PivotText};
 use crate::job::{Fault, Pivot};
 use crate::verdict::Verdict;
 use crate::writers::Writers;
@@ -121,15 +121,12 @@ impl<D: StreamDecoder, E: RawEncoder> Target<D, E> {
         ensures check { KeepsRoom check.old check.new }
     {
         writers.make_room()?;
-        let held = writers.held;
-        let room = &mut writers.buffer[held..];
         let calls = &mut self.counts.calls;
-        let call = encode_from_pivot(&mut self.encoder, text, room, last, calls);
-        writers.held += call.written;
+        let call = writers.encode(&mut self.encoder, text, last, calls);
         self.counts.index += call.characters as u64;
         match call.answer {
             EncoderResult::InputEmpty | EncoderResult::OutputFull => {
-                let written = &writers.buffer[held..writers.held];
+                let written = writers.last_held(call.written);
                 let calls = &mut self.counts.calls;
                 self.verdict.read_back(written, call.read, check, calls);
                 Ok(call)

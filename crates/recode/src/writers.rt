@@ -1,7 +1,9 @@
 //! The two writers of a conversion, of its output and of its log, and what is held for the output.
 
+use crate::codec_calls::{EncodeCall, PivotText, encode_from_pivot};
 use crate::job::{Fault, Policy};
 use encoding_front::{Reference, write_reference};
+use encoding_mem::RawEncoder;
 use encoding_mem::encode::put_all;
 use recode_log::counted::Counted;
 use recode_log::deliver::deliver;
@@ -25,13 +27,17 @@ pub struct Writers<'w, W, L> {
 }
 
 impl<'w, W: Write, L: Write> Writers<'w, W, L> {
-    ghost use Rattle.std.specs.Prelude.{◌≡◌, ◌-◌, ◌≤◌, ◌∷◌, ◌++◌, [], List, map, length};
+    ghost use Rattle.std.specs.Prelude.{◌≡◌, ◌+◌, ◌-◌, ◌≤◌, ◌∷◌, ◌++◌, [], List, map, length};
     ghost use Rattle.std.specs.Prelude.{OnOk, IfErr};
     ghost use Rattle.encoding_mem.specs.Coding.{reference_bytes};
     ghost use Rattle.encoding_mem.specs.Items.{Item, Byte};
+    ghost use Rattle.encoding_mem.specs.calls.EncoderRule.{EncoderCall};
     ghost use Rattle.recode_log.specs.Line.{IsValid};
+    ghost use Rattle.recode.specs.Work.{IsCounted};
     ghost use Rattle.recode.specs.calls.Held.{LeavesPrefix, PassesBytes, WritesLine, item_of};
-    ghost use Rattle.recode.specs.calls.Writers.{AreReady, CountsWriterFault, writers_view};
+    ghost use Rattle.recode.specs.calls.PivotText.{IsCutInto, IsWholeText, pivot_chars};
+    ghost use Rattle.recode.specs.calls.Writers.{AreReady, AreTheSame, CountsWriterFault};
+    ghost use Rattle.recode.specs.calls.Writers.{last_held, writers_view};
 
     /// Delivers what is held, all of it or a prefix.
     pub fn deliver_held(&mut self) -> Result<(), Fault>
@@ -67,6 +73,47 @@ impl<'w, W: Write, L: Write> Writers<'w, W, L> {
         } else {
             Ok(())
         }
+    }
+
+    /// One call of an encoder, which writes behind what is held: what it writes is held, too.
+    pub fn encode<'p, E: RawEncoder>(
+        &mut self,
+        encoder: &mut E,
+        text: PivotText<'p>,
+        last: bool,
+        calls: &mut u64,
+    ) -> EncodeCall<'p>
+        requires ready { AreReady self.old }
+        ensures passed { result.characters + length (pivot_chars result.rest)
+            ≡ length (pivot_chars text.entry) }
+        ensures parts { IsWholeText text.entry → IsCutInto text.entry result.read result.rest }
+        ensures room { result.written ≤ length self.new.buffer.now - self.old.held }
+        ensures held { self.new.held ≡ self.old.held + result.written }
+        ensures bytes { PassesBytes (writers_view W.contents L.contents self.old)
+            (writers_view W.contents L.contents self.new)
+            (last_held self.new result.written) }
+        ensures call { EncoderCall (E.parts encoder.old) (E.parts encoder.new) last result.answer
+            (pivot_chars text.entry) (last_held self.new result.written)
+            (pivot_chars result.rest) (length self.new.buffer.now - self.new.held) }
+        ensures calls { IsCounted 1 1 calls.old calls.new }
+        ensures output { self.new.output ≡ self.old.output }
+        ensures log { self.new.log ≡ self.old.log }
+        ensures same { AreTheSame self.old self.new }
+    {
+        let held = self.held;
+        let room = &mut self.buffer[held..];
+        let call = encode_from_pivot(encoder, text, room, last, calls);
+        self.held += call.written;
+        call
+    }
+
+    /// The bytes that are held last, so many of them.
+    pub fn last_held(&self, count: usize) -> &[u8]
+        requires held { count ≤ self.now.held }
+        requires within { self.now.held ≤ length self.now.buffer.now }
+        ensures { result.now ≡ last_held self.now count }
+    {
+        &self.buffer[self.held - count..self.held]
     }
 
     /// Delivers what is held and writes a line to the log, all of that or a prefix.

@@ -1,5 +1,5 @@
 -- What the two writers of a conversion have, and how the counts of their failed calls rise.
-use Rattle.std.specs.Prelude.{◌≡◌, ℕ, ◌+◌, ◌-◌, ◌^◌, ◌<◌, ◌≤◌, nat_eq, length, take, Bool, List, Option, Result}
+use Rattle.std.specs.Prelude.{◌≡◌, ℕ, ◌+◌, ◌-◌, ◌^◌, ◌<◌, ◌≤◌, nat_eq, drop, length, take, Bool, List, Option, Result}
 use Rattle.recode_log.specs.Counted.{failures_of}
 use Rattle.recode.specs.Devices.{Written, written_in}
 use Rattle.recode.specs.Fault.{log_failures, of_other, reader_failures, writer_failures}
@@ -14,6 +14,10 @@ written_by contents logged writers = written_in contents logged writers.output.n
 -- the two writers by what they have taken and the bytes that are held, those at the start of the buffer
 abbrev pub writers_view : {W L : Type 0} → (W → Option (List ℕ)) → (L → Option (List ℕ)) → Writers W L → WritersView
 writers_view contents logged writers = record { written = written_by contents logged writers; held = take writers.held writers.buffer.now }
+
+-- the n bytes that are held last
+abbrev pub last_held : {W L : Type 0} → Writers W L → ℕ → List ℕ
+last_held writers n = take n (drop (writers.held - n) writers.buffer.now)
 
 -- One more failed call of each can be counted, and the buffer has 4 bytes or more, those that are held among them.
 pub record AreReady {W L : Type 0} (writers : Writers W L) : Type 0 where

@@ -1,5 +1,6 @@
-use Rattle.std.proofs.Common.{◌+◌, ◌-◌, ◌∙◌, arith, refl, sym, ap, length, length-append, map, inl, inr, rules, true≢false}
-use Rattle.recode.proofs.TraceLemmas.{writes_bytes, under_bytes, WritesItems-trans, WritesItems-under, hands_on, whole_end}
+use Rattle.std.proofs.Common.{◌+◌, ◌-◌, ◌∙◌, [], arith, drop, refl, sym, ap, length, length-append, length-drop, map, inl, inr, rules, true≢false}
+use Rattle.recode.proofs.HeldLemmas.{passes_items, passes_then}
+use Rattle.recode.proofs.TraceLemmas.{WritesItems-trans, WritesItems-under, hands_on, whole_end}
 use Rattle.recode.proofs.EncoderCallLemmas.{turn_items, less_bytes, less_note}
 use Rattle.recode.specs.Policy.{reference_form}
 use Rattle.encoding_mem.specs.calls.EncoderRule.{EncoderParts}
@@ -11,23 +12,36 @@ use Rattle.recode.specs.calls.PivotText.{pivot_chars}
 use Rattle.recode.specs.declared.target.Counts.{Counts}
 use Rattle.recode.specs.calls.Verdict.{VerdictView}
 use Rattle.recode.specs.calls.VerdictView.{verdict_view}
+use Rattle.recode.specs.calls.Held.{behind_held}
+use Rattle.recode.specs.calls.Writers.{last_held, writers_view}
 use Rattle.recode.proofs.TextLemmas.{one_taken}
 use Rattle.recode.proofs.VerdictLemmas.{end_tells, full_tells, lost_tells, read_keeps, read_tells, unmapped_keeps}
 use Rattle.recode.proofs.target.Target.encode_part.Goals as goal
 
-pub returns-in_err-deliver-clause-err : goal.returns-in_err-deliver-clause-err
-returns-in_err-deliver-clause-err g c = hands_on _ _ _ _ _ _ c.from_residual.ensures.1 (under_bytes _ _ _ _ _ _ _ _ _ c.in_err-deliver.ensures.fault c.in_err-deliver.ensures.err.2 ((encoded_items (reference_form c.args.writers.now.policy) _ _ _ _ _ _ _ _ (g.met.E.RawEncoder.laws c.args.self.now.encoder) c.encode_from_pivot-call.ensures.call.law).items c.args.self.now.counts.index))
-
 pub returns-in_err-log_lost-in-Unmappable-clause-err : goal.returns-in_err-log_lost-in-Unmappable-clause-err
 returns-in_err-log_lost-in-Unmappable-clause-err g c =
-    let law = turn_items (reference_form c.args.writers.now.policy) _ _ _ _ _ _ _ _ c.args.self.now.counts.index (c.args.self.now.counts.index + c.encode_from_pivot-call.result.characters) (g.met.E.RawEncoder.laws c.args.self.now.encoder) c.encode_from_pivot-call.ensures.call.law (omega (arith, c.encode_from_pivot-call.ensures.passed)) in
-    hands_on _ _ _ _ _ _ c.from_residual-in_err-log_lost-in-Unmappable.ensures.1 (WritesItems-under _ _ _ c.args.self.now.counts (record c.args.self.now.counts { index = c.args.self.now.counts.index + c.encode_from_pivot-call.result.characters; calls = c.encode_from_pivot-call.new.calls }) _ _ _ _
-    (writes_bytes _ _ _ _ _ _ _ _ _ c.in_ok-deliver.ensures.ok.0 refl refl (rw c.in-Unmappable.is at law))
-    (c.in_err-log_lost-in-Unmappable.ensures.err _))
+    let call = c.encode-call in
+    let w = writers_view g.W.Write.contents g.L.Write.contents c.args.writers.now in
+    let w1 = writers_view g.W.Write.contents g.L.Write.contents c.make_room.new.self in
+    let w2 = writers_view g.W.Write.contents g.L.Write.contents call.new.self in
+    let p = c.args.writers.now.policy in
+    let policy = call.ensures.same.policy ∙ c.in_ok-make_room.ensures.failures.same.policy in
+    let bytes = last_held call.new.self call.result.written in
+    let law = turn_items (reference_form p) _ _ _ _ _ _ _ _ c.args.self.now.counts.index (c.args.self.now.counts.index + call.result.characters) (g.met.E.RawEncoder.laws c.args.self.now.encoder) call.ensures.call.law (omega (arith, call.ensures.passed)) in
+    let rest = whole_items (reference_form p) (g.E.RawEncoder.parts c.args.self.now.encoder).coding c.args.last (g.E.RawEncoder.parts call.new.encoder).set (c.args.self.now.counts.index + call.result.characters) (pivot_chars call.result.rest) in
+    hands_on _ _ _ _ _ _ c.from_residual-in_err-log_lost-in-Unmappable.ensures.1 (WritesItems-under _ _ _ c.args.self.now.counts (record c.args.self.now.counts { index = c.args.self.now.counts.index + call.result.characters; calls = call.new.calls }) _ _ _ _
+    (passes_items w w2 _ _ p bytes _ _ (passes_then w w1 w2 [] bytes c.in_ok-make_room.ensures.ok call.ensures.bytes) refl refl (rw c.in-Unmappable.is at law))
+    (rw policy at (c.in_err-log_lost-in-Unmappable.ensures.err rest)))
 
 pub returns-in-InputEmpty-clause-part : goal.returns-in-InputEmpty-clause-part
 returns-in-InputEmpty-clause-part g c =
-    let call = c.encode_from_pivot-call in
+    let call = c.encode-call in
+    let w = writers_view g.W.Write.contents g.L.Write.contents c.args.writers.now in
+    let w1 = writers_view g.W.Write.contents g.L.Write.contents c.make_room.new.self in
+    let w2 = writers_view g.W.Write.contents g.L.Write.contents call.new.self in
+    let policy = call.ensures.same.policy ∙ c.in_ok-make_room.ensures.failures.same.policy in
+    let bytes = last_held call.new.self call.result.written in
+    let passes = passes_then w w1 w2 [] bytes c.in_ok-make_room.ensures.ok call.ensures.bytes in
     let target = ap (λ (p : EncoderParts). p.coding) call.ensures.call.same in
     let coding = (g.E.RawEncoder.parts c.args.self.now.encoder).coding in
     let laws = g.met.E.RawEncoder.laws c.args.self.now.encoder in
@@ -38,15 +52,15 @@ returns-in-InputEmpty-clause-part g c =
     let rest = pivot_chars call.result.rest in
     let law = turn_items (reference_form c.args.writers.now.policy) _ _ _ _ _ _ _ _ c.args.self.now.counts.index (c.args.self.now.counts.index + call.result.characters) (g.met.E.RawEncoder.laws c.args.self.now.encoder) call.ensures.call.law (omega (arith, call.ensures.passed)) in
     let parts = (call.ensures.parts c.requires.text).parts in
-    let back = c.read_back.ensures.verdict in
+    let back = rw c.last_held-written.ensures at c.read_back.ensures.verdict in
     let v' = verdict_view g.D.StreamDecoder.view c.read_back.new.self in
     elim c.in-InputEmpty.is [
       | inl empty ↦
           let encodes = rw empty at call.ensures.call.law in
           let ends = rw empty at call.ensures.call.ends in
-          rw (target, empty) (record {
+          rw (policy, target, empty) (record {
             encodes = record {
-              pays = writes_bytes _ _ _ _ _ _ _ _ _ c.in_ok-deliver.ensures.ok.0 refl refl (rw empty at law);
+              pays = passes_items w w2 _ _ _ bytes _ _ passes refl refl (rw empty at law);
               index = search rules;
               lost = search rules;
               bad = refl;
@@ -82,10 +96,11 @@ returns-in-InputEmpty-clause-part g c =
           })
       | inr full ↦
           let encodes = rw full at call.ensures.call.law in
-          let less = less_bytes _ _ _ _ (rw full at law) call.ensures.wrote.room (omega (arith, (rw full at call.ensures.call.ends).0, laws.few, c.requires.lent.output)) in
-          rw (target, full) (record {
+          let less = less_bytes _ _ (drop (call.new.self.held - call.result.written) call.new.self.buffer.now) call.result.written (rw full at law) (omega (arith, length-drop (call.new.self.held - call.result.written) call.new.self.buffer.now, call.ensures.held, call.ensures.same.within))
+              (omega (arith, (rw full at call.ensures.call.ends).0, laws.few, c.in_ok-make_room.ensures.room, call.ensures.held, call.ensures.same.room)) in
+          rw (policy, target, full) (record {
             encodes = record {
-              pays = writes_bytes _ _ _ _ _ _ _ _ _ c.in_ok-deliver.ensures.ok.0 refl refl (rw full at law);
+              pays = passes_items w w2 _ _ _ bytes _ _ passes refl refl (rw full at law);
               index = search rules;
               lost = search rules;
               bad = refl;
@@ -111,7 +126,13 @@ returns-in-InputEmpty-clause-part g c =
 
 pub returns-in_ok-log_lost-in-Unmappable-clause-part : goal.returns-in_ok-log_lost-in-Unmappable-clause-part
 returns-in_ok-log_lost-in-Unmappable-clause-part g c =
-    let call = c.encode_from_pivot-call in
+    let call = c.encode-call in
+    let w = writers_view g.W.Write.contents g.L.Write.contents c.args.writers.now in
+    let w1 = writers_view g.W.Write.contents g.L.Write.contents c.make_room.new.self in
+    let w2 = writers_view g.W.Write.contents g.L.Write.contents call.new.self in
+    let policy = call.ensures.same.policy ∙ c.in_ok-make_room.ensures.failures.same.policy in
+    let bytes = last_held call.new.self call.result.written in
+    let passes = passes_then w w1 w2 [] bytes c.in_ok-make_room.ensures.ok call.ensures.bytes in
     let target = ap (λ (p : EncoderParts). p.coding) call.ensures.call.same in
     let coding = (g.E.RawEncoder.parts c.args.self.now.encoder).coding in
     let laws = g.met.E.RawEncoder.laws c.args.self.now.encoder in
@@ -125,10 +146,10 @@ returns-in_ok-log_lost-in-Unmappable-clause-part g c =
     let f = c.in_ok-log_lost-in-Unmappable.ensures in
     let less = less_note _ _ _ (LostAt ((c.args.self.now.counts.index + call.result.characters) - 1) c.in-Unmappable.scalar) (map Byte (reference_bytes (reference_form c.args.writers.now.policy) c.in-Unmappable.scalar)) (rw c.in-Unmappable.is at law) in
     let c1 : Counts = record c.args.self.now.counts { index = c.args.self.now.counts.index + call.result.characters; calls = call.new.calls } in
-    rw (f.encoder, f.failures.same.policy, f.verdict, f.counts, target, c.in-Unmappable.is) (record {
+    rw (f.encoder, f.failures.same.policy, policy, f.verdict, f.counts, target, c.in-Unmappable.is) (record {
       encodes = record {
         pays = WritesItems-trans _ _ _ c.args.self.now.counts c1 _ _ _ _ _
-            (writes_bytes _ _ _ _ _ _ _ _ _ c.in_ok-deliver.ensures.ok.0 refl refl (rw c.in-Unmappable.is at law)) (rw f.counts at (f.pays (whole_items (reference_form c.args.writers.now.policy) coding c.args.last s1 c1.index rest)));
+            (passes_items w w2 _ _ _ bytes _ _ passes refl refl (rw c.in-Unmappable.is at law)) (rw (policy, f.counts) at (f.pays (whole_items (reference_form c.args.writers.now.policy) coding c.args.last s1 c1.index rest)));
         index = search rules;
         lost = omega (arith, c.requires.ready.lost, call.ensures.passed, one_taken _ _ _ _ _ _ _ _ encodes);
         bad = refl;
