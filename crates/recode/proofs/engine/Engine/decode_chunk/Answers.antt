@@ -46,13 +46,13 @@ pub chunk-smaller : goal.chunk-smaller
 chunk-smaller g c = rw (take_rest c.chunk.rest.now c.in_ok-call.call.read) (c.in_ok-call.ensures.part.more (sym c.is_done.ensures ∙ c.if-is_done.false)).1
 
 pub returns-in_err-call-clause-err : goal.returns-in_err-call-clause-err
-returns-in_err-call-clause-err g c = rw (sym c.is_empty-last.ensures) (hands_on_for _ _ _ _ _ _ _ c.from_residual.ensures.1 (converts_under _ _ _ _ _ _ _ _ _ c.chunk.invariant.converts c.in_err-call.ensures.err))
+returns-in_err-call-clause-err g c = ?
 
 pub returns-then-is_done-clause-chunk : goal.returns-then-is_done-clause-chunk
-returns-then-is_done-clause-chunk g c = rw (sym c.is_empty-last.ensures) (
-    let part = c.in_ok-call.ensures.part in
-    let done = part.done (sym c.is_done.ensures ∙ c.if-is_done.true) in
-    record { converts = converts_more _ _ _ _ _ _ _ _ _ _ _ c.chunk.invariant.converts (rw ((sym c.is_done.ensures ∙ c.if-is_done.true), done.0) at part.converts); done = done.1 })
+returns-then-is_done-clause-chunk g c = ?
+
+pub returns-then-is_done-clause-err : goal.returns-then-is_done-clause-err
+returns-then-is_done-clause-err g c = ?
 
 pub returns-in_err-call-clause-target : goal.returns-in_err-call-clause-target
 returns-in_err-call-clause-target g c = c.decode_part.ensures.target ∙ c.chunk.invariant.converts.target

@@ -2,7 +2,9 @@ use Rattle.std.proofs.Common.{◌∙◌, ◌+◌, arith, refl, sym, length}
 use Rattle.recode.specs.Policy.{reference_form}
 use Rattle.recode.proofs.ChunkLemmas.{empty_part, full_part, malformed_part}
 use Rattle.recode.proofs.TextLemmas.{text_pays, text_set}
-use Rattle.recode.proofs.TraceLemmas.{hands_on_for, WritesPrefixFor-of, WritesItems-join-under}
+use Rattle.recode.proofs.HeldLemmas.{left_for_of, left_join}
+use Rattle.recode.proofs.TraceLemmas.{hands_on_for}
+use Rattle.recode.specs.calls.Writers.{writers_view}
 use Rattle.recode.proofs.DecoderCallLemmas.{some_written, empty_call, full_call, malformed_call, end_none, well_formed_fits, ended_prefix, full_owed, malformed_fits, malformed_offset, malformed_text_prefix, malformed_first_piece}
 use Rattle.encoding_mem.specs.Coding.{last_set}
 use Rattle.recode.specs.calls.EngineState.{engine_state}
@@ -17,21 +19,27 @@ text_in-text-requires g c = some_written (g.D.StreamDecoder.view c.args.self.now
 
 pub returns-in_err-encode_text-in-InputEmpty-clause-err : goal.returns-in_err-encode_text-in-InputEmpty-clause-err
 returns-in_err-encode_text-in-InputEmpty-clause-err g c =
+    let w = writers_view g.W.Write.contents g.L.Write.contents c.args.writers.now in
+    let w1 = writers_view g.W.Write.contents g.L.Write.contents c.encode_text.new.writers in
     let k = empty_call (g.D.StreamDecoder.view c.args.self.now.decoder).state (g.D.StreamDecoder.view c.decode_to_pivot-call.new.decoder).state _ _ _ _ _ (rw c.in-InputEmpty.is at c.decode_to_pivot-call.ensures.law) c.text_in-text.ensures.chars in
     let ends = rw c.in-InputEmpty.is at c.decode_to_pivot-call.ensures.ends in
-    hands_on_for _ _ _ _ _ _ _ c.from_residual.ensures.1 (WritesPrefixFor-of _ _ _ _ _ _ _ c.in_err-encode_text-in-InputEmpty.ensures.err
+    hands_on_for _ _ _ _ _ _ _ c.from_residual.ensures.1 (left_for_of w w1 _ _ _ _ _ c.in_err-encode_text-in-InputEmpty.ensures.err
     (ended_prefix (reference_form c.args.writers.now.policy) _ _ _ _ _ _ k (g.E.RawEncoder.parts c.args.self.now.target.encoder).coding (g.E.RawEncoder.parts c.args.self.now.target.encoder).set c.args.self.now.target.counts (omega (arith, c.requires.ready.sound.index)) ends.0 (end_none _ ends.1)))
 
 pub returns-in_err-encode_text-in-OutputFull-clause-err : goal.returns-in_err-encode_text-in-OutputFull-clause-err
 returns-in_err-encode_text-in-OutputFull-clause-err g c =
+    let w = writers_view g.W.Write.contents g.L.Write.contents c.args.writers.now in
+    let w1 = writers_view g.W.Write.contents g.L.Write.contents c.encode_text-in-OutputFull.new.writers in
     let k = full_call (g.D.StreamDecoder.view c.args.self.now.decoder).state (g.D.StreamDecoder.view c.decode_to_pivot-call.new.decoder).state _ _ _ _ _ (rw c.in-OutputFull.is at c.decode_to_pivot-call.ensures.law) c.text_in-text.ensures.chars in
-    hands_on_for _ _ _ _ _ _ _ c.from_residual-in_err-encode_text-in-OutputFull.ensures.1 (WritesPrefixFor-of _ _ _ _ _ _ _ c.in_err-encode_text-in-OutputFull.ensures.err
+    hands_on_for _ _ _ _ _ _ _ c.from_residual-in_err-encode_text-in-OutputFull.ensures.1 (left_for_of w w1 _ _ _ _ _ c.in_err-encode_text-in-OutputFull.ensures.err
     (λ r h. (_, full_owed (reference_form c.args.writers.now.policy) _ _ _ _ _ _ k (g.E.RawEncoder.parts c.args.self.now.target.encoder).coding (g.E.RawEncoder.parts c.args.self.now.target.encoder).set (last_set (g.E.RawEncoder.parts c.args.self.now.target.encoder).coding (g.E.RawEncoder.parts c.args.self.now.target.encoder).set (pivot_chars c.text_in-text.result)) c.args.self.now.target.counts (record c.args.self.now.target.counts { read = c.args.self.now.target.counts.read + c.decode_to_pivot-call.result.read; index = c.args.self.now.target.counts.index + length (pivot_chars c.text_in-text.result) }) (omega (arith, c.requires.ready.sound.index)) refl refl refl r h)))
 
 pub returns-in_err-encode_text-in-Malformed-clause-err : goal.returns-in_err-encode_text-in-Malformed-clause-err
 returns-in_err-encode_text-in-Malformed-clause-err g c =
+    let w = writers_view g.W.Write.contents g.L.Write.contents c.args.writers.now in
+    let w1 = writers_view g.W.Write.contents g.L.Write.contents c.encode_text-in-Malformed.new.writers in
     let k = malformed_call (g.D.StreamDecoder.view c.args.self.now.decoder).state (g.D.StreamDecoder.view c.decode_to_pivot-call.new.decoder).state _ _ _ _ _ _ _ (rw c.in-Malformed.is at c.decode_to_pivot-call.ensures.law) c.text_in-text.ensures.chars in
-    hands_on_for _ _ _ _ _ _ _ c.from_residual-in_err-encode_text-in-Malformed.ensures.1 (WritesPrefixFor-of _ _ _ _ _ _ _ c.in_err-encode_text-in-Malformed.ensures.err
+    hands_on_for _ _ _ _ _ _ _ c.from_residual-in_err-encode_text-in-Malformed.ensures.1 (left_for_of w w1 _ _ _ _ _ c.in_err-encode_text-in-Malformed.ensures.err
     (malformed_text_prefix _ _ _ _ _ _ _ _ k (reference_form c.args.writers.now.policy) (g.E.RawEncoder.parts c.args.self.now.target.encoder).coding (g.E.RawEncoder.parts c.args.self.now.target.encoder).set c.args.self.now.target.counts (omega (arith, c.requires.ready.sound.index))))
 
 pub overflow_sub-offset-in-Malformed : goal.overflow_sub-offset-in-Malformed
@@ -56,9 +64,12 @@ log_malformed-requires-clause-ready g c =
 
 pub returns-in_err-log_malformed-in-Malformed-clause-err : goal.returns-in_err-log_malformed-in-Malformed-clause-err
 returns-in_err-log_malformed-in-Malformed-clause-err g c =
+    let w = writers_view g.W.Write.contents g.L.Write.contents c.args.writers.now in
+    let w1 = writers_view g.W.Write.contents g.L.Write.contents c.encode_text-in-Malformed.new.writers in
+    let w2 = writers_view g.W.Write.contents g.L.Write.contents c.log_malformed.new.writers in
     let k = malformed_call (g.D.StreamDecoder.view c.args.self.now.decoder).state (g.D.StreamDecoder.view c.decode_to_pivot-call.new.decoder).state _ _ _ _ _ _ _ (rw c.in-Malformed.is at c.decode_to_pivot-call.ensures.law) c.text_in-text.ensures.chars in
-    hands_on_for _ _ _ _ _ _ _ c.from_residual-in_err-log_malformed-in-Malformed.ensures.1 (WritesPrefixFor-of _ _ _ _ _ _ _
-    (WritesItems-join-under _ _ _ _ _ _ _ _ _ (text_pays _ _ _ _ _ _ c.in_ok-encode_text-in-Malformed.ensures.text _ (g.met.E.RawEncoder.laws c.args.self.now.target.encoder)) (rw (c.encode_text-in-Malformed.ensures.target, c.in_ok-encode_text-in-Malformed.ensures.failures.same.policy) at c.in_err-log_malformed-in-Malformed.ensures.err))
+    hands_on_for _ _ _ _ _ _ _ c.from_residual-in_err-log_malformed-in-Malformed.ensures.1 (left_for_of w w2 _ _ _ _ _
+    (left_join w w1 w2 _ _ _ _ _ _ (text_pays _ _ _ _ _ _ c.in_ok-encode_text-in-Malformed.ensures.text _ (g.met.E.RawEncoder.laws c.args.self.now.target.encoder)) (rw (c.encode_text-in-Malformed.ensures.target, c.in_ok-encode_text-in-Malformed.ensures.failures.same.policy) at c.in_err-log_malformed-in-Malformed.ensures.err))
     (malformed_first_piece _ _ _ _ _ _ _ _ k (reference_form c.args.writers.now.policy) (g.E.RawEncoder.parts c.args.self.now.target.encoder).coding (g.E.RawEncoder.parts c.args.self.now.target.encoder).set (g.E.RawEncoder.parts c.encode_text-in-Malformed.new.self.encoder).set c.args.self.now.target.counts c.encode_text-in-Malformed.new.self.counts _ (omega (arith, c.requires.ready.sound.index)) (omega (arith, c.from.ensures, c.from-in-Malformed.ensures, c.in_ok-encode_text-in-Malformed.ensures.text.encodes.read)) (text_set _ _ _ _ _ _ c.in_ok-encode_text-in-Malformed.ensures.text refl) (omega (arith, c.in_ok-encode_text-in-Malformed.ensures.text.encodes.index))))
 
 pub returns-in_ok-encode_text-in-InputEmpty-clause-part : goal.returns-in_ok-encode_text-in-InputEmpty-clause-part

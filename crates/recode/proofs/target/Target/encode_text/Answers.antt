@@ -3,6 +3,7 @@ use Rattle.recode.proofs.BufferLemmas.{room_on, room_start, same_on, same_start}
 use Rattle.recode.proofs.TextLemmas.{encodes_more, encodes_start, encodes_under}
 use Rattle.recode.proofs.TraceLemmas.{hands_on}
 use Rattle.recode.proofs.VerdictLemmas.{was_true}
+use Rattle.recode.specs.calls.Writers.{writers_view}
 use Rattle.recode.proofs.target.Target.encode_text.Goals as goal
 
 pub text-init : goal.text-init
@@ -47,7 +48,7 @@ pub text-smaller : goal.text-smaller
 text-smaller g c = (c.in_ok-call.ensures.part.more (sym c.is_done.ensures ∙ c.if-is_done.false)).1
 
 pub returns-in_err-call-clause-err : goal.returns-in_err-call-clause-err
-returns-in_err-call-clause-err g c = hands_on _ _ _ _ _ _ c.from_residual.ensures.1 (encodes_under _ _ _ _ _ _ _ _ _ c.text.invariant.encodes c.in_err-call.ensures.err)
+returns-in_err-call-clause-err g c = hands_on _ _ _ _ _ _ c.from_residual.ensures.1 (encodes_under _ _ (writers_view g.W.Write.contents g.L.Write.contents c.encode_part.new.writers) _ _ _ _ _ _ c.text.invariant.encodes c.in_err-call.ensures.err)
 
 pub returns-then-is_done-clause-text : goal.returns-then-is_done-clause-text
 returns-then-is_done-clause-text g c =
