@@ -1,25 +1,27 @@
 -- How the calls for a chunk make its clauses.
-use Rattle.std.proofs.Common.{◌≡◌, ◌↔◌, ℕ, ◌+◌, ◌-◌, ◌*◌, ◌≤◌, ◌<◌, Bool, true, false, IsTrue, List, [], ◌∷◌, ◌++◌, length, drop, length-drop, refl, sym, ◌∙◌, ap, subst, arith}
+use Rattle.std.proofs.Common.{Result, Ok, Err, OnOk, IfErr, ◌≡◌, ◌↔◌, ℕ, ◌+◌, ◌-◌, ◌*◌, ◌≤◌, ◌<◌, Bool, true, false, IsTrue, List, [], ◌∷◌, ◌++◌, length, drop, length-drop, refl, sym, ◌∙◌, ap, subst, arith}
 use Rattle.std.proofs.lemmas.Bool.{false≢true}
 use Rattle.encoding_mem.specs.Coding.{Coding, IsCoding, last_set}
 use Rattle.encoding_mem.specs.calls.Decoding.{StateLaw}
 use Rattle.encoding_mem.specs.declared.decoder_result.DecoderResult.TheVariants.{InputEmpty, OutputFull, Malformed}
 use Rattle.encoding_front.specs.calls.Stream.{finishes}
-use Rattle.recode.specs.calls.Chunk.{CanConvert, ConvertsTo, DecodesPart}
+use Rattle.recode.specs.calls.Chunk.{CanConvert, ConvertsTo, DecodesChunk, DecodesPart, IsDoneWith}
 use Rattle.recode.specs.calls.Text.{EncodesText, TargetState, WritesMalformed, malformed_items, text_items, with_malformed}
 use Rattle.recode.specs.calls.CodecCalls.{DecodeCallEndsWith}
 use Rattle.recode.specs.Policy.{reference_form}
 use Rattle.recode.specs.State.{State, WillBeFaithful, to_write}
 use Rattle.recode.specs.Step.{Advances}
 use Rattle.recode.specs.Devices.{Written}
-use Rattle.recode.specs.calls.Held.{LeavesPrefixFor, PassesBytes, PassesItemsFor, WritersView, behind_held, holding_none}
+use Rattle.recode.specs.calls.Held.{LeavesPrefix, LeavesPrefixFor, PassesBytes, PassesItemsFor, WritersView, behind_held, holding_none}
 use Rattle.recode.specs.calls.TraceToWrite.{AreSound, trace_to_write}
 use Rattle.recode.specs.calls.Verdict.{CanTell, IsFaithfulFor}
 use Rattle.recode.specs.Work.{IsCounted, TakesCalls}
+use Rattle.recode.specs.WrittenItems.{WritesPrefixFor}
 use Rattle.recode.specs.declared.job.Fault.{Fault}
+use Rattle.encoding_mem.specs.Items.{Item}
 use Rattle.recode.proofs.DecoderCallLemmas.{IsText, WellFormedCall, empty_call, end_none, ended_owed, full_call, full_left, full_owed, full_some, malformed_call, malformed_left, malformed_owed, malformed_sound, none_owed, well_formed_sound}
 use Rattle.recode.proofs.LatencyLemmas.{advances_more, advances_start, malformed_advances, settled_of, well_formed_advances}
-use Rattle.recode.proofs.HeldLemmas.{passes_for_bytes, passes_for_of, passes_join}
+use Rattle.recode.proofs.HeldLemmas.{left_for_of, left_whole, passes_for_bytes, passes_for_of, passes_join}
 use Rattle.recode.proofs.TraceLemmas.{WritesItemsFor-start, WritesItemsFor-trans, WritesItemsFor-under}
 use Rattle.recode.proofs.VerdictLemmas.{both_ways, malformed_verdict, verdict_told, well_formed_verdict}
 use Rattle.recode.proofs.TextLemmas.{malformed_line_calls, malformed_pays, text_calls, text_pays, text_set, text_tells}
@@ -59,14 +61,14 @@ converts_more w w1 w2 s s1 s2 last a b c n p q = record {
       (subst (λ (k : Coding). Advances (λ r. s1.decoder.pieces (b ++ r)) (λ r. s2.decoder.pieces (c ++ r)) k s1.set s2.set s1.counts s2.counts) p.target (q.advances h));
 }
 
-pub converts_under : (w w1 w2 : WritersView) (s s1 : State) (last : Bool) (a b : List ℕ) (f : Fault) → ConvertsTo w w1 s s1 last a b 0
+pub converts_under : (w w1 w2 : WritersView) (s s1 : State) (last : Bool) (a b : List ℕ) (f : Fault) (n : ℕ) → ConvertsTo w w1 s s1 last a b n
     → LeavesPrefixFor w1 w2 s1.policy f last (λ r. to_write s1 (b ++ r)) → LeavesPrefixFor w w2 s.policy f last (λ r. to_write s (a ++ r))
-converts_under w w1 w2 s s1 last a b f p q =
+converts_under w w1 w2 s s1 last a b f n p q =
     WritesItemsFor-under w.written w1.written w2.written s.counts s1.counts s.policy f last (λ r. behind_held w (to_write s (a ++ r))) (λ r. behind_held w1 (to_write s1 (b ++ r))) p.pays
     (subst (λ k. LeavesPrefixFor w1 w2 k f last (λ r. to_write s1 (b ++ r))) p.policy q)
 
 -- what is held is delivered
-pub converts_delivered : (w w1 w2 : WritersView) (s s1 : State) (last : Bool) (a b : List ℕ) (n : ℕ) → ConvertsTo w w1 s s1 last a b n → PassesBytes w1 w2 [] → ConvertsTo w w2 s s1 last a b n
+converts_delivered : (w w1 w2 : WritersView) (s s1 : State) (last : Bool) (a b : List ℕ) (n : ℕ) → ConvertsTo w w1 s s1 last a b n → PassesBytes w1 w2 [] → ConvertsTo w w2 s s1 last a b n
 converts_delivered w w1 w2 s s1 last a b n p h = record {
   counted = p.counted;
   target = p.target;
@@ -81,12 +83,28 @@ converts_delivered w w1 w2 s s1 last a b n p h = record {
   advances = p.advances;
 }
 
+-- or it is in part, and nothing was held before
+pub delivered_under : {T : Type 0} (r : Result T Fault) (w w1 w2 : WritersView) (s s1 : State) (last : Bool) (a b : List ℕ) (n : ℕ) → w.held ≡ [] → ConvertsTo w w1 s s1 last a b n
+    → IfErr r (λ (f : Fault). (to_write : List Item) → LeavesPrefix w1 w2 s1.policy f to_write) → IfErr r (λ (f : Fault). WritesPrefixFor w.written w2.written s.policy f last (λ r. to_write s (a ++ r)))
+delivered_under (Ok x) w w1 w2 s s1 last a b n none p h = tt
+delivered_under (Err f) w w1 w2 s s1 last a b n none p h =
+    left_whole w w2 s.policy f last (λ r. to_write s (a ++ r)) none (converts_under w w1 w2 s s1 last a b f n p
+    (left_for_of w1 w2 s1.policy f last [] (λ r. to_write s1 (b ++ r)) (h []) (λ r none. (to_write s1 (b ++ r), refl))))
+
 -- and nothing was held
-pub converts_whole : (w w' : Written) (held held' : List ℕ) (s s1 : State) (last : Bool) (a b : List ℕ) (n : ℕ) → held ≡ [] → held' ≡ []
+converts_whole : (w w' : Written) (held held' : List ℕ) (s s1 : State) (last : Bool) (a b : List ℕ) (n : ℕ) → held ≡ [] → held' ≡ []
     → ConvertsTo (record { written = w; held = held }) (record { written = w'; held = held' }) s s1 last a b n → ConvertsTo (holding_none w) (holding_none w') s s1 last a b n
 converts_whole w w' held held' s s1 last a b n none none' p =
     subst (λ h. ConvertsTo (holding_none w) (record { written = w'; held = h }) s s1 last a b n) none'
     (subst (λ h. ConvertsTo (record { written = w; held = h }) (record { written = w'; held = held' }) s s1 last a b n) none p)
+
+pub decodes_delivered : {T E : Type 0} (r : Result T E) (w w1 w2 : WritersView) (s s1 : State) (last : Bool) (chunk : List ℕ) (n : ℕ) → (n ≡ 0 → w2.held ≡ []) → w.held ≡ [] → ConvertsTo w w1 s s1 last chunk [] 1 → IsDoneWith s1 last
+    → OnOk r (PassesBytes w1 w2 []) → OnOk r (n ≡ 0) → OnOk r (DecodesChunk w.written w2.written s s1 chunk last)
+decodes_delivered (Ok x) w w1 w2 s s1 last chunk n held none converts done delivers zero = record {
+  converts = converts_whole w.written w2.written w.held w2.held s s1 last chunk [] 1 none (held zero) (converts_delivered w w1 w2 s s1 last chunk [] 1 converts delivers);
+  done = done;
+}
+decodes_delivered (Err e) w w1 w2 s s1 last chunk n held none converts done delivers zero = tt
 
 -- ---- one call of a decoder
 

@@ -11,7 +11,7 @@ use Rattle.recode_log.specs.declared.line.LogLine.TheVariants.{Bad, Lost}
 use Rattle.recode.specs.Devices.{Written}
 use Rattle.recode.specs.Policy.{written_under}
 use Rattle.recode.specs.TaggedByte.{Line, Wrote, tagged, tagged_item}
-use Rattle.recode.specs.WrittenItems.{AreCounted, IsSpared, WritesPrefix, lost_line_count}
+use Rattle.recode.specs.WrittenItems.{AreCounted, IsSpared, WritesPrefix, WritesPrefixFor, lost_line_count}
 use Rattle.recode.specs.calls.Held.{LeavesPrefix, LeavesPrefixFor, PassesBytes, PassesItems, PassesItemsFor, WritersView, WritesLine, behind_held, item_of}
 use Rattle.recode.specs.declared.job.Fault.{Fault}
 use Rattle.recode.specs.declared.job.Fault.TheVariants.{Write, Log, Unmappable}
@@ -224,3 +224,7 @@ pub left_for_of : (w w' : WritersView) (p : Policy) (f : Fault) (last : Bool) (t
     → ((r : List ℕ) → (last ≡ true → r ≡ []) → (rest : List Item) × (a r ≡ total ++ rest)) → LeavesPrefixFor w w' p f last a
 left_for_of w w' p f last total a h e = WritesPrefixFor-of w.written w'.written p f last (behind_held w total) (λ r. behind_held w (a r)) h
     (λ r none. let m = e r none in (m.0, ap (behind_held w) m.1 ∙ sym (append_assoc (map Byte w.held) total m.0)))
+
+-- where nothing was held
+pub left_whole : (w w' : WritersView) (p : Policy) (f : Fault) (last : Bool) (a : List ℕ → List Item) → w.held ≡ [] → LeavesPrefixFor w w' p f last a → WritesPrefixFor w.written w'.written p f last a
+left_whole w w' p f last a none h = subst (λ (x : List ℕ). WritesPrefixFor w.written w'.written p f last (λ r. map Byte x ++ a r)) none h
