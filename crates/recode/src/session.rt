@@ -187,9 +187,9 @@ impl<'t> Session<'t> {
             return Err(Fault::TooLong);
         }
         let mut writers = Writers {
-            output: writer,
             buffer: buffers.output,
             held: 0,
+            output: writer,
             log,
             policy: self.job.policy,
         };

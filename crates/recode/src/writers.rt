@@ -18,10 +18,10 @@ use std::io::Write;
 /// where the buffer has little room left. All that is held goes out in one call.
 #[derive(Drop)]
 pub struct Writers<'w, W, L> {
-    pub output: &'w mut Counted<W>,
     pub buffer: &'w mut [u8],
     /// How many bytes are held.
     pub held: usize,
+    pub output: &'w mut Counted<W>,
     pub log: &'w mut Counted<L>,
     pub policy: Policy,
 }
