@@ -11,7 +11,7 @@ use Rattle.recode_log.specs.declared.line.LogLine.TheVariants.{Bad, Lost}
 use Rattle.recode.specs.Devices.{Written}
 use Rattle.recode.specs.Policy.{written_under}
 use Rattle.recode.specs.TaggedByte.{Line, Wrote, tagged, tagged_item}
-use Rattle.recode.specs.WrittenItems.{AreCounted, IsSpared, WritesPrefix, WritesPrefixFor, lost_line_count}
+use Rattle.recode.specs.WrittenItems.{AreCounted, IsSpared, WritesPrefix, WritesPrefixFor}
 use Rattle.recode.specs.calls.Held.{LeavesPrefix, LeavesPrefixFor, PassesBytes, PassesItems, PassesItemsFor, WritersView, WritesLine, behind_held, item_of}
 use Rattle.recode.specs.declared.job.Fault.{Fault}
 use Rattle.recode.specs.declared.job.Fault.TheVariants.{Write, Log, Unmappable}
@@ -20,9 +20,6 @@ use Rattle.recode.specs.declared.target.Counts.{Counts}
 use Rattle.recode.proofs.TraceLemmas.{AreCounted-trans, Wrote-nil, Wrote-trans, WritesItems-of, WritesItems-to, WritesItems-trans, WritesItems-under, WritesPrefix-of, WritesPrefixFor-of, bad_line_count-bytes, lost_line_count-bytes, spared_append, handed_on, tagged-append, under_bytes, under_line, written_spared, wrote_bytes, wrote_line}
 
 -- ---- bytes
-
-pub passes_none : (w : WritersView) → PassesBytes w w []
-passes_none w = record { delivered = []; wrote = Wrote-nil w.written; in_order = append-nil w.held }
 
 -- what is held is delivered
 pub delivers : (o o' l : Option (List ℕ)) (held held' : List ℕ) → Appends o o' held → held' ≡ []
@@ -161,7 +158,7 @@ stops_at w w' p i c b stops h =
       };
     }
 
--- What a fault leaves is left where a result hands it on, whatever follows.
+-- what a fault leaves is left where a result hands it on, whatever follows
 pub hands_each : {T : Type 0} (r : Result T Fault) (e : Fault) (w w' : Written) (p : Policy) (a : List Item → List Item) → IsErrAnd r (λ (x : Fault). x ≡ e) → ((rest : List Item) → WritesPrefix w w' p e (a rest))
     → IfErr r (λ (g : Fault). (rest : List Item) → WritesPrefix w w' p g (a rest))
 hands_each r e w w' p a same h = handed_on (λ (q : Fault). (rest : List Item) → WritesPrefix w w' p q (a rest)) r e same h

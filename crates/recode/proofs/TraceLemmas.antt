@@ -232,41 +232,6 @@ WritesItems-under w w' w'' x y p f a b h k = record {
   left = left_behind p f h.written_items k.taken a b h.spared h.equals k.left;
 }
 
-pub writes_bytes : (w w' l : Option (List ℕ)) (x y : Counts) (p : Policy) (bs : List ℕ) (a b : List Item) → Appends w w' bs → y.bad ≡ x.bad → y.lost ≡ x.lost → a ≡ map Byte bs ++ b → WritesItems (record { output = w; log = l }) (record { output = w'; log = l }) x y p a b
-writes_bytes w w' l x y p bs a b h same same' e = record {
-  written_items = map Byte bs;
-  wrote = wrote_bytes w w' l bs h;
-  counted = record { bad = omega (arith, same, bad_line_count-bytes bs); lost = omega (arith, same', lost_line_count-bytes bs) };
-  spared = spared_bytes p bs;
-  equals = e;
-}
-
--- the line of a lost character, whose policy does not stop
-pub writes_lost : (w l l' : Option (List ℕ)) (x y : Counts) (p : Policy) (i c : ℕ) (b : List Item) → Appends l l' (line_bytes (LogLine.Lost i c)) → y.bad ≡ x.bad → y.lost ≡ x.lost + 1 → ¬ (p ≡ Policy.Stop)
-    → WritesItems (record { output = w; log = l }) (record { output = w; log = l' }) x y p (LostAt i c ∷ b) b
-writes_lost w l l' x y p i c b h same one goes_on = record {
-  written_items = LostAt i c ∷ [];
-  wrote = subst (Wrote (record { output = w; log = l }) (record { output = w; log = l' })) (sym (append-nil (map Line (line_bytes (LogLine.Lost i c))))) (wrote_line w l l' (line_bytes (LogLine.Lost i c)) h);
-  counted = record { bad = omega (arith, same); lost = omega (arith, one) };
-  spared = λ stops. absurd (goes_on stops);
-  equals = refl;
-}
-
-pub wrote_malformed : (w l l' : Option (List ℕ)) (offset size : ℕ) → Appends l l' (line_bytes (LogLine.Bad offset size))
-    → Wrote (record { output = w; log = l }) (record { output = w; log = l' }) (tagged (MalformedAt offset size ∷ []))
-wrote_malformed w l l' offset size h =
-    subst (Wrote (record { output = w; log = l }) (record { output = w; log = l' })) (sym (append-nil (map Line (line_bytes (LogLine.Bad offset size))))) (wrote_line w l l' (line_bytes (LogLine.Bad offset size)) h)
-
-pub writes_malformed : (w l l' : Option (List ℕ)) (x y : Counts) (p : Policy) (offset size : ℕ) (b : List Item) → Appends l l' (line_bytes (LogLine.Bad offset size)) → y.bad ≡ x.bad + 1 → y.lost ≡ x.lost
-    → WritesItems (record { output = w; log = l }) (record { output = w; log = l' }) x y p (MalformedAt offset size ∷ b) b
-writes_malformed w l l' x y p offset size b h one same = record {
-  written_items = MalformedAt offset size ∷ [];
-  wrote = wrote_malformed w l l' offset size h;
-  counted = record { bad = omega (arith, one); lost = omega (arith, same) };
-  spared = λ stops. refl;
-  equals = refl;
-}
-
 pub WritesItems-of : (w w' : Written) (x y : Counts) (p : Policy) (a a' b : List Item) → a' ≡ a → WritesItems w w' x y p a b → WritesItems w w' x y p a' b
 WritesItems-of w w' x y p a a' b e h = record { written_items = h.written_items; wrote = h.wrote; counted = h.counted; spared = h.spared; equals = e ∙ h.equals }
 
@@ -313,25 +278,7 @@ under_line w l l' p f line n item b log e h =
       };
     }
 
--- a policy that stops, behind the line of the character
-pub stops_lost : (w l l' : Option (List ℕ)) (p : Policy) (i c : ℕ) (b : List Item) → p ≡ Policy.Stop → Appends l l' (line_bytes (LogLine.Lost i c))
-    → WritesPrefix (record { output = w; log = l }) (record { output = w; log = l' }) p (Unmappable i c) (LostAt i c ∷ b)
-stops_lost w l l' p i c b stops h =
-    let cut : written_under p (LostAt i c ∷ b) ≡ LostAt i c ∷ [] = ap (λ (q : Policy). written_under q (LostAt i c ∷ b)) stops in
-    let own : tagged (LostAt i c ∷ []) ≡ map Line (line_bytes (LogLine.Lost i c)) = append-nil (map Line (line_bytes (LogLine.Lost i c))) in
-    record {
-      taken = tagged (LostAt i c ∷ []);
-      wrote = subst (Wrote (record { output = w; log = l }) (record { output = w; log = l' })) (sym own) (wrote_line w l l' (line_bytes (LogLine.Lost i c)) h);
-      left = record {
-        prefix = ([], ap tagged cut ∙ sym (append-nil (tagged (LostAt i c ∷ []))));
-        stopped = record { policy = stops; items = []; first = refl; last = cut; whole = ap tagged (sym cut) };
-      };
-    }
-
 -- What a fault leaves is left where a result hands it on.
-pub fails_as : {T : Type 0} (r : Result T Fault) (e f : Fault) → IsErrAnd r (λ (x : Fault). x ≡ e) → e ≡ f → IfErr r (λ (g : Fault). g ≡ f)
-fails_as (Ok x) e f same is = tt
-fails_as (Err x) e f same is = same ∙ is
 
 -- what holds of a fault holds of the one that is handed on
 pub handed_on : {T : Type 0} (P : Fault → Type 0) (r : Result T Fault) (e : Fault) → IsErrAnd r (λ (x : Fault). x ≡ e) → P e → IfErr r P
@@ -344,26 +291,6 @@ hands_on r e w w' p a same h = handed_on (λ (q : Fault). WritesPrefix w w' p q 
 pub hands_on_for : {T : Type 0} (r : Result T Fault) (e : Fault) (w w' : Written) (p : Policy) (last : Bool) (a : List ℕ → List Item) → IsErrAnd r (λ (x : Fault). x ≡ e) → WritesPrefixFor w w' p e last a → IfErr r (λ (g : Fault). WritesPrefixFor w w' p g last a)
 hands_on_for r e w w' p last a same h = handed_on (λ (q : Fault). WritesPrefixFor w w' p q last a) r e same h
 
-pub fails_in_line : {T : Type 0} (r : Result T Fault) (w l l' : Option (List ℕ)) (p : Policy) (line : List ℕ) (n : ℕ) (item : Item) (more : List Item) → IfErr r (λ (g : Fault). g ≡ Log) → tagged_item item ≡ map Line line → Appends l l' (take n line)
-    → IfErr r (λ (g : Fault). (rest : List Item) → WritesPrefix (record { output = w; log = l }) (record { output = w; log = l' }) p g (item ∷ (more ++ rest)))
-fails_in_line (Ok x) w l l' p line n item more is e h = tt
-fails_in_line (Err g) w l l' p line n item more is e h = λ rest. under_line w l l' p g line n item (more ++ rest) is e h
-
-pub stops_behind_line : {T : Type 0} (r : Result T Fault) (w l l' : Option (List ℕ)) (p : Policy) (i c : ℕ) (more : List Item) → IfErr r (λ (g : Fault). g ≡ Unmappable i c) → p ≡ Policy.Stop → Appends l l' (line_bytes (LogLine.Lost i c))
-    → IfErr r (λ (g : Fault). (rest : List Item) → WritesPrefix (record { output = w; log = l }) (record { output = w; log = l' }) p g (LostAt i c ∷ (more ++ rest)))
-stops_behind_line (Ok x) w l l' p i c more is stops h = tt
-stops_behind_line (Err g) w l l' p i c more is stops h = λ rest. subst (λ (q : Fault). WritesPrefix (record { output = w; log = l }) (record { output = w; log = l' }) p q (LostAt i c ∷ (more ++ rest))) (sym is) (stops_lost w l l' p i c (more ++ rest) stops h)
-
-pub fails_in_reference : {T : Type 0} (r : Result T Fault) (w w' l l' : Option (List ℕ)) (p : Policy) (i c : ℕ) (bs : List ℕ) (n : ℕ) → IfErr r (λ (g : Fault). g ≡ Write) → ¬ (p ≡ Policy.Stop) → Appends l l' (line_bytes (LogLine.Lost i c)) → Appends w w' (take n bs)
-    → IfErr r (λ (g : Fault). (rest : List Item) → WritesPrefix (record { output = w; log = l }) (record { output = w'; log = l' }) p g (LostAt i c ∷ (map Byte bs ++ rest)))
-fails_in_reference (Ok x) w w' l l' p i c bs n is goes_on h k = tt
-fails_in_reference (Err g) w w' l l' p i c bs n is goes_on h k = λ rest.
-    let none : Counts = record { read = 0; index = 0; bad = 0; lost = 0; calls = 0 } in
-    let one : Counts = record { read = 0; index = 0; bad = 0; lost = 1; calls = 0 } in
-    WritesItems-under _ _ _ none one p g _ _
-    (writes_lost w l l' none one p i c (map Byte bs ++ rest) h refl refl goes_on)
-    (under_bytes w w' l' p g bs n (map Byte bs ++ rest) rest is k refl)
-
 -- after the last escape nothing is left to write for an empty text
 closed_nil : (ref : Reference) (need : ℕ) (e : Coding) (last : Bool) (s : EscapeState) (i : ℕ) → IsCoding need e → (last ≡ true → s ≡ Ascii) → whole_items ref e last s i [] ≡ []
 closed_nil _ need e true s i k h = ap (closing e) (h refl) ∙ ap (map Byte) (k.same Ascii)
@@ -373,38 +300,12 @@ pub whole_end : (ref : Reference) {need : ℕ} (e : Coding) (last : Bool) (s : E
 whole_end ref {need} e last s i t k none h = ap (whole_items ref e last s i) none ∙ closed_nil ref need e last s i k h
 
 -- For every continuation.
-pub WritesItemsFor-of : (w w' : Written) (x x' y : Counts) (p : Policy) (last : Bool) (total : List Item) (a b : List ℕ → List Item) → x.bad ≡ x'.bad → x.lost ≡ x'.lost → WritesItems w w' x y p total []
-    → ((r : List ℕ) → (last ≡ true → r ≡ []) → a r ≡ total ++ b r) → WritesItemsFor w w' x' y p last a b
-WritesItemsFor-of w w' x x' y p last total a b same same' h e = record {
-  written_items = h.written_items;
-  wrote = h.wrote;
-  counted = record { bad = omega (arith, same, h.counted.bad); lost = omega (arith, same', h.counted.lost) };
-  spared = h.spared;
-  equals = λ r none. e r none ∙ ap (λ k. k ++ b r) (h.equals ∙ append-nil h.written_items);
-}
-
 pub WritesPrefixFor-of : (w w' : Written) (p : Policy) (f : Fault) (last : Bool) (total : List Item) (a : List ℕ → List Item) → WritesPrefix w w' p f total
     → ((r : List ℕ) → (last ≡ true → r ≡ []) → (rest : List Item) × (a r ≡ total ++ rest)) → WritesPrefixFor w w' p f last a
 WritesPrefixFor-of w w' p f last total a h e = record {
   taken = h.taken;
   wrote = h.wrote;
   left = λ r none. let more = e r none in left_front p f h.taken total more.0 (a r) more.1 h.left;
-}
-
-pub WritesItems-join : (w w' w'' : Written) (x y z : Counts) (p : Policy) (a b : List Item) → WritesItems w w' x y p a [] → WritesItems w' w'' y z p b [] → WritesItems w w'' x z p (a ++ b) []
-WritesItems-join w w' w'' x y z p a b h k = record {
-  written_items = h.written_items ++ k.written_items;
-  wrote = subst (Wrote w w'') (sym (tagged-append h.written_items k.written_items)) (Wrote-trans w w' w'' _ _ h.wrote k.wrote);
-  counted = AreCounted-trans x y z h.written_items k.written_items h.counted k.counted;
-  spared = spared_append p h.written_items k.written_items h.spared k.spared;
-  equals = ap (λ l. l ++ b) (h.equals ∙ append-nil h.written_items) ∙ ap (λ l. h.written_items ++ l) (k.equals ∙ append-nil k.written_items) ∙ sym (append-nil (h.written_items ++ k.written_items));
-}
-
-pub WritesItems-join-under : (w w' w'' : Written) (x y : Counts) (p : Policy) (f : Fault) (a b : List Item) → WritesItems w w' x y p a [] → WritesPrefix w' w'' p f b → WritesPrefix w w'' p f (a ++ b)
-WritesItems-join-under w w' w'' x y p f a b h k = record {
-  taken = tagged h.written_items ++ k.taken;
-  wrote = Wrote-trans w w' w'' _ _ h.wrote k.wrote;
-  left = left_behind p f h.written_items k.taken (a ++ b) b h.spared (ap (λ l. l ++ b) (h.equals ∙ append-nil h.written_items)) k.left;
 }
 
 pub WritesItemsFor-start : (w : Written) (x : Counts) (p : Policy) (last : Bool) (a : List ℕ → List Item) → WritesItemsFor w w x x p last a a

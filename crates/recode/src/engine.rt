@@ -70,16 +70,13 @@ impl<D: StreamDecoder, E: RawEncoder> Engine<D, E> {
                 Ok(call)
             }
             DecoderResult::OutputFull => {
-                self.target
-                    .encode_text(writers, text, check, false)?;
+                self.target.encode_text(writers, text, check, false)?;
                 Ok(call)
             }
             DecoderResult::Malformed(size, after) => {
-                self.target
-                    .encode_text(writers, text, check, false)?;
+                self.target.encode_text(writers, text, check, false)?;
                 let offset = self.target.counts.read - u64::from(after) - u64::from(size);
-                self.target
-                    .log_malformed(writers, offset, size, check)?;
+                self.target.log_malformed(writers, offset, size, check)?;
                 Ok(call)
             }
         }

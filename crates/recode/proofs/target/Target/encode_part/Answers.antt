@@ -12,7 +12,6 @@ use Rattle.recode.specs.calls.PivotText.{pivot_chars}
 use Rattle.recode.specs.declared.target.Counts.{Counts}
 use Rattle.recode.specs.calls.Verdict.{VerdictView}
 use Rattle.recode.specs.calls.VerdictView.{verdict_view}
-use Rattle.recode.specs.calls.Held.{behind_held}
 use Rattle.recode.specs.calls.Writers.{last_held, writers_view}
 use Rattle.recode.proofs.TextLemmas.{one_taken}
 use Rattle.recode.proofs.VerdictLemmas.{end_tells, full_tells, lost_tells, read_keeps, read_tells, unmapped_keeps}
@@ -97,7 +96,7 @@ returns-in-InputEmpty-clause-part g c =
       | inr full ↦
           let encodes = rw full at call.ensures.call.law in
           let less = less_bytes _ _ (drop (call.new.self.held - call.result.written) call.new.self.buffer.now) call.result.written (rw full at law) (omega (arith, length-drop (call.new.self.held - call.result.written) call.new.self.buffer.now, call.ensures.held, call.ensures.same.within))
-              (omega (arith, (rw full at call.ensures.call.ends).0, laws.few, c.in_ok-make_room.ensures.room, call.ensures.held, call.ensures.same.room)) in
+          (omega (arith, (rw full at call.ensures.call.ends).0, laws.few, c.in_ok-make_room.ensures.room, call.ensures.held, call.ensures.same.room)) in
           rw (policy, target, full) (record {
             encodes = record {
               pays = passes_items w w2 _ _ _ bytes _ _ passes refl refl (rw full at law);

@@ -1,11 +1,11 @@
-use Rattle.std.proofs.Common.{◌∙◌, ◌+◌, ◌-◌, ◌∷◌, ◌++◌, List, map, refl, sym}
+use Rattle.std.proofs.Common.{◌∙◌, ◌+◌, ◌-◌, ◌∷◌, ◌++◌, map, refl, sym}
 use Rattle.encoding_mem.specs.Coding.{reference_bytes}
-use Rattle.encoding_mem.specs.Items.{Byte, Item, LostAt}
+use Rattle.encoding_mem.specs.Items.{Byte, LostAt}
 use Rattle.recode.specs.Policy.{reference_form}
 use Rattle.recode.specs.calls.Held.{behind_held}
 use Rattle.recode.specs.calls.Writers.{writers_view}
 use Rattle.recode.specs.declared.target.Counts.{Counts}
-use Rattle.recode.proofs.HeldLemmas.{hands_each, left_join, passes_items, passes_lost, stops_as}
+use Rattle.recode.proofs.HeldLemmas.{hands_each, passes_items, passes_lost, stops_as}
 use Rattle.recode.proofs.PolicyLemmas.{form_written, goes_on_where_written, stops_where_none}
 use Rattle.recode.proofs.TraceLemmas.{WritesItems-trans, WritesItems-under}
 use Rattle.recode.proofs.target.Target.log_lost.Goals as goal

@@ -1,6 +1,5 @@
 use Rattle.std.proofs.Common.{take}
 use Rattle.recode.proofs.HeldLemmas.{none_held, writes_line_part, writes_line_whole}
-use Rattle.recode.specs.calls.Writers.{writers_view}
 use Rattle.recode.proofs.writers.Writers.log_line.Goals as goal
 
 pub returns-clause-ok : goal.returns-clause-ok
