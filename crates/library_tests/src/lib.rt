@@ -20,3 +20,5 @@ mod labels;
 mod one_shot;
 #[cfg(test)]
 mod programs;
+#[cfg(test)]
+mod writes;
