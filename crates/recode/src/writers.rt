@@ -18,6 +18,8 @@ use std::io::Write;
 /// where the buffer has little room left. All that is held goes out in one call.
 #[derive(Drop)]
 pub struct Writers<'w, W, L> {
+    /// It is the first field, since of three references the prover follows the last two to the end
+    /// of a step, and of the buffer the length is enough.
     pub buffer: &'w mut [u8],
     /// How many bytes are held.
     pub held: usize,
