@@ -1,0 +1,5 @@
+pub mod PlaceLemmas
+pub mod EntryLemmas
+pub mod TextLemmas
+pub mod CallLemmas
+pub mod WalkLemmas

@@ -1,0 +1,2 @@
+-- Worked rows: what the definitions say of values, by `refl`.
+pub mod Places

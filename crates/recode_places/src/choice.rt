@@ -1,0 +1,100 @@
+//! Which characters and malformed sequences are told.
+
+ghost use Rattle.std.specs.Prelude.{IfOk, IfSome};
+ghost use Rattle.recode_places.specs.Entries.{IsOfCharacter};
+
+use crate::entry::{Finding, Stop};
+use crate::fates::{Fate, Fates};
+use crate::log_match::LogMatch;
+use std::io::Read;
+
+/// Which characters and malformed sequences of an input are told: those that a log names, or, if no
+/// log is read, each malformed sequence and each character that a target encoding has no bytes
+/// for. If folds are asked for, so is each character that the target writes as another.
+#[derive(Drop)]
+pub struct Choice<'t, L> {
+    log: Option<LogMatch<L>>,
+    fates: Option<Fates<'t>>,
+    folds: bool,
+}
+
+impl<'t, L: Read> Choice<'t, L> {
+    /// What the log names.
+    pub fn of_log(log: LogMatch<L>) -> Choice<'t, L> {
+        Choice {
+            log: Some(log),
+            fates: None,
+            folds: false,
+        }
+    }
+
+    /// What the log names, and each character that the target writes as another.
+    pub fn of_log_with_folds(log: LogMatch<L>, fates: Fates<'t>) -> Choice<'t, L> {
+        Choice {
+            log: Some(log),
+            fates: Some(fates),
+            folds: true,
+        }
+    }
+
+    /// What a run would log, and, with `folds`, each character that the target writes as another.
+    pub fn of_target(fates: Fates<'t>, folds: bool) -> Choice<'t, L> {
+        Choice {
+            log: None,
+            fates: Some(fates),
+            folds,
+        }
+    }
+
+    /// Whether nothing is told of the characters of a text, the first of which has this index.
+    pub fn passes_over(&self, index: u64, text: &str) -> bool {
+        let by_log = match &self.log {
+            Some(log) => log.passes_over(index, text.len()),
+            None => true,
+        };
+        let by_target = match &self.fates {
+            Some(fates) => fates.keeps(text),
+            None => true,
+        };
+        by_log && by_target
+    }
+
+    /// What is told of this character, which has this index, if anything is. The error is that of
+    /// the log.
+    pub fn character(&mut self, index: u64, c: char) -> Result<Option<Finding>, Stop>
+        ensures { IfOk result (λ found. IfSome found (IsOfCharacter c)) }
+    {
+        let is_logged = match &mut self.log {
+            Some(log) => log.names_character(index, c)?,
+            None => false,
+        };
+        if is_logged {
+            return Ok(Some(Finding::Lost { scalar: c }));
+        }
+        let Some(fates) = &mut self.fates else {
+            return Ok(None);
+        };
+        Ok(match fates.of(c) {
+            Fate::Lost if self.log.is_none() => Some(Finding::Lost { scalar: c }),
+            Fate::Folded(becomes) if self.folds => Some(Finding::Folded { scalar: c, becomes }),
+            _ => None,
+        })
+    }
+
+    /// Whether this malformed sequence is told, for which the U+FFFD with this index stands. The
+    /// error is that of the log.
+    pub fn malformed(&mut self, index: u64, offset: u64, length: u8) -> Result<bool, Stop> {
+        match &mut self.log {
+            Some(log) => log.names_malformed(index, offset, length),
+            None => Ok(true),
+        }
+    }
+
+    /// Tells that the input is at its end: the error is `Unfit` if the log has one more line.
+    pub fn finish(&mut self) -> Result<(), Stop> {
+        match &mut self.log {
+            Some(log) => log.finish(),
+            None => Ok(()),
+        }
+    }
+}
