@@ -3,3 +3,5 @@ pub mod EntryLemmas
 pub mod TextLemmas
 pub mod CallLemmas
 pub mod WalkLemmas
+pub mod LogLemmas
+pub mod ReadsLemmas

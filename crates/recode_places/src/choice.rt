@@ -1,7 +1,11 @@
 //! Which characters and malformed sequences are told.
 
-ghost use Rattle.std.specs.Prelude.{IfOk, IfSome};
+ghost use Rattle.std.specs.Prelude.{◌≡◌, IfOk, IfSome, OnOk, []};
 ghost use Rattle.recode_places.specs.Entries.{IsOfCharacter};
+ghost use Rattle.recode_places.specs.Logs.{Reads, ended, unknown};
+ghost use Rattle.recode_places.specs.declared.entry.Finding.TheVariants.{Folded};
+ghost use Rattle.recode_places.specs.calls.LogViews.{NamesFound, NamesMalformed, ReadsSome};
+ghost use Rattle.recode_places.specs.calls.LogViews.{choice_left, match_left};
 
 use crate::entry::{Finding, Stop};
 use crate::fates::{Fate, Fates};
@@ -20,7 +24,9 @@ pub struct Choice<'t, L> {
 
 impl<'t, L: Read> Choice<'t, L> {
     /// What the log names.
-    pub fn of_log(log: LogMatch<L>) -> Choice<'t, L> {
+    pub fn of_log(log: LogMatch<L>) -> Choice<'t, L>
+        ensures { choice_left L.remaining result ≡ match_left L.remaining log }
+    {
         Choice {
             log: Some(log),
             fates: None,
@@ -29,7 +35,9 @@ impl<'t, L: Read> Choice<'t, L> {
     }
 
     /// What the log names, and each character that the target writes as another.
-    pub fn of_log_with_folds(log: LogMatch<L>, fates: Fates<'t>) -> Choice<'t, L> {
+    pub fn of_log_with_folds(log: LogMatch<L>, fates: Fates<'t>) -> Choice<'t, L>
+        ensures { choice_left L.remaining result ≡ match_left L.remaining log }
+    {
         Choice {
             log: Some(log),
             fates: Some(fates),
@@ -38,7 +46,9 @@ impl<'t, L: Read> Choice<'t, L> {
     }
 
     /// What a run would log, and, with `folds`, each character that the target writes as another.
-    pub fn of_target(fates: Fates<'t>, folds: bool) -> Choice<'t, L> {
+    pub fn of_target(fates: Fates<'t>, folds: bool) -> Choice<'t, L>
+        ensures { choice_left L.remaining result ≡ unknown }
+    {
         Choice {
             log: None,
             fates: Some(fates),
@@ -62,28 +72,51 @@ impl<'t, L: Read> Choice<'t, L> {
     /// What is told of this character, which has this index, if anything is. The error is that of
     /// the log.
     pub fn character(&mut self, index: u64, c: char) -> Result<Option<Finding>, Stop>
-        ensures { IfOk result (λ found. IfSome found (IsOfCharacter c)) }
+        ensures of { IfOk result (λ found. IfSome found (IsOfCharacter c)) }
+        ensures named { IfOk result (λ found. ReadsSome (choice_left L.remaining self.old)
+            (choice_left L.remaining self.new) (NamesFound index found)) }
     {
-        let is_logged = match &mut self.log {
-            Some(log) => log.names_character(index, c)?,
-            None => false,
-        };
-        if is_logged {
-            return Ok(Some(Finding::Lost { scalar: c }));
+        match &mut self.log {
+            Some(log) => {
+                if log.names_character(index, c)? {
+                    return Ok(Some(Finding::Lost { scalar: c }));
+                }
+                match self.fate(c) {
+                    Fate::Folded(becomes) => Ok(self.fold(c, becomes)),
+                    Fate::Kept | Fate::Lost => Ok(None),
+                }
+            }
+            None => match self.fate(c) {
+                Fate::Lost => Ok(Some(Finding::Lost { scalar: c })),
+                Fate::Folded(becomes) => Ok(self.fold(c, becomes)),
+                Fate::Kept => Ok(None),
+            },
         }
-        let Some(fates) = &mut self.fates else {
-            return Ok(None);
-        };
-        Ok(match fates.of(c) {
-            Fate::Lost if self.log.is_none() => Some(Finding::Lost { scalar: c }),
-            Fate::Folded(becomes) if self.folds => Some(Finding::Folded { scalar: c, becomes }),
-            _ => None,
-        })
+    }
+
+    // What becomes of a character in the target. If that isn't asked, it is taken to be kept.
+    fn fate(&mut self, c: char) -> Fate
+        ensures { self.new.log ≡ self.old.log }
+    {
+        match &mut self.fates {
+            Some(fates) => fates.of(c),
+            None => Fate::Kept,
+        }
+    }
+
+    // A character that is folded, if folds are asked for.
+    fn fold(&self, c: char, becomes: Option<char>) -> Option<Finding>
+        ensures { IfSome result (λ found. found ≡ Folded c becomes) }
+    {
+        self.folds.then_some(Finding::Folded { scalar: c, becomes })
     }
 
     /// Whether this malformed sequence is told, for which the U+FFFD with this index stands. The
     /// error is that of the log.
-    pub fn malformed(&mut self, index: u64, offset: u64, length: u8) -> Result<bool, Stop> {
+    pub fn malformed(&mut self, index: u64, offset: u64, length: u8) -> Result<bool, Stop>
+        ensures { IfOk result (λ is_told. ReadsSome (choice_left L.remaining self.old)
+            (choice_left L.remaining self.new) (NamesMalformed index offset length is_told)) }
+    {
         match &mut self.log {
             Some(log) => log.names_malformed(index, offset, length),
             None => Ok(true),
@@ -91,8 +124,10 @@ impl<'t, L: Read> Choice<'t, L> {
     }
 
     /// Tells that the input is at its end: the error is `Unfit` if the log has one more line.
-    pub fn finish(&mut self) -> Result<(), Stop> {
-        match &mut self.log {
+    pub fn finish(&self) -> Result<(), Stop>
+        ensures { OnOk result (Reads (choice_left L.remaining self.now) ended []) }
+    {
+        match &self.log {
             Some(log) => log.finish(),
             None => Ok(()),
         }

@@ -1,6 +1,7 @@
 //! The lines of a log, one by one.
 
-ghost use Rattle.std.specs.Prelude.{◌≤◌};
+ghost use Rattle.std.specs.Prelude.{◌≡◌, ◌≤◌, ◌<◌, IfOk, IfSome, OnOk, Some, true, false};
+ghost use Rattle.std.specs.Io.KnownBytes.{IsAtEnd};
 
 use crate::entry::Stop;
 use recode_log::LogLine;
@@ -16,6 +17,21 @@ pub enum NextLine {
     End,
     /// Something that is no line of a log.
     Other,
+}
+
+impl NextLine {
+    ghost use Rattle.recode_places.specs.calls.LogViews.{IsMeaning};
+
+    // What some bytes of the log say, which are a whole line or too many for one.
+    fn of(bytes: &[u8]) -> NextLine
+        ensures { IsMeaning bytes.now result }
+    {
+        match LogLine::parse(bytes) {
+            Some(line) => NextLine::Line(line),
+            None if bytes.starts_with(b"recode: ") => NextLine::End,
+            None => NextLine::Other,
+        }
+    }
 }
 
 // More than any line of a log has, in bytes.
@@ -34,8 +50,12 @@ pub struct LogLines<L> {
 }
 
 impl<L: Read> LogLines<L> {
+    ghost use Rattle.recode_places.specs.calls.LogViews.{ReadsByte, ReadsLine, unread};
+
     /// The lines of what the reader gives.
-    pub fn new(reader: L) -> LogLines<L> {
+    pub fn new(reader: L) -> LogLines<L>
+        ensures { unread L.remaining result ≡ L.remaining reader }
+    {
         LogLines {
             reader,
             bytes: [0; 4096],
@@ -50,26 +70,45 @@ impl<L: Read> LogLines<L> {
         self.number
     }
 
+    // Reads on, if no byte is at hand. Returns whether one is then.
+    fn fill(&mut self) -> Result<bool, Stop>
+        ensures left { OnOk result (IfSome (unread L.remaining self.old)
+            (λ x. unread L.remaining self.new ≡ Some x)) }
+        ensures some { IfOk result (λ is_there. is_there ≡ true → self.new.at < self.new.len) }
+        ensures end { IfOk result (λ is_there. is_there ≡ false
+            → IsAtEnd (unread L.remaining self.new)) }
+    {
+        if self.at < self.len {
+            return Ok(true);
+        }
+        self.at = 0;
+        self.len = 0;
+        let Ok(count) = self.reader.read(&mut self.bytes) else {
+            return Err(Stop::Log);
+        };
+        self.len = count;
+        Ok(count > 0)
+    }
+
     // The next byte of the log, or `None` at its end.
-    fn byte(&mut self) -> Result<Option<u8>, Stop> {
-        if self.at == self.len {
-            self.at = 0;
-            self.len = 0;
-            match self.reader.read(&mut self.bytes) {
-                Ok(count) => self.len = count,
-                Err(_) => return Err(Stop::Log),
-            }
+    fn byte(&mut self) -> Result<Option<u8>, Stop>
+        ensures { IfOk result (ReadsByte (unread L.remaining self.old)
+            (unread L.remaining self.new)) }
+    {
+        if self.fill()? {
+            let byte = self.bytes[self.at];
+            self.at += 1;
+            Ok(Some(byte))
+        } else {
+            Ok(None)
         }
-        if self.at == self.len {
-            return Ok(None);
-        }
-        let byte = self.bytes[self.at];
-        self.at += 1;
-        Ok(Some(byte))
     }
 
     /// Reads the next line. The error is `Log`, if a read fails.
-    pub fn next_line(&mut self) -> Result<NextLine, Stop> {
+    pub fn next_line(&mut self) -> Result<NextLine, Stop>
+        ensures { IfOk result (ReadsLine (unread L.remaining self.old)
+            (unread L.remaining self.new)) }
+    {
         self.number = self.number.saturating_add(1);
         let mut line = [0; LONGEST];
         for at in 0..LONGEST {
@@ -78,18 +117,9 @@ impl<L: Read> LogLines<L> {
             };
             line[at] = byte;
             if byte == b'\n' {
-                return Ok(meaning(&line[..at + 1]));
+                return Ok(NextLine::of(&line[..at + 1]));
             }
         }
-        Ok(meaning(&line))
-    }
-}
-
-// What some bytes of the log say, which are a whole line or too many for one.
-fn meaning(bytes: &[u8]) -> NextLine {
-    match LogLine::parse(bytes) {
-        Some(line) => NextLine::Line(line),
-        None if bytes.starts_with(b"recode: ") => NextLine::End,
-        None => NextLine::Other,
+        Ok(NextLine::of(&line))
     }
 }

@@ -9,6 +9,8 @@ ghost use Rattle.encoding_front.specs.Marks.{marked_pieces};
 ghost use Rattle.encoding_front.specs.calls.DecoderViews.{decoder_view};
 ghost use Rattle.recode_places.specs.Places.{IsPlaceAfter};
 ghost use Rattle.recode_places.specs.Entries.{Tells, TellsIn};
+ghost use Rattle.recode_places.specs.Logs.{TellsLines, ended};
+ghost use Rattle.recode_places.specs.calls.LogViews.{choice_left};
 ghost use Rattle.recode_places.specs.calls.Walks.{CanWalk, TellsPrefix, WalksChunk, WalksPart, is_end};
 ghost use Rattle.recode_places.specs.calls.Walks.{walk_state};
 
@@ -95,12 +97,15 @@ fn tell_character<L: Read, V: Visitor>(
     ensures place { OnOk result ((t : List ℕ) → IsPlaceAfter place.old t
         → IsPlaceAfter place.new (t ++ (c ∷ []))) }
     ensures index { OnOk result (place.new.index ≡ place.old.index + 1) }
+    ensures lines { OnOk result (TellsLines (choice_left L.remaining choice.old)
+        (choice_left L.remaining choice.new) (V.told visitor.old) (V.told visitor.new)) }
 {
-    if let Some(finding) = choice.character(place.index, c)? {
-        visitor.entry(Entry {
+    match choice.character(place.index, c)? {
+        Some(finding) => visitor.entry(Entry {
             place: *place,
             finding,
-        })?;
+        })?,
+        None => {}
     }
     visitor.text(c.encode_utf8(&mut [0; 4]))?;
     place.pass(c);
@@ -120,6 +125,8 @@ fn tell_text<L: Read, V: Visitor>(
     ensures place { OnOk result ((t : List ℕ) → IsPlaceAfter place.old t
         → IsPlaceAfter place.new (t ++ chars text.now)) }
     ensures index { OnOk result (place.new.index ≡ place.old.index + length (chars text.now)) }
+    ensures lines { OnOk result (TellsLines (choice_left L.remaining choice.old)
+        (choice_left L.remaining choice.new) (V.told visitor.old) (V.told visitor.new)) }
 {
     if choice.passes_over(place.index, text) {
         place.pass_text(text);
@@ -139,8 +146,10 @@ fn tell_malformed<L: Read, V: Visitor>(
     choice: &mut Choice<'_, L>,
     visitor: &mut V,
 ) -> Result<(), Stop>
-    ensures { (ps : List Piece) → IsPlaceAfter place (text ps) → offset ≡ sizes ps
+    ensures told { (ps : List Piece) → IsPlaceAfter place (text ps) → offset ≡ sizes ps
         → TellsIn (ps ++ (malformed length ∷ [])) (V.told visitor.old) (V.told visitor.new) }
+    ensures lines { OnOk result (TellsLines (choice_left L.remaining choice.old)
+        (choice_left L.remaining choice.new) (V.told visitor.old) (V.told visitor.new)) }
 {
     if choice.malformed(place.index, offset, length)? {
         visitor.entry(Entry {
@@ -165,6 +174,8 @@ impl<'t> Walk<'t> {
         requires limit { self.old.read + length chunk.now ≤ 2 ^ 48 }
         ensures part { IfOk result (λ p. WalksPart (V.told visitor.old) (V.told visitor.new)
             (walk_state self.old) (walk_state self.new) chunk.now last p.read p.is_done) }
+        ensures lines { OnOk result (TellsLines (choice_left L.remaining choice.old)
+            (choice_left L.remaining choice.new) (V.told visitor.old) (V.told visitor.new)) }
         ensures err { OnErr result (TellsPrefix (V.told visitor.old) (V.told visitor.new)
             (walk_state self.old) chunk.now last) }
     {
@@ -210,6 +221,8 @@ impl<'t> Walk<'t> {
         requires limit { self.old.read + length chunk.now ≤ 2 ^ 48 }
         ensures chunk { OnOk result (WalksChunk (V.told visitor.old) (V.told visitor.new)
             (walk_state self.old) (walk_state self.new) chunk.now (is_end chunk.now)) }
+        ensures lines { OnOk result (TellsLines (choice_left L.remaining choice.old)
+            (choice_left L.remaining choice.new) (V.told visitor.old) (V.told visitor.new)) }
         ensures err { OnErr result (TellsPrefix (V.told visitor.old) (V.told visitor.new)
             (walk_state self.old) chunk.now (is_end chunk.now)) }
     {
@@ -243,6 +256,8 @@ pub fn tell_places<R: Read, L: Read, V: Visitor>(
     requires { IsReady source.tables.now source.from }
     ensures told { IfSome (R.remaining reader.old) (λ x. TellsIn
         (marked_pieces source.entry.tables.now source.entry.mark source.entry.from x)
+        (V.told visitor.old) (V.told visitor.new)) }
+    ensures lines { OnOk result (TellsLines (choice_left L.remaining choice.old) ended
         (V.told visitor.old) (V.told visitor.new)) }
 {
     let mut walk = Walk {

@@ -3,6 +3,7 @@ use Rattle.std.proofs.lemmas.Iterator.{YieldsList-from_chars}
 use Rattle.std.proofs.lemmas.Iterator.Consumers.{YieldsList-end, YieldsList-so_far, YieldsList-turn}
 use Rattle.std.proofs.lemmas.List.{append_assoc, length-append}
 use Rattle.recode_places.proofs.EntryLemmas.{tells_on, tells_prefix}
+use Rattle.recode_places.proofs.ReadsLemmas.{lines_then}
 use Rattle.recode_places.proofs.TextLemmas.{passed_prefix}
 use Rattle.recode_places.proofs.walk.tell_text.Goals as goal
 
@@ -13,6 +14,7 @@ loop-c-preserved g c =
     record {
       index = omega (arith, i.index, e.index, length-append c.loop-c.yielded (c.in-Some.c ∷ []));
       place = λ t p. rw (← append_assoc t c.loop-c.yielded (c.in-Some.c ∷ [])) (e.place (t ++ c.loop-c.yielded) (i.place t p));
+      lines = lines_then _ _ _ _ _ _ i.lines e.lines;
       told = λ ps t p. tells_on ps t c.loop-c.yielded (c.in-Some.c ∷ []) _ _ _ (i.told ps t p) (e.told ps (t ++ c.loop-c.yielded) (i.place t p));
     }
 

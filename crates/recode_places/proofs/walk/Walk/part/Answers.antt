@@ -5,6 +5,7 @@ use Rattle.recode_places.specs.calls.Walks.{walk_state}
 use Rattle.std.proofs.lemmas.Bool.{false≢true}
 use Rattle.std.proofs.lemmas.List.{length-take}
 use Rattle.recode_places.proofs.CallLemmas.{call_chars, call_is_utf8, few_chars, on_err, reported}
+use Rattle.recode_places.proofs.ReadsLemmas.{lines_then}
 use Rattle.recode_places.proofs.WalkLemmas.{end_none, fewer_left, finishes_last, finishes_not, some_malformed, some_written, malformed_stops, malformed_within, text_stops, walks_malformed, walks_text}
 use Rattle.recode_places.proofs.walk.Walk.part.Goals as goal
 
@@ -33,7 +34,7 @@ returns-in_err-tell_malformed-in-Malformed-clause-err g c =
     (call_chars (decoder_view c.args.self.now.decoder).state (decoder_view call.new.self).state _ _ _ _ _ _ _ call.ensures.call.law _ c.from_utf8_unchecked-text.ensures)
     told.told told.place told.index _
     (omega (arith, c.from.ensures, c.from-in-Malformed.ensures, malformed_within (decoder_view c.args.self.now.decoder).state (decoder_view call.new.self).state _ _ _ _ _ _ _ c.args.self.now.place.index c.args.self.now.read c.in-Malformed.is call.ensures.call.law c.requires.ready.within))
-    c.in_err-tell_malformed-in-Malformed.ensures)
+    c.in_err-tell_malformed-in-Malformed.ensures.told)
 
 pub returns-in_err-malformed-in-Malformed-clause-err : goal.returns-in_err-malformed-in-Malformed-clause-err
 returns-in_err-malformed-in-Malformed-clause-err g c =
@@ -43,7 +44,7 @@ returns-in_err-malformed-in-Malformed-clause-err g c =
     (call_chars (decoder_view c.args.self.now.decoder).state (decoder_view call.new.self).state _ _ _ _ _ _ _ call.ensures.call.law _ c.from_utf8_unchecked-text.ensures)
     told.told told.place told.index _
     (omega (arith, c.from.ensures, c.from-in-Malformed.ensures, malformed_within (decoder_view c.args.self.now.decoder).state (decoder_view call.new.self).state _ _ _ _ _ _ _ c.args.self.now.place.index c.args.self.now.read c.in-Malformed.is call.ensures.call.law c.requires.ready.within))
-    (λ qs h k. rw c.in_err-malformed-in-Malformed.ensures (c.in_ok-tell_malformed-in-Malformed.ensures qs h k)))
+    (λ qs h k. rw c.in_err-malformed-in-Malformed.ensures (c.in_ok-tell_malformed-in-Malformed.ensures.told qs h k)))
 
 pub pass-requires : goal.pass-requires
 pass-requires g c =
@@ -101,7 +102,7 @@ returns-in_ok-malformed-in-Malformed-clause-part g c =
           (call_chars (decoder_view c.args.self.now.decoder).state (decoder_view call.new.self).state _ _ _ _ _ _ _ call.ensures.call.law _ c.from_utf8_unchecked-text.ensures)
           told.told told.place told.index _
           (omega (arith, c.from.ensures, c.from-in-Malformed.ensures, malformed_within (decoder_view c.args.self.now.decoder).state (decoder_view call.new.self).state _ _ _ _ _ _ _ c.args.self.now.place.index c.args.self.now.read c.in-Malformed.is call.ensures.call.law c.requires.ready.within))
-          (λ qs h k. rw c.in_ok-malformed-in-Malformed.ensures (c.in_ok-tell_malformed-in-Malformed.ensures qs h k))
+          (λ qs h k. rw c.in_ok-malformed-in-Malformed.ensures (c.in_ok-tell_malformed-in-Malformed.ensures.told qs h k))
           _ refl refl c.pass.ensures.place c.pass.ensures.index;
       more = λ h. (
         call.ensures.call.finished ∙ finishes_not _ _ (ap is_input_empty c.in-Malformed.is),
@@ -110,3 +111,7 @@ returns-in_ok-malformed-in-Malformed-clause-part g c =
       );
       done = λ h. absurd (false≢true h);
     }
+
+pub returns-in_ok-malformed-in-Malformed-clause-lines : goal.returns-in_ok-malformed-in-Malformed-clause-lines
+returns-in_ok-malformed-in-Malformed-clause-lines g c =
+    rw c.in_ok-malformed-in-Malformed.ensures (lines_then _ _ _ _ _ _ c.in_ok-tell_text.ensures.lines c.in_ok-tell_malformed-in-Malformed.ensures.lines)
