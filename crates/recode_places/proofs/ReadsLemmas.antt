@@ -2,16 +2,16 @@
 use Rattle.std.proofs.Common.{◌≡◌, ℕ, inl, inr, Bool, true, false, List, [], ◌∷◌, ◌++◌, Option, Some, None, IfOk, OnOk, Ok, Err, Result, refl, sym, ◌∙◌, ap, subst, append-nil, append_assoc}
 use Rattle.recode_log.specs.Line.{line_bytes}
 use Rattle.recode_log.specs.declared.line.LogLine.TheVariants as line
-use Rattle.recode_places.specs.Logs.{AreLinesOf, AreLinesOfMalformed, IsLoggedAs, LogLeft, NameAll, Reads, TellsLines, bytes, ended, broken, unknown}
+use Rattle.recode_places.specs.Logs.{AreLinesOf, AreLinesOfMalformed, IsLoggedAs, LogLeft, NameAll, TakesLines, TellsLines, bytes, ended, broken, unknown}
 use Rattle.recode_places.specs.Entries.{HasOneMore}
-use Rattle.recode_places.specs.calls.LogViews.{NamesCharacter, NamesMalformed, NamesSequence, ReadsLine, ReadsSome, left_after}
+use Rattle.recode_places.specs.calls.LogViews.{NamesCharacter, NamesMalformed, NamesSequence, ReadsLine, TakesSome, log_left_after}
 use Rattle.recode_places.specs.declared.entry.Stop.{Stop}
 use Rattle.recode_places.specs.declared.log_lines.NextLine.{NextLine}
 use Rattle.recode_places.specs.declared.log_lines.NextLine.TheVariants.{Line, End, Other}
 use Rattle.recode_log.specs.declared.line.LogLine.{LogLine}
 use Rattle.recode_places.specs.declared.entry.Entry.{Entry}
 
-pub reads_then : (a b c : LogLeft) (xs ys : List ℕ) → Reads a b xs → Reads b c ys → Reads a c (xs ++ ys)
+pub reads_then : (a b c : LogLeft) (xs ys : List ℕ) → TakesLines a b xs → TakesLines b c ys → TakesLines a c (xs ++ ys)
 reads_then (bytes x) (bytes y) (bytes z) xs ys h k = h ∙ ap (λ q. xs ++ q) k ∙ sym (append_assoc xs ys z)
 reads_then (bytes x) (bytes y) ended xs ys h k = (k.0, h ∙ ap (λ q. xs ++ q) k.1 ∙ sym (append_assoc xs ys k.0), k.2)
 reads_then (bytes x) (bytes y) broken xs ys h k = (k.0, h ∙ ap (λ q. xs ++ q) k.1 ∙ sym (append_assoc xs ys k.0))
@@ -41,7 +41,7 @@ reads_then broken broken unknown xs ys h k = absurd k
 reads_then broken unknown c xs ys h k = absurd h
 reads_then unknown b c xs ys h k = tt
 
-pub reads_nothing : (a : LogLeft) → Reads a a []
+pub reads_nothing : (a : LogLeft) → TakesLines a a []
 reads_nothing (bytes x) = refl
 reads_nothing ended = refl
 reads_nothing broken = refl
@@ -78,27 +78,27 @@ lines_then a b c (Some es) u v h k =
       (h.2.0 ++ next.2.0, reads_then a b c h.2.0 next.2.0 h.2.1 next.2.1, name_append h.0 next.0 h.2.0 next.2.0 h.2.2 next.2.2),
     )
 
-pub lines_none : (a b : LogLeft) (t : Option (List Entry)) → Reads a b [] → TellsLines a b t t
+pub lines_none : (a b : LogLeft) (t : Option (List Entry)) → TakesLines a b [] → TellsLines a b t t
 lines_none a b None h = tt
 lines_none a b (Some es) h = ([], ap Some (sym (append-nil es)), ([], h, refl))
 
-pub lines_one : (a b : LogLeft) (t u : Option (List Entry)) (e : Entry) (bs : List ℕ) → Reads a b bs → AreLinesOf e.place.index e.finding bs → HasOneMore t u e → TellsLines a b t u
+pub lines_one : (a b : LogLeft) (t u : Option (List Entry)) (e : Entry) (bs : List ℕ) → TakesLines a b bs → AreLinesOf e.place.index e.finding bs → HasOneMore t u e → TellsLines a b t u
 lines_one a b None u e bs h k m = tt
 lines_one a b (Some es) u e bs h k m = (e ∷ [], m, (bs, h, (bs, [], sym (append-nil bs), k, refl)))
 
 -- ---- a line that was matched
 
-pub line_named : (l : LogLine) (old new : Option (List ℕ)) (n : NextLine) → ReadsLine old new n → Reads (left_after (Line l) old) (left_after n new) (line_bytes l)
+pub line_named : (l : LogLine) (old new : Option (List ℕ)) (n : NextLine) → ReadsLine old new n → TakesLines (log_left_after (Line l) old) (log_left_after n new) (line_bytes l)
 line_named l None new n h = tt
-line_named l (Some x) new (Line m) h = subst (λ q. Reads (bytes (line_bytes l ++ x)) (left_after (Line m) q) (line_bytes l)) (sym h.1) (ap (λ q. line_bytes l ++ q) h.2)
+line_named l (Some x) new (Line m) h = subst (λ q. TakesLines (bytes (line_bytes l ++ x)) (log_left_after (Line m) q) (line_bytes l)) (sym h.1) (ap (λ q. line_bytes l ++ q) h.2)
 line_named l (Some x) new End h = (x, refl, h)
 line_named l (Some x) new Other h = (x, refl)
 
-pub named_after : (r : Result Bool Stop) (a b c : LogLeft) (index offset n : ℕ) (xs : List ℕ) → Reads a b xs → NamesSequence offset n false xs → IfOk r (λ named. ReadsSome b c (NamesCharacter index 0xFFFD named))
-    → IfOk r (λ named. ReadsSome a c (NamesMalformed index offset n named))
+pub named_after : (r : Result Bool Stop) (a b c : LogLeft) (index offset n : ℕ) (xs : List ℕ) → TakesLines a b xs → NamesSequence offset n false xs → IfOk r (λ named. TakesSome b c (NamesCharacter index 0xFFFD named))
+    → IfOk r (λ named. TakesSome a c (NamesMalformed index offset n named))
 named_after (Ok named) a b c index offset n xs h k m = (xs ++ m.0, reads_then a b c xs m.0 h m.1, names_mark index offset n named xs m.0 k m.2)
 named_after (Err e) a b c index offset n xs h k m = tt
 
-pub finished_lines : (r : Result (Unit {0}) Stop) (a b : LogLeft) (t u : Option (List Entry)) → TellsLines a b t u → OnOk r (Reads b ended []) → OnOk r (TellsLines a ended t u)
+pub finished_lines : (r : Result (Unit {0}) Stop) (a b : LogLeft) (t u : Option (List Entry)) → TellsLines a b t u → OnOk r (TakesLines b ended []) → OnOk r (TellsLines a ended t u)
 finished_lines (Ok x) a b t u h k = lines_then a b ended t u u h (lines_none b ended u k)
 finished_lines (Err e) a b t u h k = tt

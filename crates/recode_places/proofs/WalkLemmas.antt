@@ -11,7 +11,7 @@ use Rattle.encoding_front.specs.calls.Stream.{finishes, is_input_empty}
 use Rattle.encoding_mem.specs.calls.Writing.{Adds}
 use Rattle.encoding_mem.specs.declared.decoder_result.DecoderResult.{DecoderResult}
 use Rattle.encoding_mem.specs.declared.decoder_result.DecoderResult.TheVariants.{Malformed}
-use Rattle.recode_places.specs.Entries.{Tells, TellsIn}
+use Rattle.recode_places.specs.Entries.{TellsTrue, TellsTrueIn}
 use Rattle.recode_places.specs.Places.{IsPlaceAfter}
 use Rattle.recode_places.specs.calls.Walks.{HasPassed, TellsPrefix, WalksInput, WalksOn, WalkState}
 use Rattle.recode_places.specs.declared.entry.Entry.{Entry}
@@ -20,12 +20,12 @@ use Rattle.recode_places.proofs.CallLemmas.{IsCutAt, cut_at, few_taken, reported
 use Rattle.recode_places.proofs.EntryLemmas.{tells_nothing, tells_then, tells_wider}
 
 -- more pieces
-pub tells_in_wider : (ps qs : List Piece) (a b : Option (List Entry)) → TellsIn ps a b → TellsIn (ps ++ qs) a b
-tells_in_wider ps qs a b h = subst (λ t. Tells (ps ++ qs) t a b) (sym (text-append ps qs)) (tells_wider ps qs (text ps) (text qs) a b h)
+pub tells_in_wider : (ps qs : List Piece) (a b : Option (List Entry)) → TellsTrueIn ps a b → TellsTrueIn (ps ++ qs) a b
+tells_in_wider ps qs a b h = subst (λ t. TellsTrue (ps ++ qs) t a b) (sym (text-append ps qs)) (tells_wider ps qs (text ps) (text qs) a b h)
 
 -- what a text told is true of the pieces whose text it is
-tells_pieces : (ps qs : List Piece) (cs : List ℕ) (a b : Option (List Entry)) → cs ≡ text qs → Tells (ps ++ qs) (text ps ++ cs) a b → TellsIn (ps ++ qs) a b
-tells_pieces ps qs cs a b e h = subst (λ t. Tells (ps ++ qs) t a b) (ap (λ t. text ps ++ t) e ∙ sym (text-append ps qs)) h
+tells_pieces : (ps qs : List Piece) (cs : List ℕ) (a b : Option (List Entry)) → cs ≡ text qs → TellsTrue (ps ++ qs) (text ps ++ cs) a b → TellsTrueIn (ps ++ qs) a b
+tells_pieces ps qs cs a b e h = subst (λ t. TellsTrue (ps ++ qs) t a b) (ap (λ t. text ps ++ t) e ∙ sym (text-append ps qs)) h
 
 place_pieces : (p : Place) (ps qs : List Piece) (cs : List ℕ) → cs ≡ text qs → IsPlaceAfter p (text ps ++ cs) → IsPlaceAfter p (text (ps ++ qs))
 place_pieces p ps qs cs e h = subst (IsPlaceAfter p) (ap (λ t. text ps ++ t) e ∙ sym (text-append ps qs)) h
@@ -34,14 +34,14 @@ place_pieces p ps qs cs e h = subst (IsPlaceAfter p) (ap (λ t. text ps ++ t) e 
 
 module _ (told told' : Option (List Entry)) (v : WalkState) (p : Place) (d : DecoderState) (src : List ℕ) (last : Bool) (n : ℕ) (W : List ℕ → Type 0) (o : DecoderResult)
     (k : StateLaw v.decoder d src last n W o) (cs : List ℕ) (is : cs ≡ scalars k.taken)
-    (tells : (ps : List Piece) (t : List ℕ) → IsPlaceAfter v.place t → Tells ps (t ++ cs) told told') where
+    (tells : (ps : List Piece) (t : List ℕ) → IsPlaceAfter v.place t → TellsTrue ps (t ++ cs) told told') where
   abbrev cut : IsCutAt o k.taken
   cut = cut_at o d.pending k.taken k.well_formed
 
   whole : (r : List ℕ) → (last ≡ true → r ≡ []) → v.decoder.pieces (src ++ r) ≡ cut.before ++ (reported o ++ d.pieces (drop n src ++ r))
   whole r end = k.rest r end ∙ ap (λ ps. ps ++ d.pieces (drop n src ++ r)) cut.whole ∙ append_assoc cut.before (reported o) (d.pieces (drop n src ++ r))
 
-  before_told : (ps : List Piece) → HasPassed v ps → TellsIn (ps ++ cut.before) told told'
+  before_told : (ps : List Piece) → HasPassed v ps → TellsTrueIn (ps ++ cut.before) told told'
   before_told ps h = tells_pieces ps cut.before cs told told' (is ∙ cut.same) (tells (ps ++ cut.before) (text ps) h.place)
 
   -- the telling of the text ended early
@@ -63,7 +63,7 @@ module _ (told told' : Option (List Entry)) (v : WalkState) (p : Place) (d : Dec
         place = subst (λ x. IsPlaceAfter w.place (text (ps ++ x))) (sym taken) (subst (λ x. IsPlaceAfter x (text (ps ++ cut.before))) (sym here) (before_passed ps h));
         read = omega (arith, h.read, read, k.counted, sizes-append ps k.taken, ap (λ (x : DecoderState). x.pending) same);
       };
-      tells = λ ps h. subst (λ x. TellsIn (ps ++ x) told told') (sym taken) (before_told ps h);
+      tells = λ ps h. subst (λ x. TellsTrueIn (ps ++ x) told told') (sym taken) (before_told ps h);
     }
       where
         taken : k.taken ≡ cut.before
@@ -76,10 +76,10 @@ module _ (told told' : Option (List Entry)) (v : WalkState) (p : Place) (d : Dec
 
 module _ (told told1 told2 : Option (List Entry)) (v : WalkState) (p : Place) (d : DecoderState) (src : List ℕ) (last : Bool) (n : ℕ) (W : List ℕ → Type 0) (o : DecoderResult) (a b : ℕ)
     (o_is : o ≡ Malformed a b) (k : StateLaw v.decoder d src last n W o) (cs : List ℕ) (is : cs ≡ scalars k.taken)
-    (tells : (ps : List Piece) (t : List ℕ) → IsPlaceAfter v.place t → Tells ps (t ++ cs) told told1)
+    (tells : (ps : List Piece) (t : List ℕ) → IsPlaceAfter v.place t → TellsTrue ps (t ++ cs) told told1)
     (place : (t : List ℕ) → IsPlaceAfter v.place t → IsPlaceAfter p (t ++ cs)) (index : p.index ≡ v.place.index + length cs)
     (offset : ℕ) (offset_is : offset + a + b ≡ v.read + n)
-    (malf : (qs : List Piece) → IsPlaceAfter p (text qs) → offset ≡ sizes qs → TellsIn (qs ++ (malformed a ∷ [])) told1 told2) where
+    (malf : (qs : List Piece) → IsPlaceAfter p (text qs) → offset ≡ sizes qs → TellsTrueIn (qs ++ (malformed a ∷ [])) told1 told2) where
   abbrev first : IsCutAt o k.taken
   first = cut told told1 v p d src last n W o k cs is tells
 
@@ -95,14 +95,14 @@ module _ (told told1 told2 : Option (List Entry)) (v : WalkState) (p : Place) (d
   offset_of : (ps : List Piece) → HasPassed v ps → offset ≡ sizes (ps ++ first.before)
   offset_of ps h = omega (arith, offset_is, h.read, k.counted, pending, taken_size, sizes-append ps first.before)
 
-  malformed_told : (ps : List Piece) → HasPassed v ps → TellsIn (ps ++ k.taken) told told2
+  malformed_told : (ps : List Piece) → HasPassed v ps → TellsTrueIn (ps ++ k.taken) told told2
   malformed_told ps h =
       let qs = ps ++ first.before in
       let passed = before_passed told told1 v p d src last n W o k cs is tells place index ps h in
       let all = tells_then (qs ++ (malformed a ∷ [])) (text (qs ++ (malformed a ∷ []))) told told1 told2
       (tells_in_wider qs (malformed a ∷ []) told told1 (before_told told told1 v p d src last n W o k cs is tells ps h))
       (malf qs passed (offset_of ps h)) in
-      subst (λ x. TellsIn x told told2) (append_assoc ps first.before (malformed a ∷ []) ∙ ap (λ x. ps ++ x) (sym ends_malformed)) all
+      subst (λ x. TellsTrueIn x told told2) (append_assoc ps first.before (malformed a ∷ []) ∙ ap (λ x. ps ++ x) (sym ends_malformed)) all
 
   -- the telling of the malformed sequence ended early
   pub malformed_stops : TellsPrefix told told2 v src last
@@ -164,7 +164,7 @@ walks_then a b c u v w x y z last h k = record {
   read = omega (arith, h.read, k.read);
   within = λ e. k.within (h.within e);
   passes = λ ps e. subst (HasPassed w) (append_assoc ps h.passed k.passed) (k.passes (ps ++ h.passed) (h.passes ps e));
-  tells = λ ps e. subst (λ q. TellsIn q a c) (append_assoc ps h.passed k.passed)
+  tells = λ ps e. subst (λ q. TellsTrueIn q a c) (append_assoc ps h.passed k.passed)
       (tells_then ((ps ++ h.passed) ++ k.passed) (text ((ps ++ h.passed) ++ k.passed)) a b c (tells_in_wider (ps ++ h.passed) k.passed a b (h.tells ps e)) (k.tells (ps ++ h.passed) (h.passes ps e)));
 }
 
@@ -172,7 +172,7 @@ pub walks_stops : (a b c : Option (List Entry)) (u v : WalkState) (x y : List �
 walks_stops a b c u v x y last h k = record {
   passed = h.passed ++ k.passed;
   rest = λ r end. let left = k.rest r end in (left.0, h.rest r end ∙ ap (λ ps. h.passed ++ ps) left.1 ∙ sym (append_assoc h.passed k.passed left.0));
-  tells = λ ps e. subst (λ q. TellsIn q a c) (append_assoc ps h.passed k.passed)
+  tells = λ ps e. subst (λ q. TellsTrueIn q a c) (append_assoc ps h.passed k.passed)
       (tells_then ((ps ++ h.passed) ++ k.passed) (text ((ps ++ h.passed) ++ k.passed)) a b c (tells_in_wider (ps ++ h.passed) k.passed a b (h.tells ps e)) (k.tells (ps ++ h.passed) (h.passes ps e)));
 }
 
@@ -228,19 +228,19 @@ walks_new a v None = tt
 walks_new a v (Some x) = walks_start a v x true
 
 module _ (a b : Option (List Entry)) (v : WalkState) (pieces : List ℕ → List Piece) (new : HasPassed v []) (is : (x : List ℕ) → v.decoder.pieces x ≡ pieces x) where
-  told_in : (x : List ℕ) → TellsPrefix a b v x true → TellsIn (pieces x) a b
+  told_in : (x : List ℕ) → TellsPrefix a b v x true → TellsTrueIn (pieces x) a b
   told_in x h =
       let left = h.rest [] (λ e. refl) in
       let all : h.passed ++ left.0 ≡ pieces x = sym left.1 ∙ ap v.decoder.pieces (append-nil x) ∙ is x in
-      subst (λ ps. TellsIn ps a b) all (tells_in_wider h.passed left.0 a b (h.tells [] new))
+      subst (λ ps. TellsTrueIn ps a b) all (tells_in_wider h.passed left.0 a b (h.tells [] new))
 
-  pub tells_known : (w : WalkState) (x y : Option (List ℕ)) → WalksInput a b v w x y → IfSome x (λ x. TellsIn (pieces x) a b)
+  pub tells_known : (w : WalkState) (x y : Option (List ℕ)) → WalksInput a b v w x y → IfSome x (λ x. TellsTrueIn (pieces x) a b)
   tells_known w None y h = tt
   tells_known w (Some x) None h = absurd h
   tells_known w (Some x) (Some y) h = told_in x (record { passed = h.passed; rest = λ r e. (w.decoder.pieces (y ++ r), h.rest r e); tells = h.tells })
 
   pub stops_known : (m : Option (List Entry)) (w : WalkState) (x y z : Option (List ℕ)) (chunk : List ℕ) (last : Bool) → WalksInput a m v w x y → Consumes y z chunk → (last ≡ true → IsAtEnd z) → TellsPrefix m b w chunk last
-      → IfSome x (λ x. TellsIn (pieces x) a b)
+      → IfSome x (λ x. TellsTrueIn (pieces x) a b)
   stops_known m w None y z chunk last h k end g = tt
   stops_known m w (Some x) None z chunk last h k end g = absurd h
   stops_known m w (Some x) (Some y) None chunk last h k end g = absurd k

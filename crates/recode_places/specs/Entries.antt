@@ -31,12 +31,12 @@ abbrev pub HasOneMore : (told told' : Option (List Entry)) → Entry → Type 0
 HasOneMore told told' e = IfSome told (λ es. told' ≡ Some (es ++ (e ∷ [])))
 
 -- a visitor that says what it was told was told some entries more, which are true of these pieces and this text
-abbrev pub Tells : List Piece → List ℕ → (told told' : Option (List Entry)) → Type 0
-Tells ps t told told' = IfSome told (λ es. (more : List Entry) × (told' ≡ Some (es ++ more)) × AreTrue ps t more)
+abbrev pub TellsTrue : List Piece → List ℕ → (told told' : Option (List Entry)) → Type 0
+TellsTrue ps t told told' = IfSome told (λ es. (more : List Entry) × (told' ≡ Some (es ++ more)) × AreTrue ps t more)
 
 -- a visitor was told entries that are true of an input of these pieces
-abbrev pub TellsIn : List Piece → (told told' : Option (List Entry)) → Type 0
-TellsIn ps told told' = Tells ps (text ps) told told'
+abbrev pub TellsTrueIn : List Piece → (told told' : Option (List Entry)) → Type 0
+TellsTrueIn ps told told' = TellsTrue ps (text ps) told told'
 
 -- what is found is this character, lost or folded
 abbrev pub IsOfCharacter : ℕ → Finding → Type 0

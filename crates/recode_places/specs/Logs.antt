@@ -52,22 +52,22 @@ pub data LogLeft : Type 0 where
   unknown : LogLeft
 
 -- of a log that had so much left, these bytes were read, and now so much is left
-abbrev pub Reads : (left left' : LogLeft) → List ℕ → Type 0
-Reads (bytes x) (bytes y) bs = x ≡ bs ++ y
-Reads (bytes x) ended bs = (end : List ℕ) × (x ≡ bs ++ end) × IsLogEnd end
-Reads (bytes x) broken bs = (rest : List ℕ) × (x ≡ bs ++ rest)
-Reads (bytes x) unknown bs = ⊥
-Reads ended ended bs = bs ≡ []
-Reads broken broken bs = bs ≡ []
-Reads unknown left bs = Unit {0}
-Reads ended (bytes x) bs = ⊥
-Reads ended broken bs = ⊥
-Reads ended unknown bs = ⊥
-Reads broken (bytes x) bs = ⊥
-Reads broken ended bs = ⊥
-Reads broken unknown bs = ⊥
+abbrev pub TakesLines : (left left' : LogLeft) → List ℕ → Type 0
+TakesLines (bytes x) (bytes y) bs = x ≡ bs ++ y
+TakesLines (bytes x) ended bs = (end : List ℕ) × (x ≡ bs ++ end) × IsLogEnd end
+TakesLines (bytes x) broken bs = (rest : List ℕ) × (x ≡ bs ++ rest)
+TakesLines (bytes x) unknown bs = ⊥
+TakesLines ended ended bs = bs ≡ []
+TakesLines broken broken bs = bs ≡ []
+TakesLines unknown left bs = Unit {0}
+TakesLines ended (bytes x) bs = ⊥
+TakesLines ended broken bs = ⊥
+TakesLines ended unknown bs = ⊥
+TakesLines broken (bytes x) bs = ⊥
+TakesLines broken ended bs = ⊥
+TakesLines broken unknown bs = ⊥
 
 -- a visitor that says what it was told was told entries more, and what was read of a log are their lines
 abbrev pub TellsLines : (left left' : LogLeft) (told told' : Option (List Entry)) → Type 0
 TellsLines left left' told told' =
-    IfSome told (λ es. (more : List Entry) × (told' ≡ Some (es ++ more)) × ((bs : List ℕ) × Reads left left' bs × NameAll more bs))
+    IfSome told (λ es. (more : List Entry) × (told' ≡ Some (es ++ more)) × ((bs : List ℕ) × TakesLines left left' bs × NameAll more bs))

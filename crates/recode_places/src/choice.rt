@@ -2,9 +2,9 @@
 
 ghost use Rattle.std.specs.Prelude.{◌≡◌, IfOk, IfSome, OnOk, []};
 ghost use Rattle.recode_places.specs.Entries.{IsOfCharacter};
-ghost use Rattle.recode_places.specs.Logs.{Reads, ended, unknown};
+ghost use Rattle.recode_places.specs.Logs.{TakesLines, ended, unknown};
 ghost use Rattle.recode_places.specs.declared.entry.Finding.TheVariants.{Folded};
-ghost use Rattle.recode_places.specs.calls.LogViews.{NamesFound, NamesMalformed, ReadsSome};
+ghost use Rattle.recode_places.specs.calls.LogViews.{NamesFound, NamesMalformed, TakesSome};
 ghost use Rattle.recode_places.specs.calls.LogViews.{choice_left, match_left};
 
 use crate::entry::{Finding, Stop};
@@ -73,7 +73,7 @@ impl<'t, L: Read> Choice<'t, L> {
     /// the log.
     pub fn character(&mut self, index: u64, c: char) -> Result<Option<Finding>, Stop>
         ensures of { IfOk result (λ found. IfSome found (IsOfCharacter c)) }
-        ensures named { IfOk result (λ found. ReadsSome (choice_left L.remaining self.old)
+        ensures named { IfOk result (λ found. TakesSome (choice_left L.remaining self.old)
             (choice_left L.remaining self.new) (NamesFound index found)) }
     {
         match &mut self.log {
@@ -114,7 +114,7 @@ impl<'t, L: Read> Choice<'t, L> {
     /// Whether this malformed sequence is told, for which the U+FFFD with this index stands. The
     /// error is that of the log.
     pub fn malformed(&mut self, index: u64, offset: u64, length: u8) -> Result<bool, Stop>
-        ensures { IfOk result (λ is_told. ReadsSome (choice_left L.remaining self.old)
+        ensures { IfOk result (λ is_told. TakesSome (choice_left L.remaining self.old)
             (choice_left L.remaining self.new) (NamesMalformed index offset length is_told)) }
     {
         match &mut self.log {
@@ -125,7 +125,7 @@ impl<'t, L: Read> Choice<'t, L> {
 
     /// Tells that the input is at its end: the error is `Unfit` if the log has one more line.
     pub fn finish(&self) -> Result<(), Stop>
-        ensures { OnOk result (Reads (choice_left L.remaining self.now) ended []) }
+        ensures { OnOk result (TakesLines (choice_left L.remaining self.now) ended []) }
     {
         match &self.log {
             Some(log) => log.finish(),

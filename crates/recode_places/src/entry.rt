@@ -20,7 +20,9 @@ pub enum Finding {
 /// that stands for it in the text.
 #[derive(Clone, Copy, PartialEq, Eq, Debug)]
 pub struct Entry {
+    /// Where it stands.
     pub place: Place,
+    /// What stands there.
     pub finding: Finding,
 }
 

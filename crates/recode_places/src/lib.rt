@@ -1,9 +1,9 @@
 //! Where in an input the malformed sequences and the characters stand that a log of `recode` names:
 //! line, column and index of each (`Place`).
 //!
-//! `tell_places` reads the input once more, and tells a `Visitor` the text, the malformed bytes, and an
-//! `Entry` for each thing that a `Choice` picks: what the lines of a log name (`LogMatch`), or what
-//! a target encoding would lose or write as another character (`Fates`).
+//! `tell_places` reads the input once more, and tells a `Visitor` the text, the malformed bytes,
+//! and an `Entry` for each thing that a `Choice` picks: what the lines of a log name (`LogMatch`),
+//! or what a target encoding would lose or write as another character (`Fates`).
 //!
 //! # Use
 //!
@@ -13,9 +13,12 @@
 //!         mark: Mark::Sniff,
 //!         tables: &tables,
 //!     };
-//!     let mut choice = Choice::of_log(LogMatch::new(b"bad 5 1\n".as_slice()));
-//!     let mut entries: Vec<Entry> = Vec::new(alloc);
+//!     if !source.from.is_ready(&tables) {
+//!         return Ok(false);
+//!     }
 //!     let mut input = b"one\nt\xFFo".as_slice();
+//!     let mut choice = Choice::of_log(LogMatch::new(b"bad 5 1\n".as_slice())?);
+//!     let mut entries: Vec<Entry> = Vec::new(alloc);
 //!     tell_places(&mut input, source, &mut choice, &mut entries)?;
 //!
 //! `entries` has one entry: the byte FF at offset 5, in line 2, column 2.

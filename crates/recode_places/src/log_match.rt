@@ -18,12 +18,12 @@ pub struct LogMatch<L> {
 }
 
 impl<L: Read + Drop> LogMatch<L> {
-    ghost use Rattle.recode_places.specs.Logs.{Reads};
+    ghost use Rattle.recode_places.specs.Logs.{TakesLines};
     ghost use Rattle.recode_places.specs.calls.LogViews.{match_left, whole_log};
 
     /// The log that the reader gives. Its first line is read. The error is `Log`, if a read fails.
     pub fn new(reader: L) -> Result<LogMatch<L>, Stop>
-        ensures { IfOk result (λ log. Reads (whole_log (L.remaining reader))
+        ensures { IfOk result (λ log. TakesLines (whole_log (L.remaining reader))
             (match_left L.remaining log) []) }
     {
         let mut lines = LogLines::new(reader);
@@ -35,7 +35,7 @@ impl<L: Read + Drop> LogMatch<L> {
 impl<L: Read> LogMatch<L> {
     ghost use Rattle.recode_places.specs.Logs.{ended};
     ghost use Rattle.recode_places.specs.calls.LogViews.{NamesCharacter, NamesMalformed};
-    ghost use Rattle.recode_places.specs.calls.LogViews.{NamesSequence, ReadsSome, match_left};
+    ghost use Rattle.recode_places.specs.calls.LogViews.{NamesSequence, TakesSome, match_left};
 
     fn unfit<T>(&self) -> Result<T, Stop>
         ensures { IsErr result }
@@ -62,7 +62,7 @@ impl<L: Read> LogMatch<L> {
     /// The error is `Unfit` if the line names a character that was passed, or another character
     /// with this index, and `Log` if the log can't be read.
     pub fn names_character(&mut self, index: u64, c: char) -> Result<bool, Stop>
-        ensures { IfOk result (λ is_named. ReadsSome (match_left L.remaining self.old)
+        ensures { IfOk result (λ is_named. TakesSome (match_left L.remaining self.old)
             (match_left L.remaining self.new) (NamesCharacter index c is_named)) }
     {
         match self.next {
@@ -86,7 +86,7 @@ impl<L: Read> LogMatch<L> {
 
     // Whether the next line names a malformed sequence at this offset. Its line is read.
     fn names_sequence(&mut self, offset: u64, length: u8) -> Result<bool, Stop>
-        ensures { IfOk result (λ is_named. ReadsSome (match_left L.remaining self.old)
+        ensures { IfOk result (λ is_named. TakesSome (match_left L.remaining self.old)
             (match_left L.remaining self.new) (NamesSequence offset length is_named)) }
     {
         match self.next {
@@ -113,7 +113,7 @@ impl<L: Read> LogMatch<L> {
     /// The error is `Unfit` if the line names something that was passed, and `Log` if the log can't
     /// be read.
     pub fn names_malformed(&mut self, index: u64, offset: u64, length: u8) -> Result<bool, Stop>
-        ensures { IfOk result (λ is_named. ReadsSome (match_left L.remaining self.old)
+        ensures { IfOk result (λ is_named. TakesSome (match_left L.remaining self.old)
             (match_left L.remaining self.new) (NamesMalformed index offset length is_named)) }
     {
         if self.names_sequence(offset, length)? {

@@ -3,12 +3,14 @@
 ghost use Rattle.std.specs.Prelude.{◌≡◌, ℕ, ◌+◌, ◌^◌, ◌<◌, ◌≤◌, List, [], ◌∷◌, ◌++◌, length};
 ghost use Rattle.std.specs.Str.{chars};
 
-/// Where a character stands in a text: how many characters are before it (`index`), its line, and
-/// its column in characters, the two counted from 1. A line ends with U+000A, and with nothing else.
+/// Where a character stands in a text. A line ends with U+000A, and with nothing else.
 #[derive(Clone, Copy, PartialEq, Eq, Debug)]
 pub struct Place {
+    /// How many characters are before it.
     pub index: u64,
+    /// Its line, counted from 1.
     pub line: u64,
+    /// Its column in its line, in characters, counted from 1.
     pub column: u64,
     ghost few_lines: { line ≤ index + 1 },
     ghost few_columns: { column ≤ index + 1 },

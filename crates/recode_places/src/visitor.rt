@@ -14,7 +14,7 @@ pub trait Visitor {
     ghost told: { Self → Option (List Entry) };
 
     /// The next characters of the text.
-    fn text(&mut self, text: &str) -> Result<(), Stop>
+    fn characters(&mut self, text: &str) -> Result<(), Stop>
         ensures { told self.new ≡ told self.old };
 
     /// The bytes of a malformed sequence, which stand for one U+FFFD of the text, and the encoding
@@ -32,7 +32,7 @@ pub trait Visitor {
 impl Visitor for Vec<Entry> {
     ghost told = { λ s. Some s.items };
 
-    fn text(&mut self, _text: &str) -> Result<(), Stop> {
+    fn characters(&mut self, _text: &str) -> Result<(), Stop> {
         Ok(())
     }
 

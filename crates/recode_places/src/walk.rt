@@ -1,6 +1,7 @@
 //! A walk over an input, which tells what is chosen with its place.
 
-ghost use Rattle.std.specs.Prelude.{◌≡◌, ◌^◌, ◌<◌, ◌≤◌, ◌+◌, ◌++◌, ◌∷◌, [], IfOk, IfSome, OnErr, OnOk, ℕ, List};
+ghost use Rattle.std.specs.Prelude.{◌≡◌, ◌^◌, ◌<◌, ◌≤◌, ◌+◌, ◌++◌, ◌∷◌, [], ℕ, List};
+ghost use Rattle.std.specs.Prelude.{IfOk, IfSome, OnErr, OnOk};
 ghost use Rattle.std.specs.Prelude.{false, length};
 ghost use Rattle.std.specs.Str.{chars};
 ghost use Rattle.encoding_mem.specs.Piece.{Piece, malformed, sizes, text};
@@ -8,10 +9,11 @@ ghost use Rattle.encoding_front.specs.Encodings.{IsReady};
 ghost use Rattle.encoding_front.specs.Marks.{marked_pieces};
 ghost use Rattle.encoding_front.specs.calls.DecoderViews.{decoder_view};
 ghost use Rattle.recode_places.specs.Places.{IsPlaceAfter};
-ghost use Rattle.recode_places.specs.Entries.{Tells, TellsIn};
+ghost use Rattle.recode_places.specs.Entries.{TellsTrue, TellsTrueIn};
 ghost use Rattle.recode_places.specs.Logs.{TellsLines, ended};
 ghost use Rattle.recode_places.specs.calls.LogViews.{choice_left};
-ghost use Rattle.recode_places.specs.calls.Walks.{CanWalk, TellsPrefix, WalksChunk, WalksPart, is_end};
+ghost use Rattle.recode_places.specs.calls.Walks.{CanWalk, TellsPrefix, WalksChunk, WalksPart};
+ghost use Rattle.recode_places.specs.calls.Walks.{has_ended};
 ghost use Rattle.recode_places.specs.calls.Walks.{walk_state};
 
 use crate::choice::Choice;
@@ -51,16 +53,16 @@ struct Walk<'t> {
     tail: Tail,
 }
 
-// What a call of the decoder did: whether it read all bytes and told all of their text, and how many
-// bytes it read.
+// What a call of the decoder did: whether it read all bytes and told all of their text, and how
+// many bytes it read.
 #[derive(Clone, Copy)]
 struct Part {
     is_done: bool,
     read: usize,
 }
 
-// The last bytes that the decoder has read. A malformed sequence ends at most 3 bytes before the end
-// of what was read, and has at most 4 bytes: it stands in these.
+// The last bytes that the decoder has read. A malformed sequence ends at most 3 bytes before the
+// end of what was read, and has at most 4 bytes: it stands in these.
 #[derive(Drop)]
 struct Tail {
     bytes: [u8; 8],
@@ -93,7 +95,7 @@ fn tell_character<L: Read, V: Visitor>(
 ) -> Result<(), Stop>
     requires { place.old.index < 2 ^ 63 }
     ensures told { (ps : List Piece) (t : List ℕ) → IsPlaceAfter place.old t
-        → Tells ps (t ++ (c ∷ [])) (V.told visitor.old) (V.told visitor.new) }
+        → TellsTrue ps (t ++ (c ∷ [])) (V.told visitor.old) (V.told visitor.new) }
     ensures place { OnOk result ((t : List ℕ) → IsPlaceAfter place.old t
         → IsPlaceAfter place.new (t ++ (c ∷ []))) }
     ensures index { OnOk result (place.new.index ≡ place.old.index + 1) }
@@ -107,7 +109,7 @@ fn tell_character<L: Read, V: Visitor>(
         })?,
         None => {}
     }
-    visitor.text(c.encode_utf8(&mut [0; 4]))?;
+    visitor.characters(c.encode_utf8(&mut [0; 4]))?;
     place.pass(c);
     Ok(())
 }
@@ -121,7 +123,7 @@ fn tell_text<L: Read, V: Visitor>(
 ) -> Result<(), Stop>
     requires { place.old.index + length text.now ≤ 2 ^ 63 }
     ensures told { (ps : List Piece) (t : List ℕ) → IsPlaceAfter place.old t
-        → Tells ps (t ++ chars text.now) (V.told visitor.old) (V.told visitor.new) }
+        → TellsTrue ps (t ++ chars text.now) (V.told visitor.old) (V.told visitor.new) }
     ensures place { OnOk result ((t : List ℕ) → IsPlaceAfter place.old t
         → IsPlaceAfter place.new (t ++ chars text.now)) }
     ensures index { OnOk result (place.new.index ≡ place.old.index + length (chars text.now)) }
@@ -130,7 +132,7 @@ fn tell_text<L: Read, V: Visitor>(
 {
     if choice.passes_over(place.index, text) {
         place.pass_text(text);
-        return visitor.text(text);
+        return visitor.characters(text);
     }
     for c in text.chars() {
         tell_character(place, c, choice, visitor)?;
@@ -147,7 +149,7 @@ fn tell_malformed<L: Read, V: Visitor>(
     visitor: &mut V,
 ) -> Result<(), Stop>
     ensures told { (ps : List Piece) → IsPlaceAfter place (text ps) → offset ≡ sizes ps
-        → TellsIn (ps ++ (malformed length ∷ [])) (V.told visitor.old) (V.told visitor.new) }
+        → TellsTrueIn (ps ++ (malformed length ∷ [])) (V.told visitor.old) (V.told visitor.new) }
     ensures lines { OnOk result (TellsLines (choice_left L.remaining choice.old)
         (choice_left L.remaining choice.new) (V.told visitor.old) (V.told visitor.new)) }
 {
@@ -220,11 +222,11 @@ impl<'t> Walk<'t> {
         requires ready { CanWalk (walk_state self.old) }
         requires limit { self.old.read + length chunk.now ≤ 2 ^ 48 }
         ensures chunk { OnOk result (WalksChunk (V.told visitor.old) (V.told visitor.new)
-            (walk_state self.old) (walk_state self.new) chunk.now (is_end chunk.now)) }
+            (walk_state self.old) (walk_state self.new) chunk.now (has_ended chunk.now)) }
         ensures lines { OnOk result (TellsLines (choice_left L.remaining choice.old)
             (choice_left L.remaining choice.new) (V.told visitor.old) (V.told visitor.new)) }
         ensures err { OnErr result (TellsPrefix (V.told visitor.old) (V.told visitor.new)
-            (walk_state self.old) chunk.now (is_end chunk.now)) }
+            (walk_state self.old) chunk.now (has_ended chunk.now)) }
     {
         let last = chunk.is_empty();
         let mut buffer = [0; TEXT];
@@ -239,14 +241,15 @@ impl<'t> Walk<'t> {
     }
 }
 
-/// Reads an input to its end, and tells the visitor its text, its malformed bytes, and an entry for
-/// each thing that is chosen, with its place. An entry that is told is true: it names a malformed
-/// sequence, or a character of the text, of the whole input as `source` reads it, and its place.
+/// Reads an input to its end, and tells the visitor its text, its malformed bytes, and an entry
+/// for each thing that is chosen, with its place. An entry that is told is true, also if an error
+/// ends the telling: it names a malformed sequence, or a character of the text, of the whole input
+/// as `source` reads it, and its place. On success, if the choice goes by a log, the log has the
+/// lines of the entries, in their order, and then its end: none was passed over.
 ///
 /// The error is what the choice or the visitor ended with (`Unfit`, `Log`, `Write`, `Memory`),
-/// `Input` if a read fails, or `TooLong` if the input has more than 2^48 bytes; what was told
-/// before it is true. The condition, that the indexes of the encoding are there, is tested by
-/// `Encoding::is_ready`.
+/// `Input` if a read fails, or `TooLong` if the input has more than 2^48 bytes. The condition,
+/// that the indexes of the encoding are there, is tested by `Encoding::is_ready`.
 pub fn tell_places<R: Read, L: Read, V: Visitor>(
     reader: &mut R,
     source: Source<'_>,
@@ -254,7 +257,7 @@ pub fn tell_places<R: Read, L: Read, V: Visitor>(
     visitor: &mut V,
 ) -> Result<(), Stop>
     requires { IsReady source.tables.now source.from }
-    ensures told { IfSome (R.remaining reader.old) (λ x. TellsIn
+    ensures told { IfSome (R.remaining reader.old) (λ x. TellsTrueIn
         (marked_pieces source.entry.tables.now source.entry.mark source.entry.from x)
         (V.told visitor.old) (V.told visitor.new)) }
     ensures lines { OnOk result (TellsLines (choice_left L.remaining choice.old) ended

@@ -2,7 +2,7 @@
 use Rattle.std.specs.Prelude.{◌≡◌, ℕ, Bool, true, false, List, [], ◌∷◌, ◌++◌, Option, Some, None, option_map, drop, take}
 use Rattle.recode_log.specs.Line.{line_bytes}
 use Rattle.recode_log.specs.declared.line.LogLine.TheVariants.{Bad}
-use Rattle.recode_places.specs.Logs.{AreLinesOf, AreLinesOfMalformed, IsLineOfCharacter, IsLogEnd, IsMessage, LogLeft, Reads, bytes, ended, broken, unknown}
+use Rattle.recode_places.specs.Logs.{AreLinesOf, AreLinesOfMalformed, IsLineOfCharacter, IsLogEnd, IsMessage, LogLeft, TakesLines, bytes, ended, broken, unknown}
 use Rattle.recode_places.specs.declared.choice.Choice.{Choice}
 use Rattle.recode_places.specs.declared.entry.Finding.{Finding}
 use Rattle.recode_places.specs.declared.log_lines.LogLines.{LogLines}
@@ -15,15 +15,15 @@ abbrev pub unread : {L : Type 0} → (L → Option (List ℕ)) → LogLines L �
 unread remaining s = option_map (λ x. drop s.at (take s.len s.bytes) ++ x) (remaining s.reader)
 
 -- what is left, with the line that was read and not matched
-abbrev pub left_after : NextLine → Option (List ℕ) → LogLeft
-left_after (Line l) (Some x) = bytes (line_bytes l ++ x)
-left_after (Line l) None = unknown
-left_after End x = ended
-left_after Other x = broken
+abbrev pub log_left_after : NextLine → Option (List ℕ) → LogLeft
+log_left_after (Line l) (Some x) = bytes (line_bytes l ++ x)
+log_left_after (Line l) None = unknown
+log_left_after End x = ended
+log_left_after Other x = broken
 
 -- what is left of a log that is matched
 abbrev pub match_left : {L : Type 0} → (L → Option (List ℕ)) → LogMatch L → LogLeft
-match_left remaining m = left_after m.next (unread remaining m.lines)
+match_left remaining m = log_left_after m.next (unread remaining m.lines)
 
 -- the same, if there is one
 abbrev pub left_of_option : {L : Type 0} → (L → Option (List ℕ)) → Option (LogMatch L) → LogLeft
@@ -59,8 +59,8 @@ IsMeaning bs End = IsMessage bs
 IsMeaning bs Other = Unit {0}
 
 -- what was read of a log has this property
-abbrev pub ReadsSome : (left left' : LogLeft) → (List ℕ → Type 0) → Type 0
-ReadsSome left left' P = (bs : List ℕ) × Reads left left' bs × P bs
+abbrev pub TakesSome : (left left' : LogLeft) → (List ℕ → Type 0) → Type 0
+TakesSome left left' P = (bs : List ℕ) × TakesLines left left' bs × P bs
 
 -- the lines of a character, if it is named: none, if it isn't
 abbrev pub NamesCharacter : (index c : ℕ) → Bool → List ℕ → Type 0

@@ -3,7 +3,7 @@ use Rattle.std.specs.Prelude.{◌≡◌, ℕ, ◌+◌, ◌<◌, ◌≤◌, nat_e
 use Rattle.encoding_mem.specs.Piece.{Piece, sizes, text}
 use Rattle.encoding_mem.specs.calls.Decoding.{DecoderState}
 use Rattle.encoding_front.specs.calls.DecoderViews.{decoder_view}
-use Rattle.recode_places.specs.Entries.{TellsIn}
+use Rattle.recode_places.specs.Entries.{TellsTrueIn}
 use Rattle.recode_places.specs.Places.{IsPlaceAfter}
 use Rattle.recode_places.specs.declared.entry.Entry.{Entry}
 use Rattle.recode_places.specs.declared.place.Place.{Place}
@@ -39,7 +39,7 @@ pub record WalksOn (told told' : Option (List Entry)) (v w : WalkState) (bytes l
   pub read : w.read + length left ≡ v.read + length bytes
   pub within : v.place.index + v.decoder.pending ≤ v.read → w.place.index + w.decoder.pending ≤ w.read
   pub passes : (ps : List Piece) → HasPassed v ps → HasPassed w (ps ++ passed)
-  pub tells : (ps : List Piece) → HasPassed v ps → TellsIn (ps ++ passed) told told'
+  pub tells : (ps : List Piece) → HasPassed v ps → TellsTrueIn (ps ++ passed) told told'
 
 -- one call of the decoder, and what it gives is told
 pub record WalksPart (told told' : Option (List Entry)) (v w : WalkState) (chunk : List ℕ) (last : Bool) (read : ℕ) (is_done : Bool) : Type 0 where
@@ -49,8 +49,8 @@ pub record WalksPart (told told' : Option (List Entry)) (v w : WalkState) (chunk
   pub done : is_done ≡ true → (drop read chunk ≡ []) × (last ≡ false → w.finished ≡ false) × (last ≡ true → w.decoder.pieces [] ≡ [])
 
 -- whether what was read is the end of the input: no bytes
-abbrev pub is_end : List ℕ → Bool
-is_end chunk = nat_eq (length chunk) 0
+abbrev pub has_ended : List ℕ → Bool
+has_ended chunk = nat_eq (length chunk) 0
 
 -- all calls for what was read
 pub record WalksChunk (told told' : Option (List Entry)) (v w : WalkState) (chunk : List ℕ) (last : Bool) : Type 0 where
@@ -62,7 +62,7 @@ pub record WalksChunk (told told' : Option (List Entry)) (v w : WalkState) (chun
 pub record TellsPrefix (told told' : Option (List Entry)) (v : WalkState) (bytes : List ℕ) (last : Bool) : Type 0 where
   pub passed : List Piece
   pub rest : (r : List ℕ) → (last ≡ true → r ≡ []) → (more : List Piece) × (v.decoder.pieces (bytes ++ r) ≡ passed ++ more)
-  pub tells : (ps : List Piece) → HasPassed v ps → TellsIn (ps ++ passed) told told'
+  pub tells : (ps : List Piece) → HasPassed v ps → TellsTrueIn (ps ++ passed) told told'
 
 -- A walk over an input of which these bytes were left, as far as the reader says, and now those are: nothing follows them.
 abbrev pub WalksInput : (told told' : Option (List Entry)) (v w : WalkState) (left left' : Option (List ℕ)) → Type 0
