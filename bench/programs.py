@@ -1,7 +1,7 @@
 #!/usr/bin/env python3
 """Measures `recode` beside iconv and a program over the crate encoding_rs: see docs/PERFORMANCE.md.
 
-    python3 bench/programs.py [--rounds N] [--megabytes N] [--program PATH] [--linear] [--write] [WORD..]
+    python3 bench/programs.py [--rounds N] [--megabytes N] [--program PATH] [--linear|--damaged] [--write] [WORD..]
 
 With words it measures the workloads that have one of them in their names. It wants `recode` built (`make build`);
 for the program over encoding_rs cargo and Debian's package librust-encoding-rs-dev. It makes its inputs, words of
@@ -10,8 +10,9 @@ characters that the indexes map, the same in each run. What counts is the proces
 for a moment is slow for both. A ratio is the median of all rounds, with its quartiles; one whose quartiles are more
 than a tenth apart has a `~`, and is no figure to quote. Each output of `recode` is compared with that of the program
 over encoding_rs. With --linear it measures something else: whether ten times the input takes ten times the
-processor time and no more memory. With --write the table goes into docs/PERFORMANCE.md, and docs/programs.svg
-shows it.
+processor time and no more memory. With --damaged it measures inputs with many faults, beside `iconv -c`, which writes
+no log, to /dev/null and to files. With --write the table goes into docs/PERFORMANCE.md, and docs/programs.svg shows
+that of the workloads.
 """
 
 import argparse
@@ -48,6 +49,14 @@ WORKLOADS = [
     ("UTF-8 to Big5", "traditional", "utf-8", "big5"),
     ("EUC-KR to UTF-8", "korean", "euc-kr", "utf-8"),
     ("UTF-8 to EUC-KR", "korean", "utf-8", "euc-kr"),
+]
+
+# Damaged inputs: name, what stands in an ASCII text, in how many bytes it does once, source, target.
+DAMAGED = [
+    ("a malformed byte in 7, UTF-8 to UTF-8", b"\xff", 7, "utf-8", "utf-8"),
+    ("a malformed byte in 1000, UTF-8 to UTF-8", b"\xff", 1000, "utf-8", "utf-8"),
+    ("a lost character in 7 bytes, UTF-8 to windows-1252", "\u65e5".encode(), 7, "utf-8", "windows-1252"),
+    ("a lost character in 1000 bytes, UTF-8 to windows-1252", "\u65e5".encode(), 1000, "utf-8", "windows-1252"),
 ]
 
 # The sources and targets of the shortest runs.
@@ -103,9 +112,9 @@ def texts():
         yield name, "".join(words)
 
 
-def run(command, source, target):
+def run(command, source, target, log=os.devnull):
     """Runs a command from one file to another: processor time, and the exit status."""
-    with open(source, "rb") as stdin, open(target, "wb") as stdout, open(os.devnull, "wb") as stderr:
+    with open(source, "rb") as stdin, open(target, "wb") as stdout, open(log, "wb") as stderr:
         process = subprocess.Popen(command, stdin=stdin, stdout=stdout, stderr=stderr)
         _, status, usage = os.wait4(process.pid, 0)
         process.returncode = os.waitstatus_to_exitcode(status)
@@ -172,13 +181,13 @@ class Ratio:
         return "%s%.2f (%.2f to %.2f)" % (unsteady, self.median, self.low, self.high)
 
 
-def compared(ours, theirs, path, rounds):
-    """The ratio of two commands on an input, and the median time of each."""
+def compared(ours, theirs, path, rounds, targets=(os.devnull, os.devnull)):
+    """The ratio of two commands on an input, and the median time of each. The targets are of the output and the log."""
     ratios, own, other = [], [], []
-    before = run(theirs, path, os.devnull)[0]
+    before = run(theirs, path, *targets)[0]
     for _ in range(rounds):
-        spent = run(ours, path, os.devnull)[0]
-        after = run(theirs, path, os.devnull)[0]
+        spent = run(ours, path, *targets)[0]
+        after = run(theirs, path, *targets)[0]
         ratios.append((before + after) / 2 / spent)
         own.append(spent)
         other.append(after)
@@ -254,6 +263,32 @@ def growth(program, labels, block, work, rounds):
             all_costs.append(cost)
     cells = ["%.2f" % statistics.median(costs) for costs in spent]
     return cells + [str(Ratio(ratios))] + ["%.1f" % resident_once(ours, path) for path in paths]
+
+
+def damaged(block, fault, distance):
+    """A text with a fault in each so many bytes."""
+    kept = distance - len(fault)
+    return b"".join(block[at : at + kept] + fault for at in range(0, len(block), kept))
+
+
+def measure_damaged(given, work):
+    """The table of inputs with many faults: speeds of ours and of `iconv -c`, to /dev/null and to files."""
+    block = dict(texts())["ascii"].encode()
+    files = [os.path.join(work, name) for name in ("output", "log")]
+    rows = []
+    for title, fault, distance, source, target in DAMAGED:
+        if given.words and not any(word.lower() in title.lower() for word in given.words):
+            continue
+        path = write_input(work, damaged(block, fault, distance), given.megabytes)
+        theirs = ["iconv", "-c", "-f", ICONV.get(source, source), "-t", ICONV.get(target, target)]
+        cells = [title]
+        for targets in ((os.devnull, os.devnull), files):
+            ratio, own, other = compared(recode(given.program, source, target), theirs, path, given.rounds, targets)
+            cells += ["%.1f" % (os.path.getsize(path) / 1e6 / spent) for spent in (own, other)] + [str(ratio)]
+        rows.append(cells)
+        print(" | ".join(cells), flush=True)
+    head = ["Damaged input", "recode to /dev/null", "iconv -c", "ratio", "recode to files", "iconv -c", "ratio"]
+    return table(head, rows)
 
 
 def table(head, rows):
@@ -336,6 +371,7 @@ def main():
     parser.add_argument("--megabytes", type=int, default=8)
     parser.add_argument("--program", default=RECODE)
     parser.add_argument("--linear", action="store_true")
+    parser.add_argument("--damaged", action="store_true")
     parser.add_argument("--write", action="store_true")
     parser.add_argument("words", nargs="*")
     given = parser.parse_args()
@@ -346,6 +382,12 @@ def main():
             print(about)
             if given.write:
                 write(document, "growth", about + "\n\n" + grown)
+            return
+        if given.damaged:
+            about, faults = machine(given), measure_damaged(given, work)
+            print(about)
+            if given.write:
+                write(document, "damaged", about + "\n\n" + faults)
             return
         tools = peers(work)
         head = ["Workload", "recode", *tools, *("to " + name for name in tools), "pivot of UTF-16 to that of UTF-8", "resident, MB"]

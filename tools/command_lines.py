@@ -105,18 +105,18 @@ CONVERSIONS = [
 ]
 
 TRY_HELP = "\n\nFor more information, try '--help'.\n"
-USAGE = "\n\nUsage: recode [OPTIONS] --from <LABEL> --to <LABEL>" + TRY_HELP
+USAGE = "\n\nUsage: recode [OPTIONS] --from <LABEL> --to <LABEL> < INPUT > OUTPUT" + TRY_HELP
 
 # Words that are refused, and the message; nothing is read, so the input doesn't matter.
 REFUSALS = [
     (
         [],
         "error: the following required arguments were not provided:\n  --from <LABEL>\n  --to <LABEL>"
-        + USAGE.replace(" [OPTIONS]", ""),
+        + USAGE,
     ),
     (
         ["--from", "utf-8"],
-        "error: the following required arguments were not provided:\n  --to <LABEL>" + USAGE.replace(" [OPTIONS]", ""),
+        "error: the following required arguments were not provided:\n  --to <LABEL>" + USAGE,
     ),
     (["--from"], "error: a value is required for '--from <LABEL>' but none was supplied" + TRY_HELP),
     (UTF_8 + ["file"], "error: unexpected argument 'file' found" + USAGE),
@@ -208,7 +208,7 @@ def text_faults():
         yield from differences([word], run([word]), (0, b"recode 0.1.0\n", b""))
     for word in ("--help", "-h"):
         status, out, log = run([word])
-        parts = [b"Usage: recode [OPTIONS] --from <LABEL> --to <LABEL>", b"bad OFFSET LENGTH", b"lost INDEX SCALAR"]
+        parts = [b"Usage: recode [OPTIONS] --from <LABEL> --to <LABEL> < INPUT > OUTPUT", b"bad OFFSET LENGTH", b"lost INDEX SCALAR"]
         parts += [b"--indexes", b"--mark", b"--unmappable", b"--pivot", b"--limit", b"--list", b"--version"]
         if (status, log) != (0, b"") or not all(part in out for part in parts):
             yield "recode %s: %d %r %r" % (word, status, out, log)

@@ -6,6 +6,7 @@
 #![tactic(auto)]
 
 mod conversions;
+mod places;
 mod stream_faults;
 mod streams;
 mod texts;
@@ -51,6 +52,7 @@ fn main(rt: HostRuntime) -> anyhow::Result<()> {
     print(rt, "encoding_index", texts::loads_a_text(alloc)?)?;
     print(rt, "encoding_front", streams::converts_streams(alloc)?)?;
     print(rt, "recode_log", streams::writes_a_line(alloc)?)?;
+    print(rt, "recode_places", places::tells_a_place(alloc)?)?;
     print(rt, "recode_words", streams::reads_words(alloc)?)?;
     print(rt, "recode", conversions::converts_a_stream(alloc)?)?;
     print(rt, "recode_system", conversions::answers_words(rt)? <= 4)?;

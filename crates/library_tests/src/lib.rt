@@ -1,6 +1,7 @@
 //! Calls of the libraries that are no lines of the programs of cases, worked by hand: labels
-//! (`encoding_labels`), encodings and one-shot calls (`encoding_front`), counted devices and the
-//! program (`recode_log`, `recode`). There are tests alone here.
+//! (`encoding_labels`), encodings and one-shot calls (`encoding_front`), counted devices, places of
+//! what a log names and the program (`recode_log`, `recode_places`, `recode`). There are tests
+//! alone here.
 #![tactic(auto)]
 
 #[cfg(test)]
@@ -18,6 +19,8 @@ mod encoding;
 mod labels;
 #[cfg(test)]
 mod one_shot;
+#[cfg(test)]
+mod places;
 #[cfg(test)]
 mod programs;
 #[cfg(test)]

@@ -14,6 +14,9 @@ pub const VERSION: &str = "0.1.0";
 const ABOUT: &str =
     "Converts standard input to another encoding on standard output, and logs what is lost";
 
+// Input and output are the standard streams, which clap's own line does not say.
+const USAGE: &str = "recode [OPTIONS] --from <LABEL> --to <LABEL> < INPUT > OUTPUT";
+
 const AFTER_HELP: &str =
     "Labels: LABEL is any of the Encoding Standard's, in upper or lower case, as utf-8, shift_jis or
 windows-1252. UTF-16 and replacement are written as UTF-8.
@@ -123,6 +126,7 @@ fn named_command<'a>(alloc: Global) -> Command<'a>
     Command::new(alloc, "recode")
         .version(VERSION)
         .about(ABOUT)
+        .override_usage(USAGE)
         .after_help(AFTER_HELP)
 }
 

@@ -1,0 +1,117 @@
+use Rattle.std.proofs.Common.{◌∙◌, arith, refl, sym, length, ap}
+use Rattle.encoding_front.specs.calls.DecoderViews.{decoder_view}
+use Rattle.encoding_front.specs.calls.Stream.{is_input_empty}
+use Rattle.recode_places.specs.calls.Walks.{walk_state}
+use Rattle.std.proofs.lemmas.Bool.{false≢true}
+use Rattle.std.proofs.lemmas.List.{length-take}
+use Rattle.recode_places.proofs.CallLemmas.{call_chars, call_is_utf8, few_chars, on_err, reported}
+use Rattle.recode_places.proofs.ReadsLemmas.{lines_then}
+use Rattle.recode_places.proofs.WalkLemmas.{end_none, fewer_left, finishes_last, finishes_not, some_malformed, some_written, malformed_stops, malformed_within, text_stops, walks_malformed, walks_text}
+use Rattle.recode_places.proofs.walk.Walk.part.Goals as goal
+
+pub from_utf8_unchecked-text-requires : goal.from_utf8_unchecked-text-requires
+from_utf8_unchecked-text-requires g c =
+    let call = c.decode_to_utf8_without_replacement-outcome in
+    call_is_utf8 (decoder_view c.args.self.now.decoder).state (decoder_view call.new.self).state _ _ _ _ _ _ _ call.ensures.call.law
+
+pub returns-in_err-tell_text-clause-err : goal.returns-in_err-tell_text-clause-err
+returns-in_err-tell_text-clause-err g c =
+    let call = c.decode_to_utf8_without_replacement-outcome in
+    on_err _ _ (text_stops _ _ (walk_state c.args.self.now) c.args.self.now.place (decoder_view call.new.self).state _ _ _ _ _ call.ensures.call.law _
+    (call_chars (decoder_view c.args.self.now.decoder).state (decoder_view call.new.self).state _ _ _ _ _ _ _ call.ensures.call.law _ c.from_utf8_unchecked-text.ensures)
+    c.in_err-tell_text.ensures.told)
+
+pub overflow_sub-offset-in-Malformed : goal.overflow_sub-offset-in-Malformed
+overflow_sub-offset-in-Malformed g c =
+    let call = c.decode_to_utf8_without_replacement-outcome in
+    omega (arith, c.from.ensures, c.from-in-Malformed.ensures, malformed_within (decoder_view c.args.self.now.decoder).state (decoder_view call.new.self).state _ _ _ _ _ _ _ c.args.self.now.place.index c.args.self.now.read c.in-Malformed.is call.ensures.call.law c.requires.ready.within)
+
+pub returns-in_err-tell_malformed-in-Malformed-clause-err : goal.returns-in_err-tell_malformed-in-Malformed-clause-err
+returns-in_err-tell_malformed-in-Malformed-clause-err g c =
+    let call = c.decode_to_utf8_without_replacement-outcome in
+    let told = c.in_ok-tell_text.ensures in
+    on_err _ _ (malformed_stops _ _ _ (walk_state c.args.self.now) _ (decoder_view call.new.self).state _ _ _ _ _ _ _ c.in-Malformed.is call.ensures.call.law _
+    (call_chars (decoder_view c.args.self.now.decoder).state (decoder_view call.new.self).state _ _ _ _ _ _ _ call.ensures.call.law _ c.from_utf8_unchecked-text.ensures)
+    told.told told.place told.index _
+    (omega (arith, c.from.ensures, c.from-in-Malformed.ensures, malformed_within (decoder_view c.args.self.now.decoder).state (decoder_view call.new.self).state _ _ _ _ _ _ _ c.args.self.now.place.index c.args.self.now.read c.in-Malformed.is call.ensures.call.law c.requires.ready.within))
+    c.in_err-tell_malformed-in-Malformed.ensures.told)
+
+pub returns-in_err-malformed-in-Malformed-clause-err : goal.returns-in_err-malformed-in-Malformed-clause-err
+returns-in_err-malformed-in-Malformed-clause-err g c =
+    let call = c.decode_to_utf8_without_replacement-outcome in
+    let told = c.in_ok-tell_text.ensures in
+    on_err _ _ (malformed_stops _ _ _ (walk_state c.args.self.now) _ (decoder_view call.new.self).state _ _ _ _ _ _ _ c.in-Malformed.is call.ensures.call.law _
+    (call_chars (decoder_view c.args.self.now.decoder).state (decoder_view call.new.self).state _ _ _ _ _ _ _ call.ensures.call.law _ c.from_utf8_unchecked-text.ensures)
+    told.told told.place told.index _
+    (omega (arith, c.from.ensures, c.from-in-Malformed.ensures, malformed_within (decoder_view c.args.self.now.decoder).state (decoder_view call.new.self).state _ _ _ _ _ _ _ c.args.self.now.place.index c.args.self.now.read c.in-Malformed.is call.ensures.call.law c.requires.ready.within))
+    (λ qs h k. rw c.in_err-malformed-in-Malformed.ensures (c.in_ok-tell_malformed-in-Malformed.ensures.told qs h k)))
+
+pub pass-requires : goal.pass-requires
+pass-requires g c =
+    let call = c.decode_to_utf8_without_replacement-outcome in
+    omega (
+      arith,
+      c.in_ok-tell_text.ensures.index,
+      few_chars c.from_utf8_unchecked-text.result.now c.from_utf8_unchecked-text.utf8,
+      ap length c.from_utf8_unchecked-text.ensures,
+      length-take call.result.2 call.new.dst,
+      call.ensures.call.law.writes.within,
+      c.requires.ready.within,
+      c.requires.limit,
+    )
+
+pub returns-in-InputEmpty-clause-part : goal.returns-in-InputEmpty-clause-part
+returns-in-InputEmpty-clause-part g c =
+    let call = c.decode_to_utf8_without_replacement-outcome in
+    let told = c.in_ok-tell_text.ensures in
+    let ends = rw c.in-InputEmpty.is at call.ensures.call.ends in
+    record {
+      within = call.ensures.call.law.within;
+      walks = walks_text _ _ (walk_state c.args.self.now) _ (decoder_view call.new.self).state _ _ _ _ _ call.ensures.call.law _
+          (call_chars (decoder_view c.args.self.now.decoder).state (decoder_view call.new.self).state _ _ _ _ _ _ _ call.ensures.call.law _ c.from_utf8_unchecked-text.ensures)
+          told.told told.place told.index _ refl refl refl (ap reported c.in-InputEmpty.is);
+      more = λ h. absurd (false≢true (sym h));
+      done = λ h. (ends.0, (λ l. call.ensures.call.finished ∙ finishes_last _ _ l), λ l. end_none (decoder_view call.new.self).state _ l ends.1);
+    }
+
+pub returns-in-OutputFull-clause-part : goal.returns-in-OutputFull-clause-part
+returns-in-OutputFull-clause-part g c =
+    let call = c.decode_to_utf8_without_replacement-outcome in
+    let told = c.in_ok-tell_text.ensures in
+    let ends = rw c.in-OutputFull.is at call.ensures.call.ends in
+    record {
+      within = call.ensures.call.law.within;
+      walks = walks_text _ _ (walk_state c.args.self.now) _ (decoder_view call.new.self).state _ _ _ _ _ call.ensures.call.law _
+          (call_chars (decoder_view c.args.self.now.decoder).state (decoder_view call.new.self).state _ _ _ _ _ _ _ call.ensures.call.law _ c.from_utf8_unchecked-text.ensures)
+          told.told told.place told.index _ refl refl refl (ap reported c.in-OutputFull.is);
+      more = λ h. (
+        call.ensures.call.finished ∙ finishes_not _ _ (ap is_input_empty c.in-OutputFull.is),
+        fewer_left (decoder_view c.args.self.now.decoder).state (decoder_view call.new.self).state _ _ _ _ call.ensures.call.law.rest
+            (some_written _ _ _ _ call.ensures.call.law.writes ends.0 (omega (arith, call.auto.dst))),
+      );
+      done = λ h. absurd (false≢true h);
+    }
+
+pub returns-in_ok-malformed-in-Malformed-clause-part : goal.returns-in_ok-malformed-in-Malformed-clause-part
+returns-in_ok-malformed-in-Malformed-clause-part g c =
+    let call = c.decode_to_utf8_without_replacement-outcome in
+    let told = c.in_ok-tell_text.ensures in
+    record {
+      within = call.ensures.call.law.within;
+      walks = walks_malformed _ _ _ (walk_state c.args.self.now) _ (decoder_view call.new.self).state _ _ _ _ _ _ _ c.in-Malformed.is call.ensures.call.law _
+          (call_chars (decoder_view c.args.self.now.decoder).state (decoder_view call.new.self).state _ _ _ _ _ _ _ call.ensures.call.law _ c.from_utf8_unchecked-text.ensures)
+          told.told told.place told.index _
+          (omega (arith, c.from.ensures, c.from-in-Malformed.ensures, malformed_within (decoder_view c.args.self.now.decoder).state (decoder_view call.new.self).state _ _ _ _ _ _ _ c.args.self.now.place.index c.args.self.now.read c.in-Malformed.is call.ensures.call.law c.requires.ready.within))
+          (λ qs h k. rw c.in_ok-malformed-in-Malformed.ensures (c.in_ok-tell_malformed-in-Malformed.ensures.told qs h k))
+          _ refl refl c.pass.ensures.place c.pass.ensures.index;
+      more = λ h. (
+        call.ensures.call.finished ∙ finishes_not _ _ (ap is_input_empty c.in-Malformed.is),
+        fewer_left (decoder_view c.args.self.now.decoder).state (decoder_view call.new.self).state _ _ _ _ call.ensures.call.law.rest
+            (some_malformed _ _ _ _ _ c.in-Malformed.is call.ensures.call.law.well_formed),
+      );
+      done = λ h. absurd (false≢true h);
+    }
+
+pub returns-in_ok-malformed-in-Malformed-clause-lines : goal.returns-in_ok-malformed-in-Malformed-clause-lines
+returns-in_ok-malformed-in-Malformed-clause-lines g c =
+    rw c.in_ok-malformed-in-Malformed.ensures (lines_then _ _ _ _ _ _ c.in_ok-tell_text.ensures.lines c.in_ok-tell_malformed-in-Malformed.ensures.lines)

@@ -1,0 +1,22 @@
+use Rattle.std.proofs.Common.{ap, ◌∙◌, subst, sym}
+use Rattle.recode_places.specs.Logs.{TakesLines, TellsLines}
+use Rattle.recode_places.specs.calls.LogViews.{NamesFound, TakesSome, choice_left}
+use Rattle.recode_places.proofs.ReadsLemmas.{lines_none, lines_one}
+use Rattle.recode_places.proofs.walk.tell_character.Goals as goal
+use Rattle.recode_places.proofs.walk.tell_character.Goals.{in-Some+in_ok-entry-in-Some, in-None}
+
+pub returns-clause-lines : goal.returns-clause-lines
+returns-clause-lines g c =
+    let left = choice_left g.L.Read.remaining c.args.choice.now in
+    let left' = choice_left g.L.Read.remaining c.character.new.self in
+    let named = c.in_ok-finding.ensures.named in
+    elim c.match-branch-2.branch [
+      | in-Some+in_ok-entry-in-Some w ↦
+          let some = subst (λ f. TakesSome left left' (NamesFound c.args.place.now.index f)) w.in-Some.is named in
+          subst (λ t. TellsLines left left' (g.V.Visitor.told c.args.visitor.now) t) (sym (c.characters.ensures ∙ ap g.V.Visitor.told w.visitor-is))
+          (lines_one left left' _ _ _ some.0 some.1 some.2 w.in_ok-entry-in-Some.ensures.ok)
+      | in-None w ↦
+          let none = subst (λ f. TakesSome left left' (NamesFound c.args.place.now.index f)) w.in-None.is named in
+          subst (λ t. TellsLines left left' (g.V.Visitor.told c.args.visitor.now) t) (sym (c.characters.ensures ∙ ap g.V.Visitor.told w.visitor-is))
+          (lines_none left left' _ (subst (λ bs. TakesLines left left' bs) none.2 none.1))
+    ]

@@ -1,0 +1,46 @@
+use Rattle.std.proofs.Common.{◌∙◌, arith, length, take}
+use Rattle.std.proofs.lemmas.Bool.{eqb-true, ne_eqb}
+use Rattle.std.proofs.lemmas.List.{length-take}
+use Rattle.recode_places.proofs.ReadsLemmas.{finished_lines, lines_none, lines_then, reads_nothing}
+use Rattle.recode_places.proofs.WalkLemmas.{stops_known, tells_known, walks_from, walks_new}
+use Rattle.recode_places.proofs.walk.tell_places.Goals as goal
+
+pub input-init : goal.input-init
+input-init g c = record { walks = walks_new _ _ _; lines = lines_none _ _ _ (reads_nothing _); ready = record { open_ = c.new.ensures.begins.open_; within = omega (arith, c.new.ensures.begins.pending, c.first.ensures.index) }; few = omega arith }
+
+pub returns-in_default-clause-told : goal.returns-in_default-clause-told
+returns-in_default-clause-told g c = tells_known _ _ _ _ (record { place = c.first.ensures; read = omega (arith, c.new.ensures.begins.pending) }) c.new.ensures.begins.pieces _ _ _ c.input.invariant.walks
+
+pub returns-then-count-walk-clause-told : goal.returns-then-count-walk-clause-told
+returns-then-count-walk-clause-told g c = tells_known _ _ _ _ (record { place = c.first.ensures; read = omega (arith, c.new.ensures.begins.pending) }) c.new.ensures.begins.pieces _ _ _ c.input.invariant.walks
+
+pub overflow_sub-walk : goal.overflow_sub-walk
+overflow_sub-walk g c = omega (arith, c.input.invariant.few)
+
+pub chunk-requires-clause-limit : goal.chunk-requires-clause-limit
+chunk-requires-clause-limit g c = omega (arith, c.input.invariant.few, c.if-count-walk.false, length-take c.in-Ok.count c.read.new.buf)
+
+pub returns-in_err-chunk-clause-told : goal.returns-in_err-chunk-clause-told
+returns-in_err-chunk-clause-told g c =
+    stops_known _ _ _ _ (record { place = c.first.ensures; read = omega (arith, c.new.ensures.begins.pending) }) c.new.ensures.begins.pieces _ _ _ _ _ _ _ c.input.invariant.walks
+    c.in-Ok.ensures.bytes.0 (λ h. c.in-Ok.ensures.bytes.1 (c.in-Ok.ensures.bound.1 ∙ eqb-true _ 0 h) (omega (arith, c.read.auto.buf))) c.in_err-chunk.ensures.err
+
+pub returns-then-count-eq0-clause-told : goal.returns-then-count-eq0-clause-told
+returns-then-count-eq0-clause-told g c =
+    tells_known _ _ _ _ (record { place = c.first.ensures; read = omega (arith, c.new.ensures.begins.pending) }) c.new.ensures.begins.pieces _ _ _
+    (walks_from _ _ _ _ _ _ _ _ _ _ _ c.input.invariant.walks
+    c.in-Ok.ensures.bytes.0 (λ h. c.in-Ok.ensures.bytes.1 (c.in-Ok.ensures.bound.1 ∙ eqb-true _ 0 h) (omega (arith, c.read.auto.buf))) c.in_ok-chunk.ensures.chunk.walks)
+
+pub returns-then-count-eq0-clause-lines : goal.returns-then-count-eq0-clause-lines
+returns-then-count-eq0-clause-lines g c = finished_lines _ _ _ _ _ (lines_then _ _ _ _ _ _ c.input.invariant.lines c.in_ok-chunk.ensures.lines) c.finish.ensures
+
+pub input-preserved : goal.input-preserved
+input-preserved g c =
+    let chunk = c.in_ok-chunk.ensures.chunk in
+    record {
+      walks = walks_from _ _ _ _ _ _ _ _ _ _ _ c.input.invariant.walks
+          c.in-Ok.ensures.bytes.0 (λ h. c.in-Ok.ensures.bytes.1 (c.in-Ok.ensures.bound.1 ∙ eqb-true _ 0 h) (omega (arith, c.read.auto.buf))) chunk.walks;
+      lines = lines_then _ _ _ _ _ _ c.input.invariant.lines c.in_ok-chunk.ensures.lines;
+      ready = record { open_ = chunk.more (ne_eqb (length (take c.in-Ok.count c.read.new.buf)) 0 (omega (arith, c.in-Ok.ensures.bound.1, c.if-count-eq0.false))); within = chunk.walks.within c.input.invariant.ready.within };
+      few = omega (arith, chunk.walks.read, c.if-count-walk.false, c.in-Ok.ensures.bound.1, c.input.invariant.few);
+    }

@@ -1,0 +1,16 @@
+use Rattle.std.proofs.Common.{◌-◌, ◌^◌, ◌≤◌}
+use Rattle.recode_places.specs.Logs.{TellsLines}
+use Rattle.recode_places.specs.calls.LogViews.{choice_left}
+use Rattle.recode_places.specs.calls.Walks.{CanWalk, WalksInput, walk_state}
+use Rattle.recode_places.proofs.walk.tell_places.Given as goal
+
+abbrev pub invariant-input : goal.invariant-input
+invariant-input g l = record {
+  walks : WalksInput (g.V.Visitor.told l.initial.visitor) (g.V.Visitor.told l.visitor) (walk_state l.initial.walk) (walk_state l.walk) (g.R.Read.remaining l.initial.reader) (g.R.Read.remaining l.reader);
+  lines : TellsLines (choice_left g.L.Read.remaining l.initial.choice) (choice_left g.L.Read.remaining l.choice) (g.V.Visitor.told l.initial.visitor) (g.V.Visitor.told l.visitor);
+  ready : CanWalk (walk_state l.walk);
+  few : l.walk.read ≤ 2 ^ 48;
+}
+
+abbrev pub decreases-input : goal.decreases-input
+decreases-input g l = 2 ^ 48 - l.walk.read

@@ -1,0 +1,48 @@
+use Rattle.std.proofs.Common.{◌≡◌, ◌∙◌, ◌+◌, ◌++◌, ◌∷◌, [], ap, arith, chars, length, map-id, sym}
+use Rattle.std.proofs.lemmas.Iterator.{YieldsList-from_chars}
+use Rattle.std.proofs.lemmas.Iterator.Consumers.{YieldsList-end, YieldsList-so_far, YieldsList-turn}
+use Rattle.std.proofs.lemmas.List.{append_assoc, length-append}
+use Rattle.recode_places.proofs.EntryLemmas.{tells_on, tells_prefix}
+use Rattle.recode_places.proofs.ReadsLemmas.{lines_then}
+use Rattle.recode_places.proofs.TextLemmas.{passed_prefix}
+use Rattle.recode_places.proofs.walk.tell_text.Goals as goal
+
+pub loop-c-preserved : goal.loop-c-preserved
+loop-c-preserved g c =
+    let i = c.loop-c.invariant in
+    let e = c.in_ok-tell_character.ensures in
+    record {
+      index = omega (arith, i.index, e.index, length-append c.loop-c.yielded (c.in-Some.c ∷ []));
+      place = λ t p. rw (← append_assoc t c.loop-c.yielded (c.in-Some.c ∷ [])) (e.place (t ++ c.loop-c.yielded) (i.place t p));
+      lines = lines_then _ _ _ _ _ _ i.lines e.lines;
+      told = λ ps t p. tells_on ps t c.loop-c.yielded (c.in-Some.c ∷ []) _ _ _ (i.told ps t p) (e.told ps (t ++ c.loop-c.yielded) (i.place t p));
+    }
+
+pub returns-in_err-tell_character-clause-told : goal.returns-in_err-tell_character-clause-told
+returns-in_err-tell_character-clause-told g c =
+    let i = c.loop-c.invariant in
+    let e = c.in_err-tell_character.ensures in
+    let listed = YieldsList-from_chars c.args.text.now c.utf8.text cc in
+    let passed = passed_prefix (chars c.args.text.now) c.loop-c.yielded c.in-Some.c
+    (YieldsList-so_far listed c.loop-c.yielded _ c.loop-c.yielded_by)
+    (YieldsList-turn listed c.loop-c.yielded _ c.loop-c.yielded_by _ _ c.in-Some.c c.in-Some.is c.next.ensures.steps) in
+    λ ps t p. tells_prefix ps t (c.loop-c.yielded ++ (c.in-Some.c ∷ [])) passed.0 (chars c.args.text.now) _ _ passed.1
+    (tells_on ps t c.loop-c.yielded (c.in-Some.c ∷ []) _ _ _ (i.told ps t p) (e.told ps (t ++ c.loop-c.yielded) (i.place t p)))
+
+pub returns-clause-told : goal.returns-clause-told
+returns-clause-told g c =
+    let done = YieldsList-end (YieldsList-from_chars c.args.text.now c.utf8.text cc) c.loop-c.yielded _ c.loop-c.yielded_by _ _ c.in-None.is c.next.ensures.steps in
+    let all : c.loop-c.yielded ≡ chars c.args.text.now = sym (map-id c.loop-c.yielded) ∙ done.0 in
+    λ ps t p. rw (← all) (c.loop-c.invariant.told ps t p)
+
+pub returns-clause-place : goal.returns-clause-place
+returns-clause-place g c =
+    let done = YieldsList-end (YieldsList-from_chars c.args.text.now c.utf8.text cc) c.loop-c.yielded _ c.loop-c.yielded_by _ _ c.in-None.is c.next.ensures.steps in
+    let all : c.loop-c.yielded ≡ chars c.args.text.now = sym (map-id c.loop-c.yielded) ∙ done.0 in
+    λ t p. rw (← all) (c.loop-c.invariant.place t p)
+
+pub returns-clause-index : goal.returns-clause-index
+returns-clause-index g c =
+    let done = YieldsList-end (YieldsList-from_chars c.args.text.now c.utf8.text cc) c.loop-c.yielded _ c.loop-c.yielded_by _ _ c.in-None.is c.next.ensures.steps in
+    let all : c.loop-c.yielded ≡ chars c.args.text.now = sym (map-id c.loop-c.yielded) ∙ done.0 in
+    c.loop-c.invariant.index ∙ ap (λ cs. c.args.place.now.index + length cs) all

@@ -1,0 +1,15 @@
+use Rattle.std.proofs.Common.{◌≡◌, ◌+◌, ◌++◌, List, ℕ, length}
+use Rattle.encoding_mem.specs.Piece.{Piece}
+use Rattle.recode_places.specs.Entries.{TellsTrue}
+use Rattle.recode_places.specs.Places.{IsPlaceAfter}
+use Rattle.recode_places.specs.Logs.{TellsLines}
+use Rattle.recode_places.specs.calls.LogViews.{choice_left}
+use Rattle.recode_places.proofs.walk.tell_text.Given as goal
+
+abbrev pub invariant-loop-c : goal.invariant-loop-c
+invariant-loop-c g l = record {
+  index : l.place.index ≡ l.initial.place.index + length l.yielded;
+  place : (t : List ℕ) → IsPlaceAfter l.initial.place t → IsPlaceAfter l.place (t ++ l.yielded);
+  lines : TellsLines (choice_left g.L.Read.remaining l.initial.choice) (choice_left g.L.Read.remaining l.choice) (g.V.Visitor.told l.initial.visitor) (g.V.Visitor.told l.visitor);
+  told : (ps : List Piece) (t : List ℕ) → IsPlaceAfter l.initial.place t → TellsTrue ps (t ++ l.yielded) (g.V.Visitor.told l.initial.visitor) (g.V.Visitor.told l.visitor);
+}

@@ -1,0 +1,5 @@
+pub mod Places
+pub mod Entries
+pub mod Logs
+pub mod calls
+pub mod examples

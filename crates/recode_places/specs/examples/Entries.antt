@@ -1,0 +1,48 @@
+-- Worked rows of `specs/Entries.antt` and `specs/Logs.antt`.
+use Rattle.std.specs.Prelude.{[], ◌∷◌, refl, codes}
+use Rattle.std.specs.Fmt.{digits}
+use Rattle.std.proofs.Common.{arith, inl, inr}
+use Rattle.encoding_mem.specs.Piece.{malformed, well_formed}
+use Rattle.recode_places.specs.Entries.{IsCharacterAt, IsMalformedAt}
+use Rattle.recode_places.specs.Logs.{AreLinesOfMalformed, IsLineOfCharacter, IsLogEnd}
+use Rattle.recode_places.specs.declared.place.Place.{Place}
+
+-- after `a`, a line feed and `b`
+abbrev place : Place
+place = record { index = 3; line = 2; column = 2; few_lines = omega arith; few_columns = omega arith }
+
+-- a byte that is malformed there, at offset 3
+of_malformed : IsMalformedAt (well_formed 1 (0x61 ∷ []) ∷ well_formed 1 (10 ∷ []) ∷ well_formed 1 (0x62 ∷ []) ∷ malformed 1 ∷ []) place 3 1
+of_malformed = (well_formed 1 (0x61 ∷ []) ∷ well_formed 1 (10 ∷ []) ∷ well_formed 1 (0x62 ∷ []) ∷ [], [], refl, refl, record { index = refl; line = refl; column = refl })
+
+-- U+65E5 there
+of_character : IsCharacterAt (0x61 ∷ 10 ∷ 0x62 ∷ 0x65E5 ∷ 0x63 ∷ []) place 0x65E5
+of_character = (0x61 ∷ 10 ∷ 0x62 ∷ [], 0x63 ∷ [], refl, record { index = refl; line = refl; column = refl })
+
+-- its line, and that of a control that ISO-2022-JP refuses
+of_line : IsLineOfCharacter 3 0x65E5 (codes "lost 3 26085\n")
+unfolding digits
+of_line = (0x65E5, inl refl, refl)
+
+of_control : IsLineOfCharacter 3 0x1B (codes "lost 3 65533\n")
+unfolding digits
+of_control = (0xFFFD, inr (refl, inr (inr refl)), refl)
+
+-- the two lines of a malformed sequence, of which the log has one or both
+of_both : AreLinesOfMalformed 3 3 1 (codes "bad 3 1\nlost 3 65533\n")
+unfolding digits
+of_both = inr (inr refl)
+
+of_bad : AreLinesOfMalformed 3 3 1 (codes "bad 3 1\n")
+unfolding digits
+of_bad = inl refl
+
+-- how a log ends
+of_end : IsLogEnd []
+of_end = inl refl
+
+of_cut : IsLogEnd (codes "lost 3")
+of_cut = inl refl
+
+of_message : IsLogEnd (codes "recode: write fault\n")
+of_message = inr (codes "write fault\n", refl)

@@ -1,0 +1,135 @@
+//! Which characters and malformed sequences are told.
+
+ghost use Rattle.std.specs.Prelude.{◌≡◌, IfOk, IfSome, OnOk, []};
+ghost use Rattle.recode_places.specs.Entries.{IsOfCharacter};
+ghost use Rattle.recode_places.specs.Logs.{TakesLines, ended, unknown};
+ghost use Rattle.recode_places.specs.declared.entry.Finding.TheVariants.{Folded};
+ghost use Rattle.recode_places.specs.calls.LogViews.{NamesFound, NamesMalformed, TakesSome};
+ghost use Rattle.recode_places.specs.calls.LogViews.{choice_left, match_left};
+
+use crate::entry::{Finding, Stop};
+use crate::fates::{Fate, Fates};
+use crate::log_match::LogMatch;
+use std::io::Read;
+
+/// Which characters and malformed sequences of an input are told: those that a log names, or, if no
+/// log is read, each malformed sequence and each character that a target encoding has no bytes
+/// for. If folds are asked for, so is each character that the target writes as another.
+#[derive(Drop)]
+pub struct Choice<'t, L> {
+    log: Option<LogMatch<L>>,
+    fates: Option<Fates<'t>>,
+    folds: bool,
+}
+
+impl<'t, L: Read> Choice<'t, L> {
+    /// What the log names.
+    pub fn of_log(log: LogMatch<L>) -> Choice<'t, L>
+        ensures { choice_left L.remaining result ≡ match_left L.remaining log }
+    {
+        Choice {
+            log: Some(log),
+            fates: None,
+            folds: false,
+        }
+    }
+
+    /// What the log names, and each character that the target writes as another.
+    pub fn of_log_with_folds(log: LogMatch<L>, fates: Fates<'t>) -> Choice<'t, L>
+        ensures { choice_left L.remaining result ≡ match_left L.remaining log }
+    {
+        Choice {
+            log: Some(log),
+            fates: Some(fates),
+            folds: true,
+        }
+    }
+
+    /// What a run would log, and, with `folds`, each character that the target writes as another.
+    pub fn of_target(fates: Fates<'t>, folds: bool) -> Choice<'t, L>
+        ensures { choice_left L.remaining result ≡ unknown }
+    {
+        Choice {
+            log: None,
+            fates: Some(fates),
+            folds,
+        }
+    }
+
+    /// Whether nothing is told of the characters of a text, the first of which has this index.
+    pub fn passes_over(&self, index: u64, text: &str) -> bool {
+        let by_log = match &self.log {
+            Some(log) => log.passes_over(index, text.len()),
+            None => true,
+        };
+        let by_target = match &self.fates {
+            Some(fates) => fates.keeps(text),
+            None => true,
+        };
+        by_log && by_target
+    }
+
+    /// What is told of this character, which has this index, if anything is. The error is that of
+    /// the log.
+    pub fn character(&mut self, index: u64, c: char) -> Result<Option<Finding>, Stop>
+        ensures of { IfOk result (λ found. IfSome found (IsOfCharacter c)) }
+        ensures named { IfOk result (λ found. TakesSome (choice_left L.remaining self.old)
+            (choice_left L.remaining self.new) (NamesFound index found)) }
+    {
+        match &mut self.log {
+            Some(log) => {
+                if log.names_character(index, c)? {
+                    return Ok(Some(Finding::Lost { scalar: c }));
+                }
+                match self.fate(c) {
+                    Fate::Folded(becomes) => Ok(self.fold(c, becomes)),
+                    Fate::Kept | Fate::Lost => Ok(None),
+                }
+            }
+            None => match self.fate(c) {
+                Fate::Lost => Ok(Some(Finding::Lost { scalar: c })),
+                Fate::Folded(becomes) => Ok(self.fold(c, becomes)),
+                Fate::Kept => Ok(None),
+            },
+        }
+    }
+
+    // What becomes of a character in the target. If that isn't asked, it is taken to be kept.
+    fn fate(&mut self, c: char) -> Fate
+        ensures { self.new.log ≡ self.old.log }
+    {
+        match &mut self.fates {
+            Some(fates) => fates.of(c),
+            None => Fate::Kept,
+        }
+    }
+
+    // A character that is folded, if folds are asked for.
+    fn fold(&self, c: char, becomes: Option<char>) -> Option<Finding>
+        ensures { IfSome result (λ found. found ≡ Folded c becomes) }
+    {
+        self.folds.then_some(Finding::Folded { scalar: c, becomes })
+    }
+
+    /// Whether this malformed sequence is told, for which the U+FFFD with this index stands. The
+    /// error is that of the log.
+    pub fn malformed(&mut self, index: u64, offset: u64, length: u8) -> Result<bool, Stop>
+        ensures { IfOk result (λ is_told. TakesSome (choice_left L.remaining self.old)
+            (choice_left L.remaining self.new) (NamesMalformed index offset length is_told)) }
+    {
+        match &mut self.log {
+            Some(log) => log.names_malformed(index, offset, length),
+            None => Ok(true),
+        }
+    }
+
+    /// Tells that the input is at its end: the error is `Unfit` if the log has one more line.
+    pub fn finish(&self) -> Result<(), Stop>
+        ensures { OnOk result (TakesLines (choice_left L.remaining self.now) ended []) }
+    {
+        match &self.log {
+            Some(log) => log.finish(),
+            None => Ok(()),
+        }
+    }
+}

@@ -1,0 +1,144 @@
+//! What the lines of a log name, matched by number.
+
+ghost use Rattle.std.specs.Prelude.{◌≡◌, ◌↔◌, IfOk, IsTrue, IsErr, OnOk, []};
+ghost use Rattle.recode_places.specs.Logs.{IsLoggedAs};
+
+use crate::entry::Stop;
+use crate::log_lines::{LogLines, NextLine};
+use recode_log::LogLine;
+use std::io::Read;
+
+/// A log whose lines are matched with an input, a line to the malformed sequence with its offset
+/// and length, or to the character with its index and number. The log may be a part of the one
+/// that `recode` wrote, such as what `grep` or `head` leaves of it, if the lines are in order.
+#[derive(Drop)]
+pub struct LogMatch<L> {
+    lines: LogLines<L>,
+    next: NextLine,
+}
+
+impl<L: Read + Drop> LogMatch<L> {
+    ghost use Rattle.recode_places.specs.Logs.{TakesLines};
+    ghost use Rattle.recode_places.specs.calls.LogViews.{match_left, whole_log};
+
+    /// The log that the reader gives. Its first line is read. The error is `Log`, if a read fails.
+    pub fn new(reader: L) -> Result<LogMatch<L>, Stop>
+        ensures { IfOk result (λ log. TakesLines (whole_log (L.remaining reader))
+            (match_left L.remaining log) []) }
+    {
+        let mut lines = LogLines::new(reader);
+        let next = lines.next_line()?;
+        Ok(LogMatch { lines, next })
+    }
+}
+
+impl<L: Read> LogMatch<L> {
+    ghost use Rattle.recode_places.specs.Logs.{ended};
+    ghost use Rattle.recode_places.specs.calls.LogViews.{NamesCharacter, NamesMalformed};
+    ghost use Rattle.recode_places.specs.calls.LogViews.{NamesSequence, TakesSome, match_left};
+
+    fn unfit<T>(&self) -> Result<T, Stop>
+        ensures { IsErr result }
+    {
+        Err(Stop::Unfit {
+            line: self.lines.number(),
+        })
+    }
+
+    /// Whether no line that comes next names a character of a text of so many bytes, whose first
+    /// character has this index.
+    pub fn passes_over(&self, index: u64, len: usize) -> bool {
+        match self.next {
+            NextLine::Line(LogLine::Lost { index: next, .. }) => {
+                next >= index.saturating_add(len as u64)
+            }
+            NextLine::Line(LogLine::Bad { .. }) | NextLine::End => true,
+            NextLine::Other => false,
+        }
+    }
+
+    /// Whether the next line names this character, which has this index. Its line is read.
+    ///
+    /// The error is `Unfit` if the line names a character that was passed, or another character
+    /// with this index, and `Log` if the log can't be read.
+    pub fn names_character(&mut self, index: u64, c: char) -> Result<bool, Stop>
+        ensures { IfOk result (λ is_named. TakesSome (match_left L.remaining self.old)
+            (match_left L.remaining self.new) (NamesCharacter index c is_named)) }
+    {
+        match self.next {
+            NextLine::Line(
+                LogLine::Lost {
+                    index: next,
+                    scalar,
+                },
+            ) if next <= index => {
+                if next == index && is_logged_as(c, scalar) {
+                    self.next = self.lines.next_line()?;
+                    Ok(true)
+                } else {
+                    self.unfit()
+                }
+            }
+            NextLine::Other => self.unfit(),
+            _ => Ok(false),
+        }
+    }
+
+    // Whether the next line names a malformed sequence at this offset. Its line is read.
+    fn names_sequence(&mut self, offset: u64, length: u8) -> Result<bool, Stop>
+        ensures { IfOk result (λ is_named. TakesSome (match_left L.remaining self.old)
+            (match_left L.remaining self.new) (NamesSequence offset length is_named)) }
+    {
+        match self.next {
+            NextLine::Line(
+                LogLine::Bad {
+                    offset: next,
+                    length: len,
+                },
+            ) if next <= offset => {
+                if next == offset && len == length {
+                    self.next = self.lines.next_line()?;
+                    Ok(true)
+                } else {
+                    self.unfit()
+                }
+            }
+            _ => Ok(false),
+        }
+    }
+
+    /// Whether the next line names this malformed sequence, or the U+FFFD with this index that
+    /// stands for it. Both lines are read, if both are there.
+    ///
+    /// The error is `Unfit` if the line names something that was passed, and `Log` if the log can't
+    /// be read.
+    pub fn names_malformed(&mut self, index: u64, offset: u64, length: u8) -> Result<bool, Stop>
+        ensures { IfOk result (λ is_named. TakesSome (match_left L.remaining self.old)
+            (match_left L.remaining self.new) (NamesMalformed index offset length is_named)) }
+    {
+        if self.names_sequence(offset, length)? {
+            self.names_character(index, '\u{FFFD}')?;
+            Ok(true)
+        } else {
+            self.names_character(index, '\u{FFFD}')
+        }
+    }
+
+    /// Tells that the input is at its end. The error is `Unfit` if the log has one more line.
+    pub fn finish(&self) -> Result<(), Stop>
+        ensures { OnOk result (match_left L.remaining self.now ≡ ended) }
+    {
+        match self.next {
+            NextLine::End => Ok(()),
+            NextLine::Line(_) | NextLine::Other => self.unfit(),
+        }
+    }
+}
+
+// Whether a line with this number is of the character: its own, or, for the three controls that
+// ISO-2022-JP refuses, U+FFFD.
+fn is_logged_as(c: char, scalar: char) -> bool
+    ensures { IsTrue result ↔ IsLoggedAs c scalar }
+{
+    scalar == c || (scalar == '\u{FFFD}' && matches!(c, '\u{E}' | '\u{F}' | '\u{1B}'))
+}

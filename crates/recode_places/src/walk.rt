@@ -1,0 +1,285 @@
+//! A walk over an input, which tells what is chosen with its place.
+
+ghost use Rattle.std.specs.Prelude.{◌≡◌, ◌^◌, ◌<◌, ◌≤◌, ◌+◌, ◌++◌, ◌∷◌, [], ℕ, List};
+ghost use Rattle.std.specs.Prelude.{IfOk, IfSome, OnErr, OnOk};
+ghost use Rattle.std.specs.Prelude.{false, length};
+ghost use Rattle.std.specs.Str.{chars};
+ghost use Rattle.encoding_mem.specs.Piece.{Piece, malformed, sizes, text};
+ghost use Rattle.encoding_front.specs.Encodings.{IsReady};
+ghost use Rattle.encoding_front.specs.Marks.{marked_pieces};
+ghost use Rattle.encoding_front.specs.calls.DecoderViews.{decoder_view};
+ghost use Rattle.recode_places.specs.Places.{IsPlaceAfter};
+ghost use Rattle.recode_places.specs.Entries.{TellsTrue, TellsTrueIn};
+ghost use Rattle.recode_places.specs.Logs.{TellsLines, ended};
+ghost use Rattle.recode_places.specs.calls.LogViews.{choice_left};
+ghost use Rattle.recode_places.specs.calls.Walks.{CanWalk, TellsPrefix, WalksChunk, WalksPart};
+ghost use Rattle.recode_places.specs.calls.Walks.{has_ended};
+ghost use Rattle.recode_places.specs.calls.Walks.{walk_state};
+
+use crate::choice::Choice;
+use crate::entry::{Entry, Finding, Stop};
+use crate::place::Place;
+use crate::visitor::Visitor;
+use encoding_front::{Decoder, DecoderResult, Encoding, Mark};
+use encoding_tables::Tables;
+use recode_log::GREATEST_OFFSET;
+use std::io::Read;
+use std::str;
+
+// How many bytes are read at once, and how many bytes of text are decoded at once.
+const CHUNK: usize = 4096;
+
+const TEXT: usize = 8192;
+
+/// How an input is read.
+#[derive(Clone, Copy)]
+pub struct Source<'t> {
+    /// The encoding of the input, where a byte order mark does not say another.
+    pub from: Encoding,
+    /// What is done with a byte order mark at the start of the input.
+    pub mark: Mark,
+    /// The indexes that the encoding needs (`Encoding::needs`).
+    pub tables: &'t Tables,
+}
+
+// How far a walk is.
+#[derive(Drop)]
+struct Walk<'t> {
+    decoder: Decoder<'t>,
+    // The place of the next character.
+    place: Place,
+    // How many bytes the decoder has read.
+    read: u64,
+    tail: Tail,
+}
+
+// What a call of the decoder did: whether it read all bytes and told all of their text, and how
+// many bytes it read.
+#[derive(Clone, Copy)]
+struct Part {
+    is_done: bool,
+    read: usize,
+}
+
+// The last bytes that the decoder has read. A malformed sequence ends at most 3 bytes before the
+// end of what was read, and has at most 4 bytes: it stands in these.
+#[derive(Drop)]
+struct Tail {
+    bytes: [u8; 8],
+}
+
+impl Tail {
+    // Takes what was read.
+    fn push(&mut self, read: &[u8]) {
+        let from = read.len().saturating_sub(8);
+        for byte in &read[from..] {
+            self.bytes.rotate_left(1);
+            self.bytes[7] = *byte;
+        }
+    }
+
+    // The malformed sequence of this length that ends so many bytes before the end.
+    fn sequence(&self, length: u8, after: u8) -> &[u8] {
+        let end = 8usize.saturating_sub(usize::from(after));
+        let start = end.saturating_sub(usize::from(length));
+        &self.bytes[start..end]
+    }
+}
+
+// Tells a character with its place, and goes past it.
+fn tell_character<L: Read, V: Visitor>(
+    place: &mut Place,
+    c: char,
+    choice: &mut Choice<'_, L>,
+    visitor: &mut V,
+) -> Result<(), Stop>
+    requires { place.old.index < 2 ^ 63 }
+    ensures told { (ps : List Piece) (t : List ℕ) → IsPlaceAfter place.old t
+        → TellsTrue ps (t ++ (c ∷ [])) (V.told visitor.old) (V.told visitor.new) }
+    ensures place { OnOk result ((t : List ℕ) → IsPlaceAfter place.old t
+        → IsPlaceAfter place.new (t ++ (c ∷ []))) }
+    ensures index { OnOk result (place.new.index ≡ place.old.index + 1) }
+    ensures lines { OnOk result (TellsLines (choice_left L.remaining choice.old)
+        (choice_left L.remaining choice.new) (V.told visitor.old) (V.told visitor.new)) }
+{
+    match choice.character(place.index, c)? {
+        Some(finding) => visitor.entry(Entry {
+            place: *place,
+            finding,
+        })?,
+        None => {}
+    }
+    visitor.characters(c.encode_utf8(&mut [0; 4]))?;
+    place.pass(c);
+    Ok(())
+}
+
+// Tells a text, the first character of which has this place, and goes past it.
+fn tell_text<L: Read, V: Visitor>(
+    place: &mut Place,
+    text: &str,
+    choice: &mut Choice<'_, L>,
+    visitor: &mut V,
+) -> Result<(), Stop>
+    requires { place.old.index + length text.now ≤ 2 ^ 63 }
+    ensures told { (ps : List Piece) (t : List ℕ) → IsPlaceAfter place.old t
+        → TellsTrue ps (t ++ chars text.now) (V.told visitor.old) (V.told visitor.new) }
+    ensures place { OnOk result ((t : List ℕ) → IsPlaceAfter place.old t
+        → IsPlaceAfter place.new (t ++ chars text.now)) }
+    ensures index { OnOk result (place.new.index ≡ place.old.index + length (chars text.now)) }
+    ensures lines { OnOk result (TellsLines (choice_left L.remaining choice.old)
+        (choice_left L.remaining choice.new) (V.told visitor.old) (V.told visitor.new)) }
+{
+    if choice.passes_over(place.index, text) {
+        place.pass_text(text);
+        return visitor.characters(text);
+    }
+    for c in text.chars() {
+        tell_character(place, c, choice, visitor)?;
+    }
+    Ok(())
+}
+
+// Tells a malformed sequence, whose U+FFFD has this place.
+fn tell_malformed<L: Read, V: Visitor>(
+    place: Place,
+    offset: u64,
+    length: u8,
+    choice: &mut Choice<'_, L>,
+    visitor: &mut V,
+) -> Result<(), Stop>
+    ensures told { (ps : List Piece) → IsPlaceAfter place (text ps) → offset ≡ sizes ps
+        → TellsTrueIn (ps ++ (malformed length ∷ [])) (V.told visitor.old) (V.told visitor.new) }
+    ensures lines { OnOk result (TellsLines (choice_left L.remaining choice.old)
+        (choice_left L.remaining choice.new) (V.told visitor.old) (V.told visitor.new)) }
+{
+    if choice.malformed(place.index, offset, length)? {
+        visitor.entry(Entry {
+            place,
+            finding: Finding::Malformed { offset, length },
+        })?;
+    }
+    Ok(())
+}
+
+impl<'t> Walk<'t> {
+    // One call of the decoder, and what it gives is told.
+    fn part<L: Read, V: Visitor>(
+        &mut self,
+        chunk: &[u8],
+        last: bool,
+        buffer: &mut [u8; TEXT],
+        choice: &mut Choice<'_, L>,
+        visitor: &mut V,
+    ) -> Result<Part, Stop>
+        requires ready { CanWalk (walk_state self.old) }
+        requires limit { self.old.read + length chunk.now ≤ 2 ^ 48 }
+        ensures part { IfOk result (λ p. WalksPart (V.told visitor.old) (V.told visitor.new)
+            (walk_state self.old) (walk_state self.new) chunk.now last p.read p.is_done) }
+        ensures lines { OnOk result (TellsLines (choice_left L.remaining choice.old)
+            (choice_left L.remaining choice.new) (V.told visitor.old) (V.told visitor.new)) }
+        ensures err { OnErr result (TellsPrefix (V.told visitor.old) (V.told visitor.new)
+            (walk_state self.old) chunk.now last) }
+    {
+        let (outcome, read, written) = self
+            .decoder
+            .decode_to_utf8_without_replacement(chunk, buffer, last);
+        self.read += read as u64;
+        self.tail.push(&chunk[..read]);
+        // The decoder wrote text: no second check.
+        let text = unsafe { str::from_utf8_unchecked(&buffer[..written]) };
+        tell_text(&mut self.place, text, choice, visitor)?;
+        match outcome {
+            DecoderResult::InputEmpty => Ok(Part {
+                is_done: true,
+                read,
+            }),
+            DecoderResult::OutputFull => Ok(Part {
+                is_done: false,
+                read,
+            }),
+            DecoderResult::Malformed(length, after) => {
+                let offset = self.read - u64::from(after) - u64::from(length);
+                tell_malformed(self.place, offset, length, choice, visitor)?;
+                let bytes = self.tail.sequence(length, after);
+                visitor.malformed(bytes, self.decoder.encoding())?;
+                self.place.pass('\u{FFFD}');
+                Ok(Part {
+                    is_done: false,
+                    read,
+                })
+            }
+        }
+    }
+
+    // Tells all that was read. No bytes are the end of the input.
+    fn chunk<L: Read, V: Visitor>(
+        &mut self,
+        chunk: &[u8],
+        choice: &mut Choice<'_, L>,
+        visitor: &mut V,
+    ) -> Result<(), Stop>
+        requires ready { CanWalk (walk_state self.old) }
+        requires limit { self.old.read + length chunk.now ≤ 2 ^ 48 }
+        ensures chunk { OnOk result (WalksChunk (V.told visitor.old) (V.told visitor.new)
+            (walk_state self.old) (walk_state self.new) chunk.now (has_ended chunk.now)) }
+        ensures lines { OnOk result (TellsLines (choice_left L.remaining choice.old)
+            (choice_left L.remaining choice.new) (V.told visitor.old) (V.told visitor.new)) }
+        ensures err { OnErr result (TellsPrefix (V.told visitor.old) (V.told visitor.new)
+            (walk_state self.old) chunk.now (has_ended chunk.now)) }
+    {
+        let last = chunk.is_empty();
+        let mut buffer = [0; TEXT];
+        let mut rest = chunk;
+        'chunk: loop {
+            let part = self.part(rest, last, &mut buffer, choice, visitor)?;
+            if part.is_done {
+                return Ok(());
+            }
+            rest = &rest[part.read..];
+        }
+    }
+}
+
+/// Reads an input to its end, and tells the visitor its text, its malformed bytes, and an entry
+/// for each thing that is chosen, with its place. An entry that is told is true, also if an error
+/// ends the telling: it names a malformed sequence, or a character of the text, of the whole input
+/// as `source` reads it, and its place. On success, if the choice goes by a log, the log has the
+/// lines of the entries, in their order, and then its end: none was passed over.
+///
+/// The error is what the choice or the visitor ended with (`Unfit`, `Log`, `Write`, `Memory`),
+/// `Input` if a read fails, or `TooLong` if the input has more than 2^48 bytes. The condition,
+/// that the indexes of the encoding are there, is tested by `Encoding::is_ready`.
+pub fn tell_places<R: Read, L: Read, V: Visitor>(
+    reader: &mut R,
+    source: Source<'_>,
+    choice: &mut Choice<'_, L>,
+    visitor: &mut V,
+) -> Result<(), Stop>
+    requires { IsReady source.tables.now source.from }
+    ensures told { IfSome (R.remaining reader.old) (λ x. TellsTrueIn
+        (marked_pieces source.entry.tables.now source.entry.mark source.entry.from x)
+        (V.told visitor.old) (V.told visitor.new)) }
+    ensures lines { OnOk result (TellsLines (choice_left L.remaining choice.old) ended
+        (V.told visitor.old) (V.told visitor.new)) }
+{
+    let mut walk = Walk {
+        decoder: Decoder::new(source.from, source.mark, source.tables),
+        place: Place::first(),
+        read: 0,
+        tail: Tail { bytes: [0; 8] },
+    };
+    let mut bytes = [0; CHUNK];
+    'input: loop {
+        let Ok(count) = reader.read(&mut bytes) else {
+            return Err(Stop::Input);
+        };
+        if count as u64 > GREATEST_OFFSET - walk.read {
+            return Err(Stop::TooLong);
+        }
+        walk.chunk(&bytes[..count], choice, visitor)?;
+        if count == 0 {
+            return choice.finish();
+        }
+    }
+}
