@@ -20,7 +20,7 @@
   public contract cites a word that stands among theorems (`specs/laws/`).
 - Each source file but a crate's root begins with a line that says what it is for (`//!`).
 - The patches of docs/examples apply.
-- README.md and the man page say what the help says (`tools/usage.py`), and README.md has fewer than 120 lines.
+- README.md and the man pages say what the help says (`tools/usage.py`), and README.md has fewer than 155 lines.
 """
 
 import collections
@@ -45,7 +45,7 @@ LONG_LINES = os.path.join(TOP, "tools", "long_lines")
 MOST_CLAUSES = os.path.join(TOP, "tools", "most_clauses")
 COLUMNS = 100
 CONTRACT_LINES = 30
-README_LINES = 120
+README_LINES = 155
 
 FUNCTION = re.compile(r"^ *(?:pub(?:\(\w+\))? )?(?:unsafe )?fn (\w+)")
 CLAUSE = re.compile(r"^ *(?:requires|ensures)\b")

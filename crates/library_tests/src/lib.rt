@@ -1,6 +1,7 @@
 //! Calls of the libraries that are no lines of the programs of cases, worked by hand: labels
 //! (`encoding_labels`), encodings and one-shot calls (`encoding_front`), counted devices and the
-//! program (`recode_log`, `recode`). There are tests alone here.
+//! program (`recode_log`, `recode`), and what is printed of places (`recode_places_report`). There
+//! are tests alone here.
 #![tactic(auto)]
 
 #[cfg(test)]
@@ -18,5 +19,7 @@ mod encoding;
 mod labels;
 #[cfg(test)]
 mod one_shot;
+#[cfg(test)]
+mod places;
 #[cfg(test)]
 mod programs;
