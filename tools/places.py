@@ -418,6 +418,21 @@ def long_faults(folder):
     yield from trial.differences("no log", trial.told("--no-log", log=b""), (status, lines, error))
 
 
+def terminal_faults(folder):
+    """On a terminal the place is bold and the caret red, and the codes in a file are not obeyed."""
+    trial = Trial(folder, "terminal.txt", Job("utf-8", "windows-1252", "sniff", "decimal"), "\x1b[1m日\n".encode())
+    reader, writer = os.openpty()
+    command, streams = ["recode-places", *trial.words, trial.path], {"input": trial.log, "stdout": writer, "timeout": PATIENCE}
+    ran = subprocess.run(command, executable=PLACES, stderr=subprocess.PIPE, check=False, **streams)
+    told = os.read(reader, 10_000).decode().replace("\r\n", "\n")
+    os.close(reader)
+    os.close(writer)
+    bold, red, plain = "\x1b[1m", "\x1b[1;31m", "\x1b[0m"
+    right = "%s%s:1:5:%s U+65E5 日 has no bytes in windows-1252\n" % (bold, trial.path, plain)
+    right += "  1 | <U+001B>[1m日\n    |            %s^^%s\n" % (red, plain)
+    yield from trial.differences("on a terminal", (ran.returncode, told, ran.stderr), (1, right, b""))
+
+
 def memory_faults(folder):
     """Each request for memory refused in turn: at the start nothing is told, and later a part of what there is."""
     data = "日\n¥本".encode() + b"\xff"
@@ -494,7 +509,8 @@ def faults():
     encodings = standard.encodings(INDEXES)
     with tempfile.TemporaryDirectory() as folder:
         wrong = [*written_faults(folder), *log_faults(folder), *refusal_faults(folder), *flood_faults(folder)]
-        wrong += [*memory_faults(folder), *long_faults(folder), *model_faults(folder, encodings, made(), "made")]
+        wrong += [*terminal_faults(folder), *memory_faults(folder)]
+        wrong += [*long_faults(folder), *model_faults(folder, encodings, made(), "made")]
         wrong += model_faults(folder, encodings, random_files(encodings, 150), "random")
     print("%d outputs, %d logs, %d refusals" % (len(WRITTEN), len(WRONG_LOGS), len(REFUSALS)))
     return wrong

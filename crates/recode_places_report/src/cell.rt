@@ -1,6 +1,10 @@
 //! What stands in a line, and how it is shown, so that no input can write to a terminal what a
 //! terminal obeys.
 
+ghost use Rattle.std.specs.Prelude.{◌≡◌, ◌||◌, ◌++◌, OnOk, string_bytes};
+ghost use Rattle.std.specs.Char.{is_control};
+ghost use Rattle.recode_places_report.specs.Shown.{is_unseen, shown_as};
+
 use std::alloc::{AllocError, Global};
 
 // What stands in a line: a character, or a byte of a malformed sequence.
@@ -12,7 +16,9 @@ pub(crate) enum Cell {
 
 // Whether a character is shown by its number: a control, or one that turns a line round or can't be
 // seen.
-pub(crate) fn is_shown_by_number(c: char) -> bool {
+pub(crate) fn is_shown_by_number(c: char) -> bool
+    ensures { result ≡ (is_control c || is_unseen c) }
+{
     c.is_control()
         || matches!(
             c,
@@ -28,7 +34,9 @@ pub(crate) fn is_shown_by_number(c: char) -> bool {
 
 // Adds what a cell is shown as: a tab as one space, a control or what can't be seen by its number,
 // as `<U+202E>`, a byte as `<FF>`.
-pub(crate) fn push_cell(text: &mut String, cell: Cell) -> Result<(), AllocError> {
+pub(crate) fn push_cell(text: &mut String, cell: Cell) -> Result<(), AllocError>
+    ensures { OnOk result (string_bytes text.new ≡ string_bytes text.old ++ shown_as cell) }
+{
     match cell {
         Cell::Character('\t') => text.push(' '),
         Cell::Character(c) if is_shown_by_number(c) => write!(text, "<U+{:04X}>", u32::from(c)),
