@@ -1,5 +1,5 @@
 -- How the cells of a line are shown, so that what is printed has no code that a terminal obeys but those of colour.
-use Rattle.std.specs.Prelude.{ℕ, ◌^◌, ◌-◌, ◌==◌, ◌||◌, ◌++◌, Bool, true, false, List, [], if◌then◌else◌, codes, encode_utf8}
+use Rattle.std.specs.Prelude.{ℕ, ◌^◌, ◌-◌, ◌==◌, ◌||◌, ◌++◌, Bool, true, false, List, [], ◌∷◌, if◌then◌else◌, codes, encode_utf8}
 use Rattle.std.specs.Char.{is_control}
 use Rattle.std.specs.Int.{is_in_range}
 use Rattle.std.specs.Fmt.{digits, format_spec, padded_integral}
@@ -19,3 +19,8 @@ padded_hexadecimal width n = padded_integral (format_spec 32 0 4 width (2 ^ 64 -
 abbrev pub shown_as : Cell → List ℕ
 shown_as (Character c) = if c == 9 then codes " " else (if is_control c || is_unseen c then codes "<U+" ++ padded_hexadecimal 4 c ++ codes ">" else encode_utf8 c)
 shown_as (Byte byte) = codes "<" ++ padded_hexadecimal 2 byte ++ codes ">"
+
+-- a text as its characters are shown
+abbrev pub shown_text : List ℕ → List ℕ
+shown_text [] = []
+shown_text (c ∷ t) = shown_as (Character c) ++ shown_text t

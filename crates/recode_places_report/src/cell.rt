@@ -1,9 +1,10 @@
 //! What stands in a line, and how it is shown, so that no input can write to a terminal what a
 //! terminal obeys.
 
-ghost use Rattle.std.specs.Prelude.{◌≡◌, ◌||◌, ◌++◌, OnOk, string_bytes};
+ghost use Rattle.std.specs.Prelude.{◌≡◌, ◌||◌, ◌++◌, IfOk, OnOk, string_bytes};
 ghost use Rattle.std.specs.Char.{is_control};
-ghost use Rattle.recode_places_report.specs.Shown.{is_unseen, shown_as};
+ghost use Rattle.std.specs.Str.{chars};
+ghost use Rattle.recode_places_report.specs.Shown.{is_unseen, shown_as, shown_text};
 
 use std::alloc::{AllocError, Global};
 
@@ -47,7 +48,9 @@ pub(crate) fn push_cell(text: &mut String, cell: Cell) -> Result<(), AllocError>
 
 /// A text as it is shown: each tab as one space, and each control and each character that turns a
 /// line round or can't be seen by its number, as `<U+202E>`. The error is that memory was refused.
-pub fn shown(alloc: Global, text: &str) -> Result<String, AllocError> {
+pub fn shown(alloc: Global, text: &str) -> Result<String, AllocError>
+    ensures { IfOk result (λ all. string_bytes all ≡ shown_text (chars text.now)) }
+{
     let mut all = String::new(alloc);
     for c in text.chars() {
         push_cell(&mut all, Cell::Character(c))?;

@@ -1,7 +1,7 @@
 -- Worked rows of `specs/Shown.antt`.
-use Rattle.std.specs.Prelude.{◌≡◌, Bool, true, false, ◌∷◌, [], codes, refl}
+use Rattle.std.specs.Prelude.{◌≡◌, true, false, ◌∷◌, [], codes, refl}
 use Rattle.std.specs.Fmt.{char_count, digits, padded_integral}
-use Rattle.recode_places_report.specs.Shown.{is_unseen, shown_as}
+use Rattle.recode_places_report.specs.Shown.{is_unseen, shown_as, shown_text}
 use Rattle.recode_places_report.specs.declared.cell.Cell.TheVariants.{Character, Byte}
 
 shown_as-letter : shown_as (Character 0x61) ≡ codes "a"
@@ -110,3 +110,8 @@ is_unseen-last_tag = refl
 
 is_unseen-after_tags : is_unseen 0xE0080 ≡ false
 is_unseen-after_tags = refl
+
+-- the letter, and then a control
+shown_text-of_two : shown_text (0x61 ∷ 0x1B ∷ []) ≡ codes "a<U+001B>"
+unfolding digits padded_integral char_count lib.Utf8.encode
+shown_text-of_two = refl
