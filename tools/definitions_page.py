@@ -25,7 +25,6 @@ PARTS = [
     ("encoding_index", "Index texts"),
     ("recode_log", "Devices, and lines of the log"),
     ("recode", "Jobs, runs and the program"),
-    ("recode_places", "Places in an input"),
     ("recode_places_report", "What is printed of places"),
     ("recode_words", "The command line's words"),
     ("recode_system", "The program on its system"),

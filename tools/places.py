@@ -279,12 +279,12 @@ WRONG_LOGS = [
 ENDS = [b"", b"recode: read fault\n", b"recode: unmappable 5 26085\n", b"lost 5 2608", b"lo"]
 
 TRY_HELP = "\n\nFor more information, try '--help'.\n"
-USAGE = "\n\nUsage: recode-places [OPTIONS] --from <LABEL> --to <LABEL> <INPUT>" + TRY_HELP
+USAGE = "\n\nUsage: recode-places [OPTIONS] --from <LABEL> --to <LABEL> <INPUT> < LOG" + TRY_HELP
 UTF_8 = ["--from", "utf-8", "--to", "utf-8"]
 
 # Words, status and standard error of runs that tell nothing; `INPUT` is a file with the byte FF.
 REFUSALS = [
-    (UTF_8, 2, "error: the following required arguments were not provided:\n  <INPUT>" + USAGE.replace("[OPTIONS] ", "")),
+    (UTF_8, 2, "error: the following required arguments were not provided:\n  <INPUT>" + USAGE),
     (UTF_8 + ["INPUT", "INPUT"], 2, "error: unexpected argument 'INPUT' found" + USAGE),
     (
         UTF_8 + ["INPUT", "--mark", "none"],

@@ -6,7 +6,7 @@
 #![tactic(auto)]
 
 mod conversions;
-mod places;
+mod reports;
 mod stream_faults;
 mod streams;
 mod texts;
@@ -54,8 +54,7 @@ fn main(rt: HostRuntime) -> anyhow::Result<()> {
     print(rt, "recode_log", streams::writes_a_line(alloc)?)?;
     print(rt, "recode_words", streams::reads_words(alloc)?)?;
     print(rt, "recode", conversions::converts_a_stream(alloc)?)?;
-    print(rt, "recode_places", places::finds_a_place(alloc)?)?;
-    print(rt, "recode_places_report", places::reports_a_place(alloc)?)?;
+    print(rt, "recode_places_report", reports::reports_a_place(alloc)?)?;
     print(rt, "recode_system", conversions::answers_words(rt)? <= 4)?;
     run_programs(rt)
 }

@@ -20,6 +20,6 @@ mod labels;
 #[cfg(test)]
 mod one_shot;
 #[cfg(test)]
-mod places;
-#[cfg(test)]
 mod programs;
+#[cfg(test)]
+mod reports;

@@ -7,6 +7,9 @@ use std::alloc::{AllocError, Global};
 const ABOUT: &str =
     "Tells where in a file each thing stands that recode lost, from its log on standard input";
 
+// The log is standard input, which clap's own line does not say.
+const USAGE: &str = "recode-places [OPTIONS] --from <LABEL> --to <LABEL> <INPUT> < LOG";
+
 const AFTER_HELP: &str =
     "Use: \"recode-places --from utf-8 --to windows-1252 old.csv < log\" tells what was lost by
 \"recode --from utf-8 --to windows-1252 < old.csv > new.csv 2> log\". INPUT is read once more: it
@@ -108,6 +111,7 @@ pub(crate) fn command<'a>(alloc: Global) -> Result<Command<'a>, AllocError> {
     Command::new(alloc, "recode-places")
         .version(VERSION)
         .about(ABOUT)
+        .override_usage(USAGE)
         .after_help(AFTER_HELP)
         .arg(input(alloc))?
         .arg(required_option(alloc, "from", "LABEL", "Encoding of the input"))?

@@ -8,7 +8,7 @@ use crate::words::{Request, Words, parse};
 use encoding_front::Encoding;
 use encoding_tables::Tables;
 use recode::load_indexes;
-use recode_places::{Choice, Fates, LogMatch, Source, Stop, tell_places};
+use recode_places::{Choice, Fates, LogMatch, Source, tell_places};
 use recode_places_report::{Counts, Report, shown};
 use recode_system::{CommandLine, SystemFiles, Wordless};
 use std::alloc::{AllocError, Global};
@@ -120,7 +120,7 @@ fn run<F: Files, L: Read + Drop, W: Write + Drop>(
     alloc: Global,
     words: Words<'_>,
     files: &F,
-    mut log: L,
+    log: L,
     output: W,
     has_colour: bool,
 ) -> Result<bool, Fault> {
@@ -129,10 +129,13 @@ fn run<F: Files, L: Read + Drop, W: Write + Drop>(
     let mut tables = Tables::new(alloc);
     let mut indexes = SystemFiles::new(files);
     load_indexes(alloc, &mut indexes, words.indexes, from, &mut tables)?;
-    // The input would take the place of a standard input that is closed.
-    if words.has_log && log.read(&mut []).is_err() {
-        return Err(Fault::Stop(Stop::Log));
-    }
+    // The log is read before the input is opened, which would take the place of a standard input
+    // that is closed.
+    let log = if words.has_log {
+        Some(LogMatch::new(log)?)
+    } else {
+        None
+    };
     let Ok(input) = fs::open(files, words.input) else {
         return Err(Fault::Input(shown(alloc, words.input)?));
     };
@@ -148,9 +151,10 @@ fn run<F: Files, L: Read + Drop, W: Write + Drop>(
         output,
         has_colour,
     };
-    if words.has_log && !words.has_folds {
-        return job.tell(&tables, &mut Choice::of_log(LogMatch::new(log)));
-    }
+    let log = match log {
+        Some(log) if !words.has_folds => return job.tell(&tables, &mut Choice::of_log(log)),
+        log => log,
+    };
     load_indexes(
         alloc,
         &mut indexes,
@@ -159,10 +163,9 @@ fn run<F: Files, L: Read + Drop, W: Write + Drop>(
         &mut tables,
     )?;
     let fates = Fates::new(to, &tables);
-    let mut choice = if words.has_log {
-        Choice::of_log_with_folds(LogMatch::new(log), fates)
-    } else {
-        Choice::of_target(fates, words.has_folds)
+    let mut choice = match log {
+        Some(log) => Choice::of_log_with_folds(log, fates),
+        None => Choice::of_target(fates, words.has_folds),
     };
     job.tell(&tables, &mut choice)
 }

@@ -16,8 +16,8 @@ fn path_of(alloc: Global, dir: &str, file: &str) -> Result<String, AllocError>
     format!(in alloc; "{dir}/{file}")
 }
 
-/// The files that a runtime reaches, as a source of index files, which have 2^24 bytes at most. What
-/// they hold is told by no contract.
+/// The files that a runtime reaches, as a source of index files, which have 2^24 bytes at most. No
+/// contract tells what they hold.
 #[derive(Drop)]
 pub struct SystemFiles<'r, R> {
     runtime: &'r R,
