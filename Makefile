@@ -5,9 +5,11 @@ SECONDS = 60
 
 .PHONY: build test lint doc usage edits example status run fuzz refused hostile characters verdicts install
 
-# Proves the program and all that it stands on, and builds it: crates/recode_cli/out/recode_cli.
+# Proves the programs and all that they stand on, and builds them: crates/recode_cli/out/recode_cli and
+# crates/recode_places_cli/out/recode_places_cli.
 build:
 	@cd crates/recode_cli && rt run -- --version > /dev/null
+	@cd crates/recode_places_cli && rt run -- --version > /dev/null
 
 # The merge gate: `make lint`, `rt ci`, and then what `tools/gate.py` has of programs and of what is stored. One line at
 # the end counts all.
@@ -33,7 +35,7 @@ doc:
 	@python3 tools/headline.py
 	@python3 tools/definitions_page.py
 
-# The parts of README.md and of the man page that say what the help says, from its text.
+# The parts of README.md and of the man pages that say what the help says, from its text.
 usage:
 	@python3 tools/usage.py
 
@@ -69,6 +71,11 @@ refused: build
 	@cd crates/encoding_refusals && rt run > /dev/null
 	@python3 tools/refused_memory.py
 
+# `recode-places` on the logs of runs of `recode`, beside a plain program. The gate does this.
+.PHONY: places
+places: build
+	@python3 tools/places.py
+
 # The program by a table of command lines, with index texts that no one publishes, and on streams that are closed, full,
 # slow, abandoned or 4 GiB long: status, output and log as README.md says. The gate does this but for the 4 GiB.
 hostile: build
@@ -99,9 +106,11 @@ verdicts:
 			<($(CURDIR)/crates/recode_cases/out/recode_cases 1 $$name) || exit 1; \
 	done
 
-# The program, its man page and the index texts.
+# The programs, their man pages and the index texts.
 install: build
 	@install -D -m 755 crates/recode_cli/out/recode_cli $(DESTDIR)$(PREFIX)/bin/recode
+	@install -D -m 755 crates/recode_places_cli/out/recode_places_cli $(DESTDIR)$(PREFIX)/bin/recode-places
 	@install -D -m 644 man/recode.1 $(DESTDIR)$(PREFIX)/share/man/man1/recode.1
+	@install -D -m 644 man/recode-places.1 $(DESTDIR)$(PREFIX)/share/man/man1/recode-places.1
 	@install -d $(DESTDIR)$(PREFIX)/share/recode/indexes
 	@install -m 644 indexes/* $(DESTDIR)$(PREFIX)/share/recode/indexes

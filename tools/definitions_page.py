@@ -26,6 +26,7 @@ PARTS = [
     ("recode_log", "Devices, and lines of the log"),
     ("recode", "Jobs, runs and the program"),
     ("recode_places", "Places of what a log names"),
+    ("recode_places_report", "What is printed of places"),
     ("recode_words", "The command line's words"),
     ("recode_system", "The program on its system"),
 ]  # fmt: skip

@@ -20,7 +20,7 @@
   public contract cites a word that stands among theorems (`specs/laws/`).
 - Each source file but a crate's root begins with a line that says what it is for (`//!`).
 - The patches of docs/examples apply.
-- README.md and the man page say what the help says (`tools/usage.py`), and README.md has fewer than 120 lines.
+- README.md and the man pages say what the help says (`tools/usage.py`), and README.md has fewer than 120 lines.
 """
 
 import collections

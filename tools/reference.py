@@ -20,7 +20,7 @@ PAGES = os.path.join(TOP, "docs", "reference")
 # The libraries, lowest first. Other crates are programs and tests.
 LIBRARIES = [
     "encoding_mem", "encoding_labels", "encoding_tables", "encoding_codecs", "encoding_index", "encoding_front",
-    "recode_log", "recode_places", "recode_words", "recode", "recode_system",
+    "recode_log", "recode_places", "recode_words", "recode", "recode_system", "recode_places_report",
 ]  # fmt: skip
 
 # The program that makes the examples of the libraries' pages.

@@ -1,11 +1,12 @@
 #!/usr/bin/env python3
-"""The parts of README.md and of man/recode.1 that say what `recode --help` and `--version` say: `make usage`.
+"""The parts of README.md and of the man pages that say what `--help` and `--version` of a program say: `make usage`.
 
     python3 tools/usage.py
 
-The text of the help stands in crates/recode_words/src/command.rt, and nowhere else. What is made of it stands between
-two comments in README.md and in the man page, `NAME` and `end of NAME`: the version, the options, names of encodings,
-the log, the statuses and their messages, the index files. `make lint` compares them.
+The text of the help stands in crates/recode_words/src/command.rt, and that of `recode-places` in
+crates/recode_places_cli/src/command.rt, and nowhere else. What is made of it stands between two comments in README.md and
+in the man page, `NAME` and `end of NAME`: the version, the options, names of encodings, the log, the statuses and their
+messages, the index files. `make lint` compares them.
 """
 
 import os
@@ -14,14 +15,16 @@ import sys
 
 TOP = os.path.abspath(os.path.join(os.path.dirname(os.path.abspath(__file__)), ".."))
 SOURCE = "crates/recode_words/src/command.rt"
+PLACES_SOURCE = "crates/recode_places_cli/src/command.rt"
 README = "README.md"
 MAN = "man/recode.1"
+PLACES_MAN = "man/recode-places.1"
 
 # An option that is made by a call, with its value if it has a default, the name of the value and the help.
-OPTION = re.compile(r'(required|default)_option\(\s*alloc,((?:\s*"[^"]*",?)+)\s*\)')
+OPTION = re.compile(r'(required_option|default_option|flag)\(\s*alloc,((?:\s*"[^"]*",?)+)\s*\)')
 # What is code in a sentence of the help without standing in quotes.
 WORDS = re.compile(
-    r"(?<![\w`-])(&#\w+;|--[a-z]+(?: stop| keep)?|utf-8|shift_jis|windows-1252|iso-8859-1|ascii|gbk|euc-kr|big5|hz-gb-2312"
+    r"(?<![\w`-])(&#\w+;|--[a-z]+(?:-[a-z]+)?(?: stop| keep)?|utf-8|shift_jis|windows-1252|iso-8859-1|ascii|gbk|euc-kr|big5|hz-gb-2312"
     r"|iso-2022-cn|iso-2022-kr)(?![\w`])"
 )
 # The words that an option takes, where its help has them behind a colon.
@@ -33,12 +36,12 @@ FLAG = re.compile(r'Arg::new\(alloc, "list"\).*?\.help\("([^"]*)"\)', re.S)
 
 
 class Usage:
-    """What the help says: the options, and the paragraphs and lists behind them."""
+    """What the help of a program says: the options, and the paragraphs and lists behind them."""
 
-    def __init__(self, source):
-        self.version = VERSION.search(source).group(1)
+    def __init__(self, program, version, source):
+        self.program, self.version = program, version
         self.options = [self.option(*found) for found in OPTION.findall(source)]
-        self.options.append(("--list", "", "", FLAG.search(source).group(1)))
+        self.options += [("--list", "", "", found) for found in FLAG.findall(source)]
         text = re.search(r'const AFTER_HELP: &str =\s*"((?:[^"\\]|\\.)*)";', source).group(1).replace('\\"', '"')
         self.notes, self.lists = {}, {}
         for part in text.split("\n\n"):
@@ -51,7 +54,9 @@ class Usage:
     @staticmethod
     def option(kind, words):
         words = re.findall(r'"([^"]*)"', words)
-        value = words.pop(1) if kind == "default" else ""
+        if kind == "flag":
+            return "--" + words[0], "", "", words[1]
+        value = words.pop(1) if kind == "default_option" else ""
         return "--" + words[0], words[1], value, words[2]
 
     def rows(self, text):
@@ -74,7 +79,7 @@ class Usage:
 
     def labels(self, name):
         """What is said of labels: at `--from` what one is, at `--to` which encodings are written as another."""
-        of_from, _, of_to = self.notes["Labels"].rstrip(".").rpartition(". ")
+        of_from, _, of_to = self.notes.get("Labels", "").rstrip(".").rpartition(". ")
         return {"--from": of_from, "--to": of_to}.get(name, "")
 
     def names(self):
@@ -104,11 +109,15 @@ def option_row(usage, name, value, default, text):
     return "`%s`" % " ".join([name, value]).strip(), said, "`%s`" % default if default else ""
 
 
-def readme_parts(usage):
-    yield "names", [as_code(usage.names())]
+def options_table(usage):
     words, said = OWN_OF_CLAP
     rows = [*(option_row(usage, *o) for o in usage.options), (", ".join("`%s`" % word for word in words), said, "")]
-    lines = table(("Option", "What it asks for", "Default"), *rows)
+    return table(("Option", "What it asks for", "Default"), *rows)
+
+
+def readme_parts(usage):
+    yield "names", [as_code(usage.names())]
+    lines = options_table(usage)
     title = next(title for title in usage.lists if title.startswith("Log"))
     lines += ["", title + ":", "", *("- `%s`: %s" % (word, as_code(said)) for word, said in usage.list_of("Log"))]
     lines += ["", as_code(usage.behind("Log")), ""]
@@ -128,21 +137,27 @@ def man_item(words, text):
 
 
 def man_synopsis(usage):
-    yield ".B recode"
+    yield ".B " + roff(usage.program)
     for name, value, default, text in usage.options:
         choices = CHOICES.search(text)
         if not default:
             yield from ['.BI %s " %s"' % (roff(name), value)] * bool(value)
+            yield from [".RB [ %s ]" % roff(name)] * (not value and name != "--list")
         elif choices:
             yield from (".RB [ " + roff(name), ".BR %s ]" % " | ".join(re.split(", | or ", choices.group(1))))
         else:
             yield from (".RB [ " + roff(name), ".IR %s ]" % value)
-    yield from (".br", ".B recode", ".RB { \\-\\-help | \\-\\-version | \\-\\-list }")
+    if usage.program == "recode":
+        yield from (".br", ".B recode", ".RB { \\-\\-help | \\-\\-version | \\-\\-list }")
+    else:
+        yield from (".I INPUT", ".br", ".B " + roff(usage.program), ".RB { \\-\\-help | \\-\\-version }")
 
 
-def man_parts(usage):
-    yield "title", ['.TH RECODE 1 "" "recode %s" "User Commands"' % usage.version]
-    yield "synopsis", [*man_synopsis(usage)]
+def man_title(usage):
+    return ['.TH %s 1 "" "%s %s" "User Commands"' % (usage.program.upper(), usage.program, usage.version)]
+
+
+def man_options(usage):
     lines = []
     for name, value, default, text in usage.options:
         said = text + (", `%s` by default" % default).replace("`", "") * bool(default) + "."
@@ -152,24 +167,40 @@ def man_parts(usage):
             said += " " + usage.labels(name) + "."
         lines += [".TP", ('.BI %s " %s"' if value else ".B %s%s") % (roff(name), value), roff(said)]
     words, said = OWN_OF_CLAP
-    lines += [".TP", ".BR " + ' ", " '.join(map(roff, words)), roff(said + ".")]
-    yield "options", lines
+    return lines + [".TP", ".BR " + ' ", " '.join(map(roff, words)), roff(said + ".")]
+
+
+def man_list(usage, title):
+    return [line for word, said in usage.list_of(title) for line in man_item(".B " + roff(word), said)]
+
+
+def man_parts(usage):
+    yield "title", man_title(usage)
+    yield "synopsis", [*man_synopsis(usage)]
+    yield "options", man_options(usage)
     lines = []
     for word, said in usage.list_of("Log"):
         word, _, rest = word.partition(" ")
         lines += man_item('.BI %s " %s"' % (word, rest), said)
     yield "log", lines + [".PP", roff(usage.behind("Log"))]
-    lines = []
-    for word, said in usage.list_of("Exit status"):
-        lines += man_item(".B " + word, said)
-    yield "statuses", lines
-    lines = []
-    for word, said in usage.list_of("Message"):
-        lines += man_item(".B " + word, said)
-    yield "messages", lines
+    yield "statuses", man_list(usage, "Exit status")
+    yield "messages", man_list(usage, "Message")
     yield "names", [roff(usage.names())]
     files = usage.notes["Index files"]
     yield "files", [roff(files[0].upper() + files[1:])]
+
+
+def places_parts(usage):
+    yield "title", man_title(usage)
+    yield "synopsis", [*man_synopsis(usage)]
+    yield "use", [roff(usage.notes["Use"])]
+    yield "options", man_options(usage)
+    yield "output", man_list(usage, "Output") + [".PP", roff(usage.behind("Output"))]
+    yield "words", man_list(usage, "Words of what is lost")
+    log = usage.notes["Log"]
+    yield "log", [roff(log[0].upper() + log[1:])]
+    yield "statuses", man_list(usage, "Exit status")
+    yield "messages", man_list(usage, "Message")
 
 
 def put(text, parts, begin, end):
@@ -190,11 +221,14 @@ def read(path):
 
 def pages():
     """Each page with what it has, and with what it should have."""
-    usage = Usage(read(SOURCE))
+    version = VERSION.search(read(SOURCE)).group(1)
+    usage = Usage("recode", version, read(SOURCE))
+    places = Usage("recode-places", version, read(PLACES_SOURCE))
     text = read(README)
     yield README, text, put(text, readme_parts(usage), "<!-- %s -->\n", "<!-- end of %s -->\n")
-    text = read(MAN)
-    yield MAN, text, put(text, man_parts(usage), '.\\" %s\n', '.\\" end of %s\n')
+    for path, parts in ((MAN, man_parts(usage)), (PLACES_MAN, places_parts(places))):
+        text = read(path)
+        yield path, text, put(text, parts, '.\\" %s\n', '.\\" end of %s\n')
 
 
 def faults():

@@ -7,6 +7,7 @@
 
 mod conversions;
 mod places;
+mod reports;
 mod stream_faults;
 mod streams;
 mod texts;
@@ -55,6 +56,7 @@ fn main(rt: HostRuntime) -> anyhow::Result<()> {
     print(rt, "recode_places", places::tells_a_place(alloc)?)?;
     print(rt, "recode_words", streams::reads_words(alloc)?)?;
     print(rt, "recode", conversions::converts_a_stream(alloc)?)?;
+    print(rt, "recode_places_report", reports::reports_a_place(alloc)?)?;
     print(rt, "recode_system", conversions::answers_words(rt)? <= 4)?;
     run_programs(rt)
 }

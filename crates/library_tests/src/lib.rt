@@ -1,7 +1,8 @@
 //! Calls of the libraries that are no lines of the programs of cases, worked by hand: labels
 //! (`encoding_labels`), encodings and one-shot calls (`encoding_front`), counted devices, places of
-//! what a log names and the program (`recode_log`, `recode_places`, `recode`). There are tests
-//! alone here.
+//! what a log names and what is printed of them (`recode_log`, `recode_places`,
+//! `recode_places_report`), the program and its calls of writers (`recode`). There are tests alone
+//! here.
 #![tactic(auto)]
 
 #[cfg(test)]
@@ -23,5 +24,7 @@ mod one_shot;
 mod places;
 #[cfg(test)]
 mod programs;
+#[cfg(test)]
+mod reports;
 #[cfg(test)]
 mod writes;

@@ -37,27 +37,29 @@ pub trait IndexSource {
         ensures files { (d f : List ℕ) → holds self.new d f ≡ holds self.old d f };
 }
 
-// Why an index is not there.
+/// Why an index is not there. `Display` shows it as the messages of `program` do, without the name
+/// of the program.
 #[derive(Debug, Drop, PartialEq, Eq, Error)]
-pub(crate) enum StartFault {
-    // The source does not give the file.
+pub enum StartFault {
+    /// The source does not give the file.
     #[error("{file}: missing")]
     Missing {
         file: &'static str,
     },
-    // A line of the file, counted from 1, has a fault.
+    /// A line of the file, counted from 1, has a fault.
     #[error("{file}: line {line}: {kind:?}")]
     Line {
         file: &'static str,
         line: usize,
         kind: IndexFaultKind,
     },
-    // What the file stands for is not taken.
+    /// What the file stands for is not taken.
     #[error("{file}: table: {kind}")]
     Table {
         file: &'static str,
         kind: &'static str,
     },
+    /// Memory was refused.
     #[error("out of memory")]
     Memory,
 }
@@ -125,9 +127,9 @@ fn load_index<S: IndexSource>(
     }
 }
 
-// Puts the indexes that the encoding needs into the tables, each once, in the order of `needs`, up
-// to the first that is missing or faulty.
-pub(crate) fn load_indexes<S: IndexSource>(
+/// Puts the indexes that the encoding needs into the tables, each once, in the order of `needs`, up
+/// to the first that is missing or faulty: that is the error, and those before it are there.
+pub fn load_indexes<S: IndexSource>(
     alloc: Global,
     source: &mut S,
     dir: &str,

@@ -60,7 +60,7 @@ pub use conversion::{FAITHFUL, FAULT, NOT_FAITHFUL, convert};
 pub use encoding_front::{DecoderResult, EncoderResult, Encoding, Mark, Reference};
 pub use encoding_tables::Tables;
 pub use entry::{NOT_STARTED, REFUSED, program};
-pub use indexes::{IndexSource, SourceFault};
+pub use indexes::{IndexSource, SourceFault, StartFault, load_indexes};
 pub use job::{Buffers, Fault, Job, Pivot, Policy, Progress, Report};
 pub use recode_log::{Counted, LogLine};
 pub use recode_words::GREATEST_LIMIT;

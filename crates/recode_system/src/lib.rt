@@ -18,3 +18,4 @@ mod system_files;
 mod system_words;
 
 pub use command_line::{CommandLine, Wordless, answer};
+pub use system_files::SystemFiles;

@@ -16,14 +16,16 @@ fn path_of(alloc: Global, dir: &str, file: &str) -> Result<String, AllocError>
     format!(in alloc; "{dir}/{file}")
 }
 
-// The files that a runtime reaches.
+/// The files that a runtime reaches, as a source of index files, which have 2^24 bytes at most. No
+/// contract tells what they hold.
 #[derive(Drop)]
-pub(crate) struct SystemFiles<'r, R> {
+pub struct SystemFiles<'r, R> {
     runtime: &'r R,
 }
 
 impl<'r, R> SystemFiles<'r, R> {
-    pub(crate) fn new(runtime: &'r R) -> SystemFiles<'r, R> {
+    /// The files of this runtime.
+    pub fn new(runtime: &'r R) -> SystemFiles<'r, R> {
         SystemFiles { runtime }
     }
 }

@@ -1,0 +1,230 @@
+//! The program over any files and streams: words, labels, indexes, and then the places.
+
+ghost use Rattle.std.specs.Prelude.{◌≡◌, ◌≤◌};
+ghost use Rattle.encoding_front.specs.Encodings.{IsReady};
+
+use crate::fault::Fault;
+use crate::words::{Request, Words, parse};
+use encoding_front::Encoding;
+use encoding_tables::Tables;
+use recode::load_indexes;
+use recode_places::{Choice, Fates, LogMatch, Source, tell_places};
+use recode_places_report::{Counts, Report, shown};
+use recode_system::{CommandLine, SystemFiles, Wordless};
+use std::alloc::{AllocError, Global};
+use std::fs;
+use std::io::{BufWriter, Read, Write};
+use std::rt::Files;
+
+// The standard streams: the log on standard input, what is told on standard output.
+#[derive(Drop)]
+pub(crate) struct Streams<L, W, M> {
+    pub(crate) log: L,
+    pub(crate) output: W,
+    pub(crate) messages: M,
+    // Whether the output takes codes of colour.
+    pub(crate) has_colour: bool,
+}
+
+// What is told, of which input, and where to.
+#[derive(Drop)]
+struct Job<'a, R, W: Write + Drop> {
+    alloc: Global,
+    words: Words<'a>,
+    from: Encoding,
+    to: Encoding,
+    input: R,
+    output: BufWriter<W>,
+    has_colour: bool,
+}
+
+impl<'a, R: Read + Drop, W: Write + Drop> Job<'a, R, W> {
+    fn source<'t>(&self, tables: &'t Tables) -> Source<'t>
+        ensures from { result.from ≡ self.now.from }
+        ensures tables { result.tables ≡ tables.entry }
+    {
+        Source {
+            from: self.from,
+            mark: self.words.mark,
+            tables,
+        }
+    }
+
+    // Shows the places, and tells whether there are any.
+    fn show<L: Read>(self, tables: &Tables, choice: &mut Choice<'_, L>) -> Result<bool, Fault>
+        requires { IsReady tables.now self.from }
+    {
+        let source = self.source(tables);
+        let Job {
+            alloc,
+            words,
+            to,
+            mut input,
+            output,
+            has_colour,
+            ..
+        } = self;
+        let mut report = Report::new(alloc, output, words.input, to, words.most)?;
+        if has_colour {
+            report = report.coloured();
+        }
+        let told = tell_places(&mut input, source, choice, &mut report);
+        if told.is_ok() {
+            report.finish()?;
+        } else {
+            report.cut_short()?;
+        }
+        told?;
+        Ok(report.count() > 0)
+    }
+
+    // Shows what is lost and how often, and tells whether anything is.
+    fn count<L: Read>(self, tables: &Tables, choice: &mut Choice<'_, L>) -> Result<bool, Fault>
+        requires { IsReady tables.now self.from }
+    {
+        let source = self.source(tables);
+        let Job {
+            alloc,
+            to,
+            mut input,
+            mut output,
+            ..
+        } = self;
+        let mut counts = Counts::new(alloc, to);
+        tell_places(&mut input, source, choice, &mut counts)?;
+        counts.write(&mut output)?;
+        Ok(!counts.is_empty())
+    }
+
+    fn tell<L: Read>(self, tables: &Tables, choice: &mut Choice<'_, L>) -> Result<bool, Fault>
+        requires { IsReady tables.now self.from }
+    {
+        if self.words.is_count {
+            self.count(tables, choice)
+        } else {
+            self.show(tables, choice)
+        }
+    }
+}
+
+// The encoding of a label.
+fn encoding_of(alloc: Global, label: &str) -> Result<Encoding, Fault> {
+    match Encoding::for_label(label.as_bytes()) {
+        Some(encoding) => Ok(encoding),
+        None => Err(Fault::Label(shown(alloc, label)?)),
+    }
+}
+
+// Tells what the words ask for, and returns whether there was anything to tell.
+fn run<F: Files, L: Read + Drop, W: Write + Drop>(
+    alloc: Global,
+    words: Words<'_>,
+    files: &F,
+    log: L,
+    output: W,
+    has_colour: bool,
+) -> Result<bool, Fault> {
+    let from = encoding_of(alloc, words.from)?;
+    let to = encoding_of(alloc, words.to)?;
+    let mut tables = Tables::new(alloc);
+    let mut indexes = SystemFiles::new(files);
+    load_indexes(alloc, &mut indexes, words.indexes, from, &mut tables)?;
+    // The log is read before the input is opened, which would take the place of a standard input
+    // that is closed.
+    let log = if words.has_log {
+        Some(LogMatch::new(log)?)
+    } else {
+        None
+    };
+    let Ok(input) = fs::open(files, words.input) else {
+        return Err(Fault::Input(shown(alloc, words.input)?));
+    };
+    let Ok(output) = BufWriter::new(alloc, output) else {
+        return Err(Fault::Memory);
+    };
+    let job = Job {
+        alloc,
+        words,
+        from,
+        to,
+        input,
+        output,
+        has_colour,
+    };
+    let log = match log {
+        Some(log) if !words.has_folds => return job.tell(&tables, &mut Choice::of_log(log)),
+        log => log,
+    };
+    load_indexes(
+        alloc,
+        &mut indexes,
+        words.indexes,
+        to.output_encoding(),
+        &mut tables,
+    )?;
+    let fates = Fates::new(to, &tables);
+    let mut choice = match log {
+        Some(log) => Choice::of_log_with_folds(log, fates),
+        None => Choice::of_target(fates, words.has_folds),
+    };
+    job.tell(&tables, &mut choice)
+}
+
+// Writes a text for a person. What can't be written is dropped: there is nobody else to tell.
+fn say<W: Write>(writer: &mut W, text: &str) {
+    let _ = writer.write_all(text.as_bytes());
+    let _ = writer.flush();
+}
+
+// Tells why nothing more is told, and returns the exit status.
+fn fail<M: Write>(messages: &mut M, fault: &Fault) -> u8
+    ensures { result ≤ 4 }
+{
+    let _ = writeln!(messages, "recode-places: {fault}");
+    fault.status()
+}
+
+// Does what the words of the command line ask for, and returns the exit status.
+pub(crate) fn answer<
+    S: CommandLine + AllocGlobal + Files,
+    L: Read + Drop,
+    W: Write + Drop,
+    M: Write + Drop,
+>(system: &S, streams: Streams<L, W, M>) -> u8
+    ensures { result ≤ 4 }
+{
+    let Streams {
+        log,
+        mut output,
+        mut messages,
+        has_colour,
+    } = streams;
+    let alloc = system.alloc();
+    let owned = match system.words(alloc) {
+        Ok(owned) => owned,
+        Err(Wordless::NotUtf8) => return fail(&mut messages, &Fault::Words),
+        Err(Wordless::Memory) => return fail(&mut messages, &Fault::Memory),
+    };
+    let slices: Result<Vec<&str>, AllocError> = owned
+        .iter()
+        .map(|word| word.as_str())
+        .collect(alloc);
+    let Ok(slices) = slices else {
+        return fail(&mut messages, &Fault::Memory);
+    };
+    match parse(alloc, slices.as_slice()) {
+        Ok(Request::Tell(words)) => match run(alloc, words, system, log, output, has_colour) {
+            Ok(is_any) => u8::from(is_any),
+            Err(fault) => fail(&mut messages, &fault),
+        },
+        Ok(Request::Print(text)) => {
+            say(&mut output, text.as_str());
+            0
+        }
+        Ok(Request::Refuse(text)) => {
+            say(&mut messages, text.as_str());
+            2
+        }
+        Err(_) => fail(&mut messages, &Fault::Memory),
+    }
+}

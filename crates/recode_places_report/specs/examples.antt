@@ -1,0 +1,2 @@
+-- Worked rows: what the definitions of `specs/` come to on inputs that a reader can work by hand.
+pub mod Shown
