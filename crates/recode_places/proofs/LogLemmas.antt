@@ -1,8 +1,8 @@
 -- What a log's reader gives, byte by byte and line by line.
-use Rattle.std.proofs.Common.{◌≡◌, ℕ, ◌+◌, ◌<◌, ◌≤◌, List, [], ◌∷◌, ◌++◌, Option, Some, None, IfSome, refl, sym, ◌∙◌, ap, subst, arith, append-nil, append_assoc, length, drop, take, option_map, slice_index_or, inl, inr, codes, ◌==◌, false}
+use Rattle.std.proofs.Common.{◌≡◌, ℕ, ◌⊎◌, ◌+◌, ◌<◌, ◌≤◌, List, [], ◌∷◌, ◌++◌, Option, Some, None, IfSome, refl, sym, ◌∙◌, ap, subst, arith, append-nil, append_assoc, length, drop, take, option_map, slice_index_or, inl, inr, codes, ◌==◌, false}
 use Rattle.std.proofs.Math.ListN.{drop_of_length-le}
 use Rattle.std.proofs.lemmas.Option.{none-some, same_Some}
-use Rattle.std.proofs.lemmas.List.{drop_more, get_or-take, length-take}
+use Rattle.std.proofs.lemmas.List.{drop_more, get_or-take, length-append, length-take}
 use Rattle.std.specs.Io.KnownBytes.{Consumes}
 use Rattle.recode_places.specs.Places.{feeds}
 use Rattle.recode_places.specs.calls.LogViews.{IsMeaning, ReadsByte, ReadsLine}
@@ -56,12 +56,17 @@ cut_short (Some x) mid new bs none h k =
     inl (ap feeds (h.2 ∙ ap (λ z. bs ++ z) empty ∙ append-nil bs) ∙ none)
 
 -- a whole line, or too many bytes for one
-pub read_line : (old new : Option (List ℕ)) (bs : List ℕ) (n : NextLine) → HasRead old new bs → IsMeaning bs n → ReadsLine old new n
-read_line None new bs n h k = tt
-read_line (Some x) new bs (Line l) h k = (h.0, h.1, h.2 ∙ ap (λ z. z ++ h.0) (sym k))
-read_line (Some x) new bs End h k = inr (k.0 ++ h.0, h.2 ∙ ap (λ z. z ++ h.0) k.1 ∙ append_assoc (codes "recode: ") k.0 h.0)
-read_line (Some x) new bs Other h k = tt
+pub read_line : (old new : Option (List ℕ)) (bs : List ℕ) (n : NextLine) → HasRead old new bs → (0 < feeds bs) ⊎ (64 ≤ length bs) → IsMeaning bs n → ReadsLine old new n
+read_line None new bs n h long k = tt
+read_line (Some x) new bs (Line l) h long k = (h.0, h.1, h.2 ∙ ap (λ z. z ++ h.0) (sym k))
+read_line (Some x) new bs End h long k = inr (k.0 ++ h.0, h.2 ∙ ap (λ z. z ++ h.0) k.1 ∙ append_assoc (codes "recode: ") k.0 h.0)
+read_line (Some x) new bs Other h (inl feed) k = inl (omega (arith, feed, ap feeds h.2, feeds-append bs h.0))
+read_line (Some x) new bs Other h (inr many) k = inr (omega (arith, many, ap length h.2, length-append bs h.0))
 
 -- one more byte, which is no line feed
 pub no_feed : (bs : List ℕ) (v : ℕ) → feeds bs ≡ 0 → (v == 10) ≡ false → feeds (bs ++ (v ∷ [])) ≡ 0
 no_feed bs v h k = grind (arith, feeds-append bs (v ∷ []), h, k)
+
+-- a line feed at the end
+pub some_feed : (bs : List ℕ) (v : ℕ) → v ≡ 10 → 0 < feeds (bs ++ (v ∷ []))
+some_feed bs v k = grind (arith, feeds-append bs (v ∷ []), k)
