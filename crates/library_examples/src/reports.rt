@@ -16,7 +16,7 @@ pub(crate) fn reports_a_place(alloc: Global) -> anyhow::Result<bool> {
         },
     })?;
     report.malformed(b"\xFF", Encoding::Utf8)?;
-    report.text("one\n")?;
+    report.characters("one\n")?;
     report.finish()?;
     // end
     let right = "old.txt:1:1: byte FF in no character of UTF-8\n  1 | <FF>one\n    | ^^^^\n";

@@ -25,13 +25,13 @@ fn tell<V: Visitor>(visitor: &mut V, parts: &[Part]) -> Result<(), Stop> {
             column,
         };
         match *part {
-            Part::Text(text) => visitor.text(text)?,
+            Part::Text(text) => visitor.characters(text)?,
             Part::Lost(scalar) => {
                 visitor.entry(Entry {
                     place,
                     finding: Finding::Lost { scalar },
                 })?;
-                visitor.text(scalar.encode_utf8(&mut [0; 4]))?;
+                visitor.characters(scalar.encode_utf8(&mut [0; 4]))?;
             }
             Part::Bytes(bytes) => {
                 visitor.entry(Entry {

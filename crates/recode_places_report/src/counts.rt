@@ -79,7 +79,7 @@ impl Visitor for Counts {
     // It keeps no list of the entries.
     ghost told = { λ _. None };
 
-    fn text(&mut self, _text: &str) -> Result<(), Stop> {
+    fn characters(&mut self, _text: &str) -> Result<(), Stop> {
         Ok(())
     }
 

@@ -13,7 +13,7 @@
 //!         },
 //!     })?;
 //!     report.malformed(b"\xFF", Encoding::Utf8)?;
-//!     report.text("one\n")?;
+//!     report.characters("one\n")?;
 //!     report.finish()?;
 //!
 //! The first line of what was written, `report.into_writer()`, is

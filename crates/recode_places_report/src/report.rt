@@ -245,7 +245,7 @@ impl<W: Write + Drop> Visitor for Report<W> {
     // It keeps no list of the entries.
     ghost told = { λ _. None };
 
-    fn text(&mut self, text: &str) -> Result<(), Stop> {
+    fn characters(&mut self, text: &str) -> Result<(), Stop> {
         let mut rest = text.chars();
         for _ in 0..u64::MAX {
             if self.waiting.is_empty() {
