@@ -25,10 +25,12 @@ pub(crate) fn tells_a_place(alloc: Global) -> anyhow::Result<bool> {
         return Ok(false);
     };
     let is_there = entry.place.line == 2 && entry.place.column == 2 && entry.place.index == 5;
-    Ok(is_there
-        && entry.finding
-            == Finding::Malformed {
-                offset: 5,
-                length: 1,
-            })
+    Ok(
+        is_there
+            && entry.finding
+                == Finding::Malformed {
+                    offset: 5,
+                    length: 1,
+                },
+    )
 }

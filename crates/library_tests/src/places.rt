@@ -2,8 +2,9 @@
 
 use encoding_front::{Encoding, Mark};
 use encoding_tables::Tables;
-use recode_places::{Choice, Entry, Fate, Fates, Finding, LogMatch};
-use recode_places::{Place, Source, Stop, tell_places};
+use recode_places::{
+    Choice, Entry, Fate, Fates, Finding, LogMatch, Place, Source, Stop, tell_places,
+};
 use std::alloc::Global;
 use std::io;
 use std::io::{ErrorKind, Read};
@@ -78,7 +79,10 @@ fn a_log_ends_at_a_cut_line_and_at_a_message(rt: HostRuntime) -> Result<(), Fail
     assert_eq!(rt; count_told(alloc, INPUT, b""), Ok(0));
     assert_eq!(rt; count_told(alloc, INPUT, b"lost 7 937\n"), Ok(1));
     assert_eq!(rt; count_told(alloc, INPUT, b"bad 5 1\nlost 7 93"), Ok(1));
-    assert_eq!(rt; count_told(alloc, INPUT, b"bad 5 1\nrecode: write fault\nx\n"), Ok(1));
+    assert_eq!(rt;
+        count_told(alloc, INPUT, b"bad 5 1\nrecode: write fault\nx\n"),
+        Ok(1)
+    );
     Ok(())
 }
 
@@ -94,7 +98,10 @@ fn a_line_of_another_input_is_refused(rt: HostRuntime) -> Result<(), Fail> {
     assert_eq!(rt; count_told(alloc, INPUT, b"bad 9 1\n"), first);
     assert_eq!(rt; count_told(alloc, INPUT, b"lost 7 937 \n"), first);
     assert_eq!(rt; count_told(alloc, INPUT, b"lost 7 937\nbad 5 1\n"), second);
-    assert_eq!(rt; count_told(alloc, INPUT, b"lost 7 937\nlost 7 937\n"), second);
+    assert_eq!(rt;
+        count_told(alloc, INPUT, b"lost 7 937\nlost 7 937\n"),
+        second
+    );
     assert_eq!(rt; count_told(alloc, INPUT, b"bad 5 1\nlost 5 63\n"), second);
     Ok(())
 }
@@ -106,7 +113,10 @@ fn a_refused_control_has_the_number_of_the_replacement(rt: HostRuntime) -> Resul
     assert_eq!(rt; is_at(&entries[0], 1, 1, 2), true);
     assert_eq!(rt; entries[0].finding, Finding::Lost { scalar: '\u{1B}' });
     let refused: Result<usize, Stop> = Err(Stop::Unfit { line: 1 });
-    assert_eq!(rt; count_told(rt.alloc(), b"a\x1Bb", b"lost 0 65533\n"), refused);
+    assert_eq!(rt;
+        count_told(rt.alloc(), b"a\x1Bb", b"lost 0 65533\n"),
+        refused
+    );
     Ok(())
 }
 
@@ -173,7 +183,10 @@ fn a_read_that_fails_is_told(rt: HostRuntime) -> Result<(), Fail> {
     assert!(rt; source.from.is_ready(&tables));
     let mut entries: Vec<Entry> = Vec::new(rt.alloc());
     let mut choice = Choice::of_log(LogMatch::new(b"".as_slice())?);
-    assert_eq!(rt; tell_places(&mut Failing, source, &mut choice, &mut entries), Err(Stop::Input));
+    assert_eq!(rt;
+        tell_places(&mut Failing, source, &mut choice, &mut entries),
+        Err(Stop::Input)
+    );
     let Err(stop) = LogMatch::new(Failing) else {
         panic!(rt; "a log was read that can't be read");
     };
