@@ -5,3 +5,5 @@ pub mod CallLemmas
 pub mod WalkLemmas
 pub mod LogLemmas
 pub mod ReadsLemmas
+pub mod LineLemmas
+pub mod FitsLemmas

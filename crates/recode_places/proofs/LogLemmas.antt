@@ -1,10 +1,14 @@
 -- What a log's reader gives, byte by byte and line by line.
-use Rattle.std.proofs.Common.{◌≡◌, ℕ, ◌⊎◌, ◌+◌, ◌<◌, ◌≤◌, List, [], ◌∷◌, ◌++◌, Option, Some, None, IfSome, refl, sym, ◌∙◌, ap, subst, arith, append-nil, append_assoc, length, drop, take, option_map, slice_index_or, inl, inr, codes, ◌==◌, false}
+use Rattle.std.proofs.Common.{◌≡◌, ℕ, ◌+◌, ◌<◌, ◌≤◌, List, [], ◌∷◌, ◌++◌, Option, Some, None, IfSome, refl, sym, ◌∙◌, ap, subst, arith, append-nil, append_assoc, length, drop, take, option_map, slice_index_or, inl, inr, codes, ◌==◌, false}
 use Rattle.std.proofs.Math.ListN.{drop_of_length-le}
 use Rattle.std.proofs.lemmas.Option.{none-some, same_Some}
 use Rattle.std.proofs.lemmas.List.{drop_more, get_or-take, length-append, length-take}
 use Rattle.std.specs.Io.KnownBytes.{Consumes}
 use Rattle.recode_places.specs.Places.{feeds}
+use Rattle.recode_places.specs.Logs.{BeginsWithLine, CanBeLogged, IsLogEnd, IsMessage}
+use Rattle.recode_log.specs.Line.{line_bytes}
+use Rattle.recode_log.specs.declared.line.LogLine.{LogLine}
+use Rattle.recode_places.proofs.LineLemmas.{Lacks, begins_before, begins_longer, lacks_from_feeds, line_ends, no_line_in, split_first}
 use Rattle.recode_places.specs.calls.LogViews.{IsMeaning, ReadsByte, ReadsLine}
 use Rattle.recode_places.specs.declared.log_lines.NextLine.{NextLine}
 use Rattle.recode_places.specs.declared.log_lines.NextLine.TheVariants.{Line, End, Other}
@@ -30,7 +34,7 @@ byte_read (Some x) at len b (Some y) h k e =
 
 -- ---- a line
 
-feeds-append : (x y : List ℕ) → feeds (x ++ y) ≡ feeds x + feeds y
+pub feeds-append : (x y : List ℕ) → feeds (x ++ y) ≡ feeds x + feeds y
 feeds-append [] y = omega arith
 feeds-append (c ∷ x) y = omega (arith, feeds-append x y)
 
@@ -49,24 +53,49 @@ has_read_byte (Some x) mid new bs v h k =
     (next.0, next.1, h.2 ∙ ap (λ z. bs ++ z) next.2 ∙ sym (append_assoc bs (v ∷ []) next.0))
 
 -- the log ended in a line
-pub cut_short : (old mid new : Option (List ℕ)) (bs : List ℕ) → feeds bs ≡ 0 → HasRead old mid bs → ReadsByte mid new None → ReadsLine old new End
-cut_short None mid new bs none h k = tt
-cut_short (Some x) mid new bs none h k =
+pub cut_short : (old mid new : Option (List ℕ)) (bs : List ℕ) → feeds bs ≡ 0 → length bs < 64 → HasRead old mid bs → ReadsByte mid new None → ReadsLine old new End
+cut_short None mid new bs none short h k = tt
+cut_short (Some x) mid new bs none short h k =
     let empty = subst (λ m. ReadsByte m new None) h.1 k in
-    inl (ap feeds (h.2 ∙ ap (λ z. bs ++ z) empty ∙ append-nil bs) ∙ none)
+    let all : x ≡ bs = h.2 ∙ ap (λ z. bs ++ z) empty ∙ append-nil bs in
+    inl (ap feeds all ∙ none, omega (arith, ap length all, short))
+
+-- what was read up to a line feed, or 64 bytes with none
+pub data IsWhole (bs : List ℕ) : Type 0 where
+  to_feed : (body : List ℕ) → bs ≡ body ++ (10 ∷ []) → feeds body ≡ 0 → IsWhole bs
+  too_long : length bs ≡ 64 → feeds bs ≡ 0 → IsWhole bs
+
+message_lacks : Lacks 10 (codes "recode: ")
+message_lacks = lacks_from_feeds (codes "recode: ") refl
+
+-- it is no end of a log
+no_end : (x bs y : List ℕ) → x ≡ bs ++ y → IsWhole bs → ¬ (IsMessage bs) → ¬ (IsLogEnd x)
+no_end x bs y e (to_feed body w none) k (inl cut) = omega (arith, cut.0, ap feeds e, feeds-append bs y, ap feeds w, feeds-append body (10 ∷ []))
+no_end x bs y e (too_long size none) k (inl cut) = omega (arith, cut.1, ap length e, length-append bs y, size)
+no_end x bs y e (to_feed body w none) k (inr message) =
+    let rest = begins_before (codes "recode: ") message.0 body y message_lacks (sym message.1 ∙ e ∙ ap (λ z. z ++ y) w ∙ append_assoc body (10 ∷ []) y) in
+    k (rest.0 ++ (10 ∷ []), w ∙ ap (λ z. z ++ (10 ∷ [])) rest.1 ∙ append_assoc (codes "recode: ") rest.0 (10 ∷ []))
+no_end x bs y e (too_long size none) k (inr message) = k (begins_longer (codes "recode: ") message.0 bs y (omega (arith, size)) (sym message.1 ∙ e))
+
+-- and no line begins it
+no_line : (x bs y : List ℕ) → x ≡ bs ++ y → IsWhole bs → ((l : LogLine) → CanBeLogged l → ¬ (line_bytes l ≡ bs)) → ¬ (BeginsWithLine x)
+no_line x bs y e (to_feed body w none) k b =
+    let ends = line_ends b.0 b.2 in
+    let same = split_first 10 ends.body body b.1 y ends.lacks (lacks_from_feeds body none)
+    (sym (append_assoc ends.body (10 ∷ []) b.1) ∙ ap (λ z. z ++ b.1) (sym ends.whole) ∙ sym b.3 ∙ e ∙ ap (λ z. z ++ y) w ∙ append_assoc body (10 ∷ []) y) in
+    k b.0 b.2 (ends.whole ∙ ap (λ z. z ++ (10 ∷ [])) same.0 ∙ sym w)
+no_line x bs y e (too_long size none) k b =
+    let ends = line_ends b.0 b.2 in
+    no_line_in bs ends.body b.1 y (lacks_from_feeds bs none) (omega (arith, size, ends.short))
+    (sym (append_assoc ends.body (10 ∷ []) b.1) ∙ ap (λ z. z ++ b.1) (sym ends.whole) ∙ sym b.3 ∙ e)
 
 -- a whole line, or too many bytes for one
-pub read_line : (old new : Option (List ℕ)) (bs : List ℕ) (n : NextLine) → HasRead old new bs → (0 < feeds bs) ⊎ (64 ≤ length bs) → IsMeaning bs n → ReadsLine old new n
-read_line None new bs n h long k = tt
-read_line (Some x) new bs (Line l) h long k = (h.0, h.1, h.2 ∙ ap (λ z. z ++ h.0) (sym k))
-read_line (Some x) new bs End h long k = inr (k.0 ++ h.0, h.2 ∙ ap (λ z. z ++ h.0) k.1 ∙ append_assoc (codes "recode: ") k.0 h.0)
-read_line (Some x) new bs Other h (inl feed) k = inl (omega (arith, feed, ap feeds h.2, feeds-append bs h.0))
-read_line (Some x) new bs Other h (inr many) k = inr (omega (arith, many, ap length h.2, length-append bs h.0))
+pub read_line : (old new : Option (List ℕ)) (bs : List ℕ) (n : NextLine) → HasRead old new bs → IsWhole bs → IsMeaning bs n → ReadsLine old new n
+read_line None new bs n h whole k = tt
+read_line (Some x) new bs (Line l) h whole k = (h.0, h.1, h.2 ∙ ap (λ z. z ++ h.0) (sym k.0), k.1)
+read_line (Some x) new bs End h whole k = inr (k.0 ++ h.0, h.2 ∙ ap (λ z. z ++ h.0) k.1 ∙ append_assoc (codes "recode: ") k.0 h.0)
+read_line (Some x) new bs Other h whole k = (no_end x bs h.0 h.2 whole k.0, no_line x bs h.0 h.2 whole k.1)
 
 -- one more byte, which is no line feed
 pub no_feed : (bs : List ℕ) (v : ℕ) → feeds bs ≡ 0 → (v == 10) ≡ false → feeds (bs ++ (v ∷ [])) ≡ 0
 no_feed bs v h k = grind (arith, feeds-append bs (v ∷ []), h, k)
-
--- a line feed at the end
-pub some_feed : (bs : List ℕ) (v : ℕ) → v ≡ 10 → 0 < feeds (bs ++ (v ∷ []))
-some_feed bs v k = grind (arith, feeds-append bs (v ∷ []), k)

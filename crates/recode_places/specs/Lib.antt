@@ -1,5 +1,6 @@
 pub mod Places
 pub mod Entries
 pub mod Logs
+pub mod Fits
 pub mod calls
 pub mod examples

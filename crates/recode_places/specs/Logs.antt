@@ -1,6 +1,7 @@
 -- How the lines of a log name what is told.
-use Rattle.std.specs.Prelude.{◌≡◌, ℕ, ◌⊎◌, List, [], ◌∷◌, ◌++◌, Option, Some, IfSome, codes}
-use Rattle.recode_log.specs.Line.{line_bytes}
+use Rattle.std.specs.Prelude.{◌≡◌, ℕ, ◌<◌, ◌⊎◌, length, List, [], ◌∷◌, ◌++◌, Option, Some, IfSome, codes}
+use Rattle.recode_log.specs.Line.{HasScalar, IsValid, line_bytes}
+use Rattle.recode_log.specs.declared.line.LogLine.{LogLine}
 use Rattle.recode_log.specs.declared.line.LogLine.TheVariants.{Bad}
 use Rattle.recode_log.specs.declared.line.LogLine.TheVariants as line
 use Rattle.recode_places.specs.Places.{feeds}
@@ -8,13 +9,21 @@ use Rattle.recode_places.specs.declared.entry.Entry.{Entry}
 use Rattle.recode_places.specs.declared.entry.Finding.{Finding}
 use Rattle.recode_places.specs.declared.entry.Finding.TheVariants.{Malformed, Lost, Folded}
 
+-- a line can be logged: it is valid, and its character, if it has one, is a scalar
+abbrev pub CanBeLogged : LogLine → Type 0
+CanBeLogged l = IsValid l × HasScalar l
+
 -- bytes begin as a message of `recode` does
 abbrev pub IsMessage : List ℕ → Type 0
 IsMessage x = (more : List ℕ) × (x ≡ codes "recode: " ++ more)
 
 -- a log has nothing more to say: it is at its end, its last line is cut short, or a message of `recode` comes
 abbrev pub IsLogEnd : List ℕ → Type 0
-IsLogEnd x = (feeds x ≡ 0) ⊎ IsMessage x
+IsLogEnd x = ((feeds x ≡ 0) × (length x < 64)) ⊎ IsMessage x
+
+-- bytes begin with a line that can be logged
+abbrev pub BeginsWithLine : List ℕ → Type 0
+BeginsWithLine x = (l : LogLine) × (rest : List ℕ) × CanBeLogged l × (x ≡ line_bytes l ++ rest)
 
 -- the three controls that ISO-2022-JP refuses
 abbrev pub IsRefusedControl : ℕ → Type 0

@@ -1,3 +1,4 @@
 -- Worked rows: what the definitions say of values, by `refl`.
 pub mod Entries
+pub mod Fits
 pub mod Places

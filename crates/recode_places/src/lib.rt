@@ -27,6 +27,7 @@
 pub mod choice;
 pub mod entry;
 pub mod fates;
+pub mod laws;
 pub mod log_lines;
 pub mod log_match;
 pub mod place;

@@ -1,6 +1,6 @@
 //! The lines of a log, one by one.
 
-ghost use Rattle.std.specs.Prelude.{◌≡◌, ◌≤◌, ◌<◌, IfOk, IfSome, OnOk, Some, true, false};
+ghost use Rattle.std.specs.Prelude.{◌≡◌, ◌≤◌, ◌<◌, IfErr, IfOk, IfSome, OnOk, Some, true, false};
 ghost use Rattle.std.specs.Io.KnownBytes.{IsAtEnd};
 
 use crate::entry::Stop;
@@ -51,6 +51,8 @@ pub struct LogLines<L> {
 
 impl<L: Read> LogLines<L> {
     ghost use Rattle.recode_places.specs.calls.LogViews.{ReadsByte, ReadsLine, unread};
+    ghost use Rattle.recode_places.specs.calls.Ready.{IsLineIfAny};
+    ghost use Rattle.recode_places.specs.declared.entry.Stop.TheVariants.{Log};
 
     /// The lines of what the reader gives.
     pub fn new(reader: L) -> LogLines<L>
@@ -77,6 +79,7 @@ impl<L: Read> LogLines<L> {
         ensures some { IfOk result (λ is_there. is_there ≡ true → self.new.at < self.new.len) }
         ensures end { IfOk result (λ is_there. is_there ≡ false
             → IsAtEnd (unread L.remaining self.new)) }
+        ensures err { IfErr result (λ stop. stop ≡ Log) }
     {
         if self.at < self.len {
             return Ok(true);
@@ -92,8 +95,9 @@ impl<L: Read> LogLines<L> {
 
     // The next byte of the log, or `None` at its end.
     fn byte(&mut self) -> Result<Option<u8>, Stop>
-        ensures { IfOk result (ReadsByte (unread L.remaining self.old)
+        ensures read { IfOk result (ReadsByte (unread L.remaining self.old)
             (unread L.remaining self.new)) }
+        ensures err { IfErr result (λ stop. stop ≡ Log) }
     {
         if self.fill()? {
             let byte = self.bytes[self.at];
@@ -106,8 +110,10 @@ impl<L: Read> LogLines<L> {
 
     /// Reads the next line. The error is `Log`, if a read fails.
     pub fn next_line(&mut self) -> Result<NextLine, Stop>
-        ensures { IfOk result (ReadsLine (unread L.remaining self.old)
+        ensures read { IfOk result (ReadsLine (unread L.remaining self.old)
             (unread L.remaining self.new)) }
+        ensures line { IfOk result IsLineIfAny }
+        ensures err { IfErr result (λ stop. stop ≡ Log) }
     {
         self.number = self.number.saturating_add(1);
         let mut line = [0; LONGEST];

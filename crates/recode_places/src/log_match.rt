@@ -1,7 +1,11 @@
 //! What the lines of a log name, matched by number.
 
-ghost use Rattle.std.specs.Prelude.{◌≡◌, ◌↔◌, IfOk, IsTrue, IsErr, OnOk, []};
+ghost use Rattle.std.specs.Prelude.{◌≡◌, ◌↔◌, ℕ, ◌+◌, ◌<◌, ◌≤◌, List, [], ◌∷◌, length};
+ghost use Rattle.std.specs.Prelude.{IfOk, IsTrue, IsErr, IsOk, OnOk};
+ghost use Rattle.encoding_mem.specs.Piece.{Piece, malformed};
 ghost use Rattle.recode_places.specs.Logs.{IsLoggedAs};
+ghost use Rattle.recode_places.specs.Fits.{IsOutside};
+ghost use Rattle.recode_places.specs.calls.Ready.{IsLineIfAny, IsLineIfAny-prop};
 
 use crate::entry::Stop;
 use crate::log_lines::{LogLines, NextLine};
@@ -15,6 +19,7 @@ use std::io::Read;
 pub struct LogMatch<L> {
     lines: LogLines<L>,
     next: NextLine,
+    ghost line: { IsLineIfAny next } by { IsLineIfAny-prop next },
 }
 
 impl<L: Read + Drop> LogMatch<L> {
@@ -33,7 +38,8 @@ impl<L: Read + Drop> LogMatch<L> {
 }
 
 impl<L: Read> LogMatch<L> {
-    ghost use Rattle.recode_places.specs.Logs.{ended};
+    ghost use Rattle.recode_places.specs.Fits.{Fits, FitsFrom, GoesOn, IsLeftOfLog};
+    ghost use Rattle.recode_places.specs.Logs.{IsLogEnd, ended};
     ghost use Rattle.recode_places.specs.calls.LogViews.{NamesCharacter, NamesMalformed};
     ghost use Rattle.recode_places.specs.calls.LogViews.{NamesSequence, TakesSome, match_left};
 
@@ -47,12 +53,15 @@ impl<L: Read> LogMatch<L> {
 
     /// Whether no line that comes next names a character of a text of so many bytes, whose first
     /// character has this index.
-    pub fn passes_over(&self, index: u64, len: usize) -> bool {
+    pub fn passes_over(&self, index: u64, len: usize) -> bool
+        ensures fits { (offset : ℕ) (t : List ℕ) (ps : List Piece) → IsTrue result
+            → length t ≤ len
+            → IsLeftOfLog (FitsFrom index offset t ps) (match_left L.remaining self.now)
+            → IsLeftOfLog (Fits (index + length t) offset ps) (match_left L.remaining self.now) }
+    {
         match self.next {
-            NextLine::Line(LogLine::Lost { index: next, .. }) => {
-                next >= index.saturating_add(len as u64)
-            }
-            NextLine::Line(LogLine::Bad { .. }) | NextLine::End => true,
+            NextLine::Line(line) => is_outside(line, index, len),
+            NextLine::End => true,
             NextLine::Other => false,
         }
     }
@@ -60,10 +69,14 @@ impl<L: Read> LogMatch<L> {
     /// Whether the next line names this character, which has this index. Its line is read.
     ///
     /// The error is `Unfit` if the line names a character that was passed, or another character
-    /// with this index, and `Log` if the log can't be read.
+    /// with this index, and `Log` if the log can't be read. A log that fits is never refused.
     pub fn names_character(&mut self, index: u64, c: char) -> Result<bool, Stop>
-        ensures { IfOk result (λ is_named. TakesSome (match_left L.remaining self.old)
+        ensures named { IfOk result (λ is_named. TakesSome (match_left L.remaining self.old)
             (match_left L.remaining self.new) (NamesCharacter index c is_named)) }
+        ensures fits { (offset : ℕ) (t : List ℕ) (ps : List Piece)
+            → IsLeftOfLog (FitsFrom index offset (c ∷ t) ps) (match_left L.remaining self.old)
+            → GoesOn result (FitsFrom (index + 1) offset t ps)
+            (match_left L.remaining self.new) }
     {
         match self.next {
             NextLine::Line(
@@ -71,7 +84,10 @@ impl<L: Read> LogMatch<L> {
                     index: next,
                     scalar,
                 },
-            ) if next <= index => {
+            ) => {
+                if next > index {
+                    return Ok(false);
+                }
                 if next == index && is_logged_as(c, scalar) {
                     self.next = self.lines.next_line()?;
                     Ok(true)
@@ -79,15 +95,20 @@ impl<L: Read> LogMatch<L> {
                     self.unfit()
                 }
             }
+            NextLine::Line(LogLine::Bad { .. }) | NextLine::End => Ok(false),
             NextLine::Other => self.unfit(),
-            _ => Ok(false),
         }
     }
 
     // Whether the next line names a malformed sequence at this offset. Its line is read.
     fn names_sequence(&mut self, offset: u64, length: u8) -> Result<bool, Stop>
-        ensures { IfOk result (λ is_named. TakesSome (match_left L.remaining self.old)
+        ensures named { IfOk result (λ is_named. TakesSome (match_left L.remaining self.old)
             (match_left L.remaining self.new) (NamesSequence offset length is_named)) }
+        ensures fits { (index : ℕ) (ps : List Piece) → 0 < length
+            → IsLeftOfLog (Fits index offset (malformed length ∷ ps))
+            (match_left L.remaining self.old)
+            → GoesOn result (FitsFrom index (offset + length) (0xFFFD ∷ []) ps)
+            (match_left L.remaining self.new) }
     {
         match self.next {
             NextLine::Line(
@@ -95,7 +116,10 @@ impl<L: Read> LogMatch<L> {
                     offset: next,
                     length: len,
                 },
-            ) if next <= offset => {
+            ) => {
+                if next > offset {
+                    return Ok(false);
+                }
                 if next == offset && len == length {
                     self.next = self.lines.next_line()?;
                     Ok(true)
@@ -103,7 +127,8 @@ impl<L: Read> LogMatch<L> {
                     self.unfit()
                 }
             }
-            _ => Ok(false),
+            NextLine::Line(LogLine::Lost { .. }) | NextLine::End => Ok(false),
+            NextLine::Other => self.unfit(),
         }
     }
 
@@ -111,10 +136,15 @@ impl<L: Read> LogMatch<L> {
     /// stands for it. Both lines are read, if both are there.
     ///
     /// The error is `Unfit` if the line names something that was passed, and `Log` if the log can't
-    /// be read.
+    /// be read. A log that fits is never refused.
     pub fn names_malformed(&mut self, index: u64, offset: u64, length: u8) -> Result<bool, Stop>
-        ensures { IfOk result (λ is_named. TakesSome (match_left L.remaining self.old)
+        ensures named { IfOk result (λ is_named. TakesSome (match_left L.remaining self.old)
             (match_left L.remaining self.new) (NamesMalformed index offset length is_named)) }
+        ensures fits { (ps : List Piece) → 0 < length
+            → IsLeftOfLog (Fits index offset (malformed length ∷ ps))
+            (match_left L.remaining self.old)
+            → GoesOn result (Fits (index + 1) (offset + length) ps)
+            (match_left L.remaining self.new) }
     {
         if self.names_sequence(offset, length)? {
             self.names_character(index, '\u{FFFD}')?;
@@ -126,12 +156,24 @@ impl<L: Read> LogMatch<L> {
 
     /// Tells that the input is at its end. The error is `Unfit` if the log has one more line.
     pub fn finish(&self) -> Result<(), Stop>
-        ensures { OnOk result (match_left L.remaining self.now ≡ ended) }
+        ensures end { OnOk result (match_left L.remaining self.now ≡ ended) }
+        ensures fits { IsLeftOfLog IsLogEnd (match_left L.remaining self.now) → IsOk result }
     {
         match self.next {
             NextLine::End => Ok(()),
             NextLine::Line(_) | NextLine::Other => self.unfit(),
         }
+    }
+}
+
+// Whether a line names no character of a text of so many bytes, whose first character has this
+// index, nor one before it.
+fn is_outside(line: LogLine, index: u64, len: usize) -> bool
+    ensures { IsTrue result → IsOutside index len line }
+{
+    match line {
+        LogLine::Lost { index: next, .. } => next >= index && next - index >= len as u64,
+        LogLine::Bad { .. } => true,
     }
 }
 

@@ -1,9 +1,9 @@
 -- What is left of a log, as the parts of the walk over it hold it.
-use Rattle.std.specs.Prelude.{◌≡◌, ℕ, ◌<◌, ◌≤◌, ◌⊎◌, length, Bool, true, false, List, [], ◌∷◌, ◌++◌, Option, Some, None, option_map, drop, take}
+use Rattle.std.specs.Prelude.{◌≡◌, ℕ, Bool, true, false, List, [], ◌∷◌, ◌++◌, Option, Some, None, option_map, drop, take}
 use Rattle.recode_log.specs.Line.{line_bytes}
+use Rattle.recode_log.specs.declared.line.LogLine.{LogLine}
 use Rattle.recode_log.specs.declared.line.LogLine.TheVariants.{Bad}
-use Rattle.recode_places.specs.Places.{feeds}
-use Rattle.recode_places.specs.Logs.{AreLinesOf, AreLinesOfMalformed, IsLineOfCharacter, IsLogEnd, IsMessage, LogLeft, TakesLines, bytes, ended, broken, unknown}
+use Rattle.recode_places.specs.Logs.{AreLinesOf, AreLinesOfMalformed, BeginsWithLine, CanBeLogged, IsLineOfCharacter, IsLogEnd, IsMessage, LogLeft, TakesLines, bytes, ended, broken, unknown}
 use Rattle.recode_places.specs.declared.choice.Choice.{Choice}
 use Rattle.recode_places.specs.declared.entry.Finding.{Finding}
 use Rattle.recode_places.specs.declared.log_lines.LogLines.{LogLines}
@@ -46,18 +46,18 @@ ReadsByte None new b = Unit {0}
 ReadsByte (Some x) new None = x ≡ []
 ReadsByte (Some x) new (Some b) = (y : List ℕ) × (new ≡ Some y) × (x ≡ b ∷ y)
 
--- a line was read, or the end of the log, or something that is neither: it is no line that is cut short at the end
+-- the line was read that comes next, or nothing more comes, or what comes is neither
 abbrev pub ReadsLine : (old new : Option (List ℕ)) → NextLine → Type 0
 ReadsLine None new next = Unit {0}
-ReadsLine (Some x) new (Line l) = (y : List ℕ) × (new ≡ Some y) × (x ≡ line_bytes l ++ y)
+ReadsLine (Some x) new (Line l) = (y : List ℕ) × (new ≡ Some y) × (x ≡ line_bytes l ++ y) × CanBeLogged l
 ReadsLine (Some x) new End = IsLogEnd x
-ReadsLine (Some x) new Other = (0 < feeds x) ⊎ (64 ≤ length x)
+ReadsLine (Some x) new Other = ¬ (IsLogEnd x) × ¬ (BeginsWithLine x)
 
 -- what bytes say that are a whole line, or too many for one
 abbrev pub IsMeaning : List ℕ → NextLine → Type 0
-IsMeaning bs (Line l) = line_bytes l ≡ bs
+IsMeaning bs (Line l) = (line_bytes l ≡ bs) × CanBeLogged l
 IsMeaning bs End = IsMessage bs
-IsMeaning bs Other = Unit {0}
+IsMeaning bs Other = ¬ (IsMessage bs) × ((l : LogLine) → CanBeLogged l → ¬ (line_bytes l ≡ bs))
 
 -- what was read of a log has this property
 abbrev pub TakesSome : (left left' : LogLeft) → (List ℕ → Type 0) → Type 0

@@ -39,10 +39,10 @@ of_bad = inl refl
 
 -- how a log ends
 of_end : IsLogEnd []
-of_end = inl refl
+of_end = inl (refl, omega arith)
 
 of_cut : IsLogEnd (codes "lost 3")
-of_cut = inl refl
+of_cut = inl (refl, omega arith)
 
 of_message : IsLogEnd (codes "recode: write fault\n")
 of_message = inr (codes "write fault\n", refl)
