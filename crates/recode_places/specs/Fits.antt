@@ -1,5 +1,5 @@
--- Which logs fit an input: those that name what stands in it, as far as they name it, in the order of the input, and then
--- end. The log that `recode` writes for an input fits it, and so does what is left of one if lines are taken out.
+-- Which logs fit an input: those that name what stands in it, in the order of the input, each thing by its line or not at
+-- all, and then end.
 use Rattle.std.specs.Prelude.{◌≡◌, ℕ, ◌+◌, ◌≤◌, ◌⊎◌, List, [], ◌∷◌, ◌++◌, Result, Ok, Err}
 use Rattle.encoding_mem.specs.Piece.{Piece, well_formed, malformed}
 use Rattle.recode_log.specs.Line.{line_bytes}
