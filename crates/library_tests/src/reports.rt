@@ -1,7 +1,7 @@
 //! What is printed of places: lines of text, carets and sums, worked by hand.
 
 use encoding_front::Encoding;
-use recode_places::{Entry, Finding, Place, Stop, Visitor};
+use recode_places::{Entry, Finding, Place, Refusal, Visitor};
 use recode_places_report::{Counts, Report};
 use std::alloc::Global;
 use std::test::Fail;
@@ -15,7 +15,7 @@ enum Part {
 }
 
 // Tells a visitor an input, each part of it in a place of line 7.
-fn tell<V: Visitor>(visitor: &mut V, parts: &[Part]) -> Result<(), Stop> {
+fn tell<V: Visitor>(visitor: &mut V, parts: &[Part]) -> Result<(), Refusal> {
     let mut column = 0u64;
     for part in parts {
         column = column.saturating_add(1);

@@ -69,6 +69,7 @@ reported (Malformed a b) = malformed a ∷ []
 
 pub record IsCutAt (o : DecoderResult) (taken : List Piece) : Type 0 where
   pub before : List Piece
+  pub well_formed : AreWellFormed before
   pub whole : taken ≡ before ++ reported o
   pub same : scalars taken ≡ text before
 
@@ -83,11 +84,11 @@ no_scalars (well_formed m cs ∷ ps) n h = ap (λ t. cs ++ t) (no_scalars ps n h
 no_scalars (malformed m ∷ ps) n h = absurd h.0
 
 pub cut_at : (o : DecoderResult) (pending : ℕ) (taken : List Piece) → Reports o pending taken → IsCutAt o taken
-cut_at InputEmpty pending taken h = record { before = taken; whole = sym (append-nil taken); same = sym (text_of_well_formed taken h) }
-cut_at OutputFull pending taken h = record { before = taken; whole = sym (append-nil taken); same = sym (text_of_well_formed taken h) }
+cut_at InputEmpty pending taken h = record { before = taken; well_formed = h; whole = sym (append-nil taken); same = sym (text_of_well_formed taken h) }
+cut_at OutputFull pending taken h = record { before = taken; well_formed = h; whole = sym (append-nil taken); same = sym (text_of_well_formed taken h) }
 cut_at (Malformed a b) pending taken h =
     let k = h.4 in
-    record { before = k.0; whole = k.2; same = ap scalars k.2 ∙ no_scalars k.0 a k.1 }
+    record { before = k.0; well_formed = k.1; whole = k.2; same = ap scalars k.2 ∙ no_scalars k.0 a k.1 }
 
 -- a fact that holds anyway
 pub on_err : {T E : Type 0} (r : Result T E) (P : Type 0) → P → OnErr r P

@@ -1,5 +1,5 @@
 -- A log that fits begins with a line of what is still to come, or ends.
-use Rattle.std.proofs.Common.{◌≡◌, ℕ, ◌+◌, ◌<◌, ◌≤◌, ◌⊎◌, inl, inr, List, [], ◌∷◌, ◌++◌, Option, Some, None, Result, Ok, Err, IsErrAnd, length, refl, sym, ◌∙◌, ap, subst, arith}
+use Rattle.std.proofs.Common.{◌≡◌, ℕ, ◌+◌, ◌<◌, ◌≤◌, ◌⊎◌, inl, inr, List, [], ◌∷◌, ◌++◌, Option, Some, None, Result, Ok, Err, IsErrAnd, MatchResult, length, refl, sym, ◌∙◌, ap, subst, arith}
 use Rattle.encoding_mem.specs.Piece.{Piece, well_formed, malformed}
 use Rattle.recode_log.specs.Line.{line_bytes}
 use Rattle.recode_log.specs.declared.line.LogLine.{LogLine}
@@ -235,3 +235,7 @@ passed_outside i o len t ps (Lost k s) rem line out most h = passed_far i o t ps
 pub no_end_here : (n : NextLine) (rem : Option (List ℕ)) → IsLineIfAny n → ((x : LogLine) × (n ≡ Line x)) ⊎ (n ≡ Other) → IsLeftOfLog IsLogEnd (log_left_after n rem) → ⊥
 no_end_here n rem line (inl one) h = end_is_here one.0 rem (subst IsLineIfAny one.1 line) (subst (λ q. IsLeftOfLog IsLogEnd (log_left_after q rem)) one.1 h)
 no_end_here n rem line (inr other) h = subst (λ q. IsLeftOfLog IsLogEnd (log_left_after q rem)) other h
+
+pub match_err : {T : Type 0} (r : Result T Stop) (e : Stop) (P : T → Type 0) → IsErrAnd r (λ x. x ≡ e) → IsNotUnfit e → MatchResult r P IsNotUnfit
+match_err (Ok x) e P same h = absurd same
+match_err (Err x) e P same h = subst IsNotUnfit (sym same) h

@@ -7,3 +7,4 @@ pub mod LogLemmas
 pub mod ReadsLemmas
 pub mod LineLemmas
 pub mod FitsLemmas
+pub mod AheadLemmas

@@ -1,8 +1,11 @@
 //! Which characters and malformed sequences are told.
 
-ghost use Rattle.std.specs.Prelude.{◌≡◌, IfOk, IfSome, OnOk, []};
+ghost use Rattle.std.specs.Prelude.{◌≡◌, ℕ, ◌+◌, ◌<◌, ◌≤◌, List, [], ◌∷◌, length};
+ghost use Rattle.std.specs.Prelude.{IfOk, IfSome, IsOk, IsTrue, OnOk};
+ghost use Rattle.encoding_mem.specs.Piece.{Piece, malformed};
+ghost use Rattle.recode_places.specs.Fits.{Fits, FitsFrom, GoesOn, IsLeftOfLog};
 ghost use Rattle.recode_places.specs.Entries.{IsOfCharacter};
-ghost use Rattle.recode_places.specs.Logs.{TakesLines, ended, unknown};
+ghost use Rattle.recode_places.specs.Logs.{IsLogEnd, TakesLines, ended, unknown};
 ghost use Rattle.recode_places.specs.declared.entry.Finding.TheVariants.{Folded};
 ghost use Rattle.recode_places.specs.calls.LogViews.{NamesFound, NamesMalformed, TakesSome};
 ghost use Rattle.recode_places.specs.calls.LogViews.{choice_left, match_left};
@@ -57,16 +60,34 @@ impl<'t, L: Read> Choice<'t, L> {
     }
 
     /// Whether nothing is told of the characters of a text, the first of which has this index.
-    pub fn passes_over(&self, index: u64, text: &str) -> bool {
-        let by_log = match &self.log {
-            Some(log) => log.passes_over(index, text.len()),
+    pub fn passes_over(&self, index: u64, text: &str) -> bool
+        ensures fits { (offset : ℕ) (t : List ℕ) (ps : List Piece) → IsTrue result
+            → length t ≤ length text.now
+            → IsLeftOfLog (FitsFrom index offset t ps) (choice_left L.remaining self.now)
+            → IsLeftOfLog (Fits (index + length t) offset ps) (choice_left L.remaining self.now) }
+    {
+        self.log_passes_over(index, text.len()) && self.target_keeps(text)
+    }
+
+    // Whether the log, if there is one, names no character of a text of so many bytes.
+    fn log_passes_over(&self, index: u64, len: usize) -> bool
+        ensures fits { (offset : ℕ) (t : List ℕ) (ps : List Piece) → IsTrue result
+            → length t ≤ len
+            → IsLeftOfLog (FitsFrom index offset t ps) (choice_left L.remaining self.now)
+            → IsLeftOfLog (Fits (index + length t) offset ps) (choice_left L.remaining self.now) }
+    {
+        match &self.log {
+            Some(log) => log.passes_over(index, len),
             None => true,
-        };
-        let by_target = match &self.fates {
+        }
+    }
+
+    // Whether the target, if it is asked, keeps each character of a text.
+    fn target_keeps(&self, text: &str) -> bool {
+        match &self.fates {
             Some(fates) => fates.keeps(text),
             None => true,
-        };
-        by_log && by_target
+        }
     }
 
     /// What is told of this character, which has this index, if anything is. The error is that of
@@ -75,6 +96,10 @@ impl<'t, L: Read> Choice<'t, L> {
         ensures of { IfOk result (λ found. IfSome found (IsOfCharacter c)) }
         ensures named { IfOk result (λ found. TakesSome (choice_left L.remaining self.old)
             (choice_left L.remaining self.new) (NamesFound index found)) }
+        ensures fits { (offset : ℕ) (t : List ℕ) (ps : List Piece)
+            → IsLeftOfLog (FitsFrom index offset (c ∷ t) ps) (choice_left L.remaining self.old)
+            → GoesOn result (FitsFrom (index + 1) offset t ps)
+            (choice_left L.remaining self.new) }
     {
         match &mut self.log {
             Some(log) => {
@@ -114,8 +139,13 @@ impl<'t, L: Read> Choice<'t, L> {
     /// Whether this malformed sequence is told, for which the U+FFFD with this index stands. The
     /// error is that of the log.
     pub fn malformed(&mut self, index: u64, offset: u64, length: u8) -> Result<bool, Stop>
-        ensures { IfOk result (λ is_told. TakesSome (choice_left L.remaining self.old)
+        ensures named { IfOk result (λ is_told. TakesSome (choice_left L.remaining self.old)
             (choice_left L.remaining self.new) (NamesMalformed index offset length is_told)) }
+        ensures fits { (ps : List Piece) → 0 < length
+            → IsLeftOfLog (Fits index offset (malformed length ∷ ps))
+            (choice_left L.remaining self.old)
+            → GoesOn result (Fits (index + 1) (offset + length) ps)
+            (choice_left L.remaining self.new) }
     {
         match &mut self.log {
             Some(log) => log.names_malformed(index, offset, length),
@@ -125,7 +155,8 @@ impl<'t, L: Read> Choice<'t, L> {
 
     /// Tells that the input is at its end: the error is `Unfit` if the log has one more line.
     pub fn finish(&self) -> Result<(), Stop>
-        ensures { OnOk result (TakesLines (choice_left L.remaining self.now) ended []) }
+        ensures lines { OnOk result (TakesLines (choice_left L.remaining self.now) ended []) }
+        ensures fits { IsLeftOfLog IsLogEnd (choice_left L.remaining self.now) → IsOk result }
     {
         match &self.log {
             Some(log) => log.finish(),

@@ -49,3 +49,27 @@ pub enum Stop {
     #[error("out of memory")]
     Memory,
 }
+
+/// Why a visitor takes no more.
+#[derive(Clone, Copy, PartialEq, Eq, Debug, Error)]
+pub enum Refusal {
+    /// What it was told could not be written.
+    #[error("write fault")]
+    Write,
+    /// Memory was refused.
+    #[error("out of memory")]
+    Memory,
+}
+
+impl From<Refusal> for Stop {
+    ghost use Rattle.recode_places.specs.Fits.{IsNotUnfit};
+
+    ghost from_gives = { λ _ stop. IsNotUnfit stop };
+
+    fn from(refusal: Refusal) -> Stop {
+        match refusal {
+            Refusal::Write => Stop::Write,
+            Refusal::Memory => Stop::Memory,
+        }
+    }
+}

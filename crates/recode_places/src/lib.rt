@@ -35,7 +35,7 @@ pub mod visitor;
 pub mod walk;
 
 pub use choice::Choice;
-pub use entry::{Entry, Finding, Stop};
+pub use entry::{Entry, Finding, Refusal, Stop};
 pub use fates::{Fate, Fates};
 pub use log_match::LogMatch;
 pub use place::Place;

@@ -4,7 +4,7 @@ ghost use Rattle.std.specs.Prelude.{◌≡◌, List, Option, OnErr, OnOk, Some};
 ghost use Rattle.recode_places.specs.Entries.{HasOneMore};
 ghost use Rattle.recode_places.specs.declared.entry.Entry.{Entry};
 
-use crate::entry::{Entry, Stop};
+use crate::entry::{Entry, Refusal};
 use encoding_front::Encoding;
 
 /// Who is told an input: its text and its malformed bytes, in their order, and each entry directly
@@ -14,16 +14,16 @@ pub trait Visitor {
     ghost told: { Self → Option (List Entry) };
 
     /// The next characters of the text.
-    fn characters(&mut self, text: &str) -> Result<(), Stop>
+    fn characters(&mut self, text: &str) -> Result<(), Refusal>
         ensures { told self.new ≡ told self.old };
 
     /// The bytes of a malformed sequence, which stand for one U+FFFD of the text, and the encoding
     /// that they are malformed in: the one that the byte order mark says, if one is taken.
-    fn malformed(&mut self, bytes: &[u8], encoding: Encoding) -> Result<(), Stop>
+    fn malformed(&mut self, bytes: &[u8], encoding: Encoding) -> Result<(), Refusal>
         ensures { told self.new ≡ told self.old };
 
     /// What stands at the place of the next character, or of the next malformed bytes.
-    fn entry(&mut self, entry: Entry) -> Result<(), Stop>
+    fn entry(&mut self, entry: Entry) -> Result<(), Refusal>
         ensures ok { OnOk result (HasOneMore (told self.old) (told self.new) entry) }
         ensures err { OnErr result (told self.new ≡ told self.old) };
 }
@@ -32,18 +32,18 @@ pub trait Visitor {
 impl Visitor for Vec<Entry> {
     ghost told = { λ s. Some s.items };
 
-    fn characters(&mut self, _text: &str) -> Result<(), Stop> {
+    fn characters(&mut self, _text: &str) -> Result<(), Refusal> {
         Ok(())
     }
 
-    fn malformed(&mut self, _bytes: &[u8], _encoding: Encoding) -> Result<(), Stop> {
+    fn malformed(&mut self, _bytes: &[u8], _encoding: Encoding) -> Result<(), Refusal> {
         Ok(())
     }
 
-    fn entry(&mut self, entry: Entry) -> Result<(), Stop> {
+    fn entry(&mut self, entry: Entry) -> Result<(), Refusal> {
         match self.push(entry) {
             Ok(()) => Ok(()),
-            Err(_) => Err(Stop::Memory),
+            Err(_) => Err(Refusal::Memory),
         }
     }
 }

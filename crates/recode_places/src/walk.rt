@@ -1,8 +1,8 @@
 //! A walk over an input, which tells what is chosen with its place.
 
 ghost use Rattle.std.specs.Prelude.{◌≡◌, ◌^◌, ◌<◌, ◌≤◌, ◌+◌, ◌++◌, ◌∷◌, [], ℕ, List};
-ghost use Rattle.std.specs.Prelude.{IfOk, IfSome, OnErr, OnOk};
-ghost use Rattle.std.specs.Prelude.{false, length};
+ghost use Rattle.std.specs.Prelude.{IfErr, IfOk, IfSome, MatchResult, OnErr, OnOk, Some, drop};
+ghost use Rattle.std.specs.Prelude.{false, length, true};
 ghost use Rattle.std.specs.Str.{chars};
 ghost use Rattle.encoding_mem.specs.Piece.{Piece, malformed, sizes, text};
 ghost use Rattle.encoding_front.specs.Encodings.{IsReady};
@@ -10,10 +10,11 @@ ghost use Rattle.encoding_front.specs.Marks.{marked_pieces};
 ghost use Rattle.encoding_front.specs.calls.DecoderViews.{decoder_view};
 ghost use Rattle.recode_places.specs.Places.{IsPlaceAfter};
 ghost use Rattle.recode_places.specs.Entries.{TellsTrue, TellsTrueIn};
-ghost use Rattle.recode_places.specs.Logs.{TellsLines, ended};
+ghost use Rattle.recode_places.specs.Fits.{Fits, FitsFrom, GoesOn, IsLeftOfLog, IsNotUnfit};
+ghost use Rattle.recode_places.specs.Logs.{TellsLines, bytes, ended};
 ghost use Rattle.recode_places.specs.calls.LogViews.{choice_left};
 ghost use Rattle.recode_places.specs.calls.Walks.{CanWalk, TellsPrefix, WalksChunk, WalksPart};
-ghost use Rattle.recode_places.specs.calls.Walks.{has_ended};
+ghost use Rattle.recode_places.specs.calls.Walks.{FitsAhead, has_ended};
 ghost use Rattle.recode_places.specs.calls.Walks.{walk_state};
 
 use crate::choice::Choice;
@@ -101,6 +102,11 @@ fn tell_character<L: Read, V: Visitor>(
     ensures index { OnOk result (place.new.index ≡ place.old.index + 1) }
     ensures lines { OnOk result (TellsLines (choice_left L.remaining choice.old)
         (choice_left L.remaining choice.new) (V.told visitor.old) (V.told visitor.new)) }
+    ensures fits { (offset : ℕ) (t : List ℕ) (ps : List Piece)
+        → IsLeftOfLog (FitsFrom place.old.index offset (c ∷ t) ps)
+        (choice_left L.remaining choice.old)
+        → GoesOn result (FitsFrom (place.old.index + 1) offset t ps)
+        (choice_left L.remaining choice.new) }
 {
     match choice.character(place.index, c)? {
         Some(finding) => visitor.entry(Entry {
@@ -129,10 +135,15 @@ fn tell_text<L: Read, V: Visitor>(
     ensures index { OnOk result (place.new.index ≡ place.old.index + length (chars text.now)) }
     ensures lines { OnOk result (TellsLines (choice_left L.remaining choice.old)
         (choice_left L.remaining choice.new) (V.told visitor.old) (V.told visitor.new)) }
+    ensures fits { (offset : ℕ) (ps : List Piece)
+        → IsLeftOfLog (FitsFrom place.old.index offset (chars text.now) ps)
+        (choice_left L.remaining choice.old)
+        → GoesOn result (Fits place.new.index offset ps) (choice_left L.remaining choice.new) }
 {
     if choice.passes_over(place.index, text) {
         place.pass_text(text);
-        return visitor.characters(text);
+        visitor.characters(text)?;
+        return Ok(());
     }
     for c in text.chars() {
         tell_character(place, c, choice, visitor)?;
@@ -152,6 +163,11 @@ fn tell_malformed<L: Read, V: Visitor>(
         → TellsTrueIn (ps ++ (malformed length ∷ [])) (V.told visitor.old) (V.told visitor.new) }
     ensures lines { OnOk result (TellsLines (choice_left L.remaining choice.old)
         (choice_left L.remaining choice.new) (V.told visitor.old) (V.told visitor.new)) }
+    ensures fits { (ps : List Piece) → 0 < length
+        → IsLeftOfLog (Fits place.index offset (malformed length ∷ ps))
+        (choice_left L.remaining choice.old)
+        → GoesOn result (Fits (place.index + 1) (offset + length) ps)
+        (choice_left L.remaining choice.new) }
 {
     if choice.malformed(place.index, offset, length)? {
         visitor.entry(Entry {
@@ -180,6 +196,11 @@ impl<'t> Walk<'t> {
             (choice_left L.remaining choice.new) (V.told visitor.old) (V.told visitor.new)) }
         ensures err { OnErr result (TellsPrefix (V.told visitor.old) (V.told visitor.new)
             (walk_state self.old) chunk.now last) }
+        ensures fits { (r : List ℕ) → (last ≡ true → r ≡ [])
+            → FitsAhead (walk_state self.old) (choice_left L.remaining choice.old)
+            (chunk.now ++ r)
+            → MatchResult result (λ p. FitsAhead (walk_state self.new)
+            (choice_left L.remaining choice.new) (drop p.read chunk.now ++ r)) IsNotUnfit }
     {
         let (outcome, read, written) = self
             .decoder
@@ -227,6 +248,11 @@ impl<'t> Walk<'t> {
             (choice_left L.remaining choice.new) (V.told visitor.old) (V.told visitor.new)) }
         ensures err { OnErr result (TellsPrefix (V.told visitor.old) (V.told visitor.new)
             (walk_state self.old) chunk.now (has_ended chunk.now)) }
+        ensures fits { (r : List ℕ) → (has_ended chunk.now ≡ true → r ≡ [])
+            → FitsAhead (walk_state self.old) (choice_left L.remaining choice.old)
+            (chunk.now ++ r)
+            → MatchResult result (λ _. FitsAhead (walk_state self.new)
+            (choice_left L.remaining choice.new) r) IsNotUnfit }
     {
         let last = chunk.is_empty();
         let mut buffer = [0; TEXT];
@@ -248,8 +274,9 @@ impl<'t> Walk<'t> {
 /// lines of the entries, in their order, and then its end: none was passed over.
 ///
 /// The error is what the choice or the visitor ended with (`Unfit`, `Log`, `Write`, `Memory`),
-/// `Input` if a read fails, or `TooLong` if the input has more than 2^48 bytes. The condition,
-/// that the indexes of the encoding are there, is tested by `Encoding::is_ready`.
+/// `Input` if a read fails, or `TooLong` if the input has more than 2^48 bytes. It is not `Unfit`
+/// if the log fits the input: if each line names what stands in the input, in its order. The
+/// condition, that the indexes of the encoding are there, is tested by `Encoding::is_ready`.
 pub fn tell_places<R: Read, L: Read, V: Visitor>(
     reader: &mut R,
     source: Source<'_>,
@@ -262,6 +289,10 @@ pub fn tell_places<R: Read, L: Read, V: Visitor>(
         (V.told visitor.old) (V.told visitor.new)) }
     ensures lines { OnOk result (TellsLines (choice_left L.remaining choice.old) ended
         (V.told visitor.old) (V.told visitor.new)) }
+    ensures fits { (x : List ℕ) → R.remaining reader.old ≡ Some x
+        → IsLeftOfLog (Fits 0 0
+        (marked_pieces source.entry.tables.now source.entry.mark source.entry.from x))
+        (choice_left L.remaining choice.old) → IfErr result IsNotUnfit }
 {
     let mut walk = Walk {
         decoder: Decoder::new(source.from, source.mark, source.tables),

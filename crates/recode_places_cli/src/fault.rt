@@ -3,7 +3,7 @@
 ghost use Rattle.std.specs.Prelude.{◌≤◌};
 
 use recode::StartFault;
-use recode_places::Stop;
+use recode_places::{Refusal, Stop};
 use std::alloc::AllocError;
 use thiserror::Error;
 
@@ -41,6 +41,12 @@ impl From<StartFault> for Fault {
 impl From<Stop> for Fault {
     fn from(stop: Stop) -> Fault {
         Fault::Stop(stop)
+    }
+}
+
+impl From<Refusal> for Fault {
+    fn from(refusal: Refusal) -> Fault {
+        Fault::Stop(Stop::from(refusal))
     }
 }
 

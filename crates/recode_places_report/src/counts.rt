@@ -4,7 +4,7 @@ ghost use Rattle.std.specs.Prelude.{None};
 
 use crate::loss::{Loss, Sequence};
 use encoding_front::Encoding;
-use recode_places::{Entry, Finding, Stop, Visitor};
+use recode_places::{Entry, Finding, Refusal, Visitor};
 use std::alloc::{AllocError, Global};
 use std::cmp::Reverse;
 use std::collections::BTreeMap;
@@ -36,14 +36,14 @@ impl Counts {
         self.table.is_empty()
     }
 
-    fn count(&mut self, loss: Loss) -> Result<(), Stop> {
+    fn count(&mut self, loss: Loss) -> Result<(), Refusal> {
         if let Some(count) = self.table.get_mut(&loss) {
             *count = count.saturating_add(1);
             return Ok(());
         }
         match self.table.insert(loss, 1) {
             Ok(_) => Ok(()),
-            Err(_) => Err(Stop::Memory),
+            Err(_) => Err(Refusal::Memory),
         }
     }
 
@@ -59,18 +59,18 @@ impl Counts {
 
     /// Writes a line for each thing that was counted, the most frequent first: how often, and the
     /// words of a report. Flushes the writer.
-    pub fn write<W: Write>(&self, writer: &mut W) -> Result<(), Stop> {
+    pub fn write<W: Write>(&self, writer: &mut W) -> Result<(), Refusal> {
         let Ok(rows) = self.rows() else {
-            return Err(Stop::Memory);
+            return Err(Refusal::Memory);
         };
         for (count, loss) in rows.iter() {
             if writeln!(writer, "{count:>8}  {loss}").is_err() {
-                return Err(Stop::Write);
+                return Err(Refusal::Write);
             }
         }
         match writer.flush() {
             Ok(()) => Ok(()),
-            Err(_) => Err(Stop::Write),
+            Err(_) => Err(Refusal::Write),
         }
     }
 }
@@ -79,11 +79,11 @@ impl Visitor for Counts {
     // It keeps no list of the entries.
     ghost told = { λ _. None };
 
-    fn characters(&mut self, _text: &str) -> Result<(), Stop> {
+    fn characters(&mut self, _text: &str) -> Result<(), Refusal> {
         Ok(())
     }
 
-    fn malformed(&mut self, bytes: &[u8], encoding: Encoding) -> Result<(), Stop> {
+    fn malformed(&mut self, bytes: &[u8], encoding: Encoding) -> Result<(), Refusal> {
         if !self.is_told {
             return Ok(());
         }
@@ -94,7 +94,7 @@ impl Visitor for Counts {
         })
     }
 
-    fn entry(&mut self, entry: Entry) -> Result<(), Stop> {
+    fn entry(&mut self, entry: Entry) -> Result<(), Refusal> {
         let encoding = self.target;
         match entry.finding {
             Finding::Malformed { .. } => {

@@ -8,7 +8,7 @@ use crate::drawing::{draw, push_times};
 use crate::loss::{Loss, Sequence};
 use crate::ring::Ring;
 use encoding_front::Encoding;
-use recode_places::{Entry, Finding, Place, Stop, Visitor};
+use recode_places::{Entry, Finding, Place, Refusal, Visitor};
 use std::alloc::{AllocError, Global};
 use std::collections::VecDeque;
 use std::io::Write;
@@ -56,17 +56,17 @@ pub struct Report<W> {
     ghost few: { deque_len waiting ≤ 32 },
 }
 
-fn write_text<W: Write>(writer: &mut W, text: &str) -> Result<(), Stop> {
+fn write_text<W: Write>(writer: &mut W, text: &str) -> Result<(), Refusal> {
     match writer.write_all(text.as_bytes()) {
         Ok(()) => Ok(()),
-        Err(_) => Err(Stop::Write),
+        Err(_) => Err(Refusal::Write),
     }
 }
 
-fn flush<W: Write>(writer: &mut W) -> Result<(), Stop> {
+fn flush<W: Write>(writer: &mut W) -> Result<(), Refusal> {
     match writer.flush() {
         Ok(()) => Ok(()),
-        Err(_) => Err(Stop::Write),
+        Err(_) => Err(Refusal::Write),
     }
 }
 
@@ -152,20 +152,20 @@ impl<W: Write + Drop> Report<W> {
     }
 
     // Shows the first thing that waits, if there is one.
-    fn show_first(&mut self) -> Result<(), Stop>
+    fn show_first(&mut self) -> Result<(), Refusal>
         ensures { deque_len self.new.waiting ≤ 31 }
     {
         let Some(note) = self.waiting.pop_front() else {
             return Ok(());
         };
         let Ok(lines) = self.lines(note) else {
-            return Err(Stop::Memory);
+            return Err(Refusal::Memory);
         };
         write_text(&mut self.writer, lines.as_str())
     }
 
     // Shows what waits, up to the first whose line goes on for too little; all, if the line ends.
-    fn show_waiting(&mut self, is_end: bool) -> Result<(), Stop> {
+    fn show_waiting(&mut self, is_end: bool) -> Result<(), Refusal> {
         for _ in 0..MOST_WAITING {
             match self.waiting.front() {
                 Some(note) if is_end || self.ring.goes_on(note.cell) => self.show_first()?,
@@ -176,7 +176,7 @@ impl<W: Write + Drop> Report<W> {
     }
 
     // Has something shown once the line has gone on.
-    fn wait(&mut self, loss: Loss, place: Place, cells: u64) -> Result<(), Stop> {
+    fn wait(&mut self, loss: Loss, place: Place, cells: u64) -> Result<(), Refusal> {
         if self.waiting.len() == MOST_WAITING {
             self.show_first()?;
         }
@@ -188,11 +188,11 @@ impl<W: Write + Drop> Report<W> {
         };
         match self.waiting.push_back(note) {
             Ok(()) => Ok(()),
-            Err(_) => Err(Stop::Memory),
+            Err(_) => Err(Refusal::Memory),
         }
     }
 
-    fn push(&mut self, cell: Cell) -> Result<(), Stop> {
+    fn push(&mut self, cell: Cell) -> Result<(), Refusal> {
         if cell == Cell::Character('\n') {
             self.show_waiting(true)?;
             self.ring.clear();
@@ -203,13 +203,13 @@ impl<W: Write + Drop> Report<W> {
     }
 
     // Shows what waits, since no more of the text comes.
-    fn end_text(&mut self) -> Result<(), Stop> {
+    fn end_text(&mut self) -> Result<(), Refusal> {
         self.ring.settle();
         self.show_waiting(true)
     }
 
     /// Ends a report that an error has cut short: what was told is shown, and the writer flushed.
-    pub fn cut_short(&mut self) -> Result<(), Stop> {
+    pub fn cut_short(&mut self) -> Result<(), Refusal> {
         self.end_text()?;
         flush(&mut self.writer)
     }
@@ -229,11 +229,11 @@ impl<W: Write + Drop> Report<W> {
 
     /// Ends the report, with a line that says how many places there are if not all were shown, and
     /// flushes the writer.
-    pub fn finish(&mut self) -> Result<(), Stop> {
+    pub fn finish(&mut self) -> Result<(), Refusal> {
         self.end_text()?;
         if self.count > self.most {
             let Ok(line) = self.sum() else {
-                return Err(Stop::Memory);
+                return Err(Refusal::Memory);
             };
             write_text(&mut self.writer, line.as_str())?;
         }
@@ -245,7 +245,7 @@ impl<W: Write + Drop> Visitor for Report<W> {
     // It keeps no list of the entries.
     ghost told = { λ _. None };
 
-    fn characters(&mut self, text: &str) -> Result<(), Stop> {
+    fn characters(&mut self, text: &str) -> Result<(), Refusal> {
         let mut rest = text.chars();
         for _ in 0..u64::MAX {
             if self.waiting.is_empty() {
@@ -262,7 +262,7 @@ impl<W: Write + Drop> Visitor for Report<W> {
         Ok(())
     }
 
-    fn malformed(&mut self, bytes: &[u8], encoding: Encoding) -> Result<(), Stop> {
+    fn malformed(&mut self, bytes: &[u8], encoding: Encoding) -> Result<(), Refusal> {
         if let Some(place) = self.place.take() {
             let loss = Loss::Malformed {
                 bytes: Sequence::new(bytes),
@@ -276,7 +276,7 @@ impl<W: Write + Drop> Visitor for Report<W> {
         Ok(())
     }
 
-    fn entry(&mut self, entry: Entry) -> Result<(), Stop> {
+    fn entry(&mut self, entry: Entry) -> Result<(), Refusal> {
         self.count = self.count.saturating_add(1);
         if self.count > self.most {
             return Ok(());

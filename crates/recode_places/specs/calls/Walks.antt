@@ -1,9 +1,11 @@
 -- What a walk over an input does: calls of its decoder, and what they give is told.
-use Rattle.std.specs.Prelude.{◌≡◌, ℕ, ◌+◌, ◌<◌, ◌≤◌, nat_eq, Bool, true, false, Option, Some, None, List, [], ◌++◌, drop, length}
+use Rattle.std.specs.Prelude.{◌≡◌, ℕ, ◌+◌, ◌-◌, ◌<◌, ◌≤◌, nat_eq, Bool, true, false, Option, Some, None, List, [], ◌++◌, drop, length}
 use Rattle.encoding_mem.specs.Piece.{Piece, sizes, text}
 use Rattle.encoding_mem.specs.calls.Decoding.{DecoderState}
 use Rattle.encoding_front.specs.calls.DecoderViews.{decoder_view}
 use Rattle.recode_places.specs.Entries.{TellsTrueIn}
+use Rattle.recode_places.specs.Fits.{Fits, IsLeftOfLog}
+use Rattle.recode_places.specs.Logs.{LogLeft}
 use Rattle.recode_places.specs.Places.{IsPlaceAfter}
 use Rattle.recode_places.specs.declared.entry.Entry.{Entry}
 use Rattle.recode_places.specs.declared.place.Place.{Place}
@@ -56,6 +58,7 @@ has_ended chunk = nat_eq (length chunk) 0
 pub record WalksChunk (told told' : Option (List Entry)) (v w : WalkState) (chunk : List ℕ) (last : Bool) : Type 0 where
   pub walks : WalksOn told told' v w chunk [] last
   pub more : last ≡ false → w.finished ≡ false
+  pub end : last ≡ true → w.decoder.pieces [] ≡ []
 
 -- A walk told entries that are true of the input, whatever follows these bytes (nothing, if they are the last): of some
 -- of its first pieces.
@@ -69,3 +72,7 @@ abbrev pub WalksInput : (told told' : Option (List Entry)) (v w : WalkState) (le
 WalksInput told told' v w None left' = Unit {0}
 WalksInput told told' v w (Some x) None = ⊥
 WalksInput told told' v w (Some x) (Some y) = WalksOn told told' v w x y true
+
+-- what is left of a log fits what a walk has still to pass: these bytes, and what its decoder holds
+abbrev pub FitsAhead : WalkState → LogLeft → List ℕ → Type 0
+FitsAhead w left x = IsLeftOfLog (Fits w.place.index (w.read - w.decoder.pending) (w.decoder.pieces x)) left

@@ -2,12 +2,13 @@ use Rattle.std.proofs.Common.{sym}
 use Rattle.std.proofs.lemmas.List.{take_rest}
 use Rattle.recode_places.specs.calls.Walks.{walk_state}
 use Rattle.recode_places.proofs.CallLemmas.{on_err}
+use Rattle.recode_places.proofs.FitsLemmas.{match_err}
 use Rattle.recode_places.proofs.ReadsLemmas.{lines_none, lines_then, reads_nothing}
 use Rattle.recode_places.proofs.WalkLemmas.{walks_start, walks_stops, walks_then}
 use Rattle.recode_places.proofs.walk.Walk.chunk.Goals as goal
 
 pub chunk-init : goal.chunk-init
-chunk-init g c = record { walks = walks_start _ (walk_state c.args.self.now) _ _; lines = lines_none _ _ _ (reads_nothing _); ready = c.requires.ready }
+chunk-init g c = record { walks = walks_start _ (walk_state c.args.self.now) _ _; lines = lines_none _ _ _ (reads_nothing _); fits = λ r end h. h; ready = c.requires.ready }
 
 pub returns-in_err-part-clause-err : goal.returns-in_err-part-clause-err
 returns-in_err-part-clause-err g c =
@@ -20,6 +21,7 @@ returns-then-part-clause-chunk g c =
     rw (sym c.is_empty-last.ensures) (record {
       walks = walks_then _ _ _ _ _ _ _ _ _ _ c.chunk.invariant.walks (rw done.0 at part.walks);
       more = λ h. done.1 h;
+      end = λ h. done.2 h;
     })
 
 pub chunk-preserved : goal.chunk-preserved
@@ -28,9 +30,16 @@ chunk-preserved g c =
     let more = part.more c.if-part.false in
     record {
       walks = rw (take_rest c.chunk.rest.now c.in_ok-part.part.read) (walks_then _ _ _ _ _ _ _ _ _ _ c.chunk.invariant.walks part.walks);
+      fits = λ r end h. rw (take_rest c.chunk.rest.now c.in_ok-part.part.read) (c.in_ok-part.ensures.fits r end (c.chunk.invariant.fits r end h));
       lines = lines_then _ _ _ _ _ _ c.chunk.invariant.lines c.in_ok-part.ensures.lines;
       ready = record { open_ = more.0; within = part.walks.within c.chunk.invariant.ready.within };
     }
 
 pub returns-then-part-clause-lines : goal.returns-then-part-clause-lines
 returns-then-part-clause-lines g c = lines_then _ _ _ _ _ _ c.chunk.invariant.lines c.in_ok-part.ensures.lines
+
+pub returns-in_err-part-clause-fits : goal.returns-in_err-part-clause-fits
+returns-in_err-part-clause-fits g c = rw (sym c.is_empty-last.ensures) (λ r end h. match_err _ _ _ c.from_residual.ensures.1 (c.in_err-part.ensures.fits r end (c.chunk.invariant.fits r end h)))
+
+pub returns-then-part-clause-fits : goal.returns-then-part-clause-fits
+returns-then-part-clause-fits g c = rw (sym c.is_empty-last.ensures) (λ r end h. rw (c.in_ok-part.ensures.part.done c.if-part.true).0 at (c.in_ok-part.ensures.fits r end (c.chunk.invariant.fits r end h)))

@@ -1,10 +1,12 @@
-use Rattle.std.proofs.Common.{◌∙◌, arith, refl, sym, length, ap}
+use Rattle.std.proofs.Common.{◌∙◌, ◌++◌, drop, arith, refl, sym, length, ap}
 use Rattle.encoding_front.specs.calls.DecoderViews.{decoder_view}
 use Rattle.encoding_front.specs.calls.Stream.{is_input_empty}
 use Rattle.recode_places.specs.calls.Walks.{walk_state}
 use Rattle.std.proofs.lemmas.Bool.{false≢true}
 use Rattle.std.proofs.lemmas.List.{length-take}
 use Rattle.recode_places.proofs.CallLemmas.{call_chars, call_is_utf8, few_chars, on_err, reported}
+use Rattle.recode_places.proofs.AheadLemmas.{ahead_done, ahead_malformed, ahead_passed, ahead_text, offset_after, some_bytes}
+use Rattle.recode_places.proofs.FitsLemmas.{match_err}
 use Rattle.recode_places.proofs.ReadsLemmas.{lines_then}
 use Rattle.recode_places.proofs.WalkLemmas.{end_none, fewer_left, finishes_last, finishes_not, some_malformed, some_written, malformed_stops, malformed_within, text_stops, walks_malformed, walks_text}
 use Rattle.recode_places.proofs.walk.Walk.part.Goals as goal
@@ -115,3 +117,42 @@ returns-in_ok-malformed-in-Malformed-clause-part g c =
 pub returns-in_ok-malformed-in-Malformed-clause-lines : goal.returns-in_ok-malformed-in-Malformed-clause-lines
 returns-in_ok-malformed-in-Malformed-clause-lines g c =
     rw c.in_ok-malformed-in-Malformed.ensures (lines_then _ _ _ _ _ _ c.in_ok-tell_text.ensures.lines c.in_ok-tell_malformed-in-Malformed.ensures.lines)
+
+pub returns-in_err-tell_text-clause-fits : goal.returns-in_err-tell_text-clause-fits
+returns-in_err-tell_text-clause-fits g c = λ r end h.
+    let call = c.decode_to_utf8_without_replacement-outcome in
+    let rest = (decoder_view call.new.self).state.pieces (drop call.result.1 c.args.chunk.now ++ r) in
+    let offset = offset_after (walk_state c.args.self.now) (decoder_view call.new.self).state _ _ _ _ _ call.ensures.call.law _ (call_chars (decoder_view c.args.self.now.decoder).state (decoder_view call.new.self).state _ _ _ _ _ _ _ call.ensures.call.law _ c.from_utf8_unchecked-text.ensures) c.requires.ready.within r end in
+    match_err _ _ _ c.from_residual.ensures.1 (c.in_err-tell_text.ensures.fits offset (reported call.result.0 ++ rest) (ahead_text (walk_state c.args.self.now) (decoder_view call.new.self).state _ _ _ _ _ call.ensures.call.law _ (call_chars (decoder_view c.args.self.now.decoder).state (decoder_view call.new.self).state _ _ _ _ _ _ _ call.ensures.call.law _ c.from_utf8_unchecked-text.ensures) c.requires.ready.within r end _ h))
+
+pub returns-in-InputEmpty-clause-fits : goal.returns-in-InputEmpty-clause-fits
+returns-in-InputEmpty-clause-fits g c = λ r end h.
+    let call = c.decode_to_utf8_without_replacement-outcome in
+    let rest = (decoder_view call.new.self).state.pieces (drop call.result.1 c.args.chunk.now ++ r) in
+    let offset = offset_after (walk_state c.args.self.now) (decoder_view call.new.self).state _ _ _ _ _ call.ensures.call.law _ (call_chars (decoder_view c.args.self.now.decoder).state (decoder_view call.new.self).state _ _ _ _ _ _ _ call.ensures.call.law _ c.from_utf8_unchecked-text.ensures) c.requires.ready.within r end in
+    ahead_done (walk_state c.args.self.now) (decoder_view call.new.self).state _ _ _ _ _ call.ensures.call.law _ (call_chars (decoder_view c.args.self.now.decoder).state (decoder_view call.new.self).state _ _ _ _ _ _ _ call.ensures.call.law _ c.from_utf8_unchecked-text.ensures) c.requires.ready.within r end _ _ (ap reported c.in-InputEmpty.is) (c.in_ok-tell_text.ensures.fits offset (reported call.result.0 ++ rest) (ahead_text (walk_state c.args.self.now) (decoder_view call.new.self).state _ _ _ _ _ call.ensures.call.law _ (call_chars (decoder_view c.args.self.now.decoder).state (decoder_view call.new.self).state _ _ _ _ _ _ _ call.ensures.call.law _ c.from_utf8_unchecked-text.ensures) c.requires.ready.within r end _ h))
+
+pub returns-in-OutputFull-clause-fits : goal.returns-in-OutputFull-clause-fits
+returns-in-OutputFull-clause-fits g c = λ r end h.
+    let call = c.decode_to_utf8_without_replacement-outcome in
+    let rest = (decoder_view call.new.self).state.pieces (drop call.result.1 c.args.chunk.now ++ r) in
+    let offset = offset_after (walk_state c.args.self.now) (decoder_view call.new.self).state _ _ _ _ _ call.ensures.call.law _ (call_chars (decoder_view c.args.self.now.decoder).state (decoder_view call.new.self).state _ _ _ _ _ _ _ call.ensures.call.law _ c.from_utf8_unchecked-text.ensures) c.requires.ready.within r end in
+    ahead_done (walk_state c.args.self.now) (decoder_view call.new.self).state _ _ _ _ _ call.ensures.call.law _ (call_chars (decoder_view c.args.self.now.decoder).state (decoder_view call.new.self).state _ _ _ _ _ _ _ call.ensures.call.law _ c.from_utf8_unchecked-text.ensures) c.requires.ready.within r end _ _ (ap reported c.in-OutputFull.is) (c.in_ok-tell_text.ensures.fits offset (reported call.result.0 ++ rest) (ahead_text (walk_state c.args.self.now) (decoder_view call.new.self).state _ _ _ _ _ call.ensures.call.law _ (call_chars (decoder_view c.args.self.now.decoder).state (decoder_view call.new.self).state _ _ _ _ _ _ _ call.ensures.call.law _ c.from_utf8_unchecked-text.ensures) c.requires.ready.within r end _ h))
+
+pub returns-in_err-tell_malformed-in-Malformed-clause-fits : goal.returns-in_err-tell_malformed-in-Malformed-clause-fits
+returns-in_err-tell_malformed-in-Malformed-clause-fits g c = λ r end h.
+    let call = c.decode_to_utf8_without_replacement-outcome in
+    let rest = (decoder_view call.new.self).state.pieces (drop call.result.1 c.args.chunk.now ++ r) in
+    let offset = offset_after (walk_state c.args.self.now) (decoder_view call.new.self).state _ _ _ _ _ call.ensures.call.law _ (call_chars (decoder_view c.args.self.now.decoder).state (decoder_view call.new.self).state _ _ _ _ _ _ _ call.ensures.call.law _ c.from_utf8_unchecked-text.ensures) c.requires.ready.within r end in
+    match_err _ _ _ c.from_residual-in_err-tell_malformed-in-Malformed.ensures.1
+    (c.in_err-tell_malformed-in-Malformed.ensures.fits rest (some_bytes (walk_state c.args.self.now) (decoder_view call.new.self).state _ _ _ _ _ call.ensures.call.law _ (call_chars (decoder_view c.args.self.now.decoder).state (decoder_view call.new.self).state _ _ _ _ _ _ _ call.ensures.call.law _ c.from_utf8_unchecked-text.ensures) c.requires.ready.within r end _ _ c.in-Malformed.is)
+    (ahead_malformed (walk_state c.args.self.now) (decoder_view call.new.self).state _ _ _ _ _ call.ensures.call.law _ (call_chars (decoder_view c.args.self.now.decoder).state (decoder_view call.new.self).state _ _ _ _ _ _ _ call.ensures.call.law _ c.from_utf8_unchecked-text.ensures) c.requires.ready.within r end _ _ c.in-Malformed.is _ _ _ (omega (arith, c.from.ensures, c.from-in-Malformed.ensures, malformed_within (decoder_view c.args.self.now.decoder).state (decoder_view call.new.self).state _ _ _ _ _ _ _ c.args.self.now.place.index c.args.self.now.read c.in-Malformed.is call.ensures.call.law c.requires.ready.within)) (c.in_ok-tell_text.ensures.fits offset (reported call.result.0 ++ rest) (ahead_text (walk_state c.args.self.now) (decoder_view call.new.self).state _ _ _ _ _ call.ensures.call.law _ (call_chars (decoder_view c.args.self.now.decoder).state (decoder_view call.new.self).state _ _ _ _ _ _ _ call.ensures.call.law _ c.from_utf8_unchecked-text.ensures) c.requires.ready.within r end _ h))))
+
+pub returns-in_ok-malformed-in-Malformed-clause-fits : goal.returns-in_ok-malformed-in-Malformed-clause-fits
+returns-in_ok-malformed-in-Malformed-clause-fits g c = λ r end h.
+    let call = c.decode_to_utf8_without_replacement-outcome in
+    let rest = (decoder_view call.new.self).state.pieces (drop call.result.1 c.args.chunk.now ++ r) in
+    let offset = offset_after (walk_state c.args.self.now) (decoder_view call.new.self).state _ _ _ _ _ call.ensures.call.law _ (call_chars (decoder_view c.args.self.now.decoder).state (decoder_view call.new.self).state _ _ _ _ _ _ _ call.ensures.call.law _ c.from_utf8_unchecked-text.ensures) c.requires.ready.within r end in
+    ahead_passed (walk_state c.args.self.now) (decoder_view call.new.self).state _ _ _ _ _ call.ensures.call.law _ (call_chars (decoder_view c.args.self.now.decoder).state (decoder_view call.new.self).state _ _ _ _ _ _ _ call.ensures.call.law _ c.from_utf8_unchecked-text.ensures) c.requires.ready.within r end _ _ c.in-Malformed.is _ _ _ _ (omega (arith, c.from.ensures, c.from-in-Malformed.ensures, malformed_within (decoder_view c.args.self.now.decoder).state (decoder_view call.new.self).state _ _ _ _ _ _ _ c.args.self.now.place.index c.args.self.now.read c.in-Malformed.is call.ensures.call.law c.requires.ready.within)) c.pass.ensures.index
+    (c.in_ok-tell_malformed-in-Malformed.ensures.fits rest (some_bytes (walk_state c.args.self.now) (decoder_view call.new.self).state _ _ _ _ _ call.ensures.call.law _ (call_chars (decoder_view c.args.self.now.decoder).state (decoder_view call.new.self).state _ _ _ _ _ _ _ call.ensures.call.law _ c.from_utf8_unchecked-text.ensures) c.requires.ready.within r end _ _ c.in-Malformed.is)
+    (ahead_malformed (walk_state c.args.self.now) (decoder_view call.new.self).state _ _ _ _ _ call.ensures.call.law _ (call_chars (decoder_view c.args.self.now.decoder).state (decoder_view call.new.self).state _ _ _ _ _ _ _ call.ensures.call.law _ c.from_utf8_unchecked-text.ensures) c.requires.ready.within r end _ _ c.in-Malformed.is _ _ _ (omega (arith, c.from.ensures, c.from-in-Malformed.ensures, malformed_within (decoder_view c.args.self.now.decoder).state (decoder_view call.new.self).state _ _ _ _ _ _ _ c.args.self.now.place.index c.args.self.now.read c.in-Malformed.is call.ensures.call.law c.requires.ready.within)) (c.in_ok-tell_text.ensures.fits offset (reported call.result.0 ++ rest) (ahead_text (walk_state c.args.self.now) (decoder_view call.new.self).state _ _ _ _ _ call.ensures.call.law _ (call_chars (decoder_view c.args.self.now.decoder).state (decoder_view call.new.self).state _ _ _ _ _ _ _ call.ensures.call.law _ c.from_utf8_unchecked-text.ensures) c.requires.ready.within r end _ h))))
