@@ -37,8 +37,10 @@ import subprocess
 import sys
 import tempfile
 
-TOP = os.path.abspath(os.path.join(os.path.dirname(os.path.abspath(__file__)), ".."))
-CRATES = os.path.join(TOP, "crates")
+sys.dont_write_bytecode = True
+
+import edit_files
+from edit_files import CRATES, TOP, read
 
 PAGE = """# The edits that the gate leaves out
 
@@ -80,11 +82,6 @@ NAMES = re.compile(r"has no field|is not in scope|has no `|was not admitted")
 FAILING = re.compile(r"`([^`]+)`: ")
 GONE = re.compile(r"`goal\.([^`]+)`: module \S+ has no ")
 ANSWER = re.compile(r"pub (\S+) : goal\.")
-
-
-def read(path):
-    with open(path, encoding="utf-8") as file:
-        return file.read()
 
 
 def write(path, text):
@@ -151,21 +148,11 @@ def without(text, goals):
 
 
 class Edit:
-    """A file of edits: the texts to replace, in order, and the function that they stand in."""
+    """An edit, and the function that its changes stand in."""
 
-    def __init__(self, path, folder):
-        self.name = os.path.basename(path)[: -len(".edit")]
-        self.changes, target, old = [], None, None
-        for line in read(path).split("\n"):
-            word, _, rest = line.partition(":")
-            rest = rest.removeprefix(" ")
-            if word == "file":
-                target = rest.strip()
-            elif word == "old":
-                old = rest
-            elif word == "new":
-                self.changes.append((target, old, rest))
-        self.function = self.name.split(".")[0].split("-")[-1]
+    def __init__(self, edit, folder):
+        self.name, self.changes = edit.name, edit.changes
+        self.function = edit.function.split("-")[-1]
         self.files = {target for target, _, _ in self.changes}
         self.path = self.path_in(folder) if len(self.files) == 1 else None
 
@@ -363,9 +350,7 @@ class Crate:
 
 
 def edits_of(crate, kind):
-    folder = os.path.join(CRATES, crate, kind)
-    names = sorted(os.listdir(folder)) if os.path.isdir(folder) else []
-    return [Edit(os.path.join(folder, name), os.path.join(CRATES, crate)) for name in names if name.endswith(".edit")]
+    return [Edit(edit, os.path.join(CRATES, crate)) for edit in edit_files.edits_of(crate, kind)]
 
 
 def below(crate):
