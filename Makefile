@@ -40,7 +40,7 @@ usage:
 	@python3 tools/usage.py
 
 # The edits that the gate leaves out, each of which the prover must refuse: those of the crates that have changed since
-# they were tried last. What came of it as docs/EDITS.md. For a release, since it can take hours.
+# they were tried last. What came of it goes into docs/STATUS.md. For a release, since it can take hours.
 edits:
 	@python3 tools/edits.py
 
@@ -48,7 +48,7 @@ edits:
 example:
 	@python3 tools/example.py
 
-# The merge gate on a clean clone of HEAD, and what it said, and took, as docs/STATUS.md.
+# The merge gate on a clean clone of HEAD, and what it said, and took, into docs/STATUS.md.
 status:
 	@python3 tools/status.py
 

@@ -5,9 +5,9 @@ leaves out, or with `--gate` those of `must-fail/`, which `rt ci` tries.
     python3 tools/edits.py [--gate] [--jobs N] [--copies N] [CRATE[/NAME]..]
 
 With a name, those of the crate whose names begin with it. Without crates, those of `edits/` of each crate that has changed,
-or that stands on one that has, since its row of docs/EDITS.md was written. What came of a whole crate is written to that
+or that stands on one that has, since its row of docs/STATUS.md was written. What came of a whole crate is written to that
 page as soon as it is done, so a run that was cut off goes on with the crates that are left. `--jobs` crates are tried at
-a time, two where nothing is said, and of a crate with many edits as many as `--copies` says, one where nothing is said.
+a time, by default two. A crate with many edits is tried in as many copies as `--copies` says, by default one.
 
 In a copy of the repository for each crate, with what checks have kept in `out/`, its edits are made in rounds: of each
 function at most one edit in a round. A check then says of each function whether it is proved, and of one that is not
@@ -40,26 +40,20 @@ import tempfile
 sys.dont_write_bytecode = True
 
 import edit_files
+import status
 from edit_files import CRATES, TOP, read
 
-PAGE = """# The edits that the gate leaves out
-
-`make edits` tries the edits of each crate that has changed, or that stands on one that has, since its row was written. A crate without a row has not been tried so.
-
-| Crate | Commit | Day | Kit | Refused by the fact | By a stale answer | Let through |
+TABLE = """| Crate | Commit | Day | Kit | Refused by the fact | By a stale answer | Let through |
 |---|---|---|---|---|---|---|
-{rows}
+{rows}"""
 
-An edit is refused by the fact if a goal of the changed function is open that no answer is written for. It is refused by a stale answer if nothing but an answer fails, which was written for the right body, and the right body has the same open goals without that answer. The prover then does not tell whether the body is wrong or the answer alone, and somebody has to look; `tools/edits.py` says more.
-"""
+STALE_TABLE = """
 
-STALE_ROWS = """
-## By a stale answer
+By a stale answer:
 
 | Edit | Open without its answers |
 |---|---|
-{rows}
-"""
+{rows}"""
 
 ROW = re.compile(r"^\| (\w+) \| ([0-9a-f]{7,40}) \| .* \|$", re.M)
 STALE_ROW = re.compile(r"^\| (\w+)/\S+ \| .* \|$", re.M)
@@ -400,12 +394,10 @@ def chosen(kind, names):
 
 
 class Page:
-    """docs/EDITS.md: a row for each crate, and one for each edit that nothing but a stale answer refuses."""
-
-    path = os.path.join(TOP, "docs", "EDITS.md")
+    """The edits in docs/STATUS.md: a row for each crate, and one for each edit that nothing but a stale answer refuses."""
 
     def __init__(self):
-        text = read(self.path)
+        text = status.read_page()
         self.rows = {row.group(1): row.group() for row in ROW.finditer(text)}
         self.commits = {row.group(1): row.group(2) for row in ROW.finditer(text)}
         self.stale = [row.group() for row in STALE_ROW.finditer(text)]
@@ -426,8 +418,9 @@ class Page:
         self.rows[crate] = "| %s |" % " | ".join(str(cell) for cell in cells)
         stale = ["| %s | %s |" % (name, ", ".join(goals)) for name, kind, goals in told if kind == STALE]
         self.stale = sorted([row for row in self.stale if not row.startswith("| %s/" % crate)] + stale)
-        page = PAGE.format(rows="\n".join(self.rows[name] for name in sorted(self.rows)))
-        write(self.path, page + (STALE_ROWS.format(rows="\n".join(self.stale)) if self.stale else ""))
+        table = TABLE.format(rows="\n".join(self.rows[name] for name in sorted(self.rows)))
+        stale = STALE_TABLE.format(rows="\n".join(self.stale)) if self.stale else ""
+        status.write_part("edits", table + stale)
 
 
 def main():
@@ -443,7 +436,7 @@ def main():
         crates = [(crate, edits) for crate, edits in crates if not page.is_current(crate)]
     # What a page says is said of a commit.
     whole = {crate for crate, _ in crates if not given.gate and (not given.names or crate in given.names)}
-    if whole and said("git", "status", "--porcelain", "--", ".", ":!docs/EDITS.md"):
+    if whole and said("git", "status", "--porcelain", "--", ".", ":!" + status.PAGE):
         sys.exit("there are changes that no commit has")
 
     def tried(pair):
