@@ -62,7 +62,7 @@ STALE_ROW = re.compile(r"^\| (\w+)/\S+ \| .* \|$", re.M)
 REFUSED, STALE, THROUGH = "refused", "by a stale answer", "LET THROUGH"
 
 FUNCTION = re.compile(r"^ *(?:pub(?:\([^)]*\))? )?fn (\w+)")
-# The type of a block of methods, behind the trait that it implements.
+# The type of a block of methods, after the trait that it implements.
 BLOCK = re.compile(r"^(?:pub )?(?:impl|trait)\b(?:<.*?>)? (?:(\w+)(?:<.*?>)? for )?(\w+)")
 
 # What a check says of a function; a note of an open goal stands before it.
@@ -70,7 +70,7 @@ SAID = re.compile(r"fn \w+::(\S+): (.*)")
 GOAL = re.compile(r"note: src/.*it is not proved that .*?\(`([^`]+)`\)(.*)")
 FALSE = "values at which this goal is false"
 ERROR = re.compile(r"^\./(\S+?):\d+:\d+: error: (.*)", re.MULTILINE)
-# How an error begins where a definition names what an edit took away.
+# How an error begins if a definition names what an edit took away.
 NAMES = re.compile(r"has no field|is not in scope|has no `|was not admitted")
 # The goal whose answer an error is in, and one that is not there; an answer, which ends at an empty line.
 FAILING = re.compile(r"`([^`]+)`: ")
@@ -106,7 +106,7 @@ class Check:
         return [error for file, error in self.errors if file.startswith(folder_of(path))]
 
     def failing(self, path):
-        """The goals of a function whose answers fail; one without a name where an error is in none of them."""
+        """The goals of a function whose answers fail; one without a name if an error is in none of them."""
         return {found[1] if found else "" for found in map(FAILING.match, self.own_errors(path))}
 
     def refusing(self, path):
@@ -174,7 +174,7 @@ class Edit:
         return self.path or (min(self.files), self.function)
 
     def made_in(self, texts, folder):
-        """These texts, by their paths, with the edit made; none where a text to replace does not stand in them once."""
+        """These texts, by their paths, with the edit made; none unless each text to replace stands in them once."""
         texts = dict(texts)
         for target, old, new in self.changes:
             text = texts.get(target) or read(os.path.join(folder, target))
@@ -302,7 +302,7 @@ class Crate:
             self.tell(edit, STALE)
 
     def look_at_right_bodies(self, aside):
-        """Finds the goals of functions that are open for the right body where answers are set aside."""
+        """Finds the goals of functions that are open for the right body when answers are set aside."""
         left, found = dict(aside), aside
         while left and found:
             check = self.checked({}, left)

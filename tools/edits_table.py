@@ -6,7 +6,7 @@
 An edit is named after the function whose body it changes: `function`, or `Type-function` for a method. Of the functions
 that no edit changes it lists those that promise something: public ones, and methods of public traits, with a clause and
 a body that is not empty (a law has none). A table before them has the wrong bodies of tools/wrong_bodies.toml, each in
-plain words, with what shows that it is refused.
+plain words, with what shows that it is refused. It needs Python 3.11.
 """
 
 import collections
@@ -29,7 +29,7 @@ Which edits change the body of which function, and which public functions no edi
 
 ## By what is wrong
 
-Wrong bodies that this repository sets out to refuse, and which edits show that the prover refuses each; where a contract cannot speak of one, or of a part of it, the test that refuses it. `tools/wrong_bodies.toml` has the list.
+Wrong bodies that this repository sets out to refuse, and which edits show that the prover refuses each. If a contract cannot speak of one, or of a part of it, there is the test that refuses it. `tools/wrong_bodies.toml` has the list.
 """
 
 # How the edits of each folder are marked: in bold those that the gate tries.

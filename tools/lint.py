@@ -170,7 +170,7 @@ def names_of_the_kit():
 
 
 def taken_names():
-    """No definition takes a name of the standard library's: where both are meant, a reader would not know which."""
+    """No definition takes a name of the standard library's: a reader would not know which of the two is meant."""
     taken = set(names_of_the_kit())
     if not taken:
         yield "the kit's standard library was not found beside `rt`, so names can't be compared with its names"
@@ -181,7 +181,7 @@ def taken_names():
 
 def shared_names():
     """A function of the code that has the name of a definition says so: its contract cites the definition. One without a
-    contract is left out, as a function of a trait is where it is implemented: the trait has its contract."""
+    contract is left out, as is the implementation of a trait's function: the trait has its contract."""
     words = {definition.name for definition in definitions_of_specs() if "/laws/" not in definition.path}
     for crate, _ in definitions_page.PARTS:
         for path in files_of(crate, "src", ".rt"):

@@ -71,7 +71,7 @@ def dedent(lines):
 
 
 def head(lines, start):
-    """The lines from `start` up to the body of an item or to its semicolon, and the index behind them."""
+    """The lines from `start` up to the body of an item or to its semicolon, and the index after them."""
     code, indent = [], re.match(r" *", lines[start])[0]
     for index in range(start, len(lines)):
         line = lines[index].rstrip()
@@ -86,7 +86,7 @@ def head(lines, start):
 
 
 def block(lines, index):
-    """The lines of a block that opened before `index`, up to the brace that closes it, and the index behind it."""
+    """The lines of a block that opened before `index`, up to the brace that closes it, and the index after it."""
     indent = None
     for end in range(index - 1, -1, -1):
         if lines[end].strip():
@@ -462,7 +462,7 @@ def unmade_examples():
 
 
 def faults():
-    """What `make lint` tells: items without a doc comment, examples that are not made, pages that are not written."""
+    """What `make lint` reports: items without a doc comment, examples that are not made, pages that are not written."""
     yield from undocumented()
     yield from unknown_calls()
     yield from unmade_examples()
