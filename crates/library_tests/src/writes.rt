@@ -65,9 +65,9 @@ fn calls_of_writers(
 #[test]
 fn a_fault_takes_two_calls_of_the_writers(rt: HostRuntime) {
     let tables = Tables::new(rt.alloc());
-    // Each line goes out alone, and all bytes between two lines together; U+FFFD and references are
-    // among the bytes behind their line.
-    let rows: [(Encoding, &[u8], usize, usize); 8] = [
+    // All bytes between two lines go out together; U+FFFD and references are among the bytes after
+    // their line.
+    let rows: [(Encoding, &[u8], usize, usize); 10] = [
         (UTF_8, b"ab", 1, 0),
         (UTF_8, b"a\xFFb", 2, 1),
         (UTF_8, b"a\xFFb\xFFc\xFF", 4, 3),
@@ -75,8 +75,10 @@ fn a_fault_takes_two_calls_of_the_writers(rt: HostRuntime) {
         (X_USER_DEFINED, b"a\xC3\xA9b", 2, 1),
         (X_USER_DEFINED, b"a\xC3\xA9b\xC3\xA9c\xC3\xA9", 4, 3),
         (X_USER_DEFINED, b"\xC3\xA9\xC3\xA9", 2, 2),
-        // U+FFFD is lost as well: two lines, with nothing between them.
-        (X_USER_DEFINED, b"a\xFFb", 2, 2),
+        // U+FFFD is lost as well: two lines with nothing between them go out together.
+        (X_USER_DEFINED, b"a\xFFb", 2, 1),
+        (X_USER_DEFINED, b"a\xFFb\xFFc\xFF", 4, 3),
+        (X_USER_DEFINED, b"\xFF\xFF", 2, 2),
     ];
     for (to, input, writes, lines) in rows {
         let calls = calls_of_writers(&tables, to, input, 64);

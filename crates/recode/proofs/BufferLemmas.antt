@@ -1,10 +1,12 @@
 -- Buffers and writers that are lent and given back.
-use Rattle.std.proofs.Common.{◌≡◌, ◌≤◌, ◌∙◌, arith, length, refl, sym, true≢false}
+use Rattle.std.proofs.Common.{◌≡◌, ◌∙◌, ℕ, List, Option, None, ap, arith, refl, sym, take, true≢false}
 use Rattle.recode.specs.calls.Buffers.{AreEnough, KeepSizes, KeepsRoom, HoldsAnyCharacter, capacity, is_wide}
-use Rattle.recode.specs.calls.Writers.{AreTheSame}
+use Rattle.recode.specs.calls.Writers.{AreReady, AreTheSame, HoldNothing, written_by, writers_view}
+use Rattle.recode.specs.calls.Held.{WritersView, holding_none}
 use Rattle.recode.specs.declared.job.Buffers.{Buffers}
 use Rattle.recode.specs.declared.job.Pivot.{Pivot}
 use Rattle.recode.specs.declared.job.Pivot.TheVariants.{Utf8, Utf16}
+use Rattle.recode.specs.declared.writers.MalformedLine.{MalformedLine}
 use Rattle.recode.specs.declared.writers.Writers.{Writers}
 
 pub kept_start : (b : Buffers) → KeepSizes b b
@@ -41,8 +43,14 @@ kept_enough b c e k = record {
   one_kind = k.pivot_kind ∙ e.one_kind ∙ sym k.check_kind;
 }
 
-pub same_start : {W L : Type 0} (a : Writers W L) → a.held ≤ length a.buffer.now → AreTheSame a a
-same_start a within = record { output = refl; buffer = refl; room = refl; within = within; log = refl; policy = refl }
+pub same_start : {W L : Type 0} (a : Writers W L) → AreReady a → AreTheSame a a
+same_start a ready = record { output = refl; buffer = refl; room = refl; within = ready.within; line = ready.line; log = refl; policy = refl }
 
 pub same_on : {W L : Type 0} {a b c : Writers W L} → AreTheSame a b → AreTheSame b c → AreTheSame a c
-same_on p q = record { output = q.output ∙ p.output; buffer = q.buffer ∙ p.buffer; room = q.room ∙ p.room; within = q.within; log = q.log ∙ p.log; policy = q.policy ∙ p.policy }
+same_on p q = record { output = q.output ∙ p.output; buffer = q.buffer ∙ p.buffer; room = q.room ∙ p.room; within = q.within; line = q.line; log = q.log ∙ p.log; policy = q.policy ∙ p.policy }
+
+-- writers for which nothing is held
+pub view_none : {W L : Type 0} (contents : W → Option (List ℕ)) (logged : L → Option (List ℕ)) (a : Writers W L) → HoldNothing a → writers_view contents logged a ≡ holding_none (written_by contents logged a)
+view_none contents logged a h =
+    ap (λ (line : Option MalformedLine). record { written = written_by contents logged a; line = line; bytes = take a.held a.buffer.now }) h.line
+    ∙ ap (λ (n : ℕ). record { written = written_by contents logged a; line = None; bytes = take n a.buffer.now }) h.bytes

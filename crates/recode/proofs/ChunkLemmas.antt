@@ -12,17 +12,17 @@ use Rattle.recode.specs.Policy.{reference_form}
 use Rattle.recode.specs.State.{State, WillBeFaithful, to_write}
 use Rattle.recode.specs.Step.{Advances}
 use Rattle.recode.specs.Devices.{Written}
-use Rattle.recode.specs.calls.Held.{LeavesPrefix, LeavesPrefixFor, PassesBytes, PassesItemsFor, WritersView, behind_held, holding_none}
+use Rattle.recode.specs.calls.Held.{LeavesPrefix, LeavesPrefixFor, Passes, PassesItemsFor, WritersView, holding_none}
 use Rattle.recode.specs.calls.TraceToWrite.{AreSound, trace_to_write}
 use Rattle.recode.specs.calls.Verdict.{CanTell, IsFaithfulFor}
 use Rattle.recode.specs.Work.{IsCounted, TakesCalls}
 use Rattle.recode.specs.WrittenItems.{WritesPrefixFor}
 use Rattle.recode.specs.declared.job.Fault.{Fault}
+use Rattle.recode.specs.declared.job.Policy.{Policy}
 use Rattle.encoding_mem.specs.Items.{Item}
 use Rattle.recode.proofs.DecoderCallLemmas.{IsText, WellFormedCall, empty_call, end_none, ended_owed, full_call, full_left, full_owed, full_some, malformed_call, malformed_left, malformed_owed, malformed_sound, none_owed, well_formed_sound}
 use Rattle.recode.proofs.LatencyLemmas.{advances_more, advances_start, malformed_advances, settled_of, well_formed_advances}
-use Rattle.recode.proofs.HeldLemmas.{left_for_of, left_whole, passes_for_bytes, passes_for_of, passes_join}
-use Rattle.recode.proofs.TraceLemmas.{WritesItemsFor-start, WritesItemsFor-trans, WritesItemsFor-under}
+use Rattle.recode.proofs.HeldLemmas.{left_for_of, pays_for_held, pays_for_of, pays_for_start, pays_for_then, pays_for_under, pays_join}
 use Rattle.recode.proofs.VerdictLemmas.{both_ways, malformed_verdict, verdict_told, well_formed_verdict}
 use Rattle.recode.proofs.TextLemmas.{malformed_line_calls, malformed_pays, text_calls, text_pays, text_set, text_tells}
 use Rattle.recode.proofs.WorkLemmas.{end_calls, full_calls, malformed_calls}
@@ -36,7 +36,7 @@ converts_start w s last bytes sound = record {
   policy = refl;
   sound = sound;
   source = λ r h. refl;
-  pays = WritesItemsFor-start w.written s.counts s.policy last (λ r. behind_held w (to_write s (bytes ++ r)));
+  pays = pays_for_start w s.counts s.policy last (λ r. to_write s (bytes ++ r));
   verdict = λ r h. (λ x. x, λ x. x);
   calls = λ r h. omega arith;
   least = λ under. omega arith;
@@ -50,7 +50,7 @@ converts_more w w1 w2 s s1 s2 last a b c n p q = record {
   policy = q.policy ∙ p.policy;
   sound = q.sound;
   source = λ r h. p.source r h ∙ q.source r h;
-  pays = WritesItemsFor-trans w.written w1.written w2.written s.counts s1.counts s2.counts s.policy last (λ r. behind_held w (to_write s (a ++ r))) (λ r. behind_held w1 (to_write s1 (b ++ r))) (λ r. behind_held w2 (to_write s2 (c ++ r))) p.pays
+  pays = pays_for_then w w1 w2 s.counts s1.counts s2.counts s.policy last (λ r. to_write s (a ++ r)) (λ r. to_write s1 (b ++ r)) (λ r. to_write s2 (c ++ r)) p.pays
       (subst (λ k. PassesItemsFor w1 w2 s1.counts s2.counts k last (λ r. to_write s1 (b ++ r)) (λ r. to_write s2 (c ++ r))) p.policy q.pays);
   verdict = λ r h. both_ways (p.verdict r h) (q.verdict r h);
   calls = λ r h. omega (arith, p.calls r h, q.calls r h);
@@ -64,47 +64,50 @@ converts_more w w1 w2 s s1 s2 last a b c n p q = record {
 pub converts_under : (w w1 w2 : WritersView) (s s1 : State) (last : Bool) (a b : List ℕ) (f : Fault) (n : ℕ) → ConvertsTo w w1 s s1 last a b n
     → LeavesPrefixFor w1 w2 s1.policy f last (λ r. to_write s1 (b ++ r)) → LeavesPrefixFor w w2 s.policy f last (λ r. to_write s (a ++ r))
 converts_under w w1 w2 s s1 last a b f n p q =
-    WritesItemsFor-under w.written w1.written w2.written s.counts s1.counts s.policy f last (λ r. behind_held w (to_write s (a ++ r))) (λ r. behind_held w1 (to_write s1 (b ++ r))) p.pays
+    pays_for_under w w1 w2 s.counts s1.counts s.policy f last (λ r. to_write s (a ++ r)) (λ r. to_write s1 (b ++ r)) p.pays
     (subst (λ k. LeavesPrefixFor w1 w2 k f last (λ r. to_write s1 (b ++ r))) p.policy q)
 
 -- what is held is delivered
-converts_delivered : (w w1 w2 : WritersView) (s s1 : State) (last : Bool) (a b : List ℕ) (n : ℕ) → ConvertsTo w w1 s s1 last a b n → PassesBytes w1 w2 [] → ConvertsTo w w2 s s1 last a b n
+converts_delivered : (w w1 w2 : WritersView) (s s1 : State) (last : Bool) (a b : List ℕ) (n : ℕ) → ConvertsTo w w1 s s1 last a b n → Passes w1 w2 [] → ConvertsTo w w2 s s1 last a b n
 converts_delivered w w1 w2 s s1 last a b n p h = record {
   counted = p.counted;
   target = p.target;
   policy = p.policy;
   sound = p.sound;
   source = p.source;
-  pays = WritesItemsFor-trans w.written w1.written w2.written s.counts s1.counts s1.counts s.policy last (λ r. behind_held w (to_write s (a ++ r))) (λ r. behind_held w1 (to_write s1 (b ++ r))) (λ r. behind_held w2 (to_write s1 (b ++ r))) p.pays
-      (passes_for_bytes w1 w2 s1.counts s.policy last (λ r. to_write s1 (b ++ r)) h);
+  pays = pays_for_then w w1 w2 s.counts s1.counts s1.counts s.policy last (λ r. to_write s (a ++ r)) (λ r. to_write s1 (b ++ r)) (λ r. to_write s1 (b ++ r)) p.pays
+      (pays_for_held w1 w2 s1.counts s.policy last (λ r. to_write s1 (b ++ r)) h);
   verdict = p.verdict;
   calls = p.calls;
   least = p.least;
   advances = p.advances;
 }
 
--- or it is in part, and nothing was held before
-pub delivered_under : {T : Type 0} (r : Result T Fault) (w w1 w2 : WritersView) (s s1 : State) (last : Bool) (a b : List ℕ) (n : ℕ) → w.held ≡ [] → ConvertsTo w w1 s s1 last a b n
+-- or it is in part
+delivered_part : {T : Type 0} (r : Result T Fault) (w w1 w2 : WritersView) (s s1 : State) (last : Bool) (a b : List ℕ) (n : ℕ) → ConvertsTo w w1 s s1 last a b n
+    → IfErr r (λ (f : Fault). (to_write : List Item) → LeavesPrefix w1 w2 s1.policy f to_write) → IfErr r (λ (f : Fault). LeavesPrefixFor w w2 s.policy f last (λ r. to_write s (a ++ r)))
+delivered_part (Ok x) w w1 w2 s s1 last a b n p h = tt
+delivered_part (Err f) w w1 w2 s s1 last a b n p h =
+    converts_under w w1 w2 s s1 last a b f n p (left_for_of w1 w2 s1.policy f last [] (λ r. to_write s1 (b ++ r)) (h []) (λ r none. (to_write s1 (b ++ r), refl)))
+
+pub delivered_under : {T : Type 0} (r : Result T Fault) (w w1 w2 : WritersView) (s s1 : State) (last : Bool) (a b : List ℕ) (n : ℕ) → w ≡ holding_none w.written → ConvertsTo w w1 s s1 last a b n
     → IfErr r (λ (f : Fault). (to_write : List Item) → LeavesPrefix w1 w2 s1.policy f to_write) → IfErr r (λ (f : Fault). WritesPrefixFor w.written w2.written s.policy f last (λ r. to_write s (a ++ r)))
-delivered_under (Ok x) w w1 w2 s s1 last a b n none p h = tt
-delivered_under (Err f) w w1 w2 s s1 last a b n none p h =
-    left_whole w w2 s.policy f last (λ r. to_write s (a ++ r)) none (converts_under w w1 w2 s s1 last a b f n p
-    (left_for_of w1 w2 s1.policy f last [] (λ r. to_write s1 (b ++ r)) (h []) (λ r none. (to_write s1 (b ++ r), refl))))
+delivered_under r w w1 w2 s s1 last a b n none p h =
+    subst (λ (v : WritersView). IfErr r (λ (f : Fault). LeavesPrefixFor v w2 s.policy f last (λ r. to_write s (a ++ r)))) none (delivered_part r w w1 w2 s s1 last a b n p h)
 
--- and nothing was held
-converts_whole : (w w' : Written) (held held' : List ℕ) (s s1 : State) (last : Bool) (a b : List ℕ) (n : ℕ) → held ≡ [] → held' ≡ []
-    → ConvertsTo (record { written = w; held = held }) (record { written = w'; held = held' }) s s1 last a b n → ConvertsTo (holding_none w) (holding_none w') s s1 last a b n
-converts_whole w w' held held' s s1 last a b n none none' p =
-    subst (λ h. ConvertsTo (holding_none w) (record { written = w'; held = h }) s s1 last a b n) none'
-    (subst (λ h. ConvertsTo (record { written = w; held = h }) (record { written = w'; held = held' }) s s1 last a b n) none p)
+-- where nothing was held
+pub left_whole : (w w' : WritersView) (p : Policy) (f : Fault) (last : Bool) (a : List ℕ → List Item) → w ≡ holding_none w.written → LeavesPrefixFor w w' p f last a → WritesPrefixFor w.written w'.written p f last a
+left_whole w w' p f last a none h = subst (λ (v : WritersView). LeavesPrefixFor v w' p f last a) none h
 
-pub decodes_delivered : {T E : Type 0} (r : Result T E) (w w1 w2 : WritersView) (s s1 : State) (last : Bool) (chunk : List ℕ) (n : ℕ) → (n ≡ 0 → w2.held ≡ []) → w.held ≡ [] → ConvertsTo w w1 s s1 last chunk [] 1 → IsDoneWith s1 last
-    → OnOk r (PassesBytes w1 w2 []) → OnOk r (n ≡ 0) → OnOk r (DecodesChunk w.written w2.written s s1 chunk last)
-decodes_delivered (Ok x) w w1 w2 s s1 last chunk n held none converts done delivers zero = record {
-  converts = converts_whole w.written w2.written w.held w2.held s s1 last chunk [] 1 none (held zero) (converts_delivered w w1 w2 s s1 last chunk [] 1 converts delivers);
+pub decodes_delivered : {T E : Type 0} (r : Result T E) (w w1 w2 : WritersView) (s s1 : State) (last : Bool) (chunk : List ℕ) (none : Type 0) → (none → w2 ≡ holding_none w2.written) → w ≡ holding_none w.written
+    → ConvertsTo w w1 s s1 last chunk [] 1 → IsDoneWith s1 last → OnOk r (Passes w1 w2 []) → OnOk r none → OnOk r (DecodesChunk w.written w2.written s s1 chunk last)
+decodes_delivered (Ok x) w w1 w2 s s1 last chunk none held before converts done delivers after = record {
+  converts =
+      subst (λ (v : WritersView). ConvertsTo (holding_none w.written) v s s1 last chunk [] 1) (held after)
+      (subst (λ (v : WritersView). ConvertsTo v w2 s s1 last chunk [] 1) before (converts_delivered w w1 w2 s s1 last chunk [] 1 converts delivers));
   done = done;
 }
-decodes_delivered (Err e) w w1 w2 s s1 last chunk n held none converts done delivers zero = tt
+decodes_delivered (Err e) w w1 w2 s s1 last chunk none held before converts done delivers after = tt
 
 -- ---- one call of a decoder
 
@@ -156,7 +159,7 @@ module _ (w w' : WritersView) (s s' : State) (src : List ℕ) (last : Bool) (rea
         policy = f.policy;
         sound = well_formed_sound s.decoder s'.decoder src last read t k s.counts s'.counts ready.sound index f.read (omega (arith, f.bad, index, ready.sound.bad)) f.lost;
         source = source;
-        pays = passes_for_of w w' (record s.counts { read = s.counts.read + read; calls = calls }) s.counts s'.counts s.policy last (text_items (writing_of s) ended t) (λ r. to_write s (src ++ r)) (λ r. to_write s' (drop read src ++ r)) refl refl (text_pays w w' (after_call s read calls) (writing_of s') ended t e need law)
+        pays = pays_for_of w w' (record s.counts { read = s.counts.read + read; calls = calls }) s.counts s'.counts s.policy last (text_items (writing_of s) ended t) (λ r. to_write s (src ++ r)) (λ r. to_write s' (drop read src ++ r)) refl refl (text_pays w w' (after_call s read calls) (writing_of s') ended t e need law)
             (λ r h. owed r h ∙ ap (λ l. text_items (writing_of s) ended t ++ l) (same (drop read src ++ r)));
         verdict = λ r h. will_be s s' f.target f.policy (WillBeFaithful s (src ++ r)) (drop read src ++ r)
             (well_formed_verdict (reference_form s.policy) s.decoder s'.decoder src last read t s.coding s.verdict s'.verdict s.set s'.set k ended f.verdict none r h);
@@ -238,8 +241,8 @@ module _ (w w' : WritersView) (s s' : State) (src : List ℕ) (last : Bool) (rea
         policy = g.policy;
         sound = malformed_sound s.decoder s'.decoder src last read a b t k s.counts s'.counts ready.sound (omega (arith, index1, index2)) (g.read ∙ e.read) (omega (arith, g.bad, e.bad, index1, index2, ready.sound.bad)) g.lost;
         source = source;
-        pays = passes_for_of w w' (record s.counts { read = s.counts.read + read; calls = calls }) s.counts s'.counts s.policy last _ (λ r. to_write s (src ++ r)) (λ r. to_write s' (drop read src ++ r)) refl refl
-            (passes_join w w1 w' (record s.counts { read = s.counts.read + read; calls = calls }) t1.counts s'.counts s.policy _ _ (text_pays w w1 (after_call s read calls) t1 false t e0 need law) (malformed_pays w1 w' t2 (writing_of s') offset a f need law))
+        pays = pays_for_of w w' (record s.counts { read = s.counts.read + read; calls = calls }) s.counts s'.counts s.policy last _ (λ r. to_write s (src ++ r)) (λ r. to_write s' (drop read src ++ r)) refl refl
+            (pays_join w w1 w' (record s.counts { read = s.counts.read + read; calls = calls }) t1.counts s'.counts s.policy _ _ (text_pays w w1 (after_call s read calls) t1 false t e0 need law) (malformed_pays w1 w' t2 (writing_of s') offset a f need law))
             (λ r h. owed r h ∙ ap (λ l. (text_items (writing_of s) false t ++ malformed_items (record t1 { coding = s.coding; policy = s.policy }) offset a) ++ l) (same (drop read src ++ r)));
         verdict = λ r h. will_be s s' g.target g.policy (WillBeFaithful s (src ++ r)) (drop read src ++ r)
             (malformed_verdict (reference_form s.policy) s.decoder s'.decoder src last read t s.coding s.verdict s'.verdict s.set s'.set a b k (g.stays refl) r h);

@@ -31,6 +31,7 @@ use Rattle.recode.specs.declared.target.Counts.{Counts}
 use Rattle.recode.specs.declared.job.Job.{Job}
 use Rattle.recode.specs.declared.job.Policy.{Policy}
 use Rattle.recode.proofs.DecoderCallLemmas.{MalformedCall, WellFormedCall, last_set-append, sizes-append}
+use Rattle.recode.proofs.HeldLemmas.{written_whole}
 use Rattle.recode.proofs.TraceLemmas.{log_bytes-append_of_items, tagged-append, output_bytes-append, log_bytes-trace, output_bytes-trace, whole_from-append, open_from-append}
 
 -- The text of pieces in a row.
@@ -144,6 +145,7 @@ pub steps_on : (before after : Devices) (limit : ℕ) (s s1 : State) (chunk : Li
     → last ≡ false → DecodesChunk before.written after.written s s1 chunk last → StepsOn before after limit s s1
 steps_on before after limit s s1 chunk last read_in some within sound goes_on k =
     let c = k.converts in
+    let pays = written_whole before.written after.written s.counts s1.counts s.policy last _ _ c.pays in
     let p = c.advances goes_on in
     let e = s.coding in
     let offset = s.counts.read - s.decoder.pending in
@@ -153,10 +155,10 @@ steps_on before after limit s s1 chunk last read_in some within sound goes_on k 
     let qs = s1.decoder.pieces [] in
     let counted : s1.counts.read ≡ s.counts.read + length chunk = omega (arith, c.counted) in
     let offset_is : offset1 ≡ offset + sizes p.taken = omega (arith, taken_sizes s.decoder s1.decoder chunk p.taken (p.rest []), counted, sound.index) in
-    let is : trace_from (reference_form s.policy) e s.set offset i (p.taken ++ qs) ≡ c.pays.written_items ++ trace_from (reference_form s.policy) e s1.set offset1 i1 qs =
-    ap (trace_from (reference_form s.policy) e s.set offset i) (sym (p.rest [])) ∙ c.pays.equals [] (λ _. refl)
-    ∙ ap (λ (q : Coding). c.pays.written_items ++ trace_from (reference_form s1.policy) q s1.set offset1 i1 qs) c.target
-    ∙ ap (λ (q : Policy). c.pays.written_items ++ trace_from (reference_form q) e s1.set offset1 i1 qs) c.policy in
+    let is : trace_from (reference_form s.policy) e s.set offset i (p.taken ++ qs) ≡ pays.written_items ++ trace_from (reference_form s.policy) e s1.set offset1 i1 qs =
+    ap (trace_from (reference_form s.policy) e s.set offset i) (sym (p.rest [])) ∙ pays.equals [] (λ _. refl)
+    ∙ ap (λ (q : Coding). pays.written_items ++ trace_from (reference_form s1.policy) q s1.set offset1 i1 qs) c.target
+    ∙ ap (λ (q : Policy). pays.written_items ++ trace_from (reference_form q) e s1.set offset1 i1 qs) c.policy in
     let none : (r : List ℕ) → last ≡ true → r ≡ [] = λ r h. absurd (false≢true (sym goes_on ∙ h)) in
     record {
       chunk = chunk;
@@ -167,10 +169,10 @@ steps_on before after limit s s1 chunk last read_in some within sound goes_on k 
       target = c.target;
       policy = c.policy;
       source = λ r. c.source r (none r);
-      pays = record { written_items = c.pays.written_items; wrote = c.pays.wrote; counted = c.pays.counted; spared = c.pays.spared; equals = λ r h. c.pays.equals r (none r) };
+      pays = record { written_items = pays.written_items; wrote = pays.wrote; counted = pays.counted; spared = pays.spared; equals = λ r h. pays.equals r (none r) };
       advances = p;
-      output = subst (Appends before.written.output after.written.output) (paid_output (reference_form s.policy) e s.set s1.set offset i offset1 i1 p.taken qs c.pays.written_items p.set offset_is p.index is) c.pays.wrote.output;
-      logged = subst (Appends before.written.log after.written.log) (paid_lines (reference_form s.policy) e s.set s1.set offset i offset1 i1 p.taken qs c.pays.written_items p.set offset_is p.index is) c.pays.wrote.lined;
+      output = subst (Appends before.written.output after.written.output) (paid_output (reference_form s.policy) e s.set s1.set offset i offset1 i1 p.taken qs pays.written_items p.set offset_is p.index is) pays.wrote.output;
+      logged = subst (Appends before.written.log after.written.log) (paid_lines (reference_form s.policy) e s.set s1.set offset i offset1 i1 p.taken qs pays.written_items p.set offset_is p.index is) pays.wrote.lined;
       settled = k.done.settled;
       verdict = λ r. c.verdict r (none r);
       calls = λ r. c.calls r (none r);

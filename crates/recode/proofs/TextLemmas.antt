@@ -7,19 +7,19 @@ use Rattle.encoding_mem.specs.declared.form.EscapeState.{EscapeState}
 use Rattle.encoding_mem.specs.declared.encoder_result.EncoderResult.TheVariants.{Unmappable}
 use Rattle.encoding_mem.specs.laws.Verdict.{keeps_then}
 use Rattle.recode.specs.Policy.{reference_form}
-use Rattle.recode.specs.calls.Held.{LeavesPrefix, PassesItems, WritersView, behind_held}
+use Rattle.recode.specs.calls.Held.{LeavesPrefix, PassesItems, WritersView}
 use Rattle.recode.specs.calls.Text.{EncodesText, EncodesTo, TargetState, WritesMalformed, malformed_items, text_items, with_malformed}
 use Rattle.recode.specs.calls.Verdict.{CanTell, VerdictIsKept, to_read}
 use Rattle.recode.specs.declared.job.Fault.{Fault}
-use Rattle.recode.proofs.HeldLemmas.{passes_join, passes_malformed, passes_of, passes_to}
-use Rattle.recode.proofs.TraceLemmas.{WritesItems-nil, WritesItems-trans, WritesItems-under, whole_end}
+use Rattle.recode.proofs.HeldLemmas.{pays_join, pays_malformed, pays_nil, pays_of, pays_then, pays_to, pays_under}
+use Rattle.recode.proofs.TraceLemmas.{whole_end}
 use Rattle.recode.proofs.VerdictLemmas.{begins_keeps}
 
 -- ---- stretches in a row
 
 pub encodes_start : (w : WritersView) (t : TargetState) (last : Bool) (text : List ℕ) → t.counts.lost ≤ t.counts.index → EncodesTo w w t t last text text 0
 encodes_start w t last text lost = record {
-  pays = WritesItems-nil w.written t.counts t.policy (behind_held w (text_items t last text));
+  pays = pays_nil w t.counts t.policy (text_items t last text);
   index = refl;
   lost = lost;
   bad = refl;
@@ -36,7 +36,7 @@ encodes_start w t last text lost = record {
 
 pub encodes_more : (w w1 w2 : WritersView) (t t1 t2 : TargetState) (last : Bool) (a b c : List ℕ) (n : ℕ) → EncodesTo w w1 t t1 last a b 0 → EncodesTo w1 w2 t1 t2 last b c n → EncodesTo w w2 t t2 last a c n
 encodes_more w w1 w2 t t1 t2 last a b c n p q = record {
-  pays = WritesItems-trans w.written w1.written w2.written t.counts t1.counts t2.counts t.policy (behind_held w (text_items t last a)) (behind_held w1 (text_items t1 last b)) (behind_held w2 (text_items t2 last c)) p.pays
+  pays = pays_then w w1 w2 t.counts t1.counts t2.counts t.policy (text_items t last a) (text_items t1 last b) (text_items t2 last c) p.pays
       (subst (λ k. PassesItems w1 w2 t1.counts t2.counts k (text_items t1 last b) (text_items t2 last c)) p.policy q.pays);
   index = q.index ∙ p.index;
   lost = q.lost;
@@ -58,14 +58,14 @@ encodes_more w w1 w2 t t1 t2 last a b c n p q = record {
 pub encodes_under : (w w1 w2 : WritersView) (t t1 : TargetState) (last : Bool) (a b : List ℕ) (f : Fault) → EncodesTo w w1 t t1 last a b 0
     → LeavesPrefix w1 w2 t1.policy f (text_items t1 last b) → LeavesPrefix w w2 t.policy f (text_items t last a)
 encodes_under w w1 w2 t t1 last a b f p q =
-    WritesItems-under w.written w1.written w2.written t.counts t1.counts t.policy f (behind_held w (text_items t last a)) (behind_held w1 (text_items t1 last b)) p.pays (subst (λ k. LeavesPrefix w1 w2 k f (text_items t1 last b)) p.policy q)
+    pays_under w w1 w2.written t.counts t1.counts t.policy f (text_items t last a) (text_items t1 last b) p.pays (subst (λ k. LeavesPrefix w1 w2 k f (text_items t1 last b)) p.policy q)
 
 -- ---- a whole text
 
 -- nothing is left to write for it
 module _ (w w' : WritersView) (t t' : TargetState) (last : Bool) (text : List ℕ) (e : EncodesText w w' t t' last text) where
   pub text_pays : (need : ℕ) → IsCoding need t.coding → PassesItems w w' t.counts t'.counts t.policy (text_items t last text) []
-  text_pays need law = passes_to w w' t.counts t'.counts t.policy (text_items t last text) (text_items t' last []) [] e.encodes.pays
+  text_pays need law = pays_to w w' t.counts t'.counts t.policy (text_items t last text) (text_items t' last []) [] e.encodes.pays
       (whole_end (reference_form t'.policy) t'.coding last t'.set t'.counts.index [] (subst (IsCoding need) (sym e.encodes.target) law) refl e.done.closed)
 
   pub text_set : last ≡ false → t'.set ≡ last_set t.coding t.set text
@@ -80,9 +80,9 @@ module _ (w w' : WritersView) (t t' : TargetState) (last : Bool) (text : List �
 -- the line of a malformed sequence, and U+FFFD
 module _ (w w' : WritersView) (t t' : TargetState) (offset size : ℕ) (f : WritesMalformed w w' t t' offset size) where
   pub malformed_pays : (need : ℕ) → IsCoding need t.coding → PassesItems w w' t.counts t'.counts t.policy (malformed_items t offset size) []
-  malformed_pays need law = passes_join w f.between w' t.counts (with_malformed t).counts t'.counts t.policy (MalformedAt offset size ∷ []) (open_items (reference_form t.policy) t.coding t.set t.counts.index (0xFFFD ∷ []))
-      (passes_malformed w f.between t.counts (with_malformed t).counts t.policy offset size [] f.line refl refl)
-      (passes_of f.between w' (with_malformed t).counts t'.counts t.policy (text_items (with_malformed t) false (0xFFFD ∷ [])) (open_items (reference_form t.policy) t.coding t.set t.counts.index (0xFFFD ∷ [])) []
+  malformed_pays need law = pays_join w f.between w' t.counts (with_malformed t).counts t'.counts t.policy (MalformedAt offset size ∷ []) (open_items (reference_form t.policy) t.coding t.set t.counts.index (0xFFFD ∷ []))
+      (pays_malformed w f.between t.counts (with_malformed t).counts t.policy offset size [] f.line refl refl)
+      (pays_of f.between w' (with_malformed t).counts t'.counts t.policy (text_items (with_malformed t) false (0xFFFD ∷ [])) (open_items (reference_form t.policy) t.coding t.set t.counts.index (0xFFFD ∷ [])) []
       (sym (append-nil (open_items (reference_form t.policy) t.coding t.set t.counts.index (0xFFFD ∷ [])))) (text_pays f.between w' (with_malformed t) t' false (0xFFFD ∷ []) f.text need law))
 
   pub malformed_line_calls : t'.counts.calls + t.counts.index ≤ t.counts.calls + t'.counts.index + 2 * length (open_items (reference_form t.policy) t.coding t.set t.counts.index (0xFFFD ∷ [])) + 2

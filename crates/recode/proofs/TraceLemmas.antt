@@ -254,29 +254,28 @@ under_bytes w w' l p f bs n a b writer h e =
     }
 
 -- the first is written under each policy
-written_first : (p : Policy) (item : Item) (b : List Item) → (rest : List Item) × (written_under p (item ∷ b) ≡ item ∷ rest)
+pub written_first : (p : Policy) (item : Item) (b : List Item) → (rest : List Item) × (written_under p (item ∷ b) ≡ item ∷ rest)
 written_first Policy.Decimal item b = (b, refl)
 written_first Policy.Hexadecimal item b = (b, refl)
 written_first Policy.Stop (Byte x) b = (up_to_loss b, refl)
 written_first Policy.Stop (MalformedAt o n) b = (up_to_loss b, refl)
 written_first Policy.Stop (LostAt i c) b = ([], refl)
 
--- a line of which n bytes were taken, whatever item it is
-pub under_line : (w l l' : Option (List ℕ)) (p : Policy) (f : Fault) (line : List ℕ) (n : ℕ) (item : Item) (b : List Item) → f ≡ Log → tagged_item item ≡ map Line line → Appends l l' (take n line)
-    → WritesPrefix (record { output = w; log = l }) (record { output = w; log = l' }) p f (item ∷ b)
-under_line w l l' p f line n item b log e h =
-    let more = written_first p item b in
-    record {
-      taken = map Line (take n line);
-      wrote = wrote_line w l l' (take n line) h;
-      left = record {
-        prefix = (
-          map Line (drop n line) ++ tagged more.0,
-          ap tagged more.1 ∙ ap (λ x. x ++ tagged more.0) (e ∙ ap (map Line) (sym (take-append-drop n line)) ∙ map-append Line (take n line) (drop n line)) ∙ append_assoc (map Line (take n line)) (map Line (drop n line)) (tagged more.0),
-        );
-        stopped = none_stopped p f _ _ (inr log);
-      };
-    }
+-- lines of which n bytes were taken
+pub under_lines : (w l l' : Option (List ℕ)) (p : Policy) (f : Fault) (lines : List ℕ) (n : ℕ) (items a more : List Item) → f ≡ Log → tagged items ≡ map Line lines → written_under p a ≡ items ++ more → Appends l l' (take n lines)
+    → WritesPrefix (record { output = w; log = l }) (record { output = w; log = l' }) p f a
+under_lines w l l' p f lines n items a more log e begins h = record {
+  taken = map Line (take n lines);
+  wrote = wrote_line w l l' (take n lines) h;
+  left = record {
+    prefix = (
+      map Line (drop n lines) ++ tagged more,
+      ap tagged begins ∙ tagged-append items more ∙ ap (λ x. x ++ tagged more) (e ∙ ap (map Line) (sym (take-append-drop n lines)) ∙ map-append Line (take n lines) (drop n lines))
+          ∙ append_assoc (map Line (take n lines)) (map Line (drop n lines)) (tagged more),
+    );
+    stopped = none_stopped p f _ _ (inr log);
+  };
+}
 
 -- What a fault leaves is left where a result hands it on.
 

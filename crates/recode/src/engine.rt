@@ -25,8 +25,8 @@ impl<D: StreamDecoder, E: RawEncoder> Engine<D, E> {
     ghost use Rattle.recode.specs.calls.Held.{LeavesPrefixFor};
     ghost use Rattle.recode.specs.calls.Lent.{AreLent};
     ghost use Rattle.recode.specs.State.{to_write};
-    ghost use Rattle.recode.specs.calls.Writers.{AreReady, CountsWriterFault, is_end};
-    ghost use Rattle.recode.specs.calls.Writers.{writers_view, written_by};
+    ghost use Rattle.recode.specs.calls.Writers.{AreReady, CountsWriterFault, HoldNothing};
+    ghost use Rattle.recode.specs.calls.Writers.{is_end, writers_view, written_by};
     ghost use Rattle.recode.specs.WrittenItems.{WritesPrefixFor};
 
     // One call of the decoder, and all that follows from it.
@@ -96,7 +96,7 @@ impl<D: StreamDecoder, E: RawEncoder> Engine<D, E> {
         requires limit { self.old.target.counts.read + length chunk.now ≤ 2 ^ 48 }
         requires lent { AreLent pivot.old check.old }
         requires writers { AreReady writers.old }
-        requires none { writers.old.held ≡ 0 }
+        requires none { HoldNothing writers.old }
         ensures chunk { OnOk result (DecodesChunk
             (written_by W.contents L.contents writers.old)
             (written_by W.contents L.contents writers.new)

@@ -188,6 +188,7 @@ impl<'t> Session<'t> {
         }
         let mut writers = Writers {
             buffer: buffers.output,
+            line: None,
             held: 0,
             output: writer,
             log,

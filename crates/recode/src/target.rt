@@ -4,7 +4,7 @@
 use crate::codec_calls::{EncodeCall, PivotText};
 use crate::job::{Fault, Pivot};
 use crate::verdict::Verdict;
-use crate::writers::Writers;
+use crate::writers::{MalformedLine, Writers};
 use encoding_front::StreamDecoder;
 use encoding_mem::{EncoderResult, RawEncoder};
 use recode_log::line::LogLine;
@@ -205,7 +205,7 @@ impl<D: StreamDecoder, E: RawEncoder> Target<D, E> {
         ensures failures { CountsWriterFault writers.old writers.new result }
         ensures check { KeepsRoom check.old check.new }
     {
-        writers.log_line(LogLine::Bad {
+        writers.hold_line(MalformedLine {
             offset,
             length: size,
         })?;

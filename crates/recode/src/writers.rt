@@ -1,4 +1,8 @@
-//! The two writers of a conversion, of its output and of its log, and what is held for the output.
+//! The two writers of a conversion, of its output and of its log, and what is held for them.
+
+ghost use Rattle.std.specs.Prelude.{◌≡◌, ◌≤◌, take};
+ghost use Rattle.recode.specs.calls.Held.{held_line_bytes};
+ghost use Rattle.recode.specs.calls.Writers.{HasValidLine};
 
 use crate::codec_calls::{EncodeCall, PivotText, encode_from_pivot};
 use crate::job::{Fault, Policy};
@@ -10,17 +14,27 @@ use recode_log::deliver::deliver;
 use recode_log::line::LogLine;
 use std::io::Write;
 
+/// The line of a malformed sequence: the offset of its first byte, and how many bytes it has.
+#[derive(Clone, Copy, PartialEq, Eq, Debug)]
+pub struct MalformedLine {
+    pub offset: u64,
+    pub length: u8,
+}
+
 /// Where a conversion writes: its output, and the log of what is lost; and what it writes for a
 /// character without bytes.
 ///
-/// What is to be written to the output is held first, at the start of the buffer. It is delivered
-/// before a line is written to the log, so each line is behind the bytes that come before it; and
-/// where the buffer has little room left. All that is held goes out in one call.
+/// What is to be written is held first: the line of a malformed sequence, and after it bytes of
+/// the output, at the start of the buffer. It is delivered before the next line, so each line is
+/// written after the bytes that come before it; and if the buffer has little room left. All bytes
+/// that are held go out in one call, and so do two lines with no bytes between them.
 #[derive(Drop)]
 pub struct Writers<'w, W, L> {
     /// It is the first field, since of three references the prover follows the last two to the end
     /// of a step, and of the buffer the length is enough.
     pub buffer: &'w mut [u8],
+    /// The line that is held, which is written before the bytes.
+    pub line: Option<MalformedLine>,
     /// How many bytes are held.
     pub held: usize,
     pub output: &'w mut Counted<W>,
@@ -29,29 +43,48 @@ pub struct Writers<'w, W, L> {
 }
 
 impl<'w, W: Write, L: Write> Writers<'w, W, L> {
-    ghost use Rattle.std.specs.Prelude.{◌≡◌, ◌+◌, ◌-◌, ◌≤◌, ◌∷◌, ◌++◌, [], List, map, length};
-    ghost use Rattle.std.specs.Prelude.{OnOk, IfErr};
+    ghost use Rattle.std.specs.Prelude.{◌+◌, ◌-◌, ◌∷◌, ◌++◌, [], List, map, length};
+    ghost use Rattle.std.specs.Prelude.{None, OnOk, IfErr};
     ghost use Rattle.encoding_mem.specs.Coding.{reference_bytes};
     ghost use Rattle.encoding_mem.specs.Items.{Item, Byte};
     ghost use Rattle.encoding_mem.specs.calls.EncoderRule.{EncoderCall};
     ghost use Rattle.recode_log.specs.Line.{IsValid};
     ghost use Rattle.recode.specs.Work.{IsCounted};
-    ghost use Rattle.recode.specs.calls.Held.{LeavesPrefix, PassesBytes, WritesLine, item_of};
+    ghost use Rattle.recode.specs.calls.Held.{LeavesPrefix, Passes, PassesBytes, WritesLine};
+    ghost use Rattle.recode.specs.calls.Held.{item_of, log_line_of};
     ghost use Rattle.recode.specs.calls.PivotText.{IsCutInto, IsWholeText, pivot_chars};
     ghost use Rattle.recode.specs.calls.Writers.{AreReady, AreTheSame, CountsWriterFault};
-    ghost use Rattle.recode.specs.calls.Writers.{last_held, writers_view};
+    ghost use Rattle.recode.specs.calls.Writers.{HoldNothing, last_held, writers_view};
 
-    /// Delivers what is held, all of it or a prefix.
-    pub fn deliver_held(&mut self) -> Result<(), Fault>
+    // Delivers the line that is held, if there is one, all of it or a prefix.
+    fn deliver_line(&mut self) -> Result<(), Fault>
         requires ready { AreReady self.old }
-        ensures ok { OnOk result (PassesBytes (writers_view W.contents L.contents self.old)
+        ensures ok { OnOk result (Passes (writers_view W.contents L.contents self.old)
             (writers_view W.contents L.contents self.new) []) }
-        ensures none { OnOk result (self.new.held ≡ 0) }
+        ensures none { OnOk result (self.new.line ≡ None) }
         ensures err { IfErr result (λ f. (to_write : List Item) → LeavesPrefix
             (writers_view W.contents L.contents self.old)
             (writers_view W.contents L.contents self.new) self.old.policy f to_write) }
         ensures failures { CountsWriterFault self.old self.new result }
     {
+        let mut bytes = [0; 64];
+        let len = put_held_line(self.line, &mut bytes);
+        self.line = None;
+        deliver(self.log, &bytes[..len], Fault::Log)
+    }
+
+    /// Delivers what is held, all of it or a prefix.
+    pub fn deliver_held(&mut self) -> Result<(), Fault>
+        requires ready { AreReady self.old }
+        ensures ok { OnOk result (Passes (writers_view W.contents L.contents self.old)
+            (writers_view W.contents L.contents self.new) []) }
+        ensures none { OnOk result (HoldNothing self.new) }
+        ensures err { IfErr result (λ f. (to_write : List Item) → LeavesPrefix
+            (writers_view W.contents L.contents self.old)
+            (writers_view W.contents L.contents self.new) self.old.policy f to_write) }
+        ensures failures { CountsWriterFault self.old self.new result }
+    {
+        self.deliver_line()?;
         let held = self.held;
         // Lent as `&mut`, since the borrow checker refuses `&` beside the writer.
         deliver(self.output, &mut self.buffer[..held], Fault::Write)?;
@@ -59,10 +92,10 @@ impl<'w, W: Write, L: Write> Writers<'w, W, L> {
         Ok(())
     }
 
-    /// Delivers what is held where too little room is left for some character.
+    /// Delivers what is held if too little room is left for some character.
     pub fn make_room(&mut self) -> Result<(), Fault>
         requires ready { AreReady self.old }
-        ensures ok { OnOk result (PassesBytes (writers_view W.contents L.contents self.old)
+        ensures ok { OnOk result (Passes (writers_view W.contents L.contents self.old)
             (writers_view W.contents L.contents self.new) []) }
         ensures room { OnOk result (4 ≤ length self.new.buffer.now - self.new.held) }
         ensures err { IfErr result (λ f. (to_write : List Item) → LeavesPrefix
@@ -77,7 +110,8 @@ impl<'w, W: Write, L: Write> Writers<'w, W, L> {
         }
     }
 
-    /// One call of an encoder, which writes behind what is held: what it writes is held, too.
+    /// One call of an encoder, which writes after the bytes that are held: what it writes is held,
+    /// too.
     pub fn encode<'p, E: RawEncoder>(
         &mut self,
         encoder: &mut E,
@@ -118,27 +152,65 @@ impl<'w, W: Write, L: Write> Writers<'w, W, L> {
         &self.buffer[self.held - count..self.held]
     }
 
-    /// Delivers what is held and writes a line to the log, all of that or a prefix.
+    // Delivers what is held if there are bytes among it, so that no more than a line is held.
+    fn deliver_bytes(&mut self) -> Result<(), Fault>
+        requires ready { AreReady self.old }
+        ensures ok { OnOk result (Passes (writers_view W.contents L.contents self.old)
+            (writers_view W.contents L.contents self.new) []) }
+        ensures none { OnOk result (self.new.held ≡ 0) }
+        ensures err { IfErr result (λ f. (to_write : List Item) → LeavesPrefix
+            (writers_view W.contents L.contents self.old)
+            (writers_view W.contents L.contents self.new) self.old.policy f to_write) }
+        ensures failures { CountsWriterFault self.old self.new result }
+    {
+        if self.held == 0 {
+            Ok(())
+        } else {
+            self.deliver_held()
+        }
+    }
+
+    /// Delivers what is held and writes a line to the log, all of that or a prefix. A line that is
+    /// held with no bytes after it goes in the same call.
     pub fn log_line(&mut self, line: LogLine) -> Result<(), Fault>
         requires valid { IsValid line }
         requires ready { AreReady self.old }
         ensures ok { OnOk result (WritesLine (writers_view W.contents L.contents self.old)
             (writers_view W.contents L.contents self.new) (item_of line)) }
-        ensures none { OnOk result (self.new.held ≡ 0) }
         ensures err { IfErr result (λ f. (to_write : List Item) → LeavesPrefix
             (writers_view W.contents L.contents self.old)
             (writers_view W.contents L.contents self.new) self.old.policy f
             (item_of line ∷ to_write)) }
         ensures failures { CountsWriterFault self.old self.new result }
     {
-        self.deliver_held()?;
+        self.deliver_bytes()?;
+        let mut lines = [0; 64];
+        let start = put_held_line(self.line, &mut lines);
+        self.line = None;
         let mut bytes = [0; 32];
         let len = line.write_into(&mut bytes);
-        deliver(self.log, &bytes[..len], Fault::Log)
+        let end = put_all(&mut lines, start, &bytes[..len]);
+        deliver(self.log, &lines[..end], Fault::Log)
     }
 
-    /// Holds the reference of a character that has no bytes, in this form. Where the buffer has no
-    /// room for it, it is delivered, behind what is held, all of that or a prefix.
+    /// Delivers what is held, all of it or a prefix, and holds the line of a malformed sequence.
+    pub fn hold_line(&mut self, line: MalformedLine) -> Result<(), Fault>
+        requires valid { IsValid (log_line_of line) }
+        requires ready { AreReady self.old }
+        ensures ok { OnOk result (Passes (writers_view W.contents L.contents self.old)
+            (writers_view W.contents L.contents self.new) (item_of (log_line_of line) ∷ [])) }
+        ensures err { IfErr result (λ f. (to_write : List Item) → LeavesPrefix
+            (writers_view W.contents L.contents self.old)
+            (writers_view W.contents L.contents self.new) self.old.policy f to_write) }
+        ensures failures { CountsWriterFault self.old self.new result }
+    {
+        self.deliver_held()?;
+        self.line = Some(line);
+        Ok(())
+    }
+
+    /// Holds the reference of a character that has no bytes, in this form. If the buffer has no
+    /// room for it, it is delivered, after what is held, all of that or a prefix.
     pub fn put_reference(&mut self, c: char, form: Reference) -> Result<(), Fault>
         requires ready { AreReady self.old }
         ensures ok { OnOk result (PassesBytes (writers_view W.contents L.contents self.old)
@@ -160,4 +232,19 @@ impl<'w, W: Write, L: Write> Writers<'w, W, L> {
             Ok(())
         }
     }
+}
+
+// Writes the line that is held, if there is one, at the start of `dst`, and returns its length in
+// bytes: none if no line is held.
+fn put_held_line(line: Option<MalformedLine>, dst: &mut [u8; 64]) -> usize
+    requires valid { HasValidLine line }
+    ensures bytes { take result dst.new ≡ held_line_bytes line }
+    ensures fits { result ≤ 32 }
+{
+    let Some(MalformedLine { offset, length }) = line else {
+        return 0;
+    };
+    let mut bytes = [0; 32];
+    let len = LogLine::Bad { offset, length }.write_into(&mut bytes);
+    put_all(dst, 0, &bytes[..len])
 }

@@ -1,57 +1,88 @@
--- What is held of the output, and how bytes and lines are passed on behind it.
-use Rattle.std.specs.Prelude.{◌≡◌, List, [], ◌∷◌, ◌++◌, map, Bool, ℕ}
+-- What is held of the log and of the output, and how lines and bytes are passed on after it.
+use Rattle.std.specs.Prelude.{◌≡◌, List, [], ◌∷◌, ◌++◌, map, Bool, true, ℕ, Option, Some, None}
 use Rattle.encoding_mem.specs.Items.{Item, Byte, LostAt, MalformedAt}
+use Rattle.recode_log.specs.Line.{line_bytes}
 use Rattle.recode_log.specs.declared.line.LogLine.{LogLine}
 use Rattle.recode_log.specs.declared.line.LogLine.TheVariants.{Bad, Lost}
 use Rattle.recode.specs.Devices.{Written}
 use Rattle.recode.specs.TaggedByte.{Wrote, tagged}
-use Rattle.recode.specs.WrittenItems.{WritesItems, WritesItemsFor, WritesPrefix, WritesPrefixFor}
+use Rattle.recode.specs.WrittenItems.{AreCounted, IsSpared, WritesPrefix, WritesPrefixFor}
 use Rattle.recode.specs.declared.job.Fault.{Fault}
 use Rattle.recode.specs.declared.job.Policy.{Policy}
 use Rattle.recode.specs.declared.target.Counts.{Counts}
+use Rattle.recode.specs.declared.writers.MalformedLine.{MalformedLine}
 
--- What a writer and a log have taken, and the bytes of the output that are held, which the writer is given next.
+-- What a writer and a log have taken, and what is held: a line, if there is one, which the log is given next, and then
+-- bytes, which the writer is given.
 pub record WritersView : Type 0 where
   pub written : Written
-  pub held : List ℕ
+  pub line : Option MalformedLine
+  pub bytes : List ℕ
 
 -- writers for which nothing is held
 abbrev pub holding_none : Written → WritersView
-holding_none w = record { written = w; held = [] }
-
--- what is held, and then what is still to be written
-abbrev pub behind_held : WritersView → List Item → List Item
-behind_held w to_write = map Byte w.held ++ to_write
-
--- Bytes of the output were passed: what was held and they are what was written and what is held now.
-pub record PassesBytes (before after : WritersView) (bytes : List ℕ) : Type 0 where
-  pub delivered : List ℕ
-  pub wrote : Wrote before.written after.written (tagged (map Byte delivered))
-  pub in_order : before.held ++ bytes ≡ delivered ++ after.held
+holding_none w = record { written = w; line = None; bytes = [] }
 
 -- the item that a line of the log tells
 abbrev pub item_of : LogLine → Item
 item_of (Bad offset size) = MalformedAt offset size
 item_of (Lost index scalar) = LostAt index scalar
 
--- What was held was written, and then the line of an item: nothing is held.
+-- a line that is held, as one of the log
+abbrev pub log_line_of : MalformedLine → LogLine
+log_line_of line = Bad line.offset line.length
+
+-- the bytes of the line that is held, if there is one
+abbrev pub held_line_bytes : Option MalformedLine → List ℕ
+held_line_bytes None = []
+held_line_bytes (Some line) = line_bytes (log_line_of line)
+
+-- the item of the line that is held, if there is one
+abbrev pub line_items : Option MalformedLine → List Item
+line_items None = []
+line_items (Some line) = item_of (log_line_of line) ∷ []
+
+-- the items that are held, in the order in which they are written
+abbrev pub held_items : WritersView → List Item
+held_items w = line_items w.line ++ map Byte w.bytes
+
+-- Items were passed: what was held and they are what was written and what is held now.
+pub record Passes (before after : WritersView) (items : List Item) : Type 0 where
+  pub delivered : List Item
+  pub wrote : Wrote before.written after.written (tagged delivered)
+  pub in_order : held_items before ++ items ≡ delivered ++ held_items after
+
+-- bytes of the output were passed
+abbrev pub PassesBytes : (before after : WritersView) (bytes : List ℕ) → Type 0
+PassesBytes before after bytes = Passes before after (map Byte bytes)
+
+-- The line of an item was passed, and all was written.
 pub record WritesLine (before after : WritersView) (item : Item) : Type 0 where
-  pub wrote : Wrote before.written after.written (tagged (behind_held before (item ∷ [])))
-  pub none : after.held ≡ []
+  pub passes : Passes before after (item ∷ [])
+  pub none : held_items after ≡ []
 
--- items were passed, of what is held and still to be written: some were written, and others are held
-abbrev pub PassesItems : (before after : WritersView) (c c' : Counts) (p : Policy) (to_write to_write' : List Item) → Type 0
-PassesItems before after c c' p to_write to_write' = WritesItems before.written after.written c c' p (behind_held before to_write) (behind_held after to_write')
+-- Items were passed, which are counted and of which none stops the conversion, and what was still to be passed is these,
+-- then what is still to be passed now.
+pub record PassesItems (before after : WritersView) (c c' : Counts) (p : Policy) (to_write to_write' : List Item) : Type 0 where
+  pub passed : List Item
+  pub passes : Passes before after passed
+  pub counted : AreCounted c c' passed
+  pub spared : IsSpared p passed
+  pub equals : to_write ≡ passed ++ to_write'
 
--- items were passed, whatever bytes follow, none if the input ends
-abbrev pub PassesItemsFor : (before after : WritersView) (c c' : Counts) (p : Policy) (last : Bool) (to_write to_write' : List ℕ → List Item) → Type 0
-PassesItemsFor before after c c' p last to_write to_write' =
-    WritesItemsFor before.written after.written c c' p last (λ r. behind_held before (to_write r)) (λ r. behind_held after (to_write' r))
+-- Items were passed. Whatever bytes follow, none if the input ends, what was still to be passed is these items, then what
+-- is still to be passed now.
+pub record PassesItemsFor (before after : WritersView) (c c' : Counts) (p : Policy) (last : Bool) (to_write to_write' : List ℕ → List Item) : Type 0 where
+  pub passed : List Item
+  pub passes : Passes before after passed
+  pub counted : AreCounted c c' passed
+  pub spared : IsSpared p passed
+  pub equals : (r : List ℕ) → (last ≡ true → r ≡ []) → to_write r ≡ passed ++ to_write' r
 
--- the writers took so much of what was held and of what was still to be written
+-- the writers took so much of what was held and of what was still to be passed
 abbrev pub LeavesPrefix : (before after : WritersView) (p : Policy) (f : Fault) (to_write : List Item) → Type 0
-LeavesPrefix before after p f to_write = WritesPrefix before.written after.written p f (behind_held before to_write)
+LeavesPrefix before after p f to_write = WritesPrefix before.written after.written p f (held_items before ++ to_write)
 
 -- the writers took so much, whatever bytes follow, none if the input ends
 abbrev pub LeavesPrefixFor : (before after : WritersView) (p : Policy) (f : Fault) (last : Bool) (to_write : List ℕ → List Item) → Type 0
-LeavesPrefixFor before after p f last to_write = WritesPrefixFor before.written after.written p f last (λ r. behind_held before (to_write r))
+LeavesPrefixFor before after p f last to_write = WritesPrefixFor before.written after.written p f last (λ r. held_items before ++ to_write r)

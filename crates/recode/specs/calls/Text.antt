@@ -5,7 +5,7 @@ use Rattle.encoding_mem.specs.Items.{Item, MalformedAt, open_items, whole_items}
 use Rattle.encoding_mem.specs.declared.form.EscapeState.{EscapeState}
 use Rattle.encoding_mem.specs.declared.form.EscapeState.TheVariants.{Ascii}
 use Rattle.recode.specs.Policy.{reference_form}
-use Rattle.recode.specs.calls.Held.{PassesItems, WritersView, WritesLine}
+use Rattle.recode.specs.calls.Held.{Passes, PassesItems, WritersView}
 use Rattle.recode.specs.calls.Verdict.{CanTell, IsToldAtEnd, VerdictIsKept, VerdictView}
 use Rattle.recode.specs.Work.{TakesAtLeast, ended_count}
 use Rattle.recode.specs.declared.job.Policy.{Policy}
@@ -72,8 +72,8 @@ malformed_items t offset size = MalformedAt offset size ∷ open_items (referenc
 abbrev pub with_malformed : TargetState → TargetState
 with_malformed t = record t { counts = record t.counts { bad = t.counts.bad + 1 }; verdict = record t.verdict { faithful = false } }
 
--- The line of a malformed sequence is written, then U+FFFD in its place.
+-- The line of a malformed sequence is passed, then U+FFFD in its place.
 pub record WritesMalformed (before after : WritersView) (t t' : TargetState) (offset size : ℕ) : Type 0 where
   pub between : WritersView
-  pub line : WritesLine before between (MalformedAt offset size)
+  pub line : Passes before between (MalformedAt offset size ∷ [])
   pub text : EncodesText between after (with_malformed t) t' false (0xFFFD ∷ [])

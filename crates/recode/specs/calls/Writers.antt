@@ -1,37 +1,52 @@
 -- What the two writers of a conversion have, and how the counts of their failed calls rise.
-use Rattle.std.specs.Prelude.{◌≡◌, ℕ, ◌+◌, ◌-◌, ◌^◌, ◌<◌, ◌≤◌, nat_eq, drop, length, take, Bool, List, Option, Result}
+use Rattle.std.specs.Prelude.{◌≡◌, ℕ, ◌+◌, ◌-◌, ◌^◌, ◌<◌, ◌≤◌, nat_eq, drop, length, take, Bool, List, Option, None, IfSome, Result}
 use Rattle.recode_log.specs.Counted.{failures_of}
+use Rattle.recode_log.specs.Line.{IsValid}
 use Rattle.recode.specs.Devices.{Written, written_in}
 use Rattle.recode.specs.Fault.{log_failures, of_other, reader_failures, writer_failures}
-use Rattle.recode.specs.calls.Held.{WritersView}
+use Rattle.recode.specs.calls.Held.{WritersView, log_line_of}
 use Rattle.recode.specs.declared.job.Fault.{Fault}
+use Rattle.recode.specs.declared.writers.MalformedLine.{MalformedLine}
 use Rattle.recode.specs.declared.writers.Writers.{Writers}
 
 -- the bytes that the output's writer and the log have taken so far, as far as each tells it
 abbrev pub written_by : {W L : Type 0} → (W → Option (List ℕ)) → (L → Option (List ℕ)) → Writers W L → Written
 written_by contents logged writers = written_in contents logged writers.output.now writers.log.now
 
--- the two writers by what they have taken and the bytes that are held, those at the start of the buffer
+-- the two writers by what they have taken and what is held: the line, and the bytes at the start of the buffer
 abbrev pub writers_view : {W L : Type 0} → (W → Option (List ℕ)) → (L → Option (List ℕ)) → Writers W L → WritersView
-writers_view contents logged writers = record { written = written_by contents logged writers; held = take writers.held writers.buffer.now }
+writers_view contents logged writers = record { written = written_by contents logged writers; line = writers.line; bytes = take writers.held writers.buffer.now }
 
 -- the n bytes that are held last
 abbrev pub last_held : {W L : Type 0} → Writers W L → ℕ → List ℕ
 last_held writers n = take n (drop (writers.held - n) writers.buffer.now)
 
--- One more failed call of each can be counted, and the buffer has 4 bytes or more, those that are held among them.
+-- the line that is held, if there is one, is valid
+abbrev pub HasValidLine : Option MalformedLine → Type 0
+HasValidLine line = IfSome line (λ l. IsValid (log_line_of l))
+
+-- Nothing is held.
+pub record HoldNothing {W L : Type 0} (writers : Writers W L) : Type 0 where
+  pub line : writers.line ≡ None
+  pub bytes : writers.held ≡ 0
+
+-- One more failed call of each can be counted, the buffer has 4 bytes or more, those that are held among them, and the
+-- line that is held is valid.
 pub record AreReady {W L : Type 0} (writers : Writers W L) : Type 0 where
   pub output : failures_of writers.output.now < 2 ^ 64 - 1
   pub log : failures_of writers.log.now < 2 ^ 64 - 1
   pub room : 4 ≤ length writers.buffer.now
   pub within : writers.held ≤ length writers.buffer.now
+  pub line : HasValidLine writers.line
 
--- the writer, the log and the buffer are those that they were, what is held is within the buffer, and the policy stays
+-- The writer, the log and the buffer are those that they were, the bytes that are held are within the buffer and the
+-- line is valid, and the policy stays.
 pub record AreTheSame {W L : Type 0} (before after : Writers W L) : Type 0 where
   pub output : after.output.ghost_name ≡ before.output.ghost_name
   pub buffer : after.buffer.ghost_name ≡ before.buffer.ghost_name
   pub room : length after.buffer.now ≡ length before.buffer.now
   pub within : after.held ≤ length after.buffer.now
+  pub line : HasValidLine after.line
   pub log : after.log.ghost_name ≡ before.log.ghost_name
   pub policy : after.policy ≡ before.policy
 

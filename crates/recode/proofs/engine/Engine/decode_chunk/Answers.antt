@@ -1,9 +1,8 @@
 use Rattle.std.proofs.Common.{◌∙◌, arith, refl, sym}
 use Rattle.std.proofs.lemmas.List.{take_rest}
-use Rattle.recode.proofs.ChunkLemmas.{converts_more, converts_start, converts_under, decodes_delivered, delivered_under}
-use Rattle.recode.proofs.HeldLemmas.{left_whole, none_held}
+use Rattle.recode.proofs.ChunkLemmas.{converts_more, converts_start, converts_under, decodes_delivered, delivered_under, left_whole}
 use Rattle.recode.proofs.TraceLemmas.{hands_on_for}
-use Rattle.recode.proofs.BufferLemmas.{room_on, room_start, same_on, same_start}
+use Rattle.recode.proofs.BufferLemmas.{room_on, room_start, same_on, same_start, view_none}
 use Rattle.recode.specs.calls.Writers.{writers_view}
 use Rattle.recode.proofs.engine.Engine.decode_chunk.Goals as goal
 
@@ -13,7 +12,7 @@ chunk-init g c = record {
   ready = c.requires.ready;
   writer_count = refl;
   log_count = refl;
-  same = same_start _ c.requires.writers.within;
+  same = same_start _ c.requires.writers;
   pivot = room_start _ c.requires.lent.pivot;
   check = room_start _ c.requires.lent.check;
 }
@@ -51,7 +50,7 @@ pub returns-in_err-call-clause-err : goal.returns-in_err-call-clause-err
 returns-in_err-call-clause-err g c =
     let w = writers_view g.W.Write.contents g.L.Write.contents c.args.writers.now in
     let w1 = writers_view g.W.Write.contents g.L.Write.contents c.decode_part.new.writers in
-    let none = none_held _ c.args.writers.now.buffer.now c.requires.none in
+    let none = view_none g.W.Write.contents g.L.Write.contents c.args.writers.now c.requires.none in
     rw (sym c.is_empty-last.ensures) (hands_on_for _ _ _ _ _ _ _ c.from_residual.ensures.1 (left_whole w w1 _ _ _ _ none (converts_under _ _ w1 _ _ _ _ _ _ _ c.chunk.invariant.converts c.in_err-call.ensures.err)))
 
 pub returns-then-is_done-clause-chunk : goal.returns-then-is_done-clause-chunk
@@ -62,7 +61,7 @@ returns-then-is_done-clause-chunk g c = rw (sym c.is_empty-last.ensures, c.deliv
     let part = c.in_ok-call.ensures.part in
     let done = part.done (sym c.is_done.ensures ∙ c.if-is_done.true) in
     let converts = converts_more _ _ _ _ _ _ _ _ _ _ _ c.chunk.invariant.converts (rw ((sym c.is_done.ensures ∙ c.if-is_done.true), done.0) at part.converts) in
-    decodes_delivered _ w w1 w2 _ _ _ _ _ (none_held _ c.deliver_held.new.self.buffer.now) (none_held _ c.args.writers.now.buffer.now c.requires.none) converts done.1 c.deliver_held.ensures.ok c.deliver_held.ensures.none)
+    decodes_delivered _ w w1 w2 _ _ _ _ _ (view_none g.W.Write.contents g.L.Write.contents c.deliver_held.new.self) (view_none g.W.Write.contents g.L.Write.contents c.args.writers.now c.requires.none) converts done.1 c.deliver_held.ensures.ok c.deliver_held.ensures.none)
 
 pub returns-then-is_done-clause-err : goal.returns-then-is_done-clause-err
 returns-then-is_done-clause-err g c = rw (sym c.is_empty-last.ensures) (
@@ -72,7 +71,7 @@ returns-then-is_done-clause-err g c = rw (sym c.is_empty-last.ensures) (
     let part = c.in_ok-call.ensures.part in
     let done = part.done (sym c.is_done.ensures ∙ c.if-is_done.true) in
     let converts = converts_more _ _ _ _ _ _ _ _ _ _ _ c.chunk.invariant.converts (rw ((sym c.is_done.ensures ∙ c.if-is_done.true), done.0) at part.converts) in
-    delivered_under _ w w1 w2 _ _ _ _ _ _ (none_held _ c.args.writers.now.buffer.now c.requires.none) converts c.deliver_held.ensures.err)
+    delivered_under _ w w1 w2 _ _ _ _ _ _ (view_none g.W.Write.contents g.L.Write.contents c.args.writers.now c.requires.none) converts c.deliver_held.ensures.err)
 
 pub returns-in_err-call-clause-target : goal.returns-in_err-call-clause-target
 returns-in_err-call-clause-target g c = c.decode_part.ensures.target ∙ c.chunk.invariant.converts.target

@@ -1,6 +1,6 @@
 use Rattle.std.proofs.Common.{◌+◌, ◌-◌, ◌∙◌, [], arith, drop, refl, sym, ap, length, length-append, length-drop, map, inl, inr, rules, true≢false}
-use Rattle.recode.proofs.HeldLemmas.{passes_items, passes_then}
-use Rattle.recode.proofs.TraceLemmas.{WritesItems-trans, WritesItems-under, hands_on, whole_end}
+use Rattle.recode.proofs.HeldLemmas.{passes_then, pays_bytes, pays_then, pays_under}
+use Rattle.recode.proofs.TraceLemmas.{hands_on, whole_end}
 use Rattle.recode.proofs.EncoderCallLemmas.{turn_items, less_bytes, less_note}
 use Rattle.recode.specs.Policy.{reference_form}
 use Rattle.encoding_mem.specs.calls.EncoderRule.{EncoderParts}
@@ -28,8 +28,8 @@ returns-in_err-log_lost-in-Unmappable-clause-err g c =
     let bytes = last_held call.new.self call.result.written in
     let law = turn_items (reference_form p) _ _ _ _ _ _ _ _ c.args.self.now.counts.index (c.args.self.now.counts.index + call.result.characters) (g.met.E.RawEncoder.laws c.args.self.now.encoder) call.ensures.call.law (omega (arith, call.ensures.passed)) in
     let rest = whole_items (reference_form p) (g.E.RawEncoder.parts c.args.self.now.encoder).coding c.args.last (g.E.RawEncoder.parts call.new.encoder).set (c.args.self.now.counts.index + call.result.characters) (pivot_chars call.result.rest) in
-    hands_on _ _ _ _ _ _ c.from_residual-in_err-log_lost-in-Unmappable.ensures.1 (WritesItems-under _ _ _ c.args.self.now.counts (record c.args.self.now.counts { index = c.args.self.now.counts.index + call.result.characters; calls = call.new.calls }) _ _ _ _
-    (passes_items w w2 _ _ p bytes _ _ (passes_then w w1 w2 [] bytes c.in_ok-make_room.ensures.ok call.ensures.bytes) refl refl (rw c.in-Unmappable.is at law))
+    hands_on _ _ _ _ _ _ c.from_residual-in_err-log_lost-in-Unmappable.ensures.1 (pays_under _ _ _ c.args.self.now.counts (record c.args.self.now.counts { index = c.args.self.now.counts.index + call.result.characters; calls = call.new.calls }) _ _ _ _
+    (pays_bytes w w2 _ _ p bytes _ _ (passes_then w w1 w2 [] (map Byte bytes) c.in_ok-make_room.ensures.ok call.ensures.bytes) refl refl (rw c.in-Unmappable.is at law))
     (rw policy at (c.in_err-log_lost-in-Unmappable.ensures.err rest)))
 
 pub returns-in-InputEmpty-clause-part : goal.returns-in-InputEmpty-clause-part
@@ -40,7 +40,7 @@ returns-in-InputEmpty-clause-part g c =
     let w2 = writers_view g.W.Write.contents g.L.Write.contents call.new.self in
     let policy = call.ensures.same.policy ∙ c.in_ok-make_room.ensures.failures.same.policy in
     let bytes = last_held call.new.self call.result.written in
-    let passes = passes_then w w1 w2 [] bytes c.in_ok-make_room.ensures.ok call.ensures.bytes in
+    let passes = passes_then w w1 w2 [] (map Byte bytes) c.in_ok-make_room.ensures.ok call.ensures.bytes in
     let target = ap (λ (p : EncoderParts). p.coding) call.ensures.call.same in
     let coding = (g.E.RawEncoder.parts c.args.self.now.encoder).coding in
     let laws = g.met.E.RawEncoder.laws c.args.self.now.encoder in
@@ -59,7 +59,7 @@ returns-in-InputEmpty-clause-part g c =
           let ends = rw empty at call.ensures.call.ends in
           rw (policy, target, empty) (record {
             encodes = record {
-              pays = passes_items w w2 _ _ _ bytes _ _ passes refl refl (rw empty at law);
+              pays = pays_bytes w w2 _ _ _ bytes _ _ passes refl refl (rw empty at law);
               index = search rules;
               lost = search rules;
               bad = refl;
@@ -99,7 +99,7 @@ returns-in-InputEmpty-clause-part g c =
           (omega (arith, (rw full at call.ensures.call.ends).0, laws.few, c.in_ok-make_room.ensures.room, call.ensures.held, call.ensures.same.room)) in
           rw (policy, target, full) (record {
             encodes = record {
-              pays = passes_items w w2 _ _ _ bytes _ _ passes refl refl (rw full at law);
+              pays = pays_bytes w w2 _ _ _ bytes _ _ passes refl refl (rw full at law);
               index = search rules;
               lost = search rules;
               bad = refl;
@@ -131,7 +131,7 @@ returns-in_ok-log_lost-in-Unmappable-clause-part g c =
     let w2 = writers_view g.W.Write.contents g.L.Write.contents call.new.self in
     let policy = call.ensures.same.policy ∙ c.in_ok-make_room.ensures.failures.same.policy in
     let bytes = last_held call.new.self call.result.written in
-    let passes = passes_then w w1 w2 [] bytes c.in_ok-make_room.ensures.ok call.ensures.bytes in
+    let passes = passes_then w w1 w2 [] (map Byte bytes) c.in_ok-make_room.ensures.ok call.ensures.bytes in
     let target = ap (λ (p : EncoderParts). p.coding) call.ensures.call.same in
     let coding = (g.E.RawEncoder.parts c.args.self.now.encoder).coding in
     let laws = g.met.E.RawEncoder.laws c.args.self.now.encoder in
@@ -147,8 +147,8 @@ returns-in_ok-log_lost-in-Unmappable-clause-part g c =
     let c1 : Counts = record c.args.self.now.counts { index = c.args.self.now.counts.index + call.result.characters; calls = call.new.calls } in
     rw (f.encoder, f.failures.same.policy, policy, f.verdict, f.counts, target, c.in-Unmappable.is) (record {
       encodes = record {
-        pays = WritesItems-trans _ _ _ c.args.self.now.counts c1 _ _ _ _ _
-            (passes_items w w2 _ _ _ bytes _ _ passes refl refl (rw c.in-Unmappable.is at law)) (rw (policy, f.counts) at (f.pays (whole_items (reference_form c.args.writers.now.policy) coding c.args.last s1 c1.index rest)));
+        pays = pays_then _ _ _ c.args.self.now.counts c1 _ _ _ _ _
+            (pays_bytes w w2 _ _ _ bytes _ _ passes refl refl (rw c.in-Unmappable.is at law)) (rw (policy, f.counts) at (f.pays (whole_items (reference_form c.args.writers.now.policy) coding c.args.last s1 c1.index rest)));
         index = search rules;
         lost = omega (arith, c.requires.ready.lost, call.ensures.passed, one_taken _ _ _ _ _ _ _ _ encodes);
         bad = refl;

@@ -16,7 +16,7 @@ text-init g c = record {
   check = room_start _ c.requires.lent.check;
   writer_count = refl;
   log_count = refl;
-  same = same_start _ c.requires.writers.within;
+  same = same_start _ c.requires.writers;
 }
 
 pub encode_part-requires-clause-ready : goal.encode_part-requires-clause-ready

@@ -2,12 +2,10 @@ use Rattle.std.proofs.Common.{◌∙◌, ◌+◌, ◌-◌, ◌∷◌, ◌++◌, 
 use Rattle.encoding_mem.specs.Coding.{reference_bytes}
 use Rattle.encoding_mem.specs.Items.{Byte, LostAt}
 use Rattle.recode.specs.Policy.{reference_form}
-use Rattle.recode.specs.calls.Held.{behind_held}
 use Rattle.recode.specs.calls.Writers.{writers_view}
 use Rattle.recode.specs.declared.target.Counts.{Counts}
-use Rattle.recode.proofs.HeldLemmas.{hands_each, passes_items, passes_lost, stops_as}
+use Rattle.recode.proofs.HeldLemmas.{hands_each, pays_bytes, pays_lost, pays_then, pays_under, stops_as}
 use Rattle.recode.proofs.PolicyLemmas.{form_written, goes_on_where_written, stops_where_none}
-use Rattle.recode.proofs.TraceLemmas.{WritesItems-trans, WritesItems-under}
 use Rattle.recode.proofs.target.Target.log_lost.Goals as goal
 
 pub returns-in_err-log_line-clause-err : goal.returns-in_err-log_line-clause-err
@@ -36,7 +34,7 @@ returns-in_err-put_reference-clause-err g c =
     let goes_on = rw same at (goes_on_where_written _ _ c.in_ok-form.ensures.ok) in
     let left = rw (form_written _ _ c.in_ok-form.ensures.ok, same) at c.in_err-put_reference.ensures.err in
     hands_each _ _ _ _ _ _ c.from_residual-in_err-put_reference.ensures.1
-    (λ rest. WritesItems-under _ _ _ x y p _ _ (behind_held w1 (more ++ rest)) (passes_lost w w1 x y p i c.args.scalar (more ++ rest) c.in_ok-log_line.ensures.ok refl refl goes_on) (left rest))
+    (λ rest. pays_under _ _ _ x y p _ _ (more ++ rest) (pays_lost w w1 x y p i c.args.scalar (more ++ rest) c.in_ok-log_line.ensures.ok refl refl goes_on) (left rest))
 
 pub returns-clause-pays : goal.returns-clause-pays
 returns-clause-pays g c = λ rest.
@@ -51,6 +49,6 @@ returns-clause-pays g c = λ rest.
     let same = c.in_ok-log_line.ensures.failures.same.policy in
     let goes_on = rw same at (goes_on_where_written _ _ c.in_ok-form.ensures.ok) in
     let passes = rw (form_written _ _ c.in_ok-form.ensures.ok, same) at c.in_ok-put_reference.ensures.ok in
-    WritesItems-trans w.written w1.written w2.written x y y p (behind_held w (LostAt i c.args.scalar ∷ (map Byte bytes ++ rest))) (behind_held w1 (map Byte bytes ++ rest)) (behind_held w2 rest)
-    (passes_lost w w1 x y p i c.args.scalar (map Byte bytes ++ rest) c.in_ok-log_line.ensures.ok refl refl goes_on)
-    (passes_items w1 w2 y y p bytes (map Byte bytes ++ rest) rest passes refl refl refl)
+    pays_then w w1 w2 x y y p (LostAt i c.args.scalar ∷ (map Byte bytes ++ rest)) (map Byte bytes ++ rest) rest
+    (pays_lost w w1 x y p i c.args.scalar (map Byte bytes ++ rest) c.in_ok-log_line.ensures.ok refl refl goes_on)
+    (pays_bytes w1 w2 y y p bytes (map Byte bytes ++ rest) rest passes refl refl refl)
