@@ -11,7 +11,7 @@ use Rattle.recode_log.specs.Line.{line_bytes}
 use Rattle.recode.specs.Devices.{Written}
 use Rattle.recode.specs.TaggedByte.{TaggedByte, Out, Line, output_bytes, log_bytes, Wrote, tagged, tagged_item}
 use Rattle.recode.specs.Policy.{up_to_loss, written_under}
-use Rattle.recode.specs.WrittenItems.{WritesItems, WritesPrefix, WritesItemsFor, WritesPrefixFor, AreCounted, IsLeft, IsSpared, IsStop, bad_line_count, lost_line_count}
+use Rattle.recode.specs.WrittenItems.{WritesPrefix, WritesItemsFor, WritesPrefixFor, AreCounted, IsLeft, IsSpared, IsStop, bad_line_count, lost_line_count}
 use Rattle.recode.specs.declared.job.Fault.{Fault}
 use Rattle.recode.specs.declared.job.Fault.TheVariants.{Read, Write, Log, TooLong, Unmappable}
 use Rattle.recode.specs.declared.job.Policy.{Policy}
@@ -209,32 +209,6 @@ none_stopped : (p : Policy) (f : Fault) (taken : List TaggedByte) (written : Lis
 none_stopped p f taken written (inl is) = subst (λ (g : Fault). IsStop p g taken written) (sym is) tt
 none_stopped p f taken written (inr is) = subst (λ (g : Fault). IsStop p g taken written) (sym is) tt
 
-pub WritesItems-nil : (w : Written) (x : Counts) (p : Policy) (to_write : List Item) → WritesItems w w x x p to_write to_write
-WritesItems-nil w x p to_write = record { written_items = []; wrote = Wrote-nil w; counted = record { bad = omega arith; lost = omega arith }; spared = spared_nil p; equals = refl }
-
-pub WritesItems-trans : (w w' w'' : Written) (x y z : Counts) (p : Policy) (a b c : List Item) → WritesItems w w' x y p a b → WritesItems w' w'' y z p b c → WritesItems w w'' x z p a c
-WritesItems-trans w w' w'' x y z p a b c h k = record {
-  written_items = h.written_items ++ k.written_items;
-  wrote = subst (Wrote w w'') (sym (tagged-append h.written_items k.written_items)) (Wrote-trans w w' w'' _ _ h.wrote k.wrote);
-  counted = AreCounted-trans x y z h.written_items k.written_items h.counted k.counted;
-  spared = spared_append p h.written_items k.written_items h.spared k.spared;
-  equals = h.equals ∙ ap (λ l. h.written_items ++ l) k.equals ∙ sym (append_assoc h.written_items k.written_items c);
-}
-
-pub WritesItems-to : (w w' : Written) (x y : Counts) (p : Policy) (a b c : List Item) → WritesItems w w' x y p a b → b ≡ c → WritesItems w w' x y p a c
-WritesItems-to w w' x y p a b c h e = record { written_items = h.written_items; wrote = h.wrote; counted = h.counted; spared = h.spared; equals = h.equals ∙ ap (λ k. h.written_items ++ k) e }
-
--- what is written in part after something was written whole
-pub WritesItems-under : (w w' w'' : Written) (x y : Counts) (p : Policy) (f : Fault) (a b : List Item) → WritesItems w w' x y p a b → WritesPrefix w' w'' p f b → WritesPrefix w w'' p f a
-WritesItems-under w w' w'' x y p f a b h k = record {
-  taken = tagged h.written_items ++ k.taken;
-  wrote = Wrote-trans w w' w'' _ _ h.wrote k.wrote;
-  left = left_behind p f h.written_items k.taken a b h.spared h.equals k.left;
-}
-
-pub WritesItems-of : (w w' : Written) (x y : Counts) (p : Policy) (a a' b : List Item) → a' ≡ a → WritesItems w w' x y p a b → WritesItems w w' x y p a' b
-WritesItems-of w w' x y p a a' b e h = record { written_items = h.written_items; wrote = h.wrote; counted = h.counted; spared = h.spared; equals = e ∙ h.equals }
-
 pub WritesPrefix-of : (w w' : Written) (p : Policy) (f : Fault) (a a' : List Item) → a' ≡ a → WritesPrefix w w' p f a → WritesPrefix w w' p f a'
 WritesPrefix-of w w' p f a a' e h = record { taken = h.taken; wrote = h.wrote; left = left_is p f h.taken a a' e h.left }
 
@@ -309,22 +283,6 @@ WritesPrefixFor-of w w' p f last total a h e = record {
 
 pub WritesItemsFor-start : (w : Written) (x : Counts) (p : Policy) (last : Bool) (a : List ℕ → List Item) → WritesItemsFor w w x x p last a a
 WritesItemsFor-start w x p last a = record { written_items = []; wrote = Wrote-nil w; counted = record { bad = omega arith; lost = omega arith }; spared = spared_nil p; equals = λ r h. refl }
-
-pub WritesItemsFor-trans : (w w' w'' : Written) (x y z : Counts) (p : Policy) (last : Bool) (a b c : List ℕ → List Item) → WritesItemsFor w w' x y p last a b → WritesItemsFor w' w'' y z p last b c → WritesItemsFor w w'' x z p last a c
-WritesItemsFor-trans w w' w'' x y z p last a b c h k = record {
-  written_items = h.written_items ++ k.written_items;
-  wrote = subst (Wrote w w'') (sym (tagged-append h.written_items k.written_items)) (Wrote-trans w w' w'' _ _ h.wrote k.wrote);
-  counted = AreCounted-trans x y z h.written_items k.written_items h.counted k.counted;
-  spared = spared_append p h.written_items k.written_items h.spared k.spared;
-  equals = λ r none. h.equals r none ∙ ap (λ l. h.written_items ++ l) (k.equals r none) ∙ sym (append_assoc h.written_items k.written_items (c r));
-}
-
-pub WritesItemsFor-under : (w w' w'' : Written) (x y : Counts) (p : Policy) (f : Fault) (last : Bool) (a b : List ℕ → List Item) → WritesItemsFor w w' x y p last a b → WritesPrefixFor w' w'' p f last b → WritesPrefixFor w w'' p f last a
-WritesItemsFor-under w w' w'' x y p f last a b h k = record {
-  taken = tagged h.written_items ++ k.taken;
-  wrote = Wrote-trans w w' w'' _ _ h.wrote k.wrote;
-  left = λ r none. left_behind p f h.written_items k.taken (a r) (b r) h.spared (h.equals r none) (k.left r none);
-}
 
 -- What the trace of a whole input is made of.
 
