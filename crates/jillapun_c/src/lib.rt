@@ -6,4 +6,5 @@
 //! export tests it, and returns a status (`status`) or `SIZE_MAX`.
 #![tactic(auto)]
 
+mod mem;
 pub mod status;

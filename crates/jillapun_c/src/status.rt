@@ -65,7 +65,19 @@ pub const BAD: u8 = 0;
 /// A lost character of the text: how many characters stand before it, and its code point.
 pub const LOST: u8 = 1;
 
+// What a text is, for layout.
+
+/// Each character is at most U+00FF.
+pub const LATIN1: u32 = 0;
+/// Some character is above U+00FF, and none is written from right to left.
+pub const LEFT_TO_RIGHT: u32 = 1;
+/// Some character may be written from right to left, or the bytes are not UTF-8.
+pub const BIDI: u32 = 2;
+
 // What stands where there is no number.
 
 /// No encoding. Each encoding is its number, from 0 on, in the order of the names.
 pub const NO_ENCODING: u8 = 255;
+/// In place of a length: the room is not enough, or the bytes are not what the call is for. Nothing
+/// was written, where the call does not say otherwise.
+pub const REFUSED: usize = usize::MAX;
