@@ -11,6 +11,12 @@ build:
 	@cd crates/recode_cli && rt run -- --version > /dev/null
 	@cd crates/recode_places_cli && rt run -- --version > /dev/null
 
+# Proves the library for C and builds it, static and shared, in crates/jillapun_c/out: libjillapun.a and libjillapun.so. Its
+# header is include/jillapun.h.
+.PHONY: c
+c:
+	@python3 tools/c_library.py
+
 # The merge gate: `make lint`, `rt ci`, and then what `tools/gate.py` has of programs and of what is stored. One line at
 # the end counts all.
 test: lint
@@ -28,12 +34,13 @@ generate:
 
 # The reference pages of the libraries, docs/reference, from the doc comments and contracts in their sources; the page of
 # the edits; the theorem on one page, docs/HEADLINE.md, with the definitions that it stands on; and their files,
-# docs/DEFINITIONS.md.
+# docs/DEFINITIONS.md; and the header for C, include/jillapun.h.
 doc:
 	@python3 tools/reference.py
 	@python3 tools/edits_table.py
 	@python3 tools/headline.py
 	@python3 tools/definitions_page.py
+	@python3 tools/c_header.py
 
 # The parts of README.md and of the man pages that say what the help says, from its text.
 usage:
