@@ -11,8 +11,8 @@ build:
 	@cd crates/recode_cli && rt run -- --version > /dev/null
 	@cd crates/recode_places_cli && rt run -- --version > /dev/null
 
-# Proves the library for C and builds it, static and shared, in crates/jillapun_c/out: libjillapun.a and libjillapun.so. Its
-# header is include/jillapun.h.
+# Proves the library for C and builds it, static and shared: out/c/libjillapun.a and out/c/libjillapun.so. Its header is
+# include/jillapun.h.
 .PHONY: c
 c:
 	@python3 tools/c_library.py

@@ -225,7 +225,6 @@ class Header:
 
     def parameter(self, name, it):
         """A parameter in C: none, one, or a pointer and a length."""
-        it = re.sub(r"&'\w+ ", "&", it.strip())
         if it == "Global":
             return []
         if name in KEPT:
@@ -237,10 +236,7 @@ class Header:
         return [declared(self.plain(it), name)]
 
     def export(self, said, name, parameters, result):
-        given = []
-        for part in re.split(r",\s*(?![^<\[]*[>\]])", parameters.strip().rstrip(",")):
-            if part.strip():
-                given += self.parameter(*(it.strip() for it in part.split(":", 1)))
+        given = [it for parameter in parts(parameters) for it in self.parameter(*parameter)]
         kind = self.plain(result) if result else "void"
         return [*comment(said), *call(declared(kind, name), given)]
 
@@ -261,6 +257,14 @@ class Header:
         top = [HEAD, "#ifndef JILLAPUN_H\n#define JILLAPUN_H", "#include <stdbool.h>\n#include <stddef.h>\n#include <stdint.h>",
                '#define JILLAPUN_VERSION "%s"' % version, PLATFORM]
         return "\n\n".join([*top, *constants(), encodings(), *slices, *structs, *sections, TAIL]) + "\n"
+
+
+def parts(parameters):
+    """The name and the type of each parameter."""
+    for part in re.split(r",\s*(?![^<\[]*[>\]])", parameters.strip().rstrip(",")):
+        if part.strip():
+            name, it = part.split(":", 1)
+            yield name.strip(), re.sub(r"&'\w+ ", "&", it.strip())
 
 
 def declared(kind, name):

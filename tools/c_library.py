@@ -3,9 +3,9 @@
 
     python3 tools/c_library.py
 
-`rt lib` proves crates/jillapun_c and builds it. From what it leaves in the crate's `out/` this makes, in the same folder,
+`rt lib` proves crates/jillapun_c and builds it. From what it leaves in the crate's `out/` this makes, in `out/c` at the top,
 `libjillapun.a`, which has the kit's heap functions too, and `libjillapun.so.VERSION`, with the two links to it that a linker
-and a loader look for. Both are made by the kit's tools, so no C compiler is needed.
+and a loader look for (`rt` wants no links in a crate's `out/`). Both are made by the kit's tools, so no C compiler is needed.
 """
 
 import os
@@ -16,7 +16,8 @@ import sys
 
 TOP = os.path.abspath(os.path.join(os.path.dirname(os.path.abspath(__file__)), ".."))
 CRATE = os.path.join(TOP, "crates", "jillapun_c")
-OUT = os.path.join(CRATE, "out")
+BUILT = os.path.join(CRATE, "out", "libjillapun_c.a")
+OUT = os.path.join(TOP, "out", "c")
 VERSION_SOURCE = os.path.join(TOP, "crates", "recode_words", "src", "command.rt")
 
 ARCHIVE, SHARED = "libjillapun.a", "libjillapun.so"
@@ -47,9 +48,9 @@ def run(words, folder, **more):
         sys.exit("%s: status %d\n%s%s" % (" ".join(words), ran.returncode, ran.stdout[-4000:], ran.stderr[-4000:]))
 
 
-def archive(built, folder):
+def archive(folder):
     """One archive of the crate's own and of the kit's heap functions."""
-    script = "CREATE %s\nADDLIB %s\nADDLIB %s\nSAVE\nEND\n" % (ARCHIVE, built, kit("c", "liblibc_c.a"))
+    script = "CREATE %s\nADDLIB %s\nADDLIB %s\nSAVE\nEND\n" % (ARCHIVE, BUILT, kit("c", "liblibc_c.a"))
     path = os.path.join(folder, ARCHIVE)
     if os.path.exists(path):
         os.remove(path)
@@ -57,12 +58,12 @@ def archive(built, folder):
     return path
 
 
-def shared(built, folder):
+def shared(folder):
     """The shared library, which shows the exports alone, and its links."""
     name = SHARED + "." + version()
     heap, system = kit("c", "liblibc_c.a"), kit("toolchain", "lib", "libc.so.6")
     words = [kit("toolchain", "bin", "ld.lld"), "-shared", "-soname", soname(), "-o", name, "-z", "now", "-z", "relro"]
-    words += ["--whole-archive", built, "--no-whole-archive", "--exclude-libs", "liblibc_c.a", heap, system, "--no-undefined"]
+    words += ["--whole-archive", BUILT, "--no-whole-archive", "--exclude-libs", "liblibc_c.a", heap, system, "--no-undefined"]
     run(words, folder)
     for link in (soname(), SHARED):
         path = os.path.join(folder, link)
@@ -75,9 +76,8 @@ def shared(built, folder):
 def build(folder=OUT, *flags):
     """Builds both into a folder, and returns their paths. `--backend rattle` has the kit's own compiler build."""
     run(["rt", "lib", *flags], CRATE)
-    built = os.path.join(OUT, "libjillapun_c.a")
     os.makedirs(folder, exist_ok=True)
-    return archive(built, folder), shared(built, folder)
+    return archive(folder), shared(folder)
 
 
 def main():
