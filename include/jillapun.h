@@ -53,7 +53,8 @@ enum {
     /** All was done. Of a conversion: nothing was lost. */
     JILLAPUN_OK = 0,
     /**
-     * All was converted, and something was lost: the output, read again, is not the text of the input.
+     * All was converted, and something was lost: the output, read again, is not the text of the
+     * input.
      */
     JILLAPUN_LOSSY = 1,
     /**
@@ -77,8 +78,8 @@ enum {
     /** The room is too small, and the report says how much is wanted. Nothing was written. */
     JILLAPUN_ROOM = 10,
     /**
-     * A read, a write or a line of the log failed, the input is too long, or the policy stopped at a
-     * lost character.
+     * A read, a write or a line of the log failed, the input is too long, or the policy stopped at
+     * a lost character.
      */
     JILLAPUN_FAULT = 11
 };
@@ -140,8 +141,8 @@ enum {
 };
 
 /**
- * In place of a length: the room is not enough, or the bytes are not what the call is for. Nothing
- * was written, where the call does not say otherwise.
+ * In place of a length: the room is not enough, or the bytes are not what the call is for.
+ * Nothing was written, where the call does not say otherwise.
  */
 #define JILLAPUN_REFUSED SIZE_MAX
 
@@ -238,38 +239,38 @@ bool encoding_mem_is_ascii(const uint8_t *buffer, size_t buffer_len);
 bool encoding_mem_is_basic_latin(const jillapun_char16 *buffer, size_t buffer_len);
 
 /**
- * The length in bytes of the longest prefix that is ASCII: it ends before the first byte from 80
- * hex on.
+ * The length in bytes of the longest prefix that is ASCII: it ends before the first byte from
+ * 80 hex on.
  */
 size_t encoding_ascii_valid_up_to(const uint8_t *buffer, size_t buffer_len);
 
 /**
- * The length in bytes of the longest prefix that ISO-2022-JP, at the start of an input, reads as
- * ASCII: it ends before the first 0E, 0F, 1B or byte from 80 hex on (the Encoding Standard,
+ * The length in bytes of the longest prefix that ISO-2022-JP, at the start of an input, reads
+ * as ASCII: it ends before the first 0E, 0F, 1B or byte from 80 hex on (the Encoding Standard,
  * section 12.2.1).
  */
 size_t encoding_iso_2022_jp_ascii_valid_up_to(const uint8_t *buffer, size_t buffer_len);
 
 /**
- * Copies the longest prefix of `src` that is ASCII to the start of `dst`, and returns its length
- * in bytes. Room: as many bytes as `src` has; where `dst` is shorter, nothing is written and
- * `SIZE_MAX` is returned.
+ * Copies the longest prefix of `src` that is ASCII to the start of `dst`, and returns its
+ * length in bytes. Room: as many bytes as `src` has; where `dst` is shorter, nothing is written
+ * and `SIZE_MAX` is returned.
  */
 size_t encoding_mem_copy_ascii_to_ascii(const uint8_t *src, size_t src_len, uint8_t *dst,
     size_t dst_len);
 
 /**
- * Copies the longest prefix of `src` that is ASCII to the start of `dst`, each byte as a unit of
- * UTF-16, and returns its length. Room: as many units as `src` has bytes; where `dst` is shorter,
- * nothing is written and `SIZE_MAX` is returned.
+ * Copies the longest prefix of `src` that is ASCII to the start of `dst`, each byte as a unit
+ * of UTF-16, and returns its length. Room: as many units as `src` has bytes; where `dst` is
+ * shorter, nothing is written and `SIZE_MAX` is returned.
  */
 size_t encoding_mem_copy_ascii_to_basic_latin(const uint8_t *src, size_t src_len,
     jillapun_char16 *dst, size_t dst_len);
 
 /**
- * Copies the longest prefix of `src` whose units of UTF-16 are below 80 hex to the start of `dst`,
- * each as a byte, and returns its length. Room: as many bytes as `src` has units; where `dst` is
- * shorter, nothing is written and `SIZE_MAX` is returned.
+ * Copies the longest prefix of `src` whose units of UTF-16 are below 80 hex to the start of
+ * `dst`, each as a byte, and returns its length. Room: as many bytes as `src` has units; where
+ * `dst` is shorter, nothing is written and `SIZE_MAX` is returned.
  */
 size_t encoding_mem_copy_basic_latin_to_ascii(const jillapun_char16 *src, size_t src_len,
     uint8_t *dst, size_t dst_len);
@@ -280,8 +281,8 @@ size_t encoding_mem_copy_basic_latin_to_ascii(const jillapun_char16 *src, size_t
 /**
  * Whether a character, given as its code point, may be written from right to left, or is a
  * control that begins such a run. Taken by blocks: U+0590 to U+08FF, U+200F, U+202B, U+202E,
- * U+2067, U+FB1D to U+FDFF, U+FE70 to U+FEFE, U+10800 to U+10FFF and U+1E800 to U+1EFFF. A number
- * that is no character is not.
+ * U+2067, U+FB1D to U+FDFF, U+FE70 to U+FEFE, U+10800 to U+10FFF and U+1E800 to U+1EFFF. A
+ * number that is no character is not.
  */
 bool encoding_mem_is_char_bidi(uint32_t c);
 
@@ -292,8 +293,8 @@ bool encoding_mem_is_char_bidi(uint32_t c);
 bool encoding_mem_is_utf16_code_unit_bidi(jillapun_char16 u);
 
 /**
- * Whether `encoding_mem_is_char_bidi` holds of some character of the bytes, as UTF-8, or they are
- * not well-formed.
+ * Whether `encoding_mem_is_char_bidi` holds of some character of the bytes, as UTF-8, or they
+ * are not well-formed.
  */
 bool encoding_mem_is_utf8_bidi(const uint8_t *buffer, size_t buffer_len);
 
@@ -301,14 +302,14 @@ bool encoding_mem_is_utf8_bidi(const uint8_t *buffer, size_t buffer_len);
 bool encoding_mem_is_str_bidi(const uint8_t *buffer, size_t buffer_len);
 
 /**
- * Whether `encoding_mem_is_utf16_code_unit_bidi` holds of some unit. A lone high surrogate counts
- * as if its pair were whole.
+ * Whether `encoding_mem_is_utf16_code_unit_bidi` holds of some unit. A lone high surrogate
+ * counts as if its pair were whole.
  */
 bool encoding_mem_is_utf16_bidi(const jillapun_char16 *buffer, size_t buffer_len);
 
 /**
- * `JILLAPUN_LATIN1` where `encoding_mem_is_utf8_latin1` holds of the bytes, `JILLAPUN_BIDI` where
- * `encoding_mem_is_utf8_bidi` does, also where they are not well-formed, and else
+ * `JILLAPUN_LATIN1` where `encoding_mem_is_utf8_latin1` holds of the bytes, `JILLAPUN_BIDI`
+ * where `encoding_mem_is_utf8_bidi` does, also where they are not well-formed, and else
  * `JILLAPUN_LEFT_TO_RIGHT`.
  */
 uint32_t encoding_mem_check_utf8_for_latin1_and_bidi(const uint8_t *buffer, size_t buffer_len);
@@ -320,8 +321,8 @@ uint32_t encoding_mem_check_utf8_for_latin1_and_bidi(const uint8_t *buffer, size
 uint32_t encoding_mem_check_str_for_latin1_and_bidi(const uint8_t *buffer, size_t buffer_len);
 
 /**
- * `JILLAPUN_LATIN1` where `encoding_mem_is_utf16_latin1` holds of the units, `JILLAPUN_BIDI` where
- * `encoding_mem_is_utf16_bidi` does, and else `JILLAPUN_LEFT_TO_RIGHT`.
+ * `JILLAPUN_LATIN1` where `encoding_mem_is_utf16_latin1` holds of the units, `JILLAPUN_BIDI`
+ * where `encoding_mem_is_utf16_bidi` does, and else `JILLAPUN_LEFT_TO_RIGHT`.
  */
 uint32_t encoding_mem_check_utf16_for_latin1_and_bidi(const jillapun_char16 *buffer,
     size_t buffer_len);
@@ -349,24 +350,24 @@ size_t encoding_mem_str_latin1_up_to(const uint8_t *buffer, size_t buffer_len);
 
 /**
  * Converts Latin1 to UTF-16 at the start of `dst`, a unit for each byte, and returns how many
- * units were written. Room: as many units as `src` has bytes; where `dst` is shorter, nothing is
- * written and `SIZE_MAX` is returned.
+ * units were written. Room: as many units as `src` has bytes; where `dst` is shorter, nothing
+ * is written and `SIZE_MAX` is returned.
  */
 size_t encoding_mem_convert_latin1_to_utf16(const uint8_t *src, size_t src_len,
     jillapun_char16 *dst, size_t dst_len);
 
 /**
- * Takes the low eight bits of each unit of UTF-16, into the start of `dst`, and returns how many
- * bytes were written. Where `encoding_mem_is_utf16_latin1` holds of `src`, that is its text in
- * Latin1; else it is not. Room: as many bytes as `src` has units; where `dst` is shorter, nothing
- * is written and `SIZE_MAX` is returned.
+ * Takes the low eight bits of each unit of UTF-16, into the start of `dst`, and returns how
+ * many bytes were written. Where `encoding_mem_is_utf16_latin1` holds of `src`, that is its
+ * text in Latin1; else it is not. Room: as many bytes as `src` has units; where `dst` is
+ * shorter, nothing is written and `SIZE_MAX` is returned.
  */
 size_t encoding_mem_convert_utf16_to_latin1_lossy(const jillapun_char16 *src, size_t src_len,
     uint8_t *dst, size_t dst_len);
 
 /**
- * Converts UTF-8 to Latin1 at the start of `dst`, a byte for each character, and returns how many
- * bytes were written. Room: as many bytes as `src` has. Where `dst` is shorter, or
+ * Converts UTF-8 to Latin1 at the start of `dst`, a byte for each character, and returns how
+ * many bytes were written. Room: as many bytes as `src` has. Where `dst` is shorter, or
  * `encoding_mem_is_utf8_latin1` does not hold of `src`, nothing is written and `SIZE_MAX` is
  * returned.
  */
@@ -374,9 +375,9 @@ size_t encoding_mem_convert_utf8_to_latin1_lossy(const uint8_t *src, size_t src_
     size_t dst_len);
 
 /**
- * Converts Latin1 to UTF-8 at the start of `dst`, and returns how many bytes were written. Room:
- * twice as many bytes as `src` has; where `dst` is shorter, nothing is written and `SIZE_MAX` is
- * returned.
+ * Converts Latin1 to UTF-8 at the start of `dst`, and returns how many bytes were written.
+ * Room: twice as many bytes as `src` has; where `dst` is shorter, nothing is written and
+ * `SIZE_MAX` is returned.
  */
 size_t encoding_mem_convert_latin1_to_utf8(const uint8_t *src, size_t src_len, uint8_t *dst,
     size_t dst_len);
@@ -395,22 +396,22 @@ size_t encoding_mem_convert_latin1_to_str(const uint8_t *src, size_t src_len, ui
 
 /**
  * Converts the longest well-formed prefix of UTF-8 whose UTF-16 fits into `dst`. It ends before
- * the first malformed sequence, if one comes before the room ends. `read` is in bytes, `written`
- * in units.
+ * the first malformed sequence, if one comes before the room ends. `read` is in bytes,
+ * `written` in units.
  */
 void jillapun_mem_convert_utf8_to_utf16_up_to_invalid(const uint8_t *src, size_t src_len,
     jillapun_char16 *dst, size_t dst_len, size_t *read, size_t *written);
 
 /**
- * Converts the longest prefix of UTF-16 whose UTF-8 fits into `dst`. No pair is split; a surrogate
- * in no pair of `src` becomes U+FFFD. `read` is in units, `written` in bytes.
+ * Converts the longest prefix of UTF-16 whose UTF-8 fits into `dst`. No pair is split; a
+ * surrogate in no pair of `src` becomes U+FFFD. `read` is in units, `written` in bytes.
  */
 void jillapun_mem_convert_utf16_to_utf8_partial(const jillapun_char16 *src, size_t src_len,
     uint8_t *dst, size_t dst_len, size_t *read, size_t *written);
 
 /**
- * Converts the longest prefix of Latin1 whose UTF-8 fits into `dst`. `read` and `written` are in
- * bytes.
+ * Converts the longest prefix of Latin1 whose UTF-8 fits into `dst`. `read` and `written` are
+ * in bytes.
  */
 void jillapun_mem_convert_latin1_to_utf8_partial(const uint8_t *src, size_t src_len, uint8_t *dst,
     size_t dst_len, size_t *read, size_t *written);
@@ -419,17 +420,17 @@ void jillapun_mem_convert_latin1_to_utf8_partial(const uint8_t *src, size_t src_
  * Converts the longest prefix of UTF-16 whose UTF-8 fits into a text, which stays one: where a
  * character of `dst` is overwritten in part, its other bytes become 00. No pair is split; a
  * surrogate in no pair of `src` becomes U+FFFD. `read` is in units, `written` in bytes. Returns
- * `JILLAPUN_OK`, or `JILLAPUN_NOT_UTF8` where `dst` is not UTF-8 before the call: then nothing is
- * read or written.
+ * `JILLAPUN_OK`, or `JILLAPUN_NOT_UTF8` where `dst` is not UTF-8 before the call: then nothing
+ * is read or written.
  */
 uint8_t jillapun_mem_convert_utf16_to_str_partial(const jillapun_char16 *src, size_t src_len,
     uint8_t *dst, size_t dst_len, size_t *read, size_t *written);
 
 /**
  * Converts the longest prefix of Latin1 whose UTF-8 fits into a text, which stays one: where a
- * character of `dst` is overwritten in part, its other bytes become 00. `read` and `written` are
- * in bytes. Returns `JILLAPUN_OK`, or `JILLAPUN_NOT_UTF8` where `dst` is not UTF-8 before the
- * call: then nothing is read or written.
+ * character of `dst` is overwritten in part, its other bytes become 00. `read` and `written`
+ * are in bytes. Returns `JILLAPUN_OK`, or `JILLAPUN_NOT_UTF8` where `dst` is not UTF-8 before
+ * the call: then nothing is read or written.
  */
 uint8_t jillapun_mem_convert_latin1_to_str_partial(const uint8_t *src, size_t src_len, uint8_t *dst,
     size_t dst_len, size_t *read, size_t *written);
@@ -437,8 +438,8 @@ uint8_t jillapun_mem_convert_latin1_to_str_partial(const uint8_t *src, size_t sr
 /* UTF-16: whether it is well-formed, and conversions to UTF-8. */
 
 /**
- * The length in units of the longest prefix that is well-formed UTF-16: it ends before the first
- * surrogate in no pair.
+ * The length in units of the longest prefix that is well-formed UTF-16: it ends before the
+ * first surrogate in no pair.
  */
 size_t encoding_mem_utf16_valid_up_to(const jillapun_char16 *buffer, size_t buffer_len);
 
@@ -446,9 +447,9 @@ size_t encoding_mem_utf16_valid_up_to(const jillapun_char16 *buffer, size_t buff
 void encoding_mem_ensure_utf16_validity(jillapun_char16 *buffer, size_t buffer_len);
 
 /**
- * Converts UTF-16 to UTF-8 at the start of `dst`, with U+FFFD for each surrogate in no pair, and
- * returns how many bytes were written. Room: three bytes for each unit of `src`; where `dst` is
- * shorter, nothing is written and `SIZE_MAX` is returned.
+ * Converts UTF-16 to UTF-8 at the start of `dst`, with U+FFFD for each surrogate in no pair,
+ * and returns how many bytes were written. Room: three bytes for each unit of `src`; where
+ * `dst` is shorter, nothing is written and `SIZE_MAX` is returned.
  */
 size_t encoding_mem_convert_utf16_to_utf8(const jillapun_char16 *src, size_t src_len, uint8_t *dst,
     size_t dst_len);
@@ -456,8 +457,8 @@ size_t encoding_mem_convert_utf16_to_utf8(const jillapun_char16 *src, size_t src
 /**
  * Converts UTF-16 to UTF-8 at the start of a text, which stays one, with U+FFFD for each
  * surrogate in no pair, and returns how many bytes were written: where a character of `dst` is
- * overwritten in part, its other bytes become 00. Room: three bytes for each unit of `src`. Where
- * `dst` is shorter, or is not UTF-8 before the call, nothing is written and `SIZE_MAX` is
+ * overwritten in part, its other bytes become 00. Room: three bytes for each unit of `src`.
+ * Where `dst` is shorter, or is not UTF-8 before the call, nothing is written and `SIZE_MAX` is
  * returned.
  */
 size_t encoding_mem_convert_utf16_to_str(const jillapun_char16 *src, size_t src_len, uint8_t *dst,
@@ -466,8 +467,8 @@ size_t encoding_mem_convert_utf16_to_str(const jillapun_char16 *src, size_t src_
 /* UTF-8: how far it is well-formed, and conversions to UTF-16. */
 
 /**
- * The length in bytes of the longest prefix that is well-formed UTF-8 (RFC 3629): it ends before
- * the first byte of the first malformed sequence.
+ * The length in bytes of the longest prefix that is well-formed UTF-8 (RFC 3629): it ends
+ * before the first byte of the first malformed sequence.
  */
 size_t encoding_utf8_valid_up_to(const uint8_t *buffer, size_t buffer_len);
 
@@ -480,10 +481,10 @@ size_t encoding_mem_convert_utf8_to_utf16(const uint8_t *src, size_t src_len, ji
     size_t dst_len);
 
 /**
- * Converts UTF-8 to UTF-16 at the start of `dst`, and returns how many units were written. Room:
- * as many units as `src` has bytes; where `dst` is shorter, nothing is written and `SIZE_MAX` is
- * returned. Where `src` is not well-formed, `SIZE_MAX` is returned, too, and `dst` begins with
- * the text before the first malformed sequence.
+ * Converts UTF-8 to UTF-16 at the start of `dst`, and returns how many units were written.
+ * Room: as many units as `src` has bytes; where `dst` is shorter, nothing is written and
+ * `SIZE_MAX` is returned. Where `src` is not well-formed, `SIZE_MAX` is returned, too, and
+ * `dst` begins with the text before the first malformed sequence.
  */
 size_t encoding_mem_convert_utf8_to_utf16_without_replacement(const uint8_t *src, size_t src_len,
     jillapun_char16 *dst, size_t dst_len);

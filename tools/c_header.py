@@ -8,9 +8,12 @@ A type that does not cross, an export with a condition, and a name that C++ keep
 written. `make lint` calls `faults`: a header that is not what this script writes.
 """
 
+import functools
+import itertools
 import os
 import re
 import sys
+import textwrap
 
 TOP = os.path.abspath(os.path.join(os.path.dirname(os.path.abspath(__file__)), ".."))
 CRATE = os.path.join(TOP, "crates", "jillapun_c", "src")
@@ -20,6 +23,8 @@ VERSION_SOURCE = os.path.join(TOP, "crates", "recode_words", "src", "command.rt"
 HEADER = os.path.join(TOP, "include", "jillapun.h")
 PREFIX = "jillapun"
 COLUMNS = 100
+# The most columns of a line of a doc comment, in a struct too.
+WIDTH = 93
 
 # The modules in the order in which a reader wants their exports; others come after these, and `mem` last.
 SECTIONS = ["encoding", "tables", "decoder", "encoder", "whole", "convert", "descriptors"]
@@ -103,11 +108,32 @@ def read(path):
         return file.read()
 
 
+@functools.cache
+def constant_names():
+    return set(re.findall(r"^pub const (\w+)", read(CONSTANTS) + read(ENCODINGS), re.M))
+
+
+def named(line):
+    """A line of a doc comment with the names that C has for constants and structs."""
+    line = re.sub(r"`([A-Z][A-Z0-9_]+)`", lambda it: "`JILLAPUN_%s`" % it[1] if it[1] in constant_names() else it[0], line)
+    return re.sub(r"`([A-Z][a-z]+Handle)`", lambda it: "`%s`" % snake(it[1]), line)
+
+
+def paragraphs(lines):
+    """The lines of a doc comment, broken anew where a name has made one too long."""
+    for is_empty, group in itertools.groupby(map(named, lines), lambda line: not line):
+        group = list(group)
+        if not is_empty and any(len(line) > WIDTH for line in group):
+            group = textwrap.wrap(" ".join(group), WIDTH, break_long_words=False, break_on_hyphens=False)
+        yield from group
+
+
 def comment(lines, inset=""):
     """A doc comment in C."""
     if not lines:
         return []
-    if len(lines) == 1 and len(inset) + len(lines[0]) + 7 <= COLUMNS + 2:
+    lines = list(paragraphs(lines))
+    if len(lines) == 1 and len(inset) + len(lines[0]) + 7 <= COLUMNS:
         return ["%s/** %s */" % (inset, lines[0])]
     return [inset + "/**", *((inset + " * " + line).rstrip() for line in lines), inset + " */"]
 
