@@ -42,9 +42,10 @@ doc:
 	@python3 tools/definitions_page.py
 	@python3 tools/c_header.py
 
-# The parts of README.md and of the man pages that say what the help says, from its text.
+# The parts of README.md and of the man pages that say what the help says, from its text, and what the C header says.
 usage:
 	@python3 tools/usage.py
+	@python3 tools/c_manual.py
 
 # The edits that the gate leaves out, each of which the prover must refuse: those of the crates that have changed since
 # they were tried last. What came of it as docs/EDITS.md. For a release, since it can take hours.
@@ -113,11 +114,12 @@ verdicts:
 			<($(CURDIR)/crates/recode_cases/out/recode_cases 1 $$name) || exit 1; \
 	done
 
-# The programs, their man pages and the index texts.
-install: build
-	@install -D -m 755 crates/recode_cli/out/recode_cli $(DESTDIR)$(PREFIX)/bin/recode
-	@install -D -m 755 crates/recode_places_cli/out/recode_places_cli $(DESTDIR)$(PREFIX)/bin/recode-places
-	@install -D -m 644 man/recode.1 $(DESTDIR)$(PREFIX)/share/man/man1/recode.1
-	@install -D -m 644 man/recode-places.1 $(DESTDIR)$(PREFIX)/share/man/man1/recode-places.1
-	@install -d $(DESTDIR)$(PREFIX)/share/recode/indexes
-	@install -m 644 indexes/* $(DESTDIR)$(PREFIX)/share/recode/indexes
+# The programs, the library for C with its header and its file for pkg-config, their man pages, and the index texts, below
+# PREFIX.
+install: build c
+	@python3 tools/install.py --prefix $(PREFIX) --destdir "$(DESTDIR)"
+
+# An archive of these, the Python module and the licences, for machines without `rt`, in out.
+.PHONY: dist
+dist: build c
+	@python3 tools/install.py --archive

@@ -327,12 +327,16 @@ def constants():
         yield from macros
 
 
-def encodings():
-    """The encodings by their numbers, in the order of their names."""
+def encoding_rows():
+    """The encodings in the order of their names, each by its constant's name and what is said of it."""
     lines = read(ENCODINGS).split("\n")
     found = [(CONSTANT.fullmatch(line), above(lines, index)[0]) for index, line in enumerate(lines)]
-    rows = [(item[1], said) for item, said in found if item and item[3].startswith("Encoding::")]
-    numbered = []
+    return [(item[1], said) for item, said in found if item and item[3].startswith("Encoding::")]
+
+
+def encodings():
+    """The encodings by their numbers."""
+    rows, numbered = encoding_rows(), []
     for number, (name, said) in enumerate(rows):
         numbered += [*comment(said, "    "), "    JILLAPUN_%s = %d%s" % (name, number, "," if number < len(rows) - 1 else "")]
     head = "/* The encodings, by their numbers. The sections are those of the Encoding Standard. */"

@@ -19,7 +19,7 @@
 - Each public item of a library has a doc comment, and `docs/reference` is what `make doc` writes (`tools/reference.py`). No
   public contract cites a word that stands among theorems (`specs/laws/`).
 - Each source file but a crate's root begins with a line that says what it is for (`//!`).
-- `include/jillapun.h` is what `tools/c_header.py` writes.
+- `include/jillapun.h` is what `tools/c_header.py` writes, and man/jillapun.3 says what it says (`tools/c_manual.py`).
 - The patches of docs/examples apply.
 - README.md and the man pages say what the help says (`tools/usage.py`), and README.md has fewer than 120 lines.
 """
@@ -34,6 +34,7 @@ import sys
 sys.dont_write_bytecode = True
 
 import c_header
+import c_manual
 import definitions
 import definitions_page
 import edits_table
@@ -287,6 +288,7 @@ CHECKS = (
     reference.hidden_words,
     headline.faults,
     c_header.faults,
+    c_manual.faults,
 )
 
 
