@@ -16,6 +16,8 @@ import usage
 
 MAN = "man/jillapun.3"
 EXAMPLE = "docs/examples/c/mem.c"
+# The page for its users, and the program that it begins with.
+GUIDE, FIRST = "docs/C.md", "docs/examples/c/first.c"
 
 
 def roff(text):
@@ -118,6 +120,9 @@ def faults():
     has, should = page()
     if has != should:
         yield "%s does not say what the header says: make usage" % MAN
+    program = "".join("    " + line if line.strip() else line for line in usage.read(FIRST).splitlines(keepends=True))
+    if program not in usage.read(GUIDE):
+        yield "%s does not have %s" % (GUIDE, FIRST)
 
 
 def main():
