@@ -9,7 +9,8 @@ by the checks that `CHECKS` lists: what must come of a call is worked out by Pyt
 Where there is a C compiler (`CC`, or cc), it and a C++ compiler (`CXX`, or c++) read the header with all warnings, and each
 NAME.c of docs/examples/c is compiled, linked with the archive and with the shared library, and once more with the
 sanitizers where the compiler has them. Run in the top folder on NAME.in with the words of NAME.args, if these are there, it must
-write NAME.out. What was left out is said. The status is 1 where something was wrong.
+write NAME.out. Then all is packed as `make dist` does, unpacked, and a program is built from what pkg-config says of it.
+What was left out is said. The status is 1 where something was wrong.
 """
 
 import os
@@ -23,6 +24,7 @@ sys.dont_write_bytecode = True
 import c_library
 import c_loaded
 import c_mem
+import install
 
 TOP = os.path.abspath(os.path.join(os.path.dirname(os.path.abspath(__file__)), ".."))
 EXAMPLES = os.path.join(TOP, "docs", "examples", "c")
@@ -128,6 +130,31 @@ def examples(archive, shared, folder):
         print("example: %s.c, with %s" % (name, ", ".join(how for how, _ in ways)))
 
 
+def unpacked(folder):
+    """What `make dist` packs, where it was unpacked: a program finds the header and the library there."""
+    cc, programs = compiler("CC", "cc"), [os.path.join(TOP, source) for source, _ in install.PROGRAMS]
+    if not all(map(os.path.isfile, programs)):
+        print("left out: the archive of `make dist`, since the programs are not built (make build)")
+        return
+    packed = install.archive()
+    shutil.unpack_archive(packed, folder)
+    top = os.path.join(folder, os.path.basename(packed).removesuffix(".tar.gz"))
+    if not cc or not shutil.which("pkg-config"):
+        print("left out: a program over what `make dist` packs, since there is no C compiler (cc) or no pkg-config here")
+        return
+    there = dict(os.environ, PKG_CONFIG_PATH=os.path.join(top, "lib", "pkgconfig"), LD_LIBRARY_PATH=os.path.join(top, "lib"))
+    flags = run(["pkg-config", "--cflags", "--libs", "jillapun"], env=there).stdout.decode().split()
+    program = os.path.join(folder, "first")
+    said = compiled([cc, os.path.join(EXAMPLES, "first.c"), *flags, "-o", program])
+    if said:
+        yield "first.c over what `make dist` packs: %s" % said
+        return
+    ran = run([program], env=there)
+    if (ran.returncode, ran.stdout) != (0, read(os.path.join(EXAMPLES, "first.out"))):
+        yield "first.c over what `make dist` packs: status %d, %r, %r" % (ran.returncode, ran.stdout, ran.stderr[-2000:])
+    print("packed, unpacked and linked with: %s" % os.path.basename(top))
+
+
 def faults():
     """What is wrong with the library for C."""
     with tempfile.TemporaryDirectory() as folder:
@@ -138,6 +165,7 @@ def faults():
         wrong += checked(shared)
         wrong += headers(folder)
         wrong += examples(archive, shared, folder)
+        wrong += unpacked(folder)
     return wrong
 
 
