@@ -9,7 +9,6 @@ written. `make lint` calls `faults`: a header that is not what this script write
 """
 
 import functools
-import itertools
 import os
 import re
 import sys
@@ -121,19 +120,30 @@ def named(line):
 
 
 def paragraphs(lines):
-    """The lines of a doc comment, broken anew where a name has made one too long."""
-    for is_empty, group in itertools.groupby(map(named, lines), lambda line: not line):
-        group = list(group)
-        if not is_empty and any(len(line) > WIDTH for line in group):
-            group = textwrap.wrap(" ".join(group), WIDTH, break_long_words=False, break_on_hyphens=False)
-        yield from group
+    """The paragraphs of a doc comment, each with its lines. An item of a list, which begins with "- ", is one by itself."""
+    found = []
+    for line in map(named, lines):
+        if not found or not line or not found[-1][-1] or line.startswith("- "):
+            found.append([])
+        found[-1].append(line)
+    return found
+
+
+def fitted(lines):
+    """The lines of a doc comment. A paragraph is broken anew if a name has made a line too long."""
+    for paragraph in paragraphs(lines):
+        if any(len(line) > WIDTH for line in paragraph):
+            inset = "  " if paragraph[0].startswith("- ") else ""
+            text = " ".join(line.strip() for line in paragraph)
+            paragraph = textwrap.wrap(text, WIDTH, subsequent_indent=inset, break_long_words=False, break_on_hyphens=False)
+        yield from paragraph
 
 
 def comment(lines, inset=""):
     """A doc comment in C."""
     if not lines:
         return []
-    lines = list(paragraphs(lines))
+    lines = list(fitted(lines))
     if len(lines) == 1 and len(inset) + len(lines[0]) + 7 <= COLUMNS:
         return ["%s/** %s */" % (inset, lines[0])]
     return [inset + "/**", *((inset + " * " + line).rstrip() for line in lines), inset + " */"]
