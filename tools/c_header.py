@@ -66,10 +66,10 @@ HEAD = """/*
  * structs are aligned as their type needs. Memory that a call writes to need not be initialised,
  * except a handle, and a text (`_to_str`). A `bool` is 0 or 1.
  *
- * Handles. A handle, a struct with members that begin with `private_`, begins as `{0}`, is filled
- * by a function with `_new` in its name and emptied by one with `_free`. It is not copied, unless
- * its type says that it may be, and its members are left alone. Two threads may use two handles at
- * once, but not the same one, unless its type says that they may.
+ * Handles. A handle, a struct with members that begin with `private_`, begins as `{0}` (in C++, as
+ * `{}`), is filled by a function with `_new` in its name and emptied by one with `_free`. It is not
+ * copied, unless its type says that it may be, and its members are left alone. Two threads may use
+ * two handles at once, but not the same one, unless its type says that they may.
  *
  * If a function that returns a length can't do what is asked for, it returns SIZE_MAX.
  *
@@ -190,7 +190,8 @@ class Struct:
             field = FIELD.fullmatch(line)
             if field and not field[2] and field[4] != "Global":
                 doc = above([line.strip() for line in lines], index)[0]
-                self.fields.append((doc, field[3] if field[1] else "private_" + field[3], field[4]))
+                is_open_to_c = field[1] and not field[4].endswith("Handle")
+                self.fields.append((doc, field[3] if is_open_to_c else "private_" + field[3], field[4]))
 
 
 class Module:

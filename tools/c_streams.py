@@ -109,7 +109,7 @@ class Streams:
 
     def decoded(self, call, job, parts, to_units):
         """A stream by a decoder of its own: its text, its faults, and whether a call told of errors."""
-        handle = self.library.struct("CoderHandle")()
+        handle = self.library.struct("DecoderHandle")()
         new = self.library.jillapun_decoder_new(self.tables, self.numbers[job.source], MARKS[job.mark], handle)
         self.must("decoder_new", new)
         text, faults, had_errors, before = bytearray(), [], False, 0
@@ -151,7 +151,7 @@ class Streams:
 
     def coded(self, call, target, points, of_units):
         """A text by an encoder of its own: its bytes, its lost characters, and whether a call told of some."""
-        handle = self.library.struct("CoderHandle")()
+        handle = self.library.struct("EncoderHandle")()
         self.must("encoder_new", self.library.jillapun_encoder_new(self.tables, self.numbers[target], handle))
         progress, output, lost, had, index = self.library.struct("EncoderProgress")(), bytearray(), [], False, 0
         place = self.random.randint(0, len(points))
