@@ -1,0 +1,2 @@
+-- What the contracts of the exports speak of.
+pub mod Room

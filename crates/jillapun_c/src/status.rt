@@ -1,0 +1,83 @@
+//! The numbers that cross: statuses, and the words of calls. The header has them as constants, with
+//! `JILLAPUN_` before each name.
+
+// What a call returns: its status.
+
+/// All was done. Of a conversion: nothing was lost.
+pub const OK: u8 = 0;
+/// All was converted, and something was lost: the output, read again, is not the text of the input.
+pub const LOSSY: u8 = 1;
+/// There is no such label, encoding, index file, handling of marks or policy. Nothing was done.
+pub const UNKNOWN: u8 = 2;
+/// An index that the encoding needs is not in the tables: load its file. Nothing was done.
+pub const NOT_READY: u8 = 3;
+/// The text of an index has a faulty line, and the fault says which. Nothing was kept.
+pub const BAD_INDEX: u8 = 4;
+/// Memory was refused. Nothing was kept, and the call can be made again.
+pub const NO_MEMORY: u8 = 5;
+/// The handle holds nothing: it is zeroed, or was freed. Nothing was done.
+pub const CLOSED: u8 = 6;
+/// The handle that is to be filled holds something already: free it first. Nothing was done.
+pub const IN_USE: u8 = 7;
+/// The stream has ended: an earlier call was the last. Nothing was read or written.
+pub const FINISHED: u8 = 8;
+/// The text is not UTF-8. Nothing was read or written.
+pub const NOT_UTF8: u8 = 9;
+/// The room is too small, and the report says how much is wanted. Nothing was written.
+pub const ROOM: u8 = 10;
+/// A read, a write or a line of the log failed, the input is too long, or the policy stopped at a
+/// lost character.
+pub const FAULT: u8 = 11;
+
+// The outcome of a call of a decoder or an encoder.
+
+/// All that was handed in is read.
+pub const INPUT_EMPTY: u8 = 0;
+/// There is no room for what comes next: hand in the rest again with more room.
+pub const OUTPUT_FULL: u8 = 1;
+/// A malformed sequence was read, and nothing was written for it.
+pub const MALFORMED: u8 = 2;
+/// A character was read that the encoding has no bytes for, and nothing was written for it.
+pub const UNMAPPABLE: u8 = 3;
+
+// What becomes of a byte order mark at the start of an input.
+
+/// The mark of UTF-8, UTF-16BE or UTF-16LE decides the encoding, and is left out.
+pub const SNIFF: u8 = 0;
+/// The mark of the encoding itself is left out.
+pub const REMOVE: u8 = 1;
+/// No mark is looked for, and one is text.
+pub const KEEP: u8 = 2;
+
+// What is written for a character that the output encoding has no bytes for.
+
+/// A decimal reference, as `&#26085;`.
+pub const DECIMAL: u8 = 0;
+/// A hexadecimal reference, as `&#x65E5;`.
+pub const HEXADECIMAL: u8 = 1;
+/// Nothing: the conversion stops there.
+pub const STOP: u8 = 2;
+
+// What an entry of the list of losses is of.
+
+/// A malformed sequence of the input: its offset in bytes, and its length in bytes.
+pub const BAD: u8 = 0;
+/// A lost character of the text: how many characters stand before it, and its code point.
+pub const LOST: u8 = 1;
+
+// What a text is, for layout.
+
+/// Each character is at most U+00FF.
+pub const LATIN1: u32 = 0;
+/// Some character is above U+00FF, and none is written from right to left.
+pub const LEFT_TO_RIGHT: u32 = 1;
+/// Some character may be written from right to left, or the bytes are not UTF-8.
+pub const BIDI: u32 = 2;
+
+// What stands where there is no number.
+
+/// No encoding. Each encoding is its number, from 0 on, in the order of the names.
+pub const NO_ENCODING: u8 = 255;
+/// In place of a length: the room is not enough, or the bytes are not what the call is for. Nothing
+/// was written, where the call does not say otherwise.
+pub const REFUSED: usize = usize::MAX;
