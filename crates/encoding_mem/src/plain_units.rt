@@ -3,7 +3,7 @@
 ghost use Rattle.std.specs.Prelude.{◌≡◌, ℕ, ◌*◌, ◌<◌, ◌≤◌, [], ◌∷◌};
 ghost use Rattle.std.specs.Prelude.{length, take, drop, slice_index};
 ghost use Rattle.std.proofs.Common.{arith};
-ghost use Rattle.std.specs.Char.{len_utf8};
+ghost use Rattle.std.specs.Char.{encode_utf8, len_utf8};
 ghost use Rattle.std.specs.Str.{encode_utf8_all};
 ghost use Rattle.encoding_mem.specs.Conversions.{IsUnitBoundary, units_in_utf8};
 ghost use Rattle.encoding_mem.specs.calls.Writing.{Adds};
@@ -31,6 +31,7 @@ trait UnitWriter {
         requires low { unit < limit }
         requires room { 3 ≤ length dst.old }
         ensures adds { Adds dst.old 0 (encode_utf8_all (unit ∷ [])) dst.new result }
+        ensures some { 1 ≤ result }
         ensures few { result ≤ 3 };
 }
 
@@ -83,6 +84,7 @@ fn put_each<W: UnitWriter>(units: &[u16], count: usize, dst: &mut [u8]) -> usize
     requires room { 3 * count ≤ length dst.old }
     requires low { (k : ℕ) → k < count → slice_index units.now k < W.limit }
     ensures boundary { IsUnitBoundary units.now count }
+    ensures many { count ≤ result }
     ensures fits { result ≤ length dst.new }
     ensures text { take result dst.new ≡ units_in_utf8 (take count units.now) }
     ensures behind { drop result dst.new ≡ drop result dst.old }
@@ -93,6 +95,57 @@ fn put_each<W: UnitWriter>(units: &[u16], count: usize, dst: &mut [u8]) -> usize
         written += W::put(units[read], &mut dst[written..]);
         read += 1;
     }
+    written
+}
+
+// The UTF-8 of a unit below D800 hex, and in the fourth byte its length. Between them stand bytes
+// without a meaning.
+#[inline(always)]
+fn quad_of(unit: u16) -> [u8; 4]
+    requires { unit < 0xD800 }
+    ensures length { slice_index result 3 ≡ len_utf8 unit }
+    ensures bytes { take (slice_index result 3) result ≡ encode_utf8 unit }
+{
+    let is_two = unit >= 0x80;
+    let is_three = unit >= 0x800;
+    let short = if is_two { 0xC0 + unit / 64 } else { unit };
+    let lead = if is_three { 0xE0 + unit / 4096 } else { short };
+    let middle = if is_three { unit / 64 } else { unit };
+    [
+        lead as u8,
+        (0x80 + middle % 64) as u8,
+        (0x80 + unit % 64) as u8,
+        is_two as u8 + is_three as u8 + 1,
+    ]
+}
+
+// Puts a block of units below D800 hex at the start, and returns how many bytes they have. The
+// first loop is one that the compiler turns into vectors. The second stores four bytes for each
+// unit, so that no branch asks how many it has: the next ones are written over what it has not.
+#[inline(always)]
+fn put_plain_block(units: &[u16], dst: &mut [u8]) -> usize
+    requires block { length units.now ≡ 32 }
+    requires room { 96 ≤ length dst.old }
+    requires plain { (k : ℕ) → slice_index units.now k < 0xD800 }
+    ensures fits { result ≤ length dst.new }
+    ensures text { take result dst.new ≡ units_in_utf8 units.now }
+    ensures behind { drop result dst.new ≡ drop result dst.old }
+{
+    let mut quads = [[0; 4]; UNIT_BLOCK];
+    let mut at = 0;
+    'quads: while at < UNIT_BLOCK {
+        quads[at] = quad_of(units[at]);
+        at += 1;
+    }
+    let mut read = 0;
+    let mut written = 0;
+    'units: while read < UNIT_BLOCK - 3 {
+        dst[written..written + 4].copy_from_slice(&quads[read]);
+        written += quads[read][3] as usize;
+        read += 1;
+    }
+    // Nothing is written over what stands behind the last three, which have three bytes or more.
+    written += put_each::<Plain>(&units[read..], 3, &mut dst[written..]);
     written
 }
 
@@ -111,10 +164,8 @@ pub(crate) fn put_plain_units(units: &[u16], dst: &mut [u8]) -> usize
         put_each::<Plain>(units, units.len(), dst)
     } else if narrow_block(units, dst) {
         UNIT_BLOCK
-    } else if all_units_below(u16x32::from_slice(units), 0x800) {
-        put_each::<Short>(units, UNIT_BLOCK, dst)
     } else {
-        put_each::<Plain>(units, UNIT_BLOCK, dst)
+        put_plain_block(units, dst)
     }
 }
 

@@ -9,6 +9,7 @@ pub units-init : goal.units-init
 units-init g c = record {
   within = omega arith;
   few = omega arith;
+  many = omega arith;
   so_far = none_written c.args.units.now c.args.dst.now;
 }
 
@@ -22,6 +23,7 @@ units-preserved g c =
     record {
       within = omega (arith, c.units-test.true);
       few = omega (arith, i.few, p.few);
+      many = omega (arith, i.many, p.some);
       so_far =
           more_written us c.args.dst.now c.units.read c.units.dst c.units.written ys (get_or us c.units.read 0 ∷ []) 1 n i.so_far
           (omega (arith, c.units-test.true, c.requires.units)) c.put-written.auto.dst (omega (arith, p.adds.within, c.put-written.auto.dst))

@@ -6,6 +6,7 @@ abbrev pub invariant-units : goal.invariant-units
 invariant-units g l = record {
   within : l.read ≤ l.count;
   few : l.written ≤ 3 * l.read;
+  many : l.read ≤ l.written;
   so_far : IsWritten l.units l.initial.dst l.read l.dst l.written;
 }
 
