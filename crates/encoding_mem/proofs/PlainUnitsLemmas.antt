@@ -1,8 +1,8 @@
 -- Blocks of units in UTF-8.
 use Rattle.std.proofs.Common.{◌≡◌, ℕ, ◌+◌, ◌*◌, ◌-◌, ◌/◌, ◌%◌, ◌<◌, ◌≤◌, List, [], ◌∷◌, ◌++◌, length, take, drop, set, get_or, inl, inr, refl, sym, ◌∙◌, ap, arith, append_assoc, length-append, length-drop, encode_utf8_all}
-use Rattle.std.proofs.lemmas.Bool.{cases_lt, le-leb, lt-leb}
+use Rattle.std.proofs.lemmas.Bool.{cases_eq, cases_lt, le-leb, lt-leb}
 use Rattle.std.proofs.lemmas.Str.{encode_ascii, encodes-IsAscii, encodes-append, length-encode}
-use Rattle.std.proofs.lemmas.List.{append-nil, get_or-drop, drop-drop, length-set, length-take-le, take_all, take_more_set}
+use Rattle.std.proofs.lemmas.List.{append-nil, get_or-drop, drop-drop, length-set, length-take-le, take_more_set}
 use Rattle.std.proofs.Math.Seq.{drop-append-add}
 use Rattle.std.proofs.lemmas.Bool.Decides.{nat_tests}
 use Rattle.std.specs.Char.{encode_utf8, len_utf8}
@@ -18,62 +18,13 @@ use Rattle.encoding_mem.proofs.AsciiRunLemmas.{run_units}
 use Rattle.encoding_mem.proofs.DestinationLemmas.{drop_past_set, take_into}
 use Rattle.encoding_mem.proofs.LongestPrefixLemmas.{behind_more}
 use Rattle.encoding_mem.proofs.UnitPrefixLemmas.{first_of, reads_text}
-use Rattle.encoding_mem.proofs.UnitWritingLemmas.{IsWritten, none_written, rest_length, units_written, written_units}
+use Rattle.encoding_mem.proofs.UnitWritingLemmas.{IsWritten, none_written, rest_length, units_written}
 use Rattle.encoding_mem.proofs.Utf16Lemmas.{plain_unit}
-
--- the lead is written last, over what an ASCII unit has there already
-put_one : (a b : ℕ) (dst : List ℕ) → 2 ≤ length dst → Adds dst 0 (a ∷ []) (set (set dst 0 b) 0 a) 1
-put_one a b [] room = absurd (omega arith)
-put_one a b (x ∷ dst) room = record { counted = refl; within = omega arith; list = refl }
 
 pub put_two : (a b : ℕ) (dst : List ℕ) → 2 ≤ length dst → Adds dst 0 (a ∷ b ∷ []) (set (set dst 1 b) 0 a) 2
 put_two a b [] room = absurd (omega arith)
 put_two a b (x ∷ []) room = absurd (omega arith)
 put_two a b (x ∷ y ∷ dst) room = record { counted = refl; within = omega arith; list = refl }
-
-pub short_one : (u lead : ℕ) (dst : List ℕ) → u < 0x80 → lead ≡ u → 2 ≤ length dst
-    → Adds dst 0 (encode_utf8_all (u ∷ [])) (set (set dst (bool_byte (leb 0x80 u)) (128 + u % 64)) 0 lead) (bool_byte (leb 0x80 u) + 1)
-short_one u lead dst low is room = rw (lt-leb 0x80 u low, encode_ascii u low, is) (put_one u (128 + u % 64) dst room)
-
-pub short_two : (u lead : ℕ) (dst : List ℕ) → 0x80 ≤ u → u < 0x800 → lead ≡ 192 + u / 64 → 2 ≤ length dst
-    → Adds dst 0 (encode_utf8_all (u ∷ [])) (set (set dst (bool_byte (leb 0x80 u)) (128 + u % 64)) 0 lead) (bool_byte (leb 0x80 u) + 1)
-short_two u lead dst from below is room = rw (le-leb 0x80 u from, encode_two u from below, is) (put_two (192 + u / 64) (128 + u % 64) dst room)
-
--- the last byte is written first, and what a shorter character has not is written over
-put_first : (a b c : ℕ) (dst : List ℕ) → 3 ≤ length dst → Adds dst 0 (a ∷ []) (set (set (set dst 0 c) 0 b) 0 a) 1
-put_first a b c [] room = absurd (omega arith)
-put_first a b c (x ∷ dst) room = record { counted = refl; within = omega arith; list = refl }
-
-put_second : (a b c : ℕ) (dst : List ℕ) → 3 ≤ length dst → Adds dst 0 (a ∷ c ∷ []) (set (set (set dst 1 c) 0 b) 0 a) 2
-put_second a b c [] room = absurd (omega arith)
-put_second a b c (x ∷ []) room = absurd (omega arith)
-put_second a b c (x ∷ y ∷ dst) room = record { counted = refl; within = omega arith; list = refl }
-
-put_third : (a b c : ℕ) (dst : List ℕ) → 3 ≤ length dst → Adds dst 0 (a ∷ b ∷ c ∷ []) (set (set (set dst 2 c) 1 b) 0 a) 3
-put_third a b c [] room = absurd (omega arith)
-put_third a b c (x ∷ []) room = absurd (omega arith)
-put_third a b c (x ∷ y ∷ []) room = absurd (omega arith)
-put_third a b c (x ∷ y ∷ z ∷ dst) room = record { counted = refl; within = omega arith; list = refl }
-
--- what is written for a unit, and its length
-abbrev pub PutsPlain : (u lead : ℕ) (dst : List ℕ) → Type 0
-PutsPlain u lead dst = Adds dst 0 (encode_utf8_all (u ∷ []))
-    (set (set (set dst (bool_byte (leb 0x80 u) + bool_byte (leb 0x800 u)) (128 + u % 64)) (bool_byte (leb 0x800 u)) (128 + u / 64 % 64)) 0 lead)
-    (bool_byte (leb 0x80 u) + bool_byte (leb 0x800 u) + 1)
-
-pub plain_one : (u lead : ℕ) (dst : List ℕ) → u < 0x80 → lead ≡ u → 3 ≤ length dst → PutsPlain u lead dst
-plain_one u lead dst low is room =
-    let below : u < 0x800 = omega (arith, low) in
-    rw (lt-leb 0x80 u low, lt-leb 0x800 u below, encode_ascii u low, is) (put_first u (128 + u / 64 % 64) (128 + u % 64) dst room)
-
-pub plain_two : (u lead : ℕ) (dst : List ℕ) → 0x80 ≤ u → u < 0x800 → lead ≡ 192 + u / 64 → 3 ≤ length dst → PutsPlain u lead dst
-plain_two u lead dst from below is room =
-    rw (le-leb 0x80 u from, lt-leb 0x800 u below, encode_two u from below, is) (put_second (192 + u / 64) (128 + u / 64 % 64) (128 + u % 64) dst room)
-
-pub plain_three : (u lead : ℕ) (dst : List ℕ) → 0x800 ≤ u → u < 0x10000 → lead ≡ 224 + u / 4096 → 3 ≤ length dst → PutsPlain u lead dst
-plain_three u lead dst from below is room =
-    let over : 0x80 ≤ u = omega (arith, from) in
-    rw (le-leb 0x80 u over, le-leb 0x800 u from, encode_three u from below, is) (put_third (224 + u / 4096) (128 + u / 64 % 64) (128 + u % 64) dst room)
 
 -- the start of four bytes, as long as a unit is, is its character
 abbrev IsStart : ℕ → List ℕ → Type 0
@@ -215,13 +166,19 @@ quad_put us old read new written quad w inside low q room =
     }
 
 -- where the last three units are put by themselves, all are put, and nothing behind them changes
-pub last_put : (us old : List ℕ) (read : ℕ) (new : List ℕ) (written : ℕ) (ys : List ℕ) (k : ℕ) → IsPutOver us old read new written → read + 3 ≡ length us
+pub last_put : (us old : List ℕ) (read : ℕ) (new : List ℕ) (written : ℕ) (ys : List ℕ) (k : ℕ) → IsPutOver us old read new written → read + 3 ≤ length us
     → IsUnitBoundary (take (length us - read) (drop read us)) 3 → length ys ≡ length (take (length new - written) (drop written new)) → k ≤ length ys → 3 ≤ k
     → take k ys ≡ units_in_utf8 (take 3 (take (length us - read) (drop read us))) → drop k ys ≡ drop k (take (length new - written) (drop written new))
-    → (take (written + k) (put_mid written (length new - written) new ys) ≡ units_in_utf8 us) × (drop (written + k) (put_mid written (length new - written) new ys) ≡ drop (written + k) old)
-last_put us old read new written ys k w all boundary size fits many wrote behind =
-    let m = units_written us new read new written ys 3 k w.so_far (omega (arith, rest_length us read, all)) boundary size fits wrote behind in
-    let past : written + k ≡ written + 3 + (k - 3) = omega arith in (
-      written_units us new (read + 3) (put_mid written (length new - written) new ys) (written + k) m ∙ ap units_in_utf8 (take_all (read + 3) us (omega (arith, all))),
-      m.behind ∙ ap (λ i. drop i new) past ∙ behind_more (written + 3) (k - 3) new new old refl w.far ∙ ap (λ i. drop i old) (sym past),
-    )
+    → IsWritten us old (read + 3) (put_mid written (length new - written) new ys) (written + k)
+last_put us old read new written ys k w inside boundary size fits many wrote behind =
+    let m = units_written us new read new written ys 3 k w.so_far (omega (arith, rest_length us read, inside)) boundary size fits wrote behind in
+    let past : written + k ≡ written + 3 + (k - 3) = omega arith in
+    record {
+      within = m.within;
+      size = m.size ∙ w.same;
+      room = m.room;
+      behind = m.behind ∙ ap (λ i. drop i new) past ∙ behind_more (written + 3) (k - 3) new new old refl w.far ∙ ap (λ i. drop i old) (sym past);
+      text = m.text;
+      split = m.split;
+      bytes = m.bytes;
+    }

@@ -3,7 +3,7 @@ use Rattle.encoding_mem.proofs.UnitWritingLemmas.{IsWritten}
 use Rattle.encoding_mem.proofs.plain_units.put_each.Given as goal
 
 abbrev pub invariant-units : goal.invariant-units
-invariant-units g l = record {
+invariant-units l = record {
   within : l.read ≤ l.count;
   few : l.written ≤ 3 * l.read;
   many : l.read ≤ l.written;
@@ -11,4 +11,4 @@ invariant-units g l = record {
 }
 
 abbrev pub decreases-units : goal.decreases-units
-decreases-units g l = l.count - l.read
+decreases-units l = l.count - l.read

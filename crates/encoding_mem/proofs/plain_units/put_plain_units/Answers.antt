@@ -14,3 +14,7 @@ returns-then-narrow_block-clause-text c =
     let e = c.narrow_block.ensures in
     e.copied c.if-narrow_block.true ∙ ascii_in_utf8 us 32 (omega (arith, c.if-units-lt-UNIT_BLOCK.false)) (e.low c.if-narrow_block.true)
     ∙ ap units_in_utf8 (whole us c.requires.few c.if-units-lt-UNIT_BLOCK.false)
+
+pub returns-else-narrow_block-clause-text : goal.returns-else-narrow_block-clause-text
+returns-else-narrow_block-clause-text c =
+    c.put_plain_block.ensures.text ∙ ap units_in_utf8 (whole c.args.units.now c.requires.few c.if-units-lt-UNIT_BLOCK.false)
