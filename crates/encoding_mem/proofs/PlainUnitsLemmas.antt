@@ -1,6 +1,6 @@
 -- Blocks of units in UTF-8.
 use Rattle.std.proofs.Common.{◌≡◌, ℕ, ◌+◌, ◌*◌, ◌-◌, ◌/◌, ◌%◌, ◌<◌, ◌≤◌, List, [], ◌∷◌, ◌++◌, length, take, drop, set, get_or, inl, inr, refl, sym, ◌∙◌, ap, arith, append_assoc, length-append, length-drop, encode_utf8_all}
-use Rattle.std.proofs.lemmas.Bool.{cases_eq, cases_lt, le-leb, lt-leb}
+use Rattle.std.proofs.lemmas.Bool.{cases_lt, le-leb, lt-leb}
 use Rattle.std.proofs.lemmas.Str.{encode_ascii, encodes-IsAscii, encodes-append, length-encode}
 use Rattle.std.proofs.lemmas.List.{append-nil, get_or-drop, drop-drop, length-set, length-take-le, take_more_set}
 use Rattle.std.proofs.Math.Seq.{drop-append-add}

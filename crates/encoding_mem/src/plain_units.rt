@@ -93,14 +93,17 @@ fn put_plain_block(units: &[u16], dst: &mut [u8]) -> usize
     let mut quads = [[0; 4]; UNIT_BLOCK];
     let mut at = 0;
     'quads: while at < UNIT_BLOCK {
-        quads[at] = quad_of(units[at]);
+        // By its bytes, of which the compiler makes vectors.
+        let [lead, middle, last, len] = quad_of(units[at]);
+        quads[at] = [lead, middle, last, len];
         at += 1;
     }
     let mut read = 0;
     let mut written = 0;
     'units: while read < UNIT_BLOCK - 3 {
-        dst[written..written + 4].copy_from_slice(&quads[read]);
-        written += quads[read][3] as usize;
+        let quad = quads[read];
+        dst[written..written + 4].copy_from_slice(&quad);
+        written += quad[3] as usize;
         read += 1;
     }
     // Nothing is written over what stands behind the last three, which have three bytes or more.
