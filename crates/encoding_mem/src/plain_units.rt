@@ -2,8 +2,7 @@
 
 ghost use Rattle.std.specs.Prelude.{◌≡◌, ℕ, ◌*◌, ◌<◌, ◌≤◌, [], ◌∷◌};
 ghost use Rattle.std.specs.Prelude.{length, take, drop, slice_index};
-ghost use Rattle.std.proofs.Common.{arith};
-ghost use Rattle.std.specs.Char.{len_utf8};
+ghost use Rattle.std.specs.Char.{encode_utf8, len_utf8};
 ghost use Rattle.std.specs.Str.{encode_utf8_all};
 ghost use Rattle.encoding_mem.specs.Conversions.{IsUnitBoundary, units_in_utf8};
 ghost use Rattle.encoding_mem.specs.calls.Writing.{Adds};
@@ -19,70 +18,52 @@ use std::simd::prelude::*;
 // text is not worth another test of a whole block.
 const MANY: usize = 64;
 
-// How units below a limit are put: without a branch that asks how many bytes one has.
-trait UnitWriter {
-    ghost limit: { ℕ };
-
-    // No surrogate is below the limit.
-    ghost plain: { limit ≤ 0xD800 };
-
-    // Puts a unit at the start, and returns its length.
-    fn put(unit: u16, dst: &mut [u8]) -> usize
-        requires low { unit < limit }
-        requires room { 3 ≤ length dst.old }
-        ensures adds { Adds dst.old 0 (encode_utf8_all (unit ∷ [])) dst.new result }
-        ensures few { result ≤ 3 };
-}
-
-// Units below 800 hex, which have two bytes at most.
-struct Short {}
-
-impl UnitWriter for Short {
-    ghost limit = { 0x800 };
-
-    ghost plain = { omega arith };
-
-    #[inline(always)]
-    fn put(unit: u16, dst: &mut [u8]) -> usize {
-        let is_two = unit >= 0x80;
-        let lead = if is_two { 0xC0 + unit / 64 } else { unit };
-        // Where it is ASCII, the lead is written over this.
-        dst[is_two as usize] = (0x80 + unit % 64) as u8;
-        dst[0] = lead as u8;
-        is_two as usize + 1
-    }
-}
-
-// Units below D800 hex, which have three bytes at most.
-struct Plain {}
-
-impl UnitWriter for Plain {
-    ghost limit = { 0xD800 };
-
-    ghost plain = { omega arith };
-
-    #[inline(always)]
-    fn put(unit: u16, dst: &mut [u8]) -> usize {
-        let is_two = unit >= 0x80;
-        let is_three = unit >= 0x800;
-        let short = if is_two { 0xC0 + unit / 64 } else { unit };
-        let lead = if is_three { 0xE0 + unit / 4096 } else { short };
-        // The last byte first: what a shorter character has not is written over.
-        dst[is_two as usize + is_three as usize] = (0x80 + unit % 64) as u8;
-        dst[is_three as usize] = (0x80 + unit / 64 % 64) as u8;
-        dst[0] = lead as u8;
-        is_two as usize + is_three as usize + 1
-    }
-}
-
-// Puts so many units at the start, each below the limit of the writer, and returns how many bytes
-// they have.
+// The UTF-8 of a unit below D800 hex, and in the fourth byte its length. Between them stand bytes
+// without a meaning.
 #[inline(always)]
-fn put_each<W: UnitWriter>(units: &[u16], count: usize, dst: &mut [u8]) -> usize
+fn quad_of(unit: u16) -> [u8; 4]
+    requires { unit < 0xD800 }
+    ensures length { slice_index result 3 ≡ len_utf8 unit }
+    ensures bytes { take (slice_index result 3) result ≡ encode_utf8 unit }
+{
+    let is_two = unit >= 0x80;
+    let is_three = unit >= 0x800;
+    let short = if is_two { 0xC0 + unit / 64 } else { unit };
+    let lead = if is_three { 0xE0 + unit / 4096 } else { short };
+    let middle = if is_three { unit / 64 } else { unit };
+    [
+        lead as u8,
+        (0x80 + middle % 64) as u8,
+        (0x80 + unit % 64) as u8,
+        is_two as u8 + is_three as u8 + 1,
+    ]
+}
+
+// Puts a unit below D800 hex at the start, and returns its length.
+#[inline(always)]
+fn put_unit(unit: u16, dst: &mut [u8]) -> usize
+    requires plain { unit < 0xD800 }
+    requires room { 3 ≤ length dst.old }
+    ensures adds { Adds dst.old 0 (encode_utf8_all (unit ∷ [])) dst.new result }
+    ensures some { 1 ≤ result }
+    ensures few { result ≤ 3 }
+{
+    let [lead, middle, last, len] = quad_of(unit);
+    // The last byte first: what a shorter character has not is written over.
+    dst[len as usize - 1] = last;
+    dst[len as usize / 2] = middle;
+    dst[0] = lead;
+    len as usize
+}
+
+// Puts so many units at the start, each below D800 hex, and returns how many bytes they have.
+#[inline(always)]
+fn put_each(units: &[u16], count: usize, dst: &mut [u8]) -> usize
     requires units { count ≤ length units.now }
     requires room { 3 * count ≤ length dst.old }
-    requires low { (k : ℕ) → k < count → slice_index units.now k < W.limit }
+    requires low { (k : ℕ) → k < count → slice_index units.now k < 0xD800 }
     ensures boundary { IsUnitBoundary units.now count }
+    ensures many { count ≤ result }
     ensures fits { result ≤ length dst.new }
     ensures text { take result dst.new ≡ units_in_utf8 (take count units.now) }
     ensures behind { drop result dst.new ≡ drop result dst.old }
@@ -90,9 +71,43 @@ fn put_each<W: UnitWriter>(units: &[u16], count: usize, dst: &mut [u8]) -> usize
     let mut read = 0;
     let mut written = 0;
     'units: while read < count {
-        written += W::put(units[read], &mut dst[written..]);
+        written += put_unit(units[read], &mut dst[written..]);
         read += 1;
     }
+    written
+}
+
+// Puts a block of units below D800 hex at the start, and returns how many bytes they have. The
+// first loop is one that the compiler turns into vectors. The second stores four bytes for each
+// unit, so that no branch asks how many it has: the next ones are written over what it has not.
+#[inline(always)]
+fn put_plain_block(units: &[u16], dst: &mut [u8]) -> usize
+    requires units { 32 ≤ length units.now }
+    requires room { 96 ≤ length dst.old }
+    requires plain { (k : ℕ) → k < 32 → slice_index units.now k < 0xD800 }
+    ensures boundary { IsUnitBoundary units.now 32 }
+    ensures fits { result ≤ length dst.new }
+    ensures text { take result dst.new ≡ units_in_utf8 (take 32 units.now) }
+    ensures behind { drop result dst.new ≡ drop result dst.old }
+{
+    let mut quads = [[0; 4]; UNIT_BLOCK];
+    let mut at = 0;
+    'quads: while at < UNIT_BLOCK {
+        // By its bytes, of which the compiler makes vectors.
+        let [lead, middle, last, len] = quad_of(units[at]);
+        quads[at] = [lead, middle, last, len];
+        at += 1;
+    }
+    let mut read = 0;
+    let mut written = 0;
+    'units: while read < UNIT_BLOCK - 3 {
+        let quad = quads[read];
+        dst[written..written + 4].copy_from_slice(&quad);
+        written += quad[3] as usize;
+        read += 1;
+    }
+    // Nothing is written over what stands behind the last three, which have three bytes or more.
+    written += put_each(&units[read..], 3, &mut dst[written..]);
     written
 }
 
@@ -108,13 +123,11 @@ pub(crate) fn put_plain_units(units: &[u16], dst: &mut [u8]) -> usize
     ensures behind { drop result dst.new ≡ drop result dst.old }
 {
     if units.len() < UNIT_BLOCK {
-        put_each::<Plain>(units, units.len(), dst)
+        put_each(units, units.len(), dst)
     } else if narrow_block(units, dst) {
         UNIT_BLOCK
-    } else if all_units_below(u16x32::from_slice(units), 0x800) {
-        put_each::<Short>(units, UNIT_BLOCK, dst)
     } else {
-        put_each::<Plain>(units, UNIT_BLOCK, dst)
+        put_plain_block(units, dst)
     }
 }
 
@@ -207,8 +220,8 @@ pub(crate) fn put_block(units: &[u16], dst: &mut [u8]) -> (usize, usize)
     if units.len() < MANY {
         return put_lanes(units, dst);
     }
-    if all_units_below(u16x32::from_slice(units), 0x800) {
-        return (UNIT_BLOCK, put_each::<Short>(units, UNIT_BLOCK, dst));
+    if all_units_below(u16x32::from_slice(units), 0xD800) {
+        return (UNIT_BLOCK, put_plain_block(units, dst));
     }
     put_chars(units, 0, UNIT_BLOCK, dst)
 }

@@ -187,6 +187,25 @@ rank_in_span rows key from to n span rank =
     absurd (omega (arith, high, low)))
     rank
 
+-- the rows of a span have its first number
+pub row_in_span : (rows : List (ℕ × ℕ)) (first from to k : ℕ) → IsSpan rows first from to → from ≤ k → k < to → (row_at rows k).0 ≡ first
+row_in_span rows first from to k span past early =
+    let low = from_start (row_at rows k) first (span.begins.others k past (omega (arith, span.inside))) in
+    let high = below_start (row_at rows k) (first + 1) (span.ends.below k early) in
+    omega (arith, low, high)
+
+-- and the row behind it has not
+pub row_past_span : (rows : List (ℕ × ℕ)) (first from to : ℕ) → IsSpan rows first from to → to < length rows → (row_at rows to).0 ≢ first
+row_past_span rows first from to span inside is =
+    let high = from_start (row_at rows to) (first + 1) (span.ends.others to (omega arith) inside) in
+    omega (arith, high, is)
+
+-- nor has the row before it
+pub row_before_span : (rows : List (ℕ × ℕ)) (first from to k : ℕ) → IsSpan rows first from to → k < from → (row_at rows k).0 ≢ first
+row_before_span rows first from to k span early is =
+    let low = below_start (row_at rows k) first (span.begins.below k early) in
+    omega (arith, low, is)
+
 -- ---- the row with a first number
 
 -- the row at a place, in the part that has it alone

@@ -6,6 +6,7 @@ ghost use Rattle.encoding_tables.specs.calls.PackedLists.{IsPacked};
 ghost use Rattle.encoding_tables.specs.PackedRows.{flat_list};
 
 use crate::pointer_rows::PointerRows;
+use crate::search::search;
 use crate::sorted_rows::SortedRows;
 use encoding_mem::scalar::scalar_of;
 use std::marker::Model;
@@ -64,10 +65,10 @@ impl<'a> Flat<'a> {
         ensures pointer { result ≡ first_pointer self.now c from to }
         ensures before { IfSome result (λ p. p < to) }
     {
-        let entry = c as u32;
-        let offset = self.by_entry.rank((entry, from));
-        match self.by_entry.rows().get(offset) {
-            Some((first, pointer)) if *first == entry && *pointer < to => Some(*pointer),
+        let rows = self.by_entry.rows_of(c as u32);
+        let (below, _) = search(rows, (c as u32, from));
+        match &rows[below..] {
+            [(_, pointer), ..] if *pointer < to => Some(*pointer),
             _ => None,
         }
     }
@@ -80,16 +81,11 @@ impl<'a> Flat<'a> {
         ensures pointer { result ≡ last_pointer self.now c from to }
         ensures before { IfSome result (λ p. p < to) }
     {
-        let entry = c as u32;
-        let behind = self.by_entry.rank((entry, to));
-        if behind == 0 {
-            return None;
-        }
-        let (first, pointer) = self.by_entry.rows()[behind - 1];
-        if first == entry && pointer >= from {
-            Some(pointer)
-        } else {
-            None
+        let rows = self.by_entry.rows_of(c as u32);
+        let (below, _) = search(rows, (c as u32, to));
+        match &rows[..below] {
+            [.., (_, pointer)] if *pointer >= from => Some(*pointer),
+            _ => None,
         }
     }
 }

@@ -1,10 +1,9 @@
 //! Rows in order, with a directory that says where the rows of each first number begin, so that a
-//! search looks at the rows of one first number alone.
+//! search is handed the rows of one first number alone.
 
-ghost use Rattle.std.specs.Prelude.{◌≡◌, List, ℕ};
-ghost use Rattle.encoding_tables.specs.calls.SortedRows.{AreRising, IsRank, IsDirectory, IsSpan};
+ghost use Rattle.std.specs.Prelude.{◌≡◌, List, ℕ, slice_range};
+ghost use Rattle.encoding_tables.specs.calls.SortedRows.{AreRising, IsDirectory, IsSpan};
 
-use crate::search::search;
 use std::marker::Model;
 
 /// Rows in order, fewer than 2^16.
@@ -33,20 +32,15 @@ impl SortedRows {
         SortedRows { rows, begins }
     }
 
-    /// The rows.
+    /// The rows with a first number.
     #[inline(always)]
-    pub(crate) fn rows(&self) -> &[(u32, u32)]
-        ensures { result.now ≡ self.now }
+    pub(crate) fn rows_of(&self, first: u32) -> &[(u32, u32)]
+        ensures { (from : ℕ) × (to : ℕ) × IsSpan self.now first from to
+            × (result.now ≡ slice_range self.now from to) }
     {
-        self.rows.as_slice()
-    }
-
-    /// How many rows are below a key.
-    #[inline(always)]
-    pub(crate) fn rank(&self, key: (u32, u32)) -> usize
-        ensures { IsRank self.now key result }
-    {
-        rank_in(self.rows.as_slice(), self.begins.as_slice(), key)
+        let rows = self.rows.as_slice();
+        let (begin, end) = span_in(rows, self.begins.as_slice(), first);
+        &rows[begin..end]
     }
 }
 
@@ -62,15 +56,4 @@ fn span_in(rows: &[(u32, u32)], begins: &[u16], first: u32) -> (usize, usize)
     } else {
         (rows.len(), rows.len())
     }
-}
-
-// How many rows are below a key, by a search of the rows with its first number.
-#[inline(always)]
-fn rank_in(rows: &[(u32, u32)], begins: &[u16], key: (u32, u32)) -> usize
-    requires rising { AreRising rows.now }
-    requires directory { IsDirectory rows.now begins.now }
-    ensures { IsRank rows.now key result }
-{
-    let (begin, end) = span_in(rows, begins, key.0);
-    begin + search(&rows[begin..end], key).0
 }

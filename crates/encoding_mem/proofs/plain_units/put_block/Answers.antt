@@ -8,6 +8,6 @@ returns-then-narrow_block-clause-text c =
     let e = c.narrow_block.ensures in
     e.copied c.if-narrow_block.true ∙ ascii_in_utf8 c.args.units.now 32 c.requires.units (e.low c.if-narrow_block.true)
 
-pub put_each-requires-clause-low : goal.put_each-requires-clause-low
-put_each-requires-clause-low c =
-    below_run c.args.units.now 0 32 32 0x800 c.requires.units (λ k none. absurd (omega arith)) (sym (c.all_units_below.ensures.all c.if-all_units_below.true))
+pub put_plain_block-requires-clause-plain : goal.put_plain_block-requires-clause-plain
+put_plain_block-requires-clause-plain c =
+    below_run c.args.units.now 0 32 32 0xD800 c.requires.units (λ k none. absurd (omega arith)) (sym (c.all_units_below.ensures.all c.if-all_units_below.true))
