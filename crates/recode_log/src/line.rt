@@ -80,10 +80,10 @@ impl LogLine {
     }
 }
 
-/// Writes a row of a message at the start of `dst`, in the form of a line of the log, but with
-/// another word: the word, which is at most 32 bytes, two decimal numbers with a space between, and
-/// a line feed. Returns its length in bytes, line feed included. The bytes after it stay as they
-/// were.
+/// Writes a row of a message at the start of `dst`, in the form of a line of the log with another
+/// word. The row is that word, which is at most 32 bytes, two decimal numbers with a space between,
+/// and a line feed. Returns its length in bytes, line feed included. The bytes after it stay as
+/// they were.
 pub fn write_message(dst: &mut [u8; 64], word: &[u8], first: u64, second: u32) -> usize
     requires { length word.now ≤ 32 }
     ensures size { result ≡ length (row_bytes word.now first second) }
