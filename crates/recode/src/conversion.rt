@@ -86,8 +86,8 @@ fn tell_fault<L: Write>(log: &mut Counted<L>, fault: Fault)
 
 /// Runs the job, flushes the writer, then the log, and returns the status.
 ///
-/// - 0 (`FAITHFUL`): all was converted and no call failed, output and log are whole, and nothing
-///   was lost: no piece of the input is malformed, and the output reads back as the input's text.
+/// - 0 (`FAITHFUL`): all was converted, no call failed, and output and log are whole. Nothing was
+///   lost: no piece of the input is malformed, and the output reads back as the input's text.
 /// - 1 (`NOT_FAITHFUL`): all was converted, and something was lost. The log has a line for each
 ///   malformed sequence and each character without bytes; it can be empty if a character was
 ///   written as bytes that do not read back as it. No character is written so if

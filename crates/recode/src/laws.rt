@@ -172,9 +172,9 @@ pub fn output_reads_back()
 {}
 
 /// What a job writes, read back in its output encoding without mark handling. Bytes agree with a
-/// text if the pieces that they decide are it, and at most one escape is left; they are broken if
+/// text if the pieces that they decide are it, and at most one escape is left. They are broken if
 /// such a piece is malformed, or another character than the text has there. What was written for
-/// any text so far agrees with it or is broken, also with an escape after it; and the whole output
+/// any text so far agrees with it or is broken, also with an escape after it. The whole output
 /// reads as the text, or what stands before its last escape is broken. What is broken stays so,
 /// whatever follows, and never reads as the text.
 pub fn read_back()
@@ -221,10 +221,10 @@ pub fn whole_texts_are_the_same()
         → (log_of j x ≡ []) ↔ (IsFalse malformed × IsFalse lost) }
 {}
 
-/// Two runs on one job and one input that came to their end wrote the same bytes to output and log,
-/// and their reports differ in `calls` alone: the cuts of the reader, the sizes of the buffers and
-/// the kind of the pivot change nothing. `known` says it of readers whose contracts say their
-/// bytes, `bytes` of such writers.
+/// Two runs on one job and one input that came to their end wrote the same bytes to output and log.
+/// Their reports differ in `calls` alone: the cuts of the reader, the sizes of the buffers and the
+/// kind of the pivot change nothing. `known` says it of readers whose contracts say their bytes,
+/// `bytes` of such writers.
 pub fn runs_agree()
     ensures written { (j : Job) (x : List ℕ) (w w' v v' : Written) (p q : Report)
         → IsConverted w w' j x p → IsConverted v v' j x q → WroteTheSame w w' v v' }
@@ -239,9 +239,9 @@ pub fn runs_agree()
 {}
 
 /// If no call of a device fails, a run returns `Ok` exactly when the input is within the limit and
-/// the policy does not stop at a character of it, and else `TooLong` or `Unmappable`. The reader's
-/// contract says its bytes; if it does not, the result is still one of these, and `Unmappable`
-/// under `Policy::Stop` alone.
+/// the policy does not stop at a character of it. Else it returns `TooLong` or `Unmappable`. The
+/// reader's contract says its bytes; if it does not, the result is still one of these, and
+/// `Unmappable` under `Policy::Stop` alone.
 pub fn answers_without_faults()
     ensures ok { (j : Job) (x : List ℕ) (s s' : Devices) (answer : Result Report Fault)
         → s'.failures ≡ s.failures → s.input ≡ Some x → RunReturns s s' j answer
@@ -297,8 +297,8 @@ pub fn steps_are_a_run()
         → Stops t1 t2 j.limit s f → Fails t t2 j f }
 {}
 
-/// Where a conversion stands after a step, it has converted the longest list of pieces that the
-/// input so far decides, and each piece that ends three or more bytes before the end of what was
+/// After a step, a conversion has converted the longest list of pieces that the input so far
+/// decides. It has converted each piece that ends three or more bytes before the end of what was
 /// read, whatever bytes follow. What it has converted stands whatever numbers follow.
 pub fn decided_pieces_are_converted()
     ensures decided { (t t1 : Devices) (j : Job) (s : State) (x : List ℕ) (ps : List Piece)

@@ -141,10 +141,10 @@ impl<'t> Session<'t> {
     ///   rest.
     /// - `Err`: a call of the reader (`Read`), the writer (`Write`) or the log (`Log`) failed, the
     ///   input has more bytes than the job's limit (`TooLong`), or the policy stopped at a
-    ///   character (`Unmappable`). Output and log have a prefix of what was still to be written; at
-    ///   `Read` and `TooLong` the step wrote nothing, and at `Unmappable` all that comes before the
-    ///   character, the escape that would come before its reference, and its line. The session is
-    ///   over.
+    ///   character (`Unmappable`). Output and log have a prefix of what was still to be written. At
+    ///   `Read` and `TooLong` the step wrote nothing. At `Unmappable` it wrote all that comes
+    ///   before the character, the escape that would come before its reference, and its line. The
+    ///   session is over.
     ///
     /// Conditions: the session is not over (`is_over`), the buffers are enough
     /// (`Buffers::is_enough`), and fewer than 2^64 - 1 calls of each device have failed
@@ -219,14 +219,14 @@ impl<'t> Session<'t> {
 ///   were written. They depend on the input and the job alone: not on how reads are cut, on the
 ///   sizes of the buffers or on the kind of the pivot. The codecs were called at least twice (four
 ///   times if the input has a byte), three more times for each malformed sequence and once more for
-///   each lost character; and at most 37 times for each byte of the input, and 9 times more.
+///   each lost character. They were called at most 37 times for each byte of the input, and 9 times
+///   more.
 /// - `Err`: a call of the reader (`Read`), the writer (`Write`) or the log (`Log`) failed, and no
-///   other; or none failed, and the input has more bytes than the job's limit (`TooLong`), or the
+///   other. Or none failed, and the input has more bytes than the job's limit (`TooLong`), or the
 ///   policy is `Policy::Stop` and a character has no bytes (`Unmappable`). Output and log have a
-///   prefix of what is right for the bytes read, however they go on; at `Read` and `TooLong` it is
+///   prefix of what is right for the bytes read, however they go on. At `Read` and `TooLong` it is
 ///   all that the bytes before the last read decide, with each piece that ends three or more bytes
-///   before their end; at `Unmappable` it is all that comes before the
-///   character, and its line.
+///   before their end. At `Unmappable` it is all that comes before the character, and its line.
 ///
 /// Conditions: the job is valid (`Job::is_valid`), the buffers are enough (`Buffers::is_enough`),
 /// and fewer than 2^64 - 1 calls of each device have failed (`Counted::failures`).

@@ -16,8 +16,8 @@ pub record CanConvert (s : State) : Type 0 where
 
 -- Of these bytes the rest is left to convert, whatever comes after them (nothing after the last): what was still to be
 -- written is what was written, then what is still to be written now. Of n chunks that ended, calls of codecs were at
--- most 3 each, with 4 for each character and 2 for each item; and at least 2 each, with 3 for each malformed sequence
--- and one for each lost character.
+-- most 3 each, with 4 for each character and 2 for each item. They were at least 2 each, with 3 for each malformed
+-- sequence and one for each lost character.
 pub record ConvertsTo (before after : WritersView) (s s' : State) (last : Bool) (bytes rest : List ℕ) (n : ℕ) : Type 0 where
   pub counted : s'.counts.read + length rest ≡ s.counts.read + length bytes
   pub target : s'.coding ≡ s.coding

@@ -31,7 +31,7 @@ text_items t last text = whole_items (reference_form t.policy) t.coding last t.s
 
 -- Of this text the rest is left to encode: what was to be written for it is what was passed, then what is to be written
 -- for the rest. Of n texts that ended, calls of codecs were at most 2 each, with one for each character and 2 for each
--- item; and at least one each, with one for each lost character that was logged.
+-- item. They were at least one each, with one for each lost character that was logged.
 pub record EncodesTo (before after : WritersView) (t t' : TargetState) (last : Bool) (text rest : List ℕ) (n : ℕ) : Type 0 where
   pub pays : PassesItems before after t.counts t'.counts t.policy (text_items t last text) (text_items t' last rest)
   pub index : t'.counts.index + length rest ≡ t.counts.index + length text
