@@ -181,8 +181,8 @@ impl Encoding {
     }
 
     /// Whether each byte below 80 stands for the character of its number, wherever a character
-    /// begins, and such a character is written as that byte: true for all encodings but UTF-16BE,
-    /// UTF-16LE, replacement and ISO-2022-JP.
+    /// begins, and such a character is written as that byte. It is true for all encodings but
+    /// UTF-16BE, UTF-16LE, replacement and ISO-2022-JP.
     pub fn is_ascii_compatible(self) -> bool
         ensures { result ≡ is_ascii_compatible_of self }
     {

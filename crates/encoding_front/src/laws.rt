@@ -78,8 +78,8 @@ pub fn texts_read_back()
 
 /// What is written for a text in an output encoding, by any indexes that were accepted, read back
 /// in that encoding. What was written for the text so far agrees with it or is broken, also with an
-/// escape after it; and the whole output reads as the text, or what stands before its last escape
-/// is broken. What is broken stays so, whatever follows, and never reads as the text.
+/// escape after it. The whole output reads as the text, or what stands before its last escape is
+/// broken. What is broken stays so, whatever follows, and never reads as the text.
 pub fn read_back()
     ensures texts { (t : IndexLists) (e : Encoding) → AreAcceptedTables t
         → ReadsBackOrBreaks (pieces_of t (output_encoding_of e)) (coding_of t e) }
@@ -147,9 +147,10 @@ pub fn input_is_its_pieces()
         → length (output ref (coding_of t to) (marked_text t mark from x)) ≤ 13 * length x + 3 }
 {}
 
-/// A call of a decoder, with any handling of marks and into any destination, that read all has
+/// A call of a decoder that read all, with any handling of marks and into any destination, has
 /// passed or reported each piece that ends three or more bytes before the end of what was read,
-/// whatever follows: one that stops at a malformed sequence, and one that writes U+FFFD for it.
+/// whatever follows. This holds of a call that stops at a malformed sequence, and of one that
+/// writes U+FFFD for it.
 pub fn pieces_are_passed_soon()
     ensures reported { (v v' : DecoderView) (src : List ℕ) (last : Bool) (read : ℕ)
         → (there : Destination) (free room mark : ℕ)

@@ -99,7 +99,7 @@ pub record EndsWithReference (e : Coding) (s : EscapeState) (prefix written : Li
 abbrev pub Puts : Coding → EscapeState → (text written : List ℕ) → EscapeState → Type 0
 Puts e s text written s' = written ≡ open_from Decimal e s text ++ e.escape (last_set e s text) s'
 
--- A call with replacement on a text, into size bytes, the last of which are kept back: what is written is what the text
+-- A call with replacement on a text, into size bytes, the last of which are kept back. What is written is what the text
 -- that was read stands for, with references, and after it no more than the escape to the set that is then in force;
 -- lost says whether there is a reference. Only a reference reaches into the kept bytes, and if one ends there, or where
 -- they begin, nothing more is read or written.

@@ -76,7 +76,7 @@ pub record DecoderView : Type 0 where
   pub finished : Bool
 
 -- The pieces of what is to come are those of what is held and of what follows, in the encoding in force or after a
--- mark; what is held is a prefix of a mark, if one is sought. So it is with the encoding that the input turns out to
+-- mark. What is held is a prefix of a mark, if one is sought. So it is with the encoding that the input turns out to
 -- be in, and the room is that of the one in force.
 pub record IsOpenedBy (v : DecoderView) : Type 0 where
   pub pieces : (x : List ℕ) → v.state.pieces x ≡ sought_pieces v.opening.sought v.own.pieces (v.opening.held ++ x)
