@@ -126,8 +126,8 @@ impl<'a> LeadByteRule for Big5<'a> {
 }
 
 /// The decoder of Big5, by its index (the Encoding Standard, section 11.1.1). Bytes are
-/// hexadecimal: 00 to 7F are ASCII; a lead from 81 to FE and a trail from 40 to 7E or A1 to FE are
-/// the entry at the pointer `(lead - 81) * 157 + (trail - offset)`; the offset is 40 for a trail
+/// hexadecimal. 00 to 7F are ASCII. A lead from 81 to FE and a trail from 40 to 7E or A1 to FE are
+/// the entry at the pointer `(lead - 81) * 157 + (trail - offset)`. The offset is 40 for a trail
 /// below 7F, and else 62. Four pointers give a letter and a combining mark.
 ///
 /// 80 and FF are malformed, and so is a lead at the end. A lead with a trail with which it gives
@@ -149,9 +149,9 @@ impl<'a> CodecDecoder<LeadByteDecoderRule<Big5<'a>>> {
     }
 }
 
-/// The encoder of Big5, by its index (the Encoding Standard, section 11.1.2). ASCII is itself;
-/// another character is the lead and the trail of its least pointer from 5024 on, or of its
-/// greatest for U+2550, U+255E, U+2561, U+256A, U+5341 and U+5345; one without such a pointer is
+/// The encoder of Big5, by its index (the Encoding Standard, section 11.1.2). ASCII is itself.
+/// Another character is the lead and the trail of its least pointer from 5024 on, or of its
+/// greatest for U+2550, U+255E, U+2561, U+256A, U+5341 and U+5345. One without such a pointer is
 /// unmappable. It has no state.
 #[derive(Drop)]
 pub struct Big5Encoder<'a> {

@@ -123,9 +123,9 @@ fn after_8f(jis0212: &Flat<'_>, rest: &[u8], last: bool) -> FirstPiece
 }
 
 /// The decoder of EUC-JP, by the indexes jis0208 and jis0212 (the Encoding Standard, section
-/// 12.1.1). Bytes are hexadecimal: 00 to 7F are ASCII; 8E and a byte from A1 to DF are halfwidth
-/// katakana; two bytes from A1 to FE are the entry of jis0208 at their pointer, and 8F and two such
-/// bytes that of jis0212.
+/// 12.1.1). Bytes are hexadecimal. 00 to 7F are ASCII, and 8E and a byte from A1 to DF are
+/// halfwidth katakana. Two bytes from A1 to FE are the entry of jis0208 at their pointer; 8F and
+/// two such bytes are that of jis0212.
 ///
 /// Other first bytes are malformed, and so is a lead at the end. A lead with a byte with which it
 /// gives nothing is malformed: both bytes, but the lead alone if the other is ASCII. After 8F and a
@@ -192,9 +192,9 @@ fn bytes_of_pointer(pointer: u32) -> Bytes
 }
 
 /// The encoder of EUC-JP, by the index jis0208 (the Encoding Standard, section 12.1.2). ASCII,
-/// U+00A5 (5C) and U+203E (7E) are one byte, halfwidth katakana is 8E and a byte; another character
-/// is two bytes, by its least pointer below 8836, and U+2212 is looked up as U+FF0D. One without a
-/// pointer is unmappable: jis0212 is never written. It has no state.
+/// U+00A5 (5C) and U+203E (7E) are one byte, and halfwidth katakana is 8E and a byte. Another
+/// character is two bytes, by its least pointer below 8836; U+2212 is looked up as U+FF0D. One
+/// without a pointer is unmappable: jis0212 is never written. It has no state.
 #[derive(Drop)]
 pub struct EucJpEncoder<'a> {
     jis0208: Flat<'a>,

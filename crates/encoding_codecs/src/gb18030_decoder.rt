@@ -186,9 +186,10 @@ fn first_piece_of_four(c: Option<char>) -> FirstPiece
 }
 
 /// The decoder of gb18030 and of GBK, by the index gb18030 and its ranges (the Encoding Standard,
-/// sections 10.1.1 and 10.2.1). Bytes are hexadecimal: 00 to 7F are ASCII, 80 is U+20AC; a lead (81
-/// to FE) and a trail (40 to 7E, 80 to FE) are the entry at their pointer; four bytes, of which the
-/// second and fourth are 30 to 39 and the third 81 to FE, are the value of the ranges at theirs.
+/// sections 10.1.1 and 10.2.1). Bytes are hexadecimal. 00 to 7F are ASCII, and 80 is U+20AC. A lead
+/// (81 to FE) and a trail (40 to 7E, 80 to FE) are the entry at their pointer. Four bytes, of which
+/// the second and fourth are 30 to 39 and the third 81 to FE, are the value of the ranges at
+/// theirs.
 ///
 /// FF is malformed, and so are a lead, or the beginning of four bytes, at the end. A lead with a
 /// byte with which it gives nothing is malformed: both bytes, but the lead alone if the other is

@@ -199,9 +199,9 @@ impl<'a> CodecDecoder<LeadByteDecoderRule<ShiftJis<'a>>> {
 }
 
 /// The encoder of Shift_JIS, by the index jis0208 (the Encoding Standard, section 12.3.2). U+0000
-/// to U+0080, U+00A5 (5C), U+203E (7E) and halfwidth katakana (A1 to DF) are one byte; another
-/// character is two, by its least pointer outside 8272 to 8835, and U+2212 is looked up as U+FF0D.
-/// One without a pointer is unmappable. It has no state.
+/// to U+0080, U+00A5 (5C), U+203E (7E) and halfwidth katakana (A1 to DF) are one byte. Another
+/// character is two, by its least pointer outside 8272 to 8835; U+2212 is looked up as U+FF0D. One
+/// without a pointer is unmappable. It has no state.
 #[derive(Drop)]
 pub struct ShiftJisEncoder<'a> {
     jis0208: Flat<'a>,
