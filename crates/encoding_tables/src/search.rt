@@ -12,9 +12,9 @@ fn is_below(row: (u32, u32), key: (u32, u32)) -> bool
     row.0 < key.0 || row.0 == key.0 && row.1 < key.1
 }
 
-/// How many of some rows are below `key`, which is the position of the first row that is not, if
-/// there is one; and how many rows were compared with it: at most the number of binary digits of
-/// how many rows there are.
+/// Of the two numbers that are returned, the first is how many of some rows are below `key`: the
+/// position of the first row that is not, if there is one. The second is how many rows were
+/// compared with `key`: at most the number of binary digits of how many rows there are.
 ///
 /// A row is below another by its first number, and by the second if the first are equal. The rows
 /// rise strictly in this order, which no rows and one row do. A comparison of neighbours tests it:

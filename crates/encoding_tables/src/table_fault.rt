@@ -21,8 +21,8 @@ pub enum TableFault {
     #[error("the entry at pointer {0} stands where Shift_JIS has end-user-defined characters")]
     Reserved(u32),
     /// This row, counted from 0, is the first whose pointer is above 1237575 or not above that of
-    /// the row before; if there is none, the first that gives a valid pointer a value that is no
-    /// scalar from U+0080, or is not above all values of earlier rows.
+    /// the row before. If there is none, it is the first that gives a valid pointer a value that is
+    /// no scalar from U+0080, or is not above all values of earlier rows.
     #[error("row {0} of the ranges is out of order or gives a wrong value")]
     Ranges(usize),
     /// There was no memory for it.

@@ -243,7 +243,7 @@ impl Tables {
     }
 
     /// The character at a pointer of the GB18030 ranges, or `None` if the pointer is not a valid
-    /// one and before the first row (the Encoding Standard, section 5, "index gb18030 ranges code
+    /// one or is before the first row (the Encoding Standard, section 5, "index gb18030 ranges code
     /// point"). The condition, that they are there, is tested by `has`.
     pub fn range_value(&self, pointer: u32) -> Option<char>
         requires { has self.now IndexKind.Gb18030Ranges ≡ true }
