@@ -29,8 +29,8 @@ pub record AgreesWith (e : Coding) (pieces : List ℕ → List Piece) (bytes t :
 abbrev pub AgreesOrBreaks : Coding → (List ℕ → List Piece) → List ℕ → List ℕ → Type 0
 AgreesOrBreaks e pieces bytes t = AgreesWith e pieces bytes t ⊎ IsBroken pieces bytes t
 
--- What is written for any text agrees with it or is broken (`IsBroken`), also with an escape after
--- it; and the whole output reads as the text, or what stands before its last escape is broken.
+-- What is written for any text agrees with it or is broken (`IsBroken`), also with an escape after it. The whole
+-- output reads as the text, or what stands before its last escape is broken.
 pub record ReadsBackOrBreaks (pieces : List ℕ → List Piece) (e : Coding) : Type 0 where
   pub so_far : (ref : Reference) (t : List ℕ) → all_scalars t ≡ true → AgreesOrBreaks e pieces (open_from ref e Ascii t) t
   pub escaped : (ref : Reference) (t : List ℕ) (s : EscapeState) → all_scalars t ≡ true

@@ -8,7 +8,7 @@ pub enum DecoderResult {
     /// is decoded.
     InputEmpty,
     /// Fewer than 4 bytes, or 2 units of UTF-16, are free after what is written, and something is
-    /// left to do: make room, and call again with what is unread and `last` as it was, even if
+    /// left to do. Make room, and call again with what is unread and `last` as it was, even if
     /// nothing is unread.
     OutputFull,
     /// A malformed sequence. The first number is its length in bytes, 1 to 4; the second is how

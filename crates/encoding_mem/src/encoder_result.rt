@@ -8,7 +8,7 @@ pub enum EncoderResult {
     /// escape to ASCII. Hand in what follows, if anything does.
     InputEmpty,
     /// The next escape or character does not fit into what is free after what is written, and
-    /// something is left to do: make room, and call again with what is unread and `last` as it was,
+    /// something is left to do. Make room, and call again with what is unread and `last` as it was,
     /// even if nothing is unread. No step of an encoder of these libraries needs more than 4 bytes.
     OutputFull,
     /// The character that was read last has no bytes in the target. The escape that must stand

@@ -1,9 +1,9 @@
 //! Checks of texts and conversions between them, UTF-8, and what every decoder and encoder stands
 //! on.
 //!
-//! The functions of this crate are those of encoding_rs's module `mem`, and more: whether bytes,
-//! units of UTF-16 or text are ASCII, Latin1, well-formed or from right to left, and how far; and
-//! conversions among Latin1, UTF-8 and UTF-16. They need no index.
+//! The functions of this crate are those of encoding_rs's module `mem`, and more. Some return
+//! whether bytes, units of UTF-16 or text are ASCII, Latin1, well-formed or from right to left, and
+//! how far. Others convert among Latin1, UTF-8 and UTF-16. None needs an index.
 //!
 //! `RawDecoder` and `RawEncoder` are the calls of a codec on slices; `Utf8Decoder` and
 //! `Utf8Encoder` are two of them. How they are used stands with the traits: the caller keeps what

@@ -53,9 +53,9 @@ Reports InputEmpty pending taken = AreWellFormed taken
 Reports OutputFull pending taken = AreWellFormed taken
 Reports (Malformed a b) pending taken = (pending ≡ b) × (a ≤ 4) × (b ≤ 3) × (a + b ≤ 6) × ((prefix : List Piece) × AreWellFormed prefix × (taken ≡ prefix ++ (malformed a ∷ [])))
 
--- A call of a decoder took pieces that pass a given test, and wrote their scalars; the bytes
--- pending before and read are those of the pieces and those pending now; and whatever follows
--- (nothing, if it is the last), the pieces to come were the ones taken, then those to come now.
+-- A call of a decoder took pieces that pass a given test, and wrote their scalars. The bytes pending
+-- before and read are those of the pieces and those pending now. Whatever follows (nothing, if it is
+-- the last), the pieces to come were the ones taken, then those to come now.
 pub record Takes (WellFormed : List Piece → Type 0) (before after : List ℕ → List Piece) (src : List ℕ) (last : Bool) (pending_before pending_after read : ℕ) (Writes : List ℕ → Type 0) : Type 0 where
   pub taken : List Piece
   pub well_formed : WellFormed taken

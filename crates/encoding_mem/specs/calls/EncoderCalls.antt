@@ -58,9 +58,9 @@ TextGoesOn last InputEmpty = last ≡ false
 TextGoesOn last OutputFull = last ≡ false
 TextGoesOn last (Unmappable c) = Unit {0}
 
--- From any index on, the items of a text are the bytes that an encoder's call wrote, those that
--- its result asks for, and the items of the rest; what it read has bytes, but for one character
--- reported; and if more may follow, the rest ends in the set that the text ends in.
+-- From any index on, the items of a text are the bytes that an encoder's call wrote, those that its
+-- result asks for, and the items of the rest. What it read has bytes, but for one character
+-- reported. If more may follow, the rest ends in the set that the text ends in.
 pub record EncodesItems (ref : Reference) (e : Coding) (last : Bool) (outcome : EncoderResult) (s : EscapeState) (text written : List ℕ) (s' : EscapeState) (rest : List ℕ) : Type 0 where
   pub prefix : List ℕ
   pub split : text ≡ prefix ++ rest

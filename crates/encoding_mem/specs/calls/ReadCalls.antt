@@ -97,9 +97,9 @@ ReadsWholeAs e last pieces now s t s' rest =
 abbrev pub NeverReadsWhole : Coding → Bool → (List ℕ → List Piece) → EscapeState → List ℕ → Type 0
 NeverReadsWhole e last pieces s t = (ref : Reference) (u : List ℕ) → (IsTrue last → u ≡ []) → ¬ (ReadsWhole ref e pieces s (t ++ u))
 
--- The verdict on an encoder's call: if the pieces that a decoder took of its bytes are well-formed
--- and are the characters read, the text is read back exactly if the rest is, and the decoder still
--- reads along (`HoldsAfter`); if not, the text is never read back.
+-- The verdict on an encoder's call: if the pieces that a decoder took of its bytes are well-formed and are the
+-- characters read, the text is read back exactly if the rest is, and the decoder still reads along (`HoldsAfter`). If
+-- not, the text is never read back.
 pub record CallVerdict (e : Coding) (pieces_from : EscapeState → List ℕ → List Piece) (pieces now : List ℕ → List Piece) (last : Bool) (outcome : EncoderResult) (s : EscapeState) (t prefix : List ℕ) (taken : List Piece) (s' : EscapeState) (rest : List ℕ) : Type 0 where
   pub along : AreWellFormed taken → text taken ≡ prefix → HoldsAfter e pieces_from last outcome s' rest now
   pub agrees : AreWellFormed taken → text taken ≡ prefix → ReadsWholeAs e last pieces now s t s' rest
