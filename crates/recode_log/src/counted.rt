@@ -11,7 +11,7 @@ use std::io::{Read, Write};
 /// A reader or a writer, and how many of its calls have failed: what calls of `recode` are given
 /// for the input, the output and the log.
 ///
-/// A call fails that returns an `Err`, an interrupted one too, and so does a write of some bytes
+/// A call that returns an `Err` has failed, an interrupted one too. So has a write of some bytes
 /// that takes none. A read that gives no bytes is the end, and no failure.
 #[derive(Debug, Drop)]
 pub struct Counted<T> {
