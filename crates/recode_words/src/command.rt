@@ -107,8 +107,8 @@ fn default_option<'a>(
         .help(help)
 }
 
-// `--list`, at which the parse ends, as it does at `--version`: so the options that have to be there
-// may be left out.
+// `--list`, at which the parse ends, as it does at `--version`: so required options may be left
+// out.
 fn list_flag<'a>(alloc: Global) -> Arg<'a>
     ensures rule { rule_of result ≡ list_rule }
     ensures local { result.global ≡ false }

@@ -115,11 +115,11 @@ fn refusal(
 ///
 /// The defaults are `.`, `sniff`, `decimal`, `utf8` and 2^48, which is also the greatest N; N is
 /// decimal digits with no sign. These are refused: an option that is given twice, one with no
-/// value, an unknown one, and a word that is no option. An empty label or folder is a value as any
-/// other.
+/// value, an unknown one, and a word that is no option. An empty label or folder is a value like
+/// any other.
 ///
-/// The error is `Refused` with a text for the log, or `OutOfMemory`. The condition, that there is a
-/// word at least, is tested by `is_empty`.
+/// The error is `Refused` with a text for the log, or `OutOfMemory`. The condition, that there is
+/// at least one word, is tested by `is_empty`.
 pub fn parse_words<'a>(alloc: Global, words: &'a [&'a str]) -> Result<Request<'a>, WordsFault>
     requires { 0 < length words.now }
     ensures ok { IfOk result (AsksFor (map (λ s. s.now) words.now)) }

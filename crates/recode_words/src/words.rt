@@ -15,7 +15,7 @@ pub enum MarkWord {
     Sniff,
     /// `remove`: the mark of the named encoding is left out.
     Remove,
-    /// `keep`: a mark is text, as any other character.
+    /// `keep`: a mark is text, like any other character.
     Keep,
 }
 
@@ -81,7 +81,7 @@ impl PivotWord {
 }
 
 /// What to convert, and how, as the command line says it. Whether a label names an encoding, and
-/// whether the folder has the index files, is not asked yet.
+/// whether the folder has the index files, is not checked yet.
 #[derive(Clone, Copy, Debug)]
 pub struct Words<'a> {
     /// The label of the input's encoding.
