@@ -31,7 +31,7 @@ impl<'r, R> SystemFiles<'r, R> {
 }
 
 impl<'r, R: Files> IndexSource for SystemFiles<'r, R> {
-    // What a file of the system holds is said by no contract of std.
+    // No contract of std says what a file of the system holds.
     ghost holds = { λ _ _ _. None };
 
     fn read_file(&mut self, alloc: Global, dir: &str, file: &str) -> Result<Vec<u8>, SourceFault> {
