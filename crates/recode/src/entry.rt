@@ -217,7 +217,7 @@ fn run_words<S: IndexSource, R: Read, W: Write, L: Write>(
 /// Messages go to the log. What can't be written of a message or a text is dropped, and neither is
 /// flushed.
 ///
-/// Conditions: there is a word at least, the program's name (`is_empty`), and at most 2^64 - 5
+/// Conditions: there is at least one word, the program's name (`is_empty`), and at most 2^64 - 5
 /// calls of each device have failed (`Counted::failures`).
 pub fn program<S: IndexSource, R: Read, W: Write, L: Write>(
     alloc: Global,

@@ -53,7 +53,7 @@ pub enum StartFault {
         line: usize,
         kind: IndexFaultKind,
     },
-    /// What the file stands for is not taken.
+    /// The tables do not take what the file stands for.
     #[error("{file}: table: {kind}")]
     Table {
         file: &'static str,

@@ -136,8 +136,8 @@ impl<'b> Buffers<'b> {
     ghost use Rattle.std.specs.Prelude.{IsTrue, ◌↔◌};
     ghost use Rattle.recode.specs.calls.Buffers.{AreEnough};
 
-    /// Whether a step can be lent these: input of 1 byte at least, output of 4 bytes at least,
-    /// pivot and check of one form, with 4 bytes or 2 units each at least. The test of the
+    /// Whether a step can be lent these: at least 1 byte of input, at least 4 bytes of output,
+    /// pivot and check of one form, each with at least 4 bytes or 2 units. The test of the
     /// condition of `Session::step`, `run` and `convert`.
     pub fn is_enough(&self) -> bool
         ensures { IsTrue result ↔ AreEnough self.now }
@@ -150,7 +150,7 @@ impl<'b> Buffers<'b> {
     }
 }
 
-/// How a step ended that met no fault.
+/// How a step that met no fault ended.
 #[derive(Clone, Copy, PartialEq, Eq, Debug)]
 pub enum Progress {
     /// At least one byte was read; call `step` again.

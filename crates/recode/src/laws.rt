@@ -81,7 +81,7 @@ pub fn trace_of_input()
         → lost_line_count (trace j x) ≡ lost_count (target_of j) (input_text j x) }
 {}
 
-/// What a policy leaves that stops. If a character of the text is the first without bytes, the
+/// What a policy that stops leaves. If a character of the text is the first without bytes, the
 /// output is the text before it, and the escape that would come before its reference. The log has
 /// all lines up to that of the first lost character, with it. The fault names the first lost
 /// character: its index in the text, and its scalar.
@@ -161,8 +161,8 @@ pub fn lengths_are_bounded()
         → length (output_of j x) ≤ 13 * length x + 3 }
 {}
 
-/// If nothing was lost, the output, recoded from its encoding to UTF-8 with marks kept, gives what
-/// the input gives that is recoded to UTF-8; and neither loses anything.
+/// If nothing was lost, recoding the output from its encoding to UTF-8, with marks kept, gives what
+/// recoding the input to UTF-8 gives. Neither loses anything.
 pub fn output_reads_back()
     ensures jobs { (j : Job) → IsValidJob j → IsValidJob (back j) × IsValidJob (in_utf8 j) }
     ensures output { (j : Job) (x : List ℕ) → Faithful j x
@@ -200,8 +200,8 @@ pub fn lost_is_unfaithful()
         → 0 < lost_count (target_of j) (input_text j x) → ¬ (Faithful j x) }
 {}
 
-/// What is decoded at once and then encoded at once is what a run writes that ends well, with the
-/// same handling of marks and decimal references: `decode` and `encode` give the output. Its log is
+/// Decoding at once and then encoding at once gives what a run that ends well writes, with the same
+/// handling of marks and decimal references: `decode` and `encode` give the output. Its log is
 /// empty exactly when neither reported a loss.
 pub fn whole_texts_are_the_same()
     ensures bytes { (j : Job) (x decoded bytes : List ℕ) → IsValidJob j
@@ -261,7 +261,7 @@ pub fn lost_is_told()
 {}
 
 /// If a run says that nothing was lost, a run that recodes its output to UTF-8, with marks kept,
-/// writes what one writes that recodes its input to UTF-8.
+/// writes what a run that recodes its input to UTF-8 writes.
 pub fn faithful_output_reads_back()
     ensures { (j : Job) (x bytes again direct : List ℕ) (w w' v v' u u' : Written) (p q r : Report)
         → IsTrue p.faithful → IsWholeOutput w w' bytes → IsConverted w w' j x p
@@ -280,10 +280,10 @@ pub fn steps_add_up()
         → HasReached t t2 j s1 (x ++ p.chunk) (ps ++ p.advances.taken) }
 {}
 
-/// Steps that went on, and the one that ended them, are a run: so a session stepped by hand keeps
-/// the promise of `run`. At the start there are none, and each that answers `More` is added. With
-/// one that answers `Done`, and with the session's report, they are a run that came to its end;
-/// with one that answers a fault, a run that it ended.
+/// A session stepped by hand keeps the promise of `run`: steps that went on, and the one that ended
+/// them, are a run. At the start there are none, and each that returns `More` is added. With one
+/// that returns `Done`, and with the session's report, they are a run that came to its end; with
+/// one that returns a fault, a run that it ended.
 pub fn steps_are_a_run()
     ensures begins { (t : Devices) (j : Job) (v : View) → IsNewSession v j
         → HasRun t t j.limit v.state v.state }
