@@ -1,4 +1,4 @@
-//! How a call ended that writes replacements itself.
+//! How a call that writes replacements itself ended.
 
 /// How a call of a `Decoder` or an `Encoder` that writes replacements itself ended.
 #[derive(Clone, Copy, PartialEq, Eq, Debug)]

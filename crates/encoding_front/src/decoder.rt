@@ -60,7 +60,7 @@ pub trait StreamDecoder {
     /// ended and how many bytes of `src` were read.
     ///
     /// `last` says that the stream ends with `src`. The condition, that the decoder is not
-    /// finished, is tested by `is_finished`. What each result asks for stands with `DecoderResult`.
+    /// finished, is tested by `is_finished`. `DecoderResult` says what each result asks for.
     fn decode_into<S: Sink>(
         &mut self,
         src: &[u8],
@@ -140,8 +140,8 @@ impl Encoding {
 
     /// A decoder of a new stream that skips the byte order mark of this encoding, if the stream
     /// begins with it, and decodes by this encoding (for UTF-8: the Encoding Standard, section 6,
-    /// "UTF-8 decode"). The marks of other encodings are bytes as any others. Only UTF-8, UTF-16BE
-    /// and UTF-16LE have a mark.
+    /// "UTF-8 decode"). The marks of other encodings are bytes like any others. Only UTF-8,
+    /// UTF-16BE and UTF-16LE have a mark.
     ///
     /// The condition, that the indexes of this encoding are in `tables`, is tested by `is_ready`.
     pub fn new_decoder_with_bom_removal<'t>(self, tables: &'t Tables) -> Decoder<'t>

@@ -160,9 +160,9 @@ impl Encoding {
         row_of(self).name
     }
 
-    /// The encoding in which text is written that is asked for in this one ("get an output
-    /// encoding" of the Encoding Standard, section 4.3): UTF-8 for UTF-16BE, UTF-16LE and
-    /// replacement, and the encoding itself for all others.
+    /// The encoding in which text is written if this one is asked for ("get an output encoding" of
+    /// the Encoding Standard, section 4.3): UTF-8 for UTF-16BE, UTF-16LE and replacement, and the
+    /// encoding itself for all others.
     pub fn output_encoding(self) -> Encoding
         ensures { result ≡ output_encoding_of self }
     {

@@ -44,7 +44,7 @@ fn encode_turn<S: Source>(
     }
 }
 
-// How a call ends that has done what it could: whether something is left to do.
+// How a call that has done what it could ends: whether something is left to do.
 fn outcome<S: Source>(encoder: &Encoder<'_>, source: &S, last: bool) -> CoderResult
     ensures { ReplacingEndsWith last result encoder.now.set
         (left S.text (S.all source.now) (S.offset source.now)) }
