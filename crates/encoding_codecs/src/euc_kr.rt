@@ -74,7 +74,7 @@ impl<'a> EucKr<'a> {
 }
 
 /// The decoder of EUC-KR, by its index (the Encoding Standard, section 13.1.1). Bytes are
-/// hexadecimal: 00 to 7F are ASCII; a lead from 81 to FE and a trail from 41 to FE are the entry at
+/// hexadecimal. 00 to 7F are ASCII. A lead from 81 to FE and a trail from 41 to FE are the entry at
 /// the pointer `(lead - 81) * 190 + (trail - 41)`.
 ///
 /// 80 and FF are malformed, and so is a lead at the end. A lead with a trail with which it gives
@@ -96,8 +96,8 @@ impl<'a> CodecDecoder<LeadByteDecoderRule<EucKr<'a>>> {
     }
 }
 
-/// The encoder of EUC-KR, by its index (the Encoding Standard, section 13.1.2). ASCII is itself;
-/// another character is the lead and the trail of its least pointer; one without a pointer is
+/// The encoder of EUC-KR, by its index (the Encoding Standard, section 13.1.2). ASCII is itself.
+/// Another character is the lead and the trail of its least pointer. One without a pointer is
 /// unmappable. It has no state.
 #[derive(Drop)]
 pub struct EucKrEncoder<'a> {

@@ -1,5 +1,5 @@
 //! Rules in which ASCII gives itself and another first byte is a character, a lead, or nothing:
-//! what all encodings of more than one byte a character share, but ISO-2022-JP.
+//! what all encodings of more than one byte a character share, except ISO-2022-JP.
 
 ghost use Rattle.std.proofs.Common.{refl, arith};
 ghost use Rattle.std.specs.Prelude.{◌≡◌, ◌↔◌, ◌≤◌, IsTrue};

@@ -2,9 +2,9 @@
 //! with GBK, ISO-2022-JP and Shift_JIS (the Encoding Standard, sections 10 to 13), over the indexes
 //! in `encoding_tables::Tables`.
 //!
-//! A codec is made over tables that have its indexes, which `Tables::has` tests. How it is used
-//! stands with `encoding_mem::RawDecoder` and `RawEncoder`. `encoding_front::VariantDecoder` and
-//! `VariantEncoder` choose one by the encoding.
+//! A codec is made over tables that have its indexes, which `Tables::has` tests.
+//! `encoding_mem::RawDecoder` and `RawEncoder` say how it is used. `encoding_front::VariantDecoder`
+//! and `VariantEncoder` choose one by the encoding.
 //!
 //! # Use
 //!

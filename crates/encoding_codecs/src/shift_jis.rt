@@ -174,9 +174,9 @@ fn bytes_of_pointer(pointer: u32) -> Bytes
 }
 
 /// The decoder of Shift_JIS, by the index jis0208 (the Encoding Standard, section 12.3.1). Bytes
-/// are hexadecimal: 00 to 7F are ASCII, 80 is U+0080, A1 to DF are halfwidth katakana. A lead (81
-/// to 9F, E0 to FC) and a trail (40 to 7E, 80 to FC) are the entry at their pointer, or, for the
-/// pointers 8836 to 10715, a character for private use from U+E000 on.
+/// are hexadecimal. 00 to 7F are ASCII, 80 is U+0080, and A1 to DF are halfwidth katakana. A lead
+/// (81 to 9F, E0 to FC) and a trail (40 to 7E, 80 to FC) are the entry at their pointer, or, for
+/// the pointers 8836 to 10715, a character for private use from U+E000 on.
 ///
 /// Other first bytes are malformed, and so is a lead at the end. A lead with a byte with which it
 /// gives nothing is malformed: both bytes, but the lead alone if the other is ASCII. One byte may
