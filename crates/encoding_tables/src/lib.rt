@@ -4,8 +4,7 @@
 //! Indexes are handed in: as lists (`Tables::insert`), as rows (`insert_rows`, `insert_ranges`), or
 //! as the texts that the standard publishes (`encoding_index::load`). Each is checked before it is
 //! taken, and an index that is there stays as it is. Codecs borrow the tables; `Tables::has` is the
-//! test of their condition. How a codec is used stands with `encoding_mem::RawDecoder` and
-//! `RawEncoder`.
+//! test of their condition. `encoding_mem::RawDecoder` and `RawEncoder` say how a codec is used.
 //!
 //! # Use
 //!

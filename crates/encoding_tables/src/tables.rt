@@ -149,7 +149,7 @@ impl Tables {
     }
 
     /// Takes a copy of the rows of the GB18030 ranges, each a pointer and a code point. On an error
-    /// nothing changes. No rows ask for no memory.
+    /// nothing changes. If there are no rows, it asks for no memory.
     ///
     /// The faults are `Present`, `Ranges` and `Memory`: the first that holds, in this order.
     pub fn insert_ranges(&mut self, rows: &[(u32, u32)]) -> Result<(), TableFault>
