@@ -41,8 +41,8 @@ pub fn undecided_decides_nothing()
 {}
 
 /// A call that read all has passed each piece that ends three or more bytes before the end of what
-/// was read, whatever follows: of every call that adds its text to a slice and meets the law and
-/// the clause on why it ended, as those of every raw decoder do.
+/// was read, whatever follows. This holds of every call that adds its text to a slice and meets the
+/// law and the clause on why it ended, as those of every raw decoder do.
 pub fn pieces_are_taken_soon()
     ensures { (before after : DecoderState) (src : List ℕ) (last : Bool) (read : ℕ)
         → (encode : List ℕ → List ℕ) (old new : List ℕ) (written free room mark : ℕ)
@@ -52,8 +52,8 @@ pub fn pieces_are_taken_soon()
         → TakesSoon before.pieces src last (before.pending + length src) law.taken }
 {}
 
-/// No piece gives more than two scalar values: of any decoder, in whatever state it is, and
-/// whatever bytes come. Big5 has pieces that give two, as `88 62`.
+/// No piece gives more than two scalar values. This holds of any decoder, in whatever state it is,
+/// and whatever bytes come. Big5 has pieces that give two, as `88 62`.
 pub fn pieces_give_at_most_two()
     ensures { (state : DecoderState) (x : List ℕ)
         → All (λ p. length (piece_scalars p) ≤ 2) (state.pieces x) }

@@ -6,8 +6,8 @@
 //! how far. Others convert among Latin1, UTF-8 and UTF-16. None needs an index.
 //!
 //! `RawDecoder` and `RawEncoder` are the calls of a codec on slices; `Utf8Decoder` and
-//! `Utf8Encoder` are two of them. How they are used stands with the traits: the caller keeps what
-//! is unread, and hands it in again, first. A codec is a rule (`first_piece::DecoderRule`,
+//! `Utf8Encoder` are two of them. The traits say how they are used: the caller keeps what is
+//! unread, and hands it in again, first. A codec is a rule (`first_piece::DecoderRule`,
 //! `encode::EncoderRule`): what the first piece of some bytes is, and what the form of one
 //! character is. How a call cuts, waits, writes and stops is written and proved once for all rules.
 //!

@@ -12,9 +12,9 @@ use crate::decoder_result::DecoderResult;
 /// A decoder that is fed bytes in cuts of any size, and writes text into room of any size. It
 /// reports each malformed sequence, and does not replace it.
 ///
-/// It keeps the bytes that are not decided and the mode; the caller keeps the unread bytes, which
-/// come first in the next call. `last` says that the stream ends with `src`; after a call with
-/// `last` that returned `InputEmpty`, no call follows.
+/// It keeps the bytes that are not decided and the mode. The caller keeps the unread bytes, which
+/// come first in the next call. `last` says that the stream ends with `src`. No call follows a call
+/// with `last` that returned `InputEmpty`.
 pub trait RawDecoder {
     /// What contracts say of a decoder: the pieces that the bytes to come will give, how many bytes
     /// are pending, and the room that is enough.

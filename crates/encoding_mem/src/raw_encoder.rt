@@ -14,8 +14,8 @@ use crate::encoder_result::EncoderResult;
 /// An encoder that is fed text in cuts of any size, and writes bytes into room of any size. It
 /// reports each character without bytes, and does not write its reference.
 ///
-/// It keeps only the set in force, which ISO-2022-JP alone has; the caller keeps the unread text,
-/// which comes first in the next call. `last` says that the text ends with `src`; after it the
+/// It keeps only the set in force, which ISO-2022-JP alone has. The caller keeps the unread text,
+/// which comes first in the next call. `last` says that the text ends with `src`. After it the
 /// encoder is as a new one.
 pub trait RawEncoder {
     /// What an encoder is to its callers.

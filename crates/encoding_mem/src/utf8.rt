@@ -251,7 +251,7 @@ fn decide_three(b: u8, c: u8, d: u8, rest: &[u8], last: bool) -> FirstPiece
 
 /// The decoder of UTF-8 (the Encoding Standard, section 8.1.1; RFC 3629), which needs no index. A
 /// malformed sequence is the maximal subpart that Unicode names: the longest prefix of some
-/// character's bytes, or else one byte; surrogates and what is not the shortest form are malformed.
+/// character's bytes, or else one byte. Surrogates and what is not the shortest form are malformed.
 /// Up to 3 bytes are pending.
 #[derive(Drop)]
 pub struct Utf8Decoder {
