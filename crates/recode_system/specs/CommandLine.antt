@@ -9,7 +9,7 @@ use Rattle.recode_system.specs.declared.command_line.Wordless.TheVariants.{NotUt
 abbrev pub HasWordNotUtf8 : List (List ℕ) → Type 0
 HasWordNotUtf8 words = Any (λ word. ¬ (IsUtf8 word)) words
 
--- There are no words for this reason: one of them is not UTF-8, as is seen if they are told, or
+-- There are no words for this reason: one of them is not UTF-8, as is seen if they are known, or
 -- memory is refused, which may be at any words.
 abbrev pub IsWhy : Option (List (List ℕ)) → Wordless → Type 0
 IsWhy told NotUtf8 = IfSome told HasWordNotUtf8
@@ -20,14 +20,14 @@ abbrev pub words_with_name : List (List ℕ) → List (List ℕ)
 words_with_name [] = codes "recode" ∷ []
 words_with_name (name ∷ words) = name ∷ words
 
--- One of the words is not UTF-8, as is seen if they are told. The status is 2, nothing is read,
--- and nothing written but to the log.
+-- One of the words is not UTF-8, as is seen if they are known. The status is 2, nothing is read,
+-- and nothing is written except to the log.
 pub record RefusesLine {R W L : Type 0} (told : Option (List (List ℕ))) (before after : Ports R W L) (status : ℕ) : Type 0 where
   pub answered : status ≡ 2
   pub refused : IfSome told HasWordNotUtf8
   pub alone : IsLeftAlone before after
 
--- Each word is UTF-8, and the program answers the words, those that are told, if they are, or
+-- Each word is UTF-8, and the program answers the words, those that are known, if they are, or
 -- `recode` if there are none, with its status. Nothing is said of what the index files hold.
 pub record AnswersLine {R W L : Type 0} (told : Option (List (List ℕ))) (remaining : R → Option (List ℕ)) (contents : W → Option (List ℕ)) (logged : L → Option (List ℕ)) (before after : Ports R W L) (status : ℕ) : Type 0 where
   pub words : List (List ℕ)

@@ -10,7 +10,7 @@ use Rattle.recode_system.specs.CommandLine.{HasWordNotUtf8, words_with_name}
 unnamed : words_with_name [] ≡ (114 ∷ 101 ∷ 99 ∷ 111 ∷ 100 ∷ 101 ∷ []) ∷ []
 unnamed = refl
 
--- a name that is given is kept, also if it is the one word
+-- a name that is given is kept, even if it is the only word
 given_name : words_with_name (codes "r" ∷ []) ≡ codes "r" ∷ []
 given_name = refl
 
