@@ -30,7 +30,7 @@ pub record PassedLimit (before after : Option (List ℕ)) (limit : ℕ) : Type 0
   pub consumed : Consumes before after input
   pub past : limit < length input
 
--- a call of the device failed that the fault is of, or the input is too long, or the policy stopped the run
+-- a call of the device that the fault is of failed, or the input is too long, or the policy stopped the run
 abbrev pub IsCause : (failures failures' : Failures) (before after : Option (List ℕ)) (limit : ℕ) → Fault → Type 0
 IsCause failures failures' before after limit Read = failures.reader < failures'.reader
 IsCause failures failures' before after limit Write = failures.writer < failures'.writer
@@ -54,10 +54,10 @@ message_of Log = codes "recode: log fault\n"
 message_of TooLong = codes "recode: input too long\n"
 message_of (Unmappable index scalar) = row_bytes (codes "recode: unmappable ") index scalar
 
--- What a conversion leaves that failed. Output and log are a prefix of what any continuation of the bytes read gives
--- (none if the end was read), in their one order. After it the log has a prefix of the message of a fault that came,
--- and all of it if no call of the log failed while it was written. `untold` is the log's count when it was begun. If
--- the policy stopped the run, `stopped` says at which character.
+-- What a failed conversion leaves. Output and log are a prefix of what any continuation of the bytes read gives (none
+-- if the end was read), in their one order. After it the log has a prefix of the message of a fault that came, and
+-- all of it if no call of the log failed while it was written. `untold` is the log's count when it was begun. If the
+-- policy stopped the run, `stopped` says at which character.
 pub record Breaks (before after : Devices) (j : Job) : Type 0 where
   pub fault : Fault
   pub read : WasRead before.input after.input fault

@@ -111,7 +111,7 @@ abbrev pub IsConversionOn : {R W L : Type 0} → (R → Option (List ℕ)) → (
 IsConversionOn remaining contents logged before after j status =
     IsConversion (devices_in remaining contents logged before.reader before.writer before.log) (devices_in remaining contents logged after.reader after.writer after.log) j status
 
--- Nothing is read, and nothing written but to the log.
+-- Nothing is read, and nothing is written except to the log.
 pub record IsLeftAlone {R W L : Type 0} (before after : Ports R W L) : Type 0 where
   pub unread : after.reader ≡ before.reader
   pub unwritten : after.writer ≡ before.writer
@@ -124,14 +124,14 @@ AnswersWords holds remaining contents logged before after w status =
     ⊎ (((status ≡ 3) × IsLeftAlone before after)
     ⊎ ((j : Job) × IsJobOf w j × AreOfFiles holds w.indexes.now j.tables.now × IsConversionOn remaining contents logged before after j status))
 
--- The status is 2: clap refuses the words, a value stands for nothing, or a label is unknown.
--- Nothing is read, and nothing written but to the log.
+-- The status is 2: clap refuses the words, a value stands for nothing, or a label is unknown. Nothing is read, and
+-- nothing is written except to the log.
 pub record RefusesWords {R W L : Type 0} (before after : Ports R W L) (words : List (List ℕ)) (status : ℕ) : Type 0 where
   pub answered : status ≡ 2
   pub refused : IsRefusedByClap words ⊎ (HasMeaninglessValue words ⊎ NamesUnknown words)
   pub alone : IsLeftAlone before after
 
--- the start fails, with status 3: nothing is read, and nothing written but to the log
+-- the start fails, with status 3: nothing is read, and nothing is written except to the log
 pub record FailsToStart {R W L : Type 0} (before after : Ports R W L) (status : ℕ) : Type 0 where
   pub answered : status ≡ 3
   pub alone : IsLeftAlone before after

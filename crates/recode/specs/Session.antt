@@ -62,7 +62,7 @@ pub record IsNewSession (v : View) (j : Job) : Type 0 where
   pub owes_trace : (x : List ℕ) → to_write v.state x ≡ whole_trace j x
   pub verdict : (x : List ℕ) → WillBeFaithful v.state x ↔ Faithful j x
 
--- what a session says that has read all
+-- what a session says once it has read all
 pub record Tells (v : View) (p : Report) : Type 0 where
   pub read : p.read ≡ v.state.counts.read
   pub bad : p.bad ≡ v.state.counts.bad
