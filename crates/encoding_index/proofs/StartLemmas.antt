@@ -305,7 +305,7 @@ begins_with_row text pointer code (b ∷ ys) end read some tab at within =
     let begins = begins_by text pointer code ys e (start_is text pointer code (0x09 ∷ ys) read_tab) some refl (omega arith) in
     subst (λ n. BeginsWithRow text (pointer, code) (drop n (b ∷ ys))) (sym one) begins
 
--- ---- what a text gives that begins with a row
+-- ---- what a text that begins with a row gives
 
 no_more_than_one : {A : Type 0} {x : A} → Some x ≡ None → ⊥
 no_more_than_one e = cc

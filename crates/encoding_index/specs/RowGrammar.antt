@@ -24,7 +24,7 @@ pub record IsIndexRow (line : List ℕ) (pointer code : ℕ) : Type 0 where
   pub code_is : digits_value 16 hex_digits ≡ code
   pub positive : 0 < code
 
--- `row_in` gives a line's pointer and code point exactly if the line is written as the row of that
--- pointer and that code point (`IsIndexRow`)
+-- `row_in` gives a line's pointer and code point exactly when the line is written as the row of
+-- that pointer and that code point (`IsIndexRow`)
 abbrev pub RowsAreWritten : Type 0
 RowsAreWritten = (line : List ℕ) (pointer code : ℕ) → (row_in line ≡ Some (pointer, code)) ↔ IsIndexRow line pointer code
