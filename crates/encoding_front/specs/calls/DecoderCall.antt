@@ -18,7 +18,7 @@ pub record DecoderCall (before after : DecoderView) (src : List ℕ) (last : Boo
   pub source : (r : List ℕ) → (IsTrue last → r ≡ []) → before.source (src ++ r) ≡ after.source (drop read src ++ r)
   pub finished : after.finished ≡ finishes last outcome
 
--- What a call does that writes U+FFFD for each malformed sequence, and why it ended.
+-- What a call that writes U+FFFD for each malformed sequence does, and why it ended.
 pub record TextCall (before after : DecoderView) (src : List ℕ) (last : Bool) (read : ℕ) (Writes : List ℕ → Type 0) (free room mark : ℕ) (outcome : CoderResult) (had_errors : Bool) : Type 0 where
   pub law : TakesText before.state.pieces after.state.pieces src last before.state.pending after.state.pending read Writes had_errors
   pub ends : EndsWith after.state (drop read src) last free room mark (raw_result outcome)
