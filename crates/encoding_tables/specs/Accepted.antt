@@ -20,7 +20,7 @@ pub record IsIndex (kind : IndexKind) (flat : List ℕ) : Type 0 where
   pub entries : (p : ℕ) → slice_index flat p ≢ 0 → IsEntry kind (slice_index flat p)
   pub reserved : kind ≡ Jis0208 → (p : ℕ) → 8836 ≤ p → p < 10716 → slice_index flat p ≡ 0
 
--- if a kind is not there yet, a list has no fault (`flat_fault`) exactly if it may be the index of
--- the kind (`IsIndex`)
+-- if a kind is not there yet, a list has no fault (`flat_fault`) exactly when it may be the index
+-- of the kind (`IsIndex`)
 abbrev pub AcceptanceIsExact : Type 0
 AcceptanceIsExact = (kind : IndexKind) (flat : List ℕ) → (flat_fault false kind flat ≡ None) ↔ IsIndex kind flat

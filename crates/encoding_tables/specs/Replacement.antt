@@ -21,7 +21,7 @@ after_replacement error_returned x = true
 abbrev pub pieces_replacement : (error_returned : Bool) → List ℕ → List Piece
 pieces_replacement = pieces_in first_piece_replacement after_replacement
 
--- bytes in replacement, one at least, have one malformed piece, and U+FFFD is all their text
+-- one or more bytes in replacement have one malformed piece, and U+FFFD is all their text
 abbrev pub IsOneError : Type 0
 IsOneError = (b : ℕ) (x : List ℕ) → (malformed_count (pieces_replacement false (b ∷ x)) ≡ 1) × (text (pieces_replacement false (b ∷ x)) ≡ 0xFFFD ∷ [])
 
