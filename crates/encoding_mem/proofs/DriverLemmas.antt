@@ -195,7 +195,7 @@ basic_cost false c small = grind (arith, nat_tests)
 bare : (need : OutputUnit → ℕ → ℕ) (k : OutputUnit) (n room : ℕ) → need k (length {A = ℕ} [] + n) ≤ room → need k n ≤ room
 bare need k n room h = let same : length {A = ℕ} [] + n ≡ n = omega arith in subst (λ (m : ℕ). need k m ≤ room) same h
 
--- How a call ends that has come so far. The next piece has no room;
+-- How a call that has come so far ends. The next piece has no room;
 pub ends_full : (before P : List ℕ → List Piece) (needed need : OutputUnit → ℕ → ℕ) (t last : Bool) (src rest : List ℕ) (old free room mark : ℕ) (W : List ℕ → Type 0) (pending : List ℕ)
     → pending ≡ [] → HasCome before P needed need t last src rest old free W
     → free < room → (p : Piece) × (then : List ℕ → List Piece) × IsFirstPiece P then rest last p × (0 < length (piece_text p))

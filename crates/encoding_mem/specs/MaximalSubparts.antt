@@ -36,8 +36,8 @@ abbrev pub IsUtf8Piece : List ℕ → Piece → Type 0
 IsUtf8Piece bytes (well_formed n cs) = (c : ℕ) × BeginsWithForm bytes c × (n ≡ length (encode_utf8 c)) × (cs ≡ c ∷ [])
 IsUtf8Piece bytes (malformed n) = IsMaximalSubpart bytes n
 
--- pieces, one at least, are those of bytes in UTF-8 exactly if the first is what Unicode makes
--- first of the bytes (`IsUtf8Piece`), and the others are the pieces of the bytes after it
+-- one or more pieces are those of bytes in UTF-8 exactly when the first is what Unicode makes first of the bytes
+-- (`IsUtf8Piece`), and the others are the pieces of the bytes after it
 abbrev pub Utf8PiecesAreMaximal : Type 0
 Utf8PiecesAreMaximal = (bytes : List ℕ) (p : Piece) (ps : List Piece)
     → (pieces_utf8 bytes ≡ p ∷ ps) ↔ (IsUtf8Piece bytes p × (ps ≡ pieces_utf8 (drop (piece_len p) bytes)))

@@ -10,6 +10,6 @@ pub record ReadsAs (pieces : List ℕ → List Piece) (bytes t : List ℕ) : Typ
   pub well_formed : AreWellFormed (pieces bytes)
   pub same : text (pieces bytes) ≡ t
 
--- the output for a text of scalars is read back as the text exactly if each of them has bytes
+-- the output for a text of scalars is read back as the text exactly when each of them has bytes
 abbrev pub ReadsBackExactly : (List ℕ → List Piece) → Coding → Type 0
 ReadsBackExactly pieces e = (ref : Reference) (t : List ℕ) → all_scalars t ≡ true → ReadsAs pieces (output ref e t) t ↔ AllMapped e t

@@ -40,7 +40,7 @@ pub trait DecoderRule {
     /// Joined, the pieces are the bytes.
     ghost whole: { (s : Self) (x : List ℕ) → sizes (pieces s x) ≡ length x };
 
-    /// Each piece is of 1 byte at least, and has the text and size that a piece may have.
+    /// Each piece is of at least 1 byte, and has the text and size that a piece may have.
     ghost are_pieces: { (s : Self) (x : List ℕ) → ArePieces (pieces s x) };
 
     /// No bytes have no pieces.

@@ -69,7 +69,7 @@ pub trait Source {
             × (offset self.new ≡ offset self.old + cost_in is_units c) };
 
     /// Whether the second of the bytes or units that are next is there and is ASCII. If the first
-    /// is too, a run of two characters at least is next, which is worth a copy.
+    /// is too, a run of at least two characters is next, which is worth a copy.
     fn is_second_ascii(&self) -> bool
         ensures { IsTrue result ↔ IsSecondAscii (drop (offset self.now) (all self.now)) };
 

@@ -106,7 +106,7 @@ fn widen_lanes(bytes: &[u8], dst: &mut [u16]) -> usize
 }
 
 /// Puts ASCII that begins at an offset, and returns the offsets after it. Units after it may
-/// change, one for every three bytes that are left: these have a unit at least, which is put over
+/// change, one for every three bytes that are left: these have at least one unit, which is put over
 /// it.
 #[inline(always)]
 pub(crate) fn put_ascii(text: &str, at: usize, dst: &mut [u16], to: usize) -> (usize, usize)

@@ -80,7 +80,7 @@ pub fn convert_utf8_to_utf16_up_to_invalid(src: &[u8], dst: &mut [u16]) -> (usiz
 
 /// Converts UTF-8 to UTF-16 at the start of `dst`, with U+FFFD for each malformed sequence, and
 /// returns how many units were written; nothing after them changes. `dst` has more units than `src`
-/// has bytes, one at least, which a comparison of lengths tests.
+/// has bytes, at least one, which a comparison of lengths tests.
 pub fn convert_utf8_to_utf16(src: &[u8], dst: &mut [u16]) -> usize
     requires { length src.now < length dst.old }
     ensures fits { result ≤ length dst.new }

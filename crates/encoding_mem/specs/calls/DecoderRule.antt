@@ -47,8 +47,8 @@ IsNotLonger (Two c d n) = ⊥
 IsNotLonger (Ignored n) = Unit {0}
 IsNotLonger (Malformed n) = 0 < n
 
--- a rule's report of a first piece is one scalar below U+10000 or a malformed sequence, of one byte
--- at least, or that more bytes are needed
+-- a rule's report of a first piece is one scalar below U+10000 or a malformed sequence, of at least
+-- one byte, or that more bytes are needed
 abbrev pub IsBasic : FirstPiece → Type 0
 IsBasic More = Unit {0}
 IsBasic (One c n) = (c < 0x10000) × (0 < n)

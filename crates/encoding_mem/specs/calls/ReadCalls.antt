@@ -87,8 +87,8 @@ IsNotUnmappable outcome = (m : ℕ) → outcome ≢ Unmappable m
 abbrev pub ReadsWhole : Reference → Coding → (List ℕ → List Piece) → EscapeState → List ℕ → Type 0
 ReadsWhole ref e pieces s t = ReadsAs pieces (whole_from ref e s t) t
 
--- whatever text follows (none, if the call is the last), what is written for a text is read as the
--- text exactly if what is written for the rest that a call leaves is read as the rest
+-- whatever text follows (none, if the call is the last), what is written for a text is read as the text exactly when
+-- what is written for the rest that a call leaves is read as the rest
 abbrev pub ReadsWholeAs : Coding → Bool → (pieces now : List ℕ → List Piece) → (s : EscapeState) (t : List ℕ) (s' : EscapeState) (rest : List ℕ) → Type 0
 ReadsWholeAs e last pieces now s t s' rest =
     (ref : Reference) (u : List ℕ) → (IsTrue last → u ≡ []) → ReadsWhole ref e pieces s (t ++ u) ↔ ReadsWhole ref e now s' (rest ++ u)
@@ -98,7 +98,7 @@ abbrev pub NeverReadsWhole : Coding → Bool → (List ℕ → List Piece) → E
 NeverReadsWhole e last pieces s t = (ref : Reference) (u : List ℕ) → (IsTrue last → u ≡ []) → ¬ (ReadsWhole ref e pieces s (t ++ u))
 
 -- The verdict on an encoder's call: if the pieces that a decoder took of its bytes are well-formed and are the
--- characters read, the text is read back exactly if the rest is, and the decoder still reads along (`HoldsAfter`). If
+-- characters read, the text is read back exactly when the rest is, and the decoder still reads along (`HoldsAfter`). If
 -- not, the text is never read back.
 pub record CallVerdict (e : Coding) (pieces_from : EscapeState → List ℕ → List Piece) (pieces now : List ℕ → List Piece) (last : Bool) (outcome : EncoderResult) (s : EscapeState) (t prefix : List ℕ) (taken : List Piece) (s' : EscapeState) (rest : List ℕ) : Type 0 where
   pub along : AreWellFormed taken → text taken ≡ prefix → HoldsAfter e pieces_from last outcome s' rest now
@@ -114,8 +114,8 @@ AreRead part prefix = AreWellFormed part × ((more : List ℕ) × (prefix ≡ te
 pub record HasTakenPart (pieces now : List ℕ → List Piece) (bytes left : List ℕ) (taken : List Piece) : Type 0 where
   pub rest : (r : List ℕ) → pieces (bytes ++ r) ≡ taken ++ now (left ++ r)
 
--- A verdict so far is kept, whatever text follows (none, if the call is the last): it is true and
--- the text is read back exactly if the new verdict is true and the rest is read back.
+-- A verdict so far is kept, whatever text follows (none, if the call is the last): it is true and the text is read back
+-- exactly when the new verdict is true and the rest is read back.
 abbrev pub KeepsVerdict : Coding → Bool → Bool → (List ℕ → List Piece) → EscapeState → List ℕ → Bool → (List ℕ → List Piece) → EscapeState → List ℕ → Type 0
 KeepsVerdict e last verdict pieces s t verdict' now s' rest = (ref : Reference) (u : List ℕ) → (IsTrue last → u ≡ [])
     → (IsTrue verdict × ReadsWhole ref e pieces s (t ++ u)) ↔ (IsTrue verdict' × ReadsWhole ref e now s' (rest ++ u))

@@ -20,7 +20,7 @@ scalars_without_it = refl
 one_is_malformed : malformed_count sample ≡ 1
 one_is_malformed = refl
 
--- a piece has a byte at least, no more characters than bytes, and no surrogate among them
+-- a piece has at least one byte, no more characters than bytes, and no surrogate among them
 letter_is_a_piece : IsPiece (well_formed 1 (0x41 ∷ []))
 letter_is_a_piece = record { some = omega arith; few = omega arith; at_most_two = omega arith; are_scalars = refl }
 
