@@ -8,3 +8,4 @@ pub mod ReadsLemmas
 pub mod LineLemmas
 pub mod FitsLemmas
 pub mod AheadLemmas
+pub mod FateLemmas
