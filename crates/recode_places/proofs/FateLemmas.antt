@@ -38,7 +38,7 @@ use Rattle.encoding_front.specs.calls.Stream.{DecoderView, is_input_empty}
 use Rattle.encoding_front.specs.calls.Encoder.{Encoded, EncoderState, coding_in, new_state, room_without_reference}
 use Rattle.encoding_front.specs.laws.Encoder.{output_twice}
 use Rattle.encoding_front.specs.declared.encoding.Encoding.{Encoding}
-use Rattle.recode_places.specs.Fates.{AreKept, Target, fate_by, fate_by_form, fate_of, fate_read_back, only_one, read_alone}
+use Rattle.recode_places.specs.Fates.{AreAllKept, Target, fate_by, fate_by_form, fate_of, fate_read_back, only_one, read_alone}
 use Rattle.recode_places.specs.calls.FatesViews.{IsWrittenAs}
 use Rattle.recode_places.specs.calls.LogViews.{NamesFound}
 use Rattle.recode_places.specs.declared.entry.Finding.{Finding}
@@ -210,7 +210,7 @@ ascii_below t Encoding.Utf16Be h = absurd (false≢true h)
 ascii_below t Encoding.Utf16Le h = absurd (false≢true h)
 ascii_below t _ h = refl
 
-pub kept_ascii : (t : IndexLists) (e : Encoding) → is_ascii_compatible_of e ≡ true → (bs : List ℕ) → IsAscii bs → AreKept (record { tables = t; encoding = e }) bs
+pub kept_ascii : (t : IndexLists) (e : Encoding) → is_ascii_compatible_of e ≡ true → (bs : List ℕ) → IsAscii bs → AreAllKept (record { tables = t; encoding = e }) bs
 unfolding holds_below
 kept_ascii t e compatible [] h = tt
 kept_ascii t e compatible (b ∷ bs) h = (
@@ -226,7 +226,7 @@ kept_in_utf8 c h =
     let back = (utf8_exact Decimal (c ∷ []) (ap (λ b. b && true) h)).1 (tt, tt) in
     ap (fate_read_back c) (read_one (pieces_utf8 (output Decimal utf8_coding (c ∷ []))) c back.well_formed back.same) ∙ rw (eq-eqb c c refl) refl
 
-pub kept_utf8 : (t : IndexLists) (e : Encoding) → output_encoding_of e ≡ Encoding.Utf8 → (cs : List ℕ) → all_scalars cs ≡ true → AreKept (record { tables = t; encoding = e }) cs
+pub kept_utf8 : (t : IndexLists) (e : Encoding) → output_encoding_of e ≡ Encoding.Utf8 → (cs : List ℕ) → all_scalars cs ≡ true → AreAllKept (record { tables = t; encoding = e }) cs
 unfolding fate_of
 kept_utf8 t e is [] h = tt
 kept_utf8 t e is (c ∷ cs) h =

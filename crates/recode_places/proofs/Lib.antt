@@ -9,3 +9,6 @@ pub mod LineLemmas
 pub mod FitsLemmas
 pub mod AheadLemmas
 pub mod FateLemmas
+pub mod ShortPieceLemmas
+pub mod LoggedFormLemmas
+pub mod RunLogLemmas

@@ -41,11 +41,15 @@ pub record Target : Type 0 where
   pub tables : IndexLists
   pub encoding : Encoding
 
+-- how bytes in the output encoding of a target are read
+abbrev pub target_pieces : Target → List ℕ → List Piece
+target_pieces t = pieces_of t.tables (output_encoding_of t.encoding)
+
 -- the fate of a character in the output encoding of a target
 unfoldable pub fate_of : Target → ℕ → Fate
-fate_of t c = fate_by (coding_of t.tables t.encoding) (pieces_of t.tables (output_encoding_of t.encoding)) c
+fate_of t c = fate_by (coding_of t.tables t.encoding) (target_pieces t) c
 
 -- each character of a text is kept in a target
-abbrev pub AreKept : Target → List ℕ → Type 0
-AreKept t [] = Unit {0}
-AreKept t (c ∷ cs) = (fate_of t c ≡ Kept) × AreKept t cs
+abbrev pub AreAllKept : Target → List ℕ → Type 0
+AreAllKept t [] = Unit {0}
+AreAllKept t (c ∷ cs) = (fate_of t c ≡ Kept) × AreAllKept t cs

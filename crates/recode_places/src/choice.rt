@@ -9,8 +9,8 @@ ghost use Rattle.recode_places.specs.Logs.{IsLogEnd, TakesLines, ended, unknown}
 ghost use Rattle.recode_places.specs.declared.fates.Fate.{Fate};
 ghost use Rattle.recode_places.specs.calls.LogViews.{NamesFound, NamesMalformed, TakesSome};
 ghost use Rattle.recode_places.specs.calls.LogViews.{choice_left, match_left};
-ghost use Rattle.recode_places.specs.calls.FatesViews.{IsToldOf, asked_by, fate_asked, target_of};
-ghost use Rattle.recode_places.specs.calls.FatesViews.{told_by_fate};
+ghost use Rattle.recode_places.specs.calls.FatesViews.{IsToldOf, asked_by, fate_asked};
+ghost use Rattle.recode_places.specs.calls.FatesViews.{fates_target, told_by_fate};
 
 use crate::entry::{Finding, Stop};
 use crate::fates::{Fate, Fates};
@@ -49,7 +49,7 @@ impl<'t, L: Read> Choice<'t, L> {
         ensures left { choice_left L.remaining result ≡ match_left L.remaining log }
         ensures asked { asked_by result ≡ record {
           has_log = true;
-          target = Some (target_of fates.entry);
+          target = Some (fates_target fates.entry);
           folds = true;
         } }
     {
@@ -65,7 +65,7 @@ impl<'t, L: Read> Choice<'t, L> {
         ensures left { choice_left L.remaining result ≡ unknown }
         ensures asked { asked_by result ≡ record {
           has_log = false;
-          target = Some (target_of fates.entry);
+          target = Some (fates_target fates.entry);
           folds = folds;
         } }
     {

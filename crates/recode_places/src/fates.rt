@@ -3,7 +3,7 @@
 ghost use Rattle.std.specs.Prelude.{◌≡◌, ◌≤◌, length};
 ghost use Rattle.std.specs.Prelude.{IfSome, IsTrue, Option};
 ghost use Rattle.std.specs.Str.{chars};
-ghost use Rattle.encoding_front.specs.Encodings.{IsReady, output_encoding_of, pieces_of};
+ghost use Rattle.encoding_front.specs.Encodings.{IsReady, output_encoding_of};
 ghost use Rattle.recode_places.specs.Fates.{fate_of, only_one};
 ghost use Rattle.recode_places.specs.calls.Ready.{AreThere-prop};
 
@@ -38,15 +38,15 @@ pub struct Fates<'t> {
 }
 
 impl<'t> Fates<'t> {
-    ghost use Rattle.recode_places.specs.Fates.{AreKept, Target, read_alone};
-    ghost use Rattle.recode_places.specs.calls.FatesViews.{IsWrittenAs, target_of};
+    ghost use Rattle.recode_places.specs.Fates.{AreAllKept, Target, read_alone, target_pieces};
+    ghost use Rattle.recode_places.specs.calls.FatesViews.{IsWrittenAs, fates_target};
 
     /// Of characters that are written in the output encoding of `to`. The condition, that the
     /// indexes of that encoding are there, is tested by `Encoding::is_ready`.
     pub fn new(to: Encoding, tables: &'t Tables) -> Fates<'t>
         requires { IsReady tables.now (output_encoding_of to) }
-        ensures tables { (target_of result).tables ≡ tables.now }
-        ensures encoding { (target_of result).encoding ≡ to }
+        ensures tables { (fates_target result).tables ≡ tables.now }
+        ensures encoding { (fates_target result).encoding ≡ to }
     {
         Fates {
             to,
@@ -59,7 +59,7 @@ impl<'t> Fates<'t> {
     /// Whether each character of a text is kept for sure, without a look at it: those of ASCII are
     /// but for three in ISO-2022-JP, and in UTF-8 all are.
     pub fn keeps(&self, text: &str) -> bool
-        ensures kept { IsTrue result → AreKept (target_of self.now) (chars text.now) }
+        ensures kept { IsTrue result → AreAllKept (fates_target self.now) (chars text.now) }
     {
         self.to.output_encoding() == Encoding::Utf8
             || (self.to.is_ascii_compatible() && text.is_ascii())
@@ -67,8 +67,8 @@ impl<'t> Fates<'t> {
 
     /// What becomes of a character.
     pub fn of(&mut self, c: char) -> Fate
-        ensures fate { result ≡ fate_of (target_of self.old) c }
-        ensures target { target_of self.new ≡ target_of self.old }
+        ensures fate { result ≡ fate_of (fates_target self.old) c }
+        ensures target { fates_target self.new ≡ fates_target self.old }
     {
         if c != self.last {
             self.fate = self.find(c);
@@ -78,7 +78,7 @@ impl<'t> Fates<'t> {
     }
 
     fn find(&self, c: char) -> Fate
-        ensures { result ≡ fate_of (target_of self.now) c }
+        ensures { result ≡ fate_of (fates_target self.now) c }
     {
         let mut bytes = [0; 32];
         let Some(written) = self.write(c, &mut bytes) else {
@@ -94,7 +94,7 @@ impl<'t> Fates<'t> {
     // Writes a character as a text of its own. Returns how many bytes it has, or `None` if it has
     // none.
     fn write(&self, c: char, bytes: &mut [u8; 32]) -> Option<usize>
-        ensures written { IsWrittenAs (target_of self.now) c bytes.new result }
+        ensures written { IsWrittenAs (fates_target self.now) c bytes.new result }
         ensures within { IfSome result (λ n. n ≤ length bytes.new) }
     {
         let mut text = [0; 4];
@@ -112,8 +112,7 @@ impl<'t> Fates<'t> {
 
     // The character that these bytes stand for in the output encoding, if it is one alone.
     fn read(&self, bytes: &[u8]) -> Option<char>
-        ensures { result ≡ read_alone (pieces_of self.now.tables.now (output_encoding_of self.now.to)
-            bytes.now) }
+        ensures { result ≡ read_alone (target_pieces (fates_target self.now) bytes.now) }
     {
         let mut decoder = self
             .to

@@ -12,8 +12,8 @@ use Rattle.recode_places.specs.declared.fates.Fate.TheVariants.{Folded, Kept, Lo
 use Rattle.recode_places.specs.declared.fates.Fates.{Fates}
 
 -- the target that is asked
-abbrev pub target_of : Fates → Target
-target_of f = record { tables = f.tables.now; encoding = f.to }
+abbrev pub fates_target : Fates → Target
+fates_target f = record { tables = f.tables.now; encoding = f.to }
 
 -- a character was written as a text of its own, or has no bytes
 abbrev pub IsWrittenAs : Target → ℕ → (bytes : List ℕ) → Option ℕ → Type 0
@@ -29,7 +29,7 @@ pub record Asked : Type 0 where
 
 -- what a choice asks
 abbrev pub asked_by : {L : Type 0} → Choice L → Asked
-asked_by c = record { has_log = is_some c.log; target = option_map target_of c.fates; folds = c.folds }
+asked_by c = record { has_log = is_some c.log; target = option_map fates_target c.fates; folds = c.folds }
 
 -- the fate of a character in a target, if one is asked, and else that it is kept
 abbrev pub fate_asked : Option Target → ℕ → Fate

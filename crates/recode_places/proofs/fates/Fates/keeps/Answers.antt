@@ -3,8 +3,8 @@ use Rattle.std.specs.Str.{chars}
 use Rattle.std.proofs.lemmas.Str.{chars-IsAscii, scalars-chars}
 use Rattle.encoding_front.specs.Encodings.{output_encoding_of}
 use Rattle.encoding_front.specs.declared.encoding.Encoding.TheVariants.{Utf8}
-use Rattle.recode_places.specs.Fates.{AreKept}
-use Rattle.recode_places.specs.calls.FatesViews.{target_of}
+use Rattle.recode_places.specs.Fates.{AreAllKept}
+use Rattle.recode_places.specs.calls.FatesViews.{fates_target}
 use Rattle.recode_places.proofs.FateLemmas.{kept_ascii, kept_utf8}
 use Rattle.recode_places.proofs.fates.Fates.keeps.Goals as goal
 
@@ -17,6 +17,6 @@ pub returns-then-is_ascii_compatible : goal.returns-then-is_ascii_compatible
 returns-then-is_ascii_compatible c = record {
   kept = λ yes.
       let ascii = (rw yes at c.is_ascii.ensures.cases) in
-      subst (AreKept (target_of c.args.self.now)) (sym (chars-IsAscii c.args.text.now ascii))
+      subst (AreAllKept (fates_target c.args.self.now)) (sym (chars-IsAscii c.args.text.now ascii))
       (kept_ascii c.args.self.now.tables.now c.args.self.now.to (sym c.is_ascii_compatible.ensures ∙ c.if-is_ascii_compatible.true) c.args.text.now ascii);
 }
