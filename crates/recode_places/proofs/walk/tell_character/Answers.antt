@@ -1,6 +1,8 @@
-use Rattle.std.proofs.Common.{ap, ◌∙◌, subst, sym}
+use Rattle.std.proofs.Common.{◌∷◌, ◌++◌, ◌∙◌, [], ap, subst, sym}
+use Rattle.recode_places.specs.Entries.{TellsTrue}
 use Rattle.recode_places.specs.Logs.{TakesLines, TellsLines}
 use Rattle.recode_places.specs.calls.LogViews.{NamesFound, TakesSome, choice_left}
+use Rattle.recode_places.proofs.EntryLemmas.{tells_nothing}
 use Rattle.recode_places.proofs.ReadsLemmas.{lines_none, lines_one}
 use Rattle.recode_places.proofs.walk.tell_character.Goals as goal
 use Rattle.recode_places.proofs.walk.tell_character.Goals.{in-Some+in_ok-entry-in-Some, in-None}
@@ -20,3 +22,7 @@ returns-clause-lines g c =
           subst (λ t. TellsLines left left' (g.V.Visitor.told c.args.visitor.now) t) (sym (c.characters.ensures ∙ ap g.V.Visitor.told w.visitor-is))
           (lines_none left left' _ (subst (λ bs. TakesLines left left' bs) none.2 none.1))
     ]
+
+pub returns-in_err-entry-in-Some-clause-told : goal.returns-in_err-entry-in-Some-clause-told
+returns-in_err-entry-in-Some-clause-told g c = λ ps t p.
+    subst (TellsTrue ps (t ++ (c.args.c ∷ [])) (g.V.Visitor.told c.args.visitor.now)) (sym c.in_err-entry-in-Some.ensures.err) (tells_nothing ps (t ++ (c.args.c ∷ [])) (g.V.Visitor.told c.args.visitor.now))
