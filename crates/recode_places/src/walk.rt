@@ -282,9 +282,9 @@ impl<'t> Walk<'t> {
 /// for each thing that is chosen, with its place. An entry that is told is true, also if an error
 /// ends the telling: it names a malformed sequence, or a character of the text, of the whole input
 /// as `source` reads it, and its place. On success, if the choice goes by a log, the log has the
-/// lines of the entries, in their order, and then its end: none was passed over. What is told of a
-/// character is then what becomes of it in the target that the choice asks, or that it is lost, if a
-/// log names it.
+/// lines of the entries, in their order, and then its end: none was passed over. A character that
+/// is told then is folded in the target that the choice asks, where folds are asked for, or lost
+/// there; or it is lost by its line in the log.
 ///
 /// The error is what the choice or the visitor ended with (`Unfit`, `Log`, `Write`, `Memory`),
 /// `Input` if a read fails, or `TooLong` if the input has more than 2^48 bytes. It is not `Unfit`
