@@ -12,3 +12,4 @@ pub mod FateLemmas
 pub mod ShortPieceLemmas
 pub mod LoggedFormLemmas
 pub mod RunLogLemmas
+pub mod FatedLemmas

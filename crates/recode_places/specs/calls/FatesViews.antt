@@ -1,10 +1,11 @@
 -- What contracts say of `Fates`, and of what a `Choice` asks.
-use Rattle.std.specs.Prelude.{◌≡◌, ◌⊎◌, ℕ, Bool, true, if◌then◌else◌, List, [], ◌∷◌, Option, Some, None, is_some, option_map, take}
+use Rattle.std.specs.Prelude.{◌≡◌, ◌⊎◌, ℕ, Bool, true, if◌then◌else◌, List, [], ◌∷◌, ◌++◌, Option, Some, None, IfSome, is_some, option_map, take}
 use Rattle.encoding_mem.specs.Coding.{IsMapped, output}
 use Rattle.encoding_mem.specs.declared.reference.Reference.TheVariants.{Decimal}
 use Rattle.encoding_front.specs.Encodings.{coding_of}
 use Rattle.recode_places.specs.Fates.{Target, fate_of}
 use Rattle.recode_places.specs.declared.choice.Choice.{Choice}
+use Rattle.recode_places.specs.declared.entry.Entry.{Entry}
 use Rattle.recode_places.specs.declared.entry.Finding.{Finding}
 use Rattle.recode_places.specs.declared.entry.Finding.TheVariants as found
 use Rattle.recode_places.specs.declared.fates.Fate.{Fate}
@@ -45,3 +46,19 @@ told_by_fate a c (Folded d) = if a.folds then Some (found.Folded c d) else None
 -- this is told of a character: what its fate says, or that it is lost, if a log names it
 abbrev pub IsToldOf : Asked → ℕ → Option Finding → Type 0
 IsToldOf a c told = (told ≡ told_by_fate a c (fate_asked a.target c)) ⊎ ((a.has_log ≡ true) × (told ≡ Some (found.Lost c)))
+
+-- what is found is as its fate says: a character that is folded is so in the target, where folds are asked for; one that is
+-- lost is so there, or a log names it
+abbrev pub IsAsFated : Asked → Finding → Type 0
+IsAsFated a (found.Malformed offset n) = Unit {0}
+IsAsFated a (found.Lost c) = (fate_asked a.target c ≡ Lost) ⊎ (a.has_log ≡ true)
+IsAsFated a (found.Folded c d) = (fate_asked a.target c ≡ Folded d) × (a.folds ≡ true)
+
+-- each of some entries is as its fate says
+abbrev pub AreAsFated : Asked → List Entry → Type 0
+AreAsFated a [] = Unit {0}
+AreAsFated a (e ∷ es) = IsAsFated a e.finding × AreAsFated a es
+
+-- a visitor that says what it was told was told entries more that are as their fates say, and as much is asked as before
+abbrev pub TellsFates : (asked asked' : Asked) → (told told' : Option (List Entry)) → Type 0
+TellsFates a a' told told' = (a' ≡ a) × IfSome told (λ es. (more : List Entry) × (told' ≡ Some (es ++ more)) × AreAsFated a more)

@@ -1,11 +1,28 @@
 use Rattle.std.proofs.Common.{◌∷◌, ◌++◌, ◌∙◌, [], ap, subst, sym}
 use Rattle.recode_places.specs.Entries.{TellsTrue}
 use Rattle.recode_places.specs.Logs.{TakesLines, TellsLines}
+use Rattle.recode_places.specs.calls.FatesViews.{IsToldOf, TellsFates, asked_by}
 use Rattle.recode_places.specs.calls.LogViews.{NamesFound, TakesSome, choice_left}
 use Rattle.recode_places.proofs.EntryLemmas.{tells_nothing}
+use Rattle.recode_places.proofs.FatedLemmas.{fated_none, fated_one}
 use Rattle.recode_places.proofs.ReadsLemmas.{lines_none, lines_one}
 use Rattle.recode_places.proofs.walk.tell_character.Goals as goal
 use Rattle.recode_places.proofs.walk.tell_character.Goals.{in-Some+in_ok-entry-in-Some, in-None}
+
+pub returns-clause-fates : goal.returns-clause-fates
+returns-clause-fates g c =
+    let a = asked_by c.args.choice.now in
+    let b = asked_by c.character.new.self in
+    let told = c.in_ok-finding.ensures.told in
+    let same = c.character.ensures.asked in
+    elim c.match-branch-2.branch [
+      | in-Some+in_ok-entry-in-Some w ↦
+          subst (TellsFates a b (g.V.Visitor.told c.args.visitor.now)) (sym (c.characters.ensures ∙ ap g.V.Visitor.told w.visitor-is))
+          (fated_one a b c.args.c _ _ _ same (subst (IsToldOf a c.args.c) w.in-Some.is told) w.in_ok-entry-in-Some.ensures.ok)
+      | in-None w ↦
+          subst (TellsFates a b (g.V.Visitor.told c.args.visitor.now)) (sym (c.characters.ensures ∙ ap g.V.Visitor.told w.visitor-is))
+          (fated_none a b _ same)
+    ]
 
 pub returns-clause-lines : goal.returns-clause-lines
 returns-clause-lines g c =
