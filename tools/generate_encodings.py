@@ -377,7 +377,7 @@ def listing():
     return [
         "//! What `--list` prints.",
         "",
-        "// The %s encodings, in the order of `Encoding`, a line each: the name, and behind it the labels," % count(),
+        "// The %s encodings, in the order of `Encoding`, a line each: the name, and after it the labels," % count(),
         '// as the Encoding Standard has them (section 4.2, "Names and labels").',
         'const LISTING: &str = "\\',
         *("%s: %s" % (row["name"], row["labels"]) for row in ENCODINGS),

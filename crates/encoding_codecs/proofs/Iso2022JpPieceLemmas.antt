@@ -284,7 +284,7 @@ decides_char jis0208 m b [] last e none goes = rw (e, goes) refl
 decides_char jis0208 m b (c ∷ x) last e none goes =
     decides_by (char_first_piece jis0208 m b (c ∷ x)) _ (is_some (escape_at (b ∷ c ∷ x))) last (is_open m (b ∷ c ∷ x)) none (not_open m b c x e none)
 
--- it is decided unless it wants its second byte
+-- it is decided unless it needs its second byte
 pub char_decides : (jis0208 : List ℕ) (m : Mode) (x : List ℕ) (last : Bool) → 0 < length x → slice_index x 0 ≢ 0x1B
     → (not last && is_jis_lead m x) ≡ false
     → shown (char_first_piece jis0208 m (slice_index x 0) (take (length x - 1) (drop 1 x))) ≡ decide_iso_2022_jp jis0208 m x last

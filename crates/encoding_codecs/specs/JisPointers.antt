@@ -17,8 +17,8 @@ IsLeastPointer flat c limit o = MatchOption o
     ((p : ℕ) → ¬ (IsPointer flat c 0 limit p))
     (λ p. IsPointer flat c 0 limit p × ((q : ℕ) → IsPointer flat c 0 limit q → p ≤ q))
 
--- What is written for c, where d is looked up for it: the bytes of the least pointer below the limit with d. Where
--- there is none, c is unmapped.
+-- What is written for c, for which d is looked up: the bytes of the least pointer below the limit with d. If there is
+-- none, c is unmapped.
 pub record WritesLeastPointer (flat : List ℕ) (limit : ℕ) (bytes : ℕ → List ℕ) (c d : ℕ) (form : Form) : Type 0 where
   pub pointer : Option ℕ
   pub least : IsLeastPointer flat d limit pointer

@@ -1,6 +1,6 @@
 -- The rule of the encodings with characters of two bytes (the Encoding Standard, section 10.2.1, "gb18030 decoder",
 -- section 11.1.1, "Big5 decoder", sections 12.1.1 and 12.3.1, "EUC-JP decoder" and "Shift_JIS decoder", and section
--- 13.1.1, "EUC-KR decoder", in what they share). 00 to 7F give themselves. A lead wants a trail: at the end it is
+-- 13.1.1, "EUC-KR decoder", in what they share). 00 to 7F give themselves. A lead needs a trail: at the end it is
 -- malformed alone. A trail with which it gives nothing is left unread if it is ASCII, and is malformed with the lead
 -- otherwise.
 use Rattle.std.specs.Prelude.{ℕ, ◌+◌, List, [], ◌∷◌, nat_lt, if◌then◌else◌}
@@ -23,15 +23,15 @@ abbrev pub first_piece_by_lead : (ℕ → FirstByte) → (ℕ → List ℕ → P
 first_piece_by_lead first after [] = malformed 1
 first_piece_by_lead first after (a ∷ x) = if nat_lt a 0x80 then well_formed 1 (a ∷ []) else piece_of_first (first a) (after a x)
 
--- The piece of n bytes that want a trail, and of b, the next byte: it gives their one or two
--- characters. If they have none, it is malformed, with b in it unless b is ASCII.
+-- The piece of n bytes that need a trail, and of b, the next byte: it gives their one or two characters. If they
+-- have none, it is malformed, with b in it unless b is ASCII.
 abbrev pub piece_of_trail : ℕ → PairValue → ℕ → Piece
 piece_of_trail n NoChar b = if nat_lt b 0x80 then malformed n else malformed (n + 1)
 piece_of_trail n (OneChar c) b = well_formed (n + 1) (c ∷ [])
 piece_of_trail n (TwoChars c d) b = well_formed (n + 1) (c ∷ d ∷ [])
 
--- the piece that n bytes begin which want a trail: malformed if no byte follows, else by what the
--- next byte gives with them
+-- the piece that n bytes begin which need a trail: malformed if no byte follows, else by what the next byte gives
+-- with them
 abbrev pub after_bytes : ℕ → (ℕ → PairValue) → List ℕ → Piece
 after_bytes n value [] = malformed n
 after_bytes n value (b ∷ x) = piece_of_trail n (value b) b

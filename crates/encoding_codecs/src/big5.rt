@@ -127,11 +127,11 @@ impl<'a> LeadByteRule for Big5<'a> {
 
 /// The decoder of Big5, by its index (the Encoding Standard, section 11.1.1). Bytes are
 /// hexadecimal: 00 to 7F are ASCII; a lead from 81 to FE and a trail from 40 to 7E or A1 to FE are
-/// the entry at the pointer `(lead - 81) * 157 + (trail - offset)`, where the offset is 40 below 7F
-/// and else 62. Four pointers give a letter and a combining mark.
+/// the entry at the pointer `(lead - 81) * 157 + (trail - offset)`; the offset is 40 for a trail
+/// below 7F, and else 62. Four pointers give a letter and a combining mark.
 ///
 /// 80 and FF are malformed, and so is a lead at the end. A lead with a trail with which it gives
-/// nothing is malformed: both bytes, but the lead alone where the other is ASCII. One byte may be
+/// nothing is malformed: both bytes, but the lead alone if the other is ASCII. One byte may be
 /// pending.
 pub type Big5Decoder<'a> = CodecDecoder<LeadByteDecoderRule<Big5<'a>>>;
 

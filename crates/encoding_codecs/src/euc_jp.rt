@@ -73,7 +73,7 @@ fn is_pointer_byte(byte: u8) -> bool
     matches!(byte, 0xA1..=0xFE)
 }
 
-// What a lead other than 8F and the byte behind it give.
+// What a lead other than 8F and the byte after it give.
 #[inline(always)]
 fn pair(jis0208: &Flat<'_>, lead: u8, second: u8) -> PairValue
     requires lead { euc_jp_first lead ≡ FirstByte.Lead }
@@ -103,7 +103,7 @@ fn pair_by_index(flat: &Flat<'_>, lead: u8, trail: u8) -> PairValue
     }
 }
 
-// What 8F and the bytes behind it give: two of a pointer, by jis0212.
+// What 8F and the bytes after it give: two of a pointer, by jis0212.
 fn after_8f(jis0212: &Flat<'_>, rest: &[u8], last: bool) -> FirstPiece
     ensures { result ≡ decide_8f jis0212.now rest.now last }
 {
@@ -128,8 +128,8 @@ fn after_8f(jis0212: &Flat<'_>, rest: &[u8], last: bool) -> FirstPiece
 /// bytes that of jis0212.
 ///
 /// Other first bytes are malformed, and so is a lead at the end. A lead with a byte with which it
-/// gives nothing is malformed: both bytes, but the lead alone where the other is ASCII. Behind 8F
-/// and a byte from A1 to FE it is those two bytes, or all three. Up to two bytes may be pending.
+/// gives nothing is malformed: both bytes, but the lead alone if the other is ASCII. After 8F and a
+/// byte from A1 to FE it is those two bytes, or all three. Up to two bytes may be pending.
 pub type EucJpDecoder<'a> = CodecDecoder<LeadByteDecoderRule<EucJpLeads<'a>>>;
 
 impl<'a> CodecDecoder<LeadByteDecoderRule<EucJpLeads<'a>>> {

@@ -78,7 +78,7 @@ impl<'a> EucKr<'a> {
 /// the pointer `(lead - 81) * 190 + (trail - 41)`.
 ///
 /// 80 and FF are malformed, and so is a lead at the end. A lead with a trail with which it gives
-/// nothing is malformed: both bytes, but the lead alone where the other is ASCII. One byte may be
+/// nothing is malformed: both bytes, but the lead alone if the other is ASCII. One byte may be
 /// pending.
 pub type EucKrDecoder<'a> = CodecDecoder<LeadByteDecoderRule<EucKr<'a>>>;
 

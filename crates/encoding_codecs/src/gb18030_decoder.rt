@@ -21,7 +21,7 @@ use encoding_mem::first_piece::{FirstPiece, cut_short};
 use encoding_tables::{Flat, IndexKind, Ranges, Tables};
 
 /// The rule by which `Gb18030Decoder` decodes: the leads of gb18030, and what its tables make of
-/// the bytes behind them.
+/// the bytes after them.
 #[derive(Drop)]
 pub struct Gb18030Rule<'a> {
     index: Flat<'a>,
@@ -81,8 +81,8 @@ impl<'a> Gb18030Rule<'a> {
         value_of_entry(self.index.value(pair_pointer(lead, trail)))
     }
 
-    // A lead and a digit begin a form of four bytes. Where the third or the fourth byte does not
-    // continue it, the lead is malformed alone, and what is behind it is read again.
+    // A lead and a digit begin a form of four bytes. If the third or the fourth byte does not
+    // continue it, the lead is malformed alone, and what is after it is read again.
     #[inline(always)]
     fn after_two(&self, a: u8, b: u8, rest: &[u8], last: bool) -> FirstPiece
         requires lead { IsInRange 0x81 0xFE a }
@@ -123,8 +123,8 @@ impl<'a> Gb18030Rule<'a> {
     }
 }
 
-// The first byte of a form of two or four bytes, and the third of one of four. One comparison tells
-// it: two bounds would be tested with 80 and with FF, where a byte is known to be no ASCII.
+// The first byte of a form of two or four bytes, and the third of one of four. One comparison
+// decides it: two bounds would be tested with 80 and with FF, if a byte is known to be no ASCII.
 #[inline(always)]
 fn is_lead(byte: u8) -> bool
     ensures { result ≡ is_in_range 0x81 0xFE byte }
@@ -191,8 +191,8 @@ fn first_piece_of_four(c: Option<char>) -> FirstPiece
 /// second and fourth are 30 to 39 and the third 81 to FE, are the value of the ranges at theirs.
 ///
 /// FF is malformed, and so are a lead, or the beginning of four bytes, at the end. A lead with a
-/// byte with which it gives nothing is malformed: both bytes, but the lead alone where the other is
-/// ASCII. Where four bytes break off, the first is malformed, and the others are read again; four
+/// byte with which it gives nothing is malformed: both bytes, but the lead alone if the other is
+/// ASCII. If four bytes break off, the first is malformed, and the others are read again; four
 /// without a value are malformed. Up to three bytes may be pending.
 pub type Gb18030Decoder<'a> = CodecDecoder<LeadByteDecoderRule<Gb18030Rule<'a>>>;
 

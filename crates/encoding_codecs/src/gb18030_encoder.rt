@@ -22,8 +22,8 @@ use encoding_tables::{Flat, IndexKind, Ranges, Tables};
 /// The encoder of gb18030 or of GBK, by the index gb18030 and its ranges (the Encoding Standard,
 /// sections 10.1.2 and 10.2.2). ASCII is itself, and U+E5E5 is unmappable. Eighteen characters for
 /// private use have the two bytes of the standard's table. Another character is two bytes, by its
-/// least pointer of the index; one that the index lacks is four bytes by the ranges in gb18030,
-/// where a row has it, and else unmappable. In GBK U+20AC is 80. It has no state.
+/// least pointer of the index; one that the index lacks is four bytes by the ranges in gb18030, if
+/// a row has it, and else unmappable. In GBK U+20AC is 80. It has no state.
 #[derive(Drop)]
 pub struct Gb18030Encoder<'a> {
     index: Flat<'a>,
@@ -32,7 +32,7 @@ pub struct Gb18030Encoder<'a> {
 }
 
 impl<'a> Gb18030Encoder<'a> {
-    /// An encoder of a new stream: of gb18030 where `extended_range` is true, and else of GBK. The
+    /// An encoder of a new stream: of gb18030 if `extended_range` is true, and else of GBK. The
     /// conditions, that the index and the ranges are in `tables`, are tested by `Tables::has`.
     pub fn new(tables: &'a Tables, extended_range: bool) -> Self
         requires index { has tables.now IndexKind.Gb18030 ≡ true }

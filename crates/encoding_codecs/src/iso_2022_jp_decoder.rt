@@ -192,7 +192,7 @@ fn decide(jis0208: &Flat<'_>, mode: Mode, bytes: &[u8], last: bool) -> FirstPiec
     }
 }
 
-// The same where they may begin with an escape.
+// The same if they may begin with an escape.
 #[inline(always)]
 fn decide_at_escape(jis0208: &Flat<'_>, mode: Mode, bytes: &[u8], last: bool) -> FirstPiece
     ensures { result ≡ decide_iso_2022_jp jis0208.now mode bytes.now last }
@@ -221,7 +221,7 @@ fn first_piece_in_mode(jis0208: &Flat<'_>, mode: Mode, bytes: &[u8]) -> FirstPie
     }
 }
 
-// An escape, by the bytes behind it: it is malformed before another.
+// An escape, by the bytes after it: it is malformed before another.
 #[inline(always)]
 fn escape_first_piece(rest: &[u8]) -> FirstPiece
     ensures { result ≡ shown (escape_first_piece rest.now) }
@@ -233,7 +233,7 @@ fn escape_first_piece(rest: &[u8]) -> FirstPiece
     }
 }
 
-// A character in a mode, by its first byte and the bytes behind it.
+// A character in a mode, by its first byte and the bytes after it.
 #[inline(always)]
 fn char_first_piece(jis0208: &Flat<'_>, mode: Mode, b: u8, rest: &[u8]) -> FirstPiece
     ensures { result ≡ shown (char_first_piece jis0208.now mode b rest.now) }
@@ -311,11 +311,11 @@ fn entry_first_piece(entry: Option<char>) -> FirstPiece
 /// begins in ASCII, and an escape switches to the set in which what follows is read: ASCII, Roman,
 /// halfwidth katakana, or the two-byte set of JIS X 0208.
 ///
-/// Malformed are, one byte each: from 80 on any, 0E, 0F and 1B where no whole escape begins; in
-/// katakana all but 21 to 5F; in the two-byte set all but 21 to 7E, and a first byte that the end
-/// or an escape cuts off. Two bytes are malformed where the second is not 21 to 7E or their pointer
-/// has no entry. An escape gives nothing, but one with nothing between it and the next escape is
-/// malformed: 3 bytes. Up to five bytes may be pending.
+/// These are malformed, one byte each: from 80 on any, 0E, 0F and 1B if no whole escape begins
+/// there; in katakana all but 21 to 5F; in the two-byte set all but 21 to 7E, and a first byte that
+/// the end or an escape cuts off. Two bytes are malformed if the second is not 21 to 7E or their
+/// pointer has no entry. An escape gives nothing, but one with nothing between it and the next
+/// escape is malformed: 3 bytes. Up to five bytes may be pending.
 pub type Iso2022JpDecoder<'a> = CodecDecoder<Iso2022JpRule<'a>>;
 
 impl<'a> CodecDecoder<Iso2022JpRule<'a>> {
@@ -336,7 +336,7 @@ impl<'a> CodecDecoder<Iso2022JpRule<'a>> {
     }
 
     /// Whether nothing is pending and the mode is ASCII, so that what follows is read as at the
-    /// start of an input. A whole escape behind which nothing was read yet is pending.
+    /// start of an input. A whole escape after which nothing was read yet is pending.
     pub fn in_neutral_state(&self) -> bool
         ensures { IsTrue result ↔ IsNeutral (⟦<Iso2022JpDecoder<'a> as RawDecoder>⟧.state self.now) }
     {

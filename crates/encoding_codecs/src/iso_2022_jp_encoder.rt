@@ -23,9 +23,9 @@ use encoding_tables::{Flat, IndexKind, Tables};
 ///
 /// ASCII is one byte, in ASCII or Roman (5C and 7E in ASCII alone); U+00A5 and U+203E are one byte
 /// in Roman; another character is two bytes in the set of JIS X 0208, by its least pointer below
-/// 8836, where U+2212 is looked up as U+FF0D, and halfwidth katakana as the index
-/// iso-2022-jp-katakana has it. U+000E, U+000F and U+001B are reported as U+FFFD; any other
-/// character without a pointer is unmappable.
+/// 8836 (U+2212 is looked up as U+FF0D, and halfwidth katakana as the index iso-2022-jp-katakana
+/// has it). U+000E, U+000F and U+001B are reported as U+FFFD; any other character without a pointer
+/// is unmappable.
 #[derive(Drop)]
 pub struct Iso2022JpEncoder<'a> {
     jis0208: Flat<'a>,

@@ -18,15 +18,15 @@ ghost use Rattle.encoding_codecs.specs.Iso2022JpForms.{iso_2022_jp_coding};
 ghost use Rattle.encoding_codecs.specs.Iso2022JpSets.{pieces_from_set};
 ghost use Rattle.encoding_codecs.specs.Gb18030Coding.{gb18030_form};
 
-/// What is written in EUC-KR reads back, by the decoder of the same index, as the text exactly where each
-/// character of it has a pointer.
+/// What is written in EUC-KR reads back, by the decoder of the same index, as the text exactly when
+/// each character of it has a pointer.
 pub fn euc_kr_text_reads_back()
     ensures { (flat : List ℕ) → AreEntries flat
         → ReadsBackExactly (pieces_euc_kr flat) (stateless (euc_kr_form flat)) }
 {}
 
-/// What is written in Big5 reads back, by the decoder of the same index, as the text exactly where each
-/// character of it has a pointer from 5024 on.
+/// What is written in Big5 reads back, by the decoder of the same index, as the text exactly when
+/// each character of it has a pointer from 5024 on.
 pub fn big5_text_reads_back()
     ensures { (flat : List ℕ) → AreEntries flat
         → ReadsBackExactly (pieces_big5 flat) (stateless (big5_form flat)) }
@@ -38,17 +38,17 @@ pub fn shift_jis_pointers()
     ensures { ShiftJisPointerIsLeast }
 {}
 
-/// What EUC-JP writes for a character that is not ASCII, U+00A5, U+203E or halfwidth katakana:
-/// the two bytes of the least pointer below 8836 of jis0208 with it, or with U+FF0D for U+2212.
-/// Where there is none, the character has no form.
+/// What EUC-JP writes for a character that is not ASCII, U+00A5, U+203E or halfwidth katakana: the
+/// two bytes of the least pointer below 8836 of jis0208 with it, or with U+FF0D for U+2212. If
+/// there is none, the character has no form.
 pub fn euc_jp_pointers()
     ensures { EucJpPointerIsLeast }
 {}
 
 /// What ISO-2022-JP writes for a character that is not ASCII, U+00A5 or U+203E: the two bytes of
 /// the least pointer below 8836 of jis0208 with what is looked up for it. That is U+FF0D for
-/// U+2212, the entry in the index iso-2022-jp-katakana for halfwidth katakana, and else itself.
-/// Where there is no such pointer or no such entry, the character has no form.
+/// U+2212, the entry in the index iso-2022-jp-katakana for halfwidth katakana, and else itself. If
+/// there is no such pointer or no such entry, the character has no form.
 pub fn iso_2022_jp_pointers()
     ensures { Iso2022JpPointerIsLeast }
 {}

@@ -28,7 +28,7 @@ pub enum FirstByte {
     Unused,
 }
 
-/// What an encoding makes of first bytes from 80 hex on, and of the bytes behind a lead; ASCII is
+/// What an encoding makes of first bytes from 80 hex on, and of the bytes after a lead; ASCII is
 /// itself. `LeadByteDecoderRule` makes a decoding rule of it.
 pub trait LeadByteRule {
     /// What first bytes are, the piece of a lead and all that follows it, and what of it is decided
@@ -43,8 +43,8 @@ pub trait LeadByteRule {
         requires { 0x80 ≤ byte }
         ensures { result ≡ (rule self.now).first byte };
 
-    /// The piece of a lead and of the bytes behind it, or `More` where what follows decides it;
-    /// `last` says that nothing follows. The condition is that `first` returns `Lead` for the lead.
+    /// The piece of a lead and of the bytes after it, or `More` if what follows decides it; `last`
+    /// says that nothing follows. The condition is that `first` returns `Lead` for the lead.
     fn after_lead(&self, lead: u8, rest: &[u8], last: bool) -> FirstPiece
         requires { (rule self.now).first lead ≡ FirstByte.Lead }
         ensures { result ≡ (rule self.now).decide lead rest.now last };

@@ -179,8 +179,8 @@ fn bytes_of_pointer(pointer: u32) -> Bytes
 /// pointers 8836 to 10715, a character for private use from U+E000 on.
 ///
 /// Other first bytes are malformed, and so is a lead at the end. A lead with a byte with which it
-/// gives nothing is malformed: both bytes, but the lead alone where the other is ASCII. One byte
-/// may be pending.
+/// gives nothing is malformed: both bytes, but the lead alone if the other is ASCII. One byte may
+/// be pending.
 pub type ShiftJisDecoder<'a> = CodecDecoder<LeadByteDecoderRule<ShiftJis<'a>>>;
 
 impl<'a> CodecDecoder<LeadByteDecoderRule<ShiftJis<'a>>> {

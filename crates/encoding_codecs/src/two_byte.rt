@@ -19,8 +19,8 @@ pub enum PairValue {
     TwoChars(char, char),
 }
 
-/// What `before` bytes that want a trail give with this byte. Where together they have no value, it
-/// is left unread if it is ASCII, and is malformed with them otherwise.
+/// What `before` bytes that need a trail give with this byte. If together they have no value, it is
+/// left unread if it is ASCII, and is malformed with them otherwise.
 #[inline(always)]
 pub(crate) fn decide_trail(before: usize, value: PairValue, trail: u8) -> FirstPiece
     requires { before ≤ 3 }

@@ -419,7 +419,7 @@ seen_in_turn e s (a ∷ x) = rw (flip 0xEF a) (rw (flip 0xFE a) (rw (flip 0xFF a
 source_is : (mark : Mark) (e : Encoding) (x : List ℕ) → source_of mark e x ≡ seen_source e (find_mark (sought_by mark e) x)
 source_is mark e x = source_in_turn mark e x ∙ sym (seen_in_turn e (sought_by mark e) x)
 
--- nothing is found where nothing is sought
+-- nothing is found if nothing is sought
 none_by : (u b l p q r : Bool) (F G H : BomMatch) → ((u || b) || l) ≡ false → cond (p && u) F (cond (q && b) G (cond (r && l) H Other)) ≡ Other
 none_by true b l p q r F G H h = cc
 none_by false true l p q r F G H h = cc
@@ -523,7 +523,7 @@ takes_then O M A outcome held bytes after src last n read V W Z same is none wri
           ∙ ap (λ x. (h.taken ++ k.taken) ++ A.pieces (x ++ more)) (sym gone);
     }
 
--- where nothing is held
+-- if nothing is held
 pub ends_none : (s : DecoderState) (held unread : List ℕ) (last : Bool) (free room mark : ℕ) (outcome : DecoderResult) → length held ≡ 0 → EndsWith s unread last free room mark outcome → EndsWith (held_state s held) unread last free room mark outcome
 ends_none s (b ∷ x) unread last free room mark outcome e h = absurd (omega (arith, e))
 ends_none s [] unread last free room mark InputEmpty e h = (

@@ -15,7 +15,7 @@ use Rattle.encoding_front.specs.calls.Stream.{ahead, greater, greater_if, room_a
 use Rattle.encoding_front.specs.declared.seeking.ByteOrderMark.TheVariants.{Utf8, Utf16Be, Utf16Le}
 use Rattle.encoding_front.specs.declared.seeking.BomSet.{BomSet}
 
--- more bytes want more room
+-- more bytes need more room
 line_rises : (f e m n : ℕ) → m ≤ n → f * m + e ≤ f * n + e
 line_rises f e m n h = omega (arith, mul-le-mul_left f h)
 

@@ -209,7 +209,7 @@ ends_settled s t left unread last free room mark InputEmpty same e is h = (
 ends_settled s t left unread last free room mark OutputFull same e is h = (h.0, (h.1.0, (λ r f. ap head_piece (same (unread ++ r)) ∙ ap (λ x. head_piece (s.pieces (x ++ r))) (sym is) ∙ h.1.1 r f), h.1.2))
 ends_settled s t left unread last free room mark (Malformed a b) same e is h = h
 
--- W is what is wanted before the mark is looked for, and X and B are N and A by another name
+-- W is what is needed before the mark is looked for, and X and B are N and A by another name
 pub suffices_settled : (W X N A B : OutputUnit → ℕ → ℕ) (t last : Bool) (size left n read old new : ℕ) (outcome : DecoderResult) → ((k : OutputUnit) (m : ℕ) → X k m ≡ N k m) → ((k : OutputUnit) (m : ℕ) → B k m ≡ A k m)
     → n ≤ size → left ≡ size - n → read ≤ left → LeavesRoom W X n → Suffices N A t last left (left - read) old new outcome → Suffices W B t last size (size - (n + read)) old new outcome
 suffices_settled W X N A B t last size left n read old new InputEmpty x b within is few leaves h = λ k m units stops fits.
@@ -264,7 +264,7 @@ whole_call v v' t mark e x old new CoderResult.InputEmpty read written free had 
     whole_of v v' t mark e x old new k.taken written had begins (all_taken v v' t mark e x k.taken read begins k.rest ends.0 (ended ends.1)) k.writes k.had
 whole_call v v' t mark e x old new CoderResult.OutputFull read written free had begins never ends k = absurd (never refl)
 
--- without replacement, where no piece is malformed
+-- without replacement, if no piece is malformed
 pub well_formed_call : (v v' : DecoderView) (t : IndexLists) (mark : Mark) (e : Encoding) (x old new : List ℕ) (outcome : DecoderResult) (read written free : ℕ)
     → IsNewDecoder v t mark e → outcome ≢ DecoderResult.OutputFull → ((a b : ℕ) → outcome ≢ Malformed a b) → EndsWith v'.state (drop read x) true free 4 3 outcome
     → Takes (Reports outcome v'.state.pending) v.state.pieces v'.state.pieces x true v.state.pending v'.state.pending read (λ (l : List ℕ). Adds old 0 (encode_utf8_all l) new written) → IsWhole t mark e x new written false
@@ -275,7 +275,7 @@ well_formed_call v v' t mark e x old new DecoderResult.InputEmpty read written f
 well_formed_call v v' t mark e x old new DecoderResult.OutputFull read written free begins never fine ends k = absurd (never refl)
 well_formed_call v v' t mark e x old new (Malformed a b) read written free begins never fine ends k = absurd (fine a b refl)
 
--- and where one is
+-- and if one is
 pub malformed_call : (v v' : DecoderView) (t : IndexLists) (mark : Mark) (e : Encoding) (x : List ℕ) (outcome : DecoderResult) (a b read : ℕ) (W : List ℕ → Type 0)
     → IsNewDecoder v t mark e → outcome ≡ Malformed a b → Takes (Reports outcome v'.state.pending) v.state.pieces v'.state.pieces x true v.state.pending v'.state.pending read W → 0 < malformed_count (marked_pieces t mark e x)
 malformed_call v v' t mark e x outcome a b read W begins is told =

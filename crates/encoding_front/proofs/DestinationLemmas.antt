@@ -1,4 +1,4 @@
--- Text that a call wrote, over a text or behind one. What a call wrote into the spare capacity of a vector.
+-- Text that a call wrote, over a text or after one. What a call wrote into the spare capacity of a vector.
 use Rattle.std.proofs.Common.{◌≡◌, ℕ, ◌+◌, Bool, true, List, [], ◌∷◌, ◌++◌, take, drop, refl, sym, ◌∙◌, ap, subst, arith, encode_utf8_all, ◌-◌, ◌≤◌, length, length-drop}
 use Rattle.std.proofs.lemmas.Bool.{and_parts}
 use Rattle.std.proofs.lemmas.List.{take_at, drop_at, take-append-drop, length-take-le, take-append-le, take-take}
@@ -75,13 +75,13 @@ overwrites old text_ mid new w prefix behind h = record {
   list = sym (take-append-drop w new) ∙ ap (λ x. x ++ drop w new) (prefix ∙ added old text_ mid w h) ∙ ap (λ x. text_ ++ x) (behind ∙ ap cleared (kept old text_ mid w h));
 }
 
--- behind a text there is a text
+-- after a text there is a text
 pub utf8_behind : (old all ts : List ℕ) → IsUtf8 old → all_scalars ts ≡ true → all ≡ old ++ encode_utf8_all ts → IsUtf8 all
 utf8_behind old all ts was are is = subst IsUtf8 (sym is) (IsUtf8-append old (encode_utf8_all ts) was (ts, (are, refl)))
 
 -- What a call wrote into the spare capacity of a vector.
 
--- behind what it held
+-- after what it held
 pub vec_written : (old xs ys tail : List ℕ) (a w size : ℕ) → a ≤ length xs → w ≤ length ys → length ys ≡ length (take (length xs - a) (drop a xs)) → size ≡ length xs → take a xs ≡ old
     → take (a + w) (take size (put_mid a (length xs - a) xs ys ++ tail)) ≡ old ++ take w ys
 vec_written old xs ys tail a w size within fits same all held =

@@ -46,7 +46,7 @@ behind_part w end xs ys within fits size behind =
     drop-append-le w ys (drop end xs) fits ∙ ap (λ l. l ++ drop end xs) behind
     ∙ sym (drop-append-le w (take end xs) (drop end xs) (omega (arith, size))) ∙ ap (drop w) (take-append-drop end xs)
 
--- where a character has no bytes, bytes are kept back
+-- if a character has no bytes, bytes are kept back
 keeps : (t : IndexLists) (s : CodecKind) (d u : ℕ) → (codec_of t s).coding.form d ≡ Unmapped u → kept_by_codec_kind s ≡ 10
 keeps t CodecKind.Utf8 d u h = absurd (cc)
 keeps t _ d u h = refl
@@ -57,7 +57,7 @@ unmappable_keeps x last answer u text written x' rest room call is =
     let reads = (told_items x last (Unmappable u) text written x' rest room (rw is at call)).reads in
     keeps x.tables (codec_kind_of (output_encoding_of x.encoding)) reads.1 u reads.4
 
--- nothing is asked for where no character lacks bytes
+-- nothing is asked for if no character lacks bytes
 pub nothing_referred : (answer : EncoderResult) → ((u : ℕ) → answer ≡ Unmappable u → ⊥) → referred answer ≡ []
 nothing_referred InputEmpty h = refl
 nothing_referred OutputFull h = refl
@@ -74,7 +74,7 @@ turned x last answer text called written x' rest n room end call size fits free 
   call = subst (λ (k : ℕ). Encoded x last answer text called x' rest k) (free ∙ ap (λ (k : ℕ). end - k) (sym size)) call;
 }
 
--- what is written behind an offset leaves the rest
+-- what is written after an offset leaves the rest
 pub behind_put : (old mid new : List ℕ) (a n b : ℕ) → b ≡ a + n → drop a mid ≡ drop a old → drop b new ≡ drop b mid → drop b new ≡ drop b old
 behind_put old mid new a n b end before now =
     let at = λ (xs : List ℕ). ap (λ k. drop k xs) end ∙ sym (drop-drop n a xs) in

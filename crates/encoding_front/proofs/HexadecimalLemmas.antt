@@ -27,7 +27,7 @@ nothing_written number buffer size small = record {
   written = ap (digits_onto 64 16 true number) (drop_all 6 buffer (omega (arith, size)));
 }
 
--- a digit at k, in front of those behind it
+-- a digit at k, in front of those after it
 put_before : (k digit glyph : ℕ) (buffer : List ℕ) → k < length buffer → digit ≡ glyph → drop k (set buffer k digit) ≡ glyph ∷ drop (suc k) buffer
 put_before k digit glyph buffer inside is = drop-set buffer k digit inside ∙ (λ i. is i ∷ drop (next i) buffer)
   where

@@ -60,7 +60,7 @@ unmapped_bytes e s t d u lost =
     let q = last_set e s t in
     open_from-append Decimal e s t (d ∷ []) ∙ rw (lost, append-nil (reference_bytes Decimal u)) (sym (append_assoc (open_from Decimal e s t) (e.escape q (e.set q d)) (reference_bytes Decimal u)))
 
--- Where a call stands behind a reference: what was read and written, and what it has still to write.
+-- Where a call stands after a reference: what was read and written, and what it has still to write.
 pub record Gone (e : Coding) (last : Bool) (s : EscapeState) (text written : List ℕ) (s' : EscapeState) (rest : List ℕ) (lost : Bool) (prefix : List ℕ) : Type 0 where
   pub split : text ≡ prefix ++ rest
   pub opened : written ≡ open_from Decimal e s prefix
@@ -103,7 +103,7 @@ put_before e last outcome s text w s' rest prefix law left split =
     law.bytes ∙ ap (λ l. l ++ e.escape (last_set e s law.before) s') (sym (mapped_open Decimal e s law.before law.mapped))
     ∙ ap (λ l. open_from Decimal e s l ++ e.escape (last_set e s l) s') ends
 
--- and so are both texts, one behind the other
+-- and so are both texts, one after the other
 put_on : (e : Coding) (s : EscapeState) (written prefix : List ℕ) (q : EscapeState) (more w : List ℕ) (s' : EscapeState) → written ≡ open_from Decimal e s prefix → q ≡ last_set e s prefix
     → Puts e q more w s' → Puts e s (prefix ++ more) (written ++ w) s'
 put_on e s written prefix q more w s' opened set is =
@@ -160,7 +160,7 @@ in_prefix e (x ∷ a) b (y ∷ before) c after mapped is lost =
     let found = in_prefix e a b before c after mapped tail lost in
     (found.0, ap (λ (d : ℕ). d ∷ a) same ∙ ap (λ l. y ∷ l) found.1)
 
--- the same where the second text ends with one more
+-- the same if the second text ends with one more
 in_prefix_or_last : (e : Coding) (a b : List ℕ) (d : ℕ) (before : List ℕ) (c : ℕ) (after : List ℕ) → AllMapped e b → a ++ (b ++ d ∷ []) ≡ before ++ c ∷ after → ¬ (IsMapped (e.form c))
     → ((more : List ℕ) × (a ≡ before ++ c ∷ more)) ⊎ ((after ≡ []) × (before ++ c ∷ [] ≡ a ++ (b ++ d ∷ [])))
 in_prefix_or_last e [] [] d [] c after mapped is lost =
@@ -194,7 +194,7 @@ moves_on : (e : Coding) (s s' s'' : EscapeState) → Moves e s s' → Moves e s'
 moves_on e s s' s'' h (inl same) = subst (λ (q : EscapeState). Moves e s q) (sym same) h
 moves_on e s s' s'' h (inr moved) = inr moved
 
--- Behind a reference.
+-- After a reference.
 pub record Going (e : Coding) (last : Bool) (s : EscapeState) (text written : List ℕ) (s' : EscapeState) (rest : List ℕ) (lost : Bool) (end : ℕ) : Type 0 where
   pub prefix : List ℕ
   pub gone : Gone e last s text written s' rest lost prefix
@@ -251,7 +251,7 @@ joined e true s text written s' rest lost prefix w s'' rest' g is =
     owed_open e true s text written s' rest lost prefix g ∙ ap (λ l. written ++ l) is ∙ sym (append_assoc written w (whole_from Decimal e s'' rest'))
 joined e false s text written s' rest lost prefix w s'' rest' g is = λ r. g.continues r ∙ ap (λ l. written ++ l) (is r) ∙ sym (append_assoc written w (open_from Decimal e s'' (rest' ++ r)))
 
--- no escape is to be written where the set is that in which the text ends
+-- no escape is to be written if the set is that in which the text ends
 at_set : (x : EncoderState) (last : Bool) (text written : List ℕ) (s' : EscapeState) (rest : List ℕ) (lost : Bool) (prefix : List ℕ) → Gone (coding_in x) last x.set text written s' rest lost prefix
     → Puts (coding_in x) x.set prefix written s'
 at_set x last text written s' rest lost prefix g =
@@ -370,7 +370,7 @@ drop_into a k n xs ys within size fits behind =
     ∙ drop-append-le n ys (post_of a k xs) fits ∙ ap (λ l. drop n ys ++ l) (none_after a k xs (omega (arith, size))) ∙ append-nil (drop n ys)
     ∙ behind ∙ ap (λ m. drop n (take m (drop a xs))) size ∙ ap (drop n) (take_rest xs a) ∙ drop-drop n a xs
 
--- what is behind it stays as it was, and so does the length
+-- what is after it stays as it was, and so does the length
 pub behind_turn : (old dst ys : List ℕ) (a n : ℕ) → a ≤ length dst → n ≤ length ys → drop a dst ≡ drop a old → drop n ys ≡ drop n (take (length dst - a) (drop a dst))
     → drop (a + n) (put_mid a (length dst - a) dst ys) ≡ drop (a + n) old
 behind_turn old dst ys a n within fits before behind =

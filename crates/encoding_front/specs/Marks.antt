@@ -36,7 +36,7 @@ mark_piece (suc n) = well_formed (suc n) [] ∷ []
 abbrev pub pieces_from : IndexLists → Encoding × ℕ → List ℕ → List Piece
 pieces_from t s x = mark_piece s.1 ++ pieces_of t s.0 (drop s.1 x)
 
--- the pieces of a whole input said to be in e, where a mark that is taken is a piece without text
+-- the pieces of a whole input said to be in e; a mark that is taken is a piece without text
 abbrev pub marked_pieces : IndexLists → Mark → Encoding → List ℕ → List Piece
 marked_pieces t mark e x = pieces_from t (source_of mark e x) x
 

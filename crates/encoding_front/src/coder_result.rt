@@ -7,6 +7,6 @@ pub enum CoderResult {
     /// a call with `last` all of the stream is written; else hand in what follows.
     InputEmpty,
     /// There was no room for more, and something is left to do: make room, and call again with what
-    /// is unread and `last` as it was, also where nothing is unread.
+    /// is unread and `last` as it was, even if nothing is unread.
     OutputFull,
 }

@@ -1,5 +1,5 @@
-//! The decoder of a stream: a byte order mark is taken first, and U+FFFD is written where it is
-//! asked for.
+//! The decoder of a stream: a byte order mark is taken first, and U+FFFD is written if it is asked
+//! for.
 
 ghost use Rattle.std.specs.Prelude.{◌≡◌, ◌≢◌, ℕ, ◌<◌, ◌≤◌, ◌+◌, ◌-◌, ◌++◌, true, false, IsTrue};
 ghost use Rattle.std.specs.Prelude.{List, [], Some, length, take, drop, encode_utf8_all, refl};
@@ -53,7 +53,7 @@ pub trait StreamDecoder {
     ghost view: { Self → DecoderView };
 
     /// How the parts of that view belong together: the pieces to come are those of the held bytes
-    /// and of what follows, in the encoding in force or behind a mark.
+    /// and of what follows, in the encoding in force or after a mark.
     ghost opened: { (d : Self) → IsOpenedBy (view d) };
 
     /// Decodes bytes into a destination up to the first malformed sequence. Returns how the call
@@ -93,14 +93,14 @@ pub trait StreamDecoder {
 /// the mode of ISO-2022-JP, and whether a mark is still looked for. The caller keeps the unread
 /// bytes. How it is used:
 ///
-/// - A call is given the next bytes, room for text, and `last`, which is true where the stream ends
+/// - A call is given the next bytes, room for text, and `last`, which is true if the stream ends
 ///   with these bytes. A stream that ends is ended by one call with `last`, which may have no
 ///   bytes.
 /// - A call returns how many bytes it read, and how many bytes or units of text it wrote. Unread
 ///   bytes are handed in again, first, in the next call.
 /// - `InputEmpty`: all is read. After a call with `last` the decoder is finished: `is_finished`
 ///   returns true, and only it and `encoding` may be called.
-/// - `OutputFull`: make room, and call again with the unread bytes and `last` as it was, also where
+/// - `OutputFull`: make room, and call again with the unread bytes and `last` as it was, even if
 ///   nothing is unread. Room for 4 bytes or 2 units is always enough to go on.
 /// - `Malformed`, in calls without replacement: write U+FFFD or not, and call again as after
 ///   `OutputFull`. Calls with replacement write U+FFFD themselves.
@@ -138,7 +138,7 @@ impl Encoding {
         Decoder::new(self, Mark::Sniff, tables)
     }
 
-    /// A decoder of a new stream that skips the byte order mark of this encoding, where the stream
+    /// A decoder of a new stream that skips the byte order mark of this encoding, if the stream
     /// begins with it, and decodes by this encoding (for UTF-8: the Encoding Standard, section 6,
     /// "UTF-8 decode"). The marks of other encodings are bytes as any others. Only UTF-8, UTF-16BE
     /// and UTF-16LE have a mark.
@@ -220,7 +220,7 @@ impl<'t> StreamDecoder for Decoder<'t> {
 impl<'t> Decoder<'t> {
     ghost use Rattle.encoding_front.specs.calls.DecoderViews.{decoder_view};
 
-    /// A decoder of a new stream in `encoding`, where `mark` says which byte order marks are taken.
+    /// A decoder of a new stream in `encoding`; `mark` says which byte order marks are taken.
     ///
     /// The condition, that the indexes of `encoding` are in `tables`, is tested by
     /// `Encoding::is_ready`.
@@ -238,7 +238,7 @@ impl<'t> Decoder<'t> {
         }
     }
 
-    // Looks for a mark, and returns how many bytes were read with it: none where what is there may
+    // Looks for a mark, and returns how many bytes were read with it: none if what is there may
     // still become one, and all is held.
     fn take_mark(&mut self, src: &[u8], last: bool) -> Option<usize>
         ensures takes { TakesMark (decoder_view self.old).state (decoder_view self.new).state
@@ -284,14 +284,14 @@ impl<'t> Decoder<'t> {
     ///
     /// - `InputEmpty`: all of `src` is read; with `last` the stream is decoded, and the decoder is
     ///   finished.
-    /// - `OutputFull`: fewer than 4 bytes are free behind what is written, and something is left to
+    /// - `OutputFull`: fewer than 4 bytes are free after what is written, and something is left to
     ///   do.
     /// - `Malformed(length, behind)`: a malformed sequence of `length` bytes (1 to 4) ends `behind`
     ///   bytes (0 to 3) before the end of what was read; at least 3 bytes are free, enough for
     ///   U+FFFD.
     ///
-    /// A character is never split, and nothing behind what is written changes. `OutputFull` does
-    /// not come where `dst` is as long as `max_utf8_buffer_length_without_replacement` returns. The
+    /// A character is never split, and nothing after what is written changes. `OutputFull` does not
+    /// come if `dst` is as long as `max_utf8_buffer_length_without_replacement` returns. The
     /// condition, that the decoder is not finished, is tested by `is_finished`.
     pub fn decode_to_utf8_without_replacement(
         &mut self,
@@ -317,15 +317,15 @@ impl<'t> Decoder<'t> {
     ///
     /// - `InputEmpty`: all of `src` is read; with `last` the stream is decoded, and the decoder is
     ///   finished.
-    /// - `OutputFull`: fewer than 2 units are free behind what is written, and something is left to
+    /// - `OutputFull`: fewer than 2 units are free after what is written, and something is left to
     ///   do.
     /// - `Malformed(length, behind)`: a malformed sequence of `length` bytes (1 to 4) ends `behind`
     ///   bytes (0 to 3) before the end of what was read; at least 1 unit is free, enough for
     ///   U+FFFD.
     ///
-    /// A surrogate pair is never split, and nothing behind what is written changes. `OutputFull`
-    /// does not come where `dst` is as long as `max_utf16_buffer_length` returns. The condition,
-    /// that the decoder is not finished, is tested by `is_finished`.
+    /// A surrogate pair is never split, and nothing after what is written changes. `OutputFull`
+    /// does not come if `dst` is as long as `max_utf16_buffer_length` returns. The condition, that
+    /// the decoder is not finished, is tested by `is_finished`.
     pub fn decode_to_utf16_without_replacement(
         &mut self,
         src: &[u8],
@@ -356,10 +356,10 @@ impl<'t> Decoder<'t> {
     /// How many of `bytes`, if they come next, stand for the characters of their own numbers, as in
     /// Latin1: a caller may copy these, and hand in the rest.
     ///
-    /// - `Some(n)`: the first `n` bytes do. In a single-byte encoding the index tells, and `n` is
+    /// - `Some(n)`: the first `n` bytes do. In a single-byte encoding the index decides, and `n` is
     ///   the most that is true. In the others `n` ends before the first byte that is not ASCII, in
     ///   ISO-2022-JP also before the first 0E, 0F or 1B.
-    /// - `None`: it is not told. A byte order mark may still come, bytes are pending, ISO-2022-JP
+    /// - `None`: it is not known. A byte order mark may still come, bytes are pending, ISO-2022-JP
     ///   is in another mode than ASCII, or the encoding is UTF-16BE, UTF-16LE or replacement.
     ///
     /// The condition, that the decoder is not finished, is tested by `is_finished`.
@@ -374,7 +374,7 @@ impl<'t> Decoder<'t> {
     }
 
     /// How many units of UTF-16 are room enough for the text of `n` more bytes, whether malformed
-    /// sequences are reported or written as U+FFFD; `None` where the number passes a `usize`.
+    /// sequences are reported or written as U+FFFD; `None` if the number passes a `usize`.
     ///
     /// What is pending counts too. While a byte order mark is looked for, the number is enough for
     /// each encoding that may come. The condition, that the decoder is not finished, is tested by
@@ -387,7 +387,7 @@ impl<'t> Decoder<'t> {
     }
 
     /// How many bytes of UTF-8 are room enough for the text of `n` more bytes up to the first
-    /// malformed sequence, and for one U+FFFD there; `None` where the number passes a `usize`.
+    /// malformed sequence, and for one U+FFFD there; `None` if the number passes a `usize`.
     ///
     /// What is pending counts too. While a byte order mark is looked for, the number is enough for
     /// each encoding that may come. The condition, that the decoder is not finished, is tested by
@@ -400,7 +400,7 @@ impl<'t> Decoder<'t> {
     }
 
     /// How many bytes of UTF-8 are room enough for the text of `n` more bytes, with U+FFFD for each
-    /// malformed sequence; `None` where the number passes a `usize`.
+    /// malformed sequence; `None` if the number passes a `usize`.
     ///
     /// What is pending counts too. While a byte order mark is looked for, the number is enough for
     /// each encoding that may come. The condition, that the decoder is not finished, is tested by
@@ -412,7 +412,7 @@ impl<'t> Decoder<'t> {
         self.query(OutputUnit::Replaced, n)
     }
 
-    // The room that is enough for the text of `n` more bytes; none where it passes a `usize`.
+    // The room that is enough for the text of `n` more bytes; none if it passes a `usize`.
     fn query(&self, count: OutputUnit, n: usize) -> Option<usize>
         ensures { result ≡ room_asked (decoder_view self.now).opening count n }
     {
@@ -461,11 +461,11 @@ impl<'t> Decoder<'t> {
     ///
     /// - `InputEmpty`: all of `src` is read; with `last` the stream is decoded, and the decoder is
     ///   finished.
-    /// - `OutputFull`: fewer than 4 bytes are free behind what is written, and something is left to
+    /// - `OutputFull`: fewer than 4 bytes are free after what is written, and something is left to
     ///   do.
     ///
-    /// A character is never split, and nothing behind what is written changes. `OutputFull` does
-    /// not come where `dst` is as long as `max_utf8_buffer_length` returns. The condition, that the
+    /// A character is never split, and nothing after what is written changes. `OutputFull` does not
+    /// come if `dst` is as long as `max_utf8_buffer_length` returns. The condition, that the
     /// decoder is not finished, is tested by `is_finished`.
     pub fn decode_to_utf8(
         &mut self,
@@ -492,12 +492,12 @@ impl<'t> Decoder<'t> {
     ///
     /// - `InputEmpty`: all of `src` is read; with `last` the stream is decoded, and the decoder is
     ///   finished.
-    /// - `OutputFull`: fewer than 2 units are free behind what is written, and something is left to
+    /// - `OutputFull`: fewer than 2 units are free after what is written, and something is left to
     ///   do.
     ///
-    /// A surrogate pair is never split, and nothing behind what is written changes. `OutputFull`
-    /// does not come where `dst` is as long as `max_utf16_buffer_length` returns. The condition,
-    /// that the decoder is not finished, is tested by `is_finished`.
+    /// A surrogate pair is never split, and nothing after what is written changes. `OutputFull`
+    /// does not come if `dst` is as long as `max_utf16_buffer_length` returns. The condition, that
+    /// the decoder is not finished, is tested by `is_finished`.
     pub fn decode_to_utf16(
         &mut self,
         src: &[u8],
@@ -521,8 +521,8 @@ impl<'t> Decoder<'t> {
     /// destination is well-formed UTF-8 again. Results, and what they ask for, are those of
     /// `decode_to_utf8`.
     ///
-    /// Where a character of `dst` is overwritten in part, its other bytes become 00; nothing else
-    /// behind what is written changes. The conditions are that the decoder is not finished
+    /// If a character of `dst` is overwritten in part, its other bytes become 00; nothing else
+    /// after what is written changes. The conditions are that the decoder is not finished
     /// (`is_finished`) and that `dst` is well-formed: `utf8_valid_up_to(dst)` is its length.
     pub fn decode_to_str(
         &mut self,
@@ -548,8 +548,8 @@ impl<'t> Decoder<'t> {
     /// destination is well-formed UTF-8 again. Results, and what they ask for, are those of
     /// `decode_to_utf8_without_replacement`.
     ///
-    /// Where a character of `dst` is overwritten in part, its other bytes become 00; nothing else
-    /// behind what is written changes. The conditions are that the decoder is not finished
+    /// If a character of `dst` is overwritten in part, its other bytes become 00; nothing else
+    /// after what is written changes. The conditions are that the decoder is not finished
     /// (`is_finished`) and that `dst` is well-formed: `utf8_valid_up_to(dst)` is its length.
     pub fn decode_to_str_without_replacement(
         &mut self,
@@ -571,13 +571,13 @@ impl<'t> Decoder<'t> {
         (outcome, read, written)
     }
 
-    /// Decodes bytes into the spare capacity of a text, behind what it has, with U+FFFD for each
+    /// Decodes bytes into the spare capacity of a text, after what it has, with U+FFFD for each
     /// malformed sequence. Returns how the call ended, how many bytes of `src` were read, and
     /// whether a malformed sequence was replaced.
     ///
-    /// The capacity stays as it is: `OutputFull` comes where fewer than 4 bytes of it are spare and
-    /// something is left to do, and not where it has as many spare as `max_utf8_buffer_length`
-    /// returns. The condition, that the decoder is not finished, is tested by `is_finished`.
+    /// The capacity stays as it is: `OutputFull` comes if fewer than 4 bytes of it are spare and
+    /// something is left to do, and not if as many are spare as `max_utf8_buffer_length` returns.
+    /// The condition, that the decoder is not finished, is tested by `is_finished`.
     pub fn decode_to_string(
         &mut self,
         src: &[u8],
@@ -600,12 +600,12 @@ impl<'t> Decoder<'t> {
         (outcome, read, had_errors)
     }
 
-    /// Decodes bytes into the spare capacity of a text, behind what it has, up to the first
+    /// Decodes bytes into the spare capacity of a text, after what it has, up to the first
     /// malformed sequence. Returns how the call ended, as `decode_to_utf8_without_replacement`
     /// does, and how many bytes of `src` were read.
     ///
-    /// The capacity stays as it is: `OutputFull` comes where fewer than 4 bytes of it are spare and
-    /// something is left to do, and not where it has as many spare as
+    /// The capacity stays as it is: `OutputFull` comes if fewer than 4 bytes of it are spare and
+    /// something is left to do, and not if as many are spare as
     /// `max_utf8_buffer_length_without_replacement` returns. The condition, that the decoder is not
     /// finished, is tested by `is_finished`.
     pub fn decode_to_string_without_replacement(
@@ -648,7 +648,7 @@ fn ahead(held: &[u8]) -> usize
     }
 }
 
-// The greater of two numbers where the second is asked for, and there.
+// The greater of two numbers if the second is asked for, and there.
 fn greater_if(is_asked: bool, other: Option<usize>, number: usize) -> Option<usize>
     ensures { result ≡ greater_if is_asked other (Some number) }
 {

@@ -31,13 +31,13 @@ use std::marker::Model;
 /// Between calls it keeps only the set in force, which ISO-2022-JP alone has; the caller keeps the
 /// unread text. How it is used:
 ///
-/// - A call is given the next text, room for bytes, and `last`, which is true where the text ends
-///   with it. A stream that ends is ended by one call with `last`, which may have no text.
+/// - A call is given the next text, room for bytes, and `last`, which is true if the text ends with
+///   it. A stream that ends is ended by one call with `last`, which may have no text.
 /// - A call returns how many bytes or units of text it read, and how many bytes it wrote. Unread
 ///   text is handed in again, first, in the next call.
 /// - `InputEmpty`: all is read. After a call with `last` the set is ASCII again, and the encoder is
 ///   as a new one.
-/// - `OutputFull`: make room, and call again with the unread text and `last` as it was, also where
+/// - `OutputFull`: make room, and call again with the unread text and `last` as it was, even if
 ///   nothing is unread. Room for 4 bytes is always enough to go on without replacement, and for 14
 ///   with it.
 /// - `Unmappable`, in calls without replacement: the character that was read last has no bytes.
@@ -96,7 +96,7 @@ impl<'t> Encoder<'t> {
     }
 
     /// Whether an escape to ASCII is still to be written at the end of the stream: so only in
-    /// ISO-2022-JP, where another set is in force.
+    /// ISO-2022-JP, if another set is in force.
     pub fn has_pending_state(&self) -> bool
         ensures { IsTrue result ↔ (self.now.set ≢ Ascii) }
     {
@@ -104,8 +104,8 @@ impl<'t> Encoder<'t> {
     }
 
     /// How many bytes are room enough for what `n` bytes of UTF-8 are encoded to without
-    /// replacement, and for the last escape; `None` where the number passes a `usize`. References
-    /// are not counted.
+    /// replacement, and for the last escape; `None` if the number passes a `usize`. References are
+    /// not counted.
     pub fn max_buffer_length_from_utf8_without_replacement(&self, n: usize) -> Option<usize>
         ensures { result ≡ queried_room self.now.encoding false n }
     {
@@ -114,8 +114,8 @@ impl<'t> Encoder<'t> {
     }
 
     /// How many bytes are room enough for what `n` units of UTF-16 are encoded to without
-    /// replacement, and for the last escape; `None` where the number passes a `usize`. References
-    /// are not counted.
+    /// replacement, and for the last escape; `None` if the number passes a `usize`. References are
+    /// not counted.
     pub fn max_buffer_length_from_utf16_without_replacement(&self, n: usize) -> Option<usize>
         ensures { result ≡ queried_room self.now.encoding true n }
     {
@@ -124,8 +124,8 @@ impl<'t> Encoder<'t> {
     }
 
     /// How many bytes are room enough for what `n` bytes of UTF-8 are encoded to with replacement,
-    /// if each character has bytes; `None` where the number passes a `usize`. It is the number for
-    /// a call without replacement, and 10 more for a reference unless the output encoding is UTF-8.
+    /// if each character has bytes; `None` if the number passes a `usize`. It is the number for a
+    /// call without replacement, and 10 more for a reference unless the output encoding is UTF-8.
     pub fn max_buffer_length_from_utf8_if_no_unmappables(&self, n: usize) -> Option<usize>
         ensures { result ≡ queried_with_kept self.now.encoding false n }
     {
@@ -134,8 +134,8 @@ impl<'t> Encoder<'t> {
     }
 
     /// How many bytes are room enough for what `n` units of UTF-16 are encoded to with replacement,
-    /// if each character has bytes; `None` where the number passes a `usize`. It is the number for
-    /// a call without replacement, and 10 more for a reference unless the output encoding is UTF-8.
+    /// if each character has bytes; `None` if the number passes a `usize`. It is the number for a
+    /// call without replacement, and 10 more for a reference unless the output encoding is UTF-8.
     pub fn max_buffer_length_from_utf16_if_no_unmappables(&self, n: usize) -> Option<usize>
         ensures { result ≡ queried_with_kept self.now.encoding true n }
     {
@@ -154,8 +154,8 @@ impl<'t> Encoder<'t> {
         }
     }
 
-    // Encodes what is left of a source, and stops behind a character without bytes. Returns how
-    // the call ended and the bytes written.
+    // Encodes what is left of a source, and stops after a character without bytes. Returns how the
+    // call ended and the bytes written.
     pub(crate) fn encode_source<S: Source>(
         &mut self,
         source: &mut S,
@@ -187,8 +187,8 @@ impl<'t> Encoder<'t> {
     ///   its reference is written in is written; the reference is the caller's. `c` is the
     ///   character, or U+FFFD for U+000E, U+000F and U+001B in ISO-2022-JP.
     ///
-    /// What was read ends between characters, and nothing behind what is written changes.
-    /// `OutputFull` does not come where `dst` is as long as
+    /// What was read ends between characters, and nothing after what is written changes.
+    /// `OutputFull` does not come if `dst` is as long as
     /// `max_buffer_length_from_utf8_without_replacement` returns.
     pub fn encode_from_utf8_without_replacement(
         &mut self,
@@ -214,8 +214,8 @@ impl<'t> Encoder<'t> {
     /// those of `encode_from_utf8_without_replacement`.
     ///
     /// A surrogate in no pair of `src` is encoded as U+FFFD. What was read ends at no place between
-    /// the two units of a pair, and nothing behind what is written changes. `OutputFull` does not
-    /// come where `dst` is as long as `max_buffer_length_from_utf16_without_replacement` returns.
+    /// the two units of a pair, and nothing after what is written changes. `OutputFull` does not
+    /// come if `dst` is as long as `max_buffer_length_from_utf16_without_replacement` returns.
     pub fn encode_from_utf16_without_replacement(
         &mut self,
         src: &[u16],
@@ -249,10 +249,10 @@ impl<'t> Encoder<'t> {
     ///   character may be written already; that set is then in force.
     ///
     /// Unless the output encoding is UTF-8, the last ten bytes of `dst` are kept back, so that a
-    /// reference is never cut: only a reference that begins before them, or where they begin,
+    /// reference is never cut. Only a reference that begins before them, or where they begin,
     /// reaches into them, and it ends the call. A `dst` of fewer than ten bytes then takes nothing.
     /// In the room that `max_buffer_length_from_utf8_if_no_unmappables` returns only a reference
-    /// ends a call before the text ends. What was read ends between characters; nothing behind what
+    /// ends a call before the text ends. What was read ends between characters; nothing after what
     /// is written changes.
     pub fn encode_from_utf8(
         &mut self,
@@ -301,7 +301,7 @@ impl<'t> Encoder<'t> {
         (result, source.read(), written, had_unmappables)
     }
 
-    /// Encodes text into the spare capacity of a vector, behind what it holds, with references as
+    /// Encodes text into the spare capacity of a vector, after what it holds, with references as
     /// `encode_from_utf8` writes them. Returns how the call ended, how many bytes of `src` were
     /// read, and whether a reference was written.
     ///
@@ -328,7 +328,7 @@ impl<'t> Encoder<'t> {
         (result, read, had_unmappables)
     }
 
-    /// Encodes text into the spare capacity of a vector, behind what it holds, up to the first
+    /// Encodes text into the spare capacity of a vector, after what it holds, up to the first
     /// character without bytes. Returns how the call ended, as
     /// `encode_from_utf8_without_replacement` does, and how many bytes of `src` were read.
     ///

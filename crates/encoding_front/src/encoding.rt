@@ -1,4 +1,4 @@
-//! The forty encodings as values: what is found by a label or a mark, and what is told of each.
+//! The forty encodings as values: what is found by a label or a mark, and what is known of each.
 
 ghost use Rattle.std.specs.Prelude.{◌≡◌, ◌<◌, ◌↔◌, Some, IsTrue};
 ghost use Rattle.std.specs.Str.{IsAscii, IsUtf8};
@@ -115,9 +115,9 @@ const ENCODINGS: [Encoding; 40] = [
 // end
 
 impl Encoding {
-    /// The encoding that has this label, or `None` where no encoding has it ("get an encoding" of
-    /// the Encoding Standard, section 4.2). White space at both ends (the bytes 09, 0A, 0C, 0D and
-    /// 20) and the case of ASCII letters do not matter.
+    /// The encoding that has this label, or `None` if no encoding has it ("get an encoding" of the
+    /// Encoding Standard, section 4.2). White space at both ends (the bytes 09, 0A, 0C, 0D and 20)
+    /// and the case of ASCII letters do not matter.
     pub fn for_label(label: &[u8]) -> Option<Encoding>
         ensures { (e : Encoding) → (result ≡ Some e) ↔ HasLabel e label.now }
     {
@@ -125,7 +125,7 @@ impl Encoding {
         Some(at_number(number))
     }
 
-    /// The encoding that has this label, or `None` where no encoding but replacement has it: for a
+    /// The encoding that has this label, or `None` if no encoding but replacement has it: for a
     /// caller to whom a label of replacement is an error, as an unknown one is. White space at both
     /// ends (the bytes 09, 0A, 0C, 0D and 20) and the case of ASCII letters do not matter.
     pub fn for_label_no_replacement(label: &[u8]) -> Option<Encoding>
@@ -140,7 +140,7 @@ impl Encoding {
     }
 
     /// The encoding whose byte order mark stands at the start of `bytes`, and the length of the
-    /// mark in bytes; `None` where there is none ("BOM sniff" of the Encoding Standard, section 6).
+    /// mark in bytes; `None` if there is none ("BOM sniff" of the Encoding Standard, section 6).
     /// The marks are EF BB BF of UTF-8, FE FF of UTF-16BE and FF FE of UTF-16LE.
     pub fn for_bom(bytes: &[u8]) -> Option<(Encoding, usize)>
         ensures { result ≡ mark_at_start bytes.now }
@@ -172,7 +172,7 @@ impl Encoding {
         }
     }
 
-    /// Whether every character has bytes in the output encoding: it does where that is UTF-8. The
+    /// Whether every character has bytes in the output encoding: it does if that is UTF-8. The
     /// output of gb18030 lacks some characters (the Encoding Standard, section 10.2.2).
     pub fn can_encode_everything(self) -> bool
         ensures { IsTrue result ↔ IsUtf8Encoding (output_encoding_of self) }
@@ -205,8 +205,8 @@ impl Encoding {
     }
 
     /// The length in bytes of the longest prefix that is well-formed UTF-8 (RFC 3629): it ends
-    /// before the first byte of the first malformed sequence, and is the length of `bytes` where
-    /// there is none.
+    /// before the first byte of the first malformed sequence, and is the length of `bytes` if there
+    /// is none.
     pub fn utf8_valid_up_to(bytes: &[u8]) -> usize
         ensures { IsLongestPrefix IsUtf8 bytes.now result }
     {
@@ -248,7 +248,7 @@ impl Encoding {
         are_there(self.needs(), tables)
     }
 
-    /// Whether each character that is written, where this encoding is asked for, reads back as it;
+    /// Whether each character that is written reads back as itself if this encoding is asked for;
     /// others are reported. It is false for Shift_JIS, EUC-JP, ISO-2022-JP, gb18030 and GBK, which
     /// have folds: they write some characters as others.
     pub fn keeps_characters(self) -> bool

@@ -40,15 +40,15 @@ use crate::mark::Mark;
 use crate::one_shot_fault::OneShotFault;
 use std::hash::Hash;
 
-/// Encodings are equal exactly where they are the same of the forty, and so are the bytes by which they are
-/// hashed.
+/// Encodings are equal exactly when they are the same of the forty, and so are the bytes by which
+/// they are hashed.
 pub fn equality()
     ensures equal { (d e : Encoding) → IsTrue (⟦<Encoding as PartialEq>⟧.eq d e) ↔ (d ≡ e) }
     ensures hash { (d e : Encoding)
         → (⟦<Encoding as Hash>⟧.hash_input d ≡ ⟦<Encoding as Hash>⟧.hash_input e) ↔ (d ≡ e) }
 {}
 
-/// Results of calls, marks and faults are equal exactly where they are the same.
+/// Results of calls, marks and faults are equal exactly when they are the same.
 pub fn outcomes_are_compared()
     ensures result { (a b : CoderResult) → IsTrue (⟦<CoderResult as PartialEq>⟧.eq a b) ↔ (a ≡ b) }
     ensures mark { (a b : Mark) → IsTrue (⟦<Mark as PartialEq>⟧.eq a b) ↔ (a ≡ b) }
@@ -69,8 +69,8 @@ pub fn names_are_labels()
     ensures { (e : Encoding) → HasLabel e (encoding_name e) }
 {}
 
-/// What is written for a text reads back as that text exactly where each character of it has bytes, by any
-/// indexes that were accepted, where the output encoding has no folds.
+/// What is written for a text reads back as that text exactly when each character of it has bytes,
+/// by any indexes that were accepted, if the output encoding has no folds.
 pub fn texts_read_back()
     ensures { (t : IndexLists) (e : Encoding) → KeepsCharacters e → AreAcceptedTables t
         → ReadsBackExactly (pieces_of t (output_encoding_of e)) (coding_of t e) }
@@ -78,7 +78,7 @@ pub fn texts_read_back()
 
 /// What is written for a text in an output encoding, by any indexes that were accepted, read back
 /// in that encoding. What was written for the text so far agrees with it or is broken, also with an
-/// escape behind it; and the whole output reads as the text, or what stands before its last escape
+/// escape after it; and the whole output reads as the text, or what stands before its last escape
 /// is broken. What is broken stays so, whatever follows, and never reads as the text.
 pub fn read_back()
     ensures texts { (t : IndexLists) (e : Encoding) → AreAcceptedTables t
@@ -100,8 +100,8 @@ pub fn characters_read_back()
         → set_pieces_of t e Ascii ≡ pieces_of t (output_encoding_of e) }
 {}
 
-/// Where an output encoding has no folds, a call of its encoder that reports no character keeps a
-/// true verdict: nothing has to be read back, and the log alone tells whether the text reads back.
+/// If an output encoding has no folds, a call of its encoder that reports no character keeps a true
+/// verdict: nothing has to be read back, and the log alone says whether the text reads back.
 pub fn kept_characters_keep_verdicts()
     ensures { (t : IndexLists) (e : Encoding) → KeepsCharacters e → AreAcceptedTables t
         → (last : Bool) (outcome : EncoderResult) (before : EscapeState) (text written : List ℕ)

@@ -4,8 +4,8 @@
 //! An `Encoding` is a value: a constant of this crate (`SHIFT_JIS`), what a label names
 //! (`Encoding::for_label`), or what a byte order mark says (`Encoding::for_bom`). All but UTF-8,
 //! UTF-16BE, UTF-16LE, replacement and x-user-defined need indexes, which are handed in as
-//! `encoding_tables::Tables`; `Encoding::is_ready` tells whether they are there, and is the test of
-//! the condition of each call that takes tables.
+//! `encoding_tables::Tables`; `Encoding::is_ready` reports whether they are there, and is the test
+//! of the condition of each call that takes tables.
 //!
 //! A whole input is decoded by `Encoding::decode` and its variants, a whole text encoded by
 //! `Encoding::encode`. A stream is decoded by a `Decoder` and encoded by an `Encoder`, call by

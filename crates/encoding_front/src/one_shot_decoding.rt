@@ -22,9 +22,9 @@ impl Encoding {
     /// Returns the text, with U+FFFD for each malformed sequence, the encoding that it was decoded
     /// by, and whether there was a malformed sequence.
     ///
-    /// `Overflow` is returned where the room that a new decoder asks for passes a `usize`, `Memory`
-    /// where that room was refused. The condition, that the indexes of this encoding are in
-    /// `tables`, is tested by `is_ready`.
+    /// `Overflow` is returned if the room that a new decoder asks for passes a `usize`, `Memory` if
+    /// that room was refused. The condition, that the indexes of this encoding are in `tables`, is
+    /// tested by `is_ready`.
     pub fn decode(
         self,
         alloc: Global,
@@ -41,13 +41,13 @@ impl Encoding {
         self.decode_behind_bom(Mark::Sniff, alloc, tables, bytes)
     }
 
-    /// Decodes a whole input by this encoding, and skips its own byte order mark where the input
+    /// Decodes a whole input by this encoding, and skips its own byte order mark if the input
     /// begins with it (for UTF-8: the Encoding Standard, section 6, "UTF-8 decode"). Returns the
     /// text, with U+FFFD for each malformed sequence, and whether there was one.
     ///
-    /// `Overflow` is returned where the room that a new decoder asks for passes a `usize`, `Memory`
-    /// where that room was refused. The condition, that the indexes of this encoding are in
-    /// `tables`, is tested by `is_ready`.
+    /// `Overflow` is returned if the room that a new decoder asks for passes a `usize`, `Memory` if
+    /// that room was refused. The condition, that the indexes of this encoding are in `tables`, is
+    /// tested by `is_ready`.
     pub fn decode_with_bom_removal(
         self,
         alloc: Global,
@@ -68,9 +68,9 @@ impl Encoding {
     /// Encoding Standard, section 6, "UTF-8 decode without BOM"). Returns the text, with U+FFFD for
     /// each malformed sequence, and whether there was one.
     ///
-    /// `Overflow` is returned where the room that a new decoder asks for passes a `usize`, `Memory`
-    /// where that room was refused. The condition, that the indexes of this encoding are in
-    /// `tables`, is tested by `is_ready`.
+    /// `Overflow` is returned if the room that a new decoder asks for passes a `usize`, `Memory` if
+    /// that room was refused. The condition, that the indexes of this encoding are in `tables`, is
+    /// tested by `is_ready`.
     pub fn decode_without_bom_handling(
         self,
         alloc: Global,
@@ -88,11 +88,11 @@ impl Encoding {
 
     /// Decodes a whole input by this encoding, to which a byte order mark is text, unless a
     /// sequence is malformed (for UTF-8: the Encoding Standard, section 6, "UTF-8 decode without
-    /// BOM or fail"). Returns the text, or `None` where there is a malformed sequence.
+    /// BOM or fail"). Returns the text, or `None` if there is a malformed sequence.
     ///
-    /// `Overflow` is returned where the room that a new decoder asks for without replacement passes
-    /// a `usize`, `Memory` where that room was refused. The condition, that the indexes of this
-    /// encoding are in `tables`, is tested by `is_ready`.
+    /// `Overflow` is returned if the room that a new decoder asks for without replacement passes a
+    /// `usize`, `Memory` if that room was refused. The condition, that the indexes of this encoding
+    /// are in `tables`, is tested by `is_ready`.
     pub fn decode_without_bom_handling_and_without_replacement(
         self,
         alloc: Global,

@@ -21,8 +21,8 @@ impl Encoding {
     /// reference for each character without bytes (the Encoding Standard, section 6, "encode").
     /// Returns the bytes, the output encoding, and whether a reference was written.
     ///
-    /// `Overflow` is returned where the room that a new encoder asks for with replacement passes a
-    /// `usize`; `Memory` where room was refused. The condition, that the indexes of the output
+    /// `Overflow` is returned if the room that a new encoder asks for with replacement passes a
+    /// `usize`; `Memory` if room was refused. The condition, that the indexes of the output
     /// encoding are in `tables`, is tested by `is_ready` of `output_encoding`.
     pub fn encode(
         self,
@@ -55,7 +55,7 @@ impl Encoding {
     }
 }
 
-// Makes room behind the bytes for so many bytes of text, if each character of it has bytes.
+// Makes room after the bytes for so many bytes of text, if each character of it has bytes.
 fn reserve_for(encoder: &Encoder<'_>, len: usize, bytes: &mut Vec<u8>) -> Result<(), OneShotFault>
     ensures items { bytes.new.items ≡ bytes.old.items }
     ensures room { IfOk result (λ _. room_with_reference encoder.now.encoding false len

@@ -10,7 +10,7 @@ use encoding_mem::encode::put_all;
 use itoa::Buffer;
 
 /// Writes the numeric character reference of `c` (the HTML Standard, section 13.1.4) in the given
-/// form at the start of `dst`, and returns its length in bytes. The bytes behind it stay as they
+/// form at the start of `dst`, and returns its length in bytes. The bytes after it stay as they
 /// were.
 ///
 /// `Reference::Decimal` is `&#`, the number of `c` in decimal, `;`. `Reference::Hexadecimal` is

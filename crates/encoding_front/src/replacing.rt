@@ -14,7 +14,7 @@ use encoding_mem::source::Source;
 use encoding_mem::{EncoderResult, Reference};
 
 // One call without replacement into the part of `dst` before `end`, and the reference that it asks
-// for, which may reach behind that part. Returns as the call does, and counts the reference as
+// for, which may reach beyond that part. Returns as the call does, and counts the reference as
 // written.
 fn encode_turn<S: Source>(
     encoder: &mut Encoder<'_>,

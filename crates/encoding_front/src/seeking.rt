@@ -130,7 +130,7 @@ impl BomSet {
 pub enum BomMatch {
     /// The first bytes of a mark, or none: more bytes decide.
     Prefix,
-    /// A whole mark, with any bytes behind it.
+    /// A whole mark, with any bytes after it.
     Whole(ByteOrderMark),
     /// No mark that is looked for.
     Other,

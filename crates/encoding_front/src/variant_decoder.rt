@@ -169,8 +169,8 @@ impl<'t> VariantDecoder<'t> {
         }
     }
 
-    /// How far bytes that follow are their characters in Latin1; none where something is pending or a mode is
-    /// in force, and in UTF-16 and replacement.
+    /// How far bytes that follow are their characters in Latin1; none if something is pending or a
+    /// mode is in force, and in UTF-16 and replacement.
     pub(crate) fn latin1_byte_compatible_up_to(&self, bytes: &[u8]) -> Option<usize>
         ensures { TellsLatin1 (rule_of self.now) (state_of self.now) bytes.now result }
     {

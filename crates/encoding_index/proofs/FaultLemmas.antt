@@ -69,7 +69,7 @@ pub faults_are_first : FaultsAreFirst
 unfolding Told
 faults_are_first size text = told size [] (lines_in text) (λ k below. absurd (omega arith))
 
--- a fault of a line is no want of memory
+-- a fault of a line is no lack of memory
 pub fault_has_a_line : (size : ℕ) (text : List ℕ) (fault : IndexFault) → first_fault size text ≡ Some fault → fault ≢ memory_fault
 fault_has_a_line size text fault found same =
     let first : IsFirstFault size (lines_in text) fault = subst (λ f. MatchOption f (NoneFaultyBefore size (lines_in text) (length (lines_in text))) (IsFirstFault size (lines_in text))) found (faults_are_first size text) in
@@ -185,7 +185,7 @@ rows_read_is size least number (line ∷ after) none = elim (line_case size leas
   | gives row full right _ some low high ↦ rw (full, right, some) (ap (λ rows. row ∷ rows) (rows_read_is size (row.0 + 1) (number + 1) after (rw (full, right) at none)))
 ]
 
--- the lines before the fault, behind `number` others
+-- the lines before the fault, after `number` others
 abbrev lines_before : ℕ → Option IndexFault → List (List ℕ) → List (List ℕ)
 lines_before number None lines = lines
 lines_before number (Some fault) lines = take (fault.line - (number + 1)) lines

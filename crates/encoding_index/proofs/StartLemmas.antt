@@ -71,7 +71,7 @@ row_in_ended line pointer code end some positive ended =
 
 -- ---- what stands at the start of a text
 
--- spaces, the digits of the pointer, a tab, `0x`, the digits of the code point, and what is behind
+-- spaces, the digits of the pointer, a tab, `0x`, the digits of the code point, and what is after
 record IsStart (text : List ℕ) (pointer code : ℕ) (end : List ℕ) : Type 0 where
   pub spaces : ℕ
   pub digits : List ℕ
@@ -173,7 +173,7 @@ written-row_in line pointer code read = option_and_then_some last (row_start lin
 other : ℕ → Bool
 other b = not (is_newline b)
 
--- no LF stands in a part, so the first LF stands behind it
+-- no LF stands in a part, so the first LF stands after it
 past : (part rest : List ℕ) → AllPass other part → position_or_len is_newline (part ++ rest) ≡ length part + position_or_len is_newline rest
 unfolding other
 past part rest all =
@@ -226,7 +226,7 @@ strip_behind_tab : (ys : List ℕ) → (zs : List ℕ) × (strip_carriage_return
 strip_behind_tab [] = ([], refl)
 strip_behind_tab (y ∷ ys) = (strip_carriage_return (y ∷ ys), strip_past (0x09 ∷ []) (y ∷ ys) (omega arith))
 
--- the line ends at the LF that is the first behind a tab
+-- the line ends at the LF that is the first after a tab
 line_at : (text front ys : List ℕ) (e n : ℕ) → text ≡ front ++ 0x09 ∷ ys → n ≡ length front + (e + 1) → n ≡ position_or_len is_newline text → e < length ys
     → (zs : List ℕ) × (lines text ≡ (front ++ 0x09 ∷ zs) ∷ lines (drop (e + 1) ys))
 line_at text front ys e n whole size first within =

@@ -4,7 +4,7 @@ use Rattle.encoding_index.specs.IndexText.{lines_in, rows_in, least_above, line_
 use Rattle.encoding_index.specs.declared.fault.IndexFault.{IndexFault}
 use Rattle.encoding_index.specs.declared.fault.IndexFaultKind.{IndexFaultKind}
 
--- what is wrong with the line that stands behind `offset` lines: its pointer is to rise above those of the rows before
+-- what is wrong with the line that stands after `offset` lines: its pointer is to rise above those of the rows before
 -- it
 abbrev pub fault_at : ℕ → List (List ℕ) → ℕ → Option IndexFaultKind
 fault_at size lines offset = line_fault size (least_above (rows_in (take offset lines))) (slice_index_or lines offset [])

@@ -30,7 +30,7 @@ pub enum IndexFaultKind {
 #[derive(Debug, Drop, PartialEq, Eq, Error)]
 #[error("line {line}: {kind}")]
 pub struct IndexFault {
-    /// The line, counted from 1, skipped lines too; 0 where memory was refused.
+    /// The line, counted from 1, skipped lines too; 0 if memory was refused.
     pub line: usize,
     /// What is wrong.
     pub kind: IndexFaultKind,

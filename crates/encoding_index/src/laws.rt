@@ -18,7 +18,7 @@ pub fn texts()
     ensures lists { ListsAreOfRows }
 {}
 
-/// Faults are equal exactly where they are the same: the kind, the line and the kind, the fault of
+/// Faults are equal exactly when they are the same: the kind, the line and the kind, the fault of
 /// the text or of the table.
 pub fn index_faults_are_compared()
     ensures kind { (a b : IndexFaultKind)

@@ -61,7 +61,7 @@ fn spaces_len(bytes: &[u8]) -> usize
     bytes.iter().take_while(|b| **b == b' ').count()
 }
 
-// The pointer at the start, and the bytes behind it. At most one digit more than a pointer has is
+// The pointer at the start, and the bytes after it. At most one digit more than a pointer has is
 // looked at.
 #[inline(always)]
 fn pointer_in(bytes: &[u8]) -> Option<(u32, &[u8])>
@@ -99,8 +99,8 @@ fn hex_digits_in(bytes: &[u8], most: usize) -> (u32, usize)
     (code, count)
 }
 
-// The code point at the start, and the bytes behind it. Most have four digits and a tab behind
-// them: these are read by a loop of fixed length, which the compiler unrolls.
+// The code point at the start, and the bytes after it. Most have four digits and a tab after them:
+// these are read by a loop of fixed length, which the compiler unrolls.
 #[inline(always)]
 fn code_in(bytes: &[u8]) -> Option<(u32, &[u8])>
     ensures none { result ≡ None → code_in bytes.now ≡ None }
@@ -139,7 +139,7 @@ fn is_row_end(bytes: &[u8]) -> bool
     }
 }
 
-/// The pointer and the code point at the start, and the bytes behind them.
+/// The pointer and the code point at the start, and the bytes after them.
 #[inline(always)]
 #[tactic(auto, unfolding(crate::specs::laws::RowStarts::row_start))]
 pub(crate) fn row_start(bytes: &[u8]) -> Option<(u32, u32, &[u8])>

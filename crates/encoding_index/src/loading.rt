@@ -51,11 +51,11 @@ fn insert(tables: &mut Tables, kind: IndexKind, rows: &[(u32, u32)]) -> Result<(
 /// Reads the text of an index, of any kind, and puts what it stands for into the tables. After an
 /// error the tables are as they were.
 ///
-/// The text is read whole before the tables are asked, so a faulty text is named also where the
-/// index is there already: the error is `Text`. Where the tables do not take the list or the rows,
-/// it is `Table`. Where memory was refused it is `Text` with line 0 while the text was read, and
-/// else `Table`. A text with no row before its first faulty line is read without memory, and the
-/// ranges of no rows take none.
+/// The text is read whole before the tables are asked, so a faulty text is reported even if the
+/// index is there already: the error is `Text`. If the tables do not take the list or the rows, it
+/// is `Table`. If memory was refused it is `Text` with line 0 while the text was read, and else
+/// `Table`. A text with no row before its first faulty line is read without memory, and the ranges
+/// of no rows take none.
 pub fn load(
     alloc: Global,
     tables: &mut Tables,

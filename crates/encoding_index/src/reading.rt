@@ -54,7 +54,7 @@ pub fn read_ranges(alloc: Global, text: &[u8]) -> Result<Vec<(u32, u32)>, IndexF
 // asked for at the first row is enough for all rows.
 const COMMON_LINE: usize = 32;
 
-/// Reads the rows of a text, where pointers are to be below `size`. Asks for memory at the first
+/// Reads the rows of a text whose pointers are to be below `size`. Asks for memory at the first
 /// row, and at a row for which there is no room left.
 pub(crate) fn rows_below(
     alloc: Global,

@@ -22,7 +22,7 @@ fn without_carriage_return(line: &[u8]) -> &[u8]
     }
 }
 
-// How many bytes are looked at at once for a LF: most lines of an index have no more behind their
+// How many bytes are looked at at once for a LF: most lines of an index have no more after their
 // code point.
 const LANES: usize = 32;
 
@@ -58,7 +58,7 @@ fn line_len(text: &[u8]) -> usize
     at
 }
 
-// The first line of a text with some bytes, without its end, and what stands behind that.
+// The first line of a text with some bytes, without its end, and what stands after that.
 #[tactic(auto, using(crate::proofs::LineLemmas::lines_last))]
 fn first_line(text: &[u8]) -> (&[u8], &[u8])
     requires { 0 < length text.now }
@@ -73,8 +73,8 @@ fn first_line(text: &[u8]) -> (&[u8], &[u8])
     }
 }
 
-// The row of the first line, where a tab stands behind its code point and the line ends at LF; and
-// what stands behind the line. The line is not cut off before it is read.
+// The row of the first line, if a tab stands after its code point and the line ends at LF; and what
+// stands after the line. The line is not cut off before it is read.
 #[inline(always)]
 fn plain_row(text: &[u8]) -> Option<((u32, u32), &[u8])>
     ensures row { IfSome result (λ r. BeginsWithRow text.now r.0 r.1.now) }
@@ -139,7 +139,7 @@ impl<'a> IndexRows<'a> {
         }
     }
 
-    // The next row, at once where it is a plain one, or the first fault.
+    // The next row, at once if it is a plain one, or the first fault.
     #[inline(always)]
     fn next_row(&mut self) -> Option<Result<(u32, u32), IndexFault>>
         ensures { YieldsFirst outcomes_left self.old result self.new }

@@ -71,7 +71,7 @@ is_number-some (Some n) number h = let e : n ≡ number = (Decides-eqb n number)
 
 -- A search through the rows of one length finds what the table says.
 
--- a test is false where what it decides does not hold
+-- a test is false if what it decides does not hold
 false_from : (b : Bool) {P : Type 0} → Decides b P → (P → ⊥) → b ≡ false
 false_from true h other = absurd (other (h.0 refl))
 false_from false h other = refl
@@ -145,7 +145,7 @@ labels_of_length_other n other = filter-none labels n other all_texts
 pub label_number_in-labels_of_length : (text : List ℕ) → label_number_in (labels_of_length (length text)) text ≡ label_number_in labels text
 label_number_in-labels_of_length text = label_number_in-filter labels text
 
--- a text is found exactly where it is a label, and at that label's number
+-- a text is found exactly when it is a label, and at that label's number
 pub label_number_in-labels : (text : List ℕ) (number : ℕ) → (label_number_in labels text ≡ Some number) ↔ Contains labels (number, text)
 label_number_in-labels text number = (
   label_number_in-row labels text number,

@@ -9,8 +9,8 @@ ghost use Rattle.encoding_labels.specs.laws.ByLength.{entries};
 use crate::places::ENCODING_COUNT;
 use crate::table::rows_of_length;
 
-/// The number of the encoding that has this label, as in `places`, or `None` where no encoding has
-/// it: "get an encoding" of the Encoding Standard, section 4.2.
+/// The number of the encoding that has this label, as in `places`, or `None` if no encoding has it:
+/// "get an encoding" of the Encoding Standard, section 4.2.
 ///
 /// White space at both ends (the bytes 09, 0A, 0C, 0D and 20) and the case of ASCII letters do not
 /// matter. The label may have any length. It is not copied, and what is left of it between the
@@ -32,7 +32,7 @@ fn trim(label: &[u8]) -> &[u8]
     label.trim_ascii()
 }
 
-// The number in the first row whose label is the text, where ASCII case does not matter.
+// The number in the first row whose label is the text; ASCII case does not matter.
 fn find(rows: &[(&str, usize)], text: &[u8]) -> Option<usize>
     ensures { result ≡ label_number_in (entries rows.now) (map to_ascii_lowercase text.now) }
 {

@@ -18,7 +18,7 @@ ascii_take xs n fits h i = elim (cases_lt i n) [
   | inr past ↦ omega (arith, get_or_past (take n xs) i 0 (omega (arith, length-take n xs)))
 ]
 
--- what is behind the longest one is no ASCII
+-- what is after the longest one is no ASCII
 pub behind_ascii : (xs : List ℕ) (n : ℕ) → IsLongestPrefix IsAscii xs n → n < length xs → 0x80 ≤ get_or xs n 0
 behind_ascii xs n prefix more = elim (cases_lt (get_or xs n 0) 0x80) [
   | inr high ↦ high
@@ -33,7 +33,7 @@ behind_ascii xs n prefix more = elim (cases_lt (get_or xs n 0) 0x80) [
 
 -- The bits of a vector that is compared with one value.
 
--- where no lane passes p, no bit is set
+-- if no lane passes p, no bit is set
 unset_bit : (b : Bool) (n m l : ℕ) → cond (not b) (1 + m) 0 ≡ suc l → (m ≡ l → n ≡ 0) → cond b 1 0 + 2 * n ≡ 0
 unset_bit true n m l e f = absurd (omega (arith, e))
 unset_bit false n m l e f = omega (arith, f (omega (arith, e)))

@@ -43,7 +43,7 @@ run_some text bytes most m n c rest utf8 same is some longest at low = elim (cas
       absurd (omega (arith, high, low, first_of m c bytes (encode_utf8_all rest) bytes_are wide))
 ]
 
--- and what stands behind a run that ended before the room did is not ASCII
+-- and what stands after a run that ended before the room did is not ASCII
 pub run_longest : (text bytes rest : List ℕ) (most m n c : ℕ) (more : List ℕ) → IsUtf8 rest → bytes ≡ text → m ≡ min (length text) most → n < most → rest ≡ drop n text
     → (n < length (take m bytes) → 0x80 ≤ get_or (take m bytes) n 0) → chars rest ≡ c ∷ more → 0x80 ≤ c
 run_longest text bytes rest most m n c more utf8 same is short at longest begins = elim (cases_lt c 0x80) [

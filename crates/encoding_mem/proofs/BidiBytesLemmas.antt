@@ -215,7 +215,7 @@ not_found p xs k inside none = no_true (p (get_or xs k 0)) (λ yes. let some = l
     no_true true never = absurd (never refl)
     no_true false never = refl
 
--- where no such character begins with a byte, none begins there
+-- if no such character begins with a byte, none begins there
 no_lead : (b n m v : ℕ) → n < 256 → m < 256 → v ≡ b * 0x1_0000 + n * 0x100 + m → (0xD6 ≤ b → b ≤ 0xE0 → ⊥) → (0xE2 ≤ b → b ≤ 0xE2 → ⊥) → (0xEF ≤ b → b ≤ 0xF0 → ⊥)
     → is_bidi_number v ≡ false
 no_lead b n m v next after at first second third = each_range

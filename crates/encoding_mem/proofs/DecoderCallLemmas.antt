@@ -43,7 +43,7 @@ never_full before after k last size unread old new InputEmpty s h = λ e. cc
 never_full before after k last size unread old new OutputFull s h = absurd (s k 0 refl (λ _. refl) (let same : size + 0 ≡ size = omega arith in omega (arith, before.covers k size, ap (before.needs k) same, h)))
 never_full before after k last size unread old new (Malformed a b) s h = λ e. cc
 
--- where any bytes decide their first piece, nothing is left pending
+-- if any bytes decide their first piece, nothing is left pending
 pub nothing_remains : (P : List ℕ → List Piece) (pending : List ℕ) → ((x : List ℕ) → 0 < length x → IsUndecided P x → ⊥) → Remains P pending → pending ≡ []
 nothing_remains P pending decided h = elim h [
   | inl none ↦ none
@@ -52,7 +52,7 @@ nothing_remains P pending decided h = elim h [
 
 -- Room that is enough.
 
--- what a piece of n of m bytes wants, it has
+-- what a piece of n of m bytes needs, it has
 pub has_room : (before : OutputUnit → ℕ → ℕ) (want : Bool → ℕ) (n len m free : ℕ) (last t : Bool) (k : OutputUnit) → is_units k ≡ t → n ≤ len → len ≤ m → (IsTrue last → m ≡ len) → ((j : ℕ) → (IsTrue last → n + j ≡ len) → want (is_units k) ≤ before k (n + j)) → before k m ≤ free → want t ≤ free
 has_room before want n len m free last t k is fits window whole wants h =
     let same : n + (m - n) ≡ m = omega (arith, fits, window) in
@@ -71,7 +71,7 @@ wrote W W' taken p step w =
     let e : scalars (taken ++ p ∷ []) ≡ scalars taken ++ piece_scalars p = scalars-append taken (p ∷ []) ∙ ap (λ x. scalars taken ++ x) (append-nil (piece_scalars p)) in
     rw e (step (scalars taken) w)
 
--- from the source, where nothing is pending
+-- from the source, if nothing is pending
 pub took_source : (WellFormed : List Piece → Type 0) (before P P' : List ℕ → List Piece) (src window : List ℕ) (last : Bool) (held read : ℕ) (W W' : List ℕ → Type 0) (p : Piece) (n : ℕ)
     → piece_len p ≡ n
     → window ≡ drop read src
@@ -224,7 +224,7 @@ took_pending_of WellFormed before P P' src window last here held pending now rea
     subst (λ (y : List ℕ). Takes (WellFormed y) before (λ x. P' (y ++ x)) src last held (length y) read W') same
     (took_pending (WellFormed (drop (piece_len p) pending)) before P P' src last here held pending read W W' p ends h head_piece' fine' step)
 
--- A step on what is pending. The first piece of what is left, where its bytes are decided but have no room;
+-- A step on what is pending. The first piece of what is left, if its bytes are decided but have no room;
 pub known_next : (P rest : List ℕ → List Piece) (window pending src : List ℕ) (last here : Bool) (read : ℕ) (p : Piece)
     → window ≡ pending → (IsTrue here → IsTrue last × (length src ≤ read)) → IsFirstPiece P rest window here p
     → (r : List ℕ) → (IsTrue last → r ≡ []) → head_piece (P (pending ++ (drop read src ++ r))) ≡ Some p
@@ -261,7 +261,7 @@ left_few P P' window pending now here p n s e f near first_is =
     let there : head_piece (P (pending ++ [])) ≡ Some p = ap (λ x. head_piece (P (x ++ []))) (sym e) ∙ ap head_piece (first_is.rest [] (λ _. refl)) in
     omega (arith, near [] p there, ap length f, length-drop n pending, s)
 
--- What is left of the source behind n more bytes: how long it is, and where it begins.
+-- What is left of the source after n more bytes: how long it is, and where it begins.
 pub record LeftBehind (src rest new : List ℕ) (n : ℕ) : Type 0 where
   pub within : length new ≤ length src
   pub behind : new ≡ drop (length src - length new) src

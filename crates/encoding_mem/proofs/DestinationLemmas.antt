@@ -1,4 +1,4 @@
--- Text whose start was overwritten, and the bytes behind it cleared, is text. What a call wrote into the part of a
+-- Text whose start was overwritten, and the bytes after it cleared, is text. What a call wrote into the part of a
 -- slice from an offset on. Bytes that move to the start.
 use Rattle.std.proofs.Common.{◌≡◌, ℕ, zero, suc, ◌+◌, ◌-◌, ◌/◌, ◌%◌, ◌<◌, ◌≤◌, ◌⊎◌, inl, inr, true, false, cond, List, [], ◌∷◌, ◌++◌, length, take, drop, get_or, refl, sym, ◌∙◌, ap, subst, arith, append_assoc, encode_utf8_all, length-append, length-drop}
 use Rattle.std.specs.Int.{is_in_range}
@@ -114,7 +114,7 @@ cut_text (c ∷ cs) n h = cut_at c cs n h (λ m. cut_text cs m (and_parts (scala
 pub cleared_text : (old : List ℕ) (n : ℕ) → IsUtf8 old → IsUtf8 (cleared (drop n old))
 cleared_text old n h = subst (λ l. IsUtf8 (cleared (drop n l))) h.1.1 (cut_text h.0 n h.1.0)
 
--- Text that was written over a text, with what is behind it cleared.
+-- Text that was written over a text, with what is after it cleared.
 pub text_stays : (cs old new : List ℕ) (n : ℕ) → all_scalars cs ≡ true → IsUtf8 old → take n new ≡ encode_utf8_all cs → drop n new ≡ cleared (drop n old) → IsUtf8 new
 text_stays cs old new n are h prefix behind =
     subst IsUtf8 (take-append-drop n new)
@@ -152,7 +152,7 @@ take_low m (suc n) [] some low k = some
 take_low m (suc n) (x ∷ xs) some low zero = low 0
 take_low m (suc n) (x ∷ xs) some low (suc k) = take_low m n xs some (λ j. low (suc j)) k
 
--- The part behind an offset, changed.
+-- The part after an offset, changed.
 pub put_prefix : (n : ℕ) (xs ys : List ℕ) → n ≤ length xs → take n (put_mid n (length xs - n) xs ys) ≡ take n xs
 put_prefix n xs ys h = take_at (take n xs) (ys ++ post_of n (length xs - n) xs) n (length-take-le n xs h)
 

@@ -191,7 +191,7 @@ pub basic_cost : (t : Bool) (c : ℕ) → c < 0x1_0000 → cost_in t c ≤ 3
 basic_cost true c small = omega (arith, cost_fits16 c)
 basic_cost false c small = grind (arith, nat_tests)
 
--- room for so many bytes, where nothing is pending
+-- room for so many bytes, if nothing is pending
 bare : (need : OutputUnit → ℕ → ℕ) (k : OutputUnit) (n room : ℕ) → need k (length {A = ℕ} [] + n) ≤ room → need k n ≤ room
 bare need k n room h = let same : length {A = ℕ} [] + n ≡ n = omega arith in subst (λ (m : ℕ). need k m ≤ room) same h
 

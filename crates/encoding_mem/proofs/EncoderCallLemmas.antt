@@ -80,7 +80,7 @@ utf8_text e s (c ∷ part) same plain =
     let more = utf8_text e s part same plain in
     ((subst IsMapped (sym one.1) tt, more.0), rw (one.0, same s, one.1, more.1) refl, rw one.0 more.2)
 
--- What a call leaves: before an escape that does not fit, behind one, at the end, behind the last escape, and at an
+-- What a call leaves: before an escape that does not fit, after one, at the end, after the last escape, and at an
 -- unmappable.
 pub full : {need : ℕ} (e : Coding) (last : Bool) (s : EscapeState) (t w : List ℕ) (s1 : EscapeState) (rest : List ℕ) → IsCoding need e
     → Steps e s t w s1 rest → Encodes e last EncoderResult.OutputFull s t w s1 rest
@@ -148,7 +148,7 @@ unmapped e last s t w s1 c d m here more rest w1 p at next one is =
       leaves = (c, at ∙ ap (λ l. c ∷ l) same_rest, is, rw (← p.set) refl);
     }
 
--- A call behind text that was copied.
+-- A call after text that was copied.
 pub copied_first : {need : ℕ} (e : Coding) (last : Bool) (outcome : Outcome) (s : EscapeState) (t w rest w2 : List ℕ) (s' : EscapeState) (rest' : List ℕ)
     → IsCoding need e → CopiesUtf8 e s → IsCopied t w rest → Encodes e last outcome s rest w2 s' rest' → Encodes e last outcome s t (w ++ w2) s' rest'
 copied_first e last outcome s t w rest w2 s' rest' k plain r p =
@@ -195,7 +195,7 @@ cost_zero false = refl
 pub le_times : (f n : ℕ) → 1 ≤ f → n ≤ f * n
 le_times f n some = let less : n * 1 ≤ n * f = mul-le-mul_left n some in let turn : n * f ≡ f * n = mul_comm n f in omega (arith, less, turn)
 
--- where ASCII is copied, a byte is written for each character
+-- if ASCII is copied, a byte is written for each character
 pub ascii_costs : {need : ℕ} (e : Coding) (t : Bool) (l : Bound) (s : EscapeState) → IsCoding need e → IsBoundFor e t l → CopiesAscii e s → 1 ≤ l.factor
 ascii_costs e t l s laws fits copies =
     let here = copies 0 (lit< tt) in
@@ -206,8 +206,8 @@ ascii_costs e t l s laws fits copies =
     let times : l.factor * cost_in t 0 ≡ l.factor * 1 = ap (λ n. l.factor * n) cost in
     omega (arith, paid, times)
 
--- What is enough for a text is enough for what is left of it behind a copy.
--- what is left asks for no more room than there is behind what was copied, at most `u` bytes for a byte or unit
+-- What is enough for a text is enough for what is left of it after a copy. what is left asks for no more room than
+-- there is after what was copied, at most `u` bytes for a byte or unit
 pub less_asked : (f u extra from offset size copied room : ℕ) → u ≤ f → from ≤ offset → offset ≤ size → copied ≤ u * (offset - from) → copied ≤ room
     → f * (size - from) + extra ≤ room → f * (size - offset) + extra ≤ room - copied
 less_asked f u extra from offset size copied room some after within few fits enough =
@@ -221,7 +221,7 @@ less_asked f u extra from offset size copied room some after within few fits eno
 utf8_cost : (e : Coding) (t : Bool) (l : Bound) (s : EscapeState) (c : ℕ) → IsBoundFor e t l → CopiesUtf8 e s → len_utf8 c ≤ l.factor * cost_in t c
 utf8_cost e t l s c fits copies = omega (arith, fits.each s c, ap length (ap mapped_bytes (copies c).1), length-encode c)
 
--- where characters are copied in UTF-8, there is room for UTF-8
+-- if characters are copied in UTF-8, there is room for UTF-8
 pub utf8_costs : (e : Coding) (t : Bool) (l : Bound) (s : EscapeState) → IsBoundFor e t l → CopiesUtf8 e s → (bound_for encoded_length_utf8 t).factor ≤ l.factor
 utf8_costs e true l s fits copies = let most : 3 ≤ l.factor * 1 = utf8_cost e true l s 0xFFFF fits copies in omega (arith, most)
 utf8_costs e false l s fits copies = let most : 1 ≤ l.factor * 1 = utf8_cost e false l s 0 fits copies in omega (arith, most)
@@ -231,7 +231,7 @@ pub escape_is : (e : Coding) (w w1 slice escape : List ℕ) (s1 n : EscapeState)
     → w1 ≡ w ++ e.escape s1 (e.set s1 c)
 escape_is e w w1 slice escape s1 n c a b d h = a ∙ ap (λ l. w ++ l) (b ∙ d ∙ ap (λ q. e.escape s1 q) h)
 
--- Where an escape, or the bytes of a character, do not fit, less than need is free.
+-- If an escape, or the bytes of a character, do not fit, less than need is free.
 pub escape_over : (need : ℕ) (e : Coding) (s q : EscapeState) (slice escape : List ℕ) (room : ℕ) → IsCoding need e
     → slice ≡ escape → escape ≡ e.escape s q → room < length slice → room < need
 escape_over need e s q slice escape room k a b over =
@@ -300,7 +300,7 @@ spent_more f from offset n written more after spent h =
     let sum : (offset + n) - from ≡ (offset - from) + n = omega (arith, after) in
     rw sum (omega (arith, mul-add f (offset - from) n, spent, h))
 
--- they fit, where the room is enough for all
+-- they fit, if the room is enough for all
 pub fits_all : (f extra from offset size written more room : ℕ) → from ≤ offset → offset ≤ size → f * (size - from) + extra ≤ room → written ≤ f * (offset - from) → more ≤ extra → written + more ≤ room
 fits_all f extra from offset size written more room after within enough spent h =
     let less : f * (offset - from) ≤ f * (size - from) = mul-le-mul_left f (omega (arith, after, within)) in

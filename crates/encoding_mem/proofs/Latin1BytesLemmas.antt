@@ -89,7 +89,7 @@ tail_pairs b bs pairs k less =
     let e : suc k + 1 ≡ suc (k + 1) = omega arith in
     subst (λ j. IsTrue (is_latin1_pair (get_or bs k 0) (get_or (b ∷ bs) j 0))) e (pairs (suc k) (omega arith))
 
--- A text of Latin1, where each byte and the next stand so, and the first continues none.
+-- A text of Latin1, if each byte and the next stand so, and the first continues none.
 pub text_of_pairs : (bs : List ℕ) → Pairs bs → (get_or bs 0 0 < 0x80) ⊎ (0xC0 ≤ get_or bs 0 0) → IsLatin1Text bs
 text_of_pairs [] pairs head = latin1_from_ascii [] (λ i. omega arith)
 text_of_pairs (b ∷ []) pairs head = elim head [
@@ -123,7 +123,7 @@ one_more P n before here k inside = elim (cases_lt k n) [
   | inr from ↦ (let same : n ≡ k = omega arith in subst P same here)
 ]
 
--- behind the last stands nothing
+-- after the last stands nothing
 pub whole_pairs : (xs : List ℕ) (last : ℕ) → length xs ≡ last + 1 → ((k : ℕ) → k < last → IsTrue (is_latin1_pair (get_or xs k 0) (get_or xs (k + 1) 0)))
     → IsTrue (is_latin1_pair (get_or xs last 0) 0) → Pairs xs
 whole_pairs xs last size before end k less =

@@ -21,7 +21,7 @@ pub high_put : (b : ℕ) (dst : List ℕ) → 0x80 ≤ b → b < 256 → 2 ≤ l
     → Adds dst 0 (encode_utf8_all (b ∷ [])) (set (set dst 1 (128 + b % 64)) 0 (192 + b / 64)) 2
 high_put b dst from below room = rw (encode_two b from (omega arith)) (put_two (192 + b / 64) (128 + b % 64) dst room)
 
--- Of the source so many bytes are read, and the destination has their text. Of what is behind it, as many bytes as are
+-- Of the source so many bytes are read, and the destination has their text. Of what is after it, as many bytes as are
 -- left to read may have changed.
 pub record IsLatin1Written (src old : List ℕ) (read : ℕ) (new : List ℕ) (written : ℕ) : Type 0 where
   pub within : read ≤ length src
@@ -80,7 +80,7 @@ latin1_high_written src old read new written ys w room inside size adds =
       behind = further _ new (written + 2) end (omega arith) moved ∙ further new old (written + (length src - read)) end (omega arith) w.behind;
     }
 
--- Of the source so many bytes are read, the destination has their text, and what is behind it is as it was.
+-- Of the source so many bytes are read, the destination has their text, and what is after it is as it was.
 pub record IsLatin1Put (src old : List ℕ) (read : ℕ) (new : List ℕ) (written : ℕ) : Type 0 where
   pub within : read ≤ length src
   pub size : length new ≡ length old
@@ -122,7 +122,7 @@ latin1_byte_put src old read new written w inside low fits =
       behind = behind_more written 1 (set new written b) new old (drop_past_set new written b) w.behind;
     }
 
--- where no more fits
+-- when no more fits
 pub latin1_longest : (src old : List ℕ) (read : ℕ) (new : List ℕ) (written : ℕ) → IsLatin1Put src old read new written
     → (read < length src → length new < written + len_utf8 (get_or src read 0)) → IsLongest (λ _. Unit {0}) (λ i. length (encode_utf8_all (take i src))) (length src) (length old) read
 latin1_longest src old read new written w tight =

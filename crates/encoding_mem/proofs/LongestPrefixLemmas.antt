@@ -39,7 +39,7 @@ over a b c room h = omega (arith, ap length (encodes-append a (c ∷ b)), length
 pub over16 : (a b : List ℕ) (c room : ℕ) → room < length (encode_utf16_all a) + len_utf16 c → room < length (encode_utf16_all (a ++ (c ∷ b)))
 over16 a b c room h = omega (arith, ap length (encode_utf16_all-append a (c ∷ b)), length-append (encode_utf16_all a) (encode_utf16_all (c ∷ b)), length-append (encode_utf16 c) (encode_utf16_all b), length-encode_utf16 c)
 
--- where the whole source fits, it is read
+-- if the whole source fits, it is read
 pub reads_whole : (Whole : ℕ → Type 0) (size : ℕ → ℕ) (len room n : ℕ) → IsLongest Whole size len room n → Whole len → size len ≤ room → n ≡ len
 reads_whole Whole size len room n l w fits = elim (cases_lt n len) [
   | inl less ↦ let h = l.longest len less (omega arith) w in absurd (omega arith)
@@ -81,7 +81,7 @@ pub length_put : (a k : ℕ) (xs ys : List ℕ) → a ≤ length xs → k ≡ le
 length_put a k xs ys within size len =
     omega (arith, length-append (take a xs) (ys ++ post_of a k xs), length-append ys (post_of a k xs), length-take-le a xs within, length-drop k (drop a xs), length-drop a xs)
 
--- what is behind stays, further on
+-- what is after stays, further on
 pub behind_more : (w n : ℕ) (put mid old : List ℕ) → drop (w + n) put ≡ drop (w + n) mid → drop w mid ≡ drop w old → drop (w + n) put ≡ drop (w + n) old
 behind_more w n put mid old h k = h ∙ sym (drop-drop n w mid) ∙ ap (drop n) k ∙ drop-drop n w old
 

@@ -70,7 +70,8 @@ bytes_of_units c n size = grind (arith, nat_tests)
 pub char_bytes : (c : ℕ) → length (encode_utf8_all (c ∷ [])) ≡ len_utf8 c
 char_bytes c = length-append (encode_utf8 c) [] ∙ omega (arith, length-encode c)
 
--- so there is room for a character of n units and so many bytes, where three bytes a unit are left, and one more where it may end behind them
+-- so there is room for a character of n units and so many bytes, if three bytes a unit are left, and one more if it may
+-- end after them
 pub room_for_char : (len end room read written n bytes : ℕ) → read < end → read + n ≤ len → bytes ≤ n + 2 → n ≤ 2 → written ≤ 3 * read
     → 3 * end ≤ room → (end < len → 3 * end < room) → bytes ≤ room - written
 room_for_char len end room read written n bytes before inside size few_units few three over = elim (cases_lt end len) [
@@ -111,7 +112,7 @@ one_written us old read new written w inside low fits =
 abbrev pub IsQuad : ℕ → List ℕ → Type 0
 IsQuad u quad = (length quad ≡ 4) × (get_or quad 3 0 ≡ len_utf8 u) × (take (get_or quad 3 0) quad ≡ encode_utf8 u)
 
--- so many units are put, and what stands three bytes behind them, or more, is as it was
+-- so many units are put, and what stands three bytes after them, or more, is as it was
 pub record IsPutOver (us old : List ℕ) (read : ℕ) (new : List ℕ) (written : ℕ) : Type 0 where
   pub so_far : IsWritten us new read new written
   pub same : length new ≡ length old
@@ -130,7 +131,7 @@ length_mid : (a k : ℕ) (xs ys : List ℕ) → a + k ≤ length xs → length y
 length_mid a k xs ys room size =
     omega (arith, length-append (take a xs) (ys ++ post_of a k xs), length-append ys (post_of a k xs), length-take-le a xs (omega arith), length-drop k (drop a xs), length-drop a xs)
 
--- what stands behind what was put into the middle
+-- what stands after what was put into the middle
 past_mid : (a k n : ℕ) (xs ys : List ℕ) → a ≤ length xs → length ys ≡ k → k ≤ n → drop (a + n) (put_mid a k xs ys) ≡ drop (a + n) xs
 past_mid a k n xs ys within size past =
     let rest : n ≡ length ys + (n - k) = omega arith in
@@ -165,7 +166,7 @@ quad_put us old read new written quad w inside low q room =
           ∙ ap (λ m. drop m new) more ∙ behind_more (written + 3) n new new old refl w.far ∙ ap (λ m. drop m old) (sym more ∙ sym next);
     }
 
--- where the last three units are put by themselves, all are put, and nothing behind them changes
+-- if the last three units are put by themselves, all are put, and nothing after them changes
 pub last_put : (us old : List ℕ) (read : ℕ) (new : List ℕ) (written : ℕ) (ys : List ℕ) (k : ℕ) → IsPutOver us old read new written → read + 3 ≤ length us
     → IsUnitBoundary (take (length us - read) (drop read us)) 3 → length ys ≡ length (take (length new - written) (drop written new)) → k ≤ length ys → 3 ≤ k
     → take k ys ≡ units_in_utf8 (take 3 (take (length us - read) (drop read us))) → drop k ys ≡ drop k (take (length new - written) (drop written new))

@@ -11,7 +11,7 @@ use Rattle.encoding_mem.specs.LongestPrefix.{IsLongestPrefix}
 pub read_behind : (xs : List ℕ) (n i : ℕ) → n ≤ i → get_or (take n xs) i 0 ≡ 0
 read_behind xs n i behind = get_or_past (take n xs) i 0 (omega (arith, length-take n xs))
 
--- where each element below n passes, so does each element of that prefix
+-- if each element below n passes, so does each element of that prefix
 pub each_of_prefix : (P : ℕ → Type 0) (xs : List ℕ) (n : ℕ) → P 0 → ((k : ℕ) → k < n → P (get_or xs k 0)) → (i : ℕ) → P (get_or (take n xs) i 0)
 each_of_prefix P xs n zero_passes below i = elim (cases_lt i n) [
   | inl inside ↦ rw (get_or-take n xs i 0 inside) (below i inside)
@@ -27,7 +27,7 @@ up_to_first P xs n zero_passes within below ends = record {
   longest = λ m more some all. ends (omega arith) (rw (← get_or-take m xs n 0 more) (all n));
 }
 
--- where each element of a list passes
+-- if each element of a list passes
 pub each_of_list : (P : ℕ → Type 0) (xs : List ℕ) (n : ℕ) → P 0 → length xs ≤ n → ((k : ℕ) → k < n → P (get_or xs k 0)) → (i : ℕ) → P (get_or xs i 0)
 each_of_list P xs n zero_passes whole below i = elim (cases_lt i n) [
   | inl inside ↦ below i inside

@@ -165,7 +165,7 @@ pub all_written : (src old : List ℕ) (start : ℕ) (pieces : List ℕ → List
 all_written src old start pieces read new count h none =
     subst (λ ps. Adds old start (encode_utf16_all (text ps)) new count) (sym (h.whole ∙ ap (λ ps. h.taken ++ ps) none ∙ append-nil h.taken)) h.adds
 
--- Where a first piece is left, there is room for any character.
+-- If a first piece is left, there is room for any character.
 pub never_full : (src old : List ℕ) (start : ℕ) (pieces : List ℕ → List Piece) (read : ℕ) (new : List ℕ) (count : ℕ) (p : Piece) → HasWritten src old start pieces read new count
     → head_piece (pieces (drop read src)) ≡ Some p → length src < length old - start → 2 ≤ length new - count
 never_full src old start pieces read new count p h at room =

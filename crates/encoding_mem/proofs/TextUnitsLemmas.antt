@@ -72,7 +72,7 @@ lead_size text i c rest is =
 pub char_within : (text : List ℕ) (i c : ℕ) (rest : List ℕ) → drop i text ≡ encode_utf8 c ++ rest → i < length text → i + len_utf8 c ≤ length text
 char_within text i c rest is inside = omega (arith, ap length is, length-append (encode_utf8 c) rest, length-encode c, length-drop i text)
 
--- a size tells the range of the character
+-- a size gives the range of the character
 pub one_range : (c : ℕ) → len_utf8 c ≡ 1 → c < 0x80
 one_range c size = grind (arith, nat_tests)
 
@@ -115,11 +115,11 @@ none_in_units text units utf8 room = record {
   prefix = sym (ap encode_utf16_all chars-nil);
 }
 
--- all of it, where nothing is left
+-- all of it, if nothing is left
 pub all_in_units : (text : List ℕ) (read : ℕ) (units : List ℕ) (written : ℕ) → IsInUnits text read units written → length text ≤ read → take written units ≡ text_in_utf16 text
 all_in_units text read units written so_far end = so_far.prefix ∙ ap text_in_utf16 (take_all read text end)
 
--- What is behind stays, where more is put before it: a unit for three bytes that are left may have changed.
+-- What is after stays, when more is put before it: a unit for three bytes that are left may have changed.
 pub loosely_behind : (text : List ℕ) (read more written end : ℕ) (new mid old : List ℕ) → read < more → more ≤ length text → more + 3 * written ≤ read + 3 * end
     → drop (end + (length text - more) / 3) new ≡ drop (end + (length text - more) / 3) mid
     → drop (written + (length text - read) / 3) mid ≡ drop (written + (length text - read) / 3) old

@@ -99,7 +99,7 @@ pub record IsCopiedOver (src old : List ℕ) (at : ℕ) (dst : List ℕ) : Type 
   pub copied : take at dst ≡ take at src
   pub behind : drop (length src) dst ≡ drop (length src) old
 
--- what is behind an offset is behind any later one
+-- what is after an offset is after any later one
 pub further : (xs ys : List ℕ) (a b : ℕ) → a ≤ b → drop a xs ≡ drop a ys → drop b xs ≡ drop b ys
 further xs ys a b before same =
     let e : a + (b - a) ≡ b = omega arith in

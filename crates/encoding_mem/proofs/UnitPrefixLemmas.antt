@@ -76,7 +76,8 @@ there [] n h = absurd (omega arith)
 there (u ∷ us) zero h = omega arith
 there (u ∷ us) (suc n) h = let r = there us n h in omega arith
 
--- Between the two of a pair the text behind begins with U+FFFD, which is no part of the whole text there.
+-- Between the two of a pair the text from there on begins with U+FFFD, which is no part of the whole
+-- text there.
 inside : (us prefix : List ℕ) (k : ℕ) → utf16_lossy_chars us ≡ prefix ++ utf16_lossy_chars (drop (k + 1) us) → ¬ (IsSurrogatePair (get_or us k 0) (get_or us (k + 1) 0))
 inside us prefix k is p =
     let within : k + 1 < length us = there us (k + 1) (omega arith) in

@@ -12,7 +12,7 @@ use Rattle.encoding_mem.proofs.DestinationLemmas.{take_into, drop_into}
 pub units_spell : (us : List ℕ) → ((k : ℕ) → get_or us k 0 < 0xD800) → utf16_lossy_chars us ≡ us
 units_spell us plain = ap utf16_lossy_chars (sym (units_alone us (λ k. omega (arith, plain k)))) ∙ scalars_back us (plain_scalars us plain)
 
--- What a call wrote into the part of a slice from an offset on, all behind it kept, is added there.
+-- What a call wrote into the part of a slice from an offset on, all after it kept, is added there.
 pub adds_into : (xs ys text : List ℕ) (at n : ℕ) → at ≤ length xs → n ≤ length ys → take n ys ≡ text → drop n ys ≡ drop n (take (length xs - at) (drop at xs))
     → length ys ≡ length xs - at → Adds xs at text (put_mid at (length xs - at) xs ys) (at + n)
 adds_into xs ys text at n within fits is behind size = record {

@@ -32,7 +32,7 @@ none_written us old = record {
   bytes = refl;
 }
 
--- what is read of the units behind an offset
+-- what is read of the units after an offset
 pub past_part : (us part : List ℕ) (read n : ℕ) → utf16_lossy_chars (take (length us - read) (drop read us)) ≡ part ++ utf16_lossy_chars (drop n (take (length us - read) (drop read us)))
     → utf16_lossy_chars (drop read us) ≡ part ++ utf16_lossy_chars (drop (read + n) us)
 past_part us part read n h =
@@ -42,7 +42,7 @@ past_part us part read n h =
 pub rest_length : (us : List ℕ) (read : ℕ) → length (take (length us - read) (drop read us)) ≡ length us - read
 rest_length us read = ap length (take_rest us read) ∙ length-drop read us
 
--- a part more is written behind it
+-- a part more is written after it
 pub more_written : (us old : List ℕ) (read : ℕ) (new : List ℕ) (written : ℕ) (ys part : List ℕ) (n k : ℕ) → IsWritten us old read new written
     → read + n ≤ length us → length ys ≡ length (take (length new - written) (drop written new)) → k ≤ length ys
     → utf16_lossy_chars (drop read us) ≡ part ++ utf16_lossy_chars (drop (read + n) us) → take k ys ≡ encode_utf8_all part
@@ -61,7 +61,7 @@ more_written us old read new written ys part n k w within size fits chars wrote 
       bytes = take_into written _ k new ys w.room fits ∙ ap (λ l. l ++ take k ys) w.bytes ∙ ap (λ l. encode_utf8_all w.text ++ l) wrote ∙ sym (encodes-append w.text part);
     }
 
--- the text of units up to a boundary is written behind it
+-- the text of units up to a boundary is written after it
 pub units_written : (us old : List ℕ) (read : ℕ) (new : List ℕ) (written : ℕ) (ys : List ℕ) (n k : ℕ) → IsWritten us old read new written
     → n ≤ length (take (length us - read) (drop read us)) → IsUnitBoundary (take (length us - read) (drop read us)) n
     → length ys ≡ length (take (length new - written) (drop written new)) → k ≤ length ys

@@ -130,7 +130,7 @@ low_at us i j e low = subst (λ k. IsLowSurrogate (get_or us k 0)) e low
 high_at : (us : List ℕ) (i j : ℕ) → i ≡ j → IsHighSurrogate (get_or us i 0) → IsHighSurrogate (get_or us j 0)
 high_at us i j e high = subst (λ k. IsHighSurrogate (get_or us k 0)) e high
 
--- Boundaries: behind one unit, behind a pair, and past some units that are next.
+-- Boundaries: after one unit, after a pair, and past some units that are next.
 pub behind_unit : (us : List ℕ) → ¬ IsSurrogatePair (get_or us 0 0) (get_or us 1 0) → IsUnitBoundary us 1
 behind_unit us apart k next pair = let first : k ≡ 0 = omega arith in apart (high_at us k 0 first pair.0, pair.1)
 

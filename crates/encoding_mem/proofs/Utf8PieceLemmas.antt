@@ -208,7 +208,7 @@ form_piece x n cs e =
       gives = f.gives;
     }
 
--- where a form begins, it is the piece
+-- if a form begins, it is the piece
 form_is_piece : (x : List ℕ) (c : ℕ) → BeginsWithForm x c → first_piece_utf8 x ≡ well_formed (length (encode_utf8 c)) (c ∷ [])
 form_is_piece x c h = ap first_piece_utf8 h.is ∙ first_piece_utf8-encode c h.rest h.scalar ∙ ap (λ n. well_formed n (c ∷ [])) (sym (length-encode c))
 
@@ -226,7 +226,7 @@ record Opens (f : List ℕ → Piece) (k : ℕ) : Type 0 where
   more : List ℕ
   long : IsLong k (f more)
 
--- the byte behind the n bytes makes it malformed, whatever follows
+-- the byte after the n bytes makes it malformed, whatever follows
 record Shut (f : List ℕ → Piece) (k : ℕ) (x : List ℕ) (n : ℕ) : Type 0 where
   offset : ℕ
   behind : k + offset ≡ suc n

@@ -72,12 +72,12 @@ adds_part text rest old count mid m new k i n utf8 b at h j =
     subst (λ cs. Adds old count (encode_utf16_all cs) new k) (sym (chars_part text rest i n utf8 b at))
     (adds_encoded16 old count (chars (take i text)) (chars (take n rest)) mid m new k h j)
 
--- and all of it, where nothing is left
+-- and all of it, if nothing is left
 pub all_read : (text rest : List ℕ) (i : ℕ) → IsUtf8 text → IsCharBoundary text i → rest ≡ drop i text → chars rest ≡ [] → chars (take i text) ≡ chars text
 all_read text rest i utf8 b at none =
     sym (append-nil (chars (take i text))) ∙ ap (λ l. chars (take i text) ++ l) (sym none ∙ ap chars at) ∙ sym (chars_at text i utf8 b)
 
--- the last offset between characters in four bytes or more is behind the first character or later
+-- the last offset between characters in four bytes or more is after the first character or later
 pub some_cut : (text : List ℕ) (n most : ℕ) → IsUtf8 text → 0 < length text → 4 ≤ most → ((i : ℕ) → n < i → i ≤ most → ¬ (IsCharBoundary text i)) → 0 < n
 some_cut text n most utf8 some wide nearest = of_list utf8.0 utf8.1.1
   where

@@ -1,9 +1,10 @@
--- What a caller is told: scalars one by one, and each malformed sequence with its length and the offset where it ends.
+-- What is reported to a caller: scalars one by one, and each malformed sequence with its length and the offset where
+-- it ends.
 use Rattle.std.specs.Prelude.{ℕ, ◌+◌, List, [], ◌∷◌, ◌++◌}
 use Rattle.encoding_mem.specs.Piece.{Piece, well_formed, malformed}
 
--- what a decoder tells its caller: a scalar, or a malformed sequence with its length in bytes and
--- the offset after it
+-- what a decoder reports to its caller: a scalar, or a malformed sequence with its length in bytes and the offset
+-- after it
 pub data Event : Type 0 where
   scalar : (c : ℕ) → Event
   malformed_at : (size end : ℕ) → Event

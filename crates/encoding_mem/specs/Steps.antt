@@ -46,7 +46,7 @@ StepLaw e pieces_from = (ref : Reference) (s : EscapeState) (c : ℕ) → IsScal
 abbrev pub in_any_set : (List ℕ → List Piece) → EscapeState → List ℕ → List Piece
 in_any_set pieces s = pieces
 
--- ---- the same by the first piece, where there is one mode
+-- ---- the same by the first piece, if there is one mode
 
 -- whatever follows some bytes, the first piece is all of them, and gives one given scalar
 pub record Returns (first_piece : List ℕ → Piece) (bytes : List ℕ) (c : ℕ) : Type 0 where

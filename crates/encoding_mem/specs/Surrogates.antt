@@ -1,4 +1,4 @@
--- Surrogates in units of 16 bits. What is behind the end is no surrogate.
+-- Surrogates in units of 16 bits. What is beyond the end is no surrogate.
 use Rattle.std.specs.Prelude.{ℕ, ◌≡◌, ◌+◌, ◌⊎◌, List, length, slice_index}
 use Rattle.std.specs.Int.{IsInRange}
 

@@ -15,8 +15,8 @@ pub fn ascii_prefix(bytes: &[u8]) -> &str
     unsafe { std::str::from_utf8_unchecked(&bytes[..end]) }
 }
 
-/// The run of ASCII at the start of these bytes, at most `most` of it, where the first two bytes
-/// are ASCII, and else an empty text: what `text_at` of a rule returns in which each ASCII byte is
+/// The run of ASCII at the start of these bytes, at most `most` of it, if the first two bytes are
+/// ASCII, and else an empty text: what `text_at` of a rule returns in which each ASCII byte is
 /// itself. A run of one byte is cheaper as a character.
 #[inline(always)]
 pub fn longer_ascii_prefix(bytes: &[u8], most: usize) -> &str

@@ -11,7 +11,7 @@ use crate::first::{
 use std::simd::prelude::*;
 
 /// Copies the longest prefix of `src` that is ASCII to the start of `dst`, and returns its length
-/// in bytes; nothing behind it changes. `dst` is at least as long as `src`, which a comparison of
+/// in bytes; nothing after it changes. `dst` is at least as long as `src`, which a comparison of
 /// lengths tests.
 pub fn copy_ascii_to_ascii(src: &[u8], dst: &mut [u8]) -> usize
     requires { length src.now ≤ length dst.old }
@@ -25,7 +25,7 @@ pub fn copy_ascii_to_ascii(src: &[u8], dst: &mut [u8]) -> usize
 }
 
 /// Copies the longest prefix of `src` that is ASCII to the start of `dst`, each byte as a unit of
-/// UTF-16, and returns its length; nothing behind it changes. `dst` has at least as many units as
+/// UTF-16, and returns its length; nothing after it changes. `dst` has at least as many units as
 /// `src` has bytes, which a comparison of lengths tests.
 pub fn copy_ascii_to_basic_latin(src: &[u8], dst: &mut [u16]) -> usize
     requires { length src.now ≤ length dst.old }
@@ -41,7 +41,7 @@ pub fn copy_ascii_to_basic_latin(src: &[u8], dst: &mut [u16]) -> usize
 }
 
 /// Copies the longest prefix of `src` whose units of UTF-16 are below 80 hex to the start of `dst`,
-/// each as a byte, and returns its length; nothing behind it changes. `dst` has at least as many
+/// each as a byte, and returns its length; nothing after it changes. `dst` has at least as many
 /// bytes as `src` has units, which a comparison of lengths tests.
 pub fn copy_basic_latin_to_ascii(src: &[u16], dst: &mut [u8]) -> usize
     requires { length src.now ≤ length dst.old }
@@ -63,7 +63,7 @@ pub fn copy_basic_latin_to_ascii(src: &[u16], dst: &mut [u8]) -> usize
     at
 }
 
-// Copies a block of units to the start of `dst`, each as a byte, where all of them are ASCII, and
+// Copies a block of units to the start of `dst`, each as a byte, if all of them are ASCII, and
 // returns whether they are. Else nothing changes.
 #[inline(always)]
 pub(crate) fn narrow_block(units: &[u16], dst: &mut [u8]) -> bool
@@ -83,7 +83,7 @@ pub(crate) fn narrow_block(units: &[u16], dst: &mut [u8]) -> bool
 }
 
 // Copies the ASCII at the start of a vector of units to the start of `dst`, each as a byte, and
-// returns how many units it has. Bytes without a meaning stand behind them, as many as there are
+// returns how many units it has. Bytes without a meaning stand after them, as many as there are
 // lanes: so no branch asks how many they are.
 #[inline(always)]
 pub(crate) fn narrow_lanes(units: &[u16], dst: &mut [u8]) -> usize
@@ -100,8 +100,8 @@ pub(crate) fn narrow_lanes(units: &[u16], dst: &mut [u8]) -> usize
     unit_lanes_below(lanes, 0x80)
 }
 
-// Copies a block of bytes to the start of `dst` where all of them are ASCII, and returns whether
-// they are. Else nothing changes.
+// Copies a block of bytes to the start of `dst` if all of them are ASCII, and returns whether they
+// are. Else nothing changes.
 #[inline(always)]
 fn copy_block(bytes: &[u8], dst: &mut [u8]) -> bool
     requires bytes { 64 ≤ length bytes.now }
@@ -137,7 +137,7 @@ fn copy_lanes(bytes: &[u8], dst: &mut [u8]) -> usize
 }
 
 /// Copies the run of ASCII at the start of `src` to the start of `dst`, and returns its length. Up
-/// to as many bytes as `src` has change, also those behind the run: vectors are stored before it is
+/// to as many bytes as `src` has change, also those after the run: vectors are stored before it is
 /// asked where the run ends.
 #[inline(always)]
 pub(crate) fn copy_ascii_run(src: &[u8], dst: &mut [u8]) -> usize

@@ -86,7 +86,7 @@ pub fn is_utf8_bidi(bytes: &[u8]) -> bool
     if is_ascii(bytes) {
         return false;
     }
-    // Latin1 wants none of the tables that the test of UTF-8 sets up.
+    // Latin1 needs none of the tables that the test of UTF-8 sets up.
     if is_latin1_text(bytes) {
         return false;
     }
@@ -153,7 +153,7 @@ pub fn is_utf16_bidi(units: &[u16]) -> bool
     any_unit_bidi(&units[first_unit_from(units, 0x590)..])
 }
 
-/// `Latin1` where `is_str_latin1` holds of the text, `Bidi` where `is_str_bidi` does, and else
+/// `Latin1` if `is_str_latin1` holds of the text, `Bidi` if `is_str_bidi` does, and else
 /// `LeftToRight`.
 pub fn check_str_for_latin1_and_bidi(text: &str) -> Latin1Bidi
     ensures latin1 { (result ≡ Latin1Bidi.Latin1) ↔ AllLatin1 (chars text.now) }
@@ -168,8 +168,8 @@ pub fn check_str_for_latin1_and_bidi(text: &str) -> Latin1Bidi
     }
 }
 
-/// `Latin1` where `is_utf8_latin1` holds of the bytes, `Bidi` where `is_utf8_bidi` does, also where
-/// they are not well-formed, and else `LeftToRight`.
+/// `Latin1` if `is_utf8_latin1` holds of the bytes, `Bidi` if `is_utf8_bidi` does, even if they are
+/// not well-formed, and else `LeftToRight`.
 pub fn check_utf8_for_latin1_and_bidi(bytes: &[u8]) -> Latin1Bidi
     ensures latin1 { (result ≡ Latin1Bidi.Latin1) ↔ IsLatin1Text bytes.now }
     ensures bidi { (result ≡ Latin1Bidi.Bidi) ↔ IsBidiBytes bytes.now }
@@ -187,7 +187,7 @@ pub fn check_utf8_for_latin1_and_bidi(bytes: &[u8]) -> Latin1Bidi
     }
 }
 
-/// `Latin1` where `is_utf16_latin1` holds of the units, `Bidi` where `is_utf16_bidi` does, and else
+/// `Latin1` if `is_utf16_latin1` holds of the units, `Bidi` if `is_utf16_bidi` does, and else
 /// `LeftToRight`.
 pub fn check_utf16_for_latin1_and_bidi(units: &[u16]) -> Latin1Bidi
     ensures latin1 { (result ≡ Latin1Bidi.Latin1) ↔ AllLatin1 units.now }

@@ -11,7 +11,7 @@ use crate::bidi::is_char_bidi;
 // How many offsets are tested at a time, without a look at which of them is found.
 const BLOCK: usize = 16;
 
-// A text of fewer bytes does not have a whole block and two bytes behind it, and is read character
+// A text of fewer bytes does not have a whole block and two bytes after it, and is read character
 // by character.
 const SHORT: usize = BLOCK + 2;
 
@@ -72,7 +72,7 @@ fn any_bidi_in(bytes: &[u8]) -> bool
     any
 }
 
-// The byte at an offset, or 00 behind the end.
+// The byte at an offset, or 00 beyond the end.
 #[inline(always)]
 fn byte_at(bytes: &[u8], at: usize) -> u8
     ensures { result ≡ slice_index bytes.now at }

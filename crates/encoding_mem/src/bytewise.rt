@@ -13,7 +13,7 @@ use crate::room::DecodedLength;
 use crate::sink::Sink;
 use crate::sink_decoder::SinkDecoder;
 
-/// A rule by which any bytes decide their first piece, as where each byte is one: nothing is ever
+/// A rule by which any bytes decide their first piece, as when each byte is one: nothing is ever
 /// pending.
 pub trait DecidedPiece: DecoderRule {
     /// No bytes leave their first piece undecided.

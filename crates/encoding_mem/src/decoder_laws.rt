@@ -64,11 +64,11 @@ pub fn utf8_text_reads_back()
     ensures { (t : List ℕ) → all_scalars t ≡ true → pieces_utf8 (encode_utf8_all t) ≡ text_pieces t }
 {}
 
-/// The pieces of UTF-8, of any bytes. Where they begin with the whole form of a scalar value, the
+/// The pieces of UTF-8, of any bytes. If they begin with the whole form of a scalar value, the
 /// first piece is that form and gives that scalar value. Else it is malformed and is their maximal
 /// subpart: the longest prefix of them that is a prefix of the form of some scalar value, or one
-/// byte where none but the empty one is. The pieces behind the first are those of the bytes behind
-/// it. No other first piece meets this, so it says which bytes are one error and which are not.
+/// byte if none but the empty one is. The pieces after the first are those of the bytes after it.
+/// No other first piece meets this, so it says which bytes are one error and which are not.
 pub fn malformed_utf8_is_maximal_subpart()
     ensures { Utf8PiecesAreMaximal }
 {}

@@ -88,7 +88,7 @@ fn take_pairs<F: DecoderRule, S: Sink>(codec: &mut F, src: &[u8], sink: &mut S) 
         return 0;
     }
     let mut rest = src;
-    // Each has three bytes of UTF-8. Where units are written, a third of the room would do.
+    // Each has three bytes of UTF-8. If units are written, a third of the room would do.
     let mut pairs_left = (src.len() / 2).min(sink.free_len() / 3);
     'pairs: while pairs_left > 0 {
         let pair = &rest[..2];
@@ -146,7 +146,7 @@ pub(crate) fn finish_pending<F: DecoderRule, S: Sink>(
     (None, read)
 }
 
-/// Decodes a source where nothing is pending: runs of text as a whole, and what else there is by
+/// Decodes a source with nothing pending: runs of text as a whole, and what else there is by
 /// pieces. Returns how the call ended, and the bytes read. For speed the caller lends a sink of its
 /// own (`Sink::detach`).
 #[inline(always)]
@@ -173,7 +173,7 @@ pub(crate) fn decode_pieces<F: DecoderRule, S: Sink>(
             rest = &rest[text.len()..];
             continue;
         }
-        // Three bytes a unit; where units are written, a third of it would do.
+        // Three bytes a unit; if units are written, a third of it would do.
         if sink.free_len() >= 3 * UNIT_RUN {
             let (units, count) = codec.units_at(rest);
             if count > 0 {

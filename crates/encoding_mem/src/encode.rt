@@ -33,7 +33,7 @@ pub trait EncoderRule {
         ensures set { result.0 ≡ (parts self.now).coding.set from c }
         ensures form { result.1 ≡ (parts self.now).coding.form c };
 
-    /// The bytes of the escape from one set to another: none where they are equal.
+    /// The bytes of the escape from one set to another: none if they are equal.
     fn escape(&self, from: EscapeState, to: EscapeState) -> Bytes
         ensures { result ≡ (parts self.now).coding.escape from to };
 
@@ -81,7 +81,7 @@ pub trait StatelessRule {
     /// The numbers by which the length queries are computed.
     ghost limits: { Self → EncodedLength };
 
-    /// The bytes of a character, or the scalar that is reported where it has none.
+    /// The bytes of a character, or the scalar that is reported if it has none.
     fn form_of(&self, c: char) -> Form
         ensures { result ≡ form self.now c };
 
@@ -144,7 +144,7 @@ impl<R: StatelessRule> EncoderRule for R {
 
 // `#[inline(always)]` at targets and sources is for the loop below, as in `driver.rt`.
 
-/// Copies `bytes` to the offset `at` of `dst`, and returns the offset behind them. The condition,
+/// Copies `bytes` to the offset `at` of `dst`, and returns the offset after them. The condition,
 /// that there is room, is tested by comparing lengths.
 #[inline(always)]
 pub fn put_all(dst: &mut [u8], at: usize, bytes: &[u8]) -> usize
@@ -158,8 +158,8 @@ pub fn put_all(dst: &mut [u8], at: usize, bytes: &[u8]) -> usize
     end
 }
 
-// The same for the few bytes of an escape or of a character: where the compiler knows how many there are, it makes
-// one store of them.
+// The same for the few bytes of an escape or of a character: if the compiler knows how many there
+// are, it makes one store of them.
 #[inline(always)]
 fn put(dst: &mut [u8], at: usize, bytes: &[u8]) -> usize
     requires { at + length bytes.now ≤ length dst.old }
@@ -177,7 +177,7 @@ fn put(dst: &mut [u8], at: usize, bytes: &[u8]) -> usize
     }
 }
 
-// Copies the next run of ASCII to an offset, as much of it as fits, and returns the offset behind
+// Copies the next run of ASCII to an offset, as much of it as fits, and returns the offset after
 // it.
 #[inline(always)]
 fn copy_run<S: Source>(source: &mut S, dst: &mut [u8], at: usize) -> usize
@@ -260,8 +260,8 @@ fn encode_each<T: EncoderRule, S: Source>(
 /// there the set that is then in force. Returns how the call ended, and how many bytes of `dst`
 /// were written.
 ///
-/// It ends where all is read, at the first character without bytes, whose escape is written, and
-/// where the next escape or character does not fit. After a call with `last` that read all, the set
+/// It ends when all is read, at the first character without bytes, whose escape is written, and
+/// when the next escape or character does not fit. After a call with `last` that read all, the set
 /// is ASCII.
 pub fn encode<T: EncoderRule, S: Source>(
     target: &T,

@@ -37,7 +37,7 @@ pub fn encoded_items()
 {}
 
 /// The law of a call in bytes: what was written, the reference if a character is reported, and what
-/// the rest stands for are what the whole text stands for; where the call was not the last or a
+/// the rest stands for are what the whole text stands for; if the call was not the last or a
 /// character is reported, whatever follows the text.
 pub fn encoded_bytes()
     ensures { (need : ℕ) (e : Coding) → IsCoding need e
@@ -87,8 +87,8 @@ pub fn broken_stays_broken()
         → IsBroken pieces bytes t → ¬ (ReadsAs pieces bytes t) }
 {}
 
-/// What is written for a text agrees with it or is broken, also with an escape behind it, in each
-/// target that reads back step by step; and its output reads as it exactly where it is not broken.
+/// What is written for a text agrees with it or is broken, also with an escape after it, in each
+/// target that reads back step by step; and its output reads as it exactly when it is not broken.
 pub fn steps_read_back()
     ensures { (e : Coding) (pieces_from : EscapeState → List ℕ → List Piece)
         → ReadsByStep e pieces_from → ReadsBackOrBreaks (pieces_from Ascii) e }
@@ -99,10 +99,10 @@ pub fn utf8_steps()
     ensures { ReadsByStep utf8_coding (in_any_set pieces_utf8) }
 {}
 
-/// What an encoder's calls write, read back as it is written. Where the decoder has decided all
-/// that was written so far, but for one escape to the set in force, the bytes of the next call are
-/// read as the characters that it reads, again but for one escape, or are broken for them; and with
-/// the reference of a character without bytes they are broken.
+/// What an encoder's calls write, read back as it is written. If the decoder has decided all that
+/// was written so far, but for one escape to the set in force, the bytes of the next call are read
+/// as the characters that it reads, again but for one escape, or are broken for them; and with the
+/// reference of a character without bytes they are broken.
 pub fn calls_read_back()
     ensures { (e : Coding) (pieces_from : EscapeState → List ℕ → List Piece)
         → (pieces : List ℕ → List Piece) (last : Bool) (outcome : EncoderResult)
@@ -111,8 +111,8 @@ pub fn calls_read_back()
         → CallIsRead e pieces_from pieces last outcome text written after rest }
 {}
 
-/// A decoder reads along from the start, and wherever all is decided; where a text was read, it
-/// reads along with any that follows; and at the end nothing is left.
+/// A decoder reads along from the start, and whenever all is decided; if a text was read, it reads
+/// along with any that follows; and at the end nothing is left.
 pub fn texts_are_read_along()
     ensures begins { (need : ℕ) (e : Coding) (pieces_from : EscapeState → List ℕ → List Piece)
         → IsCoding need e → (pieces : List ℕ → List Piece) (set : EscapeState) (text : List ℕ)
@@ -125,10 +125,10 @@ pub fn texts_are_read_along()
         → (pieces : List ℕ → List Piece) → ReadsAs pieces [] [] → ReadsWhole ref e pieces Ascii [] }
 {}
 
-/// The verdict on such a call that reports no character, where the decoder has taken some pieces of
+/// The verdict on such a call that reports no character, if the decoder has taken some pieces of
 /// its bytes and decides no more of them. If they are well-formed and are the characters that the
-/// call read, it goes on to read along, and the whole of the text is read back exactly where that
-/// of the rest is from here. If they are not, it never is, whatever follows.
+/// call read, it goes on to read along, and the whole of the text is read back exactly when that of
+/// the rest is from here. If they are not, it never is, whatever follows.
 pub fn calls_have_verdicts()
     ensures { (e : Coding) (pieces_from : EscapeState → List ℕ → List Piece)
         → (pieces : List ℕ → List Piece) (last : Bool) (outcome : EncoderResult)
@@ -157,8 +157,8 @@ pub fn losses_are_final()
         → NeverReadsWhole e last pieces before t }
 {}
 
-/// A verdict is kept from call to call: a true one by a call that agrees; it becomes false where
-/// the text is never read back, and stays false; and at the end it is the verdict on the text.
+/// A verdict is kept from call to call: a true one by a call that agrees; it becomes false if the
+/// text is never read back, and stays false; and at the end it is the verdict on the text.
 pub fn verdicts_are_kept()
     ensures agreed { (e : Coding) (last : Bool) (pieces now : List ℕ → List Piece)
         → (before : EscapeState) (t : List ℕ) (after : EscapeState) (rest : List ℕ)

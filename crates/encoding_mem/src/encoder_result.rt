@@ -7,10 +7,9 @@ pub enum EncoderResult {
     /// All of the source is read, and its bytes are written; after a call with `last` so is the
     /// escape to ASCII. Hand in what follows, if anything does.
     InputEmpty,
-    /// The next escape or character does not fit into what is free behind what is written, and
+    /// The next escape or character does not fit into what is free after what is written, and
     /// something is left to do: make room, and call again with what is unread and `last` as it was,
-    /// also where nothing is unread. No step of an encoder of these libraries needs more than 4
-    /// bytes.
+    /// even if nothing is unread. No step of an encoder of these libraries needs more than 4 bytes.
     OutputFull,
     /// The character that was read last has no bytes in the target. The escape that must stand
     /// before its reference is written; the reference, or what else stands for it, is the caller's

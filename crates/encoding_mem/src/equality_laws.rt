@@ -16,7 +16,7 @@ use crate::form::EscapeState;
 use crate::latin1_texts::Latin1Bytes;
 use crate::reference::Reference;
 
-/// Results of calls are equal exactly where they are the same, with their numbers or character.
+/// Results of calls are equal exactly when they are the same, with their numbers or character.
 pub fn results_are_compared()
     ensures decoder { (a b : DecoderResult)
         → IsTrue (⟦<DecoderResult as PartialEq>⟧.eq a b) ↔ (a ≡ b) }
@@ -25,14 +25,14 @@ pub fn results_are_compared()
 {}
 
 /// What a text is for layout, the state of an encoder and the form of a reference are equal exactly
-/// where they are the same.
+/// when they are the same.
 pub fn variants_are_compared()
     ensures bidi { (a b : Latin1Bidi) → IsTrue (⟦<Latin1Bidi as PartialEq>⟧.eq a b) ↔ (a ≡ b) }
     ensures state { (a b : EscapeState) → IsTrue (⟦<EscapeState as PartialEq>⟧.eq a b) ↔ (a ≡ b) }
     ensures reference { (a b : Reference) → IsTrue (⟦<Reference as PartialEq>⟧.eq a b) ↔ (a ≡ b) }
 {}
 
-/// Latin1 is equal exactly where the bytes are, and both are borrowed or neither is.
+/// Latin1 is equal exactly when the bytes are, and both are borrowed or neither is.
 pub fn latin1_is_compared()
     ensures { (a b : Latin1Bytes) → IsTrue (⟦<Latin1Bytes<'static> as PartialEq>⟧.eq a b)
         ↔ ((AreBorrowed a ↔ AreBorrowed b) × (latin1_bytes a ≡ latin1_bytes b)) }

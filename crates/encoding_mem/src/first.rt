@@ -6,7 +6,7 @@ ghost use Rattle.std.specs.List.{prefix_len};
 
 use std::simd::prelude::*;
 
-/// How many bytes are tested at a time, with one branch for all of them. Where one of them is too
+/// How many bytes are tested at a time, with one branch for all of them. If one of them is too
 /// large, or fewer are left, smaller vectors say where the run ends.
 pub(crate) const BYTE_BLOCK: usize = 64;
 
@@ -36,8 +36,8 @@ pub(crate) fn all_units_below(block: u16x32, limit: u16) -> bool
     block.simd_ge(u16x32::splat(limit)).to_bitmask() == 0
 }
 
-/// How many of 32 units stand before the first that is not below the limit; all of them where there
-/// is none.
+/// How many of 32 units stand before the first that is not below the limit; all of them if there is
+/// none.
 #[inline(always)]
 pub fn units_below(block: u16x32, limit: u16) -> usize
     ensures { result ≡ prefix_len (λ u. not (nat_le limit u)) block }
@@ -50,8 +50,7 @@ pub fn units_below(block: u16x32, limit: u16) -> usize
     }
 }
 
-/// How many bytes stand before the first that is not below the limit; all of them where there is
-/// none.
+/// How many bytes stand before the first that is not below the limit; all of them if there is none.
 #[inline(always)]
 pub(crate) fn lanes_below(block: u8x16, limit: u8) -> usize
     ensures { result ≡ prefix_len (λ b. not (nat_le limit b)) block }
@@ -64,8 +63,7 @@ pub(crate) fn lanes_below(block: u8x16, limit: u8) -> usize
     }
 }
 
-/// How many units stand before the first that is not below the limit; all of them where there is
-/// none.
+/// How many units stand before the first that is not below the limit; all of them if there is none.
 #[inline(always)]
 pub(crate) fn unit_lanes_below(block: u16x8, limit: u16) -> usize
     ensures { result ≡ prefix_len (λ u. not (nat_le limit u)) block }

@@ -19,7 +19,7 @@ pub const UNIT_RUN: usize = UNIT_BLOCK;
 /// What stands at the start of some bytes, by a decoding rule. Lengths are in bytes.
 #[derive(Clone, Copy)]
 pub enum FirstPiece {
-    /// The bytes that are here do not decide it: more bytes are wanted.
+    /// The bytes that are here do not decide it: more bytes are needed.
     More,
     /// Bytes that give one character.
     One(char, usize),
@@ -34,7 +34,7 @@ pub enum FirstPiece {
 /// The rule of a codec: what the first piece of some bytes is. How a call cuts, waits, writes and
 /// stops is the driver's.
 pub trait DecoderRule {
-    /// The pieces of bytes from a state, where the list's end is the end of the input.
+    /// The pieces of bytes from a state, with the list's end as the end of the input.
     ghost pieces: { Self → List ℕ → List Piece };
 
     /// Joined, the pieces are the bytes.
@@ -46,13 +46,13 @@ pub trait DecoderRule {
     /// No bytes have no pieces.
     ghost ends: { (s : Self) → pieces s [] ≡ [] };
 
-    /// The most room that a call wants free for so many bytes, in each count.
+    /// The most room that a call needs free for so many bytes, in each count.
     ghost needs: { Self → OutputUnit → ℕ → ℕ };
 
     /// The numbers by which the length queries are computed.
     ghost limits: { Self → DecodedLength };
 
-    /// What a call wants free is never more than the length queries return.
+    /// What a call needs free is never more than the length queries return.
     ghost covers: { (s : Self) (k : OutputUnit) (n : ℕ) → needs s k n ≤ decoded_length (limits s) k n };
 
     /// The state after the first piece of bytes.
@@ -61,7 +61,7 @@ pub trait DecoderRule {
     /// The numbers of the length queries stay as the rule goes on.
     ghost steady: { (s : Self) (x : List ℕ) → limits (after s x) ≡ limits s };
 
-    /// The first piece of these bytes, or `More` where what follows decides it; `last` says that
+    /// The first piece of these bytes, or `More` if what follows decides it; `last` says that
     /// nothing follows. The condition is that there is a byte.
     fn first_piece(&self, bytes: &[u8], last: bool) -> FirstPiece
         requires { 0 < length bytes.now }
@@ -87,7 +87,7 @@ pub trait DecoderRule {
 
     /// 32 units of UTF-16, and how many of them, from the first on, are the characters that these
     /// bytes begin with, two bytes each: all are below U+D800, and the state stays as it is. The
-    /// units behind these mean nothing. 0 may be returned anywhere, as by each rule but that of
+    /// units after these mean nothing. 0 may be returned anywhere, as by each rule but that of
     /// UTF-16: then `first_piece` says what is there.
     #[inline(always)]
     fn units_at(&self, _bytes: &[u8]) -> ([u16; UNIT_RUN], usize)
@@ -101,9 +101,9 @@ pub trait DecoderRule {
         ([0; UNIT_RUN], 0)
     }
 
-    /// Whether the driver seeks, where this byte comes next, characters from U+0800 to U+FFFF of
-    /// two bytes each in a loop of their own. This decides speed alone: any answer is right, and so
-    /// no clause speaks of it.
+    /// Whether the driver seeks, if this byte comes next, characters from U+0800 to U+FFFF of two
+    /// bytes each in a loop of their own. This decides speed alone: any answer is right, and so no
+    /// clause speaks of it.
     #[inline(always)]
     fn seeks_pairs(&self, first: u8) -> bool {
         first >= 0x80
@@ -114,8 +114,8 @@ pub trait DecoderRule {
         ensures { result ≡ limits self.now };
 }
 
-/// What `size` bytes are that begin a longer sequence: malformed where they are the last of the
-/// input, and else undecided.
+/// What `size` bytes are that begin a longer sequence: malformed if they are the last of the input,
+/// and else undecided.
 #[inline(always)]
 pub fn cut_short(size: usize, last: bool) -> FirstPiece
     ensures { result ≡ cut_short size last }

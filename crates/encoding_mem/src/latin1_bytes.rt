@@ -1,14 +1,14 @@
-//! Latin1 in UTF-8, told by which bytes stand side by side.
+//! Latin1 in UTF-8, recognized by which bytes stand side by side.
 
 ghost use Rattle.std.specs.Prelude.{◌≡◌, ℕ, ◌+◌, ◌<◌, IsTrue, length, slice_index};
 ghost use Rattle.encoding_mem.specs.Latin1.{IsLatin1Text};
 ghost use Rattle.encoding_mem.specs.Latin1Bytes.{is_latin1_pair};
 
-// How many bytes are tested at a time, each with the one behind it and without a look at which of
+// How many bytes are tested at a time, each with the one after it and without a look at which of
 // them fails, so that the compiler tests them by vectors.
 const BLOCK: usize = 32;
 
-// Whether a byte and the one behind it may stand so in Latin1.
+// Whether a byte and the one after it may stand so in Latin1.
 #[inline(always)]
 fn is_latin1_pair(byte: u8, next: u8) -> bool
     ensures { result ≡ is_latin1_pair byte next }
@@ -32,7 +32,7 @@ fn are_latin1_pairs(bytes: &[u8]) -> bool
     all
 }
 
-// Whether some bytes are well-formed UTF-8 with characters up to U+00FF only. It wants no tables,
+// Whether some bytes are well-formed UTF-8 with characters up to U+00FF only. It needs no tables,
 // and stops at the first block with something else, so that it can stand before the test of UTF-8.
 pub(crate) fn is_latin1_text(bytes: &[u8]) -> bool
     ensures { IsTrue result → IsLatin1Text bytes.now }
@@ -51,7 +51,7 @@ pub(crate) fn is_latin1_text(bytes: &[u8]) -> bool
         }
         at += BLOCK;
     }
-    // The last block may begin within what was tested. No continuation byte stands behind it.
+    // The last block may begin within what was tested. No continuation byte stands after it.
     if bytes.len() > BLOCK {
         let last = bytes.len() - 1;
         return are_latin1_pairs(&bytes[last - BLOCK..]) && is_latin1_pair(bytes[last], 0);

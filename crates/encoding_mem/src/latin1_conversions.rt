@@ -9,7 +9,7 @@ ghost use Rattle.encoding_mem.specs.calls.Writing.{Adds};
 use crate::ascii_copies::copy_ascii_run;
 use crate::source::{Source, Utf8Source};
 
-/// Converts Latin1 to UTF-16 at the start of `dst`: each byte is a unit, and nothing behind them
+/// Converts Latin1 to UTF-16 at the start of `dst`: each byte is a unit, and nothing after them
 /// changes. `dst` has at least as many units as `src` has bytes, which a comparison of lengths
 /// tests.
 pub fn convert_latin1_to_utf16(src: &[u8], dst: &mut [u16])
@@ -22,8 +22,8 @@ pub fn convert_latin1_to_utf16(src: &[u8], dst: &mut [u16])
     }
 }
 
-/// Takes the low eight bits of each unit of UTF-16, into the start of `dst`; nothing behind them
-/// changes. Where `is_utf16_latin1` holds of `src`, that is its text in Latin1; else, also of
+/// Takes the low eight bits of each unit of UTF-16, into the start of `dst`; nothing after them
+/// changes. If `is_utf16_latin1` holds of `src`, that is its text in Latin1; else, also of
 /// surrogates, it is not. `dst` has at least as many bytes as `src` has units, which a comparison
 /// of lengths tests.
 pub fn convert_utf16_to_latin1_lossy(src: &[u16], dst: &mut [u8])
@@ -37,7 +37,7 @@ pub fn convert_utf16_to_latin1_lossy(src: &[u16], dst: &mut [u8])
 }
 
 /// Converts UTF-8 to Latin1 at the start of `dst`, a byte for each character, and returns how many
-/// bytes were written; nothing behind them changes.
+/// bytes were written; nothing after them changes.
 ///
 /// The conditions are that `src` is well-formed with no character above U+00FF, which
 /// `is_utf8_latin1` tests, and that `dst` is at least as long as `src`, which a comparison of
@@ -87,7 +87,7 @@ fn put_two_bytes(byte: u8, dst: &mut [u8])
 }
 
 /// Converts the longest prefix of Latin1 whose UTF-8 fits into `dst`, and returns how many bytes
-/// were read and how many were written; nothing behind these changes. The caller goes on with the
+/// were read and how many were written; nothing after these changes. The caller goes on with the
 /// unread bytes.
 pub fn convert_latin1_to_utf8_partial(src: &[u8], dst: &mut [u8]) -> (usize, usize)
     ensures longest { IsLongest (λ _. Unit {0}) (λ i. length (encode_utf8_all (take i src.now)))
@@ -115,7 +115,7 @@ pub fn convert_latin1_to_utf8_partial(src: &[u8], dst: &mut [u8]) -> (usize, usi
 }
 
 /// Converts Latin1 to UTF-8 at the start of `dst`, and returns how many bytes were written; nothing
-/// behind them changes. `dst` is at least twice as long as `src`, which a comparison of lengths
+/// after them changes. `dst` is at least twice as long as `src`, which a comparison of lengths
 /// tests.
 pub fn convert_latin1_to_utf8(src: &[u8], dst: &mut [u8]) -> usize
     requires { 2 * length src.now ≤ length dst.old }

@@ -1,4 +1,4 @@
-//! Latin1 to text and back, borrowed where nothing changes.
+//! Latin1 to text and back, borrowed if nothing changes.
 
 ghost use Rattle.std.specs.Prelude.{◌≡◌, ◌↔◌, ◌+◌, ◌*◌, ◌≤◌, ◌++◌};
 ghost use Rattle.std.specs.Prelude.{IfOk, IsOk, encode_utf8_all, length, take};
@@ -21,7 +21,7 @@ pub enum Latin1Bytes<'a> {
     Owned(Vec<u8>),
 }
 
-// Puts a text, and behind it Latin1 in UTF-8, at the start. Returns how many bytes were written.
+// Puts a text, and after it Latin1 in UTF-8, at the start. Returns how many bytes were written.
 fn put_both(text: &str, latin1: &[u8], dst: &mut [u8]) -> usize
     requires { length text.now + 2 * length latin1.now ≤ length dst.old }
     ensures fits { result ≤ length dst.new }
@@ -32,8 +32,8 @@ fn put_both(text: &str, latin1: &[u8], dst: &mut [u8]) -> usize
     end + convert_latin1_to_utf8(latin1, &mut dst[end..])
 }
 
-/// Decodes Latin1 to text: borrowed where the bytes are ASCII, which asks for no memory, and else
-/// new. The error is that memory was refused.
+/// Decodes Latin1 to text: borrowed if the bytes are ASCII, which asks for no memory, and else new.
+/// The error is that memory was refused.
 pub fn decode_latin1(alloc: Global, bytes: &[u8]) -> Result<CowStr<'_>, AllocError>
     ensures text { IfOk result (λ t. cow_str_bytes t ≡ encode_utf8_all bytes.now) }
     ensures borrowed { IfOk result (λ t. IsBorrowedStr t ↔ IsAscii bytes.now) }
@@ -51,9 +51,9 @@ pub fn decode_latin1(alloc: Global, bytes: &[u8]) -> Result<CowStr<'_>, AllocErr
     Ok(CowStr::Owned(unsafe { String::from_utf8_unchecked(text) }))
 }
 
-/// Encodes a text as Latin1, a byte for each character: borrowed where it is ASCII, which asks for
-/// no memory, and else new. The error is that memory was refused. The condition, that no character
-/// is above U+00FF, is tested by `is_str_latin1`.
+/// Encodes a text as Latin1, a byte for each character: borrowed if it is ASCII, which asks for no
+/// memory, and else new. The error is that memory was refused. The condition, that no character is
+/// above U+00FF, is tested by `is_str_latin1`.
 pub fn encode_latin1_lossy(alloc: Global, text: &str) -> Result<Latin1Bytes<'_>, AllocError>
     requires { AllLatin1 (chars text.now) }
     ensures bytes { IfOk result (λ b. latin1_bytes b ≡ chars text.now) }

@@ -22,8 +22,8 @@
 //!     let (result, _, text_len) = decoder.decode_to_utf16_raw(b"\xC3\xA9\xFF", &mut units, true);
 //!
 //! The first call returns 6, the third 2 units read and 3 bytes written. The decoder reports
-//! `Malformed(1, 0)` behind the unit of U+00E9: the byte FF is malformed, and nothing was read
-//! behind it.
+//! `Malformed(1, 0)` after the unit of U+00E9: the byte FF is malformed, and nothing was read after
+//! it.
 #![tactic(auto)]
 
 pub mod ascii;

@@ -30,7 +30,7 @@ impl Pending {
         }
     }
 
-    /// The first `len` of the bytes that are held and those of `src` behind them, or all that there
+    /// The first `len` of the bytes that are held and those of `src` after them, or all that there
     /// are. The conditions are that `len` is at most 8, and that no more than `len` are held
     /// (`held.len()`).
     pub fn prefix_of(held: &Pending, src: &[u8], len: usize) -> Self

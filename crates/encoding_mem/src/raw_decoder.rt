@@ -13,7 +13,7 @@ use crate::decoder_result::DecoderResult;
 /// reports each malformed sequence, and does not replace it.
 ///
 /// It keeps the bytes that are not decided and the mode; the caller keeps the unread bytes, which
-/// come first in the next call. `last` says that the stream ends with `src`; behind a call with
+/// come first in the next call. `last` says that the stream ends with `src`; after a call with
 /// `last` that returned `InputEmpty`, no call follows.
 pub trait RawDecoder {
     /// What contracts say of a decoder: the pieces that the bytes to come will give, how many bytes
@@ -23,8 +23,8 @@ pub trait RawDecoder {
     /// Decodes bytes to UTF-8 up to the first malformed sequence. Returns how the call ended, how
     /// many bytes of `src` were read, and how many bytes of `dst` were written.
     ///
-    /// A character is never split, and nothing behind what is written changes. `OutputFull` does
-    /// not come where `dst` is as long as `max_utf8_buffer_length_without_replacement` returns.
+    /// A character is never split, and nothing after what is written changes. `OutputFull` does not
+    /// come if `dst` is as long as `max_utf8_buffer_length_without_replacement` returns.
     fn decode_to_utf8_raw(
         &mut self,
         src: &[u8],
@@ -43,8 +43,8 @@ pub trait RawDecoder {
     /// Decodes bytes to UTF-16 up to the first malformed sequence. Returns how the call ended, how
     /// many bytes of `src` were read, and how many units of `dst` were written.
     ///
-    /// A surrogate pair is never split, and nothing behind what is written changes. `OutputFull`
-    /// does not come where `dst` is as long as `max_utf16_buffer_length` returns.
+    /// A surrogate pair is never split, and nothing after what is written changes. `OutputFull`
+    /// does not come if `dst` is as long as `max_utf16_buffer_length` returns.
     fn decode_to_utf16_raw(
         &mut self,
         src: &[u8],
@@ -58,19 +58,19 @@ pub trait RawDecoder {
             → result.0 ≢ DecoderResult.OutputFull };
 
     /// How many units of UTF-16 are room enough for the text of `n` more bytes and of what is
-    /// pending, whether malformed sequences are reported or written as U+FFFD; `None` where the
-    /// number passes a `usize`.
+    /// pending, whether malformed sequences are reported or written as U+FFFD; `None` if the number
+    /// passes a `usize`.
     fn max_utf16_buffer_length(&self, n: usize) -> Option<usize>
         ensures { result ≡ queried (state self.now).room Units ((state self.now).pending + n) };
 
     /// How many bytes of UTF-8 are room enough for the text of `n` more bytes and of what is
-    /// pending, up to the first malformed sequence, and for one U+FFFD there; `None` where the
-    /// number passes a `usize`.
+    /// pending, up to the first malformed sequence, and for one U+FFFD there; `None` if the number
+    /// passes a `usize`.
     fn max_utf8_buffer_length_without_replacement(&self, n: usize) -> Option<usize>
         ensures { result ≡ queried (state self.now).room Bytes ((state self.now).pending + n) };
 
     /// How many bytes of UTF-8 are room enough for the text of `n` more bytes and of what is
-    /// pending, with U+FFFD for each malformed sequence; `None` where the number passes a `usize`.
+    /// pending, with U+FFFD for each malformed sequence; `None` if the number passes a `usize`.
     fn max_utf8_buffer_length(&self, n: usize) -> Option<usize>
         ensures { result ≡ queried (state self.now).room Replaced ((state self.now).pending + n) };
 

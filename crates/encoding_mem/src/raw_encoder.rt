@@ -24,8 +24,8 @@ pub trait RawEncoder {
     /// Encodes text up to the first character without bytes. Returns how the call ended, how many
     /// bytes of `src` were read, and how many bytes of `dst` were written.
     ///
-    /// What was read ends between characters, and nothing behind what is written changes.
-    /// `OutputFull` does not come where `dst` is as long as
+    /// What was read ends between characters, and nothing after what is written changes.
+    /// `OutputFull` does not come if `dst` is as long as
     /// `max_buffer_length_from_utf8_without_replacement` returns.
     fn encode_from_utf8_raw(
         &mut self,
@@ -45,8 +45,8 @@ pub trait RawEncoder {
     /// how many units of `src` were read, and how many bytes of `dst` were written.
     ///
     /// A surrogate in no pair of `src` is encoded as U+FFFD: the slice is read by itself. What was
-    /// read ends at no place between the two units of a pair, and nothing behind what is written
-    /// changes. `OutputFull` does not come where `dst` is as long as
+    /// read ends at no place between the two units of a pair, and nothing after what is written
+    /// changes. `OutputFull` does not come if `dst` is as long as
     /// `max_buffer_length_from_utf16_without_replacement` returns.
     fn encode_from_utf16_raw(
         &mut self,
@@ -63,16 +63,16 @@ pub trait RawEncoder {
             → result.0 ≢ EncoderResult.OutputFull };
 
     /// How many bytes are room enough for what `n` units of UTF-16 are encoded to, and for the last
-    /// escape; `None` where the number passes a `usize`. References are not counted.
+    /// escape; `None` if the number passes a `usize`. References are not counted.
     fn max_buffer_length_from_utf16_without_replacement(&self, n: usize) -> Option<usize>
         ensures { result ≡ checked (bound_at (parts self.now).limits.units n) };
 
     /// How many bytes are room enough for what `n` bytes of UTF-8 are encoded to, and for the last
-    /// escape; `None` where the number passes a `usize`. References are not counted.
+    /// escape; `None` if the number passes a `usize`. References are not counted.
     fn max_buffer_length_from_utf8_without_replacement(&self, n: usize) -> Option<usize>
         ensures { result ≡ checked (bound_at (parts self.now).limits.bytes n) };
 
-    /// Whether an escape to ASCII is still to be written at the end: so only in ISO-2022-JP, where
+    /// Whether an escape to ASCII is still to be written at the end: so only in ISO-2022-JP, if
     /// another set is in force.
     fn has_pending_state(&self) -> bool
         ensures { IsTrue result ↔ ((parts self.now).set ≢ Ascii) };

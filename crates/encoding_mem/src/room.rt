@@ -18,9 +18,9 @@ ghost use Rattle.encoding_mem.specs.calls.EncodedLength.{encoded_length_iso_2022
 pub enum OutputUnit {
     /// Units of UTF-16, whether malformed sequences are reported or written as U+FFFD.
     Units,
-    /// Bytes of UTF-8, where malformed sequences are reported.
+    /// Bytes of UTF-8, if malformed sequences are reported.
     Bytes,
-    /// Bytes of UTF-8, where each malformed sequence is written as U+FFFD.
+    /// Bytes of UTF-8, if each malformed sequence is written as U+FFFD.
     Replaced,
 }
 
@@ -41,7 +41,7 @@ impl Bound {
         Bound { factor, extra }
     }
 
-    /// The bound for a length of `n`; `None` where it passes a `usize`.
+    /// The bound for a length of `n`; `None` if it passes a `usize`.
     pub fn at(self, n: usize) -> Option<usize>
         ensures { result ≡ checked (bound_at self n) }
     {
@@ -109,9 +109,9 @@ pub struct DecodedLength {
     pub in_pairs: bool,
     /// The bound in units of UTF-16.
     pub units: Bound,
-    /// The bound in bytes of UTF-8, where malformed sequences are reported.
+    /// The bound in bytes of UTF-8, if malformed sequences are reported.
     pub bytes: Bound,
-    /// The bound in bytes of UTF-8, where each malformed sequence is written as U+FFFD.
+    /// The bound in bytes of UTF-8, if each malformed sequence is written as U+FFFD.
     pub replaced: Bound,
 }
 
@@ -154,7 +154,7 @@ impl DecodedLength {
         DecodedLength::of_bytes(Bound::new(0, 1), Bound::new(0, 3), Bound::new(0, 3))
     }
 
-    // Where each byte counts.
+    // If each byte counts.
     fn of_bytes(units: Bound, bytes: Bound, replaced: Bound) -> DecodedLength
         ensures { result ≡ of_bytes units bytes replaced }
     {
@@ -166,8 +166,8 @@ impl DecodedLength {
         }
     }
 
-    /// The room for the text of `pending` bytes and of `n` more, counted in `count`; `None` where
-    /// it passes a `usize`.
+    /// The room for the text of `pending` bytes and of `n` more, counted in `count`; `None` if it
+    /// passes a `usize`.
     pub fn query(self, count: OutputUnit, pending: usize, n: usize) -> Option<usize>
         ensures { result ≡ queried self count (pending + n) }
     {

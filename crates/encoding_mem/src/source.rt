@@ -68,8 +68,8 @@ pub trait Source {
             ≡ c ∷ text (drop (offset self.new) (all self.new)))
             × (offset self.new ≡ offset self.old + cost_in is_units c) };
 
-    /// Whether the second of the bytes or units that are next is there and is ASCII. Where the
-    /// first is too, a run of two characters at least is next, which is worth a copy.
+    /// Whether the second of the bytes or units that are next is there and is ASCII. If the first
+    /// is too, a run of two characters at least is next, which is worth a copy.
     fn is_second_ascii(&self) -> bool
         ensures { IsTrue result ↔ IsSecondAscii (drop (offset self.now) (all self.now)) };
 

@@ -22,7 +22,7 @@ pub trait SourceEncoder {
     ghost parts: { Self → EncoderParts };
 
     /// Encodes what is left of a source up to the first character without bytes. Returns how the
-    /// call ended, and how many bytes of `dst` were written. Nothing behind them changes.
+    /// call ended, and how many bytes of `dst` were written. Nothing after them changes.
     fn encode_from<S: Source>(
         &mut self,
         source: &mut S,

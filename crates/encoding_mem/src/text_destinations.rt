@@ -20,9 +20,9 @@ fn clear_prefix(bytes: &mut [u8])
     }
 }
 
-/// Clears what stands behind the first `written` bytes of a destination that was a text before
-/// these were overwritten: the continuation bytes there, of a character whose first bytes are gone,
-/// become 00. So the whole is a text again where what was written is one; nothing else changes. The
+/// Clears what stands after the first `written` bytes of a destination that was a text before these
+/// were overwritten: the continuation bytes there, of a character whose first bytes are gone,
+/// become 00. So the whole is a text again if what was written is one; nothing else changes. The
 /// condition, that `written` is at most the length of `dst`, is tested by comparing.
 pub fn clear_behind(dst: &mut [u8], written: usize)
     requires { written ≤ length dst.old }
@@ -36,7 +36,7 @@ pub fn clear_behind(dst: &mut [u8], written: usize)
 
 /// Converts the longest prefix of UTF-16 whose UTF-8 fits into a text, which stays one, and returns
 /// how many units were read and how many bytes were written. No pair is split; a surrogate in no
-/// pair of `src` becomes U+FFFD. Where a character of `dst` is overwritten in part, its other bytes
+/// pair of `src` becomes U+FFFD. If a character of `dst` is overwritten in part, its other bytes
 /// become 00.
 ///
 /// The condition is that `dst` is well-formed UTF-8, which `utf8_valid_up_to(dst) == dst.len()`
@@ -56,8 +56,8 @@ pub fn convert_utf16_to_str_partial(src: &[u16], dst: &mut [u8]) -> (usize, usiz
 }
 
 /// Converts UTF-16 to UTF-8 at the start of a text, which stays one, and returns how many bytes
-/// were written. A surrogate in no pair becomes U+FFFD. Where a character of `dst` is overwritten
-/// in part, its other bytes become 00.
+/// were written. A surrogate in no pair becomes U+FFFD. If a character of `dst` is overwritten in
+/// part, its other bytes become 00.
 ///
 /// The conditions are that `dst` is well-formed UTF-8, which `utf8_valid_up_to(dst) == dst.len()`
 /// tests, and that it has at least three times as many bytes as `src` has units, which a comparison
@@ -75,7 +75,7 @@ pub fn convert_utf16_to_str(src: &[u16], dst: &mut [u8]) -> usize
 }
 
 /// Converts the longest prefix of Latin1 whose UTF-8 fits into a text, which stays one, and returns
-/// how many bytes were read and how many were written. Where a character of `dst` is overwritten in
+/// how many bytes were read and how many were written. If a character of `dst` is overwritten in
 /// part, its other bytes become 00.
 ///
 /// The condition is that `dst` is well-formed UTF-8, which `utf8_valid_up_to(dst) == dst.len()`
@@ -95,7 +95,7 @@ pub fn convert_latin1_to_str_partial(src: &[u8], dst: &mut [u8]) -> (usize, usiz
 }
 
 /// Converts Latin1 to UTF-8 at the start of a text, which stays one, and returns how many bytes
-/// were written. Where a character of `dst` is overwritten in part, its other bytes become 00.
+/// were written. If a character of `dst` is overwritten in part, its other bytes become 00.
 ///
 /// The conditions are that `dst` is well-formed UTF-8, which `utf8_valid_up_to(dst) == dst.len()`
 /// tests, and that it is at least twice as long as `src`, which a comparison of lengths tests.

@@ -51,7 +51,7 @@ fn unit_at(text: &str, at: usize, size: usize) -> u16
 }
 
 /// Puts the run of characters of so many bytes that begins at an offset, each of them one unit.
-/// Returns the offsets behind it. The size is a literal at each call, so that no loop asks for it.
+/// Returns the offsets after it. The size is a literal at each call, so that no loop asks for it.
 #[inline(always)]
 pub(crate) fn put_run(
     text: &str,
@@ -105,7 +105,7 @@ fn widen_lanes(bytes: &[u8], dst: &mut [u16]) -> usize
     lanes_below(lanes, 0x80)
 }
 
-/// Puts ASCII that begins at an offset, and returns the offsets behind it. Units behind it may
+/// Puts ASCII that begins at an offset, and returns the offsets after it. Units after it may
 /// change, one for every three bytes that are left: these have a unit at least, which is put over
 /// it.
 #[inline(always)]
@@ -125,7 +125,7 @@ pub(crate) fn put_ascii(text: &str, at: usize, dst: &mut [u16], to: usize) -> (u
         convert_latin1_to_utf16(&bytes[at..at + run], &mut dst[to..]);
         return (at + run, to + run);
     }
-    // Of a vector that is not all ASCII all lanes are stored, where the text has units for them.
+    // Of a vector that is not all ASCII all lanes are stored, if the text has units for them.
     if bytes.len() - at >= 3 * BYTE_LANES {
         let run = widen_lanes(&bytes[at..], &mut dst[to..]);
         return (at + run, to + run);
@@ -133,8 +133,8 @@ pub(crate) fn put_ascii(text: &str, at: usize, dst: &mut [u16], to: usize) -> (u
     put_run(text, at, 1, dst, to)
 }
 
-// Puts the units of a character at an offset, where there is room for them, and returns the offset
-// behind them.
+// Puts the units of a character at an offset, if there is room for them, and returns the offset
+// after them.
 #[inline(always)]
 fn put_char_units(dst: &mut [u16], at: usize, c: char) -> usize
     requires { at + len_utf16 c ≤ length dst.old }
@@ -155,7 +155,7 @@ fn put_char_units(dst: &mut [u16], at: usize, c: char) -> usize
     }
 }
 
-/// Puts the character at an offset, and returns the offsets behind it.
+/// Puts the character at an offset, and returns the offsets after it.
 #[inline(always)]
 pub(crate) fn put_next(text: &str, at: usize, dst: &mut [u16], to: usize) -> (usize, usize)
     requires so_far { IsInUnits text.now at dst.old to }

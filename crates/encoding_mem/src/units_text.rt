@@ -13,7 +13,7 @@ pub fn count_in_units(units: &[u16]) -> usize
 {
     let mut read = 0;
     let mut count = 0;
-    // Behind each character a run without surrogates has a character for each unit.
+    // After each character a run without surrogates has a character for each unit.
     'characters: while let Some((_, size)) = first_of_units(&units[read..]) {
         read += size;
         let run = first_unit_from(&units[read..], 0xD800);

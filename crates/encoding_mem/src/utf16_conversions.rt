@@ -8,7 +8,7 @@ use crate::plain_units::{put_block, put_char, put_chars, put_lanes};
 use crate::source::first_of_units;
 
 /// Converts the longest prefix of UTF-16 whose UTF-8 fits into `dst`, and returns how many units
-/// were read and how many bytes were written; nothing behind these changes. No pair is split; a
+/// were read and how many bytes were written; nothing after these changes. No pair is split; a
 /// surrogate in no pair of `src` becomes U+FFFD. The caller goes on with the unread units.
 pub fn convert_utf16_to_utf8_partial(src: &[u16], dst: &mut [u8]) -> (usize, usize)
     ensures longest { IsLongest (IsUnitBoundary src.now) (λ i. length (units_in_utf8 (take i src.now)))
@@ -32,7 +32,7 @@ pub fn convert_utf16_to_utf8_partial(src: &[u16], dst: &mut [u8]) -> (usize, usi
         read += units;
         written += bytes;
     }
-    // Nor do the last characters ask, where three bytes a unit are left.
+    // Nor do the last characters ask, if three bytes a unit are left.
     if src.len() - read <= (dst.len() - written) / 3 {
         let (units, bytes) = put_chars(&src[read..], 0, src.len() - read, &mut dst[written..]);
         read += units;
@@ -49,7 +49,7 @@ pub fn convert_utf16_to_utf8_partial(src: &[u16], dst: &mut [u8]) -> (usize, usi
 }
 
 /// Converts UTF-16 to UTF-8 at the start of `dst`, and returns how many bytes were written; nothing
-/// behind them changes. A surrogate in no pair becomes U+FFFD. `dst` has at least three times as
+/// after them changes. A surrogate in no pair becomes U+FFFD. `dst` has at least three times as
 /// many bytes as `src` has units, which a comparison of lengths tests.
 pub fn convert_utf16_to_utf8(src: &[u16], dst: &mut [u8]) -> usize
     requires { 3 * length src.now ≤ length dst.old }

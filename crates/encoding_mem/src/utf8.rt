@@ -63,7 +63,7 @@ impl DecoderRule for Utf8Rule {
     }
 }
 
-// How many bytes are tested for text at a time: few, and more where these are text. Each test reads
+// How many bytes are tested for text at a time: few, and more if these are text. Each test reads
 // all of them, so that input with many malformed sequences stays cheap.
 const FEW: usize = 32;
 
@@ -92,7 +92,7 @@ fn text_window(bytes: &[u8], most: usize) -> &[u8]
     &window[..window.len() - cut_len(window)]
 }
 
-// How many bytes at the end begin a sequence that goes on behind them.
+// How many bytes at the end begin a sequence that goes on after them.
 fn cut_len(bytes: &[u8]) -> usize
     ensures few { result ≤ 3 }
     ensures within { result ≤ length bytes.now }

@@ -19,7 +19,7 @@ use crate::utf8::Utf8Decoder;
 use crate::utf16_sink::Utf16Sink;
 
 /// Converts a text to UTF-16 at the start of `dst`, and returns how many units were written;
-/// nothing behind them changes. `dst` has at least as many units as `src` has bytes, which a
+/// nothing after them changes. `dst` has at least as many units as `src` has bytes, which a
 /// comparison of lengths tests.
 pub fn convert_str_to_utf16(src: &str, dst: &mut [u16]) -> usize
     requires { length src.now ≤ length dst.old }
@@ -43,9 +43,9 @@ pub fn convert_str_to_utf16(src: &str, dst: &mut [u16]) -> usize
 }
 
 /// Converts UTF-8 to UTF-16 at the start of `dst`, and returns how many units were written, or
-/// `None` where `src` is not well-formed: `dst` then begins with the text before the first
-/// malformed sequence. Nothing behind what is written changes. `dst` has at least as many units as
-/// `src` has bytes, which a comparison of lengths tests.
+/// `None` if `src` is not well-formed: `dst` then begins with the text before the first malformed
+/// sequence. Nothing after what is written changes. `dst` has at least as many units as `src` has
+/// bytes, which a comparison of lengths tests.
 pub fn convert_utf8_to_utf16_without_replacement(src: &[u8], dst: &mut [u16]) -> Option<usize>
     requires { length src.now ≤ length dst.old }
     ensures answer { MatchOption result (¬ (IsUtf8 src.now))
@@ -64,7 +64,7 @@ pub fn convert_utf8_to_utf16_without_replacement(src: &[u8], dst: &mut [u16]) ->
 }
 
 /// Converts the longest well-formed prefix of UTF-8 whose UTF-16 fits into `dst`, and returns how
-/// many bytes were read and how many units were written; nothing behind these changes. It ends
+/// many bytes were read and how many units were written; nothing after these changes. It ends
 /// before the first malformed sequence, if one comes before the room ends.
 pub fn convert_utf8_to_utf16_up_to_invalid(src: &[u8], dst: &mut [u16]) -> (usize, usize)
     ensures longest { IsLongest (λ i. IsUtf8 (take i src.now)) (λ i. length (text_in_utf16 (take i src.now)))
@@ -79,15 +79,15 @@ pub fn convert_utf8_to_utf16_up_to_invalid(src: &[u8], dst: &mut [u16]) -> (usiz
 }
 
 /// Converts UTF-8 to UTF-16 at the start of `dst`, with U+FFFD for each malformed sequence, and
-/// returns how many units were written; nothing behind them changes. `dst` has more units than
-/// `src` has bytes, one at least, which a comparison of lengths tests.
+/// returns how many units were written; nothing after them changes. `dst` has more units than `src`
+/// has bytes, one at least, which a comparison of lengths tests.
 pub fn convert_utf8_to_utf16(src: &[u8], dst: &mut [u16]) -> usize
     requires { length src.now < length dst.old }
     ensures fits { result ≤ length dst.new }
     ensures units { take result dst.new ≡ encode_utf16_all (text (pieces_utf8 src.now)) }
     ensures behind { drop result dst.new ≡ drop result dst.old }
 {
-    // Latin1 wants no tables, which the test of UTF-8 sets up, and well-formed text no decoder.
+    // Latin1 needs no tables, which the test of UTF-8 sets up, and well-formed text no decoder.
     if is_latin1_text(src) {
         return convert_str_to_utf16(unsafe { std::str::from_utf8_unchecked(src) }, dst);
     }

@@ -75,7 +75,7 @@ impl<'a> Sink for Utf8Sink<'a> {
         self.free_len() >= 4
     }
 
-    // Where any character fits, its length is not asked.
+    // If any character fits, its length is not asked.
     #[inline(always)]
     fn fits(&self, c: char) -> bool {
         let free = self.free_len();

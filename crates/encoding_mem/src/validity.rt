@@ -11,12 +11,12 @@ use crate::first::first_unit_from;
 use crate::latin1_bytes::is_latin1_text;
 
 /// The length in bytes of the longest prefix that is well-formed UTF-8 (RFC 3629): it ends before
-/// the first byte of the first malformed sequence. Where it is the length of the bytes, they are
-/// text: the test of the condition of calls into text.
+/// the first byte of the first malformed sequence. If it is the length of the bytes, they are text:
+/// the test of the condition of calls into text.
 pub fn utf8_valid_up_to(bytes: &[u8]) -> usize
     ensures { IsLongestPrefix IsUtf8 bytes.now result }
 {
-    // ASCII wants none of the tables that the other test sets up.
+    // ASCII needs none of the tables that the other test sets up.
     if is_ascii(bytes) {
         return bytes.len();
     }

@@ -325,7 +325,7 @@ ends_before e m rows less =
     let split = split_below (suc e) (m - suc e) m rows (omega (arith, less)) in
     omega (arith, ap length split.1, length-append (pairs_below (suc e) rows) split.0)
 
--- where the next row goes is free, and behind the pairs of smaller entries
+-- where the next row goes is free, and after the pairs of smaller entries
 place_fits : (rows : List (ℕ × ℕ)) (at : ℕ) (begins : List ℕ) (pairs : List (ℕ × ℕ)) → at < length rows → AreBeingPlaced rows (at + 1) begins pairs
     → slice_index begins (row_at rows at).1 ≡ length (pairs_below (row_at rows at).1 rows) + length (rows_of_entry (row_at rows at).1 (take at rows)) + 1
 place_fits rows at begins pairs within p =

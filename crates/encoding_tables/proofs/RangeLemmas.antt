@@ -23,7 +23,7 @@ rows_rise rows none =
     let passes = option_or_none (first_out_of_order 0 0 rows) (first_bad_value 0 0x80 rows) none in
     rising 0 rows (order_from 0 0 rows passes.0 0x80 passes.1)
 
--- a row ends behind its pointer
+-- a row ends after its pointer
 before_end : (p row : ℕ) (rows : List (ℕ × ℕ)) (least : ℕ) → p ≤ 1237575 → first_out_of_order row (p + 1) rows ≡ None → first_bad_value row least rows ≡ None → p < end_by rows
 before_end p row [] least last order values = omega arith
 before_end p row (r ∷ rows) least last order values = let t = taken row (p + 1) least r rows order values in omega (arith, t.1.start)

@@ -1,4 +1,4 @@
--- Where the error was returned, what is left of a replacement input has no text.
+-- If the error was returned, what is left of a replacement input has no text.
 use Rattle.std.proofs.Common.{◌≡◌, ℕ, true, List, [], ◌∷◌, ◌++◌, length, refl, sym, ◌∙◌, ap, arith, Option, Some, None}
 use Rattle.encoding_mem.specs.Piece.{Piece, head_piece, piece_text}
 use Rattle.encoding_mem.specs.laws.Pieces.{pieces_in-nil, pieces_in-cons}

@@ -70,7 +70,7 @@ well_formed_head least above r rows e h =
       | inr reached ↦ let no : reached.row < zero = reached.earlier in omega arith
     ]
 
--- a bad value behind the first row
+-- a bad value after the first row
 behind : (least above k : ℕ) (r : ℕ × ℕ) (rows : List (ℕ × ℕ)) → above_row r (end_by rows) least ≡ Some above → HasBadValue least (r ∷ rows) (suc k) → HasBadValue above rows k
 behind least above k r rows e h = record {
   pointer = h.pointer;

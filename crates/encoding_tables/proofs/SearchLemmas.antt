@@ -105,7 +105,7 @@ step_down rows key low high compared middle rise n some is other = record {
 
 -- ---- rows before a first number
 
--- a row is below the pair of a first number and 0 where its own is less
+-- a row is below the pair of a first number and 0 if its own is less
 below_start : (row : ℕ × ℕ) (first : ℕ) → IsBelow row (first, 0) → row.0 < first
 below_start row first e = elim (below_cases row (first, 0) e) [ inl less ↦ less | inr same ↦ absurd (omega (arith, same.1)) ]
 
@@ -126,7 +126,8 @@ part_rises rows from to rise k within =
     let next : from + k + 1 ≡ from + (k + 1) = omega arith in
     rw (row_of_part rows from to k (omega (arith, len)), row_of_part rows from to (k + 1) (omega (arith, len)), ← next) (rise (from + k) (omega (arith, len)))
 
--- the rank among a part is the rank among all, where what stands before the part is below the key and what stands behind it is not
+-- the rank among a part is the rank among all, if what stands before the part is below the key and what stands after it
+-- is not
 rank_of_part : (rows : List (ℕ × ℕ)) (key : ℕ × ℕ) (from to n : ℕ) → from ≤ to → to ≤ length rows → ((k : ℕ) → k < from → IsBelow (row_at rows k) key)
     → ((k : ℕ) → to ≤ k → k < length rows → ¬ (IsBelow (row_at rows k) key)) → IsRank (slice_range rows from to) key n → IsRank rows key (from + n)
 rank_of_part rows key from to n ordered inside before behind rank =
@@ -194,7 +195,7 @@ row_in_span rows first from to k span past early =
     let high = below_start (row_at rows k) (first + 1) (span.ends.below k early) in
     omega (arith, low, high)
 
--- and the row behind it has not
+-- and the row after it has not
 pub row_past_span : (rows : List (ℕ × ℕ)) (first from to : ℕ) → IsSpan rows first from to → to < length rows → (row_at rows to).0 ≢ first
 row_past_span rows first from to span inside is =
     let high = from_start (row_at rows to) (first + 1) (span.ends.others to (omega arith) inside) in
@@ -214,7 +215,7 @@ row_alone rows place =
     let here : place + 0 ≡ place = omega arith in
     row_of_part rows place (place + 1) 0 (omega arith) ∙ ap (λ q. row_at rows q) here
 
--- where the row at the place of a number is below the next number, it has the number
+-- if the row at the place of a number is below the next number, it has the number
 pub second_at_place : (rows : List (ℕ × ℕ)) (first place n : ℕ) → IsRank rows (first, 0) place → place < length rows → IsRank (slice_range rows place (place + 1)) (first + 1, 0) n → n ≡ 1
     → IsSecond rows first (Some (row_at rows place).1)
 second_at_place rows first place n rank within next one =
@@ -223,7 +224,7 @@ second_at_place rows first place n rank within next one =
     let is : (row_at rows place).0 ≡ first = omega (arith, low, from, ap (λ (r : ℕ × ℕ). r.0) (row_alone rows place)) in
     (place, within, ap (λ q. (q, (row_at rows place).1)) is)
 
--- and where it is not, no row has it
+-- and if it is not, no row has it
 pub none_at_place : (rows : List (ℕ × ℕ)) (first place n : ℕ) → AreRising rows → IsRank rows (first, 0) place → place < length rows → IsRank (slice_range rows place (place + 1)) (first + 1, 0) n → n ≢ 1
     → IsSecond rows first None
 none_at_place rows first place n rise rank within next other k inside is =
@@ -340,7 +341,7 @@ last_at n [] k within from above = absurd (omega arith)
 last_at n (r ∷ rows) zero within from above = rw (none_at n rows (λ j less. above (suc j) (omega arith) (omega arith)), le-ltb n r.0 from) refl
 last_at n (r ∷ rows) (suc k) within from above = rw (last_at n rows k (omega arith) from (λ j more less. above (suc j) (omega arith) (omega arith))) refl
 
--- a row is below the pair of the next number and 0 where its first number is not above
+-- a row is below the pair of the next number and 0 if its first number is not above
 below_next : (n : ℕ) (r : ℕ × ℕ) → IsBelow r (n + 1, 0) → r.0 ≤ n
 below_next n r below = elim (below_cases r (n + 1, 0) below) [ inl less ↦ omega arith | inr same ↦ absurd (omega (arith, same.1)) ]
 

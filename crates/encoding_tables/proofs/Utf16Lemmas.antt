@@ -105,7 +105,7 @@ first_unit e u r h p n is size =
     ∙ ap (λ q. q ∷ pieces_utf16 e (drop (piece_len q) (w.a ∷ w.b ∷ r))) (ap (λ v. after_unit e v r) w.unit ∙ is)
     ∙ ap (λ k. p ∷ pieces_utf16 e (drop k (w.a ∷ w.b ∷ r))) size
 
--- a unit that is no surrogate, a low surrogate, and a high one with no low one behind it
+-- a unit that is no surrogate, a low surrogate, and a high one with no low one after it
 plain : (e : Bool) (u : ℕ) (x : List ℕ) → (u < 0xD800) ⊎ ((0xE000 ≤ u) × (u < 0x10000)) → after_unit e u x ≡ piece_of_char (lone_unit_char u)
 plain e u x (inl low) =
     let short : u < 0x10000 = omega arith in

@@ -22,7 +22,7 @@ plain_piece e u x low = rw (lt-leb 0xD800 u low, lt-ltb u 0xD800 low) refl
 abbrev pub plain_len : List ℕ → ℕ
 plain_len us = prefix_len (λ u. not (nat_le 0xD800 u)) us
 
--- each of them is below; behind the end there is none
+-- each of them is below; beyond the end there is none
 pub all_plain : (us : List ℕ) (k : ℕ) → get_or (take (plain_len us) us) k 0 < 0xD800
 all_plain [] k = omega arith
 all_plain (u ∷ us) k = elim (cases_lt u 0xD800) [

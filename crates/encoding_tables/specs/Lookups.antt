@@ -1,5 +1,5 @@
--- Look-ups in the list of an index, where an entry 0 is none (the Encoding Standard, section 5, "index code point" and
--- "index pointer").
+-- Look-ups in the list of an index, in which an entry 0 is none (the Encoding Standard, section 5, "index code point"
+-- and "index pointer").
 use Rattle.std.specs.Prelude.{◌≢◌, ℕ, ◌+◌, Bool, List, [], ◌∷◌, ◌==◌, if◌then◌else◌, Option, None, Some, slice_range, slice_index}
 use Rattle.std.specs.Char.{IsScalar}
 use Rattle.std.specs.List.{position}

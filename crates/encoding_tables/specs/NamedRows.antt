@@ -1,4 +1,4 @@
--- The row that is named where rows are not taken, in the words of the rule.
+-- The row that is named if rows are not taken, in the words of the rule.
 use Rattle.std.specs.Prelude.{◌≡◌, ℕ, ◌+◌, ◌<◌, ◌≤◌, ◌⊎◌, zero, suc, true, List, [], ◌∷◌, MatchOption}
 use Rattle.std.specs.Char.{InScalarRange}
 use Rattle.encoding_tables.specs.Ranges.{is_valid_pointer, value_in, end_by}

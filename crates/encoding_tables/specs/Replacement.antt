@@ -25,7 +25,7 @@ pieces_replacement = pieces_in first_piece_replacement after_replacement
 abbrev pub IsOneError : Type 0
 IsOneError = (b : ℕ) (x : List ℕ) → (malformed_count (pieces_replacement false (b ∷ x)) ≡ 1) × (text (pieces_replacement false (b ∷ x)) ≡ 0xFFFD ∷ [])
 
--- after replacement's error was returned, no call of a decoder ends for want of room
+-- after replacement's error was returned, no call of a decoder ends for lack of room
 abbrev pub NeedsRoomOnce : Type 0
 NeedsRoomOnce = (s : DecoderState) (unread : List ℕ) (last : Bool) (free room mark : ℕ)
     → ((r : List ℕ) → (IsTrue last → r ≡ []) → s.pieces (unread ++ r) ≡ pieces_replacement true (unread ++ r))

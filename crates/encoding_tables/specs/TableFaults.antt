@@ -28,7 +28,7 @@ abbrev pub first_reserved : List ℕ → Option ℕ
 first_reserved flat = option_map (λ k. 8836 + k) (position (λ v. not (v == 0)) (slice_range flat 8836 10716))
 
 -- the fault of a list of JIS X 0208, if it maps a pointer from 8836 to 10715, where Shift_JIS has
--- end-user-defined characters: it tells the first such pointer
+-- end-user-defined characters: it names the first such pointer
 abbrev pub reserved_fault : IndexKind → List ℕ → Option TableFault
 reserved_fault kind flat = if is_same_kind kind Jis0208 then option_map Reserved (first_reserved flat) else None
 

@@ -33,8 +33,8 @@ fn are_scalars(least: u64, first: u64, end: u64) -> bool
     first >= least && (end <= 0xD800 || first >= 0xE000 && end <= 0x110000)
 }
 
-// One above the values of a row from the pointer `from` to below `to`, or `least` if there are none. None
-// where a value is no scalar from `least`.
+// One above the values of a row from the pointer `from` to below `to`, or `least` if there are
+// none. None if a value is no scalar from `least`.
 fn above_values(row: (u32, u32), from: u32, to: u32, least: u64) -> Option<u64>
     requires { row.0 ≤ from }
     ensures { result ≡ above_values row from to least }
@@ -84,7 +84,7 @@ pub(crate) fn end_by(rows: &[(u32, u32)]) -> u32
     }
 }
 
-// The row that is named where rows are not taken.
+// The row that is named if rows are not taken.
 pub(crate) fn bad_row(rows: &[(u32, u32)]) -> Option<usize>
     ensures { result ≡ bad_row rows.now }
 {

@@ -22,7 +22,7 @@ use crate::index_kind::IndexKind;
 pub use crate::search::search;
 use crate::table_fault::TableFault;
 
-/// Kinds are equal exactly where they are the same, and so are faults, with their number.
+/// Kinds are equal exactly when they are the same, and so are faults, with their number.
 pub fn kinds_and_faults_are_compared()
     ensures kind { (a b : IndexKind) → IsTrue (⟦<IndexKind as PartialEq>⟧.eq a b) ↔ (a ≡ b) }
     ensures fault { (a b : TableFault) → IsTrue (⟦<TableFault as PartialEq>⟧.eq a b) ↔ (a ≡ b) }
@@ -46,10 +46,10 @@ pub fn pointers()
     ensures last { LastIsGreatest }
 {}
 
-/// What holds of all rows that are taken as ranges: their values are scalars from U+0080 and rise, a
-/// pointer that is found is the one that there is, and it has the character that it was found for. In
-/// rows that are not taken, the row that is named is the first that is out of order; where there is
-/// none, the first with a wrong value.
+/// What holds of all rows that are taken as ranges: their values are scalars from U+0080 and rise,
+/// a pointer that is found is the one that there is, and it has the character that it was found
+/// for. In rows that are not taken, the row that is named is the first that is out of order; if
+/// there is none, the first with a wrong value.
 pub fn ranges()
     ensures scalars { ValuesAreScalars }
     ensures rise { ValuesRise }
@@ -58,13 +58,14 @@ pub fn ranges()
     ensures names { NamesAreExact }
 {}
 
-/// What is written in a single-byte encoding reads back, by the decoder of the same list, as the text
-/// exactly where each character of it has a byte.
+/// What is written in a single-byte encoding reads back, by the decoder of the same list, as the
+/// text exactly when each character of it has a byte.
 pub fn single_byte_text_reads_back()
     ensures { (flat : List ℕ) → AreEntries flat → ReadsBackExactly (pieces_single_byte flat) (single_byte_coding flat) }
 {}
 
-/// What is written in x-user-defined reads back as the text exactly where each character of it has a byte.
+/// What is written in x-user-defined reads back as the text exactly when each character of it has a
+/// byte.
 pub fn user_defined_text_reads_back()
     ensures { ReadsBackExactly pieces_user_defined user_defined_coding }
 {}
@@ -93,7 +94,7 @@ pub fn replacement_is_one_error()
     ensures { IsOneError }
 {}
 
-/// A call of replacement's decoder ends for want of room only before its error: once that is
+/// A call of replacement's decoder ends for lack of room only before its error: once that is
 /// returned, no call of a decoder with these pieces returns `OutputFull`.
 pub fn replacement_needs_room_once()
     ensures { NeedsRoomOnce }

@@ -130,7 +130,7 @@ fn greatest_entry(rows: &[(u32, u32)]) -> u32
     greatest
 }
 
-// How many rows have each entry. Behind the greatest entry stands one more that no row has.
+// How many rows have each entry. After the greatest entry stands one more that no row has.
 fn counts(alloc: Global, rows: &[(u32, u32)]) -> Result<Vec<u16>, AllocError>
     requires few { length rows.now < 2 ^ 16 }
     ensures { IfOk result (λ counts. AreCounts rows.now counts.items) }

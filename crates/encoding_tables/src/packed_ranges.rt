@@ -32,7 +32,7 @@ impl Model for PackedRanges {
 }
 
 impl PackedRanges {
-    // A copy of rows that are taken. Asks for no memory where there are no rows.
+    // A copy of rows that are taken. Asks for no memory if there are no rows.
     pub(crate) fn from_rows(alloc: Global, rows: &[(u32, u32)]) -> Result<Self, AllocError>
         requires { bad_row rows.now ≡ None }
         ensures rows { IfOk result (λ p. p ≡ rows.now) }
@@ -75,9 +75,9 @@ fn is_valid_pointer(pointer: u32) -> bool
     pointer < BASIC_END || pointer >= OTHER_START && pointer < OTHER_END
 }
 
-// Adds the runs of a row whose pointers end below `end`. One begins at the row's own pointer, where that
-// is in the basic plane, and one at its first pointer of the other planes, where it has one. In the gap
-// between them a row's code may be any number.
+// Adds the runs of a row whose pointers end below `end`. One begins at the row's own pointer, if
+// that is in the basic plane, and one at its first pointer of the other planes, if it has one. In
+// the gap between them a row's code may be any number.
 fn push_runs(runs: &mut Vec<(u32, u32)>, row: (u32, u32), end: u32) -> Result<(), AllocError>
     requires { 189000 < end → value_in (max row.0 189000) row < 2 ^ 32 }
     ensures { (rest : List (ℕ × ℕ)) → OnOk result
@@ -140,7 +140,7 @@ fn value_by_rows(rows: &[(u32, u32)], pointer: u32) -> Option<char>
 }
 
 // The pointer to which rows give a character: the one that it would have in the last run that
-// begins with it or below, where the rows do give it that character.
+// begins with it or below, if the rows do give it that character.
 fn pointer_by_runs(rows: &[(u32, u32)], by_value: &[(u32, u32)], c: char) -> Option<u32>
     requires { ArePacked rows.now by_value.now }
     ensures { result ≡ range_pointer rows.now c }

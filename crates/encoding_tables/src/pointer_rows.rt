@@ -44,7 +44,7 @@ impl PointerRows {
     ///
     /// The rows before the place that the directory names are below the number, and those from
     /// there on are not. So if a row has the number, it is the one at this place, and the search
-    /// tells whether it is below the next number.
+    /// says whether it is below the next number.
     #[inline(always)]
     pub(crate) fn second(&self, first: u32) -> Option<u32>
         ensures { IsSecond self.now first result }

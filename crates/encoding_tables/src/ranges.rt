@@ -27,8 +27,8 @@ impl<'a> Ranges<'a> {
         Ranges { packed }
     }
 
-    /// The character at a pointer, or `None` where the pointer is not a valid one (39420 to 188999
-    /// and from 1237576 on) and before the first row (the Encoding Standard, section 5, "index
+    /// The character at a pointer, or `None` if the pointer is not a valid one (39420 to 188999 and
+    /// from 1237576 on) or is before the first row (the Encoding Standard, section 5, "index
     /// gb18030 ranges code point").
     pub fn value(&self, pointer: u32) -> Option<char>
         ensures { result ≡ range_value self.now pointer }
@@ -37,7 +37,7 @@ impl<'a> Ranges<'a> {
     }
 
     /// The pointer that is written for a character: 7457 for U+E7C7, and else the valid pointer,
-    /// other than 7457, whose value by the rows it is; `None` where there is none (the Encoding
+    /// other than 7457, whose value by the rows it is; `None` if there is none (the Encoding
     /// Standard, section 5, "index gb18030 ranges pointer").
     pub fn pointer(&self, c: char) -> Option<u32>
         ensures pointer { result ≡ range_pointer self.now c }

@@ -4,7 +4,7 @@ ghost use Rattle.std.specs.Prelude.{◌≡◌, length};
 ghost use Rattle.encoding_tables.specs.calls.SortedRows.{is_below, AreRising, IsRank};
 ghost use Rattle.encoding_tables.specs.calls.SortedRows.{IsWithinDigits};
 
-// Whether a row is below a key: by the first number, and by the second where the first are equal.
+// Whether a row is below a key: by the first number, and by the second if the first are equal.
 #[inline(always)]
 fn is_below(row: (u32, u32), key: (u32, u32)) -> bool
     ensures { result ≡ is_below row key }
@@ -12,12 +12,12 @@ fn is_below(row: (u32, u32), key: (u32, u32)) -> bool
     row.0 < key.0 || row.0 == key.0 && row.1 < key.1
 }
 
-/// How many of some rows are below `key`, which is the position of the first row that is not, where
+/// How many of some rows are below `key`, which is the position of the first row that is not, if
 /// there is one; and how many rows were compared with it: at most the number of binary digits of
 /// how many rows there are.
 ///
-/// A row is below another by its first number, and by the second where the first are equal. The rows rise
-/// strictly in this order, which no rows and one row do. A comparison of neighbours tests it:
+/// A row is below another by its first number, and by the second if the first are equal. The rows
+/// rise strictly in this order, which no rows and one row do. A comparison of neighbours tests it:
 ///
 ///     rows.windows(2).all(|pair| {
 ///         pair[0].0 < pair[1].0 || pair[0].0 == pair[1].0 && pair[0].1 < pair[1].1

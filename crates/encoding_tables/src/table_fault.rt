@@ -20,9 +20,9 @@ pub enum TableFault {
     /// pointers 8836 to 10715 for end-user-defined characters.
     #[error("the entry at pointer {0} stands where Shift_JIS has end-user-defined characters")]
     Reserved(u32),
-    /// This row, counted from 0, is the first whose pointer is above 1237575 or not above that of the row
-    /// before; where there is none, the first that gives a valid pointer a value that is no scalar from
-    /// U+0080, or is not above all values of earlier rows.
+    /// This row, counted from 0, is the first whose pointer is above 1237575 or not above that of
+    /// the row before; if there is none, the first that gives a valid pointer a value that is no
+    /// scalar from U+0080, or is not above all values of earlier rows.
     #[error("row {0} of the ranges is out of order or gives a wrong value")]
     Ranges(usize),
     /// There was no memory for it.

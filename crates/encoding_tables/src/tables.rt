@@ -26,7 +26,7 @@ use std::alloc::Global;
 use std::marker::Model;
 
 /// The indexes of the Encoding Standard (section 5) that were handed in, each checked before it was
-/// taken. Codecs borrow them. A list has the scalar at each pointer, and 0 where there is none.
+/// taken. Codecs borrow them. A list has the scalar at each pointer, and 0 if there is none.
 #[derive(Drop)]
 pub struct Tables {
     alloc: Global,
@@ -207,10 +207,10 @@ impl Tables {
         self.flat(kind)
     }
 
-    /// The character at a pointer of an index, or `None` where nothing is mapped and past the end
-    /// of the list (the Encoding Standard, section 5, "index code point"). The conditions are that
-    /// the index is there, which `has` tests, and that it is a list, which `IndexKind::is_ranges`
-    /// tests.
+    /// The character at a pointer of an index, or `None` if nothing is mapped there or it is past
+    /// the end of the list (the Encoding Standard, section 5, "index code point"). The conditions
+    /// are that the index is there, which `has` tests, and that it is a list, which
+    /// `IndexKind::is_ranges` tests.
     pub fn value(&self, kind: IndexKind, pointer: u32) -> Option<char>
         requires there { has self.now kind ≡ true }
         requires listed { is_ranges kind ≡ false }
@@ -219,7 +219,7 @@ impl Tables {
         self.flat(kind).value(pointer)
     }
 
-    /// The least pointer of an index from `from` to below `to` with this character, or `None` where
+    /// The least pointer of an index from `from` to below `to` with this character, or `None` if
     /// there is none (the Encoding Standard, section 5, "index pointer"). The conditions are that
     /// the index is there, which `has` tests, and that it is a list, which `IndexKind::is_ranges`
     /// tests.
@@ -231,9 +231,9 @@ impl Tables {
         self.flat(kind).first_pointer(c, from, to)
     }
 
-    /// The greatest pointer of an index from `from` to below `to` with this character, or `None`
-    /// where there is none. The conditions are that the index is there, which `has` tests, and that
-    /// it is a list, which `IndexKind::is_ranges` tests.
+    /// The greatest pointer of an index from `from` to below `to` with this character, or `None` if
+    /// there is none. The conditions are that the index is there, which `has` tests, and that it is
+    /// a list, which `IndexKind::is_ranges` tests.
     pub fn last_pointer(&self, kind: IndexKind, c: char, from: u32, to: u32) -> Option<u32>
         requires there { has self.now kind ≡ true }
         requires listed { is_ranges kind ≡ false }
@@ -242,7 +242,7 @@ impl Tables {
         self.flat(kind).last_pointer(c, from, to)
     }
 
-    /// The character at a pointer of the GB18030 ranges, or `None` where the pointer is not a valid
+    /// The character at a pointer of the GB18030 ranges, or `None` if the pointer is not a valid
     /// one and before the first row (the Encoding Standard, section 5, "index gb18030 ranges code
     /// point"). The condition, that they are there, is tested by `has`.
     pub fn range_value(&self, pointer: u32) -> Option<char>
@@ -253,9 +253,9 @@ impl Tables {
     }
 
     /// The pointer of the GB18030 ranges that is written for a character: 7457 for U+E7C7, and else
-    /// the valid pointer, other than 7457, whose value by the rows it is; `None` where there is
-    /// none (the Encoding Standard, section 5, "index gb18030 ranges pointer"). The condition, that
-    /// the ranges are there, is tested by `has`.
+    /// the valid pointer, other than 7457, whose value by the rows it is; `None` if there is none
+    /// (the Encoding Standard, section 5, "index gb18030 ranges pointer"). The condition, that the
+    /// ranges are there, is tested by `has`.
     pub fn range_pointer(&self, c: char) -> Option<u32>
         requires { has self.now IndexKind.Gb18030Ranges ≡ true }
         ensures { result ≡ range_pointer (range_rows self.now) c }

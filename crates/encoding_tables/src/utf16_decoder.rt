@@ -93,7 +93,7 @@ impl<E: ByteOrder> DecoderRule for Utf16Rule<E> {
         ""
     }
 
-    // Where a unit from D800 hex on comes first, no block of units is looked at.
+    // If a unit from D800 hex on comes first, no block of units is looked at.
     #[inline(always)]
     fn units_at(&self, bytes: &[u8]) -> ([u16; UNIT_RUN], usize) {
         if bytes.len() < 2 * UNIT_RUN || E::unit_of(bytes[0], bytes[1]) >= 0xD800 {
@@ -103,7 +103,7 @@ impl<E: ByteOrder> DecoderRule for Utf16Rule<E> {
         (units, units_below(u16x32::from_array(units), 0xD800))
     }
 
-    // Behind what is no such unit, units are sought again.
+    // After what is no such unit, units are sought again.
     #[inline(always)]
     fn seeks_pairs(&self, _first: u8) -> bool {
         false
@@ -141,7 +141,7 @@ fn decide<E: ByteOrder>(bytes: &[u8], last: bool) -> FirstPiece
     }
 }
 
-// By a unit, and the bytes behind it.
+// By a unit, and the bytes after it.
 #[inline(always)]
 fn decide_unit<E: ByteOrder>(unit: u16, rest: &[u8], last: bool) -> FirstPiece
     ensures { result ≡ decide_unit E.big_endian unit rest.now last }
@@ -155,7 +155,7 @@ fn decide_unit<E: ByteOrder>(unit: u16, rest: &[u8], last: bool) -> FirstPiece
     }
 }
 
-// By a high surrogate, and the bytes behind it.
+// By a high surrogate, and the bytes after it.
 #[inline(always)]
 fn decide_pair<E: ByteOrder>(high: u16, rest: &[u8], last: bool) -> FirstPiece
     requires { IsTrue (is_high_surrogate high) }
@@ -243,14 +243,14 @@ impl SinkDecoder for Ordered {
 
 /// The decoder of UTF-16BE and UTF-16LE (the Encoding Standard, section 14.2.1), which needs no
 /// index. A surrogate in no pair is malformed, 2 bytes, and so are the bytes that the end of the
-/// input cuts off: 1, or 3 where they follow a high surrogate. Up to 3 bytes are pending.
+/// input cuts off: 1, or 3 if they follow a high surrogate. Up to 3 bytes are pending.
 #[derive(Drop)]
 pub struct Utf16Decoder {
     inner: Ordered,
 }
 
 impl Utf16Decoder {
-    /// A decoder of a new stream of UTF-16BE where `big_endian` is true, and else of UTF-16LE.
+    /// A decoder of a new stream of UTF-16BE if `big_endian` is true, and else of UTF-16LE.
     pub fn new(big_endian: bool) -> Self
         ensures { IsFreshDecoder (⟦<Utf16Decoder as RawDecoder>⟧.state result)
             (pieces_utf16 big_endian) decoded_length_utf16 }

@@ -68,7 +68,7 @@ more_counted xs at n = ap (count_by begins_character) (take-add at n xs) ∙ sum
 pub counted_few : (xs : List ℕ) (at n count more : ℕ) → at + n ≤ length xs → count ≡ count_by begins_character (take at xs) → more ≡ count_by begins_character (take n (drop at xs)) → count + more ≤ length xs
 counted_few xs at n count more fits e f = omega (arith, e, f, more_counted xs at n, count_by-le-length begins_character (take (at + n) xs), length-take-le (at + n) xs)
 
--- with what is behind an offset, as a slice of the list
+-- with what is after an offset, as a slice of the list
 pub all_counted : (xs : List ℕ) (at : ℕ) → count_by begins_character (take at xs) + count_by begins_character (take (length xs - at) (drop at xs)) ≡ count_by begins_character xs
 all_counted xs at =
     ap (λ l. count_by begins_character (take at xs) + count_by begins_character l) (take_all (length xs - at) (drop at xs) (omega (arith, length-drop at xs)))

@@ -95,7 +95,7 @@ pub delivered_under : {T : Type 0} (r : Result T Fault) (w w1 w2 : WritersView) 
 delivered_under r w w1 w2 s s1 last a b n none p h =
     subst (λ (v : WritersView). IfErr r (λ (f : Fault). LeavesPrefixFor v w2 s.policy f last (λ r. to_write s (a ++ r)))) none (delivered_part r w w1 w2 s s1 last a b n p h)
 
--- where nothing was held
+-- if nothing was held
 pub left_whole : (w w' : WritersView) (p : Policy) (f : Fault) (last : Bool) (a : List ℕ → List Item) → w ≡ holding_none w.written → LeavesPrefixFor w w' p f last a → WritesPrefixFor w.written w'.written p f last a
 left_whole w w' p f last a none h = subst (λ (v : WritersView). LeavesPrefixFor v w' p f last a) none h
 
@@ -111,7 +111,7 @@ decodes_delivered (Err e) w w1 w2 s s1 last chunk none held before converts done
 
 -- ---- one call of a decoder
 
--- the state behind it, with the coding and the policy that it had before
+-- the state after it, with the coding and the policy that it had before
 module _ (s s' : State) (target : s'.coding ≡ s.coding) (policy : s'.policy ≡ s.policy) where
   to_write_is : (r : List ℕ) → trace_to_write (reference_form s.policy) s'.decoder s.coding s'.set s'.counts r ≡ to_write s' r
   to_write_is r =
@@ -127,7 +127,7 @@ module _ (s s' : State) (target : s'.coding ≡ s.coding) (policy : s'.policy �
 abbrev pub writing_of : State → TargetState
 writing_of s = record { coding = s.coding; set = s.set; policy = s.policy; verdict = s.verdict; counts = s.counts }
 
--- what an encoder is handed behind it
+-- what an encoder is handed after it
 abbrev pub after_call : State → (read calls : ℕ) → TargetState
 after_call s read calls = record (writing_of s) { counts = record s.counts { read = s.counts.read + read; calls = calls } }
 

@@ -67,7 +67,7 @@ module _ (before : List ℕ → List Piece) (s s' : DecoderState) (bytes left t 
       let has = taken_on h ps (λ r. k.rest r (no_last r) ∙ sym (append_assoc k.prefix (malformed a ∷ []) (s'.pieces (drop read left ++ r)))) h in
       inl (h.taken ++ ps, part_is_decided before s'.pieces bytes (drop read left) (h.taken ++ ps) has, λ read_. (well_formed_parts k.prefix (malformed a ∷ []) (well_formed_parts h.taken ps read_.0).1).1.0)
 
--- where all is read, nothing may be left of the text
+-- if all is read, nothing may be left of the text
 pub compared_whole : (before : List ℕ → List Piece) (s : DecoderState) (bytes left t : List ℕ) → HasCompared before s.pieces bytes left t []
     → (left ≡ []) × (((s.pending ≡ 0) × (s.pieces [] ≡ [])) ⊎ ((false ≡ false) × Waits s.pieces s.pending)) → ReadsAsText before s.pieces bytes t
 compared_whole before s bytes left t h ends = record {
@@ -82,7 +82,7 @@ pub compared_short : (before : List ℕ → List Piece) (s : DecoderState) (byte
 compared_short before s bytes left t expected h ends some =
     inr (h.taken, part_ends before s bytes left h.taken 0 0 0 h.has ends, λ whole. some (append_cancel_left (text h.taken) expected [] (sym h.same ∙ sym whole.1 ∙ sym (append-nil (text h.taken)))))
 
--- whatever the call's result is, where the part is not the next of the text
+-- whatever the call's result is, if the part is not the next of the text
 pub compares_differing : (before : List ℕ → List Piece) (s s' : DecoderState) (bytes left t expected : List ℕ) (read : ℕ) (part : List ℕ) (W : List ℕ → Type 0) (outcome : DecoderResult) → HasCompared before s.pieces bytes left t expected
     → StateLaw s s' left false read W outcome → IsText W part → (((more : List ℕ) × (expected ≡ part ++ more)) → ⊥) → ReadsAsOther before s'.pieces bytes t
 compares_differing before s s' bytes left t expected read part W InputEmpty h law is differs = compares_other before s s' bytes left t expected read part h (empty_call s s' left false read W part law is) differs

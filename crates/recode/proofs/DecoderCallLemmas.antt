@@ -322,7 +322,7 @@ module _ (before after : DecoderState) (src : List ℕ) (last : Bool) (read a b 
       ∙ ap (λ (n : ℕ). w ++ ((MalformedAt offset a ∷ open_items ref e s1 c1.index (0xFFFD ∷ [])) ++ trace_from ref e s' (c'.read - after.pending) n rest)) (sym index_is)
       ∙ sym (append_assoc w (MalformedAt offset a ∷ open_items ref e s1 c1.index (0xFFFD ∷ [])) (trace_to_write ref after e s' c' (drop read src ++ r)))
 
-  -- the parts of it, where a device failed
+  -- the parts of it, if a device failed
   pub malformed_text_prefix : (ref : Reference) (e : Coding) (s : EscapeState) (c : Counts) → before.pending ≤ c.read → (r : List ℕ) → (last ≡ true → r ≡ []) → (rest : List Item) × (trace_to_write ref before e s c (src ++ r) ≡ whole_items ref e false s c.index t ++ rest)
   malformed_text_prefix ref e s c fits r h = (_, malformed_is_first ref e s c (c.read + read - b - a) fits refl r h)
 

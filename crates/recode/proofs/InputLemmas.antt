@@ -54,7 +54,7 @@ kept_log j x kept from to u =
     let well_formed_text : AreWellFormed (input_pieces j x) = subst AreWellFormed (sym (text_is j x kept from u)) (text_pieces-well_formed (chars x)) in
     quiet_where_kept j x well_formed_text (in_utf8 j x to)
 
--- A reader that tells its bytes.
+-- A reader whose contract says its bytes.
 pub known_completes : (x : List ℕ) (s t : Devices) (j : Job) (p : Report) → s.input ≡ Some x → Completes s t j p → IsConverted s.written t.written j x p
 known_completes x s t j p is k =
     subst (λ y. IsConverted s.written t.written j y p) (whole_input x t.input k.input (subst (λ y. Consumes y t.input k.input) is k.consumed) k.end) k.converted

@@ -44,7 +44,7 @@ text_well_formed [] h = refl
 text_well_formed (well_formed n cs ∷ ps) h = ap (λ x. cs ++ x) (text_well_formed ps h.1)
 text_well_formed (malformed n ∷ ps) h = absurd h.0
 
--- Where it does not end.
+-- If it does not end.
 module _ (before after : DecoderState) (src : List ℕ) (read : ℕ) (t : List ℕ) where
   pub well_formed_advances : (last : Bool) (k : WellFormedCall before after src last read t) (e : Coding) (s s' : EscapeState) (c c' : Counts) → last ≡ false → s' ≡ last_set e s t → c'.index ≡ c.index + length t
       → Advances (λ r. before.pieces (src ++ r)) (λ r. after.pieces (drop read src ++ r)) e s s' c c'
@@ -112,7 +112,7 @@ log_bytes-append e offset i offset1 i1 a b at index =
     ∙ ap (λ (k : ℕ). flat_map line_bytes (log_lines e offset i a) ++ flat_map line_bytes (log_lines e k (i + length (text a)) b)) (sym at)
     ∙ ap (λ (k : ℕ). flat_map line_bytes (log_lines e offset i a) ++ flat_map line_bytes (log_lines e offset1 k b)) (sym index)
 
--- What was written for pieces, where what the others stand for is still to be written.
+-- What was written for pieces, while what the others stand for is still to be written.
 module _ (ref : Reference) (e : Coding) (s s1 : EscapeState) (offset i offset1 i1 : ℕ) (taken qs : List Piece) (written_items : List Item)
     (set_is : s1 ≡ last_set e s (text taken)) (offset_is : offset1 ≡ offset + sizes taken) (index_is : i1 ≡ i + length (text taken))
     (is : trace_from ref e s offset i (taken ++ qs) ≡ written_items ++ trace_from ref e s1 offset1 i1 qs) where
@@ -335,7 +335,7 @@ stands_run a b j v s n p =
       logged = subst (Appends a.written.log b.written.log) (paid_lines (reference_form j.policy) e Ascii s.set 0 0 offset s.counts.index taken qs p.pays.written_items set_is offset_is index_is is) p.pays.wrote.lined;
     }
 
--- All that the bytes read decide was written, and stays so where nothing is written after.
+-- All that the bytes read decide was written, and stays so if nothing is written after.
 pub wrote_decided : (a b : Devices) (after : Written) (j : Job) (s : State) (x : List ℕ) (ps : List Piece)
     → HasReached a b j s x ps → IsNearlyDecided s.decoder → KeepsWritten b.written after → WroteDecided a.written after j x ps
 wrote_decided a b after j s x ps k settled kept = record {

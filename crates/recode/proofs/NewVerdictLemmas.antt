@@ -1,4 +1,4 @@
--- What a verdict can tell where nothing was written.
+-- What a verdict can say if nothing was written.
 use Rattle.std.proofs.Common.{◌≡◌, ◌↔◌, ℕ, Bool, true, IsTrue, List, [], refl, sym, ◌∙◌, ap, subst}
 use Rattle.encoding_mem.specs.Piece.{Piece}
 use Rattle.encoding_mem.specs.ReadBack.{ReadsAs}

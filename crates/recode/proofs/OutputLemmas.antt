@@ -66,7 +66,7 @@ pub no_lost_lines : (j : Job) (x : List ℕ) → IsUtf8Encoding (output_encoding
 no_lost_lines j x h =
     ap lost_line_count (trace_where_spared j x (runs_through j x (λ stops. none_lost_in_utf8 j x h))) ∙ lost_line_count-trace (reference_form j.policy) (target_of j) Ascii 0 0 (input_pieces j x) ∙ none_lost_in_utf8 j x h
 
--- Where a character is lost, something is.
+-- If a character is lost, something is.
 pub lost_is_unfaithful : (j : Job) (x : List ℕ) → IsValidJob j → 0 < lost_count (target_of j) (input_text j x) → Faithful j x → ⊥
 lost_is_unfaithful j x v some f = omega (arith, some, none_lost (target_of j) (input_text j x) (mapped_where_faithful j x v f))
 
@@ -83,7 +83,7 @@ pub same_run : (j : Job) (x decoded bytes : List ℕ) (w w' : Written) (p : Repo
     → IsConverted w w' j x p → Appends w.output w'.output bytes
 same_run j x decoded bytes w w' p v decimal is written k = subst (Appends w.output w'.output) (sym (same_whole j x decoded bytes v decimal is written)) k.whole.output
 
--- a count of which a flag tells whether it is none
+-- a count, and a flag that says whether it is none
 none_where_false : (b : Bool) (n : ℕ) → IsTrue b ↔ (0 < n) → IsFalse b → n ≡ 0
 none_where_false true n h f = absurd (true≢false f)
 none_where_false false n h f = elim (cases_lt 0 n) [ inl some ↦ absurd (false≢true (h.1 some)) | inr none ↦ omega (arith, none) ]

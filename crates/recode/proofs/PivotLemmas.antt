@@ -40,7 +40,7 @@ pub written_to : (before after : DecoderState) (src : List ℕ) (last : Bool) (r
 written_to before after src last read W V outcome k f =
     record { taken = k.taken; well_formed = k.well_formed; within = k.within; counted = k.counted; writes = f (scalars k.taken) k.writes; rest = k.rest }
 
--- and how it ended, where the pivot has room
+-- and how it ended, if the pivot has room
 pub ends_of : (after : DecoderState) (unread : List ℕ) (last : Bool) (new : List ℕ) (written room mark : ℕ) (outcome : DecoderResult)
     → EndsWith after unread last (length (drop written new)) room mark outcome → room ≤ length new → DecodeCallEndsWith after unread last written outcome
 ends_of after unread last new written room mark InputEmpty e h = e
@@ -87,7 +87,7 @@ bytes_passed text prefix back n m u e f g =
     let whole : text ≡ prefix ++ back = sym (take-append-drop n text) ∙ ap (λ x. x ++ drop n text) (sym f) ∙ ap (λ x. prefix ++ x) (sym g) in
     omega (arith, e, ap (λ x. length (chars x)) whole, ap length (chars-append prefix back u), length-append (chars prefix) (chars back))
 
--- the same of units, where the rest is a slice
+-- the same of units, if the rest is a slice
 pub units_passed : (units prefix : List ℕ) (n m : ℕ) → utf16_lossy_chars units ≡ prefix ++ utf16_lossy_chars (drop n units) → m ≡ length (utf16_lossy_chars (take n units))
     → m + length (utf16_lossy_chars (take (length units - n) (drop n units))) ≡ length (utf16_lossy_chars units)
 units_passed units prefix n m is e =
@@ -105,7 +105,7 @@ before_units (c ∷ cs) units h =
     let parts = and_parts (scalar c) (all_scalars cs) h in
     ap utf16_lossy_chars (append_assoc (encode_utf16 c) (encode_utf16_all cs) units) ∙ scalar_back c (encode_utf16_all cs ++ units) parts.0 ∙ ap (λ l. c ∷ l) (before_units cs units parts.1)
 
--- What is left behind a text with which another begins: how both are spelled says how it is.
+-- What is left after a text with which another begins: how both are spelled says how it is.
 pub bytes_left : (x p r : List ℕ) → all_scalars (chars x) ≡ true → x ≡ encode_utf8_all (chars x) → all_scalars (chars p) ≡ true → p ≡ encode_utf8_all (chars p) → IsUtf8 p → x ≡ p ++ r
     → (chars x ≡ chars p ++ chars r) × (all_scalars (chars r) ≡ true) × (r ≡ encode_utf8_all (chars r))
 bytes_left x p r are whole starts start text cut =
@@ -125,7 +125,7 @@ units_left x p r are whole starts start cut =
       left_spelled encode_utf16_all x p r (utf16_lossy_chars x) (utf16_lossy_chars p) (utf16_lossy_chars r) encode_utf16_all-append whole start cut parts,
     )
 
--- Where its characters begin with another's, so does what it is spelled with.
+-- If its characters begin with another's, so does what it is spelled with.
 pub begins_spelled : (enc : List ℕ → List ℕ) (x p t cp more : List ℕ) → ((a b : List ℕ) → enc (a ++ b) ≡ enc a ++ enc b) → x ≡ enc t → p ≡ enc cp → t ≡ cp ++ more → x ≡ p ++ enc more
 begins_spelled enc x p t cp more both whole start is = whole ∙ ap enc is ∙ both cp more ∙ ap (λ l. l ++ enc more) (sym start)
 
@@ -162,7 +162,7 @@ units_cut x a b are whole cut parts =
     let first : a ≡ ea = cut_at a b ea eb both long in
     (first, append_cancel_left a b eb (both ∙ ap (λ l. l ++ eb) (sym first)))
 
--- the same of bytes, where both parts are texts
+-- the same of bytes, if both parts are texts
 pub bytes_cut : (x a b : List ℕ) → IsUtf8 a → x ≡ encode_utf8_all (chars x) → x ≡ a ++ b → a ≡ encode_utf8_all (chars a) → (chars x ≡ chars a ++ chars b) × (b ≡ encode_utf8_all (chars b))
 bytes_cut x a b text whole cut start =
     let parts : chars x ≡ chars a ++ chars b = ap chars cut ∙ chars-append a b text in
@@ -179,7 +179,7 @@ text_of_units t part h e =
     let is = units_text t part h e in
     (subst (λ l. all_scalars l ≡ true) (sym is) h, e ∙ ap encode_utf16_all (sym is))
 
--- it has no characters where it has no elements
+-- it has no characters if it has no elements
 bytes_none : (x : List ℕ) → length x ≡ 0 → chars x ≡ []
 bytes_none [] h = chars-nil
 bytes_none (b ∷ x) h = absurd (omega (arith, h))
@@ -192,7 +192,7 @@ pub units_empty : (x : List ℕ) (b : Bool) → b ≡ (length x == 0) → x ≡ 
 units_empty x b is whole =
     (λ h. no_units x (eqb-true (length x) 0 (sym is ∙ h)), λ h. is ∙ eq-eqb (length x) 0 (ap length (whole ∙ ap encode_utf16_all h)))
 
--- what `strip_prefix` of a slice tells
+-- what `strip_prefix` of a slice returns
 pub no_start : (x p : List ℕ) → pointwise eqb (take (length p) x) p ≡ false → (rest : List ℕ) → x ≡ p ++ rest → ⊥
 no_start x p differs rest is =
     let same : take (length p) x ≡ p = ap (take (length p)) is ∙ take_at p rest (length p) (omega arith) in

@@ -39,7 +39,7 @@ well_formed_count [] h = refl
 well_formed_count (well_formed n cs ∷ ps) h = well_formed_count ps h.1
 well_formed_count (malformed n ∷ ps) h = absurd h.0
 
--- nothing was lost where each piece is well-formed and each character has bytes, and only there
+-- nothing was lost if each piece is well-formed and each character has bytes, and only then
 pub faithful_where_kept : (j : Job) (x : List ℕ) → IsValidJob j → KeepsCharacters j.to → AreWellFormed (input_pieces j x) → AllMapped (target_of j) (input_text j x) → Faithful j x
 faithful_where_kept j x v keeps h k =
     let back = (reads_back_exactly j.tables.now j.to keeps v.tables (reference_form j.policy) (input_text j x) (marked_scalars j.tables.now j.mark j.from x v.tables)).1 k in

@@ -1,4 +1,4 @@
--- How a step's parts make its clauses. What is left where a conversion failed.
+-- How a step's parts make its clauses. What is left if a conversion failed.
 use Rattle.std.proofs.Common.{Err, ◌⊎◌, ◌≡◌, ℕ, ◌+◌, ◌≤◌, ◌<◌, add-zero, arith, length-append, append_assoc, List, [], ◌++◌, length, Option, Bool, true, false, refl, sym, ap, ◌∙◌, subst, append-nil, take, inl, inr}
 use Rattle.std.specs.Io.KnownBytes.{Consumes, Keeps, IsAtEnd, Appends}
 use Rattle.std.proofs.KnownBytes.{Consumes-nil, Consumes-kept, Consumes-trans, Appends-kept, Appends-trans, Keeps-refl}
@@ -90,7 +90,7 @@ pub record HasStopped (before after : Devices) (limit : ℕ) (s : State) (fault 
   pub within : s.counts.read + length read.input ≤ limit
   pub limited : PassesLimitIfTooLong (s.counts.read + length (read.input ++ read.refused)) limit fault
   pub pays : WritesPrefixFor before.written after.written s.policy fault read.ended (λ r. to_write s (read.input ++ r))
-  -- where no writer failed, what was written is what the steps before wrote
+  -- if no writer failed, what was written is what the steps before wrote
   pub latest : (fault ≡ Read) ⊎ (fault ≡ TooLong) → (t : Devices) × (s' : State) × (ran : HasRun before t limit s s') × (ran.chunk ≡ read.input) × KeepsWritten t.written after.written
 
 -- under the same policy
@@ -207,7 +207,7 @@ finishes_within {before} {after} {s} {s1} n m same h = subst (λ (k : ℕ). Fini
 pub stops_within : {before after : Devices} {s : State} {f : Fault} (n m : ℕ) → n ≡ m → Stops before after n s f → Stops before after m s f
 stops_within {before} {after} {s} {f} n m same h = subst (λ (k : ℕ). Stops before after k s f) same h
 
--- What is left where a conversion failed.
+-- What is left if a conversion failed.
 
 -- the count of the device rose that the fault is of
 abbrev pub IsCounted : (failures failures' : Failures) → Fault → Type 0
@@ -257,7 +257,7 @@ flush_stop writes writes' logs logs' p taken written Log h = tt
 flush_stop writes writes' logs logs' p taken written TooLong h = tt
 flush_stop writes writes' logs logs' p taken written (Unmappable i c) h = absurd h
 
--- the log with its message, behind what was written and flushed
+-- the log with its message, after what was written and flushed
 module _ (before after : Devices) (flushed : Written) (log : Option (List ℕ)) (m : Failures) (untold : ℕ) (j : Job) (kept : KeepsWritten after.written flushed) (since : before.failures.log ≤ untold) where
   told_log : (taken : List TaggedByte) (message : List ℕ) → Wrote before.written after.written taken → Appends flushed.log log message → Appends before.written.log log (log_bytes taken ++ message)
   told_log taken message wrote told =

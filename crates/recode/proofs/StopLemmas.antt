@@ -1,5 +1,5 @@
--- What a job writes, beside what it writes where nothing stops it: the same where each character has bytes, and less
--- where it stops at one that has none. What is written up to there never reads back as the text.
+-- What a job writes, beside what it writes if nothing stops it: the same if each character has bytes, and less if it
+-- stops at one that has none. What is written up to there never reads back as the text.
 use Rattle.std.proofs.Common.{arith, ◌+◌, ◌*◌, ◌≡◌, ◌≤◌, ◌⊎◌, inl, inr, false, true, ℕ, List, [], ◌∷◌, ◌++◌, map, length, refl, sym, ◌∙◌, ap, subst, append_assoc, append-nil, length-append}
 use Rattle.std.specs.List.{flat_map}
 use Rattle.std.specs.Str.{all_scalars}
@@ -32,7 +32,7 @@ use Rattle.recode.specs.declared.job.Policy.{Policy}
 use Rattle.recode.proofs.DecoderCallLemmas.{last_set-append}
 use Rattle.recode.proofs.TraceLemmas.{cut_spared, kept_where_no_lines, log_bytes-trace, lost_line_count-bytes, lost_line_count-trace, no_lines, no_lines_without_bytes, output_bytes-append, output_bytes-tagged, output_bytes-trace, tagged-append, written_whole}
 
--- Where nothing stops it.
+-- If nothing stops it.
 pub runs_through : (j : Job) (x : List ℕ) → (j.policy ≡ Policy.Stop → lost_count (target_of j) (input_text j x) ≡ 0) → IsSpared j.policy (whole_trace j x)
 runs_through j x h stops = lost_line_count-trace (reference_form j.policy) (target_of j) Ascii 0 0 (input_pieces j x) ∙ h stops
 
@@ -48,7 +48,7 @@ output_where_spared j x h = ap (λ l. output_bytes (tagged l)) (trace_where_spar
 pub log_where_spared : (j : Job) (x : List ℕ) → IsSpared j.policy (whole_trace j x) → log_of j x ≡ flat_map line_bytes (log_lines (target_of j) 0 0 (input_pieces j x))
 log_where_spared j x h = ap (λ l. log_bytes (tagged l)) (trace_where_spared j x h) ∙ log_bytes-trace (reference_form j.policy) (target_of j) Ascii 0 0 (input_pieces j x)
 
--- Where the log is empty nothing stopped it.
+-- If the log is empty nothing stopped it.
 unlogged_cut : (s : List Item) → log_bytes (tagged (up_to_loss s)) ≡ [] → up_to_loss s ≡ s
 unlogged_cut [] h = refl
 unlogged_cut (Byte b ∷ s) h = ap (λ l. Byte b ∷ l) (unlogged_cut s h)
@@ -92,7 +92,7 @@ output_within j x v =
     ap (λ l. output_bytes (tagged l)) more.1 ∙ ap output_bytes (tagged-append (trace j x) more.0) ∙ output_bytes-append (tagged (trace j x)) (tagged more.0) in
     omega (arith, whole_within j x v, ap length is, length-append (output_of j x) (output_bytes (tagged more.0)))
 
--- The output up to the first character without bytes, and then this, where there is none.
+-- The output up to the first character without bytes, and then this, if there is none.
 abbrev pub form_to_loss : Form → List ℕ → List ℕ
 form_to_loss (Mapped bs) behind = bs ++ behind
 form_to_loss (Unmapped m) behind = []
@@ -123,7 +123,7 @@ cut_open ref e s i (c ∷ t) rest =
     ∙ cut_bytes escape (form ++ (more ++ rest))
     ∙ ap (λ l. escape ++ l) (cut_form ref i (e.form c) (more ++ rest) ∙ ap (form_to_loss (e.form c)) (cut_open ref e (e.set s c) (i + 1) t rest))
 
--- the same behind the text of a piece, of which the rest is known
+-- the same after the text of a piece, of which the rest is known
 cut_more : (ref : Reference) (e : Coding) (s : EscapeState) (i : ℕ) (cs t : List ℕ) (rest : List Item)
     → item_bytes (up_to_loss rest) ≡ to_loss e (last_set e s cs) t (e.escape (last_set e (last_set e s cs) t) Ascii)
     → item_bytes (up_to_loss (open_items ref e s i cs ++ rest)) ≡ to_loss e s (cs ++ t) (e.escape (last_set e s (cs ++ t)) Ascii)
@@ -177,7 +177,7 @@ output_at_loss j x before c m rest stops is mapped none =
     ∙ ap (λ t. to_loss e Ascii t (e.escape (last_set e Ascii (input_text j x)) Ascii)) is
     ∙ at_loss e Ascii before c m rest (e.escape (last_set e Ascii (input_text j x)) Ascii) mapped none
 
--- Where something is lost, neither the whole output reads back as the text, in any target, nor what a stop leaves of it.
+-- If something is lost, neither the whole output reads back as the text, in any target, nor what a stop leaves of it.
 module _ (j : Job) (x : List ℕ) (v : IsValidJob j) where
   text_scalars : all_scalars (input_text j x) ≡ true
   text_scalars = marked_scalars j.tables.now j.mark j.from x v.tables
@@ -201,7 +201,7 @@ module _ (j : Job) (x : List ℕ) (v : IsValidJob j) where
         }) (reference_form j.policy) [] (λ no. refl) (rw (append-nil (input_text j x)) reads))
   ]
 
-  -- an escape behind the text before the character is no text
+  -- an escape after the text before the character is no text
   cut_never_reads : (before : List ℕ) (c m : ℕ) (rest : List ℕ) → input_text j x ≡ before ++ c ∷ rest → AllMapped (target_of j) before
       → ¬ (ReadsAs (output_pieces j) (bytes_from (target_of j) Ascii before ++ (target_of j).escape (last_set (target_of j) Ascii before) ((target_of j).set (last_set (target_of j) Ascii before) c)) (input_text j x))
   cut_never_reads before c m rest is mapped reads =

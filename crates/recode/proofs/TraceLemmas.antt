@@ -1,4 +1,4 @@
--- How what was written and what is still to be written compose. What the trace of a whole input is made of. Where
+-- How what was written and what is still to be written compose. What the trace of a whole input is made of. If
 -- the log is empty.
 use Rattle.std.proofs.Common.{arith, inl, inr, ◌⊎◌, ◌<◌, ◌+◌, Result, Ok, Err, IfErr, IsErrAnd, Bool, true, false, ◌≡◌, ℕ, List, [], ◌∷◌, ◌++◌, map, take, drop, Option, refl, ap, sym, ◌∙◌, subst, append_assoc, append-nil, take-append-drop, length}
 use Rattle.std.proofs.lemmas.Grind.{flat_map-append}
@@ -126,7 +126,7 @@ written_spared Policy.Decimal s t h = refl
 written_spared Policy.Hexadecimal s t h = refl
 written_spared Policy.Stop s t h = cut_spared s t (h refl)
 
--- all of it, where nothing stops it
+-- all of it, if nothing stops it
 pub written_whole : (p : Policy) (s : List Item) → IsSpared p s → written_under p s ≡ s
 written_whole p s h = ap (written_under p) (sym (append-nil s)) ∙ written_spared p s [] h ∙ ap (λ l. s ++ l) (none_written p) ∙ append-nil s
   where
@@ -135,7 +135,7 @@ written_whole p s h = ap (written_under p) (sym (append-nil s)) ∙ written_spar
     none_written Policy.Hexadecimal = refl
     none_written Policy.Stop = refl
 
--- what is written of a front is a prefix of what is written of the whole, and is that where it stops
+-- what is written of a front is a prefix of what is written of the whole, and is that if it stops
 cut_front : (s t : List Item) → (rest : List Item) × (up_to_loss (s ++ t) ≡ up_to_loss s ++ rest)
 cut_front [] t = (up_to_loss t, refl)
 cut_front (Byte b ∷ s) t = let k = cut_front s t in (k.0, ap (λ l. Byte b ∷ l) k.1)
@@ -158,7 +158,7 @@ written_once Policy.Decimal s t is h = absurd (cc)
 written_once Policy.Hexadecimal s t is h = absurd (cc)
 written_once Policy.Stop s t is h = cut_once s t h
 
--- What a fault leaves, behind what was written, and of more.
+-- What a fault leaves, after what was written, and of more.
 stop_behind : (p : Policy) (f : Fault) (s : List Item) (taken : List TaggedByte) (written : List Item) → IsSpared p s → IsStop p f taken written → IsStop p f (tagged s ++ taken) (s ++ written)
 stop_behind p Read s taken written h k = tt
 stop_behind p Write s taken written h k = tt
@@ -204,7 +204,7 @@ left_front p f taken total rest a e k =
 pub left_is : (p : Policy) (f : Fault) (taken : List TaggedByte) (a a' : List Item) → a' ≡ a → IsLeft p f taken a → IsLeft p f taken a'
 left_is p f taken a a' e k = subst (IsLeft p f taken) (sym e) k
 
--- where the fault is a writer's
+-- if the fault is a writer's
 none_stopped : (p : Policy) (f : Fault) (taken : List TaggedByte) (written : List Item) → (f ≡ Write) ⊎ (f ≡ Log) → IsStop p f taken written
 none_stopped p f taken written (inl is) = subst (λ (g : Fault). IsStop p g taken written) (sym is) tt
 none_stopped p f taken written (inr is) = subst (λ (g : Fault). IsStop p g taken written) (sym is) tt
@@ -251,7 +251,7 @@ under_lines w l l' p f lines n items a more log e begins h = record {
   };
 }
 
--- What a fault leaves is left where a result hands it on.
+-- What a fault leaves is left if a result hands it on.
 
 -- what holds of a fault holds of the one that is handed on
 pub handed_on : {T : Type 0} (P : Fault → Type 0) (r : Result T Fault) (e : Fault) → IsErrAnd r (λ (x : Fault). x ≡ e) → P e → IfErr r P
@@ -422,9 +422,9 @@ lost_line_count-trace ref e s offset i (well_formed n cs ∷ ps) =
 lost_line_count-trace ref e s offset i (malformed n ∷ ps) =
     omega (arith, lost_line_count-append (open_items ref e s i (0xFFFD ∷ [])) (trace_from ref e (e.set s 0xFFFD) (offset + n) (i + 1) ps), lost_line_count-open ref e s i (0xFFFD ∷ []), lost_line_count-trace ref e (e.set s 0xFFFD) (offset + n) (i + 1) ps, lost_count-append e (0xFFFD ∷ []) (text ps))
 
--- Where the log is empty.
+-- If the log is empty.
 
--- A text has no line of the log exactly where each scalar has bytes.
+-- A text has no line of the log exactly when each scalar has bytes.
 mapped_lines : (i : ℕ) (f : Form) → IsMapped f → form_lines i f ≡ []
 mapped_lines i (Mapped bs) h = refl
 mapped_lines i (Unmapped c) h = absurd h
@@ -452,7 +452,7 @@ mapped_both : (e : Coding) (a b : List ℕ) → AllMapped e a → AllMapped e b 
 mapped_both e [] b h k = k
 mapped_both e (c ∷ a) b h k = (h.0, mapped_both e a b h.1 k)
 
--- Pieces have no line of the log exactly where none is malformed and each scalar of their text has bytes.
+-- Pieces have no line of the log exactly when none is malformed and each scalar of their text has bytes.
 pub no_lines : (e : Coding) (offset i : ℕ) (ps : List Piece) → AreWellFormed ps → AllMapped e (text ps) → log_lines e offset i ps ≡ []
 no_lines e offset i [] h k = refl
 no_lines e offset i (well_formed n cs ∷ ps) h k =

@@ -1,4 +1,4 @@
--- What two runs on one input have in common, and where a run ends well.
+-- What two runs on one input have in common, and when a run ends well.
 use Rattle.std.proofs.Common.{◌≡◌, ℕ, ◌<◌, ◌≤◌, ◌↔◌, ◌⊎◌, inl, inr, Bool, true, false, IsTrue, IsOk, List, [], ◌∷◌, ap, length, Some, Result, Ok, Err, refl, sym, ◌∙◌, arith}
 use Rattle.std.proofs.lemmas.Bool.{false≢true}
 use Rattle.encoding_front.specs.declared.encoding.Encoding.{Encoding}
@@ -43,7 +43,7 @@ same_report j x p q a b =
 pub same_reports : (j : Job) (x : List ℕ) (w w' v v' : Written) (p q : Report) → IsConverted w w' j x p → IsConverted v v' j x q → AgreeButForCalls p q
 same_reports j x w w' v v' p q a b = same_report j x p q a.report b.report
 
--- with readers that tell their bytes
+-- with readers whose contracts say their bytes
 pub same_runs : (j : Job) (x : List ℕ) (s s' t t' : Devices) (p q : Report) → s.input ≡ Some x → t.input ≡ Some x → Completes s s' j p → Completes t t' j q
     → WroteTheSame s.written s'.written t.written t'.written × AgreeButForCalls p q
 same_runs j x s s' t t' p q is are a b =
@@ -51,7 +51,7 @@ same_runs j x s s' t t' p q is are a b =
     let another = known_completes x t t' j q are b in
     (same_written j x s.written s'.written t.written t'.written p q one another, same_reports j x s.written s'.written t.written t'.written p q one another)
 
--- with writers that tell theirs
+-- with writers whose contracts say theirs
 pub same_bytes : (j : Job) (x w w' v' l l' m' : List ℕ) (p q : Report) → IsConverted (known w l) (known w' l') j x p → IsConverted (known w l) (known v' m') j x q → (w' ≡ v') × (l' ≡ m')
 same_bytes j x w w' v' l l' m' p q a b = (a.whole.output ∙ sym b.whole.output, a.whole.logged ∙ sym b.whole.logged)
 
@@ -65,7 +65,7 @@ module _ (j : Job) (s s' : Devices) (quiet : s'.failures ≡ s.failures) where
   well_or_ended (Err TooLong) a = inr (inl refl)
   well_or_ended (Err (Unmappable i c)) a = inr (inr (a.fails.stopped [] (λ last. refl)).policy)
 
--- and whose reader tells its bytes
+-- and whose reader's contract says its bytes
 module _ (j : Job) (x : List ℕ) (s s' : Devices) (quiet : s'.failures ≡ s.failures) where
   through_where_well : (answer : Result Report Fault) → s.input ≡ Some x → RunReturns s s' j answer → IsOk answer → (length x ≤ j.limit) × RunsThrough j x
   through_where_well (Ok p) is a h =
@@ -81,7 +81,7 @@ module _ (j : Job) (x : List ℕ) (s s' : Devices) (quiet : s'.failures ≡ s.fa
   too_long_where_told (Err TooLong) is a h = known_too_long x s s' j is a.fails
   too_long_where_told (Err (Unmappable i c)) is a h = absurd (cc)
 
-  -- where the policy stopped it a character was lost
+  -- if the policy stopped it a character was lost
   lost_where_stopped : (answer : Result Report Fault) → s.input ≡ Some x → RunReturns s s' j answer → IsStopped j.policy answer → ¬ (RunsThrough j x)
   lost_where_stopped (Ok p) is a h through = absurd h
   lost_where_stopped (Err Read) is a h through = absurd h

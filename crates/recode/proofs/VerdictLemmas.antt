@@ -1,4 +1,4 @@
--- What a call of an encoder makes of the verdict, where it was read back, and where something is lost.
+-- What a call of an encoder makes of the verdict, if it was read back, and if something is lost.
 use Rattle.std.proofs.Common.{◌≡◌, ◌⊎◌, ◌↔◌, ℕ, Bool, true, false, IsTrue, IsFalse, List, [], ◌∷◌, ◌++◌, drop, refl, sym, ◌∙◌, ap, subst, inl, inr}
 use Rattle.std.proofs.Math.Logic.{∥∥₁_elim, ∥∥₁_map}
 use Rattle.std.proofs.Props.{props}
@@ -120,7 +120,7 @@ module _ (e : Coding) (need : ℕ) (coding : IsCoding need e) (last : Bool) (out
     });
   }
 
--- where the room was full, or the text was read that is not the last
+-- if the room was full, or the text was read that is not the last
 pub full_tells : (e : Coding) (need : ℕ) → IsCoding need e → (last : Bool) (v v' : VerdictView) (s : EscapeState) (t w : List ℕ) (s' : EscapeState) (rest read : List ℕ)
     → all_scalars t ≡ true → Encodes e last OutputFull s t w s' rest → t ≡ read ++ rest → IsReadBack v v' w read → CanTell v e s t → CanTell v' e s' rest
 full_tells e need coding last v v' s t w s' rest read scalars encodes split back h =
@@ -137,7 +137,7 @@ read_tells e need coding v v' s t w s' rest read scalars encodes split back h =
     read_kept : IsNotUnmappable InputEmpty
     read_kept m = λ h. cc
 
--- and where it is the last
+-- and if it is the last
 pub end_tells : (e : Coding) (need : ℕ) → IsCoding need e → (v v' : VerdictView) (s : EscapeState) (t w : List ℕ) (s' : EscapeState) (rest read : List ℕ)
     → all_scalars t ≡ true → Encodes e true InputEmpty s t w s' rest → t ≡ read ++ rest → IsReadBack v v' w read → CanTell v e s t → IsToldAtEnd v'
 end_tells e need coding v v' s t w s' rest read scalars encodes split back h faithful' = ∥∥₁_elim h.along (hlevel (props, are_well_formed_prop)) (λ (k : IsReadAlong v e s t). elim (true_or_false v.by_log) [
@@ -200,7 +200,7 @@ was_true false b h is = absurd (false≢true (sym (h refl) ∙ is))
 pub both_ways : {A B C : Type 0} → A ↔ B → B ↔ C → A ↔ C
 both_ways h k = (λ a. k.0 (h.0 a), λ c. h.1 (k.1 c))
 
--- pieces whose text was encoded, and those behind them
+-- pieces whose text was encoded, and those after them
 pub faithful_on : (ref : Reference) (e : Coding) (last : Bool) (v v' : VerdictView) (s s' : EscapeState) (taken behind all : List Piece) (t : List ℕ) → VerdictIsKept e last v s t v' s' [] → (IsTrue last → text behind ≡ []) → AreWellFormed taken → text taken ≡ t
     → all ≡ taken ++ behind → IsFaithfulFor ref v e s all ↔ IsFaithfulFor ref v' e s' behind
 faithful_on ref e last v v' s s' taken behind all t keeps ends good same is =
@@ -227,6 +227,6 @@ module _ (ref : Reference) (before after : DecoderState) (src : List ℕ) (last 
     λ x. absurd (false≢true (sym lost ∙ x.0)),
   )
 
--- where all is written, the verdict is told
+-- if all is written, the verdict is known
 pub verdict_told : (ref : Reference) (e : Coding) (need : ℕ) → IsCoding need e → (v : VerdictView) (s : EscapeState) (ps : List Piece) → ps ≡ [] → s ≡ Ascii → IsToldAtEnd v → IsFaithfulFor ref v e s ps ↔ IsTrue v.faithful
 verdict_told ref e need coding v s ps none closed told = rw (none, closed) (λ h. h.0, λ h. (h, tt, ends_along ref e coding (to_read v) (told h)))

@@ -14,7 +14,7 @@ use Rattle.recode.specs.declared.job.Fault.TheVariants.{Read, Write, Log, TooLon
 use Rattle.recode.specs.declared.job.Job.{Job}
 
 -- The input was read whole and is within the limit, the policy did not stop, output and log are whole, and the status
--- tells whether anything was lost.
+-- says whether anything was lost.
 pub record Converts (before after : Devices) (j : Job) (status : ℕ) : Type 0 where
   pub input : List ℕ
   pub consumed : Consumes before.input after.input input
@@ -46,7 +46,7 @@ IsFlushCause writes writes' logs logs' Log = logs < logs'
 IsFlushCause writes writes' logs logs' TooLong = ⊥
 IsFlushCause writes writes' logs logs' (Unmappable index scalar) = ⊥
 
--- what is told of a fault
+-- what is said of a fault
 abbrev pub message_of : Fault → List ℕ
 message_of Read = codes "recode: read fault\n"
 message_of Write = codes "recode: write fault\n"
@@ -54,9 +54,9 @@ message_of Log = codes "recode: log fault\n"
 message_of TooLong = codes "recode: input too long\n"
 message_of (Unmappable index scalar) = row_bytes (codes "recode: unmappable ") index scalar
 
--- What a conversion leaves that failed: output and log are a prefix of what any continuation of the bytes read gives,
--- none where the end was read, in their one order; behind it the log has a prefix of the message of a fault that came,
--- all of it where no call of the log failed while it was written. `untold` is the log's count when it was begun. Where
+-- What a conversion leaves that failed. Output and log are a prefix of what any continuation of the bytes read gives
+-- (none if the end was read), in their one order. After it the log has a prefix of the message of a fault that came,
+-- and all of it if no call of the log failed while it was written. `untold` is the log's count when it was begun. If
 -- the policy stopped the run, `stopped` says at which character.
 pub record Breaks (before after : Devices) (j : Job) : Type 0 where
   pub fault : Fault

@@ -1,4 +1,5 @@
--- What the three devices of a conversion have, as far as each tells it, and how many of their calls have failed.
+-- What the three devices of a conversion have, as far as their contracts say it, and how many of their calls
+-- have failed.
 use Rattle.std.specs.Prelude.{◌≡◌, ℕ, ◌+◌, List, Option, Some, Result}
 use Rattle.std.specs.Io.KnownBytes.{Keeps}
 use Rattle.recode_log.specs.Counted.{failures_of, inner_of}
@@ -11,7 +12,7 @@ pub record Written : Type 0 where
   pub output : Option (List ℕ)
   pub log : Option (List ℕ)
 
--- what was written, of an output and a log that both tell their bytes
+-- what was written, of an output and a log whose contracts both say their bytes
 abbrev pub known : (output log : List ℕ) → Written
 known output log = record { output = Some output; log = Some log }
 
@@ -32,12 +33,12 @@ pub record Devices : Type 0 where
   pub written : Written
   pub failures : Failures
 
--- the bytes that a writer and a log have taken, as far as each tells it
+-- the bytes that a writer and a log have taken, as far as the contract of each says it
 abbrev pub written_in : {W L : Type 0} → (W → Option (List ℕ)) → (L → Option (List ℕ)) → Counted W → Counted L → Written
 written_in contents logged writer log = record { output = contents (inner_of writer); log = logged (inner_of log) }
 
--- the bytes of a reader, a writer and a log, as far as each tells them, and how many calls of each
--- have failed
+-- the bytes of a reader, a writer and a log, as far as the contract of each says them, and how many calls of
+-- each have failed
 abbrev pub devices_in : {R W L : Type 0} → (R → Option (List ℕ)) → (W → Option (List ℕ)) → (L → Option (List ℕ)) → Counted R → Counted W → Counted L → Devices
 devices_in remaining contents logged reader writer log = record {
   input = remaining (inner_of reader);

@@ -75,7 +75,7 @@ abbrev pub lost_log_lines : Coding → ℕ → List ℕ → List LogLine
 lost_log_lines e i [] = []
 lost_log_lines e i (c ∷ t) = form_lines i (e.form c) ++ lost_log_lines e (i + 1) t
 
--- The lines of pieces, the first at this offset, by rising index: where a character stands for a malformed sequence its
+-- The lines of pieces, the first at this offset, by rising index: if a character stands for a malformed sequence its
 -- line comes first, then that of the character, if it has no bytes.
 abbrev pub log_lines : Coding → (offset i : ℕ) → List Piece → List LogLine
 log_lines e offset i [] = []

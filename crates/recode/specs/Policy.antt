@@ -1,4 +1,4 @@
--- What a policy writes for a character without bytes, and where it ends a conversion.
+-- What a policy writes for a character without bytes, and when it ends a conversion.
 use Rattle.std.specs.Prelude.{List, [], ◌∷◌, Option, Some, None}
 use Rattle.encoding_mem.specs.Items.{Item, LostAt}
 use Rattle.encoding_mem.specs.declared.reference.Reference.{Reference}

@@ -73,11 +73,11 @@ pub record IsOfText (tables : IndexLists) (kind : IndexKind) (text : List ℕ) :
   pub faultless : text_fault kind text ≡ None
   pub loads : Loads tables kind text
 
--- what files hold, by their folders and their names, as far as it is told
+-- what files hold, by their folders and their names, as far as it is known
 abbrev pub FileTexts : Type 0
 FileTexts = (dir file : List ℕ) → Option (List ℕ)
 
--- each index that is there is what its file in the folder holds, where that is told
+-- each index that is there is what its file in the folder holds, if that is known
 abbrev pub AreOfFiles : FileTexts → List ℕ → IndexLists → Type 0
 AreOfFiles holds dir tables = (kind : IndexKind) → has tables kind ≡ true → IfSome (holds dir (file_name_of kind)) (IsOfText tables kind)
 
@@ -152,8 +152,8 @@ pub record RunsJob {R W L : Type 0} (holds : FileTexts) (remaining : R → Optio
   pub files : AreOfFiles holds w.indexes.now j.tables.now
   pub converted : IsConversionOn remaining contents logged before after j status
 
--- What is done for the program's words: they are refused, the start fails, a text of the program's
--- own is told, or the job that they mean is converted. Each has its status.
+-- What is done for the program's words: they are refused, the start fails, a text of the program's own is printed,
+-- or the job that they mean is converted. Each has its status.
 abbrev pub AnswersProgram : {R W L : Type 0} → FileTexts → (R → Option (List ℕ)) → (W → Option (List ℕ)) → (L → Option (List ℕ)) → Ports R W L → Ports R W L → List (List ℕ) → ℕ → Type 0
 AnswersProgram holds remaining contents logged before after words status =
     RefusesWords before after words status

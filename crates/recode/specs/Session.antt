@@ -62,7 +62,7 @@ pub record IsNewSession (v : View) (j : Job) : Type 0 where
   pub owes_trace : (x : List ℕ) → to_write v.state x ≡ whole_trace j x
   pub verdict : (x : List ℕ) → WillBeFaithful v.state x ↔ Faithful j x
 
--- what a session tells that has read all
+-- what a session says that has read all
 pub record Tells (v : View) (p : Report) : Type 0 where
   pub read : p.read ≡ v.state.counts.read
   pub bad : p.bad ≡ v.state.counts.bad
@@ -101,10 +101,10 @@ pub record Completes (before after : Devices) (j : Job) (p : Report) : Type 0 wh
   pub end : IsAtEnd after.input
   pub converted : IsConverted before.written after.written j input p
 
--- A run that a fault ended: what was written is a prefix of what any continuation of the bytes read gives, none where
--- the end was read, output and log in their one order; where the policy stopped it, it is all that any continuation
--- gives, and ends with the line of the lost character. Bytes that are refused pass the limit. Where the fault is `Read`
--- or `TooLong`, all that the bytes decide that were counted was written.
+-- A run that a fault ended. What was written is a prefix of what any continuation of the bytes read gives (none if the
+-- end was read), output and log in their one order. If the policy stopped the run, what was written is all that any
+-- continuation gives, and ends with the line of the lost character. Bytes that are refused pass the limit. If the fault
+-- is `Read` or `TooLong`, all that the bytes decide that were counted was written.
 pub record Fails (before after : Devices) (j : Job) (f : Fault) : Type 0 where
   pub read : WasRead before.input after.input f
   pub within : length read.input ≤ j.limit

@@ -24,7 +24,7 @@ pub record State : Type 0 where
   pub verdict : VerdictView
   pub counts : Counts
 
--- what is still to be written for the bytes to come, where no policy stops it
+-- what is still to be written for the bytes to come, if no policy stops it
 abbrev pub to_write : State → List ℕ → List Item
 to_write s r = trace_to_write (reference_form s.policy) s.decoder s.coding s.set s.counts r
 

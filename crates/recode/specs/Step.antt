@@ -108,9 +108,9 @@ pub record WasRead (before after : Option (List ℕ)) (fault : Fault) : Type 0 w
   pub spared : fault ≢ TooLong → refused ≡ []
 
 -- What was written is a prefix of what was still to be written for the bytes that were read and counted, and any bytes
--- to come, none where the end was read; all of it, up to the line of the first lost character, where the policy stopped
--- it. Where the fault is `Read` or `TooLong`, none were counted, and nothing was written. Bytes that are refused pass
--- the limit.
+-- to come (none if the end was read). If the policy stopped it, what was written is all of that, up to the line of the
+-- first lost character. If the fault is `Read` or `TooLong`, none were counted, and nothing was written. Bytes that
+-- are refused pass the limit.
 pub record Stops (before after : Devices) (limit : ℕ) (s : State) (fault : Fault) : Type 0 where
   pub read : WasRead before.input after.input fault
   pub within : s.counts.read + length read.input ≤ limit
@@ -118,7 +118,7 @@ pub record Stops (before after : Devices) (limit : ℕ) (s : State) (fault : Fau
   pub pays : WritesPrefixFor before.written after.written s.policy fault read.ended (λ r. to_write s (read.input ++ r))
   pub untouched : (fault ≡ Read) ⊎ (fault ≡ TooLong) → (read.input ≡ []) × KeepsWritten before.written after.written
 
--- A prefix of what this input gives was written, and all of it where the policy stopped the run.
+-- A prefix of what this input gives was written, and all of it if the policy stopped the run.
 pub record WrotePrefix (before after : Written) (p : Policy) (f : Fault) (given : List Item) : Type 0 where
   pub taken : List TaggedByte
   pub wrote : Wrote before after taken

@@ -28,7 +28,7 @@ pub record AreCounted (c c' : Counts) (written_items : List Item) : Type 0 where
   pub bad : c'.bad ≡ c.bad + bad_line_count written_items
   pub lost : c'.lost ≡ c.lost + lost_line_count written_items
 
--- where the policy stops at a lost character, there is none among these
+-- if the policy stops at a lost character, there is none among these
 abbrev pub IsSpared : Policy → List Item → Type 0
 IsSpared p items = p ≡ Policy.Stop → lost_line_count items ≡ 0
 
@@ -59,8 +59,8 @@ IsStop p Log taken written = Unit {0}
 IsStop p TooLong taken written = Unit {0}
 IsStop p (Unmappable index scalar) taken written = StopsAtLoss p index scalar taken written
 
--- what a fault leaves: these bytes are a prefix of what was still to be written under the policy, and all of it where
--- that stopped the conversion
+-- what a fault leaves: these bytes are a prefix of what was still to be written under the policy, and all of it if that
+-- stopped the conversion
 pub record IsLeft (p : Policy) (f : Fault) (taken : List TaggedByte) (to_write : List Item) : Type 0 where
   pub prefix : IsPrefix taken (tagged (written_under p to_write))
   pub stopped : IsStop p f taken (written_under p to_write)

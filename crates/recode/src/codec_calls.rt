@@ -43,7 +43,7 @@ impl<'p> PivotText<'p> {
         }
     }
 
-    /// What is left behind another text of the same form, where it begins with that.
+    /// What is left after another text of the same form, if it begins with that.
     pub fn strip_prefix(self, prefix: PivotText<'_>) -> Option<PivotText<'p>>
         requires form { is_in_units self ≡ is_in_units prefix }
         requires text { IsWholeText self }

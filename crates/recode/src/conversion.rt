@@ -15,15 +15,15 @@ use recode_log::deliver::tell;
 use recode_log::line::write_message;
 use std::io::{Read, Write};
 
-/// The status where all was converted, and nothing was lost: the output reads back as the input's
+/// The status if all was converted, and nothing was lost: the output reads back as the input's
 /// text.
 pub const FAITHFUL: u8 = 0;
 
-/// The status where all was converted, and something was lost. The log tells what is malformed and
+/// The status if all was converted, and something was lost. The log names what is malformed and
 /// what has no bytes; what was written as bytes that read back otherwise has no line.
 pub const NOT_FAITHFUL: u8 = 1;
 
-/// The status where a call of a device failed, the input was too long, or the policy stopped the
+/// The status if a call of a device failed, the input was too long, or the policy stopped the
 /// conversion.
 pub const FAULT: u8 = 4;
 
@@ -56,7 +56,7 @@ fn flush_both<W: Write, L: Write>(
     }
 }
 
-// What is told of a fault. Where that has numbers, it is written into this room.
+// What is reported of a fault. If that has numbers, it is written into this room.
 fn message_of(fault: Fault, numbers: &mut [u8; 64]) -> &[u8]
     ensures { result.now ≡ message_of fault }
 {
@@ -72,7 +72,7 @@ fn message_of(fault: Fault, numbers: &mut [u8; 64]) -> &[u8]
     }
 }
 
-// Writes the message of a fault to the log; where that fails, the rest of it is dropped.
+// Writes the message of a fault to the log; if that fails, the rest of it is dropped.
 fn tell_fault<L: Write>(log: &mut Counted<L>, fault: Fault)
     requires { failures_of log.old < 2 ^ 64 - 1 }
     ensures { (n : ℕ) × IsTold (failures_of log.old) (failures_of log.new)
@@ -89,13 +89,13 @@ fn tell_fault<L: Write>(log: &mut Counted<L>, fault: Fault)
 /// - 0 (`FAITHFUL`): all was converted and no call failed, output and log are whole, and nothing
 ///   was lost: no piece of the input is malformed, and the output reads back as the input's text.
 /// - 1 (`NOT_FAITHFUL`): all was converted, and something was lost. The log has a line for each
-///   malformed sequence and each character without bytes; it can be empty, where a character was
-///   written as bytes that do not read back as it. None is where
+///   malformed sequence and each character without bytes; it can be empty if a character was
+///   written as bytes that do not read back as it. No character is written so if
 ///   `encoding_front::Encoding::keeps_characters` holds of the target.
 /// - 4 (`FAULT`): a call of a device failed, the input has more bytes than the job's limit, or the
 ///   policy is `Policy::Stop` and a character has no bytes. Output and log have a prefix of what is
-///   right for the bytes read, however they go on; where the policy stopped, all that comes before
-///   the character, and its line. Behind it the log has the message of the first fault, as
+///   right for the bytes read, however they go on. If the policy stopped, they have all that comes
+///   before the character, and its line. After that the log has the message of the first fault, as
 ///   `recode: write fault` or `recode: unmappable INDEX SCALAR`, and a line feed; what can't be
 ///   written of that is dropped.
 ///

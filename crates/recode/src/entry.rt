@@ -19,10 +19,10 @@ use recode_words::{MarkWord, PivotWord, PolicyWord, Request, Words, WordsFault, 
 use std::alloc::Global;
 use std::io::{Read, Write};
 
-/// The status where the words are refused, or a label in them is unknown.
+/// The status if the words are refused, or a label in them is unknown.
 pub const REFUSED: u8 = 2;
 
-/// The status where an index file is missing or faulty, or memory was refused before anything was
+/// The status if an index file is missing or faulty, or memory was refused before anything was
 /// read.
 pub const NOT_STARTED: u8 = 3;
 
@@ -35,7 +35,7 @@ fn tell_text<W: Write>(writer: &mut Counted<W>, text: &str) -> u8
     FAITHFUL
 }
 
-// Tells why the words are refused.
+// Reports why the words are refused.
 fn refuse_words<L: Write>(log: &mut Counted<L>, message: &str) -> u8
     requires { failures_of log.old < 2 ^ 64 - 1 }
     ensures { result ≡ 2 }
@@ -44,7 +44,7 @@ fn refuse_words<L: Write>(log: &mut Counted<L>, message: &str) -> u8
     REFUSED
 }
 
-// Tells which index is not there, or that memory was refused.
+// Reports which index is not there, or that memory was refused.
 fn refuse_start<L: Write>(alloc: Global, log: &mut Counted<L>, fault: &StartFault) -> u8
     requires { failures_of log.old < 2 ^ 64 - 1 }
     ensures { result ≡ 3 }
@@ -56,7 +56,7 @@ fn refuse_start<L: Write>(alloc: Global, log: &mut Counted<L>, fault: &StartFaul
     NOT_STARTED
 }
 
-// Tells that no encoding has the label.
+// Reports that no encoding has the label.
 fn refuse_label<L: Write>(alloc: Global, log: &mut Counted<L>, label: &str) -> u8
     requires { failures_of log.old < 2 ^ 64 - 1 }
     ensures { (result ≡ 2) ⊎ (result ≡ 3) }
@@ -202,17 +202,17 @@ fn run_words<S: IndexSource, R: Read, W: Write, L: Write>(
 /// them, and returns the exit status. The help, the version and the list of encodings go to the
 /// writer, with status 0.
 ///
-/// A run looks up the label of `--from`, then that of `--to`, reads the index files that the
+/// A run looks up the label of `--from`, then that of `--to`. It reads the index files that the
 /// source and then the target's output encoding need, each once, and converts with buffers of 4096
-/// elements. Each index is what its file in the folder of `--indexes` stands for, where the source
-/// tells what the file holds (`IndexSource`). With `--pivot utf16` the text in between is UTF-16:
+/// elements. Each index is what its file in the folder of `--indexes` stands for, if the source
+/// says what the file holds (`IndexSource`). With `--pivot utf16` the text in between is UTF-16:
 /// what is written is the same.
 ///
 /// The statuses 0, 1 and 4 are those of `convert`. Otherwise a message says why nothing was read:
 /// - 2 (`REFUSED`): that of `clap`, or `recode: unknown label WORD`;
 /// - 3 (`NOT_STARTED`): `recode: FILE: missing`, `recode: FILE: line N: KIND` with a kind of
-///   `IndexFaultKind`, `recode: FILE: table: KIND` with one of `TableFault`, and
-///   `recode: out of memory` wherever memory was refused.
+///   `IndexFaultKind`, `recode: FILE: table: KIND` with one of `TableFault`, and `recode: out of
+///   memory` if memory was refused.
 ///
 /// Messages go to the log. What can't be written of a message or a text is dropped, and neither is
 /// flushed.

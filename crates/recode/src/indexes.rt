@@ -25,7 +25,7 @@ pub enum SourceFault {
 /// Where index files come from, as the folders of a file system: what `program` is given, so that
 /// it can be run without one.
 pub trait IndexSource {
-    /// The bytes of the file of a name in a folder, where the source tells them.
+    /// The bytes of the file of a name in a folder, if the source says them.
     ghost holds: { Self → (dir file : List ℕ) → Option (List ℕ) };
 
     /// The bytes of the file with this name in the folder `dir`, all of them. The error is
@@ -76,7 +76,7 @@ fn name_of(fault: &TableFault) -> &'static str {
     }
 }
 
-// What is told of a file that was not loaded.
+// What is reported of a file that was not loaded.
 fn fault_of(file: &'static str, fault: &LoadFault) -> StartFault {
     match fault {
         LoadFault::Text(text) => {

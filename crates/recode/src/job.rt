@@ -8,7 +8,7 @@ use thiserror::Error;
 /// What to recode, and how.
 #[derive(Clone, Copy)]
 pub struct Job<'t> {
-    /// The encoding of the input, where a byte order mark does not say another.
+    /// The encoding of the input, unless a byte order mark says another.
     pub from: Encoding,
     /// The encoding that is asked for. What is written is in its output encoding.
     pub to: Encoding,
@@ -31,7 +31,7 @@ pub enum Policy {
     /// Its reference is written in hexadecimal: `&#x`, the digits of its number in upper case, `;`.
     Hexadecimal,
     /// The run ends at the first one, with `Fault::Unmappable`: its line is the last that is
-    /// written. Neither a reference nor anything behind it is.
+    /// written. Neither a reference nor anything after it is.
     Stop,
 }
 
@@ -39,7 +39,7 @@ impl Policy {
     ghost use Rattle.std.specs.Prelude.{◌≡◌, IfErr, IfOk, None, Some};
     ghost use Rattle.recode.specs.Policy.{reference_of};
 
-    /// The form of the references that are written, or `None` where none is.
+    /// The form of the references that are written, or `None` if none is.
     pub fn reference(self) -> Option<Reference>
         ensures { result ≡ reference_of self }
     {
@@ -155,29 +155,28 @@ impl<'b> Buffers<'b> {
 pub enum Progress {
     /// At least one byte was read; call `step` again.
     More,
-    /// The end of the input was read, and all is written: `Session::report` tells the rest.
+    /// The end of the input was read, and all is written: `Session::report` has the rest.
     Done,
 }
 
-/// What a run that came to its end tells.
+/// What a run that came to its end reports.
 #[derive(Clone, Copy, PartialEq, Eq, Debug)]
 pub struct Report {
     /// The bytes of the input.
     pub read: u64,
-    /// The lines of the log that tell of a malformed sequence.
+    /// The lines of the log that report a malformed sequence.
     pub bad: u64,
-    /// The lines of the log that tell of a lost character.
+    /// The lines of the log that report a lost character.
     pub lost: u64,
     /// The calls of codecs, those that read the output back among them, whatever the sizes of the
     /// buffers: at least `3 * bad + lost + 2`, two more if the input has a byte, and at most
     /// `37 * read + 9`.
     pub calls: u64,
-    /// The encoding of the input, as its byte order mark says where one of another encoding is
-    /// taken.
+    /// The encoding of the input, as its byte order mark says if one of another encoding is taken.
     pub encoding: Encoding,
     /// Whether nothing was lost: no piece of the input is malformed, and the output, decoded in its
     /// encoding without mark handling, has no malformed sequence and is the input's text. It can be
-    /// false where the log is empty: some encodings write a character as bytes that do not read
+    /// false even if the log is empty: some encodings write a character as bytes that do not read
     /// back as it.
     pub faithful: bool,
 }
@@ -198,8 +197,8 @@ pub enum Fault {
     #[error("input too long")]
     TooLong,
     /// The policy is `Policy::Stop`, and a character has no bytes in the output's encoding. `index`
-    /// is how many characters of the text stand before it, and `scalar` is what its line tells:
-    /// the character, or U+FFFD where ISO-2022-JP refuses a control.
+    /// is how many characters of the text stand before it, and `scalar` is what its line names: the
+    /// character, or U+FFFD if ISO-2022-JP refuses a control.
     #[error("unmappable {index} {}", u32::from(*scalar))]
     Unmappable { index: u64, scalar: char },
 }

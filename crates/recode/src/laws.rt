@@ -1,4 +1,4 @@
-//! Laws of what a run writes, of what its contract tells and of how soon input is converted. The
+//! Laws of what a run writes, of what its contract says and of how soon input is converted. The
 //! functions do nothing: each contract is a law.
 
 ghost use Rattle.std.specs.Prelude.{◌≡◌, ◌↔◌, ◌<◌, ◌≤◌, ◌+◌, ◌*◌, ◌++◌, ◌∷◌, ℕ, ◌⊎◌, Bool, Err};
@@ -56,7 +56,7 @@ use crate::session::Phase;
 use crate::target::Counts;
 
 /// How a step ended, how far a session is, counts, policies, reports and faults are equal exactly
-/// where they are the same.
+/// when they are the same.
 pub fn reports_are_compared()
     ensures progress { (a b : Progress) → IsTrue (⟦<Progress as PartialEq>⟧.eq a b) ↔ (a ≡ b) }
     ensures report { (a b : Report) → IsTrue (⟦<Report as PartialEq>⟧.eq a b) ↔ (a ≡ b) }
@@ -68,8 +68,8 @@ pub fn reports_are_compared()
     ensures counts { (a b : Counts) → IsTrue (⟦<Counts as PartialEq>⟧.eq a b) ↔ (a ≡ b) }
 {}
 
-/// What is written for an input where the policy does not stop: its text in the target, and a line
-/// for each malformed sequence and each character without bytes, as many as there are.
+/// What is written for an input if the policy does not stop: its text in the target, and a line for
+/// each malformed sequence and each character without bytes, as many as there are.
 pub fn trace_of_input()
     ensures output { (j : Job) (x : List ℕ) → RunsThrough j x
         → output_of j x ≡ output (reference_form j.policy) (target_of j) (input_text j x) }
@@ -81,8 +81,8 @@ pub fn trace_of_input()
         → lost_line_count (trace j x) ≡ lost_count (target_of j) (input_text j x) }
 {}
 
-/// What a policy leaves that stops. Where a character of the text is the first without bytes, the
-/// output is the text before it, and the escape that its reference would stand behind. The log has
+/// What a policy leaves that stops. If a character of the text is the first without bytes, the
+/// output is the text before it, and the escape that would come before its reference. The log has
 /// all lines up to that of the first lost character, with it. The fault names the first lost
 /// character: its index in the text, and its scalar.
 pub fn stops_at_first_loss()
@@ -99,7 +99,7 @@ pub fn stops_at_first_loss()
         → take 1 (lost_log_lines (target_of j) 0 (input_text j x)) ≡ Lost index scalar ∷ [] }
 {}
 
-/// From UTF-8 to UTF-8, where marks are kept, text gives its own bytes, and an empty log.
+/// From UTF-8 to UTF-8, if marks are kept, text gives its own bytes, and an empty log.
 pub fn utf8_text_is_kept()
     ensures output { (j : Job) (x : List ℕ) → j.mark ≡ Mark.Keep → IsUtf8Encoding j.from
         → IsUtf8Encoding j.to → IsUtf8 x → output_of j x ≡ x }
@@ -107,29 +107,29 @@ pub fn utf8_text_is_kept()
         → IsUtf8Encoding j.to → IsUtf8 x → log_of j x ≡ [] }
 {}
 
-/// Where `Encoding::keeps_characters` holds of the target, nothing was lost exactly where the log
-/// is empty.
+/// If `Encoding::keeps_characters` holds of the target, nothing was lost exactly when the log is
+/// empty.
 pub fn faithful_where_log_is_empty()
     ensures { (j : Job) (x : List ℕ) → IsValidJob j → KeepsCharacters j.to
         → Faithful j x ↔ (log_of j x ≡ []) }
 {}
 
-/// Where nothing was lost, the log is empty.
+/// If nothing was lost, the log is empty.
 pub fn faithful_leaves_log_empty()
     ensures { (j : Job) (x : List ℕ) → IsValidJob j → Faithful j x → log_of j x ≡ [] }
 {}
 
-/// The log is empty exactly where no piece of the input is malformed, and each character of its
-/// text has bytes.
+/// The log is empty exactly when no piece of the input is malformed, and each character of its text
+/// has bytes.
 pub fn log_is_empty()
     ensures { (j : Job) (x : List ℕ)
         → (log_of j x ≡ []) ↔ (AreWellFormed (input_pieces j x)
         × AllMapped (target_of j) (input_text j x)) }
 {}
 
-/// Of a reader that tells its bytes, a run that came to its end read them all: cuts and sizes of
-/// buffers change nothing of the output, the log or the report. A run that a fault ended wrote
-/// prefixes of them, and said that the input is too long only where it is. One that the policy
+/// Of a reader whose contract says its bytes, a run that came to its end read them all: cuts and
+/// sizes of buffers change nothing of the output, the log or the report. A run that a fault ended
+/// wrote prefixes of them, and said that the input is too long only if it is. One that the policy
 /// stopped wrote all of them.
 pub fn known_input()
     ensures completes { (x : List ℕ) (s s' : Devices) (j : Job) (p : Report)
@@ -161,8 +161,8 @@ pub fn lengths_are_bounded()
         → length (output_of j x) ≤ 13 * length x + 3 }
 {}
 
-/// Where nothing was lost, the output, recoded from its encoding to UTF-8 with marks kept, gives
-/// what the input gives that is recoded to UTF-8; and neither loses anything.
+/// If nothing was lost, the output, recoded from its encoding to UTF-8 with marks kept, gives what
+/// the input gives that is recoded to UTF-8; and neither loses anything.
 pub fn output_reads_back()
     ensures jobs { (j : Job) → IsValidJob j → IsValidJob (back j) × IsValidJob (in_utf8 j) }
     ensures output { (j : Job) (x : List ℕ) → Faithful j x
@@ -172,11 +172,11 @@ pub fn output_reads_back()
 {}
 
 /// What a job writes, read back in its output encoding without mark handling. Bytes agree with a
-/// text where the pieces that they decide are it, and at most one escape is left; they are broken
-/// where such a piece is malformed, or another character than the text has there. What was written
-/// for any text so far agrees with it or is broken, also with an escape behind it; and the whole
-/// output reads as the text, or what stands before its last escape is broken. What is broken stays
-/// so, whatever follows, and never reads as the text.
+/// text if the pieces that they decide are it, and at most one escape is left; they are broken if
+/// such a piece is malformed, or another character than the text has there. What was written for
+/// any text so far agrees with it or is broken, also with an escape after it; and the whole output
+/// reads as the text, or what stands before its last escape is broken. What is broken stays so,
+/// whatever follows, and never reads as the text.
 pub fn read_back()
     ensures texts { (j : Job) → IsValidJob j → ReadsBackOrBreaks (output_pieces j) (target_of j) }
     ensures stays { (j : Job) (bytes text more following : List ℕ)
@@ -186,7 +186,7 @@ pub fn read_back()
         → ¬ (ReadsAs (output_pieces j) bytes text) }
 {}
 
-/// Where the output is UTF-8, no character is lost, and no line tells one.
+/// If the output is UTF-8, no character is lost, and no line names one.
 pub fn utf8_loses_nothing()
     ensures lines { (j : Job) (x : List ℕ) → IsUtf8Encoding (output_encoding_of j.to)
         → lost_line_count (trace j x) ≡ 0 }
@@ -194,7 +194,7 @@ pub fn utf8_loses_nothing()
         → lost_count (target_of j) (input_text j x) ≡ 0 }
 {}
 
-/// Where a character is lost, the output does not read back, in any target.
+/// If a character is lost, the output does not read back, in any target.
 pub fn lost_is_unfaithful()
     ensures { (j : Job) (x : List ℕ) → IsValidJob j
         → 0 < lost_count (target_of j) (input_text j x) → ¬ (Faithful j x) }
@@ -202,7 +202,7 @@ pub fn lost_is_unfaithful()
 
 /// What is decoded at once and then encoded at once is what a run writes that ends well, with the
 /// same handling of marks and decimal references: `decode` and `encode` give the output. Its log is
-/// empty exactly where neither told a loss.
+/// empty exactly when neither reported a loss.
 pub fn whole_texts_are_the_same()
     ensures bytes { (j : Job) (x decoded bytes : List ℕ) → IsValidJob j
         → j.policy ≡ Policy.Decimal
@@ -223,8 +223,8 @@ pub fn whole_texts_are_the_same()
 
 /// Two runs on one job and one input that came to their end wrote the same bytes to output and log,
 /// and their reports differ in `calls` alone: the cuts of the reader, the sizes of the buffers and
-/// the kind of the pivot change nothing. `known` says it of readers that tell their bytes, `bytes`
-/// of writers that do.
+/// the kind of the pivot change nothing. `known` says it of readers whose contracts say their
+/// bytes, `bytes` of such writers.
 pub fn runs_agree()
     ensures written { (j : Job) (x : List ℕ) (w w' v v' : Written) (p q : Report)
         → IsConverted w w' j x p → IsConverted v v' j x q → WroteTheSame w w' v v' }
@@ -238,10 +238,10 @@ pub fn runs_agree()
         → (w' ≡ v') × (l' ≡ m') }
 {}
 
-/// Where no call of a device fails, a run returns `Ok` exactly where the input is within the limit
-/// and the policy does not stop at a character of it, and else `TooLong` or `Unmappable`. The reader
-/// tells its bytes; where it does not, the result is still one of these, and `Unmappable` under
-/// `Policy::Stop` alone.
+/// If no call of a device fails, a run returns `Ok` exactly when the input is within the limit and
+/// the policy does not stop at a character of it, and else `TooLong` or `Unmappable`. The reader's
+/// contract says its bytes; if it does not, the result is still one of these, and `Unmappable`
+/// under `Policy::Stop` alone.
 pub fn answers_without_faults()
     ensures ok { (j : Job) (x : List ℕ) (s s' : Devices) (answer : Result Report Fault)
         → s'.failures ≡ s.failures → s.input ≡ Some x → RunReturns s s' j answer
@@ -254,13 +254,13 @@ pub fn answers_without_faults()
         → IsOk answer ⊎ ((answer ≡ Err Fault.TooLong) ⊎ IsStopped j.policy answer) }
 {}
 
-/// A report that tells a lost character does not say that nothing was lost.
+/// A report that counts a lost character does not say that nothing was lost.
 pub fn lost_is_told()
     ensures { (j : Job) (x : List ℕ) (p : Report) → IsValidJob j → IsReport j x p → 0 < p.lost
         → ¬ (IsTrue p.faithful) }
 {}
 
-/// Where a run says that nothing was lost, a run that recodes its output to UTF-8, with marks kept,
+/// If a run says that nothing was lost, a run that recodes its output to UTF-8, with marks kept,
 /// writes what one writes that recodes its input to UTF-8.
 pub fn faithful_output_reads_back()
     ensures { (j : Job) (x bytes again direct : List ℕ) (w w' v v' u u' : Written) (p q r : Report)

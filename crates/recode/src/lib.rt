@@ -1,7 +1,7 @@
 //! Recodes a stream from one encoding to another, logs each malformed sequence and each character
-//! without bytes, and says at the end whether anything was lost. To the five targets that write
-//! some characters as others, a character that reads back as another has no line in the log: only
-//! that something was lost is told.
+//! without bytes, and says at the end whether anything was lost. Five target encodings write some
+//! characters as others. A character that then reads back as another has no line in the log: the
+//! run only reports that something was lost.
 //!
 //! A `Job` says what to recode and how. `run` and `convert` make a whole conversion, from a reader
 //! to a writer and a log; `Session` makes it step by step; `program` does what the words of a

@@ -2,7 +2,7 @@
 
 // Written by tools/generate_encodings.py from tools/encodings.toml; do not edit.
 
-// The forty encodings, in the order of `Encoding`, a line each: the name, and behind it the labels,
+// The forty encodings, in the order of `Encoding`, a line each: the name, and after it the labels,
 // as the Encoding Standard has them (section 4.2, "Names and labels").
 const LISTING: &str = "\
 Big5: big5 big5-hkscs cn-big5 csbig5 x-x-big5

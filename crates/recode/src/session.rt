@@ -23,7 +23,7 @@ use encoding_mem::RawEncoder;
 use recode_log::counted::Counted;
 use std::io::{Read, Write};
 
-/// How far a session is, in the words of its contracts: `Session::is_over` tells whether it is
+/// How far a session is, in the words of its contracts: `Session::is_over` says whether it is
 /// still open, `Session::report` whether it is done.
 #[derive(Clone, Copy, PartialEq, Eq, Debug)]
 pub enum Phase {
@@ -106,7 +106,7 @@ impl<'t> Session<'t> {
         }
     }
 
-    /// What the run tells, once all was read and written; `None` before that, and after a fault.
+    /// What the run reports, once all was read and written; `None` before that, and after a fault.
     pub fn report(&self) -> Option<Report>
         ensures done { IsSome result ↔ ((view_of self.now).phase ≡ Phase.Done) }
         ensures tells { IfSome result (Tells (view_of self.now)) }
@@ -137,13 +137,14 @@ impl<'t> Session<'t> {
     /// - `Ok(More)`: at least one byte was read. All that the bytes read so far decide, however the
     ///   input goes on, is written and logged, with each piece that ends three or more bytes before
     ///   their end.
-    /// - `Ok(Done)`: the end of the input was read. Output and log are whole; `report` tells the
+    /// - `Ok(Done)`: the end of the input was read. Output and log are whole; `report` has the
     ///   rest.
     /// - `Err`: a call of the reader (`Read`), the writer (`Write`) or the log (`Log`) failed, the
-    ///   input has more bytes than the job's limit (`TooLong`), or the policy stopped at a character
-    ///   (`Unmappable`). Output and log have a prefix of what was still to be written; at `Read` and
-    ///   `TooLong` the step wrote nothing, and at `Unmappable` all that comes before the character,
-    ///   the escape that its reference would stand behind, and its line. The session is over.
+    ///   input has more bytes than the job's limit (`TooLong`), or the policy stopped at a
+    ///   character (`Unmappable`). Output and log have a prefix of what was still to be written; at
+    ///   `Read` and `TooLong` the step wrote nothing, and at `Unmappable` all that comes before the
+    ///   character, the escape that would come before its reference, and its line. The session is
+    ///   over.
     ///
     /// Conditions: the session is not over (`is_over`), the buffers are enough
     /// (`Buffers::is_enough`), and fewer than 2^64 - 1 calls of each device have failed

@@ -11,8 +11,8 @@ use encoding_mem::DecoderResult;
 pub struct Verdict<D> {
     /// What reads the output back: a decoder of its encoding, without mark handling.
     pub reader: D,
-    /// Whether the log alone tells what is lost: each character that has bytes reads back as
-    /// itself, so nothing is read back.
+    /// Whether the log alone says what is lost: each character that has bytes reads back as itself,
+    /// so nothing is read back.
     pub by_log: bool,
     /// Whether nothing was lost so far. What is lost stays lost.
     pub faithful: bool,
@@ -75,8 +75,8 @@ impl<D: StreamDecoder> Verdict<D> {
         }
     }
 
-    /// Reads back what a call of an encoder wrote for the text that it read, where that has to be:
-    /// not where the log alone tells, and not once something is lost.
+    /// Reads back what a call of an encoder wrote for the text that it read, if that has to be: not
+    /// if the log alone says what is lost, and not once something is lost.
     pub fn read_back(
         &mut self,
         written: &[u8],

@@ -1,4 +1,4 @@
--- Two writes of neighbouring parts are one write of both. How long a line can be, and what stays behind a part that
+-- Two writes of neighbouring parts are one write of both. How long a line can be, and what stays after a part that
 -- is written. What is read of a row that has been written: its two numbers, on either side of the first space.
 use Rattle.std.proofs.Common.{◌≡◌, ◌≤◌, arith, length-drop, ℕ, ◌+◌, ◌-◌, List, ◌++◌, length, take, drop, Option, ap, sym, ◌∙◌, subst, ◌<◌, ◌^◌, length-append, false, [], ◌∷◌, get_or, codes, Some, add-one, drop-cons, append_assoc, position, ◌==◌}
 use Rattle.std.proofs.Math.Seq.{take-add, get_or-append_seam, take-append_seam, drop-append-add}
@@ -29,7 +29,7 @@ taken_within i n xs h p =
     let q : n ≤ length xs - i = subst (λ (k : ℕ). n ≤ k) (ap length (take_rest xs i) ∙ length-drop i xs) p in
     omega arith
 
--- How long a line can be, and what stays behind a part that is written.
+-- How long a line can be, and what stays after a part that is written.
 
 -- what agrees from m on agrees from n on
 pub drop-later : (m n : ℕ) (xs ys : List ℕ) → m ≤ n → drop m xs ≡ drop m ys → drop n xs ≡ drop n ys
@@ -86,7 +86,7 @@ not_space : (n k : ℕ) → n < 2 ^ 64 → k < length (decimal n) → (get_or (d
 not_space n k small within =
     ne_eqb _ _ (not_in_digits model (decimal n) 32 (digits_decimal model n small) (λ r. absurd (omega arith)) k within)
 
--- so the first space stands behind the offset
+-- so the first space stands after the offset
 pub position-pair : (bytes : List ℕ) (offset value : ℕ) → offset < 2 ^ 64 → two_numbers offset value ≡ bytes → position (λ b. b == 32) bytes ≡ Some (length (decimal offset))
 position-pair bytes offset value small same =
     let parts : bytes ≡ decimal offset ++ (32 ∷ decimal value) = sym same ∙ append_assoc (decimal offset) (32 ∷ []) (decimal value) in
@@ -98,7 +98,7 @@ position-pair bytes offset value small same =
     (λ _. ap (λ b. b == 32) (get_or-append_seam (decimal offset) 32 (decimal value) 0)) in
     rw (parts, first, lt-ltb _ _ within)
 
--- the numbers of a pair are its parts before and behind the first space
+-- the numbers of a pair are its parts before and after the first space
 pub parts_of_pair : (bytes : List ℕ) (space offset value : ℕ) → offset < 2 ^ 64 → two_numbers offset value ≡ bytes → Some space ≡ position (λ b. b == 32) bytes
     → (decimal offset ≡ take space bytes) × (decimal value ≡ take (length bytes - (space + 1)) (drop (space + 1) bytes))
 parts_of_pair bytes space offset value small same found =

@@ -1,4 +1,4 @@
-//! Writes all of some bytes, or tells a message as far as it can be told.
+//! Writes all of some bytes, or as much of a message as a writer takes.
 
 ghost use Rattle.std.specs.Prelude.{◌≡◌, ℕ, ◌+◌, ◌-◌, ◌^◌, ◌<◌, ◌≤◌, [], take, length};
 ghost use Rattle.std.specs.Prelude.{IsOk, OnOk, OnErr, IfErr};
@@ -35,9 +35,9 @@ pub fn deliver<W: Write, F: Drop>(writer: &mut Counted<W>, bytes: &[u8], fault: 
     Ok(())
 }
 
-/// Writes a message for a person to read. If a call fails, the rest of the message is dropped: there
-/// is nobody else to tell. The condition, that fewer than 2^64 - 1 calls of the writer have failed,
-/// is tested by `Counted::failures`.
+/// Writes a message for a person to read. If a call fails, the rest of the message is dropped:
+/// there is no one else to tell. The condition, that fewer than 2^64 - 1 calls of the writer have
+/// failed, is tested by `Counted::failures`.
 pub fn tell<W: Write>(writer: &mut Counted<W>, message: &[u8])
     requires { failures_of writer.old < 2 ^ 64 - 1 }
     ensures { (n : ℕ)

@@ -42,8 +42,8 @@ impl LogLine {
     }
 
     /// Writes the line at the start of `dst`, and returns its length in bytes, line feed included;
-    /// the bytes behind it stay as they were. A valid line always fits. The condition, that the
-    /// line is valid, is tested by `is_valid`.
+    /// the bytes after it stay as they were. A valid line always fits. The condition, that the line
+    /// is valid, is tested by `is_valid`.
     pub fn write_into(&self, dst: &mut [u8; 32]) -> usize
         requires { IsValid self.now }
         ensures size { result ≡ length (line_bytes self.now) }
@@ -61,7 +61,7 @@ impl LogLine {
     /// included, or `None` if there is no such line.
     ///
     /// No two valid lines have the same bytes. Nothing else is accepted: no sign, no leading zero,
-    /// no second space, no carriage return, and no byte behind the line feed.
+    /// no second space, no carriage return, and no byte after the line feed.
     pub fn parse(bytes: &[u8]) -> Option<LogLine>
         ensures valid { IfSome result IsValid }
         ensures line { IfSome result (λ line. line_bytes line ≡ bytes.now) }
@@ -80,9 +80,10 @@ impl LogLine {
     }
 }
 
-/// Writes a row of a message at the start of `dst`, as a line of the log has it behind another
-/// word: the word, which is at most 32 bytes, two decimal numbers with a space between, and a line
-/// feed. Returns its length in bytes, line feed included. The bytes behind it stay as they were.
+/// Writes a row of a message at the start of `dst`, in the form of a line of the log, but with
+/// another word: the word, which is at most 32 bytes, two decimal numbers with a space between, and
+/// a line feed. Returns its length in bytes, line feed included. The bytes after it stay as they
+/// were.
 pub fn write_message(dst: &mut [u8; 64], word: &[u8], first: u64, second: u32) -> usize
     requires { length word.now ≤ 32 }
     ensures size { result ≡ length (row_bytes word.now first second) }

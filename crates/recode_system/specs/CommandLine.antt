@@ -28,7 +28,7 @@ pub record RefusesLine {R W L : Type 0} (told : Option (List (List ℕ))) (befor
   pub alone : IsLeftAlone before after
 
 -- Each word is UTF-8, and the program answers the words, those that are told, if they are, or
--- `recode` if there are none, with its status. Of the index files nothing is told.
+-- `recode` if there are none, with its status. Nothing is said of what the index files hold.
 pub record AnswersLine {R W L : Type 0} (told : Option (List (List ℕ))) (remaining : R → Option (List ℕ)) (contents : W → Option (List ℕ)) (logged : L → Option (List ℕ)) (before after : Ports R W L) (status : ℕ) : Type 0 where
   pub words : List (List ℕ)
   pub given : IfSome told (λ all. words ≡ all)

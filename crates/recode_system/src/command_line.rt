@@ -25,9 +25,9 @@ pub enum Wordless {
 
 /// Where the words of the command line come from: what `answer` is given, so that it can be run
 /// without a system's. A type that has `Env` of std, as the runtime that `main` is given, is one,
-/// and tells nothing of its words.
+/// but its contract says nothing of its words.
 pub trait CommandLine {
-    /// The bytes of each word, the program's name first, if the command line tells them.
+    /// The bytes of each word, the program's name first, if the command line's contract says them.
     ghost told: { Self → Option (List (List ℕ)) };
 
     /// The words, all of them and in their order. The error is `NotUtf8` if one is not UTF-8, and
@@ -71,8 +71,8 @@ fn out_of_memory<L: Write>(log: &mut Counted<L>) -> u8
 
 /// Does what the words of the command line ask for, as `recode::program` says, with the index files
 /// among `files`, and returns the exit status, which is at most 4. The words are those that the
-/// command line tells, if it tells them. If there are none, not even a name, the program has its
-/// own.
+/// command line's contract says, if it says them. If there are none, not even a name, the program
+/// has its own.
 ///
 /// The status is 2 (`REFUSED`) with the message `recode: a word is not UTF-8` if one is not, and 3
 /// (`NOT_STARTED`) with `recode: out of memory` if memory for the words was refused. The

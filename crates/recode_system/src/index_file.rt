@@ -19,9 +19,9 @@ const FIRST_ROOM: usize = 327680;
 // More than four times that room.
 const LARGEST_ROOM: usize = 2097152;
 
-// A vector with the first room. The largest is asked for before, and given back: a C library that
-// takes blocks of this size from the system, as glibc does, keeps them from then on, so that the
-// next file is read to where the first one's text was. A page that is new costs more than what is
+// A vector with the first room. The largest is asked for before, and given back. A C library that
+// takes blocks of this size from the system, as glibc does, keeps them from then on, so the next
+// file is read to where the first one's text was. A page that is new costs more than what is
 // written to it.
 fn empty_text(alloc: Global) -> Result<Vec<u8>, AllocError>
     ensures items { IfOk result (λ bytes. bytes.items ≡ []) }
@@ -33,9 +33,9 @@ fn empty_text(alloc: Global) -> Result<Vec<u8>, AllocError>
 }
 
 // How many bytes a read gives at most. `read_to_end` writes zeros where it will read to, in 8 KiB
-// at first and in twice as many behind each read that gave all that was asked for. With a byte less
+// at first and in twice as many after each read that gave all that was asked for. With a byte less
 // it keeps to 8 KiB, which are still in the fastest memory when the bytes come over them, and the
-// memory behind a file stays untouched.
+// memory after a file stays untouched.
 const MOST_AT_ONCE: usize = 8191;
 
 // A reader that gives what another one does, in short reads.

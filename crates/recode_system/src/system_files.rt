@@ -17,7 +17,7 @@ fn path_of(alloc: Global, dir: &str, file: &str) -> Result<String, AllocError>
 }
 
 /// The files that a runtime reaches, as a source of index files, which have 2^24 bytes at most. No
-/// contract tells what they hold.
+/// contract says what they hold.
 #[derive(Drop)]
 pub struct SystemFiles<'r, R> {
     runtime: &'r R,
@@ -31,7 +31,7 @@ impl<'r, R> SystemFiles<'r, R> {
 }
 
 impl<'r, R: Files> IndexSource for SystemFiles<'r, R> {
-    // What a file of the system holds is told by no contract of std.
+    // What a file of the system holds is said by no contract of std.
     ghost holds = { λ _ _ _. None };
 
     fn read_file(&mut self, alloc: Global, dir: &str, file: &str) -> Result<Vec<u8>, SourceFault> {

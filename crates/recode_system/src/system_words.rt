@@ -9,7 +9,7 @@ use std::env::Env;
 use std::io::ErrorKind;
 
 impl<E: Env> CommandLine for E {
-    // What the words are is told by no contract of std.
+    // What the words are is said by no contract of std.
     ghost told = { λ _. None };
 
     fn words(&self, alloc: Global) -> Result<Vec<String>, Wordless> {

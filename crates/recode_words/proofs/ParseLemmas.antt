@@ -1,5 +1,5 @@
 -- In a parse of a simple and free command, an option that is required or has a default has a value. What follows
--- from the clauses of clap's parse, where the command is that of `recode`.
+-- from the clauses of clap's parse, if the command is that of `recode`.
 use Rattle.std.proofs.Common.{zero, suc, ◌≡◌, ◌⊎◌, ◌∙◌, ◌<◌, ◌≤◌, ◌&&◌, ℕ, Bool, true, false, not, List, [], ◌∷◌, length, map, is_some, Option, Some, None, refl, sym, subst, ap, inl, inr, arith, cond, codes, lit<}
 use Rattle.std.specs.List.{slice_index_or, list_all}
 use Rattle.std.specs.Str.{bytes_eq}
@@ -118,7 +118,7 @@ plain_command c e =
 
 -- ---- the value
 
--- where an argument that takes a value has an entry, it has a value
+-- if an argument that takes a value has an entry, it has a value
 entry_has_value : (old : Command) (m : ArgMatches) (p : IsParsedFrom old m) → IsPlain old
     → IsParsed p.built (found_of m) (has_subcommand m)
     → (k : ℕ) (d : Arg) → k < length (args_of old)
@@ -233,7 +233,7 @@ has_value c m k r e p v =
     ]) some in
     subst (λ x. is_some (first_value (found_of m) x) ≡ true) id has
 
--- What follows from the clauses of clap's parse, where the command is that of `recode`.
+-- What follows from the clauses of clap's parse, if the command is that of `recode`.
 
 recode_simple : is_simple recode_app ≡ true
 unfolding clap_on_literals

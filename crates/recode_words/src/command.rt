@@ -1,4 +1,4 @@
-//! The command line as clap is told of it, with the text of the help.
+//! The command line as clap is given it, with the text of the help.
 
 ghost use Rattle.std.specs.Prelude.{◌≡◌, IfOk, false};
 ghost use Rattle.clap.specs.Words.{app_of, rule_of};

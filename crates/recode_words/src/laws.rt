@@ -8,7 +8,7 @@ ghost use Rattle.recode_words.specs.declared.words.PolicyWord.{PolicyWord};
 use crate::words::{MarkWord, PivotWord, PolicyWord};
 
 /// What is done with a mark or with a character without bytes, and forms of text, are equal exactly
-/// where they are the same.
+/// when they are the same.
 pub fn words_are_compared()
     ensures mark { (a b : MarkWord) → IsTrue (⟦<MarkWord as PartialEq>⟧.eq a b) ↔ (a ≡ b) }
     ensures policy { (a b : PolicyWord) → IsTrue (⟦<PolicyWord as PartialEq>⟧.eq a b) ↔ (a ≡ b) }

@@ -17,7 +17,7 @@ use thiserror::Error;
 pub enum Request<'a> {
     /// To convert.
     Run(Words<'a>),
-    /// `--help` or `-h`: to print this text, which tells of all options and of the exit statuses.
+    /// `--help` or `-h`: to print this text, which describes all options and the exit statuses.
     Help(String),
     /// `--version` or `-V`: to print this text, the program's name and `VERSION`.
     Version(String),
@@ -109,12 +109,14 @@ fn refusal(
 
 /// What the words of the command line ask for, the program's name first: `recode --from LABEL --to
 /// LABEL [--indexes DIR] [--mark sniff|remove|keep] [--unmappable decimal|hexadecimal|stop]
-/// [--pivot utf8|utf16] [--limit N]`, or `--help`, `--version` or `--list`, which is the result
-/// wherever no word before it is refused. With `--version` and `--list` it is the list.
+/// [--pivot utf8|utf16] [--limit N]`, or `--help`, `--version` or `--list`. One of these three is
+/// the result unless a word before it is refused. With both `--version` and `--list` the result is
+/// the list.
 ///
 /// The defaults are `.`, `sniff`, `decimal`, `utf8` and 2^48, which is also the greatest N; N is
-/// decimal digits with no sign. An option that is given twice, one with no value, an unknown one
-/// and a word that is no option are refused. An empty label or folder is a value as any other.
+/// decimal digits with no sign. These are refused: an option that is given twice, one with no
+/// value, an unknown one, and a word that is no option. An empty label or folder is a value as any
+/// other.
 ///
 /// The error is `Refused` with a text for the log, or `OutOfMemory`. The condition, that there is a
 /// word at least, is tested by `is_empty`.

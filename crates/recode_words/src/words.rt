@@ -20,7 +20,7 @@ pub enum MarkWord {
 }
 
 impl MarkWord {
-    /// The variant whose word this is, in lower case, or `None` where it is none of them.
+    /// The variant whose word this is, in lower case, or `None` if it is none of them.
     pub fn from_name(name: &str) -> Option<MarkWord>
         ensures { result ≡ mark_named name.now }
     {
@@ -45,7 +45,7 @@ pub enum PolicyWord {
 }
 
 impl PolicyWord {
-    /// The variant whose word this is, in lower case, or `None` where it is none of them.
+    /// The variant whose word this is, in lower case, or `None` if it is none of them.
     pub fn from_name(name: &str) -> Option<PolicyWord>
         ensures { result ≡ policy_named name.now }
     {
@@ -68,7 +68,7 @@ pub enum PivotWord {
 }
 
 impl PivotWord {
-    /// The variant whose word this is, in lower case, or `None` where it is none of them.
+    /// The variant whose word this is, in lower case, or `None` if it is none of them.
     pub fn from_name(name: &str) -> Option<PivotWord>
         ensures { result ≡ pivot_of name.now }
     {

@@ -1,4 +1,4 @@
--- How much room gb18030 and GBK want, with the extended range (gb18030) or without it (GBK).
+-- How much room gb18030 and GBK need, with the extended range (gb18030) or without it (GBK).
 use Rattle.std.specs.Prelude.{ℕ, Bool, if◌then◌else◌}
 use Rattle.encoding_mem.specs.calls.EncodedLength.{encoded_length_gb18030, encoded_length_two_byte}
 use Rattle.encoding_mem.specs.declared.room.EncodedLength.{EncodedLength}

@@ -5,7 +5,7 @@ use Rattle.encoding_mem.specs.Pieces.{pieces_in}
 use Rattle.encoding_mem.specs.declared.form.Form.TheVariants.{Mapped, Unmapped}
 use Rattle.encoding_codecs.specs.Big5.{big5_pair_pointer, pieces_big5, big5_pair_bytes, big5_form}
 
--- 88 62, 88 64, 88 A3 and 88 A5 are the four pointers, also where an index maps nothing
+-- 88 62, 88 64, 88 A3 and 88 A5 are the four pointers, even if an index maps nothing
 letters_with_marks : pieces_big5 [] (0x88 ∷ 0x62 ∷ 0x88 ∷ 0x64 ∷ 0x88 ∷ 0xA3 ∷ 0x88 ∷ 0xA5 ∷ [])
     ≡ well_formed 2 (0xCA ∷ 0x304 ∷ []) ∷ well_formed 2 (0xCA ∷ 0x30C ∷ []) ∷ well_formed 2 (0xEA ∷ 0x304 ∷ []) ∷ well_formed 2 (0xEA ∷ 0x30C ∷ []) ∷ []
 unfolding pieces_in

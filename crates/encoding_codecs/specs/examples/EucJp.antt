@@ -23,7 +23,7 @@ three_bytes : pieces_euc_jp sample sample_0212 (0x8F ∷ 0xA1 ∷ 0xA2 ∷ 0x8F 
 unfolding sample sample_0212 pieces_in
 three_bytes = refl
 
--- what is ASCII is left unread, behind one byte and behind two
+-- what is ASCII is left unread, after one byte and after two
 ascii_is_left : pieces_euc_jp sample sample_0212 (0x8F ∷ 0xA1 ∷ 0x41 ∷ 0x8F ∷ 0x42 ∷ 0x8E ∷ 0x43 ∷ 0xA1 ∷ 0x44 ∷ [])
     ≡ malformed 2 ∷ well_formed 1 (0x41 ∷ []) ∷ malformed 1 ∷ well_formed 1 (0x42 ∷ []) ∷ malformed 1 ∷ well_formed 1 (0x43 ∷ []) ∷ malformed 1 ∷ well_formed 1 (0x44 ∷ []) ∷ []
 unfolding sample sample_0212 pieces_in
@@ -119,7 +119,7 @@ no_leads : pieces_euc_jp (replicate 8836 0x4E00) [] (0x80 ∷ 0x8D ∷ 0x90 ∷ 
 unfolding pieces_in
 no_leads = refl
 
--- behind 8E A1 to DF are halfwidth katakana
+-- after 8E A1 to DF are halfwidth katakana
 katakana_ends : pieces_euc_jp [] [] (0x8E ∷ 0xA1 ∷ 0x8E ∷ 0xDF ∷ 0x8E ∷ 0xA0 ∷ 0x8E ∷ 0xE0 ∷ [])
     ≡ well_formed 2 (0xFF61 ∷ []) ∷ well_formed 2 (0xFF9F ∷ []) ∷ malformed 2 ∷ malformed 2 ∷ []
 unfolding pieces_in

@@ -29,7 +29,7 @@ fixed_pointer : pieces_gb18030 sample_flat sample_rows (0x81 ∷ 0x35 ∷ 0xF4 �
 unfolding pieces_in
 fixed_pointer = refl
 
--- the bytes behind the first are read again
+-- the bytes after the first are read again
 broken_third : pieces_gb18030 sample_flat sample_rows (0x81 ∷ 0x30 ∷ 0x41 ∷ []) ≡ malformed 1 ∷ well_formed 1 (0x30 ∷ []) ∷ well_formed 1 (0x41 ∷ []) ∷ []
 unfolding pieces_in
 broken_third = refl
@@ -95,7 +95,7 @@ four_bytes_up : pieces_gb18030 [] ranges (0x81 ∷ 0x30 ∷ 0xFE ∷ 0x30 ∷ 0x
 unfolding ranges pieces_in
 four_bytes_up = refl
 
--- 2F and 3A are no digits: what is behind the lead is read again
+-- 2F and 3A are no digits: what is after the lead is read again
 no_second_digit : pieces_gb18030 [] ranges (0x81 ∷ 0x2F ∷ 0x81 ∷ 0x3A ∷ []) ≡ malformed 1 ∷ well_formed 1 (0x2F ∷ []) ∷ malformed 1 ∷ well_formed 1 (0x3A ∷ []) ∷ []
 unfolding ranges pieces_in
 no_second_digit = refl
@@ -111,7 +111,7 @@ no_third_byte : pieces_gb18030 [] ranges (0x81 ∷ 0x30 ∷ 0x80 ∷ 0x81 ∷ 0x
 unfolding ranges pieces_in
 no_third_byte = refl
 
--- the last pointer in the basic plane and the one behind it, the one before the first above it and that one
+-- the last pointer in the basic plane and the one after it, the one before the first above it and that one
 planes : pieces_gb18030 [] ranges (0x84 ∷ 0x31 ∷ 0xA4 ∷ 0x39 ∷ 0x84 ∷ 0x31 ∷ 0xA5 ∷ 0x30 ∷ 0x8F ∷ 0x39 ∷ 0xFE ∷ 0x39 ∷ 0x90 ∷ 0x30 ∷ 0x81 ∷ 0x30 ∷ [])
     ≡ well_formed 4 (0x9A7B ∷ []) ∷ malformed 4 ∷ malformed 4 ∷ well_formed 4 (0x10000 ∷ []) ∷ []
 unfolding ranges pieces_in

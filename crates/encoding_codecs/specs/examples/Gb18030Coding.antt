@@ -55,7 +55,7 @@ trail_behind_7f = refl
 last_pair : gb18030_pair_bytes 23939 ≡ 0xFE ∷ 0xFE ∷ []
 last_pair = refl
 
--- the 18 private-use code points that have bytes of their own, in gb18030 and in GBK, also where the index has the first
+-- the 18 private-use code points that have bytes of their own, in gb18030 and in GBK, even if the index has the first
 unfoldable private_use : List ℕ
 private_use = 0xE78D ∷ 0xE78E ∷ 0xE78F ∷ 0xE790 ∷ 0xE791 ∷ 0xE792 ∷ 0xE793 ∷ 0xE794 ∷ 0xE795 ∷ 0xE796 ∷ 0xE81E ∷ 0xE826 ∷ 0xE82B ∷ 0xE82C ∷ 0xE832 ∷ 0xE843 ∷ 0xE854 ∷ 0xE864 ∷ []
 
@@ -111,7 +111,7 @@ first_of_two = refl
 trails : map gb18030_pair_bytes (0 ∷ 62 ∷ 189 ∷ 190 ∷ []) ≡ (0x81 ∷ 0x40 ∷ []) ∷ (0x81 ∷ 0x7E ∷ []) ∷ (0x81 ∷ 0xFE ∷ []) ∷ (0x82 ∷ 0x40 ∷ []) ∷ []
 trails = refl
 
--- the four bytes of the first and the last pointers in the basic plane and above it, and where a byte goes over
+-- the four bytes of the first and the last pointers in the basic plane and above it, and when a byte goes over
 four_ends : map gb18030_four_bytes (0 ∷ 39419 ∷ 189000 ∷ 1237575 ∷ [])
     ≡ (0x81 ∷ 0x30 ∷ 0x81 ∷ 0x30 ∷ []) ∷ (0x84 ∷ 0x31 ∷ 0xA4 ∷ 0x39 ∷ []) ∷ (0x90 ∷ 0x30 ∷ 0x81 ∷ 0x30 ∷ []) ∷ (0xE3 ∷ 0x32 ∷ 0x9A ∷ 0x35 ∷ []) ∷ []
 four_ends = refl

@@ -32,7 +32,7 @@ space_is_entry = scalar_or_none 0x3000 (scalar_from 0x3000 (inl (lit< tt)))
 minus_is_entry : AreEntries (0xFF0D ∷ [])
 minus_is_entry = scalar_or_none 0xFF0D (scalar_from 0xFF0D (inr (lit≤ tt, lit< tt)))
 
--- behind U+3000 the escape to ASCII may be left
+-- after U+3000 the escape to ASCII may be left
 space_reads : ReadsAs (pieces_iso_2022_jp (0x3000 ∷ [])) (0x1B ∷ 0x24 ∷ 0x42 ∷ 0x21 ∷ 0x21 ∷ 0x1B ∷ 0x28 ∷ 0x42 ∷ []) (0x3000 ∷ [])
 unfolding pieces_in_mode pieces_in
 space_reads = record { well_formed = (tt, (tt, (tt, tt))); same = refl }

@@ -79,7 +79,7 @@ minus_sign = refl
 shift_out_is_lost : iso_2022_jp_form jis0208 katakana 0x0E ≡ Unmapped 0xFFFD
 shift_out_is_lost = refl
 
--- Roman stays where it may: at 5C it has another character
+-- Roman stays if it may: at 5C it has another character
 roman_stays : open_from Decimal (iso_2022_jp_coding jis0208 katakana) Roman (0x41 ∷ 0x5C ∷ []) ≡ 0x41 ∷ 0x1B ∷ 0x28 ∷ 0x42 ∷ 0x5C ∷ []
 roman_stays = refl
 

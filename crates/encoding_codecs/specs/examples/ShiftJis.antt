@@ -76,7 +76,7 @@ gap_is_not_written : map (λ p. shift_jis_form (at p 0x4E00) 0x4E00) (8271 ∷ 8
     ≡ Mapped (0xEC ∷ 0xFC ∷ []) ∷ Unmapped 0x4E00 ∷ Unmapped 0x4E00 ∷ Mapped (0xF0 ∷ 0x40 ∷ []) ∷ []
 gap_is_not_written = refl
 
--- what stands in it and behind it is written as that which stands behind
+-- what stands in it and after it is written as that which stands after
 behind_the_gap : shift_jis_form (replicate 8272 0 ++ (0x4E00 ∷ (replicate 2443 0 ++ (0x4E00 ∷ [])))) 0x4E00 ≡ Mapped (0xFA ∷ 0x40 ∷ [])
 behind_the_gap = refl
 

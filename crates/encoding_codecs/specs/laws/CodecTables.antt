@@ -46,7 +46,7 @@ euc_jp_are_pieces t h =
 pub iso_2022_jp_tables_are_pieces : (t : IndexLists) → AreAcceptedTables t → (x : List ℕ) → ArePieces (pieces_iso_2022_jp (index_entries t Jis0208) x)
 iso_2022_jp_tables_are_pieces t h = iso_2022_jp_are_pieces (index_entries t Jis0208) (entries_scalars t Jis0208 h) ascii_mode
 
--- what is written reads back exactly where each character has a pointer
+-- what is written reads back exactly when each character has a pointer
 pub euc_kr_tables_exact : (t : IndexLists) → AreAcceptedTables t → ReadsBackExactly (pieces_euc_kr (index_entries t EucKr)) (stateless (euc_kr_form (index_entries t EucKr)))
 euc_kr_tables_exact t h = euc_kr_exact (index_entries t EucKr) (entries_scalars t EucKr h)
 

@@ -8,6 +8,6 @@ use Rattle.encoding_mem.specs.laws.EncodedLength.{two_byte_room}
 use Rattle.encoding_mem.specs.declared.form.Form.{Form}
 use Rattle.encoding_mem.specs.declared.form.Form.TheVariants.{Mapped}
 
--- of two bytes a character, where ASCII is itself
+-- of two bytes a character, if ASCII is itself
 pub two_byte_fits : (form : ℕ → Form) → IsCoding 2 (stateless form) → ((c : ℕ) → c < 0x80 → form c ≡ Mapped (c ∷ [])) → IsRoomFor (stateless form) encoded_length_two_byte
 two_byte_fits form laws ascii = two_byte_room form laws.short (λ c low. subst (FitsNeed 1) (sym (ascii c low)) short_one)

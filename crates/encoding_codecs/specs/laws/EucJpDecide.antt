@@ -1,4 +1,4 @@
--- What is known of the first piece of EUC-JP where more bytes may come: each definition follows the one of
+-- What is known of the first piece of EUC-JP if more bytes may come: each definition follows the one of
 -- specs/EucJp.antt for the piece.
 use Rattle.std.specs.Prelude.{ℕ, Bool, List, [], ◌∷◌, ◌==◌, if◌then◌else◌}
 use Rattle.encoding_mem.specs.declared.first_piece.FirstPiece.{FirstPiece}

@@ -1,5 +1,5 @@
--- What a target with one set writes reads back exactly where each scalar has bytes, and scalar by scalar, if the bytes of
--- a scalar are a piece that gives it, and no ASCII is unmappable.
+-- What a target with one set writes reads back exactly when each scalar has bytes, and scalar by scalar, if the bytes
+-- of a scalar are a piece that gives it, and no ASCII is unmappable.
 use Rattle.std.proofs.Common.{◌≡◌, ℕ, ◌<◌, ◌≤◌, ◌⊎◌, inl, inr, true, List, [], ◌∷◌, ◌++◌, length, drop, refl, sym, ◌∙◌, ap, subst, arith, length-append}
 use Rattle.std.specs.Char.{IsScalar}
 use Rattle.std.specs.Str.{all_scalars}
@@ -119,6 +119,6 @@ one_step ref first_piece form is c (Unmapped d) h = inr (reference_strays ref fi
 pub reads_back_by_steps : (first_piece : List ℕ → Piece) (form : ℕ → Form) → ReadsEach first_piece form → StepLaw (stateless form) (in_any_set (pieces_by first_piece))
 reads_back_by_steps first_piece form is = step_law first_piece form is.cuts (λ ref c scalar. one_step ref first_piece form is c (form c) (is.scalar c scalar))
 
--- with what is referred to, where `&` has bytes
+-- with what is referred to, if `&` has bytes
 pub each_by_step : (first_piece : List ℕ → Piece) (form : ℕ → Form) → ReadsEach first_piece form → IsMapped (form 0x26) → ReadsByStep (stateless form) (in_any_set (pieces_by first_piece))
 each_by_step first_piece form is has = one_set_by_step first_piece form is.cuts (reads_back_by_steps first_piece form is) (λ x. is.ascii 0x26 x (omega arith)) has

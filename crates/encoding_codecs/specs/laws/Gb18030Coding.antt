@@ -14,7 +14,7 @@ use Rattle.encoding_tables.specs.Ranges.{range_pointer}
 use Rattle.encoding_codecs.specs.Gb18030Coding.{gb18030_fixed_pair, two_of, gb18030_pair_bytes, gb18030_four_bytes, gb18030_index_bytes, gb18030_range_bytes, gb18030_bytes, gb18030_form}
 use Rattle.encoding_codecs.specs.calls.Gb18030Bounds.{gb18030_need, gb18030_encoded_length}
 
--- at most n bytes, where there are any
+-- at most n bytes, if there are any
 abbrev AreFew : ℕ → Option (List ℕ) → Type 0
 AreFew n o = IfSome o (λ bs. length bs ≤ n)
 

@@ -1,4 +1,4 @@
--- What is known of the first piece of gb18030 where more bytes may come: each definition follows the one of
+-- What is known of the first piece of gb18030 if more bytes may come: each definition follows the one of
 -- specs/Gb18030.antt for the piece.
 use Rattle.std.specs.Prelude.{ℕ, Bool, List, [], ◌∷◌, if◌then◌else◌, Option, None, Some}
 use Rattle.std.specs.Int.{is_in_range}

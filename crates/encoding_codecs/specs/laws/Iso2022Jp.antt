@@ -195,7 +195,7 @@ parts_of_text jis0208 m (b ∷ x) = elim (cases_eq b 0x1B) [
   | inr other ↦ rw (head_other b x other, tail_other b x other, cut_at_escapes-cons b x, no_escape_at b (head_of x) other) refl
 ]
 
--- an escape, by the bytes behind it, is that of its part before the others
+-- an escape, by the bytes after it, is that of its part before the others
 no_more : (n : ℕ) → (suc (suc (suc (suc n))) == 3) ≡ false
 no_more n = ne_eqb (suc (suc (suc (suc n)))) 3 (λ e. absurd (omega (arith, e)))
 
@@ -220,7 +220,7 @@ cuts_text jis0208 scalars Jis b x = cuts_small (first_text_piece jis0208 Jis (b 
     (λ t. small_text jis0208 scalars b x)
     (λ t. small_malformed 1 _ (lit< tt) (omega arith) (lit≤ tt)))
 
--- behind n bytes, what is left of the part of b and x and the other parts are what is left of b and x
+-- after n bytes, what is left of the part of b and x and the other parts are what is left of b and x
 IsLeft : List ℕ → Mode → ℕ → List ℕ → ℕ → Type 0
 IsLeft jis0208 m b x n = pieces_by (first_text_piece jis0208 m) (drop n (b ∷ head_of x)) ++ pieces_of_parts jis0208 m (cut_at_escapes (tail_of x))
     ≡ pieces_of_parts jis0208 m (cut_at_escapes (drop n (b ∷ x)))

@@ -9,9 +9,9 @@ use Rattle.encoding_codecs.specs.Iso2022Jp.{escape_at, ascii_piece, roman_piece,
 use Rattle.encoding_codecs.specs.declared.iso_2022_jp_decoder.Mode.{Mode}
 use Rattle.encoding_codecs.specs.declared.iso_2022_jp_decoder.Mode.TheVariants.{Ascii, Roman, Katakana, Jis}
 
--- ---- the first piece, where the list's end is the end of the input
+-- ---- the first piece, if the list's end is the end of the input
 
--- an escape, by the bytes behind it
+-- an escape, by the bytes after it
 abbrev pub escape_first_piece : List ℕ → Piece
 escape_first_piece x = if is_some (escape_at x) then malformed 3 else well_formed 3 []
 

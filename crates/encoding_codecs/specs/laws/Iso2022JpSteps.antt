@@ -208,7 +208,7 @@ gives_reference : (ref : Reference) (jis0208 : List ℕ) → AreEntries jis0208 
 gives_reference ref jis0208 scalars q d c one other =
     rw (reference_behind ref d) (gives_other jis0208 q 0x26 (drop 1 (reference_bytes ref d)) 0x26 c (λ e. absurd (omega (arith, e))) (λ e. other (sym e)) (λ y. mark jis0208 scalars q y one))
 
--- ASCII where it is itself
+-- ASCII if it is itself
 plain : (c : ℕ) → c < 0x80 → (c == 0x0E || c == 0x0F || c == 0x1B) ≡ false → ascii_piece c ≡ well_formed 1 (c ∷ [])
 plain c low free =
     let parts = or_parts (c == 0x0E || c == 0x0F) (c == 0x1B) free in
@@ -356,7 +356,7 @@ ends_with_escape jis0208 scalars s q = either (is_same_set s q)
     either true = let is = iso_2022_jp_ends jis0208 (mode_of s) in record { well_formed = subst AreWellFormed (sym is) tt; same = ap text is }
     either false = let is = last_escape jis0208 scalars (mode_of s) q in record { well_formed = subst AreWellFormed (sym is) (tt, tt); same = ap text is }
 
--- but behind it another makes it malformed
+-- but after it another makes it malformed
 escape_before_another : (jis0208 : List ℕ) → AreEntries jis0208 → (m : Mode) (q : EscapeState) → head_piece (pieces_in_mode jis0208 m (iso_2022_jp_escape_to q ++ iso_2022_jp_escape_to Ascii)) ≡ Some (malformed 3)
 escape_before_another jis0208 scalars m Ascii = ap head_piece (cons jis0208 scalars m 0x1B (0x28 ∷ 0x42 ∷ iso_2022_jp_escape_to Ascii))
 escape_before_another jis0208 scalars m Roman = ap head_piece (cons jis0208 scalars m 0x1B (0x28 ∷ 0x4A ∷ iso_2022_jp_escape_to Ascii))

@@ -12,7 +12,7 @@ use Rattle.encoding_codecs.specs.declared.lead_byte_rule.FirstByte.{FirstByte}
 use Rattle.encoding_codecs.specs.declared.two_byte.PairValue.{PairValue}
 use Rattle.encoding_codecs.specs.calls.TwoByteRule.{IsFirstByte, IsPairValue}
 
--- two bytes at most, where there are some
+-- two bytes at most, if there are some
 pub record AreFew (o : Option (List ℕ)) : Type 0 where
   pub few : IfSome o (λ bytes. length bytes ≤ 2)
 

@@ -72,7 +72,7 @@ pub record IsPairOf (e : TwoByteRule) (c : ℕ) (bs : List ℕ) : Type 0 where
   pub leads : e.first lead ≡ Lead
   pub gives : e.pair lead trail ≡ OneChar c
 
--- where the bytes of each pointer give its scalar, each form reads back
+-- if the bytes of each pointer give its scalar, each form reads back
 reads_pair : (e : TwoByteRule) (c : ℕ) (bs : List ℕ) → IsPairOf e c bs → ReadsAsScalar (first_piece_two_byte e.first e.pair) c (Mapped bs)
 reads_pair e c bs h = rw h.is (omega arith, λ y. first_piece_of_pair e h.lead h.trail c y h.high h.leads h.gives)
 

@@ -1,4 +1,4 @@
--- What is known of the first piece where more bytes may come: each definition follows the one of specs/TwoByte.antt for
+-- What is known of the first piece if more bytes may come: each definition follows the one of specs/TwoByte.antt for
 -- the piece.
 use Rattle.std.specs.Prelude.{ℕ, ◌+◌, Bool, List, [], ◌∷◌, nat_lt, if◌then◌else◌}
 use Rattle.encoding_mem.specs.Piece.{Piece}
@@ -25,20 +25,19 @@ abbrev pub decide_by_lead : (ℕ → FirstByte) → (ℕ → List ℕ → Bool �
 decide_by_lead first after [] last = More
 decide_by_lead first after (a ∷ x) last = if nat_lt a 0x80 then One a 1 else decide_of_first (first a) (after a x last)
 
--- what is known of n bytes that want a trail, with the byte b after them, by what they give
--- together
+-- what is known of n bytes that need a trail, with the byte b after them, by what they give together
 abbrev pub decide_trail : ℕ → PairValue → ℕ → FirstPiece
 decide_trail n NoChar b = if nat_lt b 0x80 then Malformed n else Malformed (n + 1)
 decide_trail n (OneChar c) b = One c (n + 1)
 decide_trail n (TwoChars c d) b = Two c d (n + 1)
 
--- what is known of n bytes that want a trail, by what follows them and by the values of trails
+-- what is known of n bytes that need a trail, by what follows them and by the values of trails
 abbrev pub decide_after : ℕ → (ℕ → PairValue) → List ℕ → Bool → FirstPiece
 decide_after n value [] last = cut_short n last
 decide_after n value (b ∷ x) last = decide_trail n (value b) b
 
 -- The pieces of an encoding with leads: what a first byte from 80 on is, the piece that a lead begins with the bytes
--- behind it, and what is known of that where more bytes may come.
+-- after it, and what is known of that if more bytes may come.
 pub record LeadRule : Type 0 where
   pub first : ℕ → FirstByte
   pub after : ℕ → List ℕ → Piece

@@ -10,7 +10,7 @@ use Rattle.encoding_front.specs.calls.Stream.{DecoderView, finishes, room_asked}
 use Rattle.encoding_front.specs.declared.coder_result.CoderResult.{CoderResult}
 
 -- Up to a malformed sequence: which pieces it took, whose scalars Writes says were written, and why it ended, where
--- free is the room behind them, room what has to be free, and mark what U+FFFD needs. The encoding that the input turns
+-- free is the room after them, room what has to be free, and mark what U+FFFD needs. The encoding that the input turns
 -- out to be in does not depend on how it is cut.
 pub record DecoderCall (before after : DecoderView) (src : List ℕ) (last : Bool) (read : ℕ) (Writes : List ℕ → Type 0) (free room mark : ℕ) (outcome : DecoderResult) : Type 0 where
   pub law : StateLaw before.state after.state src last read Writes outcome
@@ -25,7 +25,7 @@ pub record TextCall (before after : DecoderView) (src : List ℕ) (last : Bool) 
   pub source : (r : List ℕ) → (IsTrue last → r ≡ []) → before.source (src ++ r) ≡ after.source (drop read src ++ r)
   pub finished : after.finished ≡ finishes last (raw_result outcome)
 
--- a fact, where as much room is free as is asked for the text of so many bytes
+-- a fact, if as much room is free as is asked for the text of so many bytes
 abbrev pub IfRoomAsked : DecoderView → OutputUnit → (size free : ℕ) → Type 0 → Type 0
 IfRoomAsked v k size free P = (n : ℕ) → room_asked v.opening k size ≡ Some n → n ≤ free → P
 

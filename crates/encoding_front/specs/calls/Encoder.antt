@@ -41,8 +41,7 @@ parts_in x = record { need = need_of x.encoding; coding = coding_in x; set = x.s
 abbrev pub IsCodecOf : IndexLists → Encoding → EncoderParts → Type 0
 IsCodecOf t e p = p ≡ parts_in (record { tables = t; encoding = e; set = p.set })
 
--- A call without replacement on a text, of an encoder that was x and is x': room is what is free behind what is
--- written.
+-- A call without replacement on a text, of an encoder that was x and is x': room is what is free after what is written.
 pub record Encoded (x : EncoderState) (last : Bool) (answer : EncoderResult) (text written : List ℕ) (x' : EncoderState) (rest : List ℕ) (room : ℕ) : Type 0 where
   pub same : x' ≡ record x { set = x'.set }
   pub codec : EncoderCall (parts_in x) (parts_in x') last answer text written rest room
@@ -101,9 +100,9 @@ abbrev pub Puts : Coding → EscapeState → (text written : List ℕ) → Escap
 Puts e s text written s' = written ≡ open_from Decimal e s text ++ e.escape (last_set e s text) s'
 
 -- A call with replacement on a text, into size bytes, the last of which are kept back: what is written is what the text
--- that was read stands for, with references, and behind it no more than the escape to the set that is then in force;
--- lost tells whether there is a reference. Only a reference reaches into the kept bytes, and where one ends there, or
--- where they begin, nothing more is read or written.
+-- that was read stands for, with references, and after it no more than the escape to the set that is then in force;
+-- lost says whether there is a reference. Only a reference reaches into the kept bytes, and if one ends there, or where
+-- they begin, nothing more is read or written.
 pub record Replaces (x : EncoderState) (last : Bool) (outcome : CoderResult) (text written : List ℕ) (x' : EncoderState) (rest : List ℕ) (lost : Bool) (size : ℕ) : Type 0 where
   pub same : x' ≡ record x { set = x'.set }
   pub prefix : List ℕ

@@ -11,15 +11,15 @@ use Rattle.encoding_front.specs.EncodingTable.{codec_kind_of}
 use Rattle.encoding_front.specs.declared.encoding.Encoding.{Encoding}
 use Rattle.encoding_front.specs.declared.codec_kind.CodecKind.{CodecKind}
 
--- By the index of a single-byte encoding; as ISO-2022-JP reads ASCII; up to the first byte that isn't ASCII; or it is not
--- told, as in encodings of which no byte is a character.
+-- By the index of a single-byte encoding; as ISO-2022-JP reads ASCII; up to the first byte that isn't ASCII; or it is
+-- not known, as in encodings of which no byte is a character.
 pub data Latin1Rule : Type 0 where
   by_index : Latin1Rule
   by_mode : Latin1Rule
   by_ascii : Latin1Rule
   untold : Latin1Rule
 
--- by which rule a decoder of a codec kind tells how far bytes are their own Latin1 characters
+-- by which rule a decoder of a codec kind says how far bytes are their own Latin1 characters
 abbrev pub latin1_rule_of_codec_kind : CodecKind → Latin1Rule
 latin1_rule_of_codec_kind (CodecKind.SingleByte kind) = by_index
 latin1_rule_of_codec_kind CodecKind.Iso2022Jp = by_mode
@@ -27,7 +27,7 @@ latin1_rule_of_codec_kind (CodecKind.Utf16 big_endian) = untold
 latin1_rule_of_codec_kind CodecKind.Replacement = untold
 latin1_rule_of_codec_kind _ = by_ascii
 
--- by which rule a decoder of an encoding tells how far bytes are their own Latin1 characters
+-- by which rule a decoder of an encoding says how far bytes are their own Latin1 characters
 abbrev pub latin1_rule : Encoding → Latin1Rule
 latin1_rule e = latin1_rule_of_codec_kind (codec_kind_of e)
 

@@ -21,12 +21,12 @@ pub record IsDecoded (t : IndexLists) (mark : Mark) (e : Encoding) (x text : Lis
 abbrev pub room_at_start : Mark → Encoding → OutputUnit → ℕ → Option ℕ
 room_at_start mark e k n = room_asked (record { sought = sought_by mark e; held = []; room = decoded_length_of e; pending = 0 }) k n
 
--- the room passes a usize; or there is no memory for it, which is asked for where it is not 0
+-- the room passes a usize; or there is no memory for it, which is asked for unless it is 0
 abbrev pub IsRefused : Option ℕ → OneShotFault → Type 0
 IsRefused room Overflow = room ≡ None
 IsRefused room Memory = (n : ℕ) × (room ≡ Some n) × (0 < n)
 
--- a call fails for want of this room alone, and it doesn't end well where that passes a usize
+-- a call fails for lack of this room alone, and it doesn't end well if that passes a usize
 abbrev pub FailsFor : {T : Type 0} → Option ℕ → Result T OneShotFault → Type 0
 FailsFor room (Ok value) = room ≢ None
 FailsFor room (Err fault) = IsRefused room fault

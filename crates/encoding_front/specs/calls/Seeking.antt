@@ -72,7 +72,7 @@ abbrev pub find_end : (byte : ℕ) → ByteOrderMark → List ℕ → BomMatch
 find_end byte mark [] = Prefix
 find_end byte mark (c ∷ x) = if c == byte then Whole mark else Other
 
--- what the bytes behind EF show of UTF-8's mark (EF BB BF): the whole mark, a prefix, or no mark
+-- what the bytes after EF show of UTF-8's mark (EF BB BF): the whole mark, a prefix, or no mark
 abbrev pub find_second : List ℕ → BomMatch
 find_second [] = Prefix
 find_second (b ∷ x) = if b == 0xBB then find_end 0xBF Utf8 x else Other
@@ -115,7 +115,7 @@ can_be s (b ∷ held) m = (b == mark_head m) && seeks s m
 abbrev pub mark_needs : BomSet → (held : List ℕ) → OutputUnit → ℕ → ByteOrderMark → ℕ
 mark_needs s held k n m = if can_be s held m then decoded_length (room_after_mark m) k ((length held + n) - mark_len m) else 0
 
--- the most room that a call wants free for held bytes and n more, by the decoder or behind a mark
+-- the most room that a call needs free for held bytes and n more, by the decoder or after a mark
 abbrev pub sought_needs : BomSet → (own : OutputUnit → ℕ → ℕ) (held : List ℕ) → OutputUnit → ℕ → ℕ
 sought_needs s own held k n = max (own k (length held + n)) (max (mark_needs s held k n Utf8) (max (mark_needs s held k n Utf16Be) (mark_needs s held k n Utf16Le)))
 

@@ -32,7 +32,7 @@ pub record Opening : Type 0 where
   pub room : DecodedLength
   pub pending : ℕ
 
--- the greater of two numbers, where there are both
+-- the greater of two numbers, if there are both
 abbrev pub greater : Option ℕ → Option ℕ → Option ℕ
 greater None n = None
 greater (Some m) None = None
@@ -75,9 +75,9 @@ pub record DecoderView : Type 0 where
   pub own : DecoderState
   pub finished : Bool
 
--- The pieces of what is to come are those of what is held and of what follows, in the encoding in force or behind a
--- mark; what is held is a prefix of a mark, where one is sought. So it is with the encoding that the input turns out
--- to be in, and the room is that of the one in force.
+-- The pieces of what is to come are those of what is held and of what follows, in the encoding in force or after a
+-- mark; what is held is a prefix of a mark, if one is sought. So it is with the encoding that the input turns out to
+-- be in, and the room is that of the one in force.
 pub record IsOpenedBy (v : DecoderView) : Type 0 where
   pub pieces : (x : List ℕ) → v.state.pieces x ≡ sought_pieces v.opening.sought v.own.pieces (v.opening.held ++ x)
   pub pending : v.state.pending ≡ v.opening.pending + length v.opening.held
@@ -92,7 +92,7 @@ pub record IsOpenedBy (v : DecoderView) : Type 0 where
 abbrev pub SeeksNoMark : Opening → Type 0
 SeeksNoMark o = (is_sought o.sought ≡ false) × (o.held ≡ [])
 
--- how far bytes are their characters in Latin1: it is told where marks are settled, and the decoder of the encoding in
+-- how far bytes are their characters in Latin1: it is known if marks are settled, and the decoder of the encoding in
 -- force is at rest
 abbrev pub TellsLatin1Prefix : DecoderView → List ℕ → Option ℕ → Type 0
 TellsLatin1Prefix v bytes None = ¬ (SeeksNoMark v.opening × IsAtRest (latin1_rule (v.source [])) v.own)

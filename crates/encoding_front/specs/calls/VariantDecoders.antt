@@ -9,7 +9,7 @@ use Rattle.encoding_front.specs.declared.variant_decoder.VariantDecoder.TheVaria
 abbrev pub state_of : VariantDecoder → DecoderState
 state_of d = (state-value).it d
 
--- by which rule it tells how far bytes are their characters in Latin1
+-- by which rule it says how far bytes are their characters in Latin1
 abbrev pub rule_of : VariantDecoder → Latin1Rule
 rule_of (SingleByte d) = by_index
 rule_of (Iso2022Jp d) = by_mode

@@ -42,7 +42,7 @@ room_fits = refl
 room_does_not_fit : queried_with_kept Windows1252 false 0xFFFFFFFFFFFFFFFF ≡ None
 room_does_not_fit = refl
 
--- a last call that ends behind the reference has still to write the escape to ASCII
+-- a last call that ends after the reference has still to write the escape to ASCII
 yen_and_reference : whole_from Decimal sample_coding Ascii (0xA5 ∷ 0x1F4A9 ∷ [])
     ≡ (0x1B ∷ 0x28 ∷ 0x4A ∷ 0x5C ∷ codes "&#128169;") ++ whole_from Decimal sample_coding Roman []
 unfolding digits
@@ -112,18 +112,18 @@ written_in_roman : (open_from Decimal (coding_of no_tables Iso2022Jp) Ascii yen_
 unfolding no_tables digits
 written_in_roman = (refl, refl)
 
--- a set that is in force behind a call has its escape among what is written, also where no character is
+-- a set that is in force after a call has its escape among what is written, even if no character is
 set_has_its_escape : Puts (coding_of no_tables Iso2022Jp) Ascii [] (0x1B ∷ 0x28 ∷ 0x4A ∷ []) Roman × Puts (coding_of no_tables Iso2022Jp) Ascii [] [] Ascii
 unfolding no_tables
 set_has_its_escape = (refl, refl)
 
--- behind U+00A5 it is that of ASCII, and none where Roman stays
+-- after U+00A5 it is that of ASCII, and none if Roman stays
 set_behind_yen : Puts (coding_of no_tables Iso2022Jp) Ascii (0xA5 ∷ []) (0x1B ∷ 0x28 ∷ 0x4A ∷ 0x5C ∷ 0x1B ∷ 0x28 ∷ 0x42 ∷ []) Ascii
     × Puts (coding_of no_tables Iso2022Jp) Ascii (0xA5 ∷ []) (0x1B ∷ 0x28 ∷ 0x4A ∷ 0x5C ∷ []) Roman
 unfolding no_tables
 set_behind_yen = (refl, refl)
 
--- The reference begins behind 4 bytes: it is written into 14 bytes, of which 10 are kept back, and not into 13.
+-- The reference begins after 4 bytes: it is written into 14 bytes, of which 10 are kept back, and not into 13.
 reaches_into_the_kept : EndsWithReference (coding_of no_tables Iso2022Jp) Ascii yen_and_pile yen_and_its_reference 4
 unfolding no_tables digits
 reaches_into_the_kept = record { before = 0xA5 ∷ []; lost = 0x1F4A9; is = refl; unmapped = λ h. h; whole = refl; begins = lit≤ tt }

@@ -25,7 +25,7 @@ another_is_text = refl
 kept : source_of Keep Encoding.Utf8 (0xEF ∷ 0xBB ∷ 0xBF ∷ []) ≡ (Encoding.Utf8, 0)
 kept = refl
 
--- the mark of UTF-8 is a piece of 3 bytes with no text; the malformed sequence at 6 stands behind it and U+20AC
+-- the mark of UTF-8 is a piece of 3 bytes with no text; the malformed sequence at 6 stands after it and U+20AC
 after_the_mark : (t : IndexLists) → marked_pieces t Sniff Encoding.Windows1252 (0xEF ∷ 0xBB ∷ 0xBF ∷ 0xE2 ∷ 0x82 ∷ 0xAC ∷ 0x80 ∷ [])
     ≡ well_formed 3 [] ∷ well_formed 3 (0x20AC ∷ []) ∷ malformed 1 ∷ []
 unfolding pieces_in
@@ -36,7 +36,7 @@ text_after_the_mark : (t : IndexLists) → marked_text t Sniff Encoding.Windows1
 unfolding pieces_in
 text_after_the_mark t = refl
 
--- a mark is text where it is kept, and a second one always is
+-- a mark is text if it is kept, and a second one always is
 kept_mark : (t : IndexLists) → marked_text t Keep Encoding.Utf8 (0xEF ∷ 0xBB ∷ 0xBF ∷ 0x41 ∷ []) ≡ 0xFEFF ∷ 0x41 ∷ []
 unfolding pieces_in
 kept_mark t = refl
@@ -68,8 +68,8 @@ prefix_of_a_mark : marked_pieces windows_1252 Sniff Encoding.Windows1252 (0xEF �
 unfolding windows_1252 pieces_in
 prefix_of_a_mark = refl
 
--- an index of windows-1257 with U+201A at 2, U+00A4 at 36, U+00AC at 44, U+00BB at 59, U+00E6 at 63, U+0106 at 67, U+0101
--- at 98 and U+013C at 111: the mark of UTF-8 is text where only an own mark is removed
+-- an index of windows-1257 with U+201A at 2, U+00A4 at 36, U+00AC at 44, U+00BB at 59, U+00E6 at 63, U+0106 at 67,
+-- U+0101 at 98 and U+013C at 111: the mark of UTF-8 is text if only an own mark is removed
 unfoldable windows_1257 : IndexLists
 windows_1257 = record { flats = replicate 24 None ++ (Some (0 ∷ 0 ∷ 0x201A ∷ (replicate 33 0 ++ (0xA4 ∷ (replicate 7 0 ++ (0xAC ∷ (replicate 14 0 ++ (0xBB ∷ (replicate 3 0 ++ (0xE6 ∷ (replicate 3 0 ++ (0x106 ∷ (replicate 30 0 ++ (0x101 ∷ (replicate 12 0 ++ (0x13C ∷ replicate 16 0))))))))))))))) ∷ []); rows = None }
 

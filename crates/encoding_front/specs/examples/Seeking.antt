@@ -13,7 +13,7 @@ use Rattle.encoding_front.specs.declared.seeking.BomSet.{BomSet}
 abbrev all_marks : BomSet
 all_marks = sought_by Sniff Encoding.Windows1252
 
--- where all three marks are looked for, these may become one
+-- if all three marks are looked for, these may become one
 prefixes : map (find_mark all_marks) ([] ∷ (0xEF ∷ []) ∷ (0xEF ∷ 0xBB ∷ []) ∷ (0xFE ∷ []) ∷ (0xFF ∷ []) ∷ []) ≡ replicate 5 Prefix
 prefixes = refl
 
@@ -25,7 +25,7 @@ no_marks : map (find_mark all_marks) ((0xEE ∷ []) ∷ (0xF0 ∷ []) ∷ (0xFD 
     ≡ replicate 10 Other
 no_marks = refl
 
--- only an own mark is removed, and none is where it is kept
+-- only an own mark is removed, and none is if it is kept
 removed : map (find_mark (sought_by Remove Encoding.Utf16Le)) ((0xEF ∷ 0xBB ∷ 0xBF ∷ []) ∷ (0xFE ∷ 0xFF ∷ []) ∷ (0xFF ∷ 0xFE ∷ []) ∷ [])
     ≡ Other ∷ Other ∷ Whole Utf16Le ∷ []
 removed = refl
@@ -49,7 +49,7 @@ may_become : (map (λ held. can_be all_marks held Utf8) ([] ∷ (0xEF ∷ []) �
     × (map (λ held. can_be all_marks held Utf16Le) ([] ∷ (0xEF ∷ []) ∷ (0xFE ∷ []) ∷ (0xFF ∷ []) ∷ []) ≡ true ∷ false ∷ false ∷ true ∷ [])
 may_become = (refl, refl, refl)
 
--- behind EF and 9 more bytes 7 may follow the mark of UTF-8, behind FE and 8 more 7 that of UTF-16
+-- after EF and 9 more bytes 7 may follow the mark of UTF-8, after FE and 8 more 7 that of UTF-16
 wanted_behind_marks : (mark_needs all_marks (0xEF ∷ []) Bytes 9 Utf8 ≡ 10)
     × (mark_needs all_marks (0xFE ∷ []) Bytes 8 Utf16Be ≡ 13)
     × (mark_needs all_marks (0xFF ∷ []) Units 8 Utf16Le ≡ 5)

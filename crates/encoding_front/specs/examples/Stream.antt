@@ -30,7 +30,7 @@ held_with_replacement : room_asked (sniffing_windows_1252 (0xEF ∷ [])) Replace
 unfolding sniffing_windows_1252
 held_with_replacement = refl
 
--- a BB that is still to be handed on, where nothing is looked for any more
+-- a BB that is still to be handed on, if nothing is looked for any more
 handed_on : room_asked (record { sought = nothing_sought; held = 0xBB ∷ []; room = decoded_length_single_byte; pending = 0 }) Units 1 ≡ Some 3
 handed_on = refl
 

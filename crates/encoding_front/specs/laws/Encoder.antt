@@ -58,7 +58,7 @@ codec_coding_laws t CodecKind.Replacement = utf8_coding_laws
 pub coding_laws : (t : IndexLists) (e : Encoding) → IsCoding (need_of e) (coding_of t e)
 coding_laws t e = codec_coding_laws t (codec_kind_of (output_encoding_of e))
 
--- where no two characters have the same bytes, a call that reports nothing keeps a true verdict
+-- if no two characters have the same bytes, a call that reports nothing keeps a true verdict
 pub kept_verdict : (t : IndexLists) (e : Encoding) → KeepsCharacters e → AreAcceptedTables t → (last : Bool) (outcome : EncoderResult) (s : EscapeState) (text w : List ℕ) (s' : EscapeState) (rest : List ℕ)
     → all_scalars text ≡ true → Encodes (coding_of t e) last outcome s text w s' rest → IsNotUnmappable outcome
     → KeepsVerdict (coding_of t e) last true (pieces_of t (output_encoding_of e)) s text true (pieces_of t (output_encoding_of e)) s' rest

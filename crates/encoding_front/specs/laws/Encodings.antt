@@ -59,7 +59,7 @@ are_pieces_in t CodecKind.Replacement taken x = pieces_in-are_pieces first_piece
 pub are_pieces_of : (t : IndexLists) (e : Encoding) → AreAcceptedTables t → (x : List ℕ) → ArePieces (pieces_of t e x)
 are_pieces_of t e taken x = are_pieces_in t (codec_kind_of e) taken x
 
--- what is written for a text reads back as that text exactly where each scalar of it has bytes
+-- what is written for a text reads back as that text exactly when each scalar of it has bytes
 exact_in : (t : IndexLists) (s : CodecKind) → KeepsCharactersCodecKind s → AreAcceptedTables t → ReadsBackExactly (codec_of t s).pieces (codec_of t s).coding
 exact_in t CodecKind.Utf8 kept taken = utf8_exact
 exact_in t (CodecKind.SingleByte kind) kept taken = tables_exact t kind taken
@@ -100,7 +100,7 @@ pub set_pieces_at_start : (t : IndexLists) (e : Encoding) → set_pieces_of t e 
 set_pieces_at_start t Encoding.Big5 = refl
 set_pieces_at_start t _ = refl
 
--- and where no two characters have the same bytes, also from any other set
+-- and if no two characters have the same bytes, also from any other set
 set_pieces_in : (t : IndexLists) (s : CodecKind) → KeepsCharactersCodecKind s → (set : EscapeState) → set_pieces_of_codec_kind t s set ≡ (codec_of t s).pieces
 set_pieces_in t CodecKind.Utf8 kept set = refl
 set_pieces_in t (CodecKind.SingleByte kind) kept set = refl
@@ -122,7 +122,7 @@ pub agrees_or_breaks : (t : IndexLists) (e : Encoding) → AreAcceptedTables t �
 agrees_or_breaks t e taken =
     subst (λ pieces. ReadsBackOrBreaks pieces (coding_of t e)) (set_pieces_at_start t e) (reads_back_or_breaks (coding_of t e) (set_pieces_of t e) (reads_by_step t e taken))
 
--- where no two characters have the same bytes, there is one set
+-- if no two characters have the same bytes, there is one set
 one_set_in : (t : IndexLists) (s : CodecKind) → KeepsCharactersCodecKind s → HasOneSet (codec_of t s).coding
 one_set_in t CodecKind.Utf8 kept = record { set = λ s c. refl; escape = λ s s'. refl }
 one_set_in t (CodecKind.SingleByte kind) kept = record { set = λ s c. refl; escape = λ s s'. refl }

@@ -121,7 +121,7 @@ widest_cond : (t : Bool) (m : ByteOrderMark) (k : OutputUnit) (j n : ℕ) → j 
 widest_cond true m k j n h = omega (arith, widest_after m k j, widest_rises k j n h)
 widest_cond false m k j n h = omega arith
 
--- it is enough for a decoder that looks for a mark, where it is for its own
+-- it is enough for a decoder that looks for a mark, if it is for its own
 pub sought_covers : (s : BomSet) (own : DecoderState) (held : List ℕ) → ((k : OutputUnit) (n : ℕ) → decoded_length own.room k n ≤ decoded_length room_widest k n)
     → (k : OutputUnit) (n : ℕ) → sought_needs s own.needs held k n ≤ decoded_length room_widest k ((own.pending + length held) + n)
 sought_covers s own held bounded k n =

@@ -69,7 +69,7 @@ counts_of_digits : map row_in (codes "\t0x0080" ∷ codes "0000007\t0x0080" ∷ 
 unfolding row_in
 counts_of_digits = refl
 
--- spaces before the pointer alone, one tab and `0x` before the code point, and a tab behind it
+-- spaces before the pointer alone, one tab and `0x` before the code point, and a tab after it
 separators : map row_in (codes " 0 \t0x0080" ∷ codes "0\t\t0x0080" ∷ codes "0 0x0080" ∷ codes "0\t0X0080" ∷ codes "0\t0080" ∷ codes "0\t0x0080 " ∷ [])
     ≡ replicate 6 None
 unfolding row_in

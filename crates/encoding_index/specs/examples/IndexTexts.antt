@@ -92,7 +92,7 @@ last_pointer : first_fault 128 (codes "127\t0x0080") ≡ None
 unfolding is_skipped row_in row_fault
 last_pointer = refl
 
--- a line that breaks off, behind a whole one
+-- a line that breaks off, after a whole one
 no_tab : first_fault 128 (codes "0\t0x0080\n1 0x0081") ≡ fault_at 2 Row
 unfolding is_skipped row_in row_fault
 no_tab = refl

@@ -11,7 +11,7 @@ abbrev pub outcome_of : ℕ → ℕ → List ℕ → Result (ℕ × ℕ) IndexFa
 outcome_of size least line =
     elim (row_in line) [ None ↦ Err Row | Some row ↦ elim (row_fault size least row) [ None ↦ Ok row | Some kind ↦ Err kind ] ]
 
--- the outcomes of lines, of which the first has the number `number + 1`, where pointers from `least` are in order
+-- the outcomes of lines, of which the first has the number `number + 1`, if pointers from `least` are in order
 abbrev pub outcomes : ℕ → ℕ → ℕ → List (List ℕ) → List (Result (ℕ × ℕ) IndexFault)
 outcomes size least number [] = []
 outcomes size least number (line ∷ after) =

@@ -31,7 +31,7 @@ replacement_len is_units = if is_units then 1 else 3
 abbrev pub two_in : (is_units : Bool) → ℕ
 two_in is_units = if is_units then 2 else 4
 
--- the room wanted at a malformed sequence: its U+FFFD's, and what is wanted after it if the count
+-- the room needed at a malformed sequence: its U+FFFD's, and what is needed after it if the count
 -- goes on
 abbrev pub left_after : (counts : Bool) (mark more : ℕ) → ℕ
 left_after counts mark more = if counts then mark + more else mark

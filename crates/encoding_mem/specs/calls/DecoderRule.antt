@@ -20,8 +20,8 @@ pub record IsFirstPiece (before after : List ℕ → List Piece) (bytes : List �
   pub within : piece_len p ≤ length bytes
   pub rest : (r : List ℕ) → (IsTrue last → r ≡ []) → before (bytes ++ r) ≡ p ∷ after (drop (piece_len p) bytes ++ r)
 
--- a rule's report of some bytes is true: their first piece, or that more are wanted, since fewer
--- than six are there, which do not decide it and are not the last of the input
+-- a rule's report of some bytes is true: their first piece, or that more are needed, since fewer than
+-- six are there, which do not decide it and are not the last of the input
 abbrev pub TellsFirstPiece : (before after : List ℕ → List Piece) → List ℕ → Bool → FirstPiece → Type 0
 TellsFirstPiece before after bytes last More = (last ≡ false) × (length bytes < 6) × IsUndecided before bytes × IsSoon before bytes
 TellsFirstPiece before after bytes last (One c n) = IsFirstPiece before after bytes last (well_formed n (c ∷ []))
@@ -29,8 +29,8 @@ TellsFirstPiece before after bytes last (Two c d n) = IsFirstPiece before after 
 TellsFirstPiece before after bytes last (Ignored n) = IsFirstPiece before after bytes last (well_formed n [])
 TellsFirstPiece before after bytes last (Malformed n) = IsFirstPiece before after bytes last (malformed n) × (n ≤ 4)
 
--- In each output unit the room wanted for a first piece and m bytes after it (all that are left,
--- if the input ends there) is enough for its text and then for the m (`left_after`, if malformed).
+-- In each output unit the room needed for a first piece and m bytes after it (all that are left, if
+-- the input ends there) is enough for its text and then for the m (`left_after`, if malformed).
 abbrev pub HasRoomFor : (before after : OutputUnit → ℕ → ℕ) (len : ℕ) (last : Bool) → FirstPiece → Type 0
 HasRoomFor before after len last More = Unit {0}
 HasRoomFor before after len last (One c n) = (k : OutputUnit) (m : ℕ) → (IsTrue last → n + m ≡ len) → cost_in (is_units k) c + after k m ≤ before k (n + m)
@@ -47,8 +47,8 @@ IsNotLonger (Two c d n) = ⊥
 IsNotLonger (Ignored n) = Unit {0}
 IsNotLonger (Malformed n) = 0 < n
 
--- a rule's report of a first piece is one scalar below U+10000 or a malformed sequence, of one
--- byte at least, or that more bytes are wanted
+-- a rule's report of a first piece is one scalar below U+10000 or a malformed sequence, of one byte
+-- at least, or that more bytes are needed
 abbrev pub IsBasic : FirstPiece → Type 0
 IsBasic More = Unit {0}
 IsBasic (One c n) = (c < 0x10000) × (0 < n)

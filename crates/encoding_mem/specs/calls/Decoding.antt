@@ -9,15 +9,15 @@ use Rattle.encoding_mem.specs.declared.decoder_result.DecoderResult.{DecoderResu
 use Rattle.encoding_mem.specs.declared.decoder_result.DecoderResult.TheVariants.{InputEmpty, OutputFull, Malformed}
 use Rattle.encoding_mem.specs.Decided.{IsUndecided}
 
--- A decoder, as its callers know it: the pieces of what is pending and of the bytes that follow,
--- how many bytes are pending, the most room that a call wants, and its decoded length.
+-- A decoder, as its callers know it: the pieces of what is pending and of the bytes that follow, how
+-- many bytes are pending, the most room that a call needs, and its decoded length.
 pub record DecoderState : Type 0 where
   pub pieces : List ℕ → List Piece
   pub pending : ℕ
   -- joined, the pieces are the pending bytes and those that follow
   pub whole : (x : List ℕ) → sizes (pieces x) ≡ pending + length x
   pub are_pieces : (x : List ℕ) → ArePieces (pieces x)
-  -- the most room that a call wants free for so many new bytes, and what is returned to those who ask
+  -- the most room that a call needs free for so many new bytes, and what is returned to those who ask
   pub needs : OutputUnit → ℕ → ℕ
   pub room : DecodedLength
   pub covers : (k : OutputUnit) (n : ℕ) → needs k n ≤ decoded_length room k (pending + n)

@@ -1,4 +1,4 @@
--- What the driver of a rule does, where its state is known by the rule's pieces and by what is pending.
+-- What the driver of a rule does, when its state is known by the rule's pieces and by what is pending.
 use Rattle.std.specs.Prelude.{◌≡◌, ℕ, ◌+◌, ◌-◌, ◌≤◌, ◌<◌, ◌⊎◌, Bool, false, IsTrue, Option, Some, None, List, [], ◌++◌, length, drop}
 use Rattle.std.proofs.Common.{◌∙◌, length-append}
 use Rattle.encoding_mem.specs.Piece.{Piece, malformed, head_piece, piece_len, piece_scalars, piece_text, sizes, IsWellFormedPiece, AreWellFormed, ArePieces}

@@ -15,8 +15,8 @@ abbrev pub IsSetOfNext : Coding → EscapeState → (next : List ℕ) → Escape
 IsSetOfNext e q [] s' = ⊥
 IsSetOfNext e q (c ∷ t) s' = s' ≡ e.set q c
 
--- What is left of a text that follows what an encoder's call wrote: nothing, in ASCII if it was
--- the last; for want of room all, perhaps in its set; or all after a first, unmappable character.
+-- What is left of a text that follows what an encoder's call wrote: nothing, in ASCII if it was the
+-- last; for lack of room all, perhaps in its set; or all after a first, unmappable character.
 abbrev pub Leaves : Coding → Bool → EncoderResult → EscapeState → (next rest : List ℕ) → EscapeState → Type 0
 Leaves e last InputEmpty q next rest s' = (next ≡ []) × (rest ≡ []) × (s' ≡ (if last then Ascii else q))
 Leaves e last OutputFull q next rest s' = (next ≡ rest) × ((s' ≡ q) ⊎ IsSetOfNext e q next s')

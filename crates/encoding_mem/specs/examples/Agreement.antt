@@ -57,7 +57,7 @@ none_left taken is left = rest (subst (λ l. (drop (sizes l) half ≡ []) ⊎ Is
 half_does_not_agree : ¬ (AgreesWith utf8_coding pieces_utf8 half (0x41 ∷ []))
 half_does_not_agree h = none_left h.taken (letter_alone (malformed 1) h.taken (h.decided []).0 (sym pieces_of_half ∙ (h.decided []).1) h.same (lit< tt)) h.left
 
--- one escape may be left behind `A`, and two may not
+-- one escape may be left after `A`, and two may not
 escape_agrees : AgreesWith sample_coding (λ x. letter ∷ []) (0x41 ∷ 0x1B ∷ 0x28 ∷ 0x4A ∷ []) (0x41 ∷ [])
 escape_agrees = record {
   taken = letter ∷ [];

@@ -2,7 +2,7 @@
 use Rattle.std.specs.Prelude.{◌≡◌, Bool, true, false, List, [], ◌∷◌, map, refl}
 use Rattle.encoding_mem.specs.Bidi.{is_bidi_char, is_bidi_unit}
 
--- the first and the last of a range, between the characters before and behind it
+-- the first and the last of a range, between the characters before and after it
 abbrev ends_alone : List Bool
 ends_alone = false ∷ true ∷ true ∷ false ∷ []
 

@@ -72,7 +72,7 @@ emoji : is_bidi_bytes 0xF0 0x9F 0x98 ≡ false
 emoji = refl
 
 -- the first bytes: those of Armenian and Hebrew, of the Arabic extensions and of Georgian, of the controls and of kana,
--- of private use and of the presentation forms, of the supplements and of the planes behind
+-- of private use and of the presentation forms, of the supplements and of the later planes
 armenian_lead : is_bidi_lead 0xD5 ≡ false
 armenian_lead = refl
 

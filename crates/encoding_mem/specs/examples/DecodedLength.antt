@@ -61,7 +61,8 @@ longest_in_units = refl
 longest_in_bytes : two_in false ≡ 4
 longest_in_bytes = refl
 
--- room behind a malformed sequence is wanted too, but where the caller is told of it and calls again
+-- room after a malformed sequence is needed too, unless it is reported to the caller, who calls
+-- again
 behind_replacement : left_after true 3 7 ≡ 10
 behind_replacement = refl
 

@@ -9,15 +9,15 @@ use Rattle.encoding_mem.specs.Utf8.{pieces_utf8}
 use Rattle.encoding_mem.specs.declared.decoder_result.DecoderResult.TheVariants.{InputEmpty, Malformed}
 use Rattle.encoding_mem.specs.Decided.{AreBytes, IsDecided, IsUndecided}
 
--- a malformed sequence of two bytes is told of at the offset where it ends
+-- a malformed sequence of two bytes is reported at the offset where it ends
 told_of : reported_event (Malformed 2 1) 5 ≡ malformed_at 2 5 ∷ []
 told_of = refl
 
--- a call took `A` and a malformed sequence of four bytes, and has read two bytes behind it
+-- a call took `A` and a malformed sequence of four bytes, and has read two bytes after it
 four_and_two : Reports (Malformed 4 2) 2 (well_formed 1 (0x41 ∷ []) ∷ malformed 4 ∷ [])
 four_and_two = (refl, omega arith, omega arith, omega arith, (well_formed 1 (0x41 ∷ []) ∷ [], (tt, tt), refl))
 
--- three bytes behind one of three, but not of four; no longer one, and no more behind it
+-- three bytes after one of three, but not of four; no longer one, and no more after it
 three_and_three : Reports (Malformed 3 3) 3 (malformed 3 ∷ [])
 three_and_three = (refl, omega arith, omega arith, omega arith, ([], tt, refl))
 
@@ -34,12 +34,12 @@ not_four_behind reports = absurd (omega (arith, reports.2))
 not_untold : ¬ (Reports InputEmpty 0 (malformed 1 ∷ []))
 not_untold reports = reports.0
 
--- E2 82 may be the start of a character, and what AC behind it makes of it is another piece
+-- E2 82 may be the start of a character, and what AC after it makes of it is another piece
 prefix_is_undecided : IsUndecided pieces_utf8 (0xE2 ∷ 0x82 ∷ [])
 unfolding pieces_in
 prefix_is_undecided = record { more = 0xAC ∷ []; bytes = (omega arith, tt); short = omega arith; differs = λ e. cc }
 
--- with `A` behind them they are a malformed sequence, whatever follows
+-- with `A` after them they are a malformed sequence, whatever follows
 malformed_is_decided : IsDecided pieces_utf8 (0xE2 ∷ 0x82 ∷ 0x41 ∷ []) (malformed 2 ∷ well_formed 1 (0x41 ∷ []) ∷ [])
 unfolding pieces_in
 malformed_is_decided = λ r bytes. (_, refl)
@@ -93,8 +93,8 @@ wide_is_not_undecided undecided = by undecided.more undecided.bytes undecided.di
     by [] bytes differs = differs refl
     by (b ∷ x) bytes differs = differs (ap head_piece (sym (no_byte_changes b x bytes)))
 
--- The pieces behind 1B 28 42 1B 28, which are pending in ISO-2022-JP: with 42 the first escape is a malformed sequence of
--- three bytes, else it stands for nothing.
+-- The pieces after 1B 28 42 1B 28, which are pending in ISO-2022-JP: with 42 the first escape is a malformed sequence
+-- of three bytes, else it stands for nothing.
 abbrev behind_escape : List ℕ → List Piece
 behind_escape [] = well_formed 3 [] ∷ malformed 1 ∷ well_formed 1 (0x28 ∷ []) ∷ []
 behind_escape (b ∷ x) = if nat_eq b 0x42 then malformed 3 ∷ [] else well_formed 3 [] ∷ []
@@ -124,7 +124,7 @@ six_do_not_wait pieces waits = absurd (omega (arith, waits.short))
 three_behind_do_not_wait : ¬ (Waits (λ x. well_formed 2 [] ∷ []) 5)
 three_behind_do_not_wait waits = absurd (omega (arith, waits.soon [] (well_formed 2 []) refl))
 
--- `A` and a malformed sequence of two bytes: `A` is taken where it ends three bytes before the end, and not before
+-- `A` and a malformed sequence of two bytes: `A` is taken when it ends three bytes before the end, and not before
 abbrev letter_and_two : List ℕ → List Piece
 letter_and_two x = well_formed 1 (0x41 ∷ []) ∷ malformed 2 ∷ []
 

@@ -4,7 +4,7 @@ use Rattle.encoding_mem.specs.calls.DecodedLength.{checked, bound_at}
 use Rattle.encoding_mem.specs.calls.EncodedLength.{bound_for, encoded_length_utf8, encoded_length_single_byte, encoded_length_two_byte, encoded_length_gb18030, encoded_length_iso_2022_jp}
 use Rattle.encoding_mem.specs.declared.room.EncodedLength.{EncodedLength}
 
--- the room for n units or n bytes of text; none where it passes a usize
+-- the room for n units or n bytes of text; none if it passes a usize
 abbrev room_for : EncodedLength → (is_units : Bool) → ℕ → Option ℕ
 room_for room is_units n = checked (bound_at (bound_for room is_units) n)
 

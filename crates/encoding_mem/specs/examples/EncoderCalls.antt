@@ -36,6 +36,6 @@ pub escape_before_note : open_items Decimal sample_coding Jis 7 (0xE9 ∷ [])
 unfolding digits
 escape_before_note = refl
 
--- the escape to ASCII ends a text in JIS, where it is the last
+-- the escape to ASCII ends a text in JIS, if it is the last
 pub final_escape : output Decimal sample_coding (0x3042 ∷ []) ≡ 0x1B ∷ 0x24 ∷ 0x42 ∷ 0x24 ∷ 0x22 ∷ 0x1B ∷ 0x28 ∷ 0x42 ∷ []
 final_escape = refl

@@ -46,7 +46,7 @@ lost_behind_malformed : trace_from Decimal sample_coding Ascii 0 0 (well_formed 
 unfolding digits
 lost_behind_malformed = refl
 
--- the two characters of one pair of bytes have an index each; behind them the offset is 2 and the index also
+-- the two characters of one pair of bytes have an index each; after them the offset is 2 and the index also
 both_of_pair : trace_from Decimal sample_coding Ascii 0 0 (well_formed 2 (0xCA ∷ 0x304 ∷ []) ∷ malformed 1 ∷ [])
     ≡ (LostAt 0 0xCA ∷ map Byte (codes "&#202;")) ++ ((LostAt 1 0x304 ∷ map Byte (codes "&#772;"))
     ++ (MalformedAt 2 1 ∷ LostAt 2 0xFFFD ∷ map Byte (codes "&#65533;")))
@@ -59,14 +59,14 @@ ignored_bytes : trace_from Decimal sample_coding Ascii 0 0 (well_formed 3 [] ∷
 unfolding digits
 ignored_bytes = refl
 
--- behind あ the note of a malformed sequence stands before the escape to ASCII, and the note of the loss behind it
+-- after あ the note of a malformed sequence stands before the escape to ASCII, and the note of the loss after it
 escape_between_notes : trace_from Decimal sample_coding Ascii 0 0 (well_formed 2 (0x3042 ∷ []) ∷ malformed 1 ∷ [])
     ≡ map Byte (0x1B ∷ 0x24 ∷ 0x42 ∷ 0x24 ∷ 0x22 ∷ [])
     ++ ((MalformedAt 2 1 ∷ map Byte (0x1B ∷ 0x28 ∷ 0x42 ∷ [])) ++ (LostAt 1 0xFFFD ∷ map Byte (codes "&#65533;")))
 unfolding digits
 escape_between_notes = refl
 
--- the escape to ASCII ends the output, also where nothing is left to be read
+-- the escape to ASCII ends the output, even if nothing is left to be read
 escape_at_the_end : trace_from Decimal sample_coding Ascii 0 0 (well_formed 2 (0x3042 ∷ []) ∷ [])
     ≡ map Byte (0x1B ∷ 0x24 ∷ 0x42 ∷ 0x24 ∷ 0x22 ∷ 0x1B ∷ 0x28 ∷ 0x42 ∷ [])
 escape_at_the_end = refl
@@ -74,7 +74,7 @@ escape_at_the_end = refl
 nothing_left : trace_from Decimal sample_coding Jis 9 4 [] ≡ map Byte (0x1B ∷ 0x28 ∷ 0x42 ∷ [])
 nothing_left = refl
 
--- a target for examples that has U+FFFD, as 22 2E in JIS: the set stays behind a malformed sequence
+-- a target for examples that has U+FFFD, as 22 2E in JIS: the set stays after a malformed sequence
 abbrev with_replacement : Coding
 with_replacement = record {
   form = λ c. if nat_eq c 0xFFFD then Mapped (0x22 ∷ 0x2E ∷ []) else sample_coding.form c;

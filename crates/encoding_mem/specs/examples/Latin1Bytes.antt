@@ -20,7 +20,7 @@ example_first = refl
 example_last : is_latin1_pair 0xC3 0xBF ≡ true
 example_last = refl
 
--- U+0100 is C4 80; C1 begins nothing; a lead has one continuation byte, and wants it
+-- U+0100 is C4 80; C1 begins nothing; a lead has one continuation byte, and needs it
 example_above : is_latin1_pair 0xC4 0x80 ≡ false
 example_above = refl
 

@@ -12,7 +12,7 @@ use Rattle.encoding_mem.specs.laws.Utf8.{cuts_utf8}
 use Rattle.encoding_mem.specs.declared.reference.Reference.TheVariants.{Decimal}
 use Rattle.encoding_mem.specs.declared.form.EscapeState.TheVariants.{Ascii}
 
--- behind C3, and behind `A`
+-- after C3, and after `A`
 abbrev behind_c3 : List ℕ → List Piece
 behind_c3 x = pieces_utf8 (0xC3 ∷ x)
 
@@ -81,8 +81,8 @@ nothing_reads : ReadsWhole Decimal utf8_coding pieces_utf8 Ascii []
 unfolding pieces_in
 nothing_reads = record { well_formed = tt; same = refl }
 
--- where `A` was read and written as itself, a verdict does not become false; where another character was, it does not
--- stay true
+-- if `A` was read and written as itself, a verdict does not become false; if another character was, it does not stay
+-- true
 no_verdict_is_given_up : ¬ (KeepsVerdict utf8_coding false true pieces_utf8 Ascii (0x41 ∷ []) false pieces_utf8 Ascii [])
 no_verdict_is_given_up keeps = untrue ((keeps Decimal [] (λ last. refl)).0 (refl, letter_reads)).0
   where

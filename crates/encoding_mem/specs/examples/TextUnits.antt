@@ -21,6 +21,6 @@ ends_three = refl
 begins_four : size_from_lead 0xF0 ≡ 4
 begins_four = refl
 
--- the continuation byte behind ASCII, which begins none
+-- the continuation byte after ASCII, which begins none
 behind_ascii : size_from_lead 0x80 ≡ 2
 behind_ascii = refl

@@ -45,7 +45,7 @@ pub first_above_latin1 : chars (0xC4 ∷ 0x80 ∷ []) ≡ 0x100 ∷ []
 unfolding chars
 first_above_latin1 = refl
 
--- Of a text destination, what is behind the written part: the rest of `é`, and a letter that stays.
+-- Of a text destination, what is after the written part: the rest of `é`, and a letter that stays.
 pub rest_is_cleared : cleared (0xA9 ∷ 0x42 ∷ []) ≡ 0 ∷ 0x42 ∷ []
 rest_is_cleared = refl
 
@@ -77,7 +77,7 @@ three_or_four = omega arith
 abbrev bytes_before : List ℕ → ℕ → ℕ
 bytes_before units i = length (units_in_utf8 (take i units))
 
--- `A€` into three bytes: the three of the euro sign do not fit behind the letter.
+-- `A€` into three bytes: the three of the euro sign do not fit after the letter.
 abbrev letter_and_euro : List ℕ
 letter_and_euro = 0x41 ∷ 0x20AC ∷ []
 
@@ -139,7 +139,7 @@ accent_is_none (suc (suc m)) more le ascii = let first = ascii 1 in absurd (omeg
 pub ascii_ends_before_the_accent : IsLongestPrefix IsAscii letter_and_accent 1
 ascii_ends_before_the_accent = record { within = omega arith; well_formed = all_of_letter; longest = accent_is_none }
 
--- a prefix is not the longest where the next byte is ASCII too
+-- a prefix is not the longest if the next byte is ASCII too
 all_of_letters : (i : ℕ) → slice_index (0x41 ∷ 0x42 ∷ []) i < 0x80
 all_of_letters zero = omega arith
 all_of_letters (suc zero) = omega arith

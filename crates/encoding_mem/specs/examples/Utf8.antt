@@ -66,7 +66,7 @@ three_then_letter : pieces_utf8 (0xF0 ∷ 0x9F ∷ 0x92 ∷ 0x41 ∷ []) ≡ mal
 unfolding pieces_in
 three_then_letter = refl
 
--- a malformed sequence of two bytes out of four, behind either lead with a narrow second byte
+-- a malformed sequence of two bytes out of four, after either lead with a narrow second byte
 two_of_four : pieces_utf8 (0xF0 ∷ 0x90 ∷ 0x41 ∷ 0xF4 ∷ 0x8F ∷ 0x41 ∷ [])
     ≡ malformed 2 ∷ well_formed 1 (0x41 ∷ []) ∷ malformed 2 ∷ well_formed 1 (0x41 ∷ []) ∷ []
 unfolding pieces_in

@@ -17,6 +17,6 @@ letter_and_pair = refl
 ends_of_pairs : encode_utf16_all (0xFFFF ∷ 0x10000 ∷ 0x10FFFF ∷ []) ≡ 0xFFFF ∷ 0xD800 ∷ 0xDC00 ∷ 0xDBFF ∷ 0xDFFF ∷ []
 ends_of_pairs = refl
 
--- where one of four was written, two are written behind it, and the last stays
+-- if one of four was written, two are written after it, and the last stays
 two_behind_one : Adds (0x61 ∷ 0x62 ∷ 0x63 ∷ 0x64 ∷ []) 1 (0x41 ∷ 0x42 ∷ []) (0x61 ∷ 0x41 ∷ 0x42 ∷ 0x64 ∷ []) 3
 two_behind_one = record { counted = refl; within = omega arith; list = refl }

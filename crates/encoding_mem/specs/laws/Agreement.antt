@@ -14,7 +14,7 @@ use Rattle.encoding_mem.specs.declared.reference.Reference.{Reference}
 use Rattle.encoding_mem.specs.declared.form.EscapeState.{EscapeState}
 use Rattle.encoding_mem.specs.declared.form.EscapeState.TheVariants.{Ascii}
 
--- ---- bytes behind bytes
+-- ---- bytes after bytes
 
 pub well_formed_parts : (a b : List Piece) → AreWellFormed (a ++ b) → AreWellFormed a × AreWellFormed b
 well_formed_parts [] b h = (tt, h)
@@ -111,7 +111,7 @@ open_reads ref e p steps s (c ∷ t) h =
       | inr broken ↦ inr (broken_stays (p s) (one_from ref e s c) (c ∷ []) (open_from ref e (e.set s c) t) t broken)
     ])
 
--- Whole pieces agree, also with an escape behind them; and where that is ignored at the end, all reads as the text.
+-- Whole pieces agree, also with an escape after them; and if that is ignored at the end, all reads as the text.
 follows_agrees : (e : Coding) (a b : List ℕ → List Piece) (bytes t escape : List ℕ) → Follows a b bytes t → (escape ≡ []) ⊎ IsEscape e escape → AgreesWith e a (bytes ++ escape) t
 follows_agrees e a b bytes t escape h is =
     let left : drop (sizes h.taken) (bytes ++ escape) ≡ escape = drop_at bytes escape (sizes h.taken) (sym h.whole) in

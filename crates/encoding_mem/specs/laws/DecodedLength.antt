@@ -29,7 +29,7 @@ short_ignored n Units m = omega arith
 short_ignored n Bytes m = omega arith
 short_ignored n Replaced m = omega arith
 
--- where no scalar has more bytes than it was read from
+-- if no scalar has more bytes than it was read from
 pub roomy_short : (len : ℕ) (last : Bool) (F : FirstPiece) → IsNotLonger F → HasRoomFor (decoded_length decoded_length_utf8) (decoded_length decoded_length_utf8) len last F
 roomy_short len last More s = tt
 roomy_short len last (One c n) s = λ k m _. short_one c n s k m
@@ -37,7 +37,7 @@ roomy_short len last (Two c d n) s = absurd s
 roomy_short len last (Ignored n) s = λ k m _. short_ignored n k m
 roomy_short len last (Malformed n) s = λ k m _. short_malformed n s k m
 
--- a text wants its bytes at most
+-- a text needs its bytes at most
 pub text_needs : (text : List ℕ) → IsUtf8 text → (k : OutputUnit) (m : ℕ) → text_len (is_units k) text + decoded_length decoded_length_utf8 k m ≤ decoded_length decoded_length_utf8 k (length text + m)
 text_needs text utf8 Units m = omega (arith, length-encode_utf16_chars text utf8)
 text_needs text utf8 Bytes m = omega arith
@@ -54,7 +54,7 @@ text_needs_multibyte text utf8 Units m = omega (arith, length-encode_utf16_chars
 text_needs_multibyte text utf8 Bytes m = omega arith
 text_needs_multibyte text utf8 Replaced m = omega arith
 
--- where each byte is a scalar of the basic plane
+-- if each byte is a scalar of the basic plane
 len_utf8_basic : (c : ℕ) → c < 0x10000 → len_utf8 c ≤ 3
 len_utf8_basic c basic = grind (arith, nat_tests)
 
@@ -99,7 +99,7 @@ modest_ignored n Units m = omega arith
 modest_ignored n Bytes m = omega arith
 modest_ignored n Replaced m = omega arith
 
--- where a scalar has at most three bytes for each that it was read from, and a unit at most
+-- if a scalar has at most three bytes for each that it was read from, and a unit at most
 pub roomy_modest : (len : ℕ) (last : Bool) (F : FirstPiece) → IsModest F → HasRoomFor (decoded_length decoded_length_multibyte) (decoded_length decoded_length_multibyte) len last F
 roomy_modest len last More s = tt
 roomy_modest len last (One c n) s = λ k m _. modest_one c n s.0 s.1 k m

@@ -51,7 +51,7 @@ single_byte form short false c = omega (arith, (short c).short, cost_some false 
 pub single_byte_room : (form : ℕ → Form) → ((c : ℕ) → FitsNeed 1 (form c)) → IsRoomFor (stateless form) encoded_length_single_byte
 single_byte_room form short = stateless_room form encoded_length_single_byte (single_byte form short)
 
--- of two bytes a character, and of four, where ASCII has one
+-- of two bytes a character, and of four, if ASCII has one
 two_byte : (form : ℕ → Form) → ((c : ℕ) → FitsNeed 2 (form c)) → ((c : ℕ) → c < 0x80 → FitsNeed 1 (form c)) → (t : Bool) (c : ℕ) → length (mapped_bytes (form c)) ≤ (bound_for encoded_length_two_byte t).factor * cost_in t c
 two_byte form short ascii true c = omega (arith, (short c).short, cost_some true c)
 two_byte form short ascii false c = elim (cases_lt c 0x80) [

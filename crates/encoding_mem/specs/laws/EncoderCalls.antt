@@ -74,7 +74,7 @@ open_from-append ref e s [] r = refl
 open_from-append ref e s (c ∷ t) r =
     rw (open_from-append ref e (e.set s c) t r, append_assoc (e.escape s (e.set s c)) _ _, append_assoc (spelled ref (e.form c)) _ _) refl
 
--- Where each character has bytes, the text stands for them, and there is nothing to note.
+-- If each character has bytes, the text stands for them, and there is nothing to note.
 items_of_bytes : (ref : Reference) (f : Form) (i : ℕ) → IsMapped f → form_items ref i f ≡ map Byte (mapped_bytes f)
 items_of_bytes ref (Mapped bs) i m = refl
 items_of_bytes ref (Unmapped c) i m = absurd m
@@ -111,7 +111,7 @@ whole-form : (ref : Reference) {need : ℕ} (e : Coding) (last : Bool) (q : Esca
     → whole_items ref e last (e.set q c) i (c ∷ r) ≡ form_items ref i (e.form c) ++ whole_items ref e last (e.set q c) (i + 1) r
 whole-form ref e last q i c r k = rw (k.stays q c, k.same (e.set q c)) (append_assoc (form_items ref i (e.form c)) _ _)
 
--- behind what was written before the next character, what is left of it
+-- after what was written before the next character, what is left of it
 behind_written : (w escape : List ℕ) (items more : List Item) → items ≡ map Byte escape ++ more → map Byte w ++ items ≡ map Byte (w ++ escape) ++ more
 behind_written w escape items more is = rw (is, map-append) (sym (append_assoc (map Byte w) (map Byte escape) more))
 

@@ -7,7 +7,7 @@ use Rattle.encoding_mem.specs.laws.Piece.{sizes-append}
 use Rattle.encoding_mem.specs.laws.ReadCalls.{apart_parts}
 use Rattle.encoding_mem.specs.declared.decoder_result.DecoderResult.TheVariants.{InputEmpty}
 
--- what was taken, where size bytes are these pieces and what is pending
+-- what was taken, if size bytes are these pieces and what is pending
 pub takes_soon : (before after : List ℕ → List Piece) (src : List ℕ) (last : Bool) (size pending : ℕ) (taken : List Piece)
     → size ≡ sizes taken + pending
     → ((r : List ℕ) → (IsTrue last → r ≡ []) → before (src ++ r) ≡ taken ++ after r)

@@ -18,7 +18,7 @@ use Rattle.encoding_mem.specs.declared.reference.Reference.{Reference}
 use Rattle.encoding_mem.specs.declared.form.Form.{Form}
 use Rattle.encoding_mem.specs.declared.form.Form.TheVariants.{Mapped, Unmapped}
 
--- a reference is never read as the character that it stands for, where `&` is itself and has bytes
+-- a reference is never read as the character that it stands for, if `&` is itself and has bytes
 lost_strays : (ref : Reference) (first_piece : List ℕ → Piece) (form : ℕ → Form) → ((x : List ℕ) → first_piece (0x26 ∷ x) ≡ well_formed 1 (0x26 ∷ [])) → IsMapped (form 0x26)
     → (c : ℕ) → ¬ (IsMapped (form c)) → Strays first_piece (spelled ref (form c)) c
 lost_strays ref first_piece form ampersand has c lost = by (form c) refl

@@ -1,4 +1,4 @@
--- Pieces in a row, and more pieces behind them.
+-- Pieces in a row, and more pieces after them.
 use Rattle.std.proofs.Common.{◌≡◌, ◌+◌, List, [], ◌∷◌, ◌++◌, refl, sym, ◌∙◌, ap, arith, append_assoc}
 use Rattle.encoding_mem.specs.Piece.{Piece, piece_scalars, piece_text, sizes, scalars, text, IsWellFormedPiece, AreWellFormed, ArePieces}
 

@@ -29,7 +29,7 @@ pieces_in-cons first_piece after cuts m b x =
     let len : length rest ≡ length (b ∷ x) - piece_len (first_piece m (b ∷ x)) = length-drop (piece_len (first_piece m (b ∷ x))) (b ∷ x) in
     ap (λ r. first_piece m (b ∷ x) ∷ r) (within_enough first_piece after cuts (length x) (length rest) (after m (b ∷ x)) rest (omega (arith, len, some)) (omega arith))
 
--- the same where the bytes are not taken apart
+-- the same if the bytes are not taken apart
 pub pieces_in-first : {M : Type 0} (first_piece : M → List ℕ → Piece) (after : M → List ℕ → M) → AllCut first_piece → (m : M) (x : List ℕ) → 0 < length x → pieces_in first_piece after m x ≡ first_piece m x ∷ pieces_in first_piece after (after m x) (drop (piece_len (first_piece m x)) x)
 pieces_in-first first_piece after cuts m [] h = absurd (omega (arith, h))
 pieces_in-first first_piece after cuts m (b ∷ x) h = pieces_in-cons first_piece after cuts m b x
@@ -58,7 +58,7 @@ pub pieces_in-are_pieces : {M : Type 0} (first_piece : M → List ℕ → Piece)
 unfolding pieces_in
 pieces_in-are_pieces first_piece after cuts m x = pieces_are_within first_piece after cuts (length x) m x
 
--- The same where there is one mode.
+-- The same if there is one mode.
 abbrev pub CutsEach : (List ℕ → Piece) → Type 0
 CutsEach prefix = (b : ℕ) (x : List ℕ) → Cuts (prefix (b ∷ x)) (1 + length x)
 

@@ -22,7 +22,7 @@ pub text_pieces-text : (t : List ℕ) → text (text_pieces t) ≡ t
 text_pieces-text [] = refl
 text_pieces-text (c ∷ t) = ap (λ x. c ∷ x) (text_pieces-text t)
 
--- A target loses nothing of a text exactly where each scalar has bytes.
+-- A target loses nothing of a text exactly when each scalar has bytes.
 mapped_form : (f : Form) → unmapped_count f ≡ 0 → IsMapped f
 mapped_form (Mapped bs) h = tt
 mapped_form (Unmapped c) h = absurd (omega (arith, h))

@@ -26,7 +26,7 @@ use Rattle.encoding_mem.specs.declared.encoder_result.EncoderResult.{EncoderResu
 use Rattle.encoding_mem.specs.declared.encoder_result.EncoderResult.TheVariants.{InputEmpty, OutputFull, Unmappable}
 use Rattle.encoding_mem.specs.Decided.{AreBytes, IsDecided}
 
--- ---- a call behind an escape
+-- ---- a call after an escape
 
 -- An escape to s that was written for the next character, and what a call from s writes, is what a call writes from the
 -- set before the escape.
@@ -158,7 +158,7 @@ reads_from e p k last outcome q t w s' rest h c =
     let reads = reads_leaves e p k last outcome q (last_set e q c.before) (bytes_from e q c.before) c.before c.next rest s' parts.1 c.leaves (reads_before e p k q c.before parts.0 c.mapped) in
     (reads.0, c.split ∙ reads.1, subst (λ y. PrefixIsRead e p (p q) last outcome reads.0 y s' rest) (sym c.bytes) reads.2)
 
--- ---- a call behind what the decoder has pending
+-- ---- a call after what the decoder has pending
 
 broken_past : (P pieces : List ℕ → List Piece) (y w t : List ℕ) → ((x : List ℕ) → pieces x ≡ P (y ++ x)) → IsBroken P (y ++ w) t → IsBroken pieces w t
 broken_past P pieces y w t is h = record {
@@ -211,7 +211,7 @@ nothing_more pieces after [] h is = refl
 nothing_more pieces after (p ∷ m) (inl none) is = let never : [] ≡ p ∷ (m ++ after []) = sym none ∙ is [] in absurd (cc)
 nothing_more pieces after (p ∷ m) (inr waits) is = decides_nothing pieces [] (p ∷ m) waits (λ r bytes. (after r, is r))
 
--- of two lists of pieces behind which nothing is decided, whatever follows
+-- of two lists of pieces after which nothing is decided, whatever follows
 same_taken : (a b : List Piece) (F G : List ℕ → List Piece) → DecidesNothing F → DecidesNothing G → ((r : List ℕ) → a ++ F r ≡ b ++ G r) → a ≡ b
 same_taken a b F G none nothing is = elim (apart_parts a b (F []) (G []) (is [])) [
   | inl m ↦
@@ -248,7 +248,7 @@ decided_of_read pieces w t Holds h d is =
     nothing_decided pieces w taken (p ∷ m) behind (inr waits) rest is =
         decides_nothing behind [] (p ∷ m) waits (λ r bytes. let then = is r bytes in (then.0, append_cancel_left taken (behind r) ((p ∷ m) ++ then.0) (sym (rest r) ∙ then.1)))
 
--- What a decoder has taken of the bytes, where it has decided what can be, is their text, and the decoder is behind it.
+-- What a decoder has taken of the bytes, if it has decided what can be, is their text, and the decoder is after it.
 pub taken_of_read : (pieces : List ℕ → List Piece) (w t : List ℕ) (Holds : (List ℕ → List Piece) → Type 0) → (h : IsReadUpTo pieces w t Holds) → (d : List Piece) (after : List ℕ → List Piece)
     → ((r : List ℕ) → pieces (w ++ r) ≡ d ++ after r) → DecidesNothing after → AreWellFormed d × (text d ≡ t) × ((r : List ℕ) → after r ≡ h.behind r)
 taken_of_read pieces w t Holds h d after is nothing =
@@ -258,7 +258,7 @@ taken_of_read pieces w t Holds h d after is nothing =
       λ r. append_cancel_left d (after r) (h.behind r) (sym (is r) ∙ h.rest r ∙ ap (λ l. l ++ h.behind r) (sym same)),
     )
 
--- Where it has taken the text, the bytes are not broken.
+-- If it has taken the text, the bytes are not broken.
 pub taken_is_not_broken : (pieces : List ℕ → List Piece) (w t : List ℕ) (d : List Piece) (after : List ℕ → List Piece) → ((r : List ℕ) → pieces (w ++ r) ≡ d ++ after r) → DecidesNothing after
     → AreWellFormed d → text d ≡ t → ¬ (IsBroken pieces w t)
 taken_is_not_broken pieces w t d after is nothing good same broken =
@@ -281,7 +281,7 @@ same_holds e p false InputEmpty s' rest P Q is h = record { decided = h.decided;
 same_holds e p last OutputFull s' rest P Q is h = record { decided = h.decided; next = h.next; same = λ x. is x ∙ h.same x }
 same_holds e p last (Unmappable m) s' rest P Q is h = absurd h
 
--- Where the pieces of the bytes have the text, what follows reads as it did.
+-- If the pieces of the bytes have the text, what follows reads as it did.
 pub reads_on : (pieces after : List ℕ → List Piece) (w t : List ℕ) (d : List Piece) → ((r : List ℕ) → pieces (w ++ r) ≡ d ++ after r) → AreWellFormed d → text d ≡ t
     → (x u : List ℕ) → ReadsAs pieces (w ++ x) (t ++ u) ↔ ReadsAs after x u
 reads_on pieces after w t d is good same x u = (
@@ -358,7 +358,7 @@ call_read e p pieces last outcome s t w s' rest c kept prefix split =
     let same : reads.0 ≡ prefix = same_prefix t reads.0 prefix rest reads.1 split in
     either_read e p pieces last outcome prefix w s' rest kept (subst (λ l. PrefixIsRead e p pieces last outcome l w s' rest) same reads.2)
 
--- Where the decoder has taken what the call read, it reads along, and what is to come reads as before.
+-- If the decoder has taken what the call read, it reads along, and what is to come reads as before.
 agreed_holds : (e : Coding) (p : EscapeState → List ℕ → List Piece) (pieces now : List ℕ → List Piece) (last : Bool) (outcome : EncoderResult) (s : EscapeState) (t w : List ℕ) (s' : EscapeState) (rest : List ℕ)
     → CallsAlong e p pieces last outcome s t w s' rest → IsNotUnmappable outcome → (prefix : List ℕ) → t ≡ prefix ++ rest → (taken : List Piece) → HasTaken pieces now w taken → AreWellFormed taken → text taken ≡ prefix
     → HoldsAfter e p last outcome s' rest now
@@ -375,7 +375,7 @@ agreed_whole e pieces now last outcome s t w s' rest coding c kept prefix split 
     let all : t ++ u ≡ prefix ++ (rest ++ u) = ap (λ l. l ++ u) split ∙ append_assoc prefix rest u in
     rw (whole, all) (reads_on pieces now w prefix taken has good same (whole_from ref e s' (rest ++ u)) (rest ++ u))
 
--- Where it has taken another text, or a malformed sequence, what is to come is never read as the text.
+-- If it has taken another text, or a malformed sequence, what is to come is never read as the text.
 broken_whole : {need : ℕ} (e : Coding) (pieces : List ℕ → List Piece) (last : Bool) (outcome : EncoderResult) (s : EscapeState) (t w : List ℕ) (s' : EscapeState) (rest : List ℕ) → IsCoding need e
     → Encodes e last outcome s t w s' rest → (prefix : List ℕ) → t ≡ prefix ++ rest → ((ref : Reference) → IsBroken pieces (w ++ reported_bytes ref outcome) prefix) → NeverReadsWhole e last pieces s t
 broken_whole e pieces last outcome s t w s' rest coding c prefix split broken ref u ends =
@@ -416,15 +416,15 @@ differing_part_never_reads e p pieces last outcome s t w s' rest c kept prefix s
   | inr broken ↦ broken_call e pieces last outcome s t w s' rest c.coding c.encodes prefix split broken
 ]
 
--- Nor is it where a character is lost.
+-- Nor is it if a character is lost.
 pub lost_never_reads : (e : Coding) (p : EscapeState → List ℕ → List Piece) (pieces : List ℕ → List Piece) (last : Bool) (m : ℕ) (s : EscapeState) (t w : List ℕ) (s' : EscapeState) (rest : List ℕ)
     → CallsAlong e p pieces last (Unmappable m) s t w s' rest → NeverReadsWhole e last pieces s t
 lost_never_reads e p pieces last m s t w s' rest c =
     let reads = reads_call e p pieces last (Unmappable m) s t w s' rest c in
     broken_whole e pieces last (Unmappable m) s t w s' rest c.coding c.encodes reads.0 reads.1 reads.2
 
--- Reading along begins where nothing was read, or all of it was decided; a text that was read leaves the next to be read;
--- and it ends where nothing is left.
+-- Reading along begins when nothing was read, or all of it was decided; a text that was read leaves the next to be
+-- read; and it ends when nothing is left.
 pub begins_along : {need : ℕ} (e : Coding) (p : EscapeState → List ℕ → List Piece) → IsCoding need e → (pieces : List ℕ → List Piece) (s : EscapeState) (t : List ℕ) → ((x : List ℕ) → pieces x ≡ p s x) → ReadsAlong e p pieces s t
 begins_along e p coding pieces s t is = record { decided = s; next = inl refl; same = λ x. is x ∙ ap (λ y. p s (y ++ x)) (sym (coding.same s)) }
 

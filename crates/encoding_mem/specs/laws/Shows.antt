@@ -125,11 +125,11 @@ shows_first_piece_in first_piece after cuts m m' x last (Two c d n) h t s = (is_
 shows_first_piece_in first_piece after cuts m m' x last (Ignored n) h t s = is_first first_piece after cuts m m' x last (well_formed n []) h (t (λ e. cc)) s
 shows_first_piece_in first_piece after cuts m m' x last (Malformed n) h t s = (is_first first_piece after cuts m m' x last (malformed n) h (t (λ e. cc)) s.0, s.1)
 
--- the same where there is one mode
+-- the same if there is one mode
 pub shows_first_piece : (first_piece : List ℕ → Piece) → CutsEach first_piece → (x : List ℕ) (last : Bool) (F : FirstPiece) → 0 < length x → Shows first_piece 0 x last F → TellsFirstPiece (pieces_by first_piece) (pieces_by first_piece) x last F
 shows_first_piece first_piece cuts x last F h s = shows_first_piece_in {M = Unit {0}} (λ _. first_piece) (λ m _. m) (λ _. cuts) tt tt x last F h (λ _ _ _. refl) s
 
--- where the first byte decides, nothing is undecided
+-- if the first byte decides, nothing is undecided
 pub decided_in : {M : Type 0} (first_piece : M → List ℕ → Piece) (after : M → List ℕ → M) → AllCut first_piece → ((m : M) (b : ℕ) (x y : List ℕ) → first_piece m (b ∷ x) ≡ first_piece m (b ∷ y)) → (m : M) (x : List ℕ) → 0 < length x → IsUndecided (pieces_in first_piece after m) x → ⊥
 decided_in first_piece after cuts same m [] some h = absurd (omega (arith, some))
 decided_in first_piece after cuts same m (b ∷ x) some h = h.differs (first_of_pieces first_piece after cuts m (b ∷ x) some ∙ ap Some (same m b x (x ++ h.more)) ∙ sym (first_of_pieces first_piece after cuts m (b ∷ (x ++ h.more)) (omega arith)))

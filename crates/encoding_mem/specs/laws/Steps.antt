@@ -1,4 +1,4 @@
--- Where there is one mode, the step law follows from the first piece of what is written for each scalar.
+-- If there is one mode, the step law follows from the first piece of what is written for each scalar.
 use Rattle.std.proofs.Common.{◌≡◌, ◌≢◌, ℕ, ◌<◌, List, [], ◌∷◌, ◌++◌, length, drop, refl, sym, ◌∙◌, ap, arith, lit<, inl, inr, length-append}
 use Rattle.std.proofs.lemmas.List.{drop_at}
 use Rattle.encoding_mem.specs.Coding.{reference_bytes, spelled}

@@ -28,6 +28,6 @@ ascii_bytes first_piece after cuts m plain (b ∷ t) r h =
 pub pieces_in-ascii : {M : Type 0} (first_piece : M → List ℕ → Piece) (after : M → List ℕ → M) → AllCut first_piece → (m : M) → IsPlain first_piece after m → (t r : List ℕ) → IsAscii t → pieces_in first_piece after m (t ++ r) ≡ text_pieces (chars t) ++ pieces_in first_piece after m r
 pieces_in-ascii first_piece after cuts m plain t r h = ascii_bytes first_piece after cuts m plain t r h ∙ ap (λ cs. text_pieces cs ++ pieces_in first_piece after m r) (sym (chars-IsAscii t h))
 
--- the same where there is one mode
+-- the same if there is one mode
 pub pieces_by-ascii : (first_piece : List ℕ → Piece) → CutsEach first_piece → ((b : ℕ) (x : List ℕ) → b < 0x80 → first_piece (b ∷ x) ≡ well_formed 1 (b ∷ [])) → (t r : List ℕ) → IsAscii t → pieces_by first_piece (t ++ r) ≡ text_pieces (chars t) ++ pieces_by first_piece r
 pieces_by-ascii first_piece cuts itself t r h = pieces_in-ascii {M = Unit {0}} (λ _. first_piece) (λ m _. m) (λ _. cuts) tt (record { itself = itself; stays = λ b x low. refl }) t r h

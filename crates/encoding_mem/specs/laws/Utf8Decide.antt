@@ -1,4 +1,4 @@
--- What is known of the first piece of UTF-8 where more bytes may come, in the order of the bytes: each definition
+-- What is known of the first piece of UTF-8 if more bytes may come, in the order of the bytes: each definition
 -- follows the one of specs/Utf8.antt that begins with as many bytes.
 use Rattle.std.specs.Prelude.{ℕ, Bool, List, [], ◌∷◌, nat_lt, if◌then◌else◌}
 use Rattle.std.specs.Int.{is_in_range}

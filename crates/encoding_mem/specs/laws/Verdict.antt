@@ -30,7 +30,7 @@ pub keeps_agreed : (e : Coding) (last : Bool) (pieces now : List ℕ → List Pi
     → ReadsWholeAs e last pieces now s t s' rest → KeepsVerdict e last true pieces s t true now s' rest
 keeps_agreed e last pieces now s t s' rest same ref u ends = (λ h. (h.0, (same ref u ends).0 h.1), λ h. (h.0, (same ref u ends).1 h.1))
 
--- it becomes false where the text is never read back
+-- it becomes false if the text is never read back
 pub keeps_lost : (e : Coding) (last verdict : Bool) (pieces now : List ℕ → List Piece) (s : EscapeState) (t : List ℕ) (s' : EscapeState) (rest : List ℕ)
     → NeverReadsWhole e last pieces s t → KeepsVerdict e last verdict pieces s t false now s' rest
 keeps_lost e last verdict pieces now s t s' rest never ref u ends = (λ h. absurd (never ref u ends h.1), λ h. absurd (untrue h.0))
@@ -70,7 +70,7 @@ pub verdict_at_end : (ref : Reference) {need : ℕ} (e : Coding) → IsCoding ne
     → (IsTrue verdict × ReadsWhole ref e pieces Ascii []) ↔ IsTrue verdict
 verdict_at_end ref e coding verdict pieces h = (λ x. x.0, λ x. (x, ends_along ref e coding pieces (h x)))
 
--- ---- where each character that has bytes is read as it
+-- ---- if each character that has bytes is read as it
 
 same_open : (ref : Reference) (e : Coding) → HasOneSet e → (s q : EscapeState) (t : List ℕ) → open_from ref e s t ≡ open_from ref e q t
 same_open ref e one s q [] = refl
@@ -120,7 +120,7 @@ part_goes_on WellFormed pieces before after bytes left taken held now read Write
 pub part_is_decided : (pieces now : List ℕ → List Piece) (bytes left : List ℕ) (taken : List Piece) → HasTakenPart pieces now bytes left taken → IsFixed pieces bytes taken
 part_is_decided pieces now bytes left taken p = λ r. (now (left ++ r), p.rest r)
 
--- where a call returns InputEmpty, all that can be is decided
+-- if a call returns InputEmpty, all that can be is decided
 pub part_ends : (pieces : List ℕ → List Piece) (after : DecoderState) (bytes left : List ℕ) (taken : List Piece) (free room mark : ℕ) → HasTakenPart pieces after.pieces bytes left taken
     → EndsWith after left false free room mark InputEmpty → HasTaken pieces after.pieces bytes taken
 part_ends pieces after bytes left taken free room mark p ends = record {

@@ -1,4 +1,4 @@
--- Rows of two numbers in order: by the first number, and by the second where the first are equal.
+-- Rows of two numbers in order: by the first number, and by the second if the first are equal.
 use Rattle.std.specs.Prelude.{◌≡◌, ℕ, ◌+◌, ◌^◌, ◌<◌, ◌≤◌, Bool, true, List, length, nat_lt, ◌==◌, ◌&&◌, ◌||◌, slice_index_or, slice_index}
 
 -- the row at a position, or (0, 0) past the end

@@ -14,7 +14,7 @@ none_of_another : rows_of_entry 6 rows ≡ []
 unfolding rows
 none_of_another = refl
 
--- those of the entry 5 stand behind both of 4, and are not below 5
+-- those of the entry 5 stand after both of 4, and are not below 5
 below_five : pairs_below 5 rows ≡ (4, 0) ∷ (4, 7) ∷ []
 unfolding rows
 below_five = refl

@@ -22,7 +22,7 @@ entries_of_ibm866 = refl
 rows_of_ranges : range_rows two_indexes ≡ (0, 0x80) ∷ []
 rows_of_ranges = refl
 
--- JIS X 0208 is the kind behind 31 others
+-- JIS X 0208 is the kind after 31 others
 jis0208_alone : index_entries (record { flats = replicate 31 None ++ (Some (0x3000 ∷ []) ∷ replicate 2 None); rows = None }) Jis0208 ≡ 0x3000 ∷ []
 jis0208_alone = refl
 

@@ -12,7 +12,7 @@ last = refl
 unmapped : first_pointer (0 ∷ 0xE9 ∷ []) 0 0 2 ≡ None
 unmapped = refl
 
--- the entry at a pointer; an entry 0 is none, and so is what is behind the end
+-- the entry at a pointer; an entry 0 is none, and so is what is beyond the end
 entry : value_of (0 ∷ 0xE9 ∷ []) 1 ≡ Some 0xE9
 entry = refl
 

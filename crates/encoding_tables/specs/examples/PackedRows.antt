@@ -15,7 +15,7 @@ mapped = refl
 listed_from : listed_rows 5 (0xE9 ∷ 0 ∷ 0xE8 ∷ []) ≡ (5, 0xE9) ∷ (7, 0xE8) ∷ []
 listed_from = refl
 
--- a pointer that no row has is unmapped, also behind the rows
+-- a pointer that no row has is unmapped, also beyond the rows
 no_row : flat_list 3 ((0, 0xE9) ∷ []) ≡ 0xE9 ∷ 0 ∷ 0 ∷ []
 no_row = refl
 

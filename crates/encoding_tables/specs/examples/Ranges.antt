@@ -105,11 +105,11 @@ at_the_fixed_pointer = refl
 behind_the_fixed_pointer : range_pointer ((0, 0x80) ∷ []) 0x1DA2 ≡ Some 7458
 behind_the_fixed_pointer = refl
 
--- U+E7C7 is 7457 also where a row gives it to another pointer
+-- U+E7C7 is 7457 even if a row gives it to another pointer
 fixed_pointer_first : range_pointer ((0, 0xE7C7) ∷ []) 0xE7C7 ≡ Some 7457
 fixed_pointer_first = refl
 
--- behind the last row the pointers end
+-- after the last row the pointers end
 end_of_pointers : end_by [] ≡ 1237576
 end_of_pointers = refl
 

@@ -16,7 +16,7 @@ not_below_itself = refl
 the_second_alone_is_not_enough : is_below (4, 0) (3, 9) ≡ false
 the_second_alone_is_not_enough = refl
 
--- rows that rise by the second number where the first is the same, and a row that stands twice
+-- rows that rise by the second number if the first is the same, and a row that stands twice
 rising : AreRising ((3, 8) ∷ (3, 9) ∷ (4, 0) ∷ [])
 rising zero more = refl
 rising (suc zero) more = refl
@@ -47,6 +47,6 @@ tight = record { stands = stands; short = omega arith }
 not_tight : ¬ (IsTight ((1, 9) ∷ []) (0 ∷ 0 ∷ 1 ∷ 1 ∷ []))
 not_tight t = omega (arith, t.stands 2 (omega arith))
 
--- nor has it a place for a number above 2^16 - 1, and one more behind it
+-- nor has it a place for a number above 2^16 - 1, and one more after it
 not_tight_for_great_numbers : (rows : List (ℕ × ℕ)) → ¬ (IsTight rows (replicate 65538 0))
 not_tight_for_great_numbers rows t = omega (arith, t.short, length-replicate {A = ℕ} 65538 0)

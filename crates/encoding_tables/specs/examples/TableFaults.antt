@@ -79,7 +79,7 @@ behind_reserved_pointers = refl
 first_reserved_is_named : flat_fault false Jis0208 (replicate 8838 0 ++ (0x4E00 ∷ 0x4E01 ∷ replicate 2440 0)) ≡ Some (Reserved 8838)
 first_reserved_is_named = refl
 
--- a wrong entry is named before it, also where it stands behind
+-- a wrong entry is named before it, even if it stands after
 entry_comes_first : flat_fault false Jis0208 (replicate 8836 0 ++ (0x4E00 ∷ (replicate 1879 0 ++ (0x41 ∷ replicate 563 0)))) ≡ Some (Entry 10716)
 entry_comes_first = refl
 

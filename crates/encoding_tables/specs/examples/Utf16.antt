@@ -54,7 +54,7 @@ ends_of_pairs : pieces_utf16 true (0xD8 ∷ 0 ∷ 0xDC ∷ 0 ∷ 0xD8 ∷ 0 ∷ 
 unfolding pieces_in
 ends_of_pairs = refl
 
--- behind the last high surrogate neither a high one nor U+E000 is the second of a pair
+-- after the last high surrogate neither a high one nor U+E000 is the second of a pair
 no_second : pieces_utf16 true (0xDB ∷ 0xFF ∷ 0xDB ∷ 0xFF ∷ 0xE0 ∷ 0 ∷ []) ≡ malformed 2 ∷ malformed 2 ∷ well_formed 2 (0xE000 ∷ []) ∷ []
 unfolding pieces_in
 no_second = refl

@@ -1,5 +1,5 @@
--- Where each byte is a piece and the byte of a character reads as that character, what is written reads back exactly
--- where each character has a byte, and character by character.
+-- If each byte is a piece and the byte of a character reads as that character, what is written reads back exactly
+-- when each character has a byte, and character by character.
 use Rattle.std.proofs.Common.{◌≡◌, ℕ, ◌+◌, ◌≤◌, List, [], ◌∷◌, ◌++◌, length, sym, ◌≢◌, ◌⊎◌, inl, inr, ◌∙◌, ap, subst, refl, arith, Option, None, Some, true, append-nil, length-append}
 use Rattle.std.specs.Fmt.{decimal, digits}
 use Rattle.encoding_mem.specs.declared.reference.Reference.{Reference}

@@ -4,11 +4,11 @@ use Rattle.std.specs.Prelude.{◌≡◌, ℕ, List, [], ◌∷◌, nat_lt, max, 
 use Rattle.encoding_tables.specs.RangeFaults.{bad_row}
 use Rattle.encoding_tables.specs.Ranges.{end_by, value_in}
 
--- the run that begins at a row's own pointer, where that is in the basic plane, before others
+-- the run that begins at a row's own pointer, if that is in the basic plane, before others
 abbrev pub with_low : ℕ × ℕ → List (ℕ × ℕ) → List (ℕ × ℕ)
 with_low r runs = if nat_lt r.0 39420 then (r.1, r.0) ∷ runs else runs
 
--- the run that begins at a row's first pointer of the other planes, where it has one below `end`, before others
+-- the run that begins at a row's first pointer of the other planes, if it has one below `end`, before others
 abbrev pub with_high : ℕ × ℕ → ℕ → List (ℕ × ℕ) → List (ℕ × ℕ)
 with_high r end runs = if nat_lt 189000 end then (value_in (max r.0 189000) r, max r.0 189000) ∷ runs else runs
 

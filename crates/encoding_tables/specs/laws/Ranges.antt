@@ -200,13 +200,13 @@ is_in_row_parts r end c e =
 is_in_row_from : (r : ℕ × ℕ) (end c q : ℕ) → r.0 + (c - r.1) ≡ q → r.1 ≤ c → q < end → is_valid_pointer q ≡ true → q ≢ 7457 → is_in_row r end c ≡ true
 is_in_row_from r end c q same low under valid other = rw (same, le-ltb c r.1 low, lt-ltb q end under, valid, ne_eqb q 7457 other) refl
 
--- a value of the rows behind is one of all the rows
+-- a value of the later rows is one of all the rows
 value_behind : (q c : ℕ) (r : ℕ × ℕ) (rows : List (ℕ × ℕ)) → row_value rows q ≡ Some c → row_value (r ∷ rows) q ≡ Some c
 value_behind q c r rows e =
     let s = map_some (value_in q) (last_row q rows) c e in
     rw s.1 (ap Some s.2)
 
--- a value of the first row, at a pointer before the rows behind
+-- a value of the first row, at a pointer before the later rows
 value_here : (q : ℕ) (r : ℕ × ℕ) (rows : List (ℕ × ℕ)) → last_row q rows ≡ None → r.0 ≤ q → row_value (r ∷ rows) q ≡ Some (value_in q r)
 value_here q r rows none from = rw (none, le-ltb q r.0 from) refl
 

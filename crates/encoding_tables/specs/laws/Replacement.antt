@@ -33,7 +33,7 @@ pub decided_by_one : (e : Bool) (b : ℕ) (x y : List ℕ) → first_piece_repla
 decided_by_one false b x y = refl
 decided_by_one true b x y = refl
 
--- room is wanted for the one error, and none once it was returned
+-- room is needed for the one error, and none once it was returned
 abbrev pub replacement_needs : (error_returned : Bool) → OutputUnit → ℕ → ℕ
 replacement_needs false k m = decoded_length decoded_length_replacement k m
 replacement_needs true k m = 0

@@ -1,4 +1,4 @@
--- What a single-byte encoding writes reads back exactly where each character has a byte, and character by character.
+-- What a single-byte encoding writes reads back exactly when each character has a byte, and character by character.
 use Rattle.std.proofs.Common.{◌≡◌, ℕ, ◌+◌, ◌-◌, List, refl, arith, inl, inr, Some}
 use Rattle.std.proofs.lemmas.Bool.{cases_lt, lt-ltb, le-ltb}
 use Rattle.encoding_mem.specs.Agreement.{ReadsByStep}

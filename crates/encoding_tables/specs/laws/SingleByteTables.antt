@@ -24,6 +24,6 @@ entries_scalars t kind h = scalars_of kind (flat_of t kind) (h.0 kind)
 pub tables_are_pieces : (t : IndexLists) (kind : IndexKind) → AreAcceptedTables t → (x : List ℕ) → ArePieces (pieces_single_byte (index_entries t kind) x)
 tables_are_pieces t kind h x = single_byte_are_pieces (index_entries t kind) (entries_scalars t kind h) x
 
--- what is written reads back exactly where each character has a byte
+-- what is written reads back exactly when each character has a byte
 pub tables_exact : (t : IndexLists) (kind : IndexKind) → AreAcceptedTables t → ReadsBackExactly (pieces_single_byte (index_entries t kind)) (single_byte_coding (index_entries t kind))
 tables_exact t kind h = single_byte_exact (index_entries t kind) (entries_scalars t kind h)

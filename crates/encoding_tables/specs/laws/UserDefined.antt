@@ -63,7 +63,7 @@ reads_back c b e = elim (cases_lt c 0x80) [
       user_byte b (omega (arith, found.1, r)) (omega (arith, found.1, r)) ∙ ap (λ d. Some d) (omega (arith, found.1, r))
 ]
 
--- what is written reads back exactly where each character has a byte
+-- what is written reads back exactly when each character has a byte
 pub user_defined_exact : ReadsBackExactly pieces_user_defined user_defined_coding
 user_defined_exact = exact_by_byte user_char_of_byte byte_of_user_char scalars_user_defined reads_back
 

@@ -1,4 +1,4 @@
--- What is known of the first piece of UTF-16 where more bytes may come: each definition follows the one of
+-- What is known of the first piece of UTF-16 if more bytes may come: each definition follows the one of
 -- specs/Utf16.antt that begins with as many bytes.
 use Rattle.std.specs.Prelude.{ℕ, Bool, List, [], ◌∷◌, if◌then◌else◌}
 use Rattle.std.specs.Char.Utf16.{is_high_surrogate, is_low_surrogate, surrogate_pair_char}

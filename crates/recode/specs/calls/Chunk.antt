@@ -14,10 +14,10 @@ pub record CanConvert (s : State) : Type 0 where
   pub sound : AreSound s.decoder.pending s.counts
   pub tells : CanTell s.verdict s.coding s.set []
 
--- Of these bytes the rest is left to convert, whatever comes behind them, which is nothing after the last: what was
--- still to be written is what was written, then what is still to be written now. Of n chunks that ended, calls of codecs
--- were at most 3 each, with 4 for each character and 2 for each item; and at least 2 each, with 3 for each malformed
--- sequence and one for each lost character.
+-- Of these bytes the rest is left to convert, whatever comes after them (nothing after the last): what was still to be
+-- written is what was written, then what is still to be written now. Of n chunks that ended, calls of codecs were at
+-- most 3 each, with 4 for each character and 2 for each item; and at least 2 each, with 3 for each malformed sequence
+-- and one for each lost character.
 pub record ConvertsTo (before after : WritersView) (s s' : State) (last : Bool) (bytes rest : List ℕ) (n : ℕ) : Type 0 where
   pub counted : s'.counts.read + length rest ≡ s.counts.read + length bytes
   pub target : s'.coding ≡ s.coding
@@ -31,7 +31,7 @@ pub record ConvertsTo (before after : WritersView) (s s' : State) (last : Bool) 
   pub advances : last ≡ false → Advances (λ r. s.decoder.pieces (bytes ++ r)) (λ r. s'.decoder.pieces (rest ++ r)) s.coding s.set s'.set s.counts s'.counts
 
 -- All bytes of a chunk are read: more can be converted, or after the last nothing is left to write, and the verdict is
--- told.
+-- known.
 pub record IsDoneWith (s : State) (last : Bool) : Type 0 where
   pub settled : IsNearlyDecided s.decoder
   pub ready : last ≡ false → CanConvert s

@@ -23,7 +23,7 @@ pub record WritersView : Type 0 where
 abbrev pub holding_none : Written → WritersView
 holding_none w = record { written = w; line = None; bytes = [] }
 
--- the item that a line of the log tells
+-- the item that a line of the log names
 abbrev pub item_of : LogLine → Item
 item_of (Bad offset size) = MalformedAt offset size
 item_of (Lost index scalar) = LostAt index scalar

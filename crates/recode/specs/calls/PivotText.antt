@@ -32,7 +32,7 @@ pub record IsWholeText (p : PivotText) : Type 0 where
 abbrev pub BeginsWith : PivotText → PivotText → Type 0
 BeginsWith p prefix = (more : List ℕ) × (pivot_chars p ≡ pivot_chars prefix ++ more)
 
--- a text of the same form is left behind another
+-- a text of the same form is left after another
 pub record IsLeftBehind (p prefix rest : PivotText) : Type 0 where
   pub parts : pivot_chars p ≡ pivot_chars prefix ++ pivot_chars rest
   pub text : IsWholeText rest

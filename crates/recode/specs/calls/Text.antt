@@ -25,7 +25,7 @@ pub record CanEncode (t : TargetState) (text : List ℕ) : Type 0 where
   pub lost : t.counts.lost ≤ t.counts.index
   pub tells : CanTell t.verdict t.coding t.set text
 
--- what is to be written for a text, after which nothing comes where it is the last
+-- what is to be written for a text, after which nothing comes if it is the last
 abbrev pub text_items : TargetState → Bool → List ℕ → List Item
 text_items t last text = whole_items (reference_form t.policy) t.coding last t.set t.counts.index text
 

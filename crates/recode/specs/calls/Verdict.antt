@@ -18,7 +18,7 @@ use Rattle.recode.specs.calls.PivotText.{is_in_units}
 use Rattle.recode.specs.declared.job.Pivot.{Pivot}
 use Rattle.recode.specs.declared.codec_calls.PivotText.{PivotText}
 
--- What reads the output back, whether the log alone tells what is lost, and whether nothing was lost so far.
+-- What reads the output back, whether the log alone says what is lost, and whether nothing was lost so far.
 pub record VerdictView : Type 0 where
   pub reader : DecoderView
   pub by_log : Bool
@@ -28,8 +28,8 @@ pub record VerdictView : Type 0 where
 abbrev pub to_read : VerdictView → List ℕ → List Piece
 to_read v = v.reader.state.pieces
 
--- Nothing was lost so far, and nothing will be where these pieces are still to be converted: none is malformed, and
--- what is written for their text reads back as it.
+-- Nothing was lost so far, and nothing will be if these pieces are still to be converted: none is malformed, and what
+-- is written for their text reads back as it.
 abbrev pub IsFaithfulFor : Reference → VerdictView → Coding → EscapeState → List Piece → Type 0
 IsFaithfulFor ref v e s ps = IsTrue v.faithful × AreWellFormed ps × ReadsWhole ref e (to_read v) s (text ps)
 
@@ -53,7 +53,8 @@ ReadsAsOther before after bytes t =
     ((part : List Piece) × IsFixed before bytes part × (¬ (AreRead part t)))
     ⊎ ((taken : List Piece) × HasTaken before after bytes taken × (¬ (AreWellFormed taken × (text taken ≡ t))))
 
--- What was written for a text was read back, or nothing was, where the log alone tells or something was lost before.
+-- What was written for a text was read back, or nothing was, if the log alone says what is lost or something was lost
+-- before.
 pub record IsReadBack (v v' : VerdictView) (bytes t : List ℕ) : Type 0 where
   pub by_log : v'.by_log ≡ v.by_log
   pub open_ : v'.reader.finished ≡ false
@@ -61,11 +62,11 @@ pub record IsReadBack (v v' : VerdictView) (bytes t : List ℕ) : Type 0 where
   pub compared : IsFalse v.by_log → IsTrue v.faithful
       → MatchBool v'.faithful (ReadsAsText (to_read v) (to_read v') bytes t) (ReadsAsOther (to_read v) (to_read v') bytes t)
 
--- where a text will be read back, the room for it is of its form
+-- if a text will be read back, the room for it is of its form
 abbrev pub NeedsForm : VerdictView → Pivot → PivotText → Type 0
 NeedsForm v check p = IsFalse v.by_log → IsTrue v.faithful → is_wide check ≡ is_in_units p
 
--- ---- why that tells it
+-- ---- why that says it
 
 -- The pieces of the output are the same from every set, and a call that reports nothing keeps a true verdict.
 pub record IsToldByLog (e : Coding) (pieces_from : EscapeState → List ℕ → List Piece) (pieces : List ℕ → List Piece) : Type 0 where
@@ -80,11 +81,11 @@ pub record IsReadAlong (v : VerdictView) (e : Coding) (s : EscapeState) (t : Lis
   pub along : IsTrue v.faithful → ReadsAlong e pieces_from (to_read v) s t
   pub told : IsTrue v.by_log → IsToldByLog e pieces_from (to_read v)
 
--- the verdict can be told
+-- the verdict can be known
 pub record CanTell (v : VerdictView) (e : Coding) (s : EscapeState) (t : List ℕ) : Type 0 where
   pub open_ : v.reader.finished ≡ false
   pub along : ∥ IsReadAlong v e s t ∥₁
 
--- where all is written, what is pending in the reader is no text
+-- if all is written, what is pending in the reader is no text
 abbrev pub IsToldAtEnd : VerdictView → Type 0
 IsToldAtEnd v = IsTrue v.faithful → ReadsAs (to_read v) [] []

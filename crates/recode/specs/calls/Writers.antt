@@ -9,7 +9,7 @@ use Rattle.recode.specs.declared.job.Fault.{Fault}
 use Rattle.recode.specs.declared.writers.MalformedLine.{MalformedLine}
 use Rattle.recode.specs.declared.writers.Writers.{Writers}
 
--- the bytes that the output's writer and the log have taken so far, as far as each tells it
+-- the bytes that the output's writer and the log have taken so far, as far as the contract of each says it
 abbrev pub written_by : {W L : Type 0} → (W → Option (List ℕ)) → (L → Option (List ℕ)) → Writers W L → Written
 written_by contents logged writers = written_in contents logged writers.output.now writers.log.now
 

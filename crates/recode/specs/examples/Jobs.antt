@@ -138,7 +138,7 @@ pile_of_poo : (j : Job) → Gives (job j no_tables Encoding.Utf8 Encoding.Window
 unfolding pieces_in no_tables digits
 pile_of_poo j = (refl, refl)
 
--- in ISO-2022-JP: a control, reported as U+FFFD; U+1F4A9 behind a pair, in ASCII; and behind U+00A5, in Roman
+-- in ISO-2022-JP: a control, reported as U+FFFD; U+1F4A9 after a pair, in ASCII; and after U+00A5, in Roman
 lost_control : (j : Job) → Gives (job j ha Encoding.Utf8 Encoding.Iso2022Jp Sniff) (0x0E ∷ []) (codes "&#65533;") (codes "lost 0 65533\n")
 unfolding pieces_in ha digits
 lost_control j = (refl, refl)
@@ -196,7 +196,7 @@ lost_in_a_pair : (j : Job) → Gives (job j no_tables Encoding.Big5 Encoding.Win
 unfolding pieces_in no_tables digits
 lost_in_a_pair j = (refl, refl)
 
--- behind a malformed sequence the index goes on by one, the offset by its length
+-- after a malformed sequence the index goes on by one, the offset by its length
 lost_behind_malformed : (j : Job) → Gives (job j no_tables Encoding.Utf8 Encoding.Windows1252 Sniff) (0x41 ∷ 0xE2 ∷ 0x82 ∷ 0xC3 ∷ 0xA8 ∷ 0xC3 ∷ 0xA8 ∷ []) (0x41 ∷ codes "&#65533;&#232;&#232;") (codes "bad 1 2\nlost 1 65533\nlost 2 232\nlost 3 232\n")
 unfolding pieces_in no_tables digits
 lost_behind_malformed j = (refl, refl)
@@ -247,7 +247,7 @@ order_of_lines : (j : Job) → trace (job j no_tables Encoding.Utf8 Encoding.Shi
 unfolding pieces_in no_tables digits
 order_of_lines j = refl
 
--- the escape before a reference comes before its line, and the last one behind all
+-- the escape before a reference comes before its line, and the last one after all
 escape_before_the_line : (j : Job) → trace (job j ha Encoding.Utf8 Encoding.Iso2022Jp Sniff) (0xE3 ∷ 0x83 ∷ 0x8F ∷ 0xF0 ∷ 0x9F ∷ 0x92 ∷ 0xA9 ∷ [])
     ≡ map Byte (0x1B ∷ 0x24 ∷ 0x42 ∷ 0x25 ∷ 0x4F ∷ 0x1B ∷ 0x28 ∷ 0x42 ∷ []) ++ (LostAt 1 128169 ∷ map Byte (codes "&#128169;"))
 unfolding pieces_in ha digits
@@ -258,7 +258,7 @@ escape_at_the_end : (j : Job) → trace (job j ha Encoding.Utf8 Encoding.Iso2022
 unfolding pieces_in ha digits
 escape_at_the_end j = refl
 
--- the index behind a malformed sequence, and in a pair of Big5
+-- the index after a malformed sequence, and in a pair of Big5
 index_behind : (j : Job) → trace (job j no_tables Encoding.Big5 Encoding.Windows1252 Sniff) (0xFF ∷ 0x88 ∷ 0x62 ∷ [])
     ≡ MalformedAt 0 1 ∷ LostAt 0 65533 ∷ (map Byte (codes "&#65533;") ++ (LostAt 1 202 ∷ (map Byte (codes "&#202;") ++ (LostAt 2 772 ∷ map Byte (codes "&#772;")))))
 unfolding pieces_in no_tables digits
@@ -322,7 +322,7 @@ hexadecimal_behind_a_pair : (j : Job) → Gives (in_hexadecimal (job j ha Encodi
 unfolding pieces_in ha digits
 hexadecimal_behind_a_pair j = (refl, refl)
 
--- a stop: the text before the first character without bytes, the escape that its reference would stand behind, and its
+-- a stop: the text before the first character without bytes, the escape that would come before its reference, and its
 -- line; a malformed sequence does not stop, but U+FFFD in its place does; without such a character all is as ever
 abbrev stopping : Job → Job
 stopping j = record j { policy = Policy.Stop }
@@ -351,7 +351,7 @@ stop_at_the_end : (j : Job) → Gives (stopping (job j no_tables Encoding.Utf8 E
 unfolding pieces_in no_tables digits
 stop_at_the_end j = (refl, refl)
 
--- the escape comes before the line, and nothing behind it
+-- the escape comes before the line, and nothing after it
 order_at_a_stop : (j : Job) → trace (stopping (job j ha Encoding.Utf8 Encoding.Iso2022Jp Sniff)) (0xE3 ∷ 0x83 ∷ 0x8F ∷ 0x0E ∷ 0x41 ∷ [])
     ≡ map Byte (0x1B ∷ 0x24 ∷ 0x42 ∷ 0x25 ∷ 0x4F ∷ 0x1B ∷ 0x28 ∷ 0x42 ∷ []) ++ (LostAt 1 65533 ∷ [])
 unfolding pieces_in ha digits

@@ -32,7 +32,7 @@ at_least = λ under. omega arith
 no_less : TakesAtLeast 2 (with_lost 1 10) (with_lost 2 12) → ⊥
 no_less h = absurd (omega (arith, h (omega arith)))
 
--- where the count has stopped nothing is said
+-- if the count has stopped nothing is said
 stopped : TakesAtLeast 2 (with_lost 1 18446744073709551615) (with_lost 2 18446744073709551615)
 stopped = λ under. absurd (omega (arith, under))
 

@@ -90,7 +90,7 @@ attached-limit : meant limit_of (codes "limit") attached ≡ Some 0
 unfolding clap_on_literals
 attached-limit = refl
 
--- ---- requests, at which the other words are not wanted
+-- ---- requests, at which the other words are not needed
 
 help : fault_of recode_app (codes "recode" ∷ codes "--help" ∷ []) ≡ DisplayHelp ∷ []
 unfolding clap_on_literals
