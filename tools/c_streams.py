@@ -77,22 +77,31 @@ class Streams:
         if status != NUMBERS[want]:
             raise Wrong("%s: status %d and not %s" % (name, status, want))
 
-    def files(self, names):
-        """Index files, as a call takes them; and their texts, which must live as long."""
-        texts = [(name.encode(), read_bytes(os.path.join(INDEXES, name))) for name in names]
+    def files(self, texts):
+        """Index files, as a call takes them, from their names and their texts, which must live as long."""
         files = (self.library.struct("IndexFile") * max(len(texts), 1))()
         for file, (name, text) in zip(files, texts):
             self.library.fill(file.name, name)
             self.library.fill(file.text, text)
-        return files, texts
+        return files
 
     def loaded(self):
+        """Tables with all indexes. Files that are not taken leave none, and the fault names the first."""
         names = sorted(name for name in os.listdir(INDEXES) if name.startswith("index-"))
-        files, texts = self.files(names)
+        good = [(name.encode(), read_bytes(os.path.join(INDEXES, name))) for name in names]
         tables, fault = self.library.struct("TablesHandle")(), self.library.struct("IndexFault")()
-        self.must("tables_new", self.library.jillapun_tables_new(files, tables, fault))
-        self.must("tables_new twice", self.library.jillapun_tables_new(files, tables, fault), "IN_USE")
-        del texts
+        lines = good[1][1].split(b"\n")
+        row = next(at for at, line in enumerate(lines) if line and not line.startswith(b"#"))
+        faulty = b"\n".join([*lines[:row], b"0\tno number", *lines[row:]])
+        for name, text, status, line in ((b"index-none.txt", b"", "UNKNOWN", 0), (good[1][0], faulty, "BAD_INDEX", row + 1)):
+            files = [good[0], (name, text), *good[2:]]
+            self.must("tables_new", self.library.jillapun_tables_new(self.files(files), tables, fault), status)
+            self.same("fault", name, (fault.file, fault.line), (1, line))
+            is_ready = self.library.jillapun_tables_is_ready(tables, 0)
+            self.must("is_ready", is_ready, "CLOSED")
+        self.must("tables_new", self.library.jillapun_tables_new(self.files(good), tables, fault))
+        for number in range(len(self.encodings)):
+            self.must("is_ready", self.library.jillapun_tables_is_ready(tables, number))
         return tables
 
     def labels(self):
