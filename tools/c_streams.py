@@ -17,7 +17,7 @@ from c_loaded import units
 from plain_recode import Job
 from standard import UNMAPPABLE
 
-SEED, ROUNDS = 2026, 400
+SEED, ROUNDS = 2026, 600
 INDEXES = os.path.join(TOP, "indexes")
 
 # The numbers of `status.rt`, by their names.
@@ -157,6 +157,24 @@ class Streams:
             self.same(call, (job, data, parts), self.decoded(call, job, parts, to_units), (text, [], bool(faults)))
             call += "_without_replacement"
             self.same(call, (job, data, parts), self.decoded(call, job, parts, to_units)[:2], (text, faults))
+        self.queried(job, data, text)
+
+    def queried(self, job, data, text):
+        """A whole stream in one call, in the room that its query asks for."""
+        progress = self.library.struct("Progress")()
+        for name, codec in (("utf8", "utf-8"), ("utf16", "utf-16-le")):
+            handle = self.library.struct("DecoderHandle")()
+            new = self.library.jillapun_decoder_new(self.tables, self.numbers[job.source], MARKS[job.mark], handle)
+            self.must("decoder_new", new)
+            self.must("decoder_new twice", self.library.jillapun_decoder_new(self.tables, 0, 0, handle), "IN_USE")
+            self.same("encoding", job, self.library.jillapun_decoder_encoding(handle), self.numbers[job.source])
+            size = getattr(self.library, "jillapun_decoder_max_%s_length" % name)(handle, len(data))
+            room = bytearray(size) if name == "utf8" else (units([0] * size), size)
+            call = "jillapun_decoder_decode_to_" + name
+            self.must(call, getattr(self.library, call)(handle, data, room, True, progress))
+            written = room[: progress.written] if name == "utf8" else bytes(room[0])[: 2 * progress.written]
+            self.same(call, (job, data), (progress.outcome, written.decode(codec)), (NUMBERS["INPUT_EMPTY"], text))
+            self.library.jillapun_decoder_free(handle)
 
     def coded(self, call, target, points, of_units):
         """A text by an encoder of its own: its bytes, its lost characters, and whether a call told of some."""
