@@ -1,2 +1,3 @@
 -- What the contracts of the exports speak of.
 pub mod Room
+pub mod Ownership

@@ -6,5 +6,9 @@
 //! export tests it, and returns a status (`status`) or `SIZE_MAX`.
 #![tactic(auto)]
 
+mod coder;
+mod handle;
+mod loose;
 mod mem;
 pub mod status;
+mod tables_handle;

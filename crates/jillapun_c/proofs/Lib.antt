@@ -1,0 +1,4 @@
+-- The lemmas.
+mod Openings
+mod Walks
+mod Words
