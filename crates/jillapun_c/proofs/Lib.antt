@@ -1,4 +1,5 @@
 -- The lemmas.
+mod IndexFileLemmas
 mod Openings
 mod Walks
 mod Words

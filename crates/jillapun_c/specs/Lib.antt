@@ -1,3 +1,4 @@
 -- What the contracts of the exports speak of.
 pub mod Room
 pub mod Ownership
+pub mod IndexFiles

@@ -8,7 +8,10 @@
 
 mod coder;
 mod handle;
+mod index_files;
+mod lists;
 mod loose;
 mod mem;
 pub mod status;
+mod tables;
 mod tables_handle;
