@@ -1,4 +1,5 @@
 -- The lemmas.
+mod EncodingNumberLemmas
 mod IndexFileLemmas
 mod Openings
 mod Walks

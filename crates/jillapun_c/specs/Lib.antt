@@ -2,3 +2,4 @@
 pub mod Room
 pub mod Ownership
 pub mod IndexFiles
+pub mod EncodingNumbers

@@ -7,6 +7,8 @@
 #![tactic(auto)]
 
 mod coder;
+mod encoding;
+mod encoding_number;
 mod handle;
 mod index_files;
 mod lists;
