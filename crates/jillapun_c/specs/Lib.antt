@@ -3,3 +3,7 @@ pub mod Room
 pub mod Ownership
 pub mod IndexFiles
 pub mod EncodingNumbers
+pub mod Coders
+pub mod Openings
+pub mod DecoderCalls
+pub mod EncoderCalls

@@ -7,6 +7,9 @@
 #![tactic(auto)]
 
 mod coder;
+mod decoder;
+mod encoder;
+mod encoder_progress;
 mod encoding;
 mod encoding_number;
 mod handle;
@@ -14,6 +17,7 @@ mod index_files;
 mod lists;
 mod loose;
 mod mem;
+mod progress;
 pub mod status;
 mod tables;
 mod tables_handle;
