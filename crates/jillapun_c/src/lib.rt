@@ -6,5 +6,18 @@
 //! export tests it, and returns a status (`status`) or `SIZE_MAX`.
 #![tactic(auto)]
 
+mod coder;
+mod decoder;
+mod encoder;
+mod encoder_progress;
+mod encoding;
+mod encoding_number;
+mod handle;
+mod index_files;
+mod lists;
+mod loose;
 mod mem;
+mod progress;
 pub mod status;
+mod tables;
+mod tables_handle;
