@@ -1,2 +1,5 @@
 -- What the contracts of the exports speak of.
+pub mod Asked
+pub mod Conversions
+pub mod Losses
 pub mod Room

@@ -6,5 +6,15 @@
 //! export tests it, and returns a status (`status`) or `SIZE_MAX`.
 #![tactic(auto)]
 
+mod convert;
+mod descriptor;
+mod losses;
 mod mem;
+mod numbers;
+mod report;
+mod run;
 pub mod status;
+mod words;
+
+pub use losses::Loss;
+pub use report::Report;

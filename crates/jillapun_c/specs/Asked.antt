@@ -1,0 +1,38 @@
+-- What the numbers of a call ask for.
+use Rattle.std.specs.Prelude.{◌≡◌, ◌<◌, ℕ, ◌^◌, min, refl}
+use Rattle.encoding_tables.specs.IndexLists.{IndexLists}
+use Rattle.encoding_front.specs.EncodingTable.{number_of}
+use Rattle.encoding_front.specs.declared.mark.Mark.{Mark}
+use Rattle.recode.specs.Job.{IsValidJob}
+use Rattle.recode.specs.declared.job.Job.{Job}
+use Rattle.recode.specs.declared.job.Policy.{Policy}
+use Rattle.jillapun_c.specs.declared.words.Words.{Words}
+
+-- the number of what is done with byte order marks
+abbrev pub number_of_mark : Mark → ℕ
+number_of_mark Mark.Sniff = 0
+number_of_mark Mark.Remove = 1
+number_of_mark Mark.Keep = 2
+
+-- the number of a policy
+abbrev pub number_of_policy : Policy → ℕ
+number_of_policy Policy.Decimal = 0
+number_of_policy Policy.Hexadecimal = 1
+number_of_policy Policy.Stop = 2
+
+-- a valid job over these tables of what the numbers of a call ask for; a limit above 2^48 bytes counts as that
+pub record IsAskedFor (tables : IndexLists) (words : Words) (j : Job) : Type 0 where
+  pub valid : IsValidJob j
+  pub tables : j.tables.now ≡ tables
+  pub from : number_of j.from ≡ words.from
+  pub to : number_of j.to ≡ words.to
+  pub mark : number_of_mark j.mark ≡ words.mark
+  pub policy : number_of_policy j.policy ≡ words.policy
+  pub limit : j.limit ≡ min words.limit (2 ^ 48)
+
+-- each number stands for something
+pub record AreKnown (words : Words) : Type 0 where
+  pub from : words.from < 40
+  pub to : words.to < 40
+  pub mark : words.mark < 3
+  pub policy : words.policy < 3
