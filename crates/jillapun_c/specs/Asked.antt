@@ -1,5 +1,5 @@
 -- What the numbers of a call ask for.
-use Rattle.std.specs.Prelude.{◌≡◌, ◌<◌, ℕ, ◌^◌, min, refl}
+use Rattle.std.specs.Prelude.{◌≡◌, ◌<◌, ℕ, ◌^◌, min, Option, Some, None}
 use Rattle.encoding_tables.specs.IndexLists.{IndexLists}
 use Rattle.encoding_front.specs.EncodingTable.{number_of}
 use Rattle.encoding_front.specs.declared.mark.Mark.{Mark}
@@ -36,3 +36,8 @@ pub record AreKnown (words : Words) : Type 0 where
   pub to : words.to < 40
   pub mark : words.mark < 3
   pub policy : words.policy < 3
+
+-- a valid job of what the numbers of a call ask for, over the tables that a handle has
+abbrev pub IsAskedIn : Option IndexLists → Words → Job → Type 0
+IsAskedIn None words j = ⊥
+IsAskedIn (Some tables) words j = IsAskedFor tables words j

@@ -1,5 +1,5 @@
 -- What a conversion leaves, by its status.
-use Rattle.std.specs.Prelude.{◌≡◌, ◌<◌, ℕ, List, [], ◌∷◌, length, take, true, false}
+use Rattle.std.specs.Prelude.{◌≡◌, ◌<◌, ◌⊎◌, ℕ, List, [], ◌∷◌, drop, length, take, true, false}
 use Rattle.encoding_mem.specs.Piece.{malformed_count}
 use Rattle.encoding_mem.specs.Coding.{lost_count}
 use Rattle.recode_log.specs.declared.line.LogLine.TheVariants.{Lost}
@@ -54,3 +54,20 @@ IsToldFault TheFault.Write report status = (status ≡ 11) × (report.fault ≡ 
 IsToldFault TheFault.Log report status = (status ≡ 11) × (report.fault ≡ 3)
 IsToldFault TheFault.TooLong report status = status ≡ 13
 IsToldFault (TheFault.Unmappable index scalar) report status = (status ≡ 12) × (report.index ≡ index) × (report.scalar ≡ scalar)
+
+-- a status by which something was converted: 0, 1 and 12 (`OK`, `LOSSY`, `STOPPED`)
+abbrev pub IsDone : (status : ℕ) → Type 0
+IsDone status = (status < 2) ⊎ (status ≡ 12)
+
+-- memory begins with what is reported, and nothing after it has changed
+pub record IsHandedOver (j : Job) (input : List ℕ) (dst dst' : List ℕ) (losses losses' : List Loss) (report : Report) (status : ℕ) : Type 0 where
+  pub converted : IsConverted j input (take report.written dst') (take report.losses losses') report status
+  pub behind : drop report.written dst' ≡ drop report.written dst
+  pub losses_behind : drop report.losses losses' ≡ drop report.losses losses
+
+-- so many bytes and records are wanted as a job makes of an input, and memory has not changed
+pub record IsWanted (j : Job) (input : List ℕ) (dst dst' : List ℕ) (losses losses' : List Loss) (report : Report) : Type 0 where
+  pub written : report.written ≡ length (output_of j input)
+  pub losses : (made : List Loss) × (log_of_losses made ≡ log_of j input) × (report.losses ≡ length made)
+  pub kept : dst' ≡ dst
+  pub losses_kept : losses' ≡ losses

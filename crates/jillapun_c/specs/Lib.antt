@@ -3,3 +3,4 @@ pub mod Asked
 pub mod Conversions
 pub mod Losses
 pub mod Room
+pub mod Streams

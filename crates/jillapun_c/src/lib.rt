@@ -6,8 +6,8 @@
 //! export tests it, and returns a status (`status`) or `SIZE_MAX`.
 #![tactic(auto)]
 
-mod convert;
 mod descriptor;
+mod in_memory;
 mod losses;
 mod mem;
 mod numbers;
