@@ -47,7 +47,7 @@ COLUMNS = 100
 CONTRACT_LINES = 30
 README_LINES = 120
 
-FUNCTION = re.compile(r"^ *(?:pub(?:\(\w+\))? )?(?:unsafe )?fn (\w+)")
+FUNCTION = re.compile(r'^ *(?:pub(?:\(\w+\))? )?(?:unsafe )?(?:extern "C" )?fn (\w+)')
 CLAUSE = re.compile(r"^ *(?:requires|ensures)\b")
 
 # A public definition of a file of `specs/`: a record, a function or an abbreviation, with its type.

@@ -4,7 +4,7 @@ ghost use Rattle.std.specs.Prelude.{◌↔◌, ◌<◌, ◌≤◌, IsTrue, lengt
 ghost use Rattle.std.specs.Str.{IsAscii};
 ghost use Rattle.encoding_mem.specs.Iso2022JpAscii.{IsIso2022JpAscii};
 ghost use Rattle.encoding_mem.specs.LongestPrefix.{IsLongestPrefix};
-ghost use Rattle.jillapun_c.specs.Room.{BeginsWith, IsRefused};
+ghost use Rattle.jillapun_c.specs.Room.{IsPut, IsUnwritten};
 
 use crate::status::REFUSED;
 
@@ -49,8 +49,9 @@ pub extern "C" fn encoding_iso_2022_jp_ascii_valid_up_to(buffer: &[u8]) -> usize
 #[unsafe(no_mangle)]
 pub extern "C" fn encoding_mem_copy_ascii_to_ascii(src: &[u8], dst: &mut [u8]) -> usize
     ensures prefix { length src.now ≤ length dst.old → IsLongestPrefix IsAscii src.now result }
-    ensures copies { length src.now ≤ length dst.old → BeginsWith dst.old (take result src.now) dst.new result }
-    ensures refuses { length dst.old < length src.now → IsRefused dst.old dst.new result }
+    ensures copies { length src.now ≤ length dst.old
+        → IsPut dst.old (take result src.now) dst.new result }
+    ensures refuses { length dst.old < length src.now → IsUnwritten dst.old dst.new result }
 {
     if dst.len() < src.len() {
         return REFUSED;
@@ -64,8 +65,9 @@ pub extern "C" fn encoding_mem_copy_ascii_to_ascii(src: &[u8], dst: &mut [u8]) -
 #[unsafe(no_mangle)]
 pub extern "C" fn encoding_mem_copy_ascii_to_basic_latin(src: &[u8], dst: &mut [u16]) -> usize
     ensures prefix { length src.now ≤ length dst.old → IsLongestPrefix IsAscii src.now result }
-    ensures copies { length src.now ≤ length dst.old → BeginsWith dst.old (take result src.now) dst.new result }
-    ensures refuses { length dst.old < length src.now → IsRefused dst.old dst.new result }
+    ensures copies { length src.now ≤ length dst.old
+        → IsPut dst.old (take result src.now) dst.new result }
+    ensures refuses { length dst.old < length src.now → IsUnwritten dst.old dst.new result }
 {
     if dst.len() < src.len() {
         return REFUSED;
@@ -79,8 +81,9 @@ pub extern "C" fn encoding_mem_copy_ascii_to_basic_latin(src: &[u8], dst: &mut [
 #[unsafe(no_mangle)]
 pub extern "C" fn encoding_mem_copy_basic_latin_to_ascii(src: &[u16], dst: &mut [u8]) -> usize
     ensures prefix { length src.now ≤ length dst.old → IsLongestPrefix IsAscii src.now result }
-    ensures copies { length src.now ≤ length dst.old → BeginsWith dst.old (take result src.now) dst.new result }
-    ensures refuses { length dst.old < length src.now → IsRefused dst.old dst.new result }
+    ensures copies { length src.now ≤ length dst.old
+        → IsPut dst.old (take result src.now) dst.new result }
+    ensures refuses { length dst.old < length src.now → IsUnwritten dst.old dst.new result }
 {
     if dst.len() < src.len() {
         return REFUSED;
