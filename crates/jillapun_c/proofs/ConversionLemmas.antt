@@ -5,8 +5,7 @@ use Rattle.recode_log.specs.declared.line.LogLine.TheVariants.{Lost}
 use Rattle.recode.specs.Devices.{Devices, Written, known}
 use Rattle.recode.specs.Job.{Faithful, input_text, log_of, lost_log_lines, output_of, target_of, trace}
 use Rattle.recode.specs.Runs.{RunReturns}
-use Rattle.recode.specs.Session.{Completes, Fails, IsReport}
-use Rattle.recode.specs.Session.{IsConverted as IsRun}
+use Rattle.recode.specs.Session.{Completes, Fails, IsConverted}
 use Rattle.recode.specs.Step.{WrotePrefix}
 use Rattle.recode.specs.TaggedByte.{TaggedByte, log_bytes, output_bytes, tagged}
 use Rattle.recode.specs.WrittenItems.{StopsAtLoss}
@@ -14,14 +13,14 @@ use Rattle.recode.specs.declared.job.Fault.{Fault}
 use Rattle.recode.specs.declared.job.Fault.TheVariants as TheFault
 use Rattle.recode.specs.declared.job.Job.{Job}
 use Rattle.recode.specs.declared.job.Report.{Report as RunReport}
-use Rattle.jillapun_c.specs.Conversions.{AreCountsOf, IsConverted, IsMadeOf, IsToldFault, IsToldReport, StopsAtFirst}
+use Rattle.jillapun_c.specs.Conversions.{AreCountsOf, IsOutcome, IsMadeOf, IsToldFault, IsToldReport, StopsAtFirst}
 use Rattle.jillapun_c.specs.Losses.{log_of_losses}
 use Rattle.jillapun_c.specs.declared.losses.Loss.{Loss}
 use Rattle.jillapun_c.specs.declared.report.Report.{Report}
 
 -- a run that came to its end converted the known input
 abbrev pub CompletesKnown : Type 0
-CompletesKnown = (x : List ℕ) (s s' : Devices) (j : Job) (p : RunReport) → s.input ≡ Some x → Completes s s' j p → IsRun s.written s'.written j x p
+CompletesKnown = (x : List ℕ) (s s' : Devices) (j : Job) (p : RunReport) → s.input ≡ Some x → Completes s s' j p → IsConverted s.written s'.written j x p
 
 -- and one that failed wrote a prefix
 abbrev pub FailsKnown : Type 0
@@ -38,7 +37,7 @@ verdict-true false P status law yes no = (λ zero. absurd (omega (arith, zero, n
 
 -- a run that came to its end
 of_report : (j : Job) (x out : List ℕ) (losses : List Loss) (p : RunReport) (report : Report) (status : ℕ)
-    → IsRun (known [] []) (known out (log_of_losses losses)) j x p → IsToldReport p report status → IsConverted j x out losses report status
+    → IsConverted (known [] []) (known out (log_of_losses losses)) j x p → IsToldReport p report status → IsOutcome j x out losses report status
 of_report j x out losses p report status run told =
     let verdict = verdict-true p.faithful (Faithful j x) status run.report.faithful told.faithful told.lossy in
     record {
@@ -54,7 +53,7 @@ of_report j x out losses p report status run told =
       unlike false status twelve yes no = omega (arith, twelve, no refl)
 
 -- a run that a fault ended with another status
-of_other : (j : Job) (x out : List ℕ) (losses : List Loss) (report : Report) (status n : ℕ) → status ≡ n → 1 < n → ¬ (n ≡ 12) → IsConverted j x out losses report status
+of_other : (j : Job) (x out : List ℕ) (losses : List Loss) (report : Report) (status n : ℕ) → status ≡ n → 1 < n → ¬ (n ≡ 12) → IsOutcome j x out losses report status
 of_other j x out losses report status n same more other = record {
   made = λ small. absurd (omega (arith, small, same, more));
   counts = λ small. absurd (omega (arith, small, same, more));
@@ -67,7 +66,7 @@ of_other j x out losses report status n same more other = record {
 -- a run that the policy stopped
 of_stop : (j : Job) (x out : List ℕ) (losses : List Loss) (report : Report) (status index scalar : ℕ) → StopsFirst
     → (status ≡ 12) × (report.index ≡ index) × (report.scalar ≡ scalar)
-    → WrotePrefix (known [] []) (known out (log_of_losses losses)) j.policy (TheFault.Unmappable index scalar) (trace j x) → IsConverted j x out losses report status
+    → WrotePrefix (known [] []) (known out (log_of_losses losses)) j.policy (TheFault.Unmappable index scalar) (trace j x) → IsOutcome j x out losses report status
 of_stop j x out losses report status index scalar first told wrote = record {
   made = λ small. absurd (omega (arith, small, told.0));
   counts = λ small. absurd (omega (arith, small, told.0));
@@ -84,7 +83,7 @@ of_stop j x out losses report status index scalar first told wrote = record {
 }
 
 of_fault : (j : Job) (x out : List ℕ) (losses : List Loss) (f : Fault) (report : Report) (status : ℕ) → StopsFirst
-    → IsToldFault f report status → WrotePrefix (known [] []) (known out (log_of_losses losses)) j.policy f (trace j x) → IsConverted j x out losses report status
+    → IsToldFault f report status → WrotePrefix (known [] []) (known out (log_of_losses losses)) j.policy f (trace j x) → IsOutcome j x out losses report status
 of_fault j x out losses TheFault.Read report status first told wrote = of_other j x out losses report status 11 told.0 (omega arith) (λ e. omega (arith, e))
 of_fault j x out losses TheFault.Write report status first told wrote = of_other j x out losses report status 11 told.0 (omega arith) (λ e. omega (arith, e))
 of_fault j x out losses TheFault.Log report status first told wrote = of_other j x out losses report status 11 told.0 (omega arith) (λ e. omega (arith, e))
@@ -94,7 +93,7 @@ of_fault j x out losses (TheFault.Unmappable index scalar) report status first t
 pub converted : (j : Job) (x out : List ℕ) (losses : List Loss) (s s' : Devices) (answer : Result RunReport Fault) (report : Report) (status : ℕ)
     → CompletesKnown → FailsKnown → StopsFirst
     → s.input ≡ Some x → s.written ≡ known [] [] → s'.written ≡ known out (log_of_losses losses) → RunReturns s s' j answer
-    → IfOk answer (λ p. IsToldReport p report status) → IfErr answer (λ f. IsToldFault f report status) → IsConverted j x out losses report status
+    → IfOk answer (λ p. IsToldReport p report status) → IfErr answer (λ f. IsToldFault f report status) → IsOutcome j x out losses report status
 converted j x out losses s s' (Ok p) report status completes fails first input before after run ok err =
     of_report j x out losses p report status (rw (before, after) at (completes x s s' j p input run.completes)) ok
 converted j x out losses s s' (Err f) report status completes fails first input before after run ok err =
