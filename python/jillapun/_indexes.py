@@ -26,7 +26,8 @@ def number_of(label: str) -> int:
 @lru_cache(maxsize=None)
 def name_of(number: int) -> str:
     room = ctypes.create_string_buffer(32)
-    return room.raw[: c.library.jillapun_name(number, room, 32)].decode("ascii")
+    length = c.library.jillapun_name(number, room, 32)
+    return room.raw[:length].decode("ascii")
 
 
 def name(label: str) -> str:

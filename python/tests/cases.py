@@ -2,9 +2,13 @@
 
 import os
 import re
+import sys
 from typing import Dict, Iterator, List, NamedTuple, Optional, Tuple
 
 TOP = os.path.abspath(os.path.join(os.path.dirname(os.path.abspath(__file__)), "../.."))
+
+# The package of this copy, whatever is installed.
+sys.path.insert(0, os.path.join(TOP, "python"))
 
 # The index texts by the words of lines; all others are named as their files.
 FILES = {"katakana": "index-iso-2022-jp-katakana.txt"}

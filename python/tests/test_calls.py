@@ -48,11 +48,14 @@ class Errors(unittest.TestCase):
         self.assertEqual(done.faults, [jillapun.Lost(index, "日") for index in range(1000)])
 
     def test_descriptor(self) -> None:
-        read, write = os.pipe()
-        os.close(read)
-        os.close(write)
-        with self.assertRaises(jillapun.DeviceFault):
-            jillapun.convert_descriptors(read, write, "utf-8", "utf-8")
+        """What can only be written to gives nothing, and what can only be read takes nothing."""
+        with open(os.devnull, "rb") as given, open(os.devnull, "wb") as made:
+            with self.assertRaisesRegex(jillapun.DeviceFault, "a read failed"):
+                jillapun.convert_descriptors(made.fileno(), made.fileno(), "utf-8", "utf-8")
+            self.assertEqual(jillapun.convert_descriptors(given.fileno(), given.fileno(), "utf-8", "utf-8"), (0, [], True))
+        with open(__file__, "rb") as given:
+            with self.assertRaisesRegex(jillapun.DeviceFault, "a write failed"):
+                jillapun.convert_descriptors(given.fileno(), given.fileno(), "utf-8", "utf-8")
 
 
 class Files(unittest.TestCase):

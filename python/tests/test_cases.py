@@ -79,7 +79,7 @@ class Streams(unittest.TestCase):
                     self.assertRaises(LookupError, jillapun.name, label)
                 else:
                     self.assertEqual(jillapun.name(label), wanted)
-        self.assertGreater(count, 80)
+        self.assertGreater(count, 60)
 
     def test_output_encodings(self) -> None:
         for _, words, _ in cases.lines_in("encoding_cases"):
