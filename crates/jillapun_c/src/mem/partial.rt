@@ -72,7 +72,7 @@ pub extern "C" fn jillapun_mem_convert_latin1_to_utf8_partial(
 /// Converts the longest prefix of UTF-16 whose UTF-8 fits into a text, which stays one: where a
 /// character of `dst` is overwritten in part, its other bytes become 00. No pair is split; a
 /// surrogate in no pair of `src` becomes U+FFFD. `read` is in units, `written` in bytes. Returns
-/// `JILLAPUN_OK`, or `JILLAPUN_NOT_UTF8` where `dst` is not UTF-8 before the call: then nothing is
+/// `OK`, or `NOT_UTF8` where `dst` is not UTF-8 before the call: then nothing is
 /// read or written.
 #[unsafe(no_mangle)]
 pub extern "C" fn jillapun_mem_convert_utf16_to_str_partial(
@@ -102,7 +102,7 @@ pub extern "C" fn jillapun_mem_convert_utf16_to_str_partial(
 
 /// Converts the longest prefix of Latin1 whose UTF-8 fits into a text, which stays one: where a
 /// character of `dst` is overwritten in part, its other bytes become 00. `read` and `written` are
-/// in bytes. Returns `JILLAPUN_OK`, or `JILLAPUN_NOT_UTF8` where `dst` is not UTF-8 before the
+/// in bytes. Returns `OK`, or `NOT_UTF8` where `dst` is not UTF-8 before the
 /// call: then nothing is read or written.
 #[unsafe(no_mangle)]
 pub extern "C" fn jillapun_mem_convert_latin1_to_str_partial(
