@@ -1,1 +1,2 @@
 mod ConversionLemmas
+mod NumberLemmas
