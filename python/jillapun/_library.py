@@ -89,13 +89,14 @@ class EncoderProgress(ctypes.Structure):
 
 
 def _places() -> List[str]:
-    """Where the library may be: as the environment says, beside this package, where it was installed, or where the
-    system finds it."""
+    """Where the library may be: as the environment says, beside this package, where it is packed, built or installed, or
+    where the system finds it."""
     named = os.environ.get("JILLAPUN_LIBRARY")
     if named:
         return [named]
     here = Path(__file__).resolve().parent
-    near = [here / "libjillapun.so", *(folder / "lib/libjillapun.so" for folder in here.parents)]
+    near = [here / "libjillapun.so"]
+    near += [folder / place / "libjillapun.so" for folder in here.parents for place in ("lib", "out/c")]
     found = ctypes.util.find_library("jillapun")
     return [str(place) for place in near if place.is_file()] + ([found] if found else [])
 

@@ -8,6 +8,7 @@
 
 mod descriptor;
 mod in_memory;
+mod lists;
 mod losses;
 mod mem;
 mod numbers;
