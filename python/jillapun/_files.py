@@ -38,7 +38,7 @@ def convert_descriptors(
     little memory. Python's lock is let go meanwhile. Raises what `convert` does, and `DeviceFault`; a read or a write
     that a signal interrupts is one that fails."""
     words = number_of(source), number_of(target), c.MARKS[mark], c.POLICIES[unmappable]
-    handle, report = ctypes.byref(handle_of(indexes)), c.Report()
+    handle, report = handle_of(indexes), c.Report()
     most = c.NO_LIMIT if limit is None else limit
     with tempfile.TemporaryFile() as log:
         status = c.library.jillapun_convert_descriptors(

@@ -71,11 +71,11 @@ class Indexes:
         self.handle = _loaded(texts)
 
 
-def _loaded(texts: Mapping[str, bytes]) -> c.Handle:
+def _loaded(texts: Mapping[str, bytes]) -> c.Tables:
     names = list(texts)
     rows = [c.IndexFile(c.Bytes.of(name.encode()), c.Bytes.of(text)) for name, text in texts.items()]
     files = (c.IndexFile * max(len(rows), 1))(*rows)
-    handle, fault = c.Handle(), c.IndexFault()
+    handle, fault = c.Tables(), c.IndexFault()
     status = c.library.jillapun_tables_new(files, len(rows), ctypes.byref(handle), ctypes.byref(fault))
     if status == c.NO_MEMORY:
         raise MemoryError
@@ -90,7 +90,7 @@ _lock = threading.Lock()
 _defaults: Dict[str, Indexes] = {}
 
 
-def handle_of(indexes: Optional[Indexes]) -> c.Handle:
+def handle_of(indexes: Optional[Indexes]) -> c.Tables:
     """The handle of these indexes, or of those of the default folder, which are loaded when they are first wanted."""
     if indexes is not None:
         return indexes.handle

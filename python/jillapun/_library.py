@@ -50,6 +50,10 @@ class Handle(ctypes.Structure):
     _fields_ = [("at", ctypes.c_void_p), ("is_open", ctypes.c_bool)]
 
 
+class Tables(Handle):
+    """Loaded tables: of these a copy is as good."""
+
+
 class Loss(ctypes.Structure):
     _fields_ = [("place", Long), ("number", ctypes.c_uint32), ("kind", Byte)]
 
@@ -124,6 +128,6 @@ _REPORT = ctypes.POINTER(Report)
 _declare("jillapun_for_label", Byte, *_LENT)
 _declare("jillapun_name", Size, Byte, *_ROOM)
 _declare("jillapun_output_encoding", Byte, Byte)
-_declare("jillapun_tables_new", Byte, ctypes.POINTER(IndexFile), Size, _HANDLE, ctypes.POINTER(IndexFault))
-_declare("jillapun_convert", Byte, _HANDLE, Byte, Byte, Byte, Byte, Long, *_LENT, *_ROOM, ctypes.POINTER(Loss), Size, _REPORT)
-_declare("jillapun_convert_descriptors", Byte, _HANDLE, Byte, Byte, Byte, Byte, Long, *3 * (ctypes.c_int32,), _REPORT)
+_declare("jillapun_tables_new", Byte, ctypes.POINTER(IndexFile), Size, ctypes.POINTER(Tables), ctypes.POINTER(IndexFault))
+_declare("jillapun_convert", Byte, Tables, Byte, Byte, Byte, Byte, Long, *_LENT, *_ROOM, ctypes.POINTER(Loss), Size, _REPORT)
+_declare("jillapun_convert_descriptors", Byte, Tables, Byte, Byte, Byte, Byte, Long, *3 * (ctypes.c_int32,), _REPORT)

@@ -38,7 +38,7 @@ class Decoder:
     """
 
     def __init__(self, encoding: str, *, mark: str = "remove", indexes: Optional[Indexes] = None):
-        tables = ctypes.byref(handle_of(indexes))
+        tables = handle_of(indexes)
         self.faults: List[Bad] = []
         self._read, self._is_ended = 0, False
         self._room = ctypes.create_string_buffer(_ROOM)
@@ -81,7 +81,7 @@ class Encoder:
     """
 
     def __init__(self, encoding: str, *, unmappable: str = "decimal", indexes: Optional[Indexes] = None):
-        tables = ctypes.byref(handle_of(indexes))
+        tables = handle_of(indexes)
         self.faults: List[Lost] = []
         self._unmappable, self._index, self._is_ended = unmappable, 0, False
         c.POLICIES[unmappable]

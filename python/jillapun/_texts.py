@@ -1,6 +1,7 @@
 """Whole texts and inputs in memory."""
 
 import ctypes
+import threading
 from typing import List, Optional, Tuple
 
 from . import _library as c
@@ -9,29 +10,54 @@ from ._results import Converted, Decoded, Encoded, Fault, Lost, Stopped, fault_o
 
 _UTF_8 = "utf-8"
 
-# Room for records of losses, at first.
-_LOSSES = 16
+
+class _Room:
+    """Room for a conversion: its output, its records of losses and its report."""
+
+    def __init__(self, size: int, count: int):
+        self.size, self.count = size, count
+        self.bytes, self.losses, self.report = (ctypes.c_char * size)(), (c.Loss * count)(), c.Report()
+        self.words = (self.bytes, size, self.losses, count, ctypes.byref(self.report))
+
+
+class _Kept(threading.local):
+    """A room of each thread for short inputs, which most are: to make one takes longer than to convert them."""
+
+    room: Optional[_Room] = None
+
+
+_kept = _Kept()
+
+
+def _short_room() -> _Room:
+    """The thread's room, or another, where a signal's handler converts while it is in use."""
+    room, _kept.room = _kept.room, None
+    return room or _Room(4096, 16)
 
 
 def _run(
     data: bytes, source: str, target: str, mark: str, unmappable: str, limit: int, indexes: Optional[Indexes]
-) -> Tuple[int, bytes, List[Fault], c.Report]:
-    """Status, output, faults and report of a conversion. It is made twice where the room was too small."""
-    words = number_of(source), number_of(target), c.MARKS[mark], c.POLICIES[unmappable], limit
-    handle, report = ctypes.byref(handle_of(indexes)), c.Report()
-    size, count = len(data) + len(data) // 2 + 64, _LOSSES
-    while True:
-        room, losses = (ctypes.c_char * size)(), (c.Loss * count)()
-        status = c.library.jillapun_convert(
-            handle, *words, data, len(data), room, size, losses, count, ctypes.byref(report)
-        )
-        if status != c.ROOM:
-            break
-        size, count = max(report.written, 1), max(report.losses, 1)
-    if status not in (c.OK, c.LOSSY, c.STOPPED):
+) -> Tuple[bool, bytes, List[Fault]]:
+    """Whether nothing was lost, the output and the faults. The conversion is made twice where room was too small."""
+    words = number_of(source), number_of(target), c.MARKS[mark], c.POLICIES[unmappable], limit, data, len(data)
+    handle = handle_of(indexes)
+    # A power of two, since ctypes makes a type for each size.
+    short = _short_room() if len(data) <= 1024 else None
+    room = short or _Room(1 << (len(data) * 3 // 2).bit_length(), 16)
+    status = c.library.jillapun_convert(handle, *words, *room.words)
+    while status == c.ROOM:
+        room = _Room(max(room.report.written, 1), max(room.report.losses, 1))
+        status = c.library.jillapun_convert(handle, *words, *room.words)
+    report = room.report
+    output, losses = room.bytes[: report.written], room.losses[: report.losses] if report.losses else ()
+    faults = [fault_of(loss) for loss in losses]
+    if status == c.STOPPED:
+        raise Stopped(Lost(report.index, chr(report.scalar)), output, faults)
+    if status not in (c.OK, c.LOSSY):
         refuse(status, report)
-    faults = [fault_of(loss) for loss in losses[: report.losses]] if report.losses else []
-    return status, room[: report.written], faults, report
+    if short:
+        _kept.room = short
+    return status == c.OK, output, faults
 
 
 def decode(data: bytes, encoding: str, *, mark: str = "remove", indexes: Optional[Indexes] = None) -> Decoded:
@@ -44,7 +70,7 @@ def decode(data: bytes, encoding: str, *, mark: str = "remove", indexes: Optiona
     >>> decode(b"A\\x83\\x6e\\xff", "shift_jis")
     Decoded(text='Aハ\\ufffd', faults=[Bad(offset=3, length=1)])
     """
-    _, output, faults, _ = _run(bytes(data), encoding, _UTF_8, mark, "decimal", c.NO_LIMIT, indexes)
+    _, output, faults = _run(bytes(data), encoding, _UTF_8, mark, "decimal", c.NO_LIMIT, indexes)
     return Decoded(output.decode(), faults)  # type: ignore[arg-type]
 
 
@@ -57,10 +83,8 @@ def encode(text: str, encoding: str, *, unmappable: str = "decimal", indexes: Op
     >>> encode("é 日", "windows-1252")
     Encoded(data=b'\\xe9 &#26085;', faults=[Lost(index=2, character='日')], faithful=False)
     """
-    status, output, faults, report = _run(text.encode(), _UTF_8, encoding, "keep", unmappable, c.NO_LIMIT, indexes)
-    if status == c.STOPPED:
-        raise Stopped(Lost(report.index, chr(report.scalar)), output, faults)
-    return Encoded(output, faults, status == c.OK)  # type: ignore[arg-type]
+    is_faithful, data, faults = _run(text.encode(), _UTF_8, encoding, "keep", unmappable, c.NO_LIMIT, indexes)
+    return Encoded(data, faults, is_faithful)  # type: ignore[arg-type]
 
 
 def convert(
@@ -82,7 +106,5 @@ def convert(
     Converted(output=b'caf\\xc3\\xa9', faults=[], faithful=True)
     """
     most = c.NO_LIMIT if limit is None else limit
-    status, output, faults, report = _run(bytes(data), source, target, mark, unmappable, most, indexes)
-    if status == c.STOPPED:
-        raise Stopped(Lost(report.index, chr(report.scalar)), output, faults)
-    return Converted(output, faults, status == c.OK)
+    is_faithful, output, faults = _run(bytes(data), source, target, mark, unmappable, most, indexes)
+    return Converted(output, faults, is_faithful)
