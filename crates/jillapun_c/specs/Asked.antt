@@ -6,7 +6,6 @@ use Rattle.encoding_front.specs.declared.mark.Mark.{Mark}
 use Rattle.recode.specs.Job.{IsValidJob}
 use Rattle.recode.specs.declared.job.Job.{Job}
 use Rattle.recode.specs.declared.job.Policy.{Policy}
-use Rattle.jillapun_c.specs.declared.words.Words.{Words}
 
 -- the number of what is done with byte order marks
 abbrev pub number_of_mark : Mark → ℕ
@@ -21,23 +20,20 @@ number_of_policy Policy.Hexadecimal = 1
 number_of_policy Policy.Stop = 2
 
 -- a valid job over these tables of what the numbers of a call ask for; a limit above 2^48 bytes counts as that
-pub record IsAskedFor (tables : IndexLists) (words : Words) (j : Job) : Type 0 where
+pub record IsAskedFor (tables : IndexLists) (from to mark policy limit : ℕ) (j : Job) : Type 0 where
   pub valid : IsValidJob j
   pub tables : j.tables.now ≡ tables
-  pub from : number_of j.from ≡ words.from
-  pub to : number_of j.to ≡ words.to
-  pub mark : number_of_mark j.mark ≡ words.mark
-  pub policy : number_of_policy j.policy ≡ words.policy
-  pub limit : j.limit ≡ min words.limit (2 ^ 48)
+  pub from : number_of j.from ≡ from
+  pub to : number_of j.to ≡ to
+  pub mark : number_of_mark j.mark ≡ mark
+  pub policy : number_of_policy j.policy ≡ policy
+  pub limit : j.limit ≡ min limit (2 ^ 48)
 
 -- each number stands for something
-pub record AreKnown (words : Words) : Type 0 where
-  pub from : words.from < 40
-  pub to : words.to < 40
-  pub mark : words.mark < 3
-  pub policy : words.policy < 3
+abbrev pub AreKnown : (from to mark policy : ℕ) → Type 0
+AreKnown from to mark policy = (from < 40) × (to < 40) × (mark < 3) × (policy < 3)
 
 -- a valid job of what the numbers of a call ask for, over the tables that a handle has
-abbrev pub IsAskedIn : Option IndexLists → Words → Job → Type 0
-IsAskedIn None words j = ⊥
-IsAskedIn (Some tables) words j = IsAskedFor tables words j
+abbrev pub IsAskedIn : Option IndexLists → (from to mark policy limit : ℕ) → Job → Type 0
+IsAskedIn None from to mark policy limit j = ⊥
+IsAskedIn (Some tables) from to mark policy limit j = IsAskedFor tables from to mark policy limit j

@@ -9,7 +9,7 @@ use recode::{GREATEST_LIMIT, Job};
 
 /// What a conversion is asked for.
 #[derive(Clone, Copy)]
-pub(crate) struct Words {
+pub(crate) struct Request {
     pub(crate) from: u8,
     pub(crate) to: u8,
     pub(crate) mark: u8,
@@ -17,7 +17,7 @@ pub(crate) struct Words {
     pub(crate) limit: u64,
 }
 
-impl Words {
+impl Request {
     ghost use Rattle.jillapun_c.specs.Asked.{AreKnown, IsAskedFor};
 
     // The job, if each number stands for something. It may want indexes that are not there.
@@ -35,9 +35,11 @@ impl Words {
     /// The job, or the status that says why there is none: a number stands for nothing (`UNKNOWN`),
     /// or an index is not in the tables (`NOT_READY`).
     pub(crate) fn job(self, tables: &Tables) -> Result<Job<'_>, u8>
-        ensures ok { IfOk result (IsAskedFor tables.now self) }
+        ensures ok { IfOk result (IsAskedFor tables.now self.from self.to self.mark self.policy
+            self.limit) }
         ensures err { IfErr result (λ s. (s ≡ 2) ⊎ (s ≡ 3)) }
-        ensures known { AreKnown self → IfErr result (λ s. s ≡ 3) }
+        ensures known { AreKnown self.from self.to self.mark self.policy
+            → IfErr result (λ s. s ≡ 3) }
     {
         let Some(job) = self.named(tables) else {
             return Err(UNKNOWN);
