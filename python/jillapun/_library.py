@@ -41,7 +41,7 @@ class IndexFile(ctypes.Structure):
 
 
 class IndexFault(ctypes.Structure):
-    _fields_ = [("file", Size), ("line", Long)]
+    _fields_ = [("file", Size), ("line", Size)]
 
 
 class Handle(ctypes.Structure):

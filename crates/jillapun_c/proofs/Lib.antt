@@ -1,7 +1,6 @@
 -- The lemmas.
-mod ConversionLemmas
+mod EncodingNumberLemmas
 mod IndexFileLemmas
-mod NumberLemmas
 mod Openings
 mod Walks
 mod Words

@@ -1,37 +1,35 @@
 -- What the numbers of a call ask for.
-use Rattle.std.specs.Prelude.{◌≡◌, ◌<◌, ℕ, ◌^◌, min, Option, Some, None}
+use Rattle.std.specs.Prelude.{◌≡◌, ℕ, ◌^◌, min, List, [], ◌∷◌, Option, Some, None, IsSome, slice_get}
 use Rattle.encoding_tables.specs.IndexLists.{IndexLists}
-use Rattle.encoding_front.specs.EncodingTable.{number_of}
-use Rattle.encoding_front.specs.declared.mark.Mark.{Mark}
 use Rattle.recode.specs.Job.{IsValidJob}
 use Rattle.recode.specs.declared.job.Job.{Job}
 use Rattle.recode.specs.declared.job.Policy.{Policy}
+use Rattle.jillapun_c.specs.EncodingNumbers.{encoding_at, mark_at}
 
--- the number of what is done with byte order marks
-abbrev pub number_of_mark : Mark → ℕ
-number_of_mark Mark.Sniff = 0
-number_of_mark Mark.Remove = 1
-number_of_mark Mark.Keep = 2
-
--- the number of a policy
-abbrev pub number_of_policy : Policy → ℕ
-number_of_policy Policy.Decimal = 0
-number_of_policy Policy.Hexadecimal = 1
-number_of_policy Policy.Stop = 2
-
--- a valid job over these tables of what the numbers of a call ask for; a limit above 2^48 bytes counts as that
-pub record IsAskedFor (tables : IndexLists) (from to mark policy limit : ℕ) (j : Job) : Type 0 where
-  pub valid : IsValidJob j
-  pub tables : j.tables.now ≡ tables
-  pub from : number_of j.from ≡ from
-  pub to : number_of j.to ≡ to
-  pub mark : number_of_mark j.mark ≡ mark
-  pub policy : number_of_policy j.policy ≡ policy
-  pub limit : j.limit ≡ min limit (2 ^ 48)
+-- the policy with that number, if there is one
+abbrev pub policy_at : ℕ → Option Policy
+policy_at number = slice_get (Policy.Decimal ∷ Policy.Hexadecimal ∷ Policy.Stop ∷ []) number
 
 -- each number stands for something
-abbrev pub AreKnown : (from to mark policy : ℕ) → Type 0
-AreKnown from to mark policy = (from < 40) × (to < 40) × (mark < 3) × (policy < 3)
+pub record AreKnown (from to mark policy : ℕ) : Type 0 where
+  pub is_from : IsSome (encoding_at from)
+  pub is_to : IsSome (encoding_at to)
+  pub is_mark : IsSome (mark_at mark)
+  pub is_policy : IsSome (policy_at policy)
+
+-- the job that the numbers of a call name, over these tables; a limit above 2^48 bytes counts as that
+pub record IsNamed (tables : IndexLists) (from to mark policy limit : ℕ) (j : Job) : Type 0 where
+  pub has_tables : j.tables.now ≡ tables
+  pub has_from : encoding_at from ≡ Some j.from
+  pub has_to : encoding_at to ≡ Some j.to
+  pub has_mark : mark_at mark ≡ Some j.mark
+  pub has_policy : policy_at policy ≡ Some j.policy
+  pub has_limit : j.limit ≡ min limit (2 ^ 48)
+
+-- and it is valid
+pub record IsAskedFor (tables : IndexLists) (from to mark policy limit : ℕ) (j : Job) : Type 0 where
+  pub named : IsNamed tables from to mark policy limit j
+  pub valid : IsValidJob j
 
 -- a valid job of what the numbers of a call ask for, over the tables that a handle has
 abbrev pub IsAskedIn : Option IndexLists → (from to mark policy limit : ℕ) → Job → Type 0

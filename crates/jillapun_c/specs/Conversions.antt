@@ -15,8 +15,8 @@ use Rattle.jillapun_c.specs.declared.report.Report.{Report}
 
 -- some bytes and some records are what a job makes of an input: all, or, where its policy stops, all up to there
 pub record IsMadeOf (j : Job) (input output : List ℕ) (losses : List Loss) : Type 0 where
-  pub output : output ≡ output_of j input
-  pub log : log_of_losses losses ≡ log_of j input
+  pub is_output : output ≡ output_of j input
+  pub is_log : log_of_losses losses ≡ log_of j input
 
 -- the counts that are reported are those of the input
 pub record AreCountsOf (j : Job) (input : List ℕ) (report : Report) : Type 0 where
@@ -68,6 +68,6 @@ pub record IsHandedOver (j : Job) (input : List ℕ) (dst dst' : List ℕ) (loss
 -- so many bytes and records are wanted as a job makes of an input, and memory has not changed
 pub record IsWanted (j : Job) (input : List ℕ) (dst dst' : List ℕ) (losses losses' : List Loss) (report : Report) : Type 0 where
   pub written : report.written ≡ length (output_of j input)
-  pub losses : (made : List Loss) × (log_of_losses made ≡ log_of j input) × (report.losses ≡ length made)
+  pub records : (made : List Loss) × (log_of_losses made ≡ log_of j input) × (report.losses ≡ length made)
   pub kept : dst' ≡ dst
   pub losses_kept : losses' ≡ losses

@@ -1,6 +1,7 @@
 -- What the contracts of the exports speak of.
 pub mod Asked
 pub mod Conversions
+pub mod EncodingNumbers
 pub mod IndexFiles
 pub mod Losses
 pub mod Ownership

@@ -82,7 +82,7 @@ pub(crate) fn convert_job(
         losses.new report.new result }
     ensures room { result ≡ 10 → IsWanted job.entry src.now dst.old dst.new losses.old losses.new
         report.new }
-    ensures long { result ≡ 13 ↔ (job.limit < length src.now) }
+    ensures long { result ≡ 13 ↔ (job.entry.limit < length src.now) }
 {
     *report = Report::NONE;
     if src.len() as u64 > job.limit {
