@@ -10,6 +10,7 @@ mod coder;
 mod convert;
 mod descriptor;
 mod descriptors;
+mod encoding;
 mod encoding_number;
 mod handle;
 mod in_memory;
