@@ -65,9 +65,7 @@ pub record IsHandedOver (j : Job) (input : List ℕ) (dst dst' : List ℕ) (loss
   pub behind : drop report.written dst' ≡ drop report.written dst
   pub losses_behind : drop report.losses losses' ≡ drop report.losses losses
 
--- so many bytes and records are wanted as a job makes of an input, and memory has not changed
-pub record IsWanted (j : Job) (input : List ℕ) (dst dst' : List ℕ) (losses losses' : List Loss) (report : Report) : Type 0 where
+-- so many bytes and records are wanted as a job makes of an input
+pub record IsWanted (j : Job) (input : List ℕ) (report : Report) : Type 0 where
   pub written : report.written ≡ length (output_of j input)
   pub records : (made : List Loss) × (log_of_losses made ≡ log_of j input) × (report.losses ≡ length made)
-  pub kept : dst' ≡ dst
-  pub losses_kept : losses' ≡ losses

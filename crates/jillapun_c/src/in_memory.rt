@@ -80,8 +80,9 @@ pub(crate) fn convert_job(
     requires { IsValidJob job }
     ensures done { IsDone result → IsHandedOver job.entry src.now dst.old dst.new losses.old
         losses.new report.new result }
-    ensures room { result ≡ 10 → IsWanted job.entry src.now dst.old dst.new losses.old losses.new
-        report.new }
+    ensures room { result ≡ 10 → IsWanted job.entry src.now report.new }
+    ensures kept { ¬ (IsDone result) → (dst.new ≡ dst.old) × (losses.new ≡ losses.old) }
+    ensures known { ¬ (result ≡ 2) }
     ensures long { result ≡ 13 ↔ (job.entry.limit < length src.now) }
 {
     *report = Report::NONE;
