@@ -6,11 +6,11 @@
 The library is built twice, by LLVM and by the kit's own compiler, and each shared library is loaded by ctypes and called
 by the checks that `CHECKS` lists: what must come of a call is worked out by Python's own codecs and by plain programs.
 
-Where there is a C compiler (`CC`, or cc), it and a C++ compiler (`CXX`, or c++) read the header with all warnings, and each
+If there is a C compiler (`CC`, or cc), it and a C++ compiler (`CXX`, or c++) read the header with all warnings, and each
 NAME.c of docs/examples/c is compiled, linked with the archive and with the shared library, and once more with the
-sanitizers where the compiler has them. Run in the top folder on NAME.in with the words of NAME.args, if these are there, it must
-write NAME.out. Then all is packed as `make dist` does, unpacked, and a program is built from what pkg-config says of it.
-What was left out is said. The status is 1 where something was wrong.
+sanitizers if the compiler has them. Run in the top folder on NAME.in with the words of NAME.args, if these are there, it must
+write NAME.out, and NAME.err to standard error. Then all is packed as `make dist` does, unpacked, and a program is built from what pkg-config says of it.
+What was left out is said. The status is 1 if something was wrong.
 """
 
 import os
@@ -25,6 +25,7 @@ import c_library
 import c_loaded
 import c_mem
 import c_python
+import c_streams
 import install
 
 TOP = os.path.abspath(os.path.join(os.path.dirname(os.path.abspath(__file__)), ".."))
@@ -32,7 +33,7 @@ EXAMPLES = os.path.join(TOP, "docs", "examples", "c")
 INCLUDE = os.path.join(TOP, "include")
 
 # The calls of each part of the library, and what they say is wrong.
-CHECKS = [c_mem.faults, c_python.faults]
+CHECKS = [c_mem.faults, c_streams.faults, c_python.faults]
 
 WARNINGS = ["-Wall", "-Wextra", "-pedantic", "-Werror"]
 SANITIZERS = ["-g", "-fsanitize=address,undefined", "-fno-sanitize-recover=all"]
@@ -71,7 +72,7 @@ def run(words, **more):
 
 
 def compiled(words):
-    """What a compiler says where it fails."""
+    """What a compiler says if it fails."""
     ran = run(words)
     return ran.stderr.decode(errors="replace")[-2000:] if ran.returncode else None
 
@@ -126,7 +127,7 @@ def examples(archive, shared, folder):
                 yield "%s.c with %s: %s" % (name, how, said)
                 continue
             ran = run([program, *words], input=read(path + ".in"))
-            if (ran.returncode, ran.stdout) != (0, read(path + ".out")):
+            if (ran.returncode, ran.stdout, ran.stderr) != (0, read(path + ".out"), read(path + ".err")):
                 yield "%s.c with %s: status %d, %r, %r" % (name, how, ran.returncode, ran.stdout, ran.stderr[-2000:])
         print("example: %s.c, with %s" % (name, ", ".join(how for how, _ in ways)))
 
