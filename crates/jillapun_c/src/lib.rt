@@ -8,8 +8,11 @@
 
 mod coder;
 mod convert;
+mod decoder;
 mod descriptor;
 mod descriptors;
+mod encoder;
+mod encoder_progress;
 mod encoding;
 mod encoding_number;
 mod handle;
@@ -19,6 +22,7 @@ mod lists;
 mod loose;
 mod losses;
 mod mem;
+mod progress;
 mod report;
 mod request;
 mod run;
