@@ -1,9 +1,13 @@
 -- What the contracts of the exports speak of.
-pub mod Room
-pub mod Ownership
-pub mod IndexFiles
-pub mod EncodingNumbers
+pub mod Asked
 pub mod Coders
-pub mod Openings
+pub mod Conversions
 pub mod DecoderCalls
 pub mod EncoderCalls
+pub mod EncodingNumbers
+pub mod IndexFiles
+pub mod Losses
+pub mod Openings
+pub mod Ownership
+pub mod Room
+pub mod Streams
