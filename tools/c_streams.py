@@ -17,7 +17,7 @@ from c_loaded import units
 from plain_recode import Job
 from standard import UNMAPPABLE
 
-SEED, ROUNDS = 2026, 400
+SEED, ROUNDS = 2026, 600
 INDEXES = os.path.join(TOP, "indexes")
 
 # The numbers of `status.rt`, by their names.
@@ -77,22 +77,31 @@ class Streams:
         if status != NUMBERS[want]:
             raise Wrong("%s: status %d and not %s" % (name, status, want))
 
-    def files(self, names):
-        """Index files, as a call takes them; and their texts, which must live as long."""
-        texts = [(name.encode(), read_bytes(os.path.join(INDEXES, name))) for name in names]
+    def files(self, texts):
+        """Index files, as a call takes them, from their names and their texts, which must live as long."""
         files = (self.library.struct("IndexFile") * max(len(texts), 1))()
         for file, (name, text) in zip(files, texts):
             self.library.fill(file.name, name)
             self.library.fill(file.text, text)
-        return files, texts
+        return files
 
     def loaded(self):
+        """Tables with all indexes. Files that are not taken leave none, and the fault names the first."""
         names = sorted(name for name in os.listdir(INDEXES) if name.startswith("index-"))
-        files, texts = self.files(names)
+        good = [(name.encode(), read_bytes(os.path.join(INDEXES, name))) for name in names]
         tables, fault = self.library.struct("TablesHandle")(), self.library.struct("IndexFault")()
-        self.must("tables_new", self.library.jillapun_tables_new(files, tables, fault))
-        self.must("tables_new twice", self.library.jillapun_tables_new(files, tables, fault), "IN_USE")
-        del texts
+        lines = good[1][1].split(b"\n")
+        row = next(at for at, line in enumerate(lines) if line and not line.startswith(b"#"))
+        faulty = b"\n".join([*lines[:row], b"0\tno number", *lines[row:]])
+        for name, text, status, line in ((b"index-none.txt", b"", "UNKNOWN", 0), (good[1][0], faulty, "BAD_INDEX", row + 1)):
+            files = [good[0], (name, text), *good[2:]]
+            self.must("tables_new", self.library.jillapun_tables_new(self.files(files), tables, fault), status)
+            self.same("fault", name, (fault.file, fault.line), (1, line))
+            is_ready = self.library.jillapun_tables_is_ready(tables, 0)
+            self.must("is_ready", is_ready, "CLOSED")
+        self.must("tables_new", self.library.jillapun_tables_new(self.files(good), tables, fault))
+        for number in range(len(self.encodings)):
+            self.must("is_ready", self.library.jillapun_tables_is_ready(tables, number))
         return tables
 
     def labels(self):
@@ -148,12 +157,34 @@ class Streams:
             self.same(call, (job, data, parts), self.decoded(call, job, parts, to_units), (text, [], bool(faults)))
             call += "_without_replacement"
             self.same(call, (job, data, parts), self.decoded(call, job, parts, to_units)[:2], (text, faults))
+        self.queried(job, data, text)
+
+    def queried(self, job, data, text):
+        """A whole stream in one call, in the room that its query asks for."""
+        progress = self.library.struct("Progress")()
+        for name, codec in (("utf8", "utf-8"), ("utf16", "utf-16-le")):
+            handle = self.library.struct("DecoderHandle")()
+            new = self.library.jillapun_decoder_new(self.tables, self.numbers[job.source], MARKS[job.mark], handle)
+            self.must("decoder_new", new)
+            self.must("decoder_new twice", self.library.jillapun_decoder_new(self.tables, 0, 0, handle), "IN_USE")
+            self.same("encoding", job, self.library.jillapun_decoder_encoding(handle), self.numbers[job.source])
+            size = getattr(self.library, "jillapun_decoder_max_%s_length" % name)(handle, len(data))
+            room = bytearray(size) if name == "utf8" else (units([0] * size), size)
+            call = "jillapun_decoder_decode_to_" + name
+            self.must(call, getattr(self.library, call)(handle, data, room, True, progress))
+            written = room[: progress.written] if name == "utf8" else bytes(room[0])[: 2 * progress.written]
+            self.same(call, (job, data), (progress.outcome, written.decode(codec)), (NUMBERS["INPUT_EMPTY"], text))
+            self.library.jillapun_decoder_free(handle)
 
     def coded(self, call, target, points, of_units):
         """A text by an encoder of its own: its bytes, its lost characters, and whether a call told of some."""
         handle = self.library.struct("EncoderHandle")()
         self.must("encoder_new", self.library.jillapun_encoder_new(self.tables, self.numbers[target], handle))
         progress, output, lost, had, index = self.library.struct("EncoderProgress")(), bytearray(), [], False, 0
+        if not of_units:
+            room = bytearray(40)
+            self.must(call, getattr(self.library, call)(handle, b"a\xff", room, False, progress), "NOT_UTF8")
+            self.same(call, "no text", (progress.read, progress.written, bytes(room)), (0, 0, bytes(40)))
         place = self.random.randint(0, len(points))
         most = self.random.choice((14, 60, 5000))
         for part, last in ((points[:place], False), (points[place:], True)):

@@ -3,8 +3,9 @@
 An edit has a name, FUNCTION.FAULT, where FUNCTION is the function whose body it changes (`Type-function` for a method) and
 FAULT says what is wrong. It has one change or more: an old text, which stands once in its file, and the new one.
 
-`edits/` has one file for each source file that has edits: `edits/X.edits` for `src/X.rt`. An edit is its name, then the
-lines `old: TEXT` and `new: TEXT` of each change; empty lines stand between edits, and a line `# ..` is a comment.
+`edits/` has one file for each source file that has edits: `edits/X.edits` for `src/X.rt`, where X may have folders. An edit
+is its name, then the lines `old: TEXT` and `new: TEXT` of each change; empty lines stand between edits, and a line `# ..` is
+a comment.
 
 `must-fail/` has the form that `rt` reads: NAME.edit for each edit, with a line `file: PATH` before its changes.
 """
@@ -65,9 +66,10 @@ def change_lines(lines, target, place):
     return changes
 
 
-def edits_of_file(path):
-    """The edits of one file of either form, in its order."""
-    base, ending = os.path.splitext(os.path.basename(path))
+def edits_of_file(place, name):
+    """The edits of one file of either form in a folder of edits, in its order."""
+    path = os.path.join(place, name)
+    base, ending = os.path.splitext(name)
     if ending == ".edit":
         return [Edit(base, change_lines(read(path).rstrip("\n").split("\n"), None, path))]
     edits = []
@@ -83,6 +85,6 @@ def edits_of_file(path):
 def edits_of(crate, folder):
     """The edits in a folder of a crate, by their names."""
     place = os.path.join(CRATES, crate, folder)
-    names = sorted(os.listdir(place)) if os.path.isdir(place) else []
-    paths = [os.path.join(place, name) for name in names if name.endswith((".edit", ".edits"))]
-    return sorted((edit for path in paths for edit in edits_of_file(path)), key=lambda edit: edit.name)
+    paths = [os.path.join(top, name) for top, _, names in os.walk(place) for name in names]
+    names = [os.path.relpath(path, place) for path in sorted(paths) if path.endswith((".edit", ".edits"))]
+    return sorted((edit for name in names for edit in edits_of_file(place, name)), key=lambda edit: edit.name)

@@ -99,10 +99,6 @@ value_found size rows p None index none = elim (cases_eq (slice_index (flat_list
 value_found size rows p (Some entry) index row =
     value_here size rows p row.0 index row.1 (ap (λ r. r.0) row.2) ∙ ap (λ r. Some r.1) row.2
 
--- what a look at a position gives
-pub row_got : (got rows : List (ℕ × ℕ)) (k : ℕ) (row : ℕ × ℕ) → got ≡ rows → k < length got → row ≡ get_or got k row → (k < length rows) × (row_at rows k ≡ row)
-row_got got rows k row same within is = (rw (← same) within, rw (← same) (get_or_default got k (0, 0) row within ∙ sym is))
-
 -- The mapped rows of a list, and of rows: they are in order, and stand for the same list.
 
 -- mapped rows in order, from one pointer to below another

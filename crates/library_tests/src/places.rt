@@ -1,7 +1,7 @@
 //! Places of what a log names, and of what a target would lose.
 
 use encoding_front::{Encoding, Mark};
-use encoding_tables::Tables;
+use encoding_tables::{IndexKind, Tables};
 use recode_places::{
     Choice, Entry, Fate, Fates, Finding, LogMatch, Place, Source, Stop, tell_places,
 };
@@ -159,6 +159,67 @@ fn without_a_log_what_a_target_loses_is_told(rt: HostRuntime) -> Result<(), Fail
     assert_eq!(rt; is_at(&entries[0], 5, 2, 2), true);
     assert_eq!(rt; is_at(&entries[1], 7, 2, 4), true);
     assert_eq!(rt; entries[1].finding, Finding::Lost { scalar: '\u{3A9}' });
+    Ok(())
+}
+
+// What is told of the text `a`, a yen sign, a kanji, with these choices of a target.
+fn told_of_three(
+    alloc: Global,
+    tables: &Tables,
+    mut choice: Choice<'_, &[u8]>,
+) -> Result<Vec<Entry>, Stop> {
+    let source = Source {
+        from: Encoding::Utf8,
+        mark: Mark::Sniff,
+        tables,
+    };
+    let mut reader = "a\u{A5}\u{65E5}".as_bytes();
+    let mut entries = Vec::new(alloc);
+    if !source.from.is_ready(tables) {
+        return Err(Stop::Input);
+    }
+    tell_places(&mut reader, source, &mut choice, &mut entries)?;
+    Ok(entries)
+}
+
+// Shift_JIS writes the yen sign as 5C, which is read as a backslash, and the overline as 7E. Its
+// index has no entry here.
+#[test]
+fn what_a_target_writes_as_another_is_told_if_it_is_asked(rt: HostRuntime) -> Result<(), Fail> {
+    let mut tables = Tables::new(rt.alloc());
+    let _ = tables.insert_rows(IndexKind::Jis0208, &[]);
+    let to = Encoding::ShiftJis;
+    assert!(rt; to.output_encoding().is_ready(&tables));
+    let mut fates = Fates::new(to, &tables);
+    assert_eq!(rt; fates.of('a'), Fate::Kept);
+    assert_eq!(rt; fates.of('\u{A5}'), Fate::Folded(Some('\\')));
+    assert_eq!(rt; fates.of('\u{203E}'), Fate::Folded(Some('~')));
+    assert_eq!(rt; fates.of('\u{65E5}'), Fate::Lost);
+    assert_eq!(rt; fates.of('\u{FF71}'), Fate::Kept);
+    let folded = Finding::Folded {
+        scalar: '\u{A5}',
+        becomes: Some('\\'),
+    };
+    let lost = Finding::Lost {
+        scalar: '\u{65E5}',
+    };
+    let all = told_of_three(rt.alloc(), &tables, Choice::of_target(fates, true))?;
+    assert_eq!(rt; all.len(), 2);
+    assert_eq!(rt; all[0].finding, folded);
+    assert_eq!(rt; all[1].finding, lost);
+    let fates = Fates::new(to, &tables);
+    let some = told_of_three(rt.alloc(), &tables, Choice::of_target(fates, false))?;
+    assert_eq!(rt; some.len(), 1);
+    assert_eq!(rt; some[0].finding, lost);
+    let fates = Fates::new(to, &tables);
+    let log = LogMatch::new(b"".as_slice())?;
+    let others = told_of_three(
+        rt.alloc(),
+        &tables,
+        Choice::of_log_with_folds(log, fates),
+    )?;
+    assert_eq!(rt; others.len(), 1);
+    assert_eq!(rt; others[0].finding, folded);
     Ok(())
 }
 

@@ -8,3 +8,8 @@ pub mod ReadsLemmas
 pub mod LineLemmas
 pub mod FitsLemmas
 pub mod AheadLemmas
+pub mod FateLemmas
+pub mod ShortPieceLemmas
+pub mod LoggedFormLemmas
+pub mod RunLogLemmas
+pub mod FatedLemmas

@@ -2,5 +2,6 @@ pub mod Places
 pub mod Entries
 pub mod Logs
 pub mod Fits
+pub mod Fates
 pub mod calls
 pub mod examples

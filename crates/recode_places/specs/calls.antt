@@ -2,3 +2,4 @@
 pub mod Walks
 pub mod Ready
 pub mod LogViews
+pub mod FatesViews

@@ -1,4 +1,5 @@
 -- Worked rows: what the definitions say of values, by `refl`.
 pub mod Entries
 pub mod Fits
+pub mod Fates
 pub mod Places

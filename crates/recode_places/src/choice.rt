@@ -1,14 +1,16 @@
 //! Which characters and malformed sequences are told.
 
 ghost use Rattle.std.specs.Prelude.{◌≡◌, ℕ, ◌+◌, ◌<◌, ◌≤◌, List, [], ◌∷◌, length};
-ghost use Rattle.std.specs.Prelude.{IfOk, IfSome, IsOk, IsTrue, OnOk};
+ghost use Rattle.std.specs.Prelude.{IfOk, IfSome, IsOk, IsTrue, None, OnOk, Some, false, true};
 ghost use Rattle.encoding_mem.specs.Piece.{Piece, malformed};
 ghost use Rattle.recode_places.specs.Fits.{Fits, FitsFrom, GoesOn, IsLeftOfLog};
 ghost use Rattle.recode_places.specs.Entries.{IsOfCharacter};
 ghost use Rattle.recode_places.specs.Logs.{IsLogEnd, TakesLines, ended, unknown};
-ghost use Rattle.recode_places.specs.declared.entry.Finding.TheVariants.{Folded};
+ghost use Rattle.recode_places.specs.declared.fates.Fate.{Fate};
 ghost use Rattle.recode_places.specs.calls.LogViews.{NamesFound, NamesMalformed, TakesSome};
 ghost use Rattle.recode_places.specs.calls.LogViews.{choice_left, match_left};
+ghost use Rattle.recode_places.specs.calls.FatesViews.{IsToldOf, asked_by, fate_asked};
+ghost use Rattle.recode_places.specs.calls.FatesViews.{fates_target, told_by_fate};
 
 use crate::entry::{Finding, Stop};
 use crate::fates::{Fate, Fates};
@@ -28,7 +30,12 @@ pub struct Choice<'t, L> {
 impl<'t, L: Read> Choice<'t, L> {
     /// What the log names.
     pub fn of_log(log: LogMatch<L>) -> Choice<'t, L>
-        ensures { choice_left L.remaining result ≡ match_left L.remaining log }
+        ensures left { choice_left L.remaining result ≡ match_left L.remaining log }
+        ensures asked { asked_by result ≡ record {
+          has_log = true;
+          target = None;
+          folds = false;
+        } }
     {
         Choice {
             log: Some(log),
@@ -39,7 +46,12 @@ impl<'t, L: Read> Choice<'t, L> {
 
     /// What the log names, and each character that the target writes as another.
     pub fn of_log_with_folds(log: LogMatch<L>, fates: Fates<'t>) -> Choice<'t, L>
-        ensures { choice_left L.remaining result ≡ match_left L.remaining log }
+        ensures left { choice_left L.remaining result ≡ match_left L.remaining log }
+        ensures asked { asked_by result ≡ record {
+          has_log = true;
+          target = Some (fates_target fates.entry);
+          folds = true;
+        } }
     {
         Choice {
             log: Some(log),
@@ -50,7 +62,12 @@ impl<'t, L: Read> Choice<'t, L> {
 
     /// What a run would log, and, with `folds`, each character that the target writes as another.
     pub fn of_target(fates: Fates<'t>, folds: bool) -> Choice<'t, L>
-        ensures { choice_left L.remaining result ≡ unknown }
+        ensures left { choice_left L.remaining result ≡ unknown }
+        ensures asked { asked_by result ≡ record {
+          has_log = false;
+          target = Some (fates_target fates.entry);
+          folds = folds;
+        } }
     {
         Choice {
             log: None,
@@ -94,6 +111,8 @@ impl<'t, L: Read> Choice<'t, L> {
     /// the log.
     pub fn character(&mut self, index: u64, c: char) -> Result<Option<Finding>, Stop>
         ensures of { IfOk result (λ found. IfSome found (IsOfCharacter c)) }
+        ensures told { IfOk result (IsToldOf (asked_by self.old) c) }
+        ensures asked { asked_by self.new ≡ asked_by self.old }
         ensures named { IfOk result (λ found. TakesSome (choice_left L.remaining self.old)
             (choice_left L.remaining self.new) (NamesFound index found)) }
         ensures fits { (offset : ℕ) (t : List ℕ) (ps : List Piece)
@@ -121,7 +140,9 @@ impl<'t, L: Read> Choice<'t, L> {
 
     // What becomes of a character in the target. If that isn't asked, it is taken to be kept.
     fn fate(&mut self, c: char) -> Fate
-        ensures { self.new.log ≡ self.old.log }
+        ensures log { self.new.log ≡ self.old.log }
+        ensures asked { asked_by self.new ≡ asked_by self.old }
+        ensures fate { result ≡ fate_asked (asked_by self.old).target c }
     {
         match &mut self.fates {
             Some(fates) => fates.of(c),
@@ -131,7 +152,7 @@ impl<'t, L: Read> Choice<'t, L> {
 
     // A character that is folded, if folds are asked for.
     fn fold(&self, c: char, becomes: Option<char>) -> Option<Finding>
-        ensures { IfSome result (λ found. found ≡ Folded c becomes) }
+        ensures { result ≡ told_by_fate (asked_by self.now) c (Fate.Folded becomes) }
     {
         self.folds.then_some(Finding::Folded { scalar: c, becomes })
     }
@@ -139,6 +160,7 @@ impl<'t, L: Read> Choice<'t, L> {
     /// Whether this malformed sequence is told, for which the U+FFFD with this index stands. The
     /// error is that of the log.
     pub fn malformed(&mut self, index: u64, offset: u64, length: u8) -> Result<bool, Stop>
+        ensures asked { asked_by self.new ≡ asked_by self.old }
         ensures named { IfOk result (λ is_told. TakesSome (choice_left L.remaining self.old)
             (choice_left L.remaining self.new) (NamesMalformed index offset length is_told)) }
         ensures fits { (ps : List Piece) → 0 < length

@@ -13,6 +13,7 @@ ghost use Rattle.recode_places.specs.Entries.{TellsTrue, TellsTrueIn};
 ghost use Rattle.recode_places.specs.Fits.{Fits, FitsFrom, GoesOn, IsLeftOfLog, IsNotUnfit};
 ghost use Rattle.recode_places.specs.Logs.{TellsLines, bytes, ended};
 ghost use Rattle.recode_places.specs.calls.LogViews.{choice_left};
+ghost use Rattle.recode_places.specs.calls.FatesViews.{TellsFates, asked_by};
 ghost use Rattle.recode_places.specs.calls.Walks.{CanWalk, TellsPrefix, WalksChunk, WalksPart};
 ghost use Rattle.recode_places.specs.calls.Walks.{FitsAhead, has_ended};
 ghost use Rattle.recode_places.specs.calls.Walks.{walk_state};
@@ -102,6 +103,8 @@ fn tell_character<L: Read, V: Visitor>(
     ensures index { OnOk result (place.new.index ≡ place.old.index + 1) }
     ensures lines { OnOk result (TellsLines (choice_left L.remaining choice.old)
         (choice_left L.remaining choice.new) (V.told visitor.old) (V.told visitor.new)) }
+    ensures fates { OnOk result (TellsFates (asked_by choice.old) (asked_by choice.new)
+        (V.told visitor.old) (V.told visitor.new)) }
     ensures fits { (offset : ℕ) (t : List ℕ) (ps : List Piece)
         → IsLeftOfLog (FitsFrom place.old.index offset (c ∷ t) ps)
         (choice_left L.remaining choice.old)
@@ -135,6 +138,8 @@ fn tell_text<L: Read, V: Visitor>(
     ensures index { OnOk result (place.new.index ≡ place.old.index + length (chars text.now)) }
     ensures lines { OnOk result (TellsLines (choice_left L.remaining choice.old)
         (choice_left L.remaining choice.new) (V.told visitor.old) (V.told visitor.new)) }
+    ensures fates { OnOk result (TellsFates (asked_by choice.old) (asked_by choice.new)
+        (V.told visitor.old) (V.told visitor.new)) }
     ensures fits { (offset : ℕ) (ps : List Piece)
         → IsLeftOfLog (FitsFrom place.old.index offset (chars text.now) ps)
         (choice_left L.remaining choice.old)
@@ -163,6 +168,8 @@ fn tell_malformed<L: Read, V: Visitor>(
         → TellsTrueIn (ps ++ (malformed length ∷ [])) (V.told visitor.old) (V.told visitor.new) }
     ensures lines { OnOk result (TellsLines (choice_left L.remaining choice.old)
         (choice_left L.remaining choice.new) (V.told visitor.old) (V.told visitor.new)) }
+    ensures fates { OnOk result (TellsFates (asked_by choice.old) (asked_by choice.new)
+        (V.told visitor.old) (V.told visitor.new)) }
     ensures fits { (ps : List Piece) → 0 < length
         → IsLeftOfLog (Fits place.index offset (malformed length ∷ ps))
         (choice_left L.remaining choice.old)
@@ -194,6 +201,8 @@ impl<'t> Walk<'t> {
             (walk_state self.old) (walk_state self.new) chunk.now last p.read p.is_done) }
         ensures lines { OnOk result (TellsLines (choice_left L.remaining choice.old)
             (choice_left L.remaining choice.new) (V.told visitor.old) (V.told visitor.new)) }
+        ensures fates { OnOk result (TellsFates (asked_by choice.old) (asked_by choice.new)
+            (V.told visitor.old) (V.told visitor.new)) }
         ensures err { OnErr result (TellsPrefix (V.told visitor.old) (V.told visitor.new)
             (walk_state self.old) chunk.now last) }
         ensures fits { (r : List ℕ) → (last ≡ true → r ≡ [])
@@ -246,6 +255,8 @@ impl<'t> Walk<'t> {
             (walk_state self.old) (walk_state self.new) chunk.now (has_ended chunk.now)) }
         ensures lines { OnOk result (TellsLines (choice_left L.remaining choice.old)
             (choice_left L.remaining choice.new) (V.told visitor.old) (V.told visitor.new)) }
+        ensures fates { OnOk result (TellsFates (asked_by choice.old) (asked_by choice.new)
+            (V.told visitor.old) (V.told visitor.new)) }
         ensures err { OnErr result (TellsPrefix (V.told visitor.old) (V.told visitor.new)
             (walk_state self.old) chunk.now (has_ended chunk.now)) }
         ensures fits { (r : List ℕ) → (has_ended chunk.now ≡ true → r ≡ [])
@@ -271,7 +282,9 @@ impl<'t> Walk<'t> {
 /// for each thing that is chosen, with its place. An entry that is told is true, also if an error
 /// ends the telling: it names a malformed sequence, or a character of the text, of the whole input
 /// as `source` reads it, and its place. On success, if the choice goes by a log, the log has the
-/// lines of the entries, in their order, and then its end: none was passed over.
+/// lines of the entries, in their order, and then its end: none was passed over. A character that
+/// is told then is folded in the target that the choice asks, where folds are asked for, or lost
+/// there; or it is lost by its line in the log.
 ///
 /// The error is what the choice or the visitor ended with (`Unfit`, `Log`, `Write`, `Memory`),
 /// `Input` if a read fails, or `TooLong` if the input has more than 2^48 bytes. It is not `Unfit`
@@ -288,6 +301,8 @@ pub fn tell_places<R: Read, L: Read, V: Visitor>(
         (marked_pieces source.entry.tables.now source.entry.mark source.entry.from x)
         (V.told visitor.old) (V.told visitor.new)) }
     ensures lines { OnOk result (TellsLines (choice_left L.remaining choice.old) ended
+        (V.told visitor.old) (V.told visitor.new)) }
+    ensures fates { OnOk result (TellsFates (asked_by choice.old) (asked_by choice.new)
         (V.told visitor.old) (V.told visitor.new)) }
     ensures fits { (x : List ℕ) → R.remaining reader.old ≡ Some x
         → IsLeftOfLog (Fits 0 0

@@ -1,9 +1,28 @@
-use Rattle.std.proofs.Common.{ap, ◌∙◌, subst, sym}
+use Rattle.std.proofs.Common.{◌∷◌, ◌++◌, ◌∙◌, [], ap, subst, sym}
+use Rattle.recode_places.specs.Entries.{TellsTrue}
 use Rattle.recode_places.specs.Logs.{TakesLines, TellsLines}
+use Rattle.recode_places.specs.calls.FatesViews.{IsToldOf, TellsFates, asked_by}
 use Rattle.recode_places.specs.calls.LogViews.{NamesFound, TakesSome, choice_left}
+use Rattle.recode_places.proofs.EntryLemmas.{tells_nothing}
+use Rattle.recode_places.proofs.FatedLemmas.{fated_none, fated_one}
 use Rattle.recode_places.proofs.ReadsLemmas.{lines_none, lines_one}
 use Rattle.recode_places.proofs.walk.tell_character.Goals as goal
 use Rattle.recode_places.proofs.walk.tell_character.Goals.{in-Some+in_ok-entry-in-Some, in-None}
+
+pub returns-clause-fates : goal.returns-clause-fates
+returns-clause-fates g c =
+    let a = asked_by c.args.choice.now in
+    let b = asked_by c.character.new.self in
+    let told = c.in_ok-finding.ensures.told in
+    let same = c.character.ensures.asked in
+    elim c.match-branch-2.branch [
+      | in-Some+in_ok-entry-in-Some w ↦
+          subst (TellsFates a b (g.V.Visitor.told c.args.visitor.now)) (sym (c.characters.ensures ∙ ap g.V.Visitor.told w.visitor-is))
+          (fated_one a b c.args.c _ _ _ same (subst (IsToldOf a c.args.c) w.in-Some.is told) w.in_ok-entry-in-Some.ensures.ok)
+      | in-None w ↦
+          subst (TellsFates a b (g.V.Visitor.told c.args.visitor.now)) (sym (c.characters.ensures ∙ ap g.V.Visitor.told w.visitor-is))
+          (fated_none a b _ same)
+    ]
 
 pub returns-clause-lines : goal.returns-clause-lines
 returns-clause-lines g c =
@@ -20,3 +39,7 @@ returns-clause-lines g c =
           subst (λ t. TellsLines left left' (g.V.Visitor.told c.args.visitor.now) t) (sym (c.characters.ensures ∙ ap g.V.Visitor.told w.visitor-is))
           (lines_none left left' _ (subst (λ bs. TakesLines left left' bs) none.2 none.1))
     ]
+
+pub returns-in_err-entry-in-Some-clause-told : goal.returns-in_err-entry-in-Some-clause-told
+returns-in_err-entry-in-Some-clause-told g c = λ ps t p.
+    subst (TellsTrue ps (t ++ (c.args.c ∷ [])) (g.V.Visitor.told c.args.visitor.now)) (sym c.in_err-entry-in-Some.ensures.err) (tells_nothing ps (t ++ (c.args.c ∷ [])) (g.V.Visitor.told c.args.visitor.now))

@@ -1,16 +1,18 @@
-use Rattle.std.proofs.Common.{◌∙◌, arith, length, subst, take}
+use Rattle.std.proofs.Common.{◌∙◌, arith, length, subst, take, refl}
 use Rattle.std.proofs.lemmas.Bool.{eq-eqb, eqb-true, ne_eqb}
 use Rattle.std.proofs.lemmas.List.{length-take}
 use Rattle.encoding_front.specs.calls.DecoderViews.{decoder_view}
 use Rattle.recode_places.specs.calls.LogViews.{choice_left}
 use Rattle.recode_places.specs.calls.Walks.{FitsAhead, walk_state}
 use Rattle.recode_places.proofs.AheadLemmas.{ahead_new, at_end, consumed, ends_ahead, if_err, if_ok}
+use Rattle.recode_places.specs.calls.FatesViews.{asked_by}
+use Rattle.recode_places.proofs.FatedLemmas.{fated_none, fated_then, if_ok_anyway}
 use Rattle.recode_places.proofs.ReadsLemmas.{finished_lines, lines_none, lines_then, reads_nothing}
 use Rattle.recode_places.proofs.WalkLemmas.{stops_known, tells_known, walks_from, walks_new}
 use Rattle.recode_places.proofs.walk.tell_places.Goals as goal
 
 pub input-init : goal.input-init
-input-init g c = record { walks = walks_new _ _ _; lines = lines_none _ _ _ (reads_nothing _); fits = λ x e h. (x, e, h); ready = record { open_ = c.new.ensures.begins.open_; within = omega (arith, c.new.ensures.begins.pending, c.first.ensures.index) }; few = omega arith }
+input-init g c = record { walks = walks_new _ _ _; lines = lines_none _ _ _ (reads_nothing _); fates = fated_none (asked_by c.args.choice.now) (asked_by c.args.choice.now) _ refl; fits = λ x e h. (x, e, h); ready = record { open_ = c.new.ensures.begins.open_; within = omega (arith, c.new.ensures.begins.pending, c.first.ensures.index) }; few = omega arith }
 
 pub returns-in_default-clause-told : goal.returns-in_default-clause-told
 returns-in_default-clause-told g c = tells_known _ _ _ _ (record { place = c.first.ensures; read = omega (arith, c.new.ensures.begins.pending) }) c.new.ensures.begins.pieces _ _ _ c.input.invariant.walks
@@ -35,6 +37,9 @@ returns-then-count-eq0-clause-told g c =
     (walks_from _ _ _ _ _ _ _ _ _ _ _ c.input.invariant.walks
     c.in-Ok.ensures.bytes.0 (λ h. c.in-Ok.ensures.bytes.1 (c.in-Ok.ensures.bound.1 ∙ eqb-true _ 0 h) (omega (arith, c.read.auto.buf))) c.in_ok-chunk.ensures.chunk.walks)
 
+pub returns-then-count-eq0-clause-fates : goal.returns-then-count-eq0-clause-fates
+returns-then-count-eq0-clause-fates g c = if_ok_anyway _ _ (fated_then _ _ _ _ _ _ c.input.invariant.fates c.in_ok-chunk.ensures.fates)
+
 pub returns-then-count-eq0-clause-lines : goal.returns-then-count-eq0-clause-lines
 returns-then-count-eq0-clause-lines g c = finished_lines _ _ _ _ _ (lines_then _ _ _ _ _ _ c.input.invariant.lines c.in_ok-chunk.ensures.lines) c.finish.ensures.lines
 
@@ -53,6 +58,7 @@ input-preserved g c =
                 (subst (λ y. FitsAhead (walk_state c.input.walk) (choice_left g.L.Read.remaining c.input.choice) y) next.2 now.2),
           );
       lines = lines_then _ _ _ _ _ _ c.input.invariant.lines c.in_ok-chunk.ensures.lines;
+      fates = fated_then _ _ _ _ _ _ c.input.invariant.fates c.in_ok-chunk.ensures.fates;
       ready = record { open_ = chunk.more (ne_eqb (length (take c.in-Ok.count c.read.new.buf)) 0 (omega (arith, c.in-Ok.ensures.bound.1, c.if-count-eq0.false))); within = chunk.walks.within c.input.invariant.ready.within };
       few = omega (arith, chunk.walks.read, c.if-count-walk.false, c.in-Ok.ensures.bound.1, c.input.invariant.few);
     }

@@ -1,5 +1,6 @@
 use Rattle.std.proofs.Common.{◌≡◌, ◌-◌, ◌^◌, ◌≤◌, List, Some, ℕ}
 use Rattle.recode_places.specs.Logs.{TellsLines}
+use Rattle.recode_places.specs.calls.FatesViews.{TellsFates, asked_by}
 use Rattle.recode_places.specs.calls.LogViews.{choice_left}
 use Rattle.recode_places.specs.calls.Walks.{CanWalk, FitsAhead, WalksInput, walk_state}
 use Rattle.recode_places.proofs.walk.tell_places.Given as goal
@@ -8,6 +9,7 @@ abbrev pub invariant-input : goal.invariant-input
 invariant-input g l = record {
   walks : WalksInput (g.V.Visitor.told l.initial.visitor) (g.V.Visitor.told l.visitor) (walk_state l.initial.walk) (walk_state l.walk) (g.R.Read.remaining l.initial.reader) (g.R.Read.remaining l.reader);
   lines : TellsLines (choice_left g.L.Read.remaining l.initial.choice) (choice_left g.L.Read.remaining l.choice) (g.V.Visitor.told l.initial.visitor) (g.V.Visitor.told l.visitor);
+  fates : TellsFates (asked_by l.initial.choice) (asked_by l.choice) (g.V.Visitor.told l.initial.visitor) (g.V.Visitor.told l.visitor);
   fits : (x : List ℕ) → g.R.Read.remaining l.initial.reader ≡ Some x → FitsAhead (walk_state l.initial.walk) (choice_left g.L.Read.remaining l.initial.choice) x
       → (y : List ℕ) × (g.R.Read.remaining l.reader ≡ Some y) × FitsAhead (walk_state l.walk) (choice_left g.L.Read.remaining l.choice) y;
   ready : CanWalk (walk_state l.walk);

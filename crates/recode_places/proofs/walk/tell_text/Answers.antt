@@ -7,6 +7,7 @@ use Rattle.recode_places.specs.calls.LogViews.{choice_left}
 use Rattle.recode_places.proofs.CallLemmas.{few_chars}
 use Rattle.recode_places.proofs.FitsLemmas.{goes_err}
 use Rattle.recode_places.proofs.EntryLemmas.{tells_on, tells_prefix}
+use Rattle.recode_places.proofs.FatedLemmas.{fated_then}
 use Rattle.recode_places.proofs.ReadsLemmas.{lines_then}
 use Rattle.recode_places.proofs.TextLemmas.{passed_prefix}
 use Rattle.recode_places.proofs.walk.tell_text.Goals as goal
@@ -22,6 +23,7 @@ loop-c-preserved g c =
           subst (λ n. IsLeftOfLog (FitsFrom n o rest ps) (choice_left g.L.Read.remaining c.tell_character.new.choice)) (sym e.index)
           (e.fits o rest ps (i.fits o (c.in-Some.c ∷ rest) ps (subst (λ t. IsLeftOfLog (FitsFrom c.args.place.now.index o t ps) (choice_left g.L.Read.remaining c.args.choice.now)) (append_assoc c.loop-c.yielded (c.in-Some.c ∷ []) rest) h)));
       lines = lines_then _ _ _ _ _ _ i.lines e.lines;
+      fates = fated_then _ _ _ _ _ _ i.fates e.fates;
       told = λ ps t p. tells_on ps t c.loop-c.yielded (c.in-Some.c ∷ []) _ _ _ (i.told ps t p) (e.told ps (t ++ c.loop-c.yielded) (i.place t p));
     }
 

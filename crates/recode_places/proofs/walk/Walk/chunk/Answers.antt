@@ -1,14 +1,16 @@
-use Rattle.std.proofs.Common.{sym}
+use Rattle.std.proofs.Common.{sym, refl}
 use Rattle.std.proofs.lemmas.List.{take_rest}
 use Rattle.recode_places.specs.calls.Walks.{walk_state}
 use Rattle.recode_places.proofs.CallLemmas.{on_err}
 use Rattle.recode_places.proofs.FitsLemmas.{match_err}
+use Rattle.recode_places.specs.calls.FatesViews.{asked_by}
+use Rattle.recode_places.proofs.FatedLemmas.{fated_none, fated_then}
 use Rattle.recode_places.proofs.ReadsLemmas.{lines_none, lines_then, reads_nothing}
 use Rattle.recode_places.proofs.WalkLemmas.{walks_start, walks_stops, walks_then}
 use Rattle.recode_places.proofs.walk.Walk.chunk.Goals as goal
 
 pub chunk-init : goal.chunk-init
-chunk-init g c = record { walks = walks_start _ (walk_state c.args.self.now) _ _; lines = lines_none _ _ _ (reads_nothing _); fits = λ r end h. h; ready = c.requires.ready }
+chunk-init g c = record { walks = walks_start _ (walk_state c.args.self.now) _ _; lines = lines_none _ _ _ (reads_nothing _); fates = fated_none (asked_by c.args.choice.now) (asked_by c.args.choice.now) _ refl; fits = λ r end h. h; ready = c.requires.ready }
 
 pub returns-in_err-part-clause-err : goal.returns-in_err-part-clause-err
 returns-in_err-part-clause-err g c =
@@ -32,8 +34,12 @@ chunk-preserved g c =
       walks = rw (take_rest c.chunk.rest.now c.in_ok-part.part.read) (walks_then _ _ _ _ _ _ _ _ _ _ c.chunk.invariant.walks part.walks);
       fits = λ r end h. rw (take_rest c.chunk.rest.now c.in_ok-part.part.read) (c.in_ok-part.ensures.fits r end (c.chunk.invariant.fits r end h));
       lines = lines_then _ _ _ _ _ _ c.chunk.invariant.lines c.in_ok-part.ensures.lines;
+      fates = fated_then _ _ _ _ _ _ c.chunk.invariant.fates c.in_ok-part.ensures.fates;
       ready = record { open_ = more.0; within = part.walks.within c.chunk.invariant.ready.within };
     }
+
+pub returns-then-part-clause-fates : goal.returns-then-part-clause-fates
+returns-then-part-clause-fates g c = fated_then _ _ _ _ _ _ c.chunk.invariant.fates c.in_ok-part.ensures.fates
 
 pub returns-then-part-clause-lines : goal.returns-then-part-clause-lines
 returns-then-part-clause-lines g c = lines_then _ _ _ _ _ _ c.chunk.invariant.lines c.in_ok-part.ensures.lines

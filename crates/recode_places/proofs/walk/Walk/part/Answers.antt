@@ -7,6 +7,7 @@ use Rattle.std.proofs.lemmas.List.{length-take}
 use Rattle.recode_places.proofs.CallLemmas.{call_chars, call_is_utf8, few_chars, on_err, reported}
 use Rattle.recode_places.proofs.AheadLemmas.{ahead_done, ahead_malformed, ahead_passed, ahead_text, offset_after, some_bytes}
 use Rattle.recode_places.proofs.FitsLemmas.{match_err}
+use Rattle.recode_places.proofs.FatedLemmas.{fated_then}
 use Rattle.recode_places.proofs.ReadsLemmas.{lines_then}
 use Rattle.recode_places.proofs.WalkLemmas.{end_none, fewer_left, finishes_last, finishes_not, some_malformed, some_written, malformed_stops, malformed_within, text_stops, walks_malformed, walks_text}
 use Rattle.recode_places.proofs.walk.Walk.part.Goals as goal
@@ -113,6 +114,10 @@ returns-in_ok-malformed-in-Malformed-clause-part g c =
       );
       done = λ h. absurd (false≢true h);
     }
+
+pub returns-in_ok-malformed-in-Malformed-clause-fates : goal.returns-in_ok-malformed-in-Malformed-clause-fates
+returns-in_ok-malformed-in-Malformed-clause-fates g c =
+    rw c.in_ok-malformed-in-Malformed.ensures (fated_then _ _ _ _ _ _ c.in_ok-tell_text.ensures.fates c.in_ok-tell_malformed-in-Malformed.ensures.fates)
 
 pub returns-in_ok-malformed-in-Malformed-clause-lines : goal.returns-in_ok-malformed-in-Malformed-clause-lines
 returns-in_ok-malformed-in-Malformed-clause-lines g c =
