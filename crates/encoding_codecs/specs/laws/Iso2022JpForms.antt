@@ -12,7 +12,7 @@ use Rattle.encoding_mem.specs.declared.form.EscapeState.TheVariants.{Ascii, Roma
 use Rattle.encoding_codecs.specs.Iso2022JpForms.{iso_2022_jp_pointer, iso_2022_jp_form, is_same_set, Sets, only, ascii_or_roman, set_after, sets_of_pointer, iso_2022_jp_sets, iso_2022_jp_escape_to, iso_2022_jp_escape, iso_2022_jp_coding, iso_2022_jp_pair_bytes}
 use Rattle.encoding_codecs.specs.laws.Pointers.{form_of_pointer}
 
--- where a character has one set, that one is taken
+-- if a character has one set, that one is taken
 pub set_after-only : (q s : EscapeState) → set_after (only q) s ≡ q
 set_after-only Ascii Ascii = refl
 set_after-only Ascii Roman = refl
