@@ -78,7 +78,8 @@ places: build
 	@python3 tools/places.py
 
 # The program by a table of command lines, with index texts that no one publishes, and on streams that are closed, full,
-# slow, abandoned or 4 GiB long: status, output and log as README.md says. Half a minute after a build. The gate does this but for the 4 GiB.
+# slow, abandoned or 4 GiB long: status, output and log as README.md says. Half a minute after a build. The gate does
+# this but for the 4 GiB.
 hostile: build
 	@python3 tools/command_lines.py
 	@python3 tools/hostile_indexes.py
