@@ -52,7 +52,8 @@ usage:
 edits:
 	@python3 tools/edits.py
 
-# A codec more, and an encoding more, as docs/examples has them, each added to a copy of the last commit and proved there.
+# A codec more, and an encoding more, as docs/examples has them, each added to a copy of the last commit and proved there:
+# a minute, and then a check of `encoding_front`.
 example:
 	@python3 tools/example.py
 
@@ -74,7 +75,7 @@ fuzz: build
 
 # The program, and calls of the libraries, with each request for memory refused in turn, and then with all refused:
 # `recode` must end with status 3 and say so; a call must return that fault, leave tables as they were, and succeed when
-# made again.
+# made again. The first time 4 minutes of processor time after a build.
 refused: build
 	@cd crates/encoding_refusals && rt run > /dev/null
 	@python3 tools/refused_memory.py
@@ -85,7 +86,8 @@ places: build
 	@python3 tools/places.py
 
 # The program by a table of command lines, with index texts that no one publishes, and on streams that are closed, full,
-# slow, abandoned or 4 GiB long: status, output and log as README.md says. The gate does this but for the 4 GiB.
+# slow, abandoned or 4 GiB long: status, output and log as README.md says. Half a minute after a build. The gate does
+# this but for the 4 GiB.
 hostile: build
 	@python3 tools/command_lines.py
 	@python3 tools/hostile_indexes.py
@@ -105,7 +107,8 @@ characters:
 		<($(CURDIR)/crates/encoding_index_files/out/encoding_index_files all | sed -n '/ reads: /,$$p')
 
 # Whether each character is kept as a text of its own, in every encoding, as a run reports it, against what
-# `tools/characters.py` makes of it: the gate does a part. This needs Python and bash, and takes minutes.
+# `tools/characters.py` makes of it: the gate does a part. This needs Python and bash, and takes minutes:
+# the plain program alone 2 to 3 of processor time.
 verdicts: SHELL = bash
 verdicts:
 	@$(call built,recode_cases)
