@@ -32,6 +32,7 @@ EXAMPLES = "library_examples"
 PROGRAMS = {
     "encoding_front": [
         ("stream_faults", "Decode a stream, and print where each malformed sequence stands", "Decoder"),
+        ("stream_losses", "Encode a stream, and print where each character without bytes stands", "Encoder"),
         ("whole_texts", "Decode and encode whole texts", "Encoding"),
     ],
     "recode": [("whole_runs", "Convert bytes, and print what was lost", "run")],

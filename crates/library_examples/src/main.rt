@@ -1,14 +1,15 @@
 //! The lines of use that the page of each library shows, made, so that they are compiled and proved. `make lint`
 //! compares them with the pages: an example stands between `// CRATE` and `// end`.
 //!
-//! Beside them are programs as users write them: `stream_faults`, `whole_runs` and `whole_texts`.
-//! Each loads its indexes and uses them in one function.
+//! Beside them are programs as users write them: `stream_faults`, `stream_losses`, `whole_runs` and
+//! `whole_texts`. Each loads its indexes and uses them in one function.
 #![tactic(auto)]
 
 mod conversions;
 mod places;
 mod reports;
 mod stream_faults;
+mod stream_losses;
 mod streams;
 mod texts;
 mod whole_runs;
@@ -40,6 +41,11 @@ fn run_programs(rt: HostRuntime) -> anyhow::Result<()> {
     let mut text = Vec::new(rt.alloc());
     stream_faults::decode_stream(rt, JIS0208, &mut input, &mut text)?;
     rt.stdout().write_all(&text)?;
+    println!(rt; "")?;
+    let pieces = ["A\u{A5}", "\u{20AC}", "b"];
+    let mut bytes = Vec::new(rt.alloc());
+    stream_losses::encode_stream(rt, JIS0208, &pieces, &mut bytes)?;
+    rt.stdout().write_all(&bytes)?;
     println!(rt; "")?;
     whole_runs::recode_bytes(rt, JIS0208, b"A\x83\x6E\xFF")
 }
