@@ -2,7 +2,7 @@
 
 ghost use Rattle.std.specs.Prelude.{◌≡◌, ◌↔◌, ◌<◌, ◌++◌, drop, false, length, true, vec_len};
 ghost use Rattle.recode.specs.Job.{IsValidJob};
-ghost use Rattle.jillapun_c.specs.Conversions.{IsConversion, IsDone, IsHandedOver, IsWanted};
+ghost use Rattle.jillapun_c.specs.Conversions.{ConvertsInMemory, IsDone, IsHandedOver, IsWanted};
 
 use crate::losses::{Loss, LossLog};
 use crate::report::{Report, told};
@@ -24,7 +24,7 @@ struct Made {
 // Runs a job in memory of its own.
 fn run_in_memory(alloc: Global, job: Job<'_>, src: &[u8]) -> Made
     requires { IsValidJob job }
-    ensures { IsConversion job.entry src.now result.output.items result.losses.items result.report
+    ensures { ConvertsInMemory job.entry src.now result.output.items result.losses.items result.report
         result.status }
 {
     known_input();
