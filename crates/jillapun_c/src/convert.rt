@@ -1,6 +1,6 @@
 //! Conversions from memory to memory.
 
-ghost use Rattle.std.specs.Prelude.{◌≡◌, ◌<◌, ◌^◌, None, length, min};
+ghost use Rattle.std.specs.Prelude.{◌≡◌, ◌<◌, ◌⊎◌, ◌^◌, None, length, min};
 ghost use Rattle.recode.specs.declared.job.Job.{Job};
 ghost use Rattle.jillapun_c.specs.Asked.{AreKnown, IsAskedIn};
 ghost use Rattle.jillapun_c.specs.Conversions.{IsDone, IsHandedOver, IsWanted};
@@ -53,6 +53,8 @@ pub extern "C" fn jillapun_convert(
     ensures room { result ≡ 10 → (j : Job)
         × IsAskedIn tables.tables from to mark policy limit j
         × IsWanted j src.now report.new }
+    ensures small { result ≡ 10 → (length dst.new < report.new.written)
+        ⊎ (length losses.new < report.new.losses) }
     ensures kept { ¬ (IsDone result) → (dst.new ≡ dst.old) × (losses.new ≡ losses.old) }
     ensures unknown { result ≡ 2 → ¬ (AreKnown from to mark policy) }
     ensures long { result ≡ 13 → min limit (2 ^ 48) < length src.now }

@@ -1,6 +1,6 @@
 //! Runs from memory to memory.
 
-ghost use Rattle.std.specs.Prelude.{◌≡◌, ◌↔◌, ◌<◌, ◌++◌, drop, false, length, true, vec_len};
+ghost use Rattle.std.specs.Prelude.{◌≡◌, ◌↔◌, ◌<◌, ◌⊎◌, ◌++◌, drop, false, length, true, vec_len};
 ghost use Rattle.recode.specs.Job.{IsValidJob};
 ghost use Rattle.jillapun_c.specs.Conversions.{ConvertsInMemory, IsDone, IsHandedOver, IsWanted};
 
@@ -54,6 +54,8 @@ fn hand_over(made: &Made, dst: &mut [u8], losses: &mut [Loss], report: &mut Repo
     ensures losses { result ≡ true
         → losses.new ≡ made.now.losses.items ++ drop (vec_len made.now.losses) losses.old }
     ensures kept { result ≡ false → (dst.new ≡ dst.old) × (losses.new ≡ losses.old) }
+    ensures small { result ≡ false → (length dst.new < report.new.written)
+        ⊎ (length losses.new < report.new.losses) }
 {
     *report = Report {
         written: made.output.len() as u64,
@@ -81,6 +83,8 @@ pub(crate) fn convert_job(
     ensures done { IsDone result → IsHandedOver job.entry src.now dst.old dst.new losses.old
         losses.new report.new result }
     ensures room { result ≡ 10 → IsWanted job.entry src.now report.new }
+    ensures small { result ≡ 10 → (length dst.new < report.new.written)
+        ⊎ (length losses.new < report.new.losses) }
     ensures kept { ¬ (IsDone result) → (dst.new ≡ dst.old) × (losses.new ≡ losses.old) }
     ensures known { ¬ (result ≡ 2) }
     ensures long { result ≡ 13 ↔ (job.entry.limit < length src.now) }
