@@ -7,3 +7,4 @@ pub mod Coders
 pub mod Openings
 pub mod DecoderCalls
 pub mod EncoderCalls
+pub mod Examples
