@@ -11,6 +11,12 @@ build:
 	@cd crates/recode_cli && rt run -- --version > /dev/null
 	@cd crates/recode_places_cli && rt run -- --version > /dev/null
 
+# Proves the library for C and builds it, static and shared: out/c/libjillapun.a and out/c/libjillapun.so. Its header is
+# include/jillapun.h.
+.PHONY: c
+c:
+	@python3 tools/c_library.py
+
 # The merge gate: `make lint`, `rt ci`, and then what `tools/gate.py` has of programs and of what is stored. One line at
 # the end counts all.
 test: lint
@@ -28,16 +34,18 @@ generate:
 
 # The reference pages of the libraries, docs/reference, from the doc comments and contracts in their sources; the page of
 # the edits; the theorem on one page, docs/HEADLINE.md, with the definitions that it stands on; and their files,
-# docs/DEFINITIONS.md.
+# docs/DEFINITIONS.md; and the header for C, include/jillapun.h.
 doc:
 	@python3 tools/reference.py
 	@python3 tools/edits_table.py
 	@python3 tools/headline.py
 	@python3 tools/definitions_page.py
+	@python3 tools/c_header.py
 
-# The parts of README.md and of the man pages that say what the help says, from its text.
+# The parts of README.md and of the man pages that say what the help says, from its text, and what the C header says.
 usage:
 	@python3 tools/usage.py
+	@python3 tools/c_manual.py
 
 # The edits that the gate leaves out, each of which the prover must refuse: those of the crates that have changed since
 # they were tried last. What came of it as docs/EDITS.md. For a release, since it can take hours.
@@ -106,11 +114,12 @@ verdicts:
 			<($(CURDIR)/crates/recode_cases/out/recode_cases 1 $$name) || exit 1; \
 	done
 
-# The programs, their man pages and the index texts.
-install: build
-	@install -D -m 755 crates/recode_cli/out/recode_cli $(DESTDIR)$(PREFIX)/bin/recode
-	@install -D -m 755 crates/recode_places_cli/out/recode_places_cli $(DESTDIR)$(PREFIX)/bin/recode-places
-	@install -D -m 644 man/recode.1 $(DESTDIR)$(PREFIX)/share/man/man1/recode.1
-	@install -D -m 644 man/recode-places.1 $(DESTDIR)$(PREFIX)/share/man/man1/recode-places.1
-	@install -d $(DESTDIR)$(PREFIX)/share/recode/indexes
-	@install -m 644 indexes/* $(DESTDIR)$(PREFIX)/share/recode/indexes
+# The programs, the library for C with its header and its file for pkg-config, their man pages, and the index texts, below
+# PREFIX.
+install: build c
+	@python3 tools/install.py --prefix $(PREFIX) --destdir "$(DESTDIR)"
+
+# An archive of these, the Python module and the licences, for machines without `rt`, in out.
+.PHONY: dist
+dist: build c
+	@python3 tools/install.py --archive

@@ -29,6 +29,7 @@ PARTS = [
     ("recode_places_report", "What is printed of places"),
     ("recode_words", "The command line's words"),
     ("recode_system", "The program on its system"),
+    ("jillapun_c", "What crosses to C"),
 ]  # fmt: skip
 
 HEAD = """# Definitions

@@ -65,7 +65,7 @@ STALE_ROW = re.compile(r"^\| (\w+)/\S+ \| .* \|$", re.M)
 # What may come of an edit.
 REFUSED, STALE, THROUGH = "refused", "by a stale answer", "LET THROUGH"
 
-FUNCTION = re.compile(r"^ *(?:pub(?:\([^)]*\))? )?fn (\w+)")
+FUNCTION = re.compile(r'^ *(?:pub(?:\([^)]*\))? )?(?:extern "C" )?fn (\w+)')
 # The type of a block of methods, behind the trait that it implements.
 BLOCK = re.compile(r"^(?:pub )?(?:impl|trait)\b(?:<.*?>)? (?:(\w+)(?:<.*?>)? for )?(\w+)")
 

@@ -33,7 +33,7 @@ Wrong bodies that this repository sets out to refuse, and which edits show that 
 FOLDERS = {"must-fail": "**", "edits": ""}
 
 BLOCK = re.compile(r"^(pub )?(impl|trait)\b(?:<[^{]*?>)? (?:(?:\w+(?:<[^{]*>)?) for )?(\w+)", re.MULTILINE)
-FUNCTION = re.compile(r"^( *)(pub )?fn (\w+)")
+FUNCTION = re.compile(r'^( *)(pub )?(?:extern "C" )?fn (\w+)')
 
 
 def read(path):
@@ -63,6 +63,12 @@ def promising(text):
         if found and line == found[1] + "{" and has_clause and lines[place + 1] != found[1] + "}":
             yield found[0]
             found = None
+
+
+def sources(crate):
+    """The source files of a crate, those of tests apart."""
+    for place, _, names in os.walk(os.path.join(CRATES, crate, "src")):
+        yield from (os.path.join(place, name) for name in names if name.endswith(".rt") and name != "tests.rt")
 
 
 def edits_of(crate):
@@ -104,8 +110,7 @@ def page():
         edits = edits_of(crate)
         if not edits:
             continue
-        source = os.path.join(CRATES, crate, "src")
-        public = sorted({name for file in os.listdir(source) for name in promising(read(os.path.join(source, file)))})
+        public = sorted({name for path in sources(crate) for name in promising(read(path))})
         rows = ["| `%s` | %s |" % (name, ", ".join(faults)) for name, faults in sorted(edits.items())]
         none = ", ".join("`%s`" % name for name in public if name not in edits) or "none"
         parts.append("\n".join([f"## `{crate}`\n", "| Function | Edits |", "|---|---|", *rows, f"\nWithout one: {none}."]))

@@ -5,7 +5,8 @@
 
 The programs run by a table of command lines (`command_lines.py`), on random inputs (`fuzz.py`), on a text that Python
 converts, too (`sample.py`), with memory refused (`refused_memory.py`), with hostile index texts (`hostile_indexes.py`)
-and on hostile streams (`hostile_streams.py`), and `recode-places` on the logs of runs (`places.py`). What is stored is compared with what plain programs say (`stored.py`).
+and on hostile streams (`hostile_streams.py`), and `recode-places` on the logs of runs (`places.py`). The library for C is
+built, loaded and called (`c_interface.py`). What is stored is compared with what plain programs say (`stored.py`).
 Each of these steps counts as one more in the last line. Two of them run at a time, since the machine of the gate has
 two processors. The status is 0 where nothing failed.
 """
@@ -21,6 +22,7 @@ import sys
 
 sys.dont_write_bytecode = True
 
+import c_interface
 import command_lines
 import fuzz
 import hostile_indexes
@@ -42,6 +44,7 @@ STEPS = [
     ("hostile index texts", hostile_indexes.faults),
     ("hostile streams", hostile_streams.faults),
     ("places", places.faults),
+    ("library for C", c_interface.faults),
 ]
 
 

@@ -19,6 +19,7 @@
 - Each public item of a library has a doc comment, and `docs/reference` is what `make doc` writes (`tools/reference.py`). No
   public contract cites a word that stands among theorems (`specs/laws/`).
 - Each source file but a crate's root begins with a line that says what it is for (`//!`).
+- `include/jillapun.h` is what `tools/c_header.py` writes, and man/jillapun.3 says what it says (`tools/c_manual.py`).
 - The patches of docs/examples apply.
 - README.md and the man pages say what the help says (`tools/usage.py`), and README.md has fewer than 120 lines.
 """
@@ -32,6 +33,8 @@ import sys
 
 sys.dont_write_bytecode = True
 
+import c_header
+import c_manual
 import definitions
 import definitions_page
 import edits_table
@@ -47,7 +50,7 @@ COLUMNS = 100
 CONTRACT_LINES = 30
 README_LINES = 120
 
-FUNCTION = re.compile(r"^ *(?:pub(?:\(\w+\))? )?(?:unsafe )?fn (\w+)")
+FUNCTION = re.compile(r'^ *(?:pub(?:\(\w+\))? )?(?:unsafe )?(?:extern "C" )?fn (\w+)')
 CLAUSE = re.compile(r"^ *(?:requires|ensures)\b")
 
 # A public definition of a file of `specs/`: a record, a function or an abbreviation, with its type.
@@ -258,6 +261,8 @@ def manual():
 def example():
     """The patch that adds an encoding; `make example` proves it."""
     for name in sorted(os.listdir(os.path.join(TOP, "docs", "examples"))):
+        if not name.endswith(".patch"):
+            continue
         words = ["git", "apply", "--check", os.path.join("docs", "examples", name)]
         if subprocess.run(words, cwd=TOP, capture_output=True, check=False).returncode:
             yield "docs/examples/%s does not apply" % name
@@ -282,6 +287,8 @@ CHECKS = (
     reference.faults,
     reference.hidden_words,
     headline.faults,
+    c_header.faults,
+    c_manual.faults,
 )
 
 

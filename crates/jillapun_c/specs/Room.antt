@@ -4,20 +4,20 @@ use Rattle.std.specs.Str.{IsUtf8}
 use Rattle.encoding_mem.specs.calls.TextDestination.{cleared}
 use Rattle.jillapun_c.specs.declared.status.TheConstants.{REFUSED}
 
--- the room begins with a text of so many elements, and nothing after them has changed
-pub record BeginsWith (old text new : List ℕ) (written : ℕ) : Type 0 where
+-- a text of so many elements was put at the start of the room, and nothing after them has changed
+pub record IsPut (old text new : List ℕ) (written : ℕ) : Type 0 where
   pub fits : written ≤ length new
   pub is : take written new ≡ text
   pub behind : drop written new ≡ drop written old
 
--- the room begins with a text of so many bytes, and the whole is UTF-8: of what stands after them, the rest of a
+-- a text of so many bytes was put at the start of the room, and the whole is UTF-8: after them, the rest of a
 -- character that was overwritten in part is cleared, and nothing else has changed
-pub record BeginsWithText (old text new : List ℕ) (written : ℕ) : Type 0 where
+pub record TextIsPut (old text new : List ℕ) (written : ℕ) : Type 0 where
   pub fits : written ≤ length new
   pub is : take written new ≡ text
   pub behind : drop written new ≡ cleared (drop written old)
   pub utf8 : IsUtf8 new
 
 -- nothing in the room has changed, and the length that is returned is SIZE_MAX
-abbrev pub IsRefused : (old new : List ℕ) → ℕ → Type 0
-IsRefused old new returned = (returned ≡ REFUSED) × (new ≡ old)
+abbrev pub IsUnwritten : (old new : List ℕ) → ℕ → Type 0
+IsUnwritten old new returned = (returned ≡ REFUSED) × (new ≡ old)

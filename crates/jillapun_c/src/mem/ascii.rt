@@ -4,7 +4,7 @@ ghost use Rattle.std.specs.Prelude.{◌↔◌, ◌<◌, ◌≤◌, IsTrue, lengt
 ghost use Rattle.std.specs.Str.{IsAscii};
 ghost use Rattle.encoding_mem.specs.Iso2022JpAscii.{IsIso2022JpAscii};
 ghost use Rattle.encoding_mem.specs.LongestPrefix.{IsLongestPrefix};
-ghost use Rattle.jillapun_c.specs.Room.{BeginsWith, IsRefused};
+ghost use Rattle.jillapun_c.specs.Room.{IsPut, IsUnwritten};
 
 use crate::status::REFUSED;
 
@@ -44,13 +44,14 @@ pub extern "C" fn encoding_iso_2022_jp_ascii_valid_up_to(buffer: &[u8]) -> usize
 }
 
 /// Copies the longest prefix of `src` that is ASCII to the start of `dst`, and returns its length
-/// in bytes. Room: as many bytes as `src` has; where `dst` is shorter, nothing is written and
+/// in bytes. Room: as many bytes as `src` has; if `dst` is shorter, nothing is written and
 /// `SIZE_MAX` is returned.
 #[unsafe(no_mangle)]
 pub extern "C" fn encoding_mem_copy_ascii_to_ascii(src: &[u8], dst: &mut [u8]) -> usize
     ensures prefix { length src.now ≤ length dst.old → IsLongestPrefix IsAscii src.now result }
-    ensures copies { length src.now ≤ length dst.old → BeginsWith dst.old (take result src.now) dst.new result }
-    ensures refuses { length dst.old < length src.now → IsRefused dst.old dst.new result }
+    ensures copies { length src.now ≤ length dst.old
+        → IsPut dst.old (take result src.now) dst.new result }
+    ensures refuses { length dst.old < length src.now → IsUnwritten dst.old dst.new result }
 {
     if dst.len() < src.len() {
         return REFUSED;
@@ -59,13 +60,14 @@ pub extern "C" fn encoding_mem_copy_ascii_to_ascii(src: &[u8], dst: &mut [u8]) -
 }
 
 /// Copies the longest prefix of `src` that is ASCII to the start of `dst`, each byte as a unit of
-/// UTF-16, and returns its length. Room: as many units as `src` has bytes; where `dst` is shorter,
+/// UTF-16, and returns its length. Room: as many units as `src` has bytes; if `dst` is shorter,
 /// nothing is written and `SIZE_MAX` is returned.
 #[unsafe(no_mangle)]
 pub extern "C" fn encoding_mem_copy_ascii_to_basic_latin(src: &[u8], dst: &mut [u16]) -> usize
     ensures prefix { length src.now ≤ length dst.old → IsLongestPrefix IsAscii src.now result }
-    ensures copies { length src.now ≤ length dst.old → BeginsWith dst.old (take result src.now) dst.new result }
-    ensures refuses { length dst.old < length src.now → IsRefused dst.old dst.new result }
+    ensures copies { length src.now ≤ length dst.old
+        → IsPut dst.old (take result src.now) dst.new result }
+    ensures refuses { length dst.old < length src.now → IsUnwritten dst.old dst.new result }
 {
     if dst.len() < src.len() {
         return REFUSED;
@@ -73,14 +75,15 @@ pub extern "C" fn encoding_mem_copy_ascii_to_basic_latin(src: &[u8], dst: &mut [
     encoding_mem::copy_ascii_to_basic_latin(src, dst)
 }
 
-/// Copies the longest prefix of `src` whose units of UTF-16 are below 80 hex to the start of `dst`,
-/// each as a byte, and returns its length. Room: as many bytes as `src` has units; where `dst` is
-/// shorter, nothing is written and `SIZE_MAX` is returned.
+/// Copies the longest prefix of `src` whose units of UTF-16 are below 80 hex to the start of
+/// `dst`, each as a byte, and returns its length. Room: as many bytes as `src` has units; if `dst`
+/// is shorter, nothing is written and `SIZE_MAX` is returned.
 #[unsafe(no_mangle)]
 pub extern "C" fn encoding_mem_copy_basic_latin_to_ascii(src: &[u16], dst: &mut [u8]) -> usize
     ensures prefix { length src.now ≤ length dst.old → IsLongestPrefix IsAscii src.now result }
-    ensures copies { length src.now ≤ length dst.old → BeginsWith dst.old (take result src.now) dst.new result }
-    ensures refuses { length dst.old < length src.now → IsRefused dst.old dst.new result }
+    ensures copies { length src.now ≤ length dst.old
+        → IsPut dst.old (take result src.now) dst.new result }
+    ensures refuses { length dst.old < length src.now → IsUnwritten dst.old dst.new result }
 {
     if dst.len() < src.len() {
         return REFUSED;

@@ -8,10 +8,10 @@ ghost use Rattle.encoding_mem.specs.Latin1.{AllLatin1, IsLatin1Text};
 use crate::status::{BIDI, LATIN1, LEFT_TO_RIGHT};
 use encoding_mem::Latin1Bidi;
 
-/// Whether a character, given as its code point, may be written from right to left, or is a control
-/// that begins such a run. Taken by blocks: U+0590 to U+08FF, U+200F, U+202B, U+202E, U+2067, U+FB1D
-/// to U+FDFF, U+FE70 to U+FEFE, U+10800 to U+10FFF and U+1E800 to U+1EFFF. A number that is no
-/// character is not.
+/// Whether a character, given as its code point, may be written from right to left, or is a
+/// control that begins such a run. Taken by blocks: U+0590 to U+08FF, U+200F, U+202B, U+202E,
+/// U+2067, U+FB1D to U+FDFF, U+FE70 to U+FEFE, U+10800 to U+10FFF and U+1E800 to U+1EFFF. A number
+/// that is no character is not.
 #[unsafe(no_mangle)]
 pub extern "C" fn encoding_mem_is_char_bidi(c: u32) -> bool
     ensures { IsTrue result ↔ IsTrue (is_bidi_char c) }
@@ -58,7 +58,7 @@ pub extern "C" fn encoding_mem_is_utf16_bidi(buffer: &[u16]) -> bool
 }
 
 // The number of an answer.
-fn number_of(answer: Latin1Bidi) -> u32
+fn code_of(answer: Latin1Bidi) -> u32
     ensures latin1 { (result ≡ LATIN1) ↔ (answer ≡ Latin1Bidi.Latin1) }
     ensures bidi { (result ≡ BIDI) ↔ (answer ≡ Latin1Bidi.Bidi) }
     ensures known { result ≤ BIDI }
@@ -70,16 +70,15 @@ fn number_of(answer: Latin1Bidi) -> u32
     }
 }
 
-/// `JILLAPUN_LATIN1` where `encoding_mem_is_utf8_latin1` holds of the bytes, `JILLAPUN_BIDI` where
-/// `encoding_mem_is_utf8_bidi` does, also where they are not well-formed, and else
-/// `JILLAPUN_LEFT_TO_RIGHT`.
+/// `LATIN1` if `encoding_mem_is_utf8_latin1` holds of the bytes, `BIDI` if
+/// `encoding_mem_is_utf8_bidi` does, also if they are not well-formed, and else `LEFT_TO_RIGHT`.
 #[unsafe(no_mangle)]
 pub extern "C" fn encoding_mem_check_utf8_for_latin1_and_bidi(buffer: &[u8]) -> u32
     ensures latin1 { (result ≡ LATIN1) ↔ IsLatin1Text buffer.now }
     ensures bidi { (result ≡ BIDI) ↔ IsBidiBytes buffer.now }
     ensures known { result ≤ BIDI }
 {
-    number_of(encoding_mem::check_utf8_for_latin1_and_bidi(buffer))
+    code_of(encoding_mem::check_utf8_for_latin1_and_bidi(buffer))
 }
 
 /// What `encoding_mem_check_utf8_for_latin1_and_bidi` returns. The bytes are tested: none are
@@ -90,16 +89,16 @@ pub extern "C" fn encoding_mem_check_str_for_latin1_and_bidi(buffer: &[u8]) -> u
     ensures bidi { (result ≡ BIDI) ↔ IsBidiBytes buffer.now }
     ensures known { result ≤ BIDI }
 {
-    number_of(encoding_mem::check_utf8_for_latin1_and_bidi(buffer))
+    code_of(encoding_mem::check_utf8_for_latin1_and_bidi(buffer))
 }
 
-/// `JILLAPUN_LATIN1` where `encoding_mem_is_utf16_latin1` holds of the units, `JILLAPUN_BIDI` where
-/// `encoding_mem_is_utf16_bidi` does, and else `JILLAPUN_LEFT_TO_RIGHT`.
+/// `LATIN1` if `encoding_mem_is_utf16_latin1` holds of the units, `BIDI` if
+/// `encoding_mem_is_utf16_bidi` does, and else `LEFT_TO_RIGHT`.
 #[unsafe(no_mangle)]
 pub extern "C" fn encoding_mem_check_utf16_for_latin1_and_bidi(buffer: &[u16]) -> u32
     ensures latin1 { (result ≡ LATIN1) ↔ AllLatin1 buffer.now }
     ensures bidi { (result ≡ BIDI) ↔ HasBidiUnit buffer.now }
     ensures known { result ≤ BIDI }
 {
-    number_of(encoding_mem::check_utf16_for_latin1_and_bidi(buffer))
+    code_of(encoding_mem::check_utf16_for_latin1_and_bidi(buffer))
 }

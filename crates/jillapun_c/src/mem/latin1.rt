@@ -1,12 +1,12 @@
-//! Latin1, whose bytes are the characters U+0000 to U+00FF: checks, and conversions from it and into
-//! it.
+//! Latin1, whose bytes are the characters U+0000 to U+00FF: checks, and conversions from it and
+//! into it.
 
 ghost use Rattle.std.specs.Prelude.{◌≡◌, ◌↔◌, ◌*◌, ◌<◌, ◌≤◌, IsTrue, length, encode_utf8_all};
 ghost use Rattle.std.specs.Str.{IsUtf8, chars};
 ghost use Rattle.encoding_mem.specs.Conversions.{low_bytes};
 ghost use Rattle.encoding_mem.specs.Latin1.{AllLatin1, IsLatin1Text};
 ghost use Rattle.encoding_mem.specs.LongestPrefix.{IsLongestPrefix};
-ghost use Rattle.jillapun_c.specs.Room.{BeginsWith, BeginsWithText, IsRefused};
+ghost use Rattle.jillapun_c.specs.Room.{IsPut, TextIsPut, IsUnwritten};
 
 use crate::mem::utf8::is_text;
 use crate::status::REFUSED;
@@ -52,14 +52,14 @@ pub extern "C" fn encoding_mem_str_latin1_up_to(buffer: &[u8]) -> usize
     encoding_mem::utf8_latin1_up_to(buffer)
 }
 
-/// Converts Latin1 to UTF-16 at the start of `dst`, a unit for each byte, and returns how many units
-/// were written. Room: as many units as `src` has bytes; where `dst` is shorter, nothing is written
-/// and `SIZE_MAX` is returned.
+/// Converts Latin1 to UTF-16 at the start of `dst`, a unit for each byte, and returns how many
+/// units were written. Room: as many units as `src` has bytes; if `dst` is shorter, nothing is
+/// written and `SIZE_MAX` is returned.
 #[unsafe(no_mangle)]
 pub extern "C" fn encoding_mem_convert_latin1_to_utf16(src: &[u8], dst: &mut [u16]) -> usize
     ensures count { length src.now ≤ length dst.old → result ≡ length src.now }
-    ensures converts { length src.now ≤ length dst.old → BeginsWith dst.old src.now dst.new result }
-    ensures refuses { length dst.old < length src.now → IsRefused dst.old dst.new result }
+    ensures converts { length src.now ≤ length dst.old → IsPut dst.old src.now dst.new result }
+    ensures refuses { length dst.old < length src.now → IsUnwritten dst.old dst.new result }
 {
     if dst.len() < src.len() {
         return REFUSED;
@@ -69,14 +69,15 @@ pub extern "C" fn encoding_mem_convert_latin1_to_utf16(src: &[u8], dst: &mut [u1
 }
 
 /// Takes the low eight bits of each unit of UTF-16, into the start of `dst`, and returns how many
-/// bytes were written. Where `encoding_mem_is_utf16_latin1` holds of `src`, that is its text in
-/// Latin1; else it is not. Room: as many bytes as `src` has units; where `dst` is shorter, nothing
-/// is written and `SIZE_MAX` is returned.
+/// bytes were written. If `encoding_mem_is_utf16_latin1` holds of `src`, that is its text in
+/// Latin1; else it is not. Room: as many bytes as `src` has units; if `dst` is shorter, nothing is
+/// written and `SIZE_MAX` is returned.
 #[unsafe(no_mangle)]
 pub extern "C" fn encoding_mem_convert_utf16_to_latin1_lossy(src: &[u16], dst: &mut [u8]) -> usize
     ensures count { length src.now ≤ length dst.old → result ≡ length src.now }
-    ensures converts { length src.now ≤ length dst.old → BeginsWith dst.old (low_bytes src.now) dst.new result }
-    ensures refuses { length dst.old < length src.now → IsRefused dst.old dst.new result }
+    ensures converts { length src.now ≤ length dst.old
+        → IsPut dst.old (low_bytes src.now) dst.new result }
+    ensures refuses { length dst.old < length src.now → IsUnwritten dst.old dst.new result }
 {
     if dst.len() < src.len() {
         return REFUSED;
@@ -86,15 +87,15 @@ pub extern "C" fn encoding_mem_convert_utf16_to_latin1_lossy(src: &[u16], dst: &
 }
 
 /// Converts UTF-8 to Latin1 at the start of `dst`, a byte for each character, and returns how many
-/// bytes were written. Room: as many bytes as `src` has. Where `dst` is shorter, or
+/// bytes were written. Room: as many bytes as `src` has. If `dst` is shorter, or
 /// `encoding_mem_is_utf8_latin1` does not hold of `src`, nothing is written and `SIZE_MAX` is
 /// returned.
 #[unsafe(no_mangle)]
 pub extern "C" fn encoding_mem_convert_utf8_to_latin1_lossy(src: &[u8], dst: &mut [u8]) -> usize
     ensures converts { IsLatin1Text src.now → length src.now ≤ length dst.old
-        → BeginsWith dst.old (chars src.now) dst.new result }
-    ensures no_room { length dst.old < length src.now → IsRefused dst.old dst.new result }
-    ensures not_latin1 { ¬ (IsLatin1Text src.now) → IsRefused dst.old dst.new result }
+        → IsPut dst.old (chars src.now) dst.new result }
+    ensures no_room { length dst.old < length src.now → IsUnwritten dst.old dst.new result }
+    ensures not_latin1 { ¬ (IsLatin1Text src.now) → IsUnwritten dst.old dst.new result }
 {
     if dst.len() < src.len() || !encoding_mem::is_utf8_latin1(src) {
         return REFUSED;
@@ -103,13 +104,13 @@ pub extern "C" fn encoding_mem_convert_utf8_to_latin1_lossy(src: &[u8], dst: &mu
 }
 
 /// Converts Latin1 to UTF-8 at the start of `dst`, and returns how many bytes were written. Room:
-/// twice as many bytes as `src` has; where `dst` is shorter, nothing is written and `SIZE_MAX` is
+/// twice as many bytes as `src` has; if `dst` is shorter, nothing is written and `SIZE_MAX` is
 /// returned.
 #[unsafe(no_mangle)]
 pub extern "C" fn encoding_mem_convert_latin1_to_utf8(src: &[u8], dst: &mut [u8]) -> usize
     ensures converts { 2 * length src.now ≤ length dst.old
-        → BeginsWith dst.old (encode_utf8_all src.now) dst.new result }
-    ensures refuses { length dst.old < 2 * length src.now → IsRefused dst.old dst.new result }
+        → IsPut dst.old (encode_utf8_all src.now) dst.new result }
+    ensures refuses { length dst.old < 2 * length src.now → IsUnwritten dst.old dst.new result }
 {
     if dst.len() / 2 < src.len() {
         return REFUSED;
@@ -117,16 +118,16 @@ pub extern "C" fn encoding_mem_convert_latin1_to_utf8(src: &[u8], dst: &mut [u8]
     encoding_mem::convert_latin1_to_utf8(src, dst)
 }
 
-/// Converts Latin1 to UTF-8 at the start of a text, which stays one, and returns how many bytes were
-/// written: where a character of `dst` is overwritten in part, its other bytes become 00. Room:
-/// twice as many bytes as `src` has. Where `dst` is shorter, or is not UTF-8 before the call,
-/// nothing is written and `SIZE_MAX` is returned.
+/// Converts Latin1 to UTF-8 at the start of a text, which stays one, and returns how many bytes
+/// were written: if a character of `dst` is overwritten in part, its other bytes become 00. Room:
+/// twice as many bytes as `src` has. If `dst` is shorter, or is not UTF-8 before the call, nothing
+/// is written and `SIZE_MAX` is returned.
 #[unsafe(no_mangle)]
 pub extern "C" fn encoding_mem_convert_latin1_to_str(src: &[u8], dst: &mut [u8]) -> usize
     ensures converts { IsUtf8 dst.old → 2 * length src.now ≤ length dst.old
-        → BeginsWithText dst.old (encode_utf8_all src.now) dst.new result }
-    ensures no_room { length dst.old < 2 * length src.now → IsRefused dst.old dst.new result }
-    ensures no_text { ¬ (IsUtf8 dst.old) → IsRefused dst.old dst.new result }
+        → TextIsPut dst.old (encode_utf8_all src.now) dst.new result }
+    ensures no_room { length dst.old < 2 * length src.now → IsUnwritten dst.old dst.new result }
+    ensures no_text { ¬ (IsUtf8 dst.old) → IsUnwritten dst.old dst.new result }
 {
     if dst.len() / 2 < src.len() || !is_text(dst) {
         return REFUSED;

@@ -5,14 +5,14 @@ ghost use Rattle.std.specs.Prelude.{◌≡◌, length, take, encode_utf8_all};
 ghost use Rattle.std.specs.Str.{IsUtf8};
 ghost use Rattle.encoding_mem.specs.Conversions.{IsLongest, IsUnitBoundary};
 ghost use Rattle.encoding_mem.specs.Conversions.{text_in_utf16, units_in_utf8};
-ghost use Rattle.jillapun_c.specs.Room.{BeginsWith, BeginsWithText};
+ghost use Rattle.jillapun_c.specs.Room.{IsPut, TextIsPut};
 
 use crate::mem::utf8::is_text;
 use crate::status::{NOT_UTF8, OK};
 
-/// Converts the longest well-formed prefix of UTF-8 whose UTF-16 fits into `dst`. It ends before the
-/// first malformed sequence, if one comes before the room ends. `read` is in bytes, `written` in
-/// units.
+/// Converts the longest well-formed prefix of UTF-8 whose UTF-16 fits into `dst`. It ends before
+/// the first malformed sequence, if one comes before the room ends. `read` is in bytes, `written`
+/// in units.
 #[unsafe(no_mangle)]
 pub extern "C" fn jillapun_mem_convert_utf8_to_utf16_up_to_invalid(
     src: &[u8],
@@ -20,17 +20,18 @@ pub extern "C" fn jillapun_mem_convert_utf8_to_utf16_up_to_invalid(
     read: &mut usize,
     written: &mut usize,
 )
-    ensures longest { IsLongest (λ i. IsUtf8 (take i src.now)) (λ i. length (text_in_utf16 (take i src.now)))
-        (length src.now) (length dst.old) read.new }
-    ensures writes { BeginsWith dst.old (text_in_utf16 (take read.new src.now)) dst.new written.new }
+    ensures longest { IsLongest (λ i. IsUtf8 (take i src.now))
+        (λ i. length (text_in_utf16 (take i src.now))) (length src.now) (length dst.old) read.new }
+    ensures writes { let units = text_in_utf16 (take read.new src.now) in
+        IsPut dst.old units dst.new written.new }
 {
     let (bytes, units) = encoding_mem::convert_utf8_to_utf16_up_to_invalid(src, dst);
     *read = bytes;
     *written = units;
 }
 
-/// Converts the longest prefix of UTF-16 whose UTF-8 fits into `dst`. No pair is split; a surrogate
-/// in no pair of `src` becomes U+FFFD. `read` is in units, `written` in bytes.
+/// Converts the longest prefix of UTF-16 whose UTF-8 fits into `dst`. No pair is split; a
+/// surrogate in no pair of `src` becomes U+FFFD. `read` is in units, `written` in bytes.
 #[unsafe(no_mangle)]
 pub extern "C" fn jillapun_mem_convert_utf16_to_utf8_partial(
     src: &[u16],
@@ -38,9 +39,10 @@ pub extern "C" fn jillapun_mem_convert_utf16_to_utf8_partial(
     read: &mut usize,
     written: &mut usize,
 )
-    ensures longest { IsLongest (IsUnitBoundary src.now) (λ i. length (units_in_utf8 (take i src.now)))
-        (length src.now) (length dst.old) read.new }
-    ensures writes { BeginsWith dst.old (units_in_utf8 (take read.new src.now)) dst.new written.new }
+    ensures longest { IsLongest (IsUnitBoundary src.now)
+        (λ i. length (units_in_utf8 (take i src.now))) (length src.now) (length dst.old) read.new }
+    ensures writes { let bytes = units_in_utf8 (take read.new src.now) in
+        IsPut dst.old bytes dst.new written.new }
 {
     let (units, bytes) = encoding_mem::convert_utf16_to_utf8_partial(src, dst);
     *read = units;
@@ -56,20 +58,21 @@ pub extern "C" fn jillapun_mem_convert_latin1_to_utf8_partial(
     read: &mut usize,
     written: &mut usize,
 )
-    ensures longest { IsLongest (λ _. Unit {0}) (λ i. length (encode_utf8_all (take i src.now)))
-        (length src.now) (length dst.old) read.new }
-    ensures writes { BeginsWith dst.old (encode_utf8_all (take read.new src.now)) dst.new written.new }
+    ensures longest { IsLongest (λ _. Unit {0})
+        (λ i. length (encode_utf8_all (take i src.now))) (length src.now) (length dst.old)
+        read.new }
+    ensures writes { let bytes = encode_utf8_all (take read.new src.now) in
+        IsPut dst.old bytes dst.new written.new }
 {
     let (bytes, more) = encoding_mem::convert_latin1_to_utf8_partial(src, dst);
     *read = bytes;
     *written = more;
 }
 
-/// Converts the longest prefix of UTF-16 whose UTF-8 fits into a text, which stays one: where a
+/// Converts the longest prefix of UTF-16 whose UTF-8 fits into a text, which stays one: if a
 /// character of `dst` is overwritten in part, its other bytes become 00. No pair is split; a
 /// surrogate in no pair of `src` becomes U+FFFD. `read` is in units, `written` in bytes. Returns
-/// `JILLAPUN_OK`, or `JILLAPUN_NOT_UTF8` where `dst` is not UTF-8 before the call: then nothing is
-/// read or written.
+/// `OK`, or `NOT_UTF8` if `dst` is not UTF-8 before the call: then nothing is read or written.
 #[unsafe(no_mangle)]
 pub extern "C" fn jillapun_mem_convert_utf16_to_str_partial(
     src: &[u16],
@@ -80,7 +83,7 @@ pub extern "C" fn jillapun_mem_convert_utf16_to_str_partial(
     ensures longest { result ≡ OK → IsLongest (IsUnitBoundary src.now)
         (λ i. length (units_in_utf8 (take i src.now))) (length src.now) (length dst.old) read.new }
     ensures writes { result ≡ OK
-        → BeginsWithText dst.old (units_in_utf8 (take read.new src.now)) dst.new written.new }
+        → TextIsPut dst.old (units_in_utf8 (take read.new src.now)) dst.new written.new }
     ensures tested { IsUtf8 dst.old → result ≡ OK }
     ensures refuses { ¬ (IsUtf8 dst.old) → (result ≡ NOT_UTF8) × (dst.new ≡ dst.old)
         × (read.new ≡ 0) × (written.new ≡ 0) }
@@ -96,10 +99,10 @@ pub extern "C" fn jillapun_mem_convert_utf16_to_str_partial(
     OK
 }
 
-/// Converts the longest prefix of Latin1 whose UTF-8 fits into a text, which stays one: where a
-/// character of `dst` is overwritten in part, its other bytes become 00. `read` and `written` are in
-/// bytes. Returns `JILLAPUN_OK`, or `JILLAPUN_NOT_UTF8` where `dst` is not UTF-8 before the call:
-/// then nothing is read or written.
+/// Converts the longest prefix of Latin1 whose UTF-8 fits into a text, which stays one: if a
+/// character of `dst` is overwritten in part, its other bytes become 00. `read` and `written` are
+/// in bytes. Returns `OK`, or `NOT_UTF8` if `dst` is not UTF-8 before the call: then nothing is
+/// read or written.
 #[unsafe(no_mangle)]
 pub extern "C" fn jillapun_mem_convert_latin1_to_str_partial(
     src: &[u8],
@@ -108,9 +111,10 @@ pub extern "C" fn jillapun_mem_convert_latin1_to_str_partial(
     written: &mut usize,
 ) -> u8
     ensures longest { result ≡ OK → IsLongest (λ _. Unit {0})
-        (λ i. length (encode_utf8_all (take i src.now))) (length src.now) (length dst.old) read.new }
+        (λ i. length (encode_utf8_all (take i src.now))) (length src.now) (length dst.old)
+        read.new }
     ensures writes { result ≡ OK
-        → BeginsWithText dst.old (encode_utf8_all (take read.new src.now)) dst.new written.new }
+        → TextIsPut dst.old (encode_utf8_all (take read.new src.now)) dst.new written.new }
     ensures tested { IsUtf8 dst.old → result ≡ OK }
     ensures refuses { ¬ (IsUtf8 dst.old) → (result ≡ NOT_UTF8) × (dst.new ≡ dst.old)
         × (read.new ≡ 0) × (written.new ≡ 0) }

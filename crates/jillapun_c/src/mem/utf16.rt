@@ -5,7 +5,7 @@ ghost use Rattle.std.specs.Str.{IsUtf8};
 ghost use Rattle.encoding_mem.specs.Conversions.{units_in_utf8};
 ghost use Rattle.encoding_mem.specs.LongestPrefix.{IsLongestPrefix};
 ghost use Rattle.encoding_mem.specs.Surrogates.{IsMended, IsUtf16};
-ghost use Rattle.jillapun_c.specs.Room.{BeginsWith, BeginsWithText, IsRefused};
+ghost use Rattle.jillapun_c.specs.Room.{IsPut, TextIsPut, IsUnwritten};
 
 use crate::mem::utf8::is_text;
 use crate::status::REFUSED;
@@ -29,13 +29,13 @@ pub extern "C" fn encoding_mem_ensure_utf16_validity(buffer: &mut [u16])
 }
 
 /// Converts UTF-16 to UTF-8 at the start of `dst`, with U+FFFD for each surrogate in no pair, and
-/// returns how many bytes were written. Room: three bytes for each unit of `src`; where `dst` is
+/// returns how many bytes were written. Room: three bytes for each unit of `src`; if `dst` is
 /// shorter, nothing is written and `SIZE_MAX` is returned.
 #[unsafe(no_mangle)]
 pub extern "C" fn encoding_mem_convert_utf16_to_utf8(src: &[u16], dst: &mut [u8]) -> usize
     ensures converts { 3 * length src.now ≤ length dst.old
-        → BeginsWith dst.old (units_in_utf8 src.now) dst.new result }
-    ensures refuses { length dst.old < 3 * length src.now → IsRefused dst.old dst.new result }
+        → IsPut dst.old (units_in_utf8 src.now) dst.new result }
+    ensures refuses { length dst.old < 3 * length src.now → IsUnwritten dst.old dst.new result }
 {
     if dst.len() / 3 < src.len() {
         return REFUSED;
@@ -43,16 +43,17 @@ pub extern "C" fn encoding_mem_convert_utf16_to_utf8(src: &[u16], dst: &mut [u8]
     encoding_mem::convert_utf16_to_utf8(src, dst)
 }
 
-/// Converts UTF-16 to UTF-8 at the start of a text, which stays one, with U+FFFD for each surrogate
-/// in no pair, and returns how many bytes were written: where a character of `dst` is overwritten in
-/// part, its other bytes become 00. Room: three bytes for each unit of `src`. Where `dst` is
-/// shorter, or is not UTF-8 before the call, nothing is written and `SIZE_MAX` is returned.
+/// Converts UTF-16 to UTF-8 at the start of a text, which stays one, with U+FFFD for each
+/// surrogate in no pair, and returns how many bytes were written: if a character of `dst` is
+/// overwritten in part, its other bytes become 00. Room: three bytes for each unit of `src`. If
+/// `dst` is shorter, or is not UTF-8 before the call, nothing is written and `SIZE_MAX` is
+/// returned.
 #[unsafe(no_mangle)]
 pub extern "C" fn encoding_mem_convert_utf16_to_str(src: &[u16], dst: &mut [u8]) -> usize
     ensures converts { IsUtf8 dst.old → 3 * length src.now ≤ length dst.old
-        → BeginsWithText dst.old (units_in_utf8 src.now) dst.new result }
-    ensures no_room { length dst.old < 3 * length src.now → IsRefused dst.old dst.new result }
-    ensures no_text { ¬ (IsUtf8 dst.old) → IsRefused dst.old dst.new result }
+        → TextIsPut dst.old (units_in_utf8 src.now) dst.new result }
+    ensures no_room { length dst.old < 3 * length src.now → IsUnwritten dst.old dst.new result }
+    ensures no_text { ¬ (IsUtf8 dst.old) → IsUnwritten dst.old dst.new result }
 {
     if dst.len() / 3 < src.len() || !is_text(dst) {
         return REFUSED;

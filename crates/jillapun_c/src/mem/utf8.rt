@@ -7,7 +7,7 @@ ghost use Rattle.encoding_mem.specs.LongestPrefix.{IsLongestPrefix};
 ghost use Rattle.encoding_mem.specs.Piece.{text};
 ghost use Rattle.encoding_mem.specs.Utf8.{pieces_utf8};
 ghost use Rattle.encoding_mem.specs.calls.Writing.{encode_utf16_all};
-ghost use Rattle.jillapun_c.specs.Room.{BeginsWith, IsRefused};
+ghost use Rattle.jillapun_c.specs.Room.{IsPut, IsUnwritten};
 
 use crate::status::REFUSED;
 
@@ -28,13 +28,13 @@ pub(crate) fn is_text(bytes: &[u8]) -> bool
 }
 
 /// Converts UTF-8 to UTF-16 at the start of `dst`, with U+FFFD for each malformed sequence, and
-/// returns how many units were written. Room: one unit more than `src` has bytes; where `dst` is
+/// returns how many units were written. Room: one unit more than `src` has bytes; if `dst` is
 /// shorter, nothing is written and `SIZE_MAX` is returned.
 #[unsafe(no_mangle)]
 pub extern "C" fn encoding_mem_convert_utf8_to_utf16(src: &[u8], dst: &mut [u16]) -> usize
     ensures converts { length src.now < length dst.old
-        → BeginsWith dst.old (encode_utf16_all (text (pieces_utf8 src.now))) dst.new result }
-    ensures refuses { length dst.old ≤ length src.now → IsRefused dst.old dst.new result }
+        → IsPut dst.old (encode_utf16_all (text (pieces_utf8 src.now))) dst.new result }
+    ensures refuses { length dst.old ≤ length src.now → IsUnwritten dst.old dst.new result }
 {
     if dst.len() <= src.len() {
         return REFUSED;
@@ -42,9 +42,9 @@ pub extern "C" fn encoding_mem_convert_utf8_to_utf16(src: &[u8], dst: &mut [u16]
     encoding_mem::convert_utf8_to_utf16(src, dst)
 }
 
-/// Converts UTF-8 to UTF-16 at the start of `dst`, and returns how many units were written. Room: as
-/// many units as `src` has bytes; where `dst` is shorter, nothing is written and `SIZE_MAX` is
-/// returned. Where `src` is not well-formed, `SIZE_MAX` is returned, too, and `dst` begins with the
+/// Converts UTF-8 to UTF-16 at the start of `dst`, and returns how many units were written. Room:
+/// as many units as `src` has bytes; if `dst` is shorter, nothing is written and `SIZE_MAX` is
+/// returned. If `src` is not well-formed, `SIZE_MAX` is returned, too, and `dst` begins with the
 /// text before the first malformed sequence.
 #[unsafe(no_mangle)]
 pub extern "C" fn encoding_mem_convert_utf8_to_utf16_without_replacement(
@@ -54,9 +54,10 @@ pub extern "C" fn encoding_mem_convert_utf8_to_utf16_without_replacement(
     ensures counts { IsUtf8 src.now → length src.now ≤ length dst.old
         → result ≡ length (text_in_utf16 src.now) }
     ensures malformed { ¬ (IsUtf8 src.now) → result ≡ REFUSED }
-    ensures converts { length src.now ≤ length dst.old → let units = text_in_utf16 (text_prefix src.now) in
-        BeginsWith dst.old units dst.new (length units) }
-    ensures refuses { length dst.old < length src.now → IsRefused dst.old dst.new result }
+    ensures converts { length src.now ≤ length dst.old
+        → let units = text_in_utf16 (text_prefix src.now) in
+        IsPut dst.old units dst.new (length units) }
+    ensures refuses { length dst.old < length src.now → IsUnwritten dst.old dst.new result }
 {
     if dst.len() < src.len() {
         return REFUSED;
@@ -74,9 +75,10 @@ pub extern "C" fn encoding_mem_convert_str_to_utf16(src: &[u8], dst: &mut [u16])
     ensures counts { IsUtf8 src.now → length src.now ≤ length dst.old
         → result ≡ length (text_in_utf16 src.now) }
     ensures malformed { ¬ (IsUtf8 src.now) → result ≡ REFUSED }
-    ensures converts { length src.now ≤ length dst.old → let units = text_in_utf16 (text_prefix src.now) in
-        BeginsWith dst.old units dst.new (length units) }
-    ensures refuses { length dst.old < length src.now → IsRefused dst.old dst.new result }
+    ensures converts { length src.now ≤ length dst.old
+        → let units = text_in_utf16 (text_prefix src.now) in
+        IsPut dst.old units dst.new (length units) }
+    ensures refuses { length dst.old < length src.now → IsUnwritten dst.old dst.new result }
 {
     encoding_mem_convert_utf8_to_utf16_without_replacement(src, dst)
 }

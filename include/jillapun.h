@@ -1,0 +1,504 @@
+/*
+ * Jillapun: text encodings, by the Encoding Standard, with proofs.
+ *
+ * Written by tools/c_header.py from the sources; do not edit.
+ *
+ * A function asks of its caller what this says of pointers, lengths and handles, and nothing else:
+ * all else it tests, and tells by what it returns.
+ *
+ * Pointers and lengths. A pointer and the length after it, as `src` and `src_len`, are so many
+ * elements of memory (elements, not bytes). A pointer is never NULL, even if the length is 0: hand
+ * in the address of any object. Memory that a call may write to, by a pointer without `const`,
+ * overlaps nothing else that is handed in. While the call runs, no other thread writes to what is
+ * handed in, or reads what the call may write to. Units of UTF-16 stand at even addresses, and
+ * structs are aligned as their type needs. Memory that a call writes to need not be initialised,
+ * except a handle, and a text (`_to_str`). A `bool` is 0 or 1.
+ *
+ * Handles. A handle, a struct with members that begin with `private_`, begins as `{0}` (in C++, as
+ * `{}`), is filled by a function with `_new` in its name and emptied by one with `_free`. It is not
+ * copied, unless its type says that it may be, and its members are left alone. Two threads may use
+ * two handles at once, but not the same one, unless its type says that they may.
+ *
+ * If a function that returns a length can't do what is asked for, it returns SIZE_MAX.
+ *
+ * Functions take memory by malloc and give it back by free. None prints, locks, starts a thread or
+ * opens a file.
+ */
+
+#ifndef JILLAPUN_H
+#define JILLAPUN_H
+
+#include <stdbool.h>
+#include <stddef.h>
+#include <stdint.h>
+
+#define JILLAPUN_VERSION "0.1.0"
+
+#if SIZE_MAX != UINT64_MAX
+#error "jillapun is built for x86-64 with 64-bit pointers"
+#endif
+
+#ifdef __cplusplus
+extern "C" {
+#endif
+
+/** A unit of UTF-16. */
+#if defined(__cplusplus) && __cplusplus >= 201103L
+typedef char16_t jillapun_char16;
+#else
+typedef uint16_t jillapun_char16;
+#endif
+
+/* What a call returns: its status. */
+enum {
+    /** All was done. Of a conversion: nothing was lost. */
+    JILLAPUN_OK = 0,
+    /**
+     * All was converted, and something was lost: the output, read again, is not the text of the
+     * input.
+     */
+    JILLAPUN_LOSSY = 1,
+    /**
+     * There is no such label, encoding, index file, handling of marks or policy. Nothing was done.
+     */
+    JILLAPUN_UNKNOWN = 2,
+    /** An index that the encoding needs is not in the tables: load its file. Nothing was done. */
+    JILLAPUN_NOT_READY = 3,
+    /** The text of an index has a faulty line, and the fault says which. Nothing was kept. */
+    JILLAPUN_BAD_INDEX = 4,
+    /** Memory was refused. Nothing was kept, and the call can be made again. */
+    JILLAPUN_NO_MEMORY = 5,
+    /** The handle holds nothing: it is zeroed, or was freed. Nothing was done. */
+    JILLAPUN_CLOSED = 6,
+    /** The handle that is to be filled holds something already: free it first. Nothing was done. */
+    JILLAPUN_IN_USE = 7,
+    /** The stream has ended: an earlier call was the last. Nothing was read or written. */
+    JILLAPUN_FINISHED = 8,
+    /** The text is not UTF-8. Nothing was read or written. */
+    JILLAPUN_NOT_UTF8 = 9,
+    /** The room is too small, and the report says how much is wanted. Nothing was written. */
+    JILLAPUN_ROOM = 10,
+    /**
+     * A read, a write or a line of the log failed, the input is too long, or the policy stopped at
+     * a lost character.
+     */
+    JILLAPUN_FAULT = 11
+};
+
+/* The outcome of a call of a decoder or an encoder. */
+enum {
+    /** All that was handed in is read. */
+    JILLAPUN_INPUT_EMPTY = 0,
+    /** There is no room for what comes next: hand in the rest again with more room. */
+    JILLAPUN_OUTPUT_FULL = 1,
+    /** A malformed sequence was read, and nothing was written for it. */
+    JILLAPUN_MALFORMED = 2,
+    /** A character was read that the encoding has no bytes for, and nothing was written for it. */
+    JILLAPUN_UNMAPPABLE = 3
+};
+
+/* What becomes of a byte order mark at the start of an input. */
+enum {
+    /** The mark of UTF-8, UTF-16BE or UTF-16LE decides the encoding, and is left out. */
+    JILLAPUN_SNIFF = 0,
+    /** The mark of the encoding itself is left out. */
+    JILLAPUN_REMOVE = 1,
+    /** No mark is looked for, and one is text. */
+    JILLAPUN_KEEP = 2
+};
+
+/* What is written for a character that the output encoding has no bytes for. */
+enum {
+    /** A decimal reference, as `&#26085;`. */
+    JILLAPUN_DECIMAL = 0,
+    /** A hexadecimal reference, as `&#x65E5;`. */
+    JILLAPUN_HEXADECIMAL = 1,
+    /** Nothing: the conversion stops there. */
+    JILLAPUN_STOP = 2
+};
+
+/* What an entry of the list of losses is of. */
+enum {
+    /** A malformed sequence of the input: its offset in bytes, and its length in bytes. */
+    JILLAPUN_BAD = 0,
+    /** A lost character of the text: how many characters stand before it, and its code point. */
+    JILLAPUN_LOST = 1
+};
+
+/* What a text is, for layout. */
+enum {
+    /** Each character is at most U+00FF. */
+    JILLAPUN_LATIN1 = 0,
+    /** Some character is above U+00FF, and none is written from right to left. */
+    JILLAPUN_LEFT_TO_RIGHT = 1,
+    /** Some character may be written from right to left, or the bytes are not UTF-8. */
+    JILLAPUN_BIDI = 2
+};
+
+/* What stands where there is no number. */
+enum {
+    /** No encoding. Each encoding is its number, from 0 on, in the order of the names. */
+    JILLAPUN_NO_ENCODING = 255
+};
+
+/**
+ * In place of a length: the room is not enough, or the bytes are not what the call is for.
+ * Nothing was written, where the call does not say otherwise.
+ */
+#define JILLAPUN_REFUSED SIZE_MAX
+
+/* The encodings, by their numbers. The sections are those of the Encoding Standard. */
+enum {
+    /** Big5 (section 11.1). */
+    JILLAPUN_BIG5 = 0,
+    /** EUC-JP (section 12.1). */
+    JILLAPUN_EUC_JP = 1,
+    /** EUC-KR (section 13.1). */
+    JILLAPUN_EUC_KR = 2,
+    /** gb18030 (section 10.2). */
+    JILLAPUN_GB18030 = 3,
+    /** GBK (section 10.1). */
+    JILLAPUN_GBK = 4,
+    /** IBM866 (section 9). */
+    JILLAPUN_IBM866 = 5,
+    /** ISO-2022-JP (section 12.2). */
+    JILLAPUN_ISO_2022_JP = 6,
+    /** ISO-8859-2 (section 9). */
+    JILLAPUN_ISO_8859_2 = 7,
+    /** ISO-8859-3 (section 9). */
+    JILLAPUN_ISO_8859_3 = 8,
+    /** ISO-8859-4 (section 9). */
+    JILLAPUN_ISO_8859_4 = 9,
+    /** ISO-8859-5 (section 9). */
+    JILLAPUN_ISO_8859_5 = 10,
+    /** ISO-8859-6 (section 9). */
+    JILLAPUN_ISO_8859_6 = 11,
+    /** ISO-8859-7 (section 9). */
+    JILLAPUN_ISO_8859_7 = 12,
+    /** ISO-8859-8 (section 9). */
+    JILLAPUN_ISO_8859_8 = 13,
+    /** ISO-8859-8-I (section 9). */
+    JILLAPUN_ISO_8859_8_I = 14,
+    /** ISO-8859-10 (section 9). */
+    JILLAPUN_ISO_8859_10 = 15,
+    /** ISO-8859-13 (section 9). */
+    JILLAPUN_ISO_8859_13 = 16,
+    /** ISO-8859-14 (section 9). */
+    JILLAPUN_ISO_8859_14 = 17,
+    /** ISO-8859-15 (section 9). */
+    JILLAPUN_ISO_8859_15 = 18,
+    /** ISO-8859-16 (section 9). */
+    JILLAPUN_ISO_8859_16 = 19,
+    /** KOI8-R (section 9). */
+    JILLAPUN_KOI8_R = 20,
+    /** KOI8-U (section 9). */
+    JILLAPUN_KOI8_U = 21,
+    /** macintosh (section 9). */
+    JILLAPUN_MACINTOSH = 22,
+    /** replacement (section 14.1). */
+    JILLAPUN_REPLACEMENT = 23,
+    /** Shift_JIS (section 12.3). */
+    JILLAPUN_SHIFT_JIS = 24,
+    /** UTF-8 (section 8.1). */
+    JILLAPUN_UTF_8 = 25,
+    /** UTF-16BE (section 14.3). */
+    JILLAPUN_UTF_16BE = 26,
+    /** UTF-16LE (section 14.4). */
+    JILLAPUN_UTF_16LE = 27,
+    /** windows-874 (section 9). */
+    JILLAPUN_WINDOWS_874 = 28,
+    /** windows-1250 (section 9). */
+    JILLAPUN_WINDOWS_1250 = 29,
+    /** windows-1251 (section 9). */
+    JILLAPUN_WINDOWS_1251 = 30,
+    /** windows-1252 (section 9). */
+    JILLAPUN_WINDOWS_1252 = 31,
+    /** windows-1253 (section 9). */
+    JILLAPUN_WINDOWS_1253 = 32,
+    /** windows-1254 (section 9). */
+    JILLAPUN_WINDOWS_1254 = 33,
+    /** windows-1255 (section 9). */
+    JILLAPUN_WINDOWS_1255 = 34,
+    /** windows-1256 (section 9). */
+    JILLAPUN_WINDOWS_1256 = 35,
+    /** windows-1257 (section 9). */
+    JILLAPUN_WINDOWS_1257 = 36,
+    /** windows-1258 (section 9). */
+    JILLAPUN_WINDOWS_1258 = 37,
+    /** x-mac-cyrillic (section 9). */
+    JILLAPUN_X_MAC_CYRILLIC = 38,
+    /** x-user-defined (section 14.5). */
+    JILLAPUN_X_USER_DEFINED = 39
+};
+
+/* ASCII, in bytes and in units of UTF-16: checks, and copies of the ASCII at the start. */
+
+/** Whether each byte is ASCII: below 80 hex. */
+bool encoding_mem_is_ascii(const uint8_t *buffer, size_t buffer_len);
+
+/** Whether each unit of UTF-16 is below 80 hex. */
+bool encoding_mem_is_basic_latin(const jillapun_char16 *buffer, size_t buffer_len);
+
+/**
+ * The length in bytes of the longest prefix that is ASCII: it ends before the first byte from
+ * 80 hex on.
+ */
+size_t encoding_ascii_valid_up_to(const uint8_t *buffer, size_t buffer_len);
+
+/**
+ * The length in bytes of the longest prefix that ISO-2022-JP, at the start of an input, reads
+ * as ASCII: it ends before the first 0E, 0F, 1B or byte from 80 hex on (the Encoding Standard,
+ * section 12.2.1).
+ */
+size_t encoding_iso_2022_jp_ascii_valid_up_to(const uint8_t *buffer, size_t buffer_len);
+
+/**
+ * Copies the longest prefix of `src` that is ASCII to the start of `dst`, and returns its
+ * length in bytes. Room: as many bytes as `src` has; if `dst` is shorter, nothing is written
+ * and `SIZE_MAX` is returned.
+ */
+size_t encoding_mem_copy_ascii_to_ascii(const uint8_t *src, size_t src_len, uint8_t *dst,
+    size_t dst_len);
+
+/**
+ * Copies the longest prefix of `src` that is ASCII to the start of `dst`, each byte as a unit
+ * of UTF-16, and returns its length. Room: as many units as `src` has bytes; if `dst` is
+ * shorter, nothing is written and `SIZE_MAX` is returned.
+ */
+size_t encoding_mem_copy_ascii_to_basic_latin(const uint8_t *src, size_t src_len,
+    jillapun_char16 *dst, size_t dst_len);
+
+/**
+ * Copies the longest prefix of `src` whose units of UTF-16 are below 80 hex to the start of
+ * `dst`, each as a byte, and returns its length. Room: as many bytes as `src` has units; if
+ * `dst` is shorter, nothing is written and `SIZE_MAX` is returned.
+ */
+size_t encoding_mem_copy_basic_latin_to_ascii(const jillapun_char16 *src, size_t src_len,
+    uint8_t *dst, size_t dst_len);
+
+/* Whether a text may have to be laid out from right to left: a quick test that may say yes of a
+   text without such characters, and never says no of one with them. */
+
+/**
+ * Whether a character, given as its code point, may be written from right to left, or is a
+ * control that begins such a run. Taken by blocks: U+0590 to U+08FF, U+200F, U+202B, U+202E,
+ * U+2067, U+FB1D to U+FDFF, U+FE70 to U+FEFE, U+10800 to U+10FFF and U+1E800 to U+1EFFF. A
+ * number that is no character is not.
+ */
+bool encoding_mem_is_char_bidi(uint32_t c);
+
+/**
+ * Whether a unit of UTF-16 is a character of which `encoding_mem_is_char_bidi` holds, or a high
+ * surrogate with which one of those above U+FFFF is written: D802, D803, D83A or D83B.
+ */
+bool encoding_mem_is_utf16_code_unit_bidi(jillapun_char16 u);
+
+/**
+ * Whether `encoding_mem_is_char_bidi` holds of some character of the bytes, as UTF-8, or they
+ * are not well-formed.
+ */
+bool encoding_mem_is_utf8_bidi(const uint8_t *buffer, size_t buffer_len);
+
+/** What `encoding_mem_is_utf8_bidi` returns. The bytes are tested: none are undefined here. */
+bool encoding_mem_is_str_bidi(const uint8_t *buffer, size_t buffer_len);
+
+/**
+ * Whether `encoding_mem_is_utf16_code_unit_bidi` holds of some unit. A lone high surrogate
+ * counts as if its pair were whole.
+ */
+bool encoding_mem_is_utf16_bidi(const jillapun_char16 *buffer, size_t buffer_len);
+
+/**
+ * `JILLAPUN_LATIN1` if `encoding_mem_is_utf8_latin1` holds of the bytes, `JILLAPUN_BIDI` if
+ * `encoding_mem_is_utf8_bidi` does, also if they are not well-formed, and else
+ * `JILLAPUN_LEFT_TO_RIGHT`.
+ */
+uint32_t encoding_mem_check_utf8_for_latin1_and_bidi(const uint8_t *buffer, size_t buffer_len);
+
+/**
+ * What `encoding_mem_check_utf8_for_latin1_and_bidi` returns. The bytes are tested: none are
+ * undefined here.
+ */
+uint32_t encoding_mem_check_str_for_latin1_and_bidi(const uint8_t *buffer, size_t buffer_len);
+
+/**
+ * `JILLAPUN_LATIN1` if `encoding_mem_is_utf16_latin1` holds of the units, `JILLAPUN_BIDI` if
+ * `encoding_mem_is_utf16_bidi` does, and else `JILLAPUN_LEFT_TO_RIGHT`.
+ */
+uint32_t encoding_mem_check_utf16_for_latin1_and_bidi(const jillapun_char16 *buffer,
+    size_t buffer_len);
+
+/* Latin1, whose bytes are the characters U+0000 to U+00FF: checks, and conversions from it and
+   into it. */
+
+/** Whether the bytes are well-formed UTF-8 with no character above U+00FF. */
+bool encoding_mem_is_utf8_latin1(const uint8_t *buffer, size_t buffer_len);
+
+/** What `encoding_mem_is_utf8_latin1` returns. The bytes are tested: none are undefined here. */
+bool encoding_mem_is_str_latin1(const uint8_t *buffer, size_t buffer_len);
+
+/** Whether each unit of UTF-16 is at most FF hex. */
+bool encoding_mem_is_utf16_latin1(const jillapun_char16 *buffer, size_t buffer_len);
+
+/**
+ * The length in bytes of the longest prefix that is well-formed UTF-8 with no character above
+ * U+00FF.
+ */
+size_t encoding_mem_utf8_latin1_up_to(const uint8_t *buffer, size_t buffer_len);
+
+/** What `encoding_mem_utf8_latin1_up_to` returns. The bytes are tested: none are undefined here. */
+size_t encoding_mem_str_latin1_up_to(const uint8_t *buffer, size_t buffer_len);
+
+/**
+ * Converts Latin1 to UTF-16 at the start of `dst`, a unit for each byte, and returns how many
+ * units were written. Room: as many units as `src` has bytes; if `dst` is shorter, nothing is
+ * written and `SIZE_MAX` is returned.
+ */
+size_t encoding_mem_convert_latin1_to_utf16(const uint8_t *src, size_t src_len,
+    jillapun_char16 *dst, size_t dst_len);
+
+/**
+ * Takes the low eight bits of each unit of UTF-16, into the start of `dst`, and returns how
+ * many bytes were written. If `encoding_mem_is_utf16_latin1` holds of `src`, that is its text
+ * in Latin1; else it is not. Room: as many bytes as `src` has units; if `dst` is shorter,
+ * nothing is written and `SIZE_MAX` is returned.
+ */
+size_t encoding_mem_convert_utf16_to_latin1_lossy(const jillapun_char16 *src, size_t src_len,
+    uint8_t *dst, size_t dst_len);
+
+/**
+ * Converts UTF-8 to Latin1 at the start of `dst`, a byte for each character, and returns how
+ * many bytes were written. Room: as many bytes as `src` has. If `dst` is shorter, or
+ * `encoding_mem_is_utf8_latin1` does not hold of `src`, nothing is written and `SIZE_MAX` is
+ * returned.
+ */
+size_t encoding_mem_convert_utf8_to_latin1_lossy(const uint8_t *src, size_t src_len, uint8_t *dst,
+    size_t dst_len);
+
+/**
+ * Converts Latin1 to UTF-8 at the start of `dst`, and returns how many bytes were written.
+ * Room: twice as many bytes as `src` has; if `dst` is shorter, nothing is written and
+ * `SIZE_MAX` is returned.
+ */
+size_t encoding_mem_convert_latin1_to_utf8(const uint8_t *src, size_t src_len, uint8_t *dst,
+    size_t dst_len);
+
+/**
+ * Converts Latin1 to UTF-8 at the start of a text, which stays one, and returns how many bytes
+ * were written: if a character of `dst` is overwritten in part, its other bytes become 00.
+ * Room: twice as many bytes as `src` has. If `dst` is shorter, or is not UTF-8 before the call,
+ * nothing is written and `SIZE_MAX` is returned.
+ */
+size_t encoding_mem_convert_latin1_to_str(const uint8_t *src, size_t src_len, uint8_t *dst,
+    size_t dst_len);
+
+/* Conversions of the longest prefix that fits. Each says how much was read and how much was
+   written: the caller goes on with what is unread. */
+
+/**
+ * Converts the longest well-formed prefix of UTF-8 whose UTF-16 fits into `dst`. It ends before
+ * the first malformed sequence, if one comes before the room ends. `read` is in bytes,
+ * `written` in units.
+ */
+void jillapun_mem_convert_utf8_to_utf16_up_to_invalid(const uint8_t *src, size_t src_len,
+    jillapun_char16 *dst, size_t dst_len, size_t *read, size_t *written);
+
+/**
+ * Converts the longest prefix of UTF-16 whose UTF-8 fits into `dst`. No pair is split; a
+ * surrogate in no pair of `src` becomes U+FFFD. `read` is in units, `written` in bytes.
+ */
+void jillapun_mem_convert_utf16_to_utf8_partial(const jillapun_char16 *src, size_t src_len,
+    uint8_t *dst, size_t dst_len, size_t *read, size_t *written);
+
+/**
+ * Converts the longest prefix of Latin1 whose UTF-8 fits into `dst`. `read` and `written` are
+ * in bytes.
+ */
+void jillapun_mem_convert_latin1_to_utf8_partial(const uint8_t *src, size_t src_len, uint8_t *dst,
+    size_t dst_len, size_t *read, size_t *written);
+
+/**
+ * Converts the longest prefix of UTF-16 whose UTF-8 fits into a text, which stays one: if a
+ * character of `dst` is overwritten in part, its other bytes become 00. No pair is split; a
+ * surrogate in no pair of `src` becomes U+FFFD. `read` is in units, `written` in bytes. Returns
+ * `JILLAPUN_OK`, or `JILLAPUN_NOT_UTF8` if `dst` is not UTF-8 before the call: then nothing is
+ * read or written.
+ */
+uint8_t jillapun_mem_convert_utf16_to_str_partial(const jillapun_char16 *src, size_t src_len,
+    uint8_t *dst, size_t dst_len, size_t *read, size_t *written);
+
+/**
+ * Converts the longest prefix of Latin1 whose UTF-8 fits into a text, which stays one: if a
+ * character of `dst` is overwritten in part, its other bytes become 00. `read` and `written`
+ * are in bytes. Returns `JILLAPUN_OK`, or `JILLAPUN_NOT_UTF8` if `dst` is not UTF-8 before the
+ * call: then nothing is read or written.
+ */
+uint8_t jillapun_mem_convert_latin1_to_str_partial(const uint8_t *src, size_t src_len, uint8_t *dst,
+    size_t dst_len, size_t *read, size_t *written);
+
+/* UTF-16: whether it is well-formed, and conversions to UTF-8. */
+
+/**
+ * The length in units of the longest prefix that is well-formed UTF-16: it ends before the
+ * first surrogate in no pair.
+ */
+size_t encoding_mem_utf16_valid_up_to(const jillapun_char16 *buffer, size_t buffer_len);
+
+/** Puts U+FFFD in place of each surrogate in no pair, and leaves all other units as they are. */
+void encoding_mem_ensure_utf16_validity(jillapun_char16 *buffer, size_t buffer_len);
+
+/**
+ * Converts UTF-16 to UTF-8 at the start of `dst`, with U+FFFD for each surrogate in no pair,
+ * and returns how many bytes were written. Room: three bytes for each unit of `src`; if `dst`
+ * is shorter, nothing is written and `SIZE_MAX` is returned.
+ */
+size_t encoding_mem_convert_utf16_to_utf8(const jillapun_char16 *src, size_t src_len, uint8_t *dst,
+    size_t dst_len);
+
+/**
+ * Converts UTF-16 to UTF-8 at the start of a text, which stays one, with U+FFFD for each
+ * surrogate in no pair, and returns how many bytes were written: if a character of `dst` is
+ * overwritten in part, its other bytes become 00. Room: three bytes for each unit of `src`. If
+ * `dst` is shorter, or is not UTF-8 before the call, nothing is written and `SIZE_MAX` is
+ * returned.
+ */
+size_t encoding_mem_convert_utf16_to_str(const jillapun_char16 *src, size_t src_len, uint8_t *dst,
+    size_t dst_len);
+
+/* UTF-8: how far it is well-formed, and conversions to UTF-16. */
+
+/**
+ * The length in bytes of the longest prefix that is well-formed UTF-8 (RFC 3629): it ends
+ * before the first byte of the first malformed sequence.
+ */
+size_t encoding_utf8_valid_up_to(const uint8_t *buffer, size_t buffer_len);
+
+/**
+ * Converts UTF-8 to UTF-16 at the start of `dst`, with U+FFFD for each malformed sequence, and
+ * returns how many units were written. Room: one unit more than `src` has bytes; if `dst` is
+ * shorter, nothing is written and `SIZE_MAX` is returned.
+ */
+size_t encoding_mem_convert_utf8_to_utf16(const uint8_t *src, size_t src_len, jillapun_char16 *dst,
+    size_t dst_len);
+
+/**
+ * Converts UTF-8 to UTF-16 at the start of `dst`, and returns how many units were written.
+ * Room: as many units as `src` has bytes; if `dst` is shorter, nothing is written and
+ * `SIZE_MAX` is returned. If `src` is not well-formed, `SIZE_MAX` is returned, too, and `dst`
+ * begins with the text before the first malformed sequence.
+ */
+size_t encoding_mem_convert_utf8_to_utf16_without_replacement(const uint8_t *src, size_t src_len,
+    jillapun_char16 *dst, size_t dst_len);
+
+/**
+ * What `encoding_mem_convert_utf8_to_utf16_without_replacement` does and returns. The bytes are
+ * tested: none are undefined here.
+ */
+size_t encoding_mem_convert_str_to_utf16(const uint8_t *src, size_t src_len, jillapun_char16 *dst,
+    size_t dst_len);
+
+#ifdef __cplusplus
+}
+#endif
+
+#endif

@@ -1,0 +1,164 @@
+#!/usr/bin/env python3
+"""Installs what `make build` and `make c` have built, or packs it: `make install`, `make dist`.
+
+    python3 tools/install.py --prefix PREFIX [--destdir DIR]
+    python3 tools/install.py --archive
+
+Both have the programs, the library for C with its header, its file for pkg-config and its man page, the programs' man pages,
+and the index texts. The archive, `out/jillapun-VERSION-x86_64-linux.tar.gz`, has the Python module and the licences too: it
+is for machines without `rt`. Its file for pkg-config finds the others by its own place, so it can be unpacked anywhere. It is
+the same, byte by byte, for the same files.
+"""
+
+import argparse
+import gzip
+import io
+import os
+import shutil
+import stat
+import subprocess
+import sys
+import tarfile
+import tempfile
+
+import c_library
+
+TOP = c_library.TOP
+SHARED = os.path.join("out", "c", c_library.SHARED)
+
+# What is installed: where it stands here, and there below the prefix.
+PROGRAMS = [
+    ("crates/recode_cli/out/recode_cli", "bin/recode"),
+    ("crates/recode_places_cli/out/recode_places_cli", "bin/recode-places"),
+]
+FILES = [
+    ("out/c/libjillapun.a", "lib/libjillapun.a"),
+    ("include/jillapun.h", "include/jillapun.h"),
+    ("man/recode.1", "share/man/man1/recode.1"),
+    ("man/recode-places.1", "share/man/man1/recode-places.1"),
+    ("man/jillapun.3", "share/man/man3/jillapun.3"),
+]
+# What the archive has besides.
+LICENCES = ["COPYRIGHT", "LICENSE-APACHE", "LICENSE-MIT", "LICENSE-WHATWG"]
+INDEXES = "share/recode/indexes"
+
+PKG_CONFIG = """prefix={prefix}
+libdir=${{prefix}}/lib
+includedir=${{prefix}}/include
+
+Name: jillapun
+Description: Text encodings, by the Encoding Standard, with proofs
+Version: {version}
+Libs: -L${{libdir}} -ljillapun
+Cflags: -I${{includedir}}
+"""
+
+README = """Jillapun {version}, for Linux on x86-64: text encodings, by the Encoding Standard, with proofs.
+
+    bin/recode, bin/recode-places    programs; man/man1 below share has their pages
+    lib, include                     the library for C, static and shared; share/man/man3/jillapun.3 is its page
+    lib/pkgconfig                    PKG_CONFIG_PATH for `pkg-config --cflags --libs jillapun`
+    python                           the module for Python, if it is here: PYTHONPATH, over lib/libjillapun.so
+    share/recode/indexes             the indexes of the standard: `recode --indexes`, `jillapun_tables_new`
+    COPYRIGHT, LICENSE-*             the licences
+
+The folder can stand anywhere.
+"""
+
+
+def copied(source, target, mode):
+    os.makedirs(os.path.dirname(target), exist_ok=True)
+    if os.path.lexists(target):
+        os.remove(target)
+    shutil.copyfile(os.path.join(TOP, source), target)
+    os.chmod(target, mode)
+
+
+def written(text, target):
+    os.makedirs(os.path.dirname(target), exist_ok=True)
+    with open(target, "w", encoding="utf-8") as file:
+        file.write(text)
+    os.chmod(target, 0o644)
+
+
+def links(name, target):
+    """The shared library, and the two links to it."""
+    copied(SHARED + "." + name, os.path.join(target, c_library.SHARED + "." + name), 0o755)
+    for link in (c_library.soname(), c_library.SHARED):
+        path = os.path.join(target, link)
+        if os.path.lexists(path):
+            os.remove(path)
+        os.symlink(c_library.SHARED + "." + name, path)
+
+
+def install(folder, prefix):
+    """Puts all into a folder, which will stand at a prefix."""
+    for source, target in PROGRAMS:
+        copied(source, os.path.join(folder, target), 0o755)
+    for source, target in FILES:
+        copied(source, os.path.join(folder, target), 0o644)
+    links(c_library.version(), os.path.join(folder, "lib"))
+    for name in sorted(os.listdir(os.path.join(TOP, "indexes"))):
+        copied(os.path.join("indexes", name), os.path.join(folder, INDEXES, name), 0o644)
+    text = PKG_CONFIG.format(prefix=prefix, version=c_library.version())
+    written(text, os.path.join(folder, "lib", "pkgconfig", "jillapun.pc"))
+
+
+def python_module(folder):
+    """The Python module, as far as the repository has it."""
+    tracked = subprocess.run(["git", "ls-files", "python/jillapun"], cwd=TOP, capture_output=True, text=True, check=True)
+    for path in tracked.stdout.split("\n")[:-1]:
+        copied(path, os.path.join(folder, path), 0o644)
+
+
+def packed(folder, name, path):
+    """An archive of a folder, in which all belongs to root and is as old as the last commit."""
+    time = int(subprocess.run(["git", "log", "-1", "--format=%ct"], cwd=TOP, capture_output=True, text=True, check=True).stdout)
+
+    def plain(info):
+        info.uid = info.gid = 0
+        info.uname = info.gname = "root"
+        info.mtime = time
+        if info.isdir():
+            info.mode = stat.S_IFDIR | 0o755
+        return info
+
+    data = io.BytesIO()
+    with tarfile.open(fileobj=data, mode="w", format=tarfile.PAX_FORMAT) as archive:
+        archive.add(folder, name, filter=plain)
+    with open(path, "wb") as file, gzip.GzipFile("", "wb", fileobj=file, mtime=time) as stream:
+        stream.write(data.getvalue())
+
+
+def archive():
+    """Packs all, and returns the archive's path."""
+    version = c_library.version()
+    name = "jillapun-%s-x86_64-linux" % version
+    path = os.path.join(TOP, "out", name + ".tar.gz")
+    with tempfile.TemporaryDirectory() as folder:
+        install(folder, "${pcfiledir}/../..")
+        python_module(folder)
+        for licence in LICENCES:
+            copied(licence, os.path.join(folder, licence), 0o644)
+        written(README.format(version=version), os.path.join(folder, "README"))
+        packed(folder, name, path)
+    return path
+
+
+def main():
+    parser = argparse.ArgumentParser()
+    parser.add_argument("--prefix")
+    parser.add_argument("--destdir", default="")
+    parser.add_argument("--archive", action="store_true")
+    words = parser.parse_args()
+    if words.archive:
+        print("packed", os.path.relpath(archive(), TOP))
+    elif words.prefix:
+        install(words.destdir + os.path.abspath(words.prefix), os.path.abspath(words.prefix))
+    else:
+        parser.error("--prefix or --archive")
+    return 0
+
+
+if __name__ == "__main__":
+    sys.exit(main())
