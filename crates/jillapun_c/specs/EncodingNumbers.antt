@@ -8,7 +8,7 @@ use Rattle.encoding_front.specs.EncodingTable.{encodings}
 use Rattle.encoding_front.specs.declared.encoding.Encoding.{Encoding}
 use Rattle.encoding_front.specs.declared.mark.Mark.{Mark}
 use Rattle.jillapun_c.specs.declared.status.TheConstants.{CLOSED, NOT_READY, OK, UNKNOWN}
-use Rattle.jillapun_c.specs.Room.{BeginsWith, IsRefused}
+use Rattle.jillapun_c.specs.Room.{IsPut, IsUnwritten}
 
 -- the encoding with that number, if there is one: its place in the order of the names
 abbrev pub encoding_at : ℕ → Option Encoding
@@ -20,12 +20,12 @@ mark_at number = slice_get (Mark.Sniff ∷ Mark.Remove ∷ Mark.Keep ∷ []) num
 
 -- the room begins with the word, whose length is returned; if it is shorter, the call is refused
 pub record Writes (old word new : List ℕ) (returned : ℕ) : Type 0 where
-  pub written : length word ≤ length old → BeginsWith old word new returned × (returned ≡ length word)
-  pub refused : length old < length word → IsRefused old new returned
+  pub written : length word ≤ length old → IsPut old word new returned × (returned ≡ length word)
+  pub refused : length old < length word → IsUnwritten old new returned
 
 -- the room begins with the word; if there is none, or the room is shorter, the call is refused
 abbrev pub WritesIfAny : (word : Option (List ℕ)) → (old new : List ℕ) → ℕ → Type 0
-WritesIfAny word old new returned = MatchOption word (IsRefused old new returned) (λ w. Writes old w new returned)
+WritesIfAny word old new returned = MatchOption word (IsUnwritten old new returned) (λ w. Writes old w new returned)
 
 -- the name of the file of an index that the encoding with that number needs, by its place among these
 abbrev pub needed_file : ℕ → ℕ → Option (List ℕ)
