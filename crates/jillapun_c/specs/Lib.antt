@@ -5,6 +5,7 @@ pub mod Conversions
 pub mod DecoderCalls
 pub mod EncoderCalls
 pub mod EncodingNumbers
+pub mod Examples
 pub mod IndexFiles
 pub mod Losses
 pub mod Openings
