@@ -231,6 +231,446 @@ enum {
     JILLAPUN_X_USER_DEFINED = 39
 };
 
+/** So many bytes from an address on. It is not NULL. */
+typedef struct {
+    const uint8_t *at;
+    size_t len;
+} jillapun_bytes;
+
+/**
+ * Tables of indexes, loaded by `jillapun_tables_new`. Begin with `{0}`, which holds no tables.
+ *
+ * The tables live as long as the process, and are never changed. So a copy of this is as good
+ * as this, and any number of threads may use the same tables at once.
+ */
+typedef struct {
+    const void *private_at;
+    bool private_is_open;
+} jillapun_tables;
+
+/** The text of an index, with the name of its file. */
+typedef struct {
+    /** The name, in ASCII, as `index-jis0208.txt`, without a folder. */
+    jillapun_bytes name;
+    /** The bytes of the file. */
+    jillapun_bytes text;
+} jillapun_index_file;
+
+/** Why an index file was not loaded. */
+typedef struct {
+    /** Which of the files, counted from 0. */
+    size_t file;
+    /** The line of its text, counted from 1; 0 where the fault is in no line alone. */
+    size_t line;
+} jillapun_index_fault;
+
+/** The address of a decoder or an encoder, for calls of this library alone. */
+typedef struct {
+    void *private_at;
+    bool private_is_open;
+} jillapun_coder;
+
+/**
+ * A decoder of a stream. Begin with `{0}`, which holds none; `jillapun_decoder_new` fills it,
+ * and `jillapun_decoder_free` empties it. Never copy it: only one of the copies may be used.
+ * One thread at a time.
+ */
+typedef struct {
+    jillapun_coder private_coder;
+} jillapun_decoder;
+
+/** What a call of a decoder did. */
+typedef struct {
+    /** How many bytes were read. */
+    size_t read;
+    /** How many bytes of UTF-8, or units of UTF-16, were written. */
+    size_t written;
+    /** `JILLAPUN_INPUT_EMPTY`, `JILLAPUN_OUTPUT_FULL` or `JILLAPUN_MALFORMED`. */
+    uint8_t outcome;
+    /** At `JILLAPUN_MALFORMED`, how many bytes the malformed sequence has, 1 to 4; else 0. */
+    uint8_t malformed_length;
+    /**
+     * At `JILLAPUN_MALFORMED`, how many of the bytes that were read follow the sequence, 0 to 3;
+     * else 0.
+     */
+    uint8_t malformed_after;
+    /** Whether U+FFFD was written for a malformed sequence. */
+    bool had_errors;
+} jillapun_progress;
+
+/**
+ * An encoder of a stream. Begin with `{0}`, which holds none; `jillapun_encoder_new` fills it,
+ * and `jillapun_encoder_free` empties it. Never copy it: only one of the copies may be used.
+ * One thread at a time.
+ */
+typedef struct {
+    jillapun_coder private_coder;
+} jillapun_encoder;
+
+/** What a call of an encoder did. */
+typedef struct {
+    /** How many bytes of UTF-8, or units of UTF-16, were read. */
+    size_t read;
+    /** How many bytes were written. */
+    size_t written;
+    /** `JILLAPUN_INPUT_EMPTY`, `JILLAPUN_OUTPUT_FULL` or `JILLAPUN_UNMAPPABLE`. */
+    uint8_t outcome;
+    /** Whether a reference was written for a character that has no bytes. */
+    bool had_unmappable;
+    /**
+     * At `JILLAPUN_UNMAPPABLE`, the code point of the character that has no bytes; U+FFFD for
+     * U+000E, U+000F and U+001B in ISO-2022-JP. Else 0.
+     */
+    uint32_t scalar;
+} jillapun_encoder_progress;
+
+/* The exports on encodings: found by a label or a mark, and what is told of each. An encoding
+   crosses as its number, from 0 to 39, in the order of the names. */
+
+/**
+ * The number of the encoding that has this label, or `JILLAPUN_NO_ENCODING` where no encoding
+ * has it ("get an encoding" of the Encoding Standard, section 4.2). White space at both ends
+ * (the bytes 09, 0A, 0C, 0D and 20) and the case of ASCII letters do not matter.
+ */
+uint8_t jillapun_for_label(const uint8_t *label, size_t label_len);
+
+/**
+ * The number of the encoding whose byte order mark stands at the start of `bytes`, and in
+ * `length` the length of the mark in bytes; `JILLAPUN_NO_ENCODING` and 0 where there is none
+ * ("BOM sniff" of the Encoding Standard, section 6). The marks are EF BB BF of UTF-8, FE FF of
+ * UTF-16BE and FF FE of UTF-16LE.
+ */
+uint8_t jillapun_for_bom(const uint8_t *bytes, size_t bytes_len, size_t *length);
+
+/**
+ * Writes the name of an encoding at the start of `name`, as the Encoding Standard writes it
+ * (section 4.2): `Shift_JIS`. Returns its length in bytes; at most 14. Where no encoding has
+ * the number, or `name` is shorter than that, nothing is written and `SIZE_MAX` is returned.
+ */
+size_t jillapun_name(uint8_t encoding, uint8_t *name, size_t name_len);
+
+/**
+ * The number of the encoding in which text is written that is asked for in this one ("get an
+ * output encoding" of the Encoding Standard, section 4.3): UTF-8 for UTF-16BE, UTF-16LE and
+ * replacement, and the encoding itself for all others. `JILLAPUN_NO_ENCODING` where no encoding
+ * has the number.
+ */
+uint8_t jillapun_output_encoding(uint8_t encoding);
+
+/**
+ * Writes the name of the file of the index with this place, from 0 on, among those that an
+ * encoding needs, as `index-jis0208.txt`, at the start of `name`. Returns its length in bytes;
+ * at most 30. Where the encoding needs no further index, no encoding has the number, or `name`
+ * is shorter than that, nothing is written and `SIZE_MAX` is returned.
+ */
+size_t jillapun_needs(uint8_t encoding, size_t place, uint8_t *name, size_t name_len);
+
+/**
+ * Whether tables hold all indexes that an encoding needs: returns `JILLAPUN_OK`;
+ * `JILLAPUN_NOT_READY`, one is missing; `JILLAPUN_UNKNOWN`, no encoding has the number;
+ * `JILLAPUN_CLOSED`, there are no tables. UTF-8, UTF-16BE, UTF-16LE, replacement and
+ * x-user-defined need none.
+ */
+uint8_t jillapun_tables_is_ready(jillapun_tables tables, uint8_t encoding);
+
+/* The exports that load tables. */
+
+/**
+ * Loads index files, each as the index of its name, in any order: those of the encodings that
+ * will be used, or all that the Encoding Standard publishes. The texts are not needed after the
+ * call.
+ *
+ * Returns `JILLAPUN_OK`, and `out` holds the tables; or `JILLAPUN_IN_USE`, it holds some
+ * already. On an error `out` is as it was, and `fault` says which file it is:
+ * `JILLAPUN_UNKNOWN`, no index has a file of that name; `JILLAPUN_BAD_INDEX`, the text has a
+ * fault, or the index was loaded already; `JILLAPUN_NO_MEMORY`, memory was refused, and the
+ * call can be made again.
+ *
+ * The tables are never freed, so that they can be shared by all threads: load them once.
+ */
+uint8_t jillapun_tables_new(const jillapun_index_file *files, size_t files_len,
+    jillapun_tables *out, jillapun_index_fault *fault);
+
+/* The exports that decode streams. */
+
+/**
+ * Makes a decoder of a new stream, in the encoding with this number, and `mark` says what
+ * becomes of a byte order mark at its start.
+ *
+ * Returns `JILLAPUN_OK`, and `out` holds the decoder. Else nothing is made: `JILLAPUN_IN_USE`,
+ * `out` holds one already; `JILLAPUN_CLOSED`, there are no tables; `JILLAPUN_UNKNOWN`, no
+ * encoding or no handling of marks has the number; `JILLAPUN_NOT_READY`, the tables lack an
+ * index of the encoding; `JILLAPUN_NO_MEMORY`, memory was refused.
+ */
+uint8_t jillapun_decoder_new(jillapun_tables tables, uint8_t encoding, uint8_t mark,
+    jillapun_decoder *out);
+
+/** Ends a decoder, and empties its handle. Nothing is done with one that holds none. */
+void jillapun_decoder_free(jillapun_decoder *decoder);
+
+/* What a decoder tells of itself. */
+
+/**
+ * The number of the encoding in force: the one that the decoder was made for, or that of the
+ * byte order mark once all of it was read. `JILLAPUN_NO_ENCODING` where the handle holds no
+ * decoder.
+ */
+uint8_t jillapun_decoder_encoding(jillapun_decoder *decoder);
+
+/**
+ * How many bytes of UTF-8 are room enough for the text of `n` more bytes, with U+FFFD for each
+ * malformed sequence; `SIZE_MAX` where the number passes a `size_t`, the handle holds no
+ * decoder, or the stream has ended. What is pending counts too.
+ */
+size_t jillapun_decoder_max_utf8_length(jillapun_decoder *decoder, size_t n);
+
+/**
+ * How many bytes of UTF-8 are room enough for the text of `n` more bytes up to the first
+ * malformed sequence, and for one U+FFFD there; `SIZE_MAX` where the number passes a `size_t`,
+ * the handle holds no decoder, or the stream has ended. What is pending counts too.
+ */
+size_t jillapun_decoder_max_utf8_length_without_replacement(jillapun_decoder *decoder, size_t n);
+
+/**
+ * How many units of UTF-16 are room enough for the text of `n` more bytes, with U+FFFD for each
+ * malformed sequence; `SIZE_MAX` where the number passes a `size_t`, the handle holds no
+ * decoder, or the stream has ended. What is pending counts too.
+ */
+size_t jillapun_decoder_max_utf16_length(jillapun_decoder *decoder, size_t n);
+
+/* The exports that decode to UTF-16. */
+
+/**
+ * Decodes the next bytes of a stream to UTF-16, with U+FFFD for each malformed sequence. `last`
+ * says that the stream ends with them.
+ *
+ * Returns `JILLAPUN_OK`, and `progress` tells what was done. At `JILLAPUN_INPUT_EMPTY` all of
+ * `src` is read: hand in what follows; with `last` the stream has ended. At
+ * `JILLAPUN_OUTPUT_FULL` fewer than 2 units are free: make room, and hand in the rest again,
+ * with `last` as it was, also where nothing is left. A surrogate pair is never split, and
+ * nothing after what is written changes. `JILLAPUN_OUTPUT_FULL` does not come where `dst` is as
+ * long as `jillapun_decoder_max_utf16_length` returns.
+ *
+ * Else nothing is done: `JILLAPUN_CLOSED`, the handle holds no decoder; `JILLAPUN_FINISHED`,
+ * the stream has ended.
+ */
+uint8_t jillapun_decoder_decode_to_utf16(jillapun_decoder *decoder, const uint8_t *src,
+    size_t src_len, jillapun_char16 *dst, size_t dst_len, bool last, jillapun_progress *progress);
+
+/**
+ * Decodes the next bytes of a stream to UTF-16, up to the first malformed sequence. `last` says
+ * that the stream ends with them.
+ *
+ * Returns `JILLAPUN_OK`, and `progress` tells what was done. At `JILLAPUN_INPUT_EMPTY` all of
+ * `src` is read: hand in what follows; with `last` the stream has ended. At
+ * `JILLAPUN_OUTPUT_FULL` fewer than 2 units are free: make room, and hand in the rest again,
+ * with `last` as it was, also where nothing is left. A surrogate pair is never split, and
+ * nothing after what is written changes. `JILLAPUN_OUTPUT_FULL` does not come where `dst` is as
+ * long as `jillapun_decoder_max_utf16_length` returns.
+ *
+ * At `JILLAPUN_MALFORMED` a sequence of `malformed_length` bytes ends `malformed_after` bytes
+ * before the end of what was read, and a unit is free: write U+FFFD or not, and go on as at
+ * `JILLAPUN_OUTPUT_FULL`.
+ *
+ * Else nothing is done: `JILLAPUN_CLOSED`, the handle holds no decoder; `JILLAPUN_FINISHED`,
+ * the stream has ended.
+ */
+uint8_t jillapun_decoder_decode_to_utf16_without_replacement(jillapun_decoder *decoder,
+    const uint8_t *src, size_t src_len, jillapun_char16 *dst, size_t dst_len, bool last,
+    jillapun_progress *progress);
+
+/* The exports that decode to UTF-8. */
+
+/**
+ * Decodes the next bytes of a stream to UTF-8, with U+FFFD for each malformed sequence. `last`
+ * says that the stream ends with them.
+ *
+ * Returns `JILLAPUN_OK`, and `progress` tells what was done. At `JILLAPUN_INPUT_EMPTY` all of
+ * `src` is read: hand in what follows; with `last` the stream has ended. At
+ * `JILLAPUN_OUTPUT_FULL` fewer than 4 bytes are free: make room, and hand in the rest again,
+ * with `last` as it was, also where nothing is left. A character is never split, and nothing
+ * after what is written changes. `JILLAPUN_OUTPUT_FULL` does not come where `dst` is as long as
+ * `jillapun_decoder_max_utf8_length` returns.
+ *
+ * Else nothing is done: `JILLAPUN_CLOSED`, the handle holds no decoder; `JILLAPUN_FINISHED`,
+ * the stream has ended.
+ */
+uint8_t jillapun_decoder_decode_to_utf8(jillapun_decoder *decoder, const uint8_t *src,
+    size_t src_len, uint8_t *dst, size_t dst_len, bool last, jillapun_progress *progress);
+
+/**
+ * Decodes the next bytes of a stream to UTF-8, up to the first malformed sequence. `last` says
+ * that the stream ends with them.
+ *
+ * Returns `JILLAPUN_OK`, and `progress` tells what was done. At `JILLAPUN_INPUT_EMPTY` all of
+ * `src` is read: hand in what follows; with `last` the stream has ended. At
+ * `JILLAPUN_OUTPUT_FULL` fewer than 4 bytes are free: make room, and hand in the rest again,
+ * with `last` as it was, also where nothing is left. A character is never split, and nothing
+ * after what is written changes. `JILLAPUN_OUTPUT_FULL` does not come where `dst` is as long as
+ * `jillapun_decoder_max_utf8_length_without_replacement` returns.
+ *
+ * At `JILLAPUN_MALFORMED` a sequence of `malformed_length` bytes ends `malformed_after` bytes
+ * before the end of what was read, and 3 bytes are free: write U+FFFD or not, and go on as at
+ * `JILLAPUN_OUTPUT_FULL`.
+ *
+ * Else nothing is done: `JILLAPUN_CLOSED`, the handle holds no decoder; `JILLAPUN_FINISHED`,
+ * the stream has ended.
+ */
+uint8_t jillapun_decoder_decode_to_utf8_without_replacement(jillapun_decoder *decoder,
+    const uint8_t *src, size_t src_len, uint8_t *dst, size_t dst_len, bool last,
+    jillapun_progress *progress);
+
+/* The exports that encode streams. */
+
+/**
+ * Makes an encoder of a new stream into the output encoding of the one with this number (the
+ * Encoding Standard, section 4.3).
+ *
+ * Returns `JILLAPUN_OK`, and `out` holds the encoder. Else nothing is made: `JILLAPUN_IN_USE`,
+ * `out` holds one already; `JILLAPUN_CLOSED`, there are no tables; `JILLAPUN_UNKNOWN`, no
+ * encoding has the number; `JILLAPUN_NOT_READY`, the tables lack an index of the output
+ * encoding; `JILLAPUN_NO_MEMORY`, memory was refused.
+ */
+uint8_t jillapun_encoder_new(jillapun_tables tables, uint8_t encoding, jillapun_encoder *out);
+
+/** Ends an encoder, and empties its handle. Nothing is done with one that holds none. */
+void jillapun_encoder_free(jillapun_encoder *encoder);
+
+/* What an encoder tells of itself. */
+
+/**
+ * The number of the output encoding, in which the encoder writes; `JILLAPUN_NO_ENCODING` where
+ * the handle holds no encoder.
+ */
+uint8_t jillapun_encoder_encoding(jillapun_encoder *encoder);
+
+/**
+ * Whether an escape to ASCII is still to be written at the end of the stream: so only in
+ * ISO-2022-JP, where another set is in force. False where the handle holds no encoder.
+ */
+bool jillapun_encoder_has_pending_state(jillapun_encoder *encoder);
+
+/**
+ * How many bytes are room enough for what `n` bytes of UTF-8 are encoded to with references, if
+ * each character has bytes; `SIZE_MAX` where the number passes a `size_t`, or the handle holds
+ * no encoder.
+ */
+size_t jillapun_encoder_max_length_from_utf8_if_no_unmappables(jillapun_encoder *encoder, size_t n);
+
+/**
+ * How many bytes are room enough for what `n` bytes of UTF-8 are encoded to without
+ * replacement, and for the last escape; `SIZE_MAX` where the number passes a `size_t`, or the
+ * handle holds no encoder.
+ */
+size_t jillapun_encoder_max_length_from_utf8_without_replacement(jillapun_encoder *encoder,
+    size_t n);
+
+/**
+ * How many bytes are room enough for what `n` units of UTF-16 are encoded to with references,
+ * if each character has bytes; `SIZE_MAX` where the number passes a `size_t`, or the handle
+ * holds no encoder.
+ */
+size_t jillapun_encoder_max_length_from_utf16_if_no_unmappables(jillapun_encoder *encoder,
+    size_t n);
+
+/**
+ * How many bytes are room enough for what `n` units of UTF-16 are encoded to without
+ * replacement, and for the last escape; `SIZE_MAX` where the number passes a `size_t`, or the
+ * handle holds no encoder.
+ */
+size_t jillapun_encoder_max_length_from_utf16_without_replacement(jillapun_encoder *encoder,
+    size_t n);
+
+/* The exports that encode UTF-16. */
+
+/**
+ * Encodes the next part of a text in UTF-16, with the decimal reference (`&#8364;`) of each
+ * character that has no bytes. `last` says that the text ends with it: then the last escape is
+ * written too, and the encoder is as a new one.
+ *
+ * Returns `JILLAPUN_OK`, and `progress` tells what was done. At `JILLAPUN_INPUT_EMPTY` all is
+ * read. At `JILLAPUN_OUTPUT_FULL` something is left to do: make room, and hand in the rest
+ * again, with `last` as it was, also where nothing is left; 14 bytes are always enough to go
+ * on. Unless the encoding is UTF-8, the last ten bytes of `dst` are kept for a reference.
+ * Nothing after what is written changes.
+ *
+ * Else nothing is done: `JILLAPUN_CLOSED`, the handle holds no encoder.
+ */
+uint8_t jillapun_encoder_encode_from_utf16(jillapun_encoder *encoder, const jillapun_char16 *text,
+    size_t text_len, uint8_t *dst, size_t dst_len, bool last, jillapun_encoder_progress *progress);
+
+/**
+ * Encodes the next part of a text in UTF-16, up to the first character that has no bytes.
+ * `last` says that the text ends with it: then the last escape is written too, and the encoder
+ * is as a new one.
+ *
+ * Returns `JILLAPUN_OK`, and `progress` tells what was done. At `JILLAPUN_INPUT_EMPTY` all is
+ * read. At `JILLAPUN_OUTPUT_FULL` something is left to do: make room, and hand in the rest
+ * again, with `last` as it was, also where nothing is left; 4 bytes are always enough to go on.
+ * At `JILLAPUN_UNMAPPABLE` the character that was read last has no bytes: write its reference,
+ * or something else in ASCII, and go on as at `JILLAPUN_OUTPUT_FULL`. Nothing after what is
+ * written changes.
+ *
+ * Else nothing is done: `JILLAPUN_CLOSED`, the handle holds no encoder.
+ */
+uint8_t jillapun_encoder_encode_from_utf16_without_replacement(jillapun_encoder *encoder,
+    const jillapun_char16 *text, size_t text_len, uint8_t *dst, size_t dst_len, bool last,
+    jillapun_encoder_progress *progress);
+
+/* The exports that encode UTF-8. */
+
+/**
+ * Encodes the next part of a text in UTF-8, with the decimal reference (`&#8364;`) of each
+ * character that has no bytes. `last` says that the text ends with it: then the last escape is
+ * written too, and the encoder is as a new one.
+ *
+ * Returns `JILLAPUN_OK`, and `progress` tells what was done. At `JILLAPUN_INPUT_EMPTY` all is
+ * read. At `JILLAPUN_OUTPUT_FULL` something is left to do: make room, and hand in the rest
+ * again, with `last` as it was, also where nothing is left; 14 bytes are always enough to go
+ * on. Unless the encoding is UTF-8, the last ten bytes of `dst` are kept for a reference.
+ * Nothing after what is written changes.
+ *
+ * Else nothing is done: `JILLAPUN_CLOSED`, the handle holds no encoder; `JILLAPUN_NOT_UTF8`,
+ * the text is not UTF-8.
+ */
+uint8_t jillapun_encoder_encode_from_utf8(jillapun_encoder *encoder, const uint8_t *text,
+    size_t text_len, uint8_t *dst, size_t dst_len, bool last, jillapun_encoder_progress *progress);
+
+/**
+ * Encodes the next part of a text in UTF-8, up to the first character that has no bytes. `last`
+ * says that the text ends with it: then the last escape is written too, and the encoder is as a
+ * new one.
+ *
+ * Returns `JILLAPUN_OK`, and `progress` tells what was done. At `JILLAPUN_INPUT_EMPTY` all is
+ * read. At `JILLAPUN_OUTPUT_FULL` something is left to do: make room, and hand in the rest
+ * again, with `last` as it was, also where nothing is left; 4 bytes are always enough to go on.
+ * At `JILLAPUN_UNMAPPABLE` the character that was read last has no bytes: write its reference,
+ * or something else in ASCII, and go on as at `JILLAPUN_OUTPUT_FULL`. Nothing after what is
+ * written changes.
+ *
+ * Else nothing is done: `JILLAPUN_CLOSED`, the handle holds no encoder; `JILLAPUN_NOT_UTF8`,
+ * the text is not UTF-8.
+ */
+uint8_t jillapun_encoder_encode_from_utf8_without_replacement(jillapun_encoder *encoder,
+    const uint8_t *text, size_t text_len, uint8_t *dst, size_t dst_len, bool last,
+    jillapun_encoder_progress *progress);
+
+/* The exports that decode and encode a whole input at once. */
+
+/**
+ * Decodes a whole input to UTF-8, at the start of `dst`, with U+FFFD for each malformed
+ * sequence. `mark` says what becomes of a byte order mark at its start. `written` is the length
+ * of the text in bytes.
+ *
+ * Returns `JILLAPUN_OK`; or `JILLAPUN_LOSSY`, a malformed sequence was replaced. At
+ * `JILLAPUN_ROOM` nothing is written, since `dst` is shorter than the text. Else nothing is
+ * done: `JILLAPUN_CLOSED`, there are no tables; `JILLAPUN_UNKNOWN`, no encoding or no handling
+ * of marks has the number; `JILLAPUN_NOT_READY`, the tables lack an index of the encoding;
+ * `JILLAPUN_NO_MEMORY`, memory was refused.
+ */
+uint8_t jillapun_decode(jillapun_tables tables, uint8_t encoding, uint8_t mark, const uint8_t *src,
+    size_t src_len, uint8_t *dst, size_t dst_len, size_t *written);
+
 /* ASCII, in bytes and in units of UTF-16: checks, and copies of the ASCII at the start. */
 
 /** Whether each byte is ASCII: below 80 hex. */

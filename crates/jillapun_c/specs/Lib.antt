@@ -8,3 +8,4 @@ pub mod Openings
 pub mod DecoderCalls
 pub mod EncoderCalls
 pub mod Examples
+pub mod Whole

@@ -21,3 +21,4 @@ mod progress;
 pub mod status;
 mod tables;
 mod tables_handle;
+mod whole;
