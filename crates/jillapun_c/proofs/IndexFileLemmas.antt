@@ -22,7 +22,7 @@ use Rattle.std.specs.Option.{option_map, option_or}
 use Rattle.std.specs.Prelude.{if◌then◌else◌, is_some}
 use Rattle.encoding_tables.specs.declared.index_kind.IndexKind.{IndexKind}
 use Rattle.encoding_tables.specs.declared.index_kind.IndexKind.TheVariants.{Ibm866, Gb18030Ranges}
-use Rattle.jillapun_c.specs.IndexFiles.{Adds, HoldFiles, IsFaultOf, IsLoaded, IsRefusedAt}
+use Rattle.jillapun_c.specs.IndexFiles.{AddsIndex, HoldFiles, IsFileFault, IsLoaded, IsRefusedAt}
 use Rattle.jillapun_c.specs.declared.index_files.FileFault.{FileFault}
 use Rattle.jillapun_c.specs.declared.index_files.IndexFile.{IndexFile}
 use Rattle.jillapun_c.specs.declared.lists.TheConstants.{KINDS}
@@ -119,7 +119,7 @@ keeps_absent old new kind other keeps apart = elim (is_ranges other) as (λ r. i
 both : {b : Bool} → b ≡ true → b ≡ false → ⊥
 both e f = cc
 
-adds_file : (files : List IndexFile) (old new : IndexLists) (file : IndexFile) → HoldFiles files old → Adds old new file → HoldFiles (files ++ file ∷ []) new
+adds_file : (files : List IndexFile) (old new : IndexLists) (file : IndexFile) → HoldFiles files old → AddsIndex old new file → HoldFiles (files ++ file ∷ []) new
 adds_file files old new file holds adds = record {
   loaded = All-push (IsLoaded new) files file
       (All-weaker (IsLoaded old) (IsLoaded new) (λ earlier l. record {
@@ -134,7 +134,7 @@ adds_file files old new file holds adds = record {
       keeps_absent old new adds.kind kind adds.keeps (λ same. parts.1 (ap file_name_of same ∙ adds.named)) (holds.others kind parts.0);
 }
 
-pub one_more : (files : List IndexFile) (n : ℕ) (d : IndexFile) (old new : IndexLists) → n < length files → HoldFiles (take n files) old → Adds old new (get_or files n d)
+pub one_more : (files : List IndexFile) (n : ℕ) (d : IndexFile) (old new : IndexLists) → n < length files → HoldFiles (take n files) old → AddsIndex old new (get_or files n d)
     → HoldFiles (take (n + 1) files) new
 one_more files n d old new within holds adds = let next : suc n ≡ n + 1 = omega arith in
     subst (λ m. HoldFiles (take m files) new) next (subst (λ fs. HoldFiles fs new) (sym (take-suc files n d within)) (adds_file (take n files) old new (get_or files n d) holds adds))
@@ -143,5 +143,5 @@ pub all_of_them : (files : List IndexFile) (n : ℕ) (tables : IndexLists) → l
 all_of_them files n tables past holds = subst (λ fs. HoldFiles fs tables) (take_all n files past) holds
 
 pub refused_at : (files : List IndexFile) (n : ℕ) (d : IndexFile) (tables : IndexLists) (fault : FileFault) → n < length files → HoldFiles (take n files) tables
-    → IsFaultOf tables (get_or files n d) fault → IsRefusedAt files n fault
+    → IsFileFault tables (get_or files n d) fault → IsRefusedAt files n fault
 refused_at files n d tables fault within holds is = record { tables = tables; before = holds; file = get_or files n d; there = slice_get-get_or files n d within; is = is }

@@ -51,7 +51,7 @@ pub record Decodes (unit : OutputUnit) (before : Decoder) (after : Option Coder)
   pub enough : IfRoomAsked (decoder_view before) unit (length src) size (outcome ≢ text_.OutputFull)
 
 -- The same of a call that ends at each malformed sequence.
-pub record DecodesPart (unit : OutputUnit) (before : Decoder) (after : Option Coder) (src : List ℕ) (last : Bool) (Writes : List ℕ → Type 0) (size free room mark : ℕ) (progress : Progress) : Type 0 where
+pub record DecodesUpToFault (unit : OutputUnit) (before : Decoder) (after : Option Coder) (src : List ℕ) (last : Bool) (Writes : List ℕ → Type 0) (size free room mark : ℕ) (progress : Progress) : Type 0 where
   pub decoder : Decoder
   pub held : decoder_in after ≡ Some decoder
   pub outcome : DecoderResult

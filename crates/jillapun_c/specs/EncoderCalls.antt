@@ -28,7 +28,7 @@ IsEncoderOutcome (raw_.Unmappable c) number scalar = (number ≡ UNMAPPABLE) × 
 
 -- What a call did that writes a reference for each character without bytes, and why it ended: of a text, of which rest
 -- is left, and which has so many bytes or units.
-pub record Encodes (is_units : Bool) (before : EncoderState) (after : Option Coder) (last : Bool) (text rest : List ℕ) (size : ℕ) (old new : List ℕ) (progress : EncoderProgress) : Type 0 where
+pub record EncodesAll (is_units : Bool) (before : EncoderState) (after : Option Coder) (last : Bool) (text rest : List ℕ) (size : ℕ) (old new : List ℕ) (progress : EncoderProgress) : Type 0 where
   pub encoder : EncoderState
   pub held : encoder_in after ≡ Some encoder
   pub outcome : CoderResult
@@ -38,7 +38,7 @@ pub record Encodes (is_units : Bool) (before : EncoderState) (after : Option Cod
   pub enough : room_with_reference before.encoding is_units size ≤ length old → progress.had_unmappable ≡ false → outcome ≢ text_.OutputFull
 
 -- The same of a call that ends at each character without bytes.
-pub record EncodesPart (is_units : Bool) (before : EncoderState) (after : Option Coder) (last : Bool) (text rest : List ℕ) (size : ℕ) (old new : List ℕ) (progress : EncoderProgress) : Type 0 where
+pub record EncodesUpToLost (is_units : Bool) (before : EncoderState) (after : Option Coder) (last : Bool) (text rest : List ℕ) (size : ℕ) (old new : List ℕ) (progress : EncoderProgress) : Type 0 where
   pub encoder : EncoderState
   pub held : encoder_in after ≡ Some encoder
   pub outcome : EncoderResult
@@ -48,6 +48,6 @@ pub record EncodesPart (is_units : Bool) (before : EncoderState) (after : Option
   pub enough : room_without_reference before.encoding is_units size ≤ length old → outcome ≢ raw_.OutputFull
 
 -- the number that an encoder tells, if there is one; else SIZE_MAX
-abbrev pub Tells : Option EncoderState → (EncoderState → Option ℕ) → ℕ → Type 0
-Tells None room returned = returned ≡ REFUSED
-Tells (Some e) room returned = returned ≡ unwrap_or (room e) REFUSED
+abbrev pub TellsNumber : Option EncoderState → (EncoderState → Option ℕ) → ℕ → Type 0
+TellsNumber None room returned = returned ≡ REFUSED
+TellsNumber (Some e) room returned = returned ≡ unwrap_or (room e) REFUSED

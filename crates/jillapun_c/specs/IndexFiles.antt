@@ -32,7 +32,7 @@ pub record HoldFiles (files : List IndexFile) (tables : IndexLists) : Type 0 whe
   pub others : (kind : IndexKind) → All (λ file. file_name_of kind ≢ file.name.now) files → has tables kind ≡ false
 
 -- tables took the file as the index of its name, which they did not have, and differ in no other
-pub record Adds (old new : IndexLists) (file : IndexFile) : Type 0 where
+pub record AddsIndex (old new : IndexLists) (file : IndexFile) : Type 0 where
   pub kind : IndexKind
   pub named : IsFileOf kind file
   pub taken : load_fault old kind file.text.now ≡ None
@@ -54,10 +54,10 @@ pub record IsFaulty (tables : IndexLists) (file : IndexFile) (line : ℕ) : Type
   pub told : told_of fault ≡ told.Text line
 
 -- the fault is the file's, as tables tell it that are to take it; memory may always be refused
-abbrev pub IsFaultOf : IndexLists → IndexFile → FileFault → Type 0
-IsFaultOf tables file told.Unknown = IsOfNoKind file
-IsFaultOf tables file (told.Text line) = IsFaulty tables file line
-IsFaultOf tables file told.Memory = Unit {0}
+abbrev pub IsFileFault : IndexLists → IndexFile → FileFault → Type 0
+IsFileFault tables file told.Unknown = IsOfNoKind file
+IsFileFault tables file (told.Text line) = IsFaulty tables file line
+IsFileFault tables file told.Memory = Unit {0}
 
 -- the files before that number were loaded, and the fault is that of the file there
 pub record IsRefusedAt (files : List IndexFile) (number : ℕ) (fault : FileFault) : Type 0 where
@@ -65,15 +65,15 @@ pub record IsRefusedAt (files : List IndexFile) (number : ℕ) (fault : FileFaul
   pub before : HoldFiles (take number files) tables
   pub file : IndexFile
   pub there : slice_get files number ≡ Some file
-  pub is : IsFaultOf tables file fault
+  pub is : IsFileFault tables file fault
 
 -- the status and the line that tell a fault
-abbrev pub IsTold : FileFault → (status line : ℕ) → Type 0
-IsTold told.Unknown status line = (status ≡ UNKNOWN) × (line ≡ 0)
-IsTold (told.Text n) status line = (status ≡ BAD_INDEX) × (line ≡ n)
-IsTold told.Memory status line = (status ≡ NO_MEMORY) × (line ≡ 0)
+abbrev pub IsFaultTold : FileFault → (status line : ℕ) → Type 0
+IsFaultTold told.Unknown status line = (status ≡ UNKNOWN) × (line ≡ 0)
+IsFaultTold (told.Text n) status line = (status ≡ BAD_INDEX) × (line ≡ n)
+IsFaultTold told.Memory status line = (status ≡ NO_MEMORY) × (line ≡ 0)
 
 -- a status, the number of a file and a line tell why the file was not loaded; or memory was refused behind all
 abbrev pub IsToldAt : List IndexFile → (number line status : ℕ) → Type 0
 IsToldAt files number line status =
-    ((fault : FileFault) × IsRefusedAt files number fault × IsTold fault status line) ⊎ ((status ≡ NO_MEMORY) × (number ≡ length files))
+    ((fault : FileFault) × IsRefusedAt files number fault × IsFaultTold fault status line) ⊎ ((status ≡ NO_MEMORY) × (number ≡ length files))

@@ -12,3 +12,4 @@ pub mod Openings
 pub mod Ownership
 pub mod Room
 pub mod Streams
+pub mod Whole

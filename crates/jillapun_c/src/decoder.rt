@@ -18,20 +18,20 @@ use encoding_front::Decoder;
 use std::alloc::Global;
 
 /// A decoder of a stream. Begin with `{0}`, which holds none; `jillapun_decoder_new` fills it, and
-/// `jillapun_decoder_free` empties it. Never copy it: only one of the copies may be used. One thread
-/// at a time.
+/// `jillapun_decoder_free` empties it. Never copy it: only one of the copies may be used. One
+/// thread at a time.
 #[repr(C)]
 #[derive(Drop)]
 pub struct DecoderHandle {
     pub coder: CoderHandle,
 }
 
-/// Makes a decoder of a new stream, in the encoding with this number, and `mark` says what becomes of
-/// a byte order mark at its start.
+/// Makes a decoder of a new stream, in the encoding with this number, and `mark` says what becomes
+/// of a byte order mark at its start.
 ///
-/// Returns `OK`, and `out` holds the decoder. Else nothing is made: `IN_USE`, `out` holds one already;
-/// `CLOSED`, there are no tables; `UNKNOWN`, no encoding or no handling of marks has the number;
-/// `NOT_READY`, the tables lack an index of the encoding; `NO_MEMORY`, memory was refused.
+/// Returns `OK`, and `out` holds the decoder. Else nothing is made: `IN_USE`, `out` holds one
+/// already; `CLOSED`, there are no tables; `UNKNOWN`, no encoding or no handling of marks has the
+/// number; `NOT_READY`, the tables lack an index of the encoding; `NO_MEMORY`, memory was refused.
 #[unsafe(no_mangle)]
 pub extern "C" fn jillapun_decoder_new(
     alloc: Global,

@@ -17,8 +17,8 @@ use crate::tables_handle::TablesHandle;
 use std::alloc::Global;
 
 /// An encoder of a stream. Begin with `{0}`, which holds none; `jillapun_encoder_new` fills it, and
-/// `jillapun_encoder_free` empties it. Never copy it: only one of the copies may be used. One thread
-/// at a time.
+/// `jillapun_encoder_free` empties it. Never copy it: only one of the copies may be used. One
+/// thread at a time.
 #[repr(C)]
 #[derive(Drop)]
 pub struct EncoderHandle {
@@ -28,9 +28,9 @@ pub struct EncoderHandle {
 /// Makes an encoder of a new stream into the output encoding of the one with this number (the
 /// Encoding Standard, section 4.3).
 ///
-/// Returns `OK`, and `out` holds the encoder. Else nothing is made: `IN_USE`, `out` holds one already;
-/// `CLOSED`, there are no tables; `UNKNOWN`, no encoding has the number; `NOT_READY`, the tables lack
-/// an index of the output encoding; `NO_MEMORY`, memory was refused.
+/// Returns `OK`, and `out` holds the encoder. Else nothing is made: `IN_USE`, `out` holds one
+/// already; `CLOSED`, there are no tables; `UNKNOWN`, no encoding has the number; `NOT_READY`, the
+/// tables lack an index of the output encoding; `NO_MEMORY`, memory was refused.
 #[unsafe(no_mangle)]
 pub extern "C" fn jillapun_encoder_new(
     alloc: Global,

@@ -17,8 +17,8 @@ pub struct EncoderProgress {
     pub outcome: u8,
     /// Whether a reference was written for a character that has no bytes.
     pub had_unmappable: bool,
-    /// At `UNMAPPABLE`, the code point of the character that has no bytes; U+FFFD for U+000E, U+000F
-    /// and U+001B in ISO-2022-JP. Else 0.
+    /// At `UNMAPPABLE`, the code point of the character that has no bytes; U+FFFD for U+000E,
+    /// U+000F and U+001B in ISO-2022-JP. Else 0.
     pub scalar: u32,
 }
 

@@ -6,7 +6,8 @@ ghost use Rattle.std.specs.Option.{option_map};
 ghost use Rattle.encoding_front.specs.EncodingTable.{encoding_name, number_of};
 ghost use Rattle.encoding_front.specs.Encodings.{HasLabel, mark_at_start, output_encoding_of};
 ghost use Rattle.encoding_front.specs.declared.encoding.Encoding.{Encoding};
-ghost use Rattle.jillapun_c.specs.EncodingNumbers.{IsReadyStatus, Writes, WritesIfAny, encoding_at, needed_file};
+ghost use Rattle.jillapun_c.specs.EncodingNumbers.{IsReadyStatus, Writes, WritesIfAny};
+ghost use Rattle.jillapun_c.specs.EncodingNumbers.{encoding_at, needed_file};
 ghost use Rattle.jillapun_c.specs.declared.status.TheConstants.{NO_ENCODING};
 
 use crate::encoding_number::{encoding_of, number_of};
@@ -14,9 +15,9 @@ use crate::status::{CLOSED, NO_ENCODING, NOT_READY, OK, REFUSED, UNKNOWN};
 use crate::tables_handle::TablesHandle;
 use encoding_front::Encoding;
 
-/// The number of the encoding that has this label, or `NO_ENCODING` where no encoding has it ("get an
-/// encoding" of the Encoding Standard, section 4.2). White space at both ends (the bytes 09, 0A, 0C,
-/// 0D and 20) and the case of ASCII letters do not matter.
+/// The number of the encoding that has this label, or `NO_ENCODING` where no encoding has it ("get
+/// an encoding" of the Encoding Standard, section 4.2). White space at both ends (the bytes 09, 0A,
+/// 0C, 0D and 20) and the case of ASCII letters do not matter.
 #[unsafe(no_mangle)]
 pub extern "C" fn jillapun_for_label(label: &[u8]) -> u8
     ensures found { (e : Encoding) → HasLabel e label.now → result ≡ number_of e }
@@ -49,12 +50,13 @@ pub extern "C" fn jillapun_for_bom(bytes: &[u8], length: &mut usize) -> u8
     }
 }
 
-/// Writes the name of an encoding at the start of `name`, as the Encoding Standard writes it (section
-/// 4.2): `Shift_JIS`. Returns its length in bytes; at most 14. Where no encoding has the number, or
-/// `name` is shorter than that, nothing is written and `SIZE_MAX` is returned.
+/// Writes the name of an encoding at the start of `name`, as the Encoding Standard writes it
+/// (section 4.2): `Shift_JIS`. Returns its length in bytes; at most 14. Where no encoding has the
+/// number, or `name` is shorter than that, nothing is written and `SIZE_MAX` is returned.
 #[unsafe(no_mangle)]
 pub extern "C" fn jillapun_name(encoding: u8, name: &mut [u8]) -> usize
-    ensures { WritesIfAny (option_map encoding_name (encoding_at encoding)) name.old name.new result }
+    ensures { WritesIfAny (option_map encoding_name (encoding_at encoding)) name.old name.new
+        result }
 {
     match encoding_of(encoding) {
         Some(encoding) => write_word(encoding.name().as_bytes(), name),
@@ -62,9 +64,10 @@ pub extern "C" fn jillapun_name(encoding: u8, name: &mut [u8]) -> usize
     }
 }
 
-/// The number of the encoding in which text is written that is asked for in this one ("get an output
-/// encoding" of the Encoding Standard, section 4.3): UTF-8 for UTF-16BE, UTF-16LE and replacement,
-/// and the encoding itself for all others. `NO_ENCODING` where no encoding has the number.
+/// The number of the encoding in which text is written that is asked for in this one ("get an
+/// output encoding" of the Encoding Standard, section 4.3): UTF-8 for UTF-16BE, UTF-16LE and
+/// replacement, and the encoding itself for all others. `NO_ENCODING` where no encoding has the
+/// number.
 #[unsafe(no_mangle)]
 pub extern "C" fn jillapun_output_encoding(encoding: u8) -> u8
     ensures { MatchOption (encoding_at encoding) (result ≡ NO_ENCODING)
@@ -76,10 +79,10 @@ pub extern "C" fn jillapun_output_encoding(encoding: u8) -> u8
     }
 }
 
-/// Writes the name of the file of the index with this place, from 0 on, among those that an encoding
-/// needs, as `index-jis0208.txt`, at the start of `name`. Returns its length in bytes; at most 30.
-/// Where the encoding needs no further index, no encoding has the number, or `name` is shorter than
-/// that, nothing is written and `SIZE_MAX` is returned.
+/// Writes the name of the file of the index with this place, from 0 on, among those that an
+/// encoding needs, as `index-jis0208.txt`, at the start of `name`. Returns its length in bytes; at
+/// most 30. Where the encoding needs no further index, no encoding has the number, or `name` is
+/// shorter than that, nothing is written and `SIZE_MAX` is returned.
 #[unsafe(no_mangle)]
 pub extern "C" fn jillapun_needs(encoding: u8, place: usize, name: &mut [u8]) -> usize
     ensures { WritesIfAny (needed_file encoding place) name.old name.new result }
@@ -93,9 +96,9 @@ pub extern "C" fn jillapun_needs(encoding: u8, place: usize, name: &mut [u8]) ->
     }
 }
 
-/// Whether tables hold all indexes that an encoding needs: returns `OK`; `NOT_READY`, one is missing;
-/// `UNKNOWN`, no encoding has the number; `CLOSED`, there are no tables. UTF-8, UTF-16BE, UTF-16LE,
-/// replacement and x-user-defined need none.
+/// Whether tables hold all indexes that an encoding needs: returns `OK`; `NOT_READY`, one is
+/// missing; `UNKNOWN`, no encoding has the number; `CLOSED`, there are no tables. UTF-8, UTF-16BE,
+/// UTF-16LE, replacement and x-user-defined need none.
 #[unsafe(no_mangle)]
 pub extern "C" fn jillapun_tables_is_ready(tables: TablesHandle, encoding: u8) -> u8
     ensures { IsReadyStatus tables.tables encoding result }

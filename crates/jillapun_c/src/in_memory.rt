@@ -24,8 +24,8 @@ struct Made {
 // Runs a job in memory of its own.
 fn run_in_memory(alloc: Global, job: Job<'_>, src: &[u8]) -> Made
     requires { IsValidJob job }
-    ensures { ConvertsInMemory job.entry src.now result.output.items result.losses.items result.report
-        result.status }
+    ensures { ConvertsInMemory job.entry src.now result.output.items result.losses.items
+        result.report result.status }
 {
     known_input();
     stops_at_first_loss();

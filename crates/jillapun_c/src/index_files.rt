@@ -3,7 +3,8 @@
 ghost use Rattle.std.specs.Prelude.{◌≡◌, ◌≢◌, [], OnOk, OnErr, IfErr, MatchOption};
 ghost use Rattle.encoding_tables.specs.FileNames.{file_name_of};
 ghost use Rattle.encoding_tables.specs.declared.index_kind.IndexKind.{IndexKind};
-ghost use Rattle.jillapun_c.specs.IndexFiles.{Adds, HoldFiles, IsFaultOf, IsRefusedAt, told_of};
+ghost use Rattle.jillapun_c.specs.IndexFiles.{AddsIndex, HoldFiles, IsFileFault};
+ghost use Rattle.jillapun_c.specs.IndexFiles.{IsRefusedAt, told_of};
 
 use crate::lists::KINDS;
 use encoding_index::{LoadFault, load};
@@ -59,8 +60,8 @@ fn told_of(fault: LoadFault) -> FileFault
 
 // Loads a file into tables. On an error they stay as they were.
 fn load_file(alloc: Global, file: &IndexFile<'_>, tables: &mut Tables) -> Result<(), FileFault>
-    ensures adds { OnOk result (Adds tables.old tables.new file.now) }
-    ensures fault { IfErr result (λ fault. IsFaultOf tables.old file.now fault) }
+    ensures adds { OnOk result (AddsIndex tables.old tables.new file.now) }
+    ensures fault { IfErr result (λ fault. IsFileFault tables.old file.now fault) }
     ensures unchanged { OnErr result (tables.new ≡ tables.old) }
 {
     let Some(kind) = kind_of(file.name) else {

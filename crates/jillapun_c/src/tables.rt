@@ -1,7 +1,7 @@
 //! The exports that load tables.
 
 ghost use Rattle.std.specs.Prelude.{◌≡◌, ◌≢◌, None, IsSome, IsSomeAnd};
-ghost use Rattle.jillapun_c.specs.IndexFiles.{HoldFiles, IsTold, IsToldAt};
+ghost use Rattle.jillapun_c.specs.IndexFiles.{HoldFiles, IsFaultTold, IsToldAt};
 ghost use Rattle.jillapun_c.specs.declared.status.TheConstants.{IN_USE, OK};
 
 use crate::index_files::{FileFault, IndexFile, load_files};
@@ -23,9 +23,10 @@ pub struct IndexFault {
 /// Loads index files, each as the index of its name, in any order: those of the encodings that will
 /// be used, or all that the Encoding Standard publishes. The texts are not needed after the call.
 ///
-/// Returns `OK`, and `out` holds the tables; or `IN_USE`, it holds some already. On an error `out` is
-/// as it was, and `fault` says which file it is: `UNKNOWN`, no index has a file of that name; `BAD_INDEX`, the text has a fault, or the
-/// index was loaded already; `NO_MEMORY`, memory was refused, and the call can be made again.
+/// Returns `OK`, and `out` holds the tables; or `IN_USE`, it holds some already. On an error `out`
+/// is as it was, and `fault` says which file it is: `UNKNOWN`, no index has a file of that name;
+/// `BAD_INDEX`, the text has a fault, or the index was loaded already; `NO_MEMORY`, memory was
+/// refused, and the call can be made again.
 ///
 /// The tables are never freed, so that they can be shared by all threads: load them once.
 #[unsafe(no_mangle)]
@@ -68,7 +69,7 @@ pub extern "C" fn jillapun_tables_new(
 
 // The status of a fault, and the line.
 fn told(fault: FileFault) -> (u8, usize)
-    ensures { IsTold fault result.0 result.1 }
+    ensures { IsFaultTold fault result.0 result.1 }
 {
     match fault {
         FileFault::Unknown => (UNKNOWN, 0),

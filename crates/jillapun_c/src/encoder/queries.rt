@@ -5,7 +5,7 @@ ghost use Rattle.encoding_mem.specs.declared.form.EscapeState.TheVariants.{Ascii
 ghost use Rattle.encoding_front.specs.EncodingTable.{number_of};
 ghost use Rattle.encoding_front.specs.calls.Encoder.{queried_room, queried_with_kept};
 ghost use Rattle.jillapun_c.specs.Coders.{encoder_in};
-ghost use Rattle.jillapun_c.specs.EncoderCalls.{Tells};
+ghost use Rattle.jillapun_c.specs.EncoderCalls.{TellsNumber};
 ghost use Rattle.jillapun_c.specs.declared.status.TheConstants.{NO_ENCODING};
 
 use crate::coder::Coder;
@@ -55,8 +55,8 @@ pub extern "C" fn jillapun_encoder_has_pending_state(
     is_pending
 }
 
-/// How many bytes are room enough for what `n` bytes of UTF-8 are encoded to with references, if each
-/// character has bytes; `SIZE_MAX` where the number passes a `size_t`, or the handle holds no
+/// How many bytes are room enough for what `n` bytes of UTF-8 are encoded to with references, if
+/// each character has bytes; `SIZE_MAX` where the number passes a `size_t`, or the handle holds no
 /// encoder.
 #[unsafe(no_mangle)]
 pub extern "C" fn jillapun_encoder_max_length_from_utf8_if_no_unmappables(
@@ -64,7 +64,7 @@ pub extern "C" fn jillapun_encoder_max_length_from_utf8_if_no_unmappables(
     encoder: &mut EncoderHandle,
     n: usize,
 ) -> usize
-    ensures room { Tells (encoder_in encoder.old.coder.coder)
+    ensures room { TellsNumber (encoder_in encoder.old.coder.coder)
         (λ e. queried_with_kept e.encoding false n) result }
     ensures unchanged { encoder.new.coder.coder ≡ encoder.old.coder.coder }
 {
@@ -79,15 +79,16 @@ pub extern "C" fn jillapun_encoder_max_length_from_utf8_if_no_unmappables(
     room.unwrap_or(REFUSED)
 }
 
-/// How many bytes are room enough for what `n` bytes of UTF-8 are encoded to without replacement, and for
-/// the last escape; `SIZE_MAX` where the number passes a `size_t`, or the handle holds no encoder.
+/// How many bytes are room enough for what `n` bytes of UTF-8 are encoded to without replacement,
+/// and for the last escape; `SIZE_MAX` where the number passes a `size_t`, or the handle holds no
+/// encoder.
 #[unsafe(no_mangle)]
 pub extern "C" fn jillapun_encoder_max_length_from_utf8_without_replacement(
     alloc: Global,
     encoder: &mut EncoderHandle,
     n: usize,
 ) -> usize
-    ensures room { Tells (encoder_in encoder.old.coder.coder)
+    ensures room { TellsNumber (encoder_in encoder.old.coder.coder)
         (λ e. queried_room e.encoding false n) result }
     ensures unchanged { encoder.new.coder.coder ≡ encoder.old.coder.coder }
 {
@@ -102,8 +103,8 @@ pub extern "C" fn jillapun_encoder_max_length_from_utf8_without_replacement(
     room.unwrap_or(REFUSED)
 }
 
-/// How many bytes are room enough for what `n` units of UTF-16 are encoded to with references, if each
-/// character has bytes; `SIZE_MAX` where the number passes a `size_t`, or the handle holds no
+/// How many bytes are room enough for what `n` units of UTF-16 are encoded to with references, if
+/// each character has bytes; `SIZE_MAX` where the number passes a `size_t`, or the handle holds no
 /// encoder.
 #[unsafe(no_mangle)]
 pub extern "C" fn jillapun_encoder_max_length_from_utf16_if_no_unmappables(
@@ -111,7 +112,7 @@ pub extern "C" fn jillapun_encoder_max_length_from_utf16_if_no_unmappables(
     encoder: &mut EncoderHandle,
     n: usize,
 ) -> usize
-    ensures room { Tells (encoder_in encoder.old.coder.coder)
+    ensures room { TellsNumber (encoder_in encoder.old.coder.coder)
         (λ e. queried_with_kept e.encoding true n) result }
     ensures unchanged { encoder.new.coder.coder ≡ encoder.old.coder.coder }
 {
@@ -126,15 +127,16 @@ pub extern "C" fn jillapun_encoder_max_length_from_utf16_if_no_unmappables(
     room.unwrap_or(REFUSED)
 }
 
-/// How many bytes are room enough for what `n` units of UTF-16 are encoded to without replacement, and for
-/// the last escape; `SIZE_MAX` where the number passes a `size_t`, or the handle holds no encoder.
+/// How many bytes are room enough for what `n` units of UTF-16 are encoded to without replacement,
+/// and for the last escape; `SIZE_MAX` where the number passes a `size_t`, or the handle holds no
+/// encoder.
 #[unsafe(no_mangle)]
 pub extern "C" fn jillapun_encoder_max_length_from_utf16_without_replacement(
     alloc: Global,
     encoder: &mut EncoderHandle,
     n: usize,
 ) -> usize
-    ensures room { Tells (encoder_in encoder.old.coder.coder)
+    ensures room { TellsNumber (encoder_in encoder.old.coder.coder)
         (λ e. queried_room e.encoding true n) result }
     ensures unchanged { encoder.new.coder.coder ≡ encoder.old.coder.coder }
 {

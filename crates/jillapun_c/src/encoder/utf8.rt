@@ -4,7 +4,7 @@ ghost use Rattle.std.specs.Prelude.{◌≡◌, ◌≢◌, None, Some, false, dro
 ghost use Rattle.std.specs.Str.{IsUtf8, chars};
 ghost use Rattle.encoding_front.specs.calls.Encoder.{EncoderState, ReadsText};
 ghost use Rattle.jillapun_c.specs.Coders.{encoder_in};
-ghost use Rattle.jillapun_c.specs.EncoderCalls.{Encodes, EncodesPart};
+ghost use Rattle.jillapun_c.specs.EncoderCalls.{EncodesAll, EncodesUpToLost};
 ghost use Rattle.jillapun_c.specs.declared.status.TheConstants.{CLOSED, NOT_UTF8, OK};
 
 use crate::coder::Coder;
@@ -15,14 +15,14 @@ use crate::status::{CLOSED, NOT_UTF8, OK};
 use std::alloc::Global;
 use std::str;
 
-/// Encodes the next part of a text in UTF-8, with the decimal reference (`&#8364;`) of each character
-/// that has no bytes. `last` says that the text ends with it: then the last escape is written too,
-/// and the encoder is as a new one.
+/// Encodes the next part of a text in UTF-8, with the decimal reference (`&#8364;`) of each
+/// character that has no bytes. `last` says that the text ends with it: then the last escape is
+/// written too, and the encoder is as a new one.
 ///
 /// Returns `OK`, and `progress` tells what was done. At `INPUT_EMPTY` all is read. At `OUTPUT_FULL`
-/// something is left to do: make room, and hand in the rest again, with `last` as it was, also where
-/// nothing is left; 14 bytes are always enough to go on. Unless the encoding is UTF-8, the last ten
-/// bytes of `dst` are kept for a reference. Nothing after what is written changes.
+/// something is left to do: make room, and hand in the rest again, with `last` as it was, also
+/// where nothing is left; 14 bytes are always enough to go on. Unless the encoding is UTF-8, the
+/// last ten bytes of `dst` are kept for a reference. Nothing after what is written changes.
 ///
 /// Else nothing is done: `CLOSED`, the handle holds no encoder; `NOT_UTF8`,
 /// the text is not UTF-8.
@@ -39,7 +39,7 @@ pub extern "C" fn jillapun_encoder_encode_from_utf8(
     ensures closed { IsUtf8 text.now → encoder_in encoder.old.coder.coder ≡ None → result ≡ CLOSED }
     ensures encodes { (e : EncoderState) → IsUtf8 text.now
         → encoder_in encoder.old.coder.coder ≡ Some e
-        → (result ≡ OK) × Encodes false e encoder.new.coder.coder last (chars text.now)
+        → (result ≡ OK) × EncodesAll false e encoder.new.coder.coder last (chars text.now)
         (chars (drop progress.new.read text.now)) (length text.now) dst.old dst.new progress.new }
     ensures read { result ≡ OK → ReadsText text.now progress.new.read }
     ensures unchanged { result ≢ OK
@@ -67,7 +67,7 @@ fn from_utf8(
 ) -> u8
     ensures closed { encoder_in (Some coder.old) ≡ None → result ≡ CLOSED }
     ensures encodes { (e : EncoderState) → encoder_in (Some coder.old) ≡ Some e
-        → (result ≡ OK) × Encodes false e (Some coder.new) last (chars text.now)
+        → (result ≡ OK) × EncodesAll false e (Some coder.new) last (chars text.now)
         (chars (drop progress.new.read text.now)) (length text.now) dst.old dst.new progress.new }
     ensures read { result ≡ OK → ReadsText text.now progress.new.read }
     ensures unchanged { result ≢ OK → (dst.new ≡ dst.old) × (coder.new ≡ coder.old) }
@@ -86,14 +86,15 @@ fn from_utf8(
     OK
 }
 
-/// Encodes the next part of a text in UTF-8, up to the first character that has no bytes. `last` says
-/// that the text ends with it: then the last escape is written too, and the encoder is as a new one.
+/// Encodes the next part of a text in UTF-8, up to the first character that has no bytes. `last`
+/// says that the text ends with it: then the last escape is written too, and the encoder is as a
+/// new one.
 ///
 /// Returns `OK`, and `progress` tells what was done. At `INPUT_EMPTY` all is read. At `OUTPUT_FULL`
-/// something is left to do: make room, and hand in the rest again, with `last` as it was, also where
-/// nothing is left; 4 bytes are always enough to go on. At `UNMAPPABLE` the character that was read
-/// last has no bytes: write its reference, or something else in ASCII, and go on as at `OUTPUT_FULL`.
-/// Nothing after what is written changes.
+/// something is left to do: make room, and hand in the rest again, with `last` as it was, also
+/// where nothing is left; 4 bytes are always enough to go on. At `UNMAPPABLE` the character that
+/// was read last has no bytes: write its reference, or something else in ASCII, and go on as at
+/// `OUTPUT_FULL`. Nothing after what is written changes.
 ///
 /// Else nothing is done: `CLOSED`, the handle holds no encoder; `NOT_UTF8`,
 /// the text is not UTF-8.
@@ -110,7 +111,7 @@ pub extern "C" fn jillapun_encoder_encode_from_utf8_without_replacement(
     ensures closed { IsUtf8 text.now → encoder_in encoder.old.coder.coder ≡ None → result ≡ CLOSED }
     ensures encodes { (e : EncoderState) → IsUtf8 text.now
         → encoder_in encoder.old.coder.coder ≡ Some e
-        → (result ≡ OK) × EncodesPart false e encoder.new.coder.coder last (chars text.now)
+        → (result ≡ OK) × EncodesUpToLost false e encoder.new.coder.coder last (chars text.now)
         (chars (drop progress.new.read text.now)) (length text.now) dst.old dst.new progress.new }
     ensures read { result ≡ OK → ReadsText text.now progress.new.read }
     ensures unchanged { result ≢ OK
@@ -138,7 +139,7 @@ fn from_utf8_part(
 ) -> u8
     ensures closed { encoder_in (Some coder.old) ≡ None → result ≡ CLOSED }
     ensures encodes { (e : EncoderState) → encoder_in (Some coder.old) ≡ Some e
-        → (result ≡ OK) × EncodesPart false e (Some coder.new) last (chars text.now)
+        → (result ≡ OK) × EncodesUpToLost false e (Some coder.new) last (chars text.now)
         (chars (drop progress.new.read text.now)) (length text.now) dst.old dst.new progress.new }
     ensures read { result ≡ OK → ReadsText text.now progress.new.read }
     ensures unchanged { result ≢ OK → (dst.new ≡ dst.old) × (coder.new ≡ coder.old) }
