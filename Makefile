@@ -48,7 +48,7 @@ usage:
 	@python3 tools/c_manual.py
 
 # The edits that the gate leaves out, each of which the prover must refuse: those of the crates that have changed since
-# they were tried last. What came of it as docs/EDITS.md. For a release, since it can take hours.
+# they were tried last. What came of it goes into docs/STATUS.md. For a release, since it can take hours.
 edits:
 	@python3 tools/edits.py
 
@@ -56,11 +56,11 @@ edits:
 example:
 	@python3 tools/example.py
 
-# The merge gate on a clean clone of HEAD, and what it said, and took, as docs/STATUS.md.
+# The merge gate on a clean clone of HEAD, and what it said, and took, into docs/STATUS.md.
 status:
 	@python3 tools/status.py
 
-# The program on standard input, from FROM to TO, proved and built before where something has changed.
+# The program on standard input, from FROM to TO, proved and built before if something has changed.
 run:
 	@cd crates/recode_cli && rt run -- --from $(FROM) --to $(TO) --indexes $(CURDIR)/indexes
 
@@ -92,7 +92,7 @@ hostile: build
 	@python3 tools/hostile_streams.py
 
 # Proves and builds a program that reads the index texts. `rt run` runs it in its crate's folder, which has none, so the
-# status counts where it was not run at all.
+# status counts if it was not run at all.
 built = cd crates/$(1) && mkdir -p out && { rt run > /dev/null 2> out/built.txt || \
 	grep -q '^rt: running' out/built.txt || { cat out/built.txt; false; }; }
 
@@ -104,7 +104,7 @@ characters:
 	@cd indexes && diff <(python3 $(CURDIR)/tools/characters.py . all) \
 		<($(CURDIR)/crates/encoding_index_files/out/encoding_index_files all | sed -n '/ reads: /,$$p')
 
-# Whether each character is kept as a text of its own, in every encoding, as a run tells it, against what
+# Whether each character is kept as a text of its own, in every encoding, as a run reports it, against what
 # `tools/characters.py` makes of it: the gate does a part. This needs Python and bash, and takes minutes.
 verdicts: SHELL = bash
 verdicts:

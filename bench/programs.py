@@ -62,7 +62,7 @@ DAMAGED = [
 # The sources and targets of the shortest runs.
 STARTS = [("utf-8", "utf-8"), ("shift_jis", "utf-8"), ("gb18030", "utf-8"), ("big5", "euc-jp")]
 
-# The names that iconv has for the same tables, and those of Python's codecs, where they differ.
+# The names that iconv has for the same tables, and those of Python's codecs, if they differ.
 ICONV = {"windows-1252": "CP1252", "shift_jis": "CP932", "euc-kr": "UHC"}
 PYTHON = {"windows-1252": "cp1252", "shift_jis": "cp932", "euc-kr": "cp949"}
 
@@ -145,7 +145,7 @@ def resident_once(command, source):
 
 
 def peer(work):
-    """The program over encoding_rs, built where it can be."""
+    """The program over encoding_rs, built if it can be."""
     if not shutil.which("cargo") or not os.path.isdir("/usr/share/cargo/registry"):
         return None
     folder = os.path.join(work, "programs")

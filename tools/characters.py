@@ -4,7 +4,7 @@
     cd crates/encoding_index_files
     python3 ../../tools/characters.py data | diff - <(sed -n '/ reads: /,$p' stdout)
 
-With the word `all` behind the folder, it is what the program must print with this word, by which it writes every
+With the word `all` after the folder, it is what the program must print with this word, by which it writes every
 character in every encoding (`make characters`).
 
 With the word `names` it prints the names. With `verdicts`, a number and names it prints what the program
@@ -35,7 +35,7 @@ def behind(front, *ranges):
 FOUR = (range(0x81, 0xFF), range(0x30, 0x3A), range(0x81, 0xFF), range(0x30, 0x3A))
 JIS = [(ALL,), behind(b"\x1b(I", ALL), behind(b"\x1b(J", ALL), behind(b"\x1b$B", ALL, ALL)]
 
-# The streams that are read in an encoding, where they are not those of one byte.
+# The streams that are read in an encoding, unless they are those of one byte.
 STREAMS = {
     "GBK": TWO + [FOUR],
     "gb18030": TWO + [FOUR],
@@ -60,7 +60,7 @@ def is_written(name, point, is_all):
 
 
 class Digest:
-    """FNV-1a over bytes, with FF FF FF FF behind each item."""
+    """FNV-1a over bytes, with FF FF FF FF after each item."""
 
     def __init__(self):
         self.hash = 0x811C9DC5
@@ -112,7 +112,7 @@ def writes(encoding, output, is_all):
 
 
 def verdict(encoding, output, point):
-    """What is told of a text of one character. Lost: it has no bytes. Folded: what is written for it has a malformed
+    """What is reported of a text of one character. Lost: it has no bytes. Folded: what is written for it has a malformed
     sequence, or is read as another text."""
     items = standard.encode(encoding.encoder(), [point])
     if any(item >= UNMAPPABLE for item in items):
@@ -122,7 +122,7 @@ def verdict(encoding, output, point):
 
 
 def verdicts(folder, step, names):
-    """A line for each span of characters of which the same is told."""
+    """A line for each span of characters of which one thing is reported."""
     encodings = standard.encodings(folder)
     points = (*range(0xD800), *range(0xE000, 0x10000), *range(0x10000, 0x110000, step))
     for name in names:
@@ -135,7 +135,7 @@ def verdicts(folder, step, names):
 
 
 def part(task):
-    """What is told of an encoding in one of the two lines."""
+    """What is reported of an encoding in one of the two lines."""
     folder, name, is_all = task
     encodings = standard.encodings(folder)
     encoding = encodings[name]

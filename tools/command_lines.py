@@ -42,7 +42,7 @@ CONVERSIONS = [
     (["--from", "utf-8", "--to", "replacement"], "aé".encode(), 0, "aé".encode(), b""),
     (["--to=utf-8", "--from=utf-8"], b"a", 0, b"a", b""),
     (["--from", " UTF8\t", "--to", "Unicode-1-1-UTF-8"], b"a", 0, b"a", b""),
-    # 0: marks, sniffed where nothing else is asked for.
+    # 0: marks, sniffed unless something else is asked for.
     (FROM_WESTERN, b"\xef\xbb\xbf\xc3\xa9", 0, b"\xc3\xa9", b""),
     (FROM_WESTERN + ["--mark", "sniff"], b"\xff\xfea\0", 0, b"a", b""),
     (FROM_WESTERN + ["--mark", "sniff"], b"\xfe\xff\0a", 0, b"a", b""),
@@ -107,7 +107,7 @@ CONVERSIONS = [
 TRY_HELP = "\n\nFor more information, try '--help'.\n"
 USAGE = "\n\nUsage: recode [OPTIONS] --from <LABEL> --to <LABEL> < INPUT > OUTPUT" + TRY_HELP
 
-# Words that are refused, and the message; nothing is read, so the input doesn't matter.
+# Words that are refused, and the message; nothing is read, so the input does not matter.
 REFUSALS = [
     (
         [],
@@ -188,7 +188,7 @@ def index_file_faults():
 
 
 def other_files():
-    """A folder, and a file without an end, where an index file should be; a file, and nothing, in place of the folder."""
+    """A folder, and a file without an end, in place of an index file; a file, and nothing, in place of the folder."""
     words = ["--from", "shift_jis", "--to", "utf-8"]
     wanted = (3, b"", b"recode: index-jis0208.txt: missing\n")
     for other in (["--indexes", "/dev/null"], ["--indexes", "/dev/none"]):

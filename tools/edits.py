@@ -5,9 +5,9 @@ leaves out, or with `--gate` those of `must-fail/`, which `rt ci` tries.
     python3 tools/edits.py [--gate] [--jobs N] [--copies N] [CRATE[/NAME]..]
 
 With a name, those of the crate whose names begin with it. Without crates, those of `edits/` of each crate that has changed,
-or that stands on one that has, since its row of docs/EDITS.md was written. What came of a whole crate is written to that
+or that stands on one that has, since its row of docs/STATUS.md was written. What came of a whole crate is written to that
 page as soon as it is done, so a run that was cut off goes on with the crates that are left. `--jobs` crates are tried at
-a time, two where nothing is said, and of a crate with many edits as many as `--copies` says, one where nothing is said.
+a time, by default two. A crate with many edits is tried in as many copies as `--copies` says, by default one.
 
 In a copy of the repository for each crate, with what checks have kept in `out/`, its edits are made in rounds: of each
 function at most one edit in a round. A check then says of each function whether it is proved, and of one that is not
@@ -37,27 +37,23 @@ import subprocess
 import sys
 import tempfile
 
-TOP = os.path.abspath(os.path.join(os.path.dirname(os.path.abspath(__file__)), ".."))
-CRATES = os.path.join(TOP, "crates")
+sys.dont_write_bytecode = True
 
-PAGE = """# The edits that the gate leaves out
+import edit_files
+import status
+from edit_files import CRATES, TOP, read
 
-`make edits` tries the edits of each crate that has changed, or that stands on one that has, since its row was written. A crate without a row has not been tried so.
-
-| Crate | Commit | Day | Kit | Refused by the fact | By a stale answer | Let through |
+TABLE = """| Crate | Commit | Day | Kit | Refused by the fact | By a stale answer | Let through |
 |---|---|---|---|---|---|---|
-{rows}
+{rows}"""
 
-An edit is refused by the fact if a goal of the changed function is open that no answer is written for. It is refused by a stale answer if nothing but an answer fails, which was written for the right body, and the right body has the same open goals without that answer. The prover then does not tell whether the body is wrong or the answer alone, and somebody has to look; `tools/edits.py` says more.
-"""
+STALE_TABLE = """
 
-STALE_ROWS = """
-## By a stale answer
+By a stale answer:
 
 | Edit | Open without its answers |
 |---|---|
-{rows}
-"""
+{rows}"""
 
 ROW = re.compile(r"^\| (\w+) \| ([0-9a-f]{7,40}) \| .* \|$", re.M)
 STALE_ROW = re.compile(r"^\| (\w+)/\S+ \| .* \|$", re.M)
@@ -66,7 +62,7 @@ STALE_ROW = re.compile(r"^\| (\w+)/\S+ \| .* \|$", re.M)
 REFUSED, STALE, THROUGH = "refused", "by a stale answer", "LET THROUGH"
 
 FUNCTION = re.compile(r'^ *(?:pub(?:\([^)]*\))? )?(?:extern "C" )?fn (\w+)')
-# The type of a block of methods, behind the trait that it implements.
+# The type of a block of methods, after the trait that it implements.
 BLOCK = re.compile(r"^(?:pub )?(?:impl|trait)\b(?:<.*?>)? (?:(\w+)(?:<.*?>)? for )?(\w+)")
 
 # What a check says of a function; a note of an open goal stands before it.
@@ -74,17 +70,12 @@ SAID = re.compile(r"fn \w+::(\S+): (.*)")
 GOAL = re.compile(r"note: src/.*it is not proved that .*?\(`([^`]+)`\)(.*)")
 FALSE = "values at which this goal is false"
 ERROR = re.compile(r"^\./(\S+?):\d+:\d+: error: (.*)", re.MULTILINE)
-# How an error begins where a definition names what an edit took away.
+# How an error begins if a definition names what an edit took away.
 NAMES = re.compile(r"has no field|is not in scope|has no `|was not admitted")
 # The goal whose answer an error is in, and one that is not there; an answer, which ends at an empty line.
 FAILING = re.compile(r"`([^`]+)`: ")
 GONE = re.compile(r"`goal\.([^`]+)`: module \S+ has no ")
 ANSWER = re.compile(r"pub (\S+) : goal\.")
-
-
-def read(path):
-    with open(path, encoding="utf-8") as file:
-        return file.read()
 
 
 def write(path, text):
@@ -115,7 +106,7 @@ class Check:
         return [error for file, error in self.errors if file.startswith(folder_of(path))]
 
     def failing(self, path):
-        """The goals of a function whose answers fail; one without a name where an error is in none of them."""
+        """The goals of a function whose answers fail; one without a name if an error is in none of them."""
         return {found[1] if found else "" for found in map(FAILING.match, self.own_errors(path))}
 
     def refusing(self, path):
@@ -151,21 +142,11 @@ def without(text, goals):
 
 
 class Edit:
-    """A file of edits: the texts to replace, in order, and the function that they stand in."""
+    """An edit, and the function that its changes stand in."""
 
-    def __init__(self, path, folder):
-        self.name = os.path.basename(path)[: -len(".edit")]
-        self.changes, target, old = [], None, None
-        for line in read(path).split("\n"):
-            word, _, rest = line.partition(":")
-            rest = rest.removeprefix(" ")
-            if word == "file":
-                target = rest.strip()
-            elif word == "old":
-                old = rest
-            elif word == "new":
-                self.changes.append((target, old, rest))
-        self.function = self.name.split(".")[0].split("-")[-1]
+    def __init__(self, edit, folder):
+        self.name, self.changes = edit.name, edit.changes
+        self.function = edit.function.split("-")[-1]
         self.files = {target for target, _, _ in self.changes}
         self.path = self.path_in(folder) if len(self.files) == 1 else None
 
@@ -193,7 +174,7 @@ class Edit:
         return self.path or (min(self.files), self.function)
 
     def made_in(self, texts, folder):
-        """These texts, by their paths, with the edit made; none where a text to replace does not stand in them once."""
+        """These texts, by their paths, with the edit made; none unless each text to replace stands in them once."""
         texts = dict(texts)
         for target, old, new in self.changes:
             text = texts.get(target) or read(os.path.join(folder, target))
@@ -321,7 +302,7 @@ class Crate:
             self.tell(edit, STALE)
 
     def look_at_right_bodies(self, aside):
-        """Finds the goals of functions that are open for the right body where answers are set aside."""
+        """Finds the goals of functions that are open for the right body when answers are set aside."""
         left, found = dict(aside), aside
         while left and found:
             check = self.checked({}, left)
@@ -363,9 +344,7 @@ class Crate:
 
 
 def edits_of(crate, kind):
-    folder = os.path.join(CRATES, crate, kind)
-    names = sorted(os.listdir(folder)) if os.path.isdir(folder) else []
-    return [Edit(os.path.join(folder, name), os.path.join(CRATES, crate)) for name in names if name.endswith(".edit")]
+    return [Edit(edit, os.path.join(CRATES, crate)) for edit in edit_files.edits_of(crate, kind)]
 
 
 def below(crate):
@@ -415,12 +394,10 @@ def chosen(kind, names):
 
 
 class Page:
-    """docs/EDITS.md: a row for each crate, and one for each edit that nothing but a stale answer refuses."""
-
-    path = os.path.join(TOP, "docs", "EDITS.md")
+    """The edits in docs/STATUS.md: a row for each crate, and one for each edit that nothing but a stale answer refuses."""
 
     def __init__(self):
-        text = read(self.path)
+        text = status.read_page()
         self.rows = {row.group(1): row.group() for row in ROW.finditer(text)}
         self.commits = {row.group(1): row.group(2) for row in ROW.finditer(text)}
         self.stale = [row.group() for row in STALE_ROW.finditer(text)]
@@ -441,8 +418,9 @@ class Page:
         self.rows[crate] = "| %s |" % " | ".join(str(cell) for cell in cells)
         stale = ["| %s | %s |" % (name, ", ".join(goals)) for name, kind, goals in told if kind == STALE]
         self.stale = sorted([row for row in self.stale if not row.startswith("| %s/" % crate)] + stale)
-        page = PAGE.format(rows="\n".join(self.rows[name] for name in sorted(self.rows)))
-        write(self.path, page + (STALE_ROWS.format(rows="\n".join(self.stale)) if self.stale else ""))
+        table = TABLE.format(rows="\n".join(self.rows[name] for name in sorted(self.rows)))
+        stale = STALE_TABLE.format(rows="\n".join(self.stale)) if self.stale else ""
+        status.write_part("edits", table + stale)
 
 
 def main():
@@ -458,7 +436,7 @@ def main():
         crates = [(crate, edits) for crate, edits in crates if not page.is_current(crate)]
     # What a page says is said of a commit.
     whole = {crate for crate, _ in crates if not given.gate and (not given.names or crate in given.names)}
-    if whole and said("git", "status", "--porcelain", "--", ".", ":!docs/EDITS.md"):
+    if whole and said("git", "status", "--porcelain", "--", ".", ":!" + status.PAGE):
         sys.exit("there are changes that no commit has")
 
     def tried(pair):

@@ -3,10 +3,10 @@
 
     python3 tools/edits_table.py
 
-An edit's file is named after the function whose body it changes: `function`, or `Type-function` for a method. Of the
-functions that no edit changes it lists those that promise something: public ones, and methods of public traits, with a
-clause and a body that is not empty (a law has none). A table before them has the wrong bodies of tools/wrong_bodies.toml,
-each in plain words, with what shows that it is refused.
+An edit is named after the function whose body it changes: `function`, or `Type-function` for a method. Of the functions
+that no edit changes it lists those that promise something: public ones, and methods of public traits, with a clause and
+a body that is not empty (a law has none). A table before them has the wrong bodies of tools/wrong_bodies.toml, each in
+plain words, with what shows that it is refused. It needs Python 3.11.
 """
 
 import collections
@@ -15,30 +15,28 @@ import re
 import sys
 import tomllib
 
-TOP = os.path.abspath(os.path.join(os.path.dirname(os.path.abspath(__file__)), ".."))
-CRATES = os.path.join(TOP, "crates")
+sys.dont_write_bytecode = True
+
+import edit_files
+from edit_files import CRATES, TOP, read
+
 PAGE = os.path.join(TOP, "docs", "reference", "edits.md")
 BODIES = os.path.join(TOP, "tools", "wrong_bodies.toml")
 
 HEAD = """# Wrong bodies
 
-Which edits change the body of which function, and which public functions no edit changes: their helpers may have edits, or there is hardly another body that the types allow. The gate has the prover refuse those in **bold** (`must-fail/`); `make edits` tries the others (`edits/`), and [EDITS.md](../EDITS.md) has its last run that was recorded, if there is one. Made by `tools/edits_table.py`.
+Which edits change the body of which function, and which public functions no edit changes: their helpers may have edits, or there is hardly another body that the types allow. The gate has the prover refuse those in **bold** (`must-fail/`); `make edits` tries the others (`edits/`), and [STATUS.md](../STATUS.md) has its last run that was recorded. Made by `tools/edits_table.py`.
 
 ## By what is wrong
 
-Wrong bodies that this repository sets out to refuse, and which edits show that the prover refuses each; where a contract cannot speak of one, or of a part of it, the test that refuses it. `tools/wrong_bodies.toml` has the list.
+Wrong bodies that this repository sets out to refuse, and which edits show that the prover refuses each. If a contract cannot speak of one, or of a part of it, there is the test that refuses it. `tools/wrong_bodies.toml` has the list.
 """
 
-# The folders of edits, and how those are marked that the gate tries.
-FOLDERS = {"must-fail": "**", "edits": ""}
+# How the edits of each folder are marked: in bold those that the gate tries.
+MARKS = {"must-fail": "**", "edits": ""}
 
 BLOCK = re.compile(r"^(pub )?(impl|trait)\b(?:<[^{]*?>)? (?:(?:\w+(?:<[^{]*>)?) for )?(\w+)", re.MULTILINE)
 FUNCTION = re.compile(r'^( *)(pub )?(?:extern "C" )?fn (\w+)')
-
-
-def read(path):
-    with open(path, encoding="utf-8") as file:
-        return file.read()
 
 
 def promising(text):
@@ -74,12 +72,9 @@ def sources(crate):
 def edits_of(crate):
     """The faults of the edits of each function, those that the gate tries marked."""
     edits = collections.defaultdict(list)
-    for folder, mark in FOLDERS.items():
-        path = os.path.join(CRATES, crate, folder)
-        for name in sorted(os.listdir(path)) if os.path.isdir(path) else []:
-            if name.endswith(".edit"):
-                function, fault, _ = name.split(".")
-                edits[function].append(mark + fault + mark)
+    for folder, mark in MARKS.items():
+        for edit in edit_files.edits_of(crate, folder):
+            edits[edit.function].append(mark + edit.fault + mark)
     return edits
 
 
@@ -89,17 +84,17 @@ def bodies():
         return tomllib.load(file)["bodies"]
 
 
-def mark_of(edit):
-    """How an edit, CRATE/NAME, is marked; none where there is no such file."""
-    crate, _, name = edit.partition("/")
-    marks = [mark for folder, mark in FOLDERS.items() if os.path.isfile(os.path.join(CRATES, crate, folder, name + ".edit"))]
-    return marks[0] if marks else None
+def marks():
+    """How each edit, CRATE/NAME, is marked."""
+    crates = sorted(os.listdir(CRATES))
+    edits = [(crate, edit, mark) for crate in crates for folder, mark in MARKS.items() for edit in edit_files.edits_of(crate, folder)]
+    return {"%s/%s" % (crate, edit.name): mark for crate, edit, mark in edits}
 
 
 def bodies_table():
-    rows = ["| Wrong body | Edits | Tests |", "|---|---|---|"]
+    rows, mark_of = ["| Wrong body | Edits | Tests |", "|---|---|---|"], marks()
     for body in bodies():
-        edits = ["{1}`{0}`{1}".format(edit, mark_of(edit) or "") for edit in body["edits"]]
+        edits = ["{1}`{0}`{1}".format(edit, mark_of.get(edit, "")) for edit in body["edits"]]
         rows.append("| %s | %s | %s |" % (body["name"], ", ".join(edits), body.get("tests", "")))
     return "\n".join(rows)
 

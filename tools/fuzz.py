@@ -272,7 +272,7 @@ class ProgramCase:
         return words + (["--limit", str(self.limit)] if self.limit is not None else [])
 
     def difference(self, reads):
-        """What differs where these are the reads, or nothing."""
+        """What differs if these are the reads, or nothing."""
         data = b"".join(reads)
         run = Run(self.encodings, self.job, data)
         ended = ended_in(self.words(), reads)
@@ -379,7 +379,7 @@ def files_of(program):
 
 
 def line_faults(program, given, lines, front):
-    """What a program says of these lines, behind those of the front, in that one of the files that it reads."""
+    """What a program says of these lines, after those of the front, in that one of the files that it reads."""
     files = files_of(program)
     place = files.index(given)
     count = sum(not line.startswith("#") for line in lines)

@@ -1,5 +1,5 @@
 #!/usr/bin/env python3
-"""The merge gate: `rt ci`, and then what it can't do with the programs that it has proved and built.
+"""The merge gate: `rt ci`, and then what it cannot do with the programs that it has proved and built.
 
     python3 tools/gate.py
 
@@ -8,7 +8,7 @@ converts, too (`sample.py`), with memory refused (`refused_memory.py`), with hos
 and on hostile streams (`hostile_streams.py`), and `recode-places` on the logs of runs (`places.py`). The library for C is
 built, loaded and called (`c_interface.py`). What is stored is compared with what plain programs say (`stored.py`).
 Each of these steps counts as one more in the last line. Two of them run at a time, since the machine of the gate has
-two processors. The status is 0 where nothing failed.
+two processors. The status is 0 if nothing failed.
 """
 
 import concurrent.futures

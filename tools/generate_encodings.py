@@ -3,9 +3,10 @@
 
     python3 tools/generate_encodings.py [--check]
 
-A file of such a list begins with a line that says so; where a list is a part of a file, it stands between such a line
+A file of such a list begins with a line that says so; a list that is a part of a file stands between such a line
 and a line `end`. What a program must print of a list is a line of its stored output. With `--check` nothing is written:
-the files that differ are named, and the status is 1 where there are any (`make lint`).
+the files that differ are named, and the status is 1 if there are any (`make lint`). This needs
+Python 3.11.
 """
 
 import os
@@ -425,7 +426,7 @@ def comment(path):
 
 
 def with_parts(path, text, parts):
-    """The text of a file with its generated parts as they should be. The line before and behind a part stay."""
+    """The text of a file with its generated parts as they should be. The lines before and after a part stay."""
     lines, result, left = text.split("\n"), [], list(parts)
     begin, end, is_inside = "%s %s" % (comment(path), WRITTEN), "%s end" % comment(path), False
     for line in lines:

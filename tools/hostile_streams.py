@@ -6,7 +6,7 @@
 The program is the one that `rt ci` or `rt run` has left in its `out/`. A case is a command line with its standard input,
 output and error. What must come of it, status, output and standard error, is what README.md and the man page say. The
 gate leaves out the input of 4 GiB, and waits no second before each byte of the slow one. It prints a line for each case;
-the status is 1 where one failed.
+the status is 1 if one failed.
 """
 
 import os
@@ -83,7 +83,7 @@ def broken_streams():
 def slow_reader(delay):
     """A byte at a time: what ends three bytes before the end of what was read comes before more is read."""
     out, log = b"a" + MALFORMED + b"bcde", b"bad 1 1\n"
-    # What must be written and logged behind each byte of the input.
+    # What must be written and logged after each byte of the input.
     least = [(0, 0), (0, 0), (0, 0), (1, 0), (4, 8), (5, 8)]
     slow = start(UTF_8)
     written, logged, late = b"", b"", []
@@ -123,7 +123,7 @@ def gone_consumers():
     check("a log that nobody reads", log_ends.wait(timeout=PATIENCE), 4)
 
 
-# The most memory in bytes that a run may take, and by how much it may grow behind its first 64 MiB of input.
+# The most memory in bytes that a run may take, and by how much it may grow after its first 64 MiB of input.
 MOST_RESIDENT = 16 << 20
 MOST_GROWTH = 64 << 10
 

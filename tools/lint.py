@@ -10,7 +10,8 @@
 - Each definition of `specs/` has a line of its own above it. None has a name of the standard library's, and a function
   of the code that has the name of one cites it in its contract.
 - `docs/DEFINITIONS.md` is what `tools/definitions_page.py` writes.
-- Each edit of `must-fail/` and `edits/` names a file, and each text that it replaces stands in it once.
+- Each edit of `must-fail/` and `edits/` has a file and a name of its own, and each text that it replaces stands in that
+  file once.
 - `docs/reference/edits.md` is what `tools/edits_table.py` writes, and each edit that `tools/wrong_bodies.toml` names is
   there.
 - `docs/HEADLINE.md` is what `tools/headline.py` writes, and the headline stands on no more lines of definitions than
@@ -37,6 +38,7 @@ import c_header
 import c_manual
 import definitions
 import definitions_page
+import edit_files
 import edits_table
 import headline
 import reference
@@ -171,7 +173,7 @@ def names_of_the_kit():
 
 
 def taken_names():
-    """No definition takes a name of the standard library's: where both are meant, a reader would not know which."""
+    """No definition takes a name of the standard library's: a reader would not know which of the two is meant."""
     taken = set(names_of_the_kit())
     if not taken:
         yield "the kit's standard library was not found beside `rt`, so names can't be compared with its names"
@@ -182,7 +184,7 @@ def taken_names():
 
 def shared_names():
     """A function of the code that has the name of a definition says so: its contract cites the definition. One without a
-    contract is left out, as a function of a trait is where it is implemented: the trait has its contract."""
+    contract is left out, as is the implementation of a trait's function: the trait has its contract."""
     words = {definition.name for definition in definitions_of_specs() if "/laws/" not in definition.path}
     for crate, _ in definitions_page.PARTS:
         for path in files_of(crate, "src", ".rt"):
@@ -192,41 +194,37 @@ def shared_names():
                     yield "%s: %s has the name of a definition that its contract does not cite" % (path, name)
 
 
-def edit_faults(path):
+def edit_faults(crate, edit, place):
     """What is wrong with an edit. A later text is looked for in what the earlier ones have made."""
-    crate, texts, target, old = path.split("/")[1], {}, None, None
-    for line in read(os.path.join(TOP, path)).rstrip("\n").split("\n"):
-        word, _, rest = line.partition(":")
-        rest = rest.removeprefix(" ")
-        if word == "file":
-            target = os.path.join(CRATES, crate, rest)
-            if not os.path.isfile(target):
-                yield "%s names %s, which is no file" % (path, rest)
-                return
-            texts.setdefault(target, read(target))
-        elif word == "old" and target:
-            old = rest
-            count = texts[target].count(old)
-            if count != 1:
-                yield "%s: %r stands %d times in its file" % (path, old, count)
-        elif word == "new" and old:
-            texts[target] = texts[target].replace(old, rest)
-        else:
-            yield "%s has a line that is no file, old or new" % path
+    texts = {}
+    for target, old, new in edit.changes:
+        path = os.path.join(CRATES, crate, target)
+        if not os.path.isfile(path):
+            yield "%s names %s, which is no file" % (place, target)
+            return
+        text = texts.get(target) or read(path)
+        if text.count(old) != 1:
+            yield "%s: %r stands %d times in its file" % (place, old, text.count(old))
+        texts[target] = text.replace(old, new)
 
 
 def edits():
-    for folder in edits_table.FOLDERS:
-        for path in files(folder, ".edit"):
-            yield from edit_faults(path)
+    for crate in sorted(os.listdir(CRATES)):
+        found = [edit for folder in edit_files.FOLDERS for edit in edit_files.edits_of(crate, folder)]
+        for edit in found:
+            yield from edit_faults(crate, edit, "%s/%s" % (crate, edit.name))
+        for name, count in collections.Counter(edit.name for edit in found).items():
+            if count > 1:
+                yield "%s/%s is the name of %d edits" % (crate, name, count)
 
 
 def wrong_bodies():
+    names = edits_table.marks()
     for body in edits_table.bodies():
         if not body["edits"]:
             yield "tools/wrong_bodies.toml has no edit of: %s" % body["name"]
         for edit in body["edits"]:
-            if edits_table.mark_of(edit) is None:
+            if edit not in names:
                 yield "tools/wrong_bodies.toml names %s, which is no edit" % edit
 
 

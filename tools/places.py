@@ -1,9 +1,9 @@
 #!/usr/bin/env python3
-"""Runs `recode` and then `recode-places` on its log, and compares what that tells with a plain program.
+"""Runs `recode` and then `recode-places` on its log, and compares what that prints with a plain program.
 
     python3 tools/places.py
 
-The programs are those that `rt ci` or `rt run` has left in their `out/`. What must be told of an input is worked out from
+The programs are those that `rt ci` or `rt run` has left in their `out/`. What must be reported of an input is worked out from
 its pieces (`plain_recode.py`), one by one: no log, no chunk and no ring of cells. Files are made by Python's own codecs,
 and random ones as `fuzz.py` makes them; of a few the whole output is written out here, by hand.
 """
@@ -35,7 +35,7 @@ PATIENCE = 30
 # How much of a line is shown before a place and from it on.
 BEFORE, BEHIND = 48, 24
 
-# Shown by number: what turns a line round, or can't be seen. Controls are, too.
+# Shown by number: what turns a line round, or cannot be seen. Controls are, too.
 UNSEEN = {0x61C, 0xFEFF, *range(0x200B, 0x2010), *range(0x2028, 0x202F), *range(0x2060, 0x2070), *range(0xFFF9, 0xFFFC)}
 UNSEEN |= set(range(0xE0000, 0xE0080))
 
@@ -56,7 +56,7 @@ def named(point):
 
 
 def width(text):
-    """How many columns a text takes, or None where a character is not as plain as those here."""
+    """How many columns a text takes, or None if a character is not as plain as those here."""
     columns = 0
     for character in text:
         wide = unicodedata.east_asian_width(character) in "WF"
@@ -76,7 +76,7 @@ class Place:
         return "%s:%d:%d: %s" % (name, self.line, self.column, self.words)
 
     def context(self):
-        """The line of text, and the line of the caret, or None where that takes more than a plain width."""
+        """The line of text, and the line of the caret, or None if that takes more than a plain width."""
         row, cell = self.row, self.cell
         before = ("…" if cell > BEFORE else "") + "".join(row[max(cell - BEFORE, 0) : cell])
         own, behind = "".join(row[cell : cell + self.cells]), "".join(row[cell + self.cells : cell + BEHIND])
@@ -95,7 +95,7 @@ class Target:
         self.output, self.words_of = encodings[self.name], {}
 
     def words(self, point):
-        """The words where it is lost, those where it is written as another, or twice None."""
+        """The words if it is lost, those if it is written as another, or twice None."""
         if point not in self.words_of:
             self.words_of[point] = self.find(point)
         return self.words_of[point]
@@ -147,7 +147,7 @@ def run(program, words, given=b""):
 
 
 class Trial:
-    """A file that is converted, and what is told of it."""
+    """A file that is converted, and what is reported of it."""
 
     def __init__(self, folder, name, job, data, indexes=INDEXES):
         self.folder, self.name, self.job, self.data = folder, name, job, data
@@ -168,7 +168,7 @@ class Trial:
             yield "%s, %s: %r and not %r" % (self.name, what, found, right)
 
     def compared(self, what, right, found):
-        """Compares what was told with the places that there are."""
+        """Compares what was reported with the places that there are."""
         status, lines, error = found
         yield from self.differences(what, (status, error), (1 if right else 0, ""))
         yield from self.differences(what, len(lines), 3 * len(right))
@@ -179,7 +179,7 @@ class Trial:
             yield from self.differences(what, has, wanted)
 
 
-# Files whose whole output is written out: the words, the bytes, and what is told behind the name of the file.
+# Files whose whole output is written out: the words, the bytes, and what is printed after the name of the file.
 WRITTEN = [
     (
         ["--from", "utf-8", "--to", "windows-1252"],
@@ -282,7 +282,7 @@ TRY_HELP = "\n\nFor more information, try '--help'.\n"
 USAGE = "\n\nUsage: recode-places [OPTIONS] --from <LABEL> --to <LABEL> <INPUT> < LOG" + TRY_HELP
 UTF_8 = ["--from", "utf-8", "--to", "utf-8"]
 
-# Words, status and standard error of runs that tell nothing; `INPUT` is a file with the byte FF.
+# Words, status and standard error of runs that report nothing; `INPUT` is a file with the byte FF.
 REFUSALS = [
     (UTF_8, 2, "error: the following required arguments were not provided:\n  <INPUT>" + USAGE),
     (UTF_8 + ["INPUT", "INPUT"], 2, "error: unexpected argument 'INPUT' found" + USAGE),
@@ -345,7 +345,7 @@ def log_faults(folder):
 
 
 def refusal_faults(folder):
-    """What is wrong with runs that tell nothing, and with the texts that are asked for."""
+    """What is wrong with runs that report nothing, and with the texts that are asked for."""
     path = os.path.join(folder, "refused.txt")
     with open(path, "wb") as file:
         file.write(b"\xff")
@@ -397,7 +397,7 @@ def flood_faults(folder):
 
 
 def long_faults(folder):
-    """20 MB with three faults: one behind 9 MB, one at a cut of the reads, and half a character at the end."""
+    """20 MB with three faults: one after 9 MB, one at a cut of the reads, and half a character at the end."""
     row = b"the quick brown fox jumps over the lazy dog, " * 4 + b"\n"
     data = bytearray(row * (20_000_000 // len(row)))
     faults = {9_000_050: b"\xff", 4096 * 3500 - 1: "日".encode()}
@@ -434,7 +434,7 @@ def terminal_faults(folder):
 
 
 def memory_faults(folder):
-    """Each request for memory refused in turn: at the start nothing is told, and later a part of what there is."""
+    """Each request for memory refused in turn: at the start nothing is reported, and later a part of what there is."""
     data = "日\n¥本".encode() + b"\xff"
     trial = Trial(folder, "memory.txt", Job("utf-8", "shift_jis", "sniff", "decimal"), data)
     allocator = refused_memory.compiled(folder)
@@ -488,7 +488,7 @@ def random_files(encodings, count):
 
 
 def model_faults(folder, encodings, files, kind):
-    """What is told of files, by their logs, with folds, and without a log, beside what the plain program tells."""
+    """What is reported of files, by their logs, with folds, and without a log, beside what the plain program reports."""
     for number, (source, target, data) in enumerate(files):
         source, target = (next(name for name in encodings if name.lower() == label.lower()) for label in (source, target))
         job = Job(source, target, ("sniff", "remove", "keep")[number % 3], "decimal")

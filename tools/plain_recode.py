@@ -38,7 +38,7 @@ def pieces(encodings, job, data):
 
 
 class Run:
-    """A run: what it writes and logs, and what is told of it."""
+    """A run: what it writes and logs, and what is reported of it."""
 
     def __init__(self, encodings, job, data):
         self.policy = job.policy
@@ -47,7 +47,7 @@ class Run:
         self.bad = self.lost = 0
         # The character that has no bytes and stops the run: how many stand before it, and its number.
         self.stop = None
-        # Behind each piece: where it ends, and how long output and log are then.
+        # After each piece: where it ends, and how long output and log are then.
         self.progress = []
         self.found, parts = pieces(encodings, job, data)
         for start, end, characters in parts:

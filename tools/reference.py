@@ -5,13 +5,15 @@
 
 A page has each public item that a public path leads to: its doc comment, its signature and its contract, as they stand
 in the source, and links from the words of the contract to `words.md`, which has each with the line above its definition
-and its place. An item that is re-exported is named by its shortest path. `make lint` calls `faults`: a public item
-without a doc comment, and a page that is not what this script writes.
+and its place. An item that is re-exported is named by its shortest path. At its head a page has a table of calls by what
+one wants to do (`reference_calls.toml`), and the programs of `library_examples` that use it. `make lint` calls `faults`:
+a public item without a doc comment, and a page that is not what this script writes. It needs Python 3.11.
 """
 
 import os
 import re
 import sys
+import tomllib
 
 from definitions import TOP, WORD, definitions
 
@@ -25,6 +27,19 @@ LIBRARIES = [
 
 # The program that makes the examples of the libraries' pages.
 EXAMPLES = "library_examples"
+
+# The programs among the examples that a page shows whole, each with what it does, and the item that has a link to it.
+PROGRAMS = {
+    "encoding_front": [
+        ("stream_faults", "Decode a stream, and print where each malformed sequence stands", "Decoder"),
+        ("whole_texts", "Decode and encode whole texts", "Encoding"),
+    ],
+    "recode": [("whole_runs", "Convert bytes, and print what was lost", "run")],
+}
+
+# Which calls do what, by libraries.
+with open(os.path.join(TOP, "tools", "reference_calls.toml"), "rb") as file:
+    CALLS = tomllib.load(file)
 
 # Lists of names, of encodings and of their indexes: each name says what it is, and the list has the doc comment.
 NAME_LISTS = {"Encoding", "IndexKind", "encoding_labels::places"}
@@ -56,7 +71,7 @@ def dedent(lines):
 
 
 def head(lines, start):
-    """The lines from `start` up to the body of an item or to its semicolon, and the index behind them."""
+    """The lines from `start` up to the body of an item or to its semicolon, and the index after them."""
     code, indent = [], re.match(r" *", lines[start])[0]
     for index in range(start, len(lines)):
         line = lines[index].rstrip()
@@ -71,7 +86,7 @@ def head(lines, start):
 
 
 def block(lines, index):
-    """The lines of a block that opened before `index`, up to the brace that closes it, and the index behind it."""
+    """The lines of a block that opened before `index`, up to the brace that closes it, and the index after it."""
     indent = None
     for end in range(index - 1, -1, -1):
         if lines[end].strip():
@@ -241,20 +256,72 @@ def anchor(heading):
     return re.sub(r"[^\w -]", "", heading.lower()).replace(" ", "-")
 
 
+def link(item, crate):
+    return "[`%s`](#%s)" % (item.path, anchor("%s::%s" % (crate, item.path)))
+
+
+def methods(item):
+    return [part for part in item.members if part.kind == "fn"]
+
+
+def method_link(item, part):
+    return "[`%s`](#%s)" % (part.name, anchor("%s::%s" % (item.name, part.name)))
+
+
 def contents(found, crate):
-    """A line for each kind of item: a link to each of them."""
+    """A line for each kind of item, with a link to each of them; and below it one for each that has calls of its own."""
     for heading in dict.fromkeys(heading for _, heading in HEADINGS):
         kinds = [kind for kind, of in HEADINGS if of == heading]
         here = [item for item in found if item.kind in kinds and not item.path.startswith("laws::")]
-        if here and heading != "Constants":
-            links = ("[`%s`](#%s)" % (item.path, anchor("%s::%s" % (crate, item.path))) for item in here)
-            yield "- %s: %s." % (heading, ", ".join(links))
-        elif here:
+        plain = [link(item, crate) for item in here if not methods(item)]
+        if here and heading == "Constants":
             yield "- [%s](#%s)." % (heading, anchor(heading))
+        elif here:
+            yield "- %s:%s" % (heading, " " + ", ".join(plain) + "." if plain else "")
+        for item in here:
+            if methods(item):
+                yield "  - %s: %s." % (link(item, crate), ", ".join(method_link(item, part) for part in methods(item)))
     laws = [item for item in found if item.path.startswith("laws::")]
     if laws:
         links = ("[`%s`](#%s)" % (item.name, anchor("%s::%s" % (crate, item.path))) for item in laws)
         yield "- Laws: %s." % ", ".join(links)
+
+
+def call_links(found, foreign, crate):
+    """How each call of a page is written in its table: a link, or the name alone of what stands on another page."""
+    links = {item.path: link(item, crate) for item in found}
+    for name in ("%s::%s" % (item.name, part.name) for item in found for part in methods(item)):
+        links[name] = "[`%s`](#%s)" % (name, anchor(name))
+    for path in foreign:
+        origin, name = path.split("::")[0], path.split("::")[-1]
+        links[name] = "[`%s`](%s.md#%s)" % (name, origin, anchor("%s::%s" % (origin, name)))
+    return links
+
+
+def calls_table(found, foreign, crate):
+    """Which call does what."""
+    links = call_links(found, foreign, crate)
+    yield from ["| To do | Call |", "|---|---|"]
+    for row in CALLS[crate]:
+        yield "| %s | %s |" % (row["to"], ", ".join(links.get(call, "`%s`" % call) for call in row["calls"]))
+
+
+def programs(crate):
+    """The programs of a page, from their imports to their end."""
+    for name, does, _ in PROGRAMS.get(crate, []):
+        path = "crates/%s/src/%s.rt" % (EXAMPLES, name)
+        lines = read(os.path.join(TOP, path)).rstrip("\n").split("\n")
+        start = next(number for number, line in enumerate(lines) if line.startswith("use "))
+        yield from ["### " + does, "", "The gate proves and runs it ([%s.rt](../../%s))." % (name, path), ""]
+        yield from ["```rust", *lines[start:], "```", ""]
+
+
+def programs_of(item, crate):
+    """The line of an item that links its programs, or nothing."""
+    found = [does for _, does, name in PROGRAMS.get(crate, []) if name == item.path]
+    if found:
+        yield "In use: %s." % ", ".join("[%s](#%s)" % (does[0].lower() + does[1:], anchor(does)) for does in found)
+        yield ""
 
 
 def word_page(used):
@@ -277,6 +344,7 @@ def entry(item, crate):
     yield "### `%s::%s`" % (crate, item.path)
     yield ""
     yield from item.doc + [""]
+    yield from programs_of(item, crate)
     code = item.code
     shown = [part for part in item.members if part.kind == "field"]
     if item.kind in ("enum", "struct") and shown:
@@ -311,11 +379,16 @@ def pages():
     for crate in LIBRARIES:
         page, found, foreign = library(crate)
         lines = ["# %s" % crate, "", "<!-- Written by tools/reference.py from the sources; do not edit. -->", ""]
-        lines += ["#" + line if line.startswith("# ") else line for line in page] + [""]
+        use = page.index("# Use") if "# Use" in page else len(page)
+        lines += page[:use] + [""]
+        if crate in CALLS:
+            lines += ["## Which call", "", *calls_table(found, foreign, crate), ""]
         lines += ["## Contents", ""] + list(contents(found, crate)) + [""]
         used.update(word for item in found for part in [item] + item.members for word in words_of(part))
         if foreign:
             lines += ["Re-exported from lower crates: %s." % ", ".join("`%s`" % name for name in foreign), ""]
+        lines += ["#" + line if line.startswith("# ") else line for line in page[use:]] + [""]
+        lines += list(programs(crate))
         for heading in dict.fromkeys(heading for _, heading in HEADINGS):
             kinds = [kind for kind, of in HEADINGS if of == heading]
             here = [item for item in found if item.kind in kinds and not item.path.startswith("laws::")]
@@ -371,6 +444,15 @@ def example(crate):
     return []
 
 
+def unknown_calls():
+    """What `reference_calls.toml` names must be on its page."""
+    for crate in LIBRARIES:
+        _, found, foreign = library(crate)
+        links = call_links(found, foreign, crate)
+        for call in (call for row in CALLS.get(crate, []) for call in row["calls"] if call not in links):
+            yield "tools/reference_calls.toml: the page of %s has no %s" % (crate, call)
+
+
 def unmade_examples():
     for crate in LIBRARIES:
         page = library(crate)[0]
@@ -380,8 +462,9 @@ def unmade_examples():
 
 
 def faults():
-    """What `make lint` tells: items without a doc comment, examples that are not made, pages that are not written."""
+    """What `make lint` reports: items without a doc comment, examples that are not made, pages that are not written."""
     yield from undocumented()
+    yield from unknown_calls()
     yield from unmade_examples()
     written = dict(pages())
     for name, text in written.items():

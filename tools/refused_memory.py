@@ -10,7 +10,7 @@ none left to refuse, or every one.
 
 `recode` must end with status 3, write `recode: out of memory` to standard error, and write nothing to standard output.
 Only for two requests may it end as it does with memory: std, before it collects the words of the command line and their
-slices, asks for the room of all of them, and where that is refused it asks word by word.
+slices, asks for the room of all of them, and if that is refused it asks word by word.
 
 `encoding_refusals` must print its stored output, with `refused, then` in one line, that of the call whose request was
 refused; it compares the tables itself, before and after. Each call must have been refused, but for those that take no
@@ -30,7 +30,7 @@ INDEXES = os.path.join(TOP, "indexes")
 PROGRAM = os.path.join(TOP, "crates/recode_cli/out/recode_cli")
 CALLS = os.path.join(TOP, "crates/encoding_refusals/out/encoding_refusals")
 
-# Refuses request N of the process, or all from it on, by the environment, and says where it does.
+# Refuses request N of the process, or all from it on, by the environment, and reports that it does.
 ALLOCATOR = r"""
 typedef unsigned long size;
 
@@ -126,10 +126,10 @@ FREE = {
 # Those that load a text.
 LOADS = {"load", "load of ranges", "load beside others"}
 
-# What is printed where memory is refused to a call, and, of a load, to the tables.
+# What is printed if memory is refused to a call, and, of a load, to the tables.
 REFUSED, TO_TABLES = "refused", "refused to the tables"
 
-# Those that need an index: where every request is refused there is none.
+# Those that need an index: if every request is refused there is none.
 NEEDING = {"encode", "decode of windows-1252", "encode by what was loaded"}
 
 
@@ -193,7 +193,7 @@ def sweep_program(allocator):
 
 
 def words_of(name):
-    """What a call prints where its requests are refused, in their order: the same for one or more of them."""
+    """What a call prints if its requests are refused, in their order: the same for one or more of them."""
     if name in FREE:
         return []
     return [REFUSED] + [TO_TABLES] * (name in LOADS)
@@ -219,7 +219,7 @@ def sweep_calls(allocator):
     def with_line(place, words):
         return lines[:place] + [lines[place].replace(": ", ": %s, then " % words, 1)] + lines[place + 1 :]
 
-    # what is printed where the request of one call is refused
+    # what is printed if the request of one call is refused
     ways = [(place, words) for place, name in enumerate(names) for words in words_of(name)]
     allowed = [with_line(*way) for way in ways]
     told = [[] for _ in names]
@@ -249,7 +249,7 @@ def sweep_calls(allocator):
 
 
 def compiled(folder):
-    """The allocator, made by the clang of the kit, which has no headers; or by `cc`, where a kit has no clang."""
+    """The allocator, made by the clang of the kit, which has no headers; or by `cc`, if a kit has no clang."""
     source, allocator = os.path.join(folder, "refusing.c"), os.path.join(folder, "refusing.so")
     with open(source, "w", encoding="ascii") as file:
         file.write(ALLOCATOR)

@@ -5,7 +5,7 @@
     python3 ../../tools/sequences.py data | diff - <(sed '1,34d;/ reads: /,$d' stdout)
 
 The codecs are those of `standard.py`. After `--python` it compares the characters of pairs with the codecs of Python,
-and prints where they differ.
+and prints what differs.
 """
 
 import sys
@@ -93,7 +93,7 @@ def lines(folder):
 
 
 def compare(folder):
-    """The characters of the pairs by the codecs of Python, where a pair is one character."""
+    """The characters of the pairs by the codecs of Python, if a pair is one character."""
     encodings = standard.encodings(folder)
     for name, codec in [
         ("Big5", "big5hkscs"),

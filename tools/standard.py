@@ -2,8 +2,8 @@
 
 A decoder reads a byte and a state at a time, an encoder a character; both look up the index texts, which are read
 here (5). The numbers behind a class are those of its sections. This shares nothing with the definitions of this
-repository, but for one choice: an escape of ISO-2022-JP behind which another follows at once is malformed itself,
-where the standard has the other returned as an error.
+repository, but for one choice: an escape of ISO-2022-JP that another follows at once is malformed itself; the
+standard returns the other as an error. It needs Python 3.11.
 """
 
 import bisect
@@ -88,7 +88,7 @@ class Stream:
 
 
 def pieces(decoder, data):
-    """Where each piece of the bytes begins and ends, and its characters, or None where it is malformed.
+    """Where each piece of the bytes begins and ends, and its characters, or None if it is malformed.
 
     A malformed sequence is what was read since the last result, less what was restored.
     """

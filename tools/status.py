@@ -4,7 +4,8 @@
     python3 tools/status.py
 
 The page names the commit, the day, the kit, the gate's last line, its time and processor time, and the memory of its
-largest process. The status is the gate's.
+largest process. The status is the gate's. What a tool writes there stands between two comments, `NAME` and
+`end of NAME`: `gate` is this tool's, and `edits` that of `edits.py`.
 """
 
 import datetime
@@ -15,11 +16,14 @@ import sys
 import tempfile
 import time
 
+sys.dont_write_bytecode = True
+
+from usage import put
+
 TOP = os.path.abspath(os.path.join(os.path.dirname(os.path.abspath(__file__)), ".."))
+PAGE = os.path.join("docs", "STATUS.md")
 
-PAGE = """# Status
-
-The merge gate (`make test`) ran on a clean clone of {commit} ({day}, {kit}).
+GATE = """`make test` ran on a clean clone of {commit} ({day}, {kit}).
 
 | | |
 |---|---|
@@ -27,8 +31,19 @@ The merge gate (`make test`) ran on a clean clone of {commit} ({day}, {kit}).
 | failed | {failed} |
 | time | {minutes} minutes on {processors} processors |
 | processor time | {cpu} minutes |
-| largest process | {memory:.1f} GB |
-"""
+| largest process | {memory:.1f} GB |"""
+
+
+def read_page():
+    with open(os.path.join(TOP, PAGE), encoding="utf-8") as file:
+        return file.read()
+
+
+def write_part(name, text):
+    """Puts this text in place of what the page has between the comments of this name."""
+    page = put(read_page(), [(name, [text])], "<!-- %s -->\n", "<!-- end of %s -->\n")
+    with open(os.path.join(TOP, PAGE), "w", encoding="utf-8") as file:
+        file.write(page)
 
 
 def said(*words):
@@ -50,7 +65,7 @@ def main():
         ran.wait()
     used = resource.getrusage(resource.RUSAGE_CHILDREN)
     failed = [line.partition("FAILED: ")[2] for line in lines if "FAILED: " in line]
-    page = PAGE.format(
+    part = GATE.format(
         commit=commit,
         day=datetime.date.today().isoformat(),
         kit=said("rt", "version"),
@@ -61,8 +76,7 @@ def main():
         cpu=round((used.ru_utime + used.ru_stime) / 60),
         memory=used.ru_maxrss / 1e6,
     )
-    with open(os.path.join(TOP, "docs", "STATUS.md"), "w", encoding="utf-8") as file:
-        file.write(page)
+    write_part("gate", part)
     return ran.returncode
 
 

@@ -4,9 +4,9 @@ texts, so that no expected output was made from our own.
 
     python3 tools/stored.py
 
-- The stored output of `encoding_index_files`: `sequences.py` and `characters.py`, behind its first 34 lines, which have
+- The stored output of `encoding_index_files`: `sequences.py` and `characters.py`, after its first 34 lines, which have
   entries taken from standards and code pages by hand.
-- What a run tells of each character as a text of its own, of every one of the basic plane and of some above it, in the
+- What a run reports of each character as a text of its own, of every one of the basic plane and of some above it, in the
   encodings that have folds and in some that have none: `characters.py` (`make verdicts` has every character).
 """
 

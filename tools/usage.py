@@ -27,7 +27,7 @@ WORDS = re.compile(
     r"(?<![\w`-])(&#\w+;|--[a-z]+(?:-[a-z]+)?(?: stop| keep)?|utf-8|shift_jis|windows-1252|iso-8859-1|ascii|gbk|euc-kr|big5|hz-gb-2312"
     r"|iso-2022-cn|iso-2022-kr)(?![\w`])"
 )
-# The words that an option takes, where its help has them behind a colon.
+# The words that an option takes, if its help has them after a colon.
 CHOICES = re.compile(r": ((?:\w+, )*\w+ or \w+)")
 # The options that clap makes, and what they ask for.
 OWN_OF_CLAP = ("-h", "--help", "-V", "--version"), "Print help, or the version"
@@ -36,7 +36,7 @@ FLAG = re.compile(r'Arg::new\(alloc, "list"\).*?\.help\("([^"]*)"\)', re.S)
 
 
 class Usage:
-    """What the help of a program says: the options, and the paragraphs and lists behind them."""
+    """What the help of a program says: the options, and the paragraphs and lists after them."""
 
     def __init__(self, program, version, source):
         self.program, self.version = program, version
@@ -60,7 +60,7 @@ class Usage:
         return "--" + words[0], words[1], value, words[2]
 
     def rows(self, text):
-        """The rows of a list, a word and what it says, and what is said behind the last of them."""
+        """The rows of a list, a word and what it says, and what is said after the last of them."""
         head, *lines = text.split("\n")
         rows, behind = [], []
         for line in lines:
@@ -74,7 +74,7 @@ class Usage:
         return rows, " ".join(behind)
 
     def list_of(self, word):
-        """The list whose title has the word, without what is said behind it."""
+        """The list whose title has the word, without what is said after it."""
         return next((rows for title, (rows, _) in self.lists.items() if word in title), [])
 
     def labels(self, name):
