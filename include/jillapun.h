@@ -6,19 +6,19 @@
  * A function asks of its caller what this says of pointers, lengths and handles, and nothing else:
  * all else it tests, and tells by what it returns.
  *
- * Pointers and lengths. A pointer and the length behind it, as `src` and `src_len`, are so many
- * elements of memory (elements, not bytes). A pointer is never NULL, also where the length is 0:
- * hand in the address of any object. Memory that a call may write to, by a pointer without `const`,
- * overlaps nothing else that is handed in. No other thread writes to what is handed in while the
- * call runs, or reads what the call may write to. Units of UTF-16 stand at even addresses, and
- * structs where their type wants them. What a call writes to need not be initialised before, but
- * for a handle, and for a text (`_to_str`). A `bool` is 0 or 1.
+ * Pointers and lengths. A pointer and the length after it, as `src` and `src_len`, are so many
+ * elements of memory (elements, not bytes). A pointer is never NULL, even if the length is 0: hand
+ * in the address of any object. Memory that a call may write to, by a pointer without `const`,
+ * overlaps nothing else that is handed in. While the call runs, no other thread writes to what is
+ * handed in, or reads what the call may write to. Units of UTF-16 stand at even addresses, and
+ * structs are aligned as their type needs. Memory that a call writes to need not be initialised,
+ * except a handle, and a text (`_to_str`). A `bool` is 0 or 1.
  *
  * Handles. A handle, a struct with members that begin with `private_`, begins as `{0}`, is filled
  * by a function with `_new` in its name and emptied by one with `_free`. Never copy a handle, and
  * never look into one. Two threads may use two handles, but not one at once.
  *
- * Where a function that returns a length can't do what is asked for, it returns SIZE_MAX.
+ * If a function that returns a length can't do what is asked for, it returns SIZE_MAX.
  *
  * Functions take memory by malloc and give it back by free. None prints, locks, starts a thread or
  * opens a file.
@@ -253,7 +253,7 @@ size_t encoding_iso_2022_jp_ascii_valid_up_to(const uint8_t *buffer, size_t buff
 
 /**
  * Copies the longest prefix of `src` that is ASCII to the start of `dst`, and returns its
- * length in bytes. Room: as many bytes as `src` has; where `dst` is shorter, nothing is written
+ * length in bytes. Room: as many bytes as `src` has; if `dst` is shorter, nothing is written
  * and `SIZE_MAX` is returned.
  */
 size_t encoding_mem_copy_ascii_to_ascii(const uint8_t *src, size_t src_len, uint8_t *dst,
@@ -261,7 +261,7 @@ size_t encoding_mem_copy_ascii_to_ascii(const uint8_t *src, size_t src_len, uint
 
 /**
  * Copies the longest prefix of `src` that is ASCII to the start of `dst`, each byte as a unit
- * of UTF-16, and returns its length. Room: as many units as `src` has bytes; where `dst` is
+ * of UTF-16, and returns its length. Room: as many units as `src` has bytes; if `dst` is
  * shorter, nothing is written and `SIZE_MAX` is returned.
  */
 size_t encoding_mem_copy_ascii_to_basic_latin(const uint8_t *src, size_t src_len,
@@ -269,7 +269,7 @@ size_t encoding_mem_copy_ascii_to_basic_latin(const uint8_t *src, size_t src_len
 
 /**
  * Copies the longest prefix of `src` whose units of UTF-16 are below 80 hex to the start of
- * `dst`, each as a byte, and returns its length. Room: as many bytes as `src` has units; where
+ * `dst`, each as a byte, and returns its length. Room: as many bytes as `src` has units; if
  * `dst` is shorter, nothing is written and `SIZE_MAX` is returned.
  */
 size_t encoding_mem_copy_basic_latin_to_ascii(const jillapun_char16 *src, size_t src_len,
@@ -308,8 +308,8 @@ bool encoding_mem_is_str_bidi(const uint8_t *buffer, size_t buffer_len);
 bool encoding_mem_is_utf16_bidi(const jillapun_char16 *buffer, size_t buffer_len);
 
 /**
- * `JILLAPUN_LATIN1` where `encoding_mem_is_utf8_latin1` holds of the bytes, `JILLAPUN_BIDI`
- * where `encoding_mem_is_utf8_bidi` does, also where they are not well-formed, and else
+ * `JILLAPUN_LATIN1` if `encoding_mem_is_utf8_latin1` holds of the bytes, `JILLAPUN_BIDI` if
+ * `encoding_mem_is_utf8_bidi` does, also if they are not well-formed, and else
  * `JILLAPUN_LEFT_TO_RIGHT`.
  */
 uint32_t encoding_mem_check_utf8_for_latin1_and_bidi(const uint8_t *buffer, size_t buffer_len);
@@ -321,8 +321,8 @@ uint32_t encoding_mem_check_utf8_for_latin1_and_bidi(const uint8_t *buffer, size
 uint32_t encoding_mem_check_str_for_latin1_and_bidi(const uint8_t *buffer, size_t buffer_len);
 
 /**
- * `JILLAPUN_LATIN1` where `encoding_mem_is_utf16_latin1` holds of the units, `JILLAPUN_BIDI`
- * where `encoding_mem_is_utf16_bidi` does, and else `JILLAPUN_LEFT_TO_RIGHT`.
+ * `JILLAPUN_LATIN1` if `encoding_mem_is_utf16_latin1` holds of the units, `JILLAPUN_BIDI` if
+ * `encoding_mem_is_utf16_bidi` does, and else `JILLAPUN_LEFT_TO_RIGHT`.
  */
 uint32_t encoding_mem_check_utf16_for_latin1_and_bidi(const jillapun_char16 *buffer,
     size_t buffer_len);
@@ -350,24 +350,24 @@ size_t encoding_mem_str_latin1_up_to(const uint8_t *buffer, size_t buffer_len);
 
 /**
  * Converts Latin1 to UTF-16 at the start of `dst`, a unit for each byte, and returns how many
- * units were written. Room: as many units as `src` has bytes; where `dst` is shorter, nothing
- * is written and `SIZE_MAX` is returned.
+ * units were written. Room: as many units as `src` has bytes; if `dst` is shorter, nothing is
+ * written and `SIZE_MAX` is returned.
  */
 size_t encoding_mem_convert_latin1_to_utf16(const uint8_t *src, size_t src_len,
     jillapun_char16 *dst, size_t dst_len);
 
 /**
  * Takes the low eight bits of each unit of UTF-16, into the start of `dst`, and returns how
- * many bytes were written. Where `encoding_mem_is_utf16_latin1` holds of `src`, that is its
- * text in Latin1; else it is not. Room: as many bytes as `src` has units; where `dst` is
- * shorter, nothing is written and `SIZE_MAX` is returned.
+ * many bytes were written. If `encoding_mem_is_utf16_latin1` holds of `src`, that is its text
+ * in Latin1; else it is not. Room: as many bytes as `src` has units; if `dst` is shorter,
+ * nothing is written and `SIZE_MAX` is returned.
  */
 size_t encoding_mem_convert_utf16_to_latin1_lossy(const jillapun_char16 *src, size_t src_len,
     uint8_t *dst, size_t dst_len);
 
 /**
  * Converts UTF-8 to Latin1 at the start of `dst`, a byte for each character, and returns how
- * many bytes were written. Room: as many bytes as `src` has. Where `dst` is shorter, or
+ * many bytes were written. Room: as many bytes as `src` has. If `dst` is shorter, or
  * `encoding_mem_is_utf8_latin1` does not hold of `src`, nothing is written and `SIZE_MAX` is
  * returned.
  */
@@ -376,7 +376,7 @@ size_t encoding_mem_convert_utf8_to_latin1_lossy(const uint8_t *src, size_t src_
 
 /**
  * Converts Latin1 to UTF-8 at the start of `dst`, and returns how many bytes were written.
- * Room: twice as many bytes as `src` has; where `dst` is shorter, nothing is written and
+ * Room: twice as many bytes as `src` has; if `dst` is shorter, nothing is written and
  * `SIZE_MAX` is returned.
  */
 size_t encoding_mem_convert_latin1_to_utf8(const uint8_t *src, size_t src_len, uint8_t *dst,
@@ -384,9 +384,9 @@ size_t encoding_mem_convert_latin1_to_utf8(const uint8_t *src, size_t src_len, u
 
 /**
  * Converts Latin1 to UTF-8 at the start of a text, which stays one, and returns how many bytes
- * were written: where a character of `dst` is overwritten in part, its other bytes become 00.
- * Room: twice as many bytes as `src` has. Where `dst` is shorter, or is not UTF-8 before the
- * call, nothing is written and `SIZE_MAX` is returned.
+ * were written: if a character of `dst` is overwritten in part, its other bytes become 00.
+ * Room: twice as many bytes as `src` has. If `dst` is shorter, or is not UTF-8 before the call,
+ * nothing is written and `SIZE_MAX` is returned.
  */
 size_t encoding_mem_convert_latin1_to_str(const uint8_t *src, size_t src_len, uint8_t *dst,
     size_t dst_len);
@@ -417,20 +417,20 @@ void jillapun_mem_convert_latin1_to_utf8_partial(const uint8_t *src, size_t src_
     size_t dst_len, size_t *read, size_t *written);
 
 /**
- * Converts the longest prefix of UTF-16 whose UTF-8 fits into a text, which stays one: where a
+ * Converts the longest prefix of UTF-16 whose UTF-8 fits into a text, which stays one: if a
  * character of `dst` is overwritten in part, its other bytes become 00. No pair is split; a
  * surrogate in no pair of `src` becomes U+FFFD. `read` is in units, `written` in bytes. Returns
- * `JILLAPUN_OK`, or `JILLAPUN_NOT_UTF8` where `dst` is not UTF-8 before the call: then nothing
- * is read or written.
+ * `JILLAPUN_OK`, or `JILLAPUN_NOT_UTF8` if `dst` is not UTF-8 before the call: then nothing is
+ * read or written.
  */
 uint8_t jillapun_mem_convert_utf16_to_str_partial(const jillapun_char16 *src, size_t src_len,
     uint8_t *dst, size_t dst_len, size_t *read, size_t *written);
 
 /**
- * Converts the longest prefix of Latin1 whose UTF-8 fits into a text, which stays one: where a
+ * Converts the longest prefix of Latin1 whose UTF-8 fits into a text, which stays one: if a
  * character of `dst` is overwritten in part, its other bytes become 00. `read` and `written`
- * are in bytes. Returns `JILLAPUN_OK`, or `JILLAPUN_NOT_UTF8` where `dst` is not UTF-8 before
- * the call: then nothing is read or written.
+ * are in bytes. Returns `JILLAPUN_OK`, or `JILLAPUN_NOT_UTF8` if `dst` is not UTF-8 before the
+ * call: then nothing is read or written.
  */
 uint8_t jillapun_mem_convert_latin1_to_str_partial(const uint8_t *src, size_t src_len, uint8_t *dst,
     size_t dst_len, size_t *read, size_t *written);
@@ -448,17 +448,17 @@ void encoding_mem_ensure_utf16_validity(jillapun_char16 *buffer, size_t buffer_l
 
 /**
  * Converts UTF-16 to UTF-8 at the start of `dst`, with U+FFFD for each surrogate in no pair,
- * and returns how many bytes were written. Room: three bytes for each unit of `src`; where
- * `dst` is shorter, nothing is written and `SIZE_MAX` is returned.
+ * and returns how many bytes were written. Room: three bytes for each unit of `src`; if `dst`
+ * is shorter, nothing is written and `SIZE_MAX` is returned.
  */
 size_t encoding_mem_convert_utf16_to_utf8(const jillapun_char16 *src, size_t src_len, uint8_t *dst,
     size_t dst_len);
 
 /**
  * Converts UTF-16 to UTF-8 at the start of a text, which stays one, with U+FFFD for each
- * surrogate in no pair, and returns how many bytes were written: where a character of `dst` is
- * overwritten in part, its other bytes become 00. Room: three bytes for each unit of `src`.
- * Where `dst` is shorter, or is not UTF-8 before the call, nothing is written and `SIZE_MAX` is
+ * surrogate in no pair, and returns how many bytes were written: if a character of `dst` is
+ * overwritten in part, its other bytes become 00. Room: three bytes for each unit of `src`. If
+ * `dst` is shorter, or is not UTF-8 before the call, nothing is written and `SIZE_MAX` is
  * returned.
  */
 size_t encoding_mem_convert_utf16_to_str(const jillapun_char16 *src, size_t src_len, uint8_t *dst,
@@ -474,7 +474,7 @@ size_t encoding_utf8_valid_up_to(const uint8_t *buffer, size_t buffer_len);
 
 /**
  * Converts UTF-8 to UTF-16 at the start of `dst`, with U+FFFD for each malformed sequence, and
- * returns how many units were written. Room: one unit more than `src` has bytes; where `dst` is
+ * returns how many units were written. Room: one unit more than `src` has bytes; if `dst` is
  * shorter, nothing is written and `SIZE_MAX` is returned.
  */
 size_t encoding_mem_convert_utf8_to_utf16(const uint8_t *src, size_t src_len, jillapun_char16 *dst,
@@ -482,9 +482,9 @@ size_t encoding_mem_convert_utf8_to_utf16(const uint8_t *src, size_t src_len, ji
 
 /**
  * Converts UTF-8 to UTF-16 at the start of `dst`, and returns how many units were written.
- * Room: as many units as `src` has bytes; where `dst` is shorter, nothing is written and
- * `SIZE_MAX` is returned. Where `src` is not well-formed, `SIZE_MAX` is returned, too, and
- * `dst` begins with the text before the first malformed sequence.
+ * Room: as many units as `src` has bytes; if `dst` is shorter, nothing is written and
+ * `SIZE_MAX` is returned. If `src` is not well-formed, `SIZE_MAX` is returned, too, and `dst`
+ * begins with the text before the first malformed sequence.
  */
 size_t encoding_mem_convert_utf8_to_utf16_without_replacement(const uint8_t *src, size_t src_len,
     jillapun_char16 *dst, size_t dst_len);

@@ -26,7 +26,7 @@ COLUMNS = 100
 # The most columns of a line of a doc comment, in a struct too.
 WIDTH = 93
 
-# The modules in the order in which a reader wants their exports; others come after these, and `mem` last.
+# The modules in the order in which their exports are best read; others come after these, and `mem` last.
 SECTIONS = ["encoding", "tables", "decoder", "encoder", "whole", "convert", "descriptors"]
 
 NUMBERS = {
@@ -59,19 +59,19 @@ HEAD = """/*
  * A function asks of its caller what this says of pointers, lengths and handles, and nothing else:
  * all else it tests, and tells by what it returns.
  *
- * Pointers and lengths. A pointer and the length behind it, as `src` and `src_len`, are so many
- * elements of memory (elements, not bytes). A pointer is never NULL, also where the length is 0:
- * hand in the address of any object. Memory that a call may write to, by a pointer without `const`,
- * overlaps nothing else that is handed in. No other thread writes to what is handed in while the
- * call runs, or reads what the call may write to. Units of UTF-16 stand at even addresses, and
- * structs where their type wants them. What a call writes to need not be initialised before, but
- * for a handle, and for a text (`_to_str`). A `bool` is 0 or 1.
+ * Pointers and lengths. A pointer and the length after it, as `src` and `src_len`, are so many
+ * elements of memory (elements, not bytes). A pointer is never NULL, even if the length is 0: hand
+ * in the address of any object. Memory that a call may write to, by a pointer without `const`,
+ * overlaps nothing else that is handed in. While the call runs, no other thread writes to what is
+ * handed in, or reads what the call may write to. Units of UTF-16 stand at even addresses, and
+ * structs are aligned as their type needs. Memory that a call writes to need not be initialised,
+ * except a handle, and a text (`_to_str`). A `bool` is 0 or 1.
  *
  * Handles. A handle, a struct with members that begin with `private_`, begins as `{0}`, is filled
  * by a function with `_new` in its name and emptied by one with `_free`. Never copy a handle, and
  * never look into one. Two threads may use two handles, but not one at once.
  *
- * Where a function that returns a length can't do what is asked for, it returns SIZE_MAX.
+ * If a function that returns a length can't do what is asked for, it returns SIZE_MAX.
  *
  * Functions take memory by malloc and give it back by free. None prints, locks, starts a thread or
  * opens a file.
@@ -231,7 +231,7 @@ class Header:
         return self.declare(self.structs[it])
 
     def declare(self, struct):
-        """The name of a struct, and what it is made of: the declaration is kept, behind those that it needs."""
+        """The name of a struct, and what it is made of: the declaration is kept, after those that it needs."""
         if struct not in [known for known, _ in self.declared]:
             lines = []
             for said, name, it in struct.fields:
@@ -267,7 +267,7 @@ class Header:
         return [*comment(said), *call(declared(kind, name), given)]
 
     def sections(self):
-        """The declarations of each module that has exports, behind what it is for."""
+        """The declarations of each module that has exports, after what it is for."""
         for module in self.modules:
             if module.exports:
                 lines = ["/* " + line if number == 0 else "   " + line for number, line in enumerate(first_paragraph(module.about))]

@@ -6,11 +6,11 @@
 The library is built twice, by LLVM and by the kit's own compiler, and each shared library is loaded by ctypes and called
 by the checks that `CHECKS` lists: what must come of a call is worked out by Python's own codecs and by plain programs.
 
-Where there is a C compiler (`CC`, or cc), it and a C++ compiler (`CXX`, or c++) read the header with all warnings, and each
+If there is a C compiler (`CC`, or cc), it and a C++ compiler (`CXX`, or c++) read the header with all warnings, and each
 NAME.c of docs/examples/c is compiled, linked with the archive and with the shared library, and once more with the
-sanitizers where the compiler has them. Run in the top folder on NAME.in with the words of NAME.args, if these are there, it must
+sanitizers if the compiler has them. Run in the top folder on NAME.in with the words of NAME.args, if these are there, it must
 write NAME.out. Then all is packed as `make dist` does, unpacked, and a program is built from what pkg-config says of it.
-What was left out is said. The status is 1 where something was wrong.
+What was left out is said. The status is 1 if something was wrong.
 """
 
 import os
@@ -70,7 +70,7 @@ def run(words, **more):
 
 
 def compiled(words):
-    """What a compiler says where it fails."""
+    """What a compiler says if it fails."""
     ran = run(words)
     return ran.stderr.decode(errors="replace")[-2000:] if ran.returncode else None
 

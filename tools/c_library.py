@@ -5,7 +5,7 @@
 
 `rt lib` proves crates/jillapun_c and builds it. From what it leaves in the crate's `out/` this makes, in `out/c` at the top,
 `libjillapun.a`, which has the kit's heap functions too, and `libjillapun.so.VERSION`, with the two links to it that a linker
-and a loader look for (`rt` wants no links in a crate's `out/`). Both are made by the kit's tools, so no C compiler is needed.
+and a loader look for (`rt` refuses links in a crate's `out/`). Both are made by the kit's tools, so no C compiler is needed.
 """
 
 import os
@@ -29,7 +29,7 @@ def version():
 
 
 def soname():
-    """The name that programs are linked with: it changes where a program has to be linked anew."""
+    """The name that programs are linked with: it changes when a program has to be linked anew."""
     return SHARED + "." + version().split(".")[0]
 
 
@@ -42,7 +42,7 @@ def kit(*path):
 
 
 def run(words, folder, **more):
-    """Runs a command, and ends this program with what it said where it failed."""
+    """Runs a command, and ends this program with what it said if it failed."""
     ran = subprocess.run(words, cwd=folder, capture_output=True, text=True, errors="replace", check=False, **more)
     if ran.returncode:
         sys.exit("%s: status %d\n%s%s" % (" ".join(words), ran.returncode, ran.stdout[-4000:], ran.stderr[-4000:]))

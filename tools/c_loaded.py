@@ -13,7 +13,7 @@ NUMBERS = {
 
 
 def units(numbers):
-    """Units of UTF-16, as a call takes them and may write to them. There is one more behind them, so that they have an address."""
+    """Units of UTF-16, as a call takes them and may write to them. There is one more after them, so that they have an address."""
     return (ctypes.c_uint16 * (len(numbers) + 1))(*numbers)
 
 

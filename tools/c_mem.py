@@ -87,19 +87,19 @@ class Checks:
         return numbers
 
     def into_bytes(self, name, source, want, least, old=None):
-        """A call that writes bytes: what is wanted at the start, and nothing behind; with too little room, nothing at all."""
+        """A call that writes bytes: what is wanted at the start, and nothing after it; with too little room, nothing at all."""
         room = bytearray(old if old is not None else [BYTE] * (least + self.random.randint(0, 9)))
         before = bytes(room)
         got = getattr(self.library, name)(source, room)
-        self.same(name, source, (got, bytes(room)), (len(want), want + self.behind(name, before[len(want) :])))
+        self.same(name, source, (got, bytes(room)), (len(want), want + self.after(name, before[len(want) :])))
         if least:
             short = bytearray([BYTE] * (least - 1))
             got = getattr(self.library, name)(source, short)
             self.same(name + " with too little room", source, (got, set(short)), (REFUSED, {BYTE} if least > 1 else set()))
 
     @staticmethod
-    def behind(name, rest):
-        """What stands behind what was written: into a text, the bytes that go on with a character become 00."""
+    def after(name, rest):
+        """What stands after what was written: into a text, the bytes that go on with a character become 00."""
         if name.endswith(("_str", "_str_partial")):
             count = first_where(rest, lambda byte: not 0x80 <= byte < 0xC0)
             return bytes(count) + rest[count:]
@@ -242,7 +242,7 @@ class Checks:
             read, written = ctypes.c_size_t(77), ctypes.c_size_t(77)
             got = getattr(self.library, "jillapun_mem_" + name)(source, room, read, written)
             if status == OK:
-                wanted = OK, length, len(want), want + self.behind(name, before[len(want) :])
+                wanted = OK, length, len(want), want + self.after(name, before[len(want) :])
             else:
                 wanted = NOT_UTF8, 0, 0, before
             self.same(name, source, (got, read.value, written.value, bytes(room)), wanted)
@@ -255,7 +255,7 @@ class Checks:
             self.same("into no text", source, (got, bytes(room)), (REFUSED, b"abc\xff"))
 
     def characters(self):
-        """Each number up to the last character, and some behind it."""
+        """Each number up to the last character, and some after it."""
         call = self.library.encoding_mem_is_char_bidi
         for point in [*range(0x110000), 0x110000, 0xFFFFFFFF]:
             if call(point) != is_bidi(point):

@@ -2,7 +2,7 @@
 //! `include/jillapun.h`.
 //!
 //! Each export calls one function of the crates below and says its clauses again. No export has a
-//! condition on what it is handed but for pointers and lengths: where a function below has one, the
+//! condition on what it is handed but for pointers and lengths: if a function below has one, the
 //! export tests it, and returns a status (`status`) or `SIZE_MAX`.
 #![tactic(auto)]
 

@@ -1,8 +1,7 @@
 //! The functions of `encoding_mem`, under the names that the crate `encoding_c_mem` gives those of
 //! encoding_rs. They need no tables, and hold no memory.
 //!
-//! Where encoding_rs panics, since the room is not enough, these write nothing and return
-//! `SIZE_MAX`.
+//! If the room is too small, encoding_rs panics, and these write nothing and return `SIZE_MAX`.
 
 mod ascii;
 mod bidi;

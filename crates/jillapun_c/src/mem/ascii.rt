@@ -44,7 +44,7 @@ pub extern "C" fn encoding_iso_2022_jp_ascii_valid_up_to(buffer: &[u8]) -> usize
 }
 
 /// Copies the longest prefix of `src` that is ASCII to the start of `dst`, and returns its length
-/// in bytes. Room: as many bytes as `src` has; where `dst` is shorter, nothing is written and
+/// in bytes. Room: as many bytes as `src` has; if `dst` is shorter, nothing is written and
 /// `SIZE_MAX` is returned.
 #[unsafe(no_mangle)]
 pub extern "C" fn encoding_mem_copy_ascii_to_ascii(src: &[u8], dst: &mut [u8]) -> usize
@@ -60,7 +60,7 @@ pub extern "C" fn encoding_mem_copy_ascii_to_ascii(src: &[u8], dst: &mut [u8]) -
 }
 
 /// Copies the longest prefix of `src` that is ASCII to the start of `dst`, each byte as a unit of
-/// UTF-16, and returns its length. Room: as many units as `src` has bytes; where `dst` is shorter,
+/// UTF-16, and returns its length. Room: as many units as `src` has bytes; if `dst` is shorter,
 /// nothing is written and `SIZE_MAX` is returned.
 #[unsafe(no_mangle)]
 pub extern "C" fn encoding_mem_copy_ascii_to_basic_latin(src: &[u8], dst: &mut [u16]) -> usize
@@ -75,9 +75,9 @@ pub extern "C" fn encoding_mem_copy_ascii_to_basic_latin(src: &[u8], dst: &mut [
     encoding_mem::copy_ascii_to_basic_latin(src, dst)
 }
 
-/// Copies the longest prefix of `src` whose units of UTF-16 are below 80 hex to the start of `dst`,
-/// each as a byte, and returns its length. Room: as many bytes as `src` has units; where `dst` is
-/// shorter, nothing is written and `SIZE_MAX` is returned.
+/// Copies the longest prefix of `src` whose units of UTF-16 are below 80 hex to the start of
+/// `dst`, each as a byte, and returns its length. Room: as many bytes as `src` has units; if `dst`
+/// is shorter, nothing is written and `SIZE_MAX` is returned.
 #[unsafe(no_mangle)]
 pub extern "C" fn encoding_mem_copy_basic_latin_to_ascii(src: &[u16], dst: &mut [u8]) -> usize
     ensures prefix { length src.now ≤ length dst.old → IsLongestPrefix IsAscii src.now result }

@@ -70,9 +70,8 @@ fn code_of(answer: Latin1Bidi) -> u32
     }
 }
 
-/// `LATIN1` where `encoding_mem_is_utf8_latin1` holds of the bytes, `BIDI` where
-/// `encoding_mem_is_utf8_bidi` does, also where they are not well-formed, and else
-/// `LEFT_TO_RIGHT`.
+/// `LATIN1` if `encoding_mem_is_utf8_latin1` holds of the bytes, `BIDI` if
+/// `encoding_mem_is_utf8_bidi` does, also if they are not well-formed, and else `LEFT_TO_RIGHT`.
 #[unsafe(no_mangle)]
 pub extern "C" fn encoding_mem_check_utf8_for_latin1_and_bidi(buffer: &[u8]) -> u32
     ensures latin1 { (result ≡ LATIN1) ↔ IsLatin1Text buffer.now }
@@ -93,7 +92,7 @@ pub extern "C" fn encoding_mem_check_str_for_latin1_and_bidi(buffer: &[u8]) -> u
     code_of(encoding_mem::check_utf8_for_latin1_and_bidi(buffer))
 }
 
-/// `LATIN1` where `encoding_mem_is_utf16_latin1` holds of the units, `BIDI` where
+/// `LATIN1` if `encoding_mem_is_utf16_latin1` holds of the units, `BIDI` if
 /// `encoding_mem_is_utf16_bidi` does, and else `LEFT_TO_RIGHT`.
 #[unsafe(no_mangle)]
 pub extern "C" fn encoding_mem_check_utf16_for_latin1_and_bidi(buffer: &[u16]) -> u32

@@ -53,7 +53,7 @@ pub extern "C" fn encoding_mem_str_latin1_up_to(buffer: &[u8]) -> usize
 }
 
 /// Converts Latin1 to UTF-16 at the start of `dst`, a unit for each byte, and returns how many
-/// units were written. Room: as many units as `src` has bytes; where `dst` is shorter, nothing is
+/// units were written. Room: as many units as `src` has bytes; if `dst` is shorter, nothing is
 /// written and `SIZE_MAX` is returned.
 #[unsafe(no_mangle)]
 pub extern "C" fn encoding_mem_convert_latin1_to_utf16(src: &[u8], dst: &mut [u16]) -> usize
@@ -69,9 +69,9 @@ pub extern "C" fn encoding_mem_convert_latin1_to_utf16(src: &[u8], dst: &mut [u1
 }
 
 /// Takes the low eight bits of each unit of UTF-16, into the start of `dst`, and returns how many
-/// bytes were written. Where `encoding_mem_is_utf16_latin1` holds of `src`, that is its text in
-/// Latin1; else it is not. Room: as many bytes as `src` has units; where `dst` is shorter, nothing
-/// is written and `SIZE_MAX` is returned.
+/// bytes were written. If `encoding_mem_is_utf16_latin1` holds of `src`, that is its text in
+/// Latin1; else it is not. Room: as many bytes as `src` has units; if `dst` is shorter, nothing is
+/// written and `SIZE_MAX` is returned.
 #[unsafe(no_mangle)]
 pub extern "C" fn encoding_mem_convert_utf16_to_latin1_lossy(src: &[u16], dst: &mut [u8]) -> usize
     ensures count { length src.now ≤ length dst.old → result ≡ length src.now }
@@ -87,7 +87,7 @@ pub extern "C" fn encoding_mem_convert_utf16_to_latin1_lossy(src: &[u16], dst: &
 }
 
 /// Converts UTF-8 to Latin1 at the start of `dst`, a byte for each character, and returns how many
-/// bytes were written. Room: as many bytes as `src` has. Where `dst` is shorter, or
+/// bytes were written. Room: as many bytes as `src` has. If `dst` is shorter, or
 /// `encoding_mem_is_utf8_latin1` does not hold of `src`, nothing is written and `SIZE_MAX` is
 /// returned.
 #[unsafe(no_mangle)]
@@ -104,7 +104,7 @@ pub extern "C" fn encoding_mem_convert_utf8_to_latin1_lossy(src: &[u8], dst: &mu
 }
 
 /// Converts Latin1 to UTF-8 at the start of `dst`, and returns how many bytes were written. Room:
-/// twice as many bytes as `src` has; where `dst` is shorter, nothing is written and `SIZE_MAX` is
+/// twice as many bytes as `src` has; if `dst` is shorter, nothing is written and `SIZE_MAX` is
 /// returned.
 #[unsafe(no_mangle)]
 pub extern "C" fn encoding_mem_convert_latin1_to_utf8(src: &[u8], dst: &mut [u8]) -> usize
@@ -119,9 +119,9 @@ pub extern "C" fn encoding_mem_convert_latin1_to_utf8(src: &[u8], dst: &mut [u8]
 }
 
 /// Converts Latin1 to UTF-8 at the start of a text, which stays one, and returns how many bytes
-/// were written: where a character of `dst` is overwritten in part, its other bytes become 00.
-/// Room: twice as many bytes as `src` has. Where `dst` is shorter, or is not UTF-8 before the
-/// call, nothing is written and `SIZE_MAX` is returned.
+/// were written: if a character of `dst` is overwritten in part, its other bytes become 00. Room:
+/// twice as many bytes as `src` has. If `dst` is shorter, or is not UTF-8 before the call, nothing
+/// is written and `SIZE_MAX` is returned.
 #[unsafe(no_mangle)]
 pub extern "C" fn encoding_mem_convert_latin1_to_str(src: &[u8], dst: &mut [u8]) -> usize
     ensures converts { IsUtf8 dst.old → 2 * length src.now ≤ length dst.old

@@ -30,8 +30,8 @@ pub extern "C" fn jillapun_mem_convert_utf8_to_utf16_up_to_invalid(
     *written = units;
 }
 
-/// Converts the longest prefix of UTF-16 whose UTF-8 fits into `dst`. No pair is split; a surrogate
-/// in no pair of `src` becomes U+FFFD. `read` is in units, `written` in bytes.
+/// Converts the longest prefix of UTF-16 whose UTF-8 fits into `dst`. No pair is split; a
+/// surrogate in no pair of `src` becomes U+FFFD. `read` is in units, `written` in bytes.
 #[unsafe(no_mangle)]
 pub extern "C" fn jillapun_mem_convert_utf16_to_utf8_partial(
     src: &[u16],
@@ -69,11 +69,10 @@ pub extern "C" fn jillapun_mem_convert_latin1_to_utf8_partial(
     *written = more;
 }
 
-/// Converts the longest prefix of UTF-16 whose UTF-8 fits into a text, which stays one: where a
+/// Converts the longest prefix of UTF-16 whose UTF-8 fits into a text, which stays one: if a
 /// character of `dst` is overwritten in part, its other bytes become 00. No pair is split; a
 /// surrogate in no pair of `src` becomes U+FFFD. `read` is in units, `written` in bytes. Returns
-/// `OK`, or `NOT_UTF8` where `dst` is not UTF-8 before the call: then nothing is
-/// read or written.
+/// `OK`, or `NOT_UTF8` if `dst` is not UTF-8 before the call: then nothing is read or written.
 #[unsafe(no_mangle)]
 pub extern "C" fn jillapun_mem_convert_utf16_to_str_partial(
     src: &[u16],
@@ -100,10 +99,10 @@ pub extern "C" fn jillapun_mem_convert_utf16_to_str_partial(
     OK
 }
 
-/// Converts the longest prefix of Latin1 whose UTF-8 fits into a text, which stays one: where a
+/// Converts the longest prefix of Latin1 whose UTF-8 fits into a text, which stays one: if a
 /// character of `dst` is overwritten in part, its other bytes become 00. `read` and `written` are
-/// in bytes. Returns `OK`, or `NOT_UTF8` where `dst` is not UTF-8 before the
-/// call: then nothing is read or written.
+/// in bytes. Returns `OK`, or `NOT_UTF8` if `dst` is not UTF-8 before the call: then nothing is
+/// read or written.
 #[unsafe(no_mangle)]
 pub extern "C" fn jillapun_mem_convert_latin1_to_str_partial(
     src: &[u8],

@@ -29,7 +29,7 @@ pub extern "C" fn encoding_mem_ensure_utf16_validity(buffer: &mut [u16])
 }
 
 /// Converts UTF-16 to UTF-8 at the start of `dst`, with U+FFFD for each surrogate in no pair, and
-/// returns how many bytes were written. Room: three bytes for each unit of `src`; where `dst` is
+/// returns how many bytes were written. Room: three bytes for each unit of `src`; if `dst` is
 /// shorter, nothing is written and `SIZE_MAX` is returned.
 #[unsafe(no_mangle)]
 pub extern "C" fn encoding_mem_convert_utf16_to_utf8(src: &[u16], dst: &mut [u8]) -> usize
@@ -44,8 +44,8 @@ pub extern "C" fn encoding_mem_convert_utf16_to_utf8(src: &[u16], dst: &mut [u8]
 }
 
 /// Converts UTF-16 to UTF-8 at the start of a text, which stays one, with U+FFFD for each
-/// surrogate in no pair, and returns how many bytes were written: where a character of `dst` is
-/// overwritten in part, its other bytes become 00. Room: three bytes for each unit of `src`. Where
+/// surrogate in no pair, and returns how many bytes were written: if a character of `dst` is
+/// overwritten in part, its other bytes become 00. Room: three bytes for each unit of `src`. If
 /// `dst` is shorter, or is not UTF-8 before the call, nothing is written and `SIZE_MAX` is
 /// returned.
 #[unsafe(no_mangle)]

@@ -28,7 +28,7 @@ pub(crate) fn is_text(bytes: &[u8]) -> bool
 }
 
 /// Converts UTF-8 to UTF-16 at the start of `dst`, with U+FFFD for each malformed sequence, and
-/// returns how many units were written. Room: one unit more than `src` has bytes; where `dst` is
+/// returns how many units were written. Room: one unit more than `src` has bytes; if `dst` is
 /// shorter, nothing is written and `SIZE_MAX` is returned.
 #[unsafe(no_mangle)]
 pub extern "C" fn encoding_mem_convert_utf8_to_utf16(src: &[u8], dst: &mut [u16]) -> usize
@@ -43,9 +43,9 @@ pub extern "C" fn encoding_mem_convert_utf8_to_utf16(src: &[u8], dst: &mut [u16]
 }
 
 /// Converts UTF-8 to UTF-16 at the start of `dst`, and returns how many units were written. Room:
-/// as many units as `src` has bytes; where `dst` is shorter, nothing is written and `SIZE_MAX` is
-/// returned. Where `src` is not well-formed, `SIZE_MAX` is returned, too, and `dst` begins with
-/// the text before the first malformed sequence.
+/// as many units as `src` has bytes; if `dst` is shorter, nothing is written and `SIZE_MAX` is
+/// returned. If `src` is not well-formed, `SIZE_MAX` is returned, too, and `dst` begins with the
+/// text before the first malformed sequence.
 #[unsafe(no_mangle)]
 pub extern "C" fn encoding_mem_convert_utf8_to_utf16_without_replacement(
     src: &[u8],
