@@ -65,9 +65,9 @@ def change_lines(lines, target, place):
     return changes
 
 
-def edits_of_file(path):
-    """The edits of one file of either form, in its order."""
-    base, ending = os.path.splitext(os.path.basename(path))
+def edits_of_file(path, folder):
+    """The edits of one file of either form, in its order. Below the folder of edits it stands as its source below `src/`."""
+    base, ending = os.path.splitext(os.path.relpath(path, folder))
     if ending == ".edit":
         return [Edit(base, change_lines(read(path).rstrip("\n").split("\n"), None, path))]
     edits = []
@@ -83,6 +83,6 @@ def edits_of_file(path):
 def edits_of(crate, folder):
     """The edits in a folder of a crate, by their names."""
     place = os.path.join(CRATES, crate, folder)
-    names = sorted(os.listdir(place)) if os.path.isdir(place) else []
-    paths = [os.path.join(place, name) for name in names if name.endswith((".edit", ".edits"))]
-    return sorted((edit for path in paths for edit in edits_of_file(path)), key=lambda edit: edit.name)
+    paths = sorted(os.path.join(below, name) for below, _, names in os.walk(place) for name in names)
+    edits = (edit for path in paths if path.endswith((".edit", ".edits")) for edit in edits_of_file(path, place))
+    return sorted(edits, key=lambda edit: edit.name)
