@@ -14,9 +14,10 @@
  * structs are aligned as their type needs. Memory that a call writes to need not be initialised,
  * except a handle, and a text (`_to_str`). A `bool` is 0 or 1.
  *
- * Handles. A handle, a struct with members that begin with `private_`, begins as `{0}`, is filled
- * by a function with `_new` in its name and emptied by one with `_free`. Never copy a handle, and
- * never look into one. Two threads may use two handles, but not one at once.
+ * Handles. A handle, a struct with members that begin with `private_`, begins as `{0}` (in C++, as
+ * `{}`), is filled by a function with `_new` in its name and emptied by one with `_free`. It is not
+ * copied, unless its type says that it may be, and its members are left alone. Two threads may use
+ * two handles at once, but not the same one, unless its type says that they may.
  *
  * If a function that returns a length can't do what is asked for, it returns SIZE_MAX.
  *

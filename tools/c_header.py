@@ -9,7 +9,6 @@ written. `make lint` calls `faults`: a header that is not what this script write
 """
 
 import functools
-import itertools
 import os
 import re
 import sys
@@ -67,9 +66,10 @@ HEAD = """/*
  * structs are aligned as their type needs. Memory that a call writes to need not be initialised,
  * except a handle, and a text (`_to_str`). A `bool` is 0 or 1.
  *
- * Handles. A handle, a struct with members that begin with `private_`, begins as `{0}`, is filled
- * by a function with `_new` in its name and emptied by one with `_free`. Never copy a handle, and
- * never look into one. Two threads may use two handles, but not one at once.
+ * Handles. A handle, a struct with members that begin with `private_`, begins as `{0}` (in C++, as
+ * `{}`), is filled by a function with `_new` in its name and emptied by one with `_free`. It is not
+ * copied, unless its type says that it may be, and its members are left alone. Two threads may use
+ * two handles at once, but not the same one, unless its type says that they may.
  *
  * If a function that returns a length can't do what is asked for, it returns SIZE_MAX.
  *
@@ -120,19 +120,30 @@ def named(line):
 
 
 def paragraphs(lines):
-    """The lines of a doc comment, broken anew where a name has made one too long."""
-    for is_empty, group in itertools.groupby(map(named, lines), lambda line: not line):
-        group = list(group)
-        if not is_empty and any(len(line) > WIDTH for line in group):
-            group = textwrap.wrap(" ".join(group), WIDTH, break_long_words=False, break_on_hyphens=False)
-        yield from group
+    """The paragraphs of a doc comment, each with its lines. An item of a list, which begins with "- ", is one by itself."""
+    found = []
+    for line in map(named, lines):
+        if not found or not line or not found[-1][-1] or line.startswith("- "):
+            found.append([])
+        found[-1].append(line)
+    return found
+
+
+def fitted(lines):
+    """The lines of a doc comment. A paragraph is broken anew if a name has made a line too long."""
+    for paragraph in paragraphs(lines):
+        if any(len(line) > WIDTH for line in paragraph):
+            inset = "  " if paragraph[0].startswith("- ") else ""
+            text = " ".join(line.strip() for line in paragraph)
+            paragraph = textwrap.wrap(text, WIDTH, subsequent_indent=inset, break_long_words=False, break_on_hyphens=False)
+        yield from paragraph
 
 
 def comment(lines, inset=""):
     """A doc comment in C."""
     if not lines:
         return []
-    lines = list(paragraphs(lines))
+    lines = list(fitted(lines))
     if len(lines) == 1 and len(inset) + len(lines[0]) + 7 <= COLUMNS:
         return ["%s/** %s */" % (inset, lines[0])]
     return [inset + "/**", *((inset + " * " + line).rstrip() for line in lines), inset + " */"]
@@ -179,7 +190,8 @@ class Struct:
             field = FIELD.fullmatch(line)
             if field and not field[2] and field[4] != "Global":
                 doc = above([line.strip() for line in lines], index)[0]
-                self.fields.append((doc, field[3] if field[1] else "private_" + field[3], field[4]))
+                is_open_to_c = field[1] and not field[4].endswith("Handle")
+                self.fields.append((doc, field[3] if is_open_to_c else "private_" + field[3], field[4]))
 
 
 class Module:

@@ -9,7 +9,7 @@ by the checks that `CHECKS` lists: what must come of a call is worked out by Pyt
 If there is a C compiler (`CC`, or cc), it and a C++ compiler (`CXX`, or c++) read the header with all warnings, and each
 NAME.c of docs/examples/c is compiled, linked with the archive and with the shared library, and once more with the
 sanitizers if the compiler has them. Run in the top folder on NAME.in with the words of NAME.args, if these are there, it must
-write NAME.out. Then all is packed as `make dist` does, unpacked, and a program is built from what pkg-config says of it.
+write NAME.out, and NAME.err to standard error. Then all is packed as `make dist` does, unpacked, and a program is built from what pkg-config says of it.
 What was left out is said. The status is 1 if something was wrong.
 """
 
@@ -24,6 +24,7 @@ sys.dont_write_bytecode = True
 import c_library
 import c_loaded
 import c_mem
+import c_streams
 import install
 
 TOP = os.path.abspath(os.path.join(os.path.dirname(os.path.abspath(__file__)), ".."))
@@ -31,7 +32,7 @@ EXAMPLES = os.path.join(TOP, "docs", "examples", "c")
 INCLUDE = os.path.join(TOP, "include")
 
 # The calls of each part of the library, and what they say is wrong.
-CHECKS = [c_mem.faults]
+CHECKS = [c_mem.faults, c_streams.faults]
 
 WARNINGS = ["-Wall", "-Wextra", "-pedantic", "-Werror"]
 SANITIZERS = ["-g", "-fsanitize=address,undefined", "-fno-sanitize-recover=all"]
@@ -125,7 +126,7 @@ def examples(archive, shared, folder):
                 yield "%s.c with %s: %s" % (name, how, said)
                 continue
             ran = run([program, *words], input=read(path + ".in"))
-            if (ran.returncode, ran.stdout) != (0, read(path + ".out")):
+            if (ran.returncode, ran.stdout, ran.stderr) != (0, read(path + ".out"), read(path + ".err")):
                 yield "%s.c with %s: status %d, %r, %r" % (name, how, ran.returncode, ran.stdout, ran.stderr[-2000:])
         print("example: %s.c, with %s" % (name, ", ".join(how for how, _ in ways)))
 

@@ -52,6 +52,15 @@ class Loaded:
             self.structs[it] = type(it, (ctypes.Structure,), {"_fields_": fields})
         return self.structs[it]
 
+    def struct(self, name):
+        """A struct, by its name in the source."""
+        return self.kind(name)
+
+    @staticmethod
+    def fill(field, data):
+        """Puts bytes into a slice of a struct. They must live as long as it is used."""
+        field.at, field.len = ctypes.cast(ctypes.c_char_p(data), ctypes.c_void_p), len(data)
+
     def __getattr__(self, name):
         function, kinds = self.exports[name]
 
@@ -76,4 +85,4 @@ class Loaded:
             return room, ctypes.c_size_t(len(value))
         if kind.startswith("&"):
             return (ctypes.byref(value),)
-        return (self.kind(kind)(value),)
+        return (self.kind(kind)(value) if kind in NUMBERS else value,)

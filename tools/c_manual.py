@@ -32,12 +32,16 @@ def verbatim(lines):
 
 
 def said(lines):
-    """A doc comment: its paragraphs, and between them what is set in further."""
-    lines = [c_header.named(line) for line in lines]
-    text = []
-    for line in lines:
-        text += [".sp"] if not line else [".br", roff(line.strip())] if line.startswith(" ") else [roff(line)]
-    return text
+    """A doc comment: its paragraphs, and the items of its lists."""
+    text, had_item = [], False
+    for paragraph in c_header.paragraphs(lines):
+        words, is_item = " ".join(line.strip() for line in paragraph), paragraph[0].startswith("- ")
+        if is_item:
+            text += [".RS"] * (not had_item) + ['.IP "\\(bu" 2', roff(words[2:])]
+        else:
+            text += [".RE", ".IP"] * had_item + ([roff(words)] if words else [".sp"] * (not had_item))
+        had_item = is_item
+    return text + [".RE"] * had_item
 
 
 def rules():
