@@ -78,11 +78,15 @@ enum {
     JILLAPUN_NOT_UTF8 = 9,
     /** The room is too small, and the report says how much is wanted. Nothing was written. */
     JILLAPUN_ROOM = 10,
+    /** A read, a write or a line of the log failed, and the report says of which descriptor. */
+    JILLAPUN_FAULT = 11,
     /**
-     * A read, a write or a line of the log failed, the input is too long, or the policy stopped at
-     * a lost character.
+     * The policy is `JILLAPUN_STOP`, and a character has no bytes in the output encoding: the
+     * report names it. All that stands before it was converted.
      */
-    JILLAPUN_FAULT = 11
+    JILLAPUN_STOPPED = 12,
+    /** The input has more bytes than the limit. */
+    JILLAPUN_TOO_LONG = 13
 };
 
 /* The outcome of a call of a decoder or an encoder. */
@@ -133,6 +137,16 @@ enum {
     JILLAPUN_LEFT_TO_RIGHT = 1,
     /** Some character may be written from right to left, or the bytes are not UTF-8. */
     JILLAPUN_BIDI = 2
+};
+
+/* The descriptor that a fault is of. */
+enum {
+    /** The input, from which nothing more could be read. */
+    JILLAPUN_INPUT = 1,
+    /** The output, to which nothing more could be written. */
+    JILLAPUN_OUTPUT = 2,
+    /** The log, to which nothing more could be written. */
+    JILLAPUN_LOG = 3
 };
 
 /* What stands where there is no number. */
@@ -230,6 +244,214 @@ enum {
     /** x-user-defined (section 14.5). */
     JILLAPUN_X_USER_DEFINED = 39
 };
+
+/** So many bytes from an address on. It is not NULL. */
+typedef struct {
+    const uint8_t *at;
+    size_t len;
+} jillapun_bytes;
+
+/**
+ * Tables of indexes, loaded by `jillapun_tables_new`. Begin with `{0}`, which holds no tables.
+ *
+ * The tables live as long as the process, and are never changed. So a copy of this is as good
+ * as this, and any number of threads may use the same tables at once.
+ */
+typedef struct {
+    const void *private_at;
+    bool private_is_open;
+} jillapun_tables;
+
+/** The text of an index, with the name of its file. */
+typedef struct {
+    /** The name, in ASCII, as `index-jis0208.txt`, without a folder. */
+    jillapun_bytes name;
+    /** The bytes of the file. */
+    jillapun_bytes text;
+} jillapun_index_file;
+
+/** Why an index file was not loaded. */
+typedef struct {
+    /** Which of the files, counted from 0. */
+    size_t file;
+    /** The line of its text, counted from 1; 0 where the fault is in no line alone. */
+    size_t line;
+} jillapun_index_fault;
+
+/** A malformed sequence of the input, or a character that the output encoding has no bytes for. */
+typedef struct {
+    /**
+     * Of a malformed sequence, its offset in bytes from the start of the input. Of a character, how
+     * many characters of the text stand before it.
+     */
+    uint64_t place;
+    /**
+     * Of a malformed sequence, its length in bytes, 1 to 4. Of a character, its code point, or FFFD
+     * where ISO-2022-JP refuses a control.
+     */
+    uint32_t number;
+    /** `JILLAPUN_BAD` for a malformed sequence, `JILLAPUN_LOST` for a character. */
+    uint8_t kind;
+} jillapun_loss;
+
+/** What a conversion reports beside its status. */
+typedef struct {
+    /**
+     * The bytes of the input. Told at `JILLAPUN_OK` and `JILLAPUN_LOSSY`, as the two counts that
+     * follow, and else 0.
+     */
+    uint64_t read;
+    /** The malformed sequences of the input. */
+    uint64_t bad;
+    /** The characters of the text that the output encoding has no bytes for. */
+    uint64_t lost;
+    /**
+     * The bytes of the output, in memory: so many stand at the start of `dst`, or, at
+     * `JILLAPUN_ROOM`, so many are wanted. 0 where nothing was written.
+     */
+    uint64_t written;
+    /**
+     * The records of losses, in memory: so many stand at the start of `losses`, or, at
+     * `JILLAPUN_ROOM`, so many are wanted. 0 where nothing was written.
+     */
+    uint64_t losses;
+    /** At `JILLAPUN_STOPPED`, how many characters of the text stand before the lost one. Else 0. */
+    uint64_t index;
+    /**
+     * At `JILLAPUN_STOPPED`, the code point of the lost character, or FFFD where ISO-2022-JP
+     * refuses a control. Else 0.
+     */
+    uint32_t scalar;
+    /**
+     * At `JILLAPUN_FAULT`, the descriptor that failed: `JILLAPUN_INPUT`, `JILLAPUN_OUTPUT` or
+     * `JILLAPUN_LOG`. Else 0.
+     */
+    uint8_t fault;
+} jillapun_report;
+
+/* The exports on encodings: found by a label or a mark, and what is told of each. An encoding
+   crosses as its number, from 0 to 39, in the order of the names. */
+
+/**
+ * The number of the encoding that has this label, or `JILLAPUN_NO_ENCODING` where no encoding
+ * has it ("get an encoding" of the Encoding Standard, section 4.2). White space at both ends
+ * (the bytes 09, 0A, 0C, 0D and 20) and the case of ASCII letters do not matter.
+ */
+uint8_t jillapun_for_label(const uint8_t *label, size_t label_len);
+
+/**
+ * The number of the encoding whose byte order mark stands at the start of `bytes`, and in
+ * `length` the length of the mark in bytes; `JILLAPUN_NO_ENCODING` and 0 where there is none
+ * ("BOM sniff" of the Encoding Standard, section 6). The marks are EF BB BF of UTF-8, FE FF of
+ * UTF-16BE and FF FE of UTF-16LE.
+ */
+uint8_t jillapun_for_bom(const uint8_t *bytes, size_t bytes_len, size_t *length);
+
+/**
+ * Writes the name of an encoding at the start of `name`, as the Encoding Standard writes it
+ * (section 4.2): `Shift_JIS`. Returns its length in bytes; at most 14. Where no encoding has
+ * the number, or `name` is shorter than that, nothing is written and `SIZE_MAX` is returned.
+ */
+size_t jillapun_name(uint8_t encoding, uint8_t *name, size_t name_len);
+
+/**
+ * The number of the encoding in which text is written that is asked for in this one ("get an
+ * output encoding" of the Encoding Standard, section 4.3): UTF-8 for UTF-16BE, UTF-16LE and
+ * replacement, and the encoding itself for all others. `JILLAPUN_NO_ENCODING` where no encoding
+ * has the number.
+ */
+uint8_t jillapun_output_encoding(uint8_t encoding);
+
+/**
+ * Writes the name of the file of the index with this place, from 0 on, among those that an
+ * encoding needs, as `index-jis0208.txt`, at the start of `name`. Returns its length in bytes;
+ * at most 30. Where the encoding needs no further index, no encoding has the number, or `name`
+ * is shorter than that, nothing is written and `SIZE_MAX` is returned.
+ */
+size_t jillapun_needs(uint8_t encoding, size_t place, uint8_t *name, size_t name_len);
+
+/**
+ * Whether tables hold all indexes that an encoding needs: returns `JILLAPUN_OK`;
+ * `JILLAPUN_NOT_READY`, one is missing; `JILLAPUN_UNKNOWN`, no encoding has the number;
+ * `JILLAPUN_CLOSED`, there are no tables. UTF-8, UTF-16BE, UTF-16LE, replacement and
+ * x-user-defined need none.
+ */
+uint8_t jillapun_tables_is_ready(jillapun_tables tables, uint8_t encoding);
+
+/* The exports that load tables. */
+
+/**
+ * Loads index files, each as the index of its name, in any order: those of the encodings that
+ * will be used, or all that the Encoding Standard publishes. The texts are not needed after the
+ * call.
+ *
+ * Returns `JILLAPUN_OK`, and `out` holds the tables. On an error `out` is as it was, and
+ * `fault` says which file it is: `JILLAPUN_UNKNOWN`, no index has a file of that name;
+ * `JILLAPUN_BAD_INDEX`, the text has a fault, or the index was loaded already;
+ * `JILLAPUN_NO_MEMORY`, memory was refused, and the call can be made again.
+ *
+ * The tables are never freed, so that they can be shared by all threads: load them once.
+ */
+uint8_t jillapun_tables_new(const jillapun_index_file *files, size_t files_len,
+    jillapun_tables *out, jillapun_index_fault *fault);
+
+/* Conversions from memory to memory. */
+
+/**
+ * Converts a text in memory: the bytes of `src`, from the encoding with the number `from` to
+ * the output encoding of that with the number `to`, at the start of `dst`, with a record of
+ * each loss at the start of `losses`, in the order of the text. The rest of both stays as it
+ * was.
+ *
+ * `mark` says what becomes of a byte order mark at the start (`JILLAPUN_SNIFF`,
+ * `JILLAPUN_REMOVE`, `JILLAPUN_KEEP`), `policy` what is written for a character without bytes
+ * (`JILLAPUN_DECIMAL`, `JILLAPUN_HEXADECIMAL`, `JILLAPUN_STOP`), and `limit` how many bytes the
+ * input may have: 2^48 where it is more. Any number of threads may call at once, over the same
+ * tables.
+ *
+ * - `JILLAPUN_OK`: nothing was malformed, and the output, read again, is the text of the input.
+ * - `JILLAPUN_LOSSY`: all was converted, and something was lost. `losses` may be empty even so:
+ *   some encodings write a character as bytes that read back as another.
+ * - `JILLAPUN_ROOM`: `written` bytes and `losses` records are wanted; nothing was written. Call
+ *   again.
+ * - `JILLAPUN_STOPPED`: the policy is `JILLAPUN_STOP`, and the character that has no bytes is
+ *   in the report. What is before it was converted, and its record is the last.
+ * - `JILLAPUN_TOO_LONG`: `src` is longer than the limit. `JILLAPUN_NO_MEMORY`: memory was
+ *   refused.
+ * - `JILLAPUN_UNKNOWN`: a number stands for nothing. `JILLAPUN_NOT_READY`: an index that one of
+ *   the encodings needs is not in the tables. `JILLAPUN_CLOSED`: the handle has no tables.
+ *
+ * It takes memory for the output and the records from the heap, and frees it before it returns.
+ */
+uint8_t jillapun_convert(jillapun_tables tables, uint8_t from, uint8_t to, uint8_t mark,
+    uint8_t policy, uint64_t limit, const uint8_t *src, size_t src_len, uint8_t *dst,
+    size_t dst_len, jillapun_loss *losses, size_t losses_len, jillapun_report *report);
+
+/* Conversions from a file descriptor to others. */
+
+/**
+ * Converts what the file descriptor `input` gives, to its end, from the encoding with the
+ * number `from` to the output encoding of that with the number `to`, to the descriptor
+ * `output`. What is lost is written to the descriptor `log`, a line each, as it is found:
+ * `bad`, the offset in bytes and the length of a malformed sequence, or `lost`, how many
+ * characters stand before a character without bytes, and its code point, in decimal. `mark`,
+ * `policy` and `limit`, in bytes, are as for `jillapun_convert`.
+ *
+ * It keeps some 16 KiB on the stack and takes no memory, whatever the length of the input. A
+ * read or a write that is interrupted by a signal is one that fails. It closes nothing.
+ *
+ * - `JILLAPUN_OK`, `JILLAPUN_LOSSY`: all was converted and written; `read`, `bad` and `lost`
+ *   are reported. At `JILLAPUN_OK` nothing was malformed, and the output, read again, is the
+ *   text of the input.
+ * - `JILLAPUN_STOPPED`: the policy is `JILLAPUN_STOP`; all before the character was written,
+ *   and its line.
+ * - `JILLAPUN_TOO_LONG`: the input has more bytes than the limit. `JILLAPUN_FAULT`: a call of
+ *   the system failed. All that was written is the beginning of what is right.
+ * - `JILLAPUN_UNKNOWN`, `JILLAPUN_NOT_READY`, `JILLAPUN_CLOSED`: nothing was read.
+ */
+uint8_t jillapun_convert_descriptors(jillapun_tables tables, uint8_t from, uint8_t to, uint8_t mark,
+    uint8_t policy, uint64_t limit, int32_t input, int32_t output, int32_t log,
+    jillapun_report *report);
 
 /* ASCII, in bytes and in units of UTF-16: checks, and copies of the ASCII at the start. */
 

@@ -352,6 +352,21 @@ def lists_of_files():
     return lines + array("ENCODINGS", "Encoding", names, "pub(crate) ")
 
 
+def lists_for_c():
+    lines = [
+        "//! The encodings and the kinds of index, in the order of their numbers.",
+        "",
+        "use encoding_front::Encoding;",
+        "use encoding_tables::IndexKind;",
+        "",
+        "/// The encodings.",
+    ]
+    encodings = ["Encoding::" + variant(row["name"]) for row in ENCODINGS]
+    kinds = ["IndexKind::" + kind for kind in KINDS]
+    lines += array("ENCODINGS", "Encoding", encodings, "pub(crate) ") + ["", "/// The kinds of index."]
+    return lines + array("KINDS", "IndexKind", kinds, "pub(crate) ")
+
+
 def empty_conversions():
     return ["# No bytes, from each encoding to each.", "nothing " + " ".join(row["name"].lower() for row in ENCODINGS)]
 
@@ -397,6 +412,7 @@ WHOLE = {
     "encoding_front/src/constants.rt": constants,
     "encoding_front/specs/examples/Constants.antt": worked_constants,
     "encoding_index_files/src/lists.rt": lists_of_files,
+    "jillapun_c/src/lists.rt": lists_for_c,
     "recode/src/listing.rt": listing,
     "recode_cases/data/nothing.txt": empty_conversions,
 }

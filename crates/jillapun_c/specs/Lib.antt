@@ -1,2 +1,9 @@
 -- What the contracts of the exports speak of.
+pub mod Asked
+pub mod Conversions
+pub mod EncodingNumbers
+pub mod IndexFiles
+pub mod Losses
+pub mod Ownership
 pub mod Room
+pub mod Streams

@@ -6,5 +6,25 @@
 //! export tests it, and returns a status (`status`) or `SIZE_MAX`.
 #![tactic(auto)]
 
+mod coder;
+mod convert;
+mod descriptor;
+mod descriptors;
+mod encoding;
+mod encoding_number;
+mod handle;
+mod in_memory;
+mod index_files;
+mod lists;
+mod loose;
+mod losses;
 mod mem;
+mod report;
+mod request;
+mod run;
 pub mod status;
+mod tables;
+mod tables_handle;
+
+pub use losses::Loss;
+pub use report::Report;

@@ -25,9 +25,13 @@ pub const FINISHED: u8 = 8;
 pub const NOT_UTF8: u8 = 9;
 /// The room is too small, and the report says how much is wanted. Nothing was written.
 pub const ROOM: u8 = 10;
-/// A read, a write or a line of the log failed, the input is too long, or the policy stopped at a
-/// lost character.
+/// A read, a write or a line of the log failed, and the report says of which descriptor.
 pub const FAULT: u8 = 11;
+/// The policy is `STOP`, and a character has no bytes in the output encoding: the report names it.
+/// All that stands before it was converted.
+pub const STOPPED: u8 = 12;
+/// The input has more bytes than the limit.
+pub const TOO_LONG: u8 = 13;
 
 // The outcome of a call of a decoder or an encoder.
 
@@ -73,6 +77,15 @@ pub const LATIN1: u32 = 0;
 pub const LEFT_TO_RIGHT: u32 = 1;
 /// Some character may be written from right to left, or the bytes are not UTF-8.
 pub const BIDI: u32 = 2;
+
+// The descriptor that a fault is of.
+
+/// The input, from which nothing more could be read.
+pub const INPUT: u8 = 1;
+/// The output, to which nothing more could be written.
+pub const OUTPUT: u8 = 2;
+/// The log, to which nothing more could be written.
+pub const LOG: u8 = 3;
 
 // What stands where there is no number.
 

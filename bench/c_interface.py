@@ -1,0 +1,157 @@
+#!/usr/bin/env python3
+"""Measures the library for C: see docs/PERFORMANCE.md.
+
+    python3 bench/c_interface.py [--rounds N] [--megabytes N] [--write] [WORD..]
+
+`jillapun_convert` from memory to memory, called through the Python package, beside `recode` and, where cargo and the crate
+are there, a program over encoding_rs, on the inputs of `programs.py`; and texts of 20 bytes beside Python's own codecs.
+It wants `recode` built (`make build`) and the library (`make c`, or JILLAPUN_LIBRARY). With words it measures the
+workloads that have one of them in their names.
+
+What counts is processor time: of the calling thread for a call, of a whole run for a program, which reads its input and
+its indexes and writes to /dev/null. Rounds of two sides take turns, and a ratio is the median of the ratios of neighbours,
+with its quartiles; one whose quartiles are more than a tenth apart has a `~`. With --write the tables go into
+docs/PERFORMANCE.md.
+"""
+
+import argparse
+import ctypes
+import os
+import statistics
+import sys
+import tempfile
+import time
+
+HERE = os.path.dirname(os.path.abspath(__file__))
+sys.path[:0] = [HERE, os.path.join(HERE, "..", "python")]
+os.environ.setdefault("JILLAPUN_INDEXES", os.path.join(HERE, "..", "indexes"))
+
+import jillapun
+import programs
+from jillapun import _library as library
+from jillapun._indexes import handle_of, number_of
+
+PAGE = os.path.join(HERE, "..", "docs", "PERFORMANCE.md")
+
+# Texts of 20 bytes: what they are, the text, the label and Python's codec.
+SHORT = [
+    ("ASCII, UTF-8", "twenty bytes of text", "utf-8", "utf-8"),
+    ("Japanese, UTF-8", "日本語テキスa ", "utf-8", "utf-8"),
+    ("Western, windows-1252", "vingt octets déjà là", "windows-1252", "cp1252"),
+    ("Japanese, Shift_JIS", "日本語のテキスト十字", "shift_jis", "cp932"),
+    ("Chinese, gb18030", "二十个字节的中文文本", "gb18030", "gb18030"),
+]
+
+
+class Call:
+    """`jillapun_convert` on one input, into memory that is there already."""
+
+    def __init__(self, data, source, target):
+        size = 3 * len(data) + 64
+        self.room, self.losses, self.report = ctypes.create_string_buffer(size), (library.Loss * 16)(), library.Report()
+        words = number_of(source), number_of(target), library.MARKS["keep"], library.POLICIES["decimal"]
+        self.words = (handle_of(None), *words, library.NO_LIMIT, data, len(data), self.room, size, self.losses, 16)
+
+    def made(self):
+        status = library.library.jillapun_convert(*self.words, ctypes.byref(self.report))
+        if status not in (library.OK, library.LOSSY):
+            sys.exit("status %d" % status)
+        return self.room.raw[: self.report.written]
+
+    def spent(self):
+        start = time.thread_time()
+        library.library.jillapun_convert(*self.words, ctypes.byref(self.report))
+        return time.thread_time() - start
+
+
+def compared(ours, theirs, rounds):
+    """How many times as fast ours is, and the median time of each."""
+    ratios, own, other = [], [], []
+    before = theirs()
+    for _ in range(rounds):
+        spent = ours()
+        after = theirs()
+        ratios.append((before + after) / 2 / spent)
+        own.append(spent)
+        other.append(after)
+        before = after
+    return programs.Ratio(ratios), statistics.median(own), statistics.median(other)
+
+
+def whole_rows(given, work):
+    texts, other = dict(programs.texts()), programs.peer(work)
+    for title, name, source, target in programs.chosen(given.words):
+        codec = programs.PYTHON.get(source, source)
+        path = programs.write_input(work, texts[name].encode(codec), given.megabytes)
+        with open(path, "rb") as file:
+            data = file.read()
+        call, size = Call(data, source, target), len(data) / 1e6
+        commands = [programs.recode(given.program, source, target)] + ([[other, source, target]] if other else [])
+        made = call.made()
+        cells = [title]
+        for command in commands:
+            target_path = os.path.join(work, "output")
+            programs.run(command, path, target_path)
+            with open(target_path, "rb") as file:
+                if file.read() != made:
+                    cells[0] += " (differs)"
+            ratio, own, theirs = compared(call.spent, lambda: programs.run(command, path, os.devnull)[0], given.rounds)
+            cells += ([] if len(cells) > 1 else ["%.0f" % (size / own)]) + ["%.0f" % (size / theirs), str(ratio)]
+        yield cells
+
+
+def timed(work, count):
+    """The processor time of each of some calls, in microseconds."""
+    start = time.thread_time()
+    for _ in range(count):
+        work()
+    return (time.thread_time() - start) / count * 1e6
+
+
+def short_rows(given):
+    count = 3000
+    for title, text, label, codec in SHORT:
+        data = text.encode(codec)
+        assert jillapun.decode(data, label).text == text and jillapun.encode(text, label).data == data, title
+        call = Call(data, label, "utf-8")
+        pairs = [
+            (lambda: jillapun.decode(data, label), lambda: data.decode(codec, "replace")),
+            (lambda: jillapun.encode(text, label), lambda: text.encode(codec, "xmlcharrefreplace")),
+        ]
+        cells = [title]
+        for ours, theirs in pairs:
+            _, own, other = compared(lambda: timed(ours, count), lambda: timed(theirs, count), given.rounds)
+            cells += ["%.1f" % own, "%.1f" % other]
+        cells.append("%.1f" % statistics.median(timed(call.spent, count) for _ in range(given.rounds)))
+        yield cells
+
+
+def shown(rows):
+    for cells in rows:
+        print(" | ".join(cells), flush=True)
+        yield cells
+
+
+def main():
+    parser = argparse.ArgumentParser(description=__doc__, formatter_class=argparse.RawDescriptionHelpFormatter)
+    parser.add_argument("--rounds", type=int, default=15)
+    parser.add_argument("--megabytes", type=int, default=8)
+    parser.add_argument("--program", default=programs.RECODE)
+    parser.add_argument("--write", action="store_true")
+    parser.add_argument("words", nargs="*")
+    given = parser.parse_args()
+    given.linear = False
+    about = programs.machine(given)
+    print(about, flush=True)
+    with tempfile.TemporaryDirectory(dir="/dev/shm" if os.path.isdir("/dev/shm") else None) as work:
+        whole = list(shown(whole_rows(given, work)))
+    short = list(shown(short_rows(given)))
+    if given.write:
+        head = ["Workload", "`jillapun_convert`", "recode", "to recode", "encoding_rs", "to encoding_rs"]
+        programs.write(PAGE, "c interface", about + "\n\n" + programs.table(head[: len(whole[0])], whole))
+        head = ["20 bytes", "`jillapun.decode`", "Python", "`jillapun.encode`", "Python", "`jillapun_convert` alone"]
+        programs.write(PAGE, "short texts", programs.table(head, short))
+
+
+if __name__ == "__main__":
+    sys.exit(main())

@@ -1,0 +1,6 @@
+-- The lemmas.
+mod EncodingNumberLemmas
+mod IndexFileLemmas
+mod Openings
+mod Walks
+mod Words

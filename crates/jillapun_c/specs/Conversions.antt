@@ -1,0 +1,73 @@
+-- What a conversion leaves, by its status.
+use Rattle.std.specs.Prelude.{◌≡◌, ◌<◌, ◌⊎◌, ℕ, List, [], ◌∷◌, drop, length, take, true, false}
+use Rattle.encoding_mem.specs.Piece.{malformed_count}
+use Rattle.encoding_mem.specs.Coding.{lost_count}
+use Rattle.recode_log.specs.declared.line.LogLine.TheVariants.{Lost}
+use Rattle.recode.specs.Job.{Faithful, input_pieces, input_text, log_of, lost_log_lines, output_of, target_of}
+use Rattle.recode.specs.declared.job.Fault.{Fault}
+use Rattle.recode.specs.declared.job.Fault.TheVariants as TheFault
+use Rattle.recode.specs.declared.job.Job.{Job}
+use Rattle.recode.specs.declared.job.Policy.{Policy}
+use Rattle.recode.specs.declared.job.Report.{Report as RunReport}
+use Rattle.jillapun_c.specs.Losses.{log_of_losses}
+use Rattle.jillapun_c.specs.declared.losses.Loss.{Loss}
+use Rattle.jillapun_c.specs.declared.report.Report.{Report}
+
+-- some bytes and some records are what a job makes of an input: all, or, where its policy stops, all up to there
+pub record IsMadeOf (j : Job) (input output : List ℕ) (losses : List Loss) : Type 0 where
+  pub is_output : output ≡ output_of j input
+  pub is_log : log_of_losses losses ≡ log_of j input
+
+-- the counts that are reported are those of the input
+pub record AreCountsOf (j : Job) (input : List ℕ) (report : Report) : Type 0 where
+  pub read : report.read ≡ length input
+  pub bad : report.bad ≡ malformed_count (input_pieces j input)
+  pub lost : report.lost ≡ lost_count (target_of j) (input_text j input)
+
+-- the policy stopped a job at the first character of the input's text that has no bytes, and the report names it
+pub record StopsAtFirst (j : Job) (input : List ℕ) (report : Report) : Type 0 where
+  pub policy : j.policy ≡ Policy.Stop
+  pub first : take 1 (lost_log_lines (target_of j) 0 (input_text j input)) ≡ Lost report.index report.scalar ∷ []
+
+-- What a status says of a job on an input, and of the bytes and records that were made: at 0 and 1 (`OK`, `LOSSY`) and
+-- at 12 (`STOPPED`) they are what the job makes of it; 0 and 1 are the verdict.
+pub record IsOutcome (j : Job) (input output : List ℕ) (losses : List Loss) (report : Report) (status : ℕ) : Type 0 where
+  pub made : status < 2 → IsMadeOf j input output losses
+  pub counts : status < 2 → AreCountsOf j input report
+  pub faithful : status ≡ 0 → Faithful j input
+  pub lossy : status ≡ 1 → ¬ (Faithful j input)
+  pub made_so_far : status ≡ 12 → IsMadeOf j input output losses
+  pub stopped : status ≡ 12 → StopsAtFirst j input report
+
+-- what the report of a run becomes
+pub record IsToldReport (p : RunReport) (report : Report) (status : ℕ) : Type 0 where
+  pub faithful : p.faithful ≡ true → status ≡ 0
+  pub lossy : p.faithful ≡ false → status ≡ 1
+  pub read : report.read ≡ p.read
+  pub bad : report.bad ≡ p.bad
+  pub lost : report.lost ≡ p.lost
+
+-- what the fault of a run becomes: `FAULT` for a device, `TOO_LONG`, or `STOPPED` with the character
+abbrev pub IsToldFault : Fault → Report → (status : ℕ) → Type 0
+IsToldFault TheFault.Read report status = (status ≡ 11) × (report.fault ≡ 1)
+IsToldFault TheFault.Write report status = (status ≡ 11) × (report.fault ≡ 2)
+IsToldFault TheFault.Log report status = (status ≡ 11) × (report.fault ≡ 3)
+IsToldFault TheFault.TooLong report status = status ≡ 13
+IsToldFault (TheFault.Unmappable index scalar) report status = (status ≡ 12) × (report.index ≡ index) × (report.scalar ≡ scalar)
+
+-- a status by which something was converted: 0, 1 and 12 (`OK`, `LOSSY`, `STOPPED`)
+abbrev pub IsDone : (status : ℕ) → Type 0
+IsDone status = (status < 2) ⊎ (status ≡ 12)
+
+-- memory begins with what is reported, and nothing after it has changed
+pub record IsHandedOver (j : Job) (input : List ℕ) (dst dst' : List ℕ) (losses losses' : List Loss) (report : Report) (status : ℕ) : Type 0 where
+  pub converted : IsOutcome j input (take report.written dst') (take report.losses losses') report status
+  pub behind : drop report.written dst' ≡ drop report.written dst
+  pub losses_behind : drop report.losses losses' ≡ drop report.losses losses
+
+-- so many bytes and records are wanted as a job makes of an input, and memory has not changed
+pub record IsWanted (j : Job) (input : List ℕ) (dst dst' : List ℕ) (losses losses' : List Loss) (report : Report) : Type 0 where
+  pub written : report.written ≡ length (output_of j input)
+  pub records : (made : List Loss) × (log_of_losses made ≡ log_of j input) × (report.losses ≡ length made)
+  pub kept : dst' ≡ dst
+  pub losses_kept : losses' ≡ losses

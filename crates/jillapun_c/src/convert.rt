@@ -1,0 +1,207 @@
+//! Conversions from memory to memory.
+
+ghost use Rattle.std.specs.Prelude.{◌≡◌, ◌<◌, ◌^◌, None, length, min};
+ghost use Rattle.recode.specs.declared.job.Job.{Job};
+ghost use Rattle.jillapun_c.specs.Asked.{IsAskedIn};
+ghost use Rattle.jillapun_c.specs.Conversions.{IsDone, IsHandedOver, IsWanted};
+
+use crate::in_memory::convert_job;
+use crate::losses::Loss;
+use crate::report::Report;
+use crate::request::Request;
+use crate::status::CLOSED;
+use crate::tables_handle::TablesHandle;
+use std::alloc::Global;
+
+/// Converts a text in memory: the bytes of `src`, from the encoding with the number `from` to the
+/// output encoding of that with the number `to`, at the start of `dst`, with a record of each loss
+/// at the start of `losses`, in the order of the text. The rest of both stays as it was.
+///
+/// `mark` says what becomes of a byte order mark at the start (`SNIFF`, `REMOVE`, `KEEP`), `policy`
+/// what is written for a character without bytes (`DECIMAL`, `HEXADECIMAL`, `STOP`), and `limit`
+/// how many bytes the input may have: 2^48 where it is more. Any number of threads may call at
+/// once, over the same tables.
+///
+/// - `OK`: nothing was malformed, and the output, read again, is the text of the input.
+/// - `LOSSY`: all was converted, and something was lost. `losses` may be empty even so: some
+///   encodings write a character as bytes that read back as another.
+/// - `ROOM`: `written` bytes and `losses` records are wanted; nothing was written. Call again.
+/// - `STOPPED`: the policy is `STOP`, and the character that has no bytes is in the report. What is
+///   before it was converted, and its record is the last.
+/// - `TOO_LONG`: `src` is longer than the limit. `NO_MEMORY`: memory was refused.
+/// - `UNKNOWN`: a number stands for nothing. `NOT_READY`: an index that one of the encodings needs
+///   is not in the tables. `CLOSED`: the handle has no tables.
+///
+/// It takes memory for the output and the records from the heap, and frees it before it returns.
+#[unsafe(no_mangle)]
+pub extern "C" fn jillapun_convert(
+    alloc: Global,
+    tables: TablesHandle,
+    from: u8,
+    to: u8,
+    mark: u8,
+    policy: u8,
+    limit: u64,
+    src: &[u8],
+    dst: &mut [u8],
+    losses: &mut [Loss],
+    report: &mut Report,
+) -> u8
+    ensures converts { IsDone result → (j : Job)
+        × IsAskedIn tables.tables from to mark policy limit j
+        × IsHandedOver j src.now dst.old dst.new losses.old losses.new report.new result }
+    ensures room { result ≡ 10 → (j : Job)
+        × IsAskedIn tables.tables from to mark policy limit j
+        × IsWanted j src.now dst.old dst.new losses.old losses.new report.new }
+    ensures long { result ≡ 13 → min limit (2 ^ 48) < length src.now }
+    ensures closed { tables.tables ≡ None → result ≡ 6 }
+{
+    *report = Report::NONE;
+    let Some(tables) = tables.get() else {
+        return CLOSED;
+    };
+    let request = Request {
+        from,
+        to,
+        mark,
+        policy,
+        limit,
+    };
+    match request.job(tables) {
+        Err(status) => status,
+        Ok(job) => convert_job(alloc, job, src, dst, losses, report),
+    }
+}
+
+#[cfg(test)]
+mod tests {
+    use super::*;
+    use crate::status::{
+        BAD, DECIMAL, KEEP, LOSSY, LOST, NOT_READY, OK, ROOM, STOP, STOPPED, TOO_LONG, UNKNOWN,
+    };
+    use encoding_index::load;
+    use encoding_tables::{IndexKind, Tables};
+    use std::alloc::AllocError;
+
+    const BIG5: u8 = 0;
+
+    const SHIFT_JIS: u8 = 24;
+
+    const UTF_8: u8 = 25;
+
+    // What a call leaves.
+    #[derive(Drop)]
+    struct Left {
+        status: u8,
+        dst: [u8; 12],
+        losses: [Loss; 2],
+        report: Report,
+    }
+
+    // Tables with one character of JIS X 0208: U+30CF.
+    fn tables(alloc: Global) -> Result<&'static Tables, AllocError> {
+        let mut tables = Tables::new(alloc);
+        let _ = load(alloc, &mut tables, IndexKind::Jis0208, b"422\t0x30CF\n");
+        Ok(Box::leak(Box::new(alloc, tables)?))
+    }
+
+    fn left(alloc: Global, from: u8, to: u8, policy: u8, src: &[u8]) -> Result<Left, AllocError> {
+        let none = Loss {
+            place: 9,
+            number: 9,
+            kind: 9,
+        };
+        let mut left = Left {
+            status: 0,
+            dst: *b"............",
+            losses: [none, none],
+            report: Report::NONE,
+        };
+        left.status = jillapun_convert(
+            alloc,
+            TablesHandle::of(tables(alloc)?),
+            from,
+            to,
+            KEEP,
+            policy,
+            12,
+            src,
+            &mut left.dst,
+            &mut left.losses,
+            &mut left.report,
+        );
+        Ok(left)
+    }
+
+    #[test]
+    fn nothing_is_lost(rt: HostRuntime) -> Result<(), AllocError> {
+        let left = left(rt.alloc(), SHIFT_JIS, UTF_8, DECIMAL, b"A\x83\x6E")?;
+        assert_eq!(rt; left.status, OK);
+        assert_eq!(rt; left.dst, *b"A\xE3\x83\x8F........");
+        assert_eq!(rt; left.report.written, 4);
+        assert_eq!(rt; left.report.read, 3);
+        assert_eq!(rt; left.report.losses, 0);
+        assert_eq!(rt; left.losses[0].kind, 9);
+        Ok(())
+    }
+
+    #[test]
+    fn losses_are_told(rt: HostRuntime) -> Result<(), AllocError> {
+        let left = left(rt.alloc(), UTF_8, SHIFT_JIS, DECIMAL, b"a\xC3\xA8b")?;
+        assert_eq!(rt; left.status, LOSSY);
+        assert_eq!(rt; left.dst, *b"a&#232;b....");
+        assert_eq!(rt; left.report.lost, 1);
+        assert_eq!(rt; left.losses[0].kind, LOST);
+        assert_eq!(rt; left.losses[0].place, 1);
+        assert_eq!(rt; left.losses[0].number, 232);
+        let left = left_of_fault(rt.alloc())?;
+        assert_eq!(rt; left.status, LOSSY);
+        assert_eq!(rt; left.losses[0].kind, BAD);
+        assert_eq!(rt; left.losses[0].place, 2);
+        assert_eq!(rt; left.losses[0].number, 1);
+        Ok(())
+    }
+
+    fn left_of_fault(alloc: Global) -> Result<Left, AllocError> {
+        left(alloc, UTF_8, UTF_8, DECIMAL, b"ab\xFFc")
+    }
+
+    #[test]
+    fn what_is_wanted_is_told(rt: HostRuntime) -> Result<(), AllocError> {
+        let left = left(
+            rt.alloc(),
+            UTF_8,
+            SHIFT_JIS,
+            DECIMAL,
+            b"\xC3\xA8\xC3\xA8\xC3\xA8",
+        )?;
+        assert_eq!(rt; left.status, ROOM);
+        assert_eq!(rt; left.report.written, 18);
+        assert_eq!(rt; left.report.losses, 3);
+        assert_eq!(rt; left.dst, *b"............");
+        Ok(())
+    }
+
+    #[test]
+    fn policy_stops(rt: HostRuntime) -> Result<(), AllocError> {
+        let left = left(rt.alloc(), UTF_8, SHIFT_JIS, STOP, b"ab\xC3\xA8c")?;
+        assert_eq!(rt; left.status, STOPPED);
+        assert_eq!(rt; left.dst, *b"ab..........");
+        assert_eq!(rt; left.report.index, 2);
+        assert_eq!(rt; left.report.scalar, 232);
+        Ok(())
+    }
+
+    #[test]
+    fn others_are_refused(rt: HostRuntime) -> Result<(), AllocError> {
+        let alloc = rt.alloc();
+        assert_eq!(rt; left(alloc, 40, UTF_8, DECIMAL, b"")?.status, UNKNOWN);
+        assert_eq!(rt; left(alloc, UTF_8, UTF_8, 3, b"")?.status, UNKNOWN);
+        assert_eq!(rt; left(alloc, BIG5, UTF_8, DECIMAL, b"")?.status, NOT_READY);
+        assert_eq!(rt;
+            left(alloc, UTF_8, UTF_8, DECIMAL, b"thirteen byte")?.status,
+            TOO_LONG
+        );
+        Ok(())
+    }
+}

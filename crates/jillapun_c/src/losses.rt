@@ -1,0 +1,94 @@
+//! What a conversion lost, as records in place of the lines of a log.
+
+ghost use Rattle.std.specs.Prelude.{◌≡◌, Some, []};
+
+use crate::status::{BAD, LOST};
+use recode_log::LogLine;
+use std::alloc::Global;
+use std::io;
+use std::io::{ErrorKind, Write};
+
+/// A malformed sequence of the input, or a character that the output encoding has no bytes for.
+#[repr(C)]
+#[derive(Clone, Copy)]
+pub struct Loss {
+    /// Of a malformed sequence, its offset in bytes from the start of the input. Of a character, how
+    /// many characters of the text stand before it.
+    pub place: u64,
+    /// Of a malformed sequence, its length in bytes, 1 to 4. Of a character, its code point, or FFFD
+    /// where ISO-2022-JP refuses a control.
+    pub number: u32,
+    /// `BAD` for a malformed sequence, `LOST` for a character.
+    pub kind: u8,
+}
+
+impl Loss {
+    ghost use Rattle.jillapun_c.specs.Losses.{line_of};
+
+    // The record of a line of the log.
+    fn of(line: LogLine) -> Loss
+        ensures { line_of result ≡ line }
+    {
+        match line {
+            LogLine::Bad { offset, length } => Loss {
+                place: offset,
+                number: u32::from(length),
+                kind: BAD,
+            },
+            LogLine::Lost { index, scalar } => Loss {
+                place: index,
+                number: u32::from(scalar),
+                kind: LOST,
+            },
+        }
+    }
+}
+
+/// The log of a conversion, kept as records.
+#[derive(Drop)]
+pub(crate) struct LossLog {
+    losses: Vec<Loss>,
+}
+
+impl LossLog {
+    ghost use Rattle.jillapun_c.specs.Losses.{log_of_losses};
+
+    /// A log that has no line.
+    pub(crate) fn new(alloc: Global) -> LossLog
+        ensures { result.losses.items ≡ [] }
+    {
+        LossLog {
+            losses: Vec::new(alloc),
+        }
+    }
+
+    /// The records of its lines.
+    pub(crate) fn into_losses(self) -> Vec<Loss>
+        ensures { result.items ≡ self.losses.items }
+    {
+        let LossLog { losses } = self;
+        losses
+    }
+}
+
+impl Write for LossLog {
+    ghost use Rattle.jillapun_c.specs.Losses.{log_of_losses};
+
+    ghost contents = { λ log. Some (log_of_losses log.losses.items) };
+
+    // Takes one line a call, as the engine writes them. Anything else is refused, and the call
+    // fails, as it does where memory is refused.
+    fn write(&mut self, buf: &[u8]) -> io::Result<usize> {
+        let Some(line) = LogLine::parse(buf) else {
+            return Err(io::Error::from(ErrorKind::InvalidData));
+        };
+        if self.losses.push(Loss::of(line)).is_err() {
+            return Err(io::Error::from(ErrorKind::OutOfMemory));
+        }
+        Ok(buf.len())
+    }
+
+    fn flush(&mut self) -> io::Result<()> {
+        Ok(())
+    }
+}

@@ -1,0 +1,51 @@
+//! Loaded tables, as C holds them.
+
+ghost use Rattle.std.specs.Prelude.{◌≡◌, MatchOption};
+ghost use Rattle.std.specs.Coded.{coded_option};
+ghost use Rattle.std.specs.declared.option.Option.{Option};
+ghost use Rattle.std.specs.declared.option.Option.TheVariants.{None, Some};
+ghost use Rattle.encoding_tables.specs.IndexLists.{IndexLists};
+ghost use Rattle.encoding_tables.specs.contracts.tables.Tables.{the_row};
+ghost use Rattle.jillapun_c.specs.Ownership.{tables_handle_owns};
+
+use encoding_tables::Tables;
+use std::marker::Model;
+
+/// Tables of indexes, loaded by `jillapun_tables_new`. Begin with `{0}`, which holds no tables.
+///
+/// The tables live as long as the process, and are never changed. So a copy of this is as good as
+/// this, and any number of threads may use the same tables at once.
+#[repr(C)]
+#[derive(Drop)]
+pub struct TablesHandle {
+    at: *const u8,
+    is_open: bool,
+    pub ghost tables: { Option IndexLists } by { coded_option the_row.coded },
+}
+
+impl Model for TablesHandle {
+    ghost also_owns = { λ h. tables_handle_owns the_row h.is_open h.at h.tables };
+}
+
+impl TablesHandle {
+    /// One that holds these.
+    pub(crate) fn of(tables: &'static Tables) -> TablesHandle
+        ensures { result.tables ≡ Some tables.now }
+    {
+        TablesHandle {
+            at: tables as *const Tables as *const u8,
+            is_open: true,
+        }
+    }
+
+    /// The tables that it holds.
+    pub(crate) fn get(self) -> Option<&'static Tables>
+        ensures { MatchOption result (self.tables ≡ None) (λ t. self.tables ≡ Some t.now) }
+    {
+        let TablesHandle { at, is_open } = self;
+        if !is_open {
+            return None;
+        }
+        Some(unsafe { &*(at as *const Tables) })
+    }
+}

@@ -1,0 +1,67 @@
+"""Text between bytes and characters in the encodings of the Encoding Standard, with exactly what is lost.
+
+    >>> import jillapun
+    >>> jillapun.decode(b"A\\x83\\x6e\\xff", "shift_jis")
+    Decoded(text='Aハ\\ufffd', faults=[Bad(offset=3, length=1)])
+    >>> jillapun.convert("a¥b".encode(), "utf-8", "shift_jis")
+    Converted(output=b'a\\\\b', faults=[], faithful=False)
+
+The second is what no count of faults tells: the yen sign is written as a byte that reads back as a backslash. The work
+is done by a library that is proved, `libjillapun.so`; this package needs nothing else but the standard library.
+
+- `decode`, `encode`, `convert`: whole texts and inputs in memory.
+- `convert_file`, `convert_descriptors`: files, of any length, in little memory.
+- `open`, `Reader`, `Writer`: files of text. `Decoder`, `Encoder`: streams, chunk by chunk.
+- `Indexes`: the indexes of encodings, from another folder than that of the installation. `name`, `output_name`: labels.
+
+A label that no encoding has raises `UnknownLabel`, which is a `LookupError`. Calls from several threads at once are
+made at once: Python's lock is let go while the library works.
+"""
+
+from ._files import convert_descriptors, convert_file
+from ._indexes import Indexes, default_folder, name, output_name
+from ._results import (
+    Bad,
+    Converted,
+    ConvertedFile,
+    Decoded,
+    DeviceFault,
+    Encoded,
+    IndexesMissing,
+    JillapunError,
+    Lost,
+    Stopped,
+    TooLong,
+    UnknownLabel,
+)
+from ._streams import Decoder, Encoder, Reader, Writer, open
+from ._texts import convert, decode, encode
+
+__all__ = [
+    "Bad",
+    "Converted",
+    "ConvertedFile",
+    "Decoded",
+    "Decoder",
+    "DeviceFault",
+    "Encoded",
+    "Encoder",
+    "Indexes",
+    "IndexesMissing",
+    "JillapunError",
+    "Lost",
+    "Reader",
+    "Stopped",
+    "TooLong",
+    "UnknownLabel",
+    "Writer",
+    "convert",
+    "convert_descriptors",
+    "convert_file",
+    "decode",
+    "default_folder",
+    "encode",
+    "name",
+    "open",
+    "output_name",
+]

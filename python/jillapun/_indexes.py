@@ -1,0 +1,101 @@
+"""Labels of encodings, and the indexes that they need."""
+
+import ctypes
+import os
+import threading
+from functools import lru_cache
+from pathlib import Path
+from typing import Dict, Mapping, Optional, Union
+
+from . import _library as c
+from ._results import IndexesMissing, UnknownLabel
+
+PathLike = Union[str, "os.PathLike[str]"]
+
+
+@lru_cache(maxsize=None)
+def number_of(label: str) -> int:
+    """The number of the encoding that has this label."""
+    word = label.encode("utf-8", "replace")
+    number = c.library.jillapun_for_label(word, len(word))
+    if number == c.NO_ENCODING:
+        raise UnknownLabel(label)
+    return number
+
+
+@lru_cache(maxsize=None)
+def name_of(number: int) -> str:
+    room = ctypes.create_string_buffer(32)
+    length = c.library.jillapun_name(number, room, 32)
+    return room.raw[:length].decode("ascii")
+
+
+def name(label: str) -> str:
+    """The Encoding Standard's name of the encoding that has this label, as `Shift_JIS` of `sjis`. White space around it
+    and the case of letters do not matter. Raises `UnknownLabel`."""
+    return name_of(number_of(label))
+
+
+def output_name(label: str) -> str:
+    """The name of the encoding that text is written in where this one is asked for: UTF-8 for UTF-16 and replacement,
+    and itself for all others."""
+    return name_of(c.library.jillapun_output_encoding(number_of(label)))
+
+
+def default_folder() -> Path:
+    """The folder of the index texts: what the variable JILLAPUN_INDEXES names, or else where `make install` puts them."""
+    named = os.environ.get("JILLAPUN_INDEXES")
+    if named:
+        return Path(named)
+    here = Path(__file__).resolve().parent
+    for folder in (here, *here.parents):
+        for place in (folder / "indexes", folder / "share/recode/indexes"):
+            if (place / "index-gb18030.txt").is_file():
+                return place
+    return Path("/usr/local/share/recode/indexes")
+
+
+class Indexes:
+    """Indexes of encodings, from a folder of index texts or from texts in memory.
+
+    They are loaded once and stay as long as the process: make one, and hand it to each call. A call with none has the
+    indexes of `default_folder()`. Threads may share one.
+    """
+
+    def __init__(self, folder: Optional[PathLike] = None, *, texts: Optional[Mapping[str, bytes]] = None):
+        """Loads the texts of a folder, whose names are `index-*.txt`, or `texts`, by those names. Raises
+        `IndexesMissing`, which says which text is faulty, and in which line."""
+        if texts is None:
+            place = Path(folder) if folder is not None else default_folder()
+            texts = {path.name: path.read_bytes() for path in sorted(place.glob("index-*.txt"))}
+        self.handle = _loaded(texts)
+
+
+def _loaded(texts: Mapping[str, bytes]) -> c.Tables:
+    names = list(texts)
+    rows = [c.IndexFile(c.Bytes.of(name.encode()), c.Bytes.of(text)) for name, text in texts.items()]
+    files = (c.IndexFile * max(len(rows), 1))(*rows)
+    handle, fault = c.Tables(), c.IndexFault()
+    status = c.library.jillapun_tables_new(files, len(rows), ctypes.byref(handle), ctypes.byref(fault))
+    if status == c.NO_MEMORY:
+        raise MemoryError
+    if status == c.UNKNOWN:
+        raise IndexesMissing("%s: no such index" % names[fault.file])
+    if status != c.OK:
+        raise IndexesMissing("%s: line %d is faulty" % (names[fault.file], fault.line))
+    return handle
+
+
+_lock = threading.Lock()
+_defaults: Dict[str, Indexes] = {}
+
+
+def handle_of(indexes: Optional[Indexes]) -> c.Tables:
+    """The handle of these indexes, or of those of the default folder, which are loaded when they are first wanted."""
+    if indexes is not None:
+        return indexes.handle
+    if "default" not in _defaults:
+        with _lock:
+            if "default" not in _defaults:
+                _defaults["default"] = Indexes()
+    return _defaults["default"].handle

@@ -1,0 +1,133 @@
+"""The shared library: its types, its calls and its numbers, as `include/jillapun.h` has them."""
+
+import ctypes
+import ctypes.util
+import os
+from pathlib import Path
+from typing import List, Optional
+
+Size = ctypes.c_size_t
+Byte = ctypes.c_uint8
+Long = ctypes.c_uint64
+
+# Statuses.
+OK, LOSSY, UNKNOWN, NOT_READY, BAD_INDEX, NO_MEMORY, CLOSED, IN_USE, FINISHED, NOT_UTF8, ROOM, FAULT, STOPPED, TOO_LONG = range(14)
+
+# Outcomes of calls of streams.
+INPUT_EMPTY, OUTPUT_FULL, MALFORMED, UNMAPPABLE = range(4)
+
+# Kinds of losses.
+BAD, LOST = range(2)
+
+MARKS = {"sniff": 0, "remove": 1, "keep": 2}
+POLICIES = {"decimal": 0, "hexadecimal": 1, "stop": 2}
+
+NO_ENCODING = 255
+NO_LIMIT = 2**64 - 1
+
+
+class Bytes(ctypes.Structure):
+    """Bytes that are lent for a call."""
+
+    _fields_ = [("at", ctypes.c_char_p), ("len", Size)]
+
+    @classmethod
+    def of(cls, data: bytes) -> "Bytes":
+        return cls(data, len(data))
+
+
+class IndexFile(ctypes.Structure):
+    _fields_ = [("name", Bytes), ("text", Bytes)]
+
+
+class IndexFault(ctypes.Structure):
+    _fields_ = [("file", Size), ("line", Size)]
+
+
+class Handle(ctypes.Structure):
+    """What the library keeps behind a handle is its own; a handle is never copied."""
+
+    _fields_ = [("at", ctypes.c_void_p), ("is_open", ctypes.c_bool)]
+
+
+class Tables(Handle):
+    """Loaded tables: of these a copy is as good."""
+
+
+class Loss(ctypes.Structure):
+    _fields_ = [("place", Long), ("number", ctypes.c_uint32), ("kind", Byte)]
+
+
+class Report(ctypes.Structure):
+    _fields_ = [
+        ("read", Long),
+        ("bad", Long),
+        ("lost", Long),
+        ("written", Long),
+        ("losses", Long),
+        ("index", Long),
+        ("scalar", ctypes.c_uint32),
+        ("fault", Byte),
+    ]
+
+
+class Progress(ctypes.Structure):
+    _fields_ = [
+        ("read", Size),
+        ("written", Size),
+        ("outcome", Byte),
+        ("malformed_length", Byte),
+        ("malformed_after", Byte),
+        ("had_errors", ctypes.c_bool),
+    ]
+
+
+class EncoderProgress(ctypes.Structure):
+    _fields_ = [
+        ("read", Size),
+        ("written", Size),
+        ("outcome", Byte),
+        ("scalar", ctypes.c_uint32),
+        ("had_unmappable", ctypes.c_bool),
+    ]
+
+
+def _places() -> List[str]:
+    """Where the library may be: as the environment says, beside this package, where it is packed, built or installed, or
+    where the system finds it."""
+    named = os.environ.get("JILLAPUN_LIBRARY")
+    if named:
+        return [named]
+    here = Path(__file__).resolve().parent
+    near = [here / "libjillapun.so"]
+    near += [folder / place / "libjillapun.so" for folder in here.parents for place in ("lib", "out/c")]
+    found = ctypes.util.find_library("jillapun")
+    return [str(place) for place in near if place.is_file()] + ([found] if found else [])
+
+
+def _loaded() -> ctypes.CDLL:
+    for place in _places():
+        return ctypes.CDLL(place)
+    raise ImportError("libjillapun.so is not found: JILLAPUN_LIBRARY can name it")
+
+
+library = _loaded()
+
+
+def _declare(name: str, result: Optional[type], *parameters: type) -> None:
+    call = getattr(library, name)
+    call.restype = result
+    call.argtypes = list(parameters)
+
+
+_LENT = (ctypes.c_char_p, Size)
+_ROOM = (ctypes.c_void_p, Size)
+_HANDLE = ctypes.POINTER(Handle)
+_REPORT = ctypes.POINTER(Report)
+
+_declare("jillapun_for_label", Byte, *_LENT)
+_declare("jillapun_name", Size, Byte, *_ROOM)
+_declare("jillapun_output_encoding", Byte, Byte)
+_declare("jillapun_tables_new", Byte, ctypes.POINTER(IndexFile), Size, ctypes.POINTER(Tables), ctypes.POINTER(IndexFault))
+_declare("jillapun_convert", Byte, Tables, Byte, Byte, Byte, Byte, Long, *_LENT, *_ROOM, ctypes.POINTER(Loss), Size, _REPORT)
+_declare("jillapun_convert_descriptors", Byte, Tables, Byte, Byte, Byte, Byte, Long, *3 * (ctypes.c_int32,), _REPORT)

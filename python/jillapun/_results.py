@@ -1,0 +1,127 @@
+"""What calls return, and what they raise."""
+
+from typing import List, NamedTuple, Union
+
+from . import _library as c
+
+
+class Bad(NamedTuple):
+    """A malformed sequence of the input."""
+
+    offset: int
+    """How many bytes of the input stand before it."""
+    length: int
+    """How many bytes it has, 1 to 4."""
+
+    def __str__(self) -> str:
+        return "bad %d %d" % self
+
+
+class Lost(NamedTuple):
+    """A character that the output encoding has no bytes for."""
+
+    index: int
+    """How many characters of the text stand before it."""
+    character: str
+    """The character, or U+FFFD where ISO-2022-JP refuses a control."""
+
+    def __str__(self) -> str:
+        return "lost %d %d" % (self.index, ord(self.character))
+
+
+Fault = Union[Bad, Lost]
+
+
+class Decoded(NamedTuple):
+    """A text, and what was malformed in its bytes."""
+
+    text: str
+    """The text, with U+FFFD for each malformed sequence."""
+    faults: List[Bad]
+    """The malformed sequences, in their order."""
+
+
+class Encoded(NamedTuple):
+    """The bytes of a text, and what has none."""
+
+    data: bytes
+    """The bytes, with a reference, as `&#26085;`, for each character that has none."""
+    faults: List[Lost]
+    """The characters without bytes, in their order."""
+    faithful: bool
+    """Whether the bytes, read again, are the text."""
+
+
+class Converted(NamedTuple):
+    """The output of a conversion, and what was lost."""
+
+    output: bytes
+    """The bytes in the output encoding."""
+    faults: List[Fault]
+    """What was malformed, and which characters have no bytes, in their order."""
+    faithful: bool
+    """Whether nothing was malformed, and the output, read again, is the text of the input. It can be false where
+    `faults` is empty: some encodings write a character as bytes that read back as another."""
+
+
+class ConvertedFile(NamedTuple):
+    """What is told of a file that was converted."""
+
+    read: int
+    """How many bytes were read."""
+    faults: List[Fault]
+    """What was malformed, and which characters have no bytes, in their order."""
+    faithful: bool
+    """Whether nothing was malformed, and the output, read again, is the text of the input."""
+
+
+class JillapunError(Exception):
+    """A call could not do its work."""
+
+
+class UnknownLabel(JillapunError, LookupError):
+    """No encoding has this label."""
+
+
+class IndexesMissing(JillapunError):
+    """An index that an encoding needs is not there, or an index text is faulty."""
+
+
+class TooLong(JillapunError):
+    """The input has more bytes than the limit."""
+
+
+class DeviceFault(JillapunError, OSError):
+    """A read or a write failed."""
+
+
+class Stopped(JillapunError):
+    """The policy is `stop`, and a character has no bytes in the output encoding."""
+
+    def __init__(self, lost: Lost, output: bytes = b"", faults: List[Fault] = []):
+        super().__init__("no bytes for U+%04X, before which %d characters stand" % (ord(lost.character), lost.index))
+        self.lost = lost
+        """The character."""
+        self.output = output
+        """What was written before it."""
+        self.faults = list(faults)
+        """What was lost up to it, with it."""
+
+
+def fault_of(loss: c.Loss) -> Fault:
+    return Bad(loss.place, loss.number) if loss.kind == c.BAD else Lost(loss.place, chr(loss.number))
+
+
+def refuse(status: int, report: c.Report) -> None:
+    """Raises what a status says that is neither `OK`, `LOSSY` nor `STOPPED`."""
+    if status == c.NOT_READY:
+        raise IndexesMissing("an index that the encoding needs is not loaded: Indexes() says from where")
+    if status == c.NO_MEMORY:
+        raise MemoryError
+    if status == c.TOO_LONG:
+        raise TooLong("the input has more bytes than the limit")
+    if status == c.FAULT:
+        raise DeviceFault("%s failed" % {1: "a read", 2: "a write", 3: "a write of the log"}[report.fault])
+    if status == c.UNKNOWN:
+        raise UnknownLabel("no such encoding")
+    raise JillapunError("status %d" % status)

@@ -1,0 +1,110 @@
+"""Whole texts and inputs in memory."""
+
+import ctypes
+import threading
+from typing import List, Optional, Tuple
+
+from . import _library as c
+from ._indexes import Indexes, handle_of, number_of
+from ._results import Converted, Decoded, Encoded, Fault, Lost, Stopped, fault_of, refuse
+
+_UTF_8 = "utf-8"
+
+
+class _Room:
+    """Room for a conversion: its output, its records of losses and its report."""
+
+    def __init__(self, size: int, count: int):
+        self.size, self.count = size, count
+        self.bytes, self.losses, self.report = (ctypes.c_char * size)(), (c.Loss * count)(), c.Report()
+        self.words = (self.bytes, size, self.losses, count, ctypes.byref(self.report))
+
+
+class _Kept(threading.local):
+    """A room of each thread for short inputs, which most are: to make one takes longer than to convert them."""
+
+    room: Optional[_Room] = None
+
+
+_kept = _Kept()
+
+
+def _short_room() -> _Room:
+    """The thread's room, or another, where a signal's handler converts while it is in use."""
+    room, _kept.room = _kept.room, None
+    return room or _Room(4096, 16)
+
+
+def _run(
+    data: bytes, source: str, target: str, mark: str, unmappable: str, limit: int, indexes: Optional[Indexes]
+) -> Tuple[bool, bytes, List[Fault]]:
+    """Whether nothing was lost, the output and the faults. The conversion is made twice where room was too small."""
+    words = number_of(source), number_of(target), c.MARKS[mark], c.POLICIES[unmappable], limit, data, len(data)
+    handle = handle_of(indexes)
+    # A power of two, since ctypes makes a type for each size.
+    short = _short_room() if len(data) <= 1024 else None
+    room = short or _Room(1 << (len(data) * 3 // 2).bit_length(), 16)
+    status = c.library.jillapun_convert(handle, *words, *room.words)
+    while status == c.ROOM:
+        room = _Room(max(room.report.written, 1), max(room.report.losses, 1))
+        status = c.library.jillapun_convert(handle, *words, *room.words)
+    report = room.report
+    output, losses = room.bytes[: report.written], room.losses[: report.losses] if report.losses else ()
+    faults = [fault_of(loss) for loss in losses]
+    if status == c.STOPPED:
+        raise Stopped(Lost(report.index, chr(report.scalar)), output, faults)
+    if status not in (c.OK, c.LOSSY):
+        refuse(status, report)
+    if short:
+        _kept.room = short
+    return status == c.OK, output, faults
+
+
+def decode(data: bytes, encoding: str, *, mark: str = "remove", indexes: Optional[Indexes] = None) -> Decoded:
+    """The text of bytes in an encoding, and what was malformed.
+
+    Each malformed sequence is U+FFFD in the text, and has its offset and length in `faults`. `mark` says what becomes
+    of a byte order mark at the start: "remove" leaves out that of the encoding, "sniff" lets one of UTF-8 or UTF-16
+    decide the encoding, "keep" takes it for text.
+
+    >>> decode(b"A\\x83\\x6e\\xff", "shift_jis")
+    Decoded(text='Aハ\\ufffd', faults=[Bad(offset=3, length=1)])
+    """
+    _, output, faults = _run(bytes(data), encoding, _UTF_8, mark, "decimal", c.NO_LIMIT, indexes)
+    return Decoded(output.decode(), faults)  # type: ignore[arg-type]
+
+
+def encode(text: str, encoding: str, *, unmappable: str = "decimal", indexes: Optional[Indexes] = None) -> Encoded:
+    """The bytes of a text in an encoding, which characters have none, and whether the bytes read back as the text.
+
+    For a character without bytes its reference is written, "decimal" or "hexadecimal", or, with "stop", `Stopped` is
+    raised. A text with a lone surrogate is none: `UnicodeEncodeError` is raised.
+
+    >>> encode("é 日", "windows-1252")
+    Encoded(data=b'\\xe9 &#26085;', faults=[Lost(index=2, character='日')], faithful=False)
+    """
+    is_faithful, data, faults = _run(text.encode(), _UTF_8, encoding, "keep", unmappable, c.NO_LIMIT, indexes)
+    return Encoded(data, faults, is_faithful)  # type: ignore[arg-type]
+
+
+def convert(
+    data: bytes,
+    source: str,
+    target: str,
+    *,
+    mark: str = "sniff",
+    unmappable: str = "decimal",
+    limit: Optional[int] = None,
+    indexes: Optional[Indexes] = None,
+) -> Converted:
+    """Bytes from one encoding in another, with exactly what was lost.
+
+    `mark` and `unmappable` are as for `decode` and `encode`. Raises `UnknownLabel`, `IndexesMissing`, `TooLong` where
+    the input has more than `limit` bytes, and `Stopped`.
+
+    >>> convert(b"caf\\xe9", "windows-1252", "utf-8")
+    Converted(output=b'caf\\xc3\\xa9', faults=[], faithful=True)
+    """
+    most = c.NO_LIMIT if limit is None else limit
+    is_faithful, output, faults = _run(bytes(data), source, target, mark, unmappable, most, indexes)
+    return Converted(output, faults, is_faithful)
