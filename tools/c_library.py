@@ -23,6 +23,10 @@ VERSION_SOURCE = os.path.join(TOP, "crates", "recode_words", "src", "command.rt"
 ARCHIVE, SHARED = "libjillapun.a", "libjillapun.so"
 
 
+class NotBuilt(Exception):
+    """A command that failed, with what it said."""
+
+
 def version():
     with open(VERSION_SOURCE, encoding="utf-8") as file:
         return re.search(r'const VERSION: &str = "([^"]*)"', file.read())[1]
@@ -37,15 +41,15 @@ def kit(*path):
     """A file of the kit."""
     rt = shutil.which("rt")
     if not rt:
-        sys.exit("rt is not on the path")
+        raise NotBuilt("rt is not on the path")
     return os.path.join(os.path.dirname(os.path.realpath(rt)), "..", *path)
 
 
 def run(words, folder, **more):
-    """Runs a command, and ends this program with what it said if it failed."""
+    """Runs a command."""
     ran = subprocess.run(words, cwd=folder, capture_output=True, text=True, errors="replace", check=False, **more)
     if ran.returncode:
-        sys.exit("%s: status %d\n%s%s" % (" ".join(words), ran.returncode, ran.stdout[-4000:], ran.stderr[-4000:]))
+        raise NotBuilt("%s: status %d\n%s%s" % (" ".join(words), ran.returncode, ran.stdout[-4000:], ran.stderr[-4000:]))
 
 
 def archive(folder):
@@ -81,7 +85,11 @@ def build(folder=OUT, *flags):
 
 
 def main():
-    for path in build():
+    try:
+        paths = build()
+    except NotBuilt as fault:
+        sys.exit(str(fault))
+    for path in paths:
         print("built", os.path.relpath(path, TOP))
 
 

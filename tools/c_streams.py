@@ -181,6 +181,10 @@ class Streams:
         handle = self.library.struct("EncoderHandle")()
         self.must("encoder_new", self.library.jillapun_encoder_new(self.tables, self.numbers[target], handle))
         progress, output, lost, had, index = self.library.struct("EncoderProgress")(), bytearray(), [], False, 0
+        if not of_units:
+            room = bytearray(40)
+            self.must(call, getattr(self.library, call)(handle, b"a\xff", room, False, progress), "NOT_UTF8")
+            self.same(call, "no text", (progress.read, progress.written, bytes(room)), (0, 0, bytes(40)))
         place = self.random.randint(0, len(points))
         most = self.random.choice((14, 60, 5000))
         for part, last in ((points[:place], False), (points[place:], True)):
