@@ -1,4 +1,5 @@
 -- The lemmas.
+mod CoderLemmas
 mod EncodingNumberLemmas
 mod IndexFileLemmas
 mod Openings

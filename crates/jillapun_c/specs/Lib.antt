@@ -7,3 +7,7 @@ pub mod Losses
 pub mod Ownership
 pub mod Room
 pub mod Streams
+pub mod Coders
+pub mod Openings
+pub mod DecoderCalls
+pub mod EncoderCalls

@@ -28,7 +28,7 @@ impl Model for CoderHandle {
 }
 
 impl CoderHandle {
-    // One that holds nothing.
+    // One that holds nothing, and has an address that nobody follows.
     fn closed(at: *mut u8) -> CoderHandle
         ensures { result.coder ≡ None }
     {
@@ -60,15 +60,21 @@ impl CoderHandle {
         None
     }
 
+    /// One that holds nothing.
+    pub(crate) fn none() -> CoderHandle
+        ensures { result.coder ≡ None }
+    {
+        let nowhere: *mut u8 = ptr::null_mut();
+        CoderHandle::closed(nowhere)
+    }
+
     /// Takes what it holds, and leaves it closed: `None` where it holds nothing.
     pub(crate) fn take(&mut self, alloc: Global) -> Option<Box<Coder>>
         ensures closed { self.new.coder ≡ None }
         ensures coder { MatchOption result (self.old.coder ≡ None)
             (λ b. self.old.coder ≡ Some b.value) }
     {
-        let nowhere: *mut u8 = ptr::null_mut();
-        let closed = CoderHandle::closed(nowhere);
-        let handle = mem::replace(self, closed);
+        let handle = mem::replace(self, CoderHandle::none());
         match handle.into_loose(alloc) {
             Some(loose) => Some(loose.into_box()),
             None => None,

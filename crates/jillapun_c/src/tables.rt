@@ -1,11 +1,11 @@
 //! The exports that load tables.
 
-ghost use Rattle.std.specs.Prelude.{◌≡◌, ◌≢◌, IsSomeAnd};
+ghost use Rattle.std.specs.Prelude.{◌≡◌, ◌≢◌, None, IsSome, IsSomeAnd};
 ghost use Rattle.jillapun_c.specs.IndexFiles.{HoldFiles, IsTold, IsToldAt};
-ghost use Rattle.jillapun_c.specs.declared.status.TheConstants.{OK};
+ghost use Rattle.jillapun_c.specs.declared.status.TheConstants.{IN_USE, OK};
 
 use crate::index_files::{FileFault, IndexFile, load_files};
-use crate::status::{BAD_INDEX, NO_MEMORY, OK, UNKNOWN};
+use crate::status::{BAD_INDEX, IN_USE, NO_MEMORY, OK, UNKNOWN};
 use crate::tables_handle::TablesHandle;
 use encoding_tables::Tables;
 use std::alloc::Global;
@@ -23,8 +23,8 @@ pub struct IndexFault {
 /// Loads index files, each as the index of its name, in any order: those of the encodings that will
 /// be used, or all that the Encoding Standard publishes. The texts are not needed after the call.
 ///
-/// Returns `OK`, and `out` holds the tables. On an error `out` is as it was, and `fault` says which
-/// file it is: `UNKNOWN`, no index has a file of that name; `BAD_INDEX`, the text has a fault, or the
+/// Returns `OK`, and `out` holds the tables; or `IN_USE`, it holds some already. On an error `out` is
+/// as it was, and `fault` says which file it is: `UNKNOWN`, no index has a file of that name; `BAD_INDEX`, the text has a fault, or the
 /// index was loaded already; `NO_MEMORY`, memory was refused, and the call can be made again.
 ///
 /// The tables are never freed, so that they can be shared by all threads: load them once.
@@ -36,9 +36,15 @@ pub extern "C" fn jillapun_tables_new(
     fault: &mut IndexFault,
 ) -> u8
     ensures loaded { result ≡ OK → IsSomeAnd out.new.tables (HoldFiles files.now) }
-    ensures refused { result ≢ OK → IsToldAt files.now fault.new.file fault.new.line result }
+    ensures in_use { IsSome out.old.tables → result ≡ IN_USE }
+    ensures refused { out.old.tables ≡ None → result ≢ OK
+        → IsToldAt files.now fault.new.file fault.new.line result }
     ensures unchanged { result ≢ OK → out.new.tables ≡ out.old.tables }
 {
+    if let Some(held) = out.take() {
+        *out = TablesHandle::of(held);
+        return IN_USE;
+    }
     let mut tables = Tables::new(alloc);
     if let Err((number, file_fault)) = load_files(alloc, files, &mut tables) {
         let (status, line) = told(file_fault);

@@ -10,6 +10,7 @@ ghost use Rattle.jillapun_c.specs.Ownership.{tables_handle_owns};
 
 use encoding_tables::Tables;
 use std::marker::Model;
+use std::{mem, ptr};
 
 /// Tables of indexes, loaded by `jillapun_tables_new`. Begin with `{0}`, which holds no tables.
 ///
@@ -28,6 +29,31 @@ impl Model for TablesHandle {
 }
 
 impl TablesHandle {
+    // One that holds nothing, and has an address that nobody follows.
+    fn closed(at: *const u8) -> TablesHandle
+        ensures { result.tables ≡ None }
+    {
+        TablesHandle { at, is_open: false }
+    }
+
+    /// One that holds nothing.
+    pub(crate) fn none() -> TablesHandle
+        ensures { result.tables ≡ None }
+    {
+        let nowhere: *const u8 = ptr::null();
+        TablesHandle::closed(nowhere)
+    }
+
+    /// The tables that it holds; it is closed then.
+    pub(crate) fn take(&mut self) -> Option<&'static Tables>
+        ensures closed { self.new.tables ≡ None }
+        ensures tables { MatchOption result (self.old.tables ≡ None)
+            (λ t. self.old.tables ≡ Some t.now) }
+    {
+        let handle = mem::replace(self, TablesHandle::none());
+        handle.get()
+    }
+
     /// One that holds these.
     pub(crate) fn of(tables: &'static Tables) -> TablesHandle
         ensures { result.tables ≡ Some tables.now }
