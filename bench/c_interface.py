@@ -122,7 +122,8 @@ def short_rows(given):
         for ours, theirs in pairs:
             _, own, other = compared(lambda: timed(ours, count), lambda: timed(theirs, count), given.rounds)
             cells += ["%.1f" % own, "%.1f" % other]
-        cells.append("%.1f" % statistics.median(timed(call.spent, count) for _ in range(given.rounds)))
+        words, alone = (*call.words, ctypes.byref(call.report)), library.library.jillapun_convert
+        cells.append("%.1f" % statistics.median(timed(lambda: alone(*words), count) for _ in range(given.rounds)))
         yield cells
 
 

@@ -3,6 +3,7 @@
 import ctypes
 import ctypes.util
 import os
+from functools import lru_cache
 from pathlib import Path
 from typing import List, Optional
 
@@ -87,8 +88,8 @@ class EncoderProgress(ctypes.Structure):
         ("read", Size),
         ("written", Size),
         ("outcome", Byte),
-        ("scalar", ctypes.c_uint32),
         ("had_unmappable", ctypes.c_bool),
+        ("scalar", ctypes.c_uint32),
     ]
 
 
@@ -131,3 +132,16 @@ _declare("jillapun_output_encoding", Byte, Byte)
 _declare("jillapun_tables_new", Byte, ctypes.POINTER(IndexFile), Size, ctypes.POINTER(Tables), ctypes.POINTER(IndexFault))
 _declare("jillapun_convert", Byte, Tables, Byte, Byte, Byte, Byte, Long, *_LENT, *_ROOM, ctypes.POINTER(Loss), Size, _REPORT)
 _declare("jillapun_convert_descriptors", Byte, Tables, Byte, Byte, Byte, Byte, Long, *3 * (ctypes.c_int32,), _REPORT)
+
+
+@lru_cache(maxsize=None)
+def streams() -> ctypes.CDLL:
+    """The library, with the calls of streams declared."""
+    call = (_HANDLE, *_LENT, *_ROOM, ctypes.c_bool)
+    _declare("jillapun_decoder_new", Byte, Tables, Byte, Byte, _HANDLE)
+    _declare("jillapun_decoder_decode_to_utf8_without_replacement", Byte, *call, ctypes.POINTER(Progress))
+    _declare("jillapun_decoder_free", None, _HANDLE)
+    _declare("jillapun_encoder_new", Byte, Tables, Byte, _HANDLE)
+    _declare("jillapun_encoder_encode_from_utf8_without_replacement", Byte, *call, ctypes.POINTER(EncoderProgress))
+    _declare("jillapun_encoder_free", None, _HANDLE)
+    return library

@@ -7,7 +7,7 @@ from typing import BinaryIO, List, Optional, Union, cast
 
 from . import _library as c
 from ._indexes import Indexes, PathLike, handle_of, number_of
-from ._results import Bad, JillapunError, Lost, Stopped
+from ._results import Bad, IndexesMissing, JillapunError, Lost, Stopped
 
 # Room for one call, in bytes.
 _ROOM = 1 << 16
@@ -19,12 +19,10 @@ _CHUNK = 1 << 16
 def _opened(call: str, *words: object) -> c.Handle:
     """A handle that a call fills."""
     handle = c.Handle()
-    status = getattr(c.library, call)(*words, ctypes.byref(handle))
+    status = getattr(c.streams(), call)(*words, ctypes.byref(handle))
     if status == c.NO_MEMORY:
         raise MemoryError
     if status == c.NOT_READY:
-        from ._results import IndexesMissing
-
         raise IndexesMissing("an index that the encoding needs is not loaded: Indexes() says from where")
     if status != c.OK:
         raise JillapunError("status %d" % status)

@@ -18,7 +18,7 @@ pub record AreKnown (from to mark policy : ℕ) : Type 0 where
   pub is_policy : IsSome (policy_at policy)
 
 -- the job that the numbers of a call name, over these tables; a limit above 2^48 bytes counts as that
-pub record IsNamed (tables : IndexLists) (from to mark policy limit : ℕ) (j : Job) : Type 0 where
+pub record NamesJob (tables : IndexLists) (from to mark policy limit : ℕ) (j : Job) : Type 0 where
   pub has_tables : j.tables.now ≡ tables
   pub has_from : encoding_at from ≡ Some j.from
   pub has_to : encoding_at to ≡ Some j.to
@@ -28,7 +28,7 @@ pub record IsNamed (tables : IndexLists) (from to mark policy limit : ℕ) (j : 
 
 -- and it is valid
 pub record IsAskedFor (tables : IndexLists) (from to mark policy limit : ℕ) (j : Job) : Type 0 where
-  pub named : IsNamed tables from to mark policy limit j
+  pub named : NamesJob tables from to mark policy limit j
   pub valid : IsValidJob j
 
 -- a valid job of what the numbers of a call ask for, over the tables that a handle has

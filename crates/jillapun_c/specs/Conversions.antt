@@ -31,7 +31,7 @@ pub record StopsAtFirst (j : Job) (input : List ℕ) (report : Report) : Type 0 
 
 -- What a status says of a job on an input, and of the bytes and records that were made: at 0 and 1 (`OK`, `LOSSY`) and
 -- at 12 (`STOPPED`) they are what the job makes of it; 0 and 1 are the verdict.
-pub record IsOutcome (j : Job) (input output : List ℕ) (losses : List Loss) (report : Report) (status : ℕ) : Type 0 where
+pub record ConvertsInMemory (j : Job) (input output : List ℕ) (losses : List Loss) (report : Report) (status : ℕ) : Type 0 where
   pub made : status < 2 → IsMadeOf j input output losses
   pub counts : status < 2 → AreCountsOf j input report
   pub faithful : status ≡ 0 → Faithful j input
@@ -61,13 +61,11 @@ IsDone status = (status < 2) ⊎ (status ≡ 12)
 
 -- memory begins with what is reported, and nothing after it has changed
 pub record IsHandedOver (j : Job) (input : List ℕ) (dst dst' : List ℕ) (losses losses' : List Loss) (report : Report) (status : ℕ) : Type 0 where
-  pub converted : IsOutcome j input (take report.written dst') (take report.losses losses') report status
+  pub converted : ConvertsInMemory j input (take report.written dst') (take report.losses losses') report status
   pub behind : drop report.written dst' ≡ drop report.written dst
   pub losses_behind : drop report.losses losses' ≡ drop report.losses losses
 
--- so many bytes and records are wanted as a job makes of an input, and memory has not changed
-pub record IsWanted (j : Job) (input : List ℕ) (dst dst' : List ℕ) (losses losses' : List Loss) (report : Report) : Type 0 where
+-- so many bytes and records are wanted as a job makes of an input
+pub record IsWanted (j : Job) (input : List ℕ) (report : Report) : Type 0 where
   pub written : report.written ≡ length (output_of j input)
   pub records : (made : List Loss) × (log_of_losses made ≡ log_of j input) × (report.losses ≡ length made)
-  pub kept : dst' ≡ dst
-  pub losses_kept : losses' ≡ losses

@@ -1,8 +1,8 @@
 //! Conversions from memory to memory.
 
-ghost use Rattle.std.specs.Prelude.{◌≡◌, ◌<◌, ◌^◌, None, length, min};
+ghost use Rattle.std.specs.Prelude.{◌≡◌, ◌<◌, ◌⊎◌, ◌^◌, None, length, min};
 ghost use Rattle.recode.specs.declared.job.Job.{Job};
-ghost use Rattle.jillapun_c.specs.Asked.{IsAskedIn};
+ghost use Rattle.jillapun_c.specs.Asked.{AreKnown, IsAskedIn};
 ghost use Rattle.jillapun_c.specs.Conversions.{IsDone, IsHandedOver, IsWanted};
 
 use crate::in_memory::convert_job;
@@ -52,7 +52,11 @@ pub extern "C" fn jillapun_convert(
         × IsHandedOver j src.now dst.old dst.new losses.old losses.new report.new result }
     ensures room { result ≡ 10 → (j : Job)
         × IsAskedIn tables.tables from to mark policy limit j
-        × IsWanted j src.now dst.old dst.new losses.old losses.new report.new }
+        × IsWanted j src.now report.new }
+    ensures small { result ≡ 10 → (length dst.new < report.new.written)
+        ⊎ (length losses.new < report.new.losses) }
+    ensures kept { ¬ (IsDone result) → (dst.new ≡ dst.old) × (losses.new ≡ losses.old) }
+    ensures unknown { result ≡ 2 → ¬ (AreKnown from to mark policy) }
     ensures long { result ≡ 13 → min limit (2 ^ 48) < length src.now }
     ensures closed { tables.tables ≡ None → result ≡ 6 }
 {

@@ -5,7 +5,7 @@ ghost use Rattle.recode_log.specs.Counted.{failures_of};
 ghost use Rattle.recode.specs.Devices.{devices_in};
 ghost use Rattle.recode.specs.Job.{IsValidJob};
 ghost use Rattle.recode.specs.declared.job.Job.{Job};
-ghost use Rattle.jillapun_c.specs.Asked.{IsAskedIn};
+ghost use Rattle.jillapun_c.specs.Asked.{AreKnown, IsAskedIn};
 ghost use Rattle.jillapun_c.specs.Streams.{IsStreamed, IsVerdictOn};
 
 use crate::descriptor::Descriptor;
@@ -29,7 +29,8 @@ fn convert_streams<R: Read, W: Write, L: Write>(
     requires reader { failures_of reader.old < 2 ^ 64 - 1 }
     requires writer { failures_of writer.old < 2 ^ 64 - 1 }
     requires log { failures_of log.old < 2 ^ 64 - 1 }
-    ensures { IsStreamed
+    ensures known { ¬ (result.0 ≡ 2) }
+    ensures streamed { IsStreamed
         (devices_in R.remaining W.contents L.contents reader.old writer.old log.old)
         (devices_in R.remaining W.contents L.contents reader.new writer.new log.new) job.entry
         result.1 result.0 }
@@ -40,7 +41,8 @@ fn convert_streams<R: Read, W: Write, L: Write>(
 // Runs a job over descriptors.
 fn convert_job(job: Job<'_>, input: i32, output: i32, log: i32) -> (u8, Report)
     requires { IsValidJob job }
-    ensures { result.0 < 2 → (x : List ℕ) × IsVerdictOn job.entry x result.1 result.0 }
+    ensures known { ¬ (result.0 ≡ 2) }
+    ensures verdict { result.0 < 2 → (x : List ℕ) × IsVerdictOn job.entry x result.1 result.0 }
 {
     let mut reader = Counted::new(Descriptor::new(input));
     let mut writer = Counted::new(Descriptor::new(output));
@@ -80,6 +82,7 @@ pub extern "C" fn jillapun_convert_descriptors(
     ensures converts { result < 2 → (j : Job) × (x : List ℕ)
         × IsAskedIn tables.tables from to mark policy limit j
         × IsVerdictOn j x report.new result }
+    ensures unknown { result ≡ 2 → ¬ (AreKnown from to mark policy) }
     ensures closed { tables.tables ≡ None → result ≡ 6 }
 {
     *report = Report::NONE;

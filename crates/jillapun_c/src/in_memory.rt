@@ -1,8 +1,8 @@
 //! Runs from memory to memory.
 
-ghost use Rattle.std.specs.Prelude.{◌≡◌, ◌↔◌, ◌<◌, ◌++◌, drop, false, length, true, vec_len};
+ghost use Rattle.std.specs.Prelude.{◌≡◌, ◌↔◌, ◌<◌, ◌⊎◌, ◌++◌, drop, false, length, true, vec_len};
 ghost use Rattle.recode.specs.Job.{IsValidJob};
-ghost use Rattle.jillapun_c.specs.Conversions.{IsOutcome, IsDone, IsHandedOver, IsWanted};
+ghost use Rattle.jillapun_c.specs.Conversions.{ConvertsInMemory, IsDone, IsHandedOver, IsWanted};
 
 use crate::losses::{Loss, LossLog};
 use crate::report::{Report, told};
@@ -24,7 +24,7 @@ struct Made {
 // Runs a job in memory of its own.
 fn run_in_memory(alloc: Global, job: Job<'_>, src: &[u8]) -> Made
     requires { IsValidJob job }
-    ensures { IsOutcome job.entry src.now result.output.items result.losses.items result.report
+    ensures { ConvertsInMemory job.entry src.now result.output.items result.losses.items result.report
         result.status }
 {
     known_input();
@@ -54,6 +54,8 @@ fn hand_over(made: &Made, dst: &mut [u8], losses: &mut [Loss], report: &mut Repo
     ensures losses { result ≡ true
         → losses.new ≡ made.now.losses.items ++ drop (vec_len made.now.losses) losses.old }
     ensures kept { result ≡ false → (dst.new ≡ dst.old) × (losses.new ≡ losses.old) }
+    ensures small { result ≡ false → (length dst.new < report.new.written)
+        ⊎ (length losses.new < report.new.losses) }
 {
     *report = Report {
         written: made.output.len() as u64,
@@ -80,8 +82,11 @@ pub(crate) fn convert_job(
     requires { IsValidJob job }
     ensures done { IsDone result → IsHandedOver job.entry src.now dst.old dst.new losses.old
         losses.new report.new result }
-    ensures room { result ≡ 10 → IsWanted job.entry src.now dst.old dst.new losses.old losses.new
-        report.new }
+    ensures room { result ≡ 10 → IsWanted job.entry src.now report.new }
+    ensures small { result ≡ 10 → (length dst.new < report.new.written)
+        ⊎ (length losses.new < report.new.losses) }
+    ensures kept { ¬ (IsDone result) → (dst.new ≡ dst.old) × (losses.new ≡ losses.old) }
+    ensures known { ¬ (result ≡ 2) }
     ensures long { result ≡ 13 ↔ (job.entry.limit < length src.now) }
 {
     *report = Report::NONE;

@@ -8,9 +8,9 @@
 
 mod coder;
 mod convert;
+mod decoder;
 mod descriptor;
 mod descriptors;
-mod decoder;
 mod encoder;
 mod encoder_progress;
 mod encoding;

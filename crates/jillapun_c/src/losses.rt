@@ -12,11 +12,11 @@ use std::io::{ErrorKind, Write};
 #[repr(C)]
 #[derive(Clone, Copy)]
 pub struct Loss {
-    /// Of a malformed sequence, its offset in bytes from the start of the input. Of a character, how
-    /// many characters of the text stand before it.
+    /// Of a malformed sequence, its offset in bytes from the start of the input. Of a character,
+    /// how many characters of the text stand before it.
     pub place: u64,
-    /// Of a malformed sequence, its length in bytes, 1 to 4. Of a character, its code point, or FFFD
-    /// where ISO-2022-JP refuses a control.
+    /// Of a malformed sequence, its length in bytes, 1 to 4. Of a character, its code point, or
+    /// FFFD if ISO-2022-JP refuses a control.
     pub number: u32,
     /// `BAD` for a malformed sequence, `LOST` for a character.
     pub kind: u8,

@@ -47,7 +47,8 @@ impl Report {
 
 // The status of a run that a fault ended, and what is reported of it.
 fn told_fault(fault: Fault) -> (u8, Report)
-    ensures { IsToldFault fault result.1 result.0 }
+    ensures told { IsToldFault fault result.1 result.0 }
+    ensures known { ¬ (result.0 ≡ 2) }
 {
     let mut report = Report::NONE;
     let status = match fault {
@@ -77,6 +78,7 @@ fn told_fault(fault: Fault) -> (u8, Report)
 pub(crate) fn told(answer: Result<recode::Report, Fault>) -> (u8, Report)
     ensures ok { IfOk answer (λ p. IsToldReport p result.1 result.0) }
     ensures err { IfErr answer (λ f. IsToldFault f result.1 result.0) }
+    ensures known { ¬ (result.0 ≡ 2) }
 {
     match answer {
         Ok(run) => {

@@ -1,7 +1,7 @@
 //! The numbers of a call, and the job that they ask for.
 
 ghost use Rattle.std.specs.Prelude.{◌≡◌, ◌⊎◌, IfErr, IfNone, IfOk, IfSome};
-ghost use Rattle.jillapun_c.specs.Asked.{AreKnown, IsAskedFor, IsNamed, policy_at};
+ghost use Rattle.jillapun_c.specs.Asked.{AreKnown, IsAskedFor, NamesJob, policy_at};
 
 use crate::encoding_number::{encoding_of, mark_of};
 use crate::status::{DECIMAL, HEXADECIMAL, NOT_READY, STOP, UNKNOWN};
@@ -34,7 +34,7 @@ impl Request {
     // The job, if each number stands for something. It may want indexes that are not there.
     fn named(self, tables: &Tables) -> Option<Job<'_>>
         ensures some { IfSome result
-            (IsNamed tables.now self.from self.to self.mark self.policy self.limit) }
+            (NamesJob tables.now self.from self.to self.mark self.policy self.limit) }
         ensures none { IfNone result (¬ (AreKnown self.from self.to self.mark self.policy)) }
     {
         let from = encoding_of(self.from)?;
