@@ -203,7 +203,9 @@ class Streams:
                     lost.append((index - 1, progress.scalar))
             else:
                 raise Wrong("%s does not end" % call)
-        self.must("after the end", getattr(self.library, call)(handle, self.source("", of_units), room, True, progress), "FINISHED")
+        # Then it is as a new one.
+        self.must("after the end", getattr(self.library, call)(handle, self.source("", of_units), room, True, progress))
+        self.same("after the end", target, (progress.read, progress.written), (0, 0))
         self.library.jillapun_encoder_free(handle)
         self.must("freed", getattr(self.library, call)(handle, self.source("", of_units), room, True, progress), "CLOSED")
         return bytes(output), lost, had
@@ -305,7 +307,7 @@ def faults(library):
     for _ in range(ROUNDS):
         job = fuzz.job_of(streams.random, fuzz.WEIGHTED)
         data = streams.inputs.data(streams.random, job, streams.random.choice((5, 40, 300)))
-        parts = fuzz.cut(streams.random, data)
+        parts = fuzz.cut(streams.random, data) or [b""]
         try:
             if "decoders" in there:
                 streams.decoders(job, data, parts)
