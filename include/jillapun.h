@@ -601,6 +601,51 @@ uint8_t jillapun_encoder_new(jillapun_tables tables, uint8_t encoding, jillapun_
 /** Ends an encoder, and empties its handle. Nothing is done with one that holds none. */
 void jillapun_encoder_free(jillapun_encoder *encoder);
 
+/* What an encoder tells of itself. */
+
+/**
+ * The number of the output encoding, in which the encoder writes; `JILLAPUN_NO_ENCODING` where
+ * the handle holds no encoder.
+ */
+uint8_t jillapun_encoder_encoding(jillapun_encoder *encoder);
+
+/**
+ * Whether an escape to ASCII is still to be written at the end of the stream: so only in
+ * ISO-2022-JP, where another set is in force. False where the handle holds no encoder.
+ */
+bool jillapun_encoder_has_pending_state(jillapun_encoder *encoder);
+
+/**
+ * How many bytes are room enough for what `n` bytes of UTF-8 are encoded to with references, if
+ * each character has bytes; `SIZE_MAX` where the number passes a `size_t`, or the handle holds
+ * no encoder.
+ */
+size_t jillapun_encoder_max_length_from_utf8_if_no_unmappables(jillapun_encoder *encoder, size_t n);
+
+/**
+ * How many bytes are room enough for what `n` bytes of UTF-8 are encoded to without
+ * replacement, and for the last escape; `SIZE_MAX` where the number passes a `size_t`, or the
+ * handle holds no encoder.
+ */
+size_t jillapun_encoder_max_length_from_utf8_without_replacement(jillapun_encoder *encoder,
+    size_t n);
+
+/**
+ * How many bytes are room enough for what `n` units of UTF-16 are encoded to with references,
+ * if each character has bytes; `SIZE_MAX` where the number passes a `size_t`, or the handle
+ * holds no encoder.
+ */
+size_t jillapun_encoder_max_length_from_utf16_if_no_unmappables(jillapun_encoder *encoder,
+    size_t n);
+
+/**
+ * How many bytes are room enough for what `n` units of UTF-16 are encoded to without
+ * replacement, and for the last escape; `SIZE_MAX` where the number passes a `size_t`, or the
+ * handle holds no encoder.
+ */
+size_t jillapun_encoder_max_length_from_utf16_without_replacement(jillapun_encoder *encoder,
+    size_t n);
+
 /* The exports that encode UTF-16. */
 
 /**

@@ -61,6 +61,6 @@ pub record DecodesPart (unit : OutputUnit) (before : Decoder) (after : Option Co
 
 -- the room that is asked for the text of so many bytes; SIZE_MAX if it passes a number, there is no decoder, or it ended
 abbrev pub AsksRoom : OutputUnit → Option Decoder → (size returned : ℕ) → Type 0
-AsksRoom unit None size returned = returned ≡ REFUSED
-AsksRoom unit (Some d) size returned =
-    ((decoder_view d).finished ≡ true → returned ≡ REFUSED) × ((decoder_view d).finished ≡ false → returned ≡ unwrap_or (room_asked (decoder_view d).opening unit size) REFUSED)
+AsksRoom asked_in None size returned = returned ≡ REFUSED
+AsksRoom asked_in (Some d) size returned =
+    ((decoder_view d).finished ≡ true → returned ≡ REFUSED) × ((decoder_view d).finished ≡ false → returned ≡ unwrap_or (room_asked (decoder_view d).opening asked_in size) REFUSED)

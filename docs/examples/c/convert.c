@@ -24,7 +24,7 @@ static uint8_t load(int count, char **paths, jillapun_tables *tables) {
 int main(int argc, char **argv) {
     static uint8_t input[1 << 16], output[1 << 20];
     static jillapun_loss losses[1 << 16];
-    jillapun_tables tables = {0};
+    static jillapun_tables tables; /* {0}, as all that is static */
     jillapun_report told;
     if (argc < 3 || load(argc - 3, argv + 3, &tables) != JILLAPUN_OK)
         return 1;

@@ -1,0 +1,61 @@
+-- The numbers and the words of the definitions, worked.
+use Rattle.std.specs.Prelude.{◌≡◌, Option, None, Some, codes, refl}
+use Rattle.encoding_index.specs.declared.fault.IndexFaultKind.TheVariants as fault
+use Rattle.encoding_index.specs.declared.fault.LoadFault.TheVariants.{Text, Table}
+use Rattle.encoding_index.specs.IndexText.{memory_fault}
+use Rattle.encoding_tables.specs.declared.table_fault.TableFault.TheVariants as table
+use Rattle.encoding_front.specs.declared.encoding.Encoding.{Encoding}
+use Rattle.encoding_front.specs.declared.mark.Mark.{Mark}
+use Rattle.jillapun_c.specs.EncodingNumbers.{encoding_at, mark_at, needed_file}
+use Rattle.jillapun_c.specs.IndexFiles.{told_of}
+use Rattle.jillapun_c.specs.declared.index_files.FileFault.TheVariants as told
+use Rattle.jillapun_c.specs.declared.status.TheConstants.{SNIFF, REMOVE, KEEP, NO_ENCODING}
+
+-- the numbers of encodings: the first, the last, and none behind it
+pub first_encoding : encoding_at 0 ≡ Some Encoding.Big5
+first_encoding = refl
+
+pub utf8_is_25 : encoding_at 25 ≡ Some Encoding.Utf8
+utf8_is_25 = refl
+
+pub last_encoding : encoding_at 39 ≡ Some Encoding.XUserDefined
+last_encoding = refl
+
+pub no_encoding_behind : encoding_at 40 ≡ None
+no_encoding_behind = refl
+
+pub none_is_no_number : encoding_at NO_ENCODING ≡ None
+none_is_no_number = refl
+
+-- the numbers of what becomes of marks
+pub sniffs : mark_at SNIFF ≡ Some Mark.Sniff
+sniffs = refl
+
+pub removes : mark_at REMOVE ≡ Some Mark.Remove
+removes = refl
+
+pub keeps : mark_at KEEP ≡ Some Mark.Keep
+keeps = refl
+
+-- the files of EUC-JP, and none behind them
+pub first_file_of_euc_jp : needed_file 1 0 ≡ Some (codes "index-jis0208.txt")
+first_file_of_euc_jp = refl
+
+pub second_file_of_euc_jp : needed_file 1 1 ≡ Some (codes "index-jis0212.txt")
+second_file_of_euc_jp = refl
+
+pub no_third_file_of_euc_jp : needed_file 1 2 ≡ None
+no_third_file_of_euc_jp = refl
+
+-- what is told of faults: a line, no line alone, refused memory
+pub line_is_told : told_of (Text (record { line = 3; kind = fault.Row })) ≡ told.Text 3
+line_is_told = refl
+
+pub no_line_is_told : told_of (Table table.Present) ≡ told.Text 0
+no_line_is_told = refl
+
+pub refused_text_is_told : told_of (Text memory_fault) ≡ told.Memory
+refused_text_is_told = refl
+
+pub refused_table_is_told : told_of (Table table.Memory) ≡ told.Memory
+refused_table_is_told = refl
