@@ -137,7 +137,7 @@ _declare("jillapun_convert_descriptors", Byte, Tables, Byte, Byte, Byte, Byte, L
 @lru_cache(maxsize=None)
 def streams() -> ctypes.CDLL:
     """The library, with the calls of streams declared."""
-    call = (_HANDLE, *_LENT, *_ROOM, ctypes.c_bool)
+    call = (_HANDLE, *_ROOM, *_ROOM, ctypes.c_bool)
     _declare("jillapun_decoder_new", Byte, Tables, Byte, Byte, _HANDLE)
     _declare("jillapun_decoder_decode_to_utf8_without_replacement", Byte, *call, ctypes.POINTER(Progress))
     _declare("jillapun_decoder_free", None, _HANDLE)
@@ -145,3 +145,8 @@ def streams() -> ctypes.CDLL:
     _declare("jillapun_encoder_encode_from_utf8_without_replacement", Byte, *call, ctypes.POINTER(EncoderProgress))
     _declare("jillapun_encoder_free", None, _HANDLE)
     return library
+
+
+def address_of(data: bytes) -> int:
+    """Where the bytes stand, as long as they are kept: a call may be handed what follows a place in them."""
+    return ctypes.cast(ctypes.c_char_p(data), ctypes.c_void_p).value or 0

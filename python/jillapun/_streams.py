@@ -47,11 +47,11 @@ class Decoder:
         more can be decoded."""
         if self._is_ended:
             raise ValueError("the stream has ended")
-        parts, at, progress = [], 0, c.Progress()
+        data = bytes(data)
+        parts, at, progress, start = [], 0, c.Progress(), c.address_of(data)
         while True:
-            left = data[at:] if at else data
             status = c.library.jillapun_decoder_decode_to_utf8_without_replacement(
-                ctypes.byref(self._handle), left, len(left), self._room, _ROOM, last, ctypes.byref(progress)
+                ctypes.byref(self._handle), start + at, len(data) - at, self._room, _ROOM, last, ctypes.byref(progress)
             )
             if status != c.OK:
                 raise JillapunError("status %d" % status)
@@ -97,18 +97,17 @@ class Encoder:
         return b"".join(parts)
 
     def _put(self, data: bytes, last: bool, parts: List[bytes], is_reference: bool = False) -> None:
-        progress, at = c.EncoderProgress(), 0
+        progress, at, start = c.EncoderProgress(), 0, c.address_of(data)
         while True:
-            left = data[at:] if at else data
             status = c.library.jillapun_encoder_encode_from_utf8_without_replacement(
-                ctypes.byref(self._handle), left, len(left), self._room, _ROOM, last, ctypes.byref(progress)
+                ctypes.byref(self._handle), start + at, len(data) - at, self._room, _ROOM, last, ctypes.byref(progress)
             )
             if status != c.OK:
                 raise JillapunError("status %d" % status)
+            if not is_reference:
+                self._index += len(data[at : at + progress.read].decode())
             at += progress.read
             parts.append(self._room[: progress.written])
-            if not is_reference:
-                self._index += len(left[: progress.read].decode())
             if progress.outcome == c.INPUT_EMPTY:
                 return
             if progress.outcome == c.UNMAPPABLE:

@@ -1,5 +1,5 @@
 -- What the numbers of a call ask for.
-use Rattle.std.specs.Prelude.{◌≡◌, ℕ, ◌^◌, min, List, [], ◌∷◌, Option, Some, None, IsSome, slice_get}
+use Rattle.std.specs.Prelude.{◌≡◌, ℕ, ◌^◌, min, [], ◌∷◌, Option, Some, None, IsSome, slice_get}
 use Rattle.encoding_tables.specs.IndexLists.{IndexLists}
 use Rattle.recode.specs.Job.{IsValidJob}
 use Rattle.recode.specs.declared.job.Job.{Job}

@@ -5,10 +5,10 @@ pub mod Conversions
 pub mod DecoderCalls
 pub mod EncoderCalls
 pub mod EncodingNumbers
+pub mod Examples
 pub mod IndexFiles
 pub mod Losses
 pub mod Openings
 pub mod Ownership
 pub mod Room
 pub mod Streams
-pub mod Examples
