@@ -2,7 +2,7 @@
 
     >>> import jillapun
     >>> jillapun.decode(b"A\\x83\\x6e\\xff", "shift_jis")
-    Decoded(text='Aハ\\ufffd', faults=[Bad(offset=3, length=1)])
+    Decoded(text='Aハ�', faults=[Bad(offset=3, length=1)])
     >>> jillapun.convert("a¥b".encode(), "utf-8", "shift_jis")
     Converted(output=b'a\\\\b', faults=[], faithful=False)
 

@@ -68,7 +68,7 @@ def decode(data: bytes, encoding: str, *, mark: str = "remove", indexes: Optiona
     decide the encoding, "keep" takes it for text.
 
     >>> decode(b"A\\x83\\x6e\\xff", "shift_jis")
-    Decoded(text='Aハ\\ufffd', faults=[Bad(offset=3, length=1)])
+    Decoded(text='Aハ�', faults=[Bad(offset=3, length=1)])
     """
     _, output, faults = _run(bytes(data), encoding, _UTF_8, mark, "decimal", c.NO_LIMIT, indexes)
     return Decoded(output.decode(), faults)  # type: ignore[arg-type]

@@ -1,6 +1,7 @@
 """What no case says: errors, files, streams over files, threads, and the program."""
 
 import contextlib
+import doctest
 import io
 import os
 import subprocess
@@ -151,6 +152,16 @@ class Threads(unittest.TestCase):
         for thread in threads:
             thread.join()
         self.assertEqual(wrong, [])
+
+
+class Documents(unittest.TestCase):
+    def test_examples(self) -> None:
+        """What docs and docstrings show is what comes."""
+        modules = [jillapun, sys.modules["jillapun._texts"]]
+        ran = [doctest.testmod(module, extraglobs=vars(jillapun)) for module in modules]
+        ran.append(doctest.testfile(os.path.join(cases.TOP, "docs/PYTHON.md"), module_relative=False, encoding="utf-8"))
+        self.assertEqual([result.failed for result in ran], [0, 0, 0])
+        self.assertTrue(all(result.attempted >= 3 for result in ran))
 
 
 class Program(unittest.TestCase):

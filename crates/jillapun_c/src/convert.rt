@@ -109,7 +109,13 @@ mod tests {
         Ok(Box::leak(Box::new(alloc, tables)?))
     }
 
-    fn left(alloc: Global, from: u8, to: u8, policy: u8, src: &[u8]) -> Result<Left, AllocError> {
+    fn converted(
+        alloc: Global,
+        from: u8,
+        to: u8,
+        policy: u8,
+        src: &[u8],
+    ) -> Result<Left, AllocError> {
         let none = Loss {
             place: 9,
             number: 9,
@@ -139,7 +145,7 @@ mod tests {
 
     #[test]
     fn nothing_is_lost(rt: HostRuntime) -> Result<(), AllocError> {
-        let left = left(rt.alloc(), SHIFT_JIS, UTF_8, DECIMAL, b"A\x83\x6E")?;
+        let left = converted(rt.alloc(), SHIFT_JIS, UTF_8, DECIMAL, b"A\x83\x6E")?;
         assert_eq!(rt; left.status, OK);
         assert_eq!(rt; left.dst, *b"A\xE3\x83\x8F........");
         assert_eq!(rt; left.report.written, 4);
@@ -151,7 +157,7 @@ mod tests {
 
     #[test]
     fn losses_are_told(rt: HostRuntime) -> Result<(), AllocError> {
-        let left = left(rt.alloc(), UTF_8, SHIFT_JIS, DECIMAL, b"a\xC3\xA8b")?;
+        let left = converted(rt.alloc(), UTF_8, SHIFT_JIS, DECIMAL, b"a\xC3\xA8b")?;
         assert_eq!(rt; left.status, LOSSY);
         assert_eq!(rt; left.dst, *b"a&#232;b....");
         assert_eq!(rt; left.report.lost, 1);
@@ -167,12 +173,12 @@ mod tests {
     }
 
     fn left_of_fault(alloc: Global) -> Result<Left, AllocError> {
-        left(alloc, UTF_8, UTF_8, DECIMAL, b"ab\xFFc")
+        converted(alloc, UTF_8, UTF_8, DECIMAL, b"ab\xFFc")
     }
 
     #[test]
     fn what_is_wanted_is_told(rt: HostRuntime) -> Result<(), AllocError> {
-        let left = left(
+        let left = converted(
             rt.alloc(),
             UTF_8,
             SHIFT_JIS,
@@ -188,7 +194,7 @@ mod tests {
 
     #[test]
     fn policy_stops(rt: HostRuntime) -> Result<(), AllocError> {
-        let left = left(rt.alloc(), UTF_8, SHIFT_JIS, STOP, b"ab\xC3\xA8c")?;
+        let left = converted(rt.alloc(), UTF_8, SHIFT_JIS, STOP, b"ab\xC3\xA8c")?;
         assert_eq!(rt; left.status, STOPPED);
         assert_eq!(rt; left.dst, *b"ab..........");
         assert_eq!(rt; left.report.index, 2);
@@ -199,9 +205,12 @@ mod tests {
     #[test]
     fn others_are_refused(rt: HostRuntime) -> Result<(), AllocError> {
         let alloc = rt.alloc();
-        assert_eq!(rt; left(alloc, 40, UTF_8, DECIMAL, b"")?.status, UNKNOWN);
-        assert_eq!(rt; left(alloc, UTF_8, UTF_8, 3, b"")?.status, UNKNOWN);
-        assert_eq!(rt; left(alloc, BIG5, UTF_8, DECIMAL, b"")?.status, NOT_READY);
+        assert_eq!(rt; converted(alloc, 40, UTF_8, DECIMAL, b"")?.status, UNKNOWN);
+        assert_eq!(rt; converted(alloc, UTF_8, UTF_8, 3, b"")?.status, UNKNOWN);
+        assert_eq!(rt;
+            converted(alloc, BIG5, UTF_8, DECIMAL, b"")?.status,
+            NOT_READY
+        );
         assert_eq!(rt;
             left(alloc, UTF_8, UTF_8, DECIMAL, b"thirteen byte")?.status,
             TOO_LONG
