@@ -7,7 +7,7 @@ int main(void) {
   /* Index texts are read from files, as indexes/index-jis0208.txt; this has two of their rows. */
   const char name[] = "index-jis0208.txt", rows[] = "292\t0x304B\n323\t0x306A\n";
   jillapun_index_file file = {{(const uint8_t *)name, strlen(name)}, {(const uint8_t *)rows, strlen(rows)}};
-  jillapun_tables tables = {0};
+  static jillapun_tables tables; /* {0}, as all that is static */
   jillapun_decoder decoder = {0};
   jillapun_index_fault fault;
   uint8_t encoding = jillapun_for_label((const uint8_t *)"sjis", 4);
