@@ -164,16 +164,12 @@ mod tests {
         assert_eq!(rt; left.losses[0].kind, LOST);
         assert_eq!(rt; left.losses[0].place, 1);
         assert_eq!(rt; left.losses[0].number, 232);
-        let left = left_of_fault(rt.alloc())?;
+        let left = converted(rt.alloc(), UTF_8, UTF_8, DECIMAL, b"ab\xFFc")?;
         assert_eq!(rt; left.status, LOSSY);
         assert_eq!(rt; left.losses[0].kind, BAD);
         assert_eq!(rt; left.losses[0].place, 2);
         assert_eq!(rt; left.losses[0].number, 1);
         Ok(())
-    }
-
-    fn left_of_fault(alloc: Global) -> Result<Left, AllocError> {
-        converted(alloc, UTF_8, UTF_8, DECIMAL, b"ab\xFFc")
     }
 
     #[test]
@@ -212,7 +208,7 @@ mod tests {
             NOT_READY
         );
         assert_eq!(rt;
-            left(alloc, UTF_8, UTF_8, DECIMAL, b"thirteen byte")?.status,
+            converted(alloc, UTF_8, UTF_8, DECIMAL, b"thirteen byte")?.status,
             TOO_LONG
         );
         Ok(())
