@@ -21,4 +21,5 @@ mod progress;
 pub mod status;
 mod tables;
 mod tables_handle;
+mod tests;
 mod whole;
