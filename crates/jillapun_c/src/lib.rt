@@ -29,6 +29,7 @@ mod run;
 pub mod status;
 mod tables;
 mod tables_handle;
+mod tests;
 mod whole;
 
 pub use losses::Loss;
