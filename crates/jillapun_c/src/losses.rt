@@ -1,6 +1,6 @@
 //! What a conversion lost, as records in place of the lines of a log.
 
-ghost use Rattle.std.specs.Prelude.{◌≡◌, Some, []};
+ghost use Rattle.std.specs.Prelude.{◌≡◌, ◌≤◌, Some, [], length};
 
 use crate::status::{BAD, LOST};
 use recode_log::LogLine;
@@ -76,19 +76,30 @@ impl Write for LossLog {
 
     ghost contents = { λ log. Some (log_of_losses log.losses.items) };
 
-    // Takes one line a call, as the engine writes them. Anything else is refused, and the call
-    // fails, as it does where memory is refused.
+    // Takes the first line of those that it is handed. What is no line is refused, and the call
+    // fails, as it does if memory is refused.
     fn write(&mut self, buf: &[u8]) -> io::Result<usize> {
-        let Some(line) = LogLine::parse(buf) else {
+        let end = first_line_len(buf);
+        let Some(line) = LogLine::parse(&buf[..end]) else {
             return Err(io::Error::from(ErrorKind::InvalidData));
         };
         if self.losses.push(Loss::of(line)).is_err() {
             return Err(io::Error::from(ErrorKind::OutOfMemory));
         }
-        Ok(buf.len())
+        Ok(end)
     }
 
     fn flush(&mut self) -> io::Result<()> {
         Ok(())
+    }
+}
+
+// How many bytes the first line has, line feed included: all if there is none.
+fn first_line_len(bytes: &[u8]) -> usize
+    ensures { result ≤ length bytes.now }
+{
+    match bytes.iter().position(|byte| *byte == b'\n') {
+        Some(at) => at + 1,
+        None => bytes.len(),
     }
 }
