@@ -173,6 +173,20 @@ mod tests {
     }
 
     #[test]
+    fn a_fault_may_be_two_losses(rt: HostRuntime) -> Result<(), AllocError> {
+        let left = converted(rt.alloc(), UTF_8, SHIFT_JIS, DECIMAL, b"a\xFFb")?;
+        assert_eq!(rt; left.status, LOSSY);
+        assert_eq!(rt; left.dst, *b"a&#65533;b..");
+        assert_eq!(rt; left.report.losses, 2);
+        assert_eq!(rt; left.losses[0].kind, BAD);
+        assert_eq!(rt; left.losses[0].place, 1);
+        assert_eq!(rt; left.losses[1].kind, LOST);
+        assert_eq!(rt; left.losses[1].place, 1);
+        assert_eq!(rt; left.losses[1].number, 65533);
+        Ok(())
+    }
+
+    #[test]
     fn what_is_wanted_is_told(rt: HostRuntime) -> Result<(), AllocError> {
         let left = converted(
             rt.alloc(),
