@@ -69,15 +69,15 @@ run:
 # plain program: a difference is printed with its seed. The gate does this with seeds of its own. (The two programs of cases
 # are proved and built here; run in this place, they find no cases, and end with an error.)
 fuzz: build
-	@cd crates/encoding_cases && rt run > /dev/null 2>&1; test -x out/encoding_cases
-	@cd crates/recode_cases && rt run > /dev/null 2>&1; test -x out/recode_cases
+	@cd crates/test_encoding_cases && rt run > /dev/null 2>&1; test -x out/test_encoding_cases
+	@cd crates/test_recode_cases && rt run > /dev/null 2>&1; test -x out/test_recode_cases
 	@python3 tools/fuzz.py seconds $(SECONDS)
 
 # The program, and calls of the libraries, with each request for memory refused in turn, and then with all refused:
 # `recode` must end with status 3 and say so; a call must return that fault, leave tables as they were, and succeed when
 # made again. The first time 4 minutes of processor time after a build.
 refused: build
-	@cd crates/encoding_refusals && rt run > /dev/null
+	@cd crates/test_refusals && rt run > /dev/null
 	@python3 tools/refused_memory.py
 
 # `recode-places` on the logs of runs of `recode`, beside a plain program. The gate does this.
@@ -102,19 +102,19 @@ built = cd crates/$(1) && mkdir -p out && { rt run > /dev/null 2> out/built.txt 
 # same index texts: the gate runs a sample. This needs Python and bash, and takes minutes.
 characters: SHELL = bash
 characters:
-	@$(call built,encoding_index_files)
+	@$(call built,test_index_files)
 	@cd indexes && diff <(python3 $(CURDIR)/tools/characters.py . all) \
-		<($(CURDIR)/crates/encoding_index_files/out/encoding_index_files all | sed -n '/ reads: /,$$p')
+		<($(CURDIR)/crates/test_index_files/out/test_index_files all | sed -n '/ reads: /,$$p')
 
 # Whether each character is kept as a text of its own, in every encoding, as a run reports it, against what
 # `tools/characters.py` makes of it: the gate does a part. This needs Python and bash, and takes minutes:
 # the plain program alone 2 to 3 of processor time.
 verdicts: SHELL = bash
 verdicts:
-	@$(call built,recode_cases)
+	@$(call built,test_recode_cases)
 	@cd indexes && for name in $$(python3 $(CURDIR)/tools/characters.py . names); do \
 		diff <(python3 $(CURDIR)/tools/characters.py . verdicts 1 $$name) \
-			<($(CURDIR)/crates/recode_cases/out/recode_cases 1 $$name) || exit 1; \
+			<($(CURDIR)/crates/test_recode_cases/out/test_recode_cases 1 $$name) || exit 1; \
 	done
 
 # The programs, the library for C with its header and its file for pkg-config, their man pages, and the index texts, below

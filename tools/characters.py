@@ -1,14 +1,14 @@
 #!/usr/bin/env python3
-"""What the program `encoding_index_files` must print of the forty encodings by name.
+"""What the program `test_index_files` must print of the forty encodings by name.
 
-    cd crates/encoding_index_files
+    cd crates/test_index_files
     python3 ../../tools/characters.py data | diff - <(sed -n '/ reads: /,$p' stdout)
 
 With the word `all` after the folder, it is what the program must print with this word, by which it writes every
 character in every encoding (`make characters`).
 
 With the word `names` it prints the names. With `verdicts`, a number and names it prints what the program
-`recode_cases` must print with these (`make verdicts`): of the characters, in the planes from 1 on of those that
+`test_recode_cases` must print with these (`make verdicts`): of the characters, in the planes from 1 on of those that
 the number divides, whether each is kept, folded or lost as a text of its own.
 
 Of each encoding: what it reads in short streams of bytes, among which are the bytes of every character of its

@@ -6,7 +6,7 @@
 
 A round has a seed, from which all of it is made. By the program `recode`: an input that is cut into reads at random, and
 whose encodings, mark, policy, pivot and limit are random; status, output and log are compared. By the libraries: short
-streams and texts as lines of cases, which `encoding_cases` and `recode_cases` convert at every cut, by every call and
+streams and texts as lines of cases, which `test_encoding_cases` and `test_recode_cases` convert at every cut, by every call and
 with buffers of all sizes (`data/README.md` of each). The programs are those that `rt ci` or `rt run` has left in `out/`.
 A difference is printed with its seed, and of the program with the shortest input that was found to have it.
 """
@@ -30,7 +30,7 @@ from plain_recode import MARKS, Job, Run
 TOP = os.path.abspath(os.path.join(os.path.dirname(os.path.abspath(__file__)), ".."))
 INDEXES = os.path.join(TOP, "indexes")
 PROGRAMS = {
-    name: os.path.join(TOP, "crates", name, "out", name) for name in ("recode_cli", "encoding_cases", "recode_cases")
+    name: os.path.join(TOP, "crates", name, "out", name) for name in ("recode_cli", "test_encoding_cases", "test_recode_cases")
 }
 
 # The seeds of the gate: those whose runs of the program it has, and those whose lines of cases.
@@ -400,9 +400,9 @@ def line_faults(program, given, lines, front):
 
 def library_faults(random, inputs, fronts):
     lines = [stream_line(random, inputs) for _ in range(STREAMS)] + [text_line(random, inputs) for _ in range(TEXTS)]
-    yield from line_faults("encoding_cases", "utf-8.txt", lines, fronts[0])
+    yield from line_faults("test_encoding_cases", "utf-8.txt", lines, fronts[0])
     lines = [conversion_line(random, inputs) for _ in range(CONVERSIONS)]
-    yield from line_faults("recode_cases", "worked.txt", lines, fronts[1])
+    yield from line_faults("test_recode_cases", "worked.txt", lines, fronts[1])
 
 
 def not_built(names):

@@ -37,7 +37,7 @@ TOP = os.path.abspath(os.path.join(os.path.dirname(os.path.abspath(__file__)), "
 STEPS = [
     ("command lines", command_lines.faults),
     ("random inputs", fuzz.faults),
-    ("stored output of encoding_index_files", stored.index_file_faults),
+    ("stored output of test_index_files", stored.index_file_faults),
     ("a text in Shift_JIS", sample.faults),
     ("verdicts of single characters", stored.verdict_faults),
     ("refused memory", refused_memory.faults),

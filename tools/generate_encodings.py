@@ -372,7 +372,7 @@ def empty_conversions():
 
 
 def counted_conversions():
-    """What `recode_cases` prints of them: each is one case, and is converted twelve times."""
+    """What `test_recode_cases` prints of them: each is one case, and is converted twelve times."""
     cases = len(ENCODINGS) ** 2
     return "nothing.txt: %d cases, %d conversions, 0 differences" % (cases, 12 * cases)
 
@@ -411,10 +411,10 @@ WHOLE = {
     "encoding_labels/src/table.rt": table,
     "encoding_front/src/constants.rt": constants,
     "encoding_front/specs/examples/Constants.antt": worked_constants,
-    "encoding_index_files/src/lists.rt": lists_of_files,
+    "test_index_files/src/lists.rt": lists_of_files,
     "jillapun_c/src/lists.rt": lists_for_c,
     "recode/src/listing.rt": listing,
-    "recode_cases/data/nothing.txt": empty_conversions,
+    "test_recode_cases/data/nothing.txt": empty_conversions,
 }
 PARTS = {
     "encoding_labels/specs/Labels.antt": [constants_of_places, places_rise],
@@ -429,12 +429,12 @@ PARTS = {
     "encoding_front/src/codec_kind.rt": [rows],
     "encoding_front/specs/EncodingTable.antt": [variants_of_encodings, all_encodings],
     "encoding_front/specs/examples/Encodings.antt": [variants_alone, own_indexes],
-    "case_lines/src/kinds.rt": [kinds_by_name],
-    "library_tests/src/labels.rt": [label_names],
-    "library_tests/src/encoding.rt": [tested_imports, tested_encodings],
+    "test_case_lines/src/kinds.rt": [kinds_by_name],
+    "test_libraries/src/labels.rt": [label_names],
+    "test_libraries/src/encoding.rt": [tested_imports, tested_encodings],
 }
 # Of each file of stored output the one line that begins so.
-LINES = {"recode_cases/stdout": ("nothing.txt: ", counted_conversions)}
+LINES = {"test_recode_cases/stdout": ("nothing.txt: ", counted_conversions)}
 
 
 def comment(path):

@@ -6,7 +6,7 @@
 A page has each public item that a public path leads to: its doc comment, its signature and its contract, as they stand
 in the source, and links from the words of the contract to `words.md`, which has each with the line above its definition
 and its place. An item that is re-exported is named by its shortest path. At its head a page has a table of calls by what
-one wants to do (`reference_calls.toml`), and the programs of `library_examples` that use it. `make lint` calls `faults`:
+one wants to do (`reference_calls.toml`), and the programs of `test_examples` that use it. `make lint` calls `faults`:
 a public item without a doc comment, and a page that is not what this script writes. It needs Python 3.11.
 """
 
@@ -26,7 +26,7 @@ LIBRARIES = [
 ]  # fmt: skip
 
 # The program that makes the examples of the libraries' pages.
-EXAMPLES = "library_examples"
+EXAMPLES = "test_examples"
 
 # The programs among the examples that a page shows whole, each with what it does, and the item that has a link to it.
 PROGRAMS = {

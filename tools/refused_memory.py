@@ -3,7 +3,7 @@
 
     python3 tools/refused_memory.py
 
-They are `recode` and `encoding_refusals`, which makes each call of the encoding crates that takes memory, as `rt ci` or
+They are `recode` and `test_refusals`, which makes each call of the encoding crates that takes memory, as `rt ci` or
 `rt run` has left them in their `out/`. An allocator is compiled, by the kit's own clang, and loaded before the program.
 It refuses the Nth request (malloc, calloc, realloc, posix_memalign, aligned_alloc), for N = 1, 2, 3, .. until there is
 none left to refuse, or every one.
@@ -12,7 +12,7 @@ none left to refuse, or every one.
 Only for two requests may it end as it does with memory: std, before it collects the words of the command line and their
 slices, asks for the room of all of them, and if that is refused it asks word by word.
 
-`encoding_refusals` must print its stored output, with `refused, then` in one line, that of the call whose request was
+`test_refusals` must print its stored output, with `refused, then` in one line, that of the call whose request was
 refused; it compares the tables itself, before and after. Each call must have been refused, but for those that take no
 memory. A load says whether memory was refused to the reader of the text or, after all requests of that, to the tables.
 Where every request is refused those that take no memory have their result, and no other call has.
@@ -28,7 +28,7 @@ import tempfile
 TOP = os.path.abspath(os.path.join(os.path.dirname(os.path.abspath(__file__)), ".."))
 INDEXES = os.path.join(TOP, "indexes")
 PROGRAM = os.path.join(TOP, "crates/recode_cli/out/recode_cli")
-CALLS = os.path.join(TOP, "crates/encoding_refusals/out/encoding_refusals")
+CALLS = os.path.join(TOP, "crates/test_refusals/out/test_refusals")
 
 # Refuses request N of the process, or all from it on, by the environment, and reports that it does.
 ALLOCATOR = r"""
@@ -110,7 +110,7 @@ LINES = [
 
 FAULTY = {"index-jis0208.txt": b"1\t0x3000\n0\t0x3001\n", "index-big5.txt": b"0\t0x3000\n1\t0x0041\n"}
 
-# The calls of `encoding_refusals` that take no memory.
+# The calls of `test_refusals` that take no memory.
 FREE = {
     "read_ranges of no rows",
     "read_ranges of a faulty pointer",
@@ -201,7 +201,7 @@ def words_of(name):
 
 def sweep_calls(allocator):
     """Refuses the requests of the calls, and says what was wrong."""
-    with open(os.path.join(TOP, "crates/encoding_refusals/stdout"), encoding="utf-8") as file:
+    with open(os.path.join(TOP, "crates/test_refusals/stdout"), encoding="utf-8") as file:
         lines = file.read().splitlines()
     names = [line.split(": ")[0] for line in lines]
     wrong = []

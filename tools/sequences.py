@@ -1,7 +1,7 @@
 #!/usr/bin/env python3
-"""What the program `encoding_index_files` must print of every sequence of two bytes.
+"""What the program `test_index_files` must print of every sequence of two bytes.
 
-    cd crates/encoding_index_files
+    cd crates/test_index_files
     python3 ../../tools/sequences.py data | diff - <(sed '1,34d;/ reads: /,$d' stdout)
 
 The codecs are those of `standard.py`. After `--python` it compares the characters of pairs with the codecs of Python,

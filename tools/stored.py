@@ -1,10 +1,10 @@
 #!/usr/bin/env python3
-"""Compares what is stored, and what the program `recode_cases` prints, with what plain programs say of the same index
+"""Compares what is stored, and what the program `test_recode_cases` prints, with what plain programs say of the same index
 texts, so that no expected output was made from our own.
 
     python3 tools/stored.py
 
-- The stored output of `encoding_index_files`: `sequences.py` and `characters.py`, after its first 34 lines, which have
+- The stored output of `test_index_files`: `sequences.py` and `characters.py`, after its first 34 lines, which have
   entries taken from standards and code pages by hand.
 - What a run reports of each character as a text of its own, of every one of the basic plane and of some above it, in the
   encodings that have folds and in some that have none: `characters.py` (`make verdicts` has every character).
@@ -22,9 +22,9 @@ import sequences
 
 TOP = os.path.abspath(os.path.join(os.path.dirname(os.path.abspath(__file__)), ".."))
 INDEXES = os.path.join(TOP, "indexes")
-VERDICTS = os.path.join(TOP, "crates/recode_cases/out/recode_cases")
+VERDICTS = os.path.join(TOP, "crates/test_recode_cases/out/test_recode_cases")
 
-# The lines of `encoding_index_files` that were written by hand, one for each kind of index.
+# The lines of `test_index_files` that were written by hand, one for each kind of index.
 KINDS = 34
 
 # The encodings whose verdicts are compared, and which characters above the basic plane: those that it divides.
@@ -46,9 +46,9 @@ def difference(what, found, wanted):
 
 
 def index_file_faults():
-    stored = read("crates/encoding_index_files/stdout").splitlines()
+    stored = read("crates/test_index_files/stdout").splitlines()
     wanted = [*stored[:KINDS], *sequences.lines(INDEXES), *characters.lines(INDEXES, False)]
-    return difference("crates/encoding_index_files/stdout", stored, wanted)
+    return difference("crates/test_index_files/stdout", stored, wanted)
 
 
 def verdict_faults():
@@ -57,8 +57,8 @@ def verdict_faults():
     words = [VERDICTS, str(STEP), *JUDGED]
     ran = subprocess.run(words, cwd=INDEXES, capture_output=True, text=True, timeout=600, check=False)
     if ran.returncode:
-        return ["recode_cases: status %d, %s" % (ran.returncode, ran.stderr)]
-    return difference("recode_cases", ran.stdout.splitlines(), characters.verdicts(INDEXES, STEP, JUDGED))
+        return ["test_recode_cases: status %d, %s" % (ran.returncode, ran.stderr)]
+    return difference("test_recode_cases", ran.stdout.splitlines(), characters.verdicts(INDEXES, STEP, JUDGED))
 
 
 def main():

@@ -1,4 +1,4 @@
-"""The lines of cases of `crates/encoding_cases` and `crates/recode_cases`, as their `data/README.md` has them."""
+"""The lines of cases of `crates/test_encoding_cases` and `crates/test_recode_cases`, as their `data/README.md` has them."""
 
 import os
 import re
@@ -81,7 +81,7 @@ def bytes_of(words: str) -> bytes:
 
 
 def conversion_of(words: str) -> Optional[Conversion]:
-    """A conversion of `recode_cases`, or nothing where the line is of another kind."""
+    """A conversion of `test_recode_cases`, or nothing where the line is of another kind."""
     found = _CONVERSION.fullmatch(words)
     if not found or " | " not in " " + found[5]:
         return None
@@ -103,7 +103,7 @@ class Stream(NamedTuple):
 
 
 def stream_of(words: str) -> Optional[Stream]:
-    """A stream of `encoding_cases`: `decode big5 41=41 A1=!`, or `stream sniff utf-8 as utf-8: EFBBBF= 61=61`."""
+    """A stream of `test_encoding_cases`: `decode big5 41=41 A1=!`, or `stream sniff utf-8 as utf-8: EFBBBF= 61=61`."""
     decoded = re.fullmatch(r"decode (\S+)((?: [0-9A-F]+=\S*)*)", words)
     marked = re.fullmatch(r"stream (sniff|remove|keep) (\S+) as \S+:((?: [0-9A-F]+=\S*)*)", words)
     if not (decoded or marked):
@@ -129,7 +129,7 @@ class Text(NamedTuple):
 
 
 def text_case_of(words: str) -> Optional[Text]:
-    """A text of `encoding_cases`: `encode gbk 41=41 20AC=80 1F4A9=!`."""
+    """A text of `test_encoding_cases`: `encode gbk 41=41 20AC=80 1F4A9=!`."""
     found = re.fullmatch(r"encode (\S+)((?: \S*=\S*)*)", words)
     if not found:
         return None

@@ -27,11 +27,11 @@ TABLES = Tables()
 
 
 class Streams(unittest.TestCase):
-    """Streams and texts of `encoding_cases`: whole, and cut in two at each place."""
+    """Streams and texts of `test_encoding_cases`: whole, and cut in two at each place."""
 
     def test_streams(self) -> None:
         count = 0
-        for place, words, texts in cases.lines_in("encoding_cases"):
+        for place, words, texts in cases.lines_in("test_encoding_cases"):
             case = cases.stream_of(words)
             if not case:
                 continue
@@ -49,7 +49,7 @@ class Streams(unittest.TestCase):
 
     def test_texts(self) -> None:
         count = 0
-        for place, words, texts in cases.lines_in("encoding_cases"):
+        for place, words, texts in cases.lines_in("test_encoding_cases"):
             case = cases.text_case_of(words)
             if not case:
                 continue
@@ -67,7 +67,7 @@ class Streams(unittest.TestCase):
 
     def test_labels(self) -> None:
         count = 0
-        for place, words, _ in cases.lines_in("encoding_cases"):
+        for place, words, _ in cases.lines_in("test_encoding_cases"):
             if not words.startswith("label ") or "\\x" in words:
                 continue
             count += 1
@@ -82,20 +82,20 @@ class Streams(unittest.TestCase):
         self.assertGreater(count, 60)
 
     def test_output_encodings(self) -> None:
-        for _, words, _ in cases.lines_in("encoding_cases"):
+        for _, words, _ in cases.lines_in("test_encoding_cases"):
             if words.startswith("encoding "):
                 name, _, output = words.split()[1:4]
                 self.assertEqual((jillapun.name(name), jillapun.output_name(name)), (name, output))
 
 
 class Conversions(unittest.TestCase):
-    """Conversions of `recode_cases`, in memory and from file to file."""
+    """Conversions of `test_recode_cases`, in memory and from file to file."""
 
     def test_conversions(self) -> None:
         count = 0
         empty = {name: b"" for name in cases.KINDS}
         with tempfile.TemporaryDirectory() as folder:
-            for place, words, texts in cases.lines_in("recode_cases"):
+            for place, words, texts in cases.lines_in("test_recode_cases"):
                 case = cases.conversion_of(words)
                 if not case:
                     continue
