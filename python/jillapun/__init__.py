@@ -10,22 +10,20 @@ The second is what no count of faults tells: the yen sign is written as a byte t
 is done by a library that is proved, `libjillapun.so`; this package needs nothing else but the standard library.
 
 - `decode`, `encode`, `convert`: whole texts and inputs in memory.
-- `convert_file`, `convert_descriptors`: files, of any length, in little memory.
-- `open`, `Reader`, `Writer`: files of text. `Decoder`, `Encoder`: streams, chunk by chunk.
+- `convert_file`: a file into another.
 - `Indexes`: the indexes of encodings, from another folder than that of the installation. `name`, `output_name`: labels.
 
 A label that no encoding has raises `UnknownLabel`, which is a `LookupError`. Calls from several threads at once are
 made at once: Python's lock is let go while the library works.
 """
 
-from ._files import convert_descriptors, convert_file
+from ._files import convert_file
 from ._indexes import Indexes, default_folder, name, output_name
 from ._results import (
     Bad,
     Converted,
     ConvertedFile,
     Decoded,
-    DeviceFault,
     Encoded,
     IndexesMissing,
     JillapunError,
@@ -34,7 +32,6 @@ from ._results import (
     TooLong,
     UnknownLabel,
 )
-from ._streams import Decoder, Encoder, Reader, Writer, open
 from ._texts import convert, decode, encode
 
 __all__ = [
@@ -42,26 +39,19 @@ __all__ = [
     "Converted",
     "ConvertedFile",
     "Decoded",
-    "Decoder",
-    "DeviceFault",
     "Encoded",
-    "Encoder",
     "Indexes",
     "IndexesMissing",
     "JillapunError",
     "Lost",
-    "Reader",
     "Stopped",
     "TooLong",
     "UnknownLabel",
-    "Writer",
     "convert",
-    "convert_descriptors",
     "convert_file",
     "decode",
     "default_folder",
     "encode",
     "name",
-    "open",
     "output_name",
 ]

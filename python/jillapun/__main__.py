@@ -21,16 +21,15 @@ def words_of(arguments: Optional[List[str]]) -> argparse.Namespace:
 
 
 class Terminal:
-    """The progress of files, in the last line of a terminal; nothing where standard error is none."""
+    """Which file is converted, in the last line of a terminal; nothing if standard error is none."""
 
     def __init__(self, count: int):
-        self.count, self.done, self.name = count, 0, ""
+        self.count, self.done = count, 0
         self.is_shown = sys.stderr.isatty()
 
-    def show(self, read: int, size: int) -> None:
+    def show(self, name: str) -> None:
         if self.is_shown:
-            part = 100 * read // size if size else 100
-            sys.stderr.write("\r\x1b[K%d of %d: %s %d %%" % (self.done + 1, self.count, self.name, part))
+            sys.stderr.write("\r\x1b[K%d of %d: %s" % (self.done + 1, self.count, name))
             sys.stderr.flush()
 
     def clear(self) -> None:
@@ -43,9 +42,9 @@ def one_status(words: argparse.Namespace, path: str, indexes: "jillapun.Indexes"
     """Converts a file, and says what was lost: 0 where nothing was, 1 where something was, 4 where it failed."""
     target = os.path.join(words.into, os.path.basename(path)) if words.into else path
     options = {"mark": words.mark, "unmappable": words.unmappable, "indexes": indexes}
-    terminal.name = path
+    terminal.show(path)
     try:
-        done = jillapun.convert_file(path, target, words.source, words.target, progress=terminal.show, **options)
+        done = jillapun.convert_file(path, target, words.source, words.target, **options)
     except (OSError, MemoryError, jillapun.JillapunError) as fault:
         terminal.clear()
         print("%s: %s" % (path, fault or type(fault).__name__), file=sys.stderr)

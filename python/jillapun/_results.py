@@ -91,10 +91,6 @@ class TooLong(JillapunError):
     """The input has more bytes than the limit."""
 
 
-class DeviceFault(JillapunError, OSError):
-    """A read or a write failed."""
-
-
 class Stopped(JillapunError):
     """The policy is `stop`, and a character has no bytes in the output encoding."""
 
@@ -112,7 +108,7 @@ def fault_of(loss: c.Loss) -> Fault:
     return Bad(loss.place, loss.number) if loss.kind == c.BAD else Lost(loss.place, chr(loss.number))
 
 
-def refuse(status: int, report: c.Report) -> None:
+def refuse(status: int) -> None:
     """Raises what a status says that is neither `OK`, `LOSSY` nor `STOPPED`."""
     if status == c.NOT_READY:
         raise IndexesMissing("an index that the encoding needs is not loaded: Indexes() says from where")
@@ -120,8 +116,6 @@ def refuse(status: int, report: c.Report) -> None:
         raise MemoryError
     if status == c.TOO_LONG:
         raise TooLong("the input has more bytes than the limit")
-    if status == c.FAULT:
-        raise DeviceFault("%s failed" % {1: "a read", 2: "a write", 3: "a write of the log"}[report.fault])
     if status == c.UNKNOWN:
         raise UnknownLabel("no such encoding")
     raise JillapunError("status %d" % status)

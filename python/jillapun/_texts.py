@@ -54,7 +54,7 @@ def _run(
     if status == c.STOPPED:
         raise Stopped(Lost(report.index, chr(report.scalar)), output, faults)
     if status not in (c.OK, c.LOSSY):
-        refuse(status, report)
+        refuse(status)
     if short:
         _kept.room = short
     return status == c.OK, output, faults

@@ -28,7 +28,6 @@ class Errors(unittest.TestCase):
         none = jillapun.Indexes(texts={})
         self.assertEqual(jillapun.decode(b"a", "utf-8", indexes=none).text, "a")
         self.assertRaises(jillapun.IndexesMissing, jillapun.decode, b"a", "big5", indexes=none)
-        self.assertRaises(jillapun.IndexesMissing, jillapun.Decoder, "big5", indexes=none)
         with self.assertRaisesRegex(jillapun.IndexesMissing, "index-big5.txt: line 2 is faulty"):
             jillapun.Indexes(texts={"index-big5.txt": b"0\t0x43F0\nwhat\n"})
         self.assertRaises(jillapun.IndexesMissing, jillapun.Indexes, texts={"index-none.txt": b""})
@@ -48,16 +47,6 @@ class Errors(unittest.TestCase):
         self.assertEqual(done.output, b"&#26085;" * 1000)
         self.assertEqual(done.faults, [jillapun.Lost(index, "日") for index in range(1000)])
 
-    def test_descriptor(self) -> None:
-        """What can only be written to gives nothing, and what can only be read takes nothing."""
-        with open(os.devnull, "rb") as given, open(os.devnull, "wb") as made:
-            with self.assertRaisesRegex(jillapun.DeviceFault, "a read failed"):
-                jillapun.convert_descriptors(made.fileno(), made.fileno(), "utf-8", "utf-8")
-            self.assertEqual(jillapun.convert_descriptors(given.fileno(), given.fileno(), "utf-8", "utf-8"), (0, [], True))
-        with open(__file__, "rb") as given:
-            with self.assertRaisesRegex(jillapun.DeviceFault, "a write failed"):
-                jillapun.convert_descriptors(given.fileno(), given.fileno(), "utf-8", "utf-8")
-
 
 class Files(unittest.TestCase):
     def setUp(self) -> None:
@@ -67,42 +56,12 @@ class Files(unittest.TestCase):
     def tearDown(self) -> None:
         self.folder.cleanup()
 
-    def test_stream(self) -> None:
-        for label, codec in (("iso-2022-jp", "iso2022_jp"), ("euc-jp", "euc_jp"), ("utf-8", "utf_8")):
-            with jillapun.open(self.path, "w", encoding=label) as file:
-                for start in range(0, len(TEXT), 777):
-                    file.write(TEXT[start : start + 777])
-            self.assertEqual(Path(self.path).read_bytes(), TEXT.encode(codec))
-            with jillapun.open(self.path, encoding=label) as file:
-                self.assertEqual(list(file), TEXT.splitlines(keepends=True))
-                self.assertEqual(file.faults, [])
-            with jillapun.open(self.path, encoding=label) as file:
-                parts = [file.read(1000), file.readline(), file.readline(3), file.read()]
-            self.assertEqual("".join(parts), TEXT)
-            self.assertEqual((len(parts[0]), parts[1][-1], len(parts[2])), (1000, "\n", 3))
-
-    def test_faults_of_streams(self) -> None:
-        Path(self.path).write_bytes(b"a\xff\nb\x83")
-        with jillapun.open(self.path, encoding="shift_jis") as file:
-            self.assertEqual(file.read(), "a\ufffd\nb\ufffd")
-            self.assertEqual(file.faults, [(1, 1), (4, 1)])
-        with jillapun.open(self.path, "w", encoding="windows-1252", unmappable="hexadecimal") as file:
-            file.write("é日")
-            self.assertEqual(file.faults, [(1, "日")])
-        self.assertEqual(Path(self.path).read_bytes(), b"\xe9&#x65E5;")
-        encoder = jillapun.Encoder("iso-2022-jp", unmappable="stop")
-        with self.assertRaises(jillapun.Stopped) as stop:
-            encoder.encode("日💩")
-        self.assertEqual((stop.exception.output, stop.exception.lost), (b"\x1b$BF|\x1b(B", (1, "💩")))
-
     def test_convert_file(self) -> None:
         Path(self.path).write_bytes(TEXT.encode("cp932") + b"\xff")
-        told = []
-        done = jillapun.convert_file(self.path, self.path, "shift_jis", "utf-8", progress=lambda *at: told.append(at))
+        done = jillapun.convert_file(self.path, self.path, "shift_jis", "utf-8")
         self.assertEqual(Path(self.path).read_text(encoding="utf-8"), TEXT + "\ufffd")
         size = len(TEXT.encode("cp932"))
         self.assertEqual(done, (size + 1, [(size, 1)], False))
-        self.assertTrue(all(read <= whole == size + 1 for read, whole in told))
 
     def test_failed_file_is_left(self) -> None:
         Path(self.path).write_bytes("日".encode())
@@ -110,30 +69,6 @@ class Files(unittest.TestCase):
             jillapun.convert_file(self.path, self.path, "utf-8", "windows-1252", unmappable="stop")
         self.assertEqual(Path(self.path).read_bytes(), "日".encode())
         self.assertEqual(os.listdir(self.folder.name), ["a.txt"])
-
-    def test_pipes(self) -> None:
-        given, feed = os.pipe()
-        take, made = os.pipe()
-        data, parts = TEXT.encode("gb18030") * 20, []
-
-        def write() -> None:
-            with open(feed, "wb") as file:
-                file.write(data)
-
-        def read() -> None:
-            with open(take, "rb") as file:
-                parts.append(file.read())
-
-        threads = [threading.Thread(target=write), threading.Thread(target=read)]
-        for thread in threads:
-            thread.start()
-        done = jillapun.convert_descriptors(given, made, "gb18030", "utf-8")
-        os.close(made)
-        for thread in threads:
-            thread.join()
-        os.close(given)
-        self.assertEqual(done, (len(data), [], True))
-        self.assertEqual(parts[0].decode(), TEXT * 20)
 
 
 class Threads(unittest.TestCase):

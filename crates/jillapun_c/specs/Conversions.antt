@@ -47,11 +47,11 @@ pub record IsToldReport (p : RunReport) (report : Report) (status : ℕ) : Type 
   pub bad : report.bad ≡ p.bad
   pub lost : report.lost ≡ p.lost
 
--- what the fault of a run becomes: `FAULT` for a device, `TOO_LONG`, or `STOPPED` with the character
+-- what the fault of a run in memory becomes: `NO_MEMORY`, `TOO_LONG`, or `STOPPED` with the character
 abbrev pub IsToldFault : Fault → Report → (status : ℕ) → Type 0
-IsToldFault TheFault.Read report status = (status ≡ 11) × (report.fault ≡ 1)
-IsToldFault TheFault.Write report status = (status ≡ 11) × (report.fault ≡ 2)
-IsToldFault TheFault.Log report status = (status ≡ 11) × (report.fault ≡ 3)
+IsToldFault TheFault.Read report status = status ≡ 5
+IsToldFault TheFault.Write report status = status ≡ 5
+IsToldFault TheFault.Log report status = status ≡ 5
 IsToldFault TheFault.TooLong report status = status ≡ 13
 IsToldFault (TheFault.Unmappable index scalar) report status = (status ≡ 12) × (report.index ≡ index) × (report.scalar ≡ scalar)
 

@@ -3,7 +3,7 @@
 ghost use Rattle.std.specs.Prelude.{◌≡◌, IfErr, IfOk};
 ghost use Rattle.jillapun_c.specs.Conversions.{IsToldFault, IsToldReport};
 
-use crate::status::{FAULT, INPUT, LOG, LOSSY, OK, OUTPUT, STOPPED, TOO_LONG};
+use crate::status::{LOSSY, NO_MEMORY, OK, STOPPED, TOO_LONG};
 use recode::Fault;
 
 /// What a conversion reports beside its status.
@@ -27,8 +27,6 @@ pub struct Report {
     /// At `STOPPED`, the code point of the lost character, or FFFD where ISO-2022-JP refuses a
     /// control. Else 0.
     pub scalar: u32,
-    /// At `FAULT`, the descriptor that failed: `INPUT`, `OUTPUT` or `LOG`. Else 0.
-    pub fault: u8,
 }
 
 impl Report {
@@ -41,7 +39,6 @@ impl Report {
         losses: 0,
         index: 0,
         scalar: 0,
-        fault: 0,
     };
 }
 
@@ -52,18 +49,7 @@ fn told_fault(fault: Fault) -> (u8, Report)
 {
     let mut report = Report::NONE;
     let status = match fault {
-        Fault::Read => {
-            report.fault = INPUT;
-            FAULT
-        }
-        Fault::Write => {
-            report.fault = OUTPUT;
-            FAULT
-        }
-        Fault::Log => {
-            report.fault = LOG;
-            FAULT
-        }
+        Fault::Read | Fault::Write | Fault::Log => NO_MEMORY,
         Fault::TooLong => TOO_LONG,
         Fault::Unmappable { index, scalar } => {
             report.index = index;
