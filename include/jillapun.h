@@ -72,6 +72,8 @@ enum {
     JILLAPUN_CLOSED = 6,
     /** The handle that is to be filled holds something already: free it first. Nothing was done. */
     JILLAPUN_IN_USE = 7,
+    /** The stream has ended: an earlier call was the last. Nothing was read or written. */
+    JILLAPUN_FINISHED = 8,
     /** The text is not UTF-8. Nothing was read or written. */
     JILLAPUN_NOT_UTF8 = 9,
     /** The room is too small, and the report says how much is wanted. Nothing was written. */
@@ -83,6 +85,18 @@ enum {
     JILLAPUN_STOPPED = 12,
     /** The input has more bytes than the limit. */
     JILLAPUN_TOO_LONG = 13
+};
+
+/* The outcome of a call of a decoder or an encoder. */
+enum {
+    /** All that was handed in is read. */
+    JILLAPUN_INPUT_EMPTY = 0,
+    /** There is no room for what comes next: hand in the rest again with more room. */
+    JILLAPUN_OUTPUT_FULL = 1,
+    /** A malformed sequence was read, and nothing was written for it. */
+    JILLAPUN_MALFORMED = 2,
+    /** A character was read that the encoding has no bytes for, and nothing was written for it. */
+    JILLAPUN_UNMAPPABLE = 3
 };
 
 /* What becomes of a byte order mark at the start of an input. */
@@ -298,6 +312,66 @@ typedef struct {
     uint32_t scalar;
 } jillapun_report;
 
+/** The address of a decoder or an encoder, for calls of this library alone. */
+typedef struct {
+    void *private_at;
+    bool private_is_open;
+} jillapun_coder;
+
+/**
+ * A decoder of a stream. Begin with `{0}`, which holds none; `jillapun_decoder_new` fills it,
+ * and `jillapun_decoder_free` empties it. Never copy it: only one of the copies may be used.
+ * One thread at a time.
+ */
+typedef struct {
+    jillapun_coder private_coder;
+} jillapun_decoder;
+
+/** What a call of a decoder did. */
+typedef struct {
+    /** How many bytes were read. */
+    size_t read;
+    /** How many bytes of UTF-8, or units of UTF-16, were written. */
+    size_t written;
+    /** `JILLAPUN_INPUT_EMPTY`, `JILLAPUN_OUTPUT_FULL` or `JILLAPUN_MALFORMED`. */
+    uint8_t outcome;
+    /** At `JILLAPUN_MALFORMED`, how many bytes the malformed sequence has, 1 to 4; else 0. */
+    uint8_t malformed_length;
+    /**
+     * At `JILLAPUN_MALFORMED`, how many of the bytes that were read follow the sequence, 0 to 3;
+     * else 0.
+     */
+    uint8_t malformed_after;
+    /** Whether U+FFFD was written for a malformed sequence. */
+    bool had_errors;
+} jillapun_progress;
+
+/**
+ * An encoder of a stream. Begin with `{0}`, which holds none; `jillapun_encoder_new` fills it,
+ * and `jillapun_encoder_free` empties it. Never copy it: only one of the copies may be used.
+ * One thread at a time.
+ */
+typedef struct {
+    jillapun_coder private_coder;
+} jillapun_encoder;
+
+/** What a call of an encoder did. */
+typedef struct {
+    /** How many bytes of UTF-8, or units of UTF-16, were read. */
+    size_t read;
+    /** How many bytes were written. */
+    size_t written;
+    /** `JILLAPUN_INPUT_EMPTY`, `JILLAPUN_OUTPUT_FULL` or `JILLAPUN_UNMAPPABLE`. */
+    uint8_t outcome;
+    /** Whether a reference was written for a character that has no bytes. */
+    bool had_unmappable;
+    /**
+     * At `JILLAPUN_UNMAPPABLE`, the code point of the character that has no bytes; U+FFFD for
+     * U+000E, U+000F and U+001B in ISO-2022-JP. Else 0.
+     */
+    uint32_t scalar;
+} jillapun_encoder_progress;
+
 /* The exports on encodings: found by a label or a mark, and what is told of each. An encoding
    crosses as its number, from 0 to 39, in the order of the names. */
 
@@ -412,6 +486,270 @@ uint8_t jillapun_decode(jillapun_tables tables, uint8_t encoding, uint8_t mark, 
 uint8_t jillapun_convert(jillapun_tables tables, uint8_t from, uint8_t to, uint8_t mark,
     uint8_t policy, uint64_t limit, const uint8_t *src, size_t src_len, uint8_t *dst,
     size_t dst_len, jillapun_loss *losses, size_t losses_len, jillapun_report *report);
+
+/* The exports that decode streams. */
+
+/**
+ * Makes a decoder of a new stream, in the encoding with this number, and `mark` says what
+ * becomes of a byte order mark at its start.
+ *
+ * Returns `JILLAPUN_OK`, and `out` holds the decoder. Else nothing is made: `JILLAPUN_IN_USE`,
+ * `out` holds one already; `JILLAPUN_CLOSED`, there are no tables; `JILLAPUN_UNKNOWN`, no
+ * encoding or no handling of marks has the number; `JILLAPUN_NOT_READY`, the tables lack an
+ * index of the encoding; `JILLAPUN_NO_MEMORY`, memory was refused.
+ */
+uint8_t jillapun_decoder_new(jillapun_tables tables, uint8_t encoding, uint8_t mark,
+    jillapun_decoder *out);
+
+/** Ends a decoder, and empties its handle. Nothing is done with one that holds none. */
+void jillapun_decoder_free(jillapun_decoder *decoder);
+
+/* What a decoder tells of itself. */
+
+/**
+ * The number of the encoding in force: the one that the decoder was made for, or that of the
+ * byte order mark once all of it was read. `JILLAPUN_NO_ENCODING` where the handle holds no
+ * decoder.
+ */
+uint8_t jillapun_decoder_encoding(jillapun_decoder *decoder);
+
+/**
+ * How many bytes of UTF-8 are room enough for the text of `n` more bytes, with U+FFFD for each
+ * malformed sequence; `SIZE_MAX` where the number passes a `size_t`, the handle holds no
+ * decoder, or the stream has ended. What is pending counts too.
+ */
+size_t jillapun_decoder_max_utf8_length(jillapun_decoder *decoder, size_t n);
+
+/**
+ * How many bytes of UTF-8 are room enough for the text of `n` more bytes up to the first
+ * malformed sequence, and for one U+FFFD there; `SIZE_MAX` where the number passes a `size_t`,
+ * the handle holds no decoder, or the stream has ended. What is pending counts too.
+ */
+size_t jillapun_decoder_max_utf8_length_without_replacement(jillapun_decoder *decoder, size_t n);
+
+/**
+ * How many units of UTF-16 are room enough for the text of `n` more bytes, with U+FFFD for each
+ * malformed sequence; `SIZE_MAX` where the number passes a `size_t`, the handle holds no
+ * decoder, or the stream has ended. What is pending counts too.
+ */
+size_t jillapun_decoder_max_utf16_length(jillapun_decoder *decoder, size_t n);
+
+/* The exports that decode to UTF-16. */
+
+/**
+ * Decodes the next bytes of a stream to UTF-16, with U+FFFD for each malformed sequence. `last`
+ * says that the stream ends with them.
+ *
+ * Returns `JILLAPUN_OK`, and `progress` tells what was done. At `JILLAPUN_INPUT_EMPTY` all of
+ * `src` is read: hand in what follows; with `last` the stream has ended. At
+ * `JILLAPUN_OUTPUT_FULL` fewer than 2 units are free: make room, and hand in the rest again,
+ * with `last` as it was, also where nothing is left. A surrogate pair is never split, and
+ * nothing after what is written changes. `JILLAPUN_OUTPUT_FULL` does not come where `dst` is as
+ * long as `jillapun_decoder_max_utf16_length` returns.
+ *
+ * Else nothing is done: `JILLAPUN_CLOSED`, the handle holds no decoder; `JILLAPUN_FINISHED`,
+ * the stream has ended.
+ */
+uint8_t jillapun_decoder_decode_to_utf16(jillapun_decoder *decoder, const uint8_t *src,
+    size_t src_len, jillapun_char16 *dst, size_t dst_len, bool last, jillapun_progress *progress);
+
+/**
+ * Decodes the next bytes of a stream to UTF-16, up to the first malformed sequence. `last` says
+ * that the stream ends with them.
+ *
+ * Returns `JILLAPUN_OK`, and `progress` tells what was done. At `JILLAPUN_INPUT_EMPTY` all of
+ * `src` is read: hand in what follows; with `last` the stream has ended. At
+ * `JILLAPUN_OUTPUT_FULL` fewer than 2 units are free: make room, and hand in the rest again,
+ * with `last` as it was, also where nothing is left. A surrogate pair is never split, and
+ * nothing after what is written changes. `JILLAPUN_OUTPUT_FULL` does not come where `dst` is as
+ * long as `jillapun_decoder_max_utf16_length` returns.
+ *
+ * At `JILLAPUN_MALFORMED` a sequence of `malformed_length` bytes ends `malformed_after` bytes
+ * before the end of what was read, and a unit is free: write U+FFFD or not, and go on as at
+ * `JILLAPUN_OUTPUT_FULL`.
+ *
+ * Else nothing is done: `JILLAPUN_CLOSED`, the handle holds no decoder; `JILLAPUN_FINISHED`,
+ * the stream has ended.
+ */
+uint8_t jillapun_decoder_decode_to_utf16_without_replacement(jillapun_decoder *decoder,
+    const uint8_t *src, size_t src_len, jillapun_char16 *dst, size_t dst_len, bool last,
+    jillapun_progress *progress);
+
+/* The exports that decode to UTF-8. */
+
+/**
+ * Decodes the next bytes of a stream to UTF-8, with U+FFFD for each malformed sequence. `last`
+ * says that the stream ends with them.
+ *
+ * Returns `JILLAPUN_OK`, and `progress` tells what was done. At `JILLAPUN_INPUT_EMPTY` all of
+ * `src` is read: hand in what follows; with `last` the stream has ended. At
+ * `JILLAPUN_OUTPUT_FULL` fewer than 4 bytes are free: make room, and hand in the rest again,
+ * with `last` as it was, also where nothing is left. A character is never split, and nothing
+ * after what is written changes. `JILLAPUN_OUTPUT_FULL` does not come where `dst` is as long as
+ * `jillapun_decoder_max_utf8_length` returns.
+ *
+ * Else nothing is done: `JILLAPUN_CLOSED`, the handle holds no decoder; `JILLAPUN_FINISHED`,
+ * the stream has ended.
+ */
+uint8_t jillapun_decoder_decode_to_utf8(jillapun_decoder *decoder, const uint8_t *src,
+    size_t src_len, uint8_t *dst, size_t dst_len, bool last, jillapun_progress *progress);
+
+/**
+ * Decodes the next bytes of a stream to UTF-8, up to the first malformed sequence. `last` says
+ * that the stream ends with them.
+ *
+ * Returns `JILLAPUN_OK`, and `progress` tells what was done. At `JILLAPUN_INPUT_EMPTY` all of
+ * `src` is read: hand in what follows; with `last` the stream has ended. At
+ * `JILLAPUN_OUTPUT_FULL` fewer than 4 bytes are free: make room, and hand in the rest again,
+ * with `last` as it was, also where nothing is left. A character is never split, and nothing
+ * after what is written changes. `JILLAPUN_OUTPUT_FULL` does not come where `dst` is as long as
+ * `jillapun_decoder_max_utf8_length_without_replacement` returns.
+ *
+ * At `JILLAPUN_MALFORMED` a sequence of `malformed_length` bytes ends `malformed_after` bytes
+ * before the end of what was read, and 3 bytes are free: write U+FFFD or not, and go on as at
+ * `JILLAPUN_OUTPUT_FULL`.
+ *
+ * Else nothing is done: `JILLAPUN_CLOSED`, the handle holds no decoder; `JILLAPUN_FINISHED`,
+ * the stream has ended.
+ */
+uint8_t jillapun_decoder_decode_to_utf8_without_replacement(jillapun_decoder *decoder,
+    const uint8_t *src, size_t src_len, uint8_t *dst, size_t dst_len, bool last,
+    jillapun_progress *progress);
+
+/* The exports that encode streams. */
+
+/**
+ * Makes an encoder of a new stream into the output encoding of the one with this number (the
+ * Encoding Standard, section 4.3).
+ *
+ * Returns `JILLAPUN_OK`, and `out` holds the encoder. Else nothing is made: `JILLAPUN_IN_USE`,
+ * `out` holds one already; `JILLAPUN_CLOSED`, there are no tables; `JILLAPUN_UNKNOWN`, no
+ * encoding has the number; `JILLAPUN_NOT_READY`, the tables lack an index of the output
+ * encoding; `JILLAPUN_NO_MEMORY`, memory was refused.
+ */
+uint8_t jillapun_encoder_new(jillapun_tables tables, uint8_t encoding, jillapun_encoder *out);
+
+/** Ends an encoder, and empties its handle. Nothing is done with one that holds none. */
+void jillapun_encoder_free(jillapun_encoder *encoder);
+
+/* What an encoder tells of itself. */
+
+/**
+ * The number of the output encoding, in which the encoder writes; `JILLAPUN_NO_ENCODING` where
+ * the handle holds no encoder.
+ */
+uint8_t jillapun_encoder_encoding(jillapun_encoder *encoder);
+
+/**
+ * Whether an escape to ASCII is still to be written at the end of the stream: so only in
+ * ISO-2022-JP, where another set is in force. False where the handle holds no encoder.
+ */
+bool jillapun_encoder_has_pending_state(jillapun_encoder *encoder);
+
+/**
+ * How many bytes are room enough for what `n` bytes of UTF-8 are encoded to with references, if
+ * each character has bytes; `SIZE_MAX` where the number passes a `size_t`, or the handle holds
+ * no encoder.
+ */
+size_t jillapun_encoder_max_length_from_utf8_if_no_unmappables(jillapun_encoder *encoder, size_t n);
+
+/**
+ * How many bytes are room enough for what `n` bytes of UTF-8 are encoded to without
+ * replacement, and for the last escape; `SIZE_MAX` where the number passes a `size_t`, or the
+ * handle holds no encoder.
+ */
+size_t jillapun_encoder_max_length_from_utf8_without_replacement(jillapun_encoder *encoder,
+    size_t n);
+
+/**
+ * How many bytes are room enough for what `n` units of UTF-16 are encoded to with references,
+ * if each character has bytes; `SIZE_MAX` where the number passes a `size_t`, or the handle
+ * holds no encoder.
+ */
+size_t jillapun_encoder_max_length_from_utf16_if_no_unmappables(jillapun_encoder *encoder,
+    size_t n);
+
+/**
+ * How many bytes are room enough for what `n` units of UTF-16 are encoded to without
+ * replacement, and for the last escape; `SIZE_MAX` where the number passes a `size_t`, or the
+ * handle holds no encoder.
+ */
+size_t jillapun_encoder_max_length_from_utf16_without_replacement(jillapun_encoder *encoder,
+    size_t n);
+
+/* The exports that encode UTF-16. */
+
+/**
+ * Encodes the next part of a text in UTF-16, with the decimal reference (`&#8364;`) of each
+ * character that has no bytes. `last` says that the text ends with it: then the last escape is
+ * written too, and the encoder is as a new one.
+ *
+ * Returns `JILLAPUN_OK`, and `progress` tells what was done. At `JILLAPUN_INPUT_EMPTY` all is
+ * read. At `JILLAPUN_OUTPUT_FULL` something is left to do: make room, and hand in the rest
+ * again, with `last` as it was, also where nothing is left; 14 bytes are always enough to go
+ * on. Unless the encoding is UTF-8, the last ten bytes of `dst` are kept for a reference.
+ * Nothing after what is written changes.
+ *
+ * Else nothing is done: `JILLAPUN_CLOSED`, the handle holds no encoder.
+ */
+uint8_t jillapun_encoder_encode_from_utf16(jillapun_encoder *encoder, const jillapun_char16 *text,
+    size_t text_len, uint8_t *dst, size_t dst_len, bool last, jillapun_encoder_progress *progress);
+
+/**
+ * Encodes the next part of a text in UTF-16, up to the first character that has no bytes.
+ * `last` says that the text ends with it: then the last escape is written too, and the encoder
+ * is as a new one.
+ *
+ * Returns `JILLAPUN_OK`, and `progress` tells what was done. At `JILLAPUN_INPUT_EMPTY` all is
+ * read. At `JILLAPUN_OUTPUT_FULL` something is left to do: make room, and hand in the rest
+ * again, with `last` as it was, also where nothing is left; 4 bytes are always enough to go on.
+ * At `JILLAPUN_UNMAPPABLE` the character that was read last has no bytes: write its reference,
+ * or something else in ASCII, and go on as at `JILLAPUN_OUTPUT_FULL`. Nothing after what is
+ * written changes.
+ *
+ * Else nothing is done: `JILLAPUN_CLOSED`, the handle holds no encoder.
+ */
+uint8_t jillapun_encoder_encode_from_utf16_without_replacement(jillapun_encoder *encoder,
+    const jillapun_char16 *text, size_t text_len, uint8_t *dst, size_t dst_len, bool last,
+    jillapun_encoder_progress *progress);
+
+/* The exports that encode UTF-8. */
+
+/**
+ * Encodes the next part of a text in UTF-8, with the decimal reference (`&#8364;`) of each
+ * character that has no bytes. `last` says that the text ends with it: then the last escape is
+ * written too, and the encoder is as a new one.
+ *
+ * Returns `JILLAPUN_OK`, and `progress` tells what was done. At `JILLAPUN_INPUT_EMPTY` all is
+ * read. At `JILLAPUN_OUTPUT_FULL` something is left to do: make room, and hand in the rest
+ * again, with `last` as it was, also where nothing is left; 14 bytes are always enough to go
+ * on. Unless the encoding is UTF-8, the last ten bytes of `dst` are kept for a reference.
+ * Nothing after what is written changes.
+ *
+ * Else nothing is done: `JILLAPUN_CLOSED`, the handle holds no encoder; `JILLAPUN_NOT_UTF8`,
+ * the text is not UTF-8.
+ */
+uint8_t jillapun_encoder_encode_from_utf8(jillapun_encoder *encoder, const uint8_t *text,
+    size_t text_len, uint8_t *dst, size_t dst_len, bool last, jillapun_encoder_progress *progress);
+
+/**
+ * Encodes the next part of a text in UTF-8, up to the first character that has no bytes. `last`
+ * says that the text ends with it: then the last escape is written too, and the encoder is as a
+ * new one.
+ *
+ * Returns `JILLAPUN_OK`, and `progress` tells what was done. At `JILLAPUN_INPUT_EMPTY` all is
+ * read. At `JILLAPUN_OUTPUT_FULL` something is left to do: make room, and hand in the rest
+ * again, with `last` as it was, also where nothing is left; 4 bytes are always enough to go on.
+ * At `JILLAPUN_UNMAPPABLE` the character that was read last has no bytes: write its reference,
+ * or something else in ASCII, and go on as at `JILLAPUN_OUTPUT_FULL`. Nothing after what is
+ * written changes.
+ *
+ * Else nothing is done: `JILLAPUN_CLOSED`, the handle holds no encoder; `JILLAPUN_NOT_UTF8`,
+ * the text is not UTF-8.
+ */
+uint8_t jillapun_encoder_encode_from_utf8_without_replacement(jillapun_encoder *encoder,
+    const uint8_t *text, size_t text_len, uint8_t *dst, size_t dst_len, bool last,
+    jillapun_encoder_progress *progress);
 
 /* ASCII, in bytes and in units of UTF-16: checks, and copies of the ASCII at the start. */
 

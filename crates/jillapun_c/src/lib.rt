@@ -6,14 +6,21 @@
 //! export tests it, and returns a status (`status`) or `SIZE_MAX`.
 #![tactic(auto)]
 
+mod coder;
 mod convert;
+mod decoder;
+mod encoder;
+mod encoder_progress;
 mod encoding;
 mod encoding_number;
+mod handle;
 mod in_memory;
 mod index_files;
 mod lists;
+mod loose;
 mod losses;
 mod mem;
+mod progress;
 mod report;
 mod request;
 mod run;

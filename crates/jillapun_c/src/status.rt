@@ -19,6 +19,8 @@ pub const NO_MEMORY: u8 = 5;
 pub const CLOSED: u8 = 6;
 /// The handle that is to be filled holds something already: free it first. Nothing was done.
 pub const IN_USE: u8 = 7;
+/// The stream has ended: an earlier call was the last. Nothing was read or written.
+pub const FINISHED: u8 = 8;
 /// The text is not UTF-8. Nothing was read or written.
 pub const NOT_UTF8: u8 = 9;
 /// The room is too small, and the report says how much is wanted. Nothing was written.
@@ -28,6 +30,17 @@ pub const ROOM: u8 = 10;
 pub const STOPPED: u8 = 12;
 /// The input has more bytes than the limit.
 pub const TOO_LONG: u8 = 13;
+
+// The outcome of a call of a decoder or an encoder.
+
+/// All that was handed in is read.
+pub const INPUT_EMPTY: u8 = 0;
+/// There is no room for what comes next: hand in the rest again with more room.
+pub const OUTPUT_FULL: u8 = 1;
+/// A malformed sequence was read, and nothing was written for it.
+pub const MALFORMED: u8 = 2;
+/// A character was read that the encoding has no bytes for, and nothing was written for it.
+pub const UNMAPPABLE: u8 = 3;
 
 // What becomes of a byte order mark at the start of an input.
 

@@ -1,11 +1,26 @@
-//! Calls of the exports for encodings and tables, with results worked by hand.
+//! Calls of the exports for tables and streams, with results worked by hand.
 
+use crate::decoder::utf8::{
+    jillapun_decoder_decode_to_utf8, jillapun_decoder_decode_to_utf8_without_replacement,
+};
+use crate::decoder::utf16::jillapun_decoder_decode_to_utf16;
+use crate::decoder::{DecoderHandle, jillapun_decoder_free, jillapun_decoder_new};
+use crate::encoder::utf8::{
+    jillapun_encoder_encode_from_utf8, jillapun_encoder_encode_from_utf8_without_replacement,
+};
+use crate::encoder::{EncoderHandle, jillapun_encoder_free, jillapun_encoder_new};
+use crate::encoder_progress::EncoderProgress;
 use crate::encoding::{
     jillapun_for_bom, jillapun_for_label, jillapun_name, jillapun_needs, jillapun_output_encoding,
     jillapun_tables_is_ready,
 };
+use crate::handle::CoderHandle;
 use crate::index_files::IndexFile;
-use crate::status::{BAD_INDEX, CLOSED, IN_USE, NO_ENCODING, NOT_READY, OK, REFUSED, UNKNOWN};
+use crate::progress::Progress;
+use crate::status::{
+    BAD_INDEX, CLOSED, FINISHED, IN_USE, INPUT_EMPTY, KEEP, MALFORMED, NO_ENCODING, NOT_READY,
+    NOT_UTF8, OK, REFUSED, SNIFF, UNKNOWN, UNMAPPABLE,
+};
 use crate::tables::{IndexFault, jillapun_tables_new};
 use crate::tables_handle::TablesHandle;
 use std::alloc::Global;
@@ -70,4 +85,151 @@ fn faulty_indexes_are_told(rt: HostRuntime) {
     assert_eq!(rt; status, IN_USE);
     assert_eq!(rt; jillapun_tables_is_ready(tables, 2), NOT_READY);
     assert_eq!(rt; jillapun_tables_is_ready(TablesHandle::none(), 25), CLOSED);
+}
+
+#[test]
+fn stream_is_decoded(rt: HostRuntime) {
+    let alloc = rt.alloc();
+    let mut decoder = DecoderHandle {
+        coder: CoderHandle::none(),
+    };
+    let mut progress = Progress::NONE;
+    let mut text = [0; 8];
+    let status = jillapun_decoder_decode_to_utf8(
+        alloc,
+        &mut decoder,
+        b"a",
+        &mut text,
+        true,
+        &mut progress,
+    );
+    assert_eq!(rt; status, CLOSED);
+    assert_eq!(rt;
+        jillapun_decoder_new(alloc, euro(alloc), 31, KEEP, &mut decoder),
+        OK
+    );
+    assert_eq!(rt;
+        jillapun_decoder_new(alloc, euro(alloc), 31, KEEP, &mut decoder),
+        IN_USE
+    );
+    let bytes = [0x61, 0x80, 0x81];
+    let status = jillapun_decoder_decode_to_utf8(
+        alloc,
+        &mut decoder,
+        &bytes,
+        &mut text,
+        false,
+        &mut progress,
+    );
+    assert_eq!(rt; (status, progress.outcome), (OK, INPUT_EMPTY));
+    assert_eq!(rt; (progress.read, progress.written), (3, 7));
+    assert!(rt; progress.had_errors);
+    assert_eq!(rt; &text[..7], b"a\xE2\x82\xAC\xEF\xBF\xBD".as_slice());
+    let status = jillapun_decoder_decode_to_utf8_without_replacement(
+        alloc,
+        &mut decoder,
+        &[0x81, 0x61],
+        &mut text,
+        true,
+        &mut progress,
+    );
+    assert_eq!(rt; (status, progress.outcome), (OK, MALFORMED));
+    assert_eq!(rt;
+        (progress.malformed_length, progress.malformed_after),
+        (1, 0)
+    );
+    let mut units = [0; 4];
+    let status = jillapun_decoder_decode_to_utf16(
+        alloc,
+        &mut decoder,
+        &[0x61],
+        &mut units,
+        true,
+        &mut progress,
+    );
+    assert_eq!(rt; (status, progress.written, units[0]), (OK, 1, 0x61));
+    let status = jillapun_decoder_decode_to_utf8(
+        alloc,
+        &mut decoder,
+        b"a",
+        &mut text,
+        true,
+        &mut progress,
+    );
+    assert_eq!(rt; (status, progress.read), (FINISHED, 0));
+    jillapun_decoder_free(alloc, &mut decoder);
+    let status = jillapun_decoder_decode_to_utf8(
+        alloc,
+        &mut decoder,
+        b"a",
+        &mut text,
+        true,
+        &mut progress,
+    );
+    assert_eq!(rt; status, CLOSED);
+    assert_eq!(rt;
+        jillapun_decoder_new(alloc, euro(alloc), 0, SNIFF, &mut decoder),
+        NOT_READY
+    );
+    assert_eq!(rt;
+        jillapun_decoder_new(alloc, euro(alloc), 31, 3, &mut decoder),
+        UNKNOWN
+    );
+}
+
+#[test]
+fn stream_is_encoded(rt: HostRuntime) {
+    let alloc = rt.alloc();
+    let mut encoder = EncoderHandle {
+        coder: CoderHandle::none(),
+    };
+    let mut progress = EncoderProgress::NONE;
+    let mut bytes = [0; 40];
+    assert_eq!(rt;
+        jillapun_encoder_new(alloc, euro(alloc), 31, &mut encoder),
+        OK
+    );
+    let status = jillapun_encoder_encode_from_utf8(
+        alloc,
+        &mut encoder,
+        "a€日".as_bytes(),
+        &mut bytes,
+        true,
+        &mut progress,
+    );
+    assert_eq!(rt; (status, progress.outcome), (OK, INPUT_EMPTY));
+    assert_eq!(rt; (progress.read, progress.written), (7, 10));
+    assert!(rt; progress.had_unmappable);
+    assert_eq!(rt; &bytes[..10], b"a\x80&#26085;".as_slice());
+    let status = jillapun_encoder_encode_from_utf8_without_replacement(
+        alloc,
+        &mut encoder,
+        "日".as_bytes(),
+        &mut bytes,
+        true,
+        &mut progress,
+    );
+    assert_eq!(rt;
+        (status, progress.outcome, progress.scalar),
+        (OK, UNMAPPABLE, 0x65E5)
+    );
+    let status = jillapun_encoder_encode_from_utf8(
+        alloc,
+        &mut encoder,
+        &[0x80],
+        &mut bytes,
+        true,
+        &mut progress,
+    );
+    assert_eq!(rt; status, NOT_UTF8);
+    jillapun_encoder_free(alloc, &mut encoder);
+    let status = jillapun_encoder_encode_from_utf8(
+        alloc,
+        &mut encoder,
+        b"a",
+        &mut bytes,
+        true,
+        &mut progress,
+    );
+    assert_eq!(rt; status, CLOSED);
 }

@@ -1,0 +1,66 @@
+-- What a call of a decoder's handle does.
+use Rattle.std.specs.Prelude.{◌≡◌, ◌≢◌, ℕ, Bool, true, false, List, length, Option, MatchOption, None, Some, unwrap_or}
+use Rattle.encoding_mem.specs.declared.decoder_result.DecoderResult.{DecoderResult}
+use Rattle.encoding_mem.specs.declared.decoder_result.DecoderResult.TheVariants as raw_
+use Rattle.encoding_mem.specs.declared.room.OutputUnit.{OutputUnit}
+use Rattle.encoding_tables.specs.IndexLists.{IndexLists}
+use Rattle.encoding_front.specs.calls.DecoderCall.{DecoderCall, IfRoomAsked, TextCall}
+use Rattle.encoding_front.specs.calls.DecoderViews.{decoder_view}
+use Rattle.encoding_front.specs.calls.Stream.{IsNewDecoder, room_asked}
+use Rattle.encoding_front.specs.declared.coder_result.CoderResult.{CoderResult}
+use Rattle.encoding_front.specs.declared.coder_result.CoderResult.TheVariants as text_
+use Rattle.encoding_front.specs.declared.decoder.Decoder.{Decoder}
+use Rattle.encoding_front.specs.declared.encoding.Encoding.{Encoding}
+use Rattle.encoding_front.specs.declared.mark.Mark.{Mark}
+use Rattle.jillapun_c.specs.Coders.{decoder_in}
+use Rattle.jillapun_c.specs.EncodingNumbers.{mark_at}
+use Rattle.jillapun_c.specs.Openings.{MadeIfReady}
+use Rattle.jillapun_c.specs.declared.coder.Coder.{Coder}
+use Rattle.jillapun_c.specs.declared.progress.Progress.{Progress}
+use Rattle.jillapun_c.specs.declared.status.TheConstants.{UNKNOWN, INPUT_EMPTY, OUTPUT_FULL, MALFORMED, REFUSED}
+
+-- the handle holds a decoder of a new stream
+pub record HoldsNewDecoder (tables : IndexLists) (e : Encoding) (mark : Mark) (held : Option Coder) : Type 0 where
+  pub decoder : Decoder
+  pub held_is : decoder_in held ≡ Some decoder
+  pub is_new : IsNewDecoder (decoder_view decoder) tables mark e
+
+-- a decoder is made, if the number says what becomes of marks, and the tables are ready
+abbrev pub MakesDecoder : (mark : ℕ) (new : Option Coder) (status : ℕ) → IndexLists → Encoding → Type 0
+MakesDecoder mark new status tables e = MatchOption (mark_at mark) (status ≡ UNKNOWN) (λ m. MadeIfReady tables e (HoldsNewDecoder tables e m new) status)
+
+-- the number of an outcome
+abbrev pub text_outcome : CoderResult → ℕ
+text_outcome text_.InputEmpty = INPUT_EMPTY
+text_outcome text_.OutputFull = OUTPUT_FULL
+
+-- an outcome as it is told: its number, and of a malformed sequence its length and how many bytes were read behind it
+abbrev pub IsOutcome : DecoderResult → (number length after : ℕ) → Type 0
+IsOutcome raw_.InputEmpty number length after = (number ≡ INPUT_EMPTY) × (length ≡ 0) × (after ≡ 0)
+IsOutcome raw_.OutputFull number length after = (number ≡ OUTPUT_FULL) × (length ≡ 0) × (after ≡ 0)
+IsOutcome (raw_.Malformed n k) number length after = (number ≡ MALFORMED) × (length ≡ n) × (after ≡ k)
+
+-- What a call did that writes U+FFFD for each malformed sequence, and why it ended. Writes says which text stands in the
+-- room, free how much is left of it, room and mark how much is enough to go on and for U+FFFD.
+pub record Decodes (unit : OutputUnit) (before : Decoder) (after : Option Coder) (src : List ℕ) (last : Bool) (Writes : List ℕ → Type 0) (size free room mark : ℕ) (progress : Progress) : Type 0 where
+  pub decoder : Decoder
+  pub held : decoder_in after ≡ Some decoder
+  pub outcome : CoderResult
+  pub told : progress.outcome ≡ text_outcome outcome
+  pub call : TextCall (decoder_view before) (decoder_view decoder) src last progress.read Writes free room mark outcome progress.had_errors
+  pub enough : IfRoomAsked (decoder_view before) unit (length src) size (outcome ≢ text_.OutputFull)
+
+-- The same of a call that ends at each malformed sequence.
+pub record DecodesUpToFault (unit : OutputUnit) (before : Decoder) (after : Option Coder) (src : List ℕ) (last : Bool) (Writes : List ℕ → Type 0) (size free room mark : ℕ) (progress : Progress) : Type 0 where
+  pub decoder : Decoder
+  pub held : decoder_in after ≡ Some decoder
+  pub outcome : DecoderResult
+  pub told : IsOutcome outcome progress.outcome progress.malformed_length progress.malformed_after
+  pub call : DecoderCall (decoder_view before) (decoder_view decoder) src last progress.read Writes free room mark outcome
+  pub enough : IfRoomAsked (decoder_view before) unit (length src) size (outcome ≢ raw_.OutputFull)
+
+-- the room that is asked for the text of so many bytes; SIZE_MAX if it passes a number, there is no decoder, or it ended
+abbrev pub AsksRoom : OutputUnit → Option Decoder → (size returned : ℕ) → Type 0
+AsksRoom asked_in None size returned = returned ≡ REFUSED
+AsksRoom asked_in (Some d) size returned =
+    ((decoder_view d).finished ≡ true → returned ≡ REFUSED) × ((decoder_view d).finished ≡ false → returned ≡ unwrap_or (room_asked (decoder_view d).opening asked_in size) REFUSED)

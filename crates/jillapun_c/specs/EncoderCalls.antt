@@ -1,0 +1,53 @@
+-- What a call of an encoder's handle does.
+use Rattle.std.specs.Prelude.{◌≡◌, ◌≢◌, ◌-◌, ◌≤◌, ℕ, Bool, false, List, length, take, Option, None, Some, unwrap_or}
+use Rattle.encoding_mem.specs.calls.EncoderRule.{WritesBytes}
+use Rattle.encoding_mem.specs.declared.encoder_result.EncoderResult.{EncoderResult}
+use Rattle.encoding_mem.specs.declared.encoder_result.EncoderResult.TheVariants as raw_
+use Rattle.encoding_tables.specs.IndexLists.{IndexLists}
+use Rattle.encoding_front.specs.Encodings.{output_encoding_of}
+use Rattle.encoding_front.specs.calls.Encoder.{Encoded, EncoderState, Replaces, new_state, room_with_reference, room_without_reference}
+use Rattle.encoding_front.specs.declared.coder_result.CoderResult.{CoderResult}
+use Rattle.encoding_front.specs.declared.coder_result.CoderResult.TheVariants as text_
+use Rattle.encoding_front.specs.declared.encoding.Encoding.{Encoding}
+use Rattle.jillapun_c.specs.Coders.{encoder_in}
+use Rattle.jillapun_c.specs.DecoderCalls.{text_outcome}
+use Rattle.jillapun_c.specs.Openings.{MadeIfReady}
+use Rattle.jillapun_c.specs.declared.coder.Coder.{Coder}
+use Rattle.jillapun_c.specs.declared.encoder_progress.EncoderProgress.{EncoderProgress}
+use Rattle.jillapun_c.specs.declared.status.TheConstants.{INPUT_EMPTY, OUTPUT_FULL, UNMAPPABLE, REFUSED}
+
+-- an encoder of a new stream is made, into the output encoding, if the tables are ready for that
+abbrev pub MakesEncoder : (new : Option Coder) (status : ℕ) → IndexLists → Encoding → Type 0
+MakesEncoder new status tables e = MadeIfReady tables (output_encoding_of e) (encoder_in new ≡ Some (new_state tables e)) status
+
+-- an outcome as it is told: its number, and the character that has no bytes
+abbrev pub IsEncoderOutcome : EncoderResult → (number scalar : ℕ) → Type 0
+IsEncoderOutcome raw_.InputEmpty number scalar = (number ≡ INPUT_EMPTY) × (scalar ≡ 0)
+IsEncoderOutcome raw_.OutputFull number scalar = (number ≡ OUTPUT_FULL) × (scalar ≡ 0)
+IsEncoderOutcome (raw_.Unmappable c) number scalar = (number ≡ UNMAPPABLE) × (scalar ≡ c)
+
+-- What a call did that writes a reference for each character without bytes, and why it ended: of a text, of which rest
+-- is left, and which has so many bytes or units.
+pub record EncodesAll (is_units : Bool) (before : EncoderState) (after : Option Coder) (last : Bool) (text rest : List ℕ) (size : ℕ) (old new : List ℕ) (progress : EncoderProgress) : Type 0 where
+  pub encoder : EncoderState
+  pub held : encoder_in after ≡ Some encoder
+  pub outcome : CoderResult
+  pub told : progress.outcome ≡ text_outcome outcome
+  pub wrote : WritesBytes old new progress.written
+  pub call : Replaces before last outcome text (take progress.written new) encoder rest progress.had_unmappable (length new)
+  pub enough : room_with_reference before.encoding is_units size ≤ length old → progress.had_unmappable ≡ false → outcome ≢ text_.OutputFull
+
+-- The same of a call that ends at each character without bytes.
+pub record EncodesUpToLost (is_units : Bool) (before : EncoderState) (after : Option Coder) (last : Bool) (text rest : List ℕ) (size : ℕ) (old new : List ℕ) (progress : EncoderProgress) : Type 0 where
+  pub encoder : EncoderState
+  pub held : encoder_in after ≡ Some encoder
+  pub outcome : EncoderResult
+  pub told : IsEncoderOutcome outcome progress.outcome progress.scalar
+  pub wrote : WritesBytes old new progress.written
+  pub call : Encoded before last outcome text (take progress.written new) encoder rest (length new - progress.written)
+  pub enough : room_without_reference before.encoding is_units size ≤ length old → outcome ≢ raw_.OutputFull
+
+-- the number that an encoder tells, if there is one; else SIZE_MAX
+abbrev pub TellsNumber : Option EncoderState → (EncoderState → Option ℕ) → ℕ → Type 0
+TellsNumber None room returned = returned ≡ REFUSED
+TellsNumber (Some e) room returned = returned ≡ unwrap_or (room e) REFUSED

@@ -1,0 +1,107 @@
+//! What a decoder tells of itself.
+
+ghost use Rattle.std.specs.Prelude.{◌≡◌, [], ℕ, Option, MatchOption, option_and_then};
+ghost use Rattle.encoding_mem.specs.declared.room.OutputUnit.TheVariants.{Units, Bytes, Replaced};
+ghost use Rattle.encoding_front.specs.EncodingTable.{number_of};
+ghost use Rattle.encoding_front.specs.calls.DecoderViews.{decoder_view};
+ghost use Rattle.jillapun_c.specs.Coders.{decoder_in};
+ghost use Rattle.jillapun_c.specs.DecoderCalls.{AsksRoom};
+ghost use Rattle.jillapun_c.specs.declared.status.TheConstants.{NO_ENCODING};
+
+use crate::coder::Coder;
+use crate::decoder::DecoderHandle;
+use crate::encoding_number::number_of;
+use crate::status::{NO_ENCODING, REFUSED};
+use std::alloc::Global;
+
+/// The number of the encoding in force: the one that the decoder was made for, or that of the byte
+/// order mark once all of it was read. `NO_ENCODING` where the handle holds no decoder.
+#[unsafe(no_mangle)]
+pub extern "C" fn jillapun_decoder_encoding(alloc: Global, decoder: &mut DecoderHandle) -> u8
+    ensures encoding { MatchOption (decoder_in decoder.old.coder.coder) (result ≡ NO_ENCODING)
+        (λ d. result ≡ number_of ((decoder_view d).source [])) }
+    ensures unchanged { decoder.new.coder.coder ≡ decoder.old.coder.coder }
+{
+    let Some(coder) = decoder.coder.take(alloc) else {
+        return NO_ENCODING;
+    };
+    let number = match &*coder {
+        Coder::Decoder(decoder) => number_of(decoder.encoding()),
+        Coder::Encoder(_) => NO_ENCODING,
+    };
+    decoder.coder.put(coder);
+    number
+}
+
+/// How many bytes of UTF-8 are room enough for the text of `n` more bytes, with U+FFFD for each
+/// malformed sequence; `SIZE_MAX` where the number
+/// passes a `size_t`, the handle holds no decoder, or the stream has ended. What is pending counts
+/// too.
+#[unsafe(no_mangle)]
+pub extern "C" fn jillapun_decoder_max_utf8_length(
+    alloc: Global,
+    decoder: &mut DecoderHandle,
+    n: usize,
+) -> usize
+    ensures room { AsksRoom Replaced (decoder_in decoder.old.coder.coder) n result }
+    ensures unchanged { decoder.new.coder.coder ≡ decoder.old.coder.coder }
+{
+    let Some(coder) = decoder.coder.take(alloc) else {
+        return REFUSED;
+    };
+    let room = match &*coder {
+        Coder::Decoder(decoder) if !decoder.is_finished() => decoder.max_utf8_buffer_length(n),
+        _ => None,
+    };
+    decoder.coder.put(coder);
+    room.unwrap_or(REFUSED)
+}
+
+/// How many bytes of UTF-8 are room enough for the text of `n` more bytes up to the first
+/// malformed sequence, and for one U+FFFD there; `SIZE_MAX` where the number
+/// passes a `size_t`, the handle holds no decoder, or the stream has ended. What is pending counts
+/// too.
+#[unsafe(no_mangle)]
+pub extern "C" fn jillapun_decoder_max_utf8_length_without_replacement(
+    alloc: Global,
+    decoder: &mut DecoderHandle,
+    n: usize,
+) -> usize
+    ensures room { AsksRoom Bytes (decoder_in decoder.old.coder.coder) n result }
+    ensures unchanged { decoder.new.coder.coder ≡ decoder.old.coder.coder }
+{
+    let Some(coder) = decoder.coder.take(alloc) else {
+        return REFUSED;
+    };
+    let room = match &*coder {
+        Coder::Decoder(decoder) if !decoder.is_finished() =>
+            decoder.max_utf8_buffer_length_without_replacement(n),
+        _ => None,
+    };
+    decoder.coder.put(coder);
+    room.unwrap_or(REFUSED)
+}
+
+/// How many units of UTF-16 are room enough for the text of `n` more bytes, with U+FFFD for each
+/// malformed sequence; `SIZE_MAX` where the number
+/// passes a `size_t`, the handle holds no decoder, or the stream has ended. What is pending counts
+/// too.
+#[unsafe(no_mangle)]
+pub extern "C" fn jillapun_decoder_max_utf16_length(
+    alloc: Global,
+    decoder: &mut DecoderHandle,
+    n: usize,
+) -> usize
+    ensures room { AsksRoom Units (decoder_in decoder.old.coder.coder) n result }
+    ensures unchanged { decoder.new.coder.coder ≡ decoder.old.coder.coder }
+{
+    let Some(coder) = decoder.coder.take(alloc) else {
+        return REFUSED;
+    };
+    let room = match &*coder {
+        Coder::Decoder(decoder) if !decoder.is_finished() => decoder.max_utf16_buffer_length(n),
+        _ => None,
+    };
+    decoder.coder.put(coder);
+    room.unwrap_or(REFUSED)
+}

@@ -1,0 +1,165 @@
+//! The exports that decode to UTF-8.
+
+ghost use Rattle.std.specs.Prelude.{◌≡◌, ◌≢◌, None, Some, true};
+ghost use Rattle.std.specs.Prelude.{false, drop, length, encode_utf8_all};
+ghost use Rattle.encoding_mem.specs.calls.Writing.{Adds};
+ghost use Rattle.encoding_mem.specs.declared.room.OutputUnit.TheVariants.{Bytes, Replaced};
+ghost use Rattle.encoding_front.specs.calls.DecoderViews.{decoder_view};
+ghost use Rattle.encoding_front.specs.declared.decoder.Decoder.{Decoder};
+ghost use Rattle.jillapun_c.specs.Coders.{decoder_in};
+ghost use Rattle.jillapun_c.specs.DecoderCalls.{Decodes, DecodesUpToFault};
+ghost use Rattle.jillapun_c.specs.declared.status.TheConstants.{CLOSED, FINISHED, OK};
+
+use crate::coder::Coder;
+use crate::decoder::DecoderHandle;
+use crate::progress::{Progress, outcome_of, part_outcome_of};
+use crate::status::{CLOSED, FINISHED, OK};
+use std::alloc::Global;
+
+/// Decodes the next bytes of a stream to UTF-8, with U+FFFD for each malformed sequence. `last`
+/// says that the stream ends with them.
+///
+/// Returns `OK`, and `progress` tells what was done. At `INPUT_EMPTY` all of `src` is read: hand in
+/// what follows; with `last` the stream has ended. At `OUTPUT_FULL` fewer than 4 bytes are free:
+/// make room, and hand in the rest again, with `last` as it was, also where nothing is left. A
+/// character is never split, and nothing after what is written changes. `OUTPUT_FULL` does not come
+/// where `dst` is as long as `jillapun_decoder_max_utf8_length` returns.
+///
+/// Else nothing is done: `CLOSED`, the handle holds no decoder; `FINISHED`, the stream has ended.
+#[unsafe(no_mangle)]
+pub extern "C" fn jillapun_decoder_decode_to_utf8(
+    alloc: Global,
+    decoder: &mut DecoderHandle,
+    src: &[u8],
+    dst: &mut [u8],
+    last: bool,
+    progress: &mut Progress,
+) -> u8
+    ensures closed { decoder_in decoder.old.coder.coder ≡ None → result ≡ CLOSED }
+    ensures finished { (d : Decoder) → decoder_in decoder.old.coder.coder ≡ Some d
+        → (decoder_view d).finished ≡ true → result ≡ FINISHED }
+    ensures decodes { (d : Decoder) → decoder_in decoder.old.coder.coder ≡ Some d
+        → (decoder_view d).finished ≡ false → (result ≡ OK)
+        × Decodes Replaced d decoder.new.coder.coder src.now last
+        (λ text. Adds dst.old 0 (encode_utf8_all text) dst.new progress.new.written)
+        (length dst.old) (length (drop progress.new.written dst.new)) 4 3 progress.new }
+    ensures unchanged { result ≢ OK
+        → (dst.new ≡ dst.old) × (decoder.new.coder.coder ≡ decoder.old.coder.coder) }
+{
+    *progress = Progress::NONE;
+    let Some(mut coder) = decoder.coder.take(alloc) else {
+        return CLOSED;
+    };
+    let status = to_utf8(&mut coder, src, dst, last, progress);
+    decoder.coder.put(coder);
+    status
+}
+
+// Decodes to UTF-8, with U+FFFD for each malformed sequence.
+fn to_utf8(coder: &mut Coder, src: &[u8], dst: &mut [u8], last: bool, progress: &mut Progress) -> u8
+    ensures closed { decoder_in (Some coder.old) ≡ None → result ≡ CLOSED }
+    ensures finished { (d : Decoder) → decoder_in (Some coder.old) ≡ Some d
+        → (decoder_view d).finished ≡ true → result ≡ FINISHED }
+    ensures decodes { (d : Decoder) → decoder_in (Some coder.old) ≡ Some d
+        → (decoder_view d).finished ≡ false → (result ≡ OK)
+        × Decodes Replaced d (Some coder.new) src.now last
+        (λ text. Adds dst.old 0 (encode_utf8_all text) dst.new progress.new.written)
+        (length dst.old) (length (drop progress.new.written dst.new)) 4 3 progress.new }
+    ensures unchanged { result ≢ OK → (dst.new ≡ dst.old) × (coder.new ≡ coder.old) }
+{
+    let Coder::Decoder(decoder) = coder else {
+        return CLOSED;
+    };
+    if decoder.is_finished() {
+        return FINISHED;
+    }
+    let (outcome, read, written, had_errors) = decoder.decode_to_utf8(src, dst, last);
+    *progress = Progress {
+        read,
+        written,
+        outcome: outcome_of(outcome),
+        malformed_length: 0,
+        malformed_after: 0,
+        had_errors,
+    };
+    OK
+}
+
+/// Decodes the next bytes of a stream to UTF-8, up to the first malformed sequence. `last` says
+/// that the stream ends with them.
+///
+/// Returns `OK`, and `progress` tells what was done. At `INPUT_EMPTY` all of `src` is read: hand in
+/// what follows; with `last` the stream has ended. At `OUTPUT_FULL` fewer than 4 bytes are free:
+/// make room, and hand in the rest again, with `last` as it was, also where nothing is left. A
+/// character is never split, and nothing after what is written changes. `OUTPUT_FULL` does not come
+/// where `dst` is as long as `jillapun_decoder_max_utf8_length_without_replacement` returns.
+///
+/// At `MALFORMED` a sequence of `malformed_length` bytes ends `malformed_after` bytes before the
+/// end of what was read, and 3 bytes are free: write U+FFFD or not, and go on as at `OUTPUT_FULL`.
+///
+/// Else nothing is done: `CLOSED`, the handle holds no decoder; `FINISHED`, the stream has ended.
+#[unsafe(no_mangle)]
+pub extern "C" fn jillapun_decoder_decode_to_utf8_without_replacement(
+    alloc: Global,
+    decoder: &mut DecoderHandle,
+    src: &[u8],
+    dst: &mut [u8],
+    last: bool,
+    progress: &mut Progress,
+) -> u8
+    ensures closed { decoder_in decoder.old.coder.coder ≡ None → result ≡ CLOSED }
+    ensures finished { (d : Decoder) → decoder_in decoder.old.coder.coder ≡ Some d
+        → (decoder_view d).finished ≡ true → result ≡ FINISHED }
+    ensures decodes { (d : Decoder) → decoder_in decoder.old.coder.coder ≡ Some d
+        → (decoder_view d).finished ≡ false → (result ≡ OK)
+        × DecodesUpToFault Bytes d decoder.new.coder.coder src.now last
+        (λ text. Adds dst.old 0 (encode_utf8_all text) dst.new progress.new.written)
+        (length dst.old) (length (drop progress.new.written dst.new)) 4 3 progress.new }
+    ensures unchanged { result ≢ OK
+        → (dst.new ≡ dst.old) × (decoder.new.coder.coder ≡ decoder.old.coder.coder) }
+{
+    *progress = Progress::NONE;
+    let Some(mut coder) = decoder.coder.take(alloc) else {
+        return CLOSED;
+    };
+    let status = to_utf8_part(&mut coder, src, dst, last, progress);
+    decoder.coder.put(coder);
+    status
+}
+
+// Decodes to UTF-8, up to the first malformed sequence.
+fn to_utf8_part(
+    coder: &mut Coder,
+    src: &[u8],
+    dst: &mut [u8],
+    last: bool,
+    progress: &mut Progress,
+) -> u8
+    ensures closed { decoder_in (Some coder.old) ≡ None → result ≡ CLOSED }
+    ensures finished { (d : Decoder) → decoder_in (Some coder.old) ≡ Some d
+        → (decoder_view d).finished ≡ true → result ≡ FINISHED }
+    ensures decodes { (d : Decoder) → decoder_in (Some coder.old) ≡ Some d
+        → (decoder_view d).finished ≡ false → (result ≡ OK)
+        × DecodesUpToFault Bytes d (Some coder.new) src.now last
+        (λ text. Adds dst.old 0 (encode_utf8_all text) dst.new progress.new.written)
+        (length dst.old) (length (drop progress.new.written dst.new)) 4 3 progress.new }
+    ensures unchanged { result ≢ OK → (dst.new ≡ dst.old) × (coder.new ≡ coder.old) }
+{
+    let Coder::Decoder(decoder) = coder else {
+        return CLOSED;
+    };
+    if decoder.is_finished() {
+        return FINISHED;
+    }
+    let (outcome, read, written) = decoder.decode_to_utf8_without_replacement(src, dst, last);
+    let (outcome, malformed_length, malformed_after) = part_outcome_of(outcome);
+    *progress = Progress {
+        read,
+        written,
+        outcome,
+        malformed_length,
+        malformed_after,
+        had_errors: false,
+    };
+    OK
+}

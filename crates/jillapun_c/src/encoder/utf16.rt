@@ -1,0 +1,156 @@
+//! The exports that encode UTF-16.
+
+ghost use Rattle.std.specs.Prelude.{◌≡◌, ◌≢◌, ◌≤◌, None, Some, true, drop, length};
+ghost use Rattle.std.specs.Char.Utf16.{utf16_lossy_chars};
+ghost use Rattle.encoding_mem.specs.Conversions.{IsUnitBoundary};
+ghost use Rattle.encoding_front.specs.calls.Encoder.{EncoderState};
+ghost use Rattle.jillapun_c.specs.Coders.{encoder_in};
+ghost use Rattle.jillapun_c.specs.EncoderCalls.{EncodesAll, EncodesUpToLost};
+ghost use Rattle.jillapun_c.specs.declared.status.TheConstants.{CLOSED, OK};
+
+use crate::coder::Coder;
+use crate::encoder::EncoderHandle;
+use crate::encoder_progress::{EncoderProgress, encoder_outcome_of};
+use crate::progress::outcome_of;
+use crate::status::{CLOSED, OK};
+use std::alloc::Global;
+
+/// Encodes the next part of a text in UTF-16, with the decimal reference (`&#8364;`) of each
+/// character that has no bytes. `last` says that the text ends with it: then the last escape is
+/// written too, and the encoder is as a new one.
+///
+/// Returns `OK`, and `progress` tells what was done. At `INPUT_EMPTY` all is read. At `OUTPUT_FULL`
+/// something is left to do: make room, and hand in the rest again, with `last` as it was, also
+/// where nothing is left; 14 bytes are always enough to go on. Unless the encoding is UTF-8, the
+/// last ten bytes of `dst` are kept for a reference. Nothing after what is written changes.
+///
+/// Else nothing is done: `CLOSED`, the handle holds no encoder.
+#[unsafe(no_mangle)]
+pub extern "C" fn jillapun_encoder_encode_from_utf16(
+    alloc: Global,
+    encoder: &mut EncoderHandle,
+    text: &[u16],
+    dst: &mut [u8],
+    last: bool,
+    progress: &mut EncoderProgress,
+) -> u8
+    ensures closed { encoder_in encoder.old.coder.coder ≡ None → result ≡ CLOSED }
+    ensures encodes { (e : EncoderState) → encoder_in encoder.old.coder.coder ≡ Some e
+        → (result ≡ OK) × EncodesAll true e encoder.new.coder.coder last
+        (utf16_lossy_chars text.now) (utf16_lossy_chars (drop progress.new.read text.now))
+        (length text.now) dst.old dst.new progress.new }
+    ensures read { result ≡ OK → (progress.new.read ≤ length text.now)
+        × IsUnitBoundary text.now progress.new.read }
+    ensures unchanged { result ≢ OK
+        → (dst.new ≡ dst.old) × (encoder.new.coder.coder ≡ encoder.old.coder.coder) }
+{
+    *progress = EncoderProgress::NONE;
+    let Some(mut coder) = encoder.coder.take(alloc) else {
+        return CLOSED;
+    };
+    let status = from_utf16(&mut coder, text, dst, last, progress);
+    encoder.coder.put(coder);
+    status
+}
+
+// Encodes, with a reference of each character that has no bytes.
+fn from_utf16(
+    coder: &mut Coder,
+    text: &[u16],
+    dst: &mut [u8],
+    last: bool,
+    progress: &mut EncoderProgress,
+) -> u8
+    ensures closed { encoder_in (Some coder.old) ≡ None → result ≡ CLOSED }
+    ensures encodes { (e : EncoderState) → encoder_in (Some coder.old) ≡ Some e
+        → (result ≡ OK) × EncodesAll true e (Some coder.new) last (utf16_lossy_chars text.now)
+        (utf16_lossy_chars (drop progress.new.read text.now)) (length text.now) dst.old dst.new
+        progress.new }
+    ensures read { result ≡ OK → (progress.new.read ≤ length text.now)
+        × IsUnitBoundary text.now progress.new.read }
+    ensures unchanged { result ≢ OK → (dst.new ≡ dst.old) × (coder.new ≡ coder.old) }
+{
+    let Coder::Encoder(encoder) = coder else {
+        return CLOSED;
+    };
+    let (outcome, read, written, had_unmappable) = encoder.encode_from_utf16(text, dst, last);
+    *progress = EncoderProgress {
+        read,
+        written,
+        outcome: outcome_of(outcome),
+        had_unmappable,
+        scalar: 0,
+    };
+    OK
+}
+
+/// Encodes the next part of a text in UTF-16, up to the first character that has no bytes. `last`
+/// says that the text ends with it: then the last escape is written too, and the encoder is as a
+/// new one.
+///
+/// Returns `OK`, and `progress` tells what was done. At `INPUT_EMPTY` all is read. At `OUTPUT_FULL`
+/// something is left to do: make room, and hand in the rest again, with `last` as it was, also
+/// where nothing is left; 4 bytes are always enough to go on. At `UNMAPPABLE` the character that
+/// was read last has no bytes: write its reference, or something else in ASCII, and go on as at
+/// `OUTPUT_FULL`. Nothing after what is written changes.
+///
+/// Else nothing is done: `CLOSED`, the handle holds no encoder.
+#[unsafe(no_mangle)]
+pub extern "C" fn jillapun_encoder_encode_from_utf16_without_replacement(
+    alloc: Global,
+    encoder: &mut EncoderHandle,
+    text: &[u16],
+    dst: &mut [u8],
+    last: bool,
+    progress: &mut EncoderProgress,
+) -> u8
+    ensures closed { encoder_in encoder.old.coder.coder ≡ None → result ≡ CLOSED }
+    ensures encodes { (e : EncoderState) → encoder_in encoder.old.coder.coder ≡ Some e
+        → (result ≡ OK) × EncodesUpToLost true e encoder.new.coder.coder last
+        (utf16_lossy_chars text.now) (utf16_lossy_chars (drop progress.new.read text.now))
+        (length text.now) dst.old dst.new progress.new }
+    ensures read { result ≡ OK → (progress.new.read ≤ length text.now)
+        × IsUnitBoundary text.now progress.new.read }
+    ensures unchanged { result ≢ OK
+        → (dst.new ≡ dst.old) × (encoder.new.coder.coder ≡ encoder.old.coder.coder) }
+{
+    *progress = EncoderProgress::NONE;
+    let Some(mut coder) = encoder.coder.take(alloc) else {
+        return CLOSED;
+    };
+    let status = from_utf16_part(&mut coder, text, dst, last, progress);
+    encoder.coder.put(coder);
+    status
+}
+
+// Encodes up to the first character that has no bytes.
+fn from_utf16_part(
+    coder: &mut Coder,
+    text: &[u16],
+    dst: &mut [u8],
+    last: bool,
+    progress: &mut EncoderProgress,
+) -> u8
+    ensures closed { encoder_in (Some coder.old) ≡ None → result ≡ CLOSED }
+    ensures encodes { (e : EncoderState) → encoder_in (Some coder.old) ≡ Some e
+        → (result ≡ OK) × EncodesUpToLost true e (Some coder.new) last (utf16_lossy_chars text.now)
+        (utf16_lossy_chars (drop progress.new.read text.now)) (length text.now) dst.old dst.new
+        progress.new }
+    ensures read { result ≡ OK → (progress.new.read ≤ length text.now)
+        × IsUnitBoundary text.now progress.new.read }
+    ensures unchanged { result ≢ OK → (dst.new ≡ dst.old) × (coder.new ≡ coder.old) }
+{
+    let Coder::Encoder(encoder) = coder else {
+        return CLOSED;
+    };
+    let (outcome, read, written) = encoder.encode_from_utf16_without_replacement(text, dst, last);
+    let (outcome, scalar) = encoder_outcome_of(outcome);
+    *progress = EncoderProgress {
+        read,
+        written,
+        outcome,
+        had_unmappable: false,
+        scalar,
+    };
+    OK
+}

@@ -1,0 +1,45 @@
+//! What a call of an encoder tells beside its status.
+
+ghost use Rattle.jillapun_c.specs.EncoderCalls.{IsEncoderOutcome};
+
+use crate::status::{INPUT_EMPTY, OUTPUT_FULL, UNMAPPABLE};
+use encoding_mem::EncoderResult;
+
+/// What a call of an encoder did.
+#[repr(C)]
+#[derive(Clone, Copy)]
+pub struct EncoderProgress {
+    /// How many bytes of UTF-8, or units of UTF-16, were read.
+    pub read: usize,
+    /// How many bytes were written.
+    pub written: usize,
+    /// `INPUT_EMPTY`, `OUTPUT_FULL` or `UNMAPPABLE`.
+    pub outcome: u8,
+    /// Whether a reference was written for a character that has no bytes.
+    pub had_unmappable: bool,
+    /// At `UNMAPPABLE`, the code point of the character that has no bytes; U+FFFD for U+000E,
+    /// U+000F and U+001B in ISO-2022-JP. Else 0.
+    pub scalar: u32,
+}
+
+impl EncoderProgress {
+    /// Nothing was done.
+    pub(crate) const NONE: EncoderProgress = EncoderProgress {
+        read: 0,
+        written: 0,
+        outcome: INPUT_EMPTY,
+        had_unmappable: false,
+        scalar: 0,
+    };
+}
+
+/// The number of an outcome, and the character that it has.
+pub(crate) fn encoder_outcome_of(outcome: EncoderResult) -> (u8, u32)
+    ensures { IsEncoderOutcome outcome result.0 result.1 }
+{
+    match outcome {
+        EncoderResult::InputEmpty => (INPUT_EMPTY, 0),
+        EncoderResult::OutputFull => (OUTPUT_FULL, 0),
+        EncoderResult::Unmappable(c) => (UNMAPPABLE, c as u32),
+    }
+}
