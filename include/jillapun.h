@@ -266,52 +266,6 @@ typedef struct {
     size_t line;
 } jillapun_index_fault;
 
-/** A malformed sequence of the input, or a character that the output encoding has no bytes for. */
-typedef struct {
-    /**
-     * Of a malformed sequence, its offset in bytes from the start of the input. Of a character,
-     * how many characters of the text stand before it.
-     */
-    uint64_t place;
-    /**
-     * Of a malformed sequence, its length in bytes, 1 to 4. Of a character, its code point, or
-     * FFFD if ISO-2022-JP refuses a control.
-     */
-    uint32_t number;
-    /** `JILLAPUN_BAD` for a malformed sequence, `JILLAPUN_LOST` for a character. */
-    uint8_t kind;
-} jillapun_loss;
-
-/** What a conversion reports beside its status. */
-typedef struct {
-    /**
-     * The bytes of the input. Told at `JILLAPUN_OK` and `JILLAPUN_LOSSY`, as the two counts that
-     * follow, and else 0.
-     */
-    uint64_t read;
-    /** The malformed sequences of the input. */
-    uint64_t bad;
-    /** The characters of the text that the output encoding has no bytes for. */
-    uint64_t lost;
-    /**
-     * The bytes of the output, in memory: so many stand at the start of `dst`, or, at
-     * `JILLAPUN_ROOM`, so many are wanted. 0 where nothing was written.
-     */
-    uint64_t written;
-    /**
-     * The records of losses, in memory: so many stand at the start of `losses`, or, at
-     * `JILLAPUN_ROOM`, so many are wanted. 0 where nothing was written.
-     */
-    uint64_t losses;
-    /** At `JILLAPUN_STOPPED`, how many characters of the text stand before the lost one. Else 0. */
-    uint64_t index;
-    /**
-     * At `JILLAPUN_STOPPED`, the code point of the lost character, or FFFD where ISO-2022-JP
-     * refuses a control. Else 0.
-     */
-    uint32_t scalar;
-} jillapun_report;
-
 /** The address of a decoder or an encoder, for calls of this library alone. */
 typedef struct {
     void *private_at;
@@ -371,6 +325,52 @@ typedef struct {
      */
     uint32_t scalar;
 } jillapun_encoder_progress;
+
+/** A malformed sequence of the input, or a character that the output encoding has no bytes for. */
+typedef struct {
+    /**
+     * Of a malformed sequence, its offset in bytes from the start of the input. Of a character,
+     * how many characters of the text stand before it.
+     */
+    uint64_t place;
+    /**
+     * Of a malformed sequence, its length in bytes, 1 to 4. Of a character, its code point, or
+     * FFFD if ISO-2022-JP refuses a control.
+     */
+    uint32_t number;
+    /** `JILLAPUN_BAD` for a malformed sequence, `JILLAPUN_LOST` for a character. */
+    uint8_t kind;
+} jillapun_loss;
+
+/** What a conversion reports beside its status. */
+typedef struct {
+    /**
+     * The bytes of the input. Told at `JILLAPUN_OK` and `JILLAPUN_LOSSY`, as the two counts that
+     * follow, and else 0.
+     */
+    uint64_t read;
+    /** The malformed sequences of the input. */
+    uint64_t bad;
+    /** The characters of the text that the output encoding has no bytes for. */
+    uint64_t lost;
+    /**
+     * The bytes of the output, in memory: so many stand at the start of `dst`, or, at
+     * `JILLAPUN_ROOM`, so many are wanted. 0 where nothing was written.
+     */
+    uint64_t written;
+    /**
+     * The records of losses, in memory: so many stand at the start of `losses`, or, at
+     * `JILLAPUN_ROOM`, so many are wanted. 0 where nothing was written.
+     */
+    uint64_t losses;
+    /** At `JILLAPUN_STOPPED`, how many characters of the text stand before the lost one. Else 0. */
+    uint64_t index;
+    /**
+     * At `JILLAPUN_STOPPED`, the code point of the lost character, or FFFD where ISO-2022-JP
+     * refuses a control. Else 0.
+     */
+    uint32_t scalar;
+} jillapun_report;
 
 /* The exports on encodings: found by a label or a mark, and what is told of each. An encoding
    crosses as its number, from 0 to 39, in the order of the names. */
@@ -438,54 +438,6 @@ uint8_t jillapun_tables_is_ready(jillapun_tables tables, uint8_t encoding);
  */
 uint8_t jillapun_tables_new(const jillapun_index_file *files, size_t files_len,
     jillapun_tables *out, jillapun_index_fault *fault);
-
-/* The exports that decode and encode a whole input at once. */
-
-/**
- * Decodes a whole input to UTF-8, at the start of `dst`, with U+FFFD for each malformed
- * sequence. `mark` says what becomes of a byte order mark at its start. `written` is the length
- * of the text in bytes.
- *
- * Returns `JILLAPUN_OK`; or `JILLAPUN_LOSSY`, a malformed sequence was replaced. At
- * `JILLAPUN_ROOM` nothing is written, since `dst` is shorter than the text. Else nothing is
- * done: `JILLAPUN_CLOSED`, there are no tables; `JILLAPUN_UNKNOWN`, no encoding or no handling
- * of marks has the number; `JILLAPUN_NOT_READY`, the tables lack an index of the encoding;
- * `JILLAPUN_NO_MEMORY`, memory was refused.
- */
-uint8_t jillapun_decode(jillapun_tables tables, uint8_t encoding, uint8_t mark, const uint8_t *src,
-    size_t src_len, uint8_t *dst, size_t dst_len, size_t *written);
-
-/* Conversions from memory to memory. */
-
-/**
- * Converts a text in memory: the bytes of `src`, from the encoding with the number `from` to
- * the output encoding of that with the number `to`, at the start of `dst`, with a record of
- * each loss at the start of `losses`, in the order of the text. The rest of both stays as it
- * was.
- *
- * `mark` says what becomes of a byte order mark at the start (`JILLAPUN_SNIFF`,
- * `JILLAPUN_REMOVE`, `JILLAPUN_KEEP`), `policy` what is written for a character without bytes
- * (`JILLAPUN_DECIMAL`, `JILLAPUN_HEXADECIMAL`, `JILLAPUN_STOP`), and `limit` how many bytes the
- * input may have: 2^48 where it is more. Any number of threads may call at once, over the same
- * tables.
- *
- * - `JILLAPUN_OK`: nothing was malformed, and the output, read again, is the text of the input.
- * - `JILLAPUN_LOSSY`: all was converted, and something was lost. `losses` may be empty even so:
- *   some encodings write a character as bytes that read back as another.
- * - `JILLAPUN_ROOM`: `written` bytes and `losses` records are wanted; nothing was written. Call
- *   again.
- * - `JILLAPUN_STOPPED`: the policy is `JILLAPUN_STOP`, and the character that has no bytes is
- *   in the report. What is before it was converted, and its record is the last.
- * - `JILLAPUN_TOO_LONG`: `src` is longer than the limit. `JILLAPUN_NO_MEMORY`: memory was
- *   refused.
- * - `JILLAPUN_UNKNOWN`: a number stands for nothing. `JILLAPUN_NOT_READY`: an index that one of
- *   the encodings needs is not in the tables. `JILLAPUN_CLOSED`: the handle has no tables.
- *
- * It takes memory for the output and the records from the heap, and frees it before it returns.
- */
-uint8_t jillapun_convert(jillapun_tables tables, uint8_t from, uint8_t to, uint8_t mark,
-    uint8_t policy, uint64_t limit, const uint8_t *src, size_t src_len, uint8_t *dst,
-    size_t dst_len, jillapun_loss *losses, size_t losses_len, jillapun_report *report);
 
 /* The exports that decode streams. */
 
@@ -750,6 +702,54 @@ uint8_t jillapun_encoder_encode_from_utf8(jillapun_encoder *encoder, const uint8
 uint8_t jillapun_encoder_encode_from_utf8_without_replacement(jillapun_encoder *encoder,
     const uint8_t *text, size_t text_len, uint8_t *dst, size_t dst_len, bool last,
     jillapun_encoder_progress *progress);
+
+/* The exports that decode and encode a whole input at once. */
+
+/**
+ * Decodes a whole input to UTF-8, at the start of `dst`, with U+FFFD for each malformed
+ * sequence. `mark` says what becomes of a byte order mark at its start. `written` is the length
+ * of the text in bytes.
+ *
+ * Returns `JILLAPUN_OK`; or `JILLAPUN_LOSSY`, a malformed sequence was replaced. At
+ * `JILLAPUN_ROOM` nothing is written, since `dst` is shorter than the text. Else nothing is
+ * done: `JILLAPUN_CLOSED`, there are no tables; `JILLAPUN_UNKNOWN`, no encoding or no handling
+ * of marks has the number; `JILLAPUN_NOT_READY`, the tables lack an index of the encoding;
+ * `JILLAPUN_NO_MEMORY`, memory was refused.
+ */
+uint8_t jillapun_decode(jillapun_tables tables, uint8_t encoding, uint8_t mark, const uint8_t *src,
+    size_t src_len, uint8_t *dst, size_t dst_len, size_t *written);
+
+/* Conversions from memory to memory. */
+
+/**
+ * Converts a text in memory: the bytes of `src`, from the encoding with the number `from` to
+ * the output encoding of that with the number `to`, at the start of `dst`, with a record of
+ * each loss at the start of `losses`, in the order of the text. The rest of both stays as it
+ * was.
+ *
+ * `mark` says what becomes of a byte order mark at the start (`JILLAPUN_SNIFF`,
+ * `JILLAPUN_REMOVE`, `JILLAPUN_KEEP`), `policy` what is written for a character without bytes
+ * (`JILLAPUN_DECIMAL`, `JILLAPUN_HEXADECIMAL`, `JILLAPUN_STOP`), and `limit` how many bytes the
+ * input may have: 2^48 where it is more. Any number of threads may call at once, over the same
+ * tables.
+ *
+ * - `JILLAPUN_OK`: nothing was malformed, and the output, read again, is the text of the input.
+ * - `JILLAPUN_LOSSY`: all was converted, and something was lost. `losses` may be empty even so:
+ *   some encodings write a character as bytes that read back as another.
+ * - `JILLAPUN_ROOM`: `written` bytes and `losses` records are wanted; nothing was written. Call
+ *   again.
+ * - `JILLAPUN_STOPPED`: the policy is `JILLAPUN_STOP`, and the character that has no bytes is
+ *   in the report. What is before it was converted, and its record is the last.
+ * - `JILLAPUN_TOO_LONG`: `src` is longer than the limit. `JILLAPUN_NO_MEMORY`: memory was
+ *   refused.
+ * - `JILLAPUN_UNKNOWN`: a number stands for nothing. `JILLAPUN_NOT_READY`: an index that one of
+ *   the encodings needs is not in the tables. `JILLAPUN_CLOSED`: the handle has no tables.
+ *
+ * It takes memory for the output and the records from the heap, and frees it before it returns.
+ */
+uint8_t jillapun_convert(jillapun_tables tables, uint8_t from, uint8_t to, uint8_t mark,
+    uint8_t policy, uint64_t limit, const uint8_t *src, size_t src_len, uint8_t *dst,
+    size_t dst_len, jillapun_loss *losses, size_t losses_len, jillapun_report *report);
 
 /* ASCII, in bytes and in units of UTF-16: checks, and copies of the ASCII at the start. */
 

@@ -24,8 +24,8 @@ sys.dont_write_bytecode = True
 import c_library
 import c_loaded
 import c_mem
-import c_conversions
 import c_python
+import c_streams
 import install
 
 TOP = os.path.abspath(os.path.join(os.path.dirname(os.path.abspath(__file__)), ".."))
@@ -33,7 +33,7 @@ EXAMPLES = os.path.join(TOP, "docs", "examples", "c")
 INCLUDE = os.path.join(TOP, "include")
 
 # The calls of each part of the library, and what they say is wrong.
-CHECKS = [c_mem.faults, c_conversions.faults, c_python.faults]
+CHECKS = [c_mem.faults, c_streams.faults, c_python.faults]
 
 WARNINGS = ["-Wall", "-Wextra", "-pedantic", "-Werror"]
 SANITIZERS = ["-g", "-fsanitize=address,undefined", "-fno-sanitize-recover=all"]

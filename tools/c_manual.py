@@ -15,7 +15,7 @@ import c_header
 import usage
 
 MAN = "man/jillapun.3"
-EXAMPLE = "docs/examples/c/convert.c"
+EXAMPLE = "docs/examples/c/decode.c"
 # The page for its users, and the program that it begins with.
 GUIDE, FIRST = "docs/C.md", "docs/examples/c/first.c"
 

@@ -11,6 +11,7 @@ is done by a library that is proved, `libjillapun.so`; this package needs nothin
 
 - `decode`, `encode`, `convert`: whole texts and inputs in memory.
 - `convert_file`: a file into another.
+- `open`, `Reader`, `Writer`: files of text. `Decoder`, `Encoder`: streams, chunk by chunk.
 - `Indexes`: the indexes of encodings, from another folder than that of the installation. `name`, `output_name`: labels.
 
 A label that no encoding has raises `UnknownLabel`, which is a `LookupError`. Calls from several threads at once are
@@ -32,6 +33,7 @@ from ._results import (
     TooLong,
     UnknownLabel,
 )
+from ._streams import Decoder, Encoder, Reader, Writer, open
 from ._texts import convert, decode, encode
 
 __all__ = [
@@ -39,19 +41,24 @@ __all__ = [
     "Converted",
     "ConvertedFile",
     "Decoded",
+    "Decoder",
     "Encoded",
+    "Encoder",
     "Indexes",
     "IndexesMissing",
     "JillapunError",
     "Lost",
+    "Reader",
     "Stopped",
     "TooLong",
     "UnknownLabel",
+    "Writer",
     "convert",
     "convert_file",
     "decode",
     "default_folder",
     "encode",
     "name",
+    "open",
     "output_name",
 ]

@@ -3,6 +3,7 @@
 import ctypes
 import ctypes.util
 import os
+from functools import lru_cache
 from pathlib import Path
 from typing import List, Optional
 
@@ -45,10 +46,14 @@ class IndexFault(ctypes.Structure):
     _fields_ = [("file", Size), ("line", Size)]
 
 
-class Tables(ctypes.Structure):
-    """Loaded tables: a copy is as good."""
+class Handle(ctypes.Structure):
+    """What the library keeps behind a handle is its own; a handle is never copied."""
 
     _fields_ = [("at", ctypes.c_void_p), ("is_open", ctypes.c_bool)]
+
+
+class Tables(Handle):
+    """Loaded tables: of these a copy is as good."""
 
 
 class Loss(ctypes.Structure):
@@ -63,6 +68,27 @@ class Report(ctypes.Structure):
         ("written", Long),
         ("losses", Long),
         ("index", Long),
+        ("scalar", ctypes.c_uint32),
+    ]
+
+
+class Progress(ctypes.Structure):
+    _fields_ = [
+        ("read", Size),
+        ("written", Size),
+        ("outcome", Byte),
+        ("malformed_length", Byte),
+        ("malformed_after", Byte),
+        ("had_errors", ctypes.c_bool),
+    ]
+
+
+class EncoderProgress(ctypes.Structure):
+    _fields_ = [
+        ("read", Size),
+        ("written", Size),
+        ("outcome", Byte),
+        ("had_unmappable", ctypes.c_bool),
         ("scalar", ctypes.c_uint32),
     ]
 
@@ -97,6 +123,7 @@ def _declare(name: str, result: Optional[type], *parameters: type) -> None:
 
 _LENT = (ctypes.c_char_p, Size)
 _ROOM = (ctypes.c_void_p, Size)
+_HANDLE = ctypes.POINTER(Handle)
 _REPORT = ctypes.POINTER(Report)
 
 _declare("jillapun_for_label", Byte, *_LENT)
@@ -104,3 +131,21 @@ _declare("jillapun_name", Size, Byte, *_ROOM)
 _declare("jillapun_output_encoding", Byte, Byte)
 _declare("jillapun_tables_new", Byte, ctypes.POINTER(IndexFile), Size, ctypes.POINTER(Tables), ctypes.POINTER(IndexFault))
 _declare("jillapun_convert", Byte, Tables, Byte, Byte, Byte, Byte, Long, *_LENT, *_ROOM, ctypes.POINTER(Loss), Size, _REPORT)
+
+
+@lru_cache(maxsize=None)
+def streams() -> ctypes.CDLL:
+    """The library, with the calls of streams declared."""
+    call = (_HANDLE, *_ROOM, *_ROOM, ctypes.c_bool)
+    _declare("jillapun_decoder_new", Byte, Tables, Byte, Byte, _HANDLE)
+    _declare("jillapun_decoder_decode_to_utf8_without_replacement", Byte, *call, ctypes.POINTER(Progress))
+    _declare("jillapun_decoder_free", None, _HANDLE)
+    _declare("jillapun_encoder_new", Byte, Tables, Byte, _HANDLE)
+    _declare("jillapun_encoder_encode_from_utf8_without_replacement", Byte, *call, ctypes.POINTER(EncoderProgress))
+    _declare("jillapun_encoder_free", None, _HANDLE)
+    return library
+
+
+def address_of(data: bytes) -> int:
+    """Where the bytes stand, as long as they are kept: a call may be handed what follows a place in them."""
+    return ctypes.cast(ctypes.c_char_p(data), ctypes.c_void_p).value or 0

@@ -28,6 +28,7 @@ class Errors(unittest.TestCase):
         none = jillapun.Indexes(texts={})
         self.assertEqual(jillapun.decode(b"a", "utf-8", indexes=none).text, "a")
         self.assertRaises(jillapun.IndexesMissing, jillapun.decode, b"a", "big5", indexes=none)
+        self.assertRaises(jillapun.IndexesMissing, jillapun.Decoder, "big5", indexes=none)
         with self.assertRaisesRegex(jillapun.IndexesMissing, "index-big5.txt: line 2 is faulty"):
             jillapun.Indexes(texts={"index-big5.txt": b"0\t0x43F0\nwhat\n"})
         self.assertRaises(jillapun.IndexesMissing, jillapun.Indexes, texts={"index-none.txt": b""})
@@ -55,6 +56,34 @@ class Files(unittest.TestCase):
 
     def tearDown(self) -> None:
         self.folder.cleanup()
+
+    def test_stream(self) -> None:
+        for label, codec in (("iso-2022-jp", "iso2022_jp"), ("euc-jp", "euc_jp"), ("utf-8", "utf_8")):
+            with jillapun.open(self.path, "w", encoding=label) as file:
+                for start in range(0, len(TEXT), 777):
+                    file.write(TEXT[start : start + 777])
+            self.assertEqual(Path(self.path).read_bytes(), TEXT.encode(codec))
+            with jillapun.open(self.path, encoding=label) as file:
+                self.assertEqual(list(file), TEXT.splitlines(keepends=True))
+                self.assertEqual(file.faults, [])
+            with jillapun.open(self.path, encoding=label) as file:
+                parts = [file.read(1000), file.readline(), file.readline(3), file.read()]
+            self.assertEqual("".join(parts), TEXT)
+            self.assertEqual((len(parts[0]), parts[1][-1], len(parts[2])), (1000, "\n", 3))
+
+    def test_faults_of_streams(self) -> None:
+        Path(self.path).write_bytes(b"a\xff\nb\x83")
+        with jillapun.open(self.path, encoding="shift_jis") as file:
+            self.assertEqual(file.read(), "a\ufffd\nb\ufffd")
+            self.assertEqual(file.faults, [(1, 1), (4, 1)])
+        with jillapun.open(self.path, "w", encoding="windows-1252", unmappable="hexadecimal") as file:
+            file.write("é日")
+            self.assertEqual(file.faults, [(1, "日")])
+        self.assertEqual(Path(self.path).read_bytes(), b"\xe9&#x65E5;")
+        encoder = jillapun.Encoder("iso-2022-jp", unmappable="stop")
+        with self.assertRaises(jillapun.Stopped) as stop:
+            encoder.encode("日💩")
+        self.assertEqual((stop.exception.output, stop.exception.lost), (b"\x1b$BF|\x1b(B", (1, "💩")))
 
     def test_convert_file(self) -> None:
         Path(self.path).write_bytes(TEXT.encode("cp932") + b"\xff")

@@ -27,7 +27,7 @@ TABLES = Tables()
 
 
 class Streams(unittest.TestCase):
-    """Streams and texts of `test_encoding_cases`, whole."""
+    """Streams and texts of `test_encoding_cases`: whole, and cut in two at each place."""
 
     def test_streams(self) -> None:
         count = 0
@@ -41,6 +41,10 @@ class Streams(unittest.TestCase):
             with self.subTest(place=place, words=words):
                 done = jillapun.decode(case.data, case.encoding, mark=case.mark, indexes=indexes)
                 self.assertEqual((done.text, done.faults), (case.text, faults))
+                for cut in range(len(case.data) + 1):
+                    decoder = jillapun.Decoder(case.encoding, mark=case.mark, indexes=indexes)
+                    text = decoder.decode(case.data[:cut]) + decoder.decode(case.data[cut:], last=True)
+                    self.assertEqual((text, decoder.faults), (case.text, faults), "cut at %d" % cut)
         self.assertGreater(count, 90)
 
     def test_texts(self) -> None:
@@ -55,6 +59,10 @@ class Streams(unittest.TestCase):
             with self.subTest(place=place, words=words):
                 done = jillapun.encode(case.text, case.encoding, indexes=indexes)
                 self.assertEqual((done.data, done.faults), (case.data, faults))
+                for cut in range(len(case.text) + 1):
+                    encoder = jillapun.Encoder(case.encoding, indexes=indexes)
+                    data = encoder.encode(case.text[:cut]) + encoder.encode(case.text[cut:], last=True)
+                    self.assertEqual((data, encoder.faults), (case.data, faults), "cut at %d" % cut)
         self.assertGreater(count, 40)
 
     def test_labels(self) -> None:

@@ -1,0 +1,292 @@
+"""Calls of the exports for labels, tables, streams and conversions, beside plain programs. `tools/c_interface.py` runs them.
+
+Inputs are random, as `fuzz.py` makes them, in all 40 encodings, cut at random places and with random room. What must come of
+them is worked out by `standard.py` and `plain_recode.py`, which follow the steps of the Encoding Standard.
+"""
+
+import os
+import random
+import re
+
+import fuzz
+import plain_recode
+import standard
+from c_header import CONSTANT, CONSTANTS, TOP, read
+from c_loaded import units
+from plain_recode import Job
+from standard import UNMAPPABLE
+
+SEED, ROUNDS = 2026, 600
+INDEXES = os.path.join(TOP, "indexes")
+
+# The numbers of `status.rt`, by their names.
+NUMBERS = {found[1]: found[3] for found in map(CONSTANT.fullmatch, read(CONSTANTS).split("\n")) if found}
+NUMBERS = {name: 2**64 - 1 if value == "usize::MAX" else int(value) for name, value in NUMBERS.items()}
+MARKS = {"sniff": NUMBERS["SNIFF"], "remove": NUMBERS["REMOVE"], "keep": NUMBERS["KEEP"]}
+POLICIES = {"decimal": NUMBERS["DECIMAL"], "hexadecimal": NUMBERS["HEXADECIMAL"], "stop": NUMBERS["STOP"]}
+
+NO_LIMIT = 2**64 - 1
+# No stream takes more calls.
+MOST_CALLS = 100000
+
+
+class Wrong(Exception):
+    """A call that returned what it must not."""
+
+
+def by_number(name):
+    """What names are ordered by: the numbers in them count as numbers."""
+    return [int(part) if part.isdigit() else part for part in re.split(r"(\d+)", name.lower())]
+
+
+def text_of(points):
+    return "".join(map(chr, points))
+
+
+def encoded(encoder, points):
+    """The bytes of a text without what has none, and with decimal references for it; and each lost character."""
+    plain, replaced, lost = bytearray(), bytearray(), []
+    for index, point in enumerate(points):
+        for item in encoder.handle(point):
+            if item < UNMAPPABLE:
+                plain.append(item)
+                replaced.append(item)
+            else:
+                lost.append((index, item - UNMAPPABLE))
+                replaced += b"&#%d;" % (item - UNMAPPABLE)
+    end = bytes(encoder.finish())
+    return bytes(plain) + end, bytes(replaced) + end, lost
+
+
+class Streams:
+    """The calls over tables with all indexes."""
+
+    def __init__(self, library):
+        self.library, self.random = library, random.Random(SEED)
+        self.encodings = standard.encodings(INDEXES)
+        self.inputs = fuzz.Inputs(self.encodings)
+        self.wrong, self.tables = [], self.loaded()
+        self.numbers = {name: library.jillapun_for_label(name.encode()) for name in self.encodings}
+
+    def same(self, name, given, got, want):
+        if got != want:
+            self.wrong.append("%s of %r: %r and not %r" % (name, given, got, want))
+
+    def must(self, name, status, want="OK"):
+        if status != NUMBERS[want]:
+            raise Wrong("%s: status %d and not %s" % (name, status, want))
+
+    def files(self, texts):
+        """Index files, as a call takes them, from their names and their texts, which must live as long."""
+        files = (self.library.struct("IndexFile") * max(len(texts), 1))()
+        for file, (name, text) in zip(files, texts):
+            self.library.fill(file.name, name)
+            self.library.fill(file.text, text)
+        return files
+
+    def loaded(self):
+        """Tables with all indexes. Files that are not taken leave none, and the fault names the first."""
+        names = sorted(name for name in os.listdir(INDEXES) if name.startswith("index-"))
+        good = [(name.encode(), read_bytes(os.path.join(INDEXES, name))) for name in names]
+        tables, fault = self.library.struct("TablesHandle")(), self.library.struct("IndexFault")()
+        lines = good[1][1].split(b"\n")
+        row = next(at for at, line in enumerate(lines) if line and not line.startswith(b"#"))
+        faulty = b"\n".join([*lines[:row], b"0\tno number", *lines[row:]])
+        for name, text, status, line in ((b"index-none.txt", b"", "UNKNOWN", 0), (good[1][0], faulty, "BAD_INDEX", row + 1)):
+            files = [good[0], (name, text), *good[2:]]
+            self.must("tables_new", self.library.jillapun_tables_new(self.files(files), tables, fault), status)
+            self.same("fault", name, (fault.file, fault.line), (1, line))
+            is_ready = self.library.jillapun_tables_is_ready(tables, 0)
+            self.must("is_ready", is_ready, "CLOSED")
+        self.must("tables_new", self.library.jillapun_tables_new(self.files(good), tables, fault))
+        for number in range(len(self.encodings)):
+            self.must("is_ready", self.library.jillapun_tables_is_ready(tables, number))
+        return tables
+
+    def labels(self):
+        """Each name is a label of its encoding, and the numbers are those of the order of the names."""
+        for number, name in enumerate(sorted(self.encodings, key=by_number)):
+            room = bytearray(40)
+            length = self.library.jillapun_name(number, room)
+            self.same("name", number, bytes(room[:length]), name.encode())
+            self.same("for_label", name, self.numbers[name], number)
+            output = self.library.jillapun_output_encoding(number)
+            self.same("output_encoding", name, output, self.numbers[self.encodings[name].output])
+        self.same("for_label", "?", self.library.jillapun_for_label(b"?"), NUMBERS["NO_ENCODING"])
+        self.same("name", 40, self.library.jillapun_name(40, bytearray(40)), NUMBERS["REFUSED"])
+
+    def decoded(self, call, job, parts, to_units):
+        """A stream by a decoder of its own: its text, its faults, and whether a call told of errors."""
+        handle = self.library.struct("DecoderHandle")()
+        new = self.library.jillapun_decoder_new(self.tables, self.numbers[job.source], MARKS[job.mark], handle)
+        self.must("decoder_new", new)
+        text, faults, had_errors, before = bytearray(), [], False, 0
+        progress, most = self.library.struct("Progress")(), self.random.choice((4, 7, 40, 5000))
+        for number, part in enumerate(parts):
+            last = number == len(parts) - 1
+            for _ in range(MOST_CALLS):
+                size = self.random.randint(4, most)
+                room = (units([0] * size), size) if to_units else bytearray(size)
+                self.must(call, getattr(self.library, call)(handle, part, room, last, progress))
+                part, before = part[progress.read :], before + progress.read
+                written = room[0][: progress.written] if to_units else room[: progress.written]
+                text += b"".join(unit.to_bytes(2, "little") for unit in written) if to_units else written
+                had_errors |= progress.had_errors
+                if progress.outcome == NUMBERS["INPUT_EMPTY"]:
+                    break
+                if progress.outcome == NUMBERS["MALFORMED"]:
+                    length = progress.malformed_length
+                    faults.append((before - progress.malformed_after - length, length))
+                    text += "\ufffd".encode("utf-16-le" if to_units else "utf-8")
+            else:
+                raise Wrong("%s does not end" % call)
+        self.must("after the end", getattr(self.library, call)(handle, b"", room, True, progress), "FINISHED")
+        self.library.jillapun_decoder_free(handle)
+        self.library.jillapun_decoder_free(handle)
+        self.must("after it is freed", getattr(self.library, call)(handle, b"", room, True, progress), "CLOSED")
+        return text.decode("utf-16-le" if to_units else "utf-8"), faults, had_errors
+
+    def decoders(self, job, data, parts):
+        """The four calls of a decoder."""
+        pieces = plain_recode.pieces(self.encodings, job, data)[1]
+        text = text_of(point for _, _, points in pieces for point in ((0xFFFD,) if points is None else points))
+        faults = [(start, end - start) for start, end, points in pieces if points is None]
+        for to_units, name in ((False, "utf8"), (True, "utf16")):
+            call = "jillapun_decoder_decode_to_" + name
+            self.same(call, (job, data, parts), self.decoded(call, job, parts, to_units), (text, [], bool(faults)))
+            call += "_without_replacement"
+            self.same(call, (job, data, parts), self.decoded(call, job, parts, to_units)[:2], (text, faults))
+        self.queried(job, data, text)
+
+    def queried(self, job, data, text):
+        """A whole stream in one call, in the room that its query asks for."""
+        progress = self.library.struct("Progress")()
+        for name, codec in (("utf8", "utf-8"), ("utf16", "utf-16-le")):
+            handle = self.library.struct("DecoderHandle")()
+            new = self.library.jillapun_decoder_new(self.tables, self.numbers[job.source], MARKS[job.mark], handle)
+            self.must("decoder_new", new)
+            self.must("decoder_new twice", self.library.jillapun_decoder_new(self.tables, 0, 0, handle), "IN_USE")
+            self.same("encoding", job, self.library.jillapun_decoder_encoding(handle), self.numbers[job.source])
+            size = getattr(self.library, "jillapun_decoder_max_%s_length" % name)(handle, len(data))
+            room = bytearray(size) if name == "utf8" else (units([0] * size), size)
+            call = "jillapun_decoder_decode_to_" + name
+            self.must(call, getattr(self.library, call)(handle, data, room, True, progress))
+            written = room[: progress.written] if name == "utf8" else bytes(room[0])[: 2 * progress.written]
+            self.same(call, (job, data), (progress.outcome, written.decode(codec)), (NUMBERS["INPUT_EMPTY"], text))
+            self.library.jillapun_decoder_free(handle)
+
+    def coded(self, call, target, points, of_units):
+        """A text by an encoder of its own: its bytes, its lost characters, and whether a call told of some."""
+        handle = self.library.struct("EncoderHandle")()
+        self.must("encoder_new", self.library.jillapun_encoder_new(self.tables, self.numbers[target], handle))
+        progress, output, lost, had, index = self.library.struct("EncoderProgress")(), bytearray(), [], False, 0
+        if not of_units:
+            room = bytearray(40)
+            self.must(call, getattr(self.library, call)(handle, b"a\xff", room, False, progress), "NOT_UTF8")
+            self.same(call, "no text", (progress.read, progress.written, bytes(room)), (0, 0, bytes(40)))
+        place = self.random.randint(0, len(points))
+        most = self.random.choice((14, 60, 5000))
+        for part, last in ((points[:place], False), (points[place:], True)):
+            text = text_of(part)
+            for _ in range(MOST_CALLS):
+                room = bytearray(self.random.randint(14, most))
+                source = self.source(text, of_units)
+                self.must(call, getattr(self.library, call)(handle, source, room, last, progress))
+                count = characters(text, progress.read, of_units)
+                index, text = index + count, text[count:]
+                output += room[: progress.written]
+                had |= progress.had_unmappable
+                if progress.outcome == NUMBERS["INPUT_EMPTY"]:
+                    break
+                if progress.outcome == NUMBERS["UNMAPPABLE"]:
+                    lost.append((index - 1, progress.scalar))
+            else:
+                raise Wrong("%s does not end" % call)
+        # Then it is as a new one.
+        self.must("after the end", getattr(self.library, call)(handle, self.source("", of_units), room, True, progress))
+        self.same("after the end", target, (progress.read, progress.written), (0, 0))
+        self.library.jillapun_encoder_free(handle)
+        self.must("freed", getattr(self.library, call)(handle, self.source("", of_units), room, True, progress), "CLOSED")
+        return bytes(output), lost, had
+
+    @staticmethod
+    def source(text, of_units):
+        if not of_units:
+            return text.encode()
+        data = text.encode("utf-16-le")
+        return units([int.from_bytes(data[at : at + 2], "little") for at in range(0, len(data), 2)]), len(data) // 2
+
+    def encoders(self, job, size):
+        """The four calls of an encoder."""
+        points = self.inputs.text(self.random, [job.source, job.target], size)
+        output = self.encodings[job.target].output
+        plain, replaced, lost = encoded(self.encodings[output].encoder(), points)
+        for of_units, name in ((False, "utf8"), (True, "utf16")):
+            call = "jillapun_encoder_encode_from_" + name
+            self.same(call, (job, points), self.coded(call, job.target, points, of_units), (replaced, [], bool(lost)))
+            call += "_without_replacement"
+            self.same(call, (job, points), self.coded(call, job.target, points, of_units)[:2], (plain, lost))
+
+    def conversions(self, job, data):
+        """An input from memory to memory."""
+        run = plain_recode.Run(self.encodings, job, data)
+        wanted = "STOPPED" if run.stop else "OK" if run.is_faithful else "LOSSY"
+        numbers = self.numbers[job.source], self.numbers[job.target], MARKS[job.mark], POLICIES[job.policy]
+        self.in_memory(job, data, run, wanted, numbers)
+
+    def told(self, report, run):
+        """What is reported, and what has to be: counts if the run ended, else the character that stopped it."""
+        stop = run.stop or (0, 0)
+        counts = (0, 0, 0) if run.stop else (len(self.given), run.bad, run.lost)
+        return (report.read, report.bad, report.lost, report.index, report.scalar), (*counts, *stop)
+
+    def in_memory(self, job, data, run, wanted, numbers):
+        self.given = data
+        entries = [line.split() for line in run.log.decode().split("\n")[:-1]]
+        kinds = {"bad": NUMBERS["BAD"], "lost": NUMBERS["LOST"]}
+        losses = [(kinds[kind], int(place), int(number)) for kind, place, number in entries]
+        room = bytearray(len(run.output) + self.random.randint(0, 5))
+        records = (self.library.struct("Loss") * (len(losses) + 1))()
+        report = self.library.struct("Report")()
+        status = self.library.jillapun_convert(self.tables, *numbers, NO_LIMIT, data, room, records, report)
+        self.same("convert", (job, data), status, NUMBERS[wanted])
+        got = [(it.kind, it.place, it.number) for it in records[: report.losses]]
+        self.same("output", (job, data), bytes(room[: report.written]), bytes(run.output))
+        self.same("losses", (job, data), got, losses)
+        self.same("report", (job, data), *self.told(report, run))
+        if run.output:
+            room = bytearray(len(run.output) - 1)
+            status = self.library.jillapun_convert(self.tables, *numbers, NO_LIMIT, data, room, records, report)
+            self.same("too small a room", (job, data), (status, report.written, set(room) <= {0}), (NUMBERS["ROOM"], len(run.output), True))
+
+
+def characters(text, read, of_units):
+    """How many characters of a text so many of its bytes or units are."""
+    count = 0
+    while read > 0:
+        read -= len(text[count].encode("utf-16-le")) // 2 if of_units else len(text[count].encode())
+        count += 1
+    return count
+
+
+def read_bytes(path):
+    with open(path, "rb") as file:
+        return file.read()
+
+
+def faults(library):
+    """What is wrong with the exports for streams and conversions."""
+    streams = Streams(library)
+    streams.labels()
+    for _ in range(ROUNDS):
+        job = fuzz.job_of(streams.random, fuzz.WEIGHTED)
+        data = streams.inputs.data(streams.random, job, streams.random.choice((5, 40, 300)))
+        parts = fuzz.cut(streams.random, data) or [b""]
+        try:
+            streams.decoders(job, data, parts)
+            streams.encoders(job, streams.random.choice((3, 20, 150)))
+            streams.conversions(job, data)
+        except Wrong as fault:
+            streams.wrong.append("%s: %s" % (job, fault))
+    print("streams: %d random inputs, by labels, decoders, encoders and conversions" % ROUNDS)
+    return streams.wrong
