@@ -720,21 +720,38 @@ uint8_t jillapun_encoder_encode_from_utf8_without_replacement(jillapun_encoder *
     const uint8_t *text, size_t text_len, uint8_t *dst, size_t dst_len, bool last,
     jillapun_encoder_progress *progress);
 
-/* The exports that decode and encode a whole input at once. */
+/* The exports that decode a whole input, and encode a whole text, at once. */
 
 /**
  * Decodes a whole input to UTF-8, at the start of `dst`, with U+FFFD for each malformed
  * sequence. `mark` says what becomes of a byte order mark at its start. `written` is the length
- * of the text in bytes.
+ * of the text in bytes, and nothing after it changes.
  *
  * Returns `JILLAPUN_OK`; or `JILLAPUN_LOSSY`, a malformed sequence was replaced. At
- * `JILLAPUN_ROOM` nothing is written, since `dst` is shorter than the text. Else nothing is
- * done: `JILLAPUN_CLOSED`, there are no tables; `JILLAPUN_UNKNOWN`, no encoding or no handling
- * of marks has the number; `JILLAPUN_NOT_READY`, the tables lack an index of the encoding;
- * `JILLAPUN_NO_MEMORY`, memory was refused.
+ * `JILLAPUN_ROOM` nothing is written, since `dst` is shorter than the text: call again with
+ * room for `written` bytes. Else nothing is done, and `written` is 0: `JILLAPUN_CLOSED`, there
+ * are no tables; `JILLAPUN_UNKNOWN`, no encoding or no handling of marks has the number;
+ * `JILLAPUN_NOT_READY`, the tables lack an index of the encoding; `JILLAPUN_NO_MEMORY`, memory
+ * was refused.
  */
 uint8_t jillapun_decode(jillapun_tables tables, uint8_t encoding, uint8_t mark, const uint8_t *src,
     size_t src_len, uint8_t *dst, size_t dst_len, size_t *written);
+
+/**
+ * Encodes a whole text, which is UTF-8, into the output encoding of the one with this number
+ * (the Encoding Standard, section 6, "encode"), at the start of `dst`, with the decimal
+ * reference (`&#8364;`) of each character that has no bytes. `written` is the length of the
+ * output in bytes, and nothing after it changes.
+ *
+ * Returns `JILLAPUN_OK`; or `JILLAPUN_LOSSY`, a reference was written. At `JILLAPUN_ROOM`
+ * nothing is written, since `dst` is shorter than the output: call again with room for
+ * `written` bytes. Else nothing is done, and `written` is 0: `JILLAPUN_NOT_UTF8`, the text is
+ * not UTF-8; `JILLAPUN_CLOSED`, there are no tables; `JILLAPUN_UNKNOWN`, no encoding has the
+ * number; `JILLAPUN_NOT_READY`, the tables lack an index of the output encoding;
+ * `JILLAPUN_NO_MEMORY`, memory was refused.
+ */
+uint8_t jillapun_encode(jillapun_tables tables, uint8_t encoding, const uint8_t *text,
+    size_t text_len, uint8_t *dst, size_t dst_len, size_t *written);
 
 /* Conversions from memory to memory. */
 
