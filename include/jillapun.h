@@ -503,6 +503,19 @@ size_t jillapun_decoder_max_utf8_length_without_replacement(jillapun_decoder *de
  */
 size_t jillapun_decoder_max_utf16_length(jillapun_decoder *decoder, size_t n);
 
+/**
+ * How many of `bytes`, if they come next, stand for the characters of their own numbers, as in
+ * Latin1: a caller may copy these, and hand in the rest. In a single-byte encoding the index
+ * decides, and the number is the most that is true. In the others it ends before the first byte
+ * that is not ASCII, in ISO-2022-JP also before the first 0E, 0F or 1B.
+ *
+ * `SIZE_MAX` where it is not known: a byte order mark may still come, bytes are pending,
+ * ISO-2022-JP is in another mode than ASCII, the encoding is UTF-16BE, UTF-16LE or replacement,
+ * the handle holds no decoder, or the stream has ended.
+ */
+size_t jillapun_decoder_latin1_byte_compatible_up_to(jillapun_decoder *decoder,
+    const uint8_t *bytes, size_t bytes_len);
+
 /* The exports that decode to UTF-16. */
 
 /**
