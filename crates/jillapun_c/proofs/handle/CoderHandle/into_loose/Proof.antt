@@ -1,29 +1,24 @@
 -- An open handle gives the box back, and a closed one has none. Assumes `Logic`.
-use Rattle.std.proofs.Common.{◌≡◌, Bool, true, false, List, [], ◌∷◌, ◌++◌, refl, ap, subst, lit<}
+use Rattle.std.proofs.Common.{◌≡◌, Bool, true, false, List, [], ◌∷◌, ◌++◌, refl, lit<}
 use mir.Syntax.{Fn}
-use mir.Raw.{raw as bare}
 use mir.Val.{Val, vptr, vnil, vcons}
-use base.Logic.{SProp, emp, fst∗, never, never_e}
-use base.Fml.{ftrue, ffalse}
+use base.Logic.{SProp, emp}
+use base.Fml.{ftrue}
 use prog.Wp.{WpFn}
 use contract.Monad.{fact, fact_i}
 use contract.Running.{tables}
-use types.Logic.{sem}
-use types.Kit.{Goal, ‵, raw, ◌⊛◌, prop, at_ret, ◌$◌, ◌∵◌, !, qed, by, move, keep, drop, use0, use1, split, regoal, fsplit, fjoin, rewrite}
+use types.Kit.{Goal, ‵, raw, ◌⊛◌, prop, at_ret, ◌$◌, ◌∵◌, !, qed, by, move, keep, drop, use0, use1, split, regoal, fsplit, fjoin}
 use types.Part.{whole, sub, agg}
 use types.Match.{live}
 use types.Run.{stop, fld, of_opd, lit, no_more, and_then, first, branches, skips, exec, returns, returns_within, enter}
 use types.ByLocal.{alloc_all, pass_all, free_all, look_at, get, get_in, sets, env}
 use denote.RattleType.{RattleType, owns}
-use denote.Memory.{lone}
 use denote.Param.{layout}
-use denote.RawPtr.{Ptr, block_ptr, null_ptr, in_a_block, ptr_val}
+use denote.RawPtr.{Ptr, block_ptr}
 use denote.Signature.{types_at, type_at, plain}
 use denote.Steps.{nothing}
 use denote.Triple.Entry.{alive}
 use denote.Triple.Walked.{Stays, stay_dropped, walk_of, Goes-dropped}
-use Rattle.std.specs.Box.Ownership.{box_owns}
-use Rattle.std.specs.declared.option.Option.{Option}
 use Rattle.std.specs.declared.option.Option.TheVariants.{None, Some}
 use Rattle.std.proofs.alloc.Calls.{Goes-blank, handle_tells}
 use Rattle.std.proofs.alloc.Shapes.{after}
@@ -33,7 +28,6 @@ use Rattle.std.proofs.raw_atomic.Walks.{proved_at, leaves}
 use Rattle.std.specs.contracts.alloc.Global as heap
 use Rattle.std.proofs.alloc.Global.TheLaws as heap_laws
 use Rattle.std.specs.contracts.impls.GlobalAllocator.TheImpl.{ghosts}
-use Rattle.jillapun_c.specs.Ownership.{heap_token, coder_handle_owns}
 use Rattle.jillapun_c.specs.contracts.coder.Coder as inner
 use Rattle.jillapun_c.specs.contracts.handle.CoderHandle as handle
 use Rattle.jillapun_c.proofs.Openings.{Loose, allocator, loose_in, coder_held_or_not}
