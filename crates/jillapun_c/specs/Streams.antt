@@ -8,6 +8,7 @@ use Rattle.recode.specs.declared.job.Job.{Job}
 use Rattle.recode.specs.declared.job.Report.{Report as RunReport}
 use Rattle.jillapun_c.specs.Conversions.{AreCountsOf, IsToldFault, IsToldReport}
 use Rattle.jillapun_c.specs.declared.report.Report.{Report}
+use Rattle.jillapun_c.specs.declared.status.TheConstants.{OK, LOSSY}
 
 -- a run that came to its end, and the status and the report that are told of it
 pub record HasCompleted (before after : Devices) (j : Job) (report : Report) (status : ℕ) : Type 0 where
@@ -29,5 +30,5 @@ IsStreamed before after j report status = HasCompleted before after j report sta
 pub record IsVerdictOn (j : Job) (input : List ℕ) (report : Report) (status : ℕ) : Type 0 where
   pub within : length input ≤ j.limit
   pub counts : AreCountsOf j input report
-  pub faithful : status ≡ 0 → Faithful j input
-  pub lossy : status ≡ 1 → ¬ (Faithful j input)
+  pub faithful : status ≡ OK → Faithful j input
+  pub lossy : status ≡ LOSSY → ¬ (Faithful j input)

@@ -4,6 +4,7 @@ ghost use Rattle.std.specs.Prelude.{◌≡◌, ◌<◌, ◌⊎◌, ◌^◌, None
 ghost use Rattle.recode.specs.declared.job.Job.{Job};
 ghost use Rattle.jillapun_c.specs.Asked.{AreKnown, IsAskedIn};
 ghost use Rattle.jillapun_c.specs.Conversions.{IsDone, IsHandedOver, IsWanted};
+ghost use Rattle.jillapun_c.specs.declared.status.TheConstants.{CLOSED, ROOM, TOO_LONG, UNKNOWN};
 
 use crate::in_memory::convert_job;
 use crate::losses::Loss;
@@ -50,15 +51,15 @@ pub extern "C" fn jillapun_convert(
     ensures converts { IsDone result → (j : Job)
         × IsAskedIn tables.tables from to mark policy limit j
         × IsHandedOver j src.now dst.old dst.new losses.old losses.new report.new result }
-    ensures room { result ≡ 10 → (j : Job)
+    ensures room { result ≡ ROOM → (j : Job)
         × IsAskedIn tables.tables from to mark policy limit j
         × IsWanted j src.now report.new }
-    ensures small { result ≡ 10 → (length dst.new < report.new.written)
+    ensures small { result ≡ ROOM → (length dst.new < report.new.written)
         ⊎ (length losses.new < report.new.losses) }
     ensures kept { ¬ (IsDone result) → (dst.new ≡ dst.old) × (losses.new ≡ losses.old) }
-    ensures unknown { result ≡ 2 → ¬ (AreKnown from to mark policy) }
-    ensures long { result ≡ 13 → min limit (2 ^ 48) < length src.now }
-    ensures closed { tables.tables ≡ None → result ≡ 6 }
+    ensures unknown { result ≡ UNKNOWN → ¬ (AreKnown from to mark policy) }
+    ensures long { result ≡ TOO_LONG → min limit (2 ^ 48) < length src.now }
+    ensures closed { tables.tables ≡ None → result ≡ CLOSED }
 {
     *report = Report::NONE;
     let Some(tables) = tables.get() else {

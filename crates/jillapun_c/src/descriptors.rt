@@ -1,12 +1,14 @@
 //! Conversions from a file descriptor to others.
 
-ghost use Rattle.std.specs.Prelude.{◌≡◌, ◌<◌, ◌^◌, ◌-◌, List, None, ℕ};
+ghost use Rattle.std.specs.Prelude.{◌≡◌, ◌≢◌, ◌<◌, ◌^◌, ◌-◌, List, None, ℕ};
 ghost use Rattle.recode_log.specs.Counted.{failures_of};
 ghost use Rattle.recode.specs.Devices.{devices_in};
 ghost use Rattle.recode.specs.Job.{IsValidJob};
 ghost use Rattle.recode.specs.declared.job.Job.{Job};
 ghost use Rattle.jillapun_c.specs.Asked.{AreKnown, IsAskedIn};
+ghost use Rattle.jillapun_c.specs.Conversions.{IsVerdict};
 ghost use Rattle.jillapun_c.specs.Streams.{IsStreamed, IsVerdictOn};
+ghost use Rattle.jillapun_c.specs.declared.status.TheConstants.{CLOSED, UNKNOWN};
 
 use crate::descriptor::Descriptor;
 use crate::report::{Report, told};
@@ -29,7 +31,7 @@ fn convert_streams<R: Read, W: Write, L: Write>(
     requires reader { failures_of reader.old < 2 ^ 64 - 1 }
     requires writer { failures_of writer.old < 2 ^ 64 - 1 }
     requires log { failures_of log.old < 2 ^ 64 - 1 }
-    ensures known { ¬ (result.0 ≡ 2) }
+    ensures known { result.0 ≢ UNKNOWN }
     ensures streamed { IsStreamed
         (devices_in R.remaining W.contents L.contents reader.old writer.old log.old)
         (devices_in R.remaining W.contents L.contents reader.new writer.new log.new) job.entry
@@ -41,8 +43,9 @@ fn convert_streams<R: Read, W: Write, L: Write>(
 // Runs a job over descriptors.
 fn convert_job(job: Job<'_>, input: i32, output: i32, log: i32) -> (u8, Report)
     requires { IsValidJob job }
-    ensures known { ¬ (result.0 ≡ 2) }
-    ensures verdict { result.0 < 2 → (x : List ℕ) × IsVerdictOn job.entry x result.1 result.0 }
+    ensures known { result.0 ≢ UNKNOWN }
+    ensures verdict { IsVerdict result.0
+        → (x : List ℕ) × IsVerdictOn job.entry x result.1 result.0 }
 {
     let mut reader = Counted::new(Descriptor::new(input));
     let mut writer = Counted::new(Descriptor::new(output));
@@ -79,11 +82,11 @@ pub extern "C" fn jillapun_convert_descriptors(
     log: i32,
     report: &mut Report,
 ) -> u8
-    ensures converts { result < 2 → (j : Job) × (x : List ℕ)
+    ensures converts { IsVerdict result → (j : Job) × (x : List ℕ)
         × IsAskedIn tables.tables from to mark policy limit j
         × IsVerdictOn j x report.new result }
-    ensures unknown { result ≡ 2 → ¬ (AreKnown from to mark policy) }
-    ensures closed { tables.tables ≡ None → result ≡ 6 }
+    ensures unknown { result ≡ UNKNOWN → ¬ (AreKnown from to mark policy) }
+    ensures closed { tables.tables ≡ None → result ≡ CLOSED }
 {
     *report = Report::NONE;
     let Some(tables) = tables.get() else {
