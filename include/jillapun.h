@@ -529,8 +529,8 @@ size_t jillapun_decoder_latin1_byte_compatible_up_to(jillapun_decoder *decoder,
  * nothing after what is written changes. `JILLAPUN_OUTPUT_FULL` does not come where `dst` is as
  * long as `jillapun_decoder_max_utf16_length` returns.
  *
- * Else nothing is done: `JILLAPUN_CLOSED`, the handle holds no decoder; `JILLAPUN_FINISHED`,
- * the stream has ended.
+ * Else nothing is done, and all of `progress` is 0: `JILLAPUN_CLOSED`, the handle holds no
+ * decoder; `JILLAPUN_FINISHED`, the stream has ended.
  */
 uint8_t jillapun_decoder_decode_to_utf16(jillapun_decoder *decoder, const uint8_t *src,
     size_t src_len, jillapun_char16 *dst, size_t dst_len, bool last, jillapun_progress *progress);
@@ -550,8 +550,8 @@ uint8_t jillapun_decoder_decode_to_utf16(jillapun_decoder *decoder, const uint8_
  * before the end of what was read, and a unit is free: write U+FFFD or not, and go on as at
  * `JILLAPUN_OUTPUT_FULL`.
  *
- * Else nothing is done: `JILLAPUN_CLOSED`, the handle holds no decoder; `JILLAPUN_FINISHED`,
- * the stream has ended.
+ * Else nothing is done, and all of `progress` is 0: `JILLAPUN_CLOSED`, the handle holds no
+ * decoder; `JILLAPUN_FINISHED`, the stream has ended.
  */
 uint8_t jillapun_decoder_decode_to_utf16_without_replacement(jillapun_decoder *decoder,
     const uint8_t *src, size_t src_len, jillapun_char16 *dst, size_t dst_len, bool last,
@@ -570,8 +570,8 @@ uint8_t jillapun_decoder_decode_to_utf16_without_replacement(jillapun_decoder *d
  * after what is written changes. `JILLAPUN_OUTPUT_FULL` does not come where `dst` is as long as
  * `jillapun_decoder_max_utf8_length` returns.
  *
- * Else nothing is done: `JILLAPUN_CLOSED`, the handle holds no decoder; `JILLAPUN_FINISHED`,
- * the stream has ended.
+ * Else nothing is done, and all of `progress` is 0: `JILLAPUN_CLOSED`, the handle holds no
+ * decoder; `JILLAPUN_FINISHED`, the stream has ended.
  */
 uint8_t jillapun_decoder_decode_to_utf8(jillapun_decoder *decoder, const uint8_t *src,
     size_t src_len, uint8_t *dst, size_t dst_len, bool last, jillapun_progress *progress);
@@ -591,8 +591,8 @@ uint8_t jillapun_decoder_decode_to_utf8(jillapun_decoder *decoder, const uint8_t
  * before the end of what was read, and 3 bytes are free: write U+FFFD or not, and go on as at
  * `JILLAPUN_OUTPUT_FULL`.
  *
- * Else nothing is done: `JILLAPUN_CLOSED`, the handle holds no decoder; `JILLAPUN_FINISHED`,
- * the stream has ended.
+ * Else nothing is done, and all of `progress` is 0: `JILLAPUN_CLOSED`, the handle holds no
+ * decoder; `JILLAPUN_FINISHED`, the stream has ended.
  */
 uint8_t jillapun_decoder_decode_to_utf8_without_replacement(jillapun_decoder *decoder,
     const uint8_t *src, size_t src_len, uint8_t *dst, size_t dst_len, bool last,
@@ -672,7 +672,8 @@ size_t jillapun_encoder_max_length_from_utf16_without_replacement(jillapun_encod
  * on. Unless the encoding is UTF-8, the last ten bytes of `dst` are kept for a reference.
  * Nothing after what is written changes.
  *
- * Else nothing is done: `JILLAPUN_CLOSED`, the handle holds no encoder.
+ * Else nothing is done, and all of `progress` is 0: `JILLAPUN_CLOSED`, the handle holds no
+ * encoder.
  */
 uint8_t jillapun_encoder_encode_from_utf16(jillapun_encoder *encoder, const jillapun_char16 *text,
     size_t text_len, uint8_t *dst, size_t dst_len, bool last, jillapun_encoder_progress *progress);
@@ -689,7 +690,8 @@ uint8_t jillapun_encoder_encode_from_utf16(jillapun_encoder *encoder, const jill
  * or something else in ASCII, and go on as at `JILLAPUN_OUTPUT_FULL`. Nothing after what is
  * written changes.
  *
- * Else nothing is done: `JILLAPUN_CLOSED`, the handle holds no encoder.
+ * Else nothing is done, and all of `progress` is 0: `JILLAPUN_CLOSED`, the handle holds no
+ * encoder.
  */
 uint8_t jillapun_encoder_encode_from_utf16_without_replacement(jillapun_encoder *encoder,
     const jillapun_char16 *text, size_t text_len, uint8_t *dst, size_t dst_len, bool last,
@@ -708,8 +710,8 @@ uint8_t jillapun_encoder_encode_from_utf16_without_replacement(jillapun_encoder 
  * on. Unless the encoding is UTF-8, the last ten bytes of `dst` are kept for a reference.
  * Nothing after what is written changes.
  *
- * Else nothing is done: `JILLAPUN_CLOSED`, the handle holds no encoder; `JILLAPUN_NOT_UTF8`,
- * the text is not UTF-8.
+ * Else nothing is done, and all of `progress` is 0: `JILLAPUN_CLOSED`, the handle holds no
+ * encoder; `JILLAPUN_NOT_UTF8`, the text is not UTF-8.
  */
 uint8_t jillapun_encoder_encode_from_utf8(jillapun_encoder *encoder, const uint8_t *text,
     size_t text_len, uint8_t *dst, size_t dst_len, bool last, jillapun_encoder_progress *progress);
@@ -726,8 +728,8 @@ uint8_t jillapun_encoder_encode_from_utf8(jillapun_encoder *encoder, const uint8
  * or something else in ASCII, and go on as at `JILLAPUN_OUTPUT_FULL`. Nothing after what is
  * written changes.
  *
- * Else nothing is done: `JILLAPUN_CLOSED`, the handle holds no encoder; `JILLAPUN_NOT_UTF8`,
- * the text is not UTF-8.
+ * Else nothing is done, and all of `progress` is 0: `JILLAPUN_CLOSED`, the handle holds no
+ * encoder; `JILLAPUN_NOT_UTF8`, the text is not UTF-8.
  */
 uint8_t jillapun_encoder_encode_from_utf8_without_replacement(jillapun_encoder *encoder,
     const uint8_t *text, size_t text_len, uint8_t *dst, size_t dst_len, bool last,

@@ -39,7 +39,7 @@ pub extern "C" fn jillapun_decode(
     ensures decodes { IfFound tables.tables encoding
         (DecodesIfReady mark src.now dst.old dst.new written.new result) result }
     ensures kept { result ≢ OK → result ≢ LOSSY → dst.new ≡ dst.old }
-    ensures none { result ≢ OK → result ≢ LOSSY → result ≢ ROOM → written.new ≡ 0 }
+    ensures nothing { result ≢ OK → result ≢ LOSSY → result ≢ ROOM → written.new ≡ 0 }
 {
     *written = 0;
     let Some(tables) = tables.get() else {
@@ -71,7 +71,7 @@ fn decode_into(
     ensures decodes { MayDecode tables.now encoding mark src.now dst.old dst.new written.new
         result }
     ensures kept { result ≢ OK → result ≢ LOSSY → dst.new ≡ dst.old }
-    ensures none { result ≢ OK → result ≢ LOSSY → result ≢ ROOM → written.new ≡ 0 }
+    ensures nothing { result ≢ OK → result ≢ LOSSY → result ≢ ROOM → written.new ≡ 0 }
 {
     match decoded(alloc, tables, encoding, mark, src) {
         Ok((text, had_errors)) => put(text.as_bytes(), had_errors, dst, written),
@@ -126,7 +126,7 @@ pub extern "C" fn jillapun_encode(
     ensures encodes { IsUtf8 text.now → IfFound tables.tables encoding
         (EncodesIfReady text.now dst.old dst.new written.new result) result }
     ensures kept { result ≢ OK → result ≢ LOSSY → dst.new ≡ dst.old }
-    ensures none { result ≢ OK → result ≢ LOSSY → result ≢ ROOM → written.new ≡ 0 }
+    ensures nothing { result ≢ OK → result ≢ LOSSY → result ≢ ROOM → written.new ≡ 0 }
 {
     *written = 0;
     let Ok(text) = str::from_utf8(text) else {
@@ -156,7 +156,7 @@ fn encode_into(
     requires { IsReady tables.now (output_encoding_of encoding) }
     ensures encodes { MayEncode tables.now encoding text.now dst.old dst.new written.new result }
     ensures kept { result ≢ OK → result ≢ LOSSY → dst.new ≡ dst.old }
-    ensures none { result ≢ OK → result ≢ LOSSY → result ≢ ROOM → written.new ≡ 0 }
+    ensures nothing { result ≢ OK → result ≢ LOSSY → result ≢ ROOM → written.new ≡ 0 }
 {
     match encoding.encode(alloc, tables, text) {
         Ok((bytes, _, had_unmappable)) => put(&bytes, had_unmappable, dst, written),
@@ -171,7 +171,7 @@ fn encode_into(
 fn put(output: &[u8], is_lossy: bool, room: &mut [u8], written: &mut usize) -> u8
     ensures puts { PutsIfRoom output.now room.old room.new is_lossy written.new result }
     ensures kept { result ≢ OK → result ≢ LOSSY → room.new ≡ room.old }
-    ensures none { result ≢ OK → result ≢ LOSSY → result ≢ ROOM → written.new ≡ 0 }
+    ensures nothing { result ≢ OK → result ≢ LOSSY → result ≢ ROOM → written.new ≡ 0 }
 {
     *written = output.len();
     if room.len() < output.len() {
