@@ -76,7 +76,10 @@ enum {
     JILLAPUN_FINISHED = 8,
     /** The text is not UTF-8. Nothing was read or written. */
     JILLAPUN_NOT_UTF8 = 9,
-    /** The room is too small, and the report says how much is wanted. Nothing was written. */
+    /**
+     * The room is too small, and the report, or `written`, says how much is wanted. Nothing was
+     * written.
+     */
     JILLAPUN_ROOM = 10,
     /** A read, a write or a line of the log failed, and the report says of which descriptor. */
     JILLAPUN_FAULT = 11,
@@ -793,6 +796,8 @@ uint8_t jillapun_encode(jillapun_tables tables, uint8_t encoding, const uint8_t 
  *   refused.
  * - `JILLAPUN_UNKNOWN`: a number stands for nothing. `JILLAPUN_NOT_READY`: an index that one of
  *   the encodings needs is not in the tables. `JILLAPUN_CLOSED`: the handle has no tables.
+ *
+ * At the last five nothing is written, and all of the report is 0.
  *
  * It takes memory for the output and the records from the heap, and frees it before it returns.
  */

@@ -4,6 +4,7 @@ ghost use Rattle.std.specs.Prelude.{◌≡◌, ◌≢◌, ◌↔◌, ◌<◌, �
 ghost use Rattle.std.specs.Prelude.{drop, false, length, true, vec_len};
 ghost use Rattle.recode.specs.Job.{IsValidJob};
 ghost use Rattle.jillapun_c.specs.Conversions.{ConvertsInMemory, IsDone, IsHandedOver, IsWanted};
+ghost use Rattle.jillapun_c.specs.declared.report.TheConstants.Report.{NONE};
 ghost use Rattle.jillapun_c.specs.declared.status.TheConstants.{ROOM, TOO_LONG, UNKNOWN};
 
 use crate::losses::{Loss, LossLog};
@@ -88,6 +89,7 @@ pub(crate) fn convert_job(
     ensures small { result ≡ ROOM → (length dst.new < report.new.written)
         ⊎ (length losses.new < report.new.losses) }
     ensures kept { ¬ (IsDone result) → (dst.new ≡ dst.old) × (losses.new ≡ losses.old) }
+    ensures nothing { ¬ (IsDone result) → result ≢ ROOM → report.new ≡ NONE }
     ensures known { result ≢ UNKNOWN }
     ensures long { result ≡ TOO_LONG ↔ (job.entry.limit < length src.now) }
 {

@@ -23,7 +23,8 @@ pub const IN_USE: u8 = 7;
 pub const FINISHED: u8 = 8;
 /// The text is not UTF-8. Nothing was read or written.
 pub const NOT_UTF8: u8 = 9;
-/// The room is too small, and the report says how much is wanted. Nothing was written.
+/// The room is too small, and the report, or `written`, says how much is wanted. Nothing was
+/// written.
 pub const ROOM: u8 = 10;
 /// A read, a write or a line of the log failed, and the report says of which descriptor.
 pub const FAULT: u8 = 11;

@@ -1,4 +1,4 @@
-//! Calls of the exports that tell how far bytes are Latin1 to a decoder.
+//! Calls of the export that tells how far bytes are Latin1 to a decoder.
 
 use crate::decoder::queries::jillapun_decoder_latin1_byte_compatible_up_to;
 use crate::decoder::utf8::jillapun_decoder_decode_to_utf8;
