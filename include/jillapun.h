@@ -76,7 +76,10 @@ enum {
     JILLAPUN_FINISHED = 8,
     /** The text is not UTF-8. Nothing was read or written. */
     JILLAPUN_NOT_UTF8 = 9,
-    /** The room is too small, and the report says how much is wanted. Nothing was written. */
+    /**
+     * The room is too small, and the report, or `written`, says how much is wanted. Nothing was
+     * written.
+     */
     JILLAPUN_ROOM = 10,
     /**
      * The policy is `JILLAPUN_STOP`, and a character has no bytes in the output encoding: the
@@ -486,6 +489,19 @@ size_t jillapun_decoder_max_utf8_length_without_replacement(jillapun_decoder *de
  */
 size_t jillapun_decoder_max_utf16_length(jillapun_decoder *decoder, size_t n);
 
+/**
+ * How many of `bytes`, if they come next, stand for the characters of their own numbers, as in
+ * Latin1: a caller may copy these, and hand in the rest. In a single-byte encoding the index
+ * decides, and the number is the most that is true. In the others it ends before the first byte
+ * that is not ASCII, in ISO-2022-JP also before the first 0E, 0F or 1B.
+ *
+ * `SIZE_MAX` where it is not known: a byte order mark may still come, bytes are pending,
+ * ISO-2022-JP is in another mode than ASCII, the encoding is UTF-16BE, UTF-16LE or replacement,
+ * the handle holds no decoder, or the stream has ended.
+ */
+size_t jillapun_decoder_latin1_byte_compatible_up_to(jillapun_decoder *decoder,
+    const uint8_t *bytes, size_t bytes_len);
+
 /* The exports that decode to UTF-16. */
 
 /**
@@ -499,8 +515,8 @@ size_t jillapun_decoder_max_utf16_length(jillapun_decoder *decoder, size_t n);
  * nothing after what is written changes. `JILLAPUN_OUTPUT_FULL` does not come where `dst` is as
  * long as `jillapun_decoder_max_utf16_length` returns.
  *
- * Else nothing is done: `JILLAPUN_CLOSED`, the handle holds no decoder; `JILLAPUN_FINISHED`,
- * the stream has ended.
+ * Else nothing is done, and all of `progress` is 0: `JILLAPUN_CLOSED`, the handle holds no
+ * decoder; `JILLAPUN_FINISHED`, the stream has ended.
  */
 uint8_t jillapun_decoder_decode_to_utf16(jillapun_decoder *decoder, const uint8_t *src,
     size_t src_len, jillapun_char16 *dst, size_t dst_len, bool last, jillapun_progress *progress);
@@ -520,8 +536,8 @@ uint8_t jillapun_decoder_decode_to_utf16(jillapun_decoder *decoder, const uint8_
  * before the end of what was read, and a unit is free: write U+FFFD or not, and go on as at
  * `JILLAPUN_OUTPUT_FULL`.
  *
- * Else nothing is done: `JILLAPUN_CLOSED`, the handle holds no decoder; `JILLAPUN_FINISHED`,
- * the stream has ended.
+ * Else nothing is done, and all of `progress` is 0: `JILLAPUN_CLOSED`, the handle holds no
+ * decoder; `JILLAPUN_FINISHED`, the stream has ended.
  */
 uint8_t jillapun_decoder_decode_to_utf16_without_replacement(jillapun_decoder *decoder,
     const uint8_t *src, size_t src_len, jillapun_char16 *dst, size_t dst_len, bool last,
@@ -540,8 +556,8 @@ uint8_t jillapun_decoder_decode_to_utf16_without_replacement(jillapun_decoder *d
  * after what is written changes. `JILLAPUN_OUTPUT_FULL` does not come where `dst` is as long as
  * `jillapun_decoder_max_utf8_length` returns.
  *
- * Else nothing is done: `JILLAPUN_CLOSED`, the handle holds no decoder; `JILLAPUN_FINISHED`,
- * the stream has ended.
+ * Else nothing is done, and all of `progress` is 0: `JILLAPUN_CLOSED`, the handle holds no
+ * decoder; `JILLAPUN_FINISHED`, the stream has ended.
  */
 uint8_t jillapun_decoder_decode_to_utf8(jillapun_decoder *decoder, const uint8_t *src,
     size_t src_len, uint8_t *dst, size_t dst_len, bool last, jillapun_progress *progress);
@@ -561,8 +577,8 @@ uint8_t jillapun_decoder_decode_to_utf8(jillapun_decoder *decoder, const uint8_t
  * before the end of what was read, and 3 bytes are free: write U+FFFD or not, and go on as at
  * `JILLAPUN_OUTPUT_FULL`.
  *
- * Else nothing is done: `JILLAPUN_CLOSED`, the handle holds no decoder; `JILLAPUN_FINISHED`,
- * the stream has ended.
+ * Else nothing is done, and all of `progress` is 0: `JILLAPUN_CLOSED`, the handle holds no
+ * decoder; `JILLAPUN_FINISHED`, the stream has ended.
  */
 uint8_t jillapun_decoder_decode_to_utf8_without_replacement(jillapun_decoder *decoder,
     const uint8_t *src, size_t src_len, uint8_t *dst, size_t dst_len, bool last,
@@ -642,7 +658,8 @@ size_t jillapun_encoder_max_length_from_utf16_without_replacement(jillapun_encod
  * on. Unless the encoding is UTF-8, the last ten bytes of `dst` are kept for a reference.
  * Nothing after what is written changes.
  *
- * Else nothing is done: `JILLAPUN_CLOSED`, the handle holds no encoder.
+ * Else nothing is done, and all of `progress` is 0: `JILLAPUN_CLOSED`, the handle holds no
+ * encoder.
  */
 uint8_t jillapun_encoder_encode_from_utf16(jillapun_encoder *encoder, const jillapun_char16 *text,
     size_t text_len, uint8_t *dst, size_t dst_len, bool last, jillapun_encoder_progress *progress);
@@ -659,7 +676,8 @@ uint8_t jillapun_encoder_encode_from_utf16(jillapun_encoder *encoder, const jill
  * or something else in ASCII, and go on as at `JILLAPUN_OUTPUT_FULL`. Nothing after what is
  * written changes.
  *
- * Else nothing is done: `JILLAPUN_CLOSED`, the handle holds no encoder.
+ * Else nothing is done, and all of `progress` is 0: `JILLAPUN_CLOSED`, the handle holds no
+ * encoder.
  */
 uint8_t jillapun_encoder_encode_from_utf16_without_replacement(jillapun_encoder *encoder,
     const jillapun_char16 *text, size_t text_len, uint8_t *dst, size_t dst_len, bool last,
@@ -678,8 +696,8 @@ uint8_t jillapun_encoder_encode_from_utf16_without_replacement(jillapun_encoder 
  * on. Unless the encoding is UTF-8, the last ten bytes of `dst` are kept for a reference.
  * Nothing after what is written changes.
  *
- * Else nothing is done: `JILLAPUN_CLOSED`, the handle holds no encoder; `JILLAPUN_NOT_UTF8`,
- * the text is not UTF-8.
+ * Else nothing is done, and all of `progress` is 0: `JILLAPUN_CLOSED`, the handle holds no
+ * encoder; `JILLAPUN_NOT_UTF8`, the text is not UTF-8.
  */
 uint8_t jillapun_encoder_encode_from_utf8(jillapun_encoder *encoder, const uint8_t *text,
     size_t text_len, uint8_t *dst, size_t dst_len, bool last, jillapun_encoder_progress *progress);
@@ -696,28 +714,45 @@ uint8_t jillapun_encoder_encode_from_utf8(jillapun_encoder *encoder, const uint8
  * or something else in ASCII, and go on as at `JILLAPUN_OUTPUT_FULL`. Nothing after what is
  * written changes.
  *
- * Else nothing is done: `JILLAPUN_CLOSED`, the handle holds no encoder; `JILLAPUN_NOT_UTF8`,
- * the text is not UTF-8.
+ * Else nothing is done, and all of `progress` is 0: `JILLAPUN_CLOSED`, the handle holds no
+ * encoder; `JILLAPUN_NOT_UTF8`, the text is not UTF-8.
  */
 uint8_t jillapun_encoder_encode_from_utf8_without_replacement(jillapun_encoder *encoder,
     const uint8_t *text, size_t text_len, uint8_t *dst, size_t dst_len, bool last,
     jillapun_encoder_progress *progress);
 
-/* The exports that decode and encode a whole input at once. */
+/* The exports that decode a whole input, and encode a whole text, at once. */
 
 /**
  * Decodes a whole input to UTF-8, at the start of `dst`, with U+FFFD for each malformed
  * sequence. `mark` says what becomes of a byte order mark at its start. `written` is the length
- * of the text in bytes.
+ * of the text in bytes, and nothing after it changes.
  *
  * Returns `JILLAPUN_OK`; or `JILLAPUN_LOSSY`, a malformed sequence was replaced. At
- * `JILLAPUN_ROOM` nothing is written, since `dst` is shorter than the text. Else nothing is
- * done: `JILLAPUN_CLOSED`, there are no tables; `JILLAPUN_UNKNOWN`, no encoding or no handling
- * of marks has the number; `JILLAPUN_NOT_READY`, the tables lack an index of the encoding;
- * `JILLAPUN_NO_MEMORY`, memory was refused.
+ * `JILLAPUN_ROOM` nothing is written, since `dst` is shorter than the text: call again with
+ * room for `written` bytes. Else nothing is done, and `written` is 0: `JILLAPUN_CLOSED`, there
+ * are no tables; `JILLAPUN_UNKNOWN`, no encoding or no handling of marks has the number;
+ * `JILLAPUN_NOT_READY`, the tables lack an index of the encoding; `JILLAPUN_NO_MEMORY`, memory
+ * was refused.
  */
 uint8_t jillapun_decode(jillapun_tables tables, uint8_t encoding, uint8_t mark, const uint8_t *src,
     size_t src_len, uint8_t *dst, size_t dst_len, size_t *written);
+
+/**
+ * Encodes a whole text, which is UTF-8, into the output encoding of the one with this number
+ * (the Encoding Standard, section 6, "encode"), at the start of `dst`, with the decimal
+ * reference (`&#8364;`) of each character that has no bytes. `written` is the length of the
+ * output in bytes, and nothing after it changes.
+ *
+ * Returns `JILLAPUN_OK`; or `JILLAPUN_LOSSY`, a reference was written. At `JILLAPUN_ROOM`
+ * nothing is written, since `dst` is shorter than the output: call again with room for
+ * `written` bytes. Else nothing is done, and `written` is 0: `JILLAPUN_NOT_UTF8`, the text is
+ * not UTF-8; `JILLAPUN_CLOSED`, there are no tables; `JILLAPUN_UNKNOWN`, no encoding has the
+ * number; `JILLAPUN_NOT_READY`, the tables lack an index of the output encoding;
+ * `JILLAPUN_NO_MEMORY`, memory was refused.
+ */
+uint8_t jillapun_encode(jillapun_tables tables, uint8_t encoding, const uint8_t *text,
+    size_t text_len, uint8_t *dst, size_t dst_len, size_t *written);
 
 /* Conversions from memory to memory. */
 
@@ -744,6 +779,8 @@ uint8_t jillapun_decode(jillapun_tables tables, uint8_t encoding, uint8_t mark, 
  *   refused.
  * - `JILLAPUN_UNKNOWN`: a number stands for nothing. `JILLAPUN_NOT_READY`: an index that one of
  *   the encodings needs is not in the tables. `JILLAPUN_CLOSED`: the handle has no tables.
+ *
+ * At the last five nothing is written, and all of the report is 0.
  *
  * It takes memory for the output and the records from the heap, and frees it before it returns.
  */

@@ -4,6 +4,7 @@ Inputs are random, as `fuzz.py` makes them, in all 40 encodings, cut at random p
 them is worked out by `standard.py` and `plain_recode.py`, which follow the steps of the Encoding Standard.
 """
 
+import ctypes
 import os
 import random
 import re
@@ -26,6 +27,8 @@ MARKS = {"sniff": NUMBERS["SNIFF"], "remove": NUMBERS["REMOVE"], "keep": NUMBERS
 POLICIES = {"decimal": NUMBERS["DECIMAL"], "hexadecimal": NUMBERS["HEXADECIMAL"], "stop": NUMBERS["STOP"]}
 
 NO_LIMIT = 2**64 - 1
+# Encodings of which no byte is a character.
+UNTOLD = ("UTF-16BE", "UTF-16LE", "replacement")
 # No stream takes more calls.
 MOST_CALLS = 100000
 
@@ -115,6 +118,26 @@ class Streams:
         self.same("for_label", "?", self.library.jillapun_for_label(b"?"), NUMBERS["NO_ENCODING"])
         self.same("name", 40, self.library.jillapun_name(40, bytearray(40)), NUMBERS["REFUSED"])
 
+    def latin1(self):
+        """How far a new decoder says that bytes are Latin1: they are so if each alone is the character of its number, and, where
+        a character may have more bytes, if it is ASCII."""
+        call = self.library.jillapun_decoder_latin1_byte_compatible_up_to
+        for name, number in self.numbers.items():
+            most = 256 if name in standard.SINGLE_BYTE else 128
+            alone = [standard.pieces(self.encodings[name].decoder(), bytes([byte])) for byte in range(most)]
+            own = [byte for byte, pieces in enumerate(alone) if list(pieces) == [(0, 1, (byte,))]]
+            for mark in MARKS:
+                handle = self.library.struct("DecoderHandle")()
+                self.must("decoder_new", self.library.jillapun_decoder_new(self.tables, number, MARKS[mark], handle))
+                is_known = name not in UNTOLD and (mark == "keep" or (mark == "remove" and name != "UTF-8"))
+                for _ in range(20):
+                    data = bytes(self.random.choices(own or [0], k=self.random.randint(0, 9))) + self.random.randbytes(3)
+                    length = next((at for at, byte in enumerate(data) if byte not in own), len(data))
+                    wanted = length if is_known else NUMBERS["REFUSED"]
+                    self.same("latin1", (name, mark, data), call(handle, data), wanted)
+                self.library.jillapun_decoder_free(handle)
+                self.same("latin1", "freed", call(handle, b"a"), NUMBERS["REFUSED"])
+
     def decoded(self, call, job, parts, to_units):
         """A stream by a decoder of its own: its text, its faults, and whether a call told of errors."""
         handle = self.library.struct("DecoderHandle")()
@@ -147,7 +170,7 @@ class Streams:
         return text.decode("utf-16-le" if to_units else "utf-8"), faults, had_errors
 
     def decoders(self, job, data, parts):
-        """The four calls of a decoder."""
+        """The four calls of a decoder, and the call for a whole input."""
         pieces = plain_recode.pieces(self.encodings, job, data)[1]
         text = text_of(point for _, _, points in pieces for point in ((0xFFFD,) if points is None else points))
         faults = [(start, end - start) for start, end, points in pieces if points is None]
@@ -156,6 +179,8 @@ class Streams:
             self.same(call, (job, data, parts), self.decoded(call, job, parts, to_units), (text, [], bool(faults)))
             call += "_without_replacement"
             self.same(call, (job, data, parts), self.decoded(call, job, parts, to_units)[:2], (text, faults))
+        words = self.numbers[job.source], MARKS[job.mark]
+        self.in_one_call("jillapun_decode", words, data, text.encode(), bool(faults))
         self.queried(job, data, text)
 
     def queried(self, job, data, text):
@@ -174,6 +199,34 @@ class Streams:
             written = room[: progress.written] if name == "utf8" else bytes(room[0])[: 2 * progress.written]
             self.same(call, (job, data), (progress.outcome, written.decode(codec)), (NUMBERS["INPUT_EMPTY"], text))
             self.library.jillapun_decoder_free(handle)
+
+    def in_one_call(self, call, words, given, output, had):
+        """A whole input or text at once: in room that is enough, which stays as it was after the output, and in too little."""
+        written, filled = ctypes.c_size_t(), b"\x5a" * self.random.randint(0, 5)
+        room = bytearray(b"\x5a" * len(output) + filled)
+        status = getattr(self.library, call)(self.tables, *words, given, room, written)
+        got = status, bytes(room), written.value
+        self.same(call, (words, given), got, (NUMBERS["LOSSY" if had else "OK"], output + filled, len(output)))
+        if output:
+            room = bytearray(len(output) - 1)
+            status = getattr(self.library, call)(self.tables, *words, given, room, written)
+            got = status, set(room) <= {0}, written.value
+            self.same("too small a room", (call, words, given), got, (NUMBERS["ROOM"], True, len(output)))
+
+    def refused(self):
+        """Whole inputs and texts that are not taken: nothing is written."""
+        closed, ready, utf8 = self.library.struct("TablesHandle")(), self.tables, self.numbers["UTF-8"]
+        for call, tables, words, given, status in (
+            ("jillapun_decode", closed, (utf8, MARKS["keep"]), b"a", "CLOSED"),
+            ("jillapun_decode", ready, (len(self.numbers), MARKS["keep"]), b"a", "UNKNOWN"),
+            ("jillapun_decode", ready, (utf8, len(MARKS)), b"a", "UNKNOWN"),
+            ("jillapun_encode", closed, (utf8,), b"a", "CLOSED"),
+            ("jillapun_encode", ready, (len(self.numbers),), b"a", "UNKNOWN"),
+            ("jillapun_encode", ready, (utf8,), b"a\xff", "NOT_UTF8"),
+        ):
+            room, written = bytearray(8), ctypes.c_size_t(9)
+            self.must(call, getattr(self.library, call)(tables, *words, given, room, written), status)
+            self.same(call, status, (bytes(room), written.value), (bytes(8), 0))
 
     def coded(self, call, target, points, of_units):
         """A text by an encoder of its own: its bytes, its lost characters, and whether a call told of some."""
@@ -217,10 +270,11 @@ class Streams:
         return units([int.from_bytes(data[at : at + 2], "little") for at in range(0, len(data), 2)]), len(data) // 2
 
     def encoders(self, job, size):
-        """The four calls of an encoder."""
+        """The four calls of an encoder, and the call for a whole text."""
         points = self.inputs.text(self.random, [job.source, job.target], size)
         output = self.encodings[job.target].output
         plain, replaced, lost = encoded(self.encodings[output].encoder(), points)
+        self.in_one_call("jillapun_encode", (self.numbers[job.target],), text_of(points).encode(), replaced, bool(lost))
         for of_units, name in ((False, "utf8"), (True, "utf16")):
             call = "jillapun_encoder_encode_from_" + name
             self.same(call, (job, points), self.coded(call, job.target, points, of_units), (replaced, [], bool(lost)))
@@ -278,6 +332,8 @@ def faults(library):
     """What is wrong with the exports for streams and conversions."""
     streams = Streams(library)
     streams.labels()
+    streams.refused()
+    streams.latin1()
     for _ in range(ROUNDS):
         job = fuzz.job_of(streams.random, fuzz.WEIGHTED)
         data = streams.inputs.data(streams.random, job, streams.random.choice((5, 40, 300)))
@@ -288,5 +344,5 @@ def faults(library):
             streams.conversions(job, data)
         except Wrong as fault:
             streams.wrong.append("%s: %s" % (job, fault))
-    print("streams: %d random inputs, by labels, decoders, encoders and conversions" % ROUNDS)
+    print("streams: %d random inputs, by labels, decoders, encoders, whole calls and conversions" % ROUNDS)
     return streams.wrong

@@ -1,5 +1,5 @@
 -- What a handle holds, as its calls see it.
-use Rattle.std.proofs.Common.{◌≡◌, ◌⊎◌, ℕ, Option, Some, None, inl, refl, sym, ap, subst}
+use Rattle.std.proofs.Common.{◌≡◌, ℕ, Option, Some, None, inl, refl, ap, subst}
 use Rattle.encoding_tables.specs.IndexLists.{IndexLists}
 use Rattle.encoding_front.specs.Encodings.{IsReady, output_encoding_of}
 use Rattle.encoding_front.specs.calls.Encoder.{EncoderState, new_state}
@@ -10,7 +10,7 @@ use Rattle.jillapun_c.specs.Coders.{decoder_in, encoder_in}
 use Rattle.jillapun_c.specs.DecoderCalls.{HoldsNewDecoder, MakesDecoder}
 use Rattle.jillapun_c.specs.EncoderCalls.{MakesEncoder}
 use Rattle.jillapun_c.specs.EncodingNumbers.{encoding_at, mark_at}
-use Rattle.jillapun_c.specs.Openings.{MadeIfReady, Opens}
+use Rattle.jillapun_c.specs.Openings.{Opens}
 use Rattle.jillapun_c.specs.declared.coder.Coder.{Coder}
 use Rattle.jillapun_c.specs.declared.coder.Coder.TheVariants as coder
 use Rattle.jillapun_c.specs.declared.status.TheConstants.{OK}

@@ -1,5 +1,5 @@
 -- Encodings and their numbers.
-use Rattle.std.proofs.Common.{◌≡◌, ℕ, Option, Some, None, ap}
+use Rattle.std.proofs.Common.{◌≡◌, Option, Some, None, ap}
 use Rattle.encoding_front.specs.EncodingTable.{number_of}
 use Rattle.encoding_front.specs.declared.encoding.Encoding.{Encoding}
 

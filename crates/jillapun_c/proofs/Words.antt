@@ -1,10 +1,9 @@
 -- The machine values of pairs: a pointer and an allocator, a pointer and a truth value. Assumes `Logic`.
 use Rattle.std.proofs.Common.{◌≡◌, ◌∙◌, ℕ, List, [], ◌∷◌, ◌++◌, refl, lit<}
 use mathlib.Core.Bool.{Bool}
-use lib.Dec.{T}
 use seplogic.Ra.Ura.{Ura}
 use mir.Syntax.{Ty, tnil, tcons, ty_ptr, ty_bool, ty_struct}
-use mir.Val.{Val, vptr, vbool, vstruct, vcons, vnil, of_list, has_ty, WT}
+use mir.Val.{Val, vptr, vbool, vstruct, vcons, vnil, of_list, has_ty}
 use base.Fml.{Fml}
 use base.Logic.{ent, emp}
 use types.Logic.{Logic, sem}

@@ -1,5 +1,5 @@
 -- What a conversion leaves, by its status.
-use Rattle.std.specs.Prelude.{◌≡◌, ◌<◌, ◌⊎◌, ℕ, List, [], ◌∷◌, drop, length, take, true, false}
+use Rattle.std.specs.Prelude.{◌≡◌, ◌⊎◌, ℕ, List, [], ◌∷◌, drop, length, take, true, false}
 use Rattle.encoding_mem.specs.Piece.{malformed_count}
 use Rattle.encoding_mem.specs.Coding.{lost_count}
 use Rattle.recode_log.specs.declared.line.LogLine.TheVariants.{Lost}
@@ -12,6 +12,7 @@ use Rattle.recode.specs.declared.job.Report.{Report as RunReport}
 use Rattle.jillapun_c.specs.Losses.{log_of_losses}
 use Rattle.jillapun_c.specs.declared.losses.Loss.{Loss}
 use Rattle.jillapun_c.specs.declared.report.Report.{Report}
+use Rattle.jillapun_c.specs.declared.status.TheConstants.{LOSSY, NO_MEMORY, OK, STOPPED, TOO_LONG}
 
 -- some bytes and some records are what a job makes of an input: all, or, where its policy stops, all up to there
 pub record IsMadeOf (j : Job) (input output : List ℕ) (losses : List Loss) : Type 0 where
@@ -29,35 +30,38 @@ pub record StopsAtFirst (j : Job) (input : List ℕ) (report : Report) : Type 0 
   pub policy : j.policy ≡ Policy.Stop
   pub first : take 1 (lost_log_lines (target_of j) 0 (input_text j input)) ≡ Lost report.index report.scalar ∷ []
 
--- What a status says of a job on an input, and of the bytes and records that were made: at 0 and 1 (`OK`, `LOSSY`) and
--- at 12 (`STOPPED`) they are what the job makes of it; 0 and 1 are the verdict.
+-- a status by which all was converted: it is the verdict
+abbrev pub IsVerdict : (status : ℕ) → Type 0
+IsVerdict status = (status ≡ OK) ⊎ (status ≡ LOSSY)
+
+-- a status by which something was converted
+abbrev pub IsDone : (status : ℕ) → Type 0
+IsDone status = IsVerdict status ⊎ (status ≡ STOPPED)
+
+-- What a status says of a job on an input, and of the bytes and records that were made: where something was converted
+-- they are what the job makes of it.
 pub record ConvertsInMemory (j : Job) (input output : List ℕ) (losses : List Loss) (report : Report) (status : ℕ) : Type 0 where
-  pub made : status < 2 → IsMadeOf j input output losses
-  pub counts : status < 2 → AreCountsOf j input report
-  pub faithful : status ≡ 0 → Faithful j input
-  pub lossy : status ≡ 1 → ¬ (Faithful j input)
-  pub made_so_far : status ≡ 12 → IsMadeOf j input output losses
-  pub stopped : status ≡ 12 → StopsAtFirst j input report
+  pub made : IsDone status → IsMadeOf j input output losses
+  pub counts : IsVerdict status → AreCountsOf j input report
+  pub faithful : status ≡ OK → Faithful j input
+  pub lossy : status ≡ LOSSY → ¬ (Faithful j input)
+  pub stopped : status ≡ STOPPED → StopsAtFirst j input report
 
 -- what the report of a run becomes
 pub record IsToldReport (p : RunReport) (report : Report) (status : ℕ) : Type 0 where
-  pub faithful : p.faithful ≡ true → status ≡ 0
-  pub lossy : p.faithful ≡ false → status ≡ 1
+  pub faithful : p.faithful ≡ true → status ≡ OK
+  pub lossy : p.faithful ≡ false → status ≡ LOSSY
   pub read : report.read ≡ p.read
   pub bad : report.bad ≡ p.bad
   pub lost : report.lost ≡ p.lost
 
 -- what the fault of a run in memory becomes: `NO_MEMORY`, `TOO_LONG`, or `STOPPED` with the character
 abbrev pub IsToldFault : Fault → Report → (status : ℕ) → Type 0
-IsToldFault TheFault.Read report status = status ≡ 5
-IsToldFault TheFault.Write report status = status ≡ 5
-IsToldFault TheFault.Log report status = status ≡ 5
-IsToldFault TheFault.TooLong report status = status ≡ 13
-IsToldFault (TheFault.Unmappable index scalar) report status = (status ≡ 12) × (report.index ≡ index) × (report.scalar ≡ scalar)
-
--- a status by which something was converted: 0, 1 and 12 (`OK`, `LOSSY`, `STOPPED`)
-abbrev pub IsDone : (status : ℕ) → Type 0
-IsDone status = (status < 2) ⊎ (status ≡ 12)
+IsToldFault TheFault.Read report status = status ≡ NO_MEMORY
+IsToldFault TheFault.Write report status = status ≡ NO_MEMORY
+IsToldFault TheFault.Log report status = status ≡ NO_MEMORY
+IsToldFault TheFault.TooLong report status = status ≡ TOO_LONG
+IsToldFault (TheFault.Unmappable index scalar) report status = (status ≡ STOPPED) × (report.index ≡ index) × (report.scalar ≡ scalar)
 
 -- memory begins with what is reported, and nothing after it has changed
 pub record IsHandedOver (j : Job) (input : List ℕ) (dst dst' : List ℕ) (losses losses' : List Loss) (report : Report) (status : ℕ) : Type 0 where

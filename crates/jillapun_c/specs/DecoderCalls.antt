@@ -6,7 +6,7 @@ use Rattle.encoding_mem.specs.declared.room.OutputUnit.{OutputUnit}
 use Rattle.encoding_tables.specs.IndexLists.{IndexLists}
 use Rattle.encoding_front.specs.calls.DecoderCall.{DecoderCall, IfRoomAsked, TextCall}
 use Rattle.encoding_front.specs.calls.DecoderViews.{decoder_view}
-use Rattle.encoding_front.specs.calls.Stream.{IsNewDecoder, room_asked}
+use Rattle.encoding_front.specs.calls.Stream.{IsNewDecoder, TellsLatin1Prefix, room_asked}
 use Rattle.encoding_front.specs.declared.coder_result.CoderResult.{CoderResult}
 use Rattle.encoding_front.specs.declared.coder_result.CoderResult.TheVariants as text_
 use Rattle.encoding_front.specs.declared.decoder.Decoder.{Decoder}
@@ -64,3 +64,15 @@ abbrev pub AsksRoom : OutputUnit → Option Decoder → (size returned : ℕ) �
 AsksRoom asked_in None size returned = returned ≡ REFUSED
 AsksRoom asked_in (Some d) size returned =
     ((decoder_view d).finished ≡ true → returned ≡ REFUSED) × ((decoder_view d).finished ≡ false → returned ≡ unwrap_or (room_asked (decoder_view d).opening asked_in size) REFUSED)
+
+-- how many bytes, if they come next, are their own characters in Latin1, if that is known; else SIZE_MAX
+pub record TellsIfKnown (d : Decoder) (bytes : List ℕ) (returned : ℕ) : Type 0 where
+  pub known : Option ℕ
+  pub is : TellsLatin1Prefix (decoder_view d) bytes known
+  pub told : returned ≡ unwrap_or known REFUSED
+
+-- the same of the decoder of a handle; SIZE_MAX too if there is none, or it ended
+abbrev pub TellsLatin1Length : Option Decoder → (bytes : List ℕ) (returned : ℕ) → Type 0
+TellsLatin1Length None bytes returned = returned ≡ REFUSED
+TellsLatin1Length (Some d) bytes returned =
+    ((decoder_view d).finished ≡ true → returned ≡ REFUSED) × ((decoder_view d).finished ≡ false → TellsIfKnown d bytes returned)

@@ -1,5 +1,5 @@
 -- The numbers and the words of the definitions, worked.
-use Rattle.std.specs.Prelude.{◌≡◌, Option, None, Some, codes, refl}
+use Rattle.std.specs.Prelude.{◌≡◌, false, Option, None, Some, codes, refl}
 use Rattle.encoding_index.specs.declared.fault.IndexFaultKind.TheVariants as fault
 use Rattle.encoding_index.specs.declared.fault.LoadFault.TheVariants.{Text, Table}
 use Rattle.encoding_index.specs.IndexText.{memory_fault}
@@ -9,6 +9,9 @@ use Rattle.encoding_front.specs.declared.mark.Mark.{Mark}
 use Rattle.jillapun_c.specs.EncodingNumbers.{encoding_at, mark_at, needed_file}
 use Rattle.jillapun_c.specs.IndexFiles.{told_of}
 use Rattle.jillapun_c.specs.declared.index_files.FileFault.TheVariants as told
+use Rattle.jillapun_c.specs.declared.encoder_progress.TheConstants.EncoderProgress as encoder_
+use Rattle.jillapun_c.specs.declared.progress.TheConstants.Progress as decoder_
+use Rattle.jillapun_c.specs.declared.report.TheConstants.Report as report_
 use Rattle.jillapun_c.specs.declared.status.TheConstants.{SNIFF, REMOVE, KEEP, NO_ENCODING}
 
 -- the numbers of encodings: the first, the last, and none behind it
@@ -59,3 +62,13 @@ refused_text_is_told = refl
 
 pub refused_table_is_told : told_of (Table table.Memory) ≡ told.Memory
 refused_table_is_told = refl
+
+-- what calls tell that refuse: zeros
+pub nothing_is_decoded : decoder_.NONE ≡ record { read = 0; written = 0; outcome = 0; malformed_length = 0; malformed_after = 0; had_errors = false }
+nothing_is_decoded = refl
+
+pub nothing_is_encoded : encoder_.NONE ≡ record { read = 0; written = 0; outcome = 0; had_unmappable = false; scalar = 0 }
+nothing_is_encoded = refl
+
+pub nothing_is_reported : report_.NONE ≡ record { read = 0; bad = 0; lost = 0; written = 0; losses = 0; index = 0; scalar = 0; fault = 0 }
+nothing_is_reported = refl

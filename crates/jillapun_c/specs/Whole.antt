@@ -1,11 +1,17 @@
--- What a call makes of a whole input.
-use Rattle.std.specs.Prelude.{◌≡◌, ◌⊎◌, ℕ, ◌<◌, Bool, if◌then◌else◌, List, length}
+-- What a call makes of a whole input, or of a whole text.
+use Rattle.std.specs.Prelude.{◌≡◌, ◌↔◌, ◌⊎◌, ℕ, ◌<◌, Bool, IsTrue, if◌then◌else◌, List, length, MatchOption}
+use Rattle.std.specs.Str.{chars}
+use Rattle.encoding_mem.specs.Coding.{lost_count, output}
+use Rattle.encoding_mem.specs.declared.reference.Reference.TheVariants.{Decimal}
 use Rattle.encoding_tables.specs.IndexLists.{IndexLists}
+use Rattle.encoding_front.specs.Encodings.{coding_of, output_encoding_of}
 use Rattle.encoding_front.specs.calls.OneShot.{IsDecoded}
 use Rattle.encoding_front.specs.declared.encoding.Encoding.{Encoding}
 use Rattle.encoding_front.specs.declared.mark.Mark.{Mark}
+use Rattle.jillapun_c.specs.EncodingNumbers.{mark_at}
+use Rattle.jillapun_c.specs.Openings.{IfReady}
 use Rattle.jillapun_c.specs.Room.{IsPut}
-use Rattle.jillapun_c.specs.declared.status.TheConstants.{OK, LOSSY, NO_MEMORY, ROOM}
+use Rattle.jillapun_c.specs.declared.status.TheConstants.{OK, LOSSY, UNKNOWN, NO_MEMORY, ROOM}
 
 -- the room begins with the output, and the status tells whether something was lost
 pub record FitsInto (output old new : List ℕ) (is_lossy : Bool) (written status : ℕ) : Type 0 where
@@ -31,6 +37,28 @@ pub record DecodesWhole (tables : IndexLists) (e : Encoding) (mark : Mark) (src 
   pub decoded : IsDecoded tables mark e src text had_errors
   pub put : PutsIfRoom text old new had_errors written status
 
--- the text is decoded, or memory was refused and the room is as it was
+-- the output is put into the room, or memory was refused and the room is as it was
+abbrev pub OrNoMemory : (Put : Type 0) (old new : List ℕ) (status : ℕ) → Type 0
+OrNoMemory Put old new status = Put ⊎ ((status ≡ NO_MEMORY) × (new ≡ old))
+
+-- the text is decoded, or memory was refused
 abbrev pub MayDecode : IndexLists → Encoding → Mark → (src old new : List ℕ) → (written status : ℕ) → Type 0
-MayDecode tables e mark src old new written status = DecodesWhole tables e mark src old new written status ⊎ ((status ≡ NO_MEMORY) × (new ≡ old))
+MayDecode tables e mark src old new written status = OrNoMemory (DecodesWhole tables e mark src old new written status) old new status
+
+-- an input is decoded, if the number says what becomes of marks, and the tables are ready
+abbrev pub DecodesIfReady : (mark : ℕ) (src old new : List ℕ) (written status : ℕ) → IndexLists → Encoding → Type 0
+DecodesIfReady mark src old new written status t e = MatchOption (mark_at mark) (status ≡ UNKNOWN) (λ m. IfReady t e (MayDecode t e m src old new written status) status)
+
+-- the bytes of the text, with the decimal reference of each character without bytes, are put into the room
+pub record EncodesWhole (tables : IndexLists) (e : Encoding) (text old new : List ℕ) (written status : ℕ) : Type 0 where
+  pub had_unmappable : Bool
+  pub lost : IsTrue had_unmappable ↔ (0 < lost_count (coding_of tables e) (chars text))
+  pub put : PutsIfRoom (output Decimal (coding_of tables e) (chars text)) old new had_unmappable written status
+
+-- the text is encoded, or memory was refused
+abbrev pub MayEncode : IndexLists → Encoding → (text old new : List ℕ) → (written status : ℕ) → Type 0
+MayEncode tables e text old new written status = OrNoMemory (EncodesWhole tables e text old new written status) old new status
+
+-- a text is encoded, if the tables are ready for the output encoding
+abbrev pub EncodesIfReady : (text old new : List ℕ) (written status : ℕ) → IndexLists → Encoding → Type 0
+EncodesIfReady text old new written status t e = IfReady t (output_encoding_of e) (MayEncode t e text old new written status) status

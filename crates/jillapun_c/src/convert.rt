@@ -1,9 +1,11 @@
 //! Conversions from memory to memory.
 
-ghost use Rattle.std.specs.Prelude.{◌≡◌, ◌<◌, ◌⊎◌, ◌^◌, None, length, min};
+ghost use Rattle.std.specs.Prelude.{◌≡◌, ◌≢◌, ◌<◌, ◌⊎◌, ◌^◌, None, length, min};
 ghost use Rattle.recode.specs.declared.job.Job.{Job};
 ghost use Rattle.jillapun_c.specs.Asked.{AreKnown, IsAskedIn};
 ghost use Rattle.jillapun_c.specs.Conversions.{IsDone, IsHandedOver, IsWanted};
+ghost use Rattle.jillapun_c.specs.declared.report.TheConstants.Report.{NONE};
+ghost use Rattle.jillapun_c.specs.declared.status.TheConstants.{CLOSED, ROOM, TOO_LONG, UNKNOWN};
 
 use crate::in_memory::convert_job;
 use crate::losses::Loss;
@@ -32,6 +34,8 @@ use std::alloc::Global;
 /// - `UNKNOWN`: a number stands for nothing. `NOT_READY`: an index that one of the encodings needs
 ///   is not in the tables. `CLOSED`: the handle has no tables.
 ///
+/// At the last five nothing is written, and all of the report is 0.
+///
 /// It takes memory for the output and the records from the heap, and frees it before it returns.
 #[unsafe(no_mangle)]
 pub extern "C" fn jillapun_convert(
@@ -50,15 +54,16 @@ pub extern "C" fn jillapun_convert(
     ensures converts { IsDone result → (j : Job)
         × IsAskedIn tables.tables from to mark policy limit j
         × IsHandedOver j src.now dst.old dst.new losses.old losses.new report.new result }
-    ensures room { result ≡ 10 → (j : Job)
+    ensures room { result ≡ ROOM → (j : Job)
         × IsAskedIn tables.tables from to mark policy limit j
         × IsWanted j src.now report.new }
-    ensures small { result ≡ 10 → (length dst.new < report.new.written)
+    ensures small { result ≡ ROOM → (length dst.new < report.new.written)
         ⊎ (length losses.new < report.new.losses) }
     ensures kept { ¬ (IsDone result) → (dst.new ≡ dst.old) × (losses.new ≡ losses.old) }
-    ensures unknown { result ≡ 2 → ¬ (AreKnown from to mark policy) }
-    ensures long { result ≡ 13 → min limit (2 ^ 48) < length src.now }
-    ensures closed { tables.tables ≡ None → result ≡ 6 }
+    ensures nothing { ¬ (IsDone result) → result ≢ ROOM → report.new ≡ NONE }
+    ensures unknown { result ≡ UNKNOWN → ¬ (AreKnown from to mark policy) }
+    ensures long { result ≡ TOO_LONG → min limit (2 ^ 48) < length src.now }
+    ensures closed { tables.tables ≡ None → result ≡ CLOSED }
 {
     *report = Report::NONE;
     let Some(tables) = tables.get() else {

@@ -1,8 +1,11 @@
 //! Runs from memory to memory.
 
-ghost use Rattle.std.specs.Prelude.{◌≡◌, ◌↔◌, ◌<◌, ◌⊎◌, ◌++◌, drop, false, length, true, vec_len};
+ghost use Rattle.std.specs.Prelude.{◌≡◌, ◌≢◌, ◌↔◌, ◌<◌, ◌⊎◌, ◌++◌};
+ghost use Rattle.std.specs.Prelude.{drop, false, length, true, vec_len};
 ghost use Rattle.recode.specs.Job.{IsValidJob};
 ghost use Rattle.jillapun_c.specs.Conversions.{ConvertsInMemory, IsDone, IsHandedOver, IsWanted};
+ghost use Rattle.jillapun_c.specs.declared.report.TheConstants.Report.{NONE};
+ghost use Rattle.jillapun_c.specs.declared.status.TheConstants.{ROOM, TOO_LONG, UNKNOWN};
 
 use crate::losses::{Loss, LossLog};
 use crate::report::{Report, told};
@@ -82,12 +85,13 @@ pub(crate) fn convert_job(
     requires { IsValidJob job }
     ensures done { IsDone result → IsHandedOver job.entry src.now dst.old dst.new losses.old
         losses.new report.new result }
-    ensures room { result ≡ 10 → IsWanted job.entry src.now report.new }
-    ensures small { result ≡ 10 → (length dst.new < report.new.written)
+    ensures room { result ≡ ROOM → IsWanted job.entry src.now report.new }
+    ensures small { result ≡ ROOM → (length dst.new < report.new.written)
         ⊎ (length losses.new < report.new.losses) }
     ensures kept { ¬ (IsDone result) → (dst.new ≡ dst.old) × (losses.new ≡ losses.old) }
-    ensures known { ¬ (result ≡ 2) }
-    ensures long { result ≡ 13 ↔ (job.entry.limit < length src.now) }
+    ensures nothing { ¬ (IsDone result) → result ≢ ROOM → report.new ≡ NONE }
+    ensures known { result ≢ UNKNOWN }
+    ensures long { result ≡ TOO_LONG ↔ (job.entry.limit < length src.now) }
 {
     *report = Report::NONE;
     if src.len() as u64 > job.limit {

@@ -23,7 +23,8 @@ pub const IN_USE: u8 = 7;
 pub const FINISHED: u8 = 8;
 /// The text is not UTF-8. Nothing was read or written.
 pub const NOT_UTF8: u8 = 9;
-/// The room is too small, and the report says how much is wanted. Nothing was written.
+/// The room is too small, and the report, or `written`, says how much is wanted. Nothing was
+/// written.
 pub const ROOM: u8 = 10;
 /// The policy is `STOP`, and a character has no bytes in the output encoding: the report names it.
 /// All that stands before it was converted.

@@ -1,4 +1,7 @@
-//! Calls of the exports for tables and streams, with results worked by hand.
+//! Calls of the exports for tables, streams and whole texts, with results worked by hand.
+
+mod queries;
+mod whole;
 
 use crate::decoder::utf8::{
     jillapun_decoder_decode_to_utf8, jillapun_decoder_decode_to_utf8_without_replacement,
@@ -25,8 +28,8 @@ use crate::tables::{IndexFault, jillapun_tables_new};
 use crate::tables_handle::TablesHandle;
 use std::alloc::Global;
 
-// Tables with the euro sign at the byte 80 of windows-1252.
-fn euro(alloc: Global) -> TablesHandle {
+/// Tables with the euro sign at the byte 80 of windows-1252.
+pub(crate) fn euro(alloc: Global) -> TablesHandle {
     let mut tables = TablesHandle::none();
     let mut fault = IndexFault { file: 9, line: 9 };
     let files = [IndexFile {

@@ -5,7 +5,7 @@ ghost use Rattle.encoding_mem.specs.declared.room.OutputUnit.TheVariants.{Units,
 ghost use Rattle.encoding_front.specs.EncodingTable.{number_of};
 ghost use Rattle.encoding_front.specs.calls.DecoderViews.{decoder_view};
 ghost use Rattle.jillapun_c.specs.Coders.{decoder_in};
-ghost use Rattle.jillapun_c.specs.DecoderCalls.{AsksRoom};
+ghost use Rattle.jillapun_c.specs.DecoderCalls.{AsksRoom, TellsLatin1Length};
 ghost use Rattle.jillapun_c.specs.declared.status.TheConstants.{NO_ENCODING};
 
 use crate::coder::Coder;
@@ -104,4 +104,34 @@ pub extern "C" fn jillapun_decoder_max_utf16_length(
     };
     decoder.coder.put(coder);
     room.unwrap_or(REFUSED)
+}
+
+/// How many of `bytes`, if they come next, stand for the characters of their own numbers, as in
+/// Latin1: a caller may copy these, and hand in the rest. In a single-byte encoding the index
+/// decides, and the number is the most that is true. In the others it ends before the first byte
+/// that is not ASCII, in ISO-2022-JP also before the first 0E, 0F or 1B.
+///
+/// `SIZE_MAX` where it is not known: a byte order mark may still come, bytes are pending,
+/// ISO-2022-JP is in another mode than ASCII, the encoding is UTF-16BE, UTF-16LE or replacement,
+/// the handle holds no decoder, or the stream has ended.
+#[unsafe(no_mangle)]
+pub extern "C" fn jillapun_decoder_latin1_byte_compatible_up_to(
+    alloc: Global,
+    decoder: &mut DecoderHandle,
+    bytes: &[u8],
+) -> usize
+    ensures length { TellsLatin1Length (decoder_in decoder.old.coder.coder) bytes.now result }
+    ensures unchanged { decoder.new.coder.coder ≡ decoder.old.coder.coder }
+{
+    let Some(coder) = decoder.coder.take(alloc) else {
+        return REFUSED;
+    };
+    let length = match &*coder {
+        Coder::Decoder(decoder) if !decoder.is_finished() => decoder.latin1_byte_compatible_up_to(
+            bytes,
+        ),
+        _ => None,
+    };
+    decoder.coder.put(coder);
+    length.unwrap_or(REFUSED)
 }

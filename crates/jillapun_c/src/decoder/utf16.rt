@@ -7,6 +7,7 @@ ghost use Rattle.encoding_front.specs.calls.DecoderViews.{decoder_view};
 ghost use Rattle.encoding_front.specs.declared.decoder.Decoder.{Decoder};
 ghost use Rattle.jillapun_c.specs.Coders.{decoder_in};
 ghost use Rattle.jillapun_c.specs.DecoderCalls.{Decodes, DecodesUpToFault};
+ghost use Rattle.jillapun_c.specs.declared.progress.TheConstants.Progress.{NONE};
 ghost use Rattle.jillapun_c.specs.declared.status.TheConstants.{CLOSED, FINISHED, OK};
 
 use crate::coder::Coder;
@@ -24,7 +25,8 @@ use std::alloc::Global;
 /// surrogate pair is never split, and nothing after what is written changes. `OUTPUT_FULL` does not
 /// come where `dst` is as long as `jillapun_decoder_max_utf16_length` returns.
 ///
-/// Else nothing is done: `CLOSED`, the handle holds no decoder; `FINISHED`, the stream has ended.
+/// Else nothing is done, and all of `progress` is 0: `CLOSED`, the handle holds no decoder;
+/// `FINISHED`, the stream has ended.
 #[unsafe(no_mangle)]
 pub extern "C" fn jillapun_decoder_decode_to_utf16(
     alloc: Global,
@@ -44,6 +46,7 @@ pub extern "C" fn jillapun_decoder_decode_to_utf16(
         (length dst.old) (length (drop progress.new.written dst.new)) 2 1 progress.new }
     ensures unchanged { result ≢ OK
         → (dst.new ≡ dst.old) × (decoder.new.coder.coder ≡ decoder.old.coder.coder) }
+    ensures nothing { result ≢ OK → progress.new ≡ NONE }
 {
     *progress = Progress::NONE;
     let Some(mut coder) = decoder.coder.take(alloc) else {
@@ -71,6 +74,7 @@ fn to_utf16(
         (λ text. Adds dst.old 0 (encode_utf16_all text) dst.new progress.new.written)
         (length dst.old) (length (drop progress.new.written dst.new)) 2 1 progress.new }
     ensures unchanged { result ≢ OK → (dst.new ≡ dst.old) × (coder.new ≡ coder.old) }
+    ensures untold { result ≢ OK → progress.new ≡ progress.old }
 {
     let Coder::Decoder(decoder) = coder else {
         return CLOSED;
@@ -102,7 +106,8 @@ fn to_utf16(
 /// At `MALFORMED` a sequence of `malformed_length` bytes ends `malformed_after` bytes before the
 /// end of what was read, and a unit is free: write U+FFFD or not, and go on as at `OUTPUT_FULL`.
 ///
-/// Else nothing is done: `CLOSED`, the handle holds no decoder; `FINISHED`, the stream has ended.
+/// Else nothing is done, and all of `progress` is 0: `CLOSED`, the handle holds no decoder;
+/// `FINISHED`, the stream has ended.
 #[unsafe(no_mangle)]
 pub extern "C" fn jillapun_decoder_decode_to_utf16_without_replacement(
     alloc: Global,
@@ -122,6 +127,7 @@ pub extern "C" fn jillapun_decoder_decode_to_utf16_without_replacement(
         (length dst.old) (length (drop progress.new.written dst.new)) 2 1 progress.new }
     ensures unchanged { result ≢ OK
         → (dst.new ≡ dst.old) × (decoder.new.coder.coder ≡ decoder.old.coder.coder) }
+    ensures nothing { result ≢ OK → progress.new ≡ NONE }
 {
     *progress = Progress::NONE;
     let Some(mut coder) = decoder.coder.take(alloc) else {
@@ -149,6 +155,7 @@ fn to_utf16_part(
         (λ text. Adds dst.old 0 (encode_utf16_all text) dst.new progress.new.written)
         (length dst.old) (length (drop progress.new.written dst.new)) 2 1 progress.new }
     ensures unchanged { result ≢ OK → (dst.new ≡ dst.old) × (coder.new ≡ coder.old) }
+    ensures untold { result ≢ OK → progress.new ≡ progress.old }
 {
     let Coder::Decoder(decoder) = coder else {
         return CLOSED;

@@ -6,6 +6,7 @@ ghost use Rattle.encoding_mem.specs.Conversions.{IsUnitBoundary};
 ghost use Rattle.encoding_front.specs.calls.Encoder.{EncoderState};
 ghost use Rattle.jillapun_c.specs.Coders.{encoder_in};
 ghost use Rattle.jillapun_c.specs.EncoderCalls.{EncodesAll, EncodesUpToLost};
+ghost use Rattle.jillapun_c.specs.declared.encoder_progress.TheConstants.EncoderProgress.{NONE};
 ghost use Rattle.jillapun_c.specs.declared.status.TheConstants.{CLOSED, OK};
 
 use crate::coder::Coder;
@@ -24,7 +25,7 @@ use std::alloc::Global;
 /// where nothing is left; 14 bytes are always enough to go on. Unless the encoding is UTF-8, the
 /// last ten bytes of `dst` are kept for a reference. Nothing after what is written changes.
 ///
-/// Else nothing is done: `CLOSED`, the handle holds no encoder.
+/// Else nothing is done, and all of `progress` is 0: `CLOSED`, the handle holds no encoder.
 #[unsafe(no_mangle)]
 pub extern "C" fn jillapun_encoder_encode_from_utf16(
     alloc: Global,
@@ -43,6 +44,7 @@ pub extern "C" fn jillapun_encoder_encode_from_utf16(
         × IsUnitBoundary text.now progress.new.read }
     ensures unchanged { result ≢ OK
         → (dst.new ≡ dst.old) × (encoder.new.coder.coder ≡ encoder.old.coder.coder) }
+    ensures nothing { result ≢ OK → progress.new ≡ NONE }
 {
     *progress = EncoderProgress::NONE;
     let Some(mut coder) = encoder.coder.take(alloc) else {
@@ -69,6 +71,7 @@ fn from_utf16(
     ensures read { result ≡ OK → (progress.new.read ≤ length text.now)
         × IsUnitBoundary text.now progress.new.read }
     ensures unchanged { result ≢ OK → (dst.new ≡ dst.old) × (coder.new ≡ coder.old) }
+    ensures untold { result ≢ OK → progress.new ≡ progress.old }
 {
     let Coder::Encoder(encoder) = coder else {
         return CLOSED;
@@ -94,7 +97,7 @@ fn from_utf16(
 /// was read last has no bytes: write its reference, or something else in ASCII, and go on as at
 /// `OUTPUT_FULL`. Nothing after what is written changes.
 ///
-/// Else nothing is done: `CLOSED`, the handle holds no encoder.
+/// Else nothing is done, and all of `progress` is 0: `CLOSED`, the handle holds no encoder.
 #[unsafe(no_mangle)]
 pub extern "C" fn jillapun_encoder_encode_from_utf16_without_replacement(
     alloc: Global,
@@ -113,6 +116,7 @@ pub extern "C" fn jillapun_encoder_encode_from_utf16_without_replacement(
         × IsUnitBoundary text.now progress.new.read }
     ensures unchanged { result ≢ OK
         → (dst.new ≡ dst.old) × (encoder.new.coder.coder ≡ encoder.old.coder.coder) }
+    ensures nothing { result ≢ OK → progress.new ≡ NONE }
 {
     *progress = EncoderProgress::NONE;
     let Some(mut coder) = encoder.coder.take(alloc) else {
@@ -139,6 +143,7 @@ fn from_utf16_part(
     ensures read { result ≡ OK → (progress.new.read ≤ length text.now)
         × IsUnitBoundary text.now progress.new.read }
     ensures unchanged { result ≢ OK → (dst.new ≡ dst.old) × (coder.new ≡ coder.old) }
+    ensures untold { result ≢ OK → progress.new ≡ progress.old }
 {
     let Coder::Encoder(encoder) = coder else {
         return CLOSED;

@@ -5,6 +5,7 @@ ghost use Rattle.std.specs.Str.{IsUtf8, chars};
 ghost use Rattle.encoding_front.specs.calls.Encoder.{EncoderState, ReadsText};
 ghost use Rattle.jillapun_c.specs.Coders.{encoder_in};
 ghost use Rattle.jillapun_c.specs.EncoderCalls.{EncodesAll, EncodesUpToLost};
+ghost use Rattle.jillapun_c.specs.declared.encoder_progress.TheConstants.EncoderProgress.{NONE};
 ghost use Rattle.jillapun_c.specs.declared.status.TheConstants.{CLOSED, NOT_UTF8, OK};
 
 use crate::coder::Coder;
@@ -24,8 +25,8 @@ use std::str;
 /// where nothing is left; 14 bytes are always enough to go on. Unless the encoding is UTF-8, the
 /// last ten bytes of `dst` are kept for a reference. Nothing after what is written changes.
 ///
-/// Else nothing is done: `CLOSED`, the handle holds no encoder; `NOT_UTF8`,
-/// the text is not UTF-8.
+/// Else nothing is done, and all of `progress` is 0: `CLOSED`, the handle holds no encoder;
+/// `NOT_UTF8`, the text is not UTF-8.
 #[unsafe(no_mangle)]
 pub extern "C" fn jillapun_encoder_encode_from_utf8(
     alloc: Global,
@@ -44,6 +45,7 @@ pub extern "C" fn jillapun_encoder_encode_from_utf8(
     ensures read { result ≡ OK → ReadsText text.now progress.new.read }
     ensures unchanged { result ≢ OK
         → (dst.new ≡ dst.old) × (encoder.new.coder.coder ≡ encoder.old.coder.coder) }
+    ensures nothing { result ≢ OK → progress.new ≡ NONE }
 {
     *progress = EncoderProgress::NONE;
     let Ok(text) = str::from_utf8(text) else {
@@ -71,6 +73,7 @@ fn from_utf8(
         (chars (drop progress.new.read text.now)) (length text.now) dst.old dst.new progress.new }
     ensures read { result ≡ OK → ReadsText text.now progress.new.read }
     ensures unchanged { result ≢ OK → (dst.new ≡ dst.old) × (coder.new ≡ coder.old) }
+    ensures untold { result ≢ OK → progress.new ≡ progress.old }
 {
     let Coder::Encoder(encoder) = coder else {
         return CLOSED;
@@ -96,8 +99,8 @@ fn from_utf8(
 /// was read last has no bytes: write its reference, or something else in ASCII, and go on as at
 /// `OUTPUT_FULL`. Nothing after what is written changes.
 ///
-/// Else nothing is done: `CLOSED`, the handle holds no encoder; `NOT_UTF8`,
-/// the text is not UTF-8.
+/// Else nothing is done, and all of `progress` is 0: `CLOSED`, the handle holds no encoder;
+/// `NOT_UTF8`, the text is not UTF-8.
 #[unsafe(no_mangle)]
 pub extern "C" fn jillapun_encoder_encode_from_utf8_without_replacement(
     alloc: Global,
@@ -116,6 +119,7 @@ pub extern "C" fn jillapun_encoder_encode_from_utf8_without_replacement(
     ensures read { result ≡ OK → ReadsText text.now progress.new.read }
     ensures unchanged { result ≢ OK
         → (dst.new ≡ dst.old) × (encoder.new.coder.coder ≡ encoder.old.coder.coder) }
+    ensures nothing { result ≢ OK → progress.new ≡ NONE }
 {
     *progress = EncoderProgress::NONE;
     let Ok(text) = str::from_utf8(text) else {
@@ -143,6 +147,7 @@ fn from_utf8_part(
         (chars (drop progress.new.read text.now)) (length text.now) dst.old dst.new progress.new }
     ensures read { result ≡ OK → ReadsText text.now progress.new.read }
     ensures unchanged { result ≢ OK → (dst.new ≡ dst.old) × (coder.new ≡ coder.old) }
+    ensures untold { result ≢ OK → progress.new ≡ progress.old }
 {
     let Coder::Encoder(encoder) = coder else {
         return CLOSED;

@@ -14,7 +14,7 @@ use types.Run.{stop, fld, addr, un, of_opd, lit, no_more, and_then, first, block
 use types.ByLocal.{alloc_all, pass_all, free_all, look_at, get, get_in, through, sets, sets_last, env}
 use denote.RattleType.{RattleType, owns}
 use denote.Builtin.{RefOf}
-use denote.RawPtr.{Ptr, block_ptr, ptr_val}
+use denote.RawPtr.{Ptr, block_ptr}
 use denote.Signature.{types_at, type_at, plain}
 use denote.Opens.{hide}
 use denote.Steps.{nothing}

@@ -13,7 +13,7 @@ use types.Run.{stop, addr, of_opd, no_more, and_then, returns, enter, true_lit}
 use types.ByLocal.{alloc_all, pass_all, free_all, look_at, get, through, sets}
 use denote.Builtin.{RefOf}
 use denote.Exit.{yes}
-use denote.RattleType.{RattleType, owns}
+use denote.RattleType.{owns}
 use denote.RawPtr.{block_ptr}
 use denote.Signature.{types_at, plain}
 use denote.Opens.{unhide}

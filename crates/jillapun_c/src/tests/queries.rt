@@ -1,0 +1,69 @@
+//! Calls of the export that tells how far bytes are Latin1 to a decoder.
+
+use crate::decoder::queries::jillapun_decoder_latin1_byte_compatible_up_to;
+use crate::decoder::utf8::jillapun_decoder_decode_to_utf8;
+use crate::decoder::{DecoderHandle, jillapun_decoder_free, jillapun_decoder_new};
+use crate::handle::CoderHandle;
+use crate::index_files::IndexFile;
+use crate::progress::Progress;
+use crate::status::{KEEP, OK, REFUSED, SNIFF};
+use crate::tables::{IndexFault, jillapun_tables_new};
+use crate::tables_handle::TablesHandle;
+use std::alloc::Global;
+
+const UTF_8: u8 = 25;
+
+const WINDOWS_1252: u8 = 31;
+
+// A decoder over tables with the euro sign at the byte 80 and é at E9, its number, of windows-1252.
+fn decoder(alloc: Global, encoding: u8, mark: u8) -> DecoderHandle {
+    let mut tables = TablesHandle::none();
+    let mut fault = IndexFault { file: 9, line: 9 };
+    let files = [IndexFile {
+        name: b"index-windows-1252.txt",
+        text: b"  0\t0x20AC\n105\t0x00E9\n",
+    }];
+    jillapun_tables_new(alloc, &files, &mut tables, &mut fault);
+    let mut handle = DecoderHandle {
+        coder: CoderHandle::none(),
+    };
+    jillapun_decoder_new(alloc, tables, encoding, mark, &mut handle);
+    handle
+}
+
+// What a decoder returns that has decoded these bytes.
+fn length_after(alloc: Global, handle: &mut DecoderHandle, src: &[u8], last: bool) -> (u8, usize) {
+    let mut text = [0; 8];
+    let mut progress = Progress::NONE;
+    let status = jillapun_decoder_decode_to_utf8(
+        alloc,
+        handle,
+        src,
+        &mut text,
+        last,
+        &mut progress,
+    );
+    let length = jillapun_decoder_latin1_byte_compatible_up_to(alloc, handle, b"a\xE9\x7F\x80b");
+    (status, length)
+}
+
+#[test]
+fn latin1_is_found(rt: HostRuntime) {
+    let alloc = rt.alloc();
+    let mut handle = decoder(alloc, WINDOWS_1252, KEEP);
+    assert_eq!(rt; length_after(alloc, &mut handle, b"a", false), (OK, 3));
+    assert_eq!(rt; length_after(alloc, &mut handle, b"a", true), (OK, REFUSED));
+    jillapun_decoder_free(alloc, &mut handle);
+    let bytes = b"a\xE9";
+    let length = jillapun_decoder_latin1_byte_compatible_up_to(alloc, &mut handle, bytes);
+    assert_eq!(rt; length, REFUSED);
+    let mut handle = decoder(alloc, UTF_8, KEEP);
+    assert_eq!(rt; length_after(alloc, &mut handle, b"a", false), (OK, 1));
+    assert_eq!(rt;
+        length_after(alloc, &mut handle, b"\xC3", false),
+        (OK, REFUSED)
+    );
+    let mut handle = decoder(alloc, UTF_8, SNIFF);
+    let length = jillapun_decoder_latin1_byte_compatible_up_to(alloc, &mut handle, bytes);
+    assert_eq!(rt; length, REFUSED);
+}

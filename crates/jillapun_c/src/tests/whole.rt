@@ -1,0 +1,111 @@
+//! Calls of the exports for whole texts.
+
+use crate::status::{CLOSED, KEEP, LOSSY, NOT_READY, NOT_UTF8, OK, REMOVE, ROOM, SNIFF, UNKNOWN};
+use crate::tables_handle::TablesHandle;
+use crate::tests::euro;
+use crate::whole::{jillapun_decode, jillapun_encode};
+use std::alloc::Global;
+
+const WINDOWS_1252: u8 = 31;
+
+const UTF_8: u8 = 25;
+
+const UTF_16LE: u8 = 27;
+
+// What a call leaves: its status, the room, and the length.
+type Left = (u8, [u8; 12], usize);
+
+fn decoded(alloc: Global, encoding: u8, mark: u8, src: &[u8], room: usize) -> Left {
+    let mut dst = *b"............";
+    let mut written = 9;
+    let tables = euro(alloc);
+    let status = jillapun_decode(
+        alloc,
+        tables,
+        encoding,
+        mark,
+        src,
+        &mut dst[..room.min(12)],
+        &mut written,
+    );
+    (status, dst, written)
+}
+
+fn encoded(alloc: Global, encoding: u8, text: &[u8], room: usize) -> Left {
+    let mut dst = *b"............";
+    let mut written = 9;
+    let tables = euro(alloc);
+    let status = jillapun_encode(
+        alloc,
+        tables,
+        encoding,
+        text,
+        &mut dst[..room.min(12)],
+        &mut written,
+    );
+    (status, dst, written)
+}
+
+#[test]
+fn input_is_decoded(rt: HostRuntime) {
+    let alloc = rt.alloc();
+    let left = decoded(alloc, WINDOWS_1252, KEEP, &[0x61, 0x80], 12);
+    assert_eq!(rt; left, (OK, *b"a\xE2\x82\xAC........", 4));
+    let left = decoded(alloc, WINDOWS_1252, KEEP, &[0x61, 0x80, 0x81], 7);
+    assert_eq!(rt; left, (LOSSY, *b"a\xE2\x82\xAC\xEF\xBF\xBD.....", 7));
+    let left = decoded(alloc, WINDOWS_1252, KEEP, &[0x61, 0x80, 0x81], 6);
+    assert_eq!(rt; left, (ROOM, *b"............", 7));
+    let marked = [0xFF, 0xFE, 0x61, 0];
+    assert_eq!(rt;
+        decoded(alloc, UTF_8, SNIFF, &marked, 12),
+        (OK, *b"a...........", 1)
+    );
+    assert_eq!(rt;
+        decoded(alloc, UTF_16LE, REMOVE, &marked, 12),
+        (OK, *b"a...........", 1)
+    );
+    let left = decoded(alloc, UTF_16LE, KEEP, &marked, 12);
+    assert_eq!(rt; left, (OK, *b"\xEF\xBB\xBFa........", 4));
+}
+
+#[test]
+fn others_are_not_decoded(rt: HostRuntime) {
+    let alloc = rt.alloc();
+    let same = *b"............";
+    assert_eq!(rt; decoded(alloc, 40, KEEP, b"a", 12), (UNKNOWN, same, 0));
+    assert_eq!(rt; decoded(alloc, UTF_8, 3, b"a", 12), (UNKNOWN, same, 0));
+    assert_eq!(rt; decoded(alloc, 0, KEEP, b"a", 12), (NOT_READY, same, 0));
+    let (mut dst, mut written) = (same, 9);
+    let none = TablesHandle::none();
+    let status = jillapun_decode(alloc, none, UTF_8, KEEP, b"a", &mut dst, &mut written);
+    assert_eq!(rt; (status, dst, written), (CLOSED, same, 0));
+}
+
+#[test]
+fn text_is_encoded(rt: HostRuntime) {
+    let alloc = rt.alloc();
+    let left = encoded(alloc, WINDOWS_1252, "a€".as_bytes(), 2);
+    assert_eq!(rt; left, (OK, *b"a\x80..........", 2));
+    let left = encoded(alloc, WINDOWS_1252, "a€日".as_bytes(), 12);
+    assert_eq!(rt; left, (LOSSY, *b"a\x80&#26085;..", 10));
+    let left = encoded(alloc, WINDOWS_1252, "a€日".as_bytes(), 9);
+    assert_eq!(rt; left, (ROOM, *b"............", 10));
+    let left = encoded(alloc, UTF_16LE, "€".as_bytes(), 12);
+    assert_eq!(rt; left, (OK, *b"\xE2\x82\xAC.........", 3));
+}
+
+#[test]
+fn others_are_not_encoded(rt: HostRuntime) {
+    let alloc = rt.alloc();
+    let same = *b"............";
+    assert_eq!(rt;
+        encoded(alloc, UTF_8, &[0x61, 0xFF], 12),
+        (NOT_UTF8, same, 0)
+    );
+    assert_eq!(rt; encoded(alloc, 40, b"a", 12), (UNKNOWN, same, 0));
+    assert_eq!(rt; encoded(alloc, 0, b"a", 12), (NOT_READY, same, 0));
+    let (mut dst, mut written) = (same, 9);
+    let none = TablesHandle::none();
+    let status = jillapun_encode(alloc, none, UTF_8, b"a", &mut dst, &mut written);
+    assert_eq!(rt; (status, dst, written), (CLOSED, same, 0));
+}
