@@ -70,5 +70,5 @@ nothing_is_decoded = refl
 pub nothing_is_encoded : encoder_.NONE ≡ record { read = 0; written = 0; outcome = 0; had_unmappable = false; scalar = 0 }
 nothing_is_encoded = refl
 
-pub nothing_is_reported : report_.NONE ≡ record { read = 0; bad = 0; lost = 0; written = 0; losses = 0; index = 0; scalar = 0; fault = 0 }
+pub nothing_is_reported : report_.NONE ≡ record { read = 0; bad = 0; lost = 0; written = 0; losses = 0; index = 0; scalar = 0 }
 nothing_is_reported = refl
