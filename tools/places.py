@@ -435,10 +435,17 @@ def terminal_faults(folder):
 
 def memory_faults(folder):
     """Each request for memory refused in turn: at the start nothing is reported, and later a part of what there is."""
-    data = "日\n¥本".encode() + b"\xff"
-    trial = Trial(folder, "memory.txt", Job("utf-8", "shift_jis", "sniff", "decimal"), data)
+    at_the_end = Job("utf-8", "shift_jis", "sniff", "decimal"), "日\n¥本".encode() + b"\xff"
+    # Two places wait for the end of a long line.
+    waiting = Job("utf-8", "windows-1252", "sniff", "decimal"), "日x本".encode() + b"y" * 100
     allocator = refused_memory.compiled(folder)
-    for more in (["--folds"], ["--count", "--no-log"], ["--most", "0"]):
+    for (job, data), more in (
+        (at_the_end, ["--folds"]),
+        (at_the_end, ["--count", "--no-log"]),
+        (at_the_end, ["--most", "0"]),
+        (waiting, []),
+    ):
+        trial = Trial(folder, "memory.txt", job, data)
         words = [*trial.words, *more, trial.path]
         (status, told, error), _ = refused_memory.run(PLACES, words, trial.log)
         yield from trial.differences("with memory", (status, told != b"", error), (1, True, b""))

@@ -8,7 +8,7 @@ use Rattle.recode_places.specs.Fits.{Fits, FitsCharacter, FitsFrom, FitsText, Go
 use Rattle.recode_places.specs.declared.entry.Stop.{Stop}
 use Rattle.recode_places.specs.Logs.{CanBeLogged, IsLoggedAs, IsLogEnd, LogLeft}
 use Rattle.recode_places.specs.Places.{feeds}
-use Rattle.recode_places.specs.calls.LogViews.{ReadsLine, log_left_after}
+use Rattle.recode_places.specs.calls.LogViews.{ReadsLine, log_left_after, whole_log}
 use Rattle.recode_places.specs.calls.Ready.{IsLineIfAny}
 use Rattle.recode_places.specs.declared.log_lines.NextLine.{NextLine}
 use Rattle.recode_places.specs.declared.log_lines.NextLine.TheVariants.{Line, End, Other}
@@ -239,3 +239,8 @@ no_end_here n rem line (inr other) h = subst (λ q. IsLeftOfLog IsLogEnd (log_le
 pub match_err : {T : Type 0} (r : Result T Stop) (e : Stop) (P : T → Type 0) → IsErrAnd r (λ x. x ≡ e) → IsNotUnfit e → MatchResult r P IsNotUnfit
 match_err (Ok x) e P same h = absurd same
 match_err (Err x) e P same h = subst IsNotUnfit (sym same) h
+
+-- the first line of a log that fits is read: what is left fits
+pub fits_at_first : (i o : ℕ) (ps : List Piece) (rem old new : Option (List ℕ)) (n : NextLine) → old ≡ rem → ReadsLine old new n → IsLeftOfLog (Fits i o ps) (whole_log rem) → IsLeftOfLog (Fits i o ps) (log_left_after n new)
+fits_at_first i o ps None old new n e reads h = absurd h
+fits_at_first i o ps (Some x) old new n e reads h = left_after_line i o (Fits i o ps) x new n h (late_fits i o ps x h) (subst (λ v. ReadsLine v new n) e reads)

@@ -23,13 +23,17 @@ pub struct LogMatch<L> {
 }
 
 impl<L: Read + Drop> LogMatch<L> {
+    ghost use Rattle.recode_places.specs.Fits.{Fits, IsLeftOfLog};
     ghost use Rattle.recode_places.specs.Logs.{TakesLines};
     ghost use Rattle.recode_places.specs.calls.LogViews.{match_left, whole_log};
 
     /// The log that the reader gives. Its first line is read. The error is `Log`, if a read fails.
     pub fn new(reader: L) -> Result<LogMatch<L>, Stop>
-        ensures { IfOk result (λ log. TakesLines (whole_log (L.remaining reader))
+        ensures read { IfOk result (λ log. TakesLines (whole_log (L.remaining reader))
             (match_left L.remaining log) []) }
+        ensures fits { IfOk result (λ log. (index offset : ℕ) (ps : List Piece)
+            → IsLeftOfLog (Fits index offset ps) (whole_log (L.remaining reader))
+            → IsLeftOfLog (Fits index offset ps) (match_left L.remaining log)) }
     {
         let mut lines = LogLines::new(reader);
         let next = lines.next_line()?;

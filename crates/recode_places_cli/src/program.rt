@@ -8,7 +8,7 @@ use crate::words::{Request, Words, parse};
 use encoding_front::Encoding;
 use encoding_tables::Tables;
 use recode::load_indexes;
-use recode_places::{Choice, Fates, LogMatch, Source, tell_places};
+use recode_places::{Choice, Fates, LogMatch, Source, Stop, tell_places};
 use recode_places_report::{Counts, Report, shown};
 use recode_system::{CommandLine, SystemFiles, Wordless};
 use std::alloc::{AllocError, Global};
@@ -69,10 +69,11 @@ impl<'a, R: Read + Drop, W: Write + Drop> Job<'a, R, W> {
             report = report.coloured();
         }
         let told = tell_places(&mut input, source, choice, &mut report);
-        if told.is_ok() {
-            report.finish()?;
-        } else {
-            report.cut_short()?;
+        match told {
+            Ok(()) => report.finish()?,
+            // After a place that could not be shown, none is: a later one would stand alone.
+            Err(Stop::Memory | Stop::Write) => {}
+            Err(_) => report.cut_short()?,
         }
         told?;
         Ok(report.count() > 0)
