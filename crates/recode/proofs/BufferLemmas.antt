@@ -2,7 +2,7 @@
 use Rattle.std.proofs.Common.{◌≡◌, ◌∙◌, ℕ, List, Option, None, ap, arith, refl, sym, take, true≢false}
 use Rattle.recode.specs.calls.Buffers.{AreEnough, KeepSizes, KeepsRoom, HoldsAnyCharacter, capacity, is_wide}
 use Rattle.recode.specs.calls.Writers.{AreReady, AreTheSame, HoldNothing, written_by, writers_view}
-use Rattle.recode.specs.calls.Held.{WritersView, holding_none}
+use Rattle.recode.specs.calls.Held.{holding_none}
 use Rattle.recode.specs.declared.job.Buffers.{Buffers}
 use Rattle.recode.specs.declared.job.Pivot.{Pivot}
 use Rattle.recode.specs.declared.job.Pivot.TheVariants.{Utf8, Utf16}

@@ -11,7 +11,6 @@ use Rattle.recode.specs.calls.CodecCalls.{DecodeCallEndsWith}
 use Rattle.recode.specs.Policy.{reference_form}
 use Rattle.recode.specs.State.{State, WillBeFaithful, to_write}
 use Rattle.recode.specs.Step.{Advances}
-use Rattle.recode.specs.Devices.{Written}
 use Rattle.recode.specs.calls.Held.{LeavesPrefix, LeavesPrefixFor, Passes, PassesItemsFor, WritersView, holding_none}
 use Rattle.recode.specs.calls.TraceToWrite.{AreSound, trace_to_write}
 use Rattle.recode.specs.calls.Verdict.{CanTell, IsFaithfulFor}

@@ -11,7 +11,7 @@ use Rattle.recode_log.specs.declared.line.LogLine.TheVariants.{Bad, Lost}
 use Rattle.recode.specs.Devices.{Written}
 use Rattle.recode.specs.Policy.{written_under}
 use Rattle.recode.specs.TaggedByte.{Line, Wrote, tagged, tagged_item}
-use Rattle.recode.specs.WrittenItems.{AreCounted, IsSpared, WritesItemsFor, WritesPrefix, WritesPrefixFor, lost_line_count}
+use Rattle.recode.specs.WrittenItems.{IsSpared, WritesItemsFor, WritesPrefix, lost_line_count}
 use Rattle.recode.specs.calls.Held.{LeavesPrefix, LeavesPrefixFor, Passes, PassesBytes, PassesItems, PassesItemsFor, WritersView, WritesLine, held_items, held_line_bytes, holding_none, item_of, line_items, log_line_of}
 use Rattle.recode.specs.declared.job.Fault.{Fault}
 use Rattle.recode.specs.declared.job.Fault.TheVariants.{Write, Log, Unmappable}

@@ -1,6 +1,6 @@
 use Rattle.std.proofs.Common.{◌∙◌, ap, ◌++◌, take}
 use Rattle.recode.specs.calls.Held.{held_line_bytes}
-use Rattle.recode.proofs.HeldLemmas.{hands_each, lines_part, lines_whole, none_held}
+use Rattle.recode.proofs.HeldLemmas.{lines_part, lines_whole, none_held}
 use Rattle.recode.proofs.writers.Writers.log_line.Goals as goal
 
 pub returns-clause-ok : goal.returns-clause-ok
