@@ -41,7 +41,7 @@ Byte order mark at the start of the input (--mark):
 Character without bytes in the output's encoding (--unmappable):
   decimal      the reference &#N; is written in its place, as &#26085;
   hexadecimal  the reference &#xN; is written in its place, as &#x65E5;
-  stop         the first one ends the conversion, behind its line of the log
+  stop         the first one ends the conversion, after its line of the log
 
 Log, on standard error, a line for each malformed sequence and each character without bytes:
   bad OFFSET LENGTH  these bytes of the input stand for no character; the text has U+FFFD in their
@@ -51,7 +51,8 @@ Log, on standard error, a line for each malformed sequence and each character wi
                      in the output's encoding; SCALAR is 65533 for U+000E, U+000F and U+001B to
                      ISO-2022-JP
 The lines stand in the order of the text. Numbers are decimal. OFFSET counts bytes from the start of
-the input, a byte order mark among them; INDEX counts characters from 0.
+the input, a byte order mark among them; INDEX counts characters from 0. \"recode-places\" shows the
+line and column of each.
 
 Exit status:
   0  all was converted, and nothing was lost: no byte sequence was malformed, and the output reads
@@ -59,8 +60,9 @@ Exit status:
      could be written
   1  all was converted, and something was lost. The log says what, but for a character that was
      written as another, as Shift_JIS writes U+00A5 as the byte 5C: of that there is no line.
-     Shift_JIS, EUC-JP, ISO-2022-JP, gb18030 and GBK have such characters
-  2  the words were refused
+     Shift_JIS, EUC-JP, ISO-2022-JP, gb18030 and GBK have such characters, and
+     \"recode-places --folds\" shows where they stand
+  2  the command line was refused
   3  an index file is missing or faulty, or memory was refused at the start
   4  a read, a write or a write of the log failed, the input is longer than the limit, or with
      --unmappable stop a character has no bytes in the output's encoding
