@@ -1,4 +1,4 @@
-//! Makes one call of a decoder or an encoder, and keeps all that the call tells.
+//! Makes one call of a decoder or an encoder, and keeps all that comes of it.
 
 use crate::kinds::{Form, Outcome, widened};
 use encoding_codecs::Iso2022JpDecoder;
@@ -17,7 +17,7 @@ pub const UNWRITTEN: u8 = 0xEE;
 // The unit that fills a room before a call. It must still stand after the output.
 pub(crate) const UNWRITTEN_UNIT: u16 = 0xEEEE;
 
-/// All that a call tells.
+/// All that comes of a call.
 #[derive(Drop)]
 pub struct Answer {
     /// How the call ended.
@@ -56,9 +56,9 @@ impl Answer {
     }
 }
 
-/// A decoder that may tell whether it is in the state in which a stream begins.
+/// A decoder that may report whether it is in the state in which a stream begins.
 pub trait Neutral: RawDecoder {
-    /// Returns whether it is in that state, or `None` if this decoder does not tell.
+    /// Returns whether it is in that state, or `None` if this decoder does not report it.
     fn is_neutral(&self) -> Option<bool>;
 
     /// Returns whether that agrees with the number of bytes that are pending.

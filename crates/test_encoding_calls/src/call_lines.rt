@@ -1,4 +1,4 @@
-//! The lines of single calls, each with all that the call must tell.
+//! The lines of single calls, each with all that must come of the call.
 
 use crate::kinds::{Form, Outcome};
 use anyhow::{Context, bail};
@@ -86,7 +86,7 @@ pub enum Given {
     Asked,
 }
 
-/// A call, and what it must tell.
+/// A call, and what must come of it.
 #[derive(Drop)]
 pub struct CallLine {
     pub number: usize,

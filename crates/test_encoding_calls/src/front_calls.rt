@@ -1,4 +1,4 @@
-//! Makes one call of a `Decoder`, of any kind, and keeps all that the call tells.
+//! Makes one call of a `Decoder`, of any kind, and keeps all that comes of it.
 
 use crate::answer::{Answer, UNWRITTEN, UNWRITTEN_UNIT};
 use crate::kinds::{Form, Outcome, widened};
@@ -24,7 +24,7 @@ pub struct Kind {
     pub replaces: bool,
 }
 
-/// All that a call tells, and whether it reports a malformed sequence.
+/// All that comes of a call, and whether the call reports a malformed sequence.
 #[derive(Drop)]
 pub struct KindAnswer {
     pub answer: Answer,

@@ -1,6 +1,6 @@
-//! Single calls of decoders and encoders, of each kind, with all that a call tells, and the lines
-//! of cases that say what a call must tell. The programs that read the cases of encodings and of
-//! their codecs use this crate.
+//! Single calls of decoders and encoders, of each kind, with all that comes of a call, and the
+//! lines of cases that say what must come of it. The programs that read the cases of encodings and
+//! of their codecs use this crate.
 #![tactic(auto)]
 
 pub mod answer;
