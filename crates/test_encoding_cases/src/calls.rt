@@ -86,7 +86,7 @@ pub(crate) fn given_room(line: &CallLine) -> anyhow::Result<usize> {
     }
 }
 
-// Compares what a call tells with what its line says.
+// Compares what comes of a call with what its line says.
 pub(crate) fn check_answer(
     rt: &impl Print,
     line: &CallLine,

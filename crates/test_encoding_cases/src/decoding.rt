@@ -21,7 +21,7 @@ struct Plan {
     asked: Option<Room>,
 }
 
-// All that a decoder tells of a stream.
+// All that comes of a stream that is decoded.
 #[derive(Drop)]
 struct Told {
     items: Vec<Item>,
@@ -125,8 +125,8 @@ impl<'a> DecoderTask for Reading<'a> {
     }
 }
 
-// Decodes a stream, and compares what the decoder tells of it with what is expected. Returns the
-// greatest room that was asked for.
+// Decodes a stream, and compares what comes of it with what is expected. Returns the greatest room
+// that was asked for.
 fn check_plan(
     rt: &(impl Print + AllocGlobal),
     tables: &Tables,

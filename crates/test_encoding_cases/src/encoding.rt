@@ -29,7 +29,7 @@ struct Plan {
     asked: Option<Room>,
 }
 
-// All that an encoder tells of a text.
+// All that comes of a text that is encoded.
 #[derive(Drop)]
 struct Told {
     items: Vec<Item>,
@@ -132,8 +132,8 @@ fn parts_of(stream: &EncodedStream, plan: Plan) -> Option<(Text<'_>, Text<'_>)> 
     Some((text.before(cut)?, text.behind(cut)?))
 }
 
-// Encodes a text, and compares what the encoder tells of it with what is expected. Returns the
-// greatest room that was asked for.
+// Encodes a text, and compares what comes of it with what is expected. Returns the greatest room
+// that was asked for.
 fn check_plan(
     rt: &(impl Print + AllocGlobal),
     tables: &Tables,

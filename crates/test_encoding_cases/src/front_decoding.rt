@@ -95,7 +95,7 @@ struct Reading {
     offset: usize,
 }
 
-// Makes one call, and compares what it tells with what its line says.
+// Makes one call, and compares what comes of it with what its line says.
 fn check_call(
     rt: &(impl Print + AllocGlobal),
     decoder: &mut Decoder<'_>,

@@ -34,7 +34,7 @@ struct Plan {
     room: usize,
 }
 
-// All that the calls tell of a stream.
+// All that comes of a stream that is decoded.
 #[derive(Drop)]
 struct Told {
     items: Vec<Item>,
@@ -141,8 +141,8 @@ fn read_stream(
     Ok(Some(told))
 }
 
-// Decodes a stream, and compares what is told of it with what is expected. Returns the greatest
-// room that was asked for.
+// Decodes a stream, and compares what comes of it with what is expected. Returns the greatest room
+// that was asked for.
 fn check_plan(
     rt: &(impl Print + AllocGlobal),
     tables: &Tables,
@@ -159,7 +159,7 @@ fn check_plan(
     Ok(told.asked)
 }
 
-// Compares what is told of a stream with what is expected.
+// Compares what came of a stream with what is expected.
 fn check_told(
     rt: &(impl Print + AllocGlobal),
     marked: &MarkedStream,
