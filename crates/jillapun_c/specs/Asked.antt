@@ -50,5 +50,5 @@ IfAsked tables from to mark policy limit Then status =
     MatchOption tables (status ≡ CLOSED) (λ t. IfKnown t from to mark policy limit Then status)
 
 -- a call ends with this status before it goes on, over these tables
-abbrev pub IsRefused : IndexLists → (from to mark policy limit status : ℕ) → Type 0
-IsRefused tables from to mark policy limit status = IfKnown tables from to mark policy limit (λ j. ⊥) status
+abbrev pub EndsAtOnce : IndexLists → (from to mark policy limit status : ℕ) → Type 0
+EndsAtOnce tables from to mark policy limit status = IfKnown tables from to mark policy limit (λ j. ⊥) status

@@ -20,8 +20,8 @@ use std::alloc::Global;
 ///
 /// `mark` says what becomes of a byte order mark at the start (`SNIFF`, `REMOVE`, `KEEP`), `policy`
 /// what is written for a character without bytes (`DECIMAL`, `HEXADECIMAL`, `STOP`), and `limit`
-/// how many bytes the input may have; a greater number than 2^48 counts as that. Any number of threads may call at
-/// once, over the same tables.
+/// how many bytes the input may have; a greater number than 2^48 counts as that. Any number of
+/// threads may call at once, over the same tables.
 ///
 /// - `OK`: nothing was malformed, and the output, read again, is the text of the input.
 /// - `LOSSY`: all was converted, and something was lost. `losses` may be empty even so: some

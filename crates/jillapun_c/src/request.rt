@@ -1,7 +1,7 @@
 //! The numbers of a call, and the job that they ask for.
 
 ghost use Rattle.std.specs.Prelude.{◌≡◌, IfErr, IfNone, IfOk, IfSome};
-ghost use Rattle.jillapun_c.specs.Asked.{AreKnown, IsAskedFor, IsRefused, NamesJob, policy_at};
+ghost use Rattle.jillapun_c.specs.Asked.{AreKnown, EndsAtOnce, IsAskedFor, NamesJob, policy_at};
 
 use crate::encoding_number::{encoding_of, mark_of};
 use crate::status::{DECIMAL, HEXADECIMAL, NOT_READY, STOP, UNKNOWN};
@@ -57,7 +57,7 @@ impl Request {
         ensures ok { IfOk result
             (IsAskedFor tables.now self.from self.to self.mark self.policy self.limit) }
         ensures err { IfErr result
-            (IsRefused tables.now self.from self.to self.mark self.policy self.limit) }
+            (EndsAtOnce tables.now self.from self.to self.mark self.policy self.limit) }
     {
         let Some(job) = self.named(tables) else {
             return Err(UNKNOWN);

@@ -1,5 +1,5 @@
 -- Pieces in a row, and more pieces after them.
-use Rattle.std.proofs.Common.{◌≡◌, ◌+◌, List, [], ◌∷◌, ◌++◌, refl, sym, ◌∙◌, absurd, ap, arith, append_assoc}
+use Rattle.std.proofs.Common.{◌≡◌, ◌+◌, List, [], ◌∷◌, ◌++◌, refl, sym, ◌∙◌, ap, arith, append_assoc}
 use Rattle.encoding_mem.specs.Piece.{Piece, well_formed, malformed, malformed_count, piece_scalars, piece_text, sizes, scalars, text, IsWellFormedPiece, AreWellFormed, ArePieces}
 
 pub sizes-append : (a b : List Piece) → sizes (a ++ b) ≡ sizes a + sizes b
