@@ -1,5 +1,7 @@
 -- The lemmas.
+mod AskedLemmas
 mod CoderLemmas
+mod ConversionLemmas
 mod EncodingNumberLemmas
 mod IndexFileLemmas
 mod Openings

@@ -1,0 +1,13 @@
+-- A call that ends before it goes on.
+use Rattle.std.proofs.Common.{◌≡◌, ℕ, Option, Some, inl, inr}
+use Rattle.encoding_tables.specs.IndexLists.{IndexLists}
+use Rattle.recode.specs.declared.job.Job.{Job}
+use Rattle.jillapun_c.specs.Asked.{IfAsked, IfKnown, EndsAtOnce}
+
+pub refused : (tables : Option IndexLists) (t : IndexLists) (from to mark policy limit status : ℕ) (Then : Job → Type 0)
+    → tables ≡ Some t → EndsAtOnce t from to mark policy limit status → IfAsked tables from to mark policy limit Then status
+refused tables t from to mark policy limit status Then some h = rw some (ends h)
+  where
+    ends : EndsAtOnce t from to mark policy limit status → IfKnown t from to mark policy limit Then status
+    ends (inl n) = inl (record { job = n.job; named = n.named; goes_on = elim n.goes_on [ inl never ↦ absurd never.1 | inr missing ↦ inr missing ] })
+    ends (inr unknown) = inr unknown
