@@ -2,6 +2,7 @@
 
 ghost use Rattle.std.specs.Prelude.{◌≡◌, ℕ, ◌+◌, ◌<◌, ◌≤◌, List, [], ◌∷◌, length};
 ghost use Rattle.std.specs.Prelude.{IfOk, IfSome, IsOk, IsTrue, None, OnOk, Some, false, true};
+ghost use Rattle.std.specs.Str.{chars};
 ghost use Rattle.encoding_mem.specs.Piece.{Piece, malformed};
 ghost use Rattle.recode_places.specs.Fits.{Fits, FitsFrom, GoesOn, IsLeftOfLog};
 ghost use Rattle.recode_places.specs.Entries.{IsOfCharacter};
@@ -9,7 +10,8 @@ ghost use Rattle.recode_places.specs.Logs.{IsLogEnd, TakesLines, ended, unknown}
 ghost use Rattle.recode_places.specs.declared.fates.Fate.{Fate};
 ghost use Rattle.recode_places.specs.calls.LogViews.{NamesFound, NamesMalformed, TakesSome};
 ghost use Rattle.recode_places.specs.calls.LogViews.{choice_left, match_left};
-ghost use Rattle.recode_places.specs.calls.FatesViews.{IsToldOf, asked_by, fate_asked};
+ghost use Rattle.recode_places.specs.calls.FatesViews.{AreKeptIfAsked, IsToldOf, asked_by};
+ghost use Rattle.recode_places.specs.calls.FatesViews.{fate_asked};
 ghost use Rattle.recode_places.specs.calls.FatesViews.{fates_target, told_by_fate};
 
 use crate::entry::{Finding, Stop};
@@ -78,6 +80,7 @@ impl<'t, L: Read> Choice<'t, L> {
 
     /// Whether nothing is told of the characters of a text, the first of which has this index.
     pub fn passes_over(&self, index: u64, text: &str) -> bool
+        ensures kept { IsTrue result → AreKeptIfAsked (asked_by self.now).target (chars text.now) }
         ensures fits { (offset : ℕ) (t : List ℕ) (ps : List Piece) → IsTrue result
             → length t ≤ length text.now
             → IsLeftOfLog (FitsFrom index offset t ps) (choice_left L.remaining self.now)
@@ -100,7 +103,9 @@ impl<'t, L: Read> Choice<'t, L> {
     }
 
     // Whether the target, if it is asked, keeps each character of a text.
-    fn target_keeps(&self, text: &str) -> bool {
+    fn target_keeps(&self, text: &str) -> bool
+        ensures { IsTrue result → AreKeptIfAsked (asked_by self.now).target (chars text.now) }
+    {
         match &self.fates {
             Some(fates) => fates.keeps(text),
             None => true,

@@ -36,7 +36,7 @@ const TEXT: usize = 8192;
 /// How an input is read.
 #[derive(Clone, Copy)]
 pub struct Source<'t> {
-    /// The encoding of the input, where a byte order mark does not say another.
+    /// The encoding of the input, unless a byte order mark says another.
     pub from: Encoding,
     /// What is done with a byte order mark at the start of the input.
     pub mark: Mark,

@@ -3,7 +3,7 @@ use Rattle.std.specs.Prelude.{◌≡◌, ◌⊎◌, ℕ, Bool, true, if◌then�
 use Rattle.encoding_mem.specs.Coding.{IsMapped, output}
 use Rattle.encoding_mem.specs.declared.reference.Reference.TheVariants.{Decimal}
 use Rattle.encoding_front.specs.Encodings.{coding_of}
-use Rattle.recode_places.specs.Fates.{Target, fate_of}
+use Rattle.recode_places.specs.Fates.{AreAllKept, Target, fate_of}
 use Rattle.recode_places.specs.declared.choice.Choice.{Choice}
 use Rattle.recode_places.specs.declared.entry.Entry.{Entry}
 use Rattle.recode_places.specs.declared.entry.Finding.{Finding}
@@ -37,17 +37,22 @@ abbrev pub fate_asked : Option Target → ℕ → Fate
 fate_asked None c = Kept
 fate_asked (Some t) c = fate_of t c
 
--- what is told of a character by its fate: that it is lost, where no log is asked, and that it is folded, where folds are
+-- what is told of a character by its fate: that it is lost, if no log is asked, and that it is folded, if folds are
 abbrev pub told_by_fate : Asked → ℕ → Fate → Option Finding
 told_by_fate a c Kept = None
 told_by_fate a c Lost = if a.has_log then None else Some (found.Lost c)
 told_by_fate a c (Folded d) = if a.folds then Some (found.Folded c d) else None
 
+-- each character of a text is kept in a target, if one is asked
+abbrev pub AreKeptIfAsked : Option Target → List ℕ → Type 0
+AreKeptIfAsked None cs = Unit {0}
+AreKeptIfAsked (Some t) cs = AreAllKept t cs
+
 -- this is told of a character: what its fate says, or that it is lost, if a log names it
 abbrev pub IsToldOf : Asked → ℕ → Option Finding → Type 0
 IsToldOf a c told = (told ≡ told_by_fate a c (fate_asked a.target c)) ⊎ ((a.has_log ≡ true) × (told ≡ Some (found.Lost c)))
 
--- what is found is as its fate says: a character that is folded is so in the target, where folds are asked for; one that is
+-- what is found is as its fate says: a character that is folded is so in the target, and folds are asked for; one that is
 -- lost is so there, or a log names it
 abbrev pub IsAsFated : Asked → Finding → Type 0
 IsAsFated a (found.Malformed offset n) = Unit {0}
