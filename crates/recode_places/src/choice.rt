@@ -11,8 +11,8 @@ ghost use Rattle.recode_places.specs.declared.fates.Fate.{Fate};
 ghost use Rattle.recode_places.specs.calls.LogViews.{NamesFound, NamesMalformed, TakesSome};
 ghost use Rattle.recode_places.specs.calls.LogViews.{choice_left, match_left};
 ghost use Rattle.recode_places.specs.calls.FatesViews.{AreKeptIfAsked, IsToldOf, asked_by};
-ghost use Rattle.recode_places.specs.calls.FatesViews.{fate_asked};
-ghost use Rattle.recode_places.specs.calls.FatesViews.{fates_target, told_by_fate};
+ghost use Rattle.recode_places.specs.calls.FatesViews.{fates_target};
+ghost use Rattle.recode_places.specs.Findings.{fate_asked, told_by_fate};
 
 use crate::entry::{Finding, Stop};
 use crate::fates::{Fate, Fates};
@@ -165,6 +165,8 @@ impl<'t, L: Read> Choice<'t, L> {
     /// Whether this malformed sequence is told, for which the U+FFFD with this index stands. The
     /// error is that of the log.
     pub fn malformed(&mut self, index: u64, offset: u64, length: u8) -> Result<bool, Stop>
+        ensures told { IfOk result (λ is_told. (asked_by self.old).has_log ≡ false
+            → is_told ≡ true) }
         ensures asked { asked_by self.new ≡ asked_by self.old }
         ensures named { IfOk result (λ is_told. TakesSome (choice_left L.remaining self.old)
             (choice_left L.remaining self.new) (NamesMalformed index offset length is_told)) }
