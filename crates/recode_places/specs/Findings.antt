@@ -43,8 +43,8 @@ found_in a offset [] = []
 found_in a offset (well_formed n cs ∷ ps) = found_in_text a cs ++ found_in a (offset + n) ps
 found_in a offset (malformed n ∷ ps) = found.Malformed offset n ∷ found_in a (offset + n) ps
 
--- A visitor that says what it was told was told some entries more. If no log is asked, what they found is all that comes
--- first in a list of findings, up to where this rest of it begins.
+-- If no log is asked, a visitor that says what it was told was told some entries more, and what they found is a list of
+-- findings, in its order, up to this rest of it.
 abbrev pub TellsFound : Asked → (all rest : List Finding) (told told' : Option (List Entry)) → Type 0
 TellsFound a all rest told told' =
     a.has_log ≡ false → IfSome told (λ es. (more : List Entry) × (told' ≡ Some (es ++ more)) × (all ≡ map (λ (e : Entry). e.finding) more ++ rest))

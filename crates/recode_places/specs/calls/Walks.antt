@@ -83,6 +83,6 @@ FitsAhead w left x = IsLeftOfLog (Fits w.place.index (w.read - w.decoder.pending
 abbrev pub found_ahead : Asked → WalkState → List ℕ → List Finding
 found_ahead a w x = found_in a (w.read - w.decoder.pending) (w.decoder.pieces x)
 
--- a walk that had so many bytes to pass, and now has those, told what it found between, if no log is asked
+-- if no log is asked, a walk that had these bytes to pass, and now has those left, told what it found in between
 abbrev pub TellsPassed : Asked → (v w : WalkState) (bytes left : List ℕ) (told told' : Option (List Entry)) → Type 0
 TellsPassed a v w bytes left told told' = TellsFound a (found_ahead a v bytes) (found_ahead a w left) told told'
