@@ -82,6 +82,11 @@ enum {
      */
     JILLAPUN_ROOM = 10,
     /**
+     * The conversion goes on: call again, with the bytes that follow, or with room for what is
+     * left.
+     */
+    JILLAPUN_GOES_ON = 11,
+    /**
      * The policy is `JILLAPUN_STOP`, and a character has no bytes in the output encoding: the
      * report names it. All that stands before it was converted.
      */
@@ -374,6 +379,30 @@ typedef struct {
      */
     uint32_t scalar;
 } jillapun_report;
+
+/**
+ * A conversion by steps. Begin with `{0}`, which holds none; `jillapun_converter_new` fills it,
+ * and `jillapun_converter_free` empties it. Never copy it: only one of the copies may be used.
+ * One thread at a time.
+ */
+typedef struct {
+    jillapun_coder private_coder;
+} jillapun_converter;
+
+/** What a call of a converter did. */
+typedef struct {
+    /** How many bytes of `src` were read. */
+    size_t read;
+    /** How many bytes were written to `dst`. */
+    size_t written;
+    /** How many records were written to `losses`. */
+    size_t losses;
+    /**
+     * Whether room is wanted: bytes or records are left that did not fit. The next call hands them
+     * out, and reads nothing.
+     */
+    bool wants_room;
+} jillapun_converter_progress;
 
 /* The exports on encodings: found by a label or a mark, and what is told of each. An encoding
    crosses as its number, from 0 to 39, in the order of the names. */
@@ -787,6 +816,31 @@ uint8_t jillapun_encode(jillapun_tables tables, uint8_t encoding, const uint8_t 
 uint8_t jillapun_convert(jillapun_tables tables, uint8_t from, uint8_t to, uint8_t mark,
     uint8_t policy, uint64_t limit, const uint8_t *src, size_t src_len, uint8_t *dst,
     size_t dst_len, jillapun_loss *losses, size_t losses_len, jillapun_report *report);
+
+/* The exports that convert by steps. */
+
+/**
+ * Makes a converter of a new input, from the encoding with the number `from` to the output
+ * encoding of that with the number `to`. `mark`, `policy` and `limit` are as for
+ * `jillapun_convert`.
+ *
+ * Returns `JILLAPUN_OK`, and `out` holds the converter. Else nothing is made:
+ * `JILLAPUN_IN_USE`, `out` holds one already; `JILLAPUN_CLOSED`, there are no tables;
+ * `JILLAPUN_UNKNOWN`, a number stands for nothing; `JILLAPUN_NOT_READY`, an index that one of
+ * the encodings needs is not in the tables; `JILLAPUN_NO_MEMORY`, memory was refused.
+ */
+uint8_t jillapun_converter_new(jillapun_tables tables, uint8_t from, uint8_t to, uint8_t mark,
+    uint8_t policy, uint64_t limit, jillapun_converter *out);
+
+/** Ends a converter, and empties its handle. Nothing is done with one that holds none. */
+void jillapun_converter_free(jillapun_converter *converter);
+
+/* The export that makes a step of a conversion. */
+
+/** Converts the next bytes of an input. */
+uint8_t jillapun_converter_step(jillapun_converter *converter, const uint8_t *src, size_t src_len,
+    bool last, uint8_t *dst, size_t dst_len, jillapun_loss *losses, size_t losses_len,
+    jillapun_converter_progress *progress, jillapun_report *report);
 
 /* ASCII, in bytes and in units of UTF-16: checks, and copies of the ASCII at the start. */
 

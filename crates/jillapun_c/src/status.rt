@@ -26,6 +26,8 @@ pub const NOT_UTF8: u8 = 9;
 /// The room is too small, and the report, or `written`, says how much is wanted. Nothing was
 /// written.
 pub const ROOM: u8 = 10;
+/// The conversion goes on: call again, with the bytes that follow, or with room for what is left.
+pub const GOES_ON: u8 = 11;
 /// The policy is `STOP`, and a character has no bytes in the output encoding: the report names it.
 /// All that stands before it was converted.
 pub const STOPPED: u8 = 12;

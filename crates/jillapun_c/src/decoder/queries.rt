@@ -27,7 +27,7 @@ pub extern "C" fn jillapun_decoder_encoding(alloc: Global, decoder: &mut Decoder
     };
     let number = match &*coder {
         Coder::Decoder(decoder) => number_of(decoder.encoding()),
-        Coder::Encoder(_) => NO_ENCODING,
+        Coder::Encoder(_) | Coder::Converter(_) => NO_ENCODING,
     };
     decoder.coder.put(coder);
     number

@@ -26,7 +26,7 @@ pub extern "C" fn jillapun_encoder_encoding(alloc: Global, encoder: &mut Encoder
         return NO_ENCODING;
     };
     let number = match &*coder {
-        Coder::Decoder(_) => NO_ENCODING,
+        Coder::Decoder(_) | Coder::Converter(_) => NO_ENCODING,
         Coder::Encoder(encoder) => number_of(encoder.encoding()),
     };
     encoder.coder.put(coder);
@@ -48,7 +48,7 @@ pub extern "C" fn jillapun_encoder_has_pending_state(
         return false;
     };
     let is_pending = match &*coder {
-        Coder::Decoder(_) => false,
+        Coder::Decoder(_) | Coder::Converter(_) => false,
         Coder::Encoder(encoder) => encoder.has_pending_state(),
     };
     encoder.coder.put(coder);
@@ -72,7 +72,7 @@ pub extern "C" fn jillapun_encoder_max_length_from_utf8_if_no_unmappables(
         return REFUSED;
     };
     let room = match &*coder {
-        Coder::Decoder(_) => None,
+        Coder::Decoder(_) | Coder::Converter(_) => None,
         Coder::Encoder(encoder) => encoder.max_buffer_length_from_utf8_if_no_unmappables(n),
     };
     encoder.coder.put(coder);
@@ -96,7 +96,7 @@ pub extern "C" fn jillapun_encoder_max_length_from_utf8_without_replacement(
         return REFUSED;
     };
     let room = match &*coder {
-        Coder::Decoder(_) => None,
+        Coder::Decoder(_) | Coder::Converter(_) => None,
         Coder::Encoder(encoder) => encoder.max_buffer_length_from_utf8_without_replacement(n),
     };
     encoder.coder.put(coder);
@@ -120,7 +120,7 @@ pub extern "C" fn jillapun_encoder_max_length_from_utf16_if_no_unmappables(
         return REFUSED;
     };
     let room = match &*coder {
-        Coder::Decoder(_) => None,
+        Coder::Decoder(_) | Coder::Converter(_) => None,
         Coder::Encoder(encoder) => encoder.max_buffer_length_from_utf16_if_no_unmappables(n),
     };
     encoder.coder.put(coder);
@@ -144,7 +144,7 @@ pub extern "C" fn jillapun_encoder_max_length_from_utf16_without_replacement(
         return REFUSED;
     };
     let room = match &*coder {
-        Coder::Decoder(_) => None,
+        Coder::Decoder(_) | Coder::Converter(_) => None,
         Coder::Encoder(encoder) => encoder.max_buffer_length_from_utf16_without_replacement(n),
     };
     encoder.coder.put(coder);
