@@ -3,5 +3,6 @@ mod CoderLemmas
 mod EncodingNumberLemmas
 mod IndexFileLemmas
 mod Openings
+mod RoomLemmas
 mod Walks
 mod Words

@@ -21,8 +21,8 @@ use std::alloc::Global;
 ///
 /// `mark` says what becomes of a byte order mark at the start (`SNIFF`, `REMOVE`, `KEEP`), `policy`
 /// what is written for a character without bytes (`DECIMAL`, `HEXADECIMAL`, `STOP`), and `limit`
-/// how many bytes the input may have: 2^48 where it is more. Any number of threads may call at
-/// once, over the same tables.
+/// how many bytes the input may have: 2^48 if it is more. Any number of threads may call at once,
+/// over the same tables.
 ///
 /// - `OK`: nothing was malformed, and the output, read again, is the text of the input.
 /// - `LOSSY`: all was converted, and something was lost. `losses` may be empty even so: some

@@ -79,10 +79,10 @@ pub const LEFT_TO_RIGHT: u32 = 1;
 /// Some character may be written from right to left, or the bytes are not UTF-8.
 pub const BIDI: u32 = 2;
 
-// What stands where there is no number.
+// What stands in place of a number if there is none.
 
 /// No encoding. Each encoding is its number, from 0 on, in the order of the names.
 pub const NO_ENCODING: u8 = 255;
 /// In place of a length: the room is not enough, or the bytes are not what the call is for. Nothing
-/// was written, where the call does not say otherwise.
+/// was written, unless the call says otherwise.
 pub const REFUSED: usize = usize::MAX;

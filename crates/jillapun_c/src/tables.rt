@@ -16,7 +16,7 @@ use std::alloc::Global;
 pub struct IndexFault {
     /// Which of the files, counted from 0.
     pub file: usize,
-    /// The line of its text, counted from 1; 0 where the fault is in no line alone.
+    /// The line of its text, counted from 1; 0 if the fault is in no line alone.
     pub line: usize,
 }
 

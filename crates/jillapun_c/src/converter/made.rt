@@ -1,22 +1,33 @@
 //! What a converter made, on its way into the caller's memory.
 
-ghost use Rattle.std.specs.Prelude.{◌≡◌, ◌↔◌, ◌+◌, IsTrue, drop};
+ghost use Rattle.std.specs.Prelude.{◌≡◌, ◌↔◌, ◌+◌, ◌<◌, ◌^◌, IsTrue, [], drop};
 ghost use Rattle.jillapun_c.specs.Converters.{FillsRoom, HandsOut, HoldsNothing};
 
 use crate::converter::Converter;
 use crate::converter::progress::ConverterProgress;
 use crate::losses::Loss;
 
-// Puts what is left of a list, behind those that were handed out, at the start of the room: as much
-// as fits. Returns how much it is.
+// Puts what is left of a list, after what was handed out, at the start of the room, as far as it
+// fits. Returns how much that is.
 fn fill<T: Copy>(made: &[T], given: usize, room: &mut [T]) -> usize
-    ensures { FillsRoom (drop given made.now) (drop (given + result) made.now) room.old room.new
-        result }
+    ensures fills { FillsRoom (drop given made.now) (drop (given + result) made.now) room.old
+        room.new result }
+    ensures in_range { given + result < 2 ^ 64 }
 {
-    let left = made.get(given..).unwrap_or(&[]);
+    if made.len() <= given {
+        return 0;
+    }
+    let left = &made[given..];
     let count = left.len().min(room.len());
     room[..count].copy_from_slice(&left[..count]);
     count
+}
+
+// Whether all of a list was handed out.
+fn is_given<T>(made: &[T], given: usize) -> bool
+    ensures { IsTrue result ↔ (drop given made.now ≡ []) }
+{
+    made.len() <= given
 }
 
 impl Converter {
@@ -24,7 +35,7 @@ impl Converter {
     pub(crate) fn holds_nothing(&self) -> bool
         ensures { IsTrue result ↔ HoldsNothing self.now }
     {
-        self.output.len() <= self.given && self.losses.len() <= self.told
+        is_given(&self.output, self.given) && is_given(&self.losses, self.told)
     }
 
     /// Hands out what was made, as far as there is room, and tells how much it is.

@@ -84,7 +84,27 @@ impl Converter {
     }
 }
 
-/// ConvertsByStep the next bytes of an input.
+/// Converts the next bytes of an input. It reads at most 16384 bytes, from the start of `src`,
+/// writes what they give at the start of `dst`, and a record of each loss at the start of `losses`,
+/// and tells in `progress` how much of each. `last` says that nothing follows `src` in the input: a
+/// call with `last` and no bytes reads the end. What finds no room is kept, and calls read nothing
+/// until all of it was handed out (`wants_room`).
+///
+/// - `GOES_ON`: call again, with what of `src` was not read, or with what follows if all was. Make
+///   room first if `progress` wants it.
+/// - `OK`: all was converted and handed out. Nothing was malformed, and the output, read again, is
+///   the text of the input. `LOSSY`: the same, but something was lost. The report has the counts.
+/// - `STOPPED`: the policy is `STOP`, and the character that has no bytes is in the report. What is
+///   before it was converted, and its record is the last.
+/// - `TOO_LONG`: the input is longer than the limit. `NO_MEMORY`: memory was refused.
+/// - `FINISHED`: an earlier call returned one of the five above, which end the conversion.
+///   `CLOSED`: the handle holds no converter. Nothing is done, and all of `progress` is 0.
+///
+/// The outputs of all calls, joined, are what `jillapun_convert` writes for the whole input, and so
+/// are the records, however the input is cut and however little room there is. At `TOO_LONG` and
+/// `NO_MEMORY` they are the first part of that. The report is 0 before the end.
+///
+/// What is kept is never more than what one call reads gives: memory does not grow with the input.
 #[unsafe(no_mangle)]
 pub extern "C" fn jillapun_converter_step(
     alloc: Global,

@@ -14,7 +14,7 @@ use crate::encoding_number::number_of;
 use crate::status::{NO_ENCODING, REFUSED};
 use std::alloc::Global;
 
-/// The number of the output encoding, in which the encoder writes; `NO_ENCODING` where the handle
+/// The number of the output encoding, in which the encoder writes; `NO_ENCODING` if the handle
 /// holds no encoder.
 #[unsafe(no_mangle)]
 pub extern "C" fn jillapun_encoder_encoding(alloc: Global, encoder: &mut EncoderHandle) -> u8
@@ -34,7 +34,7 @@ pub extern "C" fn jillapun_encoder_encoding(alloc: Global, encoder: &mut Encoder
 }
 
 /// Whether an escape to ASCII is still to be written at the end of the stream: so only in
-/// ISO-2022-JP, where another set is in force. False where the handle holds no encoder.
+/// ISO-2022-JP, where another set is in force. False if the handle holds no encoder.
 #[unsafe(no_mangle)]
 pub extern "C" fn jillapun_encoder_has_pending_state(
     alloc: Global,
@@ -56,7 +56,7 @@ pub extern "C" fn jillapun_encoder_has_pending_state(
 }
 
 /// How many bytes are room enough for what `n` bytes of UTF-8 are encoded to with references, if
-/// each character has bytes; `SIZE_MAX` where the number passes a `size_t`, or the handle holds no
+/// each character has bytes; `SIZE_MAX` if the number passes a `size_t`, or the handle holds no
 /// encoder.
 #[unsafe(no_mangle)]
 pub extern "C" fn jillapun_encoder_max_length_from_utf8_if_no_unmappables(
@@ -80,7 +80,7 @@ pub extern "C" fn jillapun_encoder_max_length_from_utf8_if_no_unmappables(
 }
 
 /// How many bytes are room enough for what `n` bytes of UTF-8 are encoded to without replacement,
-/// and for the last escape; `SIZE_MAX` where the number passes a `size_t`, or the handle holds no
+/// and for the last escape; `SIZE_MAX` if the number passes a `size_t`, or the handle holds no
 /// encoder.
 #[unsafe(no_mangle)]
 pub extern "C" fn jillapun_encoder_max_length_from_utf8_without_replacement(
@@ -104,7 +104,7 @@ pub extern "C" fn jillapun_encoder_max_length_from_utf8_without_replacement(
 }
 
 /// How many bytes are room enough for what `n` units of UTF-16 are encoded to with references, if
-/// each character has bytes; `SIZE_MAX` where the number passes a `size_t`, or the handle holds no
+/// each character has bytes; `SIZE_MAX` if the number passes a `size_t`, or the handle holds no
 /// encoder.
 #[unsafe(no_mangle)]
 pub extern "C" fn jillapun_encoder_max_length_from_utf16_if_no_unmappables(
@@ -128,7 +128,7 @@ pub extern "C" fn jillapun_encoder_max_length_from_utf16_if_no_unmappables(
 }
 
 /// How many bytes are room enough for what `n` units of UTF-16 are encoded to without replacement,
-/// and for the last escape; `SIZE_MAX` where the number passes a `size_t`, or the handle holds no
+/// and for the last escape; `SIZE_MAX` if the number passes a `size_t`, or the handle holds no
 /// encoder.
 #[unsafe(no_mangle)]
 pub extern "C" fn jillapun_encoder_max_length_from_utf16_without_replacement(
